@@ -1,0 +1,176 @@
+-- The checks' definitions, one element at a time and one case at a time, in the form in which the code meets them.
+--
+-- Sections: kinds and ranks; letters; entries; signs; windows.
+-- Assumes nothing.
+use mathlib.Core.Path.{_≡_, refl, sym, ap, _∙_}
+use mathlib.Core.Logic.{_⊎_, inl, inr}
+use mathlib.Core.Bool.{Bool, true, false, not, _||_, Bool·not-not}
+use mathlib.Core.List.{List, [], _∷_}
+use Prim.Native.Nat.{ℕ, zero, suc, _+_, _-_, _≤_, _<_}
+use native.Mathlib.Decide.{ℕ-discrete}
+use native.Mathlib.Nat.{zero-add, le-of-eq}
+use native.Mathlib.Numerals.{add-one, one-add}
+use native.Mathlib.Omega.{arith}
+use lib.Dec.{eqb, ltb}
+use lib.IntN.{ℤ, pos, natAbs}
+use lib.ListN.{length, getD, take, drop, length-drop}
+use lib.Seq.{drop-cons, take-all}
+use lib.Signed.{mag}
+use mir.Syntax.{w8}
+use mir.Val.{toZ, ofZ}
+use borrow.Author.Tests.{eq-eqb, ne-eqb, lt-ltb, le-ltb}
+use Rattle.window.proofs.Bytes.{read-back}
+use Rattle.window.specs.Kinds.{Kind, A, B, D, pick, kindOf, lanes, least, greatest}
+use Rattle.window.specs.Length.{negative, negatives, one}
+use Rattle.window.specs.Checks.{wrongKind, wrongLetter, wrongAt, wrongEntry, hasSize, negativeInA, odd, oddNegatives, wrongLanes, windowRefusal}
+
+-- the part of a list from a place to its end, as a slice's part is read
+pub take-rest {ℓ} : {X : Type ℓ} (a : ℕ) (l : List X) → take (length l - a) (drop a l) ≡ drop a l
+take-rest a l = take-all (length l - a) (drop a l) (le-of-eq (length-drop a l))
+
+pub drop-next {ℓ} : {X : Type ℓ} (l : List X) (i : ℕ) (d : X) → i < length l → drop i l ≡ getD l i d ∷ drop (i + 1) l
+drop-next l i d h = drop-cons l i d h ∙ ap (λ (j : ℕ). getD l i d ∷ drop j l) (sym (add-one i))
+
+-- ---- kinds and ranks
+
+pub kindOf-one : (k : ℕ) → k ≡ 1 → kindOf k ≡ A
+unfolding kindOf
+kindOf-one k e = rw (eq-eqb k 1 e)
+
+pub kindOf-two : (k : ℕ) → k ≡ 2 → kindOf k ≡ B
+unfolding kindOf
+kindOf-two k e = rw (ne-eqb k 1 (omega arith), eq-eqb k 2 e)
+
+pub kindOf-three : (k : ℕ) → (k ≡ 1 → ⊥) → (k ≡ 2 → ⊥) → kindOf k ≡ D
+unfolding kindOf
+kindOf-three k f g = rw (ne-eqb k 1 f, ne-eqb k 2 g)
+
+-- a kind other than A is B or D
+pub by-kind-else : (P : Kind → Type 0) (k : ℕ) → (k ≡ 1 → ⊥) → P B → P D → P (kindOf k)
+by-kind-else P k f b d = elim (ℕ-discrete k 2) [ yes e ↦ rw (kindOf-two k e) b | no g ↦ rw (kindOf-three k f g) d ]
+
+pub wrongKind-zero : (k : ℕ) → k ≡ 0 → wrongKind k ≡ true
+unfolding wrongKind
+wrongKind-zero k e = rw (ne-eqb k 1 (omega arith), ne-eqb k 2 (omega arith), ne-eqb k 3 (omega arith))
+
+pub wrongKind-above : (k : ℕ) → 3 < k → wrongKind k ≡ true
+unfolding wrongKind
+wrongKind-above k h = rw (ne-eqb k 1 (omega arith), ne-eqb k 2 (omega arith), ne-eqb k 3 (omega arith))
+
+pub wrongKind-within : (k : ℕ) → (k ≡ 0 → ⊥) → k ≤ 3 → wrongKind k ≡ false
+unfolding wrongKind
+wrongKind-within k f h = elim (ℕ-discrete k 1) [ yes e ↦ rw (eq-eqb k 1 e) | no g ↦ rw (ne-eqb k 1 g) (two g) ]
+  where
+    two : (k ≡ 1 → ⊥) → not (eqb k 2 || eqb k 3) ≡ false
+    two g = elim (ℕ-discrete k 2) [ yes e ↦ rw (eq-eqb k 2 e) | no s ↦ rw (ne-eqb k 2 s, eq-eqb k 3 (omega arith)) ]
+
+-- ---- letters
+
+pub wrongLetter-zero : (n : ℕ) (u : List ℕ) (i : ℕ) → i < length u → getD u i 0 ≡ 0 → wrongLetter n (drop i u) ≡ true
+unfolding wrongLetter
+wrongLetter-zero n u i h e = rw (drop-next u i 0 h, eq-eqb (getD u i 0) 0 e)
+
+pub wrongLetter-above : (n : ℕ) (u : List ℕ) (i : ℕ) → i < length u → (getD u i 0 ≡ 0 → ⊥) → n < getD u i 0 → wrongLetter n (drop i u) ≡ true
+unfolding wrongLetter
+wrongLetter-above n u i h f l = rw (drop-next u i 0 h, ne-eqb (getD u i 0) 0 f, lt-ltb n (getD u i 0) l)
+
+pub wrongLetter-step : (n : ℕ) (u : List ℕ) (i : ℕ) → i < length u → (getD u i 0 ≡ 0 → ⊥) → getD u i 0 ≤ n
+    → wrongLetter n (drop i u) ≡ wrongLetter n (drop (i + 1) u)
+unfolding wrongLetter
+wrongLetter-step n u i h f l = rw (drop-next u i 0 h, ne-eqb (getD u i 0) 0 f, le-ltb n (getD u i 0) l)
+
+-- ---- entries
+
+pub hasSize-here : (s : ℕ) (w : List ℤ) (i : ℕ) → i < length w → natAbs (getD w i (pos 0)) ≡ s → hasSize s (drop i w) ≡ true
+unfolding hasSize
+hasSize-here s w i h e = rw (drop-next w i (pos 0) h, eq-eqb (natAbs (getD w i (pos 0))) s e)
+
+pub hasSize-step : (s : ℕ) (w : List ℤ) (i : ℕ) → i < length w → (natAbs (getD w i (pos 0)) ≡ s → ⊥) → hasSize s (drop i w) ≡ hasSize s (drop (i + 1) w)
+unfolding hasSize
+hasSize-step s w i h f = rw (drop-next w i (pos 0) h, ne-eqb (natAbs (getD w i (pos 0))) s f)
+
+pub wrongEntry-here : (k : Kind) (m : ℕ) (w : List ℤ) (i : ℕ) → i < length w → wrongAt k m (getD w i (pos 0)) (drop (i + 1) w) ≡ true → wrongEntry k m (drop i w) ≡ true
+unfolding wrongEntry
+wrongEntry-here k m w i h e = rw (drop-next w i (pos 0) h, e)
+
+pub wrongEntry-step : (k : Kind) (m : ℕ) (w : List ℤ) (i : ℕ) → i < length w → wrongAt k m (getD w i (pos 0)) (drop (i + 1) w) ≡ false
+    → wrongEntry k m (drop i w) ≡ wrongEntry k m (drop (i + 1) w)
+unfolding wrongEntry
+wrongEntry-step k m w i h e = rw (drop-next w i (pos 0) h, e)
+
+-- the tests of check 10 at the entry e of size s, in the order of the code
+pub wrongAt-zero : (k : Kind) (m s : ℕ) (e : ℤ) (w : List ℤ) → s ≡ natAbs e → s ≡ 0 → wrongAt k m e w ≡ true
+unfolding wrongAt
+wrongAt-zero k m s e w q z = rw (← q, eq-eqb s 0 z)
+
+pub wrongAt-above : (k : Kind) (m s : ℕ) (e : ℤ) (w : List ℤ) → s ≡ natAbs e → (s ≡ 0 → ⊥) → m < s → wrongAt k m e w ≡ true
+unfolding wrongAt
+wrongAt-above k m s e w q f h = rw (← q, ne-eqb s 0 f, lt-ltb m s h)
+
+pub wrongAt-repeats : (k : Kind) (m s : ℕ) (e : ℤ) (w : List ℤ) → s ≡ natAbs e → (s ≡ 0 → ⊥) → s ≤ m → hasSize s w ≡ true → wrongAt k m e w ≡ true
+unfolding wrongAt
+wrongAt-repeats k m s e w q f h t = rw (← q, ne-eqb s 0 f, le-ltb m s h, t)
+
+pub wrongAt-else : (k : Kind) (m s : ℕ) (e : ℤ) (w : List ℤ) → s ≡ natAbs e → (s ≡ 0 → ⊥) → s ≤ m → hasSize s w ≡ false → wrongAt k m e w ≡ negativeInA k e
+unfolding wrongAt
+wrongAt-else k m s e w q f h t = rw (← q, ne-eqb s 0 f, le-ltb m s h, t)
+
+-- the tests at an entry that was read into a local, with the part from a on
+pub wrongAt-read : (k : Kind) (m a : ℕ) (e : ℤ) (w : List ℤ) → mag e < 128
+    → wrongAt k m (toZ w8 (ofZ w8 e)) (take (length w - a) (drop a w)) ≡ wrongAt k m e (drop a w)
+wrongAt-read k m a e w h = read-back (λ (x : ℤ). wrongAt k m x (take (length w - a) (drop a w))) e h ∙ ap (wrongAt k m e) (take-rest a w)
+
+-- ---- signs
+
+-- a flag flipped at each negative entry
+unfoldable pub flipped : Bool → List ℤ → Bool
+flipped t [] = t
+flipped t (e ∷ w) = flipped (pick (negative e) (not t) t) w
+
+flipped-step : (t : Bool) (w : List ℤ) (i : ℕ) → i < length w
+    → flipped t (drop i w) ≡ flipped (pick (negative (getD w i (pos 0))) (not t) t) (drop (i + 1) w)
+unfolding flipped
+flipped-step t w i h = rw (drop-next w i (pos 0) h)
+
+pub flipped-yes : (t s : Bool) (w : List ℤ) (i : ℕ) → i < length w → negative (getD w i (pos 0)) ≡ true → s ≡ not t
+    → flipped t (drop i w) ≡ flipped s (drop (i + 1) w)
+flipped-yes t s w i h e q = flipped-step t w i h ∙ rw (e, q)
+
+pub flipped-no : (t s : Bool) (w : List ℤ) (i : ℕ) → i < length w → negative (getD w i (pos 0)) ≡ false → s ≡ t
+    → flipped t (drop i w) ≡ flipped s (drop (i + 1) w)
+flipped-no t s w i h e q = flipped-step t w i h ∙ rw (e, q)
+
+-- of each part of a window from the left the flag is yes exactly when an odd number of its entries are negative
+flipped-odd : (t : Bool) (w : List ℤ) → flipped t w ≡ pick t (not (odd (negatives w))) (odd (negatives w))
+unfolding flipped odd negatives one
+flipped-odd true [] = refl
+flipped-odd false [] = refl
+flipped-odd t (e ∷ w) = step (λ b. flipped-odd b w) t (negative e)
+  where
+    step : ((b : Bool) → flipped b w ≡ pick b (not (odd (negatives w))) (odd (negatives w))) → (t s : Bool) → flipped (pick s (not t) t) w ≡ pick t (not (odd (pick s 1 0 + negatives w))) (odd (pick s 1 0 + negatives w))
+    step ih true true = ih false ∙ rw (one-add (negatives w)) (sym (Bool·not-not (odd (negatives w))))
+    step ih true false = ih true ∙ rw (zero-add (negatives w))
+    step ih false true = ih true ∙ rw (one-add (negatives w))
+    step ih false false = ih false ∙ rw (zero-add (negatives w))
+
+pub flipped-false : (w : List ℤ) → flipped false w ≡ odd (negatives w)
+flipped-false w = flipped-odd false w
+
+-- ---- windows
+
+-- checks 9 to 11 of a window of m lanes, in the order of the code
+pub windowRefusal-lanes : (k : Kind) (n m : ℕ) (w : List ℤ) → m ≡ lanes k n → (length w ≡ m → ⊥) → windowRefusal k n w ≡ 9
+unfolding windowRefusal wrongLanes
+windowRefusal-lanes k n m w q f = rw (← q, ne-eqb (length w) m f)
+
+pub windowRefusal-entry : (k : Kind) (n m : ℕ) (w : List ℤ) → m ≡ lanes k n → length w ≡ m → wrongEntry k m w ≡ true → windowRefusal k n w ≡ 10
+unfolding windowRefusal wrongLanes
+windowRefusal-entry k n m w q l e = rw (← q, eq-eqb (length w) m l, e)
+
+pub windowRefusal-odd : (k : Kind) (n m : ℕ) (w : List ℤ) → m ≡ lanes k n → length w ≡ m → wrongEntry k m w ≡ false → oddNegatives k w ≡ true → windowRefusal k n w ≡ 11
+unfolding windowRefusal wrongLanes
+windowRefusal-odd k n m w q l e o = rw (← q, eq-eqb (length w) m l, e, o)
+
+pub windowRefusal-none : (k : Kind) (n m : ℕ) (w : List ℤ) → m ≡ lanes k n → length w ≡ m → wrongEntry k m w ≡ false → oddNegatives k w ≡ false → windowRefusal k n w ≡ 0
+unfolding windowRefusal wrongLanes
+windowRefusal-none k n m w q l e o = rw (← q, eq-eqb (length w) m l, e, o)

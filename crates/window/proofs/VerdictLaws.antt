@@ -1,0 +1,128 @@
+-- What the definitions of the lengths, the verdict and the better word say in each case, in the order of the code's tests.
+-- Assumes nothing.
+use mathlib.Core.Path.{_≡_, refl, sym, ap, _∙_, subst}
+use mathlib.Core.Bool.{Bool, true, false, _&&_, false≢true}
+use mathlib.Core.List.{List, []}
+use Prim.Native.Nat.{ℕ}
+use native.Mathlib.Nat.{zero-add}
+use denote.Ref.{RefT, now}
+use lib.Dec.{eqb}
+use lib.IntN.{ℤ}
+use borrow.Author.Tests.{eq-eqb, ne-eqb}
+use borrow.Rule.Slice.PartAt.{slPart}
+use borrow.Rule.Slice.Shared.{byByte}
+use Rattle.window.specs.declared.Answer.{Answer}
+use Rattle.window.specs.declared.Answer.the-variants.{Length, Refused}
+use Rattle.window.specs.declared.Verdict.{Verdict}
+use Rattle.window.specs.declared.Verdict.the-variants as verdict
+use Rattle.window.proofs.Sizes.{then-zero}
+use Rattle.window.proofs.CallLaws.{then-refused, then-next}
+use Rattle.window.specs.Kinds.{pick, kindOf}
+use Rattle.window.specs.Windows.{window}
+use Rattle.window.specs.Length.{windowLength}
+use Rattle.window.specs.Dictionary.{shortlex}
+use Rattle.window.specs.Checks.{_then_, rankRefusal, wordRefusal, windowRefusal}
+use Rattle.window.specs.Calls.{answerOf, verdictOf, lengthOfWindow, lengthOfWord, equalWords, samePresets, presetsEqual, handsBack, Better}
+
+pub then-assoc : (a b c : ℕ) → (a then (b then c)) ≡ ((a then b) then c)
+then-assoc a b c = cases (eqb a 0) refl
+  where
+    cases : (t : Bool) → eqb a 0 ≡ t → (a then (b then c)) ≡ ((a then b) then c)
+    cases true e = rw e
+    cases false e = rw e (rw e)
+
+-- ---- lengths
+
+pub answer-refused : (o : Answer) (q r l : ℕ) → o ≡ answerOf q l → r ≡ q → (r ≡ 0 → ⊥) → Refused r ≡ o
+unfolding answerOf
+answer-refused o q r l is e f = sym (is ∙ rw (← e, ne-eqb r 0 f))
+
+pub answer-length : (o : Answer) (q r l a : ℕ) → o ≡ answerOf q l → r ≡ q → r ≡ 0 → a ≡ l → Length a ≡ o
+unfolding answerOf
+answer-length o q r l a is e z v = sym (is ∙ rw (← e, eq-eqb r 0 z, v))
+
+pub lengthOfWindow-is : (k n : ℕ) (w : List ℤ)
+    → lengthOfWindow k n w ≡ answerOf (rankRefusal k n then windowRefusal (kindOf k) n w) (windowLength (kindOf k) w)
+unfolding lengthOfWindow
+lengthOfWindow-is k n w = refl
+
+pub lengthOfWord-is : (k n : ℕ) (u : List ℕ)
+    → lengthOfWord k n u ≡ answerOf (rankRefusal k n then wordRefusal n u) (windowLength (kindOf k) (window (kindOf k) n u))
+unfolding lengthOfWord
+lengthOfWord-is k n u = refl
+
+-- ---- the verdict
+
+pub verdict-refused : (o : Verdict) (q r : ℕ) (t : Bool) → o ≡ verdictOf q t → r ≡ q → (r ≡ 0 → ⊥) → verdict.Refused r ≡ o
+unfolding verdictOf
+verdict-refused o q r t is e f = sym (is ∙ rw (← e, ne-eqb r 0 f))
+
+pub verdict-no : (o : Verdict) (q r : ℕ) (t : Bool) → o ≡ verdictOf q t → r ≡ q → r ≡ 0 → t ≡ false → verdict.No ≡ o
+unfolding verdictOf
+verdict-no o q r t is e z v = sym (is ∙ rw (← e, eq-eqb r 0 z, v))
+
+pub verdict-yes : (o : Verdict) (q r : ℕ) (t : Bool) → o ≡ verdictOf q t → r ≡ q → r ≡ 0 → t ≡ true → verdict.Yes ≡ o
+unfolding verdictOf
+verdict-yes o q r t is e z v = sym (is ∙ rw (← e, eq-eqb r 0 z, v))
+
+pub presetsEqual-is : (k n : ℕ) (u : List ℕ) (l m : ℕ) (v : List ℕ)
+    → presetsEqual k n u l m v
+    ≡ verdictOf ((rankRefusal k n then wordRefusal n u) then (rankRefusal l m then wordRefusal m v)) (samePresets k n u l m v)
+unfolding presetsEqual
+presetsEqual-is k n u l m v =
+    ap (λ (r : ℕ). verdictOf r (samePresets k n u l m v))
+    (then-assoc (rankRefusal k n) (wordRefusal n u) (rankRefusal l m then wordRefusal m v))
+
+pub kinds-differ : (k n : ℕ) (u : List ℕ) (l m : ℕ) (v : List ℕ) → (k ≡ l → ⊥) → samePresets k n u l m v ≡ false
+unfolding samePresets
+kinds-differ k n u l m v f = rw (ne-eqb k l f)
+
+pub ranks-differ : (k n : ℕ) (u : List ℕ) (l m : ℕ) (v : List ℕ) → k ≡ l → (n ≡ m → ⊥) → samePresets k n u l m v ≡ false
+unfolding samePresets
+ranks-differ k n u l m v e f = rw (eq-eqb k l e, ne-eqb n m f)
+
+pub same-rank : (k n : ℕ) (u : List ℕ) (l m : ℕ) (v : List ℕ) (s : Bool) → k ≡ l → n ≡ m → s ≡ equalWords (kindOf k) n u v → samePresets k n u l m v ≡ s
+unfolding samePresets
+same-rank k n u l m v s e f g = rw (eq-eqb k l e, eq-eqb n m f) (sym g)
+
+-- ---- words of one kind and rank
+
+-- what checks 5 to 8 of two words that passed say of each
+pub words-accepted : (k n : ℕ) (u v : List ℕ) (r : ℕ) → r ≡ (rankRefusal k n then wordRefusal n u then wordRefusal n v) → r ≡ 0
+    → (rankRefusal k n ≡ 0) × ((wordRefusal n u ≡ 0) × (wordRefusal n v ≡ 0))
+words-accepted k n u v r e z =
+    let a = then-zero (rankRefusal k n) (wordRefusal n u then wordRefusal n v) (sym e ∙ z) in
+    let b = then-zero (wordRefusal n u) (wordRefusal n v) (a .1) in
+    (a .0, (b .0, b .1))
+
+-- the same of two presets of one rank
+pub presets-accepted : (k n : ℕ) (u : List ℕ) (l m : ℕ) (v : List ℕ) (r s : ℕ) → r ≡ (rankRefusal k n then wordRefusal n u) → r ≡ 0
+    → s ≡ (rankRefusal l m then wordRefusal m v) → s ≡ 0 → n ≡ m → (rankRefusal k n ≡ 0) × ((wordRefusal n u ≡ 0) × (wordRefusal n v ≡ 0))
+presets-accepted k n u l m v r s e z f y q =
+    let a = then-zero (rankRefusal k n) (wordRefusal n u) (sym e ∙ z) in
+    let b = then-zero (rankRefusal l m) (wordRefusal m v) (sym f ∙ y) in
+    (a .0, (a .1, ap (λ (i : ℕ). wordRefusal i v) q ∙ b .1))
+
+pub handsBack-refused : (k n : ℕ) (u v : List ℕ) (r : ℕ) → r ≡ (rankRefusal k n then wordRefusal n u then wordRefusal n v) → (r ≡ 0 → ⊥)
+    → handsBack k n u v ≡ false
+unfolding handsBack
+handsBack-refused k n u v r e f = rw (← e, ne-eqb r 0 f)
+
+pub handsBack-words : (k n : ℕ) (u v : List ℕ) (r : ℕ) (t : Bool) → r ≡ (rankRefusal k n then wordRefusal n u then wordRefusal n v) → r ≡ 0
+    → t ≡ equalWords (kindOf k) n u v → handsBack k n u v ≡ t
+unfolding handsBack
+handsBack-words k n u v r t e z g = rw (← e, eq-eqb r 0 z) (sym g)
+
+-- ---- the better word
+
+-- the empty part at the start of the first word
+pub better-part : (hands second : Bool) (u v : RefT (List ℕ)) (γ : ℕ) → hands ≡ false
+    → Better hands second u v (slPart u (byByte 0 (u .ptr .1)) 0 0 γ)
+better-part hands second u v γ e =
+    record { whole = λ h. absurd (false≢true (sym e ∙ h)); empty = λ h. (refl, ap (λ (o : ℕ). (u .ptr .0, o)) (zero-add (u .ptr .1))) }
+
+pub better-second : (hands second : Bool) (u v : RefT (List ℕ)) → hands ≡ true → second ≡ true → Better hands second u v v
+better-second hands second u v e s = record { whole = λ h. rw s; empty = λ h. absurd (false≢true (sym h ∙ e)) }
+
+pub better-first : (hands second : Bool) (u v : RefT (List ℕ)) → hands ≡ true → second ≡ false → Better hands second u v u
+better-first hands second u v e s = record { whole = λ h. rw s; empty = λ h. absurd (false≢true (sym h ∙ e)) }

@@ -1,0 +1,67 @@
+-- `action::act_on` is one step: below the number of lanes an exchange, and else step n of B or D, since kind A has one lane more than steps.
+-- Assumes nothing.
+use mathlib.Core.Path.{_∙_}
+use native.Mathlib.Omega.{arith}
+use borrow.Author.Needs.{needs}
+use Rattle.window.proofs.StepCode.{exchange-eq-act, negate-at-requires-of-last, negateFirst-eq-act}
+use Rattle.window.proofs.StepCode.{four-le-of-last, exchange-negate-at-requires-of-last, exchangeNegate-eq-act}
+use Rattle.window.proofs.action.act_on.Statement.{statement}
+use Rattle.window.proofs.action.act_on.Tie as tie
+
+sub-exchange-at : tie.Need-sub-exchange-at
+sub-exchange-at c = search needs
+
+exchange-at-requires : tie.Need-exchange-at-requires
+exchange-at-requires c κs = search needs
+
+same-length : tie.Need-same-length
+same-length c = search needs
+
+returns : tie.Need-returns
+returns c = c .before .exchange-at .ensures ∙ exchange-eq-act _ _ _ _ (c .before .before .before .before .pre) (c .before .before .before .if1 .taken)
+
+sub-negate-at : tie.Need-sub-negate-at
+sub-negate-at c = search needs
+
+negate-at-requires : tie.Need-negate-at-requires
+negate-at-requires c κs = negate-at-requires-of-last _ _ _ _ (c .before .before .before .pre) (c .before .before .if1 .left)
+
+same-length-2 : tie.Need-same-length-2
+same-length-2 c = search needs
+
+returns-2 : tie.Need-returns-2
+returns-2 c =
+    let b = c .before .before .before in
+    c .before .negate-at .ensures ∙ negateFirst-eq-act _ _ _ _ (b .before .before .pre) (b .before .if1 .left) (b .if2 .taken)
+
+sub-exchange-negate-at : tie.Need-sub-exchange-negate-at
+sub-exchange-negate-at c = omega (arith, four-le-of-last _ _ _ _ (c .before .before .before .pre) (c .before .before .if1 .left) (c .before .if2 .left))
+
+exchange-negate-at-requires : tie.Need-exchange-negate-at-requires
+exchange-negate-at-requires c κs =
+    exchange-negate-at-requires-of-last _ _ _ _ (c .before .before .before .pre) (c .before .before .if1 .left) (c .before .if2 .left)
+
+same-length-3 : tie.Need-same-length-3
+same-length-3 c = search needs
+
+returns-3 : tie.Need-returns-3
+returns-3 c =
+    let b = c .before .before .before in
+    c .before .exchange-negate-at .ensures ∙ exchangeNegate-eq-act _ _ _ _ (b .before .before .pre) (b .before .if1 .left) (b .if2 .left)
+
+pub act-on-spec : {M : Type 1} → statement M
+act-on-spec =
+    tie.close
+    (tie.spec
+    sub-exchange-at
+    exchange-at-requires
+    same-length
+    returns
+    sub-negate-at
+    negate-at-requires
+    same-length-2
+    returns-2
+    sub-exchange-negate-at
+    exchange-negate-at-requires
+    same-length-3
+    returns-3)

@@ -1,0 +1,63 @@
+-- `action::set_straight` writes the straight window. The invariant: the entries before i are 1, .., i.
+-- Assumes nothing.
+use mathlib.Core.Path.{_≡_, refl}
+use Prim.Native.Nat.{_≤_, _-_}
+use native.Mathlib.Omega.{arith}
+use lib.ListN.{length, length-set, take}
+use Rattle.window.specs.Kinds.{up}
+use Rattle.window.specs.Windows.{straight}
+use Rattle.window.proofs.StepCode.{take-straight-next, take-straight-end}
+use Rattle.window.proofs.action.set_straight.Statement.{statement}
+use Rattle.window.proofs.action.set_straight.Tie as tie
+
+abbrev Inv-loop : tie.InvT-loop
+Inv-loop w₀ i₀ w i = (i ≤ length w) × (length w ≡ length w₀) × (take i w ≡ straight i)
+
+abbrev μ-loop : tie.MeasureT-loop
+μ-loop w₀ i₀ w i = length w₀ - i
+
+loop-holds : tie.Need-loop-holds Inv-loop μ-loop
+unfolding straight up
+loop-holds c = (omega arith, refl, refl)
+
+add-w : tie.Need-add-w Inv-loop μ-loop
+add-w c = omega arith
+
+cast-w : tie.Need-cast-w Inv-loop μ-loop
+cast-w c = omega arith
+
+slice-set-from-w : tie.Need-slice-set-from-w Inv-loop μ-loop
+slice-set-from-w c = omega arith
+
+add-i : tie.Need-add-i Inv-loop μ-loop
+add-i c = omega arith
+
+loop-less : tie.Need-loop-less Inv-loop μ-loop
+loop-less c = omega arith
+
+loop-again : tie.Need-loop-again Inv-loop μ-loop
+loop-again c =
+    let i = c .before .loop .inv in
+    (simp length-set (omega arith), simp length-set (i .1), take-straight-next _ _ (c .loop-test .taken) (omega arith) (i .2))
+
+same-length : tie.Need-same-length Inv-loop μ-loop
+same-length c = c .before .loop .inv .1
+
+returns : tie.Need-returns Inv-loop μ-loop
+returns c = let i = c .before .loop .inv in take-straight-end _ _ _ (c .loop-test .left) (i .0) (i .1) (i .2)
+
+pub set-straight-spec : {M : Type 1} → statement M
+set-straight-spec =
+    tie.close
+    (tie.spec
+    Inv-loop
+    μ-loop
+    loop-holds
+    add-w
+    cast-w
+    slice-set-from-w
+    add-i
+    loop-less
+    loop-again
+    same-length
+    returns)

@@ -1,0 +1,29 @@
+-- `action::show` is the window of a word, by `set_straight` and `apply`; the straight window is accepted.
+-- Assumes nothing.
+use mathlib.Core.Path.{_∙_}
+use borrow.Author.Needs.{needs}
+use Rattle.window.specs.Kinds.{kindOf}
+use Rattle.window.proofs.StepCode.{le-of-lanes, refusal-straight, windowFrom-straight}
+use Rattle.window.proofs.action.show.Statement.{statement}
+use Rattle.window.proofs.action.show.Tie as tie
+
+set-straight-requires : tie.Need-set-straight-requires
+set-straight-requires c κs =
+    let b = c .before .before in
+    le-of-lanes (kindOf (b .args .kind)) _ _ (b .pre .1 .0) (b .pre .1 .1 .0)
+
+apply-requires : tie.Need-apply-requires
+apply-requires c κs =
+    let p = c .before .before .before .before .before .pre in
+    (p .0, (p .1 .0, (p .1 .1 .1, refusal-straight _ _ _ _ (p .1 .1 .0) (c .before .before .set-straight .ensures))))
+
+same-length : tie.Need-same-length
+same-length c = search needs
+
+returns : tie.Need-returns
+returns c =
+    let b = c .before .before .before .before in
+    c .before .apply .ensures ∙ windowFrom-straight _ _ _ _ _ (b .before .before .before .pre .1 .1 .0) (b .set-straight .ensures)
+
+pub show-spec : {M : Type 1} → statement M
+show-spec = tie.close (tie.spec set-straight-requires apply-requires same-length returns)

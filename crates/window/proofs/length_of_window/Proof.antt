@@ -1,0 +1,23 @@
+-- `length_of_window` refuses in document 01's order, or measures the window.
+-- Assumes nothing.
+use Rattle.window.proofs.CallLaws.{window-passed}
+use Rattle.window.proofs.VerdictLaws.{answer-refused, answer-length, lengthOfWindow-is}
+use borrow.Author.Needs.{needs}
+use Rattle.window.proofs.length_of_window.Statement.{statement}
+use Rattle.window.proofs.length_of_window.Tie as tie
+
+ranked-window-refusal-requires : tie.Need-ranked-window-refusal-requires
+ranked-window-refusal-requires c κs = search needs
+
+returns : tie.Need-returns
+returns c = answer-refused _ _ _ _ (lengthOfWindow-is _ _ _) (c .before .ranked-window-refusal .ensures) (c .if1 .taken)
+
+length-of-requires : tie.Need-length-of-requires
+length-of-requires c κs = window-passed _ _ _ _ (c .before .ranked-window-refusal .ensures) (c .if1 .left)
+
+returns-2 : tie.Need-returns-2
+returns-2 c = answer-length _ _ _ _ _ (lengthOfWindow-is _ _ _) (c .before .before .ranked-window-refusal .ensures) (c .before .if1 .left) (c .length-of .ensures)
+
+pub length-of-window-spec : {M : Type 1} → statement M
+length-of-window-spec =
+    tie.close (tie.spec ranked-window-refusal-requires returns length-of-requires returns-2)

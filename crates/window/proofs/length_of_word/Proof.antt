@@ -1,0 +1,24 @@
+-- `length_of_word` refuses in document 01's order, or measures what the word shows.
+-- Assumes nothing.
+use mathlib.Core.Path.{sym, _∙_}
+use Rattle.window.proofs.Sizes.{then-zero}
+use Rattle.window.proofs.VerdictLaws.{answer-refused, answer-length, lengthOfWord-is}
+use borrow.Author.Needs.{needs}
+use Rattle.window.proofs.length_of_word.Statement.{statement}
+use Rattle.window.proofs.length_of_word.Tie as tie
+
+preset-refusal-requires : tie.Need-preset-refusal-requires
+preset-refusal-requires c κs = search needs
+
+returns : tie.Need-returns
+returns c = answer-refused _ _ _ _ (lengthOfWord-is _ _ _) (c .before .preset-refusal .ensures) (c .if1 .taken)
+
+length-of-shown-requires : tie.Need-length-of-shown-requires
+length-of-shown-requires c κs = let a = then-zero _ _ (sym (c .before .preset-refusal .ensures) ∙ c .if1 .left) in (a .0, a .1)
+
+returns-2 : tie.Need-returns-2
+returns-2 c = answer-length _ _ _ _ _ (lengthOfWord-is _ _ _) (c .before .before .preset-refusal .ensures) (c .before .if1 .left) (c .length-of-shown .ensures)
+
+pub length-of-word-spec : {M : Type 1} → statement M
+length-of-word-spec =
+    tie.close (tie.spec preset-refusal-requires returns length-of-shown-requires returns-2)

@@ -1,0 +1,9 @@
+-- What an auditor must believe of the window layer, in the order of document 01. Definitions and nothing else: the laws are in proofs/.
+pub mod Kinds
+pub mod Windows
+pub mod Length
+pub mod Dictionary
+pub mod Relations
+pub mod Checks
+pub mod NormalForm
+pub mod Calls

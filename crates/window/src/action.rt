@@ -1,0 +1,103 @@
+// Steps on a window, in place: each changes one or two entries, so a word costs constant work a letter.
+ghost use mathlib.Core.Path.{_≡_};
+ghost use mathlib.Core.Bool.{false};
+ghost use Prim.Native.Nat.{_+_, _<_, _≤_};
+ghost use lib.IntN.{natAbs, pos};
+ghost use lib.ListN.{length, getD};
+ghost use Rattle.window.specs.Kinds.{kindOf, lanes, least};
+ghost use Rattle.window.specs.Windows.{from, exchange, negateFirst, exchangeNegate, act, windowFrom, straight, window};
+ghost use Rattle.window.specs.Checks.{wrongLetter, windowRefusal};
+use super::entries::negated;
+
+// w[p] and w[p + 1] exchanged.
+fn exchange_at(w: &mut [i8], p: usize)
+    requires { ⌜ p + 1 < length (now w) ⌝ }
+    ensures { λ _. ⌜ now (w .exit) ≡ from p exchange (now (w .entry)) ⌝ }
+{
+    let a = w[p];
+    let b = w[p + 1];
+    w[p] = b;
+    w[p + 1] = a;
+}
+
+// The sign of w[p] changed.
+fn negate_at(w: &mut [i8], p: usize)
+    requires { ⌜ (p < length (now w)) × (natAbs (getD (now w) p (pos 0)) < 128) ⌝ }
+    ensures { λ _. ⌜ now (w .exit) ≡ from p negateFirst (now (w .entry)) ⌝ }
+{
+    let a = w[p];
+    w[p] = negated(a);
+}
+
+// w[p] and w[p + 1] exchanged, both with their signs changed.
+fn exchange_negate_at(w: &mut [i8], p: usize)
+    requires { ⌜ p + 1 < length (now w) ⌝ }
+    requires { ⌜ natAbs (getD (now w) p (pos 0)) < 128 ⌝ }
+    requires { ⌜ natAbs (getD (now w) (p + 1) (pos 0)) < 128 ⌝ }
+    ensures { λ _. ⌜ now (w .exit) ≡ from p exchangeNegate (now (w .entry)) ⌝ }
+{
+    let a = w[p];
+    let b = w[p + 1];
+    let c = negated(a);
+    let d = negated(b);
+    w[p] = d;
+    w[p + 1] = c;
+}
+
+// One step. Below the number of entries a step exchanges, in every kind. Any other is step n of B or D: A has an entry more than steps.
+fn act_on(kind: u8, n: usize, s: usize, w: &mut [i8])
+    requires { ⌜ (1 ≤ s) × (s ≤ n) ⌝ }
+    requires { ⌜ least (kindOf kind) ≤ n ⌝ }
+    requires { ⌜ n ≤ 64 ⌝ }
+    requires { ⌜ windowRefusal (kindOf kind) n (now w) ≡ 0 ⌝ }
+    ensures { λ _. ⌜ now (w .exit) ≡ act (kindOf kind) n s (now (w .entry)) ⌝ }
+{
+    if s < w.len() {
+        exchange_at(w, s - 1);
+        return;
+    }
+    if kind == 2 {
+        negate_at(w, n - 1);
+        return;
+    }
+    exchange_negate_at(w, n - 2);
+}
+
+// The steps of a word from the left.
+pub(crate) fn apply(kind: u8, n: usize, word: &[u8], w: &mut [i8])
+    requires { ⌜ least (kindOf kind) ≤ n ⌝ }
+    requires { ⌜ n ≤ 64 ⌝ }
+    requires { ⌜ wrongLetter n (now word) ≡ false ⌝ }
+    requires { ⌜ windowRefusal (kindOf kind) n (now w) ≡ 0 ⌝ }
+    ensures { λ _. ⌜ now (w .exit) ≡ windowFrom (kindOf kind) n (now (w .entry)) (now (word .entry)) ⌝ }
+{
+    let mut i = 0;
+    while i < word.len() {
+        act_on(kind, n, word[i] as usize, w);
+        i += 1;
+    }
+}
+
+// 1, 2, 3 and so on.
+fn set_straight(w: &mut [i8])
+    requires { ⌜ length (now w) ≤ 127 ⌝ }
+    ensures { λ _. ⌜ now (w .exit) ≡ straight (length (now (w .entry))) ⌝ }
+{
+    let mut i = 0;
+    while i < w.len() {
+        w[i] = (i + 1) as i8;
+        i += 1;
+    }
+}
+
+// The window of a word.
+pub(crate) fn show(kind: u8, n: usize, word: &[u8], w: &mut [i8])
+    requires { ⌜ least (kindOf kind) ≤ n ⌝ }
+    requires { ⌜ n ≤ 64 ⌝ }
+    requires { ⌜ length (now w) ≡ lanes (kindOf kind) n ⌝ }
+    requires { ⌜ wrongLetter n (now word) ≡ false ⌝ }
+    ensures { λ _. ⌜ now (w .exit) ≡ window (kindOf kind) n (now (word .entry)) ⌝ }
+{
+    set_straight(w);
+    apply(kind, n, word, w);
+}

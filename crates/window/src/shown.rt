@@ -1,0 +1,58 @@
+// What words show, in a work window of this module's own.
+use crate::action::show;
+use crate::checks::lanes;
+use crate::length::length_of;
+use crate::product::same_entries;
+ghost use mathlib.Core.Path.{_≡_};
+ghost use lib.ListN.{length, take};
+ghost use Rattle.window.specs.Kinds as kinds;
+ghost use Rattle.window.specs.Kinds.{kindOf};
+ghost use Rattle.window.specs.Windows.{window};
+ghost use Rattle.window.specs.Length.{windowLength};
+ghost use Rattle.window.specs.Checks.{rankRefusal, wordRefusal};
+ghost use Rattle.window.specs.Calls.{equalWords};
+
+// A window with room for every lane count.
+fn blank() -> [i8; 64]
+    ensures { λ r. ⌜ length r ≡ 64 ⌝ }
+{
+    [0i8; 64]
+}
+
+// The window of an accepted word, at the front of a work window.
+pub(crate) fn shown(kind: u8, rank: u8, word: &[u8]) -> [i8; 64]
+    requires { ⌜ rankRefusal kind rank ≡ 0 ⌝ }
+    requires { ⌜ wordRefusal rank (now word) ≡ 0 ⌝ }
+    ensures { λ r. ⌜ (length r ≡ 64) × (take (kinds.lanes (kindOf kind) rank) r ≡ window (kindOf kind) rank (now (word .entry))) ⌝ }
+{
+    let n = rank as usize;
+    let m = lanes(kind, rank);
+    let mut work = blank();
+    show(kind, n, word, &mut work[..m]);
+    work
+}
+
+// The length of an accepted word's window.
+pub(crate) fn length_of_shown(kind: u8, rank: u8, word: &[u8]) -> usize
+    requires { ⌜ rankRefusal kind rank ≡ 0 ⌝ }
+    requires { ⌜ wordRefusal rank (now word) ≡ 0 ⌝ }
+    ensures { λ r. ⌜ r ≡ windowLength (kindOf kind) (window (kindOf kind) rank (now (word .entry))) ⌝ }
+{
+    let n = rank as usize;
+    let m = lanes(kind, rank);
+    let work = shown(kind, rank, word);
+    length_of(kind, n, &work[..m])
+}
+
+// Whether two accepted words of one kind and rank have one window.
+pub(crate) fn equal_words(kind: u8, rank: u8, u: &[u8], v: &[u8]) -> bool
+    requires { ⌜ rankRefusal kind rank ≡ 0 ⌝ }
+    requires { ⌜ wordRefusal rank (now u) ≡ 0 ⌝ }
+    requires { ⌜ wordRefusal rank (now v) ≡ 0 ⌝ }
+    ensures { λ r. ⌜ r ≡ equalWords (kindOf kind) rank (now (u .entry)) (now (v .entry)) ⌝ }
+{
+    let m = lanes(kind, rank);
+    let first = shown(kind, rank, u);
+    let second = shown(kind, rank, v);
+    same_entries(&first[..m], &second[..m])
+}
