@@ -4,7 +4,6 @@ pub mod Bytes
 pub mod CheckLaws
 pub mod CallLaws
 pub mod VerdictLaws
-pub mod ShownLaws
 pub mod Sizes
 pub mod Levels
 pub mod Steps
@@ -15,6 +14,7 @@ pub mod Products
 pub mod Places
 pub mod Inverses
 pub mod Scatter
+pub mod ShownLaws
 pub mod Order
 pub mod PairWeights
 pub mod LengthCode
@@ -25,5 +25,9 @@ pub mod Peeling
 pub mod BlockAction
 pub mod Indices
 pub mod NormalForms
+pub mod Stores
+pub mod NormalCode
 pub mod Lengths
 pub mod GreatestLengths
+pub mod FormLaws
+pub mod FormCode

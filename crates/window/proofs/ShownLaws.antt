@@ -2,16 +2,23 @@
 -- Assumes nothing.
 use mathlib.Core.Path.{_≡_, sym, ap, ap₂, _∙_, subst}
 use mathlib.Core.List.{List, _++_}
-use Prim.Native.Nat.{ℕ, _≤_}
+use Prim.Native.Nat.{ℕ, _+_, _≤_, _<_}
+use native.Mathlib.Numerals.{add-one}
 use native.Mathlib.Omega.{arith}
-use lib.IntN.{ℤ}
-use lib.ListN.{length, take, drop, length-append, length-drop}
-use lib.Seq.{length-take-le, take-at}
+use lib.IntN.{ℤ, pos}
+use lib.ListN.{length, getD, take, drop, set, length-append, length-drop}
+use lib.Seq.{length-take-le, take-at, take-all, take-suc, take-suc-set}
+use lib.Signed.{mag}
+use mir.Syntax.{w8}
+use mir.Val.{toZ, ofZ}
+use Rattle.window.proofs.Bytes.{read-back}
 use Rattle.window.proofs.Basics.{length-window}
+use Rattle.window.proofs.Products.{length-product, windowFrom-product}
+use Rattle.window.proofs.Inverses.{length-inverse}
 use Rattle.window.proofs.Levels.{window-accepted, refusal-of-accepted}
 use Rattle.window.proofs.CallLaws.{rank-accepted, lanes-le}
 use Rattle.window.specs.Kinds.{kindOf, lanes}
-use Rattle.window.specs.Windows.{window}
+use Rattle.window.specs.Windows.{window, windowFrom, product, inverse}
 use Rattle.window.specs.Length.{windowLength}
 use Rattle.window.specs.Checks.{rankRefusal, windowRefusal}
 use Rattle.window.specs.Calls.{sameWindow, equalWords}
@@ -23,12 +30,17 @@ module _ (k n m : ℕ) (h : rankRefusal k n ≡ 0) (e : m ≡ lanes (kindOf k) n
   pub length-front-part : (l : List ℤ) → length l ≡ 64 → length (take m l) ≡ m
   length-front-part l q = length-take-le m l (room l q)
 
-  pub shown-front : (u : List ℕ) (l v : List ℤ) → length l ≡ 64 → v ≡ window (kindOf k) n u
-      → (length (v ++ drop m l) ≡ 64) × (take (lanes (kindOf k) n) (v ++ drop m l) ≡ window (kindOf k) n u)
-  shown-front u l v q w =
-      let c : length v ≡ m = ap length w ∙ length-window (kindOf k) n u ∙ sym e in
+  -- the front replaced by a window x
+  pub front-store : (l v x : List ℤ) → length l ≡ 64 → length x ≡ lanes (kindOf k) n → v ≡ x
+      → (length (v ++ drop m l) ≡ 64) × (take (lanes (kindOf k) n) (v ++ drop m l) ≡ x)
+  front-store l v x q s w =
+      let c : length v ≡ m = ap length w ∙ s ∙ sym e in
       let b : m ≤ length l = room l q in
       (length-append v (drop m l) ∙ omega (arith, length-drop m l), take-at v (drop m l) (lanes (kindOf k) n) (c ∙ e) ∙ w)
+
+  pub front-show : (u : List ℕ) (l v : List ℤ) → length l ≡ 64 → v ≡ window (kindOf k) n u
+      → (length (v ++ drop m l) ≡ 64) × (take (lanes (kindOf k) n) (v ++ drop m l) ≡ window (kindOf k) n u)
+  front-show u l v q w = front-store l v (window (kindOf k) n u) q (length-window (kindOf k) n u) w
 
   pub front-is : (u : List ℕ) (r : List ℤ) → take (lanes (kindOf k) n) r ≡ window (kindOf k) n u → take m r ≡ window (kindOf k) n u
   front-is u r w = ap (λ (a : ℕ). take a r) e ∙ w
@@ -46,3 +58,28 @@ module _ (k n m : ℕ) (h : rankRefusal k n ≡ 0) (e : m ≡ lanes (kindOf k) n
       → sameWindow (take m r) (take m s) ≡ equalWords (kindOf k) n u v
   unfolding equalWords
   fronts-same u v r s a b = ap₂ sameWindow (front-is u r a) (front-is v s b)
+
+  pub front-apply : (u z : List ℕ) (l v : List ℤ) → length l ≡ 64 → take (lanes (kindOf k) n) l ≡ window (kindOf k) n u → v ≡ windowFrom (kindOf k) n (take m l) z
+      → (length (v ++ drop m l) ≡ 64) × (take (lanes (kindOf k) n) (v ++ drop m l) ≡ product (window (kindOf k) n u) (window (kindOf k) n z))
+  front-apply u z l v q f w =
+      front-store l v (product (window (kindOf k) n u) (window (kindOf k) n z)) q
+      (length-product (window (kindOf k) n u) (window (kindOf k) n z) ∙ length-window (kindOf k) n z)
+      (w ∙ ap (λ (x : List ℤ). windowFrom (kindOf k) n x z) (front-is u l f)
+      ∙ windowFrom-product (kindOf k) n (window (kindOf k) n u) z (length-window (kindOf k) n u))
+
+  pub front-inverse : (u : List ℕ) (l r v : List ℤ) → length l ≡ 64 → take (lanes (kindOf k) n) r ≡ window (kindOf k) n u → v ≡ inverse (take m r)
+      → (length (v ++ drop m l) ≡ 64) × (take (lanes (kindOf k) n) (v ++ drop m l) ≡ inverse (window (kindOf k) n u))
+  front-inverse u l r v q f w =
+      front-store l v (inverse (window (kindOf k) n u)) q (length-inverse (window (kindOf k) n u) ∙ length-window (kindOf k) n u)
+      (w ∙ ap inverse (front-is u r f))
+
+-- a window copied entry by entry
+pub copy-next : (i : ℕ) (w out : List ℤ) → i < length w → i < length out → mag (getD w i (pos 0)) < 128 → take i out ≡ take i w
+    → take (i + 1) (set out i (toZ w8 (ofZ w8 (getD w i (pos 0))))) ≡ take (i + 1) w
+copy-next i w out h g f q =
+    rw (add-one, take-suc-set out i (toZ w8 (ofZ w8 (getD w i (pos 0)))) g, take-suc w i (pos 0) h, read-back (λ (x : ℤ). x) (getD w i (pos 0)) f, q)
+
+pub copy-end : (i : ℕ) (w out : List ℤ) → i ≤ length w → length w ≤ i → take i out ≡ take i w → take (length w) out ≡ w
+copy-end i w out a b q =
+    let e : length w ≡ i = omega arith in
+    ap (λ (x : ℕ). take x out) e ∙ q ∙ take-all i w b

@@ -15,6 +15,7 @@ use Rattle.window.specs.Kinds.{Kind, pick, kindOf, lanes}
 use Rattle.window.specs.Windows.{window, product, inverse}
 use Rattle.window.specs.Length.{windowLength}
 use Rattle.window.specs.Dictionary.{shortlex}
+use Rattle.window.specs.NormalForm.{normalForm, wordNormalForm}
 use Rattle.window.specs.Checks.{check, _then_, tooShort, rankRefusal, wordRefusal, windowRefusal}
 
 -- the number and the value of each case of `Answer`: its refusal, or with none the length
@@ -52,6 +53,23 @@ productOfWindows k n u v out =
 -- the inverse of a window
 unfoldable pub inverseOfWindow : ℕ → ℕ → List ℤ → List ℤ → Outcome ℤ
 inverseOfWindow k n w out = writes (rankRefusal k n then windowRefusal (kindOf k) n w) (inverse w) out
+
+-- the normal form of a window and of a word
+unfoldable pub normalFormOfWindow : ℕ → ℕ → List ℤ → List ℕ → Outcome ℕ
+normalFormOfWindow k n w out = writes (rankRefusal k n then windowRefusal (kindOf k) n w) (normalForm (kindOf k) n w) out
+
+unfoldable pub normalFormOfWord : ℕ → ℕ → List ℕ → List ℕ → Outcome ℕ
+normalFormOfWord k n u out = writes (rankRefusal k n then wordRefusal n u) (wordNormalForm (kindOf k) n u) out
+
+-- the product of two words and the inverse of a word, as normal forms
+unfoldable pub productOfWords : ℕ → ℕ → List ℕ → List ℕ → List ℕ → Outcome ℕ
+productOfWords k n u v out =
+    writes (rankRefusal k n then wordRefusal n u then wordRefusal n v)
+    (normalForm (kindOf k) n (product (window (kindOf k) n u) (window (kindOf k) n v))) out
+
+unfoldable pub inverseOfWord : ℕ → ℕ → List ℕ → List ℕ → Outcome ℕ
+inverseOfWord k n u out =
+    writes (rankRefusal k n then wordRefusal n u) (normalForm (kindOf k) n (inverse (window (kindOf k) n u))) out
 
 -- the length of the normal form, from a window and from a word
 unfoldable pub lengthOfWindow : ℕ → ℕ → List ℤ → Answer

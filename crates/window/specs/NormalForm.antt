@@ -81,6 +81,10 @@ normalFrom k n (suc t) i w =
 unfoldable pub normalForm : Kind → ℕ → List ℤ → List ℕ
 normalForm k n w = normalFrom k n (levels k n) 1 w
 
+-- the normal form of a word of any length: that of its window
+abbrev pub wordNormalForm : Kind → ℕ → List ℕ → List ℕ
+wordNormalForm k n u = normalForm k n (window k n u)
+
 -- the mission's definition: "of all words of one kind and rank with one window the shortest, and among those the first in document 01's
 -- dictionary order", over words of any length
 pub record IsNormalForm (k : Kind) (n : ℕ) (w : List ℤ) (u : List ℕ) : Type 0 where

@@ -5,7 +5,9 @@
 mod action;
 mod checks;
 mod entries;
+mod forms;
 mod length;
+mod normal;
 mod product;
 mod shown;
 mod words;
@@ -18,15 +20,21 @@ use checks::ranked_window_refusal;
 use checks::ranked_windows_refusal;
 use checks::ranked_words_refusal;
 pub use checks::word_refusal;
+use forms::write_checked;
 use length::length_of;
 use product::inverse_into;
 use product::product_into;
+use shown::copied;
 use shown::equal_words;
+use shown::inverse_shown;
 use shown::length_of_shown;
+use shown::product_shown;
+use shown::shown;
 use words::is_shortlex;
 ghost use mathlib.Core.Path.{_≡_};
 ghost use Rattle.window.specs.Dictionary.{shortlex};
 ghost use Rattle.window.specs.Calls.{windowOfWord, productOfWindows, inverseOfWindow, lengthOfWindow, lengthOfWord, presetsEqual, handsBack, Better};
+ghost use Rattle.window.specs.Calls.{normalFormOfWindow, normalFormOfWord, productOfWords, inverseOfWord};
 
 // The answer of a call that writes, or that measures a length: the length, or the refusal's number.
 pub enum Answer {
@@ -93,6 +101,62 @@ pub fn inverse_of_window(kind: u8, rank: u8, w: &[i8], out: &mut [i8]) -> Answer
     let n = rank as usize;
     inverse_into(kind, n, w, &mut out[..m]);
     Answer::Length(m)
+}
+
+// The normal form of a window, written to the front of `out`.
+pub fn normal_form_of_window(kind: u8, rank: u8, w: &[i8], out: &mut [u8]) -> Answer
+    ensures { λ r. ⌜ (r ≡ normalFormOfWindow kind rank (now (w .entry)) (now (out .entry)) .answer)
+        × (now (out .exit) ≡ normalFormOfWindow kind rank (now (w .entry)) (now (out .entry)) .bytes) ⌝ }
+{
+    let refusal = ranked_window_refusal(kind, rank, w);
+    if refusal != 0 {
+        return Answer::Refused(refusal);
+    }
+    let m = w.len();
+    let mut work = copied(w);
+    write_checked(kind, rank, &mut work[..m], out)
+}
+
+// The normal form of a word, written to the front of `out`.
+pub fn normal_form_of_word(kind: u8, rank: u8, word: &[u8], out: &mut [u8]) -> Answer
+    ensures { λ r. ⌜ (r ≡ normalFormOfWord kind rank (now (word .entry)) (now (out .entry)) .answer)
+        × (now (out .exit) ≡ normalFormOfWord kind rank (now (word .entry)) (now (out .entry)) .bytes) ⌝ }
+{
+    let refusal = preset_refusal(kind, rank, word);
+    if refusal != 0 {
+        return Answer::Refused(refusal);
+    }
+    let m = lanes(kind, rank);
+    let mut work = shown(kind, rank, word);
+    write_checked(kind, rank, &mut work[..m], out)
+}
+
+// The product of two words of one kind and rank as a normal form, written to the front of `out`.
+pub fn product_of_words(kind: u8, rank: u8, u: &[u8], v: &[u8], out: &mut [u8]) -> Answer
+    ensures { λ r. ⌜ (r ≡ productOfWords kind rank (now (u .entry)) (now (v .entry)) (now (out .entry)) .answer)
+        × (now (out .exit) ≡ productOfWords kind rank (now (u .entry)) (now (v .entry)) (now (out .entry)) .bytes) ⌝ }
+{
+    let refusal = ranked_words_refusal(kind, rank, u, v);
+    if refusal != 0 {
+        return Answer::Refused(refusal);
+    }
+    let m = lanes(kind, rank);
+    let mut work = product_shown(kind, rank, u, v);
+    write_checked(kind, rank, &mut work[..m], out)
+}
+
+// The inverse of a word as a normal form, written to the front of `out`.
+pub fn inverse_of_word(kind: u8, rank: u8, word: &[u8], out: &mut [u8]) -> Answer
+    ensures { λ r. ⌜ (r ≡ inverseOfWord kind rank (now (word .entry)) (now (out .entry)) .answer)
+        × (now (out .exit) ≡ inverseOfWord kind rank (now (word .entry)) (now (out .entry)) .bytes) ⌝ }
+{
+    let refusal = preset_refusal(kind, rank, word);
+    if refusal != 0 {
+        return Answer::Refused(refusal);
+    }
+    let m = lanes(kind, rank);
+    let mut work = inverse_shown(kind, rank, word);
+    write_checked(kind, rank, &mut work[..m], out)
 }
 
 // The length of a window's normal form.

@@ -1,13 +1,16 @@
 // What words show, in a work window of this module's own.
+use crate::action::apply;
 use crate::action::show;
 use crate::checks::lanes;
 use crate::length::length_of;
+use crate::product::inverse_into;
 use crate::product::same_entries;
 ghost use mathlib.Core.Path.{_≡_};
+ghost use Prim.Native.Nat.{_≤_};
 ghost use lib.ListN.{length, take};
 ghost use Rattle.window.specs.Kinds as kinds;
 ghost use Rattle.window.specs.Kinds.{kindOf};
-ghost use Rattle.window.specs.Windows.{window};
+ghost use Rattle.window.specs.Windows.{window, product, inverse};
 ghost use Rattle.window.specs.Length.{windowLength};
 ghost use Rattle.window.specs.Checks.{rankRefusal, wordRefusal};
 ghost use Rattle.window.specs.Calls.{equalWords};
@@ -30,6 +33,49 @@ pub(crate) fn shown(kind: u8, rank: u8, word: &[u8]) -> [i8; 64]
     let mut work = blank();
     show(kind, n, word, &mut work[..m]);
     work
+}
+
+// The product of two accepted words' windows.
+pub(crate) fn product_shown(kind: u8, rank: u8, u: &[u8], v: &[u8]) -> [i8; 64]
+    requires { ⌜ rankRefusal kind rank ≡ 0 ⌝ }
+    requires { ⌜ wordRefusal rank (now u) ≡ 0 ⌝ }
+    requires { ⌜ wordRefusal rank (now v) ≡ 0 ⌝ }
+    ensures { λ r. ⌜ (length r ≡ 64)
+        × (take (kinds.lanes (kindOf kind) rank) r ≡ product (window (kindOf kind) rank (now (u .entry))) (window (kindOf kind) rank (now (v .entry)))) ⌝ }
+{
+    let n = rank as usize;
+    let m = lanes(kind, rank);
+    let mut work = shown(kind, rank, u);
+    apply(kind, n, v, &mut work[..m]);
+    work
+}
+
+// The inverse of an accepted word's window.
+pub(crate) fn inverse_shown(kind: u8, rank: u8, word: &[u8]) -> [i8; 64]
+    requires { ⌜ rankRefusal kind rank ≡ 0 ⌝ }
+    requires { ⌜ wordRefusal rank (now word) ≡ 0 ⌝ }
+    ensures { λ r. ⌜ (length r ≡ 64) × (take (kinds.lanes (kindOf kind) rank) r ≡ inverse (window (kindOf kind) rank (now (word .entry)))) ⌝ }
+{
+    let n = rank as usize;
+    let m = lanes(kind, rank);
+    let work = shown(kind, rank, word);
+    let mut out = blank();
+    inverse_into(kind, n, &work[..m], &mut out[..m]);
+    out
+}
+
+// A copy of a window.
+pub(crate) fn copied(w: &[i8]) -> [i8; 64]
+    requires { ⌜ length (now w) ≤ 64 ⌝ }
+    ensures { λ r. ⌜ (length r ≡ 64) × (take (length (now (w .entry))) r ≡ now (w .entry)) ⌝ }
+{
+    let mut out = blank();
+    let mut i = 0;
+    while i < w.len() {
+        out[i] = w[i];
+        i += 1;
+    }
+    out
 }
 
 // The length of an accepted word's window.

@@ -2,7 +2,7 @@
 -- Assumes nothing.
 use mathlib.Core.Path.{_≡_, sym, _∙_}
 use Rattle.window.proofs.CallLaws.{rank-accepted, letters-accepted}
-use Rattle.window.proofs.ShownLaws.{room, length-front-part, shown-front}
+use Rattle.window.proofs.ShownLaws.{room, length-front-part, front-show}
 use borrow.Author.Needs.{needs}
 use Rattle.window.proofs.shown.shown.Statement.{statement}
 use Rattle.window.proofs.shown.shown.Tie as tie
@@ -25,7 +25,7 @@ show-requires c κs =
     (a .0, (a .1, (length-front-part _ _ _ (c .before .before .before .before .pre .0) (c .before .before .lanes .ensures) (c .before .blank .result) (c .before .blank .ensures) ∙ c .before .before .lanes .ensures, letters-accepted _ _ (c .before .before .before .before .pre .1))))
 
 returns : tie.Need-returns
-returns c = shown-front _ _ _ (c .before .before .before .before .before .before .pre .0) (c .before .before .before .before .lanes .ensures) _ _ _ (c .before .before .before .blank .ensures) (c .before .show .ensures)
+returns c = front-show _ _ _ (c .before .before .before .before .before .before .pre .0) (c .before .before .before .before .lanes .ensures) _ _ _ (c .before .before .before .blank .ensures) (c .before .show .ensures)
 
 pub shown-spec : {M : Type 1} → statement M
 shown-spec =

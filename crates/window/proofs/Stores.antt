@@ -1,0 +1,112 @@
+-- Runs of stores in a list of letters, and the runs and blocks that are written so, one letter a turn of a loop.
+--
+-- Sections: runs of stores; letters up and down; blocks as runs.
+-- Assumes nothing.
+use mathlib.Core.Path.{_≡_, refl, sym, ap, _∙_}
+use mathlib.Core.Logic.{_⊎_, ⊎-elim}
+use mathlib.Core.List.{List, [], _∷_, _++_, append-nil}
+use Prim.Native.Nat.{ℕ, suc, _+_, _-_, _*_, _≤_, _<_}
+use native.Mathlib.Nat.{add-zero, zero-add, add-suc, suc-add, lt-of-not-le}
+use native.Mathlib.Decide.{decLe}
+use native.Mathlib.Numerals.{add-one}
+use native.Mathlib.Omega.{arith}
+use lib.ListN.{length, drop, set, length-append, length-set}
+use lib.Seq.{sets, sets-eq}
+use borrow.Author.Tests.{le-leb, lt-leb, le-ltb}
+use Rattle.window.specs.Kinds.{Kind, A, B, D, least}
+use Rattle.window.specs.NormalForm.{rise, fall, block}
+use Rattle.window.proofs.Runs.{slide, rise-span, fall-slide, span-cons, span-nil, slide-cons, slide-nil, block-up}
+
+-- ---- runs of stores
+
+sets-append : (o : List ℕ) (r : ℕ) (u v : List ℕ) → sets (sets o r u) (r + length u) v ≡ sets o r (u ++ v)
+sets-append o r [] v = rw add-zero
+sets-append o r (x ∷ u) v = rw (add-suc, ← suc-add) (sets-append (set o r x) (suc r) u v)
+
+pub sets-front : (u o : List ℕ) (r : ℕ) → length u ≤ length o → r ≡ length u → sets o 0 u ≡ u ++ drop r o
+sets-front u o r h e = sets-eq u o 0 (omega arith) ∙ ap (λ (m : ℕ). u ++ drop m o) (zero-add (length u) ∙ sym e)
+
+-- `out` and r are the list and the place after u was stored in o from `at` on
+abbrev pub Stored : List ℕ → ℕ → List ℕ → List ℕ → ℕ → Type 0
+Stored o at u out r = (r ≡ at + length u) × (out ≡ sets o at u)
+
+pub stored-append : (o : List ℕ) (at : ℕ) (u out : List ℕ) (r : ℕ) (v out′ : List ℕ) (r′ : ℕ) → Stored o at u out r → Stored out r v out′ r′
+    → Stored o at (u ++ v) out′ r′
+stored-append o at u out r v out′ r′ h g =
+    (omega (arith, h .0, g .0, length-append u v), g .1 ∙ ap (λ (l : List ℕ). sets l r v) (h .1) ∙ ap (λ (s : ℕ). sets (sets o at u) s v) (h .0) ∙ sets-append o at u v)
+
+-- room for u and v is room for u, and for v after it
+pub room-left : (at : ℕ) (u v : List ℕ) (m : ℕ) → at + length (u ++ v) ≤ m → at + length u ≤ m
+room-left at u v m h = omega (arith, length-append u v)
+
+pub room-right : (at : ℕ) (u v : List ℕ) (m r m′ : ℕ) → at + length (u ++ v) ≤ m → r ≡ at + length u → m′ ≡ m → r + length v ≤ m′
+room-right at u v m r m′ h e q = omega (arith, length-append u v)
+
+-- u stored in o from `at` on is v stored in `out` from r on: what is left of a run of stores
+pub record Storing (o : List ℕ) (at : ℕ) (u out : List ℕ) (r : ℕ) (v : List ℕ) : Type 0 where
+  pub size : length out ≡ length o
+  pub place : r + length v ≡ at + length u
+  pub same : sets o at u ≡ sets out r v
+
+pub storing-all : {o : List ℕ} {at : ℕ} {u : List ℕ} → Storing o at u o at u
+storing-all = record { size = refl; place = refl; same = refl }
+
+module _ {o : List ℕ} {at : ℕ} {u out : List ℕ} {r : ℕ} where
+  pub storing-next : {x : ℕ} {v : List ℕ} → Storing o at u out r (x ∷ v) → Storing o at u (set out r x) (r + 1) v
+  storing-next {x} h = record { size = length-set out r x ∙ h .size; place = omega arith; same = rw add-one (h .same) }
+
+  pub storing-room : {x : ℕ} {v : List ℕ} → at + length u ≤ length o → Storing o at u out r (x ∷ v) → r < length out
+  storing-room l h = omega arith
+
+  stored-of-storing : Storing o at u out r [] → Stored o at u out r
+  stored-of-storing h = (omega arith, sym (h .same))
+
+  -- ---- letters up and down
+
+  pub storing-up : {x b : ℕ} → x ≤ b → Storing o at u out r (rise x b) → Storing o at u out r (x ∷ rise (x + 1) b)
+  storing-up {x} {b} l h = rw (rise-span, add-one) (rw (rise-span, span-cons x (suc b) (omega arith)) at h)
+
+  pub stored-up : {x b : ℕ} → b < x → Storing o at u out r (rise x b) → Stored o at u out r
+  stored-up {x} {b} l h = stored-of-storing (rw (rise-span, span-nil x (suc b) l) at h)
+
+  pub storing-down : {y a : ℕ} → a < y → Storing o at u out r (slide y a) → Storing o at u out r ((y - 1) ∷ slide (y - 1) a)
+  storing-down {y} {a} l h =
+      let e : y ≡ suc (y - 1) = omega arith in
+      rw (ap (λ (z : ℕ). slide z a) e ∙ slide-cons (y - 1) a (omega arith)) at h
+
+  pub stored-down : {y a : ℕ} → y ≤ a → Storing o at u out r (slide y a) → Stored o at u out r
+  stored-down {y} {a} l h = stored-of-storing (rw (slide-nil y a l) at h)
+
+pub storing-fall : (o : List ℕ) (at b a : ℕ) → Storing o at (fall b a) o at (slide (b + 1) a)
+storing-fall o at b a = rw (fall-slide, add-one) storing-all
+
+-- ---- blocks as runs
+
+pub block-straight : (k : Kind) (n i j : ℕ) → (k ≡ A) ⊎ (j < n) → block k n i j ≡ rise i j
+unfolding block
+block-straight k n i j h = ⊎-elim (λ e. rw e) (λ l. block-up k n i j l ∙ sym (rise-span i j)) h
+
+pub two-le : (k : Kind) (n : ℕ) → (k ≡ B) ⊎ (k ≡ D) → least k ≤ n → 2 ≤ n
+two-le k n h l = ⊎-elim (λ e. let m : least B ≤ n = rw e at l in m) (λ e. let m : least D ≤ n = rw e at l in omega arith) h
+
+pub block-two : (k : Kind) (n i j : ℕ) → k ≡ B → least k ≤ n → n ≤ j → block k n i j ≡ rise i n ++ fall (n - 1) (2 * n - j)
+unfolding block
+block-two k n i j e l h = rw e (elim (decLe j n) [ yes t ↦ rw (le-leb j n t) (straight t) | no t ↦ rw (lt-leb j n (lt-of-not-le t)) ])
+  where
+    o : 2 ≤ n
+    o = rw e at l
+
+    straight : j ≤ n → rise i j ≡ rise i n ++ fall (n - 1) (2 * n - j)
+    straight t =
+        let q : j ≡ n = omega arith in
+        let z : fall (n - 1) (2 * n - j) ≡ [] = fall-slide (n - 1) (2 * n - j) ∙ slide-nil (suc (n - 1)) (2 * n - j) (omega (arith, o)) in
+        ap (rise i) q ∙ sym (ap (λ (u : List ℕ). rise i n ++ u) z ∙ append-nil (rise i n))
+
+pub block-three : (k : Kind) (n i j : ℕ) → k ≡ D → least k ≤ n → n ≤ j → block k n i j ≡ rise i (n - 2) ++ fall n (2 * n - j)
+unfolding block
+block-three k n i j e l h =
+    let o : 4 ≤ n = rw e at l in
+    let p : suc (n - 1) ≡ n = omega arith in
+    let d : ℕ = 2 * n - j in
+    let below : fall (n - 1) d ≡ slide n d = fall-slide (n - 1) d ∙ ap (λ (y : ℕ). slide y d) p in
+    rw (e, le-ltb j n h, below, fall-slide n d, slide-cons n d (omega arith))

@@ -1,0 +1,53 @@
+-- `normal_form_of_word` refuses in document 01's order, or writes the normal form of what the word shows.
+-- Assumes nothing.
+use mathlib.Core.Path.{_≡_, sym, _∙_}
+use Rattle.window.proofs.Sizes.{then-zero}
+use Rattle.window.proofs.CallLaws.{writes-refused}
+use Rattle.window.proofs.ShownLaws.{room, length-front-part}
+use Rattle.window.proofs.FormCode.{front-part, front-passes, window-passes, call-written, normalFormOfWord-is}
+use borrow.Author.Needs.{needs}
+use Rattle.window.proofs.normal_form_of_word.Statement.{statement}
+use Rattle.window.proofs.normal_form_of_word.Tie as tie
+
+preset-refusal-requires : tie.Need-preset-refusal-requires
+preset-refusal-requires c κs = search needs
+
+returns : tie.Need-returns
+returns c = writes-refused _ _ _ _ _ (normalFormOfWord-is _ _ _ _) (c .before .preset-refusal .ensures) (c .if1 .taken)
+
+lanes-requires : tie.Need-lanes-requires
+lanes-requires c κs = search needs
+
+shown-requires : tie.Need-shown-requires
+shown-requires c κs = let a = then-zero _ _ (sym (c .before .before .preset-refusal .ensures) ∙ c .before .if1 .left) in (a .0, a .1)
+
+array-borrow-prefix-work : tie.Need-array-borrow-prefix-work
+array-borrow-prefix-work c = room _ _ _ ((then-zero _ _ (sym (c .before .before .before .preset-refusal .ensures) ∙ c .before .before .if1 .left)) .0) (c .before .lanes .ensures) (c .shown .result) (c .shown .ensures .0)
+
+slice-aggregate-write-checked : tie.Need-slice-aggregate-write-checked
+slice-aggregate-write-checked c = sym (length-front-part _ _ _ ((then-zero _ _ (sym (c .before .before .before .before .preset-refusal .ensures) ∙ c .before .before .before .if1 .left)) .0) (c .before .before .lanes .ensures) (c .before .shown .result) (c .before .shown .ensures .0))
+
+write-checked-requires : tie.Need-write-checked-requires
+write-checked-requires c κs =
+    let r = (then-zero _ _ (sym (c .before .before .before .before .before .preset-refusal .ensures) ∙ c .before .before .before .before .if1 .left)) .0 in
+    (r, front-passes _ _ _ _ (front-part _ _ _ _ _ (c .before .before .before .lanes .ensures) (c .before .before .shown .ensures .1)) (window-passes _ _ _ r))
+
+same-length : tie.Need-same-length
+same-length c = search needs
+
+returns-2 : tie.Need-returns-2
+returns-2 c = call-written _ _ _ _ _ _ _ _ _ _ (normalFormOfWord-is _ _ _ _) (c .before .before .before .before .before .before .before .before .before .preset-refusal .ensures) (c .before .before .before .before .before .before .before .before .if1 .left) (front-part _ _ _ _ _ (c .before .before .before .before .before .before .before .lanes .ensures) (c .before .before .before .before .before .before .shown .ensures .1)) (c .before .before .before .write-checked .ensures)
+
+pub normal-form-of-word-spec : {M : Type 1} → statement M
+normal-form-of-word-spec =
+    tie.close
+    (tie.spec
+    preset-refusal-requires
+    returns
+    lanes-requires
+    shown-requires
+    array-borrow-prefix-work
+    slice-aggregate-write-checked
+    write-checked-requires
+    same-length
+    returns-2)
