@@ -1,0 +1,21 @@
+-- `search::corner_of` is the number of levels, by cases on the kind.
+-- Assumes nothing.
+use native.Mathlib.Omega.{arith}
+use Rattle.window.proofs.CheckLaws.{kindOf-one, kindOf-two, kindOf-three}
+use Rattle.rewriter.proofs.search.corner_of.Statement.{statement}
+use Rattle.rewriter.proofs.search.corner_of.Tie as tie
+
+returns : tie.Need-returns
+returns c = rw (kindOf-one _ (c .if1 .taken))
+
+returns-2 : tie.Need-returns-2
+returns-2 c = rw (kindOf-two _ (c .if2 .taken))
+
+sub-result : tie.Need-sub-result
+sub-result c = omega (arith, rw (kindOf-three _ (c .before .if1 .left) (c .if2 .left)) at (c .before .before .pre))
+
+returns-3 : tie.Need-returns-3
+returns-3 c = rw (kindOf-three _ (c .before .if1 .left) (c .if2 .left))
+
+pub corner-of-spec : {M : Type 1} → statement M
+corner-of-spec = tie.close (tie.spec returns returns-2 sub-result returns-3)

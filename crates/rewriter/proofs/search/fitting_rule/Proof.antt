@@ -1,0 +1,144 @@
+-- `search::fitting_rule` is the rule that fits. Its loop keeps the search of the word from the place on; the measure is what is left of the word.
+-- Assumes nothing.
+use mathlib.Core.Path.{_∙_}
+use Prim.Native.Nat.{_-_}
+use lib.ListN.{length, getD}
+use borrow.Author.Needs.{needs}
+use Rattle.window.specs.Kinds.{kindOf}
+use Rattle.rewriter.proofs.Scan.{nextIndex, familyAt, shownIndex}
+use Rattle.rewriter.proofs.SearchCode.{
+  Searching,
+  Searchable,
+  along-le,
+  lastIndex-le-of,
+  fork-eq,
+  letter,
+  searching-start,
+  searching-next,
+  searching-found,
+  searching-end,
+}
+use Rattle.rewriter.proofs.search.fitting_rule.Statement.{statement}
+use Rattle.rewriter.proofs.search.fitting_rule.Tie as tie
+
+abbrev Inv-loop : tie.InvT-loop
+Inv-loop kind n word place i corner last fork j₀ at₀ j at = Searching (kindOf kind) n word place i j at
+
+abbrev μ-loop : tie.MeasureT-loop
+μ-loop kind n word place i corner last fork j₀ at₀ j at = length word - at
+
+searchable : (s : tie.Start Inv-loop μ-loop) → Searchable (kindOf (s .args .kind)) (s .args .n) (s .args .word .now)
+searchable s = record { rank = s .pre .0; letters = s .pre .1 .1 .0 }
+
+shared-slice-read-i : tie.Need-shared-slice-read-i Inv-loop μ-loop
+shared-slice-read-i c = search needs
+
+corner-of-requires : tie.Need-corner-of-requires Inv-loop μ-loop
+corner-of-requires c κs = search needs
+
+last-index-of-requires : tie.Need-last-index-of-requires Inv-loop μ-loop
+last-index-of-requires c κs =
+    let s = c .before .before .before in
+    (s .pre .1 .0, letter _ _ _ (searchable s) _ (s .pre .1 .1 .1) .1)
+
+fork-of-requires : tie.Need-fork-of-requires Inv-loop μ-loop
+fork-of-requires c κs = search needs
+
+add-at : tie.Need-add-at Inv-loop μ-loop
+add-at c = search needs
+
+loop-holds : tie.Need-loop-holds Inv-loop μ-loop
+loop-holds c = let s = c .before .before .before .before .before in searching-start _ _ _ (searchable s) _ (s .pre .1 .1 .1)
+
+shared-slice-read-x : tie.Need-shared-slice-read-x Inv-loop μ-loop
+shared-slice-read-x c = search needs
+
+next-index-requires : tie.Need-next-index-requires Inv-loop μ-loop
+next-index-requires c κs =
+    let l = c .before .before .before .before in
+    let s = l .before .before .before .before in
+    let i = getD (s .args .word .now) (s .args .place) 0 in
+    (s .pre .1 .0, lastIndex-le-of (kindOf (s .args .kind)) _ i _ (l .last-index-of .ensures), letter _ _ _ (searchable s) _ (c .before .loop-test .taken) .1)
+
+family-at-requires : tie.Need-family-at-requires Inv-loop μ-loop
+family-at-requires c κs =
+    let l = c .before .before .before .before in
+    let s = l .before .before .before .before .before .before in
+    let a = along-le _ _ _ _ (s .pre .0) (l .loop .inv .along) in
+    (s .pre .1 .0, a .0, a .1)
+
+add-shown : tie.Need-add-shown Inv-loop μ-loop
+add-shown c = search needs
+
+sub-shown : tie.Need-sub-shown Inv-loop μ-loop
+sub-shown c = search needs
+
+shown-requires : tie.Need-shown-requires Inv-loop μ-loop
+shown-requires c κs = search needs
+
+returns : tie.Need-returns Inv-loop μ-loop
+unfolding nextIndex familyAt shownIndex
+returns c =
+    let t = c .before .before in
+    let l = t .before .before .before .before in
+    let f = l .before in
+    let s = f .before .before .before .before .before in
+    searching-found _ _ _ (searchable s) _ _ _ _ _ _ _ _ _ _
+    (f .before .before .corner-of .ensures)
+    (f .before .last-index-of .ensures)
+    (f .fork-of .ensures ∙ fork-eq _ _)
+    (l .loop .inv)
+    (t .before .before .before .loop-test .taken)
+    (t .before .next-index .ensures)
+    (t .if1 .taken)
+    (c .before .family-at .ensures)
+    (c .shown .ensures)
+
+add-at-2 : tie.Need-add-at-2 Inv-loop μ-loop
+add-at-2 c = search needs
+
+loop-less : tie.Need-loop-less Inv-loop μ-loop
+loop-less c = search needs
+
+loop-again : tie.Need-loop-again Inv-loop μ-loop
+unfolding nextIndex
+loop-again c =
+    let l = c .before .before .before .before in
+    let f = l .before in
+    let s = f .before .before .before .before .before in
+    searching-next _ _ _ (searchable s) _ _ _ _ _ _ _
+    (f .before .before .corner-of .ensures)
+    (f .before .last-index-of .ensures)
+    (l .loop .inv)
+    (c .before .before .before .loop-test .taken)
+    (c .before .next-index .ensures)
+    (c .if1 .left)
+
+returns-2 : tie.Need-returns-2 Inv-loop μ-loop
+returns-2 c =
+    let s = c .before .before .before .before .before .before .before in
+    searching-end _ _ _ (searchable s) _ _ _ _ (c .before .loop .inv) (c .loop-test .left)
+
+pub fitting-rule-spec : {M : Type 1} → statement M
+fitting-rule-spec =
+    tie.close
+    (tie.spec
+    Inv-loop
+    μ-loop
+    shared-slice-read-i
+    corner-of-requires
+    last-index-of-requires
+    fork-of-requires
+    add-at
+    loop-holds
+    shared-slice-read-x
+    next-index-requires
+    family-at-requires
+    add-shown
+    sub-shown
+    shown-requires
+    returns
+    add-at-2
+    loop-less
+    loop-again
+    returns-2)

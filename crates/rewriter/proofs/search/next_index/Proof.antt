@@ -1,0 +1,63 @@
+-- `search::next_index` is the next index on the way of a block, by its tests.
+-- Assumes nothing.
+use borrow.Author.Tests.{eq-eqb, ne-eqb, lt-ltb, le-ltb}
+use borrow.Author.Needs.{needs}
+use Rattle.rewriter.proofs.search.next_index.Statement.{statement}
+use Rattle.rewriter.proofs.search.next_index.Tie as tie
+
+add-if3 : tie.Need-add-if3
+add-if3 c = search needs
+
+returns : tie.Need-returns
+returns c = rw (lt-ltb _ _ (c .before .before .if1 .taken), eq-eqb _ _ (c .before .if2 .taken), eq-eqb _ _ (c .if3 .taken))
+
+returns-2 : tie.Need-returns-2
+returns-2 c = rw (lt-ltb _ _ (c .before .before .if1 .taken), eq-eqb _ _ (c .before .if2 .taken), ne-eqb _ _ (c .if3 .left))
+
+add-if4 : tie.Need-add-if4
+add-if4 c = search needs
+
+returns-3 : tie.Need-returns-3
+returns-3 c = rw (lt-ltb _ _ (c .before .before .if1 .taken), ne-eqb _ _ (c .before .if2 .left), eq-eqb _ _ (c .if4 .taken))
+
+returns-4 : tie.Need-returns-4
+returns-4 c = rw (lt-ltb _ _ (c .before .before .if1 .taken), ne-eqb _ _ (c .before .if2 .left), ne-eqb _ _ (c .if4 .left))
+
+add-if6 : tie.Need-add-if6
+add-if6 c = search needs
+
+add-if6-2 : tie.Need-add-if6-2
+add-if6-2 c = search needs
+
+mul-if6 : tie.Need-mul-if6
+mul-if6 c = search needs
+
+add-result : tie.Need-add-result
+add-result c = search needs
+
+returns-5 : tie.Need-returns-5
+returns-5 c = rw (le-ltb _ _ (c .before .before .if1 .left), lt-ltb _ _ (c .before .if5 .taken), eq-eqb _ _ (c .if6 .taken))
+
+returns-6 : tie.Need-returns-6
+returns-6 c = rw (le-ltb _ _ (c .before .before .if1 .left), lt-ltb _ _ (c .before .if5 .taken), ne-eqb _ _ (c .if6 .left))
+
+returns-7 : tie.Need-returns-7
+returns-7 c = rw (le-ltb _ _ (c .before .if1 .left), le-ltb _ _ (c .if5 .left))
+
+pub next-index-spec : {M : Type 1} → statement M
+next-index-spec =
+    tie.close
+    (tie.spec
+    add-if3
+    returns
+    returns-2
+    add-if4
+    returns-3
+    returns-4
+    add-if6
+    add-if6-2
+    mul-if6
+    add-result
+    returns-5
+    returns-6
+    returns-7)

@@ -1,0 +1,45 @@
+-- `writing::write_rewritten` writes the word that a rule leaves, by `write_without` for family 1 and `write_moved` for the others.
+-- Assumes nothing.
+use borrow.Author.Tests.{eq-eqb, ne-eqb}
+use borrow.Author.Needs.{needs}
+use Rattle.rewriter.proofs.writing.write_rewritten.Statement.{statement}
+use Rattle.rewriter.proofs.writing.write_rewritten.Tie as tie
+
+write-without-requires : tie.Need-write-without-requires
+write-without-requires c κs =
+    let s = c .before .before .before .before in
+    (s .pre .1 .0 .1, rw (eq-eqb _ _ (c .before .if1 .taken)) at (s .pre .1 .1))
+
+same-length : tie.Need-same-length
+same-length c = search needs
+
+returns : tie.Need-returns
+returns c = rw (eq-eqb _ _ (c .before .before .before .before .if1 .taken)) (c .before .before .write-without .ensures)
+
+first-letter-requires : tie.Need-first-letter-requires
+first-letter-requires c κs = search needs
+
+write-moved-requires : tie.Need-write-moved-requires
+write-moved-requires c κs =
+    let s = c .before .before .before .before .before in
+    (s .pre .1 .0, rw (ne-eqb _ _ (c .before .before .if1 .left)) at (s .pre .1 .1))
+
+same-length-2 : tie.Need-same-length-2
+same-length-2 c = search needs
+
+returns-2 : tie.Need-returns-2
+returns-2 c =
+    let b = c .before .before .before .before in
+    rw (ne-eqb _ _ (b .before .if1 .left), ← b .first-letter .ensures) (c .before .before .write-moved .ensures)
+
+pub write-rewritten-spec : {M : Type 1} → statement M
+write-rewritten-spec =
+    tie.close
+    (tie.spec
+    write-without-requires
+    same-length
+    returns
+    first-letter-requires
+    write-moved-requires
+    same-length-2
+    returns-2)

@@ -1,0 +1,202 @@
+// The search for the rule that fits at a place. The letters are followed along the way of the blocks [i,j] of the first letter i; the letter
+// that leaves the way decides the rule, so at most 2n + 1 letters are looked at.
+ghost use mathlib.Core.Path.{_≡_};
+ghost use mathlib.Core.Bool.{false};
+ghost use mathlib.Core.Option.{none, some};
+ghost use Prim.Native.Nat.{_+_, _-_, _*_, _<_, _≤_};
+ghost use lib.Dec.{eqb, ltb};
+ghost use lib.ListN.{length};
+ghost use Rattle.window.specs.Kinds.{pick, kindOf, least};
+ghost use Rattle.window.specs.NormalForm.{levels, lastIndex};
+ghost use Rattle.window.specs.Checks.{wrongLetter};
+ghost use Rattle.rewriter.specs.Rules.{rules, firstFitting};
+
+// A rule that fits, as a rewrite answers it, with the length of its left side.
+pub(crate) enum Fitting {
+    Rule {
+        family: u8,
+        i: u8,
+        j: u8,
+        left: usize,
+    },
+    Nothing,
+}
+
+// The step at which the way of a block turns.
+fn corner_of(kind: u8, n: u8) -> u8
+    requires { ⌜ least (kindOf kind) ≤ n ⌝ }
+    ensures { λ r. ⌜ r ≡ levels (kindOf kind) n ⌝ }
+{
+    if kind == 1 {
+        return n;
+    }
+    if kind == 2 {
+        return n;
+    }
+    n - 1
+}
+
+// The last index of the blocks of level i.
+fn last_index_of(kind: u8, n: u8, i: u8) -> u8
+    requires { ⌜ (n ≤ 32) × (i ≤ n) ⌝ }
+    ensures { λ r. ⌜ r ≡ lastIndex (kindOf kind) n i ⌝ }
+{
+    if kind == 1 {
+        return n;
+    }
+    2 * n - i
+}
+
+// The step after which the way of kind D's blocks goes on with n - 1 or with n; the other kinds have none.
+fn fork_of(kind: u8, n: u8) -> u8
+    requires { ⌜ least (kindOf kind) ≤ n ⌝ }
+    ensures { λ r. ⌜ r ≡ pick (eqb kind 1) 0 (pick (eqb kind 2) 0 (n - 2)) ⌝ }
+{
+    if kind == 1 {
+        return 0;
+    }
+    if kind == 2 {
+        return 0;
+    }
+    n - 2
+}
+
+// The index of the block [i,j] with the letter x after it, or 0 where x leaves the way.
+fn next_index(n: u8, corner: u8, last: u8, j: u8, x: u8) -> u8
+    requires { ⌜ (n ≤ 32) × (last ≤ 2 * n) × (x ≤ n) ⌝ }
+    ensures { λ r. ⌜ r ≡
+        pick (ltb j n)
+        (pick (eqb x n) (pick (eqb (j + 1) corner) n 0) (pick (eqb x (j + 1)) x 0))
+        (pick (ltb j last) (pick (eqb (x + j + 1) (2 * n)) (j + 1) 0) 0) ⌝ }
+{
+    if j < n {
+        if x == n {
+            if j + 1 == corner {
+                return n;
+            }
+            return 0;
+        }
+        if x == j + 1 {
+            return x;
+        }
+        return 0;
+    }
+    if j < last {
+        if x + j + 1 == 2 * n {
+            return j + 1;
+        }
+        return 0;
+    }
+    0
+}
+
+// The family whose left side is [i,2n-i] x, or 0.
+fn family_at_end(n: u8, fork: u8, i: u8, x: u8) -> u8
+    requires { ⌜ (n ≤ 32) × (i ≤ n) ⌝ }
+    ensures { λ r. ⌜ r ≡
+        pick (eqb i fork) (pick (eqb x n) 6 (pick (eqb x (i + 1)) 7 0)) (pick (eqb x (i + 1)) 4 0) ⌝ }
+{
+    if i == fork {
+        if x == n {
+            return 6;
+        }
+        if x == i + 1 {
+            return 7;
+        }
+        return 0;
+    }
+    if x == i + 1 {
+        return 4;
+    }
+    0
+}
+
+// The family whose left side is [i,j] x, where x leaves the way, or 0.
+fn family_at(n: u8, fork: u8, i: u8, j: u8, x: u8) -> u8
+    requires { ⌜ (n ≤ 32) × (i ≤ n) × (j ≤ 2 * n) ⌝ }
+    ensures { λ r. ⌜ r ≡
+        pick (eqb j i)
+        (pick (eqb x i) 1 (pick (ltb i x) 2 0))
+        (pick (eqb (i + j) (2 * n))
+        (pick (eqb i fork) (pick (eqb x n) 6 (pick (eqb x (i + 1)) 7 0)) (pick (eqb x (i + 1)) 4 0))
+        (pick (eqb x i) (pick (eqb i fork) (pick (eqb j n) 5 3) 3) 0)) ⌝ }
+{
+    if j == i {
+        if x == i {
+            return 1;
+        }
+        if i < x {
+            return 2;
+        }
+        return 0;
+    }
+    if i + j == 2 * n {
+        return family_at_end(n, fork, i, x);
+    }
+    if x == i {
+        if i == fork {
+            if j == n {
+                return 5;
+            }
+            return 3;
+        }
+        return 3;
+    }
+    0
+}
+
+// The rule of a family as a rewrite shows it.
+fn shown(family: u8, i: u8, j: u8, x: u8, left: usize) -> Fitting
+    ensures { λ r. ⌜ r ≡ pick (eqb family 0) Fitting.Nothing (Fitting.Rule family i (pick (eqb family 2) x (pick (eqb family 3) j 0)) left) ⌝ }
+{
+    if family == 0 {
+        return Fitting::Nothing;
+    }
+    if family == 2 {
+        return Fitting::Rule {
+            family,
+            i,
+            j: x,
+            left,
+        };
+    }
+    if family == 3 {
+        return Fitting::Rule { family, i, j, left };
+    }
+    Fitting::Rule {
+        family,
+        i,
+        j: 0,
+        left,
+    }
+}
+
+// The rule that fits at a place.
+pub(crate) fn fitting_rule(kind: u8, n: u8, word: &[u8], place: usize) -> Fitting
+    requires { ⌜ least (kindOf kind) ≤ n ⌝ }
+    requires { ⌜ n ≤ 32 ⌝ }
+    requires { ⌜ wrongLetter n (now word) ≡ false ⌝ }
+    requires { ⌜ place < length (now word) ⌝ }
+    ensures { λ r. ⌜ r ≡ elim (firstFitting (rules (kindOf kind) n) (now (word .entry)) place) [
+      | none ↦ Fitting.Nothing
+      | some x ↦ Fitting.Rule (x .family) (x .i) (x .j) (length (x .left))
+    ] ⌝ }
+{
+    let i = word[place];
+    let corner = corner_of(kind, n);
+    let last = last_index_of(kind, n, i);
+    let fork = fork_of(kind, n);
+    let mut j = i;
+    let mut at = place + 1;
+    while at < word.len() {
+        let x = word[at];
+        let next = next_index(n, corner, last, j, x);
+        if next == 0 {
+            let family = family_at(n, fork, i, j, x);
+            return shown(family, i, j, x, at + 1 - place);
+        }
+        j = next;
+        at += 1;
+    }
+    Fitting::Nothing
+}

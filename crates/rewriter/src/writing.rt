@@ -1,0 +1,102 @@
+// Writing the word that a rule leaves: what stands before, the right side and what stands after, each byte once.
+ghost use mathlib.Core.Path.{_≡_};
+ghost use mathlib.Core.List.{[], _∷_, _++_};
+ghost use Prim.Native.Nat.{_+_, _-_, _<_, _≤_};
+ghost use lib.Dec.{eqb, ltb};
+ghost use lib.ListN.{length, take, drop};
+ghost use Rattle.window.specs.Kinds.{pick};
+
+// `part` written to `out` from `at` on.
+fn copy(part: &[u8], out: &mut [u8], at: usize)
+    requires { ⌜ at + length (now part) ≤ length (now out) ⌝ }
+    ensures { λ _. ⌜ now (out .exit) ≡
+        take at (now (out .entry)) ++ (now (part .entry) ++ drop (at + length (now (part .entry))) (now (out .entry))) ⌝ }
+{
+    let mut i = 0;
+    while i < part.len() {
+        out[at + i] = part[i];
+        i += 1;
+    }
+}
+
+// The length of the word that a rule of the family leaves.
+pub(crate) fn new_length(family: u8, left: usize, length: usize) -> usize
+    requires { ⌜ left ≤ length ⌝ }
+    ensures { λ r. ⌜ r ≡ pick (eqb family 1) (length - left) length ⌝ }
+{
+    if family == 1 {
+        return length - left;
+    }
+    length
+}
+
+// The word without the `left` letters at the place, as family 1 leaves it.
+fn write_without(word: &[u8], place: usize, left: usize, out: &mut [u8])
+    requires { ⌜ place + left ≤ length (now word) ⌝ }
+    requires { ⌜ length (now word) - left ≤ length (now out) ⌝ }
+    ensures { λ _. ⌜ now (out .exit) ≡
+        (take place (now (word .entry)) ++ drop (place + left) (now (word .entry))) ++ drop (length (now (word .entry)) - left) (now (out .entry)) ⌝ }
+{
+    copy(&word[..place], out, 0);
+    copy(&word[place + left..], out, place);
+}
+
+// The letter that the right side of families 2 to 7 puts first.
+fn first_letter(n: u8, family: u8, i: u8, j: u8) -> u8
+    requires { ⌜ (1 ≤ n) × (i < 255) ⌝ }
+    ensures { λ r. ⌜ r ≡ pick (eqb family 2) j (pick (ltb family 5) (i + 1) (pick (eqb family 6) (n - 1) n)) ⌝ }
+{
+    if family == 2 {
+        return j;
+    }
+    if family < 5 {
+        return i + 1;
+    }
+    if family == 6 {
+        return n - 1;
+    }
+    n
+}
+
+// The word with `first` put before the `left` letters at the place and the last of them left out, as families 2 to 7 leave it.
+fn write_moved(word: &[u8], place: usize, left: usize, first: u8, out: &mut [u8])
+    requires { ⌜ (1 ≤ left) × (place + left ≤ length (now word)) ⌝ }
+    requires { ⌜ length (now word) ≤ length (now out) ⌝ }
+    ensures { λ _. ⌜ now (out .exit) ≡
+        (take place (now (word .entry)) ++ ((first ∷ take (left - 1) (drop place (now (word .entry)))) ++ drop (place + left) (now (word .entry))))
+        ++ drop (length (now (word .entry))) (now (out .entry)) ⌝ }
+{
+    copy(&word[..place], out, 0);
+    out[place] = first;
+    copy(&word[place..place + left - 1], out, place + 1);
+    copy(&word[place + left..], out, place + left);
+}
+
+// The word that the rule with this family, these i and j and `left` letters on its left side leaves at the place.
+pub(crate) fn write_rewritten(
+    n: u8,
+    family: u8,
+    i: u8,
+    j: u8,
+    left: usize,
+    word: &[u8],
+    place: usize,
+    out: &mut [u8],
+)
+    requires { ⌜ (1 ≤ n) × (i < 255) ⌝ }
+    requires { ⌜ (1 ≤ left) × (place + left ≤ length (now word)) ⌝ }
+    requires { ⌜ pick (eqb family 1) (length (now word) - left) (length (now word)) ≤ length (now out) ⌝ }
+    ensures { λ _. ⌜ now (out .exit) ≡
+        (take place (now (word .entry))
+        ++ (pick (eqb family 1) []
+        (pick (eqb family 2) j (pick (ltb family 5) (i + 1) (pick (eqb family 6) (n - 1) n)) ∷ take (left - 1) (drop place (now (word .entry))))
+        ++ drop (place + left) (now (word .entry))))
+        ++ drop (pick (eqb family 1) (length (now (word .entry)) - left) (length (now (word .entry)))) (now (out .entry)) ⌝ }
+{
+    if family == 1 {
+        write_without(word, place, left, out);
+        return;
+    }
+    let first = first_letter(n, family, i, j);
+    write_moved(word, place, left, first, out);
+}
