@@ -1,0 +1,53 @@
+-- `reading::book_refusal` makes checks 1 to 3 in this order.
+-- Assumes nothing.
+use mathlib.Core.Path.{sym, ap, _∙_}
+use Rattle.window.specs.Checks.{check}
+use Rattle.book.proofs.BookLaws.{count-read, bookRefusal-small, bookRefusal-large, bookRefusal-count, bookRefusal-walk}
+use borrow.Author.Needs.{needs}
+use Rattle.book.proofs.reading.book_refusal.Statement.{statement}
+use Rattle.book.proofs.reading.book_refusal.Tie as tie
+
+returns : tie.Need-returns
+returns c = sym (bookRefusal-small _ (c .if1 .taken))
+
+returns-2 : tie.Need-returns-2
+returns-2 c = sym (bookRefusal-large _ (c .before .if1 .left) (c .if2 .taken))
+
+sub-two-at : tie.Need-sub-two-at
+sub-two-at c = search needs
+
+two-at-requires : tie.Need-two-at-requires
+two-at-requires c κs = search needs
+
+mul-if3 : tie.Need-mul-if3
+mul-if3 c = search needs
+
+add-if3 : tie.Need-add-if3
+add-if3 c = search needs
+
+returns-3 : tie.Need-returns-3
+returns-3 c = sym (bookRefusal-count _ _ (c .before .before .before .if1 .left) (c .before .before .if2 .left) (c .before .two-at .ensures .0) (c .if3 .taken))
+
+is-misplaced-requires : tie.Need-is-misplaced-requires
+is-misplaced-requires c κs = (c .before .before .if2 .left, (c .if3 .left, count-read _ _ (c .before .two-at .ensures .0)))
+
+returns-4 : tie.Need-returns-4
+returns-4 c = sym (bookRefusal-walk _ _ _ (c .before .before .before .before .before .if1 .left) (c .before .before .before .before .if2 .left) (c .before .before .before .two-at .ensures .0) (c .before .before .if3 .left) (c .before .is-misplaced .ensures) ∙ ap (check 3) (c .if4 .taken))
+
+returns-5 : tie.Need-returns-5
+returns-5 c = sym (bookRefusal-walk _ _ _ (c .before .before .before .before .before .if1 .left) (c .before .before .before .before .if2 .left) (c .before .before .before .two-at .ensures .0) (c .before .before .if3 .left) (c .before .is-misplaced .ensures) ∙ ap (check 3) (c .if4 .left))
+
+pub book-refusal-spec : {M : Type 1} → statement M
+book-refusal-spec =
+    tie.close
+    (tie.spec
+    returns
+    returns-2
+    sub-two-at
+    two-at-requires
+    mul-if3
+    add-if3
+    returns-3
+    is-misplaced-requires
+    returns-4
+    returns-5)

@@ -1,0 +1,61 @@
+-- `reading::letters` is the part of the book that `check_preset` names, or the empty part at its front.
+-- Assumes nothing.
+use mathlib.Core.Path.{refl, sym, _∙_}
+use native.Mathlib.Omega.{arith}
+use Rattle.book.proofs.PresetLaws.{found, found-inside, found-small, lettersOf-found, lettersStart-found, refused, lettersOf-refused, lettersStart-refused}
+use borrow.Author.Needs.{needs}
+use Rattle.book.proofs.reading.letters.Statement.{statement}
+use Rattle.book.proofs.reading.letters.Tie as tie
+
+check-preset-requires : tie.Need-check-preset-requires
+check-preset-requires c κs = search needs
+
+enum-known-start : tie.Need-enum-known-start
+enum-known-start c = search needs
+
+add-end : tie.Need-add-end
+add-end c = let h = found-small _ _ _ _ (found _ _ _ _ _ _ (sym (c .before .start .given .1) ∙ c .before .before .before .check-preset .ensures)) in omega arith
+
+sub-result : tie.Need-sub-result
+sub-result c = search needs
+
+part-result-start : tie.Need-part-result-start
+part-result-start c = search needs
+
+part-result-end : tie.Need-part-result-end
+part-result-end c = found-inside _ _ _ _ (found _ _ _ _ _ _ (sym (c .before .start .given .1) ∙ c .before .before .before .check-preset .ensures))
+
+enum-told : tie.Need-enum-told
+enum-told c = search needs
+
+sub-result-2 : tie.Need-sub-result-2
+sub-result-2 c = search needs
+
+part-result-start-2 : tie.Need-part-result-start-2
+part-result-start-2 c = search needs
+
+part-result-end-2 : tie.Need-part-result-end-2
+part-result-end-2 c = search needs
+
+returns : tie.Need-returns
+returns c = let f = found _ _ _ _ _ _ (sym (c .before .before .start .given .1) ∙ c .before .before .before .before .check-preset .ensures) in (lettersOf-found _ _ _ _ f, (refl, lettersStart-found _ _ _ _ _ f))
+
+returns-2 : tie.Need-returns-2
+returns-2 c = let f = refused _ _ _ (sym (c .before .enum-told .given .1) ∙ c .before .before .before .check-preset .ensures) in (lettersOf-refused _ _ f, (refl, lettersStart-refused _ _ _ f))
+
+pub letters-spec : {M : Type 1} → statement M
+letters-spec =
+    tie.close
+    (tie.spec
+    check-preset-requires
+    enum-known-start
+    add-end
+    sub-result
+    part-result-start
+    part-result-end
+    enum-told
+    sub-result-2
+    part-result-start-2
+    part-result-end-2
+    returns
+    returns-2)

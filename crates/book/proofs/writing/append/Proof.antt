@@ -1,0 +1,46 @@
+-- `writing::append` answers the refusal of its checks, with the output as it was, or the length of the new book, written to the front.
+-- Assumes nothing.
+use mathlib.Core.Path.{sym, _∙_}
+use native.Mathlib.Omega.{arith}
+use Rattle.book.proofs.BookLaws.{accepted}
+use Rattle.book.proofs.WritingLaws.{append-book, appending-refused, appending-short, appending-written}
+use borrow.Author.Needs.{needs}
+use Rattle.book.proofs.writing.append.Statement.{statement}
+use Rattle.book.proofs.writing.append.Tie as tie
+
+append-refusal-requires : tie.Need-append-refusal-requires
+append-refusal-requires c κs = search needs
+
+returns : tie.Need-returns
+returns c = appending-refused _ _ _ _ _ _ (c .before .append-refusal .ensures) (c .if1 .taken)
+
+add-size : tie.Need-add-size
+add-size c = search needs
+
+add-size-2 : tie.Need-add-size-2
+add-size-2 c = let a = accepted _ (append-book _ _ _ _ (sym (c .before .append-refusal .ensures) ∙ c .if1 .left)) in omega arith
+
+returns-2 : tie.Need-returns-2
+returns-2 c = appending-short _ _ _ _ _ _ (c .before .before .append-refusal .ensures) (c .before .if1 .left) (c .if2 .taken)
+
+write-appended-requires : tie.Need-write-appended-requires
+write-appended-requires c κs = (append-book _ _ _ _ (sym (c .before .before .before .append-refusal .ensures) ∙ c .before .before .if1 .left), c .before .if2 .left)
+
+same-length : tie.Need-same-length
+same-length c = search needs
+
+returns-3 : tie.Need-returns-3
+returns-3 c = appending-written _ _ _ _ _ _ (c .before .before .before .before .before .before .append-refusal .ensures) _ (c .before .before .before .before .before .if1 .left) (c .before .before .before .before .if2 .left) (c .before .before .write-appended .ensures)
+
+pub append-spec : {M : Type 1} → statement M
+append-spec =
+    tie.close
+    (tie.spec
+    append-refusal-requires
+    returns
+    add-size
+    add-size-2
+    returns-2
+    write-appended-requires
+    same-length
+    returns-3)

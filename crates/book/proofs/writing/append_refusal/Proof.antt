@@ -1,0 +1,54 @@
+-- `writing::append_refusal` makes checks 1 to 3, 5 to 8 and 13 in this order.
+-- Assumes nothing.
+use mathlib.Core.Path.{sym}
+use native.Mathlib.Omega.{arith}
+use Rattle.book.proofs.BookLaws.{accepted-read}
+use Rattle.book.proofs.WritingLaws.{appendRefusal-book, appendRefusal-rank, appendRefusal-word, appendRefusal-large, appendRefusal-none}
+use borrow.Author.Needs.{needs}
+use Rattle.book.proofs.writing.append_refusal.Statement.{statement}
+use Rattle.book.proofs.writing.append_refusal.Tie as tie
+
+book-refusal-requires : tie.Need-book-refusal-requires
+book-refusal-requires c κs = search needs
+
+returns : tie.Need-returns
+returns c = sym (appendRefusal-book _ _ _ _ _ (c .before .book-refusal .ensures) (c .if1 .taken))
+
+rank-refusal-requires : tie.Need-rank-refusal-requires
+rank-refusal-requires c κs = search needs
+
+returns-2 : tie.Need-returns-2
+returns-2 c = sym (appendRefusal-rank _ _ _ _ _ (c .before .before .before .book-refusal .ensures) _ (c .before .before .if1 .left) (c .before .rank-refusal .ensures) (c .if2 .taken))
+
+word-refusal-requires : tie.Need-word-refusal-requires
+word-refusal-requires c κs = search needs
+
+returns-3 : tie.Need-returns-3
+returns-3 c = sym (appendRefusal-word _ _ _ _ _ (c .before .before .before .before .before .book-refusal .ensures) _ (c .before .before .before .before .if1 .left) (c .before .before .before .rank-refusal .ensures) _ (c .before .before .if2 .left) (c .before .word-refusal .ensures) (c .if3 .taken))
+
+add-if4 : tie.Need-add-if4
+add-if4 c = search needs
+
+add-if4-2 : tie.Need-add-if4-2
+add-if4-2 c = let a = accepted-read _ _ (c .before .before .before .before .before .book-refusal .ensures) (c .before .before .before .before .if1 .left) in omega arith
+
+returns-4 : tie.Need-returns-4
+returns-4 c = sym (appendRefusal-large _ _ _ _ _ (c .before .before .before .before .before .before .book-refusal .ensures) _ (c .before .before .before .before .before .if1 .left) (c .before .before .before .before .rank-refusal .ensures) _ (c .before .before .before .if2 .left) (c .before .before .word-refusal .ensures) (c .before .if3 .left) (c .if4 .taken))
+
+returns-5 : tie.Need-returns-5
+returns-5 c = sym (appendRefusal-none _ _ _ _ _ (c .before .before .before .before .before .before .book-refusal .ensures) _ (c .before .before .before .before .before .if1 .left) (c .before .before .before .before .rank-refusal .ensures) _ (c .before .before .before .if2 .left) (c .before .before .word-refusal .ensures) (c .before .if3 .left) (c .if4 .left))
+
+pub append-refusal-spec : {M : Type 1} → statement M
+append-refusal-spec =
+    tie.close
+    (tie.spec
+    book-refusal-requires
+    returns
+    rank-refusal-requires
+    returns-2
+    word-refusal-requires
+    returns-3
+    add-if4
+    add-if4-2
+    returns-4
+    returns-5)

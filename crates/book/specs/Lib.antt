@@ -1,0 +1,4 @@
+-- What an auditor must believe of the preset book, in the order of document 01.
+pub mod Books
+pub mod Records
+pub mod Calls

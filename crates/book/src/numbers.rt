@@ -1,0 +1,37 @@
+// Two-byte numbers, low byte first, and runs of bytes in a slice.
+ghost use mathlib.Core.Path.{_≡_};
+ghost use Prim.Native.Nat.{_+_, _<_, _≤_};
+ghost use lib.ListN.{length};
+ghost use lib.Seq.{sets};
+ghost use Rattle.book.specs.Books.{twoAt, two};
+
+// The number at p.
+pub(crate) fn two_at(b: &[u8], p: usize) -> usize
+    requires { ⌜ p + 1 < length (now b) ⌝ }
+    ensures { λ r. ⌜ (r ≡ twoAt (now (b .entry)) p) × (r < 65536) ⌝ }
+{
+    let low = b[p] as usize;
+    let high = b[p + 1] as usize;
+    low + 256 * high
+}
+
+// The number x written at p.
+pub(crate) fn put_two(out: &mut [u8], p: usize, x: usize)
+    requires { ⌜ p + 1 < length (now out) ⌝ }
+    ensures { λ _. ⌜ now (out .exit) ≡ sets (now (out .entry)) p (two x) ⌝ }
+{
+    out[p] = (x % 256) as u8;
+    out[p + 1] = (x / 256 % 256) as u8;
+}
+
+// The bytes of `part` written from p on.
+pub(crate) fn copy_to(part: &[u8], out: &mut [u8], p: usize)
+    requires { ⌜ p + length (now part) ≤ length (now out) ⌝ }
+    ensures { λ _. ⌜ now (out .exit) ≡ sets (now (out .entry)) p (now (part .entry)) ⌝ }
+{
+    let mut i = 0;
+    while i < part.len() {
+        out[p + i] = part[i];
+        i += 1;
+    }
+}

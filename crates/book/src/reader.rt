@@ -1,0 +1,41 @@
+// An opened book: it keeps its bytes and serves preset calls by number. Each function hands the bytes to the call on slice and number.
+use crate::Opened;
+use crate::Preset;
+use crate::reading::check_book;
+use crate::reading::check_preset;
+use crate::reading::letters;
+ghost use mathlib.Core.Path.{_≡_};
+ghost use Prim.Native.Nat.{_+_};
+ghost use Rattle.book.specs.Calls.{checkedBook, checkedPreset, lettersOf, lettersStart};
+
+pub struct Reader<'a> {
+    pub bytes: &'a [u8],
+}
+
+pub fn open<'a>(bytes: &'a [u8]) -> Reader<'a>
+    ensures { λ r. ⌜ r .bytes ≡ bytes .entry ⌝ }
+{
+    Reader { bytes }
+}
+
+// Checks 1 to 3, and the number of presets.
+pub fn presets<'a>(r: Reader<'a>) -> Opened
+    ensures { λ o. ⌜ o ≡ checkedBook (now (r .entry .bytes)) ⌝ }
+{
+    check_book(r.bytes)
+}
+
+// Checks 1 to 8, and what the preset is.
+pub fn preset<'a>(r: Reader<'a>, number: usize) -> Preset
+    ensures { λ p. ⌜ p ≡ checkedPreset (now (r .entry .bytes)) number ⌝ }
+{
+    check_preset(r.bytes, number)
+}
+
+// The letters of a preset, which outlive the reader: a part of the book itself.
+pub fn preset_letters<'a>(r: Reader<'a>, number: usize) -> &'a [u8]
+    ensures { λ s. ⌜ now s ≡ lettersOf (now (r .entry .bytes)) number ⌝ }
+    ensures { λ s. ⌜ (s .ptr .0 ≡ r .entry .bytes .ptr .0) × (s .ptr .1 ≡ r .entry .bytes .ptr .1 + lettersStart (now (r .entry .bytes)) number) ⌝ }
+{
+    letters(r.bytes, number)
+}

@@ -1,0 +1,162 @@
+// Checks 1 to 8 on a book and its presets, and the letters of a preset.
+use crate::Opened;
+use crate::Preset;
+use crate::numbers::two_at;
+use window::rank_refusal;
+use window::word_refusal;
+ghost use mathlib.Core.Path.{_≡_};
+ghost use Prim.Native.Nat.{_+_, _*_, _≤_};
+ghost use lib.ListN.{length};
+ghost use Rattle.book.specs.Books.{count, endAt, misplaced, bookRefusal};
+ghost use Rattle.book.specs.Calls.{checkedBook, checkedRecord, openedPreset, checkedPreset, lettersOf, lettersStart};
+
+// The most bytes of a book.
+pub(crate) const LARGEST: usize = 65535;
+
+// Check 3, of a book with c presets: o is where the next record has to begin. Nothing behind the trailer's beginning is read as a record.
+fn is_misplaced(book: &[u8], c: usize) -> bool
+    requires { ⌜ length (now book) ≤ 65535 ⌝ }
+    requires { ⌜ 2 * c + 2 ≤ length (now book) ⌝ }
+    requires { ⌜ c ≡ count (now book) ⌝ }
+    ensures { λ r. ⌜ r ≡ misplaced (now (book .entry)) ⌝ }
+{
+    let trailer = book.len() - (2 * c + 2);
+    let mut o = 0;
+    let mut i = 0;
+    while i < c {
+        let offset = two_at(book, trailer + 2 * i);
+        if offset != o {
+            return true;
+        }
+        if trailer < o + 4 {
+            return true;
+        }
+        let letters = two_at(book, o + 2);
+        let end = o + 4 + letters;
+        if trailer < end {
+            return true;
+        }
+        o = end;
+        i += 1;
+    }
+    o != trailer
+}
+
+// Checks 1 to 3.
+pub(crate) fn book_refusal(book: &[u8]) -> u8
+    ensures { λ r. ⌜ r ≡ bookRefusal (now (book .entry)) ⌝ }
+{
+    if book.len() < 2 {
+        return 1;
+    }
+    if LARGEST < book.len() {
+        return 1;
+    }
+    let c = two_at(book, book.len() - 2);
+    if book.len() < 2 * c + 2 {
+        return 2;
+    }
+    if is_misplaced(book, c) {
+        return 3;
+    }
+    0
+}
+
+// Opening: checks 1 to 3, and the number of presets.
+pub fn check_book(book: &[u8]) -> Opened
+    ensures { λ r. ⌜ r ≡ checkedBook (now (book .entry)) ⌝ }
+{
+    let r = book_refusal(book);
+    if r != 0 {
+        return Opened::Refused(r);
+    }
+    let c = two_at(book, book.len() - 2);
+    Opened::Presets(c)
+}
+
+// Checks 5 to 8, of the record at byte o.
+fn check_record(book: &[u8], o: usize) -> Preset
+    requires { ⌜ length (now book) ≤ 65535 ⌝ }
+    requires { ⌜ endAt (now book) o ≤ length (now book) ⌝ }
+    ensures { λ r. ⌜ r ≡ checkedRecord (now (book .entry)) o ⌝ }
+{
+    let kind = book[o];
+    let rank = book[o + 1];
+    let r = rank_refusal(kind, rank);
+    if r != 0 {
+        return Preset::Refused(r);
+    }
+    let length = two_at(book, o + 2);
+    let start = o + 4;
+    let end = start + length;
+    let s = word_refusal(rank, &book[start..end]);
+    if s != 0 {
+        return Preset::Refused(s);
+    }
+    Preset::Found {
+        kind,
+        rank,
+        start,
+        length,
+    }
+}
+
+// Reading a preset of a book that `check_book` has accepted, with no second walk over its records: for such a book it answers what `check_preset`
+// answers. Any other book is read safely too, and checks 1 to 8 are made as far as they concern this record alone.
+pub fn opened_preset(book: &[u8], number: usize) -> Preset
+    ensures { λ r. ⌜ r ≡ openedPreset (now (book .entry)) number ⌝ }
+{
+    if book.len() < 2 {
+        return Preset::Refused(1);
+    }
+    if LARGEST < book.len() {
+        return Preset::Refused(1);
+    }
+    let c = two_at(book, book.len() - 2);
+    if book.len() < 2 * c + 2 {
+        return Preset::Refused(2);
+    }
+    if c <= number {
+        return Preset::Refused(4);
+    }
+    let trailer = book.len() - (2 * c + 2);
+    let o = two_at(book, trailer + 2 * number);
+    if trailer < o + 4 {
+        return Preset::Refused(3);
+    }
+    let end = o + 4 + two_at(book, o + 2);
+    if trailer < end {
+        return Preset::Refused(3);
+    }
+    check_record(book, o)
+}
+
+// Reading a preset: checks 1 to 8, its kind and rank, and where its letters are.
+pub fn check_preset(book: &[u8], number: usize) -> Preset
+    ensures { λ r. ⌜ r ≡ checkedPreset (now (book .entry)) number ⌝ }
+{
+    let r = book_refusal(book);
+    if r != 0 {
+        return Preset::Refused(r);
+    }
+    opened_preset(book, number)
+}
+
+// The letters of a preset: the part of the book that holds them. For a refused preset an empty part of the book.
+pub fn letters(book: &[u8], number: usize) -> &[u8]
+    ensures { λ r. ⌜ now r ≡ lettersOf (now (book .entry)) number ⌝ }
+    ensures { λ r. ⌜ (r .ptr .0 ≡ book .entry .ptr .0) × (r .ptr .1 ≡ book .entry .ptr .1 + lettersStart (now (book .entry)) number) ⌝ }
+{
+    match check_preset(book, number) {
+        Preset::Found {
+            kind: _,
+            rank: _,
+            start,
+            length,
+        } => {
+            let end = start + length;
+            &book[start..end]
+        }
+        Preset::Refused(_) => &book[0..0],
+    }
+}
