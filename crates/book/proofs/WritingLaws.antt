@@ -9,7 +9,7 @@ use native.Mathlib.Omega.{arith}
 use lib.ListN.{length, take, drop, length-append, length-take, length-drop}
 use lib.Seq.{sets, length-take-le}
 use borrow.Author.Tests.{eq-eqb, ne-eqb, lt-ltb, le-ltb, ltb-false}
-use Rattle.window.specs.Checks.{check, _then_, rankRefusal, wordRefusal, tooShort}
+use Rattle.window.specs.Checks.{check, _then_, rankRefusal, wordRefusal}
 use Rattle.window.proofs.CallLaws.{writes-refused, writes-short, writes-done}
 use Rattle.window.specs.declared.Answer.the-variants as answer
 use Rattle.book.specs.Books.{twoAt, two, count, trailer, tooLarge, bookRefusal, recordOf, appended, appendRefusal}

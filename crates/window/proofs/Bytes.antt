@@ -1,22 +1,25 @@
 -- Signed bytes as integers: what the four helpers of the module `entries` compute, from the range of a byte.
 -- Assumes nothing.
-use mathlib.Core.Path.{_≡_, refl, sym, ap, _∙_, subst}
-use mathlib.Core.Bool.{Bool, true, false, false≢true}
-use Prim.Native.Nat.{ℕ, zero, suc, _+_, _<_, _^_}
+use mathlib.Core.Path.{_≡_, refl, sym, _∙_}
+use mathlib.Core.Bool.{true, false, false≢true}
+use Prim.Native.Nat.{ℕ, zero, suc, _+_, _<_}
 use native.Mathlib.Numerals.{add-one}
 use native.Mathlib.Omega.{arith}
 use lib.Dec.{T, leb·suc-zero}
-use lib.IntN.{ℤ, pos, negsuc, negℤ, natAbs, _-ℤ_, _+ℤ_, +ℤ-idl, +ℤ-comm, -ℤ-one}
+use lib.IntN.{ℤ, pos, negsuc, negℤ, natAbs, _-ℤ_, +ℤ-idl, +ℤ-comm, -ℤ-one}
 use lib.Signed.{mag, ltZ, nonNeg}
 use mir.Syntax.{w8}
 use mir.Val.{Fits, SFits, toZ, ofZ}
 use mir.ValLaws.{toZ-ofZ, toZ-pos}
-use Rattle.window.specs.Kinds.{pick}
 use Rattle.window.specs.Length.{negative}
 
 -- a byte read back from its bits
 pub byte-back : (z : ℤ) → SFits w8 z → toZ w8 (ofZ w8 z) ≡ z
 byte-back z h = toZ-ofZ w8 z h
+
+-- the same for an element of a slice, with its range as it is known of one
+pub element-back : (z : ℤ) → mag z < 128 → toZ w8 (ofZ w8 z) ≡ z
+element-back z h = byte-back z (record { sfits = h })
 
 pub sfits-of-size : (z : ℤ) → natAbs z < 128 → SFits w8 z
 sfits-of-size (pos a) h = record { sfits = h }
@@ -87,7 +90,3 @@ minus-cast-fits a h = rw (cast-back a h, minus-is-negate (pos a)) (negate-fits (
 
 pub minus-cast-back : (a : ℕ) → a < 128 → toZ w8 (ofZ w8 (pos 0 -ℤ toZ w8 a)) ≡ negℤ (pos a)
 minus-cast-back a h = rw (cast-back a h, minus-is-negate (pos a)) (byte-back (negℤ (pos a)) (negate-fits (pos a) h))
-
--- what is computed of an element that was read into a local
-pub read-back : {X : Type 0} (f : ℤ → X) (e : ℤ) → mag e < 128 → f (toZ w8 (ofZ w8 e)) ≡ f e
-read-back f e h = ap f (byte-back e (record { sfits = h }))

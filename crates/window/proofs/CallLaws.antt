@@ -1,19 +1,18 @@
 -- What the calls' definitions say in each case, in the order of the code's tests.
 -- Assumes nothing.
-use mathlib.Core.Path.{_≡_, refl, sym, ap, _∙_}
-use mathlib.Core.Bool.{Bool, true, false}
-use mathlib.Core.List.{List, [], _∷_, _++_}
+use mathlib.Core.Path.{_≡_, refl, sym, _∙_}
+use mathlib.Core.Bool.{false}
+use mathlib.Core.List.{List, _++_}
 use Prim.Native.Nat.{ℕ, _≤_, _<_}
 use native.Mathlib.Omega.{arith}
-use lib.Dec.{eqb, ltb}
+use lib.Dec.{ltb}
 use lib.IntN.{ℤ}
 use lib.ListN.{length, drop}
 use borrow.Author.Tests.{eq-eqb, ne-eqb, lt-ltb, le-ltb, ltb-false}
-use Rattle.window.specs.declared.Answer.{Answer}
 use Rattle.window.specs.declared.Answer.the-variants.{Length, Refused}
 use Rattle.window.proofs.Basics.{or-false-left, or-false-right}
 use Rattle.window.proofs.Sizes.{then-zero, check-zero}
-use Rattle.window.specs.Kinds.{Kind, A, B, D, pick, kindOf, lanes, least, greatest}
+use Rattle.window.specs.Kinds.{Kind, A, B, D, kindOf, lanes, least, greatest}
 use Rattle.window.specs.Windows.{window, product, inverse}
 use Rattle.window.specs.Checks.{check, _then_, wrongKind, wrongRank, tooLong, wrongLetter, tooShort, rankRefusal, wordRefusal, windowRefusal}
 use Rattle.window.specs.Calls.{Outcome, answerOf, written, writes, windowOfWord, productOfWindows, inverseOfWindow}

@@ -3,15 +3,14 @@
 -- Sections: kinds and ranks; letters; entries; signs; windows.
 -- Assumes nothing.
 use mathlib.Core.Path.{_≡_, refl, sym, ap, _∙_}
-use mathlib.Core.Logic.{_⊎_, inl, inr}
 use mathlib.Core.Bool.{Bool, true, false, not, _||_, Bool·not-not}
 use mathlib.Core.List.{List, [], _∷_}
-use Prim.Native.Nat.{ℕ, zero, suc, _+_, _-_, _≤_, _<_}
+use Prim.Native.Nat.{ℕ, _+_, _-_, _≤_, _<_}
 use native.Mathlib.Decide.{ℕ-discrete}
 use native.Mathlib.Nat.{zero-add, le-of-eq}
 use native.Mathlib.Numerals.{add-one, one-add}
 use native.Mathlib.Omega.{arith}
-use lib.Dec.{eqb, ltb}
+use lib.Dec.{eqb}
 use lib.IntN.{ℤ, pos, natAbs}
 use lib.ListN.{length, getD, take, drop, length-drop}
 use lib.Seq.{drop-cons, take-all}
@@ -19,8 +18,8 @@ use lib.Signed.{mag}
 use mir.Syntax.{w8}
 use mir.Val.{toZ, ofZ}
 use borrow.Author.Tests.{eq-eqb, ne-eqb, lt-ltb, le-ltb}
-use Rattle.window.proofs.Bytes.{read-back}
-use Rattle.window.specs.Kinds.{Kind, A, B, D, pick, kindOf, lanes, least, greatest}
+use Rattle.window.proofs.Bytes.{element-back}
+use Rattle.window.specs.Kinds.{Kind, A, B, D, pick, kindOf, lanes}
 use Rattle.window.specs.Length.{negative, negatives, one}
 use Rattle.window.specs.Checks.{wrongKind, wrongLetter, wrongAt, wrongEntry, hasSize, negativeInA, odd, oddNegatives, wrongLanes, windowRefusal}
 
@@ -118,7 +117,7 @@ wrongAt-else k m s e w q f h t = rw (← q, ne-eqb s 0 f, le-ltb m s h, t)
 -- the tests at an entry that was read into a local, with the part from a on
 pub wrongAt-read : (k : Kind) (m a : ℕ) (e : ℤ) (w : List ℤ) → mag e < 128
     → wrongAt k m (toZ w8 (ofZ w8 e)) (take (length w - a) (drop a w)) ≡ wrongAt k m e (drop a w)
-wrongAt-read k m a e w h = read-back (λ (x : ℤ). wrongAt k m x (take (length w - a) (drop a w))) e h ∙ ap (wrongAt k m e) (take-rest a w)
+wrongAt-read k m a e w h = ap (λ (x : ℤ). wrongAt k m x (take (length w - a) (drop a w))) (element-back e h) ∙ ap (wrongAt k m e) (take-rest a w)
 
 -- ---- signs
 

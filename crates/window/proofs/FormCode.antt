@@ -6,7 +6,6 @@ use Prim.Native.Nat.{ℕ, _≤_, _<_}
 use native.Mathlib.Omega.{arith}
 use lib.IntN.{ℤ}
 use lib.ListN.{length, take, drop}
-use lib.Seq.{length-take-le}
 use Rattle.window.specs.declared.Answer.{Answer}
 use Rattle.window.specs.declared.Answer.the-variants.{Length, Refused}
 use Rattle.window.proofs.Levels.{window-accepted, accepted-of-refusal, refusal-of-accepted}
@@ -18,7 +17,7 @@ use Rattle.window.specs.Kinds.{kindOf, lanes, least}
 use Rattle.window.specs.Windows.{window, product, inverse}
 use Rattle.window.specs.Length.{windowLength}
 use Rattle.window.specs.Checks.{_then_, rankRefusal, wordRefusal, windowRefusal}
-use Rattle.window.specs.NormalForm.{normalForm, wordNormalForm}
+use Rattle.window.specs.NormalForm.{normalForm}
 use Rattle.window.specs.Calls.{Outcome, writes, normalFormOfWindow, normalFormOfWord, productOfWords, inverseOfWord}
 
 -- ---- check 14

@@ -5,13 +5,10 @@ use mathlib.Core.Logic.{_↔_}
 use mathlib.Core.List.{List, [], _∷_, _++_, reverse}
 use Prim.Native.Nat.{ℕ, suc, _+_, _≤_}
 use native.Mathlib.Omega.{arith}
-use lib.Dec.{eqb}
 use lib.IntN.{ℤ}
 use lib.ListN.{length, length-append}
 use borrow.Author.Tests.{eq-eqb}
-use Rattle.window.specs.declared.Answer.{Answer}
-use Rattle.window.specs.declared.Answer.the-variants.{Length, Refused}
-use Rattle.window.proofs.Sizes.{then-zero}
+use Rattle.window.specs.declared.Answer.the-variants.{Length}
 use Rattle.window.proofs.CallLaws.{rank-accepted}
 use Rattle.window.proofs.Levels.{Accepted, window-accepted, accepted-of-refusal}
 use Rattle.window.proofs.Products.{window-append}
@@ -20,10 +17,10 @@ use Rattle.window.proofs.Indices.{indices, indices-in-range}
 use Rattle.window.proofs.NormalForms.{normalForm-is-blocks, normalForm-blocks, normalForm-injective}
 use Rattle.window.proofs.Lengths.{blockLength, length-block, length-normalForm}
 use Rattle.window.proofs.GreatestLengths.{greatestLength, greatestIndices, indices-greatest, windowLength-of-greatest}
-use Rattle.window.specs.Kinds.{Kind, pick, kindOf, least}
+use Rattle.window.specs.Kinds.{Kind, kindOf, least}
 use Rattle.window.specs.Windows.{window, product, inverse}
 use Rattle.window.specs.Length.{windowLength}
-use Rattle.window.specs.Checks.{_then_, rankRefusal, wordRefusal, windowRefusal}
+use Rattle.window.specs.Checks.{rankRefusal, wordRefusal, windowRefusal}
 use Rattle.window.specs.NormalForm.{block, blocks, Indices, none, level, levels, normalForm, wordNormalForm}
 use Rattle.window.specs.Calls.{answerOf, lengthOfWindow, lengthOfWord}
 

@@ -8,7 +8,6 @@ use Prim.Native.Nat.{ℕ, zero, suc, _+_, _-_, _*_, _≤_, _<_}
 use native.Mathlib.Nat.{lt-of-not-le}
 use native.Mathlib.Decide.{decLe}
 use native.Mathlib.Omega.{arith}
-use lib.Dec.{eqb}
 use lib.IntN.{ℤ, pos, negsuc, natAbs}
 use lib.ListN.{length, take, drop, length-append, length-map, take-append-drop}
 use lib.Seq.{length-take-le}
@@ -17,10 +16,11 @@ use Rattle.window.specs.Windows.{windowFrom, straight, window, signed, p
 use Rattle.window.specs.Length.{negative}
 use Rattle.window.specs.Checks.{hasSize, negativeInA}
 use Rattle.window.specs.NormalForm.{block, levels, lastIndex, blocks, Indices, none, level, without, indexOf, restOf}
-use Rattle.window.proofs.Basics.{or-false-left, or-false-right, length-up, up-append, windowFrom-append}
+use Rattle.window.proofs.Basics.{length-up, up-append, windowFrom-append}
 use Rattle.window.proofs.Levels.{Accepted, hasSize-below, windowFrom-accepted, straight-accepted}
 use Rattle.window.proofs.Peeling.{Peeled, placeFrom-peeled, restOf-positive, indexOf-positive, indexOf-negative, restOf-peeled, length-restOf, restOf-restOf, between-restOf, AtLevel, atLevel-of-accepted, peeled, atLevel-rest, atLevel-negativeInA, atLevel-last}
 use Rattle.window.proofs.BlockAction.{turning, windowFrom-block}
+use Rattle.window.proofs.Sizes.{hasSize-head, hasSize-tail}
 
 -- ---- indices
 
@@ -210,7 +210,7 @@ hasSize-left : (s : ℕ) (u v : List ℤ) → hasSize s (u ++ v) ≡ false → h
 unfolding hasSize
 hasSize-left s [] v h = refl
 hasSize-left s (x ∷ u) v h =
-    rw (or-false-left (eqb (natAbs x) s) (hasSize s (u ++ v)) h) (hasSize-left s u v (or-false-right (eqb (natAbs x) s) (hasSize s (u ++ v)) h))
+    rw (hasSize-head s x (u ++ v) h) (hasSize-left s u v (hasSize-tail s x (u ++ v) h))
 
 shown-step : (k : Kind) (n p j : ℕ) (js : List ℕ) → suc p ≤ levels k n → (h : Shown k n (suc p) js) → AtLevel k n (suc (suc p)) (h .entries)
     → Chosen k n (suc p) j (h .entries) → Shown k n p (j ∷ js)

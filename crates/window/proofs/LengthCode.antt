@@ -9,31 +9,25 @@ use Prim.Native.Nat.{ℕ, zero, suc, _+_, _-_, _≤_, _<_}
 use native.Mathlib.Nat.{add-zero, mul-le-mul}
 use native.Mathlib.Decide.{ℕ-discrete}
 use native.Mathlib.Omega.{arith}
-use lib.Dec.{eqb}
 use lib.IntN.{ℤ, pos, negℤ, natAbs}
 use lib.Signed.{mag}
 use lib.ListN.{length, getD, take, drop, drop-of-length-le}
 use mir.Syntax.{w8}
 use mir.Val.{toZ, ofZ}
-use borrow.Author.Tests.{eqb-false, lt-ltb, le-ltb}
+use borrow.Author.Tests.{lt-ltb, le-ltb}
 use Rattle.window.specs.Kinds.{Kind, A, B, D, pick, kindOf}
 use Rattle.window.specs.Length.{negative, one, laterThan, inversions, negativeSumPairs, negatives, windowLength}
 use Rattle.window.specs.Checks.{hasSize, windowRefusal}
-use Rattle.window.proofs.Basics.{or-false-left, or-false-right}
-use Rattle.window.proofs.Bytes.{read-back}
+use Rattle.window.proofs.Bytes.{element-back}
 use Rattle.window.proofs.CheckLaws.{take-rest, drop-next, kindOf-one, kindOf-two, kindOf-three}
 use Rattle.window.proofs.Levels.{Between, Distinct, accepted-of-refusal, refusal-of-accepted, hasSize-below}
-use Rattle.window.proofs.PairWeights.{weight, weights, pairWeights, mirrored, one-later-add, inversions-add-negativeSumPairs, length-by-weights}
-use Rattle.window.proofs.PairWeights.{pairWeights-le}
+use Rattle.window.proofs.PairWeights.{weight, weights, pairWeights, mirrored, inversions-add-negativeSumPairs, length-by-weights, pairWeights-le}
 
 -- ---- bytes and parts
 
 -- a signed byte as code holds it in a local
 abbrev pub held : ℤ → ℤ
 held z = toZ w8 (ofZ w8 z)
-
-pub held-is : (z : ℤ) → mag z < 128 → held z ≡ z
-held-is z h = read-back (λ (x : ℤ). x) z h
 
 -- the part of a slice from j on
 abbrev pub behind : ℕ → List ℤ → List ℤ
@@ -54,19 +48,6 @@ weights-larger x w i t h s e = rw (drop-next w i (pos 0) h, le-ltb (natAbs (getD
 pub weights-end : (x : ℤ) (w : List ℤ) (i : ℕ) → length w ≤ i → weights x (drop i w) ≡ 0
 unfolding weights
 weights-end x w i h = rw (drop-of-length-le w h)
-
--- both sorts of pairs of an entry, where no other entry has its size and none is 0
-pub laterThan-add : (x : ℤ) (w : List ℤ) → hasSize 0 w ≡ false → hasSize (natAbs x) w ≡ false
-    → laterThan x w + laterThan x (map negℤ w) ≡ weights x w
-unfolding laterThan weights hasSize
-laterThan-add x [] z h = refl
-laterThan-add x (y ∷ w) z h =
-    let nonzero : natAbs y ≡ 0 → ⊥ = eqb-false (natAbs y) 0 (or-false-left (eqb (natAbs y) 0) (hasSize 0 w) z) in
-    let apart : natAbs y ≡ natAbs x → ⊥ = eqb-false (natAbs y) (natAbs x) (or-false-left (eqb (natAbs y) (natAbs x)) (hasSize (natAbs x) w) h) in
-    let first = one-later-add x y (omega arith) apart in
-    let rest =
-    laterThan-add x w (or-false-right (eqb (natAbs y) 0) (hasSize 0 w) z) (or-false-right (eqb (natAbs y) (natAbs x)) (hasSize (natAbs x) w) h) in
-    omega arith
 
 -- ---- all entries
 
@@ -91,7 +72,7 @@ pub pairs-of-entry-asks : (w : List ℤ) (i : ℕ) → mag (getD w i (pos 0)) < 
 pairs-of-entry-asks w i f h l =
     let a = accepted-of-refusal B (length w) w h .level in
     let d : Distinct (drop i w) = distinct-drop i w (a .distinct) in
-    rw (take-rest (i + 1) w, held-is (getD w i (pos 0)) f) (
+    rw (take-rest (i + 1) w, element-back (getD w i (pos 0)) f) (
       hasSize-below 1 (1 + length w) 0 (drop (i + 1) w) (omega arith) (between-drop 1 (1 + length w) (i + 1) w (a .between)),
       (rw (drop-next w i (pos 0) l) at d) .0,
     )
@@ -105,7 +86,7 @@ pub bothPairs-step : (w : List ℤ) (i r : ℕ) → i < length w → mag (getD w
     → bothPairs (drop i w) ≡ r + bothPairs (drop (i + 1) w)
 unfolding bothPairs inversions negativeSumPairs
 bothPairs-step w i r h f e =
-    let q = rw (take-rest (i + 1) w, held-is (getD w i (pos 0)) f) at e in
+    let q = rw (take-rest (i + 1) w, element-back (getD w i (pos 0)) f) at e in
     rw (drop-next w i (pos 0) h) (omega arith)
 
 pub bothPairs-end : (w : List ℤ) (i : ℕ) → length w ≤ i → bothPairs (drop i w) ≡ 0

@@ -20,7 +20,7 @@ use Rattle.window.specs.NormalForm.{rise, fall, block, levels, lastIndex
 use Rattle.window.proofs.Sizes.{natAbs-negℤ}
 use Rattle.window.proofs.Levels.{Between, Accepted}
 use Rattle.window.proofs.Runs.{length-span, length-slide, rise-span, fall-slide}
-use Rattle.window.proofs.Peeling.{placeFrom-peeled, indexOf-positive, indexOf-negative, restOf-peeled, restOf-restOf, between-restOf, AtLevel, atLevel-of-accepted, peeled, atLevel-rest, atLevel-negativeInA}
+use Rattle.window.proofs.Peeling.{placeFrom-peeled, indexOf-positive, indexOf-negative, restOf-peeled, restOf-restOf, between-restOf, AtLevel, atLevel-of-accepted, peeled, atLevel-rest, atLevel-negativeInA, negatives-middle}
 use Rattle.window.proofs.PairWeights.{weight, weights, pairWeights, mirrored, length-by-weights}
 
 -- ---- blocks
@@ -95,11 +95,6 @@ unfolding pairWeights
 pairWeights-insert e c [] v b = omega (arith, weights-least e c v b)
 pairWeights-insert e c (x ∷ u) v b = omega (arith, weights-insert x e u v (b .0), pairWeights-insert e c u v (b .2))
 
-pub negatives-insert : (e : ℤ) (u v : List ℤ) → negatives (u ++ (e ∷ v)) ≡ one (negative e) + negatives (u ++ v)
-unfolding negatives
-negatives-insert e [] v = refl
-negatives-insert e (x ∷ u) v = omega (arith, negatives-insert e u v)
-
 weights-negateFirst : (x : ℤ) (p : ℕ) (w : List ℤ) → weights x (from p negateFirst w) ≡ weights x w
 unfolding weights weight from negateFirst
 weights-negateFirst x zero [] = refl
@@ -133,7 +128,7 @@ total-restOf D (negsuc x) w = ap (λ (s : ℕ). s + 0) (pairWeights-negateLast w
 mirrored-insert : (k : Kind) (e : ℤ) (u v : List ℤ) → mirrored k (u ++ (e ∷ v)) ≡ mirrored k (e ∷ []) + mirrored k (u ++ v)
 unfolding mirrored negatives
 mirrored-insert A e u v = refl
-mirrored-insert B e u v = omega (arith, negatives-insert e u v)
+mirrored-insert B e u v = omega (arith, negatives-middle u e v)
 mirrored-insert D e u v = refl
 
 -- the block of an entry with a entries before it and b behind

@@ -15,8 +15,8 @@ use Rattle.window.specs.Windows.{from, exchange, negateFirst, exchangeNe
 use Rattle.window.specs.Length.{negatives}
 use Rattle.window.specs.Checks.{check, _then_, hasSize, wrongLanes, wrongAt, wrongEntry, odd, oddNegatives, windowRefusal}
 use Rattle.window.specs.NormalForm.{without}
-use Rattle.window.proofs.Basics.{or-false-left, or-false-right, length-straight}
-use Rattle.window.proofs.Sizes.{then-zero, check-zero, or-left-comm, hasSize-without, length-le-without, wrongEntry-cons}
+use Rattle.window.proofs.Basics.{length-straight}
+use Rattle.window.proofs.Sizes.{then-zero, check-zero, or-left-comm, hasSize-without, length-le-without, wrongEntry-cons, hasSize-head, hasSize-tail}
 use Rattle.window.proofs.Sizes.{PositiveInA, positiveInA-nil, positiveInA-cons, positiveInA-head, positiveInA-tail}
 use Rattle.window.proofs.Sizes.{natAbs-negℤ, negatives-from-exchange, odd-from-exchangeNegate, negatives-map-pos}
 
@@ -63,8 +63,8 @@ between-below : (i c : ℕ) (w : List ℤ) → Between i (suc c) w → hasSize c
 unfolding hasSize
 between-below i c [] b h = tt
 between-below i c (e ∷ w) b h =
-    let ne : natAbs e ≡ c → ⊥ = eqb-false (natAbs e) c (or-false-left (eqb (natAbs e) c) (hasSize c w) h) in
-    (b .0, omega arith, between-below i c w (b .2) (or-false-right (eqb (natAbs e) c) (hasSize c w) h))
+    let ne : natAbs e ≡ c → ⊥ = eqb-false (natAbs e) c (hasSize-head c e w h) in
+    (b .0, omega arith, between-below i c w (b .2) (hasSize-tail c e w h))
 
 -- the greatest size is taken out
 between-without : (i c : ℕ) (w : List ℤ) → Between i (suc c) w → Distinct w → Between i c (without c w)
@@ -189,13 +189,13 @@ sameSizes-swap x y x′ y′ w p q =
       between = λ i c b. rw (p, q) (b .2 .0, b .2 .1, (b .0, b .1, b .2 .2));
       distinct = λ d.
           rw (p, q, apart d)
-          (d .1 .0, (or-false-right (eqb (natAbs y) (natAbs x)) (hasSize (natAbs x) w) (d .0), d .1 .1));
+          (d .1 .0, (hasSize-tail (natAbs x) y w (d .0), d .1 .1));
     }
   where
     apart : Distinct (x ∷ y ∷ w) → eqb (natAbs x) (natAbs y) ≡ false
     apart d =
         let ne : natAbs y ≡ natAbs x → ⊥ =
-        eqb-false (natAbs y) (natAbs x) (or-false-left (eqb (natAbs y) (natAbs x)) (hasSize (natAbs x) w) (d .0)) in
+        eqb-false (natAbs y) (natAbs x) (hasSize-head (natAbs x) y w (d .0)) in
         ne-eqb (natAbs x) (natAbs y) (λ e. ne (sym e))
 
 sameSizes-exchange : (w : List ℤ) → SameSizes (exchange w) w

@@ -24,10 +24,9 @@ use Rattle.window.specs.Windows.{from, negateFirst, signed, placeFrom}
 use Rattle.window.specs.Length.{negative}
 use Rattle.window.specs.Checks.{hasSize, windowRefusal}
 use Rattle.window.specs.NormalForm.{block, levels, without, indexOf, restOf, normalFrom, normalForm}
-use Rattle.window.proofs.Basics.{or-false-left, or-false-right}
-use Rattle.window.proofs.Bytes.{byte-back}
+use Rattle.window.proofs.Bytes.{element-back}
 use Rattle.window.proofs.CheckLaws.{hasSize-step}
-use Rattle.window.proofs.Sizes.{hasSize-without}
+use Rattle.window.proofs.Sizes.{hasSize-without, hasSize-head, hasSize-tail}
 use Rattle.window.proofs.Levels.{Between, Accepted, accepted-of-refusal, level-hasSize, sameSizes-from, sameSizes-negateFirst}
 use Rattle.window.proofs.Peeling.{placeFrom-peeled, without-peeled, restOf-positive}
 use Rattle.window.proofs.Stores.{sets-front, Stored, stored-append}
@@ -38,7 +37,7 @@ hasSize-append : (i : ℕ) (u v : List ℤ) → hasSize i u ≡ false → hasSiz
 unfolding hasSize
 hasSize-append i [] v h g = g
 hasSize-append i (x ∷ u) v h g =
-    rw (or-false-left (eqb (natAbs x) i) (hasSize i u) h) (hasSize-append i u v (or-false-right (eqb (natAbs x) i) (hasSize i u) h) g)
+    rw (hasSize-head i x u h) (hasSize-append i u v (hasSize-tail i x u h) g)
 
 -- an entry of size i is in w, and not before the place p
 abbrev pub Ahead : ℕ → List ℤ → ℕ → Type 0
@@ -57,10 +56,6 @@ pub not-ahead : (i : ℕ) (w : List ℤ) (p : ℕ) → length w ≤ p → Ahead 
 unfolding hasSize
 not-ahead i w p l h = let z : false ≡ true = rw (drop-of-length-le w l) at (h .0) in let q : _≡_ {A = ℕ} 0 1 = cc in omega arith
 
--- an element of a slice of signed bytes, read back from its bits
-pub element-back : (z : ℤ) → mag z < 128 → toZ w8 (ofZ w8 z) ≡ z
-element-back z h = byte-back z (record { sfits = h })
-
 size-at-most : (z : ℤ) → mag z < 128 → natAbs z ≤ 128
 size-at-most (pos a) h = omega arith
 size-at-most (negsuc a) h = omega arith
@@ -70,9 +65,9 @@ pub size-below : (w : List ℤ) (p : ℕ) → p < length w → mag (getD w p (po
 unfolding hasSize
 size-below [] p l s h = absurd (omega arith)
 size-below (x ∷ w) zero l s h =
-    let f : natAbs x ≡ 128 → ⊥ = eqb-false (natAbs x) 128 (or-false-left (eqb (natAbs x) 128) (hasSize 128 w) h) in
+    let f : natAbs x ≡ 128 → ⊥ = eqb-false (natAbs x) 128 (hasSize-head 128 x w h) in
     omega (arith, size-at-most x s)
-size-below (x ∷ w) (suc p) l s h = size-below w p (omega arith) s (or-false-right (eqb (natAbs x) 128) (hasSize 128 w) h)
+size-below (x ∷ w) (suc p) l s h = size-below w p (omega arith) s (hasSize-tail 128 x w h)
 
 -- ---- a place taken out
 

@@ -8,14 +8,14 @@ use Prim.Native.Nat.{ℕ, zero, suc, _+_, _*_, _≤_}
 use native.Mathlib.Nat.{add-zero, add-comm, mul-suc, suc-mul, mul-le-mul}
 use native.Mathlib.Omega.{arith}
 use borrow.Author.Tests.{ltb-true, ltb-false, eqb-false, lt-ltb, le-ltb}
-use lib.Dec.{eqb, ltb}
+use lib.Dec.{ltb}
 use lib.IntN.{ℤ, pos, negsuc, negℤ, natAbs}
 use lib.ListN.{length}
 use Rattle.window.specs.Kinds.{Kind, A, B, D, pick}
 use Rattle.window.specs.Length.{later, negative, one, laterThan, inversions, negativeSumPairs, negatives, windowLength}
 use Rattle.window.specs.Checks.{hasSize}
-use Rattle.window.proofs.Basics.{or-false-left, or-false-right}
-use Rattle.window.proofs.Levels.{Between, Distinct, Accepted}
+use Rattle.window.proofs.Levels.{Between, Distinct, Accepted, hasSize-below}
+use Rattle.window.proofs.Sizes.{hasSize-tail, hasSize-head}
 
 -- ---- the sums
 
@@ -56,7 +56,7 @@ negative-pair a b true e d = rw (le-ltb (suc b) (suc a) (omega (arith, ltb-true 
 negative-pair a b false e d = rw (lt-ltb (suc b) (suc a) (omega (arith, ltb-false a b e)))
 
 -- an entry before another, and before its negative
-pub one-later-add : (x y : ℤ) → 1 ≤ natAbs y → (natAbs y ≡ natAbs x → ⊥) → one (later x y) + one (later x (negℤ y)) ≡ weight x y
+one-later-add : (x y : ℤ) → 1 ≤ natAbs y → (natAbs y ≡ natAbs x → ⊥) → one (later x y) + one (later x (negℤ y)) ≡ weight x y
 unfolding later weight negative one
 one-later-add (pos a) (pos zero) h d = absurd (omega arith)
 one-later-add (pos a) (pos (suc b)) h d = one-add-zero (ltb (suc b) a)
@@ -74,13 +74,16 @@ one-later-pos (negsuc a) y h g = let z : true ≡ false = h in cc
 
 -- ---- all pairs
 
-laterThan-add : (x : ℤ) (c : ℕ) (w : List ℤ) → hasSize (natAbs x) w ≡ false → Between 1 c w
+-- both sorts of pairs of an entry, where no other entry has its size and none is 0
+pub laterThan-add : (x : ℤ) (w : List ℤ) → hasSize 0 w ≡ false → hasSize (natAbs x) w ≡ false
     → laterThan x w + laterThan x (map negℤ w) ≡ weights x w
-unfolding laterThan weights hasSize
-laterThan-add x c [] h b = refl
-laterThan-add x c (y ∷ w) h b =
-    let first = one-later-add x y (b .0) (eqb-false (natAbs y) (natAbs x) (or-false-left _ _ h)) in
-    let rest = laterThan-add x c w (or-false-right (eqb (natAbs y) (natAbs x)) (hasSize (natAbs x) w) h) (b .2) in
+unfolding laterThan weights
+laterThan-add x [] z h = refl
+laterThan-add x (y ∷ w) z h =
+    let nonzero : natAbs y ≡ 0 → ⊥ = eqb-false (natAbs y) 0 (hasSize-head 0 y w z) in
+    let apart : natAbs y ≡ natAbs x → ⊥ = eqb-false (natAbs y) (natAbs x) (hasSize-head (natAbs x) y w h) in
+    let first = one-later-add x y (omega arith) apart in
+    let rest = laterThan-add x w (hasSize-tail 0 y w z) (hasSize-tail (natAbs x) y w h) in
     omega arith
 
 -- both sorts of pairs together
@@ -88,7 +91,7 @@ pub inversions-add-negativeSumPairs : (c : ℕ) (w : List ℤ) → Between 1 c w
 unfolding inversions negativeSumPairs pairWeights
 inversions-add-negativeSumPairs c [] b d = refl
 inversions-add-negativeSumPairs c (x ∷ w) b d =
-    let first = laterThan-add x c w (d .0) (b .2) in
+    let first = laterThan-add x w (hasSize-below 1 c 0 w (omega arith) (b .2)) (d .0) in
     let rest = inversions-add-negativeSumPairs c w (b .2) (d .1) in
     omega arith
 

@@ -5,30 +5,23 @@ use mathlib.Core.Path.{_≡_, refl, sym, ap, _∙_}
 use mathlib.Core.Bool.{Bool, true, false, not, Bool·not-not}
 use mathlib.Core.List.{List, [], _∷_, _++_, map}
 use Prim.Native.Nat.{ℕ, zero, suc, _+_, _-_, _*_, _≤_, _<_}
-use native.Mathlib.Nat.{suc-add, add-suc, zero-add, add-zero}
+use native.Mathlib.Nat.{suc-add, add-suc, add-zero}
 use native.Mathlib.Omega.{arith}
 use lib.Dec.{eqb}
 use lib.IntN.{ℤ, pos, negsuc, natAbs}
 use lib.ListN.{length, length-append}
 use borrow.Author.Tests.{eqb-true, eqb-false, eq-eqb, ne-eqb}
-use Rattle.window.specs.Kinds.{Kind, A, B, D, pick, lanes, up}
+use Rattle.window.specs.Kinds.{Kind, A, B, D, lanes, up}
 use Rattle.window.specs.Windows.{from, negateFirst, act, signed, placeFrom}
 use Rattle.window.specs.Length.{negative, negatives, one}
 use Rattle.window.specs.Checks.{hasSize, negativeInA, odd}
 use Rattle.window.specs.NormalForm.{levels, without, indexOf, restOf}
-use Rattle.window.proofs.Basics.{or-false-left, or-false-right, length-from, length-negateFirst}
+use Rattle.window.proofs.Basics.{length-from, length-negateFirst}
 use Rattle.window.proofs.Steps.{from-involution, negateFirst-involution}
 use Rattle.window.proofs.Levels.{Between, Distinct, Level, Signs, Accepted, SameSizes, sameSizes-refl, sameSizes-act, level-hasSize}
+use Rattle.window.proofs.Sizes.{hasSize-head, hasSize-tail, odd-one-add}
 
 -- ---- the entry of size i
-
-hasSize-head : (s : ℕ) (x : ℤ) (w : List ℤ) → hasSize s (x ∷ w) ≡ false → eqb (natAbs x) s ≡ false
-unfolding hasSize
-hasSize-head s x w h = or-false-left (eqb (natAbs x) s) (hasSize s w) h
-
-hasSize-tail : (s : ℕ) (x : ℤ) (w : List ℤ) → hasSize s (x ∷ w) ≡ false → hasSize s w ≡ false
-unfolding hasSize
-hasSize-tail s x w h = or-false-right (eqb (natAbs x) s) (hasSize s w) h
 
 -- w with its first entry of size i set apart
 pub record Peeled (i : ℕ) (w : List ℤ) : Type 0 where
@@ -121,11 +114,6 @@ between-suc i c (x ∷ w) h n =
 
 -- ---- the sign of one entry changed
 
-odd-one-add : (t : Bool) (a : ℕ) → odd (one t + a) ≡ pick t (not (odd a)) (odd a)
-unfolding one odd
-odd-one-add true a = let e : 1 + a ≡ suc a = omega arith in rw e
-odd-one-add false a = rw zero-add
-
 odd-one-add-not : (t : Bool) (a b : ℕ) → odd a ≡ not (odd b) → odd (one t + a) ≡ not (odd (one t + b))
 odd-one-add-not true a b h = rw (odd-one-add true a, odd-one-add true b, h)
 odd-one-add-not false a b h = rw (odd-one-add false a, odd-one-add false b, h)
@@ -163,7 +151,7 @@ restOf-restOf B e w = refl
 restOf-restOf D (pos x) w = refl
 restOf-restOf D (negsuc x) w = rw (length-from negateFirst length-negateFirst (length w - 1) w) (from-involution negateFirst negateFirst-involution (length w - 1) w)
 
-negatives-middle : (u : List ℤ) (e : ℤ) (v : List ℤ) → negatives (u ++ (e ∷ v)) ≡ one (negative e) + negatives (u ++ v)
+pub negatives-middle : (u : List ℤ) (e : ℤ) (v : List ℤ) → negatives (u ++ (e ∷ v)) ≡ one (negative e) + negatives (u ++ v)
 unfolding negatives
 negatives-middle [] e v = refl
 negatives-middle (x ∷ u) e v = rw (negatives-middle u e v) (omega arith)

@@ -20,8 +20,7 @@ use Rattle.window.specs.Kinds.{pick, up}
 use Rattle.window.specs.Windows.{at, signed, placeFrom}
 use Rattle.window.specs.Length.{negative, negatives, one}
 use Rattle.window.specs.Checks.{hasSize}
-use Rattle.window.proofs.Basics.{or-false-left, or-false-right}
-use Rattle.window.proofs.Sizes.{natAbs-negℤ}
+use Rattle.window.proofs.Sizes.{natAbs-negℤ, hasSize-head, hasSize-tail}
 use Rattle.window.proofs.Levels.{Between, Distinct}
 use Rattle.window.proofs.Products.{map-up}
 
@@ -76,13 +75,13 @@ placeFrom-missing : (q : ℕ) (w : List ℤ) (i : ℕ) → hasSize i w ≡ false
 unfolding hasSize placeFrom
 placeFrom-missing q [] i h = refl
 placeFrom-missing q (e ∷ w) i h =
-    rw (or-false-left (eqb (natAbs e) i) (hasSize i w) h) (placeFrom-missing (suc q) w i (or-false-right (eqb (natAbs e) i) (hasSize i w) h))
+    rw (hasSize-head i e w h) (placeFrom-missing (suc q) w i (hasSize-tail i e w h))
 
 getD-missing : (w : List ℤ) (p i : ℕ) → hasSize i w ≡ false → p < length w → eqb i (natAbs (getD w p (pos 0))) ≡ false
 unfolding hasSize
 getD-missing [] p i h l = absurd (omega arith)
-getD-missing (e ∷ w) zero i h l = ne-eqb i (natAbs e) (λ x. eqb-false (natAbs e) i (or-false-left (eqb (natAbs e) i) (hasSize i w) h) (sym x))
-getD-missing (e ∷ w) (suc p) i h l = getD-missing w p i (or-false-right (eqb (natAbs e) i) (hasSize i w) h) (omega arith)
+getD-missing (e ∷ w) zero i h l = ne-eqb i (natAbs e) (λ x. eqb-false (natAbs e) i (hasSize-head i e w h) (sym x))
+getD-missing (e ∷ w) (suc p) i h l = getD-missing w p i (hasSize-tail i e w h) (omega arith)
 
 -- the place of an entry's size is the entry's position, with its sign
 pub placeFrom-getD : (q : ℕ) (w : List ℤ) (p : ℕ) → Distinct w → p < length w

@@ -24,8 +24,9 @@ use Rattle.window.proofs.CheckLaws.{drop-next}
 use Rattle.window.proofs.Sizes.{natAbs-negℤ}
 use Rattle.window.proofs.Levels.{accepted-of-refusal}
 use Rattle.window.proofs.Places.{between-getD}
-use Rattle.window.proofs.LengthCode.{held, held-is, length-le-of-refusal}
+use Rattle.window.proofs.LengthCode.{held, length-le-of-refusal}
 use Rattle.window.proofs.Scatter.{scatter, scatter-inverse}
+use Rattle.window.proofs.Bytes.{element-back}
 
 -- ---- entries by size and sign
 
@@ -58,19 +59,19 @@ entry-bounds k n w i h l =
 
 pub image-small : (u : List ℤ) (e : ℤ) (s : ℕ) → s ≡ natAbs e → 1 ≤ natAbs e → natAbs (at u e) < 128 → mag (getD u (s - 1) (pos 0)) < 128
     → natAbs (held (getD u (s - 1) (pos 0))) < 128
-image-small u e s q h l f = rw (held-is (getD u (s - 1) (pos 0)) f, q, ← natAbs-at-by-size u e h) l
+image-small u e s q h l f = rw (element-back (getD u (s - 1) (pos 0)) f, q, ← natAbs-at-by-size u e h) l
 
 pub image-negative : (u : List ℤ) (e : ℤ) (s : ℕ) (r : ℤ) → s ≡ natAbs e → 1 ≤ natAbs e → negative e ≡ true
     → mag (getD u (s - 1) (pos 0)) < 128 → mag r < 128 → r ≡ negℤ (held (getD u (s - 1) (pos 0))) → held r ≡ at u e
 image-negative u e s r q h n f b g =
     let x : at u e ≡ negℤ (getD u (s - 1) (pos 0)) = rw (at-by-sign u e h, n, q) in
-    held-is r b ∙ g ∙ ap negℤ (held-is (getD u (s - 1) (pos 0)) f) ∙ sym x
+    element-back r b ∙ g ∙ ap negℤ (element-back (getD u (s - 1) (pos 0)) f) ∙ sym x
 
 pub image-positive : (u : List ℤ) (e : ℤ) (s : ℕ) → s ≡ natAbs e → 1 ≤ natAbs e → negative e ≡ false
     → mag (getD u (s - 1) (pos 0)) < 128 → held (getD u (s - 1) (pos 0)) ≡ at u e
 image-positive u e s q h n f =
     let x : at u e ≡ getD u (s - 1) (pos 0) = rw (at-by-sign u e h, n, q) in
-    held-is (getD u (s - 1) (pos 0)) f ∙ sym x
+    element-back (getD u (s - 1) (pos 0)) f ∙ sym x
 
 pub same-length-of-refusals : (k : Kind) (n : ℕ) (u v : List ℤ) → windowRefusal k n u ≡ 0 → windowRefusal k n v ≡ 0 → length v ≡ length u
 same-length-of-refusals k n u v h g = accepted-of-refusal k n v g .size ∙ sym (accepted-of-refusal k n u h .size)
@@ -85,7 +86,7 @@ image-asks k n u v i l h g m f =
     let s = same-length-of-refusals k n u v h g in
     let p : natAbs e - 1 < length u = omega arith in
     let a = entry-bounds k n u (natAbs e - 1) h p in
-    rw (held-is (getD v i (pos 0)) f) (
+    rw (element-back (getD v i (pos 0)) f) (
       b .0,
       (omega arith, rw (natAbs-at-by-size u e (b .0)) (omega (arith, length-le-of-refusal k n u l h))),
     )
@@ -95,8 +96,8 @@ pub product-step : (u v out : List ℤ) (i : ℕ) (r : ℤ) → i < length v →
     → take i out ++ product u (drop i v) ≡ take (i + 1) (set out i (held r)) ++ product u (drop (i + 1) v)
 unfolding product
 product-step u v out i r h g f b e =
-    let q : r ≡ at u (getD v i (pos 0)) = e ∙ ap (at u) (held-is (getD v i (pos 0)) f) in
-    rw (held-is r b, q, add-one i, take-suc-set out i (at u (getD v i (pos 0))) g, ← add-one i, drop-next v i (pos 0) h)
+    let q : r ≡ at u (getD v i (pos 0)) = e ∙ ap (at u) (element-back (getD v i (pos 0)) f) in
+    rw (element-back r b, q, add-one i, take-suc-set out i (at u (getD v i (pos 0))) g, ← add-one i, drop-next v i (pos 0) h)
     (simp append-assoc)
 
 pub product-end : (u v out : List ℤ) (i : ℕ) → length v ≤ i → length out ≤ i → take i out ++ product u (drop i v) ≡ out
@@ -110,7 +111,7 @@ pub scatter-step : (w out : List ℤ) (i s : ℕ) (t : Bool) (r : ℤ) → i < l
     → scatter out (i + 1) (drop i w) ≡ scatter (set out (s - 1) (held r)) (i + 1 + 1) (drop (i + 1) w)
 unfolding scatter
 scatter-step w out i s t r h b q n e =
-    rw (held-is r b, e, n, q, ← signed-by-sign (getD w i (pos 0)) (i + 1), add-one (i + 1), drop-next w i (pos 0) h)
+    rw (element-back r b, e, n, q, ← signed-by-sign (getD w i (pos 0)) (i + 1), add-one (i + 1), drop-next w i (pos 0) h)
 
 pub scatter-end : (w out : List ℤ) (k i : ℕ) → length w ≤ i → scatter out k (drop i w) ≡ out
 unfolding scatter
@@ -124,7 +125,7 @@ scatter-is-inverse k n w out h l =
 -- ---- equality
 
 pub eq-of-bytes : (x y : ℤ) → mag x < 128 → mag y < 128 → ofZ w8 x ≡ ofZ w8 y → x ≡ y
-eq-of-bytes x y h g e = sym (held-is x h) ∙ ap (toZ w8) e ∙ held-is y g
+eq-of-bytes x y h g e = sym (element-back x h) ∙ ap (toZ w8) e ∙ element-back y g
 
 sameEntry-self : (x : ℤ) → sameEntry x x ≡ true
 unfolding sameEntry

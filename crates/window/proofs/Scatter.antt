@@ -14,10 +14,10 @@ use borrow.Author.Tests.{eqb-true, eqb-false, ltb-true, ltb-false}
 use Rattle.window.specs.Kinds.{pick}
 use Rattle.window.specs.Windows.{signed, placeFrom, inverse}
 use Rattle.window.specs.Checks.{hasSize}
-use Rattle.window.proofs.Basics.{or-false-left, or-false-right}
 use Rattle.window.proofs.Levels.{Between, Distinct, Level, level-hasSize}
 use Rattle.window.proofs.Places.{hasSize-beyond}
 use Rattle.window.proofs.Inverses.{length-inverse, getD-inverse}
+use Rattle.window.proofs.Sizes.{hasSize-head, hasSize-tail}
 
 -- the entries of w stand at positions k, k + 1, ..
 unfoldable pub scatter : List ℤ → ℕ → List ℤ → List ℤ
@@ -35,8 +35,8 @@ getD-scatter-missing : (out : List ℤ) (k : ℕ) (w : List ℤ) (c p : ℕ) →
 unfolding scatter hasSize
 getD-scatter-missing out k [] c p b h = refl
 getD-scatter-missing out k (e ∷ w) c p b h =
-    let ne : natAbs e ≡ suc p → ⊥ = eqb-false (natAbs e) (suc p) (or-false-left (eqb (natAbs e) (suc p)) (hasSize (suc p) w) h) in
-    getD-scatter-missing (set out (natAbs e - 1) (signed e k)) (suc k) w c p (b .2) (or-false-right (eqb (natAbs e) (suc p)) (hasSize (suc p) w) h)
+    let ne : natAbs e ≡ suc p → ⊥ = eqb-false (natAbs e) (suc p) (hasSize-head (suc p) e w h) in
+    getD-scatter-missing (set out (natAbs e - 1) (signed e k)) (suc k) w c p (b .2) (hasSize-tail (suc p) e w h)
     ∙ getD-set-other out (natAbs e - 1) p (signed e k) (pos 0) (omega arith)
 
 -- where one has, its place is

@@ -11,7 +11,7 @@ use lib.Seq.{length-take-le, take-at, take-all, take-suc, take-suc-set}
 use lib.Signed.{mag}
 use mir.Syntax.{w8}
 use mir.Val.{toZ, ofZ}
-use Rattle.window.proofs.Bytes.{read-back}
+use Rattle.window.proofs.Bytes.{element-back}
 use Rattle.window.proofs.Basics.{length-window}
 use Rattle.window.proofs.Products.{length-product, windowFrom-product}
 use Rattle.window.proofs.Inverses.{length-inverse}
@@ -77,7 +77,7 @@ module _ (k n m : ℕ) (h : rankRefusal k n ≡ 0) (e : m ≡ lanes (kindOf k) n
 pub copy-next : (i : ℕ) (w out : List ℤ) → i < length w → i < length out → mag (getD w i (pos 0)) < 128 → take i out ≡ take i w
     → take (i + 1) (set out i (toZ w8 (ofZ w8 (getD w i (pos 0))))) ≡ take (i + 1) w
 copy-next i w out h g f q =
-    rw (add-one, take-suc-set out i (toZ w8 (ofZ w8 (getD w i (pos 0)))) g, take-suc w i (pos 0) h, read-back (λ (x : ℤ). x) (getD w i (pos 0)) f, q)
+    rw (add-one, take-suc-set out i (toZ w8 (ofZ w8 (getD w i (pos 0)))) g, take-suc w i (pos 0) h, element-back (getD w i (pos 0)) f, q)
 
 pub copy-end : (i : ℕ) (w out : List ℤ) → i ≤ length w → length w ≤ i → take i out ≡ take i w → take (length w) out ≡ w
 copy-end i w out a b q =

@@ -42,16 +42,26 @@ or-left-comm true true c = refl
 or-left-comm true false c = refl
 or-left-comm false b c = refl
 
+-- ---- the first entry and the others
+
+pub hasSize-head : (s : ℕ) (x : ℤ) (w : List ℤ) → hasSize s (x ∷ w) ≡ false → eqb (natAbs x) s ≡ false
+unfolding hasSize
+hasSize-head s x w h = or-false-left (eqb (natAbs x) s) (hasSize s w) h
+
+pub hasSize-tail : (s : ℕ) (x : ℤ) (w : List ℤ) → hasSize s (x ∷ w) ≡ false → hasSize s w ≡ false
+unfolding hasSize
+hasSize-tail s x w h = or-false-right (eqb (natAbs x) s) (hasSize s w) h
+
 -- ---- removal
 
 pub hasSize-without : (s c : ℕ) (w : List ℤ) → hasSize s w ≡ false → hasSize s (without c w) ≡ false
 unfolding hasSize without
 hasSize-without s c [] h = refl
-hasSize-without s c (e ∷ w) h = go (eqb (natAbs e) c) (hasSize-without s c w (or-false-right (eqb (natAbs e) s) (hasSize s w) h))
+hasSize-without s c (e ∷ w) h = go (eqb (natAbs e) c) (hasSize-without s c w (hasSize-tail s e w h))
   where
     go : (t : Bool) → hasSize s (without c w) ≡ false → hasSize s (pick t w (e ∷ without c w)) ≡ false
-    go true r = or-false-right (eqb (natAbs e) s) (hasSize s w) h
-    go false r = rw (or-false-left (eqb (natAbs e) s) (hasSize s w) h) r
+    go true r = hasSize-tail s e w h
+    go false r = rw (hasSize-head s e w h) r
 
 pub length-le-without : (c : ℕ) (w : List ℤ) → length w ≤ suc (length (without c w))
 unfolding without
@@ -144,26 +154,21 @@ odd-negate-both a b m = simp odd-one-add (go a b)
     go false false = Bool·not-not (odd m)
 
 nonzero : (e : ℤ) (w : List ℤ) → hasSize 0 (e ∷ w) ≡ false → natAbs e ≡ 0 → ⊥
-unfolding hasSize
-nonzero e w h = eqb-false (natAbs e) 0 (or-false-left (eqb (natAbs e) 0) (hasSize 0 w) h)
-
-nonzero-tail : (e : ℤ) (w : List ℤ) → hasSize 0 (e ∷ w) ≡ false → hasSize 0 w ≡ false
-unfolding hasSize
-nonzero-tail e w h = or-false-right (eqb (natAbs e) 0) (hasSize 0 w) h
+nonzero e w h = eqb-false (natAbs e) 0 (hasSize-head 0 e w h)
 
 odd-exchangeNegate : (w : List ℤ) → hasSize 0 w ≡ false → odd (negatives (exchangeNegate w)) ≡ odd (negatives w)
 unfolding exchangeNegate negatives
 odd-exchangeNegate [] h = refl
 odd-exchangeNegate (x ∷ []) h = refl
 odd-exchangeNegate (x ∷ y ∷ w) h =
-    rw (negative-negℤ x (nonzero x (y ∷ w) h), negative-negℤ y (nonzero y w (nonzero-tail x (y ∷ w) h)))
+    rw (negative-negℤ x (nonzero x (y ∷ w) h), negative-negℤ y (nonzero y w (hasSize-tail 0 x (y ∷ w) h)))
     (odd-negate-both (negative x) (negative y) (negatives w))
 
 pub odd-from-exchangeNegate : (p : ℕ) (w : List ℤ) → hasSize 0 w ≡ false → odd (negatives (from p exchangeNegate w)) ≡ odd (negatives w)
 unfolding from negatives
 odd-from-exchangeNegate zero w h = odd-exchangeNegate w h
 odd-from-exchangeNegate (suc p) [] h = refl
-odd-from-exchangeNegate (suc p) (x ∷ w) h = simp odd-one-add (rw (odd-from-exchangeNegate p w (nonzero-tail x w h)))
+odd-from-exchangeNegate (suc p) (x ∷ w) h = simp odd-one-add (rw (odd-from-exchangeNegate p w (hasSize-tail 0 x w h)))
 
 pub negatives-map-pos : (l : List ℕ) → negatives (map pos l) ≡ 0
 unfolding negatives negative one

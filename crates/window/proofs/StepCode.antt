@@ -22,7 +22,7 @@ use Rattle.window.specs.Kinds.{Kind, A, B, D, kindOf, lanes, least, up}
 use Rattle.window.specs.Windows.{from, exchange, negateFirst, exchangeNegate, act, windowFrom, straight, window}
 use Rattle.window.specs.Checks.{wrongLetter, windowRefusal}
 use Rattle.window.proofs.Basics.{or-false-left, or-false-right, up-append}
-use Rattle.window.proofs.Bytes.{byte-back, cast-back}
+use Rattle.window.proofs.Bytes.{cast-back, element-back}
 use Rattle.window.proofs.CheckLaws.{drop-next, kindOf-one, kindOf-two, kindOf-three}
 use Rattle.window.proofs.Levels.{Between, accepted-of-refusal, refusal-of-accepted, act-accepted, straight-accepted}
 use Rattle.window.proofs.Steps.{act-exchange, act-B-last, act-D-last}
@@ -47,15 +47,11 @@ set-set-eq-from f zero (x ∷ y ∷ w) a b h e = sym (e w)
 set-set-eq-from f (suc p) (x ∷ w) a b h e =
     rw suc-add (ap (λ (l : List ℤ). x ∷ l) (set-set-eq-from f p w a b (omega arith) (rw suc-add at e)))
 
--- a byte read back, its range as `c` hands it out
-byte-of-mag : (z : ℤ) → mag z < 128 → toZ w8 (ofZ w8 z) ≡ z
-byte-of-mag z h = byte-back z (record { sfits = h })
-
 pub set-eq-exchange : (p : ℕ) (w : List ℤ) → p + 1 < length w → mag (getD w p (pos 0)) < 128 → mag (getD w (p + 1) (pos 0)) < 128
     → set (set w p (toZ w8 (ofZ w8 (getD w (p + 1) (pos 0))))) (p + 1) (toZ w8 (ofZ w8 (getD w p (pos 0)))) ≡ from p exchange w
 unfolding exchange
 set-eq-exchange p w h d e =
-    rw (byte-of-mag (getD w p (pos 0)) d, byte-of-mag (getD w (p + 1) (pos 0)) e)
+    rw (element-back (getD w p (pos 0)) d, element-back (getD w (p + 1) (pos 0)) e)
     (set-set-eq-from exchange p w (getD w (p + 1) (pos 0)) (getD w p (pos 0)) h (λ v. refl))
 
 -- r is the negation of the entry e, both as signed bytes
@@ -65,7 +61,7 @@ pub record Negated (e r : ℤ) : Type 0 where
   pub negation : r ≡ negℤ (toZ w8 (ofZ w8 e))
 
 negated-back : (e r : ℤ) → Negated e r → toZ w8 (ofZ w8 r) ≡ negℤ e
-negated-back e r h = byte-of-mag r (h .result) ∙ h .negation ∙ ap negℤ (byte-of-mag e (h .entry))
+negated-back e r h = element-back r (h .result) ∙ h .negation ∙ ap negℤ (element-back e (h .entry))
 
 pub set-eq-negateFirst : (p : ℕ) (w : List ℤ) (r : ℤ) → p < length w → Negated (getD w p (pos 0)) r
     → set w p (toZ w8 (ofZ w8 r)) ≡ from p negateFirst w

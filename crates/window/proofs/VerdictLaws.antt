@@ -1,11 +1,11 @@
 -- What the definitions of the lengths, the verdict and the better word say in each case, in the order of the code's tests.
 -- Assumes nothing.
-use mathlib.Core.Path.{_≡_, refl, sym, ap, _∙_, subst}
-use mathlib.Core.Bool.{Bool, true, false, _&&_, false≢true}
-use mathlib.Core.List.{List, []}
+use mathlib.Core.Path.{_≡_, refl, sym, ap, _∙_}
+use mathlib.Core.Bool.{Bool, true, false, false≢true}
+use mathlib.Core.List.{List}
 use Prim.Native.Nat.{ℕ}
 use native.Mathlib.Nat.{zero-add}
-use denote.Ref.{RefT, now}
+use denote.Ref.{RefT}
 use lib.Dec.{eqb}
 use lib.IntN.{ℤ}
 use borrow.Author.Tests.{eq-eqb, ne-eqb}
@@ -16,11 +16,9 @@ use Rattle.window.specs.declared.Answer.the-variants.{Length, Refused}
 use Rattle.window.specs.declared.Verdict.{Verdict}
 use Rattle.window.specs.declared.Verdict.the-variants as verdict
 use Rattle.window.proofs.Sizes.{then-zero}
-use Rattle.window.proofs.CallLaws.{then-refused, then-next}
-use Rattle.window.specs.Kinds.{pick, kindOf}
+use Rattle.window.specs.Kinds.{kindOf}
 use Rattle.window.specs.Windows.{window}
 use Rattle.window.specs.Length.{windowLength}
-use Rattle.window.specs.Dictionary.{shortlex}
 use Rattle.window.specs.Checks.{_then_, rankRefusal, wordRefusal, windowRefusal}
 use Rattle.window.specs.Calls.{answerOf, verdictOf, lengthOfWindow, lengthOfWord, equalWords, samePresets, presetsEqual, handsBack, Better}
 

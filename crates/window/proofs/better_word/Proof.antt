@@ -1,6 +1,6 @@
 -- `better_word` hands back the lent slice that comes first by length and dictionary, or an empty part of the first.
 -- Assumes nothing.
-use mathlib.Core.Path.{_≡_, sym, _∙_}
+use mathlib.Core.Path.{sym, _∙_}
 use Rattle.window.proofs.VerdictLaws.{words-accepted, handsBack-refused, handsBack-words, better-part, better-second, better-first}
 use borrow.Author.Needs.{needs}
 use Rattle.window.proofs.better_word.Statement.{statement}

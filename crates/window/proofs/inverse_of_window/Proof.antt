@@ -1,6 +1,6 @@
 -- `inverse_of_window` refuses in document 01's order, or writes the inverse to the front of its output.
 -- Assumes nothing.
-use mathlib.Core.Path.{_≡_, sym, _∙_}
+use mathlib.Core.Path.{sym}
 use lib.Seq.{length-take-le}
 use Rattle.window.proofs.Inverses.{length-inverse}
 use Rattle.window.proofs.CallLaws.{window-passed, writes-refused, writes-short, writes-done, inverseOfWindow-is}

@@ -1,6 +1,6 @@
 -- `inverse_of_word` refuses in document 01's order, or writes the normal form of the inverse of what the word shows.
 -- Assumes nothing.
-use mathlib.Core.Path.{_≡_, sym, _∙_}
+use mathlib.Core.Path.{sym, _∙_}
 use Rattle.window.proofs.Sizes.{then-zero}
 use Rattle.window.proofs.CallLaws.{writes-refused}
 use Rattle.window.proofs.ShownLaws.{room, length-front-part}

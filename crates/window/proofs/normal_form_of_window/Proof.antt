@@ -1,6 +1,6 @@
 -- `normal_form_of_window` refuses in document 01's order, or writes the normal form of a copy of the window.
 -- Assumes nothing.
-use mathlib.Core.Path.{_≡_, sym, ap, _∙_}
+use mathlib.Core.Path.{sym, ap, _∙_}
 use lib.ListN.{length}
 use Rattle.window.proofs.Sizes.{then-zero}
 use Rattle.window.proofs.CallLaws.{writes-refused}

@@ -1,6 +1,6 @@
 -- `product_of_windows` refuses in document 01's order, or writes the product to the front of its output.
 -- Assumes nothing.
-use mathlib.Core.Path.{_≡_, sym, _∙_}
+use mathlib.Core.Path.{sym, _∙_}
 use lib.Seq.{length-take-le}
 use Rattle.window.proofs.Products.{length-product}
 use Rattle.window.proofs.ProductCode.{same-length-of-refusals}

@@ -1,7 +1,6 @@
 -- `product_of_words` refuses in document 01's order, or writes the normal form of the product of what the words show.
 -- Assumes nothing.
-use mathlib.Core.Path.{_≡_, sym, _∙_}
-use Rattle.window.proofs.Sizes.{then-zero}
+use mathlib.Core.Path.{sym}
 use Rattle.window.proofs.CallLaws.{writes-refused}
 use Rattle.window.proofs.VerdictLaws.{words-accepted}
 use Rattle.window.proofs.ShownLaws.{room, length-front-part}

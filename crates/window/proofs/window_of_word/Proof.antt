@@ -1,6 +1,6 @@
 -- `window_of_word` refuses in document 01's order, or shows the word in the front of its output.
 -- Assumes nothing.
-use mathlib.Core.Path.{_≡_, sym, ap, _∙_}
+use mathlib.Core.Path.{sym, _∙_}
 use lib.Seq.{length-take-le}
 use Rattle.window.proofs.CallLaws.{preset-accepted, writes-refused, writes-short, writes-done, windowOfWord-is}
 use Rattle.window.proofs.Basics.{length-window}

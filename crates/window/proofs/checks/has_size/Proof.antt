@@ -5,7 +5,7 @@ use Prim.Native.Nat.{_≤_, _-_}
 use denote.Ref.{now}
 use lib.IntN.{natAbs, pos}
 use lib.ListN.{getD, length, drop, drop-of-length-le}
-use Rattle.window.proofs.Bytes.{read-back}
+use Rattle.window.proofs.Bytes.{element-back}
 use Rattle.window.proofs.CheckLaws.{hasSize-here, hasSize-step}
 use Rattle.window.specs.Checks.{hasSize}
 use borrow.Author.Needs.{needs}
@@ -29,7 +29,7 @@ size-requires : tie.Need-size-requires Inv-loop μ-loop
 size-requires c κs = search needs
 
 returns : tie.Need-returns Inv-loop μ-loop
-returns c = sym (c .before .before .before .before .loop .inv .1 ∙ hasSize-here _ _ _ (c .before .before .before .loop-test .taken) (sym (c .before .size .ensures ∙ read-back natAbs (getD (now (c .before .before .before .before .before .args .w)) (c .before .before .before .before .loop .i) (pos 0)) (c .before .before .size-arg .given)) ∙ c .if1 .taken))
+returns c = sym (c .before .before .before .before .loop .inv .1 ∙ hasSize-here _ _ _ (c .before .before .before .loop-test .taken) (sym (c .before .size .ensures ∙ ap natAbs (element-back (getD (now (c .before .before .before .before .before .args .w)) (c .before .before .before .before .loop .i) (pos 0)) (c .before .before .size-arg .given))) ∙ c .if1 .taken))
 
 add-i : tie.Need-add-i Inv-loop μ-loop
 add-i c = search needs
@@ -38,7 +38,7 @@ loop-less : tie.Need-loop-less Inv-loop μ-loop
 loop-less c = search needs
 
 loop-again : tie.Need-loop-again Inv-loop μ-loop
-loop-again c = (omega arith, c .before .before .before .before .loop .inv .1 ∙ hasSize-step _ _ _ (c .before .before .before .loop-test .taken) (λ e. c .if1 .left (c .before .size .ensures ∙ read-back natAbs (getD (now (c .before .before .before .before .before .args .w)) (c .before .before .before .before .loop .i) (pos 0)) (c .before .before .size-arg .given) ∙ e)))
+loop-again c = (omega arith, c .before .before .before .before .loop .inv .1 ∙ hasSize-step _ _ _ (c .before .before .before .loop-test .taken) (λ e. c .if1 .left (c .before .size .ensures ∙ ap natAbs (element-back (getD (now (c .before .before .before .before .before .args .w)) (c .before .before .before .before .loop .i) (pos 0)) (c .before .before .size-arg .given)) ∙ e)))
 
 returns-2 : tie.Need-returns-2 Inv-loop μ-loop
 unfolding hasSize

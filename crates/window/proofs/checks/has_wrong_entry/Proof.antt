@@ -3,7 +3,7 @@
 use mathlib.Core.Path.{_≡_, refl, sym, ap, _∙_}
 use Prim.Native.Nat.{_+_, _≤_, _-_}
 use denote.Ref.{now}
-use lib.IntN.{ℤ, pos}
+use lib.IntN.{pos}
 use lib.ListN.{length, getD, drop, drop-of-length-le}
 use Rattle.window.proofs.CheckLaws.{wrongAt-read, wrongEntry-here, wrongEntry-step}
 use Rattle.window.specs.Kinds.{kindOf}

@@ -1,9 +1,9 @@
 -- `checks::negative_in_a`, by cases on the kind.
 -- Assumes nothing.
-use mathlib.Core.Path.{_≡_, refl, _∙_}
+use mathlib.Core.Path.{_≡_, refl, _∙_, ap}
 use Rattle.window.proofs.CheckLaws.{kindOf-one, by-kind-else}
-use Rattle.window.proofs.Bytes.{read-back}
-use mathlib.Core.Bool.{Bool, false}
+use Rattle.window.proofs.Bytes.{element-back}
+use mathlib.Core.Bool.{false}
 use Rattle.window.specs.Kinds.{Kind}
 use Rattle.window.specs.Length.{negative}
 use Rattle.window.specs.Checks.{negativeInA}
@@ -16,7 +16,7 @@ is-negative-requires c κs = search needs
 
 returns : tie.Need-returns
 unfolding negativeInA
-returns c = rw (kindOf-one _ (c .before .if1 .taken)) (c .is-negative .ensures ∙ read-back negative (c .before .before .args .e) (c .before .before .fits .e .sfits))
+returns c = rw (kindOf-one _ (c .before .if1 .taken)) (c .is-negative .ensures ∙ ap negative (element-back (c .before .before .args .e) (c .before .before .fits .e .sfits)))
 
 returns-2 : tie.Need-returns-2
 unfolding negativeInA

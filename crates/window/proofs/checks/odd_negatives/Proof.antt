@@ -6,9 +6,9 @@ use mathlib.Core.Logic.{⊎-elim}
 use denote.Ref.{now}
 use lib.IntN.{pos}
 use lib.ListN.{getD, length, drop, drop-of-length-le}
-use Rattle.window.proofs.Bytes.{read-back}
+use Rattle.window.proofs.Bytes.{element-back}
 use Rattle.window.proofs.CheckLaws.{flipped, flipped-yes, flipped-no, flipped-false}
-use mathlib.Core.Bool.{Bool, false}
+use mathlib.Core.Bool.{false}
 use Rattle.window.specs.Length.{negative}
 use borrow.Author.Needs.{needs}
 use native.Mathlib.Omega.{arith}
@@ -23,7 +23,7 @@ abbrev μ-loop : tie.MeasureT-loop
 
 -- the sign of the entry at `i`, as the call tells it
 sign : (c : tie.Joined1 Inv-loop μ-loop) → negative (getD (now (c .before .before .before .before .before .args .w)) (c .before .before .before .before .loop .i) (pos 0)) ≡ c .before .is-negative .result
-sign c = sym (c .before .is-negative .ensures ∙ read-back negative (getD (now (c .before .before .before .before .before .args .w)) (c .before .before .before .before .loop .i) (pos 0)) (c .before .before .is-negative-arg .given))
+sign c = sym (c .before .is-negative .ensures ∙ ap negative (element-back (getD (now (c .before .before .before .before .before .args .w)) (c .before .before .before .before .loop .i) (pos 0)) (c .before .before .is-negative-arg .given)))
 
 loop-holds : tie.Need-loop-holds Inv-loop μ-loop
 loop-holds c = (omega arith, refl)

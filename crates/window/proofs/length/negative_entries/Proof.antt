@@ -1,6 +1,6 @@
 -- `length::negative_entries` counts the negative entries of the part before `i`; the rest is counted from `i` on.
 -- Assumes nothing.
-use mathlib.Core.Path.{_≡_, _∙_}
+use mathlib.Core.Path.{_≡_, _∙_, ap}
 use mathlib.Core.Logic.{⊎-elim}
 use Prim.Native.Nat.{_+_, _≤_, _-_}
 use native.Mathlib.Omega.{arith}
@@ -8,7 +8,7 @@ use lib.IntN.{pos}
 use lib.ListN.{length, getD, drop}
 use borrow.Author.Needs.{needs}
 use Rattle.window.specs.Length.{negative, negatives}
-use Rattle.window.proofs.Bytes.{read-back}
+use Rattle.window.proofs.Bytes.{element-back}
 use Rattle.window.proofs.LengthCode.{negatives-step, negatives-end}
 use Rattle.window.proofs.length.negative_entries.Statement.{statement}
 use Rattle.window.proofs.length.negative_entries.Tie as tie
@@ -42,7 +42,7 @@ loop-again c =
     let turn = c .before .before .before in
     let w = turn .before .before .args .w .now in
     let i = turn .before .loop .i in
-    let sign = c .before .is-negative .ensures ∙ read-back negative (getD w i (pos 0)) (c .before .before .is-negative-arg .given) in
+    let sign = c .before .is-negative .ensures ∙ ap negative (element-back (getD w i (pos 0)) (c .before .before .is-negative-arg .given)) in
     let step = negatives-step w i _ (turn .loop-test .taken) sign in
     ⊎-elim (λ x. omega (arith, rw (x .0 .taken) at step)) (λ x. omega (arith, rw (x .0 .left) at step)) (c .if1 .came)
 

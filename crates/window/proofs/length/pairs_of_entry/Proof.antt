@@ -1,7 +1,7 @@
 -- `length::pairs_of_entry` adds the weight of one entry before another, which is at most 2: what is left to add is the part from `i` on. At the
 -- end the weights are both sorts of pairs, since no other entry has the same size.
 -- Assumes nothing.
-use mathlib.Core.Path.{_≡_, _∙_}
+use mathlib.Core.Path.{_≡_, _∙_, ap}
 use mathlib.Core.Logic.{⊎-elim}
 use Prim.Native.Nat.{_+_, _*_, _≤_, _-_}
 use native.Mathlib.Omega.{arith}
@@ -10,9 +10,9 @@ use lib.ListN.{length, getD, drop}
 use mir.Syntax.{w8}
 use mir.Val.{toZ, ofZ}
 use borrow.Author.Needs.{needs}
-use Rattle.window.proofs.Bytes.{read-back}
-use Rattle.window.proofs.LengthCode.{weights-smaller, weights-larger, weights-end, laterThan-add}
-use Rattle.window.proofs.PairWeights.{weights}
+use Rattle.window.proofs.Bytes.{element-back}
+use Rattle.window.proofs.LengthCode.{weights-smaller, weights-larger, weights-end}
+use Rattle.window.proofs.PairWeights.{weights, laterThan-add}
 use Rattle.window.proofs.length.pairs_of_entry.Statement.{statement}
 use Rattle.window.proofs.length.pairs_of_entry.Tie as tie
 
@@ -56,7 +56,7 @@ loop-again c =
     let x = toZ w8 (ofZ w8 (known .before .before .args .e)) in
     let w = known .before .before .args .rest .now in
     let i = turn .before .loop .i in
-    let other = c .before .size2 .ensures ∙ read-back natAbs (getD w i (pos 0)) (c .before .before .size-arg .given) in
+    let other = c .before .size2 .ensures ∙ ap natAbs (element-back (getD w i (pos 0)) (c .before .before .size-arg .given)) in
     ⊎-elim
     (λ y. omega (arith, weights-smaller x w i (turn .loop-test .taken) (omega arith)))
     (⊎-elim
@@ -69,7 +69,7 @@ returns c =
     let start = c .before .before .before .before in
     let x = toZ w8 (ofZ w8 (start .args .e)) in
     let w = start .args .rest .now in
-    let whole = read-back (λ (z : ℤ). weights z w) (start .args .e) (start .fits .e .sfits) in
+    let whole = ap (λ (z : ℤ). weights z w) (element-back (start .args .e) (start .fits .e .sfits)) in
     omega (arith, whole, laterThan-add (start .args .e) w (start .pre .0) (start .pre .1), weights-end x w (c .before .loop .i) (c .loop-test .left))
 
 pub pairs-of-entry-spec : {M : Type 1} → statement M

@@ -6,7 +6,8 @@ use native.Mathlib.Omega.{arith}
 use lib.IntN.{ℤ, pos}
 use lib.ListN.{length, getD}
 use borrow.Author.Needs.{needs}
-use Rattle.window.proofs.NormalCode.{element-back, gap, gap-back}
+use Rattle.window.proofs.NormalCode.{gap, gap-back}
+use Rattle.window.proofs.Bytes.{element-back}
 use Rattle.window.proofs.normal.take_out.Statement.{statement}
 use Rattle.window.proofs.normal.take_out.Tie as tie
 

@@ -1,20 +1,20 @@
 -- `product::image` is u(e): the entry at e's size, negated if e is negative.
 -- Assumes nothing.
-use mathlib.Core.Path.{_≡_, sym, _∙_}
+use mathlib.Core.Path.{_≡_, sym, _∙_, ap}
 use native.Mathlib.Omega.{arith}
 use lib.IntN.{natAbs}
 use borrow.Author.Needs.{needs}
 use Rattle.window.specs.Length.{negative}
-use Rattle.window.proofs.Bytes.{read-back}
+use Rattle.window.proofs.Bytes.{element-back}
 use Rattle.window.proofs.ProductCode.{image-small, image-negative, image-positive}
 use Rattle.window.proofs.product.image.Statement.{statement}
 use Rattle.window.proofs.product.image.Tie as tie
 
 size-is : (c : tie.After-size) → c .size .result ≡ natAbs (c .before .args .e)
-size-is c = c .size .ensures ∙ read-back natAbs (c .before .args .e) (c .before .fits .e .sfits)
+size-is c = c .size .ensures ∙ ap natAbs (element-back (c .before .args .e) (c .before .fits .e .sfits))
 
 sign-is : (c : tie.After-is-negative) → c .is-negative .result ≡ negative (c .before .before .before .args .e)
-sign-is c = c .is-negative .ensures ∙ read-back negative (c .before .before .before .args .e) (c .before .before .before .fits .e .sfits)
+sign-is c = c .is-negative .ensures ∙ ap negative (element-back (c .before .before .before .args .e) (c .before .before .before .fits .e .sfits))
 
 size-requires : tie.Need-size-requires
 size-requires c κs = search needs

@@ -1,13 +1,13 @@
 -- `product::inverse_into` stores the place of each entry at its size: what is left to store are the entries from `i` on.
 -- Assumes nothing.
-use mathlib.Core.Path.{_≡_, sym, _∙_}
+use mathlib.Core.Path.{_≡_, sym, _∙_, ap}
 use Prim.Native.Nat.{_+_, _≤_, _-_}
 use native.Mathlib.Omega.{arith}
 use lib.IntN.{pos, natAbs}
 use lib.ListN.{length, getD, drop, length-set}
 use borrow.Author.Needs.{needs}
 use Rattle.window.specs.Length.{negative}
-use Rattle.window.proofs.Bytes.{read-back}
+use Rattle.window.proofs.Bytes.{element-back}
 use Rattle.window.proofs.LengthCode.{length-le-of-refusal}
 use Rattle.window.proofs.Scatter.{scatter}
 use Rattle.window.proofs.ProductCode.{entry-bounds, scatter-step, scatter-end, scatter-is-inverse}
@@ -24,7 +24,7 @@ size-is : (c : tie.After-size Inv-loop μ-loop)
     → c .size .result ≡ natAbs (getD (c .before .before .before .before .args .w .now) (c .before .before .before .loop .i) (pos 0))
 size-is c =
     c .size .ensures
-    ∙ read-back natAbs (getD (c .before .before .before .before .args .w .now) (c .before .before .before .loop .i) (pos 0)) (c .before .e .given)
+    ∙ ap natAbs (element-back (getD (c .before .before .before .before .args .w .now) (c .before .before .before .loop .i) (pos 0)) (c .before .e .given))
 
 bounds : (c : tie.In-loop Inv-loop μ-loop)
     → (1 ≤ natAbs (getD (c .before .before .args .w .now) (c .before .loop .i) (pos 0)))
@@ -72,7 +72,7 @@ loop-again c =
     let turn = c .before .before .before .before in
     let w = turn .before .before .args .w .now in
     let i = turn .before .loop .i in
-    let sign = c .before .is-negative .ensures ∙ read-back negative (getD w i (pos 0)) (c .before .before .before .e .given) in (
+    let sign = c .before .is-negative .ensures ∙ ap negative (element-back (getD w i (pos 0)) (c .before .before .before .e .given)) in (
       omega arith,
       simp length-set (turn .before .loop .inv .1),
       turn .before .loop .inv .2

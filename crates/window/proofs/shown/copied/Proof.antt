@@ -1,8 +1,8 @@
 -- `shown::copied` copies entry by entry: the entries before `i` stand at the front.
 -- Assumes nothing.
-use mathlib.Core.Path.{_≡_, refl, sym, ap, _∙_}
+use mathlib.Core.Path.{_≡_}
 use Prim.Native.Nat.{_≤_, _-_}
-use lib.ListN.{length, take, length-set}
+use lib.ListN.{length, take}
 use Rattle.window.proofs.ShownLaws.{copy-next, copy-end}
 use borrow.Author.Needs.{needs}
 use Rattle.window.proofs.shown.copied.Statement.{statement}

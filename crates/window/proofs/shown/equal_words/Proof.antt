@@ -1,6 +1,6 @@
 -- `shown::equal_words` compares the fronts of two work windows.
 -- Assumes nothing.
-use mathlib.Core.Path.{_≡_, sym, _∙_}
+use mathlib.Core.Path.{sym, _∙_}
 use Rattle.window.proofs.ShownLaws.{room, length-front-part, fronts-same}
 use borrow.Author.Needs.{needs}
 use Rattle.window.proofs.shown.equal_words.Statement.{statement}

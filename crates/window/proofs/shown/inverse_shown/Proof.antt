@@ -1,6 +1,6 @@
 -- `shown::inverse_shown` inverts what the word shows, from one work window to another.
 -- Assumes nothing.
-use mathlib.Core.Path.{_≡_, sym, _∙_}
+use mathlib.Core.Path.{sym, _∙_}
 use Rattle.window.proofs.CallLaws.{rank-accepted}
 use Rattle.window.proofs.ShownLaws.{room, length-front-part, front-refusal, front-inverse}
 use borrow.Author.Needs.{needs}

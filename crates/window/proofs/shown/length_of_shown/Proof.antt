@@ -1,6 +1,6 @@
 -- `shown::length_of_shown` measures the front of the work window.
 -- Assumes nothing.
-use mathlib.Core.Path.{_≡_, sym, _∙_}
+use mathlib.Core.Path.{sym, _∙_}
 use Rattle.window.proofs.CallLaws.{rank-accepted}
 use Rattle.window.proofs.ShownLaws.{room, length-front-part, front-refusal, front-length}
 use borrow.Author.Needs.{needs}

@@ -1,6 +1,6 @@
 -- `shown::product_shown` applies the second word to what the first shows.
 -- Assumes nothing.
-use mathlib.Core.Path.{_≡_, sym, _∙_}
+use mathlib.Core.Path.{sym}
 use Rattle.window.proofs.CallLaws.{rank-accepted, letters-accepted}
 use Rattle.window.proofs.ShownLaws.{room, length-front-part, front-refusal, front-apply}
 use borrow.Author.Needs.{needs}

@@ -1,6 +1,6 @@
 -- `shown::shown` lends the front of a blank window to `show`.
 -- Assumes nothing.
-use mathlib.Core.Path.{_≡_, sym, _∙_}
+use mathlib.Core.Path.{sym, _∙_}
 use Rattle.window.proofs.CallLaws.{rank-accepted, letters-accepted}
 use Rattle.window.proofs.ShownLaws.{room, length-front-part, front-show}
 use borrow.Author.Needs.{needs}
