@@ -11,7 +11,7 @@ use native.Mathlib.Omega.{arith}
 use lib.ListN.{length, getD, take, drop, length-append, length-drop, take-append-drop, List·getD-append}
 use lib.Seq.{getD-append-add, getD-take, getD-drop, getD-at, take-at, drop-at, take-append-le, drop-append-le, length-take-le}
 use Rattle.book.specs.Books.{twoAt, two, count, trailer, offset, kindAt, rankAt, letterCountAt, lettersAt, endAt, recordOf, appended}
-use Rattle.book.proofs.BookLaws.{Accepted, trailer-le}
+use Rattle.book.proofs.BookLaws.{Accepted, trailer-le, trailer-read}
 use Rattle.book.proofs.WritingLaws.{length-two, length-recordOf, length-appended}
 
 -- ---- two-byte numbers in a list
@@ -67,10 +67,6 @@ length-records b = length-take-le (trailer b) b (trailer-le b)
 length-offsets : (b : List ℕ) → Accepted b → length (offsets b) ≡ 2 * count b
 length-offsets b a = let h = trailer-count b a in length-take-le (2 * count b) (drop (trailer b) b) (rw length-drop (omega arith))
 
-trailer-of : (m : List ℕ) (c : ℕ) → count m ≡ c → trailer m ≡ length m - (2 * c + 2)
-unfolding trailer
-trailer-of m c e = rw e
-
 -- the new book, cut before its count, before its last offset, before its offsets, before its record
 module _ (b : List ℕ) (k n : ℕ) (u : List ℕ) where
   before-count : appended b k n u ≡ (records b ++ (recordOf k n u ++ (offsets b ++ two (trailer b)))) ++ (two (count b + 1) ++ [])
@@ -108,7 +104,7 @@ module _ (b : List ℕ) (k n : ℕ) (u : List ℕ) (a : Accepted b) (small : len
   trailer-appended =
       let l = length-appended b k n u a in
       let h = trailer-count b a in
-      let r = trailer-of (appended b k n u) (count b + 1) count-appended in
+      let r = trailer-read (appended b k n u) (count b + 1) (sym count-appended) in
       omega arith
 
   pub offset-appended-last : offset (appended b k n u) (count b) ≡ trailer b

@@ -1,12 +1,11 @@
 -- The checks of a book, one record at a time and one case at a time, in the form in which the code meets them, and what an accepted book is.
 --
--- Sections: refusals; checks 1 to 3; the walk over the records; accepted books.
+-- Sections: checks 1 to 3; the walk over the records; accepted books.
 -- Assumes nothing.
-use mathlib.Core.Path.{_≡_, refl, sym, _∙_}
+use mathlib.Core.Path.{_≡_, sym, _∙_}
 use mathlib.Core.Bool.{Bool, true, false, not, _||_}
 use mathlib.Core.List.{List}
 use Prim.Native.Nat.{ℕ, zero, suc, _+_, _-_, _*_, _≤_, _<_}
-use native.Mathlib.Decide.{ℕ-discrete}
 use native.Mathlib.Nat.{add-zero, add-suc, suc-add, zero-add}
 use native.Mathlib.Numerals.{add-one}
 use native.Mathlib.Omega.{arith}
@@ -15,26 +14,8 @@ use lib.ListN.{length}
 use borrow.Author.Tests.{eq-eqb, ne-eqb, lt-ltb, le-ltb, eqb-true, ltb-false, not-false}
 use Rattle.window.specs.Checks.{check, _then_}
 use Rattle.window.proofs.Basics.{or-false-left, or-false-right}
+use Rattle.window.proofs.Refusals.{then-zero, check-zero}
 use Rattle.book.specs.Books.{twoAt, count, trailer, offset, endAt, wrongSize, wrongCount, misplacedFrom, misplaced, bookRefusal}
-
--- ---- refusals
-
-pub then-left : (r s : ℕ) → (r then s) ≡ 0 → r ≡ 0
-then-left r s e = elim (ℕ-discrete r 0) [ yes q ↦ q | no f ↦ rw (ne-eqb r 0 f) at e ]
-
-pub then-right : (r s : ℕ) → (r then s) ≡ 0 → s ≡ 0
-then-right r s e = rw (eq-eqb r 0 (then-left r s e)) at e
-
--- none, and then the other; some, and then whatever
-pub then-none : (r s : ℕ) → r ≡ 0 → (r then s) ≡ s
-then-none r s e = rw (eq-eqb r 0 e)
-
-pub then-some : (r s : ℕ) → (r ≡ 0 → ⊥) → (r then s) ≡ r
-then-some r s f = rw (ne-eqb r 0 f)
-
-pub check-none : (r : ℕ) (t : Bool) → 0 < r → check r t ≡ 0 → t ≡ false
-check-none r true h e = absurd (omega arith)
-check-none r false h e = refl
 
 -- ---- checks 1 to 3, in the order of the code: c is the count as it was read, t the answer of the walk
 
@@ -121,13 +102,14 @@ pub record Accepted (b : List ℕ) : Type 0 where
 pub accepted : (b : List ℕ) → bookRefusal b ≡ 0 → Accepted b
 unfolding bookRefusal wrongSize wrongCount
 accepted b e =
-    let after : (check 2 (wrongCount b) then check 3 (misplaced b)) ≡ 0 = then-right (check 1 (wrongSize b)) _ e in
-    let size : wrongSize b ≡ false = check-none 1 (wrongSize b) (omega arith) (then-left _ (check 2 (wrongCount b) then check 3 (misplaced b)) e) in
+    let a = then-zero (check 1 (wrongSize b)) (check 2 (wrongCount b) then check 3 (misplaced b)) e in
+    let c = then-zero (check 2 (wrongCount b)) (check 3 (misplaced b)) (a .1) in
+    let size : wrongSize b ≡ false = check-zero 0 (wrongSize b) (a .0) in
     record {
       least = ltb-false (length b) 2 (or-false-left (ltb (length b) 2) (ltb 65535 (length b)) size);
       most = ltb-false 65535 (length b) (or-false-right (ltb (length b) 2) (ltb 65535 (length b)) size);
-      fits = ltb-false (length b) (2 * count b + 2) (check-none 2 (wrongCount b) (omega arith) (then-left _ (check 3 (misplaced b)) after));
-      placed = check-none 3 (misplaced b) (omega arith) (then-right (check 2 (wrongCount b)) _ after);
+      fits = ltb-false (length b) (2 * count b + 2) (check-zero 1 (wrongCount b) (c .0));
+      placed = check-zero 2 (misplaced b) (c .1);
     }
 
 -- the same, from what the code has of it

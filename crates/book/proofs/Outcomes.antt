@@ -11,7 +11,8 @@ use lib.ListN.{length}
 use Rattle.window.specs.Kinds.{pick, kindOf}
 use Rattle.window.specs.Checks.{check, _then_, wrongKind, wrongRank, tooLong, wrongLetter, rankRefusal, wordRefusal}
 use Rattle.book.specs.Books.{wrongSize, wrongCount, misplaced, noSuchPreset, tooLarge, offset, kindAt, rankAt, lettersAt, bookRefusal, recordRefusal, presetRefusal, appended, appendRefusal}
-use Rattle.book.proofs.BookLaws.{then-none, then-some}
+use Rattle.window.proofs.Basics.{by-pick}
+use Rattle.window.proofs.Refusals.{then-none, then-some, then-assoc}
 
 -- the number of the first test that holds, 0 where none does
 abbrev pub firstOf : List (ℕ × Bool) → ℕ
@@ -21,13 +22,6 @@ firstOf (f ∷ fs) = pick (f .1) (f .0) (firstOf fs)
 check-then : (m : ℕ) (t : Bool) (r : ℕ) → 0 < m → (check m t then r) ≡ pick t m r
 check-then m true r h = then-some m r (omega arith)
 check-then m false r h = then-none 0 r refl
-
-then-assoc : (r s w : ℕ) → ((r then s) then w) ≡ (r then (s then w))
-then-assoc r s w =
-    elim (ℕ-discrete r 0) [
-      | yes z ↦ rw (then-none r s z, then-none r (s then w) z)
-      | no f ↦ rw (then-some r s f, then-some r (s then w) f, then-some r w f)
-    ]
 
 -- ---- a book
 
@@ -61,8 +55,8 @@ rank-word k n u r =
     ∙ check-then 7 (tooLong u) _ (omega arith)
     ∙ ap (pick (tooLong u) 7) (check-then 8 (wrongLetter n u) r (omega arith))))
 
-then-zero : (s : ℕ) → (s then 0) ≡ s
-then-zero s = elim (ℕ-discrete s 0) [ yes z ↦ then-none s 0 z ∙ sym z | no f ↦ then-some s 0 f ]
+none-last : (s : ℕ) → (s then 0) ≡ s
+none-last s = elim (ℕ-discrete s 0) [ yes z ↦ then-none s 0 z ∙ sym z | no f ↦ then-some s 0 f ]
 
 -- ---- a preset by its number, and appending
 
@@ -86,7 +80,7 @@ presetRefusal-firstOf b i =
     ∙ ap (λ r. pick (wrongSize b) 1 (pick (wrongCount b) 2 (pick (misplaced b) 3 r)))
     (check-then 4 (noSuchPreset b i) _ (omega arith)
     ∙ ap (pick (noSuchPreset b i) 4)
-    (ap (λ s. rankRefusal (kindAt b o) (rankAt b o) then s) (sym (then-zero w)) ∙ rank-word (kindAt b o) (rankAt b o) (lettersAt b o) 0))
+    (ap (λ s. rankRefusal (kindAt b o) (rankAt b o) then s) (sym (none-last w)) ∙ rank-word (kindAt b o) (rankAt b o) (lettersAt b o) 0))
 
 pub appendRefusal-firstOf : (b : List ℕ) (k n : ℕ) (u : List ℕ)
     → appendRefusal b k n u
@@ -109,8 +103,7 @@ appendRefusal-firstOf b k n u =
 -- ---- their ranges
 
 pick-le : (t : Bool) (m r x : ℕ) → m ≤ x → r ≤ x → pick t m r ≤ x
-pick-le true m r x h g = h
-pick-le false m r x h g = g
+pick-le t m r x = by-pick (λ s. s ≤ x) t m r
 
 pub bookRefusal-le : (b : List ℕ) → bookRefusal b ≤ 3
 bookRefusal-le b =

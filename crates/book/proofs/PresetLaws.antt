@@ -15,7 +15,8 @@ use Rattle.book.specs.declared.Opened.the-variants as opened
 use Rattle.book.specs.declared.Preset.the-variants as preset
 use Rattle.book.specs.Books.{twoAt, count, trailer, offset, kindAt, rankAt, letterCountAt, lettersAt, endAt, wrongSize, wrongCount, noSuchPreset, bookRefusal, recordRefusal, presetRefusal, openedRefusal}
 use Rattle.book.specs.Calls.{openedOf, presetOf, checkedBook, presetAt, checkedRecord, checkedPreset, openedPreset, lettersStart, lettersOf}
-use Rattle.book.proofs.BookLaws.{Accepted, accepted, check-none, count-read, trailer-read, offset-read, then-left, then-right, then-some, trailer-le, endAt-offset-le}
+use Rattle.book.proofs.BookLaws.{Accepted, accepted, count-read, trailer-read, offset-read, trailer-le, endAt-offset-le}
+use Rattle.window.proofs.Refusals.{then-zero, check-zero, then-some}
 
 -- ---- answers
 
@@ -167,13 +168,14 @@ refused b i r e z =
 -- a preset that is not refused is one of an accepted book
 pub preset-accepted : (b : List ℕ) (i : ℕ) → presetRefusal b i ≡ 0 → Accepted b
 unfolding presetRefusal
-preset-accepted b i z = accepted b (then-left (bookRefusal b) (check 4 (noSuchPreset b i) then recordRefusal b (offset b i)) z)
+preset-accepted b i z = accepted b (then-zero (bookRefusal b) (check 4 (noSuchPreset b i) then recordRefusal b (offset b i)) z .0)
 
 pub preset-below : (b : List ℕ) (i : ℕ) → presetRefusal b i ≡ 0 → i < count b
 unfolding presetRefusal noSuchPreset
 preset-below b i z =
-    let four = check 4 (noSuchPreset b i) in
-    leb-false (count b) i (check-none 4 (noSuchPreset b i) (omega arith) (then-left four (recordRefusal b (offset b i)) (then-right (bookRefusal b) (four then recordRefusal b (offset b i)) z)))
+    let a = then-zero (bookRefusal b) (check 4 (noSuchPreset b i) then recordRefusal b (offset b i)) z in
+    let c = then-zero (check 4 (noSuchPreset b i)) (recordRefusal b (offset b i)) (a .1) in
+    leb-false (count b) i (check-zero 3 (noSuchPreset b i) (c .0))
 
 pub found-inside : (b : List ℕ) (i s l : ℕ) → Found b i s l → s + l ≤ length b
 found-inside b i s l f =

@@ -1,25 +1,18 @@
 -- Runs of stores, as the code that writes a book makes them: one after the other, from the front, byte by byte.
 -- Assumes nothing.
-use mathlib.Core.Path.{_≡_, _∙_}
-use mathlib.Core.List.{List, [], _∷_, _++_}
-use Prim.Native.Nat.{ℕ, suc, _+_, _/_, _%_, _≤_, _<_}
-use native.Mathlib.Nat.{zero-add, add-suc, suc-add, add-zero}
+use mathlib.Core.Path.{_≡_}
+use mathlib.Core.List.{List, _++_}
+use Prim.Native.Nat.{ℕ, _+_, _/_, _%_, _≤_, _<_}
+use native.Mathlib.Nat.{add-suc, add-zero}
 use native.Mathlib.Numerals.{add-one, add-two, add-four}
-use native.Mathlib.Omega.{arith}
 use lib.ListN.{length, getD, set, drop, drop-of-length-le}
-use lib.Seq.{sets, sets-eq, drop-cons}
+use lib.Seq.{sets, drop-cons}
 use Rattle.book.specs.Books.{two, recordOf}
-
-pub sets-append : (l : List ℕ) (i : ℕ) (u v : List ℕ) → sets (sets l i u) (i + length u) v ≡ sets l i (u ++ v)
-sets-append l i [] v = rw add-zero
-sets-append l i (a ∷ u) v = rw (add-suc, ← suc-add) (sets-append (set l i a) (suc i) u v)
+use Rattle.window.proofs.Stores.{sets-append}
 
 -- the next run, at the place where the last one ended
 pub sets-next : (l : List ℕ) (i j : ℕ) (u v : List ℕ) → j ≡ i + length u → sets (sets l i u) j v ≡ sets l i (u ++ v)
 sets-next l i j u v e = rw e (sets-append l i u v)
-
-pub sets-front : (l vs : List ℕ) → length vs ≤ length l → sets l 0 vs ≡ vs ++ drop (length vs) l
-sets-front l vs h = sets-eq vs l 0 (omega arith) ∙ rw zero-add
 
 -- ---- copying a slice
 

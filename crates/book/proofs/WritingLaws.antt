@@ -14,8 +14,10 @@ use Rattle.window.proofs.CallLaws.{writes-refused, writes-short, writes-done}
 use Rattle.window.specs.declared.Answer.the-variants as answer
 use Rattle.book.specs.Books.{twoAt, two, count, trailer, tooLarge, bookRefusal, recordOf, appended, appendRefusal}
 use Rattle.book.specs.Calls.{appending}
-use Rattle.book.proofs.Stores.{sets-next, sets-front}
-use Rattle.book.proofs.BookLaws.{Accepted, accepted, accepted-read, check-none, count-read, then-left, then-right, then-none}
+use Rattle.book.proofs.Stores.{sets-next}
+use Rattle.book.proofs.BookLaws.{Accepted, accepted, accepted-read, count-read, trailer-read}
+use Rattle.window.proofs.Stores.{sets-front}
+use Rattle.window.proofs.Refusals.{then-zero, check-zero, then-none}
 
 -- ---- the appended book
 
@@ -57,10 +59,6 @@ module _ (b : List ℕ) (k n : ℕ) (u : List ℕ) (c t at : ℕ) (a : Accepted 
       )
       (ap (sets out 0) whole)
 
-trailer-place : (b : List ℕ) (c : ℕ) → c ≡ count b → length b - 2 - 2 * c ≡ trailer b
-unfolding trailer
-trailer-place b c e = omega arith
-
 -- the same, with the places and the parts as the code has them
 pub appended-written : (b out : List ℕ) (k n : ℕ) (u : List ℕ) (c : ℕ) (o₁ o₂ o₃ o₄ o₅ : List ℕ) → bookRefusal b ≡ 0 → c ≡ twoAt b (length b - 2)
     → o₁ ≡ sets out 0 (take (length b - 2 - 2 * c - 0) (drop 0 b))
@@ -76,7 +74,7 @@ appended-written b out k n u c o₁ o₂ o₃ o₄ o₅ z q e₁ e₂ e₃ e₄ 
     let t = length b - 2 - 2 * c in
     let first : t - 0 ≡ t = omega arith in
     let part : length b - 2 - t ≡ 2 * c = omega arith in
-    let place : t ≡ trailer b = trailer-place b c e in
+    let place : t ≡ trailer b = omega (arith, trailer-read b c e) in
     e₅ ∙ rw (e₄, e₃, e₂, e₁, first, part) (sets-appended b k n u c t (t + 4 + length u) a e place refl out)
 
 -- ---- appending
@@ -107,26 +105,28 @@ module _ (b : List ℕ) (k n : ℕ) (u : List ℕ) (r : ℕ) (e : r ≡ bookRefu
       appendRefusal-none x h =
           rw (← e, eq-eqb r 0 z, ← d, eq-eqb s 0 y, ← q, eq-eqb t 0 x, length-appended b k n u (accepted-read b r e z), le-ltb 65535 (length b + length u + 6) h)
 
+-- where appending is not refused, none of its checks refuses
+append-parts : (b : List ℕ) (k n : ℕ) (u : List ℕ) → appendRefusal b k n u ≡ 0
+    → (bookRefusal b ≡ 0) × (rankRefusal k n ≡ 0) × (wordRefusal n u ≡ 0) × (check 13 (tooLarge (length (appended b k n u))) ≡ 0)
+unfolding appendRefusal
+append-parts b k n u e =
+    let size = check 13 (tooLarge (length (appended b k n u))) in
+    let a = then-zero (bookRefusal b) (rankRefusal k n then wordRefusal n u then size) e in
+    let c = then-zero (rankRefusal k n) (wordRefusal n u then size) (a .1) in
+    let d = then-zero (wordRefusal n u) size (c .1) in
+    (a .0, c .0, d .0, d .1)
+
 -- a book to which a preset is appended is accepted
 pub append-book : (b : List ℕ) (k n : ℕ) (u : List ℕ) → appendRefusal b k n u ≡ 0 → bookRefusal b ≡ 0
-unfolding appendRefusal
-append-book b k n u e = then-left (bookRefusal b) (rankRefusal k n then wordRefusal n u then check 13 (tooLarge (length (appended b k n u)))) e
+append-book b k n u e = append-parts b k n u e .0
 
 pub append-preset : (b : List ℕ) (k n : ℕ) (u : List ℕ) → appendRefusal b k n u ≡ 0 → (rankRefusal k n then wordRefusal n u) ≡ 0
-unfolding appendRefusal
-append-preset b k n u e =
-    let size = check 13 (tooLarge (length (appended b k n u))) in
-    let after = then-right (bookRefusal b) (rankRefusal k n then wordRefusal n u then size) e in
-    then-none (rankRefusal k n) (wordRefusal n u) (then-left (rankRefusal k n) (wordRefusal n u then size) after)
-    ∙ then-left (wordRefusal n u) size (then-right (rankRefusal k n) (wordRefusal n u then size) after)
+append-preset b k n u e = let p = append-parts b k n u e in then-none (rankRefusal k n) (wordRefusal n u) (p .1) ∙ p .2
 
 pub append-size : (b : List ℕ) (k n : ℕ) (u : List ℕ) → appendRefusal b k n u ≡ 0 → length (appended b k n u) ≤ 65535
-unfolding appendRefusal tooLarge
+unfolding tooLarge
 append-size b k n u e =
-    let size = check 13 (tooLarge (length (appended b k n u))) in
-    let after = then-right (bookRefusal b) (rankRefusal k n then wordRefusal n u then size) e in
-    ltb-false 65535 (length (appended b k n u))
-    (check-none 13 (tooLarge (length (appended b k n u))) (omega arith) (then-right (wordRefusal n u) size (then-right (rankRefusal k n) (wordRefusal n u then size) after)))
+    ltb-false 65535 (length (appended b k n u)) (check-zero 12 (tooLarge (length (appended b k n u))) (append-parts b k n u e .3))
 
 append-accepted : (b : List ℕ) (k n : ℕ) (u : List ℕ) → appendRefusal b k n u ≡ 0 → Accepted b
 append-accepted b k n u e = accepted b (append-book b k n u e)
@@ -150,4 +150,4 @@ module _ (b : List ℕ) (k n : ℕ) (u out : List ℕ) (r : ℕ) (e : r ≡ appe
   appending-written o z h p =
       let l = length-appended b k n u (append-accepted b k n u (sym e ∙ z)) in
       let d = writes-done (appending b k n u out) (appendRefusal b k n u) r (appended b k n u) out refl e (length b + length u + 6) (appended b k n u) z l h refl in
-      (d .0, p ∙ sets-front out (appended b k n u) (rw l h) ∙ rw l (d .1))
+      (d .0, p ∙ sets-front (appended b k n u) out (length b + length u + 6) (rw l h) (sym l) ∙ d .1)

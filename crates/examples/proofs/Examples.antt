@@ -70,7 +70,7 @@ module _ (k : Kind) (n : ℕ) (low : least k ≤ n) (high : n ≤ greatest k) wh
   empty-form = normalForm-straight k n
 
   square-form : wordNormalForm k n (1 ∷ 1 ∷ []) ≡ []
-  square-form = ap (normalForm k n) (linked-window k n low (next (forth [] [] (twice (omega arith) (one-le k n low))) alone)) ∙ empty-form
+  square-form = ap (normalForm k n) (linked-window k n (next (forth [] [] (twice (omega arith) (one-le k n low))) alone)) ∙ empty-form
 
   -- the rule 1 1 → empty is the first of the list
   square-fits : firstFitting (rules k n) (1 ∷ 1 ∷ []) 0 ≡ some (rule 1 1 0 (1 ∷ 1 ∷ []) [])

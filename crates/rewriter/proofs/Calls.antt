@@ -13,14 +13,12 @@ use Prim.Native.Nat.{ℕ, _≤_, _<_}
 use native.Mathlib.Nat.{lt-of-not-le}
 use native.Mathlib.Decide.{decLe}
 use native.Mathlib.Omega.{arith}
-use lib.Dec.{eqb, ltb}
+use lib.Dec.{eqb}
 use lib.ListN.{length, drop}
 use lib.Seq.{take-append-seam}
-use borrow.Author.Tests.{ltb-false, le-ltb, le-leb, lt-leb}
-use Rattle.window.specs.Kinds.{Kind, pick, kindOf, least, greatest}
-use Rattle.window.specs.Checks.{check, wrongKind, wrongRank, tooLong, wrongLetter, tooShort, rankRefusal, wordRefusal}
-use Rattle.window.proofs.Basics.{or-false-left}
-use Rattle.window.proofs.Sizes.{then-zero, check-zero}
+use borrow.Author.Tests.{le-ltb, le-leb, lt-leb}
+use Rattle.window.specs.Kinds.{Kind, pick, kindOf, least}
+use Rattle.window.specs.Checks.{check, tooLong, wrongLetter, tooShort, wordRefusal}
 use Rattle.rewriter.specs.declared.Rewrite.{Rewrite}
 use Rattle.rewriter.specs.declared.Rewrite.the-variants.{Used, NoneFits, Refused}
 use Rattle.rewriter.specs.Rules.{Rule, rules, firstFitting, rewritten, Irreducible}
@@ -29,31 +27,22 @@ use Rattle.rewriter.specs.Runs.{AcceptedWord, wordAfter}
 use Rattle.rewriter.specs.Demand3.{NowhereFits}
 use Rattle.rewriter.proofs.Rewriting.{Rewrites}
 use Rattle.rewriter.proofs.Fits.{fits-past, firstFitting-some, firstFitting-none, none-firstFitting, left-nonempty, rewrites-of-fits}
+use Rattle.window.proofs.CallLaws.{rank-within, letters-accepted, length-accepted}
 
 -- ---- accepted words
 
 pub accepted-least : {k n : ℕ} {u : List ℕ} → AcceptedWord k n u → least (kindOf k) ≤ n
-unfolding rankRefusal wrongRank
-accepted-least {k} {n} h =
-    let c = kindOf k in
-    let a = then-zero (check 5 (wrongKind k)) (check 6 (wrongRank c n)) (h .rank) in
-    ltb-false n (least c) (or-false-left (ltb n (least c)) (ltb (greatest c) n) (check-zero 5 (wrongRank c n) (a .1)))
-
-word-passes : (n : ℕ) (u : List ℕ) → wordRefusal n u ≡ 0 → (length u ≤ 4096) × (wrongLetter n u ≡ false)
-unfolding wordRefusal tooLong
-word-passes n u e =
-    let a = then-zero (check 7 (tooLong u)) (check 8 (wrongLetter n u)) e in
-    (ltb-false 4096 (length u) (check-zero 6 (tooLong u) (a .0)), check-zero 7 (wrongLetter n u) (a .1))
+accepted-least {k} {n} h = rank-within k n (h .rank) .0
 
 pub accepted-letters : {k n : ℕ} {u : List ℕ} → AcceptedWord k n u → wrongLetter n u ≡ false
-accepted-letters {k} {n} {u} h = word-passes n u (h .word) .1
+accepted-letters {n} {u} h = letters-accepted n u (h .word)
 
 -- a word of steps that is no longer than an accepted one
 pub accepted-of-shorter : {k n : ℕ} {u : List ℕ} (v : List ℕ) → AcceptedWord k n u → length v ≤ length u → wrongLetter n v ≡ false → AcceptedWord k n v
 unfolding wordRefusal tooLong
 accepted-of-shorter {k} {n} {u} v h l e = record {
   rank = h .rank;
-  word = rw (le-ltb 4096 (length v) (omega (arith, word-passes n u (h .word))), e);
+  word = rw (le-ltb 4096 (length v) (omega (arith, length-accepted n u (h .word))), e);
 }
 
 -- ---- what a step does

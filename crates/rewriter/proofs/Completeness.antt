@@ -6,7 +6,7 @@
 use mathlib.Core.Path.{_≡_, refl, sym, ap, subst, _∙_}
 use mathlib.Core.Bool.{Bool, true, false, true≢false}
 use mathlib.Core.Logic.{_⊎_, inl, inr, ⊎-elim, _↔_}
-use mathlib.Core.List.{List, _++_, List·Memᴰ, List·Memᴰ·append-cases, Memᴰ·append-left, Memᴰ·append-right}
+use mathlib.Core.List.{List, List·Memᴰ}
 use Prim.Native.Nat.{ℕ, zero, suc, _≤_, _<_}
 use native.Mathlib.Decide.{decLe}
 use native.Mathlib.Omega.{arith}
@@ -36,13 +36,13 @@ pub rewrites-linked : (k : Kind) (n : ℕ) {u v : List ℕ} → least k ≤ n �
 rewrites-linked k n h (within x y q) = linked-context x y (rule-linked k n h q)
 
 pub rewrites-window : (k : Kind) (n : ℕ) {u v : List ℕ} → least k ≤ n → Rewrites k n u v → window k n u ≡ window k n v
-rewrites-window k n h r = linked-window k n h (rewrites-linked k n h r)
+rewrites-window k n h r = linked-window k n (rewrites-linked k n h r)
 
 pub rewrites-letters : {k : Kind} {n : ℕ} {u v : List ℕ} → Rewrites k n u v → wrongLetter n u ≡ false → wrongLetter n v ≡ false
 rewrites-letters (within x y q) e = accepted-rewritten q x y e
 
-pub rewrites-lowers : (k : Kind) (n : ℕ) {u v : List ℕ} → least k ≤ n → Rewrites k n u v → wrongLetter n u ≡ false → value n v < value n u
-rewrites-lowers k n h (within x y q) e = rule-lowers k n h q x y e
+pub rewrites-lowers : {k : Kind} {n : ℕ} {u v : List ℕ} → Rewrites k n u v → wrongLetter n u ≡ false → value n v < value n u
+rewrites-lowers (within x y q) e = rule-lowers q x y e
 
 pub rewrites-shortlex : {k : Kind} {n : ℕ} {u v : List ℕ} → Rewrites k n u v → shortlex v u ≡ true
 rewrites-shortlex (within x y q) = rule-shortlex q x y
@@ -52,11 +52,7 @@ rewrites-length {u} {v} r = ⊎-elim (λ h. omega arith) (λ h. omega arith) (sh
 
 -- every letter of the new word stands in the old one
 pub no-new-letter : {k : Kind} {n : ℕ} {u v : List ℕ} {a : ℕ} → Rewrites k n u v → List·Memᴰ a v → List·Memᴰ a u
-no-new-letter (within x y {l} {r} q) m =
-    ⊎-elim
-    (λ s. Memᴰ·append-left (l ++ y) s)
-    (λ s. Memᴰ·append-right x (⊎-elim (λ t. Memᴰ·append-left y (rule-letters q t)) (λ t. Memᴰ·append-right l t) (List·Memᴰ·append-cases r s)))
-    (List·Memᴰ·append-cases x m)
+no-new-letter (within x y q) m = rule-letters q x y m
 
 -- ---- finitely many rewritings
 
@@ -69,15 +65,15 @@ rewritesTo-linked k n h stays = alone
 rewritesTo-linked k n h (step r s) = linked-trans (rewrites-linked k n h r) (rewritesTo-linked k n h s)
 
 pub rewritesTo-window : (k : Kind) (n : ℕ) {u v : List ℕ} → least k ≤ n → RewritesTo k n u v → window k n u ≡ window k n v
-rewritesTo-window k n h r = linked-window k n h (rewritesTo-linked k n h r)
+rewritesTo-window k n h r = linked-window k n (rewritesTo-linked k n h r)
 
 pub rewritesTo-letters : {k : Kind} {n : ℕ} {u v : List ℕ} → RewritesTo k n u v → wrongLetter n u ≡ false → wrongLetter n v ≡ false
 rewritesTo-letters stays e = e
 rewritesTo-letters (step r s) e = rewritesTo-letters s (rewrites-letters r e)
 
-pub rewritesTo-value : (k : Kind) (n : ℕ) {u v : List ℕ} → least k ≤ n → RewritesTo k n u v → wrongLetter n u ≡ false → value n v ≤ value n u
-rewritesTo-value k n h stays e = omega arith
-rewritesTo-value k n h (step r s) e = omega (arith, rewrites-lowers k n h r e, rewritesTo-value k n h s (rewrites-letters r e))
+pub rewritesTo-value : {k : Kind} {n : ℕ} {u v : List ℕ} → RewritesTo k n u v → wrongLetter n u ≡ false → value n v ≤ value n u
+rewritesTo-value stays e = omega arith
+rewritesTo-value (step r s) e = omega (arith, rewrites-lowers r e, rewritesTo-value s (rewrites-letters r e))
 
 -- the last word is the first, or earlier
 pub rewritesTo-shortlex : {k : Kind} {n : ℕ} {u v : List ℕ} → RewritesTo k n u v → (u ≡ v) ⊎ (shortlex v u ≡ true)
@@ -100,12 +96,12 @@ reached k n h (suc t) u l e =
     elim (blocks-or-rewrites k n h u e) [
       | inl b ↦
           subst (RewritesTo k n u)
-          (b .2 ∙ sym (normalForm-blocks k n h (b .0) (b .1)) ∙ ap (λ (w : List ℕ). normalForm k n (window k n w)) (sym (b .2)))
+          (b .2 ∙ sym (normalForm-blocks k n (b .0) (b .1)) ∙ ap (λ (w : List ℕ). normalForm k n (window k n w)) (sym (b .2)))
           stays
       | inr r ↦
           step (r .1)
           (subst (λ (w : List ℤ). RewritesTo k n (r .0) (normalForm k n w)) (sym (rewrites-window k n h (r .1)))
-          (reached k n h t (r .0) (omega (arith, rewrites-lowers k n h (r .1) e)) (rewrites-letters (r .1) e)))
+          (reached k n h t (r .0) (omega (arith, rewrites-lowers (r .1) e)) (rewrites-letters (r .1) e)))
     ]
 
 -- every word of steps rewrites to the normal form of its window
@@ -119,12 +115,12 @@ pub normalForm-not-rewritten : (k : Kind) (n : ℕ) (w : List ℤ) {v : List ℕ
 normalForm-not-rewritten k n w {v} h a r =
     let e : wrongLetter n (normalForm k n w) ≡ false = normalForm-letters k n w a in
     let f : wrongLetter n v ≡ false = rewrites-letters r e in
-    let q : window k n v ≡ w = sym (rewrites-window k n h r) ∙ window-normalForm k n w h a in
+    let q : window k n v ≡ w = sym (rewrites-window k n h r) ∙ window-normalForm k n w a in
     let s : RewritesTo k n v (normalForm k n w) = subst (λ (x : List ℤ). RewritesTo k n v (normalForm k n x)) q (rewritesTo-normalForm k n v h f) in
-    omega (arith, rewrites-lowers k n h r e, rewritesTo-value k n h s f)
+    omega (arith, rewrites-lowers r e, rewritesTo-value s f)
 
 pub normalForm-irreducible : (k : Kind) (n : ℕ) (u : List ℕ) {v : List ℕ} → least k ≤ n → Rewrites k n (normalForm k n (window k n u)) v → ⊥
-normalForm-irreducible k n u h r = normalForm-not-rewritten k n (window k n u) h (window-accepted k n u h) r
+normalForm-irreducible k n u h r = normalForm-not-rewritten k n (window k n u) h (window-accepted k n u) r
 
 -- no rule of the list fits exactly when no rule rewrites the word
 pub irreducible-of-not-rewritten : (k : Kind) (n : ℕ) (u : List ℕ) → least k ≤ n → ((v : List ℕ) → Rewrites k n u v → ⊥) → Irreducible k n u
@@ -155,26 +151,16 @@ irreducible-iff k n u h e = (
 pub normalForm-least : (k : Kind) (n : ℕ) (w : List ℤ) → least k ≤ n → Accepted k n w → IsNormalForm k n w (normalForm k n w)
 normalForm-least k n w h a = record {
   steps = normalForm-letters k n w a;
-  shows = window-normalForm k n w h a;
+  shows = window-normalForm k n w a;
   least = λ v e q d.
       ⊎-elim (λ s. absurd (d s)) (λ s. s)
       (rewritesTo-shortlex (subst (λ (x : List ℤ). RewritesTo k n v (normalForm k n x)) q (rewritesTo-normalForm k n v h e)));
 }
 
 pub normalForm-least-window : (k : Kind) (n : ℕ) (u : List ℕ) → least k ≤ n → IsNormalForm k n (window k n u) (normalForm k n (window k n u))
-normalForm-least-window k n u h = normalForm-least k n (window k n u) h (window-accepted k n u h)
+normalForm-least-window k n u h = normalForm-least k n (window k n u) h (window-accepted k n u)
 
 -- ---- equal normal forms
-
-pub same-normalForm : (k : Kind) (n : ℕ) (u v : List ℕ) → least k ≤ n
-    → (normalForm k n (window k n u) ≡ normalForm k n (window k n v)) ↔ (window k n u ≡ window k n v)
-same-normalForm k n u v h = (
-  λ e.
-      sym (window-normalForm k n (window k n u) h (window-accepted k n u h))
-      ∙ ap (window k n) e
-      ∙ window-normalForm k n (window k n v) h (window-accepted k n v h),
-  λ e. ap (normalForm k n) e,
-)
 
 pub normalForm-linked : (k : Kind) (n : ℕ) (u : List ℕ) → least k ≤ n → wrongLetter n u ≡ false → Linked (Relation k n) u (normalForm k n (window k n u))
 normalForm-linked k n u h e = rewritesTo-linked k n h (rewritesTo-normalForm k n u h e)
@@ -183,5 +169,5 @@ pub same-normalForm-linked : (k : Kind) (n : ℕ) (u v : List ℕ) → least k �
     → (normalForm k n (window k n u) ≡ normalForm k n (window k n v)) ↔ Linked (Relation k n) u v
 same-normalForm-linked k n u v h e f = (
   λ q. linked-trans (normalForm-linked k n u h e) (linked-trans (linked-of-equal q) (linked-sym (normalForm-linked k n v h f))),
-  λ s. ap (normalForm k n) (linked-window k n h s),
+  λ s. ap (normalForm k n) (linked-window k n s),
 )

@@ -24,7 +24,6 @@ use Rattle.rewriter.proofs.Completeness.{
   rewrites-length,
   irreducible-iff,
   normalForm-least-window,
-  same-normalForm,
   same-normalForm-linked,
 }
 use Rattle.rewriter.proofs.Calls.{
@@ -40,6 +39,7 @@ use Rattle.rewriter.proofs.Calls.{
   stepped-moves,
   nowhereFits-iff,
 }
+use Rattle.window.proofs.FormLaws.{wordNormalForm-eq-iff}
 
 -- ---- one call
 
@@ -74,7 +74,7 @@ moves-kept : (k n : ℕ) {u : List ℕ} {a : Rewrite} {v : List ℕ} → Accepte
 moves-kept k n h (rewrote {v = v} r) = record {
   accepted = accepted-of-shorter v h (rewrites-length r) (rewrites-letters r (accepted-letters h));
   shows = sym (rewrites-window (kindOf k) n (accepted-least h) r);
-  lower = omega (arith, rewrites-lowers (kindOf k) n (accepted-least h) r (accepted-letters h));
+  lower = omega (arith, rewrites-lowers r (accepted-letters h));
 }
 moves-kept k n h fitless = record { accepted = h; shows = refl; lower = omega arith }
 moves-kept k n h refused = record { accepted = h; shows = refl; lower = omega arith }
@@ -142,7 +142,7 @@ demand3 k n u h = record {
         normal-exactly = normal-iff k n u (wordLeft u cs) (t .accepted) (t .shows);
       };
   agree = λ v g. record {
-    by-window = same-normalForm (kindOf k) n u v (accepted-least h);
+    by-window = wordNormalForm-eq-iff (kindOf k) n u v;
     by-relations = same-normalForm-linked (kindOf k) n u v (accepted-least h) (accepted-letters h) (accepted-letters g);
   };
   least = normalForm-least-window (kindOf k) n u (accepted-least h);

@@ -13,7 +13,8 @@ use Rattle.window.specs.NormalForm.{block}
 use Rattle.window.specs.Relations.{Neighbours, Braid, threefold, fourfold, commute, Relation, twice, braid, Linked, alone}
 use Rattle.window.proofs.Links.{linked-trans, linked-sym, linked-context, linked-one, linked-map}
 use Rattle.rewriter.proofs.Families.{Carries, IsD, RuleOf, square, exchange, carry, turn, five, six, seven}
-use Rattle.rewriter.proofs.Letters.{exchanges-commuting, Clear, Carried, carries-carried, Turned, wide, narrow, turns-turned}
+use Rattle.rewriter.proofs.Letters.{Clear, Carried, carries-carried, Turned, wide, narrow, turns-turned}
+use Rattle.window.proofs.Relations.{apart-commuting}
 
 -- ---- links inside a word
 
@@ -36,7 +37,7 @@ clear-linked k n a (b ∷ u) o c =
     let h = c b (List·Memᴰ·head refl) in
     linked-trans
     (linked-after (b ∷ []) (clear-linked k n a u o (λ x m. c x (List·Memᴰ·tail m))))
-    (backwards [] u (commute o (h .0) (exchanges-commuting k n a b (h .1))))
+    (backwards [] u (commute o (h .0) (apart-commuting k n a b (h .1))))
 
 -- ---- families 3 and 4
 
@@ -87,7 +88,7 @@ fork B n a d h e = absurd d
 fork D n a d h e = record {
   ab = threefold {a = a} {b = a + 1} (omega arith) (omega arith) (inl (refl, omega arith));
   ac = threefold {a = a} {b = n} (omega arith) (omega arith) (inr (e, refl));
-  bc = commute {a = a + 1} {b = n} (omega arith) (omega arith) (exchanges-commuting D n (a + 1) n (inr (inr (omega arith))));
+  bc = commute {a = a + 1} {b = n} (omega arith) (omega arith) (apart-commuting D n (a + 1) n (inr (inr (omega arith))));
 }
 
 -- a c b a c, a b c a c, a b a c a, b a b c a, b a c b a
@@ -107,7 +108,7 @@ seven-linked {n} {a} f = linked-trans (backwards (a ∷ n ∷ []) [] (f .ab)) (f
 -- the rules of every family but 1 follow from the relations of equal length
 pub rule-braid : (k : Kind) (n : ℕ) {l r : List ℕ} → least k ≤ n → RuleOf k n l r → (r ≡ [] → ⊥) → Linked (Braid k n) l r
 rule-braid k n h (square o l) f = absurd (f refl)
-rule-braid k n h (exchange {i} {j} o l g) f = linked-one (commute o l (exchanges-commuting k n i j g))
+rule-braid k n h (exchange {i} {j} o l g) f = linked-one (commute o l (apart-commuting k n i j g))
 rule-braid k n h (carry {i} {j} o l g) f =
     let s = carries-neighbours k n i j o l g in
     carried-linked k n i j o (s .0) (s .1) (carries-carried k n i j o l g)

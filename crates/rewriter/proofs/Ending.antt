@@ -4,7 +4,7 @@
 -- Sections: what a rule does to its left side; letters; the measure; the dictionary.
 -- Assumes nothing.
 use mathlib.Core.Path.{_≡_, refl, _∙_}
-use mathlib.Core.Bool.{true, false, _||_}
+use mathlib.Core.Bool.{true, false}
 use mathlib.Core.Logic.{⊎-elim}
 use mathlib.Core.List.{
   List,
@@ -25,16 +25,16 @@ use Prim.Native.Nat.{ℕ, suc, _+_, _-_, _*_, _≤_, _<_}
 use native.Mathlib.Nat.{suc-mul, mul-le-mul-right, le-mul-of-pos-right}
 use native.Mathlib.Numerals.{add-one}
 use native.Mathlib.Omega.{arith}
-use lib.Dec.{eqb, ltb}
 use lib.ListN.{length, length-append}
-use borrow.Author.Tests.{ltb-false, eqb-false, lt-ltb, le-ltb, eq-eqb, ne-eqb}
-use Rattle.window.specs.Kinds.{Kind, least}
+use Rattle.window.specs.Kinds.{Kind}
 use Rattle.window.specs.NormalForm.{block}
 use Rattle.window.specs.Checks.{wrongLetter}
 use Rattle.window.specs.Dictionary.{before, shortlex}
-use Rattle.window.proofs.Basics.{or-false-left, or-false-right}
 use Rattle.rewriter.proofs.Families.{RuleOf, square, exchange, carry, turn, five, six, seven}
-use Rattle.rewriter.proofs.Letters.{exchanges-commuting, carries-carried, Turned, wide, narrow, turns-turned}
+use Rattle.rewriter.proofs.Letters.{carries-carried, Turned, wide, narrow, turns-turned}
+use Rattle.window.proofs.Relations.{apart-commuting, wrongLetter-cons}
+use Rattle.window.proofs.Order.{before-higher, before-cons, shortlex-shorter, shortlex-before}
+use Rattle.window.proofs.CheckLaws.{letter-within-cons}
 
 -- ---- what a rule does to its left side
 
@@ -53,7 +53,7 @@ turned-first (narrow e h l) = (_, e)
 
 pub rule-lowered : {k : Kind} {n : ℕ} {l r : List ℕ} → RuleOf k n l r → Lowered l r
 rule-lowered (square o l) = dropped
-rule-lowered {k} {n} (exchange {i} {j} o l g) = raised refl (exchanges-commuting k n i j g .0)
+rule-lowered {k} {n} (exchange {i} {j} o l g) = raised refl (apart-commuting k n i j g .0)
 rule-lowered {k} {n} (carry {i} {j} o l g) = block-lowered i i (i + 1) _ (block k n i j) (carries-carried k n i j o l g .shape) (omega arith)
 rule-lowered {k} {n} (turn {i} o g) =
     let s = turned-first (turns-turned k n i o g) in
@@ -96,41 +96,32 @@ rule-within k n (six d e) =
 rule-within k n (seven d e) =
     within-cons _ _ _ second (within-cons _ _ _ first (within-cons _ _ _ second (within-cons _ _ _ third (within-cons _ _ _ first (within-nil _)))))
 
--- a rule brings in no new letter
-pub rule-letters : {k : Kind} {n : ℕ} {l r : List ℕ} {a : ℕ} → RuleOf k n l r → List·Memᴰ a r → List·Memᴰ a l
-rule-letters {k} {n} {a} q m = rule-within k n q a m
-
 -- the letters of an accepted word are steps
 pub letters-of-accepted : (n : ℕ) (u : List ℕ) → wrongLetter n u ≡ false → (a : ℕ) → List·Memᴰ a u → (1 ≤ a) × (a ≤ n)
-unfolding wrongLetter
 letters-of-accepted n [] e a m = absurd (List·Memᴰ·not-nil m)
 letters-of-accepted n (s ∷ u) e a m =
-    let f : (eqb s 0 || ltb n s) ≡ false = or-false-left (eqb s 0 || ltb n s) (wrongLetter n u) e in
-    let g : s ≡ 0 → ⊥ = eqb-false s 0 (or-false-left (eqb s 0) (ltb n s) f) in
-    let h : s ≤ n = ltb-false n s (or-false-right (eqb s 0) (ltb n s) f) in
-    ⊎-elim
-    (λ q. omega arith)
-    (letters-of-accepted n u (or-false-right (eqb s 0 || ltb n s) (wrongLetter n u) e) a)
-    (List·Memᴰ·cases-cons m)
+    let h = letter-within-cons n s u e in
+    ⊎-elim (λ q. omega arith) (letters-of-accepted n u (h .2) a) (List·Memᴰ·cases-cons m)
 
 pub accepted-of-letters : (n : ℕ) (u : List ℕ) → ((a : ℕ) → List·Memᴰ a u → (1 ≤ a) × (a ≤ n)) → wrongLetter n u ≡ false
 unfolding wrongLetter
 accepted-of-letters n [] h = refl
 accepted-of-letters n (s ∷ u) h =
     let g = h s first in
-    rw (ne-eqb s 0 (omega arith), le-ltb n s (g .1)) (accepted-of-letters n u (λ a m. h a (List·Memᴰ·tail m)))
+    wrongLetter-cons n s u (g .0) (g .1) ∙ accepted-of-letters n u (λ a m. h a (List·Memᴰ·tail m))
 
-mem-rewritten : (x y l r : List ℕ) → Within r l → Within (x ++ (r ++ y)) (x ++ (l ++ y))
-mem-rewritten x y l r h a m =
+-- a rule brings in no new letter
+pub rule-letters : {k : Kind} {n : ℕ} {l r : List ℕ} → RuleOf k n l r → (x y : List ℕ) {a : ℕ} → List·Memᴰ a (x ++ (r ++ y)) → List·Memᴰ a (x ++ (l ++ y))
+rule-letters {k} {n} {l} {r} q x y {a} m =
     ⊎-elim (λ s. Memᴰ·append-left (l ++ y) s)
-    (λ s. Memᴰ·append-right x (⊎-elim (λ t. Memᴰ·append-left y (h a t)) (λ t. Memᴰ·append-right l t) (List·Memᴰ·append-cases r s)))
+    (λ s. Memᴰ·append-right x (⊎-elim (λ t. Memᴰ·append-left y (rule-within k n q a t)) (λ t. Memᴰ·append-right l t) (List·Memᴰ·append-cases r s)))
     (List·Memᴰ·append-cases x m)
 
 -- rewriting an accepted word gives one
 pub accepted-rewritten : {k : Kind} {n : ℕ} {l r : List ℕ} → RuleOf k n l r → (x y : List ℕ) → wrongLetter n (x ++ (l ++ y)) ≡ false
     → wrongLetter n (x ++ (r ++ y)) ≡ false
 accepted-rewritten {k} {n} {l} {r} q x y e =
-    accepted-of-letters n (x ++ (r ++ y)) (λ a m. letters-of-accepted n (x ++ (l ++ y)) e a (mem-rewritten x y l r (rule-within k n q) a m))
+    accepted-of-letters n (x ++ (r ++ y)) (λ a m. letters-of-accepted n (x ++ (l ++ y)) e a (rule-letters q x y m))
 
 -- ---- the measure
 
@@ -177,10 +168,10 @@ lowered-value n (raised {a} {b} {s} {t} e l) acc y h g =
     (omega arith)
 
 -- every rule lowers the measure in every context
-pub rule-lowers : (k : Kind) (n : ℕ) {l r : List ℕ} → least k ≤ n → RuleOf k n l r → (x y : List ℕ) → wrongLetter n (x ++ (l ++ y)) ≡ false
+pub rule-lowers : {k : Kind} {n : ℕ} {l r : List ℕ} → RuleOf k n l r → (x y : List ℕ) → wrongLetter n (x ++ (l ++ y)) ≡ false
     → value n (x ++ (r ++ y)) < value n (x ++ (l ++ y))
 unfolding value
-rule-lowers k n {l} {r} o q x y e =
+rule-lowers {k} {n} {l} {r} q x y e =
     rw (valueFrom-append n 0 x (r ++ y), valueFrom-append n 0 x (l ++ y))
     (lowered-value n (rule-lowered q) (valueFrom n 0 x) y
     (λ a m. letters-of-accepted n (x ++ (l ++ y)) e a (Memᴰ·append-right x m))
@@ -189,24 +180,14 @@ rule-lowers k n {l} {r} o q x y e =
 -- ---- the dictionary
 
 before-append : (x u v : List ℕ) → before (x ++ u) (x ++ v) ≡ before u v
-unfolding before
 before-append [] u v = refl
-before-append (a ∷ x) u v = rw (eq-eqb a a refl) (before-append x u v)
-
-shortlex-shorter : (u v : List ℕ) → length u < length v → shortlex u v ≡ true
-unfolding shortlex
-shortlex-shorter u v h = rw (ne-eqb (length u) (length v) (omega arith), lt-ltb (length u) (length v) h)
-
-shortlex-before : (u v : List ℕ) → length u ≡ length v → before u v ≡ true → shortlex u v ≡ true
-unfolding shortlex
-shortlex-before u v e h = rw (eq-eqb (length u) (length v) e) h
+before-append (a ∷ x) u v = before-cons a (x ++ u) (x ++ v) ∙ before-append x u v
 
 lowered-shortlex : {l r : List ℕ} → Lowered l r → (x y : List ℕ) → shortlex (x ++ (r ++ y)) (x ++ (l ++ y)) ≡ true
-unfolding before
 lowered-shortlex (dropped {i}) x y = shortlex-shorter (x ++ y) (x ++ (i ∷ i ∷ y)) (simp length-append (omega arith))
 lowered-shortlex (raised {a} {b} {s} {t} e l) x y =
     shortlex-before (x ++ (b ∷ (t ++ y))) (x ++ (a ∷ (s ++ y))) (simp length-append (omega arith))
-    (before-append x (b ∷ (t ++ y)) (a ∷ (s ++ y)) ∙ rw (ne-eqb b a (omega arith), lt-ltb a b l))
+    (before-append x (b ∷ (t ++ y)) (a ∷ (s ++ y)) ∙ before-higher b a (t ++ y) (s ++ y) l)
 
 -- a rule's right side in place of its left one is shorter, or as long and earlier in the dictionary
 pub rule-shortlex : {k : Kind} {n : ℕ} {l r : List ℕ} → RuleOf k n l r → (x y : List ℕ) → shortlex (x ++ (r ++ y)) (x ++ (l ++ y)) ≡ true

@@ -10,7 +10,7 @@ use native.Mathlib.Decide.{decLe}
 use native.Mathlib.Omega.{arith}
 use Rattle.window.specs.Kinds.{Kind}
 use Rattle.window.specs.NormalForm.{block, lastIndex}
-use Rattle.window.proofs.Runs.{span, span-cut, span-snoc, slide, slide-nil, slide-cons, slide-snoc, Corner, block-up, block-turn}
+use Rattle.window.proofs.Runs.{span, span-cut, span-snoc, slide, slide-snoc, Corner, block-up, block-turn, slide-one, corner-le}
 use Rattle.rewriter.proofs.Families.{RuleOf, square, exchange, carry, turn, five, six, seven, IsD}
 use Rattle.rewriter.proofs.Rewriting.{Rewrites, within}
 use Rattle.rewriter.proofs.NextLetter.{
@@ -28,7 +28,6 @@ use Rattle.rewriter.proofs.NextLetter.{
   fives,
   sixes,
   sevens,
-  corner-le,
   le-corner,
   corner-D,
   le-lastIndex,
@@ -38,6 +37,7 @@ use Rattle.rewriter.proofs.NextLetter.{
   next-rising,
   next-falling,
 }
+use Rattle.rewriter.proofs.Letters.{slide-three}
 
 -- ---- words that a rule fits into
 
@@ -87,9 +87,6 @@ block-turn-snoc k n c i j d e o h g l q =
     ∙ ap (λ (w : List ℕ). span i c ++ w) (slide-snoc (suc n) d (omega arith))
     ∙ sym (append-assoc (span i c) (slide (suc n) (suc d)) (d ∷ []))
 
-slide-one : (n : ℕ) → slide (suc n) n ≡ n ∷ []
-slide-one n = slide-cons n n (omega arith) ∙ ap (λ (w : List ℕ). n ∷ w) (slide-nil n n (omega arith))
-
 -- one letter more on the way up, at its top and on the way down
 pub block-climb : (k : Kind) (n i j x : ℕ) → i ≤ x → x ≡ suc j → x < n → block k n i x ≡ block k n i j ++ (x ∷ [])
 block-climb k n i j x h q r =
@@ -99,7 +96,7 @@ block-climb k n i j x h q r =
 pub block-top : (k : Kind) (n c i j : ℕ) → Corner k n c → 1 ≤ i → i ≤ c → suc j ≡ c → block k n i n ≡ block k n i j ++ (n ∷ [])
 block-top k n c i j e o h q =
     block-turn k n i n c n e h (omega arith) (le-lastIndex k n i n (omega (arith, corner-le k n c e)) (omega arith)) (omega arith) o
-    ∙ ap (λ (w : List ℕ). span i c ++ w) (slide-one n)
+    ∙ ap (λ (w : List ℕ). span i c ++ w) (slide-one (suc n) n (omega arith))
     ∙ ap (λ (w : List ℕ). w ++ (n ∷ [])) (sym (block-up k n i j (omega (arith, corner-le k n c e)) ∙ ap (span i) q))
 
 pub block-descend : (k : Kind) (n c i j x : ℕ) → Corner k n c → 1 ≤ i → i ≤ c → n ≤ j → suc j ≤ lastIndex k n i → suc (x + j) ≡ 2 * n
@@ -118,15 +115,6 @@ level-le k n c i j l e h g (rising q a b) = omega arith
 level-le k n c i j l e h g (falling a q) = level-le-last k n i j l (omega (arith, corner-le k n c e)) g q
 
 -- ---- the turn of kind D, with a = n − 2
-
-slide-three : (n a : ℕ) → a + 2 ≡ n → slide (suc n) a ≡ n ∷ (a + 1) ∷ a ∷ []
-slide-three n a e =
-    let f : n ≡ suc (a + 1) = omega arith in
-    let g : a + 1 ≡ suc a = omega arith in
-    slide-cons n a (omega arith)
-    ∙ ap (λ (w : List ℕ). n ∷ w)
-    (ap (λ (m : ℕ). slide m a) f ∙ slide-cons (a + 1) a (omega arith)
-    ∙ ap (λ (w : List ℕ). (a + 1) ∷ w) (ap (λ (m : ℕ). slide m a) g ∙ slide-one a))
 
 block-turn-D : (k : Kind) (n c i j a d : ℕ) → IsD k → Corner k n c → 1 ≤ i → i ≤ a → a + 2 ≡ n → n ≤ j → j ≤ lastIndex k n i → d + j ≡ 2 * n
     → block k n i j ≡ span i a ++ (a ∷ slide (suc n) d)
@@ -180,7 +168,7 @@ extended-next k n c i j x e o h g m a b (turns {d} q r t p w) =
     (turn (omega arith) w)))
 extended-next k n c i j x e o h g m a b (fives w q r) =
     inr (reducible-end (span i x) (x ∷ n ∷ []) x
-    (block-turn-D k n c i j x n w e o a r (omega arith) m (omega arith) ∙ ap (λ (l : List ℕ). span i x ++ (x ∷ l)) (slide-one n))
+    (block-turn-D k n c i j x n w e o a r (omega arith) m (omega arith) ∙ ap (λ (l : List ℕ). span i x ++ (x ∷ l)) (slide-one (suc n) n (omega arith)))
     (five w r))
 extended-next k n c i j x e o h g m a b (sixes y w f q r) =
     rw r (inr (reducible-end (span i y) (y ∷ n ∷ (y + 1) ∷ y ∷ []) n (block-turn-D-three k n c i j y w e o f h q m) (six w f)))

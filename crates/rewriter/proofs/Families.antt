@@ -6,12 +6,11 @@ use mathlib.Core.List.{List, [], _∷_, _++_}
 use Prim.Native.Nat.{ℕ, _+_, _-_, _*_, _≤_, _<_}
 use Rattle.window.specs.Kinds.{Kind, A, B, D}
 use Rattle.window.specs.NormalForm.{block}
+use Rattle.window.proofs.Relations.{Apart}
 
--- family 2: i j → j i
+-- family 2, for pairs that commute: i j → j i
 abbrev pub Exchanges : Kind → ℕ → ℕ → ℕ → Type 0
-Exchanges A n i j = i + 2 ≤ j
-Exchanges B n i j = i + 2 ≤ j
-Exchanges D n i j = ((i + 2 ≤ j) × (j < n)) ⊎ (((i + 3 ≤ j) × (j ≡ n)) ⊎ ((i + 1 ≡ j) × (j ≡ n)))
+Exchanges k n i j = Apart k n i j
 
 -- family 3: [i,j] i → (i+1) [i,j]
 abbrev pub Carries : Kind → ℕ → ℕ → ℕ → Type 0

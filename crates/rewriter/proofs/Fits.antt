@@ -4,7 +4,7 @@
 -- Sections: beginnings of words; a rule at a place; the first fitting rule; rules of a kind.
 -- Assumes nothing.
 use mathlib.Core.Path.{_≡_, refl, sym, ap, ap₂, subst, subst₂, _∙_}
-use mathlib.Core.Bool.{Bool, true, false, _&&_, true≢false}
+use mathlib.Core.Bool.{Bool, true, false, true≢false, and-eq-true-iff}
 use mathlib.Core.Logic.{⊎-elim}
 use mathlib.Core.List.{List, [], _∷_, _++_, List·Memᴰ, List·Memᴰ·head, List·Memᴰ·tail, List·Memᴰ·not-nil, List·Memᴰ·cases-cons}
 use mathlib.Core.Option.{Option, none, some, Option·some-injective, Option·none-ne-some, Option·some-ne-none}
@@ -27,21 +27,14 @@ unfolding begins
 begins-append [] y = refl
 begins-append (a ∷ u) y = rw (eq-eqb a a refl) (begins-append u y)
 
-and-true-left : (a b : Bool) → (a && b) ≡ true → a ≡ true
-and-true-left true b e = refl
-and-true-left false b e = e
-
-and-true-right : (a b : Bool) → (a && b) ≡ true → b ≡ true
-and-true-right true b e = e
-and-true-right false b e = let z : false ≡ true = e in cc
-
 pub begins-split : (u v : List ℕ) → begins u v ≡ true → (y : List ℕ) × (v ≡ u ++ y)
 unfolding begins
 begins-split [] v h = (v, refl)
 begins-split (a ∷ u) [] h = let z : false ≡ true = h in absurd (true≢false (sym z))
 begins-split (a ∷ u) (b ∷ v) h =
-    let e : a ≡ b = eqb-true a b (and-true-left (eqb a b) (begins u v) h) in
-    let s = begins-split u v (and-true-right (eqb a b) (begins u v) h) in
+    let t = and-eq-true-iff (eqb a b) (begins u v) .0 h in
+    let e : a ≡ b = eqb-true a b (t .0) in
+    let s = begins-split u v (t .1) in
     (s .0, (cc (s .1)))
 
 -- ---- a rule at a place

@@ -1,21 +1,21 @@
 -- A word of steps is a word of blocks, or a rule fits somewhere in it: level by level, each word cut at its first letter i.
 -- Assumes nothing.
 use mathlib.Core.Path.{_≡_, refl, sym, ap, ap₂, _∙_}
-use mathlib.Core.Bool.{false, _||_}
+use mathlib.Core.Bool.{false}
 use mathlib.Core.Logic.{_⊎_, inl, inr}
 use mathlib.Core.List.{List, [], _∷_, _++_, append-assoc, append-nil}
 use Prim.Native.Nat.{ℕ, zero, suc, _+_, _-_, _≤_, _<_}
 use native.Mathlib.Omega.{arith}
-use lib.Dec.{eqb, ltb}
-use borrow.Author.Tests.{eqb-false, ltb-false}
 use Rattle.window.specs.Kinds.{Kind, least}
 use Rattle.window.specs.Checks.{wrongLetter}
 use Rattle.window.specs.NormalForm.{block, blocks, Indices, none, level, levels, lastIndex}
-use Rattle.window.proofs.Basics.{or-false-left, or-false-right}
-use Rattle.window.proofs.Runs.{span-nil, span-snoc, Corner, block-up}
+use Rattle.window.proofs.Runs.{span-nil, Corner, block-up, corner-le}
 use Rattle.rewriter.proofs.Rewriting.{Rewrites}
-use Rattle.rewriter.proofs.NextLetter.{less, same, more, order, corner-le, corner-levels, one-le-levels, le-lastIndex}
+use Rattle.rewriter.proofs.NextLetter.{corner-levels, one-le-levels, le-lastIndex}
 use Rattle.rewriter.proofs.Extending.{Reducible, reducible-within, extended-letter}
+use Rattle.window.proofs.Order.{less, same, more, compared}
+use Rattle.window.proofs.CheckLaws.{letter-within-cons}
+use Rattle.rewriter.proofs.Letters.{block-one}
 
 -- ---- words over the letters of a level
 
@@ -25,14 +25,8 @@ Letters i n [] = Unit {0}
 Letters i n (x ∷ u) = (i ≤ x) × (x ≤ n) × Letters i n u
 
 letters-of-steps : (n : ℕ) (u : List ℕ) → wrongLetter n u ≡ false → Letters 1 n u
-unfolding wrongLetter
 letters-of-steps n [] h = tt
-letters-of-steps n (x ∷ u) h =
-    let e : (eqb x 0 || ltb n x) ≡ false = or-false-left (eqb x 0 || ltb n x) (wrongLetter n u) h in (
-      omega (arith, eqb-false x 0 (or-false-left (eqb x 0) (ltb n x) e)),
-      ltb-false n x (or-false-right (eqb x 0) (ltb n x) e),
-      letters-of-steps n u (or-false-right (eqb x 0 || ltb n x) (wrongLetter n u) h),
-    )
+letters-of-steps n (x ∷ u) h = let a = letter-within-cons n x u h in (a .0, a .1, letters-of-steps n u (a .2))
 
 -- u is a word over the letters above i, or such a word, then i, then the rest
 data Cut (i n : ℕ) (u : List ℕ) : Type 0 where
@@ -42,7 +36,7 @@ data Cut (i n : ℕ) (u : List ℕ) : Type 0 where
 cut-first : (i n : ℕ) (u : List ℕ) → Letters i n u → Cut i n u
 cut-first i n [] h = whole tt
 cut-first i n (x ∷ u) h =
-    elim (order i x) [
+    elim (compared i x) [
       | less t ↦
           elim (cut-first i n u (h .2)) [
             | whole l ↦ whole (t, h .1, l)
@@ -72,9 +66,6 @@ extended-word k n c i j (x ∷ u) e o h g m s t =
 
 block-empty : (k : Kind) (n i : ℕ) → i < n → block k n (suc i) i ≡ []
 block-empty k n i h = block-up k n (suc i) i h ∙ span-nil (suc i) (suc i) (omega arith)
-
-block-one : (k : Kind) (n i : ℕ) → i < n → block k n i i ≡ i ∷ []
-block-one k n i h = block-up k n i i h ∙ span-snoc i i (omega arith) ∙ ap (λ (w : List ℕ). w ++ (i ∷ [])) (span-nil i i (omega arith))
 
 -- a word of blocks of the levels from i on, or reducible
 abbrev Settled : Kind → ℕ → ℕ → List ℕ → Type 0
@@ -109,7 +100,7 @@ settled-from k n h (suc t) i e u l =
       | cut p s q m z ↦
           let j = le-lastIndex k n (suc i) (suc i) (omega arith) (omega arith) in
           rw z
-          (rw (block-one k n (suc i) (omega arith)) at
+          (rw (block-one k n (suc i) h (omega arith)) at
           (settled-level k n (suc i) p (block k n (suc i) (suc i) ++ s) (omega arith) (settled-from k n h t (suc i) (omega arith) p q)
           (extended-word k n (levels k n) (suc i) (suc i) s c (omega arith) (omega arith) (omega arith) j (inl (omega arith)) m)))
     ]

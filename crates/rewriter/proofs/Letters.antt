@@ -1,6 +1,6 @@
 -- The letters of runs, and how the blocks on the rules' left sides begin and end: each from the laws of runs.
 --
--- Sections: letters of a run; pairs that commute; the blocks of family 3; the blocks of family 4; the block of families 6 and 7.
+-- Sections: letters of a run; pairs that commute; the blocks of family 3; the blocks of family 4; the block of families 6 and 7; blocks of one letter.
 -- Assumes nothing.
 use mathlib.Core.Path.{_≡_, refl, sym, ap, ap₂, _∙_}
 use mathlib.Core.Logic.{_⊎_, inl, inr, ⊎-elim}
@@ -19,13 +19,14 @@ use mathlib.Core.List.{
 }
 use Prim.Native.Nat.{ℕ, zero, suc, _+_, _-_, _*_, _≤_, _<_}
 use native.Mathlib.Nat.{lt-of-not-le}
-use native.Mathlib.Decide.{decLe}
+use native.Mathlib.Decide.{decLe, ℕ-discrete}
 use native.Mathlib.Numerals.{add-one, add-two}
 use native.Mathlib.Omega.{arith}
-use Rattle.window.specs.Kinds.{Kind, A, B, D, up}
+use borrow.Author.Tests.{le-leb, le-ltb}
+use Rattle.window.specs.Kinds.{Kind, A, B, D, up, least}
 use Rattle.window.specs.NormalForm.{down, rise, block, lastIndex}
-use Rattle.window.specs.Relations.{Commuting, Neighbours, FourfoldPair}
-use Rattle.window.proofs.Runs.{span, slide, span-nil, span-cons, slide-nil, slide-snoc, rise-span, Corner, block-up, block-turn}
+use Rattle.window.specs.Relations.{Neighbours, FourfoldPair}
+use Rattle.window.proofs.Runs.{span, slide, span-nil, span-cons, slide-nil, slide-snoc, rise-span, Corner, block-up, block-turn, span-one, slide-one, fall-slide, corner-le}
 use Rattle.rewriter.proofs.Families.{Exchanges, Carries, Turns}
 
 -- ---- letters of a run
@@ -68,9 +69,6 @@ mem-slide a c i m = let h = mem-down a (c - 1) (c - i) (omega arith) m in omega 
 mem-hill : (b i c e d : ℕ) → List·Memᴰ b (span i c ++ slide e d) → ((i ≤ b) × (b < c)) ⊎ ((d ≤ b) × (b < e))
 mem-hill b i c e d m = ⊎-elim (λ h. inl (mem-span b i c h)) (λ h. inr (mem-slide b e d h)) (List·Memᴰ·append-cases (span i c) m)
 
-pub span-one : (i c : ℕ) → i + 1 ≡ c → span i c ≡ i ∷ []
-span-one i c e = span-cons i c (omega arith) ∙ ap (λ (l : List ℕ). i ∷ l) (span-nil (suc i) c (omega arith))
-
 span-two : (i c : ℕ) → i + 2 ≤ c → span i c ≡ i ∷ (i + 1) ∷ span (i + 2) c
 span-two i c h = rw (add-one, add-two) (span-cons i c (omega arith) ∙ ap (λ (l : List ℕ). i ∷ l) (span-cons (suc i) c (omega arith)))
 
@@ -81,21 +79,15 @@ slide-two c i h =
     ∙ ap (λ (l : List ℕ). l ++ (i ∷ [])) (slide-snoc c (suc i) (omega arith))
     ∙ append-assoc (slide c (suc (suc i))) (suc i ∷ []) (i ∷ []))
 
-slide-one : (c i : ℕ) → i + 1 ≡ c → slide c i ≡ i ∷ []
-slide-one c i e = slide-snoc c i (omega arith) ∙ ap (λ (l : List ℕ). l ++ (i ∷ [])) (slide-nil c (suc i) (omega arith))
+pub slide-three : (n a : ℕ) → a + 2 ≡ n → slide (suc n) a ≡ n ∷ (a + 1) ∷ a ∷ []
+slide-three n a e =
+    slide-two (suc n) a (omega arith)
+    ∙ ap (λ (u : List ℕ). u ++ ((a + 1) ∷ a ∷ [])) (ap (slide (suc n)) e ∙ slide-one (suc n) n (omega arith))
 
 -- ---- pairs that commute
 
--- family 2 exchanges steps that commute
-pub exchanges-commuting : (k : Kind) (n a b : ℕ) → Exchanges k n a b → Commuting k n a b
-exchanges-commuting A n a b h = (omega arith, (λ e. omega arith), (λ e. e))
-exchanges-commuting B n a b h = (omega arith, (λ e. omega arith), (λ e. omega arith))
-exchanges-commuting D n a b (inl h) = (omega arith, ⊎-elim (λ e. omega arith) (λ e. omega arith), (λ e. e))
-exchanges-commuting D n a b (inr (inl h)) = (omega arith, ⊎-elim (λ e. omega arith) (λ e. omega arith), (λ e. e))
-exchanges-commuting D n a b (inr (inr h)) = (omega arith, ⊎-elim (λ e. omega arith) (λ e. omega arith), (λ e. e))
-
 -- two steps apart below the last step
-exchanges-below : (k : Kind) (n a b : ℕ) → a + 2 ≤ b → b < n → Exchanges k n a b
+pub exchanges-below : (k : Kind) (n a b : ℕ) → a + 2 ≤ b → b < n → Exchanges k n a b
 exchanges-below A n a b h g = h
 exchanges-below B n a b h g = h
 exchanges-below D n a b h g = inl (h, g)
@@ -134,11 +126,6 @@ carried-up k n i j h g = record {
   shape = block-up k n i j g ∙ span-two i (suc j) (omega arith);
   clear = λ b m. let s = mem-span b (i + 2) (suc j) m in (omega arith, exchanges-below k n i b (s .0) (omega arith));
 }
-
-corner-le : (k : Kind) (n c : ℕ) → Corner k n c → c ≤ n
-corner-le A n c q = omega arith
-corner-le B n c q = omega arith
-corner-le D n c q = omega arith
 
 carried-turn : (k : Kind) (n i j c d : ℕ) → Corner k n c → i + 2 ≤ c → n ≤ j → j ≤ lastIndex k n i → d + j ≡ 2 * n → i + 2 ≤ d → 1 ≤ i → Carried k n i j
 carried-turn k n i j c d q h g l e f o = record {
@@ -199,5 +186,20 @@ turns-turned D n i o h = turned-wide D n i (n - 1) (omega arith) (omega arith) (
 pub block-fork : (n a : ℕ) → 1 ≤ a → a + 2 ≡ n → block D n a (n + 2) ≡ a ∷ n ∷ (a + 1) ∷ a ∷ []
 block-fork n a o e =
     block-turn D n a (n + 2) (a + 1) a (omega arith) (omega arith) (omega arith) (omega arith) (omega arith) o
-    ∙ ap₂ (λ (u v : List ℕ). u ++ v) (span-one a (a + 1) refl) (slide-two (suc n) a (omega arith))
-    ∙ ap (λ (u : List ℕ). a ∷ (u ++ ((a + 1) ∷ a ∷ []))) (ap (slide (suc n)) e ∙ slide-one (suc n) n (omega arith))
+    ∙ ap₂ (λ (u v : List ℕ). u ++ v) (span-one a (a + 1) refl) (slide-three n a e)
+
+-- ---- blocks of one letter
+
+block-last : (k : Kind) (n : ℕ) → least k ≤ n → block k n n n ≡ n ∷ []
+unfolding block
+block-last A n h = rise-span n n ∙ span-one n (suc n) (omega arith)
+block-last B n h = rw (le-leb n n (omega arith)) (rise-span n n ∙ span-one n (suc n) (omega arith))
+block-last D n h =
+    rw (le-ltb n n (omega arith), rise-span n (n - 2), fall-slide (n - 1) (2 * n - n))
+    (rw (span-nil n (suc (n - 2)) (omega arith), slide-nil (suc (n - 1)) (2 * n - n) (omega arith)))
+
+pub block-one : (k : Kind) (n i : ℕ) → least k ≤ n → i ≤ n → block k n i i ≡ i ∷ []
+block-one k n i h l = elim (ℕ-discrete i n) [
+  | yes e ↦ rw e (block-last k n h)
+  | no e ↦ block-up k n i i (omega arith) ∙ span-one i (suc i) (omega arith)
+]

@@ -4,27 +4,14 @@
 use mathlib.Core.Path.{_≡_, refl}
 use mathlib.Core.Logic.{_⊎_, inl, inr, ⊎-elim}
 use Prim.Native.Nat.{ℕ, suc, _+_, _-_, _*_, _≤_, _<_}
-use native.Mathlib.Nat.{lt-of-not-le}
 use native.Mathlib.Decide.{decLe, ℕ-discrete}
 use native.Mathlib.Omega.{arith}
 use Rattle.window.specs.Kinds.{Kind, A, B, D, least}
 use Rattle.window.specs.NormalForm.{levels, lastIndex}
 use Rattle.window.proofs.Runs.{Corner}
 use Rattle.rewriter.proofs.Families.{Exchanges, Carries, Turns, IsD}
-
--- ---- two numbers compared
-
-pub data Order (a b : ℕ) : Type 0 where
-  less : a < b → Order a b
-  same : a ≡ b → Order a b
-  more : b < a → Order a b
-
-pub order : (a b : ℕ) → Order a b
-order a b =
-    elim (decLe a b) [
-      | yes h ↦ elim (decLe b a) [ yes g ↦ same (omega arith) | no g ↦ less (lt-of-not-le g) ]
-      | no h ↦ more (lt-of-not-le h)
-    ]
+use Rattle.window.proofs.Order.{less, same, more, compared}
+use Rattle.rewriter.proofs.Letters.{exchanges-below}
 
 -- ---- the cases
 
@@ -47,11 +34,6 @@ pub data Next (k : Kind) (n c i j x : ℕ) : Type 0 where
   sevens : (a : ℕ) → IsD k → a + 2 ≡ n → j ≡ n + 2 → x ≡ a + 1 → Next k n c i j x
 
 -- ---- the corner, the levels and the last index
-
-pub corner-le : (k : Kind) (n c : ℕ) → Corner k n c → c ≤ n
-corner-le A n c e = omega arith
-corner-le B n c e = omega arith
-corner-le D n c e = omega arith
 
 pub le-corner : (k : Kind) (n c : ℕ) → Corner k n c → n ≤ suc c
 le-corner A n c e = omega arith
@@ -98,11 +80,6 @@ level-le-last D n i j d h g e = omega arith
 
 -- ---- on the way up
 
-pub exchanges-below : (k : Kind) (n i j : ℕ) → i + 2 ≤ j → j < n → Exchanges k n i j
-exchanges-below A n i j h g = h
-exchanges-below B n i j h g = h
-exchanges-below D n i j h g = inl (h, g)
-
 pub exchanges-top : (k : Kind) (n c i : ℕ) → Corner k n c → i < n → (suc i ≡ c → ⊥) → Exchanges k n i n
 exchanges-top A n c i e h f = omega arith
 exchanges-top B n c i e h f = omega arith
@@ -117,10 +94,10 @@ carries-rising D n x j h g = elim (decLe (x + 3) n) [ yes t ↦ inl (t, omega ar
 -- the block is not empty, or only the top is left of its way up, as for the empty block of the last level
 pub next-rising : (k : Kind) (n c i j x : ℕ) → Corner k n c → (i ≤ j) ⊎ (suc j ≡ c) → j < n → i ≤ x → x ≤ n → Next k n c i j x
 next-rising k n c i j x e s h g l =
-    elim (order x j) [
+    elim (compared x j) [
       | less t ↦ carries t (omega arith) (le-lastIndex k n x j l (omega arith)) (carries-rising k n x j t h)
       | same t ↦ repeats (rising t (omega arith) h)
-      | more t ↦ elim (order x n) [ less r ↦ below r t | same r ↦ top r | more r ↦ absurd (omega arith) ]
+      | more t ↦ elim (compared x n) [ less r ↦ below r t | same r ↦ top r | more r ↦ absurd (omega arith) ]
     ]
   where
     exchanged : (suc j ≡ c → ⊥) → Exchanges k n j x → Next k n c i j x
@@ -128,7 +105,7 @@ next-rising k n c i j x e s h g l =
 
     below : x < n → j < x → Next k n c i j x
     below r t =
-        elim (order x (suc j)) [
+        elim (compared x (suc j)) [
           | less q ↦ absurd (omega arith)
           | same q ↦ climbs q r
           | more q ↦ exchanged (λ b. omega (arith, le-corner k n c e)) (exchanges-below k n j x (omega arith) r)
@@ -143,15 +120,15 @@ next-rising k n c i j x e s h g l =
 next-lower : (k : Kind) (n c i j d x : ℕ) → n ≤ j → j ≤ lastIndex k n i → d + j ≡ 2 * n → 1 ≤ i → i ≤ x → x < d → Next k n c i j x
 next-lower A n c i j d x h g e o m t = carries (omega arith) (omega arith) g g
 next-lower B n c i j d x h g e o m t =
-    elim (order (suc x) d) [
+    elim (compared (suc x) d) [
       | less q ↦ carries (omega arith) (omega arith) (omega arith) (omega arith)
       | same q ↦ descends h (omega arith) (omega arith)
       | more q ↦ absurd (omega arith)
     ]
 next-lower D n c i j d x h g e o m t =
-    elim (order (suc x) d) [
+    elim (compared (suc x) d) [
       | less q ↦
-          elim (order (x + 2) n) [
+          elim (compared (x + 2) n) [
             | less r ↦ carries (omega arith) (omega arith) (omega arith) (inl (omega arith, omega arith))
             | same r ↦ fives tt (omega arith) r
             | more r ↦ absurd (omega arith)
@@ -163,22 +140,22 @@ next-lower D n c i j d x h g e o m t =
 next-higher : (k : Kind) (n c i j d x : ℕ) → n ≤ j → j ≤ lastIndex k n i → d + j ≡ 2 * n → d < x → x ≤ n → Next k n c i j x
 next-higher A n c i j d x h g e t l = absurd (omega arith)
 next-higher B n c i j d x h g e t l =
-    elim (order (d + 1) x) [
+    elim (compared (d + 1) x) [
       | less q ↦ exchanges {l = d} (falling h e) (omega arith)
       | same q ↦ turns {d = d} h e (omega arith) q (omega arith)
       | more q ↦ absurd (omega arith)
     ]
 next-higher D n c i j d x h g e t l =
-    elim (order (d + 2) n) [
+    elim (compared (d + 2) n) [
       | less r ↦
-          elim (order (d + 1) x) [
+          elim (compared (d + 1) x) [
             | less q ↦ exchanges {l = d} (falling h e)
-                (elim (order x n) [ less p ↦ inl (omega arith, p) | same p ↦ inr (inl (omega arith, p)) | more p ↦ absurd (omega arith) ])
+                (elim (compared x n) [ less p ↦ inl (omega arith, p) | same p ↦ inr (inl (omega arith, p)) | more p ↦ absurd (omega arith) ])
             | same q ↦ turns {d = d} h e (omega arith) q (omega arith)
             | more q ↦ absurd (omega arith)
           ]
       | same r ↦
-          elim (order x n) [
+          elim (compared x n) [
             | less q ↦ sevens d tt r (omega arith) (omega arith)
             | same q ↦ sixes d tt r (omega arith) q
             | more q ↦ absurd (omega arith)
@@ -190,7 +167,7 @@ pub next-falling : (k : Kind) (n c i j x : ℕ) → n ≤ j → j ≤ lastIndex 
 next-falling k n c i j x h g o f m l =
     let d : ℕ = 2 * n - j in
     let e : d + j ≡ 2 * n = omega (arith, lastIndex-le k n i) in
-    elim (order x d) [
+    elim (compared x d) [
       | less t ↦ next-lower k n c i j d x h g e o m t
       | same t ↦ repeats (falling {d = x} h (omega arith))
       | more t ↦ next-higher k n c i j d x h g e t l

@@ -10,15 +10,13 @@ use mathlib.Core.Option.{Option, none, some}
 use Prim.Native.Nat.{ℕ, _+_, _-_, _≤_, _<_}
 use native.Mathlib.Decide.{ℕ-discrete}
 use native.Mathlib.Omega.{arith}
-use lib.Dec.{eqb, ltb}
+use lib.Dec.{eqb}
 use lib.ListN.{length, take, drop, length-append, length-take, length-drop}
 use lib.Seq.{take-append-le, take-append-seam}
-use borrow.Author.Tests.{eq-eqb, ne-eqb, lt-ltb, le-ltb, lt-leb, le-leb, ltb-false}
+use borrow.Author.Tests.{eq-eqb, ne-eqb, lt-ltb, le-ltb, lt-leb, le-leb}
 use Rattle.window.specs.Kinds.{Kind, A, B, D, pick, kindOf, least, greatest}
-use Rattle.window.specs.Checks.{check, wrongKind, wrongRank, tooShort, rankRefusal, wordRefusal}
+use Rattle.window.specs.Checks.{tooShort, rankRefusal, wordRefusal}
 use Rattle.window.specs.NormalForm.{block}
-use Rattle.window.proofs.Basics.{or-false-right}
-use Rattle.window.proofs.Sizes.{then-zero, check-zero}
 use Rattle.rewriter.specs.declared.Rewrite.the-variants.{Used, NoneFits, Refused}
 use Rattle.rewriter.specs.declared.search.Fitting.{Fitting}
 use Rattle.rewriter.specs.declared.search.Fitting.the-variants.{Rule as Shown, Nothing}
@@ -27,10 +25,11 @@ use Rattle.rewriter.specs.Calls.{pastEnd, Step, refusedStep, usedStep, s
 use Rattle.rewriter.specs.Runs.{AcceptedWord}
 use Rattle.rewriter.proofs.RuleList.{Listed, listed-of-mem}
 use Rattle.rewriter.proofs.Fits.{begins-split, firstFitting-some, left-nonempty}
-use Rattle.rewriter.proofs.Calls.{accepted-least, step-accepted}
+use Rattle.rewriter.proofs.Calls.{step-accepted}
 use Rattle.rewriter.proofs.Scan.{firstLetter, ruleAt}
 use Rattle.rewriter.proofs.ScanFamilies.{ends-of-listed}
 use Rattle.rewriter.proofs.SearchCode.{fittingOf, along-le}
+use Rattle.window.proofs.CallLaws.{rank-within}
 
 -- ---- the rule that the search hands on
 
@@ -134,12 +133,7 @@ kind-between B = omega arith
 kind-between D = omega arith
 
 pub rank-between : {k n : ℕ} {u : List ℕ} → AcceptedWord k n u → (1 ≤ n) × (n ≤ 32)
-unfolding rankRefusal wrongRank
-rank-between {k} {n} h =
-    let c = kindOf k in
-    let a = then-zero (check 5 (wrongKind k)) (check 6 (wrongRank c n)) (h .rank) in
-    let b : n ≤ greatest c = ltb-false (greatest c) n (or-false-right (ltb n (least c)) (ltb (greatest c) n) (check-zero 5 (wrongRank c n) (a .1))) in
-    omega (arith, kind-between c, accepted-least h)
+rank-between {k} {n} h = omega (arith, kind-between (kindOf k), rank-within k n (h .rank))
 
 module _ (k n : ℕ) (u : List ℕ) (p : ℕ) (out : List ℕ) (h : AcceptedWord k n u) (g : p < length u) where
   step-placed : step k n u p out ≡ stepBy (firstFitting (rules (kindOf k) n) u p) u p out

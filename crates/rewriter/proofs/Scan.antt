@@ -13,14 +13,14 @@ use native.Mathlib.Decide.{decLe, ℕ-discrete}
 use native.Mathlib.Numerals.{add-one}
 use native.Mathlib.Omega.{arith}
 use lib.Dec.{eqb, ltb}
-use borrow.Author.Tests.{eq-eqb, ne-eqb, lt-ltb, le-ltb, le-leb}
+use borrow.Author.Tests.{eq-eqb, ne-eqb, lt-ltb, le-ltb}
 use Rattle.window.specs.Kinds.{Kind, A, B, D, pick, least}
 use Rattle.window.specs.NormalForm.{block, levels, lastIndex}
-use Rattle.window.proofs.Runs.{span-nil, slide-nil, rise-span, fall-slide, block-up}
+use Rattle.window.proofs.Runs.{corner-le}
 use Rattle.rewriter.specs.Rules.{Rule, rule}
-use Rattle.rewriter.proofs.Letters.{span-one}
-use Rattle.rewriter.proofs.NextLetter.{corner-le, le-corner, corner-levels, le-lastIndex, lastIndex-le}
+use Rattle.rewriter.proofs.NextLetter.{le-corner, corner-levels, le-lastIndex, lastIndex-le}
 use Rattle.rewriter.proofs.Extending.{block-climb, block-top, block-descend}
+use Rattle.rewriter.proofs.Letters.{block-one}
 
 -- ---- the search
 
@@ -160,20 +160,6 @@ going n c m j x l = elim (decLe n j) [ yes h ↦ falling h | no h ↦ rising (lt
 pub data Along (k : Kind) (n i j : ℕ) : Type 0 where
   start : 1 ≤ i → i ≤ n → j ≡ i → Along k n i j
   further : 1 ≤ i → i < levels k n → i < j → j ≤ lastIndex k n i → Along k n i j
-
-block-last : (k : Kind) (n : ℕ) → least k ≤ n → block k n n n ≡ n ∷ []
-unfolding block
-block-last A n h = rise-span n n ∙ span-one n (suc n) (omega arith)
-block-last B n h = rw (le-leb n n (omega arith)) (rise-span n n ∙ span-one n (suc n) (omega arith))
-block-last D n h =
-    rw (le-ltb n n (omega arith), rise-span n (n - 2), fall-slide (n - 1) (2 * n - n))
-    (rw (span-nil n (suc (n - 2)) (omega arith), slide-nil (suc (n - 1)) (2 * n - n) (omega arith)))
-
-pub block-one : (k : Kind) (n i : ℕ) → least k ≤ n → i ≤ n → block k n i i ≡ i ∷ []
-block-one k n i h l = elim (ℕ-discrete i n) [
-  | yes e ↦ rw e (block-last k n h)
-  | no e ↦ block-up k n i i (omega arith) ∙ span-one i (suc i) (omega arith)
-]
 
 -- the last level has no way down
 pub lastIndex-top : (k : Kind) (n i : ℕ) → i ≡ n → lastIndex k n i ≡ n

@@ -15,7 +15,7 @@ use Rattle.window.specs.Kinds.{Kind, A, B, D, least}
 use Rattle.window.specs.NormalForm.{block, levels, lastIndex}
 use Rattle.rewriter.specs.Rules.{Rule, rule, exchanged, carried, turned}
 use Rattle.rewriter.proofs.Families.{Exchanges, Carries, Turns, IsD}
-use Rattle.rewriter.proofs.Letters.{block-fork}
+use Rattle.rewriter.proofs.Letters.{block-fork, block-one}
 use Rattle.rewriter.proofs.Extending.{block-top}
 use Rattle.rewriter.proofs.RuleList.{Listed, square, exchange, carry, turn, five, six, seven}
 use Rattle.rewriter.proofs.Scan.{
@@ -32,7 +32,6 @@ use Rattle.rewriter.proofs.Scan.{
   Along,
   start,
   further,
-  block-one,
   lastIndex-top,
   scan-block,
 }
@@ -145,26 +144,26 @@ pub record Ends (k : Kind) (n : ℕ) (r : Rule) : Type 0 where
   pub nonzero : f ≡ 0 → ⊥
   pub shape : r ≡ ruleAt k n i j x f
 
-exchanges-numbers : (k : Kind) (n i j : ℕ) → least k ≤ n → j ≤ n → Exchanges k n i j
+exchanges-numbers : (k : Kind) (n i j : ℕ) → j ≤ n → Exchanges k n i j
     → (i < j) × (j < n → j ≡ suc i → ⊥) × (j ≡ n → suc i ≡ levels k n → ⊥)
-exchanges-numbers A n i j h l g = omega arith
-exchanges-numbers B n i j h l g = omega arith
-exchanges-numbers D n i j h l (inl g) = omega arith
-exchanges-numbers D n i j h l (inr (inl g)) = omega arith
-exchanges-numbers D n i j h l (inr (inr g)) = omega arith
+exchanges-numbers A n i j l g = omega arith
+exchanges-numbers B n i j l g = omega arith
+exchanges-numbers D n i j l (inl g) = omega arith
+exchanges-numbers D n i j l (inr (inl g)) = omega arith
+exchanges-numbers D n i j l (inr (inr g)) = omega arith
 
-carries-numbers : (k : Kind) (n i j : ℕ) → least k ≤ n → 1 ≤ i → i < j → Carries k n i j
+carries-numbers : (k : Kind) (n i j : ℕ) → 1 ≤ i → i < j → Carries k n i j
     → (i < levels k n) × (j ≤ lastIndex k n i) × (i + j < 2 * n) × (n ≤ j → j < lastIndex k n i → suc (i + j) ≡ 2 * n → ⊥) × (i ≡ fork k n → j ≡ n → ⊥)
-carries-numbers A n i j h o l g = omega arith
-carries-numbers B n i j h o l g = omega arith
-carries-numbers D n i j h o l (inl g) = omega arith
-carries-numbers D n i j h o l (inr g) = omega arith
+carries-numbers A n i j o l g = omega arith
+carries-numbers B n i j o l g = omega arith
+carries-numbers D n i j o l (inl g) = omega arith
+carries-numbers D n i j o l (inr g) = omega arith
 
-turns-numbers : (k : Kind) (n i : ℕ) → least k ≤ n → 1 ≤ i → Turns k n i
+turns-numbers : (k : Kind) (n i : ℕ) → 1 ≤ i → Turns k n i
     → (i < levels k n) × (i < n) × (lastIndex k n i ≡ 2 * n - i) × (i ≡ fork k n → ⊥)
-turns-numbers A n i h o g = absurd g
-turns-numbers B n i h o g = omega arith
-turns-numbers D n i h o g = omega arith
+turns-numbers A n i o g = absurd g
+turns-numbers B n i o g = omega arith
+turns-numbers D n i o g = omega arith
 
 fork-numbers : (k : Kind) (n a : ℕ) → least k ≤ n → IsD k → a + 2 ≡ n → (1 ≤ a) × (a < levels k n) × (lastIndex k n a ≡ n + 2) × (a ≡ fork k n)
 fork-numbers A n a h d e = absurd d
@@ -185,7 +184,7 @@ ends-of-listed k n h (square {i} o l) = record {
   shape = sym (ruleAt-square k n i h l);
 }
 ends-of-listed k n h (exchange {i} {j} o l g) =
-    let q = exchanges-numbers k n i j h l g in
+    let q = exchanges-numbers k n i j l g in
     record {
       i = i;
       j = i;
@@ -199,7 +198,7 @@ ends-of-listed k n h (exchange {i} {j} o l g) =
       shape = sym (ruleAt-exchange k n i j h (omega arith));
     }
 ends-of-listed k n h (carry {i} {j} o l g) =
-    let q = carries-numbers k n i j h o l g in
+    let q = carries-numbers k n i j o l g in
     record {
       i = i;
       j = j;
@@ -213,7 +212,7 @@ ends-of-listed k n h (carry {i} {j} o l g) =
       shape = sym (ruleAt-carry k n i j);
     }
 ends-of-listed k n h (turn {i} o g) =
-    let q = turns-numbers k n i h o g in
+    let q = turns-numbers k n i o g in
     record {
       i = i;
       j = 2 * n - i;

@@ -4,25 +4,23 @@
 -- Sections: what the search finds is a rule; at most one rule fits.
 -- Assumes nothing.
 use mathlib.Core.Path.{_≡_, refl, sym, ap, subst⁻¹, _∙_}
-use mathlib.Core.Bool.{true, false, _||_, true≢false}
+use mathlib.Core.Bool.{true, false, true≢false}
 use mathlib.Core.Logic.{_⊎_, inl, inr, ⊎-elim}
-use mathlib.Core.List.{List, [], _∷_, _++_, append-assoc, List·Memᴰ, List·Memᴰ·head}
+use mathlib.Core.List.{List, [], _∷_, _++_, append-assoc, List·Memᴰ}
 use mathlib.Core.Option.{Option, none, some, Option·some-injective, Option·none-ne-some}
 use Prim.Native.Nat.{ℕ, zero, suc, _+_, _-_, _*_, _≤_, _<_}
 use native.Mathlib.Decide.{ℕ-discrete}
 use native.Mathlib.Omega.{arith}
-use lib.Dec.{eqb, ltb}
+use lib.Dec.{eqb}
 use lib.ListN.{drop}
 use borrow.Author.Tests.{eq-eqb, ne-eqb}
 use Rattle.window.specs.Kinds.{Kind, A, B, D, pick, least}
 use Rattle.window.specs.Checks.{wrongLetter}
 use Rattle.window.specs.NormalForm.{block, levels, lastIndex}
-use Rattle.window.proofs.Basics.{or-false-right}
 use Rattle.rewriter.specs.Rules.{Rule, rules, fits, firstFitting}
 use Rattle.rewriter.proofs.Families.{Exchanges, Carries, Turns, IsD}
-use Rattle.rewriter.proofs.NextLetter.{less, same, more, order, corner-levels, exchanges-below, exchanges-top}
+use Rattle.rewriter.proofs.NextLetter.{corner-levels, exchanges-top}
 use Rattle.rewriter.proofs.RuleList.{Listed, square, exchange, carry, turn, five, six, seven, listed-of-mem, mem-of-listed}
-use Rattle.rewriter.proofs.Ending.{letters-of-accepted}
 use Rattle.rewriter.proofs.Fits.{begins-append, begins-split, firstFitting-some, firstFitting-none}
 use Rattle.rewriter.proofs.ScanFamilies.{
   familyAt-square,
@@ -63,9 +61,11 @@ use Rattle.rewriter.proofs.Scan.{
   Along,
   start,
   further,
-  block-one,
   along-next,
 }
+use Rattle.rewriter.proofs.Letters.{exchanges-below, block-one}
+use Rattle.window.proofs.Order.{less, same, more, compared}
+use Rattle.window.proofs.CheckLaws.{letter-within-cons}
 
 -- ---- what the search finds is a rule
 
@@ -76,24 +76,24 @@ exchanges-of-leaving k n i j x h e t l w = elim (ℕ-discrete x n) [
   | no g ↦ let z : x ≡ suc j → ⊥ = w .not-up (omega arith) (omega arith) in exchanges-below k n i x (omega arith) (omega arith)
 ]
 
-turns-of-end : (k : Kind) (n i j : ℕ) → least k ≤ n → i < j → i < levels k n → j ≤ lastIndex k n i → i + j ≡ 2 * n → (i ≡ fork k n → ⊥) → Turns k n i
-turns-of-end A n i j h e g m t f = omega arith
-turns-of-end B n i j h e g m t f = omega arith
-turns-of-end D n i j h e g m t f = omega arith
+turns-of-end : (k : Kind) (n i j : ℕ) → i < j → i < levels k n → j ≤ lastIndex k n i → i + j ≡ 2 * n → (i ≡ fork k n → ⊥) → Turns k n i
+turns-of-end A n i j e g m t f = omega arith
+turns-of-end B n i j e g m t f = omega arith
+turns-of-end D n i j e g m t f = omega arith
 
-fork-of : (k : Kind) (n i : ℕ) → least k ≤ n → 1 ≤ i → i ≡ fork k n → IsD k × (i + 2 ≡ n)
-fork-of A n i h o e = absurd (omega arith)
-fork-of B n i h o e = absurd (omega arith)
-fork-of D n i h o e = (tt, omega arith)
+fork-of : (k : Kind) (n i : ℕ) → 1 ≤ i → i ≡ fork k n → IsD k × (i + 2 ≡ n)
+fork-of A n i o e = absurd (omega arith)
+fork-of B n i o e = absurd (omega arith)
+fork-of D n i o e = (tt, omega arith)
 
-carries-of-leaving : (k : Kind) (n i j : ℕ) → least k ≤ n → i < j → i < levels k n → j ≤ lastIndex k n i → (i + j ≡ 2 * n → ⊥)
+carries-of-leaving : (k : Kind) (n i j : ℕ) → i < j → i < levels k n → j ≤ lastIndex k n i → (i + j ≡ 2 * n → ⊥)
     → (n ≤ j → j < lastIndex k n i → suc (i + j) ≡ 2 * n → ⊥) → (i ≡ fork k n → j ≡ n → ⊥) → Carries k n i j
-carries-of-leaving A n i j h e g m t w f = m
-carries-of-leaving B n i j h e g m t w f = elim (ℕ-discrete (suc (i + j)) (2 * n)) [
+carries-of-leaving A n i j e g m t w f = m
+carries-of-leaving B n i j e g m t w f = elim (ℕ-discrete (suc (i + j)) (2 * n)) [
   | yes z ↦ absurd (w (omega arith) (omega arith) z)
   | no z ↦ omega arith
 ]
-carries-of-leaving D n i j h e g m t w f = elim (ℕ-discrete (suc (i + j)) (2 * n)) [
+carries-of-leaving D n i j e g m t w f = elim (ℕ-discrete (suc (i + j)) (2 * n)) [
   | yes z ↦ absurd (w (omega arith) (omega arith) z)
   | no z ↦ elim (ℕ-discrete (i + 2) n) [
     | yes q ↦ let y : j ≡ n → ⊥ = f (omega arith) in inr (omega arith)
@@ -104,7 +104,7 @@ carries-of-leaving D n i j h e g m t w f = elim (ℕ-discrete (suc (i + j)) (2 *
 leaving-listed : (k : Kind) (n i j x : ℕ) → least k ≤ n → Along k n i j → 1 ≤ x → x ≤ n → Leaving n (levels k n) (lastIndex k n i) j x
     → (familyAt n (fork k n) i j x ≡ 0) ⊎ Listed k n (ruleAt k n i j x (familyAt n (fork k n) i j x))
 leaving-listed k n i j x h (start p q e) o l w =
-    elim (order x i) [
+    elim (compared x i) [
       | less t ↦ inl (familyAt-below n (fork k n) i j x e t)
       | same t ↦ inr (rw (familyAt-square n (fork k n) i j x e t, e, t) (rw (ruleAt-square k n i h q) (square p q)))
       | more t ↦ inr (rw (familyAt-exchange n (fork k n) i j x e t, e)
@@ -114,7 +114,7 @@ leaving-listed k n i j x h (further p q e m) o l w = elim (ℕ-discrete (i + j) 
   where
     forked : i + j ≡ 2 * n → i ≡ fork k n → (familyAt n (fork k n) i j x ≡ 0) ⊎ Listed k n (ruleAt k n i j x (familyAt n (fork k n) i j x))
     forked t f =
-        let d = fork-of k n i h p f in
+        let d = fork-of k n i p f in
         let g : j ≡ n + 2 = omega arith in
         elim (ℕ-discrete x n) [
           | yes r ↦ inr (rw (familyAt-six n (fork k n) i j x e t f r, g, r) (rw (ruleAt-six k n i h (d .0) (d .1)) (six (d .0) (d .1))))
@@ -131,7 +131,7 @@ leaving-listed k n i j x h (further p q e m) o l w = elim (ℕ-discrete (i + j) 
           | no f ↦ elim (ℕ-discrete x (i + 1)) [
             | yes r ↦
                 let g : j ≡ 2 * n - i = omega arith in
-                inr (rw (familyAt-turn n (fork k n) i j x e t f r, g, r) (rw (ruleAt-turn k n i) (turn p (turns-of-end k n i j h e q m t f))))
+                inr (rw (familyAt-turn n (fork k n) i j x e t f r, g, r) (rw (ruleAt-turn k n i) (turn p (turns-of-end k n i j e q m t f))))
             | no r ↦ inl (familyAt-after n (fork k n) i j x e t (λ z. absurd (f z)) r)
           ]
         ]
@@ -140,7 +140,7 @@ leaving-listed k n i j x h (further p q e m) o l w = elim (ℕ-discrete (i + j) 
         → (familyAt n (fork k n) i j x ≡ 0) ⊎ Listed k n (ruleAt k n i j x (familyAt n (fork k n) i j x))
     carrying t r f =
         inr (rw (familyAt-carry n (fork k n) i j x e t r f, r)
-        (rw (ruleAt-carry k n i j) (carry p e (carries-of-leaving k n i j h e q m t (rw r at (w .not-down)) f))))
+        (rw (ruleAt-carry k n i j) (carry p e (carries-of-leaving k n i j e q m t (rw r at (w .not-down)) f))))
 
     inside : (i + j ≡ 2 * n → ⊥) → (familyAt n (fork k n) i j x ≡ 0) ⊎ Listed k n (ruleAt k n i j x (familyAt n (fork k n) i j x))
     inside t =
@@ -148,7 +148,7 @@ leaving-listed k n i j x h (further p q e m) o l w = elim (ℕ-discrete (i + j) 
           | yes r ↦ elim (ℕ-discrete j n) [
             | yes g ↦ elim (ℕ-discrete i (fork k n)) [
               | yes f ↦
-                  let d = fork-of k n i h p f in
+                  let d = fork-of k n i p f in
                   inr (rw (familyAt-five n (fork k n) i j x e t r f g, g, r) (rw (ruleAt-five k n i h (d .0) (d .1)) (five (d .0) (d .1))))
               | no f ↦ carrying t r (λ z. absurd (f z))
             ]
@@ -157,16 +157,10 @@ leaving-listed k n i j x h (further p q e m) o l w = elim (ℕ-discrete (i + j) 
           | no r ↦ inl (familyAt-inside n (fork k n) i j x e t r)
         ]
 
-letter-step : (n s : ℕ) (v : List ℕ) → wrongLetter n (s ∷ v) ≡ false → (1 ≤ s) × (s ≤ n) × (wrongLetter n v ≡ false)
-unfolding wrongLetter
-letter-step n s v w =
-    let a = letters-of-accepted n (s ∷ v) w s (List·Memᴰ·head refl) in
-    (a .0, a .1, or-false-right (eqb s 0 || ltb n s) (wrongLetter n v) w)
-
 pub wrongLetter-drop : (n p : ℕ) (u : List ℕ) → wrongLetter n u ≡ false → wrongLetter n (drop p u) ≡ false
 wrongLetter-drop n zero u w = w
 wrongLetter-drop n (suc p) [] w = w
-wrongLetter-drop n (suc p) (s ∷ u) w = wrongLetter-drop n p u (letter-step n s u w .2)
+wrongLetter-drop n (suc p) (s ∷ u) w = wrongLetter-drop n p u (letter-within-cons n s u w .2)
 
 -- the rule is an entry of the list, and the word v begins with its left side
 abbrev Begins : Kind → ℕ → List ℕ → Rule → Type 0
@@ -199,15 +193,15 @@ walk-begins : (k : Kind) (n i j : ℕ) (v : List ℕ) (r : Rule) → least k ≤
 unfolding walk
 walk-begins k n i j [] r h a w e = absurd (Option·none-ne-some r e)
 walk-begins k n i j (x ∷ v) r h a w e =
-    step (nextIndex n (levels k n) (lastIndex k n i) j x) (going n (levels k n) (lastIndex k n i) j x (letter-step n x v w .1))
-    (λ s b q. walk-begins k n i s v r h b (letter-step n x v w .2) q) e
+    step (nextIndex n (levels k n) (lastIndex k n i) j x) (going n (levels k n) (lastIndex k n i) j x (letter-within-cons n x v w .1))
+    (λ s b q. walk-begins k n i s v r h b (letter-within-cons n x v w .2) q) e
   where
     step : (s : ℕ) → Going n (levels k n) (lastIndex k n i) j x s → ((s : ℕ) → Along k n i s → walk k n i s v ≡ some r → Begins k n (block k n i s ++ v) r)
         → pick (eqb s 0) (found k n i j x (familyAt n (fork k n) i j x)) (walk k n i s v) ≡ some r → Begins k n (block k n i j ++ (x ∷ v)) r
     step s g ih q = elim (ℕ-discrete s 0) [ yes z ↦ left z | no z ↦ stays z ]
       where
         left : s ≡ 0 → Begins k n (block k n i j ++ (x ∷ v)) r
-        left z = found-begins k n i j x v r h a (letter-step n x v w .0) (letter-step n x v w .1) (leaving-of g z) (rw (eq-eqb s 0 z) at q)
+        left z = found-begins k n i j x v r h a (letter-within-cons n x v w .0) (letter-within-cons n x v w .1) (leaving-of g z) (rw (eq-eqb s 0 z) at q)
 
         stays : (s ≡ 0 → ⊥) → Begins k n (block k n i j ++ (x ∷ v)) r
         stays z =
@@ -219,7 +213,7 @@ scan-begins : (k : Kind) (n : ℕ) (v : List ℕ) (r : Rule) → least k ≤ n �
 unfolding scan wrongLetter
 scan-begins k n [] r h w e = absurd (Option·none-ne-some r e)
 scan-begins k n (i ∷ v) r h w e =
-    let g = letter-step n i v w in
+    let g = letter-within-cons n i v w in
     rw (block-one k n i h (g .1)) at (walk-begins k n i i v r h (start (g .0) (g .1) refl) (g .2) e)
 
 -- ---- at most one rule fits

@@ -18,7 +18,7 @@ use Rattle.window.proofs.StepCode.{letter-within}
 use Rattle.rewriter.specs.declared.search.Fitting.{Fitting}
 use Rattle.rewriter.specs.declared.search.Fitting.the-variants.{Rule as Shown, Nothing}
 use Rattle.rewriter.specs.Rules.{Rule, rules, firstFitting}
-use Rattle.rewriter.proofs.NextLetter.{corner-le, corner-levels, lastIndex-le}
+use Rattle.rewriter.proofs.NextLetter.{corner-levels, lastIndex-le}
 use Rattle.rewriter.proofs.Scan.{
   fork,
   nextIndex,
@@ -32,11 +32,12 @@ use Rattle.rewriter.proofs.Scan.{
   Along,
   start,
   further,
-  block-one,
   along-next,
   walk-next,
 }
 use Rattle.rewriter.proofs.ScanRules.{wrongLetter-drop, scan-is-firstFitting}
+use Rattle.rewriter.proofs.Letters.{block-one}
+use Rattle.window.proofs.Runs.{corner-le}
 
 -- a rule that fits, as the search hands it on
 abbrev pub fittingOf : Option Rule → Fitting

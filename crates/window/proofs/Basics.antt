@@ -6,8 +6,9 @@
 use mathlib.Core.Path.{_≡_, refl, ap, _∙_}
 use mathlib.Core.Bool.{Bool, true, false, _||_}
 use mathlib.Core.List.{List, [], _∷_, _++_}
-use Prim.Native.Nat.{ℕ, zero, suc, _+_, _-_}
+use Prim.Native.Nat.{ℕ, zero, suc, _+_, _-_, _≤_}
 use native.Mathlib.Nat.{add-suc, suc-add, add-zero, zero-add}
+use native.Mathlib.Omega.{arith}
 use lib.Dec.{eqb}
 use lib.IntN.{ℤ, pos}
 use lib.ListN.{length, length-map}
@@ -20,6 +21,11 @@ pub pick-same : {X : Type 0} (t : Bool) (x : X) → pick t x x ≡ x
 pick-same true x = refl
 pick-same false x = refl
 
+-- what holds of both holds of the one picked
+pub by-pick : {X : Type 0} (P : X → Type 0) (t : Bool) (x y : X) → P x → P y → P (pick t x y)
+by-pick P true x y p q = p
+by-pick P false x y p q = q
+
 pub or-false-left : (a b : Bool) → (a || b) ≡ false → a ≡ false
 or-false-left true b e = e
 or-false-left false b e = refl
@@ -27,6 +33,11 @@ or-false-left false b e = refl
 pub or-false-right : (a b : Bool) → (a || b) ≡ false → b ≡ false
 or-false-right true b e = let z : true ≡ false = e in cc
 or-false-right false b e = e
+
+pub lanes-le-add-one : (k : Kind) (n : ℕ) → lanes k n ≤ n + 1
+lanes-le-add-one A n = omega arith
+lanes-le-add-one B n = omega arith
+lanes-le-add-one D n = omega arith
 
 -- ---- runs of numbers
 
@@ -65,20 +76,16 @@ length-exchangeNegate [] = refl
 length-exchangeNegate (x ∷ []) = refl
 length-exchangeNegate (x ∷ y ∷ w) = refl
 
-length-pick : (t : Bool) (f g : List ℤ → List ℤ) (w : List ℤ) → length (f w) ≡ length w → length (g w) ≡ length w → length (pick t f g w) ≡ length w
-length-pick true f g w hf hg = hf
-length-pick false f g w hf hg = hg
-
 -- a step changes no length
 pub length-act : (k : Kind) (n s : ℕ) (w : List ℤ) → length (act k n s w) ≡ length w
 unfolding act
 length-act A n s w = length-from exchange length-exchange (s - 1) w
 length-act B n s w =
-    length-pick (eqb s n) (from (n - 1) negateFirst) (from (s - 1) exchange) w
+    by-pick (λ f. length (f w) ≡ length w) (eqb s n) (from (n - 1) negateFirst) (from (s - 1) exchange)
     (length-from negateFirst length-negateFirst (n - 1) w)
     (length-from exchange length-exchange (s - 1) w)
 length-act D n s w =
-    length-pick (eqb s n) (from (n - 2) exchangeNegate) (from (s - 1) exchange) w
+    by-pick (λ f. length (f w) ≡ length w) (eqb s n) (from (n - 2) exchangeNegate) (from (s - 1) exchange)
     (length-from exchangeNegate length-exchangeNegate (n - 2) w)
     (length-from exchange length-exchange (s - 1) w)
 

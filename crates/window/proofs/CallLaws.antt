@@ -11,19 +11,11 @@ use lib.ListN.{length, drop}
 use borrow.Author.Tests.{eq-eqb, ne-eqb, lt-ltb, le-ltb, ltb-false}
 use Rattle.window.specs.declared.Answer.the-variants.{Length, Refused}
 use Rattle.window.proofs.Basics.{or-false-left, or-false-right}
-use Rattle.window.proofs.Sizes.{then-zero, check-zero}
+use Rattle.window.proofs.Refusals.{then-zero, check-zero}
 use Rattle.window.specs.Kinds.{Kind, A, B, D, kindOf, lanes, least, greatest}
 use Rattle.window.specs.Windows.{window, product, inverse}
 use Rattle.window.specs.Checks.{check, _then_, wrongKind, wrongRank, tooLong, wrongLetter, tooShort, rankRefusal, wordRefusal, windowRefusal}
 use Rattle.window.specs.Calls.{Outcome, answerOf, written, writes, windowOfWord, productOfWindows, inverseOfWindow}
-
--- ---- the first refusal of two
-
-pub then-refused : (q r s : ℕ) → r ≡ q → (r ≡ 0 → ⊥) → r ≡ (q then s)
-then-refused q r s e f = e ∙ sym (rw (ne-eqb q 0 (λ z. f (e ∙ z))))
-
-pub then-next : (q r s t : ℕ) → r ≡ q → r ≡ 0 → t ≡ s → t ≡ (q then s)
-then-next q r s t e z h = h ∙ sym (rw (eq-eqb q 0 (sym e ∙ z)))
 
 -- ---- what passed checks say
 
@@ -44,6 +36,10 @@ rank-accepted k n h = (rank-within k n h .0, bounded (kindOf k) (rank-within k n
 pub letters-accepted : (n : ℕ) (u : List ℕ) → wordRefusal n u ≡ 0 → wrongLetter n u ≡ false
 unfolding wordRefusal
 letters-accepted n u h = check-zero 7 (wrongLetter n u) (then-zero (check 7 (tooLong u)) (check 8 (wrongLetter n u)) h .1)
+
+pub length-accepted : (n : ℕ) (u : List ℕ) → wordRefusal n u ≡ 0 → length u ≤ 4096
+unfolding wordRefusal tooLong
+length-accepted n u h = ltb-false 4096 (length u) (check-zero 6 (tooLong u) (then-zero (check 7 (tooLong u)) (check 8 (wrongLetter n u)) h .0))
 
 -- a preset that passes checks 5 to 8
 pub preset-accepted : (k n : ℕ) (u : List ℕ) (r : ℕ) → r ≡ (rankRefusal k n then wordRefusal n u) → r ≡ 0

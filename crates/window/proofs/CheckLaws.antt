@@ -10,15 +10,16 @@ use native.Mathlib.Decide.{ℕ-discrete}
 use native.Mathlib.Nat.{zero-add, le-of-eq}
 use native.Mathlib.Numerals.{add-one, one-add}
 use native.Mathlib.Omega.{arith}
-use lib.Dec.{eqb}
+use lib.Dec.{eqb, ltb}
 use lib.IntN.{ℤ, pos, natAbs}
 use lib.ListN.{length, getD, take, drop, length-drop}
 use lib.Seq.{drop-cons, take-all}
 use lib.Signed.{mag}
 use mir.Syntax.{w8}
 use mir.Val.{toZ, ofZ}
-use borrow.Author.Tests.{eq-eqb, ne-eqb, lt-ltb, le-ltb}
+use borrow.Author.Tests.{eq-eqb, ne-eqb, lt-ltb, le-ltb, eqb-false, ltb-false}
 use Rattle.window.proofs.Bytes.{element-back}
+use Rattle.window.proofs.Basics.{or-false-left, or-false-right}
 use Rattle.window.specs.Kinds.{Kind, A, B, D, pick, kindOf, lanes}
 use Rattle.window.specs.Length.{negative, negatives, one}
 use Rattle.window.specs.Checks.{wrongKind, wrongLetter, wrongAt, wrongEntry, hasSize, negativeInA, odd, oddNegatives, wrongLanes, windowRefusal}
@@ -77,6 +78,14 @@ pub wrongLetter-step : (n : ℕ) (u : List ℕ) (i : ℕ) → i < length u → (
     → wrongLetter n (drop i u) ≡ wrongLetter n (drop (i + 1) u)
 unfolding wrongLetter
 wrongLetter-step n u i h f l = rw (drop-next u i 0 h, ne-eqb (getD u i 0) 0 f, le-ltb n (getD u i 0) l)
+
+-- the first letter of a word that passes check 8, and the others
+pub letter-within-cons : (n s : ℕ) (u : List ℕ) → wrongLetter n (s ∷ u) ≡ false → (1 ≤ s) × (s ≤ n) × (wrongLetter n u ≡ false)
+unfolding wrongLetter
+letter-within-cons n s u e =
+    let a : (eqb s 0 || ltb n s) ≡ false = or-false-left (eqb s 0 || ltb n s) (wrongLetter n u) e in
+    let z : s ≡ 0 → ⊥ = eqb-false s 0 (or-false-left (eqb s 0) (ltb n s) a) in
+    (omega arith, ltb-false n s (or-false-right (eqb s 0) (ltb n s) a), or-false-right (eqb s 0 || ltb n s) (wrongLetter n u) e)
 
 -- ---- entries
 

@@ -1,19 +1,17 @@
 -- The calls that write normal forms: check 14 against the length that the sums give, and what is written from a work window.
 -- Assumes nothing.
-use mathlib.Core.Path.{_≡_, refl, sym, ap, _∙_, subst}
+use mathlib.Core.Path.{_≡_, refl, sym, ap, _∙_}
 use mathlib.Core.List.{List, _++_}
 use Prim.Native.Nat.{ℕ, _≤_, _<_}
 use native.Mathlib.Omega.{arith}
 use lib.IntN.{ℤ}
-use lib.ListN.{length, take, drop}
+use lib.ListN.{length, drop}
 use Rattle.window.specs.declared.Answer.{Answer}
 use Rattle.window.specs.declared.Answer.the-variants.{Length, Refused}
-use Rattle.window.proofs.Levels.{window-accepted, accepted-of-refusal, refusal-of-accepted}
-use Rattle.window.proofs.Products.{window-append}
-use Rattle.window.proofs.Inverses.{inverse-accepted}
+use Rattle.window.proofs.Levels.{accepted-of-refusal}
 use Rattle.window.proofs.CallLaws.{rank-accepted, lanes-le, writes-short, writes-done}
 use Rattle.window.proofs.Lengths.{length-normalForm}
-use Rattle.window.specs.Kinds.{kindOf, lanes, least}
+use Rattle.window.specs.Kinds.{kindOf, least}
 use Rattle.window.specs.Windows.{window, product, inverse}
 use Rattle.window.specs.Length.{windowLength}
 use Rattle.window.specs.Checks.{_then_, rankRefusal, wordRefusal, windowRefusal}
@@ -25,7 +23,7 @@ use Rattle.window.specs.Calls.{Outcome, writes, normalFormOfWindow, norm
 module _ (k n : ℕ) (w : List ℤ) (out : List ℕ) (l : ℕ) (h : rankRefusal k n ≡ 0) (g : windowRefusal (kindOf k) n w ≡ 0) (e : l ≡ windowLength (kindOf k) w) where
   -- the sums are the normal form's length
   sums : length (normalForm (kindOf k) n w) ≡ l
-  sums = length-normalForm (kindOf k) n w (rank-accepted k n h .0) (accepted-of-refusal (kindOf k) n w g) ∙ sym e
+  sums = length-normalForm (kindOf k) n w (accepted-of-refusal (kindOf k) n w g) ∙ sym e
 
   pub checked-short : length out < l
       → (Refused 14 ≡ writes 0 (normalForm (kindOf k) n w) out .answer) × (out ≡ writes 0 (normalForm (kindOf k) n w) out .bytes)
@@ -41,30 +39,10 @@ module _ (k n : ℕ) (w : List ℤ) (out : List ℕ) (l : ℕ) (h : rankRefusal 
       let d = writes-done (writes 0 (normalForm (kindOf k) n w) out) 0 0 (normalForm (kindOf k) n w) out refl refl r (normalForm (kindOf k) n w) refl (sym a) (omega (arith, sums)) refl in
       (d .0, b ∙ d .1)
 
--- ---- the work window
-
--- the front of a work window, where it holds x
-pub front-part : (k n m : ℕ) (x r : List ℤ) → m ≡ lanes (kindOf k) n → take (lanes (kindOf k) n) r ≡ x → take m r ≡ x
-front-part k n m x r e w = ap (λ (a : ℕ). take a r) e ∙ w
-
-pub front-passes : (k n : ℕ) (x v : List ℤ) → v ≡ x → windowRefusal (kindOf k) n x ≡ 0 → windowRefusal (kindOf k) n v ≡ 0
-front-passes k n x v e h = ap (windowRefusal (kindOf k) n) e ∙ h
-
-pub window-passes : (k n : ℕ) (u : List ℕ) → rankRefusal k n ≡ 0 → windowRefusal (kindOf k) n (window (kindOf k) n u) ≡ 0
-window-passes k n u h = refusal-of-accepted (kindOf k) n (window (kindOf k) n u) (window-accepted (kindOf k) n u (rank-accepted k n h .0))
-
-pub product-passes : (k n : ℕ) (u v : List ℕ) → rankRefusal k n ≡ 0 → windowRefusal (kindOf k) n (product (window (kindOf k) n u) (window (kindOf k) n v)) ≡ 0
-product-passes k n u v h = subst (λ (w : List ℤ). windowRefusal (kindOf k) n w ≡ 0) (window-append (kindOf k) n u v) (window-passes k n (u ++ v) h)
-
-pub inverse-passes : (k n : ℕ) (u : List ℕ) → rankRefusal k n ≡ 0 → windowRefusal (kindOf k) n (inverse (window (kindOf k) n u)) ≡ 0
-inverse-passes k n u h =
-    refusal-of-accepted (kindOf k) n (inverse (window (kindOf k) n u))
-    (inverse-accepted (kindOf k) n (window (kindOf k) n u) (window-accepted (kindOf k) n u (rank-accepted k n h .0)))
+-- ---- what the calls answer
 
 pub window-fits : (k n : ℕ) (w : List ℤ) → rankRefusal k n ≡ 0 → windowRefusal (kindOf k) n w ≡ 0 → length w ≤ 64
 window-fits k n w h g = lanes-le k n (length w) h (accepted-of-refusal (kindOf k) n w g .size)
-
--- ---- what the calls answer
 
 -- no check refused before check 14, and the normal form was written from a work window that holds x
 pub call-written : (o : Outcome ℕ) (k n q r : ℕ) (w x : List ℤ) (out v : List ℕ) (a : Answer) → o ≡ writes q (normalForm (kindOf k) n x) out → r ≡ q → r ≡ 0 → w ≡ x

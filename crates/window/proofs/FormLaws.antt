@@ -9,7 +9,6 @@ use lib.IntN.{ℤ}
 use lib.ListN.{length, length-append}
 use borrow.Author.Tests.{eq-eqb}
 use Rattle.window.specs.declared.Answer.the-variants.{Length}
-use Rattle.window.proofs.CallLaws.{rank-accepted}
 use Rattle.window.proofs.Levels.{Accepted, window-accepted, accepted-of-refusal}
 use Rattle.window.proofs.Products.{window-append}
 use Rattle.window.proofs.Inverses.{window-reverse}
@@ -32,38 +31,37 @@ pub lengthOfWindow-normalForm : (k n : ℕ) (w : List ℤ) → rankRefusal k n �
 unfolding lengthOfWindow answerOf
 lengthOfWindow-normalForm k n w h g =
     rw (eq-eqb (rankRefusal k n) 0 h, eq-eqb (windowRefusal (kindOf k) n w) 0 g)
-    (ap Length (sym (length-normalForm (kindOf k) n w (rank-accepted k n h .0) (accepted-of-refusal (kindOf k) n w g))))
+    (ap Length (sym (length-normalForm (kindOf k) n w (accepted-of-refusal (kindOf k) n w g))))
 
 pub lengthOfWord-normalForm : (k n : ℕ) (u : List ℕ) → rankRefusal k n ≡ 0 → wordRefusal n u ≡ 0
     → lengthOfWord k n u ≡ Length (length (wordNormalForm (kindOf k) n u))
 unfolding lengthOfWord answerOf
 lengthOfWord-normalForm k n u h g =
-    let r : least (kindOf k) ≤ n = rank-accepted k n h .0 in
     rw (eq-eqb (rankRefusal k n) 0 h, eq-eqb (wordRefusal n u) 0 g)
-    (ap Length (sym (length-normalForm (kindOf k) n (window (kindOf k) n u) r (window-accepted (kindOf k) n u r))))
+    (ap Length (sym (length-normalForm (kindOf k) n (window (kindOf k) n u) (window-accepted (kindOf k) n u))))
 
 -- the greatest length is reached
 pub greatest-reached : (k : Kind) (n : ℕ) → least k ≤ n → windowLength k (window k n (blocks k n 1 (greatestIndices k n))) ≡ greatestLength k n
 greatest-reached k n r =
-    windowLength-of-greatest k n (window k n (blocks k n 1 (greatestIndices k n))) r (window-accepted k n _ r)
-    (normalForm-blocks k n r (greatestIndices k n) (indices-greatest k n))
+    windowLength-of-greatest k n (window k n (blocks k n 1 (greatestIndices k n))) r (window-accepted k n _)
+    (normalForm-blocks k n (greatestIndices k n) (indices-greatest k n))
 
 -- ---- equal windows
 
-pub normalForm-eq-iff : (k : Kind) (n : ℕ) (v w : List ℤ) → least k ≤ n → Accepted k n v → Accepted k n w
+pub normalForm-eq-iff : (k : Kind) (n : ℕ) (v w : List ℤ) → Accepted k n v → Accepted k n w
     → (normalForm k n v ≡ normalForm k n w) ↔ (v ≡ w)
-normalForm-eq-iff k n v w r a b = (normalForm-injective k n v w r a b, λ e. ap (normalForm k n) e)
+normalForm-eq-iff k n v w a b = (normalForm-injective k n v w a b, λ e. ap (normalForm k n) e)
 
-pub wordNormalForm-eq-iff : (k : Kind) (n : ℕ) (u v : List ℕ) → least k ≤ n → (wordNormalForm k n u ≡ wordNormalForm k n v) ↔ (window k n u ≡ window k n v)
-wordNormalForm-eq-iff k n u v r = normalForm-eq-iff k n (window k n u) (window k n v) r (window-accepted k n u r) (window-accepted k n v r)
+pub wordNormalForm-eq-iff : (k : Kind) (n : ℕ) (u v : List ℕ) → (wordNormalForm k n u ≡ wordNormalForm k n v) ↔ (window k n u ≡ window k n v)
+wordNormalForm-eq-iff k n u v = normalForm-eq-iff k n (window k n u) (window k n v) (window-accepted k n u) (window-accepted k n v)
 
 -- ---- products and inverses of words
 
 pub normalForm-product : (k : Kind) (n : ℕ) (u v : List ℕ) → normalForm k n (product (window k n u) (window k n v)) ≡ wordNormalForm k n (u ++ v)
 normalForm-product k n u v = ap (normalForm k n) (sym (window-append k n u v))
 
-pub normalForm-inverse : (k : Kind) (n : ℕ) (u : List ℕ) → least k ≤ n → normalForm k n (inverse (window k n u)) ≡ wordNormalForm k n (reverse u)
-normalForm-inverse k n u r = ap (normalForm k n) (sym (window-reverse k n u r))
+pub normalForm-inverse : (k : Kind) (n : ℕ) (u : List ℕ) → normalForm k n (inverse (window k n u)) ≡ wordNormalForm k n (reverse u)
+normalForm-inverse k n u = ap (normalForm k n) (sym (window-reverse k n u))
 
 -- ---- a window is its list of js
 
@@ -81,6 +79,6 @@ length-blocks k n {i} o (level {j = j} {js = js} a b c d) =
     ∙ ap (λ (x : ℕ). blockLengths k n (suc i) js + x) (length-block k n i j o a c)
 
 -- the length of a window is the sum of its blocks' lengths
-pub windowLength-blocks : (k : Kind) (n : ℕ) (w : List ℤ) → least k ≤ n → Accepted k n w → windowLength k w ≡ blockLengths k n 1 (indices k n (levels k n) 1 w)
-windowLength-blocks k n w r a =
-    sym (length-normalForm k n w r a) ∙ ap length (normalForm-is-blocks k n w) ∙ length-blocks k n (omega arith) (indices-in-range k n w a)
+pub windowLength-blocks : (k : Kind) (n : ℕ) (w : List ℤ) → Accepted k n w → windowLength k w ≡ blockLengths k n 1 (indices k n (levels k n) 1 w)
+windowLength-blocks k n w a =
+    sym (length-normalForm k n w a) ∙ ap length (normalForm-is-blocks k n w) ∙ length-blocks k n (omega arith) (indices-in-range k n w a)

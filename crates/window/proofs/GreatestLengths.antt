@@ -124,4 +124,4 @@ length-blocks-greatest D n r =
 -- a window with these blocks has the greatest length
 pub windowLength-of-greatest : (k : Kind) (n : ℕ) (w : List ℤ) → least k ≤ n → Accepted k n w → normalForm k n w ≡ blocks k n 1 (greatestIndices k n)
     → windowLength k w ≡ greatestLength k n
-windowLength-of-greatest k n w r h e = sym (length-normalForm k n w r h) ∙ ap length e ∙ length-blocks-greatest k n r
+windowLength-of-greatest k n w r h e = sym (length-normalForm k n w h) ∙ ap length e ∙ length-blocks-greatest k n r

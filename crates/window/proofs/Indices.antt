@@ -11,14 +11,14 @@ use native.Mathlib.Omega.{arith}
 use lib.IntN.{ℤ, pos, negsuc, natAbs}
 use lib.ListN.{length, take, drop, length-append, length-map, take-append-drop}
 use lib.Seq.{length-take-le}
-use Rattle.window.specs.Kinds.{Kind, A, B, D, lanes, least, up}
+use Rattle.window.specs.Kinds.{Kind, A, B, D, lanes, up}
 use Rattle.window.specs.Windows.{windowFrom, straight, window, signed, placeFrom}
 use Rattle.window.specs.Length.{negative}
 use Rattle.window.specs.Checks.{hasSize, negativeInA}
 use Rattle.window.specs.NormalForm.{block, levels, lastIndex, blocks, Indices, none, level, without, indexOf, restOf}
 use Rattle.window.proofs.Basics.{length-up, up-append, windowFrom-append}
 use Rattle.window.proofs.Levels.{Accepted, hasSize-below, windowFrom-accepted, straight-accepted}
-use Rattle.window.proofs.Peeling.{Peeled, placeFrom-peeled, restOf-positive, indexOf-positive, indexOf-negative, restOf-peeled, length-restOf, restOf-restOf, between-restOf, AtLevel, atLevel-of-accepted, peeled, atLevel-rest, atLevel-negativeInA, atLevel-last}
+use Rattle.window.proofs.Peeling.{Peeled, placeFrom-peeled, restOf-positive, indexOf-positive, indexOf-negative, restOf-peeled, length-restOf, restOf-restOf, between-restOf, AtLevel, atLevel-of-accepted, peeled, atLevel-rest, atLevel-negativeInA, atLevel-last, levels-le-lanes}
 use Rattle.window.proofs.BlockAction.{turning, windowFrom-block}
 use Rattle.window.proofs.Sizes.{hasSize-head, hasSize-tail}
 
@@ -74,21 +74,16 @@ windowFrom-step k n p js u e v l q s a h =
     ∙ ap (λ (w : List ℤ). windowFrom k n w b) (h ∙ still-snoc p (restOf k e (u ++ v)))
     ∙ windowFrom-block k n (suc p) (map pos (up 1 p)) u e v (omega (arith, length-map (up 1 p) pos, length-up 1 p)) l q s a
 
-rank-positive : (k : Kind) (n : ℕ) → least k ≤ n → 1 ≤ n
-rank-positive A n h = omega arith
-rank-positive B n h = omega arith
-rank-positive D n h = omega arith
-
-windowFrom-indices : (k : Kind) (n t p : ℕ) (w : List ℤ) → least k ≤ n → t + suc p ≡ suc (levels k n) → AtLevel k n (suc p) w
+windowFrom-indices : (k : Kind) (n t p : ℕ) (w : List ℤ) → t + suc p ≡ suc (levels k n) → AtLevel k n (suc p) w
     → windowFrom k n (straight (lanes k n)) (blocks k n (suc p) (indices k n t (suc p) w)) ≡ map pos (up 1 p) ++ w
 unfolding indices blocks windowFrom
-windowFrom-indices k n zero p w r l h =
+windowFrom-indices k n zero p w l h =
     straight-cut (lanes k n) p (length w) (omega (arith, h .size))
-    ∙ ap (λ (v : List ℤ). map pos (up 1 p) ++ v) (sym (atLevel-last k n (suc p) w (rank-positive k n r) (omega arith) h))
-windowFrom-indices k n (suc t) p w r l h = go (peeled k n (suc p) w (omega arith) h) (windowFrom-indices k n t (suc p))
+    ∙ ap (λ (v : List ℤ). map pos (up 1 p) ++ v) (sym (atLevel-last k n (suc p) w (omega arith) h))
+windowFrom-indices k n (suc t) p w l h = go (peeled k n (suc p) w (omega arith) h) (windowFrom-indices k n t (suc p))
   where
     go : Peeled (suc p) w
-        → ((v : List ℤ) → least k ≤ n → t + suc (suc p) ≡ suc (levels k n) → AtLevel k n (suc (suc p)) v
+        → ((v : List ℤ) → t + suc (suc p) ≡ suc (levels k n) → AtLevel k n (suc (suc p)) v
         → windowFrom k n (straight (lanes k n)) (blocks k n (suc (suc p)) (indices k n t (suc (suc p)) v)) ≡ map pos (up 1 (suc p)) ++ v)
         → windowFrom k n (straight (lanes k n)) (blocks k n (suc p) (indices k n (suc t) (suc p) w)) ≡ map pos (up 1 p) ++ w
     go c ih =
@@ -96,12 +91,12 @@ windowFrom-indices k n (suc t) p w r l h = go (peeled k n (suc p) w (omega arith
         ap (λ (js : List ℕ). windowFrom k n (straight (lanes k n)) (blocks k n (suc p) js)) (indices-of-peeled k n t (suc p) w c (omega arith))
         ∙ windowFrom-step k n p (indices k n t (suc (suc p)) (restOf k (c .entry) (c .left ++ c .right))) (c .left) (c .entry) (c .right) (omega arith) (g .size) (c .size)
         (atLevel-negativeInA k n (suc p) (c .left) (c .entry) (c .right) g)
-        (ih (restOf k (c .entry) (c .left ++ c .right)) r (omega arith) (atLevel-rest k n (suc p) (c .left) (c .entry) (c .right) (omega arith) (omega arith) (c .size) g))
+        (ih (restOf k (c .entry) (c .left ++ c .right)) (omega arith) (atLevel-rest k n (suc p) (c .left) (c .entry) (c .right) (omega arith) (omega arith) (c .size) g))
         ∙ ap (λ (v : List ℤ). map pos (up 1 p) ++ v) (sym (c .whole))
 
-pub window-indices : (k : Kind) (n : ℕ) (w : List ℤ) → least k ≤ n → Accepted k n w → window k n (blocks k n 1 (indices k n (levels k n) 1 w)) ≡ w
+pub window-indices : (k : Kind) (n : ℕ) (w : List ℤ) → Accepted k n w → window k n (blocks k n 1 (indices k n (levels k n) 1 w)) ≡ w
 unfolding window up
-window-indices k n w r h = windowFrom-indices k n (levels k n) 0 w r (omega arith) (atLevel-of-accepted k n w h)
+window-indices k n w h = windowFrom-indices k n (levels k n) 0 w (omega arith) (atLevel-of-accepted k n w h)
 
 -- ---- a window's indices are in their ranges
 
@@ -237,33 +232,32 @@ shown-step k n p j js l h a c =
 shown-none : (k : Kind) (n p : ℕ) → p ≡ levels k n → Shown k n p []
 unfolding windowFrom blocks indices
 shown-none k n p h =
-    record { entries = map pos (up (suc p) (lanes k n - p)); shows = straight-cut (lanes k n) p (lanes k n - p) (rest k h); again = refl }
-  where
-    rest : (k : Kind) → p ≡ levels k n → p + (lanes k n - p) ≡ lanes k n
-    rest A h = omega arith
-    rest B h = omega arith
-    rest D h = omega arith
+    record {
+      entries = map pos (up (suc p) (lanes k n - p));
+      shows = straight-cut (lanes k n) p (lanes k n - p) (omega (arith, levels-le-lanes k n));
+      again = refl;
+    }
 
-shown-atLevel : (k : Kind) (n p : ℕ) (js : List ℕ) → least k ≤ n → p ≤ levels k n → (h : Shown k n p js) → AtLevel k n (suc p) (h .entries)
-shown-atLevel k n p js r l h =
+shown-atLevel : (k : Kind) (n p : ℕ) (js : List ℕ) → p ≤ levels k n → (h : Shown k n p js) → AtLevel k n (suc p) (h .entries)
+shown-atLevel k n p js l h =
     atLevel-still k n 1 p (suc p) (h .entries) (omega arith) (omega arith) (omega arith)
     (atLevel-of-accepted k n (map pos (up 1 p) ++ h .entries)
-    (subst (Accepted k n) (h .shows) (windowFrom-accepted k n (straight (lanes k n)) (blocks k n (suc p) js) r (straight-accepted k n))))
+    (subst (Accepted k n) (h .shows) (windowFrom-accepted k n (straight (lanes k n)) (blocks k n (suc p) js) (straight-accepted k n))))
 
-shown : (k : Kind) (n p : ℕ) {js : List ℕ} → least k ≤ n → Indices k n (suc p) js → Shown k n p js
-shown k n p r (none q) = shown-none k n p (omega arith)
-shown k n p r (level {j = j} {js = js} a b c d) =
-    let h : Shown k n (suc p) js = shown k n (suc p) r d in
-    let f : AtLevel k n (suc (suc p)) (h .entries) = shown-atLevel k n (suc p) js r a h in
+shown : (k : Kind) (n p : ℕ) {js : List ℕ} → Indices k n (suc p) js → Shown k n p js
+shown k n p (none q) = shown-none k n p (omega arith)
+shown k n p (level {j = j} {js = js} a b c d) =
+    let h : Shown k n (suc p) js = shown k n (suc p) d in
+    let f : AtLevel k n (suc (suc p)) (h .entries) = shown-atLevel k n (suc p) js a h in
     shown-step k n p j js a h f (chosen k n p j (h .entries) b c (omega (arith, f .size)))
 
 pub length-of-indices : (k : Kind) (n : ℕ) {i : ℕ} {js : List ℕ} → Indices k n i js → length js + i ≡ suc (levels k n)
 length-of-indices k n (none q) = omega arith
 length-of-indices k n (level a b c d) = omega (arith, length-of-indices k n d)
 
-pub indices-window : (k : Kind) (n : ℕ) (js : List ℕ) → least k ≤ n → Indices k n 1 js → indices k n (levels k n) 1 (window k n (blocks k n 1 js)) ≡ js
+pub indices-window : (k : Kind) (n : ℕ) (js : List ℕ) → Indices k n 1 js → indices k n (levels k n) 1 (window k n (blocks k n 1 js)) ≡ js
 unfolding window up
-indices-window k n js r h =
-    let g : Shown k n 0 js = shown k n 0 r h in
+indices-window k n js h =
+    let g : Shown k n 0 js = shown k n 0 h in
     let l : levels k n ≡ length js = omega (arith, length-of-indices k n h) in
     ap (indices k n (levels k n) 1) (g .shows) ∙ ap (λ (t : ℕ). indices k n t 1 (g .entries)) l ∙ g .again

@@ -11,7 +11,7 @@ use native.Mathlib.Omega.{arith}
 use lib.IntN.{ℤ, pos, negsuc, negℤ, natAbs, negℤ-negℤ}
 use lib.ListN.{length, getD, length-map}
 use lib.Seq.{ext-getD}
-use Rattle.window.specs.Kinds.{Kind, A, B, D, lanes, least, up}
+use Rattle.window.specs.Kinds.{Kind, A, B, D, lanes, up}
 use Rattle.window.specs.Windows.{act, windowFrom, straight, window, at, product, signed, placeFrom, inverse}
 use Rattle.window.specs.Length.{negatives}
 use Rattle.window.specs.Checks.{hasSize, odd}
@@ -127,7 +127,7 @@ windowFrom-reverse k n w (s ∷ u) =
     ∙ ap (act k n s) (windowFrom-reverse k n (act k n s w) u)
     ∙ act-involution k n s w
 
-pub window-reverse : (k : Kind) (n : ℕ) (u : List ℕ) → least k ≤ n → window k n (reverse u) ≡ inverse (window k n u)
-window-reverse k n u r =
-    inverse-unique k n (window k n u) (window k n (reverse u)) (window-accepted k n u r) (window-accepted k n (reverse u) r)
+pub window-reverse : (k : Kind) (n : ℕ) (u : List ℕ) → window k n (reverse u) ≡ inverse (window k n u)
+window-reverse k n u =
+    inverse-unique k n (window k n u) (window k n (reverse u)) (window-accepted k n u) (window-accepted k n (reverse u))
     (sym (window-append k n u (reverse u)) ∙ unfold window in windowFrom-reverse k n (straight (lanes k n)) u)

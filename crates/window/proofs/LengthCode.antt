@@ -22,6 +22,7 @@ use Rattle.window.proofs.Bytes.{element-back}
 use Rattle.window.proofs.CheckLaws.{take-rest, drop-next, kindOf-one, kindOf-two, kindOf-three}
 use Rattle.window.proofs.Levels.{Between, Distinct, accepted-of-refusal, refusal-of-accepted, hasSize-below}
 use Rattle.window.proofs.PairWeights.{weight, weights, pairWeights, mirrored, inversions-add-negativeSumPairs, length-by-weights, pairWeights-le}
+use Rattle.window.proofs.Basics.{lanes-le-add-one}
 
 -- ---- bytes and parts
 
@@ -115,9 +116,7 @@ unfolding negatives
 negatives-end w i h = rw (drop-of-length-le w h)
 
 pub length-le-of-refusal : (k : Kind) (n : ℕ) (w : List ℤ) → n ≤ 64 → windowRefusal k n w ≡ 0 → length w ≤ 65
-length-le-of-refusal A n w l h = omega (arith, accepted-of-refusal A n w h .size)
-length-le-of-refusal B n w l h = omega (arith, accepted-of-refusal B n w h .size)
-length-le-of-refusal D n w l h = omega (arith, accepted-of-refusal D n w h .size)
+length-le-of-refusal k n w l h = omega (arith, accepted-of-refusal k n w h .size, lanes-le-add-one k n)
 
 windowLength-is-add : (k : Kind) (n : ℕ) (w : List ℤ) → windowRefusal k n w ≡ 0 → windowLength k w ≡ bothPairs w + mirrored k w
 windowLength-is-add k n w h =

@@ -12,7 +12,7 @@ use borrow.Author.Tests.{ltb-false, leb-false, lt-ltb, le-ltb}
 use lib.Dec.{leb, ltb}
 use lib.IntN.{ℤ, pos, negsuc, natAbs}
 use lib.ListN.{length, length-append}
-use Rattle.window.specs.Kinds.{Kind, A, B, D, pick, lanes, least}
+use Rattle.window.specs.Kinds.{Kind, A, B, D, pick, lanes}
 use Rattle.window.specs.Windows.{from, negateFirst, signed}
 use Rattle.window.specs.Length.{negative, one, negatives, windowLength}
 use Rattle.window.specs.Checks.{hasSize, negativeInA}
@@ -163,16 +163,16 @@ total-insert k n i u e v o l q h =
 -- ---- all levels
 
 -- at the end of the levels at most one entry is left, in B none
-total-last : (k : Kind) (n i : ℕ) (w : List ℤ) → least k ≤ n → i ≡ suc (levels k n) → length w + i ≡ suc (lanes k n) → 0 ≡ total k w
+total-last : (k : Kind) (n i : ℕ) (w : List ℤ) → i ≡ suc (levels k n) → length w + i ≡ suc (lanes k n) → 0 ≡ total k w
 unfolding pairWeights weights mirrored negatives
-total-last A n i [] r t s = refl
-total-last A n i (x ∷ []) r t s = refl
-total-last A n i (x ∷ y ∷ w) r t s = absurd (omega arith)
-total-last B n i [] r t s = refl
-total-last B n i (x ∷ w) r t s = absurd (omega arith)
-total-last D n i [] r t s = refl
-total-last D n i (x ∷ []) r t s = refl
-total-last D n i (x ∷ y ∷ w) r t s = absurd (omega arith)
+total-last A n i [] t s = refl
+total-last A n i (x ∷ []) t s = refl
+total-last A n i (x ∷ y ∷ w) t s = absurd (omega arith)
+total-last B n i [] t s = refl
+total-last B n i (x ∷ w) t s = absurd (omega arith)
+total-last D n i [] t s = refl
+total-last D n i (x ∷ []) t s = refl
+total-last D n i (x ∷ y ∷ w) t s = absurd (omega arith)
 
 length-normalFrom-suc : (k : Kind) (n t i : ℕ) (u : List ℤ) (e : ℤ) (v : List ℤ) → 1 ≤ i → i ≤ levels k n → natAbs e ≡ i → hasSize i u ≡ false
     → AtLevel k n i (u ++ (e ∷ v))
@@ -182,20 +182,20 @@ unfolding normalFrom
 length-normalFrom-suc k n t i u e v o l q f h below =
     rw (restOf-peeled k i u e v o q f, placeFrom-peeled i i u e v q f, length-append, below) (total-insert k n i u e v o l q h)
 
-pub length-normalFrom : (k : Kind) (n t i : ℕ) (w : List ℤ) → least k ≤ n → 1 ≤ i → t + i ≡ suc (levels k n) → AtLevel k n i w
+pub length-normalFrom : (k : Kind) (n t i : ℕ) (w : List ℤ) → 1 ≤ i → t + i ≡ suc (levels k n) → AtLevel k n i w
     → length (normalFrom k n t i w) ≡ pairWeights w + mirrored k w
-length-normalFrom k n zero i w r o t h = unfold normalFrom in total-last k n i w r (omega arith) (h .size)
-length-normalFrom k n (suc m) i w r o t h =
+length-normalFrom k n zero i w o t h = unfold normalFrom in total-last k n i w (omega arith) (h .size)
+length-normalFrom k n (suc m) i w o t h =
     let l : i ≤ levels k n = omega arith in
     let c = peeled k n i w l h in
     let h′ : AtLevel k n i (c .left ++ (c .entry ∷ c .right)) = rw (c .whole) at h in
     rw (c .whole)
     (length-normalFrom-suc k n m i (c .left) (c .entry) (c .right) o l (c .size) (c .new) h′
-    (length-normalFrom k n m (suc i) (restOf k (c .entry) (c .left ++ c .right)) r (omega arith) (omega arith)
+    (length-normalFrom k n m (suc i) (restOf k (c .entry) (c .left ++ c .right)) (omega arith) (omega arith)
     (atLevel-rest k n i (c .left) (c .entry) (c .right) o l (c .size) h′)))
 
 -- the length of the normal form, counted from the window
-pub length-normalForm : (k : Kind) (n : ℕ) (w : List ℤ) → least k ≤ n → Accepted k n w → length (normalForm k n w) ≡ windowLength k w
+pub length-normalForm : (k : Kind) (n : ℕ) (w : List ℤ) → Accepted k n w → length (normalForm k n w) ≡ windowLength k w
 unfolding normalForm
-length-normalForm k n w r h =
-    length-normalFrom k n (levels k n) 1 w r (omega arith) (omega arith) (atLevel-of-accepted k n w h) ∙ sym (length-by-weights k n w h)
+length-normalForm k n w h =
+    length-normalFrom k n (levels k n) 1 w (omega arith) (omega arith) (atLevel-of-accepted k n w h) ∙ sym (length-by-weights k n w h)

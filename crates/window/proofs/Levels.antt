@@ -10,15 +10,16 @@ use lib.Dec.{eqb, ltb}
 use lib.IntN.{ℤ, pos, negℤ, natAbs}
 use lib.ListN.{length}
 use borrow.Author.Tests.{eqb-true, eqb-false, eq-eqb, ne-eqb, ltb-false, le-ltb, not-false}
-use Rattle.window.specs.Kinds.{Kind, A, B, D, pick, lanes, least, up}
+use Rattle.window.specs.Kinds.{Kind, A, B, D, pick, lanes, up}
 use Rattle.window.specs.Windows.{from, exchange, negateFirst, exchangeNegate, act, windowFrom, straight, window}
 use Rattle.window.specs.Length.{negatives}
 use Rattle.window.specs.Checks.{check, _then_, hasSize, wrongLanes, wrongAt, wrongEntry, odd, oddNegatives, windowRefusal}
 use Rattle.window.specs.NormalForm.{without}
-use Rattle.window.proofs.Basics.{length-straight}
-use Rattle.window.proofs.Sizes.{then-zero, check-zero, or-left-comm, hasSize-without, length-le-without, wrongEntry-cons, hasSize-head, hasSize-tail}
+use Rattle.window.proofs.Basics.{length-straight, by-pick}
+use Rattle.window.proofs.Sizes.{or-left-comm, hasSize-without, length-le-without, wrongEntry-cons, hasSize-head, hasSize-tail}
 use Rattle.window.proofs.Sizes.{PositiveInA, positiveInA-nil, positiveInA-cons, positiveInA-head, positiveInA-tail}
 use Rattle.window.proofs.Sizes.{natAbs-negℤ, negatives-from-exchange, odd-from-exchangeNegate, negatives-map-pos}
+use Rattle.window.proofs.Refusals.{then-zero, check-zero}
 
 -- every size is at least i and below c
 abbrev pub Between : ℕ → ℕ → List ℤ → Type 0
@@ -221,19 +222,15 @@ sameSizes-from f h zero w = h w
 sameSizes-from f h (suc p) [] = sameSizes-refl []
 sameSizes-from f h (suc p) (x ∷ w) = sameSizes-cons x x (from p f w) w refl (sameSizes-from f h p w)
 
-sameSizes-pick : (t : Bool) (f g : List ℤ → List ℤ) (w : List ℤ) → SameSizes (f w) w → SameSizes (g w) w → SameSizes (pick t f g w) w
-sameSizes-pick true f g w hf hg = hf
-sameSizes-pick false f g w hf hg = hg
-
 pub sameSizes-act : (k : Kind) (n s : ℕ) (w : List ℤ) → SameSizes (act k n s w) w
 unfolding act
 sameSizes-act A n s w = sameSizes-from exchange sameSizes-exchange (s - 1) w
 sameSizes-act B n s w =
-    sameSizes-pick (eqb s n) (from (n - 1) negateFirst) (from (s - 1) exchange) w
+    by-pick (λ f. SameSizes (f w) w) (eqb s n) (from (n - 1) negateFirst) (from (s - 1) exchange)
     (sameSizes-from negateFirst sameSizes-negateFirst (n - 1) w)
     (sameSizes-from exchange sameSizes-exchange (s - 1) w)
 sameSizes-act D n s w =
-    sameSizes-pick (eqb s n) (from (n - 2) exchangeNegate) (from (s - 1) exchange) w
+    by-pick (λ f. SameSizes (f w) w) (eqb s n) (from (n - 2) exchangeNegate) (from (s - 1) exchange)
     (sameSizes-from exchangeNegate sameSizes-exchangeNegate (n - 2) w)
     (sameSizes-from exchange sameSizes-exchange (s - 1) w)
 
@@ -278,26 +275,25 @@ signs-act : (k : Kind) (n s c : ℕ) (w : List ℤ) → Between 1 c w → Signs 
 unfolding act
 signs-act A n s c w b h = negatives-from-exchange (s - 1) w ∙ h
 signs-act B n s c w b h = tt
-signs-act D n s c w b h = go (eqb s n)
-  where
-    go : (t : Bool) → odd (negatives (pick t (from (n - 2) exchangeNegate) (from (s - 1) exchange) w)) ≡ false
-    go true = odd-from-exchangeNegate (n - 2) w (hasSize-below 1 c 0 w (omega arith) b) ∙ h
-    go false = rw negatives-from-exchange h
+signs-act D n s c w b h =
+    by-pick (λ f. odd (negatives (f w)) ≡ false) (eqb s n) (from (n - 2) exchangeNegate) (from (s - 1) exchange)
+    (odd-from-exchangeNegate (n - 2) w (hasSize-below 1 c 0 w (omega arith) b) ∙ h)
+    (rw negatives-from-exchange h)
 
-pub act-accepted : (k : Kind) (n s : ℕ) (w : List ℤ) → least k ≤ n → Accepted k n w → Accepted k n (act k n s w)
-act-accepted k n s w r h =
+pub act-accepted : (k : Kind) (n s : ℕ) (w : List ℤ) → Accepted k n w → Accepted k n (act k n s w)
+act-accepted k n s w h =
     record {
       size = sameSizes-act k n s w .count ∙ h .size;
       level = level-of-sameSizes 1 (act k n s w) w (sameSizes-act k n s w) (h .level);
       signs = signs-act k n s (1 + length w) w (h .level .between) (h .signs);
     }
 
-pub windowFrom-accepted : (k : Kind) (n : ℕ) (w : List ℤ) (u : List ℕ) → least k ≤ n → Accepted k n w → Accepted k n (windowFrom k n w u)
+pub windowFrom-accepted : (k : Kind) (n : ℕ) (w : List ℤ) (u : List ℕ) → Accepted k n w → Accepted k n (windowFrom k n w u)
 unfolding windowFrom
-windowFrom-accepted k n w [] r h = h
-windowFrom-accepted k n w (s ∷ u) r h = windowFrom-accepted k n (act k n s w) u r (act-accepted k n s w r h)
+windowFrom-accepted k n w [] h = h
+windowFrom-accepted k n w (s ∷ u) h = windowFrom-accepted k n (act k n s w) u (act-accepted k n s w h)
 
 -- a word's window passes checks 9 to 11
-pub window-accepted : (k : Kind) (n : ℕ) (u : List ℕ) → least k ≤ n → Accepted k n (window k n u)
+pub window-accepted : (k : Kind) (n : ℕ) (u : List ℕ) → Accepted k n (window k n u)
 unfolding window
-window-accepted k n u r = windowFrom-accepted k n (straight (lanes k n)) u r (straight-accepted k n)
+window-accepted k n u = windowFrom-accepted k n (straight (lanes k n)) u (straight-accepted k n)

@@ -1,6 +1,7 @@
 -- The laws of the window layer, in the order in which they rest on each other.
 pub mod Basics
 pub mod Bytes
+pub mod Refusals
 pub mod CheckLaws
 pub mod CallLaws
 pub mod VerdictLaws

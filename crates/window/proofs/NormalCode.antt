@@ -12,24 +12,26 @@ use native.Mathlib.Nat.{zero-add}
 use native.Mathlib.Numerals.{add-one}
 use native.Mathlib.Omega.{arith}
 use lib.Dec.{eqb}
-use lib.IntN.{ℤ, pos, negsuc, negℤ, natAbs}
+use lib.IntN.{ℤ, pos, negsuc, natAbs}
 use lib.Signed.{mag}
 use lib.ListN.{length, getD, take, drop, set, length-append, drop-of-length-le}
-use lib.Seq.{sets, take-suc, split-at, take-all, length-take-le}
+use lib.Seq.{sets, take-suc, split-at, length-take-le}
 use mir.Syntax.{w8}
 use mir.Val.{toZ, ofZ}
 use borrow.Author.Tests.{ne-eqb, eqb-true, eqb-false}
-use Rattle.window.specs.Kinds.{Kind, A, B, D, pick, least, lanes}
+use Rattle.window.specs.Kinds.{Kind, A, B, D, pick, least}
 use Rattle.window.specs.Windows.{from, negateFirst, signed, placeFrom}
 use Rattle.window.specs.Length.{negative}
 use Rattle.window.specs.Checks.{hasSize, windowRefusal}
 use Rattle.window.specs.NormalForm.{block, levels, without, indexOf, restOf, normalFrom, normalForm}
-use Rattle.window.proofs.Bytes.{element-back}
-use Rattle.window.proofs.CheckLaws.{hasSize-step}
+use Rattle.window.proofs.CheckLaws.{hasSize-step, take-rest}
 use Rattle.window.proofs.Sizes.{hasSize-without, hasSize-head, hasSize-tail}
-use Rattle.window.proofs.Levels.{Between, Accepted, accepted-of-refusal, level-hasSize, sameSizes-from, sameSizes-negateFirst}
-use Rattle.window.proofs.Peeling.{placeFrom-peeled, without-peeled, restOf-positive}
+use Rattle.window.proofs.Levels.{Accepted, accepted-of-refusal, level-hasSize, sameSizes-from, sameSizes-negateFirst}
+use Rattle.window.proofs.Peeling.{placeFrom-peeled, without-peeled, restOf-positive, levels-le-lanes}
 use Rattle.window.proofs.Stores.{sets-front, Stored, stored-append}
+use Rattle.window.proofs.Basics.{lanes-le-add-one}
+use Rattle.window.proofs.Places.{hasSize-beyond}
+use Rattle.window.proofs.StepCode.{Negated, set-eq-negateFirst}
 
 -- ---- the search for a size
 
@@ -89,12 +91,6 @@ gap-back w (suc q) o l = let e : suc q - 1 ≡ q = omega arith in rw e (gap-suc 
 
 -- ---- the last entry
 
-from-negateFirst : (w : List ℤ) (p : ℕ) → p < length w → from p negateFirst w ≡ set w p (negℤ (getD w p (pos 0)))
-unfolding from negateFirst
-from-negateFirst [] p h = absurd (omega arith)
-from-negateFirst (x ∷ w) zero h = refl
-from-negateFirst (x ∷ w) (suc p) h = ap (λ (l : List ℤ). x ∷ l) (from-negateFirst w p (omega arith))
-
 pub restOf-straight : (k : Kind) (w : List ℤ) → (k ≡ A) ⊎ (k ≡ B) → w ≡ restOf k (negsuc 0) w
 unfolding restOf
 restOf-straight k w h = ⊎-elim (λ e. rw e) (λ e. rw e) h
@@ -106,16 +102,12 @@ restOf-nil B w h = refl
 restOf-nil D [] h = refl
 restOf-nil D (x ∷ w) h = absurd (omega arith)
 
-pub restOf-last : (k : Kind) (w : List ℤ) (r : ℤ) → k ≡ D → 0 < length w → mag r < 128 → r ≡ negℤ (getD w (length w - 1) (pos 0))
+pub restOf-last : (k : Kind) (w : List ℤ) (r : ℤ) → k ≡ D → 0 < length w → Negated (getD w (length w - 1) (pos 0)) r
     → set w (length w - 1) (toZ w8 (ofZ w8 r)) ≡ restOf k (negsuc 0) w
 unfolding restOf
-restOf-last k w r q l m f = rw (q, element-back r m, f) (sym (from-negateFirst w (length w - 1) (omega arith)))
+restOf-last k w r q l e = rw q (set-eq-negateFirst (length w - 1) w r (omega arith) e)
 
 -- ---- a part from place 1 on, lent and given back
-
-tail-lent : (w : List ℤ) → take (length w - 1) (drop 1 w) ≡ drop 1 w
-tail-lent [] = refl
-tail-lent (x ∷ w) = take-all (suc (length w) - 1) w (omega arith)
 
 tail-back : (w v : List ℤ) → 0 < length w → drop 1 (take 1 w ++ (v ++ drop (length w - 1) (drop 1 w))) ≡ v
 tail-back [] v h = absurd (omega arith)
@@ -167,7 +159,7 @@ pub peeled-negative : (k : Kind) (n i : ℕ) (w : List ℤ) (p : ℕ) (u v : Lis
 peeled-negative k n i w p u v f o s t r l =
     let g = negative-level k n (i + p) (getD w p (pos 0)) (without i w) (omega arith) s in
     rw (placeFrom-found i w p f)
-    (omega arith, g .0, tail-back u v (omega (arith, f .0)) ∙ r ∙ ap (restOf k (negsuc 0)) (tail-lent u ∙ t ∙ sym (without-found i w p f)) ∙ g .1)
+    (omega arith, g .0, tail-back u v (omega (arith, f .0)) ∙ r ∙ ap (restOf k (negsuc 0)) (take-rest 1 u ∙ t ∙ sym (without-found i w p f)) ∙ g .1)
 
 pub peeled-positive : (k : Kind) (n i : ℕ) (w : List ℤ) (p : ℕ) (u : List ℤ) → Found i w p → i + length w ≤ 2 * n + 1
     → negative (getD w p (pos 0)) ≡ false → drop 1 u ≡ take p w ++ drop (p + 1) w
@@ -179,7 +171,7 @@ peeled-positive k n i w p u f m s t =
 -- a size that is not in w is not in what is left
 pub hasSize-lent : (i s : ℕ) (w : List ℤ) (p : ℕ) (u : List ℤ) → Found i w p → drop 1 u ≡ take p w ++ drop (p + 1) w → hasSize s w ≡ false
     → hasSize s (take (length u - 1) (drop 1 u)) ≡ false
-hasSize-lent i s w p u f t h = rw (tail-lent u, t, ← without-found i w p f) (hasSize-without s i w h)
+hasSize-lent i s w p u f t h = rw (take-rest 1 u, t, ← without-found i w p f) (hasSize-without s i w h)
 
 -- ---- the levels that are left
 
@@ -215,7 +207,7 @@ sizes-length i t w f h = hasSize-length i w (h .0 i (omega arith) (omega arith))
 pub sizes-next : (k : Kind) (e : ℤ) (i t : ℕ) (w u : List ℤ) → drop 1 u ≡ restOf k e (without i w) → Sizes i t w
     → Sizes (i + 1) (t - 1) (take (length u - 1) (drop 1 u))
 sizes-next k e i t w u r h =
-    rw (tail-lent u, r) (
+    rw (take-rest 1 u, r) (
       λ s a b. hasSize-restOf s k e (without i w) ∙ hasSize-other s i w (omega arith) ∙ h .0 s (omega arith) (omega arith),
       hasSize-restOf 128 k e (without i w) ∙ hasSize-without 128 i w (h .1),
     )
@@ -235,7 +227,7 @@ unfolding normalFrom
 normalFrom-next k n zero i w u j f e r = absurd (f refl)
 normalFrom-next k n (suc t) i w u j f e r =
     let q : suc t - 1 ≡ t = omega arith in
-    record { whole = rw (q, add-one, tail-lent u, r, e) }
+    record { whole = rw (q, add-one, take-rest 1 u, r, e) }
 
 module _ {word u v : List ℕ} (j : Joined word u v) where
   pub joined-room-left : (m : ℕ) → length word ≤ m → length u ≤ m
@@ -252,7 +244,7 @@ module _ {word u v : List ℕ} (j : Joined word u v) where
 
 pub length-tail : (u : List ℤ) → 0 < length u → length (take (length u - 1) (drop 1 u)) + 1 ≡ length u
 length-tail [] h = absurd (omega arith)
-length-tail (x ∷ u) h = omega (arith, ap length (tail-lent (x ∷ u)))
+length-tail (x ∷ u) h = omega (arith, ap length (take-rest 1 (x ∷ u)))
 
 pub one-le : (k : Kind) (n : ℕ) → least k ≤ n → 1 ≤ n
 one-le A n h = h
@@ -261,24 +253,14 @@ one-le D n h = omega arith
 
 -- ---- the first level
 
-hasSize-above : (i c s : ℕ) (w : List ℤ) → c ≤ s → Between i c w → hasSize s w ≡ false
-unfolding hasSize
-hasSize-above i c s [] l b = refl
-hasSize-above i c s (x ∷ w) l b = rw (ne-eqb (natAbs x) s (λ q. omega arith)) (hasSize-above i c s w l (b .2))
-
-lanes-le : (k : Kind) (n : ℕ) → (levels k n ≤ lanes k n) × (lanes k n ≤ n + 1)
-lanes-le A n = (omega arith, omega arith)
-lanes-le B n = (omega arith, omega arith)
-lanes-le D n = (omega arith, omega arith)
-
 pub accepted-length : (k : Kind) (n : ℕ) (w : List ℤ) → windowRefusal k n w ≡ 0 → 1 + length w ≤ n + 2
-accepted-length k n w h = omega (arith, accepted-of-refusal k n w h .size, lanes-le k n)
+accepted-length k n w h = omega (arith, accepted-of-refusal k n w h .size, lanes-le-add-one k n)
 
 pub accepted-sizes : (k : Kind) (n t : ℕ) (w : List ℤ) → n ≤ 64 → windowRefusal k n w ≡ 0 → t ≡ levels k n → Sizes 1 t w
 accepted-sizes k n t w l h e =
     let a : Accepted k n w = accepted-of-refusal k n w h in (
-      λ s o b. level-hasSize 1 s w (a .level) o (omega (arith, a .size, lanes-le k n)),
-      hasSize-above 1 (1 + length w) 128 w (omega (arith, accepted-length k n w h)) (a .level .between),
+      λ s o b. level-hasSize 1 s w (a .level) o (omega (arith, a .size, levels-le-lanes k n)),
+      hasSize-beyond 1 (1 + length w) 128 w (omega (arith, accepted-length k n w h)) (a .level .between),
     )
 
 normalFrom-first : (k : Kind) (n t : ℕ) (w : List ℤ) → t ≡ levels k n → normalFrom k n t 1 w ≡ normalForm k n w

@@ -11,14 +11,14 @@ use native.Mathlib.Decide.{decLe}
 use native.Mathlib.Omega.{arith}
 use lib.IntN.{ℤ, pos}
 use borrow.Author.Tests.{eq-eqb}
-use Rattle.window.specs.Kinds.{Kind, A, B, D, lanes, least, up}
+use Rattle.window.specs.Kinds.{Kind, A, B, D, lanes, up}
 use Rattle.window.specs.Windows.{straight, window, placeFrom, signed}
 use Rattle.window.specs.Checks.{wrongLetter}
 use Rattle.window.specs.NormalForm.{down, block, levels, lastIndex, blocks, Indices, none, level, without, indexOf, restOf, normalFrom, normalForm}
 use Rattle.window.proofs.Relations.{wrongLetter-append, wrongLetter-cons}
 use Rattle.window.proofs.Levels.{Accepted}
-use Rattle.window.proofs.Runs.{span, slide, span-nil, Corner, block-up, block-turn}
-use Rattle.window.proofs.Peeling.{restOf-positive}
+use Rattle.window.proofs.Runs.{span, slide, span-nil, Corner, block-up, block-turn, corner-le}
+use Rattle.window.proofs.Peeling.{restOf-positive, levels-le-lanes}
 use Rattle.window.proofs.BlockAction.{corner}
 use Rattle.window.proofs.Indices.{indices, window-indices, indices-in-range, indices-window}
 
@@ -35,16 +35,16 @@ unfolding normalForm
 normalForm-is-blocks k n w = normalFrom-is-blocks k n (levels k n) 1 w
 
 -- a word of blocks is the normal form of its window
-pub normalForm-blocks : (k : Kind) (n : ℕ) → least k ≤ n → (js : List ℕ) → Indices k n 1 js → normalForm k n (window k n (blocks k n 1 js)) ≡ blocks k n 1 js
-normalForm-blocks k n r js h = normalForm-is-blocks k n (window k n (blocks k n 1 js)) ∙ ap (blocks k n 1) (indices-window k n js r h)
+pub normalForm-blocks : (k : Kind) (n : ℕ) (js : List ℕ) → Indices k n 1 js → normalForm k n (window k n (blocks k n 1 js)) ≡ blocks k n 1 js
+normalForm-blocks k n js h = normalForm-is-blocks k n (window k n (blocks k n 1 js)) ∙ ap (blocks k n 1) (indices-window k n js h)
 
 -- ---- the window of a normal form
 
-pub window-normalForm : (k : Kind) (n : ℕ) (w : List ℤ) → least k ≤ n → Accepted k n w → window k n (normalForm k n w) ≡ w
-window-normalForm k n w r h = ap (window k n) (normalForm-is-blocks k n w) ∙ window-indices k n w r h
+pub window-normalForm : (k : Kind) (n : ℕ) (w : List ℤ) → Accepted k n w → window k n (normalForm k n w) ≡ w
+window-normalForm k n w h = ap (window k n) (normalForm-is-blocks k n w) ∙ window-indices k n w h
 
-pub normalForm-injective : (k : Kind) (n : ℕ) (v w : List ℤ) → least k ≤ n → Accepted k n v → Accepted k n w → normalForm k n v ≡ normalForm k n w → v ≡ w
-normalForm-injective k n v w r g h e = sym (window-normalForm k n v r g) ∙ ap (window k n) e ∙ window-normalForm k n w r h
+pub normalForm-injective : (k : Kind) (n : ℕ) (v w : List ℤ) → Accepted k n v → Accepted k n w → normalForm k n v ≡ normalForm k n w → v ≡ w
+normalForm-injective k n v w g h e = sym (window-normalForm k n v g) ∙ ap (window k n) e ∙ window-normalForm k n w h
 
 -- ---- letters
 
@@ -65,11 +65,6 @@ wrongLetter-span n i c o h l = wrongLetter-up n i (c - i) o (omega arith)
 pub wrongLetter-slide : (n c i : ℕ) → 1 ≤ i → c ≤ suc n → wrongLetter n (slide c i) ≡ false
 unfolding slide
 wrongLetter-slide n c i o l = wrongLetter-down n (c - 1) (c - i) (omega arith) (omega arith)
-
-corner-le : (k : Kind) (n c : ℕ) → Corner k n c → c ≤ n
-corner-le A n c h = omega arith
-corner-le B n c h = omega arith
-corner-le D n c h = omega arith
 
 index-le : (k : Kind) (n i j : ℕ) → i ≤ levels k n → j ≤ lastIndex k n i → i + j ≤ 2 * n
 index-le A n i j l h = omega arith
@@ -120,13 +115,8 @@ normalFrom-straight k n (suc t) i (suc c) o l h =
 
 pub normalForm-straight : (k : Kind) (n : ℕ) → normalForm k n (straight (lanes k n)) ≡ []
 unfolding normalForm straight
-normalForm-straight k n = normalFrom-straight k n (levels k n) 1 (lanes k n) (omega arith) (below k) (within k)
+normalForm-straight k n = normalFrom-straight k n (levels k n) 1 (lanes k n) (omega arith) (levels-le-lanes k n) (within k)
   where
-    below : (k : Kind) → levels k n ≤ lanes k n
-    below A = omega arith
-    below B = omega arith
-    below D = omega arith
-
     within : (k : Kind) → levels k n + 1 ≤ suc n
     within A = omega arith
     within B = omega arith

@@ -3,7 +3,7 @@
 -- Assumes nothing.
 use mathlib.Core.Path.{_≡_, refl, sym, ap, _∙_}
 use mathlib.Core.Logic.{_⊎_, inl, inr}
-use mathlib.Core.Bool.{Bool, true, false, _&&_, false≢true}
+use mathlib.Core.Bool.{Bool, true, false, false≢true, and-eq-true-iff}
 use mathlib.Core.List.{List, [], _∷_}
 use Prim.Native.Nat.{ℕ, _<_}
 use native.Mathlib.Omega.{arith}
@@ -16,12 +16,12 @@ use Rattle.window.specs.Calls.{sameEntry, sameWindow}
 
 -- ---- two numbers
 
-data Compared (a b : ℕ) : Type 0 where
+pub data Compared (a b : ℕ) : Type 0 where
   less : a < b → Compared a b
   same : a ≡ b → Compared a b
   more : b < a → Compared a b
 
-compared : (a b : ℕ) → Compared a b
+pub compared : (a b : ℕ) → Compared a b
 compared a b = cases (eqb a b) (ltb a b) refl refl
   where
     cases : (s t : Bool) → eqb a b ≡ s → ltb a b ≡ t → Compared a b
@@ -98,30 +98,30 @@ before-total (a ∷ u) (b ∷ v) =
 
 -- ---- by length, then by the dictionary
 
-shortlex-same : (u v : List ℕ) → length u ≡ length v → shortlex u v ≡ before u v
+pub shortlex-of-eq : (u v : List ℕ) → length u ≡ length v → shortlex u v ≡ before u v
 unfolding shortlex
-shortlex-same u v e = rw (eq-eqb (length u) (length v) e)
+shortlex-of-eq u v e = rw (eq-eqb (length u) (length v) e)
 
-shortlex-other : (u v : List ℕ) → (length u ≡ length v → ⊥) → shortlex u v ≡ ltb (length u) (length v)
+pub shortlex-of-ne : (u v : List ℕ) → (length u ≡ length v → ⊥) → shortlex u v ≡ ltb (length u) (length v)
 unfolding shortlex
-shortlex-other u v e = rw (ne-eqb (length u) (length v) e)
+shortlex-of-ne u v e = rw (ne-eqb (length u) (length v) e)
 
 pub shortlex-shorter : (u v : List ℕ) → length u < length v → shortlex u v ≡ true
-shortlex-shorter u v h = shortlex-other u v (omega arith) ∙ lt-ltb (length u) (length v) h
+shortlex-shorter u v h = shortlex-of-ne u v (omega arith) ∙ lt-ltb (length u) (length v) h
 
 pub shortlex-before : (u v : List ℕ) → length u ≡ length v → before u v ≡ true → shortlex u v ≡ true
-shortlex-before u v e h = shortlex-same u v e ∙ h
+shortlex-before u v e h = shortlex-of-eq u v e ∙ h
 
 pub shortlex-cases : (u v : List ℕ) → shortlex u v ≡ true → (length u < length v) ⊎ ((length u ≡ length v) × (before u v ≡ true))
 shortlex-cases u v h =
     elim (compared (length u) (length v)) [
       | less l ↦ inl l
-      | same e ↦ inr (e, (sym (shortlex-same u v e) ∙ h))
-      | more l ↦ absurd (false≢true (sym (shortlex-other u v (omega arith) ∙ le-ltb (length u) (length v) (omega arith)) ∙ h))
+      | same e ↦ inr (e, (sym (shortlex-of-eq u v e) ∙ h))
+      | more l ↦ absurd (false≢true (sym (shortlex-of-ne u v (omega arith) ∙ le-ltb (length u) (length v) (omega arith)) ∙ h))
     ]
 
 pub shortlex-irrefl : (u : List ℕ) → shortlex u u ≡ false
-shortlex-irrefl u = shortlex-same u u refl ∙ before-irrefl u
+shortlex-irrefl u = shortlex-of-eq u u refl ∙ before-irrefl u
 
 pub shortlex-trans : (u v w : List ℕ) → shortlex u v ≡ true → shortlex v w ≡ true → shortlex u w ≡ true
 shortlex-trans u v w h g =
@@ -164,18 +164,10 @@ sameEntry-true (pos a) (negsuc b) h = let z : false ≡ true = h in cc
 sameEntry-true (negsuc a) (pos b) h = let z : false ≡ true = h in cc
 sameEntry-true (negsuc a) (negsuc b) h = ap negsuc (eqb-true a b h)
 
-sameEntry-refl : (x : ℤ) → sameEntry x x ≡ true
+pub sameEntry-refl : (x : ℤ) → sameEntry x x ≡ true
 unfolding sameEntry
 sameEntry-refl (pos a) = eq-eqb a a refl
 sameEntry-refl (negsuc a) = eq-eqb a a refl
-
-and-true-left : (s t : Bool) → (s && t) ≡ true → s ≡ true
-and-true-left true t h = refl
-and-true-left false t h = h
-
-and-true-right : (s t : Bool) → (s && t) ≡ true → t ≡ true
-and-true-right true t h = h
-and-true-right false t h = let z : false ≡ true = h in cc
 
 pub sameWindow-true : (u v : List ℤ) → sameWindow u v ≡ true → u ≡ v
 unfolding sameWindow
@@ -183,8 +175,9 @@ sameWindow-true [] [] h = refl
 sameWindow-true [] (y ∷ v) h = let z : false ≡ true = h in cc
 sameWindow-true (x ∷ u) [] h = let z : false ≡ true = h in cc
 sameWindow-true (x ∷ u) (y ∷ v) h =
-    let e = sameEntry-true x y (and-true-left _ _ h) in
-    let d = sameWindow-true u v (and-true-right (sameEntry x y) (sameWindow u v) h) in
+    let b = and-eq-true-iff (sameEntry x y) (sameWindow u v) .0 h in
+    let e = sameEntry-true x y (b .0) in
+    let d = sameWindow-true u v (b .1) in
     cc
 
 pub sameWindow-refl : (u : List ℤ) → sameWindow u u ≡ true

@@ -165,14 +165,14 @@ pub record AtLevel (k : Kind) (n i : ℕ) (w : List ℤ) : Type 0 where
 pub atLevel-of-accepted : (k : Kind) (n : ℕ) (w : List ℤ) → Accepted k n w → AtLevel k n 1 w
 atLevel-of-accepted k n w h = record { size = omega arith; level = h .level; signs = h .signs }
 
+pub levels-le-lanes : (k : Kind) (n : ℕ) → levels k n ≤ lanes k n
+levels-le-lanes A n = omega arith
+levels-le-lanes B n = omega arith
+levels-le-lanes D n = omega arith
+
 -- each level has an entry of its size
 pub peeled : (k : Kind) (n i : ℕ) (w : List ℤ) → i ≤ levels k n → AtLevel k n i w → Peeled i w
-peeled k n i w l h = peeled-of-hasSize i w (level-hasSize i i w (h .level) (omega arith) (there k l (h .size)))
-  where
-    there : (k : Kind) → i ≤ levels k n → length w + i ≡ suc (lanes k n) → i < i + length w
-    there A l q = omega arith
-    there B l q = omega arith
-    there D l q = omega arith
+peeled k n i w l h = peeled-of-hasSize i w (level-hasSize i i w (h .level) (omega arith) (omega (arith, h .size, levels-le-lanes k n)))
 
 signs-rest : (k : Kind) (n i : ℕ) (u : List ℤ) (e : ℤ) (v : List ℤ) → 1 ≤ i → i ≤ levels k n → AtLevel k n i (u ++ (e ∷ v)) → Signs k (restOf k e (u ++ v))
 unfolding restOf negative
@@ -221,13 +221,13 @@ last-positive B n i (negsuc x) l h = absurd (omega (arith, h .size))
 last-positive D n i (negsuc x) l h = let q : true ≡ false = h .signs in cc
 
 -- past the last level all entries stand still
-pub atLevel-last : (k : Kind) (n i : ℕ) (w : List ℤ) → 1 ≤ n → i ≡ suc (levels k n) → AtLevel k n i w → w ≡ map pos (up i (length w))
+pub atLevel-last : (k : Kind) (n i : ℕ) (w : List ℤ) → i ≡ suc (levels k n) → AtLevel k n i w → w ≡ map pos (up i (length w))
 unfolding up
-atLevel-last k n i [] o l h = refl
-atLevel-last k n i (e ∷ []) o l h =
+atLevel-last k n i [] l h = refl
+atLevel-last k n i (e ∷ []) l h =
     let q : natAbs e ≡ i = omega (arith, h .level .between) in
     ap (λ (x : ℤ). x ∷ []) (last-positive k n i e l h ∙ ap pos q)
-atLevel-last k n i (e ∷ (f ∷ w)) o l h = absurd (no k l (h .size))
+atLevel-last k n i (e ∷ (f ∷ w)) l h = absurd (no k l (h .size))
   where
     no : (k : Kind) → i ≡ suc (levels k n) → suc (suc (length w)) + i ≡ suc (lanes k n) → ⊥
     no A l q = omega arith

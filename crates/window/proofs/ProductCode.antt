@@ -3,7 +3,7 @@
 -- Sections: entries by size and sign; the product; the inverse; equality.
 -- Assumes nothing.
 use mathlib.Core.Path.{_≡_, refl, sym, ap, _∙_}
-use mathlib.Core.Bool.{Bool, true, false, _&&_}
+use mathlib.Core.Bool.{Bool, true, false, and-false}
 use mathlib.Core.List.{List, [], _∷_, _++_, append-assoc, append-nil}
 use Prim.Native.Nat.{ℕ, zero, suc, _+_, _-_, _≤_, _<_}
 use native.Mathlib.Numerals.{add-one, sub-one}
@@ -14,7 +14,7 @@ use lib.ListN.{length, getD, take, drop, set, drop-of-length-le}
 use lib.Seq.{take-suc-set, take-all}
 use mir.Syntax.{w8}
 use mir.Val.{toZ, ofZ}
-use borrow.Author.Tests.{eq-eqb, ne-eqb}
+use borrow.Author.Tests.{ne-eqb}
 use Rattle.window.specs.Kinds.{Kind, pick}
 use Rattle.window.specs.Windows.{at, product, signed, inverse}
 use Rattle.window.specs.Length.{negative}
@@ -27,6 +27,7 @@ use Rattle.window.proofs.Places.{between-getD}
 use Rattle.window.proofs.LengthCode.{held, length-le-of-refusal}
 use Rattle.window.proofs.Scatter.{scatter, scatter-inverse}
 use Rattle.window.proofs.Bytes.{element-back}
+use Rattle.window.proofs.Order.{sameEntry-refl}
 
 -- ---- entries by size and sign
 
@@ -127,13 +128,8 @@ scatter-is-inverse k n w out h l =
 pub eq-of-bytes : (x y : ℤ) → mag x < 128 → mag y < 128 → ofZ w8 x ≡ ofZ w8 y → x ≡ y
 eq-of-bytes x y h g e = sym (element-back x h) ∙ ap (toZ w8) e ∙ element-back y g
 
-sameEntry-self : (x : ℤ) → sameEntry x x ≡ true
-unfolding sameEntry
-sameEntry-self (pos a) = eq-eqb a a refl
-sameEntry-self (negsuc a) = eq-eqb a a refl
-
 sameEntry-of-eq : (x y : ℤ) → x ≡ y → sameEntry x y ≡ true
-sameEntry-of-eq x y e = rw e (sameEntry-self y)
+sameEntry-of-eq x y e = rw e (sameEntry-refl y)
 
 sameEntry-of-ne : (x y : ℤ) → (x ≡ y → ⊥) → sameEntry x y ≡ false
 unfolding sameEntry
@@ -148,10 +144,6 @@ sameWindow-of-length [] [] d = absurd (d refl)
 sameWindow-of-length [] (y ∷ b) d = refl
 sameWindow-of-length (x ∷ a) [] d = refl
 sameWindow-of-length (x ∷ a) (y ∷ b) d = rw (sameWindow-of-length a b (λ e. d (ap suc e))) (and-false (sameEntry x y))
-  where
-    and-false : (t : Bool) → (t && false) ≡ false
-    and-false true = refl
-    and-false false = refl
 
 pub sameWindow-here : (a b : List ℤ) (i : ℕ) → length a ≡ length b → i < length a → (getD a i (pos 0) ≡ getD b i (pos 0) → ⊥)
     → sameWindow (drop i a) (drop i b) ≡ false

@@ -5,7 +5,6 @@
 -- Not here: inverses (Inverses).
 -- Assumes nothing.
 use mathlib.Core.Path.{_≡_, refl, sym, ap, ap₂, _∙_}
-use mathlib.Core.Bool.{Bool, true, false}
 use mathlib.Core.List.{List, [], _∷_, _++_, map}
 use Prim.Native.Nat.{ℕ, zero, suc, _+_, _-_, _≤_, _<_}
 use native.Mathlib.Nat.{add-zero}
@@ -14,9 +13,9 @@ use lib.Dec.{eqb}
 use lib.IntN.{ℤ, pos, negsuc, negℤ, natAbs, negℤ-negℤ}
 use lib.ListN.{length, getD, length-map, List·getD-map}
 use lib.Seq.{ext-getD}
-use Rattle.window.specs.Kinds.{Kind, A, B, D, pick, lanes, up}
+use Rattle.window.specs.Kinds.{Kind, A, B, D, lanes, up}
 use Rattle.window.specs.Windows.{from, exchange, negateFirst, exchangeNegate, act, windowFrom, straight, window, at, product}
-use Rattle.window.proofs.Basics.{length-straight, length-window, windowFrom-append}
+use Rattle.window.proofs.Basics.{length-straight, length-window, windowFrom-append, by-pick}
 use Rattle.window.proofs.Levels.{Between}
 
 -- ---- elements of lists
@@ -114,21 +113,16 @@ map-exchangeNegate f h [] = refl
 map-exchangeNegate f h (x ∷ []) = refl
 map-exchangeNegate f h (x ∷ y ∷ w) = rw (h x, h y)
 
-map-pick : (f : ℤ → ℤ) (t : Bool) (g h : List ℤ → List ℤ) (w : List ℤ) → map f (g w) ≡ g (map f w) → map f (h w) ≡ h (map f w)
-    → map f (pick t g h w) ≡ pick t g h (map f w)
-map-pick f true g h w a b = a
-map-pick f false g h w a b = b
-
 -- a step commutes with every map that respects signs
 pub map-act : (f : ℤ → ℤ) → ((x : ℤ) → f (negℤ x) ≡ negℤ (f x)) → (k : Kind) (n s : ℕ) (w : List ℤ) → map f (act k n s w) ≡ act k n s (map f w)
 unfolding act
 map-act f h A n s w = map-from f exchange (map-exchange f) (s - 1) w
 map-act f h B n s w =
-    map-pick f (eqb s n) (from (n - 1) negateFirst) (from (s - 1) exchange) w
+    by-pick (λ g. map f (g w) ≡ g (map f w)) (eqb s n) (from (n - 1) negateFirst) (from (s - 1) exchange)
     (map-from f negateFirst (map-negateFirst f h) (n - 1) w)
     (map-from f exchange (map-exchange f) (s - 1) w)
 map-act f h D n s w =
-    map-pick f (eqb s n) (from (n - 2) exchangeNegate) (from (s - 1) exchange) w
+    by-pick (λ g. map f (g w) ≡ g (map f w)) (eqb s n) (from (n - 2) exchangeNegate) (from (s - 1) exchange)
     (map-from f exchangeNegate (map-exchangeNegate f h) (n - 2) w)
     (map-from f exchange (map-exchange f) (s - 1) w)
 

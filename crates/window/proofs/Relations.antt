@@ -14,7 +14,7 @@ use lib.Dec.{eqb, ltb}
 use lib.IntN.{ℤ}
 use lib.ListN.{length, length-append}
 use borrow.Author.Tests.{le-ltb, ne-eqb}
-use Rattle.window.specs.Kinds.{Kind, A, B, D, lanes, least}
+use Rattle.window.specs.Kinds.{Kind, A, B, D, lanes}
 use Rattle.window.specs.Windows.{exchange, negateFirst, exchangeNegate, act, windowFrom, straight, window}
 use Rattle.window.specs.Relations.{
   Neighbours,
@@ -143,11 +143,11 @@ braid-acts k n (commute {a = suc p} {b = zero} o l h) w e = absurd (omega (arith
 braid-acts k n (commute {a = suc p} {b = suc q} o l h) w e = apart-acts k n p q l (commuting-apart k n (suc p) (suc q) l h) w
 
 -- a relation's two sides act equally
-pub relation-acts : (k : Kind) (n : ℕ) {l r : List ℕ} → least k ≤ n → Relation k n l r → (w : List ℤ) → length w ≡ lanes k n
+pub relation-acts : (k : Kind) (n : ℕ) {l r : List ℕ} → Relation k n l r → (w : List ℤ) → length w ≡ lanes k n
     → windowFrom k n w l ≡ windowFrom k n w r
 unfolding windowFrom
-relation-acts k n h (twice {a} o l) w e = act-involution k n a w
-relation-acts k n h (braid c) w e = braid-acts k n c w e
+relation-acts k n (twice {a} o l) w e = act-involution k n a w
+relation-acts k n (braid c) w e = braid-acts k n c w e
 
 -- ---- windows
 
@@ -155,21 +155,21 @@ context-acts : (k : Kind) (n : ℕ) (w : List ℤ) (x y l r : List ℕ) → wind
     → windowFrom k n w (x ++ (l ++ y)) ≡ windowFrom k n w (x ++ (r ++ y))
 context-acts k n w x y l r e = simp windowFrom-append (ap (λ v. windowFrom k n v y) e)
 
-pub use-window : (k : Kind) (n : ℕ) {u v : List ℕ} → least k ≤ n → Use (Relation k n) u v → (w : List ℤ) → length w ≡ lanes k n
+pub use-window : (k : Kind) (n : ℕ) {u v : List ℕ} → Use (Relation k n) u v → (w : List ℤ) → length w ≡ lanes k n
     → windowFrom k n w u ≡ windowFrom k n w v
-use-window k n h (forth x y {l} {r} c) w e =
-    context-acts k n w x y l r (relation-acts k n h c (windowFrom k n w x) (length-windowFrom k n w x ∙ e))
-use-window k n h (back x y {l} {r} c) w e =
-    sym (context-acts k n w x y l r (relation-acts k n h c (windowFrom k n w x) (length-windowFrom k n w x ∙ e)))
+use-window k n (forth x y {l} {r} c) w e =
+    context-acts k n w x y l r (relation-acts k n c (windowFrom k n w x) (length-windowFrom k n w x ∙ e))
+use-window k n (back x y {l} {r} c) w e =
+    sym (context-acts k n w x y l r (relation-acts k n c (windowFrom k n w x) (length-windowFrom k n w x ∙ e)))
 
-pub linked-windowFrom : (k : Kind) (n : ℕ) {u v : List ℕ} → least k ≤ n → Linked (Relation k n) u v → (w : List ℤ) → length w ≡ lanes k n
+pub linked-windowFrom : (k : Kind) (n : ℕ) {u v : List ℕ} → Linked (Relation k n) u v → (w : List ℤ) → length w ≡ lanes k n
     → windowFrom k n w u ≡ windowFrom k n w v
-linked-windowFrom k n h c w e = linked-keeps (windowFrom k n w) (λ u v s. use-window k n h s w e) c
+linked-windowFrom k n c w e = linked-keeps (windowFrom k n w) (λ u v s. use-window k n s w e) c
 
 -- linked words have one window
-pub linked-window : (k : Kind) (n : ℕ) {u v : List ℕ} → least k ≤ n → Linked (Relation k n) u v → window k n u ≡ window k n v
+pub linked-window : (k : Kind) (n : ℕ) {u v : List ℕ} → Linked (Relation k n) u v → window k n u ≡ window k n v
 unfolding window
-linked-window k n h c = linked-windowFrom k n h c (straight (lanes k n)) (length-straight (lanes k n))
+linked-window k n c = linked-windowFrom k n c (straight (lanes k n)) (length-straight (lanes k n))
 
 -- ---- lengths
 

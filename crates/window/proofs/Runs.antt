@@ -28,6 +28,9 @@ pub span-cons : (i c : ℕ) → i < c → span i c ≡ i ∷ span (suc i) c
 unfolding span up
 span-cons i c h = let e : c - i ≡ suc (c - suc i) = omega arith in rw e
 
+pub span-one : (i c : ℕ) → i + 1 ≡ c → span i c ≡ i ∷ []
+span-one i c e = span-cons i c (omega arith) ∙ ap (λ (l : List ℕ). i ∷ l) (span-nil (suc i) c (omega arith))
+
 pub span-cut : (i b c : ℕ) → i ≤ b → b ≤ c → span i c ≡ span i b ++ span b c
 unfolding span
 span-cut i b c h g =
@@ -38,7 +41,7 @@ span-cut i b c h g =
 pub span-snoc : (i c : ℕ) → i ≤ c → span i (suc c) ≡ span i c ++ (c ∷ [])
 span-snoc i c h =
     span-cut i c (suc c) h (omega arith)
-    ∙ ap (λ (l : List ℕ). span i c ++ l) (span-cons c (suc c) (omega arith) ∙ ap (λ (l : List ℕ). c ∷ l) (span-nil (suc c) (suc c) (omega arith)))
+    ∙ ap (λ (l : List ℕ). span i c ++ l) (span-one c (suc c) (omega arith))
 
 pub length-span : (i c : ℕ) → length (span i c) ≡ c - i
 unfolding span
@@ -55,6 +58,11 @@ slide-cons c i h =
     let f : suc c - 1 ≡ c = omega arith in
     rw (e, f)
 
+pub slide-one : (c i : ℕ) → i + 1 ≡ c → slide c i ≡ i ∷ []
+slide-one c i e =
+    let q : c ≡ suc i = omega arith in
+    ap (λ (a : ℕ). slide a i) q ∙ slide-cons i i (omega arith) ∙ ap (λ (l : List ℕ). i ∷ l) (slide-nil i i (omega arith))
+
 pub slide-cut : (c b i : ℕ) → i ≤ b → b ≤ c → slide c i ≡ slide c b ++ slide b i
 slide-cut c b i h g = cut (c - b) c h (omega arith)
   where
@@ -70,7 +78,7 @@ slide-cut c b i h g = cut (c - b) c h (omega arith)
 pub slide-snoc : (c i : ℕ) → i < c → slide c i ≡ slide c (suc i) ++ (i ∷ [])
 slide-snoc c i h =
     slide-cut c (suc i) i (omega arith) h
-    ∙ ap (λ (l : List ℕ). slide c (suc i) ++ l) (slide-cons i i (omega arith) ∙ ap (λ (l : List ℕ). i ∷ l) (slide-nil i i (omega arith)))
+    ∙ ap (λ (l : List ℕ). slide c (suc i) ++ l) (slide-one (suc i) i (omega arith))
 
 length-down : (i k : ℕ) → length (down i k) ≡ k
 unfolding down
@@ -95,6 +103,11 @@ Corner A n c = c ≡ n
 Corner B n c = c ≡ n
 Corner D n c = c + 1 ≡ n
 
+pub corner-le : (k : Kind) (n c : ℕ) → Corner k n c → c ≤ n
+corner-le A n c e = omega arith
+corner-le B n c e = omega arith
+corner-le D n c e = omega arith
+
 -- before the turn
 pub block-up : (k : Kind) (n i j : ℕ) → j < n → block k n i j ≡ span i (suc j)
 unfolding block
@@ -103,7 +116,7 @@ block-up B n i j h = rw (le-leb j n (omega arith)) (rise-span i j)
 block-up D n i j h = rw (lt-ltb j n h) (rise-span i j)
 
 onlyTop : (n c d : ℕ) → c ≡ n → d ≡ n → slide (suc n) d ≡ c ∷ []
-onlyTop n c d e f = ap (slide (suc n)) f ∙ slide-cons n n (omega arith) ∙ ap (λ (l : List ℕ). n ∷ l) (slide-nil n n (omega arith)) ∙ ap (λ (a : ℕ). a ∷ []) (sym e)
+onlyTop n c d e f = slide-one (suc n) d (omega arith) ∙ ap (λ (a : ℕ). a ∷ []) (omega arith)
 
 down-from-top : (n j d : ℕ) → d + j ≡ 2 * n → 1 ≤ n → n ≤ j → n ∷ fall (n - 1) (2 * n - j) ≡ slide (suc n) d
 down-from-top n j d q o g =

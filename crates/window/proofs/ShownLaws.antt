@@ -1,6 +1,8 @@
--- A word's window at the front of a work window of 64 entries.
+-- Windows at the front of a work window of 64 entries: what the front holds, that it passes checks 9 to 11, and how it is replaced.
+--
+-- Sections: the front; what words show; the front replaced; a copy.
 -- Assumes nothing.
-use mathlib.Core.Path.{_≡_, sym, ap, ap₂, _∙_, subst}
+use mathlib.Core.Path.{_≡_, sym, ap, ap₂, _∙_}
 use mathlib.Core.List.{List, _++_}
 use Prim.Native.Nat.{ℕ, _+_, _≤_, _<_}
 use native.Mathlib.Numerals.{add-one}
@@ -13,15 +15,42 @@ use mir.Syntax.{w8}
 use mir.Val.{toZ, ofZ}
 use Rattle.window.proofs.Bytes.{element-back}
 use Rattle.window.proofs.Basics.{length-window}
-use Rattle.window.proofs.Products.{length-product, windowFrom-product}
-use Rattle.window.proofs.Inverses.{length-inverse}
+use Rattle.window.proofs.Products.{length-product, windowFrom-product, window-append}
+use Rattle.window.proofs.Inverses.{length-inverse, inverse-accepted}
 use Rattle.window.proofs.Levels.{window-accepted, refusal-of-accepted}
-use Rattle.window.proofs.CallLaws.{rank-accepted, lanes-le}
-use Rattle.window.specs.Kinds.{kindOf, lanes}
+use Rattle.window.proofs.CallLaws.{lanes-le}
+use Rattle.window.specs.Kinds.{kindOf, lanes, Kind}
 use Rattle.window.specs.Windows.{window, windowFrom, product, inverse}
-use Rattle.window.specs.Length.{windowLength}
 use Rattle.window.specs.Checks.{rankRefusal, windowRefusal}
 use Rattle.window.specs.Calls.{sameWindow, equalWords}
+
+-- ---- the front
+
+-- where it holds x
+pub front-is : {m l : ℕ} {x : List ℤ} (r : List ℤ) → m ≡ l → take l r ≡ x → take m r ≡ x
+front-is r e w = ap (λ (a : ℕ). take a r) e ∙ w
+
+pub front-refusal : (k : Kind) (n : ℕ) {m l : ℕ} {x : List ℤ} (r : List ℤ) → m ≡ l → take l r ≡ x → windowRefusal k n x ≡ 0
+    → windowRefusal k n (take m r) ≡ 0
+front-refusal k n r e w h = ap (windowRefusal k n) (front-is r e w) ∙ h
+
+pub fronts-same : (k : Kind) (n : ℕ) {m l : ℕ} (u v : List ℕ) (r s : List ℤ) → m ≡ l → take l r ≡ window k n u → take l s ≡ window k n v
+    → sameWindow (take m r) (take m s) ≡ equalWords k n u v
+unfolding equalWords
+fronts-same k n u v r s e a b = ap₂ sameWindow (front-is r e a) (front-is s e b)
+
+-- ---- what words show
+
+pub window-passes : (k : Kind) (n : ℕ) (u : List ℕ) → windowRefusal k n (window k n u) ≡ 0
+window-passes k n u = refusal-of-accepted k n (window k n u) (window-accepted k n u)
+
+pub product-passes : (k : Kind) (n : ℕ) (u v : List ℕ) → windowRefusal k n (product (window k n u) (window k n v)) ≡ 0
+product-passes k n u v = rw (← window-append k n u v) (window-passes k n (u ++ v))
+
+pub inverse-passes : (k : Kind) (n : ℕ) (u : List ℕ) → windowRefusal k n (inverse (window k n u)) ≡ 0
+inverse-passes k n u = refusal-of-accepted k n (inverse (window k n u)) (inverse-accepted k n (window k n u) (window-accepted k n u))
+
+-- ---- the front replaced
 
 module _ (k n m : ℕ) (h : rankRefusal k n ≡ 0) (e : m ≡ lanes (kindOf k) n) where
   pub room : (l : List ℤ) → length l ≡ 64 → m ≤ length l
@@ -30,7 +59,7 @@ module _ (k n m : ℕ) (h : rankRefusal k n ≡ 0) (e : m ≡ lanes (kindOf k) n
   pub length-front-part : (l : List ℤ) → length l ≡ 64 → length (take m l) ≡ m
   length-front-part l q = length-take-le m l (room l q)
 
-  -- the front replaced by a window x
+  -- by a window x
   pub front-store : (l v x : List ℤ) → length l ≡ 64 → length x ≡ lanes (kindOf k) n → v ≡ x
       → (length (v ++ drop m l) ≡ 64) × (take (lanes (kindOf k) n) (v ++ drop m l) ≡ x)
   front-store l v x q s w =
@@ -42,38 +71,22 @@ module _ (k n m : ℕ) (h : rankRefusal k n ≡ 0) (e : m ≡ lanes (kindOf k) n
       → (length (v ++ drop m l) ≡ 64) × (take (lanes (kindOf k) n) (v ++ drop m l) ≡ window (kindOf k) n u)
   front-show u l v q w = front-store l v (window (kindOf k) n u) q (length-window (kindOf k) n u) w
 
-  pub front-is : (u : List ℕ) (r : List ℤ) → take (lanes (kindOf k) n) r ≡ window (kindOf k) n u → take m r ≡ window (kindOf k) n u
-  front-is u r w = ap (λ (a : ℕ). take a r) e ∙ w
-
-  pub front-refusal : (u : List ℕ) (r : List ℤ) → take (lanes (kindOf k) n) r ≡ window (kindOf k) n u → windowRefusal (kindOf k) n (take m r) ≡ 0
-  front-refusal u r w =
-      subst (λ (v : List ℤ). windowRefusal (kindOf k) n v ≡ 0) (sym (front-is u r w))
-      (refusal-of-accepted (kindOf k) n (window (kindOf k) n u) (window-accepted (kindOf k) n u (rank-accepted k n h .0)))
-
-  pub front-length : (u : List ℕ) (r : List ℤ) → take (lanes (kindOf k) n) r ≡ window (kindOf k) n u
-      → windowLength (kindOf k) (take m r) ≡ windowLength (kindOf k) (window (kindOf k) n u)
-  front-length u r w = ap (windowLength (kindOf k)) (front-is u r w)
-
-  pub fronts-same : (u v : List ℕ) (r s : List ℤ) → take (lanes (kindOf k) n) r ≡ window (kindOf k) n u → take (lanes (kindOf k) n) s ≡ window (kindOf k) n v
-      → sameWindow (take m r) (take m s) ≡ equalWords (kindOf k) n u v
-  unfolding equalWords
-  fronts-same u v r s a b = ap₂ sameWindow (front-is u r a) (front-is v s b)
-
   pub front-apply : (u z : List ℕ) (l v : List ℤ) → length l ≡ 64 → take (lanes (kindOf k) n) l ≡ window (kindOf k) n u → v ≡ windowFrom (kindOf k) n (take m l) z
       → (length (v ++ drop m l) ≡ 64) × (take (lanes (kindOf k) n) (v ++ drop m l) ≡ product (window (kindOf k) n u) (window (kindOf k) n z))
   front-apply u z l v q f w =
       front-store l v (product (window (kindOf k) n u) (window (kindOf k) n z)) q
       (length-product (window (kindOf k) n u) (window (kindOf k) n z) ∙ length-window (kindOf k) n z)
-      (w ∙ ap (λ (x : List ℤ). windowFrom (kindOf k) n x z) (front-is u l f)
+      (w ∙ ap (λ (x : List ℤ). windowFrom (kindOf k) n x z) (front-is l e f)
       ∙ windowFrom-product (kindOf k) n (window (kindOf k) n u) z (length-window (kindOf k) n u))
 
   pub front-inverse : (u : List ℕ) (l r v : List ℤ) → length l ≡ 64 → take (lanes (kindOf k) n) r ≡ window (kindOf k) n u → v ≡ inverse (take m r)
       → (length (v ++ drop m l) ≡ 64) × (take (lanes (kindOf k) n) (v ++ drop m l) ≡ inverse (window (kindOf k) n u))
   front-inverse u l r v q f w =
       front-store l v (inverse (window (kindOf k) n u)) q (length-inverse (window (kindOf k) n u) ∙ length-window (kindOf k) n u)
-      (w ∙ ap inverse (front-is u r f))
+      (w ∙ ap inverse (front-is r e f))
 
--- a window copied entry by entry
+-- ---- a copy
+
 pub copy-next : (i : ℕ) (w out : List ℤ) → i < length w → i < length out → mag (getD w i (pos 0)) < 128 → take i out ≡ take i w
     → take (i + 1) (set out i (toZ w8 (ofZ w8 (getD w i (pos 0))))) ≡ take (i + 1) w
 copy-next i w out h g f q =

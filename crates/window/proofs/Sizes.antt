@@ -8,26 +8,18 @@ use Prim.Native.Nat.{ℕ, zero, suc, _+_, _≤_}
 use native.Mathlib.Nat.{zero-add}
 use native.Mathlib.Numerals.{one-add}
 use native.Mathlib.Omega.{arith}
-use lib.Dec.{eqb, ltb, eqb·suc-zero}
+use lib.Dec.{eqb, ltb}
 use lib.IntN.{ℤ, pos, negsuc, negℤ, natAbs}
 use lib.ListN.{length}
 use borrow.Author.Tests.{eqb-false}
 use Rattle.window.specs.Kinds.{Kind, A, B, D, pick}
 use Rattle.window.specs.Windows.{from, exchange, exchangeNegate}
 use Rattle.window.specs.Length.{negative, negatives, one}
-use Rattle.window.specs.Checks.{check, _then_, hasSize, wrongAt, wrongEntry, negativeInA, odd}
+use Rattle.window.specs.Checks.{hasSize, wrongAt, wrongEntry, negativeInA, odd}
 use Rattle.window.specs.NormalForm.{without}
 use Rattle.window.proofs.Basics.{or-false-left, or-false-right}
 
 -- ---- tests
-
-pub then-zero : (r s : ℕ) → (r then s) ≡ 0 → (r ≡ 0) × (s ≡ 0)
-then-zero zero s h = (refl, h)
-then-zero (suc r) s h = let z : suc r ≡ 0 = rw eqb·suc-zero at h in let f : ⊥ = omega arith in absurd f
-
-pub check-zero : (r : ℕ) (t : Bool) → check (suc r) t ≡ 0 → t ≡ false
-check-zero r true h = let f : ⊥ = omega arith in absurd f
-check-zero r false h = refl
 
 or-false-all : (a b c d q : Bool) → ((a || (b || (c || d))) || q) ≡ false
     → (a ≡ false) × (b ≡ false) × (c ≡ false) × (d ≡ false) × (q ≡ false)

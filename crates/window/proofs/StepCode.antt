@@ -3,27 +3,25 @@
 -- Sections: stores; entries of an accepted window; one step; the letters of a word; the straight window.
 -- Assumes nothing.
 use mathlib.Core.Path.{_≡_, refl, sym, ap, _∙_}
-use mathlib.Core.Bool.{Bool, false, _||_}
+use mathlib.Core.Bool.{false}
 use mathlib.Core.List.{List, [], _∷_, _++_, map-append}
 use Prim.Native.Nat.{ℕ, zero, suc, _+_, _-_, _≤_, _<_}
 use native.Mathlib.Decide.{ℕ-discrete}
 use native.Mathlib.Nat.{suc-add}
 use native.Mathlib.Numerals.{add-one}
 use native.Mathlib.Omega.{arith}
-use lib.Dec.{eqb, ltb}
 use lib.IntN.{ℤ, pos, negℤ, natAbs}
 use lib.ListN.{length, getD, take, drop, set, drop-of-length-le}
 use lib.Seq.{take-suc-set, take-all}
 use lib.Signed.{mag}
 use mir.Syntax.{w8}
 use mir.Val.{toZ, ofZ}
-use borrow.Author.Tests.{eqb-false, ltb-false}
 use Rattle.window.specs.Kinds.{Kind, A, B, D, kindOf, lanes, least, up}
 use Rattle.window.specs.Windows.{from, exchange, negateFirst, exchangeNegate, act, windowFrom, straight, window}
 use Rattle.window.specs.Checks.{wrongLetter, windowRefusal}
-use Rattle.window.proofs.Basics.{or-false-left, or-false-right, up-append}
+use Rattle.window.proofs.Basics.{up-append, lanes-le-add-one}
 use Rattle.window.proofs.Bytes.{cast-back, element-back}
-use Rattle.window.proofs.CheckLaws.{drop-next, kindOf-one, kindOf-two, kindOf-three}
+use Rattle.window.proofs.CheckLaws.{drop-next, kindOf-one, kindOf-two, kindOf-three, letter-within-cons}
 use Rattle.window.proofs.Levels.{Between, accepted-of-refusal, refusal-of-accepted, act-accepted, straight-accepted}
 use Rattle.window.proofs.Steps.{act-exchange, act-B-last, act-D-last}
 
@@ -83,11 +81,6 @@ size-getD-lt i c p [] h b = h
 size-getD-lt i c zero (e ∷ w) h b = b .1
 size-getD-lt i c (suc p) (e ∷ w) h b = size-getD-lt i c p w h (b .2)
 
-lanes-le : (k : Kind) (n : ℕ) → lanes k n ≤ n + 1
-lanes-le A n = omega arith
-lanes-le B n = omega arith
-lanes-le D n = omega arith
-
 pub length-of-refusal : (k : Kind) (n : ℕ) (w : List ℤ) → windowRefusal k n w ≡ 0 → length w ≡ lanes k n
 length-of-refusal k n w h = accepted-of-refusal k n w h .size
 
@@ -95,7 +88,7 @@ length-of-refusal k n w h = accepted-of-refusal k n w h .size
 pub size-lt-of-refusal : (k : Kind) (n p : ℕ) (w : List ℤ) → n ≤ 64 → windowRefusal k n w ≡ 0 → natAbs (getD w p (pos 0)) < 128
 size-lt-of-refusal k n p w h r =
     let s : natAbs (getD w p (pos 0)) < 1 + length w = size-getD-lt 1 (1 + length w) p w (omega arith) (accepted-of-refusal k n w r .level .between) in
-    omega (arith, lanes-le k n, length-of-refusal k n w r)
+    omega (arith, lanes-le-add-one k n, length-of-refusal k n w r)
 
 -- ---- one step
 
@@ -149,21 +142,15 @@ module _ (k n s : ℕ) (w : List ℤ) (h : ActRequires k n s w) (l : length w �
 -- ---- the letters of a word
 
 pub letter-within : (n : ℕ) (u : List ℕ) (i : ℕ) → i < length u → wrongLetter n (drop i u) ≡ false → (1 ≤ getD u i 0) × (getD u i 0 ≤ n)
-unfolding wrongLetter
 letter-within n u i h e =
-    let t : Bool = eqb (getD u i 0) 0 || ltb n (getD u i 0) in
-    let a : t ≡ false = or-false-left t (wrongLetter n (drop (i + 1) u)) (rw (drop-next u i 0 h) at e) in
-    let z : getD u i 0 ≡ 0 → ⊥ = eqb-false (getD u i 0) 0 (or-false-left (eqb (getD u i 0) 0) (ltb n (getD u i 0)) a) in
-    let l : getD u i 0 ≤ n = ltb-false n (getD u i 0) (or-false-right (eqb (getD u i 0) 0) (ltb n (getD u i 0)) a) in
-    (omega arith, l)
+    let a = letter-within-cons n (getD u i 0) (drop (i + 1) u) (rw (drop-next u i 0 h) at e) in
+    (a .0, a .1)
 
 pub wrongLetter-next : (n : ℕ) (u : List ℕ) (i : ℕ) → i < length u → wrongLetter n (drop i u) ≡ false → wrongLetter n (drop (i + 1) u) ≡ false
-unfolding wrongLetter
-wrongLetter-next n u i h e =
-    or-false-right (eqb (getD u i 0) 0 || ltb n (getD u i 0)) (wrongLetter n (drop (i + 1) u)) (rw (drop-next u i 0 h) at e)
+wrongLetter-next n u i h e = letter-within-cons n (getD u i 0) (drop (i + 1) u) (rw (drop-next u i 0 h) at e) .2
 
-pub refusal-next : (k : Kind) (n s : ℕ) (w v : List ℤ) → least k ≤ n → windowRefusal k n w ≡ 0 → v ≡ act k n s w → windowRefusal k n v ≡ 0
-refusal-next k n s w v h r e = rw e (refusal-of-accepted k n (act k n s w) (act-accepted k n s w h (accepted-of-refusal k n w r)))
+pub refusal-next : (k : Kind) (n s : ℕ) (w v : List ℤ) → windowRefusal k n w ≡ 0 → v ≡ act k n s w → windowRefusal k n v ≡ 0
+refusal-next k n s w v r e = rw e (refusal-of-accepted k n (act k n s w) (act-accepted k n s w (accepted-of-refusal k n w r)))
 
 pub windowFrom-next : (k : Kind) (n : ℕ) (u : List ℕ) (i : ℕ) (w v : List ℤ) → i < length u → v ≡ act k n (getD u i 0) w
     → windowFrom k n w (drop i u) ≡ windowFrom k n v (drop (i + 1) u)
@@ -190,7 +177,7 @@ take-straight-end i m w h l e t = sym (take-all i w h) ∙ t ∙ ap straight (om
 
 -- here m is the length of the slice that the straight window goes to
 pub le-of-lanes : (k : Kind) (n m : ℕ) → n ≤ 64 → m ≡ lanes k n → m ≤ 127
-le-of-lanes k n m h e = omega (arith, lanes-le k n)
+le-of-lanes k n m h e = omega (arith, lanes-le-add-one k n)
 
 pub refusal-straight : (k : Kind) (n m : ℕ) (w : List ℤ) → m ≡ lanes k n → w ≡ straight m → windowRefusal k n w ≡ 0
 refusal-straight k n m w h e = rw (e, h) (refusal-of-accepted k n (straight (lanes k n)) (straight-accepted k n))

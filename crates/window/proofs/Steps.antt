@@ -4,7 +4,6 @@
 -- Not here: the relations between the steps of a kind (Relations).
 -- Assumes nothing.
 use mathlib.Core.Path.{_≡_, refl, ap, fun-ext, _∙_}
-use mathlib.Core.Bool.{Bool, true, false}
 use mathlib.Core.List.{List, [], _∷_}
 use Prim.Native.Nat.{ℕ, zero, suc, _+_, _-_, _≤_, _<_}
 use native.Mathlib.Nat.{suc-add, zero-add}
@@ -13,8 +12,9 @@ use lib.Dec.{eqb}
 use lib.IntN.{ℤ, negℤ-negℤ}
 use lib.ListN.{length}
 use borrow.Author.Tests.{eq-eqb, ne-eqb}
-use Rattle.window.specs.Kinds.{Kind, A, B, D, pick, lanes}
+use Rattle.window.specs.Kinds.{Kind, A, B, D, lanes}
 use Rattle.window.specs.Windows.{from, exchange, negateFirst, exchangeNegate, act}
+use Rattle.window.proofs.Basics.{by-pick}
 
 -- ---- from a position on
 
@@ -161,19 +161,15 @@ pub act-D-last : (n p : ℕ) → p + 2 ≡ n → act D n n ≡ from p exchangeNe
 unfolding act
 act-D-last n p h = let e : n - 2 ≡ p = omega arith in rw (eq-eqb n n refl, e)
 
-pick-involution : (t : Bool) (f g : List ℤ → List ℤ) (w : List ℤ) → f (f w) ≡ w → g (g w) ≡ w → pick t f g (pick t f g w) ≡ w
-pick-involution true f g w hf hg = hf
-pick-involution false f g w hf hg = hg
-
 -- a step undoes itself
 pub act-involution : (k : Kind) (n s : ℕ) (w : List ℤ) → act k n s (act k n s w) ≡ w
 unfolding act
 act-involution A n s w = from-involution exchange exchange-involution (s - 1) w
 act-involution B n s w =
-    pick-involution (eqb s n) (from (n - 1) negateFirst) (from (s - 1) exchange) w
+    by-pick (λ f. f (f w) ≡ w) (eqb s n) (from (n - 1) negateFirst) (from (s - 1) exchange)
     (from-involution negateFirst negateFirst-involution (n - 1) w)
     (from-involution exchange exchange-involution (s - 1) w)
 act-involution D n s w =
-    pick-involution (eqb s n) (from (n - 2) exchangeNegate) (from (s - 1) exchange) w
+    by-pick (λ f. f (f w) ≡ w) (eqb s n) (from (n - 2) exchangeNegate) (from (s - 1) exchange)
     (from-involution exchangeNegate exchangeNegate-involution (n - 2) w)
     (from-involution exchange exchange-involution (s - 1) w)

@@ -19,7 +19,7 @@ use Rattle.window.proofs.Runs.{slide, rise-span, fall-slide, span-cons,
 
 -- ---- runs of stores
 
-sets-append : (o : List ℕ) (r : ℕ) (u v : List ℕ) → sets (sets o r u) (r + length u) v ≡ sets o r (u ++ v)
+pub sets-append : (o : List ℕ) (r : ℕ) (u v : List ℕ) → sets (sets o r u) (r + length u) v ≡ sets o r (u ++ v)
 sets-append o r [] v = rw add-zero
 sets-append o r (x ∷ u) v = rw (add-suc, ← suc-add) (sets-append (set o r x) (suc r) u v)
 

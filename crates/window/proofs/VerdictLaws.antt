@@ -6,7 +6,6 @@ use mathlib.Core.List.{List}
 use Prim.Native.Nat.{ℕ}
 use native.Mathlib.Nat.{zero-add}
 use denote.Ref.{RefT}
-use lib.Dec.{eqb}
 use lib.IntN.{ℤ}
 use borrow.Author.Tests.{eq-eqb, ne-eqb}
 use borrow.Rule.Slice.PartAt.{slPart}
@@ -15,19 +14,12 @@ use Rattle.window.specs.declared.Answer.{Answer}
 use Rattle.window.specs.declared.Answer.the-variants.{Length, Refused}
 use Rattle.window.specs.declared.Verdict.{Verdict}
 use Rattle.window.specs.declared.Verdict.the-variants as verdict
-use Rattle.window.proofs.Sizes.{then-zero}
 use Rattle.window.specs.Kinds.{kindOf}
 use Rattle.window.specs.Windows.{window}
 use Rattle.window.specs.Length.{windowLength}
 use Rattle.window.specs.Checks.{_then_, rankRefusal, wordRefusal, windowRefusal}
 use Rattle.window.specs.Calls.{answerOf, verdictOf, lengthOfWindow, lengthOfWord, equalWords, samePresets, presetsEqual, handsBack, Better}
-
-pub then-assoc : (a b c : ℕ) → (a then (b then c)) ≡ ((a then b) then c)
-then-assoc a b c = cases (eqb a 0) refl
-  where
-    cases : (t : Bool) → eqb a 0 ≡ t → (a then (b then c)) ≡ ((a then b) then c)
-    cases true e = rw e
-    cases false e = rw e (rw e)
+use Rattle.window.proofs.Refusals.{then-zero, then-assoc}
 
 -- ---- lengths
 
@@ -69,7 +61,7 @@ pub presetsEqual-is : (k n : ℕ) (u : List ℕ) (l m : ℕ) (v : List ℕ)
 unfolding presetsEqual
 presetsEqual-is k n u l m v =
     ap (λ (r : ℕ). verdictOf r (samePresets k n u l m v))
-    (then-assoc (rankRefusal k n) (wordRefusal n u) (rankRefusal l m then wordRefusal m v))
+    (sym (then-assoc (rankRefusal k n) (wordRefusal n u) (rankRefusal l m then wordRefusal m v)))
 
 pub kinds-differ : (k n : ℕ) (u : List ℕ) (l m : ℕ) (v : List ℕ) → (k ≡ l → ⊥) → samePresets k n u l m v ≡ false
 unfolding samePresets

@@ -8,16 +8,8 @@ use native.Mathlib.Omega.{arith}
 use lib.Dec.{ltb}
 use lib.ListN.{length, getD, drop, drop-of-length-le}
 use borrow.Author.Tests.{eq-eqb, ne-eqb}
-use Rattle.window.specs.Dictionary.{before, shortlex}
+use Rattle.window.specs.Dictionary.{before}
 use Rattle.window.proofs.CheckLaws.{drop-next}
-
-pub shortlex-of-ne : (u v : List ℕ) → (length u ≡ length v → ⊥) → shortlex u v ≡ ltb (length u) (length v)
-unfolding shortlex
-shortlex-of-ne u v d = rw (ne-eqb (length u) (length v) d)
-
-pub shortlex-of-eq : (u v : List ℕ) → length u ≡ length v → shortlex u v ≡ before u v
-unfolding shortlex
-shortlex-of-eq u v e = rw (eq-eqb (length u) (length v) e)
 
 -- the first difference
 pub before-here : (u v : List ℕ) (i : ℕ) → length u ≡ length v → i < length u → (getD u i 0 ≡ getD v i 0 → ⊥)

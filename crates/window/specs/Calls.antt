@@ -2,7 +2,7 @@
 use mathlib.Core.Path.{_≡_}
 use mathlib.Core.Bool.{Bool, true, false, _&&_}
 use mathlib.Core.List.{List, [], _∷_, _++_}
-use Prim.Native.Nat.{ℕ, zero, suc, _-_}
+use Prim.Native.Nat.{ℕ}
 use denote.Ref.{RefT, now}
 use lib.Dec.{eqb}
 use lib.IntN.{ℤ, pos, negsuc}
@@ -11,10 +11,9 @@ use Rattle.window.specs.declared.Answer.{Answer}
 use Rattle.window.specs.declared.Answer.the-variants.{Length, Refused}
 use Rattle.window.specs.declared.Verdict.{Verdict}
 use Rattle.window.specs.declared.Verdict.the-variants as verdict
-use Rattle.window.specs.Kinds.{Kind, pick, kindOf, lanes}
+use Rattle.window.specs.Kinds.{Kind, pick, kindOf}
 use Rattle.window.specs.Windows.{window, product, inverse}
 use Rattle.window.specs.Length.{windowLength}
-use Rattle.window.specs.Dictionary.{shortlex}
 use Rattle.window.specs.NormalForm.{normalForm, wordNormalForm}
 use Rattle.window.specs.Checks.{check, _then_, tooShort, rankRefusal, wordRefusal, windowRefusal}
 

@@ -1,5 +1,5 @@
 -- The checks (document 01, "Turned-down calls, in checking order"). A refusal is a number of that list; 0 stands for none.
-use mathlib.Core.Bool.{Bool, true, false, not, _||_}
+use mathlib.Core.Bool.{Bool, false, not, _||_}
 use mathlib.Core.List.{List, [], _∷_}
 use Prim.Native.Nat.{ℕ, zero, suc}
 use lib.Dec.{eqb, ltb}

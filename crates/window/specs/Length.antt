@@ -1,7 +1,7 @@
 -- The length of a window (document 01, "Length"): three sums, kept apart. A pair of the first sum is an inversion, one of the second a negative sum pair.
 use mathlib.Core.Bool.{Bool, true, false}
 use mathlib.Core.List.{List, [], _∷_, map}
-use Prim.Native.Nat.{ℕ, suc, _+_}
+use Prim.Native.Nat.{ℕ, _+_}
 use lib.Dec.{ltb}
 use lib.IntN.{ℤ, pos, negsuc, negℤ}
 use Rattle.window.specs.Kinds.{Kind, A, B, D, pick}

@@ -1,5 +1,4 @@
 -- One step on a window, the window of a word, product and inverse (document 01, "Kinds, ranks, steps"). Positions count from 1 there and from 0 here.
-use mathlib.Core.Bool.{Bool, true, false}
 use mathlib.Core.List.{List, [], _∷_, map}
 use Prim.Native.Nat.{ℕ, zero, suc, _-_}
 use lib.Dec.{eqb}

@@ -1,10 +1,10 @@
 -- `inverse_of_word` refuses in document 01's order, or writes the normal form of the inverse of what the word shows.
 -- Assumes nothing.
 use mathlib.Core.Path.{sym, _∙_}
-use Rattle.window.proofs.Sizes.{then-zero}
 use Rattle.window.proofs.CallLaws.{writes-refused}
-use Rattle.window.proofs.ShownLaws.{room, length-front-part}
-use Rattle.window.proofs.FormCode.{front-part, front-passes, inverse-passes, call-written, inverseOfWord-is}
+use Rattle.window.proofs.ShownLaws.{room, length-front-part, front-is, front-refusal, inverse-passes}
+use Rattle.window.proofs.FormCode.{call-written, inverseOfWord-is}
+use Rattle.window.proofs.Refusals.{then-zero}
 use borrow.Author.Needs.{needs}
 use Rattle.window.proofs.inverse_of_word.Statement.{statement}
 use Rattle.window.proofs.inverse_of_word.Tie as tie
@@ -30,13 +30,13 @@ slice-aggregate-write-checked c = sym (length-front-part _ _ _ ((then-zero _ _ (
 write-checked-requires : tie.Need-write-checked-requires
 write-checked-requires c κs =
     let r = (then-zero _ _ (sym (c .before .before .before .before .before .preset-refusal .ensures) ∙ c .before .before .before .before .if1 .left)) .0 in
-    (r, front-passes _ _ _ _ (front-part _ _ _ _ _ (c .before .before .before .lanes .ensures) (c .before .before .inverse-shown .ensures .1)) (inverse-passes _ _ _ r))
+    (r, front-refusal _ _ _ (c .before .before .before .lanes .ensures) (c .before .before .inverse-shown .ensures .1) (inverse-passes _ _ _))
 
 same-length : tie.Need-same-length
 same-length c = search needs
 
 returns-2 : tie.Need-returns-2
-returns-2 c = call-written _ _ _ _ _ _ _ _ _ _ (inverseOfWord-is _ _ _ _) (c .before .before .before .before .before .before .before .before .before .preset-refusal .ensures) (c .before .before .before .before .before .before .before .before .if1 .left) (front-part _ _ _ _ _ (c .before .before .before .before .before .before .before .lanes .ensures) (c .before .before .before .before .before .before .inverse-shown .ensures .1)) (c .before .before .before .write-checked .ensures)
+returns-2 c = call-written _ _ _ _ _ _ _ _ _ _ (inverseOfWord-is _ _ _ _) (c .before .before .before .before .before .before .before .before .before .preset-refusal .ensures) (c .before .before .before .before .before .before .before .before .if1 .left) (front-is _ (c .before .before .before .before .before .before .before .lanes .ensures) (c .before .before .before .before .before .before .inverse-shown .ensures .1)) (c .before .before .before .write-checked .ensures)
 
 pub inverse-of-word-spec : {M : Type 1} → statement M
 inverse-of-word-spec =

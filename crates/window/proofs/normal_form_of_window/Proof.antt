@@ -2,9 +2,10 @@
 -- Assumes nothing.
 use mathlib.Core.Path.{sym, ap, _∙_}
 use lib.ListN.{length}
-use Rattle.window.proofs.Sizes.{then-zero}
 use Rattle.window.proofs.CallLaws.{writes-refused}
-use Rattle.window.proofs.FormCode.{window-fits, front-passes, call-written, normalFormOfWindow-is}
+use Rattle.window.proofs.FormCode.{window-fits, call-written, normalFormOfWindow-is}
+use Rattle.window.proofs.Refusals.{then-zero}
+use Rattle.window.specs.Checks.{windowRefusal}
 use borrow.Author.Needs.{needs}
 use native.Mathlib.Omega.{arith}
 use Rattle.window.proofs.normal_form_of_window.Statement.{statement}
@@ -29,7 +30,7 @@ slice-aggregate-write-checked : tie.Need-slice-aggregate-write-checked
 slice-aggregate-write-checked c = sym (ap length (c .before .copied .ensures .1))
 
 write-checked-requires : tie.Need-write-checked-requires
-write-checked-requires c κs = let a = (then-zero _ _ (sym (c .before .before .before .before .ranked-window-refusal .ensures) ∙ c .before .before .before .if1 .left)) in (a .0, front-passes _ _ _ _ (c .before .before .copied .ensures .1) (a .1))
+write-checked-requires c κs = let a = (then-zero _ _ (sym (c .before .before .before .before .ranked-window-refusal .ensures) ∙ c .before .before .before .if1 .left)) in (a .0, ap (windowRefusal _ _) (c .before .before .copied .ensures .1) ∙ a .1)
 
 same-length : tie.Need-same-length
 same-length c = search needs

@@ -3,8 +3,8 @@
 use mathlib.Core.Path.{sym}
 use Rattle.window.proofs.CallLaws.{writes-refused}
 use Rattle.window.proofs.VerdictLaws.{words-accepted}
-use Rattle.window.proofs.ShownLaws.{room, length-front-part}
-use Rattle.window.proofs.FormCode.{front-part, front-passes, product-passes, call-written, productOfWords-is}
+use Rattle.window.proofs.ShownLaws.{room, length-front-part, front-is, front-refusal, product-passes}
+use Rattle.window.proofs.FormCode.{call-written, productOfWords-is}
 use borrow.Author.Needs.{needs}
 use Rattle.window.proofs.product_of_words.Statement.{statement}
 use Rattle.window.proofs.product_of_words.Tie as tie
@@ -30,13 +30,13 @@ slice-aggregate-write-checked c = sym (length-front-part _ _ _ ((words-accepted 
 write-checked-requires : tie.Need-write-checked-requires
 write-checked-requires c κs =
     let r = (words-accepted _ _ _ _ _ (c .before .before .before .before .before .ranked-words-refusal .ensures) (c .before .before .before .before .if1 .left)) .0 in
-    (r, front-passes _ _ _ _ (front-part _ _ _ _ _ (c .before .before .before .lanes .ensures) (c .before .before .product-shown .ensures .1)) (product-passes _ _ _ _ r))
+    (r, front-refusal _ _ _ (c .before .before .before .lanes .ensures) (c .before .before .product-shown .ensures .1) (product-passes _ _ _ _))
 
 same-length : tie.Need-same-length
 same-length c = search needs
 
 returns-2 : tie.Need-returns-2
-returns-2 c = call-written _ _ _ _ _ _ _ _ _ _ (productOfWords-is _ _ _ _ _) (c .before .before .before .before .before .before .before .before .before .ranked-words-refusal .ensures) (c .before .before .before .before .before .before .before .before .if1 .left) (front-part _ _ _ _ _ (c .before .before .before .before .before .before .before .lanes .ensures) (c .before .before .before .before .before .before .product-shown .ensures .1)) (c .before .before .before .write-checked .ensures)
+returns-2 c = call-written _ _ _ _ _ _ _ _ _ _ (productOfWords-is _ _ _ _ _) (c .before .before .before .before .before .before .before .before .before .ranked-words-refusal .ensures) (c .before .before .before .before .before .before .before .before .if1 .left) (front-is _ (c .before .before .before .before .before .before .before .lanes .ensures) (c .before .before .before .before .before .before .product-shown .ensures .1)) (c .before .before .before .write-checked .ensures)
 
 pub product-of-words-spec : {M : Type 1} → statement M
 product-of-words-spec =

@@ -52,7 +52,7 @@ loop-again c =
       omega arith,
       c .before .act-on .kept .1 .1 .1 .0 ∙ i .1,
       wrongLetter-next _ _ _ t (i .2),
-      refusal-next _ _ _ _ _ (c .before .before .before .before .before .before .before .pre .0) (i .3) (c .before .act-on .ensures),
+      refusal-next _ _ _ _ _ (i .3) (c .before .act-on .ensures),
       i .4 ∙ windowFrom-next _ _ _ _ _ _ t (c .before .act-on .ensures),
     )
 

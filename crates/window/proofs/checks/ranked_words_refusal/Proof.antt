@@ -1,8 +1,8 @@
 -- `checks::ranked_words_refusal` makes the checks of the functions that it calls, in their order.
 -- Assumes nothing.
-use Rattle.window.proofs.CallLaws.{then-refused, then-next}
 use borrow.Author.Needs.{needs}
 use Rattle.window.proofs.checks.ranked_words_refusal.Statement.{statement}
+use Rattle.window.proofs.Refusals.{then-refused, then-next}
 use Rattle.window.proofs.checks.ranked_words_refusal.Tie as tie
 
 rank-refusal-requires : tie.Need-rank-refusal-requires

@@ -1,10 +1,9 @@
 -- `normal::turn_last` leaves what `restOf` says of a negative entry: in D the last entry with its sign changed.
 -- Assumes nothing.
-use mathlib.Core.Path.{ap, _∙_}
 use mathlib.Core.Logic.{inl, inr}
 use Prim.Native.Nat.{_-_}
 use lib.ListN.{length, getD}
-use lib.IntN.{ℤ, pos, negℤ}
+use lib.IntN.{ℤ, pos}
 use borrow.Author.Needs.{needs}
 use Rattle.window.proofs.CheckLaws.{kindOf-one, kindOf-two, kindOf-three}
 use Rattle.window.proofs.NormalCode.{size-below, restOf-straight, restOf-nil, restOf-last}
@@ -41,10 +40,8 @@ returns-3 c =
     let copied = c .before in
     let third = copied .before in
     let second = third .before in
-    let start = second .before .before in
-    let e : ℤ = getD (start .args .w .now) (length (start .args .w .now) - 1) (pos 0) in
-    restOf-last _ _ _ (kindOf-three _ (second .before .if1 .left) (second .if2 .left)) (third .if3 .taken) (c .negated .ok)
-    (c .negated .ensures ∙ ap negℤ (element-back e (copied .negated-arg .given)))
+    restOf-last _ _ _ (kindOf-three _ (second .before .if1 .left) (second .if2 .left)) (third .if3 .taken)
+    (record { entry = copied .negated-arg .given; result = c .negated .ok; negation = c .negated .ensures })
 
 returns-4 : tie.Need-returns-4
 returns-4 c = restOf-nil _ _ (c .if3 .left)

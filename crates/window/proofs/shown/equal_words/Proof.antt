@@ -31,7 +31,7 @@ same-entries-requires : tie.Need-same-entries-requires
 same-entries-requires c κs = search needs
 
 returns : tie.Need-returns
-returns c = c .same-entries .ensures ∙ fronts-same _ _ _ (c .before .before .before .before .before .before .before .before .pre .0) (c .before .before .before .before .before .lanes .ensures) _ _ _ _ (c .before .before .before .before .shown .ensures .1) (c .before .before .before .shown2 .ensures .1)
+returns c = c .same-entries .ensures ∙ fronts-same _ _ _ _ _ _ (c .before .before .before .before .before .lanes .ensures) (c .before .before .before .before .shown .ensures .1) (c .before .before .before .shown2 .ensures .1)
 
 pub equal-words-spec : {M : Type 1} → statement M
 equal-words-spec =

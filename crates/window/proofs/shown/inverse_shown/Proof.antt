@@ -2,7 +2,7 @@
 -- Assumes nothing.
 use mathlib.Core.Path.{sym, _∙_}
 use Rattle.window.proofs.CallLaws.{rank-accepted}
-use Rattle.window.proofs.ShownLaws.{room, length-front-part, front-refusal, front-inverse}
+use Rattle.window.proofs.ShownLaws.{room, length-front-part, front-refusal, front-inverse, window-passes}
 use borrow.Author.Needs.{needs}
 use Rattle.window.proofs.shown.inverse_shown.Statement.{statement}
 use Rattle.window.proofs.shown.inverse_shown.Tie as tie
@@ -32,7 +32,7 @@ inverse-into-requires : tie.Need-inverse-into-requires
 inverse-into-requires c κs = (
   rank-accepted _ _ (c .before .before .before .before .before .before .pre .0) .1,
   (
-    front-refusal _ _ _ (c .before .before .before .before .before .before .pre .0) (c .before .before .before .before .lanes .ensures) _ _ (c .before .before .before .shown .ensures .1),
+    front-refusal _ _ _ (c .before .before .before .before .lanes .ensures) (c .before .before .before .shown .ensures .1) (window-passes _ _ _),
     length-front-part _ _ _ (c .before .before .before .before .before .before .pre .0) (c .before .before .before .before .lanes .ensures) (c .before .before .blank .result) (c .before .before .blank .ensures) ∙ sym (length-front-part _ _ _ (c .before .before .before .before .before .before .pre .0) (c .before .before .before .before .lanes .ensures) (c .before .before .before .shown .result) (c .before .before .before .shown .ensures .0)),
   ),
 )

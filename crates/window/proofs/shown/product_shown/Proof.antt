@@ -2,7 +2,7 @@
 -- Assumes nothing.
 use mathlib.Core.Path.{sym}
 use Rattle.window.proofs.CallLaws.{rank-accepted, letters-accepted}
-use Rattle.window.proofs.ShownLaws.{room, length-front-part, front-refusal, front-apply}
+use Rattle.window.proofs.ShownLaws.{room, length-front-part, front-refusal, front-apply, window-passes}
 use borrow.Author.Needs.{needs}
 use Rattle.window.proofs.shown.product_shown.Statement.{statement}
 use Rattle.window.proofs.shown.product_shown.Tie as tie
@@ -22,7 +22,7 @@ slice-aggregate-apply c = sym (length-front-part _ _ _ (c .before .before .befor
 apply-requires : tie.Need-apply-requires
 apply-requires c κs =
     let a = rank-accepted _ _ (c .before .before .before .before .before .pre .0) in
-    (a .0, (a .1, (letters-accepted _ _ (c .before .before .before .before .before .pre .1 .1), front-refusal _ _ _ (c .before .before .before .before .before .pre .0) (c .before .before .lanes .ensures) _ _ (c .before .shown .ensures .1))))
+    (a .0, (a .1, (letters-accepted _ _ (c .before .before .before .before .before .pre .1 .1), front-refusal _ _ _ (c .before .before .lanes .ensures) (c .before .shown .ensures .1) (window-passes _ _ _))))
 
 returns : tie.Need-returns
 returns c = front-apply _ _ _ (c .before .before .before .before .before .before .before .pre .0) (c .before .before .before .before .lanes .ensures) _ _ _ _ (c .before .before .before .shown .ensures .0) (c .before .before .before .shown .ensures .1) (c .before .apply .ensures)

@@ -7,7 +7,8 @@ use native.Mathlib.Omega.{arith}
 use lib.ListN.{length, drop}
 use borrow.Author.Needs.{needs}
 use Rattle.window.specs.Dictionary.{before}
-use Rattle.window.proofs.WordCode.{shortlex-of-ne, shortlex-of-eq, before-here, before-step, before-end}
+use Rattle.window.proofs.WordCode.{before-here, before-step, before-end}
+use Rattle.window.proofs.Order.{shortlex-of-ne, shortlex-of-eq}
 use Rattle.window.proofs.words.is_shortlex.Statement.{statement}
 use Rattle.window.proofs.words.is_shortlex.Tie as tie
 
