@@ -1,0 +1,6 @@
+// Prints the preset book on standard input.
+fn main() {
+    let mut bytes = io::large_buffer();
+    let n = io::read_full(0, &mut bytes);
+    listing_lines::print_book(&bytes[..n]);
+}

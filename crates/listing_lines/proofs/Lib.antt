@@ -1,0 +1,6 @@
+-- The laws of the listing.
+pub mod Decimals
+pub mod Puts
+pub mod LineLaws
+pub mod PresetLines
+pub mod Listings

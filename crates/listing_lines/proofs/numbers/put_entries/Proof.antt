@@ -1,0 +1,64 @@
+-- `numbers::put_entries` puts the entries one after the other: what is left to put is the entries from i on, and each takes five bytes at most.
+-- Assumes nothing.
+use borrow.Author.Needs.{needs}
+use mathlib.Core.Path.{_≡_, refl, _∙_}
+use denote.Ref.{now}
+use Prim.Native.Nat.{_+_, _-_, _*_, _≤_}
+use native.Mathlib.Omega.{arith}
+use lib.ListN.{length, drop}
+use Rattle.window.proofs.Stores.{Storing, storing-all}
+use Rattle.listing_lines.specs.Text.{entries}
+use Rattle.listing_lines.proofs.Puts.{entries-put, entries-done}
+use Rattle.listing_lines.proofs.numbers.put_entries.Statement.{statement}
+use Rattle.listing_lines.proofs.numbers.put_entries.Tie as tie
+
+abbrev Inv-loop : tie.InvT-loop
+Inv-loop out₀ at window r₀ i₀ out r i = (i ≤ length window) × (r ≤ at + 5 * i) × Storing out₀ at (entries window) out r (entries (drop i window))
+
+abbrev μ-loop : tie.MeasureT-loop
+μ-loop out₀ at window r₀ i₀ out r i = length window - i
+
+loop-holds : tie.Need-loop-holds Inv-loop μ-loop
+loop-holds c = (omega arith, omega arith, storing-all)
+
+shared-slice-copy-out-put-entry : tie.Need-shared-slice-copy-out-put-entry Inv-loop μ-loop
+shared-slice-copy-out-put-entry c = omega arith
+
+put-entry-requires : tie.Need-put-entry-requires Inv-loop μ-loop
+put-entry-requires c κs = omega (arith, c .before .before .before .loop .inv .2 .size)
+
+add-i : tie.Need-add-i Inv-loop μ-loop
+add-i c = omega arith
+
+loop-less : tie.Need-loop-less Inv-loop μ-loop
+loop-less c = omega arith
+
+loop-again : tie.Need-loop-again Inv-loop μ-loop
+loop-again c =
+    let turn = c .before .before .before .before .before .before in
+    let put = c .before .before .put-entry .ensures in (
+      omega arith,
+      omega arith,
+      entries-put _ _ _ _ _ _ _ _ (c .before .before .before .before .before .loop-test .taken) (c .before .before .before .put-entry-arg2 .given) (turn .loop .inv .2) (put .0),
+    )
+
+same-length : tie.Need-same-length Inv-loop μ-loop
+same-length c = c .before .loop .inv .2 .size
+
+returns : tie.Need-returns Inv-loop μ-loop
+returns c = (entries-done _ _ _ _ _ _ (c .loop-test .left) (c .before .loop .inv .2), omega arith)
+
+pub put-entries-spec : {M : Type 1} → statement M
+put-entries-spec =
+    tie.close
+    (tie.spec
+    Inv-loop
+    μ-loop
+    loop-holds
+    shared-slice-copy-out-put-entry
+    put-entry-requires
+    add-i
+    loop-less
+    loop-again
+    same-length
+    returns)

@@ -1,0 +1,124 @@
+-- `presets::put_word` puts the line from the normal form and the window, which are written whole: neither call is refused.
+-- Assumes nothing.
+use mathlib.Core.Path.{sym}
+use denote.Ref.{now}
+use Prim.Native.Nat.{_≤_}
+use native.Mathlib.Omega.{arith}
+use lib.ListN.{length}
+use lib.Seq.{length-take-le}
+use Rattle.window.specs.Kinds.{kindOf}
+use Rattle.window.specs.Windows.{window}
+use Rattle.window.specs.NormalForm.{wordNormalForm}
+use Rattle.listing_lines.proofs.PresetLines.{Front, form-front, form-never, window-front, window-never, wordLine-put}
+use borrow.Author.Needs.{needs}
+use Rattle.listing_lines.proofs.presets.put_word.Statement.{statement}
+use Rattle.listing_lines.proofs.presets.put_word.Tie as tie
+
+-- the normal form in its buffer, and the window in its own
+form : (c : tie.After-l)
+    → let a = c .before .before .before .before .before .before .before .before .args in Front 4096 (wordNormalForm (kindOf (a .kind)) (a .rank) (now (a .word))) (c .before .before .before .normal-form-of-word .last .1 .1 .1 .0) (c .l .given .0 .0)
+form c =
+    let start = c .before .before .before .before .before .before .before .before in
+    form-front _ _ _ (start .pre .0) (start .pre .1) _ _ _ (c .before .before .before .before .before .buffer .ensures) (c .before .before .before .normal-form-of-word .ensures) _ (c .l .given .1)
+
+shown : (c : tie.After-m)
+    → let a = c .before .before .before .before .before .before .before .before .before .before .before .before .before .before .before .args in Front 64 (window (kindOf (a .kind)) (a .rank) (now (a .word))) (c .before .before .before .window-of-word .last .1 .1 .1 .0) (c .m .given .0 .0)
+shown c =
+    let start = c .before .before .before .before .before .before .before .before .before .before .before .before .before .before .before in
+    window-front _ _ _ (start .pre .0) (start .pre .1) _ _ _ (c .before .before .before .before .before .blank .ensures) (c .before .before .before .window-of-word .ensures) _ (c .m .given .1)
+
+inside-form : (c : tie.After-l) → c .l .given .0 .0 ≤ length (c .before .before .before .normal-form-of-word .last .1 .1 .1 .0)
+inside-form c = omega (arith, form c .bound, c .before .before .before .before .before .buffer .ensures, c .before .before .before .normal-form-of-word .kept .1 .1 .1 .0)
+
+inside-shown : (c : tie.After-m) → c .m .given .0 .0 ≤ length (c .before .before .before .window-of-word .last .1 .1 .1 .0)
+inside-shown c = omega (arith, shown c .bound, c .before .before .before .before .before .blank .ensures, c .before .before .before .window-of-word .kept .1 .1 .1 .0)
+
+buffer-requires : tie.Need-buffer-requires
+buffer-requires c κs = search needs
+
+slice-aggregate-normal-form-of-word : tie.Need-slice-aggregate-normal-form-of-word
+slice-aggregate-normal-form-of-word c = search needs
+
+normal-form-of-word-requires : tie.Need-normal-form-of-word-requires
+normal-form-of-word-requires c κs = search needs
+
+enum-known-l : tie.Need-enum-known-l
+enum-known-l c = search needs
+
+enum-told : tie.Need-enum-told
+enum-told c = search needs
+
+returns : tie.Need-returns
+returns c =
+    let start = c .before .before .before .before .before .before .before .before in
+    absurd (form-never _ _ _ (start .pre .0) (start .pre .1) _ _ _ (c .before .before .before .before .before .buffer .ensures) (c .before .before .before .normal-form-of-word .ensures) _ (c .enum-told .given .1))
+
+blank-requires : tie.Need-blank-requires
+blank-requires c κs = search needs
+
+slice-aggregate-window-of-word : tie.Need-slice-aggregate-window-of-word
+slice-aggregate-window-of-word c = search needs
+
+window-of-word-requires : tie.Need-window-of-word-requires
+window-of-word-requires c κs = search needs
+
+enum-known-m : tie.Need-enum-known-m
+enum-known-m c = search needs
+
+enum-told-2 : tie.Need-enum-told-2
+enum-told-2 c = search needs
+
+returns-2 : tie.Need-returns-2
+returns-2 c =
+    let start = c .before .before .before .before .before .before .before .before .before .before .before .before .before .before .before in
+    absurd (window-never _ _ _ (start .pre .0) (start .pre .1) _ _ _ (c .before .before .before .before .before .blank .ensures) (c .before .before .before .window-of-word .ensures) _ (c .enum-told2 .given .1))
+
+array-share-prefix-form : tie.Need-array-share-prefix-form
+array-share-prefix-form c = inside-form (c .before .before .before .before .before .before .before .before)
+
+slice-aggregate-put-line : tie.Need-slice-aggregate-put-line
+slice-aggregate-put-line c = sym (length-take-le _ _ (inside-form (c .before .before .before .before .before .before .before .before .before)))
+
+array-share-prefix-shown : tie.Need-array-share-prefix-shown
+array-share-prefix-shown c = inside-shown (c .before .before)
+
+slice-aggregate-put-line-2 : tie.Need-slice-aggregate-put-line-2
+slice-aggregate-put-line-2 c = sym (length-take-le _ _ (inside-shown (c .before .before .before)))
+
+put-line-requires : tie.Need-put-line-requires
+put-line-requires c κs =
+    let f = form (c .before .before .before .before .before .before .before .before .before .before .before) in
+    let s = shown (c .before .before .before .before) in
+    (rw (f .part) (omega (arith, f .bound, f .size)), rw (s .part) (omega (arith, s .bound, s .size)), c .before .before .before .before .before .before .before .before .before .before .before .before .before .before .before .before .before .before .before .pre .2)
+
+same-length : tie.Need-same-length
+same-length c = search needs
+
+returns-3 : tie.Need-returns-3
+returns-3 c =
+    let put = c .before .before .put-line .ensures in
+    (wordLine-put _ _ _ _ _ _ _ _ _ _ (form (c .before .before .before .before .before .before .before .before .before .before .before .before .before .before) .part) (shown (c .before .before .before .before .before .before .before) .part) (put .0), put .1)
+
+pub put-word-spec : {M : Type 1} → statement M
+put-word-spec =
+    tie.close
+    (tie.spec
+    buffer-requires
+    slice-aggregate-normal-form-of-word
+    normal-form-of-word-requires
+    enum-known-l
+    enum-told
+    returns
+    blank-requires
+    slice-aggregate-window-of-word
+    window-of-word-requires
+    enum-known-m
+    enum-told-2
+    returns-2
+    array-share-prefix-form
+    slice-aggregate-put-line
+    array-share-prefix-shown
+    slice-aggregate-put-line-2
+    put-line-requires
+    same-length
+    returns-3)
