@@ -4,3 +4,4 @@ pub mod Puts
 pub mod LineLaws
 pub mod PresetLines
 pub mod Listings
+pub mod Examples

@@ -1,18 +1,15 @@
 -- The listing as its pieces: lines put one after the other while there is room, and the lines of an accepted book.
 -- Assumes nothing.
-use mathlib.Core.Bool.{Bool, true, false}
 use mathlib.Core.Path.{_≡_, refl, sym, ap, _∙_}
 use mathlib.Core.List.{List, [], _∷_, _++_, append-assoc, append-nil}
 use Prim.Native.Nat.{ℕ, zero, suc, _+_, _-_, _≤_, _<_, _^_}
 use native.Mathlib.Decide.{decLe}
 use native.Mathlib.Nat.{add-zero, zero-add, add-suc, suc-add}
 use native.Mathlib.Omega.{arith}
-use lib.Dec.{leb}
 use lib.ListN.{length, length-append}
-use lib.Seq.{sets}
 use borrow.Author.Tests.{lt-leb, le-leb}
 use Rattle.book.specs.Books.{bookRefusal}
-use Rattle.book.specs.Calls.{openedPreset, checkedPreset}
+use Rattle.book.specs.Calls.{checkedPreset}
 use Rattle.book.proofs.PresetLaws.{openedPreset-accepted}
 use Rattle.listing_lines.specs.declared.Placed.{Placed}
 use Rattle.listing_lines.specs.declared.Placed.the-variants.{Next, NoRoom}

@@ -3,11 +3,11 @@
 --
 -- Sections: normal form and window; presets.
 -- Assumes nothing.
-use mathlib.Core.Path.{_≡_, refl, sym, ap, _∙_}
+use mathlib.Core.Path.{_≡_, refl, sym, _∙_}
 use mathlib.Core.List.{List, _++_}
-use Prim.Native.Nat.{ℕ, _+_, _-_, _*_, _≤_}
+use Prim.Native.Nat.{ℕ, _+_, _-_, _≤_}
 use native.Mathlib.Decide.{ℕ-discrete}
-use native.Mathlib.Nat.{mul-le-mul, le-trans}
+use native.Mathlib.Nat.{le-trans}
 use native.Mathlib.Omega.{arith}
 use lib.Dec.{ltb}
 use lib.IntN.{ℤ}
@@ -16,16 +16,16 @@ use lib.Seq.{take-at}
 use borrow.Author.Tests.{eq-eqb, ne-eqb, ltb-false}
 use Rattle.window.specs.declared.Answer.{Answer}
 use Rattle.window.specs.declared.Answer.the-variants as answer
-use Rattle.window.specs.Kinds.{Kind, A, B, D, kindOf, lanes}
+use Rattle.window.specs.Kinds.{kindOf}
 use Rattle.window.specs.Windows.{window}
 use Rattle.window.specs.Checks.{check, _then_, rankRefusal, wordRefusal}
 use Rattle.window.specs.NormalForm.{wordNormalForm}
 use Rattle.window.specs.Calls.{writes, normalFormOfWord, windowOfWord}
 use Rattle.window.proofs.Refusals.{then-zero, check-zero, then-none}
-use Rattle.window.proofs.CallLaws.{rank-accepted, lanes-le, writes-done}
+use Rattle.window.proofs.CallLaws.{lanes-le, writes-done}
 use Rattle.window.proofs.Levels.{window-accepted}
 use Rattle.window.proofs.Lengths.{length-normalForm}
-use Rattle.window.proofs.GreatestLengths.{greatestLength, windowLength-le}
+use Rattle.window.proofs.PairWeights.{windowLength-le-4096}
 use Rattle.book.specs.declared.Preset.{Preset}
 use Rattle.book.specs.declared.Preset.the-variants as preset
 use Rattle.book.specs.Books.{trailer, offset, kindAt, rankAt, letterCountAt, lettersAt, endAt, wrongSize, wrongCount, noSuchPreset, recordRefusal, openedRefusal}
@@ -36,23 +36,14 @@ use Rattle.listing_lines.specs.Calls.{Put, refusalOf}
 
 -- ---- normal form and window
 
-greatestLength-le : (k : Kind) (n : ℕ) → n ≤ 64 → greatestLength k n ≤ 4096
-greatestLength-le A n h =
-    let q : n + 1 ≤ 65 = omega arith in
-    let p : n * (n + 1) ≤ 64 * 65 = mul-le-mul h q in
-    omega arith
-greatestLength-le B n h = mul-le-mul h h
-greatestLength-le D n h = let q : n - 1 ≤ 64 = omega arith in mul-le-mul h q
+length-window-le : (k n : ℕ) (u : List ℕ) → rankRefusal k n ≡ 0 → length (window (kindOf k) n u) ≤ 64
+length-window-le k n u h = lanes-le k n (length (window (kindOf k) n u)) h (window-accepted (kindOf k) n u .size)
 
 length-form-le : (k n : ℕ) (u : List ℕ) → rankRefusal k n ≡ 0 → length (wordNormalForm (kindOf k) n u) ≤ 4096
 length-form-le k n u h =
-    let r = rank-accepted k n h in
-    let a = window-accepted (kindOf k) n u (r .0) in
-    rw (length-normalForm (kindOf k) n (window (kindOf k) n u) (r .0) a)
-    (le-trans (windowLength-le (kindOf k) n (window (kindOf k) n u) a) (greatestLength-le (kindOf k) n (r .1)))
-
-length-window-le : (k n : ℕ) (u : List ℕ) → rankRefusal k n ≡ 0 → length (window (kindOf k) n u) ≤ 64
-length-window-le k n u h = lanes-le k n (length (window (kindOf k) n u)) h (window-accepted (kindOf k) n u (rank-accepted k n h .0) .size)
+    let w = window (kindOf k) n u in
+    let a = window-accepted (kindOf k) n u in
+    rw (length-normalForm (kindOf k) n w a) (windowLength-le-4096 (kindOf k) n w a (length-window-le k n u h))
 
 -- l stands at the front of v, of length m and no longer than `most`
 pub record Front {X : Type 0} (most : ℕ) (l v : List X) (m : ℕ) : Type 0 where

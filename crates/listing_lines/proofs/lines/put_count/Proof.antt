@@ -4,10 +4,10 @@ use denote.Ref.{now}
 use Prim.Native.Nat.{_+_, _≤_}
 use native.Mathlib.Omega.{arith}
 use lib.ListN.{length}
+use borrow.Author.Needs.{needs}
 use Rattle.listing_lines.specs.Calls.{longest}
 use Rattle.listing_lines.proofs.Decimals.{length-decimal-word}
 use Rattle.listing_lines.proofs.LineLaws.{room-found, puts-done, puts-none, countLine-put}
-use borrow.Author.Needs.{needs}
 use Rattle.listing_lines.proofs.lines.put_count.Statement.{statement}
 use Rattle.listing_lines.proofs.lines.put_count.Tie as tie
 

@@ -1,10 +1,10 @@
 -- `lines::put_head` puts the five parts of the text one after the other.
 -- Assumes nothing.
 use native.Mathlib.Omega.{arith}
+use borrow.Author.Needs.{needs}
 use Rattle.listing_lines.proofs.Decimals.{length-decimal-byte, length-decimal-word}
 use Rattle.listing_lines.proofs.Puts.{length-spaced}
 use Rattle.listing_lines.proofs.LineLaws.{head-put}
-use borrow.Author.Needs.{needs}
 use Rattle.listing_lines.proofs.lines.put_head.Statement.{statement}
 use Rattle.listing_lines.proofs.lines.put_head.Tie as tie
 

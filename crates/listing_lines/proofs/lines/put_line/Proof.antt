@@ -1,8 +1,8 @@
 -- `lines::put_line` puts the two parts of the line one after the other.
 -- Assumes nothing.
 use native.Mathlib.Omega.{arith}
-use Rattle.listing_lines.proofs.LineLaws.{presetLine-put}
 use borrow.Author.Needs.{needs}
+use Rattle.listing_lines.proofs.LineLaws.{presetLine-put}
 use Rattle.listing_lines.proofs.lines.put_line.Statement.{statement}
 use Rattle.listing_lines.proofs.lines.put_line.Tie as tie
 

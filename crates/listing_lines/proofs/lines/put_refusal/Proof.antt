@@ -1,9 +1,9 @@
 -- `lines::put_refusal` puts the three parts of the text one after the other.
 -- Assumes nothing.
 use native.Mathlib.Omega.{arith}
+use borrow.Author.Needs.{needs}
 use Rattle.listing_lines.proofs.Decimals.{length-decimal-byte}
 use Rattle.listing_lines.proofs.LineLaws.{refused-put}
-use borrow.Author.Needs.{needs}
 use Rattle.listing_lines.proofs.lines.put_refusal.Statement.{statement}
 use Rattle.listing_lines.proofs.lines.put_refusal.Tie as tie
 

@@ -1,9 +1,9 @@
 -- `lines::put_refused` puts the two parts of the line one after the other.
 -- Assumes nothing.
 use native.Mathlib.Omega.{arith}
+use borrow.Author.Needs.{needs}
 use Rattle.listing_lines.proofs.Decimals.{length-decimal-word}
 use Rattle.listing_lines.proofs.LineLaws.{refusedLine-put}
-use borrow.Author.Needs.{needs}
 use Rattle.listing_lines.proofs.lines.put_refused.Statement.{statement}
 use Rattle.listing_lines.proofs.lines.put_refused.Tie as tie
 

@@ -1,8 +1,8 @@
 -- `lines::put_tail` puts the four parts of the text one after the other.
 -- Assumes nothing.
 use native.Mathlib.Omega.{arith}
-use Rattle.listing_lines.proofs.LineLaws.{tail-put}
 use borrow.Author.Needs.{needs}
+use Rattle.listing_lines.proofs.LineLaws.{tail-put}
 use Rattle.listing_lines.proofs.lines.put_tail.Statement.{statement}
 use Rattle.listing_lines.proofs.lines.put_tail.Tie as tie
 

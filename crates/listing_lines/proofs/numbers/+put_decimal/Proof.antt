@@ -1,11 +1,11 @@
 -- `numbers::put_decimal` puts the digits of a tenth of the number, and then the last digit. The measure is the number.
 -- Assumes nothing.
-use borrow.Author.Needs.{needs}
-use native.Mathlib.Omega.{arith}
-use Rattle.listing_lines.proofs.Puts.{put-digit, put-last, digit-room, digits-room}
 use Prim.Native.Nat.{ℕ, _<_}
+use native.Mathlib.Omega.{arith}
+use borrow.Author.Needs.{needs}
 use borrow.Fn.Kinds.{In}
 use borrow.Fn.PlainCycle.{Measures, is, falls, and}
+use Rattle.listing_lines.proofs.Puts.{put-digit, put-last, digit-room, digits-room}
 use Rattle.listing_lines.proofs.numbers.put_decimal.Reads as put-decimal
 use Rattle.listing_lines.proofs.numbers.put_decimal.Kinds as put-decimal-kinds
 use Rattle.listing_lines.proofs.numbers.+put_decimal.Lts-put_decimal as put-decimal-lts

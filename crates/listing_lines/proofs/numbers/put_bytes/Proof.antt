@@ -1,12 +1,11 @@
 -- `numbers::put_bytes` stores the bytes of a slice one after the other: what is left to store is the part from i on.
 -- Assumes nothing.
-use mathlib.Core.Path.{_≡_, refl, sym, ap, _∙_}
+use mathlib.Core.Path.{_≡_, refl, sym, _∙_}
 use denote.Ref.{now}
 use Prim.Native.Nat.{_+_, _-_, _≤_}
 use native.Mathlib.Omega.{arith}
 use lib.ListN.{length, drop, length-set}
 use lib.Seq.{sets}
-use borrow.Author.Needs.{needs}
 use Rattle.book.proofs.Stores.{sets-start, sets-step, sets-end}
 use Rattle.listing_lines.proofs.numbers.put_bytes.Statement.{statement}
 use Rattle.listing_lines.proofs.numbers.put_bytes.Tie as tie

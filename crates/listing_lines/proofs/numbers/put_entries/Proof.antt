@@ -1,8 +1,5 @@
 -- `numbers::put_entries` puts the entries one after the other: what is left to put is the entries from i on, and each takes five bytes at most.
 -- Assumes nothing.
-use borrow.Author.Needs.{needs}
-use mathlib.Core.Path.{_≡_, refl, _∙_}
-use denote.Ref.{now}
 use Prim.Native.Nat.{_+_, _-_, _*_, _≤_}
 use native.Mathlib.Omega.{arith}
 use lib.ListN.{length, drop}

@@ -8,11 +8,11 @@ use lib.IntN.{negsuc, natAbs, _-ℤ_}
 use lib.ListN.{length, length-set}
 use mir.Syntax.{w8}
 use mir.Val.{toZ, ofZ}
+use borrow.Author.Needs.{needs}
 use Rattle.window.proofs.Bytes.{BelowSize, below-size, size-of-positive}
 use Rattle.listing_lines.specs.Text.{decimal, spaced}
 use Rattle.listing_lines.proofs.Decimals.{length-decimal-byte}
 use Rattle.listing_lines.proofs.Puts.{length-spaced, put-minus, entry-minus, entry-plus}
-use borrow.Author.Needs.{needs}
 use Rattle.listing_lines.proofs.numbers.put_entry.Statement.{statement}
 use Rattle.listing_lines.proofs.numbers.put_entry.Tie as tie
 

@@ -1,7 +1,5 @@
 -- `numbers::put_letters` puts the letters one after the other: what is left to put is the letters from i on, and each takes four bytes at most.
 -- Assumes nothing.
-use borrow.Author.Needs.{needs}
-use mathlib.Core.Path.{_≡_, refl, _∙_}
 use denote.Ref.{now}
 use Prim.Native.Nat.{_+_, _-_, _*_, _≤_}
 use native.Mathlib.Omega.{arith}

@@ -1,16 +1,14 @@
 -- `presets::put_preset` puts the line of the word that was found, or that of the refusal, where there is room.
 -- Assumes nothing.
-use mathlib.Core.Path.{_≡_}
-use mathlib.Core.Bool.{true}
 use denote.Ref.{now}
 use Prim.Native.Nat.{_+_, _≤_}
 use native.Mathlib.Omega.{arith}
 use lib.ListN.{length}
 use borrow.Author.Tests.{not-true, not-false}
+use borrow.Author.Needs.{needs}
 use Rattle.listing_lines.specs.Calls.{longest}
 use Rattle.listing_lines.proofs.LineLaws.{room-found, puts-done, puts-none}
 use Rattle.listing_lines.proofs.PresetLines.{Found, opened-found, lineOf-found, lineOf-refused}
-use borrow.Author.Needs.{needs}
 use Rattle.listing_lines.proofs.presets.put_preset.Statement.{statement}
 use Rattle.listing_lines.proofs.presets.put_preset.Tie as tie
 

@@ -6,11 +6,11 @@ use Prim.Native.Nat.{_≤_}
 use native.Mathlib.Omega.{arith}
 use lib.ListN.{length}
 use lib.Seq.{length-take-le}
+use borrow.Author.Needs.{needs}
 use Rattle.window.specs.Kinds.{kindOf}
 use Rattle.window.specs.Windows.{window}
 use Rattle.window.specs.NormalForm.{wordNormalForm}
 use Rattle.listing_lines.proofs.PresetLines.{Front, form-front, form-never, window-front, window-never, wordLine-put}
-use borrow.Author.Needs.{needs}
 use Rattle.listing_lines.proofs.presets.put_word.Statement.{statement}
 use Rattle.listing_lines.proofs.presets.put_word.Tie as tie
 

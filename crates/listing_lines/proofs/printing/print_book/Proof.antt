@@ -5,8 +5,8 @@ use Prim.Native.Nat.{_≤_}
 use native.Mathlib.Omega.{arith}
 use lib.ListN.{length}
 use lib.Seq.{length-take-le}
-use Rattle.listing_lines.proofs.Listings.{count-room, within-next}
 use borrow.Author.Needs.{needs}
+use Rattle.listing_lines.proofs.Listings.{count-room, within-next}
 use Rattle.listing_lines.proofs.printing.print_book.Statement.{statement}
 use Rattle.listing_lines.proofs.printing.print_book.Tie as tie
 

@@ -1,10 +1,9 @@
 -- `printing::print_presets` is safe and ends: each piece but the last has a line, since there is room for one.
 -- Assumes nothing.
-use lib.Seq.{length-take-le}
-use borrow.Author.Needs.{needs}
 use mathlib.Core.Path.{_≡_, refl, sym, _∙_}
 use Prim.Native.Nat.{_+_, _-_, _≤_}
 use native.Mathlib.Omega.{arith}
+use lib.Seq.{length-take-le}
 use lib.ListN.{length}
 use Rattle.listing_lines.specs.Calls.{longest}
 use Rattle.listing_lines.proofs.Listings.{filled-more}
