@@ -42,7 +42,7 @@ unfolding digits valueAfter
 valueAfter-digits zero x h = absurd (omega arith)
 valueAfter-digits (suc f) x h = elim (decLe 10 x) [
   | yes l ↦
-    rw (le-ltb x 10 l, valueAfter-append 0 (digits f (x / 10)) ((48 + x % 10) ∷ []), valueAfter-digits f (x / 10) (omega arith)) (omega arith)
+      rw (le-ltb x 10 l, valueAfter-append 0 (digits f (x / 10)) ((48 + x % 10) ∷ []), valueAfter-digits f (x / 10) (omega arith)) (omega arith)
   | no n ↦ rw (lt-ltb x 10 (omega arith)) (omega arith)
 ]
 

@@ -5,6 +5,7 @@ use mathlib.Core.Bool.{Bool, true, false, false≢true}
 use mathlib.Core.List.{List}
 use Prim.Native.Nat.{ℕ}
 use native.Mathlib.Nat.{zero-add}
+use native.Mathlib.Omega.{arith}
 use denote.Ref.{RefT}
 use lib.IntN.{ℤ}
 use borrow.Author.Tests.{eq-eqb, ne-eqb}
@@ -14,11 +15,12 @@ use Rattle.window.specs.declared.Answer.{Answer}
 use Rattle.window.specs.declared.Answer.the-variants.{Length, Refused}
 use Rattle.window.specs.declared.Verdict.{Verdict}
 use Rattle.window.specs.declared.Verdict.the-variants as verdict
+use Rattle.window.specs.declared.Choice.the-variants as choices
 use Rattle.window.specs.Kinds.{kindOf}
 use Rattle.window.specs.Windows.{window}
 use Rattle.window.specs.Length.{windowLength}
 use Rattle.window.specs.Checks.{_then_, rankRefusal, wordRefusal, windowRefusal}
-use Rattle.window.specs.Calls.{answerOf, verdictOf, lengthOfWindow, lengthOfWord, equalWords, samePresets, presetsEqual, handsBack, Better}
+use Rattle.window.specs.Calls.{answerOf, verdictOf, lengthOfWindow, lengthOfWord, equalWords, samePresets, presetsEqual, handsBack, choice, Better}
 use Rattle.window.proofs.Refusals.{then-zero, then-assoc}
 
 -- ---- lengths
@@ -105,14 +107,38 @@ handsBack-words k n u v r t e z g = rw (← e, eq-eqb r 0 z) (sym g)
 
 -- ---- the better word
 
+pub choice-neither : (hands second : Bool) → hands ≡ false → choices.Neither ≡ choice hands second
+unfolding choice
+choice-neither hands second e = rw e
+
+pub choice-second : (hands second : Bool) → hands ≡ true → second ≡ true → choices.Second ≡ choice hands second
+unfolding choice
+choice-second hands second e s = rw (e, s)
+
+pub choice-first : (hands second : Bool) → hands ≡ true → second ≡ false → choices.First ≡ choice hands second
+unfolding choice
+choice-first hands second e s = rw (e, s)
+
+differ : {A : Type 0} → _≡_ {A = ℕ} 0 1 → A
+differ e = absurd (omega (arith, e))
+
 -- the empty part at the start of the first word
-pub better-part : (hands second : Bool) (u v : RefT (List ℕ)) (γ : ℕ) → hands ≡ false
+pub better-part : (hands second : Bool) (u v : RefT (List ℕ)) (γ : ℕ) → choice hands second ≡ choices.Neither
     → Better hands second u v (slPart u (byByte 0 (u .ptr .1)) 0 0 γ)
-better-part hands second u v γ e =
-    record { whole = λ h. absurd (false≢true (sym e ∙ h)); empty = λ h. (refl, ap (λ (o : ℕ). (u .ptr .0, o)) (zero-add (u .ptr .1))) }
+unfolding choice
+better-part false second u v γ e =
+    record { whole = λ h. absurd (false≢true h); empty = λ h. (refl, ap (λ (o : ℕ). (u .ptr .0, o)) (zero-add (u .ptr .1))) }
+better-part true true u v γ e = differ cc
+better-part true false u v γ e = differ cc
 
-pub better-second : (hands second : Bool) (u v : RefT (List ℕ)) → hands ≡ true → second ≡ true → Better hands second u v v
-better-second hands second u v e s = record { whole = λ h. rw s; empty = λ h. absurd (false≢true (sym h ∙ e)) }
+pub better-second : (hands second : Bool) (u v : RefT (List ℕ)) → choice hands second ≡ choices.Second → Better hands second u v v
+unfolding choice
+better-second true true u v e = record { whole = λ h. refl; empty = λ h. absurd (false≢true (sym h)) }
+better-second true false u v e = differ cc
+better-second false second u v e = differ cc
 
-pub better-first : (hands second : Bool) (u v : RefT (List ℕ)) → hands ≡ true → second ≡ false → Better hands second u v u
-better-first hands second u v e s = record { whole = λ h. rw s; empty = λ h. absurd (false≢true (sym h ∙ e)) }
+pub better-first : (hands second : Bool) (u v : RefT (List ℕ)) → choice hands second ≡ choices.First → Better hands second u v u
+unfolding choice
+better-first true false u v e = record { whole = λ h. refl; empty = λ h. absurd (false≢true (sym h)) }
+better-first true true u v e = differ cc
+better-first false second u v e = differ cc

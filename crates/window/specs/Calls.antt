@@ -11,6 +11,8 @@ use Rattle.window.specs.declared.Answer.{Answer}
 use Rattle.window.specs.declared.Answer.the-variants.{Length, Refused}
 use Rattle.window.specs.declared.Verdict.{Verdict}
 use Rattle.window.specs.declared.Verdict.the-variants as verdict
+use Rattle.window.specs.declared.Choice.{Choice}
+use Rattle.window.specs.declared.Choice.the-variants as choices
 use Rattle.window.specs.Kinds.{Kind, pick, kindOf}
 use Rattle.window.specs.Windows.{window, product, inverse}
 use Rattle.window.specs.Length.{windowLength}
@@ -108,6 +110,10 @@ presetsEqual k₁ n₁ u₁ k₂ n₂ u₂ =
 -- the better of two words hands one of them back: no check refuses, and "their windows are equal"
 unfoldable pub handsBack : ℕ → ℕ → List ℕ → List ℕ → Bool
 handsBack k n u v = eqb (rankRefusal k n then wordRefusal n u then wordRefusal n v) 0 && equalWords (kindOf k) n u v
+
+-- the number of each case of `Choice`: neither, or with equal windows the second or the first
+unfoldable pub choice : Bool → Bool → Choice
+choice hands second = pick hands (pick second choices.Second choices.First) choices.Neither
 
 -- what is handed back: "one of the two lent words, whole", as the lent slice itself, or "a part of length 0 of the first word"
 pub record Better (hands second : Bool) (u v r : RefT (List ℕ)) : Type 0 where

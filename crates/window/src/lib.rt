@@ -33,7 +33,7 @@ use shown::shown;
 use words::is_shortlex;
 ghost use mathlib.Core.Path.{_≡_};
 ghost use Rattle.window.specs.Dictionary.{shortlex};
-ghost use Rattle.window.specs.Calls.{windowOfWord, productOfWindows, inverseOfWindow, lengthOfWindow, lengthOfWord, presetsEqual, handsBack, Better};
+ghost use Rattle.window.specs.Calls.{windowOfWord, productOfWindows, inverseOfWindow, lengthOfWindow, lengthOfWord, presetsEqual, handsBack, choice, Better};
 ghost use Rattle.window.specs.Calls.{normalFormOfWindow, normalFormOfWord, productOfWords, inverseOfWord};
 
 // The answer of a call that writes, or that measures a length: the length, or the refusal's number.
@@ -47,6 +47,13 @@ pub enum Verdict {
     Yes,
     No,
     Refused(u8),
+}
+
+// Which of two words is the better one.
+pub enum Choice {
+    First,
+    Second,
+    Neither,
 }
 
 // The window of a word, written to the front of `out`.
@@ -206,20 +213,31 @@ pub fn presets_equal(kind_a: u8, rank_a: u8, a: &[u8], kind_b: u8, rank_b: u8, b
     Verdict::No
 }
 
-// The better of two words of one kind and rank: the shorter, at equal lengths the one earlier in the dictionary, at equal words the first.
-// Where the windows differ or a check refuses, the empty part at the start of the first.
-pub fn better_word<'a>(kind: u8, rank: u8, u: &'a [u8], v: &'a [u8]) -> &'a [u8]
-    ensures { λ r. ⌜ Better (handsBack kind rank (now (u .entry)) (now (v .entry))) (shortlex (now (v .entry)) (now (u .entry))) (u .entry) (v .entry) r ⌝ }
+// Which of two words of one kind and rank is the better one: the shorter, at equal lengths the one earlier in the dictionary, at equal words
+// the first. Neither where the windows differ or a check refuses.
+pub fn which_better(kind: u8, rank: u8, u: &[u8], v: &[u8]) -> Choice
+    ensures { λ r. ⌜ r ≡ choice (handsBack kind rank (now (u .entry)) (now (v .entry))) (shortlex (now (v .entry)) (now (u .entry))) ⌝ }
 {
     let refusal = ranked_words_refusal(kind, rank, u, v);
     if refusal != 0 {
-        return &u[0..0];
+        return Choice::Neither;
     }
     if equal_words(kind, rank, u, v) {
         if is_shortlex(v, u) {
-            return v;
+            return Choice::Second;
         }
-        return u;
+        return Choice::First;
     }
-    &u[0..0]
+    Choice::Neither
+}
+
+// The better of two words, as the lent slice itself; where it is neither, the empty part at the start of the first.
+pub fn better_word<'a>(kind: u8, rank: u8, u: &'a [u8], v: &'a [u8]) -> &'a [u8]
+    ensures { λ r. ⌜ Better (handsBack kind rank (now (u .entry)) (now (v .entry))) (shortlex (now (v .entry)) (now (u .entry))) (u .entry) (v .entry) r ⌝ }
+{
+    match which_better(kind, rank, u, v) {
+        Choice::First => u,
+        Choice::Second => v,
+        Choice::Neither => &u[0..0],
+    }
 }

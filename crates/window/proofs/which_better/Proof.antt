@@ -1,0 +1,40 @@
+-- `which_better` chooses the word that comes first by length and dictionary where the windows are equal, and else neither.
+-- Assumes nothing.
+use mathlib.Core.Path.{sym, _∙_}
+use Rattle.window.proofs.VerdictLaws.{words-accepted, handsBack-refused, handsBack-words, choice-neither, choice-second, choice-first}
+use borrow.Author.Needs.{needs}
+use Rattle.window.proofs.which_better.Statement.{statement}
+use Rattle.window.proofs.which_better.Tie as tie
+
+ranked-words-refusal-requires : tie.Need-ranked-words-refusal-requires
+ranked-words-refusal-requires c κs = search needs
+
+returns : tie.Need-returns
+returns c = choice-neither _ _ (handsBack-refused _ _ _ _ _ (c .before .ranked-words-refusal .ensures) (c .if1 .taken))
+
+equal-words-requires : tie.Need-equal-words-requires
+equal-words-requires c κs = words-accepted _ _ _ _ _ (c .before .ranked-words-refusal .ensures) (c .if1 .left)
+
+is-shortlex-requires : tie.Need-is-shortlex-requires
+is-shortlex-requires c κs = search needs
+
+returns-2 : tie.Need-returns-2
+returns-2 c = choice-second _ _ (handsBack-words _ _ _ _ _ _ (c .before .before .before .before .before .ranked-words-refusal .ensures) (c .before .before .before .before .if1 .left) (sym (c .before .before .if2 .taken) ∙ c .before .before .before .equal-words .ensures)) (sym (c .before .is-shortlex .ensures) ∙ c .if3 .taken)
+
+returns-3 : tie.Need-returns-3
+returns-3 c = choice-first _ _ (handsBack-words _ _ _ _ _ _ (c .before .before .before .before .before .ranked-words-refusal .ensures) (c .before .before .before .before .if1 .left) (sym (c .before .before .if2 .taken) ∙ c .before .before .before .equal-words .ensures)) (sym (c .before .is-shortlex .ensures) ∙ c .if3 .left)
+
+returns-4 : tie.Need-returns-4
+returns-4 c = choice-neither _ _ (handsBack-words _ _ _ _ _ _ (c .before .before .before .ranked-words-refusal .ensures) (c .before .before .if1 .left) (sym (c .if2 .left) ∙ c .before .equal-words .ensures))
+
+pub which-better-spec : {M : Type 1} → statement M
+which-better-spec =
+    tie.close
+    (tie.spec
+    ranked-words-refusal-requires
+    returns
+    equal-words-requires
+    is-shortlex-requires
+    returns-2
+    returns-3
+    returns-4)
