@@ -12,7 +12,7 @@ use native.Mathlib.Numerals.{add-one, one-add}
 use native.Mathlib.Omega.{arith}
 use lib.Dec.{eqb, ltb}
 use lib.IntN.{ℤ, pos, natAbs}
-use lib.ListN.{length, getD, take, drop, length-drop}
+use lib.ListN.{length, getD, take, drop, length-drop, drop-of-length-le}
 use lib.Seq.{drop-cons, take-all}
 use lib.Signed.{mag}
 use mir.Syntax.{w8}
@@ -66,18 +66,24 @@ wrongKind-within k f h = elim (ℕ-discrete k 1) [ yes e ↦ rw (eq-eqb k 1 e) |
 
 -- ---- letters
 
-pub wrongLetter-zero : (n : ℕ) (u : List ℕ) (i : ℕ) → i < length u → getD u i 0 ≡ 0 → wrongLetter n (drop i u) ≡ true
-unfolding wrongLetter
-wrongLetter-zero n u i h e = rw (drop-next u i 0 h, eq-eqb (getD u i 0) 0 e)
+or-next : (t a b c : Bool) → (t || ((a || b) || c)) ≡ (((t || a) || b) || c)
+or-next true a b c = refl
+or-next false true b c = refl
+or-next false false b c = refl
 
-pub wrongLetter-above : (n : ℕ) (u : List ℕ) (i : ℕ) → i < length u → (getD u i 0 ≡ 0 → ⊥) → n < getD u i 0 → wrongLetter n (drop i u) ≡ true
+-- a letter was wrong before the place i, or one from there on is
+pub wrongLetter-next : (n : ℕ) (u : List ℕ) (i : ℕ) (t : Bool) → i < length u
+    → (t || wrongLetter n (drop i u)) ≡ (((t || eqb (getD u i 0) 0) || ltb n (getD u i 0)) || wrongLetter n (drop (i + 1) u))
 unfolding wrongLetter
-wrongLetter-above n u i h f l = rw (drop-next u i 0 h, ne-eqb (getD u i 0) 0 f, lt-ltb n (getD u i 0) l)
+wrongLetter-next n u i t h = rw (drop-next u i 0 h) (or-next t (eqb (getD u i 0) 0) (ltb n (getD u i 0)) (wrongLetter n (drop (i + 1) u)))
 
-pub wrongLetter-step : (n : ℕ) (u : List ℕ) (i : ℕ) → i < length u → (getD u i 0 ≡ 0 → ⊥) → getD u i 0 ≤ n
-    → wrongLetter n (drop i u) ≡ wrongLetter n (drop (i + 1) u)
+pub wrongLetter-end : (n : ℕ) (u : List ℕ) (i : ℕ) (t : Bool) → length u ≤ i → (t || wrongLetter n (drop i u)) ≡ t
 unfolding wrongLetter
-wrongLetter-step n u i h f l = rw (drop-next u i 0 h, ne-eqb (getD u i 0) 0 f, le-ltb n (getD u i 0) l)
+wrongLetter-end n u i t h = rw (drop-of-length-le u h) (or-none t)
+  where
+    or-none : (t : Bool) → (t || false) ≡ t
+    or-none true = refl
+    or-none false = refl
 
 -- the first letter of a word that passes check 8, and the others
 pub letter-within-cons : (n s : ℕ) (u : List ℕ) → wrongLetter n (s ∷ u) ≡ false → (1 ≤ s) × (s ≤ n) × (wrongLetter n u ≡ false)
@@ -89,22 +95,9 @@ letter-within-cons n s u e =
 
 -- ---- entries
 
-pub hasSize-here : (s : ℕ) (w : List ℤ) (i : ℕ) → i < length w → natAbs (getD w i (pos 0)) ≡ s → hasSize s (drop i w) ≡ true
-unfolding hasSize
-hasSize-here s w i h e = rw (drop-next w i (pos 0) h, eq-eqb (natAbs (getD w i (pos 0))) s e)
-
 pub hasSize-step : (s : ℕ) (w : List ℤ) (i : ℕ) → i < length w → (natAbs (getD w i (pos 0)) ≡ s → ⊥) → hasSize s (drop i w) ≡ hasSize s (drop (i + 1) w)
 unfolding hasSize
 hasSize-step s w i h f = rw (drop-next w i (pos 0) h, ne-eqb (natAbs (getD w i (pos 0))) s f)
-
-pub wrongEntry-here : (k : Kind) (m : ℕ) (w : List ℤ) (i : ℕ) → i < length w → wrongAt k m (getD w i (pos 0)) (drop (i + 1) w) ≡ true → wrongEntry k m (drop i w) ≡ true
-unfolding wrongEntry
-wrongEntry-here k m w i h e = rw (drop-next w i (pos 0) h, e)
-
-pub wrongEntry-step : (k : Kind) (m : ℕ) (w : List ℤ) (i : ℕ) → i < length w → wrongAt k m (getD w i (pos 0)) (drop (i + 1) w) ≡ false
-    → wrongEntry k m (drop i w) ≡ wrongEntry k m (drop (i + 1) w)
-unfolding wrongEntry
-wrongEntry-step k m w i h e = rw (drop-next w i (pos 0) h, e)
 
 -- the tests of check 10 at the entry e of size s, in the order of the code
 pub wrongAt-zero : (k : Kind) (m s : ℕ) (e : ℤ) (w : List ℤ) → s ≡ natAbs e → s ≡ 0 → wrongAt k m e w ≡ true
@@ -122,11 +115,6 @@ wrongAt-repeats k m s e w q f h t = rw (← q, ne-eqb s 0 f, le-ltb m s h, t)
 pub wrongAt-else : (k : Kind) (m s : ℕ) (e : ℤ) (w : List ℤ) → s ≡ natAbs e → (s ≡ 0 → ⊥) → s ≤ m → hasSize s w ≡ false → wrongAt k m e w ≡ negativeInA k e
 unfolding wrongAt
 wrongAt-else k m s e w q f h t = rw (← q, ne-eqb s 0 f, le-ltb m s h, t)
-
--- the tests at an entry that was read into a local, with the part from a on
-pub wrongAt-read : (k : Kind) (m a : ℕ) (e : ℤ) (w : List ℤ) → mag e < 128
-    → wrongAt k m (toZ w8 (ofZ w8 e)) (take (length w - a) (drop a w)) ≡ wrongAt k m e (drop a w)
-wrongAt-read k m a e w h = ap (λ (x : ℤ). wrongAt k m x (take (length w - a) (drop a w))) (element-back e h) ∙ ap (wrongAt k m e) (take-rest a w)
 
 -- ---- signs
 

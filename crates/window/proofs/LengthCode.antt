@@ -11,7 +11,7 @@ use native.Mathlib.Decide.{ℕ-discrete}
 use native.Mathlib.Omega.{arith}
 use lib.IntN.{ℤ, pos, negℤ, natAbs}
 use lib.Signed.{mag}
-use lib.ListN.{length, getD, take, drop, drop-of-length-le}
+use lib.ListN.{length, length-drop, getD, take, drop, drop-of-length-le}
 use mir.Syntax.{w8}
 use mir.Val.{toZ, ofZ}
 use borrow.Author.Tests.{lt-ltb, le-ltb}
@@ -68,14 +68,14 @@ refusal-B k n w h =
     refusal-of-accepted B (length w) w (record { size = refl; level = accepted-of-refusal k n w h .level; signs = tt })
 
 -- what `pairs_of_entry` asks at position i
-pub pairs-of-entry-asks : (w : List ℤ) (i : ℕ) → mag (getD w i (pos 0)) < 128 → windowRefusal B (length w) w ≡ 0 → i < length w
-    → (hasSize 0 (behind (i + 1) w) ≡ false) × (hasSize (natAbs (held (getD w i (pos 0)))) (behind (i + 1) w) ≡ false)
-pairs-of-entry-asks w i f h l =
+pub pairs-of-entry-asks : (w : List ℤ) (i : ℕ) → mag (getD w i (pos 0)) < 128 → windowRefusal B (length w) w ≡ 0 → length w ≤ 65 → i < length w
+    → (hasSize 0 (behind (i + 1) w) ≡ false) × ((hasSize (natAbs (held (getD w i (pos 0)))) (behind (i + 1) w) ≡ false) × (length (behind (i + 1) w) ≤ 64))
+pairs-of-entry-asks w i f h m l =
     let a = accepted-of-refusal B (length w) w h .level in
     let d : Distinct (drop i w) = distinct-drop i w (a .distinct) in
     rw (take-rest (i + 1) w, element-back (getD w i (pos 0)) f) (
       hasSize-below 1 (1 + length w) 0 (drop (i + 1) w) (omega arith) (between-drop 1 (1 + length w) (i + 1) w (a .between)),
-      (rw (drop-next w i (pos 0) l) at d) .0,
+      ((rw (drop-next w i (pos 0) l) at d) .0, omega (arith, length-drop (i + 1) w)),
     )
 
 -- both sorts of pairs

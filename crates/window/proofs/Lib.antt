@@ -3,6 +3,7 @@ pub mod Basics
 pub mod Bytes
 pub mod Refusals
 pub mod CheckLaws
+pub mod Marks
 pub mod CallLaws
 pub mod VerdictLaws
 pub mod Sizes

@@ -2,9 +2,12 @@
 use crate::entries::is_negative;
 use crate::entries::size;
 ghost use mathlib.Core.Path.{_≡_};
+ghost use mathlib.Core.Bool.{false};
+ghost use Prim.Native.Nat.{ℕ, _<_, _≤_};
+ghost use lib.ListN.{length, getD};
 ghost use Rattle.window.specs.Kinds as kinds;
 ghost use Rattle.window.specs.Kinds.{kindOf};
-ghost use Rattle.window.specs.Checks.{_then_, rankRefusal, wordRefusal, windowRefusal, wrongLetter, wrongAt, wrongEntry, hasSize, oddNegatives, negativeInA, odd};
+ghost use Rattle.window.specs.Checks.{_then_, rankRefusal, wordRefusal, windowRefusal, wrongLetter, wrongEntry, oddNegatives, negativeInA, odd};
 ghost use Rattle.window.specs.Length.{negatives};
 
 // The most letters of a word.
@@ -62,21 +65,18 @@ pub fn rank_refusal(kind: u8, rank: u8) -> u8
     0
 }
 
+// Check 8. Every letter is looked at, without a way out of the loop, so that many letters are tested at a time.
 fn has_wrong_letter(rank: u8, word: &[u8]) -> bool
     ensures { λ r. ⌜ r ≡ wrongLetter rank (now (word .entry)) ⌝ }
 {
+    let mut wrong = false;
     let mut i = 0;
     while i < word.len() {
         let s = word[i];
-        if s == 0 {
-            return true;
-        }
-        if rank < s {
-            return true;
-        }
+        wrong = wrong | (s == 0) | (rank < s);
         i += 1;
     }
-    false
+    wrong
 }
 
 // Checks 7 and 8.
@@ -118,21 +118,6 @@ pub(crate) fn ranked_words_refusal(kind: u8, rank: u8, u: &[u8], v: &[u8]) -> u8
     word_refusal(rank, v)
 }
 
-// Whether an entry of w has the size s.
-fn has_size(s: u8, w: &[i8]) -> bool
-    ensures { λ r. ⌜ r ≡ hasSize s (now (w .entry)) ⌝ }
-{
-    let mut i = 0;
-    while i < w.len() {
-        let t = size(w[i]);
-        if t == s {
-            return true;
-        }
-        i += 1;
-    }
-    false
-}
-
 fn negative_in_a(kind: u8, e: i8) -> bool
     ensures { λ r. ⌜ r ≡ negativeInA (kindOf kind) e ⌝ }
 {
@@ -142,34 +127,38 @@ fn negative_in_a(kind: u8, e: i8) -> bool
     false
 }
 
-// Whether the entry e is wrong, with the entries `rest` after it.
-fn wrong_at(kind: u8, m: usize, e: i8, rest: &[i8]) -> bool
-    ensures { λ r. ⌜ r ≡ wrongAt (kindOf kind) m e (now (rest .entry)) ⌝ }
+// Marks for sizes, none set: place p stands for the size p + 1.
+fn unmarked() -> [bool; 64]
+    ensures { λ r. ⌜ (length r ≡ 64) × ((p : ℕ) → p < 64 → getD r p false ≡ false) ⌝ }
 {
-    let s = size(e);
-    if s == 0 {
-        return true;
-    }
-    let long = s as usize;
-    if m < long {
-        return true;
-    }
-    if has_size(s, rest) {
-        return true;
-    }
-    negative_in_a(kind, e)
+    [false; 64]
 }
 
+// Check 10, from the last entry to the first, with the sizes of the entries behind marked: constant work an entry.
 fn has_wrong_entry(kind: u8, m: usize, w: &[i8]) -> bool
+    requires { ⌜ m ≤ 64 ⌝ }
     ensures { λ r. ⌜ r ≡ wrongEntry (kindOf kind) m (now (w .entry)) ⌝ }
 {
-    let mut i = 0;
-    while i < w.len() {
-        let next = i + 1;
-        if wrong_at(kind, m, w[i], &w[next..]) {
+    let mut marks = unmarked();
+    let mut i = w.len();
+    while 0 < i {
+        i -= 1;
+        let e = w[i];
+        let s = size(e) as usize;
+        if s == 0 {
             return true;
         }
-        i = next;
+        if m < s {
+            return true;
+        }
+        let p = s - 1;
+        if marks[p] {
+            return true;
+        }
+        if negative_in_a(kind, e) {
+            return true;
+        }
+        marks[p] = true;
     }
     false
 }
@@ -203,6 +192,7 @@ fn has_odd_negatives(kind: u8, w: &[i8]) -> bool
 
 // Checks 9 to 11.
 fn window_refusal(kind: u8, rank: u8, w: &[i8]) -> u8
+    requires { ⌜ rankRefusal kind rank ≡ 0 ⌝ }
     ensures { λ r. ⌜ r ≡ windowRefusal (kindOf kind) rank (now (w .entry)) ⌝ }
 {
     let m = lanes(kind, rank);

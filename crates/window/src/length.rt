@@ -12,14 +12,16 @@ ghost use Rattle.window.specs.Length.{laterThan, inversions, negativeSum
 ghost use Rattle.window.specs.Checks.{hasSize, windowRefusal};
 
 // Both sorts of pairs of an entry with those behind it: one with each smaller entry, and with each larger one two if the entry is negative.
+// The sum of one entry fits a byte, so that many entries are compared at a time.
 fn pairs_of_entry(e: i8, rest: &[i8]) -> usize
     requires { ⌜ hasSize 0 (now rest) ≡ false ⌝ }
     requires { ⌜ hasSize (natAbs e) (now rest) ≡ false ⌝ }
+    requires { ⌜ length (now rest) ≤ 64 ⌝ }
     ensures { λ r. ⌜ r ≡ laterThan e (now (rest .entry)) + laterThan e (map negℤ (now (rest .entry))) ⌝ }
 {
     let own = size(e);
     let minus = is_negative(e);
-    let mut sum: usize = 0;
+    let mut sum: u8 = 0;
     let mut i = 0;
     while i < rest.len() {
         let other = size(rest[i]);
@@ -30,7 +32,7 @@ fn pairs_of_entry(e: i8, rest: &[i8]) -> usize
         }
         i += 1;
     }
-    sum
+    sum as usize
 }
 
 // Both sorts of pairs. An accepted window of any kind is one of kind B.

@@ -2,6 +2,7 @@
 -- Assumes nothing.
 use mathlib.Core.Path.{sym, _∙_}
 use Rattle.window.proofs.CheckLaws.{windowRefusal-lanes, windowRefusal-entry, windowRefusal-odd, windowRefusal-none}
+use Rattle.window.proofs.CallLaws.{lanes-le}
 use borrow.Author.Needs.{needs}
 use Rattle.window.proofs.checks.window_refusal.Statement.{statement}
 use Rattle.window.proofs.checks.window_refusal.Tie as tie
@@ -13,7 +14,7 @@ returns : tie.Need-returns
 returns c = sym (windowRefusal-lanes _ _ _ _ (c .before .lanes .ensures) (c .if1 .taken))
 
 has-wrong-entry-requires : tie.Need-has-wrong-entry-requires
-has-wrong-entry-requires c κs = search needs
+has-wrong-entry-requires c κs = lanes-le _ _ _ (c .before .before .pre) (c .before .lanes .ensures)
 
 returns-2 : tie.Need-returns-2
 returns-2 c = sym (windowRefusal-entry _ _ _ _ (c .before .before .before .lanes .ensures) (c .before .before .if1 .left) (sym (c .before .has-wrong-entry .ensures) ∙ c .if2 .taken))

@@ -41,7 +41,7 @@ part-pairs-of-entry-end c = search needs
 
 pairs-of-entry-requires : tie.Need-pairs-of-entry-requires Inv-loop μ-loop
 pairs-of-entry-requires c κs =
-    pairs-of-entry-asks (c .before .before .before .before .args .w .now) _ (c .before .e .given) (c .before .before .before .before .pre .1) (c .before .before .loop-test .taken)
+    pairs-of-entry-asks (c .before .before .before .before .args .w .now) _ (c .before .e .given) (c .before .before .before .before .pre .1) (c .before .before .before .before .pre .0) (c .before .before .loop-test .taken)
 
 add-sum : tie.Need-add-sum Inv-loop μ-loop
 add-sum c =

@@ -46,6 +46,9 @@ add-sum-2 c = omega arith
 add-i : tie.Need-add-i Inv-loop μ-loop
 add-i c = search needs
 
+cast-result : tie.Need-cast-result Inv-loop μ-loop
+cast-result c = search needs
+
 loop-less : tie.Need-loop-less Inv-loop μ-loop
 loop-less c = search needs
 
@@ -70,7 +73,7 @@ returns c =
     let x = toZ w8 (ofZ w8 (start .args .e)) in
     let w = start .args .rest .now in
     let whole = ap (λ (z : ℤ). weights z w) (element-back (start .args .e) (start .fits .e .sfits)) in
-    omega (arith, whole, laterThan-add (start .args .e) w (start .pre .0) (start .pre .1), weights-end x w (c .before .loop .i) (c .loop-test .left))
+    omega (arith, whole, laterThan-add (start .args .e) w (start .pre .0) (start .pre .1 .0), weights-end x w (c .before .loop .i) (c .loop-test .left))
 
 pub pairs-of-entry-spec : {M : Type 1} → statement M
 pairs-of-entry-spec =
@@ -88,4 +91,5 @@ pairs-of-entry-spec =
     add-i
     loop-less
     loop-again
+    cast-result
     returns)
