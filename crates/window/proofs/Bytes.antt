@@ -13,6 +13,10 @@ use mir.Val.{Fits, SFits, toZ, ofZ}
 use mir.ValLaws.{toZ-ofZ, toZ-pos}
 use Rattle.window.specs.Length.{negative}
 
+-- a signed byte as code holds it in a local
+abbrev pub held : ℤ → ℤ
+held z = toZ w8 (ofZ w8 z)
+
 -- a byte read back from its bits
 pub byte-back : (z : ℤ) → SFits w8 z → toZ w8 (ofZ w8 z) ≡ z
 byte-back z h = toZ-ofZ w8 z h

@@ -1,54 +1,108 @@
 -- The sums of the length, one entry at a time, in the form in which the code meets them, and what keeps them small.
 --
--- Sections: bytes and parts; one entry against those behind it; all entries; the three kinds.
+-- Sections: sizes; one entry against those behind it; all entries; the three kinds.
 -- Assumes nothing.
 use mathlib.Core.Path.{_≡_, refl, sym, ap, _∙_}
-use mathlib.Core.Bool.{Bool, false}
-use mathlib.Core.List.{List, [], _∷_, map}
-use Prim.Native.Nat.{ℕ, zero, suc, _+_, _-_, _≤_, _<_}
+use mathlib.Core.Bool.{Bool, true, false}
+use mathlib.Core.List.{List, [], _∷_, _++_, map}
+use Prim.Native.Nat.{ℕ, zero, suc, _+_, _-_, _*_, _≤_, _<_}
 use native.Mathlib.Nat.{add-zero, mul-le-mul}
+use native.Mathlib.Numerals.{add-one}
 use native.Mathlib.Decide.{ℕ-discrete}
 use native.Mathlib.Omega.{arith}
+use lib.Dec.{ltb}
 use lib.IntN.{ℤ, pos, negℤ, natAbs}
-use lib.Signed.{mag}
-use lib.ListN.{length, length-drop, getD, take, drop, drop-of-length-le}
-use mir.Syntax.{w8}
-use mir.Val.{toZ, ofZ}
-use borrow.Author.Tests.{lt-ltb, le-ltb}
-use Rattle.window.specs.Kinds.{Kind, A, B, D, pick, kindOf}
-use Rattle.window.specs.Length.{negative, one, laterThan, inversions, negativeSumPairs, negatives, windowLength}
-use Rattle.window.specs.Checks.{hasSize, windowRefusal}
-use Rattle.window.proofs.Bytes.{element-back}
-use Rattle.window.proofs.CheckLaws.{take-rest, drop-next, kindOf-one, kindOf-two, kindOf-three}
-use Rattle.window.proofs.Levels.{Between, Distinct, accepted-of-refusal, refusal-of-accepted, hasSize-below}
-use Rattle.window.proofs.PairWeights.{weight, weights, pairWeights, mirrored, inversions-add-negativeSumPairs, length-by-weights, pairWeights-le}
+use lib.ListN.{length, length-drop, length-map, getD, set, take, drop, drop-of-length-le, List·getD-map}
+use lib.Seq.{take-all, take-add, take-suc, take-suc-set, getD-take}
+use Rattle.window.specs.Kinds.{Kind, A, B, D, pick, kindOf, lanes}
+use Rattle.window.specs.Length.{later, negative, one, laterThan, inversions, negativeSumPairs, negatives, windowLength}
+use Rattle.window.specs.Checks.{windowRefusal}
 use Rattle.window.proofs.Basics.{lanes-le-add-one}
+use Rattle.window.proofs.CheckLaws.{drop-next, kindOf-one, kindOf-two, kindOf-three}
+use Rattle.window.proofs.Levels.{Between, Distinct, accepted-of-refusal, refusal-of-accepted, hasSize-below}
+use Rattle.window.proofs.PairWeights.{weight, weights, pairWeights, mirrored, laterThan-add, inversions-add-negativeSumPairs, length-by-weights, pairWeights-le}
 
--- ---- bytes and parts
+-- ---- sizes
 
--- a signed byte as code holds it in a local
-abbrev pub held : ℤ → ℤ
-held z = toZ w8 (ofZ w8 z)
+pub sized-next : (i s : ℕ) (w : List ℤ) (out : List ℕ) → i < length w → i < length out → s ≡ natAbs (getD w i (pos 0)) → take i out ≡ take i (map natAbs w)
+    → take (i + 1) (set out i s) ≡ take (i + 1) (map natAbs w)
+sized-next i s w out h g e q =
+    let l : i < length (map natAbs w) = omega (arith, length-map w natAbs) in
+    rw (add-one, take-suc-set out i s g, take-suc (map natAbs w) i 0 l, List·getD-map natAbs w i (pos 0), e, q)
 
--- the part of a slice from j on
-abbrev pub behind : ℕ → List ℤ → List ℤ
-behind j w = take (length w - j) (drop j w)
+pub sized-end : (i : ℕ) (w : List ℤ) (out : List ℕ) → i ≤ length w → length w ≤ i → take i out ≡ take i (map natAbs w) → take (length w) out ≡ map natAbs w
+sized-end i w out a b q =
+    let e : length w ≡ i = omega arith in
+    ap (λ (x : ℕ). take x out) e ∙ q ∙ take-all i (map natAbs w) (omega (arith, length-map w natAbs))
+
+drop-map : {X Y : Type 0} (f : X → Y) (a : ℕ) (l : List X) → drop a (map f l) ≡ map f (drop a l)
+drop-map f zero l = refl
+drop-map f (suc a) [] = refl
+drop-map f (suc a) (x ∷ l) = drop-map f a l
+
+take-of-nil : {X : Type 0} (b : ℕ) → _≡_ {A = List X} [] (take b [])
+take-of-nil zero = refl
+take-of-nil (suc b) = refl
+
+drop-take : {X : Type 0} (a b : ℕ) (l : List X) → drop a (take (a + b) l) ≡ take b (drop a l)
+drop-take {X = X} a b l = ap (drop a) (take-add a b l) ∙ drop-front a l
+  where
+    drop-front : (a : ℕ) (l : List X) → drop a (take a l ++ take b (drop a l)) ≡ take b (drop a l)
+    drop-front zero l = refl
+    drop-front (suc a) [] = ap (drop (suc a)) (sym (take-of-nil b)) ∙ take-of-nil b
+    drop-front (suc a) (x ∷ l) = drop-front a l
+
+-- the sizes of the entries behind the place i, as the part of a work array is read
+sizes-behind : (i : ℕ) (w : List ℤ) (work : List ℕ) → i < length w → take (length w) work ≡ map natAbs w
+    → take (length w - (i + 1)) (drop (i + 1) work) ≡ map natAbs (drop (i + 1) w)
+sizes-behind i w work h q =
+    let e : i + 1 + (length w - (i + 1)) ≡ length w = omega arith in
+    sym (drop-take (i + 1) (length w - (i + 1)) work) ∙ ap (λ (x : ℕ). drop (i + 1) (take x work)) e ∙ ap (drop (i + 1)) q ∙ drop-map natAbs (i + 1) w
+
+size-at : (i : ℕ) (w : List ℤ) (work : List ℕ) → i < length w → take (length w) work ≡ map natAbs w → getD work i 0 ≡ natAbs (getD w i (pos 0))
+size-at i w work h q =
+    sym (getD-take (length w) work i 0 h) ∙ ap (λ (l : List ℕ). getD l i 0) q ∙ List·getD-map natAbs w i (pos 0)
 
 -- ---- one entry against those behind it
 
-pub weights-smaller : (x : ℤ) (w : List ℤ) (i : ℕ) → i < length w → natAbs (getD w i (pos 0)) < natAbs x
-    → weights x (drop i w) ≡ 1 + weights x (drop (i + 1) w)
-unfolding weights weight
-weights-smaller x w i h s = rw (drop-next w i (pos 0) h, lt-ltb (natAbs (getD w i (pos 0))) (natAbs x) s)
+-- how many of the sizes are smaller than a
+unfoldable pub smaller : ℕ → List ℕ → ℕ
+smaller a l = laterThan (pos a) (map pos l)
 
-pub weights-larger : (x : ℤ) (w : List ℤ) (i : ℕ) (t : Bool) → i < length w → natAbs x ≤ natAbs (getD w i (pos 0)) → t ≡ negative x
-    → weights x (drop i w) ≡ pick t 2 0 + weights x (drop (i + 1) w)
-unfolding weights weight
-weights-larger x w i t h s e = rw (drop-next w i (pos 0) h, le-ltb (natAbs (getD w i (pos 0))) (natAbs x) s, e)
+pub smaller-next : (a : ℕ) (l : List ℕ) (i : ℕ) → i < length l → smaller a (drop i l) ≡ pick (ltb (getD l i 0) a) 1 0 + smaller a (drop (i + 1) l)
+unfolding smaller laterThan later one
+smaller-next a l i h = rw (drop-next l i 0 h)
 
-pub weights-end : (x : ℤ) (w : List ℤ) (i : ℕ) → length w ≤ i → weights x (drop i w) ≡ 0
-unfolding weights
-weights-end x w i h = rw (drop-of-length-le w h)
+pub smaller-end : (a : ℕ) (l : List ℕ) (i : ℕ) → length l ≤ i → smaller a (drop i l) ≡ 0
+unfolding smaller laterThan
+smaller-end a l i h = rw (drop-of-length-le l h)
+
+one-or-two : (t : Bool) (r s l : ℕ) → r + s ≡ 2 * l → pick t 1 2 + r + (pick t 1 0 + s) ≡ 2 * suc l
+one-or-two true r s l e = omega arith
+one-or-two false r s l e = omega arith
+
+weights-of-negative : (x : ℤ) (w : List ℤ) → negative x ≡ true → weights x w + smaller (natAbs x) (map natAbs w) ≡ 2 * length w
+unfolding weights weight smaller laterThan later one
+weights-of-negative x [] e = refl
+weights-of-negative x (y ∷ w) e =
+    rw e (one-or-two (ltb (natAbs y) (natAbs x)) (weights x w) (smaller (natAbs x) (map natAbs w)) (length w) (weights-of-negative x w e))
+
+one-or-none : (t : Bool) (r s : ℕ) → r ≡ s → pick t 1 0 + r ≡ pick t 1 0 + s
+one-or-none t r s e = ap (λ (y : ℕ). pick t 1 0 + y) e
+
+weights-of-positive : (x : ℤ) (w : List ℤ) → negative x ≡ false → weights x w ≡ smaller (natAbs x) (map natAbs w)
+unfolding weights weight smaller laterThan later one
+weights-of-positive x [] e = refl
+weights-of-positive x (y ∷ w) e =
+    rw e (one-or-none (ltb (natAbs y) (natAbs x)) (weights x w) (smaller (natAbs x) (map natAbs w)) (weights-of-positive x w e))
+
+-- the weights of an entry before those of w, by how many of w are smaller
+weights-smaller : (x : ℤ) (w : List ℤ) → weights x w ≡ pick (negative x) (2 * length w - smaller (natAbs x) (map natAbs w)) (smaller (natAbs x) (map natAbs w))
+weights-smaller x w = by-sign (negative x) refl
+  where
+    by-sign : (t : Bool) → negative x ≡ t → weights x w ≡ pick t (2 * length w - smaller (natAbs x) (map natAbs w)) (smaller (natAbs x) (map natAbs w))
+    by-sign true e = omega (arith, weights-of-negative x w e)
+    by-sign false e = weights-of-positive x w e
 
 -- ---- all entries
 
@@ -67,28 +121,26 @@ pub refusal-B : (k : Kind) (n : ℕ) (w : List ℤ) → windowRefusal k n w ≡ 
 refusal-B k n w h =
     refusal-of-accepted B (length w) w (record { size = refl; level = accepted-of-refusal k n w h .level; signs = tt })
 
--- what `pairs_of_entry` asks at position i
-pub pairs-of-entry-asks : (w : List ℤ) (i : ℕ) → mag (getD w i (pos 0)) < 128 → windowRefusal B (length w) w ≡ 0 → length w ≤ 65 → i < length w
-    → (hasSize 0 (behind (i + 1) w) ≡ false) × ((hasSize (natAbs (held (getD w i (pos 0)))) (behind (i + 1) w) ≡ false) × (length (behind (i + 1) w) ≤ 64))
-pairs-of-entry-asks w i f h m l =
-    let a = accepted-of-refusal B (length w) w h .level in
-    let d : Distinct (drop i w) = distinct-drop i w (a .distinct) in
-    rw (take-rest (i + 1) w, element-back (getD w i (pos 0)) f) (
-      hasSize-below 1 (1 + length w) 0 (drop (i + 1) w) (omega arith) (between-drop 1 (1 + length w) (i + 1) w (a .between)),
-      ((rw (drop-next w i (pos 0) l) at d) .0, omega (arith, length-drop (i + 1) w)),
-    )
-
 -- both sorts of pairs
 unfoldable pub bothPairs : List ℤ → ℕ
 bothPairs w = inversions w + negativeSumPairs w
 
-pub bothPairs-step : (w : List ℤ) (i r : ℕ) → i < length w → mag (getD w i (pos 0)) < 128
-    → r ≡ laterThan (held (getD w i (pos 0))) (behind (i + 1) w) + laterThan (held (getD w i (pos 0))) (map negℤ (behind (i + 1) w))
-    → bothPairs (drop i w) ≡ r + bothPairs (drop (i + 1) w)
+-- the pairs of the entry at i, by how many of those behind it are smaller
+pub bothPairs-row : (i less : ℕ) (w : List ℤ) (work : List ℕ) → i < length w → windowRefusal B (length w) w ≡ 0 → take (length w) work ≡ map natAbs w
+    → less ≡ smaller (getD work i 0) (take (length w - (i + 1)) (drop (i + 1) work))
+    → bothPairs (drop i w) ≡ pick (negative (getD w i (pos 0))) (2 * (length w - (i + 1)) - less) less + bothPairs (drop (i + 1) w)
 unfolding bothPairs inversions negativeSumPairs
-bothPairs-step w i r h f e =
-    let q = rw (take-rest (i + 1) w, element-back (getD w i (pos 0)) f) at e in
-    rw (drop-next w i (pos 0) h) (omega arith)
+bothPairs-row i less w work h r q e =
+    let x = getD w i (pos 0) in
+    let u = drop (i + 1) w in
+    let a = accepted-of-refusal B (length w) w r .level in
+    let d = rw (drop-next w i (pos 0) h) at (distinct-drop i w (a .distinct)) in
+    let none = hasSize-below 1 (1 + length w) 0 u (omega arith) (between-drop 1 (1 + length w) (i + 1) w (a .between)) in
+    let c : less ≡ smaller (natAbs x) (map natAbs u) = e ∙ rw (size-at i w work h q, sizes-behind i w work h q) in
+    let l : length w - (i + 1) ≡ length u = sym (length-drop (i + 1) w) in
+    let s : laterThan x u + laterThan x (map negℤ u) ≡ pick (negative x) (2 * (length w - (i + 1)) - less) less =
+    laterThan-add x u none (d .0) ∙ rw (l, c) (weights-smaller x u) in
+    rw (drop-next w i (pos 0) h) (omega (arith, s))
 
 pub bothPairs-end : (w : List ℤ) (i : ℕ) → length w ≤ i → bothPairs (drop i w) ≡ 0
 unfolding bothPairs inversions negativeSumPairs
@@ -100,9 +152,9 @@ bothPairs-is-pairWeights w h =
     let a = accepted-of-refusal B (length w) w h .level in
     inversions-add-negativeSumPairs (1 + length w) w (a .between) (a .distinct)
 
-pub bothPairs-le : (w : List ℤ) → windowRefusal B (length w) w ≡ 0 → length w ≤ 65 → bothPairs w ≤ 4225
+pub bothPairs-le : (w : List ℤ) → windowRefusal B (length w) w ≡ 0 → length w ≤ 64 → bothPairs w ≤ 4096
 bothPairs-le w h l =
-    omega (arith, bothPairs-is-pairWeights w h, pairWeights-le w, mul-le-mul {n₁ = length w} {m₁ = length w} {n₂ = 65} {m₂ = 65} l l)
+    omega (arith, bothPairs-is-pairWeights w h, pairWeights-le w, mul-le-mul {n₁ = length w} {m₁ = length w} {n₂ = 64} {m₂ = 64} l l)
 
 -- ---- the three kinds
 
@@ -114,6 +166,9 @@ negatives-step w i t h e = rw (drop-next w i (pos 0) h, e)
 pub negatives-end : (w : List ℤ) (i : ℕ) → length w ≤ i → negatives (drop i w) ≡ 0
 unfolding negatives
 negatives-end w i h = rw (drop-of-length-le w h)
+
+pub length-le-of-lanes : (k : Kind) (n : ℕ) (w : List ℤ) → lanes k n ≤ 64 → windowRefusal k n w ≡ 0 → length w ≤ 64
+length-le-of-lanes k n w l h = omega (arith, accepted-of-refusal k n w h .size)
 
 pub length-le-of-refusal : (k : Kind) (n : ℕ) (w : List ℤ) → n ≤ 64 → windowRefusal k n w ≡ 0 → length w ≤ 65
 length-le-of-refusal k n w l h = omega (arith, accepted-of-refusal k n w h .size, lanes-le-add-one k n)

@@ -24,9 +24,9 @@ use Rattle.window.proofs.CheckLaws.{drop-next}
 use Rattle.window.proofs.Sizes.{natAbs-negℤ}
 use Rattle.window.proofs.Levels.{accepted-of-refusal}
 use Rattle.window.proofs.Places.{between-getD}
-use Rattle.window.proofs.LengthCode.{held, length-le-of-refusal}
+use Rattle.window.proofs.LengthCode.{length-le-of-refusal}
 use Rattle.window.proofs.Scatter.{scatter, scatter-inverse}
-use Rattle.window.proofs.Bytes.{element-back}
+use Rattle.window.proofs.Bytes.{held, element-back}
 use Rattle.window.proofs.Order.{sameEntry-refl}
 
 -- ---- entries by size and sign

@@ -2,51 +2,70 @@
 use crate::entries::is_negative;
 use crate::entries::size;
 ghost use mathlib.Core.Path.{_≡_};
-ghost use mathlib.Core.Bool.{false};
 ghost use mathlib.Core.List.{map};
 ghost use Prim.Native.Nat.{_+_, _≤_};
-ghost use lib.IntN.{negℤ, natAbs};
-ghost use lib.ListN.{length};
-ghost use Rattle.window.specs.Kinds.{B, kindOf};
+ghost use lib.IntN.{natAbs, pos};
+ghost use lib.ListN.{length, take};
+ghost use Rattle.window.specs.Kinds.{B, kindOf, lanes};
 ghost use Rattle.window.specs.Length.{laterThan, inversions, negativeSumPairs, negatives, windowLength};
-ghost use Rattle.window.specs.Checks.{hasSize, windowRefusal};
+ghost use Rattle.window.specs.Checks.{windowRefusal};
 
-// Both sorts of pairs of an entry with those behind it: one with each smaller entry, and with each larger one two if the entry is negative.
-// The sum of one entry fits a byte, so that many entries are compared at a time.
-fn pairs_of_entry(e: i8, rest: &[i8]) -> usize
-    requires { ⌜ hasSize 0 (now rest) ≡ false ⌝ }
-    requires { ⌜ hasSize (natAbs e) (now rest) ≡ false ⌝ }
-    requires { ⌜ length (now rest) ≤ 64 ⌝ }
-    ensures { λ r. ⌜ r ≡ laterThan e (now (rest .entry)) + laterThan e (map negℤ (now (rest .entry))) ⌝ }
+fn no_sizes() -> [u8; 64]
+    ensures { λ r. ⌜ length r ≡ 64 ⌝ }
 {
-    let own = size(e);
-    let minus = is_negative(e);
+    [0u8; 64]
+}
+
+// The sizes of a window's entries, at the front of a work array.
+fn sizes(w: &[i8]) -> [u8; 64]
+    requires { ⌜ length (now w) ≤ 64 ⌝ }
+    ensures { λ r. ⌜ (length r ≡ 64) × (take (length (now (w .entry))) r ≡ map natAbs (now (w .entry))) ⌝ }
+{
+    let mut out = no_sizes();
+    let mut i = 0;
+    while i < w.len() {
+        out[i] = size(w[i]);
+        i += 1;
+    }
+    out
+}
+
+// How many of the sizes are smaller than `own`. The number fits a byte, so that many of them are compared at a time.
+fn smaller(own: u8, rest: &[u8]) -> usize
+    requires { ⌜ length (now rest) ≤ 64 ⌝ }
+    ensures { λ r. ⌜ (r ≤ length (now (rest .entry))) × (r ≡ laterThan (pos own) (map pos (now (rest .entry)))) ⌝ }
+{
     let mut sum: u8 = 0;
     let mut i = 0;
     while i < rest.len() {
-        let other = size(rest[i]);
-        if other < own {
+        if rest[i] < own {
             sum += 1;
-        } else if minus {
-            sum += 2;
         }
         i += 1;
     }
     sum as usize
 }
 
-// Both sorts of pairs. An accepted window of any kind is one of kind B.
+// Both sorts of pairs. An entry has one with each smaller entry behind it, and with each larger one two if the entry is negative.
+// An accepted window of any kind is one of kind B.
 fn pairs(w: &[i8]) -> usize
-    requires { ⌜ length (now w) ≤ 65 ⌝ }
+    requires { ⌜ length (now w) ≤ 64 ⌝ }
     requires { ⌜ windowRefusal B (length (now w)) (now w) ≡ 0 ⌝ }
     ensures { λ r. ⌜ r ≡ inversions (now (w .entry)) + negativeSumPairs (now (w .entry)) ⌝ }
 {
+    let m = w.len();
+    let work = sizes(w);
     let mut sum: usize = 0;
     let mut i = 0;
-    while i < w.len() {
-        let e = w[i];
+    while i < m {
+        let own = work[i];
         let next = i + 1;
-        sum += pairs_of_entry(e, &w[next..]);
+        let less = smaller(own, &work[next..m]);
+        if is_negative(w[i]) {
+            sum += 2 * (m - next) - less;
+        } else {
+            sum += less;
+        }
         i = next;
     }
     sum
@@ -68,7 +87,7 @@ fn negative_entries(w: &[i8]) -> usize
 
 // The length of an accepted window.
 pub(crate) fn length_of(kind: u8, n: usize, w: &[i8]) -> usize
-    requires { ⌜ n ≤ 64 ⌝ }
+    requires { ⌜ lanes (kindOf kind) n ≤ 64 ⌝ }
     requires { ⌜ windowRefusal (kindOf kind) n (now w) ≡ 0 ⌝ }
     ensures { λ r. ⌜ r ≡ windowLength (kindOf kind) (now (w .entry)) ⌝ }
 {

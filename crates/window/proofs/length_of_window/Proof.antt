@@ -1,6 +1,8 @@
 -- `length_of_window` refuses in document 01's order, or measures the window.
 -- Assumes nothing.
-use Rattle.window.proofs.CallLaws.{window-passed}
+use mathlib.Core.Path.{refl, sym, _∙_}
+use Rattle.window.proofs.Refusals.{then-zero}
+use Rattle.window.proofs.CallLaws.{lanes-le}
 use Rattle.window.proofs.VerdictLaws.{answer-refused, answer-length, lengthOfWindow-is}
 use borrow.Author.Needs.{needs}
 use Rattle.window.proofs.length_of_window.Statement.{statement}
@@ -13,7 +15,9 @@ returns : tie.Need-returns
 returns c = answer-refused _ _ _ _ (lengthOfWindow-is _ _ _) (c .before .ranked-window-refusal .ensures) (c .if1 .taken)
 
 length-of-requires : tie.Need-length-of-requires
-length-of-requires c κs = window-passed _ _ _ _ (c .before .ranked-window-refusal .ensures) (c .if1 .left)
+length-of-requires c κs =
+    let a = then-zero _ _ (sym (c .before .ranked-window-refusal .ensures) ∙ c .if1 .left) in
+    (lanes-le _ _ _ (a .0) refl, a .1)
 
 returns-2 : tie.Need-returns-2
 returns-2 c = answer-length _ _ _ _ _ (lengthOfWindow-is _ _ _) (c .before .before .ranked-window-refusal .ensures) (c .before .if1 .left) (c .length-of .ensures)

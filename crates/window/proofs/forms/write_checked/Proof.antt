@@ -1,14 +1,15 @@
 -- `forms::write_checked` makes check 14 against the length of the normal form, which the sums give, and writes it.
 -- Assumes nothing.
+use mathlib.Core.Path.{refl}
 use denote.Ref.{now}
-use Rattle.window.proofs.CallLaws.{rank-accepted}
+use Rattle.window.proofs.CallLaws.{lanes-le}
 use Rattle.window.proofs.FormCode.{checked-short, checked-room, checked-written}
 use borrow.Author.Needs.{needs}
 use Rattle.window.proofs.forms.write_checked.Statement.{statement}
 use Rattle.window.proofs.forms.write_checked.Tie as tie
 
 length-of-requires : tie.Need-length-of-requires
-length-of-requires c κs = (rank-accepted _ _ (c .before .before .pre .0) .1, c .before .before .pre .1)
+length-of-requires c κs = (lanes-le _ _ _ (c .before .before .pre .0) refl, c .before .before .pre .1)
 
 same-length : tie.Need-same-length
 same-length c = search needs

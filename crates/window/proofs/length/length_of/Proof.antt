@@ -3,12 +3,12 @@
 use native.Mathlib.Omega.{arith}
 use borrow.Author.Needs.{needs}
 use Rattle.window.proofs.PairWeights.{negatives-le}
-use Rattle.window.proofs.LengthCode.{bothPairs, bothPairs-le, refusal-B, length-le-of-refusal, windowLength-two, windowLength-else}
+use Rattle.window.proofs.LengthCode.{bothPairs, bothPairs-le, refusal-B, length-le-of-lanes, windowLength-two, windowLength-else}
 use Rattle.window.proofs.length.length_of.Statement.{statement}
 use Rattle.window.proofs.length.length_of.Tie as tie
 
 pairs-requires : tie.Need-pairs-requires
-pairs-requires c κs = (length-le-of-refusal _ _ _ (c .pre .0) (c .pre .1), refusal-B _ _ _ (c .pre .1))
+pairs-requires c κs = (length-le-of-lanes _ _ _ (c .pre .0) (c .pre .1), refusal-B _ _ _ (c .pre .1))
 
 negative-entries-requires : tie.Need-negative-entries-requires
 negative-entries-requires c κs = search needs
@@ -18,7 +18,7 @@ unfolding bothPairs
 add-result c =
     let start = c .before .before .before in
     let w = start .args .w .now in
-    let small = length-le-of-refusal _ _ w (start .pre .0) (start .pre .1) in
+    let small = length-le-of-lanes _ _ w (start .pre .0) (start .pre .1) in
     omega (arith, bothPairs-le w (refusal-B _ _ w (start .pre .1)) small, negatives-le w)
 
 returns : tie.Need-returns

@@ -1,7 +1,7 @@
 -- `shown::length_of_shown` measures the front of the work window.
 -- Assumes nothing.
-use mathlib.Core.Path.{sym, _∙_, ap}
-use Rattle.window.proofs.CallLaws.{rank-accepted}
+use mathlib.Core.Path.{refl, sym, _∙_, ap}
+use Rattle.window.proofs.CallLaws.{lanes-le}
 use Rattle.window.proofs.ShownLaws.{room, length-front-part, front-refusal, window-passes, front-is}
 use Rattle.window.specs.Length.{windowLength}
 use borrow.Author.Needs.{needs}
@@ -21,7 +21,7 @@ slice-aggregate-length-of : tie.Need-slice-aggregate-length-of
 slice-aggregate-length-of c = sym (length-front-part _ _ _ (c .before .before .before .before .pre .0) (c .before .before .lanes .ensures) (c .before .shown .result) (c .before .shown .ensures .0))
 
 length-of-requires : tie.Need-length-of-requires
-length-of-requires c κs = (rank-accepted _ _ (c .before .before .before .before .pre .0) .1, front-refusal _ _ _ (c .before .before .lanes .ensures) (c .before .shown .ensures .1) (window-passes _ _ _))
+length-of-requires c κs = (lanes-le _ _ _ (c .before .before .before .before .pre .0) refl, front-refusal _ _ _ (c .before .before .lanes .ensures) (c .before .shown .ensures .1) (window-passes _ _ _))
 
 returns : tie.Need-returns
 returns c = c .length-of .ensures ∙ ap (windowLength _) (front-is _ (c .before .before .before .lanes .ensures) (c .before .before .shown .ensures .1))
