@@ -1,0 +1,153 @@
+-- What the two calls for C write that go beyond the call below them: one rewrite with its rule, by the cases of the layer's answer, and the fields
+-- of a preset.
+--
+-- Sections: one rewrite; a preset's fields.
+-- Assumes nothing.
+use mathlib.Core.Path.{_≡_, refl, _∙_}
+use mathlib.Core.Bool.{Bool, true, false}
+use mathlib.Core.List.{List, [], _∷_, _++_}
+use mathlib.Core.Option.{Option, none, some}
+use Prim.Native.Nat.{ℕ, _≤_, _<_}
+use native.Mathlib.Omega.{arith}
+use lib.Dec.{eqb}
+use lib.IntN.{ℤ, pos}
+use lib.ListN.{length}
+use lib.Seq.{sets, sets-eq}
+use borrow.Author.Tests.{lt-ltb, le-ltb}
+use Rattle.window.specs.Kinds.{pick, kindOf}
+use Rattle.window.specs.Checks.{check, _then_, tooShort, rankRefusal, wordRefusal}
+use Rattle.window.specs.Calls.{Outcome, writes}
+use Rattle.window.proofs.CallLaws.{writes-short, writes-done}
+use Rattle.rewriter.specs.declared.Rewrite.{Rewrite}
+use Rattle.rewriter.specs.declared.Rewrite.the-variants.{Used, NoneFits, Refused}
+use Rattle.rewriter.specs.Rules.{Rule, rules, firstFitting, rewritten}
+use Rattle.rewriter.specs.Calls.{pastEnd, Step, refusedStep, usedStep, stepBy, step, Rewrote}
+use Rattle.book.specs.declared.Preset.{Preset}
+use Rattle.book.specs.declared.Preset.the-variants as preset
+use Rattle.book.specs.Calls.{checkedPreset}
+use Rattle.c_api.specs.Calls.{refused, numberOf, Rewriting, unwritten, rewritingBy, rewriting, fieldsOf}
+
+-- ---- one rewrite
+
+-- a step that uses no rule writes nothing
+abbrev Quiet : Step → List ℕ → Type 0
+Quiet s out = elim (s .answer) [ Used f i j l ↦ Unit {0} | NoneFits ↦ s .bytes ≡ out | Refused k ↦ s .bytes ≡ out ]
+
+stepBy-quiet : (o : Option Rule) (u : List ℕ) (p : ℕ) (out : List ℕ) → Quiet (stepBy o u p out) out
+unfolding stepBy usedStep refusedStep
+stepBy-quiet none u p out = refl
+stepBy-quiet (some x) u p out = go (tooShort (length (rewritten x u p)) out)
+  where
+    go : (t : Bool) → Quiet (pick t (refusedStep 14 u out) (usedStep x (rewritten x u p) out)) out
+    go true = refl
+    go false = tt
+
+step-quiet : (k n : ℕ) (u : List ℕ) (p : ℕ) (out : List ℕ) → Quiet (step k n u p out) out
+unfolding step refusedStep
+step-quiet k n u p out = go (eqb r 0)
+  where
+    r : ℕ
+    r = rankRefusal k n then wordRefusal n u then check 12 (pastEnd u p)
+
+    go : (t : Bool) → Quiet (pick t (stepBy (firstFitting (rules (kindOf k) n) u p) u p out) (refusedStep r u out)) out
+    go true = stepBy-quiet (firstFitting (rules (kindOf k) n) u p) u p out
+    go false = refl
+
+-- the number that was answered, and the two outputs afterwards, are those of the definition
+abbrev Does : Rewriting → ℤ → List ℕ → List ℕ → Type 0
+Does r z out rule = (z ≡ r .number) × (out ≡ r .bytes) × (rule ≡ r .rule)
+
+module _ (k n : ℕ) (u : List ℕ) (p : ℕ) (out after rule : List ℕ) (a : Rewrite) (w : Rewrote k n u p out after a) where
+  pub rewriting-used : (f i j l : ℕ) → a ≡ Used f i j l → 3 ≤ length rule → Does (rewriting k n u p out rule) (pos l) after (sets rule 0 (f ∷ i ∷ j ∷ []))
+  unfolding rewriting rewritingBy tooShort
+  rewriting-used f i j l q h =
+      rw (← w .answer, q, le-ltb (length rule) 3 h) (refl, w .bytes, sets-eq (f ∷ i ∷ j ∷ []) rule 0 h)
+
+  pub rewriting-fitless : a ≡ NoneFits → Does (rewriting k n u p out rule) (refused 100) after rule
+  unfolding rewriting rewritingBy unwritten
+  rewriting-fitless q = rw (← w .answer, q) (refl, w .bytes ∙ (rw (← w .answer, q) at (step-quiet k n u p out)), refl)
+
+  pub rewriting-refused : (r : ℕ) → a ≡ Refused r → Does (rewriting k n u p out rule) (refused r) after rule
+  unfolding rewriting rewritingBy unwritten
+  rewriting-refused r q = rw (← w .answer, q) (refl, w .bytes ∙ (rw (← w .answer, q) at (step-quiet k n u p out)), refl)
+
+-- where the rule has no room nothing is written, and the refusal does not depend on the outputs
+unfoldable pub roomless : Rewrite → ℕ
+roomless (Used f i j l) = 14
+roomless NoneFits = 100
+roomless (Refused k) = k
+
+roomless-step : (k n : ℕ) (u : List ℕ) (p : ℕ) (out : List ℕ) → roomless (step k n u p out .answer) ≡ roomless (step k n u p [] .answer)
+unfolding step stepBy usedStep refusedStep roomless
+roomless-step k n u p out = go (eqb r 0)
+  where
+    r : ℕ
+    r = rankRefusal k n then wordRefusal n u then check 12 (pastEnd u p)
+
+    same : (o : Option Rule) → roomless (stepBy o u p out .answer) ≡ roomless (stepBy o u p [] .answer)
+    same none = refl
+    same (some x) = both (tooShort (length (rewritten x u p)) out) (tooShort (length (rewritten x u p)) [])
+      where
+        both : (s t : Bool) → roomless (pick s (refusedStep 14 u out) (usedStep x (rewritten x u p) out) .answer)
+            ≡ roomless (pick t (refusedStep 14 u []) (usedStep x (rewritten x u p) []) .answer)
+        both true true = refl
+        both true false = refl
+        both false true = refl
+        both false false = refl
+
+    go : (t : Bool) → roomless (pick t (stepBy (firstFitting (rules (kindOf k) n) u p) u p out) (refusedStep r u out) .answer)
+        ≡ roomless (pick t (stepBy (firstFitting (rules (kindOf k) n) u p) u p []) (refusedStep r u []) .answer)
+    go true = same (firstFitting (rules (kindOf k) n) u p)
+    go false = refl
+
+rewritingBy-roomless : (a : Rewrite) (new out rule : List ℕ) → length rule < 3 → rewritingBy a new out rule ≡ unwritten (roomless a) out rule
+unfolding rewritingBy tooShort roomless
+rewritingBy-roomless (Used f i j l) new out rule h = rw (lt-ltb (length rule) 3 h)
+rewritingBy-roomless NoneFits new out rule h = refl
+rewritingBy-roomless (Refused k) new out rule h = refl
+
+-- the number that an empty output gives
+pub rewriting-narrow : (k n : ℕ) (u : List ℕ) (p : ℕ) (after : List ℕ) (a : Rewrite) → Rewrote k n u p [] after a
+    → refused (roomless a) ≡ rewriting k n u p [] [] .number
+unfolding rewriting unwritten
+rewriting-narrow k n u p after a w = rw (← w .answer, rewritingBy-roomless a (step k n u p [] .bytes) [] [] (omega arith))
+
+pub rewriting-roomless : (k n : ℕ) (u : List ℕ) (p : ℕ) (out rule : List ℕ) → length rule < 3 → Does (rewriting k n u p out rule) (rewriting k n u p [] [] .number) out rule
+unfolding rewriting unwritten
+rewriting-roomless k n u p out rule h =
+    rw (
+      rewritingBy-roomless (step k n u p [] .answer) (step k n u p [] .bytes) [] [] (omega arith),
+      rewritingBy-roomless (step k n u p out .answer) (step k n u p out .bytes) out rule h,
+      roomless-step k n u p out,
+    ) (refl, refl, refl)
+
+-- an empty part holds nothing
+pub nothing-before : (after out : List ℕ) → length after ≡ 0 → after ++ out ≡ out
+nothing-before [] out h = refl
+nothing-before (x ∷ after) out h = absurd (omega arith)
+
+-- ---- a preset's fields
+
+-- the number that was answered, and the fields afterwards, are those of the definition
+abbrev Gives : Outcome ℕ → ℤ → List ℕ → Type 0
+Gives o z out = (z ≡ numberOf (o .answer)) × (out ≡ o .bytes)
+
+module _ (b : List ℕ) (i : ℕ) (out : List ℕ) (a : Preset) (e : a ≡ checkedPreset b i) where
+  pub fields-refused : (r : ℕ) → a ≡ preset.Refused r → Gives (fieldsOf (checkedPreset b i) out) (refused r) out
+  unfolding fieldsOf numberOf
+  fields-refused r q = rw (← e, q) (refl, refl)
+
+  module _ (k n s l : ℕ) (q : a ≡ preset.Found k n s l) where
+    pub fields-short : length out < 4 → Gives (fieldsOf (checkedPreset b i) out) (refused 14) out
+    unfolding fieldsOf numberOf
+    fields-short h =
+        let fields = k ∷ n ∷ s ∷ l ∷ [] in
+        let d = writes-short (writes 0 fields out) 0 0 fields out refl refl 4 refl refl h in
+        rw (← e, q, ← d .0) (refl, d .1)
+
+    pub fields-written : 4 ≤ length out → Gives (fieldsOf (checkedPreset b i) out) (pos 4) (sets out 0 (k ∷ n ∷ s ∷ l ∷ []))
+    unfolding fieldsOf numberOf
+    fields-written h =
+        let fields = k ∷ n ∷ s ∷ l ∷ [] in
+        let d = writes-done (writes 0 fields out) 0 0 fields out refl refl 4 fields refl refl h refl in
+        rw (← e, q, ← d .0) (refl, sets-eq fields out 0 h ∙ d .1)

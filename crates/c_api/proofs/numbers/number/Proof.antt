@@ -1,0 +1,31 @@
+-- `numbers::number` goes by the cases of the answer.
+-- Assumes nothing.
+use mathlib.Core.Path.{_∙_}
+use borrow.Author.Needs.{needs}
+use Rattle.c_api.specs.Calls.{numberOf}
+use Rattle.c_api.proofs.Lengths.{i64-back}
+use Rattle.c_api.proofs.numbers.number.Statement.{statement}
+use Rattle.c_api.proofs.numbers.number.Tie as tie
+
+enum-known-answer : tie.Need-enum-known-answer
+enum-known-answer c = search needs
+
+size-requires : tie.Need-size-requires
+size-requires c κs = c .before .before .before .pre _ (c .before .answer .given .1)
+
+enum-known-answer-2 : tie.Need-enum-known-answer-2
+enum-known-answer-2 c = search needs
+
+refusal-requires : tie.Need-refusal-requires
+refusal-requires c κs = search needs
+
+returns : tie.Need-returns
+unfolding numberOf
+returns c = rw (c .before .before .answer .given .1) (i64-back _ (c .size .ok) ∙ c .size .ensures)
+
+returns-2 : tie.Need-returns-2
+unfolding numberOf
+returns-2 c = rw (c .before .before .answer2 .given .1) (i64-back _ (c .refusal .ok) ∙ c .refusal .ensures)
+
+pub number-spec : {M : Type 1} → statement M
+number-spec = tie.close (tie.spec enum-known-answer size-requires enum-known-answer-2 refusal-requires returns returns-2)

@@ -1,0 +1,18 @@
+-- `numbers::refusal` negates a byte, which an `i64` holds.
+-- Assumes nothing.
+use borrow.Author.Needs.{needs}
+use Rattle.c_api.proofs.Lengths.{refusal-fits, refusal-back}
+use Rattle.c_api.proofs.numbers.refusal.Statement.{statement}
+use Rattle.c_api.proofs.numbers.refusal.Tie as tie
+
+cast-result : tie.Need-cast-result
+cast-result c = search needs
+
+sub-result : tie.Need-sub-result
+sub-result c = refusal-fits _ (c .fits .k .fits)
+
+returns : tie.Need-returns
+returns c = refusal-back _ (c .fits .k .fits)
+
+pub refusal-spec : {M : Type 1} → statement M
+refusal-spec = tie.close (tie.spec cast-result sub-result returns)

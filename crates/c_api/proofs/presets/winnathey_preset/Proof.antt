@@ -1,0 +1,80 @@
+-- `presets::winnathey_preset` goes by the cases of the answer, and stores the four fields one after the other.
+-- Assumes nothing.
+use mathlib.Core.Path.{_∙_}
+use native.Mathlib.Omega.{arith}
+use lib.ListN.{length-set}
+use borrow.Author.Needs.{needs}
+use Rattle.c_api.specs.Calls.{refused}
+use Rattle.c_api.proofs.Lengths.{i64-back}
+use Rattle.c_api.proofs.Outcomes.{fields-refused, fields-short, fields-written}
+use Rattle.c_api.proofs.presets.winnathey_preset.Statement.{statement}
+use Rattle.c_api.proofs.presets.winnathey_preset.Tie as tie
+
+check-preset-requires : tie.Need-check-preset-requires
+check-preset-requires c κs = search needs
+
+enum-known-kind : tie.Need-enum-known-kind
+enum-known-kind c = search needs
+
+returns : tie.Need-returns
+unfolding refused
+returns c =
+    let told = c .before .before in
+    fields-short _ _ _ _ (told .before .before .check-preset .ensures) _ _ _ _ (told .kind .given .1) (c .if1 .taken)
+
+cast-fields : tie.Need-cast-fields
+cast-fields c = search needs
+
+slice-write-fields : tie.Need-slice-write-fields
+slice-write-fields c = search needs
+
+cast-fields-2 : tie.Need-cast-fields-2
+cast-fields-2 c = search needs
+
+slice-write-fields-2 : tie.Need-slice-write-fields-2
+slice-write-fields-2 c = simp length-set (omega arith)
+
+slice-write-fields-3 : tie.Need-slice-write-fields-3
+slice-write-fields-3 c = simp length-set (omega arith)
+
+slice-write-fields-4 : tie.Need-slice-write-fields-4
+slice-write-fields-4 c = search needs
+
+enum-known-k : tie.Need-enum-known-k
+enum-known-k c = search needs
+
+refusal-requires : tie.Need-refusal-requires
+refusal-requires c κs = search needs
+
+same-length : tie.Need-same-length
+same-length c = search needs
+
+returns-2 : tie.Need-returns-2
+returns-2 c =
+    let told = c .before .before in
+    fields-written _ _ _ _ (told .before .before .check-preset .ensures) _ _ _ _ (told .kind .given .1) (c .if1 .left)
+
+returns-3 : tie.Need-returns-3
+returns-3 c =
+    let told = c .before .before in
+    let f = fields-refused _ _ _ _ (told .before .before .check-preset .ensures) _ (told .k .given .1) in
+    (i64-back _ (c .refusal .ok) ∙ c .refusal .ensures ∙ f .0, f .1)
+
+pub winnathey-preset-spec : {M : Type 1} → statement M
+winnathey-preset-spec =
+    tie.close
+    (tie.spec
+    check-preset-requires
+    enum-known-kind
+    returns
+    cast-fields
+    slice-write-fields
+    cast-fields-2
+    slice-write-fields-2
+    slice-write-fields-3
+    slice-write-fields-4
+    enum-known-k
+    refusal-requires
+    same-length
+    returns-2
+    returns-3)

@@ -1,0 +1,88 @@
+-- `rewriting::refused_rule` goes by the cases of the answer to a rewrite with an empty output, which writes nothing.
+-- Assumes nothing.
+use mathlib.Core.Path.{_≡_, _∙_}
+use mathlib.Core.List.{[], _++_}
+use denote.Ref.{now}
+use borrow.Author.Needs.{needs}
+use Rattle.c_api.specs.Calls.{refused, rewriting}
+use Rattle.c_api.proofs.Lengths.{i64-back}
+use Rattle.c_api.proofs.Outcomes.{roomless, rewriting-narrow, nothing-before}
+use Rattle.c_api.proofs.rewriting.refused_rule.Statement.{statement}
+use Rattle.c_api.proofs.rewriting.refused_rule.Tie as tie
+
+narrow : (w : tie.After-rewrite-at)
+    → let a = w .before .before .before .before .args in
+    refused (roomless (w .rewrite-at .result)) ≡ rewriting (a .kind) (a .rank) (now (a .word)) (a .place) [] [] .number
+narrow w = rewriting-narrow _ _ _ _ _ _ (w .rewrite-at .ensures)
+
+unwritten : (w : tie.After-rewrite-at)
+    → let out = now (w .before .before .before .before .args .out) in
+    w .rewrite-at .last .1 .1 .1 .1 .0 ++ out ≡ out
+unwritten w = nothing-before (w .rewrite-at .last .1 .1 .1 .1 .0) _ (w .rewrite-at .kept .1 .1 .1 .1 .0)
+
+slice-relend-prefix-rewrite-at : tie.Need-slice-relend-prefix-rewrite-at
+slice-relend-prefix-rewrite-at c = search needs
+
+slice-aggregate-rewrite-at : tie.Need-slice-aggregate-rewrite-at
+slice-aggregate-rewrite-at c = search needs
+
+rewrite-at-requires : tie.Need-rewrite-at-requires
+rewrite-at-requires c κs = search needs
+
+enum-told : tie.Need-enum-told
+enum-told c = search needs
+
+enum-told-2 : tie.Need-enum-told-2
+enum-told-2 c = search needs
+
+enum-known-k : tie.Need-enum-known-k
+enum-known-k c = search needs
+
+refusal-requires : tie.Need-refusal-requires
+refusal-requires c κs = search needs
+
+same-length : tie.Need-same-length
+same-length c = search needs
+
+returns : tie.Need-returns
+unfolding roomless refused
+returns c =
+    let w = c .before .before .before .before in
+    (rw (c .enum-told .given .1) at (narrow w), unwritten w)
+
+same-length-2 : tie.Need-same-length-2
+same-length-2 c = search needs
+
+returns-2 : tie.Need-returns-2
+unfolding roomless refused
+returns-2 c =
+    let w = c .before .before .before .before in
+    (rw (c .enum-told2 .given .1) at (narrow w), unwritten w)
+
+same-length-3 : tie.Need-same-length-3
+same-length-3 c = search needs
+
+returns-3 : tie.Need-returns-3
+unfolding roomless
+returns-3 c =
+    let told = c .before .before in
+    let w = told .before .before .before .before in
+    (i64-back _ (c .refusal .ok) ∙ c .refusal .ensures ∙ (rw (told .k .given .1) at (narrow w)), unwritten w)
+
+pub refused-rule-spec : {M : Type 1} → statement M
+refused-rule-spec =
+    tie.close
+    (tie.spec
+    slice-relend-prefix-rewrite-at
+    slice-aggregate-rewrite-at
+    rewrite-at-requires
+    enum-told
+    enum-told-2
+    enum-known-k
+    refusal-requires
+    same-length
+    returns
+    same-length-2
+    returns-2
+    same-length-3
+    returns-3)

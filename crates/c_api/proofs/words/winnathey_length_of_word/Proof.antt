@@ -1,0 +1,19 @@
+-- `words::winnathey_length_of_word` answers the number of the call below it, which fits: a normal form has at most 4,096 letters.
+-- Assumes nothing.
+use mathlib.Core.Path.{sym, _∙_}
+use borrow.Author.Needs.{needs}
+use Rattle.c_api.proofs.Lengths.{answered, lengthOfWord-small}
+use Rattle.c_api.proofs.words.winnathey_length_of_word.Statement.{statement}
+use Rattle.c_api.proofs.words.winnathey_length_of_word.Tie as tie
+
+length-of-word-requires : tie.Need-length-of-word-requires
+length-of-word-requires c κs = search needs
+
+number-requires : tie.Need-number-requires
+number-requires c κs l e = lengthOfWord-small _ _ _ l (sym (c .length-of-word .ensures) ∙ e)
+
+returns : tie.Need-returns
+returns c = answered _ _ _ (c .number .ok) (c .number .ensures) (c .before .length-of-word .ensures)
+
+pub winnathey-length-of-word-spec : {M : Type 1} → statement M
+winnathey-length-of-word-spec = tie.close (tie.spec length-of-word-requires number-requires returns)

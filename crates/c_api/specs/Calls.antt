@@ -1,0 +1,72 @@
+-- What a call for C answers and writes, from what the layers' calls do: 0 or more is the answer, -k is refusal k.
+use mathlib.Core.List.{List, [], _∷_}
+use Prim.Native.Nat.{ℕ}
+use lib.IntN.{ℤ, pos, negℤ}
+use lib.ListN.{drop}
+use Rattle.window.specs.declared.Answer.{Answer}
+use Rattle.window.specs.declared.Answer.the-variants as answer
+use Rattle.window.specs.declared.Verdict.{Verdict}
+use Rattle.window.specs.declared.Verdict.the-variants as verdict
+use Rattle.window.specs.declared.Choice.{Choice}
+use Rattle.window.specs.declared.Choice.the-variants as choices
+use Rattle.window.specs.Kinds.{pick}
+use Rattle.window.specs.Checks.{tooShort}
+use Rattle.window.specs.Calls.{Outcome, writes}
+use Rattle.rewriter.specs.declared.Rewrite.{Rewrite}
+use Rattle.rewriter.specs.declared.Rewrite.the-variants as rewrite
+use Rattle.rewriter.specs.Calls.{step}
+use Rattle.book.specs.declared.Opened.{Opened}
+use Rattle.book.specs.declared.Opened.the-variants as opened
+use Rattle.book.specs.declared.Preset.{Preset}
+use Rattle.book.specs.declared.Preset.the-variants as preset
+
+-- refusal k is -k
+unfoldable pub refused : ℕ → ℤ
+refused k = negℤ (pos k)
+
+-- "A call that writes a word, a window or a book answers with the length written"; a length call answers with the length
+unfoldable pub numberOf : Answer → ℤ
+numberOf (answer.Length l) = pos l
+numberOf (answer.Refused k) = refused k
+
+-- the equality verdict: 1 is yes, 0 is no
+unfoldable pub verdictNumber : Verdict → ℤ
+verdictNumber verdict.Yes = pos 1
+verdictNumber verdict.No = pos 0
+verdictNumber (verdict.Refused k) = refused k
+
+-- the better of two words: 1 is the first, 2 the second, and 0 is "a part of length 0 of the first word and no number"
+unfoldable pub choiceNumber : Choice → ℤ
+choiceNumber choices.First = pos 1
+choiceNumber choices.Second = pos 2
+choiceNumber choices.Neither = pos 0
+
+-- the number of one rewrite, and the bytes of its two outputs afterwards
+pub record Rewriting : Type 0 where
+  pub number : ℤ
+  pub bytes : List ℕ
+  pub rule : List ℕ
+
+unfoldable pub unwritten : ℕ → List ℕ → List ℕ → Rewriting
+unwritten k out rule = record { number = refused k; bytes = out; rule = rule }
+
+-- "one rewrite answers with the rule used, or that none fits: family, i, j, the new length, and the new word in the output": family, i and j go to
+-- the first three bytes of `rule`, which check 14 concerns too, before anything is written; -100 is that none fits
+unfoldable pub rewritingBy : Rewrite → List ℕ → List ℕ → List ℕ → Rewriting
+rewritingBy (rewrite.Used f i j l) new out rule =
+    pick (tooShort 3 rule) (unwritten 14 out rule) (record { number = pos l; bytes = new; rule = f ∷ i ∷ j ∷ drop 3 rule })
+rewritingBy rewrite.NoneFits new out rule = unwritten 100 out rule
+rewritingBy (rewrite.Refused k) new out rule = unwritten k out rule
+
+unfoldable pub rewriting : ℕ → ℕ → List ℕ → ℕ → List ℕ → List ℕ → Rewriting
+rewriting k n u p out rule = rewritingBy (step k n u p out .answer) (step k n u p out .bytes) out rule
+
+-- opening a book: the number of its presets
+unfoldable pub openedNumber : Opened → ℤ
+openedNumber (opened.Presets c) = pos c
+openedNumber (opened.Refused k) = refused k
+
+-- reading a preset writes four fields, whose number is the answer: its kind, its rank, where its letters begin in the book, and how many they are
+unfoldable pub fieldsOf : Preset → List ℕ → Outcome ℕ
+fieldsOf (preset.Found k n s l) out = writes 0 (k ∷ n ∷ s ∷ l ∷ []) out
+fieldsOf (preset.Refused r) out = record { answer = answer.Refused r; bytes = out }

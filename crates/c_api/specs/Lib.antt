@@ -1,0 +1,2 @@
+-- What an auditor must believe of the calls for C beyond the layers below. Definitions and nothing else: the laws are in proofs/.
+pub mod Calls

@@ -1,0 +1,7 @@
+// The calls for C. Each answers an `i64`: 0 or more is the answer, -k is refusal k of document 01. A slice is two arguments in C, the pointer
+// and the length. No exported function has a `requires`: what it answers and writes is a definition for every input, refused ones included.
+mod numbers;
+pub mod presets;
+pub mod rewriting;
+pub mod windows;
+pub mod words;

@@ -1,0 +1,33 @@
+// The numbers that the calls for C answer.
+use window::Answer;
+ghost use mathlib.Core.Path.{_≡_};
+ghost use Prim.Native.Nat.{ℕ, _≤_};
+ghost use lib.IntN.{pos};
+ghost use Rattle.window.specs.declared.Answer.the-variants.{Length};
+ghost use Rattle.c_api.specs.Calls.{refused, numberOf};
+
+// The number of a refusal.
+pub(crate) fn refusal(k: u8) -> i64
+    ensures { λ r. ⌜ r ≡ refused k ⌝ }
+{
+    -(k as i64)
+}
+
+// A length, of which each is at most that of the longest book.
+pub(crate) fn size(l: usize) -> i64
+    requires { ⌜ l ≤ 65535 ⌝ }
+    ensures { λ r. ⌜ r ≡ pos l ⌝ }
+{
+    l as i64
+}
+
+// The number of an answer whose length, if it is one, is at most that of the longest book.
+pub(crate) fn number(answer: Answer) -> i64
+    requires { ⌜ ((l : ℕ) → answer ≡ Length l → l ≤ 65535) ⌝ }
+    ensures { λ r. ⌜ r ≡ numberOf answer ⌝ }
+{
+    match answer {
+        Answer::Length(l) => size(l),
+        Answer::Refused(k) => refusal(k),
+    }
+}

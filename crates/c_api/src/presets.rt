@@ -1,0 +1,62 @@
+// Calls on a preset book.
+use crate::numbers::number;
+use crate::numbers::refusal;
+use crate::numbers::size;
+use book::Opened;
+use book::Preset;
+ghost use mathlib.Core.Path.{_≡_};
+ghost use Rattle.book.specs.Calls.{checkedBook, checkedPreset, appending};
+ghost use Rattle.c_api.specs.Calls.{numberOf, openedNumber, fieldsOf};
+
+// Opening a book. Answers the number of its presets.
+#[no_mangle]
+pub extern "C" fn winnathey_book_check(book: &[u8]) -> i64
+    ensures { λ r. ⌜ r ≡ openedNumber (checkedBook (now (book .entry))) ⌝ }
+{
+    match book::check_book(book) {
+        Opened::Presets(c) => size(c),
+        Opened::Refused(k) => refusal(k),
+    }
+}
+
+// Reading a preset by its number, from 0: its kind, its rank, the offset of its letters in the book and their count go to the first four places
+// of `fields`. Answers 4.
+#[no_mangle]
+pub extern "C" fn winnathey_preset(book: &[u8], number: usize, fields: &mut [u64]) -> i64
+    ensures { λ r. ⌜ (r ≡ numberOf (fieldsOf (checkedPreset (now (book .entry)) number) (now (fields .entry)) .answer))
+        × (now (fields .exit) ≡ fieldsOf (checkedPreset (now (book .entry)) number) (now (fields .entry)) .bytes) ⌝ }
+{
+    match book::check_preset(book, number) {
+        Preset::Found {
+            kind,
+            rank,
+            start,
+            length,
+        } => {
+            if fields.len() < 4 {
+                return -14;
+            }
+            fields[0] = kind as u64;
+            fields[1] = rank as u64;
+            fields[2] = start as u64;
+            fields[3] = length as u64;
+            4
+        }
+        Preset::Refused(k) => refusal(k),
+    }
+}
+
+// Appending a preset: the whole new book, written to the front of `out`. Answers its length.
+#[no_mangle]
+pub extern "C" fn winnathey_append(
+    book: &[u8],
+    kind: u8,
+    rank: u8,
+    word: &[u8],
+    out: &mut [u8],
+) -> i64
+    ensures { λ r. ⌜ (r ≡ numberOf (appending (now (book .entry)) kind rank (now (word .entry)) (now (out .entry)) .answer))
+        × (now (out .exit) ≡ appending (now (book .entry)) kind rank (now (word .entry)) (now (out .entry)) .bytes) ⌝ }
+{
+    number(book::append(book, kind, rank, word, out))
+}
