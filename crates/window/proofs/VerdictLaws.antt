@@ -4,6 +4,7 @@ use mathlib.Core.Path.{_≡_, refl, sym, ap, _∙_}
 use mathlib.Core.Bool.{Bool, true, false, false≢true}
 use mathlib.Core.List.{List}
 use Prim.Native.Nat.{ℕ}
+use native.Mathlib.Decide.{ℕ-discrete}
 use native.Mathlib.Nat.{zero-add}
 use native.Mathlib.Omega.{arith}
 use denote.Ref.{RefT}
@@ -106,6 +107,16 @@ unfolding handsBack
 handsBack-words k n u v r t e z g = rw (← e, eq-eqb r 0 z) (sym g)
 
 -- ---- the better word
+
+checks-again : (k n : ℕ) (u v : List ℕ)
+    → (rankRefusal k n then wordRefusal n u then rankRefusal k n then wordRefusal n v) ≡ (rankRefusal k n then wordRefusal n u then wordRefusal n v)
+checks-again k n u v = elim (ℕ-discrete (rankRefusal k n) 0) [ yes z ↦ rw z | no f ↦ rw (ne-eqb (rankRefusal k n) 0 f) ]
+
+-- "the verdict call gives the number": where a check refuses two words of one kind and rank, the verdict on them is that refusal
+pub verdict-gives-number : (k n : ℕ) (u v : List ℕ) (r : ℕ) → r ≡ (rankRefusal k n then wordRefusal n u then wordRefusal n v) → (r ≡ 0 → ⊥)
+    → presetsEqual k n u k n v ≡ verdict.Refused r
+unfolding presetsEqual verdictOf
+verdict-gives-number k n u v r e f = rw (checks-again k n u v, ← e, ne-eqb r 0 f)
 
 pub choice-neither : (hands second : Bool) → hands ≡ false → choices.Neither ≡ choice hands second
 unfolding choice
