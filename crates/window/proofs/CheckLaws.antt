@@ -14,11 +14,7 @@ use lib.Dec.{eqb, ltb}
 use lib.IntN.{ℤ, pos, natAbs}
 use lib.ListN.{length, getD, take, drop, length-drop, drop-of-length-le}
 use lib.Seq.{drop-cons, take-all}
-use lib.Signed.{mag}
-use mir.Syntax.{w8}
-use mir.Val.{toZ, ofZ}
 use borrow.Author.Tests.{eq-eqb, ne-eqb, lt-ltb, le-ltb, eqb-false, ltb-false}
-use Rattle.window.proofs.Bytes.{element-back}
 use Rattle.window.proofs.Basics.{or-false-left, or-false-right}
 use Rattle.window.specs.Kinds.{Kind, A, B, D, pick, kindOf, lanes}
 use Rattle.window.specs.Length.{negative, negatives, one}

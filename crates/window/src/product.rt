@@ -65,21 +65,22 @@ pub(crate) fn inverse_into(kind: u8, n: usize, w: &[i8], out: &mut [i8])
     }
 }
 
-// Whether two windows are equal.
+// Whether two windows are equal. Every entry is looked at, without a way out of the loop, so that many are compared at a time.
 pub(crate) fn same_entries(a: &[i8], b: &[i8]) -> bool
     ensures { λ r. ⌜ r ≡ sameWindow (now (a .entry)) (now (b .entry)) ⌝ }
 {
     if a.len() != b.len() {
         return false;
     }
+    let mut same = true;
     let mut i = 0;
     while i < a.len() {
         let x = a[i];
         let y = b[i];
         if x != y {
-            return false;
+            same = false;
         }
         i += 1;
     }
-    true
+    same
 }

@@ -97,8 +97,11 @@ pub(crate) fn equal_words(kind: u8, rank: u8, u: &[u8], v: &[u8]) -> bool
     requires { ⌜ wordRefusal rank (now v) ≡ 0 ⌝ }
     ensures { λ r. ⌜ r ≡ equalWords (kindOf kind) rank (now (u .entry)) (now (v .entry)) ⌝ }
 {
+    let n = rank as usize;
     let m = lanes(kind, rank);
-    let first = shown(kind, rank, u);
-    let second = shown(kind, rank, v);
+    let mut first = blank();
+    show(kind, n, u, &mut first[..m]);
+    let mut second = blank();
+    show(kind, n, v, &mut second[..m]);
     same_entries(&first[..m], &second[..m])
 }

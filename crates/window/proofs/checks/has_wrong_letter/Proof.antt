@@ -1,6 +1,6 @@
 -- `checks::has_wrong_letter` goes from letter to letter: a letter was wrong, or one of the part from `i` on is.
 -- Assumes nothing.
-use mathlib.Core.Path.{_≡_, refl, sym, ap, _∙_}
+use mathlib.Core.Path.{_≡_, refl, sym, _∙_}
 use mathlib.Core.Bool.{_||_}
 use Prim.Native.Nat.{_≤_, _-_}
 use lib.ListN.{length, drop}

@@ -4,8 +4,6 @@ use borrow.Author.Needs.{needs}
 use Rattle.window.proofs.Bytes.{cast-back, minus-cast-fits, minus-cast-back}
 use Rattle.window.proofs.entries.entry.Statement.{statement}
 use Rattle.window.proofs.entries.entry.Tie as tie
-use Rattle.window.proofs.entries.entry.Reads as reads
-use Rattle.window.proofs.entries.entry.Lts as lts
 
 -- src/entries.rt:38:13
 cast-e : tie.Need-cast-e

@@ -1,11 +1,10 @@
 -- `length::pairs` adds the pairs of entry after entry: what is left to add is the part from `i` on. The whole is small, so no sum overflows.
 -- Assumes nothing.
 use mathlib.Core.Path.{_≡_, ap, _∙_}
-use mathlib.Core.List.{map}
 use Prim.Native.Nat.{_+_, _*_, _≤_, _-_}
 use native.Mathlib.Omega.{arith}
-use lib.IntN.{pos, natAbs}
-use lib.ListN.{length, getD, take, drop}
+use lib.IntN.{pos}
+use lib.ListN.{length, getD, drop}
 use borrow.Author.Needs.{needs}
 use Rattle.window.specs.Kinds.{pick}
 use Rattle.window.specs.Length.{negative}

@@ -1,6 +1,6 @@
 -- `length::sizes` writes size by size: those of the entries before `i` stand at the front.
 -- Assumes nothing.
-use mathlib.Core.Path.{_≡_, refl, ap, _∙_}
+use mathlib.Core.Path.{_≡_, ap, _∙_}
 use mathlib.Core.List.{map}
 use Prim.Native.Nat.{_≤_, _-_}
 use lib.IntN.{pos, natAbs}
