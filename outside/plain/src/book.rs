@@ -1,0 +1,88 @@
+//! Preset books: checks 1 to 4, reading by number, appending.
+use crate::checks::check_preset;
+use crate::{MAX_BOOK, Refusal, coded, front};
+
+const HEAD: usize = 4;
+
+/// The two-byte number at a byte.
+fn two(bytes: &[u8], at: usize) -> usize {
+    usize::from(u16::from_le_bytes([bytes[at], bytes[at + 1]]))
+}
+
+/// The count and the byte where the trailer begins. Checks 1 and 2.
+fn trailer(book: &[u8]) -> Result<(usize, usize), Refusal> {
+    if book.len() < 2 || book.len() > MAX_BOOK {
+        return Err(1);
+    }
+    let count = two(book, book.len() - 2);
+    match book.len().checked_sub(2 * count + 2) {
+        Some(start) => Ok((count, start)),
+        None => Err(2),
+    }
+}
+
+/// The same with check 3: the records stand one after the other from byte 0 to the trailer.
+fn check(book: &[u8]) -> Result<(usize, usize), Refusal> {
+    let (count, start) = trailer(book)?;
+    let (records, rest) = book.split_at(start);
+    let (offsets, _) = rest.as_chunks::<2>();
+    let mut end = 0;
+    for &offset in &offsets[..count] {
+        if usize::from(u16::from_le_bytes(offset)) != end || records.len() - end < HEAD {
+            return Err(3);
+        }
+        end += HEAD + two(records, end + 2);
+        if end > records.len() {
+            return Err(3);
+        }
+    }
+    if end == start { Ok((count, start)) } else { Err(3) }
+}
+
+/// The number of presets.
+pub fn book_check(book: &[u8]) -> i64 {
+    coded(check(book).map(|(count, _)| count))
+}
+
+/// Kind, rank, where the letters begin and how many they are, in `fields`: 4 numbers.
+pub fn preset(book: &[u8], number: usize, fields: &mut [u64]) -> i64 {
+    coded((|| {
+        let (count, start) = check(book)?;
+        if number >= count {
+            return Err(4);
+        }
+        let record = two(book, start + 2 * number);
+        let (kind, rank) = (book[record], book[record + 1]);
+        let (at, letters) = (record + HEAD, two(book, record + 2));
+        check_preset(kind, rank, &book[at..at + letters])?;
+        let fields = front(fields, 4)?;
+        fields.copy_from_slice(&[kind.into(), rank.into(), at as u64, letters as u64]);
+        Ok(4)
+    })())
+}
+
+/// Writes the book with one record more.
+pub fn append(book: &[u8], kind: u8, rank: u8, word: &[u8], out: &mut [u8]) -> i64 {
+    coded((|| {
+        let (count, start) = check(book)?;
+        check_preset(kind, rank, word)?;
+        let length = book.len() + HEAD + word.len() + 2;
+        if length > MAX_BOOK {
+            return Err(13);
+        }
+        let out = front(out, length)?;
+        // Below 65,535 bytes, so each of these fits in two.
+        let letters = (word.len() as u16).to_le_bytes();
+        let offset = (start as u16).to_le_bytes();
+        let count_now = (count as u16 + 1).to_le_bytes();
+        let (records, offsets) = (&book[..start], &book[start..book.len() - 2]);
+        let parts: [&[u8]; 7] = [records, &[kind, rank], &letters, word, offsets, &offset, &count_now];
+        let mut rest = out;
+        for part in parts {
+            let (here, after) = rest.split_at_mut(part.len());
+            here.copy_from_slice(part);
+            rest = after;
+        }
+        Ok(length)
+    })())
+}

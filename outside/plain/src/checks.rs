@@ -1,0 +1,46 @@
+//! Checks 5 to 11.
+use crate::{A, B, D, MAX_LETTERS, Refusal, lanes};
+
+pub(crate) fn check_rank(kind: u8, rank: u8) -> Result<(), Refusal> {
+    let ranks = match kind {
+        A => 1..=31,
+        B => 2..=32,
+        D => 4..=32,
+        _ => return Err(5),
+    };
+    if ranks.contains(&rank) { Ok(()) } else { Err(6) }
+}
+
+pub(crate) fn check_word(rank: u8, word: &[u8]) -> Result<(), Refusal> {
+    if word.len() > MAX_LETTERS {
+        return Err(7);
+    }
+    // No early exit: most words are good, and without one the loop takes many letters at a time.
+    if word.iter().fold(true, |good, &step| good & (1..=rank).contains(&step)) { Ok(()) } else { Err(8) }
+}
+
+pub(crate) fn check_preset(kind: u8, rank: u8, word: &[u8]) -> Result<(), Refusal> {
+    check_rank(kind, rank)?;
+    check_word(rank, word)
+}
+
+pub(crate) fn check_window(kind: u8, rank: u8, window: &[i8]) -> Result<(), Refusal> {
+    let m = lanes(kind, rank);
+    if window.len() != m {
+        return Err(9);
+    }
+    let mut seen = 0u64;
+    let mut negatives = 0;
+    for &entry in window {
+        let size = entry.unsigned_abs();
+        if size == 0 || size as usize > m || seen >> size & 1 == 1 || (kind == A && entry < 0) {
+            return Err(10);
+        }
+        seen |= 1 << size;
+        negatives += u32::from(entry < 0);
+    }
+    if kind == D && negatives % 2 == 1 {
+        return Err(11);
+    }
+    Ok(())
+}

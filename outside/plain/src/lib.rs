@@ -1,0 +1,162 @@
+//! The requirement once more, in plain Rust: written from its text alone and sharing no line with the
+//! verified library, to compare it with.
+//!
+//! Each function answers as the C interface does: 0 or more is the answer, -k is refusal k. A refused
+//! call writes nothing, an accepted one only the front of its outputs.
+#![forbid(unsafe_code)]
+
+mod book;
+mod checks;
+mod rules;
+mod window;
+mod word;
+
+pub use book::{append, book_check, preset};
+pub use rules::{NONE_FITS, Rule, rewrite, rules};
+
+use checks::{check_preset, check_rank, check_window, check_word};
+use window::{Window, inverse_into, length, product_into};
+
+pub const A: u8 = 1;
+pub const B: u8 = 2;
+pub const D: u8 = 3;
+
+pub const MAX_LANES: usize = 32;
+pub const MAX_LETTERS: usize = 4096;
+pub const MAX_BOOK: usize = 65535;
+
+/// A refusal's number.
+pub(crate) type Refusal = i64;
+
+/// An answer or a refusal in one number.
+pub(crate) fn coded(answer: Result<usize, Refusal>) -> i64 {
+    match answer {
+        Ok(n) => n as i64,
+        Err(k) => -k,
+    }
+}
+
+/// The number of lanes. The rank has been checked.
+pub(crate) fn lanes(kind: u8, rank: u8) -> usize {
+    rank as usize + usize::from(kind == A)
+}
+
+/// The front of an output that is long enough.
+pub(crate) fn front<T>(out: &mut [T], n: usize) -> Result<&mut [T], Refusal> {
+    out.get_mut(..n).ok_or(14)
+}
+
+pub fn window_of_word(kind: u8, rank: u8, word: &[u8], out: &mut [i8]) -> i64 {
+    coded((|| {
+        check_preset(kind, rank, word)?;
+        let m = lanes(kind, rank);
+        let out = front(out, m)?;
+        let mut window = Window::straight(m);
+        window.apply(kind, word);
+        out.copy_from_slice(window.entries());
+        Ok(m)
+    })())
+}
+
+pub fn normal_form_of_word(kind: u8, rank: u8, word: &[u8], out: &mut [u8]) -> i64 {
+    coded((|| {
+        check_preset(kind, rank, word)?;
+        let mut window = Window::straight(lanes(kind, rank));
+        window.apply(kind, word);
+        word::write_normal_form(kind, rank, window, out)
+    })())
+}
+
+pub fn normal_form_of_window(kind: u8, rank: u8, window: &[i8], out: &mut [u8]) -> i64 {
+    coded((|| {
+        check_rank(kind, rank)?;
+        check_window(kind, rank, window)?;
+        word::write_normal_form(kind, rank, Window::from(window), out)
+    })())
+}
+
+pub fn product_of_words(kind: u8, rank: u8, first: &[u8], second: &[u8], out: &mut [u8]) -> i64 {
+    coded((|| {
+        check_preset(kind, rank, first)?;
+        check_word(rank, second)?;
+        let mut window = Window::straight(lanes(kind, rank));
+        window.apply(kind, first);
+        window.apply(kind, second);
+        word::write_normal_form(kind, rank, window, out)
+    })())
+}
+
+pub fn product_of_windows(kind: u8, rank: u8, first: &[i8], second: &[i8], out: &mut [i8]) -> i64 {
+    coded((|| {
+        check_rank(kind, rank)?;
+        check_window(kind, rank, first)?;
+        check_window(kind, rank, second)?;
+        let m = second.len();
+        product_into(first, second, front(out, m)?);
+        Ok(m)
+    })())
+}
+
+pub fn inverse_of_word(kind: u8, rank: u8, word: &[u8], out: &mut [u8]) -> i64 {
+    coded((|| {
+        check_preset(kind, rank, word)?;
+        let m = lanes(kind, rank);
+        let mut window = Window::straight(m);
+        window.apply(kind, word);
+        let mut inverse = Window::straight(m);
+        inverse_into(window.entries(), inverse.entries_mut());
+        word::write_normal_form(kind, rank, inverse, out)
+    })())
+}
+
+pub fn inverse_of_window(kind: u8, rank: u8, window: &[i8], out: &mut [i8]) -> i64 {
+    coded((|| {
+        check_rank(kind, rank)?;
+        check_window(kind, rank, window)?;
+        let m = window.len();
+        inverse_into(window, front(out, m)?);
+        Ok(m)
+    })())
+}
+
+pub fn length_of_word(kind: u8, rank: u8, word: &[u8]) -> i64 {
+    coded((|| {
+        check_preset(kind, rank, word)?;
+        let mut window = Window::straight(lanes(kind, rank));
+        window.apply(kind, word);
+        Ok(length(kind, window.entries()))
+    })())
+}
+
+pub fn length_of_window(kind: u8, rank: u8, window: &[i8]) -> i64 {
+    coded((|| {
+        check_rank(kind, rank)?;
+        check_window(kind, rank, window)?;
+        Ok(length(kind, window))
+    })())
+}
+
+/// 1 if the two presets are of one kind and rank and show the same, 0 if not.
+pub fn same(kind1: u8, rank1: u8, word1: &[u8], kind2: u8, rank2: u8, word2: &[u8]) -> i64 {
+    coded((|| {
+        check_preset(kind1, rank1, word1)?;
+        check_preset(kind2, rank2, word2)?;
+        if (kind1, rank1) != (kind2, rank2) {
+            return Ok(0);
+        }
+        Ok(usize::from(window::equal(kind1, rank1, word1, word2)))
+    })())
+}
+
+/// 1 or 2 for the better word, 0 for neither: the windows differ or a check refuses.
+pub fn better(kind: u8, rank: u8, first: &[u8], second: &[u8]) -> i64 {
+    if check_preset(kind, rank, first).is_err() || check_word(rank, second).is_err() {
+        return 0;
+    }
+    if !window::equal(kind, rank, first, second) {
+        return 0;
+    }
+    // The HIGHER step comes first, so at equal lengths the greater list of bytes is the earlier word.
+    let second_wins = second.len() < first.len() || (second.len() == first.len() && second > first);
+    if second_wins { 2 } else { 1 }
+}

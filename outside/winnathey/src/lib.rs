@@ -1,0 +1,429 @@
+//! Router presets as words in Coxeter groups A, B and D.
+//!
+//! A preset is a kind, a rank n and a word: a list of steps from 1 to n, applied from the left. Its window is what the
+//! screens show then: lane by lane a number, with a minus sign if the lane is mirrored. Of all words with one window
+//! the normal form is the shortest, and among those the first in the dictionary, where the HIGHER step comes first.
+//!
+//! This crate hands each call to a library that is proved to give the answer defined over signed permutations for every
+//! input. Nothing is left to the caller to check: a call that cannot be answered gives a [`Refusal`] and changes no
+//! byte of an output. An accepted call writes its answer to the front of the output, and the rest keeps what it held.
+//!
+//! ```
+//! use winnathey::{Kind, normal_form_of_word, window_of_word};
+//!
+//! let word = [1, 2, 1, 2];
+//! let mut window = [0; winnathey::MAX_LANES];
+//! let lanes = window_of_word(Kind::B, 2, &word, &mut window)?;
+//! assert_eq!(window[..lanes], [-1, -2]);
+//!
+//! let mut form = [0; winnathey::MAX_NORMAL_FORM];
+//! let length = normal_form_of_word(Kind::B, 2, &word, &mut form)?;
+//! assert_eq!(form[..length], [2, 1, 2, 1]);
+//! # Ok::<(), winnathey::Refusal>(())
+//! ```
+
+pub mod raw;
+
+use std::error::Error;
+use std::fmt;
+
+/// The most lanes of a window: 32.
+pub const MAX_LANES: usize = 32;
+/// The most letters of a word: 4,096.
+pub const MAX_LETTERS: usize = 4096;
+/// The most letters of a normal form: 1,024, in kind B at rank 32. An output of this length is never too short for one.
+pub const MAX_NORMAL_FORM: usize = 1024;
+/// The most bytes of a book: 65,535.
+pub const MAX_BOOK: usize = 65535;
+
+/// The kind of a preset. Any number can be written here; a call refuses those that are not [`A`](Kind::A),
+/// [`B`](Kind::B) or [`D`](Kind::D).
+#[derive(Clone, Copy, PartialEq, Eq, Hash, Debug)]
+pub struct Kind(pub u8);
+
+impl Kind {
+    /// Ranks 1 to 31, one lane more than the rank. Step i exchanges the lanes at i and i + 1.
+    pub const A: Kind = Kind(1);
+    /// Ranks 2 to 32. As in A, but step n mirrors the last lane.
+    pub const B: Kind = Kind(2);
+    /// Ranks 4 to 32. As in A, but step n exchanges the last two lanes and mirrors both.
+    pub const D: Kind = Kind(3);
+}
+
+impl fmt::Display for Kind {
+    fn fmt(&self, f: &mut fmt::Formatter<'_>) -> fmt::Result {
+        match self.0 {
+            1 => f.write_str("A"),
+            2 => f.write_str("B"),
+            3 => f.write_str("D"),
+            other => write!(f, "kind {other}"),
+        }
+    }
+}
+
+/// Why a call was turned down: the number of the first check that failed, in checking order.
+///
+/// ```
+/// use winnathey::{Kind, length_of_word};
+///
+/// let refusal = length_of_word(Kind::A, 2, &[1, 3]).unwrap_err();
+/// assert_eq!(refusal.number(), 8);
+/// assert_eq!(refusal.to_string(), "refused 8: a letter is 0 or above the rank");
+/// ```
+#[derive(Clone, Copy, PartialEq, Eq, PartialOrd, Ord, Hash, Debug)]
+pub struct Refusal(u8);
+
+impl Refusal {
+    /// The number, from 1 to 14.
+    pub fn number(self) -> u8 {
+        self.0
+    }
+
+    /// What the number says.
+    pub fn meaning(self) -> &'static str {
+        match self.0 {
+            1 => "the book has fewer than 2 or more than 65,535 bytes",
+            2 => "the book is too short for the offsets of as many presets as it counts",
+            3 => {
+                "the book's records do not stand one after the other from its start to its trailer, as the offsets say"
+            }
+            4 => "the book has no preset of that number",
+            5 => "the kind is not 1, 2 or 3",
+            6 => "the rank is outside its kind's range",
+            7 => "the word has more than 4,096 letters",
+            8 => "a letter is 0 or above the rank",
+            9 => "the window's length is not the lane count",
+            10 => "a window's entry is 0, has a size above the lane count, repeats a size, or is negative in kind A",
+            11 => "a kind D window has an odd number of negative entries",
+            12 => "the place is the word's length or more",
+            13 => "the appended book would exceed 65,535 bytes",
+            14 => "an output is too short for the answer",
+            _ => "a number that this crate does not know",
+        }
+    }
+}
+
+impl fmt::Display for Refusal {
+    fn fmt(&self, f: &mut fmt::Formatter<'_>) -> fmt::Result {
+        write!(f, "refused {}: {}", self.number(), self.meaning())
+    }
+}
+
+impl Error for Refusal {}
+
+/// The answer of the C interface.
+fn answered(answer: i64) -> Result<usize, Refusal> {
+    match usize::try_from(answer) {
+        Ok(answer) => Ok(answer),
+        Err(_) => Err(Refusal(answer.unsigned_abs() as u8)),
+    }
+}
+
+/// A preset whose letters are lent, for instance by a book.
+#[derive(Clone, Copy, PartialEq, Eq, Hash, Debug)]
+pub struct Preset<'a> {
+    pub kind: Kind,
+    pub rank: u8,
+    pub word: &'a [u8],
+}
+
+/// Writes the window of a word, and answers with its number of lanes. Refusals 5 to 8, 14.
+///
+/// ```
+/// use winnathey::{Kind, window_of_word};
+///
+/// let mut out = [0; 4];
+/// assert_eq!(window_of_word(Kind::A, 2, &[1, 2, 1], &mut out), Ok(3));
+/// assert_eq!(out, [3, 2, 1, 0]);
+/// ```
+pub fn window_of_word(kind: Kind, rank: u8, word: &[u8], out: &mut [i8]) -> Result<usize, Refusal> {
+    answered(raw::window_of_word(kind.0, rank, word, out))
+}
+
+/// Writes the normal form of a word, and answers with its length. Refusals 5 to 8, 14.
+///
+/// ```
+/// use winnathey::{Kind, MAX_NORMAL_FORM, normal_form_of_word};
+///
+/// let mut out = [0; MAX_NORMAL_FORM];
+/// let length = normal_form_of_word(Kind::A, 2, &[1, 2, 1], &mut out)?;
+/// assert_eq!(out[..length], [2, 1, 2]);
+/// # Ok::<(), winnathey::Refusal>(())
+/// ```
+pub fn normal_form_of_word(kind: Kind, rank: u8, word: &[u8], out: &mut [u8]) -> Result<usize, Refusal> {
+    answered(raw::normal_form_of_word(kind.0, rank, word, out))
+}
+
+/// Writes the normal form of a window, and answers with its length. Refusals 5, 6, 9 to 11, 14.
+///
+/// ```
+/// use winnathey::{Kind, MAX_NORMAL_FORM, normal_form_of_window};
+///
+/// let mut out = [0; MAX_NORMAL_FORM];
+/// let length = normal_form_of_window(Kind::D, 5, &[3, -5, 1, 4, -2], &mut out)?;
+/// assert_eq!(out[..length], [5, 2, 3, 5, 1, 2]);
+///
+/// let refusal = normal_form_of_window(Kind::D, 4, &[-1, 2, 3, 4], &mut out).unwrap_err();
+/// assert_eq!(refusal.number(), 11);
+/// # Ok::<(), winnathey::Refusal>(())
+/// ```
+pub fn normal_form_of_window(kind: Kind, rank: u8, window: &[i8], out: &mut [u8]) -> Result<usize, Refusal> {
+    answered(raw::normal_form_of_window(kind.0, rank, window, out))
+}
+
+/// Writes the normal form of the first word followed by the second, and answers with its length. Refusals 5 to 8, 14.
+///
+/// ```
+/// use winnathey::{Kind, MAX_NORMAL_FORM, product_of_words};
+///
+/// let mut out = [0; MAX_NORMAL_FORM];
+/// let length = product_of_words(Kind::A, 3, &[1], &[3], &mut out)?;
+/// assert_eq!(out[..length], [3, 1]);
+/// # Ok::<(), winnathey::Refusal>(())
+/// ```
+pub fn product_of_words(kind: Kind, rank: u8, first: &[u8], second: &[u8], out: &mut [u8]) -> Result<usize, Refusal> {
+    answered(raw::product_of_words(kind.0, rank, first, second, out))
+}
+
+/// Writes the product of two windows, the first's word followed by the second's, and answers with its number of lanes.
+/// Refusals 5, 6, 9 to 11, 14.
+///
+/// ```
+/// use winnathey::{Kind, product_of_windows};
+///
+/// let mut out = [0; 3];
+/// product_of_windows(Kind::B, 3, &[2, 1, 3], &[1, 3, -2], &mut out)?;
+/// assert_eq!(out, [2, 3, -1]);
+/// # Ok::<(), winnathey::Refusal>(())
+/// ```
+pub fn product_of_windows(kind: Kind, rank: u8, first: &[i8], second: &[i8], out: &mut [i8]) -> Result<usize, Refusal> {
+    answered(raw::product_of_windows(kind.0, rank, first, second, out))
+}
+
+/// Writes the normal form of a word's inverse, and answers with its length. Refusals 5 to 8, 14.
+///
+/// ```
+/// use winnathey::{Kind, MAX_NORMAL_FORM, inverse_of_word};
+///
+/// let mut out = [0; MAX_NORMAL_FORM];
+/// let length = inverse_of_word(Kind::A, 2, &[1, 2], &mut out)?;
+/// assert_eq!(out[..length], [2, 1]);
+/// # Ok::<(), winnathey::Refusal>(())
+/// ```
+pub fn inverse_of_word(kind: Kind, rank: u8, word: &[u8], out: &mut [u8]) -> Result<usize, Refusal> {
+    answered(raw::inverse_of_word(kind.0, rank, word, out))
+}
+
+/// Writes the inverse of a window, and answers with its number of lanes. Refusals 5, 6, 9 to 11, 14.
+///
+/// ```
+/// use winnathey::{Kind, inverse_of_window};
+///
+/// let mut out = [0; 3];
+/// inverse_of_window(Kind::B, 3, &[2, 3, -1], &mut out)?;
+/// assert_eq!(out, [-3, 1, 2]);
+/// # Ok::<(), winnathey::Refusal>(())
+/// ```
+pub fn inverse_of_window(kind: Kind, rank: u8, window: &[i8], out: &mut [i8]) -> Result<usize, Refusal> {
+    answered(raw::inverse_of_window(kind.0, rank, window, out))
+}
+
+/// The length of a word's normal form. Refusals 5 to 8.
+///
+/// ```
+/// use winnathey::{Kind, length_of_word};
+///
+/// assert_eq!(length_of_word(Kind::B, 2, &[1, 2, 1, 2]), Ok(4));
+/// assert_eq!(length_of_word(Kind::B, 2, &[1, 1]), Ok(0));
+/// ```
+pub fn length_of_word(kind: Kind, rank: u8, word: &[u8]) -> Result<usize, Refusal> {
+    answered(raw::length_of_word(kind.0, rank, word))
+}
+
+/// The length of a window's normal form. Refusals 5, 6, 9 to 11.
+///
+/// ```
+/// use winnathey::{Kind, length_of_window};
+///
+/// assert_eq!(length_of_window(Kind::B, 2, &[-1, -2]), Ok(4));
+/// ```
+pub fn length_of_window(kind: Kind, rank: u8, window: &[i8]) -> Result<usize, Refusal> {
+    answered(raw::length_of_window(kind.0, rank, window))
+}
+
+/// Whether two presets are equal: of one kind and rank, and with one window. Refusals 5 to 8, the first preset's
+/// before the second's.
+///
+/// ```
+/// use winnathey::{Kind, Preset, same};
+///
+/// let up = Preset { kind: Kind::A, rank: 2, word: &[1, 2, 1] };
+/// let down = Preset { kind: Kind::A, rank: 2, word: &[2, 1, 2] };
+/// assert_eq!(same(up, down), Ok(true));
+/// assert_eq!(same(up, Preset { word: &[], ..up }), Ok(false));
+/// ```
+pub fn same(first: Preset, second: Preset) -> Result<bool, Refusal> {
+    answered(raw::same(first.kind.0, first.rank, first.word, second.kind.0, second.rank, second.word))
+        .map(|answer| answer == 1)
+}
+
+/// The better of two words with one window: the shorter of the two slices itself; at equal lengths the one earlier in
+/// the dictionary, at equal words the first. An empty part of the first word if the windows differ or a word is
+/// refused; [`same`] says which.
+///
+/// ```
+/// use winnathey::{Kind, better};
+///
+/// assert_eq!(better(Kind::A, 2, &[1, 2, 1], &[2, 1, 2]), [2, 1, 2]);
+/// assert_eq!(better(Kind::A, 2, &[1], &[2]), []);
+/// ```
+pub fn better<'a>(kind: Kind, rank: u8, first: &'a [u8], second: &'a [u8]) -> &'a [u8] {
+    match raw::better(kind.0, rank, first, second) {
+        1 => first,
+        2 => second,
+        _ => &first[..0],
+    }
+}
+
+/// What one rewrite did.
+#[derive(Clone, Copy, PartialEq, Eq, Hash, Debug)]
+pub enum Rewrite {
+    /// The rule's family with its i and j, and the length of the new word.
+    Used { family: u8, i: u8, j: u8, length: usize },
+    /// No rule's left side begins at the place and lies wholly inside the word. Nothing was written.
+    NoneFits,
+}
+
+/// Replaces the left side of the rule that begins at a place, counted from 0, and writes the new word. Refusals 5 to 8,
+/// 12, 14.
+///
+/// ```
+/// use winnathey::{Kind, Rewrite, rewrite};
+///
+/// let mut out = [0; 2];
+/// let used = rewrite(Kind::D, 4, &[3, 4], 0, &mut out)?;
+/// assert_eq!(used, Rewrite::Used { family: 2, i: 3, j: 4, length: 2 });
+/// assert_eq!(out, [4, 3]);
+///
+/// assert_eq!(rewrite(Kind::B, 4, &[3, 4], 0, &mut out)?, Rewrite::NoneFits);
+/// # Ok::<(), winnathey::Refusal>(())
+/// ```
+pub fn rewrite(kind: Kind, rank: u8, word: &[u8], place: usize, out: &mut [u8]) -> Result<Rewrite, Refusal> {
+    let mut rule = [0; 3];
+    match raw::rewrite(kind.0, rank, word, place, out, &mut rule) {
+        raw::NONE_FITS => Ok(Rewrite::NoneFits),
+        answer => {
+            let length = answered(answer)?;
+            let [family, i, j] = rule;
+            Ok(Rewrite::Used { family, i, j, length })
+        }
+    }
+}
+
+/// The number of presets in a book. Refusals 1 to 3.
+///
+/// ```
+/// use winnathey::book_check;
+///
+/// assert_eq!(book_check(&[0, 0]), Ok(0));
+/// assert_eq!(book_check(&[0]).unwrap_err().number(), 1);
+/// ```
+pub fn book_check(book: &[u8]) -> Result<usize, Refusal> {
+    answered(raw::book_check(book))
+}
+
+/// A preset of a book by its number, from 0. The letters are the book's own bytes. Refusals 1 to 8.
+///
+/// ```
+/// use winnathey::{Kind, Preset, preset};
+///
+/// let book = [2, 2, 4, 0, 1, 2, 1, 2, 0, 0, 1, 0];
+/// assert_eq!(preset(&book, 0), Ok(Preset { kind: Kind::B, rank: 2, word: &[1, 2, 1, 2] }));
+/// assert_eq!(preset(&book, 1).unwrap_err().number(), 4);
+/// ```
+pub fn preset(book: &[u8], number: usize) -> Result<Preset<'_>, Refusal> {
+    let mut fields = [0; 4];
+    answered(raw::preset(book, number, &mut fields))?;
+    let [kind, rank, start, letters] = fields;
+    let (start, letters) = (start as usize, letters as usize);
+    Ok(Preset { kind: Kind(kind as u8), rank: rank as u8, word: &book[start..start + letters] })
+}
+
+/// Writes a book with one preset more, and answers with its length. Refusals 1 to 3, 5 to 8, 13, 14.
+///
+/// ```
+/// use winnathey::{Kind, Preset, append, preset};
+///
+/// let mut book = [0; 12];
+/// let added = Preset { kind: Kind::B, rank: 2, word: &[1, 2, 1, 2] };
+/// let length = append(&[0, 0], added, &mut book)?;
+/// assert_eq!(book[..length], [2, 2, 4, 0, 1, 2, 1, 2, 0, 0, 1, 0]);
+/// assert_eq!(preset(&book[..length], 0)?, added);
+/// # Ok::<(), winnathey::Refusal>(())
+/// ```
+pub fn append(book: &[u8], added: Preset, out: &mut [u8]) -> Result<usize, Refusal> {
+    answered(raw::append(book, added.kind.0, added.rank, added.word, out))
+}
+
+#[cfg(test)]
+mod tests {
+    use super::*;
+
+    const BOOK: [u8; 24] = [2, 2, 4, 0, 1, 2, 1, 2, 3, 5, 6, 0, 5, 2, 3, 5, 1, 2, 0, 0, 8, 0, 2, 0];
+
+    fn number<T: fmt::Debug>(answer: Result<T, Refusal>) -> u8 {
+        answer.unwrap_err().number()
+    }
+
+    #[test]
+    fn each_refusal_has_its_number() {
+        let mut lanes = [0; MAX_LANES];
+        let mut letters = [0; MAX_BOOK];
+        let empty = Preset { kind: Kind::B, rank: 2, word: &[] };
+        assert_eq!(number(book_check(&[])), 1);
+        assert_eq!(number(book_check(&[1, 0])), 2);
+        assert_eq!(number(book_check(&[0, 0, 0])), 3);
+        assert_eq!(number(preset(&BOOK, 2)), 4);
+        assert_eq!(number(window_of_word(Kind(4), 2, &[], &mut lanes)), 5);
+        assert_eq!(number(window_of_word(Kind::A, 32, &[], &mut lanes)), 6);
+        assert_eq!(number(length_of_word(Kind::A, 1, &[1; 4097])), 7);
+        assert_eq!(number(same(empty, Preset { word: &[3], ..empty })), 8);
+        assert_eq!(number(length_of_window(Kind::A, 2, &[1, 2])), 9);
+        assert_eq!(number(inverse_of_window(Kind::B, 2, &[-128, 2], &mut lanes)), 10);
+        assert_eq!(number(product_of_windows(Kind::D, 4, &[1, 2, 3, 4], &[-1, 2, 3, 4], &mut lanes)), 11);
+        assert_eq!(number(rewrite(Kind::A, 1, &[], 0, &mut letters)), 12);
+        let mut book = BOOK.to_vec();
+        for _ in 0..15 {
+            let length = append(&book, Preset { word: &[1; 4096], ..empty }, &mut letters).unwrap();
+            book = letters[..length].to_vec();
+        }
+        assert_eq!(number(append(&book, Preset { word: &[1; 4096], ..empty }, &mut letters)), 13);
+        assert_eq!(number(append(&book, empty, &mut letters[..book.len() + 5])), 14);
+    }
+
+    #[test]
+    fn each_number_has_a_meaning_of_its_own() {
+        let mut meanings: Vec<_> = (1..=15).map(|number| Refusal(number).meaning()).collect();
+        meanings.sort();
+        meanings.dedup();
+        assert_eq!(meanings.len(), 15);
+    }
+
+    #[test]
+    fn the_better_word_is_one_of_the_lent_ones() {
+        let (first, second) = ([1u8, 2, 1], [1u8, 2, 1]);
+        assert!(std::ptr::eq(better(Kind::A, 2, &first, &second), &first[..]));
+        let (long, short) = ([1u8, 1, 2], [2u8]);
+        assert!(std::ptr::eq(better(Kind::A, 2, &long, &short), &short[..]));
+        assert!(std::ptr::eq(better(Kind::A, 2, &short, &long), &short[..]));
+        assert!(std::ptr::eq(better(Kind::A, 0, &long, &short), &long[..0]));
+        assert!(std::ptr::eq(better(Kind::A, 2, &long, &[1]), &long[..0]));
+    }
+
+    #[test]
+    fn letters_are_the_books_own_bytes() {
+        let found = preset(&BOOK, 1).unwrap();
+        assert_eq!((found.kind, found.rank), (Kind::D, 5));
+        assert!(std::ptr::eq(found.word, &BOOK[12..18]));
+    }
+}

@@ -1,0 +1,262 @@
+//! The C interface as it is, with slices in the place of pointers and lengths.
+//!
+//! Each function answers 0 or more, or -k for refusal k; [`rewrite`] also answers [`NONE_FITS`]. The functions of the
+//! crate's root say the same in Rust's words.
+
+mod c {
+    unsafe extern "C" {
+        pub fn winnathey_window_of_word(
+            kind: u8,
+            rank: u8,
+            word: *const u8,
+            word_len: usize,
+            out: *mut i8,
+            out_len: usize,
+        ) -> i64;
+        pub fn winnathey_normal_form_of_word(
+            kind: u8,
+            rank: u8,
+            word: *const u8,
+            word_len: usize,
+            out: *mut u8,
+            out_len: usize,
+        ) -> i64;
+        pub fn winnathey_normal_form_of_window(
+            kind: u8,
+            rank: u8,
+            window: *const i8,
+            window_len: usize,
+            out: *mut u8,
+            out_len: usize,
+        ) -> i64;
+        pub fn winnathey_product_of_words(
+            kind: u8,
+            rank: u8,
+            first: *const u8,
+            first_len: usize,
+            second: *const u8,
+            second_len: usize,
+            out: *mut u8,
+            out_len: usize,
+        ) -> i64;
+        pub fn winnathey_product_of_windows(
+            kind: u8,
+            rank: u8,
+            first: *const i8,
+            first_len: usize,
+            second: *const i8,
+            second_len: usize,
+            out: *mut i8,
+            out_len: usize,
+        ) -> i64;
+        pub fn winnathey_inverse_of_word(
+            kind: u8,
+            rank: u8,
+            word: *const u8,
+            word_len: usize,
+            out: *mut u8,
+            out_len: usize,
+        ) -> i64;
+        pub fn winnathey_inverse_of_window(
+            kind: u8,
+            rank: u8,
+            window: *const i8,
+            window_len: usize,
+            out: *mut i8,
+            out_len: usize,
+        ) -> i64;
+        pub fn winnathey_length_of_word(kind: u8, rank: u8, word: *const u8, word_len: usize) -> i64;
+        pub fn winnathey_length_of_window(kind: u8, rank: u8, window: *const i8, window_len: usize) -> i64;
+        pub fn winnathey_same(
+            kind1: u8,
+            rank1: u8,
+            word1: *const u8,
+            len1: usize,
+            kind2: u8,
+            rank2: u8,
+            word2: *const u8,
+            len2: usize,
+        ) -> i64;
+        pub fn winnathey_better(
+            kind: u8,
+            rank: u8,
+            first: *const u8,
+            first_len: usize,
+            second: *const u8,
+            second_len: usize,
+        ) -> i64;
+        pub fn winnathey_rewrite(
+            kind: u8,
+            rank: u8,
+            word: *const u8,
+            word_len: usize,
+            place: usize,
+            out: *mut u8,
+            out_len: usize,
+            rule: *mut u8,
+            rule_len: usize,
+        ) -> i64;
+        pub fn winnathey_book_check(book: *const u8, book_len: usize) -> i64;
+        pub fn winnathey_preset(
+            book: *const u8,
+            book_len: usize,
+            number: usize,
+            fields: *mut u64,
+            fields_len: usize,
+        ) -> i64;
+        pub fn winnathey_append(
+            book: *const u8,
+            book_len: usize,
+            kind: u8,
+            rank: u8,
+            word: *const u8,
+            word_len: usize,
+            out: *mut u8,
+            out_len: usize,
+        ) -> i64;
+    }
+}
+
+/// The answer of [`rewrite`] where no rule's left side begins at the place.
+pub const NONE_FITS: i64 = -100;
+
+// SAFETY, for all calls below: each pointer and length are those of one slice, which is borrowed for the call and,
+// where the call writes, borrowed alone. The library asks nothing else of its caller: it is proved to stay inside
+// what it is lent, for every input.
+
+/// The window of a word.
+#[inline]
+pub fn window_of_word(kind: u8, rank: u8, word: &[u8], out: &mut [i8]) -> i64 {
+    unsafe { c::winnathey_window_of_word(kind, rank, word.as_ptr(), word.len(), out.as_mut_ptr(), out.len()) }
+}
+
+/// The normal form of a word.
+#[inline]
+pub fn normal_form_of_word(kind: u8, rank: u8, word: &[u8], out: &mut [u8]) -> i64 {
+    unsafe { c::winnathey_normal_form_of_word(kind, rank, word.as_ptr(), word.len(), out.as_mut_ptr(), out.len()) }
+}
+
+/// The normal form of a window.
+#[inline]
+pub fn normal_form_of_window(kind: u8, rank: u8, window: &[i8], out: &mut [u8]) -> i64 {
+    unsafe {
+        c::winnathey_normal_form_of_window(kind, rank, window.as_ptr(), window.len(), out.as_mut_ptr(), out.len())
+    }
+}
+
+/// The product of two words, as a normal form.
+#[inline]
+pub fn product_of_words(kind: u8, rank: u8, first: &[u8], second: &[u8], out: &mut [u8]) -> i64 {
+    unsafe {
+        c::winnathey_product_of_words(
+            kind,
+            rank,
+            first.as_ptr(),
+            first.len(),
+            second.as_ptr(),
+            second.len(),
+            out.as_mut_ptr(),
+            out.len(),
+        )
+    }
+}
+
+/// The product of two windows.
+#[inline]
+pub fn product_of_windows(kind: u8, rank: u8, first: &[i8], second: &[i8], out: &mut [i8]) -> i64 {
+    unsafe {
+        c::winnathey_product_of_windows(
+            kind,
+            rank,
+            first.as_ptr(),
+            first.len(),
+            second.as_ptr(),
+            second.len(),
+            out.as_mut_ptr(),
+            out.len(),
+        )
+    }
+}
+
+/// The inverse of a word, as a normal form.
+#[inline]
+pub fn inverse_of_word(kind: u8, rank: u8, word: &[u8], out: &mut [u8]) -> i64 {
+    unsafe { c::winnathey_inverse_of_word(kind, rank, word.as_ptr(), word.len(), out.as_mut_ptr(), out.len()) }
+}
+
+/// The inverse of a window.
+#[inline]
+pub fn inverse_of_window(kind: u8, rank: u8, window: &[i8], out: &mut [i8]) -> i64 {
+    unsafe { c::winnathey_inverse_of_window(kind, rank, window.as_ptr(), window.len(), out.as_mut_ptr(), out.len()) }
+}
+
+/// The length of a word's normal form.
+#[inline]
+pub fn length_of_word(kind: u8, rank: u8, word: &[u8]) -> i64 {
+    unsafe { c::winnathey_length_of_word(kind, rank, word.as_ptr(), word.len()) }
+}
+
+/// The length of a window's normal form.
+#[inline]
+pub fn length_of_window(kind: u8, rank: u8, window: &[i8]) -> i64 {
+    unsafe { c::winnathey_length_of_window(kind, rank, window.as_ptr(), window.len()) }
+}
+
+/// 1 if two presets are equal, 0 if not.
+#[inline]
+pub fn same(kind1: u8, rank1: u8, word1: &[u8], kind2: u8, rank2: u8, word2: &[u8]) -> i64 {
+    unsafe { c::winnathey_same(kind1, rank1, word1.as_ptr(), word1.len(), kind2, rank2, word2.as_ptr(), word2.len()) }
+}
+
+/// 1 or 2 for the better of two words, 0 for neither.
+#[inline]
+pub fn better(kind: u8, rank: u8, first: &[u8], second: &[u8]) -> i64 {
+    unsafe { c::winnathey_better(kind, rank, first.as_ptr(), first.len(), second.as_ptr(), second.len()) }
+}
+
+/// One rewrite, with family, i and j in the three bytes of `rule`.
+#[inline]
+pub fn rewrite(kind: u8, rank: u8, word: &[u8], place: usize, out: &mut [u8], rule: &mut [u8]) -> i64 {
+    unsafe {
+        c::winnathey_rewrite(
+            kind,
+            rank,
+            word.as_ptr(),
+            word.len(),
+            place,
+            out.as_mut_ptr(),
+            out.len(),
+            rule.as_mut_ptr(),
+            rule.len(),
+        )
+    }
+}
+
+/// The number of presets in a book.
+#[inline]
+pub fn book_check(book: &[u8]) -> i64 {
+    unsafe { c::winnathey_book_check(book.as_ptr(), book.len()) }
+}
+
+/// A preset's kind, rank, place of the letters in the book and letter count, in the four numbers of `fields`.
+#[inline]
+pub fn preset(book: &[u8], number: usize, fields: &mut [u64]) -> i64 {
+    unsafe { c::winnathey_preset(book.as_ptr(), book.len(), number, fields.as_mut_ptr(), fields.len()) }
+}
+
+/// A book with one record more.
+#[inline]
+pub fn append(book: &[u8], kind: u8, rank: u8, word: &[u8], out: &mut [u8]) -> i64 {
+    unsafe {
+        c::winnathey_append(
+            book.as_ptr(),
+            book.len(),
+            kind,
+            rank,
+            word.as_ptr(),
+            word.len(),
+            out.as_mut_ptr(),
+            out.len(),
+        )
+    }
+}
