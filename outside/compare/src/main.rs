@@ -1,1 +1,50 @@
-fn main() {}
+//! Compares the verified library with the plain Rust version: the answer and every byte of every output of each call.
+//!
+//! `compare` runs all groups; `compare N` makes N random inputs in the last group, `compare N SEED` starts them
+//! elsewhere. It prints how many calls each group compared, and ends with status 1 if any differed.
+mod books;
+mod edges;
+mod examples;
+mod exhaustive;
+mod inputs;
+mod random;
+mod rewriting;
+mod sides;
+
+use sides::Sides;
+use std::process::ExitCode;
+
+const RANDOM_INPUTS: u64 = 2_000_000;
+const SEED: u64 = 1;
+
+fn main() -> ExitCode {
+    let mut numbers = std::env::args().skip(1).map(|word| word.parse().expect("a number"));
+    let inputs = numbers.next().unwrap_or(RANDOM_INPUTS);
+    let seed = numbers.next().unwrap_or(SEED);
+
+    let mut sides = Sides::new();
+    let mut group = |name: &str, run: &dyn Fn(&mut Sides)| {
+        let before = sides.calls;
+        run(&mut sides);
+        println!("{:>10} calls: {name}", sides.calls - before);
+    };
+    group("the requirement's examples, held to its values", &examples::run);
+    group("all 65,536 pairs of kind and rank", &edges::kinds_and_ranks);
+    group("letters: each value at each rank; 4,095 to 4,098 letters", &edges::letters);
+    group("windows: each length, and each value at each position, at each rank", &edges::entries);
+    group("two faults at once: the first in checking order counts", &edges::order_of_checks);
+    group("all windows of small ranks", &exhaustive::windows);
+    group("all lists of small numbers as windows, right and wrong", &exhaustive::lists);
+    group("all pairs of windows of small ranks", &exhaustive::pairs_of_windows);
+    group("all words of up to 6 letters of small ranks", &exhaustive::words);
+    group("all pairs of short words of small ranks", &exhaustive::pairs_of_words);
+    group("each rule of each rank, whole and cut short", &rewriting::each_rule);
+    group("rewriting to the end, at random places", &rewriting::to_the_end);
+    group("books: the example, each byte changed, each part", &books::example);
+    group("books: random, damaged, full", &books::others);
+    group(&format!("{inputs} random inputs over all calls, from seed {seed}"), &|sides| {
+        random::run(sides, inputs, seed)
+    });
+    println!("{:>10} calls in all, {} different", sides.calls, sides.differences);
+    if sides.differences == 0 { ExitCode::SUCCESS } else { ExitCode::FAILURE }
+}

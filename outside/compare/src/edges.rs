@@ -1,0 +1,184 @@
+//! The edges of each range, and the order of the checks.
+use crate::inputs::{Random, lanes, rigs};
+use crate::sides::{ROOM, Sides};
+
+/// Words and windows that each call gets here.
+fn every_call(sides: &mut Sides, kind: u8, rank: u8, word: &[u8], window: &[i8], out: usize) {
+    sides.window_of_word(kind, rank, word, out.min(40));
+    sides.normal_form_of_word(kind, rank, word, out);
+    sides.normal_form_of_window(kind, rank, window, out);
+    sides.product_of_words(kind, rank, word, word, out);
+    sides.product_of_windows(kind, rank, window, window, out.min(40));
+    sides.inverse_of_word(kind, rank, word, out);
+    sides.inverse_of_window(kind, rank, window, out.min(40));
+    sides.length_of_word(kind, rank, word);
+    sides.length_of_window(kind, rank, window);
+    sides.same((kind, rank, word), (kind, rank, word));
+    sides.same((2, 2, &[1]), (kind, rank, word));
+    sides.better(kind, rank, word, word);
+    sides.rewrite(kind, rank, word, 0, out, 3);
+    sides.append(&[0, 0], kind, rank, word, out);
+    // A record of this kind and rank in a book, right or wrong.
+    let mut book = vec![kind, rank];
+    book.extend((word.len() as u16).to_le_bytes());
+    book.extend(word);
+    book.extend([0, 0, 1, 0]);
+    sides.preset(&book, 0, 4);
+}
+
+pub fn kinds_and_ranks(sides: &mut Sides) {
+    for kind in 0..=255 {
+        for rank in 0..=255 {
+            let m = usize::from(rank) + usize::from(kind == 1);
+            let window: Vec<i8> = (1..=m.min(127) as i8).collect();
+            every_call(sides, kind, rank, &[1, rank.max(1)], &window, 64);
+        }
+    }
+}
+
+pub fn letters(sides: &mut Sides) {
+    for (kind, rank) in rigs() {
+        for letter in 0..=255 {
+            for word in [&[letter][..], &[1, letter, 1], &[letter, rank, letter, rank], &[rank, rank, rank, letter]] {
+                sides.window_of_word(kind, rank, word, 32);
+                sides.normal_form_of_word(kind, rank, word, 8);
+                sides.rewrite(kind, rank, word, word.len() - 1, 8, 3);
+                sides.rewrite(kind, rank, word, 0, 8, 3);
+                sides.product_of_words(kind, rank, &[1], word, 8);
+                sides.better(kind, rank, word, &[1]);
+                sides.append(&[0, 0], kind, rank, word, 20);
+            }
+        }
+        let straight: Vec<i8> = (1..=lanes(kind, rank) as i8).collect();
+        let mut random = Random(u64::from(rank));
+        for length in [4095, 4096, 4097, 4098] {
+            let mut word = random.word(kind, rank, length);
+            word.resize(length, 1);
+            every_call(sides, kind, rank, &word, &straight, ROOM);
+            sides.rewrite(kind, rank, &word, length - 1, ROOM, 3);
+            sides.rewrite(kind, rank, &word, length - 2, ROOM, 3);
+            sides.rewrite(kind, rank, &word, length, ROOM, 3);
+            // A bad letter as well, at either end: 8 only if the length is right.
+            word[0] = 0;
+            every_call(sides, kind, rank, &word, &straight, ROOM);
+            word[0] = 1;
+            word[length - 1] = rank + 1;
+            every_call(sides, kind, rank, &word, &straight, ROOM);
+        }
+        for place in [0, 1, 2, 3, 4, 1 << 32, usize::MAX - 1, usize::MAX] {
+            sides.rewrite(kind, rank, &[1, 1, 1], place, 8, 3);
+            sides.rewrite(kind, rank, &[], place, 8, 3);
+        }
+    }
+    // Far beyond the limit.
+    for length in [65535, 65536, 65537, 1 << 20] {
+        every_call(sides, 2, 2, &vec![1; length], &[1, 2], ROOM);
+    }
+}
+
+pub fn entries(sides: &mut Sides) {
+    for (kind, rank) in rigs() {
+        let m = lanes(kind, rank);
+        for length in 0..=m + 3 {
+            let window: Vec<i8> = (1..=length as i8).collect();
+            sides.normal_form_of_window(kind, rank, &window, 8);
+            sides.product_of_windows(kind, rank, &window, &window, 40);
+            sides.inverse_of_window(kind, rank, &window, 40);
+            sides.length_of_window(kind, rank, &window);
+        }
+        sides.length_of_window(kind, rank, &vec![1; 300]);
+        sides.length_of_window(kind, rank, &vec![1; 256 + m]);
+        let straight: Vec<i8> = (1..=m as i8).collect();
+        for at in 0..m {
+            for value in i8::MIN..=i8::MAX {
+                let mut window = straight.clone();
+                window[at] = value;
+                sides.length_of_window(kind, rank, &window);
+                if rank < 7 || at == 0 || at == m - 1 {
+                    sides.normal_form_of_window(kind, rank, &window, 1024);
+                    sides.inverse_of_window(kind, rank, &window, 40);
+                    sides.product_of_windows(kind, rank, &straight, &window, m);
+                    sides.product_of_windows(kind, rank, &window, &straight, m);
+                }
+            }
+        }
+    }
+}
+
+pub fn order_of_checks(sides: &mut Sides) {
+    // Each part right, wrong in one way, or wrong in two.
+    let words: [&[u8]; 6] = [&[], &[1], &[1, 2], &[0], &[1; 4097], &[99; 4097]];
+    let windows: [&[i8]; 12] = [
+        &[1, 2, 3, 4],
+        &[4, 3, 2, 1],
+        &[-1, -2, 3, 4],
+        &[-1, 2, 3, 4],
+        &[-1, 2, 2, 4],
+        &[0, 2, 3, 4],
+        &[-5, 2, 3, 4],
+        &[-128, -2, -3, 4],
+        &[1, 2, 3],
+        &[-1, 2, 3],
+        &[0, 0, 0, 0, 0],
+        &[],
+    ];
+    let books: [&[u8]; 8] = [
+        &[],
+        &[0],
+        &[0, 0],
+        &[1, 0],
+        &[0, 0, 0],
+        &[2, 4, 1, 0, 9, 0, 0, 1, 0],
+        &[2, 4, 1, 0, 1, 0, 0, 1, 0],
+        &[9, 0, 1, 0, 0, 0, 0, 1, 0],
+    ];
+    for kind in 0..=4 {
+        for rank in [0, 1, 3, 4, 31, 32, 33] {
+            for first in words {
+                for second in words {
+                    for out in [0, 1, 2, 8] {
+                        sides.product_of_words(kind, rank, first, second, out);
+                    }
+                    sides.better(kind, rank, first, second);
+                    for (kind2, rank2) in [(kind, rank), (0, 4), (2, 0), (2, 4), (3, 4)] {
+                        sides.same((kind, rank, first), (kind2, rank2, second));
+                        sides.same((kind2, rank2, second), (kind, rank, first));
+                    }
+                }
+                for out in [0, 1, 2, 8] {
+                    for place in [0, 1, 2, 4096, 4097] {
+                        for rule in 0..=4 {
+                            sides.rewrite(kind, rank, first, place, out, rule);
+                        }
+                    }
+                    sides.inverse_of_word(kind, rank, first, out);
+                    sides.window_of_word(kind, rank, first, out);
+                }
+                for book in books {
+                    for out in [0, 7, 8, 9, 10, 20] {
+                        sides.append(book, kind, rank, first, out);
+                    }
+                }
+            }
+            for first in windows {
+                for second in windows {
+                    for out in [0, 3, 4, 5] {
+                        sides.product_of_windows(kind, rank, first, second, out);
+                    }
+                }
+                for out in [0, 3, 4, 5, 40] {
+                    sides.inverse_of_window(kind, rank, first, out);
+                    sides.normal_form_of_window(kind, rank, first, out);
+                }
+            }
+        }
+    }
+    for book in books {
+        for number in [0, 1, 2, usize::MAX] {
+            for fields in 0..=6 {
+                sides.preset(book, number, fields);
+            }
+        }
+        sides.book_check(book);
+    }
+}

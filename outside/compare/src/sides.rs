@@ -1,0 +1,220 @@
+//! Each call on both sides, with the answers and every byte of every output compared.
+use std::fmt::Debug;
+use winnathey::raw as rattle;
+
+/// What stands before and after each output, and in it before the call.
+const GUARD: usize = 24;
+
+/// A filling that differs from place to place, so that a shift shows.
+pub trait Fill: Copy + PartialEq + Debug {
+    fn fill(at: usize) -> Self;
+}
+
+impl Fill for u8 {
+    fn fill(at: usize) -> u8 {
+        (at as u8).wrapping_mul(37) ^ 0xa5
+    }
+}
+
+impl Fill for i8 {
+    fn fill(at: usize) -> i8 {
+        u8::fill(at) as i8
+    }
+}
+
+impl Fill for u64 {
+    fn fill(at: usize) -> u64 {
+        u64::from(u8::fill(at)) << 56 | at as u64
+    }
+}
+
+/// An output inside a longer filled list.
+struct Output<T> {
+    all: Vec<T>,
+    length: usize,
+}
+
+impl<T: Fill> Output<T> {
+    fn new() -> Output<T> {
+        Output { all: Vec::new(), length: 0 }
+    }
+
+    fn filled(&mut self, length: usize) -> &mut [T] {
+        self.all.clear();
+        self.all.extend((0..length + 2 * GUARD).map(T::fill));
+        self.length = length;
+        &mut self.all[GUARD..GUARD + length]
+    }
+
+    /// Whether all but the first `written` elements of the output are as they were.
+    fn kept(&self, written: usize) -> bool {
+        let old = |(at, &value): (usize, &T)| value == T::fill(at);
+        written <= self.length
+            && self.all[..GUARD].iter().enumerate().all(|(at, value)| old((at, value)))
+            && self.all.iter().enumerate().skip(GUARD + written).all(old)
+    }
+}
+
+/// The outputs of one side.
+pub struct Side {
+    bytes: Output<u8>,
+    rule: Output<u8>,
+    lanes: Output<i8>,
+    fields: Output<u64>,
+}
+
+impl Side {
+    fn new() -> Side {
+        Side { bytes: Output::new(), rule: Output::new(), lanes: Output::new(), fields: Output::new() }
+    }
+}
+
+pub struct Sides {
+    rattle: Side,
+    plain: Side,
+    /// Calls compared so far.
+    pub calls: u64,
+    pub differences: u64,
+}
+
+/// Room for the answer of any call on words and windows.
+pub const ROOM: usize = 4200;
+
+macro_rules! compared {
+    ($self:ident, $call:ident, ($($arg:expr),*), $($out:ident: $length:expr => $written:expr),*) => {{
+        let answer = rattle::$call($($arg,)* $($self.rattle.$out.filled($length)),*);
+        let expected = plain::$call($($arg,)* $($self.plain.$out.filled($length)),*);
+        let outputs = true $(&& $self.rattle.$out.all == $self.plain.$out.all)*;
+        // An accepted call writes the bytes of its answer and nothing else, any other call nothing.
+        let kept = true $(&& $self.rattle.$out.kept(if answer < 0 { 0 } else { $written(answer) }))*;
+        $self.noted(answer == expected && outputs && kept, || format!(
+            "{}{:?}: answers {answer} and {expected}, outputs {}{}",
+            stringify!($call), ($($arg,)* $($length,)*),
+            if outputs { "equal" } else { "DIFFERENT" },
+            if kept { "" } else { ", bytes outside the answer changed" },
+        ));
+        answer
+    }};
+}
+
+/// The answer is the number of elements written.
+fn whole(answer: i64) -> usize {
+    answer.max(0) as usize
+}
+
+impl Sides {
+    pub fn new() -> Sides {
+        Sides { rattle: Side::new(), plain: Side::new(), calls: 0, differences: 0 }
+    }
+
+    pub fn noted(&mut self, agreed: bool, told: impl FnOnce() -> String) {
+        self.calls += 1;
+        if !agreed {
+            self.differences += 1;
+            if self.differences <= 20 {
+                let mut told = told();
+                if told.len() > 2000 {
+                    told = format!("{} .. {}", &told[..1500], &told[told.len() - 400..]);
+                }
+                println!("DIFFERENT: {told}");
+            }
+        }
+    }
+
+    /// The bytes that the last call of the library wrote, where it writes bytes.
+    pub fn bytes(&self, length: i64) -> &[u8] {
+        &self.rattle.bytes.all[GUARD..GUARD + whole(length)]
+    }
+
+    pub fn rule(&self) -> &[u8] {
+        &self.rattle.rule.all[GUARD..GUARD + 3]
+    }
+
+    pub fn lanes(&self, length: i64) -> &[i8] {
+        &self.rattle.lanes.all[GUARD..GUARD + whole(length)]
+    }
+
+    pub fn fields(&self) -> &[u64] {
+        &self.rattle.fields.all[GUARD..GUARD + 4]
+    }
+
+    pub fn window_of_word(&mut self, kind: u8, rank: u8, word: &[u8], out: usize) -> i64 {
+        compared!(self, window_of_word, (kind, rank, word), lanes: out => whole)
+    }
+
+    pub fn normal_form_of_word(&mut self, kind: u8, rank: u8, word: &[u8], out: usize) -> i64 {
+        compared!(self, normal_form_of_word, (kind, rank, word), bytes: out => whole)
+    }
+
+    pub fn normal_form_of_window(&mut self, kind: u8, rank: u8, window: &[i8], out: usize) -> i64 {
+        compared!(self, normal_form_of_window, (kind, rank, window), bytes: out => whole)
+    }
+
+    pub fn product_of_words(&mut self, kind: u8, rank: u8, first: &[u8], second: &[u8], out: usize) -> i64 {
+        compared!(self, product_of_words, (kind, rank, first, second), bytes: out => whole)
+    }
+
+    pub fn product_of_windows(&mut self, kind: u8, rank: u8, first: &[i8], second: &[i8], out: usize) -> i64 {
+        compared!(self, product_of_windows, (kind, rank, first, second), lanes: out => whole)
+    }
+
+    pub fn inverse_of_word(&mut self, kind: u8, rank: u8, word: &[u8], out: usize) -> i64 {
+        compared!(self, inverse_of_word, (kind, rank, word), bytes: out => whole)
+    }
+
+    pub fn inverse_of_window(&mut self, kind: u8, rank: u8, window: &[i8], out: usize) -> i64 {
+        compared!(self, inverse_of_window, (kind, rank, window), lanes: out => whole)
+    }
+
+    pub fn length_of_word(&mut self, kind: u8, rank: u8, word: &[u8]) -> i64 {
+        compared!(self, length_of_word, (kind, rank, word),)
+    }
+
+    pub fn length_of_window(&mut self, kind: u8, rank: u8, window: &[i8]) -> i64 {
+        compared!(self, length_of_window, (kind, rank, window),)
+    }
+
+    pub fn same(&mut self, first: (u8, u8, &[u8]), second: (u8, u8, &[u8])) -> i64 {
+        compared!(self, same, (first.0, first.1, first.2, second.0, second.1, second.2),)
+    }
+
+    pub fn better(&mut self, kind: u8, rank: u8, first: &[u8], second: &[u8]) -> i64 {
+        compared!(self, better, (kind, rank, first, second),)
+    }
+
+    pub fn rewrite(&mut self, kind: u8, rank: u8, word: &[u8], place: usize, out: usize, rule: usize) -> i64 {
+        compared!(self, rewrite, (kind, rank, word, place), bytes: out => whole, rule: rule => |_| 3)
+    }
+
+    pub fn book_check(&mut self, book: &[u8]) -> i64 {
+        compared!(self, book_check, (book),)
+    }
+
+    pub fn preset(&mut self, book: &[u8], number: usize, fields: usize) -> i64 {
+        compared!(self, preset, (book, number), fields: fields => whole)
+    }
+
+    pub fn append(&mut self, book: &[u8], kind: u8, rank: u8, word: &[u8], out: usize) -> i64 {
+        compared!(self, append, (book, kind, rank, word), bytes: out => whole)
+    }
+
+    /// Runs a call with outputs of every interesting length: empty, one element, one too short, exact, one and many more.
+    pub fn each_length(&mut self, mut call: impl FnMut(&mut Sides, usize) -> i64) -> i64 {
+        let answer = call(self, ROOM);
+        if answer >= 0 {
+            let need = answer as usize;
+            let mut lengths = vec![0, 1, need.saturating_sub(1), need, need + 1, need + 50];
+            lengths.sort();
+            lengths.dedup();
+            for length in lengths {
+                let now = call(self, length);
+                let due = if length < need { -14 } else { answer };
+                self.noted(now == due, || format!("answer {now} and not {due} with an output of {length}"));
+                self.calls -= 1;
+            }
+        } else {
+            call(self, 0);
+        }
+        answer
+    }
+}
