@@ -46,5 +46,9 @@ fn main() -> ExitCode {
         random::run(sides, inputs, seed)
     });
     println!("{:>10} calls in all, {} different", sides.calls, sides.differences);
+    println!("answers: {} accepted, {} none fits", sides.accepted, sides.none_fits);
+    for (number, times) in sides.refused.iter().enumerate().skip(1) {
+        println!("{times:>10} times refusal {number}");
+    }
     if sides.differences == 0 { ExitCode::SUCCESS } else { ExitCode::FAILURE }
 }

@@ -74,6 +74,10 @@ pub struct Sides {
     plain: Side,
     /// Calls compared so far.
     pub calls: u64,
+    pub accepted: u64,
+    pub none_fits: u64,
+    /// How often each refusal was the answer, by its number.
+    pub refused: [u64; 15],
     pub differences: u64,
 }
 
@@ -87,6 +91,7 @@ macro_rules! compared {
         let outputs = true $(&& $self.rattle.$out.all == $self.plain.$out.all)*;
         // An accepted call writes the bytes of its answer and nothing else, any other call nothing.
         let kept = true $(&& $self.rattle.$out.kept(if answer < 0 { 0 } else { $written(answer) }))*;
+        $self.tally(answer);
         $self.noted(answer == expected && outputs && kept, || format!(
             "{}{:?}: answers {answer} and {expected}, outputs {}{}",
             stringify!($call), ($($arg,)* $($length,)*),
@@ -104,7 +109,27 @@ fn whole(answer: i64) -> usize {
 
 impl Sides {
     pub fn new() -> Sides {
-        Sides { rattle: Side::new(), plain: Side::new(), calls: 0, differences: 0 }
+        Sides {
+            rattle: Side::new(),
+            plain: Side::new(),
+            calls: 0,
+            accepted: 0,
+            none_fits: 0,
+            refused: [0; 15],
+            differences: 0,
+        }
+    }
+
+    fn tally(&mut self, answer: i64) {
+        match answer {
+            0.. => self.accepted += 1,
+            plain::NONE_FITS => self.none_fits += 1,
+            _ => {
+                if let Some(times) = self.refused.get_mut(answer.unsigned_abs() as usize) {
+                    *times += 1;
+                }
+            }
+        }
     }
 
     pub fn noted(&mut self, agreed: bool, told: impl FnOnce() -> String) {
