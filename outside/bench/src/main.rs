@@ -1,18 +1,20 @@
 //! Times the verified library against the plain Rust version, and prints Markdown tables.
 //!
-//! Both answer the same call on the same inputs, through functions that are not inlined here: the archive's, called
-//! over the C interface, and `plain`'s, at opt-level 3. Output buffers are made once and not cleared in between.
+//! Both answer the same call on the same inputs into the same outputs, through functions that are not inlined here: the
+//! archive's, called over the C interface, and `plain`'s, at opt-level 3. Outputs are not cleared in between.
+//! `bench WORD` times only the calls whose names have that word.
 use std::hint::black_box;
 use std::time::{Duration, Instant};
+use winnathey::raw as rattle;
 
-/// Inputs for one row: a run goes through all of them, so that the processor cannot learn a single one by heart.
+/// Inputs for one cell: a run goes through all of them, so that the processor cannot learn a single one by heart.
 const INPUTS: usize = 8;
 /// Runs of each side; they alternate, and the middle one counts.
 const SAMPLES: usize = 41;
 /// The least time of one run.
 const RUN: Duration = Duration::from_micros(400);
 
-const KINDS: [(u8, char, u8); 3] = [(1, 'A', 31), (2, 'B', 32), (3, 'D', 32)];
+const LETTERS: [usize; 3] = [16, 256, 4096];
 
 /// Random numbers with a fixed start.
 struct Random(u64);
@@ -35,344 +37,332 @@ impl Random {
     }
 
     fn windows(&mut self, kind: u8, rank: u8) -> Vec<Vec<i8>> {
-        self.words(rank, 4000)
-            .iter()
-            .map(|word| {
-                let mut window = vec![0; 32];
-                let lanes = plain::window_of_word(kind, rank, word, &mut window);
-                window.truncate(lanes as usize);
-                window
-            })
-            .collect()
+        let of = |word: &Vec<u8>| {
+            let mut window = vec![0; 32];
+            let lanes = plain::window_of_word(kind, rank, word, &mut window);
+            window.truncate(lanes as usize);
+            window
+        };
+        self.words(rank, 4000).iter().map(of).collect()
     }
 }
 
-struct Row {
+/// Where the calls write.
+struct Outputs {
+    lanes: Vec<i8>,
+    bytes: Vec<u8>,
+    rule: [u8; 3],
+    fields: [u64; 4],
+}
+
+/// The time of one call in nanoseconds, by its table, row and column.
+struct Cell {
     call: &'static str,
-    input: String,
+    row: String,
+    column: String,
     rattle: f64,
     plain: f64,
 }
 
 struct Bench {
     filter: String,
-    rows: Vec<Row>,
-}
-
-impl Bench {
-    /// Times both sides on inputs 0 to INPUTS - 1.
-    fn row(
-        &mut self,
-        call: &'static str,
-        input: String,
-        mut rattle: impl FnMut(usize) -> i64,
-        mut plain: impl FnMut(usize) -> i64,
-    ) {
-        if !call.contains(&self.filter) {
-            return;
-        }
-        for k in 0..INPUTS {
-            let (r, p) = (rattle(k), plain(k));
-            assert!(r == p && r >= 0, "{call}, {input}: the answers are {r} and {p}");
-        }
-        let rounds = rounds(&mut rattle).max(rounds(&mut plain));
-        let mut times = [Vec::new(), Vec::new()];
-        for _ in 0..SAMPLES {
-            times[0].push(run(&mut rattle, rounds));
-            times[1].push(run(&mut plain, rounds));
-        }
-        let [rattle, plain] = times.map(|mut times| {
-            times.sort_by(f64::total_cmp);
-            times[times.len() / 2]
-        });
-        self.rows.push(Row { call, input, rattle, plain });
-    }
+    outputs: Outputs,
+    cells: Vec<Cell>,
 }
 
 /// Nanoseconds for one call.
-fn run(call: &mut impl FnMut(usize) -> i64, rounds: usize) -> f64 {
+fn run(call: &mut impl FnMut(usize, &mut Outputs) -> i64, outputs: &mut Outputs, rounds: usize) -> f64 {
     let start = Instant::now();
     for _ in 0..rounds {
         for k in 0..INPUTS {
-            black_box(call(black_box(k)));
+            black_box(call(black_box(k), black_box(&mut *outputs)));
         }
     }
     start.elapsed().as_nanos() as f64 / (rounds * INPUTS) as f64
 }
 
 /// How many rounds fill the time of one run.
-fn rounds(call: &mut impl FnMut(usize) -> i64) -> usize {
+fn rounds(call: &mut impl FnMut(usize, &mut Outputs) -> i64, outputs: &mut Outputs) -> usize {
     let mut rounds = 1;
-    loop {
-        let time = run(call, rounds) * (rounds * INPUTS) as f64;
-        if time >= RUN.as_nanos() as f64 {
-            return rounds;
-        }
+    while run(call, outputs, rounds) * ((rounds * INPUTS) as f64) < RUN.as_nanos() as f64 {
         rounds *= 2;
+    }
+    rounds
+}
+
+impl Bench {
+    /// Times both sides on inputs 0 to INPUTS - 1.
+    fn cell(
+        &mut self,
+        call: &'static str,
+        row: impl ToString,
+        column: impl ToString,
+        mut rattle: impl FnMut(usize, &mut Outputs) -> i64,
+        mut plain: impl FnMut(usize, &mut Outputs) -> i64,
+    ) {
+        if !call.contains(&self.filter) {
+            return;
+        }
+        let outputs = &mut self.outputs;
+        for k in 0..INPUTS {
+            let (r, p) = (rattle(k, outputs), plain(k, outputs));
+            assert!(r == p && r >= 0, "{call}: the answers are {r} and {p}");
+        }
+        let rounds = rounds(&mut rattle, outputs).max(rounds(&mut plain, outputs));
+        let mut times = [Vec::new(), Vec::new()];
+        for _ in 0..SAMPLES {
+            times[0].push(run(&mut rattle, outputs, rounds));
+            times[1].push(run(&mut plain, outputs, rounds));
+        }
+        let [rattle, plain] = times.map(|mut times| {
+            times.sort_by(f64::total_cmp);
+            times[times.len() / 2]
+        });
+        self.cells.push(Cell { call, row: row.to_string(), column: column.to_string(), rattle, plain });
+    }
+
+    fn print(&self) {
+        let mut calls: Vec<&str> = self.cells.iter().map(|cell| cell.call).collect();
+        calls.dedup();
+        calls =
+            calls.iter().enumerate().filter(|(at, call)| !calls[..*at].contains(call)).map(|(_, call)| *call).collect();
+        println!("Time of Rattle / time of plain Rust:\n");
+        println!("| Call | lowest | middle | highest |");
+        println!("|---|--:|--:|--:|");
+        for call in &calls {
+            let mut ratios: Vec<f64> =
+                self.cells.iter().filter(|cell| cell.call == *call).map(|cell| cell.rattle / cell.plain).collect();
+            ratios.sort_by(f64::total_cmp);
+            let (lowest, highest) = (ratios[0], ratios[ratios.len() - 1]);
+            println!("| {call} | {lowest:.2} | {:.2} | {highest:.2} |", ratios[ratios.len() / 2]);
+        }
+        println!("\nNanoseconds for one call of Rattle, and in brackets the ratio:");
+        for call in &calls {
+            let cells: Vec<&Cell> = self.cells.iter().filter(|cell| cell.call == *call).collect();
+            let mut rows: Vec<&str> = Vec::new();
+            let mut columns: Vec<&str> = Vec::new();
+            for cell in &cells {
+                if !rows.contains(&cell.row.as_str()) {
+                    rows.push(&cell.row);
+                }
+                if !columns.contains(&cell.column.as_str()) {
+                    columns.push(&cell.column);
+                }
+            }
+            println!("\n| {call} | {} |", columns.join(" | "));
+            println!("|---|{}", "--:|".repeat(columns.len()));
+            for row in rows {
+                print!("| {row} |");
+                for column in &columns {
+                    match cells.iter().find(|cell| cell.row == row && cell.column == *column) {
+                        Some(cell) => print!(" {:.0} ({:.2}) |", cell.rattle, cell.rattle / cell.plain),
+                        None => print!(" |"),
+                    }
+                }
+                println!();
+            }
+        }
     }
 }
 
-/// A book of as many records of one length as fit.
-fn full_book(random: &mut Random, letters: usize) -> Vec<u8> {
-    let mut book = vec![0, 0];
-    let mut out = vec![0; 65535];
-    loop {
-        let word = random.word(8, letters);
-        let length = plain::append(&book, 2, 8, &word, &mut out);
-        if length < 0 {
-            return book;
-        }
-        book = out[..length as usize].to_vec();
+/// A book of as many records of one length as fit, but for those left out.
+fn full_book(random: &mut Random, letters: usize, left_out: usize) -> Vec<u8> {
+    let records = (65535 - 2) / (letters + 6) - left_out;
+    let mut book = Vec::new();
+    let mut offsets = Vec::new();
+    for _ in 0..records {
+        offsets.extend((book.len() as u16).to_le_bytes());
+        book.extend([2, 8]);
+        book.extend((letters as u16).to_le_bytes());
+        book.extend(random.word(8, letters));
     }
+    book.extend(offsets);
+    book.extend((records as u16).to_le_bytes());
+    book
 }
 
 fn main() {
     let filter = std::env::args().nth(1).unwrap_or_default();
+    let outputs = Outputs { lanes: vec![0; 32], bytes: vec![0; 65535], rule: [0; 3], fields: [0; 4] };
+    let mut bench = Bench { filter, outputs, cells: Vec::new() };
     let mut random = Random(2026);
-    let mut bench = Bench { filter, rows: Vec::new() };
-    use winnathey::raw as rattle;
 
-    // Outputs of the two sides.
-    let (mut wide, mut wide2) = ([0i8; 32], [0i8; 32]);
-    let (mut out, mut out2) = (vec![0u8; 65535], vec![0u8; 65535]);
-    let (mut rule, mut rule2) = ([0u8; 3], [0u8; 3]);
-    let (mut fields, mut fields2) = ([0u64; 4], [0u64; 4]);
-
-    let mut rigs = Vec::new();
     for rank in [4, 16, 32] {
-        for (kind, name, most) in KINDS {
-            rigs.push((kind, rank.min(most), format!("{name}{}", rank.min(most))));
+        for (kind, name, most) in [(1, "A", 31), (2, "B", 32), (3, "D", 32)] {
+            let rank = rank.min(most);
+            let rig = format!("{name}{rank}");
+            words(&mut bench, &mut random, kind, rank, &rig);
+            windows(&mut bench, &mut random, kind, rank, &rig);
+            rewrites(&mut bench, &mut random, kind, rank, &rig);
         }
     }
+    books(&mut bench, &mut random);
+    bench.print();
+}
 
-    for &(kind, rank, ref rig) in &rigs {
-        for letters in [16, 256, 4096] {
-            let words = random.words(rank, letters);
-            bench.row(
-                "window of a word",
-                format!("{rig}, {letters} letters"),
-                |k| rattle::window_of_word(kind, rank, black_box(&words[k]), black_box(&mut wide)),
-                |k| plain::window_of_word(kind, rank, black_box(&words[k]), black_box(&mut wide2)),
-            );
-        }
-    }
-    for &(kind, rank, ref rig) in &rigs {
-        for letters in [16, 256, 4096] {
-            let words = random.words(rank, letters);
-            bench.row(
-                "normal form of a word",
-                format!("{rig}, {letters} letters"),
-                |k| rattle::normal_form_of_word(kind, rank, black_box(&words[k]), black_box(&mut out)),
-                |k| plain::normal_form_of_word(kind, rank, black_box(&words[k]), black_box(&mut out2)),
-            );
-        }
-    }
-    for &(kind, rank, ref rig) in &rigs {
-        let windows = random.windows(kind, rank);
-        bench.row(
-            "normal form of a window",
-            rig.clone(),
-            |k| rattle::normal_form_of_window(kind, rank, black_box(&windows[k]), black_box(&mut out)),
-            |k| plain::normal_form_of_window(kind, rank, black_box(&windows[k]), black_box(&mut out2)),
+fn words(bench: &mut Bench, random: &mut Random, kind: u8, rank: u8, rig: &str) {
+    for letters in LETTERS {
+        let column = format!("{letters} letters");
+        let words = random.words(rank, letters);
+        let word = |k: usize| black_box(&words[k][..]);
+        let other = |k: usize| black_box(&words[INPUTS - 1 - k][..]);
+        // Each word's normal form, so that the verdict on the two is yes.
+        let form_of = |word: &Vec<u8>| {
+            let mut form = vec![0; 1024];
+            let length = plain::normal_form_of_word(kind, rank, word, &mut form);
+            form.truncate(length as usize);
+            form
+        };
+        let forms: Vec<Vec<u8>> = words.iter().map(form_of).collect();
+        let form = |k: usize| black_box(&forms[k][..]);
+        bench.cell(
+            "window of a word",
+            rig,
+            &column,
+            |k, out| rattle::window_of_word(kind, rank, word(k), &mut out.lanes),
+            |k, out| plain::window_of_word(kind, rank, word(k), &mut out.lanes),
         );
-    }
-    for &(kind, rank, ref rig) in &rigs {
-        for letters in [16, 256, 4096] {
-            let words = random.words(rank, letters);
-            bench.row(
-                "length of a word",
-                format!("{rig}, {letters} letters"),
-                |k| rattle::length_of_word(kind, rank, black_box(&words[k])),
-                |k| plain::length_of_word(kind, rank, black_box(&words[k])),
-            );
-        }
-    }
-    for &(kind, rank, ref rig) in &rigs {
-        let windows = random.windows(kind, rank);
-        bench.row(
-            "length of a window",
-            rig.clone(),
-            |k| rattle::length_of_window(kind, rank, black_box(&windows[k])),
-            |k| plain::length_of_window(kind, rank, black_box(&windows[k])),
+        bench.cell(
+            "normal form of a word",
+            rig,
+            &column,
+            |k, out| rattle::normal_form_of_word(kind, rank, word(k), &mut out.bytes),
+            |k, out| plain::normal_form_of_word(kind, rank, word(k), &mut out.bytes),
         );
-    }
-    for &(kind, rank, ref rig) in &rigs {
-        let windows = random.windows(kind, rank);
-        bench.row(
-            "product of windows",
-            rig.clone(),
-            |k| {
-                rattle::product_of_windows(
-                    kind,
-                    rank,
-                    black_box(&windows[k]),
-                    black_box(&windows[INPUTS - 1 - k]),
-                    black_box(&mut wide),
-                )
-            },
-            |k| {
-                plain::product_of_windows(
-                    kind,
-                    rank,
-                    black_box(&windows[k]),
-                    black_box(&windows[INPUTS - 1 - k]),
-                    black_box(&mut wide2),
-                )
-            },
+        bench.cell(
+            "length of a word",
+            rig,
+            &column,
+            |k, _| rattle::length_of_word(kind, rank, word(k)),
+            |k, _| plain::length_of_word(kind, rank, word(k)),
         );
-        bench.row(
-            "inverse of a window",
-            rig.clone(),
-            |k| rattle::inverse_of_window(kind, rank, black_box(&windows[k]), black_box(&mut wide)),
-            |k| plain::inverse_of_window(kind, rank, black_box(&windows[k]), black_box(&mut wide2)),
+        bench.cell(
+            "product of two words",
+            rig,
+            &column,
+            |k, out| rattle::product_of_words(kind, rank, word(k), other(k), &mut out.bytes),
+            |k, out| plain::product_of_words(kind, rank, word(k), other(k), &mut out.bytes),
         );
-    }
-    for &(kind, rank, ref rig) in &rigs {
-        let words = random.words(rank, 256);
-        bench.row(
-            "product of words",
-            format!("{rig}, 256 letters each"),
-            |k| {
-                rattle::product_of_words(
-                    kind,
-                    rank,
-                    black_box(&words[k]),
-                    black_box(&words[INPUTS - 1 - k]),
-                    black_box(&mut out),
-                )
-            },
-            |k| {
-                plain::product_of_words(
-                    kind,
-                    rank,
-                    black_box(&words[k]),
-                    black_box(&words[INPUTS - 1 - k]),
-                    black_box(&mut out2),
-                )
-            },
-        );
-        bench.row(
+        bench.cell(
             "inverse of a word",
-            format!("{rig}, 256 letters"),
-            |k| rattle::inverse_of_word(kind, rank, black_box(&words[k]), black_box(&mut out)),
-            |k| plain::inverse_of_word(kind, rank, black_box(&words[k]), black_box(&mut out2)),
+            rig,
+            &column,
+            |k, out| rattle::inverse_of_word(kind, rank, word(k), &mut out.bytes),
+            |k, out| plain::inverse_of_word(kind, rank, word(k), &mut out.bytes),
         );
-        // Each word against its normal form, so that the answer is yes.
-        let forms: Vec<Vec<u8>> = words
-            .iter()
-            .map(|word| {
-                let mut form = vec![0; 1024];
-                let length = plain::normal_form_of_word(kind, rank, word, &mut form);
-                form.truncate(length as usize);
-                form
-            })
-            .collect();
-        bench.row(
-            "same",
-            format!("{rig}, 256 letters and their normal form"),
-            |k| rattle::same(kind, rank, black_box(&words[k]), kind, rank, black_box(&forms[k])),
-            |k| plain::same(kind, rank, black_box(&words[k]), kind, rank, black_box(&forms[k])),
+        bench.cell(
+            "verdict on a word and its normal form",
+            rig,
+            &column,
+            |k, _| rattle::same(kind, rank, word(k), kind, rank, form(k)),
+            |k, _| plain::same(kind, rank, word(k), kind, rank, form(k)),
         );
-        bench.row(
-            "better",
-            format!("{rig}, 256 letters and their normal form"),
-            |k| rattle::better(kind, rank, black_box(&words[k]), black_box(&forms[k])),
-            |k| plain::better(kind, rank, black_box(&words[k]), black_box(&forms[k])),
+        bench.cell(
+            "better of a word and its normal form",
+            rig,
+            &column,
+            |k, _| rattle::better(kind, rank, word(k), form(k)),
+            |k, _| plain::better(kind, rank, word(k), form(k)),
         );
     }
-    for &(kind, rank, ref rig) in &rigs {
-        for letters in [16, 4096] {
-            let mut words = random.words(rank, letters);
-            // A commuting pair at both ends.
-            for word in &mut words {
-                word[..2].copy_from_slice(&[1, 3]);
-                word[letters - 2..].copy_from_slice(&[1, 3]);
-            }
-            for (place, name) in [(0, "start"), (letters - 2, "end")] {
-                bench.row(
-                    "one rewrite",
-                    format!("{rig}, {letters} letters, at the {name}"),
-                    |k| {
-                        rattle::rewrite(
-                            kind,
-                            rank,
-                            black_box(&words[k]),
-                            place,
-                            black_box(&mut out),
-                            black_box(&mut rule),
-                        )
-                    },
-                    |k| {
-                        plain::rewrite(
-                            kind,
-                            rank,
-                            black_box(&words[k]),
-                            place,
-                            black_box(&mut out2),
-                            black_box(&mut rule2),
-                        )
-                    },
-                );
-            }
-            if letters == 4096 && rank > 4 {
-                // The longest left side: a whole block of family 3 (A) or 4 (B, D).
-                for word in &mut words {
-                    let mut at = 0;
-                    let n = rank;
-                    let mut put = |step| {
-                        word[at] = step;
-                        at += 1;
-                    };
-                    match kind {
-                        1 => (1..=n).chain([1]).for_each(&mut put),
-                        2 => (1..=n).chain((1..n).rev()).chain([2]).for_each(&mut put),
-                        _ => (1..=n - 2).chain([n]).chain((1..n).rev()).chain([2]).for_each(&mut put),
-                    }
-                }
-                bench.row(
-                    "one rewrite",
-                    format!("{rig}, {letters} letters, at the start, longest left side"),
-                    |k| rattle::rewrite(kind, rank, black_box(&words[k]), 0, black_box(&mut out), black_box(&mut rule)),
-                    |k| {
-                        plain::rewrite(kind, rank, black_box(&words[k]), 0, black_box(&mut out2), black_box(&mut rule2))
-                    },
-                );
-            }
-        }
-    }
-    for letters in [0, 10, 4096] {
-        let book = full_book(&mut random, letters);
-        let presets = plain::book_check(&book) as usize;
-        let words = random.words(8, letters);
-        bench.row(
-            "checking a full book",
-            format!("{presets} records of {letters} letters"),
-            |_| rattle::book_check(black_box(&book)),
-            |_| plain::book_check(black_box(&book)),
-        );
-        bench.row(
-            "a preset of a full book",
-            format!("{presets} records of {letters} letters"),
-            |k| rattle::preset(black_box(&book), presets * k / INPUTS, black_box(&mut fields)),
-            |k| plain::preset(black_box(&book), presets * k / INPUTS, black_box(&mut fields2)),
-        );
-        // One record less, so that there is room for it.
-        let mut short = book[..book.len() - 2 * presets - 2 - 4 - letters].to_vec();
-        for number in 0..presets - 1 {
-            short.extend(((number * (4 + letters)) as u16).to_le_bytes());
-        }
-        short.extend(((presets - 1) as u16).to_le_bytes());
-        bench.row(
-            "appending to a full book",
-            format!("{presets} records of {letters} letters then"),
-            |k| rattle::append(black_box(&short), 2, 8, black_box(&words[k]), black_box(&mut out)),
-            |k| plain::append(black_box(&short), 2, 8, black_box(&words[k]), black_box(&mut out2)),
-        );
-    }
+}
 
-    println!("| Call | Input | Rattle, ns | plain Rust, ns | Rattle / plain Rust |");
-    println!("|---|---|--:|--:|--:|");
-    for Row { call, input, rattle, plain } in &bench.rows {
-        println!("| {call} | {input} | {rattle:.0} | {plain:.0} | {:.2} |", rattle / plain);
+fn windows(bench: &mut Bench, random: &mut Random, kind: u8, rank: u8, rig: &str) {
+    let windows = random.windows(kind, rank);
+    let window = |k: usize| black_box(&windows[k][..]);
+    let other = |k: usize| black_box(&windows[INPUTS - 1 - k][..]);
+    let call = "a random window";
+    bench.cell(
+        call,
+        rig,
+        "normal form",
+        |k, out| rattle::normal_form_of_window(kind, rank, window(k), &mut out.bytes),
+        |k, out| plain::normal_form_of_window(kind, rank, window(k), &mut out.bytes),
+    );
+    bench.cell(
+        call,
+        rig,
+        "length",
+        |k, _| rattle::length_of_window(kind, rank, window(k)),
+        |k, _| plain::length_of_window(kind, rank, window(k)),
+    );
+    bench.cell(
+        call,
+        rig,
+        "product with another",
+        |k, out| rattle::product_of_windows(kind, rank, window(k), other(k), &mut out.lanes),
+        |k, out| plain::product_of_windows(kind, rank, window(k), other(k), &mut out.lanes),
+    );
+    bench.cell(
+        call,
+        rig,
+        "inverse",
+        |k, out| rattle::inverse_of_window(kind, rank, window(k), &mut out.lanes),
+        |k, out| plain::inverse_of_window(kind, rank, window(k), &mut out.lanes),
+    );
+}
+
+fn rewrites(bench: &mut Bench, random: &mut Random, kind: u8, rank: u8, rig: &str) {
+    let mut cell = |column: String, words: &[Vec<u8>], place: usize| {
+        bench.cell(
+            "one rewrite",
+            rig,
+            column,
+            |k, out| rattle::rewrite(kind, rank, black_box(&words[k]), place, &mut out.bytes, &mut out.rule),
+            |k, out| plain::rewrite(kind, rank, black_box(&words[k]), place, &mut out.bytes, &mut out.rule),
+        );
+    };
+    for letters in [16, 4096] {
+        let mut words = random.words(rank, letters);
+        // A pair that commutes, at both ends.
+        for word in &mut words {
+            word[..2].copy_from_slice(&[1, 3]);
+            word[letters - 2..].copy_from_slice(&[1, 3]);
+        }
+        cell(format!("{letters} letters, start"), &words, 0);
+        cell(format!("{letters} letters, end"), &words, letters - 2);
+    }
+    // The longest left side: family 3 in A, 4 in B and D.
+    let mut words = random.words(rank, 4096);
+    let left: Vec<u8> = match kind {
+        1 => (1..=rank).chain([1]).collect(),
+        2 => (1..=rank).chain((1..rank).rev()).chain([2]).collect(),
+        _ => (1..=rank - 2).chain([rank]).chain((1..rank).rev()).chain([2]).collect(),
+    };
+    for word in &mut words {
+        word[..left.len()].copy_from_slice(&left);
+    }
+    cell("4096 letters, start, longest left side".to_string(), &words, 0);
+}
+
+fn books(bench: &mut Bench, random: &mut Random) {
+    let call = "a full book of 65,535 bytes at most";
+    for letters in [0, 10, 4096] {
+        let book = full_book(random, letters, 0);
+        let presets = plain::book_check(&book) as usize;
+        let row = format!("{presets} records of {letters} letters");
+        bench.cell(
+            call,
+            &row,
+            "check",
+            |_, _| rattle::book_check(black_box(&book)),
+            |_, _| plain::book_check(black_box(&book)),
+        );
+        bench.cell(
+            call,
+            &row,
+            "read a preset",
+            |k, out| rattle::preset(black_box(&book), presets * k / INPUTS, &mut out.fields),
+            |k, out| plain::preset(black_box(&book), presets * k / INPUTS, &mut out.fields),
+        );
+        let short = full_book(random, letters, 1);
+        let words = random.words(8, letters);
+        bench.cell(
+            call,
+            &row,
+            "append the last record",
+            |k, out| rattle::append(black_box(&short), 2, 8, black_box(&words[k]), &mut out.bytes),
+            |k, out| plain::append(black_box(&short), 2, 8, black_box(&words[k]), &mut out.bytes),
+        );
     }
 }
