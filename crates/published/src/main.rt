@@ -1,0 +1,22 @@
+// Checks the rules that source document 001 publishes and the examples of source document 000 and of document 01, by calls of the library,
+// and prints a line for each group: its count, or the first case that does not hold.
+mod calls;
+mod cases;
+mod limits;
+mod outputs;
+mod presentation;
+mod presented;
+mod rules;
+mod tally;
+mod windows;
+mod words;
+mod worked;
+
+fn main() {
+    presented::report();
+    worked::report();
+    limits::report_limits();
+    limits::report_inputs();
+    outputs::report();
+    limits::report_order();
+}
