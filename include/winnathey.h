@@ -54,63 +54,63 @@ extern "C" {
 /* ---- words */
 
 /* The window of a word. Answers the number of its entries. */
-int64_t winnathey_window_of_word(uint8_t kind, uint8_t rank, const uint8_t *word, size_t word_length, int8_t *out, size_t out_length);
+int64_t winnathey_window_of_word(uint8_t kind, uint8_t rank, const uint8_t *word, size_t word_len, int8_t *out, size_t out_len);
 
 /* The normal form of a word: the shortest word with its window, and among those the first in the dictionary. Answers its length. */
-int64_t winnathey_normal_form_of_word(uint8_t kind, uint8_t rank, const uint8_t *word, size_t word_length, uint8_t *out, size_t out_length);
+int64_t winnathey_normal_form_of_word(uint8_t kind, uint8_t rank, const uint8_t *word, size_t word_len, uint8_t *out, size_t out_len);
 
 /* The product of two words, the first followed by the second, as a normal form. Answers its length. */
-int64_t winnathey_product_of_words(uint8_t kind, uint8_t rank, const uint8_t *first, size_t first_length, const uint8_t *second, size_t second_length,
-                                   uint8_t *out, size_t out_length);
+int64_t winnathey_product_of_words(uint8_t kind, uint8_t rank, const uint8_t *first, size_t first_len, const uint8_t *second, size_t second_len,
+                                   uint8_t *out, size_t out_len);
 
 /* The inverse of a word, as a normal form. Answers its length. */
-int64_t winnathey_inverse_of_word(uint8_t kind, uint8_t rank, const uint8_t *word, size_t word_length, uint8_t *out, size_t out_length);
+int64_t winnathey_inverse_of_word(uint8_t kind, uint8_t rank, const uint8_t *word, size_t word_len, uint8_t *out, size_t out_len);
 
 /* The length of a word's normal form. */
-int64_t winnathey_length_of_word(uint8_t kind, uint8_t rank, const uint8_t *word, size_t word_length);
+int64_t winnathey_length_of_word(uint8_t kind, uint8_t rank, const uint8_t *word, size_t word_len);
 
 /* Whether two presets have one kind, rank and window: 1 is yes, 0 is no. */
-int64_t winnathey_same(uint8_t kind1, uint8_t rank1, const uint8_t *word1, size_t word1_length, uint8_t kind2, uint8_t rank2, const uint8_t *word2,
-                       size_t word2_length);
+int64_t winnathey_same(uint8_t kind1, uint8_t rank1, const uint8_t *word1, size_t len1, uint8_t kind2, uint8_t rank2, const uint8_t *word2,
+                       size_t len2);
 
 /* The better of two words with one window: the shorter, at equal lengths the one earlier in the dictionary, at equal words the first. 1 is the first,
    2 the second; 0 where the windows differ or a check refuses. It gives no refusal: winnathey_same does. */
-int64_t winnathey_better(uint8_t kind, uint8_t rank, const uint8_t *first, size_t first_length, const uint8_t *second, size_t second_length);
+int64_t winnathey_better(uint8_t kind, uint8_t rank, const uint8_t *first, size_t first_len, const uint8_t *second, size_t second_len);
 
 /* ---- windows */
 
 /* The normal form of a window. Answers its length. */
-int64_t winnathey_normal_form_of_window(uint8_t kind, uint8_t rank, const int8_t *window, size_t window_length, uint8_t *out, size_t out_length);
+int64_t winnathey_normal_form_of_window(uint8_t kind, uint8_t rank, const int8_t *window, size_t window_len, uint8_t *out, size_t out_len);
 
 /* The product of two windows: its entry at i is the first's entry at the second's entry at i. Answers the number of its entries. */
-int64_t winnathey_product_of_windows(uint8_t kind, uint8_t rank, const int8_t *first, size_t first_length, const int8_t *second, size_t second_length,
-                                     int8_t *out, size_t out_length);
+int64_t winnathey_product_of_windows(uint8_t kind, uint8_t rank, const int8_t *first, size_t first_len, const int8_t *second, size_t second_len,
+                                     int8_t *out, size_t out_len);
 
 /* The inverse of a window. Answers the number of its entries. */
-int64_t winnathey_inverse_of_window(uint8_t kind, uint8_t rank, const int8_t *window, size_t window_length, int8_t *out, size_t out_length);
+int64_t winnathey_inverse_of_window(uint8_t kind, uint8_t rank, const int8_t *window, size_t window_len, int8_t *out, size_t out_len);
 
 /* The length of a window's normal form. */
-int64_t winnathey_length_of_window(uint8_t kind, uint8_t rank, const int8_t *window, size_t window_length);
+int64_t winnathey_length_of_window(uint8_t kind, uint8_t rank, const int8_t *window, size_t window_len);
 
 /* ---- one rewrite */
 
 /* One rewrite of a word at a place, which counts from 0. The new word goes to out; the family, i and j of the rule used go to the first three
    bytes of rule. Answers the new word's length, or WINNATHEY_NONE_FITS. Refusal 14 concerns both outputs, and comes before either is written. */
-int64_t winnathey_rewrite(uint8_t kind, uint8_t rank, const uint8_t *word, size_t word_length, size_t place, uint8_t *out, size_t out_length,
-                          uint8_t *rule, size_t rule_length);
+int64_t winnathey_rewrite(uint8_t kind, uint8_t rank, const uint8_t *word, size_t word_len, size_t place, uint8_t *out, size_t out_len,
+                          uint8_t *rule, size_t rule_len);
 
 /* ---- preset books */
 
 /* Checks 1 to 3 of a book. Answers the number of its presets. */
-int64_t winnathey_book_check(const uint8_t *book, size_t book_length);
+int64_t winnathey_book_check(const uint8_t *book, size_t book_len);
 
 /* Checks 1 to 8 of the preset with this number, from 0, and its four fields: kind, rank, the offset of its letters in the book, their count.
    Answers 4. */
-int64_t winnathey_preset(const uint8_t *book, size_t book_length, size_t number, uint64_t *fields, size_t fields_length);
+int64_t winnathey_preset(const uint8_t *book, size_t book_len, size_t number, uint64_t *fields, size_t fields_len);
 
 /* Appends a preset to a book: the whole new book goes to out. Answers its length. */
-int64_t winnathey_append(const uint8_t *book, size_t book_length, uint8_t kind, uint8_t rank, const uint8_t *word, size_t word_length, uint8_t *out,
-                         size_t out_length);
+int64_t winnathey_append(const uint8_t *book, size_t book_len, uint8_t kind, uint8_t rank, const uint8_t *word, size_t word_len, uint8_t *out,
+                         size_t out_len);
 
 #ifdef __cplusplus
 }

@@ -20,10 +20,11 @@ fn limits_of(tally: Tally, kind: u8, n: u8) -> Tally
     cases::two_words(t, good, above, 8)
 }
 
-fn limits() -> Tally {
+pub(crate) fn limits() {
     let t = cases::all(Tally::new(), Input::new(1, 31), 0);
     let t = cases::all(t, Input::new(1, 32), 6);
-    limits_of(limits_of(limits_of(t, 1, 31), 2, 32), 3, 32)
+    let t = limits_of(limits_of(limits_of(t, 1, 31), 2, 32), 3, 32);
+    t.cases(b"A 31 and 32, 4096 and 4097 letters, letters n and n + 1");
 }
 
 // The ranks at both ends of a kind's range, those next to them, and the greatest byte.
@@ -47,9 +48,10 @@ fn kind_of(tally: Tally, kind: u8) -> Tally {
     cases::presets(t, Input::new(2, 4), Input::new(kind, 4), 5)
 }
 
-fn kinds_and_ranks() -> Tally {
+pub(crate) fn kinds_and_ranks() {
     let t = kind_of(kind_of(kind_of(Tally::new(), 0), 4), 255);
-    ranks_of(ranks_of(ranks_of(t, 1, 1, 31), 2, 2, 32), 3, 4, 32)
+    let t = ranks_of(ranks_of(ranks_of(t, 1, 1, 31), 2, 2, 32), 3, 4, 32);
+    t.cases(b"bad kinds and ranks");
 }
 
 // The empty word is accepted, but has no place.
@@ -80,8 +82,9 @@ fn letters_of(tally: Tally, kind: u8, n: u8) -> Tally {
     cases::rewrite(t, good.output(3, 4104), 12)
 }
 
-fn letters() -> Tally {
-    letters_of(letters_of(letters_of(Tally::new(), 1, 31), 2, 32), 3, 32)
+pub(crate) fn letters() {
+    let t = letters_of(letters_of(letters_of(Tally::new(), 1, 31), 2, 32), 3, 32);
+    t.cases(b"bad letters and lengths of words");
 }
 
 // A window with a fault, as the first window and as the second.
@@ -111,13 +114,14 @@ fn windows_of(tally: Tally, good: Input, m: usize, above: i8, negative: u8) -> T
     entries_of(t, good, m, above)
 }
 
-fn bad_windows() -> Tally {
+pub(crate) fn bad_windows() {
     let t = windows_of(Tally::new(), Input::new(1, 3), 4, 5, 10);
     let t = windows_of(t, Input::new(1, 31), 32, 33, 10);
     let t = windows_of(t, Input::new(2, 2), 2, 3, 0);
     let t = windows_of(t, Input::new(2, 32), 32, 33, 0);
     let t = windows_of(t, Input::new(3, 4), 4, 5, 11);
-    windows_of(t, Input::new(3, 32), 32, 33, 11)
+    let t = windows_of(t, Input::new(3, 32), 32, 33, 11);
+    t.cases(b"bad windows");
 }
 
 // Where two faults meet the earlier check decides, and the first word's before the second's. `low` has a rank below the range.
@@ -145,26 +149,12 @@ fn order_of(tally: Tally, good: Input, low: Input) -> Tally {
     order_of_windows(order_of_words(tally, good, low), good)
 }
 
-fn order() -> Tally {
+pub(crate) fn order() {
     let d4 = Input::new(3, 4);
     let odd = d4.window(4, 0, -1).output(0, 0);
     let t = cases::windows(Tally::new(), odd, d4.window(3, 0, 0), 11);
     let t = cases::all(t, Input::new(0, 0), 5);
     let t = order_of(t, Input::new(1, 3), Input::new(1, 0));
     let t = order_of(t, Input::new(2, 4), Input::new(2, 1));
-    order_of(t, d4, Input::new(3, 3))
-}
-
-pub(crate) fn report_limits() {
-    limits().cases(b"A 31 and 32, 4096 and 4097 letters, letters n and n + 1");
-    kinds_and_ranks().cases(b"bad kinds and ranks");
-}
-
-pub(crate) fn report_inputs() {
-    letters().cases(b"bad letters and lengths of words");
-    bad_windows().cases(b"bad windows");
-}
-
-pub(crate) fn report_order() {
-    order().cases(b"order of the checks");
+    order_of(t, d4, Input::new(3, 3)).cases(b"order of the checks");
 }

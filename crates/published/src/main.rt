@@ -13,10 +13,12 @@ mod words;
 mod worked;
 
 fn main() {
-    presented::report();
-    worked::report();
-    limits::report_limits();
-    limits::report_inputs();
-    outputs::report();
-    limits::report_order();
+    presented::published_rules();
+    worked::worked_examples();
+    limits::limits();
+    limits::kinds_and_ranks();
+    limits::letters();
+    limits::bad_windows();
+    outputs::outputs();
+    limits::order();
 }

@@ -39,7 +39,7 @@ fn outputs_of(tally: Tally, a: Input, w: &[i8], k: usize) -> Tally
     window_rooms(t, calls::PRODUCT_OF_WINDOWS, a, w)
 }
 
-pub(crate) fn report() {
+pub(crate) fn outputs() {
     let t = outputs_of(Tally::new(), Input::new(1, 3), &[2, 1, 4, 3], 2);
     let t = outputs_of(t, Input::new(2, 4), &[2, 1, 4, -3], 3);
     let t = outputs_of(t, Input::new(3, 4), &[2, 1, -4, -3], 2);

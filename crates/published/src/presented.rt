@@ -186,7 +186,7 @@ fn all_ours() -> Tally {
     t
 }
 
-pub(crate) fn report() {
+pub(crate) fn published_rules() {
     presentation(Tally::new(), 4).report(b"CP(4)", b" rules hold\n");
     all_presentations().report(b"CP(n), n = 4 to 32", b" rules hold\n");
     all_ours().report(b"D rules, n = 4 to 32", b" rules, each one of CP(n)\n");

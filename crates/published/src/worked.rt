@@ -192,7 +192,7 @@ fn window_product(t: Tally, row: usize) -> Tally
     )
 }
 
-pub(crate) fn report() {
+pub(crate) fn worked_examples() {
     let t = word_product(word_product(examples(), 0), 3);
     let t = window_product(window_product(t, 0), 3);
     t.cases(b"Examples 2 to 4");
