@@ -12,8 +12,8 @@ use native.Mathlib.Decide.{ℕ-discrete}
 use native.Mathlib.Omega.{arith}
 use lib.Dec.{ltb}
 use lib.IntN.{ℤ, pos, negℤ, natAbs}
-use lib.ListN.{length, length-drop, length-map, getD, set, take, drop, drop-of-length-le, List·getD-map}
-use lib.Seq.{take-all, take-add, take-suc, take-suc-set, getD-take}
+use lib.ListN.{length, length-append, length-drop, length-map, getD, set, take, drop, drop-of-length-le, List·getD-map}
+use lib.Seq.{take-all, take-at, take-add, take-suc, take-suc-set, getD-take}
 use Rattle.window.specs.Kinds.{Kind, A, B, D, pick, kindOf, lanes}
 use Rattle.window.specs.Length.{later, negative, one, laterThan, inversions, negativeSumPairs, negatives, windowLength}
 use Rattle.window.specs.Checks.{windowRefusal}
@@ -30,10 +30,16 @@ sized-next i s w out h g e q =
     let l : i < length (map natAbs w) = omega (arith, length-map w natAbs) in
     rw (add-one, take-suc-set out i s g, take-suc (map natAbs w) i 0 l, List·getD-map natAbs w i (pos 0), e, q)
 
-pub sized-end : (i : ℕ) (w : List ℤ) (out : List ℕ) → i ≤ length w → length w ≤ i → take i out ≡ take i (map natAbs w) → take (length w) out ≡ map natAbs w
-sized-end i w out a b q =
-    let e : length w ≡ i = omega arith in
-    ap (λ (x : ℕ). take x out) e ∙ q ∙ take-all i (map natAbs w) (omega (arith, length-map w natAbs))
+pub sized-end : (i : ℕ) (w : List ℤ) (out : List ℕ) → i ≤ length w → length w ≤ i → length out ≡ length w → take i out ≡ take i (map natAbs w)
+    → out ≡ map natAbs w
+sized-end i w out a b l q = sym (take-all i out (omega arith)) ∙ q ∙ take-all i (map natAbs w) (omega (arith, length-map w natAbs))
+
+-- sizes stored at the front of a work array
+pub sizes-stored : (w : List ℤ) (v work : List ℕ) → length work ≡ 64 → length w ≤ 64 → v ≡ map natAbs w
+    → (length (v ++ drop (length w) work) ≡ 64) × (take (length w) (v ++ drop (length w) work) ≡ map natAbs w)
+sizes-stored w v work l h e =
+    let c : length v ≡ length w = ap length e ∙ length-map w natAbs in
+    (length-append v (drop (length w) work) ∙ omega (arith, length-drop (length w) work), take-at v (drop (length w) work) (length w) c ∙ e)
 
 drop-map : {X Y : Type 0} (f : X → Y) (a : ℕ) (l : List X) → drop a (map f l) ≡ map f (drop a l)
 drop-map f zero l = refl

@@ -5,7 +5,7 @@ ghost use mathlib.Core.Path.{_≡_};
 ghost use mathlib.Core.List.{map};
 ghost use Prim.Native.Nat.{_+_, _≤_};
 ghost use lib.IntN.{natAbs, pos};
-ghost use lib.ListN.{length, take};
+ghost use lib.ListN.{length};
 ghost use Rattle.window.specs.Kinds.{B, kindOf, lanes};
 ghost use Rattle.window.specs.Length.{laterThan, inversions, negativeSumPairs, negatives, windowLength};
 ghost use Rattle.window.specs.Checks.{windowRefusal};
@@ -16,18 +16,16 @@ fn no_sizes() -> [u8; 64]
     [0u8; 64]
 }
 
-// The sizes of a window's entries, at the front of a work array.
-fn sizes(w: &[i8]) -> [u8; 64]
-    requires { ⌜ length (now w) ≤ 64 ⌝ }
-    ensures { λ r. ⌜ (length r ≡ 64) × (take (length (now (w .entry))) r ≡ map natAbs (now (w .entry))) ⌝ }
+// The sizes of a window's entries.
+fn set_sizes(w: &[i8], out: &mut [u8])
+    requires { ⌜ length (now out) ≡ length (now w) ⌝ }
+    ensures { λ _. ⌜ now (out .exit) ≡ map natAbs (now (w .entry)) ⌝ }
 {
-    let mut out = no_sizes();
     let mut i = 0;
     while i < w.len() {
         out[i] = size(w[i]);
         i += 1;
     }
-    out
 }
 
 // How many of the sizes are smaller than `own`. The number fits a byte, so that many of them are compared at a time.
@@ -54,7 +52,8 @@ fn pairs(w: &[i8]) -> usize
     ensures { λ r. ⌜ r ≡ inversions (now (w .entry)) + negativeSumPairs (now (w .entry)) ⌝ }
 {
     let m = w.len();
-    let work = sizes(w);
+    let mut work = no_sizes();
+    set_sizes(w, &mut work[..m]);
     let mut sum: usize = 0;
     let mut i = 0;
     while i < m {

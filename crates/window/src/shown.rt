@@ -86,7 +86,8 @@ pub(crate) fn length_of_shown(kind: u8, rank: u8, word: &[u8]) -> usize
 {
     let n = rank as usize;
     let m = lanes(kind, rank);
-    let work = shown(kind, rank, word);
+    let mut work = blank();
+    show(kind, n, word, &mut work[..m]);
     length_of(kind, n, &work[..m])
 }
 

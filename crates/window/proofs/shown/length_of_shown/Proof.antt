@@ -1,9 +1,10 @@
--- `shown::length_of_shown` measures the front of the work window.
+-- `shown::length_of_shown` shows the word at the front of a blank window and measures the front.
 -- Assumes nothing.
 use mathlib.Core.Path.{refl, sym, _∙_, ap}
-use Rattle.window.proofs.CallLaws.{lanes-le}
-use Rattle.window.proofs.ShownLaws.{room, length-front-part, front-refusal, window-passes, front-is}
+use native.Mathlib.Omega.{arith}
 use Rattle.window.specs.Length.{windowLength}
+use Rattle.window.proofs.CallLaws.{rank-accepted, letters-accepted, lanes-le}
+use Rattle.window.proofs.ShownLaws.{room, length-front-part, front-show, front-refusal, window-passes, front-is}
 use borrow.Author.Needs.{needs}
 use Rattle.window.proofs.shown.length_of_shown.Statement.{statement}
 use Rattle.window.proofs.shown.length_of_shown.Tie as tie
@@ -11,27 +12,61 @@ use Rattle.window.proofs.shown.length_of_shown.Tie as tie
 lanes-requires : tie.Need-lanes-requires
 lanes-requires c κs = search needs
 
-shown-requires : tie.Need-shown-requires
-shown-requires c κs = (c .before .before .pre .0, c .before .before .pre .1)
+blank-requires : tie.Need-blank-requires
+blank-requires c κs = search needs
+
+array-borrow-prefix-work : tie.Need-array-borrow-prefix-work
+array-borrow-prefix-work c =
+    let at = c .before in
+    let start = at .before .before in
+    room _ _ _ (start .pre .0) (at .lanes .ensures) (c .blank .result) (c .blank .ensures)
+
+slice-aggregate-show : tie.Need-slice-aggregate-show
+slice-aggregate-show c =
+    let at = c .before .before in
+    let start = at .before .before in
+    sym (length-front-part _ _ _ (start .pre .0) (at .lanes .ensures) (c .before .blank .result) (c .before .blank .ensures))
+
+show-requires : tie.Need-show-requires
+show-requires c κs =
+    let at = c .before .before in
+    let start = at .before .before in
+    let a = rank-accepted _ _ (start .pre .0) in
+    (a .0, (a .1, (length-front-part _ _ _ (start .pre .0) (at .lanes .ensures) (c .before .blank .result) (c .before .blank .ensures) ∙ at .lanes .ensures, letters-accepted _ _ (start .pre .1))))
 
 array-share-prefix-work : tie.Need-array-share-prefix-work
-array-share-prefix-work c = room _ _ _ (c .before .before .before .pre .0) (c .before .lanes .ensures) (c .shown .result) (c .shown .ensures .0)
+array-share-prefix-work c =
+    let at = c .before .before .before .before in
+    let start = at .before .before in
+    omega (arith, lanes-le _ _ _ (start .pre .0) (at .lanes .ensures), (front-show _ _ _ (start .pre .0) (at .lanes .ensures) _ (c .before .before .before .blank .result) _ (c .before .before .before .blank .ensures) (c .before .show .ensures)) .0)
 
 slice-aggregate-length-of : tie.Need-slice-aggregate-length-of
-slice-aggregate-length-of c = sym (length-front-part _ _ _ (c .before .before .before .before .pre .0) (c .before .before .lanes .ensures) (c .before .shown .result) (c .before .shown .ensures .0))
+slice-aggregate-length-of c =
+    let at = c .before .before .before .before .before in
+    let start = at .before .before in
+    sym (length-front-part _ _ _ (start .pre .0) (at .lanes .ensures) _ (front-show _ _ _ (start .pre .0) (at .lanes .ensures) _ (c .before .before .before .before .blank .result) _ (c .before .before .before .before .blank .ensures) (c .before .before .show .ensures) .0))
 
 length-of-requires : tie.Need-length-of-requires
-length-of-requires c κs = (lanes-le _ _ _ (c .before .before .before .before .pre .0) refl, front-refusal _ _ _ (c .before .before .lanes .ensures) (c .before .shown .ensures .1) (window-passes _ _ _))
+length-of-requires c κs =
+    let at = c .before .before .before .before .before in
+    let start = at .before .before in
+    (lanes-le _ _ _ (start .pre .0) refl, front-refusal _ _ _ (at .lanes .ensures) (front-show _ _ _ (start .pre .0) (at .lanes .ensures) _ (c .before .before .before .before .blank .result) _ (c .before .before .before .before .blank .ensures) (c .before .before .show .ensures) .1) (window-passes _ _ _))
 
 returns : tie.Need-returns
-returns c = c .length-of .ensures ∙ ap (windowLength _) (front-is _ (c .before .before .before .lanes .ensures) (c .before .before .shown .ensures .1))
+returns c =
+    let at = c .before .before .before .before .before .before in
+    let start = at .before .before in
+    c .length-of .ensures ∙ ap (windowLength _) (front-is _ (at .lanes .ensures) (front-show _ _ _ (start .pre .0) (at .lanes .ensures) _ (c .before .before .before .before .before .blank .result) _ (c .before .before .before .before .before .blank .ensures) (c .before .before .before .show .ensures) .1))
 
 pub length-of-shown-spec : {M : Type 1} → statement M
 length-of-shown-spec =
     tie.close
     (tie.spec
     lanes-requires
-    shown-requires
+    blank-requires
+    array-borrow-prefix-work
+    slice-aggregate-show
+    show-requires
     array-share-prefix-work
     slice-aggregate-length-of
     length-of-requires

@@ -1,4 +1,4 @@
--- `length::sizes` writes size by size: those of the entries before `i` stand at the front.
+-- `length::set_sizes` writes size by size: those of the entries before `i` stand at the front.
 -- Assumes nothing.
 use mathlib.Core.Path.{_≡_, ap, _∙_}
 use mathlib.Core.List.{map}
@@ -8,17 +8,14 @@ use lib.ListN.{length, getD, take}
 use borrow.Author.Needs.{needs}
 use Rattle.window.proofs.Bytes.{element-back}
 use Rattle.window.proofs.LengthCode.{sized-next, sized-end}
-use Rattle.window.proofs.length.sizes.Statement.{statement}
-use Rattle.window.proofs.length.sizes.Tie as tie
+use Rattle.window.proofs.length.set_sizes.Statement.{statement}
+use Rattle.window.proofs.length.set_sizes.Tie as tie
 
 abbrev Inv-loop : tie.InvT-loop
-Inv-loop w out₀ i₀ out i = (i ≤ length w) × (length out ≡ 64) × (take i out ≡ take i (map natAbs w))
+Inv-loop w out₀ i₀ out i = (i ≤ length w) × (length out ≡ length w) × (take i out ≡ take i (map natAbs w))
 
 abbrev μ-loop : tie.MeasureT-loop
 μ-loop w out₀ i₀ out i = length w - i
-
-no-sizes-requires : tie.Need-no-sizes-requires Inv-loop μ-loop
-no-sizes-requires c κs = search needs
 
 loop-holds : tie.Need-loop-holds Inv-loop μ-loop
 loop-holds c = search needs
@@ -29,8 +26,8 @@ shared-slice-copy-out-size c = search needs
 size-requires : tie.Need-size-requires Inv-loop μ-loop
 size-requires c κs = search needs
 
-array-write-out : tie.Need-array-write-out Inv-loop μ-loop
-array-write-out c = search needs
+slice-write-out : tie.Need-slice-write-out Inv-loop μ-loop
+slice-write-out c = search needs
 
 add-i : tie.Need-add-i Inv-loop μ-loop
 add-i c = search needs
@@ -45,21 +42,24 @@ loop-again c =
     let own = c .size .ensures ∙ ap natAbs (element-back (getD w (turn .before .loop .i) (pos 0)) (c .before .size-arg .given)) in
     (search needs, search needs, sized-next _ _ w _ (turn .loop-test .taken) (search needs) own (turn .before .loop .inv .2))
 
-returns : tie.Need-returns Inv-loop μ-loop
-returns c = (c .before .loop .inv .1, sized-end _ (c .before .before .before .args .w .now) _ (c .before .loop .inv .0) (c .loop-test .left) (c .before .loop .inv .2))
+same-length : tie.Need-same-length Inv-loop μ-loop
+same-length c = search needs
 
-pub sizes-spec : {M : Type 1} → statement M
-sizes-spec =
+returns : tie.Need-returns Inv-loop μ-loop
+returns c = sized-end _ (c .before .before .before .args .w .now) _ (c .before .loop .inv .0) (c .loop-test .left) (c .before .loop .inv .1) (c .before .loop .inv .2)
+
+pub set-sizes-spec : {M : Type 1} → statement M
+set-sizes-spec =
     tie.close
     (tie.spec
     Inv-loop
     μ-loop
-    no-sizes-requires
     loop-holds
     shared-slice-copy-out-size
     size-requires
-    array-write-out
+    slice-write-out
     add-i
     loop-less
     loop-again
+    same-length
     returns)
