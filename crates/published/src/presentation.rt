@@ -52,9 +52,9 @@ fn row_name(n: usize, row: usize) -> Name
     requires { ⌜ n ≤ 32 ⌝ }
 {
     let family = digit(row, 16);
-    let i = words::mirrored(n, digit(row, 18));
+    let i = words::reversed(n, digit(row, 18));
     if family == 2 || family == 3 {
-        return Name(family, i, words::mirrored(n, digit(row, 20)));
+        return Name(family, i, words::reversed(n, digit(row, 20)));
     }
     Name(family, i, 0)
 }
@@ -123,12 +123,12 @@ fn block_end(n: usize, m: usize, j: usize) -> usize
 fn added_name(n: usize, m: usize, which: usize) -> Name
     requires { ⌜ (5 ≤ m) × (m ≤ n) × (n ≤ 32) × (which ≤ 127) ⌝ }
 {
-    let i = words::mirrored(n, m);
+    let i = words::reversed(n, m);
     if which == 0 {
         return Name(1, i, 0);
     }
     if which + 2 <= m {
-        return Name(2, i, words::mirrored(n, which));
+        return Name(2, i, words::reversed(n, which));
     }
     if which + 6 <= 3 * m {
         return Name(3, i, block_end(n, m, which + 3 - m));

@@ -70,7 +70,7 @@ pub(crate) fn put_falling(out: &mut [u8], at: usize, first: usize, last: usize) 
 }
 
 // Source document 001's generator k is step n + 1 - k, and the other way round.
-pub(crate) fn mirrored(n: usize, k: usize) -> usize
+pub(crate) fn reversed(n: usize, k: usize) -> usize
     requires { ⌜ n ≤ 32 ⌝ }
 {
     if n + 1 < k {
@@ -85,7 +85,7 @@ fn mirror_at(n: usize, side: &mut [u8], at: usize)
     if at < side.len() {
         let k = number(side[at]);
         if k != 0 {
-            put(side, at, mirrored(n, k));
+            put(side, at, reversed(n, k));
         }
     }
 }

@@ -1,17 +1,19 @@
 -- Lengths of runs and windows, and the window of a joined word.
 --
--- Sections: tests and cases; runs of numbers; lengths; words.
+-- Sections: tests and cases; runs of numbers; lengths; words; lists written element by element.
 -- Not here: what the steps do to each other (Relations), products and inverses (Products, Inverses).
 -- Assumes nothing.
 use mathlib.Core.Path.{_≡_, refl, ap, _∙_}
 use mathlib.Core.Bool.{Bool, true, false, _||_}
 use mathlib.Core.List.{List, [], _∷_, _++_}
-use Prim.Native.Nat.{ℕ, zero, suc, _+_, _-_, _≤_}
+use Prim.Native.Nat.{ℕ, zero, suc, _+_, _-_, _≤_, _<_}
 use native.Mathlib.Nat.{add-suc, suc-add, add-zero, zero-add}
+use native.Mathlib.Numerals.{add-one}
 use native.Mathlib.Omega.{arith}
 use lib.Dec.{eqb}
 use lib.IntN.{ℤ, pos}
-use lib.ListN.{length, length-map}
+use lib.ListN.{length, length-map, length-append, length-drop, getD, set, take, drop}
+use lib.Seq.{take-at, take-suc, take-suc-set}
 use Rattle.window.specs.Kinds.{Kind, A, B, D, pick, lanes, up}
 use Rattle.window.specs.Windows.{from, exchange, negateFirst, exchangeNegate, act, windowFrom, straight, window}
 
@@ -110,3 +112,15 @@ pub windowFrom-append : (k : Kind) (n : ℕ) (w : List ℤ) (u v : List ℕ) →
 unfolding windowFrom
 windowFrom-append k n w [] v = refl
 windowFrom-append k n w (s ∷ u) v = windowFrom-append k n (act k n s w) u v
+
+-- ---- lists written element by element, and at a front
+
+pub written-next : {X : Type 0} (i : ℕ) (x d : X) (l out : List X) → i < length l → i < length out → x ≡ getD l i d → take i out ≡ take i l
+    → take (i + 1) (set out i x) ≡ take (i + 1) l
+written-next i x d l out h g e q = rw (add-one, take-suc-set out i x g, take-suc l i d h, e, q)
+
+pub front-stored : {X : Type 0} (m : ℕ) (out v l : List X) → m ≤ length out → length l ≡ m → v ≡ l
+    → (length (v ++ drop m out) ≡ length out) × (take m (v ++ drop m out) ≡ l)
+front-stored m out v l h s w =
+    let c : length v ≡ m = ap length w ∙ s in
+    (length-append v (drop m out) ∙ omega (arith, length-drop m out), take-at v (drop m out) m c ∙ w)

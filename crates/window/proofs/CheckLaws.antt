@@ -3,7 +3,7 @@
 -- Sections: kinds and ranks; letters; entries; signs; windows.
 -- Assumes nothing.
 use mathlib.Core.Path.{_≡_, refl, sym, ap, _∙_}
-use mathlib.Core.Bool.{Bool, true, false, not, _||_, Bool·not-not}
+use mathlib.Core.Bool.{Bool, true, false, not, _||_, or-false, Bool·not-not}
 use mathlib.Core.List.{List, [], _∷_}
 use Prim.Native.Nat.{ℕ, _+_, _-_, _≤_, _<_}
 use native.Mathlib.Decide.{ℕ-discrete}
@@ -75,11 +75,7 @@ wrongLetter-next n u i t h = rw (drop-next u i 0 h) (or-next t (eqb (getD u i 0)
 
 pub wrongLetter-end : (n : ℕ) (u : List ℕ) (i : ℕ) (t : Bool) → length u ≤ i → (t || wrongLetter n (drop i u)) ≡ t
 unfolding wrongLetter
-wrongLetter-end n u i t h = rw (drop-of-length-le u h) (or-none t)
-  where
-    or-none : (t : Bool) → (t || false) ≡ t
-    or-none true = refl
-    or-none false = refl
+wrongLetter-end n u i t h = rw (drop-of-length-le u h) (or-false t)
 
 -- the first letter of a word that passes check 8, and the others
 pub letter-within-cons : (n s : ℕ) (u : List ℕ) → wrongLetter n (s ∷ u) ≡ false → (1 ≤ s) × (s ≤ n) × (wrongLetter n u ≡ false)

@@ -15,7 +15,7 @@ use Rattle.window.specs.Kinds.{Kind, A, B, D, pick, least, up}
 use Rattle.window.specs.Length.{negative, one, negatives, windowLength}
 use Rattle.window.specs.NormalForm.{block, levels, lastIndex, blocks, Indices, none, level, normalForm}
 use Rattle.window.proofs.Levels.{Accepted}
-use Rattle.window.proofs.PairWeights.{weight, weights, pairWeights, mirrored, length-by-weights, negatives-le, pairWeights-add-length-le}
+use Rattle.window.proofs.PairWeights.{weight, weights, pairWeights, signWeight, length-by-weights, negatives-le, pairWeights-add-length-le}
 use Rattle.window.proofs.Lengths.{length-block, length-normalForm}
 
 abbrev pub greatestLength : Kind → ℕ → ℕ
@@ -54,7 +54,7 @@ half-le : (l n m : ℕ) → m ≡ n + 1 → 2 * l + m ≤ m * m → l ≤ n * (n
 half-le l n m e h = omega (arith, rw e at h, add-mul n 1 (n + 1))
 
 pub windowLength-le : (k : Kind) (n : ℕ) (w : List ℤ) → Accepted k n w → windowLength k w ≤ greatestLength k n
-unfolding mirrored
+unfolding signWeight
 windowLength-le A n w h =
     half-le (windowLength A w) n (length w) (h .size) (omega (arith, length-by-weights A n w h, twice-pairWeights-le w (h .signs)))
 windowLength-le B n w h =

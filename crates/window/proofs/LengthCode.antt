@@ -7,28 +7,26 @@ use mathlib.Core.Bool.{Bool, true, false}
 use mathlib.Core.List.{List, [], _∷_, _++_, map}
 use Prim.Native.Nat.{ℕ, zero, suc, _+_, _-_, _*_, _≤_, _<_}
 use native.Mathlib.Nat.{add-zero, mul-le-mul}
-use native.Mathlib.Numerals.{add-one}
 use native.Mathlib.Decide.{ℕ-discrete}
 use native.Mathlib.Omega.{arith}
 use lib.Dec.{ltb}
 use lib.IntN.{ℤ, pos, negℤ, natAbs}
-use lib.ListN.{length, length-append, length-drop, length-map, getD, set, take, drop, drop-of-length-le, List·getD-map}
-use lib.Seq.{take-all, take-at, take-add, take-suc, take-suc-set, getD-take}
+use lib.ListN.{length, length-drop, length-map, getD, set, take, drop, drop-of-length-le, List·getD-map}
+use lib.Seq.{take-all, take-add, getD-take}
 use Rattle.window.specs.Kinds.{Kind, A, B, D, pick, kindOf, lanes}
 use Rattle.window.specs.Length.{later, negative, one, laterThan, inversions, negativeSumPairs, negatives, windowLength}
 use Rattle.window.specs.Checks.{windowRefusal}
-use Rattle.window.proofs.Basics.{lanes-le-add-one}
+use Rattle.window.proofs.Basics.{lanes-le-add-one, written-next, front-stored}
 use Rattle.window.proofs.CheckLaws.{drop-next, kindOf-one, kindOf-two, kindOf-three}
 use Rattle.window.proofs.Levels.{Between, Distinct, accepted-of-refusal, refusal-of-accepted, hasSize-below}
-use Rattle.window.proofs.PairWeights.{weight, weights, pairWeights, mirrored, laterThan-add, inversions-add-negativeSumPairs, length-by-weights, pairWeights-le}
+use Rattle.window.proofs.PairWeights.{weight, weights, pairWeights, signWeight, laterThan-add, inversions-add-negativeSumPairs, length-by-weights, pairWeights-le}
 
 -- ---- sizes
 
 pub sized-next : (i s : ℕ) (w : List ℤ) (out : List ℕ) → i < length w → i < length out → s ≡ natAbs (getD w i (pos 0)) → take i out ≡ take i (map natAbs w)
     → take (i + 1) (set out i s) ≡ take (i + 1) (map natAbs w)
 sized-next i s w out h g e q =
-    let l : i < length (map natAbs w) = omega (arith, length-map w natAbs) in
-    rw (add-one, take-suc-set out i s g, take-suc (map natAbs w) i 0 l, List·getD-map natAbs w i (pos 0), e, q)
+    written-next i s 0 (map natAbs w) out (omega (arith, length-map w natAbs)) g (e ∙ sym (List·getD-map natAbs w i (pos 0))) q
 
 pub sized-end : (i : ℕ) (w : List ℤ) (out : List ℕ) → i ≤ length w → length w ≤ i → length out ≡ length w → take i out ≡ take i (map natAbs w)
     → out ≡ map natAbs w
@@ -38,8 +36,8 @@ sized-end i w out a b l q = sym (take-all i out (omega arith)) ∙ q ∙ take-al
 pub sizes-stored : (w : List ℤ) (v work : List ℕ) → length work ≡ 64 → length w ≤ 64 → v ≡ map natAbs w
     → (length (v ++ drop (length w) work) ≡ 64) × (take (length w) (v ++ drop (length w) work) ≡ map natAbs w)
 sizes-stored w v work l h e =
-    let c : length v ≡ length w = ap length e ∙ length-map w natAbs in
-    (length-append v (drop (length w) work) ∙ omega (arith, length-drop (length w) work), take-at v (drop (length w) work) (length w) c ∙ e)
+    let c = front-stored (length w) work v (map natAbs w) (omega arith) (length-map w natAbs) e in
+    (c .0 ∙ l, c .1)
 
 drop-map : {X Y : Type 0} (f : X → Y) (a : ℕ) (l : List X) → drop a (map f l) ≡ map f (drop a l)
 drop-map f zero l = refl
@@ -93,14 +91,11 @@ weights-of-negative x [] e = refl
 weights-of-negative x (y ∷ w) e =
     rw e (one-or-two (ltb (natAbs y) (natAbs x)) (weights x w) (smaller (natAbs x) (map natAbs w)) (length w) (weights-of-negative x w e))
 
-one-or-none : (t : Bool) (r s : ℕ) → r ≡ s → pick t 1 0 + r ≡ pick t 1 0 + s
-one-or-none t r s e = ap (λ (y : ℕ). pick t 1 0 + y) e
-
 weights-of-positive : (x : ℤ) (w : List ℤ) → negative x ≡ false → weights x w ≡ smaller (natAbs x) (map natAbs w)
 unfolding weights weight smaller laterThan later one
 weights-of-positive x [] e = refl
 weights-of-positive x (y ∷ w) e =
-    rw e (one-or-none (ltb (natAbs y) (natAbs x)) (weights x w) (smaller (natAbs x) (map natAbs w)) (weights-of-positive x w e))
+    rw e (ap (λ (r : ℕ). pick (ltb (natAbs y) (natAbs x)) 1 0 + r) (weights-of-positive x w e))
 
 -- the weights of an entry before those of w, by how many of w are smaller
 weights-smaller : (x : ℤ) (w : List ℤ) → weights x w ≡ pick (negative x) (2 * length w - smaller (natAbs x) (map natAbs w)) (smaller (natAbs x) (map natAbs w))
@@ -179,19 +174,19 @@ length-le-of-lanes k n w l h = omega (arith, accepted-of-refusal k n w h .size)
 pub length-le-of-refusal : (k : Kind) (n : ℕ) (w : List ℤ) → n ≤ 64 → windowRefusal k n w ≡ 0 → length w ≤ 65
 length-le-of-refusal k n w l h = omega (arith, accepted-of-refusal k n w h .size, lanes-le-add-one k n)
 
-windowLength-is-add : (k : Kind) (n : ℕ) (w : List ℤ) → windowRefusal k n w ≡ 0 → windowLength k w ≡ bothPairs w + mirrored k w
+windowLength-is-add : (k : Kind) (n : ℕ) (w : List ℤ) → windowRefusal k n w ≡ 0 → windowLength k w ≡ bothPairs w + signWeight k w
 windowLength-is-add k n w h =
     length-by-weights k n w (accepted-of-refusal k n w h)
-    ∙ ap (λ (x : ℕ). x + mirrored k w) (sym (bothPairs-is-pairWeights w (refusal-B k n w h)))
+    ∙ ap (λ (x : ℕ). x + signWeight k w) (sym (bothPairs-is-pairWeights w (refusal-B k n w h)))
 
 pub windowLength-two : (k n : ℕ) (w : List ℤ) → windowRefusal (kindOf k) n w ≡ 0 → k ≡ 2
     → windowLength (kindOf k) w ≡ inversions w + negativeSumPairs w + negatives w
-unfolding bothPairs mirrored
+unfolding bothPairs signWeight
 windowLength-two k n w h e = rw (kindOf-two k e) (windowLength-is-add B n w (rw (kindOf-two k e) at h))
 
 pub windowLength-else : (k n : ℕ) (w : List ℤ) → windowRefusal (kindOf k) n w ≡ 0 → (k ≡ 2 → ⊥)
     → windowLength (kindOf k) w ≡ inversions w + negativeSumPairs w
-unfolding bothPairs mirrored
+unfolding bothPairs signWeight
 windowLength-else k n w h d =
     elim (ℕ-discrete k 1) [
       | yes e ↦ rw (kindOf-one k e) (windowLength-is-add A n w (rw (kindOf-one k e) at h) ∙ add-zero _)

@@ -21,7 +21,7 @@ use Rattle.window.proofs.Sizes.{natAbs-negℤ}
 use Rattle.window.proofs.Levels.{Between, Accepted}
 use Rattle.window.proofs.Runs.{length-span, length-slide, rise-span, fall-slide}
 use Rattle.window.proofs.Peeling.{placeFrom-peeled, indexOf-positive, indexOf-negative, restOf-peeled, restOf-restOf, between-restOf, AtLevel, atLevel-of-accepted, peeled, atLevel-rest, atLevel-negativeInA, negatives-middle}
-use Rattle.window.proofs.PairWeights.{weight, weights, pairWeights, mirrored, length-by-weights}
+use Rattle.window.proofs.PairWeights.{weight, weights, pairWeights, signWeight, length-by-weights}
 
 -- ---- blocks
 
@@ -116,25 +116,25 @@ pairWeights-negateLast (x ∷ y ∷ w) =
 
 -- what a level of the kind weighs
 abbrev total : Kind → List ℤ → ℕ
-total k w = pairWeights w + mirrored k w
+total k w = pairWeights w + signWeight k w
 
 total-restOf : (k : Kind) (e : ℤ) (w : List ℤ) → total k (restOf k e w) ≡ total k w
-unfolding restOf mirrored
+unfolding restOf signWeight
 total-restOf A e w = refl
 total-restOf B e w = refl
 total-restOf D (pos x) w = refl
 total-restOf D (negsuc x) w = ap (λ (s : ℕ). s + 0) (pairWeights-negateLast w)
 
-mirrored-insert : (k : Kind) (e : ℤ) (u v : List ℤ) → mirrored k (u ++ (e ∷ v)) ≡ mirrored k (e ∷ []) + mirrored k (u ++ v)
-unfolding mirrored negatives
-mirrored-insert A e u v = refl
-mirrored-insert B e u v = omega (arith, negatives-middle u e v)
-mirrored-insert D e u v = refl
+signWeight-insert : (k : Kind) (e : ℤ) (u v : List ℤ) → signWeight k (u ++ (e ∷ v)) ≡ signWeight k (e ∷ []) + signWeight k (u ++ v)
+unfolding signWeight negatives
+signWeight-insert A e u v = refl
+signWeight-insert B e u v = omega (arith, negatives-middle u e v)
+signWeight-insert D e u v = refl
 
 -- the block of an entry with a entries before it and b behind
 length-block-indexOf : (k : Kind) (n i a b : ℕ) (e : ℤ) → negativeInA k e ≡ false → 1 ≤ i → i ≤ levels k n → a + b + i ≡ lanes k n
-    → length (block k n i (indexOf n (signed e (i + a)))) ≡ a + ahead e * b + mirrored k (e ∷ [])
-unfolding negativeInA mirrored negatives negative one
+    → length (block k n i (indexOf n (signed e (i + a)))) ≡ a + ahead e * b + signWeight k (e ∷ [])
+unfolding negativeInA signWeight negatives negative one
 length-block-indexOf A n i a b (pos x) g o h s = rw (indexOf-positive n x (i + a)) (length-block A n i (i + a - 1) o h (omega arith) ∙ omega arith)
 length-block-indexOf A n i a b (negsuc x) g o h s = let z : true ≡ false = g in cc
 length-block-indexOf B n i a b (pos x) g o h s = rw (indexOf-positive n x (i + a)) (length-block B n i (i + a - 1) o h (omega arith) ∙ omega arith)
@@ -158,13 +158,13 @@ total-insert k n i u e v o l q h =
     let pairs = pairWeights-insert e c u v (rw q b) in
     let s : length u + length v + i ≡ lanes k n = omega (arith, h .size, length-append u (e ∷ v)) in
     let single = length-block-indexOf k n i (length u) (length v) e (atLevel-negativeInA k n i u e v h) o l s in
-    omega (arith, total-restOf k e (u ++ v), mirrored-insert k e u v)
+    omega (arith, total-restOf k e (u ++ v), signWeight-insert k e u v)
 
 -- ---- all levels
 
 -- at the end of the levels at most one entry is left, in B none
 total-last : (k : Kind) (n i : ℕ) (w : List ℤ) → i ≡ suc (levels k n) → length w + i ≡ suc (lanes k n) → 0 ≡ total k w
-unfolding pairWeights weights mirrored negatives
+unfolding pairWeights weights signWeight negatives
 total-last A n i [] t s = refl
 total-last A n i (x ∷ []) t s = refl
 total-last A n i (x ∷ y ∷ w) t s = absurd (omega arith)
@@ -183,7 +183,7 @@ length-normalFrom-suc k n t i u e v o l q f h below =
     rw (restOf-peeled k i u e v o q f, placeFrom-peeled i i u e v q f, length-append, below) (total-insert k n i u e v o l q h)
 
 pub length-normalFrom : (k : Kind) (n t i : ℕ) (w : List ℤ) → 1 ≤ i → t + i ≡ suc (levels k n) → AtLevel k n i w
-    → length (normalFrom k n t i w) ≡ pairWeights w + mirrored k w
+    → length (normalFrom k n t i w) ≡ pairWeights w + signWeight k w
 length-normalFrom k n zero i w o t h = unfold normalFrom in total-last k n i w (omega arith) (h .size)
 length-normalFrom k n (suc m) i w o t h =
     let l : i ≤ levels k n = omega arith in

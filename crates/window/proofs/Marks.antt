@@ -1,7 +1,7 @@
 -- Check 10 from the last entry to the first: the sizes of the entries behind are marked, so that a repeated size is seen at once.
 -- Assumes nothing.
-use mathlib.Core.Path.{_≡_, refl, sym, ap, _∙_, subst}
-use mathlib.Core.Bool.{Bool, true, false, _||_}
+use mathlib.Core.Path.{_≡_, sym, ap, _∙_, subst}
+use mathlib.Core.Bool.{Bool, true, false, or-true}
 use mathlib.Core.List.{List, [], _∷_}
 use Prim.Native.Nat.{ℕ, zero, suc, _+_, _-_, _≤_, _<_}
 use native.Mathlib.Decide.{ℕ-discrete}
@@ -21,10 +21,6 @@ unfolding wrongEntry
 wrongEntry-drop k m w zero h = h
 wrongEntry-drop k m [] (suc i) h = h
 wrongEntry-drop k m (e ∷ w) (suc i) h = rw (wrongEntry-drop k m w i h) (or-true (wrongAt k m e w))
-  where
-    or-true : (t : Bool) → (t || true) ≡ true
-    or-true true = refl
-    or-true false = refl
 
 -- the entries from j on passed, and their sizes are marked: place p stands for the size p + 1
 pub record Passed (k : Kind) (m : ℕ) (w : List ℤ) (marks : List Bool) (j : ℕ) : Type 0 where
@@ -49,7 +45,7 @@ whole-passed k m w marks j h z = subst (λ (x : ℕ). wrongEntry k m (drop x w) 
 
 -- one entry further to the front: the entry at j - 1, of size s
 module _ (k : Kind) (m : ℕ) (w : List ℤ) (marks : List Bool) (j s : ℕ) (h : Passed k m w marks j) (l : 0 < j) (q : s ≡ natAbs (getD w (j - 1) (pos 0))) where
-  abbrev pub e : ℤ
+  abbrev e : ℤ
   e = getD w (j - 1) (pos 0)
 
   next : drop (j - 1) w ≡ e ∷ drop j w

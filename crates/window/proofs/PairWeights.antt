@@ -32,10 +32,10 @@ pairWeights [] = 0
 pairWeights (x ∷ w) = weights x w + pairWeights w
 
 -- what the negative entries of a window add by themselves
-unfoldable pub mirrored : Kind → List ℤ → ℕ
-mirrored A w = 0
-mirrored B w = negatives w
-mirrored D w = 0
+unfoldable pub signWeight : Kind → List ℤ → ℕ
+signWeight A w = 0
+signWeight B w = negatives w
+signWeight D w = 0
 
 -- ---- one pair
 
@@ -118,8 +118,8 @@ inversions-of-negatives-zero (x ∷ w) h =
     omega arith
 
 -- the length of a window by one sum over its pairs
-pub length-by-weights : (k : Kind) (n : ℕ) (w : List ℤ) → Accepted k n w → windowLength k w ≡ pairWeights w + mirrored k w
-unfolding windowLength mirrored
+pub length-by-weights : (k : Kind) (n : ℕ) (w : List ℤ) → Accepted k n w → windowLength k w ≡ pairWeights w + signWeight k w
+unfolding windowLength signWeight
 length-by-weights A n w h = inversions-of-negatives-zero w (h .signs) ∙ sym (add-zero _)
 length-by-weights B n w h =
     let pairs = inversions-add-negativeSumPairs (1 + length w) w (h .level .between) (h .level .distinct) in
@@ -162,14 +162,14 @@ pairWeights-add-length-le (x ∷ w) =
 pub pairWeights-le : (w : List ℤ) → pairWeights w ≤ length w * length w
 pairWeights-le w = omega (arith, pairWeights-add-length-le w)
 
-mirrored-le : (k : Kind) (w : List ℤ) → mirrored k w ≤ length w
-unfolding mirrored
-mirrored-le A w = omega arith
-mirrored-le B w = negatives-le w
-mirrored-le D w = omega arith
+signWeight-le : (k : Kind) (w : List ℤ) → signWeight k w ≤ length w
+unfolding signWeight
+signWeight-le A w = omega arith
+signWeight-le B w = negatives-le w
+signWeight-le D w = omega arith
 
 pub windowLength-le-square : (k : Kind) (n : ℕ) (w : List ℤ) → Accepted k n w → windowLength k w ≤ length w * length w
-windowLength-le-square k n w h = omega (arith, length-by-weights k n w h, pairWeights-add-length-le w, mirrored-le k w)
+windowLength-le-square k n w h = omega (arith, length-by-weights k n w h, pairWeights-add-length-le w, signWeight-le k w)
 
 -- a window of at most 64 entries: its length is below the bound of a word
 pub windowLength-le-4096 : (k : Kind) (n : ℕ) (w : List ℤ) → Accepted k n w → length w ≤ 64 → windowLength k w ≤ 4096

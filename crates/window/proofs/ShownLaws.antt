@@ -5,16 +5,15 @@
 use mathlib.Core.Path.{_≡_, sym, ap, ap₂, _∙_}
 use mathlib.Core.List.{List, _++_}
 use Prim.Native.Nat.{ℕ, _+_, _≤_, _<_}
-use native.Mathlib.Numerals.{add-one}
 use native.Mathlib.Omega.{arith}
 use lib.IntN.{ℤ, pos}
-use lib.ListN.{length, getD, take, drop, set, length-append, length-drop}
-use lib.Seq.{length-take-le, take-at, take-all, take-suc, take-suc-set}
+use lib.ListN.{length, getD, take, drop, set}
+use lib.Seq.{length-take-le, take-all}
 use lib.Signed.{mag}
 use mir.Syntax.{w8}
 use mir.Val.{toZ, ofZ}
 use Rattle.window.proofs.Bytes.{element-back}
-use Rattle.window.proofs.Basics.{length-window}
+use Rattle.window.proofs.Basics.{length-window, written-next, front-stored}
 use Rattle.window.proofs.Products.{length-product, windowFrom-product, window-append}
 use Rattle.window.proofs.Inverses.{length-inverse, inverse-accepted}
 use Rattle.window.proofs.Levels.{window-accepted, refusal-of-accepted}
@@ -63,9 +62,8 @@ module _ (k n m : ℕ) (h : rankRefusal k n ≡ 0) (e : m ≡ lanes (kindOf k) n
   pub front-store : (l v x : List ℤ) → length l ≡ 64 → length x ≡ lanes (kindOf k) n → v ≡ x
       → (length (v ++ drop m l) ≡ 64) × (take (lanes (kindOf k) n) (v ++ drop m l) ≡ x)
   front-store l v x q s w =
-      let c : length v ≡ m = ap length w ∙ s ∙ sym e in
-      let b : m ≤ length l = room l q in
-      (length-append v (drop m l) ∙ omega (arith, length-drop m l), take-at v (drop m l) (lanes (kindOf k) n) (c ∙ e) ∙ w)
+      let c = front-stored m l v x (room l q) (s ∙ sym e) w in
+      (c .0 ∙ q, ap (λ (a : ℕ). take a (v ++ drop m l)) (sym e) ∙ c .1)
 
   pub front-show : (u : List ℕ) (l v : List ℤ) → length l ≡ 64 → v ≡ window (kindOf k) n u
       → (length (v ++ drop m l) ≡ 64) × (take (lanes (kindOf k) n) (v ++ drop m l) ≡ window (kindOf k) n u)
@@ -89,8 +87,7 @@ module _ (k n m : ℕ) (h : rankRefusal k n ≡ 0) (e : m ≡ lanes (kindOf k) n
 
 pub copy-next : (i : ℕ) (w out : List ℤ) → i < length w → i < length out → mag (getD w i (pos 0)) < 128 → take i out ≡ take i w
     → take (i + 1) (set out i (toZ w8 (ofZ w8 (getD w i (pos 0))))) ≡ take (i + 1) w
-copy-next i w out h g f q =
-    rw (add-one, take-suc-set out i (toZ w8 (ofZ w8 (getD w i (pos 0)))) g, take-suc w i (pos 0) h, element-back (getD w i (pos 0)) f, q)
+copy-next i w out h g f q = written-next i (toZ w8 (ofZ w8 (getD w i (pos 0)))) (pos 0) w out h g (element-back (getD w i (pos 0)) f) q
 
 pub copy-end : (i : ℕ) (w out : List ℤ) → i ≤ length w → length w ≤ i → take i out ≡ take i w → take (length w) out ≡ w
 copy-end i w out a b q =

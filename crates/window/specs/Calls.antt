@@ -111,7 +111,7 @@ presetsEqual k₁ n₁ u₁ k₂ n₂ u₂ =
 unfoldable pub handsBack : ℕ → ℕ → List ℕ → List ℕ → Bool
 handsBack k n u v = eqb (rankRefusal k n then wordRefusal n u then wordRefusal n v) 0 && equalWords (kindOf k) n u v
 
--- the number of each case of `Choice`: neither, or with equal windows the second or the first
+-- the value of each case of `Choice`: neither, or where one is handed back the second or the first
 unfoldable pub choice : Bool → Bool → Choice
 choice hands second = pick hands (pick second choices.Second choices.First) choices.Neither
 
