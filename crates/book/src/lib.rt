@@ -4,23 +4,10 @@ pub mod reader;
 mod reading;
 mod writing;
 
+pub use book_format::Opened;
+pub use book_format::Preset;
 pub use reading::check_book;
 pub use reading::check_preset;
 pub use reading::letters;
 pub use reading::opened_preset;
 pub use writing::append;
-
-pub enum Opened {
-    Presets(usize),
-    Refused(u8),
-}
-
-pub enum Preset {
-    Found {
-        kind: u8,
-        rank: u8,
-        start: usize,
-        length: usize,
-    },
-    Refused(u8),
-}

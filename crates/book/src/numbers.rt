@@ -3,7 +3,7 @@ ghost use mathlib.Core.Path.{_≡_};
 ghost use Prim.Native.Nat.{_+_, _<_, _≤_};
 ghost use lib.ListN.{length};
 ghost use lib.Seq.{sets};
-ghost use Rattle.book.specs.Books.{twoAt, two};
+ghost use Rattle.book_format.specs.Books.{twoAt, two};
 
 // The number at p.
 pub(crate) fn two_at(b: &[u8], p: usize) -> usize

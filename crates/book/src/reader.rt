@@ -1,12 +1,12 @@
 // An opened book: it keeps its bytes and serves preset calls by number. Each function hands the bytes to the call on slice and number.
-use crate::Opened;
-use crate::Preset;
 use crate::reading::check_book;
 use crate::reading::check_preset;
 use crate::reading::letters;
+use book_format::Opened;
+use book_format::Preset;
 ghost use mathlib.Core.Path.{_≡_};
 ghost use Prim.Native.Nat.{_+_};
-ghost use Rattle.book.specs.Calls.{checkedBook, checkedPreset, lettersOf, lettersStart};
+ghost use Rattle.book_format.specs.Calls.{checkedBook, checkedPreset, lettersOf, lettersStart};
 
 pub struct Reader<'a> {
     pub bytes: &'a [u8],

@@ -1,14 +1,14 @@
 // Checks 1 to 8 on a book and its presets, and the letters of a preset.
-use crate::Opened;
-use crate::Preset;
 use crate::numbers::two_at;
+use book_format::Opened;
+use book_format::Preset;
 use window::rank_refusal;
 use window::word_refusal;
 ghost use mathlib.Core.Path.{_≡_};
 ghost use Prim.Native.Nat.{_+_, _*_, _≤_};
 ghost use lib.ListN.{length};
-ghost use Rattle.book.specs.Books.{count, endAt, misplaced, bookRefusal};
-ghost use Rattle.book.specs.Calls.{checkedBook, checkedRecord, openedPreset, checkedPreset, lettersOf, lettersStart};
+ghost use Rattle.book_format.specs.Books.{count, endAt, misplaced, bookRefusal};
+ghost use Rattle.book_format.specs.Calls.{checkedBook, checkedRecord, openedPreset, checkedPreset, lettersOf, lettersStart};
 
 // The most bytes of a book.
 pub(crate) const LARGEST: usize = 65535;

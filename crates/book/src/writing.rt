@@ -11,8 +11,8 @@ ghost use mathlib.Core.Path.{_≡_};
 ghost use Prim.Native.Nat.{_+_, _≤_};
 ghost use lib.ListN.{length};
 ghost use lib.Seq.{sets};
-ghost use Rattle.book.specs.Books.{bookRefusal, recordOf, appended, appendRefusal};
-ghost use Rattle.book.specs.Calls.{appending};
+ghost use Rattle.book_format.specs.Books.{bookRefusal, recordOf, appended, appendRefusal};
+ghost use Rattle.book_format.specs.Calls.{appending};
 
 // The bytes of a record written from p on.
 fn write_record(kind: u8, rank: u8, word: &[u8], out: &mut [u8], p: usize)

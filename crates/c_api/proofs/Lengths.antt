@@ -15,47 +15,35 @@ use mir.Syntax.{w64}
 use mir.Val.{SFits, toZ, ofZ}
 use mir.ValLaws.{toZ-ofZ, toZ-pos}
 use borrow.Author.Tests.{eq-eqb, ne-eqb}
-use Rattle.window.specs.declared.Answer.{Answer}
-use Rattle.window.specs.declared.Answer.the-variants as answer
-use Rattle.window.specs.Kinds.{kindOf}
-use Rattle.window.specs.Windows.{window, product, inverse}
-use Rattle.window.specs.Length.{windowLength}
-use Rattle.window.specs.NormalForm.{normalForm}
-use Rattle.window.specs.Checks.{check, _then_, tooShort, rankRefusal, wordRefusal, windowRefusal}
-use Rattle.window.specs.Calls.{
-  answerOf,
-  writes,
-  windowOfWord,
-  productOfWindows,
-  inverseOfWindow,
-  normalFormOfWindow,
-  normalFormOfWord,
-  productOfWords,
-  inverseOfWord,
-  lengthOfWindow,
-  lengthOfWord,
-}
-use Rattle.window.proofs.Refusals.{then-zero}
-use Rattle.window.proofs.CallLaws.{lanes-le, length-accepted}
-use Rattle.window.proofs.Levels.{Accepted, accepted-of-refusal, window-accepted}
-use Rattle.window.proofs.Products.{length-product, window-append}
-use Rattle.window.proofs.Inverses.{length-inverse, inverse-accepted}
-use Rattle.window.proofs.PairWeights.{windowLength-le-4096}
-use Rattle.window.proofs.Lengths.{length-normalForm}
-use Rattle.rewriter.specs.declared.Rewrite.{Rewrite}
-use Rattle.rewriter.specs.declared.Rewrite.the-variants.{Used, Refused}
-use Rattle.rewriter.specs.Rules.{rules}
-use Rattle.rewriter.specs.Calls.{pastEnd, refusedStep, step, Rewrote}
-use Rattle.rewriter.specs.Runs.{AcceptedWord}
-use Rattle.rewriter.proofs.Fits.{firstFitting-some, rewrites-of-fits}
-use Rattle.rewriter.proofs.Completeness.{rewrites-length}
-use Rattle.rewriter.proofs.Calls.{accepted-least, used-exactly}
-use Rattle.book.specs.declared.Opened.{Opened}
-use Rattle.book.specs.declared.Opened.the-variants as opened
-use Rattle.book.specs.Books.{count, bookRefusal, appended, appendRefusal}
-use Rattle.book.specs.Calls.{openedOf, checkedBook, appending}
-use Rattle.book.proofs.BookLaws.{accepted}
-use Rattle.book.proofs.WritingLaws.{append-size}
+use Rattle.coxeter.specs.declared.Answer.{Answer}
+use Rattle.coxeter.specs.declared.Answer.the-variants as answer
+use Rattle.coxeter.specs.Kinds.{kindOf}
+use Rattle.coxeter.specs.Windows.{window, product, inverse}
+use Rattle.coxeter.specs.Length.{windowLength}
+use Rattle.coxeter.specs.NormalForm.{normalForm}
+use Rattle.coxeter.specs.Checks.{check, _then_, tooShort, rankRefusal, wordRefusal, windowRefusal}
+use Rattle.coxeter.specs.Calls.{answerOf, writes, windowOfWord, productOfWindows, inverseOfWindow, normalFormOfWindow, normalFormOfWord, productOfWords, inverseOfWord, lengthOfWindow, lengthOfWord}
+use Rattle.coxeter.proofs.Refusals.{then-zero}
+use Rattle.coxeter.proofs.Acceptance.{lanes-le, length-accepted}
+use Rattle.coxeter.proofs.Levels.{Accepted, accepted-of-refusal, window-accepted}
+use Rattle.coxeter.proofs.Products.{length-product, window-append}
+use Rattle.coxeter.proofs.Inverses.{length-inverse, inverse-accepted}
+use Rattle.coxeter.proofs.PairWeights.{windowLength-le-4096}
+use Rattle.coxeter.proofs.Lengths.{length-normalForm}
+use Rattle.rules.specs.declared.Rewrite.{Rewrite}
+use Rattle.rules.specs.declared.Rewrite.the-variants.{Used, Refused}
+use Rattle.rules.specs.Rules.{rules}
+use Rattle.rules.specs.Calls.{pastEnd, refusedStep, step, Rewrote}
+use Rattle.rules.specs.Runs.{AcceptedWord}
+use Rattle.rules.proofs.Fits.{firstFitting-some, rewrites-of-fits}
+use Rattle.rules.proofs.Completeness.{rewrites-length}
+use Rattle.rules.proofs.Calls.{accepted-least, used-exactly}
+use Rattle.book_format.specs.declared.Opened.{Opened}
+use Rattle.book_format.specs.declared.Opened.the-variants as opened
+use Rattle.book_format.specs.Books.{count, bookRefusal, appended, appendRefusal}
+use Rattle.book_format.specs.Calls.{openedOf, checkedBook, appending}
+use Rattle.book_format.proofs.BookLaws.{accepted}
+use Rattle.book_format.proofs.WritingLaws.{append-size}
 use Rattle.c_api.specs.Calls.{refused, numberOf}
 
 -- ---- numbers

@@ -14,17 +14,17 @@ use lib.IntN.{ℤ, pos}
 use lib.ListN.{length}
 use lib.Seq.{sets, sets-eq}
 use borrow.Author.Tests.{lt-ltb, le-ltb}
-use Rattle.window.specs.Kinds.{pick, kindOf}
-use Rattle.window.specs.Checks.{check, _then_, tooShort, rankRefusal, wordRefusal}
-use Rattle.window.specs.Calls.{Outcome, writes}
-use Rattle.window.proofs.CallLaws.{writes-short, writes-done}
-use Rattle.rewriter.specs.declared.Rewrite.{Rewrite}
-use Rattle.rewriter.specs.declared.Rewrite.the-variants.{Used, NoneFits, Refused}
-use Rattle.rewriter.specs.Rules.{Rule, rules, firstFitting, rewritten}
-use Rattle.rewriter.specs.Calls.{pastEnd, Step, refusedStep, usedStep, stepBy, step, Rewrote}
-use Rattle.book.specs.declared.Preset.{Preset}
-use Rattle.book.specs.declared.Preset.the-variants as preset
-use Rattle.book.specs.Calls.{checkedPreset}
+use Rattle.coxeter.specs.Kinds.{pick, kindOf}
+use Rattle.coxeter.specs.Checks.{check, _then_, tooShort, rankRefusal, wordRefusal}
+use Rattle.coxeter.specs.Calls.{Outcome, writes}
+use Rattle.coxeter.proofs.Outcomes.{writes-short, writes-done}
+use Rattle.rules.specs.declared.Rewrite.{Rewrite}
+use Rattle.rules.specs.declared.Rewrite.the-variants.{Used, NoneFits, Refused}
+use Rattle.rules.specs.Rules.{Rule, rules, firstFitting, rewritten}
+use Rattle.rules.specs.Calls.{pastEnd, Step, refusedStep, usedStep, stepBy, step, Rewrote}
+use Rattle.book_format.specs.declared.Preset.{Preset}
+use Rattle.book_format.specs.declared.Preset.the-variants as preset
+use Rattle.book_format.specs.Calls.{checkedPreset}
 use Rattle.c_api.specs.Calls.{refused, numberOf, Rewriting, unwritten, rewritingBy, rewriting, fieldsOf}
 
 -- ---- one rewrite

@@ -3,22 +3,22 @@ use mathlib.Core.List.{List, [], _∷_}
 use Prim.Native.Nat.{ℕ}
 use lib.IntN.{ℤ, pos, negℤ}
 use lib.ListN.{drop}
-use Rattle.window.specs.declared.Answer.{Answer}
-use Rattle.window.specs.declared.Answer.the-variants as answer
-use Rattle.window.specs.declared.Verdict.{Verdict}
-use Rattle.window.specs.declared.Verdict.the-variants as verdict
-use Rattle.window.specs.declared.Choice.{Choice}
-use Rattle.window.specs.declared.Choice.the-variants as choices
-use Rattle.window.specs.Kinds.{pick}
-use Rattle.window.specs.Checks.{tooShort}
-use Rattle.window.specs.Calls.{Outcome, writes}
-use Rattle.rewriter.specs.declared.Rewrite.{Rewrite}
-use Rattle.rewriter.specs.declared.Rewrite.the-variants as rewrite
-use Rattle.rewriter.specs.Calls.{step}
-use Rattle.book.specs.declared.Opened.{Opened}
-use Rattle.book.specs.declared.Opened.the-variants as opened
-use Rattle.book.specs.declared.Preset.{Preset}
-use Rattle.book.specs.declared.Preset.the-variants as preset
+use Rattle.coxeter.specs.declared.Answer.{Answer}
+use Rattle.coxeter.specs.declared.Answer.the-variants as answer
+use Rattle.coxeter.specs.declared.Verdict.{Verdict}
+use Rattle.coxeter.specs.declared.Verdict.the-variants as verdict
+use Rattle.coxeter.specs.declared.Choice.{Choice}
+use Rattle.coxeter.specs.declared.Choice.the-variants as choices
+use Rattle.coxeter.specs.Kinds.{pick}
+use Rattle.coxeter.specs.Checks.{tooShort}
+use Rattle.coxeter.specs.Calls.{Outcome, writes}
+use Rattle.rules.specs.declared.Rewrite.{Rewrite}
+use Rattle.rules.specs.declared.Rewrite.the-variants as rewrite
+use Rattle.rules.specs.Calls.{step}
+use Rattle.book_format.specs.declared.Opened.{Opened}
+use Rattle.book_format.specs.declared.Opened.the-variants as opened
+use Rattle.book_format.specs.declared.Preset.{Preset}
+use Rattle.book_format.specs.declared.Preset.the-variants as preset
 
 -- refusal k is -k
 unfoldable pub refused : ℕ → ℤ

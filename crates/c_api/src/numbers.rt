@@ -3,7 +3,7 @@ use window::Answer;
 ghost use mathlib.Core.Path.{_≡_};
 ghost use Prim.Native.Nat.{ℕ, _≤_};
 ghost use lib.IntN.{pos};
-ghost use Rattle.window.specs.declared.Answer.the-variants.{Length};
+ghost use Rattle.coxeter.specs.declared.Answer.the-variants.{Length};
 ghost use Rattle.c_api.specs.Calls.{refused, numberOf};
 
 // The number of a refusal.

@@ -5,7 +5,7 @@ use crate::numbers::size;
 use book::Opened;
 use book::Preset;
 ghost use mathlib.Core.Path.{_≡_};
-ghost use Rattle.book.specs.Calls.{checkedBook, checkedPreset, appending};
+ghost use Rattle.book_format.specs.Calls.{checkedBook, checkedPreset, appending};
 ghost use Rattle.c_api.specs.Calls.{numberOf, openedNumber, fieldsOf};
 
 // Opening a book. Answers the number of its presets.

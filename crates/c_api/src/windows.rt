@@ -1,7 +1,7 @@
 // Calls on windows.
 use crate::numbers::number;
 ghost use mathlib.Core.Path.{_≡_};
-ghost use Rattle.window.specs.Calls.{productOfWindows, inverseOfWindow, normalFormOfWindow, lengthOfWindow};
+ghost use Rattle.coxeter.specs.Calls.{productOfWindows, inverseOfWindow, normalFormOfWindow, lengthOfWindow};
 ghost use Rattle.c_api.specs.Calls.{numberOf};
 
 // The normal form of a window, written to the front of `out`. Answers its length.

@@ -4,8 +4,8 @@ use crate::numbers::refusal;
 use window::Choice;
 use window::Verdict;
 ghost use mathlib.Core.Path.{_≡_};
-ghost use Rattle.window.specs.Dictionary.{shortlex};
-ghost use Rattle.window.specs.Calls.{windowOfWord, normalFormOfWord, productOfWords, inverseOfWord, lengthOfWord, presetsEqual, handsBack, choice};
+ghost use Rattle.coxeter.specs.Dictionary.{shortlex};
+ghost use Rattle.coxeter.specs.Calls.{windowOfWord, normalFormOfWord, productOfWords, inverseOfWord, lengthOfWord, presetsEqual, handsBack, choice};
 ghost use Rattle.c_api.specs.Calls.{numberOf, verdictNumber, choiceNumber};
 
 // The window of a word, written to the front of `out`. Answers the number of its entries.

@@ -13,25 +13,23 @@ use native.Mathlib.Omega.{arith}
 use lib.Dec.{eqb, leb·zero}
 use lib.ListN.{length}
 use borrow.Author.Tests.{eqb-true, not-true, le-ltb}
-use Rattle.window.specs.Kinds.{Kind, A, B, D, kindOf, least, greatest, up}
-use Rattle.window.specs.Windows.{from, exchange, negateFirst, act, windowFrom, straight, window, signed, placeFrom, inverse}
-use Rattle.window.specs.Length.{later, negative, one, laterThan, inversions, negativeSumPairs, negatives, windowLength}
-use Rattle.window.specs.Relations.{twice, forth, alone, next}
-use Rattle.window.specs.Checks.{wrongKind, wrongRank, tooLong, wrongLetter, wrongLanes, hasSize, negativeInA, wrongAt, wrongEntry, odd, oddNegatives}
-use Rattle.window.specs.Checks.{tooShort, rankRefusal, wordRefusal, windowRefusal}
-use Rattle.window.specs.NormalForm.{down, rise, fall, block, without, indexOf, restOf, normalFrom, normalForm, wordNormalForm}
-use Rattle.window.specs.Calls.{sameEntry, sameWindow}
-use Rattle.window.proofs.Order.{sameWindow-true}
-use Rattle.window.proofs.Relations.{linked-window}
-use Rattle.window.proofs.NormalForms.{normalForm-straight}
-use Rattle.window.proofs.NormalCode.{one-le}
-use Rattle.rewriter.specs.Rules.{Rule, rule, each, family1, family2, family3, family4, families5to7, rules, begins, fits, firstFitting, rewritten}
-use Rattle.rewriter.specs.Calls.{pastEnd, refusedStep, usedStep, stepBy}
-use Rattle.rewriter.specs.Runs.{AcceptedWord}
-use Rattle.rewriter.proofs.Calls.{step-accepted}
-use Rattle.rewriter.specs.declared.Rewrite.the-variants.{NoneFits, Refused}
-use Rattle.examples.specs.Examples.{Example, wordWindow, wordForm, wordLength, windowForm, ownInverse, gives, noneFits, squareVanishes, emptyStays}
-use Rattle.examples.specs.Examples.{ruleCount, refused, accepted, number, Gives, Stays, Fact, table}
+use Rattle.coxeter.specs.Kinds.{Kind, A, B, D, kindOf, least, greatest, up}
+use Rattle.coxeter.specs.Windows.{from, exchange, negateFirst, act, windowFrom, straight, window, signed, placeFrom, inverse}
+use Rattle.coxeter.specs.Length.{later, negative, one, laterThan, inversions, negativeSumPairs, negatives, windowLength}
+use Rattle.coxeter.specs.Relations.{twice, forth, alone, next}
+use Rattle.coxeter.specs.Checks.{wrongKind, wrongRank, tooLong, wrongLetter, wrongLanes, hasSize, negativeInA, wrongAt, wrongEntry, odd, oddNegatives, tooShort, rankRefusal, wordRefusal, windowRefusal}
+use Rattle.coxeter.specs.NormalForm.{down, rise, fall, block, without, indexOf, restOf, normalFrom, normalForm, wordNormalForm}
+use Rattle.coxeter.specs.Calls.{sameEntry, sameWindow}
+use Rattle.coxeter.proofs.Order.{sameWindow-true}
+use Rattle.coxeter.proofs.Relations.{linked-window}
+use Rattle.coxeter.proofs.NormalForms.{normalForm-straight}
+use Rattle.coxeter.proofs.KindLaws.{one-le}
+use Rattle.rules.specs.Rules.{Rule, rule, each, family1, family2, family3, family4, families5to7, rules, begins, fits, firstFitting, rewritten}
+use Rattle.rules.specs.Calls.{pastEnd, refusedStep, usedStep, stepBy}
+use Rattle.rules.specs.Runs.{AcceptedWord}
+use Rattle.rules.proofs.Calls.{step-accepted}
+use Rattle.rules.specs.declared.Rewrite.the-variants.{NoneFits, Refused}
+use Rattle.examples.specs.Examples.{Example, wordWindow, wordForm, wordLength, windowForm, ownInverse, gives, noneFits, squareVanishes, emptyStays, ruleCount, refused, accepted, number, Gives, Stays, Fact, table}
 
 -- ---- one rewrite
 

@@ -5,15 +5,15 @@ use mathlib.Core.List.{List, [], _∷_, _++_}
 use Prim.Native.Nat.{ℕ, _≤_}
 use lib.IntN.{ℤ, pos, negℤ}
 use lib.ListN.{length, drop}
-use Rattle.window.specs.Kinds.{Kind, A, B, D, least, greatest}
-use Rattle.window.specs.Windows.{window, inverse}
-use Rattle.window.specs.Length.{windowLength}
-use Rattle.window.specs.Checks.{windowRefusal}
-use Rattle.window.specs.NormalForm.{normalForm, wordNormalForm}
-use Rattle.rewriter.specs.declared.Rewrite.{Rewrite}
-use Rattle.rewriter.specs.declared.Rewrite.the-variants.{Used, NoneFits, Refused}
-use Rattle.rewriter.specs.Rules.{rules}
-use Rattle.rewriter.specs.Calls.{Step, step}
+use Rattle.coxeter.specs.Kinds.{Kind, A, B, D, least, greatest}
+use Rattle.coxeter.specs.Windows.{window, inverse}
+use Rattle.coxeter.specs.Length.{windowLength}
+use Rattle.coxeter.specs.Checks.{windowRefusal}
+use Rattle.coxeter.specs.NormalForm.{normalForm, wordNormalForm}
+use Rattle.rules.specs.declared.Rewrite.{Rewrite}
+use Rattle.rules.specs.declared.Rewrite.the-variants.{Used, NoneFits, Refused}
+use Rattle.rules.specs.Rules.{rules}
+use Rattle.rules.specs.Calls.{Step, step}
 
 -- "Kind 1 is A, 2 is B, 3 is D."
 abbrev pub number : Kind → ℕ

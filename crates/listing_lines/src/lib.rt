@@ -6,11 +6,6 @@ mod printing;
 
 pub use lines::put_count;
 pub use lines::put_refused_book;
+pub use listing_text::Placed;
 pub use presets::put_preset;
 pub use printing::print_book;
-
-// The place after what was written, or that fewer bytes are left than every line has room in.
-pub enum Placed {
-    Next(usize),
-    NoRoom,
-}

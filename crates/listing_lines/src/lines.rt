@@ -1,17 +1,17 @@
 // The lines of the listing, from their fields.
-use crate::Placed;
 use crate::numbers::put_bytes;
 use crate::numbers::put_decimal;
 use crate::numbers::put_entries;
 use crate::numbers::put_letters;
 use crate::numbers::put_spaced;
+use listing_text::Placed;
 ghost use mathlib.Core.Path.{_≡_};
 ghost use Prim.Native.Nat.{_+_, _*_, _≤_};
 ghost use lib.Dec.{leb};
 ghost use lib.ListN.{length};
-ghost use Rattle.window.specs.Kinds.{kindOf};
-ghost use Rattle.listing_lines.specs.Calls.{Put, puts, longest, Within};
-ghost use Rattle.listing_lines.specs.Text.{kindLetter, head, tail, presetLine, refused, refusedLine, refusedBookLine, countLine};
+ghost use Rattle.coxeter.specs.Kinds.{kindOf};
+ghost use Rattle.listing_text.specs.Calls.{Put, puts, longest, Within};
+ghost use Rattle.listing_text.specs.Text.{kindLetter, head, tail, presetLine, refused, refusedLine, refusedBookLine, countLine};
 
 // The bytes that are enough for every line: 4,096 letters, 64 entries and the rest.
 const LONGEST: usize = 16896;

@@ -1,8 +1,8 @@
 // Numbers, letters and entries as text. Each function writes from the place `at` on and answers the place after what it wrote.
 ghost use Prim.Native.Nat.{_+_, _*_, _≤_};
 ghost use lib.ListN.{length};
-ghost use Rattle.listing_lines.specs.Calls.{Put};
-ghost use Rattle.listing_lines.specs.Text as text;
+ghost use Rattle.listing_text.specs.Calls.{Put};
+ghost use Rattle.listing_text.specs.Text as text;
 
 // A number in decimal: the digits before the last one first.
 pub(crate) fn put_decimal(out: &mut [u8], at: usize, x: usize) -> usize

@@ -1,20 +1,20 @@
 // The lines of the presets of a book.
-use crate::Placed;
 use crate::lines::has_room;
 use crate::lines::put_line;
 use crate::lines::put_refused;
 use book::Preset;
 use book::opened_preset;
+use listing_text::Placed;
 use window::Answer;
 use window::normal_form_of_word;
 use window::window_of_word;
 ghost use mathlib.Core.Path.{_≡_};
 ghost use Prim.Native.Nat.{_+_, _≤_};
 ghost use lib.ListN.{length};
-ghost use Rattle.window.specs.Kinds.{kindOf};
-ghost use Rattle.window.specs.Checks.{rankRefusal, wordRefusal};
-ghost use Rattle.listing_lines.specs.Calls.{Put, puts, longest, Within, refusalOf};
-ghost use Rattle.listing_lines.specs.Text.{wordLine, lineOf};
+ghost use Rattle.coxeter.specs.Kinds.{kindOf};
+ghost use Rattle.coxeter.specs.Checks.{rankRefusal, wordRefusal};
+ghost use Rattle.listing_text.specs.Calls.{Put, puts, longest, Within, refusalOf};
+ghost use Rattle.listing_text.specs.Text.{wordLine, lineOf};
 
 // A window with room for every lane count.
 fn blank() -> [i8; 64]

@@ -1,14 +1,14 @@
 // A whole book printed on standard output, in large pieces.
-use crate::Placed;
 use crate::lines::put_count;
 use crate::lines::put_refused_book;
 use crate::presets::put_preset;
 use book::Opened;
 use book::check_book;
 use libc::STDOUT_FILENO;
+use listing_text::Placed;
 ghost use Prim.Native.Nat.{_+_, _≤_};
 ghost use lib.ListN.{length};
-ghost use Rattle.listing_lines.specs.Calls.{Filled, longest};
+ghost use Rattle.listing_text.specs.Calls.{Filled, longest};
 
 // A piece of a listing: the first preset after it, and where it ends in the buffer.
 struct Piece {

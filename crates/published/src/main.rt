@@ -6,7 +6,7 @@ mod limits;
 mod outputs;
 mod presentation;
 mod presented;
-mod rules;
+mod rule_lists;
 mod tally;
 mod windows;
 mod words;

@@ -1,7 +1,7 @@
 // The published rules of kind D against the rewriter, and document 01's rules against the published ones.
 use crate::presentation;
 use crate::presentation::Name;
-use crate::rules;
+use crate::rule_lists;
 use crate::tally::Tally;
 use crate::words;
 use rewriter::Rewrite;
@@ -138,7 +138,7 @@ fn our_rule_is_published(n: usize, family: usize, i: usize, j: usize) -> bool
 {
     let mut left = words::side();
     let mut right = words::side();
-    rules::put_sides(n, family, i, j, &mut left, &mut right);
+    rule_lists::put_sides(n, family, i, j, &mut left, &mut right);
     words::mirror(n, &mut left);
     words::mirror(n, &mut right);
     is_published(n, words::word(&left), words::word(&right))
@@ -157,7 +157,7 @@ fn counted_ours(t: Tally, n: usize, family: usize, i: usize, j: usize) -> Tally
     if 2 * n <= j {
         return t;
     }
-    if rules::is_rule(n, family, i, j) {
+    if rule_lists::is_rule(n, family, i, j) {
         return t.counted(our_rule_is_published(n, family, i, j));
     }
     t

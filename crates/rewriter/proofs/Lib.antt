@@ -1,20 +1,2 @@
--- The laws of the rewriter layer.
-pub mod Families
-pub mod Rewriting
-pub mod Letters
-pub mod Derivations
-pub mod RuleList
-pub mod Ending
-pub mod NextLetter
-pub mod Extending
-pub mod Irreducible
-pub mod Fits
-pub mod Completeness
-pub mod Calls
-pub mod Demand3
-pub mod Scan
-pub mod ScanFamilies
-pub mod ScanRules
-pub mod SearchCode
-pub mod WritingCode
-pub mod RewriteCode
+-- What the proof of `rewrite_at` uses. The laws about a module lie in its folder.
+pub mod Rewrites

@@ -1,26 +1,15 @@
 // The rewriter layer: one rewrite at a named place. No public function has a `requires`.
+pub use rules::Rewrite;
 use search::Fitting;
 use search::fitting_rule;
 use window::rank_refusal;
 use window::word_refusal;
 use writing::new_length;
 use writing::write_rewritten;
-ghost use Rattle.rewriter.specs.Calls.{Rewrote};
+ghost use Rattle.rules.specs.Calls.{Rewrote};
 
 mod search;
 mod writing;
-
-// One rewrite at a named place: the rule used with the new word's length, or that none fits, or a refusal.
-pub enum Rewrite {
-    Used {
-        family: u8,
-        i: u8,
-        j: u8,
-        length: usize,
-    },
-    NoneFits,
-    Refused(u8),
-}
 
 // Replaces the left side of the rule that begins at `place` and lies wholly inside the word; at one place at most one rule does. The new
 // word goes to the front of `out`. Where none fits, or a check refuses the call, nothing is written.

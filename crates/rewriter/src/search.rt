@@ -6,10 +6,10 @@ ghost use mathlib.Core.Option.{none, some};
 ghost use Prim.Native.Nat.{_+_, _-_, _*_, _<_, _≤_};
 ghost use lib.Dec.{eqb, ltb};
 ghost use lib.ListN.{length};
-ghost use Rattle.window.specs.Kinds.{pick, kindOf, least};
-ghost use Rattle.window.specs.NormalForm.{levels, lastIndex};
-ghost use Rattle.window.specs.Checks.{wrongLetter};
-ghost use Rattle.rewriter.specs.Rules.{rules, firstFitting};
+ghost use Rattle.coxeter.specs.Kinds.{pick, kindOf, least};
+ghost use Rattle.coxeter.specs.NormalForm.{levels, lastIndex};
+ghost use Rattle.coxeter.specs.Checks.{wrongLetter};
+ghost use Rattle.rules.specs.Rules.{rules, firstFitting};
 
 // A rule that fits, as a rewrite answers it, with the length of its left side.
 pub(crate) enum Fitting {

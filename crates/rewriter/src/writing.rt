@@ -4,7 +4,7 @@ ghost use mathlib.Core.List.{[], _∷_, _++_};
 ghost use Prim.Native.Nat.{_+_, _-_, _<_, _≤_};
 ghost use lib.Dec.{eqb, ltb};
 ghost use lib.ListN.{length, take, drop};
-ghost use Rattle.window.specs.Kinds.{pick};
+ghost use Rattle.coxeter.specs.Kinds.{pick};
 
 // `part` written to `out` from `at` on.
 fn copy(part: &[u8], out: &mut [u8], at: usize)

@@ -4,9 +4,9 @@ ghost use mathlib.Core.Bool.{false};
 ghost use Prim.Native.Nat.{_+_, _<_, _≤_};
 ghost use lib.IntN.{natAbs, pos};
 ghost use lib.ListN.{length, getD};
-ghost use Rattle.window.specs.Kinds.{kindOf, lanes, least};
-ghost use Rattle.window.specs.Windows.{from, exchange, negateFirst, exchangeNegate, act, windowFrom, straight, window};
-ghost use Rattle.window.specs.Checks.{wrongLetter, windowRefusal};
+ghost use Rattle.coxeter.specs.Kinds.{kindOf, lanes, least};
+ghost use Rattle.coxeter.specs.Windows.{from, exchange, negateFirst, exchangeNegate, act, windowFrom, straight, window};
+ghost use Rattle.coxeter.specs.Checks.{wrongLetter, windowRefusal};
 use super::entries::negated;
 
 // w[p] and w[p + 1] exchanged.

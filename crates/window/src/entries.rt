@@ -1,27 +1,8 @@
-// Entries of a window, as signed bytes. Everything else works on sizes and signs.
+// Entries of a window made as signed bytes, from others or from a size and a sign.
 ghost use mathlib.Core.Path.{_≡_};
 ghost use Prim.Native.Nat.{_<_};
 ghost use lib.IntN.{natAbs, negℤ, pos};
-ghost use Rattle.window.specs.Kinds.{pick};
-ghost use Rattle.window.specs.Length.{negative};
-
-// The size of an entry. No byte is negated before its range is known: -128 has the size 128.
-pub(crate) fn size(e: i8) -> u8
-    ensures { λ r. ⌜ r ≡ natAbs e ⌝ }
-{
-    if e < 0 {
-        let below = -1 - e;
-        (below as u8) + 1
-    } else {
-        e as u8
-    }
-}
-
-pub(crate) fn is_negative(e: i8) -> bool
-    ensures { λ r. ⌜ r ≡ negative e ⌝ }
-{
-    e < 0
-}
+ghost use Rattle.coxeter.specs.Kinds.{pick};
 
 pub(crate) fn negated(e: i8) -> i8
     requires { ⌜ natAbs e < 128 ⌝ }

@@ -3,10 +3,10 @@ use crate::Answer;
 use crate::length::length_of;
 use crate::normal::write_normal_form;
 ghost use mathlib.Core.Path.{_≡_};
-ghost use Rattle.window.specs.Kinds.{kindOf};
-ghost use Rattle.window.specs.Checks.{rankRefusal, windowRefusal};
-ghost use Rattle.window.specs.NormalForm.{normalForm};
-ghost use Rattle.window.specs.Calls.{writes};
+ghost use Rattle.coxeter.specs.Kinds.{kindOf};
+ghost use Rattle.coxeter.specs.Checks.{rankRefusal, windowRefusal};
+ghost use Rattle.coxeter.specs.NormalForm.{normalForm};
+ghost use Rattle.coxeter.specs.Calls.{writes};
 
 // Check 14 against the answer's length, then the normal form to the front of `out`; `work` is used up.
 pub(crate) fn write_checked(kind: u8, rank: u8, work: &mut [i8], out: &mut [u8]) -> Answer

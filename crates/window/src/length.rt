@@ -1,14 +1,14 @@
 // The length of a window, by one comparison of sizes for each pair of its entries.
-use crate::entries::is_negative;
-use crate::entries::size;
+use refusals::is_negative;
+use refusals::size;
 ghost use mathlib.Core.Path.{_≡_};
 ghost use mathlib.Core.List.{map};
 ghost use Prim.Native.Nat.{_+_, _≤_};
 ghost use lib.IntN.{natAbs, pos};
 ghost use lib.ListN.{length};
-ghost use Rattle.window.specs.Kinds.{B, kindOf, lanes};
-ghost use Rattle.window.specs.Length.{laterThan, inversions, negativeSumPairs, negatives, windowLength};
-ghost use Rattle.window.specs.Checks.{windowRefusal};
+ghost use Rattle.coxeter.specs.Kinds.{B, kindOf, lanes};
+ghost use Rattle.coxeter.specs.Length.{laterThan, inversions, negativeSumPairs, negatives, windowLength};
+ghost use Rattle.coxeter.specs.Checks.{windowRefusal};
 
 fn no_sizes() -> [u8; 64]
     ensures { λ r. ⌜ length r ≡ 64 ⌝ }

@@ -3,7 +3,6 @@
 // Kinds and ranks are document 01's numbers, words are bytes, windows signed bytes. No public function has a `requires`: every input is
 // checked in document 01's order, and what a call answers and writes is a definition of specs/ for every input, refused ones included.
 mod action;
-mod checks;
 mod entries;
 mod forms;
 mod length;
@@ -13,17 +12,20 @@ mod shown;
 mod words;
 
 use action::show;
-use checks::lanes;
-use checks::preset_refusal;
-pub use checks::rank_refusal;
-use checks::ranked_window_refusal;
-use checks::ranked_windows_refusal;
-use checks::ranked_words_refusal;
-pub use checks::word_refusal;
+pub use coxeter::Answer;
+pub use coxeter::Choice;
+pub use coxeter::Verdict;
 use forms::write_checked;
 use length::length_of;
 use product::inverse_into;
 use product::product_into;
+use refusals::lanes;
+use refusals::preset_refusal;
+pub use refusals::rank_refusal;
+use refusals::ranked_window_refusal;
+use refusals::ranked_windows_refusal;
+use refusals::ranked_words_refusal;
+pub use refusals::word_refusal;
 use shown::copied;
 use shown::equal_words;
 use shown::inverse_shown;
@@ -32,29 +34,9 @@ use shown::product_shown;
 use shown::shown;
 use words::is_shortlex;
 ghost use mathlib.Core.Path.{_≡_};
-ghost use Rattle.window.specs.Dictionary.{shortlex};
-ghost use Rattle.window.specs.Calls.{windowOfWord, productOfWindows, inverseOfWindow, lengthOfWindow, lengthOfWord, presetsEqual, handsBack, choice, Better};
-ghost use Rattle.window.specs.Calls.{normalFormOfWindow, normalFormOfWord, productOfWords, inverseOfWord};
-
-// The answer of a call that writes, or that measures a length: the length, or the refusal's number.
-pub enum Answer {
-    Length(usize),
-    Refused(u8),
-}
-
-// An equality verdict, or the refusal's number.
-pub enum Verdict {
-    Yes,
-    No,
-    Refused(u8),
-}
-
-// Which of two words is the better one.
-pub enum Choice {
-    First,
-    Second,
-    Neither,
-}
+ghost use Rattle.coxeter.specs.Dictionary.{shortlex};
+ghost use Rattle.coxeter.specs.Calls.{windowOfWord, productOfWindows, inverseOfWindow, lengthOfWindow, lengthOfWord, presetsEqual, handsBack, choice, Better};
+ghost use Rattle.coxeter.specs.Calls.{normalFormOfWindow, normalFormOfWord, productOfWords, inverseOfWord};
 
 // The window of a word, written to the front of `out`.
 pub fn window_of_word(kind: u8, rank: u8, word: &[u8], out: &mut [i8]) -> Answer

@@ -1,7 +1,7 @@
 // The normal form of an accepted window, written level by level: the blocks of the higher levels first.
-use crate::entries::is_negative;
 use crate::entries::negated;
-use crate::entries::size;
+use refusals::is_negative;
+use refusals::size;
 ghost use mathlib.Core.Path.{_≡_};
 ghost use mathlib.Core.Bool.{true, false};
 ghost use mathlib.Core.List.{_++_};
@@ -9,10 +9,10 @@ ghost use Prim.Native.Nat.{ℕ, _+_, _-_, _*_, _<_, _≤_};
 ghost use lib.IntN.{natAbs, pos, negsuc};
 ghost use lib.ListN.{length, take, drop, getD};
 ghost use lib.Seq.{sets};
-ghost use Rattle.window.specs.Kinds.{kindOf, least};
-ghost use Rattle.window.specs.Windows.{placeFrom};
-ghost use Rattle.window.specs.Checks.{hasSize, windowRefusal};
-ghost use Rattle.window.specs.NormalForm.{rise, fall, block, levels, without, indexOf, restOf, normalFrom, normalForm};
+ghost use Rattle.coxeter.specs.Kinds.{kindOf, least};
+ghost use Rattle.coxeter.specs.Windows.{placeFrom};
+ghost use Rattle.coxeter.specs.Checks.{hasSize, windowRefusal};
+ghost use Rattle.coxeter.specs.NormalForm.{rise, fall, block, levels, without, indexOf, restOf, normalFrom, normalForm};
 
 // The letters from a up to b, written from the place `at` on; the answer is the place after them.
 fn write_up(out: &mut [u8], at: usize, a: usize, b: usize) -> usize

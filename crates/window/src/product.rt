@@ -1,16 +1,16 @@
 // Products and inverses of accepted windows, and whether two windows are equal.
 use crate::entries::entry;
-use crate::entries::is_negative;
 use crate::entries::negated;
-use crate::entries::size;
+use refusals::is_negative;
+use refusals::size;
 ghost use mathlib.Core.Path.{_≡_};
 ghost use Prim.Native.Nat.{_≤_, _<_};
 ghost use lib.IntN.{natAbs};
 ghost use lib.ListN.{length};
-ghost use Rattle.window.specs.Kinds.{kindOf};
-ghost use Rattle.window.specs.Windows.{at, product, inverse};
-ghost use Rattle.window.specs.Checks.{windowRefusal};
-ghost use Rattle.window.specs.Calls.{sameWindow};
+ghost use Rattle.coxeter.specs.Kinds.{kindOf};
+ghost use Rattle.coxeter.specs.Windows.{at, product, inverse};
+ghost use Rattle.coxeter.specs.Checks.{windowRefusal};
+ghost use Rattle.coxeter.specs.Calls.{sameWindow};
 
 // u(e).
 fn image(u: &[i8], e: i8) -> i8

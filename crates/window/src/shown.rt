@@ -1,19 +1,19 @@
 // What words show, in a work window of this module's own.
 use crate::action::apply;
 use crate::action::show;
-use crate::checks::lanes;
 use crate::length::length_of;
 use crate::product::inverse_into;
 use crate::product::same_entries;
+use refusals::lanes;
 ghost use mathlib.Core.Path.{_≡_};
 ghost use Prim.Native.Nat.{_≤_};
 ghost use lib.ListN.{length, take};
-ghost use Rattle.window.specs.Kinds as kinds;
-ghost use Rattle.window.specs.Kinds.{kindOf};
-ghost use Rattle.window.specs.Windows.{window, product, inverse};
-ghost use Rattle.window.specs.Length.{windowLength};
-ghost use Rattle.window.specs.Checks.{rankRefusal, wordRefusal};
-ghost use Rattle.window.specs.Calls.{equalWords};
+ghost use Rattle.coxeter.specs.Kinds as kinds;
+ghost use Rattle.coxeter.specs.Kinds.{kindOf};
+ghost use Rattle.coxeter.specs.Windows.{window, product, inverse};
+ghost use Rattle.coxeter.specs.Length.{windowLength};
+ghost use Rattle.coxeter.specs.Checks.{rankRefusal, wordRefusal};
+ghost use Rattle.coxeter.specs.Calls.{equalWords};
 
 // A window with room for every lane count.
 fn blank() -> [i8; 64]

@@ -1,6 +1,6 @@
 // The order of words.
 ghost use mathlib.Core.Path.{_≡_};
-ghost use Rattle.window.specs.Dictionary.{shortlex};
+ghost use Rattle.coxeter.specs.Dictionary.{shortlex};
 
 // Shorter, or as long and earlier in the dictionary: at the first difference the higher letter comes first.
 pub(crate) fn is_shortlex(u: &[u8], v: &[u8]) -> bool

@@ -6,7 +6,7 @@ use native.Mathlib.Omega.{arith}
 use lib.ListN.{length}
 use lib.Seq.{length-take-le}
 use borrow.Author.Needs.{needs}
-use Rattle.listing_lines.proofs.Listings.{within-next}
+use Rattle.listing_text.proofs.Listings.{within-next}
 use Rattle.listing_books.proofs.print_ends.Statement.{statement}
 use Rattle.listing_books.proofs.print_ends.Tie as tie
 

@@ -3,21 +3,11 @@
 use mathlib.Core.Path.{sym, _∙_}
 use native.Mathlib.Omega.{arith}
 use borrow.Author.Needs.{needs}
-use Rattle.window.specs.Kinds.{kindOf}
-use Rattle.rewriter.specs.Runs.{AcceptedWord}
-use Rattle.rewriter.proofs.Calls.{accepted-least, accepted-letters}
-use Rattle.rewriter.proofs.Scan.{firstLetter}
-use Rattle.rewriter.proofs.RewriteCode.{
-  Fitted,
-  fitted,
-  rewrote-rank,
-  rewrote-word,
-  rewrote-place,
-  rank-between,
-  rewrote-none,
-  rewrote-short,
-  rewrote-used,
-}
+use Rattle.coxeter.specs.Kinds.{kindOf}
+use Rattle.rules.specs.Runs.{AcceptedWord}
+use Rattle.rules.proofs.Calls.{accepted-least, accepted-letters}
+use Rattle.rules.proofs.Scan.{firstLetter}
+use Rattle.rewriter.proofs.Rewrites.{Fitted, fitted, rewrote-rank, rewrote-word, rewrote-place, rank-between, rewrote-none, rewrote-short, rewrote-used}
 use Rattle.rewriter.proofs.rewrite_at.Statement.{statement}
 use Rattle.rewriter.proofs.rewrite_at.Tie as tie
 

@@ -1,7 +1,7 @@
 -- `better_word` hands back the lent slice that `which_better` chooses, or an empty part of the first.
 -- Assumes nothing.
 use mathlib.Core.Path.{sym, _∙_}
-use Rattle.window.proofs.VerdictLaws.{better-part, better-second, better-first}
+use Rattle.window.proofs.Better.{better-part, better-second, better-first}
 use borrow.Author.Needs.{needs}
 use Rattle.window.proofs.better_word.Statement.{statement}
 use Rattle.window.proofs.better_word.Tie as tie

@@ -2,8 +2,9 @@
 -- Assumes nothing.
 use mathlib.Core.Path.{sym}
 use lib.Seq.{length-take-le}
-use Rattle.window.proofs.Inverses.{length-inverse}
-use Rattle.window.proofs.CallLaws.{window-passed, writes-refused, writes-short, writes-done, inverseOfWindow-is}
+use Rattle.coxeter.proofs.Inverses.{length-inverse}
+use Rattle.coxeter.proofs.Acceptance.{window-passed}
+use Rattle.coxeter.proofs.Outcomes.{writes-refused, writes-short, writes-done, inverseOfWindow-is}
 use borrow.Author.Needs.{needs}
 use Rattle.window.proofs.inverse_of_window.Statement.{statement}
 use Rattle.window.proofs.inverse_of_window.Tie as tie

@@ -1,10 +1,10 @@
 -- `inverse_of_word` refuses in document 01's order, or writes the normal form of the inverse of what the word shows.
 -- Assumes nothing.
 use mathlib.Core.Path.{sym, _∙_}
-use Rattle.window.proofs.CallLaws.{writes-refused}
-use Rattle.window.proofs.ShownLaws.{room, length-front-part, front-is, front-refusal, inverse-passes}
-use Rattle.window.proofs.FormCode.{call-written, inverseOfWord-is}
-use Rattle.window.proofs.Refusals.{then-zero}
+use Rattle.coxeter.proofs.Outcomes.{writes-refused}
+use Rattle.window.proofs.shown.Fronts.{room, length-front-part, front-is, front-refusal, inverse-passes}
+use Rattle.window.proofs.forms.Rooms.{call-written, inverseOfWord-is}
+use Rattle.coxeter.proofs.Refusals.{then-zero}
 use borrow.Author.Needs.{needs}
 use Rattle.window.proofs.inverse_of_word.Statement.{statement}
 use Rattle.window.proofs.inverse_of_word.Tie as tie

@@ -1,9 +1,9 @@
 -- `length_of_window` refuses in document 01's order, or measures the window.
 -- Assumes nothing.
 use mathlib.Core.Path.{refl, sym, _∙_}
-use Rattle.window.proofs.Refusals.{then-zero}
-use Rattle.window.proofs.CallLaws.{lanes-le}
-use Rattle.window.proofs.VerdictLaws.{answer-refused, answer-length, lengthOfWindow-is}
+use Rattle.coxeter.proofs.Refusals.{then-zero}
+use Rattle.coxeter.proofs.Acceptance.{lanes-le}
+use Rattle.coxeter.proofs.Outcomes.{answer-refused, answer-length, lengthOfWindow-is}
 use borrow.Author.Needs.{needs}
 use Rattle.window.proofs.length_of_window.Statement.{statement}
 use Rattle.window.proofs.length_of_window.Tie as tie

@@ -1,8 +1,8 @@
 -- `length_of_word` refuses in document 01's order, or measures what the word shows.
 -- Assumes nothing.
 use mathlib.Core.Path.{sym, _∙_}
-use Rattle.window.proofs.VerdictLaws.{answer-refused, answer-length, lengthOfWord-is}
-use Rattle.window.proofs.Refusals.{then-zero}
+use Rattle.coxeter.proofs.Outcomes.{answer-refused, answer-length, lengthOfWord-is}
+use Rattle.coxeter.proofs.Refusals.{then-zero}
 use borrow.Author.Needs.{needs}
 use Rattle.window.proofs.length_of_word.Statement.{statement}
 use Rattle.window.proofs.length_of_word.Tie as tie

@@ -2,10 +2,10 @@
 -- Assumes nothing.
 use mathlib.Core.Path.{sym, ap, _∙_}
 use lib.ListN.{length}
-use Rattle.window.proofs.CallLaws.{writes-refused}
-use Rattle.window.proofs.FormCode.{window-fits, call-written, normalFormOfWindow-is}
-use Rattle.window.proofs.Refusals.{then-zero}
-use Rattle.window.specs.Checks.{windowRefusal}
+use Rattle.coxeter.proofs.Outcomes.{writes-refused}
+use Rattle.window.proofs.forms.Rooms.{window-fits, call-written, normalFormOfWindow-is}
+use Rattle.coxeter.proofs.Refusals.{then-zero}
+use Rattle.coxeter.specs.Checks.{windowRefusal}
 use borrow.Author.Needs.{needs}
 use native.Mathlib.Omega.{arith}
 use Rattle.window.proofs.normal_form_of_window.Statement.{statement}

@@ -1,7 +1,8 @@
 -- `presets_equal` refuses in document 01's order, or compares what the two presets show.
 -- Assumes nothing.
-use Rattle.window.proofs.VerdictLaws.{verdict-refused, verdict-no, verdict-yes, presetsEqual-is, kinds-differ, ranks-differ, same-rank, presets-accepted}
-use Rattle.window.proofs.Refusals.{then-refused, then-next}
+use Rattle.coxeter.proofs.Outcomes.{verdict-refused, verdict-no, verdict-yes, presetsEqual-is, kinds-differ, ranks-differ, same-rank}
+use Rattle.coxeter.proofs.Acceptance.{presets-accepted}
+use Rattle.coxeter.proofs.Refusals.{then-refused, then-next}
 use mathlib.Core.Path.{sym, _∙_}
 use borrow.Author.Needs.{needs}
 use Rattle.window.proofs.presets_equal.Statement.{statement}

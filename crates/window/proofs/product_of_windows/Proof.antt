@@ -2,9 +2,10 @@
 -- Assumes nothing.
 use mathlib.Core.Path.{sym, _∙_}
 use lib.Seq.{length-take-le}
-use Rattle.window.proofs.Products.{length-product}
-use Rattle.window.proofs.ProductCode.{same-length-of-refusals}
-use Rattle.window.proofs.CallLaws.{windows-passed, writes-refused, writes-short, writes-done, productOfWindows-is}
+use Rattle.coxeter.proofs.Products.{length-product}
+use Rattle.window.proofs.product.Entries.{same-length-of-refusals}
+use Rattle.coxeter.proofs.Acceptance.{windows-passed}
+use Rattle.coxeter.proofs.Outcomes.{writes-refused, writes-short, writes-done, productOfWindows-is}
 use borrow.Author.Needs.{needs}
 use Rattle.window.proofs.product_of_windows.Statement.{statement}
 use Rattle.window.proofs.product_of_windows.Tie as tie

@@ -1,10 +1,10 @@
 -- `product_of_words` refuses in document 01's order, or writes the normal form of the product of what the words show.
 -- Assumes nothing.
 use mathlib.Core.Path.{sym}
-use Rattle.window.proofs.CallLaws.{writes-refused}
-use Rattle.window.proofs.VerdictLaws.{words-accepted}
-use Rattle.window.proofs.ShownLaws.{room, length-front-part, front-is, front-refusal, product-passes}
-use Rattle.window.proofs.FormCode.{call-written, productOfWords-is}
+use Rattle.coxeter.proofs.Outcomes.{writes-refused}
+use Rattle.coxeter.proofs.Acceptance.{words-accepted}
+use Rattle.window.proofs.shown.Fronts.{room, length-front-part, front-is, front-refusal, product-passes}
+use Rattle.window.proofs.forms.Rooms.{call-written, productOfWords-is}
 use borrow.Author.Needs.{needs}
 use Rattle.window.proofs.product_of_words.Statement.{statement}
 use Rattle.window.proofs.product_of_words.Tie as tie

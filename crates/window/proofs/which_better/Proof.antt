@@ -1,7 +1,9 @@
 -- `which_better` chooses the word that comes first by length and dictionary where the windows are equal, and else neither.
 -- Assumes nothing.
 use mathlib.Core.Path.{sym, _∙_}
-use Rattle.window.proofs.VerdictLaws.{words-accepted, handsBack-refused, handsBack-words, choice-neither, choice-second, choice-first}
+use Rattle.coxeter.proofs.Acceptance.{words-accepted}
+use Rattle.coxeter.proofs.Outcomes.{handsBack-refused, handsBack-words}
+use Rattle.window.proofs.Better.{choice-neither, choice-second, choice-first}
 use borrow.Author.Needs.{needs}
 use Rattle.window.proofs.which_better.Statement.{statement}
 use Rattle.window.proofs.which_better.Tie as tie

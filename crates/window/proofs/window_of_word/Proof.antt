@@ -2,8 +2,9 @@
 -- Assumes nothing.
 use mathlib.Core.Path.{sym, _∙_}
 use lib.Seq.{length-take-le}
-use Rattle.window.proofs.CallLaws.{preset-accepted, writes-refused, writes-short, writes-done, windowOfWord-is}
-use Rattle.window.proofs.Basics.{length-window}
+use Rattle.coxeter.proofs.Acceptance.{preset-accepted}
+use Rattle.coxeter.proofs.Outcomes.{writes-refused, writes-short, writes-done, windowOfWord-is}
+use Rattle.coxeter.proofs.Basics.{length-window}
 use borrow.Author.Needs.{needs}
 use Rattle.window.proofs.window_of_word.Statement.{statement}
 use Rattle.window.proofs.window_of_word.Tie as tie

@@ -6,7 +6,7 @@ use native.Mathlib.Omega.{arith}
 use lib.ListN.{length, drop, length-set}
 use lib.Seq.{sets}
 use denote.Ref.{now}
-use Rattle.book.proofs.Stores.{sets-start, sets-step, sets-end}
+use Rattle.coxeter.proofs.Lists.{sets-start, sets-step, sets-end}
 use Rattle.book.proofs.numbers.copy_to.Statement.{statement}
 use Rattle.book.proofs.numbers.copy_to.Tie as tie
 

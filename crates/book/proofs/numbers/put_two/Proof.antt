@@ -1,6 +1,6 @@
 -- `numbers::put_two` stores the two bytes of a number.
 -- Assumes nothing.
-use Rattle.book.proofs.Stores.{sets-two}
+use Rattle.book.proofs.numbers.Stores.{sets-two}
 use borrow.Author.Needs.{needs}
 use Rattle.book.proofs.numbers.put_two.Statement.{statement}
 use Rattle.book.proofs.numbers.put_two.Tie as tie

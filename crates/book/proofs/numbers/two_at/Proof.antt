@@ -3,7 +3,7 @@
 use mathlib.Core.Path.{refl}
 use Prim.Native.Nat.{_+_}
 use native.Mathlib.Omega.{arith}
-use Rattle.book.specs.Books.{twoAt}
+use Rattle.book_format.specs.Books.{twoAt}
 use borrow.Author.Needs.{needs}
 use Rattle.book.proofs.numbers.two_at.Statement.{statement}
 use Rattle.book.proofs.numbers.two_at.Tie as tie

@@ -43,13 +43,13 @@ use denote.Triple.Table.{entered, cited}
 use denote.Triple.Walked.{says, Stays, stay-none, walkOf, goes-none, Walks, ends-at, walked, walk-meets}
 use denote.Exit.{yes}
 use denote.Triple.Clauses.{ensured, lasts}
-use Rattle.book.specs.Calls.{checkedPreset}
+use Rattle.book_format.specs.Calls.{checkedPreset}
 use Rattle.book.specs.declared.reader.Reader.{Reader}
-use Rattle.book.specs.declared.Preset.{Preset}
+use Rattle.book_format.specs.declared.Preset.{Preset}
 use Rattle.book.proofs.reader.Reader as T
 use Rattle.book.proofs.reader.Reader.Laws as T′
-use Rattle.book.proofs.Preset as S
-use Rattle.book.proofs.Preset.Laws as S′
+use Rattle.book_format.proofs.Preset as S
+use Rattle.book_format.proofs.Preset.Laws as S′
 use Rattle.book.proofs.reading.check_preset as check
 use Rattle.book.proofs.reading.check_preset.Symbol as check-def
 use Rattle.book.proofs.reading.check_preset.Symbol.{name as #book·reading·check-preset}

@@ -42,7 +42,7 @@ use denote.Triple.Table.{entered, cited}
 use denote.Triple.Walked.{says, Stays, stay-none, onExit, walkOf, goes-none, Walks, ends-at, walked, walk-meets}
 use denote.Exit.{yes}
 use denote.Triple.Clauses.{ensured, lasts}
-use Rattle.book.specs.Calls.{lettersOf, lettersStart}
+use Rattle.book_format.specs.Calls.{lettersOf, lettersStart}
 use Rattle.book.specs.declared.reader.Reader.{Reader}
 use Rattle.book.proofs.reader.Reader as T
 use Rattle.book.proofs.reader.Reader.Laws as T′

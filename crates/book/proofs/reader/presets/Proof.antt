@@ -41,13 +41,13 @@ use denote.Triple.Table.{entered, cited}
 use denote.Triple.Walked.{says, Stays, stay-none, walkOf, goes-none, Walks, ends-at, walked, walk-meets}
 use denote.Exit.{yes}
 use denote.Triple.Clauses.{ensured, lasts}
-use Rattle.book.specs.Calls.{checkedBook}
+use Rattle.book_format.specs.Calls.{checkedBook}
 use Rattle.book.specs.declared.reader.Reader.{Reader}
-use Rattle.book.specs.declared.Opened.{Opened}
+use Rattle.book_format.specs.declared.Opened.{Opened}
 use Rattle.book.proofs.reader.Reader as T
 use Rattle.book.proofs.reader.Reader.Laws as T′
-use Rattle.book.proofs.Opened as S
-use Rattle.book.proofs.Opened.Laws as S′
+use Rattle.book_format.proofs.Opened as S
+use Rattle.book_format.proofs.Opened.Laws as S′
 use Rattle.book.proofs.reading.check_book as check
 use Rattle.book.proofs.reading.check_book.Symbol as check-def
 use Rattle.book.proofs.reading.check_book.Symbol.{name as #book·reading·check-book}

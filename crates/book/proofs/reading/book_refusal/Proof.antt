@@ -1,8 +1,8 @@
 -- `reading::book_refusal` makes checks 1 to 3 in this order.
 -- Assumes nothing.
 use mathlib.Core.Path.{sym, ap, _∙_}
-use Rattle.window.specs.Checks.{check}
-use Rattle.book.proofs.BookLaws.{count-read, bookRefusal-small, bookRefusal-large, bookRefusal-count, bookRefusal-walk}
+use Rattle.coxeter.specs.Checks.{check}
+use Rattle.book_format.proofs.BookLaws.{count-read, bookRefusal-small, bookRefusal-large, bookRefusal-count, bookRefusal-walk}
 use borrow.Author.Needs.{needs}
 use Rattle.book.proofs.reading.book_refusal.Statement.{statement}
 use Rattle.book.proofs.reading.book_refusal.Tie as tie

@@ -2,8 +2,8 @@
 -- Assumes nothing.
 use mathlib.Core.Path.{sym}
 use native.Mathlib.Omega.{arith}
-use Rattle.book.proofs.BookLaws.{accepted-read}
-use Rattle.book.proofs.PresetLaws.{checkedBook-refused, checkedBook-presets}
+use Rattle.book_format.proofs.BookLaws.{accepted-read}
+use Rattle.book_format.proofs.PresetLaws.{checkedBook-refused, checkedBook-presets}
 use borrow.Author.Needs.{needs}
 use Rattle.book.proofs.reading.check_book.Statement.{statement}
 use Rattle.book.proofs.reading.check_book.Tie as tie

@@ -1,7 +1,7 @@
 -- `reading::check_preset` makes checks 1 to 3 and then those of a preset of an opened book.
 -- Assumes nothing.
 use mathlib.Core.Path.{sym, _∙_}
-use Rattle.book.proofs.PresetLaws.{checkedPreset-book, checkedPreset-opened}
+use Rattle.book_format.proofs.PresetLaws.{checkedPreset-book, checkedPreset-opened}
 use borrow.Author.Needs.{needs}
 use Rattle.book.proofs.reading.check_preset.Statement.{statement}
 use Rattle.book.proofs.reading.check_preset.Tie as tie

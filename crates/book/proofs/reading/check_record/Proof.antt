@@ -1,7 +1,7 @@
 -- `reading::check_record` makes checks 5 to 8 in this order.
 -- Assumes nothing.
 use mathlib.Core.Path.{sym}
-use Rattle.book.proofs.PresetLaws.{checkedRecord-rank, checkedRecord-word, checkedRecord-found}
+use Rattle.book_format.proofs.PresetLaws.{checkedRecord-rank, checkedRecord-word, checkedRecord-found}
 use borrow.Author.Needs.{needs}
 use Rattle.book.proofs.reading.check_record.Statement.{statement}
 use Rattle.book.proofs.reading.check_record.Tie as tie

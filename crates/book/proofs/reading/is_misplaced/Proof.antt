@@ -4,8 +4,8 @@ use mathlib.Core.Path.{_≡_, sym, _∙_}
 use Prim.Native.Nat.{_≤_, _+_, _-_, _*_}
 use native.Mathlib.Omega.{arith}
 use lib.ListN.{length}
-use Rattle.book.specs.Books.{misplaced, misplacedFrom}
-use Rattle.book.proofs.BookLaws.{misplaced-start, misplaced-offset, misplaced-room, misplaced-end, misplaced-step, misplaced-last}
+use Rattle.book_format.specs.Books.{misplaced, misplacedFrom}
+use Rattle.book_format.proofs.BookLaws.{misplaced-start, misplaced-offset, misplaced-room, misplaced-end, misplaced-step, misplaced-last}
 use Rattle.book.proofs.reading.is_misplaced.Statement.{statement}
 use Rattle.book.proofs.reading.is_misplaced.Tie as tie
 

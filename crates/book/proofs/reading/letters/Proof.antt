@@ -2,7 +2,7 @@
 -- Assumes nothing.
 use mathlib.Core.Path.{refl, sym, _∙_}
 use native.Mathlib.Omega.{arith}
-use Rattle.book.proofs.PresetLaws.{found, found-inside, found-small, lettersOf-found, lettersStart-found, refused, lettersOf-refused, lettersStart-refused}
+use Rattle.book_format.proofs.PresetLaws.{found, found-inside, found-small, lettersOf-found, lettersStart-found, refused, lettersOf-refused, lettersStart-refused}
 use borrow.Author.Needs.{needs}
 use Rattle.book.proofs.reading.letters.Statement.{statement}
 use Rattle.book.proofs.reading.letters.Tie as tie

@@ -1,7 +1,7 @@
 -- `reading::opened_preset` makes the tests of a preset of an opened book in the order of the definition.
 -- Assumes nothing.
 use mathlib.Core.Path.{sym, _∙_}
-use Rattle.book.proofs.PresetLaws.{openedPreset-small, openedPreset-large, openedPreset-count, openedPreset-number, openedPreset-room, openedPreset-end, openedPreset-record}
+use Rattle.book_format.proofs.PresetLaws.{openedPreset-small, openedPreset-large, openedPreset-count, openedPreset-number, openedPreset-room, openedPreset-end, openedPreset-record}
 use native.Mathlib.Omega.{arith}
 use Rattle.book.proofs.reading.opened_preset.Statement.{statement}
 use Rattle.book.proofs.reading.opened_preset.Tie as tie

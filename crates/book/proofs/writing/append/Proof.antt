@@ -2,8 +2,9 @@
 -- Assumes nothing.
 use mathlib.Core.Path.{sym, _∙_}
 use native.Mathlib.Omega.{arith}
-use Rattle.book.proofs.BookLaws.{accepted}
-use Rattle.book.proofs.WritingLaws.{append-book, appending-refused, appending-short, appending-written}
+use Rattle.book_format.proofs.BookLaws.{accepted}
+use Rattle.book_format.proofs.WritingLaws.{append-book}
+use Rattle.book.proofs.writing.Appended.{appending-refused, appending-short, appending-written}
 use borrow.Author.Needs.{needs}
 use Rattle.book.proofs.writing.append.Statement.{statement}
 use Rattle.book.proofs.writing.append.Tie as tie

@@ -2,8 +2,8 @@
 -- Assumes nothing.
 use mathlib.Core.Path.{sym}
 use native.Mathlib.Omega.{arith}
-use Rattle.book.proofs.BookLaws.{accepted-read}
-use Rattle.book.proofs.WritingLaws.{appendRefusal-book, appendRefusal-rank, appendRefusal-word, appendRefusal-large, appendRefusal-none}
+use Rattle.book_format.proofs.BookLaws.{accepted-read}
+use Rattle.book_format.proofs.WritingLaws.{appendRefusal-book, appendRefusal-rank, appendRefusal-word, appendRefusal-large, appendRefusal-none}
 use borrow.Author.Needs.{needs}
 use Rattle.book.proofs.writing.append_refusal.Statement.{statement}
 use Rattle.book.proofs.writing.append_refusal.Tie as tie

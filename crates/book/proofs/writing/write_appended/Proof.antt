@@ -2,8 +2,8 @@
 -- Assumes nothing.
 use denote.Ref.{now}
 use native.Mathlib.Omega.{arith}
-use Rattle.book.proofs.BookLaws.{accepted, count-read}
-use Rattle.book.proofs.WritingLaws.{appended-written}
+use Rattle.book_format.proofs.BookLaws.{accepted, count-read}
+use Rattle.book.proofs.writing.Appended.{appended-written}
 use Rattle.book.proofs.writing.write_appended.Statement.{statement}
 use Rattle.book.proofs.writing.write_appended.Tie as tie
 

@@ -6,7 +6,7 @@ use Prim.Native.Nat.{_+_}
 use native.Mathlib.Omega.{arith}
 use lib.ListN.{length-set}
 use lib.Seq.{sets}
-use Rattle.book.proofs.Stores.{sets-record}
+use Rattle.book.proofs.numbers.Stores.{sets-record}
 use Rattle.book.proofs.writing.write_record.Statement.{statement}
 use Rattle.book.proofs.writing.write_record.Tie as tie
 

@@ -4,8 +4,8 @@ use mathlib.Core.Path.{sym}
 use Prim.Native.Nat.{_+_}
 use native.Mathlib.Omega.{arith}
 use borrow.Author.Tests.{lt-leb}
-use Rattle.listing_lines.specs.Calls.{longest}
-use Rattle.listing_lines.proofs.LineLaws.{room-test}
+use Rattle.listing_text.specs.Calls.{longest}
+use Rattle.listing_lines.proofs.lines.Lines.{room-test}
 use Rattle.listing_lines.proofs.lines.has_room.Statement.{statement}
 use Rattle.listing_lines.proofs.lines.has_room.Tie as tie
 

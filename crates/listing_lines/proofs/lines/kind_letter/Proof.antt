@@ -1,6 +1,6 @@
 -- `lines::kind_letter` goes by the kinds.
 -- Assumes nothing.
-use Rattle.listing_lines.proofs.LineLaws.{kindLetter-one, kindLetter-two, kindLetter-three}
+use Rattle.listing_lines.proofs.lines.Lines.{kindLetter-one, kindLetter-two, kindLetter-three}
 use Rattle.listing_lines.proofs.lines.kind_letter.Statement.{statement}
 use Rattle.listing_lines.proofs.lines.kind_letter.Tie as tie
 

@@ -5,9 +5,9 @@ use Prim.Native.Nat.{_+_, _≤_}
 use native.Mathlib.Omega.{arith}
 use lib.ListN.{length}
 use borrow.Author.Needs.{needs}
-use Rattle.listing_lines.specs.Calls.{longest}
-use Rattle.listing_lines.proofs.Decimals.{length-decimal-word}
-use Rattle.listing_lines.proofs.LineLaws.{room-found, puts-done, puts-none, countLine-put}
+use Rattle.listing_text.specs.Calls.{longest}
+use Rattle.listing_text.proofs.Decimals.{length-decimal-word}
+use Rattle.listing_lines.proofs.lines.Lines.{room-found, puts-done, puts-none, countLine-put}
 use Rattle.listing_lines.proofs.lines.put_count.Statement.{statement}
 use Rattle.listing_lines.proofs.lines.put_count.Tie as tie
 

@@ -2,9 +2,9 @@
 -- Assumes nothing.
 use native.Mathlib.Omega.{arith}
 use borrow.Author.Needs.{needs}
-use Rattle.listing_lines.proofs.Decimals.{length-decimal-byte, length-decimal-word}
-use Rattle.listing_lines.proofs.Puts.{length-spaced}
-use Rattle.listing_lines.proofs.LineLaws.{head-put}
+use Rattle.listing_text.proofs.Decimals.{length-decimal-byte, length-decimal-word}
+use Rattle.listing_lines.proofs.numbers.Puts.{length-spaced}
+use Rattle.listing_lines.proofs.lines.Lines.{head-put}
 use Rattle.listing_lines.proofs.lines.put_head.Statement.{statement}
 use Rattle.listing_lines.proofs.lines.put_head.Tie as tie
 

@@ -2,7 +2,7 @@
 -- Assumes nothing.
 use native.Mathlib.Omega.{arith}
 use borrow.Author.Needs.{needs}
-use Rattle.listing_lines.proofs.LineLaws.{presetLine-put}
+use Rattle.listing_lines.proofs.lines.Lines.{presetLine-put}
 use Rattle.listing_lines.proofs.lines.put_line.Statement.{statement}
 use Rattle.listing_lines.proofs.lines.put_line.Tie as tie
 

@@ -2,8 +2,8 @@
 -- Assumes nothing.
 use native.Mathlib.Omega.{arith}
 use borrow.Author.Needs.{needs}
-use Rattle.listing_lines.proofs.Decimals.{length-decimal-byte}
-use Rattle.listing_lines.proofs.LineLaws.{refused-put}
+use Rattle.listing_text.proofs.Decimals.{length-decimal-byte}
+use Rattle.listing_lines.proofs.lines.Lines.{refused-put}
 use Rattle.listing_lines.proofs.lines.put_refusal.Statement.{statement}
 use Rattle.listing_lines.proofs.lines.put_refusal.Tie as tie
 

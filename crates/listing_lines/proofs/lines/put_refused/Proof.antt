@@ -2,8 +2,8 @@
 -- Assumes nothing.
 use native.Mathlib.Omega.{arith}
 use borrow.Author.Needs.{needs}
-use Rattle.listing_lines.proofs.Decimals.{length-decimal-word}
-use Rattle.listing_lines.proofs.LineLaws.{refusedLine-put}
+use Rattle.listing_text.proofs.Decimals.{length-decimal-word}
+use Rattle.listing_lines.proofs.lines.Lines.{refusedLine-put}
 use Rattle.listing_lines.proofs.lines.put_refused.Statement.{statement}
 use Rattle.listing_lines.proofs.lines.put_refused.Tie as tie
 

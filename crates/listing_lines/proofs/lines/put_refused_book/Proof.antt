@@ -5,8 +5,8 @@ use Prim.Native.Nat.{_+_, _≤_}
 use native.Mathlib.Omega.{arith}
 use lib.ListN.{length}
 use borrow.Author.Needs.{needs}
-use Rattle.listing_lines.specs.Calls.{longest}
-use Rattle.listing_lines.proofs.LineLaws.{room-found, puts-done, puts-none, refusedBookLine-put}
+use Rattle.listing_text.specs.Calls.{longest}
+use Rattle.listing_lines.proofs.lines.Lines.{room-found, puts-done, puts-none, refusedBookLine-put}
 use Rattle.listing_lines.proofs.lines.put_refused_book.Statement.{statement}
 use Rattle.listing_lines.proofs.lines.put_refused_book.Tie as tie
 

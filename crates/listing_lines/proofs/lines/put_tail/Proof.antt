@@ -2,7 +2,7 @@
 -- Assumes nothing.
 use native.Mathlib.Omega.{arith}
 use borrow.Author.Needs.{needs}
-use Rattle.listing_lines.proofs.LineLaws.{tail-put}
+use Rattle.listing_lines.proofs.lines.Lines.{tail-put}
 use Rattle.listing_lines.proofs.lines.put_tail.Statement.{statement}
 use Rattle.listing_lines.proofs.lines.put_tail.Tie as tie
 

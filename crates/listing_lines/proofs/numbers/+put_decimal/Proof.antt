@@ -5,7 +5,7 @@ use native.Mathlib.Omega.{arith}
 use borrow.Author.Needs.{needs}
 use borrow.Fn.Kinds.{In}
 use borrow.Fn.PlainCycle.{Measures, is, falls, and}
-use Rattle.listing_lines.proofs.Puts.{put-digit, put-last, digit-room, digits-room}
+use Rattle.listing_lines.proofs.numbers.Puts.{put-digit, put-last, digit-room, digits-room}
 use Rattle.listing_lines.proofs.numbers.put_decimal.Reads as put-decimal
 use Rattle.listing_lines.proofs.numbers.put_decimal.Kinds as put-decimal-kinds
 use Rattle.listing_lines.proofs.numbers.+put_decimal.Lts-put_decimal as put-decimal-lts

@@ -6,7 +6,7 @@ use Prim.Native.Nat.{_+_, _-_, _≤_}
 use native.Mathlib.Omega.{arith}
 use lib.ListN.{length, drop, length-set}
 use lib.Seq.{sets}
-use Rattle.book.proofs.Stores.{sets-start, sets-step, sets-end}
+use Rattle.coxeter.proofs.Lists.{sets-start, sets-step, sets-end}
 use Rattle.listing_lines.proofs.numbers.put_bytes.Statement.{statement}
 use Rattle.listing_lines.proofs.numbers.put_bytes.Tie as tie
 

@@ -3,9 +3,9 @@
 use Prim.Native.Nat.{_+_, _-_, _*_, _≤_}
 use native.Mathlib.Omega.{arith}
 use lib.ListN.{length, drop}
-use Rattle.window.proofs.Stores.{Storing, storing-all}
-use Rattle.listing_lines.specs.Text.{entries}
-use Rattle.listing_lines.proofs.Puts.{entries-put, entries-done}
+use Rattle.coxeter.proofs.Lists.{Storing, storing-all}
+use Rattle.listing_text.specs.Text.{entries}
+use Rattle.listing_lines.proofs.numbers.Puts.{entries-put, entries-done}
 use Rattle.listing_lines.proofs.numbers.put_entries.Statement.{statement}
 use Rattle.listing_lines.proofs.numbers.put_entries.Tie as tie
 

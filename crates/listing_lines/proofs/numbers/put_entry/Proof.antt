@@ -9,10 +9,10 @@ use lib.ListN.{length, length-set}
 use mir.Syntax.{w8}
 use mir.Val.{toZ, ofZ}
 use borrow.Author.Needs.{needs}
-use Rattle.window.proofs.Bytes.{BelowSize, below-size, size-of-positive}
-use Rattle.listing_lines.specs.Text.{decimal, spaced}
-use Rattle.listing_lines.proofs.Decimals.{length-decimal-byte}
-use Rattle.listing_lines.proofs.Puts.{length-spaced, put-minus, entry-minus, entry-plus}
+use Rattle.refusals.proofs.Bytes.{BelowSize, below-size, size-of-positive}
+use Rattle.listing_text.specs.Text.{decimal, spaced}
+use Rattle.listing_text.proofs.Decimals.{length-decimal-byte}
+use Rattle.listing_lines.proofs.numbers.Puts.{length-spaced, put-minus, entry-minus, entry-plus}
 use Rattle.listing_lines.proofs.numbers.put_entry.Statement.{statement}
 use Rattle.listing_lines.proofs.numbers.put_entry.Tie as tie
 

@@ -4,10 +4,10 @@ use denote.Ref.{now}
 use Prim.Native.Nat.{_+_, _-_, _*_, _≤_}
 use native.Mathlib.Omega.{arith}
 use lib.ListN.{length, getD, drop}
-use Rattle.window.proofs.Stores.{Storing, storing-all}
-use Rattle.listing_lines.specs.Text.{letters}
-use Rattle.listing_lines.proofs.Decimals.{length-decimal-byte}
-use Rattle.listing_lines.proofs.Puts.{length-spaced, letters-put, letters-done}
+use Rattle.coxeter.proofs.Lists.{Storing, storing-all}
+use Rattle.listing_text.specs.Text.{letters}
+use Rattle.listing_text.proofs.Decimals.{length-decimal-byte}
+use Rattle.listing_lines.proofs.numbers.Puts.{length-spaced, letters-put, letters-done}
 use Rattle.listing_lines.proofs.numbers.put_letters.Statement.{statement}
 use Rattle.listing_lines.proofs.numbers.put_letters.Tie as tie
 

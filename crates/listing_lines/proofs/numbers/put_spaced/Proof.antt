@@ -4,7 +4,7 @@ use mathlib.Core.Path.{_∙_}
 use native.Mathlib.Omega.{arith}
 use lib.ListN.{length-set}
 use borrow.Author.Needs.{needs}
-use Rattle.listing_lines.proofs.Puts.{length-spaced, put-spaced}
+use Rattle.listing_lines.proofs.numbers.Puts.{length-spaced, put-spaced}
 use Rattle.listing_lines.proofs.numbers.put_spaced.Statement.{statement}
 use Rattle.listing_lines.proofs.numbers.put_spaced.Tie as tie
 

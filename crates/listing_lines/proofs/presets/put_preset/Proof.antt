@@ -6,9 +6,9 @@ use native.Mathlib.Omega.{arith}
 use lib.ListN.{length}
 use borrow.Author.Tests.{not-true, not-false}
 use borrow.Author.Needs.{needs}
-use Rattle.listing_lines.specs.Calls.{longest}
-use Rattle.listing_lines.proofs.LineLaws.{room-found, puts-done, puts-none}
-use Rattle.listing_lines.proofs.PresetLines.{Found, opened-found, lineOf-found, lineOf-refused}
+use Rattle.listing_text.specs.Calls.{longest}
+use Rattle.listing_lines.proofs.lines.Lines.{room-found, puts-done, puts-none}
+use Rattle.listing_lines.proofs.presets.PresetLines.{Found, opened-found, lineOf-found, lineOf-refused}
 use Rattle.listing_lines.proofs.presets.put_preset.Statement.{statement}
 use Rattle.listing_lines.proofs.presets.put_preset.Tie as tie
 

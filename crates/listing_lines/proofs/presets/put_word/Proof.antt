@@ -7,10 +7,10 @@ use native.Mathlib.Omega.{arith}
 use lib.ListN.{length}
 use lib.Seq.{length-take-le}
 use borrow.Author.Needs.{needs}
-use Rattle.window.specs.Kinds.{kindOf}
-use Rattle.window.specs.Windows.{window}
-use Rattle.window.specs.NormalForm.{wordNormalForm}
-use Rattle.listing_lines.proofs.PresetLines.{Front, form-front, form-never, window-front, window-never, wordLine-put}
+use Rattle.coxeter.specs.Kinds.{kindOf}
+use Rattle.coxeter.specs.Windows.{window}
+use Rattle.coxeter.specs.NormalForm.{wordNormalForm}
+use Rattle.listing_lines.proofs.presets.PresetLines.{Front, form-front, form-never, window-front, window-never, wordLine-put}
 use Rattle.listing_lines.proofs.presets.put_word.Statement.{statement}
 use Rattle.listing_lines.proofs.presets.put_word.Tie as tie
 

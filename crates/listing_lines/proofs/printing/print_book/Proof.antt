@@ -6,7 +6,8 @@ use native.Mathlib.Omega.{arith}
 use lib.ListN.{length}
 use lib.Seq.{length-take-le}
 use borrow.Author.Needs.{needs}
-use Rattle.listing_lines.proofs.Listings.{count-room, within-next}
+use Rattle.listing_lines.proofs.printing.Pieces.{count-room}
+use Rattle.listing_text.proofs.Listings.{within-next}
 use Rattle.listing_lines.proofs.printing.print_book.Statement.{statement}
 use Rattle.listing_lines.proofs.printing.print_book.Tie as tie
 

@@ -5,8 +5,8 @@ use Prim.Native.Nat.{_+_, _-_, _≤_}
 use native.Mathlib.Omega.{arith}
 use lib.Seq.{length-take-le}
 use lib.ListN.{length}
-use Rattle.listing_lines.specs.Calls.{longest}
-use Rattle.listing_lines.proofs.Listings.{filled-more}
+use Rattle.listing_text.specs.Calls.{longest}
+use Rattle.listing_lines.proofs.printing.Pieces.{filled-more}
 use Rattle.listing_lines.proofs.printing.print_presets.Statement.{statement}
 use Rattle.listing_lines.proofs.printing.print_presets.Tie as tie
 

@@ -4,7 +4,7 @@ use mathlib.Core.Path.{_∙_}
 use Prim.Native.Nat.{_-_}
 use native.Mathlib.Omega.{arith}
 use borrow.Author.Needs.{needs}
-use Rattle.listing_lines.proofs.Listings.{Filling, filling-none, filling-next, filled-all, filled-full}
+use Rattle.listing_lines.proofs.printing.Pieces.{Filling, filling-none, filling-next, filled-all, filled-full}
 use Rattle.listing_lines.proofs.printing.put_presets.Statement.{statement}
 use Rattle.listing_lines.proofs.printing.put_presets.Tie as tie
 

@@ -1,7 +1,7 @@
 -- `search::corner_of` is the number of levels, by cases on the kind.
 -- Assumes nothing.
 use native.Mathlib.Omega.{arith}
-use Rattle.window.proofs.CheckLaws.{kindOf-one, kindOf-two, kindOf-three}
+use Rattle.coxeter.proofs.KindLaws.{kindOf-one, kindOf-two, kindOf-three}
 use Rattle.rewriter.proofs.search.corner_of.Statement.{statement}
 use Rattle.rewriter.proofs.search.corner_of.Tie as tie
 

@@ -4,20 +4,9 @@ use mathlib.Core.Path.{_∙_}
 use Prim.Native.Nat.{_-_}
 use lib.ListN.{length, getD}
 use borrow.Author.Needs.{needs}
-use Rattle.window.specs.Kinds.{kindOf}
-use Rattle.rewriter.proofs.Scan.{nextIndex, familyAt, shownIndex}
-use Rattle.rewriter.proofs.SearchCode.{
-  Searching,
-  Searchable,
-  along-le,
-  lastIndex-le-of,
-  fork-eq,
-  letter,
-  searching-start,
-  searching-next,
-  searching-found,
-  searching-end,
-}
+use Rattle.coxeter.specs.Kinds.{kindOf}
+use Rattle.rules.proofs.Scan.{nextIndex, familyAt, shownIndex}
+use Rattle.rewriter.proofs.search.Searches.{Searching, Searchable, along-le, lastIndex-le-of, fork-eq, letter, searching-start, searching-next, searching-found, searching-end}
 use Rattle.rewriter.proofs.search.fitting_rule.Statement.{statement}
 use Rattle.rewriter.proofs.search.fitting_rule.Tie as tie
 

@@ -2,7 +2,7 @@
 -- Assumes nothing.
 use native.Mathlib.Omega.{arith}
 use borrow.Author.Tests.{eq-eqb, ne-eqb}
-use Rattle.window.proofs.CheckLaws.{kindOf-three}
+use Rattle.coxeter.proofs.KindLaws.{kindOf-three}
 use Rattle.rewriter.proofs.search.fork_of.Statement.{statement}
 use Rattle.rewriter.proofs.search.fork_of.Tie as tie
 

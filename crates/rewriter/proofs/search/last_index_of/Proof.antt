@@ -2,9 +2,9 @@
 -- Assumes nothing.
 use mathlib.Core.Path.{_≡_, refl}
 use Prim.Native.Nat.{ℕ, _*_, _-_}
-use Rattle.window.specs.Kinds.{Kind}
-use Rattle.window.specs.NormalForm.{lastIndex}
-use Rattle.window.proofs.CheckLaws.{kindOf-one, by-kind-else}
+use Rattle.coxeter.specs.Kinds.{Kind}
+use Rattle.coxeter.specs.NormalForm.{lastIndex}
+use Rattle.coxeter.proofs.KindLaws.{kindOf-one, by-kind-else}
 use borrow.Author.Needs.{needs}
 use Rattle.rewriter.proofs.search.last_index_of.Statement.{statement}
 use Rattle.rewriter.proofs.search.last_index_of.Tie as tie

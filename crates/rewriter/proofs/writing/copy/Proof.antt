@@ -3,7 +3,7 @@
 use Prim.Native.Nat.{_-_}
 use lib.ListN.{length}
 use borrow.Author.Needs.{needs}
-use Rattle.rewriter.proofs.WritingCode.{Copying, copying-start, copying-next, copying-end}
+use Rattle.rewriter.proofs.writing.Words.{Copying, copying-start, copying-next, copying-end}
 use Rattle.rewriter.proofs.writing.copy.Statement.{statement}
 use Rattle.rewriter.proofs.writing.copy.Tie as tie
 

@@ -5,7 +5,7 @@ use native.Mathlib.Omega.{arith}
 use lib.ListN.{length-take, length-drop, length-set}
 use lib.Seq.{length-take-le}
 use borrow.Author.Needs.{needs}
-use Rattle.rewriter.proofs.WritingCode.{written-moved}
+use Rattle.rewriter.proofs.writing.Words.{written-moved}
 use Rattle.rewriter.proofs.writing.write_moved.Statement.{statement}
 use Rattle.rewriter.proofs.writing.write_moved.Tie as tie
 

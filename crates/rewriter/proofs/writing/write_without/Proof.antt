@@ -5,7 +5,7 @@ use native.Mathlib.Omega.{arith}
 use lib.ListN.{length-take}
 use lib.Seq.{length-take-le}
 use borrow.Author.Needs.{needs}
-use Rattle.rewriter.proofs.WritingCode.{written-without}
+use Rattle.rewriter.proofs.writing.Words.{written-without}
 use Rattle.rewriter.proofs.writing.write_without.Statement.{statement}
 use Rattle.rewriter.proofs.writing.write_without.Tie as tie
 

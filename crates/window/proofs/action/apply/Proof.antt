@@ -6,10 +6,11 @@ use Prim.Native.Nat.{_≤_, _-_}
 use native.Mathlib.Omega.{arith}
 use lib.ListN.{length, drop}
 use borrow.Author.Needs.{needs}
-use Rattle.window.specs.Kinds.{kindOf}
-use Rattle.window.specs.Windows.{windowFrom}
-use Rattle.window.specs.Checks.{wrongLetter, windowRefusal}
-use Rattle.window.proofs.StepCode.{letter-within, wrongLetter-next, refusal-next, windowFrom-next, windowFrom-end}
+use Rattle.coxeter.specs.Kinds.{kindOf}
+use Rattle.coxeter.specs.Windows.{windowFrom}
+use Rattle.coxeter.specs.Checks.{wrongLetter, windowRefusal}
+use Rattle.coxeter.proofs.LetterLaws.{letter-within, wrongLetter-next}
+use Rattle.window.proofs.action.Actions.{refusal-next, windowFrom-next, windowFrom-end}
 use Rattle.window.proofs.action.apply.Statement.{statement}
 use Rattle.window.proofs.action.apply.Tie as tie
 

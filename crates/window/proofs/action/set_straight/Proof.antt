@@ -4,9 +4,9 @@ use mathlib.Core.Path.{_≡_, refl}
 use Prim.Native.Nat.{_≤_, _-_}
 use native.Mathlib.Omega.{arith}
 use lib.ListN.{length, length-set, take}
-use Rattle.window.specs.Kinds.{up}
-use Rattle.window.specs.Windows.{straight}
-use Rattle.window.proofs.StepCode.{take-straight-next, take-straight-end}
+use Rattle.coxeter.specs.Kinds.{up}
+use Rattle.coxeter.specs.Windows.{straight}
+use Rattle.window.proofs.action.Actions.{take-straight-next, take-straight-end}
 use Rattle.window.proofs.action.set_straight.Statement.{statement}
 use Rattle.window.proofs.action.set_straight.Tie as tie
 

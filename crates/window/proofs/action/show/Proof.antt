@@ -2,8 +2,8 @@
 -- Assumes nothing.
 use mathlib.Core.Path.{_∙_}
 use borrow.Author.Needs.{needs}
-use Rattle.window.specs.Kinds.{kindOf}
-use Rattle.window.proofs.StepCode.{le-of-lanes, refusal-straight, windowFrom-straight}
+use Rattle.coxeter.specs.Kinds.{kindOf}
+use Rattle.window.proofs.action.Actions.{le-of-lanes, refusal-straight, windowFrom-straight}
 use Rattle.window.proofs.action.show.Statement.{statement}
 use Rattle.window.proofs.action.show.Tie as tie
 

@@ -1,7 +1,7 @@
 -- `entries::entry` is the integer of a size and a sign, since the size is below 128.
 -- Assumes nothing.
 use borrow.Author.Needs.{needs}
-use Rattle.window.proofs.Bytes.{cast-back, minus-cast-fits, minus-cast-back}
+use Rattle.refusals.proofs.Bytes.{cast-back, minus-cast-fits, minus-cast-back}
 use Rattle.window.proofs.entries.entry.Statement.{statement}
 use Rattle.window.proofs.entries.entry.Tie as tie
 

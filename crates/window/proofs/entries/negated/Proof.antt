@@ -1,6 +1,6 @@
 -- `entries::negated` is the negation of an integer, since the size is below 128.
 -- Assumes nothing.
-use Rattle.window.proofs.Bytes.{minus-fits, minus-back}
+use Rattle.refusals.proofs.Bytes.{minus-fits, minus-back}
 use Rattle.window.proofs.entries.negated.Statement.{statement}
 use Rattle.window.proofs.entries.negated.Tie as tie
 

@@ -2,8 +2,8 @@
 -- Assumes nothing.
 use mathlib.Core.Path.{refl}
 use denote.Ref.{now}
-use Rattle.window.proofs.CallLaws.{lanes-le}
-use Rattle.window.proofs.FormCode.{checked-short, checked-room, checked-written}
+use Rattle.coxeter.proofs.Acceptance.{lanes-le}
+use Rattle.window.proofs.forms.Rooms.{checked-short, checked-room, checked-written}
 use borrow.Author.Needs.{needs}
 use Rattle.window.proofs.forms.write_checked.Statement.{statement}
 use Rattle.window.proofs.forms.write_checked.Tie as tie

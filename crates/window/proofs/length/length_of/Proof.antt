@@ -2,8 +2,8 @@
 -- Assumes nothing.
 use native.Mathlib.Omega.{arith}
 use borrow.Author.Needs.{needs}
-use Rattle.window.proofs.PairWeights.{negatives-le}
-use Rattle.window.proofs.LengthCode.{bothPairs, bothPairs-le, refusal-B, length-le-of-lanes, windowLength-two, windowLength-else}
+use Rattle.coxeter.proofs.PairWeights.{negatives-le}
+use Rattle.window.proofs.length.Sums.{bothPairs, bothPairs-le, refusal-B, length-le-of-lanes, windowLength-two, windowLength-else}
 use Rattle.window.proofs.length.length_of.Statement.{statement}
 use Rattle.window.proofs.length.length_of.Tie as tie
 

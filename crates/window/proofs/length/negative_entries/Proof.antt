@@ -7,9 +7,9 @@ use native.Mathlib.Omega.{arith}
 use lib.IntN.{pos}
 use lib.ListN.{length, getD, drop}
 use borrow.Author.Needs.{needs}
-use Rattle.window.specs.Length.{negative, negatives}
-use Rattle.window.proofs.Bytes.{element-back}
-use Rattle.window.proofs.LengthCode.{negatives-step, negatives-end}
+use Rattle.coxeter.specs.Length.{negative, negatives}
+use Rattle.refusals.proofs.Bytes.{element-back}
+use Rattle.window.proofs.length.Sums.{negatives-step, negatives-end}
 use Rattle.window.proofs.length.negative_entries.Statement.{statement}
 use Rattle.window.proofs.length.negative_entries.Tie as tie
 

@@ -8,10 +8,10 @@ use lib.IntN.{pos, natAbs}
 use lib.ListN.{length, getD, take, drop}
 use lib.Seq.{length-take-le}
 use borrow.Author.Needs.{needs}
-use Rattle.window.specs.Kinds.{pick}
-use Rattle.window.specs.Length.{negative}
-use Rattle.window.proofs.Bytes.{element-back}
-use Rattle.window.proofs.LengthCode.{smaller, bothPairs, sizes-stored, bothPairs-row, bothPairs-end, bothPairs-le}
+use Rattle.coxeter.specs.Kinds.{pick}
+use Rattle.coxeter.specs.Length.{negative}
+use Rattle.refusals.proofs.Bytes.{element-back}
+use Rattle.window.proofs.length.Sums.{smaller, bothPairs, sizes-stored, bothPairs-row, bothPairs-end, bothPairs-le}
 use Rattle.window.proofs.length.pairs.Statement.{statement}
 use Rattle.window.proofs.length.pairs.Tie as tie
 

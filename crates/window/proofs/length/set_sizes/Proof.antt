@@ -6,8 +6,8 @@ use Prim.Native.Nat.{_≤_, _-_}
 use lib.IntN.{pos, natAbs}
 use lib.ListN.{length, getD, take}
 use borrow.Author.Needs.{needs}
-use Rattle.window.proofs.Bytes.{element-back}
-use Rattle.window.proofs.LengthCode.{sized-next, sized-end}
+use Rattle.refusals.proofs.Bytes.{element-back}
+use Rattle.window.proofs.length.Sums.{sized-next, sized-end}
 use Rattle.window.proofs.length.set_sizes.Statement.{statement}
 use Rattle.window.proofs.length.set_sizes.Tie as tie
 

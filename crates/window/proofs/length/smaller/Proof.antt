@@ -7,7 +7,7 @@ use native.Mathlib.Omega.{arith}
 use lib.ListN.{length, getD, drop}
 use borrow.Author.Needs.{needs}
 use borrow.Author.Tests.{lt-ltb, le-ltb}
-use Rattle.window.proofs.LengthCode.{smaller, smaller-next, smaller-end}
+use Rattle.window.proofs.length.Sums.{smaller, smaller-next, smaller-end}
 use Rattle.window.proofs.length.smaller.Statement.{statement}
 use Rattle.window.proofs.length.smaller.Tie as tie
 

@@ -7,8 +7,9 @@ use lib.ListN.{length}
 use borrow.Author.Needs.{needs}
 use borrow.Fn.Kinds.{In}
 use borrow.Fn.PlainCycle.{Measures, is, falls, and}
-use Rattle.window.specs.Kinds.{kindOf}
-use Rattle.window.proofs.NormalCode.{normalFrom-none, normalFrom-next, sizes-length, sizes-next, one-le, length-tail, joined-room-left, joined-room-right, joined-stored}
+use Rattle.coxeter.specs.Kinds.{kindOf}
+use Rattle.window.proofs.normal.Peels.{normalFrom-none, normalFrom-next, sizes-length, sizes-next, length-tail, joined-room-left, joined-room-right, joined-stored}
+use Rattle.coxeter.proofs.KindLaws.{one-le}
 use Rattle.window.proofs.normal.write_from.Reads as write-from
 use Rattle.window.proofs.normal.write_from.Kinds as write-from-kinds
 use Rattle.window.proofs.normal.+write_from.Lts-write_from as write-from-lts

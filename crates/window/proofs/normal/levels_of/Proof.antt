@@ -1,7 +1,7 @@
 -- `normal::levels_of` is the number of levels, by cases on the kind.
 -- Assumes nothing.
 use borrow.Author.Needs.{needs}
-use Rattle.window.proofs.CheckLaws.{kindOf-one, kindOf-two, kindOf-three}
+use Rattle.coxeter.proofs.KindLaws.{kindOf-one, kindOf-two, kindOf-three}
 use Rattle.window.proofs.normal.levels_of.Statement.{statement}
 use Rattle.window.proofs.normal.levels_of.Tie as tie
 

@@ -4,9 +4,9 @@ use mathlib.Core.Path.{_≡_, sym, ap, _∙_}
 use lib.ListN.{getD}
 use lib.IntN.{ℤ, pos}
 use borrow.Author.Needs.{needs}
-use Rattle.window.specs.Length.{negative}
-use Rattle.window.proofs.NormalCode.{hasSize-lent, peeled-negative, peeled-positive}
-use Rattle.window.proofs.Bytes.{element-back}
+use Rattle.coxeter.specs.Length.{negative}
+use Rattle.window.proofs.normal.Peels.{hasSize-lent, peeled-negative, peeled-positive}
+use Rattle.refusals.proofs.Bytes.{element-back}
 use Rattle.window.proofs.normal.peel.Statement.{statement}
 use Rattle.window.proofs.normal.peel.Tie as tie
 

@@ -5,9 +5,9 @@ use Prim.Native.Nat.{_-_}
 use lib.IntN.{ℤ, pos, natAbs}
 use lib.ListN.{length, getD}
 use borrow.Author.Needs.{needs}
-use Rattle.window.specs.Checks.{hasSize}
-use Rattle.window.proofs.NormalCode.{Ahead, ahead-next, not-ahead}
-use Rattle.window.proofs.Bytes.{element-back}
+use Rattle.coxeter.specs.Checks.{hasSize}
+use Rattle.window.proofs.normal.Peels.{Ahead, ahead-next, not-ahead}
+use Rattle.refusals.proofs.Bytes.{element-back}
 use Rattle.window.proofs.normal.place.Statement.{statement}
 use Rattle.window.proofs.normal.place.Tie as tie
 

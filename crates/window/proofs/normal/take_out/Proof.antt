@@ -6,8 +6,8 @@ use native.Mathlib.Omega.{arith}
 use lib.IntN.{ℤ, pos}
 use lib.ListN.{length, getD}
 use borrow.Author.Needs.{needs}
-use Rattle.window.proofs.NormalCode.{gap, gap-back}
-use Rattle.window.proofs.Bytes.{element-back}
+use Rattle.window.proofs.normal.Peels.{gap, gap-back}
+use Rattle.refusals.proofs.Bytes.{element-back}
 use Rattle.window.proofs.normal.take_out.Statement.{statement}
 use Rattle.window.proofs.normal.take_out.Tie as tie
 

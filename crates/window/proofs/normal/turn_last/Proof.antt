@@ -5,9 +5,9 @@ use Prim.Native.Nat.{_-_}
 use lib.ListN.{length, getD}
 use lib.IntN.{ℤ, pos}
 use borrow.Author.Needs.{needs}
-use Rattle.window.proofs.CheckLaws.{kindOf-one, kindOf-two, kindOf-three}
-use Rattle.window.proofs.NormalCode.{size-below, restOf-straight, restOf-nil, restOf-last}
-use Rattle.window.proofs.Bytes.{element-back}
+use Rattle.coxeter.proofs.KindLaws.{kindOf-one, kindOf-two, kindOf-three}
+use Rattle.window.proofs.normal.Peels.{size-below, restOf-straight, restOf-nil, restOf-last}
+use Rattle.refusals.proofs.Bytes.{element-back}
 use Rattle.window.proofs.normal.turn_last.Statement.{statement}
 use Rattle.window.proofs.normal.turn_last.Tie as tie
 

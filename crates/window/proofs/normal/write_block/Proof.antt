@@ -6,10 +6,10 @@ use mathlib.Core.Path.{_≡_}
 use Prim.Native.Nat.{_-_, _*_, _≤_, _<_}
 use native.Mathlib.Omega.{arith}
 use borrow.Author.Needs.{needs}
-use Rattle.window.specs.NormalForm.{rise, fall, block}
-use Rattle.window.specs.Kinds.{A, kindOf}
-use Rattle.window.proofs.CheckLaws.{kindOf-one, kindOf-two, kindOf-three}
-use Rattle.window.proofs.Stores.{two-le, block-straight, block-two, block-three}
+use Rattle.coxeter.specs.NormalForm.{rise, fall, block}
+use Rattle.coxeter.specs.Kinds.{A, kindOf}
+use Rattle.coxeter.proofs.KindLaws.{kindOf-one, kindOf-two, kindOf-three}
+use Rattle.window.proofs.normal.Blocks.{two-le, block-straight, block-two, block-three}
 use Rattle.window.proofs.normal.write_block.Statement.{statement}
 use Rattle.window.proofs.normal.write_block.Tie as tie
 

@@ -2,9 +2,10 @@
 -- Assumes nothing.
 use Prim.Native.Nat.{_+_, _≤_}
 use borrow.Author.Needs.{needs}
-use Rattle.window.specs.NormalForm.{fall}
-use Rattle.window.proofs.Runs.{slide}
-use Rattle.window.proofs.Stores.{Storing, storing-fall, storing-next, storing-room, storing-down, stored-down}
+use Rattle.coxeter.specs.NormalForm.{fall}
+use Rattle.coxeter.proofs.Runs.{slide}
+use Rattle.coxeter.proofs.Lists.{Storing, storing-next, storing-room}
+use Rattle.window.proofs.normal.Blocks.{storing-fall, storing-down, stored-down}
 use Rattle.window.proofs.normal.write_down.Statement.{statement}
 use Rattle.window.proofs.normal.write_down.Tie as tie
 

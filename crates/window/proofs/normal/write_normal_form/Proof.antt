@@ -2,8 +2,9 @@
 -- Assumes nothing.
 use native.Mathlib.Omega.{arith}
 use borrow.Author.Needs.{needs}
-use Rattle.window.specs.Kinds.{kindOf}
-use Rattle.window.proofs.NormalCode.{one-le, accepted-length, accepted-sizes, normalForm-room, normalForm-stored}
+use Rattle.coxeter.specs.Kinds.{kindOf}
+use Rattle.coxeter.proofs.KindLaws.{one-le}
+use Rattle.window.proofs.normal.Peels.{accepted-length, accepted-sizes, normalForm-room, normalForm-stored}
 use Rattle.window.proofs.normal.write_normal_form.Statement.{statement}
 use Rattle.window.proofs.normal.write_normal_form.Tie as tie
 

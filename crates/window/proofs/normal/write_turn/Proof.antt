@@ -1,8 +1,8 @@
 -- `normal::write_turn` stores one run and then the other, by what `write_up` and `write_down` ensure.
 -- Assumes nothing.
 use borrow.Author.Needs.{needs}
-use Rattle.window.specs.NormalForm.{rise, fall}
-use Rattle.window.proofs.Stores.{room-left, room-right, stored-append}
+use Rattle.coxeter.specs.NormalForm.{rise, fall}
+use Rattle.coxeter.proofs.Lists.{room-left, room-right, stored-append}
 use Rattle.window.proofs.normal.write_turn.Statement.{statement}
 use Rattle.window.proofs.normal.write_turn.Tie as tie
 

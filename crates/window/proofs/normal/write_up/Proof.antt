@@ -2,8 +2,9 @@
 -- Assumes nothing.
 use Prim.Native.Nat.{_+_, _-_}
 use borrow.Author.Needs.{needs}
-use Rattle.window.specs.NormalForm.{rise}
-use Rattle.window.proofs.Stores.{Storing, storing-all, storing-next, storing-room, storing-up, stored-up}
+use Rattle.coxeter.specs.NormalForm.{rise}
+use Rattle.coxeter.proofs.Lists.{Storing, storing-all, storing-next, storing-room}
+use Rattle.window.proofs.normal.Blocks.{storing-up, stored-up}
 use Rattle.window.proofs.normal.write_up.Statement.{statement}
 use Rattle.window.proofs.normal.write_up.Tie as tie
 

@@ -4,9 +4,9 @@ use mathlib.Core.Path.{_≡_, sym, _∙_, ap}
 use native.Mathlib.Omega.{arith}
 use lib.IntN.{natAbs}
 use borrow.Author.Needs.{needs}
-use Rattle.window.specs.Length.{negative}
-use Rattle.window.proofs.Bytes.{element-back}
-use Rattle.window.proofs.ProductCode.{image-small, image-negative, image-positive}
+use Rattle.coxeter.specs.Length.{negative}
+use Rattle.refusals.proofs.Bytes.{element-back}
+use Rattle.window.proofs.product.Entries.{image-small, image-negative, image-positive}
 use Rattle.window.proofs.product.image.Statement.{statement}
 use Rattle.window.proofs.product.image.Tie as tie
 

@@ -6,11 +6,11 @@ use native.Mathlib.Omega.{arith}
 use lib.IntN.{pos, natAbs}
 use lib.ListN.{length, getD, drop, length-set}
 use borrow.Author.Needs.{needs}
-use Rattle.window.specs.Length.{negative}
-use Rattle.window.proofs.Bytes.{element-back}
-use Rattle.window.proofs.LengthCode.{length-le-of-refusal}
-use Rattle.window.proofs.Scatter.{scatter}
-use Rattle.window.proofs.ProductCode.{entry-bounds, scatter-step, scatter-end, scatter-is-inverse}
+use Rattle.coxeter.specs.Length.{negative}
+use Rattle.refusals.proofs.Bytes.{element-back}
+use Rattle.window.proofs.length.Sums.{length-le-of-refusal}
+use Rattle.window.proofs.product.Scatter.{scatter}
+use Rattle.window.proofs.product.Entries.{entry-bounds, scatter-step, scatter-end, scatter-is-inverse}
 use Rattle.window.proofs.product.inverse_into.Statement.{statement}
 use Rattle.window.proofs.product.inverse_into.Tie as tie
 

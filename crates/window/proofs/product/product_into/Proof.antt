@@ -6,8 +6,8 @@ use Prim.Native.Nat.{_≤_, _<_, _-_}
 use native.Mathlib.Omega.{arith}
 use lib.ListN.{length, take, drop, length-set}
 use borrow.Author.Needs.{needs}
-use Rattle.window.specs.Windows.{product}
-use Rattle.window.proofs.ProductCode.{same-length-of-refusals, image-asks, product-step, product-end}
+use Rattle.coxeter.specs.Windows.{product}
+use Rattle.window.proofs.product.Entries.{same-length-of-refusals, image-asks, product-step, product-end}
 use Rattle.window.proofs.product.product_into.Statement.{statement}
 use Rattle.window.proofs.product.product_into.Tie as tie
 

@@ -9,8 +9,8 @@ use lib.ListN.{length, drop}
 use mir.Syntax.{w8}
 use mir.Val.{ofZ}
 use borrow.Author.Needs.{needs}
-use Rattle.window.specs.Calls.{sameWindow}
-use Rattle.window.proofs.ProductCode.{eq-of-bytes, sameWindow-of-length, sameWindow-here, sameWindow-step, sameWindow-end}
+use Rattle.coxeter.specs.Calls.{sameWindow}
+use Rattle.window.proofs.product.Entries.{eq-of-bytes, sameWindow-of-length, sameWindow-here, sameWindow-step, sameWindow-end}
 use Rattle.window.proofs.product.same_entries.Statement.{statement}
 use Rattle.window.proofs.product.same_entries.Tie as tie
 

@@ -3,7 +3,7 @@
 use mathlib.Core.Path.{_≡_}
 use Prim.Native.Nat.{_≤_, _-_}
 use lib.ListN.{length, take}
-use Rattle.window.proofs.ShownLaws.{copy-next, copy-end}
+use Rattle.window.proofs.shown.Fronts.{copy-next, copy-end}
 use borrow.Author.Needs.{needs}
 use Rattle.window.proofs.shown.copied.Statement.{statement}
 use Rattle.window.proofs.shown.copied.Tie as tie

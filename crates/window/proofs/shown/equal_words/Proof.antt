@@ -2,8 +2,8 @@
 -- Assumes nothing.
 use mathlib.Core.Path.{sym, _∙_}
 use native.Mathlib.Omega.{arith}
-use Rattle.window.proofs.CallLaws.{rank-accepted, letters-accepted, lanes-le}
-use Rattle.window.proofs.ShownLaws.{room, length-front-part, front-show, fronts-same}
+use Rattle.coxeter.proofs.Acceptance.{rank-accepted, letters-accepted, lanes-le}
+use Rattle.window.proofs.shown.Fronts.{room, length-front-part, front-show, fronts-same}
 use borrow.Author.Needs.{needs}
 use Rattle.window.proofs.shown.equal_words.Statement.{statement}
 use Rattle.window.proofs.shown.equal_words.Tie as tie

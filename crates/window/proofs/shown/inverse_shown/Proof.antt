@@ -1,8 +1,8 @@
 -- `shown::inverse_shown` inverts what the word shows, from one work window to another.
 -- Assumes nothing.
 use mathlib.Core.Path.{sym, _∙_}
-use Rattle.window.proofs.CallLaws.{rank-accepted}
-use Rattle.window.proofs.ShownLaws.{room, length-front-part, front-refusal, front-inverse, window-passes}
+use Rattle.coxeter.proofs.Acceptance.{rank-accepted}
+use Rattle.window.proofs.shown.Fronts.{room, length-front-part, front-refusal, front-inverse, window-passes}
 use borrow.Author.Needs.{needs}
 use Rattle.window.proofs.shown.inverse_shown.Statement.{statement}
 use Rattle.window.proofs.shown.inverse_shown.Tie as tie

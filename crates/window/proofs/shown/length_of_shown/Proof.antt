@@ -2,9 +2,9 @@
 -- Assumes nothing.
 use mathlib.Core.Path.{refl, sym, _∙_, ap}
 use native.Mathlib.Omega.{arith}
-use Rattle.window.specs.Length.{windowLength}
-use Rattle.window.proofs.CallLaws.{rank-accepted, letters-accepted, lanes-le}
-use Rattle.window.proofs.ShownLaws.{room, length-front-part, front-show, front-refusal, window-passes, front-is}
+use Rattle.coxeter.specs.Length.{windowLength}
+use Rattle.coxeter.proofs.Acceptance.{rank-accepted, letters-accepted, lanes-le}
+use Rattle.window.proofs.shown.Fronts.{room, length-front-part, front-show, front-refusal, window-passes, front-is}
 use borrow.Author.Needs.{needs}
 use Rattle.window.proofs.shown.length_of_shown.Statement.{statement}
 use Rattle.window.proofs.shown.length_of_shown.Tie as tie

@@ -1,8 +1,8 @@
 -- `shown::product_shown` applies the second word to what the first shows.
 -- Assumes nothing.
 use mathlib.Core.Path.{sym}
-use Rattle.window.proofs.CallLaws.{rank-accepted, letters-accepted}
-use Rattle.window.proofs.ShownLaws.{room, length-front-part, front-refusal, front-apply, window-passes}
+use Rattle.coxeter.proofs.Acceptance.{rank-accepted, letters-accepted}
+use Rattle.window.proofs.shown.Fronts.{room, length-front-part, front-refusal, front-apply, window-passes}
 use borrow.Author.Needs.{needs}
 use Rattle.window.proofs.shown.product_shown.Statement.{statement}
 use Rattle.window.proofs.shown.product_shown.Tie as tie

@@ -1,8 +1,8 @@
 -- `shown::shown` lends the front of a blank window to `show`.
 -- Assumes nothing.
 use mathlib.Core.Path.{sym, _∙_}
-use Rattle.window.proofs.CallLaws.{rank-accepted, letters-accepted}
-use Rattle.window.proofs.ShownLaws.{room, length-front-part, front-show}
+use Rattle.coxeter.proofs.Acceptance.{rank-accepted, letters-accepted}
+use Rattle.window.proofs.shown.Fronts.{room, length-front-part, front-show}
 use borrow.Author.Needs.{needs}
 use Rattle.window.proofs.shown.shown.Statement.{statement}
 use Rattle.window.proofs.shown.shown.Tie as tie

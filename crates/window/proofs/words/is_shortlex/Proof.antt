@@ -6,9 +6,9 @@ use Prim.Native.Nat.{_≤_, _-_, zero-le}
 use native.Mathlib.Omega.{arith}
 use lib.ListN.{length, drop}
 use borrow.Author.Needs.{needs}
-use Rattle.window.specs.Dictionary.{before}
-use Rattle.window.proofs.WordCode.{before-here, before-step, before-end}
-use Rattle.window.proofs.Order.{shortlex-of-ne, shortlex-of-eq}
+use Rattle.coxeter.specs.Dictionary.{before}
+use Rattle.window.proofs.words.Orders.{before-here, before-step, before-end}
+use Rattle.coxeter.proofs.Order.{shortlex-of-ne, shortlex-of-eq}
 use Rattle.window.proofs.words.is_shortlex.Statement.{statement}
 use Rattle.window.proofs.words.is_shortlex.Tie as tie
 

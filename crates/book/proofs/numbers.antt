@@ -1,0 +1,2 @@
+-- What the proofs of the module `numbers` share.
+pub mod Stores

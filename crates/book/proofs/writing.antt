@@ -1,0 +1,2 @@
+-- What the proofs of the module `writing` share.
+pub mod Appended

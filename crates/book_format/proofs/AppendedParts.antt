@@ -1,0 +1,183 @@
+-- A book that appending made, number by number and record by record: its count, its trailer, its offsets, its last record and those before it.
+-- Shown by cutting it into its five parts, the records, the new record, the offsets, its offset and the count.
+--
+-- Sections: two-byte numbers in a list; parts of a list; the parts; numbers of the new book; its records.
+-- Assumes nothing.
+use mathlib.Core.Path.{_≡_, refl, sym, ap, _∙_}
+use mathlib.Core.List.{List, [], _∷_, _++_, append-assoc, append-nil}
+use Prim.Native.Nat.{ℕ, _+_, _-_, _*_, _≤_, _<_}
+use native.Mathlib.Nat.{add-assoc}
+use native.Mathlib.Omega.{arith}
+use lib.ListN.{length, getD, take, drop, length-append, length-drop, take-append-drop, List·getD-append}
+use lib.Seq.{getD-append-add, getD-take, getD-drop, getD-at, take-at, drop-at, take-append-le, drop-append-le, length-take-le}
+use Rattle.book_format.specs.Books.{twoAt, two, count, trailer, offset, kindAt, rankAt, letterCountAt, lettersAt, endAt, recordOf, appended}
+use Rattle.book_format.proofs.BookLaws.{Accepted, trailer-le, trailer-read}
+use Rattle.book_format.proofs.WritingLaws.{length-two, length-recordOf, length-appended}
+
+-- ---- two-byte numbers in a list
+
+pub twoAt-append-right : (x y : List ℕ) (p : ℕ) → twoAt (x ++ y) (length x + p) ≡ twoAt y p
+unfolding twoAt
+twoAt-append-right x y p = rw (add-assoc (length x) p 1, getD-append-add x y p 0, getD-append-add x y (p + 1) 0)
+
+pub twoAt-append-left : (x y : List ℕ) (p : ℕ) → p + 1 < length x → twoAt (x ++ y) p ≡ twoAt x p
+unfolding twoAt
+twoAt-append-left x y p h = rw (List·getD-append x y 0 p (omega arith), List·getD-append x y 0 (p + 1) h)
+
+twoAt-two : (v : ℕ) (y : List ℕ) → v < 65536 → twoAt (two v ++ y) 0 ≡ v
+unfolding twoAt two
+twoAt-two v y h = omega arith
+
+-- a number that was written at p
+pub twoAt-written : (l x y : List ℕ) (p v : ℕ) → l ≡ x ++ (two v ++ y) → p ≡ length x → v < 65536 → twoAt l p ≡ v
+twoAt-written l x y p v e q h = rw (e, q) (let z : length x ≡ length x + 0 = omega arith in rw z (twoAt-append-right x (two v ++ y) 0 ∙ twoAt-two v y h))
+
+twoAt-agree : (l m : List ℕ) (p : ℕ) → getD l p 0 ≡ getD m p 0 → getD l (p + 1) 0 ≡ getD m (p + 1) 0 → twoAt l p ≡ twoAt m p
+unfolding twoAt
+twoAt-agree l m p e f = rw (e, f)
+
+twoAt-middle : (l : List ℕ) (f m p : ℕ) → p + 1 < m → twoAt (take m (drop f l)) p ≡ twoAt l (f + p)
+unfolding twoAt
+twoAt-middle l f m p h =
+    rw (getD-take m (drop f l) p 0 (omega arith), getD-take m (drop f l) (p + 1) 0 h, getD-drop f l p 0, getD-drop f l (p + 1) 0, add-assoc f p 1)
+
+-- ---- parts of a list
+
+getD-past : (x y : List ℕ) (t p : ℕ) → length x ≡ t → getD (x ++ y) (t + p) 0 ≡ getD y p 0
+getD-past x y t p e = rw (← e) (getD-append-add x y p 0)
+
+middle-append : (x y : List ℕ) (f m : ℕ) → f + m ≤ length x → take m (drop f (x ++ y)) ≡ take m (drop f x)
+middle-append x y f m h = rw (drop-append-le f x y (omega arith)) (take-append-le m (drop f x) y (rw length-drop (omega arith)))
+
+-- ---- the parts
+
+abbrev records : List ℕ → List ℕ
+records b = take (trailer b) b
+
+abbrev offsets : List ℕ → List ℕ
+offsets b = take (2 * count b) (drop (trailer b) b)
+
+pub trailer-count : (b : List ℕ) → Accepted b → trailer b + 2 * count b + 2 ≡ length b
+unfolding trailer
+trailer-count b a = let h = a .fits in omega arith
+
+length-records : (b : List ℕ) → length (records b) ≡ trailer b
+length-records b = length-take-le (trailer b) b (trailer-le b)
+
+length-offsets : (b : List ℕ) → Accepted b → length (offsets b) ≡ 2 * count b
+length-offsets b a = let h = trailer-count b a in length-take-le (2 * count b) (drop (trailer b) b) (rw length-drop (omega arith))
+
+-- the new book, cut before its count, before its last offset, before its offsets, before its record
+module _ (b : List ℕ) (k n : ℕ) (u : List ℕ) where
+  before-count : appended b k n u ≡ (records b ++ (recordOf k n u ++ (offsets b ++ two (trailer b)))) ++ (two (count b + 1) ++ [])
+  unfolding appended
+  before-count = simp (append-assoc, append-nil)
+
+  before-offset : appended b k n u ≡ ((records b ++ recordOf k n u) ++ offsets b) ++ (two (trailer b) ++ two (count b + 1))
+  unfolding appended
+  before-offset = simp append-assoc
+
+  before-offsets : appended b k n u ≡ (records b ++ recordOf k n u) ++ (offsets b ++ (two (trailer b) ++ two (count b + 1)))
+  unfolding appended
+  before-offsets = simp append-assoc
+
+  abbrev rest : List ℕ
+  rest = offsets b ++ (two (trailer b) ++ two (count b + 1))
+
+  before-record : appended b k n u ≡ records b ++ (k ∷ n ∷ (two (length u) ++ (u ++ rest)))
+  unfolding appended recordOf
+  before-record = simp append-assoc
+
+module _ (b : List ℕ) (k n : ℕ) (u : List ℕ) (a : Accepted b) (small : length b + length u + 6 ≤ 65535) where
+  -- ---- numbers of the new book
+
+  pub count-appended : count (appended b k n u) ≡ count b + 1
+  unfolding count
+  count-appended =
+      let front = records b ++ (recordOf k n u ++ (offsets b ++ two (trailer b))) in
+      let h = trailer-count b a in
+      let l = length-appended b k n u a in
+      let f : length front ≡ length b + length u + 4 = simp (length-append, length-records, length-recordOf, length-offsets b a, length-two) (omega arith) in
+      twoAt-written (appended b k n u) front [] (length (appended b k n u) - 2) (count b + 1) (before-count b k n u) (omega arith) (omega arith)
+
+  pub trailer-appended : trailer (appended b k n u) ≡ trailer b + (4 + length u)
+  trailer-appended =
+      let l = length-appended b k n u a in
+      let h = trailer-count b a in
+      let r = trailer-read (appended b k n u) (count b + 1) (sym count-appended) in
+      omega arith
+
+  pub offset-appended-last : offset (appended b k n u) (count b) ≡ trailer b
+  unfolding offset
+  offset-appended-last =
+      let h = trailer-count b a in
+      let front = (records b ++ recordOf k n u) ++ offsets b in
+      let f : length front ≡ trailer b + (4 + length u) + 2 * count b = simp (length-append, length-records, length-recordOf, length-offsets b a) in
+      rw trailer-appended
+      (twoAt-written (appended b k n u) front (two (count b + 1)) (trailer b + (4 + length u) + 2 * count b) (trailer b) (before-offset b k n u) (sym f) (omega arith))
+
+  pub offset-appended : (i : ℕ) → i < count b → offset (appended b k n u) i ≡ offset b i
+  unfolding offset
+  offset-appended i h =
+      let s = trailer-count b a in
+      let front = records b ++ recordOf k n u in
+      let f : trailer b + (4 + length u) ≡ length front = simp (length-append, length-records, length-recordOf) in
+      let l = length-offsets b a in
+      rw (trailer-appended, before-offsets b k n u, f, twoAt-append-right front (rest b k n u) (2 * i), twoAt-append-left (offsets b) (two (trailer b) ++ two (count b + 1)) (2 * i) (omega arith))
+      (twoAt-middle b (trailer b) (2 * count b) (2 * i) (omega arith))
+
+  -- ---- its records
+
+  -- a byte before the trailer is the old book's
+  getD-appended : (p : ℕ) → p < trailer b → getD (appended b k n u) p 0 ≡ getD b p 0
+  unfolding appended
+  getD-appended p h =
+      let l = length-records b in
+      List·getD-append (records b) (recordOf k n u ++ rest b k n u) 0 p (omega arith) ∙ getD-take (trailer b) b p 0 h
+
+  pub letterCountAt-appended : (o : ℕ) → o + 4 ≤ trailer b → letterCountAt (appended b k n u) o ≡ letterCountAt b o
+  letterCountAt-appended o h =
+      twoAt-agree (appended b k n u) b (o + 2) (getD-appended (o + 2) (omega arith)) (getD-appended (o + 2 + 1) (omega arith))
+
+  pub lettersAt-appended : (o : ℕ) → endAt b o ≤ trailer b → lettersAt (appended b k n u) o ≡ lettersAt b o
+  lettersAt-appended o h =
+      let l = length-records b in
+      let m = twoAt b (o + 2) in
+      rw (letterCountAt-appended o (omega arith))
+      (ap (λ x. take m (drop (o + 4) x)) (before-record b k n u)
+      ∙ middle-append (records b) (k ∷ n ∷ (two (length u) ++ (u ++ rest b k n u))) (o + 4) m (omega arith)
+      ∙ sym (middle-append (records b) (drop (trailer b) b) (o + 4) m (omega arith))
+      ∙ ap (λ x. take m (drop (o + 4) x)) (take-append-drop (trailer b) b))
+
+  pub kindAt-appended : (o : ℕ) → o + 4 ≤ trailer b → kindAt (appended b k n u) o ≡ kindAt b o
+  kindAt-appended o h = getD-appended o (omega arith)
+
+  pub rankAt-appended : (o : ℕ) → o + 4 ≤ trailer b → rankAt (appended b k n u) o ≡ rankAt b o
+  rankAt-appended o h = getD-appended (o + 1) (omega arith)
+
+  pub endAt-appended : (o : ℕ) → o + 4 ≤ trailer b → endAt (appended b k n u) o ≡ endAt b o
+  endAt-appended o h = ap (λ m. o + 4 + m) (letterCountAt-appended o h)
+
+  pub kindAt-appended-last : kindAt (appended b k n u) (trailer b) ≡ k
+  kindAt-appended-last =
+      rw (before-record b k n u) (getD-at (records b) k (n ∷ (two (length u) ++ (u ++ rest b k n u))) 0 (trailer b) (length-records b))
+
+  pub rankAt-appended-last : rankAt (appended b k n u) (trailer b) ≡ n
+  rankAt-appended-last =
+      rw (before-record b k n u) (getD-past (records b) (k ∷ n ∷ (two (length u) ++ (u ++ rest b k n u))) (trailer b) 1 (length-records b))
+
+  pub letterCountAt-appended-last : letterCountAt (appended b k n u) (trailer b) ≡ length u
+  letterCountAt-appended-last =
+      let front = records b ++ (k ∷ n ∷ []) in
+      let f : length front ≡ trailer b + 2 = simp (length-append, length-records) in
+      twoAt-written (appended b k n u) front (u ++ rest b k n u) (trailer b + 2) (length u) (before-record b k n u ∙ simp append-assoc) (sym f) (omega arith)
+
+  pub lettersAt-appended-last : lettersAt (appended b k n u) (trailer b) ≡ u
+  lettersAt-appended-last =
+      let front = records b ++ (k ∷ n ∷ two (length u)) in
+      let f : length front ≡ trailer b + 4 = simp (length-append, length-records, length-two) in
+      let cut : appended b k n u ≡ front ++ (u ++ rest b k n u) = before-record b k n u ∙ simp append-assoc in
+      rw (letterCountAt-appended-last, cut, drop-at front (u ++ rest b k n u) (trailer b + 4) f) (take-at u (rest b k n u) (length u) refl)
+
+  pub endAt-appended-last : endAt (appended b k n u) (trailer b) ≡ trailer (appended b k n u)
+  endAt-appended-last = rw (letterCountAt-appended-last, trailer-appended) (omega arith)

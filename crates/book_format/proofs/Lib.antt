@@ -1,0 +1,8 @@
+-- The laws of books, in the order in which they rest on each other.
+pub mod BookLaws
+pub mod PresetLaws
+pub mod WritingLaws
+pub mod AppendedParts
+pub mod Appending
+pub mod Outcomes
+pub mod RecordLaws

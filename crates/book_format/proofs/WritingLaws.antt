@@ -1,0 +1,82 @@
+-- What appending answers and writes, case by case, in the form in which the code meets it.
+--
+-- Sections: the appended book; appending.
+-- Assumes nothing.
+use mathlib.Core.Path.{_≡_, refl, _∙_}
+use mathlib.Core.List.{List}
+use Prim.Native.Nat.{ℕ, _+_, _≤_, _<_}
+use native.Mathlib.Omega.{arith}
+use lib.ListN.{length, length-append, length-take, length-drop}
+use borrow.Author.Tests.{eq-eqb, ne-eqb, lt-ltb, le-ltb, ltb-false}
+use Rattle.coxeter.specs.Checks.{check, _then_, rankRefusal, wordRefusal}
+use Rattle.book_format.specs.Books.{two, trailer, tooLarge, bookRefusal, recordOf, appended, appendRefusal}
+use Rattle.book_format.proofs.BookLaws.{Accepted, accepted, accepted-read}
+use Rattle.coxeter.proofs.Refusals.{then-zero, check-zero, then-none}
+
+-- ---- the appended book
+
+pub length-two : (x : ℕ) → length (two x) ≡ 2
+unfolding two
+length-two x = refl
+
+pub length-recordOf : (k n : ℕ) (u : List ℕ) → length (recordOf k n u) ≡ 4 + length u
+unfolding recordOf
+length-recordOf k n u = simp (length-append, length-two) (omega arith)
+
+pub length-appended : (b : List ℕ) (k n : ℕ) (u : List ℕ) → Accepted b → length (appended b k n u) ≡ length b + length u + 6
+unfolding appended trailer
+length-appended b k n u a = let h = a .fits in simp (length-append, length-recordOf, length-two, length-take, length-drop) (omega arith)
+
+-- ---- appending
+
+-- r is the refusal of the book, s that of the kind and the rank, t that of the word
+module _ (b : List ℕ) (k n : ℕ) (u : List ℕ) (r : ℕ) (e : r ≡ bookRefusal b) where
+  pub appendRefusal-book : (r ≡ 0 → ⊥) → appendRefusal b k n u ≡ r
+  unfolding appendRefusal
+  appendRefusal-book f = rw (← e, ne-eqb r 0 f)
+
+  module _ (s : ℕ) (z : r ≡ 0) (d : s ≡ rankRefusal k n) where
+    pub appendRefusal-rank : (s ≡ 0 → ⊥) → appendRefusal b k n u ≡ s
+    unfolding appendRefusal
+    appendRefusal-rank f = rw (← e, eq-eqb r 0 z, ← d, ne-eqb s 0 f)
+
+    module _ (t : ℕ) (y : s ≡ 0) (q : t ≡ wordRefusal n u) where
+      pub appendRefusal-word : (t ≡ 0 → ⊥) → appendRefusal b k n u ≡ t
+      unfolding appendRefusal
+      appendRefusal-word f = rw (← e, eq-eqb r 0 z, ← d, eq-eqb s 0 y, ← q, ne-eqb t 0 f)
+
+      pub appendRefusal-large : t ≡ 0 → 65535 < length b + length u + 6 → appendRefusal b k n u ≡ 13
+      unfolding appendRefusal tooLarge
+      appendRefusal-large x h =
+          rw (← e, eq-eqb r 0 z, ← d, eq-eqb s 0 y, ← q, eq-eqb t 0 x, length-appended b k n u (accepted-read b r e z), lt-ltb 65535 (length b + length u + 6) h)
+
+      pub appendRefusal-none : t ≡ 0 → length b + length u + 6 ≤ 65535 → appendRefusal b k n u ≡ 0
+      unfolding appendRefusal tooLarge
+      appendRefusal-none x h =
+          rw (← e, eq-eqb r 0 z, ← d, eq-eqb s 0 y, ← q, eq-eqb t 0 x, length-appended b k n u (accepted-read b r e z), le-ltb 65535 (length b + length u + 6) h)
+
+-- where appending is not refused, none of its checks refuses
+append-parts : (b : List ℕ) (k n : ℕ) (u : List ℕ) → appendRefusal b k n u ≡ 0
+    → (bookRefusal b ≡ 0) × (rankRefusal k n ≡ 0) × (wordRefusal n u ≡ 0) × (check 13 (tooLarge (length (appended b k n u))) ≡ 0)
+unfolding appendRefusal
+append-parts b k n u e =
+    let size = check 13 (tooLarge (length (appended b k n u))) in
+    let a = then-zero (bookRefusal b) (rankRefusal k n then wordRefusal n u then size) e in
+    let c = then-zero (rankRefusal k n) (wordRefusal n u then size) (a .1) in
+    let d = then-zero (wordRefusal n u) size (c .1) in
+    (a .0, c .0, d .0, d .1)
+
+-- a book to which a preset is appended is accepted
+pub append-book : (b : List ℕ) (k n : ℕ) (u : List ℕ) → appendRefusal b k n u ≡ 0 → bookRefusal b ≡ 0
+append-book b k n u e = append-parts b k n u e .0
+
+pub append-preset : (b : List ℕ) (k n : ℕ) (u : List ℕ) → appendRefusal b k n u ≡ 0 → (rankRefusal k n then wordRefusal n u) ≡ 0
+append-preset b k n u e = let p = append-parts b k n u e in then-none (rankRefusal k n) (wordRefusal n u) (p .1) ∙ p .2
+
+pub append-size : (b : List ℕ) (k n : ℕ) (u : List ℕ) → appendRefusal b k n u ≡ 0 → length (appended b k n u) ≤ 65535
+unfolding tooLarge
+append-size b k n u e =
+    ltb-false 65535 (length (appended b k n u)) (check-zero 12 (tooLarge (length (appended b k n u))) (append-parts b k n u e .3))
+
+pub append-accepted : (b : List ℕ) (k n : ℕ) (u : List ℕ) → appendRefusal b k n u ≡ 0 → Accepted b
+append-accepted b k n u e = accepted b (append-book b k n u e)

@@ -1,0 +1,100 @@
+-- The preset book (document 01, "The preset book"), read from its end, and its checks 1 to 4 and 13.
+use mathlib.Core.Bool.{Bool, not, _||_}
+use mathlib.Core.List.{List, [], _∷_, _++_}
+use Prim.Native.Nat.{ℕ, zero, suc, _+_, _-_, _*_, _/_, _%_}
+use lib.Dec.{eqb, leb, ltb}
+use lib.ListN.{length, getD, take, drop}
+use Rattle.coxeter.specs.Checks.{check, _then_, rankRefusal, wordRefusal}
+
+-- "Two-byte numbers have the low byte first."
+unfoldable pub twoAt : List ℕ → ℕ → ℕ
+twoAt b p = getD b p 0 + 256 * getD b (p + 1) 0
+
+unfoldable pub two : ℕ → List ℕ
+two x = x % 256 ∷ x / 256 % 256 ∷ []
+
+-- "The last two bytes are the count c."
+unfoldable pub count : List ℕ → ℕ
+count b = twoAt b (length b - 2)
+
+-- "Before them stand c two-byte offsets, in record order; offsets and count together are the trailer": where the trailer begins
+unfoldable pub trailer : List ℕ → ℕ
+trailer b = length b - (2 * count b + 2)
+
+unfoldable pub offset : List ℕ → ℕ → ℕ
+offset b i = twoAt b (trailer b + 2 * i)
+
+-- "kind, rank, letter count (two bytes), letters": the record at byte o
+abbrev pub kindAt : List ℕ → ℕ → ℕ
+kindAt b o = getD b o 0
+
+abbrev pub rankAt : List ℕ → ℕ → ℕ
+rankAt b o = getD b (o + 1) 0
+
+abbrev pub letterCountAt : List ℕ → ℕ → ℕ
+letterCountAt b o = twoAt b (o + 2)
+
+abbrev pub lettersAt : List ℕ → ℕ → List ℕ
+lettersAt b o = take (letterCountAt b o) (drop (o + 4) b)
+
+-- where the record at byte o ends
+abbrev pub endAt : List ℕ → ℕ → ℕ
+endAt b o = o + 4 + letterCountAt b o
+
+-- "1. The book has fewer than 2 or more than 65,535 bytes."
+unfoldable pub wrongSize : List ℕ → Bool
+wrongSize b = ltb (length b) 2 || ltb 65535 (length b)
+
+-- "2. Two times c, plus 2, exceeds the book's length."
+unfoldable pub wrongCount : List ℕ → Bool
+wrongCount b = ltb (length b) (2 * count b + 2)
+
+-- "3. An offset is not where the record before it ends (0 for the first), a record runs into the trailer, or the last record does not end at
+-- the trailer (with c = 0, the trailer is not at byte 0).": t records are left, the next is record i and has to begin at byte o
+unfoldable pub misplacedFrom : List ℕ → ℕ → ℕ → ℕ → Bool
+misplacedFrom b zero i o = not (eqb o (trailer b))
+misplacedFrom b (suc t) i o =
+    not (eqb (offset b i) o) || (ltb (trailer b) (endAt b o) || misplacedFrom b t (suc i) (endAt b o))
+
+unfoldable pub misplaced : List ℕ → Bool
+misplaced b = misplacedFrom b (count b) 0 0
+
+-- "4. The preset number is c or more."
+unfoldable pub noSuchPreset : List ℕ → ℕ → Bool
+noSuchPreset b i = leb (count b) i
+
+-- "13. The appended book would exceed 65,535 bytes."
+unfoldable pub tooLarge : ℕ → Bool
+tooLarge l = ltb 65535 l
+
+-- "Opening makes checks 1 to 3"
+unfoldable pub bookRefusal : List ℕ → ℕ
+bookRefusal b = check 1 (wrongSize b) then check 2 (wrongCount b) then check 3 (misplaced b)
+
+-- checks 5 to 8, of the record at byte o
+unfoldable pub recordRefusal : List ℕ → ℕ → ℕ
+recordRefusal b o = rankRefusal (kindAt b o) (rankAt b o) then wordRefusal (rankAt b o) (lettersAt b o)
+
+-- "reading a preset 1 to 8"
+unfoldable pub presetRefusal : List ℕ → ℕ → ℕ
+presetRefusal b i = bookRefusal b then check 4 (noSuchPreset b i) then recordRefusal b (offset b i)
+
+-- a preset of an opened book, one that checks 1 to 3 have accepted, is read with no second walk: of check 3 only that its own record ends in time.
+-- For every such book this is `presetRefusal`
+unfoldable pub openedRefusal : List ℕ → ℕ → ℕ
+openedRefusal b i =
+    check 1 (wrongSize b) then check 2 (wrongCount b) then check 4 (noSuchPreset b i) then check 3 (ltb (trailer b) (endAt b (offset b i)))
+    then recordRefusal b (offset b i)
+
+-- a record's bytes
+unfoldable pub recordOf : ℕ → ℕ → List ℕ → List ℕ
+recordOf k n u = k ∷ n ∷ (two (length u) ++ u)
+
+-- "Appending writes the whole new book": the records, the new record, the offsets, its offset, the count
+unfoldable pub appended : List ℕ → ℕ → ℕ → List ℕ → List ℕ
+appended b k n u =
+    take (trailer b) b ++ (recordOf k n u ++ (take (2 * count b) (drop (trailer b) b) ++ (two (trailer b) ++ two (count b + 1))))
+
+-- appending makes checks 1 to 3 of the book, 5 to 8 of the preset, and 13
+unfoldable pub appendRefusal : List ℕ → ℕ → ℕ → List ℕ → ℕ
+appendRefusal b k n u = bookRefusal b then rankRefusal k n then wordRefusal n u then check 13 (tooLarge (length (appended b k n u)))

@@ -1,0 +1,26 @@
+-- The laws of words, windows, lengths, relations and normal forms, in the order in which they rest on each other.
+pub mod Lists
+pub mod KindLaws
+pub mod Basics
+pub mod Refusals
+pub mod LetterLaws
+pub mod Acceptance
+pub mod Sizes
+pub mod Levels
+pub mod Steps
+pub mod Links
+pub mod Relations
+pub mod Products
+pub mod Places
+pub mod Inverses
+pub mod Order
+pub mod PairWeights
+pub mod Runs
+pub mod Peeling
+pub mod BlockAction
+pub mod Indices
+pub mod NormalForms
+pub mod Lengths
+pub mod GreatestLengths
+pub mod FormLaws
+pub mod Outcomes

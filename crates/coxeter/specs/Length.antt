@@ -1,0 +1,48 @@
+-- The length of a window (document 01, "Length"): three sums, kept apart. A pair of the first sum is an inversion, one of the second a negative sum pair.
+use mathlib.Core.Bool.{Bool, true, false}
+use mathlib.Core.List.{List, [], _∷_, map}
+use Prim.Native.Nat.{ℕ, _+_}
+use lib.Dec.{ltb}
+use lib.IntN.{ℤ, pos, negsuc, negℤ}
+use Rattle.coxeter.specs.Kinds.{Kind, A, B, D, pick}
+
+-- "Order the entries 1, 2, .., m, −m, .., −2, −1": x stands later than y
+unfoldable pub later : ℤ → ℤ → Bool
+later (pos a) (pos b) = ltb b a
+later (pos a) (negsuc b) = false
+later (negsuc a) (pos b) = true
+later (negsuc a) (negsuc b) = ltb a b
+
+unfoldable pub negative : ℤ → Bool
+negative (pos a) = false
+negative (negsuc a) = true
+
+-- 1 where the test holds, else 0
+unfoldable pub one : Bool → ℕ
+one t = pick t 1 0
+
+-- how many entries of w the entry x stands later than
+unfoldable pub laterThan : ℤ → List ℤ → ℕ
+laterThan x [] = 0
+laterThan x (y ∷ w) = one (later x y) + laterThan x w
+
+-- "Over positions i < j count the pairs whose first entry stands later in this order than the second."
+unfoldable pub inversions : List ℤ → ℕ
+inversions [] = 0
+inversions (x ∷ w) = laterThan x w + inversions w
+
+-- "B and D add the pairs where entry i stands later than minus entry j."
+unfoldable pub negativeSumPairs : List ℤ → ℕ
+negativeSumPairs [] = 0
+negativeSumPairs (x ∷ w) = laterThan x (map negℤ w) + negativeSumPairs w
+
+-- "B adds the number of negative entries."
+unfoldable pub negatives : List ℤ → ℕ
+negatives [] = 0
+negatives (x ∷ w) = one (negative x) + negatives w
+
+-- "The sum is the length of the normal form."
+unfoldable pub windowLength : Kind → List ℤ → ℕ
+windowLength A w = inversions w
+windowLength B w = inversions w + negativeSumPairs w + negatives w
+windowLength D w = inversions w + negativeSumPairs w

@@ -1,0 +1,21 @@
+// Words and windows of the Coxeter groups of kinds A, B and D: definitions in specs/, laws in proofs/, and the answers of the calls on them. No function.
+
+// The answer of a call that writes, or that measures a length: the length, or the refusal's number.
+pub enum Answer {
+    Length(usize),
+    Refused(u8),
+}
+
+// An equality verdict, or the refusal's number.
+pub enum Verdict {
+    Yes,
+    No,
+    Refused(u8),
+}
+
+// Which of two words is the better one.
+pub enum Choice {
+    First,
+    Second,
+    Neither,
+}

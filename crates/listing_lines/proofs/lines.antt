@@ -1,0 +1,2 @@
+-- What the proofs of the module `lines` share.
+pub mod Lines

@@ -1,0 +1,2 @@
+-- What the proofs of the module `presets` share.
+pub mod PresetLines

@@ -1,0 +1,2 @@
+-- What the proofs of the module `printing` share.
+pub mod Pieces

@@ -1,0 +1,4 @@
+-- The laws of the listing as text.
+pub mod Decimals
+pub mod Listings
+pub mod Examples

@@ -1,0 +1,2 @@
+-- What code that checks or makes entries shares.
+pub mod Bytes

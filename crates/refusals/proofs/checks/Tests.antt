@@ -1,0 +1,128 @@
+-- The checks' definitions, one element at a time and one case at a time, in the form in which the code meets them.
+--
+-- Sections: kinds and ranks; letters; entries; signs; windows.
+-- Assumes nothing.
+use mathlib.Core.Path.{_≡_, refl, sym, _∙_}
+use mathlib.Core.Bool.{Bool, true, false, not, _||_, or-false, Bool·not-not}
+use mathlib.Core.List.{List, [], _∷_}
+use Prim.Native.Nat.{ℕ, _+_, _≤_, _<_}
+use native.Mathlib.Decide.{ℕ-discrete}
+use native.Mathlib.Nat.{zero-add}
+use native.Mathlib.Numerals.{one-add}
+use native.Mathlib.Omega.{arith}
+use lib.Dec.{eqb, ltb}
+use lib.IntN.{ℤ, pos, natAbs}
+use lib.ListN.{length, getD, drop, drop-of-length-le}
+use borrow.Author.Tests.{eq-eqb, ne-eqb, lt-ltb, le-ltb}
+use Rattle.coxeter.specs.Kinds.{Kind, pick, lanes}
+use Rattle.coxeter.specs.Length.{negative, negatives, one}
+use Rattle.coxeter.specs.Checks.{wrongKind, wrongLetter, wrongAt, wrongEntry, hasSize, negativeInA, odd, oddNegatives, wrongLanes, windowRefusal}
+use Rattle.coxeter.proofs.Lists.{drop-next}
+
+-- ---- kinds and ranks
+
+pub wrongKind-zero : (k : ℕ) → k ≡ 0 → wrongKind k ≡ true
+unfolding wrongKind
+wrongKind-zero k e = rw (ne-eqb k 1 (omega arith), ne-eqb k 2 (omega arith), ne-eqb k 3 (omega arith))
+
+pub wrongKind-above : (k : ℕ) → 3 < k → wrongKind k ≡ true
+unfolding wrongKind
+wrongKind-above k h = rw (ne-eqb k 1 (omega arith), ne-eqb k 2 (omega arith), ne-eqb k 3 (omega arith))
+
+pub wrongKind-within : (k : ℕ) → (k ≡ 0 → ⊥) → k ≤ 3 → wrongKind k ≡ false
+unfolding wrongKind
+wrongKind-within k f h = elim (ℕ-discrete k 1) [ yes e ↦ rw (eq-eqb k 1 e) | no g ↦ rw (ne-eqb k 1 g) (two g) ]
+  where
+    two : (k ≡ 1 → ⊥) → not (eqb k 2 || eqb k 3) ≡ false
+    two g = elim (ℕ-discrete k 2) [ yes e ↦ rw (eq-eqb k 2 e) | no s ↦ rw (ne-eqb k 2 s, eq-eqb k 3 (omega arith)) ]
+
+-- ---- letters
+
+or-next : (t a b c : Bool) → (t || ((a || b) || c)) ≡ (((t || a) || b) || c)
+or-next true a b c = refl
+or-next false true b c = refl
+or-next false false b c = refl
+
+-- a letter was wrong before the place i, or one from there on is
+pub wrongLetter-next : (n : ℕ) (u : List ℕ) (i : ℕ) (t : Bool) → i < length u
+    → (t || wrongLetter n (drop i u)) ≡ (((t || eqb (getD u i 0) 0) || ltb n (getD u i 0)) || wrongLetter n (drop (i + 1) u))
+unfolding wrongLetter
+wrongLetter-next n u i t h = rw (drop-next u i 0 h) (or-next t (eqb (getD u i 0) 0) (ltb n (getD u i 0)) (wrongLetter n (drop (i + 1) u)))
+
+pub wrongLetter-end : (n : ℕ) (u : List ℕ) (i : ℕ) (t : Bool) → length u ≤ i → (t || wrongLetter n (drop i u)) ≡ t
+unfolding wrongLetter
+wrongLetter-end n u i t h = rw (drop-of-length-le u h) (or-false t)
+
+-- ---- entries
+
+-- the tests of check 10 at the entry e of size s, in the order of the code
+pub wrongAt-zero : (k : Kind) (m s : ℕ) (e : ℤ) (w : List ℤ) → s ≡ natAbs e → s ≡ 0 → wrongAt k m e w ≡ true
+unfolding wrongAt
+wrongAt-zero k m s e w q z = rw (← q, eq-eqb s 0 z)
+
+pub wrongAt-above : (k : Kind) (m s : ℕ) (e : ℤ) (w : List ℤ) → s ≡ natAbs e → (s ≡ 0 → ⊥) → m < s → wrongAt k m e w ≡ true
+unfolding wrongAt
+wrongAt-above k m s e w q f h = rw (← q, ne-eqb s 0 f, lt-ltb m s h)
+
+pub wrongAt-repeats : (k : Kind) (m s : ℕ) (e : ℤ) (w : List ℤ) → s ≡ natAbs e → (s ≡ 0 → ⊥) → s ≤ m → hasSize s w ≡ true → wrongAt k m e w ≡ true
+unfolding wrongAt
+wrongAt-repeats k m s e w q f h t = rw (← q, ne-eqb s 0 f, le-ltb m s h, t)
+
+pub wrongAt-else : (k : Kind) (m s : ℕ) (e : ℤ) (w : List ℤ) → s ≡ natAbs e → (s ≡ 0 → ⊥) → s ≤ m → hasSize s w ≡ false → wrongAt k m e w ≡ negativeInA k e
+unfolding wrongAt
+wrongAt-else k m s e w q f h t = rw (← q, ne-eqb s 0 f, le-ltb m s h, t)
+
+-- ---- signs
+
+-- a flag flipped at each negative entry
+unfoldable pub flipped : Bool → List ℤ → Bool
+flipped t [] = t
+flipped t (e ∷ w) = flipped (pick (negative e) (not t) t) w
+
+flipped-step : (t : Bool) (w : List ℤ) (i : ℕ) → i < length w
+    → flipped t (drop i w) ≡ flipped (pick (negative (getD w i (pos 0))) (not t) t) (drop (i + 1) w)
+unfolding flipped
+flipped-step t w i h = rw (drop-next w i (pos 0) h)
+
+pub flipped-yes : (t s : Bool) (w : List ℤ) (i : ℕ) → i < length w → negative (getD w i (pos 0)) ≡ true → s ≡ not t
+    → flipped t (drop i w) ≡ flipped s (drop (i + 1) w)
+flipped-yes t s w i h e q = flipped-step t w i h ∙ rw (e, q)
+
+pub flipped-no : (t s : Bool) (w : List ℤ) (i : ℕ) → i < length w → negative (getD w i (pos 0)) ≡ false → s ≡ t
+    → flipped t (drop i w) ≡ flipped s (drop (i + 1) w)
+flipped-no t s w i h e q = flipped-step t w i h ∙ rw (e, q)
+
+-- of each part of a window from the left the flag is yes exactly when an odd number of its entries are negative
+flipped-odd : (t : Bool) (w : List ℤ) → flipped t w ≡ pick t (not (odd (negatives w))) (odd (negatives w))
+unfolding flipped odd negatives one
+flipped-odd true [] = refl
+flipped-odd false [] = refl
+flipped-odd t (e ∷ w) = step (λ b. flipped-odd b w) t (negative e)
+  where
+    step : ((b : Bool) → flipped b w ≡ pick b (not (odd (negatives w))) (odd (negatives w))) → (t s : Bool) → flipped (pick s (not t) t) w ≡ pick t (not (odd (pick s 1 0 + negatives w))) (odd (pick s 1 0 + negatives w))
+    step ih true true = ih false ∙ rw (one-add (negatives w)) (sym (Bool·not-not (odd (negatives w))))
+    step ih true false = ih true ∙ rw (zero-add (negatives w))
+    step ih false true = ih true ∙ rw (one-add (negatives w))
+    step ih false false = ih false ∙ rw (zero-add (negatives w))
+
+pub flipped-false : (w : List ℤ) → flipped false w ≡ odd (negatives w)
+flipped-false w = flipped-odd false w
+
+-- ---- windows
+
+-- checks 9 to 11 of a window of m lanes, in the order of the code
+pub windowRefusal-lanes : (k : Kind) (n m : ℕ) (w : List ℤ) → m ≡ lanes k n → (length w ≡ m → ⊥) → windowRefusal k n w ≡ 9
+unfolding windowRefusal wrongLanes
+windowRefusal-lanes k n m w q f = rw (← q, ne-eqb (length w) m f)
+
+pub windowRefusal-entry : (k : Kind) (n m : ℕ) (w : List ℤ) → m ≡ lanes k n → length w ≡ m → wrongEntry k m w ≡ true → windowRefusal k n w ≡ 10
+unfolding windowRefusal wrongLanes
+windowRefusal-entry k n m w q l e = rw (← q, eq-eqb (length w) m l, e)
+
+pub windowRefusal-odd : (k : Kind) (n m : ℕ) (w : List ℤ) → m ≡ lanes k n → length w ≡ m → wrongEntry k m w ≡ false → oddNegatives k w ≡ true → windowRefusal k n w ≡ 11
+unfolding windowRefusal wrongLanes
+windowRefusal-odd k n m w q l e o = rw (← q, eq-eqb (length w) m l, e, o)
+
+pub windowRefusal-none : (k : Kind) (n m : ℕ) (w : List ℤ) → m ≡ lanes k n → length w ≡ m → wrongEntry k m w ≡ false → oddNegatives k w ≡ false → windowRefusal k n w ≡ 0
+unfolding windowRefusal wrongLanes
+windowRefusal-none k n m w q l e o = rw (← q, eq-eqb (length w) m l, e, o)

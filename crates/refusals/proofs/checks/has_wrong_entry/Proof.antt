@@ -1,0 +1,130 @@
+-- `checks::has_wrong_entry` goes from the last entry to the first. The invariant: the entries behind passed, and their sizes are marked.
+-- Assumes nothing.
+use mathlib.Core.Path.{_≡_, sym, ap, _∙_}
+use Prim.Native.Nat.{_-_}
+use denote.Ref.{now}
+use native.Mathlib.Omega.{arith}
+use lib.IntN.{ℤ, pos, natAbs}
+use lib.ListN.{getD}
+use borrow.Author.Needs.{needs}
+use Rattle.coxeter.specs.Kinds.{kindOf}
+use Rattle.coxeter.specs.Checks.{negativeInA}
+use Rattle.refusals.proofs.Bytes.{element-back}
+use Rattle.refusals.proofs.checks.Marks.{Passed, passed-none, zero-wrong, above-wrong, repeated-wrong, negative-wrong, passed-next, whole-passed}
+use Rattle.refusals.proofs.checks.has_wrong_entry.Statement.{statement}
+use Rattle.refusals.proofs.checks.has_wrong_entry.Tie as tie
+
+abbrev Inv-loop : tie.InvT-loop
+Inv-loop kind m w marks₀ i₀ marks i = Passed (kindOf kind) m w marks i
+
+abbrev μ-loop : tie.MeasureT-loop
+μ-loop kind m w marks₀ i₀ marks i = i
+
+unmarked-requires : tie.Need-unmarked-requires Inv-loop μ-loop
+unmarked-requires c κs = search needs
+
+loop-holds : tie.Need-loop-holds Inv-loop μ-loop
+loop-holds c = passed-none _ _ _ _ (c .unmarked .ensures)
+
+sub-i : tie.Need-sub-i Inv-loop μ-loop
+sub-i c = search needs
+
+shared-slice-copy-out-e : tie.Need-shared-slice-copy-out-e Inv-loop μ-loop
+shared-slice-copy-out-e c = search needs
+
+size-requires : tie.Need-size-requires Inv-loop μ-loop
+size-requires c κs = search needs
+
+cast-s : tie.Need-cast-s Inv-loop μ-loop
+cast-s c = search needs
+
+-- the size that is tested is that of the entry before the place reached
+size-of : (c : tie.After-size Inv-loop μ-loop)
+    → c .size .result ≡ natAbs (getD (now (c .before .before .before .before .before .args .w)) (c .before .before .before .loop .i - 1) (pos 0))
+size-of c =
+    let turn = c .before .before .before in
+    let e : ℤ = getD (now (turn .before .before .args .w)) (turn .loop .i - 1) (pos 0) in
+    c .size .ensures ∙ ap natAbs (element-back e (c .before .e .given))
+
+returns : tie.Need-returns Inv-loop μ-loop
+returns c =
+    let at = c .before in
+    let turn = at .before .before in
+    zero-wrong _ _ _ _ _ _ (turn .before .loop .inv) (turn .loop-test .taken) (size-of at) (c .if1 .taken)
+
+-- the sign that is tested is that of the same entry
+sign-of : (c : tie.After-negative-in-a Inv-loop μ-loop)
+    → let turn = c .before .before .before .before .before .before .before in
+    c .negative-in-a .result ≡ negativeInA (kindOf (turn .before .before .args .kind)) (getD (now (turn .before .before .args .w)) (turn .loop .i - 1) (pos 0))
+sign-of c =
+    let turn = c .before .before .before .before .before .before .before in
+    let e : ℤ = getD (now (turn .before .before .args .w)) (turn .loop .i - 1) (pos 0) in
+    c .negative-in-a .ensures ∙ ap (negativeInA (kindOf (turn .before .before .args .kind))) (element-back e (c .before .before .before .before .before .e .given))
+
+returns-2 : tie.Need-returns-2 Inv-loop μ-loop
+returns-2 c =
+    let at = c .before .before in
+    let turn = at .before .before in
+    above-wrong _ _ _ _ _ _ (turn .before .loop .inv) (turn .loop-test .taken) (size-of at) (c .before .if1 .left) (c .if2 .taken)
+
+sub-p : tie.Need-sub-p Inv-loop μ-loop
+sub-p c = search needs
+
+array-read-if3 : tie.Need-array-read-if3 Inv-loop μ-loop
+array-read-if3 c = search needs
+
+returns-3 : tie.Need-returns-3 Inv-loop μ-loop
+returns-3 c =
+    let at = c .before .before .before in
+    let turn = at .before .before in
+    repeated-wrong _ _ _ _ _ _ (turn .before .loop .inv) (turn .loop-test .taken) (size-of at) (c .before .before .if1 .left) (c .before .if2 .left) (turn .before .before .before .pre) (c .if3 .taken)
+
+negative-in-a-requires : tie.Need-negative-in-a-requires Inv-loop μ-loop
+negative-in-a-requires c κs = search needs
+
+returns-4 : tie.Need-returns-4 Inv-loop μ-loop
+returns-4 c =
+    let at = c .before .before .before .before .before in
+    let turn = at .before .before in
+    negative-wrong _ _ _ _ _ _ (turn .before .loop .inv) (turn .loop-test .taken) (size-of at) (c .before .before .before .before .if1 .left) (c .before .before .before .if2 .left) (turn .before .before .before .pre) (c .before .before .if3 .left) (sym (sign-of (c .before)) ∙ c .if4 .taken)
+
+array-write-marks : tie.Need-array-write-marks Inv-loop μ-loop
+array-write-marks c = search needs
+
+loop-less : tie.Need-loop-less Inv-loop μ-loop
+loop-less c = search needs
+
+loop-again : tie.Need-loop-again Inv-loop μ-loop
+loop-again c =
+    let at = c .before .before .before .before .before in
+    let turn = at .before .before in
+    passed-next _ _ _ _ _ _ (turn .before .loop .inv) (turn .loop-test .taken) (size-of at) (c .before .before .before .before .if1 .left) (c .before .before .before .if2 .left) (turn .before .before .before .pre) (c .before .before .if3 .left) (sym (sign-of (c .before)) ∙ c .if4 .left)
+
+returns-5 : tie.Need-returns-5 Inv-loop μ-loop
+returns-5 c =
+    let none : c .before .loop .i ≡ 0 = omega (arith, c .loop-test .left) in
+    sym (whole-passed _ _ _ _ _ (c .before .loop .inv) none)
+
+pub has-wrong-entry-spec : {M : Type 1} → statement M
+has-wrong-entry-spec =
+    tie.close
+    (tie.spec
+    Inv-loop
+    μ-loop
+    unmarked-requires
+    loop-holds
+    sub-i
+    shared-slice-copy-out-e
+    size-requires
+    cast-s
+    returns
+    returns-2
+    sub-p
+    array-read-if3
+    returns-3
+    negative-in-a-requires
+    returns-4
+    array-write-marks
+    loop-less
+    loop-again
+    returns-5)

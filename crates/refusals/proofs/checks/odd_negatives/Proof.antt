@@ -1,0 +1,69 @@
+-- `checks::odd_negatives` flips a flag at each negative entry of the part from `i` on.
+-- Assumes nothing.
+use mathlib.Core.Path.{_≡_, refl, sym, ap, _∙_}
+use Prim.Native.Nat.{_≤_, _-_}
+use mathlib.Core.Logic.{⊎-elim}
+use denote.Ref.{now}
+use lib.IntN.{pos}
+use lib.ListN.{getD, length, drop, drop-of-length-le}
+use Rattle.refusals.proofs.Bytes.{element-back}
+use Rattle.refusals.proofs.checks.Tests.{flipped, flipped-yes, flipped-no, flipped-false}
+use mathlib.Core.Bool.{false}
+use Rattle.coxeter.specs.Length.{negative}
+use borrow.Author.Needs.{needs}
+use native.Mathlib.Omega.{arith}
+use Rattle.refusals.proofs.checks.odd_negatives.Statement.{statement}
+use Rattle.refusals.proofs.checks.odd_negatives.Tie as tie
+
+abbrev Inv-loop : tie.InvT-loop
+Inv-loop w flag₀ i₀ flag i = (i ≤ length w) × (flipped false w ≡ flipped flag (drop i w))
+
+abbrev μ-loop : tie.MeasureT-loop
+μ-loop w flag₀ i₀ flag i = length w - i
+
+-- the sign of the entry at `i`, as the call tells it
+sign : (c : tie.Joined1 Inv-loop μ-loop) → negative (getD (now (c .before .before .before .before .before .args .w)) (c .before .before .before .before .loop .i) (pos 0)) ≡ c .before .is-negative .result
+sign c = sym (c .before .is-negative .ensures ∙ ap negative (element-back (getD (now (c .before .before .before .before .before .args .w)) (c .before .before .before .before .loop .i) (pos 0)) (c .before .before .is-negative-arg .given)))
+
+loop-holds : tie.Need-loop-holds Inv-loop μ-loop
+loop-holds c = (omega arith, refl)
+
+shared-slice-copy-out-is-negative : tie.Need-shared-slice-copy-out-is-negative Inv-loop μ-loop
+shared-slice-copy-out-is-negative c = search needs
+
+is-negative-requires : tie.Need-is-negative-requires Inv-loop μ-loop
+is-negative-requires c κs = search needs
+
+add-i : tie.Need-add-i Inv-loop μ-loop
+add-i c = search needs
+
+loop-less : tie.Need-loop-less Inv-loop μ-loop
+loop-less c = search needs
+
+loop-again : tie.Need-loop-again Inv-loop μ-loop
+loop-again c = (
+  omega arith,
+  c .before .before .before .before .loop .inv .1
+      ∙ ⊎-elim
+      (λ w. flipped-yes _ _ _ _ (c .before .before .before .loop-test .taken) (sign c ∙ w .0 .taken) (w .1))
+      (λ w. flipped-no _ _ _ _ (c .before .before .before .loop-test .taken) (sign c ∙ w .0 .left) (w .1))
+      (c .if1 .came),
+)
+
+returns : tie.Need-returns Inv-loop μ-loop
+unfolding flipped
+returns c = sym (sym (flipped-false _) ∙ c .before .loop .inv .1 ∙ ap (flipped _) (drop-of-length-le _ (c .loop-test .left)))
+
+pub odd-negatives-spec : {M : Type 1} → statement M
+odd-negatives-spec =
+    tie.close
+    (tie.spec
+    Inv-loop
+    μ-loop
+    loop-holds
+    shared-slice-copy-out-is-negative
+    is-negative-requires
+    add-i
+    loop-less
+    loop-again
+    returns)

@@ -1,0 +1,235 @@
+// The checks of document 01 on a kind, a rank, a word and a window, each made by one function. A refusal is its number; 0 stands for none.
+use crate::entries::is_negative;
+use crate::entries::size;
+ghost use mathlib.Core.Path.{_≡_};
+ghost use mathlib.Core.Bool.{false};
+ghost use Prim.Native.Nat.{ℕ, _<_, _≤_};
+ghost use lib.ListN.{length, getD};
+ghost use Rattle.coxeter.specs.Kinds as kinds;
+ghost use Rattle.coxeter.specs.Kinds.{kindOf};
+ghost use Rattle.coxeter.specs.Checks.{_then_, rankRefusal, wordRefusal, windowRefusal, wrongLetter, wrongEntry, oddNegatives, negativeInA, odd};
+ghost use Rattle.coxeter.specs.Length.{negatives};
+
+// The most letters of a word.
+const LONGEST: usize = 4096;
+
+fn least(kind: u8) -> u8
+    ensures { λ r. ⌜ r ≡ kinds.least (kindOf kind) ⌝ }
+{
+    if kind == 1 {
+        return 1;
+    }
+    if kind == 2 {
+        return 2;
+    }
+    4
+}
+
+fn greatest(kind: u8) -> u8
+    ensures { λ r. ⌜ r ≡ kinds.greatest (kindOf kind) ⌝ }
+{
+    if kind == 1 {
+        return 31;
+    }
+    32
+}
+
+pub fn lanes(kind: u8, rank: u8) -> usize
+    ensures { λ r. ⌜ r ≡ kinds.lanes (kindOf kind) rank ⌝ }
+{
+    let n = rank as usize;
+    if kind == 1 {
+        return n + 1;
+    }
+    n
+}
+
+// Checks 5 and 6.
+pub fn rank_refusal(kind: u8, rank: u8) -> u8
+    ensures { λ r. ⌜ r ≡ rankRefusal kind rank ⌝ }
+{
+    if kind == 0 {
+        return 5;
+    }
+    if 3 < kind {
+        return 5;
+    }
+    let low = least(kind);
+    if rank < low {
+        return 6;
+    }
+    let high = greatest(kind);
+    if high < rank {
+        return 6;
+    }
+    0
+}
+
+// Check 8. Every letter is looked at, without a way out of the loop, so that many letters are tested at a time.
+fn has_wrong_letter(rank: u8, word: &[u8]) -> bool
+    ensures { λ r. ⌜ r ≡ wrongLetter rank (now (word .entry)) ⌝ }
+{
+    let mut wrong = false;
+    let mut i = 0;
+    while i < word.len() {
+        let s = word[i];
+        wrong = wrong | (s == 0) | (rank < s);
+        i += 1;
+    }
+    wrong
+}
+
+// Checks 7 and 8.
+pub fn word_refusal(rank: u8, word: &[u8]) -> u8
+    ensures { λ r. ⌜ r ≡ wordRefusal rank (now (word .entry)) ⌝ }
+{
+    if LONGEST < word.len() {
+        return 7;
+    }
+    if has_wrong_letter(rank, word) {
+        return 8;
+    }
+    0
+}
+
+// Checks 5 to 8.
+pub fn preset_refusal(kind: u8, rank: u8, word: &[u8]) -> u8
+    ensures { λ r. ⌜ r ≡ (rankRefusal kind rank then wordRefusal rank (now (word .entry))) ⌝ }
+{
+    let refusal = rank_refusal(kind, rank);
+    if refusal != 0 {
+        return refusal;
+    }
+    word_refusal(rank, word)
+}
+
+// Checks 5 to 8 of two words of one kind and rank.
+pub fn ranked_words_refusal(kind: u8, rank: u8, u: &[u8], v: &[u8]) -> u8
+    ensures { λ r. ⌜ r ≡ (rankRefusal kind rank then wordRefusal rank (now (u .entry)) then wordRefusal rank (now (v .entry))) ⌝ }
+{
+    let refusal = rank_refusal(kind, rank);
+    if refusal != 0 {
+        return refusal;
+    }
+    let first = word_refusal(rank, u);
+    if first != 0 {
+        return first;
+    }
+    word_refusal(rank, v)
+}
+
+fn negative_in_a(kind: u8, e: i8) -> bool
+    ensures { λ r. ⌜ r ≡ negativeInA (kindOf kind) e ⌝ }
+{
+    if kind == 1 {
+        return is_negative(e);
+    }
+    false
+}
+
+// Marks for sizes, none set: place p stands for the size p + 1.
+fn unmarked() -> [bool; 64]
+    ensures { λ r. ⌜ (length r ≡ 64) × ((p : ℕ) → p < 64 → getD r p false ≡ false) ⌝ }
+{
+    [false; 64]
+}
+
+// Check 10, from the last entry to the first, with the sizes of the entries behind marked: constant work an entry.
+fn has_wrong_entry(kind: u8, m: usize, w: &[i8]) -> bool
+    requires { ⌜ m ≤ 64 ⌝ }
+    ensures { λ r. ⌜ r ≡ wrongEntry (kindOf kind) m (now (w .entry)) ⌝ }
+{
+    let mut marks = unmarked();
+    let mut i = w.len();
+    while 0 < i {
+        i -= 1;
+        let e = w[i];
+        let s = size(e) as usize;
+        if s == 0 {
+            return true;
+        }
+        if m < s {
+            return true;
+        }
+        let p = s - 1;
+        if marks[p] {
+            return true;
+        }
+        if negative_in_a(kind, e) {
+            return true;
+        }
+        marks[p] = true;
+    }
+    false
+}
+
+// A flag flipped at each negative entry.
+fn odd_negatives(w: &[i8]) -> bool
+    ensures { λ r. ⌜ r ≡ odd (negatives (now (w .entry))) ⌝ }
+{
+    let mut flag = false;
+    let mut i = 0;
+    while i < w.len() {
+        if is_negative(w[i]) {
+            flag = !flag;
+        }
+        i += 1;
+    }
+    flag
+}
+
+fn has_odd_negatives(kind: u8, w: &[i8]) -> bool
+    ensures { λ r. ⌜ r ≡ oddNegatives (kindOf kind) (now (w .entry)) ⌝ }
+{
+    if kind == 1 {
+        return false;
+    }
+    if kind == 2 {
+        return false;
+    }
+    odd_negatives(w)
+}
+
+// Checks 9 to 11.
+fn window_refusal(kind: u8, rank: u8, w: &[i8]) -> u8
+    requires { ⌜ rankRefusal kind rank ≡ 0 ⌝ }
+    ensures { λ r. ⌜ r ≡ windowRefusal (kindOf kind) rank (now (w .entry)) ⌝ }
+{
+    let m = lanes(kind, rank);
+    if w.len() != m {
+        return 9;
+    }
+    if has_wrong_entry(kind, m, w) {
+        return 10;
+    }
+    if has_odd_negatives(kind, w) {
+        return 11;
+    }
+    0
+}
+
+// Checks 5, 6 and 9 to 11.
+pub fn ranked_window_refusal(kind: u8, rank: u8, w: &[i8]) -> u8
+    ensures { λ r. ⌜ r ≡ (rankRefusal kind rank then windowRefusal (kindOf kind) rank (now (w .entry))) ⌝ }
+{
+    let refusal = rank_refusal(kind, rank);
+    if refusal != 0 {
+        return refusal;
+    }
+    window_refusal(kind, rank, w)
+}
+
+// Checks 5, 6 and 9 to 11 of two windows of one kind and rank.
+pub fn ranked_windows_refusal(kind: u8, rank: u8, u: &[i8], v: &[i8]) -> u8
+    ensures { λ r. ⌜ r ≡ (rankRefusal kind rank then windowRefusal (kindOf kind) rank (now (u .entry)) then windowRefusal (kindOf kind) rank (now (v .entry))) ⌝ }
+{
+    let refusal = rank_refusal(kind, rank);
+    if refusal != 0 {
+        return refusal;
+    }
+    let first = window_refusal(kind, rank, u);
+    if first != 0 {
+        return first;
+    }
+    window_refusal(kind, rank, v)
+}

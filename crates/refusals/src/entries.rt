@@ -1,0 +1,22 @@
+// Entries of a window, as signed bytes. Everything else works on sizes and signs.
+ghost use mathlib.Core.Path.{_≡_};
+ghost use lib.IntN.{natAbs};
+ghost use Rattle.coxeter.specs.Length.{negative};
+
+// The size of an entry. No byte is negated before its range is known: -128 has the size 128.
+pub fn size(e: i8) -> u8
+    ensures { λ r. ⌜ r ≡ natAbs e ⌝ }
+{
+    if e < 0 {
+        let below = -1 - e;
+        (below as u8) + 1
+    } else {
+        e as u8
+    }
+}
+
+pub fn is_negative(e: i8) -> bool
+    ensures { λ r. ⌜ r ≡ negative e ⌝ }
+{
+    e < 0
+}

@@ -1,0 +1,13 @@
+// Checks 5 to 11 of document 01, each made by one function, for the calls of every layer above. No public function has a `requires`.
+mod checks;
+mod entries;
+
+pub use checks::lanes;
+pub use checks::preset_refusal;
+pub use checks::rank_refusal;
+pub use checks::ranked_window_refusal;
+pub use checks::ranked_windows_refusal;
+pub use checks::ranked_words_refusal;
+pub use checks::word_refusal;
+pub use entries::is_negative;
+pub use entries::size;

@@ -1,0 +1,2 @@
+-- What the proofs of the module `search` share.
+pub mod Searches

@@ -1,0 +1,129 @@
+-- Demand 3 for every accepted word, by induction over the list of calls: each call leaves an accepted word with the same window that the machine's
+-- step leaves too, and lowers the measure if it uses a rule. The measure of the first word bounds the uses.
+--
+-- Sections: one call; lists of calls; the record.
+-- Assumes nothing.
+use mathlib.Core.Path.{_≡_, refl, sym, ap, subst, _∙_}
+use mathlib.Core.Logic.{_↔_}
+use mathlib.Core.List.{List, [], _∷_, _++_, map}
+use Prim.Native.Nat.{ℕ, suc, _+_, _≤_}
+use native.Mathlib.Omega.{arith}
+use Rattle.coxeter.specs.Kinds.{kindOf}
+use Rattle.coxeter.specs.Windows.{window}
+use Rattle.coxeter.specs.NormalForm.{normalForm}
+use Rattle.rules.specs.declared.Rewrite.{Rewrite}
+use Rattle.rules.specs.declared.Rewrite.the-variants.{Used, NoneFits, Refused}
+use Rattle.rules.specs.Calls.{step, Rewrote}
+use Rattle.rules.specs.Runs.{AcceptedWord, Told, Call, wordAfter, wordLeft, Run, Outcome, machine, uses}
+use Rattle.rules.specs.Demand3.{normalFormOf, NowhereFits, Demand3}
+use Rattle.rules.proofs.Ending.{value}
+use Rattle.rules.proofs.Completeness.{rewrites-window, rewrites-letters, rewrites-lowers, rewrites-length, irreducible-iff, normalForm-least-window, same-normalForm-linked}
+use Rattle.rules.proofs.Calls.{accepted-least, accepted-letters, accepted-of-shorter, stepped, Moves, rewrote, fitless, refused, wordOf-stepped, stepped-moves, nowhereFits-iff}
+use Rattle.coxeter.proofs.FormLaws.{wordNormalForm-eq-iff}
+
+-- ---- one call
+
+-- a call that meets its contract tells what the machine's step tells
+told-step : (k n : ℕ) (u : List ℕ) (c : Call) → Rewrote k n u (c .lent .place) (c .lent .output) (c .told .output) (c .told .answer)
+    → _≡_ {A = Told} (c .told) (record { answer = step k n u (c .lent .place) (c .lent .output) .answer; output = step k n u (c .lent .place) (c .lent .output) .bytes })
+told-step k n u c r i = record { answer = r .answer i; output = r .bytes i }
+
+-- and leaves the word that the machine's step leaves
+pub wordAfter-step : (k n : ℕ) (u : List ℕ) (c : Call) → AcceptedWord k n u
+    → Rewrote k n u (c .lent .place) (c .lent .output) (c .told .output) (c .told .answer)
+    → wordAfter u (c .told) ≡ step k n u (c .lent .place) (c .lent .output) .word
+wordAfter-step k n u c h r =
+    ap (wordAfter u) (told-step k n u c r) ∙ wordOf-stepped (stepped k n u (c .lent .place) (c .lent .output) h)
+
+-- the word stays or a rule rewrites it, as the answer says
+call-moves : (k n : ℕ) (u : List ℕ) (c : Call) → AcceptedWord k n u → Rewrote k n u (c .lent .place) (c .lent .output) (c .told .output) (c .told .answer)
+    → Moves (kindOf k) n u (c .told .answer) (wordAfter u (c .told))
+call-moves k n u c h r =
+    rw (wordAfter-step k n u c h r, r .answer) (stepped-moves (accepted-least h) (stepped k n u (c .lent .place) (c .lent .output) h))
+
+-- what a use takes from the measure
+abbrev cost : Rewrite → ℕ
+cost a = elim a [ Used f i j l ↦ 1 | NoneFits ↦ 0 | Refused r ↦ 0 ]
+
+record Kept (k n : ℕ) (u : List ℕ) (c : ℕ) (v : List ℕ) : Type 0 where
+  accepted : AcceptedWord k n v
+  shows : window (kindOf k) n v ≡ window (kindOf k) n u
+  lower : c + value n v ≤ value n u
+
+moves-kept : (k n : ℕ) {u : List ℕ} {a : Rewrite} {v : List ℕ} → AcceptedWord k n u → Moves (kindOf k) n u a v → Kept k n u (cost a) v
+moves-kept k n h (rewrote {v = v} r) = record {
+  accepted = accepted-of-shorter v h (rewrites-length r) (rewrites-letters r (accepted-letters h));
+  shows = sym (rewrites-window (kindOf k) n (accepted-least h) r);
+  lower = omega (arith, rewrites-lowers r (accepted-letters h));
+}
+moves-kept k n h fitless = record { accepted = h; shows = refl; lower = omega arith }
+moves-kept k n h refused = record { accepted = h; shows = refl; lower = omega arith }
+
+call-kept : (k n : ℕ) (u : List ℕ) (c : Call) → AcceptedWord k n u → Rewrote k n u (c .lent .place) (c .lent .output) (c .told .output) (c .told .answer)
+    → Kept k n u (cost (c .told .answer)) (wordAfter u (c .told))
+call-kept k n u c h r = moves-kept k n h (call-moves k n u c h r)
+
+-- ---- lists of calls
+
+uses-cons : (c : Call) (cs : List Call) → uses (c ∷ cs) ≡ cost (c .told .answer) + uses cs
+unfolding uses
+uses-cons c cs = go (c .told .answer)
+  where
+    go : (a : Rewrite) → elim a [ Used f i j l ↦ suc (uses cs) | NoneFits ↦ uses cs | Refused r ↦ uses cs ] ≡ cost a + uses cs
+    go (Used f i j l) = omega arith
+    go NoneFits = omega arith
+    go (Refused r) = omega arith
+
+-- the word that a list of calls leaves
+run-kept : (k n : ℕ) (u : List ℕ) (cs : List Call) → AcceptedWord k n u → Run k n u cs → Kept k n u (uses cs) (wordLeft u cs)
+unfolding wordLeft uses
+run-kept k n u [] h r = record { accepted = h; shows = refl; lower = omega arith }
+run-kept k n u (c ∷ cs) h r =
+    let s = call-kept k n u c h (r .0) in
+    let t = run-kept k n (wordAfter u (c .told)) cs (s .accepted) (r .1) in
+    record { accepted = t .accepted; shows = t .shows ∙ s .shows; lower = omega (arith, uses-cons c cs, s .lower, t .lower) }
+
+run-front : (k n : ℕ) (u : List ℕ) (front rest : List Call) → Run k n u (front ++ rest) → Run k n u front
+run-front k n u [] rest r = tt
+run-front k n u (c ∷ front) rest r = (r .0, run-front k n (wordAfter u (c .told)) front rest (r .1))
+
+-- what the calls tell and leave is what the machine tells and leaves
+run-machine : (k n : ℕ) (u : List ℕ) (cs : List Call) → AcceptedWord k n u → Run k n u cs
+    → _≡_ {A = Outcome} (record { told = map (λ (c : Call). c .told) cs; word = wordLeft u cs }) (machine k n u (map (λ (c : Call). c .lent) cs))
+unfolding wordLeft machine
+run-machine k n u [] h r = refl
+run-machine k n u (c ∷ cs) h r =
+    let e = told-step k n u c (r .0) in
+    let q =
+    run-machine k n (wordAfter u (c .told)) cs (call-kept k n u c h (r .0) .accepted) (r .1)
+    ∙ ap (λ (v : List ℕ). machine k n v (map (λ (d : Call). d .lent) cs)) (wordAfter-step k n u c h (r .0)) in
+    λ i. record { told = e i ∷ q i .told; word = q i .word }
+
+-- ---- the record
+
+-- the word left is the first word's normal form exactly when none fits anywhere in it
+normal-iff : (k n : ℕ) (u v : List ℕ) → AcceptedWord k n v → window (kindOf k) n v ≡ window (kindOf k) n u → (v ≡ normalFormOf k n u) ↔ NowhereFits k n v
+normal-iff k n u v h e =
+    let f : normalFormOf k n v ≡ normalFormOf k n u = ap (normalForm (kindOf k) n) e in
+    let s = irreducible-iff (kindOf k) n v (accepted-least h) (accepted-letters h) in
+    let t = nowhereFits-iff k n v h in
+    (λ q. t .0 (s .1 (q ∙ sym f)), λ g. s .0 (t .1 g) ∙ f)
+
+pub demand3 : (k n : ℕ) (u : List ℕ) → AcceptedWord k n u → Demand3 k n u
+demand3 k n u h = record {
+  most = value n u;
+  follows = λ cs r.
+      let t = run-kept k n u cs h r in
+      record {
+        machines = run-machine k n u cs h r;
+        window-kept = λ front rest e.
+            run-kept k n u front h (run-front k n u front rest (subst (Run k n u) e r)) .shows;
+        uses-at-most = omega (arith, t .lower);
+        normal-exactly = normal-iff k n u (wordLeft u cs) (t .accepted) (t .shows);
+      };
+  agree = λ v g. record {
+    by-window = wordNormalForm-eq-iff (kindOf k) n u v;
+    by-relations = same-normalForm-linked (kindOf k) n u v (accepted-least h) (accepted-letters h) (accepted-letters g);
+  };
+  least = normalForm-least-window (kindOf k) n u (accepted-least h);
+}

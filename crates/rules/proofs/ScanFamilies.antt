@@ -1,0 +1,275 @@
+-- The family of a letter that leaves the way of a block, and that the search finds every rule: each left side is [i,j] x with a letter x that
+-- leaves the way of the blocks of level i, so the search of a word that begins with it ends there.
+--
+-- Sections: the family of a letter that leaves; the rule of a letter that leaves; every rule ends so; the search finds every rule.
+-- Assumes nothing.
+use mathlib.Core.Path.{_≡_, refl, sym, ap, _∙_}
+use mathlib.Core.Logic.{inl, inr}
+use mathlib.Core.List.{List, [], _∷_, _++_, append-assoc}
+use mathlib.Core.Option.{some}
+use Prim.Native.Nat.{ℕ, suc, _+_, _-_, _*_, _≤_, _<_}
+use native.Mathlib.Decide.{ℕ-discrete}
+use native.Mathlib.Omega.{arith}
+use borrow.Author.Tests.{eq-eqb, ne-eqb, lt-ltb, le-ltb}
+use Rattle.coxeter.specs.Kinds.{Kind, A, B, D, least}
+use Rattle.coxeter.specs.NormalForm.{block, levels, lastIndex}
+use Rattle.rules.specs.Rules.{Rule, rule, exchanged, carried, turned}
+use Rattle.rules.proofs.Families.{Exchanges, Carries, Turns, IsD}
+use Rattle.rules.proofs.Letters.{block-fork, block-one}
+use Rattle.rules.proofs.Extending.{block-top}
+use Rattle.rules.proofs.RuleList.{Listed, square, exchange, carry, turn, five, six, seven}
+use Rattle.rules.proofs.Scan.{fork, familyAt, shownIndex, firstLetter, ruleAt, found, walk, scan, Leaving, nextIndex-leave, Along, start, further, lastIndex-top, scan-block}
+
+-- ---- the family of a letter that leaves
+
+module _ (n f i j x : ℕ) where
+  pub familyAt-square : j ≡ i → x ≡ i → familyAt n f i j x ≡ 1
+  unfolding familyAt
+  familyAt-square e g = rw (eq-eqb j i e, eq-eqb x i g)
+
+  pub familyAt-exchange : j ≡ i → i < x → familyAt n f i j x ≡ 2
+  unfolding familyAt
+  familyAt-exchange e g = rw (eq-eqb j i e, ne-eqb x i (omega arith), lt-ltb i x g)
+
+  pub familyAt-below : j ≡ i → x < i → familyAt n f i j x ≡ 0
+  unfolding familyAt
+  familyAt-below e g = rw (eq-eqb j i e, ne-eqb x i (omega arith), le-ltb i x (omega arith))
+
+  -- families 3 and 5
+  pub familyAt-carry : i < j → (i + j ≡ 2 * n → ⊥) → x ≡ i → (i ≡ f → j ≡ n → ⊥) → familyAt n f i j x ≡ 3
+  unfolding familyAt
+  familyAt-carry h g e q = elim (ℕ-discrete i f) [
+    | yes t ↦ rw (ne-eqb j i (omega arith), ne-eqb (i + j) (2 * n) g, eq-eqb x i e, eq-eqb i f t, ne-eqb j n (q t))
+    | no t ↦ rw (ne-eqb j i (omega arith), ne-eqb (i + j) (2 * n) g, eq-eqb x i e, ne-eqb i f t)
+  ]
+
+  pub familyAt-five : i < j → (i + j ≡ 2 * n → ⊥) → x ≡ i → i ≡ f → j ≡ n → familyAt n f i j x ≡ 5
+  unfolding familyAt
+  familyAt-five h g e q t = rw (ne-eqb j i (omega arith), ne-eqb (i + j) (2 * n) g, eq-eqb x i e, eq-eqb i f q, eq-eqb j n t)
+
+  pub familyAt-inside : i < j → (i + j ≡ 2 * n → ⊥) → (x ≡ i → ⊥) → familyAt n f i j x ≡ 0
+  unfolding familyAt
+  familyAt-inside h g e = rw (ne-eqb j i (omega arith), ne-eqb (i + j) (2 * n) g, ne-eqb x i e)
+
+  -- families 4, 6 and 7
+  pub familyAt-turn : i < j → i + j ≡ 2 * n → (i ≡ f → ⊥) → x ≡ i + 1 → familyAt n f i j x ≡ 4
+  unfolding familyAt
+  familyAt-turn h g e q = rw (ne-eqb j i (omega arith), eq-eqb (i + j) (2 * n) g, ne-eqb i f e, eq-eqb x (i + 1) q)
+
+  pub familyAt-six : i < j → i + j ≡ 2 * n → i ≡ f → x ≡ n → familyAt n f i j x ≡ 6
+  unfolding familyAt
+  familyAt-six h g e q = rw (ne-eqb j i (omega arith), eq-eqb (i + j) (2 * n) g, eq-eqb i f e, eq-eqb x n q)
+
+  pub familyAt-seven : i < j → i + j ≡ 2 * n → i ≡ f → (x ≡ n → ⊥) → x ≡ i + 1 → familyAt n f i j x ≡ 7
+  unfolding familyAt
+  familyAt-seven h g e q t = rw (ne-eqb j i (omega arith), eq-eqb (i + j) (2 * n) g, eq-eqb i f e, ne-eqb x n q, eq-eqb x (i + 1) t)
+
+  pub familyAt-after : i < j → i + j ≡ 2 * n → (i ≡ f → x ≡ n → ⊥) → (x ≡ i + 1 → ⊥) → familyAt n f i j x ≡ 0
+  unfolding familyAt
+  familyAt-after h g e q = elim (ℕ-discrete i f) [
+    | yes t ↦ rw (ne-eqb j i (omega arith), eq-eqb (i + j) (2 * n) g, eq-eqb i f t, ne-eqb x n (e t), ne-eqb x (i + 1) q)
+    | no t ↦ rw (ne-eqb j i (omega arith), eq-eqb (i + j) (2 * n) g, ne-eqb i f t, ne-eqb x (i + 1) q)
+  ]
+
+-- ---- the rule of a letter that leaves
+
+pub ruleAt-square : (k : Kind) (n i : ℕ) → least k ≤ n → i ≤ n → ruleAt k n i i i 1 ≡ rule 1 i 0 (i ∷ i ∷ []) []
+unfolding ruleAt shownIndex
+ruleAt-square k n i h l = rw (block-one k n i h l)
+
+pub ruleAt-exchange : (k : Kind) (n i x : ℕ) → least k ≤ n → i ≤ n → ruleAt k n i i x 2 ≡ exchanged i x
+unfolding ruleAt shownIndex firstLetter
+ruleAt-exchange k n i x h l = rw (block-one k n i h l)
+
+pub ruleAt-carry : (k : Kind) (n i j : ℕ) → ruleAt k n i j i 3 ≡ carried k n i j
+unfolding ruleAt shownIndex firstLetter
+ruleAt-carry k n i j = refl
+
+pub ruleAt-turn : (k : Kind) (n i : ℕ) → ruleAt k n i (2 * n - i) (i + 1) 4 ≡ turned k n i
+unfolding ruleAt shownIndex firstLetter
+ruleAt-turn k n i = refl
+
+pub ruleAt-five : (k : Kind) (n a : ℕ) → least k ≤ n → IsD k → a + 2 ≡ n → ruleAt k n a n a 5 ≡ rule 5 a 0 (a ∷ n ∷ a ∷ []) (n ∷ a ∷ n ∷ [])
+unfolding ruleAt shownIndex firstLetter
+ruleAt-five A n a h d e = absurd d
+ruleAt-five B n a h d e = absurd d
+ruleAt-five D n a h d e =
+    let q : block D n a n ≡ a ∷ n ∷ [] =
+    block-top D n (n - 1) a a (omega arith) (omega arith) (omega arith) (omega arith)
+    ∙ ap (λ (w : List ℕ). w ++ (n ∷ [])) (block-one D n a h (omega arith)) in
+    rw q
+
+pub ruleAt-six : (k : Kind) (n a : ℕ) → least k ≤ n → IsD k → a + 2 ≡ n
+    → ruleAt k n a (n + 2) n 6 ≡ rule 6 a 0 (a ∷ n ∷ (a + 1) ∷ a ∷ n ∷ []) ((a + 1) ∷ a ∷ n ∷ (a + 1) ∷ a ∷ [])
+unfolding ruleAt shownIndex firstLetter
+ruleAt-six A n a h d e = absurd d
+ruleAt-six B n a h d e = absurd d
+ruleAt-six D n a h d e = let q : n - 1 ≡ a + 1 = omega arith in rw (block-fork n a (omega arith) e, q)
+
+pub ruleAt-seven : (k : Kind) (n a : ℕ) → least k ≤ n → IsD k → a + 2 ≡ n
+    → ruleAt k n a (n + 2) (a + 1) 7 ≡ rule 7 a 0 (a ∷ n ∷ (a + 1) ∷ a ∷ (a + 1) ∷ []) (n ∷ a ∷ n ∷ (a + 1) ∷ a ∷ [])
+unfolding ruleAt shownIndex firstLetter
+ruleAt-seven A n a h d e = absurd d
+ruleAt-seven B n a h d e = absurd d
+ruleAt-seven D n a h d e = rw (block-fork n a (omega arith) e)
+
+-- ---- every rule ends so
+
+-- the rule's left side is [i,j] x with a letter that leaves, and the search knows it
+pub record Ends (k : Kind) (n : ℕ) (r : Rule) : Type 0 where
+  pub i : ℕ
+  pub j : ℕ
+  pub x : ℕ
+  pub f : ℕ
+  pub along : Along k n i j
+  pub letter : x ≤ n
+  pub leaving : Leaving n (levels k n) (lastIndex k n i) j x
+  pub family : familyAt n (fork k n) i j x ≡ f
+  pub nonzero : f ≡ 0 → ⊥
+  pub shape : r ≡ ruleAt k n i j x f
+
+exchanges-numbers : (k : Kind) (n i j : ℕ) → j ≤ n → Exchanges k n i j
+    → (i < j) × (j < n → j ≡ suc i → ⊥) × (j ≡ n → suc i ≡ levels k n → ⊥)
+exchanges-numbers A n i j l g = omega arith
+exchanges-numbers B n i j l g = omega arith
+exchanges-numbers D n i j l (inl g) = omega arith
+exchanges-numbers D n i j l (inr (inl g)) = omega arith
+exchanges-numbers D n i j l (inr (inr g)) = omega arith
+
+carries-numbers : (k : Kind) (n i j : ℕ) → 1 ≤ i → i < j → Carries k n i j
+    → (i < levels k n) × (j ≤ lastIndex k n i) × (i + j < 2 * n) × (n ≤ j → j < lastIndex k n i → suc (i + j) ≡ 2 * n → ⊥) × (i ≡ fork k n → j ≡ n → ⊥)
+carries-numbers A n i j o l g = omega arith
+carries-numbers B n i j o l g = omega arith
+carries-numbers D n i j o l (inl g) = omega arith
+carries-numbers D n i j o l (inr g) = omega arith
+
+turns-numbers : (k : Kind) (n i : ℕ) → 1 ≤ i → Turns k n i
+    → (i < levels k n) × (i < n) × (lastIndex k n i ≡ 2 * n - i) × (i ≡ fork k n → ⊥)
+turns-numbers A n i o g = absurd g
+turns-numbers B n i o g = omega arith
+turns-numbers D n i o g = omega arith
+
+fork-numbers : (k : Kind) (n a : ℕ) → least k ≤ n → IsD k → a + 2 ≡ n → (1 ≤ a) × (a < levels k n) × (lastIndex k n a ≡ n + 2) × (a ≡ fork k n)
+fork-numbers A n a h d e = absurd d
+fork-numbers B n a h d e = absurd d
+fork-numbers D n a h d e = omega arith
+
+pub ends-of-listed : (k : Kind) (n : ℕ) {r : Rule} → least k ≤ n → Listed k n r → Ends k n r
+ends-of-listed k n h (square {i} o l) = record {
+  i = i;
+  j = i;
+  x = i;
+  f = 1;
+  along = start o l refl;
+  letter = l;
+  leaving = record { not-up = omega arith; not-top = omega arith; not-down = λ a b. omega (arith, lastIndex-top k n i (omega arith)) };
+  family = familyAt-square n (fork k n) i i i refl refl;
+  nonzero = omega arith;
+  shape = sym (ruleAt-square k n i h l);
+}
+ends-of-listed k n h (exchange {i} {j} o l g) =
+    let q = exchanges-numbers k n i j l g in
+    record {
+      i = i;
+      j = i;
+      x = j;
+      f = 2;
+      along = start o (omega arith) refl;
+      letter = l;
+      leaving = record { not-up = λ a b. q .1 b; not-top = λ a b. q .2 b; not-down = λ a. omega arith };
+      family = familyAt-exchange n (fork k n) i i j refl (q .0);
+      nonzero = omega arith;
+      shape = sym (ruleAt-exchange k n i j h (omega arith));
+    }
+ends-of-listed k n h (carry {i} {j} o l g) =
+    let q = carries-numbers k n i j o l g in
+    record {
+      i = i;
+      j = j;
+      x = i;
+      f = 3;
+      along = further o (q .0) l (q .1);
+      letter = omega arith;
+      leaving = record { not-up = omega arith; not-top = omega arith; not-down = q .3 };
+      family = familyAt-carry n (fork k n) i j i l (omega arith) refl (q .4);
+      nonzero = omega arith;
+      shape = sym (ruleAt-carry k n i j);
+    }
+ends-of-listed k n h (turn {i} o g) =
+    let q = turns-numbers k n i o g in
+    record {
+      i = i;
+      j = 2 * n - i;
+      x = i + 1;
+      f = 4;
+      along = further o (q .0) (omega arith) (omega arith);
+      letter = omega arith;
+      leaving = record { not-up = omega arith; not-top = omega arith; not-down = omega arith };
+      family = familyAt-turn n (fork k n) i (2 * n - i) (i + 1) (omega arith) (omega arith) (q .3) refl;
+      nonzero = omega arith;
+      shape = sym (ruleAt-turn k n i);
+    }
+ends-of-listed k n h (five {a} d e) =
+    let q = fork-numbers k n a h d e in
+    record {
+      i = a;
+      j = n;
+      x = a;
+      f = 5;
+      along = further (q .0) (q .1) (omega arith) (omega arith);
+      letter = omega arith;
+      leaving = record { not-up = omega arith; not-top = omega arith; not-down = omega arith };
+      family = familyAt-five n (fork k n) a n a (omega arith) (omega arith) refl (q .3) refl;
+      nonzero = omega arith;
+      shape = sym (ruleAt-five k n a h d e);
+    }
+ends-of-listed k n h (six {a} d e) =
+    let q = fork-numbers k n a h d e in
+    record {
+      i = a;
+      j = n + 2;
+      x = n;
+      f = 6;
+      along = further (q .0) (q .1) (omega arith) (omega arith);
+      letter = omega arith;
+      leaving = record { not-up = omega arith; not-top = omega arith; not-down = omega arith };
+      family = familyAt-six n (fork k n) a (n + 2) n (omega arith) (omega arith) (q .3) refl;
+      nonzero = omega arith;
+      shape = sym (ruleAt-six k n a h d e);
+    }
+ends-of-listed k n h (seven {a} d e) =
+    let q = fork-numbers k n a h d e in
+    record {
+      i = a;
+      j = n + 2;
+      x = a + 1;
+      f = 7;
+      along = further (q .0) (q .1) (omega arith) (omega arith);
+      letter = omega arith;
+      leaving = record { not-up = omega arith; not-top = omega arith; not-down = omega arith };
+      family = familyAt-seven n (fork k n) a (n + 2) (a + 1) (omega arith) (omega arith) (q .3) (omega arith) refl;
+      nonzero = omega arith;
+      shape = sym (ruleAt-seven k n a h d e);
+    }
+
+-- ---- the search finds every rule
+
+pub left-of : (k : Kind) (n : ℕ) (r : Rule) (i j x f : ℕ) → r ≡ ruleAt k n i j x f → r .left ≡ block k n i j ++ (x ∷ [])
+unfolding ruleAt
+left-of k n r i j x f e = ap (λ (q : Rule). q .left) e
+
+scan-ends : (k : Kind) (n : ℕ) (r : Rule) → least k ≤ n → Ends k n r → (y : List ℕ) → scan k n (r .left ++ y) ≡ some r
+unfolding walk found
+scan-ends k n r h w y =
+    let i = w .i in
+    let j = w .j in
+    let x = w .x in
+    let f = w .f in
+    let b : r .left ≡ block k n i j ++ (x ∷ []) = left-of k n r i j x f (w .shape) in
+    ap (λ (u : List ℕ). scan k n (u ++ y)) b
+    ∙ ap (scan k n) (append-assoc (block k n i j) (x ∷ []) y)
+    ∙ scan-block k n i j h (w .along) (x ∷ y)
+    ∙ rw (nextIndex-leave n (levels k n) (lastIndex k n i) j x (w .letter) (w .leaving), w .family, ne-eqb f 0 (w .nonzero)) (ap some (sym (w .shape)))
+
+pub scan-left : (k : Kind) (n : ℕ) (r : Rule) → least k ≤ n → Listed k n r → (y : List ℕ) → scan k n (r .left ++ y) ≡ some r
+scan-left k n r h w y = scan-ends k n r h (ends-of-listed k n h w) y

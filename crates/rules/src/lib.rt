@@ -1,0 +1,13 @@
+// The rules, one rewrite and demand 3: definitions in specs/, laws in proofs/, and the answer of one rewrite. No function.
+
+// One rewrite at a named place: the rule used with the new word's length, or that none fits, or a refusal.
+pub enum Rewrite {
+    Used {
+        family: u8,
+        i: u8,
+        j: u8,
+        length: usize,
+    },
+    NoneFits,
+    Refused(u8),
+}

@@ -1,0 +1,2 @@
+-- What the proofs of the module `action` share.
+pub mod Actions

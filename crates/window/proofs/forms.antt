@@ -1,0 +1,2 @@
+-- What the proofs of the module `forms` share.
+pub mod Rooms

@@ -1,0 +1,2 @@
+-- What the proofs of the module `length` share.
+pub mod Sums

@@ -1,0 +1,3 @@
+-- What the proofs of the module `normal` share.
+pub mod Peels
+pub mod Blocks

@@ -1,0 +1,2 @@
+-- What the proofs of the module `shown` share.
+pub mod Fronts

@@ -1,0 +1,2 @@
+-- What the proofs of the module `words` share.
+pub mod Orders
