@@ -21,6 +21,8 @@ pub mod BlockAction
 pub mod Indices
 pub mod NormalForms
 pub mod Lengths
+pub mod Crossings
+pub mod Descents
 pub mod GreatestLengths
 pub mod FormLaws
 pub mod Outcomes

@@ -1,0 +1,181 @@
+-- What one step does to the length of an accepted window: it changes it by one, and lowers it exactly where the entries that the step acts on are
+-- crossed. By the weights of the pair that the step turns round (Crossings).
+--
+-- Sections: the definition; the sorts of steps; one step; the length.
+-- Assumes nothing.
+use mathlib.Core.Path.{_≡_, refl, sym, ap, ap₂, _∙_}
+use mathlib.Core.Bool.{Bool, true, false, not}
+use mathlib.Core.List.{List, []}
+use Prim.Native.Nat.{ℕ, zero, suc, _+_, _-_, _≤_, _<_}
+use native.Mathlib.Decide.{ℕ-discrete}
+use native.Mathlib.Omega.{arith}
+use lib.Dec.{eqb}
+use lib.IntN.{ℤ, pos, negℤ, negℤ-negℤ}
+use lib.ListN.{length, getD, drop, drop-of-length-le}
+use lib.Seq.{drop-cons}
+use borrow.Author.Tests.{eq-eqb, ne-eqb}
+use Rattle.coxeter.specs.Kinds.{Kind, A, B, D, pick, lanes, least}
+use Rattle.coxeter.specs.Windows.{from, exchange, negateFirst, exchangeNegate, act, at}
+use Rattle.coxeter.specs.Length.{later, negative, one, windowLength}
+use Rattle.coxeter.proofs.Sizes.{natAbs-negℤ}
+use Rattle.coxeter.proofs.Levels.{Accepted, act-accepted}
+use Rattle.coxeter.proofs.Steps.{act-exchange, act-B-last, act-D-last}
+use Rattle.coxeter.proofs.Places.{between-getD}
+use Rattle.coxeter.proofs.PairWeights.{pairWeights, signWeight, length-by-weights}
+use Rattle.coxeter.proofs.Lengths.{pairWeights-negateLast}
+use Rattle.coxeter.proofs.Crossings.{later-flip, negative-flip, pair, getD-from-first, getD-from-second, exchange-weighs, exchangeNegate-weighs, signWeight-exchange, negatives-from-negateFirst}
+
+-- ---- the definition
+
+-- the entries that step s acts on are crossed: entry s stands later than entry s + 1; in B for s = n, entry n is negative; in D for s = n,
+-- entry n − 1 stands later than minus entry n
+unfoldable pub descends : Kind → ℕ → ℕ → List ℤ → Bool
+descends A n s w = later (at w (pos s)) (at w (pos (suc s)))
+descends B n s w = pick (eqb s n) (negative (at w (pos n))) (later (at w (pos s)) (at w (pos (suc s))))
+descends D n s w = pick (eqb s n) (later (at w (pos (n - 1))) (negℤ (at w (pos n)))) (later (at w (pos s)) (at w (pos (suc s))))
+
+-- ---- the sorts of steps
+
+-- step p + 1 exchanges the entries at positions p and p + 1, counted from 0, or is the last step of B or of D
+pub data Sort : Kind → ℕ → ℕ → Type 0 where
+  exchanges : (k : Kind) (n p : ℕ) → suc p < lanes k n → Sort k n (suc p)
+  negates : (p : ℕ) → Sort B (suc p) (suc p)
+  exchangesNegates : (p : ℕ) → Sort D (suc (suc p)) (suc (suc p))
+
+pub sortOf : (k : Kind) (n s : ℕ) → least k ≤ n → 1 ≤ s → s ≤ n → Sort k n s
+sortOf k n zero r o l = absurd (omega arith)
+sortOf A n (suc p) r o l = exchanges A n p (omega arith)
+sortOf B n (suc p) r o l = elim (ℕ-discrete (suc p) n) [ yes e ↦ rw (← e) (negates p) | no e ↦ exchanges B n p (omega arith) ]
+sortOf D n (suc zero) r o l = exchanges D n 0 (omega arith)
+sortOf D n (suc (suc p)) r o l =
+    elim (ℕ-discrete (suc (suc p)) n) [ yes e ↦ rw (← e) (exchangesNegates p) | no e ↦ exchanges D n (suc p) (omega arith) ]
+
+-- what each sort compares, with positions from 0
+pub descends-exchange : (k : Kind) (n p : ℕ) (w : List ℤ) → suc p < lanes k n
+    → descends k n (suc p) w ≡ later (getD w p (pos 0)) (getD w (suc p) (pos 0))
+unfolding descends at
+descends-exchange A n p w h = refl
+descends-exchange B n p w h = rw (ne-eqb (suc p) n (omega arith))
+descends-exchange D n p w h = rw (ne-eqb (suc p) n (omega arith))
+
+pub descends-B-last : (p : ℕ) (w : List ℤ) → descends B (suc p) (suc p) w ≡ negative (getD w p (pos 0))
+unfolding descends at
+descends-B-last p w = rw (eq-eqb (suc p) (suc p) refl)
+
+pub descends-D-last : (p : ℕ) (w : List ℤ)
+    → descends D (suc (suc p)) (suc (suc p)) w ≡ later (getD w p (pos 0)) (negℤ (getD w (suc p) (pos 0)))
+unfolding descends at
+descends-D-last p w = let e : suc (suc p) - 1 ≡ suc p = omega arith in rw (eq-eqb (suc (suc p)) (suc (suc p)) refl, e)
+
+-- ---- one step
+
+-- a step turns round the pair that it acts on, and the sums change by what this pair counts before and after
+record Turned (k : Kind) (n s : ℕ) (w : List ℤ) : Type 0 where
+  result : List ℤ
+  before : Bool
+  after : Bool
+  acts : act k n s w ≡ result
+  was : descends k n s w ≡ before
+  is : descends k n s result ≡ after
+  flips : after ≡ not before
+  weighs : pairWeights result + signWeight k result + one before ≡ pairWeights w + signWeight k w + one after
+
+turned-exchange : (k : Kind) (n p : ℕ) (w : List ℤ) → suc p < lanes k n → Accepted k n w → Turned k n (suc p) w
+unfolding exchange
+turned-exchange k n p w h c =
+    let e = c .size in
+    let q = pair p w (c .level) (omega arith) in
+    let x = getD-from-first exchange p w _ (omega arith) (q .rest) in
+    let y = getD-from-second exchange p w _ (omega arith) (q .rest) in
+    record {
+      result = from p exchange w;
+      before = later (getD w p (pos 0)) (getD w (suc p) (pos 0));
+      after = later (getD w (suc p) (pos 0)) (getD w p (pos 0));
+      acts = ap (λ f. f w) (act-exchange k n p h);
+      was = descends-exchange k n p w h;
+      is = descends-exchange k n p (from p exchange w) h ∙ ap₂ later x y;
+      flips = later-flip _ _ (q .apart);
+      weighs = omega (arith, exchange-weighs p w _ _ _ (omega arith) q, signWeight-exchange k p w);
+    }
+
+turned-negate : (p : ℕ) (w : List ℤ) → Accepted B (suc p) w → Turned B (suc p) (suc p) w
+unfolding negateFirst signWeight
+turned-negate p w c =
+    let e = c .size in
+    let x = getD-from-first negateFirst p w _ (omega arith) (drop-cons w p (pos 0) (omega arith)) in
+    let last : length w - 1 ≡ p = omega arith in
+    record {
+      result = from p negateFirst w;
+      before = negative (getD w p (pos 0));
+      after = negative (negℤ (getD w p (pos 0)));
+      acts = ap (λ f. f w) (act-B-last (suc p) p (omega arith));
+      was = descends-B-last p w;
+      is = descends-B-last p (from p negateFirst w) ∙ ap negative x;
+      flips = negative-flip (getD w p (pos 0)) (between-getD 1 (1 + length w) w p (c .level .between) (omega arith) .0);
+      weighs = omega (arith, negatives-from-negateFirst p w (omega arith), rw last at (pairWeights-negateLast w));
+    }
+
+turned-exchangeNegate : (p : ℕ) (w : List ℤ) → Accepted D (suc (suc p)) w → Turned D (suc (suc p)) (suc (suc p)) w
+unfolding exchangeNegate signWeight
+turned-exchangeNegate p w c =
+    let e = c .size in
+    let none : drop (suc (suc p)) w ≡ [] = drop-of-length-le w {i = suc (suc p)} (omega arith) in
+    let q = rw none at (pair p w (c .level) (omega arith)) in
+    let x = getD-from-first exchangeNegate p w _ (omega arith) (q .rest) in
+    let y = getD-from-second exchangeNegate p w _ (omega arith) (q .rest) in
+    record {
+      result = from p exchangeNegate w;
+      before = later (getD w p (pos 0)) (negℤ (getD w (suc p) (pos 0)));
+      after = later (negℤ (getD w (suc p) (pos 0))) (getD w p (pos 0));
+      acts = ap (λ f. f w) (act-D-last (suc (suc p)) p (omega arith));
+      was = descends-D-last p w;
+      is = descends-D-last p (from p exchangeNegate w) ∙ ap₂ later x (ap negℤ y ∙ negℤ-negℤ (getD w p (pos 0)));
+      flips = later-flip _ _ (rw natAbs-negℤ (q .apart));
+      weighs = omega (arith, exchangeNegate-weighs p w _ _ (omega arith) q);
+    }
+
+turned : {k : Kind} {n s : ℕ} (w : List ℤ) → Sort k n s → Accepted k n w → Turned k n s w
+turned w (exchanges k n p h) c = turned-exchange k n p w h c
+turned w (negates p) c = turned-negate p w c
+turned w (exchangesNegates p) c = turned-exchangeNegate p w c
+
+-- ---- the length
+
+module _ (k : Kind) (n s : ℕ) (w : List ℤ) (r : least k ≤ n) (o : 1 ≤ s) (l : s ≤ n) (c : Accepted k n w) where
+  turns : Turned k n s w
+  turns = turned w (sortOf k n s r o l) c
+
+  -- after the step the pair is crossed where it was not
+  pub descends-act : descends k n s (act k n s w) ≡ not (descends k n s w)
+  descends-act = rw (turns .acts) (turns .is ∙ turns .flips ∙ ap not (sym (turns .was)))
+
+  length-act-add : windowLength k (act k n s w) + one (descends k n s w) ≡ windowLength k w + one (not (descends k n s w))
+  length-act-add =
+      let before = length-by-weights k n w c in
+      let after = length-by-weights k n (act k n s w) (act-accepted k n s w c) in
+      rw (turns .was, ← turns .flips) (omega (arith, rw (← turns .acts) at (turns .weighs)))
+
+  -- a step at a crossed pair lowers the length by one
+  pub length-of-descends : descends k n s w ≡ true → windowLength k w ≡ windowLength k (act k n s w) + 1
+  unfolding one
+  length-of-descends e = let q = rw e at length-act-add in omega arith
+
+  -- a step at any other pair raises it by one
+  pub length-of-ascends : descends k n s w ≡ false → windowLength k (act k n s w) ≡ windowLength k w + 1
+  unfolding one
+  length-of-ascends e = let q = rw e at length-act-add in omega arith
+
+  -- and so a step that lowers the length acts on a crossed pair, and one that raises it does not
+  pub descends-of-shorter : windowLength k (act k n s w) < windowLength k w → descends k n s w ≡ true
+  descends-of-shorter h = cases (descends k n s w) refl
+    where
+      cases : (t : Bool) → descends k n s w ≡ t → t ≡ true
+      cases true e = refl
+      cases false e = absurd (omega (arith, length-of-ascends e))
+
+  pub ascends-of-longer : windowLength k w < windowLength k (act k n s w) → descends k n s w ≡ false
+  ascends-of-longer h = cases (descends k n s w) refl
+    where
+      cases : (t : Bool) → descends k n s w ≡ t → t ≡ false
+      cases true e = absurd (omega (arith, length-of-descends e))
+      cases false e = refl
