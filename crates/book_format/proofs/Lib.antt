@@ -5,4 +5,6 @@ pub mod WritingLaws
 pub mod AppendedParts
 pub mod Appending
 pub mod Outcomes
+pub mod Unchanged
+pub mod Vectors
 pub mod RecordLaws

@@ -26,3 +26,5 @@ pub mod Descents
 pub mod GreatestLengths
 pub mod FormLaws
 pub mod Outcomes
+pub mod Unchanged
+pub mod Vectors

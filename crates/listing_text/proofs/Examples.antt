@@ -1,29 +1,59 @@
--- The lines that document 01 prints, from the definitions alone.
+-- The lines that document 01 prints, and some more listings, from the definitions alone: by computing them.
 -- Assumes nothing.
-use mathlib.Core.Path.{_≡_, refl}
+use mathlib.Core.Path.{refl}
 use mathlib.Core.List.{List, [], _∷_, _++_}
 use Prim.Native.Nat.{ℕ}
+use Prim.Native.Char.{code}
+use Prim.Native.String.{String}
+use Prim.Native.String as string
 use Rattle.coxeter.specs.Kinds.{kindOf, up}
 use Rattle.coxeter.specs.Windows.{from, exchange, negateFirst, exchangeNegate, act, windowFrom, straight, window, placeFrom, signed}
 use Rattle.coxeter.specs.Checks.{wrongKind, wrongRank, tooLong, wrongLetter, rankRefusal, wordRefusal}
 use Rattle.coxeter.specs.NormalForm.{down, rise, fall, block, without, indexOf, restOf, normalFrom, normalForm}
+use Rattle.coxeter.proofs.Vectors.{Agree, lent}
 use Rattle.book_format.specs.Books.{twoAt, count, trailer, offset, wrongSize, wrongCount, misplacedFrom, misplaced, noSuchPreset, bookRefusal, recordRefusal, openedRefusal}
 use Rattle.book_format.specs.Calls.{openedOf, presetOf, checkedBook, presetAt, openedPreset}
+use Rattle.book_format.proofs.Vectors.{book, emptyBook, bookOf}
+use Rattle.listing_text.specs.declared.Placed.the-variants.{Next, NoRoom}
 use Rattle.listing_text.specs.Text.{digits, decimal, spaced, letters, entry, entries, kindLetter, head, tail, presetLine, refused, refusedLine, refusedBookLine, countLine, wordLine, lineBy, lineOf, linesFrom, listingBy, listing}
+use Rattle.listing_text.specs.Calls.{Putting, puts}
 
--- document 01's book
-abbrev pub book : List ℕ
-book = 2 ∷ 2 ∷ 4 ∷ 0 ∷ 1 ∷ 2 ∷ 1 ∷ 2 ∷ 3 ∷ 5 ∷ 6 ∷ 0 ∷ 5 ∷ 2 ∷ 3 ∷ 5 ∷ 1 ∷ 2 ∷ 0 ∷ 0 ∷ 8 ∷ 0 ∷ 2 ∷ 0 ∷ []
+-- the ASCII codes of a text
+pub codes : String → List ℕ
+codes string.[] = []
+codes (string._∷_ c t) = code c ∷ codes t
 
--- `presets 2`
--- `0 B 2 4: 2 1 2 1 | -1 -2`
--- `1 D 5 6: 5 2 3 5 1 2 | 3 -5 1 4 -2`
-abbrev pub text : List ℕ
-text =
-    (112 ∷ 114 ∷ 101 ∷ 115 ∷ 101 ∷ 116 ∷ 115 ∷ 32 ∷ 50 ∷ 10 ∷ [])
-    ++ (48 ∷ 32 ∷ 66 ∷ 32 ∷ 50 ∷ 32 ∷ 52 ∷ 58 ∷ 32 ∷ 50 ∷ 32 ∷ 49 ∷ 32 ∷ 50 ∷ 32 ∷ 49 ∷ 32 ∷ 124 ∷ 32 ∷ 45 ∷ 49 ∷ 32 ∷ 45 ∷ 50 ∷ 10 ∷ [])
-    ++ (49 ∷ 32 ∷ 68 ∷ 32 ∷ 53 ∷ 32 ∷ 54 ∷ 58 ∷ 32 ∷ 53 ∷ 32 ∷ 50 ∷ 32 ∷ 51 ∷ 32 ∷ 53 ∷ 32 ∷ 49 ∷ 32 ∷ 50 ∷ 32 ∷ 124 ∷ 32 ∷ 51 ∷ 32 ∷ 45 ∷ 53 ∷ 32 ∷ 49 ∷ 32 ∷ 52 ∷ 32 ∷ 45 ∷ 50 ∷ 10 ∷ [])
+pub listings : List (List ℕ × List ℕ)
+listings =
+    -- document 01's book
+    (listing book, codes "presets 2\n0 B 2 4: 2 1 2 1 | -1 -2\n1 D 5 6: 5 2 3 5 1 2 | 3 -5 1 4 -2\n")
+    -- "With an empty normal form a line reads `0 A 2 0: | 1 2 3`."
+    ∷ (listing (bookOf (1 ∷ 2 ∷ 0 ∷ 0 ∷ [])), codes "presets 1\n0 A 2 0: | 1 2 3\n")
+    -- "A preset whose record is refused gets the line `0 refused 8`"; "a refused book gives only `book refused 1`"
+    ∷ (listing (bookOf (1 ∷ 2 ∷ 1 ∷ 0 ∷ 3 ∷ [])), codes "presets 1\n0 refused 8\n")
+    ∷ (listing (0 ∷ []), codes "book refused 1\n")
+    ∷ (listing (7 ∷ 0 ∷ 0 ∷ []), codes "book refused 3\n")
+    -- no presets
+    ∷ (listing emptyBook, codes "presets 0\n")
+    ∷ []
 
-pub listing-book : listing book ≡ text
-unfolding kindOf up from exchange negateFirst exchangeNegate act windowFrom straight window placeFrom signed wrongKind wrongRank tooLong wrongLetter rankRefusal wordRefusal down rise fall block without indexOf restOf normalFrom normalForm twoAt count trailer offset wrongSize wrongCount misplacedFrom misplaced noSuchPreset bookRefusal recordRefusal openedRefusal openedOf presetOf checkedBook presetAt openedPreset digits decimal spaced letters entry entries kindLetter head tail presetLine refused refusedLine refusedBookLine countLine wordLine lineBy lineOf linesFrom listingBy listing
-listing-book = refl
+pub listings-agree : Agree listings
+unfolding listings codes
+    kindOf up from exchange negateFirst exchangeNegate act windowFrom straight window placeFrom signed
+    wrongKind wrongRank tooLong wrongLetter rankRefusal wordRefusal down rise fall block without indexOf restOf normalFrom normalForm
+    twoAt count trailer offset wrongSize wrongCount misplacedFrom misplaced noSuchPreset bookRefusal recordRefusal openedRefusal
+    openedOf presetOf checkedBook presetAt openedPreset
+    digits decimal spaced letters entry entries kindLetter head tail presetLine refused refusedLine refusedBookLine countLine
+    wordLine lineBy lineOf linesFrom listingBy listing
+listings-agree = refl
+
+-- a line in 16,896 bytes from the place 1 on, and in one byte less
+pub placing : List (Putting × Putting)
+placing =
+    (puts (countLine 12) (lent 16897) 1, record { answer = Next 12; bytes = 9 ∷ (codes "presets 12\n" ++ lent 16885) })
+    ∷ (puts (countLine 12) (lent 16896) 1, record { answer = NoRoom; bytes = lent 16896 })
+    ∷ []
+
+pub placing-agrees : Agree placing
+unfolding placing codes digits decimal countLine puts
+placing-agrees = refl

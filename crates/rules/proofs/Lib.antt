@@ -11,6 +11,8 @@ pub mod Irreducible
 pub mod Fits
 pub mod Completeness
 pub mod Calls
+pub mod Unchanged
+pub mod Vectors
 pub mod Demand3
 pub mod Scan
 pub mod ScanFamilies

@@ -1,0 +1,166 @@
+-- Vectors: each call on a book at a few inputs, with its answer and the bytes of its output afterwards, worked out by hand from document 01. All by
+-- computing the definitions. An output is lent full of 9s. The limits of 65,535 bytes are laws for every book.
+--
+-- Sections: books; opening; presets; letters; appending.
+-- Assumes nothing.
+use mathlib.Core.Path.{_≡_, refl, sym}
+use mathlib.Core.Bool.{Bool, true, false, _&&_, and-eq-true-iff}
+use mathlib.Core.List.{List, [], _∷_, _++_}
+use Prim.Native.Nat.{ℕ, zero, suc, _+_, _≤_, _<_}
+use native.Mathlib.Omega.{arith}
+use lib.Dec.{ltb}
+use lib.ListN.{length, replicate}
+use borrow.Author.Tests.{ltb-true, lt-ltb}
+use Rattle.coxeter.specs.Kinds.{kindOf}
+use Rattle.coxeter.specs.Checks.{wrongKind, wrongRank, tooLong, wrongLetter, tooShort, rankRefusal, wordRefusal}
+use Rattle.coxeter.specs.Calls.{answerOf, written, Outcome, writes}
+use Rattle.coxeter.proofs.Vectors.{Agree, lent, wrote, refused}
+use Rattle.book_format.specs.declared.Opened.{Opened}
+use Rattle.book_format.specs.declared.Opened.the-variants as opened
+use Rattle.book_format.specs.declared.Preset.{Preset}
+use Rattle.book_format.specs.declared.Preset.the-variants as preset
+use Rattle.book_format.specs.Books.{twoAt, two, count, trailer, offset, wrongSize, wrongCount, misplacedFrom, misplaced, noSuchPreset, tooLarge, bookRefusal, recordRefusal, presetRefusal, recordOf, appended, appendRefusal}
+use Rattle.book_format.specs.Records.{Bytes}
+use Rattle.book_format.proofs.BookLaws.{accepted}
+use Rattle.book_format.proofs.WritingLaws.{length-appended, appendRefusal-large, appendRefusal-none}
+use Rattle.book_format.specs.Calls.{openedOf, presetOf, checkedBook, presetAt, checkedPreset, lettersStart, lettersOf, appending}
+
+-- ---- books
+
+-- document 01's book: B2 with 1 2 1 2, D5 with 5 2 3 5 1 2
+abbrev pub book : List ℕ
+book = 2 ∷ 2 ∷ 4 ∷ 0 ∷ 1 ∷ 2 ∷ 1 ∷ 2 ∷ 3 ∷ 5 ∷ 6 ∷ 0 ∷ 5 ∷ 2 ∷ 3 ∷ 5 ∷ 1 ∷ 2 ∷ 0 ∷ 0 ∷ 8 ∷ 0 ∷ 2 ∷ 0 ∷ []
+
+-- every number of a list is a byte: a test
+allBytes : List ℕ → Bool
+allBytes [] = true
+allBytes (x ∷ l) = ltb x 256 && allBytes l
+
+bytes-true : (l : List ℕ) → allBytes l ≡ true → Bytes l
+unfolding allBytes
+bytes-true [] h i = omega arith
+bytes-true (x ∷ l) h zero = ltb-true x 256 (and-eq-true-iff (ltb x 256) (allBytes l) .0 h .0)
+bytes-true (x ∷ l) h (suc i) = bytes-true l (and-eq-true-iff (ltb x 256) (allBytes l) .0 h .1) i
+
+pub book-bytes : Bytes book
+unfolding allBytes
+book-bytes = bytes-true book refl
+
+-- no presets
+abbrev pub emptyBook : List ℕ
+emptyBook = 0 ∷ 0 ∷ []
+
+-- one record with the trailer behind it
+abbrev pub bookOf : List ℕ → List ℕ
+bookOf r = r ++ (0 ∷ 0 ∷ 1 ∷ 0 ∷ [])
+
+-- ---- opening
+
+pub opening : List (Opened × Opened)
+opening =
+    (checkedBook book, opened.Presets 2)
+    ∷ (checkedBook emptyBook, opened.Presets 0)
+    -- opening does not look into the records
+    ∷ (checkedBook (bookOf (0 ∷ 0 ∷ 0 ∷ 0 ∷ [])), opened.Presets 1)
+    -- too few bytes; too many below
+    ∷ (checkedBook (0 ∷ []), opened.Refused 1)
+    -- a count of 1, and of 256, without room for the offsets
+    ∷ (checkedBook (1 ∷ 0 ∷ []), opened.Refused 2)
+    ∷ (checkedBook (0 ∷ 1 ∷ []), opened.Refused 2)
+    -- with no presets the trailer is not at byte 0; an offset is not 0; a record runs into the trailer; the last record ends before it
+    ∷ (checkedBook (7 ∷ 0 ∷ 0 ∷ []), opened.Refused 3)
+    ∷ (checkedBook (1 ∷ 1 ∷ 0 ∷ 0 ∷ 1 ∷ 0 ∷ 1 ∷ 0 ∷ []), opened.Refused 3)
+    ∷ (checkedBook (bookOf (1 ∷ 1 ∷ 1 ∷ 0 ∷ [])), opened.Refused 3)
+    ∷ (checkedBook (bookOf (1 ∷ 1 ∷ 0 ∷ 0 ∷ 7 ∷ [])), opened.Refused 3)
+    ∷ []
+
+pub opening-agrees : Agree opening
+unfolding opening twoAt count trailer offset wrongSize wrongCount misplacedFrom misplaced bookRefusal openedOf checkedBook
+opening-agrees = refl
+
+-- 65,535 bytes are not too many, 65,536 are
+pub largest-book : (b : List ℕ) → length b ≡ 65535 → wrongSize b ≡ false
+unfolding wrongSize
+largest-book b e = rw e
+
+pub too-large-book : (b : List ℕ) → length b ≡ 65536 → checkedBook b ≡ opened.Refused 1
+unfolding wrongSize bookRefusal openedOf checkedBook
+too-large-book b e = rw e
+
+-- ---- presets
+
+pub reading : List (Preset × Preset)
+reading =
+    (checkedPreset book 0, preset.Found 2 2 4 4)
+    ∷ (checkedPreset book 1, preset.Found 3 5 12 6)
+    ∷ (checkedPreset (bookOf (1 ∷ 1 ∷ 0 ∷ 1 ∷ replicate 256 1)) 0, preset.Found 1 1 4 256)
+    -- the count is no preset's number; the book's checks come first
+    ∷ (checkedPreset book 2, preset.Refused 4)
+    ∷ (checkedPreset (7 ∷ 0 ∷ 0 ∷ []) 0, preset.Refused 3)
+    -- kind, rank, letter
+    ∷ (checkedPreset (bookOf (4 ∷ 1 ∷ 0 ∷ 0 ∷ [])) 0, preset.Refused 5)
+    ∷ (checkedPreset (bookOf (1 ∷ 32 ∷ 0 ∷ 0 ∷ [])) 0, preset.Refused 6)
+    ∷ (checkedPreset (bookOf (1 ∷ 1 ∷ 1 ∷ 0 ∷ 2 ∷ [])) 0, preset.Refused 8)
+    ∷ []
+
+pub reading-agrees : Agree reading
+unfolding reading
+    kindOf wrongKind wrongRank tooLong wrongLetter rankRefusal wordRefusal
+    twoAt count trailer offset wrongSize wrongCount misplacedFrom misplaced noSuchPreset bookRefusal recordRefusal presetRefusal
+    presetOf presetAt checkedPreset
+reading-agrees = refl
+
+-- ---- letters
+
+-- the byte where the part begins, and its bytes: in a refused preset's place an empty part
+abbrev handedOut : List ℕ → ℕ → ℕ × List ℕ
+handedOut b i = (lettersStart b i, lettersOf b i)
+
+pub letters : List ((ℕ × List ℕ) × (ℕ × List ℕ))
+letters =
+    (handedOut book 0, (4, 1 ∷ 2 ∷ 1 ∷ 2 ∷ []))
+    ∷ (handedOut book 1, (12, 5 ∷ 2 ∷ 3 ∷ 5 ∷ 1 ∷ 2 ∷ []))
+    ∷ (handedOut book 2, (0, []))
+    ∷ (handedOut (bookOf (1 ∷ 1 ∷ 1 ∷ 0 ∷ 2 ∷ [])) 0, (0, []))
+    ∷ (handedOut (bookOf (1 ∷ 1 ∷ 0 ∷ 0 ∷ [])) 0, (4, []))
+    ∷ []
+
+pub letters-agree : Agree letters
+unfolding letters
+    kindOf wrongKind wrongRank tooLong wrongLetter rankRefusal wordRefusal
+    twoAt count trailer offset wrongSize wrongCount misplacedFrom misplaced noSuchPreset bookRefusal recordRefusal presetRefusal
+    lettersStart lettersOf
+letters-agree = refl
+
+-- ---- appending
+
+pub appendings : List (Outcome ℕ × Outcome ℕ)
+appendings =
+    (appending emptyBook 1 1 (1 ∷ []) (lent 10), wrote 9 (1 ∷ 1 ∷ 1 ∷ 0 ∷ 1 ∷ 0 ∷ 0 ∷ 1 ∷ 0 ∷ 9 ∷ []))
+    -- the second preset: its offset behind the first's
+    ∷ (appending (bookOf (1 ∷ 1 ∷ 0 ∷ 0 ∷ [])) 2 2 (2 ∷ []) (lent 15), wrote 15 (1 ∷ 1 ∷ 0 ∷ 0 ∷ 2 ∷ 2 ∷ 1 ∷ 0 ∷ 2 ∷ 0 ∷ 0 ∷ 4 ∷ 0 ∷ 2 ∷ 0 ∷ []))
+    -- the book's refusal before the preset's, the preset's before the room
+    ∷ (appending (7 ∷ 0 ∷ 0 ∷ []) 4 1 [] (lent 1), refused 3 (lent 1))
+    ∷ (appending emptyBook 1 1 (2 ∷ []) (lent 1), refused 8 (lent 1))
+    ∷ (appending emptyBook 1 1 (1 ∷ []) (lent 8), refused 14 (lent 8))
+    ∷ []
+
+pub appendings-agree : Agree appendings
+unfolding appendings
+    kindOf wrongKind wrongRank tooLong wrongLetter tooShort rankRefusal wordRefusal answerOf written writes
+    twoAt two count trailer offset wrongSize wrongCount misplacedFrom misplaced tooLarge bookRefusal recordOf appended appendRefusal
+    appending
+appendings-agree = refl
+
+-- the size limit, for every accepted book and preset: a new book of 65,536 bytes or more is refused before the room is looked at, a smaller one only
+-- where there is no room
+module _ (b : List ℕ) (k n : ℕ) (u out : List ℕ) (e : bookRefusal b ≡ 0) (f : rankRefusal k n ≡ 0) (g : wordRefusal n u ≡ 0) where
+  pub appending-too-large : 65535 < length b + length u + 6 → appending b k n u out ≡ refused 13 out
+  unfolding appending writes answerOf written
+  appending-too-large h = rw (appendRefusal-large b k n u 0 (sym e) 0 refl (sym f) 0 refl (sym g) refl h)
+
+  pub appending-without-room : length b + length u + 6 ≤ 65535 → length out < length b + length u + 6 → appending b k n u out ≡ refused 14 out
+  unfolding appending writes answerOf written tooShort
+  appending-without-room h l =
+      let s = length b + length u + 6 in
+      rw (appendRefusal-none b k n u 0 (sym e) 0 refl (sym f) 0 refl (sym g) refl h, length-appended b k n u (accepted b e), lt-ltb (length out) s l)
