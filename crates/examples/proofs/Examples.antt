@@ -208,3 +208,8 @@ all-sound (x ∷ es) h e m =
 -- every entry of the table is a fact
 pub proved : (e : Example) → List·Memᴰ e table → Fact e
 proved = all-sound table all-hold
+
+-- so many entries, lest one be lost
+pub table-length : length table ≡ 18
+unfolding table
+table-length = refl

@@ -1,2 +1,3 @@
--- The proof of the table.
+-- The proofs of the two tables.
 pub mod Examples
+pub mod WrongRouters

@@ -1,2 +1,7 @@
--- What an auditor must believe of the examples: what each says, and the table of those that document 01 marks P.
+-- What an auditor must believe of the examples: what each says and the table of those that document 01 marks P; the wrong routers, and the table of the
+-- inputs that tell them from the calls.
 pub mod Examples
+pub mod WrongWindows
+pub mod WrongRewrites
+pub mod WrongBooks
+pub mod WrongRouters

@@ -1,0 +1,183 @@
+-- No row of the table of wrong routers gets through: a test of a row, sound for every row, computes to true over the whole table. The test compares
+-- the numbers of what the call and the wrong router tell. Then the wrong answers that no row can show: at books too large to compute with, by the laws
+-- of books; and parts handed back, which are not values of a definition.
+--
+-- Sections: the test; the table; the largest book; parts handed back.
+-- Assumes nothing.
+use mathlib.Core.Path.{_≡_, refl, sym, ap, _∙_}
+use mathlib.Core.Bool.{Bool, true, false, not, _&&_, true≢false, and-eq-true-iff}
+use mathlib.Core.Logic.{⊎-elim}
+use mathlib.Core.List.{List, [], _∷_, _++_, map, List·Memᴰ, List·Memᴰ·not-nil, List·Memᴰ·cases-cons}
+use Prim.Native.Nat.{ℕ, _+_, _<_}
+use native.Mathlib.Omega.{arith}
+use denote.Ref.{RefT, ptr}
+use lib.IntN.{ℤ, pos}
+use lib.ListN.{length}
+use borrow.Author.Tests.{lt-ltb}
+use Rattle.coxeter.specs.declared.Answer.{Answer}
+use Rattle.coxeter.specs.declared.Answer.the-variants as answers
+use Rattle.coxeter.specs.declared.Verdict.{Verdict}
+use Rattle.coxeter.specs.declared.Verdict.the-variants as verdicts
+use Rattle.coxeter.specs.declared.Choice.{Choice}
+use Rattle.coxeter.specs.declared.Choice.the-variants as choices
+use Rattle.rules.specs.declared.Rewrite.{Rewrite}
+use Rattle.rules.specs.declared.Rewrite.the-variants as rewrites
+use Rattle.book_format.specs.declared.Opened.{Opened}
+use Rattle.book_format.specs.declared.Opened.the-variants as books
+use Rattle.book_format.specs.declared.Preset.{Preset}
+use Rattle.book_format.specs.declared.Preset.the-variants as presets
+use Rattle.listing_text.specs.declared.Placed.{Placed}
+use Rattle.listing_text.specs.declared.Placed.the-variants as places
+use Rattle.coxeter.specs.Kinds.{pick, kindOf, up}
+use Rattle.coxeter.specs.Windows.{from, exchange, negateFirst, exchangeNegate, act, windowFrom, straight, window, at, product, signed, placeFrom, inverse}
+use Rattle.coxeter.specs.Length.{later, negative, one, laterThan, inversions, negativeSumPairs, negatives, windowLength}
+use Rattle.coxeter.specs.Dictionary.{before, shortlex}
+use Rattle.coxeter.specs.Checks.{check, _then_, wrongKind, wrongRank, tooLong, wrongLetter, wrongLanes, hasSize, negativeInA, wrongAt, wrongEntry, odd, oddNegatives, tooShort, rankRefusal, wordRefusal, windowRefusal}
+use Rattle.coxeter.specs.NormalForm.{down, rise, fall, block, without, indexOf, restOf, normalFrom, normalForm}
+use Rattle.coxeter.specs.Calls.{answerOf, verdictOf, written, writes, windowOfWord, productOfWindows, inverseOfWindow, normalFormOfWindow, normalFormOfWord, productOfWords, inverseOfWord, lengthOfWindow, lengthOfWord, sameEntry, sameWindow, equalWords, samePresets, presetsEqual, handsBack, choice, Outcome, Better}
+use Rattle.coxeter.proofs.Order.{sameWindow-of-eq}
+use Rattle.rules.specs.Rules.{each, family1, family2, family3, family4, families5to7, rules, begins, fits, firstFitting, rewritten}
+use Rattle.rules.specs.Calls.{pastEnd, refusedStep, usedStep, stepBy, step}
+use Rattle.book_format.specs.Books.{twoAt, two, count, trailer, offset, wrongSize, wrongCount, misplacedFrom, misplaced, noSuchPreset, tooLarge, bookRefusal, recordRefusal, presetRefusal, recordOf, appended, appendRefusal}
+use Rattle.book_format.specs.Calls.{openedOf, presetOf, checkedBook, presetAt, checkedPreset, lettersStart, lettersOf, appending}
+use Rattle.listing_text.specs.Text.{digits, decimal, spaced, letters, entry, entries, kindLetter, head, tail, presetLine, refused, refusedLine, refusedBookLine, countLine, wordLine}
+use Rattle.listing_text.specs.Calls.{puts}
+use Rattle.book_format.proofs.BookLaws.{accepted}
+use Rattle.book_format.proofs.WritingLaws.{length-appended}
+use Rattle.book_format.proofs.Vectors.{too-large-book, appending-too-large}
+use Rattle.examples.specs.WrongBooks.{bookOf65536Bytes, roomBeforeTheSizeLimit}
+use Rattle.examples.specs.WrongRouters as told
+use Rattle.examples.specs.WrongRouters.{Told, WrongRouter, table}
+
+-- ---- the test
+
+-- the numbers of an answer: which case it is, and its values
+ofAnswer : Answer → List ℤ
+ofAnswer (answers.Length l) = pos 0 ∷ pos l ∷ []
+ofAnswer (answers.Refused r) = pos 1 ∷ pos r ∷ []
+
+ofVerdict : Verdict → List ℤ
+ofVerdict verdicts.Yes = pos 0 ∷ []
+ofVerdict verdicts.No = pos 1 ∷ []
+ofVerdict (verdicts.Refused r) = pos 2 ∷ pos r ∷ []
+
+ofChoice : Choice → List ℤ
+ofChoice choices.First = pos 0 ∷ []
+ofChoice choices.Second = pos 1 ∷ []
+ofChoice choices.Neither = pos 2 ∷ []
+
+ofRewrite : Rewrite → List ℤ
+ofRewrite (rewrites.Used f i j l) = pos 0 ∷ pos f ∷ pos i ∷ pos j ∷ pos l ∷ []
+ofRewrite rewrites.NoneFits = pos 1 ∷ []
+ofRewrite (rewrites.Refused r) = pos 2 ∷ pos r ∷ []
+
+ofOpened : Opened → List ℤ
+ofOpened (books.Presets c) = pos 0 ∷ pos c ∷ []
+ofOpened (books.Refused r) = pos 1 ∷ pos r ∷ []
+
+ofPreset : Preset → List ℤ
+ofPreset (presets.Found k n s l) = pos 0 ∷ pos k ∷ pos n ∷ pos s ∷ pos l ∷ []
+ofPreset (presets.Refused r) = pos 1 ∷ pos r ∷ []
+
+ofPlaced : Placed → List ℤ
+ofPlaced (places.Next p) = pos 0 ∷ pos p ∷ []
+ofPlaced places.NoRoom = pos 1 ∷ []
+
+-- the numbers of all that is told
+numbers : Told → List ℤ
+numbers (told.entries o) = ofAnswer (o .answer) ++ o .bytes
+numbers (told.bytes o) = ofAnswer (o .answer) ++ map pos (o .bytes)
+numbers (told.rewrite s) = ofRewrite (s .answer) ++ map pos (s .bytes ++ s .word)
+numbers (told.put p) = ofPlaced (p .answer) ++ map pos (p .bytes)
+numbers (told.answer a) = ofAnswer a
+numbers (told.verdict v) = ofVerdict v
+numbers (told.choice c) = ofChoice c
+numbers (told.opened o) = ofOpened o
+numbers (told.preset p) = ofPreset p
+numbers (told.number r) = pos r ∷ []
+numbers (told.part p) = pos (p .0) ∷ map pos (p .1)
+numbers (told.text t) = map pos t
+
+-- the test of a row
+differs : WrongRouter → Bool
+differs r = not (sameWindow (numbers (r .right)) (numbers (r .wrong)))
+
+-- a row that passes is wrong
+sound : (r : WrongRouter) → differs r ≡ true → r .right ≡ r .wrong → ⊥
+unfolding differs
+sound r h e = true≢false (sym h ∙ ap not (sameWindow-of-eq (numbers (r .right)) (numbers (r .wrong)) (ap numbers e)))
+
+-- ---- the table
+
+allDiffer : List WrongRouter → Bool
+allDiffer [] = true
+allDiffer (r ∷ rs) = differs r && allDiffer rs
+
+-- the one computed fact, with the definitions that the rows pass through, layer by layer
+all-differ : allDiffer table ≡ true
+unfolding table allDiffer differs numbers ofAnswer ofVerdict ofChoice ofRewrite ofOpened ofPreset ofPlaced
+    kindOf up from exchange negateFirst exchangeNegate act windowFrom straight window at product signed placeFrom inverse
+    later negative one laterThan inversions negativeSumPairs negatives windowLength before shortlex
+    wrongKind wrongRank tooLong wrongLetter wrongLanes hasSize negativeInA wrongAt wrongEntry odd oddNegatives tooShort
+    rankRefusal wordRefusal windowRefusal
+    down rise fall block without indexOf restOf normalFrom normalForm
+    answerOf verdictOf written writes windowOfWord productOfWindows inverseOfWindow normalFormOfWindow normalFormOfWord productOfWords inverseOfWord
+    lengthOfWindow lengthOfWord sameEntry sameWindow equalWords samePresets presetsEqual handsBack choice
+    each family1 family2 family3 family4 families5to7 rules begins fits firstFitting rewritten pastEnd refusedStep usedStep stepBy step
+    twoAt two count trailer offset wrongSize wrongCount misplacedFrom misplaced noSuchPreset tooLarge bookRefusal recordRefusal presetRefusal recordOf
+    appended appendRefusal openedOf presetOf checkedBook presetAt checkedPreset lettersStart lettersOf appending
+    digits decimal spaced letters entry entries kindLetter head tail presetLine refused refusedLine refusedBookLine countLine wordLine puts
+all-differ = refl
+
+all-sound : (rs : List WrongRouter) → allDiffer rs ≡ true → (r : WrongRouter) → List·Memᴰ r rs → r .right ≡ r .wrong → ⊥
+unfolding allDiffer
+all-sound [] h r m = absurd (List·Memᴰ·not-nil m)
+all-sound (x ∷ rs) h r m =
+    let t = and-eq-true-iff (differs x) (allDiffer rs) .0 h in
+    ⊎-elim (λ q. sound r (ap differs q ∙ t .0)) (all-sound rs (t .1) r) (List·Memᴰ·cases-cons m)
+
+-- what a wrong router of the table tells is not what the call tells
+pub ruled-out : (r : WrongRouter) → List·Memᴰ r table → r .right ≡ r .wrong → ⊥
+ruled-out = all-sound table all-differ
+
+-- so many rows, lest one be lost
+pub table-length : length table ≡ 62
+unfolding table
+table-length = refl
+
+-- ---- the largest book
+
+opened-late : (s t : Bool) (c : ℕ) → openedOf (check 2 s then check 3 t) c ≡ books.Refused 1 → ⊥
+unfolding openedOf
+opened-late true t c e = let z : _≡_ {A = ℕ} 2 1 = cc in omega arith
+opened-late false true c e = let z : _≡_ {A = ℕ} 3 1 = cc in omega arith
+opened-late false false c e = let z : _≡_ {A = ℕ} 0 1 = cc in omega arith
+
+-- every book of 65,536 bytes tells this one
+pub bookOf65536Bytes-ruled-out : (b : List ℕ) → length b ≡ 65536 → checkedBook b ≡ bookOf65536Bytes b → ⊥
+bookOf65536Bytes-ruled-out b e h =
+    opened-late (wrongCount b) (misplaced b) (count b) (rw e at (sym h) ∙ too-large-book b e)
+
+-- and every preset that would make an accepted book larger than 65,535 bytes tells this one, where the output is shorter than the new book
+pub roomBeforeTheSizeLimit-ruled-out : (b : List ℕ) (k n : ℕ) (u out : List ℕ) → bookRefusal b ≡ 0 → rankRefusal k n ≡ 0 → wordRefusal n u ≡ 0
+    → 65535 < length b + length u + 6 → length out < length b + length u + 6 → appending b k n u out ≡ roomBeforeTheSizeLimit b k n u out → ⊥
+unfolding writes answerOf tooShort
+roomBeforeTheSizeLimit-ruled-out b k n u out e f g large short h =
+    let l = length-appended b k n u (accepted b e) in
+    let w : roomBeforeTheSizeLimit b k n u out .answer ≡ answers.Refused 14 = rw (l, lt-ltb (length out) (length b + length u + 6) short) in
+    let r = ap (λ (o : Outcome ℕ). o .answer) (appending-too-large b k n u out e f g large) in
+    let z : _≡_ {A = ℕ} 13 14 = cc (ap (λ (o : Outcome ℕ). o .answer) h) in
+    omega arith
+
+-- ---- parts handed back
+
+-- the better of two words is the lent word itself: not the other, not a copy elsewhere
+pub second-for-the-first-ruled-out : (u v : RefT (List ℕ)) → (u ≡ v → ⊥) → Better true false u v v → ⊥
+second-for-the-first-ruled-out u v f b = f (sym (b .whole refl))
+
+pub copy-ruled-out : (second : Bool) (u v r : RefT (List ℕ)) → (r .ptr ≡ pick second v u .ptr → ⊥) → Better true second u v r → ⊥
+copy-ruled-out second u v r f b = f (ap ptr (b .whole refl))
+
+-- where neither is handed back it is no part of the second word
+pub part-of-the-second-ruled-out : (second : Bool) (u v r : RefT (List ℕ)) → (u .ptr ≡ v .ptr → ⊥) → r .ptr ≡ v .ptr → Better false second u v r → ⊥
+part-of-the-second-ruled-out second u v r f e b = f (sym (b .empty refl .1) ∙ e)

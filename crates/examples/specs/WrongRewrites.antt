@@ -1,0 +1,51 @@
+-- Wrong answers of one rewrite, each of the type of `step`. WrongRouters.antt says where each is wrong.
+use mathlib.Core.List.{List, [], _∷_, _++_, map}
+use mathlib.Core.Option.{none, some}
+use Prim.Native.Nat.{ℕ, _-_, _*_}
+use lib.Dec.{eqb, ltb}
+use lib.ListN.{length, drop}
+use Rattle.coxeter.specs.Kinds.{Kind, B, pick, kindOf}
+use Rattle.coxeter.specs.Checks.{check, _then_, tooShort, rankRefusal, wordRefusal}
+use Rattle.coxeter.specs.NormalForm.{rise}
+use Rattle.rules.specs.Rules.{Rule, rule, each, family2, carried, rules, firstFitting, rewritten}
+use Rattle.rules.specs.Calls.{pastEnd, Step, refusedStep, usedStep, stepBy, step}
+
+-- one rewrite by other rules
+abbrev pub stepWith : (Kind → ℕ → List Rule) → ℕ → ℕ → List ℕ → ℕ → List ℕ → Step
+stepWith others k n u p out =
+    let r = rankRefusal k n then wordRefusal n u then check 12 (pastEnd u p) in
+    pick (eqb r 0) (stepBy (firstFitting (others (kindOf k) n) u p) u p out) (refusedStep r u out)
+
+-- "one that says none fits without looking"
+abbrev pub noneFitsWithoutLooking : ℕ → ℕ → List ℕ → ℕ → List ℕ → Step
+noneFitsWithoutLooking = stepWith (λ k n. [])
+
+-- "Taking kind B's rule for 2 4 into D4."
+abbrev pub ruleOfBInD : ℕ → ℕ → List ℕ → ℕ → List ℕ → Step
+ruleOfBInD = stepWith (λ k n. rules k n ++ family2 B n)
+
+-- family 3 also for j = 2n − i − 1
+abbrev pub family3OneTooFarInB : ℕ → ℕ → List ℕ → ℕ → List ℕ → Step
+family3OneTooFarInB = stepWith (λ k n. rules k n ++ each (λ i. carried k n i (2 * n - i - 1) ∷ []) (rise 1 (n - 1)))
+
+abbrev pub family4AsFamily3 : ℕ → ℕ → List ℕ → ℕ → List ℕ → Step
+family4AsFamily3 = stepWith (λ k n. map (λ r. rule (pick (eqb (r .family) 4) 3 (r .family)) (r .i) (r .j) (r .left) (r .right)) (rules k n))
+
+-- the right side one place to the left of the left side's place
+abbrev pub replacedOnePlaceToTheLeft : ℕ → ℕ → List ℕ → ℕ → List ℕ → Step
+replacedOnePlaceToTheLeft k n u p out = elim (firstFitting (rules (kindOf k) n) u p) [
+  | none ↦ step k n u p out
+  | some r ↦ usedStep r (rewritten r u (p - 1)) out
+]
+
+abbrev pub placeAtTheEndAccepted : ℕ → ℕ → List ℕ → ℕ → List ℕ → Step
+placeAtTheEndAccepted k n u p out =
+    let r = rankRefusal k n then wordRefusal n u then check 12 (ltb (length u) p) in
+    pick (eqb r 0) (stepBy (firstFitting (rules (kindOf k) n) u p) u p out) (refusedStep r u out)
+
+abbrev pub roomCheckedBeforeTheRule : ℕ → ℕ → List ℕ → ℕ → List ℕ → Step
+roomCheckedBeforeTheRule k n u p out = pick (tooShort (length u) out) (refusedStep 14 u out) (step k n u p out)
+
+-- the output gets the word before a rule is looked for
+abbrev pub wordCopiedFirst : ℕ → ℕ → List ℕ → ℕ → List ℕ → Step
+wordCopiedFirst k n u p out = step k n u p (u ++ drop (length u) out)

@@ -1,0 +1,147 @@
+-- Wrong routers (document 01, "What contracts have to settle", point c, and "Mistakes close at hand"; and others): a wrong answer for each, and an
+-- input at which the call's definition says otherwise. A contract that is an equation with the definition then lets none of them through. The wrong answers
+-- are in WrongWindows, WrongRewrites and WrongBooks; that each row is wrong is `ruled-out` of proofs/WrongRouters.antt.
+-- Not here: those that show only at a book of 65,536 bytes, and parts handed back, which no input computes; they too are in that file.
+use mathlib.Core.List.{List, [], _∷_}
+use Prim.Native.Nat.{ℕ}
+use lib.IntN.{ℤ, pos}
+use lib.ListN.{replicate}
+use Rattle.coxeter.specs.declared.Answer.{Answer}
+use Rattle.coxeter.specs.declared.Verdict.{Verdict}
+use Rattle.coxeter.specs.declared.Choice.{Choice}
+use Rattle.coxeter.specs.Kinds.{B}
+use Rattle.coxeter.specs.Checks.{rankRefusal, wordRefusal}
+use Rattle.coxeter.specs.Calls.{Outcome, windowOfWord, productOfWindows, inverseOfWindow, normalFormOfWindow, normalFormOfWord, productOfWords, inverseOfWord, lengthOfWindow, lengthOfWord, presetsEqual}
+use Rattle.rules.specs.Calls.{Step, step}
+use Rattle.book_format.specs.declared.Opened.{Opened}
+use Rattle.book_format.specs.declared.Preset.{Preset}
+use Rattle.book_format.specs.Calls.{checkedBook, checkedPreset, appending}
+use Rattle.listing_text.specs.Text.{refusedLine, refusedBookLine, countLine, wordLine}
+use Rattle.listing_text.specs.Calls.{Putting, puts}
+use Rattle.examples.specs.Examples.{neg}
+use Rattle.examples.specs.WrongWindows.{refusesEveryKind, rank32InA, letterZeroAccepted, wordOf4097Letters}
+use Rattle.examples.specs.WrongWindows.{turnsEveryPresetDown, straightForAllWords, exchangesValues, stepOfBInD, refusedCallWrites, clearsTheOutput}
+use Rattle.examples.specs.WrongWindows.{unshortenedWord, peelsOnlyBlock1, stopsAtAShortestWord, roomForTheRankOnly}
+use Rattle.examples.specs.WrongWindows.{block1Alone, entriesBeforeLanes, oddNegativesAccepted, blockTurnsEarlyInB, indexOneOffOnTheWayDown, lastEntryKeptInD}
+use Rattle.examples.specs.WrongWindows.{productInWrongOrder, secondWindowCheckedFirst, windowAsItsInverse, inverseWithoutSigns}
+use Rattle.examples.specs.WrongWindows.{wordsJoinedTheOtherWay, wordsJoinedUnshortened, wordAsItsInverse, reversedUnshortened}
+use Rattle.examples.specs.WrongWindows.{letterTotal, usualOrderOfAWindow, usualOrderOfAWord, negativesNotCounted, negatesBeforeItsRange}
+use Rattle.examples.specs.WrongWindows.{ranksNotCompared, secondPresetRefusedFirst, better, laterWordHandedBack, windowsNotCompared, secondOfEqualWords}
+use Rattle.examples.specs.WrongRewrites.{noneFitsWithoutLooking, ruleOfBInD, family3OneTooFarInB, family4AsFamily3, replacedOnePlaceToTheLeft, placeAtTheEndAccepted, roomCheckedBeforeTheRule, wordCopiedFirst}
+use Rattle.examples.specs.WrongBooks.{countHighByteFirst, offsetAgainstTheTrailer, lastRecordMayStopEarly, onePresetTooMany, preset0ForEveryNumber}
+use Rattle.examples.specs.WrongBooks.{handedOut, lettersFromTheRecord, refusedPresetHandsOutLetters, lastOffsetDropped, kindAndRankExchanged}
+use Rattle.examples.specs.WrongBooks.{countWithoutLineFeed, bookRefusalAlways1, presetRefusalAlways1, lengthBeforeRank, minusLeftOut, lineWithoutRoom}
+
+-- what a call tells: its answer, with the output afterwards if it writes one
+pub data Told : Type 0 where
+  entries : Outcome ℤ → Told
+  bytes : Outcome ℕ → Told
+  rewrite : Step → Told
+  put : Putting → Told
+  answer : Answer → Told
+  verdict : Verdict → Told
+  choice : Choice → Told
+  opened : Opened → Told
+  preset : Preset → Told
+  number : ℕ → Told
+  part : ℕ × List ℕ → Told
+  text : List ℕ → Told
+
+-- what the call tells at an input, and what the wrong router tells there
+pub record WrongRouter : Type 0 where
+  pub right : Told
+  pub wrong : Told
+
+-- the call, the wrong router in its place, and the input, the same for both
+abbrev pub differ : {X : Type 0} → X → X → (X → Told) → WrongRouter
+differ call other at = record { right = at call; wrong = at other }
+
+-- so many bytes, or entries, as they were lent
+abbrev lent : ℕ → List ℕ
+lent m = replicate m 9
+
+abbrev lentEntries : ℕ → List ℤ
+lentEntries m = replicate m (pos 9)
+
+-- a book of one preset, A1 with the empty word
+abbrev one : List ℕ
+one = 1 ∷ 1 ∷ 0 ∷ 0 ∷ 0 ∷ 0 ∷ 1 ∷ 0 ∷ []
+
+unfoldable pub table : List WrongRouter
+table =
+    -- refusals
+    differ rankRefusal refusesEveryKind (λ f. number (f 1 2))
+    ∷ differ rankRefusal rank32InA (λ f. number (f 1 32))
+    ∷ differ wordRefusal letterZeroAccepted (λ f. number (f 2 (1 ∷ 0 ∷ [])))
+    ∷ differ wordRefusal wordOf4097Letters (λ f. number (f 2 (replicate 4097 1)))
+    -- the window of a word
+    ∷ differ windowOfWord turnsEveryPresetDown (λ f. entries (f 1 2 (1 ∷ 2 ∷ []) (lentEntries 3)))
+    ∷ differ windowOfWord straightForAllWords (λ f. entries (f 1 2 (1 ∷ 2 ∷ []) (lentEntries 3)))
+    ∷ differ windowOfWord exchangesValues (λ f. entries (f 1 2 (1 ∷ 2 ∷ []) (lentEntries 3)))
+    ∷ differ windowOfWord stepOfBInD (λ f. entries (f 3 4 (4 ∷ []) (lentEntries 4)))
+    ∷ differ windowOfWord refusedCallWrites (λ f. entries (f 1 2 (3 ∷ []) (lentEntries 3)))
+    ∷ differ windowOfWord clearsTheOutput (λ f. entries (f 1 2 (1 ∷ []) (lentEntries 4)))
+    -- the normal form of a word
+    ∷ differ normalFormOfWord unshortenedWord (λ f. bytes (f 1 2 (1 ∷ 1 ∷ []) (lent 2)))
+    ∷ differ normalFormOfWord peelsOnlyBlock1 (λ f. bytes (f 1 3 (2 ∷ 3 ∷ 2 ∷ []) (lent 3)))
+    ∷ differ normalFormOfWord stopsAtAShortestWord (λ f. bytes (f 1 2 (1 ∷ 2 ∷ 1 ∷ []) (lent 3)))
+    ∷ differ normalFormOfWord roomForTheRankOnly (λ f. bytes (f 2 2 (1 ∷ 2 ∷ 1 ∷ 2 ∷ []) (lent 3)))
+    -- the normal form of a window
+    ∷ differ normalFormOfWindow block1Alone (λ f. bytes (f 1 2 (pos 3 ∷ pos 2 ∷ pos 1 ∷ []) (lent 3)))
+    ∷ differ normalFormOfWindow entriesBeforeLanes (λ f. bytes (f 1 2 (pos 0 ∷ pos 1 ∷ []) (lent 3)))
+    ∷ differ normalFormOfWindow oddNegativesAccepted (λ f. bytes (f 3 4 (neg 1 ∷ pos 2 ∷ pos 3 ∷ pos 4 ∷ []) (lent 12)))
+    ∷ differ normalFormOfWindow blockTurnsEarlyInB (λ f. bytes (f 2 2 (neg 1 ∷ pos 2 ∷ []) (lent 4)))
+    ∷ differ normalFormOfWindow indexOneOffOnTheWayDown (λ f. bytes (f 2 2 (neg 1 ∷ pos 2 ∷ []) (lent 4)))
+    ∷ differ normalFormOfWindow lastEntryKeptInD (λ f. bytes (f 3 4 (neg 1 ∷ pos 2 ∷ pos 4 ∷ neg 3 ∷ []) (lent 12)))
+    -- products and inverses
+    ∷ differ productOfWindows productInWrongOrder (λ f. entries (f 2 2 (neg 2 ∷ pos 1 ∷ []) (pos 2 ∷ pos 1 ∷ []) (lentEntries 2)))
+    ∷ differ productOfWindows secondWindowCheckedFirst (λ f. entries (f 2 2 (pos 1 ∷ pos 1 ∷ []) (pos 1 ∷ []) (lentEntries 2)))
+    ∷ differ inverseOfWindow windowAsItsInverse (λ f. entries (f 2 2 (neg 2 ∷ pos 1 ∷ []) (lentEntries 2)))
+    ∷ differ inverseOfWindow inverseWithoutSigns (λ f. entries (f 2 2 (neg 2 ∷ pos 1 ∷ []) (lentEntries 2)))
+    ∷ differ productOfWords wordsJoinedTheOtherWay (λ f. bytes (f 1 2 (1 ∷ []) (2 ∷ []) (lent 2)))
+    ∷ differ productOfWords wordsJoinedUnshortened (λ f. bytes (f 1 2 (1 ∷ []) (1 ∷ []) (lent 2)))
+    ∷ differ inverseOfWord wordAsItsInverse (λ f. bytes (f 1 2 (1 ∷ 2 ∷ []) (lent 2)))
+    ∷ differ inverseOfWord reversedUnshortened (λ f. bytes (f 1 2 (1 ∷ 2 ∷ 1 ∷ []) (lent 3)))
+    -- lengths; "the last step alone would get a length above 1"
+    ∷ differ lengthOfWord letterTotal (λ f. answer (f 1 2 (1 ∷ 1 ∷ [])))
+    ∷ differ lengthOfWord usualOrderOfAWord (λ f. answer (f 2 2 (2 ∷ [])))
+    ∷ differ lengthOfWord usualOrderOfAWord (λ f. answer (f 3 4 (4 ∷ [])))
+    ∷ differ lengthOfWindow usualOrderOfAWindow (λ f. answer (f 2 2 (pos 1 ∷ neg 2 ∷ [])))
+    ∷ differ lengthOfWindow negativesNotCounted (λ f. answer (f 2 2 (pos 1 ∷ neg 2 ∷ [])))
+    ∷ differ lengthOfWindow negatesBeforeItsRange (λ f. answer (f 2 2 (neg 128 ∷ pos 1 ∷ [])))
+    -- verdicts
+    ∷ differ presetsEqual ranksNotCompared (λ f. verdict (f 1 2 [] 1 3 []))
+    ∷ differ presetsEqual secondPresetRefusedFirst (λ f. verdict (f 1 2 (3 ∷ []) 4 2 []))
+    -- the better of two words
+    ∷ differ better laterWordHandedBack (λ f. choice (f 1 2 (1 ∷ 2 ∷ 1 ∷ []) (2 ∷ 1 ∷ 2 ∷ [])))
+    ∷ differ better windowsNotCompared (λ f. choice (f 1 2 (1 ∷ []) (2 ∷ [])))
+    ∷ differ better secondOfEqualWords (λ f. choice (f 1 2 (1 ∷ []) (1 ∷ [])))
+    -- one rewrite
+    ∷ differ step noneFitsWithoutLooking (λ f. rewrite (f 1 2 (1 ∷ 1 ∷ []) 0 (lent 2)))
+    ∷ differ step ruleOfBInD (λ f. rewrite (f 3 4 (2 ∷ 4 ∷ []) 0 (lent 2)))
+    ∷ differ step family3OneTooFarInB (λ f. rewrite (f 2 2 (1 ∷ 2 ∷ 1 ∷ []) 0 (lent 3)))
+    ∷ differ step family4AsFamily3 (λ f. rewrite (f 2 2 (1 ∷ 2 ∷ 1 ∷ 2 ∷ []) 0 (lent 4)))
+    ∷ differ step replacedOnePlaceToTheLeft (λ f. rewrite (f 1 2 (2 ∷ 1 ∷ 1 ∷ []) 1 (lent 3)))
+    ∷ differ step placeAtTheEndAccepted (λ f. rewrite (f 1 2 (1 ∷ []) 1 (lent 1)))
+    ∷ differ step roomCheckedBeforeTheRule (λ f. rewrite (f 2 4 (3 ∷ 4 ∷ []) 0 []))
+    ∷ differ step wordCopiedFirst (λ f. rewrite (f 1 2 (1 ∷ []) 1 (lent 1)))
+    -- opening a book
+    ∷ differ checkedBook countHighByteFirst (λ f. opened (f one))
+    ∷ differ checkedBook offsetAgainstTheTrailer (λ f. opened (f one))
+    ∷ differ checkedBook lastRecordMayStopEarly (λ f. opened (f (1 ∷ 1 ∷ 0 ∷ 0 ∷ 7 ∷ 0 ∷ 0 ∷ 1 ∷ 0 ∷ [])))
+    -- reading a preset, and its letters
+    ∷ differ checkedPreset onePresetTooMany (λ f. preset (f one 1))
+    ∷ differ checkedPreset preset0ForEveryNumber (λ f. preset (f (1 ∷ 1 ∷ 0 ∷ 0 ∷ 2 ∷ 2 ∷ 0 ∷ 0 ∷ 0 ∷ 0 ∷ 4 ∷ 0 ∷ 2 ∷ 0 ∷ []) 1))
+    ∷ differ handedOut lettersFromTheRecord (λ f. part (f one 0))
+    ∷ differ handedOut refusedPresetHandsOutLetters (λ f. part (f (1 ∷ 1 ∷ 1 ∷ 0 ∷ 2 ∷ 0 ∷ 0 ∷ 1 ∷ 0 ∷ []) 0))
+    -- appending
+    ∷ differ appending lastOffsetDropped (λ f. bytes (f (0 ∷ 0 ∷ []) 1 2 [] (lent 8)))
+    ∷ differ appending kindAndRankExchanged (λ f. bytes (f (0 ∷ 0 ∷ []) 1 2 [] (lent 8)))
+    -- lines of the listing
+    ∷ differ countLine countWithoutLineFeed (λ f. text (f 2))
+    ∷ differ refusedBookLine bookRefusalAlways1 (λ f. text (f 3))
+    ∷ differ refusedLine presetRefusalAlways1 (λ f. text (f 0 8))
+    ∷ differ wordLine lengthBeforeRank (λ f. text (f 0 B 2 (1 ∷ 2 ∷ 1 ∷ 2 ∷ [])))
+    ∷ differ wordLine minusLeftOut (λ f. text (f 0 B 2 (1 ∷ 2 ∷ 1 ∷ 2 ∷ [])))
+    ∷ differ puts lineWithoutRoom (λ f. put (f (10 ∷ []) (lent 16895) 0))
+    ∷ []
