@@ -1,3 +1,4 @@
--- The laws of the calls for C.
+-- The laws that the proofs of the calls for C share.
 pub mod Lengths
+pub mod Bytes
 pub mod Outcomes

@@ -25,7 +25,7 @@ use Rattle.rules.specs.Calls.{pastEnd, Step, refusedStep, usedStep, stepBy, ste
 use Rattle.book_format.specs.declared.Preset.{Preset}
 use Rattle.book_format.specs.declared.Preset.the-variants as preset
 use Rattle.book_format.specs.Calls.{checkedPreset}
-use Rattle.c_api.specs.Calls.{refused, numberOf, Rewriting, unwritten, rewritingBy, rewriting, fieldsOf}
+use Rattle.c_api.specs.Calls.{refused, numberOf, Numbered, Rewriting, Rewritten, unwritten, rewritingBy, rewriting, fieldsOf}
 
 -- ---- one rewrite
 
@@ -53,21 +53,17 @@ step-quiet k n u p out = go (eqb r 0)
     go true = stepBy-quiet (firstFitting (rules (kindOf k) n) u p) u p out
     go false = refl
 
--- the number that was answered, and the two outputs afterwards, are those of the definition
-abbrev Does : Rewriting → ℤ → List ℕ → List ℕ → Type 0
-Does r z out rule = (z ≡ r .number) × (out ≡ r .bytes) × (rule ≡ r .rule)
-
 module _ (k n : ℕ) (u : List ℕ) (p : ℕ) (out after rule : List ℕ) (a : Rewrite) (w : Rewrote k n u p out after a) where
-  pub rewriting-used : (f i j l : ℕ) → a ≡ Used f i j l → 3 ≤ length rule → Does (rewriting k n u p out rule) (pos l) after (sets rule 0 (f ∷ i ∷ j ∷ []))
+  pub rewriting-used : (f i j l : ℕ) → a ≡ Used f i j l → 3 ≤ length rule → Rewritten (rewriting k n u p out rule) (pos l) after (sets rule 0 (f ∷ i ∷ j ∷ []))
   unfolding rewriting rewritingBy tooShort
   rewriting-used f i j l q h =
       rw (← w .answer, q, le-ltb (length rule) 3 h) (refl, w .bytes, sets-eq (f ∷ i ∷ j ∷ []) rule 0 h)
 
-  pub rewriting-fitless : a ≡ NoneFits → Does (rewriting k n u p out rule) (refused 100) after rule
+  pub rewriting-fitless : a ≡ NoneFits → Rewritten (rewriting k n u p out rule) (refused 100) after rule
   unfolding rewriting rewritingBy unwritten
   rewriting-fitless q = rw (← w .answer, q) (refl, w .bytes ∙ (rw (← w .answer, q) at (step-quiet k n u p out)), refl)
 
-  pub rewriting-refused : (r : ℕ) → a ≡ Refused r → Does (rewriting k n u p out rule) (refused r) after rule
+  pub rewriting-refused : (r : ℕ) → a ≡ Refused r → Rewritten (rewriting k n u p out rule) (refused r) after rule
   unfolding rewriting rewritingBy unwritten
   rewriting-refused r q = rw (← w .answer, q) (refl, w .bytes ∙ (rw (← w .answer, q) at (step-quiet k n u p out)), refl)
 
@@ -112,7 +108,7 @@ pub rewriting-narrow : (k n : ℕ) (u : List ℕ) (p : ℕ) (after : List ℕ) (
 unfolding rewriting unwritten
 rewriting-narrow k n u p after a w = rw (← w .answer, rewritingBy-roomless a (step k n u p [] .bytes) [] [] (omega arith))
 
-pub rewriting-roomless : (k n : ℕ) (u : List ℕ) (p : ℕ) (out rule : List ℕ) → length rule < 3 → Does (rewriting k n u p out rule) (rewriting k n u p [] [] .number) out rule
+pub rewriting-roomless : (k n : ℕ) (u : List ℕ) (p : ℕ) (out rule : List ℕ) → length rule < 3 → Rewritten (rewriting k n u p out rule) (rewriting k n u p [] [] .number) out rule
 unfolding rewriting unwritten
 rewriting-roomless k n u p out rule h =
     rw (
@@ -128,24 +124,20 @@ nothing-before (x ∷ after) out h = absurd (omega arith)
 
 -- ---- a preset's fields
 
--- the number that was answered, and the fields afterwards, are those of the definition
-abbrev Gives : Outcome ℕ → ℤ → List ℕ → Type 0
-Gives o z out = (z ≡ numberOf (o .answer)) × (out ≡ o .bytes)
-
 module _ (b : List ℕ) (i : ℕ) (out : List ℕ) (a : Preset) (e : a ≡ checkedPreset b i) where
-  pub fields-refused : (r : ℕ) → a ≡ preset.Refused r → Gives (fieldsOf (checkedPreset b i) out) (refused r) out
+  pub fields-refused : (r : ℕ) → a ≡ preset.Refused r → Numbered (fieldsOf (checkedPreset b i) out) (refused r) out
   unfolding fieldsOf numberOf
   fields-refused r q = rw (← e, q) (refl, refl)
 
   module _ (k n s l : ℕ) (q : a ≡ preset.Found k n s l) where
-    pub fields-short : length out < 4 → Gives (fieldsOf (checkedPreset b i) out) (refused 14) out
+    pub fields-short : length out < 4 → Numbered (fieldsOf (checkedPreset b i) out) (refused 14) out
     unfolding fieldsOf numberOf
     fields-short h =
         let fields = k ∷ n ∷ s ∷ l ∷ [] in
         let d = writes-short (writes 0 fields out) 0 0 fields out refl refl 4 refl refl h in
         rw (← e, q, ← d .0) (refl, d .1)
 
-    pub fields-written : 4 ≤ length out → Gives (fieldsOf (checkedPreset b i) out) (pos 4) (sets out 0 (k ∷ n ∷ s ∷ l ∷ []))
+    pub fields-written : 4 ≤ length out → Numbered (fieldsOf (checkedPreset b i) out) (pos 4) (sets out 0 (k ∷ n ∷ s ∷ l ∷ []))
     unfolding fieldsOf numberOf
     fields-written h =
         let fields = k ∷ n ∷ s ∷ l ∷ [] in

@@ -1,4 +1,5 @@
 -- What a call for C answers and writes, from what the layers' calls do: 0 or more is the answer, -k is refusal k.
+use mathlib.Core.Path.{_≡_}
 use mathlib.Core.List.{List, [], _∷_}
 use Prim.Native.Nat.{ℕ}
 use lib.IntN.{ℤ, pos, negℤ}
@@ -29,6 +30,10 @@ unfoldable pub numberOf : Answer → ℤ
 numberOf (answer.Length l) = pos l
 numberOf (answer.Refused k) = refused k
 
+-- the number that was answered, and the output afterwards, are those of the outcome
+abbrev pub Numbered : {X : Type 0} → Outcome X → ℤ → List X → Type 0
+Numbered o z out = (z ≡ numberOf (o .answer)) × (out ≡ o .bytes)
+
 -- the equality verdict: 1 is yes, 0 is no
 unfoldable pub verdictNumber : Verdict → ℤ
 verdictNumber verdict.Yes = pos 1
@@ -46,6 +51,10 @@ pub record Rewriting : Type 0 where
   pub number : ℤ
   pub bytes : List ℕ
   pub rule : List ℕ
+
+-- the number that was answered, and the two outputs afterwards, are those of the definition
+abbrev pub Rewritten : Rewriting → ℤ → List ℕ → List ℕ → Type 0
+Rewritten r z out rule = (z ≡ r .number) × (out ≡ r .bytes) × (rule ≡ r .rule)
 
 unfoldable pub unwritten : ℕ → List ℕ → List ℕ → Rewriting
 unwritten k out rule = record { number = refused k; bytes = out; rule = rule }

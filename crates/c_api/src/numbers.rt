@@ -2,9 +2,21 @@
 use window::Answer;
 ghost use mathlib.Core.Path.{_≡_};
 ghost use Prim.Native.Nat.{ℕ, _≤_};
+ghost use lib.Dec.{ltb};
 ghost use lib.IntN.{pos};
+ghost use Rattle.coxeter.specs.Kinds.{pick};
 ghost use Rattle.coxeter.specs.declared.Answer.the-variants.{Length};
 ghost use Rattle.c_api.specs.Calls.{refused, numberOf};
+
+// A kind or a rank as the calls below take it. What is no byte becomes 0, which is no kind and no rank either.
+pub(crate) fn byte(x: u32) -> u8
+    ensures { λ r. ⌜ r ≡ pick (ltb 255 x) 0 x ⌝ }
+{
+    if 255 < x {
+        return 0;
+    }
+    x as u8
+}
 
 // The number of a refusal.
 pub(crate) fn refusal(k: u8) -> i64

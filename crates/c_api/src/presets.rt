@@ -1,4 +1,5 @@
 // Calls on a preset book.
+use crate::numbers::byte;
 use crate::numbers::number;
 use crate::numbers::refusal;
 use crate::numbers::size;
@@ -6,7 +7,7 @@ use book::Opened;
 use book::Preset;
 ghost use mathlib.Core.Path.{_≡_};
 ghost use Rattle.book_format.specs.Calls.{checkedBook, checkedPreset, appending};
-ghost use Rattle.c_api.specs.Calls.{numberOf, openedNumber, fieldsOf};
+ghost use Rattle.c_api.specs.Calls.{Numbered, numberOf, openedNumber, fieldsOf};
 
 // Opening a book. Answers the number of its presets.
 #[no_mangle]
@@ -23,8 +24,7 @@ pub extern "C" fn winnathey_book_check(book: &[u8]) -> i64
 // of `fields`. Answers 4.
 #[no_mangle]
 pub extern "C" fn winnathey_preset(book: &[u8], number: usize, fields: &mut [u64]) -> i64
-    ensures { λ r. ⌜ (r ≡ numberOf (fieldsOf (checkedPreset (now (book .entry)) number) (now (fields .entry)) .answer))
-        × (now (fields .exit) ≡ fieldsOf (checkedPreset (now (book .entry)) number) (now (fields .entry)) .bytes) ⌝ }
+    ensures { λ r. ⌜ Numbered (fieldsOf (checkedPreset (now (book .entry)) number) (now (fields .entry))) r (now (fields .exit)) ⌝ }
 {
     match book::check_preset(book, number) {
         Preset::Found {
@@ -50,13 +50,12 @@ pub extern "C" fn winnathey_preset(book: &[u8], number: usize, fields: &mut [u64
 #[no_mangle]
 pub extern "C" fn winnathey_append(
     book: &[u8],
-    kind: u8,
-    rank: u8,
+    kind: u32,
+    rank: u32,
     word: &[u8],
     out: &mut [u8],
 ) -> i64
-    ensures { λ r. ⌜ (r ≡ numberOf (appending (now (book .entry)) kind rank (now (word .entry)) (now (out .entry)) .answer))
-        × (now (out .exit) ≡ appending (now (book .entry)) kind rank (now (word .entry)) (now (out .entry)) .bytes) ⌝ }
+    ensures { λ r. ⌜ Numbered (appending (now (book .entry)) kind rank (now (word .entry)) (now (out .entry))) r (now (out .exit)) ⌝ }
 {
-    number(book::append(book, kind, rank, word, out))
+    number(book::append(book, byte(kind), byte(rank), word, out))
 }

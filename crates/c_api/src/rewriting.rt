@@ -1,11 +1,12 @@
 // One rewrite at a named place.
+use crate::numbers::byte;
 use crate::numbers::refusal;
 use crate::numbers::size;
 use rewriter::Rewrite;
 use rewriter::rewrite_at;
 ghost use mathlib.Core.Path.{_≡_};
 ghost use mathlib.Core.List.{[]};
-ghost use Rattle.c_api.specs.Calls.{rewriting};
+ghost use Rattle.c_api.specs.Calls.{rewriting, Rewritten};
 
 // The number where the rule has no room: nothing can be written, so the rewrite gets an empty part of `out`.
 fn refused_rule(kind: u8, rank: u8, word: &[u8], place: usize, out: &mut [u8]) -> i64
@@ -23,20 +24,9 @@ fn refused_rule(kind: u8, rank: u8, word: &[u8], place: usize, out: &mut [u8]) -
     }
 }
 
-// One rewrite of the word at the place, which counts from 0. The new word goes to the front of `out`, and the rule's family, i and j to the first
-// three bytes of `rule`. Answers the new length, or -100 if none fits. Both outputs are checked before either is written.
-#[no_mangle]
-pub extern "C" fn winnathey_rewrite(
-    kind: u8,
-    rank: u8,
-    word: &[u8],
-    place: usize,
-    out: &mut [u8],
-    rule: &mut [u8],
-) -> i64
-    ensures { λ r. ⌜ (r ≡ rewriting kind rank (now (word .entry)) place (now (out .entry)) (now (rule .entry)) .number)
-        × (now (out .exit) ≡ rewriting kind rank (now (word .entry)) place (now (out .entry)) (now (rule .entry)) .bytes)
-        × (now (rule .exit) ≡ rewriting kind rank (now (word .entry)) place (now (out .entry)) (now (rule .entry)) .rule) ⌝ }
+// One rewrite with its rule, of a kind and a rank that are bytes. Both outputs are checked before either is written.
+fn rewrite(kind: u8, rank: u8, word: &[u8], place: usize, out: &mut [u8], rule: &mut [u8]) -> i64
+    ensures { λ r. ⌜ Rewritten (rewriting kind rank (now (word .entry)) place (now (out .entry)) (now (rule .entry))) r (now (out .exit)) (now (rule .exit)) ⌝ }
 {
     if rule.len() < 3 {
         return refused_rule(kind, rank, word, place, out);
@@ -56,4 +46,20 @@ pub extern "C" fn winnathey_rewrite(
         Rewrite::NoneFits => -100,
         Rewrite::Refused(k) => refusal(k),
     }
+}
+
+// One rewrite of the word at the place, which counts from 0. The new word goes to the front of `out`, and the rule's family, i and j to the first
+// three bytes of `rule`. Answers the new length, or -100 if none fits. Refusals 5 to 8, 12, and 14, which concerns both outputs.
+#[no_mangle]
+pub extern "C" fn winnathey_rewrite(
+    kind: u32,
+    rank: u32,
+    word: &[u8],
+    place: usize,
+    out: &mut [u8],
+    rule: &mut [u8],
+) -> i64
+    ensures { λ r. ⌜ Rewritten (rewriting kind rank (now (word .entry)) place (now (out .entry)) (now (rule .entry))) r (now (out .exit)) (now (rule .exit)) ⌝ }
+{
+    rewrite(byte(kind), byte(rank), word, place, out, rule)
 }

@@ -2,9 +2,16 @@
 -- Assumes nothing.
 use mathlib.Core.Path.{sym, _∙_}
 use borrow.Author.Needs.{needs}
-use Rattle.c_api.proofs.Lengths.{answered, appending-small}
+use Rattle.c_api.proofs.Lengths.{appending-small}
+use Rattle.c_api.proofs.Bytes.{appending-refusable, yielded}
 use Rattle.c_api.proofs.presets.winnathey_append.Statement.{statement}
 use Rattle.c_api.proofs.presets.winnathey_append.Tie as tie
+
+byte-requires : tie.Need-byte-requires
+byte-requires c κs = search needs
+
+byte-requires-2 : tie.Need-byte-requires-2
+byte-requires-2 c κs = search needs
 
 append-requires : tie.Need-append-requires
 append-requires c κs = search needs
@@ -17,8 +24,10 @@ same-length c = search needs
 
 returns : tie.Need-returns
 returns c =
-    let below = c .before .before .before .append .ensures in
-    (answered _ _ _ (c .number .ok) (c .number .ensures) (below .0), below .1)
+    let below = c .before .before .before in
+    let rank = below .before .before in
+    let kind = rank .before in
+    yielded (appending-refusable _ _ _) _ _ _ _ _ _ _ (kind .byte .ensures) (rank .byte2 .ensures) (c .number .ok) (c .number .ensures) (below .append .ensures)
 
 pub winnathey-append-spec : {M : Type 1} → statement M
-winnathey-append-spec = tie.close (tie.spec append-requires number-requires same-length returns)
+winnathey-append-spec = tie.close (tie.spec byte-requires byte-requires-2 append-requires number-requires same-length returns)

@@ -1,104 +1,39 @@
--- `rewriting::winnathey_rewrite` writes the rule where it has room for it, and else nothing; it goes by the cases of the answer.
+-- `rewriting::winnathey_rewrite` hands the bytes of kind and rank on.
 -- Assumes nothing.
-use mathlib.Core.Path.{_∙_}
-use native.Mathlib.Omega.{arith}
-use lib.ListN.{length-set}
+use mathlib.Core.Path.{ap, _∙_}
 use borrow.Author.Needs.{needs}
-use Rattle.c_api.specs.Calls.{refused}
-use Rattle.c_api.proofs.Lengths.{i64-back, rewrote-small}
-use Rattle.c_api.proofs.Outcomes.{rewriting-used, rewriting-fitless, rewriting-refused, rewriting-roomless}
+use Rattle.c_api.specs.Calls.{Rewriting}
+use Rattle.c_api.proofs.Lengths.{i64-back}
+use Rattle.c_api.proofs.Bytes.{as-bytes, rewriting-refusable}
 use Rattle.c_api.proofs.rewriting.winnathey_rewrite.Statement.{statement}
 use Rattle.c_api.proofs.rewriting.winnathey_rewrite.Tie as tie
 
-refused-rule-requires : tie.Need-refused-rule-requires
-refused-rule-requires c κs = search needs
+byte-requires : tie.Need-byte-requires
+byte-requires c κs = search needs
+
+byte-requires-2 : tie.Need-byte-requires-2
+byte-requires-2 c κs = search needs
+
+rewrite-requires : tie.Need-rewrite-requires
+rewrite-requires c κs = search needs
 
 same-length : tie.Need-same-length
 same-length c = search needs
 
-returns : tie.Need-returns
-returns c =
-    let r = c .before .before .refused-rule in
-    let t = c .before .before .before .before in
-    let u = rewriting-roomless _ _ _ _ _ _ (t .if1 .taken) in
-    (i64-back _ (r .ok) ∙ r .ensures .0 ∙ u .0, r .ensures .1 ∙ u .1, u .2)
-
-rewrite-at-requires : tie.Need-rewrite-at-requires
-rewrite-at-requires c κs = search needs
-
-enum-known-family : tie.Need-enum-known-family
-enum-known-family c = search needs
-
-slice-write-rule : tie.Need-slice-write-rule
-slice-write-rule c = search needs
-
-slice-write-rule-2 : tie.Need-slice-write-rule-2
-slice-write-rule-2 c = simp length-set (omega arith)
-
-slice-write-rule-3 : tie.Need-slice-write-rule-3
-slice-write-rule-3 c = search needs
-
-size-requires : tie.Need-size-requires
-size-requires c κs = rewrote-small _ _ _ _ _ _ _ (c .before .before .before .before .before .rewrite-at .ensures) _ _ _ _ (c .before .family .given .1)
-
-enum-told : tie.Need-enum-told
-enum-told c = search needs
-
-enum-known-k : tie.Need-enum-known-k
-enum-known-k c = search needs
-
-refusal-requires : tie.Need-refusal-requires
-refusal-requires c κs = search needs
-
 same-length-2 : tie.Need-same-length-2
 same-length-2 c = search needs
 
-same-length-3 : tie.Need-same-length-3
-same-length-3 c = search needs
-
-returns-2 : tie.Need-returns-2
-returns-2 c =
-    let told = c .before .before in
-    let w = told .before .before .before .before in
-    let r = rewriting-used _ _ _ _ _ _ _ _ (w .rewrite-at .ensures) _ _ _ _ (told .family .given .1) (w .before .before .if1 .left) in
-    (i64-back _ (c .size .ok) ∙ c .size .ensures ∙ r .0, r .1, r .2)
-
-same-length-4 : tie.Need-same-length-4
-same-length-4 c = search needs
-
-returns-3 : tie.Need-returns-3
-unfolding refused
-returns-3 c = rewriting-fitless _ _ _ _ _ _ _ _ (c .before .before .before .before .rewrite-at .ensures) (c .enum-told .given .1)
-
-same-length-5 : tie.Need-same-length-5
-same-length-5 c = search needs
-
-returns-4 : tie.Need-returns-4
-returns-4 c =
-    let told = c .before .before in
-    let r = rewriting-refused _ _ _ _ _ _ _ _ (told .before .before .before .before .rewrite-at .ensures) _ (told .k .given .1) in
-    (i64-back _ (c .refusal .ok) ∙ c .refusal .ensures ∙ r .0, r .1, r .2)
+returns : tie.Need-returns
+returns c =
+    let below = c .before .before .before .before in
+    let rank = below .before .before .before in
+    let same = as-bytes (rewriting-refusable _ _ _ _) _ _ _ _ (rank .before .byte .ensures) (rank .byte2 .ensures) in
+    let done = below .rewrite .ensures in (
+      i64-back _ (below .rewrite .ok) ∙ done .0 ∙ ap (λ (r : Rewriting). r .number) same,
+      done .1 ∙ ap (λ (r : Rewriting). r .bytes) same,
+      done .2 ∙ ap (λ (r : Rewriting). r .rule) same,
+    )
 
 pub winnathey-rewrite-spec : {M : Type 1} → statement M
 winnathey-rewrite-spec =
-    tie.close
-    (tie.spec
-    refused-rule-requires
-    same-length
-    returns
-    rewrite-at-requires
-    enum-known-family
-    slice-write-rule
-    slice-write-rule-2
-    slice-write-rule-3
-    size-requires
-    enum-told
-    enum-known-k
-    refusal-requires
-    same-length-2
-    same-length-3
-    returns-2
-    same-length-4
-    returns-3
-    same-length-5
-    returns-4)
+    tie.close (tie.spec byte-requires byte-requires-2 rewrite-requires same-length same-length-2 returns)

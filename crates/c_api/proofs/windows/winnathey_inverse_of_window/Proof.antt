@@ -2,9 +2,16 @@
 -- Assumes nothing.
 use mathlib.Core.Path.{sym, _∙_}
 use borrow.Author.Needs.{needs}
-use Rattle.c_api.proofs.Lengths.{answered, inverseOfWindow-small}
+use Rattle.c_api.proofs.Lengths.{inverseOfWindow-small}
+use Rattle.c_api.proofs.Bytes.{inverseOfWindow-refusable, yielded}
 use Rattle.c_api.proofs.windows.winnathey_inverse_of_window.Statement.{statement}
 use Rattle.c_api.proofs.windows.winnathey_inverse_of_window.Tie as tie
+
+byte-requires : tie.Need-byte-requires
+byte-requires c κs = search needs
+
+byte-requires-2 : tie.Need-byte-requires-2
+byte-requires-2 c κs = search needs
 
 inverse-of-window-requires : tie.Need-inverse-of-window-requires
 inverse-of-window-requires c κs = search needs
@@ -17,8 +24,10 @@ same-length c = search needs
 
 returns : tie.Need-returns
 returns c =
-    let below = c .before .before .inverse-of-window .ensures in
-    (answered _ _ _ (c .number .ok) (c .number .ensures) (below .0), below .1)
+    let below = c .before .before in
+    let rank = below .before .before in
+    let kind = rank .before in
+    yielded (inverseOfWindow-refusable _ _) _ _ _ _ _ _ _ (kind .byte .ensures) (rank .byte2 .ensures) (c .number .ok) (c .number .ensures) (below .inverse-of-window .ensures)
 
 pub winnathey-inverse-of-window-spec : {M : Type 1} → statement M
-winnathey-inverse-of-window-spec = tie.close (tie.spec inverse-of-window-requires number-requires same-length returns)
+winnathey-inverse-of-window-spec = tie.close (tie.spec byte-requires byte-requires-2 inverse-of-window-requires number-requires same-length returns)

@@ -2,9 +2,16 @@
 -- Assumes nothing.
 use mathlib.Core.Path.{sym, _∙_}
 use borrow.Author.Needs.{needs}
-use Rattle.c_api.proofs.Lengths.{answered, lengthOfWindow-small}
+use Rattle.c_api.proofs.Lengths.{lengthOfWindow-small}
+use Rattle.c_api.proofs.Bytes.{lengthOfWindow-refusable, numbered}
 use Rattle.c_api.proofs.windows.winnathey_length_of_window.Statement.{statement}
 use Rattle.c_api.proofs.windows.winnathey_length_of_window.Tie as tie
+
+byte-requires : tie.Need-byte-requires
+byte-requires c κs = search needs
+
+byte-requires-2 : tie.Need-byte-requires-2
+byte-requires-2 c κs = search needs
 
 length-of-window-requires : tie.Need-length-of-window-requires
 length-of-window-requires c κs = search needs
@@ -13,7 +20,11 @@ number-requires : tie.Need-number-requires
 number-requires c κs l e = lengthOfWindow-small _ _ _ l (sym (c .length-of-window .ensures) ∙ e)
 
 returns : tie.Need-returns
-returns c = answered _ _ _ (c .number .ok) (c .number .ensures) (c .before .length-of-window .ensures)
+returns c =
+    let below = c .before in
+    let rank = below .before in
+    let kind = rank .before in
+    numbered (lengthOfWindow-refusable _) _ _ _ _ _ _ (kind .byte .ensures) (rank .byte2 .ensures) (c .number .ok) (c .number .ensures) (below .length-of-window .ensures)
 
 pub winnathey-length-of-window-spec : {M : Type 1} → statement M
-winnathey-length-of-window-spec = tie.close (tie.spec length-of-window-requires number-requires returns)
+winnathey-length-of-window-spec = tie.close (tie.spec byte-requires byte-requires-2 length-of-window-requires number-requires returns)

@@ -2,9 +2,16 @@
 -- Assumes nothing.
 use mathlib.Core.Path.{sym, _∙_}
 use borrow.Author.Needs.{needs}
-use Rattle.c_api.proofs.Lengths.{answered, normalFormOfWindow-small}
+use Rattle.c_api.proofs.Lengths.{normalFormOfWindow-small}
+use Rattle.c_api.proofs.Bytes.{normalFormOfWindow-refusable, yielded}
 use Rattle.c_api.proofs.windows.winnathey_normal_form_of_window.Statement.{statement}
 use Rattle.c_api.proofs.windows.winnathey_normal_form_of_window.Tie as tie
+
+byte-requires : tie.Need-byte-requires
+byte-requires c κs = search needs
+
+byte-requires-2 : tie.Need-byte-requires-2
+byte-requires-2 c κs = search needs
 
 normal-form-of-window-requires : tie.Need-normal-form-of-window-requires
 normal-form-of-window-requires c κs = search needs
@@ -17,8 +24,10 @@ same-length c = search needs
 
 returns : tie.Need-returns
 returns c =
-    let below = c .before .before .before .normal-form-of-window .ensures in
-    (answered _ _ _ (c .number .ok) (c .number .ensures) (below .0), below .1)
+    let below = c .before .before .before in
+    let rank = below .before .before in
+    let kind = rank .before in
+    yielded (normalFormOfWindow-refusable _ _) _ _ _ _ _ _ _ (kind .byte .ensures) (rank .byte2 .ensures) (c .number .ok) (c .number .ensures) (below .normal-form-of-window .ensures)
 
 pub winnathey-normal-form-of-window-spec : {M : Type 1} → statement M
-winnathey-normal-form-of-window-spec = tie.close (tie.spec normal-form-of-window-requires number-requires same-length returns)
+winnathey-normal-form-of-window-spec = tie.close (tie.spec byte-requires byte-requires-2 normal-form-of-window-requires number-requires same-length returns)

@@ -2,9 +2,16 @@
 -- Assumes nothing.
 use mathlib.Core.Path.{sym, _∙_}
 use borrow.Author.Needs.{needs}
-use Rattle.c_api.proofs.Lengths.{answered, productOfWindows-small}
+use Rattle.c_api.proofs.Lengths.{productOfWindows-small}
+use Rattle.c_api.proofs.Bytes.{productOfWindows-refusable, yielded}
 use Rattle.c_api.proofs.windows.winnathey_product_of_windows.Statement.{statement}
 use Rattle.c_api.proofs.windows.winnathey_product_of_windows.Tie as tie
+
+byte-requires : tie.Need-byte-requires
+byte-requires c κs = search needs
+
+byte-requires-2 : tie.Need-byte-requires-2
+byte-requires-2 c κs = search needs
 
 product-of-windows-requires : tie.Need-product-of-windows-requires
 product-of-windows-requires c κs = search needs
@@ -17,8 +24,10 @@ same-length c = search needs
 
 returns : tie.Need-returns
 returns c =
-    let below = c .before .before .product-of-windows .ensures in
-    (answered _ _ _ (c .number .ok) (c .number .ensures) (below .0), below .1)
+    let below = c .before .before in
+    let rank = below .before .before in
+    let kind = rank .before in
+    yielded (productOfWindows-refusable _ _ _) _ _ _ _ _ _ _ (kind .byte .ensures) (rank .byte2 .ensures) (c .number .ok) (c .number .ensures) (below .product-of-windows .ensures)
 
 pub winnathey-product-of-windows-spec : {M : Type 1} → statement M
-winnathey-product-of-windows-spec = tie.close (tie.spec product-of-windows-requires number-requires same-length returns)
+winnathey-product-of-windows-spec = tie.close (tie.spec byte-requires byte-requires-2 product-of-windows-requires number-requires same-length returns)

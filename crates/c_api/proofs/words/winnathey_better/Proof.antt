@@ -1,9 +1,20 @@
 -- `words::winnathey_better` goes by the cases of the choice.
 -- Assumes nothing.
+use mathlib.Core.Path.{_≡_, _∙_}
+use denote.Ref.{now}
 use borrow.Author.Needs.{needs}
+use Rattle.coxeter.specs.Dictionary.{shortlex}
+use Rattle.coxeter.specs.Calls.{handsBack, choice}
 use Rattle.c_api.specs.Calls.{choiceNumber}
+use Rattle.c_api.proofs.Bytes.{choice-as-bytes}
 use Rattle.c_api.proofs.words.winnathey_better.Statement.{statement}
 use Rattle.c_api.proofs.words.winnathey_better.Tie as tie
+
+byte-requires : tie.Need-byte-requires
+byte-requires c κs = search needs
+
+byte-requires-2 : tie.Need-byte-requires-2
+byte-requires-2 c κs = search needs
 
 which-better-requires : tie.Need-which-better-requires
 which-better-requires c κs = search needs
@@ -17,18 +28,36 @@ enum-told-2 c = search needs
 enum-told-3 : tie.Need-enum-told-3
 enum-told-3 c = search needs
 
+-- the choice by the bytes is that by the numbers
+below : (w : tie.After-which-better)
+    → let a = w .before .before .before .before .before .args in
+    w .which-better .result ≡ choice (handsBack (a .kind) (a .rank) (now (a .first)) (now (a .second))) (shortlex (now (a .second)) (now (a .first)))
+below w =
+    let rank = w .before in
+    w .which-better .ensures ∙ choice-as-bytes _ _ _ _ _ _ _ (rank .before .byte .ensures) (rank .byte2 .ensures)
+
 returns : tie.Need-returns
 unfolding choiceNumber
-returns c = rw (← c .before .before .which-better .ensures, c .enum-told .given .1)
+returns c = rw (← below (c .before .before), c .enum-told .given .1)
 
 returns-2 : tie.Need-returns-2
 unfolding choiceNumber
-returns-2 c = rw (← c .before .before .which-better .ensures, c .enum-told2 .given .1)
+returns-2 c = rw (← below (c .before .before), c .enum-told2 .given .1)
 
 returns-3 : tie.Need-returns-3
 unfolding choiceNumber
-returns-3 c = rw (← c .before .before .which-better .ensures, c .enum-told3 .given .1)
+returns-3 c = rw (← below (c .before .before), c .enum-told3 .given .1)
 
 pub winnathey-better-spec : {M : Type 1} → statement M
 winnathey-better-spec =
-    tie.close (tie.spec which-better-requires enum-told enum-told-2 enum-told-3 returns returns-2 returns-3)
+    tie.close
+    (tie.spec
+    byte-requires
+    byte-requires-2
+    which-better-requires
+    enum-told
+    enum-told-2
+    enum-told-3
+    returns
+    returns-2
+    returns-3)

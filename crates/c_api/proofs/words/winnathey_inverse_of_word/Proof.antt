@@ -2,9 +2,16 @@
 -- Assumes nothing.
 use mathlib.Core.Path.{sym, _∙_}
 use borrow.Author.Needs.{needs}
-use Rattle.c_api.proofs.Lengths.{answered, inverseOfWord-small}
+use Rattle.c_api.proofs.Lengths.{inverseOfWord-small}
+use Rattle.c_api.proofs.Bytes.{inverseOfWord-refusable, yielded}
 use Rattle.c_api.proofs.words.winnathey_inverse_of_word.Statement.{statement}
 use Rattle.c_api.proofs.words.winnathey_inverse_of_word.Tie as tie
+
+byte-requires : tie.Need-byte-requires
+byte-requires c κs = search needs
+
+byte-requires-2 : tie.Need-byte-requires-2
+byte-requires-2 c κs = search needs
 
 inverse-of-word-requires : tie.Need-inverse-of-word-requires
 inverse-of-word-requires c κs = search needs
@@ -17,8 +24,10 @@ same-length c = search needs
 
 returns : tie.Need-returns
 returns c =
-    let below = c .before .before .before .inverse-of-word .ensures in
-    (answered _ _ _ (c .number .ok) (c .number .ensures) (below .0), below .1)
+    let below = c .before .before .before in
+    let rank = below .before .before in
+    let kind = rank .before in
+    yielded (inverseOfWord-refusable _ _) _ _ _ _ _ _ _ (kind .byte .ensures) (rank .byte2 .ensures) (c .number .ok) (c .number .ensures) (below .inverse-of-word .ensures)
 
 pub winnathey-inverse-of-word-spec : {M : Type 1} → statement M
-winnathey-inverse-of-word-spec = tie.close (tie.spec inverse-of-word-requires number-requires same-length returns)
+winnathey-inverse-of-word-spec = tie.close (tie.spec byte-requires byte-requires-2 inverse-of-word-requires number-requires same-length returns)

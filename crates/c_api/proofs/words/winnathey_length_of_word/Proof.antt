@@ -2,9 +2,16 @@
 -- Assumes nothing.
 use mathlib.Core.Path.{sym, _∙_}
 use borrow.Author.Needs.{needs}
-use Rattle.c_api.proofs.Lengths.{answered, lengthOfWord-small}
+use Rattle.c_api.proofs.Lengths.{lengthOfWord-small}
+use Rattle.c_api.proofs.Bytes.{lengthOfWord-refusable, numbered}
 use Rattle.c_api.proofs.words.winnathey_length_of_word.Statement.{statement}
 use Rattle.c_api.proofs.words.winnathey_length_of_word.Tie as tie
+
+byte-requires : tie.Need-byte-requires
+byte-requires c κs = search needs
+
+byte-requires-2 : tie.Need-byte-requires-2
+byte-requires-2 c κs = search needs
 
 length-of-word-requires : tie.Need-length-of-word-requires
 length-of-word-requires c κs = search needs
@@ -13,7 +20,11 @@ number-requires : tie.Need-number-requires
 number-requires c κs l e = lengthOfWord-small _ _ _ l (sym (c .length-of-word .ensures) ∙ e)
 
 returns : tie.Need-returns
-returns c = answered _ _ _ (c .number .ok) (c .number .ensures) (c .before .length-of-word .ensures)
+returns c =
+    let below = c .before in
+    let rank = below .before in
+    let kind = rank .before in
+    numbered (lengthOfWord-refusable _) _ _ _ _ _ _ (kind .byte .ensures) (rank .byte2 .ensures) (c .number .ok) (c .number .ensures) (below .length-of-word .ensures)
 
 pub winnathey-length-of-word-spec : {M : Type 1} → statement M
-winnathey-length-of-word-spec = tie.close (tie.spec length-of-word-requires number-requires returns)
+winnathey-length-of-word-spec = tie.close (tie.spec byte-requires byte-requires-2 length-of-word-requires number-requires returns)

@@ -1,11 +1,26 @@
 -- `words::winnathey_same` goes by the cases of the verdict.
 -- Assumes nothing.
-use mathlib.Core.Path.{_∙_}
+use mathlib.Core.Path.{_≡_, _∙_}
+use denote.Ref.{now}
 use borrow.Author.Needs.{needs}
+use Rattle.coxeter.specs.Calls.{presetsEqual}
 use Rattle.c_api.specs.Calls.{verdictNumber}
 use Rattle.c_api.proofs.Lengths.{i64-back}
+use Rattle.c_api.proofs.Bytes.{verdict-as-bytes}
 use Rattle.c_api.proofs.words.winnathey_same.Statement.{statement}
 use Rattle.c_api.proofs.words.winnathey_same.Tie as tie
+
+byte-requires : tie.Need-byte-requires
+byte-requires c κs = search needs
+
+byte-requires-2 : tie.Need-byte-requires-2
+byte-requires-2 c κs = search needs
+
+byte-requires-3 : tie.Need-byte-requires-3
+byte-requires-3 c κs = search needs
+
+byte-requires-4 : tie.Need-byte-requires-4
+byte-requires-4 c κs = search needs
 
 presets-equal-requires : tie.Need-presets-equal-requires
 presets-equal-requires c κs = search needs
@@ -22,24 +37,39 @@ enum-known-k c = search needs
 refusal-requires : tie.Need-refusal-requires
 refusal-requires c κs = search needs
 
+-- the verdict on the bytes is that on the numbers
+below : (w : tie.After-presets-equal)
+    → let a = w .before .before .before .before .before .before .before .args in
+    w .presets-equal .result ≡ presetsEqual (a .kind1) (a .rank1) (now (a .word1)) (a .kind2) (a .rank2) (now (a .word2))
+below w =
+    let four = w .before in
+    let three = four .before in
+    let two = three .before in
+    w .presets-equal .ensures
+    ∙ verdict-as-bytes _ _ _ _ _ _ _ _ _ _ (two .before .byte .ensures) (two .byte2 .ensures) (three .byte3 .ensures) (four .byte4 .ensures)
+
 returns : tie.Need-returns
 unfolding verdictNumber
-returns c = rw (← c .before .before .presets-equal .ensures, c .enum-told .given .1)
+returns c = rw (← below (c .before .before), c .enum-told .given .1)
 
 returns-2 : tie.Need-returns-2
 unfolding verdictNumber
-returns-2 c = rw (← c .before .before .presets-equal .ensures, c .enum-told2 .given .1)
+returns-2 c = rw (← below (c .before .before), c .enum-told2 .given .1)
 
 returns-3 : tie.Need-returns-3
 unfolding verdictNumber
 returns-3 c =
     let told = c .before .before in
-    rw (← told .before .before .presets-equal .ensures, told .k .given .1) (i64-back _ (c .refusal .ok) ∙ c .refusal .ensures)
+    rw (← below (told .before .before), told .k .given .1) (i64-back _ (c .refusal .ok) ∙ c .refusal .ensures)
 
 pub winnathey-same-spec : {M : Type 1} → statement M
 winnathey-same-spec =
     tie.close
     (tie.spec
+    byte-requires
+    byte-requires-2
+    byte-requires-3
+    byte-requires-4
     presets-equal-requires
     enum-told
     enum-told-2
