@@ -15,10 +15,10 @@ use Rattle.coxeter.proofs.Inverses.{window-reverse}
 use Rattle.coxeter.proofs.Indices.{indices, indices-in-range}
 use Rattle.coxeter.proofs.NormalForms.{normalForm-is-blocks, normalForm-blocks, normalForm-injective}
 use Rattle.coxeter.proofs.Lengths.{blockLength, length-block, length-normalForm}
-use Rattle.coxeter.proofs.GreatestLengths.{greatestLength, greatestIndices, indices-greatest, windowLength-of-greatest}
+use Rattle.coxeter.proofs.GreatestLengths.{greatestIndices, indices-greatest, windowLength-of-greatest}
 use Rattle.coxeter.specs.Kinds.{Kind, kindOf, least}
 use Rattle.coxeter.specs.Windows.{window, product, inverse}
-use Rattle.coxeter.specs.Length.{windowLength}
+use Rattle.coxeter.specs.Length.{windowLength, greatestLength}
 use Rattle.coxeter.specs.Checks.{rankRefusal, wordRefusal, windowRefusal}
 use Rattle.coxeter.specs.NormalForm.{block, blocks, Indices, none, level, levels, normalForm, wordNormalForm}
 use Rattle.coxeter.specs.Calls.{answerOf, lengthOfWindow, lengthOfWord}

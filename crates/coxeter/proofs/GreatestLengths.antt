@@ -12,16 +12,11 @@ use lib.Dec.{ltb}
 use lib.IntN.{ℤ, natAbs}
 use lib.ListN.{length, length-append}
 use Rattle.coxeter.specs.Kinds.{Kind, A, B, D, pick, least, up}
-use Rattle.coxeter.specs.Length.{negative, one, negatives, windowLength}
+use Rattle.coxeter.specs.Length.{negative, one, negatives, windowLength, greatestLength}
 use Rattle.coxeter.specs.NormalForm.{block, levels, lastIndex, blocks, Indices, none, level, normalForm}
 use Rattle.coxeter.proofs.Levels.{Accepted}
 use Rattle.coxeter.proofs.PairWeights.{weight, weights, pairWeights, signWeight, length-by-weights, negatives-le, pairWeights-add-length-le}
 use Rattle.coxeter.proofs.Lengths.{length-block, length-normalForm}
-
-abbrev pub greatestLength : Kind → ℕ → ℕ
-greatestLength A n = n * (n + 1) / 2
-greatestLength B n = n * n
-greatestLength D n = n * (n - 1)
 
 -- ---- no window is longer
 

@@ -28,3 +28,4 @@ pub mod FormLaws
 pub mod Outcomes
 pub mod Unchanged
 pub mod Vectors
+pub mod Theorems

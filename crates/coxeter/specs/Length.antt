@@ -1,7 +1,7 @@
 -- The length of a window (document 01, "Length"): three sums, kept apart. A pair of the first sum is an inversion, one of the second a negative sum pair.
 use mathlib.Core.Bool.{Bool, true, false}
 use mathlib.Core.List.{List, [], _∷_, map}
-use Prim.Native.Nat.{ℕ, _+_}
+use Prim.Native.Nat.{ℕ, _+_, _-_, _*_, _/_}
 use lib.Dec.{ltb}
 use lib.IntN.{ℤ, pos, negsuc, negℤ}
 use Rattle.coxeter.specs.Kinds.{Kind, A, B, D, pick}
@@ -46,3 +46,9 @@ unfoldable pub windowLength : Kind → List ℤ → ℕ
 windowLength A w = inversions w
 windowLength B w = inversions w + negativeSumPairs w + negatives w
 windowLength D w = inversions w + negativeSumPairs w
+
+-- "The greatest lengths are n(n + 1)/2 for A, n × n for B, n(n − 1) for D."
+abbrev pub greatestLength : Kind → ℕ → ℕ
+greatestLength A n = n * (n + 1) / 2
+greatestLength B n = n * n
+greatestLength D n = n * (n - 1)

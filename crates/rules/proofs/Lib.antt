@@ -17,3 +17,4 @@ pub mod Demand3
 pub mod Scan
 pub mod ScanFamilies
 pub mod ScanRules
+pub mod Theorems

@@ -1,0 +1,112 @@
+-- What the certificate cites of windows and normal forms, over the definitions of specs/ alone. Each is a corollary of a law of the files before;
+-- `windowRefusal k n w ≡ 0` says that w passes checks 9 to 11. The ranks need no upper end, and words may have any length.
+--
+-- Sections: windows; inverses; normal forms; lengths; blocks; the better word.
+-- Assumes nothing.
+use mathlib.Core.Path.{_≡_, refl, sym, ap, _∙_}
+use mathlib.Core.Bool.{Bool, true, false}
+use mathlib.Core.Logic.{_↔_}
+use mathlib.Core.List.{List, []}
+use denote.Ref.{RefT, now}
+use Prim.Native.Nat.{ℕ, _≤_}
+use native.Mathlib.Omega.{arith}
+use lib.IntN.{ℤ}
+use lib.ListN.{length}
+use Rattle.coxeter.specs.Kinds.{Kind, pick, lanes, least}
+use Rattle.coxeter.specs.Windows.{act, straight, window, product, inverse}
+use Rattle.coxeter.specs.Length.{windowLength, greatestLength}
+use Rattle.coxeter.specs.Checks.{wrongLetter, windowRefusal}
+use Rattle.coxeter.specs.NormalForm.{levels, blocks, Indices, normalForm, wordNormalForm}
+use Rattle.coxeter.specs.Calls.{Better}
+use Rattle.coxeter.proofs.Levels.{Accepted, accepted-of-refusal, refusal-of-accepted, act-accepted, window-accepted}
+use Rattle.coxeter.proofs.Products.{product-straight, straight-product}
+use Rattle.coxeter.proofs.Inverses as inverses
+use Rattle.coxeter.proofs.Indices.{indices, indices-in-range, indices-window}
+use Rattle.coxeter.proofs.NormalForms as forms
+use Rattle.coxeter.proofs.Lengths as lengths
+use Rattle.coxeter.proofs.GreatestLengths as greatest
+use Rattle.coxeter.proofs.FormLaws as laws
+
+-- ---- windows
+
+-- a word's window passes checks 9 to 11, and a step keeps them
+pub window-passes : (k : Kind) (n : ℕ) (u : List ℕ) → windowRefusal k n (window k n u) ≡ 0
+window-passes k n u = refusal-of-accepted k n (window k n u) (window-accepted k n u)
+
+pub act-passes : (k : Kind) (n s : ℕ) (w : List ℤ) → windowRefusal k n w ≡ 0 → windowRefusal k n (act k n s w) ≡ 0
+act-passes k n s w h = refusal-of-accepted k n (act k n s w) (act-accepted k n s w (accepted-of-refusal k n w h))
+
+module _ (k : Kind) (n : ℕ) (w : List ℤ) (h : windowRefusal k n w ≡ 0) where
+  passed : Accepted k n w
+  passed = accepted-of-refusal k n w h
+
+  pub product-unit : product w (straight (lanes k n)) ≡ w
+  product-unit = ap (λ (m : ℕ). product w (straight m)) (sym (passed .size)) ∙ product-straight w
+
+  pub unit-product : product (straight (lanes k n)) w ≡ w
+  unit-product = straight-product (lanes k n) w (inverses.accepted-between k n w passed)
+
+  -- ---- inverses
+
+  pub product-inverse : product w (inverse w) ≡ straight (lanes k n)
+  product-inverse = inverses.product-inverse k n w passed
+
+  pub inverse-product : product (inverse w) w ≡ straight (lanes k n)
+  inverse-product = inverses.inverse-product k n w passed
+
+  pub inverse-inverse : inverse (inverse w) ≡ w
+  inverse-inverse = inverses.inverse-inverse k n w passed
+
+  pub inverse-passes : windowRefusal k n (inverse w) ≡ 0
+  inverse-passes = refusal-of-accepted k n (inverse w) (inverses.inverse-accepted k n w passed)
+
+  -- ---- normal forms
+
+  -- "the window of the normal form is the window asked for"
+  pub window-normalForm : window k n (normalForm k n w) ≡ w
+  window-normalForm = forms.window-normalForm k n w passed
+
+  pub normalForm-letters : wrongLetter n (normalForm k n w) ≡ false
+  normalForm-letters = forms.normalForm-letters k n w passed
+
+  -- ---- lengths
+
+  -- "The sum is the length of the normal form."
+  pub length-normalForm : length (normalForm k n w) ≡ windowLength k w
+  length-normalForm = lengths.length-normalForm k n w passed
+
+  -- "The greatest lengths": no window is longer
+  pub windowLength-le : windowLength k w ≤ greatestLength k n
+  windowLength-le = greatest.windowLength-le k n w passed
+
+  -- ---- blocks
+
+  -- "Normal forms are exactly the words made of blocks": each is one
+  pub normalForm-is-blocks : (js : List ℕ) × (Indices k n 1 js × (normalForm k n w ≡ blocks k n 1 js))
+  normalForm-is-blocks = (indices k n (levels k n) 1 w, (indices-in-range k n w passed, forms.normalForm-is-blocks k n w))
+
+-- two windows with one normal form are the same
+pub normalForm-eq-iff : (k : Kind) (n : ℕ) (v w : List ℤ) → windowRefusal k n v ≡ 0 → windowRefusal k n w ≡ 0 → (normalForm k n v ≡ normalForm k n w) ↔ (v ≡ w)
+normalForm-eq-iff k n v w h g = laws.normalForm-eq-iff k n v w (accepted-of-refusal k n v h) (accepted-of-refusal k n w g)
+
+-- the greatest length is reached
+pub greatest-reached : (k : Kind) (n : ℕ) → least k ≤ n → (w : List ℤ) × ((windowRefusal k n w ≡ 0) × (windowLength k w ≡ greatestLength k n))
+greatest-reached k n h = (window k n (blocks k n 1 (greatest.greatestIndices k n)), (window-passes k n _, laws.greatest-reached k n h))
+
+-- and each word made of blocks is the normal form of its window; two lists of js make two words
+pub blocks-normalForm : (k : Kind) (n : ℕ) (js : List ℕ) → Indices k n 1 js → wordNormalForm k n (blocks k n 1 js) ≡ blocks k n 1 js
+blocks-normalForm k n js h = forms.normalForm-blocks k n js h
+
+pub blocks-injective : (k : Kind) (n : ℕ) (is js : List ℕ) → Indices k n 1 is → Indices k n 1 js → blocks k n 1 is ≡ blocks k n 1 js → is ≡ js
+blocks-injective k n is js h g e =
+    sym (indices-window k n is h) ∙ ap (λ (u : List ℕ). indices k n (levels k n) 1 (window k n u)) e ∙ indices-window k n js g
+
+-- ---- the better word
+
+-- "hands back the shorter of the two lent words, whole": the lent slice itself, not an equal copy
+pub better-whole : (second : Bool) (u v r : RefT (List ℕ)) → Better true second u v r → r ≡ pick second v u
+better-whole second u v r b = b .whole refl
+
+-- "a part of length 0 of the first word"
+pub better-empty : (second : Bool) (u v r : RefT (List ℕ)) → Better false second u v r → (now r ≡ []) × (r .ptr ≡ u .ptr)
+better-empty second u v r b = b .empty refl
