@@ -2,3 +2,4 @@
 pub mod Lengths
 pub mod Bytes
 pub mod Outcomes
+pub mod Vectors

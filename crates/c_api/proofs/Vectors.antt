@@ -1,0 +1,70 @@
+-- Numbers that the calls for C answer, and what they leave in their outputs, computed from the definitions at some inputs: a refusal is negative, a
+-- length, a verdict and a choice are told apart, a rule of fewer than three bytes keeps both outputs.
+-- Assumes nothing.
+use mathlib.Core.Path.{refl}
+use mathlib.Core.List.{List, [], _∷_}
+use Prim.Native.Nat.{ℕ}
+use lib.IntN.{ℤ, pos, negsuc}
+use Rattle.coxeter.specs.declared.Answer.the-variants as answer
+use Rattle.coxeter.specs.declared.Verdict.the-variants as verdict
+use Rattle.coxeter.specs.declared.Choice.the-variants as choices
+use Rattle.coxeter.specs.Kinds.{up, kindOf}
+use Rattle.coxeter.specs.Checks.{wrongKind, wrongRank, tooLong, wrongLetter, tooShort, rankRefusal, wordRefusal}
+use Rattle.coxeter.specs.NormalForm.{down, rise, fall, block}
+use Rattle.coxeter.specs.Calls.{Outcome, answerOf, written, writes}
+use Rattle.coxeter.proofs.Vectors.{Agree}
+use Rattle.rules.specs.Rules.{each, family1, family2, family3, family4, families5to7, rules, begins, fits, firstFitting, rewritten}
+use Rattle.rules.specs.Calls.{pastEnd, refusedStep, usedStep, stepBy, step}
+use Rattle.book_format.specs.declared.Opened.the-variants as opened
+use Rattle.book_format.specs.declared.Preset.the-variants as preset
+use Rattle.c_api.specs.Calls.{refused, numberOf, verdictNumber, choiceNumber, openedNumber, Rewriting, unwritten, rewritingBy, rewriting, fieldsOf}
+
+-- the numbers, each beside what it is
+pub numbers : List (ℤ × ℤ)
+numbers =
+    (numberOf (answer.Length 4), pos 4)
+    ∷ (numberOf (answer.Length 0), pos 0)
+    ∷ (numberOf (answer.Refused 14), negsuc 13)
+    ∷ (verdictNumber verdict.Yes, pos 1)
+    ∷ (verdictNumber verdict.No, pos 0)
+    ∷ (verdictNumber (verdict.Refused 5), negsuc 4)
+    ∷ (choiceNumber choices.First, pos 1)
+    ∷ (choiceNumber choices.Second, pos 2)
+    ∷ (choiceNumber choices.Neither, pos 0)
+    ∷ (openedNumber (opened.Presets 2), pos 2)
+    ∷ (openedNumber (opened.Refused 3), negsuc 2)
+    ∷ []
+
+pub numbers-agree : Agree numbers
+unfolding numbers refused numberOf verdictNumber choiceNumber openedNumber
+numbers-agree = refl
+
+-- one rewrite: D4's 3 4, B4's 3 4, which no rule fits, and D4's again with too short a rule, too short an output, and a place past the end
+pub rewritings : List (Rewriting × Rewriting)
+rewritings =
+    (rewriting 3 4 (3 ∷ 4 ∷ []) 0 (9 ∷ 9 ∷ 9 ∷ []) (8 ∷ 8 ∷ 8 ∷ 8 ∷ []), record { number = pos 2; bytes = 4 ∷ 3 ∷ 9 ∷ []; rule = 2 ∷ 3 ∷ 4 ∷ 8 ∷ [] })
+    ∷ (rewriting 2 4 (3 ∷ 4 ∷ []) 0 (9 ∷ 9 ∷ []) (8 ∷ []), record { number = negsuc 99; bytes = 9 ∷ 9 ∷ []; rule = 8 ∷ [] })
+    ∷ (rewriting 3 4 (3 ∷ 4 ∷ []) 0 (9 ∷ 9 ∷ []) (8 ∷ 8 ∷ []), record { number = negsuc 13; bytes = 9 ∷ 9 ∷ []; rule = 8 ∷ 8 ∷ [] })
+    ∷ (rewriting 3 4 (3 ∷ 4 ∷ []) 0 (9 ∷ []) (8 ∷ 8 ∷ 8 ∷ []), record { number = negsuc 13; bytes = 9 ∷ []; rule = 8 ∷ 8 ∷ 8 ∷ [] })
+    ∷ (rewriting 3 4 (3 ∷ 4 ∷ []) 2 (9 ∷ 9 ∷ []) (8 ∷ 8 ∷ 8 ∷ []), record { number = negsuc 11; bytes = 9 ∷ 9 ∷ []; rule = 8 ∷ 8 ∷ 8 ∷ [] })
+    ∷ (rewriting 257 4 (3 ∷ 4 ∷ []) 0 (9 ∷ 9 ∷ []) (8 ∷ 8 ∷ 8 ∷ []), record { number = negsuc 4; bytes = 9 ∷ 9 ∷ []; rule = 8 ∷ 8 ∷ 8 ∷ [] })
+    ∷ (rewriting 3 260 (3 ∷ 4 ∷ []) 0 (9 ∷ 9 ∷ []) (8 ∷ 8 ∷ 8 ∷ []), record { number = negsuc 5; bytes = 9 ∷ 9 ∷ []; rule = 8 ∷ 8 ∷ 8 ∷ [] })
+    ∷ []
+
+pub rewritings-agree : Agree rewritings
+unfolding rewritings refused unwritten rewritingBy rewriting
+    kindOf wrongKind wrongRank tooLong wrongLetter tooShort rankRefusal wordRefusal up down rise fall block
+    each family1 family2 family3 family4 families5to7 rules begins fits firstFitting rewritten pastEnd refusedStep usedStep stepBy step
+rewritings-agree = refl
+
+-- the fields of a preset
+pub fields : List (Outcome ℕ × Outcome ℕ)
+fields =
+    (fieldsOf (preset.Found 2 3 4 5) (9 ∷ 9 ∷ 9 ∷ 9 ∷ 9 ∷ []), record { answer = answer.Length 4; bytes = 2 ∷ 3 ∷ 4 ∷ 5 ∷ 9 ∷ [] })
+    ∷ (fieldsOf (preset.Found 2 3 4 5) (9 ∷ 9 ∷ 9 ∷ []), record { answer = answer.Refused 14; bytes = 9 ∷ 9 ∷ 9 ∷ [] })
+    ∷ (fieldsOf (preset.Refused 8) (9 ∷ 9 ∷ 9 ∷ 9 ∷ []), record { answer = answer.Refused 8; bytes = 9 ∷ 9 ∷ 9 ∷ 9 ∷ [] })
+    ∷ []
+
+pub fields-agree : Agree fields
+unfolding fields fieldsOf answerOf written writes tooShort
+fields-agree = refl
