@@ -1,23 +1,24 @@
 /*
  * Presets as words in the Coxeter groups of kind A, B and D: windows, normal forms, products, lengths, single rewrites, preset books.
  *
- * Link with libc_api.a. Every function answers for every input. Each is proved: its answer and each byte of its outputs are what the definitions of
- * crates/c_api/specs make of the input.
+ * Link with libc_api.a, which is for x86-64 Linux. Every function answers for every input. Each is proved: its answer and each byte of its outputs
+ * are what the definitions of crates/c_api/specs make of the input.
  *
  * Arguments
- *   kind      1 is A, 2 is B, 3 is D.
- *   rank      A: 1 to 31, B: 2 to 32, D: 4 to 32.
+ *   kind      1 is A, 2 is B, 3 is D. Any other number of 32 bits is refused 5.
+ *   rank      A: 1 to 31, B: 2 to 32, D: 4 to 32. Any other number of 32 bits is refused 6.
  *   word      0 to 4,096 bytes, each a step from 1 to the rank.
  *   window    rank + 1 signed bytes in kind A, rank signed bytes in kinds B and D.
- *   book      the bytes of a preset book, at most 65,535.
+ *   book      the bytes of a preset book, at most 65,535. c is the count of presets at its end.
  *
  * Answers: 0 or more is the answer; -k is refusal k, of the first check that fails in the order below. A refused call writes nothing. An
  * accepted call that writes puts its answer at the front of the output, answers the length written, and leaves the rest of the output as it was.
  *
  *    1  The book has fewer than 2 or more than 65,535 bytes.
- *    2  Two times the count, plus 2, exceeds the book's length.
- *    3  An offset is not where the record before it ends, a record runs into the trailer, or the last record does not end at the trailer.
- *    4  The preset number is the count or more.
+ *    2  Two times c, plus 2, exceeds the book's length.
+ *    3  An offset is not where the record before it ends (0 for the first), a record runs into the trailer, or the last record does not end at the
+ *       trailer (with c = 0, the trailer is not at byte 0).
+ *    4  The preset number is c or more.
  *    5  The kind is not 1, 2 or 3.
  *    6  The rank is outside its kind's range.
  *    7  The word has more than 4,096 letters.
@@ -28,9 +29,8 @@
  *   12  The place is the word's length or more.
  *   13  The appended book would exceed 65,535 bytes.
  *   14  An output is shorter than the part of the answer that goes there.
- *  100  winnathey_rewrite only: no rule fits at the place. Nothing is written.
  *
- * Of two presets, words or windows the first is checked before the second.
+ * Of two presets, words or windows the first is checked before the second. winnathey_rewrite also answers WINNATHEY_NONE_FITS, with nothing written.
  *
  * Pointers: each pointer is followed by the number of elements that it points to, all of which the caller lends for the time of the call: nobody else
  * writes them meanwhile. An output overlaps no input and no other output; inputs may overlap. With a length of 0 the pointer is not used and need not
@@ -48,55 +48,55 @@
 extern "C" {
 #endif
 
-/* The answer of winnathey_rewrite where no rule fits. */
+/* The answer of winnathey_rewrite where no rule fits at the place. */
 #define WINNATHEY_NONE_FITS (-100)
 
 /* ---- words */
 
 /* The window of a word. Answers the number of its entries. */
-int64_t winnathey_window_of_word(uint8_t kind, uint8_t rank, const uint8_t *word, size_t word_len, int8_t *out, size_t out_len);
+int64_t winnathey_window_of_word(uint32_t kind, uint32_t rank, const uint8_t *word, size_t word_len, int8_t *out, size_t out_len);
 
 /* The normal form of a word: the shortest word with its window, and among those the first in the dictionary. Answers its length. */
-int64_t winnathey_normal_form_of_word(uint8_t kind, uint8_t rank, const uint8_t *word, size_t word_len, uint8_t *out, size_t out_len);
+int64_t winnathey_normal_form_of_word(uint32_t kind, uint32_t rank, const uint8_t *word, size_t word_len, uint8_t *out, size_t out_len);
 
 /* The product of two words, the first followed by the second, as a normal form. Answers its length. */
-int64_t winnathey_product_of_words(uint8_t kind, uint8_t rank, const uint8_t *first, size_t first_len, const uint8_t *second, size_t second_len,
+int64_t winnathey_product_of_words(uint32_t kind, uint32_t rank, const uint8_t *first, size_t first_len, const uint8_t *second, size_t second_len,
                                    uint8_t *out, size_t out_len);
 
 /* The inverse of a word, as a normal form. Answers its length. */
-int64_t winnathey_inverse_of_word(uint8_t kind, uint8_t rank, const uint8_t *word, size_t word_len, uint8_t *out, size_t out_len);
+int64_t winnathey_inverse_of_word(uint32_t kind, uint32_t rank, const uint8_t *word, size_t word_len, uint8_t *out, size_t out_len);
 
 /* The length of a word's normal form. */
-int64_t winnathey_length_of_word(uint8_t kind, uint8_t rank, const uint8_t *word, size_t word_len);
+int64_t winnathey_length_of_word(uint32_t kind, uint32_t rank, const uint8_t *word, size_t word_len);
 
 /* Whether two presets have one kind, rank and window: 1 is yes, 0 is no. */
-int64_t winnathey_same(uint8_t kind1, uint8_t rank1, const uint8_t *word1, size_t len1, uint8_t kind2, uint8_t rank2, const uint8_t *word2,
+int64_t winnathey_same(uint32_t kind1, uint32_t rank1, const uint8_t *word1, size_t len1, uint32_t kind2, uint32_t rank2, const uint8_t *word2,
                        size_t len2);
 
 /* The better of two words with one window: the shorter, at equal lengths the one earlier in the dictionary, at equal words the first. 1 is the first,
    2 the second; 0 where the windows differ or a check refuses. It gives no refusal: winnathey_same does. */
-int64_t winnathey_better(uint8_t kind, uint8_t rank, const uint8_t *first, size_t first_len, const uint8_t *second, size_t second_len);
+int64_t winnathey_better(uint32_t kind, uint32_t rank, const uint8_t *first, size_t first_len, const uint8_t *second, size_t second_len);
 
 /* ---- windows */
 
 /* The normal form of a window. Answers its length. */
-int64_t winnathey_normal_form_of_window(uint8_t kind, uint8_t rank, const int8_t *window, size_t window_len, uint8_t *out, size_t out_len);
+int64_t winnathey_normal_form_of_window(uint32_t kind, uint32_t rank, const int8_t *window, size_t window_len, uint8_t *out, size_t out_len);
 
 /* The product of two windows: its entry at i is the first's entry at the second's entry at i. Answers the number of its entries. */
-int64_t winnathey_product_of_windows(uint8_t kind, uint8_t rank, const int8_t *first, size_t first_len, const int8_t *second, size_t second_len,
+int64_t winnathey_product_of_windows(uint32_t kind, uint32_t rank, const int8_t *first, size_t first_len, const int8_t *second, size_t second_len,
                                      int8_t *out, size_t out_len);
 
 /* The inverse of a window. Answers the number of its entries. */
-int64_t winnathey_inverse_of_window(uint8_t kind, uint8_t rank, const int8_t *window, size_t window_len, int8_t *out, size_t out_len);
+int64_t winnathey_inverse_of_window(uint32_t kind, uint32_t rank, const int8_t *window, size_t window_len, int8_t *out, size_t out_len);
 
 /* The length of a window's normal form. */
-int64_t winnathey_length_of_window(uint8_t kind, uint8_t rank, const int8_t *window, size_t window_len);
+int64_t winnathey_length_of_window(uint32_t kind, uint32_t rank, const int8_t *window, size_t window_len);
 
 /* ---- one rewrite */
 
 /* One rewrite of a word at a place, which counts from 0. The new word goes to out; the family, i and j of the rule used go to the first three
    bytes of rule. Answers the new word's length, or WINNATHEY_NONE_FITS. Refusal 14 concerns both outputs, and comes before either is written. */
-int64_t winnathey_rewrite(uint8_t kind, uint8_t rank, const uint8_t *word, size_t word_len, size_t place, uint8_t *out, size_t out_len,
+int64_t winnathey_rewrite(uint32_t kind, uint32_t rank, const uint8_t *word, size_t word_len, size_t place, uint8_t *out, size_t out_len,
                           uint8_t *rule, size_t rule_len);
 
 /* ---- preset books */
@@ -109,7 +109,7 @@ int64_t winnathey_book_check(const uint8_t *book, size_t book_len);
 int64_t winnathey_preset(const uint8_t *book, size_t book_len, size_t number, uint64_t *fields, size_t fields_len);
 
 /* Appends a preset to a book: the whole new book goes to out. Answers its length. */
-int64_t winnathey_append(const uint8_t *book, size_t book_len, uint8_t kind, uint8_t rank, const uint8_t *word, size_t word_len, uint8_t *out,
+int64_t winnathey_append(const uint8_t *book, size_t book_len, uint32_t kind, uint32_t rank, const uint8_t *word, size_t word_len, uint8_t *out,
                          size_t out_len);
 
 #ifdef __cplusplus

@@ -6,12 +6,12 @@
 #include "winnathey.h"
 
 /* Prints what a preset shows and its normal form. Answers 0, or the refusal's number. */
-static int show(uint8_t kind, uint8_t rank, const uint8_t *word, size_t letters)
+static int show(uint32_t kind, uint32_t rank, const uint8_t *word, size_t letters)
 {
     int8_t window[32];  /* the most lanes */
     uint8_t form[1024]; /* the longest normal form */
 
-    printf("kind %d, rank %d, word", kind, rank);
+    printf("kind %" PRIu32 ", rank %" PRIu32 ", word", kind, rank);
     for (size_t i = 0; i < letters; i++)
         printf(" %d", word[i]);
     printf("\n");

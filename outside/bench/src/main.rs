@@ -28,15 +28,15 @@ impl Random {
         z ^ (z >> 31)
     }
 
-    fn word(&mut self, rank: u8, letters: usize) -> Vec<u8> {
+    fn word(&mut self, rank: u32, letters: usize) -> Vec<u8> {
         (0..letters).map(|_| (self.next() % u64::from(rank)) as u8 + 1).collect()
     }
 
-    fn words(&mut self, rank: u8, letters: usize) -> Vec<Vec<u8>> {
+    fn words(&mut self, rank: u32, letters: usize) -> Vec<Vec<u8>> {
         (0..INPUTS).map(|_| self.word(rank, letters)).collect()
     }
 
-    fn windows(&mut self, kind: u8, rank: u8) -> Vec<Vec<i8>> {
+    fn windows(&mut self, kind: u32, rank: u32) -> Vec<Vec<i8>> {
         let of = |word: &Vec<u8>| {
             let mut window = vec![0; 32];
             let lanes = plain::window_of_word(kind, rank, word, &mut window);
@@ -200,7 +200,7 @@ fn main() {
     bench.print();
 }
 
-fn words(bench: &mut Bench, random: &mut Random, kind: u8, rank: u8, rig: &str) {
+fn words(bench: &mut Bench, random: &mut Random, kind: u32, rank: u32, rig: &str) {
     for letters in LETTERS {
         let column = format!("{letters} letters");
         let words = random.words(rank, letters);
@@ -267,7 +267,7 @@ fn words(bench: &mut Bench, random: &mut Random, kind: u8, rank: u8, rig: &str) 
     }
 }
 
-fn windows(bench: &mut Bench, random: &mut Random, kind: u8, rank: u8, rig: &str) {
+fn windows(bench: &mut Bench, random: &mut Random, kind: u32, rank: u32, rig: &str) {
     let windows = random.windows(kind, rank);
     let window = |k: usize| black_box(&windows[k][..]);
     let other = |k: usize| black_box(&windows[INPUTS - 1 - k][..]);
@@ -302,7 +302,7 @@ fn windows(bench: &mut Bench, random: &mut Random, kind: u8, rank: u8, rig: &str
     );
 }
 
-fn rewrites(bench: &mut Bench, random: &mut Random, kind: u8, rank: u8, rig: &str) {
+fn rewrites(bench: &mut Bench, random: &mut Random, kind: u32, rank: u32, rig: &str) {
     let mut cell = |column: String, words: &[Vec<u8>], place: usize| {
         bench.cell(
             "one rewrite",
@@ -324,10 +324,11 @@ fn rewrites(bench: &mut Bench, random: &mut Random, kind: u8, rank: u8, rig: &st
     }
     // The longest left side: family 3 in A, 4 in B and D.
     let mut words = random.words(rank, 4096);
+    let n = rank as u8;
     let left: Vec<u8> = match kind {
-        1 => (1..=rank).chain([1]).collect(),
-        2 => (1..=rank).chain((1..rank).rev()).chain([2]).collect(),
-        _ => (1..=rank - 2).chain([rank]).chain((1..rank).rev()).chain([2]).collect(),
+        1 => (1..=n).chain([1]).collect(),
+        2 => (1..=n).chain((1..n).rev()).chain([2]).collect(),
+        _ => (1..=n - 2).chain([n]).chain((1..n).rev()).chain([2]).collect(),
     };
     for word in &mut words {
         word[..left.len()].copy_from_slice(&left);

@@ -66,23 +66,32 @@ pub fn example(sides: &mut Sides) {
     }
 }
 
-/// A book of random records, of which now and then one holds a wrong preset.
-pub fn random_book(random: &mut Random, records: usize, letters: usize) -> Vec<u8> {
+/// The bytes of a book with these records, each a kind, a rank and a word.
+fn book_with(records: impl Iterator<Item = (u32, u32, Vec<u8>)>) -> Vec<u8> {
     let mut book = Vec::new();
     let mut offsets = Vec::new();
-    for _ in 0..records {
-        let (kind, rank) = random.any_rig();
+    let mut count = 0u16;
+    for (kind, rank, word) in records {
+        offsets.extend((book.len() as u16).to_le_bytes());
+        book.extend([kind as u8, rank as u8]);
+        book.extend((word.len() as u16).to_le_bytes());
+        book.extend(word);
+        count += 1;
+    }
+    book.extend(offsets);
+    book.extend(count.to_le_bytes());
+    book
+}
+
+/// A book of random records, of which now and then one holds a wrong preset.
+pub fn random_book(random: &mut Random, records: usize, letters: usize) -> Vec<u8> {
+    book_with((0..records).map(|_| {
+        let (kind, rank) = random.byte_rig();
         let count = random.below(letters + 1);
         let mut word = random.word(kind, rank, count);
         random.damage_word(rank, &mut word);
-        offsets.extend((book.len() as u16).to_le_bytes());
-        book.extend([kind, rank]);
-        book.extend((word.len() as u16).to_le_bytes());
-        book.extend(word);
-    }
-    book.extend(offsets);
-    book.extend((records as u16).to_le_bytes());
-    book
+        (kind, rank, word)
+    }))
 }
 
 /// Changes a byte or two, or the length.
@@ -164,8 +173,12 @@ pub fn others(sides: &mut Sides) {
             sides.append(&book, 3, 9, &[10; 4096], out);
         }
     }
-    // As many records as a book can count: nothing but heads.
-    let heads = random_book(&mut random, 10_922, 0);
+    // As many records as a book can hold: nothing but heads, now and then a wrong one.
+    let heads = book_with((0..10_922).map(|_| {
+        let (kind, rank) = random.byte_rig();
+        (kind, rank, Vec::new())
+    }));
+    assert_eq!(sides.book_check(&heads), 10_922);
     for number in [0, 1, 5_000, 10_920, 10_921, 10_922] {
         sides.preset(&heads, number, 4);
     }

@@ -1,9 +1,9 @@
 //! The edges of each range, and the order of the checks.
-use crate::inputs::{Random, lanes, rigs};
+use crate::inputs::{RAISED, Random, lanes, rigs};
 use crate::sides::{ROOM, Sides};
 
 /// Words and windows that each call gets here.
-fn every_call(sides: &mut Sides, kind: u8, rank: u8, word: &[u8], window: &[i8], out: usize) {
+fn every_call(sides: &mut Sides, kind: u32, rank: u32, word: &[u8], window: &[i8], out: usize) {
     sides.window_of_word(kind, rank, word, out.min(40));
     sides.normal_form_of_word(kind, rank, word, out);
     sides.normal_form_of_window(kind, rank, window, out);
@@ -19,6 +19,7 @@ fn every_call(sides: &mut Sides, kind: u8, rank: u8, word: &[u8], window: &[i8],
     sides.rewrite(kind, rank, word, 0, out, 3);
     sides.append(&[0, 0], kind, rank, word, out);
     // A record of this kind and rank in a book, right or wrong.
+    let (Ok(kind), Ok(rank)) = (kind.try_into(), rank.try_into()) else { return };
     let mut book = vec![kind, rank];
     book.extend((word.len() as u16).to_le_bytes());
     book.extend(word);
@@ -29,17 +30,40 @@ fn every_call(sides: &mut Sides, kind: u8, rank: u8, word: &[u8], window: &[i8],
 pub fn kinds_and_ranks(sides: &mut Sides) {
     for kind in 0..=255 {
         for rank in 0..=255 {
-            let m = usize::from(rank) + usize::from(kind == 1);
-            let window: Vec<i8> = (1..=m.min(127) as i8).collect();
-            every_call(sides, kind, rank, &[1, rank.max(1)], &window, 64);
+            let window: Vec<i8> = (1..=lanes(kind, rank).min(127) as i8).collect();
+            every_call(sides, kind, rank, &[1, rank.max(1) as u8], &window, 64);
         }
+    }
+}
+
+/// Kinds and ranks that are no byte, with words and windows that are right for their lowest bytes.
+pub fn no_bytes(sides: &mut Sides) {
+    for (kind, rank) in rigs() {
+        let word = [1, rank as u8];
+        let window: Vec<i8> = (1..=lanes(kind, rank) as i8).collect();
+        let mut pair = |kind: u32, rank: u32, due: i64| {
+            every_call(sides, kind, rank, &word, &window, 64);
+            assert_eq!(sides.length_of_word(kind, rank, &word), due, "kind {kind}, rank {rank}");
+            assert_eq!(sides.same((2, 2, &[1]), (kind, rank, &word)), due, "kind {kind}, rank {rank} as the second");
+        };
+        for by in RAISED {
+            pair(kind + by, rank, -5);
+            pair(kind, rank + by, -6);
+            for other in RAISED {
+                pair(kind + by, rank + other, -5);
+            }
+        }
+        pair(u32::MAX, rank, -5);
+        pair(kind, u32::MAX, -6);
+        pair(u32::MAX, u32::MAX, -5);
     }
 }
 
 pub fn letters(sides: &mut Sides) {
     for (kind, rank) in rigs() {
+        let n = rank as u8;
         for letter in 0..=255 {
-            for word in [&[letter][..], &[1, letter, 1], &[letter, rank, letter, rank], &[rank, rank, rank, letter]] {
+            for word in [&[letter][..], &[1, letter, 1], &[letter, n, letter, n], &[n, n, n, letter]] {
                 sides.window_of_word(kind, rank, word, 32);
                 sides.normal_form_of_word(kind, rank, word, 8);
                 sides.rewrite(kind, rank, word, word.len() - 1, 8, 3);
@@ -50,7 +74,7 @@ pub fn letters(sides: &mut Sides) {
             }
         }
         let straight: Vec<i8> = (1..=lanes(kind, rank) as i8).collect();
-        let mut random = Random(u64::from(rank));
+        let mut random = Random(rank.into());
         for length in [4095, 4096, 4097, 4098] {
             let mut word = random.word(kind, rank, length);
             word.resize(length, 1);
@@ -62,7 +86,7 @@ pub fn letters(sides: &mut Sides) {
             word[0] = 0;
             every_call(sides, kind, rank, &word, &straight, ROOM);
             word[0] = 1;
-            word[length - 1] = rank + 1;
+            word[length - 1] = n + 1;
             every_call(sides, kind, rank, &word, &straight, ROOM);
         }
         for place in [0, 1, 2, 3, 4, 1 << 32, usize::MAX - 1, usize::MAX] {

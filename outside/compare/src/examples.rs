@@ -5,13 +5,13 @@ use plain::{A, B, D};
 struct Table<'a>(&'a mut Sides);
 
 impl Table<'_> {
-    fn window(&mut self, kind: u8, rank: u8, word: &[u8], due: &[i8]) {
+    fn window(&mut self, kind: u32, rank: u32, word: &[u8], due: &[i8]) {
         let answer = self.0.each_length(|sides, out| sides.window_of_word(kind, rank, word, out));
         self.0.window_of_word(kind, rank, word, ROOM);
         assert_eq!(self.0.lanes(answer), due, "window of {kind} {rank} {word:?}");
     }
 
-    fn form(&mut self, kind: u8, rank: u8, word: &[u8], due: &[u8]) {
+    fn form(&mut self, kind: u32, rank: u32, word: &[u8], due: &[u8]) {
         let answer = self.0.each_length(|sides, out| sides.normal_form_of_word(kind, rank, word, out));
         self.0.normal_form_of_word(kind, rank, word, ROOM);
         assert_eq!(self.0.bytes(answer), due, "normal form of {kind} {rank} {word:?}");
@@ -25,7 +25,7 @@ impl Table<'_> {
         assert_eq!(self.0.length_of_window(kind, rank, &window), due.len() as i64);
     }
 
-    fn rewrite(&mut self, kind: u8, rank: u8, word: &[u8], place: usize, due: Option<([u8; 3], &[u8])>) {
+    fn rewrite(&mut self, kind: u32, rank: u32, word: &[u8], place: usize, due: Option<([u8; 3], &[u8])>) {
         for rule in [0, 2, 3, 4] {
             self.0.each_length(|sides, out| sides.rewrite(kind, rank, word, place, out, rule));
         }
@@ -82,8 +82,8 @@ pub fn run(sides: &mut Sides) {
     due(sides.length_of_word(A, 1, &[1; 4096]), 0);
     due(sides.length_of_word(A, 1, &[1; 4097]), -7);
     for (kind, rank) in crate::inputs::rigs() {
-        due(sides.length_of_word(kind, rank, &[rank]), 1);
-        due(sides.length_of_word(kind, rank, &[rank + 1]), -8);
+        due(sides.length_of_word(kind, rank, &[rank as u8]), 1);
+        due(sides.length_of_word(kind, rank, &[rank as u8 + 1]), -8);
         due(sides.length_of_word(kind, rank, &[0]), -8);
         // The greatest length.
         let m = crate::inputs::lanes(kind, rank) as i8;

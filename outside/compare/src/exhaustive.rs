@@ -19,7 +19,7 @@ fn lists_over<T: Copy>(values: &[T], length: usize, each: &mut impl FnMut(&[T]))
 }
 
 /// All windows of a kind and rank.
-fn all_windows(kind: u8, rank: u8) -> Vec<Vec<i8>> {
+fn all_windows(kind: u32, rank: u32) -> Vec<Vec<i8>> {
     let m = lanes(kind, rank);
     let mut windows: Vec<Vec<i8>> = vec![Vec::new()];
     for entry in 1..=m as i8 {
@@ -59,7 +59,7 @@ pub fn windows(sides: &mut Sides) {
     }
 }
 
-fn plain_form(kind: u8, rank: u8, window: &[i8]) -> Vec<u8> {
+fn plain_form(kind: u32, rank: u32, window: &[i8]) -> Vec<u8> {
     let mut form = vec![0; 1024];
     let length = plain::normal_form_of_window(kind, rank, window, &mut form);
     form.truncate(length as usize);
@@ -93,15 +93,16 @@ pub fn pairs_of_windows(sides: &mut Sides) {
 pub fn words(sides: &mut Sides) {
     let rigs = [(A, 1), (A, 2), (A, 3), (A, 4), (A, 5), (B, 2), (B, 3), (B, 4), (B, 5), (D, 4), (D, 5)];
     for (kind, rank) in rigs {
-        let steps: Vec<u8> = (1..=rank).collect();
+        let steps: Vec<u8> = (1..=rank as u8).collect();
         for length in 0..=6 {
             lists_over(&steps, length, &mut |word| one_word(sides, kind, rank, word));
         }
         // With letters out of range.
-        let letters: Vec<u8> = (0..=rank + 1).collect();
+        let above = rank as u8 + 1;
+        let letters: Vec<u8> = (0..=above).collect();
         for length in 1..=4 {
             lists_over(&letters, length, &mut |word| {
-                if word.contains(&0) || word.contains(&(rank + 1)) {
+                if word.contains(&0) || word.contains(&above) {
                     one_word(sides, kind, rank, word);
                 }
             });
@@ -109,7 +110,7 @@ pub fn words(sides: &mut Sides) {
     }
 }
 
-fn one_word(sides: &mut Sides, kind: u8, rank: u8, word: &[u8]) {
+fn one_word(sides: &mut Sides, kind: u32, rank: u32, word: &[u8]) {
     sides.window_of_word(kind, rank, word, lanes(kind, rank));
     sides.length_of_word(kind, rank, word);
     let length = sides.normal_form_of_word(kind, rank, word, 8);
@@ -140,7 +141,7 @@ fn one_word(sides: &mut Sides, kind: u8, rank: u8, word: &[u8]) {
 
 pub fn pairs_of_words(sides: &mut Sides) {
     for (kind, rank, most) in [(A, 1, 6), (A, 2, 5), (A, 3, 4), (B, 2, 5), (B, 3, 4), (D, 4, 3)] {
-        let steps: Vec<u8> = (1..=rank).collect();
+        let steps: Vec<u8> = (1..=rank as u8).collect();
         let mut words = Vec::new();
         for length in 0..=most {
             lists_over(&steps, length, &mut |word| words.push(word.to_vec()));

@@ -1,9 +1,12 @@
 //! Random inputs with a fixed start, right ones and damaged ones.
 
-pub const KINDS: [u8; 3] = [plain::A, plain::B, plain::D];
+pub const KINDS: [u32; 3] = [plain::A, plain::B, plain::D];
+
+/// What a kind or a rank can be raised by so that, cut to fewer bits, it would be itself again.
+pub const RAISED: [u32; 6] = [1 << 8, 1 << 16, 1 << 24, 1 << 31, 0xffff_ff00, 0xffff_0000];
 
 /// The ranks of a kind.
-pub fn ranks(kind: u8) -> std::ops::RangeInclusive<u8> {
+pub fn ranks(kind: u32) -> std::ops::RangeInclusive<u32> {
     match kind {
         plain::A => 1..=31,
         plain::B => 2..=32,
@@ -12,11 +15,11 @@ pub fn ranks(kind: u8) -> std::ops::RangeInclusive<u8> {
 }
 
 /// Every kind with every rank of its range.
-pub fn rigs() -> impl Iterator<Item = (u8, u8)> {
+pub fn rigs() -> impl Iterator<Item = (u32, u32)> {
     KINDS.into_iter().flat_map(|kind| ranks(kind).map(move |rank| (kind, rank)))
 }
 
-pub fn lanes(kind: u8, rank: u8) -> usize {
+pub fn lanes(kind: u32, rank: u32) -> usize {
     rank as usize + usize::from(kind == plain::A)
 }
 
@@ -50,22 +53,35 @@ impl Random {
     }
 
     /// A kind and a rank in its range.
-    pub fn rig(&mut self) -> (u8, u8) {
+    pub fn rig(&mut self) -> (u32, u32) {
         let kind = self.pick(&KINDS);
         let ranks = ranks(kind);
-        let count = usize::from(ranks.end() - ranks.start()) + 1;
+        let count = (ranks.end() - ranks.start()) as usize + 1;
         // Small ranks, where words meet each other often, come as often as all others.
         let at = if self.once_in(2) { self.below(4) } else { self.below(count) };
-        (kind, ranks.start() + at as u8)
+        (kind, ranks.start() + at as u32)
     }
 
-    /// A kind and a rank, now and then a wrong one.
-    pub fn any_rig(&mut self) -> (u8, u8) {
+    /// A kind and a rank, now and then a wrong byte.
+    pub fn byte_rig(&mut self) -> (u32, u32) {
         let (kind, rank) = self.rig();
         match self.below(20) {
-            0 => (self.byte(), rank),
-            1 => (kind, self.byte()),
+            0 => (self.byte().into(), rank),
+            1 => (kind, self.byte().into()),
             2 => (kind, self.pick(&[0, 1, 2, 3, 4, 31, 32, 33, 255])),
+            _ => (kind, rank),
+        }
+    }
+
+    /// A kind and a rank, now and then a wrong number, which may be no byte.
+    pub fn any_rig(&mut self) -> (u32, u32) {
+        let (kind, rank) = self.byte_rig();
+        match self.below(40) {
+            0 => (kind + self.pick(&RAISED), rank),
+            1 => (kind, rank + self.pick(&RAISED)),
+            2 => (kind + self.pick(&RAISED), rank + self.pick(&RAISED)),
+            3 => (self.pick(&[kind, u32::MAX]), self.pick(&[rank, u32::MAX])),
+            4 => (kind, self.next() as u32),
             _ => (kind, rank),
         }
     }
@@ -81,9 +97,10 @@ impl Random {
         }
     }
 
-    /// A word over the steps 1 to rank, of one of several makes.
-    pub fn word(&mut self, kind: u8, rank: u8, letters: usize) -> Vec<u8> {
-        let n = usize::from(rank.max(1));
+    /// A word over the steps 1 to rank, of one of several makes. A kind or rank that is no byte counts as its lowest
+    /// byte here and in `window`, so that a call which cut them would accept.
+    pub fn word(&mut self, kind: u32, rank: u32, letters: usize) -> Vec<u8> {
+        let (kind, n) = (kind & 255, (rank & 255).max(1) as usize);
         let make = self.below(4);
         let mut word = Vec::with_capacity(letters + 70);
         match make {
@@ -121,7 +138,7 @@ impl Random {
     }
 
     /// Now and then a letter out of range, or a word too long.
-    pub fn damage_word(&mut self, rank: u8, word: &mut Vec<u8>) {
+    pub fn damage_word(&mut self, rank: u32, word: &mut Vec<u8>) {
         if self.once_in(8) && !word.is_empty() {
             let at = match self.below(3) {
                 0 => 0,
@@ -130,7 +147,7 @@ impl Random {
             };
             word[at] = match self.below(3) {
                 0 => 0,
-                1 => rank.wrapping_add(1),
+                1 => rank.wrapping_add(1) as u8,
                 _ => self.byte(),
             };
         }
@@ -140,8 +157,9 @@ impl Random {
     }
 
     /// A window of a kind and rank.
-    pub fn window(&mut self, kind: u8, rank: u8) -> Vec<i8> {
-        let m = lanes(kind, rank.min(126));
+    pub fn window(&mut self, kind: u32, rank: u32) -> Vec<i8> {
+        let kind = kind & 255;
+        let m = lanes(kind, (rank & 255).min(126));
         let mut window: Vec<i8> = (1..=m as i8).collect();
         for at in (1..m).rev() {
             let other = self.below(at + 1);

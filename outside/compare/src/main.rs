@@ -1,4 +1,5 @@
-//! Compares the verified library with the plain Rust version: the answer and every byte of every output of each call.
+//! Compares the verified library with the plain Rust version: the answer and every byte of every output of each call,
+//! made over the C interface and, where kind and rank are bytes, by the safe Rust function as well.
 //!
 //! `compare` runs all groups; `compare N` makes N random inputs in the last group, `compare N SEED` starts them
 //! elsewhere. It prints how many calls each group compared, and ends with status 1 if any differed.
@@ -9,6 +10,7 @@ mod exhaustive;
 mod inputs;
 mod random;
 mod rewriting;
+mod safe;
 mod sides;
 
 use sides::Sides;
@@ -29,7 +31,8 @@ fn main() -> ExitCode {
         println!("{:>10} calls: {name}", sides.calls - before);
     };
     group("the requirement's examples, held to its values", &examples::run);
-    group("all 65,536 pairs of kind and rank", &edges::kinds_and_ranks);
+    group("all 65,536 pairs of kind and rank that are bytes", &edges::kinds_and_ranks);
+    group("kinds and ranks that are no byte, over right words and windows", &edges::no_bytes);
     group("letters: each value at each rank; 4,095 to 4,098 letters", &edges::letters);
     group("windows: each length, and each value at each position, at each rank", &edges::entries);
     group("two faults at once: the first in checking order counts", &edges::order_of_checks);
@@ -46,6 +49,7 @@ fn main() -> ExitCode {
         random::run(sides, inputs, seed)
     });
     println!("{:>10} calls in all, {} different", sides.calls, sides.differences);
+    println!("{:>10} of them made by the safe Rust function too", sides.safe_calls);
     println!("answers: {} accepted, {} none fits", sides.accepted, sides.none_fits);
     for (number, times) in sides.refused.iter().enumerate().skip(1) {
         println!("{times:>10} times refusal {number}");

@@ -16,14 +16,14 @@ pub fn run(sides: &mut Sides, inputs: u64, seed: u64) {
     }
 }
 
-fn any_word(random: &mut Random, kind: u8, rank: u8) -> Vec<u8> {
+fn any_word(random: &mut Random, kind: u32, rank: u32) -> Vec<u8> {
     let letters = random.letters();
     let mut word = random.word(kind, rank, letters);
     random.damage_word(rank, &mut word);
     word
 }
 
-fn any_window(random: &mut Random, kind: u8, rank: u8) -> Vec<i8> {
+fn any_window(random: &mut Random, kind: u32, rank: u32) -> Vec<i8> {
     let mut window = random.window(kind, rank);
     random.damage_window(&mut window);
     window
@@ -101,7 +101,7 @@ fn two_words(sides: &mut Sides, random: &mut Random, call: usize) {
             }
             if make == 2 && word.len() < 4000 {
                 let at = random.below(word.len() + 1);
-                let step = random.below(usize::from(rank)) as u8 + 1;
+                let step = random.word(kind, rank, 1)[0];
                 word.splice(at..at, [step, step]);
             }
             word

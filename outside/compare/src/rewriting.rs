@@ -4,7 +4,7 @@ use crate::sides::{ROOM, Sides};
 use plain::Rule;
 
 /// A word that is the left side of a rule, found by asking for each step in turn what the block is.
-fn left_side(kind: u8, n: u8, rule: Rule) -> Vec<u8> {
+fn left_side(kind: u32, n: u8, rule: Rule) -> Vec<u8> {
     let Rule { family, i, j } = rule;
     let block = |i: u8, j: u8| -> Vec<u8> {
         if kind == plain::D && j >= n {
@@ -33,8 +33,9 @@ fn left_side(kind: u8, n: u8, rule: Rule) -> Vec<u8> {
 pub fn each_rule(sides: &mut Sides) {
     let mut random = Random(7);
     for (kind, rank) in rigs() {
-        for rule in plain::rules(kind, rank) {
-            let left = left_side(kind, rank, rule);
+        let n = rank as u8;
+        for rule in plain::rules(kind, n) {
+            let left = left_side(kind, n, rule);
             let due = [rule.family, rule.i, rule.j];
             // The left side alone, at the end, at the start, in the middle.
             for (before, after) in [(0, 0), (5, 0), (0, 5), (3, 4)] {
@@ -62,7 +63,7 @@ pub fn each_rule(sides: &mut Sides) {
             // One letter changed.
             for at in 0..left.len() {
                 let mut word = left.clone();
-                word[at] = random.below(usize::from(rank)) as u8 + 1;
+                word[at] = random.below(n.into()) as u8 + 1;
                 sides.rewrite(kind, rank, &word, 0, ROOM, 3);
             }
         }

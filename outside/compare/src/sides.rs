@@ -1,4 +1,5 @@
-//! Each call on both sides, with the answers and every byte of every output compared.
+//! Each call on both sides and by the safe Rust function, with the answers and every byte of every output compared.
+use crate::safe;
 use std::fmt::Debug;
 use winnathey::raw as rattle;
 
@@ -72,8 +73,11 @@ impl Side {
 pub struct Sides {
     rattle: Side,
     plain: Side,
+    safe: Side,
     /// Calls compared so far.
     pub calls: u64,
+    /// How many of them the safe function made too.
+    pub safe_calls: u64,
     pub accepted: u64,
     pub none_fits: u64,
     /// How often each refusal was the answer, by its number.
@@ -91,12 +95,16 @@ macro_rules! compared {
         let outputs = true $(&& $self.rattle.$out.all == $self.plain.$out.all)*;
         // An accepted call writes the bytes of its answer and nothing else, any other call nothing.
         let kept = true $(&& $self.rattle.$out.kept(if answer < 0 { 0 } else { $written(answer) }))*;
+        let safe = safe::$call($($arg,)* $($self.safe.$out.filled($length)),*);
+        $self.safe_calls += u64::from(safe.is_some());
+        let safely = safe.is_none_or(|safe| safe == answer $(&& $self.safe.$out.all == $self.rattle.$out.all)*);
         $self.tally(answer);
-        $self.noted(answer == expected && outputs && kept, || format!(
-            "{}{:?}: answers {answer} and {expected}, outputs {}{}",
+        $self.noted(answer == expected && outputs && kept && safely, || format!(
+            "{}{:?}: answers {answer} and {expected}, outputs {}{}{}",
             stringify!($call), ($($arg,)* $($length,)*),
             if outputs { "equal" } else { "DIFFERENT" },
             if kept { "" } else { ", bytes outside the answer changed" },
+            if safely { "" } else { ", the safe function does something else" },
         ));
         answer
     }};
@@ -112,7 +120,9 @@ impl Sides {
         Sides {
             rattle: Side::new(),
             plain: Side::new(),
+            safe: Side::new(),
             calls: 0,
+            safe_calls: 0,
             accepted: 0,
             none_fits: 0,
             refused: [0; 15],
@@ -163,51 +173,51 @@ impl Sides {
         &self.rattle.fields.all[GUARD..GUARD + 4]
     }
 
-    pub fn window_of_word(&mut self, kind: u8, rank: u8, word: &[u8], out: usize) -> i64 {
+    pub fn window_of_word(&mut self, kind: u32, rank: u32, word: &[u8], out: usize) -> i64 {
         compared!(self, window_of_word, (kind, rank, word), lanes: out => whole)
     }
 
-    pub fn normal_form_of_word(&mut self, kind: u8, rank: u8, word: &[u8], out: usize) -> i64 {
+    pub fn normal_form_of_word(&mut self, kind: u32, rank: u32, word: &[u8], out: usize) -> i64 {
         compared!(self, normal_form_of_word, (kind, rank, word), bytes: out => whole)
     }
 
-    pub fn normal_form_of_window(&mut self, kind: u8, rank: u8, window: &[i8], out: usize) -> i64 {
+    pub fn normal_form_of_window(&mut self, kind: u32, rank: u32, window: &[i8], out: usize) -> i64 {
         compared!(self, normal_form_of_window, (kind, rank, window), bytes: out => whole)
     }
 
-    pub fn product_of_words(&mut self, kind: u8, rank: u8, first: &[u8], second: &[u8], out: usize) -> i64 {
+    pub fn product_of_words(&mut self, kind: u32, rank: u32, first: &[u8], second: &[u8], out: usize) -> i64 {
         compared!(self, product_of_words, (kind, rank, first, second), bytes: out => whole)
     }
 
-    pub fn product_of_windows(&mut self, kind: u8, rank: u8, first: &[i8], second: &[i8], out: usize) -> i64 {
+    pub fn product_of_windows(&mut self, kind: u32, rank: u32, first: &[i8], second: &[i8], out: usize) -> i64 {
         compared!(self, product_of_windows, (kind, rank, first, second), lanes: out => whole)
     }
 
-    pub fn inverse_of_word(&mut self, kind: u8, rank: u8, word: &[u8], out: usize) -> i64 {
+    pub fn inverse_of_word(&mut self, kind: u32, rank: u32, word: &[u8], out: usize) -> i64 {
         compared!(self, inverse_of_word, (kind, rank, word), bytes: out => whole)
     }
 
-    pub fn inverse_of_window(&mut self, kind: u8, rank: u8, window: &[i8], out: usize) -> i64 {
+    pub fn inverse_of_window(&mut self, kind: u32, rank: u32, window: &[i8], out: usize) -> i64 {
         compared!(self, inverse_of_window, (kind, rank, window), lanes: out => whole)
     }
 
-    pub fn length_of_word(&mut self, kind: u8, rank: u8, word: &[u8]) -> i64 {
+    pub fn length_of_word(&mut self, kind: u32, rank: u32, word: &[u8]) -> i64 {
         compared!(self, length_of_word, (kind, rank, word),)
     }
 
-    pub fn length_of_window(&mut self, kind: u8, rank: u8, window: &[i8]) -> i64 {
+    pub fn length_of_window(&mut self, kind: u32, rank: u32, window: &[i8]) -> i64 {
         compared!(self, length_of_window, (kind, rank, window),)
     }
 
-    pub fn same(&mut self, first: (u8, u8, &[u8]), second: (u8, u8, &[u8])) -> i64 {
+    pub fn same(&mut self, first: (u32, u32, &[u8]), second: (u32, u32, &[u8])) -> i64 {
         compared!(self, same, (first.0, first.1, first.2, second.0, second.1, second.2),)
     }
 
-    pub fn better(&mut self, kind: u8, rank: u8, first: &[u8], second: &[u8]) -> i64 {
+    pub fn better(&mut self, kind: u32, rank: u32, first: &[u8], second: &[u8]) -> i64 {
         compared!(self, better, (kind, rank, first, second),)
     }
 
-    pub fn rewrite(&mut self, kind: u8, rank: u8, word: &[u8], place: usize, out: usize, rule: usize) -> i64 {
+    pub fn rewrite(&mut self, kind: u32, rank: u32, word: &[u8], place: usize, out: usize, rule: usize) -> i64 {
         compared!(self, rewrite, (kind, rank, word, place), bytes: out => whole, rule: rule => |_| 3)
     }
 
@@ -219,7 +229,7 @@ impl Sides {
         compared!(self, preset, (book, number), fields: fields => whole)
     }
 
-    pub fn append(&mut self, book: &[u8], kind: u8, rank: u8, word: &[u8], out: usize) -> i64 {
+    pub fn append(&mut self, book: &[u8], kind: u32, rank: u32, word: &[u8], out: usize) -> i64 {
         compared!(self, append, (book, kind, rank, word), bytes: out => whole)
     }
 

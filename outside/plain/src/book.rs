@@ -54,7 +54,7 @@ pub fn preset(book: &[u8], number: usize, fields: &mut [u64]) -> i64 {
         let record = two(book, start + 2 * number);
         let (kind, rank) = (book[record], book[record + 1]);
         let (at, letters) = (record + HEAD, two(book, record + 2));
-        check_preset(kind, rank, &book[at..at + letters])?;
+        check_preset(kind.into(), rank.into(), &book[at..at + letters])?;
         let fields = front(fields, 4)?;
         fields.copy_from_slice(&[kind.into(), rank.into(), at as u64, letters as u64]);
         Ok(4)
@@ -62,10 +62,10 @@ pub fn preset(book: &[u8], number: usize, fields: &mut [u64]) -> i64 {
 }
 
 /// Writes the book with one record more.
-pub fn append(book: &[u8], kind: u8, rank: u8, word: &[u8], out: &mut [u8]) -> i64 {
+pub fn append(book: &[u8], kind: u32, rank: u32, word: &[u8], out: &mut [u8]) -> i64 {
     coded((|| {
         let (count, start) = check(book)?;
-        check_preset(kind, rank, word)?;
+        let rank = check_preset(kind, rank, word)?;
         let length = book.len() + HEAD + word.len() + 2;
         if length > MAX_BOOK {
             return Err(13);
@@ -76,7 +76,7 @@ pub fn append(book: &[u8], kind: u8, rank: u8, word: &[u8], out: &mut [u8]) -> i
         let offset = (start as u16).to_le_bytes();
         let count_now = (count as u16 + 1).to_le_bytes();
         let (records, offsets) = (&book[..start], &book[start..book.len() - 2]);
-        let parts: [&[u8]; 7] = [records, &[kind, rank], &letters, word, offsets, &offset, &count_now];
+        let parts: [&[u8]; 7] = [records, &[kind as u8, rank], &letters, word, offsets, &offset, &count_now];
         let mut rest = out;
         for part in parts {
             let (here, after) = rest.split_at_mut(part.len());

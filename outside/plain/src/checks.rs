@@ -1,14 +1,15 @@
 //! Checks 5 to 11.
 use crate::{A, B, D, MAX_LETTERS, Refusal, lanes};
 
-pub(crate) fn check_rank(kind: u8, rank: u8) -> Result<(), Refusal> {
+/// Hands back the rank as a byte, as steps are.
+pub(crate) fn check_rank(kind: u32, rank: u32) -> Result<u8, Refusal> {
     let ranks = match kind {
         A => 1..=31,
         B => 2..=32,
         D => 4..=32,
         _ => return Err(5),
     };
-    if ranks.contains(&rank) { Ok(()) } else { Err(6) }
+    if ranks.contains(&rank) { Ok(rank as u8) } else { Err(6) }
 }
 
 pub(crate) fn check_word(rank: u8, word: &[u8]) -> Result<(), Refusal> {
@@ -19,12 +20,14 @@ pub(crate) fn check_word(rank: u8, word: &[u8]) -> Result<(), Refusal> {
     if word.iter().fold(true, |good, &step| good & (1..=rank).contains(&step)) { Ok(()) } else { Err(8) }
 }
 
-pub(crate) fn check_preset(kind: u8, rank: u8, word: &[u8]) -> Result<(), Refusal> {
-    check_rank(kind, rank)?;
-    check_word(rank, word)
+/// Hands back the rank as [`check_rank`] does.
+pub(crate) fn check_preset(kind: u32, rank: u32, word: &[u8]) -> Result<u8, Refusal> {
+    let rank = check_rank(kind, rank)?;
+    check_word(rank, word)?;
+    Ok(rank)
 }
 
-pub(crate) fn check_window(kind: u8, rank: u8, window: &[i8]) -> Result<(), Refusal> {
+pub(crate) fn check_window(kind: u32, rank: u8, window: &[i8]) -> Result<(), Refusal> {
     let m = lanes(kind, rank);
     if window.len() != m {
         return Err(9);

@@ -17,9 +17,9 @@ pub use rules::{NONE_FITS, Rule, rewrite, rules};
 use checks::{check_preset, check_rank, check_window, check_word};
 use window::{Window, inverse_into, length, product_into};
 
-pub const A: u8 = 1;
-pub const B: u8 = 2;
-pub const D: u8 = 3;
+pub const A: u32 = 1;
+pub const B: u32 = 2;
+pub const D: u32 = 3;
 
 pub const MAX_LANES: usize = 32;
 pub const MAX_LETTERS: usize = 4096;
@@ -37,7 +37,7 @@ pub(crate) fn coded(answer: Result<usize, Refusal>) -> i64 {
 }
 
 /// The number of lanes. The rank has been checked.
-pub(crate) fn lanes(kind: u8, rank: u8) -> usize {
+pub(crate) fn lanes(kind: u32, rank: u8) -> usize {
     rank as usize + usize::from(kind == A)
 }
 
@@ -46,9 +46,9 @@ pub(crate) fn front<T>(out: &mut [T], n: usize) -> Result<&mut [T], Refusal> {
     out.get_mut(..n).ok_or(14)
 }
 
-pub fn window_of_word(kind: u8, rank: u8, word: &[u8], out: &mut [i8]) -> i64 {
+pub fn window_of_word(kind: u32, rank: u32, word: &[u8], out: &mut [i8]) -> i64 {
     coded((|| {
-        check_preset(kind, rank, word)?;
+        let rank = check_preset(kind, rank, word)?;
         let m = lanes(kind, rank);
         let out = front(out, m)?;
         let mut window = Window::straight(m);
@@ -58,26 +58,26 @@ pub fn window_of_word(kind: u8, rank: u8, word: &[u8], out: &mut [i8]) -> i64 {
     })())
 }
 
-pub fn normal_form_of_word(kind: u8, rank: u8, word: &[u8], out: &mut [u8]) -> i64 {
+pub fn normal_form_of_word(kind: u32, rank: u32, word: &[u8], out: &mut [u8]) -> i64 {
     coded((|| {
-        check_preset(kind, rank, word)?;
+        let rank = check_preset(kind, rank, word)?;
         let mut window = Window::straight(lanes(kind, rank));
         window.apply(kind, word);
         word::write_normal_form(kind, rank, window, out)
     })())
 }
 
-pub fn normal_form_of_window(kind: u8, rank: u8, window: &[i8], out: &mut [u8]) -> i64 {
+pub fn normal_form_of_window(kind: u32, rank: u32, window: &[i8], out: &mut [u8]) -> i64 {
     coded((|| {
-        check_rank(kind, rank)?;
+        let rank = check_rank(kind, rank)?;
         check_window(kind, rank, window)?;
         word::write_normal_form(kind, rank, Window::from(window), out)
     })())
 }
 
-pub fn product_of_words(kind: u8, rank: u8, first: &[u8], second: &[u8], out: &mut [u8]) -> i64 {
+pub fn product_of_words(kind: u32, rank: u32, first: &[u8], second: &[u8], out: &mut [u8]) -> i64 {
     coded((|| {
-        check_preset(kind, rank, first)?;
+        let rank = check_preset(kind, rank, first)?;
         check_word(rank, second)?;
         let mut window = Window::straight(lanes(kind, rank));
         window.apply(kind, first);
@@ -86,9 +86,9 @@ pub fn product_of_words(kind: u8, rank: u8, first: &[u8], second: &[u8], out: &m
     })())
 }
 
-pub fn product_of_windows(kind: u8, rank: u8, first: &[i8], second: &[i8], out: &mut [i8]) -> i64 {
+pub fn product_of_windows(kind: u32, rank: u32, first: &[i8], second: &[i8], out: &mut [i8]) -> i64 {
     coded((|| {
-        check_rank(kind, rank)?;
+        let rank = check_rank(kind, rank)?;
         check_window(kind, rank, first)?;
         check_window(kind, rank, second)?;
         let m = second.len();
@@ -97,9 +97,9 @@ pub fn product_of_windows(kind: u8, rank: u8, first: &[i8], second: &[i8], out: 
     })())
 }
 
-pub fn inverse_of_word(kind: u8, rank: u8, word: &[u8], out: &mut [u8]) -> i64 {
+pub fn inverse_of_word(kind: u32, rank: u32, word: &[u8], out: &mut [u8]) -> i64 {
     coded((|| {
-        check_preset(kind, rank, word)?;
+        let rank = check_preset(kind, rank, word)?;
         let m = lanes(kind, rank);
         let mut window = Window::straight(m);
         window.apply(kind, word);
@@ -109,9 +109,9 @@ pub fn inverse_of_word(kind: u8, rank: u8, word: &[u8], out: &mut [u8]) -> i64 {
     })())
 }
 
-pub fn inverse_of_window(kind: u8, rank: u8, window: &[i8], out: &mut [i8]) -> i64 {
+pub fn inverse_of_window(kind: u32, rank: u32, window: &[i8], out: &mut [i8]) -> i64 {
     coded((|| {
-        check_rank(kind, rank)?;
+        let rank = check_rank(kind, rank)?;
         check_window(kind, rank, window)?;
         let m = window.len();
         inverse_into(window, front(out, m)?);
@@ -119,28 +119,28 @@ pub fn inverse_of_window(kind: u8, rank: u8, window: &[i8], out: &mut [i8]) -> i
     })())
 }
 
-pub fn length_of_word(kind: u8, rank: u8, word: &[u8]) -> i64 {
+pub fn length_of_word(kind: u32, rank: u32, word: &[u8]) -> i64 {
     coded((|| {
-        check_preset(kind, rank, word)?;
+        let rank = check_preset(kind, rank, word)?;
         let mut window = Window::straight(lanes(kind, rank));
         window.apply(kind, word);
         Ok(length(kind, window.entries()))
     })())
 }
 
-pub fn length_of_window(kind: u8, rank: u8, window: &[i8]) -> i64 {
+pub fn length_of_window(kind: u32, rank: u32, window: &[i8]) -> i64 {
     coded((|| {
-        check_rank(kind, rank)?;
+        let rank = check_rank(kind, rank)?;
         check_window(kind, rank, window)?;
         Ok(length(kind, window))
     })())
 }
 
 /// 1 if the two presets are of one kind and rank and show the same, 0 if not.
-pub fn same(kind1: u8, rank1: u8, word1: &[u8], kind2: u8, rank2: u8, word2: &[u8]) -> i64 {
+pub fn same(kind1: u32, rank1: u32, word1: &[u8], kind2: u32, rank2: u32, word2: &[u8]) -> i64 {
     coded((|| {
-        check_preset(kind1, rank1, word1)?;
-        check_preset(kind2, rank2, word2)?;
+        let rank1 = check_preset(kind1, rank1, word1)?;
+        let rank2 = check_preset(kind2, rank2, word2)?;
         if (kind1, rank1) != (kind2, rank2) {
             return Ok(0);
         }
@@ -149,11 +149,9 @@ pub fn same(kind1: u8, rank1: u8, word1: &[u8], kind2: u8, rank2: u8, word2: &[u
 }
 
 /// 1 or 2 for the better word, 0 for neither: the windows differ or a check refuses.
-pub fn better(kind: u8, rank: u8, first: &[u8], second: &[u8]) -> i64 {
-    if check_preset(kind, rank, first).is_err() || check_word(rank, second).is_err() {
-        return 0;
-    }
-    if !window::equal(kind, rank, first, second) {
+pub fn better(kind: u32, rank: u32, first: &[u8], second: &[u8]) -> i64 {
+    let Ok(rank) = check_preset(kind, rank, first) else { return 0 };
+    if check_word(rank, second).is_err() || !window::equal(kind, rank, first, second) {
         return 0;
     }
     // The HIGHER step comes first, so at equal lengths the greater list of bytes is the earlier word.

@@ -15,12 +15,12 @@ pub struct Rule {
 }
 
 /// All rules of a kind and a rank in its range.
-pub fn rules(kind: u8, n: u8) -> impl Iterator<Item = Rule> {
+pub fn rules(kind: u32, n: u8) -> impl Iterator<Item = Rule> {
     (1..=n).flat_map(move |i| rules_from(kind, n, i))
 }
 
 /// The rules whose left side begins with step i.
-fn rules_from(kind: u8, n: u8, i: u8) -> impl Iterator<Item = Rule> {
+fn rules_from(kind: u32, n: u8, i: u8) -> impl Iterator<Item = Rule> {
     let rule = move |family, j| Rule { family, i, j };
     let family_2 = (i + 2..=n).filter(move |&j| !(kind == D && i == n - 2 && j == n));
     let last_pair = (kind == D && i == n - 1).then_some(n);
@@ -49,7 +49,7 @@ struct Side {
 
 impl Rule {
     /// The left and the right side.
-    fn sides(self, kind: u8, n: u8) -> (Side, Side) {
+    fn sides(self, kind: u32, n: u8) -> (Side, Side) {
         let Rule { family, i, j } = self;
         let letters = |before, after| Side { before: Some(before), block: None, after: Some(after) };
         // A block that a letter leaves at its end and another enters at its start.
@@ -109,7 +109,7 @@ impl Side {
 }
 
 /// One rewrite: the new length, with family, i and j in `rule`, or [`NONE_FITS`], or a refusal.
-pub fn rewrite(kind: u8, rank: u8, word: &[u8], place: usize, out: &mut [u8], rule: &mut [u8]) -> i64 {
+pub fn rewrite(kind: u32, rank: u32, word: &[u8], place: usize, out: &mut [u8], rule: &mut [u8]) -> i64 {
     match rewritten(kind, rank, word, place, out, rule) {
         Ok(Some(length)) => length as i64,
         Ok(None) => NONE_FITS,
@@ -118,14 +118,14 @@ pub fn rewrite(kind: u8, rank: u8, word: &[u8], place: usize, out: &mut [u8], ru
 }
 
 fn rewritten(
-    kind: u8,
-    rank: u8,
+    kind: u32,
+    rank: u32,
     word: &[u8],
     place: usize,
     out: &mut [u8],
     rule: &mut [u8],
 ) -> Result<Option<usize>, Refusal> {
-    check_preset(kind, rank, word)?;
+    let rank = check_preset(kind, rank, word)?;
     if place >= word.len() {
         return Err(12);
     }

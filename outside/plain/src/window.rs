@@ -27,7 +27,7 @@ impl Window {
     }
 
     /// Applies the word from the left: its steps exchange and negate by position.
-    pub(crate) fn apply(&mut self, kind: u8, word: &[u8]) {
+    pub(crate) fn apply(&mut self, kind: u32, word: &[u8]) {
         let w = self.entries_mut();
         let n = w.len();
         match kind {
@@ -61,7 +61,7 @@ impl Window {
 }
 
 /// Whether two checked words of one kind and rank have one window.
-pub(crate) fn equal(kind: u8, rank: u8, first: &[u8], second: &[u8]) -> bool {
+pub(crate) fn equal(kind: u32, rank: u8, first: &[u8], second: &[u8]) -> bool {
     let m = lanes(kind, rank);
     let mut u = Window::straight(m);
     u.apply(kind, first);
@@ -90,7 +90,7 @@ fn place(entry: i8) -> u8 {
 }
 
 /// The three sums.
-pub(crate) fn length(kind: u8, w: &[i8]) -> usize {
+pub(crate) fn length(kind: u32, w: &[i8]) -> usize {
     let mut sum = 0;
     let mut rest = w;
     // A row counts at most two for each of 31 entries, so it fits in a byte.

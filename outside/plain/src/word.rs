@@ -6,7 +6,7 @@ use std::ops::Range;
 /// The block [i,j] of a kind and a rank n.
 #[derive(Clone, Copy)]
 pub(crate) struct Block {
-    pub(crate) kind: u8,
+    pub(crate) kind: u32,
     pub(crate) n: u8,
     pub(crate) i: u8,
     pub(crate) j: u8,
@@ -52,7 +52,7 @@ impl Block {
 }
 
 /// Writes the normal form of a checked window, and says how many letters it has.
-pub(crate) fn write_normal_form(kind: u8, rank: u8, mut window: Window, out: &mut [u8]) -> Result<usize, Refusal> {
+pub(crate) fn write_normal_form(kind: u32, rank: u8, mut window: Window, out: &mut [u8]) -> Result<usize, Refusal> {
     let n = rank;
     let blocks = if kind == D { n - 1 } else { n };
     let mut ends = [0; MAX_LANES];
@@ -75,7 +75,7 @@ pub(crate) fn write_normal_form(kind: u8, rank: u8, mut window: Window, out: &mu
 /// Takes block i off a window whose first i - 1 entries are gone: the block's j, and the window of what is left.
 ///
 /// What stands before the block leaves entry i in front; the block carries it up, and down again with a minus sign.
-fn peel(kind: u8, n: u8, i: u8, rest: &mut [i8]) -> (u8, &mut [i8]) {
+fn peel(kind: u32, n: u8, i: u8, rest: &mut [i8]) -> (u8, &mut [i8]) {
     let at = rest.iter().position(|entry| entry.unsigned_abs() == i).expect("a checked window has each size");
     let position = i + at as u8;
     let mirrored = rest[at] < 0;

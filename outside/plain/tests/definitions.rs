@@ -2,10 +2,10 @@
 use plain::{A, B, D, NONE_FITS};
 use std::collections::HashMap;
 
-const RIGS: [(u8, u8); 12] =
+const RIGS: [(u32, u32); 12] =
     [(A, 1), (A, 2), (A, 3), (A, 4), (A, 5), (A, 6), (B, 2), (B, 3), (B, 4), (B, 5), (D, 4), (D, 5)];
 
-fn window(kind: u8, rank: u8, word: &[u8]) -> Vec<i8> {
+fn window(kind: u32, rank: u32, word: &[u8]) -> Vec<i8> {
     let mut window = vec![0; 32];
     let lanes = plain::window_of_word(kind, rank, word, &mut window);
     window.truncate(lanes as usize);
@@ -14,7 +14,7 @@ fn window(kind: u8, rank: u8, word: &[u8]) -> Vec<i8> {
 
 /// Each window with the shortest word that has it, and among those the first in the dictionary: all words by length,
 /// at each length in dictionary order, where the first word to reach a window keeps it.
-fn first_words(kind: u8, rank: u8) -> HashMap<Vec<i8>, Vec<u8>> {
+fn first_words(kind: u32, rank: u32) -> HashMap<Vec<i8>, Vec<u8>> {
     let mut found = HashMap::from([(window(kind, rank, &[]), Vec::new())]);
     let mut level: Vec<Vec<u8>> = vec![Vec::new()];
     while !level.is_empty() {
@@ -22,7 +22,7 @@ fn first_words(kind: u8, rank: u8) -> HashMap<Vec<i8>, Vec<u8>> {
         for word in &level {
             for step in (1..=rank).rev() {
                 let mut longer = word.clone();
-                longer.push(step);
+                longer.push(step as u8);
                 if let std::collections::hash_map::Entry::Vacant(new) = found.entry(window(kind, rank, &longer)) {
                     new.insert(longer.clone());
                     next.push(longer);
@@ -63,7 +63,7 @@ fn none_fits_just_in_normal_forms() {
             for step in 0..=rank {
                 let mut word = form.clone();
                 if step > 0 {
-                    word.push(step);
+                    word.push(step as u8);
                 }
                 let mut first = [0; 64];
                 let length = plain::normal_form_of_word(kind, rank, &word, &mut first);
@@ -83,7 +83,7 @@ fn rewrites_keep_the_window_and_come_earlier() {
         for form in first_words(kind, rank).values().take(500) {
             for step in 1..=rank {
                 let mut word = form.clone();
-                word.push(step);
+                word.push(step as u8);
                 for place in 0..word.len() {
                     let mut out = [0; 64];
                     let length = plain::rewrite(kind, rank, &word, place, &mut out, &mut [0; 3]);

@@ -23,8 +23,9 @@
 //! ```
 
 pub mod raw;
+mod refusal;
 
-use std::error::Error;
+pub use refusal::Refusal;
 use std::fmt;
 
 /// The most lanes of a window: 32.
@@ -61,61 +62,11 @@ impl fmt::Display for Kind {
     }
 }
 
-/// Why a call was turned down: the number of the first check that failed, in checking order.
-///
-/// ```
-/// use winnathey::{Kind, length_of_word};
-///
-/// let refusal = length_of_word(Kind::A, 2, &[1, 3]).unwrap_err();
-/// assert_eq!(refusal.number(), 8);
-/// assert_eq!(refusal.to_string(), "refused 8: a letter is 0 or above the rank");
-/// ```
-#[derive(Clone, Copy, PartialEq, Eq, PartialOrd, Ord, Hash, Debug)]
-pub struct Refusal(u8);
-
-impl Refusal {
-    /// The number, from 1 to 14.
-    pub fn number(self) -> u8 {
-        self.0
-    }
-
-    /// What the number says.
-    pub fn meaning(self) -> &'static str {
-        match self.0 {
-            1 => "the book has fewer than 2 or more than 65,535 bytes",
-            2 => "the book is too short for the offsets of as many presets as it counts",
-            3 => {
-                "the book's records do not stand one after the other from its start to its trailer, as the offsets say"
-            }
-            4 => "the book has no preset of that number",
-            5 => "the kind is not 1, 2 or 3",
-            6 => "the rank is outside its kind's range",
-            7 => "the word has more than 4,096 letters",
-            8 => "a letter is 0 or above the rank",
-            9 => "the window's length is not the lane count",
-            10 => "a window's entry is 0, has a size above the lane count, repeats a size, or is negative in kind A",
-            11 => "a kind D window has an odd number of negative entries",
-            12 => "the place is the word's length or more",
-            13 => "the appended book would exceed 65,535 bytes",
-            14 => "an output is too short for the answer",
-            _ => "a number that this crate does not know",
-        }
-    }
-}
-
-impl fmt::Display for Refusal {
-    fn fmt(&self, f: &mut fmt::Formatter<'_>) -> fmt::Result {
-        write!(f, "refused {}: {}", self.number(), self.meaning())
-    }
-}
-
-impl Error for Refusal {}
-
 /// The answer of the C interface.
 fn answered(answer: i64) -> Result<usize, Refusal> {
     match usize::try_from(answer) {
         Ok(answer) => Ok(answer),
-        Err(_) => Err(Refusal(answer.unsigned_abs() as u8)),
+        Err(_) => Err(Refusal::new(answer.unsigned_abs() as u8)),
     }
 }
 
@@ -137,7 +88,7 @@ pub struct Preset<'a> {
 /// assert_eq!(out, [3, 2, 1, 0]);
 /// ```
 pub fn window_of_word(kind: Kind, rank: u8, word: &[u8], out: &mut [i8]) -> Result<usize, Refusal> {
-    answered(raw::window_of_word(kind.0, rank, word, out))
+    answered(raw::window_of_word(kind.0.into(), rank.into(), word, out))
 }
 
 /// Writes the normal form of a word, and answers with its length. Refusals 5 to 8, 14.
@@ -151,7 +102,7 @@ pub fn window_of_word(kind: Kind, rank: u8, word: &[u8], out: &mut [i8]) -> Resu
 /// # Ok::<(), winnathey::Refusal>(())
 /// ```
 pub fn normal_form_of_word(kind: Kind, rank: u8, word: &[u8], out: &mut [u8]) -> Result<usize, Refusal> {
-    answered(raw::normal_form_of_word(kind.0, rank, word, out))
+    answered(raw::normal_form_of_word(kind.0.into(), rank.into(), word, out))
 }
 
 /// Writes the normal form of a window, and answers with its length. Refusals 5, 6, 9 to 11, 14.
@@ -168,7 +119,7 @@ pub fn normal_form_of_word(kind: Kind, rank: u8, word: &[u8], out: &mut [u8]) ->
 /// # Ok::<(), winnathey::Refusal>(())
 /// ```
 pub fn normal_form_of_window(kind: Kind, rank: u8, window: &[i8], out: &mut [u8]) -> Result<usize, Refusal> {
-    answered(raw::normal_form_of_window(kind.0, rank, window, out))
+    answered(raw::normal_form_of_window(kind.0.into(), rank.into(), window, out))
 }
 
 /// Writes the normal form of the first word followed by the second, and answers with its length. Refusals 5 to 8, 14.
@@ -182,7 +133,7 @@ pub fn normal_form_of_window(kind: Kind, rank: u8, window: &[i8], out: &mut [u8]
 /// # Ok::<(), winnathey::Refusal>(())
 /// ```
 pub fn product_of_words(kind: Kind, rank: u8, first: &[u8], second: &[u8], out: &mut [u8]) -> Result<usize, Refusal> {
-    answered(raw::product_of_words(kind.0, rank, first, second, out))
+    answered(raw::product_of_words(kind.0.into(), rank.into(), first, second, out))
 }
 
 /// Writes the product of two windows, the first's word followed by the second's, and answers with its number of lanes.
@@ -197,7 +148,7 @@ pub fn product_of_words(kind: Kind, rank: u8, first: &[u8], second: &[u8], out: 
 /// # Ok::<(), winnathey::Refusal>(())
 /// ```
 pub fn product_of_windows(kind: Kind, rank: u8, first: &[i8], second: &[i8], out: &mut [i8]) -> Result<usize, Refusal> {
-    answered(raw::product_of_windows(kind.0, rank, first, second, out))
+    answered(raw::product_of_windows(kind.0.into(), rank.into(), first, second, out))
 }
 
 /// Writes the normal form of a word's inverse, and answers with its length. Refusals 5 to 8, 14.
@@ -211,7 +162,7 @@ pub fn product_of_windows(kind: Kind, rank: u8, first: &[i8], second: &[i8], out
 /// # Ok::<(), winnathey::Refusal>(())
 /// ```
 pub fn inverse_of_word(kind: Kind, rank: u8, word: &[u8], out: &mut [u8]) -> Result<usize, Refusal> {
-    answered(raw::inverse_of_word(kind.0, rank, word, out))
+    answered(raw::inverse_of_word(kind.0.into(), rank.into(), word, out))
 }
 
 /// Writes the inverse of a window, and answers with its number of lanes. Refusals 5, 6, 9 to 11, 14.
@@ -225,7 +176,7 @@ pub fn inverse_of_word(kind: Kind, rank: u8, word: &[u8], out: &mut [u8]) -> Res
 /// # Ok::<(), winnathey::Refusal>(())
 /// ```
 pub fn inverse_of_window(kind: Kind, rank: u8, window: &[i8], out: &mut [i8]) -> Result<usize, Refusal> {
-    answered(raw::inverse_of_window(kind.0, rank, window, out))
+    answered(raw::inverse_of_window(kind.0.into(), rank.into(), window, out))
 }
 
 /// The length of a word's normal form. Refusals 5 to 8.
@@ -237,7 +188,7 @@ pub fn inverse_of_window(kind: Kind, rank: u8, window: &[i8], out: &mut [i8]) ->
 /// assert_eq!(length_of_word(Kind::B, 2, &[1, 1]), Ok(0));
 /// ```
 pub fn length_of_word(kind: Kind, rank: u8, word: &[u8]) -> Result<usize, Refusal> {
-    answered(raw::length_of_word(kind.0, rank, word))
+    answered(raw::length_of_word(kind.0.into(), rank.into(), word))
 }
 
 /// The length of a window's normal form. Refusals 5, 6, 9 to 11.
@@ -248,7 +199,7 @@ pub fn length_of_word(kind: Kind, rank: u8, word: &[u8]) -> Result<usize, Refusa
 /// assert_eq!(length_of_window(Kind::B, 2, &[-1, -2]), Ok(4));
 /// ```
 pub fn length_of_window(kind: Kind, rank: u8, window: &[i8]) -> Result<usize, Refusal> {
-    answered(raw::length_of_window(kind.0, rank, window))
+    answered(raw::length_of_window(kind.0.into(), rank.into(), window))
 }
 
 /// Whether two presets are equal: of one kind and rank, and with one window. Refusals 5 to 8, the first preset's
@@ -263,8 +214,15 @@ pub fn length_of_window(kind: Kind, rank: u8, window: &[i8]) -> Result<usize, Re
 /// assert_eq!(same(up, Preset { word: &[], ..up }), Ok(false));
 /// ```
 pub fn same(first: Preset, second: Preset) -> Result<bool, Refusal> {
-    answered(raw::same(first.kind.0, first.rank, first.word, second.kind.0, second.rank, second.word))
-        .map(|answer| answer == 1)
+    answered(raw::same(
+        first.kind.0.into(),
+        first.rank.into(),
+        first.word,
+        second.kind.0.into(),
+        second.rank.into(),
+        second.word,
+    ))
+    .map(|answer| answer == 1)
 }
 
 /// The better of two words with one window: the shorter of the two slices itself; at equal lengths the one earlier in
@@ -278,7 +236,7 @@ pub fn same(first: Preset, second: Preset) -> Result<bool, Refusal> {
 /// assert_eq!(better(Kind::A, 2, &[1], &[2]), []);
 /// ```
 pub fn better<'a>(kind: Kind, rank: u8, first: &'a [u8], second: &'a [u8]) -> &'a [u8] {
-    match raw::better(kind.0, rank, first, second) {
+    match raw::better(kind.0.into(), rank.into(), first, second) {
         1 => first,
         2 => second,
         _ => &first[..0],
@@ -310,7 +268,7 @@ pub enum Rewrite {
 /// ```
 pub fn rewrite(kind: Kind, rank: u8, word: &[u8], place: usize, out: &mut [u8]) -> Result<Rewrite, Refusal> {
     let mut rule = [0; 3];
-    match raw::rewrite(kind.0, rank, word, place, out, &mut rule) {
+    match raw::rewrite(kind.0.into(), rank.into(), word, place, out, &mut rule) {
         raw::NONE_FITS => Ok(Rewrite::NoneFits),
         answer => {
             let length = answered(answer)?;
@@ -362,7 +320,7 @@ pub fn preset(book: &[u8], number: usize) -> Result<Preset<'_>, Refusal> {
 /// # Ok::<(), winnathey::Refusal>(())
 /// ```
 pub fn append(book: &[u8], added: Preset, out: &mut [u8]) -> Result<usize, Refusal> {
-    answered(raw::append(book, added.kind.0, added.rank, added.word, out))
+    answered(raw::append(book, added.kind.0.into(), added.rank.into(), added.word, out))
 }
 
 #[cfg(test)]
@@ -399,14 +357,6 @@ mod tests {
         }
         assert_eq!(number(append(&book, Preset { word: &[1; 4096], ..empty }, &mut letters)), 13);
         assert_eq!(number(append(&book, empty, &mut letters[..book.len() + 5])), 14);
-    }
-
-    #[test]
-    fn each_number_has_a_meaning_of_its_own() {
-        let mut meanings: Vec<_> = (1..=15).map(|number| Refusal(number).meaning()).collect();
-        meanings.sort();
-        meanings.dedup();
-        assert_eq!(meanings.len(), 15);
     }
 
     #[test]

@@ -6,32 +6,32 @@
 mod c {
     unsafe extern "C" {
         pub fn winnathey_window_of_word(
-            kind: u8,
-            rank: u8,
+            kind: u32,
+            rank: u32,
             word: *const u8,
             word_len: usize,
             out: *mut i8,
             out_len: usize,
         ) -> i64;
         pub fn winnathey_normal_form_of_word(
-            kind: u8,
-            rank: u8,
+            kind: u32,
+            rank: u32,
             word: *const u8,
             word_len: usize,
             out: *mut u8,
             out_len: usize,
         ) -> i64;
         pub fn winnathey_normal_form_of_window(
-            kind: u8,
-            rank: u8,
+            kind: u32,
+            rank: u32,
             window: *const i8,
             window_len: usize,
             out: *mut u8,
             out_len: usize,
         ) -> i64;
         pub fn winnathey_product_of_words(
-            kind: u8,
-            rank: u8,
+            kind: u32,
+            rank: u32,
             first: *const u8,
             first_len: usize,
             second: *const u8,
@@ -40,8 +40,8 @@ mod c {
             out_len: usize,
         ) -> i64;
         pub fn winnathey_product_of_windows(
-            kind: u8,
-            rank: u8,
+            kind: u32,
+            rank: u32,
             first: *const i8,
             first_len: usize,
             second: *const i8,
@@ -50,44 +50,44 @@ mod c {
             out_len: usize,
         ) -> i64;
         pub fn winnathey_inverse_of_word(
-            kind: u8,
-            rank: u8,
+            kind: u32,
+            rank: u32,
             word: *const u8,
             word_len: usize,
             out: *mut u8,
             out_len: usize,
         ) -> i64;
         pub fn winnathey_inverse_of_window(
-            kind: u8,
-            rank: u8,
+            kind: u32,
+            rank: u32,
             window: *const i8,
             window_len: usize,
             out: *mut i8,
             out_len: usize,
         ) -> i64;
-        pub fn winnathey_length_of_word(kind: u8, rank: u8, word: *const u8, word_len: usize) -> i64;
-        pub fn winnathey_length_of_window(kind: u8, rank: u8, window: *const i8, window_len: usize) -> i64;
+        pub fn winnathey_length_of_word(kind: u32, rank: u32, word: *const u8, word_len: usize) -> i64;
+        pub fn winnathey_length_of_window(kind: u32, rank: u32, window: *const i8, window_len: usize) -> i64;
         pub fn winnathey_same(
-            kind1: u8,
-            rank1: u8,
+            kind1: u32,
+            rank1: u32,
             word1: *const u8,
             len1: usize,
-            kind2: u8,
-            rank2: u8,
+            kind2: u32,
+            rank2: u32,
             word2: *const u8,
             len2: usize,
         ) -> i64;
         pub fn winnathey_better(
-            kind: u8,
-            rank: u8,
+            kind: u32,
+            rank: u32,
             first: *const u8,
             first_len: usize,
             second: *const u8,
             second_len: usize,
         ) -> i64;
         pub fn winnathey_rewrite(
-            kind: u8,
-            rank: u8,
+            kind: u32,
+            rank: u32,
             word: *const u8,
             word_len: usize,
             place: usize,
@@ -107,8 +107,8 @@ mod c {
         pub fn winnathey_append(
             book: *const u8,
             book_len: usize,
-            kind: u8,
-            rank: u8,
+            kind: u32,
+            rank: u32,
             word: *const u8,
             word_len: usize,
             out: *mut u8,
@@ -126,19 +126,19 @@ pub const NONE_FITS: i64 = -100;
 
 /// The window of a word.
 #[inline]
-pub fn window_of_word(kind: u8, rank: u8, word: &[u8], out: &mut [i8]) -> i64 {
+pub fn window_of_word(kind: u32, rank: u32, word: &[u8], out: &mut [i8]) -> i64 {
     unsafe { c::winnathey_window_of_word(kind, rank, word.as_ptr(), word.len(), out.as_mut_ptr(), out.len()) }
 }
 
 /// The normal form of a word.
 #[inline]
-pub fn normal_form_of_word(kind: u8, rank: u8, word: &[u8], out: &mut [u8]) -> i64 {
+pub fn normal_form_of_word(kind: u32, rank: u32, word: &[u8], out: &mut [u8]) -> i64 {
     unsafe { c::winnathey_normal_form_of_word(kind, rank, word.as_ptr(), word.len(), out.as_mut_ptr(), out.len()) }
 }
 
 /// The normal form of a window.
 #[inline]
-pub fn normal_form_of_window(kind: u8, rank: u8, window: &[i8], out: &mut [u8]) -> i64 {
+pub fn normal_form_of_window(kind: u32, rank: u32, window: &[i8], out: &mut [u8]) -> i64 {
     unsafe {
         c::winnathey_normal_form_of_window(kind, rank, window.as_ptr(), window.len(), out.as_mut_ptr(), out.len())
     }
@@ -146,7 +146,7 @@ pub fn normal_form_of_window(kind: u8, rank: u8, window: &[i8], out: &mut [u8]) 
 
 /// The product of two words, as a normal form.
 #[inline]
-pub fn product_of_words(kind: u8, rank: u8, first: &[u8], second: &[u8], out: &mut [u8]) -> i64 {
+pub fn product_of_words(kind: u32, rank: u32, first: &[u8], second: &[u8], out: &mut [u8]) -> i64 {
     unsafe {
         c::winnathey_product_of_words(
             kind,
@@ -163,7 +163,7 @@ pub fn product_of_words(kind: u8, rank: u8, first: &[u8], second: &[u8], out: &m
 
 /// The product of two windows.
 #[inline]
-pub fn product_of_windows(kind: u8, rank: u8, first: &[i8], second: &[i8], out: &mut [i8]) -> i64 {
+pub fn product_of_windows(kind: u32, rank: u32, first: &[i8], second: &[i8], out: &mut [i8]) -> i64 {
     unsafe {
         c::winnathey_product_of_windows(
             kind,
@@ -180,43 +180,43 @@ pub fn product_of_windows(kind: u8, rank: u8, first: &[i8], second: &[i8], out: 
 
 /// The inverse of a word, as a normal form.
 #[inline]
-pub fn inverse_of_word(kind: u8, rank: u8, word: &[u8], out: &mut [u8]) -> i64 {
+pub fn inverse_of_word(kind: u32, rank: u32, word: &[u8], out: &mut [u8]) -> i64 {
     unsafe { c::winnathey_inverse_of_word(kind, rank, word.as_ptr(), word.len(), out.as_mut_ptr(), out.len()) }
 }
 
 /// The inverse of a window.
 #[inline]
-pub fn inverse_of_window(kind: u8, rank: u8, window: &[i8], out: &mut [i8]) -> i64 {
+pub fn inverse_of_window(kind: u32, rank: u32, window: &[i8], out: &mut [i8]) -> i64 {
     unsafe { c::winnathey_inverse_of_window(kind, rank, window.as_ptr(), window.len(), out.as_mut_ptr(), out.len()) }
 }
 
 /// The length of a word's normal form.
 #[inline]
-pub fn length_of_word(kind: u8, rank: u8, word: &[u8]) -> i64 {
+pub fn length_of_word(kind: u32, rank: u32, word: &[u8]) -> i64 {
     unsafe { c::winnathey_length_of_word(kind, rank, word.as_ptr(), word.len()) }
 }
 
 /// The length of a window's normal form.
 #[inline]
-pub fn length_of_window(kind: u8, rank: u8, window: &[i8]) -> i64 {
+pub fn length_of_window(kind: u32, rank: u32, window: &[i8]) -> i64 {
     unsafe { c::winnathey_length_of_window(kind, rank, window.as_ptr(), window.len()) }
 }
 
 /// 1 if two presets are equal, 0 if not.
 #[inline]
-pub fn same(kind1: u8, rank1: u8, word1: &[u8], kind2: u8, rank2: u8, word2: &[u8]) -> i64 {
+pub fn same(kind1: u32, rank1: u32, word1: &[u8], kind2: u32, rank2: u32, word2: &[u8]) -> i64 {
     unsafe { c::winnathey_same(kind1, rank1, word1.as_ptr(), word1.len(), kind2, rank2, word2.as_ptr(), word2.len()) }
 }
 
 /// 1 or 2 for the better of two words, 0 for neither.
 #[inline]
-pub fn better(kind: u8, rank: u8, first: &[u8], second: &[u8]) -> i64 {
+pub fn better(kind: u32, rank: u32, first: &[u8], second: &[u8]) -> i64 {
     unsafe { c::winnathey_better(kind, rank, first.as_ptr(), first.len(), second.as_ptr(), second.len()) }
 }
 
 /// One rewrite, with family, i and j in the three bytes of `rule`.
 #[inline]
-pub fn rewrite(kind: u8, rank: u8, word: &[u8], place: usize, out: &mut [u8], rule: &mut [u8]) -> i64 {
+pub fn rewrite(kind: u32, rank: u32, word: &[u8], place: usize, out: &mut [u8], rule: &mut [u8]) -> i64 {
     unsafe {
         c::winnathey_rewrite(
             kind,
@@ -246,7 +246,7 @@ pub fn preset(book: &[u8], number: usize, fields: &mut [u64]) -> i64 {
 
 /// A book with one record more.
 #[inline]
-pub fn append(book: &[u8], kind: u8, rank: u8, word: &[u8], out: &mut [u8]) -> i64 {
+pub fn append(book: &[u8], kind: u32, rank: u32, word: &[u8], out: &mut [u8]) -> i64 {
     unsafe {
         c::winnathey_append(
             book.as_ptr(),

@@ -1,0 +1,103 @@
+//! The safe Rust functions with the parameters and the answers of the C interface: the same number, and in the outputs
+//! what the safe function wrote or returned. None where it cannot be called so, as with a kind that is no byte.
+use winnathey::{Kind, Preset, Refusal, Rewrite, raw};
+
+/// A kind and a rank that are bytes.
+fn rig(kind: u32, rank: u32) -> Option<(Kind, u8)> {
+    Some((Kind(kind.try_into().ok()?), rank.try_into().ok()?))
+}
+
+fn a_preset(kind: u32, rank: u32, word: &[u8]) -> Option<Preset<'_>> {
+    rig(kind, rank).map(|(kind, rank)| Preset { kind, rank, word })
+}
+
+fn coded(answer: Result<usize, Refusal>) -> i64 {
+    match answer {
+        Ok(answer) => answer as i64,
+        Err(refusal) => -i64::from(refusal.number()),
+    }
+}
+
+pub fn window_of_word(kind: u32, rank: u32, word: &[u8], out: &mut [i8]) -> Option<i64> {
+    rig(kind, rank).map(|(kind, rank)| coded(winnathey::window_of_word(kind, rank, word, out)))
+}
+
+pub fn normal_form_of_word(kind: u32, rank: u32, word: &[u8], out: &mut [u8]) -> Option<i64> {
+    rig(kind, rank).map(|(kind, rank)| coded(winnathey::normal_form_of_word(kind, rank, word, out)))
+}
+
+pub fn normal_form_of_window(kind: u32, rank: u32, window: &[i8], out: &mut [u8]) -> Option<i64> {
+    rig(kind, rank).map(|(kind, rank)| coded(winnathey::normal_form_of_window(kind, rank, window, out)))
+}
+
+pub fn product_of_words(kind: u32, rank: u32, first: &[u8], second: &[u8], out: &mut [u8]) -> Option<i64> {
+    rig(kind, rank).map(|(kind, rank)| coded(winnathey::product_of_words(kind, rank, first, second, out)))
+}
+
+pub fn product_of_windows(kind: u32, rank: u32, first: &[i8], second: &[i8], out: &mut [i8]) -> Option<i64> {
+    rig(kind, rank).map(|(kind, rank)| coded(winnathey::product_of_windows(kind, rank, first, second, out)))
+}
+
+pub fn inverse_of_word(kind: u32, rank: u32, word: &[u8], out: &mut [u8]) -> Option<i64> {
+    rig(kind, rank).map(|(kind, rank)| coded(winnathey::inverse_of_word(kind, rank, word, out)))
+}
+
+pub fn inverse_of_window(kind: u32, rank: u32, window: &[i8], out: &mut [i8]) -> Option<i64> {
+    rig(kind, rank).map(|(kind, rank)| coded(winnathey::inverse_of_window(kind, rank, window, out)))
+}
+
+pub fn length_of_word(kind: u32, rank: u32, word: &[u8]) -> Option<i64> {
+    rig(kind, rank).map(|(kind, rank)| coded(winnathey::length_of_word(kind, rank, word)))
+}
+
+pub fn length_of_window(kind: u32, rank: u32, window: &[i8]) -> Option<i64> {
+    rig(kind, rank).map(|(kind, rank)| coded(winnathey::length_of_window(kind, rank, window)))
+}
+
+pub fn same(kind1: u32, rank1: u32, word1: &[u8], kind2: u32, rank2: u32, word2: &[u8]) -> Option<i64> {
+    let (first, second) = (a_preset(kind1, rank1, word1)?, a_preset(kind2, rank2, word2)?);
+    Some(coded(winnathey::same(first, second).map(usize::from)))
+}
+
+/// The number for a slice is the library's own where that stands for this very slice: an empty first word is its own
+/// empty part, so that the slice alone cannot tell 1 from 0.
+pub fn better(kind: u32, rank: u32, first: &[u8], second: &[u8]) -> Option<i64> {
+    let (safe_kind, safe_rank) = rig(kind, rank)?;
+    let word = winnathey::better(safe_kind, safe_rank, first, second);
+    let number = raw::better(kind, rank, first, second);
+    let due = [&first[..0], first, second];
+    Some(if due.get(number as usize).is_some_and(|&due| std::ptr::eq(word, due)) { number } else { i64::MIN })
+}
+
+/// The safe function always has room for the rule.
+pub fn rewrite(kind: u32, rank: u32, word: &[u8], place: usize, out: &mut [u8], rule: &mut [u8]) -> Option<i64> {
+    let (kind, rank) = rig(kind, rank)?;
+    let rule = rule.get_mut(..3)?;
+    Some(match winnathey::rewrite(kind, rank, word, place, out) {
+        Ok(Rewrite::Used { family, i, j, length }) => {
+            rule.copy_from_slice(&[family, i, j]);
+            length as i64
+        }
+        Ok(Rewrite::NoneFits) => raw::NONE_FITS,
+        Err(refusal) => coded(Err(refusal)),
+    })
+}
+
+pub fn book_check(book: &[u8]) -> Option<i64> {
+    Some(coded(winnathey::book_check(book)))
+}
+
+/// The safe function always has room for the fields. The letters must be the book's own bytes.
+pub fn preset(book: &[u8], number: usize, fields: &mut [u64]) -> Option<i64> {
+    let fields = fields.get_mut(..4)?;
+    let found = winnathey::preset(book, number).map(|Preset { kind, rank, word }| {
+        let start = word.as_ptr().addr().wrapping_sub(book.as_ptr().addr());
+        fields.copy_from_slice(&[kind.0.into(), rank.into(), start as u64, word.len() as u64]);
+        fields.len()
+    });
+    Some(coded(found))
+}
+
+pub fn append(book: &[u8], kind: u32, rank: u32, word: &[u8], out: &mut [u8]) -> Option<i64> {
+    a_preset(kind, rank, word).map(|added| coded(winnathey::append(book, added, out)))
+}

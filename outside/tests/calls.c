@@ -1,0 +1,247 @@
+/* Every call of winnathey.h, with each refusal among the answers. Each line printed is a call, its answer and what it wrote. Ends with status 1 if a
+   refused call wrote anything or a refusal never came. It is C and C++ at once. */
+#include <inttypes.h>
+#include <stdint.h>
+#include <stdio.h>
+#include <string.h>
+
+#include "winnathey.h"
+
+#define ROOM 40
+#define FILL 0x5a
+
+/* The outputs, filled before each call with what no call below writes. */
+static int8_t lanes[ROOM];
+static uint8_t bytes[ROOM];
+static uint8_t rule[ROOM];
+static uint64_t fields[ROOM];
+
+static int failed;
+static int seen[15]; /* by the refusal's number; none fits is at 0 */
+
+static void fill(void)
+{
+    memset(lanes, FILL, sizeof lanes);
+    memset(bytes, FILL, sizeof bytes);
+    memset(rule, FILL, sizeof rule);
+    memset(fields, FILL, sizeof fields);
+}
+
+/* An entry of an output, by the first letter of the output's name. */
+static int64_t entry(char output, int i)
+{
+    switch (output) {
+    case 'l':
+        return lanes[i];
+    case 'b':
+        return bytes[i];
+    case 'r':
+        return rule[i];
+    default:
+        return (int64_t)fields[i];
+    }
+}
+
+/* Prints an output up to the last entry that was written, and says how many those are. */
+static int show(const char *name)
+{
+    int written = ROOM;
+    while (written > 0 && (entry(*name, written - 1) & 0xff) == FILL)
+        written--;
+    if (written > 0)
+        printf(", %s", name);
+    for (int i = 0; i < written; i++)
+        printf(" %" PRId64, entry(*name, i));
+    return written;
+}
+
+static void told(const char *call, int64_t answer)
+{
+    printf("%s = ", call);
+    if (answer == WINNATHEY_NONE_FITS)
+        printf("none fits");
+    else
+        printf("%" PRId64, answer);
+    int written = show("lanes") + show("bytes") + show("rule") + show("fields");
+    printf("\n");
+    if (answer >= 0)
+        return;
+    if (written > 0) {
+        printf("a refused call wrote\n");
+        failed = 1;
+    }
+    if (answer == WINNATHEY_NONE_FITS)
+        seen[0] = 1;
+    else if (answer >= -14)
+        seen[-answer] = 1;
+}
+
+#define CALL(call)           \
+    do {                     \
+        fill();              \
+        told(#call, (call)); \
+    } while (0)
+
+static const uint8_t w1[] = {1}, w2[] = {2}, w9[] = {9}, w0[] = {0};
+static const uint8_t w12[] = {1, 2}, w11[] = {1, 1}, w34[] = {3, 4};
+static const uint8_t w121[] = {1, 2, 1}, w212[] = {2, 1, 2}, w1212[] = {1, 2, 1, 2};
+static const uint8_t d5_word[] = {5, 2, 3, 5, 1, 2};
+static const uint8_t too_long[4097] = {0};
+
+static const int8_t straight3[] = {1, 2, 3}, straight4[] = {1, 2, 3, 4};
+static const int8_t b2[] = {-1, -2}, a2[] = {2, 3, 1}, least[] = {-128, 2}, odd[] = {-1, 2, 3, 4};
+static const int8_t d5[] = {3, -5, 1, 4, -2};
+
+static const uint8_t no_presets[] = {0, 0}, bad_count[] = {1, 0}, bad_end[] = {0, 0, 0};
+static const uint8_t book[] = {2, 2, 4, 0, 1, 2, 1, 2, 3, 5, 6, 0, 5, 2, 3, 5, 1, 2, 0, 0, 8, 0, 2, 0};
+static const uint8_t bad_letter[] = {2, 2, 1, 0, 3, 0, 0, 1, 0};
+static uint8_t full[65533]; /* one record of 65,525 letters */
+
+static void words(void)
+{
+    CALL(winnathey_window_of_word(1, 2, w121, 3, lanes, 3));
+    CALL(winnathey_window_of_word(2, 2, w1212, 4, lanes, ROOM));
+    CALL(winnathey_window_of_word(1, 2, NULL, 0, lanes, ROOM));
+    CALL(winnathey_window_of_word(1, 2, w121, 3, lanes, 2));
+    CALL(winnathey_window_of_word(1, 2, w121, 3, NULL, 0));
+    CALL(winnathey_window_of_word(0, 2, w121, 3, lanes, 3));
+    CALL(winnathey_window_of_word(257, 2, w121, 3, lanes, 3));
+    CALL(winnathey_window_of_word(1, 258, w121, 3, lanes, 3));
+    CALL(winnathey_window_of_word(1, 2, w9, 1, lanes, 3));
+
+    CALL(winnathey_normal_form_of_word(2, 2, w1212, 4, bytes, 4));
+    CALL(winnathey_normal_form_of_word(3, 5, d5_word, 6, bytes, ROOM));
+    CALL(winnathey_normal_form_of_word(1, 2, w11, 2, NULL, 0));
+    CALL(winnathey_normal_form_of_word(1, 2, NULL, 0, NULL, 0));
+    CALL(winnathey_normal_form_of_word(2, 2, w1212, 4, bytes, 3));
+    CALL(winnathey_normal_form_of_word(4, 2, w1212, 4, bytes, 4));
+    CALL(winnathey_normal_form_of_word(2, 33, w1212, 4, bytes, 4));
+    CALL(winnathey_normal_form_of_word(UINT32_MAX, UINT32_MAX, w1212, 4, bytes, 4));
+    CALL(winnathey_normal_form_of_word(2, 2, too_long, 4097, bytes, 4));
+
+    CALL(winnathey_product_of_words(1, 2, w12, 2, w1, 1, bytes, ROOM));
+    CALL(winnathey_product_of_words(1, 2, w1, 1, NULL, 0, bytes, ROOM));
+    CALL(winnathey_product_of_words(1, 2, NULL, 0, NULL, 0, NULL, 0));
+    CALL(winnathey_product_of_words(1, 2, w1, 1, w2, 1, bytes, 1));
+    CALL(winnathey_product_of_words(1, 2, w1, 1, w0, 1, bytes, ROOM));
+    CALL(winnathey_product_of_words(65537, 2, w1, 1, w2, 1, bytes, ROOM));
+
+    CALL(winnathey_inverse_of_word(1, 2, w12, 2, bytes, ROOM));
+    CALL(winnathey_inverse_of_word(1, 2, NULL, 0, NULL, 0));
+    CALL(winnathey_inverse_of_word(1, 2, w12, 2, bytes, 1));
+    CALL(winnathey_inverse_of_word(1, 32, w12, 2, bytes, ROOM));
+
+    CALL(winnathey_length_of_word(2, 2, w1212, 4));
+    CALL(winnathey_length_of_word(1, 2, NULL, 0));
+    CALL(winnathey_length_of_word(257, 259, w12, 2));
+    CALL(winnathey_length_of_word(1, 259, w12, 2));
+    CALL(winnathey_length_of_word(1, 2, too_long, 4097));
+
+    CALL(winnathey_same(1, 2, w121, 3, 1, 2, w212, 3));
+    CALL(winnathey_same(1, 2, w1, 1, 1, 2, w2, 1));
+    CALL(winnathey_same(2, 4, NULL, 0, 3, 4, NULL, 0));
+    CALL(winnathey_same(1, 2, w9, 1, 4, 2, w1, 1));
+    CALL(winnathey_same(1, 2, w1, 1, 257, 2, w1, 1));
+    CALL(winnathey_same(1, 2, w1, 1, 1, 258, w1, 1));
+
+    CALL(winnathey_better(1, 2, w121, 3, w212, 3));
+    CALL(winnathey_better(1, 2, w212, 3, w121, 3));
+    CALL(winnathey_better(1, 2, w11, 2, NULL, 0));
+    CALL(winnathey_better(1, 2, w1, 1, w2, 1));
+    CALL(winnathey_better(257, 2, w1, 1, w1, 1));
+    CALL(winnathey_better(1, 258, w1, 1, w1, 1));
+}
+
+static void windows(void)
+{
+    CALL(winnathey_normal_form_of_window(3, 5, d5, 5, bytes, ROOM));
+    CALL(winnathey_normal_form_of_window(2, 2, b2, 2, bytes, 4));
+    CALL(winnathey_normal_form_of_window(1, 2, straight3, 3, NULL, 0));
+    CALL(winnathey_normal_form_of_window(2, 2, b2, 2, bytes, 3));
+    CALL(winnathey_normal_form_of_window(258, 2, b2, 2, bytes, 4));
+    CALL(winnathey_normal_form_of_window(2, 2, NULL, 0, bytes, 4));
+
+    CALL(winnathey_product_of_windows(1, 2, a2, 3, a2, 3, lanes, ROOM));
+    CALL(winnathey_product_of_windows(2, 2, b2, 2, b2, 2, lanes, 2));
+    CALL(winnathey_product_of_windows(1, 2, a2, 3, a2, 3, lanes, 2));
+    CALL(winnathey_product_of_windows(1, 2, a2, 3, NULL, 0, NULL, 0));
+    CALL(winnathey_product_of_windows(3, 4, straight4, 4, odd, 4, lanes, ROOM));
+    CALL(winnathey_product_of_windows(1, 258, a2, 3, a2, 3, lanes, ROOM));
+
+    CALL(winnathey_inverse_of_window(1, 2, a2, 3, lanes, 3));
+    CALL(winnathey_inverse_of_window(3, 5, d5, 5, lanes, ROOM));
+    CALL(winnathey_inverse_of_window(1, 2, a2, 3, NULL, 0));
+    CALL(winnathey_inverse_of_window(2, 2, least, 2, lanes, 2));
+    CALL(winnathey_inverse_of_window(1, 1, b2, 2, lanes, 2));
+
+    CALL(winnathey_length_of_window(3, 5, d5, 5));
+    CALL(winnathey_length_of_window(1, 2, NULL, 0));
+    CALL(winnathey_length_of_window(3, 4, odd, 4));
+    CALL(winnathey_length_of_window(0, 0, NULL, 0));
+}
+
+static void rewrites(void)
+{
+    CALL(winnathey_rewrite(3, 4, w34, 2, 0, bytes, 2, rule, 3));
+    CALL(winnathey_rewrite(2, 4, w34, 2, 0, bytes, 2, rule, 3));
+    CALL(winnathey_rewrite(1, 2, w11, 2, 0, NULL, 0, rule, ROOM));
+    CALL(winnathey_rewrite(1, 2, w121, 3, 0, bytes, ROOM, rule, ROOM));
+    CALL(winnathey_rewrite(1, 2, w121, 3, 0, bytes, 2, rule, 3));
+    CALL(winnathey_rewrite(1, 2, w121, 3, 0, bytes, 3, rule, 2));
+    CALL(winnathey_rewrite(1, 2, w121, 3, 0, bytes, 3, NULL, 0));
+    CALL(winnathey_rewrite(2, 4, w34, 2, 0, NULL, 0, NULL, 0));
+    CALL(winnathey_rewrite(1, 2, w121, 3, 3, bytes, 3, rule, 3));
+    CALL(winnathey_rewrite(1, 2, NULL, 0, 0, bytes, 3, rule, 3));
+    CALL(winnathey_rewrite(257, 2, w121, 3, 0, bytes, 3, rule, 3));
+    CALL(winnathey_rewrite(1, 258, w121, 3, 0, bytes, 3, rule, 3));
+}
+
+static void books(void)
+{
+    CALL(winnathey_book_check(book, sizeof book));
+    CALL(winnathey_book_check(no_presets, sizeof no_presets));
+    CALL(winnathey_book_check(full, sizeof full));
+    CALL(winnathey_book_check(NULL, 0));
+    CALL(winnathey_book_check(bad_count, sizeof bad_count));
+    CALL(winnathey_book_check(bad_end, sizeof bad_end));
+
+    CALL(winnathey_preset(book, sizeof book, 0, fields, 4));
+    CALL(winnathey_preset(book, sizeof book, 1, fields, ROOM));
+    CALL(winnathey_preset(book, sizeof book, 2, fields, 4));
+    CALL(winnathey_preset(book, sizeof book, SIZE_MAX, fields, 4));
+    CALL(winnathey_preset(book, sizeof book, 0, fields, 3));
+    CALL(winnathey_preset(book, sizeof book, 0, NULL, 0));
+    CALL(winnathey_preset(NULL, 0, 0, fields, 4));
+    CALL(winnathey_preset(bad_letter, sizeof bad_letter, 0, fields, 4));
+    CALL(winnathey_preset(full, sizeof full, 0, fields, 4));
+
+    CALL(winnathey_append(no_presets, sizeof no_presets, 2, 2, w1212, 4, bytes, 12));
+    CALL(winnathey_append(no_presets, sizeof no_presets, 1, 1, NULL, 0, bytes, ROOM));
+    CALL(winnathey_append(book, sizeof book, 1, 1, w1, 1, bytes, ROOM));
+    CALL(winnathey_append(book, sizeof book, 1, 1, w1, 1, bytes, 30));
+    CALL(winnathey_append(book, sizeof book, 1, 1, w1, 1, NULL, 0));
+    CALL(winnathey_append(NULL, 0, 1, 1, w1, 1, bytes, ROOM));
+    CALL(winnathey_append(book, sizeof book, 257, 1, w1, 1, bytes, ROOM));
+    CALL(winnathey_append(book, sizeof book, 1, 257, w1, 1, bytes, ROOM));
+    CALL(winnathey_append(full, sizeof full, 1, 1, NULL, 0, bytes, ROOM));
+}
+
+int main(void)
+{
+    /* Kind 1, rank 1, 65,525 = 0xfff5 letters, then the offset 0 and the count 1. */
+    full[0] = full[1] = full[65531] = 1;
+    full[2] = 0xf5;
+    full[3] = 0xff;
+
+    words();
+    windows();
+    rewrites();
+    books();
+
+    for (int k = 0; k <= 14; k++)
+        if (!seen[k]) {
+            printf("never: %s %d\n", k == 0 ? "none fits," : "refusal", k);
+            failed = 1;
+        }
+    return failed;
+}

@@ -1,0 +1,149 @@
+//! The refusals, with the requirement's sentence for each.
+use std::error::Error;
+use std::fmt;
+
+/// Refusal k is at k - 1.
+const SENTENCES: [&str; 14] = [
+    "the book has fewer than 2 or more than 65,535 bytes",
+    "two times c, plus 2, exceeds the book's length",
+    "an offset is not where the record before it ends (0 for the first), a record runs into the trailer, \
+     or the last record does not end at the trailer (with c = 0, the trailer is not at byte 0)",
+    "the preset number is c or more",
+    "the kind is not 1, 2 or 3",
+    "the rank is outside its kind's range",
+    "the word has more than 4,096 letters",
+    "a letter is 0 or above the rank",
+    "the window's length is not the lane count",
+    "an entry is 0, has a size above the lane count, repeats a size, or is negative in kind A",
+    "a kind D window has an odd number of negative entries",
+    "the place is the word's length or more",
+    "the appended book would exceed 65,535 bytes",
+    "an output is shorter than the part of the answer that goes there",
+];
+
+/// Why a call was turned down: the number of the first check that failed, in checking order.
+///
+/// ```
+/// use winnathey::{Kind, length_of_word};
+///
+/// let refusal = length_of_word(Kind::A, 2, &[1, 3]).unwrap_err();
+/// assert_eq!(refusal.number(), 8);
+/// assert_eq!(refusal.to_string(), "refused 8: a letter is 0 or above the rank");
+/// ```
+#[derive(Clone, Copy, PartialEq, Eq, PartialOrd, Ord, Hash, Debug)]
+pub struct Refusal(u8);
+
+impl Refusal {
+    pub(crate) fn new(number: u8) -> Refusal {
+        Refusal(number)
+    }
+
+    /// The number, from 1 to 14.
+    pub fn number(self) -> u8 {
+        self.0
+    }
+
+    /// What the number says, where c is the count of presets at the end of a book.
+    pub fn meaning(self) -> &'static str {
+        let sentence = usize::from(self.0).checked_sub(1).and_then(|at| SENTENCES.get(at));
+        sentence.unwrap_or(&"a number that this crate does not know")
+    }
+}
+
+impl fmt::Display for Refusal {
+    fn fmt(&self, f: &mut fmt::Formatter<'_>) -> fmt::Result {
+        write!(f, "refused {}: {}", self.number(), self.meaning())
+    }
+}
+
+impl Error for Refusal {}
+
+/// The numbers and sentences of this file, README.md, the header and the quotations in the specs are held to each other.
+#[cfg(test)]
+mod tests {
+    use super::*;
+    use std::fs;
+    use std::path::{Path, PathBuf};
+
+    /// Numbers with sentences, in the order of the numbers.
+    type List = Vec<(usize, String)>;
+
+    fn root() -> PathBuf {
+        Path::new(env!("CARGO_MANIFEST_DIR")).join("../..")
+    }
+
+    fn text(path: impl AsRef<Path>) -> String {
+        let path = root().join(path);
+        fs::read_to_string(&path).unwrap_or_else(|error| panic!("{}: {error}", path.display()))
+    }
+
+    /// The list here, as sentences: with a capital and a full stop.
+    fn here() -> List {
+        let sentence = |words: &str| words[..1].to_uppercase() + &words[1..] + ".";
+        (1..).zip(SENTENCES.map(sentence)).collect()
+    }
+
+    /// README.md: the rows `| 5 | The kind is not 1, 2 or 3. |` of its section.
+    fn readme() -> List {
+        let row = |line: &str| {
+            let mut cells = line.strip_prefix("| ")?.strip_suffix(" |")?.split(" | ");
+            Some((cells.next()?.parse().ok()?, cells.next()?.to_string()))
+        };
+        let readme = text("README.md");
+        let (_, section) = readme.split_once("\n## Refusals\n").expect("a section on refusals");
+        section.lines().take_while(|line| !line.starts_with("## ")).filter_map(row).collect()
+    }
+
+    /// The header: its lines ` *    5  The kind is not 1, 2 or 3.`, each of which goes on until a full stop ends a line.
+    fn header() -> List {
+        let mut list = List::new();
+        for line in text("include/winnathey.h").lines() {
+            let line = line.trim_start_matches([' ', '*']);
+            let refusal = line.split_once("  ").and_then(|(number, words)| Some((number.parse().ok()?, words.into())));
+            match (refusal, list.last_mut()) {
+                (Some(refusal), _) => list.push(refusal),
+                (None, Some((_, words))) if !words.ends_with('.') => *words += &format!(" {line}"),
+                _ => {}
+            }
+        }
+        list
+    }
+
+    /// The specs: what their comments quote as `"5. The kind is not 1, 2 or 3."`.
+    fn specs() -> List {
+        let mut list = List::new();
+        for folder in fs::read_dir(root().join("crates")).unwrap() {
+            let Ok(files) = fs::read_dir(folder.unwrap().path().join("specs")) else { continue };
+            for file in files {
+                let mut comment = String::new();
+                for line in text(file.unwrap().path()).lines().chain([""]) {
+                    if let Some(words) = line.trim_start().strip_prefix("--") {
+                        comment += words;
+                        continue;
+                    }
+                    list.extend(comment.split('"').skip(1).step_by(2).filter_map(|quoted| {
+                        let (number, words) = quoted.split_once(". ")?;
+                        Some((number.parse().ok()?, words.to_string()))
+                    }));
+                    comment.clear();
+                }
+            }
+        }
+        list.sort();
+        list.dedup();
+        list
+    }
+
+    #[test]
+    fn the_same_numbers_and_sentences_everywhere() {
+        assert_eq!(readme(), here(), "README.md and SENTENCES");
+        assert_eq!(header(), here(), "include/winnathey.h and SENTENCES");
+        assert_eq!(specs(), here(), "crates/*/specs and SENTENCES");
+    }
+
+    #[test]
+    fn a_number_without_a_sentence_is_not_known() {
+        assert!((1..=14).all(|number| !Refusal(number).meaning().contains("not know")));
+        assert!([0, 15, 255].iter().all(|&number| Refusal(number).meaning().contains("not know")));
+    }
+}
