@@ -1,15 +1,15 @@
 // The search for the rule that fits at a place. The letters are followed along the way of the blocks [i,j] of the first letter i; the letter
-// that leaves the way decides the rule, so at most 2n + 1 letters are looked at.
+// that leaves the way decides the rule, so at most 2n letters are looked at.
 ghost use mathlib.Core.Path.{_≡_};
 ghost use mathlib.Core.Bool.{false};
 ghost use mathlib.Core.Option.{none, some};
-ghost use Prim.Native.Nat.{_+_, _-_, _*_, _<_, _≤_};
-ghost use lib.Dec.{eqb, ltb};
+ghost use Prim.Native.Nat.{_*_, _<_, _≤_};
 ghost use lib.ListN.{length};
-ghost use Rattle.coxeter.specs.Kinds.{pick, kindOf, least};
+ghost use Rattle.coxeter.specs.Kinds.{kindOf, least};
 ghost use Rattle.coxeter.specs.NormalForm.{levels, lastIndex};
 ghost use Rattle.coxeter.specs.Checks.{wrongLetter};
 ghost use Rattle.rules.specs.Rules.{rules, firstFitting};
+ghost use Rattle.rules.proofs.Scan.{nextIndex, fork, familyAtEnd, familyAt, shownIndex};
 
 // A rule that fits, as a rewrite answers it, with the length of its left side.
 pub(crate) enum Fitting {
@@ -38,7 +38,7 @@ fn corner_of(kind: u8, n: u8) -> u8
 
 // The last index of the blocks of level i.
 fn last_index_of(kind: u8, n: u8, i: u8) -> u8
-    requires { ⌜ (n ≤ 32) × (i ≤ n) ⌝ }
+    requires { ⌜ (n ≤ 64) × (i ≤ n) ⌝ }
     ensures { λ r. ⌜ r ≡ lastIndex (kindOf kind) n i ⌝ }
 {
     if kind == 1 {
@@ -50,7 +50,7 @@ fn last_index_of(kind: u8, n: u8, i: u8) -> u8
 // The step after which the way of kind D's blocks goes on with n - 1 or with n; the other kinds have none.
 fn fork_of(kind: u8, n: u8) -> u8
     requires { ⌜ least (kindOf kind) ≤ n ⌝ }
-    ensures { λ r. ⌜ r ≡ pick (eqb kind 1) 0 (pick (eqb kind 2) 0 (n - 2)) ⌝ }
+    ensures { λ r. ⌜ r ≡ fork (kindOf kind) n ⌝ }
 {
     if kind == 1 {
         return 0;
@@ -63,11 +63,8 @@ fn fork_of(kind: u8, n: u8) -> u8
 
 // The index of the block [i,j] with the letter x after it, or 0 where x leaves the way.
 fn next_index(n: u8, corner: u8, last: u8, j: u8, x: u8) -> u8
-    requires { ⌜ (n ≤ 32) × (last ≤ 2 * n) × (x ≤ n) ⌝ }
-    ensures { λ r. ⌜ r ≡
-        pick (ltb j n)
-        (pick (eqb x n) (pick (eqb (j + 1) corner) n 0) (pick (eqb x (j + 1)) x 0))
-        (pick (ltb j last) (pick (eqb (x + j + 1) (2 * n)) (j + 1) 0) 0) ⌝ }
+    requires { ⌜ (n ≤ 64) × (last ≤ 2 * n) × (x ≤ n) ⌝ }
+    ensures { λ r. ⌜ r ≡ nextIndex n corner last j x ⌝ }
 {
     if j < n {
         if x == n {
@@ -92,9 +89,8 @@ fn next_index(n: u8, corner: u8, last: u8, j: u8, x: u8) -> u8
 
 // The family whose left side is [i,2n-i] x, or 0.
 fn family_at_end(n: u8, fork: u8, i: u8, x: u8) -> u8
-    requires { ⌜ (n ≤ 32) × (i ≤ n) ⌝ }
-    ensures { λ r. ⌜ r ≡
-        pick (eqb i fork) (pick (eqb x n) 6 (pick (eqb x (i + 1)) 7 0)) (pick (eqb x (i + 1)) 4 0) ⌝ }
+    requires { ⌜ (n ≤ 64) × (i ≤ n) ⌝ }
+    ensures { λ r. ⌜ r ≡ familyAtEnd n fork i x ⌝ }
 {
     if i == fork {
         if x == n {
@@ -113,13 +109,8 @@ fn family_at_end(n: u8, fork: u8, i: u8, x: u8) -> u8
 
 // The family whose left side is [i,j] x, where x leaves the way, or 0.
 fn family_at(n: u8, fork: u8, i: u8, j: u8, x: u8) -> u8
-    requires { ⌜ (n ≤ 32) × (i ≤ n) × (j ≤ 2 * n) ⌝ }
-    ensures { λ r. ⌜ r ≡
-        pick (eqb j i)
-        (pick (eqb x i) 1 (pick (ltb i x) 2 0))
-        (pick (eqb (i + j) (2 * n))
-        (pick (eqb i fork) (pick (eqb x n) 6 (pick (eqb x (i + 1)) 7 0)) (pick (eqb x (i + 1)) 4 0))
-        (pick (eqb x i) (pick (eqb i fork) (pick (eqb j n) 5 3) 3) 0)) ⌝ }
+    requires { ⌜ (n ≤ 64) × (i ≤ n) × (j ≤ 2 * n) ⌝ }
+    ensures { λ r. ⌜ r ≡ familyAt n fork i j x ⌝ }
 {
     if j == i {
         if x == i {
@@ -145,36 +136,23 @@ fn family_at(n: u8, fork: u8, i: u8, j: u8, x: u8) -> u8
     0
 }
 
-// The rule of a family as a rewrite shows it.
-fn shown(family: u8, i: u8, j: u8, x: u8, left: usize) -> Fitting
-    ensures { λ r. ⌜ r ≡ pick (eqb family 0) Fitting.Nothing (Fitting.Rule family i (pick (eqb family 2) x (pick (eqb family 3) j 0)) left) ⌝ }
+// The j that a rule of the family shows.
+fn shown_index(family: u8, j: u8, x: u8) -> u8
+    ensures { λ r. ⌜ r ≡ shownIndex family j x ⌝ }
 {
-    if family == 0 {
-        return Fitting::Nothing;
-    }
     if family == 2 {
-        return Fitting::Rule {
-            family,
-            i,
-            j: x,
-            left,
-        };
+        return x;
     }
     if family == 3 {
-        return Fitting::Rule { family, i, j, left };
+        return j;
     }
-    Fitting::Rule {
-        family,
-        i,
-        j: 0,
-        left,
-    }
+    0
 }
 
 // The rule that fits at a place.
 pub(crate) fn fitting_rule(kind: u8, n: u8, word: &[u8], place: usize) -> Fitting
     requires { ⌜ least (kindOf kind) ≤ n ⌝ }
-    requires { ⌜ n ≤ 32 ⌝ }
+    requires { ⌜ n ≤ 64 ⌝ }
     requires { ⌜ wrongLetter n (now word) ≡ false ⌝ }
     requires { ⌜ place < length (now word) ⌝ }
     ensures { λ r. ⌜ r ≡ elim (firstFitting (rules (kindOf kind) n) (now (word .entry)) place) [
@@ -193,7 +171,17 @@ pub(crate) fn fitting_rule(kind: u8, n: u8, word: &[u8], place: usize) -> Fittin
         let next = next_index(n, corner, last, j, x);
         if next == 0 {
             let family = family_at(n, fork, i, j, x);
-            return shown(family, i, j, x, at + 1 - place);
+            if family == 0 {
+                return Fitting::Nothing;
+            }
+            let shown = shown_index(family, j, x);
+            let left = at + 1 - place;
+            return Fitting::Rule {
+                family,
+                i,
+                j: shown,
+                left,
+            };
         }
         j = next;
         at += 1;

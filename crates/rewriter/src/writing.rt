@@ -1,10 +1,11 @@
 // Writing the word that a rule leaves: what stands before, the right side and what stands after, each byte once.
 ghost use mathlib.Core.Path.{_≡_};
-ghost use mathlib.Core.List.{[], _∷_, _++_};
+ghost use mathlib.Core.List.{_∷_, _++_};
 ghost use Prim.Native.Nat.{_+_, _-_, _<_, _≤_};
-ghost use lib.Dec.{eqb, ltb};
 ghost use lib.ListN.{length, take, drop};
-ghost use Rattle.coxeter.specs.Kinds.{pick};
+ghost use Rattle.rules.specs.Rules.{rewritten};
+ghost use Rattle.rules.specs.Calls.{atFront};
+ghost use Rattle.rules.proofs.Scan.{firstLetter, shownRule, rightLength};
 
 // `part` written to `out` from `at` on.
 fn copy(part: &[u8], out: &mut [u8], at: usize)
@@ -12,17 +13,13 @@ fn copy(part: &[u8], out: &mut [u8], at: usize)
     ensures { λ _. ⌜ now (out .exit) ≡
         take at (now (out .entry)) ++ (now (part .entry) ++ drop (at + length (now (part .entry))) (now (out .entry))) ⌝ }
 {
-    let mut i = 0;
-    while i < part.len() {
-        out[at + i] = part[i];
-        i += 1;
-    }
+    bytes::copy(part, &mut out[at..]);
 }
 
-// The length of the word that a rule of the family leaves.
+// The length of the word that a rule of the family leaves: without its left side of `left` letters, with its right side.
 pub(crate) fn new_length(family: u8, left: usize, length: usize) -> usize
     requires { ⌜ left ≤ length ⌝ }
-    ensures { λ r. ⌜ r ≡ pick (eqb family 1) (length - left) length ⌝ }
+    ensures { λ r. ⌜ r ≡ length - left + rightLength family left ⌝ }
 {
     if family == 1 {
         return length - left;
@@ -35,7 +32,7 @@ fn write_without(word: &[u8], place: usize, left: usize, out: &mut [u8])
     requires { ⌜ place + left ≤ length (now word) ⌝ }
     requires { ⌜ length (now word) - left ≤ length (now out) ⌝ }
     ensures { λ _. ⌜ now (out .exit) ≡
-        (take place (now (word .entry)) ++ drop (place + left) (now (word .entry))) ++ drop (length (now (word .entry)) - left) (now (out .entry)) ⌝ }
+        atFront (take place (now (word .entry)) ++ drop (place + left) (now (word .entry))) (now (out .entry)) ⌝ }
 {
     copy(&word[..place], out, 0);
     copy(&word[place + left..], out, place);
@@ -44,7 +41,7 @@ fn write_without(word: &[u8], place: usize, left: usize, out: &mut [u8])
 // The letter that the right side of families 2 to 7 puts first.
 fn first_letter(n: u8, family: u8, i: u8, j: u8) -> u8
     requires { ⌜ (1 ≤ n) × (i < 255) ⌝ }
-    ensures { λ r. ⌜ r ≡ pick (eqb family 2) j (pick (ltb family 5) (i + 1) (pick (eqb family 6) (n - 1) n)) ⌝ }
+    ensures { λ r. ⌜ r ≡ firstLetter n family i j ⌝ }
 {
     if family == 2 {
         return j;
@@ -63,8 +60,9 @@ fn write_moved(word: &[u8], place: usize, left: usize, first: u8, out: &mut [u8]
     requires { ⌜ (1 ≤ left) × (place + left ≤ length (now word)) ⌝ }
     requires { ⌜ length (now word) ≤ length (now out) ⌝ }
     ensures { λ _. ⌜ now (out .exit) ≡
+        atFront
         (take place (now (word .entry)) ++ ((first ∷ take (left - 1) (drop place (now (word .entry)))) ++ drop (place + left) (now (word .entry))))
-        ++ drop (length (now (word .entry))) (now (out .entry)) ⌝ }
+        (now (out .entry)) ⌝ }
 {
     copy(&word[..place], out, 0);
     out[place] = first;
@@ -72,7 +70,7 @@ fn write_moved(word: &[u8], place: usize, left: usize, first: u8, out: &mut [u8]
     copy(&word[place + left..], out, place + left);
 }
 
-// The word that the rule with this family, these i and j and `left` letters on its left side leaves at the place.
+// The word that a rule leaves at the place: the rule with this family, i and j and the `left` letters there as its left side.
 pub(crate) fn write_rewritten(
     n: u8,
     family: u8,
@@ -85,13 +83,9 @@ pub(crate) fn write_rewritten(
 )
     requires { ⌜ (1 ≤ n) × (i < 255) ⌝ }
     requires { ⌜ (1 ≤ left) × (place + left ≤ length (now word)) ⌝ }
-    requires { ⌜ pick (eqb family 1) (length (now word) - left) (length (now word)) ≤ length (now out) ⌝ }
+    requires { ⌜ length (now word) - left + rightLength family left ≤ length (now out) ⌝ }
     ensures { λ _. ⌜ now (out .exit) ≡
-        (take place (now (word .entry))
-        ++ (pick (eqb family 1) []
-        (pick (eqb family 2) j (pick (ltb family 5) (i + 1) (pick (eqb family 6) (n - 1) n)) ∷ take (left - 1) (drop place (now (word .entry))))
-        ++ drop (place + left) (now (word .entry))))
-        ++ drop (pick (eqb family 1) (length (now (word .entry)) - left) (length (now (word .entry)))) (now (out .entry)) ⌝ }
+        atFront (rewritten (shownRule n family i j (take left (drop place (now (word .entry))))) (now (word .entry)) place) (now (out .entry)) ⌝ }
 {
     if family == 1 {
         write_without(word, place, left, out);

@@ -13,6 +13,7 @@ use native.Mathlib.Decide.{decLe, ℕ-discrete}
 use native.Mathlib.Numerals.{add-one}
 use native.Mathlib.Omega.{arith}
 use lib.Dec.{eqb, ltb}
+use lib.ListN.{length, take}
 use borrow.Author.Tests.{eq-eqb, ne-eqb, lt-ltb, le-ltb}
 use Rattle.coxeter.specs.Kinds.{Kind, A, B, D, pick, least}
 use Rattle.coxeter.specs.NormalForm.{block, levels, lastIndex}
@@ -37,13 +38,17 @@ fork A n = 0
 fork B n = 0
 fork D n = n - 2
 
--- the family whose left side is [i,j] x, where x leaves the way, or 0; f is the fork
+-- the family whose left side is [i,2n−i] x, or 0; f is the fork
+unfoldable pub familyAtEnd : ℕ → ℕ → ℕ → ℕ → ℕ
+familyAtEnd n f i x = pick (eqb i f) (pick (eqb x n) 6 (pick (eqb x (i + 1)) 7 0)) (pick (eqb x (i + 1)) 4 0)
+
+-- the family whose left side is [i,j] x, where x leaves the way, or 0
 unfoldable pub familyAt : ℕ → ℕ → ℕ → ℕ → ℕ → ℕ
 familyAt n f i j x =
     pick (eqb j i)
     (pick (eqb x i) 1 (pick (ltb i x) 2 0))
     (pick (eqb (i + j) (2 * n))
-    (pick (eqb i f) (pick (eqb x n) 6 (pick (eqb x (i + 1)) 7 0)) (pick (eqb x (i + 1)) 4 0))
+    (familyAtEnd n f i x)
     (pick (eqb x i) (pick (eqb i f) (pick (eqb j n) 5 3) 3) 0))
 
 -- the j that a rule of the family shows
@@ -53,6 +58,14 @@ shownIndex f j x = pick (eqb f 2) x (pick (eqb f 3) j 0)
 -- the letter that a rule of families 2 to 7 puts before the block
 unfoldable pub firstLetter : ℕ → ℕ → ℕ → ℕ → ℕ
 firstLetter n f i j = pick (eqb f 2) j (pick (ltb f 5) (i + 1) (pick (eqb f 6) (n - 1) n))
+
+-- the rule that shows the family f, i and j and has the left side s: its right side is empty, or a letter and then s without its last
+unfoldable pub shownRule : ℕ → ℕ → ℕ → ℕ → List ℕ → Rule
+shownRule n f i j s = rule f i j s (pick (eqb f 1) [] (firstLetter n f i j ∷ take (length s - 1) s))
+
+-- the number of letters on its right side, where its left side has l
+unfoldable pub rightLength : ℕ → ℕ → ℕ
+rightLength f l = pick (eqb f 1) 0 l
 
 -- the rule of family f with the left side [i,j] x
 unfoldable pub ruleAt : Kind → ℕ → ℕ → ℕ → ℕ → ℕ → Rule

@@ -1,7 +1,8 @@
 -- The family of a letter that leaves the way of a block, and that the search finds every rule: each left side is [i,j] x with a letter x that
 -- leaves the way of the blocks of level i, so the search of a word that begins with it ends there.
 --
--- Sections: the family of a letter that leaves; the rule of a letter that leaves; every rule ends so; the search finds every rule.
+-- Sections: the family of a letter that leaves; the rule of a letter that leaves; every rule ends so; what a rewrite shows of a rule; the search finds
+-- every rule.
 -- Assumes nothing.
 use mathlib.Core.Path.{_≡_, refl, sym, ap, _∙_}
 use mathlib.Core.Logic.{inl, inr}
@@ -10,6 +11,8 @@ use mathlib.Core.Option.{some}
 use Prim.Native.Nat.{ℕ, suc, _+_, _-_, _*_, _≤_, _<_}
 use native.Mathlib.Decide.{ℕ-discrete}
 use native.Mathlib.Omega.{arith}
+use lib.ListN.{length, take, length-append, length-take}
+use lib.Seq.{take-append-seam}
 use borrow.Author.Tests.{eq-eqb, ne-eqb, lt-ltb, le-ltb}
 use Rattle.coxeter.specs.Kinds.{Kind, A, B, D, least}
 use Rattle.coxeter.specs.NormalForm.{block, levels, lastIndex}
@@ -18,7 +21,7 @@ use Rattle.rules.proofs.Families.{Exchanges, Carries, Turns, IsD}
 use Rattle.rules.proofs.Letters.{block-fork, block-one}
 use Rattle.rules.proofs.Extending.{block-top}
 use Rattle.rules.proofs.RuleList.{Listed, square, exchange, carry, turn, five, six, seven}
-use Rattle.rules.proofs.Scan.{fork, familyAt, shownIndex, firstLetter, ruleAt, found, walk, scan, Leaving, nextIndex-leave, Along, start, further, lastIndex-top, scan-block}
+use Rattle.rules.proofs.Scan.{fork, familyAtEnd, familyAt, shownIndex, firstLetter, shownRule, rightLength, ruleAt, found, walk, scan, Leaving, nextIndex-leave, Along, start, further, lastIndex-top, scan-block}
 
 -- ---- the family of a letter that leaves
 
@@ -53,19 +56,19 @@ module _ (n f i j x : ℕ) where
 
   -- families 4, 6 and 7
   pub familyAt-turn : i < j → i + j ≡ 2 * n → (i ≡ f → ⊥) → x ≡ i + 1 → familyAt n f i j x ≡ 4
-  unfolding familyAt
+  unfolding familyAt familyAtEnd
   familyAt-turn h g e q = rw (ne-eqb j i (omega arith), eq-eqb (i + j) (2 * n) g, ne-eqb i f e, eq-eqb x (i + 1) q)
 
   pub familyAt-six : i < j → i + j ≡ 2 * n → i ≡ f → x ≡ n → familyAt n f i j x ≡ 6
-  unfolding familyAt
+  unfolding familyAt familyAtEnd
   familyAt-six h g e q = rw (ne-eqb j i (omega arith), eq-eqb (i + j) (2 * n) g, eq-eqb i f e, eq-eqb x n q)
 
   pub familyAt-seven : i < j → i + j ≡ 2 * n → i ≡ f → (x ≡ n → ⊥) → x ≡ i + 1 → familyAt n f i j x ≡ 7
-  unfolding familyAt
+  unfolding familyAt familyAtEnd
   familyAt-seven h g e q t = rw (ne-eqb j i (omega arith), eq-eqb (i + j) (2 * n) g, eq-eqb i f e, ne-eqb x n q, eq-eqb x (i + 1) t)
 
   pub familyAt-after : i < j → i + j ≡ 2 * n → (i ≡ f → x ≡ n → ⊥) → (x ≡ i + 1 → ⊥) → familyAt n f i j x ≡ 0
-  unfolding familyAt
+  unfolding familyAt familyAtEnd
   familyAt-after h g e q = elim (ℕ-discrete i f) [
     | yes t ↦ rw (ne-eqb j i (omega arith), eq-eqb (i + j) (2 * n) g, eq-eqb i f t, ne-eqb x n (e t), ne-eqb x (i + 1) q)
     | no t ↦ rw (ne-eqb j i (omega arith), eq-eqb (i + j) (2 * n) g, ne-eqb i f t, ne-eqb x (i + 1) q)
@@ -251,6 +254,27 @@ ends-of-listed k n h (seven {a} d e) =
       nonzero = omega arith;
       shape = sym (ruleAt-seven k n a h d e);
     }
+
+-- ---- what a rewrite shows of a rule
+
+take-front : (b : List ℕ) (x : ℕ) → take (length (b ++ (x ∷ [])) - 1) (b ++ (x ∷ [])) ≡ b
+take-front b x =
+    let e : length (b ++ (x ∷ [])) - 1 ≡ length b = omega (arith, length-append b (x ∷ [])) in
+    rw e (take-append-seam b (x ∷ []))
+
+-- a rule is known by its family, i, j and its left side
+pub shown-of-listed : (k : Kind) (n : ℕ) (r : Rule) → least k ≤ n → Listed k n r → r ≡ shownRule n (r .family) (r .i) (r .j) (r .left)
+unfolding ruleAt shownRule
+shown-of-listed k n r h w =
+    let e = ends-of-listed k n h w in
+    rw (e .shape, take-front (block k n (e .i) (e .j)) (e .x))
+
+pub length-right : (n f i j : ℕ) (s : List ℕ) → 1 ≤ length s → length (shownRule n f i j s .right) ≡ rightLength f (length s)
+unfolding shownRule rightLength
+length-right n f i j s h = elim (ℕ-discrete f 1) [
+  | yes e ↦ rw (eq-eqb f 1 e)
+  | no e ↦ rw (ne-eqb f 1 e) (simp length-take (omega arith))
+]
 
 -- ---- the search finds every rule
 

@@ -26,9 +26,13 @@ pub record Step : Type 0 where
 unfoldable pub refusedStep : ℕ → List ℕ → List ℕ → Step
 refusedStep r u out = record { answer = Refused r; bytes = out; word = u }
 
+-- "an accepted call writes only the bytes of its answer": v written to the front of out
+abbrev pub atFront : List ℕ → List ℕ → List ℕ
+atFront v out = v ++ drop (length v) out
+
 -- the values of a call that uses a rule: "family, i, j, the new length, and the new word in the output"
 unfoldable pub usedStep : Rule → List ℕ → List ℕ → Step
-usedStep r v out = record { answer = Used (r .family) (r .i) (r .j) (length v); bytes = v ++ drop (length v) out; word = v }
+usedStep r v out = record { answer = Used (r .family) (r .i) (r .j) (length v); bytes = atFront v out; word = v }
 
 -- "None fits, with nothing written"; else check 14, and the left side is replaced
 unfoldable pub stepBy : Option Rule → List ℕ → ℕ → List ℕ → Step

@@ -6,7 +6,6 @@ use borrow.Author.Needs.{needs}
 use Rattle.coxeter.specs.Kinds.{kindOf}
 use Rattle.rules.specs.Runs.{AcceptedWord}
 use Rattle.rules.proofs.Calls.{accepted-least, accepted-letters}
-use Rattle.rules.proofs.Scan.{firstLetter}
 use Rattle.rewriter.proofs.Rewrites.{Fitted, fitted, rewrote-rank, rewrote-word, rewrote-place, rank-between, rewrote-none, rewrote-short, rewrote-used}
 use Rattle.rewriter.proofs.rewrite_at.Statement.{statement}
 use Rattle.rewriter.proofs.rewrite_at.Tie as tie
@@ -32,7 +31,10 @@ Handed b =
     Fitted (kindOf (s .args .kind)) (s .args .rank) (s .args .word .now) (s .args .place) (g .0 .0) (g .0 .1 .0) (g .0 .1 .1 .0) (g .0 .1 .1 .1 .0)
 
 handed : (b : tie.After-family) → Handed b
-handed b = fitted _ _ _ _ _ _ _ _ _ (accepted-least (accepted (checked b))) (b .before .before .before .if3 .left) (b .before .before .fitting-rule .ensures) (b .family .given .1)
+handed b =
+    fitted _ _ _ _ _ _ _ _ _ (accepted-least (accepted (checked b))) (b .before .before .before .if3 .left)
+    (b .before .before .fitting-rule .ensures)
+    (b .family .given .1)
 
 rank-refusal-requires : tie.Need-rank-refusal-requires
 rank-refusal-requires c κs = search needs
@@ -73,7 +75,9 @@ new-length-requires c κs = let w = handed (c .before) in omega (arith, w .insid
 returns-5 : tie.Need-returns-5
 returns-5 c =
     let b = c .before .before .before in
-    rewrote-short _ _ _ _ _ (accepted (checked b)) (b .before .before .before .if3 .left) _ _ _ _ _ (handed b) (c .before .new-length .ensures) (c .if4 .taken)
+    rewrote-short _ _ _ _ _ (accepted (checked b)) (b .before .before .before .if3 .left) _ _ _ _ _ (handed b)
+    (c .before .new-length .ensures)
+    (c .if4 .taken)
 
 write-rewritten-requires : tie.Need-write-rewritten-requires
 write-rewritten-requires c κs =
@@ -87,11 +91,12 @@ same-length : tie.Need-same-length
 same-length c = search needs
 
 returns-6 : tie.Need-returns-6
-unfolding firstLetter
 returns-6 c =
     let e = c .before .before .before .before in
     let b = e .before .before .before in
-    rewrote-used _ _ _ _ _ (accepted (checked b)) (b .before .before .before .if3 .left) _ _ _ _ _ (handed b) (e .before .new-length .ensures) _ (e .if4 .left)
+    rewrote-used _ _ _ _ _ (accepted (checked b)) (b .before .before .before .if3 .left) _ _ _ _ _ (handed b)
+    (e .before .new-length .ensures) _
+    (e .if4 .left)
     (c .before .before .write-rewritten .ensures)
 
 pub rewrite-at-spec : {M : Type 1} → statement M

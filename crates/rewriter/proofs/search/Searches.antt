@@ -10,11 +10,10 @@ use native.Mathlib.Omega.{arith}
 use lib.Dec.{eqb}
 use lib.ListN.{length, getD, drop, length-append, drop-of-length-le}
 use borrow.Author.Tests.{eq-eqb, ne-eqb}
-use Rattle.coxeter.specs.Kinds.{Kind, pick, kindOf, least}
+use Rattle.coxeter.specs.Kinds.{Kind, pick, least}
 use Rattle.coxeter.specs.Checks.{wrongLetter}
 use Rattle.coxeter.specs.NormalForm.{block, levels, lastIndex}
 use Rattle.coxeter.proofs.Lists.{drop-next}
-use Rattle.coxeter.proofs.KindLaws.{kindOf-one, kindOf-two, kindOf-three}
 use Rattle.coxeter.proofs.LetterLaws.{letter-within}
 use Rattle.rewriter.specs.declared.search.Fitting.{Fitting}
 use Rattle.rewriter.specs.declared.search.Fitting.the-variants.{Rule as Shown, Nothing}
@@ -47,15 +46,6 @@ along-le k n i j h (further o l e g) = (omega (arith, corner-le k n (levels k n)
 
 pub lastIndex-le-of : (k : Kind) (n i m : ℕ) → m ≡ lastIndex k n i → m ≤ 2 * n
 lastIndex-le-of k n i m e = omega (arith, lastIndex-le k n i)
-
-pub fork-eq : (k n : ℕ) → pick (eqb k 1) 0 (pick (eqb k 2) 0 (n - 2)) ≡ fork (kindOf k) n
-fork-eq k n = elim (ℕ-discrete k 1) [
-  | yes e ↦ rw (eq-eqb k 1 e, kindOf-one k e)
-  | no e ↦ elim (ℕ-discrete k 2) [
-    | yes g ↦ rw (ne-eqb k 1 e, eq-eqb k 2 g, kindOf-two k g)
-    | no g ↦ rw (ne-eqb k 1 e, ne-eqb k 2 g, kindOf-three k e g)
-  ]
-]
 
 fittingOf-found : (k : Kind) (n i j x f l : ℕ) → length (block k n i j) + 1 ≡ l
     → fittingOf (found k n i j x f) ≡ pick (eqb f 0) Nothing (Shown f i (shownIndex f j x) l)
@@ -93,19 +83,18 @@ module _ (k : Kind) (n : ℕ) (u : List ℕ) (w : Searchable k n u) where
         rest = q .rest ∙ ap (walk k n i j) (drop-next u t 0 h) ∙ walk-next k n i j x (drop (t + 1) u) f z;
       }
 
-  pub searching-found : (c m d p i j t s f : ℕ) (r : Fitting) → c ≡ levels k n → m ≡ lastIndex k n i → d ≡ fork k n → Searching k n u p i j t → t < length u
+  pub searching-found : (c m d p i j t s f : ℕ) → c ≡ levels k n → m ≡ lastIndex k n i → d ≡ fork k n → Searching k n u p i j t → t < length u
       → s ≡ nextIndex n c m j (getD u t 0) → s ≡ 0 → f ≡ familyAt n d i j (getD u t 0)
-      → r ≡ pick (eqb f 0) Nothing (Shown f i (shownIndex f j (getD u t 0)) (t + 1 - p)) → r ≡ fittingOf (firstFitting (rules k n) u p)
+      → fittingOf (firstFitting (rules k n) u p) ≡ pick (eqb f 0) Nothing (Shown f i (shownIndex f j (getD u t 0)) (t + 1 - p))
   unfolding walk
-  searching-found c m d p i j t s f r a b o q h e z g l =
+  searching-found c m d p i j t s f a b o q h e z g =
       let x = getD u t 0 in
       let y : nextIndex n (levels k n) (lastIndex k n i) j x ≡ 0 = rw (← a, ← b) (sym e ∙ z) in
       let v : familyAt n (fork k n) i j x ≡ f = rw (← o) (sym g) in
       let o : walk k n i j (x ∷ drop (t + 1) u) ≡ found k n i j x f = rw (y, v) in
-      l
-      ∙ sym (ap fittingOf
+      ap fittingOf
       (sym (scan-is-firstFitting k n (w .rank) u p (w .letters)) ∙ q .rest ∙ ap (walk k n i j) (drop-next u t 0 h) ∙ o)
-      ∙ fittingOf-found k n i j x f (t + 1 - p) (omega (arith, q .passed)))
+      ∙ fittingOf-found k n i j x f (t + 1 - p) (omega (arith, q .passed))
 
   pub searching-end : (p i j t : ℕ) → Searching k n u p i j t → length u ≤ t → Nothing ≡ fittingOf (firstFitting (rules k n) u p)
   unfolding walk

@@ -2,16 +2,20 @@
 -- Assumes nothing.
 use borrow.Author.Tests.{eq-eqb, ne-eqb, lt-ltb, le-ltb}
 use borrow.Author.Needs.{needs}
+use Rattle.rules.proofs.Scan.{familyAt}
 use Rattle.rewriter.proofs.search.family_at.Statement.{statement}
 use Rattle.rewriter.proofs.search.family_at.Tie as tie
 
 returns : tie.Need-returns
+unfolding familyAt
 returns c = rw (eq-eqb _ _ (c .before .if1 .taken), eq-eqb _ _ (c .if2 .taken))
 
 returns-2 : tie.Need-returns-2
+unfolding familyAt
 returns-2 c = rw (eq-eqb _ _ (c .before .before .if1 .taken), ne-eqb _ _ (c .before .if2 .left), lt-ltb _ _ (c .if3 .taken))
 
 returns-3 : tie.Need-returns-3
+unfolding familyAt
 returns-3 c = rw (eq-eqb _ _ (c .before .before .if1 .taken), ne-eqb _ _ (c .before .if2 .left), le-ltb _ _ (c .if3 .left))
 
 add-if4 : tie.Need-add-if4
@@ -24,18 +28,31 @@ family-at-end-requires : tie.Need-family-at-end-requires
 family-at-end-requires c κs = search needs
 
 returns-4 : tie.Need-returns-4
+unfolding familyAt
 returns-4 c = rw (ne-eqb _ _ (c .before .before .if1 .left), eq-eqb _ _ (c .before .if4 .taken)) (c .family-at-end .ensures)
 
 returns-5 : tie.Need-returns-5
-returns-5 c = rw (ne-eqb _ _ (c .before .before .before .before .if1 .left), ne-eqb _ _ (c .before .before .before .if4 .left), eq-eqb _ _ (c .before .before .if5 .taken), eq-eqb _ _ (c .before .if6 .taken), eq-eqb _ _ (c .if7 .taken))
+unfolding familyAt
+returns-5 c =
+    let b = c .before .before .before in
+    rw (ne-eqb _ _ (b .before .if1 .left), ne-eqb _ _ (b .if4 .left), eq-eqb _ _ (c .before .before .if5 .taken), eq-eqb _ _ (c .before .if6 .taken))
+    (rw (eq-eqb _ _ (c .if7 .taken)))
 
 returns-6 : tie.Need-returns-6
-returns-6 c = rw (ne-eqb _ _ (c .before .before .before .before .if1 .left), ne-eqb _ _ (c .before .before .before .if4 .left), eq-eqb _ _ (c .before .before .if5 .taken), eq-eqb _ _ (c .before .if6 .taken), ne-eqb _ _ (c .if7 .left))
+unfolding familyAt
+returns-6 c =
+    let b = c .before .before .before in
+    rw (ne-eqb _ _ (b .before .if1 .left), ne-eqb _ _ (b .if4 .left), eq-eqb _ _ (c .before .before .if5 .taken), eq-eqb _ _ (c .before .if6 .taken))
+    (rw (ne-eqb _ _ (c .if7 .left)))
 
 returns-7 : tie.Need-returns-7
-returns-7 c = rw (ne-eqb _ _ (c .before .before .before .if1 .left), ne-eqb _ _ (c .before .before .if4 .left), eq-eqb _ _ (c .before .if5 .taken), ne-eqb _ _ (c .if6 .left))
+unfolding familyAt
+returns-7 c =
+    let b = c .before .before in
+    rw (ne-eqb _ _ (b .before .if1 .left), ne-eqb _ _ (b .if4 .left), eq-eqb _ _ (c .before .if5 .taken), ne-eqb _ _ (c .if6 .left))
 
 returns-8 : tie.Need-returns-8
+unfolding familyAt
 returns-8 c = rw (ne-eqb _ _ (c .before .before .if1 .left), ne-eqb _ _ (c .before .if4 .left), ne-eqb _ _ (c .if5 .left))
 
 pub family-at-spec : {M : Type 1} → statement M

@@ -1,12 +1,16 @@
 -- `search::fitting_rule` is the rule that fits. Its loop keeps the search of the word from the place on; the measure is what is left of the word.
 -- Assumes nothing.
-use mathlib.Core.Path.{_∙_}
-use Prim.Native.Nat.{_-_}
+use mathlib.Core.Path.{_≡_, sym, _∙_}
+use Prim.Native.Nat.{_+_, _-_}
+use lib.Dec.{eqb}
 use lib.ListN.{length, getD}
 use borrow.Author.Needs.{needs}
-use Rattle.coxeter.specs.Kinds.{kindOf}
-use Rattle.rules.proofs.Scan.{nextIndex, familyAt, shownIndex}
-use Rattle.rewriter.proofs.search.Searches.{Searching, Searchable, along-le, lastIndex-le-of, fork-eq, letter, searching-start, searching-next, searching-found, searching-end}
+use borrow.Author.Tests.{eq-eqb, ne-eqb}
+use Rattle.coxeter.specs.Kinds.{pick, kindOf}
+use Rattle.rules.specs.Rules.{rules, firstFitting}
+use Rattle.rules.proofs.Scan.{shownIndex}
+use Rattle.rewriter.specs.declared.search.Fitting.the-variants.{Rule as Shown, Nothing}
+use Rattle.rewriter.proofs.search.Searches.{fittingOf, Searching, Searchable, along-le, lastIndex-le-of, letter, searching-start, searching-next, searching-found, searching-end}
 use Rattle.rewriter.proofs.search.fitting_rule.Statement.{statement}
 use Rattle.rewriter.proofs.search.fitting_rule.Tie as tie
 
@@ -47,7 +51,8 @@ next-index-requires c κs =
     let l = c .before .before .before .before in
     let s = l .before .before .before .before in
     let i = getD (s .args .word .now) (s .args .place) 0 in
-    (s .pre .1 .0, lastIndex-le-of (kindOf (s .args .kind)) _ i _ (l .last-index-of .ensures), letter _ _ _ (searchable s) _ (c .before .loop-test .taken) .1)
+    let m = lastIndex-le-of (kindOf (s .args .kind)) _ i _ (l .last-index-of .ensures) in
+    (s .pre .1 .0, m, letter _ _ _ (searchable s) _ (c .before .loop-test .taken) .1)
 
 family-at-requires : tie.Need-family-at-requires Inv-loop μ-loop
 family-at-requires c κs =
@@ -56,32 +61,45 @@ family-at-requires c κs =
     let a = along-le _ _ _ _ (s .pre .0) (l .loop .inv .along) in
     (s .pre .1 .0, a .0, a .1)
 
-add-shown : tie.Need-add-shown Inv-loop μ-loop
-add-shown c = search needs
+-- the answer where the letter x has left the way, with the family that `family_at` gave
+abbrev Answered : tie.After-family-at Inv-loop μ-loop → Type 0
+Answered t =
+    let l = t .before .before .before .before .before in
+    let s = l .before .before .before .before .before .before in
+    let u = s .args .word .now in
+    let f = t .family-at .result in
+    fittingOf (firstFitting (rules (kindOf (s .args .kind)) (s .args .n)) u (s .args .place))
+    ≡ pick (eqb f 0) Nothing
+    (Shown f (getD u (s .args .place) 0) (shownIndex f (l .loop .j) (getD u (l .loop .at) 0)) (l .loop .at + 1 - s .args .place))
 
-sub-shown : tie.Need-sub-shown Inv-loop μ-loop
-sub-shown c = search needs
-
-shown-requires : tie.Need-shown-requires Inv-loop μ-loop
-shown-requires c κs = search needs
-
-returns : tie.Need-returns Inv-loop μ-loop
-unfolding nextIndex familyAt shownIndex
-returns c =
-    let t = c .before .before in
-    let l = t .before .before .before .before in
+answered : (t : tie.After-family-at Inv-loop μ-loop) → Answered t
+answered t =
+    let l = t .before .before .before .before .before in
     let f = l .before in
-    let s = f .before .before .before .before .before in
-    searching-found _ _ _ (searchable s) _ _ _ _ _ _ _ _ _ _
+    searching-found _ _ _ (searchable (f .before .before .before .before .before)) _ _ _ _ _ _ _ _ _
     (f .before .before .corner-of .ensures)
     (f .before .last-index-of .ensures)
-    (f .fork-of .ensures ∙ fork-eq _ _)
+    (f .fork-of .ensures)
     (l .loop .inv)
-    (t .before .before .before .loop-test .taken)
-    (t .before .next-index .ensures)
-    (t .if1 .taken)
-    (c .before .family-at .ensures)
-    (c .shown .ensures)
+    (t .before .before .before .before .loop-test .taken)
+    (t .before .before .next-index .ensures)
+    (t .before .if1 .taken)
+    (t .family-at .ensures)
+
+returns : tie.Need-returns Inv-loop μ-loop
+returns c = sym (answered (c .before) ∙ rw (eq-eqb _ _ (c .if2 .taken)))
+
+shown-index-requires : tie.Need-shown-index-requires Inv-loop μ-loop
+shown-index-requires c κs = search needs
+
+add-left : tie.Need-add-left Inv-loop μ-loop
+add-left c = search needs
+
+sub-left : tie.Need-sub-left Inv-loop μ-loop
+sub-left c = search needs
+
+returns-2 : tie.Need-returns-2 Inv-loop μ-loop
+returns-2 c = sym (answered (c .before .before) ∙ rw (ne-eqb _ _ (c .before .if2 .left), ← c .shown-index .ensures))
 
 add-at-2 : tie.Need-add-at-2 Inv-loop μ-loop
 add-at-2 c = search needs
@@ -90,7 +108,6 @@ loop-less : tie.Need-loop-less Inv-loop μ-loop
 loop-less c = search needs
 
 loop-again : tie.Need-loop-again Inv-loop μ-loop
-unfolding nextIndex
 loop-again c =
     let l = c .before .before .before .before in
     let f = l .before in
@@ -103,8 +120,8 @@ loop-again c =
     (c .before .next-index .ensures)
     (c .if1 .left)
 
-returns-2 : tie.Need-returns-2 Inv-loop μ-loop
-returns-2 c =
+returns-3 : tie.Need-returns-3 Inv-loop μ-loop
+returns-3 c =
     let s = c .before .before .before .before .before .before .before in
     searching-end _ _ _ (searchable s) _ _ _ _ (c .before .loop .inv) (c .loop-test .left)
 
@@ -123,11 +140,12 @@ fitting-rule-spec =
     shared-slice-read-x
     next-index-requires
     family-at-requires
-    add-shown
-    sub-shown
-    shown-requires
     returns
+    shown-index-requires
+    add-left
+    sub-left
+    returns-2
     add-at-2
     loop-less
     loop-again
-    returns-2)
+    returns-3)

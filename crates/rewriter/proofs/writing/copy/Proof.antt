@@ -1,59 +1,30 @@
--- `writing::copy` writes a part into the output. The loop's invariant: the output is what it was with the part's first `i` letters pasted in.
--- The measure is what is left of the part. Assumes nothing.
-use Prim.Native.Nat.{_-_}
-use lib.ListN.{length}
+-- `writing::copy` writes a part into the output: the kit's `bytes::copy` writes it to the front of what the output has from the place on.
+-- Assumes nothing.
 use borrow.Author.Needs.{needs}
-use Rattle.rewriter.proofs.writing.Words.{Copying, copying-start, copying-next, copying-end}
+use Rattle.rewriter.proofs.writing.Words.{copied}
 use Rattle.rewriter.proofs.writing.copy.Statement.{statement}
 use Rattle.rewriter.proofs.writing.copy.Tie as tie
 
-abbrev Inv-loop : tie.InvT-loop
-Inv-loop part out₀ at i₀ out i = Copying out₀ at part out i
+sub-copy : tie.Need-sub-copy
+sub-copy c = search needs
 
-abbrev μ-loop : tie.MeasureT-loop
-μ-loop part out₀ at i₀ out i = length part - i
+part-copy-start : tie.Need-part-copy-start
+part-copy-start c = search needs
 
-loop-holds : tie.Need-loop-holds Inv-loop μ-loop
-loop-holds c = copying-start _ _ _
+part-copy-end : tie.Need-part-copy-end
+part-copy-end c = search needs
 
-shared-slice-read-out : tie.Need-shared-slice-read-out Inv-loop μ-loop
-shared-slice-read-out c = search needs
+copy-requires : tie.Need-copy-requires
+copy-requires c κs = search needs
 
-add-out : tie.Need-add-out Inv-loop μ-loop
-add-out c = search needs
-
-slice-write-out : tie.Need-slice-write-out Inv-loop μ-loop
-slice-write-out c = search needs
-
-add-i : tie.Need-add-i Inv-loop μ-loop
-add-i c = search needs
-
-loop-less : tie.Need-loop-less Inv-loop μ-loop
-loop-less c = search needs
-
-loop-again : tie.Need-loop-again Inv-loop μ-loop
-loop-again c =
-    let l = c .before .before in
-    copying-next _ _ _ _ _ (l .loop .inv) (c .before .loop-test .taken) (l .before .pre)
-
-same-length : tie.Need-same-length Inv-loop μ-loop
+same-length : tie.Need-same-length
 same-length c = search needs
 
-returns : tie.Need-returns Inv-loop μ-loop
-returns c = copying-end _ _ _ _ _ (c .before .loop .inv) (c .loop-test .left)
+returns : tie.Need-returns
+returns c =
+    let s = c .before .before .before .before .before .before in
+    copied _ _ (s .args .part .now) _ (s .pre) (c .before .before .copy .ensures .1)
 
 pub copy-spec : {M : Type 1} → statement M
 copy-spec =
-    tie.close
-    (tie.spec
-    Inv-loop
-    μ-loop
-    loop-holds
-    shared-slice-read-out
-    add-out
-    slice-write-out
-    add-i
-    loop-less
-    loop-again
-    same-length
-    returns)
+    tie.close (tie.spec sub-copy part-copy-start part-copy-end copy-requires same-length returns)

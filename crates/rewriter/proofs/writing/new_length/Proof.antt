@@ -1,7 +1,9 @@
 -- `writing::new_length` is the length of the word that a rule leaves, by its test.
 -- Assumes nothing.
+use native.Mathlib.Omega.{arith}
 use borrow.Author.Tests.{eq-eqb, ne-eqb}
 use borrow.Author.Needs.{needs}
+use Rattle.rules.proofs.Scan.{rightLength}
 use Rattle.rewriter.proofs.writing.new_length.Statement.{statement}
 use Rattle.rewriter.proofs.writing.new_length.Tie as tie
 
@@ -9,10 +11,12 @@ sub-result : tie.Need-sub-result
 sub-result c = search needs
 
 returns : tie.Need-returns
-returns c = rw (eq-eqb _ _ (c .if1 .taken))
+unfolding rightLength
+returns c = rw (eq-eqb _ _ (c .if1 .taken)) (omega arith)
 
 returns-2 : tie.Need-returns-2
-returns-2 c = rw (ne-eqb _ _ (c .if1 .left))
+unfolding rightLength
+returns-2 c = rw (ne-eqb _ _ (c .if1 .left)) (omega arith)
 
 pub new-length-spec : {M : Type 1} → statement M
 new-length-spec = tie.close (tie.spec sub-result returns returns-2)

@@ -1,28 +1,35 @@
 -- `writing::write_rewritten` writes the word that a rule leaves, by `write_without` for family 1 and `write_moved` for the others.
 -- Assumes nothing.
 use borrow.Author.Tests.{eq-eqb, ne-eqb}
+use native.Mathlib.Omega.{arith}
 use borrow.Author.Needs.{needs}
+use Rattle.rules.proofs.Scan.{rightLength}
+use Rattle.rewriter.proofs.writing.Words.{new-without, new-moved}
 use Rattle.rewriter.proofs.writing.write_rewritten.Statement.{statement}
 use Rattle.rewriter.proofs.writing.write_rewritten.Tie as tie
 
 write-without-requires : tie.Need-write-without-requires
+unfolding rightLength
 write-without-requires c κs =
     let s = c .before .before .before .before in
-    (s .pre .1 .0 .1, rw (eq-eqb _ _ (c .before .if1 .taken)) at (s .pre .1 .1))
+    (s .pre .1 .0 .1, omega (arith, rw (eq-eqb _ _ (c .before .if1 .taken)) at (s .pre .1 .1)))
 
 same-length : tie.Need-same-length
 same-length c = search needs
 
 returns : tie.Need-returns
-returns c = rw (eq-eqb _ _ (c .before .before .before .before .if1 .taken)) (c .before .before .write-without .ensures)
+returns c =
+    let b = c .before .before .before .before in
+    rw (new-without _ _ _ _ _ _ _ (b .before .before .before .pre .1 .0 .1) (b .if1 .taken)) (c .before .before .write-without .ensures)
 
 first-letter-requires : tie.Need-first-letter-requires
 first-letter-requires c κs = search needs
 
 write-moved-requires : tie.Need-write-moved-requires
+unfolding rightLength
 write-moved-requires c κs =
     let s = c .before .before .before .before .before in
-    (s .pre .1 .0, rw (ne-eqb _ _ (c .before .before .if1 .left)) at (s .pre .1 .1))
+    (s .pre .1 .0, omega (arith, rw (ne-eqb _ _ (c .before .before .if1 .left)) at (s .pre .1 .1)))
 
 same-length-2 : tie.Need-same-length-2
 same-length-2 c = search needs
@@ -30,7 +37,8 @@ same-length-2 c = search needs
 returns-2 : tie.Need-returns-2
 returns-2 c =
     let b = c .before .before .before .before in
-    rw (ne-eqb _ _ (b .before .if1 .left), ← b .first-letter .ensures) (c .before .before .write-moved .ensures)
+    rw (new-moved _ _ _ _ _ _ _ (b .before .before .before .before .pre .1 .0 .1) (b .before .if1 .left), ← b .first-letter .ensures)
+    (c .before .before .write-moved .ensures)
 
 pub write-rewritten-spec : {M : Type 1} → statement M
 write-rewritten-spec =

@@ -36,7 +36,9 @@ same-length c = search needs
 returns : tie.Need-returns
 returns c =
     let s = c .before .before .before .before .before .before .before .before .before .before .before .before in
-    written-without _ _ _ _ _ _ (s .pre .0) (c .before .before .before .before .before .before .before .copy .ensures) (c .before .before .copy2 .ensures)
+    written-without _ _ _ _ _ _ (s .pre .0)
+    (c .before .before .before .before .before .before .before .copy .ensures)
+    (c .before .before .copy2 .ensures)
 
 pub write-without-spec : {M : Type 1} → statement M
 write-without-spec =
