@@ -2,7 +2,7 @@
 --
 -- Sections: numbers; answers; the window layer; the layers above it.
 -- Assumes nothing.
-use mathlib.Core.Path.{_≡_, refl, sym, ap, _∙_}
+use mathlib.Core.Path.{_≡_, refl, sym, ap, subst, _∙_}
 use mathlib.Core.List.{List, _++_}
 use Prim.Native.Nat.{ℕ, zero, suc, _≤_, _<_}
 use native.Mathlib.Decide.{ℕ-discrete}
@@ -32,12 +32,9 @@ use Rattle.coxeter.proofs.PairWeights.{windowLength-le-4096}
 use Rattle.coxeter.proofs.Lengths.{length-normalForm}
 use Rattle.rules.specs.declared.Rewrite.{Rewrite}
 use Rattle.rules.specs.declared.Rewrite.the-variants.{Used, Refused}
-use Rattle.rules.specs.Rules.{rules}
 use Rattle.rules.specs.Calls.{pastEnd, refusedStep, step, Rewrote}
 use Rattle.rules.specs.Runs.{AcceptedWord}
-use Rattle.rules.proofs.Fits.{firstFitting-some, rewrites-of-fits}
-use Rattle.rules.proofs.Completeness.{rewrites-length}
-use Rattle.rules.proofs.Calls.{accepted-least, used-exactly}
+use Rattle.rules.proofs.Calls.{used-length}
 use Rattle.book_format.specs.declared.Opened.{Opened}
 use Rattle.book_format.specs.declared.Opened.the-variants as opened
 use Rattle.book_format.specs.Books.{count, bookRefusal, appended, appendRefusal}
@@ -190,10 +187,8 @@ rewrote-small k n u p before after a w f i j l e =
   where
     by-rule : AcceptedWord k n u → l ≤ 65535
     by-rule h =
-        let b = used-exactly k n u p before after a h w f i j l .0 e in
-        let s = firstFitting-some (rules (kindOf k) n) u p (b .0) (b .1 .fitting) in
-        let t = rewrites-of-fits (kindOf k) n (accepted-least h) (b .0) (s .0) u p (omega (arith, b .1 .inside)) (s .1) in
-        omega (arith, rewrites-length t, b .1 .new, length-accepted n u (h .word))
+        let t = used-length k n u p before after f i j l h (subst (Rewrote k n u p before after) e w) in
+        omega (arith, length-accepted n u (h .word))
 
 pub appending-small : (b : List ℕ) (k n : ℕ) (u out : List ℕ) → Small (appending b k n u out .answer)
 unfolding appending

@@ -4,7 +4,7 @@
 use mathlib.Core.Path.{_≡_, refl, sym, ap, _∙_}
 use mathlib.Core.Logic.{_⊎_, inl, inr}
 use mathlib.Core.Bool.{Bool, true, false, false≢true, and-eq-true-iff}
-use mathlib.Core.List.{List, [], _∷_}
+use mathlib.Core.List.{List, [], _∷_, _++_}
 use Prim.Native.Nat.{ℕ, _<_}
 use native.Mathlib.Omega.{arith}
 use borrow.Author.Tests.{ltb-true, ltb-false, eqb-true, eqb-false, lt-ltb, le-ltb, eq-eqb, ne-eqb}
@@ -46,6 +46,12 @@ before-higher a b u v h = before-other a b u v (omega arith) ∙ lt-ltb b a h
 
 pub before-cons : (a : ℕ) (u v : List ℕ) → before (a ∷ u) (a ∷ v) ≡ before u v
 before-cons a u v = before-same a a u v refl
+
+-- "a word comes before its continuations"
+pub before-continuation : (u : List ℕ) (a : ℕ) (v : List ℕ) → before u (u ++ (a ∷ v)) ≡ true
+unfolding before
+before-continuation [] a v = refl
+before-continuation (b ∷ u) a v = before-cons b u (u ++ (a ∷ v)) ∙ before-continuation u a v
 
 -- what an earlier word is: a higher first letter, or the same and an earlier rest
 before-cases : (a b : ℕ) (u v : List ℕ) → before (a ∷ u) (b ∷ v) ≡ true → (b < a) ⊎ ((a ≡ b) × (before u v ≡ true))

@@ -1,14 +1,14 @@
 -- One rewrite of an accepted word: it uses the first fitting rule, or none fits, or check 12 or 14 refuses it; its answer and output leave the step's
 -- word, which stays or is rewritten by that rule; and none fits anywhere exactly when the word is irreducible. By cases on the checks in their order.
--- Not here: what lists of calls keep (Demand3).
+-- A rule is used exactly when one of the list fits and no check refuses. Not here: what lists of calls keep (Demand3).
 --
 -- Sections: accepted words; what a step does; what is not written; the word that a step leaves; which calls use a rule; where none fits.
 -- Assumes nothing.
-use mathlib.Core.Path.{_≡_, refl, sym, ap, _∙_}
-use mathlib.Core.Bool.{Bool, true, false, true≢false}
+use mathlib.Core.Path.{_≡_, refl, sym, ap, ap₂, subst, _∙_}
+use mathlib.Core.Bool.{Bool, true, false}
 use mathlib.Core.Logic.{_↔_}
 use mathlib.Core.List.{List, []}
-use mathlib.Core.Option.{Option, none, some, Option·some-injective, Option·none-ne-some}
+use mathlib.Core.Option.{Option, none, some, Option·none-ne-some}
 use Prim.Native.Nat.{ℕ, _≤_, _<_}
 use native.Mathlib.Nat.{lt-of-not-le}
 use native.Mathlib.Decide.{decLe}
@@ -16,17 +16,19 @@ use native.Mathlib.Omega.{arith}
 use lib.Dec.{eqb}
 use lib.ListN.{length, drop}
 use lib.Seq.{take-append-seam}
-use borrow.Author.Tests.{le-ltb, le-leb, lt-leb}
+use borrow.Author.Tests.{le-ltb, le-leb, lt-leb, leb-false}
 use Rattle.coxeter.specs.Kinds.{Kind, pick, kindOf, least}
 use Rattle.coxeter.specs.Checks.{check, _then_, tooLong, wrongLetter, tooShort, rankRefusal, wordRefusal}
 use Rattle.rules.specs.declared.Rewrite.{Rewrite}
 use Rattle.rules.specs.declared.Rewrite.the-variants.{Used, NoneFits, Refused}
 use Rattle.rules.specs.Rules.{Rule, rules, firstFitting, rewritten, Irreducible}
 use Rattle.rules.specs.Calls.{pastEnd, Step, refusedStep, usedStep, stepBy, step, Rewrote}
-use Rattle.rules.specs.Runs.{AcceptedWord, wordAfter}
-use Rattle.rules.specs.Demand3.{NowhereFits}
+use Rattle.rules.specs.Runs.{AcceptedWord, Lent, wordAfter}
+use Rattle.rules.specs.Demand3.{NowhereFits, IsUsed, Usable, Replaced}
 use Rattle.rules.proofs.Rewriting.{Rewrites}
-use Rattle.rules.proofs.Fits.{fits-past, firstFitting-some, firstFitting-none, none-firstFitting, left-nonempty, rewrites-of-fits}
+use Rattle.rules.proofs.Fits.{fits-split, rewritten-split, fits-past, firstFitting-some, firstFitting-none, none-firstFitting, firstFitting-of-unique, left-nonempty, rewrites-of-fits}
+use Rattle.rules.proofs.Completeness.{rewrites-length}
+use Rattle.rules.proofs.ScanRules.{fitting-unique}
 use Rattle.coxeter.proofs.Basics.{by-pick}
 use Rattle.coxeter.proofs.Acceptance.{rank-within, letters-accepted, length-accepted}
 
@@ -144,43 +146,60 @@ stepped-moves h (short x e l q) = refused
 
 -- ---- which calls use a rule
 
--- the rule x fits first at place p, its result has room, and the answer's numbers are its family, i, j and the new length
-pub record UsedBy (k : Kind) (n : ℕ) (u : List ℕ) (p : ℕ) (before : List ℕ) (f i j l : ℕ) (x : Rule) : Type 0 where
-  pub fitting : firstFitting (rules k n) u p ≡ some x
-  pub inside : p < length u
-  pub room : tooShort (length (rewritten x u p)) before ≡ false
-  pub family : x .family ≡ f
-  pub first : x .i ≡ i
-  pub last : x .j ≡ j
-  pub new : length (rewritten x u p) ≡ l
+-- a rule that fits at a place of the word is used there, where no check refuses
+usable-first : (k n : ℕ) (v : List ℕ) (l : Lent) (x : Rule) → Usable k n v l x → firstFitting (rules (kindOf k) n) v (l .place) ≡ some x
+usable-first k n v l x b =
+    firstFitting-of-unique (rules (kindOf k) n) v (l .place) x (b .listed) (b .fitting)
+    (λ y m f. fitting-unique (kindOf k) n v (l .place) y x (accepted-least (b .accepted)) m (b .listed) f (b .fitting))
 
-usedBy-of-answer : {k : Kind} {n : ℕ} {u : List ℕ} {p : ℕ} {out : List ℕ} {s : Step} → Stepped k n u p out s → (f i j l : ℕ)
-    → s .answer ≡ Used f i j l → (x : Rule) × UsedBy k n u p out f i j l x
-unfolding usedStep refusedStep
-usedBy-of-answer (used x e h q) f i j l a = (x, record { fitting = e; inside = h; room = q; family = cc; first = cc; last = cc; new = cc })
-usedBy-of-answer (noneFits e h) f i j l a = let z : _≡_ {A = ℕ} 0 1 = cc in absurd (omega arith)
-usedBy-of-answer (past h) f i j l a = let z : _≡_ {A = ℕ} 0 1 = cc in absurd (omega arith)
-usedBy-of-answer (short x e h q) f i j l a = let z : _≡_ {A = ℕ} 0 1 = cc in absurd (omega arith)
+pub step-used : (k n : ℕ) (v : List ℕ) (l : Lent) (x : Rule) → Usable k n v l x
+    → step k n v (l .place) (l .output) ≡ usedStep x (rewritten x v (l .place)) (l .output)
+unfolding stepBy
+step-used k n v l x b =
+    step-accepted k n v (l .place) (l .output) (b .accepted) ∙ rw (b .inside, usable-first k n v l x b, b .room)
 
-answer-of-usedBy : {k : Kind} {n : ℕ} {u : List ℕ} {p : ℕ} {out : List ℕ} {s : Step} → Stepped k n u p out s → (f i j l : ℕ) (x : Rule)
-    → UsedBy k n u p out f i j l x → s .answer ≡ Used f i j l
-unfolding usedStep refusedStep
-answer-of-usedBy {u} {p} (used y e h q) f i j l x b =
-    let r : y ≡ x = Option·some-injective y x (sym e ∙ b .fitting) in
-    rw (r, b .new, b .family, b .first, b .last)
-answer-of-usedBy (noneFits e h) f i j l x b = absurd (Option·none-ne-some x (sym e ∙ b .fitting))
-answer-of-usedBy (past h) f i j l x b = absurd (omega (arith, b .inside))
-answer-of-usedBy {u} {p} {out} (short y e h q) f i j l x b =
-    let r : y ≡ x = Option·some-injective y x (sym e ∙ b .fitting) in
-    absurd (true≢false (sym q ∙ ap (λ (z : Rule). tooShort (length (rewritten z u p)) out) r ∙ b .room))
+-- and a step that uses a rule has one that fits
+usable-of-stepped : {k n : ℕ} {v : List ℕ} (l : Lent) {s : Step} → AcceptedWord k n v → Stepped (kindOf k) n v (l .place) (l .output) s
+    → IsUsed (s .answer) → (x : Rule) × Usable k n v l x
+unfolding usedStep refusedStep pastEnd
+usable-of-stepped {k} {n} {v} l a (used x e h q) t =
+    let f = firstFitting-some (rules (kindOf k) n) v (l .place) x e in
+    (x, record { listed = f .0; fitting = f .1; accepted = a; inside = lt-leb (length v) (l .place) h; room = q })
+usable-of-stepped l a (noneFits e h) t = absurd t
+usable-of-stepped l a (past h) t = absurd t
+usable-of-stepped l a (short x e h q) t = absurd t
 
--- a call uses a rule exactly when one fits first at a place of the word and the output has room for the new word
-pub used-exactly : (k n : ℕ) (u : List ℕ) (p : ℕ) (before after : List ℕ) (a : Rewrite) → AcceptedWord k n u → Rewrote k n u p before after a
-    → (f i j l : ℕ) → (a ≡ Used f i j l) ↔ ((x : Rule) × UsedBy (kindOf k) n u p before f i j l x)
-used-exactly k n u p before after a h w f i j l = (
-  λ e. usedBy-of-answer (stepped k n u p before h) f i j l (sym (w .answer) ∙ e),
-  λ b. w .answer ∙ answer-of-usedBy (stepped k n u p before h) f i j l (b .0) (b .1),
-)
+pub usable-of-used : (k n : ℕ) (v : List ℕ) (l : Lent) → AcceptedWord k n v → IsUsed (step k n v (l .place) (l .output) .answer)
+    → (x : Rule) × Usable k n v l x
+usable-of-used k n v l h t = usable-of-stepped l h (stepped k n v (l .place) (l .output) h) t
+
+-- the left side stands at the place, and the right side in the new word
+pub usable-replaced : (k n : ℕ) (v : List ℕ) (l : Lent) (x : Rule) → Usable k n v l x → Replaced x (l .place) v (rewritten x v (l .place))
+unfolding pastEnd
+usable-replaced k n v l x b =
+    let g = leb-false (length v) (l .place) (b .inside) in
+    let s = fits-split x v (l .place) (omega arith) (b .fitting) in
+    record {
+      before = s .0;
+      after = s .1;
+      place = s .2;
+      old = s .3;
+      new = ap₂ (rewritten x) (s .3) (sym (s .2)) ∙ rewritten-split x (s .0) (s .1);
+    }
+
+-- the new word is no longer than the word
+pub used-length : (k n : ℕ) (u : List ℕ) (p : ℕ) (before after : List ℕ) (f i j l : ℕ) → AcceptedWord k n u
+    → Rewrote k n u p before after (Used f i j l) → l ≤ length u
+unfolding usedStep pastEnd
+used-length k n u p before after f i j l h w =
+    let c : Lent = record { place = p; output = before } in
+    let b = usable-of-used k n u c h (subst IsUsed (w .answer) tt) in
+    let x = b .0 in
+    let e : Used f i j l ≡ Used (x .family) (x .i) (x .j) (length (rewritten x u p)) =
+    w .answer ∙ ap (λ (s : Step). s .answer) (step-used k n u c x (b .1)) in
+    let q : l ≡ length (rewritten x u p) = cc in
+    let m = leb-false (length u) p (b .1 .inside) in
+    omega (arith, rewrites-length (rewrites-of-fits (kindOf k) n (accepted-least h) x (b .1 .listed) u p (omega arith) (b .1 .fitting)))
 
 -- ---- where none fits
 

@@ -3,7 +3,7 @@
 --
 -- Sections: one call; lists of calls; the record.
 -- Assumes nothing.
-use mathlib.Core.Path.{_≡_, refl, sym, ap, subst, _∙_}
+use mathlib.Core.Path.{_≡_, refl, sym, ap, subst, subst⁻¹, _∙_}
 use mathlib.Core.Logic.{_↔_}
 use mathlib.Core.List.{List, [], _∷_, _++_, map}
 use Prim.Native.Nat.{ℕ, suc, _+_, _≤_}
@@ -13,33 +13,53 @@ use Rattle.coxeter.specs.Windows.{window}
 use Rattle.coxeter.specs.NormalForm.{normalForm}
 use Rattle.rules.specs.declared.Rewrite.{Rewrite}
 use Rattle.rules.specs.declared.Rewrite.the-variants.{Used, NoneFits, Refused}
-use Rattle.rules.specs.Calls.{step, Rewrote}
-use Rattle.rules.specs.Runs.{AcceptedWord, Told, Call, wordAfter, wordLeft, Run, Outcome, machine, uses}
-use Rattle.rules.specs.Demand3.{normalFormOf, NowhereFits, Demand3}
+use Rattle.rules.specs.Rules.{rewritten}
+use Rattle.rules.specs.Calls.{Step, usedStep, step}
+use Rattle.rules.specs.Runs.{AcceptedWord, Told, Call, wordAfter, wordLeft, Meets, Run, Outcome, machine, uses}
+use Rattle.rules.specs.Demand3.{normalFormOf, NowhereFits, IsUsed, UsedExactly, Demand3}
 use Rattle.rules.proofs.Ending.{value}
 use Rattle.rules.proofs.Completeness.{rewrites-window, rewrites-letters, rewrites-lowers, rewrites-length, irreducible-iff, normalForm-least-window, same-normalForm-linked}
-use Rattle.rules.proofs.Calls.{accepted-least, accepted-letters, accepted-of-shorter, stepped, Moves, rewrote, fitless, refused, wordOf-stepped, stepped-moves, nowhereFits-iff}
+use Rattle.rules.proofs.Calls.{accepted-least, accepted-letters, accepted-of-shorter, stepped, Moves, rewrote, fitless, refused, wordOf-stepped, stepped-moves, step-used, usable-of-used, usable-replaced, nowhereFits-iff}
+use Rattle.rules.proofs.ScanRules.{fitting-unique}
 use Rattle.coxeter.proofs.FormLaws.{wordNormalForm-eq-iff}
 
 -- ---- one call
 
 -- a call that meets its contract tells what the machine's step tells
-told-step : (k n : ℕ) (u : List ℕ) (c : Call) → Rewrote k n u (c .lent .place) (c .lent .output) (c .told .output) (c .told .answer)
-    → _≡_ {A = Told} (c .told) (record { answer = step k n u (c .lent .place) (c .lent .output) .answer; output = step k n u (c .lent .place) (c .lent .output) .bytes })
+told-step : (k n : ℕ) (u : List ℕ) (c : Call) → Meets k n u c → let s = step k n u (c .lent .place) (c .lent .output) in
+    _≡_ {A = Told} (c .told) (record { answer = s .answer; output = s .bytes })
 told-step k n u c r i = record { answer = r .answer i; output = r .bytes i }
 
 -- and leaves the word that the machine's step leaves
-pub wordAfter-step : (k n : ℕ) (u : List ℕ) (c : Call) → AcceptedWord k n u
-    → Rewrote k n u (c .lent .place) (c .lent .output) (c .told .output) (c .told .answer)
+pub wordAfter-step : (k n : ℕ) (u : List ℕ) (c : Call) → AcceptedWord k n u → Meets k n u c
     → wordAfter u (c .told) ≡ step k n u (c .lent .place) (c .lent .output) .word
 wordAfter-step k n u c h r =
     ap (wordAfter u) (told-step k n u c r) ∙ wordOf-stepped (stepped k n u (c .lent .place) (c .lent .output) h)
 
 -- the word stays or a rule rewrites it, as the answer says
-call-moves : (k n : ℕ) (u : List ℕ) (c : Call) → AcceptedWord k n u → Rewrote k n u (c .lent .place) (c .lent .output) (c .told .output) (c .told .answer)
+call-moves : (k n : ℕ) (u : List ℕ) (c : Call) → AcceptedWord k n u → Meets k n u c
     → Moves (kindOf k) n u (c .told .answer) (wordAfter u (c .told))
 call-moves k n u c h r =
     rw (wordAfter-step k n u c h r, r .answer) (stepped-moves (accepted-least h) (stepped k n u (c .lent .place) (c .lent .output) h))
+
+-- it used a rule exactly when one fits and no check refuses, and replaced its left side
+call-used : (k n : ℕ) (u : List ℕ) (c : Call) → AcceptedWord k n u → Meets k n u c → UsedExactly k n u c (wordAfter u (c .told))
+unfolding usedStep
+call-used k n u c h r = record {
+  exactly = (
+    λ t. usable-of-used k n u (c .lent) h (subst IsUsed (r .answer) t),
+    λ b. subst⁻¹ IsUsed (r .answer ∙ ap (λ (s : Step). s .answer) (step-used k n u (c .lent) (b .0) (b .1))) tt,
+  );
+  used = λ x b.
+      let e = step-used k n u (c .lent) x b in
+      let w : wordAfter u (c .told) ≡ rewritten x u (c .lent .place) = wordAfter-step k n u c h r ∙ ap (λ (s : Step). s .word) e in
+      record {
+        only = λ y m f. fitting-unique (kindOf k) n u (c .lent .place) y x (accepted-least h) m (b .listed) f (b .fitting);
+        answer = rw w (r .answer ∙ ap (λ (s : Step). s .answer) e);
+        output = rw w (r .bytes ∙ ap (λ (s : Step). s .bytes) e);
+        replaced = rw w (usable-replaced k n u (c .lent) x b);
+      };
+}
 
 -- what a use takes from the measure
 abbrev cost : Rewrite → ℕ
@@ -59,7 +79,7 @@ moves-kept k n h (rewrote {v = v} r) = record {
 moves-kept k n h fitless = record { accepted = h; shows = refl; lower = omega arith }
 moves-kept k n h refused = record { accepted = h; shows = refl; lower = omega arith }
 
-call-kept : (k n : ℕ) (u : List ℕ) (c : Call) → AcceptedWord k n u → Rewrote k n u (c .lent .place) (c .lent .output) (c .told .output) (c .told .answer)
+call-kept : (k n : ℕ) (u : List ℕ) (c : Call) → AcceptedWord k n u → Meets k n u c
     → Kept k n u (cost (c .told .answer)) (wordAfter u (c .told))
 call-kept k n u c h r = moves-kept k n h (call-moves k n u c h r)
 
@@ -86,6 +106,23 @@ run-kept k n u (c ∷ cs) h r =
 run-front : (k n : ℕ) (u : List ℕ) (front rest : List Call) → Run k n u (front ++ rest) → Run k n u front
 run-front k n u [] rest r = tt
 run-front k n u (c ∷ front) rest r = (r .0, run-front k n (wordAfter u (c .told)) front rest (r .1))
+
+run-rest : (k n : ℕ) (u : List ℕ) (front rest : List Call) → Run k n u (front ++ rest) → Run k n (wordLeft u front) rest
+unfolding wordLeft
+run-rest k n u [] rest r = r
+run-rest k n u (c ∷ front) rest r = run-rest k n (wordAfter u (c .told)) front rest (r .1)
+
+wordLeft-snoc : (u : List ℕ) (front : List Call) (c : Call) → wordLeft u (front ++ (c ∷ [])) ≡ wordAfter (wordLeft u front) (c .told)
+unfolding wordLeft
+wordLeft-snoc u [] c = refl
+wordLeft-snoc u (d ∷ front) c = wordLeft-snoc (wordAfter u (d .told)) front c
+
+-- each call of the list
+run-used : (k n : ℕ) (u : List ℕ) (front : List Call) (c : Call) (rest : List Call) → AcceptedWord k n u → Run k n u (front ++ (c ∷ rest))
+    → UsedExactly k n (wordLeft u front) c (wordLeft u (front ++ (c ∷ [])))
+run-used k n u front c rest h r =
+    let a = run-kept k n u front h (run-front k n u front (c ∷ rest) r) .accepted in
+    rw (wordLeft-snoc u front c) (call-used k n (wordLeft u front) c a (run-rest k n u front (c ∷ rest) r .0))
 
 -- what the calls tell and leave is what the machine tells and leaves
 run-machine : (k n : ℕ) (u : List ℕ) (cs : List Call) → AcceptedWord k n u → Run k n u cs
@@ -120,6 +157,7 @@ demand3 k n u h = record {
             run-kept k n u front h (run-front k n u front rest (subst (Run k n u) e r)) .shows;
         uses-at-most = omega (arith, t .lower);
         normal-exactly = normal-iff k n u (wordLeft u cs) (t .accepted) (t .shows);
+        used-exactly = λ front c rest e. run-used k n u front c rest h (subst (Run k n u) e r);
       };
   agree = λ v g. record {
     by-window = wordNormalForm-eq-iff (kindOf k) n u v;

@@ -10,11 +10,12 @@ pub mod Extending
 pub mod Irreducible
 pub mod Fits
 pub mod Completeness
+pub mod Scan
+pub mod ScanFamilies
+pub mod ScanRules
 pub mod Calls
 pub mod Unchanged
 pub mod Vectors
 pub mod Demand3
-pub mod Scan
-pub mod ScanFamilies
-pub mod ScanRules
+pub mod Sentences
 pub mod Theorems

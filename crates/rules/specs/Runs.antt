@@ -35,11 +35,14 @@ unfoldable pub wordLeft : List ℕ → List Call → List ℕ
 wordLeft u [] = u
 wordLeft u (c ∷ cs) = wordLeft (wordAfter u (c .told)) cs
 
--- "Each single rewrite gets that kind and rank, the word as the last one left it, and its own place and output": each call meets its contract
+-- a call on the word u that meets its contract
+abbrev pub Meets : ℕ → ℕ → List ℕ → Call → Type 0
+Meets k n u c = Rewrote k n u (c .lent .place) (c .lent .output) (c .told .output) (c .told .answer)
+
+-- "Each single rewrite gets that kind and rank, the word as the last one left it, and its own place and output"
 abbrev pub Run : ℕ → ℕ → List ℕ → List Call → Type 0
 Run k n u [] = Unit {0}
-Run k n u (c ∷ cs) =
-    Rewrote k n u (c .lent .place) (c .lent .output) (c .told .output) (c .told .answer) × Run k n (wordAfter u (c .told)) cs
+Run k n u (c ∷ cs) = Meets k n u c × Run k n (wordAfter u (c .told)) cs
 
 -- what the machine has told, and its word
 pub record Outcome : Type 0 where

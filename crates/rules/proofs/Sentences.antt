@@ -1,0 +1,96 @@
+-- Demand 3's sentences in plain terms, each from the record `Demand3` alone: every field is used here as strongly as it is stated, so that a weaker
+-- record would not do.
+--
+-- Sections: every list of calls; each call of a list; two words; the least word.
+-- Assumes nothing.
+use mathlib.Core.Path.{_≡_, refl, subst, ap, _∙_}
+use mathlib.Core.Bool.{true, false}
+use mathlib.Core.Logic.{_↔_, ⊎-elim}
+use mathlib.Core.List.{List, [], _∷_, _++_}
+use Prim.Native.Nat.{ℕ, _≤_}
+use native.Mathlib.Omega.{arith}
+use lib.ListN.{length, drop}
+use lib.Seq.{drop-append-seam}
+use Rattle.coxeter.specs.Kinds.{kindOf}
+use Rattle.coxeter.specs.Windows.{window}
+use Rattle.coxeter.specs.Checks.{wrongLetter}
+use Rattle.coxeter.specs.Dictionary.{before}
+use Rattle.coxeter.specs.Relations.{Relation, Linked}
+use Rattle.coxeter.proofs.Order.{shortlex-cases}
+use Rattle.rules.specs.declared.Rewrite.the-variants.{Used, NoneFits}
+use Rattle.rules.specs.Rules.{Rule}
+use Rattle.rules.specs.Runs.{AcceptedWord, Call, Run, uses, wordLeft}
+use Rattle.rules.specs.Demand3.{normalFormOf, NowhereFits, IsUsed, Usable, Replaced, UsedExactly, Demand3}
+
+module _ {k n : ℕ} {u : List ℕ} (d : Demand3 k n u) where
+  -- ---- every list of calls
+
+  -- "for each accepted word there is a number, and no such list uses a rule more often": one number for any two lists
+  pub one-number : (cs ds : List Call) → Run k n u cs → Run k n u ds → (uses cs ≤ d .most) × (uses ds ≤ d .most)
+  one-number cs ds r s = (d .follows cs r .uses-at-most, d .follows ds s .uses-at-most)
+
+  -- "after it the window is still the first word's": also where calls follow
+  pub window-on-the-way : (front : List Call) (c : Call) (rest : List Call) → Run k n u (front ++ (c ∷ rest))
+      → window (kindOf k) n (wordLeft u front) ≡ window (kindOf k) n u
+  window-on-the-way front c rest r = d .follows (front ++ (c ∷ rest)) r .window-kept front (c ∷ rest) refl
+
+  -- "the word is the first word's normal form exactly when the rewrite answers at each of its places that none fits"
+  pub ends-normal : (cs : List Call) → Run k n u cs → NowhereFits k n (wordLeft u cs) → wordLeft u cs ≡ normalFormOf k n u
+  ends-normal cs r = d .follows cs r .normal-exactly .1
+
+  pub normal-ends : (cs : List Call) → Run k n u cs → wordLeft u cs ≡ normalFormOf k n u → NowhereFits k n (wordLeft u cs)
+  normal-ends cs r = d .follows cs r .normal-exactly .0
+
+  -- ---- each call of a list
+
+  module _ (front : List Call) (c : Call) (rest : List Call) (r : Run k n u (front ++ (c ∷ rest))) where
+    call-exactly : UsedExactly k n (wordLeft u front) c (wordLeft u (front ++ (c ∷ [])))
+    call-exactly = d .follows (front ++ (c ∷ rest)) r .used-exactly front c rest refl
+
+    -- a call that answers that none fits has none that fits, where no check refuses: no rewriter may pass a place over
+    pub none-fits-truly : c .told .answer ≡ NoneFits → (x : Rule) → Usable k n (wordLeft u front) (c .lent) x → ⊥
+    none-fits-truly e x b = subst IsUsed e (call-exactly .exactly .1 (x, b))
+
+    -- a call that used a rule replaced the left side of one of document 01's, the only one that fits, and nothing else
+    pub used-replaced : IsUsed (c .told .answer)
+        → (x : Rule) × Usable k n (wordLeft u front) (c .lent) x × Replaced x (c .lent .place) (wordLeft u front) (wordLeft u (front ++ (c ∷ [])))
+    used-replaced t =
+        let s = call-exactly .exactly .0 t in
+        (s .0, s .1, call-exactly .used (s .0) (s .1) .replaced)
+
+    pub used-only : (x y : Rule) → Usable k n (wordLeft u front) (c .lent) x → Usable k n (wordLeft u front) (c .lent) y → y ≡ x
+    used-only x y b a = call-exactly .used x b .only y (a .listed) (a .fitting)
+
+    -- its answer is that rule's family, i and j with the new length, and beyond the new word the output is as it was lent
+    pub used-answer : (x : Rule) → Usable k n (wordLeft u front) (c .lent) x → (f i j l : ℕ) → c .told .answer ≡ Used f i j l
+        → (f ≡ x .family) × (i ≡ x .i) × (j ≡ x .j) × (l ≡ length (wordLeft u (front ++ (c ∷ []))))
+    used-answer x b f i j l e = let a = call-exactly .used x b .answer in (cc, cc, cc, cc)
+
+    pub used-beyond : (x : Rule) → Usable k n (wordLeft u front) (c .lent) x
+        → drop (length (wordLeft u (front ++ (c ∷ [])))) (c .told .output) ≡ drop (length (wordLeft u (front ++ (c ∷ [])))) (c .lent .output)
+    used-beyond x b =
+        let w = wordLeft u (front ++ (c ∷ [])) in
+        ap (drop (length w)) (call-exactly .used x b .output) ∙ drop-append-seam w (drop (length w) (c .lent .output))
+
+  -- ---- two words
+
+  -- "exactly when their windows are equal, and exactly when the defining relations alone turn one into the other"
+  pub window-iff-linked : (v : List ℕ) → AcceptedWord k n v → (window (kindOf k) n u ≡ window (kindOf k) n v) ↔ Linked (Relation (kindOf k) n) u v
+  window-iff-linked v a =
+      let g = d .agree v a in
+      (λ e. g .by-relations .0 (g .by-window .1 e), λ l. g .by-window .0 (g .by-relations .1 l))
+
+  -- ---- the least word
+
+  -- the normal form is a word of steps with the first word's window
+  pub normal-form-of-window : (wrongLetter n (normalFormOf k n u) ≡ false) × (window (kindOf k) n (normalFormOf k n u) ≡ window (kindOf k) n u)
+  normal-form-of-window = (d .least .steps, d .least .shows)
+
+  -- "Every other word of the same kind and rank with a normal form's window, however long, has at least as many letters, and one with just as many
+  -- comes later in the dictionary order."
+  pub every-other-word : (v : List ℕ) → wrongLetter n v ≡ false → window (kindOf k) n v ≡ window (kindOf k) n (normalFormOf k n u)
+      → (v ≡ normalFormOf k n u → ⊥)
+      → (length (normalFormOf k n u) ≤ length v) × (length v ≡ length (normalFormOf k n u) → before (normalFormOf k n u) v ≡ true)
+  every-other-word v h e f =
+      let s = shortlex-cases (normalFormOf k n u) v (d .least .least v h (e ∙ d .least .shows) f) in
+      (⊎-elim (λ l. omega arith) (λ l. omega (arith, l .0)) s, λ q. ⊎-elim (λ l. absurd (omega arith)) (λ l. l .1) s)
