@@ -3,7 +3,7 @@
 --
 -- Sections: one rewrite; a preset's fields.
 -- Assumes nothing.
-use mathlib.Core.Path.{_≡_, refl, _∙_}
+use mathlib.Core.Path.{_≡_, refl, sym, _∙_}
 use mathlib.Core.Bool.{Bool, true, false}
 use mathlib.Core.List.{List, [], _∷_, _++_}
 use mathlib.Core.Option.{Option, none, some}
@@ -22,36 +22,13 @@ use Rattle.rules.specs.declared.Rewrite.{Rewrite}
 use Rattle.rules.specs.declared.Rewrite.the-variants.{Used, NoneFits, Refused}
 use Rattle.rules.specs.Rules.{Rule, rules, firstFitting, rewritten}
 use Rattle.rules.specs.Calls.{pastEnd, Step, refusedStep, usedStep, stepBy, step, Rewrote}
+use Rattle.rules.proofs.Unchanged.{step-refused-unchanged, step-noneFits-unchanged}
 use Rattle.book_format.specs.declared.Preset.{Preset}
 use Rattle.book_format.specs.declared.Preset.the-variants as preset
 use Rattle.book_format.specs.Calls.{checkedPreset}
 use Rattle.c_api.specs.Calls.{refused, numberOf, Numbered, Rewriting, Rewritten, unwritten, rewritingBy, rewriting, fieldsOf}
 
 -- ---- one rewrite
-
--- a step that uses no rule writes nothing
-abbrev Quiet : Step → List ℕ → Type 0
-Quiet s out = elim (s .answer) [ Used f i j l ↦ Unit {0} | NoneFits ↦ s .bytes ≡ out | Refused k ↦ s .bytes ≡ out ]
-
-stepBy-quiet : (o : Option Rule) (u : List ℕ) (p : ℕ) (out : List ℕ) → Quiet (stepBy o u p out) out
-unfolding stepBy usedStep refusedStep
-stepBy-quiet none u p out = refl
-stepBy-quiet (some x) u p out = go (tooShort (length (rewritten x u p)) out)
-  where
-    go : (t : Bool) → Quiet (pick t (refusedStep 14 u out) (usedStep x (rewritten x u p) out)) out
-    go true = refl
-    go false = tt
-
-step-quiet : (k n : ℕ) (u : List ℕ) (p : ℕ) (out : List ℕ) → Quiet (step k n u p out) out
-unfolding step refusedStep
-step-quiet k n u p out = go (eqb r 0)
-  where
-    r : ℕ
-    r = rankRefusal k n then wordRefusal n u then check 12 (pastEnd u p)
-
-    go : (t : Bool) → Quiet (pick t (stepBy (firstFitting (rules (kindOf k) n) u p) u p out) (refusedStep r u out)) out
-    go true = stepBy-quiet (firstFitting (rules (kindOf k) n) u p) u p out
-    go false = refl
 
 module _ (k n : ℕ) (u : List ℕ) (p : ℕ) (out after rule : List ℕ) (a : Rewrite) (w : Rewrote k n u p out after a) where
   pub rewriting-used : (f i j l : ℕ) → a ≡ Used f i j l → 3 ≤ length rule → Rewritten (rewriting k n u p out rule) (pos l) after (sets rule 0 (f ∷ i ∷ j ∷ []))
@@ -61,11 +38,11 @@ module _ (k n : ℕ) (u : List ℕ) (p : ℕ) (out after rule : List ℕ) (a : R
 
   pub rewriting-fitless : a ≡ NoneFits → Rewritten (rewriting k n u p out rule) (refused 100) after rule
   unfolding rewriting rewritingBy unwritten
-  rewriting-fitless q = rw (← w .answer, q) (refl, w .bytes ∙ (rw (← w .answer, q) at (step-quiet k n u p out)), refl)
+  rewriting-fitless q = let e = step-noneFits-unchanged k n u p out (sym (w .answer) ∙ q) in rw (← w .answer, q) (refl, w .bytes ∙ e .0, refl)
 
   pub rewriting-refused : (r : ℕ) → a ≡ Refused r → Rewritten (rewriting k n u p out rule) (refused r) after rule
   unfolding rewriting rewritingBy unwritten
-  rewriting-refused r q = rw (← w .answer, q) (refl, w .bytes ∙ (rw (← w .answer, q) at (step-quiet k n u p out)), refl)
+  rewriting-refused r q = let e = step-refused-unchanged k n u p out r (sym (w .answer) ∙ q) in rw (← w .answer, q) (refl, w .bytes ∙ e .0, refl)
 
 -- where the rule has no room nothing is written, and the refusal does not depend on the outputs
 unfoldable pub roomless : Rewrite → ℕ

@@ -2,7 +2,7 @@
 -- word, which stays or is rewritten by that rule; and none fits anywhere exactly when the word is irreducible. By cases on the checks in their order.
 -- A rule is used exactly when one of the list fits and no check refuses. Not here: what lists of calls keep (Demand3).
 --
--- Sections: accepted words; what a step does; what is not written; the word that a step leaves; which calls use a rule; where none fits.
+-- Sections: accepted words; what a step does; the word that a step leaves; which calls use a rule; where none fits.
 -- Assumes nothing.
 use mathlib.Core.Path.{_≡_, refl, sym, ap, ap₂, subst, _∙_}
 use mathlib.Core.Bool.{Bool, true, false}
@@ -29,7 +29,6 @@ use Rattle.rules.proofs.Rewriting.{Rewrites}
 use Rattle.rules.proofs.Fits.{fits-split, rewritten-split, fits-past, firstFitting-some, firstFitting-none, none-firstFitting, firstFitting-of-unique, left-nonempty, rewrites-of-fits}
 use Rattle.rules.proofs.Completeness.{rewrites-length}
 use Rattle.rules.proofs.ScanRules.{fitting-unique}
-use Rattle.coxeter.proofs.Basics.{by-pick}
 use Rattle.coxeter.proofs.Acceptance.{rank-within, letters-accepted, length-accepted}
 
 -- ---- accepted words
@@ -87,32 +86,6 @@ stepped k n u p out h = rw (step-accepted k n u p out h) (elim (decLe (length u)
   | yes l ↦ rw (le-leb (length u) p l) (past l)
   | no l ↦ rw (lt-leb (length u) p (lt-of-not-le l)) (steppedBy (kindOf k) n u p out (firstFitting (rules (kindOf k) n) u p) refl (lt-of-not-le l))
 ])
-
--- ---- what is not written
-
--- only a step that uses a rule changes the output
-abbrev Unwritten : List ℕ → Step → Type 0
-Unwritten out s = elim (s .answer) [ Used f i j l ↦ Unit {0} | NoneFits ↦ s .bytes ≡ out | Refused r ↦ s .bytes ≡ out ]
-
-stepBy-unwritten : (o : Option Rule) (u : List ℕ) (p : ℕ) (out : List ℕ) → Unwritten out (stepBy o u p out)
-unfolding stepBy refusedStep usedStep
-stepBy-unwritten none u p out = refl
-stepBy-unwritten (some x) u p out = by-pick (Unwritten out) (tooShort (length (rewritten x u p)) out) _ _ refl tt
-
-step-unwritten : (k n : ℕ) (u : List ℕ) (p : ℕ) (out : List ℕ) → Unwritten out (step k n u p out)
-unfolding step refusedStep
-step-unwritten k n u p out =
-    let r = rankRefusal k n then wordRefusal n u then check 12 (pastEnd u p) in
-    let o = firstFitting (rules (kindOf k) n) u p in
-    by-pick (Unwritten out) (eqb r 0) (stepBy o u p out) (refusedStep r u out) (stepBy-unwritten o u p out) refl
-
--- "a refusal writes nothing"
-pub refused-unwritten : (k n : ℕ) (u : List ℕ) (p : ℕ) (before after : List ℕ) (r : ℕ) → Rewrote k n u p before after (Refused r) → after ≡ before
-refused-unwritten k n u p before after r w = w .bytes ∙ (rw (← w .answer) at (step-unwritten k n u p before))
-
--- "None fits, with nothing written"
-pub none-unwritten : (k n : ℕ) (u : List ℕ) (p : ℕ) (before after : List ℕ) → Rewrote k n u p before after NoneFits → after ≡ before
-none-unwritten k n u p before after w = w .bytes ∙ (rw (← w .answer) at (step-unwritten k n u p before))
 
 -- ---- the word that a step leaves
 
