@@ -29,9 +29,5 @@ pub(crate) fn copy_to(part: &[u8], out: &mut [u8], p: usize)
     requires { ⌜ p + length (now part) ≤ length (now out) ⌝ }
     ensures { λ _. ⌜ now (out .exit) ≡ sets (now (out .entry)) p (now (part .entry)) ⌝ }
 {
-    let mut i = 0;
-    while i < part.len() {
-        out[p + i] = part[i];
-        i += 1;
-    }
+    bytes::copy(part, &mut out[p..]);
 }

@@ -13,6 +13,9 @@ ghost use Rattle.book_format.specs.Calls.{checkedBook, checkedRecord, openedPre
 // The most bytes of a book.
 pub(crate) const LARGEST: usize = 65535;
 
+// The bytes of a record before its letters.
+pub(crate) const HEAD: usize = 4;
+
 // Check 3, of a book with c presets: o is where the next record has to begin. Nothing behind the trailer's beginning is read as a record.
 fn is_misplaced(book: &[u8], c: usize) -> bool
     requires { ⌜ length (now book) ≤ 65535 ⌝ }
@@ -28,11 +31,11 @@ fn is_misplaced(book: &[u8], c: usize) -> bool
         if offset != o {
             return true;
         }
-        if trailer < o + 4 {
+        if trailer < o + HEAD {
             return true;
         }
         let letters = two_at(book, o + 2);
-        let end = o + 4 + letters;
+        let end = o + HEAD + letters;
         if trailer < end {
             return true;
         }
@@ -87,7 +90,7 @@ fn check_record(book: &[u8], o: usize) -> Preset
         return Preset::Refused(r);
     }
     let length = two_at(book, o + 2);
-    let start = o + 4;
+    let start = o + HEAD;
     let end = start + length;
     let s = word_refusal(rank, &book[start..end]);
     if s != 0 {
@@ -121,10 +124,10 @@ pub fn opened_preset(book: &[u8], number: usize) -> Preset
     }
     let trailer = book.len() - (2 * c + 2);
     let o = two_at(book, trailer + 2 * number);
-    if trailer < o + 4 {
+    if trailer < o + HEAD {
         return Preset::Refused(3);
     }
-    let end = o + 4 + two_at(book, o + 2);
+    let end = o + HEAD + two_at(book, o + 2);
     if trailer < end {
         return Preset::Refused(3);
     }

@@ -10,7 +10,7 @@ use native.Mathlib.Nat.{add-assoc}
 use native.Mathlib.Omega.{arith}
 use lib.ListN.{length, getD, take, drop, length-append, length-drop, take-append-drop, List·getD-append}
 use lib.Seq.{getD-append-add, getD-take, getD-drop, getD-at, take-at, drop-at, take-append-le, drop-append-le, length-take-le}
-use Rattle.book_format.specs.Books.{twoAt, two, count, trailer, offset, kindAt, rankAt, letterCountAt, lettersAt, endAt, recordOf, appended}
+use Rattle.book_format.specs.Books.{twoAt, two, count, trailer, offset, kindAt, rankAt, letterCountAt, lettersAt, endAt, recordOf, appended, headSize, added}
 use Rattle.book_format.proofs.BookLaws.{Accepted, trailer-le, trailer-read}
 use Rattle.book_format.proofs.WritingLaws.{length-two, length-recordOf, length-appended}
 
@@ -88,7 +88,7 @@ module _ (b : List ℕ) (k n : ℕ) (u : List ℕ) where
   unfolding appended recordOf
   before-record = simp append-assoc
 
-module _ (b : List ℕ) (k n : ℕ) (u : List ℕ) (a : Accepted b) (small : length b + length u + 6 ≤ 65535) where
+module _ (b : List ℕ) (k n : ℕ) (u : List ℕ) (a : Accepted b) (small : length b + added u ≤ 65535) where
   -- ---- numbers of the new book
 
   pub count-appended : count (appended b k n u) ≡ count b + 1
@@ -97,10 +97,10 @@ module _ (b : List ℕ) (k n : ℕ) (u : List ℕ) (a : Accepted b) (small : len
       let front = records b ++ (recordOf k n u ++ (offsets b ++ two (trailer b))) in
       let h = trailer-count b a in
       let l = length-appended b k n u a in
-      let f : length front ≡ length b + length u + 4 = simp (length-append, length-records, length-recordOf, length-offsets b a, length-two) (omega arith) in
+      let f : length front ≡ length b + (headSize + length u) = simp (length-append, length-records, length-recordOf, length-offsets b a, length-two) (omega arith) in
       twoAt-written (appended b k n u) front [] (length (appended b k n u) - 2) (count b + 1) (before-count b k n u) (omega arith) (omega arith)
 
-  pub trailer-appended : trailer (appended b k n u) ≡ trailer b + (4 + length u)
+  pub trailer-appended : trailer (appended b k n u) ≡ trailer b + (headSize + length u)
   trailer-appended =
       let l = length-appended b k n u a in
       let h = trailer-count b a in
@@ -112,16 +112,16 @@ module _ (b : List ℕ) (k n : ℕ) (u : List ℕ) (a : Accepted b) (small : len
   offset-appended-last =
       let h = trailer-count b a in
       let front = (records b ++ recordOf k n u) ++ offsets b in
-      let f : length front ≡ trailer b + (4 + length u) + 2 * count b = simp (length-append, length-records, length-recordOf, length-offsets b a) in
+      let f : length front ≡ trailer b + (headSize + length u) + 2 * count b = simp (length-append, length-records, length-recordOf, length-offsets b a) in
       rw trailer-appended
-      (twoAt-written (appended b k n u) front (two (count b + 1)) (trailer b + (4 + length u) + 2 * count b) (trailer b) (before-offset b k n u) (sym f) (omega arith))
+      (twoAt-written (appended b k n u) front (two (count b + 1)) (trailer b + (headSize + length u) + 2 * count b) (trailer b) (before-offset b k n u) (sym f) (omega arith))
 
   pub offset-appended : (i : ℕ) → i < count b → offset (appended b k n u) i ≡ offset b i
   unfolding offset
   offset-appended i h =
       let s = trailer-count b a in
       let front = records b ++ recordOf k n u in
-      let f : trailer b + (4 + length u) ≡ length front = simp (length-append, length-records, length-recordOf) in
+      let f : trailer b + (headSize + length u) ≡ length front = simp (length-append, length-records, length-recordOf) in
       let l = length-offsets b a in
       rw (trailer-appended, before-offsets b k n u, f, twoAt-append-right front (rest b k n u) (2 * i), twoAt-append-left (offsets b) (two (trailer b) ++ two (count b + 1)) (2 * i) (omega arith))
       (twoAt-middle b (trailer b) (2 * count b) (2 * i) (omega arith))
@@ -135,7 +135,7 @@ module _ (b : List ℕ) (k n : ℕ) (u : List ℕ) (a : Accepted b) (small : len
       let l = length-records b in
       List·getD-append (records b) (recordOf k n u ++ rest b k n u) 0 p (omega arith) ∙ getD-take (trailer b) b p 0 h
 
-  pub letterCountAt-appended : (o : ℕ) → o + 4 ≤ trailer b → letterCountAt (appended b k n u) o ≡ letterCountAt b o
+  pub letterCountAt-appended : (o : ℕ) → o + headSize ≤ trailer b → letterCountAt (appended b k n u) o ≡ letterCountAt b o
   letterCountAt-appended o h =
       twoAt-agree (appended b k n u) b (o + 2) (getD-appended (o + 2) (omega arith)) (getD-appended (o + 2 + 1) (omega arith))
 
@@ -144,19 +144,19 @@ module _ (b : List ℕ) (k n : ℕ) (u : List ℕ) (a : Accepted b) (small : len
       let l = length-records b in
       let m = twoAt b (o + 2) in
       rw (letterCountAt-appended o (omega arith))
-      (ap (λ x. take m (drop (o + 4) x)) (before-record b k n u)
-      ∙ middle-append (records b) (k ∷ n ∷ (two (length u) ++ (u ++ rest b k n u))) (o + 4) m (omega arith)
-      ∙ sym (middle-append (records b) (drop (trailer b) b) (o + 4) m (omega arith))
-      ∙ ap (λ x. take m (drop (o + 4) x)) (take-append-drop (trailer b) b))
+      (ap (λ x. take m (drop (o + headSize) x)) (before-record b k n u)
+      ∙ middle-append (records b) (k ∷ n ∷ (two (length u) ++ (u ++ rest b k n u))) (o + headSize) m (omega arith)
+      ∙ sym (middle-append (records b) (drop (trailer b) b) (o + headSize) m (omega arith))
+      ∙ ap (λ x. take m (drop (o + headSize) x)) (take-append-drop (trailer b) b))
 
-  pub kindAt-appended : (o : ℕ) → o + 4 ≤ trailer b → kindAt (appended b k n u) o ≡ kindAt b o
+  pub kindAt-appended : (o : ℕ) → o + headSize ≤ trailer b → kindAt (appended b k n u) o ≡ kindAt b o
   kindAt-appended o h = getD-appended o (omega arith)
 
-  pub rankAt-appended : (o : ℕ) → o + 4 ≤ trailer b → rankAt (appended b k n u) o ≡ rankAt b o
+  pub rankAt-appended : (o : ℕ) → o + headSize ≤ trailer b → rankAt (appended b k n u) o ≡ rankAt b o
   rankAt-appended o h = getD-appended (o + 1) (omega arith)
 
-  pub endAt-appended : (o : ℕ) → o + 4 ≤ trailer b → endAt (appended b k n u) o ≡ endAt b o
-  endAt-appended o h = ap (λ m. o + 4 + m) (letterCountAt-appended o h)
+  pub endAt-appended : (o : ℕ) → o + headSize ≤ trailer b → endAt (appended b k n u) o ≡ endAt b o
+  endAt-appended o h = ap (λ m. o + headSize + m) (letterCountAt-appended o h)
 
   pub kindAt-appended-last : kindAt (appended b k n u) (trailer b) ≡ k
   kindAt-appended-last =
@@ -175,9 +175,9 @@ module _ (b : List ℕ) (k n : ℕ) (u : List ℕ) (a : Accepted b) (small : len
   pub lettersAt-appended-last : lettersAt (appended b k n u) (trailer b) ≡ u
   lettersAt-appended-last =
       let front = records b ++ (k ∷ n ∷ two (length u)) in
-      let f : length front ≡ trailer b + 4 = simp (length-append, length-records, length-two) in
+      let f : length front ≡ trailer b + headSize = simp (length-append, length-records, length-two) in
       let cut : appended b k n u ≡ front ++ (u ++ rest b k n u) = before-record b k n u ∙ simp append-assoc in
-      rw (letterCountAt-appended-last, cut, drop-at front (u ++ rest b k n u) (trailer b + 4) f) (take-at u (rest b k n u) (length u) refl)
+      rw (letterCountAt-appended-last, cut, drop-at front (u ++ rest b k n u) (trailer b + headSize) f) (take-at u (rest b k n u) (length u) refl)
 
   pub endAt-appended-last : endAt (appended b k n u) (trailer b) ≡ trailer (appended b k n u)
   endAt-appended-last = rw (letterCountAt-appended-last, trailer-appended) (omega arith)

@@ -16,7 +16,7 @@ use borrow.Author.Tests.{eq-eqb, le-ltb, lt-leb, eqb-true, not-false}
 use Rattle.coxeter.specs.Kinds.{pick}
 use Rattle.coxeter.specs.Checks.{check, _then_, rankRefusal, wordRefusal}
 use Rattle.book_format.specs.declared.Preset.the-variants as preset
-use Rattle.book_format.specs.Books.{count, trailer, offset, kindAt, rankAt, letterCountAt, lettersAt, endAt, noSuchPreset, misplacedFrom, misplaced, bookRefusal, recordRefusal, presetRefusal, appended, appendRefusal}
+use Rattle.book_format.specs.Books.{count, trailer, offset, kindAt, rankAt, letterCountAt, lettersAt, endAt, noSuchPreset, misplacedFrom, misplaced, bookRefusal, recordRefusal, presetRefusal, appended, appendRefusal, headSize, added}
 use Rattle.book_format.specs.Calls.{presetOf, presetAt, checkedPreset, lettersOf}
 use Rattle.book_format.proofs.BookLaws.{Accepted, accepted, first, bookRefusal-walk, endAt-offset-le}
 use Rattle.book_format.proofs.WritingLaws.{length-appended, append-book, append-preset, append-size}
@@ -43,7 +43,7 @@ bookRefusal-none : (m : List ℕ) → 2 ≤ length m → length m ≤ 65535 → 
 unfolding count
 bookRefusal-none m h g f e = bookRefusal-walk m (count m) (misplaced m) h g refl f refl ∙ ap (check 3) e
 
-module _ (b : List ℕ) (k n : ℕ) (u : List ℕ) (a : Accepted b) (small : length b + length u + 6 ≤ 65535) where
+module _ (b : List ℕ) (k n : ℕ) (u : List ℕ) (a : Accepted b) (small : length b + added u ≤ 65535) where
   walk-appended : (j i o : ℕ) → i + j ≡ count b → misplacedFrom b j i o ≡ false → misplacedFrom (appended b k n u) (suc j) i o ≡ false
   walk-appended zero i o s e =
       let z : o ≡ trailer b = walk-end b i o e in
@@ -88,7 +88,7 @@ lettersOf-same : (l m : List ℕ) (i o : ℕ) → presetRefusal l i ≡ presetRe
 unfolding lettersOf
 lettersOf-same l m i o e f g p = rw (e, f, g, p)
 
-module _ (b : List ℕ) (k n : ℕ) (u : List ℕ) (z : bookRefusal b ≡ 0) (small : length b + length u + 6 ≤ 65535) (i : ℕ) (h : i < count b) where
+module _ (b : List ℕ) (k n : ℕ) (u : List ℕ) (z : bookRefusal b ≡ 0) (small : length b + added u ≤ 65535) (i : ℕ) (h : i < count b) where
   presetRefusal-appended : presetRefusal (appended b k n u) i ≡ presetRefusal b i
   presetRefusal-appended =
       let a = accepted b z in
@@ -121,7 +121,7 @@ unfolding recordRefusal
 recordRefusal-of m o k n u p q r = rw (p, q, r)
 
 checkedPreset-of : (m : List ℕ) (i o k n l r : ℕ) → presetRefusal m i ≡ r → offset m i ≡ o → kindAt m o ≡ k → rankAt m o ≡ n → letterCountAt m o ≡ l
-    → checkedPreset m i ≡ presetOf r k n (o + 4) l
+    → checkedPreset m i ≡ presetOf r k n (o + headSize) l
 unfolding checkedPreset presetAt
 checkedPreset-of m i o k n l r e f p q g = rw (e, f, p, q, g)
 
@@ -129,7 +129,7 @@ lettersOf-of : (m : List ℕ) (i o r : ℕ) (u : List ℕ) → presetRefusal m i
 unfolding lettersOf
 lettersOf-of m i o r u e f p = rw (e, f, p)
 
-module _ (b : List ℕ) (k n : ℕ) (u : List ℕ) (a : Accepted b) (small : length b + length u + 6 ≤ 65535) where
+module _ (b : List ℕ) (k n : ℕ) (u : List ℕ) (a : Accepted b) (small : length b + added u ≤ 65535) where
   presetRefusal-appended-last : presetRefusal (appended b k n u) (count b) ≡ (rankRefusal k n then wordRefusal n u)
   presetRefusal-appended-last =
       let c = count-appended b k n u a small in
@@ -137,7 +137,7 @@ module _ (b : List ℕ) (k n : ℕ) (u : List ℕ) (a : Accepted b) (small : len
       ∙ ap (recordRefusal (appended b k n u)) (offset-appended-last b k n u a small)
       ∙ recordRefusal-of (appended b k n u) (trailer b) k n u (kindAt-appended-last b k n u a small) (rankAt-appended-last b k n u a small) (lettersAt-appended-last b k n u a small)
 
-  pub checkedPreset-appended-last : checkedPreset (appended b k n u) (count b) ≡ presetOf (rankRefusal k n then wordRefusal n u) k n (trailer b + 4) (length u)
+  pub checkedPreset-appended-last : checkedPreset (appended b k n u) (count b) ≡ presetOf (rankRefusal k n then wordRefusal n u) k n (trailer b + headSize) (length u)
   checkedPreset-appended-last =
       checkedPreset-of (appended b k n u) (count b) (trailer b) k n (length u) (rankRefusal k n then wordRefusal n u) presetRefusal-appended-last (offset-appended-last b k n u a small)
       (kindAt-appended-last b k n u a small) (rankAt-appended-last b k n u a small) (letterCountAt-appended-last b k n u a small)
@@ -153,7 +153,7 @@ module _ (b : List ℕ) (k n : ℕ) (u : List ℕ) (a : Accepted b) (small : len
 pub record Grown (b : List ℕ) (k n : ℕ) (u : List ℕ) : Type 0 where
   pub unrefused : bookRefusal (appended b k n u) ≡ 0
   pub onePresetMore : count (appended b k n u) ≡ count b + 1
-  pub lastPreset : checkedPreset (appended b k n u) (count b) ≡ presetOf (rankRefusal k n then wordRefusal n u) k n (trailer b + 4) (length u)
+  pub lastPreset : checkedPreset (appended b k n u) (count b) ≡ presetOf (rankRefusal k n then wordRefusal n u) k n (trailer b + headSize) (length u)
   pub lastLetters : lettersOf (appended b k n u) (count b) ≡ pick (eqb (rankRefusal k n then wordRefusal n u) 0) u []
   pub presetsBefore : (i : ℕ) → i < count b → checkedPreset (appended b k n u) i ≡ checkedPreset b i
   pub lettersBefore : (i : ℕ) → i < count b → lettersOf (appended b k n u) i ≡ lettersOf b i
@@ -162,7 +162,7 @@ pub appended-grown : (b : List ℕ) (k n : ℕ) (u : List ℕ) → bookRefusal b
 appended-grown b k n u z h =
     let a = accepted b z in
     let l = length-appended b k n u a in
-    let small : length b + length u + 6 ≤ 65535 = omega arith in
+    let small : length b + added u ≤ 65535 = omega arith in
     record {
       unrefused = bookRefusal-appended b k n u a small;
       onePresetMore = count-appended b k n u a small;
@@ -178,7 +178,7 @@ append-grown b k n u e = appended-grown b k n u (append-book b k n u e) (append-
 
 -- and its last preset, which is not refused
 pub append-reads-back : (b : List ℕ) (k n : ℕ) (u : List ℕ) → appendRefusal b k n u ≡ 0
-    → (checkedPreset (appended b k n u) (count b) ≡ preset.Found k n (trailer b + 4) (length u)) × (lettersOf (appended b k n u) (count b) ≡ u)
+    → (checkedPreset (appended b k n u) (count b) ≡ preset.Found k n (trailer b + headSize) (length u)) × (lettersOf (appended b k n u) (count b) ≡ u)
 unfolding presetOf
 append-reads-back b k n u e =
     let g = append-grown b k n u e in

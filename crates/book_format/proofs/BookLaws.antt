@@ -15,7 +15,7 @@ use borrow.Author.Tests.{eq-eqb, ne-eqb, lt-ltb, le-ltb, eqb-true, ltb-false, no
 use Rattle.coxeter.specs.Checks.{check, _then_}
 use Rattle.coxeter.proofs.Basics.{or-false-left, or-false-right}
 use Rattle.coxeter.proofs.Refusals.{then-zero, check-zero}
-use Rattle.book_format.specs.Books.{twoAt, count, trailer, offset, endAt, wrongSize, wrongCount, misplacedFrom, misplaced, bookRefusal}
+use Rattle.book_format.specs.Books.{twoAt, count, trailer, offset, endAt, wrongSize, wrongCount, misplacedFrom, misplaced, bookRefusal, headSize}
 
 -- ---- checks 1 to 3, in the order of the code: c is the count as it was read, t the answer of the walk
 
@@ -63,20 +63,20 @@ module _ (b : List ℕ) (c i o x : ℕ) (e : c ≡ count b) (h : i < c) (q : x �
   unfolding misplacedFrom
   misplaced-offset f = rw (left-next, offset-read b c i x e q, ne-eqb x o f)
 
-  pub misplaced-room : x ≡ o → length b - (2 * c + 2) < o + 4 → misplacedFrom b (c - i) i o ≡ true
+  pub misplaced-room : x ≡ o → length b - (2 * c + 2) < o + headSize → misplacedFrom b (c - i) i o ≡ true
   unfolding misplacedFrom
   misplaced-room p l =
       let t = trailer-read b c e in
       rw (left-next, offset-read b c i x e q, eq-eqb x o p, lt-ltb (trailer b) (endAt b o) (omega arith))
 
-  pub misplaced-end : (l : ℕ) → x ≡ o → l ≡ twoAt b (o + 2) → length b - (2 * c + 2) < o + 4 + l → misplacedFrom b (c - i) i o ≡ true
+  pub misplaced-end : (l : ℕ) → x ≡ o → l ≡ twoAt b (o + 2) → length b - (2 * c + 2) < o + headSize + l → misplacedFrom b (c - i) i o ≡ true
   unfolding misplacedFrom
   misplaced-end l p y g =
       let t = trailer-read b c e in
       rw (left-next, offset-read b c i x e q, eq-eqb x o p, lt-ltb (trailer b) (endAt b o) (omega arith))
 
-  pub misplaced-step : (l : ℕ) → x ≡ o → l ≡ twoAt b (o + 2) → o + 4 + l ≤ length b - (2 * c + 2)
-      → misplacedFrom b (c - i) i o ≡ misplacedFrom b (c - (i + 1)) (i + 1) (o + 4 + l)
+  pub misplaced-step : (l : ℕ) → x ≡ o → l ≡ twoAt b (o + 2) → o + headSize + l ≤ length b - (2 * c + 2)
+      → misplacedFrom b (c - i) i o ≡ misplacedFrom b (c - (i + 1)) (i + 1) (o + headSize + l)
   unfolding misplacedFrom
   misplaced-step l p y g =
       let t = trailer-read b c e in

@@ -13,7 +13,7 @@ use borrow.Author.Tests.{eq-eqb, ne-eqb, lt-ltb, le-ltb, lt-leb, le-leb, leb-fal
 use Rattle.coxeter.specs.Checks.{check, _then_, rankRefusal, wordRefusal}
 use Rattle.book_format.specs.declared.Opened.the-variants as opened
 use Rattle.book_format.specs.declared.Preset.the-variants as preset
-use Rattle.book_format.specs.Books.{twoAt, count, trailer, offset, kindAt, rankAt, letterCountAt, lettersAt, endAt, wrongSize, wrongCount, noSuchPreset, bookRefusal, recordRefusal, presetRefusal, openedRefusal}
+use Rattle.book_format.specs.Books.{twoAt, count, trailer, offset, kindAt, rankAt, letterCountAt, lettersAt, endAt, wrongSize, wrongCount, noSuchPreset, bookRefusal, recordRefusal, presetRefusal, openedRefusal, headSize}
 use Rattle.book_format.specs.Calls.{openedOf, presetOf, checkedBook, presetAt, checkedRecord, checkedPreset, openedPreset, lettersStart, lettersOf}
 use Rattle.book_format.proofs.BookLaws.{Accepted, accepted, count-read, trailer-read, offset-read, trailer-le, endAt-offset-le}
 use Rattle.coxeter.proofs.Refusals.{then-zero, check-zero, then-some}
@@ -32,7 +32,7 @@ presetAt-refused : (b : List ℕ) (o r : ℕ) → (r ≡ 0 → ⊥) → presetAt
 unfolding presetAt presetOf
 presetAt-refused b o r f = rw (ne-eqb r 0 f)
 
-presetAt-found : (b : List ℕ) (o r : ℕ) → r ≡ 0 → presetAt r b o ≡ preset.Found (kindAt b o) (rankAt b o) (o + 4) (letterCountAt b o)
+presetAt-found : (b : List ℕ) (o r : ℕ) → r ≡ 0 → presetAt r b o ≡ preset.Found (kindAt b o) (rankAt b o) (o + headSize) (letterCountAt b o)
 unfolding presetAt presetOf
 presetAt-found b o r z = rw (eq-eqb r 0 z)
 
@@ -44,19 +44,19 @@ module _ (b : List ℕ) (o r : ℕ) (e : r ≡ rankRefusal (kindAt b o) (rankAt 
   unfolding checkedRecord recordRefusal
   checkedRecord-rank f = rw (← e, then-some r (wordRefusal (rankAt b o) (lettersAt b o)) f) (presetAt-refused b o r f)
 
-  recordRefusal-word : (l s : ℕ) → r ≡ 0 → l ≡ twoAt b (o + 2) → s ≡ wordRefusal (rankAt b o) (take (o + 4 + l - (o + 4)) (drop (o + 4) b)) → recordRefusal b o ≡ s
+  recordRefusal-word : (l s : ℕ) → r ≡ 0 → l ≡ twoAt b (o + 2) → s ≡ wordRefusal (rankAt b o) (take (o + headSize + l - (o + headSize)) (drop (o + headSize) b)) → recordRefusal b o ≡ s
   unfolding recordRefusal
   recordRefusal-word l s z p q =
-      let d : o + 4 + l - (o + 4) ≡ l = omega arith in
+      let d : o + headSize + l - (o + headSize) ≡ l = omega arith in
       rw (← e, eq-eqb r 0 z, ← p) (sym (rw d at q))
 
-  pub checkedRecord-word : (l s : ℕ) → r ≡ 0 → l ≡ twoAt b (o + 2) → s ≡ wordRefusal (rankAt b o) (take (o + 4 + l - (o + 4)) (drop (o + 4) b)) → (s ≡ 0 → ⊥)
+  pub checkedRecord-word : (l s : ℕ) → r ≡ 0 → l ≡ twoAt b (o + 2) → s ≡ wordRefusal (rankAt b o) (take (o + headSize + l - (o + headSize)) (drop (o + headSize) b)) → (s ≡ 0 → ⊥)
       → checkedRecord b o ≡ preset.Refused s
   unfolding checkedRecord
   checkedRecord-word l s z p q f = rw (recordRefusal-word l s z p q) (presetAt-refused b o s f)
 
-  pub checkedRecord-found : (l s : ℕ) → r ≡ 0 → l ≡ twoAt b (o + 2) → s ≡ wordRefusal (rankAt b o) (take (o + 4 + l - (o + 4)) (drop (o + 4) b)) → s ≡ 0
-      → checkedRecord b o ≡ preset.Found (kindAt b o) (rankAt b o) (o + 4) l
+  pub checkedRecord-found : (l s : ℕ) → r ≡ 0 → l ≡ twoAt b (o + 2) → s ≡ wordRefusal (rankAt b o) (take (o + headSize + l - (o + headSize)) (drop (o + headSize) b)) → s ≡ 0
+      → checkedRecord b o ≡ preset.Found (kindAt b o) (rankAt b o) (o + headSize) l
   unfolding checkedRecord
   checkedRecord-found l s z p q y = rw (recordRefusal-word l s z p q, p) (presetAt-found b o s y)
 
@@ -91,19 +91,19 @@ module _ (b : List ℕ) (i : ℕ) where
         openedRefusal-record =
             rw (le-ltb (length b) 2 least, le-ltb 65535 (length b) most, ← count-read b c q, le-ltb (length b) (2 * c + 2) f, lt-leb c i n, offset-read b c i o (count-read b c q) p)
 
-        pub openedPreset-room : length b - (2 * c + 2) < o + 4 → openedPreset b i ≡ preset.Refused 3
+        pub openedPreset-room : length b - (2 * c + 2) < o + headSize → openedPreset b i ≡ preset.Refused 3
         unfolding openedPreset
         openedPreset-room h =
             let t = trailer-read b c (count-read b c q) in
             rw (openedRefusal-record, lt-ltb (trailer b) (endAt b o) (omega arith)) (presetAt-refused b (offset b i) 3 (omega arith))
 
-        pub openedPreset-end : (l : ℕ) → l ≡ twoAt b (o + 2) → length b - (2 * c + 2) < o + 4 + l → openedPreset b i ≡ preset.Refused 3
+        pub openedPreset-end : (l : ℕ) → l ≡ twoAt b (o + 2) → length b - (2 * c + 2) < o + headSize + l → openedPreset b i ≡ preset.Refused 3
         unfolding openedPreset
         openedPreset-end l d h =
             let t = trailer-read b c (count-read b c q) in
             rw (openedRefusal-record, lt-ltb (trailer b) (endAt b o) (omega arith)) (presetAt-refused b (offset b i) 3 (omega arith))
 
-        pub openedPreset-record : (l : ℕ) → l ≡ twoAt b (o + 2) → o + 4 + l ≤ length b - (2 * c + 2) → openedPreset b i ≡ checkedRecord b o
+        pub openedPreset-record : (l : ℕ) → l ≡ twoAt b (o + 2) → o + headSize + l ≤ length b - (2 * c + 2) → openedPreset b i ≡ checkedRecord b o
         unfolding openedPreset checkedRecord
         openedPreset-record l d h =
             let t = trailer-read b c (count-read b c q) in
@@ -138,7 +138,7 @@ module _ (b : List ℕ) (i r : ℕ) (e : r ≡ bookRefusal b) where
 -- a preset that was found, and where its letters are
 pub record Found (b : List ℕ) (i s l : ℕ) : Type 0 where
   pub unrefused : presetRefusal b i ≡ 0
-  pub begins : s ≡ offset b i + 4
+  pub begins : s ≡ offset b i + headSize
   pub counts : l ≡ letterCountAt b (offset b i)
 
 pub found : (b : List ℕ) (i k n s l : ℕ) → preset.Found k n s l ≡ checkedPreset b i → Found b i s l
@@ -147,7 +147,7 @@ found b i k n s l e = elim (ℕ-discrete (presetRefusal b i) 0) [ yes z ↦ at z
   where
     at : presetRefusal b i ≡ 0 → Found b i s l
     at z =
-        let q : preset.Found k n s l ≡ preset.Found (kindAt b (offset b i)) (rankAt b (offset b i)) (offset b i + 4) (letterCountAt b (offset b i)) =
+        let q : preset.Found k n s l ≡ preset.Found (kindAt b (offset b i)) (rankAt b (offset b i)) (offset b i + headSize) (letterCountAt b (offset b i)) =
         e ∙ presetAt-found b (offset b i) (presetRefusal b i) z in
         record { unrefused = z; begins = cc; counts = cc }
 
@@ -160,7 +160,7 @@ found b i k n s l e = elim (ℕ-discrete (presetRefusal b i) 0) [ yes z ↦ at z
 pub refused : (b : List ℕ) (i r : ℕ) → preset.Refused r ≡ checkedPreset b i → presetRefusal b i ≡ 0 → ⊥
 unfolding checkedPreset
 refused b i r e z =
-    let q : preset.Refused r ≡ preset.Found (kindAt b (offset b i)) (rankAt b (offset b i)) (offset b i + 4) (letterCountAt b (offset b i)) =
+    let q : preset.Refused r ≡ preset.Found (kindAt b (offset b i)) (rankAt b (offset b i)) (offset b i + headSize) (letterCountAt b (offset b i)) =
     e ∙ presetAt-found b (offset b i) (presetRefusal b i) z in
     let y : _≡_ {A = ℕ} 0 1 = cc in
     omega arith

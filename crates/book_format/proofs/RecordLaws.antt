@@ -12,7 +12,7 @@ use native.Mathlib.Numerals.{add-one, add-two}
 use native.Mathlib.Omega.{arith}
 use lib.ListN.{length, getD, drop, take-append-drop, length-drop, drop-of-length-le}
 use lib.Seq.{drop-cons, drop-drop, length-take-le}
-use Rattle.book_format.specs.Books.{twoAt, two, count, trailer, offset, kindAt, rankAt, letterCountAt, lettersAt, endAt, misplacedFrom, misplaced, bookRefusal, recordOf, appended}
+use Rattle.book_format.specs.Books.{twoAt, two, count, trailer, offset, kindAt, rankAt, letterCountAt, lettersAt, endAt, misplacedFrom, misplaced, bookRefusal, recordOf, appended, headSize, added}
 use Rattle.book_format.specs.Records.{recordBytes, offsetBytes, layOut, recordAt, recordsFrom, recordsOf, Bytes}
 use Rattle.book_format.proofs.BookLaws.{Accepted, accepted, first, trailer-le}
 use Rattle.book_format.proofs.WritingLaws.{length-appended}
@@ -41,16 +41,16 @@ two-then-drop b p w h = rw (two-twoAt b p w) (sym (drop-two b p h))
 -- ---- one record
 
 length-lettersAt : (b : List ℕ) (o : ℕ) → endAt b o ≤ length b → length (lettersAt b o) ≡ letterCountAt b o
-length-lettersAt b o h = length-take-le (letterCountAt b o) (drop (o + 4) b) (rw length-drop (omega arith))
+length-lettersAt b o h = length-take-le (letterCountAt b o) (drop (o + headSize) b) (rw length-drop (omega arith))
 
-letters-then-drop : (b : List ℕ) (o : ℕ) → lettersAt b o ++ drop (endAt b o) b ≡ drop (o + 4) b
-letters-then-drop b o = rw (← drop-drop (letterCountAt b o) (o + 4) b) (take-append-drop (letterCountAt b o) (drop (o + 4) b))
+letters-then-drop : (b : List ℕ) (o : ℕ) → lettersAt b o ++ drop (endAt b o) b ≡ drop (o + headSize) b
+letters-then-drop b o = rw (← drop-drop (letterCountAt b o) (o + headSize) b) (take-append-drop (letterCountAt b o) (drop (o + headSize) b))
 
 record-then-drop : (b : List ℕ) (o : ℕ) → Bytes b → endAt b o ≤ length b → recordOf (kindAt b o) (rankAt b o) (lettersAt b o) ++ drop (endAt b o) b ≡ drop o b
 unfolding recordOf
 record-then-drop b o w h =
-    let four : o + 2 + 2 ≡ o + 4 = omega arith in
-    rw (append-assoc (two (length (lettersAt b o))) (lettersAt b o) (drop (endAt b o) b), length-lettersAt b o h, letters-then-drop b o, ← four, two-then-drop b (o + 2) w (omega arith))
+    let head : o + 2 + 2 ≡ o + headSize = omega arith in
+    rw (append-assoc (two (length (lettersAt b o))) (lettersAt b o) (drop (endAt b o) b), length-lettersAt b o h, letters-then-drop b o, ← head, two-then-drop b (o + 2) w (omega arith))
     (sym (drop-two b o (omega arith)))
 
 -- ---- the records
@@ -149,7 +149,7 @@ recordAt-same l m o p q r = rw (p, q, r)
 recordAt-of : (m : List ℕ) (o k n : ℕ) (u : List ℕ) → kindAt m o ≡ k → rankAt m o ≡ n → lettersAt m o ≡ u → recordAt m o ≡ record { kind = k; rank = n; letters = u }
 recordAt-of m o k n u p q r = rw (p, q, r)
 
-module _ (b : List ℕ) (k n : ℕ) (u : List ℕ) (a : Accepted b) (small : length b + length u + 6 ≤ 65535) where
+module _ (b : List ℕ) (k n : ℕ) (u : List ℕ) (a : Accepted b) (small : length b + added u ≤ 65535) where
   recordsFrom-appended : (j i o : ℕ) → i + j ≡ count b → misplacedFrom b j i o ≡ false
       → recordsFrom (appended b k n u) (suc j) i ≡ recordsFrom b j i ++ (record { kind = k; rank = n; letters = u } ∷ [])
   unfolding recordsFrom
@@ -172,5 +172,5 @@ unfolding recordsOf
 recordsOf-appended b k n u z h =
     let a = accepted b z in
     let l = length-appended b k n u a in
-    let small : length b + length u + 6 ≤ 65535 = omega arith in
+    let small : length b + added u ≤ 65535 = omega arith in
     rw (count-appended b k n u a small, add-one (count b)) (recordsFrom-appended b k n u a small (count b) 0 0 (omega arith) (placed-from b a))

@@ -19,7 +19,7 @@ use Rattle.book_format.specs.declared.Opened.{Opened}
 use Rattle.book_format.specs.declared.Opened.the-variants as opened
 use Rattle.book_format.specs.declared.Preset.{Preset}
 use Rattle.book_format.specs.declared.Preset.the-variants as preset
-use Rattle.book_format.specs.Books.{twoAt, two, count, trailer, offset, wrongSize, wrongCount, misplacedFrom, misplaced, noSuchPreset, tooLarge, bookRefusal, recordRefusal, presetRefusal, recordOf, appended, appendRefusal}
+use Rattle.book_format.specs.Books.{twoAt, two, count, trailer, offset, wrongSize, wrongCount, misplacedFrom, misplaced, noSuchPreset, tooLarge, bookRefusal, recordRefusal, presetRefusal, recordOf, added, appended, appendRefusal}
 use Rattle.book_format.specs.Records.{Bytes}
 use Rattle.book_format.proofs.BookLaws.{accepted}
 use Rattle.book_format.proofs.WritingLaws.{length-appended, appendRefusal-large, appendRefusal-none}
@@ -155,12 +155,12 @@ appendings-agree = refl
 -- the size limit, for every accepted book and preset: a new book of 65,536 bytes or more is refused before the room is looked at, a smaller one only
 -- where there is no room
 module _ (b : List ℕ) (k n : ℕ) (u out : List ℕ) (e : bookRefusal b ≡ 0) (f : rankRefusal k n ≡ 0) (g : wordRefusal n u ≡ 0) where
-  pub appending-too-large : 65535 < length b + length u + 6 → appending b k n u out ≡ refused 13 out
+  pub appending-too-large : 65535 < length b + added u → appending b k n u out ≡ refused 13 out
   unfolding appending writes answerOf written
   appending-too-large h = rw (appendRefusal-large b k n u 0 (sym e) 0 refl (sym f) 0 refl (sym g) refl h)
 
-  pub appending-without-room : length b + length u + 6 ≤ 65535 → length out < length b + length u + 6 → appending b k n u out ≡ refused 14 out
+  pub appending-without-room : length b + added u ≤ 65535 → length out < length b + added u → appending b k n u out ≡ refused 14 out
   unfolding appending writes answerOf written tooShort
   appending-without-room h l =
-      let s = length b + length u + 6 in
+      let s = length b + added u in
       rw (appendRefusal-none b k n u 0 (sym e) 0 refl (sym f) 0 refl (sym g) refl h, length-appended b k n u (accepted b e), lt-ltb (length out) s l)

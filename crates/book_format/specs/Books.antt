@@ -24,7 +24,11 @@ trailer b = length b - (2 * count b + 2)
 unfoldable pub offset : List ℕ → ℕ → ℕ
 offset b i = twoAt b (trailer b + 2 * i)
 
--- "kind, rank, letter count (two bytes), letters": the record at byte o
+-- "kind, rank, letter count (two bytes), letters": the bytes of a record before its letters
+abbrev pub headSize : ℕ
+headSize = 4
+
+-- the record at byte o
 abbrev pub kindAt : List ℕ → ℕ → ℕ
 kindAt b o = getD b o 0
 
@@ -35,11 +39,11 @@ abbrev pub letterCountAt : List ℕ → ℕ → ℕ
 letterCountAt b o = twoAt b (o + 2)
 
 abbrev pub lettersAt : List ℕ → ℕ → List ℕ
-lettersAt b o = take (letterCountAt b o) (drop (o + 4) b)
+lettersAt b o = take (letterCountAt b o) (drop (o + headSize) b)
 
 -- where the record at byte o ends
 abbrev pub endAt : List ℕ → ℕ → ℕ
-endAt b o = o + 4 + letterCountAt b o
+endAt b o = o + headSize + letterCountAt b o
 
 -- "1. The book has fewer than 2 or more than 65,535 bytes."
 unfoldable pub wrongSize : List ℕ → Bool
@@ -89,6 +93,10 @@ openedRefusal b i =
 -- a record's bytes
 unfoldable pub recordOf : ℕ → ℕ → List ℕ → List ℕ
 recordOf k n u = k ∷ n ∷ (two (length u) ++ u)
+
+-- what a preset adds to a book: its record and an offset
+abbrev pub added : List ℕ → ℕ
+added u = headSize + length u + 2
 
 -- "Appending writes the whole new book": the records, the new record, the offsets, its offset, the count
 unfoldable pub appended : List ℕ → ℕ → ℕ → List ℕ → List ℕ

@@ -8,7 +8,7 @@ use Rattle.book_format.specs.declared.Preset.{Preset}
 use Rattle.book_format.specs.declared.Preset.the-variants as preset
 use Rattle.coxeter.specs.Kinds.{pick}
 use Rattle.coxeter.specs.Calls.{Outcome, writes}
-use Rattle.book_format.specs.Books.{count, offset, kindAt, rankAt, letterCountAt, lettersAt, bookRefusal, recordRefusal, presetRefusal, openedRefusal, appendRefusal, appended}
+use Rattle.book_format.specs.Books.{count, offset, kindAt, rankAt, letterCountAt, lettersAt, bookRefusal, recordRefusal, presetRefusal, openedRefusal, appendRefusal, appended, headSize}
 
 -- the number and the value of each case of `Opened`: its refusal, or with none the number of presets
 unfoldable pub openedOf : ℕ → ℕ → Opened
@@ -24,7 +24,7 @@ checkedBook b = openedOf (bookRefusal b) (count b)
 
 -- the preset of the record at byte o, refused with r or not
 unfoldable pub presetAt : ℕ → List ℕ → ℕ → Preset
-presetAt r b o = presetOf r (kindAt b o) (rankAt b o) (o + 4) (letterCountAt b o)
+presetAt r b o = presetOf r (kindAt b o) (rankAt b o) (o + headSize) (letterCountAt b o)
 
 -- the record at byte o, by its own checks alone
 unfoldable pub checkedRecord : List ℕ → ℕ → Preset
@@ -40,7 +40,7 @@ openedPreset b i = presetAt (openedRefusal b i) b (offset b i)
 
 -- "The letters handed out are the book's own bytes, not a copy; for a refused preset they are an empty part of the book": where the part begins
 unfoldable pub lettersStart : List ℕ → ℕ → ℕ
-lettersStart b i = pick (eqb (presetRefusal b i) 0) (offset b i + 4) 0
+lettersStart b i = pick (eqb (presetRefusal b i) 0) (offset b i + headSize) 0
 
 -- and its bytes
 unfoldable pub lettersOf : List ℕ → ℕ → List ℕ

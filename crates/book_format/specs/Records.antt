@@ -2,7 +2,7 @@
 use mathlib.Core.List.{List, [], _∷_, _++_}
 use Prim.Native.Nat.{ℕ, zero, suc, _+_, _<_}
 use lib.ListN.{length, getD}
-use Rattle.book_format.specs.Books.{two, count, offset, kindAt, rankAt, lettersAt, recordOf}
+use Rattle.book_format.specs.Books.{two, count, offset, kindAt, rankAt, lettersAt, recordOf, headSize}
 
 pub record Record : Type 0 where
   pub kind : ℕ
@@ -17,7 +17,7 @@ recordBytes (r ∷ rs) = recordOf (r .kind) (r .rank) (r .letters) ++ recordByte
 -- "c two-byte offsets, in record order": those of the records from byte o on
 unfoldable pub offsetBytes : ℕ → List Record → List ℕ
 offsetBytes o [] = []
-offsetBytes o (r ∷ rs) = two o ++ offsetBytes (o + 4 + length (r .letters)) rs
+offsetBytes o (r ∷ rs) = two o ++ offsetBytes (o + headSize + length (r .letters)) rs
 
 unfoldable pub layOut : List Record → List ℕ
 layOut rs = recordBytes rs ++ (offsetBytes 0 rs ++ two (length rs))

@@ -38,7 +38,7 @@ use Rattle.coxeter.specs.Calls.{answerOf, verdictOf, written, writes, windowOfW
 use Rattle.coxeter.proofs.Order.{sameWindow-of-eq}
 use Rattle.rules.specs.Rules.{each, family1, family2, family3, family4, families5to7, rules, begins, fits, firstFitting, rewritten}
 use Rattle.rules.specs.Calls.{pastEnd, refusedStep, usedStep, stepBy, step}
-use Rattle.book_format.specs.Books.{twoAt, two, count, trailer, offset, wrongSize, wrongCount, misplacedFrom, misplaced, noSuchPreset, tooLarge, bookRefusal, recordRefusal, presetRefusal, recordOf, appended, appendRefusal}
+use Rattle.book_format.specs.Books.{twoAt, two, count, trailer, offset, wrongSize, wrongCount, misplacedFrom, misplaced, noSuchPreset, tooLarge, bookRefusal, recordRefusal, presetRefusal, recordOf, added, appended, appendRefusal}
 use Rattle.book_format.specs.Calls.{openedOf, presetOf, checkedBook, presetAt, checkedPreset, lettersStart, lettersOf, appending}
 use Rattle.listing_text.specs.Text.{digits, decimal, spaced, letters, entry, entries, kindLetter, head, tail, presetLine, refused, refusedLine, refusedBookLine, countLine, wordLine}
 use Rattle.listing_text.specs.Calls.{puts}
@@ -160,11 +160,11 @@ bookOf65536Bytes-ruled-out b e h =
 
 -- and every preset that would make an accepted book larger than 65,535 bytes tells this one, where the output is shorter than the new book
 pub roomBeforeTheSizeLimit-ruled-out : (b : List ℕ) (k n : ℕ) (u out : List ℕ) → bookRefusal b ≡ 0 → rankRefusal k n ≡ 0 → wordRefusal n u ≡ 0
-    → 65535 < length b + length u + 6 → length out < length b + length u + 6 → appending b k n u out ≡ roomBeforeTheSizeLimit b k n u out → ⊥
+    → 65535 < length b + added u → length out < length b + added u → appending b k n u out ≡ roomBeforeTheSizeLimit b k n u out → ⊥
 unfolding writes answerOf tooShort
 roomBeforeTheSizeLimit-ruled-out b k n u out e f g large short h =
     let l = length-appended b k n u (accepted b e) in
-    let w : roomBeforeTheSizeLimit b k n u out .answer ≡ answers.Refused 14 = rw (l, lt-ltb (length out) (length b + length u + 6) short) in
+    let w : roomBeforeTheSizeLimit b k n u out .answer ≡ answers.Refused 14 = rw (l, lt-ltb (length out) (length b + added u) short) in
     let r = ap (λ (o : Outcome ℕ). o .answer) (appending-too-large b k n u out e f g large) in
     let z : _≡_ {A = ℕ} 13 14 = cc (ap (λ (o : Outcome ℕ). o .answer) h) in
     omega arith

@@ -29,7 +29,7 @@ use Rattle.coxeter.proofs.Lengths.{length-normalForm}
 use Rattle.coxeter.proofs.PairWeights.{windowLength-le-4096}
 use Rattle.book_format.specs.declared.Preset.{Preset}
 use Rattle.book_format.specs.declared.Preset.the-variants as preset
-use Rattle.book_format.specs.Books.{trailer, offset, kindAt, rankAt, letterCountAt, lettersAt, endAt, wrongSize, wrongCount, noSuchPreset, recordRefusal, openedRefusal}
+use Rattle.book_format.specs.Books.{trailer, offset, kindAt, rankAt, letterCountAt, lettersAt, endAt, wrongSize, wrongCount, noSuchPreset, recordRefusal, openedRefusal, headSize}
 use Rattle.book_format.specs.Calls.{presetOf, presetAt, openedPreset}
 use Rattle.book_format.proofs.BookLaws.{trailer-le}
 use Rattle.listing_text.specs.Text.{presetLine, refusedLine, wordLine, lineBy, lineOf}
@@ -122,10 +122,10 @@ opened-tests b i z =
     let s = then-zero end (recordRefusal b o) (r .1) in
     (ltb-false (trailer b) (endAt b o) (check-zero 2 (ltb (trailer b) (endAt b o)) (s .0)), s .1)
 
-found-at : (b : List ℕ) (o : ℕ) → endAt b o ≤ trailer b → recordRefusal b o ≡ 0 → Found b (kindAt b o) (rankAt b o) (o + 4) (letterCountAt b o)
+found-at : (b : List ℕ) (o : ℕ) → endAt b o ≤ trailer b → recordRefusal b o ≡ 0 → Found b (kindAt b o) (rankAt b o) (o + headSize) (letterCountAt b o)
 unfolding recordRefusal
 found-at b o h z =
-    let e : o + 4 + letterCountAt b o - (o + 4) ≡ letterCountAt b o = omega arith in
+    let e : o + headSize + letterCountAt b o - (o + headSize) ≡ letterCountAt b o = omega arith in
     let r = then-zero (rankRefusal (kindAt b o) (rankAt b o)) (wordRefusal (rankAt b o) (lettersAt b o)) z in
     record { rank = r .0; word = rw e (r .1); inside = le-trans h (trailer-le b) }
 
@@ -136,10 +136,10 @@ opened-found b i k n s l a e f = elim (ℕ-discrete (openedRefusal b i) 0) [ yes
     at : openedRefusal b i ≡ 0 → Found b k n s l
     at z =
         let o = offset b i in
-        let q : preset.Found (kindAt b o) (rankAt b o) (o + 4) (letterCountAt b o) ≡ preset.Found k n s l = sym (rw (eq-eqb (openedRefusal b i) 0 z) at e) ∙ f in
+        let q : preset.Found (kindAt b o) (rankAt b o) (o + headSize) (letterCountAt b o) ≡ preset.Found k n s l = sym (rw (eq-eqb (openedRefusal b i) 0 z) at e) ∙ f in
         let k′ : kindAt b o ≡ k = cc in
         let n′ : rankAt b o ≡ n = cc in
-        let s′ : o + 4 ≡ s = cc in
+        let s′ : o + headSize ≡ s = cc in
         let l′ : letterCountAt b o ≡ l = cc in
         let t = opened-tests b i z in
         rw (← k′, ← n′, ← s′, ← l′) (found-at b o (t .0) (t .1))

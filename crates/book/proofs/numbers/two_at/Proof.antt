@@ -27,11 +27,15 @@ mul-result : tie.Need-mul-result
 mul-result c = omega (arith, c .shared-slice-known2 .given (c .before .before .args .p + 1))
 
 add-result : tie.Need-add-result
-add-result c = omega (arith, c .shared-slice-known2 .given (c .before .before .args .p), c .shared-slice-known2 .given (c .before .before .args .p + 1))
+add-result c =
+    let p = c .before .before .args .p in
+    omega (arith, c .shared-slice-known2 .given p, c .shared-slice-known2 .given (p + 1))
 
 returns : tie.Need-returns
 unfolding twoAt
-returns c = (refl, omega (arith, c .shared-slice-known2 .given (c .before .before .args .p), c .shared-slice-known2 .given (c .before .before .args .p + 1)))
+returns c =
+    let p = c .before .before .args .p in
+    (refl, omega (arith, c .shared-slice-known2 .given p, c .shared-slice-known2 .given (p + 1)))
 
 pub two-at-spec : {M : Type 1} → statement M
 two-at-spec =

@@ -46,10 +46,16 @@ word-refusal-requires : tie.Need-word-refusal-requires
 word-refusal-requires c κs = search needs
 
 returns-2 : tie.Need-returns-2
-returns-2 c = sym (checkedRecord-word _ _ _ (c .before .before .before .before .before .rank-refusal .ensures) _ _ (c .before .before .before .before .if1 .left) (c .before .before .before .two-at .ensures .0) (c .before .word-refusal .ensures) (c .if2 .taken))
+returns-2 c =
+    let ranked = c .before .before .before .before in
+    let read = c .before .before .before .two-at .ensures .0 in
+    sym (checkedRecord-word _ _ _ (ranked .before .rank-refusal .ensures) _ _ (ranked .if1 .left) read (c .before .word-refusal .ensures) (c .if2 .taken))
 
 returns-3 : tie.Need-returns-3
-returns-3 c = sym (checkedRecord-found _ _ _ (c .before .before .before .before .before .rank-refusal .ensures) _ _ (c .before .before .before .before .if1 .left) (c .before .before .before .two-at .ensures .0) (c .before .word-refusal .ensures) (c .if2 .left))
+returns-3 c =
+    let ranked = c .before .before .before .before in
+    let read = c .before .before .before .two-at .ensures .0 in
+    sym (checkedRecord-found _ _ _ (ranked .before .rank-refusal .ensures) _ _ (ranked .if1 .left) read (c .before .word-refusal .ensures) (c .if2 .left))
 
 pub check-record-spec : {M : Type 1} → statement M
 check-record-spec =

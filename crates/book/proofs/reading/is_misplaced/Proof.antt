@@ -41,16 +41,20 @@ returns : tie.Need-returns Inv-loop μ-loop
 returns c =
     let l = c .before .before .before in
     let e = l .before .before .pre .1 .1 in
-    sym (l .loop .inv .2 ∙ misplaced-offset _ _ _ _ _ e (c .before .before .loop-test .taken) (c .before .two-at .ensures .0) (c .if1 .taken))
+    sym
+    (l .loop .inv .2 ∙ misplaced-offset _ _ _ _ _ e (c .before .before .loop-test .taken) (c .before .two-at .ensures .0) (c .if1 .taken))
 
 add-if2 : tie.Need-add-if2 Inv-loop μ-loop
 add-if2 c = omega arith
 
 returns-2 : tie.Need-returns-2 Inv-loop μ-loop
 returns-2 c =
-    let l = c .before .before .before .before in
+    let read = c .before .before in
+    let l = read .before .before in
     let e = l .before .before .pre .1 .1 in
-    sym (l .loop .inv .2 ∙ misplaced-room _ _ _ _ _ e (c .before .before .before .loop-test .taken) (c .before .before .two-at .ensures .0) (c .before .if1 .left) (c .if2 .taken))
+    sym
+    (l .loop .inv .2
+    ∙ misplaced-room _ _ _ _ _ e (read .before .loop-test .taken) (read .two-at .ensures .0) (c .before .if1 .left) (c .if2 .taken))
 
 add-two-at-2 : tie.Need-add-two-at-2 Inv-loop μ-loop
 add-two-at-2 c = omega arith
@@ -66,9 +70,13 @@ add-end-2 c = omega arith
 
 returns-3 : tie.Need-returns-3 Inv-loop μ-loop
 returns-3 c =
-    let l = c .before .before .before .before .before .before in
+    let begun = c .before .before .before in
+    let l = begun .before .before .before in
     let e = l .before .before .pre .1 .1 in
-    sym (l .loop .inv .2 ∙ misplaced-end _ _ _ _ _ e (c .before .before .before .before .before .loop-test .taken) (c .before .before .before .before .two-at .ensures .0) _ (c .before .before .before .if1 .left) (c .before .two-at2 .ensures .0) (c .if3 .taken))
+    sym
+    (l .loop .inv .2
+    ∙ misplaced-end _ _ _ _ _ e (begun .before .before .loop-test .taken) (begun .before .two-at .ensures .0) _ (begun .if1 .left)
+    (c .before .two-at2 .ensures .0) (c .if3 .taken))
 
 add-i : tie.Need-add-i Inv-loop μ-loop
 add-i c = omega arith
@@ -78,9 +86,15 @@ loop-less c = omega arith
 
 loop-again : tie.Need-loop-again Inv-loop μ-loop
 loop-again c =
-    let l = c .before .before .before .before .before .before in
-    let e = l .before .before .pre .1 .1 in
-    (omega arith, c .if3 .left, l .loop .inv .2 ∙ misplaced-step _ _ _ _ _ e (c .before .before .before .before .before .loop-test .taken) (c .before .before .before .before .two-at .ensures .0) _ (c .before .before .before .if1 .left) (c .before .two-at2 .ensures .0) (c .if3 .left))
+    let begun = c .before .before .before in
+    let l = begun .before .before .before in
+    let e = l .before .before .pre .1 .1 in (
+      omega arith,
+      c .if3 .left,
+      l .loop .inv .2
+          ∙ misplaced-step _ _ _ _ _ e (begun .before .before .loop-test .taken) (begun .before .two-at .ensures .0) _ (begun .if1 .left)
+          (c .before .two-at2 .ensures .0) (c .if3 .left),
+    )
 
 returns-4 : tie.Need-returns-4 Inv-loop μ-loop
 returns-4 c =

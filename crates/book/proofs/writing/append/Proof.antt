@@ -3,8 +3,7 @@
 use mathlib.Core.Path.{sym, _∙_}
 use native.Mathlib.Omega.{arith}
 use Rattle.book_format.proofs.BookLaws.{accepted}
-use Rattle.book_format.proofs.WritingLaws.{append-book}
-use Rattle.book.proofs.writing.Appended.{appending-refused, appending-short, appending-written}
+use Rattle.book_format.proofs.WritingLaws.{append-book, appending-refused, appending-short, appending-written}
 use borrow.Author.Needs.{needs}
 use Rattle.book.proofs.writing.append.Statement.{statement}
 use Rattle.book.proofs.writing.append.Tie as tie
@@ -19,19 +18,27 @@ add-size : tie.Need-add-size
 add-size c = search needs
 
 add-size-2 : tie.Need-add-size-2
-add-size-2 c = let a = accepted _ (append-book _ _ _ _ (sym (c .before .append-refusal .ensures) ∙ c .if1 .left)) in omega arith
+add-size-2 c = search needs
+
+add-size-3 : tie.Need-add-size-3
+add-size-3 c = let a = accepted _ (append-book _ _ _ _ (sym (c .before .append-refusal .ensures) ∙ c .if1 .left)) in omega arith
 
 returns-2 : tie.Need-returns-2
 returns-2 c = appending-short _ _ _ _ _ _ (c .before .before .append-refusal .ensures) (c .before .if1 .left) (c .if2 .taken)
 
 write-appended-requires : tie.Need-write-appended-requires
-write-appended-requires c κs = (append-book _ _ _ _ (sym (c .before .before .before .append-refusal .ensures) ∙ c .before .before .if1 .left), c .before .if2 .left)
+write-appended-requires c κs =
+    let checked = c .before .before in
+    (append-book _ _ _ _ (sym (checked .before .append-refusal .ensures) ∙ checked .if1 .left), c .before .if2 .left)
 
 same-length : tie.Need-same-length
 same-length c = search needs
 
 returns-3 : tie.Need-returns-3
-returns-3 c = appending-written _ _ _ _ _ _ (c .before .before .before .before .before .before .append-refusal .ensures) _ (c .before .before .before .before .before .if1 .left) (c .before .before .before .before .if2 .left) (c .before .before .write-appended .ensures)
+returns-3 c =
+    let roomy = c .before .before .before .before in
+    let checked = roomy .before in
+    appending-written _ _ _ _ _ _ (checked .before .append-refusal .ensures) _ (checked .if1 .left) (roomy .if2 .left) (c .before .before .write-appended .ensures)
 
 pub append-spec : {M : Type 1} → statement M
 append-spec =
@@ -41,6 +48,7 @@ append-spec =
     returns
     add-size
     add-size-2
+    add-size-3
     returns-2
     write-appended-requires
     same-length

@@ -18,25 +18,48 @@ rank-refusal-requires : tie.Need-rank-refusal-requires
 rank-refusal-requires c κs = search needs
 
 returns-2 : tie.Need-returns-2
-returns-2 c = sym (appendRefusal-rank _ _ _ _ _ (c .before .before .before .book-refusal .ensures) _ (c .before .before .if1 .left) (c .before .rank-refusal .ensures) (c .if2 .taken))
+returns-2 c =
+    let opened = c .before .before in
+    sym (appendRefusal-rank _ _ _ _ _ (opened .before .book-refusal .ensures) _ (opened .if1 .left) (c .before .rank-refusal .ensures) (c .if2 .taken))
 
 word-refusal-requires : tie.Need-word-refusal-requires
 word-refusal-requires c κs = search needs
 
 returns-3 : tie.Need-returns-3
-returns-3 c = sym (appendRefusal-word _ _ _ _ _ (c .before .before .before .before .before .book-refusal .ensures) _ (c .before .before .before .before .if1 .left) (c .before .before .before .rank-refusal .ensures) _ (c .before .before .if2 .left) (c .before .word-refusal .ensures) (c .if3 .taken))
+returns-3 c =
+    let ranked = c .before .before in
+    let opened = ranked .before .before in
+    sym
+    (appendRefusal-word _ _ _ _ _ (opened .before .book-refusal .ensures) _ (opened .if1 .left) (ranked .before .rank-refusal .ensures) _ (ranked .if2 .left)
+    (c .before .word-refusal .ensures) (c .if3 .taken))
 
 add-if4 : tie.Need-add-if4
 add-if4 c = search needs
 
 add-if4-2 : tie.Need-add-if4-2
-add-if4-2 c = let a = accepted-read _ _ (c .before .before .before .before .before .book-refusal .ensures) (c .before .before .before .before .if1 .left) in omega arith
+add-if4-2 c = search needs
+
+add-if4-3 : tie.Need-add-if4-3
+add-if4-3 c =
+    let opened = c .before .before .before .before in
+    let a = accepted-read _ _ (opened .before .book-refusal .ensures) (opened .if1 .left) in
+    omega arith
 
 returns-4 : tie.Need-returns-4
-returns-4 c = sym (appendRefusal-large _ _ _ _ _ (c .before .before .before .before .before .before .book-refusal .ensures) _ (c .before .before .before .before .before .if1 .left) (c .before .before .before .before .rank-refusal .ensures) _ (c .before .before .before .if2 .left) (c .before .before .word-refusal .ensures) (c .before .if3 .left) (c .if4 .taken))
+returns-4 c =
+    let ranked = c .before .before .before in
+    let opened = ranked .before .before in
+    sym
+    (appendRefusal-large _ _ _ _ _ (opened .before .book-refusal .ensures) _ (opened .if1 .left) (ranked .before .rank-refusal .ensures) _ (ranked .if2 .left)
+    (c .before .before .word-refusal .ensures) (c .before .if3 .left) (c .if4 .taken))
 
 returns-5 : tie.Need-returns-5
-returns-5 c = sym (appendRefusal-none _ _ _ _ _ (c .before .before .before .before .before .before .book-refusal .ensures) _ (c .before .before .before .before .before .if1 .left) (c .before .before .before .before .rank-refusal .ensures) _ (c .before .before .before .if2 .left) (c .before .before .word-refusal .ensures) (c .before .if3 .left) (c .if4 .left))
+returns-5 c =
+    let ranked = c .before .before .before in
+    let opened = ranked .before .before in
+    sym
+    (appendRefusal-none _ _ _ _ _ (opened .before .book-refusal .ensures) _ (opened .if1 .left) (ranked .before .rank-refusal .ensures) _ (ranked .if2 .left)
+    (c .before .before .word-refusal .ensures) (c .before .if3 .left) (c .if4 .left))
 
 pub append-refusal-spec : {M : Type 1} → statement M
 append-refusal-spec =
@@ -50,5 +73,6 @@ append-refusal-spec =
     returns-3
     add-if4
     add-if4-2
+    add-if4-3
     returns-4
     returns-5)

@@ -1,113 +1,73 @@
--- `writing::write_appended` stores the parts of the new book one after the other, each where the last one ends.
+-- `writing::write_appended` writes the records and the new one, and then the trailer with one offset more: an accepted book has both.
 -- Assumes nothing.
 use denote.Ref.{now}
+use Prim.Native.Nat.{_+_, _*_, _≤_}
 use native.Mathlib.Omega.{arith}
+use lib.ListN.{length}
 use Rattle.book_format.proofs.BookLaws.{accepted, count-read}
 use Rattle.book.proofs.writing.Appended.{appended-written}
+use borrow.Author.Needs.{needs}
 use Rattle.book.proofs.writing.write_appended.Statement.{statement}
 use Rattle.book.proofs.writing.write_appended.Tie as tie
 
-sub-end : tie.Need-sub-end
-sub-end c = let a = accepted _ (c .before .before .before .pre .0) in omega arith
+sub-two-at : tie.Need-sub-two-at
+sub-two-at c = accepted _ (c .before .before .before .pre .0) .least
 
 two-at-requires : tie.Need-two-at-requires
 two-at-requires c κs = let a = accepted _ (c .before .before .before .pre .0) in omega arith
 
+-- the trailer lies inside the book
+trailer-fits : (c : tie.After-two-at) → 2 * c .two-at .result + 2 ≤ length (now (c .before .before .before .before .args .book))
+trailer-fits c = omega (arith, accepted _ (c .before .before .before .before .pre .0) .fits, count-read _ _ (c .two-at .ensures .0))
+
 mul-trailer : tie.Need-mul-trailer
-mul-trailer c = omega arith
+mul-trailer c = search needs
+
+add-trailer : tie.Need-add-trailer
+add-trailer c = search needs
 
 sub-trailer : tie.Need-sub-trailer
-sub-trailer c = let a = accepted _ (c .before .before .before .before .pre .0) in let q = count-read _ _ (c .two-at .ensures .0) in omega arith
+sub-trailer c = trailer-fits c
 
-sub-copy-to : tie.Need-sub-copy-to
-sub-copy-to c = omega arith
+write-records-requires : tie.Need-write-records-requires
+write-records-requires c κs = search needs
 
-part-copy-to-start : tie.Need-part-copy-to-start
-part-copy-to-start c = omega arith
+add-write-trailer : tie.Need-add-write-trailer
+add-write-trailer c = search needs
 
-part-copy-to-end : tie.Need-part-copy-to-end
-part-copy-to-end c = omega arith
+add-write-trailer-2 : tie.Need-add-write-trailer-2
+add-write-trailer-2 c = search needs
 
-copy-to-requires : tie.Need-copy-to-requires
-copy-to-requires c κs = omega arith
-
-write-record-requires : tie.Need-write-record-requires
-write-record-requires c κs = omega arith
-
-add-at : tie.Need-add-at
-add-at c = omega arith
-
-add-at-2 : tie.Need-add-at-2
-add-at-2 c = omega arith
-
-sub-copy-to-2 : tie.Need-sub-copy-to-2
-sub-copy-to-2 c = omega arith
-
-part-copy-to-start-2 : tie.Need-part-copy-to-start-2
-part-copy-to-start-2 c = omega arith
-
-part-copy-to-end-2 : tie.Need-part-copy-to-end-2
-part-copy-to-end-2 c = omega arith
-
-copy-to-requires-2 : tie.Need-copy-to-requires-2
-copy-to-requires-2 c κs = omega arith
-
-mul-put-two : tie.Need-mul-put-two
-mul-put-two c = omega arith
-
-add-put-two : tie.Need-add-put-two
-add-put-two c = omega arith
-
-put-two-requires : tie.Need-put-two-requires
-put-two-requires c κs = let a = accepted _ (c .before .before .before .before .before .before .before .before .before .before .before .before .before .before .before .before .before .before .before .pre .0) in let q = count-read _ _ (c .before .before .before .before .before .before .before .before .before .before .before .before .before .before .before .two-at .ensures .0) in let h = c .before .before .before .before .before .before .before .before .before .before .before .before .before .before .before .before .before .before .before .pre .1 in let k = c .before .before .before .before .before .before .before .before .before .before .before .before .copy-to .kept .1 .0 in let l = c .before .before .before .before .before .before .before .before .write-record .kept .1 .1 .1 .0 in let m = c .before .before .before .copy-to2 .kept .1 .0 in omega arith
-
-mul-put-two-2 : tie.Need-mul-put-two-2
-mul-put-two-2 c = omega arith
-
-add-put-two-2 : tie.Need-add-put-two-2
-add-put-two-2 c = omega arith
-
-add-put-two-3 : tie.Need-add-put-two-3
-add-put-two-3 c = omega arith
-
-add-put-two-4 : tie.Need-add-put-two-4
-add-put-two-4 c = omega arith
-
-put-two-requires-2 : tie.Need-put-two-requires-2
-put-two-requires-2 c κs = let a = accepted _ (c .before .before .before .before .before .before .before .before .before .before .before .before .before .before .before .before .before .before .before .before .before .before .before .pre .0) in let q = count-read _ _ (c .before .before .before .before .before .before .before .before .before .before .before .before .before .before .before .before .before .before .before .two-at .ensures .0) in let h = c .before .before .before .before .before .before .before .before .before .before .before .before .before .before .before .before .before .before .before .before .before .before .before .pre .1 in let k = c .before .before .before .before .before .before .before .before .before .before .before .before .before .before .before .before .copy-to .kept .1 .0 in let l = c .before .before .before .before .before .before .before .before .before .before .before .before .write-record .kept .1 .1 .1 .0 in let m = c .before .before .before .before .before .before .before .copy-to2 .kept .1 .0 in let n = c .before .before .before .put-two .kept .0 in omega arith
+write-trailer-requires : tie.Need-write-trailer-requires
+write-trailer-requires c κs =
+    let read = c .before .before .before .before .before in
+    let kept = c .before .before .before .write-records .kept .1 .1 .1 .1 .1 .0 in
+    let room = read .before .before .before .before .pre .1 in
+    let fits = trailer-fits read in
+    (omega arith, omega arith)
 
 same-length : tie.Need-same-length
-same-length c = omega arith
+same-length c = search needs
 
 returns : tie.Need-returns
-returns c = let s = c .before .before .before .before .before .before .before .before .before .before .before .before .before .before .before .before .before .before .before .before .before .before .before .before .before .before in let a = s .args in appended-written (now (a .book)) (now (a .out)) (a .kind) (a .rank) (now (a .word)) _ _ _ _ _ _ (s .pre .0) (c .before .before .before .before .before .before .before .before .before .before .before .before .before .before .before .before .before .before .before .before .before .before .two-at .ensures .0) (c .before .before .before .before .before .before .before .before .before .before .before .before .before .before .before .before .before .before .before .copy-to .ensures) (c .before .before .before .before .before .before .before .before .before .before .before .before .before .before .before .write-record .ensures) (c .before .before .before .before .before .before .before .before .before .before .copy-to2 .ensures) (c .before .before .before .before .before .before .put-two .ensures) (c .before .before .put-two2 .ensures)
+returns c =
+    let read = c .before .before .before .before .before .before .before .before in
+    let start = read .before .before .before .before in
+    appended-written (now (start .args .book)) (now (start .args .out)) _ _ (now (start .args .word)) _ _ _ (start .pre .0) (read .two-at .ensures .0)
+    (c .before .before .before .before .before .before .write-records .ensures) (c .before .before .write-trailer .ensures)
 
 pub write-appended-spec : {M : Type 1} → statement M
 write-appended-spec =
     tie.close
     (tie.spec
-    sub-end
+    sub-two-at
     two-at-requires
     mul-trailer
+    add-trailer
     sub-trailer
-    sub-copy-to
-    part-copy-to-start
-    part-copy-to-end
-    copy-to-requires
-    write-record-requires
-    add-at
-    add-at-2
-    sub-copy-to-2
-    part-copy-to-start-2
-    part-copy-to-end-2
-    copy-to-requires-2
-    mul-put-two
-    add-put-two
-    put-two-requires
-    mul-put-two-2
-    add-put-two-2
-    add-put-two-3
-    add-put-two-4
-    put-two-requires-2
+    write-records-requires
+    add-write-trailer
+    add-write-trailer-2
+    write-trailer-requires
     same-length
     returns)

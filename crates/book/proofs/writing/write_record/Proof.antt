@@ -1,4 +1,4 @@
--- `writing::write_record` stores the four bytes before the letters, and then the letters.
+-- `writing::write_record` stores the bytes before the letters, and then the letters.
 -- Assumes nothing.
 use mathlib.Core.Path.{ap, _∙_}
 use denote.Ref.{now}
@@ -6,6 +6,7 @@ use Prim.Native.Nat.{_+_}
 use native.Mathlib.Omega.{arith}
 use lib.ListN.{length-set}
 use lib.Seq.{sets}
+use Rattle.book_format.specs.Books.{headSize}
 use Rattle.book.proofs.numbers.Stores.{sets-record}
 use Rattle.book.proofs.writing.write_record.Statement.{statement}
 use Rattle.book.proofs.writing.write_record.Tie as tie
@@ -32,10 +33,17 @@ copy-to-requires : tie.Need-copy-to-requires
 copy-to-requires c κs = let k = simp length-set at (c .before .before .before .put-two .kept .0) in omega arith
 
 same-length : tie.Need-same-length
-same-length c = c .before .before .copy-to .kept .1 .0 ∙ simp length-set at (c .before .before .before .before .before .before .put-two .kept .0)
+same-length c =
+    let stored = c .before .before .before .before .before .before in
+    c .before .before .copy-to .kept .1 .0 ∙ simp length-set at (stored .put-two .kept .0)
 
 returns : tie.Need-returns
-returns c = let a = c .before .before .before .before .before .before .before .before .before .before .args in c .before .before .copy-to .ensures ∙ ap (λ l. sets l (a .p + 4) (now (a .word))) (c .before .before .before .before .before .before .put-two .ensures) ∙ sets-record (now (a .out)) (a .p) (a .kind) (a .rank) (now (a .word))
+returns c =
+    let stored = c .before .before .before .before .before .before in
+    let a = stored .before .before .before .before .args in
+    c .before .before .copy-to .ensures
+    ∙ ap (λ l. sets l (a .p + headSize) (now (a .word))) (stored .put-two .ensures)
+    ∙ sets-record (now (a .out)) (a .p) (a .kind) (a .rank) (now (a .word))
 
 pub write-record-spec : {M : Type 1} → statement M
 write-record-spec =

@@ -1,0 +1,3 @@
+-- What the proofs of the module `reader` share.
+pub mod Passing
+pub mod Served

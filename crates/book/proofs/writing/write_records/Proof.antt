@@ -1,0 +1,35 @@
+-- `writing::write_records` copies the records of the book and stores the new one behind them.
+-- Assumes nothing.
+use mathlib.Core.Path.{sym}
+use denote.Ref.{now}
+use native.Mathlib.Omega.{arith}
+use lib.Seq.{length-take-le}
+use Rattle.book.proofs.writing.Appended.{records-written}
+use borrow.Author.Needs.{needs}
+use Rattle.book.proofs.writing.write_records.Statement.{statement}
+use Rattle.book.proofs.writing.write_records.Tie as tie
+
+slice-aggregate-copy-to : tie.Need-slice-aggregate-copy-to
+slice-aggregate-copy-to c = sym (length-take-le _ _ (c .before .before .before .before .pre .0))
+
+copy-to-requires : tie.Need-copy-to-requires
+copy-to-requires c κs =
+    let start = c .before .before .before .before .before in
+    omega (arith, length-take-le (start .args .trailer) (now (start .args .book)) (start .pre .0))
+
+write-record-requires : tie.Need-write-record-requires
+write-record-requires c κs = search needs
+
+same-length : tie.Need-same-length
+same-length c = search needs
+
+returns : tie.Need-returns
+returns c =
+    let copied = c .before .before .before .before .before .before in
+    let start = copied .before .before .before .before .before .before in
+    records-written _ _ _ _ _ _ _ _ (start .pre .0) (copied .copy-to .ensures) (c .before .before .write-record .ensures)
+
+pub write-records-spec : {M : Type 1} → statement M
+write-records-spec =
+    tie.close
+    (tie.spec slice-aggregate-copy-to copy-to-requires write-record-requires same-length returns)
