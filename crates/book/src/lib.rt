@@ -2,6 +2,7 @@
 mod numbers;
 pub mod reader;
 mod reading;
+mod runs;
 mod writing;
 
 pub use book_format::Opened;
@@ -9,5 +10,6 @@ pub use book_format::Preset;
 pub use reading::check_book;
 pub use reading::check_preset;
 pub use reading::letters;
-pub use reading::opened_preset;
+pub use runs::preset_of;
+pub use runs::read_presets;
 pub use writing::append;

@@ -5,10 +5,10 @@ use book_format::Preset;
 use window::rank_refusal;
 use window::word_refusal;
 ghost use mathlib.Core.Path.{_≡_};
-ghost use Prim.Native.Nat.{_+_, _*_, _≤_};
+ghost use Prim.Native.Nat.{_+_, _*_, _≤_, _<_};
 ghost use lib.ListN.{length};
 ghost use Rattle.book_format.specs.Books.{count, endAt, misplaced, bookRefusal};
-ghost use Rattle.book_format.specs.Calls.{checkedBook, checkedRecord, openedPreset, checkedPreset, lettersOf, lettersStart};
+ghost use Rattle.book_format.specs.Calls.{checkedBook, checkedRecord, checkedPreset, lettersOf, lettersStart};
 
 // The most bytes of a book.
 pub(crate) const LARGEST: usize = 65535;
@@ -104,33 +104,14 @@ fn check_record(book: &[u8], o: usize) -> Preset
     }
 }
 
-// Reading a preset of a book that `check_book` has accepted, with no second walk over its records: for such a book it answers what `check_preset`
-// answers. Any other book is read safely too, and checks 1 to 8 are made as far as they concern this record alone.
-pub fn opened_preset(book: &[u8], number: usize) -> Preset
-    ensures { λ r. ⌜ r ≡ openedPreset (now (book .entry)) number ⌝ }
+// A preset of a book that passes checks 1 to 3, with a number that passes check 4: the record at its offset.
+pub(crate) fn numbered_preset(book: &[u8], number: usize) -> Preset
+    requires { ⌜ (bookRefusal (now book) ≡ 0) × (number < count (now book)) ⌝ }
+    ensures { λ r. ⌜ r ≡ checkedPreset (now (book .entry)) number ⌝ }
 {
-    if book.len() < 2 {
-        return Preset::Refused(1);
-    }
-    if LARGEST < book.len() {
-        return Preset::Refused(1);
-    }
     let c = two_at(book, book.len() - 2);
-    if book.len() < 2 * c + 2 {
-        return Preset::Refused(2);
-    }
-    if c <= number {
-        return Preset::Refused(4);
-    }
     let trailer = book.len() - (2 * c + 2);
     let o = two_at(book, trailer + 2 * number);
-    if trailer < o + HEAD {
-        return Preset::Refused(3);
-    }
-    let end = o + HEAD + two_at(book, o + 2);
-    if trailer < end {
-        return Preset::Refused(3);
-    }
     check_record(book, o)
 }
 
@@ -142,7 +123,11 @@ pub fn check_preset(book: &[u8], number: usize) -> Preset
     if r != 0 {
         return Preset::Refused(r);
     }
-    opened_preset(book, number)
+    let c = two_at(book, book.len() - 2);
+    if c <= number {
+        return Preset::Refused(4);
+    }
+    numbered_preset(book, number)
 }
 
 // The letters of a preset: the part of the book that holds them. For a refused preset an empty part of the book.

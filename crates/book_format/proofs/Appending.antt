@@ -12,13 +12,14 @@ use native.Mathlib.Numerals.{add-one}
 use native.Mathlib.Omega.{arith}
 use lib.Dec.{eqb}
 use lib.ListN.{length}
-use borrow.Author.Tests.{eq-eqb, le-ltb, lt-leb, eqb-true, not-false}
+use borrow.Author.Tests.{eq-eqb, le-ltb, eqb-true, not-false}
 use Rattle.coxeter.specs.Kinds.{pick}
 use Rattle.coxeter.specs.Checks.{check, _then_, rankRefusal, wordRefusal}
 use Rattle.book_format.specs.declared.Preset.the-variants as preset
-use Rattle.book_format.specs.Books.{count, trailer, offset, kindAt, rankAt, letterCountAt, lettersAt, endAt, noSuchPreset, misplacedFrom, misplaced, bookRefusal, recordRefusal, presetRefusal, appended, appendRefusal, headSize, added}
+use Rattle.book_format.specs.Books.{count, trailer, offset, kindAt, rankAt, letterCountAt, lettersAt, endAt, misplacedFrom, misplaced, bookRefusal, recordRefusal, presetRefusal, appended, appendRefusal, headSize, added}
 use Rattle.book_format.specs.Calls.{presetOf, presetAt, checkedPreset, lettersOf}
 use Rattle.book_format.proofs.BookLaws.{Accepted, accepted, first, bookRefusal-walk, endAt-offset-le}
+use Rattle.book_format.proofs.PresetLaws.{presetRefusal-record}
 use Rattle.book_format.proofs.WritingLaws.{length-appended, append-book, append-preset, append-size}
 use Rattle.book_format.proofs.AppendedParts.{count-appended, trailer-appended, offset-appended, offset-appended-last, kindAt-appended, rankAt-appended, letterCountAt-appended, lettersAt-appended, endAt-appended, kindAt-appended-last, rankAt-appended-last, letterCountAt-appended-last, lettersAt-appended-last, endAt-appended-last}
 
@@ -68,10 +69,6 @@ module _ (b : List ℕ) (k n : ℕ) (u : List ℕ) (a : Accepted b) (small : len
       (rw (c, add-one (count b)) (walk-appended (count b) 0 0 (zero-add (count b)) (a .placed)))
 
 -- ---- the presets before
-
-presetRefusal-record : (m : List ℕ) (i : ℕ) → bookRefusal m ≡ 0 → i < count m → presetRefusal m i ≡ recordRefusal m (offset m i)
-unfolding presetRefusal noSuchPreset
-presetRefusal-record m i z h = rw (eq-eqb (bookRefusal m) 0 z, lt-leb (count m) i h)
 
 recordRefusal-same : (l m : List ℕ) (o : ℕ) → kindAt l o ≡ kindAt m o → rankAt l o ≡ rankAt m o → lettersAt l o ≡ lettersAt m o → recordRefusal l o ≡ recordRefusal m o
 unfolding recordRefusal

@@ -6,7 +6,7 @@ use mathlib.Core.Path.{_≡_, sym, _∙_}
 use mathlib.Core.Bool.{Bool, true, false, not, _||_}
 use mathlib.Core.List.{List}
 use Prim.Native.Nat.{ℕ, zero, suc, _+_, _-_, _*_, _≤_, _<_}
-use native.Mathlib.Nat.{add-zero, add-suc, suc-add, zero-add}
+use native.Mathlib.Nat.{add-zero, add-suc, suc-add, zero-add, le-trans}
 use native.Mathlib.Numerals.{add-one}
 use native.Mathlib.Omega.{arith}
 use lib.Dec.{eqb, ltb}
@@ -150,3 +150,8 @@ trailer-le b = omega arith
 pub endAt-offset-le : (b : List ℕ) (i : ℕ) → Accepted b → i < count b → endAt b (offset b i) ≤ trailer b
 unfolding misplaced
 endAt-offset-le b i a h = rw zero-add at (record-inside b (count b) 0 0 i (a .placed) h)
+
+-- the same as code meets it: c is the count, o the offset
+pub endAt-read-le : (b : List ℕ) (i c o : ℕ) → Accepted b → i < count b → c ≡ twoAt b (length b - 2) → o ≡ twoAt b (length b - (2 * c + 2) + 2 * i)
+    → endAt b o ≤ length b
+endAt-read-le b i c o a h q p = rw (← offset-read b c i o (count-read b c q) p) (le-trans (endAt-offset-le b i a h) (trailer-le b))

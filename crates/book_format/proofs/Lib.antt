@@ -8,3 +8,4 @@ pub mod Outcomes
 pub mod Unchanged
 pub mod Vectors
 pub mod RecordLaws
+pub mod RunLaws

@@ -1,21 +1,21 @@
 -- What the calls that read a book answer, case by case, in the form in which the code meets it.
 --
--- Sections: answers; presets; opened books; letters.
+-- Sections: answers; records; presets by their number; letters.
 -- Assumes nothing.
 use mathlib.Core.Path.{_≡_, sym, _∙_}
 use mathlib.Core.List.{List, []}
 use Prim.Native.Nat.{ℕ, _+_, _-_, _*_, _≤_, _<_}
-use native.Mathlib.Decide.{ℕ-discrete, decLe}
+use native.Mathlib.Decide.{ℕ-discrete}
 use native.Mathlib.Omega.{arith}
-use lib.Dec.{ltb}
 use lib.ListN.{length, take, drop}
-use borrow.Author.Tests.{eq-eqb, ne-eqb, lt-ltb, le-ltb, lt-leb, le-leb, leb-false}
+use borrow.Author.Tests.{eq-eqb, ne-eqb, lt-leb, le-leb, leb-false}
 use Rattle.coxeter.specs.Checks.{check, _then_, rankRefusal, wordRefusal}
 use Rattle.book_format.specs.declared.Opened.the-variants as opened
 use Rattle.book_format.specs.declared.Preset.the-variants as preset
-use Rattle.book_format.specs.Books.{twoAt, count, trailer, offset, kindAt, rankAt, letterCountAt, lettersAt, endAt, wrongSize, wrongCount, noSuchPreset, bookRefusal, recordRefusal, presetRefusal, openedRefusal, headSize}
-use Rattle.book_format.specs.Calls.{openedOf, presetOf, checkedBook, presetAt, checkedRecord, checkedPreset, openedPreset, lettersStart, lettersOf}
-use Rattle.book_format.proofs.BookLaws.{Accepted, accepted, count-read, trailer-read, offset-read, trailer-le, endAt-offset-le}
+use Rattle.book_format.specs.Books.{twoAt, count, offset, headSize, kindAt, rankAt, letterCountAt, lettersAt}
+use Rattle.book_format.specs.Books.{noSuchPreset, bookRefusal, recordRefusal, presetRefusal}
+use Rattle.book_format.specs.Calls.{openedOf, presetOf, checkedBook, presetAt, checkedRecord, checkedPreset, lettersStart, lettersOf}
+use Rattle.book_format.proofs.BookLaws.{Accepted, accepted, count-read, offset-read, trailer-le, endAt-offset-le}
 use Rattle.coxeter.proofs.Refusals.{then-zero, check-zero, then-some}
 
 -- ---- answers
@@ -36,7 +36,7 @@ presetAt-found : (b : List ℕ) (o r : ℕ) → r ≡ 0 → presetAt r b o ≡ p
 unfolding presetAt presetOf
 presetAt-found b o r z = rw (eq-eqb r 0 z)
 
--- ---- presets
+-- ---- records
 
 -- the record at byte o: r is the refusal of its kind and rank, l its letter count, s the refusal of its letters
 module _ (b : List ℕ) (o r : ℕ) (e : r ≡ rankRefusal (kindAt b o) (rankAt b o)) where
@@ -60,96 +60,48 @@ module _ (b : List ℕ) (o r : ℕ) (e : r ≡ rankRefusal (kindAt b o) (rankAt 
   unfolding checkedRecord
   checkedRecord-found l s z p q y = rw (recordRefusal-word l s z p q, p) (presetAt-found b o s y)
 
--- ---- opened books
+-- ---- presets by their number
 
--- the tests of an opened book in the order of the code: c is the count, o the offset, l the letter count
-module _ (b : List ℕ) (i : ℕ) where
-  pub openedPreset-small : length b < 2 → openedPreset b i ≡ preset.Refused 1
-  unfolding openedPreset openedRefusal wrongSize
-  openedPreset-small h = rw (lt-ltb (length b) 2 h) (presetAt-refused b (offset b i) 1 (omega arith))
+-- preset i of a book that has it
+pub presetRefusal-record : (b : List ℕ) (i : ℕ) → bookRefusal b ≡ 0 → i < count b → presetRefusal b i ≡ recordRefusal b (offset b i)
+unfolding presetRefusal noSuchPreset
+presetRefusal-record b i z h = rw (eq-eqb (bookRefusal b) 0 z, lt-leb (count b) i h)
 
-  module _ (least : 2 ≤ length b) where
-    pub openedPreset-large : 65535 < length b → openedPreset b i ≡ preset.Refused 1
-    unfolding openedPreset openedRefusal wrongSize
-    openedPreset-large h = rw (le-ltb (length b) 2 least, lt-ltb 65535 (length b) h) (presetAt-refused b (offset b i) 1 (omega arith))
+-- the same as code meets it: c is the count, o the offset
+pub checkedPreset-record : (b : List ℕ) (i c o : ℕ) → bookRefusal b ≡ 0 → i < count b → c ≡ twoAt b (length b - 2)
+    → o ≡ twoAt b (length b - (2 * c + 2) + 2 * i) → checkedPreset b i ≡ checkedRecord b o
+unfolding checkedPreset checkedRecord
+checkedPreset-record b i c o z h q p = rw (presetRefusal-record b i z h, offset-read b c i o (count-read b c q) p)
 
-    module _ (c : ℕ) (most : length b ≤ 65535) (q : c ≡ twoAt b (length b - 2)) where
-      pub openedPreset-count : length b < 2 * c + 2 → openedPreset b i ≡ preset.Refused 2
-      unfolding openedPreset openedRefusal wrongSize wrongCount
-      openedPreset-count h =
-          rw (le-ltb (length b) 2 least, le-ltb 65535 (length b) most, ← count-read b c q, lt-ltb (length b) (2 * c + 2) h) (presetAt-refused b (offset b i) 2 (omega arith))
-
-      pub openedPreset-number : 2 * c + 2 ≤ length b → c ≤ i → openedPreset b i ≡ preset.Refused 4
-      unfolding openedPreset openedRefusal wrongSize wrongCount noSuchPreset
-      openedPreset-number f h =
-          rw (le-ltb (length b) 2 least, le-ltb 65535 (length b) most, ← count-read b c q, le-ltb (length b) (2 * c + 2) f, le-leb c i h)
-          (presetAt-refused b (offset b i) 4 (omega arith))
-
-      module _ (o : ℕ) (f : 2 * c + 2 ≤ length b) (n : i < c) (p : o ≡ twoAt b (length b - (2 * c + 2) + 2 * i)) where
-        openedRefusal-record : openedRefusal b i ≡ (check 3 (ltb (trailer b) (endAt b o)) then recordRefusal b o)
-        unfolding openedRefusal wrongSize wrongCount noSuchPreset
-        openedRefusal-record =
-            rw (le-ltb (length b) 2 least, le-ltb 65535 (length b) most, ← count-read b c q, le-ltb (length b) (2 * c + 2) f, lt-leb c i n, offset-read b c i o (count-read b c q) p)
-
-        pub openedPreset-room : length b - (2 * c + 2) < o + headSize → openedPreset b i ≡ preset.Refused 3
-        unfolding openedPreset
-        openedPreset-room h =
-            let t = trailer-read b c (count-read b c q) in
-            rw (openedRefusal-record, lt-ltb (trailer b) (endAt b o) (omega arith)) (presetAt-refused b (offset b i) 3 (omega arith))
-
-        pub openedPreset-end : (l : ℕ) → l ≡ twoAt b (o + 2) → length b - (2 * c + 2) < o + headSize + l → openedPreset b i ≡ preset.Refused 3
-        unfolding openedPreset
-        openedPreset-end l d h =
-            let t = trailer-read b c (count-read b c q) in
-            rw (openedRefusal-record, lt-ltb (trailer b) (endAt b o) (omega arith)) (presetAt-refused b (offset b i) 3 (omega arith))
-
-        pub openedPreset-record : (l : ℕ) → l ≡ twoAt b (o + 2) → o + headSize + l ≤ length b - (2 * c + 2) → openedPreset b i ≡ checkedRecord b o
-        unfolding openedPreset checkedRecord
-        openedPreset-record l d h =
-            let t = trailer-read b c (count-read b c q) in
-            rw (openedRefusal-record, le-ltb (trailer b) (endAt b o) (omega arith), offset-read b c i o (count-read b c q) p)
-
--- a book that checks 1 to 3 accept reads the same without a second walk
-openedRefusal-accepted : (b : List ℕ) (i : ℕ) → bookRefusal b ≡ 0 → openedRefusal b i ≡ presetRefusal b i
-unfolding openedRefusal presetRefusal wrongSize wrongCount noSuchPreset
-openedRefusal-accepted b i z =
-    let a = accepted b z in
-    rw (le-ltb (length b) 2 (a .least), le-ltb 65535 (length b) (a .most), le-ltb (length b) (2 * count b + 2) (a .fits), eq-eqb (bookRefusal b) 0 z)
-    (elim (decLe (count b) i) [
-      | yes h ↦ rw (le-leb (count b) i h)
-      | no f ↦ rw (lt-leb (count b) i (omega arith), le-ltb (trailer b) (endAt b (offset b i)) (endAt-offset-le b i a (omega arith)))
-    ])
-
-pub openedPreset-accepted : (b : List ℕ) (i : ℕ) → bookRefusal b ≡ 0 → openedPreset b i ≡ checkedPreset b i
-unfolding openedPreset checkedPreset
-openedPreset-accepted b i z = rw (openedRefusal-accepted b i z)
-
--- reading preset i: r is the refusal of the book
+-- r is the refusal of the book
 module _ (b : List ℕ) (i r : ℕ) (e : r ≡ bookRefusal b) where
   pub checkedPreset-book : (r ≡ 0 → ⊥) → checkedPreset b i ≡ preset.Refused r
   unfolding checkedPreset presetRefusal
   checkedPreset-book f = rw (← e, ne-eqb r 0 f) (presetAt-refused b (offset b i) r f)
 
-  pub checkedPreset-opened : r ≡ 0 → checkedPreset b i ≡ openedPreset b i
-  checkedPreset-opened z = sym (openedPreset-accepted b i (sym e ∙ z))
+  pub checkedPreset-number : (c : ℕ) → r ≡ 0 → c ≡ twoAt b (length b - 2) → c ≤ i → checkedPreset b i ≡ preset.Refused 4
+  unfolding checkedPreset presetRefusal noSuchPreset
+  checkedPreset-number c z q h = rw (← e, eq-eqb r 0 z, ← count-read b c q, le-leb c i h) (presetAt-refused b (offset b i) 4 (omega arith))
 
 -- ---- letters
 
--- a preset that was found, and where its letters are
-pub record Found (b : List ℕ) (i s l : ℕ) : Type 0 where
+-- a preset that was found: what its record has, and where its letters are
+pub record Found (b : List ℕ) (i k n s l : ℕ) : Type 0 where
   pub unrefused : presetRefusal b i ≡ 0
+  pub kind : k ≡ kindAt b (offset b i)
+  pub rank : n ≡ rankAt b (offset b i)
   pub begins : s ≡ offset b i + headSize
   pub counts : l ≡ letterCountAt b (offset b i)
 
-pub found : (b : List ℕ) (i k n s l : ℕ) → preset.Found k n s l ≡ checkedPreset b i → Found b i s l
+pub found : (b : List ℕ) (i k n s l : ℕ) → preset.Found k n s l ≡ checkedPreset b i → Found b i k n s l
 unfolding checkedPreset
 found b i k n s l e = elim (ℕ-discrete (presetRefusal b i) 0) [ yes z ↦ at z | no f ↦ absurd (never f) ]
   where
-    at : presetRefusal b i ≡ 0 → Found b i s l
+    at : presetRefusal b i ≡ 0 → Found b i k n s l
     at z =
         let q : preset.Found k n s l ≡ preset.Found (kindAt b (offset b i)) (rankAt b (offset b i)) (offset b i + headSize) (letterCountAt b (offset b i)) =
         e ∙ presetAt-found b (offset b i) (presetRefusal b i) z in
-        record { unrefused = z; begins = cc; counts = cc }
+        record { unrefused = z; kind = cc; rank = cc; begins = cc; counts = cc }
 
     never : (presetRefusal b i ≡ 0 → ⊥) → ⊥
     never f =
@@ -165,7 +117,13 @@ refused b i r e z =
     let y : _≡_ {A = ℕ} 0 1 = cc in
     omega arith
 
--- a preset that is not refused is one of an accepted book
+pub refused-is : (b : List ℕ) (i r : ℕ) → preset.Refused r ≡ checkedPreset b i → r ≡ presetRefusal b i
+unfolding checkedPreset
+refused-is b i r e =
+    let q : preset.Refused r ≡ preset.Refused (presetRefusal b i) = e ∙ presetAt-refused b (offset b i) (presetRefusal b i) (refused b i r e) in
+    cc
+
+-- a preset that is not refused is one of an accepted book, and its record is not refused
 pub preset-accepted : (b : List ℕ) (i : ℕ) → presetRefusal b i ≡ 0 → Accepted b
 unfolding presetRefusal
 preset-accepted b i z = accepted b (then-zero (bookRefusal b) (check 4 (noSuchPreset b i) then recordRefusal b (offset b i)) z .0)
@@ -177,25 +135,45 @@ preset-below b i z =
     let c = then-zero (check 4 (noSuchPreset b i)) (recordRefusal b (offset b i)) (a .1) in
     leb-false (count b) i (check-zero 3 (noSuchPreset b i) (c .0))
 
-pub found-inside : (b : List ℕ) (i s l : ℕ) → Found b i s l → s + l ≤ length b
-found-inside b i s l f =
+preset-record : (b : List ℕ) (i : ℕ) → presetRefusal b i ≡ 0 → recordRefusal b (offset b i) ≡ 0
+unfolding presetRefusal
+preset-record b i z =
+    let a = then-zero (bookRefusal b) (check 4 (noSuchPreset b i) then recordRefusal b (offset b i)) z in
+    then-zero (check 4 (noSuchPreset b i)) (recordRefusal b (offset b i)) (a .1) .1
+
+-- it passes checks 5 to 8
+record-tests : (b : List ℕ) (o : ℕ) → recordRefusal b o ≡ 0 → (rankRefusal (kindAt b o) (rankAt b o) ≡ 0) × (wordRefusal (rankAt b o) (lettersAt b o) ≡ 0)
+unfolding recordRefusal
+record-tests b o z = then-zero (rankRefusal (kindAt b o) (rankAt b o)) (wordRefusal (rankAt b o) (lettersAt b o)) z
+
+pub found-rank : (b : List ℕ) (i k n s l : ℕ) → Found b i k n s l → rankRefusal k n ≡ 0
+found-rank b i k n s l f = rw (f .kind, f .rank) (record-tests b (offset b i) (preset-record b i (f .unrefused)) .0)
+
+pub found-word : (b : List ℕ) (i k n s l : ℕ) → Found b i k n s l → wordRefusal n (take (s + l - s) (drop s b)) ≡ 0
+found-word b i k n s l f =
+    let d : s + l - s ≡ l = omega arith in
+    rw (d, f .rank, f .begins, f .counts) (record-tests b (offset b i) (preset-record b i (f .unrefused)) .1)
+
+-- its letters lie inside the book
+pub found-inside : (b : List ℕ) (i k n s l : ℕ) → Found b i k n s l → s + l ≤ length b
+found-inside b i k n s l f =
     let z = f .unrefused in
     let e = endAt-offset-le b i (preset-accepted b i z) (preset-below b i z) in
     let t = trailer-le b in
     omega arith
 
-pub found-small : (b : List ℕ) (i s l : ℕ) → Found b i s l → s + l ≤ 65535
-found-small b i s l f = let h = found-inside b i s l f in let a = preset-accepted b i (f .unrefused) in omega arith
+pub found-small : (b : List ℕ) (i k n s l : ℕ) → Found b i k n s l → s + l ≤ 65535
+found-small b i k n s l f = let h = found-inside b i k n s l f in let a = preset-accepted b i (f .unrefused) in omega arith
 
-pub lettersOf-found : (b : List ℕ) (i s l : ℕ) → Found b i s l → take (s + l - s) (drop s b) ≡ lettersOf b i
+pub lettersOf-found : (b : List ℕ) (i k n s l : ℕ) → Found b i k n s l → take (s + l - s) (drop s b) ≡ lettersOf b i
 unfolding lettersOf
-lettersOf-found b i s l f =
+lettersOf-found b i k n s l f =
     let d : s + l - s ≡ l = omega arith in
     rw (eq-eqb (presetRefusal b i) 0 (f .unrefused), d, f .begins, f .counts)
 
-pub lettersStart-found : (b : List ℕ) (i s l p : ℕ) → Found b i s l → s + p ≡ p + lettersStart b i
+pub lettersStart-found : (b : List ℕ) (i k n s l p : ℕ) → Found b i k n s l → s + p ≡ p + lettersStart b i
 unfolding lettersStart
-lettersStart-found b i s l p f = rw (eq-eqb (presetRefusal b i) 0 (f .unrefused)) (let e = f .begins in omega arith)
+lettersStart-found b i k n s l p f = rw (eq-eqb (presetRefusal b i) 0 (f .unrefused)) (let e = f .begins in omega arith)
 
 pub lettersOf-refused : (b : List ℕ) (i : ℕ) → (presetRefusal b i ≡ 0 → ⊥) → [] ≡ lettersOf b i
 unfolding lettersOf

@@ -83,13 +83,6 @@ recordRefusal b o = rankRefusal (kindAt b o) (rankAt b o) then wordRefusal (rank
 unfoldable pub presetRefusal : List ℕ → ℕ → ℕ
 presetRefusal b i = bookRefusal b then check 4 (noSuchPreset b i) then recordRefusal b (offset b i)
 
--- a preset of an opened book, one that checks 1 to 3 have accepted, is read with no second walk: of check 3 only that its own record ends in time.
--- For every such book this is `presetRefusal`
-unfoldable pub openedRefusal : List ℕ → ℕ → ℕ
-openedRefusal b i =
-    check 1 (wrongSize b) then check 2 (wrongCount b) then check 4 (noSuchPreset b i) then check 3 (ltb (trailer b) (endAt b (offset b i)))
-    then recordRefusal b (offset b i)
-
 -- a record's bytes
 unfoldable pub recordOf : ℕ → ℕ → List ℕ → List ℕ
 recordOf k n u = k ∷ n ∷ (two (length u) ++ u)

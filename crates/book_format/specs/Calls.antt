@@ -1,14 +1,17 @@
 -- What each call on a book answers and writes, for every input (document 01, "The preset book" and "What contracts have to settle").
-use mathlib.Core.List.{List, []}
-use Prim.Native.Nat.{ℕ, _+_}
+use mathlib.Core.List.{List, [], _∷_, _++_}
+use Prim.Native.Nat.{ℕ, zero, suc, _+_, _-_, _/_, _%_, min}
 use lib.Dec.{eqb}
+use lib.ListN.{length}
 use Rattle.book_format.specs.declared.Opened.{Opened}
 use Rattle.book_format.specs.declared.Opened.the-variants as opened
 use Rattle.book_format.specs.declared.Preset.{Preset}
 use Rattle.book_format.specs.declared.Preset.the-variants as preset
 use Rattle.coxeter.specs.Kinds.{pick}
-use Rattle.coxeter.specs.Calls.{Outcome, writes}
-use Rattle.book_format.specs.Books.{count, offset, kindAt, rankAt, letterCountAt, lettersAt, bookRefusal, recordRefusal, presetRefusal, openedRefusal, appendRefusal, appended, headSize}
+use Rattle.coxeter.specs.Checks.{check, _then_, tooShort}
+use Rattle.coxeter.specs.Calls.{Outcome, answerOf, written, writes}
+use Rattle.book_format.specs.Books.{count, offset, headSize, kindAt, rankAt, letterCountAt, lettersAt}
+use Rattle.book_format.specs.Books.{noSuchPreset, bookRefusal, recordRefusal, presetRefusal, appended, appendRefusal}
 
 -- the number and the value of each case of `Opened`: its refusal, or with none the number of presets
 unfoldable pub openedOf : ℕ → ℕ → Opened
@@ -34,10 +37,6 @@ checkedRecord b o = presetAt (recordRefusal b o) b o
 unfoldable pub checkedPreset : List ℕ → ℕ → Preset
 checkedPreset b i = presetAt (presetRefusal b i) b (offset b i)
 
--- the same for an opened book, with no second walk
-unfoldable pub openedPreset : List ℕ → ℕ → Preset
-openedPreset b i = presetAt (openedRefusal b i) b (offset b i)
-
 -- "The letters handed out are the book's own bytes, not a copy; for a refused preset they are an empty part of the book": where the part begins
 unfoldable pub lettersStart : List ℕ → ℕ → ℕ
 lettersStart b i = pick (eqb (presetRefusal b i) 0) (offset b i + headSize) 0
@@ -45,6 +44,33 @@ lettersStart b i = pick (eqb (presetRefusal b i) 0) (offset b i + headSize) 0
 -- and its bytes
 unfoldable pub lettersOf : List ℕ → ℕ → List ℕ
 lettersOf b i = pick (eqb (presetRefusal b i) 0) (lettersAt b (offset b i)) []
+
+-- a run of presets, in numbers. Each preset has five: its refusal or 0, its kind, its rank, where its letters begin and how many they are; the last
+-- four are 0 where it is refused
+unfoldable pub fieldsOf : Preset → List ℕ
+fieldsOf (preset.Found k n s l) = 0 ∷ k ∷ n ∷ s ∷ l ∷ []
+fieldsOf (preset.Refused r) = r ∷ 0 ∷ 0 ∷ 0 ∷ 0 ∷ []
+
+-- those of t presets from preset i on
+unfoldable pub presetFields : List ℕ → ℕ → ℕ → List ℕ
+presetFields b zero i = []
+presetFields b (suc t) i = fieldsOf (checkedPreset b i) ++ presetFields b t (suc i)
+
+-- as many presets from preset i on as there are, and as have room in `out`
+unfoldable pub runLength : List ℕ → ℕ → List ℕ → ℕ
+runLength b i out = min (count b - i) (length out / 5)
+
+-- reading a run makes checks 1 to 3 of the book, 4 of its first preset, and 14 where not even one has room; checks 5 to 8 are those of each preset.
+-- It answers how many presets were written
+unfoldable pub readingPresets : List ℕ → ℕ → List ℕ → Outcome ℕ
+readingPresets b i out =
+    let r = bookRefusal b then check 4 (noSuchPreset b i) then check 14 (tooShort 5 out) in
+    let t = runLength b i out in
+    record { answer = answerOf r t; bytes = written r (presetFields b t i) out }
+
+-- the preset of five numbers, each cut to the bits that it has in `Preset`
+unfoldable pub presetFrom : ℕ → ℕ → ℕ → ℕ → ℕ → Preset
+presetFrom r k n s l = presetOf (r % 256) (k % 256) (n % 256) s l
 
 -- appending a preset
 unfoldable pub appending : List ℕ → ℕ → ℕ → List ℕ → List ℕ → Outcome ℕ

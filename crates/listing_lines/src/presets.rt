@@ -3,7 +3,7 @@ use crate::lines::has_room;
 use crate::lines::put_line;
 use crate::lines::put_refused;
 use book::Preset;
-use book::opened_preset;
+use book::check_preset;
 use listing_text::Placed;
 use window::Answer;
 use window::normal_form_of_word;
@@ -13,6 +13,7 @@ ghost use Prim.Native.Nat.{_+_, _≤_};
 ghost use lib.ListN.{length};
 ghost use Rattle.coxeter.specs.Kinds.{kindOf};
 ghost use Rattle.coxeter.specs.Checks.{rankRefusal, wordRefusal};
+ghost use Rattle.book_format.specs.Calls.{checkedPreset};
 ghost use Rattle.listing_text.specs.Calls.{Put, puts, longest, Within, refusalOf};
 ghost use Rattle.listing_text.specs.Text.{wordLine, lineOf};
 
@@ -55,8 +56,15 @@ fn put_word(number: usize, kind: u8, rank: u8, word: &[u8], out: &mut [u8], at: 
     put_line(number, kind, rank, &form[..l], &shown[..m], out, at)
 }
 
-// The line of a preset of an opened book, by its number from 0 on.
-pub fn put_preset(book: &[u8], number: usize, out: &mut [u8], at: usize) -> Placed
+// The line of a preset, by its number and what reading it answered.
+pub(crate) fn put_answer(
+    book: &[u8],
+    number: usize,
+    answer: Preset,
+    out: &mut [u8],
+    at: usize,
+) -> Placed
+    requires { ⌜ answer ≡ checkedPreset (now book) number ⌝ }
     ensures { λ r. ⌜ (r ≡ puts (lineOf (now (book .entry)) number) (now (out .entry)) at .answer)
         × (now (out .exit) ≡ puts (lineOf (now (book .entry)) number) (now (out .entry)) at .bytes) ⌝ }
     ensures { λ r. ⌜ Within r (now (out .entry)) ⌝ }
@@ -64,7 +72,6 @@ pub fn put_preset(book: &[u8], number: usize, out: &mut [u8], at: usize) -> Plac
     if !has_room(out.len(), at) {
         return Placed::NoRoom;
     }
-    let answer = opened_preset(book, number);
     let Preset::Found {
         kind,
         rank,
@@ -76,4 +83,13 @@ pub fn put_preset(book: &[u8], number: usize, out: &mut [u8], at: usize) -> Plac
     };
     let end = start + length;
     Placed::Next(put_word(number, kind, rank, &book[start..end], out, at))
+}
+
+// The line of a preset, by its number from 0 on: checks 1 to 8 are made, with a walk over the whole book.
+pub fn put_preset(book: &[u8], number: usize, out: &mut [u8], at: usize) -> Placed
+    ensures { λ r. ⌜ (r ≡ puts (lineOf (now (book .entry)) number) (now (out .entry)) at .answer)
+        × (now (out .exit) ≡ puts (lineOf (now (book .entry)) number) (now (out .entry)) at .bytes) ⌝ }
+    ensures { λ r. ⌜ Within r (now (out .entry)) ⌝ }
+{
+    put_answer(book, number, check_preset(book, number), out, at)
 }

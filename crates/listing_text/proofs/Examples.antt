@@ -11,8 +11,8 @@ use Rattle.coxeter.specs.Windows.{from, exchange, negateFirst, exchangeNegate, 
 use Rattle.coxeter.specs.Checks.{wrongKind, wrongRank, tooLong, wrongLetter, rankRefusal, wordRefusal}
 use Rattle.coxeter.specs.NormalForm.{down, rise, fall, block, without, indexOf, restOf, normalFrom, normalForm}
 use Rattle.coxeter.proofs.Vectors.{Agree, lent}
-use Rattle.book_format.specs.Books.{twoAt, count, trailer, offset, wrongSize, wrongCount, misplacedFrom, misplaced, noSuchPreset, bookRefusal, recordRefusal, openedRefusal}
-use Rattle.book_format.specs.Calls.{openedOf, presetOf, checkedBook, presetAt, openedPreset}
+use Rattle.book_format.specs.Books.{twoAt, count, trailer, offset, wrongSize, wrongCount, misplacedFrom, misplaced, noSuchPreset, bookRefusal, recordRefusal, presetRefusal}
+use Rattle.book_format.specs.Calls.{openedOf, presetOf, checkedBook, presetAt, checkedPreset}
 use Rattle.book_format.proofs.Vectors.{book, emptyBook, bookOf}
 use Rattle.listing_text.specs.declared.Placed.the-variants.{Next, NoRoom}
 use Rattle.listing_text.specs.Text.{digits, decimal, spaced, letters, entry, entries, kindLetter, head, tail, presetLine, refused, refusedLine, refusedBookLine, countLine, wordLine, lineBy, lineOf, linesFrom, listingBy, listing}
@@ -41,8 +41,8 @@ pub listings-agree : Agree listings
 unfolding listings codes
     kindOf up from exchange negateFirst exchangeNegate act windowFrom straight window placeFrom signed
     wrongKind wrongRank tooLong wrongLetter rankRefusal wordRefusal down rise fall block without indexOf restOf normalFrom normalForm
-    twoAt count trailer offset wrongSize wrongCount misplacedFrom misplaced noSuchPreset bookRefusal recordRefusal openedRefusal
-    openedOf presetOf checkedBook presetAt openedPreset
+    twoAt count trailer offset wrongSize wrongCount misplacedFrom misplaced noSuchPreset bookRefusal recordRefusal presetRefusal
+    openedOf presetOf checkedBook presetAt checkedPreset
     digits decimal spaced letters entry entries kindLetter head tail presetLine refused refusedLine refusedBookLine countLine
     wordLine lineBy lineOf linesFrom listingBy listing
 listings-agree = refl

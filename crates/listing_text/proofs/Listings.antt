@@ -1,25 +1,17 @@
--- The listing as its pieces: lines put one after the other while there is room, and the lines of an accepted book.
+-- The listing as its pieces: lines put one after the other while there is room.
 -- Assumes nothing.
-use mathlib.Core.Path.{_≡_, ap}
+use mathlib.Core.Path.{_≡_}
 use mathlib.Core.List.{List, _++_, append-assoc, append-nil}
 use Prim.Native.Nat.{ℕ, zero, suc, _+_, _-_, _≤_}
 use native.Mathlib.Nat.{add-zero, zero-add, add-suc, suc-add}
 use native.Mathlib.Omega.{arith}
 use lib.ListN.{length}
-use Rattle.book_format.specs.Books.{bookRefusal}
-use Rattle.book_format.specs.Calls.{checkedPreset}
-use Rattle.book_format.proofs.PresetLaws.{openedPreset-accepted}
 use Rattle.listing_text.specs.declared.Placed.{Placed}
 use Rattle.listing_text.specs.declared.Placed.the-variants.{Next}
-use Rattle.listing_text.specs.Text.{lineBy, lineOf, linesFrom}
+use Rattle.listing_text.specs.Text.{lineOf, linesFrom}
 use Rattle.listing_text.specs.Calls.{Within}
 
 -- ---- lines
-
--- the lines of an accepted book are those of its presets as reading them answers
-pub lineOf-accepted : (b : List ℕ) (i : ℕ) → bookRefusal b ≡ 0 → lineOf b i ≡ lineBy b i (checkedPreset b i)
-unfolding lineOf
-lineOf-accepted b i z = ap (lineBy b i) (openedPreset-accepted b i z)
 
 -- the pieces of a listing, one after the other, are the listing
 pub linesFrom-append : (b : List ℕ) (s t i : ℕ) → linesFrom b s i ++ linesFrom b t (i + s) ≡ linesFrom b (s + t) i

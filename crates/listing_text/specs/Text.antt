@@ -11,7 +11,7 @@ use Rattle.book_format.specs.declared.Opened.{Opened}
 use Rattle.book_format.specs.declared.Opened.the-variants as opened
 use Rattle.book_format.specs.declared.Preset.{Preset}
 use Rattle.book_format.specs.declared.Preset.the-variants as preset
-use Rattle.book_format.specs.Calls.{checkedBook, openedPreset}
+use Rattle.book_format.specs.Calls.{checkedBook, checkedPreset}
 
 -- the decimal digits of x, the most significant first, of which there are at most f
 unfoldable pub digits : ℕ → ℕ → List ℕ
@@ -90,9 +90,9 @@ unfoldable pub lineBy : List ℕ → ℕ → Preset → List ℕ
 lineBy b i (preset.Found k n s l) = wordLine i (kindOf k) n (take l (drop s b))
 lineBy b i (preset.Refused r) = refusedLine i r
 
--- the line of preset i of an opened book b
+-- the line of preset i of the book b
 unfoldable pub lineOf : List ℕ → ℕ → List ℕ
-lineOf b i = lineBy b i (openedPreset b i)
+lineOf b i = lineBy b i (checkedPreset b i)
 
 -- the lines of t presets from preset i on
 unfoldable pub linesFrom : List ℕ → ℕ → ℕ → List ℕ

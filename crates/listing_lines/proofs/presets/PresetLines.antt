@@ -1,27 +1,22 @@
--- The line of a preset, from what reading it answers: the letters lie inside the book and pass their checks, the normal form and the window are
--- written whole, and the line is put from them.
+-- The line of a preset, from what reading it answers: the normal form and the window are written whole, and the line is put from them.
 --
 -- Sections: normal form and window; presets.
 -- Assumes nothing.
 use mathlib.Core.Path.{_≡_, refl, sym, _∙_}
 use mathlib.Core.List.{List, _++_}
 use Prim.Native.Nat.{ℕ, _+_, _-_, _≤_}
-use native.Mathlib.Decide.{ℕ-discrete}
-use native.Mathlib.Nat.{le-trans}
 use native.Mathlib.Omega.{arith}
-use lib.Dec.{ltb}
 use lib.IntN.{ℤ}
 use lib.ListN.{length, take, drop}
 use lib.Seq.{take-at}
-use borrow.Author.Tests.{eq-eqb, ne-eqb, ltb-false}
 use Rattle.coxeter.specs.declared.Answer.{Answer}
 use Rattle.coxeter.specs.declared.Answer.the-variants as answer
 use Rattle.coxeter.specs.Kinds.{kindOf}
 use Rattle.coxeter.specs.Windows.{window}
-use Rattle.coxeter.specs.Checks.{check, _then_, rankRefusal, wordRefusal}
+use Rattle.coxeter.specs.Checks.{_then_, rankRefusal, wordRefusal}
 use Rattle.coxeter.specs.NormalForm.{wordNormalForm}
 use Rattle.coxeter.specs.Calls.{writes, normalFormOfWord, windowOfWord}
-use Rattle.coxeter.proofs.Refusals.{then-zero, check-zero, then-none}
+use Rattle.coxeter.proofs.Refusals.{then-none}
 use Rattle.coxeter.proofs.Acceptance.{lanes-le}
 use Rattle.coxeter.proofs.Outcomes.{writes-done}
 use Rattle.coxeter.proofs.Levels.{window-accepted}
@@ -29,9 +24,7 @@ use Rattle.coxeter.proofs.Lengths.{length-normalForm}
 use Rattle.coxeter.proofs.PairWeights.{windowLength-le-4096}
 use Rattle.book_format.specs.declared.Preset.{Preset}
 use Rattle.book_format.specs.declared.Preset.the-variants as preset
-use Rattle.book_format.specs.Books.{trailer, offset, kindAt, rankAt, letterCountAt, lettersAt, endAt, wrongSize, wrongCount, noSuchPreset, recordRefusal, openedRefusal, headSize}
-use Rattle.book_format.specs.Calls.{presetOf, presetAt, openedPreset}
-use Rattle.book_format.proofs.BookLaws.{trailer-le}
+use Rattle.book_format.specs.Calls.{checkedPreset}
 use Rattle.listing_text.specs.Text.{presetLine, refusedLine, wordLine, lineBy, lineOf}
 use Rattle.listing_text.specs.Calls.{Put, refusalOf}
 
@@ -103,58 +96,11 @@ wordLine-put o at i k n u f w out r p q h = rw (← p, ← q) h
 
 -- ---- presets
 
--- a preset of an opened book that was found: it passes checks 5 to 8, and its letters lie inside the book
-pub record Found (b : List ℕ) (k n s l : ℕ) : Type 0 where
-  pub rank : rankRefusal k n ≡ 0
-  pub word : wordRefusal n (take (s + l - s) (drop s b)) ≡ 0
-  pub inside : s + l ≤ length b
-
-opened-tests : (b : List ℕ) (i : ℕ) → openedRefusal b i ≡ 0 → (endAt b (offset b i) ≤ trailer b) × (recordRefusal b (offset b i) ≡ 0)
-unfolding openedRefusal
-opened-tests b i z =
-    let o = offset b i in
-    let end = check 3 (ltb (trailer b) (endAt b o)) in
-    let four = check 4 (noSuchPreset b i) in
-    let two = check 2 (wrongCount b) in
-    let p = then-zero (check 1 (wrongSize b)) (two then four then end then recordRefusal b o) z in
-    let q = then-zero two (four then end then recordRefusal b o) (p .1) in
-    let r = then-zero four (end then recordRefusal b o) (q .1) in
-    let s = then-zero end (recordRefusal b o) (r .1) in
-    (ltb-false (trailer b) (endAt b o) (check-zero 2 (ltb (trailer b) (endAt b o)) (s .0)), s .1)
-
-found-at : (b : List ℕ) (o : ℕ) → endAt b o ≤ trailer b → recordRefusal b o ≡ 0 → Found b (kindAt b o) (rankAt b o) (o + headSize) (letterCountAt b o)
-unfolding recordRefusal
-found-at b o h z =
-    let e : o + headSize + letterCountAt b o - (o + headSize) ≡ letterCountAt b o = omega arith in
-    let r = then-zero (rankRefusal (kindAt b o) (rankAt b o)) (wordRefusal (rankAt b o) (lettersAt b o)) z in
-    record { rank = r .0; word = rw e (r .1); inside = le-trans h (trailer-le b) }
-
-pub opened-found : (b : List ℕ) (i k n s l : ℕ) (a : Preset) → a ≡ openedPreset b i → a ≡ preset.Found k n s l → Found b k n s l
-unfolding openedPreset presetAt presetOf
-opened-found b i k n s l a e f = elim (ℕ-discrete (openedRefusal b i) 0) [ yes z ↦ at z | no g ↦ absurd (never g) ]
-  where
-    at : openedRefusal b i ≡ 0 → Found b k n s l
-    at z =
-        let o = offset b i in
-        let q : preset.Found (kindAt b o) (rankAt b o) (o + headSize) (letterCountAt b o) ≡ preset.Found k n s l = sym (rw (eq-eqb (openedRefusal b i) 0 z) at e) ∙ f in
-        let k′ : kindAt b o ≡ k = cc in
-        let n′ : rankAt b o ≡ n = cc in
-        let s′ : o + headSize ≡ s = cc in
-        let l′ : letterCountAt b o ≡ l = cc in
-        let t = opened-tests b i z in
-        rw (← k′, ← n′, ← s′, ← l′) (found-at b o (t .0) (t .1))
-
-    never : (openedRefusal b i ≡ 0 → ⊥) → ⊥
-    never g =
-        let q : preset.Refused (openedRefusal b i) ≡ preset.Found k n s l = sym (rw (ne-eqb (openedRefusal b i) 0 g) at e) ∙ f in
-        let y : _≡_ {A = ℕ} 0 1 = cc in
-        omega arith
-
-pub lineOf-found : (b : List ℕ) (i k n s l : ℕ) (a : Preset) → a ≡ openedPreset b i → a ≡ preset.Found k n s l
+pub lineOf-found : (b : List ℕ) (i k n s l : ℕ) (a : Preset) → a ≡ checkedPreset b i → a ≡ preset.Found k n s l
     → wordLine i (kindOf k) n (take (s + l - s) (drop s b)) ≡ lineOf b i
 unfolding lineOf lineBy
 lineOf-found b i k n s l a e f = let d : s + l - s ≡ l = omega arith in rw (← e, f, d)
 
-pub lineOf-refused : (b : List ℕ) (i r x : ℕ) (a : Preset) → a ≡ openedPreset b i → a ≡ preset.Refused r → x ≡ refusalOf a → refusedLine i x ≡ lineOf b i
+pub lineOf-refused : (b : List ℕ) (i r x : ℕ) (a : Preset) → a ≡ checkedPreset b i → a ≡ preset.Refused r → x ≡ refusalOf a → refusedLine i x ≡ lineOf b i
 unfolding lineOf lineBy refusalOf
 lineOf-refused b i r x a e f q = rw (← e, q, f)

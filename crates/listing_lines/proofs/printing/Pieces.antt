@@ -1,17 +1,20 @@
 -- Lines put into a buffer one after the other, as many as have room.
 -- Assumes nothing.
 use mathlib.Core.Path.{_≡_, refl, sym, _∙_}
-use mathlib.Core.List.{List, [], _∷_}
-use Prim.Native.Nat.{ℕ, _+_, _-_, _≤_, _<_, _^_}
+use mathlib.Core.List.{List}
+use Prim.Native.Nat.{ℕ, _+_, _-_, _*_, _≤_, _<_}
 use native.Mathlib.Decide.{decLe}
 use native.Mathlib.Omega.{arith}
-use lib.ListN.{length, length-append}
+use lib.ListN.{length, take}
 use borrow.Author.Tests.{lt-leb, le-leb}
+use Rattle.book_format.specs.declared.Preset.{Preset}
+use Rattle.book_format.specs.Calls.{checkedPreset, presetFields}
+use Rattle.book_format.proofs.BookLaws.{accepted}
+use Rattle.book_format.proofs.RunLaws.{presetIn, presetIn-run, Run}
 use Rattle.listing_text.specs.declared.Placed.{Placed}
 use Rattle.listing_text.specs.declared.Placed.the-variants.{Next, NoRoom}
-use Rattle.listing_text.specs.Text.{decimal, countLine, lineOf, linesFrom}
+use Rattle.listing_text.specs.Text.{lineOf, linesFrom}
 use Rattle.listing_text.specs.Calls.{Put, longest, puts, Within, Filled}
-use Rattle.listing_text.proofs.Decimals.{length-decimal-word}
 use Rattle.listing_lines.proofs.numbers.Puts.{put-append}
 use Rattle.listing_text.proofs.Listings.{linesFrom-next, within-next}
 
@@ -83,17 +86,37 @@ module _ (b : List ℕ) (c i : ℕ) (o : List ℕ) (at : ℕ) (out : List ℕ) (
       let y = f .size in
       record { begins = f .begins; within = f .within; lines = rw (r .1) (f .lines); inside = f .inside; full = λ l. omega (arith, r .0) }
 
--- with room for a line a piece has one
-pub filled-more : (b : List ℕ) (c i : ℕ) (o : List ℕ) (at : ℕ) (out : List ℕ) (next end : ℕ) → Filled b c i o at out next end → at + longest ≤ length o → next < c → i < next
+-- with room for a line a piece has one, where there is a preset left
+pub filled-more : (b : List ℕ) (c i : ℕ) (o : List ℕ) (at : ℕ) (out : List ℕ) (next end : ℕ) → Filled b c i o at out next end → at + longest ≤ length o → i < c → i < next
 filled-more b c i o at out next end f h l = elim (decLe next i) [
   | yes g ↦
       let e : next - i ≡ 0 = omega (arith, f .begins) in
       let n : length (linesFrom b (next - i) i) ≡ 0 = rw e (unfold linesFrom in refl) in
-      absurd (omega (arith, f .full l, f .lines .0))
+      absurd (omega (arith, f .full (omega arith), f .lines .0))
   | no g ↦ omega arith
 ]
 
--- the count line leaves room in a large buffer
-pub count-room : (x : ℕ) (o : List ℕ) (a : Placed) (out : List ℕ) (p : ℕ) → x < 2 ^ 64 → (a ≡ puts (countLine x) o 0 .answer) × (out ≡ puts (countLine x) o 0 .bytes) → a ≡ Next p → p ≤ 29
-unfolding countLine
-count-room x o a out p l h e = omega (arith, puts-next (countLine x) o 0 a out h p e .0, length-decimal-word x l, length-append (decimal x) (10 ∷ []))
+-- the answer that the numbers of a run have at preset i
+pub answer-read : (b l : List ℕ) (first last i : ℕ) (a : Preset) → l ≡ presetFields b (last - first) first → first ≤ i → i < last
+    → a ≡ presetIn l (5 * (i - first)) → a ≡ checkedPreset b i
+answer-read b l first last i a e h g q =
+    let d : first + (i - first) ≡ i = omega arith in
+    q ∙ rw (e, presetIn-run b (last - first) first (i - first) (omega arith), d)
+
+-- what a run that was read says for its piece
+pub record Piecewise (b : List ℕ) (i n : ℕ) (l : List ℕ) : Type 0 where
+  pub some : i < i + n
+  pub small : i + n ≤ 65535
+  pub room : 5 * n ≤ length l
+  pub numbers : take (5 * n) l ≡ presetFields b (i + n - i) i
+
+pub run-piece : (b : List ℕ) (i n : ℕ) (l : List ℕ) → Run b i n l → Piecewise b i n l
+run-piece b i n l r =
+    let a = accepted b (r .accepted) in
+    let e : i + n - i ≡ n = omega arith in
+    record {
+      some = omega (arith, r .some);
+      small = omega (arith, r .within, a .fits, a .most);
+      room = r .room;
+      numbers = rw e (r .numbers);
+    }

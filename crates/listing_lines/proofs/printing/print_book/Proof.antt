@@ -1,4 +1,4 @@
--- `printing::print_book` is safe: the count line leaves room for a line in the buffer, and each line ends inside it.
+-- `printing::print_book` is safe: each line ends inside the buffer.
 -- Assumes nothing.
 use mathlib.Core.Path.{sym}
 use Prim.Native.Nat.{_≤_}
@@ -6,13 +6,17 @@ use native.Mathlib.Omega.{arith}
 use lib.ListN.{length}
 use lib.Seq.{length-take-le}
 use borrow.Author.Needs.{needs}
-use Rattle.listing_lines.proofs.printing.Pieces.{count-room}
 use Rattle.listing_text.proofs.Listings.{within-next}
 use Rattle.listing_lines.proofs.printing.print_book.Statement.{statement}
 use Rattle.listing_lines.proofs.printing.print_book.Tie as tie
 
-inside : (c : tie.After-known-told4) → c .before .end2 .given .0 .0 ≤ length (c .before .before .before .before .put-refused-book .last .1 .0)
-inside c =
+counted : (c : tie.After-known-told2) → c .before .end .given .0 .0 ≤ length (c .before .before .before .before .put-count .last .1 .0)
+counted c =
+    let put = c .before .before .before .before .put-count in
+    omega (arith, within-next _ _ _ (c .before .end .given .1) (put .ensures .1), put .kept .1 .0)
+
+refused : (c : tie.After-known-told4) → c .before .end2 .given .0 .0 ≤ length (c .before .before .before .before .put-refused-book .last .1 .0)
+refused c =
     let put = c .before .before .before .before .put-refused-book in
     omega (arith, within-next _ _ _ (c .before .end2 .given .1) (put .ensures .1), put .kept .1 .0)
 
@@ -34,14 +38,20 @@ put-count-requires c κs = search needs
 enum-known-end : tie.Need-enum-known-end
 enum-known-end c = search needs
 
+array-share-prefix-out : tie.Need-array-share-prefix-out
+array-share-prefix-out c = counted c
+
+slice-aggregate-write-all : tie.Need-slice-aggregate-write-all
+slice-aggregate-write-all c = sym (length-take-le _ _ (counted (c .before)))
+
+write-all-requires : tie.Need-write-all-requires
+write-all-requires c κs = search needs
+
 slice-aggregate-print-presets : tie.Need-slice-aggregate-print-presets
 slice-aggregate-print-presets c = search needs
 
 print-presets-requires : tie.Need-print-presets-requires
-print-presets-requires c κs =
-    let put = c .before .before .before .before .before .put-count in
-    let k = c .before .before .before .before .before .before .before .known-told .given in
-    omega (arith, count-room _ _ _ _ _ (k .0 .1) (put .ensures .0) (c .before .before .end .given .1), put .kept .1 .0, c .before .before .before .before .before .before .before .before .before .before .before .large-buffer .ensures)
+print-presets-requires c κs = search needs
 
 enum-told : tie.Need-enum-told
 enum-told c = search needs
@@ -58,14 +68,14 @@ put-refused-book-requires c κs = search needs
 enum-known-end-2 : tie.Need-enum-known-end-2
 enum-known-end-2 c = search needs
 
-array-share-prefix-out : tie.Need-array-share-prefix-out
-array-share-prefix-out c = inside c
+array-share-prefix-out-2 : tie.Need-array-share-prefix-out-2
+array-share-prefix-out-2 c = refused c
 
-slice-aggregate-write-all : tie.Need-slice-aggregate-write-all
-slice-aggregate-write-all c = sym (length-take-le _ _ (inside (c .before)))
+slice-aggregate-write-all-2 : tie.Need-slice-aggregate-write-all-2
+slice-aggregate-write-all-2 c = sym (length-take-le _ _ (refused (c .before)))
 
-write-all-requires : tie.Need-write-all-requires
-write-all-requires c κs = search needs
+write-all-requires-2 : tie.Need-write-all-requires-2
+write-all-requires-2 c κs = search needs
 
 enum-told-2 : tie.Need-enum-told-2
 enum-told-2 c = search needs
@@ -82,6 +92,9 @@ returns-3 c = search needs
 returns-4 : tie.Need-returns-4
 returns-4 c = search needs
 
+returns-5 : tie.Need-returns-5
+returns-5 c = search needs
+
 pub print-book-spec : {M : Type 1} → statement M
 print-book-spec =
     tie.close
@@ -92,6 +105,9 @@ print-book-spec =
     slice-aggregate-put-count
     put-count-requires
     enum-known-end
+    array-share-prefix-out
+    slice-aggregate-write-all
+    write-all-requires
     slice-aggregate-print-presets
     print-presets-requires
     enum-told
@@ -99,11 +115,12 @@ print-book-spec =
     slice-aggregate-put-refused-book
     put-refused-book-requires
     enum-known-end-2
-    array-share-prefix-out
-    slice-aggregate-write-all
-    write-all-requires
+    array-share-prefix-out-2
+    slice-aggregate-write-all-2
+    write-all-requires-2
     enum-told-2
     returns
     returns-2
     returns-3
-    returns-4)
+    returns-4
+    returns-5)

@@ -1,0 +1,2 @@
+-- What the proofs of the module `runs` share.
+pub mod Runs

@@ -1,0 +1,76 @@
+-- `runs::read_presets` makes checks 1 to 3, 4 and 14 in this order, and writes a run as long as the presets and the room allow.
+-- Assumes nothing.
+use mathlib.Core.Path.{sym, _∙_}
+use native.Mathlib.Omega.{arith}
+use Rattle.book_format.proofs.BookLaws.{accepted-read, count-read}
+use Rattle.book_format.proofs.RunLaws.{reading-book, reading-number, reading-short, reading-run}
+use Rattle.book.proofs.runs.Runs.{run-fits}
+use borrow.Author.Needs.{needs}
+use Rattle.book.proofs.runs.read_presets.Statement.{statement}
+use Rattle.book.proofs.runs.read_presets.Tie as tie
+
+book-refusal-requires : tie.Need-book-refusal-requires
+book-refusal-requires c κs = search needs
+
+returns : tie.Need-returns
+returns c = reading-book _ _ _ _ (c .before .book-refusal .ensures) (c .if1 .taken)
+
+sub-two-at : tie.Need-sub-two-at
+sub-two-at c = accepted-read _ _ (c .before .book-refusal .ensures) (c .if1 .left) .least
+
+two-at-requires : tie.Need-two-at-requires
+two-at-requires c κs = let a = accepted-read _ _ (c .before .book-refusal .ensures) (c .if1 .left) in omega arith
+
+returns-2 : tie.Need-returns-2
+returns-2 c =
+    let opened = c .before .before in
+    reading-number _ _ _ _ (opened .before .book-refusal .ensures) (opened .if1 .left) _ (c .before .two-at .ensures .0) (c .if2 .taken)
+
+returns-3 : tie.Need-returns-3
+returns-3 c =
+    let read = c .before .before in
+    let opened = read .before in
+    reading-short _ _ _ _ (opened .before .book-refusal .ensures) (opened .if1 .left) _ (read .two-at .ensures .0) (c .before .if2 .left) (c .if3 .taken)
+
+sub-smaller : tie.Need-sub-smaller
+sub-smaller c = search needs
+
+smaller-requires : tie.Need-smaller-requires
+smaller-requires c κs = search needs
+
+put-run-requires : tie.Need-put-run-requires
+put-run-requires c κs =
+    let sized = c .before in
+    let read = sized .before .before .before in
+    let opened = read .before in
+    let fits = run-fits _ _ _ _ (sized .smaller .ensures) (sized .before .before .if2 .left) in
+    let e = count-read _ _ (read .two-at .ensures .0) in
+    (sym (opened .before .book-refusal .ensures) ∙ opened .if1 .left, omega (arith, fits .0), fits .1)
+
+same-length : tie.Need-same-length
+same-length c = search needs
+
+returns-4 : tie.Need-returns-4
+returns-4 c =
+    let sized = c .before .before .before .before in
+    let roomy = sized .before in
+    let read = roomy .before .before in
+    let opened = read .before in
+    reading-run _ _ _ _ (opened .before .book-refusal .ensures) (opened .if1 .left) _ (read .two-at .ensures .0) _ _ (roomy .before .if2 .left) (roomy .if3 .left)
+    (sized .smaller .ensures) (c .before .before .put-run .ensures)
+
+pub read-presets-spec : {M : Type 1} → statement M
+read-presets-spec =
+    tie.close
+    (tie.spec
+    book-refusal-requires
+    returns
+    sub-two-at
+    two-at-requires
+    returns-2
+    returns-3
+    sub-smaller
+    smaller-requires
+    put-run-requires
+    same-length
+    returns-4)

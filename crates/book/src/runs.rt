@@ -1,0 +1,107 @@
+// A run of presets, read with one walk over the book: five numbers for each.
+use crate::numbers::two_at;
+use crate::reading::book_refusal;
+use crate::reading::numbered_preset;
+use book_format::Preset;
+use window::Answer;
+ghost use mathlib.Core.Path.{_≡_};
+ghost use mathlib.Core.List.{[], _∷_};
+ghost use Prim.Native.Nat.{_+_, _*_, _≤_, min};
+ghost use lib.ListN.{length};
+ghost use lib.Seq.{sets};
+ghost use Rattle.book_format.specs.Books.{count, bookRefusal};
+ghost use Rattle.book_format.specs.Calls.{fieldsOf, presetFields, readingPresets, presetFrom};
+
+// The preset of five numbers as `read_presets` writes them.
+pub fn preset_of(refusal: u64, kind: u64, rank: u64, start: u64, length: u64) -> Preset
+    ensures { λ r. ⌜ r ≡ presetFrom refusal kind rank start length ⌝ }
+{
+    let r = (refusal % 256) as u8;
+    if r != 0 {
+        return Preset::Refused(r);
+    }
+    Preset::Found {
+        kind: (kind % 256) as u8,
+        rank: (rank % 256) as u8,
+        start: start as usize,
+        length: length as usize,
+    }
+}
+
+fn put_five(fields: &mut [u64], p: usize, a: u64, b: u64, c: u64, d: u64, e: u64)
+    requires { ⌜ p + 5 ≤ length (now fields) ⌝ }
+    ensures { λ _. ⌜ now (fields .exit) ≡ sets (now (fields .entry)) p (a ∷ b ∷ c ∷ d ∷ e ∷ []) ⌝ }
+{
+    fields[p] = a;
+    fields[p + 1] = b;
+    fields[p + 2] = c;
+    fields[p + 3] = d;
+    fields[p + 4] = e;
+}
+
+// The numbers of a preset, written from p on.
+fn put_preset(answer: Preset, fields: &mut [u64], p: usize)
+    requires { ⌜ p + 5 ≤ length (now fields) ⌝ }
+    ensures { λ _. ⌜ now (fields .exit) ≡ sets (now (fields .entry)) p (fieldsOf answer) ⌝ }
+{
+    match answer {
+        Preset::Found {
+            kind,
+            rank,
+            start,
+            length,
+        } => put_five(
+            fields,
+            p,
+            0,
+            kind as u64,
+            rank as u64,
+            start as u64,
+            length as u64,
+        ),
+        Preset::Refused(r) => put_five(fields, p, r as u64, 0, 0, 0, 0),
+    }
+}
+
+// The numbers of n presets from preset `first` on.
+fn put_run(book: &[u8], first: usize, n: usize, fields: &mut [u64])
+    requires { ⌜ (bookRefusal (now book) ≡ 0) × (first + n ≤ count (now book)) × (5 * n ≤ length (now fields)) ⌝ }
+    ensures { λ _. ⌜ now (fields .exit) ≡ sets (now (fields .entry)) 0 (presetFields (now (book .entry)) n first) ⌝ }
+{
+    let mut i = 0;
+    while i < n {
+        put_preset(numbered_preset(book, first + i), fields, 5 * i);
+        i += 1;
+    }
+}
+
+fn smaller(a: usize, b: usize) -> usize
+    ensures { λ r. ⌜ r ≡ min a b ⌝ }
+{
+    if a < b {
+        return a;
+    }
+    b
+}
+
+// Reading the presets from number `first` on, as many as there are and have room: for each its refusal or 0, its kind, its rank, where its letters
+// begin and how many they are. Checks 1 to 3, check 4 of the first, and 14 where not one has room. Answers how many presets were written.
+pub fn read_presets(book: &[u8], first: usize, fields: &mut [u64]) -> Answer
+    ensures { λ r. ⌜ (r ≡ readingPresets (now (book .entry)) first (now (fields .entry)) .answer)
+        × (now (fields .exit) ≡ readingPresets (now (book .entry)) first (now (fields .entry)) .bytes) ⌝ }
+{
+    let r = book_refusal(book);
+    if r != 0 {
+        return Answer::Refused(r);
+    }
+    let c = two_at(book, book.len() - 2);
+    if c <= first {
+        return Answer::Refused(4);
+    }
+    if fields.len() < 5 {
+        return Answer::Refused(14);
+    }
+    let n = smaller(c - first, fields.len() / 5);
+    put_run(book, first, n, fields);
+    Answer::Length(n)
+}
