@@ -17,7 +17,7 @@ use Rattle.coxeter.specs.Kinds.{pick}
 use Rattle.coxeter.specs.Checks.{check, _then_, rankRefusal, wordRefusal}
 use Rattle.book_format.specs.declared.Preset.the-variants as preset
 use Rattle.book_format.specs.Books.{count, trailer, offset, kindAt, rankAt, letterCountAt, lettersAt, endAt, misplacedFrom, misplaced, bookRefusal, recordRefusal, presetRefusal, appended, appendRefusal, headSize, added}
-use Rattle.book_format.specs.Calls.{presetOf, presetAt, checkedPreset, lettersOf}
+use Rattle.book_format.specs.Calls.{presetOf, presetAt, checkedPreset, lettersOf, Grown}
 use Rattle.book_format.proofs.BookLaws.{Accepted, accepted, first, bookRefusal-walk, endAt-offset-le}
 use Rattle.book_format.proofs.PresetLaws.{presetRefusal-record}
 use Rattle.book_format.proofs.WritingLaws.{length-appended, append-book, append-preset, append-size}
@@ -145,15 +145,6 @@ module _ (b : List ℕ) (k n : ℕ) (u : List ℕ) (a : Accepted b) (small : len
       (lettersAt-appended-last b k n u a small)
 
 -- ---- the law
-
--- what holds of the book that appending the preset k, n, u to b makes
-pub record Grown (b : List ℕ) (k n : ℕ) (u : List ℕ) : Type 0 where
-  pub unrefused : bookRefusal (appended b k n u) ≡ 0
-  pub onePresetMore : count (appended b k n u) ≡ count b + 1
-  pub lastPreset : checkedPreset (appended b k n u) (count b) ≡ presetOf (rankRefusal k n then wordRefusal n u) k n (trailer b + headSize) (length u)
-  pub lastLetters : lettersOf (appended b k n u) (count b) ≡ pick (eqb (rankRefusal k n then wordRefusal n u) 0) u []
-  pub presetsBefore : (i : ℕ) → i < count b → checkedPreset (appended b k n u) i ≡ checkedPreset b i
-  pub lettersBefore : (i : ℕ) → i < count b → lettersOf (appended b k n u) i ≡ lettersOf b i
 
 pub appended-grown : (b : List ℕ) (k n : ℕ) (u : List ℕ) → bookRefusal b ≡ 0 → length (appended b k n u) ≤ 65535 → Grown b k n u
 appended-grown b k n u z h =

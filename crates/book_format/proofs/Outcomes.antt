@@ -10,14 +10,9 @@ use native.Mathlib.Omega.{arith}
 use lib.ListN.{length}
 use Rattle.coxeter.specs.Kinds.{pick, kindOf}
 use Rattle.coxeter.specs.Checks.{check, _then_, wrongKind, wrongRank, tooLong, wrongLetter, rankRefusal, wordRefusal}
-use Rattle.book_format.specs.Books.{wrongSize, wrongCount, misplaced, noSuchPreset, tooLarge, offset, kindAt, rankAt, lettersAt, bookRefusal, recordRefusal, presetRefusal, appended, appendRefusal}
+use Rattle.book_format.specs.Books.{firstOf, wrongSize, wrongCount, misplaced, noSuchPreset, tooLarge, offset, kindAt, rankAt, lettersAt, bookRefusal, recordRefusal, presetRefusal, appended, appendRefusal}
 use Rattle.coxeter.proofs.Basics.{by-pick}
 use Rattle.coxeter.proofs.Refusals.{then-none, then-some, then-assoc}
-
--- the number of the first test that holds, 0 where none does
-abbrev pub firstOf : List (ℕ × Bool) → ℕ
-firstOf [] = 0
-firstOf (f ∷ fs) = pick (f .1) (f .0) (firstOf fs)
 
 check-then : (m : ℕ) (t : Bool) (r : ℕ) → 0 < m → (check m t then r) ≡ pick t m r
 check-then m true r h = then-some m r (omega arith)

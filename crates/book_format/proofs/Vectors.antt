@@ -23,7 +23,7 @@ use Rattle.book_format.specs.Books.{twoAt, two, count, trailer, offset, 
 use Rattle.book_format.specs.Records.{Bytes}
 use Rattle.book_format.proofs.BookLaws.{accepted}
 use Rattle.book_format.proofs.WritingLaws.{length-appended, appendRefusal-large, appendRefusal-none}
-use Rattle.book_format.specs.Calls.{openedOf, presetOf, checkedBook, presetAt, checkedPreset, lettersStart, lettersOf, appending}
+use Rattle.book_format.specs.Calls.{openedOf, presetOf, checkedBook, presetAt, checkedPreset, lettersStart, lettersOf, fieldsOf, presetFields, runLength, readingPresets, appending}
 
 -- ---- books
 
@@ -89,6 +89,10 @@ too-large-book b e = rw e
 
 -- ---- presets
 
+-- two records whose offsets are both 0: refused 3, whatever preset is asked for
+abbrev twice : List ℕ
+twice = 1 ∷ 1 ∷ 0 ∷ 0 ∷ 1 ∷ 1 ∷ 0 ∷ 0 ∷ 0 ∷ 0 ∷ 0 ∷ 0 ∷ 2 ∷ 0 ∷ []
+
 pub reading : List (Preset × Preset)
 reading =
     (checkedPreset book 0, preset.Found 2 2 4 4)
@@ -97,6 +101,8 @@ reading =
     -- the count is no preset's number; the book's checks come first
     ∷ (checkedPreset book 2, preset.Refused 4)
     ∷ (checkedPreset (7 ∷ 0 ∷ 0 ∷ []) 0, preset.Refused 3)
+    ∷ (checkedPreset twice 1, preset.Refused 3)
+    ∷ (checkedPreset twice 5, preset.Refused 3)
     -- kind, rank, letter
     ∷ (checkedPreset (bookOf (4 ∷ 1 ∷ 0 ∷ 0 ∷ [])) 0, preset.Refused 5)
     ∷ (checkedPreset (bookOf (1 ∷ 32 ∷ 0 ∷ 0 ∷ [])) 0, preset.Refused 6)
@@ -109,6 +115,31 @@ unfolding reading
     twoAt count trailer offset wrongSize wrongCount misplacedFrom misplaced noSuchPreset bookRefusal recordRefusal presetRefusal
     presetOf presetAt checkedPreset
 reading-agrees = refl
+
+-- ---- runs of presets
+
+-- both presets with room for them and a number more; the second alone; the first where only one has room; a refused record beside an accepted one
+pub runs : List (Outcome ℕ × Outcome ℕ)
+runs =
+    (readingPresets book 0 (lent 11), wrote 2 (0 ∷ 2 ∷ 2 ∷ 4 ∷ 4 ∷ 0 ∷ 3 ∷ 5 ∷ 12 ∷ 6 ∷ 9 ∷ []))
+    ∷ (readingPresets book 1 (lent 11), wrote 1 (0 ∷ 3 ∷ 5 ∷ 12 ∷ 6 ∷ lent 6))
+    ∷ (readingPresets book 0 (lent 9), wrote 1 (0 ∷ 2 ∷ 2 ∷ 4 ∷ 4 ∷ lent 4))
+    ∷ (readingPresets (bookOf (1 ∷ 32 ∷ 0 ∷ 0 ∷ [])) 0 (lent 5), wrote 1 (6 ∷ 0 ∷ 0 ∷ 0 ∷ 0 ∷ []))
+    -- past the last preset, not even room for one, a book without presets, and a book whose offsets are wrong
+    ∷ (readingPresets book 2 (lent 11), refused 4 (lent 11))
+    ∷ (readingPresets book 0 (lent 4), refused 14 (lent 4))
+    ∷ (readingPresets book 2 (lent 4), refused 4 (lent 4))
+    ∷ (readingPresets emptyBook 0 (lent 5), refused 4 (lent 5))
+    ∷ (readingPresets twice 1 (lent 5), refused 3 (lent 5))
+    ∷ (readingPresets twice 5 (lent 5), refused 3 (lent 5))
+    ∷ []
+
+pub runs-agree : Agree runs
+unfolding runs
+    kindOf wrongKind wrongRank tooLong wrongLetter tooShort rankRefusal wordRefusal answerOf written
+    twoAt count trailer offset wrongSize wrongCount misplacedFrom misplaced noSuchPreset bookRefusal recordRefusal presetRefusal
+    presetOf presetAt checkedPreset fieldsOf presetFields runLength readingPresets
+runs-agree = refl
 
 -- ---- letters
 

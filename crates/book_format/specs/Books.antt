@@ -4,6 +4,7 @@ use mathlib.Core.List.{List, [], _∷_, _++_}
 use Prim.Native.Nat.{ℕ, zero, suc, _+_, _-_, _*_, _/_, _%_}
 use lib.Dec.{eqb, leb, ltb}
 use lib.ListN.{length, getD, take, drop}
+use Rattle.coxeter.specs.Kinds.{pick}
 use Rattle.coxeter.specs.Checks.{check, _then_, rankRefusal, wordRefusal}
 
 -- "Two-byte numbers have the low byte first."
@@ -99,3 +100,8 @@ appended b k n u =
 -- appending makes checks 1 to 3 of the book, 5 to 8 of the preset, and 13
 unfoldable pub appendRefusal : List ℕ → ℕ → ℕ → List ℕ → ℕ
 appendRefusal b k n u = bookRefusal b then rankRefusal k n then wordRefusal n u then check 13 (tooLarge (length (appended b k n u)))
+
+-- "in checking order": the number of the first test of a list that holds, 0 where none does
+abbrev pub firstOf : List (ℕ × Bool) → ℕ
+firstOf [] = 0
+firstOf (f ∷ fs) = pick (f .1) (f .0) (firstOf fs)

@@ -1,6 +1,7 @@
 -- What each call on a book answers and writes, for every input (document 01, "The preset book" and "What contracts have to settle").
+use mathlib.Core.Path.{_≡_}
 use mathlib.Core.List.{List, [], _∷_, _++_}
-use Prim.Native.Nat.{ℕ, zero, suc, _+_, _-_, _/_, _%_, min}
+use Prim.Native.Nat.{ℕ, zero, suc, _+_, _-_, _/_, _%_, _<_, min}
 use lib.Dec.{eqb}
 use lib.ListN.{length}
 use Rattle.book_format.specs.declared.Opened.{Opened}
@@ -8,9 +9,9 @@ use Rattle.book_format.specs.declared.Opened.the-variants as opened
 use Rattle.book_format.specs.declared.Preset.{Preset}
 use Rattle.book_format.specs.declared.Preset.the-variants as preset
 use Rattle.coxeter.specs.Kinds.{pick}
-use Rattle.coxeter.specs.Checks.{check, _then_, tooShort}
+use Rattle.coxeter.specs.Checks.{check, _then_, tooShort, rankRefusal, wordRefusal}
 use Rattle.coxeter.specs.Calls.{Outcome, answerOf, written, writes}
-use Rattle.book_format.specs.Books.{count, offset, headSize, kindAt, rankAt, letterCountAt, lettersAt}
+use Rattle.book_format.specs.Books.{count, trailer, offset, headSize, kindAt, rankAt, letterCountAt, lettersAt}
 use Rattle.book_format.specs.Books.{noSuchPreset, bookRefusal, recordRefusal, presetRefusal, appended, appendRefusal}
 
 -- the number and the value of each case of `Opened`: its refusal, or with none the number of presets
@@ -75,3 +76,13 @@ presetFrom r k n s l = presetOf (r % 256) (k % 256) (n % 256) s l
 -- appending a preset
 unfoldable pub appending : List ℕ → ℕ → ℕ → List ℕ → List ℕ → Outcome ℕ
 appending b k n u out = writes (appendRefusal b k n u) (appended b k n u) out
+
+-- the book that appending the preset k, n, u to b makes: it passes checks 1 to 3, has one preset more, its last preset and its letters are those
+-- appended, and those before read as in b
+pub record Grown (b : List ℕ) (k n : ℕ) (u : List ℕ) : Type 0 where
+  pub unrefused : bookRefusal (appended b k n u) ≡ 0
+  pub onePresetMore : count (appended b k n u) ≡ count b + 1
+  pub lastPreset : checkedPreset (appended b k n u) (count b) ≡ presetOf (rankRefusal k n then wordRefusal n u) k n (trailer b + headSize) (length u)
+  pub lastLetters : lettersOf (appended b k n u) (count b) ≡ pick (eqb (rankRefusal k n then wordRefusal n u) 0) u []
+  pub presetsBefore : (i : ℕ) → i < count b → checkedPreset (appended b k n u) i ≡ checkedPreset b i
+  pub lettersBefore : (i : ℕ) → i < count b → lettersOf (appended b k n u) i ≡ lettersOf b i

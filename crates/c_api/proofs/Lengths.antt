@@ -4,7 +4,7 @@
 -- Assumes nothing.
 use mathlib.Core.Path.{_≡_, refl, sym, ap, subst, _∙_}
 use mathlib.Core.List.{List, _++_}
-use Prim.Native.Nat.{ℕ, zero, suc, _≤_, _<_}
+use Prim.Native.Nat.{ℕ, zero, suc, _-_, _/_, _≤_, _<_, min}
 use native.Mathlib.Decide.{ℕ-discrete}
 use native.Mathlib.Nat.{le-trans}
 use native.Mathlib.Omega.{arith}
@@ -37,8 +37,8 @@ use Rattle.rules.specs.Runs.{AcceptedWord}
 use Rattle.rules.proofs.Calls.{used-length}
 use Rattle.book_format.specs.declared.Opened.{Opened}
 use Rattle.book_format.specs.declared.Opened.the-variants as opened
-use Rattle.book_format.specs.Books.{count, bookRefusal, appended, appendRefusal}
-use Rattle.book_format.specs.Calls.{openedOf, checkedBook, appending}
+use Rattle.book_format.specs.Books.{count, noSuchPreset, bookRefusal, appended, appendRefusal}
+use Rattle.book_format.specs.Calls.{openedOf, checkedBook, runLength, readingPresets, appending}
 use Rattle.book_format.proofs.BookLaws.{accepted}
 use Rattle.book_format.proofs.WritingLaws.{append-size}
 use Rattle.c_api.specs.Calls.{refused, numberOf}
@@ -193,6 +193,14 @@ rewrote-small k n u p before after a w f i j l e =
 pub appending-small : (b : List ℕ) (k n : ℕ) (u out : List ℕ) → Small (appending b k n u out .answer)
 unfolding appending
 appending-small b k n u out = writes-small (appendRefusal b k n u) (appended b k n u) out (append-size b k n u)
+
+-- a run has no more presets than the book
+pub readingPresets-small : (b : List ℕ) (i : ℕ) (out : List ℕ) → Small (readingPresets b i out .answer)
+unfolding readingPresets runLength
+readingPresets-small b i out =
+    let r = check 4 (noSuchPreset b i) then check 14 (tooShort 5 out) in
+    answerOf-small (bookRefusal b then r) (min (count b - i) (length out / 5))
+    (λ z. let a = accepted b (then-zero (bookRefusal b) r z .0) in omega arith)
 
 pub presets-small : (b : List ℕ) (a : Opened) (c : ℕ) → a ≡ checkedBook b → a ≡ opened.Presets c → c ≤ 65535
 unfolding checkedBook openedOf

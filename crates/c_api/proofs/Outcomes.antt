@@ -26,7 +26,7 @@ use Rattle.rules.proofs.Unchanged.{step-refused-unchanged, step-noneFits-unchan
 use Rattle.book_format.specs.declared.Preset.{Preset}
 use Rattle.book_format.specs.declared.Preset.the-variants as preset
 use Rattle.book_format.specs.Calls.{checkedPreset}
-use Rattle.c_api.specs.Calls.{refused, numberOf, Numbered, Rewriting, Rewritten, unwritten, rewritingBy, rewriting, fieldsOf}
+use Rattle.c_api.specs.Calls.{refused, numberOf, Numbered, Rewriting, Rewritten, unwritten, rewritingBy, rewriting, presetNumbers}
 
 -- ---- one rewrite
 
@@ -102,20 +102,20 @@ nothing-before (x ∷ after) out h = absurd (omega arith)
 -- ---- a preset's fields
 
 module _ (b : List ℕ) (i : ℕ) (out : List ℕ) (a : Preset) (e : a ≡ checkedPreset b i) where
-  pub fields-refused : (r : ℕ) → a ≡ preset.Refused r → Numbered (fieldsOf (checkedPreset b i) out) (refused r) out
-  unfolding fieldsOf numberOf
+  pub fields-refused : (r : ℕ) → a ≡ preset.Refused r → Numbered (presetNumbers (checkedPreset b i) out) (refused r) out
+  unfolding presetNumbers numberOf
   fields-refused r q = rw (← e, q) (refl, refl)
 
   module _ (k n s l : ℕ) (q : a ≡ preset.Found k n s l) where
-    pub fields-short : length out < 4 → Numbered (fieldsOf (checkedPreset b i) out) (refused 14) out
-    unfolding fieldsOf numberOf
+    pub fields-short : length out < 4 → Numbered (presetNumbers (checkedPreset b i) out) (refused 14) out
+    unfolding presetNumbers numberOf
     fields-short h =
         let fields = k ∷ n ∷ s ∷ l ∷ [] in
         let d = writes-short (writes 0 fields out) 0 0 fields out refl refl 4 refl refl h in
         rw (← e, q, ← d .0) (refl, d .1)
 
-    pub fields-written : 4 ≤ length out → Numbered (fieldsOf (checkedPreset b i) out) (pos 4) (sets out 0 (k ∷ n ∷ s ∷ l ∷ []))
-    unfolding fieldsOf numberOf
+    pub fields-written : 4 ≤ length out → Numbered (presetNumbers (checkedPreset b i) out) (pos 4) (sets out 0 (k ∷ n ∷ s ∷ l ∷ []))
+    unfolding presetNumbers numberOf
     fields-written h =
         let fields = k ∷ n ∷ s ∷ l ∷ [] in
         let d = writes-done (writes 0 fields out) 0 0 fields out refl refl 4 fields refl refl h refl in

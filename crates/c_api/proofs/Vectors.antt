@@ -17,7 +17,7 @@ use Rattle.rules.specs.Rules.{each, family1, family2, family3, family4, familie
 use Rattle.rules.specs.Calls.{pastEnd, refusedStep, usedStep, stepBy, step}
 use Rattle.book_format.specs.declared.Opened.the-variants as opened
 use Rattle.book_format.specs.declared.Preset.the-variants as preset
-use Rattle.c_api.specs.Calls.{refused, numberOf, verdictNumber, choiceNumber, openedNumber, Rewriting, unwritten, rewritingBy, rewriting, fieldsOf}
+use Rattle.c_api.specs.Calls.{refused, numberOf, verdictNumber, choiceNumber, openedNumber, Rewriting, unwritten, rewritingBy, rewriting, presetNumbers}
 
 -- the numbers, each beside what it is
 pub numbers : List (ℤ × ℤ)
@@ -60,11 +60,11 @@ rewritings-agree = refl
 -- the fields of a preset
 pub fields : List (Outcome ℕ × Outcome ℕ)
 fields =
-    (fieldsOf (preset.Found 2 3 4 5) (9 ∷ 9 ∷ 9 ∷ 9 ∷ 9 ∷ []), record { answer = answer.Length 4; bytes = 2 ∷ 3 ∷ 4 ∷ 5 ∷ 9 ∷ [] })
-    ∷ (fieldsOf (preset.Found 2 3 4 5) (9 ∷ 9 ∷ 9 ∷ []), record { answer = answer.Refused 14; bytes = 9 ∷ 9 ∷ 9 ∷ [] })
-    ∷ (fieldsOf (preset.Refused 8) (9 ∷ 9 ∷ 9 ∷ 9 ∷ []), record { answer = answer.Refused 8; bytes = 9 ∷ 9 ∷ 9 ∷ 9 ∷ [] })
+    (presetNumbers (preset.Found 2 3 4 5) (9 ∷ 9 ∷ 9 ∷ 9 ∷ 9 ∷ []), record { answer = answer.Length 4; bytes = 2 ∷ 3 ∷ 4 ∷ 5 ∷ 9 ∷ [] })
+    ∷ (presetNumbers (preset.Found 2 3 4 5) (9 ∷ 9 ∷ 9 ∷ []), record { answer = answer.Refused 14; bytes = 9 ∷ 9 ∷ 9 ∷ [] })
+    ∷ (presetNumbers (preset.Refused 8) (9 ∷ 9 ∷ 9 ∷ 9 ∷ []), record { answer = answer.Refused 8; bytes = 9 ∷ 9 ∷ 9 ∷ 9 ∷ [] })
     ∷ []
 
 pub fields-agree : Agree fields
-unfolding fields fieldsOf answerOf written writes tooShort
+unfolding fields presetNumbers answerOf written writes tooShort
 fields-agree = refl

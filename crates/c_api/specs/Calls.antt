@@ -76,6 +76,6 @@ openedNumber (opened.Presets c) = pos c
 openedNumber (opened.Refused k) = refused k
 
 -- reading a preset writes four fields, whose number is the answer: its kind, its rank, where its letters begin in the book, and how many they are
-unfoldable pub fieldsOf : Preset → List ℕ → Outcome ℕ
-fieldsOf (preset.Found k n s l) out = writes 0 (k ∷ n ∷ s ∷ l ∷ []) out
-fieldsOf (preset.Refused r) out = record { answer = answer.Refused r; bytes = out }
+unfoldable pub presetNumbers : Preset → List ℕ → Outcome ℕ
+presetNumbers (preset.Found k n s l) out = writes 0 (k ∷ n ∷ s ∷ l ∷ []) out
+presetNumbers (preset.Refused r) out = record { answer = answer.Refused r; bytes = out }

@@ -6,8 +6,8 @@ use crate::numbers::size;
 use book::Opened;
 use book::Preset;
 ghost use mathlib.Core.Path.{_≡_};
-ghost use Rattle.book_format.specs.Calls.{checkedBook, checkedPreset, appending};
-ghost use Rattle.c_api.specs.Calls.{Numbered, numberOf, openedNumber, fieldsOf};
+ghost use Rattle.book_format.specs.Calls.{checkedBook, checkedPreset, readingPresets, appending};
+ghost use Rattle.c_api.specs.Calls.{Numbered, numberOf, openedNumber, presetNumbers};
 
 // Opening a book. Answers the number of its presets.
 #[no_mangle]
@@ -24,7 +24,7 @@ pub extern "C" fn winnathey_book_check(book: &[u8]) -> i64
 // of `fields`. Answers 4.
 #[no_mangle]
 pub extern "C" fn winnathey_preset(book: &[u8], number: usize, fields: &mut [u64]) -> i64
-    ensures { λ r. ⌜ Numbered (fieldsOf (checkedPreset (now (book .entry)) number) (now (fields .entry))) r (now (fields .exit)) ⌝ }
+    ensures { λ r. ⌜ Numbered (presetNumbers (checkedPreset (now (book .entry)) number) (now (fields .entry))) r (now (fields .exit)) ⌝ }
 {
     match book::check_preset(book, number) {
         Preset::Found {
@@ -44,6 +44,15 @@ pub extern "C" fn winnathey_preset(book: &[u8], number: usize, fields: &mut [u64
         }
         Preset::Refused(k) => refusal(k),
     }
+}
+
+// Reading a run of presets from number `first` on, with one walk over the book: five numbers each, the refusal (5 to 8, or 0), kind, rank, the
+// offset of the letters in the book and their count, the last four 0 where it is refused; as many as there are and have room. Answers how many.
+#[no_mangle]
+pub extern "C" fn winnathey_presets(book: &[u8], first: usize, fields: &mut [u64]) -> i64
+    ensures { λ r. ⌜ Numbered (readingPresets (now (book .entry)) first (now (fields .entry))) r (now (fields .exit)) ⌝ }
+{
+    number(book::read_presets(book, first, fields))
 }
 
 // Appending a preset: the whole new book, written to the front of `out`. Answers its length.
