@@ -108,6 +108,11 @@ int64_t winnathey_book_check(const uint8_t *book, size_t book_len);
    Answers 4. */
 int64_t winnathey_preset(const uint8_t *book, size_t book_len, size_t number, uint64_t *fields, size_t fields_len);
 
+/* Reads the presets of a book from the number first on, as many as there are and as have room: five numbers for each, its own refusal, 5 to 8, or 0,
+   then its kind, its rank, the offset of its letters in the book and their count, or four zeros where it is refused. Checks 1 to 3 of the book, 4 of
+   first, and 14 where there is no room for one preset. Answers how many presets were written. */
+int64_t winnathey_presets(const uint8_t *book, size_t book_len, size_t first, uint64_t *fields, size_t fields_len);
+
 /* Appends a preset to a book: the whole new book goes to out. Answers its length. */
 int64_t winnathey_append(const uint8_t *book, size_t book_len, uint32_t kind, uint32_t rank, const uint8_t *word, size_t word_len, uint8_t *out,
                          size_t out_len);

@@ -215,6 +215,19 @@ static void books(void)
     CALL(winnathey_preset(bad_letter, sizeof bad_letter, 0, fields, 4));
     CALL(winnathey_preset(full, sizeof full, 0, fields, 4));
 
+    CALL(winnathey_presets(book, sizeof book, 0, fields, ROOM));
+    CALL(winnathey_presets(book, sizeof book, 0, fields, 9));
+    CALL(winnathey_presets(book, sizeof book, 1, fields, 5));
+    CALL(winnathey_presets(book, sizeof book, 2, fields, 5));
+    CALL(winnathey_presets(book, sizeof book, 0, fields, 4));
+    CALL(winnathey_presets(book, sizeof book, 0, NULL, 0));
+    CALL(winnathey_presets(no_presets, sizeof no_presets, 0, fields, 5));
+    CALL(winnathey_presets(NULL, 0, 0, fields, 5));
+    CALL(winnathey_presets(bad_count, sizeof bad_count, 0, fields, 5));
+    CALL(winnathey_presets(bad_end, sizeof bad_end, 0, fields, 5));
+    CALL(winnathey_presets(bad_letter, sizeof bad_letter, 0, fields, 5));
+    CALL(winnathey_presets(full, sizeof full, 0, fields, 10));
+
     CALL(winnathey_append(no_presets, sizeof no_presets, 2, 2, w1212, 4, bytes, 12));
     CALL(winnathey_append(no_presets, sizeof no_presets, 1, 1, NULL, 0, bytes, ROOM));
     CALL(winnathey_append(book, sizeof book, 1, 1, w1, 1, bytes, ROOM));

@@ -52,7 +52,7 @@ struct Outputs {
     lanes: Vec<i8>,
     bytes: Vec<u8>,
     rule: [u8; 3],
-    fields: [u64; 4],
+    fields: Vec<u64>,
 }
 
 /// The time of one call in nanoseconds, by its table, row and column.
@@ -183,7 +183,7 @@ fn full_book(random: &mut Random, letters: usize, left_out: usize) -> Vec<u8> {
 
 fn main() {
     let filter = std::env::args().nth(1).unwrap_or_default();
-    let outputs = Outputs { lanes: vec![0; 32], bytes: vec![0; 65535], rule: [0; 3], fields: [0; 4] };
+    let outputs = Outputs { lanes: vec![0; 32], bytes: vec![0; 65535], rule: [0; 3], fields: vec![0; 5 * 10_922] };
     let mut bench = Bench { filter, outputs, cells: Vec::new() };
     let mut random = Random(2026);
 
@@ -355,6 +355,13 @@ fn books(bench: &mut Bench, random: &mut Random) {
             "read a preset",
             |k, out| rattle::preset(black_box(&book), presets * k / INPUTS, &mut out.fields),
             |k, out| plain::preset(black_box(&book), presets * k / INPUTS, &mut out.fields),
+        );
+        bench.cell(
+            call,
+            &row,
+            "read all presets",
+            |_, out| rattle::presets(black_box(&book), 0, &mut out.fields),
+            |_, out| plain::presets(black_box(&book), 0, &mut out.fields),
         );
         let short = full_book(random, letters, 1);
         let words = random.words(8, letters);

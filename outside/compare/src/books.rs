@@ -13,6 +13,11 @@ fn one_book(sides: &mut Sides, book: &[u8]) {
     }
     sides.preset(book, 0, 3);
     sides.preset(book, 0, 5);
+    for first in [0, 1, last, usize::MAX] {
+        for fields in [0, 4, 5, 9, 5 * last, 5 * last + 5] {
+            sides.presets(book, first, fields);
+        }
+    }
     sides.append(book, 3, 4, &[4, 3], book.len() + 8);
     sides.append(book, 3, 4, &[4, 3], book.len() + 7);
 }
@@ -20,9 +25,9 @@ fn one_book(sides: &mut Sides, book: &[u8]) {
 pub fn example(sides: &mut Sides) {
     assert_eq!(sides.book_check(&EXAMPLE), 2);
     assert_eq!(sides.preset(&EXAMPLE, 0, 4), 4);
-    assert_eq!(sides.fields(), [2, 2, 4, 4]);
+    assert_eq!(sides.fields(4), [2, 2, 4, 4]);
     assert_eq!(sides.preset(&EXAMPLE, 1, 4), 4);
-    assert_eq!(sides.fields(), [3, 5, 12, 6]);
+    assert_eq!(sides.fields(4), [3, 5, 12, 6]);
     assert_eq!(sides.preset(&EXAMPLE, 2, 4), -4);
     // The example is what two appends make.
     let answer = sides.append(&[0, 0], 2, 2, &[1, 2, 1, 2], 12);
@@ -30,8 +35,24 @@ pub fn example(sides: &mut Sides) {
     let answer = sides.append(&one, 3, 5, &[5, 2, 3, 5, 1, 2], 24);
     assert_eq!(sides.bytes(answer), EXAMPLE);
 
-    for fields in 0..8 {
+    assert_eq!(sides.presets(&EXAMPLE, 0, 10), 2);
+    assert_eq!(sides.fields(10), [0, 2, 2, 4, 4, 0, 3, 5, 12, 6]);
+    assert_eq!(sides.presets(&EXAMPLE, 0, 9), 1);
+    assert_eq!(sides.presets(&EXAMPLE, 1, 9), 1);
+    assert_eq!(sides.fields(5), [0, 3, 5, 12, 6]);
+    assert_eq!(sides.presets(&EXAMPLE, 2, 4), -4);
+    assert_eq!(sides.presets(&EXAMPLE, 1, 4), -14);
+    // A letter above the rank in the first record: refused 8, and the second as before.
+    let mut damaged = EXAMPLE;
+    damaged[4] = 3;
+    assert_eq!(sides.presets(&damaged, 0, 10), 2);
+    assert_eq!(sides.fields(10), [8, 0, 0, 0, 0, 0, 3, 5, 12, 6]);
+
+    for fields in 0..17 {
         sides.preset(&EXAMPLE, 0, fields);
+        for first in 0..4 {
+            sides.presets(&EXAMPLE, first, fields);
+        }
     }
     for out in 0..40 {
         sides.append(&EXAMPLE, 1, 1, &[1, 1], out);
@@ -181,6 +202,17 @@ pub fn others(sides: &mut Sides) {
     assert_eq!(sides.book_check(&heads), 10_922);
     for number in [0, 1, 5_000, 10_920, 10_921, 10_922] {
         sides.preset(&heads, number, 4);
+    }
+    for first in [0, 1, 5_000, 10_920, 10_921, 10_922] {
+        for fields in [4, 5, 5 * 10_922 - 1, 5 * 10_922, 5 * 10_922 + 7] {
+            let answer = sides.presets(&heads, first, fields);
+            let due = match (10_922usize.saturating_sub(first), fields / 5) {
+                (0, _) => -4,
+                (_, 0) => -14,
+                (left, room) => left.min(room) as i64,
+            };
+            assert_eq!(answer, due);
+        }
     }
     one_book(sides, &heads);
 }

@@ -149,9 +149,14 @@ fn book(sides: &mut Sides, random: &mut Random) {
     if random.once_in(3) {
         damage_book(random, &mut book);
     }
-    match random.below(3) {
+    match random.below(4) {
         0 => {
             sides.book_check(&book);
+        }
+        3 => {
+            let first = if random.once_in(10) { random.next() as usize } else { random.below(records + 2) };
+            let fields = random.below(5 * records + 7);
+            sides.presets(&book, first, fields);
         }
         1 => {
             let number = if random.once_in(10) { random.next() as usize } else { random.below(records + 2) };

@@ -87,15 +87,42 @@ pub fn book_check(book: &[u8]) -> Option<i64> {
     Some(coded(winnathey::book_check(book)))
 }
 
-/// The safe function always has room for the fields. The letters must be the book's own bytes.
+/// Where a part of a book begins, which must be the book's own bytes.
+fn place(book: &[u8], part: &[u8]) -> u64 {
+    part.as_ptr().addr().wrapping_sub(book.as_ptr().addr()) as u64
+}
+
+/// The safe function always has room for the fields.
 pub fn preset(book: &[u8], number: usize, fields: &mut [u64]) -> Option<i64> {
     let fields = fields.get_mut(..4)?;
     let found = winnathey::preset(book, number).map(|Preset { kind, rank, word }| {
-        let start = word.as_ptr().addr().wrapping_sub(book.as_ptr().addr());
-        fields.copy_from_slice(&[kind.0.into(), rank.into(), start as u64, word.len() as u64]);
+        fields.copy_from_slice(&[kind.0.into(), rank.into(), place(book, word), word.len() as u64]);
         fields.len()
     });
     Some(coded(found))
+}
+
+/// The safe function always reads all presets. Those that there is room for must be the raw call's; where none is left
+/// at `first`, that is refusal 4.
+pub fn presets(book: &[u8], first: usize, fields: &mut [u64]) -> Option<i64> {
+    let (rows, _) = fields.as_chunks_mut::<5>();
+    if rows.is_empty() {
+        return None;
+    }
+    let all = match winnathey::presets(book) {
+        Ok(all) if first < all.len() => all,
+        Ok(_) => return Some(-4),
+        Err(refusal) => return Some(coded(Err(refusal))),
+    };
+    let mut written = 0;
+    for (row, found) in rows.iter_mut().zip(all.skip(first)) {
+        *row = match found {
+            Ok(Preset { kind, rank, word }) => [0, kind.0.into(), rank.into(), place(book, word), word.len() as u64],
+            Err(refusal) => [refusal.number().into(), 0, 0, 0, 0],
+        };
+        written += 1;
+    }
+    Some(written)
 }
 
 pub fn append(book: &[u8], kind: u32, rank: u32, word: &[u8], out: &mut [u8]) -> Option<i64> {

@@ -169,8 +169,8 @@ impl Sides {
         &self.rattle.lanes.all[GUARD..GUARD + whole(length)]
     }
 
-    pub fn fields(&self) -> &[u64] {
-        &self.rattle.fields.all[GUARD..GUARD + 4]
+    pub fn fields(&self, length: i64) -> &[u64] {
+        &self.rattle.fields.all[GUARD..GUARD + whole(length)]
     }
 
     pub fn window_of_word(&mut self, kind: u32, rank: u32, word: &[u8], out: usize) -> i64 {
@@ -227,6 +227,10 @@ impl Sides {
 
     pub fn preset(&mut self, book: &[u8], number: usize, fields: usize) -> i64 {
         compared!(self, preset, (book, number), fields: fields => whole)
+    }
+
+    pub fn presets(&mut self, book: &[u8], first: usize, fields: usize) -> i64 {
+        compared!(self, presets, (book, first), fields: fields => |answer| 5 * whole(answer))
     }
 
     pub fn append(&mut self, book: &[u8], kind: u32, rank: u32, word: &[u8], out: usize) -> i64 {

@@ -44,20 +44,47 @@ pub fn book_check(book: &[u8]) -> i64 {
     coded(check(book).map(|(count, _)| count))
 }
 
-/// Kind, rank, where the letters begin and how many they are, in `fields`: 4 numbers.
+/// Kind, rank, where the letters begin and how many they are, of the preset whose offset is at a byte. Checks 5 to 8.
+fn read(book: &[u8], offset: usize) -> Result<[u64; 4], Refusal> {
+    let record = two(book, offset);
+    let (kind, rank) = (book[record], book[record + 1]);
+    let (at, letters) = (record + HEAD, two(book, record + 2));
+    check_preset(kind.into(), rank.into(), &book[at..at + letters])?;
+    Ok([kind.into(), rank.into(), at as u64, letters as u64])
+}
+
+/// A preset in `fields`, as 4 numbers.
 pub fn preset(book: &[u8], number: usize, fields: &mut [u64]) -> i64 {
     coded((|| {
         let (count, start) = check(book)?;
         if number >= count {
             return Err(4);
         }
-        let record = two(book, start + 2 * number);
-        let (kind, rank) = (book[record], book[record + 1]);
-        let (at, letters) = (record + HEAD, two(book, record + 2));
-        check_preset(kind.into(), rank.into(), &book[at..at + letters])?;
-        let fields = front(fields, 4)?;
-        fields.copy_from_slice(&[kind.into(), rank.into(), at as u64, letters as u64]);
+        let found = read(book, start + 2 * number)?;
+        front(fields, 4)?.copy_from_slice(&found);
         Ok(4)
+    })())
+}
+
+/// The presets from `first` on that there is room for, each as its refusal or 0 and 4 numbers. Answers how many.
+pub fn presets(book: &[u8], first: usize, fields: &mut [u64]) -> i64 {
+    coded((|| {
+        let (count, start) = check(book)?;
+        if first >= count {
+            return Err(4);
+        }
+        let (rows, _) = fields.as_chunks_mut::<5>();
+        if rows.is_empty() {
+            return Err(14);
+        }
+        let written = rows.len().min(count - first);
+        for (row, number) in rows.iter_mut().zip(first..count) {
+            *row = match read(book, start + 2 * number) {
+                Ok([kind, rank, at, letters]) => [0, kind, rank, at, letters],
+                Err(k) => [k as u64, 0, 0, 0, 0],
+            };
+        }
+        Ok(written)
     })())
 }
 

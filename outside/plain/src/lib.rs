@@ -11,7 +11,7 @@ mod rules;
 mod window;
 mod word;
 
-pub use book::{append, book_check, preset};
+pub use book::{append, book_check, preset, presets};
 pub use rules::{NONE_FITS, Rule, rewrite, rules};
 
 use checks::{check_preset, check_rank, check_window, check_word};

@@ -22,9 +22,11 @@
 //! # Ok::<(), winnathey::Refusal>(())
 //! ```
 
+mod presets;
 pub mod raw;
 mod refusal;
 
+pub use presets::{Presets, presets};
 pub use refusal::Refusal;
 use std::fmt;
 
@@ -302,9 +304,13 @@ pub fn book_check(book: &[u8]) -> Result<usize, Refusal> {
 pub fn preset(book: &[u8], number: usize) -> Result<Preset<'_>, Refusal> {
     let mut fields = [0; 4];
     answered(raw::preset(book, number, &mut fields))?;
-    let [kind, rank, start, letters] = fields;
+    Ok(lent(book, fields))
+}
+
+/// A preset by its kind, its rank, where its letters begin in the book and how many they are.
+fn lent(book: &[u8], [kind, rank, start, letters]: [u64; 4]) -> Preset<'_> {
     let (start, letters) = (start as usize, letters as usize);
-    Ok(Preset { kind: Kind(kind as u8), rank: rank as u8, word: &book[start..start + letters] })
+    Preset { kind: Kind(kind as u8), rank: rank as u8, word: &book[start..start + letters] }
 }
 
 /// Writes a book with one preset more, and answers with its length. Refusals 1 to 3, 5 to 8, 13, 14.

@@ -104,6 +104,13 @@ mod c {
             fields: *mut u64,
             fields_len: usize,
         ) -> i64;
+        pub fn winnathey_presets(
+            book: *const u8,
+            book_len: usize,
+            first: usize,
+            fields: *mut u64,
+            fields_len: usize,
+        ) -> i64;
         pub fn winnathey_append(
             book: *const u8,
             book_len: usize,
@@ -242,6 +249,13 @@ pub fn book_check(book: &[u8]) -> i64 {
 #[inline]
 pub fn preset(book: &[u8], number: usize, fields: &mut [u64]) -> i64 {
     unsafe { c::winnathey_preset(book.as_ptr(), book.len(), number, fields.as_mut_ptr(), fields.len()) }
+}
+
+/// The presets from the number `first` on that `fields` has room for, in five numbers each: its refusal or 0, and what
+/// [`preset`] gives or four zeros. Answers how many.
+#[inline]
+pub fn presets(book: &[u8], first: usize, fields: &mut [u64]) -> i64 {
+    unsafe { c::winnathey_presets(book.as_ptr(), book.len(), first, fields.as_mut_ptr(), fields.len()) }
 }
 
 /// A book with one record more.
