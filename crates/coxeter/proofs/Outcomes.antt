@@ -4,105 +4,98 @@ use mathlib.Core.Path.{_≡_, refl, sym, _∙_, ap}
 use mathlib.Core.Bool.{false, Bool, true}
 use mathlib.Core.List.{List, _++_}
 use Prim.Native.Nat.{ℕ, _≤_, _<_}
-use lib.IntN.{ℤ}
-use lib.ListN.{length, drop}
+use native.Mathlib.Nat.{zero-add}
+use native.Mathlib.Omega.{arith}
+use lib.ListN.{length, take, drop}
+use lib.Seq.{sets, sets-eq}
 use borrow.Author.Tests.{eq-eqb, ne-eqb, lt-ltb, le-ltb}
 use Rattle.coxeter.specs.declared.Answer.the-variants.{Length, Refused}
-use Rattle.coxeter.proofs.Refusals.{then-assoc}
+use Rattle.coxeter.proofs.Lists.{front-stored}
 use Rattle.coxeter.specs.Kinds.{kindOf}
-use Rattle.coxeter.specs.Windows.{window, product, inverse}
-use Rattle.coxeter.specs.Checks.{_then_, tooShort, rankRefusal, wordRefusal, windowRefusal}
-use Rattle.coxeter.specs.Calls.{Outcome, answerOf, written, writes, windowOfWord, productOfWindows, inverseOfWindow, verdictOf, lengthOfWindow, lengthOfWord, equalWords, samePresets, presetsEqual, handsBack}
+use Rattle.coxeter.specs.Checks.{_then_, tooShort, rankRefusal, wordRefusal}
+use Rattle.coxeter.specs.Calls.{Outcome, Yields, answerOf, written, writes, verdictOf, equalWords, samePresets, presetsEqual, handsBack}
 use native.Mathlib.Decide.{ℕ-discrete}
 use Rattle.coxeter.specs.declared.Answer.{Answer}
-use Rattle.coxeter.specs.declared.Verdict.{Verdict}
 use Rattle.coxeter.specs.declared.Verdict.the-variants as verdict
-use Rattle.coxeter.specs.Length.{windowLength}
 
 -- ---- calls that write
 
 module _ {X : Type 0} (o : Outcome X) (q r : ℕ) (l out : List X) (is : o ≡ writes q l out) (e : r ≡ q) where
-  pub writes-refused : (r ≡ 0 → ⊥) → (Refused r ≡ o .answer) × (out ≡ o .bytes)
+  pub writes-refused : (r ≡ 0 → ⊥) → Yields o (Refused r) out
   unfolding writes answerOf written
   writes-refused f = rw (is, ← e, ne-eqb r 0 f) (rw (ne-eqb r 0 f) (refl, refl))
 
-  pub writes-short : (m : ℕ) → r ≡ 0 → length l ≡ m → length out < m → (Refused 14 ≡ o .answer) × (out ≡ o .bytes)
+  pub writes-short : (m : ℕ) → r ≡ 0 → length l ≡ m → length out < m → Yields o (Refused 14) out
   unfolding writes answerOf written tooShort
   writes-short m z g h = rw (is, ← e, eq-eqb r 0 z, g, lt-ltb (length out) m h) (refl, refl)
 
-  pub writes-done : (m : ℕ) (w : List X) → r ≡ 0 → length l ≡ m → m ≤ length out → w ≡ l
-      → (Length m ≡ o .answer) × (w ++ drop m out ≡ o .bytes)
+  pub writes-done : (m : ℕ) (w : List X) → r ≡ 0 → length l ≡ m → m ≤ length out → w ≡ l → Yields o (Length m) (w ++ drop m out)
   unfolding writes answerOf written tooShort
   writes-done m w z g h v = rw (is, ← e, eq-eqb r 0 z, g, le-ltb (length out) m h, v) (refl, refl)
 
-pub windowOfWord-is : (k n : ℕ) (u : List ℕ) (out : List ℤ)
-    → windowOfWord k n u out ≡ writes (rankRefusal k n then wordRefusal n u) (window (kindOf k) n u) out
-unfolding windowOfWord
-windowOfWord-is k n u out = refl
+  -- `after` is what a call that is not refused leaves
+  pub writes-written : (m : ℕ) (after : List X) → r ≡ 0 → length l ≡ m → m ≤ length out → after ≡ written 0 l out → Yields o (Length m) after
+  unfolding written
+  writes-written m after z g h v = let d = writes-done m l z g h refl in (d .0, v ∙ rw g (d .1))
 
-pub productOfWindows-is : (k n : ℕ) (u v out : List ℤ)
-    → productOfWindows k n u v out ≡ writes (rankRefusal k n then windowRefusal (kindOf k) n u then windowRefusal (kindOf k) n v) (product u v) out
-unfolding productOfWindows
-productOfWindows-is k n u v out = refl
+  -- no check before check 14 refused
+  pub writes-passed : (a : Answer) (after : List X) → r ≡ 0 → Yields (writes 0 l out) a after → Yields o a after
+  writes-passed a after z d = rw (is, ← e, z) d
 
-pub inverseOfWindow-is : (k n : ℕ) (w out : List ℤ)
-    → inverseOfWindow k n w out ≡ writes (rankRefusal k n then windowRefusal (kindOf k) n w) (inverse w) out
-unfolding inverseOfWindow
-inverseOfWindow-is k n w out = refl
+-- ---- what a call that is not refused leaves
+
+pub written-part : {X : Type 0} (m : ℕ) (l v out : List X) → length l ≡ m → v ≡ l → v ++ drop m out ≡ written 0 l out
+unfolding written
+written-part m l v out g w = rw (w, ← g)
+
+pub written-sets : {X : Type 0} (l out : List X) → length l ≤ length out → sets out 0 l ≡ written 0 l out
+unfolding written
+written-sets l out h = sets-eq l out 0 (omega arith) ∙ ap (λ (m : ℕ). l ++ drop m out) (zero-add (length l))
+
+-- the front is what was written
+pub written-front : {X : Type 0} (m : ℕ) (l out v : List X) → length l ≡ m → m ≤ length out → v ≡ written 0 l out
+    → (length v ≡ length out) × (take m v ≡ l)
+unfolding written
+written-front m l out v g h w = rw (w, g) (front-stored m out l l h g refl)
 
 -- ---- lengths
 
-pub answer-refused : (o : Answer) (q r l : ℕ) → o ≡ answerOf q l → r ≡ q → (r ≡ 0 → ⊥) → Refused r ≡ o
+pub answer-refused : (q r l : ℕ) → r ≡ q → (r ≡ 0 → ⊥) → Refused r ≡ answerOf q l
 unfolding answerOf
-answer-refused o q r l is e f = sym (is ∙ rw (← e, ne-eqb r 0 f))
+answer-refused q r l e f = rw (← e, ne-eqb r 0 f)
 
-pub answer-length : (o : Answer) (q r l a : ℕ) → o ≡ answerOf q l → r ≡ q → r ≡ 0 → a ≡ l → Length a ≡ o
+pub answer-length : (q r l a : ℕ) → r ≡ q → r ≡ 0 → a ≡ l → Length a ≡ answerOf q l
 unfolding answerOf
-answer-length o q r l a is e z v = sym (is ∙ rw (← e, eq-eqb r 0 z, v))
-
-pub lengthOfWindow-is : (k n : ℕ) (w : List ℤ)
-    → lengthOfWindow k n w ≡ answerOf (rankRefusal k n then windowRefusal (kindOf k) n w) (windowLength (kindOf k) w)
-unfolding lengthOfWindow
-lengthOfWindow-is k n w = refl
-
-pub lengthOfWord-is : (k n : ℕ) (u : List ℕ)
-    → lengthOfWord k n u ≡ answerOf (rankRefusal k n then wordRefusal n u) (windowLength (kindOf k) (window (kindOf k) n u))
-unfolding lengthOfWord
-lengthOfWord-is k n u = refl
+answer-length q r l a e z v = rw (← e, eq-eqb r 0 z, v)
 
 -- ---- the verdict
 
-pub verdict-refused : (o : Verdict) (q r : ℕ) (t : Bool) → o ≡ verdictOf q t → r ≡ q → (r ≡ 0 → ⊥) → verdict.Refused r ≡ o
-unfolding verdictOf
-verdict-refused o q r t is e f = sym (is ∙ rw (← e, ne-eqb r 0 f))
+module _ (k n : ℕ) (u : List ℕ) (l m : ℕ) (v : List ℕ) where
+  -- r is the refusal that was computed, s whether the presets are the same
+  module _ (r : ℕ) (e : r ≡ (rankRefusal k n then wordRefusal n u then rankRefusal l m then wordRefusal m v)) where
+    pub verdict-refused : (r ≡ 0 → ⊥) → verdict.Refused r ≡ presetsEqual k n u l m v
+    unfolding presetsEqual verdictOf
+    verdict-refused f = rw (← e, ne-eqb r 0 f)
 
-pub verdict-no : (o : Verdict) (q r : ℕ) (t : Bool) → o ≡ verdictOf q t → r ≡ q → r ≡ 0 → t ≡ false → verdict.No ≡ o
-unfolding verdictOf
-verdict-no o q r t is e z v = sym (is ∙ rw (← e, eq-eqb r 0 z, v))
+    pub verdict-yes : (s : Bool) → r ≡ 0 → s ≡ samePresets k n u l m v → s ≡ true → verdict.Yes ≡ presetsEqual k n u l m v
+    unfolding presetsEqual verdictOf
+    verdict-yes s z g t = rw (← e, eq-eqb r 0 z, ← g, t)
 
-pub verdict-yes : (o : Verdict) (q r : ℕ) (t : Bool) → o ≡ verdictOf q t → r ≡ q → r ≡ 0 → t ≡ true → verdict.Yes ≡ o
-unfolding verdictOf
-verdict-yes o q r t is e z v = sym (is ∙ rw (← e, eq-eqb r 0 z, v))
+    pub verdict-no : (s : Bool) → r ≡ 0 → s ≡ samePresets k n u l m v → s ≡ false → verdict.No ≡ presetsEqual k n u l m v
+    unfolding presetsEqual verdictOf
+    verdict-no s z g t = rw (← e, eq-eqb r 0 z, ← g, t)
 
-pub presetsEqual-is : (k n : ℕ) (u : List ℕ) (l m : ℕ) (v : List ℕ)
-    → presetsEqual k n u l m v
-    ≡ verdictOf ((rankRefusal k n then wordRefusal n u) then (rankRefusal l m then wordRefusal m v)) (samePresets k n u l m v)
-unfolding presetsEqual
-presetsEqual-is k n u l m v =
-    ap (λ (r : ℕ). verdictOf r (samePresets k n u l m v))
-    (sym (then-assoc (rankRefusal k n) (wordRefusal n u) (rankRefusal l m then wordRefusal m v)))
+  pub kinds-differ : (k ≡ l → ⊥) → false ≡ samePresets k n u l m v
+  unfolding samePresets
+  kinds-differ f = rw (ne-eqb k l f)
 
-pub kinds-differ : (k n : ℕ) (u : List ℕ) (l m : ℕ) (v : List ℕ) → (k ≡ l → ⊥) → samePresets k n u l m v ≡ false
-unfolding samePresets
-kinds-differ k n u l m v f = rw (ne-eqb k l f)
+  pub ranks-differ : k ≡ l → (n ≡ m → ⊥) → false ≡ samePresets k n u l m v
+  unfolding samePresets
+  ranks-differ e f = rw (eq-eqb k l e, ne-eqb n m f)
 
-pub ranks-differ : (k n : ℕ) (u : List ℕ) (l m : ℕ) (v : List ℕ) → k ≡ l → (n ≡ m → ⊥) → samePresets k n u l m v ≡ false
-unfolding samePresets
-ranks-differ k n u l m v e f = rw (eq-eqb k l e, ne-eqb n m f)
-
-pub same-rank : (k n : ℕ) (u : List ℕ) (l m : ℕ) (v : List ℕ) (s : Bool) → k ≡ l → n ≡ m → s ≡ equalWords (kindOf k) n u v → samePresets k n u l m v ≡ s
-unfolding samePresets
-same-rank k n u l m v s e f g = rw (eq-eqb k l e, eq-eqb n m f) (sym g)
+  pub same-rank : (s : Bool) → k ≡ l → n ≡ m → s ≡ equalWords (kindOf k) n u v → s ≡ samePresets k n u l m v
+  unfolding samePresets
+  same-rank s e f g = rw (eq-eqb k l e, eq-eqb n m f) g
 
 -- ---- words of one kind and rank
 

@@ -36,6 +36,10 @@ pub record Outcome (X : Type 0) : Type 0 where
   pub answer : Answer
   pub bytes : List X
 
+-- a call answers a and leaves `after` in its output, as the outcome o says
+abbrev pub Yields : {X : Type 0} → Outcome X → Answer → List X → Type 0
+Yields o a after = (a ≡ o .answer) × (after ≡ o .bytes)
+
 -- refused with r before check 14, or else too short an output, or else `l` is written
 unfoldable pub writes : {X : Type 0} → ℕ → List X → List X → Outcome X
 writes r l out =

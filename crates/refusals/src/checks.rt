@@ -7,7 +7,8 @@ ghost use Prim.Native.Nat.{ℕ, _<_, _≤_};
 ghost use lib.ListN.{length, getD};
 ghost use Rattle.coxeter.specs.Kinds as kinds;
 ghost use Rattle.coxeter.specs.Kinds.{kindOf};
-ghost use Rattle.coxeter.specs.Checks.{_then_, rankRefusal, wordRefusal, windowRefusal, wrongLetter, wrongEntry, oddNegatives, negativeInA, odd};
+ghost use Rattle.coxeter.specs.Checks.{_then_, rankRefusal, wordRefusal, windowRefusal};
+ghost use Rattle.coxeter.specs.Checks.{wrongLetter, wrongEntry, oddNegatives, negativeInA, odd};
 ghost use Rattle.coxeter.specs.Length.{negatives};
 
 // The most letters of a word.
@@ -34,6 +35,8 @@ fn greatest(kind: u8) -> u8
     32
 }
 
+// Answers how many lanes a window of this kind and rank has: one more than the rank in kind 1, else the rank. It checks neither: a number that is
+// no kind counts as kind 3.
 pub fn lanes(kind: u8, rank: u8) -> usize
     ensures { λ r. ⌜ r ≡ kinds.lanes (kindOf kind) rank ⌝ }
 {
@@ -44,7 +47,7 @@ pub fn lanes(kind: u8, rank: u8) -> usize
     n
 }
 
-// Checks 5 and 6.
+// Checks 5 and 6. Answers 5 where the kind is not 1, 2 or 3, else 6 where the rank is outside its kind's range, else 0.
 pub fn rank_refusal(kind: u8, rank: u8) -> u8
     ensures { λ r. ⌜ r ≡ rankRefusal kind rank ⌝ }
 {
@@ -79,7 +82,8 @@ fn has_wrong_letter(rank: u8, word: &[u8]) -> bool
     wrong
 }
 
-// Checks 7 and 8.
+// Checks 7 and 8. Answers 7 where the word has more than 4,096 letters, else 8 where a letter is 0 or above the rank, else 0. The rank is not
+// checked.
 pub fn word_refusal(rank: u8, word: &[u8]) -> u8
     ensures { λ r. ⌜ r ≡ wordRefusal rank (now (word .entry)) ⌝ }
 {
@@ -92,7 +96,7 @@ pub fn word_refusal(rank: u8, word: &[u8]) -> u8
     0
 }
 
-// Checks 5 to 8.
+// Checks 5 to 8 of one preset. Answers the first number that refuses, or 0.
 pub fn preset_refusal(kind: u8, rank: u8, word: &[u8]) -> u8
     ensures { λ r. ⌜ r ≡ (rankRefusal kind rank then wordRefusal rank (now (word .entry))) ⌝ }
 {
@@ -103,15 +107,24 @@ pub fn preset_refusal(kind: u8, rank: u8, word: &[u8]) -> u8
     word_refusal(rank, word)
 }
 
-// Checks 5 to 8 of two words of one kind and rank.
+// Checks 5 to 8 of two presets, all of the first's before the second's. Answers the first number that refuses, or 0.
+pub fn presets_refusal(kind_a: u8, rank_a: u8, a: &[u8], kind_b: u8, rank_b: u8, b: &[u8]) -> u8
+    ensures { λ r. ⌜ r ≡ (rankRefusal «kind_a» «rank_a» then wordRefusal «rank_a» (now (a .entry))
+        then rankRefusal «kind_b» «rank_b» then wordRefusal «rank_b» (now (b .entry))) ⌝ }
+{
+    let first = preset_refusal(kind_a, rank_a, a);
+    if first != 0 {
+        return first;
+    }
+    preset_refusal(kind_b, rank_b, b)
+}
+
+// Checks 5 to 8 of two words of one kind and rank: kind and rank once, then the first word, then the second. Answers the first number that
+// refuses, or 0.
 pub fn ranked_words_refusal(kind: u8, rank: u8, u: &[u8], v: &[u8]) -> u8
     ensures { λ r. ⌜ r ≡ (rankRefusal kind rank then wordRefusal rank (now (u .entry)) then wordRefusal rank (now (v .entry))) ⌝ }
 {
-    let refusal = rank_refusal(kind, rank);
-    if refusal != 0 {
-        return refusal;
-    }
-    let first = word_refusal(rank, u);
+    let first = preset_refusal(kind, rank, u);
     if first != 0 {
         return first;
     }
@@ -190,7 +203,7 @@ fn has_odd_negatives(kind: u8, w: &[i8]) -> bool
     odd_negatives(w)
 }
 
-// Checks 9 to 11.
+// Checks 9 to 11, where 5 and 6 passed.
 fn window_refusal(kind: u8, rank: u8, w: &[i8]) -> u8
     requires { ⌜ rankRefusal kind rank ≡ 0 ⌝ }
     ensures { λ r. ⌜ r ≡ windowRefusal (kindOf kind) rank (now (w .entry)) ⌝ }
@@ -208,7 +221,8 @@ fn window_refusal(kind: u8, rank: u8, w: &[i8]) -> u8
     0
 }
 
-// Checks 5, 6 and 9 to 11.
+// Checks 5, 6 and 9 to 11. Answers 9 where the window's length is not the lane count, else 10 where an entry is wrong, else 11 where a window of
+// kind D has an odd number of negative entries, each after 5 and 6, or 0.
 pub fn ranked_window_refusal(kind: u8, rank: u8, w: &[i8]) -> u8
     ensures { λ r. ⌜ r ≡ (rankRefusal kind rank then windowRefusal (kindOf kind) rank (now (w .entry))) ⌝ }
 {
@@ -219,9 +233,11 @@ pub fn ranked_window_refusal(kind: u8, rank: u8, w: &[i8]) -> u8
     window_refusal(kind, rank, w)
 }
 
-// Checks 5, 6 and 9 to 11 of two windows of one kind and rank.
+// Checks 5, 6 and 9 to 11 of two windows of one kind and rank: kind and rank once, then the first window, then the second. Answers the first
+// number that refuses, or 0.
 pub fn ranked_windows_refusal(kind: u8, rank: u8, u: &[i8], v: &[i8]) -> u8
-    ensures { λ r. ⌜ r ≡ (rankRefusal kind rank then windowRefusal (kindOf kind) rank (now (u .entry)) then windowRefusal (kindOf kind) rank (now (v .entry))) ⌝ }
+    ensures { λ r. ⌜ r ≡ (rankRefusal kind rank then windowRefusal (kindOf kind) rank (now (u .entry))
+        then windowRefusal (kindOf kind) rank (now (v .entry))) ⌝ }
 {
     let refusal = rank_refusal(kind, rank);
     if refusal != 0 {

@@ -3,12 +3,12 @@ use refusals::is_negative;
 use refusals::size;
 ghost use mathlib.Core.Path.{_≡_};
 ghost use mathlib.Core.List.{map};
-ghost use Prim.Native.Nat.{_+_, _≤_};
+ghost use Prim.Native.Nat.{_+_, _-_, _*_, _≤_};
 ghost use lib.IntN.{natAbs, pos};
-ghost use lib.ListN.{length};
-ghost use Rattle.coxeter.specs.Kinds.{B, kindOf, lanes};
+ghost use lib.ListN.{length, take};
+ghost use Rattle.coxeter.specs.Kinds.{B, pick, kindOf, lanes};
 ghost use Rattle.coxeter.specs.Length.{laterThan, inversions, negativeSumPairs, negatives, windowLength};
-ghost use Rattle.coxeter.specs.Checks.{windowRefusal};
+ghost use Rattle.coxeter.specs.Checks.{rankRefusal, windowRefusal};
 
 fn no_sizes() -> [u8; 64]
     ensures { λ r. ⌜ length r ≡ 64 ⌝ }
@@ -16,10 +16,10 @@ fn no_sizes() -> [u8; 64]
     [0u8; 64]
 }
 
-// The sizes of a window's entries.
+// The sizes of a window's entries, written to the front of `out`.
 fn set_sizes(w: &[i8], out: &mut [u8])
-    requires { ⌜ length (now out) ≡ length (now w) ⌝ }
-    ensures { λ _. ⌜ now (out .exit) ≡ map natAbs (now (w .entry)) ⌝ }
+    requires { ⌜ length (now w) ≤ length (now out) ⌝ }
+    ensures { λ _. ⌜ take (length (now (w .entry))) (now (out .exit)) ≡ map natAbs (now (w .entry)) ⌝ }
 {
     let mut i = 0;
     while i < w.len() {
@@ -44,8 +44,38 @@ fn smaller(own: u8, rest: &[u8]) -> usize
     sum as usize
 }
 
-// Both sorts of pairs. An entry has one with each smaller entry behind it, and with each larger one two if the entry is negative.
-// An accepted window of any kind is one of kind B.
+// The pairs of both sorts of an entry with those behind it, by their sizes: one with each smaller one, and with each larger one two if the
+// entry is negative.
+fn pairs_behind(minus: bool, own: u8, rest: &[u8]) -> usize
+    requires { ⌜ length (now rest) ≤ 64 ⌝ }
+    ensures { λ r. ⌜ r ≡ pick minus (2 * length (now (rest .entry)) - laterThan (pos own) (map pos (now (rest .entry))))
+        (laterThan (pos own) (map pos (now (rest .entry)))) ⌝ }
+{
+    let less = smaller(own, rest);
+    if minus {
+        return 2 * rest.len() - less;
+    }
+    less
+}
+
+// Both sorts of pairs of a window with these sizes. An accepted window of any kind is one of kind B.
+fn sized_pairs(w: &[i8], sizes: &[u8]) -> usize
+    requires { ⌜ length (now w) ≤ 64 ⌝ }
+    requires { ⌜ windowRefusal B (length (now w)) (now w) ≡ 0 ⌝ }
+    requires { ⌜ now sizes ≡ map natAbs (now w) ⌝ }
+    ensures { λ r. ⌜ r ≡ inversions (now (w .entry)) + negativeSumPairs (now (w .entry)) ⌝ }
+{
+    let mut sum: usize = 0;
+    let mut i = 0;
+    while i < w.len() {
+        let next = i + 1;
+        sum += pairs_behind(is_negative(w[i]), sizes[i], &sizes[next..]);
+        i = next;
+    }
+    sum
+}
+
+// The same of a window alone.
 fn pairs(w: &[i8]) -> usize
     requires { ⌜ length (now w) ≤ 64 ⌝ }
     requires { ⌜ windowRefusal B (length (now w)) (now w) ≡ 0 ⌝ }
@@ -53,21 +83,8 @@ fn pairs(w: &[i8]) -> usize
 {
     let m = w.len();
     let mut work = no_sizes();
-    set_sizes(w, &mut work[..m]);
-    let mut sum: usize = 0;
-    let mut i = 0;
-    while i < m {
-        let own = work[i];
-        let next = i + 1;
-        let less = smaller(own, &work[next..m]);
-        if is_negative(w[i]) {
-            sum += 2 * (m - next) - less;
-        } else {
-            sum += less;
-        }
-        i = next;
-    }
-    sum
+    set_sizes(w, &mut work);
+    sized_pairs(w, &work[..m])
 }
 
 fn negative_entries(w: &[i8]) -> usize
@@ -95,4 +112,15 @@ pub(crate) fn length_of(kind: u8, n: usize, w: &[i8]) -> usize
         return sum + negative_entries(w);
     }
     sum
+}
+
+// The length of the accepted window at the front of `work`.
+pub(crate) fn length_of_front(kind: u8, rank: u8, work: &[i8]) -> usize
+    requires { ⌜ rankRefusal kind rank ≡ 0 ⌝ }
+    requires { ⌜ lanes (kindOf kind) rank ≤ length (now work) ⌝ }
+    requires { ⌜ windowRefusal (kindOf kind) rank (take (lanes (kindOf kind) rank) (now work)) ≡ 0 ⌝ }
+    ensures { λ r. ⌜ r ≡ windowLength (kindOf kind) (take (lanes (kindOf kind) rank) (now (work .entry))) ⌝ }
+{
+    let m = refusals::lanes(kind, rank);
+    length_of(kind, rank as usize, &work[..m])
 }

@@ -1,7 +1,9 @@
 // The window layer: what a word of a Coxeter group of kind A, B or D shows, as a signed permutation.
 //
 // Kinds and ranks are document 01's numbers, words are bytes, windows signed bytes. No public function has a `requires`: every input is
-// checked in document 01's order, and what a call answers and writes is a definition of specs/ for every input, refused ones included.
+// checked in document 01's order, and what a call answers and writes is a definition of coxeter/specs/Calls for every input, refused ones
+// included. The refusals are 5 for the kind, 6 for the rank, 7 and 8 for a word's length and letters, 9 to 11 for a window's length, entries
+// and signs, and 14 for an output that is too short. An accepted call writes to the front of its output and leaves what lies behind.
 mod action;
 mod entries;
 mod forms;
@@ -11,7 +13,6 @@ mod product;
 mod shown;
 mod words;
 
-use action::show;
 pub use coxeter::Answer;
 pub use coxeter::Choice;
 pub use coxeter::Verdict;
@@ -21,6 +22,7 @@ use product::inverse_into;
 use product::product_into;
 use refusals::lanes;
 use refusals::preset_refusal;
+use refusals::presets_refusal;
 pub use refusals::rank_refusal;
 use refusals::ranked_window_refusal;
 use refusals::ranked_windows_refusal;
@@ -31,17 +33,20 @@ use shown::equal_words;
 use shown::inverse_shown;
 use shown::length_of_shown;
 use shown::product_shown;
+use shown::same_presets;
+use shown::show_front;
 use shown::shown;
 use words::is_shortlex;
 ghost use mathlib.Core.Path.{_≡_};
 ghost use Rattle.coxeter.specs.Dictionary.{shortlex};
-ghost use Rattle.coxeter.specs.Calls.{windowOfWord, productOfWindows, inverseOfWindow, lengthOfWindow, lengthOfWord, presetsEqual, handsBack, choice, Better};
+ghost use Rattle.coxeter.specs.Calls.{Yields, windowOfWord, productOfWindows, inverseOfWindow};
 ghost use Rattle.coxeter.specs.Calls.{normalFormOfWindow, normalFormOfWord, productOfWords, inverseOfWord};
+ghost use Rattle.coxeter.specs.Calls.{lengthOfWindow, lengthOfWord, presetsEqual, handsBack, choice, Better};
 
-// The window of a word, written to the front of `out`.
+// Writes the window of `word` to the front of `out` and answers its length, the number of lanes. Refuses with 5 or 6, then 7 or 8, then 14 where
+// `out` is shorter than the window; `out` is then left as it was.
 pub fn window_of_word(kind: u8, rank: u8, word: &[u8], out: &mut [i8]) -> Answer
-    ensures { λ r. ⌜ (r ≡ windowOfWord kind rank (now (word .entry)) (now (out .entry)) .answer)
-        × (now (out .exit) ≡ windowOfWord kind rank (now (word .entry)) (now (out .entry)) .bytes) ⌝ }
+    ensures { λ r. ⌜ Yields (windowOfWord kind rank (now (word .entry)) (now (out .entry))) r (now (out .exit)) ⌝ }
 {
     let refusal = preset_refusal(kind, rank, word);
     if refusal != 0 {
@@ -51,15 +56,14 @@ pub fn window_of_word(kind: u8, rank: u8, word: &[u8], out: &mut [i8]) -> Answer
     if out.len() < m {
         return Answer::Refused(14);
     }
-    let n = rank as usize;
-    show(kind, n, word, &mut out[..m]);
+    show_front(kind, rank, word, out);
     Answer::Length(m)
 }
 
-// The product of two windows of one kind and rank, written to the front of `out`.
+// Writes the product of two windows of one kind and rank to the front of `out` and answers its length. Refuses with 5 or 6, then 9 to 11 for u,
+// then 9 to 11 for v, then 14 where `out` is shorter than the product; `out` is then left as it was.
 pub fn product_of_windows(kind: u8, rank: u8, u: &[i8], v: &[i8], out: &mut [i8]) -> Answer
-    ensures { λ r. ⌜ (r ≡ productOfWindows kind rank (now (u .entry)) (now (v .entry)) (now (out .entry)) .answer)
-        × (now (out .exit) ≡ productOfWindows kind rank (now (u .entry)) (now (v .entry)) (now (out .entry)) .bytes) ⌝ }
+    ensures { λ r. ⌜ Yields (productOfWindows kind rank (now (u .entry)) (now (v .entry)) (now (out .entry))) r (now (out .exit)) ⌝ }
 {
     let refusal = ranked_windows_refusal(kind, rank, u, v);
     if refusal != 0 {
@@ -69,15 +73,14 @@ pub fn product_of_windows(kind: u8, rank: u8, u: &[i8], v: &[i8], out: &mut [i8]
     if out.len() < m {
         return Answer::Refused(14);
     }
-    let n = rank as usize;
-    product_into(kind, n, u, v, &mut out[..m]);
+    product_into(kind, rank, u, v, out);
     Answer::Length(m)
 }
 
-// The inverse of a window, written to the front of `out`.
+// Writes the inverse of a window to the front of `out` and answers its length. Refuses with 5 or 6, then 9 to 11, then 14 where `out` is shorter
+// than the inverse; `out` is then left as it was.
 pub fn inverse_of_window(kind: u8, rank: u8, w: &[i8], out: &mut [i8]) -> Answer
-    ensures { λ r. ⌜ (r ≡ inverseOfWindow kind rank (now (w .entry)) (now (out .entry)) .answer)
-        × (now (out .exit) ≡ inverseOfWindow kind rank (now (w .entry)) (now (out .entry)) .bytes) ⌝ }
+    ensures { λ r. ⌜ Yields (inverseOfWindow kind rank (now (w .entry)) (now (out .entry))) r (now (out .exit)) ⌝ }
 {
     let refusal = ranked_window_refusal(kind, rank, w);
     if refusal != 0 {
@@ -87,68 +90,63 @@ pub fn inverse_of_window(kind: u8, rank: u8, w: &[i8], out: &mut [i8]) -> Answer
     if out.len() < m {
         return Answer::Refused(14);
     }
-    let n = rank as usize;
-    inverse_into(kind, n, w, &mut out[..m]);
+    inverse_into(kind, rank, w, out);
     Answer::Length(m)
 }
 
-// The normal form of a window, written to the front of `out`.
+// Writes the normal form of a window to the front of `out` and answers its length. Refuses with 5 or 6, then 9 to 11, then 14 where `out` is
+// shorter than the normal form; `out` is then left as it was.
 pub fn normal_form_of_window(kind: u8, rank: u8, w: &[i8], out: &mut [u8]) -> Answer
-    ensures { λ r. ⌜ (r ≡ normalFormOfWindow kind rank (now (w .entry)) (now (out .entry)) .answer)
-        × (now (out .exit) ≡ normalFormOfWindow kind rank (now (w .entry)) (now (out .entry)) .bytes) ⌝ }
+    ensures { λ r. ⌜ Yields (normalFormOfWindow kind rank (now (w .entry)) (now (out .entry))) r (now (out .exit)) ⌝ }
 {
     let refusal = ranked_window_refusal(kind, rank, w);
     if refusal != 0 {
         return Answer::Refused(refusal);
     }
-    let m = w.len();
     let mut work = copied(w);
-    write_checked(kind, rank, &mut work[..m], out)
+    write_checked(kind, rank, &mut work, out)
 }
 
-// The normal form of a word, written to the front of `out`.
+// Writes the normal form of a word to the front of `out` and answers its length. Refuses with 5 or 6, then 7 or 8, then 14 where `out` is
+// shorter than the normal form; `out` is then left as it was.
 pub fn normal_form_of_word(kind: u8, rank: u8, word: &[u8], out: &mut [u8]) -> Answer
-    ensures { λ r. ⌜ (r ≡ normalFormOfWord kind rank (now (word .entry)) (now (out .entry)) .answer)
-        × (now (out .exit) ≡ normalFormOfWord kind rank (now (word .entry)) (now (out .entry)) .bytes) ⌝ }
+    ensures { λ r. ⌜ Yields (normalFormOfWord kind rank (now (word .entry)) (now (out .entry))) r (now (out .exit)) ⌝ }
 {
     let refusal = preset_refusal(kind, rank, word);
     if refusal != 0 {
         return Answer::Refused(refusal);
     }
-    let m = lanes(kind, rank);
     let mut work = shown(kind, rank, word);
-    write_checked(kind, rank, &mut work[..m], out)
+    write_checked(kind, rank, &mut work, out)
 }
 
-// The product of two words of one kind and rank as a normal form, written to the front of `out`.
+// Writes the normal form of the product of two words of one kind and rank to the front of `out` and answers its length. Refuses with 5 or 6, then
+// 7 or 8 for u, then 7 or 8 for v, then 14 where `out` is shorter than the normal form; `out` is then left as it was.
 pub fn product_of_words(kind: u8, rank: u8, u: &[u8], v: &[u8], out: &mut [u8]) -> Answer
-    ensures { λ r. ⌜ (r ≡ productOfWords kind rank (now (u .entry)) (now (v .entry)) (now (out .entry)) .answer)
-        × (now (out .exit) ≡ productOfWords kind rank (now (u .entry)) (now (v .entry)) (now (out .entry)) .bytes) ⌝ }
+    ensures { λ r. ⌜ Yields (productOfWords kind rank (now (u .entry)) (now (v .entry)) (now (out .entry))) r (now (out .exit)) ⌝ }
 {
     let refusal = ranked_words_refusal(kind, rank, u, v);
     if refusal != 0 {
         return Answer::Refused(refusal);
     }
-    let m = lanes(kind, rank);
     let mut work = product_shown(kind, rank, u, v);
-    write_checked(kind, rank, &mut work[..m], out)
+    write_checked(kind, rank, &mut work, out)
 }
 
-// The inverse of a word as a normal form, written to the front of `out`.
+// Writes the normal form of the inverse of a word to the front of `out` and answers its length. Refuses with 5 or 6, then 7 or 8, then 14 where
+// `out` is shorter than the normal form; `out` is then left as it was.
 pub fn inverse_of_word(kind: u8, rank: u8, word: &[u8], out: &mut [u8]) -> Answer
-    ensures { λ r. ⌜ (r ≡ inverseOfWord kind rank (now (word .entry)) (now (out .entry)) .answer)
-        × (now (out .exit) ≡ inverseOfWord kind rank (now (word .entry)) (now (out .entry)) .bytes) ⌝ }
+    ensures { λ r. ⌜ Yields (inverseOfWord kind rank (now (word .entry)) (now (out .entry))) r (now (out .exit)) ⌝ }
 {
     let refusal = preset_refusal(kind, rank, word);
     if refusal != 0 {
         return Answer::Refused(refusal);
     }
-    let m = lanes(kind, rank);
     let mut work = inverse_shown(kind, rank, word);
-    write_checked(kind, rank, &mut work[..m], out)
+    write_checked(kind, rank, &mut work, out)
 }
 
-// The length of a window's normal form.
+// Answers the length of a window's normal form, from the window alone: nothing is written. Refuses with 5 or 6, then 9 to 11.
 pub fn length_of_window(kind: u8, rank: u8, w: &[i8]) -> Answer
     ensures { λ r. ⌜ r ≡ lengthOfWindow kind rank (now (w .entry)) ⌝ }
 {
@@ -160,7 +158,7 @@ pub fn length_of_window(kind: u8, rank: u8, w: &[i8]) -> Answer
     Answer::Length(length_of(kind, n, w))
 }
 
-// The length of a word's normal form.
+// Answers the length of a word's normal form, which is not written anywhere. Refuses with 5 or 6, then 7 or 8.
 pub fn length_of_word(kind: u8, rank: u8, word: &[u8]) -> Answer
     ensures { λ r. ⌜ r ≡ lengthOfWord kind rank (now (word .entry)) ⌝ }
 {
@@ -171,32 +169,23 @@ pub fn length_of_word(kind: u8, rank: u8, word: &[u8]) -> Answer
     Answer::Length(length_of_shown(kind, rank, word))
 }
 
-// Whether two presets show the same: the first's checks come before the second's, and presets of different kind or rank are not equal.
+// Answers whether two presets show the same. Refuses with 5 or 6, then 7 or 8 for the first preset, and then the same for the second. Accepted
+// presets of different kinds or ranks are not equal.
 pub fn presets_equal(kind_a: u8, rank_a: u8, a: &[u8], kind_b: u8, rank_b: u8, b: &[u8]) -> Verdict
     ensures { λ r. ⌜ r ≡ presetsEqual «kind_a» «rank_a» (now (a .entry)) «kind_b» «rank_b» (now (b .entry)) ⌝ }
 {
-    let first = preset_refusal(kind_a, rank_a, a);
-    if first != 0 {
-        return Verdict::Refused(first);
+    let refusal = presets_refusal(kind_a, rank_a, a, kind_b, rank_b, b);
+    if refusal != 0 {
+        return Verdict::Refused(refusal);
     }
-    let second = preset_refusal(kind_b, rank_b, b);
-    if second != 0 {
-        return Verdict::Refused(second);
-    }
-    if kind_a != kind_b {
-        return Verdict::No;
-    }
-    if rank_a != rank_b {
-        return Verdict::No;
-    }
-    if equal_words(kind_a, rank_a, a, b) {
+    if same_presets(kind_a, rank_a, a, kind_b, rank_b, b) {
         return Verdict::Yes;
     }
     Verdict::No
 }
 
-// Which of two words of one kind and rank is the better one: the shorter, at equal lengths the one earlier in the dictionary, at equal words
-// the first. Neither where the windows differ or a check refuses.
+// Answers which of two words of one kind and rank is the better one: the shorter, at equal lengths the one earlier in the dictionary, and of
+// equal words the first. The answer is neither where the windows differ or a check refuses; `presets_equal` gives the refusal's number.
 pub fn which_better(kind: u8, rank: u8, u: &[u8], v: &[u8]) -> Choice
     ensures { λ r. ⌜ r ≡ choice (handsBack kind rank (now (u .entry)) (now (v .entry))) (shortlex (now (v .entry)) (now (u .entry))) ⌝ }
 {
@@ -213,9 +202,11 @@ pub fn which_better(kind: u8, rank: u8, u: &[u8], v: &[u8]) -> Choice
     Choice::Neither
 }
 
-// The better of two words, as the lent slice itself; where it is neither, the empty part at the start of the first.
+// Hands back the better of two words, as `which_better` chooses it: the lent slice itself, whole, and where it chooses neither the empty part at
+// the start of the first word. Nothing is copied.
 pub fn better_word<'a>(kind: u8, rank: u8, u: &'a [u8], v: &'a [u8]) -> &'a [u8]
-    ensures { λ r. ⌜ Better (handsBack kind rank (now (u .entry)) (now (v .entry))) (shortlex (now (v .entry)) (now (u .entry))) (u .entry) (v .entry) r ⌝ }
+    ensures { λ r. ⌜ Better (handsBack kind rank (now (u .entry)) (now (v .entry))) (shortlex (now (v .entry)) (now (u .entry)))
+        (u .entry) (v .entry) r ⌝ }
 {
     match which_better(kind, rank, u, v) {
         Choice::First => u,

@@ -9,9 +9,10 @@ ghost use Prim.Native.Nat.{ℕ, _+_, _-_, _*_, _<_, _≤_};
 ghost use lib.IntN.{natAbs, pos, negsuc};
 ghost use lib.ListN.{length, take, drop, getD};
 ghost use lib.Seq.{sets};
-ghost use Rattle.coxeter.specs.Kinds.{kindOf, least};
+ghost use Rattle.coxeter.specs.Kinds.{pick, kindOf, least, lanes};
 ghost use Rattle.coxeter.specs.Windows.{placeFrom};
-ghost use Rattle.coxeter.specs.Checks.{hasSize, windowRefusal};
+ghost use Rattle.coxeter.specs.Checks.{hasSize, rankRefusal, windowRefusal};
+ghost use Rattle.coxeter.specs.Calls.{written};
 ghost use Rattle.coxeter.specs.NormalForm.{rise, fall, block, levels, without, indexOf, restOf, normalFrom, normalForm};
 
 // The letters from a up to b, written from the place `at` on; the answer is the place after them.
@@ -44,33 +45,53 @@ fn write_down(out: &mut [u8], at: usize, b: usize, a: usize) -> usize
     r
 }
 
-// The letters from i up to top and then those from b down to a, written from the place `at` on; the answer is the place after them.
-fn write_turn(out: &mut [u8], at: usize, i: usize, top: usize, b: usize, a: usize) -> usize
-    requires { ⌜ (top < 256) × (b < 256) × (at + length (rise i top ++ fall b a) ≤ length (now out)) ⌝ }
-    ensures { λ r. ⌜ (r ≡ at + length (rise i top ++ fall b a))
-        × (now (out .exit) ≡ sets (now (out .entry)) at (rise i top ++ fall b a)) ⌝ }
-{
-    let turn = write_up(out, at, i, top);
-    write_down(out, turn, b, a)
+// Where a block turns: its way up ends with `top`, and its way down starts with `high`.
+struct Turn {
+    top: usize,
+    high: usize,
 }
 
-// The block [i,j], written from the place `at` on; the answer is the place after it. In D the way down starts with n.
+// The turn of the blocks of B and D. In D the way down starts with n.
+fn turn_of(kind: u8, n: usize) -> Turn
+    requires { ⌜ (least (kindOf kind) ≤ n) × (n ≤ 64) × (kind ≡ 1 → ⊥) ⌝ }
+    ensures { λ r. ⌜ (r .top < 256) × (r .high < 256)
+        × ((i j : ℕ) → n ≤ j → block (kindOf kind) n i j ≡ rise i (r .top) ++ fall (r .high) (2 * n - j)) ⌝ }
+{
+    if kind == 2 {
+        return Turn {
+            top: n,
+            high: n - 1,
+        };
+    }
+    Turn {
+        top: n - 2,
+        high: n,
+    }
+}
+
+// A block of B or D that turns: both its ways.
+fn write_turned(kind: u8, n: usize, i: usize, j: usize, out: &mut [u8], at: usize) -> usize
+    requires { ⌜ (least (kindOf kind) ≤ n) × (n ≤ 64) × (kind ≡ 1 → ⊥) × (n ≤ j) × (j ≤ 2 * n) ⌝ }
+    requires { ⌜ at + length (block (kindOf kind) n i j) ≤ length (now out) ⌝ }
+    ensures { λ r. ⌜ (r ≡ at + length (block (kindOf kind) n i j))
+        × (now (out .exit) ≡ sets (now (out .entry)) at (block (kindOf kind) n i j)) ⌝ }
+{
+    let turn = turn_of(kind, n);
+    let next = write_up(out, at, i, turn.top);
+    write_down(out, next, turn.high, 2 * n - j)
+}
+
+// The block [i,j], written from the place `at` on; the answer is the place after it. Before the turn, and in A always, it goes up only.
 fn write_block(kind: u8, n: usize, i: usize, j: usize, out: &mut [u8], at: usize) -> usize
     requires { ⌜ (least (kindOf kind) ≤ n) × (n ≤ 64) × (j ≤ 2 * n) ⌝ }
     requires { ⌜ at + length (block (kindOf kind) n i j) ≤ length (now out) ⌝ }
     ensures { λ r. ⌜ (r ≡ at + length (block (kindOf kind) n i j))
         × (now (out .exit) ≡ sets (now (out .entry)) at (block (kindOf kind) n i j)) ⌝ }
 {
-    if kind == 1 {
+    if kind == 1 || j < n {
         return write_up(out, at, i, j);
     }
-    if j < n {
-        return write_up(out, at, i, j);
-    }
-    if kind == 2 {
-        return write_turn(out, at, i, n, n - 1, 2 * n - j);
-    }
-    write_turn(out, at, i, n - 2, n, 2 * n - j)
+    write_turned(kind, n, i, j, out, at)
 }
 
 // The index of the first entry of size i, which is there.
@@ -102,11 +123,15 @@ fn take_out(w: &mut [i8], p: usize)
     }
 }
 
-// What is left of a window whose entry -i was taken out: in D the last entry, if there is one, changes its sign. No entry is -128.
-fn turn_last(kind: u8, w: &mut [i8])
+// What is left of a window whose entry of size i was taken out: in D, where that was -i, the last entry, if there is one, changes its sign. No
+// entry is -128.
+fn turn_last(kind: u8, minus: bool, w: &mut [i8])
     requires { ⌜ hasSize 128 (now w) ≡ false ⌝ }
-    ensures { λ _. ⌜ now (w .exit) ≡ restOf (kindOf kind) (negsuc 0) (now (w .entry)) ⌝ }
+    ensures { λ _. ⌜ now (w .exit) ≡ pick minus (restOf (kindOf kind) (negsuc 0) (now (w .entry))) (now (w .entry)) ⌝ }
 {
+    if !minus {
+        return;
+    }
     if kind == 1 {
         return;
     }
@@ -119,6 +144,17 @@ fn turn_last(kind: u8, w: &mut [i8])
     }
 }
 
+// The j of a level whose entry stands at position p.
+fn index(n: usize, p: usize, minus: bool) -> usize
+    requires { ⌜ (1 ≤ p) × (p ≤ 2 * n) × (n ≤ 64) ⌝ }
+    ensures { λ r. ⌜ r ≡ pick minus (2 * n - p) (p - 1) ⌝ }
+{
+    if minus {
+        return 2 * n - p;
+    }
+    p - 1
+}
+
 // The entry of size i is taken out of w, which holds the entries at positions i, i + 1, .. The answer is the j of its block; the rest starts at w[1].
 fn peel(kind: u8, n: usize, i: usize, w: &mut [i8]) -> usize
     requires { ⌜ (1 ≤ i) × (i + length (now w) ≤ 2 * n + 1) × (n ≤ 64) ⌝ }
@@ -129,11 +165,8 @@ fn peel(kind: u8, n: usize, i: usize, w: &mut [i8]) -> usize
     let p = place(w, i);
     let minus = is_negative(w[p]);
     take_out(w, p);
-    if minus {
-        turn_last(kind, &mut w[1..]);
-        return 2 * n - (i + p);
-    }
-    i + p - 1
+    turn_last(kind, minus, &mut w[1..]);
+    index(n, i + p, minus)
 }
 
 // The normal form of t levels from i on, written to the front of out; the answer is its length. w holds the entries at positions i, i + 1, ..,
@@ -167,13 +200,17 @@ fn levels_of(kind: u8, n: usize) -> usize
     n - 1
 }
 
-// The normal form of an accepted window, written to the front of out; the answer is its length. `work` holds the window and is used up.
-pub(crate) fn write_normal_form(kind: u8, n: usize, work: &mut [i8], out: &mut [u8]) -> usize
-    requires { ⌜ (least (kindOf kind) ≤ n) × (n ≤ 64) × (windowRefusal (kindOf kind) n (now work) ≡ 0) ⌝ }
-    requires { ⌜ length (normalForm (kindOf kind) n (now work)) ≤ length (now out) ⌝ }
-    ensures { λ r. ⌜ (r ≡ length (normalForm (kindOf kind) n (now (work .entry))))
-        × (now (out .exit) ≡ normalForm (kindOf kind) n (now (work .entry)) ++ drop r (now (out .entry))) ⌝ }
+// The normal form of the accepted window at the front of `work`, which is used up, written to the front of `out`; the answer is its length.
+pub(crate) fn write_normal_form(kind: u8, rank: u8, work: &mut [i8], out: &mut [u8]) -> usize
+    requires { ⌜ rankRefusal kind rank ≡ 0 ⌝ }
+    requires { ⌜ lanes (kindOf kind) rank ≤ length (now work) ⌝ }
+    requires { ⌜ windowRefusal (kindOf kind) rank (take (lanes (kindOf kind) rank) (now work)) ≡ 0 ⌝ }
+    requires { ⌜ length (normalForm (kindOf kind) rank (take (lanes (kindOf kind) rank) (now work))) ≤ length (now out) ⌝ }
+    ensures { λ r. ⌜ (r ≡ length (normalForm (kindOf kind) rank (take (lanes (kindOf kind) rank) (now (work .entry)))))
+        × (now (out .exit) ≡ written 0 (normalForm (kindOf kind) rank (take (lanes (kindOf kind) rank) (now (work .entry)))) (now (out .entry))) ⌝ }
 {
+    let n = rank as usize;
+    let m = refusals::lanes(kind, rank);
     let t = levels_of(kind, n);
-    write_from(kind, n, t, 1, work, out)
+    write_from(kind, n, t, 1, &mut work[..m], out)
 }

@@ -1,16 +1,16 @@
 // Products and inverses of accepted windows, and whether two windows are equal.
-use crate::entries::entry;
 use crate::entries::negated;
+use crate::entries::with_sign;
 use refusals::is_negative;
 use refusals::size;
 ghost use mathlib.Core.Path.{_≡_};
 ghost use Prim.Native.Nat.{_≤_, _<_};
 ghost use lib.IntN.{natAbs};
-ghost use lib.ListN.{length};
+ghost use lib.ListN.{length, take};
 ghost use Rattle.coxeter.specs.Kinds.{kindOf};
 ghost use Rattle.coxeter.specs.Windows.{at, product, inverse};
-ghost use Rattle.coxeter.specs.Checks.{windowRefusal};
-ghost use Rattle.coxeter.specs.Calls.{sameWindow};
+ghost use Rattle.coxeter.specs.Checks.{rankRefusal, windowRefusal};
+ghost use Rattle.coxeter.specs.Calls.{written, sameWindow};
 
 // u(e).
 fn image(u: &[i8], e: i8) -> i8
@@ -28,56 +28,47 @@ fn image(u: &[i8], e: i8) -> i8
     x
 }
 
-// The product of two accepted windows of one kind and rank.
-pub(crate) fn product_into(kind: u8, n: usize, u: &[i8], v: &[i8], out: &mut [i8])
-    requires { ⌜ n ≤ 64 ⌝ }
-    requires { ⌜ windowRefusal (kindOf kind) n (now u) ≡ 0 ⌝ }
-    requires { ⌜ windowRefusal (kindOf kind) n (now v) ≡ 0 ⌝ }
-    requires { ⌜ length (now out) ≡ length (now u) ⌝ }
-    ensures { λ _. ⌜ now (out .exit) ≡ product (now (u .entry)) (now (v .entry)) ⌝ }
+// The product of two accepted windows of one kind and rank, written to the front of `out`.
+pub(crate) fn product_into(kind: u8, rank: u8, u: &[i8], v: &[i8], out: &mut [i8])
+    requires { ⌜ rankRefusal kind rank ≡ 0 ⌝ }
+    requires { ⌜ windowRefusal (kindOf kind) rank (now u) ≡ 0 ⌝ }
+    requires { ⌜ windowRefusal (kindOf kind) rank (now v) ≡ 0 ⌝ }
+    requires { ⌜ length (now v) ≤ length (now out) ⌝ }
+    ensures { λ _. ⌜ now (out .exit) ≡ written 0 (product (now (u .entry)) (now (v .entry))) (now (out .entry)) ⌝ }
 {
     let mut i = 0;
     while i < v.len() {
-        let e = v[i];
-        let x = image(u, e);
-        out[i] = x;
+        out[i] = image(u, v[i]);
         i += 1;
     }
 }
 
-// The inverse of an accepted window in one pass: each entry's position is stored at the entry's size, with the entry's sign.
-pub(crate) fn inverse_into(kind: u8, n: usize, w: &[i8], out: &mut [i8])
-    requires { ⌜ n ≤ 64 ⌝ }
-    requires { ⌜ windowRefusal (kindOf kind) n (now w) ≡ 0 ⌝ }
-    requires { ⌜ length (now out) ≡ length (now w) ⌝ }
-    ensures { λ _. ⌜ now (out .exit) ≡ inverse (now (w .entry)) ⌝ }
+// The inverse of an accepted window in one pass, to the front of `out`: each entry's position is stored at the entry's size, with its sign.
+pub(crate) fn inverse_into(kind: u8, rank: u8, w: &[i8], out: &mut [i8])
+    requires { ⌜ rankRefusal kind rank ≡ 0 ⌝ }
+    requires { ⌜ windowRefusal (kindOf kind) rank (now w) ≡ 0 ⌝ }
+    requires { ⌜ length (now w) ≤ length (now out) ⌝ }
+    ensures { λ _. ⌜ now (out .exit) ≡ written 0 (inverse (now (w .entry))) (now (out .entry)) ⌝ }
 {
     let mut i = 0;
     while i < w.len() {
         let e = w[i];
-        let s = size(e);
-        let minus = is_negative(e);
-        let p = (s as usize) - 1;
-        let next = i + 1;
-        let place = entry(next as u8, minus);
-        out[p] = place;
-        i = next;
+        let p = (size(e) as usize) - 1;
+        i += 1;
+        out[p] = with_sign(e, i);
     }
 }
 
-// Whether two windows are equal. Every entry is looked at, without a way out of the loop, so that many are compared at a time.
-pub(crate) fn same_entries(a: &[i8], b: &[i8]) -> bool
-    ensures { λ r. ⌜ r ≡ sameWindow (now (a .entry)) (now (b .entry)) ⌝ }
+// Whether the windows of m entries at the fronts of two work windows are equal. Every entry is looked at, without a way out of the loop, so that
+// many are compared at a time.
+pub(crate) fn same_fronts(m: usize, a: &[i8], b: &[i8]) -> bool
+    requires { ⌜ (m ≤ length (now a)) × (m ≤ length (now b)) ⌝ }
+    ensures { λ r. ⌜ r ≡ sameWindow (take m (now (a .entry))) (take m (now (b .entry))) ⌝ }
 {
-    if a.len() != b.len() {
-        return false;
-    }
     let mut same = true;
     let mut i = 0;
-    while i < a.len() {
-        let x = a[i];
-        let y = b[i];
-        if x != y {
+    while i < m {
+        if a[i] != b[i] {
             same = false;
         }
         i += 1;

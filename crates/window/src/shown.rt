@@ -1,9 +1,9 @@
-// What words show, in a work window of this module's own.
+// What words show, written to the front of an output or of a work window of this module's own.
 use crate::action::apply;
 use crate::action::show;
-use crate::length::length_of;
+use crate::length::length_of_front;
 use crate::product::inverse_into;
-use crate::product::same_entries;
+use crate::product::same_fronts;
 use refusals::lanes;
 ghost use mathlib.Core.Path.{_≡_};
 ghost use Prim.Native.Nat.{_≤_};
@@ -13,7 +13,7 @@ ghost use Rattle.coxeter.specs.Kinds.{kindOf};
 ghost use Rattle.coxeter.specs.Windows.{window, product, inverse};
 ghost use Rattle.coxeter.specs.Length.{windowLength};
 ghost use Rattle.coxeter.specs.Checks.{rankRefusal, wordRefusal};
-ghost use Rattle.coxeter.specs.Calls.{equalWords};
+ghost use Rattle.coxeter.specs.Calls.{written, equalWords, samePresets};
 
 // A window with room for every lane count.
 fn blank() -> [i8; 64]
@@ -22,16 +22,27 @@ fn blank() -> [i8; 64]
     [0i8; 64]
 }
 
+// The window of an accepted word, written to the front of `out`.
+pub(crate) fn show_front(kind: u8, rank: u8, word: &[u8], out: &mut [i8])
+    requires { ⌜ rankRefusal kind rank ≡ 0 ⌝ }
+    requires { ⌜ wordRefusal rank (now word) ≡ 0 ⌝ }
+    requires { ⌜ kinds.lanes (kindOf kind) rank ≤ length (now out) ⌝ }
+    ensures { λ _. ⌜ now (out .exit) ≡ written 0 (window (kindOf kind) rank (now (word .entry))) (now (out .entry)) ⌝ }
+{
+    let n = rank as usize;
+    let m = lanes(kind, rank);
+    show(kind, n, word, &mut out[..m]);
+}
+
 // The window of an accepted word, at the front of a work window.
 pub(crate) fn shown(kind: u8, rank: u8, word: &[u8]) -> [i8; 64]
     requires { ⌜ rankRefusal kind rank ≡ 0 ⌝ }
     requires { ⌜ wordRefusal rank (now word) ≡ 0 ⌝ }
-    ensures { λ r. ⌜ (length r ≡ 64) × (take (kinds.lanes (kindOf kind) rank) r ≡ window (kindOf kind) rank (now (word .entry))) ⌝ }
+    ensures { λ r. ⌜ (length r ≡ 64)
+        × (take (kinds.lanes (kindOf kind) rank) r ≡ window (kindOf kind) rank (now (word .entry))) ⌝ }
 {
-    let n = rank as usize;
-    let m = lanes(kind, rank);
     let mut work = blank();
-    show(kind, n, word, &mut work[..m]);
+    show_front(kind, rank, word, &mut work);
     work
 }
 
@@ -41,7 +52,8 @@ pub(crate) fn product_shown(kind: u8, rank: u8, u: &[u8], v: &[u8]) -> [i8; 64]
     requires { ⌜ wordRefusal rank (now u) ≡ 0 ⌝ }
     requires { ⌜ wordRefusal rank (now v) ≡ 0 ⌝ }
     ensures { λ r. ⌜ (length r ≡ 64)
-        × (take (kinds.lanes (kindOf kind) rank) r ≡ product (window (kindOf kind) rank (now (u .entry))) (window (kindOf kind) rank (now (v .entry)))) ⌝ }
+        × (take (kinds.lanes (kindOf kind) rank) r
+        ≡ product (window (kindOf kind) rank (now (u .entry))) (window (kindOf kind) rank (now (v .entry)))) ⌝ }
 {
     let n = rank as usize;
     let m = lanes(kind, rank);
@@ -54,13 +66,13 @@ pub(crate) fn product_shown(kind: u8, rank: u8, u: &[u8], v: &[u8]) -> [i8; 64]
 pub(crate) fn inverse_shown(kind: u8, rank: u8, word: &[u8]) -> [i8; 64]
     requires { ⌜ rankRefusal kind rank ≡ 0 ⌝ }
     requires { ⌜ wordRefusal rank (now word) ≡ 0 ⌝ }
-    ensures { λ r. ⌜ (length r ≡ 64) × (take (kinds.lanes (kindOf kind) rank) r ≡ inverse (window (kindOf kind) rank (now (word .entry)))) ⌝ }
+    ensures { λ r. ⌜ (length r ≡ 64)
+        × (take (kinds.lanes (kindOf kind) rank) r ≡ inverse (window (kindOf kind) rank (now (word .entry)))) ⌝ }
 {
-    let n = rank as usize;
     let m = lanes(kind, rank);
     let work = shown(kind, rank, word);
     let mut out = blank();
-    inverse_into(kind, n, &work[..m], &mut out[..m]);
+    inverse_into(kind, rank, &work[..m], &mut out);
     out
 }
 
@@ -84,11 +96,9 @@ pub(crate) fn length_of_shown(kind: u8, rank: u8, word: &[u8]) -> usize
     requires { ⌜ wordRefusal rank (now word) ≡ 0 ⌝ }
     ensures { λ r. ⌜ r ≡ windowLength (kindOf kind) (window (kindOf kind) rank (now (word .entry))) ⌝ }
 {
-    let n = rank as usize;
-    let m = lanes(kind, rank);
     let mut work = blank();
-    show(kind, n, word, &mut work[..m]);
-    length_of(kind, n, &work[..m])
+    show_front(kind, rank, word, &mut work);
+    length_of_front(kind, rank, &work)
 }
 
 // Whether two accepted words of one kind and rank have one window.
@@ -98,11 +108,33 @@ pub(crate) fn equal_words(kind: u8, rank: u8, u: &[u8], v: &[u8]) -> bool
     requires { ⌜ wordRefusal rank (now v) ≡ 0 ⌝ }
     ensures { λ r. ⌜ r ≡ equalWords (kindOf kind) rank (now (u .entry)) (now (v .entry)) ⌝ }
 {
-    let n = rank as usize;
     let m = lanes(kind, rank);
     let mut first = blank();
-    show(kind, n, u, &mut first[..m]);
+    show_front(kind, rank, u, &mut first);
     let mut second = blank();
-    show(kind, n, v, &mut second[..m]);
-    same_entries(&first[..m], &second[..m])
+    show_front(kind, rank, v, &mut second);
+    same_fronts(m, &first, &second)
+}
+
+// Whether two accepted presets show the same: not where their kinds or ranks differ.
+pub(crate) fn same_presets(
+    kind_a: u8,
+    rank_a: u8,
+    a: &[u8],
+    kind_b: u8,
+    rank_b: u8,
+    b: &[u8],
+) -> bool
+    requires { ⌜ rankRefusal «kind_a» «rank_a» ≡ 0 ⌝ }
+    requires { ⌜ wordRefusal «rank_a» (now a) ≡ 0 ⌝ }
+    requires { ⌜ wordRefusal «rank_b» (now b) ≡ 0 ⌝ }
+    ensures { λ r. ⌜ r ≡ samePresets «kind_a» «rank_a» (now (a .entry)) «kind_b» «rank_b» (now (b .entry)) ⌝ }
+{
+    if kind_a != kind_b {
+        return false;
+    }
+    if rank_a != rank_b {
+        return false;
+    }
+    equal_words(kind_a, rank_a, a, b)
 }

@@ -45,7 +45,8 @@ pub whole-passed : (k : Kind) (m : ℕ) (w : List ℤ) (marks : List Bool) (j : 
 whole-passed k m w marks j h z = subst (λ (x : ℕ). wrongEntry k m (drop x w) ≡ false) z (h .right)
 
 -- one entry further to the front: the entry at j - 1, of size s
-module _ (k : Kind) (m : ℕ) (w : List ℤ) (marks : List Bool) (j s : ℕ) (h : Passed k m w marks j) (l : 0 < j) (q : s ≡ natAbs (getD w (j - 1) (pos 0))) where
+module _ (k : Kind) (m : ℕ) (w : List ℤ) (marks : List Bool) (j s : ℕ) (h : Passed k m w marks j) (l : 0 < j)
+    (q : s ≡ natAbs (getD w (j - 1) (pos 0))) where
   abbrev e : ℤ
   e = getD w (j - 1) (pos 0)
 

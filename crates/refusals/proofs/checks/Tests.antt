@@ -1,6 +1,6 @@
 -- The checks' definitions, one element at a time and one case at a time, in the form in which the code meets them.
 --
--- Sections: kinds and ranks; letters; entries; signs; windows.
+-- Sections: kinds and ranks; letters; entries; signs; windows; two after one another.
 -- Assumes nothing.
 use mathlib.Core.Path.{_≡_, refl, sym, _∙_}
 use mathlib.Core.Bool.{Bool, true, false, not, _||_, or-false, Bool·not-not}
@@ -16,8 +16,10 @@ use lib.ListN.{length, getD, drop, drop-of-length-le}
 use borrow.Author.Tests.{eq-eqb, ne-eqb, lt-ltb, le-ltb}
 use Rattle.coxeter.specs.Kinds.{Kind, pick, lanes}
 use Rattle.coxeter.specs.Length.{negative, negatives, one}
-use Rattle.coxeter.specs.Checks.{wrongKind, wrongLetter, wrongAt, wrongEntry, hasSize, negativeInA, odd, oddNegatives, wrongLanes, windowRefusal}
+use Rattle.coxeter.specs.Checks.{_then_, wrongKind, wrongLetter, wrongAt, wrongEntry, hasSize, negativeInA, odd}
+use Rattle.coxeter.specs.Checks.{oddNegatives, wrongLanes, windowRefusal}
 use Rattle.coxeter.proofs.Lists.{drop-next}
+use Rattle.coxeter.proofs.Refusals.{then-refused, then-next, then-assoc}
 
 -- ---- kinds and ranks
 
@@ -68,7 +70,8 @@ pub wrongAt-repeats : (k : Kind) (m s : ℕ) (e : ℤ) (w : List ℤ) → s ≡ 
 unfolding wrongAt
 wrongAt-repeats k m s e w q f h t = rw (← q, ne-eqb s 0 f, le-ltb m s h, t)
 
-pub wrongAt-else : (k : Kind) (m s : ℕ) (e : ℤ) (w : List ℤ) → s ≡ natAbs e → (s ≡ 0 → ⊥) → s ≤ m → hasSize s w ≡ false → wrongAt k m e w ≡ negativeInA k e
+pub wrongAt-else : (k : Kind) (m s : ℕ) (e : ℤ) (w : List ℤ) → s ≡ natAbs e → (s ≡ 0 → ⊥) → s ≤ m → hasSize s w ≡ false
+    → wrongAt k m e w ≡ negativeInA k e
 unfolding wrongAt
 wrongAt-else k m s e w q f h t = rw (← q, ne-eqb s 0 f, le-ltb m s h, t)
 
@@ -99,7 +102,8 @@ flipped-odd true [] = refl
 flipped-odd false [] = refl
 flipped-odd t (e ∷ w) = step (λ b. flipped-odd b w) t (negative e)
   where
-    step : ((b : Bool) → flipped b w ≡ pick b (not (odd (negatives w))) (odd (negatives w))) → (t s : Bool) → flipped (pick s (not t) t) w ≡ pick t (not (odd (pick s 1 0 + negatives w))) (odd (pick s 1 0 + negatives w))
+    step : ((b : Bool) → flipped b w ≡ pick b (not (odd (negatives w))) (odd (negatives w))) → (t s : Bool)
+        → flipped (pick s (not t) t) w ≡ pick t (not (odd (pick s 1 0 + negatives w))) (odd (pick s 1 0 + negatives w))
     step ih true true = ih false ∙ rw (one-add (negatives w)) (sym (Bool·not-not (odd (negatives w))))
     step ih true false = ih true ∙ rw (zero-add (negatives w))
     step ih false true = ih true ∙ rw (one-add (negatives w))
@@ -110,19 +114,31 @@ flipped-false w = flipped-odd false w
 
 -- ---- windows
 
--- checks 9 to 11 of a window of m lanes, in the order of the code
-pub windowRefusal-lanes : (k : Kind) (n m : ℕ) (w : List ℤ) → m ≡ lanes k n → (length w ≡ m → ⊥) → windowRefusal k n w ≡ 9
-unfolding windowRefusal wrongLanes
-windowRefusal-lanes k n m w q f = rw (← q, ne-eqb (length w) m f)
+-- checks 9 to 11 of a window of m lanes, in the order of the code: t and o are what the tests of its entries and of its signs gave
+module _ (k : Kind) (n m : ℕ) (w : List ℤ) where
+  pub windowRefusal-lanes : m ≡ lanes k n → (length w ≡ m → ⊥) → 9 ≡ windowRefusal k n w
+  unfolding windowRefusal wrongLanes
+  windowRefusal-lanes q f = rw (← q, ne-eqb (length w) m f)
 
-pub windowRefusal-entry : (k : Kind) (n m : ℕ) (w : List ℤ) → m ≡ lanes k n → length w ≡ m → wrongEntry k m w ≡ true → windowRefusal k n w ≡ 10
-unfolding windowRefusal wrongLanes
-windowRefusal-entry k n m w q l e = rw (← q, eq-eqb (length w) m l, e)
+  pub windowRefusal-entry : (t : Bool) → m ≡ lanes k n → length w ≡ m → t ≡ wrongEntry k m w → t ≡ true → 10 ≡ windowRefusal k n w
+  unfolding windowRefusal wrongLanes
+  windowRefusal-entry t q l e h = rw (← q, eq-eqb (length w) m l, ← e, h)
 
-pub windowRefusal-odd : (k : Kind) (n m : ℕ) (w : List ℤ) → m ≡ lanes k n → length w ≡ m → wrongEntry k m w ≡ false → oddNegatives k w ≡ true → windowRefusal k n w ≡ 11
-unfolding windowRefusal wrongLanes
-windowRefusal-odd k n m w q l e o = rw (← q, eq-eqb (length w) m l, e, o)
+  pub windowRefusal-odd : (t o : Bool) → m ≡ lanes k n → length w ≡ m → t ≡ wrongEntry k m w → t ≡ false → o ≡ oddNegatives k w → o ≡ true
+      → 11 ≡ windowRefusal k n w
+  unfolding windowRefusal wrongLanes
+  windowRefusal-odd t o q l e h f g = rw (← q, eq-eqb (length w) m l, ← e, h, ← f, g)
 
-pub windowRefusal-none : (k : Kind) (n m : ℕ) (w : List ℤ) → m ≡ lanes k n → length w ≡ m → wrongEntry k m w ≡ false → oddNegatives k w ≡ false → windowRefusal k n w ≡ 0
-unfolding windowRefusal wrongLanes
-windowRefusal-none k n m w q l e o = rw (← q, eq-eqb (length w) m l, e, o)
+  pub windowRefusal-none : (t o : Bool) → m ≡ lanes k n → length w ≡ m → t ≡ wrongEntry k m w → t ≡ false → o ≡ oddNegatives k w → o ≡ false
+      → 0 ≡ windowRefusal k n w
+  unfolding windowRefusal wrongLanes
+  windowRefusal-none t o q l e h f g = rw (← q, eq-eqb (length w) m l, ← e, h, ← f, g)
+
+-- ---- two after one another
+
+-- p and q were made together, and gave r
+pub pair-refused : (p q s r : ℕ) → r ≡ (p then q) → (r ≡ 0 → ⊥) → r ≡ (p then (q then s))
+pair-refused p q s r e f = then-refused (p then q) r s e f ∙ then-assoc p q s
+
+pub pair-next : (p q s r t : ℕ) → r ≡ (p then q) → r ≡ 0 → t ≡ s → t ≡ (p then (q then s))
+pair-next p q s r t e z h = then-next (p then q) r s t e z h ∙ then-assoc p q s

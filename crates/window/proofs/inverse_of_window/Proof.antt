@@ -1,10 +1,10 @@
 -- `inverse_of_window` refuses in document 01's order, or writes the inverse to the front of its output.
 -- Assumes nothing.
-use mathlib.Core.Path.{sym}
-use lib.Seq.{length-take-le}
+use mathlib.Core.Path.{refl}
+use Rattle.coxeter.proofs.Acceptance.{two-accepted}
 use Rattle.coxeter.proofs.Inverses.{length-inverse}
-use Rattle.coxeter.proofs.Acceptance.{window-passed}
-use Rattle.coxeter.proofs.Outcomes.{writes-refused, writes-short, writes-done, inverseOfWindow-is}
+use Rattle.coxeter.proofs.Outcomes.{writes-refused, writes-short, writes-written}
+use Rattle.coxeter.specs.Calls.{inverseOfWindow}
 use borrow.Author.Needs.{needs}
 use Rattle.window.proofs.inverse_of_window.Statement.{statement}
 use Rattle.window.proofs.inverse_of_window.Tie as tie
@@ -13,27 +13,33 @@ ranked-window-refusal-requires : tie.Need-ranked-window-refusal-requires
 ranked-window-refusal-requires c κs = search needs
 
 returns : tie.Need-returns
-returns c = writes-refused _ _ _ _ _ (inverseOfWindow-is _ _ _ _) (c .before .ranked-window-refusal .ensures) (c .if1 .taken)
+unfolding inverseOfWindow
+returns c = writes-refused _ _ _ _ _ refl (c .before .ranked-window-refusal .ensures) (c .if1 .taken)
 
 returns-2 : tie.Need-returns-2
-returns-2 c = writes-short _ _ _ _ _ (inverseOfWindow-is _ _ _ _) (c .before .before .ranked-window-refusal .ensures) _ (c .before .if1 .left) (length-inverse _) (c .if2 .taken)
-
-slice-relend-prefix-inverse-into : tie.Need-slice-relend-prefix-inverse-into
-slice-relend-prefix-inverse-into c = search needs
-
-slice-aggregate-inverse-into : tie.Need-slice-aggregate-inverse-into
-slice-aggregate-inverse-into c = sym (length-take-le _ _ (c .before .if2 .left))
+unfolding inverseOfWindow
+returns-2 c =
+    let passed = c .before in
+    writes-short _ _ _ _ _ refl (passed .before .ranked-window-refusal .ensures) _ (passed .if1 .left) (length-inverse _) (c .if2 .taken)
 
 inverse-into-requires : tie.Need-inverse-into-requires
 inverse-into-requires c κs =
-    let a = window-passed _ _ _ _ (c .before .before .before .ranked-window-refusal .ensures) (c .before .before .if1 .left) in
-    (a .0, (a .1, length-take-le _ _ (c .before .if2 .left)))
+    let fits = c .before in
+    let passed = fits .before in
+    let a = two-accepted _ _ _ (passed .before .ranked-window-refusal .ensures) (passed .if1 .left) in
+    (a .0, (a .1, fits .if2 .left))
 
 same-length : tie.Need-same-length
 same-length c = search needs
 
 returns-3 : tie.Need-returns-3
-returns-3 c = writes-done _ _ _ _ _ (inverseOfWindow-is _ _ _ _) (c .before .before .before .before .before .ranked-window-refusal .ensures) _ _ (c .before .before .before .before .if1 .left) (length-inverse _) (c .before .before .before .if2 .left) (c .before .inverse-into .ensures)
+unfolding inverseOfWindow
+returns-3 c =
+    let called = c .before in
+    let fits = called .before .before in
+    let passed = fits .before in
+    writes-written _ _ _ _ _ refl (passed .before .ranked-window-refusal .ensures) _ _ (passed .if1 .left) (length-inverse _) (fits .if2 .left)
+    (called .inverse-into .ensures)
 
 pub inverse-of-window-spec : {M : Type 1} → statement M
 inverse-of-window-spec =
@@ -42,8 +48,6 @@ inverse-of-window-spec =
     ranked-window-refusal-requires
     returns
     returns-2
-    slice-relend-prefix-inverse-into
-    slice-aggregate-inverse-into
     inverse-into-requires
     same-length
     returns-3)

@@ -4,68 +4,49 @@
 -- Assumes nothing.
 use mathlib.Core.Path.{_≡_, refl, sym, ap, _∙_}
 use mathlib.Core.Bool.{Bool, true, false}
-use mathlib.Core.List.{List, [], _∷_, _++_, map}
+use mathlib.Core.List.{List, [], _∷_, map}
 use Prim.Native.Nat.{ℕ, zero, suc, _+_, _-_, _*_, _≤_, _<_}
 use native.Mathlib.Nat.{add-zero, mul-le-mul}
 use native.Mathlib.Decide.{ℕ-discrete}
 use native.Mathlib.Omega.{arith}
 use lib.Dec.{ltb}
 use lib.IntN.{ℤ, pos, negℤ, natAbs}
-use lib.ListN.{length, length-drop, length-map, getD, set, take, drop, drop-of-length-le, List·getD-map}
-use lib.Seq.{take-all, take-add, getD-take}
+use lib.ListN.{length, length-map, getD, set, take, drop, drop-of-length-le, List·getD-map}
+use lib.Seq.{take-all}
 use Rattle.coxeter.specs.Kinds.{Kind, A, B, D, pick, kindOf, lanes}
 use Rattle.coxeter.specs.Length.{later, negative, one, laterThan, inversions, negativeSumPairs, negatives, windowLength}
 use Rattle.coxeter.specs.Checks.{windowRefusal}
 use Rattle.coxeter.proofs.KindLaws.{lanes-le-add-one, kindOf-one, kindOf-two, kindOf-three}
-use Rattle.coxeter.proofs.Lists.{written-next, front-stored, drop-next}
+use Rattle.coxeter.proofs.Lists.{written-next, take-rest, drop-next}
 use Rattle.coxeter.proofs.Levels.{Between, Distinct, accepted-of-refusal, refusal-of-accepted, hasSize-below}
-use Rattle.coxeter.proofs.PairWeights.{weight, weights, pairWeights, signWeight, laterThan-add, inversions-add-negativeSumPairs, length-by-weights, pairWeights-le}
+use Rattle.coxeter.proofs.PairWeights.{weight, weights, pairWeights, signWeight, pairWeights-le}
+use Rattle.coxeter.proofs.PairWeights.{laterThan-add, inversions-add-negativeSumPairs, length-by-weights}
 
 -- ---- sizes
 
-pub sized-next : (i s : ℕ) (w : List ℤ) (out : List ℕ) → i < length w → i < length out → s ≡ natAbs (getD w i (pos 0)) → take i out ≡ take i (map natAbs w)
-    → take (i + 1) (set out i s) ≡ take (i + 1) (map natAbs w)
+pub sized-next : (i s : ℕ) (w : List ℤ) (out : List ℕ) → i < length w → i < length out → s ≡ natAbs (getD w i (pos 0))
+    → take i out ≡ take i (map natAbs w) → take (i + 1) (set out i s) ≡ take (i + 1) (map natAbs w)
 sized-next i s w out h g e q =
     written-next i s 0 (map natAbs w) out (omega (arith, length-map w natAbs)) g (e ∙ sym (List·getD-map natAbs w i (pos 0))) q
 
-pub sized-end : (i : ℕ) (w : List ℤ) (out : List ℕ) → i ≤ length w → length w ≤ i → length out ≡ length w → take i out ≡ take i (map natAbs w)
-    → out ≡ map natAbs w
-sized-end i w out a b l q = sym (take-all i out (omega arith)) ∙ q ∙ take-all i (map natAbs w) (omega (arith, length-map w natAbs))
-
--- sizes stored at the front of a work array
-pub sizes-stored : (w : List ℤ) (v work : List ℕ) → length work ≡ 64 → length w ≤ 64 → v ≡ map natAbs w
-    → (length (v ++ drop (length w) work) ≡ 64) × (take (length w) (v ++ drop (length w) work) ≡ map natAbs w)
-sizes-stored w v work l h e =
-    let c = front-stored (length w) work v (map natAbs w) (omega arith) (length-map w natAbs) e in
-    (c .0 ∙ l, c .1)
+pub sized-end : (i : ℕ) (w : List ℤ) (out : List ℕ) → i ≤ length w → length w ≤ i → take i out ≡ take i (map natAbs w)
+    → take (length w) out ≡ map natAbs w
+sized-end i w out a b q =
+    let e : length w ≡ i = omega arith in
+    ap (λ (x : ℕ). take x out) e ∙ q ∙ take-all i (map natAbs w) (omega (arith, length-map w natAbs))
 
 drop-map : {X Y : Type 0} (f : X → Y) (a : ℕ) (l : List X) → drop a (map f l) ≡ map f (drop a l)
 drop-map f zero l = refl
 drop-map f (suc a) [] = refl
 drop-map f (suc a) (x ∷ l) = drop-map f a l
 
-take-of-nil : {X : Type 0} (b : ℕ) → _≡_ {A = List X} [] (take b [])
-take-of-nil zero = refl
-take-of-nil (suc b) = refl
+-- the sizes of the entries behind the place i, as a part is read
+sizes-behind : (i : ℕ) (w : List ℤ) (sizes : List ℕ) → sizes ≡ map natAbs w
+    → take (length sizes - (i + 1)) (drop (i + 1) sizes) ≡ map natAbs (drop (i + 1) w)
+sizes-behind i w sizes q = take-rest (i + 1) sizes ∙ ap (drop (i + 1)) q ∙ drop-map natAbs (i + 1) w
 
-drop-take : {X : Type 0} (a b : ℕ) (l : List X) → drop a (take (a + b) l) ≡ take b (drop a l)
-drop-take {X = X} a b l = ap (drop a) (take-add a b l) ∙ drop-front a l
-  where
-    drop-front : (a : ℕ) (l : List X) → drop a (take a l ++ take b (drop a l)) ≡ take b (drop a l)
-    drop-front zero l = refl
-    drop-front (suc a) [] = ap (drop (suc a)) (sym (take-of-nil b)) ∙ take-of-nil b
-    drop-front (suc a) (x ∷ l) = drop-front a l
-
--- the sizes of the entries behind the place i, as the part of a work array is read
-sizes-behind : (i : ℕ) (w : List ℤ) (work : List ℕ) → i < length w → take (length w) work ≡ map natAbs w
-    → take (length w - (i + 1)) (drop (i + 1) work) ≡ map natAbs (drop (i + 1) w)
-sizes-behind i w work h q =
-    let e : i + 1 + (length w - (i + 1)) ≡ length w = omega arith in
-    sym (drop-take (i + 1) (length w - (i + 1)) work) ∙ ap (λ (x : ℕ). drop (i + 1) (take x work)) e ∙ ap (drop (i + 1)) q ∙ drop-map natAbs (i + 1) w
-
-size-at : (i : ℕ) (w : List ℤ) (work : List ℕ) → i < length w → take (length w) work ≡ map natAbs w → getD work i 0 ≡ natAbs (getD w i (pos 0))
-size-at i w work h q =
-    sym (getD-take (length w) work i 0 h) ∙ ap (λ (l : List ℕ). getD l i 0) q ∙ List·getD-map natAbs w i (pos 0)
+size-at : (i : ℕ) (w : List ℤ) (sizes : List ℕ) → sizes ≡ map natAbs w → getD sizes i 0 ≡ natAbs (getD w i (pos 0))
+size-at i w sizes q = ap (λ (l : List ℕ). getD l i 0) q ∙ List·getD-map natAbs w i (pos 0)
 
 -- ---- one entry against those behind it
 
@@ -97,11 +78,16 @@ weights-of-positive x [] e = refl
 weights-of-positive x (y ∷ w) e =
     rw e (ap (λ (r : ℕ). pick (ltb (natAbs y) (natAbs x)) 1 0 + r) (weights-of-positive x w e))
 
--- the weights of an entry before those of w, by how many of w are smaller
-weights-smaller : (x : ℤ) (w : List ℤ) → weights x w ≡ pick (negative x) (2 * length w - smaller (natAbs x) (map natAbs w)) (smaller (natAbs x) (map natAbs w))
-weights-smaller x w = by-sign (negative x) refl
+-- the pairs of an entry of size a with those behind it, of the sizes l; t says whether it is negative
+unfoldable pub behind : Bool → ℕ → List ℕ → ℕ
+behind t a l = pick t (2 * length l - smaller a l) (smaller a l)
+
+weights-behind : (x : ℤ) (w : List ℤ) → weights x w ≡ behind (negative x) (natAbs x) (map natAbs w)
+unfolding behind
+weights-behind x w = rw (length-map w natAbs) (by-sign (negative x) refl)
   where
-    by-sign : (t : Bool) → negative x ≡ t → weights x w ≡ pick t (2 * length w - smaller (natAbs x) (map natAbs w)) (smaller (natAbs x) (map natAbs w))
+    by-sign : (t : Bool) → negative x ≡ t
+        → weights x w ≡ pick t (2 * length w - smaller (natAbs x) (map natAbs w)) (smaller (natAbs x) (map natAbs w))
     by-sign true e = omega (arith, weights-of-negative x w e)
     by-sign false e = weights-of-positive x w e
 
@@ -126,21 +112,19 @@ refusal-B k n w h =
 unfoldable pub bothPairs : List ℤ → ℕ
 bothPairs w = inversions w + negativeSumPairs w
 
--- the pairs of the entry at i, by how many of those behind it are smaller
-pub bothPairs-row : (i less : ℕ) (w : List ℤ) (work : List ℕ) → i < length w → windowRefusal B (length w) w ≡ 0 → take (length w) work ≡ map natAbs w
-    → less ≡ smaller (getD work i 0) (take (length w - (i + 1)) (drop (i + 1) work))
-    → bothPairs (drop i w) ≡ pick (negative (getD w i (pos 0))) (2 * (length w - (i + 1)) - less) less + bothPairs (drop (i + 1) w)
+-- r are the pairs of the entry at i
+pub bothPairs-row : (i r : ℕ) (t : Bool) (w : List ℤ) (sizes : List ℕ) → i < length w → windowRefusal B (length w) w ≡ 0 → sizes ≡ map natAbs w
+    → t ≡ negative (getD w i (pos 0)) → r ≡ behind t (getD sizes i 0) (take (length sizes - (i + 1)) (drop (i + 1) sizes))
+    → bothPairs (drop i w) ≡ r + bothPairs (drop (i + 1) w)
 unfolding bothPairs inversions negativeSumPairs
-bothPairs-row i less w work h r q e =
+bothPairs-row i r t w sizes h g q n e =
     let x = getD w i (pos 0) in
     let u = drop (i + 1) w in
-    let a = accepted-of-refusal B (length w) w r .level in
+    let a = accepted-of-refusal B (length w) w g .level in
     let d = rw (drop-next w i (pos 0) h) at (distinct-drop i w (a .distinct)) in
     let none = hasSize-below 1 (1 + length w) 0 u (omega arith) (between-drop 1 (1 + length w) (i + 1) w (a .between)) in
-    let c : less ≡ smaller (natAbs x) (map natAbs u) = e ∙ rw (size-at i w work h q, sizes-behind i w work h q) in
-    let l : length w - (i + 1) ≡ length u = sym (length-drop (i + 1) w) in
-    let s : laterThan x u + laterThan x (map negℤ u) ≡ pick (negative x) (2 * (length w - (i + 1)) - less) less =
-    laterThan-add x u none (d .0) ∙ rw (l, c) (weights-smaller x u) in
+    let c : r ≡ weights x u = e ∙ rw (n, size-at i w sizes q, sizes-behind i w sizes q) (sym (weights-behind x u)) in
+    let s : laterThan x u + laterThan x (map negℤ u) ≡ r = laterThan-add x u none (d .0) ∙ sym c in
     rw (drop-next w i (pos 0) h) (omega (arith, s))
 
 pub bothPairs-end : (w : List ℤ) (i : ℕ) → length w ≤ i → bothPairs (drop i w) ≡ 0

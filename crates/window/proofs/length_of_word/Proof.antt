@@ -1,8 +1,8 @@
 -- `length_of_word` refuses in document 01's order, or measures what the word shows.
 -- Assumes nothing.
-use mathlib.Core.Path.{sym, _∙_}
-use Rattle.coxeter.proofs.Outcomes.{answer-refused, answer-length, lengthOfWord-is}
-use Rattle.coxeter.proofs.Refusals.{then-zero}
+use Rattle.coxeter.proofs.Outcomes.{answer-refused, answer-length}
+use Rattle.coxeter.specs.Calls.{lengthOfWord}
+use Rattle.coxeter.proofs.Acceptance.{two-accepted}
 use borrow.Author.Needs.{needs}
 use Rattle.window.proofs.length_of_word.Statement.{statement}
 use Rattle.window.proofs.length_of_word.Tie as tie
@@ -11,13 +11,15 @@ preset-refusal-requires : tie.Need-preset-refusal-requires
 preset-refusal-requires c κs = search needs
 
 returns : tie.Need-returns
-returns c = answer-refused _ _ _ _ (lengthOfWord-is _ _ _) (c .before .preset-refusal .ensures) (c .if1 .taken)
+unfolding lengthOfWord
+returns c = answer-refused _ _ _ (c .before .preset-refusal .ensures) (c .if1 .taken)
 
 length-of-shown-requires : tie.Need-length-of-shown-requires
-length-of-shown-requires c κs = let a = then-zero _ _ (sym (c .before .preset-refusal .ensures) ∙ c .if1 .left) in (a .0, a .1)
+length-of-shown-requires c κs = two-accepted _ _ _ (c .before .preset-refusal .ensures) (c .if1 .left)
 
 returns-2 : tie.Need-returns-2
-returns-2 c = answer-length _ _ _ _ _ (lengthOfWord-is _ _ _) (c .before .before .preset-refusal .ensures) (c .before .if1 .left) (c .length-of-shown .ensures)
+unfolding lengthOfWord
+returns-2 c = answer-length _ _ _ _ (c .before .before .preset-refusal .ensures) (c .before .if1 .left) (c .length-of-shown .ensures)
 
 pub length-of-word-spec : {M : Type 1} → statement M
 length-of-word-spec =

@@ -1,6 +1,6 @@
--- The checks' definitions, one element at a time and one case at a time, in the form in which the code meets them.
+-- The normal form of a window level by level, in the form in which the code meets it: an entry found and taken out, what is left, what is written.
 --
--- Sections: kinds and ranks; letters; entries; signs; windows.
+-- Sections: entries; the search for a size; a place taken out; the last entry; a part lent; one level; the levels that are left; the first level.
 -- Assumes nothing.
 use mathlib.Core.Path.{_≡_, refl, sym, ap, _∙_}
 use mathlib.Core.Bool.{Bool, true, false, _||_, false≢true}
@@ -14,7 +14,7 @@ use lib.IntN.{ℤ, pos, natAbs, negsuc}
 use lib.ListN.{length, getD, take, drop, drop-of-length-le, set, length-append}
 use lib.Seq.{sets, take-suc, split-at, length-take-le}
 use borrow.Author.Tests.{ne-eqb, eqb-false, eqb-true}
-use Rattle.coxeter.specs.Kinds.{Kind, A, B, D, pick}
+use Rattle.coxeter.specs.Kinds.{Kind, A, B, D, pick, lanes}
 use Rattle.coxeter.specs.Length.{negative}
 use Rattle.coxeter.specs.Checks.{hasSize, windowRefusal}
 use mathlib.Core.Logic.{_⊎_, ⊎-elim}
@@ -23,7 +23,9 @@ use mir.Syntax.{w8}
 use mir.Val.{toZ, ofZ}
 use Rattle.coxeter.specs.Windows.{from, negateFirst, signed, placeFrom}
 use Rattle.coxeter.specs.NormalForm.{block, levels, without, indexOf, restOf, normalFrom, normalForm}
-use Rattle.coxeter.proofs.Lists.{take-rest, sets-front, Stored, stored-append, drop-next}
+use Rattle.coxeter.proofs.Lists.{take-rest, Stored, stored-append, drop-next}
+use Rattle.coxeter.specs.Calls.{written}
+use Rattle.coxeter.proofs.Outcomes.{written-sets}
 use Rattle.coxeter.proofs.Sizes.{hasSize-without, hasSize-head, hasSize-tail}
 use Rattle.coxeter.proofs.Levels.{Accepted, accepted-of-refusal, level-hasSize, sameSizes-from, sameSizes-negateFirst}
 use Rattle.coxeter.proofs.Peeling.{placeFrom-peeled, without-peeled, restOf-positive, levels-le-lanes}
@@ -33,7 +35,8 @@ use Rattle.window.proofs.action.Actions.{Negated, set-eq-negateFirst}
 
 -- ---- entries
 
-pub hasSize-step : (s : ℕ) (w : List ℤ) (i : ℕ) → i < length w → (natAbs (getD w i (pos 0)) ≡ s → ⊥) → hasSize s (drop i w) ≡ hasSize s (drop (i + 1) w)
+pub hasSize-step : (s : ℕ) (w : List ℤ) (i : ℕ) → i < length w → (natAbs (getD w i (pos 0)) ≡ s → ⊥)
+    → hasSize s (drop i w) ≡ hasSize s (drop (i + 1) w)
 unfolding hasSize
 hasSize-step s w i h f = rw (drop-next w i (pos 0) h, ne-eqb (natAbs (getD w i (pos 0))) s f)
 
@@ -142,35 +145,29 @@ restOf-negative A x w = refl
 restOf-negative B x w = refl
 restOf-negative D x w = refl
 
--- the index and the rest where the entry is negative
-negative-level : (k : Kind) (n q : ℕ) (e : ℤ) (w : List ℤ) → 1 ≤ q → negative e ≡ true
-    → (2 * n - q ≡ indexOf n (signed e q)) × (restOf k (negsuc 0) w ≡ restOf k (signed e q) w)
+-- the index and the rest, where t says whether the entry is negative
+level : (k : Kind) (n q : ℕ) (e : ℤ) (w : List ℤ) (t : Bool) → 1 ≤ q → t ≡ negative e
+    → (pick t (2 * n - q) (q - 1) ≡ indexOf n (signed e q)) × (pick t (restOf k (negsuc 0) w) w ≡ restOf k (signed e q) w)
 unfolding negative signed indexOf
-negative-level k n q (pos x) w h s = absurd (false≢true s)
-negative-level k n zero (negsuc x) w h s = absurd (omega arith)
-negative-level k n (suc q) (negsuc x) w h s = (refl, sym (restOf-negative k q w))
+level k n q (pos x) w t h s = rw s (refl, sym (restOf-positive k q w))
+level k n zero (negsuc x) w t h s = absurd (omega arith)
+level k n (suc q) (negsuc x) w t h s = rw s (refl, sym (restOf-negative k q w))
 
--- and where it is not
-positive-level : (k : Kind) (n q : ℕ) (e : ℤ) (w : List ℤ) → negative e ≡ false → (q - 1 ≡ indexOf n (signed e q)) × (w ≡ restOf k (signed e q) w)
-unfolding negative signed indexOf
-positive-level k n q (pos x) w s = (refl, sym (restOf-positive k q w))
-positive-level k n q (negsuc x) w s = absurd (false≢true (sym s))
+index-le : (n q : ℕ) (t : Bool) → q ≤ 2 * n → pick t (2 * n - q) (q - 1) ≤ 2 * n
+index-le n q true h = omega arith
+index-le n q false h = omega arith
 
-pub peeled-negative : (k : Kind) (n i : ℕ) (w : List ℤ) (p : ℕ) (u v : List ℤ) → Found i w p → 1 ≤ i → negative (getD w p (pos 0)) ≡ true
-    → drop 1 u ≡ take p w ++ drop (p + 1) w → v ≡ restOf k (negsuc 0) (take (length u - 1) (drop 1 u)) → length u ≡ length w
-    → (2 * n - (i + p) ≤ 2 * n) × (2 * n - (i + p) ≡ indexOf n (placeFrom i w i))
+-- u is w with its entry at the place p taken out, from place 1 on; v is that part of u with its last entry turned
+pub peeled : (k : Kind) (n i : ℕ) (w : List ℤ) (p r : ℕ) (t : Bool) (u v : List ℤ) → Found i w p → 1 ≤ i → i + length w ≤ 2 * n + 1
+    → t ≡ negative (getD w p (pos 0)) → drop 1 u ≡ take p w ++ drop (p + 1) w → length u ≡ length w
+    → v ≡ pick t (restOf k (negsuc 0) (take (length u - 1) (drop 1 u))) (take (length u - 1) (drop 1 u)) → r ≡ pick t (2 * n - (i + p)) (i + p - 1)
+    → (r ≤ 2 * n) × (r ≡ indexOf n (placeFrom i w i))
     × (drop 1 (take 1 u ++ (v ++ drop (length u - 1) (drop 1 u))) ≡ restOf k (placeFrom i w i) (without i w))
-peeled-negative k n i w p u v f o s t r l =
-    let g = negative-level k n (i + p) (getD w p (pos 0)) (without i w) (omega arith) s in
+peeled k n i w p r t u v f o m s d l e c =
+    let g = level k n (i + p) (getD w p (pos 0)) (without i w) t (omega arith) s in
+    let rest : take (length u - 1) (drop 1 u) ≡ without i w = take-rest 1 u ∙ d ∙ sym (without-found i w p f) in
     rw (placeFrom-found i w p f)
-    (omega arith, g .0, tail-back u v (omega (arith, f .0)) ∙ r ∙ ap (restOf k (negsuc 0)) (take-rest 1 u ∙ t ∙ sym (without-found i w p f)) ∙ g .1)
-
-pub peeled-positive : (k : Kind) (n i : ℕ) (w : List ℤ) (p : ℕ) (u : List ℤ) → Found i w p → i + length w ≤ 2 * n + 1
-    → negative (getD w p (pos 0)) ≡ false → drop 1 u ≡ take p w ++ drop (p + 1) w
-    → (i + p - 1 ≤ 2 * n) × (i + p - 1 ≡ indexOf n (placeFrom i w i)) × (drop 1 u ≡ restOf k (placeFrom i w i) (without i w))
-peeled-positive k n i w p u f m s t =
-    let g = positive-level k n (i + p) (getD w p (pos 0)) (without i w) s in
-    rw (placeFrom-found i w p f) (omega (arith, f .0), g .0, t ∙ sym (without-found i w p f) ∙ g .1)
+    (rw c (index-le n (i + p) t (omega (arith, f .0))), c ∙ g .0, tail-back u v (omega (arith, f .0)) ∙ e ∙ rw rest (g .1))
 
 -- a size that is not in w is not in what is left
 pub hasSize-lent : (i s : ℕ) (w : List ℤ) (p : ℕ) (u : List ℤ) → Found i w p → drop 1 u ≡ take p w ++ drop (p + 1) w → hasSize s w ≡ false
@@ -250,28 +247,29 @@ pub length-tail : (u : List ℤ) → 0 < length u → length (take (length u - 1
 length-tail [] h = absurd (omega arith)
 length-tail (x ∷ u) h = omega (arith, ap length (take-rest 1 (x ∷ u)))
 
--- ---- the first level
+-- ---- the first level, of the front of m entries of a work window
 
-pub accepted-length : (k : Kind) (n : ℕ) (w : List ℤ) → windowRefusal k n w ≡ 0 → 1 + length w ≤ n + 2
-accepted-length k n w h = omega (arith, accepted-of-refusal k n w h .size, lanes-le-add-one k n)
+module _ (k : Kind) (n m t : ℕ) (work : List ℤ) (e : m ≡ lanes k n) (c : t ≡ levels k n) where
+  first : normalFrom k n t 1 (take m work) ≡ normalForm k n (take (lanes k n) work)
+  unfolding normalForm
+  first = rw (c, e)
 
-pub accepted-sizes : (k : Kind) (n t : ℕ) (w : List ℤ) → n ≤ 64 → windowRefusal k n w ≡ 0 → t ≡ levels k n → Sizes 1 t w
-accepted-sizes k n t w l h e =
-    let a : Accepted k n w = accepted-of-refusal k n w h in (
-      λ s o b. level-hasSize 1 s w (a .level) o (omega (arith, a .size, levels-le-lanes k n)),
-      hasSize-beyond 1 (1 + length w) 128 w (omega (arith, accepted-length k n w h)) (a .level .between),
-    )
+  pub first-room : (l : ℕ) → length (normalForm k n (take (lanes k n) work)) ≤ l → length (normalFrom k n t 1 (take m work)) ≤ l
+  first-room l h = rw first h
 
-normalFrom-first : (k : Kind) (n t : ℕ) (w : List ℤ) → t ≡ levels k n → normalFrom k n t 1 w ≡ normalForm k n w
-unfolding normalForm
-normalFrom-first k n t w e = ap (λ (r : ℕ). normalFrom k n r 1 w) e
+  -- the length and the sizes that `write_from` asks
+  pub first-length : windowRefusal k n (take (lanes k n) work) ≡ 0 → 1 + length (take m work) ≤ n + 2
+  first-length h = rw e (omega (arith, accepted-of-refusal k n (take (lanes k n) work) h .size, lanes-le-add-one k n))
 
-pub normalForm-room : (k : Kind) (n t : ℕ) (w : List ℤ) (m : ℕ) → t ≡ levels k n → length (normalForm k n w) ≤ m → length (normalFrom k n t 1 w) ≤ m
-normalForm-room k n t w m e h = rw (normalFrom-first k n t w e) h
+  pub first-sizes : n ≤ 64 → windowRefusal k n (take (lanes k n) work) ≡ 0 → Sizes 1 t (take m work)
+  first-sizes l h =
+      let w = take m work in
+      let a : Accepted k n w = accepted-of-refusal k n w (rw e h) in (
+        λ s o b. level-hasSize 1 s w (a .level) o (omega (arith, a .size, levels-le-lanes k n)),
+        hasSize-beyond 1 (1 + length w) 128 w (omega (arith, first-length h)) (a .level .between),
+      )
 
-pub normalForm-stored : (k : Kind) (n t : ℕ) (w : List ℤ) (o out : List ℕ) (r : ℕ) → t ≡ levels k n → length (normalForm k n w) ≤ length o
-    → (r ≡ length (normalFrom k n t 1 w)) × (out ≡ sets o 0 (normalFrom k n t 1 w))
-    → (r ≡ length (normalForm k n w)) × (out ≡ normalForm k n w ++ drop r o)
-normalForm-stored k n t w o out r e l h =
-    let g : (r ≡ length (normalForm k n w)) × (out ≡ sets o 0 (normalForm k n w)) = rw (normalFrom-first k n t w e) at h in
-    (g .0, g .1 ∙ sets-front (normalForm k n w) o r l (g .0))
+  pub first-written : (o out : List ℕ) (r : ℕ) → length (normalForm k n (take (lanes k n) work)) ≤ length o
+      → (r ≡ length (normalFrom k n t 1 (take m work))) × (out ≡ sets o 0 (normalFrom k n t 1 (take m work)))
+      → (r ≡ length (normalForm k n (take (lanes k n) work))) × (out ≡ written 0 (normalForm k n (take (lanes k n) work)) o)
+  first-written o out r l h = (h .0 ∙ ap length first, h .1 ∙ ap (sets o 0) first ∙ written-sets (normalForm k n (take (lanes k n) work)) o l)

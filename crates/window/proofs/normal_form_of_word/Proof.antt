@@ -1,10 +1,11 @@
 -- `normal_form_of_word` refuses in document 01's order, or writes the normal form of what the word shows.
 -- Assumes nothing.
-use mathlib.Core.Path.{sym, _∙_}
+use mathlib.Core.Path.{refl}
+use Rattle.coxeter.proofs.Acceptance.{two-accepted}
+use Rattle.window.proofs.forms.Rooms.{front-written}
+use Rattle.window.proofs.shown.Fronts.{front-asks, window-passes}
 use Rattle.coxeter.proofs.Outcomes.{writes-refused}
-use Rattle.window.proofs.shown.Fronts.{room, length-front-part, front-is, front-refusal, window-passes}
-use Rattle.window.proofs.forms.Rooms.{call-written, normalFormOfWord-is}
-use Rattle.coxeter.proofs.Refusals.{then-zero}
+use Rattle.coxeter.specs.Calls.{normalFormOfWord}
 use borrow.Author.Needs.{needs}
 use Rattle.window.proofs.normal_form_of_word.Statement.{statement}
 use Rattle.window.proofs.normal_form_of_word.Tie as tie
@@ -13,30 +14,31 @@ preset-refusal-requires : tie.Need-preset-refusal-requires
 preset-refusal-requires c κs = search needs
 
 returns : tie.Need-returns
-returns c = writes-refused _ _ _ _ _ (normalFormOfWord-is _ _ _ _) (c .before .preset-refusal .ensures) (c .if1 .taken)
-
-lanes-requires : tie.Need-lanes-requires
-lanes-requires c κs = search needs
+unfolding normalFormOfWord
+returns c = writes-refused _ _ _ _ _ refl (c .before .preset-refusal .ensures) (c .if1 .taken)
 
 shown-requires : tie.Need-shown-requires
-shown-requires c κs = let a = then-zero _ _ (sym (c .before .before .preset-refusal .ensures) ∙ c .before .if1 .left) in (a .0, a .1)
-
-array-borrow-prefix-work : tie.Need-array-borrow-prefix-work
-array-borrow-prefix-work c = room _ _ _ ((then-zero _ _ (sym (c .before .before .before .preset-refusal .ensures) ∙ c .before .before .if1 .left)) .0) (c .before .lanes .ensures) (c .shown .result) (c .shown .ensures .0)
+shown-requires c κs = two-accepted _ _ _ (c .before .preset-refusal .ensures) (c .if1 .left)
 
 slice-aggregate-write-checked : tie.Need-slice-aggregate-write-checked
-slice-aggregate-write-checked c = sym (length-front-part _ _ _ ((then-zero _ _ (sym (c .before .before .before .before .preset-refusal .ensures) ∙ c .before .before .before .if1 .left)) .0) (c .before .before .lanes .ensures) (c .before .shown .result) (c .before .shown .ensures .0))
+slice-aggregate-write-checked c = search needs
 
 write-checked-requires : tie.Need-write-checked-requires
 write-checked-requires c κs =
-    let r = (then-zero _ _ (sym (c .before .before .before .before .before .preset-refusal .ensures) ∙ c .before .before .before .before .if1 .left)) .0 in
-    (r, front-refusal _ _ _ (c .before .before .before .lanes .ensures) (c .before .before .shown .ensures .1) (window-passes _ _ _))
+    let held = c .before .before in
+    let passed = two-accepted _ _ _ (held .before .before .preset-refusal .ensures) (held .before .if1 .left) in
+    front-asks _ _ (passed .0) _ _ (window-passes _ _ _) (held .shown .ensures)
 
 same-length : tie.Need-same-length
 same-length c = search needs
 
 returns-2 : tie.Need-returns-2
-returns-2 c = call-written _ _ _ _ _ _ _ _ _ _ (normalFormOfWord-is _ _ _ _) (c .before .before .before .before .before .before .before .before .before .preset-refusal .ensures) (c .before .before .before .before .before .before .before .before .if1 .left) (front-is _ (c .before .before .before .before .before .before .before .lanes .ensures) (c .before .before .before .before .before .before .shown .ensures .1)) (c .before .before .before .write-checked .ensures)
+unfolding normalFormOfWord
+returns-2 c =
+    let called = c .before .before .before in
+    let held = called .before .before .before in
+    let refusal = held .before .before .preset-refusal .ensures in
+    front-written _ _ _ _ _ _ _ _ _ _ refl refusal (held .before .if1 .left) (held .shown .ensures) (called .write-checked .ensures)
 
 pub normal-form-of-word-spec : {M : Type 1} → statement M
 normal-form-of-word-spec =
@@ -44,9 +46,7 @@ normal-form-of-word-spec =
     (tie.spec
     preset-refusal-requires
     returns
-    lanes-requires
     shown-requires
-    array-borrow-prefix-work
     slice-aggregate-write-checked
     write-checked-requires
     same-length

@@ -3,15 +3,15 @@
 -- Sections: entries by size and sign; the product; the inverse; equality.
 -- Assumes nothing.
 use mathlib.Core.Path.{_≡_, refl, sym, ap, _∙_}
-use mathlib.Core.Bool.{Bool, true, false, and-false}
-use mathlib.Core.List.{List, [], _∷_, _++_, append-assoc, append-nil}
+use mathlib.Core.Bool.{Bool, true, false, _&&_, and-false, and-true}
+use mathlib.Core.List.{List}
 use Prim.Native.Nat.{ℕ, zero, suc, _+_, _-_, _≤_, _<_}
 use native.Mathlib.Numerals.{add-one, sub-one}
 use native.Mathlib.Omega.{arith}
 use lib.IntN.{ℤ, pos, negsuc, negℤ, natAbs}
 use lib.Signed.{mag}
 use lib.ListN.{length, getD, take, drop, set, drop-of-length-le}
-use lib.Seq.{take-suc-set, take-all}
+use lib.Seq.{sets, length-take-le, getD-take}
 use mir.Syntax.{w8}
 use mir.Val.{toZ, ofZ}
 use borrow.Author.Tests.{ne-eqb}
@@ -19,8 +19,11 @@ use Rattle.coxeter.specs.Kinds.{Kind, pick}
 use Rattle.coxeter.specs.Windows.{at, product, signed, inverse}
 use Rattle.coxeter.specs.Length.{negative}
 use Rattle.coxeter.specs.Checks.{windowRefusal}
-use Rattle.coxeter.specs.Calls.{sameEntry, sameWindow}
+use Rattle.coxeter.specs.Calls.{written, sameEntry, sameWindow}
 use Rattle.coxeter.proofs.Lists.{drop-next}
+use Rattle.coxeter.proofs.Outcomes.{written-part, written-sets}
+use Rattle.coxeter.proofs.Products.{length-product}
+use Rattle.coxeter.proofs.Inverses.{length-inverse}
 use Rattle.coxeter.proofs.Sizes.{natAbs-negℤ}
 use Rattle.coxeter.proofs.Levels.{accepted-of-refusal}
 use Rattle.coxeter.proofs.Places.{between-getD}
@@ -49,6 +52,12 @@ unfolding signed negative
 signed-by-sign (pos a) k = refl
 signed-by-sign (negsuc a) k = refl
 
+pub signed-minus : (e : ℤ) (k : ℕ) → negative e ≡ true → negℤ (pos k) ≡ signed e k
+signed-minus e k h = rw (signed-by-sign e k, h)
+
+pub signed-plus : (e : ℤ) (k : ℕ) → negative e ≡ false → pos k ≡ signed e k
+signed-plus e k h = rw (signed-by-sign e k, h)
+
 -- the size of the entry at position i of an accepted window
 pub entry-bounds : (k : Kind) (n : ℕ) (w : List ℤ) (i : ℕ) → windowRefusal k n w ≡ 0 → i < length w
     → (1 ≤ natAbs (getD w i (pos 0))) × (natAbs (getD w i (pos 0)) ≤ length w)
@@ -74,7 +83,7 @@ image-positive u e s q h n f =
     let x : at u e ≡ getD u (s - 1) (pos 0) = rw (at-by-sign u e h, n, q) in
     element-back (getD u (s - 1) (pos 0)) f ∙ sym x
 
-pub same-length-of-refusals : (k : Kind) (n : ℕ) (u v : List ℤ) → windowRefusal k n u ≡ 0 → windowRefusal k n v ≡ 0 → length v ≡ length u
+same-length-of-refusals : (k : Kind) (n : ℕ) (u v : List ℤ) → windowRefusal k n u ≡ 0 → windowRefusal k n v ≡ 0 → length v ≡ length u
 same-length-of-refusals k n u v h g = accepted-of-refusal k n v g .size ∙ sym (accepted-of-refusal k n u h .size)
 
 -- what `image` asks at position i of v
@@ -92,40 +101,44 @@ image-asks k n u v i l h g m f =
       (omega arith, rw (natAbs-at-by-size u e (b .0)) (omega (arith, length-le-of-refusal k n u l h))),
     )
 
-pub product-step : (u v out : List ℤ) (i : ℕ) (r : ℤ) → i < length v → i < length out → mag (getD v i (pos 0)) < 128 → mag r < 128
+pub product-step : (u v out : List ℤ) (i : ℕ) (r : ℤ) → i < length v → mag (getD v i (pos 0)) < 128 → mag r < 128
     → r ≡ at u (held (getD v i (pos 0)))
-    → take i out ++ product u (drop i v) ≡ take (i + 1) (set out i (held r)) ++ product u (drop (i + 1) v)
+    → sets out i (product u (drop i v)) ≡ sets (set out i (held r)) (i + 1) (product u (drop (i + 1) v))
 unfolding product
-product-step u v out i r h g f b e =
+product-step u v out i r h f b e =
     let q : r ≡ at u (getD v i (pos 0)) = e ∙ ap (at u) (element-back (getD v i (pos 0)) f) in
-    rw (element-back r b, q, add-one i, take-suc-set out i (at u (getD v i (pos 0))) g, ← add-one i, drop-next v i (pos 0) h)
-    (simp append-assoc)
+    rw (element-back r b, q, drop-next v i (pos 0) h, add-one i)
 
-pub product-end : (u v out : List ℤ) (i : ℕ) → length v ≤ i → length out ≤ i → take i out ++ product u (drop i v) ≡ out
+pub product-end : (u v out : List ℤ) (i : ℕ) → length v ≤ i → sets out i (product u (drop i v)) ≡ out
 unfolding product
-product-end u v out i h g = rw (drop-of-length-le v h, take-all i out g) (append-nil out)
+product-end u v out i h = rw (drop-of-length-le v h)
+
+pub product-written : (u v out : List ℤ) → length v ≤ length out → sets out 0 (product u v) ≡ written 0 (product u v) out
+product-written u v out h = written-sets (product u v) out (omega (arith, length-product u v))
 
 -- ---- the inverse
 
-pub scatter-step : (w out : List ℤ) (i s : ℕ) (t : Bool) (r : ℤ) → i < length w → mag r < 128
-    → s ≡ natAbs (getD w i (pos 0)) → t ≡ negative (getD w i (pos 0)) → r ≡ pick t (negℤ (pos (i + 1))) (pos (i + 1))
+-- the position i + 1, with the sign of the entry at i, stored at that entry's size
+pub scatter-step : (w out : List ℤ) (i s : ℕ) (r : ℤ) → i < length w → mag (getD w i (pos 0)) < 128 → mag r < 128
+    → s ≡ natAbs (getD w i (pos 0)) → r ≡ signed (held (getD w i (pos 0))) (i + 1)
     → scatter out (i + 1) (drop i w) ≡ scatter (set out (s - 1) (held r)) (i + 1 + 1) (drop (i + 1) w)
 unfolding scatter
-scatter-step w out i s t r h b q n e =
-    rw (element-back r b, e, n, q, ← signed-by-sign (getD w i (pos 0)) (i + 1), add-one (i + 1), drop-next w i (pos 0) h)
+scatter-step w out i s r h f b q e =
+    let g : r ≡ signed (getD w i (pos 0)) (i + 1) = e ∙ ap (λ (x : ℤ). signed x (i + 1)) (element-back (getD w i (pos 0)) f) in
+    rw (element-back r b, g, q, add-one (i + 1), drop-next w i (pos 0) h)
 
 pub scatter-end : (w out : List ℤ) (k i : ℕ) → length w ≤ i → scatter out k (drop i w) ≡ out
 unfolding scatter
 scatter-end w out k i h = rw (drop-of-length-le w h)
 
-pub scatter-is-inverse : (k : Kind) (n : ℕ) (w out : List ℤ) → windowRefusal k n w ≡ 0 → length out ≡ length w → scatter out 1 w ≡ inverse w
-scatter-is-inverse k n w out h l =
-    scatter-inverse w out (accepted-of-refusal k n w h .level) (omega arith)
-    ∙ rw (drop-of-length-le out {i = length w} (omega arith)) (append-nil (inverse w))
+pub scatter-written : (k : Kind) (n : ℕ) (w out : List ℤ) → windowRefusal k n w ≡ 0 → length w ≤ length out
+    → scatter out 1 w ≡ written 0 (inverse w) out
+scatter-written k n w out h l =
+    scatter-inverse w out (accepted-of-refusal k n w h .level) l ∙ written-part (length w) (inverse w) (inverse w) out (length-inverse w) refl
 
 -- ---- equality
 
-pub eq-of-bytes : (x y : ℤ) → mag x < 128 → mag y < 128 → ofZ w8 x ≡ ofZ w8 y → x ≡ y
+eq-of-bytes : (x y : ℤ) → mag x < 128 → mag y < 128 → ofZ w8 x ≡ ofZ w8 y → x ≡ y
 eq-of-bytes x y h g e = sym (element-back x h) ∙ ap (toZ w8) e ∙ element-back y g
 
 sameEntry-of-eq : (x y : ℤ) → x ≡ y → sameEntry x y ≡ true
@@ -138,25 +151,34 @@ sameEntry-of-ne (pos a) (negsuc b) d = refl
 sameEntry-of-ne (negsuc a) (pos b) d = refl
 sameEntry-of-ne (negsuc a) (negsuc b) d = ne-eqb a b (λ e. d (ap negsuc e))
 
-pub sameWindow-of-length : (a b : List ℤ) → (length a ≡ length b → ⊥) → sameWindow a b ≡ false
-unfolding sameWindow
-sameWindow-of-length [] [] d = absurd (d refl)
-sameWindow-of-length [] (y ∷ b) d = refl
-sameWindow-of-length (x ∷ a) [] d = refl
-sameWindow-of-length (x ∷ a) (y ∷ b) d = rw (sameWindow-of-length a b (λ e. d (ap suc e))) (and-false (sameEntry x y))
+-- the entries from i on of two fronts of m entries
+abbrev pub sameFrom : ℕ → ℕ → List ℤ → List ℤ → Bool
+sameFrom m i a b = sameWindow (drop i (take m a)) (drop i (take m b))
 
-pub sameWindow-here : (a b : List ℤ) (i : ℕ) → length a ≡ length b → i < length a → (getD a i (pos 0) ≡ getD b i (pos 0) → ⊥)
-    → sameWindow (drop i a) (drop i b) ≡ false
-unfolding sameWindow
-sameWindow-here a b i e h d =
-    rw (drop-next a i (pos 0) h, drop-next b i (pos 0) (omega arith), sameEntry-of-ne (getD a i (pos 0)) (getD b i (pos 0)) d)
+module _ (m i : ℕ) (a b : List ℤ) (fa : m ≤ length a) (fb : m ≤ length b) where
+  same-next : i < m → sameFrom m i a b ≡ (sameEntry (getD a i (pos 0)) (getD b i (pos 0)) && sameFrom m (i + 1) a b)
+  unfolding sameWindow
+  same-next h =
+      let la : i < length (take m a) = rw (length-take-le m a fa) h in
+      let lb : i < length (take m b) = rw (length-take-le m b fb) h in
+      rw (drop-next (take m a) i (pos 0) la, drop-next (take m b) i (pos 0) lb, getD-take m a i (pos 0) h, getD-take m b i (pos 0) h)
 
-pub sameWindow-step : (a b : List ℤ) (i : ℕ) → length a ≡ length b → i < length a → getD a i (pos 0) ≡ getD b i (pos 0)
-    → sameWindow (drop i a) (drop i b) ≡ sameWindow (drop (i + 1) a) (drop (i + 1) b)
-unfolding sameWindow
-sameWindow-step a b i e h q =
-    rw (drop-next a i (pos 0) h, drop-next b i (pos 0) (omega arith), sameEntry-of-eq (getD a i (pos 0)) (getD b i (pos 0)) q)
+  -- `old` says whether the entries before i are equal, `new` those before i + 1; the entries are compared as bytes
+  pub same-differ : (old new : Bool) → i < m → (ofZ w8 (getD a i (pos 0)) ≡ ofZ w8 (getD b i (pos 0)) → ⊥) → new ≡ false
+      → (old && sameFrom m i a b) ≡ (new && sameFrom m (i + 1) a b)
+  same-differ old new h d e =
+      let f : getD a i (pos 0) ≡ getD b i (pos 0) → ⊥ = λ q. d (ap (ofZ w8) q) in
+      rw (e, same-next h, sameEntry-of-ne (getD a i (pos 0)) (getD b i (pos 0)) f) (and-false old)
 
-pub sameWindow-end : (a b : List ℤ) (i : ℕ) → length a ≡ length b → length a ≤ i → sameWindow (drop i a) (drop i b) ≡ true
-unfolding sameWindow
-sameWindow-end a b i e h = rw (drop-of-length-le a h, drop-of-length-le b {i = i} (omega arith))
+  pub same-agree : (old new : Bool) → i < m → mag (getD a i (pos 0)) < 128 → mag (getD b i (pos 0)) < 128
+      → ofZ w8 (getD a i (pos 0)) ≡ ofZ w8 (getD b i (pos 0)) → new ≡ old → (old && sameFrom m i a b) ≡ (new && sameFrom m (i + 1) a b)
+  same-agree old new h u v q e =
+      let f : getD a i (pos 0) ≡ getD b i (pos 0) = eq-of-bytes (getD a i (pos 0)) (getD b i (pos 0)) u v q in
+      rw (e, same-next h, sameEntry-of-eq (getD a i (pos 0)) (getD b i (pos 0)) f)
+
+  pub same-end : (old : Bool) → m ≤ i → (old && sameFrom m i a b) ≡ old
+  unfolding sameWindow
+  same-end old h =
+      let la : length (take m a) ≤ i = rw (length-take-le m a fa) h in
+      let lb : length (take m b) ≤ i = rw (length-take-le m b fb) h in
+      rw (drop-of-length-le (take m a) la, drop-of-length-le (take m b) lb) (and-true old)

@@ -1,11 +1,11 @@
 -- `product_of_windows` refuses in document 01's order, or writes the product to the front of its output.
 -- Assumes nothing.
-use mathlib.Core.Path.{sym, _∙_}
-use lib.Seq.{length-take-le}
+use mathlib.Core.Path.{refl}
+use Rattle.coxeter.proofs.Acceptance.{windows-accepted}
 use Rattle.coxeter.proofs.Products.{length-product}
-use Rattle.window.proofs.product.Entries.{same-length-of-refusals}
-use Rattle.coxeter.proofs.Acceptance.{windows-passed}
-use Rattle.coxeter.proofs.Outcomes.{writes-refused, writes-short, writes-done, productOfWindows-is}
+use Rattle.coxeter.proofs.Outcomes.{writes-refused, writes-short, writes-written}
+use Rattle.coxeter.specs.Checks.{_then_, rankRefusal, windowRefusal}
+use Rattle.coxeter.specs.Calls.{productOfWindows}
 use borrow.Author.Needs.{needs}
 use Rattle.window.proofs.product_of_windows.Statement.{statement}
 use Rattle.window.proofs.product_of_windows.Tie as tie
@@ -14,27 +14,34 @@ ranked-windows-refusal-requires : tie.Need-ranked-windows-refusal-requires
 ranked-windows-refusal-requires c κs = search needs
 
 returns : tie.Need-returns
-returns c = writes-refused _ _ _ _ _ (productOfWindows-is _ _ _ _ _) (c .before .ranked-windows-refusal .ensures) (c .if1 .taken)
+unfolding productOfWindows
+returns c = writes-refused _ _ _ _ _ refl (c .before .ranked-windows-refusal .ensures) (c .if1 .taken)
 
 returns-2 : tie.Need-returns-2
-returns-2 c = writes-short _ _ _ _ _ (productOfWindows-is _ _ _ _ _) (c .before .before .ranked-windows-refusal .ensures) _ (c .before .if1 .left) (length-product _ _) (c .if2 .taken)
-
-slice-relend-prefix-product-into : tie.Need-slice-relend-prefix-product-into
-slice-relend-prefix-product-into c = search needs
-
-slice-aggregate-product-into : tie.Need-slice-aggregate-product-into
-slice-aggregate-product-into c = sym (length-take-le _ _ (c .before .if2 .left))
+unfolding productOfWindows
+returns-2 c =
+    let passed = c .before in
+    writes-short _ (rankRefusal _ _ then windowRefusal _ _ _ then windowRefusal _ _ _) _ _ _ refl (passed .before .ranked-windows-refusal .ensures)
+    _ (passed .if1 .left) (length-product _ _) (c .if2 .taken)
 
 product-into-requires : tie.Need-product-into-requires
 product-into-requires c κs =
-    let a = windows-passed _ _ _ _ _ (c .before .before .before .ranked-windows-refusal .ensures) (c .before .before .if1 .left) in
-    (a .0, (a .1 .0, (a .1 .1, length-take-le _ _ (c .before .if2 .left) ∙ same-length-of-refusals _ _ _ _ (a .1 .0) (a .1 .1))))
+    let fits = c .before in
+    let passed = fits .before in
+    let a = windows-accepted _ _ _ _ _ (passed .before .ranked-windows-refusal .ensures) (passed .if1 .left) in
+    (a .0, (a .1 .0, (a .1 .1, fits .if2 .left)))
 
 same-length : tie.Need-same-length
 same-length c = search needs
 
 returns-3 : tie.Need-returns-3
-returns-3 c = writes-done _ _ _ _ _ (productOfWindows-is _ _ _ _ _) (c .before .before .before .before .before .ranked-windows-refusal .ensures) _ _ (c .before .before .before .before .if1 .left) (length-product _ _) (c .before .before .before .if2 .left) (c .before .product-into .ensures)
+unfolding productOfWindows
+returns-3 c =
+    let called = c .before in
+    let fits = called .before .before in
+    let passed = fits .before in
+    writes-written _ (rankRefusal _ _ then windowRefusal _ _ _ then windowRefusal _ _ _) _ _ _ refl (passed .before .ranked-windows-refusal .ensures)
+    _ _ (passed .if1 .left) (length-product _ _) (fits .if2 .left) (called .product-into .ensures)
 
 pub product-of-windows-spec : {M : Type 1} → statement M
 product-of-windows-spec =
@@ -43,8 +50,6 @@ product-of-windows-spec =
     ranked-windows-refusal-requires
     returns
     returns-2
-    slice-relend-prefix-product-into
-    slice-aggregate-product-into
     product-into-requires
     same-length
     returns-3)

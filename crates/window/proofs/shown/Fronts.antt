@@ -1,8 +1,8 @@
--- Windows at the front of a work window of 64 entries: what the front holds, that it passes checks 9 to 11, and how it is replaced.
+-- Windows at the front of a work window of 64 entries: what the front holds, and that it passes checks 9 to 11.
 --
--- Sections: the front; what words show; the front replaced; a copy.
+-- Sections: what words show; a front that is written; a front that is read; a copy.
 -- Assumes nothing.
-use mathlib.Core.Path.{_≡_, sym, ap, ap₂, _∙_}
+use mathlib.Core.Path.{_≡_, refl, sym, ap, ap₂, _∙_}
 use mathlib.Core.List.{List, _++_}
 use Prim.Native.Nat.{ℕ, _+_, _≤_, _<_}
 use native.Mathlib.Omega.{arith}
@@ -14,30 +14,16 @@ use mir.Syntax.{w8}
 use mir.Val.{toZ, ofZ}
 use Rattle.refusals.proofs.Bytes.{element-back}
 use Rattle.coxeter.proofs.Basics.{length-window}
-use Rattle.coxeter.proofs.Lists.{written-next, front-stored}
+use Rattle.coxeter.proofs.Lists.{written-next}
 use Rattle.coxeter.proofs.Products.{length-product, windowFrom-product, window-append}
 use Rattle.coxeter.proofs.Inverses.{length-inverse, inverse-accepted}
-use Rattle.coxeter.proofs.Levels.{window-accepted, refusal-of-accepted}
+use Rattle.coxeter.proofs.Levels.{window-accepted, accepted-of-refusal, refusal-of-accepted}
 use Rattle.coxeter.proofs.Acceptance.{lanes-le}
+use Rattle.coxeter.proofs.Outcomes.{written-part, written-front}
 use Rattle.coxeter.specs.Kinds.{kindOf, lanes, Kind}
 use Rattle.coxeter.specs.Windows.{window, windowFrom, product, inverse}
 use Rattle.coxeter.specs.Checks.{rankRefusal, windowRefusal}
-use Rattle.coxeter.specs.Calls.{sameWindow, equalWords}
-
--- ---- the front
-
--- where it holds x
-pub front-is : {m l : ℕ} {x : List ℤ} (r : List ℤ) → m ≡ l → take l r ≡ x → take m r ≡ x
-front-is r e w = ap (λ (a : ℕ). take a r) e ∙ w
-
-pub front-refusal : (k : Kind) (n : ℕ) {m l : ℕ} {x : List ℤ} (r : List ℤ) → m ≡ l → take l r ≡ x → windowRefusal k n x ≡ 0
-    → windowRefusal k n (take m r) ≡ 0
-front-refusal k n r e w h = ap (windowRefusal k n) (front-is r e w) ∙ h
-
-pub fronts-same : (k : Kind) (n : ℕ) {m l : ℕ} (u v : List ℕ) (r s : List ℤ) → m ≡ l → take l r ≡ window k n u → take l s ≡ window k n v
-    → sameWindow (take m r) (take m s) ≡ equalWords k n u v
-unfolding equalWords
-fronts-same k n u v r s e a b = ap₂ sameWindow (front-is r e a) (front-is s e b)
+use Rattle.coxeter.specs.Calls.{written, sameWindow, equalWords}
 
 -- ---- what words show
 
@@ -50,39 +36,67 @@ product-passes k n u v = rw (← window-append k n u v) (window-passes k n (u ++
 pub inverse-passes : (k : Kind) (n : ℕ) (u : List ℕ) → windowRefusal k n (inverse (window k n u)) ≡ 0
 inverse-passes k n u = refusal-of-accepted k n (inverse (window k n u)) (inverse-accepted k n (window k n u) (window-accepted k n u))
 
--- ---- the front replaced
+-- ---- a front that is written
+
+-- the work window r holds x
+abbrev pub Front : ℕ → ℕ → List ℤ → List ℤ → Type 0
+Front k n x r = (length r ≡ 64) × (take (lanes (kindOf k) n) r ≡ x)
+
+module _ (k n : ℕ) (h : rankRefusal k n ≡ 0) where
+  pub room : (work : List ℤ) → length work ≡ 64 → lanes (kindOf k) n ≤ length work
+  room work l = omega (arith, lanes-le k n (lanes (kindOf k) n) h refl)
+
+  front-written : (x work r : List ℤ) → length x ≡ lanes (kindOf k) n → length work ≡ 64 → r ≡ written 0 x work → Front k n x r
+  front-written x work r s l e =
+      let c = written-front (lanes (kindOf k) n) x work r s (room work l) e in
+      (c .0 ∙ l, c .1)
+
+  pub front-window : (u : List ℕ) (work r : List ℤ) → length work ≡ 64 → r ≡ written 0 (window (kindOf k) n u) work
+      → Front k n (window (kindOf k) n u) r
+  front-window u work r = front-written (window (kindOf k) n u) work r (length-window (kindOf k) n u)
+
+  -- what the functions on a front ask: the front is an accepted window x
+  pub front-asks : (x r : List ℤ) → windowRefusal (kindOf k) n x ≡ 0 → Front k n x r
+      → (rankRefusal k n ≡ 0) × ((lanes (kindOf k) n ≤ length r) × (windowRefusal (kindOf k) n (take (lanes (kindOf k) n) r) ≡ 0))
+  front-asks x r a f = (h, (room r (f .0), ap (windowRefusal (kindOf k) n) (f .1) ∙ a))
+
+-- ---- a front that is read, as a part of m entries
 
 module _ (k n m : ℕ) (h : rankRefusal k n ≡ 0) (e : m ≡ lanes (kindOf k) n) where
-  pub room : (l : List ℤ) → length l ≡ 64 → m ≤ length l
-  room l q = let b : m ≤ 64 = lanes-le k n m h e in omega arith
+  pub part-room : (l : List ℤ) → length l ≡ 64 → m ≤ length l
+  part-room l q = let b : m ≤ 64 = lanes-le k n m h e in omega arith
 
-  pub length-front-part : (l : List ℤ) → length l ≡ 64 → length (take m l) ≡ m
-  length-front-part l q = length-take-le m l (room l q)
+  pub length-part : (l : List ℤ) → length l ≡ 64 → length (take m l) ≡ m
+  length-part l q = length-take-le m l (part-room l q)
 
-  -- by a window x
-  pub front-store : (l v x : List ℤ) → length l ≡ 64 → length x ≡ lanes (kindOf k) n → v ≡ x
-      → (length (v ++ drop m l) ≡ 64) × (take (lanes (kindOf k) n) (v ++ drop m l) ≡ x)
-  front-store l v x q s w =
-      let c = front-stored m l v x (room l q) (s ∙ sym e) w in
-      (c .0 ∙ q, ap (λ (a : ℕ). take a (v ++ drop m l)) (sym e) ∙ c .1)
+  part-is : (x r : List ℤ) → Front k n x r → take m r ≡ x
+  part-is x r f = ap (λ (a : ℕ). take a r) e ∙ f .1
 
-  pub front-show : (u : List ℕ) (l v : List ℤ) → length l ≡ 64 → v ≡ window (kindOf k) n u
-      → (length (v ++ drop m l) ≡ 64) × (take (lanes (kindOf k) n) (v ++ drop m l) ≡ window (kindOf k) n u)
-  front-show u l v q w = front-store l v (window (kindOf k) n u) q (length-window (kindOf k) n u) w
+  pub part-passes : (x r : List ℤ) → windowRefusal (kindOf k) n x ≡ 0 → Front k n x r → windowRefusal (kindOf k) n (take m r) ≡ 0
+  part-passes x r a f = ap (windowRefusal (kindOf k) n) (part-is x r f) ∙ a
 
-  pub front-apply : (u z : List ℕ) (l v : List ℤ) → length l ≡ 64 → take (lanes (kindOf k) n) l ≡ window (kindOf k) n u → v ≡ windowFrom (kindOf k) n (take m l) z
-      → (length (v ++ drop m l) ≡ 64) × (take (lanes (kindOf k) n) (v ++ drop m l) ≡ product (window (kindOf k) n u) (window (kindOf k) n z))
-  front-apply u z l v q f w =
-      front-store l v (product (window (kindOf k) n u) (window (kindOf k) n z)) q
-      (length-product (window (kindOf k) n u) (window (kindOf k) n z) ∙ length-window (kindOf k) n z)
-      (w ∙ ap (λ (x : List ℤ). windowFrom (kindOf k) n x z) (front-is l e f)
-      ∙ windowFrom-product (kindOf k) n (window (kindOf k) n u) z (length-window (kindOf k) n u))
+  -- the part replaced by the product with the window of z
+  pub front-product : (u z : List ℕ) (r v : List ℤ) → Front k n (window (kindOf k) n u) r → v ≡ windowFrom (kindOf k) n (take m r) z
+      → Front k n (product (window (kindOf k) n u) (window (kindOf k) n z)) (v ++ drop m r)
+  front-product u z r v f w =
+      let x = product (window (kindOf k) n u) (window (kindOf k) n z) in
+      let s : length x ≡ lanes (kindOf k) n = length-product (window (kindOf k) n u) (window (kindOf k) n z) ∙ length-window (kindOf k) n z in
+      let p : v ≡ x =
+      w ∙ ap (λ (y : List ℤ). windowFrom (kindOf k) n y z) (part-is (window (kindOf k) n u) r f)
+      ∙ windowFrom-product (kindOf k) n (window (kindOf k) n u) z (length-window (kindOf k) n u) in
+      front-written k n h x r (v ++ drop m r) s (f .0) (written-part m x v r (s ∙ sym e) p)
 
-  pub front-inverse : (u : List ℕ) (l r v : List ℤ) → length l ≡ 64 → take (lanes (kindOf k) n) r ≡ window (kindOf k) n u → v ≡ inverse (take m r)
-      → (length (v ++ drop m l) ≡ 64) × (take (lanes (kindOf k) n) (v ++ drop m l) ≡ inverse (window (kindOf k) n u))
-  front-inverse u l r v q f w =
-      front-store l v (inverse (window (kindOf k) n u)) q (length-inverse (window (kindOf k) n u) ∙ length-window (kindOf k) n u)
-      (w ∙ ap inverse (front-is r e f))
+  -- the inverse of the part, in another work window
+  pub front-inverse : (u : List ℕ) (r work v : List ℤ) → Front k n (window (kindOf k) n u) r → length work ≡ 64
+      → v ≡ written 0 (inverse (take m r)) work → Front k n (inverse (window (kindOf k) n u)) v
+  front-inverse u r work v f l w =
+      front-written k n h (inverse (window (kindOf k) n u)) work v (length-inverse (window (kindOf k) n u) ∙ length-window (kindOf k) n u) l
+      (w ∙ ap (λ (x : List ℤ). written 0 (inverse x) work) (part-is (window (kindOf k) n u) r f))
+
+  pub parts-same : (u v : List ℕ) (r s : List ℤ) → Front k n (window (kindOf k) n u) r → Front k n (window (kindOf k) n v) s
+      → sameWindow (take m r) (take m s) ≡ equalWords (kindOf k) n u v
+  unfolding equalWords
+  parts-same u v r s f g = ap₂ sameWindow (part-is (window (kindOf k) n u) r f) (part-is (window (kindOf k) n v) s g)
 
 -- ---- a copy
 
@@ -94,3 +108,7 @@ pub copy-end : (i : ℕ) (w out : List ℤ) → i ≤ length w → length w ≤ 
 copy-end i w out a b q =
     let e : length w ≡ i = omega arith in
     ap (λ (x : ℕ). take x out) e ∙ q ∙ take-all i w b
+
+-- an accepted window's copy
+pub copy-front : (k n : ℕ) (w r : List ℤ) → windowRefusal (kindOf k) n w ≡ 0 → (length r ≡ 64) × (take (length w) r ≡ w) → Front k n w r
+copy-front k n w r a f = (f .0, ap (λ (m : ℕ). take m r) (sym (accepted-of-refusal (kindOf k) n w a .size)) ∙ f .1)

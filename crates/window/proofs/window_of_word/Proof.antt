@@ -1,10 +1,10 @@
--- `window_of_word` refuses in document 01's order, or shows the word in the front of its output.
+-- `window_of_word` refuses in document 01's order, or writes the word's window to the front of its output.
 -- Assumes nothing.
-use mathlib.Core.Path.{sym, _∙_}
-use lib.Seq.{length-take-le}
-use Rattle.coxeter.proofs.Acceptance.{preset-accepted}
-use Rattle.coxeter.proofs.Outcomes.{writes-refused, writes-short, writes-done, windowOfWord-is}
+use mathlib.Core.Path.{refl, sym, _∙_}
+use Rattle.coxeter.proofs.Acceptance.{two-accepted}
 use Rattle.coxeter.proofs.Basics.{length-window}
+use Rattle.coxeter.proofs.Outcomes.{writes-refused, writes-short, writes-written}
+use Rattle.coxeter.specs.Calls.{windowOfWord}
 use borrow.Author.Needs.{needs}
 use Rattle.window.proofs.window_of_word.Statement.{statement}
 use Rattle.window.proofs.window_of_word.Tie as tie
@@ -13,30 +13,38 @@ preset-refusal-requires : tie.Need-preset-refusal-requires
 preset-refusal-requires c κs = search needs
 
 returns : tie.Need-returns
-returns c = writes-refused _ _ _ _ _ (windowOfWord-is _ _ _ _) (c .before .preset-refusal .ensures) (c .if1 .taken)
+unfolding windowOfWord
+returns c = writes-refused _ _ _ _ _ refl (c .before .preset-refusal .ensures) (c .if1 .taken)
 
 lanes-requires : tie.Need-lanes-requires
 lanes-requires c κs = search needs
 
 returns-2 : tie.Need-returns-2
-returns-2 c = writes-short _ _ _ _ _ (windowOfWord-is _ _ _ _) (c .before .before .before .preset-refusal .ensures) _ (c .before .before .if1 .left) (length-window _ _ _ ∙ sym (c .before .lanes .ensures)) (c .if2 .taken)
+unfolding windowOfWord
+returns-2 c =
+    let passed = c .before .before in
+    let size = length-window _ _ _ ∙ sym (c .before .lanes .ensures) in
+    writes-short _ _ _ _ _ refl (passed .before .preset-refusal .ensures) _ (passed .if1 .left) size (c .if2 .taken)
 
-slice-relend-prefix-show : tie.Need-slice-relend-prefix-show
-slice-relend-prefix-show c = search needs
-
-slice-aggregate-show : tie.Need-slice-aggregate-show
-slice-aggregate-show c = sym (length-take-le _ _ (c .before .if2 .left))
-
-show-requires : tie.Need-show-requires
-show-requires c κs =
-    let a = (preset-accepted _ _ _ _ (c .before .before .before .before .preset-refusal .ensures) (c .before .before .before .if1 .left)) in
-    (a .0, (a .1, (length-take-le _ _ (c .before .if2 .left) ∙ c .before .before .lanes .ensures, a .2)))
+show-front-requires : tie.Need-show-front-requires
+show-front-requires c κs =
+    let fits = c .before in
+    let passed = fits .before .before in
+    let a = two-accepted _ _ _ (passed .before .preset-refusal .ensures) (passed .if1 .left) in
+    (a .0, (a .1, rw (fits .before .lanes .ensures) at (fits .if2 .left)))
 
 same-length : tie.Need-same-length
 same-length c = search needs
 
 returns-3 : tie.Need-returns-3
-returns-3 c = writes-done _ _ _ _ _ (windowOfWord-is _ _ _ _) (c .before .before .before .before .before .before .preset-refusal .ensures) _ _ (c .before .before .before .before .before .if1 .left) (length-window _ _ _ ∙ sym (c .before .before .before .before .lanes .ensures)) (c .before .before .before .if2 .left) (c .before .show .ensures)
+unfolding windowOfWord
+returns-3 c =
+    let called = c .before in
+    let fits = called .before .before in
+    let passed = fits .before .before in
+    let size = length-window _ _ _ ∙ sym (fits .before .lanes .ensures) in
+    writes-written _ _ _ _ _ refl (passed .before .preset-refusal .ensures) _ _ (passed .if1 .left) size (fits .if2 .left)
+    (called .show-front .ensures)
 
 pub window-of-word-spec : {M : Type 1} → statement M
 window-of-word-spec =
@@ -46,8 +54,6 @@ window-of-word-spec =
     returns
     lanes-requires
     returns-2
-    slice-relend-prefix-show
-    slice-aggregate-show
-    show-requires
+    show-front-requires
     same-length
     returns-3)

@@ -10,7 +10,8 @@ use borrow.Author.Needs.{needs}
 use Rattle.coxeter.specs.Kinds.{kindOf}
 use Rattle.coxeter.specs.Checks.{negativeInA}
 use Rattle.refusals.proofs.Bytes.{element-back}
-use Rattle.refusals.proofs.checks.Marks.{Passed, passed-none, zero-wrong, above-wrong, repeated-wrong, negative-wrong, passed-next, whole-passed}
+use Rattle.refusals.proofs.checks.Marks.{Passed, passed-none, passed-next, whole-passed}
+use Rattle.refusals.proofs.checks.Marks.{zero-wrong, above-wrong, repeated-wrong, negative-wrong}
 use Rattle.refusals.proofs.checks.has_wrong_entry.Statement.{statement}
 use Rattle.refusals.proofs.checks.has_wrong_entry.Tie as tie
 
@@ -55,11 +56,14 @@ returns c =
 -- the sign that is tested is that of the same entry
 sign-of : (c : tie.After-negative-in-a Inv-loop μ-loop)
     → let turn = c .before .before .before .before .before .before .before in
-    c .negative-in-a .result ≡ negativeInA (kindOf (turn .before .before .args .kind)) (getD (now (turn .before .before .args .w)) (turn .loop .i - 1) (pos 0))
+    let a = turn .before .before .args in
+    c .negative-in-a .result ≡ negativeInA (kindOf (a .kind)) (getD (now (a .w)) (turn .loop .i - 1) (pos 0))
 sign-of c =
-    let turn = c .before .before .before .before .before .before .before in
-    let e : ℤ = getD (now (turn .before .before .args .w)) (turn .loop .i - 1) (pos 0) in
-    c .negative-in-a .ensures ∙ ap (negativeInA (kindOf (turn .before .before .args .kind))) (element-back e (c .before .before .before .before .before .e .given))
+    let read = c .before .before .before .before .before in
+    let turn = read .before .before in
+    let a = turn .before .before .args in
+    let e : ℤ = getD (now (a .w)) (turn .loop .i - 1) (pos 0) in
+    c .negative-in-a .ensures ∙ ap (negativeInA (kindOf (a .kind))) (element-back e (read .e .given))
 
 returns-2 : tie.Need-returns-2 Inv-loop μ-loop
 returns-2 c =
@@ -77,7 +81,8 @@ returns-3 : tie.Need-returns-3 Inv-loop μ-loop
 returns-3 c =
     let at = c .before .before .before in
     let turn = at .before .before in
-    repeated-wrong _ _ _ _ _ _ (turn .before .loop .inv) (turn .loop-test .taken) (size-of at) (c .before .before .if1 .left) (c .before .if2 .left) (turn .before .before .before .pre) (c .if3 .taken)
+    repeated-wrong _ _ _ _ _ _ (turn .before .loop .inv) (turn .loop-test .taken) (size-of at) (c .before .before .if1 .left) (c .before .if2 .left)
+    (turn .before .before .before .pre) (c .if3 .taken)
 
 negative-in-a-requires : tie.Need-negative-in-a-requires Inv-loop μ-loop
 negative-in-a-requires c κs = search needs
@@ -86,7 +91,10 @@ returns-4 : tie.Need-returns-4 Inv-loop μ-loop
 returns-4 c =
     let at = c .before .before .before .before .before in
     let turn = at .before .before in
-    negative-wrong _ _ _ _ _ _ (turn .before .loop .inv) (turn .loop-test .taken) (size-of at) (c .before .before .before .before .if1 .left) (c .before .before .before .if2 .left) (turn .before .before .before .pre) (c .before .before .if3 .left) (sym (sign-of (c .before)) ∙ c .if4 .taken)
+    let third = c .before .before in
+    let second = third .before in
+    negative-wrong _ _ _ _ _ _ (turn .before .loop .inv) (turn .loop-test .taken) (size-of at) (second .before .if1 .left) (second .if2 .left)
+    (turn .before .before .before .pre) (third .if3 .left) (sym (sign-of (c .before)) ∙ c .if4 .taken)
 
 array-write-marks : tie.Need-array-write-marks Inv-loop μ-loop
 array-write-marks c = search needs
@@ -98,7 +106,10 @@ loop-again : tie.Need-loop-again Inv-loop μ-loop
 loop-again c =
     let at = c .before .before .before .before .before in
     let turn = at .before .before in
-    passed-next _ _ _ _ _ _ (turn .before .loop .inv) (turn .loop-test .taken) (size-of at) (c .before .before .before .before .if1 .left) (c .before .before .before .if2 .left) (turn .before .before .before .pre) (c .before .before .if3 .left) (sym (sign-of (c .before)) ∙ c .if4 .left)
+    let third = c .before .before in
+    let second = third .before in
+    passed-next _ _ _ _ _ _ (turn .before .loop .inv) (turn .loop-test .taken) (size-of at) (second .before .if1 .left) (second .if2 .left)
+    (turn .before .before .before .pre) (third .if3 .left) (sym (sign-of (c .before)) ∙ c .if4 .left)
 
 returns-5 : tie.Need-returns-5 Inv-loop μ-loop
 returns-5 c =

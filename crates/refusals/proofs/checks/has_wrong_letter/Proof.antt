@@ -30,10 +30,16 @@ loop-less : tie.Need-loop-less Inv-loop μ-loop
 loop-less c = search needs
 
 loop-again : tie.Need-loop-again Inv-loop μ-loop
-loop-again c = (omega arith, c .before .before .loop .inv .1 ∙ wrongLetter-next (c .before .before .before .args .rank) (c .before .before .before .args .word .now) (c .before .before .loop .i) (c .before .before .loop .wrong) (c .before .loop-test .taken))
+loop-again c =
+    let at = c .before .before .loop in
+    let a = c .before .before .before .args in
+    (omega arith, at .inv .1 ∙ wrongLetter-next (a .rank) (a .word .now) (at .i) (at .wrong) (c .before .loop-test .taken))
 
 returns : tie.Need-returns Inv-loop μ-loop
-returns c = sym (c .before .loop .inv .1 ∙ wrongLetter-end (c .before .before .args .rank) (c .before .before .args .word .now) (c .before .loop .i) (c .before .loop .wrong) (c .loop-test .left))
+returns c =
+    let at = c .before .loop in
+    let a = c .before .before .args in
+    sym (at .inv .1 ∙ wrongLetter-end (a .rank) (a .word .now) (at .i) (at .wrong) (c .loop-test .left))
 
 pub has-wrong-letter-spec : {M : Type 1} → statement M
 has-wrong-letter-spec =

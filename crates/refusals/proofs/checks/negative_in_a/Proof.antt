@@ -16,7 +16,9 @@ is-negative-requires c κs = search needs
 
 returns : tie.Need-returns
 unfolding negativeInA
-returns c = rw (kindOf-one _ (c .before .if1 .taken)) (c .is-negative .ensures ∙ ap negative (element-back (c .before .before .args .e) (c .before .before .fits .e .sfits)))
+returns c =
+    let start = c .before .before in
+    rw (kindOf-one _ (c .before .if1 .taken)) (c .is-negative .ensures ∙ ap negative (element-back (start .args .e) (start .fits .e .sfits)))
 
 returns-2 : tie.Need-returns-2
 unfolding negativeInA

@@ -22,8 +22,13 @@ abbrev μ-loop : tie.MeasureT-loop
 μ-loop w flag₀ i₀ flag i = length w - i
 
 -- the sign of the entry at `i`, as the call tells it
-sign : (c : tie.Joined1 Inv-loop μ-loop) → negative (getD (now (c .before .before .before .before .before .args .w)) (c .before .before .before .before .loop .i) (pos 0)) ≡ c .before .is-negative .result
-sign c = sym (c .before .is-negative .ensures ∙ ap negative (element-back (getD (now (c .before .before .before .before .before .args .w)) (c .before .before .before .before .loop .i) (pos 0)) (c .before .before .is-negative-arg .given)))
+sign : (c : tie.Joined1 Inv-loop μ-loop)
+    → let at-loop = c .before .before .before .before in
+    negative (getD (now (at-loop .before .args .w)) (at-loop .loop .i) (pos 0)) ≡ c .before .is-negative .result
+sign c =
+    let at-loop = c .before .before .before .before in
+    let e = getD (now (at-loop .before .args .w)) (at-loop .loop .i) (pos 0) in
+    sym (c .before .is-negative .ensures ∙ ap negative (element-back e (c .before .before .is-negative-arg .given)))
 
 loop-holds : tie.Need-loop-holds Inv-loop μ-loop
 loop-holds c = (omega arith, refl)

@@ -1,11 +1,22 @@
 -- `checks::rank_refusal` makes checks 5 and 6 in this order.
 -- Assumes nothing.
+use mathlib.Core.Path.{_≡_}
+use mathlib.Core.Bool.{false}
+use lib.Dec.{ltb}
 use borrow.Author.Tests.{lt-ltb, le-ltb}
 use Rattle.refusals.proofs.checks.Tests.{wrongKind-zero, wrongKind-above, wrongKind-within}
-use Rattle.coxeter.specs.Checks.{rankRefusal, wrongRank}
+use Rattle.coxeter.specs.Kinds.{kindOf, least}
+use Rattle.coxeter.specs.Checks.{wrongKind, rankRefusal, wrongRank}
 use borrow.Author.Needs.{needs}
 use Rattle.refusals.proofs.checks.rank_refusal.Statement.{statement}
 use Rattle.refusals.proofs.checks.rank_refusal.Tie as tie
+
+-- the kind is one of the three, and the rank is at least its least
+known : (c : tie.Else2) → wrongKind (c .before .before .args .kind) ≡ false
+known c = wrongKind-within _ (c .before .if1 .left) (c .if2 .left)
+
+low : (c : tie.Else3) → let a = c .before .before .before .before .args in ltb (a .rank) (least (kindOf (a .kind))) ≡ false
+low c = le-ltb _ _ (rw (c .before .least .ensures) at (c .if3 .left))
 
 returns : tie.Need-returns
 unfolding rankRefusal wrongRank
@@ -20,18 +31,22 @@ least-requires c κs = search needs
 
 returns-3 : tie.Need-returns-3
 unfolding rankRefusal wrongRank
-returns-3 c = rw (wrongKind-within _ (c .before .before .before .if1 .left) (c .before .before .if2 .left), lt-ltb _ _ (rw (c .before .least .ensures) at (c .if3 .taken)))
+returns-3 c = rw (known (c .before .before), lt-ltb _ _ (rw (c .before .least .ensures) at (c .if3 .taken)))
 
 greatest-requires : tie.Need-greatest-requires
 greatest-requires c κs = search needs
 
 returns-4 : tie.Need-returns-4
 unfolding rankRefusal wrongRank
-returns-4 c = rw (wrongKind-within _ (c .before .before .before .before .before .if1 .left) (c .before .before .before .before .if2 .left), le-ltb _ _ (rw (c .before .before .before .least .ensures) at (c .before .before .if3 .left)), lt-ltb _ _ (rw (c .before .greatest .ensures) at (c .if4 .taken)))
+returns-4 c =
+    let up = c .before .before in
+    rw (known (up .before .before), low up, lt-ltb _ _ (rw (c .before .greatest .ensures) at (c .if4 .taken)))
 
 returns-5 : tie.Need-returns-5
 unfolding rankRefusal wrongRank
-returns-5 c = rw (wrongKind-within _ (c .before .before .before .before .before .if1 .left) (c .before .before .before .before .if2 .left), le-ltb _ _ (rw (c .before .before .before .least .ensures) at (c .before .before .if3 .left)), le-ltb _ _ (rw (c .before .greatest .ensures) at (c .if4 .left)))
+returns-5 c =
+    let up = c .before .before in
+    rw (known (up .before .before), low up, le-ltb _ _ (rw (c .before .greatest .ensures) at (c .if4 .left)))
 
 pub rank-refusal-spec : {M : Type 1} → statement M
 rank-refusal-spec =

@@ -1,6 +1,5 @@
 -- `checks::window_refusal` makes checks 9 to 11 in this order.
 -- Assumes nothing.
-use mathlib.Core.Path.{sym, _∙_}
 use Rattle.refusals.proofs.checks.Tests.{windowRefusal-lanes, windowRefusal-entry, windowRefusal-odd, windowRefusal-none}
 use Rattle.coxeter.proofs.Acceptance.{lanes-le}
 use borrow.Author.Needs.{needs}
@@ -11,22 +10,32 @@ lanes-requires : tie.Need-lanes-requires
 lanes-requires c κs = search needs
 
 returns : tie.Need-returns
-returns c = sym (windowRefusal-lanes _ _ _ _ (c .before .lanes .ensures) (c .if1 .taken))
+returns c = windowRefusal-lanes _ _ _ _ (c .before .lanes .ensures) (c .if1 .taken)
 
 has-wrong-entry-requires : tie.Need-has-wrong-entry-requires
 has-wrong-entry-requires c κs = lanes-le _ _ _ (c .before .before .pre) (c .before .lanes .ensures)
 
 returns-2 : tie.Need-returns-2
-returns-2 c = sym (windowRefusal-entry _ _ _ _ (c .before .before .before .lanes .ensures) (c .before .before .if1 .left) (sym (c .before .has-wrong-entry .ensures) ∙ c .if2 .taken))
+returns-2 c =
+    let sized = c .before .before in
+    windowRefusal-entry _ _ _ _ _ (sized .before .lanes .ensures) (sized .if1 .left) (c .before .has-wrong-entry .ensures) (c .if2 .taken)
 
 has-odd-negatives-requires : tie.Need-has-odd-negatives-requires
 has-odd-negatives-requires c κs = search needs
 
 returns-3 : tie.Need-returns-3
-returns-3 c = sym (windowRefusal-odd _ _ _ _ (c .before .before .before .before .before .lanes .ensures) (c .before .before .before .before .if1 .left) (sym (c .before .before .before .has-wrong-entry .ensures) ∙ c .before .before .if2 .left) (sym (c .before .has-odd-negatives .ensures) ∙ c .if3 .taken))
+returns-3 c =
+    let right = c .before .before in
+    let sized = right .before .before in
+    windowRefusal-odd _ _ _ _ _ _ (sized .before .lanes .ensures) (sized .if1 .left) (right .before .has-wrong-entry .ensures) (right .if2 .left)
+    (c .before .has-odd-negatives .ensures) (c .if3 .taken)
 
 returns-4 : tie.Need-returns-4
-returns-4 c = sym (windowRefusal-none _ _ _ _ (c .before .before .before .before .before .lanes .ensures) (c .before .before .before .before .if1 .left) (sym (c .before .before .before .has-wrong-entry .ensures) ∙ c .before .before .if2 .left) (sym (c .before .has-odd-negatives .ensures) ∙ c .if3 .left))
+returns-4 c =
+    let right = c .before .before in
+    let sized = right .before .before in
+    windowRefusal-none _ _ _ _ _ _ (sized .before .lanes .ensures) (sized .if1 .left) (right .before .has-wrong-entry .ensures) (right .if2 .left)
+    (c .before .has-odd-negatives .ensures) (c .if3 .left)
 
 pub window-refusal-spec : {M : Type 1} → statement M
 window-refusal-spec =

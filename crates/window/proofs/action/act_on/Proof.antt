@@ -35,7 +35,9 @@ returns-2 c =
     c .before .negate-at .ensures ∙ negateFirst-eq-act _ _ _ _ (b .before .before .pre) (b .before .if1 .left) (b .if2 .taken)
 
 sub-exchange-negate-at : tie.Need-sub-exchange-negate-at
-sub-exchange-negate-at c = omega (arith, four-le-of-last _ _ _ _ (c .before .before .before .pre) (c .before .before .if1 .left) (c .before .if2 .left))
+sub-exchange-negate-at c =
+    let third = c .before in
+    omega (arith, four-le-of-last _ _ _ _ (third .before .before .pre) (third .before .if1 .left) (third .if2 .left))
 
 exchange-negate-at-requires : tie.Need-exchange-negate-at-requires
 exchange-negate-at-requires c κs =

@@ -1,24 +1,29 @@
 -- `forms::write_checked` makes check 14 against the length of the normal form, which the sums give, and writes it.
 -- Assumes nothing.
-use mathlib.Core.Path.{refl}
 use denote.Ref.{now}
-use Rattle.coxeter.proofs.Acceptance.{lanes-le}
-use Rattle.window.proofs.forms.Rooms.{checked-short, checked-room, checked-written}
 use borrow.Author.Needs.{needs}
+use Rattle.window.proofs.forms.Rooms.{checked-short, checked-room, checked-written}
 use Rattle.window.proofs.forms.write_checked.Statement.{statement}
 use Rattle.window.proofs.forms.write_checked.Tie as tie
 
-length-of-requires : tie.Need-length-of-requires
-length-of-requires c κs = (lanes-le _ _ _ (c .before .before .pre .0) refl, c .before .before .pre .1)
+length-of-front-requires : tie.Need-length-of-front-requires
+length-of-front-requires c κs = c .before .before .pre
 
 same-length : tie.Need-same-length
 same-length c = search needs
 
 returns : tie.Need-returns
-returns c = checked-short _ _ _ _ _ (c .before .before .before .before .pre .0) (c .before .before .before .before .pre .1) (c .before .length-of .ensures) (c .if1 .taken)
+returns c =
+    let measured = c .before in
+    checked-short _ _ _ _ _ (measured .before .before .before .pre .1 .1) (measured .length-of-front .ensures) (c .if1 .taken)
 
 write-normal-form-requires : tie.Need-write-normal-form-requires
-write-normal-form-requires c κs = checked-room _ _ _ (now (c .before .before .before .before .before .before .args .out)) _ (c .before .before .before .before .before .before .pre .0) (c .before .before .before .before .before .before .pre .1) (c .before .before .before .length-of .ensures) (c .before .before .if1 .left)
+write-normal-form-requires c κs =
+    let fits = c .before .before in
+    let start = fits .before .before .before .before in
+    let pre = start .pre in
+    let room = checked-room _ _ _ (now (start .args .out)) _ (pre .1 .1) (fits .before .length-of-front .ensures) (fits .if1 .left) in
+    (pre .0, (pre .1 .0, (pre .1 .1, room)))
 
 same-length-2 : tie.Need-same-length-2
 same-length-2 c = search needs
@@ -27,13 +32,18 @@ same-length-3 : tie.Need-same-length-3
 same-length-3 c = search needs
 
 returns-2 : tie.Need-returns-2
-returns-2 c = checked-written _ _ _ _ _ (c .before .before .before .before .before .before .before .before .before .before .pre .0) (c .before .before .before .before .before .before .before .before .before .before .pre .1) (c .before .before .before .before .before .before .before .length-of .ensures) _ _ (c .before .before .before .before .before .before .if1 .left) (c .before .before .before .write-normal-form .ensures .0) (c .before .before .before .write-normal-form .ensures .1)
+returns-2 c =
+    let wrote = c .before .before .before in
+    let fits = wrote .before .before .before in
+    let pre = fits .before .before .before .before .pre in
+    checked-written _ _ _ _ _ (pre .1 .1) (fits .before .length-of-front .ensures) _ _ (fits .if1 .left)
+    (wrote .write-normal-form .ensures .0) (wrote .write-normal-form .ensures .1)
 
 pub write-checked-spec : {M : Type 1} → statement M
 write-checked-spec =
     tie.close
     (tie.spec
-    length-of-requires
+    length-of-front-requires
     same-length
     returns
     write-normal-form-requires

@@ -12,7 +12,7 @@ use Rattle.window.proofs.length.set_sizes.Statement.{statement}
 use Rattle.window.proofs.length.set_sizes.Tie as tie
 
 abbrev Inv-loop : tie.InvT-loop
-Inv-loop w out₀ i₀ out i = (i ≤ length w) × (length out ≡ length w) × (take i out ≡ take i (map natAbs w))
+Inv-loop w out₀ i₀ out i = (i ≤ length w) × (length out ≡ length out₀) × (take i out ≡ take i (map natAbs w))
 
 abbrev μ-loop : tie.MeasureT-loop
 μ-loop w out₀ i₀ out i = length w - i
@@ -46,7 +46,9 @@ same-length : tie.Need-same-length Inv-loop μ-loop
 same-length c = search needs
 
 returns : tie.Need-returns Inv-loop μ-loop
-returns c = sized-end _ (c .before .before .before .args .w .now) _ (c .before .loop .inv .0) (c .loop-test .left) (c .before .loop .inv .1) (c .before .loop .inv .2)
+returns c =
+    let held = c .before .loop .inv in
+    sized-end _ (c .before .before .before .args .w .now) _ (held .0) (c .loop-test .left) (held .2)
 
 pub set-sizes-spec : {M : Type 1} → statement M
 set-sizes-spec =

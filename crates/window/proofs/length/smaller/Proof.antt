@@ -39,7 +39,10 @@ loop-again c =
     let l = turn .before .before .args .rest .now in
     let i = turn .before .loop .i in
     let step = smaller-next own l i (turn .loop-test .taken) in
-    ⊎-elim (λ x. omega (arith, rw (lt-ltb (getD l i 0) own (x .0 .taken)) at step)) (λ x. omega (arith, rw (le-ltb (getD l i 0) own (x .0 .left)) at step)) (c .if1 .came)
+    ⊎-elim
+    (λ x. omega (arith, rw (lt-ltb (getD l i 0) own (x .0 .taken)) at step))
+    (λ x. omega (arith, rw (le-ltb (getD l i 0) own (x .0 .left)) at step))
+    (c .if1 .came)
 
 cast-result : tie.Need-cast-result Inv-loop μ-loop
 cast-result c = search needs

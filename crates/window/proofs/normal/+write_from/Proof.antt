@@ -8,7 +8,8 @@ use borrow.Author.Needs.{needs}
 use borrow.Fn.Kinds.{In}
 use borrow.Fn.PlainCycle.{Measures, is, falls, and}
 use Rattle.coxeter.specs.Kinds.{kindOf}
-use Rattle.window.proofs.normal.Peels.{normalFrom-none, normalFrom-next, sizes-length, sizes-next, length-tail, joined-room-left, joined-room-right, joined-stored}
+use Rattle.window.proofs.normal.Peels.{normalFrom-none, normalFrom-next, sizes-length, sizes-next, length-tail}
+use Rattle.window.proofs.normal.Peels.{joined-room-left, joined-room-right, joined-stored}
 use Rattle.coxeter.proofs.KindLaws.{one-le}
 use Rattle.window.proofs.normal.write_from.Reads as write-from
 use Rattle.window.proofs.normal.write_from.Kinds as write-from-kinds

@@ -1,4 +1,4 @@
--- `normal::take_out` moves the entries before the place p one place on. The invariant: w without its entry at q is the first w without its entry at p.
+-- `normal::take_out` moves the entries before the place p one place on. The invariant: w without its entry at q is the first w without that at p.
 -- Assumes nothing.
 use mathlib.Core.Path.{_≡_, refl, _∙_}
 use Prim.Native.Nat.{_≤_, _-_}

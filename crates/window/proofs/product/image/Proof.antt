@@ -34,7 +34,8 @@ is-negative-requires c κs = search needs
 negated-requires : tie.Need-negated-requires
 negated-requires c κs =
     let known = c .before .before .before in
-    image-small (known .before .args .u .now) (known .before .args .e) _ (size-is known) (known .before .pre .0) (known .before .pre .1 .1) (c .before .before .x .given)
+    let start = known .before in
+    image-small (start .args .u .now) (start .args .e) _ (size-is known) (start .pre .0) (start .pre .1 .1) (c .before .before .x .given)
 
 returns : tie.Need-returns
 returns c =

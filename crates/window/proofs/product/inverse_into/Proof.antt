@@ -1,4 +1,4 @@
--- `product::inverse_into` stores the place of each entry at its size: what is left to store are the entries from `i` on.
+-- `product::inverse_into` stores the position of each entry at its size: what is left to store are the entries from `i` on.
 -- Assumes nothing.
 use mathlib.Core.Path.{_≡_, sym, _∙_, ap}
 use Prim.Native.Nat.{_+_, _≤_, _-_}
@@ -6,33 +6,32 @@ use native.Mathlib.Omega.{arith}
 use lib.IntN.{pos, natAbs}
 use lib.ListN.{length, getD, drop, length-set}
 use borrow.Author.Needs.{needs}
-use Rattle.coxeter.specs.Length.{negative}
+use Rattle.coxeter.proofs.Acceptance.{rank-accepted}
 use Rattle.refusals.proofs.Bytes.{element-back}
 use Rattle.window.proofs.length.Sums.{length-le-of-refusal}
 use Rattle.window.proofs.product.Scatter.{scatter}
-use Rattle.window.proofs.product.Entries.{entry-bounds, scatter-step, scatter-end, scatter-is-inverse}
+use Rattle.window.proofs.product.Entries.{entry-bounds, scatter-step, scatter-end, scatter-written}
 use Rattle.window.proofs.product.inverse_into.Statement.{statement}
 use Rattle.window.proofs.product.inverse_into.Tie as tie
 
 abbrev Inv-loop : tie.InvT-loop
-Inv-loop kind n w out₀ i₀ out i = (i ≤ length w) × (length out ≡ length out₀) × (scatter out₀ 1 w ≡ scatter out (i + 1) (drop i w))
+Inv-loop kind rank w out₀ i₀ out i = (i ≤ length w) × (length out ≡ length out₀) × (scatter out₀ 1 w ≡ scatter out (i + 1) (drop i w))
 
 abbrev μ-loop : tie.MeasureT-loop
-μ-loop kind n w out₀ i₀ out i = length w - i
+μ-loop kind rank w out₀ i₀ out i = length w - i
 
+-- the size that was computed is the entry's, and is a place of the window
 size-is : (c : tie.After-size Inv-loop μ-loop)
     → c .size .result ≡ natAbs (getD (c .before .before .before .before .args .w .now) (c .before .before .before .loop .i) (pos 0))
 size-is c =
-    c .size .ensures
-    ∙ ap natAbs (element-back (getD (c .before .before .before .before .args .w .now) (c .before .before .before .loop .i) (pos 0)) (c .before .e .given))
+    let turn = c .before .before in
+    let e = getD (turn .before .before .args .w .now) (turn .before .loop .i) (pos 0) in
+    c .size .ensures ∙ ap natAbs (element-back e (c .before .e .given))
 
-bounds : (c : tie.In-loop Inv-loop μ-loop)
-    → (1 ≤ natAbs (getD (c .before .before .args .w .now) (c .before .loop .i) (pos 0)))
-    × (natAbs (getD (c .before .before .args .w .now) (c .before .loop .i) (pos 0)) ≤ length (c .before .before .args .w .now))
-bounds c = entry-bounds _ _ _ _ (c .before .before .pre .1 .0) (c .loop-test .taken)
-
-small : (c : tie.In-loop Inv-loop μ-loop) → length (c .before .before .args .w .now) ≤ 65
-small c = length-le-of-refusal _ _ _ (c .before .before .pre .0) (c .before .before .pre .1 .0)
+bounds : (c : tie.After-size Inv-loop μ-loop) → (1 ≤ c .size .result) × (c .size .result ≤ length (c .before .before .before .before .args .w .now))
+bounds c =
+    let turn = c .before .before in
+    rw (size-is c) (entry-bounds _ _ _ _ (turn .before .before .pre .1 .0) (turn .loop-test .taken))
 
 loop-holds : tie.Need-loop-holds Inv-loop μ-loop
 loop-holds c = search needs
@@ -43,40 +42,34 @@ shared-slice-copy-out-e c = search needs
 size-requires : tie.Need-size-requires Inv-loop μ-loop
 size-requires c κs = search needs
 
-is-negative-requires : tie.Need-is-negative-requires Inv-loop μ-loop
-is-negative-requires c κs = search needs
-
 cast-p : tie.Need-cast-p Inv-loop μ-loop
 cast-p c = search needs
 
 sub-p : tie.Need-sub-p Inv-loop μ-loop
-sub-p c = omega (arith, size-is (c .before), bounds (c .before .before .before))
+sub-p c = bounds c .0
 
-add-next : tie.Need-add-next Inv-loop μ-loop
-add-next c = search needs
+add-i : tie.Need-add-i Inv-loop μ-loop
+add-i c = search needs
 
-cast-entry : tie.Need-cast-entry Inv-loop μ-loop
-cast-entry c = omega (arith, small (c .before .before .before))
+with-sign-requires : tie.Need-with-sign-requires Inv-loop μ-loop
+with-sign-requires c κs =
+    let start = c .before .before .before .before in
+    omega (arith, length-le-of-refusal _ _ _ (rank-accepted _ _ (start .pre .0) .1) (start .pre .1 .0))
 
-entry-requires : tie.Need-entry-requires Inv-loop μ-loop
-entry-requires c κs = omega (arith, small (c .before .before .before))
-
-slice-set-from-place : tie.Need-slice-set-from-place Inv-loop μ-loop
-slice-set-from-place c = omega (arith, size-is (c .before .before), bounds (c .before .before .before .before))
+slice-set-from-out : tie.Need-slice-set-from-out Inv-loop μ-loop
+slice-set-from-out c = let b = bounds (c .before) in omega arith
 
 loop-less : tie.Need-loop-less Inv-loop μ-loop
 loop-less c = search needs
 
 loop-again : tie.Need-loop-again Inv-loop μ-loop
 loop-again c =
-    let turn = c .before .before .before .before in
-    let w = turn .before .before .args .w .now in
-    let i = turn .before .loop .i in
-    let sign = c .before .is-negative .ensures ∙ ap negative (element-back (getD w i (pos 0)) (c .before .before .before .e .given)) in (
+    let sized = c .before in
+    let turn = sized .before .before in
+    let held = turn .before .loop .inv in (
       omega arith,
-      simp length-set (turn .before .loop .inv .1),
-      turn .before .loop .inv .2
-          ∙ scatter-step _ _ _ _ _ _ (turn .loop-test .taken) (c .entry .ok) (size-is (c .before .before)) sign (c .entry .ensures),
+      simp length-set (held .1),
+      held .2 ∙ scatter-step _ _ _ _ _ (turn .loop-test .taken) (sized .before .e .given) (c .with-sign .ok) (size-is sized) (c .with-sign .ensures),
     )
 
 same-length : tie.Need-same-length Inv-loop μ-loop
@@ -84,8 +77,9 @@ same-length c = search needs
 
 returns : tie.Need-returns Inv-loop μ-loop
 returns c =
-    let start = c .before .before in
-    sym (scatter-end _ _ _ _ (c .loop-test .left)) ∙ sym (c .before .loop .inv .2) ∙ scatter-is-inverse _ _ _ _ (start .pre .1 .0) (start .pre .1 .1)
+    let at-loop = c .before in
+    let pre = at-loop .before .pre in
+    sym (scatter-end _ _ _ _ (c .loop-test .left)) ∙ sym (at-loop .loop .inv .2) ∙ scatter-written _ _ _ _ (pre .1 .0) (pre .1 .1)
 
 pub inverse-into-spec : {M : Type 1} → statement M
 inverse-into-spec =
@@ -96,13 +90,11 @@ inverse-into-spec =
     loop-holds
     shared-slice-copy-out-e
     size-requires
-    is-negative-requires
     cast-p
     sub-p
-    add-next
-    cast-entry
-    entry-requires
-    slice-set-from-place
+    add-i
+    with-sign-requires
+    slice-set-from-out
     loop-less
     loop-again
     same-length

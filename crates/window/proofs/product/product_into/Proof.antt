@@ -1,41 +1,37 @@
--- `product::product_into` writes the product's entries one by one: those before `i` are in `out`, the rest are the product of the part of v from `i` on.
+-- `product::product_into` stores the product's entries one by one: what is left to store is the product with the part of v from `i` on.
 -- Assumes nothing.
 use mathlib.Core.Path.{_≡_, sym, _∙_}
-use mathlib.Core.List.{_++_}
-use Prim.Native.Nat.{_≤_, _<_, _-_}
+use Prim.Native.Nat.{_≤_, _-_}
 use native.Mathlib.Omega.{arith}
-use lib.ListN.{length, take, drop, length-set}
+use lib.ListN.{length, drop, length-set}
+use lib.Seq.{sets}
 use borrow.Author.Needs.{needs}
 use Rattle.coxeter.specs.Windows.{product}
-use Rattle.window.proofs.product.Entries.{same-length-of-refusals, image-asks, product-step, product-end}
+use Rattle.coxeter.proofs.Acceptance.{rank-accepted}
+use Rattle.window.proofs.product.Entries.{image-asks, product-step, product-end, product-written}
 use Rattle.window.proofs.product.product_into.Statement.{statement}
 use Rattle.window.proofs.product.product_into.Tie as tie
 
 abbrev Inv-loop : tie.InvT-loop
-Inv-loop kind n u v out₀ i₀ out i = (i ≤ length v) × (length out ≡ length out₀) × (product u v ≡ take i out ++ product u (drop i v))
+Inv-loop kind rank u v out₀ i₀ out i = (i ≤ length v) × (length out ≡ length out₀) × (sets out₀ 0 (product u v) ≡ sets out i (product u (drop i v)))
 
 abbrev μ-loop : tie.MeasureT-loop
-μ-loop kind n u v out₀ i₀ out i = length v - i
-
-within : (c : tie.After-image Inv-loop μ-loop) → c .before .before .before .loop .i < length (c .before .before .before .loop .out)
-within c =
-    let start = c .before .before .before .before in
-    omega (arith, same-length-of-refusals _ _ (start .args .u .now) (start .args .v .now) (start .pre .1 .0) (start .pre .1 .1 .0))
+μ-loop kind rank u v out₀ i₀ out i = length v - i
 
 loop-holds : tie.Need-loop-holds Inv-loop μ-loop
 loop-holds c = search needs
 
-shared-slice-copy-out-e : tie.Need-shared-slice-copy-out-e Inv-loop μ-loop
-shared-slice-copy-out-e c = search needs
+shared-slice-copy-out-image : tie.Need-shared-slice-copy-out-image Inv-loop μ-loop
+shared-slice-copy-out-image c = search needs
 
 image-requires : tie.Need-image-requires Inv-loop μ-loop
 image-requires c κs =
     let turn = c .before in
     let pre = turn .before .before .pre in
-    image-asks _ _ _ _ _ (pre .0) (pre .1 .0) (pre .1 .1 .0) (turn .loop-test .taken) (c .e .given)
+    image-asks _ _ _ _ _ (rank-accepted _ _ (pre .0) .1) (pre .1 .0) (pre .1 .1 .0) (turn .loop-test .taken) (c .image-arg .given)
 
-slice-set-from-x : tie.Need-slice-set-from-x Inv-loop μ-loop
-slice-set-from-x c = within c
+slice-set-from-out : tie.Need-slice-set-from-out Inv-loop μ-loop
+slice-set-from-out c = search needs
 
 add-i : tie.Need-add-i Inv-loop μ-loop
 add-i c = search needs
@@ -49,8 +45,7 @@ loop-again c =
     let at-loop = turn .before .loop in (
       omega arith,
       simp length-set (at-loop .inv .1),
-      at-loop .inv .2
-          ∙ product-step _ _ _ _ _ (turn .loop-test .taken) (within c) (c .before .e .given) (c .image .ok) (c .image .ensures),
+      at-loop .inv .2 ∙ product-step _ _ _ _ _ (turn .loop-test .taken) (c .before .image-arg .given) (c .image .ok) (c .image .ensures),
     )
 
 same-length : tie.Need-same-length Inv-loop μ-loop
@@ -58,10 +53,8 @@ same-length c = search needs
 
 returns : tie.Need-returns Inv-loop μ-loop
 returns c =
-    let start = c .before .before in
-    let at-loop = c .before .loop in
-    sym (at-loop .inv .2 ∙ product-end _ _ _ _ (c .loop-test .left)
-    (omega (arith, same-length-of-refusals _ _ (start .args .u .now) (start .args .v .now) (start .pre .1 .0) (start .pre .1 .1 .0))))
+    let at-loop = c .before in
+    sym (product-end _ _ _ _ (c .loop-test .left)) ∙ sym (at-loop .loop .inv .2) ∙ product-written _ _ _ (at-loop .before .pre .1 .1 .1)
 
 pub product-into-spec : {M : Type 1} → statement M
 product-into-spec =
@@ -70,9 +63,9 @@ product-into-spec =
     Inv-loop
     μ-loop
     loop-holds
-    shared-slice-copy-out-e
+    shared-slice-copy-out-image
     image-requires
-    slice-set-from-x
+    slice-set-from-out
     add-i
     loop-less
     loop-again

@@ -33,7 +33,9 @@ loop-less : tie.Need-loop-less Inv-loop μ-loop
 loop-less c = search needs
 
 loop-again : tie.Need-loop-again Inv-loop μ-loop
-loop-again c = (search needs, search needs, copy-next _ _ _ (c .before .loop-test .taken) (search needs) (c .out .given) (c .before .before .loop .inv .2))
+loop-again c =
+    let turn = c .before in
+    (search needs, search needs, copy-next _ _ _ (turn .loop-test .taken) (search needs) (c .out .given) (turn .before .loop .inv .2))
 
 returns : tie.Need-returns Inv-loop μ-loop
 returns c = (c .before .loop .inv .1, copy-end _ _ _ (c .before .loop .inv .0) (c .loop-test .left) (c .before .loop .inv .2))

@@ -1,9 +1,9 @@
 -- `shown::equal_words` shows each word at the front of a blank window and compares the fronts.
 -- Assumes nothing.
-use mathlib.Core.Path.{sym, _∙_}
-use native.Mathlib.Omega.{arith}
-use Rattle.coxeter.proofs.Acceptance.{rank-accepted, letters-accepted, lanes-le}
-use Rattle.window.proofs.shown.Fronts.{room, length-front-part, front-show, fronts-same}
+use mathlib.Core.Path.{_∙_}
+use Rattle.coxeter.specs.Kinds.{kindOf}
+use Rattle.coxeter.specs.Windows.{window}
+use Rattle.window.proofs.shown.Fronts.{Front, room, front-window, part-room, parts-same}
 use borrow.Author.Needs.{needs}
 use Rattle.window.proofs.shown.equal_words.Statement.{statement}
 use Rattle.window.proofs.shown.equal_words.Tie as tie
@@ -14,79 +14,63 @@ lanes-requires c κs = search needs
 blank-requires : tie.Need-blank-requires
 blank-requires c κs = search needs
 
-array-borrow-prefix-first : tie.Need-array-borrow-prefix-first
-array-borrow-prefix-first c =
-    let at = c .before in
-    let start = at .before .before .before in
-    room _ _ _ (start .pre .0) (at .lanes .ensures) (c .blank .result) (c .blank .ensures)
+slice-aggregate-show-front : tie.Need-slice-aggregate-show-front
+slice-aggregate-show-front c = search needs
 
-slice-aggregate-show : tie.Need-slice-aggregate-show
-slice-aggregate-show c =
-    let at = c .before .before in
-    let start = at .before .before .before in
-    sym (length-front-part _ _ _ (start .pre .0) (at .lanes .ensures) (c .before .blank .result) (c .before .blank .ensures))
-
-show-requires : tie.Need-show-requires
-show-requires c κs =
-    let at = c .before .before in
-    let start = at .before .before .before in
-    let a = rank-accepted _ _ (start .pre .0) in
-    (a .0, (a .1, (length-front-part _ _ _ (start .pre .0) (at .lanes .ensures) (c .before .blank .result) (c .before .blank .ensures) ∙ at .lanes .ensures, letters-accepted _ _ (start .pre .1 .0))))
+show-front-requires : tie.Need-show-front-requires
+show-front-requires c κs =
+    let pre = c .before .before .before .before .before .pre in
+    (pre .0, (pre .1 .0, room _ _ (pre .0) (c .before .blank .result) (c .before .blank .ensures)))
 
 blank-requires-2 : tie.Need-blank-requires-2
 blank-requires-2 c κs = search needs
 
-array-borrow-prefix-second : tie.Need-array-borrow-prefix-second
-array-borrow-prefix-second c =
-    let at = c .before .before .before .before .before in
-    let start = at .before .before .before in
-    room _ _ _ (start .pre .0) (at .lanes .ensures) (c .blank2 .result) (c .blank2 .ensures)
+-- what the first work window holds
+first : (c : tie.After-show-front)
+    → let a = c .before .before .before .before .before .before .args in
+    Front (a .kind) (a .rank) (window (kindOf (a .kind)) (a .rank) (a .u .now)) (c .show-front .last .1 .1 .1 .0)
+first c =
+    let made = c .before .before in
+    front-window _ _ (made .before .before .before .before .pre .0) _ _ _ (made .blank .ensures) (c .show-front .ensures)
 
-slice-aggregate-show-2 : tie.Need-slice-aggregate-show-2
-slice-aggregate-show-2 c =
-    let at = c .before .before .before .before .before .before in
-    let start = at .before .before .before in
-    sym (length-front-part _ _ _ (start .pre .0) (at .lanes .ensures) (c .before .blank2 .result) (c .before .blank2 .ensures))
+slice-aggregate-show-front-2 : tie.Need-slice-aggregate-show-front-2
+slice-aggregate-show-front-2 c = search needs
 
-show-requires-2 : tie.Need-show-requires-2
-show-requires-2 c κs =
-    let at = c .before .before .before .before .before .before in
-    let start = at .before .before .before in
-    let a = rank-accepted _ _ (start .pre .0) in
-    (a .0, (a .1, (length-front-part _ _ _ (start .pre .0) (at .lanes .ensures) (c .before .blank2 .result) (c .before .blank2 .ensures) ∙ at .lanes .ensures, letters-accepted _ _ (start .pre .1 .1))))
+show-front-requires-2 : tie.Need-show-front-requires-2
+show-front-requires-2 c κs =
+    let pre = c .before .before .before .before .before .before .before .before .before .pre in
+    (pre .0, (pre .1 .1, room _ _ (pre .0) (c .before .blank2 .result) (c .before .blank2 .ensures)))
 
-array-share-prefix-first : tie.Need-array-share-prefix-first
-array-share-prefix-first c =
-    let at = c .before .before .before .before .before .before .before .before in
-    let start = at .before .before .before in
-    omega (arith, lanes-le _ _ _ (start .pre .0) (at .lanes .ensures), (front-show _ _ _ (start .pre .0) (at .lanes .ensures) _ (c .before .before .before .before .before .before .before .blank .result) _ (c .before .before .before .before .before .before .before .blank .ensures) (c .before .before .before .before .before .show .ensures)) .0)
+-- and the second
+second : (c : tie.After-show-front2)
+    → let a = c .before .before .before .before .before .before .before .before .before .before .args in
+    Front (a .kind) (a .rank) (window (kindOf (a .kind)) (a .rank) (a .v .now)) (c .show-front2 .last .1 .1 .1 .0)
+second c =
+    let made = c .before .before in
+    front-window _ _ (made .before .before .before .before .before .before .before .before .pre .0) _ _ _ (made .blank2 .ensures)
+    (c .show-front2 .ensures)
 
-slice-aggregate-same-entries : tie.Need-slice-aggregate-same-entries
-slice-aggregate-same-entries c =
-    let at = c .before .before .before .before .before .before .before .before .before in
-    let start = at .before .before .before in
-    sym (length-front-part _ _ _ (start .pre .0) (at .lanes .ensures) _ (front-show _ _ _ (start .pre .0) (at .lanes .ensures) _ (c .before .before .before .before .before .before .before .before .blank .result) _ (c .before .before .before .before .before .before .before .before .blank .ensures) (c .before .before .before .before .before .before .show .ensures) .0))
+slice-aggregate-same-fronts : tie.Need-slice-aggregate-same-fronts
+slice-aggregate-same-fronts c = search needs
 
-array-share-prefix-second : tie.Need-array-share-prefix-second
-array-share-prefix-second c =
-    let at = c .before .before .before .before .before .before .before .before .before in
-    let start = at .before .before .before in
-    omega (arith, lanes-le _ _ _ (start .pre .0) (at .lanes .ensures), (front-show _ _ _ (start .pre .0) (at .lanes .ensures) _ (c .before .before .before .before .blank2 .result) _ (c .before .before .before .before .blank2 .ensures) (c .before .before .show2 .ensures)) .0)
+slice-aggregate-same-fronts-2 : tie.Need-slice-aggregate-same-fronts-2
+slice-aggregate-same-fronts-2 c = search needs
 
-slice-aggregate-same-entries-2 : tie.Need-slice-aggregate-same-entries-2
-slice-aggregate-same-entries-2 c =
-    let at = c .before .before .before .before .before .before .before .before .before .before in
-    let start = at .before .before .before in
-    sym (length-front-part _ _ _ (start .pre .0) (at .lanes .ensures) _ (front-show _ _ _ (start .pre .0) (at .lanes .ensures) _ (c .before .before .before .before .before .blank2 .result) _ (c .before .before .before .before .before .blank2 .ensures) (c .before .before .before .show2 .ensures) .0))
-
-same-entries-requires : tie.Need-same-entries-requires
-same-entries-requires c κs = search needs
+same-fronts-requires : tie.Need-same-fronts-requires
+same-fronts-requires c κs =
+    let both = c .before .before .before in
+    let one = both .before .before .before .before in
+    let counted = one .before .before .before in
+    let fits = part-room _ _ _ (counted .before .before .before .pre .0) (counted .lanes .ensures) in
+    (fits (one .show-front .last .1 .1 .1 .0) (first one .0), fits (both .show-front2 .last .1 .1 .1 .0) (second both .0))
 
 returns : tie.Need-returns
 returns c =
-    let at = c .before .before .before .before .before .before .before .before .before .before .before in
-    let start = at .before .before .before in
-    c .same-entries .ensures ∙ fronts-same _ _ _ _ _ _ (at .lanes .ensures) (front-show _ _ _ (start .pre .0) (at .lanes .ensures) _ (c .before .before .before .before .before .before .before .before .before .before .blank .result) _ (c .before .before .before .before .before .before .before .before .before .before .blank .ensures) (c .before .before .before .before .before .before .before .before .show .ensures) .1) (front-show _ _ _ (start .pre .0) (at .lanes .ensures) _ (c .before .before .before .before .before .before .blank2 .result) _ (c .before .before .before .before .before .before .blank2 .ensures) (c .before .before .before .before .show2 .ensures) .1)
+    let both = c .before .before .before .before in
+    let one = both .before .before .before .before in
+    let counted = one .before .before .before in
+    c .same-fronts .ensures
+    ∙ parts-same _ _ _ (counted .before .before .before .pre .0) (counted .lanes .ensures) _ _ _ _ (first one) (second both)
 
 pub equal-words-spec : {M : Type 1} → statement M
 equal-words-spec =
@@ -94,16 +78,12 @@ equal-words-spec =
     (tie.spec
     lanes-requires
     blank-requires
-    array-borrow-prefix-first
-    slice-aggregate-show
-    show-requires
+    slice-aggregate-show-front
+    show-front-requires
     blank-requires-2
-    array-borrow-prefix-second
-    slice-aggregate-show-2
-    show-requires-2
-    array-share-prefix-first
-    slice-aggregate-same-entries
-    array-share-prefix-second
-    slice-aggregate-same-entries-2
-    same-entries-requires
+    slice-aggregate-show-front-2
+    show-front-requires-2
+    slice-aggregate-same-fronts
+    slice-aggregate-same-fronts-2
+    same-fronts-requires
     returns)

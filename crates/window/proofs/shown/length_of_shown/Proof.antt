@@ -1,73 +1,52 @@
 -- `shown::length_of_shown` shows the word at the front of a blank window and measures the front.
 -- Assumes nothing.
-use mathlib.Core.Path.{refl, sym, _∙_, ap}
-use native.Mathlib.Omega.{arith}
+use mathlib.Core.Path.{ap, _∙_}
+use Rattle.coxeter.specs.Kinds.{kindOf}
 use Rattle.coxeter.specs.Length.{windowLength}
-use Rattle.coxeter.proofs.Acceptance.{rank-accepted, letters-accepted, lanes-le}
-use Rattle.window.proofs.shown.Fronts.{room, length-front-part, front-show, front-refusal, window-passes, front-is}
+use Rattle.coxeter.specs.Windows.{window}
+use Rattle.window.proofs.shown.Fronts.{Front, room, front-window, front-asks, window-passes}
 use borrow.Author.Needs.{needs}
 use Rattle.window.proofs.shown.length_of_shown.Statement.{statement}
 use Rattle.window.proofs.shown.length_of_shown.Tie as tie
 
-lanes-requires : tie.Need-lanes-requires
-lanes-requires c κs = search needs
-
 blank-requires : tie.Need-blank-requires
 blank-requires c κs = search needs
 
-array-borrow-prefix-work : tie.Need-array-borrow-prefix-work
-array-borrow-prefix-work c =
-    let at = c .before in
-    let start = at .before .before in
-    room _ _ _ (start .pre .0) (at .lanes .ensures) (c .blank .result) (c .blank .ensures)
+slice-aggregate-show-front : tie.Need-slice-aggregate-show-front
+slice-aggregate-show-front c = search needs
 
-slice-aggregate-show : tie.Need-slice-aggregate-show
-slice-aggregate-show c =
-    let at = c .before .before in
-    let start = at .before .before in
-    sym (length-front-part _ _ _ (start .pre .0) (at .lanes .ensures) (c .before .blank .result) (c .before .blank .ensures))
+show-front-requires : tie.Need-show-front-requires
+show-front-requires c κs =
+    let made = c .before in
+    let pre = made .before .before .pre in
+    (pre .0, (pre .1, room _ _ (pre .0) (made .blank .result) (made .blank .ensures)))
 
-show-requires : tie.Need-show-requires
-show-requires c κs =
-    let at = c .before .before in
-    let start = at .before .before in
-    let a = rank-accepted _ _ (start .pre .0) in
-    (a .0, (a .1, (length-front-part _ _ _ (start .pre .0) (at .lanes .ensures) (c .before .blank .result) (c .before .blank .ensures) ∙ at .lanes .ensures, letters-accepted _ _ (start .pre .1))))
+-- what the work window holds after the call
+held : (c : tie.After-show-front)
+    → let a = c .before .before .before .before .args in
+    Front (a .kind) (a .rank) (window (kindOf (a .kind)) (a .rank) (a .word .now)) (c .show-front .last .1 .1 .1 .0)
+held c =
+    let made = c .before .before in
+    front-window _ _ (made .before .before .pre .0) _ _ _ (made .blank .ensures) (c .show-front .ensures)
 
-array-share-prefix-work : tie.Need-array-share-prefix-work
-array-share-prefix-work c =
-    let at = c .before .before .before .before in
-    let start = at .before .before in
-    omega (arith, lanes-le _ _ _ (start .pre .0) (at .lanes .ensures), (front-show _ _ _ (start .pre .0) (at .lanes .ensures) _ (c .before .before .before .blank .result) _ (c .before .before .before .blank .ensures) (c .before .show .ensures)) .0)
+slice-aggregate-length-of-front : tie.Need-slice-aggregate-length-of-front
+slice-aggregate-length-of-front c = search needs
 
-slice-aggregate-length-of : tie.Need-slice-aggregate-length-of
-slice-aggregate-length-of c =
-    let at = c .before .before .before .before .before in
-    let start = at .before .before in
-    sym (length-front-part _ _ _ (start .pre .0) (at .lanes .ensures) _ (front-show _ _ _ (start .pre .0) (at .lanes .ensures) _ (c .before .before .before .before .blank .result) _ (c .before .before .before .before .blank .ensures) (c .before .before .show .ensures) .0))
-
-length-of-requires : tie.Need-length-of-requires
-length-of-requires c κs =
-    let at = c .before .before .before .before .before in
-    let start = at .before .before in
-    (lanes-le _ _ _ (start .pre .0) refl, front-refusal _ _ _ (at .lanes .ensures) (front-show _ _ _ (start .pre .0) (at .lanes .ensures) _ (c .before .before .before .before .blank .result) _ (c .before .before .before .before .blank .ensures) (c .before .before .show .ensures) .1) (window-passes _ _ _))
+length-of-front-requires : tie.Need-length-of-front-requires
+length-of-front-requires c κs =
+    let called = c .before .before in
+    front-asks _ _ (called .before .before .before .before .pre .0) _ _ (window-passes _ _ _) (held called)
 
 returns : tie.Need-returns
-returns c =
-    let at = c .before .before .before .before .before .before in
-    let start = at .before .before in
-    c .length-of .ensures ∙ ap (windowLength _) (front-is _ (at .lanes .ensures) (front-show _ _ _ (start .pre .0) (at .lanes .ensures) _ (c .before .before .before .before .before .blank .result) _ (c .before .before .before .before .before .blank .ensures) (c .before .before .before .show .ensures) .1))
+returns c = c .length-of-front .ensures ∙ ap (windowLength _) (held (c .before .before .before) .1)
 
 pub length-of-shown-spec : {M : Type 1} → statement M
 length-of-shown-spec =
     tie.close
     (tie.spec
-    lanes-requires
     blank-requires
-    array-borrow-prefix-work
-    slice-aggregate-show
-    show-requires
-    array-share-prefix-work
-    slice-aggregate-length-of
-    length-of-requires
+    slice-aggregate-show-front
+    show-front-requires
+    slice-aggregate-length-of-front
+    length-of-front-requires
     returns)

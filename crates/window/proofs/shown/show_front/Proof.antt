@@ -1,0 +1,44 @@
+-- `shown::show_front` lends the front of its output to `show`.
+-- Assumes nothing.
+use mathlib.Core.Path.{sym, _∙_}
+use lib.Seq.{length-take-le}
+use Rattle.coxeter.proofs.Acceptance.{rank-accepted, letters-accepted}
+use Rattle.coxeter.proofs.Basics.{length-window}
+use Rattle.coxeter.proofs.Outcomes.{written-part}
+use borrow.Author.Needs.{needs}
+use Rattle.window.proofs.shown.show_front.Statement.{statement}
+use Rattle.window.proofs.shown.show_front.Tie as tie
+
+lanes-requires : tie.Need-lanes-requires
+lanes-requires c κs = search needs
+
+slice-relend-prefix-show : tie.Need-slice-relend-prefix-show
+slice-relend-prefix-show c = search needs
+
+slice-aggregate-show : tie.Need-slice-aggregate-show
+slice-aggregate-show c = sym (length-take-le _ _ (search needs))
+
+show-requires : tie.Need-show-requires
+show-requires c κs =
+    let start = c .before .before .before in
+    let a = rank-accepted _ _ (start .pre .0) in
+    (a .0, (a .1, (length-take-le _ _ (search needs) ∙ c .before .lanes .ensures, letters-accepted _ _ (start .pre .1 .0))))
+
+same-length : tie.Need-same-length
+same-length c = search needs
+
+returns : tie.Need-returns
+returns c =
+    let called = c .before in
+    written-part _ _ _ _ (length-window _ _ _ ∙ sym (called .before .before .lanes .ensures)) (called .show .ensures)
+
+pub show-front-spec : {M : Type 1} → statement M
+show-front-spec =
+    tie.close
+    (tie.spec
+    lanes-requires
+    slice-relend-prefix-show
+    slice-aggregate-show
+    show-requires
+    same-length
+    returns)
