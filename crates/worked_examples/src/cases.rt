@@ -1,0 +1,129 @@
+// Cases: each function makes a call or a few, and answers the count t plus the number of its cases that hold.
+use crate::digits::are_entries;
+use crate::digits::are_letters;
+use crate::digits::put_digits;
+use rewriter::Rewrite;
+use std::num::wrapping_add_u64;
+use window::Answer;
+ghost use Prim.Native.Nat.{_≤_};
+
+// The length that a call answers with; 0 if it is refused, or answers with more than `most`.
+fn written(answer: Answer, most: usize) -> usize
+    ensures { λ r. ⌜ r ≤ most ⌝ }
+{
+    let Answer::Length(k) = answer else {
+        return 0;
+    };
+    if most < k {
+        return 0;
+    }
+    k
+}
+
+// Whether the call is refused with this number or, if it is 0, accepted with this length.
+fn is_answer(answer: Answer, refusal: u8, length: usize) -> bool {
+    match answer {
+        Answer::Length(k) => refusal == 0 && k == length,
+        Answer::Refused(number) => number == refusal,
+    }
+}
+
+// The window of a word, at the front of `out`; answers how many entries it has.
+fn put_window(kind: u8, rank: u8, word: usize, out: &mut [i8]) -> usize
+    ensures { λ r. do ⌜ r ≤ (← ⟦out.len()⟧ .entry) ⌝ }
+{
+    let mut u = [0; 16];
+    let at = put_digits(&mut u, word);
+    let answer = window::window_of_word(kind, rank, &u[at..16], out);
+    written(answer, out.len())
+}
+
+// The normal form of a window, and its length.
+fn normal_form(t: u64, kind: u8, rank: u8, w: &[i8], word: usize) -> u64 {
+    let mut out = [0; 16];
+    let k = written(window::normal_form_of_window(kind, rank, w, &mut out), 16);
+    let t = wrapping_add_u64(t, are_letters(&out[0..k], word) as u64);
+    wrapping_add_u64(
+        t,
+        is_answer(window::length_of_window(kind, rank, w), 0, k) as u64,
+    )
+}
+
+// A word in normal form and its window: the window, its normal form and its length.
+pub(crate) fn example(t: u64, kind: u8, rank: u8, word: usize, sizes: usize, signs: usize) -> u64 {
+    let mut out = [0; 6];
+    let m = put_window(kind, rank, word, &mut out);
+    let w = &out[0..m];
+    let t = wrapping_add_u64(t, are_entries(w, sizes, signs) as u64);
+    normal_form(t, kind, rank, w, word)
+}
+
+// The product of two words.
+pub(crate) fn product(t: u64, kind: u8, rank: u8, x: usize, y: usize, word: usize) -> u64 {
+    let mut u = [0; 16];
+    let mut v = [0; 16];
+    let mut out = [0; 16];
+    let i = put_digits(&mut u, x);
+    let j = put_digits(&mut v, y);
+    let answer = window::product_of_words(kind, rank, &u[i..16], &v[j..16], &mut out);
+    let k = written(answer, 16);
+    wrapping_add_u64(t, are_letters(&out[0..k], word) as u64)
+}
+
+// The product of the windows of two words.
+pub(crate) fn window_product(
+    t: u64,
+    kind: u8,
+    rank: u8,
+    x: usize,
+    y: usize,
+    sizes: usize,
+    signs: usize,
+) -> u64 {
+    let mut u = [0; 6];
+    let mut v = [0; 6];
+    let mut out = [0; 6];
+    let i = put_window(kind, rank, x, &mut u);
+    let j = put_window(kind, rank, y, &mut v);
+    let answer = window::product_of_windows(kind, rank, &u[0..i], &v[0..j], &mut out);
+    let m = written(answer, 6);
+    wrapping_add_u64(t, are_entries(&out[0..m], sizes, signs) as u64)
+}
+
+// A word of one letter: refused with this number, or accepted with length 1.
+pub(crate) fn letter(t: u64, kind: u8, rank: u8, letter: u8, refusal: u8) -> u64 {
+    let answer = window::length_of_word(kind, rank, &[letter]);
+    wrapping_add_u64(t, is_answer(answer, refusal, 1) as u64)
+}
+
+// "4,096 letters accepted, 4,097 refused 7."
+pub(crate) fn long_words(t: u64, kind: u8, rank: u8) -> u64 {
+    let word = [1; 4097];
+    let accepted = window::length_of_word(kind, rank, &word[0..4096]);
+    let t = wrapping_add_u64(t, is_answer(accepted, 0, 0) as u64);
+    let refused = window::length_of_word(kind, rank, &word[0..4097]);
+    wrapping_add_u64(t, is_answer(refused, 7, 0) as u64)
+}
+
+// "-128 must be refused 10."
+pub(crate) fn least_entry(t: u64, kind: u8, rank: u8) -> u64 {
+    let answer = window::length_of_window(kind, rank, &[1, 2, 3, -128]);
+    wrapping_add_u64(t, is_answer(answer, 10, 0) as u64)
+}
+
+// 1 3 2 is as short as its normal form 3 1 2, but not the first in the dictionary.
+pub(crate) fn not_first(t: u64, kind: u8, rank: u8) -> u64 {
+    let mut out = [0; 16];
+    let answer = window::normal_form_of_word(kind, rank, &[1, 3, 2], &mut out);
+    let k = written(answer, 16);
+    wrapping_add_u64(t, are_letters(&out[0..k], 312) as u64)
+}
+
+// 2 4 in D4 has no rule.
+pub(crate) fn none_fits(t: u64) -> u64 {
+    let mut out = [0; 2];
+    match rewriter::rewrite_at(3, 4, &[2, 4], 0, &mut out) {
+        Rewrite::NoneFits => wrapping_add_u64(t, 1),
+        _ => t,
+    }
+}
