@@ -1,4 +1,5 @@
-// An opened book: it keeps its bytes and serves preset calls by number. Each function hands the bytes to the call on slice and number.
+// An opened book: it keeps its bytes and what opening them answered, and serves preset calls by number. Each call hands the bytes to the call on
+// slice and number, and is right whatever `opened` holds.
 use crate::reading::check_book;
 use crate::reading::check_preset;
 use crate::reading::letters;
@@ -10,12 +11,15 @@ ghost use Rattle.book_format.specs.Calls.{checkedBook, checkedPreset, lettersOf
 
 pub struct Reader<'a> {
     pub bytes: &'a [u8],
+    pub opened: Opened,
 }
 
+// Opening makes checks 1 to 3.
 pub fn open<'a>(bytes: &'a [u8]) -> Reader<'a>
-    ensures { λ r. ⌜ r .bytes ≡ bytes .entry ⌝ }
+    ensures { λ r. ⌜ (r .bytes ≡ bytes .entry) × (r .opened ≡ checkedBook (now (bytes .entry))) ⌝ }
 {
-    Reader { bytes }
+    let opened = check_book(bytes);
+    Reader { bytes, opened }
 }
 
 // Checks 1 to 3, and the number of presets.
