@@ -2,5 +2,6 @@
 fn main() {
     let mut bytes = io::large_buffer();
     let n = io::read_full(0, &mut bytes);
-    listing_lines::print_book(&bytes[..n]);
+    let mut out = io::large_buffer();
+    listing_lines::print_book(&bytes[..n], &mut out);
 }

@@ -1,39 +1,37 @@
-// Lists each book file that an argument names, after a heading line with its name. Of a book with more than 1,000 presets only the count line and
-// the last preset's line are printed.
-use book::Opened;
-use book::check_book;
+// Lists each book file that an argument names, after a heading line with its name, in pieces of at most 4,096 bytes. Of a book with more than 1,000
+// presets only the count line and the last preset's line are printed.
 use libc::STDOUT_FILENO;
-use listing_lines::Placed;
+use listing_lines::next_piece;
 use listing_lines::print_book;
-use listing_lines::put_count;
-use listing_lines::put_preset;
+ghost use mathlib.Core.Path.{_≡_};
+ghost use lib.ListN.{length};
 
-// The count line, and the line of the last of so many presets.
-fn print_ends(book: &[u8], count: usize) {
-    if count == 0 {
-        return;
-    }
-    let mut out = io::large_buffer();
-    let Placed::Next(place) = put_count(count, &mut out, 0) else {
-        return;
-    };
-    let Placed::Next(end) = put_preset(book, count - 1, &mut out, place) else {
-        return;
-    };
+// Room for the count line of a book with more than 1,000 presets, and for no line after it.
+fn blank_head() -> [u8; 16]
+    ensures { λ r. ⌜ 16 ≡ length r ⌝ }
+{
+    [0u8; 16]
+}
+
+// The lines from line `first` on, as many as fit in the buffer.
+fn print_piece(book: &[u8], first: usize, out: &mut [u8]) {
+    let piece = next_piece(book, first, out);
+    let end = piece.end;
     io::write_all(STDOUT_FILENO, &out[..end]);
 }
 
+// A long listing's first piece is its first line alone, so that as many lines are left as the number of the last one says.
 fn list_book(book: &[u8]) {
-    match check_book(book) {
-        Opened::Presets(count) => {
-            if 1000 < count {
-                print_ends(book, count);
-            } else {
-                print_book(book);
-            }
-        }
-        Opened::Refused(_) => print_book(book),
+    let mut head = blank_head();
+    let mut out = io::buffer();
+    let piece = next_piece(book, 0, &mut head);
+    let left = piece.left;
+    if left <= 1000 {
+        print_book(book, &mut out);
+        return;
     }
+    print_piece(book, 0, &mut head);
+    print_piece(book, left, &mut out);
 }
 
 fn list_file(name: &[u8]) {

@@ -1,11 +1,10 @@
-// The lines of the listing (document 01, "Examples"), written into a lent buffer, and a whole book printed. No public function has a `requires`.
+// The listing of a book (document 01, "Examples"), piece by piece into a lent buffer, and printed. No public function has a `requires`.
 mod lines;
 mod numbers;
+mod pieces;
 mod presets;
 mod printing;
 
-pub use lines::put_count;
-pub use lines::put_refused_book;
-pub use listing_text::Placed;
-pub use presets::put_preset;
+pub use listing_text::Piece;
+pub use pieces::next_piece;
 pub use printing::print_book;

@@ -1,5 +1,5 @@
 // Numbers, letters and entries as text. Each function writes from the place `at` on and answers the place after what it wrote.
-ghost use Prim.Native.Nat.{_+_, _*_, _≤_};
+ghost use Prim.Native.Nat.{_+_, _≤_};
 ghost use lib.ListN.{length};
 ghost use Rattle.listing_text.specs.Calls.{Put};
 ghost use Rattle.listing_text.specs.Text as text;
@@ -23,12 +23,8 @@ pub(crate) fn put_bytes(out: &mut [u8], at: usize, part: &[u8]) -> usize
     requires { ⌜ at + length (now part) ≤ length (now out) ⌝ }
     ensures { λ r. ⌜ Put (now (out .entry)) at (now (part .entry)) (now (out .exit)) r ⌝ }
 {
-    let mut i = 0;
-    while i < part.len() {
-        out[at + i] = part[i];
-        i += 1;
-    }
-    at + i
+    bytes::copy(part, &mut out[at..]);
+    at + part.len()
 }
 
 // A number after one space.
@@ -40,11 +36,10 @@ pub(crate) fn put_spaced(out: &mut [u8], at: usize, x: usize) -> usize
     put_decimal(out, at + 1, x)
 }
 
-// Each letter after one space. A letter is a byte, so that four bytes are enough for each.
+// Each letter after one space.
 pub(crate) fn put_letters(out: &mut [u8], at: usize, word: &[u8]) -> usize
-    requires { ⌜ at + 4 * length (now word) ≤ length (now out) ⌝ }
+    requires { ⌜ at + length (text.letters (now word)) ≤ length (now out) ⌝ }
     ensures { λ r. ⌜ Put (now (out .entry)) at (text.letters (now (word .entry))) (now (out .exit)) r ⌝ }
-    ensures { λ r. ⌜ r ≤ at + 4 * length (now (word .entry)) ⌝ }
 {
     let mut r = at;
     let mut i = 0;
@@ -57,9 +52,8 @@ pub(crate) fn put_letters(out: &mut [u8], at: usize, word: &[u8]) -> usize
 
 // An entry after one space. No byte is negated before its range is known.
 fn put_entry(out: &mut [u8], at: usize, e: i8) -> usize
-    requires { ⌜ at + 5 ≤ length (now out) ⌝ }
+    requires { ⌜ at + length (text.entry e) ≤ length (now out) ⌝ }
     ensures { λ r. ⌜ Put (now (out .entry)) at (text.entry e) (now (out .exit)) r ⌝ }
-    ensures { λ r. ⌜ r ≤ at + 5 ⌝ }
 {
     if e < 0 {
         let below = -1 - e;
@@ -70,11 +64,10 @@ fn put_entry(out: &mut [u8], at: usize, e: i8) -> usize
     put_spaced(out, at, e as usize)
 }
 
-// Each entry after one space, with five bytes enough for each.
+// Each entry after one space.
 pub(crate) fn put_entries(out: &mut [u8], at: usize, window: &[i8]) -> usize
-    requires { ⌜ at + 5 * length (now window) ≤ length (now out) ⌝ }
+    requires { ⌜ at + length (text.entries (now window)) ≤ length (now out) ⌝ }
     ensures { λ r. ⌜ Put (now (out .entry)) at (text.entries (now (window .entry))) (now (out .exit)) r ⌝ }
-    ensures { λ r. ⌜ r ≤ at + 5 * length (now (window .entry)) ⌝ }
 {
     let mut r = at;
     let mut i = 0;

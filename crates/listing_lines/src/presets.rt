@@ -1,20 +1,17 @@
-// The lines of the presets of a book.
-use crate::lines::has_room;
+// The lines of the presets of a book, each at the front of a buffer with room for it.
 use crate::lines::put_line;
 use crate::lines::put_refused;
 use book::Preset;
-use book::check_preset;
-use listing_text::Placed;
 use window::Answer;
 use window::normal_form_of_word;
 use window::window_of_word;
 ghost use mathlib.Core.Path.{_≡_};
-ghost use Prim.Native.Nat.{_+_, _≤_};
+ghost use Prim.Native.Nat.{_≤_};
 ghost use lib.ListN.{length};
 ghost use Rattle.coxeter.specs.Kinds.{kindOf};
 ghost use Rattle.coxeter.specs.Checks.{rankRefusal, wordRefusal};
 ghost use Rattle.book_format.specs.Calls.{checkedPreset};
-ghost use Rattle.listing_text.specs.Calls.{Put, puts, longest, Within, refusalOf};
+ghost use Rattle.listing_text.specs.Calls.{Put, refusalOf};
 ghost use Rattle.listing_text.specs.Text.{wordLine, lineOf};
 
 // A window with room for every lane count.
@@ -40,38 +37,27 @@ fn refusal_of(answer: Preset) -> u8
 }
 
 // The line of an accepted word: its normal form and its window are computed here, where each has room.
-fn put_word(number: usize, kind: u8, rank: u8, word: &[u8], out: &mut [u8], at: usize) -> usize
-    requires { ⌜ (rankRefusal kind rank ≡ 0) × (wordRefusal rank (now word) ≡ 0) × (at + longest ≤ length (now out)) ⌝ }
-    ensures { λ r. ⌜ Put (now (out .entry)) at (wordLine number (kindOf kind) rank (now (word .entry))) (now (out .exit)) r ⌝ }
-    ensures { λ r. ⌜ r ≤ at + longest ⌝ }
+fn put_word(number: usize, kind: u8, rank: u8, word: &[u8], out: &mut [u8]) -> usize
+    requires { ⌜ (rankRefusal kind rank ≡ 0) × (wordRefusal rank (now word) ≡ 0)
+        × (length (wordLine number (kindOf kind) rank (now word)) ≤ length (now out)) ⌝ }
+    ensures { λ r. ⌜ Put (now (out .entry)) 0 (wordLine number (kindOf kind) rank (now (word .entry))) (now (out .exit)) r ⌝ }
 {
     let mut form = io::buffer();
     let Answer::Length(l) = normal_form_of_word(kind, rank, word, &mut form) else {
-        return at;
+        return 0;
     };
     let mut shown = blank();
     let Answer::Length(m) = window_of_word(kind, rank, word, &mut shown) else {
-        return at;
+        return 0;
     };
-    put_line(number, kind, rank, &form[..l], &shown[..m], out, at)
+    put_line(number, kind, rank, &form[..l], &shown[..m], out)
 }
 
 // The line of a preset, by its number and what reading it answered.
-pub(crate) fn put_answer(
-    book: &[u8],
-    number: usize,
-    answer: Preset,
-    out: &mut [u8],
-    at: usize,
-) -> Placed
-    requires { ⌜ answer ≡ checkedPreset (now book) number ⌝ }
-    ensures { λ r. ⌜ (r ≡ puts (lineOf (now (book .entry)) number) (now (out .entry)) at .answer)
-        × (now (out .exit) ≡ puts (lineOf (now (book .entry)) number) (now (out .entry)) at .bytes) ⌝ }
-    ensures { λ r. ⌜ Within r (now (out .entry)) ⌝ }
+pub(crate) fn put_preset(book: &[u8], number: usize, answer: Preset, out: &mut [u8]) -> usize
+    requires { ⌜ (answer ≡ checkedPreset (now book) number) × (length (lineOf (now book) number) ≤ length (now out)) ⌝ }
+    ensures { λ r. ⌜ Put (now (out .entry)) 0 (lineOf (now (book .entry)) number) (now (out .exit)) r ⌝ }
 {
-    if !has_room(out.len(), at) {
-        return Placed::NoRoom;
-    }
     let Preset::Found {
         kind,
         rank,
@@ -79,17 +65,8 @@ pub(crate) fn put_answer(
         length,
     } = answer
     else {
-        return Placed::Next(put_refused(number, refusal_of(answer), out, at));
+        return put_refused(number, refusal_of(answer), out);
     };
     let end = start + length;
-    Placed::Next(put_word(number, kind, rank, &book[start..end], out, at))
-}
-
-// The line of a preset, by its number from 0 on: checks 1 to 8 are made, with a walk over the whole book.
-pub fn put_preset(book: &[u8], number: usize, out: &mut [u8], at: usize) -> Placed
-    ensures { λ r. ⌜ (r ≡ puts (lineOf (now (book .entry)) number) (now (out .entry)) at .answer)
-        × (now (out .exit) ≡ puts (lineOf (now (book .entry)) number) (now (out .entry)) at .bytes) ⌝ }
-    ensures { λ r. ⌜ Within r (now (out .entry)) ⌝ }
-{
-    put_answer(book, number, check_preset(book, number), out, at)
+    put_word(number, kind, rank, &book[start..end], out)
 }

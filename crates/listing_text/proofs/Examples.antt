@@ -10,13 +10,11 @@ use Rattle.coxeter.specs.Kinds.{kindOf, up}
 use Rattle.coxeter.specs.Windows.{from, exchange, negateFirst, exchangeNegate, act, windowFrom, straight, window, placeFrom, signed}
 use Rattle.coxeter.specs.Checks.{wrongKind, wrongRank, tooLong, wrongLetter, rankRefusal, wordRefusal}
 use Rattle.coxeter.specs.NormalForm.{down, rise, fall, block, without, indexOf, restOf, normalFrom, normalForm}
-use Rattle.coxeter.proofs.Vectors.{Agree, lent}
+use Rattle.coxeter.proofs.Vectors.{Agree}
 use Rattle.book_format.specs.Books.{twoAt, count, trailer, offset, wrongSize, wrongCount, misplacedFrom, misplaced, noSuchPreset, bookRefusal, recordRefusal, presetRefusal}
 use Rattle.book_format.specs.Calls.{openedOf, presetOf, checkedBook, presetAt, checkedPreset}
 use Rattle.book_format.proofs.Vectors.{book, emptyBook, bookOf}
-use Rattle.listing_text.specs.declared.Placed.the-variants.{Next, NoRoom}
 use Rattle.listing_text.specs.Text.{digits, decimal, spaced, letters, entry, entries, kindLetter, head, tail, presetLine, refused, refusedLine, refusedBookLine, countLine, wordLine, lineBy, lineOf, linesFrom, listingBy, listing}
-use Rattle.listing_text.specs.Calls.{Putting, puts}
 
 -- the ASCII codes of a text
 pub codes : String → List ℕ
@@ -46,14 +44,3 @@ unfolding listings codes
     digits decimal spaced letters entry entries kindLetter head tail presetLine refused refusedLine refusedBookLine countLine
     wordLine lineBy lineOf linesFrom listingBy listing
 listings-agree = refl
-
--- a line in 16,896 bytes from the place 1 on, and in one byte less
-pub placing : List (Putting × Putting)
-placing =
-    (puts (countLine 12) (lent 16897) 1, record { answer = Next 12; bytes = 9 ∷ (codes "presets 12\n" ++ lent 16885) })
-    ∷ (puts (countLine 12) (lent 16896) 1, record { answer = NoRoom; bytes = lent 16896 })
-    ∷ []
-
-pub placing-agrees : Agree placing
-unfolding placing codes digits decimal countLine puts
-placing-agrees = refl

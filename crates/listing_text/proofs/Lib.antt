@@ -1,5 +1,6 @@
 -- The laws of the listing as text.
 pub mod Decimals
-pub mod Listings
-pub mod Unchanged
+pub mod Pieces
+pub mod Room
+pub mod Runs
 pub mod Examples

@@ -1,51 +1,79 @@
--- What the calls that write lines answer and write, for every input.
+-- The listing line by line, and what the call that writes the next piece of it answers and writes, for every input.
 use mathlib.Core.Path.{_≡_}
-use mathlib.Core.List.{List}
-use Prim.Native.Nat.{ℕ, _+_, _-_, _≤_, _<_}
+use mathlib.Core.List.{List, [], _∷_, _++_}
+use Prim.Native.Nat.{ℕ, zero, suc, _+_, _-_}
 use lib.Dec.{leb}
-use lib.ListN.{length}
+use lib.ListN.{length, take, drop}
 use lib.Seq.{sets}
 use Rattle.coxeter.specs.Kinds.{pick}
+use Rattle.book_format.specs.declared.Opened.{Opened}
+use Rattle.book_format.specs.declared.Opened.the-variants as opened
 use Rattle.book_format.specs.declared.Preset.{Preset}
 use Rattle.book_format.specs.declared.Preset.the-variants as preset
-use Rattle.listing_text.specs.declared.Placed.{Placed}
-use Rattle.listing_text.specs.declared.Placed.the-variants.{Next, NoRoom}
-use Rattle.listing_text.specs.Text.{linesFrom}
+use Rattle.book_format.specs.Calls.{checkedBook}
+use Rattle.listing_text.specs.declared.Piece.{Piece}
+use Rattle.listing_text.specs.Text.{refusedBookLine, countLine, lineOf}
+
+-- ---- lines
+
+-- how many lines the listing has: the first, and one for each preset of a book that is not refused
+unfoldable pub lineCountBy : Opened → ℕ
+lineCountBy (opened.Presets c) = suc c
+lineCountBy (opened.Refused r) = 1
+
+unfoldable pub lineCount : List ℕ → ℕ
+lineCount b = lineCountBy (checkedBook b)
+
+-- line 0 is `presets 2` or `book refused 1`, line i + 1 that of preset i
+unfoldable pub firstLine : Opened → List ℕ
+firstLine (opened.Presets c) = countLine c
+firstLine (opened.Refused r) = refusedBookLine r
+
+unfoldable pub line : List ℕ → ℕ → List ℕ
+line b zero = firstLine (checkedBook b)
+line b (suc i) = lineOf b i
+
+-- t lines from line i on
+unfoldable pub lines : List ℕ → ℕ → ℕ → List ℕ
+lines b zero i = []
+lines b (suc t) i = line b i ++ lines b t (suc i)
+
+-- ---- pieces
+
+-- how many of the t lines from line i on fit whole, one after the other, in m bytes
+unfoldable pub fitting : List ℕ → ℕ → ℕ → ℕ → ℕ
+fitting b zero i m = 0
+fitting b (suc t) i m = let l = length (line b i) in pick (leb l m) (suc (fitting b t (suc i) (m - l))) 0
+
+-- the answer, and the bytes of the buffer afterwards
+pub record Piecing : Type 0 where
+  pub answer : Piece
+  pub bytes : List ℕ
+
+-- the next piece of the listing of b, from line i on: as many lines as fit in the buffer `out`, at its front; its other bytes stay
+unfoldable pub nextPiece : List ℕ → ℕ → List ℕ → Piecing
+nextPiece b i out =
+    let left = lineCount b - i in
+    let t = fitting b left i (length out) in
+    let text = lines b t i in
+    record { answer = record { next = i + t; end = length text; left = left - t }; bytes = text ++ drop (length text) out }
+
+-- calls with one buffer after the other, each from the line where the last piece ended: what the pieces are together, and the line where they end
+unfoldable pub pieces : List ℕ → ℕ → List (List ℕ) → List ℕ
+pieces b i [] = []
+pieces b i (out ∷ outs) = let p = nextPiece b i out in take (p .answer .end) (p .bytes) ++ pieces b (p .answer .next) outs
+
+unfoldable pub reached : List ℕ → ℕ → List (List ℕ) → ℕ
+reached b i [] = i
+reached b i (out ∷ outs) = reached b (nextPiece b i out .answer .next) outs
+
+-- ---- parts of a line
 
 -- a text put into `out` from the place `at` on: the place r after it, and the bytes afterwards
 abbrev pub Put : List ℕ → ℕ → List ℕ → List ℕ → ℕ → Type 0
 Put out at text bytes r = (r ≡ at + length text) × (bytes ≡ sets out at text)
 
--- a line has room where so many bytes are left: those of 4,096 letters, 64 entries and five numbers
-abbrev pub longest : ℕ
-longest = 16896
-
--- the answer of a call that writes a line, and the bytes of the buffer afterwards
-pub record Putting : Type 0 where
-  pub answer : Placed
-  pub bytes : List ℕ
-
--- without room nothing is written
-unfoldable pub puts : List ℕ → List ℕ → ℕ → Putting
-puts text out at =
-    pick (leb (at + longest) (length out)) (record { answer = Next (at + length text); bytes = sets out at text })
-    (record { answer = NoRoom; bytes = out })
-
--- a place inside the buffer
-abbrev pub Within : Placed → List ℕ → Type 0
-Within (Next p) out = p ≤ length out
-Within NoRoom out = Unit {0}
-
 -- the number of a refused preset, 0 of one that was found
 unfoldable pub refusalOf : Preset → ℕ
 refusalOf (preset.Found k n s l) = 0
 refusalOf (preset.Refused r) = r
-
--- a piece of a listing: the lines of the presets from i to before `next`, of the c presets of the book b, put into `out` from the place `at` on,
--- as many as have room, up to the place `end`
-pub record Filled (b : List ℕ) (c i : ℕ) (out : List ℕ) (at : ℕ) (bytes : List ℕ) (next end : ℕ) : Type 0 where
-  pub begins : i ≤ next
-  pub within : next ≤ c
-  pub lines : Put out at (linesFrom b (next - i) i) bytes end
-  pub inside : end ≤ length out
-  pub full : next < c → length out < end + longest

@@ -1,7 +1,8 @@
-// The listing of a book as text: definitions in specs/, laws in proofs/, and the answer of a call that writes a line. No function.
+// The listing of a book as text: definitions in specs/, laws in proofs/, and the answer of the call that writes a piece of it. No function.
 
-// The place after what was written, or that fewer bytes are left than every line has room in.
-pub enum Placed {
-    Next(usize),
-    NoRoom,
+// A piece of a listing: the line after it, how many bytes it has, and how many lines are still to come.
+pub struct Piece {
+    pub next: usize,
+    pub end: usize,
+    pub left: usize,
 }

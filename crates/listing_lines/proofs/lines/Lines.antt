@@ -1,41 +1,47 @@
--- The lines of the listing put field by field, and room for a line, in the form in which the code meets them.
+-- The lines of the listing put field by field, and their lengths, in the form in which the code meets them.
 -- Assumes nothing.
-use mathlib.Core.Bool.{Bool, true, false}
-use mathlib.Core.Path.{_≡_, refl, sym, ap, _∙_}
+use mathlib.Core.Path.{_≡_}
 use mathlib.Core.List.{List, [], _∷_, _++_}
-use Prim.Native.Nat.{ℕ, _+_, _-_, _≤_}
-use native.Mathlib.Decide.{decLe}
+use Prim.Native.Nat.{ℕ, _+_}
 use native.Mathlib.Omega.{arith}
-use lib.Dec.{leb}
 use lib.IntN.{ℤ}
-use lib.ListN.{length}
-use borrow.Author.Tests.{lt-leb, le-leb, leb-true}
+use lib.ListN.{length, length-append}
 use Rattle.coxeter.specs.Kinds.{kindOf}
 use Rattle.coxeter.proofs.KindLaws.{kindOf-one, kindOf-two, kindOf-three}
-use Rattle.listing_text.specs.declared.Placed.the-variants.{Next, NoRoom}
 use Rattle.listing_text.specs.Text.{decimal, spaced, letters, entries, kindLetter, head, tail, presetLine, refusedText, bookText, presetsText, refused, refusedLine, refusedBookLine, countLine}
-use Rattle.listing_text.specs.Calls.{Put, longest, puts}
+use Rattle.listing_text.specs.Calls.{Put}
 use Rattle.listing_lines.proofs.numbers.Puts.{put-append}
 
--- ---- room
+-- ---- lengths
 
-pub room-test : (at size : ℕ) → longest ≤ size → leb at (size - longest) ≡ leb (at + longest) size
-room-test at size h = elim (decLe (at + longest) size) [
-  | yes l ↦ le-leb at (size - longest) (omega arith) ∙ sym (le-leb (at + longest) size l)
-  | no n ↦ lt-leb at (size - longest) (omega arith) ∙ sym (lt-leb (at + longest) size (omega arith))
-]
+pub length-refused : (r : ℕ) → length (refused r) ≡ 9 + length (decimal r) + 1
+unfolding refused
+length-refused r = simp length-append (omega arith)
 
-pub room-found : (t : Bool) (at size : ℕ) → t ≡ leb (at + longest) size → t ≡ true → at + longest ≤ size
-room-found t at size e h = leb-true (at + longest) size (sym e ∙ h)
+pub length-refusedLine : (i r : ℕ) → length (refusedLine i r) ≡ length (decimal i) + length (refused r)
+unfolding refusedLine
+length-refusedLine i r = length-append (decimal i) (refused r)
 
-pub puts-done : (text o : List ℕ) (at : ℕ) (out : List ℕ) (r : ℕ) (t : Bool) → t ≡ leb (at + longest) (length o) → t ≡ true → Put o at text out r
-    → (Next r ≡ puts text o at .answer) × (out ≡ puts text o at .bytes)
-unfolding puts
-puts-done text o at out r t e h p = rw (sym e ∙ h) (ap Next (p .0), p .1)
+pub length-refusedBookLine : (r : ℕ) → length (refusedBookLine r) ≡ 4 + length (refused r)
+unfolding refusedBookLine
+length-refusedBookLine r = length-append bookText (refused r)
 
-pub puts-none : (text o : List ℕ) (at : ℕ) (t : Bool) → t ≡ leb (at + longest) (length o) → t ≡ false → (NoRoom ≡ puts text o at .answer) × (o ≡ puts text o at .bytes)
-unfolding puts
-puts-none text o at t e h = rw (sym e ∙ h) (refl, refl)
+pub length-countLine : (c : ℕ) → length (countLine c) ≡ 8 + length (decimal c) + 1
+unfolding countLine
+length-countLine c = simp length-append (omega arith)
+
+pub length-head : (i k n l : ℕ) → length (head i (kindOf k) n l) ≡ length (decimal i) + 2 + length (spaced n) + length (spaced l) + 1
+unfolding head
+length-head i k n l = simp length-append (omega arith)
+
+pub length-tail : (u : List ℕ) (w : List ℤ) → length (tail u w) ≡ length (letters u) + 2 + length (entries w) + 1
+unfolding tail
+length-tail u w = simp length-append (omega arith)
+
+pub length-presetLine : (i k n : ℕ) (u : List ℕ) (w : List ℤ)
+    → length (presetLine i (kindOf k) n u w) ≡ length (head i (kindOf k) n (length u)) + length (tail u w)
+unfolding presetLine
+length-presetLine i k n u w = length-append (head i (kindOf k) n (length u)) (tail u w)
 
 -- ---- lines
 

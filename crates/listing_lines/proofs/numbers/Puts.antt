@@ -2,19 +2,20 @@
 -- Assumes nothing.
 use mathlib.Core.Bool.{true, false, false≢true}
 use mathlib.Core.Path.{_≡_, refl, sym, ap, _∙_}
-use mathlib.Core.List.{List, [], _∷_, _++_}
-use Prim.Native.Nat.{ℕ, _+_, _/_, _%_, _≤_, _<_}
+use mathlib.Core.List.{List, [], _∷_, _++_, append-assoc, append-nil}
+use native.Mathlib.Nat.{le-refl}
+use Prim.Native.Nat.{ℕ, _+_, _-_, _/_, _%_, _≤_, _<_}
 use native.Mathlib.Numerals.{add-one, add-two}
 use native.Mathlib.Omega.{arith}
 use lib.Dec.{leb·suc-zero}
 use lib.IntN.{ℤ, pos, negsuc, natAbs}
-use lib.ListN.{length, set, getD, drop, drop-of-length-le, length-append}
-use lib.Seq.{sets, length-sets}
+use lib.ListN.{length, take, length-drop, set, getD, drop, drop-of-length-le, length-append}
+use lib.Seq.{sets, length-sets, sets-eq, take-all, drop-drop}
 use lib.Signed.{mag, ltZ}
 use mir.Syntax.{w8}
 use mir.Val.{SFits, toZ, ofZ}
 use Rattle.refusals.proofs.Bytes.{byte-back, element-back}
-use Rattle.coxeter.proofs.Lists.{drop-next, Storing, sets-append, stored-append}
+use Rattle.coxeter.proofs.Lists.{take-rest, drop-next, Storing, sets-append, stored-append}
 use Rattle.listing_text.specs.Text.{decimal, spaced, letters, entry, entries}
 use Rattle.listing_text.specs.Calls.{Put}
 use Rattle.listing_text.proofs.Decimals.{decimal-digit, decimal-more}
@@ -64,17 +65,37 @@ storing-put o at u out r v w out′ r′ s h = record {
   same = s .same ∙ sym (sets-append out r v w) ∙ ap (λ (l : List ℕ). sets l (r + length v) w) (sym (h .1)) ∙ ap (λ (m : ℕ). sets out′ m w) (sym (h .0));
 }
 
+-- room for all that is left is room for what comes next
+storing-room : (o : List ℕ) (at : ℕ) (u out : List ℕ) (r : ℕ) (v w : List ℕ) → at + length u ≤ length o → Storing o at u out r (v ++ w) → r + length v ≤ length out
+storing-room o at u out r v w h s = omega (arith, s .place, s .size, length-append v w)
+
+letters-next : (u : List ℕ) (i : ℕ) → i < length u → letters (drop i u) ≡ spaced (getD u i 0) ++ letters (drop (i + 1) u)
+letters-next u i h = rw (drop-next u i 0 h) (unfold letters in refl)
+
+entries-next : (w : List ℤ) (i : ℕ) → i < length w → entries (drop i w) ≡ entry (getD w i (pos 0)) ++ entries (drop (i + 1) w)
+entries-next w i h = rw (drop-next w i (pos 0) h) (unfold entries in refl)
+
+pub letters-room : (o : List ℕ) (at : ℕ) (u out : List ℕ) (r i : ℕ) → i < length u → at + length (letters u) ≤ length o
+    → Storing o at (letters u) out r (letters (drop i u)) → r + length (spaced (getD u i 0)) ≤ length out
+letters-room o at u out r i h g s =
+    storing-room o at (letters u) out r (spaced (getD u i 0)) (letters (drop (i + 1) u)) g (rw (letters-next u i h) at s)
+
+pub entries-room : (o : List ℕ) (at : ℕ) (w : List ℤ) (out : List ℕ) (r i : ℕ) → i < length w → mag (getD w i (pos 0)) < 128 → at + length (entries w) ≤ length o
+    → Storing o at (entries w) out r (entries (drop i w)) → r + length (entry (toZ w8 (ofZ w8 (getD w i (pos 0))))) ≤ length out
+entries-room o at w out r i h f g s =
+    rw (element-back (getD w i (pos 0)) f)
+    (storing-room o at (entries w) out r (entry (getD w i (pos 0))) (entries (drop (i + 1) w)) g (rw (entries-next w i h) at s))
+
 pub letters-put : (o : List ℕ) (at : ℕ) (u out : List ℕ) (r i : ℕ) (out′ : List ℕ) (r′ : ℕ) → i < length u → Storing o at (letters u) out r (letters (drop i u))
     → Put out r (spaced (getD u i 0)) out′ r′ → Storing o at (letters u) out′ r′ (letters (drop (i + 1) u))
 letters-put o at u out r i out′ r′ h s p =
-    let e : letters (drop i u) ≡ spaced (getD u i 0) ++ letters (drop (i + 1) u) = rw (drop-next u i 0 h) (unfold letters in refl) in
-    storing-put o at (letters u) out r (spaced (getD u i 0)) (letters (drop (i + 1) u)) out′ r′ (rw e at s) p
+    storing-put o at (letters u) out r (spaced (getD u i 0)) (letters (drop (i + 1) u)) out′ r′ (rw (letters-next u i h) at s) p
 
 pub entries-put : (o : List ℕ) (at : ℕ) (w : List ℤ) (out : List ℕ) (r i : ℕ) (out′ : List ℕ) (r′ : ℕ) → i < length w → mag (getD w i (pos 0)) < 128
     → Storing o at (entries w) out r (entries (drop i w)) → Put out r (entry (toZ w8 (ofZ w8 (getD w i (pos 0))))) out′ r′ → Storing o at (entries w) out′ r′ (entries (drop (i + 1) w))
 entries-put o at w out r i out′ r′ h f s p =
-    let e : entries (drop i w) ≡ entry (getD w i (pos 0)) ++ entries (drop (i + 1) w) = rw (drop-next w i (pos 0) h) (unfold entries in refl) in
-    storing-put o at (entries w) out r (entry (getD w i (pos 0))) (entries (drop (i + 1) w)) out′ r′ (rw e at s) (rw (element-back (getD w i (pos 0)) f) at p)
+    storing-put o at (entries w) out r (entry (getD w i (pos 0))) (entries (drop (i + 1) w)) out′ r′ (rw (entries-next w i h) at s)
+    (rw (element-back (getD w i (pos 0)) f) at p)
 
 pub letters-done : (o : List ℕ) (at : ℕ) (u out : List ℕ) (r i : ℕ) → length u ≤ i → Storing o at (letters u) out r (letters (drop i u)) → Put o at (letters u) out r
 letters-done o at u out r i h s =
@@ -103,3 +124,12 @@ entry-plus-at (negsuc x) h = absurd (false≢true (sym h))
 
 pub entry-plus : (z : ℤ) → SFits w8 z → ltZ (toZ w8 (ofZ w8 z)) (pos 0) ≡ false → entry z ≡ spaced (natAbs (toZ w8 (ofZ w8 z)))
 entry-plus z f h = rw (byte-back z f) (entry-plus-at z (rw (byte-back z f) at h))
+
+-- `bytes` is the rest of l from p on after u was copied to its front
+pub sets-copied : (l u bytes : List ℕ) (p : ℕ) → p + length u ≤ length l
+    → bytes ≡ take (length u) u ++ drop (length u) (take (length l - p) (drop p l))
+    → take p l ++ (bytes ++ drop (length l - p) (drop p l)) ≡ sets l p u
+sets-copied l u bytes p h e =
+    let rest : length (drop p l) ≤ length l - p = rw length-drop (omega arith) in
+    rw (e, take-all (length u) u (le-refl (length u)), take-rest p l, drop-drop (length u) p l, drop-of-length-le (drop p l) rest, append-nil)
+    (sym (sets-eq u l p h ∙ append-assoc (take p l) u (drop (p + length u) l)))

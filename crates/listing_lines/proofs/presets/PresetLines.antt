@@ -17,27 +17,15 @@ use Rattle.coxeter.specs.Checks.{_then_, rankRefusal, wordRefusal}
 use Rattle.coxeter.specs.NormalForm.{wordNormalForm}
 use Rattle.coxeter.specs.Calls.{writes, normalFormOfWord, windowOfWord}
 use Rattle.coxeter.proofs.Refusals.{then-none}
-use Rattle.coxeter.proofs.Acceptance.{lanes-le}
 use Rattle.coxeter.proofs.Outcomes.{writes-done}
-use Rattle.coxeter.proofs.Levels.{window-accepted}
-use Rattle.coxeter.proofs.Lengths.{length-normalForm}
-use Rattle.coxeter.proofs.PairWeights.{windowLength-le-4096}
 use Rattle.book_format.specs.declared.Preset.{Preset}
 use Rattle.book_format.specs.declared.Preset.the-variants as preset
 use Rattle.book_format.specs.Calls.{checkedPreset}
 use Rattle.listing_text.specs.Text.{presetLine, refusedLine, wordLine, lineBy, lineOf}
 use Rattle.listing_text.specs.Calls.{Put, refusalOf}
+use Rattle.listing_text.proofs.Room.{length-form-le, length-window-le}
 
 -- ---- normal form and window
-
-length-window-le : (k n : ℕ) (u : List ℕ) → rankRefusal k n ≡ 0 → length (window (kindOf k) n u) ≤ 64
-length-window-le k n u h = lanes-le k n (length (window (kindOf k) n u)) h (window-accepted (kindOf k) n u .size)
-
-length-form-le : (k n : ℕ) (u : List ℕ) → rankRefusal k n ≡ 0 → length (wordNormalForm (kindOf k) n u) ≤ 4096
-length-form-le k n u h =
-    let w = window (kindOf k) n u in
-    let a = window-accepted (kindOf k) n u in
-    rw (length-normalForm (kindOf k) n w a) (windowLength-le-4096 (kindOf k) n w a (length-window-le k n u h))
 
 -- l stands at the front of v, of length m and no longer than `most`
 pub record Front {X : Type 0} (most : ℕ) (l v : List X) (m : ℕ) : Type 0 where
@@ -88,6 +76,11 @@ module _ (k n : ℕ) (u : List ℕ) (h : rankRefusal k n ≡ 0) (g : wordRefusal
     window-never s q =
         never-refused 64 (rankRefusal k n then wordRefusal n u) (window (kindOf k) n u) out v a (checks-none k n u h g) (length-window-le k n u h) f
         (unfold windowOfWord in e) s q
+
+pub wordLine-room : (i k n : ℕ) (u f : List ℕ) (w : List ℤ) (m : ℕ) → f ≡ wordNormalForm (kindOf k) n u → w ≡ window (kindOf k) n u
+    → length (wordLine i (kindOf k) n u) ≤ m → length (presetLine i (kindOf k) n f w) ≤ m
+unfolding wordLine
+wordLine-room i k n u f w m p q h = rw (p, q) h
 
 pub wordLine-put : (o : List ℕ) (at i k n : ℕ) (u f : List ℕ) (w : List ℤ) (out : List ℕ) (r : ℕ) → f ≡ wordNormalForm (kindOf k) n u → w ≡ window (kindOf k) n u
     → Put o at (presetLine i (kindOf k) n f w) out r → Put o at (wordLine i (kindOf k) n u) out r

@@ -1,65 +1,44 @@
--- `lines::put_count` puts the three parts of the line one after the other, where there is room.
+-- `lines::put_count` puts the three parts of the line one after the other.
 -- Assumes nothing.
-use denote.Ref.{now}
-use Prim.Native.Nat.{_+_, _≤_}
 use native.Mathlib.Omega.{arith}
-use lib.ListN.{length}
 use borrow.Author.Needs.{needs}
-use Rattle.listing_text.specs.Calls.{longest}
-use Rattle.listing_text.proofs.Decimals.{length-decimal-word}
-use Rattle.listing_lines.proofs.lines.Lines.{room-found, puts-done, puts-none, countLine-put}
+use Rattle.listing_lines.proofs.lines.Lines.{length-countLine, countLine-put}
 use Rattle.listing_lines.proofs.lines.put_count.Statement.{statement}
 use Rattle.listing_lines.proofs.lines.put_count.Tie as tie
-
-room : (c : tie.Then1) → c .before .before .before .args .at + longest ≤ length (now (c .before .before .before .args .out))
-room c = room-found _ (c .before .before .before .args .at) _ (c .before .has-room .ensures) (c .if1 .taken)
-
-has-room-requires : tie.Need-has-room-requires
-has-room-requires c κs = search needs
 
 slice-aggregate-put-bytes : tie.Need-slice-aggregate-put-bytes
 slice-aggregate-put-bytes c = search needs
 
 put-bytes-requires : tie.Need-put-bytes-requires
-put-bytes-requires c κs = omega (arith, room (c .before .before))
+put-bytes-requires c κs = omega (arith, length-countLine (c .before .before .before .args .count))
 
 put-decimal-requires : tie.Need-put-decimal-requires
-put-decimal-requires c κs = omega (arith, room (c .before .before .before .before .before .before), length-decimal-word _ (c .before .before .before .before .before .before .before .before .before .fits .count .fits))
+put-decimal-requires c κs = omega (arith, length-countLine (c .before .before .before .before .before .before .before .args .count))
 
 slice-aggregate-put-bytes-2 : tie.Need-slice-aggregate-put-bytes-2
 slice-aggregate-put-bytes-2 c = search needs
 
 put-bytes-requires-2 : tie.Need-put-bytes-requires-2
-put-bytes-requires-2 c κs = omega (arith, room (c .before .before .before .before .before .before .before .before .before .before .before), length-decimal-word _ (c .before .before .before .before .before .before .before .before .before .before .before .before .before .before .fits .count .fits))
+put-bytes-requires-2 c κs = omega (arith, length-countLine (c .before .before .before .before .before .before .before .before .before .before .before .before .args .count))
 
 same-length : tie.Need-same-length
 same-length c = search needs
 
 returns : tie.Need-returns
-returns c =
+returns c = 
     let third = c .before .before in
     let second = third .before .before .before .before .before in
     let first = second .before .before .before .before in
-    let then = first .before .before .before in
-    let start = then .before .before .before in
-    let put = countLine-put _ _ _ _ _ _ _ _ _ (first .put-bytes .ensures) (second .put-decimal .ensures) (third .put-bytes2 .ensures) in (
-      puts-done _ _ _ _ _ _ (then .before .has-room .ensures) (then .if1 .taken) put,
-      omega (arith, first .put-bytes .ensures .0, second .put-decimal .ensures .0, third .put-bytes2 .ensures .0, length-decimal-word _ (start .fits .count .fits), room then),
-    )
-
-returns-2 : tie.Need-returns-2
-returns-2 c = (puts-none _ _ _ _ (c .before .has-room .ensures) (c .if1 .left), tt)
+    countLine-put _ _ _ _ _ _ _ _ _ (first .put-bytes .ensures) (second .put-decimal .ensures) (third .put-bytes2 .ensures)
 
 pub put-count-spec : {M : Type 1} → statement M
 put-count-spec =
     tie.close
     (tie.spec
-    has-room-requires
     slice-aggregate-put-bytes
     put-bytes-requires
     put-decimal-requires
     slice-aggregate-put-bytes-2
     put-bytes-requires-2
     same-length
-    returns
-    returns-2)
+    returns)

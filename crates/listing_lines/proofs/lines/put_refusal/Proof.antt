@@ -2,8 +2,7 @@
 -- Assumes nothing.
 use native.Mathlib.Omega.{arith}
 use borrow.Author.Needs.{needs}
-use Rattle.listing_text.proofs.Decimals.{length-decimal-byte}
-use Rattle.listing_lines.proofs.lines.Lines.{refused-put}
+use Rattle.listing_lines.proofs.lines.Lines.{length-refused, refused-put}
 use Rattle.listing_lines.proofs.lines.put_refusal.Statement.{statement}
 use Rattle.listing_lines.proofs.lines.put_refusal.Tie as tie
 
@@ -11,16 +10,16 @@ slice-aggregate-put-bytes : tie.Need-slice-aggregate-put-bytes
 slice-aggregate-put-bytes c = search needs
 
 put-bytes-requires : tie.Need-put-bytes-requires
-put-bytes-requires c κs = search needs
+put-bytes-requires c κs = omega (arith, length-refused (c .before .before .before .args .refusal))
 
 put-decimal-requires : tie.Need-put-decimal-requires
-put-decimal-requires c κs = omega (arith, length-decimal-byte _ (c .before .before .before .before .before .before .before .fits .refusal .fits))
+put-decimal-requires c κs = omega (arith, length-refused (c .before .before .before .before .before .before .before .args .refusal))
 
 slice-aggregate-put-bytes-2 : tie.Need-slice-aggregate-put-bytes-2
 slice-aggregate-put-bytes-2 c = search needs
 
 put-bytes-requires-2 : tie.Need-put-bytes-requires-2
-put-bytes-requires-2 c κs = omega (arith, length-decimal-byte _ (c .before .before .before .before .before .before .before .before .before .before .before .before .fits .refusal .fits))
+put-bytes-requires-2 c κs = omega (arith, length-refused (c .before .before .before .before .before .before .before .before .before .before .before .before .args .refusal))
 
 same-length : tie.Need-same-length
 same-length c = search needs
@@ -30,10 +29,7 @@ returns c =
     let third = c .before .before in
     let second = third .before .before .before .before .before in
     let first = second .before .before .before .before in
-    let start = first .before .before .before .before in (
-      refused-put _ _ _ _ _ _ _ _ _ (first .put-bytes .ensures) (second .put-decimal .ensures) (third .put-bytes2 .ensures),
-      omega (arith, first .put-bytes .ensures .0, second .put-decimal .ensures .0, third .put-bytes2 .ensures .0, length-decimal-byte _ (start .fits .refusal .fits)),
-    )
+    refused-put _ _ _ _ _ _ _ _ _ (first .put-bytes .ensures) (second .put-decimal .ensures) (third .put-bytes2 .ensures)
 
 pub put-refusal-spec : {M : Type 1} → statement M
 put-refusal-spec =

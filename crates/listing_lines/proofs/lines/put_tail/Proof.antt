@@ -1,41 +1,40 @@
 -- `lines::put_tail` puts the four parts of the text one after the other.
 -- Assumes nothing.
+use denote.Ref.{now}
 use native.Mathlib.Omega.{arith}
 use borrow.Author.Needs.{needs}
-use Rattle.listing_lines.proofs.lines.Lines.{tail-put}
+use Rattle.listing_lines.proofs.lines.Lines.{length-tail, tail-put}
 use Rattle.listing_lines.proofs.lines.put_tail.Statement.{statement}
 use Rattle.listing_lines.proofs.lines.put_tail.Tie as tie
 
 put-letters-requires : tie.Need-put-letters-requires
-put-letters-requires c κs = search needs
+put-letters-requires c κs = let a = c .before .before .before .args in omega (arith, length-tail (now (a .word)) (now (a .window)))
 
 slice-aggregate-put-bytes : tie.Need-slice-aggregate-put-bytes
 slice-aggregate-put-bytes c = search needs
 
 put-bytes-requires : tie.Need-put-bytes-requires
-put-bytes-requires c κs = search needs
+put-bytes-requires c κs = let a = c .before .before .before .before .before .before .before .before .args in omega (arith, length-tail (now (a .word)) (now (a .window)))
 
 put-entries-requires : tie.Need-put-entries-requires
-put-entries-requires c κs = search needs
+put-entries-requires c κs = let a = c .before .before .before .before .before .before .before .before .before .before .before .before .args in omega (arith, length-tail (now (a .word)) (now (a .window)))
 
 slice-aggregate-put-bytes-2 : tie.Need-slice-aggregate-put-bytes-2
 slice-aggregate-put-bytes-2 c = search needs
 
 put-bytes-requires-2 : tie.Need-put-bytes-requires-2
-put-bytes-requires-2 c κs = search needs
+put-bytes-requires-2 c κs = let a = c .before .before .before .before .before .before .before .before .before .before .before .before .before .before .before .before .before .args in omega (arith, length-tail (now (a .word)) (now (a .window)))
 
 same-length : tie.Need-same-length
 same-length c = search needs
 
 returns : tie.Need-returns
-returns c =
+returns c = 
     let fourth = c .before .before in
     let third = fourth .before .before .before .before .before in
     let second = third .before .before .before .before in
-    let first = second .before .before .before .before .before in (
-      tail-put _ _ _ _ _ _ _ _ _ _ _ _ (first .put-letters .ensures .0) (second .put-bytes .ensures) (third .put-entries .ensures .0) (fourth .put-bytes2 .ensures),
-      omega (arith, first .put-letters .ensures .1, second .put-bytes .ensures .0, third .put-entries .ensures .1, fourth .put-bytes2 .ensures .0),
-    )
+    let first = second .before .before .before .before .before in
+    tail-put _ _ _ _ _ _ _ _ _ _ _ _ (first .put-letters .ensures) (second .put-bytes .ensures) (third .put-entries .ensures) (fourth .put-bytes2 .ensures)
 
 pub put-tail-spec : {M : Type 1} → statement M
 put-tail-spec =

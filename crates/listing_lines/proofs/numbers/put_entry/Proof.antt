@@ -1,8 +1,8 @@
 -- `numbers::put_entry` stores the space and the sign, and then the size: −1 − e is one less than the size of a negative entry e.
 -- Assumes nothing.
-use mathlib.Core.Path.{_∙_}
+use mathlib.Core.Path.{_≡_, ap, _∙_}
 use denote.Ref.{now}
-use Prim.Native.Nat.{_+_, _≤_}
+use Prim.Native.Nat.{_+_}
 use native.Mathlib.Omega.{arith}
 use lib.IntN.{negsuc, natAbs, _-ℤ_}
 use lib.ListN.{length, length-set}
@@ -10,38 +10,36 @@ use mir.Syntax.{w8}
 use mir.Val.{toZ, ofZ}
 use borrow.Author.Needs.{needs}
 use Rattle.refusals.proofs.Bytes.{BelowSize, below-size, size-of-positive}
-use Rattle.listing_text.specs.Text.{decimal, spaced}
-use Rattle.listing_text.proofs.Decimals.{length-decimal-byte}
-use Rattle.listing_lines.proofs.numbers.Puts.{length-spaced, put-minus, entry-minus, entry-plus}
+use Rattle.listing_text.specs.Text.{decimal, spaced, entry}
+use Rattle.listing_lines.proofs.numbers.Puts.{put-minus, entry-minus, entry-plus}
 use Rattle.listing_lines.proofs.numbers.put_entry.Statement.{statement}
 use Rattle.listing_lines.proofs.numbers.put_entry.Tie as tie
 
 below : (c : tie.Then1) → BelowSize (c .before .before .args .e) (negsuc 0 -ℤ toZ w8 (ofZ w8 (c .before .before .args .e)))
 below c = below-size _ (c .before .before .fits .e) (c .if1 .taken)
 
--- at most three digits
-short : (c : tie.Then1) → length (decimal (natAbs (toZ w8 (ofZ w8 (negsuc 0 -ℤ toZ w8 (ofZ w8 (c .before .before .args .e))))) + 1)) ≤ 3
-short c = length-decimal-byte _ (omega (arith, below c .small))
+-- the length of the text: with the sign, and without
+room-minus : (c : tie.Then1)
+    → length (entry (c .before .before .args .e)) ≡ 2 + length (decimal (natAbs (toZ w8 (ofZ w8 (negsuc 0 -ℤ toZ w8 (ofZ w8 (c .before .before .args .e))))) + 1))
+room-minus c = rw (entry-minus _ (c .before .before .fits .e) (c .if1 .taken), ← below c .size) (omega arith)
 
-small : (c : tie.Else1) → length (spaced (natAbs (toZ w8 (ofZ w8 (c .before .before .args .e))))) ≤ 4
-small c =
-    let x = natAbs (toZ w8 (ofZ w8 (c .before .before .args .e))) in
-    omega (arith, length-spaced x, length-decimal-byte x (size-of-positive _ (c .before .before .fits .e) (c .if1 .left) .1 .fits))
+room-plus : (c : tie.Else1) → length (entry (c .before .before .args .e)) ≡ length (spaced (natAbs (toZ w8 (ofZ w8 (c .before .before .args .e)))))
+room-plus c = ap length (entry-plus _ (c .before .before .fits .e) (c .if1 .left))
 
 sub-below : tie.Need-sub-below
 sub-below c = below c .fits
 
 slice-write-out : tie.Need-slice-write-out
-slice-write-out c = search needs
+slice-write-out c = omega (arith, room-minus c)
 
 add-out : tie.Need-add-out
-add-out c = search needs
+add-out c = omega (arith, room-minus c)
 
 slice-write-out-2 : tie.Need-slice-write-out-2
-slice-write-out-2 c = simp length-set (omega arith)
+slice-write-out-2 c = simp length-set (omega (arith, room-minus c))
 
 add-put-decimal : tie.Need-add-put-decimal
-add-put-decimal c = search needs
+add-put-decimal c = omega (arith, room-minus (c .before))
 
 cast-put-decimal : tie.Need-cast-put-decimal
 cast-put-decimal c = (below (c .before) .nonNegative, record { fits = omega (arith, below (c .before) .small) })
@@ -50,7 +48,7 @@ add-put-decimal-2 : tie.Need-add-put-decimal-2
 add-put-decimal-2 c = record { fits = omega (arith, below (c .before) .small) }
 
 put-decimal-requires : tie.Need-put-decimal-requires
-put-decimal-requires c κs = simp length-set (omega (arith, short (c .before)))
+put-decimal-requires c κs = simp length-set (omega (arith, room-minus (c .before)))
 
 same-length : tie.Need-same-length
 same-length c = c .before .before .put-decimal .kept .0 ∙ simp length-set
@@ -61,8 +59,7 @@ returns c =
     let negative = called .before .before in
     let start = negative .before .before in
     let size = below negative .size in
-    let put = called .put-decimal .ensures in
-    (rw (entry-minus _ (start .fits .e) (negative .if1 .taken), ← size) (put-minus (now (start .args .out)) _ _ _ _ put), omega (arith, put .0, short negative))
+    rw (entry-minus _ (start .fits .e) (negative .if1 .taken), ← size) (put-minus (now (start .args .out)) _ _ _ _ (called .put-decimal .ensures))
 
 cast-put-spaced : tie.Need-cast-put-spaced
 cast-put-spaced c =
@@ -70,7 +67,7 @@ cast-put-spaced c =
     (sized .0, record { fits = omega (arith, sized .1 .fits) })
 
 put-spaced-requires : tie.Need-put-spaced-requires
-put-spaced-requires c κs = omega (arith, small (c .before))
+put-spaced-requires c κs = omega (arith, room-plus (c .before))
 
 same-length-2 : tie.Need-same-length-2
 same-length-2 c = search needs
@@ -80,8 +77,7 @@ returns-2 c =
     let called = c .before .before in
     let positive = called .before .before in
     let start = positive .before .before in
-    let put = called .put-spaced .ensures in
-    (rw (entry-plus _ (start .fits .e) (positive .if1 .left)) put, omega (arith, put .0, small positive))
+    rw (entry-plus _ (start .fits .e) (positive .if1 .left)) (called .put-spaced .ensures)
 
 pub put-entry-spec : {M : Type 1} → statement M
 put-entry-spec =

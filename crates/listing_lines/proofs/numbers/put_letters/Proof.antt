@@ -1,24 +1,22 @@
--- `numbers::put_letters` puts the letters one after the other: what is left to put is the letters from i on, and each takes four bytes at most.
+-- `numbers::put_letters` puts the letters one after the other: what is left to put is the letters from i on.
 -- Assumes nothing.
-use denote.Ref.{now}
-use Prim.Native.Nat.{_+_, _-_, _*_, _≤_}
+use Prim.Native.Nat.{_-_, _≤_}
 use native.Mathlib.Omega.{arith}
-use lib.ListN.{length, getD, drop}
+use lib.ListN.{length, drop}
 use Rattle.coxeter.proofs.Lists.{Storing, storing-all}
 use Rattle.listing_text.specs.Text.{letters}
-use Rattle.listing_text.proofs.Decimals.{length-decimal-byte}
-use Rattle.listing_lines.proofs.numbers.Puts.{length-spaced, letters-put, letters-done}
+use Rattle.listing_lines.proofs.numbers.Puts.{letters-room, letters-put, letters-done}
 use Rattle.listing_lines.proofs.numbers.put_letters.Statement.{statement}
 use Rattle.listing_lines.proofs.numbers.put_letters.Tie as tie
 
 abbrev Inv-loop : tie.InvT-loop
-Inv-loop out₀ at word r₀ i₀ out r i = (i ≤ length word) × (r ≤ at + 4 * i) × Storing out₀ at (letters word) out r (letters (drop i word))
+Inv-loop out₀ at word r₀ i₀ out r i = (i ≤ length word) × Storing out₀ at (letters word) out r (letters (drop i word))
 
 abbrev μ-loop : tie.MeasureT-loop
 μ-loop out₀ at word r₀ i₀ out r i = length word - i
 
 loop-holds : tie.Need-loop-holds Inv-loop μ-loop
-loop-holds c = (omega arith, omega arith, storing-all)
+loop-holds c = (omega arith, storing-all)
 
 shared-slice-read-put-spaced : tie.Need-shared-slice-read-put-spaced Inv-loop μ-loop
 shared-slice-read-put-spaced c = omega arith
@@ -29,8 +27,7 @@ cast-put-spaced c = omega (arith, c .shared-slice-known2 .given (c .before .befo
 put-spaced-requires : tie.Need-put-spaced-requires Inv-loop μ-loop
 put-spaced-requires c κs =
     let turn = c .before .before .before in
-    let x = getD (now (turn .before .before .before .args .word)) (turn .loop .i) 0 in
-    omega (arith, turn .loop .inv .2 .size, length-spaced x, length-decimal-byte x (c .shared-slice-known2 .given (turn .loop .i) .fits))
+    letters-room _ _ _ _ _ _ (c .before .before .loop-test .taken) (turn .before .before .before .pre) (turn .loop .inv .1)
 
 add-i : tie.Need-add-i Inv-loop μ-loop
 add-i c = omega arith
@@ -40,19 +37,16 @@ loop-less c = omega arith
 
 loop-again : tie.Need-loop-again Inv-loop μ-loop
 loop-again c =
-    let turn = c .before .before .before .before .before .before in
-    let x = getD (now (turn .before .before .before .args .word)) (turn .loop .i) 0 in
-    let put = c .before .before .put-spaced .ensures in (
+    let turn = c .before .before .before .before .before .before in (
       omega arith,
-      omega (arith, put .0, length-spaced x, length-decimal-byte x (c .before .before .before .shared-slice-known2 .given (turn .loop .i) .fits)),
-      letters-put _ _ _ _ _ _ _ _ (c .before .before .before .before .before .loop-test .taken) (turn .loop .inv .2) put,
+      letters-put _ _ _ _ _ _ _ _ (c .before .before .before .before .before .loop-test .taken) (turn .loop .inv .1) (c .before .before .put-spaced .ensures),
     )
 
 same-length : tie.Need-same-length Inv-loop μ-loop
-same-length c = c .before .loop .inv .2 .size
+same-length c = c .before .loop .inv .1 .size
 
 returns : tie.Need-returns Inv-loop μ-loop
-returns c = (letters-done _ _ _ _ _ _ (c .loop-test .left) (c .before .loop .inv .2), omega arith)
+returns c = letters-done _ _ _ _ _ _ (c .loop-test .left) (c .before .loop .inv .1)
 
 pub put-letters-spec : {M : Type 1} → statement M
 put-letters-spec =

@@ -10,7 +10,7 @@ use borrow.Author.Needs.{needs}
 use Rattle.coxeter.specs.Kinds.{kindOf}
 use Rattle.coxeter.specs.Windows.{window}
 use Rattle.coxeter.specs.NormalForm.{wordNormalForm}
-use Rattle.listing_lines.proofs.presets.PresetLines.{Front, form-front, form-never, window-front, window-never, wordLine-put}
+use Rattle.listing_lines.proofs.presets.PresetLines.{Front, form-front, form-never, window-front, window-never, wordLine-room, wordLine-put}
 use Rattle.listing_lines.proofs.presets.put_word.Statement.{statement}
 use Rattle.listing_lines.proofs.presets.put_word.Tie as tie
 
@@ -89,15 +89,17 @@ put-line-requires : tie.Need-put-line-requires
 put-line-requires c κs =
     let f = form (c .before .before .before .before .before .before .before .before .before .before .before) in
     let s = shown (c .before .before .before .before) in
-    (rw (f .part) (omega (arith, f .bound, f .size)), rw (s .part) (omega (arith, s .bound, s .size)), c .before .before .before .before .before .before .before .before .before .before .before .before .before .before .before .before .before .before .before .pre .2)
+    let start = c .before .before .before .before .before .before .before .before .before .before .before .before .before .before .before .before .before .before .before in
+    wordLine-room _ _ _ _ _ _ _ (f .part) (s .part) (start .pre .2)
 
 same-length : tie.Need-same-length
 same-length c = search needs
 
 returns-3 : tie.Need-returns-3
 returns-3 c =
-    let put = c .before .before .put-line .ensures in
-    (wordLine-put _ _ _ _ _ _ _ _ _ _ (form (c .before .before .before .before .before .before .before .before .before .before .before .before .before .before) .part) (shown (c .before .before .before .before .before .before .before) .part) (put .0), put .1)
+    let f = form (c .before .before .before .before .before .before .before .before .before .before .before .before .before .before) in
+    let s = shown (c .before .before .before .before .before .before .before) in
+    wordLine-put _ _ _ _ _ _ _ _ _ _ (f .part) (s .part) (c .before .before .put-line .ensures)
 
 pub put-word-spec : {M : Type 1} → statement M
 put-word-spec =

@@ -1,0 +1,195 @@
+-- Every line of a listing has at most 16,896 bytes, by the ranges of its fields. So a call with a buffer of that many bytes writes a line where one is
+-- left, and as many such calls as there are lines write the listing.
+--
+-- Sections: letters and entries; lines of presets; every line; progress.
+-- Assumes nothing.
+use mathlib.Core.Path.{_≡_, refl, _∙_}
+use mathlib.Core.Bool.{false}
+use mathlib.Core.List.{List, [], _∷_}
+use Prim.Native.Nat.{ℕ, zero, suc, _+_, _-_, _*_, _^_, _≤_, _<_}
+use native.Mathlib.Decide.{ℕ-discrete, decLe}
+use native.Mathlib.Omega.{arith}
+use lib.IntN.{ℤ, pos, negsuc, natAbs}
+use lib.ListN.{length, take, drop, length-append}
+use borrow.Author.Tests.{eq-eqb, ne-eqb}
+use Rattle.coxeter.specs.Kinds.{Kind, kindOf}
+use Rattle.coxeter.specs.Windows.{window}
+use Rattle.coxeter.specs.Checks.{wrongLetter, rankRefusal}
+use Rattle.coxeter.specs.NormalForm.{wordNormalForm}
+use Rattle.coxeter.proofs.Acceptance.{rank-accepted, lanes-le}
+use Rattle.coxeter.proofs.Levels.{Between, window-accepted}
+use Rattle.coxeter.proofs.Lengths.{length-normalForm}
+use Rattle.coxeter.proofs.LetterLaws.{letter-within-cons}
+use Rattle.coxeter.proofs.NormalForms.{normalForm-letters}
+use Rattle.coxeter.proofs.PairWeights.{windowLength-le-4096}
+use Rattle.book_format.specs.declared.Opened.{Opened}
+use Rattle.book_format.specs.declared.Opened.the-variants as opened
+use Rattle.book_format.specs.declared.Preset.{Preset}
+use Rattle.book_format.specs.declared.Preset.the-variants as preset
+use Rattle.book_format.specs.Books.{count, bookRefusal}
+use Rattle.book_format.specs.Calls.{openedOf, checkedBook, checkedPreset}
+use Rattle.book_format.proofs.BookLaws.{accepted}
+use Rattle.book_format.proofs.Outcomes.{bookRefusal-le, presetRefusal-le}
+use Rattle.book_format.proofs.PresetLaws.{found, found-rank, refused-is}
+use Rattle.listing_text.specs.Text.{decimal, spaced, letters, entry, entries, head, tail, presetLine, refused, refusedLine, refusedBookLine, countLine, wordLine, lineBy, lineOf, listing}
+use Rattle.listing_text.specs.Calls.{lineCountBy, lineCount, firstLine, line, fitting, nextPiece, reached, pieces}
+use Rattle.listing_text.proofs.Decimals.{length-decimal-byte, length-decimal-word}
+use Rattle.listing_text.proofs.Pieces.{fitting-more, pieces-whole}
+
+-- room for 4,096 letters, 64 entries and five numbers of 64 bits
+abbrev pub longest : ℕ
+longest = 16896
+
+-- ---- letters and entries
+
+length-letters-le : (n : ℕ) (u : List ℕ) → n < 256 → wrongLetter n u ≡ false → length (letters u) ≤ 4 * length u
+unfolding letters spaced
+length-letters-le n [] h g = omega arith
+length-letters-le n (x ∷ u) h g =
+    let w = letter-within-cons n x u g in
+    let l = length-letters-le n u h (w .2) in
+    rw (length-append (spaced x) (letters u)) (omega (arith, length-decimal-byte x (omega (arith, w .1))))
+
+length-entry-le : (e : ℤ) → natAbs e < 256 → length (entry e) ≤ 5
+unfolding entry spaced
+length-entry-le (pos x) h = omega (arith, length-decimal-byte x h)
+length-entry-le (negsuc x) h = omega (arith, length-decimal-byte (suc x) h)
+
+length-entries-le : (c : ℕ) (w : List ℤ) → c ≤ 256 → Between 1 c w → length (entries w) ≤ 5 * length w
+unfolding entries
+length-entries-le c [] h g = omega arith
+length-entries-le c (e ∷ w) h g =
+    let l = length-entries-le c w h (g .2) in
+    rw (length-append (entry e) (entries w)) (omega (arith, length-entry-le e (omega (arith, g .1))))
+
+-- ---- lines of presets
+
+pub length-window-le : (k n : ℕ) (u : List ℕ) → rankRefusal k n ≡ 0 → length (window (kindOf k) n u) ≤ 64
+length-window-le k n u h = lanes-le k n (length (window (kindOf k) n u)) h (window-accepted (kindOf k) n u .size)
+
+pub length-form-le : (k n : ℕ) (u : List ℕ) → rankRefusal k n ≡ 0 → length (wordNormalForm (kindOf k) n u) ≤ 4096
+length-form-le k n u h =
+    let w = window (kindOf k) n u in
+    let a = window-accepted (kindOf k) n u in
+    rw (length-normalForm (kindOf k) n w a) (windowLength-le-4096 (kindOf k) n w a (length-window-le k n u h))
+
+length-head-le : (i : ℕ) (k : Kind) (n l : ℕ) → i < 2 ^ 64 → n < 256 → l < 2 ^ 64 → length (head i k n l) ≤ 48
+unfolding head spaced
+length-head-le i k n l h g f =
+    simp length-append (omega (arith, length-decimal-word i h, length-decimal-byte n g, length-decimal-word l f))
+
+length-wordLine-le : (i k n : ℕ) (u : List ℕ) → i < 2 ^ 64 → rankRefusal k n ≡ 0 → length (wordLine i (kindOf k) n u) ≤ longest
+unfolding wordLine presetLine tail
+length-wordLine-le i k n u h g =
+    let w = window (kindOf k) n u in
+    let v = wordNormalForm (kindOf k) n u in
+    let a = window-accepted (kindOf k) n u in
+    let small = rank-accepted k n g .1 in
+    let m = length-window-le k n u g in
+    let l = length-form-le k n u g in
+    let first = length-head-le i (kindOf k) n (length v) h (omega arith) (omega arith) in
+    let second = length-letters-le n v (omega arith) (normalForm-letters (kindOf k) n w a) in
+    let third = length-entries-le (1 + length w) w (omega arith) (a .level .between) in
+    simp length-append (omega arith)
+
+-- ---- every line
+
+-- what opening a book answered
+presets-opened : (b : List ℕ) (c : ℕ) → opened.Presets c ≡ checkedBook b → (bookRefusal b ≡ 0) × (c ≡ count b)
+unfolding checkedBook openedOf
+presets-opened b c e = elim (ℕ-discrete (bookRefusal b) 0) [
+  | yes z ↦
+      let q : opened.Presets c ≡ opened.Presets (count b) = e ∙ rw (eq-eqb (bookRefusal b) 0 z) in
+      (z, cc)
+  | no f ↦
+      let q : opened.Presets c ≡ opened.Refused (bookRefusal b) = e ∙ rw (ne-eqb (bookRefusal b) 0 f) in
+      let y : _≡_ {A = ℕ} 0 1 = cc in
+      absurd (omega arith)
+]
+
+refused-opened : (b : List ℕ) (r : ℕ) → opened.Refused r ≡ checkedBook b → r ≤ 3
+unfolding checkedBook openedOf
+refused-opened b r e = elim (ℕ-discrete (bookRefusal b) 0) [
+  | yes z ↦
+      let q : opened.Refused r ≡ opened.Presets (count b) = e ∙ rw (eq-eqb (bookRefusal b) 0 z) in
+      let y : _≡_ {A = ℕ} 0 1 = cc in
+      absurd (omega arith)
+  | no f ↦
+      let q : opened.Refused r ≡ opened.Refused (bookRefusal b) = e ∙ rw (ne-eqb (bookRefusal b) 0 f) in
+      let p : r ≡ bookRefusal b = cc in
+      omega (arith, bookRefusal-le b)
+]
+
+-- at most so many presets, since each has two bytes in the trailer
+pub presets-le : (b : List ℕ) (c : ℕ) → opened.Presets c ≡ checkedBook b → c ≤ 32767
+presets-le b c e =
+    let p = presets-opened b c e in
+    let a = accepted b (p .0) in
+    omega (arith, p .1)
+
+-- a line after the first is that of a preset of an accepted book
+pub lineCount-preset : (b : List ℕ) (i : ℕ) → 1 ≤ i → i < lineCount b → (bookRefusal b ≡ 0) × (i - 1 < count b)
+unfolding lineCount lineCountBy
+lineCount-preset b i h g = by-answer (checkedBook b) refl g
+  where
+    by-answer : (o : Opened) → o ≡ checkedBook b → i < lineCountBy o → (bookRefusal b ≡ 0) × (i - 1 < count b)
+    by-answer (opened.Presets c) e l = let p = presets-opened b c e in (p .0, omega (arith, p .1))
+    by-answer (opened.Refused r) e l = absurd (omega arith)
+
+pub lineCount-le : (b : List ℕ) → lineCount b ≤ 32768
+unfolding lineCount lineCountBy
+lineCount-le b = by-answer (checkedBook b) refl
+  where
+    by-answer : (o : Opened) → o ≡ checkedBook b → lineCountBy o ≤ 32768
+    by-answer (opened.Presets c) e = omega (arith, presets-le b c e)
+    by-answer (opened.Refused r) e = omega arith
+
+pub length-firstLine-le : (b : List ℕ) → length (firstLine (checkedBook b)) ≤ 29
+unfolding firstLine countLine refusedBookLine refused
+length-firstLine-le b = by-answer (checkedBook b) refl
+  where
+    by-answer : (o : Opened) → o ≡ checkedBook b → length (firstLine o) ≤ 29
+    by-answer (opened.Presets c) e = let l = presets-le b c e in simp length-append (omega (arith, length-decimal-word c (omega arith)))
+    by-answer (opened.Refused r) e = let l = refused-opened b r e in simp length-append (omega (arith, length-decimal-byte r (omega arith)))
+
+length-lineOf-le : (b : List ℕ) (i : ℕ) → i < 2 ^ 64 → length (lineOf b i) ≤ longest
+unfolding lineOf lineBy refusedLine refused
+length-lineOf-le b i h = by-answer (checkedPreset b i) refl
+  where
+    by-answer : (p : Preset) → p ≡ checkedPreset b i → length (lineBy b i p) ≤ longest
+    by-answer (preset.Found k n s l) e = length-wordLine-le i k n (take l (drop s b)) h (found-rank b i k n s l (found b i k n s l e))
+    by-answer (preset.Refused r) e =
+        let l = presetRefusal-le b i in
+        let q = refused-is b i r e in
+        simp length-append (omega (arith, length-decimal-word i h, length-decimal-byte r (omega arith)))
+
+pub length-line-le : (b : List ℕ) (i : ℕ) → i < lineCount b → length (line b i) ≤ longest
+unfolding line
+length-line-le b zero h = omega (arith, length-firstLine-le b)
+length-line-le b (suc i) h = length-lineOf-le b i (omega (arith, lineCount-le b))
+
+-- ---- progress
+
+pub piece-progress : (b : List ℕ) (i : ℕ) (out : List ℕ) → i < lineCount b → longest ≤ length out → i < nextPiece b i out .answer .next
+unfolding nextPiece
+piece-progress b i out h g =
+    let l = length-line-le b i h in
+    let e : lineCount b - i ≡ suc (lineCount b - suc i) = omega arith in
+    rw (e, fitting-more b (lineCount b - suc i) i (length out) (omega arith)) (omega arith)
+
+-- buffers with room for every line
+abbrev pub Roomy : List (List ℕ) → Type 0
+Roomy [] = Unit {0}
+Roomy (out ∷ outs) = (longest ≤ length out) × Roomy outs
+
+reached-end : (b : List ℕ) (i : ℕ) (outs : List (List ℕ)) → Roomy outs → lineCount b ≤ i + length outs → lineCount b ≤ reached b i outs
+unfolding reached
+reached-end b i [] h g = omega arith
+reached-end b i (out ∷ outs) h g = reached-end b (nextPiece b i out .answer .next) outs (h .1) (elim (decLe (lineCount b) i) [
+  | yes l ↦ unfold nextPiece in omega arith
+  | no n ↦ let p = piece-progress b i out (omega arith) (h .0) in omega arith
+])
+
+-- as many of them as there are lines are enough
+pub pieces-enough : (b : List ℕ) (outs : List (List ℕ)) → Roomy outs → lineCount b ≤ length outs → pieces b 0 outs ≡ listing b
+pieces-enough b outs h g = pieces-whole b outs (reached-end b 0 outs h (omega arith))
