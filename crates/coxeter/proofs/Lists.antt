@@ -1,13 +1,13 @@
 -- Lists that code writes: parts, elements stored one by one, runs of stores. Laws that the kit's `lib.Seq` does not have, over no definition of this crate.
 -- Assumes nothing.
 use mathlib.Core.Path.{_≡_, refl, sym, ap, _∙_}
-use mathlib.Core.List.{List, [], _∷_, _++_}
+use mathlib.Core.List.{List, [], _∷_, _++_, append-assoc, append-nil}
 use Prim.Native.Nat.{ℕ, _+_, _-_, _≤_, _<_, suc}
-use native.Mathlib.Nat.{zero-add, le-of-eq, add-suc, suc-add, add-zero}
+use native.Mathlib.Nat.{zero-add, le-refl, le-of-eq, add-suc, suc-add, add-zero}
 use native.Mathlib.Numerals.{add-one}
 use native.Mathlib.Omega.{arith}
 use lib.ListN.{length, getD, take, drop, length-drop, drop-of-length-le, length-append, set, length-set}
-use lib.Seq.{drop-cons, take-all, take-at, take-suc, take-suc-set, sets, sets-eq}
+use lib.Seq.{drop-cons, drop-drop, take-all, take-at, take-suc, take-suc-set, sets, sets-eq}
 
 -- the part of a list from a place to its end, as a slice's part is read
 pub take-rest {ℓ} : {X : Type ℓ} (a : ℕ) (l : List X) → take (length l - a) (drop a l) ≡ drop a l
@@ -78,11 +78,11 @@ sets-next l i j u v e = rw e (sets-append l i u v)
 
 -- ---- copying a slice
 
-pub sets-start : (l : List ℕ) (p : ℕ) (s : List ℕ) → sets l p s ≡ sets l (p + 0) (drop 0 s)
-sets-start l p s = rw add-zero
-
-pub sets-step : (l : List ℕ) (p i : ℕ) (s : List ℕ) → i < length s → sets l (p + i) (drop i s) ≡ sets (set l (p + i) (getD s i 0)) (p + (i + 1)) (drop (i + 1) s)
-sets-step l p i s h = rw (drop-cons s i 0 h, add-one i, add-suc p i)
-
-pub sets-end : (l : List ℕ) (p i : ℕ) (s : List ℕ) → length s ≤ i → sets l (p + i) (drop i s) ≡ l
-sets-end l p i s h = rw (drop-of-length-le s h)
+-- `bytes` is the rest of l from p on after u was copied to its front
+pub sets-copied : (l u bytes : List ℕ) (p : ℕ) → p + length u ≤ length l
+    → bytes ≡ take (length u) u ++ drop (length u) (take (length l - p) (drop p l))
+    → take p l ++ (bytes ++ drop (length l - p) (drop p l)) ≡ sets l p u
+sets-copied l u bytes p h e =
+    let rest : length (drop p l) ≤ length l - p = rw length-drop (omega arith) in
+    rw (e, take-all (length u) u (le-refl (length u)), take-rest p l, drop-drop (length u) p l, drop-of-length-le (drop p l) rest, append-nil)
+    (sym (sets-eq u l p h ∙ append-assoc (take p l) u (drop (p + length u) l)))

@@ -26,8 +26,7 @@ use Rattle.book_format.specs.declared.Opened.{Opened}
 use Rattle.book_format.specs.declared.Opened.the-variants as books
 use Rattle.book_format.specs.declared.Preset.{Preset}
 use Rattle.book_format.specs.declared.Preset.the-variants as presets
-use Rattle.listing_text.specs.declared.Placed.{Placed}
-use Rattle.listing_text.specs.declared.Placed.the-variants as places
+use Rattle.listing_text.specs.declared.Piece.{Piece}
 use Rattle.coxeter.specs.Kinds.{pick, kindOf, up}
 use Rattle.coxeter.specs.Windows.{from, exchange, negateFirst, exchangeNegate, act, windowFrom, straight, window, at, product, signed, placeFrom, inverse}
 use Rattle.coxeter.specs.Length.{later, negative, one, laterThan, inversions, negativeSumPairs, negatives, windowLength}
@@ -40,8 +39,8 @@ use Rattle.rules.specs.Rules.{each, family1, family2, family3, family4, familie
 use Rattle.rules.specs.Calls.{pastEnd, refusedStep, usedStep, stepBy, step}
 use Rattle.book_format.specs.Books.{twoAt, two, count, trailer, offset, wrongSize, wrongCount, misplacedFrom, misplaced, noSuchPreset, tooLarge, bookRefusal, recordRefusal, presetRefusal, recordOf, added, appended, appendRefusal}
 use Rattle.book_format.specs.Calls.{openedOf, presetOf, checkedBook, presetAt, checkedPreset, lettersStart, lettersOf, appending}
-use Rattle.listing_text.specs.Text.{digits, decimal, spaced, letters, entry, entries, kindLetter, head, tail, presetLine, refused, refusedLine, refusedBookLine, countLine, wordLine}
-use Rattle.listing_text.specs.Calls.{puts}
+use Rattle.listing_text.specs.Text.{digits, decimal, spaced, letters, entry, entries, kindLetter, head, tail, presetLine, refused, refusedLine, refusedBookLine, countLine, wordLine, lineBy, lineOf}
+use Rattle.listing_text.specs.Calls.{lineCountBy, lineCount, firstLine, line, lines, fitting, nextPiece}
 use Rattle.book_format.proofs.BookLaws.{accepted}
 use Rattle.book_format.proofs.WritingLaws.{length-appended}
 use Rattle.book_format.proofs.Vectors.{too-large-book, appending-too-large}
@@ -79,16 +78,15 @@ ofPreset : Preset → List ℤ
 ofPreset (presets.Found k n s l) = pos 0 ∷ pos k ∷ pos n ∷ pos s ∷ pos l ∷ []
 ofPreset (presets.Refused r) = pos 1 ∷ pos r ∷ []
 
-ofPlaced : Placed → List ℤ
-ofPlaced (places.Next p) = pos 0 ∷ pos p ∷ []
-ofPlaced places.NoRoom = pos 1 ∷ []
+ofPiece : Piece → List ℤ
+ofPiece p = pos (p .next) ∷ pos (p .end) ∷ pos (p .left) ∷ []
 
 -- the numbers of all that is told
 numbers : Told → List ℤ
 numbers (told.entries o) = ofAnswer (o .answer) ++ o .bytes
 numbers (told.bytes o) = ofAnswer (o .answer) ++ map pos (o .bytes)
 numbers (told.rewrite s) = ofRewrite (s .answer) ++ map pos (s .bytes ++ s .word)
-numbers (told.put p) = ofPlaced (p .answer) ++ map pos (p .bytes)
+numbers (told.piece p) = ofPiece (p .answer) ++ map pos (p .bytes)
 numbers (told.answer a) = ofAnswer a
 numbers (told.verdict v) = ofVerdict v
 numbers (told.choice c) = ofChoice c
@@ -115,7 +113,7 @@ allDiffer (r ∷ rs) = differs r && allDiffer rs
 
 -- the one computed fact, with the definitions that the rows pass through, layer by layer
 all-differ : allDiffer table ≡ true
-unfolding table allDiffer differs numbers ofAnswer ofVerdict ofChoice ofRewrite ofOpened ofPreset ofPlaced
+unfolding table allDiffer differs numbers ofAnswer ofVerdict ofChoice ofRewrite ofOpened ofPreset ofPiece
     kindOf up from exchange negateFirst exchangeNegate act windowFrom straight window at product signed placeFrom inverse
     later negative one laterThan inversions negativeSumPairs negatives windowLength before shortlex
     wrongKind wrongRank tooLong wrongLetter wrongLanes hasSize negativeInA wrongAt wrongEntry odd oddNegatives tooShort
@@ -126,7 +124,8 @@ unfolding table allDiffer differs numbers ofAnswer ofVerdict ofChoice ofRewrite 
     each family1 family2 family3 family4 families5to7 rules begins fits firstFitting rewritten pastEnd refusedStep usedStep stepBy step
     twoAt two count trailer offset wrongSize wrongCount misplacedFrom misplaced noSuchPreset tooLarge bookRefusal recordRefusal presetRefusal recordOf
     appended appendRefusal openedOf presetOf checkedBook presetAt checkedPreset lettersStart lettersOf appending
-    digits decimal spaced letters entry entries kindLetter head tail presetLine refused refusedLine refusedBookLine countLine wordLine puts
+    digits decimal spaced letters entry entries kindLetter head tail presetLine refused refusedLine refusedBookLine countLine wordLine lineBy lineOf
+    lineCountBy lineCount firstLine line lines fitting nextPiece
 all-differ = refl
 
 all-sound : (rs : List WrongRouter) → allDiffer rs ≡ true → (r : WrongRouter) → List·Memᴰ r rs → r .right ≡ r .wrong → ⊥
@@ -141,7 +140,7 @@ pub ruled-out : (r : WrongRouter) → List·Memᴰ r table → r .right ≡ r .w
 ruled-out = all-sound table all-differ
 
 -- so many rows, lest one be lost
-pub table-length : length table ≡ 62
+pub table-length : length table ≡ 63
 unfolding table
 table-length = refl
 

@@ -1,12 +1,11 @@
--- Wrong answers of the calls on books and of the lines of a listing, each of the type of its call's definition. WrongRouters.antt says where each
+-- Wrong answers of the calls on books, of the lines of a listing and of its pieces, each of the type of its call's definition. WrongRouters.antt says where each
 -- is wrong.
 use mathlib.Core.Bool.{Bool, false, not, _||_}
 use mathlib.Core.List.{List, [], _∷_, _++_, map}
 use Prim.Native.Nat.{ℕ, zero, suc, _+_, _-_, _*_}
-use lib.Dec.{eqb, leb, ltb}
+use lib.Dec.{eqb, ltb}
 use lib.IntN.{natAbs}
 use lib.ListN.{length, getD, take, drop}
-use lib.Seq.{sets}
 use Rattle.coxeter.specs.Kinds.{Kind, pick}
 use Rattle.coxeter.specs.Windows.{window}
 use Rattle.coxeter.specs.Checks.{check, _then_, tooShort}
@@ -16,9 +15,8 @@ use Rattle.book_format.specs.declared.Opened.{Opened}
 use Rattle.book_format.specs.declared.Preset.{Preset}
 use Rattle.book_format.specs.Books.{two, count, trailer, offset, lettersAt, endAt, wrongSize, wrongCount, misplaced, bookRefusal, recordRefusal, presetRefusal, recordOf, appended, appendRefusal}
 use Rattle.book_format.specs.Calls.{openedOf, checkedBook, presetAt, checkedPreset, lettersStart, lettersOf}
-use Rattle.listing_text.specs.declared.Placed.the-variants.{Next, NoRoom}
 use Rattle.listing_text.specs.Text.{decimal, spaced, letters, kindLetter, head, tail, presetsText, refusedLine, refusedBookLine}
-use Rattle.listing_text.specs.Calls.{Putting}
+use Rattle.listing_text.specs.Calls.{lineCount, line, lines, Piecing}
 
 -- ---- opening
 
@@ -102,8 +100,16 @@ minusLeftOut i k n u =
     let v = wordNormalForm k n u in
     head i k n (length v) ++ letters v ++ (32 ∷ 124 ∷ []) ++ letters (map natAbs (window k n u)) ++ (10 ∷ [])
 
--- a line goes where 16,895 bytes are left
-abbrev pub lineWithoutRoom : List ℕ → List ℕ → ℕ → Putting
-lineWithoutRoom text out at =
-    pick (leb (at + 16895) (length out)) (record { answer = Next (at + length text); bytes = sets out at text })
-    (record { answer = NoRoom; bytes = out })
+-- ---- pieces of the listing
+
+-- the first line is all there is
+abbrev pub noPresetLine : List ℕ → ℕ → List ℕ → Piecing
+noPresetLine b i out =
+    let text = pick (eqb i 0) (line b 0) [] in
+    record { answer = record { next = 1; end = length text; left = 0 }; bytes = text ++ drop (length text) out }
+
+-- the buffer is filled to its last byte
+abbrev pub lineCutOff : List ℕ → ℕ → List ℕ → Piecing
+lineCutOff b i out =
+    let text = take (length out) (lines b (lineCount b - i) i) in
+    record { answer = record { next = lineCount b; end = length text; left = 0 }; bytes = text ++ drop (length text) out }

@@ -17,7 +17,7 @@ use Rattle.book_format.specs.declared.Opened.{Opened}
 use Rattle.book_format.specs.declared.Preset.{Preset}
 use Rattle.book_format.specs.Calls.{checkedBook, checkedPreset, appending}
 use Rattle.listing_text.specs.Text.{refusedLine, refusedBookLine, countLine, wordLine}
-use Rattle.listing_text.specs.Calls.{Putting, puts}
+use Rattle.listing_text.specs.Calls.{Piecing, nextPiece}
 use Rattle.examples.specs.Examples.{neg}
 use Rattle.examples.specs.WrongWindows.{refusesEveryKind, rank32InA, letterZeroAccepted, wordOf4097Letters}
 use Rattle.examples.specs.WrongWindows.{turnsEveryPresetDown, straightForAllWords, exchangesValues, stepOfBInD, refusedCallWrites, clearsTheOutput}
@@ -30,14 +30,14 @@ use Rattle.examples.specs.WrongWindows.{ranksNotCompared, secondPresetRe
 use Rattle.examples.specs.WrongRewrites.{noneFitsWithoutLooking, ruleOfBInD, family3OneTooFarInB, family4AsFamily3, replacedOnePlaceToTheLeft, placeAtTheEndAccepted, roomCheckedBeforeTheRule, wordCopiedFirst}
 use Rattle.examples.specs.WrongBooks.{countHighByteFirst, offsetAgainstTheTrailer, lastRecordMayStopEarly, onePresetTooMany, preset0ForEveryNumber}
 use Rattle.examples.specs.WrongBooks.{handedOut, lettersFromTheRecord, refusedPresetHandsOutLetters, lastOffsetDropped, kindAndRankExchanged}
-use Rattle.examples.specs.WrongBooks.{countWithoutLineFeed, bookRefusalAlways1, presetRefusalAlways1, lengthBeforeRank, minusLeftOut, lineWithoutRoom}
+use Rattle.examples.specs.WrongBooks.{countWithoutLineFeed, bookRefusalAlways1, presetRefusalAlways1, lengthBeforeRank, minusLeftOut, noPresetLine, lineCutOff}
 
 -- what a call tells: its answer, with the output afterwards if it writes one
 pub data Told : Type 0 where
   entries : Outcome ℤ → Told
   bytes : Outcome ℕ → Told
   rewrite : Step → Told
-  put : Putting → Told
+  piece : Piecing → Told
   answer : Answer → Told
   verdict : Verdict → Told
   choice : Choice → Told
@@ -143,5 +143,7 @@ table =
     ∷ differ refusedLine presetRefusalAlways1 (λ f. text (f 0 8))
     ∷ differ wordLine lengthBeforeRank (λ f. text (f 0 B 2 (1 ∷ 2 ∷ 1 ∷ 2 ∷ [])))
     ∷ differ wordLine minusLeftOut (λ f. text (f 0 B 2 (1 ∷ 2 ∷ 1 ∷ 2 ∷ [])))
-    ∷ differ puts lineWithoutRoom (λ f. put (f (10 ∷ []) (lent 16895) 0))
+    -- pieces of the listing
+    ∷ differ nextPiece noPresetLine (λ f. piece (f one 0 (lent 40)))
+    ∷ differ nextPiece lineCutOff (λ f. piece (f one 0 (lent 12)))
     ∷ []

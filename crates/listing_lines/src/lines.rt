@@ -8,7 +8,7 @@ ghost use mathlib.Core.Path.{_≡_};
 ghost use Prim.Native.Nat.{_+_, _≤_};
 ghost use lib.ListN.{length};
 ghost use Rattle.coxeter.specs.Kinds.{kindOf};
-ghost use Rattle.listing_text.specs.Calls.{Put};
+ghost use Rattle.coxeter.proofs.Lists.{Stored};
 ghost use Rattle.listing_text.specs.Text.{kindLetter, head, tail, presetLine, refused, refusedLine, refusedBookLine, countLine};
 
 fn kind_letter(kind: u8) -> u8
@@ -26,7 +26,7 @@ fn kind_letter(kind: u8) -> u8
 // ` refused 8`, with the line feed.
 fn put_refusal(refusal: u8, out: &mut [u8], at: usize) -> usize
     requires { ⌜ at + length (refused refusal) ≤ length (now out) ⌝ }
-    ensures { λ r. ⌜ Put (now (out .entry)) at (refused refusal) (now (out .exit)) r ⌝ }
+    ensures { λ r. ⌜ Stored (now (out .entry)) at (refused refusal) (now (out .exit)) r ⌝ }
 {
     let a = put_bytes(out, at, b" refused ");
     let b = put_decimal(out, a, refusal as usize);
@@ -36,7 +36,7 @@ fn put_refusal(refusal: u8, out: &mut [u8], at: usize) -> usize
 // `0 refused 8`
 pub(crate) fn put_refused(number: usize, refusal: u8, out: &mut [u8]) -> usize
     requires { ⌜ length (refusedLine number refusal) ≤ length (now out) ⌝ }
-    ensures { λ r. ⌜ Put (now (out .entry)) 0 (refusedLine number refusal) (now (out .exit)) r ⌝ }
+    ensures { λ r. ⌜ Stored (now (out .entry)) 0 (refusedLine number refusal) (now (out .exit)) r ⌝ }
 {
     let a = put_decimal(out, 0, number);
     put_refusal(refusal, out, a)
@@ -45,7 +45,7 @@ pub(crate) fn put_refused(number: usize, refusal: u8, out: &mut [u8]) -> usize
 // `0 B 2 4:`
 fn put_head(number: usize, kind: u8, rank: u8, size: usize, out: &mut [u8]) -> usize
     requires { ⌜ length (head number (kindOf kind) rank size) ≤ length (now out) ⌝ }
-    ensures { λ r. ⌜ Put (now (out .entry)) 0 (head number (kindOf kind) rank size) (now (out .exit)) r ⌝ }
+    ensures { λ r. ⌜ Stored (now (out .entry)) 0 (head number (kindOf kind) rank size) (now (out .exit)) r ⌝ }
 {
     let a = put_decimal(out, 0, number);
     let b = put_bytes(out, a, &[b' ', kind_letter(kind)]);
@@ -57,7 +57,7 @@ fn put_head(number: usize, kind: u8, rank: u8, size: usize, out: &mut [u8]) -> u
 // ` 2 1 2 1 | -1 -2`, with the line feed.
 fn put_tail(word: &[u8], window: &[i8], out: &mut [u8], at: usize) -> usize
     requires { ⌜ at + length (tail (now word) (now window)) ≤ length (now out) ⌝ }
-    ensures { λ r. ⌜ Put (now (out .entry)) at (tail (now (word .entry)) (now (window .entry))) (now (out .exit)) r ⌝ }
+    ensures { λ r. ⌜ Stored (now (out .entry)) at (tail (now (word .entry)) (now (window .entry))) (now (out .exit)) r ⌝ }
 {
     let a = put_letters(out, at, word);
     let b = put_bytes(out, a, b" |");
@@ -75,7 +75,7 @@ pub(crate) fn put_line(
     out: &mut [u8],
 ) -> usize
     requires { ⌜ length (presetLine number (kindOf kind) rank (now word) (now window)) ≤ length (now out) ⌝ }
-    ensures { λ r. ⌜ Put (now (out .entry)) 0 (presetLine number (kindOf kind) rank (now (word .entry)) (now (window .entry))) (now (out .exit)) r ⌝ }
+    ensures { λ r. ⌜ Stored (now (out .entry)) 0 (presetLine number (kindOf kind) rank (now (word .entry)) (now (window .entry))) (now (out .exit)) r ⌝ }
 {
     let a = put_head(number, kind, rank, word.len(), out);
     put_tail(word, window, out, a)
@@ -84,7 +84,7 @@ pub(crate) fn put_line(
 // `presets 2`
 pub(crate) fn put_count(count: usize, out: &mut [u8]) -> usize
     requires { ⌜ length (countLine count) ≤ length (now out) ⌝ }
-    ensures { λ r. ⌜ Put (now (out .entry)) 0 (countLine count) (now (out .exit)) r ⌝ }
+    ensures { λ r. ⌜ Stored (now (out .entry)) 0 (countLine count) (now (out .exit)) r ⌝ }
 {
     let a = put_bytes(out, 0, b"presets ");
     let b = put_decimal(out, a, count);
@@ -94,7 +94,7 @@ pub(crate) fn put_count(count: usize, out: &mut [u8]) -> usize
 // `book refused 1`
 pub(crate) fn put_refused_book(refusal: u8, out: &mut [u8]) -> usize
     requires { ⌜ length (refusedBookLine refusal) ≤ length (now out) ⌝ }
-    ensures { λ r. ⌜ Put (now (out .entry)) 0 (refusedBookLine refusal) (now (out .exit)) r ⌝ }
+    ensures { λ r. ⌜ Stored (now (out .entry)) 0 (refusedBookLine refusal) (now (out .exit)) r ⌝ }
 {
     let a = put_bytes(out, 0, b"book");
     put_refusal(refusal, out, a)

@@ -1,13 +1,13 @@
 // Numbers, letters and entries as text. Each function writes from the place `at` on and answers the place after what it wrote.
 ghost use Prim.Native.Nat.{_+_, _≤_};
 ghost use lib.ListN.{length};
-ghost use Rattle.listing_text.specs.Calls.{Put};
+ghost use Rattle.coxeter.proofs.Lists.{Stored};
 ghost use Rattle.listing_text.specs.Text as text;
 
 // A number in decimal: the digits before the last one first.
 pub(crate) fn put_decimal(out: &mut [u8], at: usize, x: usize) -> usize
     requires { ⌜ at + length (text.decimal x) ≤ length (now out) ⌝ }
-    ensures { λ r. ⌜ Put (now (out .entry)) at (text.decimal x) (now (out .exit)) r ⌝ }
+    ensures { λ r. ⌜ Stored (now (out .entry)) at (text.decimal x) (now (out .exit)) r ⌝ }
 {
     if x < 10 {
         out[at] = 48 + x as u8;
@@ -21,7 +21,7 @@ pub(crate) fn put_decimal(out: &mut [u8], at: usize, x: usize) -> usize
 // The bytes of `part`.
 pub(crate) fn put_bytes(out: &mut [u8], at: usize, part: &[u8]) -> usize
     requires { ⌜ at + length (now part) ≤ length (now out) ⌝ }
-    ensures { λ r. ⌜ Put (now (out .entry)) at (now (part .entry)) (now (out .exit)) r ⌝ }
+    ensures { λ r. ⌜ Stored (now (out .entry)) at (now (part .entry)) (now (out .exit)) r ⌝ }
 {
     bytes::copy(part, &mut out[at..]);
     at + part.len()
@@ -30,7 +30,7 @@ pub(crate) fn put_bytes(out: &mut [u8], at: usize, part: &[u8]) -> usize
 // A number after one space.
 pub(crate) fn put_spaced(out: &mut [u8], at: usize, x: usize) -> usize
     requires { ⌜ at + length (text.spaced x) ≤ length (now out) ⌝ }
-    ensures { λ r. ⌜ Put (now (out .entry)) at (text.spaced x) (now (out .exit)) r ⌝ }
+    ensures { λ r. ⌜ Stored (now (out .entry)) at (text.spaced x) (now (out .exit)) r ⌝ }
 {
     out[at] = b' ';
     put_decimal(out, at + 1, x)
@@ -39,7 +39,7 @@ pub(crate) fn put_spaced(out: &mut [u8], at: usize, x: usize) -> usize
 // Each letter after one space.
 pub(crate) fn put_letters(out: &mut [u8], at: usize, word: &[u8]) -> usize
     requires { ⌜ at + length (text.letters (now word)) ≤ length (now out) ⌝ }
-    ensures { λ r. ⌜ Put (now (out .entry)) at (text.letters (now (word .entry))) (now (out .exit)) r ⌝ }
+    ensures { λ r. ⌜ Stored (now (out .entry)) at (text.letters (now (word .entry))) (now (out .exit)) r ⌝ }
 {
     let mut r = at;
     let mut i = 0;
@@ -53,7 +53,7 @@ pub(crate) fn put_letters(out: &mut [u8], at: usize, word: &[u8]) -> usize
 // An entry after one space. No byte is negated before its range is known.
 fn put_entry(out: &mut [u8], at: usize, e: i8) -> usize
     requires { ⌜ at + length (text.entry e) ≤ length (now out) ⌝ }
-    ensures { λ r. ⌜ Put (now (out .entry)) at (text.entry e) (now (out .exit)) r ⌝ }
+    ensures { λ r. ⌜ Stored (now (out .entry)) at (text.entry e) (now (out .exit)) r ⌝ }
 {
     if e < 0 {
         let below = -1 - e;
@@ -67,7 +67,7 @@ fn put_entry(out: &mut [u8], at: usize, e: i8) -> usize
 // Each entry after one space.
 pub(crate) fn put_entries(out: &mut [u8], at: usize, window: &[i8]) -> usize
     requires { ⌜ at + length (text.entries (now window)) ≤ length (now out) ⌝ }
-    ensures { λ r. ⌜ Put (now (out .entry)) at (text.entries (now (window .entry))) (now (out .exit)) r ⌝ }
+    ensures { λ r. ⌜ Stored (now (out .entry)) at (text.entries (now (window .entry))) (now (out .exit)) r ⌝ }
 {
     let mut r = at;
     let mut i = 0;

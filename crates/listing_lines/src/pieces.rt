@@ -13,8 +13,9 @@ use window::Answer;
 ghost use mathlib.Core.Path.{_≡_};
 ghost use Prim.Native.Nat.{_+_, _-_, _≤_, _<_};
 ghost use lib.ListN.{length, getD};
+ghost use Rattle.coxeter.proofs.Lists.{Stored};
 ghost use Rattle.book_format.specs.Calls.{checkedBook, presetFrom};
-ghost use Rattle.listing_text.specs.Calls.{Put, lineCount, line, firstLine, nextPiece};
+ghost use Rattle.listing_text.specs.Calls.{lineCount, line, firstLine, nextPiece};
 ghost use Rattle.listing_text.proofs.Room.{longest};
 ghost use Rattle.listing_text.proofs.Runs.{Held, Ready};
 
@@ -70,7 +71,7 @@ fn lines_from(book: &[u8], first: usize) -> usize
 // Line 0.
 fn put_first(book: &[u8], out: &mut [u8]) -> usize
     requires { ⌜ length (firstLine (checkedBook (now book))) ≤ length (now out) ⌝ }
-    ensures { λ r. ⌜ Put (now (out .entry)) 0 (firstLine (checkedBook (now (book .entry)))) (now (out .exit)) r ⌝ }
+    ensures { λ r. ⌜ Stored (now (out .entry)) 0 (firstLine (checkedBook (now (book .entry)))) (now (out .exit)) r ⌝ }
 {
     match check_book(book) {
         Opened::Presets(count) => put_count(count, out),
@@ -101,7 +102,7 @@ fn run_with(book: &[u8], i: usize, first: usize, end: usize, fields: &mut [u64])
 // Line i, from the numbers of a run that has its preset.
 fn put_nth(book: &[u8], i: usize, first: usize, end: usize, fields: &[u64], out: &mut [u8]) -> usize
     requires { ⌜ (i < lineCount (now book)) × Held (now book) first end (now fields) × Ready i first end × (longest ≤ length (now out)) ⌝ }
-    ensures { λ r. ⌜ Put (now (out .entry)) 0 (line (now (book .entry)) i) (now (out .exit)) r ⌝ }
+    ensures { λ r. ⌜ Stored (now (out .entry)) 0 (line (now (book .entry)) i) (now (out .exit)) r ⌝ }
 {
     if i == 0 {
         return put_first(book, out);

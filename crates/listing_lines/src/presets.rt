@@ -10,9 +10,10 @@ ghost use Prim.Native.Nat.{_≤_};
 ghost use lib.ListN.{length};
 ghost use Rattle.coxeter.specs.Kinds.{kindOf};
 ghost use Rattle.coxeter.specs.Checks.{rankRefusal, wordRefusal};
+ghost use Rattle.coxeter.proofs.Lists.{Stored};
 ghost use Rattle.book_format.specs.Calls.{checkedPreset};
-ghost use Rattle.listing_text.specs.Calls.{Put, refusalOf};
 ghost use Rattle.listing_text.specs.Text.{wordLine, lineOf};
+ghost use Rattle.listing_text.proofs.Runs.{refusalOf};
 
 // A window with room for every lane count.
 fn blank() -> [i8; 64]
@@ -40,7 +41,7 @@ fn refusal_of(answer: Preset) -> u8
 fn put_word(number: usize, kind: u8, rank: u8, word: &[u8], out: &mut [u8]) -> usize
     requires { ⌜ (rankRefusal kind rank ≡ 0) × (wordRefusal rank (now word) ≡ 0)
         × (length (wordLine number (kindOf kind) rank (now word)) ≤ length (now out)) ⌝ }
-    ensures { λ r. ⌜ Put (now (out .entry)) 0 (wordLine number (kindOf kind) rank (now (word .entry))) (now (out .exit)) r ⌝ }
+    ensures { λ r. ⌜ Stored (now (out .entry)) 0 (wordLine number (kindOf kind) rank (now (word .entry))) (now (out .exit)) r ⌝ }
 {
     let mut form = io::buffer();
     let Answer::Length(l) = normal_form_of_word(kind, rank, word, &mut form) else {
@@ -56,7 +57,7 @@ fn put_word(number: usize, kind: u8, rank: u8, word: &[u8], out: &mut [u8]) -> u
 // The line of a preset, by its number and what reading it answered.
 pub(crate) fn put_preset(book: &[u8], number: usize, answer: Preset, out: &mut [u8]) -> usize
     requires { ⌜ (answer ≡ checkedPreset (now book) number) × (length (lineOf (now book) number) ≤ length (now out)) ⌝ }
-    ensures { λ r. ⌜ Put (now (out .entry)) 0 (lineOf (now (book .entry)) number) (now (out .exit)) r ⌝ }
+    ensures { λ r. ⌜ Stored (now (out .entry)) 0 (lineOf (now (book .entry)) number) (now (out .exit)) r ⌝ }
 {
     let Preset::Found {
         kind,

@@ -1,4 +1,4 @@
--- The lines that document 01 prints, and some more listings, from the definitions alone: by computing them.
+-- The lines that document 01 prints, some more listings, and pieces of one, from the definitions alone: by computing them.
 -- Assumes nothing.
 use mathlib.Core.Path.{refl}
 use mathlib.Core.List.{List, [], _∷_, _++_}
@@ -10,11 +10,12 @@ use Rattle.coxeter.specs.Kinds.{kindOf, up}
 use Rattle.coxeter.specs.Windows.{from, exchange, negateFirst, exchangeNegate, act, windowFrom, straight, window, placeFrom, signed}
 use Rattle.coxeter.specs.Checks.{wrongKind, wrongRank, tooLong, wrongLetter, rankRefusal, wordRefusal}
 use Rattle.coxeter.specs.NormalForm.{down, rise, fall, block, without, indexOf, restOf, normalFrom, normalForm}
-use Rattle.coxeter.proofs.Vectors.{Agree}
+use Rattle.coxeter.proofs.Vectors.{Agree, lent}
 use Rattle.book_format.specs.Books.{twoAt, count, trailer, offset, wrongSize, wrongCount, misplacedFrom, misplaced, noSuchPreset, bookRefusal, recordRefusal, presetRefusal}
 use Rattle.book_format.specs.Calls.{openedOf, presetOf, checkedBook, presetAt, checkedPreset}
 use Rattle.book_format.proofs.Vectors.{book, emptyBook, bookOf}
 use Rattle.listing_text.specs.Text.{digits, decimal, spaced, letters, entry, entries, kindLetter, head, tail, presetLine, refused, refusedLine, refusedBookLine, countLine, wordLine, lineBy, lineOf, linesFrom, listingBy, listing}
+use Rattle.listing_text.specs.Calls.{lineCountBy, lineCount, firstLine, line, lines, fitting, Piecing, nextPiece}
 
 -- the ASCII codes of a text
 pub codes : String → List ℕ
@@ -44,3 +45,23 @@ unfolding listings codes
     digits decimal spaced letters entry entries kindLetter head tail presetLine refused refusedLine refusedBookLine countLine
     wordLine lineBy lineOf linesFrom listingBy listing
 listings-agree = refl
+
+-- pieces of document 01's listing, whose lines have 10, 25 and 35 bytes: a buffer that two lines fill, one byte less, one byte less than the last line,
+-- and no line left
+pub piecing : List (Piecing × Piecing)
+piecing =
+    (nextPiece book 0 (lent 35), record { answer = record { next = 2; end = 35; left = 1 }; bytes = codes "presets 2\n0 B 2 4: 2 1 2 1 | -1 -2\n" })
+    ∷ (nextPiece book 0 (lent 34), record { answer = record { next = 1; end = 10; left = 2 }; bytes = codes "presets 2\n" ++ lent 24 })
+    ∷ (nextPiece book 2 (lent 34), record { answer = record { next = 2; end = 0; left = 1 }; bytes = lent 34 })
+    ∷ (nextPiece book 3 (lent 1), record { answer = record { next = 3; end = 0; left = 0 }; bytes = lent 1 })
+    ∷ []
+
+pub piecing-agrees : Agree piecing
+unfolding piecing codes
+    kindOf up from exchange negateFirst exchangeNegate act windowFrom straight window placeFrom signed
+    wrongKind wrongRank tooLong wrongLetter rankRefusal wordRefusal down rise fall block without indexOf restOf normalFrom normalForm
+    twoAt count trailer offset wrongSize wrongCount misplacedFrom misplaced noSuchPreset bookRefusal recordRefusal presetRefusal
+    openedOf presetOf checkedBook presetAt checkedPreset
+    digits decimal spaced letters entry entries kindLetter head tail presetLine refused refusedLine refusedBookLine countLine
+    wordLine lineBy lineOf lineCountBy lineCount firstLine line lines fitting nextPiece
+piecing-agrees = refl

@@ -9,6 +9,7 @@ use lib.Seq.{sets, getD-take}
 use Rattle.coxeter.specs.declared.Answer.{Answer}
 use Rattle.coxeter.specs.declared.Answer.the-variants as answer
 use Rattle.book_format.specs.declared.Preset.{Preset}
+use Rattle.book_format.specs.declared.Preset.the-variants as preset
 use Rattle.book_format.specs.Books.{twoAt, count, bookRefusal}
 use Rattle.book_format.specs.Calls.{checkedPreset, presetFields, readingPresets}
 use Rattle.book_format.proofs.BookLaws.{accepted}
@@ -79,3 +80,8 @@ held-preset b l i first end a h r g e =
     let d : first - 1 + (i - first) ≡ i - 1 = omega (arith, q .0) in
     e ∙ sym (presetIn-take (5 * (end - first)) l (5 * (i - first)) (omega (arith, q .1)))
     ∙ rw (h .numbers, presetIn-run b (end - first) (first - 1) (i - first) (omega (arith, q .1)), d)
+
+-- the number of a refused preset, 0 of one that was found
+unfoldable pub refusalOf : Preset → ℕ
+refusalOf (preset.Found k n s l) = 0
+refusalOf (preset.Refused r) = r

@@ -1,15 +1,11 @@
 -- The listing line by line, and what the call that writes the next piece of it answers and writes, for every input.
-use mathlib.Core.Path.{_≡_}
 use mathlib.Core.List.{List, [], _∷_, _++_}
 use Prim.Native.Nat.{ℕ, zero, suc, _+_, _-_}
 use lib.Dec.{leb}
 use lib.ListN.{length, take, drop}
-use lib.Seq.{sets}
 use Rattle.coxeter.specs.Kinds.{pick}
 use Rattle.book_format.specs.declared.Opened.{Opened}
 use Rattle.book_format.specs.declared.Opened.the-variants as opened
-use Rattle.book_format.specs.declared.Preset.{Preset}
-use Rattle.book_format.specs.declared.Preset.the-variants as preset
 use Rattle.book_format.specs.Calls.{checkedBook}
 use Rattle.listing_text.specs.declared.Piece.{Piece}
 use Rattle.listing_text.specs.Text.{refusedBookLine, countLine, lineOf}
@@ -66,14 +62,3 @@ pieces b i (out ∷ outs) = let p = nextPiece b i out in take (p .answer .end) (
 unfoldable pub reached : List ℕ → ℕ → List (List ℕ) → ℕ
 reached b i [] = i
 reached b i (out ∷ outs) = reached b (nextPiece b i out .answer .next) outs
-
--- ---- parts of a line
-
--- a text put into `out` from the place `at` on: the place r after it, and the bytes afterwards
-abbrev pub Put : List ℕ → ℕ → List ℕ → List ℕ → ℕ → Type 0
-Put out at text bytes r = (r ≡ at + length text) × (bytes ≡ sets out at text)
-
--- the number of a refused preset, 0 of one that was found
-unfoldable pub refusalOf : Preset → ℕ
-refusalOf (preset.Found k n s l) = 0
-refusalOf (preset.Refused r) = r

@@ -7,10 +7,9 @@ use native.Mathlib.Omega.{arith}
 use lib.IntN.{ℤ}
 use lib.ListN.{length, length-append}
 use Rattle.coxeter.specs.Kinds.{kindOf}
+use Rattle.coxeter.proofs.Lists.{Stored, stored-append}
 use Rattle.coxeter.proofs.KindLaws.{kindOf-one, kindOf-two, kindOf-three}
 use Rattle.listing_text.specs.Text.{decimal, spaced, letters, entries, kindLetter, head, tail, presetLine, refusedText, bookText, presetsText, refused, refusedLine, refusedBookLine, countLine}
-use Rattle.listing_text.specs.Calls.{Put}
-use Rattle.listing_lines.proofs.numbers.Puts.{put-append}
 
 -- ---- lengths
 
@@ -58,45 +57,45 @@ unfolding kindLetter
 kindLetter-three k e f = rw (kindOf-three k e f)
 
 module _ (o : List ℕ) (at : ℕ) (o₁ : List ℕ) (a : ℕ) (o₂ : List ℕ) (b : ℕ) where
-  pub refusedLine-put : (i r : ℕ) → Put o at (decimal i) o₁ a → Put o₁ a (refused r) o₂ b → Put o at (refusedLine i r) o₂ b
+  pub refusedLine-put : (i r : ℕ) → Stored o at (decimal i) o₁ a → Stored o₁ a (refused r) o₂ b → Stored o at (refusedLine i r) o₂ b
   unfolding refusedLine
-  refusedLine-put i r h₁ h₂ = put-append o at (decimal i) o₁ a (refused r) o₂ b h₁ h₂
+  refusedLine-put i r h₁ h₂ = stored-append o at (decimal i) o₁ a (refused r) o₂ b h₁ h₂
 
-  pub refusedBookLine-put : (r : ℕ) → Put o at bookText o₁ a → Put o₁ a (refused r) o₂ b → Put o at (refusedBookLine r) o₂ b
+  pub refusedBookLine-put : (r : ℕ) → Stored o at bookText o₁ a → Stored o₁ a (refused r) o₂ b → Stored o at (refusedBookLine r) o₂ b
   unfolding refusedBookLine
-  refusedBookLine-put r h₁ h₂ = put-append o at bookText o₁ a (refused r) o₂ b h₁ h₂
+  refusedBookLine-put r h₁ h₂ = stored-append o at bookText o₁ a (refused r) o₂ b h₁ h₂
 
-  pub presetLine-put : (i k n : ℕ) (u : List ℕ) (w : List ℤ) → Put o at (head i (kindOf k) n (length u)) o₁ a → Put o₁ a (tail u w) o₂ b
-      → Put o at (presetLine i (kindOf k) n u w) o₂ b
+  pub presetLine-put : (i k n : ℕ) (u : List ℕ) (w : List ℤ) → Stored o at (head i (kindOf k) n (length u)) o₁ a → Stored o₁ a (tail u w) o₂ b
+      → Stored o at (presetLine i (kindOf k) n u w) o₂ b
   unfolding presetLine
-  presetLine-put i k n u w h₁ h₂ = put-append o at (head i (kindOf k) n (length u)) o₁ a (tail u w) o₂ b h₁ h₂
+  presetLine-put i k n u w h₁ h₂ = stored-append o at (head i (kindOf k) n (length u)) o₁ a (tail u w) o₂ b h₁ h₂
 
   module _ (o₃ : List ℕ) (c : ℕ) where
-    put-three : (u v w : List ℕ) → Put o at u o₁ a → Put o₁ a v o₂ b → Put o₂ b w o₃ c → Put o at (u ++ (v ++ w)) o₃ c
-    put-three u v w h₁ h₂ h₃ = put-append o at u o₁ a (v ++ w) o₃ c h₁ (put-append o₁ a v o₂ b w o₃ c h₂ h₃)
+    put-three : (u v w : List ℕ) → Stored o at u o₁ a → Stored o₁ a v o₂ b → Stored o₂ b w o₃ c → Stored o at (u ++ (v ++ w)) o₃ c
+    put-three u v w h₁ h₂ h₃ = stored-append o at u o₁ a (v ++ w) o₃ c h₁ (stored-append o₁ a v o₂ b w o₃ c h₂ h₃)
 
-    pub refused-put : (r : ℕ) → Put o at refusedText o₁ a → Put o₁ a (decimal r) o₂ b → Put o₂ b (10 ∷ []) o₃ c → Put o at (refused r) o₃ c
+    pub refused-put : (r : ℕ) → Stored o at refusedText o₁ a → Stored o₁ a (decimal r) o₂ b → Stored o₂ b (10 ∷ []) o₃ c → Stored o at (refused r) o₃ c
     unfolding refused
     refused-put r h₁ h₂ h₃ = put-three refusedText (decimal r) (10 ∷ []) h₁ h₂ h₃
 
-    pub countLine-put : (x : ℕ) → Put o at presetsText o₁ a → Put o₁ a (decimal x) o₂ b → Put o₂ b (10 ∷ []) o₃ c → Put o at (countLine x) o₃ c
+    pub countLine-put : (x : ℕ) → Stored o at presetsText o₁ a → Stored o₁ a (decimal x) o₂ b → Stored o₂ b (10 ∷ []) o₃ c → Stored o at (countLine x) o₃ c
     unfolding countLine
     countLine-put x h₁ h₂ h₃ = put-three presetsText (decimal x) (10 ∷ []) h₁ h₂ h₃
 
     module _ (o₄ : List ℕ) (d : ℕ) where
-      pub tail-put : (u : List ℕ) (w : List ℤ) → Put o at (letters u) o₁ a → Put o₁ a (32 ∷ 124 ∷ []) o₂ b → Put o₂ b (entries w) o₃ c → Put o₃ c (10 ∷ []) o₄ d
-          → Put o at (tail u w) o₄ d
+      pub tail-put : (u : List ℕ) (w : List ℤ) → Stored o at (letters u) o₁ a → Stored o₁ a (32 ∷ 124 ∷ []) o₂ b → Stored o₂ b (entries w) o₃ c → Stored o₃ c (10 ∷ []) o₄ d
+          → Stored o at (tail u w) o₄ d
       unfolding tail
       tail-put u w h₁ h₂ h₃ h₄ =
-          put-append o at (letters u ++ (32 ∷ 124 ∷ []) ++ entries w) o₃ c (10 ∷ []) o₄ d
-          (put-append o at (letters u ++ (32 ∷ 124 ∷ [])) o₂ b (entries w) o₃ c (put-append o at (letters u) o₁ a (32 ∷ 124 ∷ []) o₂ b h₁ h₂) h₃)
+          stored-append o at (letters u ++ (32 ∷ 124 ∷ []) ++ entries w) o₃ c (10 ∷ []) o₄ d
+          (stored-append o at (letters u ++ (32 ∷ 124 ∷ [])) o₂ b (entries w) o₃ c (stored-append o at (letters u) o₁ a (32 ∷ 124 ∷ []) o₂ b h₁ h₂) h₃)
           h₄
 
-      pub head-put : (o₅ : List ℕ) (e i k n l y : ℕ) → Put o at (decimal i) o₁ a → y ≡ kindLetter (kindOf k) → Put o₁ a (32 ∷ y ∷ []) o₂ b → Put o₂ b (spaced n) o₃ c
-          → Put o₃ c (spaced l) o₄ d → Put o₄ d (58 ∷ []) o₅ e → Put o at (head i (kindOf k) n l) o₅ e
+      pub head-put : (o₅ : List ℕ) (e i k n l y : ℕ) → Stored o at (decimal i) o₁ a → y ≡ kindLetter (kindOf k) → Stored o₁ a (32 ∷ y ∷ []) o₂ b → Stored o₂ b (spaced n) o₃ c
+          → Stored o₃ c (spaced l) o₄ d → Stored o₄ d (58 ∷ []) o₅ e → Stored o at (head i (kindOf k) n l) o₅ e
       unfolding head
       head-put o₅ e i k n l y h₁ q h₂ h₃ h₄ h₅ =
-          let h = put-append o at (decimal i) o₁ a (32 ∷ y ∷ []) o₂ b h₁ h₂ in
-          let g = put-append o at (decimal i ++ (32 ∷ y ∷ [])) o₂ b (spaced n) o₃ c h h₃ in
-          let f = put-append o at (decimal i ++ (32 ∷ y ∷ []) ++ spaced n) o₃ c (spaced l) o₄ d g h₄ in
-          rw (← q) (put-append o at (decimal i ++ (32 ∷ y ∷ []) ++ spaced n ++ spaced l) o₄ d (58 ∷ []) o₅ e f h₅)
+          let h = stored-append o at (decimal i) o₁ a (32 ∷ y ∷ []) o₂ b h₁ h₂ in
+          let g = stored-append o at (decimal i ++ (32 ∷ y ∷ [])) o₂ b (spaced n) o₃ c h h₃ in
+          let f = stored-append o at (decimal i ++ (32 ∷ y ∷ []) ++ spaced n) o₃ c (spaced l) o₄ d g h₄ in
+          rw (← q) (stored-append o at (decimal i ++ (32 ∷ y ∷ []) ++ spaced n ++ spaced l) o₄ d (58 ∷ []) o₅ e f h₅)

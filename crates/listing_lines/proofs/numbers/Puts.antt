@@ -2,37 +2,32 @@
 -- Assumes nothing.
 use mathlib.Core.Bool.{true, false, false≢true}
 use mathlib.Core.Path.{_≡_, refl, sym, ap, _∙_}
-use mathlib.Core.List.{List, [], _∷_, _++_, append-assoc, append-nil}
-use native.Mathlib.Nat.{le-refl}
-use Prim.Native.Nat.{ℕ, _+_, _-_, _/_, _%_, _≤_, _<_}
+use mathlib.Core.List.{List, [], _∷_, _++_}
+use Prim.Native.Nat.{ℕ, _+_, _/_, _%_, _≤_, _<_}
 use native.Mathlib.Numerals.{add-one, add-two}
 use native.Mathlib.Omega.{arith}
 use lib.Dec.{leb·suc-zero}
 use lib.IntN.{ℤ, pos, negsuc, natAbs}
-use lib.ListN.{length, take, length-drop, set, getD, drop, drop-of-length-le, length-append}
-use lib.Seq.{sets, length-sets, sets-eq, take-all, drop-drop}
+use lib.ListN.{length, set, getD, drop, drop-of-length-le, length-append}
+use lib.Seq.{sets, length-sets}
 use lib.Signed.{mag, ltZ}
 use mir.Syntax.{w8}
 use mir.Val.{SFits, toZ, ofZ}
 use Rattle.refusals.proofs.Bytes.{byte-back, element-back}
-use Rattle.coxeter.proofs.Lists.{take-rest, drop-next, Storing, sets-append, stored-append}
+use Rattle.coxeter.proofs.Lists.{drop-next, Stored, stored-append, Storing, sets-append}
 use Rattle.listing_text.specs.Text.{decimal, spaced, letters, entry, entries}
-use Rattle.listing_text.specs.Calls.{Put}
 use Rattle.listing_text.proofs.Decimals.{decimal-digit, decimal-more}
 
-pub put-byte : (o : List ℕ) (at x : ℕ) → Put o at (x ∷ []) (set o at x) (at + 1)
+pub put-byte : (o : List ℕ) (at x : ℕ) → Stored o at (x ∷ []) (set o at x) (at + 1)
 put-byte o at x = (refl, refl)
-
-pub put-append : (o : List ℕ) (at : ℕ) (u out : List ℕ) (r : ℕ) (v out′ : List ℕ) (r′ : ℕ) → Put o at u out r → Put out r v out′ r′ → Put o at (u ++ v) out′ r′
-put-append o at u out r v out′ r′ h g = stored-append o at u out r v out′ r′ h g
 
 -- ---- digits
 
-pub put-digit : (o : List ℕ) (at x : ℕ) → x < 10 → Put o at (decimal x) (set o at (48 + x)) (at + 1)
+pub put-digit : (o : List ℕ) (at x : ℕ) → x < 10 → Stored o at (decimal x) (set o at (48 + x)) (at + 1)
 put-digit o at x h = rw (decimal-digit x h) (put-byte o at (48 + x))
 
-pub put-last : (o : List ℕ) (at x : ℕ) (out : List ℕ) (r : ℕ) → 10 ≤ x → Put o at (decimal (x / 10)) out r → Put o at (decimal x) (set out r (48 + x % 10)) (r + 1)
-put-last o at x out r h g = rw (decimal-more x h) (put-append o at (decimal (x / 10)) out r ((48 + x % 10) ∷ []) _ _ g (put-byte out r (48 + x % 10)))
+pub put-last : (o : List ℕ) (at x : ℕ) (out : List ℕ) (r : ℕ) → 10 ≤ x → Stored o at (decimal (x / 10)) out r → Stored o at (decimal x) (set out r (48 + x % 10)) (r + 1)
+put-last o at x out r h g = rw (decimal-more x h) (stored-append o at (decimal (x / 10)) out r ((48 + x % 10) ∷ []) _ _ g (put-byte out r (48 + x % 10)))
 
 -- room for a number is room for its digits before the last, and then for the last
 pub digit-room : (x : ℕ) → x < 10 → length (decimal x) ≡ 1
@@ -47,17 +42,17 @@ pub length-spaced : (x : ℕ) → length (spaced x) ≡ 1 + length (decimal x)
 unfolding spaced
 length-spaced x = omega arith
 
-pub put-spaced : (o : List ℕ) (at x : ℕ) (out : List ℕ) (r : ℕ) → Put (set o at 32) (at + 1) (decimal x) out r → Put o at (spaced x) out r
+pub put-spaced : (o : List ℕ) (at x : ℕ) (out : List ℕ) (r : ℕ) → Stored (set o at 32) (at + 1) (decimal x) out r → Stored o at (spaced x) out r
 unfolding spaced
 put-spaced o at x out r h = (omega (arith, h .0), rw (add-one at) at (h .1))
 
-pub put-minus : (o : List ℕ) (at x : ℕ) (out : List ℕ) (r : ℕ) → Put (set (set o at 32) (at + 1) 45) (at + 2) (decimal x) out r
-    → Put o at (32 ∷ 45 ∷ decimal x) out r
+pub put-minus : (o : List ℕ) (at x : ℕ) (out : List ℕ) (r : ℕ) → Stored (set (set o at 32) (at + 1) 45) (at + 2) (decimal x) out r
+    → Stored o at (32 ∷ 45 ∷ decimal x) out r
 put-minus o at x out r h = (omega (arith, h .0), rw (add-one at, add-two at) at (h .1))
 
 -- ---- lists, one element a turn
 
-storing-put : (o : List ℕ) (at : ℕ) (u out : List ℕ) (r : ℕ) (v w out′ : List ℕ) (r′ : ℕ) → Storing o at u out r (v ++ w) → Put out r v out′ r′
+storing-put : (o : List ℕ) (at : ℕ) (u out : List ℕ) (r : ℕ) (v w out′ : List ℕ) (r′ : ℕ) → Storing o at u out r (v ++ w) → Stored out r v out′ r′
     → Storing o at u out′ r′ w
 storing-put o at u out r v w out′ r′ s h = record {
   size = ap length (h .1) ∙ length-sets out r v ∙ s .size;
@@ -87,22 +82,22 @@ entries-room o at w out r i h f g s =
     (storing-room o at (entries w) out r (entry (getD w i (pos 0))) (entries (drop (i + 1) w)) g (rw (entries-next w i h) at s))
 
 pub letters-put : (o : List ℕ) (at : ℕ) (u out : List ℕ) (r i : ℕ) (out′ : List ℕ) (r′ : ℕ) → i < length u → Storing o at (letters u) out r (letters (drop i u))
-    → Put out r (spaced (getD u i 0)) out′ r′ → Storing o at (letters u) out′ r′ (letters (drop (i + 1) u))
+    → Stored out r (spaced (getD u i 0)) out′ r′ → Storing o at (letters u) out′ r′ (letters (drop (i + 1) u))
 letters-put o at u out r i out′ r′ h s p =
     storing-put o at (letters u) out r (spaced (getD u i 0)) (letters (drop (i + 1) u)) out′ r′ (rw (letters-next u i h) at s) p
 
 pub entries-put : (o : List ℕ) (at : ℕ) (w : List ℤ) (out : List ℕ) (r i : ℕ) (out′ : List ℕ) (r′ : ℕ) → i < length w → mag (getD w i (pos 0)) < 128
-    → Storing o at (entries w) out r (entries (drop i w)) → Put out r (entry (toZ w8 (ofZ w8 (getD w i (pos 0))))) out′ r′ → Storing o at (entries w) out′ r′ (entries (drop (i + 1) w))
+    → Storing o at (entries w) out r (entries (drop i w)) → Stored out r (entry (toZ w8 (ofZ w8 (getD w i (pos 0))))) out′ r′ → Storing o at (entries w) out′ r′ (entries (drop (i + 1) w))
 entries-put o at w out r i out′ r′ h f s p =
     storing-put o at (entries w) out r (entry (getD w i (pos 0))) (entries (drop (i + 1) w)) out′ r′ (rw (entries-next w i h) at s)
     (rw (element-back (getD w i (pos 0)) f) at p)
 
-pub letters-done : (o : List ℕ) (at : ℕ) (u out : List ℕ) (r i : ℕ) → length u ≤ i → Storing o at (letters u) out r (letters (drop i u)) → Put o at (letters u) out r
+pub letters-done : (o : List ℕ) (at : ℕ) (u out : List ℕ) (r i : ℕ) → length u ≤ i → Storing o at (letters u) out r (letters (drop i u)) → Stored o at (letters u) out r
 letters-done o at u out r i h s =
     let e : letters (drop i u) ≡ [] = rw (drop-of-length-le u h) (unfold letters in refl) in
     (omega (arith, s .place, ap length e), sym (rw e at (s .same)))
 
-pub entries-done : (o : List ℕ) (at : ℕ) (w : List ℤ) (out : List ℕ) (r i : ℕ) → length w ≤ i → Storing o at (entries w) out r (entries (drop i w)) → Put o at (entries w) out r
+pub entries-done : (o : List ℕ) (at : ℕ) (w : List ℤ) (out : List ℕ) (r i : ℕ) → length w ≤ i → Storing o at (entries w) out r (entries (drop i w)) → Stored o at (entries w) out r
 entries-done o at w out r i h s =
     let e : entries (drop i w) ≡ [] = rw (drop-of-length-le w h) (unfold entries in refl) in
     (omega (arith, s .place, ap length e), sym (rw e at (s .same)))
@@ -124,12 +119,3 @@ entry-plus-at (negsuc x) h = absurd (false≢true (sym h))
 
 pub entry-plus : (z : ℤ) → SFits w8 z → ltZ (toZ w8 (ofZ w8 z)) (pos 0) ≡ false → entry z ≡ spaced (natAbs (toZ w8 (ofZ w8 z)))
 entry-plus z f h = rw (byte-back z f) (entry-plus-at z (rw (byte-back z f) at h))
-
--- `bytes` is the rest of l from p on after u was copied to its front
-pub sets-copied : (l u bytes : List ℕ) (p : ℕ) → p + length u ≤ length l
-    → bytes ≡ take (length u) u ++ drop (length u) (take (length l - p) (drop p l))
-    → take p l ++ (bytes ++ drop (length l - p) (drop p l)) ≡ sets l p u
-sets-copied l u bytes p h e =
-    let rest : length (drop p l) ≤ length l - p = rw length-drop (omega arith) in
-    rw (e, take-all (length u) u (le-refl (length u)), take-rest p l, drop-drop (length u) p l, drop-of-length-le (drop p l) rest, append-nil)
-    (sym (sets-eq u l p h ∙ append-assoc (take p l) u (drop (p + length u) l)))

@@ -9,12 +9,12 @@ use native.Mathlib.Numerals.{add-one}
 use native.Mathlib.Omega.{arith}
 use lib.ListN.{length, take, drop, length-append}
 use lib.Seq.{sets, length-sets, take-at}
-use Rattle.coxeter.proofs.Lists.{sets-append, sets-front}
+use Rattle.coxeter.proofs.Lists.{Stored, sets-append, sets-front}
 use Rattle.book_format.specs.declared.Opened.{Opened}
 use Rattle.book_format.specs.declared.Opened.the-variants as opened
 use Rattle.book_format.specs.Calls.{checkedBook}
 use Rattle.listing_text.specs.Text.{countLine, refusedBookLine, lineOf}
-use Rattle.listing_text.specs.Calls.{lineCountBy, lineCount, firstLine, line, lines, fitting, Piecing, nextPiece, Put}
+use Rattle.listing_text.specs.Calls.{lineCountBy, lineCount, firstLine, line, lines, fitting, Piecing, nextPiece}
 use Rattle.listing_text.proofs.Pieces.{fitting-more, fitting-none, length-fitting-le}
 use Rattle.listing_text.proofs.Room.{longest, length-line-le}
 
@@ -48,7 +48,7 @@ line-preset b zero h = absurd (omega arith)
 line-preset b (suc i) h = let e : suc i - 1 ≡ i = omega arith in rw e
 
 -- a line at the front of a buffer
-pub line-front : (b : List ℕ) (i : ℕ) (o v : List ℕ) (m : ℕ) → i < lineCount b → longest ≤ length o → Put o 0 (line b i) v m
+pub line-front : (b : List ℕ) (i : ℕ) (o v : List ℕ) (m : ℕ) → i < lineCount b → longest ≤ length o → Stored o 0 (line b i) v m
     → (m ≡ length (line b i)) × (take m v ≡ line b i)
 line-front b i o v m h g p =
     let l = length-line-le b i h in
@@ -120,7 +120,7 @@ filling-none b first o left e = record { size = refl; inside = omega arith; rest
 
 module _ (b : List ℕ) (first : ℕ) (o out : List ℕ) (next end left : ℕ) (f : Filling b first o out next end left) where
   pub filling-next : (m : ℕ) (u out′ : List ℕ) (end′ : ℕ) → 0 < left → (m ≡ length (line b next)) × (u ≡ line b next) → m ≤ length out - end
-      → Put out end u out′ end′ → Filling b first o out′ (next + 1) end′ (left - 1)
+      → Stored out end u out′ end′ → Filling b first o out′ (next + 1) end′ (left - 1)
   filling-next m u out′ end′ h q room p =
       let t : left ≡ suc (left - 1) = omega arith in
       let l : length (line b next) ≤ length out - end = omega (arith, q .0) in

@@ -16,14 +16,15 @@ use Rattle.coxeter.specs.Windows.{window}
 use Rattle.coxeter.specs.Checks.{_then_, rankRefusal, wordRefusal}
 use Rattle.coxeter.specs.NormalForm.{wordNormalForm}
 use Rattle.coxeter.specs.Calls.{writes, normalFormOfWord, windowOfWord}
+use Rattle.coxeter.proofs.Lists.{Stored}
 use Rattle.coxeter.proofs.Refusals.{then-none}
 use Rattle.coxeter.proofs.Outcomes.{writes-done}
 use Rattle.book_format.specs.declared.Preset.{Preset}
 use Rattle.book_format.specs.declared.Preset.the-variants as preset
 use Rattle.book_format.specs.Calls.{checkedPreset}
 use Rattle.listing_text.specs.Text.{presetLine, refusedLine, wordLine, lineBy, lineOf}
-use Rattle.listing_text.specs.Calls.{Put, refusalOf}
 use Rattle.listing_text.proofs.Room.{length-form-le, length-window-le}
+use Rattle.listing_text.proofs.Runs.{refusalOf}
 
 -- ---- normal form and window
 
@@ -83,7 +84,7 @@ unfolding wordLine
 wordLine-room i k n u f w m p q h = rw (p, q) h
 
 pub wordLine-put : (o : List ℕ) (at i k n : ℕ) (u f : List ℕ) (w : List ℤ) (out : List ℕ) (r : ℕ) → f ≡ wordNormalForm (kindOf k) n u → w ≡ window (kindOf k) n u
-    → Put o at (presetLine i (kindOf k) n f w) out r → Put o at (wordLine i (kindOf k) n u) out r
+    → Stored o at (presetLine i (kindOf k) n f w) out r → Stored o at (wordLine i (kindOf k) n u) out r
 unfolding wordLine
 wordLine-put o at i k n u f w out r p q h = rw (← p, ← q) h
 

@@ -1,7 +1,7 @@
 -- `numbers::copy_to` is the kit's copy into the rest of the list from p on.
 -- Assumes nothing.
 use denote.Ref.{now}
-use Rattle.book.proofs.numbers.Stores.{sets-copied}
+use Rattle.coxeter.proofs.Lists.{sets-copied}
 use borrow.Author.Needs.{needs}
 use Rattle.book.proofs.numbers.copy_to.Statement.{statement}
 use Rattle.book.proofs.numbers.copy_to.Tie as tie

@@ -8,12 +8,12 @@ use Rattle.listing_lines.proofs.lines.put_line.Statement.{statement}
 use Rattle.listing_lines.proofs.lines.put_line.Tie as tie
 
 put-head-requires : tie.Need-put-head-requires
-put-head-requires c κs = 
+put-head-requires c κs =
     let a = c .before .before .before .args in
     omega (arith, length-presetLine (a .number) (a .kind) (a .rank) (now (a .word)) (now (a .window)))
 
 put-tail-requires : tie.Need-put-tail-requires
-put-tail-requires c κs = 
+put-tail-requires c κs =
     let a = c .before .before .before .before .before .before .before .args in
     omega (arith, length-presetLine (a .number) (a .kind) (a .rank) (now (a .word)) (now (a .window)))
 
@@ -21,7 +21,7 @@ same-length : tie.Need-same-length
 same-length c = search needs
 
 returns : tie.Need-returns
-returns c = 
+returns c =
     let second = c .before .before in
     let first = second .before .before .before .before in
     presetLine-put _ _ _ _ _ _ _ _ _ _ _ (first .put-head .ensures) (second .put-tail .ensures)

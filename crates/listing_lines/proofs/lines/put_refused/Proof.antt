@@ -16,7 +16,7 @@ same-length : tie.Need-same-length
 same-length c = search needs
 
 returns : tie.Need-returns
-returns c = 
+returns c =
     let second = c .before .before in
     let first = second .before .before .before .before in
     refusedLine-put _ _ _ _ _ _ _ _ (first .put-decimal .ensures) (second .put-refusal .ensures)

@@ -19,7 +19,7 @@ same-length : tie.Need-same-length
 same-length c = search needs
 
 returns : tie.Need-returns
-returns c = 
+returns c =
     let second = c .before .before in
     let first = second .before .before .before .before in
     refusedBookLine-put _ _ _ _ _ _ _ (first .put-bytes .ensures) (second .put-refusal .ensures)

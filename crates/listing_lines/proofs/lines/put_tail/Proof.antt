@@ -29,7 +29,7 @@ same-length : tie.Need-same-length
 same-length c = search needs
 
 returns : tie.Need-returns
-returns c = 
+returns c =
     let fourth = c .before .before in
     let third = fourth .before .before .before .before .before in
     let second = third .before .before .before .before in

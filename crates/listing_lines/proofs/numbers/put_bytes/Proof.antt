@@ -2,7 +2,7 @@
 -- Assumes nothing.
 use denote.Ref.{now}
 use mathlib.Core.Path.{refl}
-use Rattle.listing_lines.proofs.numbers.Puts.{sets-copied}
+use Rattle.coxeter.proofs.Lists.{sets-copied}
 use borrow.Author.Needs.{needs}
 use Rattle.listing_lines.proofs.numbers.put_bytes.Statement.{statement}
 use Rattle.listing_lines.proofs.numbers.put_bytes.Tie as tie

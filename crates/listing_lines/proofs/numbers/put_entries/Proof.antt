@@ -37,7 +37,7 @@ loop-again c =
     let turn = c .before .before .before .before .before .before in (
       omega arith,
       entries-put _ _ _ _ _ _ _ _ (c .before .before .before .before .before .loop-test .taken) (c .before .before .before .put-entry-arg2 .given)
-      (turn .loop .inv .1) (c .before .before .put-entry .ensures),
+          (turn .loop .inv .1) (c .before .before .put-entry .ensures),
     )
 
 same-length : tie.Need-same-length Inv-loop μ-loop

@@ -21,7 +21,6 @@ Inv-loop book first out₀ line₀ fields₀ run₀ read₀ next₀ end₀ left�
 abbrev μ-loop : tie.MeasureT-loop
 μ-loop book first out₀ line₀ fields₀ run₀ read₀ next₀ end₀ left₀ out line fields run read next end left = left
 
-
 -- the line of this turn is one of the listing
 below : (c : tie.In-loop Inv-loop μ-loop)
     → c .before .loop .next < lineCount (now (c .before .before .before .before .before .before .before .args .book))

@@ -51,7 +51,7 @@ put-preset-requires c κs =
     let pre = start .pre in (
       held-preset _ _ _ _ _ _ (pre .1) (pre .2) (after other) (c .before .preset-at .ensures),
       rw (← line-preset (now (start .args .book)) (start .args .i) (after other))
-      (omega (arith, length-line-le (now (start .args .book)) (start .args .i) (pre .0), pre .3)),
+          (omega (arith, length-line-le (now (start .args .book)) (start .args .i) (pre .0), pre .3)),
     )
 
 same-length-2 : tie.Need-same-length-2
