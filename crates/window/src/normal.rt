@@ -11,6 +11,7 @@ ghost use lib.ListN.{length, take, drop, getD};
 ghost use lib.Seq.{sets};
 ghost use Rattle.coxeter.specs.Kinds.{pick, kindOf, least, lanes};
 ghost use Rattle.coxeter.specs.Windows.{placeFrom};
+ghost use Rattle.coxeter.specs.Length.{negative};
 ghost use Rattle.coxeter.specs.Checks.{hasSize, rankRefusal, windowRefusal};
 ghost use Rattle.coxeter.specs.Calls.{written};
 ghost use Rattle.coxeter.specs.NormalForm.{rise, fall, block, levels, without, indexOf, restOf, normalFrom, normalForm};
@@ -123,15 +124,11 @@ fn take_out(w: &mut [i8], p: usize)
     }
 }
 
-// What is left of a window whose entry of size i was taken out: in D, where that was -i, the last entry, if there is one, changes its sign. No
-// entry is -128.
-fn turn_last(kind: u8, minus: bool, w: &mut [i8])
+// What is left of a window whose entry -i was taken out: in D the last entry, if there is one, changes its sign. No entry is -128.
+fn turn_last(kind: u8, w: &mut [i8])
     requires { ⌜ hasSize 128 (now w) ≡ false ⌝ }
-    ensures { λ _. ⌜ now (w .exit) ≡ pick minus (restOf (kindOf kind) (negsuc 0) (now (w .entry))) (now (w .entry)) ⌝ }
+    ensures { λ _. ⌜ now (w .exit) ≡ restOf (kindOf kind) (negsuc 0) (now (w .entry)) ⌝ }
 {
-    if !minus {
-        return;
-    }
     if kind == 1 {
         return;
     }
@@ -144,15 +141,19 @@ fn turn_last(kind: u8, minus: bool, w: &mut [i8])
     }
 }
 
-// The j of a level whose entry stands at position p.
-fn index(n: usize, p: usize, minus: bool) -> usize
-    requires { ⌜ (1 ≤ p) × (p ≤ 2 * n) × (n ≤ 64) ⌝ }
-    ensures { λ r. ⌜ r ≡ pick minus (2 * n - p) (p - 1) ⌝ }
+// The entry w[p] is taken out, with what that does to the rest, which starts at w[1]. The answer is whether it was negative.
+fn take_entry(kind: u8, w: &mut [i8], p: usize) -> bool
+    requires { ⌜ (p < length (now w)) × (hasSize 128 (take p (now w) ++ drop (p + 1) (now w)) ≡ false) ⌝ }
+    ensures { λ r. ⌜ (r ≡ negative (getD (now (w .entry)) p (pos 0)))
+        × (drop 1 (now (w .exit)) ≡ pick r (restOf (kindOf kind) (negsuc 0) (take p (now (w .entry)) ++ drop (p + 1) (now (w .entry))))
+        (take p (now (w .entry)) ++ drop (p + 1) (now (w .entry)))) ⌝ }
 {
+    let minus = is_negative(w[p]);
+    take_out(w, p);
     if minus {
-        return 2 * n - p;
+        turn_last(kind, &mut w[1..]);
     }
-    p - 1
+    minus
 }
 
 // The entry of size i is taken out of w, which holds the entries at positions i, i + 1, .. The answer is the j of its block; the rest starts at w[1].
@@ -163,10 +164,10 @@ fn peel(kind: u8, n: usize, i: usize, w: &mut [i8]) -> usize
         × (drop 1 (now (w .exit)) ≡ restOf (kindOf kind) (placeFrom i (now (w .entry)) i) (without i (now (w .entry)))) ⌝ }
 {
     let p = place(w, i);
-    let minus = is_negative(w[p]);
-    take_out(w, p);
-    turn_last(kind, minus, &mut w[1..]);
-    index(n, i + p, minus)
+    if take_entry(kind, w, p) {
+        return 2 * n - (i + p);
+    }
+    i + p - 1
 }
 
 // The normal form of t levels from i on, written to the front of out; the answer is its length. w holds the entries at positions i, i + 1, ..,

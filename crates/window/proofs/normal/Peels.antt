@@ -157,22 +157,25 @@ index-le : (n q : ℕ) (t : Bool) → q ≤ 2 * n → pick t (2 * n - q) (q - 1)
 index-le n q true h = omega arith
 index-le n q false h = omega arith
 
--- u is w with its entry at the place p taken out, from place 1 on; v is that part of u with its last entry turned
-pub peeled : (k : Kind) (n i : ℕ) (w : List ℤ) (p r : ℕ) (t : Bool) (u v : List ℤ) → Found i w p → 1 ≤ i → i + length w ≤ 2 * n + 1
-    → t ≡ negative (getD w p (pos 0)) → drop 1 u ≡ take p w ++ drop (p + 1) w → length u ≡ length w
-    → v ≡ pick t (restOf k (negsuc 0) (take (length u - 1) (drop 1 u))) (take (length u - 1) (drop 1 u)) → r ≡ pick t (2 * n - (i + p)) (i + p - 1)
-    → (r ≤ 2 * n) × (r ≡ indexOf n (placeFrom i w i))
-    × (drop 1 (take 1 u ++ (v ++ drop (length u - 1) (drop 1 u))) ≡ restOf k (placeFrom i w i) (without i w))
-peeled k n i w p r t u v f o m s d l e c =
-    let g = level k n (i + p) (getD w p (pos 0)) (without i w) t (omega arith) s in
-    let rest : take (length u - 1) (drop 1 u) ≡ without i w = take-rest 1 u ∙ d ∙ sym (without-found i w p f) in
+-- u is w with its entry at the place p taken out, from place 1 on
+pub peeled : (k : Kind) (n i : ℕ) (w : List ℤ) (p : ℕ) (t : Bool) (u : List ℤ) → Found i w p → 1 ≤ i → i + length w ≤ 2 * n + 1
+    → (t ≡ negative (getD w p (pos 0)))
+    × (drop 1 u ≡ pick t (restOf k (negsuc 0) (take p w ++ drop (p + 1) w)) (take p w ++ drop (p + 1) w))
+    → (pick t (2 * n - (i + p)) (i + p - 1) ≤ 2 * n) × (pick t (2 * n - (i + p)) (i + p - 1) ≡ indexOf n (placeFrom i w i))
+    × (drop 1 u ≡ restOf k (placeFrom i w i) (without i w))
+peeled k n i w p t u f o m h =
+    let g = level k n (i + p) (getD w p (pos 0)) (without i w) t (omega arith) (h .0) in
     rw (placeFrom-found i w p f)
-    (rw c (index-le n (i + p) t (omega (arith, f .0))), c ∙ g .0, tail-back u v (omega (arith, f .0)) ∙ e ∙ rw rest (g .1))
+    (index-le n (i + p) t (omega (arith, f .0)), g .0, h .1 ∙ rw (← without-found i w p f) (g .1))
 
 -- a size that is not in w is not in what is left
-pub hasSize-lent : (i s : ℕ) (w : List ℤ) (p : ℕ) (u : List ℤ) → Found i w p → drop 1 u ≡ take p w ++ drop (p + 1) w → hasSize s w ≡ false
-    → hasSize s (take (length u - 1) (drop 1 u)) ≡ false
-hasSize-lent i s w p u f t h = rw (take-rest 1 u, t, ← without-found i w p f) (hasSize-without s i w h)
+pub hasSize-left : (i s : ℕ) (w : List ℤ) (p : ℕ) → Found i w p → hasSize s w ≡ false → hasSize s (take p w ++ drop (p + 1) w) ≡ false
+hasSize-left i s w p f h = rw (← without-found i w p f) (hasSize-without s i w h)
+
+-- the part from place 1 on, lent to turn its last entry and given back
+pub turned-left : (k : Kind) (u v g : List ℤ) → 0 < length u → drop 1 u ≡ g → v ≡ restOf k (negsuc 0) (take (length u - 1) (drop 1 u))
+    → drop 1 (take 1 u ++ (v ++ drop (length u - 1) (drop 1 u))) ≡ restOf k (negsuc 0) g
+turned-left k u v g l d r = tail-back u v l ∙ r ∙ ap (restOf k (negsuc 0)) (take-rest 1 u ∙ d)
 
 -- ---- the levels that are left
 
