@@ -1,11 +1,9 @@
-use borrow.Author.Needs.{needs}
+-- `count` is safe and ends. By the invariant the rank is 4 or more; the measure is what is left of the range of x.
+-- Assumes nothing.
 use Prim.Native.Nat.{_+_, _-_, _*_, _≤_}
+use borrow.Author.Needs.{needs}
 use Rattle.published_rules.proofs.count.Statement.{statement}
 use Rattle.published_rules.proofs.count.Tie as tie
-use Rattle.published_rules.proofs.count.Reads as reads
-use Rattle.published_rules.proofs.count.Lts as lts
-use Rattle.published_rules.proofs.holds.Reads as holds-reads
-use Rattle.std.proofs.num.wrapping_add_u64.Reads as wrapping-add-u64-reads
 
 abbrev Inv-loop : tie.InvT-loop
 Inv-loop published from to held₀ x₀ held x = 131072 ≤ x
@@ -13,55 +11,42 @@ Inv-loop published from to held₀ x₀ held x = 131072 ≤ x
 abbrev μ-loop : tie.MeasureT-loop
 μ-loop published from to held₀ x₀ held x = (to + 1) * 32768 - x
 
--- src/main.rt:92:17
 mul-x : tie.Need-mul-x Inv-loop μ-loop
 mul-x c = search needs
 
--- src/main.rt:93:5
 loop-holds : tie.Need-loop-holds Inv-loop μ-loop
 loop-holds c = search needs
 
--- src/main.rt:94:17
 cast-n : tie.Need-cast-n Inv-loop μ-loop
 cast-n c = search needs
 
--- src/main.rt:95:17
 cast-a : tie.Need-cast-a Inv-loop μ-loop
 cast-a c = search needs
 
--- src/main.rt:96:17
 cast-b : tie.Need-cast-b Inv-loop μ-loop
 cast-b c = search needs
 
--- src/main.rt:97:17
 cast-c : tie.Need-cast-c Inv-loop μ-loop
 cast-c c = search needs
 
--- src/main.rt:98:49
 holds-requires : tie.Need-holds-requires Inv-loop μ-loop
 holds-requires c κs = search needs
 
--- src/main.rt:98:49
 cast-wrapping-add-u64 : tie.Need-cast-wrapping-add-u64 Inv-loop μ-loop
 cast-wrapping-add-u64 c = search needs
 
--- src/main.rt:98:9
 wrapping-add-u64-requires : tie.Need-wrapping-add-u64-requires Inv-loop μ-loop
 wrapping-add-u64-requires c κs = search needs
 
--- src/main.rt:99:9
 add-x : tie.Need-add-x Inv-loop μ-loop
 add-x c = search needs
 
--- src/main.rt:93:5
 loop-less : tie.Need-loop-less Inv-loop μ-loop
 loop-less c = search needs
 
--- src/main.rt:93:5
 loop-again : tie.Need-loop-again Inv-loop μ-loop
 loop-again c = search needs
 
--- src/main.rt:88:1
 returns : tie.Need-returns Inv-loop μ-loop
 returns c = search needs
 

@@ -1,11 +1,9 @@
-use borrow.Author.Needs.{needs}
+-- `is_at_level` is safe and ends: the measure is the number of rules left.
+-- Assumes nothing.
 use Prim.Native.Nat.{_-_}
+use borrow.Author.Needs.{needs}
 use Rattle.published_rules.proofs.is_at_level.Statement.{statement}
 use Rattle.published_rules.proofs.is_at_level.Tie as tie
-use Rattle.published_rules.proofs.is_at_level.Reads as reads
-use Rattle.published_rules.proofs.is_at_level.Lts as lts
-use Rattle.published_rules.proofs.paper.rule.Reads as rule-reads
-use Rattle.published_rules.proofs.sides.have_same_sides.Reads as have-same-sides-reads
 
 abbrev Inv-loop : tie.InvT-loop
 Inv-loop n m rule x₀ x = Unit {0}
@@ -13,43 +11,33 @@ Inv-loop n m rule x₀ x = Unit {0}
 abbrev μ-loop : tie.MeasureT-loop
 μ-loop n m rule x₀ x = 320 - x
 
--- src/main.rt:54:5
 loop-holds : tie.Need-loop-holds Inv-loop μ-loop
 loop-holds c = search needs
 
--- src/main.rt:55:52
 cast-rule : tie.Need-cast-rule Inv-loop μ-loop
 cast-rule c = search needs
 
--- src/main.rt:55:68
 cast-rule-2 : tie.Need-cast-rule-2 Inv-loop μ-loop
 cast-rule-2 c = search needs
 
--- src/main.rt:55:34
 rule-requires : tie.Need-rule-requires Inv-loop μ-loop
 rule-requires c κs = search needs
 
--- src/main.rt:55:12
 have-same-sides-requires : tie.Need-have-same-sides-requires Inv-loop μ-loop
 have-same-sides-requires c κs = search needs
 
--- src/main.rt:56:13
 returns : tie.Need-returns Inv-loop μ-loop
 returns c = search needs
 
--- src/main.rt:58:9
 add-x : tie.Need-add-x Inv-loop μ-loop
 add-x c = search needs
 
--- src/main.rt:54:5
 loop-less : tie.Need-loop-less Inv-loop μ-loop
 loop-less c = search needs
 
--- src/main.rt:54:5
 loop-again : tie.Need-loop-again Inv-loop μ-loop
 loop-again c = search needs
 
--- src/main.rt:50:1
 returns-2 : tie.Need-returns-2 Inv-loop μ-loop
 returns-2 c = search needs
 

@@ -1,11 +1,10 @@
-use borrow.Author.Needs.{needs}
+-- `are_entries` is safe and ends: the measure is the number of entries left.
+-- Assumes nothing.
 use Prim.Native.Nat.{_≤_}
 use lib.ListN.{length}
+use borrow.Author.Needs.{needs}
 use Rattle.worked_examples.proofs.digits.are_entries.Statement.{statement}
 use Rattle.worked_examples.proofs.digits.are_entries.Tie as tie
-use Rattle.worked_examples.proofs.digits.are_entries.Reads as reads
-use Rattle.worked_examples.proofs.digits.are_entries.Lts as lts
-use Rattle.worked_examples.proofs.digits.entry.Reads as entry-reads
 
 abbrev Inv-loop : tie.InvT-loop
 Inv-loop w sizes signs at₀ size₀ sign₀ at size sign = at ≤ length w
@@ -13,35 +12,27 @@ Inv-loop w sizes signs at₀ size₀ sign₀ at size sign = at ≤ length w
 abbrev μ-loop : tie.MeasureT-loop
 μ-loop w sizes signs at₀ size₀ sign₀ at size sign = at
 
--- src/digits.rt:51:5
 loop-holds : tie.Need-loop-holds Inv-loop μ-loop
 loop-holds c = search needs
 
--- src/digits.rt:52:9
 sub-at : tie.Need-sub-at Inv-loop μ-loop
 sub-at c = search needs
 
--- src/digits.rt:53:12
 shared-slice-copy-out-if1 : tie.Need-shared-slice-copy-out-if1 Inv-loop μ-loop
 shared-slice-copy-out-if1 c = search needs
 
--- src/digits.rt:53:21
 entry-requires : tie.Need-entry-requires Inv-loop μ-loop
 entry-requires c κs = search needs
 
--- src/digits.rt:54:13
 returns : tie.Need-returns Inv-loop μ-loop
 returns c = search needs
 
--- src/digits.rt:51:5
 loop-less : tie.Need-loop-less Inv-loop μ-loop
 loop-less c = search needs
 
--- src/digits.rt:51:5
 loop-again : tie.Need-loop-again Inv-loop μ-loop
 loop-again c = search needs
 
--- src/digits.rt:47:1
 returns-2 : tie.Need-returns-2 Inv-loop μ-loop
 returns-2 c = search needs
 

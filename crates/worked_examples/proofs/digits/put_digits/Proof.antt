@@ -1,11 +1,11 @@
-use borrow.Author.Needs.{needs}
+-- `put_digits` stays inside the output and answers a place of it: the measure is the place.
+-- Assumes nothing.
 use mathlib.Core.Path.{_≡_}
 use Prim.Native.Nat.{_≤_}
 use lib.ListN.{length}
+use borrow.Author.Needs.{needs}
 use Rattle.worked_examples.proofs.digits.put_digits.Statement.{statement}
 use Rattle.worked_examples.proofs.digits.put_digits.Tie as tie
-use Rattle.worked_examples.proofs.digits.put_digits.Reads as reads
-use Rattle.worked_examples.proofs.digits.put_digits.Lts as lts
 
 abbrev Inv-loop : tie.InvT-loop
 Inv-loop out₀ digits at₀ rest₀ out at rest = (length out ≡ length out₀) × (at ≤ length out₀)
@@ -13,43 +13,33 @@ Inv-loop out₀ digits at₀ rest₀ out at rest = (length out ≡ length out₀
 abbrev μ-loop : tie.MeasureT-loop
 μ-loop out₀ digits at₀ rest₀ out at rest = at
 
--- src/digits.rt:11:5
 loop-holds : tie.Need-loop-holds Inv-loop μ-loop
 loop-holds c = search needs
 
--- src/digits.rt:13:13
 same-length : tie.Need-same-length Inv-loop μ-loop
 same-length c = search needs
 
--- src/digits.rt:13:13
 returns : tie.Need-returns Inv-loop μ-loop
 returns c = search needs
 
--- src/digits.rt:15:9
 sub-at : tie.Need-sub-at Inv-loop μ-loop
 sub-at c = search needs
 
--- src/digits.rt:16:19
 cast-out : tie.Need-cast-out Inv-loop μ-loop
 cast-out c = search needs
 
--- src/digits.rt:16:9
 slice-write-out : tie.Need-slice-write-out Inv-loop μ-loop
 slice-write-out c = search needs
 
--- src/digits.rt:11:5
 loop-less : tie.Need-loop-less Inv-loop μ-loop
 loop-less c = search needs
 
--- src/digits.rt:11:5
 loop-again : tie.Need-loop-again Inv-loop μ-loop
 loop-again c = search needs
 
--- src/digits.rt:6:1
 same-length-2 : tie.Need-same-length-2 Inv-loop μ-loop
 same-length-2 c = search needs
 
--- src/digits.rt:6:1
 returns-2 : tie.Need-returns-2 Inv-loop μ-loop
 returns-2 c = search needs
 
