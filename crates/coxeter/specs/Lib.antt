@@ -5,5 +5,6 @@ pub mod Length
 pub mod Dictionary
 pub mod Relations
 pub mod Checks
+pub mod Parity
 pub mod NormalForm
 pub mod Calls

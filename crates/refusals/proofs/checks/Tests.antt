@@ -3,21 +3,21 @@
 -- Sections: kinds and ranks; letters; entries; signs; windows; two after one another.
 -- Assumes nothing.
 use mathlib.Core.Path.{_≡_, refl, sym, _∙_}
-use mathlib.Core.Bool.{Bool, true, false, not, _||_, or-false, Bool·not-not}
-use mathlib.Core.List.{List, [], _∷_}
+use mathlib.Core.Bool.{Bool, true, false, not, _||_, or-false}
+use mathlib.Core.List.{List, _∷_}
 use Prim.Native.Nat.{ℕ, _+_, _≤_, _<_}
 use native.Mathlib.Decide.{ℕ-discrete}
-use native.Mathlib.Nat.{zero-add}
-use native.Mathlib.Numerals.{one-add}
 use native.Mathlib.Omega.{arith}
 use lib.Dec.{eqb, ltb}
 use lib.IntN.{ℤ, pos, natAbs}
-use lib.ListN.{length, getD, drop, drop-of-length-le}
+use lib.ListN.{length, getD, take, drop, drop-of-length-le}
 use borrow.Author.Tests.{eq-eqb, ne-eqb, lt-ltb, le-ltb}
 use Rattle.coxeter.specs.Kinds.{Kind, pick, lanes}
-use Rattle.coxeter.specs.Length.{negative, negatives, one}
-use Rattle.coxeter.specs.Checks.{_then_, wrongKind, wrongLetter, wrongAt, wrongEntry, hasSize, negativeInA, odd}
+use Rattle.coxeter.specs.Length.{negative}
+use Rattle.coxeter.specs.Checks.{_then_, wrongKind, wrongLetter, wrongAt, wrongEntry, hasSize, negativeInA}
 use Rattle.coxeter.specs.Checks.{oddNegatives, wrongLanes, windowRefusal}
+use Rattle.coxeter.specs.Parity.{flagAfter}
+use Rattle.coxeter.proofs.Parity.{flag-next}
 use Rattle.coxeter.proofs.Lists.{drop-next}
 use Rattle.coxeter.proofs.Refusals.{then-refused, then-next, then-assoc}
 
@@ -77,40 +77,10 @@ wrongAt-else k m s e w q f h t = rw (← q, ne-eqb s 0 f, le-ltb m s h, t)
 
 -- ---- signs
 
--- a flag flipped at each negative entry
-unfoldable pub flipped : Bool → List ℤ → Bool
-flipped t [] = t
-flipped t (e ∷ w) = flipped (pick (negative e) (not t) t) w
-
-flipped-step : (t : Bool) (w : List ℤ) (i : ℕ) → i < length w
-    → flipped t (drop i w) ≡ flipped (pick (negative (getD w i (pos 0))) (not t) t) (drop (i + 1) w)
-unfolding flipped
-flipped-step t w i h = rw (drop-next w i (pos 0) h)
-
-pub flipped-yes : (t s : Bool) (w : List ℤ) (i : ℕ) → i < length w → negative (getD w i (pos 0)) ≡ true → s ≡ not t
-    → flipped t (drop i w) ≡ flipped s (drop (i + 1) w)
-flipped-yes t s w i h e q = flipped-step t w i h ∙ rw (e, q)
-
-pub flipped-no : (t s : Bool) (w : List ℤ) (i : ℕ) → i < length w → negative (getD w i (pos 0)) ≡ false → s ≡ t
-    → flipped t (drop i w) ≡ flipped s (drop (i + 1) w)
-flipped-no t s w i h e q = flipped-step t w i h ∙ rw (e, q)
-
--- of each part of a window from the left the flag is yes exactly when an odd number of its entries are negative
-flipped-odd : (t : Bool) (w : List ℤ) → flipped t w ≡ pick t (not (odd (negatives w))) (odd (negatives w))
-unfolding flipped odd negatives one
-flipped-odd true [] = refl
-flipped-odd false [] = refl
-flipped-odd t (e ∷ w) = step (λ b. flipped-odd b w) t (negative e)
-  where
-    step : ((b : Bool) → flipped b w ≡ pick b (not (odd (negatives w))) (odd (negatives w))) → (t s : Bool)
-        → flipped (pick s (not t) t) w ≡ pick t (not (odd (pick s 1 0 + negatives w))) (odd (pick s 1 0 + negatives w))
-    step ih true true = ih false ∙ rw (one-add (negatives w)) (sym (Bool·not-not (odd (negatives w))))
-    step ih true false = ih true ∙ rw (zero-add (negatives w))
-    step ih false true = ih true ∙ rw (one-add (negatives w))
-    step ih false false = ih false ∙ rw (zero-add (negatives w))
-
-pub flipped-false : (w : List ℤ) → flipped false w ≡ odd (negatives w)
-flipped-false w = flipped-odd false w
+-- the flag after one entry more, of which `minus` says whether it is negative
+pub flag-flipped : (w : List ℤ) (i : ℕ) (flag now minus : Bool) → i < length w → flag ≡ flagAfter (take i w) → negative (getD w i (pos 0)) ≡ minus
+    → now ≡ pick minus (not flag) flag → now ≡ flagAfter (take (i + 1) w)
+flag-flipped w i flag now minus h e q n = n ∙ sym (flag-next w i h ∙ rw (q, ← e))
 
 -- ---- windows
 
