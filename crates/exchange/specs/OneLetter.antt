@@ -1,0 +1,37 @@
+-- Request 14 as one statement about a word and a step (document 02, "Exactly one letter to drop"). Its proof is `oneLetter` of proofs/Exchange.antt.
+use mathlib.Core.Path.{_≡_}
+use mathlib.Core.Bool.{false}
+use mathlib.Core.List.{List, [], _∷_, _++_}
+use Prim.Native.Nat.{ℕ, zero, suc, _≤_, _<_}
+use lib.IntN.{ℤ}
+use lib.ListN.{length}
+use Rattle.coxeter.specs.Kinds.{Kind}
+use Rattle.coxeter.specs.Windows.{window}
+use Rattle.coxeter.specs.Length.{windowLength}
+use Rattle.coxeter.specs.Checks.{wrongLetter}
+
+-- a shortest word: of all words of steps with its window, of any length, none is shorter
+pub record Shortest (k : Kind) (n : ℕ) (u : List ℕ) : Type 0 where
+  pub steps : wrongLetter n u ≡ false
+  pub least : (v : List ℕ) → wrongLetter n v ≡ false → window k n v ≡ window k n u → length u ≤ length v
+
+-- u without the letter at place i; places count from 0
+unfoldable pub dropAt : ℕ → List ℕ → List ℕ
+dropAt i [] = []
+dropAt zero (a ∷ u) = u
+dropAt (suc i) (a ∷ u) = a ∷ dropAt i u
+
+-- i is a place "whose letter can be removed so that the rest has the window" w
+abbrev pub Removable : Kind → ℕ → List ℕ → List ℤ → ℕ → Type 0
+Removable k n u w i = (i < length u) × (window k n (dropAt i u) ≡ w)
+
+-- "the window of the word with the step added"
+abbrev pub added : Kind → ℕ → List ℕ → ℕ → List ℤ
+added k n u s = window k n (u ++ (s ∷ []))
+
+pub record OneLetter (k : Kind) (n : ℕ) (u : List ℕ) (s : ℕ) : Type 0 where
+  -- "if adding a step at the end of a shortest word makes the window's length smaller, .. there is exactly one place": there is one, and no two
+  pub some : windowLength k (added k n u s) < windowLength k (window k n u) → (i : ℕ) × Removable k n u (added k n u s) i
+  pub only : (i j : ℕ) → Removable k n u (added k n u s) i → Removable k n u (added k n u s) j → i ≡ j
+  -- "If the step makes the length greater, no single removal has that effect."
+  pub none : windowLength k (window k n u) < windowLength k (added k n u s) → (i : ℕ) → Removable k n u (added k n u s) i → ⊥

@@ -1,0 +1,1 @@
+// Shortest words and the letter that a step can stand for: definitions in specs/, laws in proofs/. No function.
