@@ -1,6 +1,11 @@
--- The laws of shortest words and of letters struck out, in the order in which they rest on each other.
+-- The laws of shortest words, of letters struck out and of fallbacks, in the order in which they rest on each other.
 pub mod Parts
 pub mod Carrying
 pub mod Shortest
 pub mod Exchange
 pub mod Deletion
+pub mod Places
+pub mod Shortening
+pub mod Lifting
+pub mod Walk
+pub mod Fallbacks

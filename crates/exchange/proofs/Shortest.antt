@@ -55,6 +55,11 @@ pub shortest-of-length : (k : Kind) (n : ℕ) (u : List ℕ) → least k ≤ n �
 shortest-of-length k n u h e l =
     record { steps = e; least = λ v f q. omega (arith, windowLength-le k n v h f, ap (windowLength k) q) }
 
+pub shortest-normalForm : (k : Kind) (n : ℕ) (w : List ℤ) → least k ≤ n → Accepted k n w → Shortest k n (normalForm k n w)
+shortest-normalForm k n w h a =
+    shortest-of-length k n (normalForm k n w) h (normalForm-letters k n w a)
+    (rw (window-normalForm k n w a) (omega (arith, length-normalForm k n w a)))
+
 -- ---- part-lists
 
 -- the part-lists of a shortest word are carried to every word with its window

@@ -1,0 +1,76 @@
+-- Part-lists by their places: the letters at rising places inside a word are a part-list of it, and every part-list is at such places. By recursion
+-- on the places and on the part-list.
+--
+-- Sections: from places to part-lists; from part-lists to places; fallbacks.
+-- Assumes nothing.
+use mathlib.Core.Path.{_≡_, refl, ap, _∙_}
+use mathlib.Core.List.{List, [], _∷_, map}
+use Prim.Native.Nat.{ℕ, zero, suc, _+_, _-_, _≤_}
+use native.Mathlib.Omega.{arith}
+use lib.IntN.{ℤ}
+use lib.ListN.{length, getD, drop}
+use lib.Seq.{drop-cons, drop-drop}
+use Rattle.coxeter.specs.Kinds.{Kind}
+use Rattle.coxeter.specs.Windows.{window}
+use Rattle.exchange.specs.Fallback.{Rising, lettersAt, Fallback}
+use Rattle.exchange.proofs.Parts.{Part, none, keep, leave}
+
+-- ---- from places to part-lists
+
+pub part-nothing : (u : List ℕ) → Part u []
+part-nothing [] = none
+part-nothing (a ∷ u) = leave (part-nothing u)
+
+part-past : (d : ℕ) (u : List ℕ) {v : List ℕ} → Part (drop d u) v → Part u v
+part-past zero u p = p
+part-past (suc d) [] p = p
+part-past (suc d) (a ∷ u) p = leave (part-past d u p)
+
+-- the letters at rising places from `low` on
+letters-part : (u : List ℕ) (low : ℕ) (ps : List ℕ) → Rising (length u) low ps → Part (drop low u) (lettersAt u ps)
+unfolding lettersAt
+letters-part u low [] h = part-nothing (drop low u)
+letters-part u low (p ∷ ps) (l, g, h) =
+    let e : low + (p - low) ≡ p = omega arith in
+    part-past (p - low) (drop low u) (rw (drop-drop, e, drop-cons u p 0 g) (keep (letters-part u (suc p) ps h)))
+
+-- ---- from part-lists to places
+
+rising-suc : (m low : ℕ) (ps : List ℕ) → Rising m low ps → Rising (suc m) (suc low) (map suc ps)
+rising-suc m low [] h = tt
+rising-suc m low (p ∷ ps) (l, g, h) = (omega arith, omega arith, rising-suc m (suc p) ps h)
+
+pub rising-from : (m low start : ℕ) (ps : List ℕ) → start ≤ low → Rising m low ps → Rising m start ps
+rising-from m low start [] l h = tt
+rising-from m low start (p ∷ ps) l (o, g, h) = (omega arith, g, h)
+
+letters-suc : (a : ℕ) (u ps : List ℕ) → lettersAt (a ∷ u) (map suc ps) ≡ lettersAt u ps
+unfolding lettersAt
+letters-suc a u [] = refl
+letters-suc a u (p ∷ ps) = ap (λ (l : List ℕ). getD u p 0 ∷ l) (letters-suc a u ps)
+
+part-letters-at : {u v : List ℕ} → Part u v → (ps : List ℕ) × Rising (length u) 0 ps × (lettersAt u ps ≡ v)
+unfolding lettersAt
+part-letters-at none = ([], tt, refl)
+part-letters-at (keep {a} {u} p) =
+    let (ps, h, e) = part-letters-at p in
+    (0 ∷ map suc ps, (omega arith, omega arith, rising-suc (length u) 0 ps h), ap (λ (l : List ℕ). a ∷ l) (letters-suc a u ps ∙ e))
+part-letters-at (leave {a} {u} p) =
+    let (ps, h, e) = part-letters-at p in
+    (map suc ps, rising-from (suc (length u)) 1 0 (map suc ps) (omega arith) (rising-suc (length u) 0 ps h), letters-suc a u ps ∙ e)
+
+-- ---- fallbacks
+
+-- a part-list of u with the window w
+pub record PartWith (k : Kind) (n : ℕ) (u : List ℕ) (w : List ℤ) : Type 0 where
+  pub word : List ℕ
+  pub part : Part u word
+  pub shows : window k n word ≡ w
+
+pub part-of-fallback : (k : Kind) (n : ℕ) (u : List ℕ) (w : List ℤ) → Fallback k n u w → PartWith k n u w
+part-of-fallback k n u w (ps, s) = record { word = lettersAt u ps; part = letters-part u 0 ps (s .rising); shows = s .shows }
+
+pub fallback-of-part : (k : Kind) (n : ℕ) (u v : List ℕ) (w : List ℤ) → Part u v → window k n v ≡ w → Fallback k n u w
+fallback-of-part k n u v w p e =
+    let (ps, h, q) = part-letters-at p in
+    (ps, record { rising = h; shows = ap (window k n) q ∙ e })

@@ -1,0 +1,13 @@
+-- Steps that make a window shorter (in the field's words, descents).
+use mathlib.Core.Bool.{Bool}
+use mathlib.Core.List.{List}
+use Prim.Native.Nat.{ℕ}
+use lib.Dec.{ltb}
+use lib.IntN.{ℤ}
+use Rattle.coxeter.specs.Kinds.{Kind}
+use Rattle.coxeter.specs.Windows.{act}
+use Rattle.coxeter.specs.Length.{windowLength}
+
+-- step s makes the length of the window w smaller
+unfoldable pub shortens : Kind → ℕ → ℕ → List ℤ → Bool
+shortens k n s w = ltb (windowLength k (act k n s w)) (windowLength k w)
