@@ -84,7 +84,7 @@ module _ (k : Kind) (n : ℕ) (u : List ℕ) (s : ℕ) (h : least k ≤ n) (e : 
 act-injective : (k : Kind) (n s : ℕ) (w x : List ℤ) → act k n s w ≡ act k n s x → w ≡ x
 act-injective k n s w x e = sym (act-involution k n s w) ∙ ap (act k n s) e ∙ act-involution k n s x
 
-windowFrom-injective : (k : Kind) (n : ℕ) (w x : List ℤ) (u : List ℕ) → windowFrom k n w u ≡ windowFrom k n x u → w ≡ x
+pub windowFrom-injective : (k : Kind) (n : ℕ) (w x : List ℤ) (u : List ℕ) → windowFrom k n w u ≡ windowFrom k n x u → w ≡ x
 unfolding windowFrom
 windowFrom-injective k n w x [] e = e
 windowFrom-injective k n w x (s ∷ u) e = act-injective k n s w x (windowFrom-injective k n (act k n s w) (act k n s x) u e)

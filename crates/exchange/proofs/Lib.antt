@@ -1,4 +1,4 @@
--- The laws of shortest words, of letters struck out and of fallbacks, in the order in which they rest on each other.
+-- The laws of shortest words, of letters struck out, of fallbacks and of allowed steps, in the order in which they rest on each other.
 pub mod Parts
 pub mod Carrying
 pub mod Shortest
@@ -9,3 +9,7 @@ pub mod Shortening
 pub mod Lifting
 pub mod Walk
 pub mod Fallbacks
+pub mod Allowed
+pub mod Splitting
+pub mod Stripping
+pub mod FarSteps

@@ -1,0 +1,57 @@
+-- A step changes nothing for the steps more than two below it: they make the window shorter after it exactly when they did before. So a search for
+-- the lowest such step need go back by two only. By the entries that the steps act on.
+-- Assumes nothing.
+use mathlib.Core.Path.{_≡_, refl, sym, ap₂, _∙_}
+use mathlib.Core.Bool.{Bool}
+use mathlib.Core.List.{List, [], _∷_}
+use Prim.Native.Nat.{ℕ, zero, suc, _+_, _≤_, _<_}
+use native.Mathlib.Omega.{arith}
+use lib.IntN.{ℤ, pos}
+use lib.ListN.{getD}
+use Rattle.coxeter.specs.Kinds.{Kind, A, B, D, least, lanes}
+use Rattle.coxeter.specs.Windows.{from, exchange, negateFirst, exchangeNegate, act}
+use Rattle.coxeter.specs.Length.{later}
+use Rattle.coxeter.proofs.Levels.{Accepted, act-accepted}
+use Rattle.coxeter.proofs.Steps.{act-exchange, act-B-last, act-D-last}
+use Rattle.coxeter.proofs.Descents.{Sort, exchanges, negates, exchangesNegates, sortOf, descends, descends-exchange}
+use Rattle.exchange.specs.Shortening.{shortens}
+use Rattle.exchange.proofs.Shortening.{shortens-descends}
+use Rattle.exchange.proofs.Stripping.{Ended}
+
+getD-before : (f : List ℤ → List ℤ) (p q : ℕ) (w : List ℤ) → q < p → getD (from p f w) q (pos 0) ≡ getD w q (pos 0)
+unfolding from
+getD-before f zero q w h = absurd (omega arith)
+getD-before f (suc p) q [] h = refl
+getD-before f (suc p) zero (x ∷ w) h = refl
+getD-before f (suc p) (suc q) (x ∷ w) h = getD-before f p q w (omega arith)
+
+-- the entries before those that step s acts on; step n of D acts on one more
+act-before : {k : Kind} {n s : ℕ} (q : ℕ) (w : List ℤ) → Sort k n s → q + 2 < s → getD (act k n s w) q (pos 0) ≡ getD w q (pos 0)
+act-before q w (exchanges k n p l) h = rw (act-exchange k n p l) (getD-before exchange p q w (omega arith))
+act-before q w (negates p) h = rw (act-B-last (suc p) p (omega arith)) (getD-before negateFirst p q w (omega arith))
+act-before q w (exchangesNegates p) h = rw (act-D-last (suc (suc p)) p (omega arith)) (getD-before exchangeNegate p q w (omega arith))
+
+below-lanes : (k : Kind) (n j : ℕ) → suc j < n → suc j < lanes k n
+below-lanes A n j h = omega arith
+below-lanes B n j h = omega arith
+below-lanes D n j h = omega arith
+
+module _ (k : Kind) (n s : ℕ) (w : List ℤ) (h : least k ≤ n) (o : 1 ≤ s) (l : s ≤ n) (a : Accepted k n w) where
+  pub descends-far : (j : ℕ) → 1 ≤ j → j + 2 < s → descends k n j (act k n s w) ≡ descends k n j w
+  descends-far zero i g = absurd (omega arith)
+  descends-far (suc j) i g =
+      let inside = below-lanes k n j (omega arith) in
+      let sort = sortOf k n s h o l in
+      descends-exchange k n j (act k n s w) inside
+      ∙ ap₂ later (act-before j w sort (omega arith)) (act-before (suc j) w sort (omega arith))
+      ∙ sym (descends-exchange k n j w inside)
+
+  pub shortens-far : (j : ℕ) → 1 ≤ j → j + 2 < s → shortens k n j (act k n s w) ≡ shortens k n j w
+  shortens-far j i g =
+      shortens-descends k n j (act k n s w) h i (omega arith) (act-accepted k n s w a)
+      ∙ descends-far j i g
+      ∙ sym (shortens-descends k n j w h i (omega arith) a)
+
+  -- where no allowed one of the first t steps makes w shorter, none does after step s
+  pub ended-far : (allowed : ℕ → Bool) (t : ℕ) → t + 2 < s → Ended allowed k n t 1 w → Ended allowed k n t 1 (act k n s w)
+  ended-far allowed t g e j i m b = shortens-far j i (omega arith) ∙ e j i m b
