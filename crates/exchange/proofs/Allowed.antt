@@ -7,6 +7,7 @@ use Prim.Native.Nat.{ℕ, _≤_}
 use Rattle.coxeter.specs.Kinds.{Kind, least}
 use Rattle.coxeter.specs.Checks.{wrongLetter}
 use Rattle.coxeter.specs.NormalForm.{wordNormalForm}
+use Rattle.coxeter.proofs.LetterLaws.{letter-within-cons}
 use Rattle.rules.proofs.Completeness.{RewritesTo, stays, step, no-new-letter, rewritesTo-normalForm}
 use Rattle.exchange.specs.Allowed.{over, Over}
 use Rattle.exchange.proofs.Parts.{Part, none, keep, leave}
@@ -37,6 +38,12 @@ module _ (allowed : ℕ → Bool) where
   over-part none e = e
   over-part (keep {a} {u} {v} p) e = over-cons a v (over-head a u e) (over-part p (over-tail a u e))
   over-part (leave {a} {u} p) e = over-part p (over-tail a u e)
+
+  -- where all steps are allowed every word of steps is over them
+  pub over-all : (n : ℕ) (u : List ℕ) → ((s : ℕ) → 1 ≤ s → s ≤ n → allowed s ≡ true) → wrongLetter n u ≡ false → Over allowed u
+  unfolding over
+  over-all n [] f e = refl
+  over-all n (s ∷ u) f e = let l = letter-within-cons n s u e in over-cons s u (f s (l .0) (l .1)) (over-all n u f (l .2))
 
   -- by letters
   letter-allowed : (a : ℕ) (u : List ℕ) → Over allowed u → List·Memᴰ a u → allowed a ≡ true

@@ -13,3 +13,4 @@ pub mod Allowed
 pub mod Splitting
 pub mod Stripping
 pub mod FarSteps
+pub mod Between

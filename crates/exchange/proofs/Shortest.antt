@@ -24,7 +24,7 @@ use Rattle.coxeter.proofs.Order.{shortlex-irrefl, shortlex-asymm}
 use Rattle.coxeter.proofs.Inverses.{inverse-accepted, inverse-inverse, window-reverse}
 use Rattle.coxeter.proofs.NormalForms.{window-normalForm, normalForm-letters}
 use Rattle.coxeter.proofs.Lengths.{length-normalForm}
-use Rattle.rules.proofs.Completeness.{RewritesTo, rewritesTo-normalForm, rewritesTo-shortlex}
+use Rattle.rules.proofs.Completeness.{RewritesTo, rewritesTo-normalForm, rewritesTo-shortlex, normalForm-least}
 use Rattle.exchange.specs.OneLetter.{Shortest}
 use Rattle.exchange.proofs.Carrying.{Carries, carries-trans, rewritesTo-length, rewritesTo-carries, rewritesTo-carries-back}
 
@@ -65,7 +65,12 @@ shortest-normalForm k n w h a =
 
 -- ---- normal forms
 
--- the least word with its window is the normal form
+-- the normal form of a window is the least word with its window
+pub normalForm-normal : (k : Kind) (n : ℕ) (w : List ℤ) → least k ≤ n → Accepted k n w
+    → IsNormalForm k n (window k n (normalForm k n w)) (normalForm k n w)
+normalForm-normal k n w h a = rw (window-normalForm k n w a) (normalForm-least k n w h a)
+
+-- and the only one
 pub normal-is : (k : Kind) (n : ℕ) (u : List ℕ) → least k ≤ n → IsNormalForm k n (window k n u) u → u ≡ wordNormalForm k n u
 normal-is k n u h m =
     ⊎-elim (λ e. e) (λ t. absurd (true≢false (sym (below t) ∙ shortlex-asymm form u t)))

@@ -16,7 +16,7 @@ use Rattle.coxeter.specs.Kinds.{Kind, pick, least, lanes}
 use Rattle.coxeter.specs.Windows.{act, windowFrom, straight, window, product, inverse}
 use Rattle.coxeter.specs.Length.{windowLength}
 use Rattle.coxeter.specs.Checks.{wrongLetter}
-use Rattle.coxeter.specs.NormalForm.{normalForm, IsNormalForm}
+use Rattle.coxeter.specs.NormalForm.{normalForm}
 use Rattle.coxeter.proofs.Levels.{Accepted, act-accepted, window-accepted, windowFrom-accepted}
 use Rattle.coxeter.proofs.LetterLaws.{letter-within-cons}
 use Rattle.coxeter.proofs.Relations.{wrongLetter-cons}
@@ -25,12 +25,11 @@ use Rattle.coxeter.proofs.Products.{product-assoc, product-straight, straight-p
 use Rattle.coxeter.proofs.Inverses.{inverse-accepted, accepted-between, product-inverse, inverse-inverse, window-reverse}
 use Rattle.coxeter.proofs.NormalForms.{window-normalForm, normalForm-letters}
 use Rattle.coxeter.proofs.Lengths.{length-normalForm}
-use Rattle.rules.proofs.Completeness.{normalForm-least}
 use Rattle.exchange.specs.OneLetter.{Shortest}
 use Rattle.exchange.specs.Shortening.{shortens}
 use Rattle.exchange.specs.Allowed.{over, Over}
 use Rattle.exchange.specs.Split.{NoneBegins, IsSplit, lowest, stripped, restInverse, firstWord, secondWord}
-use Rattle.exchange.proofs.Shortest.{letters-reverse, windowLength-le, length-of-shortest, windowLength-inverse}
+use Rattle.exchange.proofs.Shortest.{letters-reverse, windowLength-le, normalForm-normal, length-of-shortest, windowLength-inverse}
 use Rattle.exchange.proofs.Exchange.{window-snoc}
 use Rattle.exchange.proofs.Shortening.{shortens-of-shorter, not-shortens, length-of-shortens}
 use Rattle.exchange.proofs.Allowed.{over-cons, over-normalForm}
@@ -120,10 +119,6 @@ module _ (allowed : ℕ → Bool) (k : Kind) (n : ℕ) where
           strips-first x (after j) j h a (f .above) m (f .is-allowed) (f .shorter) (r j (omega (arith, shorter)))
 
 -- ---- the two words
-
-normalForm-normal : (k : Kind) (n : ℕ) (w : List ℤ) → least k ≤ n → Accepted k n w
-    → IsNormalForm k n (window k n (normalForm k n w)) (normalForm k n w)
-normalForm-normal k n w h a = rw (window-normalForm k n w a) (normalForm-least k n w h a)
 
 -- a step that begins a shortest word of a window makes its inverse shorter
 front-shortens : (k : Kind) (n s : ℕ) (u : List ℕ) (x : List ℤ) → least k ≤ n → Accepted k n x → Shortest k n (s ∷ u)
