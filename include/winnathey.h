@@ -69,7 +69,7 @@ int64_t winnathey_inverse_of_word(uint32_t kind, uint32_t rank, const uint8_t *w
 /* The length of a word's normal form. */
 int64_t winnathey_length_of_word(uint32_t kind, uint32_t rank, const uint8_t *word, size_t word_len);
 
-/* Whether two presets have one kind, rank and window: 1 is yes, 0 is no. */
+/* Whether two presets look alike: as many lanes and the same window, whatever their kinds and ranks. 1 is yes, 0 is no. */
 int64_t winnathey_same(uint32_t kind1, uint32_t rank1, const uint8_t *word1, size_t len1, uint32_t kind2, uint32_t rank2, const uint8_t *word2,
                        size_t len2);
 

@@ -65,7 +65,7 @@ pub extern "C" fn winnathey_length_of_word(kind: u32, rank: u32, word: &[u8]) ->
     number(window::length_of_word(byte(kind), byte(rank), word))
 }
 
-// Whether two presets show the same window: 1 is yes, 0 is no. Presets of different kind or rank do not.
+// Whether two presets show the same window, whatever their kinds and ranks: 1 is yes, 0 is no.
 #[no_mangle]
 pub extern "C" fn winnathey_same(
     kind1: u32,

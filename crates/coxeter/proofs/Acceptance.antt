@@ -70,7 +70,8 @@ windows-accepted k n u v = three-accepted (rankRefusal k n) (windowRefusal (kind
 
 pub presets-accepted : (k n : ℕ) (u : List ℕ) (l m : ℕ) (v : List ℕ) (r : ℕ)
     → r ≡ (rankRefusal k n then wordRefusal n u then rankRefusal l m then wordRefusal m v) → r ≡ 0
-    → (rankRefusal k n ≡ 0) × ((wordRefusal n u ≡ 0) × (wordRefusal m v ≡ 0))
+    → (rankRefusal k n ≡ 0) × ((wordRefusal n u ≡ 0) × ((rankRefusal l m ≡ 0) × (wordRefusal m v ≡ 0)))
 presets-accepted k n u l m v r e z =
     let a = three-accepted (rankRefusal k n) (wordRefusal n u) (rankRefusal l m then wordRefusal m v) r e z in
-    (a .0, (a .1 .0, then-zero (rankRefusal l m) (wordRefusal m v) (a .1 .1) .1))
+    let b = then-zero (rankRefusal l m) (wordRefusal m v) (a .1 .1) in
+    (a .0, (a .1 .0, (b .0, b .1)))

@@ -11,9 +11,10 @@ use lib.Seq.{sets, sets-eq}
 use borrow.Author.Tests.{eq-eqb, ne-eqb, lt-ltb, le-ltb}
 use Rattle.coxeter.specs.declared.Answer.the-variants.{Length, Refused}
 use Rattle.coxeter.proofs.Lists.{front-stored}
-use Rattle.coxeter.specs.Kinds.{kindOf}
+use Rattle.coxeter.specs.Kinds.{kindOf, lanes}
+use Rattle.coxeter.specs.Windows.{window}
 use Rattle.coxeter.specs.Checks.{_then_, tooShort, rankRefusal, wordRefusal}
-use Rattle.coxeter.specs.Calls.{Outcome, Yields, answerOf, written, writes, verdictOf, equalWords, samePresets, presetsEqual, handsBack}
+use Rattle.coxeter.specs.Calls.{Outcome, Yields, answerOf, written, writes, verdictOf, sameWindow, equalWords, samePresets, presetsEqual, handsBack}
 use native.Mathlib.Decide.{ℕ-discrete}
 use Rattle.coxeter.specs.declared.Answer.{Answer}
 use Rattle.coxeter.specs.declared.Verdict.the-variants as verdict
@@ -85,17 +86,19 @@ module _ (k n : ℕ) (u : List ℕ) (l m : ℕ) (v : List ℕ) where
     unfolding presetsEqual verdictOf
     verdict-no s z g t = rw (← e, eq-eqb r 0 z, ← g, t)
 
-  pub kinds-differ : (k ≡ l → ⊥) → false ≡ samePresets k n u l m v
+  pub lanes-differ : (a b : ℕ) → a ≡ lanes (kindOf k) n → b ≡ lanes (kindOf l) m → (a ≡ b → ⊥) → false ≡ samePresets k n u l m v
   unfolding samePresets
-  kinds-differ f = rw (ne-eqb k l f)
+  lanes-differ a b e f d = rw (← e, ← f, ne-eqb a b d)
 
-  pub ranks-differ : k ≡ l → (n ≡ m → ⊥) → false ≡ samePresets k n u l m v
+  pub same-lanes : (s : Bool) → lanes (kindOf k) n ≡ lanes (kindOf l) m → s ≡ sameWindow (window (kindOf k) n u) (window (kindOf l) m v)
+      → s ≡ samePresets k n u l m v
   unfolding samePresets
-  ranks-differ e f = rw (eq-eqb k l e, ne-eqb n m f)
+  same-lanes s e g = rw (eq-eqb (lanes (kindOf k) n) (lanes (kindOf l) m) e) g
 
-  pub same-rank : (s : Bool) → k ≡ l → n ≡ m → s ≡ equalWords (kindOf k) n u v → s ≡ samePresets k n u l m v
-  unfolding samePresets
-  same-rank s e f g = rw (eq-eqb k l e, eq-eqb n m f) g
+-- of one kind and rank the windows alone decide
+pub same-words : (k n : ℕ) (u v : List ℕ) → samePresets k n u k n v ≡ equalWords (kindOf k) n u v
+unfolding samePresets equalWords
+same-words k n u v = rw (eq-eqb (lanes (kindOf k) n) (lanes (kindOf k) n) refl)
 
 -- ---- words of one kind and rank
 

@@ -1,24 +1,29 @@
 -- What the certificate cites of windows and normal forms, over the definitions of specs/ alone. Each is a corollary of a law of the files before;
 -- `windowRefusal k n w ≡ 0` says that w passes checks 9 to 11. The ranks need no upper end, and words may have any length.
 --
--- Sections: windows; inverses; normal forms; lengths; blocks; the better word.
+-- Sections: windows; inverses; normal forms; lengths; blocks; the better word; the verdict.
 -- Assumes nothing.
 use mathlib.Core.Path.{_≡_, refl, sym, ap, _∙_}
-use mathlib.Core.Bool.{Bool, true, false}
+use mathlib.Core.Bool.{Bool, true, false, false≢true, and-eq-true-iff}
 use mathlib.Core.Logic.{_↔_}
 use mathlib.Core.List.{List, []}
 use denote.Ref.{RefT, now}
 use Prim.Native.Nat.{ℕ, _≤_}
 use native.Mathlib.Omega.{arith}
+use lib.Dec.{eqb}
 use lib.IntN.{ℤ}
 use lib.ListN.{length}
-use Rattle.coxeter.specs.Kinds.{Kind, pick, lanes, least}
+use borrow.Author.Tests.{eq-eqb}
+use Rattle.coxeter.specs.declared.Verdict.the-variants as verdict
+use Rattle.coxeter.specs.Kinds.{Kind, pick, kindOf, lanes, least}
 use Rattle.coxeter.specs.Windows.{act, straight, window, product, inverse}
 use Rattle.coxeter.specs.Length.{windowLength, greatestLength}
-use Rattle.coxeter.specs.Checks.{wrongLetter, windowRefusal}
+use Rattle.coxeter.specs.Checks.{wrongLetter, rankRefusal, wordRefusal, windowRefusal}
 use Rattle.coxeter.specs.NormalForm.{levels, blocks, Indices, normalForm, wordNormalForm}
-use Rattle.coxeter.specs.Calls.{Better}
+use Rattle.coxeter.specs.Calls.{verdictOf, sameWindow, samePresets, presetsEqual, Better}
 use Rattle.coxeter.proofs.Levels.{Accepted, accepted-of-refusal, refusal-of-accepted, act-accepted, window-accepted}
+use Rattle.coxeter.proofs.Basics.{length-window}
+use Rattle.coxeter.proofs.Order.{sameWindow-true, sameWindow-of-eq}
 use Rattle.coxeter.proofs.Products.{product-straight, straight-product}
 use Rattle.coxeter.proofs.Inverses as inverses
 use Rattle.coxeter.proofs.Indices.{indices, indices-in-range, indices-window}
@@ -110,3 +115,39 @@ better-whole second u v r b = b .whole refl
 -- "a part of length 0 of the first word"
 pub better-empty : (second : Bool) (u v r : RefT (List ℕ)) → Better false second u v r → (now r ≡ []) × (r .ptr ≡ u .ptr)
 better-empty second u v r b = b .empty refl
+
+-- ---- the verdict
+
+-- "yes exactly when lane counts and windows agree, whatever the kinds": the two windows are the same list
+pub equal-lanes : (k n : ℕ) (u : List ℕ) (l m : ℕ) (v : List ℕ) → window (kindOf k) n u ≡ window (kindOf l) m v
+    → lanes (kindOf k) n ≡ lanes (kindOf l) m
+equal-lanes k n u l m v e = sym (length-window (kindOf k) n u) ∙ ap length e ∙ length-window (kindOf l) m v
+
+by-same : {P : Type 0} (t : Bool) → (t ≡ true) ↔ P → (pick t verdict.Yes verdict.No ≡ verdict.Yes) ↔ P
+by-same true h = (λ e. h .0 refl, λ p. refl)
+by-same false h = (λ e. let z : _≡_ {A = ℕ} 0 1 = cc in absurd (omega arith), λ p. absurd (false≢true (h .1 p)))
+
+same-exactly : (k n : ℕ) (u : List ℕ) (l m : ℕ) (v : List ℕ) → (samePresets k n u l m v ≡ true) ↔ (window (kindOf k) n u ≡ window (kindOf l) m v)
+unfolding samePresets
+same-exactly k n u l m v =
+    let a = window (kindOf k) n u in
+    let b = window (kindOf l) m v in
+    let both = and-eq-true-iff (eqb (lanes (kindOf k) n) (lanes (kindOf l) m)) (sameWindow a b) in (
+      λ h. sameWindow-true a b (both .0 h .1),
+      λ e. both .1 (eq-eqb (lanes (kindOf k) n) (lanes (kindOf l) m) (equal-lanes k n u l m v e), sameWindow-of-eq a b e),
+    )
+
+pub verdict-exactly : (k n : ℕ) (u : List ℕ) (l m : ℕ) (v : List ℕ) → rankRefusal k n ≡ 0 → wordRefusal n u ≡ 0 → rankRefusal l m ≡ 0 → wordRefusal m v ≡ 0
+    → (presetsEqual k n u l m v ≡ verdict.Yes) ↔ (window (kindOf k) n u ≡ window (kindOf l) m v)
+unfolding presetsEqual verdictOf
+verdict-exactly k n u l m v a b c d =
+    rw (eq-eqb (rankRefusal k n) 0 a, eq-eqb (wordRefusal n u) 0 b, eq-eqb (rankRefusal l m) 0 c, eq-eqb (wordRefusal m v) 0 d)
+    (by-same (samePresets k n u l m v) (same-exactly k n u l m v))
+
+-- "the agreement of normal forms and verdict stays a fact about one kind and rank"
+pub verdict-normalForm : (k n : ℕ) (u v : List ℕ) → rankRefusal k n ≡ 0 → wordRefusal n u ≡ 0 → wordRefusal n v ≡ 0
+    → (presetsEqual k n u k n v ≡ verdict.Yes) ↔ (wordNormalForm (kindOf k) n u ≡ wordNormalForm (kindOf k) n v)
+verdict-normalForm k n u v a b c =
+    let w = verdict-exactly k n u k n v a b a c in
+    let f = laws.wordNormalForm-eq-iff (kindOf k) n u v in
+    (λ h. f .1 (w .0 h), λ h. w .1 (f .0 h))

@@ -3,11 +3,12 @@
 --
 -- Sections: how a table is read; the calls that write a window; the calls that write a word; lengths; verdicts; the better word; refusals.
 -- Assumes nothing.
-use mathlib.Core.Path.{_≡_, refl}
+use mathlib.Core.Path.{_≡_, refl, ap}
 use mathlib.Core.List.{List, [], _∷_, map}
 use Prim.Native.Nat.{ℕ}
 use lib.IntN.{ℤ, pos, negℤ}
-use lib.ListN.{replicate}
+use native.Mathlib.Omega.{arith}
+use lib.ListN.{length, replicate}
 use Rattle.coxeter.specs.declared.Answer.{Answer}
 use Rattle.coxeter.specs.declared.Answer.the-variants.{Length, Refused}
 use Rattle.coxeter.specs.declared.Verdict.{Verdict}
@@ -19,7 +20,7 @@ use Rattle.coxeter.specs.Windows.{from, exchange, negateFirst, exchangeN
 use Rattle.coxeter.specs.Length.{later, negative, one, laterThan, inversions, negativeSumPairs, negatives, windowLength}
 use Rattle.coxeter.specs.Dictionary.{before, shortlex}
 use Rattle.coxeter.specs.Checks.{wrongKind, wrongRank, tooLong, wrongLetter, wrongLanes, hasSize, negativeInA, wrongAt, wrongEntry, odd, oddNegatives, tooShort, rankRefusal, wordRefusal, windowRefusal}
-use Rattle.coxeter.specs.NormalForm.{down, rise, fall, block, without, indexOf, restOf, normalFrom, normalForm}
+use Rattle.coxeter.specs.NormalForm.{down, rise, fall, block, without, indexOf, restOf, normalFrom, normalForm, wordNormalForm}
 use Rattle.coxeter.specs.Calls.{answerOf, verdictOf, written, Outcome, writes, windowOfWord, productOfWindows, inverseOfWindow, normalFormOfWindow, normalFormOfWord, productOfWords, inverseOfWord, lengthOfWindow, lengthOfWord, sameEntry, sameWindow, equalWords, samePresets, presetsEqual, handsBack, choice}
 
 -- ---- how a table is read
@@ -140,9 +141,12 @@ pub verdicts : List (Verdict × Verdict)
 verdicts =
     (presetsEqual 1 2 (1 ∷ 2 ∷ 1 ∷ []) 1 2 (2 ∷ 1 ∷ 2 ∷ []), verdict.Yes)
     ∷ (presetsEqual 1 2 (1 ∷ []) 1 2 (2 ∷ []), verdict.No)
-    -- another rank, another kind
+    -- another lane count; another kind with the same lanes, straight and with two mirrored lanes; an A rig and a B rig
     ∷ (presetsEqual 1 2 [] 1 3 [], verdict.No)
-    ∷ (presetsEqual 2 4 [] 3 4 [], verdict.No)
+    ∷ (presetsEqual 1 4 [] 2 4 [], verdict.No)
+    ∷ (presetsEqual 2 4 [] 3 4 [], verdict.Yes)
+    ∷ (presetsEqual 2 4 (4 ∷ []) 3 4 (4 ∷ []), verdict.No)
+    ∷ (presetsEqual 1 3 (1 ∷ 2 ∷ []) 2 4 (1 ∷ 2 ∷ []), verdict.Yes)
     -- the first preset's checks before the second's
     ∷ (presetsEqual 1 2 (3 ∷ []) 4 2 [], verdict.Refused 8)
     ∷ (presetsEqual 1 2 (1 ∷ []) 4 2 [], verdict.Refused 5)
@@ -150,9 +154,26 @@ verdicts =
 
 pub equality-verdicts : Agree verdicts
 unfolding verdicts
-    kindOf up from exchange act windowFrom straight window wrongKind wrongRank tooLong wrongLetter rankRefusal wordRefusal
-    sameEntry sameWindow equalWords samePresets verdictOf presetsEqual
+    kindOf up from exchange negateFirst exchangeNegate act windowFrom straight window wrongKind wrongRank tooLong wrongLetter rankRefusal wordRefusal
+    sameEntry sameWindow samePresets verdictOf presetsEqual
 equality-verdicts = refl
+
+-- two presets that look alike, of kinds B and D at rank 4, both normal forms and different words: what both show is −1 −2 3 4
+pub alike-B-and-D : let u : List ℕ = 2 ∷ 3 ∷ 4 ∷ 3 ∷ 2 ∷ 1 ∷ 2 ∷ 3 ∷ 4 ∷ 3 ∷ 2 ∷ 1 ∷ [] in
+    let v : List ℕ = 2 ∷ 4 ∷ 3 ∷ 2 ∷ 1 ∷ 2 ∷ 4 ∷ 3 ∷ 2 ∷ 1 ∷ [] in
+    (presetsEqual 2 4 u 3 4 v ≡ verdict.Yes)
+    × (window B 4 u ≡ negℤ (pos 1) ∷ negℤ (pos 2) ∷ pos 3 ∷ pos 4 ∷ [])
+    × (wordNormalForm B 4 u ≡ u) × (wordNormalForm D 4 v ≡ v) × (u ≡ v → ⊥)
+unfolding kindOf up from exchange negateFirst exchangeNegate act windowFrom straight window signed placeFrom
+    down rise fall block without indexOf restOf normalFrom normalForm
+    wrongKind wrongRank tooLong wrongLetter rankRefusal wordRefusal sameEntry sameWindow samePresets verdictOf presetsEqual
+alike-B-and-D = (refl, refl, refl, refl, λ e. let l : _≡_ {A = ℕ} 12 10 = ap length e in omega (arith, l))
+
+-- and of kinds A, with three steps, and B, with four: four lanes each
+pub alike-A-and-B : presetsEqual 1 3 (1 ∷ 2 ∷ []) 2 4 (1 ∷ 2 ∷ []) ≡ verdict.Yes
+unfolding kindOf up from exchange act windowFrom straight window wrongKind wrongRank tooLong wrongLetter rankRefusal wordRefusal
+    sameEntry sameWindow samePresets verdictOf presetsEqual
+alike-A-and-B = refl
 
 -- ---- the better word
 

@@ -13,7 +13,7 @@ use Rattle.coxeter.specs.declared.Verdict.{Verdict}
 use Rattle.coxeter.specs.declared.Verdict.the-variants as verdict
 use Rattle.coxeter.specs.declared.Choice.{Choice}
 use Rattle.coxeter.specs.declared.Choice.the-variants as choices
-use Rattle.coxeter.specs.Kinds.{Kind, pick, kindOf}
+use Rattle.coxeter.specs.Kinds.{Kind, pick, kindOf, lanes}
 use Rattle.coxeter.specs.Windows.{window, product, inverse}
 use Rattle.coxeter.specs.Length.{windowLength}
 use Rattle.coxeter.specs.NormalForm.{normalForm, wordNormalForm}
@@ -101,9 +101,10 @@ sameWindow (x ∷ u) (y ∷ v) = sameEntry x y && sameWindow u v
 unfoldable pub equalWords : Kind → ℕ → List ℕ → List ℕ → Bool
 equalWords k n u v = sameWindow (window k n u) (window k n v)
 
--- "A verdict on presets of different kind or rank is no."
+-- "The verdict becomes yes exactly when lane counts and windows agree, whatever the kinds" (document 02, request 1)
 unfoldable pub samePresets : ℕ → ℕ → List ℕ → ℕ → ℕ → List ℕ → Bool
-samePresets k₁ n₁ u₁ k₂ n₂ u₂ = eqb k₁ k₂ && (eqb n₁ n₂ && equalWords (kindOf k₁) n₁ u₁ u₂)
+samePresets k₁ n₁ u₁ k₂ n₂ u₂ =
+    eqb (lanes (kindOf k₁) n₁) (lanes (kindOf k₂) n₂) && sameWindow (window (kindOf k₁) n₁ u₁) (window (kindOf k₂) n₂ u₂)
 
 -- the equality verdict on two presets
 unfoldable pub presetsEqual : ℕ → ℕ → List ℕ → ℕ → ℕ → List ℕ → Verdict

@@ -26,7 +26,7 @@ use Rattle.examples.specs.WrongWindows.{block1Alone, entriesBeforeLanes,
 use Rattle.examples.specs.WrongWindows.{productInWrongOrder, secondWindowCheckedFirst, windowAsItsInverse, inverseWithoutSigns}
 use Rattle.examples.specs.WrongWindows.{wordsJoinedTheOtherWay, wordsJoinedUnshortened, wordAsItsInverse, reversedUnshortened}
 use Rattle.examples.specs.WrongWindows.{letterTotal, usualOrderOfAWindow, usualOrderOfAWord, negativesNotCounted, negatesBeforeItsRange}
-use Rattle.examples.specs.WrongWindows.{ranksNotCompared, secondPresetRefusedFirst, better, laterWordHandedBack, windowsNotCompared, secondOfEqualWords}
+use Rattle.examples.specs.WrongWindows.{ranksNotCompared, kindsCompared, secondPresetRefusedFirst, better, laterWordHandedBack, windowsNotCompared, secondOfEqualWords}
 use Rattle.examples.specs.WrongRewrites.{noneFitsWithoutLooking, ruleOfBInD, family3OneTooFarInB, family4AsFamily3, replacedOnePlaceToTheLeft, placeAtTheEndAccepted, roomCheckedBeforeTheRule, wordCopiedFirst}
 use Rattle.examples.specs.WrongBooks.{countHighByteFirst, offsetAgainstTheTrailer, lastRecordMayStopEarly, onePresetTooMany, preset0ForEveryNumber}
 use Rattle.examples.specs.WrongBooks.{handedOut, lettersFromTheRecord, refusedPresetHandsOutLetters, lastOffsetDropped, kindAndRankExchanged}
@@ -111,6 +111,7 @@ table =
     ∷ differ lengthOfWindow negatesBeforeItsRange (λ f. answer (f 2 2 (neg 128 ∷ pos 1 ∷ [])))
     -- verdicts
     ∷ differ presetsEqual ranksNotCompared (λ f. verdict (f 1 2 [] 1 3 []))
+    ∷ differ presetsEqual kindsCompared (λ f. verdict (f 2 4 [] 3 4 []))
     ∷ differ presetsEqual secondPresetRefusedFirst (λ f. verdict (f 1 2 (3 ∷ []) 4 2 []))
     -- the better of two words
     ∷ differ better laterWordHandedBack (λ f. choice (f 1 2 (1 ∷ 2 ∷ 1 ∷ []) (2 ∷ 1 ∷ 2 ∷ [])))

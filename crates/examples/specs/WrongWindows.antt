@@ -219,6 +219,10 @@ negatesBeforeItsRange k n w =
 abbrev pub ranksNotCompared : ℕ → ℕ → List ℕ → ℕ → ℕ → List ℕ → Verdict
 ranksNotCompared k₁ n₁ u₁ k₂ n₂ u₂ = verdictOf (wordChecks k₁ n₁ u₁ then wordChecks k₂ n₂ u₂) (eqb k₁ k₂ && equalWords (kindOf k₁) n₁ u₁ u₂)
 
+-- presets of different kind are never equal, as before request 1 of document 02
+abbrev pub kindsCompared : ℕ → ℕ → List ℕ → ℕ → ℕ → List ℕ → Verdict
+kindsCompared k₁ n₁ u₁ k₂ n₂ u₂ = verdictOf (wordChecks k₁ n₁ u₁ then wordChecks k₂ n₂ u₂) (eqb k₁ k₂ && samePresets k₁ n₁ u₁ k₂ n₂ u₂)
+
 abbrev pub secondPresetRefusedFirst : ℕ → ℕ → List ℕ → ℕ → ℕ → List ℕ → Verdict
 secondPresetRefusedFirst k₁ n₁ u₁ k₂ n₂ u₂ = verdictOf (wordChecks k₂ n₂ u₂ then wordChecks k₁ n₁ u₁) (samePresets k₁ n₁ u₁ k₂ n₂ u₂)
 

@@ -170,7 +170,7 @@ pub fn length_of_word(kind: u8, rank: u8, word: &[u8]) -> Answer
 }
 
 // Answers whether two presets show the same. Refuses with 5 or 6, then 7 or 8 for the first preset, and then the same for the second. Accepted
-// presets of different kinds or ranks are not equal.
+// presets are equal where their lane counts and windows agree, whatever their kinds and ranks.
 pub fn presets_equal(kind_a: u8, rank_a: u8, a: &[u8], kind_b: u8, rank_b: u8, b: &[u8]) -> Verdict
     ensures { λ r. ⌜ r ≡ presetsEqual «kind_a» «rank_a» (now (a .entry)) «kind_b» «rank_b» (now (b .entry)) ⌝ }
 {

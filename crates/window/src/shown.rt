@@ -101,22 +101,7 @@ pub(crate) fn length_of_shown(kind: u8, rank: u8, word: &[u8]) -> usize
     length_of_front(kind, rank, &work)
 }
 
-// Whether two accepted words of one kind and rank have one window.
-pub(crate) fn equal_words(kind: u8, rank: u8, u: &[u8], v: &[u8]) -> bool
-    requires { ⌜ rankRefusal kind rank ≡ 0 ⌝ }
-    requires { ⌜ wordRefusal rank (now u) ≡ 0 ⌝ }
-    requires { ⌜ wordRefusal rank (now v) ≡ 0 ⌝ }
-    ensures { λ r. ⌜ r ≡ equalWords (kindOf kind) rank (now (u .entry)) (now (v .entry)) ⌝ }
-{
-    let m = lanes(kind, rank);
-    let mut first = blank();
-    show_front(kind, rank, u, &mut first);
-    let mut second = blank();
-    show_front(kind, rank, v, &mut second);
-    same_fronts(m, &first, &second)
-}
-
-// Whether two accepted presets show the same: not where their kinds or ranks differ.
+// Whether two accepted presets show the same: as many lanes, and the same entry in each, whatever the kinds.
 pub(crate) fn same_presets(
     kind_a: u8,
     rank_a: u8,
@@ -127,14 +112,27 @@ pub(crate) fn same_presets(
 ) -> bool
     requires { ⌜ rankRefusal «kind_a» «rank_a» ≡ 0 ⌝ }
     requires { ⌜ wordRefusal «rank_a» (now a) ≡ 0 ⌝ }
+    requires { ⌜ rankRefusal «kind_b» «rank_b» ≡ 0 ⌝ }
     requires { ⌜ wordRefusal «rank_b» (now b) ≡ 0 ⌝ }
     ensures { λ r. ⌜ r ≡ samePresets «kind_a» «rank_a» (now (a .entry)) «kind_b» «rank_b» (now (b .entry)) ⌝ }
 {
-    if kind_a != kind_b {
+    let m = lanes(kind_a, rank_a);
+    if m != lanes(kind_b, rank_b) {
         return false;
     }
-    if rank_a != rank_b {
-        return false;
-    }
-    equal_words(kind_a, rank_a, a, b)
+    let mut first = blank();
+    show_front(kind_a, rank_a, a, &mut first);
+    let mut second = blank();
+    show_front(kind_b, rank_b, b, &mut second);
+    same_fronts(m, &first, &second)
+}
+
+// Whether two accepted words of one kind and rank have one window.
+pub(crate) fn equal_words(kind: u8, rank: u8, u: &[u8], v: &[u8]) -> bool
+    requires { ⌜ rankRefusal kind rank ≡ 0 ⌝ }
+    requires { ⌜ wordRefusal rank (now u) ≡ 0 ⌝ }
+    requires { ⌜ wordRefusal rank (now v) ≡ 0 ⌝ }
+    ensures { λ r. ⌜ r ≡ equalWords (kindOf kind) rank (now (u .entry)) (now (v .entry)) ⌝ }
+{
+    same_presets(kind, rank, u, kind, rank, v)
 }

@@ -98,8 +98,12 @@ pub fn run(sides: &mut Sides) {
     }
     due(sides.same((A, 2, &[1, 2, 1]), (A, 2, &[2, 1, 2])), 1);
     due(sides.same((A, 2, &[1]), (A, 2, &[2])), 0);
-    due(sides.same((B, 4, &[]), (D, 4, &[])), 0);
+    due(sides.same((B, 4, &[]), (D, 4, &[])), 1);
     due(sides.same((B, 4, &[]), (B, 5, &[])), 0);
+    due(sides.same((A, 4, &[]), (B, 4, &[])), 0);
+    due(sides.same((A, 3, &[1, 2]), (B, 4, &[1, 2])), 1);
+    // Both show -1 -2 3 4; they are normal forms, and different words.
+    due(sides.same((B, 4, &[2, 3, 4, 3, 2, 1, 2, 3, 4, 3, 2, 1]), (D, 4, &[2, 4, 3, 2, 1, 2, 4, 3, 2, 1])), 1);
     due(sides.better(A, 2, &[1, 2, 1], &[2, 1, 2]), 2);
     due(sides.better(A, 2, &[2, 1, 2], &[1, 2, 1]), 1);
     due(sides.better(A, 2, &[1, 2, 1], &[1, 2, 1]), 1);

@@ -155,3 +155,46 @@ pub fn pairs_of_words(sides: &mut Sides) {
         }
     }
 }
+
+/// All pairs of short words across kinds and ranks.
+pub fn pairs_across(sides: &mut Sides) {
+    let rigs = [(A, 1, 4), (A, 2, 4), (A, 3, 4), (A, 4, 3), (B, 2, 4), (B, 3, 4), (B, 4, 3), (B, 5, 2), (D, 4, 3), (D, 5, 2)];
+    let presets: Vec<(u32, u32, Vec<u8>)> = rigs
+        .into_iter()
+        .flat_map(|(kind, rank, most)| {
+            let steps: Vec<u8> = (1..=rank as u8).collect();
+            let mut words = Vec::new();
+            for length in 0..=most {
+                lists_over(&steps, length, &mut |word| words.push((kind, rank, word.to_vec())));
+            }
+            words
+        })
+        .collect();
+    for (kind, rank, word) in &presets {
+        for (other, other_rank, second) in &presets {
+            sides.same((*kind, *rank, word), (*other, *other_rank, second));
+        }
+    }
+}
+
+/// The normal form of each window in every rig that has it: the presets look alike, and no other pair of windows does.
+pub fn alike_across(sides: &mut Sides) {
+    let rigs = [(A, 3), (A, 4), (B, 4), (B, 5), (D, 4), (D, 5)];
+    for (kind, rank) in rigs {
+        for (other, other_rank) in rigs {
+            if lanes(kind, rank) != lanes(other, other_rank) {
+                continue;
+            }
+            for window in all_windows(kind, rank) {
+                if sides.length_of_window(other, other_rank, &window) < 0 {
+                    continue;
+                }
+                let first = plain_form(kind, rank, &window);
+                let mut second = plain_form(other, other_rank, &window);
+                assert_eq!(sides.same((kind, rank, &first), (other, other_rank, &second)), 1);
+                second.push(1);
+                assert_eq!(sides.same((kind, rank, &first), (other, other_rank, &second)), 0);
+            }
+        }
+    }
+}

@@ -41,6 +41,8 @@ fn main() -> ExitCode {
     group("all pairs of windows of small ranks", &exhaustive::pairs_of_windows);
     group("all words of up to 6 letters of small ranks", &exhaustive::words);
     group("all pairs of short words of small ranks", &exhaustive::pairs_of_words);
+    group("verdicts on all pairs of short words across kinds and ranks", &exhaustive::pairs_across);
+    group("verdicts on all windows of small ranks across kinds", &exhaustive::alike_across);
     group("each rule of each rank, whole and cut short", &rewriting::each_rule);
     group("rewriting to the end, at random places", &rewriting::to_the_end);
     group("books: the example, each byte changed, each part", &books::example);

@@ -1,6 +1,6 @@
 //! Random inputs over all calls, right and damaged, short and long.
 use crate::books::{damage_book, random_book};
-use crate::inputs::Random;
+use crate::inputs::{KINDS, Random};
 use crate::sides::{ROOM, Sides};
 
 pub fn run(sides: &mut Sides, inputs: u64, seed: u64) {
@@ -114,7 +114,16 @@ fn two_words(sides: &mut Sides, random: &mut Random, call: usize) {
     if call == 10 {
         sides.better(kind, rank, &first, &second);
     } else {
-        let other = if random.once_in(4) { random.any_rig() } else { (kind, rank) };
+        let other = match random.below(6) {
+            0 => random.any_rig(),
+            // Another kind with as many lanes.
+            1 | 2 => {
+                let other = random.pick(&KINDS);
+                let lanes = rank + u32::from(kind == plain::A);
+                (other, lanes.saturating_sub(u32::from(other == plain::A)))
+            }
+            _ => (kind, rank),
+        };
         sides.same((kind, rank, &first), (other.0, other.1, &second));
     }
 }

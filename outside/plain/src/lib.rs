@@ -136,22 +136,19 @@ pub fn length_of_window(kind: u32, rank: u32, window: &[i8]) -> i64 {
     })())
 }
 
-/// 1 if the two presets are of one kind and rank and show the same, 0 if not.
+/// 1 if the two presets have as many lanes and show the same, whatever their kinds, 0 if not.
 pub fn same(kind1: u32, rank1: u32, word1: &[u8], kind2: u32, rank2: u32, word2: &[u8]) -> i64 {
     coded((|| {
         let rank1 = check_preset(kind1, rank1, word1)?;
         let rank2 = check_preset(kind2, rank2, word2)?;
-        if (kind1, rank1) != (kind2, rank2) {
-            return Ok(0);
-        }
-        Ok(usize::from(window::equal(kind1, rank1, word1, word2)))
+        Ok(usize::from(window::alike((kind1, rank1, word1), (kind2, rank2, word2))))
     })())
 }
 
 /// 1 or 2 for the better word, 0 for neither: the windows differ or a check refuses.
 pub fn better(kind: u32, rank: u32, first: &[u8], second: &[u8]) -> i64 {
     let Ok(rank) = check_preset(kind, rank, first) else { return 0 };
-    if check_word(rank, second).is_err() || !window::equal(kind, rank, first, second) {
+    if check_word(rank, second).is_err() || !window::alike((kind, rank, first), (kind, rank, second)) {
         return 0;
     }
     // The HIGHER step comes first, so at equal lengths the greater list of bytes is the earlier word.

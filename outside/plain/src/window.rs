@@ -60,13 +60,16 @@ impl Window {
     }
 }
 
-/// Whether two checked words of one kind and rank have one window.
-pub(crate) fn equal(kind: u32, rank: u8, first: &[u8], second: &[u8]) -> bool {
-    let m = lanes(kind, rank);
+/// Whether two checked presets have as many lanes and one window.
+pub(crate) fn alike(first: (u32, u8, &[u8]), second: (u32, u8, &[u8])) -> bool {
+    let m = lanes(first.0, first.1);
+    if m != lanes(second.0, second.1) {
+        return false;
+    }
     let mut u = Window::straight(m);
-    u.apply(kind, first);
+    u.apply(first.0, first.2);
     let mut v = Window::straight(m);
-    v.apply(kind, second);
+    v.apply(second.0, second.2);
     u.entries() == v.entries()
 }
 

@@ -204,8 +204,8 @@ pub fn length_of_window(kind: Kind, rank: u8, window: &[i8]) -> Result<usize, Re
     answered(raw::length_of_window(kind.0.into(), rank.into(), window))
 }
 
-/// Whether two presets are equal: of one kind and rank, and with one window. Refusals 5 to 8, the first preset's
-/// before the second's.
+/// Whether two presets look alike: as many lanes and the same window, whatever their kinds and ranks. Refusals 5 to 8,
+/// the first preset's before the second's. Equal presets of one kind and rank have one normal form; others may not.
 ///
 /// ```
 /// use winnathey::{Kind, Preset, same};
@@ -214,6 +214,8 @@ pub fn length_of_window(kind: Kind, rank: u8, window: &[i8]) -> Result<usize, Re
 /// let down = Preset { kind: Kind::A, rank: 2, word: &[2, 1, 2] };
 /// assert_eq!(same(up, down), Ok(true));
 /// assert_eq!(same(up, Preset { word: &[], ..up }), Ok(false));
+/// // Four lanes each.
+/// assert_eq!(same(Preset { rank: 3, ..up }, Preset { kind: Kind::B, rank: 4, ..up }), Ok(true));
 /// ```
 pub fn same(first: Preset, second: Preset) -> Result<bool, Refusal> {
     answered(raw::same(

@@ -2,7 +2,7 @@
 --
 -- Sections: what words show; a front that is written; a front that is read; a copy.
 -- Assumes nothing.
-use mathlib.Core.Path.{_≡_, refl, sym, ap, ap₂, _∙_}
+use mathlib.Core.Path.{_≡_, refl, sym, ap, _∙_}
 use mathlib.Core.List.{List, _++_}
 use Prim.Native.Nat.{ℕ, _+_, _≤_, _<_}
 use native.Mathlib.Omega.{arith}
@@ -23,7 +23,7 @@ use Rattle.coxeter.proofs.Outcomes.{written-part, written-front}
 use Rattle.coxeter.specs.Kinds.{kindOf, lanes, Kind}
 use Rattle.coxeter.specs.Windows.{window, windowFrom, product, inverse}
 use Rattle.coxeter.specs.Checks.{rankRefusal, windowRefusal}
-use Rattle.coxeter.specs.Calls.{written, sameWindow, equalWords}
+use Rattle.coxeter.specs.Calls.{written}
 
 -- ---- what words show
 
@@ -93,10 +93,8 @@ module _ (k n m : ℕ) (h : rankRefusal k n ≡ 0) (e : m ≡ lanes (kindOf k) n
       front-written k n h (inverse (window (kindOf k) n u)) work v (length-inverse (window (kindOf k) n u) ∙ length-window (kindOf k) n u) l
       (w ∙ ap (λ (x : List ℤ). written 0 (inverse x) work) (part-is (window (kindOf k) n u) r f))
 
-  pub parts-same : (u v : List ℕ) (r s : List ℤ) → Front k n (window (kindOf k) n u) r → Front k n (window (kindOf k) n v) s
-      → sameWindow (take m r) (take m s) ≡ equalWords (kindOf k) n u v
-  unfolding equalWords
-  parts-same u v r s f g = ap₂ sameWindow (part-is (window (kindOf k) n u) r f) (part-is (window (kindOf k) n v) s g)
+  pub part-shows : (u : List ℕ) (r : List ℤ) → Front k n (window (kindOf k) n u) r → take m r ≡ window (kindOf k) n u
+  part-shows u r f = part-is (window (kindOf k) n u) r f
 
 -- ---- a copy
 

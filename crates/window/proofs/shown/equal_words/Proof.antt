@@ -1,89 +1,17 @@
--- `shown::equal_words` shows each word at the front of a blank window and compares the fronts.
+-- `shown::equal_words` compares two presets of one kind and rank.
 -- Assumes nothing.
 use mathlib.Core.Path.{_∙_}
-use Rattle.coxeter.specs.Kinds.{kindOf}
-use Rattle.coxeter.specs.Windows.{window}
-use Rattle.window.proofs.shown.Fronts.{Front, room, front-window, part-room, parts-same}
-use borrow.Author.Needs.{needs}
+use Rattle.coxeter.proofs.Outcomes.{same-words}
 use Rattle.window.proofs.shown.equal_words.Statement.{statement}
 use Rattle.window.proofs.shown.equal_words.Tie as tie
 
-lanes-requires : tie.Need-lanes-requires
-lanes-requires c κs = search needs
-
-blank-requires : tie.Need-blank-requires
-blank-requires c κs = search needs
-
-slice-aggregate-show-front : tie.Need-slice-aggregate-show-front
-slice-aggregate-show-front c = search needs
-
-show-front-requires : tie.Need-show-front-requires
-show-front-requires c κs =
-    let pre = c .before .before .before .before .before .pre in
-    (pre .0, (pre .1 .0, room _ _ (pre .0) (c .before .blank .result) (c .before .blank .ensures)))
-
-blank-requires-2 : tie.Need-blank-requires-2
-blank-requires-2 c κs = search needs
-
--- what the first work window holds
-first : (c : tie.After-show-front)
-    → let a = c .before .before .before .before .before .before .args in
-    Front (a .kind) (a .rank) (window (kindOf (a .kind)) (a .rank) (a .u .now)) (c .show-front .last .1 .1 .1 .0)
-first c =
-    let made = c .before .before in
-    front-window _ _ (made .before .before .before .before .pre .0) _ _ _ (made .blank .ensures) (c .show-front .ensures)
-
-slice-aggregate-show-front-2 : tie.Need-slice-aggregate-show-front-2
-slice-aggregate-show-front-2 c = search needs
-
-show-front-requires-2 : tie.Need-show-front-requires-2
-show-front-requires-2 c κs =
-    let pre = c .before .before .before .before .before .before .before .before .before .pre in
-    (pre .0, (pre .1 .1, room _ _ (pre .0) (c .before .blank2 .result) (c .before .blank2 .ensures)))
-
--- and the second
-second : (c : tie.After-show-front2)
-    → let a = c .before .before .before .before .before .before .before .before .before .before .args in
-    Front (a .kind) (a .rank) (window (kindOf (a .kind)) (a .rank) (a .v .now)) (c .show-front2 .last .1 .1 .1 .0)
-second c =
-    let made = c .before .before in
-    front-window _ _ (made .before .before .before .before .before .before .before .before .pre .0) _ _ _ (made .blank2 .ensures)
-    (c .show-front2 .ensures)
-
-slice-aggregate-same-fronts : tie.Need-slice-aggregate-same-fronts
-slice-aggregate-same-fronts c = search needs
-
-slice-aggregate-same-fronts-2 : tie.Need-slice-aggregate-same-fronts-2
-slice-aggregate-same-fronts-2 c = search needs
-
-same-fronts-requires : tie.Need-same-fronts-requires
-same-fronts-requires c κs =
-    let both = c .before .before .before in
-    let one = both .before .before .before .before in
-    let counted = one .before .before .before in
-    let fits = part-room _ _ _ (counted .before .before .before .pre .0) (counted .lanes .ensures) in
-    (fits (one .show-front .last .1 .1 .1 .0) (first one .0), fits (both .show-front2 .last .1 .1 .1 .0) (second both .0))
+same-presets-requires : tie.Need-same-presets-requires
+same-presets-requires c κs =
+    let pre = c .before .before .pre in
+    (pre .0, (pre .1 .0, (pre .0, pre .1 .1)))
 
 returns : tie.Need-returns
-returns c =
-    let both = c .before .before .before .before in
-    let one = both .before .before .before .before in
-    let counted = one .before .before .before in
-    c .same-fronts .ensures
-    ∙ parts-same _ _ _ (counted .before .before .before .pre .0) (counted .lanes .ensures) _ _ _ _ (first one) (second both)
+returns c = c .same-presets .ensures ∙ same-words _ _ _ _
 
 pub equal-words-spec : {M : Type 1} → statement M
-equal-words-spec =
-    tie.close
-    (tie.spec
-    lanes-requires
-    blank-requires
-    slice-aggregate-show-front
-    show-front-requires
-    blank-requires-2
-    slice-aggregate-show-front-2
-    show-front-requires-2
-    slice-aggregate-same-fronts
-    slice-aggregate-same-fronts-2
-    same-fronts-requires
-    returns)
+equal-words-spec = tie.close (tie.spec same-presets-requires returns)

@@ -1,25 +1,106 @@
--- `shown::same_presets` compares kinds, ranks and what the words show.
+-- `shown::same_presets` compares the lane counts, then shows each word at the front of a blank window and compares the fronts.
 -- Assumes nothing.
-use mathlib.Core.Path.{ap, _∙_}
-use Prim.Native.Nat.{ℕ}
-use Rattle.coxeter.proofs.Outcomes.{kinds-differ, ranks-differ, same-rank}
-use Rattle.coxeter.specs.Checks.{wordRefusal}
+use mathlib.Core.Path.{sym, ap₂, _∙_}
+use Rattle.coxeter.specs.Kinds.{kindOf}
+use Rattle.coxeter.specs.Windows.{window}
+use Rattle.coxeter.specs.Calls.{sameWindow}
+use Rattle.coxeter.proofs.Outcomes.{lanes-differ, same-lanes}
+use Rattle.window.proofs.shown.Fronts.{Front, room, front-window, part-room, part-shows}
+use borrow.Author.Needs.{needs}
 use Rattle.window.proofs.shown.same_presets.Statement.{statement}
 use Rattle.window.proofs.shown.same_presets.Tie as tie
 
+lanes-requires : tie.Need-lanes-requires
+lanes-requires c κs = search needs
+
+lanes-requires-2 : tie.Need-lanes-requires-2
+lanes-requires-2 c κs = search needs
+
 returns : tie.Need-returns
-returns c = kinds-differ _ _ _ _ _ _ (c .if1 .taken)
+returns c =
+    let counted = c .before in
+    lanes-differ _ _ _ _ _ _ _ _ (counted .before .lanes .ensures) (counted .lanes2 .ensures) (c .if1 .taken)
+
+blank-requires : tie.Need-blank-requires
+blank-requires c κs = search needs
+
+slice-aggregate-show-front : tie.Need-slice-aggregate-show-front
+slice-aggregate-show-front c = search needs
+
+show-front-requires : tie.Need-show-front-requires
+show-front-requires c κs =
+    let pre = c .before .before .before .before .before .before .before .pre in
+    (pre .0, (pre .1 .0, room _ _ (pre .0) (c .before .blank .result) (c .before .blank .ensures)))
+
+blank-requires-2 : tie.Need-blank-requires-2
+blank-requires-2 c κs = search needs
+
+-- what the first work window holds
+first : (c : tie.After-show-front)
+    → let a = c .before .before .before .before .before .before .before .before .args in
+    Front (a .kind-a) (a .rank-a) (window (kindOf (a .kind-a)) (a .rank-a) (a .a .now)) (c .show-front .last .1 .1 .1 .0)
+first c =
+    let made = c .before .before in
+    front-window _ _ (made .before .before .before .before .before .before .pre .0) _ _ _ (made .blank .ensures) (c .show-front .ensures)
+
+slice-aggregate-show-front-2 : tie.Need-slice-aggregate-show-front-2
+slice-aggregate-show-front-2 c = search needs
+
+show-front-requires-2 : tie.Need-show-front-requires-2
+show-front-requires-2 c κs =
+    let pre = c .before .before .before .before .before .before .before .before .before .before .before .pre in
+    (pre .1 .1 .0, (pre .1 .1 .1, room _ _ (pre .1 .1 .0) (c .before .blank2 .result) (c .before .blank2 .ensures)))
+
+-- and the second
+second : (c : tie.After-show-front2)
+    → let a = c .before .before .before .before .before .before .before .before .before .before .before .before .args in
+    Front (a .kind-b) (a .rank-b) (window (kindOf (a .kind-b)) (a .rank-b) (a .b .now)) (c .show-front2 .last .1 .1 .1 .0)
+second c =
+    let made = c .before .before in
+    front-window _ _ (made .before .before .before .before .before .before .before .before .before .before .pre .1 .1 .0) _ _ _ (made .blank2 .ensures)
+    (c .show-front2 .ensures)
+
+slice-aggregate-same-fronts : tie.Need-slice-aggregate-same-fronts
+slice-aggregate-same-fronts c = search needs
+
+slice-aggregate-same-fronts-2 : tie.Need-slice-aggregate-same-fronts-2
+slice-aggregate-same-fronts-2 c = search needs
+
+same-fronts-requires : tie.Need-same-fronts-requires
+same-fronts-requires c κs =
+    let both = c .before .before .before in
+    let one = both .before .before .before .before in
+    let else = one .before .before .before in
+    let counted = else .before .before in
+    let fits = part-room _ _ _ (counted .before .before .before .pre .0) (counted .lanes .ensures) in
+    (fits (one .show-front .last .1 .1 .1 .0) (first one .0), fits (both .show-front2 .last .1 .1 .1 .0) (second both .0))
 
 returns-2 : tie.Need-returns-2
-returns-2 c = ranks-differ _ _ _ _ _ _ (c .before .if1 .left) (c .if2 .taken)
-
-equal-words-requires : tie.Need-equal-words-requires
-equal-words-requires c κs =
-    let start = c .before .before .before .before in
-    (start .pre .0, (start .pre .1 .0, ap (λ (n : ℕ). wordRefusal n (start .args .b .now)) (c .if2 .left) ∙ start .pre .1 .1))
-
-returns-3 : tie.Need-returns-3
-returns-3 c = same-rank _ _ _ _ _ _ _ (c .before .before .if1 .left) (c .before .if2 .left) (c .equal-words .ensures)
+returns-2 c =
+    let both = c .before .before .before .before in
+    let one = both .before .before .before .before in
+    let else = one .before .before .before in
+    let counted = else .before .before in
+    let pre = counted .before .before .before .pre in
+    let a = counted .lanes .ensures in
+    let b = else .if1 .left ∙ else .before .lanes2 .ensures in
+    same-lanes _ _ _ _ _ _ _ (sym a ∙ b)
+    (c .same-fronts .ensures ∙ ap₂ sameWindow (part-shows _ _ _ (pre .0) a _ _ (first one)) (part-shows _ _ _ (pre .1 .1 .0) b _ _ (second both)))
 
 pub same-presets-spec : {M : Type 1} → statement M
-same-presets-spec = tie.close (tie.spec returns returns-2 equal-words-requires returns-3)
+same-presets-spec =
+    tie.close
+    (tie.spec
+    lanes-requires
+    lanes-requires-2
+    returns
+    blank-requires
+    slice-aggregate-show-front
+    show-front-requires
+    blank-requires-2
+    slice-aggregate-show-front-2
+    show-front-requires-2
+    slice-aggregate-same-fronts
+    slice-aggregate-same-fronts-2
+    same-fronts-requires
+    returns-2)
