@@ -69,6 +69,11 @@ int64_t winnathey_inverse_of_word(uint32_t kind, uint32_t rank, const uint8_t *w
 /* The length of a word's normal form. */
 int64_t winnathey_length_of_word(uint32_t kind, uint32_t rank, const uint8_t *word, size_t word_len);
 
+/* The length of a word's normal form by sort of crossing: plain pairs, pairs against a mirrored lane, mirrored lanes; 0 for a sort that the kind does
+   not count. Answers the total, which is the length. */
+int64_t winnathey_crossings_of_word(uint32_t kind, uint32_t rank, const uint8_t *word, size_t word_len, size_t *plain, size_t *against,
+                                    size_t *mirrored);
+
 /* Whether two presets look alike: as many lanes and the same window, whatever their kinds and ranks. 1 is yes, 0 is no. */
 int64_t winnathey_same(uint32_t kind1, uint32_t rank1, const uint8_t *word1, size_t len1, uint32_t kind2, uint32_t rank2, const uint8_t *word2,
                        size_t len2);
@@ -91,6 +96,10 @@ int64_t winnathey_inverse_of_window(uint32_t kind, uint32_t rank, const int8_t *
 
 /* The length of a window's normal form. */
 int64_t winnathey_length_of_window(uint32_t kind, uint32_t rank, const int8_t *window, size_t window_len);
+
+/* The length of a window's normal form by sort of crossing, as for a word. Answers the total. */
+int64_t winnathey_crossings_of_window(uint32_t kind, uint32_t rank, const int8_t *window, size_t window_len, size_t *plain, size_t *against,
+                                      size_t *mirrored);
 
 /* ---- one rewrite */
 

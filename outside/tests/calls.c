@@ -15,6 +15,7 @@ static int8_t lanes[ROOM];
 static uint8_t bytes[ROOM];
 static uint8_t rule[ROOM];
 static uint64_t fields[ROOM];
+static size_t counts[ROOM];
 
 static int failed;
 static int seen[15]; /* by the refusal's number; none fits is at 0 */
@@ -25,6 +26,7 @@ static void fill(void)
     memset(bytes, FILL, sizeof bytes);
     memset(rule, FILL, sizeof rule);
     memset(fields, FILL, sizeof fields);
+    memset(counts, FILL, sizeof counts);
 }
 
 /* An entry of an output, by the first letter of the output's name. */
@@ -37,6 +39,8 @@ static int64_t entry(char output, int i)
         return bytes[i];
     case 'r':
         return rule[i];
+    case 'c':
+        return (int64_t)counts[i];
     default:
         return (int64_t)fields[i];
     }
@@ -62,7 +66,7 @@ static void told(const char *call, int64_t answer)
         printf("none fits");
     else
         printf("%" PRId64, answer);
-    int written = show("lanes") + show("bytes") + show("rule") + show("fields");
+    int written = show("lanes") + show("bytes") + show("rule") + show("fields") + show("counts");
     printf("\n");
     if (answer >= 0)
         return;
@@ -137,6 +141,11 @@ static void words(void)
     CALL(winnathey_length_of_word(1, 259, w12, 2));
     CALL(winnathey_length_of_word(1, 2, too_long, 4097));
 
+    CALL(winnathey_crossings_of_word(2, 2, w1212, 4, counts, counts + 1, counts + 2));
+    CALL(winnathey_crossings_of_word(1, 2, NULL, 0, counts, counts + 1, counts + 2));
+    CALL(winnathey_crossings_of_word(1, 259, w12, 2, counts, counts + 1, counts + 2));
+    CALL(winnathey_crossings_of_word(1, 2, w9, 1, counts, counts + 1, counts + 2));
+
     CALL(winnathey_same(1, 2, w121, 3, 1, 2, w212, 3));
     CALL(winnathey_same(1, 2, w1, 1, 1, 2, w2, 1));
     CALL(winnathey_same(2, 4, NULL, 0, 3, 4, NULL, 0));
@@ -178,6 +187,11 @@ static void windows(void)
     CALL(winnathey_length_of_window(1, 2, NULL, 0));
     CALL(winnathey_length_of_window(3, 4, odd, 4));
     CALL(winnathey_length_of_window(0, 0, NULL, 0));
+
+    CALL(winnathey_crossings_of_window(3, 5, d5, 5, counts, counts + 1, counts + 2));
+    CALL(winnathey_crossings_of_window(1, 2, a2, 3, counts, counts + 1, counts + 2));
+    CALL(winnathey_crossings_of_window(3, 4, odd, 4, counts, counts + 1, counts + 2));
+    CALL(winnathey_crossings_of_window(258, 2, b2, 2, counts, counts + 1, counts + 2));
 }
 
 static void rewrites(void)

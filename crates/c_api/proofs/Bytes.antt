@@ -19,14 +19,16 @@ use borrow.Author.Tests.{eq-eqb, ne-eqb, lt-ltb, le-ltb}
 use Rattle.coxeter.specs.declared.Answer.{Answer}
 use Rattle.coxeter.specs.Kinds.{Kind, A, B, D, pick, kindOf, least, greatest}
 use Rattle.coxeter.specs.Checks.{check, _then_, wrongKind, wrongRank, rankRefusal, wordRefusal, windowRefusal}
-use Rattle.coxeter.specs.Calls.{verdictOf, presetsEqual, handsBack, choice}
+use Rattle.coxeter.specs.declared.Counted.{Counted}
+use Rattle.coxeter.specs.Length.{Crossings}
+use Rattle.coxeter.specs.Calls.{countedOf, crossingsOfWindow, crossingsOfWord, verdictOf, presetsEqual, handsBack, choice}
 use Rattle.coxeter.specs.Calls.{Outcome, answerOf, written, writes, windowOfWord, productOfWindows, inverseOfWindow, normalFormOfWindow, normalFormOfWord, productOfWords, inverseOfWord, lengthOfWindow, lengthOfWord}
 use Rattle.coxeter.proofs.Refusals.{then-assoc}
 use Rattle.rules.specs.Calls.{Step, step}
 use Rattle.book_format.specs.Books.{bookRefusal, appendRefusal}
 use Rattle.book_format.specs.Calls.{appending}
-use Rattle.c_api.specs.Calls.{numberOf, rewritingBy, rewriting}
-use Rattle.c_api.proofs.Lengths.{answered}
+use Rattle.c_api.specs.Calls.{numberOf, rewritingBy, rewriting, sorting, Sorted}
+use Rattle.c_api.proofs.Lengths.{answered, i64-back}
 
 -- ---- kinds and ranks
 
@@ -118,6 +120,10 @@ answer-alike : (r q s t a b : ℕ) → q ≡ r → (r ≡ 0 → ⊥) → answerO
 unfolding answerOf
 answer-alike r q s t a b e f = rw (e, ne-eqb r 0 f) (rw (ne-eqb r 0 f) refl)
 
+counted-alike : (r q s t : ℕ) (a b : Crossings) → q ≡ r → (r ≡ 0 → ⊥) → countedOf (q then s) a ≡ countedOf (r then t) b
+unfolding countedOf
+counted-alike r q s t a b e f = rw (e, ne-eqb r 0 f) (rw (ne-eqb r 0 f) refl)
+
 verdict-refused-alike : (r q : ℕ) (a b : Bool) → q ≡ r → (r ≡ 0 → ⊥) → verdictOf q a ≡ verdictOf r b
 unfolding verdictOf
 verdict-refused-alike r q a b e f = rw (e, ne-eqb r 0 f) refl
@@ -144,6 +150,10 @@ pub lengthOfWord-refusable : (u : List ℕ) → Refusable (λ k n. lengthOfWord 
 unfolding lengthOfWord
 lengthOfWord-refusable u = record { alike = λ k n l m e f. answer-alike (rankRefusal k n) (rankRefusal l m) _ _ _ _ e f }
 
+pub crossingsOfWord-refusable : (u : List ℕ) → Refusable (λ k n. crossingsOfWord k n u)
+unfolding crossingsOfWord
+crossingsOfWord-refusable u = record { alike = λ k n l m e f. counted-alike (rankRefusal k n) (rankRefusal l m) _ _ _ _ e f }
+
 pub normalFormOfWindow-refusable : (w : List ℤ) (out : List ℕ) → Refusable (λ k n. normalFormOfWindow k n w out)
 unfolding normalFormOfWindow
 normalFormOfWindow-refusable w out = record { alike = λ k n l m e f. writes-alike 0 (rankRefusal k n) (rankRefusal l m) _ _ _ _ out e f }
@@ -159,6 +169,10 @@ inverseOfWindow-refusable w out = record { alike = λ k n l m e f. writes-alike 
 pub lengthOfWindow-refusable : (w : List ℤ) → Refusable (λ k n. lengthOfWindow k n w)
 unfolding lengthOfWindow
 lengthOfWindow-refusable w = record { alike = λ k n l m e f. answer-alike (rankRefusal k n) (rankRefusal l m) _ _ _ _ e f }
+
+pub crossingsOfWindow-refusable : (w : List ℤ) → Refusable (λ k n. crossingsOfWindow k n w)
+unfolding crossingsOfWindow
+crossingsOfWindow-refusable w = record { alike = λ k n l m e f. counted-alike (rankRefusal k n) (rankRefusal l m) _ _ _ _ e f }
 
 pub appending-refusable : (b u out : List ℕ) → Refusable (λ k n. appending b k n u out)
 unfolding appending appendRefusal
@@ -218,3 +232,9 @@ pub yielded : {X : Type 0} {F : ℕ → ℕ → Outcome X} → Refusable F → (
 yielded {X} r k n l m z a after e f h q b =
     let same = as-bytes r k n l m e f in
     (answered z a _ h q (b .0 ∙ ap (λ (o : Outcome X). o .answer) same), b .1 ∙ ap (λ (o : Outcome X). o .bytes) same)
+
+-- and a call that counts answered a, which was sorted
+pub sorted-as-bytes : {F : ℕ → ℕ → Counted} → Refusable F → (k n l m : ℕ) (a : Counted) (p q r : ℕ) (z : ℤ) (p′ q′ r′ : ℕ) → l ≡ byteOf k → m ≡ byteOf n
+    → mag z < 9223372036854775808 → Sorted (sorting a p q r) z p′ q′ r′ → a ≡ F l m → Sorted (sorting (F k n) p q r) (toZ w64 (ofZ w64 z)) p′ q′ r′
+sorted-as-bytes {F} f k n l m a p q r z p′ q′ r′ e g h s b =
+    rw (← (b ∙ as-bytes f k n l m e g), i64-back z h) s

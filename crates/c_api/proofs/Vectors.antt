@@ -8,6 +8,7 @@ use lib.IntN.{ℤ, pos, negsuc}
 use Rattle.coxeter.specs.declared.Answer.the-variants as answer
 use Rattle.coxeter.specs.declared.Verdict.the-variants as verdict
 use Rattle.coxeter.specs.declared.Choice.the-variants as choices
+use Rattle.coxeter.specs.declared.Counted.the-variants as counted
 use Rattle.coxeter.specs.Kinds.{up, kindOf}
 use Rattle.coxeter.specs.Checks.{wrongKind, wrongRank, tooLong, wrongLetter, tooShort, rankRefusal, wordRefusal}
 use Rattle.coxeter.specs.NormalForm.{down, rise, fall, block}
@@ -17,7 +18,7 @@ use Rattle.rules.specs.Rules.{each, family1, family2, family3, family4, familie
 use Rattle.rules.specs.Calls.{pastEnd, refusedStep, usedStep, stepBy, step}
 use Rattle.book_format.specs.declared.Opened.the-variants as opened
 use Rattle.book_format.specs.declared.Preset.the-variants as preset
-use Rattle.c_api.specs.Calls.{refused, numberOf, verdictNumber, choiceNumber, openedNumber, Rewriting, unwritten, rewritingBy, rewriting, presetNumbers}
+use Rattle.c_api.specs.Calls.{refused, numberOf, verdictNumber, choiceNumber, openedNumber, Sorting, sorting, Rewriting, unwritten, rewritingBy, rewriting, presetNumbers}
 
 -- the numbers, each beside what it is
 pub numbers : List (ℤ × ℤ)
@@ -38,6 +39,17 @@ numbers =
 pub numbers-agree : Agree numbers
 unfolding numbers refused numberOf verdictNumber choiceNumber openedNumber
 numbers-agree = refl
+
+-- lengths by sort: the number is the total, and a refusal leaves the three
+pub sortings : List (Sorting × Sorting)
+sortings =
+    (sorting (counted.Crossings 1 2 4) 9 9 9, record { number = pos 7; plain = 1; against = 2; mirrored = 4 })
+    ∷ (sorting (counted.Refused 8) 7 8 9, record { number = negsuc 7; plain = 7; against = 8; mirrored = 9 })
+    ∷ []
+
+pub sortings-agree : Agree sortings
+unfolding sortings refused sorting
+sortings-agree = refl
 
 -- one rewrite: D4's 3 4, B4's 3 4, which no rule fits, and D4's again with too short a rule, too short an output, and a place past the end
 pub rewritings : List (Rewriting × Rewriting)

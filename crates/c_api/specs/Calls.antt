@@ -1,7 +1,7 @@
 -- What a call for C answers and writes, from what the layers' calls do: 0 or more is the answer, -k is refusal k.
 use mathlib.Core.Path.{_≡_}
 use mathlib.Core.List.{List, [], _∷_}
-use Prim.Native.Nat.{ℕ}
+use Prim.Native.Nat.{ℕ, _+_}
 use lib.IntN.{ℤ, pos, negℤ}
 use lib.ListN.{drop}
 use Rattle.coxeter.specs.declared.Answer.{Answer}
@@ -10,6 +10,8 @@ use Rattle.coxeter.specs.declared.Verdict.{Verdict}
 use Rattle.coxeter.specs.declared.Verdict.the-variants as verdict
 use Rattle.coxeter.specs.declared.Choice.{Choice}
 use Rattle.coxeter.specs.declared.Choice.the-variants as choices
+use Rattle.coxeter.specs.declared.Counted.{Counted}
+use Rattle.coxeter.specs.declared.Counted.the-variants as counted
 use Rattle.coxeter.specs.Kinds.{pick}
 use Rattle.coxeter.specs.Checks.{tooShort}
 use Rattle.coxeter.specs.Calls.{Outcome, writes}
@@ -45,6 +47,23 @@ unfoldable pub choiceNumber : Choice → ℤ
 choiceNumber choices.First = pos 1
 choiceNumber choices.Second = pos 2
 choiceNumber choices.Neither = pos 0
+
+-- the number of a length by sort, and the three counts afterwards
+pub record Sorting : Type 0 where
+  pub number : ℤ
+  pub plain : ℕ
+  pub against : ℕ
+  pub mirrored : ℕ
+
+-- the number that was answered, and the three counts afterwards, are those of the definition
+abbrev pub Sorted : Sorting → ℤ → ℕ → ℕ → ℕ → Type 0
+Sorted s z plain against mirrored = (z ≡ s .number) × (plain ≡ s .plain) × (against ≡ s .against) × (mirrored ≡ s .mirrored)
+
+-- "A length .. is to come as three counts: plain pairs, pairs against a mirrored lane, mirrored lanes" (document 02, request 3): the number is their
+-- total, and a refusal leaves the three as they were
+unfoldable pub sorting : Counted → ℕ → ℕ → ℕ → Sorting
+sorting (counted.Crossings a b c) plain against mirrored = record { number = pos (a + b + c); plain = a; against = b; mirrored = c }
+sorting (counted.Refused k) plain against mirrored = record { number = refused k; plain = plain; against = against; mirrored = mirrored }
 
 -- the number of one rewrite, and the bytes of its two outputs afterwards
 pub record Rewriting : Type 0 where

@@ -1,12 +1,14 @@
 // The numbers that the calls for C answer.
 use window::Answer;
+use window::Counted;
 ghost use mathlib.Core.Path.{_≡_};
-ghost use Prim.Native.Nat.{ℕ, _≤_};
+ghost use Prim.Native.Nat.{ℕ, _+_, _≤_};
 ghost use lib.Dec.{ltb};
 ghost use lib.IntN.{pos};
 ghost use Rattle.coxeter.specs.Kinds.{pick};
 ghost use Rattle.coxeter.specs.declared.Answer.the-variants.{Length};
-ghost use Rattle.c_api.specs.Calls.{refused, numberOf};
+ghost use Rattle.coxeter.specs.declared.Counted.the-variants.{Crossings};
+ghost use Rattle.c_api.specs.Calls.{refused, numberOf, sorting, Sorted};
 
 // A kind or a rank as the calls below take it. What is no byte becomes 0, which is no kind and no rank either.
 pub(crate) fn byte(x: u32) -> u8
@@ -41,5 +43,32 @@ pub(crate) fn number(answer: Answer) -> i64
     match answer {
         Answer::Length(l) => size(l),
         Answer::Refused(k) => refusal(k),
+    }
+}
+
+// Writes the three counts of a length by sort and answers their total, which is at most the length of the longest book; a refusal leaves the three
+// as they were.
+pub(crate) fn sorted(
+    counted: Counted,
+    plain: &mut usize,
+    against: &mut usize,
+    mirrored: &mut usize,
+) -> i64
+    requires { ⌜ ((a b c : ℕ) → counted ≡ Crossings a b c → a + b + c ≤ 65535) ⌝ }
+    ensures { λ r. ⌜ Sorted (sorting counted (now (plain .entry)) (now (against .entry)) (now (mirrored .entry))) r
+        (now (plain .exit)) (now (against .exit)) (now (mirrored .exit)) ⌝ }
+{
+    match counted {
+        Counted::Crossings {
+            inversions,
+            negative_sum_pairs,
+            negatives,
+        } => {
+            *plain = inversions;
+            *against = negative_sum_pairs;
+            *mirrored = negatives;
+            size(inversions + negative_sum_pairs + negatives)
+        }
+        Counted::Refused(k) => refusal(k),
     }
 }

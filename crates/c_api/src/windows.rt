@@ -1,9 +1,10 @@
 // Calls on windows.
 use crate::numbers::byte;
 use crate::numbers::number;
+use crate::numbers::sorted;
 ghost use mathlib.Core.Path.{_≡_};
-ghost use Rattle.coxeter.specs.Calls.{productOfWindows, inverseOfWindow, normalFormOfWindow, lengthOfWindow};
-ghost use Rattle.c_api.specs.Calls.{Numbered, numberOf};
+ghost use Rattle.coxeter.specs.Calls.{productOfWindows, inverseOfWindow, normalFormOfWindow, lengthOfWindow, crossingsOfWindow};
+ghost use Rattle.c_api.specs.Calls.{Numbered, numberOf, sorting, Sorted};
 
 // The normal form of a window, written to the front of `out`. Answers its length.
 #[no_mangle]
@@ -51,4 +52,26 @@ pub extern "C" fn winnathey_length_of_window(kind: u32, rank: u32, window: &[i8]
     ensures { λ r. ⌜ r ≡ numberOf (lengthOfWindow kind rank (now (window .entry))) ⌝ }
 {
     number(window::length_of_window(byte(kind), byte(rank), window))
+}
+
+// The length of a window's normal form by sort: inversions go to `plain`, negative sum pairs to `against`, negative entries to `mirrored`. Answers their
+// total.
+#[no_mangle]
+pub extern "C" fn winnathey_crossings_of_window(
+    kind: u32,
+    rank: u32,
+    window: &[i8],
+    plain: &mut usize,
+    against: &mut usize,
+    mirrored: &mut usize,
+) -> i64
+    ensures { λ r. ⌜ Sorted (sorting (crossingsOfWindow kind rank (now (window .entry))) (now (plain .entry)) (now (against .entry)) (now (mirrored .entry)))
+        r (now (plain .exit)) (now (against .exit)) (now (mirrored .exit)) ⌝ }
+{
+    sorted(
+        window::crossings_of_window(byte(kind), byte(rank), window),
+        plain,
+        against,
+        mirrored,
+    )
 }

@@ -2,12 +2,13 @@
 use crate::numbers::byte;
 use crate::numbers::number;
 use crate::numbers::refusal;
+use crate::numbers::sorted;
 use window::Choice;
 use window::Verdict;
 ghost use mathlib.Core.Path.{_≡_};
 ghost use Rattle.coxeter.specs.Dictionary.{shortlex};
-ghost use Rattle.coxeter.specs.Calls.{windowOfWord, normalFormOfWord, productOfWords, inverseOfWord, lengthOfWord, presetsEqual, handsBack, choice};
-ghost use Rattle.c_api.specs.Calls.{Numbered, numberOf, verdictNumber, choiceNumber};
+ghost use Rattle.coxeter.specs.Calls.{windowOfWord, normalFormOfWord, productOfWords, inverseOfWord, lengthOfWord, crossingsOfWord, presetsEqual, handsBack, choice};
+ghost use Rattle.c_api.specs.Calls.{Numbered, numberOf, verdictNumber, choiceNumber, sorting, Sorted};
 
 // The window of a word, written to the front of `out`. Answers the number of its entries.
 #[no_mangle]
@@ -63,6 +64,28 @@ pub extern "C" fn winnathey_length_of_word(kind: u32, rank: u32, word: &[u8]) ->
     ensures { λ r. ⌜ r ≡ numberOf (lengthOfWord kind rank (now (word .entry))) ⌝ }
 {
     number(window::length_of_word(byte(kind), byte(rank), word))
+}
+
+// The length of a word's normal form by sort: inversions go to `plain`, negative sum pairs to `against`, negative entries to `mirrored`. Answers their
+// total.
+#[no_mangle]
+pub extern "C" fn winnathey_crossings_of_word(
+    kind: u32,
+    rank: u32,
+    word: &[u8],
+    plain: &mut usize,
+    against: &mut usize,
+    mirrored: &mut usize,
+) -> i64
+    ensures { λ r. ⌜ Sorted (sorting (crossingsOfWord kind rank (now (word .entry))) (now (plain .entry)) (now (against .entry)) (now (mirrored .entry)))
+        r (now (plain .exit)) (now (against .exit)) (now (mirrored .exit)) ⌝ }
+{
+    sorted(
+        window::crossings_of_word(byte(kind), byte(rank), word),
+        plain,
+        against,
+        mirrored,
+    )
 }
 
 // Whether two presets show the same window, whatever their kinds and ranks: 1 is yes, 0 is no.

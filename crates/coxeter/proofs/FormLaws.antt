@@ -7,8 +7,10 @@ use Prim.Native.Nat.{ℕ, suc, _+_, _≤_}
 use native.Mathlib.Omega.{arith}
 use lib.IntN.{ℤ}
 use lib.ListN.{length, length-append}
-use borrow.Author.Tests.{eq-eqb}
+use borrow.Author.Tests.{eq-eqb, ne-eqb}
+use native.Mathlib.Decide.{ℕ-discrete}
 use Rattle.coxeter.specs.declared.Answer.the-variants.{Length}
+use Rattle.coxeter.specs.declared.Counted.the-variants as counted
 use Rattle.coxeter.proofs.Levels.{Accepted, window-accepted, accepted-of-refusal}
 use Rattle.coxeter.proofs.Products.{window-append}
 use Rattle.coxeter.proofs.Inverses.{window-reverse}
@@ -18,10 +20,10 @@ use Rattle.coxeter.proofs.Lengths.{blockLength, length-block, length-no
 use Rattle.coxeter.proofs.GreatestLengths.{greatestIndices, indices-greatest, windowLength-of-greatest}
 use Rattle.coxeter.specs.Kinds.{Kind, kindOf, least}
 use Rattle.coxeter.specs.Windows.{window, product, inverse}
-use Rattle.coxeter.specs.Length.{windowLength, greatestLength}
+use Rattle.coxeter.specs.Length.{Crossings, total, windowLength, greatestLength}
 use Rattle.coxeter.specs.Checks.{rankRefusal, wordRefusal, windowRefusal}
 use Rattle.coxeter.specs.NormalForm.{block, blocks, Indices, none, level, levels, normalForm, wordNormalForm}
-use Rattle.coxeter.specs.Calls.{answerOf, lengthOfWindow, lengthOfWord}
+use Rattle.coxeter.specs.Calls.{answerOf, countedOf, lengthOfWindow, lengthOfWord, crossingsOfWindow, crossingsOfWord}
 
 -- ---- lengths
 
@@ -39,6 +41,32 @@ unfolding lengthOfWord answerOf
 lengthOfWord-normalForm k n u h g =
     rw (eq-eqb (rankRefusal k n) 0 h, eq-eqb (wordRefusal n u) 0 g)
     (ap Length (sym (length-normalForm (kindOf k) n (window (kindOf k) n u) (window-accepted (kindOf k) n u))))
+
+-- the length is the total of the three counts
+total-of : (r : ℕ) (s : Crossings) (a b c : ℕ) → countedOf r s ≡ counted.Crossings a b c → answerOf r (total s) ≡ Length (a + b + c)
+unfolding answerOf countedOf total
+total-of r s a b c e = elim (ℕ-discrete r 0) [
+  | yes z ↦
+      let q : counted.Crossings (s .inv) (s .nsp) (s .neg) ≡ counted.Crossings a b c = rw (eq-eqb r 0 z) at e in
+      let inv : s .inv ≡ a = cc in
+      let nsp : s .nsp ≡ b = cc in
+      let neg : s .neg ≡ c = cc in
+      rw (eq-eqb r 0 z, inv, nsp, neg)
+  | no f ↦
+      let q : counted.Refused r ≡ counted.Crossings a b c = rw (ne-eqb r 0 f) at e in
+      let y : _≡_ {A = ℕ} 0 1 = cc in
+      absurd (omega arith)
+]
+
+pub crossingsOfWindow-total : (k n : ℕ) (w : List ℤ) (a b c : ℕ) → crossingsOfWindow k n w ≡ counted.Crossings a b c
+    → lengthOfWindow k n w ≡ Length (a + b + c)
+unfolding crossingsOfWindow lengthOfWindow windowLength
+crossingsOfWindow-total k n w a b c e = total-of _ _ a b c e
+
+pub crossingsOfWord-total : (k n : ℕ) (u : List ℕ) (a b c : ℕ) → crossingsOfWord k n u ≡ counted.Crossings a b c
+    → lengthOfWord k n u ≡ Length (a + b + c)
+unfolding crossingsOfWord lengthOfWord windowLength
+crossingsOfWord-total k n u a b c e = total-of _ _ a b c e
 
 -- the greatest length is reached
 pub greatest-reached : (k : Kind) (n : ℕ) → least k ≤ n → windowLength k (window k n (blocks k n 1 (greatestIndices k n))) ≡ greatestLength k n

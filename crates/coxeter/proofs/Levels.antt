@@ -76,7 +76,7 @@ between-without i c (e ∷ w) b d = go (eqb (natAbs e) c) refl (between-without 
     go false q r = let ne : natAbs e ≡ c → ⊥ = eqb-false (natAbs e) c q in (b .0, omega arith, r)
 
 -- distinct sizes out of m values are at most m
-length-le-of-distinct : (i m c : ℕ) (w : List ℤ) → i + m ≡ c → Between i c w → Distinct w → length w ≤ m
+pub length-le-of-distinct : (i m c : ℕ) (w : List ℤ) → i + m ≡ c → Between i c w → Distinct w → length w ≤ m
 length-le-of-distinct i zero c [] q b d = omega arith
 length-le-of-distinct i zero c (e ∷ w) q b d = omega arith
 length-le-of-distinct i (suc m) c w q b d =

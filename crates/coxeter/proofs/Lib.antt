@@ -16,6 +16,7 @@ pub mod Places
 pub mod Inverses
 pub mod Order
 pub mod PairWeights
+pub mod NegativeSums
 pub mod Runs
 pub mod Peeling
 pub mod BlockAction

@@ -14,10 +14,12 @@ use Rattle.coxeter.proofs.Lists.{front-stored}
 use Rattle.coxeter.specs.Kinds.{kindOf, lanes}
 use Rattle.coxeter.specs.Windows.{window}
 use Rattle.coxeter.specs.Checks.{_then_, tooShort, rankRefusal, wordRefusal}
-use Rattle.coxeter.specs.Calls.{Outcome, Yields, answerOf, written, writes, verdictOf, sameWindow, equalWords, samePresets, presetsEqual, handsBack}
+use Rattle.coxeter.specs.Length.{Crossings}
+use Rattle.coxeter.specs.Calls.{Outcome, Yields, answerOf, written, writes, verdictOf, countedOf, sameWindow, equalWords, samePresets, presetsEqual, handsBack}
 use native.Mathlib.Decide.{ℕ-discrete}
 use Rattle.coxeter.specs.declared.Answer.{Answer}
 use Rattle.coxeter.specs.declared.Verdict.the-variants as verdict
+use Rattle.coxeter.specs.declared.Counted.the-variants as counted
 
 -- ---- calls that write
 
@@ -68,6 +70,16 @@ answer-refused q r l e f = rw (← e, ne-eqb r 0 f)
 pub answer-length : (q r l a : ℕ) → r ≡ q → r ≡ 0 → a ≡ l → Length a ≡ answerOf q l
 unfolding answerOf
 answer-length q r l a e z v = rw (← e, eq-eqb r 0 z, v)
+
+-- ---- a length by sort
+
+pub counted-refused : (q r : ℕ) (c : Crossings) → r ≡ q → (r ≡ 0 → ⊥) → counted.Refused r ≡ countedOf q c
+unfolding countedOf
+counted-refused q r c e f = rw (← e, ne-eqb r 0 f)
+
+-- what no check refuses is counted
+pub counted-crossings : (q r : ℕ) (c : Crossings) → r ≡ q → r ≡ 0 → countedOf 0 c ≡ countedOf q c
+counted-crossings q r c e z = ap (λ (x : ℕ). countedOf x c) (sym z ∙ e)
 
 -- ---- the verdict
 

@@ -12,7 +12,7 @@ use lib.Dec.{ltb}
 use lib.IntN.{ℤ, pos, negsuc, negℤ, natAbs}
 use lib.ListN.{length}
 use Rattle.coxeter.specs.Kinds.{Kind, A, B, D, pick}
-use Rattle.coxeter.specs.Length.{later, negative, one, laterThan, inversions, negativeSumPairs, negatives, windowLength}
+use Rattle.coxeter.specs.Length.{later, negative, one, laterThan, inversions, negativeSumPairs, negatives, crossings, total, windowLength}
 use Rattle.coxeter.specs.Checks.{hasSize}
 use Rattle.coxeter.proofs.Levels.{Between, Distinct, Accepted, hasSize-below}
 use Rattle.coxeter.proofs.Sizes.{hasSize-tail, hasSize-head}
@@ -117,15 +117,20 @@ inversions-of-negatives-zero (x ∷ w) h =
     let rest = inversions-of-negatives-zero w (omega arith) in
     omega arith
 
+-- and there is no negative sum pair
+pub negativeSumPairs-of-negatives-zero : (c : ℕ) (w : List ℤ) → Between 1 c w → Distinct w → negatives w ≡ 0 → negativeSumPairs w ≡ 0
+negativeSumPairs-of-negatives-zero c w b d h =
+    omega (arith, inversions-add-negativeSumPairs c w b d, inversions-of-negatives-zero w h)
+
 -- the length of a window by one sum over its pairs
 pub length-by-weights : (k : Kind) (n : ℕ) (w : List ℤ) → Accepted k n w → windowLength k w ≡ pairWeights w + signWeight k w
-unfolding windowLength signWeight
-length-by-weights A n w h = inversions-of-negatives-zero w (h .signs) ∙ sym (add-zero _)
+unfolding windowLength total crossings signWeight
+length-by-weights A n w h = omega (arith, inversions-of-negatives-zero w (h .signs))
 length-by-weights B n w h =
     let pairs = inversions-add-negativeSumPairs (1 + length w) w (h .level .between) (h .level .distinct) in
     omega arith
 length-by-weights D n w h =
-    inversions-add-negativeSumPairs (1 + length w) w (h .level .between) (h .level .distinct) ∙ sym (add-zero _)
+    omega (arith, inversions-add-negativeSumPairs (1 + length w) w (h .level .between) (h .level .distinct))
 
 -- ---- bounds
 

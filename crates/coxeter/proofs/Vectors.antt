@@ -1,7 +1,7 @@
 -- Vectors: each call at a few inputs, with its answer and the bytes of its output afterwards, worked out by hand from document 01. All by computing
 -- the definitions. An output is lent full of 9s, mostly longer than the answer.
 --
--- Sections: how a table is read; the calls that write a window; the calls that write a word; lengths; verdicts; the better word; refusals.
+-- Sections: how a table is read; the calls that write a window; the calls that write a word; lengths; lengths by sort; verdicts; the better word; refusals.
 -- Assumes nothing.
 use mathlib.Core.Path.{_≡_, refl, ap}
 use mathlib.Core.List.{List, [], _∷_, map}
@@ -15,13 +15,15 @@ use Rattle.coxeter.specs.declared.Verdict.{Verdict}
 use Rattle.coxeter.specs.declared.Verdict.the-variants as verdict
 use Rattle.coxeter.specs.declared.Choice.{Choice}
 use Rattle.coxeter.specs.declared.Choice.the-variants as choices
+use Rattle.coxeter.specs.declared.Counted.{Counted}
+use Rattle.coxeter.specs.declared.Counted.the-variants as counted
 use Rattle.coxeter.specs.Kinds.{A, B, D, kindOf, up}
 use Rattle.coxeter.specs.Windows.{from, exchange, negateFirst, exchangeNegate, act, windowFrom, straight, window, at, product, signed, placeFrom, inverse}
-use Rattle.coxeter.specs.Length.{later, negative, one, laterThan, inversions, negativeSumPairs, negatives, windowLength}
+use Rattle.coxeter.specs.Length.{later, negative, one, laterThan, inversions, negativeSumPairs, negatives, crossings, total, windowLength}
 use Rattle.coxeter.specs.Dictionary.{before, shortlex}
 use Rattle.coxeter.specs.Checks.{wrongKind, wrongRank, tooLong, wrongLetter, wrongLanes, hasSize, negativeInA, wrongAt, wrongEntry, odd, oddNegatives, tooShort, rankRefusal, wordRefusal, windowRefusal}
 use Rattle.coxeter.specs.NormalForm.{down, rise, fall, block, without, indexOf, restOf, normalFrom, normalForm, wordNormalForm}
-use Rattle.coxeter.specs.Calls.{answerOf, verdictOf, written, Outcome, writes, windowOfWord, productOfWindows, inverseOfWindow, normalFormOfWindow, normalFormOfWord, productOfWords, inverseOfWord, lengthOfWindow, lengthOfWord, sameEntry, sameWindow, equalWords, samePresets, presetsEqual, handsBack, choice}
+use Rattle.coxeter.specs.Calls.{answerOf, verdictOf, countedOf, written, Outcome, writes, windowOfWord, productOfWindows, inverseOfWindow, normalFormOfWindow, normalFormOfWord, productOfWords, inverseOfWord, lengthOfWindow, lengthOfWord, crossingsOfWindow, crossingsOfWord, sameEntry, sameWindow, equalWords, samePresets, presetsEqual, handsBack, choice}
 
 -- ---- how a table is read
 
@@ -130,10 +132,37 @@ measuring =
 pub measuring-lengths : Agree measuring
 unfolding measuring
     kindOf up from exchange negateFirst act windowFrom straight window
-    later negative one laterThan inversions negativeSumPairs negatives windowLength
+    later negative one laterThan inversions negativeSumPairs negatives crossings total windowLength
     wrongKind wrongRank tooLong wrongLetter wrongLanes hasSize negativeInA wrongAt wrongEntry odd oddNegatives rankRefusal wordRefusal windowRefusal
     answerOf lengthOfWindow lengthOfWord
 measuring-lengths = refl
+
+-- ---- lengths by sort
+
+pub sorting : List (Counted × Counted)
+sorting =
+    -- from a window: in A the inversions only, in D no negative entries
+    (crossingsOfWindow 1 2 (pos 3 ∷ pos 2 ∷ pos 1 ∷ []), counted.Crossings 3 0 0)
+    ∷ (crossingsOfWindow 2 3 (pos 3 ∷ pos 2 ∷ neg 1 ∷ []), counted.Crossings 1 2 1)
+    ∷ (crossingsOfWindow 2 2 (pos 1 ∷ neg 2 ∷ []), counted.Crossings 0 0 1)
+    ∷ (crossingsOfWindow 3 4 (pos 1 ∷ pos 2 ∷ neg 4 ∷ neg 3 ∷ []), counted.Crossings 0 1 0)
+    ∷ (crossingsOfWindow 3 4 (neg 1 ∷ pos 2 ∷ pos 3 ∷ neg 4 ∷ []), counted.Crossings 3 3 0)
+    ∷ (crossingsOfWindow 1 1 (pos 1 ∷ neg 2 ∷ []), counted.Refused 10)
+    -- from a word, whatever its letters
+    ∷ (crossingsOfWord 1 2 (1 ∷ 1 ∷ 2 ∷ []), counted.Crossings 1 0 0)
+    ∷ (crossingsOfWord 2 2 (1 ∷ 2 ∷ 1 ∷ 2 ∷ []), counted.Crossings 1 1 2)
+    ∷ (crossingsOfWord 3 4 (4 ∷ []), counted.Crossings 0 1 0)
+    ∷ (crossingsOfWord 3 3 (1 ∷ []), counted.Refused 6)
+    ∷ (crossingsOfWord 2 2 (3 ∷ []), counted.Refused 8)
+    ∷ []
+
+pub sorting-lengths : Agree sorting
+unfolding sorting
+    kindOf up from exchange negateFirst exchangeNegate act windowFrom straight window
+    later negative one laterThan inversions negativeSumPairs negatives crossings
+    wrongKind wrongRank tooLong wrongLetter wrongLanes hasSize negativeInA wrongAt wrongEntry odd oddNegatives rankRefusal wordRefusal windowRefusal
+    countedOf crossingsOfWindow crossingsOfWord
+sorting-lengths = refl
 
 -- ---- verdicts
 

@@ -13,9 +13,11 @@ use Rattle.coxeter.specs.declared.Verdict.{Verdict}
 use Rattle.coxeter.specs.declared.Verdict.the-variants as verdict
 use Rattle.coxeter.specs.declared.Choice.{Choice}
 use Rattle.coxeter.specs.declared.Choice.the-variants as choices
+use Rattle.coxeter.specs.declared.Counted.{Counted}
+use Rattle.coxeter.specs.declared.Counted.the-variants as counted
 use Rattle.coxeter.specs.Kinds.{Kind, pick, kindOf, lanes}
 use Rattle.coxeter.specs.Windows.{window, product, inverse}
-use Rattle.coxeter.specs.Length.{windowLength}
+use Rattle.coxeter.specs.Length.{Crossings, crossings, windowLength}
 use Rattle.coxeter.specs.NormalForm.{normalForm, wordNormalForm}
 use Rattle.coxeter.specs.Checks.{check, _then_, tooShort, rankRefusal, wordRefusal, windowRefusal}
 
@@ -26,6 +28,10 @@ answerOf r l = pick (eqb r 0) (Length l) (Refused r)
 -- the number and the value of each case of `Verdict`: its refusal, or with none yes or no
 unfoldable pub verdictOf : ℕ → Bool → Verdict
 verdictOf r t = pick (eqb r 0) (pick t verdict.Yes verdict.No) (verdict.Refused r)
+
+-- the number and the values of each case of `Counted`: its refusal, or with none the three counts
+unfoldable pub countedOf : ℕ → Crossings → Counted
+countedOf r c = pick (eqb r 0) (counted.Crossings (c .inv) (c .nsp) (c .neg)) (counted.Refused r)
 
 -- "a refusal writes nothing, and an accepted call writes only the bytes of its answer": `out` after a call that writes `l`
 unfoldable pub written : {X : Type 0} → ℕ → List X → List X → List X
@@ -83,6 +89,14 @@ lengthOfWindow k n w = answerOf (rankRefusal k n then windowRefusal (kindOf k) n
 unfoldable pub lengthOfWord : ℕ → ℕ → List ℕ → Answer
 lengthOfWord k n u =
     answerOf (rankRefusal k n then wordRefusal n u) (windowLength (kindOf k) (window (kindOf k) n u))
+
+-- the length by sort, from a window and from a word (document 02, request 3)
+unfoldable pub crossingsOfWindow : ℕ → ℕ → List ℤ → Counted
+crossingsOfWindow k n w = countedOf (rankRefusal k n then windowRefusal (kindOf k) n w) (crossings (kindOf k) w)
+
+unfoldable pub crossingsOfWord : ℕ → ℕ → List ℕ → Counted
+crossingsOfWord k n u =
+    countedOf (rankRefusal k n then wordRefusal n u) (crossings (kindOf k) (window (kindOf k) n u))
 
 unfoldable pub sameEntry : ℤ → ℤ → Bool
 sameEntry (pos a) (pos b) = eqb a b

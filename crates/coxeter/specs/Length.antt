@@ -41,11 +41,25 @@ unfoldable pub negatives : List ℤ → ℕ
 negatives [] = 0
 negatives (x ∷ w) = one (negative x) + negatives w
 
+-- a length by sort: "plain pairs, pairs against a mirrored lane, mirrored lanes" (document 02, request 3)
+pub record Crossings : Type 0 where
+  pub inv : ℕ
+  pub nsp : ℕ
+  pub neg : ℕ
+
+-- "as 01's three sums define them, with 0 for a sum the kind lacks": A has the first sum, D the first two, B all three
+unfoldable pub crossings : Kind → List ℤ → Crossings
+crossings A w = record { inv = inversions w; nsp = 0; neg = 0 }
+crossings B w = record { inv = inversions w; nsp = negativeSumPairs w; neg = negatives w }
+crossings D w = record { inv = inversions w; nsp = negativeSumPairs w; neg = 0 }
+
+-- "the total of the three"
+unfoldable pub total : Crossings → ℕ
+total c = c .inv + c .nsp + c .neg
+
 -- "The sum is the length of the normal form."
 unfoldable pub windowLength : Kind → List ℤ → ℕ
-windowLength A w = inversions w
-windowLength B w = inversions w + negativeSumPairs w + negatives w
-windowLength D w = inversions w + negativeSumPairs w
+windowLength k w = total (crossings k w)
 
 -- "The greatest lengths are n(n + 1)/2 for A, n × n for B, n(n − 1) for D."
 abbrev pub greatestLength : Kind → ℕ → ℕ

@@ -19,3 +19,13 @@ pub enum Choice {
     Second,
     Neither,
 }
+
+// A length by sort of crossing, or the refusal's number.
+pub enum Counted {
+    Crossings {
+        inversions: usize,
+        negative_sum_pairs: usize,
+        negatives: usize,
+    },
+    Refused(u8),
+}

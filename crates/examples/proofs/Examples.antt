@@ -15,7 +15,7 @@ use lib.ListN.{length}
 use borrow.Author.Tests.{eqb-true, not-true, le-ltb}
 use Rattle.coxeter.specs.Kinds.{Kind, A, B, D, kindOf, least, greatest, up}
 use Rattle.coxeter.specs.Windows.{from, exchange, negateFirst, act, windowFrom, straight, window, signed, placeFrom, inverse}
-use Rattle.coxeter.specs.Length.{later, negative, one, laterThan, inversions, negativeSumPairs, negatives, windowLength}
+use Rattle.coxeter.specs.Length.{later, negative, one, laterThan, inversions, negativeSumPairs, negatives, crossings, total, windowLength}
 use Rattle.coxeter.specs.Relations.{twice, forth, alone, next}
 use Rattle.coxeter.specs.Checks.{wrongKind, wrongRank, tooLong, wrongLetter, wrongLanes, hasSize, negativeInA, wrongAt, wrongEntry, odd, oddNegatives, tooShort, rankRefusal, wordRefusal, windowRefusal}
 use Rattle.coxeter.specs.NormalForm.{down, rise, fall, block, without, indexOf, restOf, normalFrom, normalForm, wordNormalForm}
@@ -192,7 +192,7 @@ allHold (e ∷ es) = holds e && allHold es
 pub all-hold : allHold table ≡ true
 unfolding table allHold holds sameWord reaches usesRule isNone
     up from exchange negateFirst act windowFrom straight window signed placeFrom inverse
-    later negative one laterThan inversions negativeSumPairs negatives windowLength
+    later negative one laterThan inversions negativeSumPairs negatives crossings total windowLength
     kindOf wrongKind wrongRank tooLong wrongLetter wrongLanes hasSize negativeInA wrongAt wrongEntry odd oddNegatives rankRefusal wordRefusal windowRefusal
     down rise fall block without indexOf restOf normalFrom normalForm sameEntry sameWindow
     each family1 family2 family3 family4 families5to7 rules begins fits firstFitting rewritten pastEnd

@@ -1,4 +1,5 @@
-// The length of a window, by one comparison of sizes for each pair of its entries.
+// The length of a window, by one comparison of sizes for each pair of its entries, and the length by sort.
+use coxeter::Counted;
 use refusals::is_negative;
 use refusals::size;
 ghost use mathlib.Core.Path.{_≡_};
@@ -7,8 +8,9 @@ ghost use Prim.Native.Nat.{_+_, _-_, _*_, _≤_};
 ghost use lib.IntN.{natAbs, pos};
 ghost use lib.ListN.{length, take};
 ghost use Rattle.coxeter.specs.Kinds.{B, pick, kindOf, lanes};
-ghost use Rattle.coxeter.specs.Length.{laterThan, inversions, negativeSumPairs, negatives, windowLength};
+ghost use Rattle.coxeter.specs.Length.{laterThan, inversions, negativeSumPairs, negatives, crossings, windowLength};
 ghost use Rattle.coxeter.specs.Checks.{rankRefusal, windowRefusal};
+ghost use Rattle.coxeter.specs.Calls.{countedOf};
 
 fn no_sizes() -> [u8; 64]
     ensures { λ r. ⌜ length r ≡ 64 ⌝ }
@@ -99,6 +101,50 @@ fn negative_entries(w: &[i8]) -> usize
         i += 1;
     }
     sum
+}
+
+// The negative sum pairs of an accepted window with these sizes. Of two entries the one of the smaller size decides, so that a negative entry has a pair with each
+// larger size.
+fn negative_sum_pairs(w: &[i8], sizes: &[u8]) -> usize
+    requires { ⌜ length (now w) ≤ 64 ⌝ }
+    requires { ⌜ windowRefusal B (length (now w)) (now w) ≡ 0 ⌝ }
+    requires { ⌜ now sizes ≡ map natAbs (now w) ⌝ }
+    ensures { λ r. ⌜ r ≡ negativeSumPairs (now (w .entry)) ⌝ }
+{
+    let mut sum: usize = 0;
+    let mut i = 0;
+    while i < w.len() {
+        if is_negative(w[i]) {
+            sum += w.len() - sizes[i] as usize;
+        }
+        i += 1;
+    }
+    sum
+}
+
+// The length of an accepted window by sort. In kind A no entry is negative, so that all pairs are inversions.
+pub(crate) fn crossings_of(kind: u8, n: usize, w: &[i8]) -> Counted
+    requires { ⌜ lanes (kindOf kind) n ≤ 64 ⌝ }
+    requires { ⌜ windowRefusal (kindOf kind) n (now w) ≡ 0 ⌝ }
+    ensures { λ r. ⌜ r ≡ countedOf 0 (crossings (kindOf kind) (now (w .entry))) ⌝ }
+{
+    let m = w.len();
+    let mut work = no_sizes();
+    set_sizes(w, &mut work);
+    let sums = negative_sum_pairs(w, &work[..m]);
+    let inversions = sized_pairs(w, &work[..m]) - sums;
+    if kind == 2 {
+        return Counted::Crossings {
+            inversions: inversions,
+            negative_sum_pairs: sums,
+            negatives: negative_entries(w),
+        };
+    }
+    Counted::Crossings {
+        inversions: inversions,
+        negative_sum_pairs: sums,
+        negatives: 0,
+    }
 }
 
 // The length of an accepted window.

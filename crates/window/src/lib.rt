@@ -15,8 +15,10 @@ mod words;
 
 pub use coxeter::Answer;
 pub use coxeter::Choice;
+pub use coxeter::Counted;
 pub use coxeter::Verdict;
 use forms::write_checked;
+use length::crossings_of;
 use length::length_of;
 use product::inverse_into;
 use product::product_into;
@@ -41,7 +43,7 @@ ghost use mathlib.Core.Path.{_≡_};
 ghost use Rattle.coxeter.specs.Dictionary.{shortlex};
 ghost use Rattle.coxeter.specs.Calls.{Yields, windowOfWord, productOfWindows, inverseOfWindow};
 ghost use Rattle.coxeter.specs.Calls.{normalFormOfWindow, normalFormOfWord, productOfWords, inverseOfWord};
-ghost use Rattle.coxeter.specs.Calls.{lengthOfWindow, lengthOfWord, presetsEqual, handsBack, choice, Better};
+ghost use Rattle.coxeter.specs.Calls.{lengthOfWindow, lengthOfWord, crossingsOfWindow, crossingsOfWord, presetsEqual, handsBack, choice, Better};
 
 // Writes the window of `word` to the front of `out` and answers its length, the number of lanes. Refuses with 5 or 6, then 7 or 8, then 14 where
 // `out` is shorter than the window; `out` is then left as it was.
@@ -167,6 +169,33 @@ pub fn length_of_word(kind: u8, rank: u8, word: &[u8]) -> Answer
         return Answer::Refused(refusal);
     }
     Answer::Length(length_of_shown(kind, rank, word))
+}
+
+// Answers the length of a window's normal form by sort: inversions, negative sum pairs and negative entries, as the kind counts them. Nothing is
+// written. Refuses with 5 or 6, then 9 to 11.
+pub fn crossings_of_window(kind: u8, rank: u8, w: &[i8]) -> Counted
+    ensures { λ r. ⌜ r ≡ crossingsOfWindow kind rank (now (w .entry)) ⌝ }
+{
+    let refusal = ranked_window_refusal(kind, rank, w);
+    if refusal != 0 {
+        return Counted::Refused(refusal);
+    }
+    let n = rank as usize;
+    crossings_of(kind, n, w)
+}
+
+// Answers the length of a word's normal form by sort. Refuses with 5 or 6, then 7 or 8.
+pub fn crossings_of_word(kind: u8, rank: u8, word: &[u8]) -> Counted
+    ensures { λ r. ⌜ r ≡ crossingsOfWord kind rank (now (word .entry)) ⌝ }
+{
+    let refusal = preset_refusal(kind, rank, word);
+    if refusal != 0 {
+        return Counted::Refused(refusal);
+    }
+    let n = rank as usize;
+    let m = lanes(kind, rank);
+    let work = shown(kind, rank, word);
+    crossings_of(kind, n, &work[..m])
 }
 
 // Answers whether two presets show the same. Refuses with 5 or 6, then 7 or 8 for the first preset, and then the same for the second. Accepted

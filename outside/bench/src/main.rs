@@ -53,6 +53,7 @@ struct Outputs {
     bytes: Vec<u8>,
     rule: [u8; 3],
     fields: Vec<u64>,
+    counts: [usize; 3],
 }
 
 /// The time of one call in nanoseconds, by its table, row and column.
@@ -183,7 +184,13 @@ fn full_book(random: &mut Random, letters: usize, left_out: usize) -> Vec<u8> {
 
 fn main() {
     let filter = std::env::args().nth(1).unwrap_or_default();
-    let outputs = Outputs { lanes: vec![0; 32], bytes: vec![0; 65535], rule: [0; 3], fields: vec![0; 5 * 10_922] };
+    let outputs = Outputs {
+        lanes: vec![0; 32],
+        bytes: vec![0; 65535],
+        rule: [0; 3],
+        fields: vec![0; 5 * 10_922],
+        counts: [0; 3],
+    };
     let mut bench = Bench { filter, outputs, cells: Vec::new() };
     let mut random = Random(2026);
 
@@ -237,6 +244,13 @@ fn words(bench: &mut Bench, random: &mut Random, kind: u32, rank: u32, rig: &str
             |k, _| plain::length_of_word(kind, rank, word(k)),
         );
         bench.cell(
+            "length of a word by sort",
+            rig,
+            &column,
+            |k, out| rattle::crossings_of_word(kind, rank, word(k), &mut out.counts),
+            |k, out| plain::crossings_of_word(kind, rank, word(k), &mut out.counts),
+        );
+        bench.cell(
             "product of two words",
             rig,
             &column,
@@ -285,6 +299,13 @@ fn windows(bench: &mut Bench, random: &mut Random, kind: u32, rank: u32, rig: &s
         "length",
         |k, _| rattle::length_of_window(kind, rank, window(k)),
         |k, _| plain::length_of_window(kind, rank, window(k)),
+    );
+    bench.cell(
+        call,
+        rig,
+        "length by sort",
+        |k, out| rattle::crossings_of_window(kind, rank, window(k), &mut out.counts),
+        |k, out| plain::crossings_of_window(kind, rank, window(k), &mut out.counts),
     );
     bench.cell(
         call,

@@ -50,6 +50,7 @@ pub fn windows(sides: &mut Sides) {
                 let length = sides.each_length(|sides, out| sides.normal_form_of_window(kind, rank, &window, out));
                 let form = plain_form(kind, rank, &window);
                 assert_eq!(length, sides.length_of_window(kind, rank, &window));
+                assert_eq!(length, sides.crossings_of_window(kind, rank, &window));
                 sides.inverse_of_window(kind, rank, &window, window.len());
                 // And back: the window of the normal form is the window asked for.
                 sides.window_of_word(kind, rank, &form, window.len());
@@ -73,6 +74,7 @@ pub fn lists(sides: &mut Sides) {
         lists_over(&values, m as usize, &mut |window| {
             sides.normal_form_of_window(kind, rank, window, 16);
             sides.length_of_window(kind, rank, window);
+            sides.crossings_of_window(kind, rank, window);
             sides.inverse_of_window(kind, rank, window, window.len());
             sides.product_of_windows(kind, rank, window, window, window.len());
         });
@@ -113,6 +115,7 @@ pub fn words(sides: &mut Sides) {
 fn one_word(sides: &mut Sides, kind: u32, rank: u32, word: &[u8]) {
     sides.window_of_word(kind, rank, word, lanes(kind, rank));
     sides.length_of_word(kind, rank, word);
+    sides.crossings_of_word(kind, rank, word);
     let length = sides.normal_form_of_word(kind, rank, word, 8);
     let form = sides.bytes(length).to_vec();
     if length >= 0 {
@@ -158,7 +161,8 @@ pub fn pairs_of_words(sides: &mut Sides) {
 
 /// All pairs of short words across kinds and ranks.
 pub fn pairs_across(sides: &mut Sides) {
-    let rigs = [(A, 1, 4), (A, 2, 4), (A, 3, 4), (A, 4, 3), (B, 2, 4), (B, 3, 4), (B, 4, 3), (B, 5, 2), (D, 4, 3), (D, 5, 2)];
+    let rigs =
+        [(A, 1, 4), (A, 2, 4), (A, 3, 4), (A, 4, 3), (B, 2, 4), (B, 3, 4), (B, 4, 3), (B, 5, 2), (D, 4, 3), (D, 5, 2)];
     let presets: Vec<(u32, u32, Vec<u8>)> = rigs
         .into_iter()
         .flat_map(|(kind, rank, most)| {

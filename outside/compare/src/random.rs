@@ -69,9 +69,11 @@ fn words_and_windows(sides: &mut Sides, random: &mut Random, call: usize) {
         }
         7 => {
             sides.length_of_word(kind, rank, &word);
+            sides.crossings_of_word(kind, rank, &word);
         }
         _ => {
             sides.length_of_window(kind, rank, &window);
+            sides.crossings_of_window(kind, rank, &window);
         }
     }
 }

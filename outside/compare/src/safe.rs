@@ -1,6 +1,6 @@
 //! The safe Rust functions with the parameters and the answers of the C interface: the same number, and in the outputs
 //! what the safe function wrote or returned. None where it cannot be called so, as with a kind that is no byte.
-use winnathey::{Kind, Preset, Refusal, Rewrite, raw};
+use winnathey::{Crossings, Kind, Preset, Refusal, Rewrite, raw};
 
 /// A kind and a rank that are bytes.
 fn rig(kind: u32, rank: u32) -> Option<(Kind, u8)> {
@@ -52,6 +52,21 @@ pub fn length_of_word(kind: u32, rank: u32, word: &[u8]) -> Option<i64> {
 
 pub fn length_of_window(kind: u32, rank: u32, window: &[i8]) -> Option<i64> {
     rig(kind, rank).map(|(kind, rank)| coded(winnathey::length_of_window(kind, rank, window)))
+}
+
+fn sorted(answer: Result<Crossings, Refusal>, counts: &mut [usize; 3]) -> i64 {
+    if let Ok(Crossings { plain, against, mirrored }) = answer {
+        *counts = [plain, against, mirrored];
+    }
+    coded(answer.map(|crossings| crossings.total()))
+}
+
+pub fn crossings_of_word(kind: u32, rank: u32, word: &[u8], counts: &mut [usize; 3]) -> Option<i64> {
+    rig(kind, rank).map(|(kind, rank)| sorted(winnathey::crossings_of_word(kind, rank, word), counts))
+}
+
+pub fn crossings_of_window(kind: u32, rank: u32, window: &[i8], counts: &mut [usize; 3]) -> Option<i64> {
+    rig(kind, rank).map(|(kind, rank)| sorted(winnathey::crossings_of_window(kind, rank, window), counts))
 }
 
 pub fn same(kind1: u32, rank1: u32, word1: &[u8], kind2: u32, rank2: u32, word2: &[u8]) -> Option<i64> {

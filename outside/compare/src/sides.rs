@@ -29,6 +29,12 @@ impl Fill for u64 {
     }
 }
 
+impl Fill for usize {
+    fn fill(at: usize) -> usize {
+        u64::fill(at) as usize
+    }
+}
+
 /// An output inside a longer filled list.
 struct Output<T> {
     all: Vec<T>,
@@ -62,11 +68,18 @@ pub struct Side {
     rule: Output<u8>,
     lanes: Output<i8>,
     fields: Output<u64>,
+    counts: Output<usize>,
 }
 
 impl Side {
     fn new() -> Side {
-        Side { bytes: Output::new(), rule: Output::new(), lanes: Output::new(), fields: Output::new() }
+        Side {
+            bytes: Output::new(),
+            rule: Output::new(),
+            lanes: Output::new(),
+            fields: Output::new(),
+            counts: Output::new(),
+        }
     }
 }
 
@@ -88,14 +101,19 @@ pub struct Sides {
 /// Room for the answer of any call on words and windows.
 pub const ROOM: usize = 4200;
 
+/// An output as a call takes it: a slice, or an array where its length is fixed.
+fn fit<'a, T, O: TryFrom<&'a mut [T]>>(output: &'a mut [T]) -> O {
+    output.try_into().unwrap_or_else(|_| panic!("the output has another length"))
+}
+
 macro_rules! compared {
     ($self:ident, $call:ident, ($($arg:expr),*), $($out:ident: $length:expr => $written:expr),*) => {{
-        let answer = rattle::$call($($arg,)* $($self.rattle.$out.filled($length)),*);
-        let expected = plain::$call($($arg,)* $($self.plain.$out.filled($length)),*);
+        let answer = rattle::$call($($arg,)* $(fit($self.rattle.$out.filled($length))),*);
+        let expected = plain::$call($($arg,)* $(fit($self.plain.$out.filled($length))),*);
         let outputs = true $(&& $self.rattle.$out.all == $self.plain.$out.all)*;
         // An accepted call writes the bytes of its answer and nothing else, any other call nothing.
         let kept = true $(&& $self.rattle.$out.kept(if answer < 0 { 0 } else { $written(answer) }))*;
-        let safe = safe::$call($($arg,)* $($self.safe.$out.filled($length)),*);
+        let safe = safe::$call($($arg,)* $(fit($self.safe.$out.filled($length))),*);
         $self.safe_calls += u64::from(safe.is_some());
         let safely = safe.is_none_or(|safe| safe == answer $(&& $self.safe.$out.all == $self.rattle.$out.all)*);
         $self.tally(answer);
@@ -207,6 +225,14 @@ impl Sides {
 
     pub fn length_of_window(&mut self, kind: u32, rank: u32, window: &[i8]) -> i64 {
         compared!(self, length_of_window, (kind, rank, window),)
+    }
+
+    pub fn crossings_of_word(&mut self, kind: u32, rank: u32, word: &[u8]) -> i64 {
+        compared!(self, crossings_of_word, (kind, rank, word), counts: 3 => |_| 3)
+    }
+
+    pub fn crossings_of_window(&mut self, kind: u32, rank: u32, window: &[i8]) -> i64 {
+        compared!(self, crossings_of_window, (kind, rank, window), counts: 3 => |_| 3)
     }
 
     pub fn same(&mut self, first: (u32, u32, &[u8]), second: (u32, u32, &[u8])) -> i64 {

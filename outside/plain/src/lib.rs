@@ -136,6 +136,26 @@ pub fn length_of_window(kind: u32, rank: u32, window: &[i8]) -> i64 {
     })())
 }
 
+/// The length by sort: plain pairs, pairs against a mirrored lane, mirrored lanes. Answers the total.
+pub fn crossings_of_word(kind: u32, rank: u32, word: &[u8], counts: &mut [usize; 3]) -> i64 {
+    coded((|| {
+        let rank = check_preset(kind, rank, word)?;
+        let mut window = Window::straight(lanes(kind, rank));
+        window.apply(kind, word);
+        *counts = window::crossings(kind, window.entries());
+        Ok(counts.iter().sum())
+    })())
+}
+
+pub fn crossings_of_window(kind: u32, rank: u32, window: &[i8], counts: &mut [usize; 3]) -> i64 {
+    coded((|| {
+        let rank = check_rank(kind, rank)?;
+        check_window(kind, rank, window)?;
+        *counts = window::crossings(kind, window);
+        Ok(counts.iter().sum())
+    })())
+}
+
 /// 1 if the two presets have as many lanes and show the same, whatever their kinds, 0 if not.
 pub fn same(kind1: u32, rank1: u32, word1: &[u8], kind2: u32, rank2: u32, word2: &[u8]) -> i64 {
     coded((|| {

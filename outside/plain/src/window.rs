@@ -92,7 +92,26 @@ fn place(entry: i8) -> u8 {
     entry as u8
 }
 
-/// The three sums.
+/// The three sums, each for itself, with 0 for one that the kind lacks.
+pub(crate) fn crossings(kind: u32, w: &[i8]) -> [usize; 3] {
+    let (mut plain, mut against) = (0, 0);
+    let mut rest = w;
+    while let [first, later @ ..] = rest {
+        let first = place(*first);
+        // A row counts at most one for each entry behind it, so it fits in a byte.
+        let row: u8 = later.iter().map(|&second| u8::from(first > place(second))).sum();
+        plain += usize::from(row);
+        if kind != A {
+            let row: u8 = later.iter().map(|&second| u8::from(first > place(-second))).sum();
+            against += usize::from(row);
+        }
+        rest = later;
+    }
+    let mirrored = if kind == B { w.iter().filter(|&&entry| entry < 0).count() } else { 0 };
+    [plain, against, mirrored]
+}
+
+/// The total of the three sums.
 pub(crate) fn length(kind: u32, w: &[i8]) -> usize {
     let mut sum = 0;
     let mut rest = w;

@@ -51,6 +51,7 @@ fn normal_forms_are_the_first_words() {
             let length = plain::normal_form_of_window(kind, rank, window, &mut form);
             assert_eq!(form[..length as usize], word[..], "kind {kind}, rank {rank}, window {window:?}");
             assert_eq!(plain::length_of_window(kind, rank, window), length);
+            assert_eq!(plain::crossings_of_window(kind, rank, window, &mut [0; 3]), length);
         }
     }
 }

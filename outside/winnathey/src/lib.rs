@@ -204,6 +204,57 @@ pub fn length_of_window(kind: Kind, rank: u8, window: &[i8]) -> Result<usize, Re
     answered(raw::length_of_window(kind.0.into(), rank.into(), window))
 }
 
+/// A length by sort of crossing. A sum that the kind lacks is 0: A has only the plain pairs, D no mirrored lanes.
+#[derive(Clone, Copy, PartialEq, Eq, Hash, Debug)]
+pub struct Crossings {
+    /// Pairs of lanes whose first entry stands later in the order 1, 2, .., m, -m, .., -2, -1.
+    pub plain: usize,
+    /// Pairs of lanes whose first entry stands later than the negative of the second.
+    pub against: usize,
+    /// Mirrored lanes.
+    pub mirrored: usize,
+}
+
+impl Crossings {
+    /// The length: the total of the three.
+    pub fn total(&self) -> usize {
+        self.plain + self.against + self.mirrored
+    }
+
+    fn answered(answer: i64, [plain, against, mirrored]: [usize; 3]) -> Result<Crossings, Refusal> {
+        answered(answer).map(|_| Crossings { plain, against, mirrored })
+    }
+}
+
+/// The length of a word's normal form by sort of crossing. Refusals 5 to 8.
+///
+/// ```
+/// use winnathey::{Crossings, Kind, crossings_of_word, length_of_word};
+///
+/// let word = [1, 2, 1, 2];
+/// let crossings = crossings_of_word(Kind::B, 2, &word)?;
+/// assert_eq!(crossings, Crossings { plain: 1, against: 1, mirrored: 2 });
+/// assert_eq!(crossings.total(), length_of_word(Kind::B, 2, &word)?);
+/// # Ok::<(), winnathey::Refusal>(())
+/// ```
+pub fn crossings_of_word(kind: Kind, rank: u8, word: &[u8]) -> Result<Crossings, Refusal> {
+    let mut counts = [0; 3];
+    Crossings::answered(raw::crossings_of_word(kind.0.into(), rank.into(), word, &mut counts), counts)
+}
+
+/// The length of a window's normal form by sort of crossing. Refusals 5, 6, 9 to 11.
+///
+/// ```
+/// use winnathey::{Crossings, Kind, crossings_of_window};
+///
+/// let window = [1, 2, -4, -3];
+/// assert_eq!(crossings_of_window(Kind::D, 4, &window), Ok(Crossings { plain: 0, against: 1, mirrored: 0 }));
+/// ```
+pub fn crossings_of_window(kind: Kind, rank: u8, window: &[i8]) -> Result<Crossings, Refusal> {
+    let mut counts = [0; 3];
+    Crossings::answered(raw::crossings_of_window(kind.0.into(), rank.into(), window, &mut counts), counts)
+}
+
 /// Whether two presets look alike: as many lanes and the same window, whatever their kinds and ranks. Refusals 5 to 8,
 /// the first preset's before the second's. Equal presets of one kind and rank have one normal form; others may not.
 ///

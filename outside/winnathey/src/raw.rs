@@ -67,6 +67,24 @@ mod c {
         ) -> i64;
         pub fn winnathey_length_of_word(kind: u32, rank: u32, word: *const u8, word_len: usize) -> i64;
         pub fn winnathey_length_of_window(kind: u32, rank: u32, window: *const i8, window_len: usize) -> i64;
+        pub fn winnathey_crossings_of_word(
+            kind: u32,
+            rank: u32,
+            word: *const u8,
+            word_len: usize,
+            plain: *mut usize,
+            against: *mut usize,
+            mirrored: *mut usize,
+        ) -> i64;
+        pub fn winnathey_crossings_of_window(
+            kind: u32,
+            rank: u32,
+            window: *const i8,
+            window_len: usize,
+            plain: *mut usize,
+            against: *mut usize,
+            mirrored: *mut usize,
+        ) -> i64;
         pub fn winnathey_same(
             kind1: u32,
             rank1: u32,
@@ -207,6 +225,20 @@ pub fn length_of_word(kind: u32, rank: u32, word: &[u8]) -> i64 {
 #[inline]
 pub fn length_of_window(kind: u32, rank: u32, window: &[i8]) -> i64 {
     unsafe { c::winnathey_length_of_window(kind, rank, window.as_ptr(), window.len()) }
+}
+
+/// The length of a word's normal form by sort: plain pairs, pairs against a mirrored lane, mirrored lanes.
+#[inline]
+pub fn crossings_of_word(kind: u32, rank: u32, word: &[u8], counts: &mut [usize; 3]) -> i64 {
+    let [plain, against, mirrored] = counts;
+    unsafe { c::winnathey_crossings_of_word(kind, rank, word.as_ptr(), word.len(), plain, against, mirrored) }
+}
+
+/// The length of a window's normal form by sort.
+#[inline]
+pub fn crossings_of_window(kind: u32, rank: u32, window: &[i8], counts: &mut [usize; 3]) -> i64 {
+    let [plain, against, mirrored] = counts;
+    unsafe { c::winnathey_crossings_of_window(kind, rank, window.as_ptr(), window.len(), plain, against, mirrored) }
 }
 
 /// 1 if two presets are equal, 0 if not.

@@ -1,6 +1,6 @@
 -- The sums of the length, one entry at a time, in the form in which the code meets them, and what keeps them small.
 --
--- Sections: sizes; one entry against those behind it; all entries; the three kinds.
+-- Sections: sizes; one entry against those behind it; all entries; the three kinds; a length by sort.
 -- Assumes nothing.
 use mathlib.Core.Path.{_≡_, refl, sym, ap, _∙_}
 use mathlib.Core.Bool.{Bool, true, false}
@@ -14,13 +14,17 @@ use lib.IntN.{ℤ, pos, negℤ, natAbs}
 use lib.ListN.{length, length-map, getD, set, take, drop, drop-of-length-le, List·getD-map}
 use lib.Seq.{take-all}
 use Rattle.coxeter.specs.Kinds.{Kind, A, B, D, pick, kindOf, lanes}
-use Rattle.coxeter.specs.Length.{later, negative, one, laterThan, inversions, negativeSumPairs, negatives, windowLength}
+use Rattle.coxeter.specs.Length.{later, negative, one, laterThan, inversions, negativeSumPairs, negatives, crossings, windowLength}
 use Rattle.coxeter.specs.Checks.{windowRefusal}
 use Rattle.coxeter.proofs.KindLaws.{lanes-le-add-one, kindOf-one, kindOf-two, kindOf-three}
 use Rattle.coxeter.proofs.Lists.{written-next, take-rest, drop-next}
 use Rattle.coxeter.proofs.Levels.{Between, Distinct, accepted-of-refusal, refusal-of-accepted, hasSize-below}
 use Rattle.coxeter.proofs.PairWeights.{weight, weights, pairWeights, signWeight, pairWeights-le}
-use Rattle.coxeter.proofs.PairWeights.{laterThan-add, inversions-add-negativeSumPairs, length-by-weights}
+use Rattle.coxeter.proofs.PairWeights.{laterThan-add, inversions-add-negativeSumPairs, length-by-weights, negativeSumPairs-of-negatives-zero}
+use Rattle.coxeter.proofs.NegativeSums.{lackOfNegatives, negativeSumPairs-level}
+use Rattle.coxeter.proofs.Places.{between-getD}
+use Rattle.coxeter.specs.Calls.{countedOf}
+use Rattle.coxeter.specs.declared.Counted.the-variants as counted
 
 -- ---- sizes
 
@@ -45,7 +49,7 @@ sizes-behind : (i : ℕ) (w : List ℤ) (sizes : List ℕ) → sizes ≡ map nat
     → take (length sizes - (i + 1)) (drop (i + 1) sizes) ≡ map natAbs (drop (i + 1) w)
 sizes-behind i w sizes q = take-rest (i + 1) sizes ∙ ap (drop (i + 1)) q ∙ drop-map natAbs (i + 1) w
 
-size-at : (i : ℕ) (w : List ℤ) (sizes : List ℕ) → sizes ≡ map natAbs w → getD sizes i 0 ≡ natAbs (getD w i (pos 0))
+pub size-at : (i : ℕ) (w : List ℤ) (sizes : List ℕ) → sizes ≡ map natAbs w → getD sizes i 0 ≡ natAbs (getD w i (pos 0))
 size-at i w sizes q = ap (λ (l : List ℕ). getD l i 0) q ∙ List·getD-map natAbs w i (pos 0)
 
 -- ---- one entry against those behind it
@@ -176,3 +180,43 @@ windowLength-else k n w h d =
       | yes e ↦ rw (kindOf-one k e) (windowLength-is-add A n w (rw (kindOf-one k e) at h) ∙ add-zero _)
       | no f ↦ rw (kindOf-three k f d) (windowLength-is-add D n w (rw (kindOf-three k f d) at h) ∙ add-zero _)
     ]
+
+-- ---- a length by sort
+
+pub negativeSumPairs-by-lack : (w : List ℤ) → windowRefusal B (length w) w ≡ 0 → negativeSumPairs w ≡ lackOfNegatives (length w) w
+negativeSumPairs-by-lack w h = negativeSumPairs-level w (accepted-of-refusal B (length w) w h .level)
+
+pub size-le : (w : List ℤ) (i : ℕ) → windowRefusal B (length w) w ≡ 0 → i < length w → natAbs (getD w i (pos 0)) ≤ length w
+size-le w i h l = omega (arith, between-getD 1 (1 + length w) w i (accepted-of-refusal B (length w) w h .level .between) l .1)
+
+pub lack-step : (m i : ℕ) (w : List ℤ) (t : Bool) → i < length w → t ≡ negative (getD w i (pos 0))
+    → lackOfNegatives m (drop i w) ≡ pick t (m - natAbs (getD w i (pos 0))) 0 + lackOfNegatives m (drop (i + 1) w)
+unfolding lackOfNegatives
+lack-step m i w t h e = rw (drop-next w i (pos 0) h, e)
+
+pub lack-end : (m i : ℕ) (w : List ℤ) → length w ≤ i → lackOfNegatives m (drop i w) ≡ 0
+unfolding lackOfNegatives
+lack-end m i w h = rw (drop-of-length-le w h)
+
+-- p are the pairs of both sorts, s the negative sum pairs, t the negative entries
+module _ (k n : ℕ) (w : List ℤ) (h : windowRefusal (kindOf k) n w ≡ 0) (p s : ℕ) (e : p ≡ inversions w + negativeSumPairs w)
+    (q : s ≡ negativeSumPairs w) where
+  first : p - s ≡ inversions w
+  first = omega arith
+
+  pub counted-two : (t : ℕ) → k ≡ 2 → t ≡ negatives w → counted.Crossings (p - s) s t ≡ countedOf 0 (crossings (kindOf k) w)
+  unfolding countedOf crossings
+  counted-two t b z = rw (kindOf-two k b, first, q, z)
+
+  none-in-A : kindOf k ≡ A → negativeSumPairs w ≡ 0
+  none-in-A a =
+      let f = accepted-of-refusal A n w (rw a at h) in
+      negativeSumPairs-of-negatives-zero (1 + length w) w (f .level .between) (f .level .distinct) (f .signs)
+
+  pub counted-else : (k ≡ 2 → ⊥) → counted.Crossings (p - s) s 0 ≡ countedOf 0 (crossings (kindOf k) w)
+  unfolding countedOf crossings
+  counted-else d =
+      elim (ℕ-discrete k 1) [
+        | yes b ↦ rw (kindOf-one k b, first, q, none-in-A (kindOf-one k b))
+        | no f ↦ rw (kindOf-three k f d, first, q)
+      ]
