@@ -16,7 +16,7 @@ use Rattle.book_format.specs.declared.Preset.{Preset}
 use Rattle.book_format.specs.Books.{two, count, trailer, offset, lettersAt, endAt, wrongSize, wrongCount, misplaced, bookRefusal, recordRefusal, presetRefusal, recordOf, appended, appendRefusal}
 use Rattle.book_format.specs.Calls.{openedOf, checkedBook, presetAt, checkedPreset, lettersStart, lettersOf}
 use Rattle.listing_text.specs.Text.{decimal, spaced, letters, kindLetter, head, tail, presetsText, refusedLine, refusedBookLine}
-use Rattle.listing_text.specs.Calls.{lineCount, line, lines, Piecing}
+use Rattle.listing_text.specs.Calls.{lineCount, line, lines, Piecing, nextPiece}
 
 -- ---- opening
 
@@ -113,3 +113,10 @@ abbrev pub lineCutOff : List ℕ → ℕ → List ℕ → Piecing
 lineCutOff b i out =
     let text = take (length out) (lines b (lineCount b - i) i) in
     record { answer = record { next = lineCount b; end = length text; left = 0 }; bytes = text ++ drop (length text) out }
+
+-- a line that just fits is left out: the last byte of the buffer is never used
+abbrev pub lastByteUnused : List ℕ → ℕ → List ℕ → Piecing
+lastByteUnused b i out =
+    let m = length out - 1 in
+    let p = nextPiece b i (take m out) in
+    record { answer = p .answer; bytes = p .bytes ++ drop m out }

@@ -30,7 +30,7 @@ use Rattle.examples.specs.WrongWindows.{ranksNotCompared, kindsCompared,
 use Rattle.examples.specs.WrongRewrites.{noneFitsWithoutLooking, ruleOfBInD, family3OneTooFarInB, family4AsFamily3, replacedOnePlaceToTheLeft, placeAtTheEndAccepted, roomCheckedBeforeTheRule, wordCopiedFirst}
 use Rattle.examples.specs.WrongBooks.{countHighByteFirst, offsetAgainstTheTrailer, lastRecordMayStopEarly, onePresetTooMany, preset0ForEveryNumber}
 use Rattle.examples.specs.WrongBooks.{handedOut, lettersFromTheRecord, refusedPresetHandsOutLetters, lastOffsetDropped, kindAndRankExchanged}
-use Rattle.examples.specs.WrongBooks.{countWithoutLineFeed, bookRefusalAlways1, presetRefusalAlways1, lengthBeforeRank, minusLeftOut, noPresetLine, lineCutOff}
+use Rattle.examples.specs.WrongBooks.{countWithoutLineFeed, bookRefusalAlways1, presetRefusalAlways1, lengthBeforeRank, minusLeftOut, noPresetLine, lineCutOff, lastByteUnused}
 
 -- what a call tells: its answer, with the output afterwards if it writes one
 pub data Told : Type 0 where
@@ -147,4 +147,5 @@ table =
     -- pieces of the listing
     ∷ differ nextPiece noPresetLine (λ f. piece (f one 0 (lent 40)))
     ∷ differ nextPiece lineCutOff (λ f. piece (f one 0 (lent 12)))
+    ∷ differ nextPiece lastByteUnused (λ f. piece (f one 0 (lent 10)))
     ∷ []
