@@ -6,7 +6,7 @@
  *
  * Arguments
  *   kind      1 is A, 2 is B, 3 is D. Any other number of 32 bits is refused 5.
- *   rank      A: 1 to 31, B: 2 to 32, D: 4 to 32. Any other number of 32 bits is refused 6.
+ *   rank      A: 1 to 63, B: 2 to 64, D: 4 to 64; in a book A: 1 to 31, B: 2 to 32, D: 4 to 32. Any other number of 32 bits is refused 6.
  *   word      0 to 4,096 bytes, each a step from 1 to the rank.
  *   window    rank + 1 signed bytes in kind A, rank signed bytes in kinds B and D.
  *   book      the bytes of a preset book, at most 65,535. c is the count of presets at its end.
@@ -36,7 +36,7 @@
  * writes them meanwhile. An output overlaps no input and no other output; inputs may overlap. With a length of 0 the pointer is not used and need not
  * be valid: it may be NULL. Nothing is kept after the call.
  *
- * Room that always suffices: 32 for a window, 1,024 for a normal form, the word's length for a rewritten word, 65,535 for a book.
+ * Room that always suffices: 64 for a window, 4,096 for a normal form, the word's length for a rewritten word, 65,535 for a book.
  */
 #ifndef WINNATHEY_H
 #define WINNATHEY_H

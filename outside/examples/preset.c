@@ -8,8 +8,8 @@
 /* Prints what a preset shows and its normal form. Answers 0, or the refusal's number. */
 static int show(uint32_t kind, uint32_t rank, const uint8_t *word, size_t letters)
 {
-    int8_t window[32];  /* the most lanes */
-    uint8_t form[1024]; /* the longest normal form */
+    int8_t window[64];  /* the most lanes */
+    uint8_t form[4096]; /* the longest normal form */
 
     printf("kind %" PRIu32 ", rank %" PRIu32 ", word", kind, rank);
     for (size_t i = 0; i < letters; i++)

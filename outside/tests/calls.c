@@ -119,7 +119,7 @@ static void words(void)
     CALL(winnathey_normal_form_of_word(1, 2, NULL, 0, NULL, 0));
     CALL(winnathey_normal_form_of_word(2, 2, w1212, 4, bytes, 3));
     CALL(winnathey_normal_form_of_word(4, 2, w1212, 4, bytes, 4));
-    CALL(winnathey_normal_form_of_word(2, 33, w1212, 4, bytes, 4));
+    CALL(winnathey_normal_form_of_word(2, 65, w1212, 4, bytes, 4));
     CALL(winnathey_normal_form_of_word(UINT32_MAX, UINT32_MAX, w1212, 4, bytes, 4));
     CALL(winnathey_normal_form_of_word(2, 2, too_long, 4097, bytes, 4));
 
@@ -133,7 +133,7 @@ static void words(void)
     CALL(winnathey_inverse_of_word(1, 2, w12, 2, bytes, ROOM));
     CALL(winnathey_inverse_of_word(1, 2, NULL, 0, NULL, 0));
     CALL(winnathey_inverse_of_word(1, 2, w12, 2, bytes, 1));
-    CALL(winnathey_inverse_of_word(1, 32, w12, 2, bytes, ROOM));
+    CALL(winnathey_inverse_of_word(1, 64, w12, 2, bytes, ROOM));
 
     CALL(winnathey_length_of_word(2, 2, w1212, 4));
     CALL(winnathey_length_of_word(1, 2, NULL, 0));
@@ -250,6 +250,7 @@ static void books(void)
     CALL(winnathey_append(NULL, 0, 1, 1, w1, 1, bytes, ROOM));
     CALL(winnathey_append(book, sizeof book, 257, 1, w1, 1, bytes, ROOM));
     CALL(winnathey_append(book, sizeof book, 1, 257, w1, 1, bytes, ROOM));
+    CALL(winnathey_append(book, sizeof book, 2, 33, w1, 1, bytes, ROOM));
     CALL(winnathey_append(full, sizeof full, 1, 1, NULL, 0, bytes, ROOM));
 }
 

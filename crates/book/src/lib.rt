@@ -1,5 +1,6 @@
 // The preset book: checks, reading by number, appending. No public function has a `requires`.
 mod numbers;
+mod ranks;
 pub mod reader;
 mod reading;
 mod runs;

@@ -1,8 +1,8 @@
 // Checks 1 to 8 on a book and its presets, and the letters of a preset.
 use crate::numbers::two_at;
+use crate::ranks::book_rank_refusal;
 use book_format::Opened;
 use book_format::Preset;
-use window::rank_refusal;
 use window::word_refusal;
 ghost use mathlib.Core.Path.{_≡_};
 ghost use Prim.Native.Nat.{_+_, _*_, _≤_, _<_};
@@ -85,7 +85,7 @@ fn check_record(book: &[u8], o: usize) -> Preset
 {
     let kind = book[o];
     let rank = book[o + 1];
-    let r = rank_refusal(kind, rank);
+    let r = book_rank_refusal(kind, rank);
     if r != 0 {
         return Preset::Refused(r);
     }

@@ -2,11 +2,11 @@
 use crate::numbers::copy_to;
 use crate::numbers::put_two;
 use crate::numbers::two_at;
+use crate::ranks::book_rank_refusal;
 use crate::reading::HEAD;
 use crate::reading::LARGEST;
 use crate::reading::book_refusal;
 use window::Answer;
-use window::rank_refusal;
 use window::word_refusal;
 ghost use mathlib.Core.Path.{_≡_};
 ghost use mathlib.Core.List.{_++_};
@@ -69,7 +69,7 @@ fn append_refusal(book: &[u8], kind: u8, rank: u8, word: &[u8]) -> u8
     if r != 0 {
         return r;
     }
-    let s = rank_refusal(kind, rank);
+    let s = book_rank_refusal(kind, rank);
     if s != 0 {
         return s;
     }

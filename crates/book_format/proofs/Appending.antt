@@ -14,9 +14,9 @@ use lib.Dec.{eqb}
 use lib.ListN.{length}
 use borrow.Author.Tests.{eq-eqb, le-ltb, eqb-true, not-false}
 use Rattle.coxeter.specs.Kinds.{pick}
-use Rattle.coxeter.specs.Checks.{check, _then_, rankRefusal, wordRefusal}
+use Rattle.coxeter.specs.Checks.{check, _then_, wordRefusal}
 use Rattle.book_format.specs.declared.Preset.the-variants as preset
-use Rattle.book_format.specs.Books.{count, trailer, offset, kindAt, rankAt, letterCountAt, lettersAt, endAt, misplacedFrom, misplaced, bookRefusal, recordRefusal, presetRefusal, appended, appendRefusal, headSize, added}
+use Rattle.book_format.specs.Books.{count, trailer, offset, kindAt, rankAt, letterCountAt, lettersAt, endAt, misplacedFrom, misplaced, bookRankRefusal, bookRefusal, recordRefusal, presetRefusal, appended, appendRefusal, headSize, added}
 use Rattle.book_format.specs.Calls.{presetOf, presetAt, checkedPreset, lettersOf, Grown}
 use Rattle.book_format.proofs.BookLaws.{Accepted, accepted, first, bookRefusal-walk, endAt-offset-le}
 use Rattle.book_format.proofs.PresetLaws.{presetRefusal-record}
@@ -113,7 +113,7 @@ module _ (b : List ℕ) (k n : ℕ) (u : List ℕ) (z : bookRefusal b ≡ 0) (sm
 
 -- ---- the last preset
 
-recordRefusal-of : (m : List ℕ) (o k n : ℕ) (u : List ℕ) → kindAt m o ≡ k → rankAt m o ≡ n → lettersAt m o ≡ u → recordRefusal m o ≡ (rankRefusal k n then wordRefusal n u)
+recordRefusal-of : (m : List ℕ) (o k n : ℕ) (u : List ℕ) → kindAt m o ≡ k → rankAt m o ≡ n → lettersAt m o ≡ u → recordRefusal m o ≡ (bookRankRefusal k n then wordRefusal n u)
 unfolding recordRefusal
 recordRefusal-of m o k n u p q r = rw (p, q, r)
 
@@ -127,21 +127,21 @@ unfolding lettersOf
 lettersOf-of m i o r u e f p = rw (e, f, p)
 
 module _ (b : List ℕ) (k n : ℕ) (u : List ℕ) (a : Accepted b) (small : length b + added u ≤ 65535) where
-  presetRefusal-appended-last : presetRefusal (appended b k n u) (count b) ≡ (rankRefusal k n then wordRefusal n u)
+  presetRefusal-appended-last : presetRefusal (appended b k n u) (count b) ≡ (bookRankRefusal k n then wordRefusal n u)
   presetRefusal-appended-last =
       let c = count-appended b k n u a small in
       presetRefusal-record (appended b k n u) (count b) (bookRefusal-appended b k n u a small) (omega arith)
       ∙ ap (recordRefusal (appended b k n u)) (offset-appended-last b k n u a small)
       ∙ recordRefusal-of (appended b k n u) (trailer b) k n u (kindAt-appended-last b k n u a small) (rankAt-appended-last b k n u a small) (lettersAt-appended-last b k n u a small)
 
-  pub checkedPreset-appended-last : checkedPreset (appended b k n u) (count b) ≡ presetOf (rankRefusal k n then wordRefusal n u) k n (trailer b + headSize) (length u)
+  pub checkedPreset-appended-last : checkedPreset (appended b k n u) (count b) ≡ presetOf (bookRankRefusal k n then wordRefusal n u) k n (trailer b + headSize) (length u)
   checkedPreset-appended-last =
-      checkedPreset-of (appended b k n u) (count b) (trailer b) k n (length u) (rankRefusal k n then wordRefusal n u) presetRefusal-appended-last (offset-appended-last b k n u a small)
+      checkedPreset-of (appended b k n u) (count b) (trailer b) k n (length u) (bookRankRefusal k n then wordRefusal n u) presetRefusal-appended-last (offset-appended-last b k n u a small)
       (kindAt-appended-last b k n u a small) (rankAt-appended-last b k n u a small) (letterCountAt-appended-last b k n u a small)
 
-  pub lettersOf-appended-last : lettersOf (appended b k n u) (count b) ≡ pick (eqb (rankRefusal k n then wordRefusal n u) 0) u []
+  pub lettersOf-appended-last : lettersOf (appended b k n u) (count b) ≡ pick (eqb (bookRankRefusal k n then wordRefusal n u) 0) u []
   lettersOf-appended-last =
-      lettersOf-of (appended b k n u) (count b) (trailer b) (rankRefusal k n then wordRefusal n u) u presetRefusal-appended-last (offset-appended-last b k n u a small)
+      lettersOf-of (appended b k n u) (count b) (trailer b) (bookRankRefusal k n then wordRefusal n u) u presetRefusal-appended-last (offset-appended-last b k n u a small)
       (lettersAt-appended-last b k n u a small)
 
 -- ---- the law
@@ -170,5 +170,5 @@ pub append-reads-back : (b : List ℕ) (k n : ℕ) (u : List ℕ) → appendRefu
 unfolding presetOf
 append-reads-back b k n u e =
     let g = append-grown b k n u e in
-    let z : eqb (rankRefusal k n then wordRefusal n u) 0 ≡ true = eq-eqb (rankRefusal k n then wordRefusal n u) 0 (append-preset b k n u e) in
+    let z : eqb (bookRankRefusal k n then wordRefusal n u) 0 ≡ true = eq-eqb (bookRankRefusal k n then wordRefusal n u) 0 (append-preset b k n u e) in
     (g .lastPreset ∙ rw z, g .lastLetters ∙ rw z)

@@ -1,4 +1,5 @@
 -- The laws of books, in the order in which they rest on each other.
+pub mod RankLaws
 pub mod BookLaws
 pub mod PresetLaws
 pub mod WritingLaws

@@ -9,8 +9,8 @@ use native.Mathlib.Decide.{ℕ-discrete}
 use native.Mathlib.Omega.{arith}
 use lib.ListN.{length}
 use Rattle.coxeter.specs.Kinds.{pick, kindOf}
-use Rattle.coxeter.specs.Checks.{check, _then_, wrongKind, wrongRank, tooLong, wrongLetter, rankRefusal, wordRefusal}
-use Rattle.book_format.specs.Books.{firstOf, wrongSize, wrongCount, misplaced, noSuchPreset, tooLarge, offset, kindAt, rankAt, lettersAt, bookRefusal, recordRefusal, presetRefusal, appended, appendRefusal}
+use Rattle.coxeter.specs.Checks.{check, _then_, wrongKind, tooLong, wrongLetter, wordRefusal}
+use Rattle.book_format.specs.Books.{firstOf, wrongSize, wrongCount, misplaced, noSuchPreset, tooLarge, offset, kindAt, rankAt, lettersAt, wrongRankInBook, bookRankRefusal, bookRefusal, recordRefusal, presetRefusal, appended, appendRefusal}
 use Rattle.coxeter.proofs.Basics.{by-pick}
 use Rattle.coxeter.proofs.Refusals.{then-none, then-some, then-assoc}
 
@@ -38,14 +38,14 @@ bookRefusal-then b r =
 -- ---- a kind, a rank and a word
 
 rank-word : (k n : ℕ) (u : List ℕ) (r : ℕ)
-    → (rankRefusal k n then wordRefusal n u then r) ≡ pick (wrongKind k) 5 (pick (wrongRank (kindOf k) n) 6 (pick (tooLong u) 7 (pick (wrongLetter n u) 8 r)))
-unfolding rankRefusal wordRefusal
+    → (bookRankRefusal k n then wordRefusal n u then r) ≡ pick (wrongKind k) 5 (pick (wrongRankInBook (kindOf k) n) 6 (pick (tooLong u) 7 (pick (wrongLetter n u) 8 r)))
+unfolding bookRankRefusal wordRefusal
 rank-word k n u r =
-    then-assoc (check 5 (wrongKind k)) (check 6 (wrongRank (kindOf k) n)) _
+    then-assoc (check 5 (wrongKind k)) (check 6 (wrongRankInBook (kindOf k) n)) _
     ∙ check-then 5 (wrongKind k) _ (omega arith)
     ∙ ap (pick (wrongKind k) 5)
-    (check-then 6 (wrongRank (kindOf k) n) _ (omega arith)
-    ∙ ap (pick (wrongRank (kindOf k) n) 6)
+    (check-then 6 (wrongRankInBook (kindOf k) n) _ (omega arith)
+    ∙ ap (pick (wrongRankInBook (kindOf k) n) 6)
     (then-assoc (check 7 (tooLong u)) (check 8 (wrongLetter n u)) r
     ∙ check-then 7 (tooLong u) _ (omega arith)
     ∙ ap (pick (tooLong u) 7) (check-then 8 (wrongLetter n u) r (omega arith))))
@@ -63,7 +63,7 @@ pub presetRefusal-firstOf : (b : List ℕ) (i : ℕ) → let o = offset b i in
     ∷ (3, misplaced b)
     ∷ (4, noSuchPreset b i)
     ∷ (5, wrongKind (kindAt b o))
-    ∷ (6, wrongRank (kindOf (kindAt b o)) (rankAt b o))
+    ∷ (6, wrongRankInBook (kindOf (kindAt b o)) (rankAt b o))
     ∷ (7, tooLong (lettersAt b o))
     ∷ (8, wrongLetter (rankAt b o) (lettersAt b o))
     ∷ [])
@@ -71,11 +71,11 @@ unfolding presetRefusal recordRefusal
 presetRefusal-firstOf b i =
     let o = offset b i in
     let w = wordRefusal (rankAt b o) (lettersAt b o) in
-    bookRefusal-then b (check 4 (noSuchPreset b i) then rankRefusal (kindAt b o) (rankAt b o) then w)
+    bookRefusal-then b (check 4 (noSuchPreset b i) then bookRankRefusal (kindAt b o) (rankAt b o) then w)
     ∙ ap (λ r. pick (wrongSize b) 1 (pick (wrongCount b) 2 (pick (misplaced b) 3 r)))
     (check-then 4 (noSuchPreset b i) _ (omega arith)
     ∙ ap (pick (noSuchPreset b i) 4)
-    (ap (λ s. rankRefusal (kindAt b o) (rankAt b o) then s) (sym (none-last w)) ∙ rank-word (kindAt b o) (rankAt b o) (lettersAt b o) 0))
+    (ap (λ s. bookRankRefusal (kindAt b o) (rankAt b o) then s) (sym (none-last w)) ∙ rank-word (kindAt b o) (rankAt b o) (lettersAt b o) 0))
 
 pub appendRefusal-firstOf : (b : List ℕ) (k n : ℕ) (u : List ℕ)
     → appendRefusal b k n u
@@ -84,14 +84,14 @@ pub appendRefusal-firstOf : (b : List ℕ) (k n : ℕ) (u : List ℕ)
     ∷ (2, wrongCount b)
     ∷ (3, misplaced b)
     ∷ (5, wrongKind k)
-    ∷ (6, wrongRank (kindOf k) n)
+    ∷ (6, wrongRankInBook (kindOf k) n)
     ∷ (7, tooLong u)
     ∷ (8, wrongLetter n u)
     ∷ (13, tooLarge (length (appended b k n u)))
     ∷ [])
 unfolding appendRefusal
 appendRefusal-firstOf b k n u =
-    bookRefusal-then b (rankRefusal k n then wordRefusal n u then check 13 (tooLarge (length (appended b k n u))))
+    bookRefusal-then b (bookRankRefusal k n then wordRefusal n u then check 13 (tooLarge (length (appended b k n u))))
     ∙ ap (λ r. pick (wrongSize b) 1 (pick (wrongCount b) 2 (pick (misplaced b) 3 r)))
     (rank-word k n u (check 13 (tooLarge (length (appended b k n u)))))
 
@@ -114,5 +114,5 @@ presetRefusal-le b i =
     (pick-le (misplaced b) 3 _ 8 (omega arith)
     (pick-le (noSuchPreset b i) 4 _ 8 (omega arith)
     (pick-le (wrongKind (kindAt b o)) 5 _ 8 (omega arith)
-    (pick-le (wrongRank (kindOf (kindAt b o)) (rankAt b o)) 6 _ 8 (omega arith)
+    (pick-le (wrongRankInBook (kindOf (kindAt b o)) (rankAt b o)) 6 _ 8 (omega arith)
     (pick-le (tooLong (lettersAt b o)) 7 _ 8 (omega arith) (pick-le (wrongLetter (rankAt b o) (lettersAt b o)) 8 0 8 (omega arith) (omega arith)))))))))

@@ -13,8 +13,9 @@ use Rattle.coxeter.specs.Checks.{check, _then_, rankRefusal, wordRefusal}
 use Rattle.book_format.specs.declared.Opened.the-variants as opened
 use Rattle.book_format.specs.declared.Preset.the-variants as preset
 use Rattle.book_format.specs.Books.{twoAt, count, offset, headSize, kindAt, rankAt, letterCountAt, lettersAt}
-use Rattle.book_format.specs.Books.{noSuchPreset, bookRefusal, recordRefusal, presetRefusal}
+use Rattle.book_format.specs.Books.{noSuchPreset, bookRankRefusal, bookRefusal, recordRefusal, presetRefusal}
 use Rattle.book_format.specs.Calls.{openedOf, presetOf, checkedBook, presetAt, checkedRecord, checkedPreset, lettersStart, lettersOf}
+use Rattle.book_format.proofs.RankLaws.{bookRank-accepted}
 use Rattle.book_format.proofs.BookLaws.{Accepted, accepted, count-read, offset-read, trailer-le, endAt-offset-le}
 use Rattle.coxeter.proofs.Refusals.{then-zero, check-zero, then-some}
 
@@ -39,7 +40,7 @@ presetAt-found b o r z = rw (eq-eqb r 0 z)
 -- ---- records
 
 -- the record at byte o: r is the refusal of its kind and rank, l its letter count, s the refusal of its letters
-module _ (b : List ℕ) (o r : ℕ) (e : r ≡ rankRefusal (kindAt b o) (rankAt b o)) where
+module _ (b : List ℕ) (o r : ℕ) (e : r ≡ bookRankRefusal (kindAt b o) (rankAt b o)) where
   pub checkedRecord-rank : (r ≡ 0 → ⊥) → checkedRecord b o ≡ preset.Refused r
   unfolding checkedRecord recordRefusal
   checkedRecord-rank f = rw (← e, then-some r (wordRefusal (rankAt b o) (lettersAt b o)) f) (presetAt-refused b o r f)
@@ -142,12 +143,13 @@ preset-record b i z =
     then-zero (check 4 (noSuchPreset b i)) (recordRefusal b (offset b i)) (a .1) .1
 
 -- it passes checks 5 to 8
-record-tests : (b : List ℕ) (o : ℕ) → recordRefusal b o ≡ 0 → (rankRefusal (kindAt b o) (rankAt b o) ≡ 0) × (wordRefusal (rankAt b o) (lettersAt b o) ≡ 0)
+record-tests : (b : List ℕ) (o : ℕ) → recordRefusal b o ≡ 0 → (bookRankRefusal (kindAt b o) (rankAt b o) ≡ 0) × (wordRefusal (rankAt b o) (lettersAt b o) ≡ 0)
 unfolding recordRefusal
-record-tests b o z = then-zero (rankRefusal (kindAt b o) (rankAt b o)) (wordRefusal (rankAt b o) (lettersAt b o)) z
+record-tests b o z = then-zero (bookRankRefusal (kindAt b o) (rankAt b o)) (wordRefusal (rankAt b o) (lettersAt b o)) z
 
 pub found-rank : (b : List ℕ) (i k n s l : ℕ) → Found b i k n s l → rankRefusal k n ≡ 0
-found-rank b i k n s l f = rw (f .kind, f .rank) (record-tests b (offset b i) (preset-record b i (f .unrefused)) .0)
+found-rank b i k n s l f =
+    bookRank-accepted k n (rw (f .kind, f .rank) (record-tests b (offset b i) (preset-record b i (f .unrefused)) .0))
 
 pub found-word : (b : List ℕ) (i k n s l : ℕ) → Found b i k n s l → wordRefusal n (take (s + l - s) (drop s b)) ≡ 0
 found-word b i k n s l f =

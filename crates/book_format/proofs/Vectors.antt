@@ -12,14 +12,14 @@ use lib.Dec.{ltb}
 use lib.ListN.{length, replicate}
 use borrow.Author.Tests.{ltb-true, lt-ltb}
 use Rattle.coxeter.specs.Kinds.{kindOf}
-use Rattle.coxeter.specs.Checks.{wrongKind, wrongRank, tooLong, wrongLetter, tooShort, rankRefusal, wordRefusal}
+use Rattle.coxeter.specs.Checks.{wrongKind, tooLong, wrongLetter, tooShort, wordRefusal}
 use Rattle.coxeter.specs.Calls.{answerOf, written, Outcome, writes}
 use Rattle.coxeter.proofs.Vectors.{Agree, lent, wrote, refused}
 use Rattle.book_format.specs.declared.Opened.{Opened}
 use Rattle.book_format.specs.declared.Opened.the-variants as opened
 use Rattle.book_format.specs.declared.Preset.{Preset}
 use Rattle.book_format.specs.declared.Preset.the-variants as preset
-use Rattle.book_format.specs.Books.{twoAt, two, count, trailer, offset, wrongSize, wrongCount, misplacedFrom, misplaced, noSuchPreset, tooLarge, bookRefusal, recordRefusal, presetRefusal, recordOf, added, appended, appendRefusal}
+use Rattle.book_format.specs.Books.{twoAt, two, count, trailer, offset, wrongSize, wrongCount, misplacedFrom, misplaced, noSuchPreset, tooLarge, wrongRankInBook, bookRankRefusal, bookRefusal, recordRefusal, presetRefusal, recordOf, added, appended, appendRefusal}
 use Rattle.book_format.specs.Records.{Bytes}
 use Rattle.book_format.proofs.BookLaws.{accepted}
 use Rattle.book_format.proofs.WritingLaws.{length-appended, appendRefusal-large, appendRefusal-none}
@@ -103,15 +103,19 @@ reading =
     ∷ (checkedPreset (7 ∷ 0 ∷ 0 ∷ []) 0, preset.Refused 3)
     ∷ (checkedPreset twice 1, preset.Refused 3)
     ∷ (checkedPreset twice 5, preset.Refused 3)
-    -- kind, rank, letter
+    -- kind, rank (a book's ranges are the old ones), letter
     ∷ (checkedPreset (bookOf (4 ∷ 1 ∷ 0 ∷ 0 ∷ [])) 0, preset.Refused 5)
+    ∷ (checkedPreset (bookOf (1 ∷ 31 ∷ 0 ∷ 0 ∷ [])) 0, preset.Found 1 31 4 0)
     ∷ (checkedPreset (bookOf (1 ∷ 32 ∷ 0 ∷ 0 ∷ [])) 0, preset.Refused 6)
+    ∷ (checkedPreset (bookOf (2 ∷ 32 ∷ 0 ∷ 0 ∷ [])) 0, preset.Found 2 32 4 0)
+    ∷ (checkedPreset (bookOf (2 ∷ 33 ∷ 0 ∷ 0 ∷ [])) 0, preset.Refused 6)
+    ∷ (checkedPreset (bookOf (3 ∷ 33 ∷ 0 ∷ 0 ∷ [])) 0, preset.Refused 6)
     ∷ (checkedPreset (bookOf (1 ∷ 1 ∷ 1 ∷ 0 ∷ 2 ∷ [])) 0, preset.Refused 8)
     ∷ []
 
 pub reading-agrees : Agree reading
 unfolding reading
-    kindOf wrongKind wrongRank tooLong wrongLetter rankRefusal wordRefusal
+    kindOf wrongKind wrongRankInBook tooLong wrongLetter bookRankRefusal wordRefusal
     twoAt count trailer offset wrongSize wrongCount misplacedFrom misplaced noSuchPreset bookRefusal recordRefusal presetRefusal
     presetOf presetAt checkedPreset
 reading-agrees = refl
@@ -136,7 +140,7 @@ runs =
 
 pub runs-agree : Agree runs
 unfolding runs
-    kindOf wrongKind wrongRank tooLong wrongLetter tooShort rankRefusal wordRefusal answerOf written
+    kindOf wrongKind wrongRankInBook tooLong wrongLetter tooShort bookRankRefusal wordRefusal answerOf written
     twoAt count trailer offset wrongSize wrongCount misplacedFrom misplaced noSuchPreset bookRefusal recordRefusal presetRefusal
     presetOf presetAt checkedPreset fieldsOf presetFields runLength readingPresets
 runs-agree = refl
@@ -158,7 +162,7 @@ letters =
 
 pub letters-agree : Agree letters
 unfolding letters
-    kindOf wrongKind wrongRank tooLong wrongLetter rankRefusal wordRefusal
+    kindOf wrongKind wrongRankInBook tooLong wrongLetter bookRankRefusal wordRefusal
     twoAt count trailer offset wrongSize wrongCount misplacedFrom misplaced noSuchPreset bookRefusal recordRefusal presetRefusal
     lettersStart lettersOf
 letters-agree = refl
@@ -172,20 +176,21 @@ appendings =
     ∷ (appending (bookOf (1 ∷ 1 ∷ 0 ∷ 0 ∷ [])) 2 2 (2 ∷ []) (lent 15), wrote 15 (1 ∷ 1 ∷ 0 ∷ 0 ∷ 2 ∷ 2 ∷ 1 ∷ 0 ∷ 2 ∷ 0 ∷ 0 ∷ 4 ∷ 0 ∷ 2 ∷ 0 ∷ []))
     -- the book's refusal before the preset's, the preset's before the room
     ∷ (appending (7 ∷ 0 ∷ 0 ∷ []) 4 1 [] (lent 1), refused 3 (lent 1))
+    ∷ (appending emptyBook 2 33 [] (lent 9), refused 6 (lent 9))
     ∷ (appending emptyBook 1 1 (2 ∷ []) (lent 1), refused 8 (lent 1))
     ∷ (appending emptyBook 1 1 (1 ∷ []) (lent 8), refused 14 (lent 8))
     ∷ []
 
 pub appendings-agree : Agree appendings
 unfolding appendings
-    kindOf wrongKind wrongRank tooLong wrongLetter tooShort rankRefusal wordRefusal answerOf written writes
+    kindOf wrongKind wrongRankInBook tooLong wrongLetter tooShort bookRankRefusal wordRefusal answerOf written writes
     twoAt two count trailer offset wrongSize wrongCount misplacedFrom misplaced tooLarge bookRefusal recordOf appended appendRefusal
     appending
 appendings-agree = refl
 
 -- the size limit, for every accepted book and preset: a new book of 65,536 bytes or more is refused before the room is looked at, a smaller one only
 -- where there is no room
-module _ (b : List ℕ) (k n : ℕ) (u out : List ℕ) (e : bookRefusal b ≡ 0) (f : rankRefusal k n ≡ 0) (g : wordRefusal n u ≡ 0) where
+module _ (b : List ℕ) (k n : ℕ) (u out : List ℕ) (e : bookRefusal b ≡ 0) (f : bookRankRefusal k n ≡ 0) (g : wordRefusal n u ≡ 0) where
   pub appending-too-large : 65535 < length b + added u → appending b k n u out ≡ refused 13 out
   unfolding appending writes answerOf written
   appending-too-large h = rw (appendRefusal-large b k n u 0 (sym e) 0 refl (sym f) 0 refl (sym g) refl h)

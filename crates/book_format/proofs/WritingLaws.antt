@@ -10,8 +10,8 @@ use lib.ListN.{length, length-append, length-take, length-drop}
 use lib.Seq.{sets}
 use borrow.Author.Tests.{eq-eqb, ne-eqb, lt-ltb, le-ltb, ltb-false}
 use Rattle.coxeter.specs.declared.Answer.the-variants as answer
-use Rattle.coxeter.specs.Checks.{check, _then_, rankRefusal, wordRefusal}
-use Rattle.book_format.specs.Books.{two, trailer, tooLarge, bookRefusal, recordOf, appended, appendRefusal, headSize, added}
+use Rattle.coxeter.specs.Checks.{check, _then_, wordRefusal}
+use Rattle.book_format.specs.Books.{two, trailer, tooLarge, bookRankRefusal, bookRefusal, recordOf, appended, appendRefusal, headSize, added}
 use Rattle.book_format.specs.Calls.{appending}
 use Rattle.book_format.proofs.BookLaws.{Accepted, accepted, accepted-read}
 use Rattle.coxeter.proofs.Lists.{sets-front}
@@ -40,7 +40,7 @@ module _ (b : List ℕ) (k n : ℕ) (u : List ℕ) (r : ℕ) (e : r ≡ bookRefu
   unfolding appendRefusal
   appendRefusal-book f = rw (← e, ne-eqb r 0 f)
 
-  module _ (s : ℕ) (z : r ≡ 0) (d : s ≡ rankRefusal k n) where
+  module _ (s : ℕ) (z : r ≡ 0) (d : s ≡ bookRankRefusal k n) where
     pub appendRefusal-rank : (s ≡ 0 → ⊥) → appendRefusal b k n u ≡ s
     unfolding appendRefusal
     appendRefusal-rank f = rw (← e, eq-eqb r 0 z, ← d, ne-eqb s 0 f)
@@ -62,12 +62,12 @@ module _ (b : List ℕ) (k n : ℕ) (u : List ℕ) (r : ℕ) (e : r ≡ bookRefu
 
 -- where appending is not refused, none of its checks refuses
 append-parts : (b : List ℕ) (k n : ℕ) (u : List ℕ) → appendRefusal b k n u ≡ 0
-    → (bookRefusal b ≡ 0) × (rankRefusal k n ≡ 0) × (wordRefusal n u ≡ 0) × (check 13 (tooLarge (length (appended b k n u))) ≡ 0)
+    → (bookRefusal b ≡ 0) × (bookRankRefusal k n ≡ 0) × (wordRefusal n u ≡ 0) × (check 13 (tooLarge (length (appended b k n u))) ≡ 0)
 unfolding appendRefusal
 append-parts b k n u e =
     let size = check 13 (tooLarge (length (appended b k n u))) in
-    let a = then-zero (bookRefusal b) (rankRefusal k n then wordRefusal n u then size) e in
-    let c = then-zero (rankRefusal k n) (wordRefusal n u then size) (a .1) in
+    let a = then-zero (bookRefusal b) (bookRankRefusal k n then wordRefusal n u then size) e in
+    let c = then-zero (bookRankRefusal k n) (wordRefusal n u then size) (a .1) in
     let d = then-zero (wordRefusal n u) size (c .1) in
     (a .0, c .0, d .0, d .1)
 
@@ -75,8 +75,8 @@ append-parts b k n u e =
 pub append-book : (b : List ℕ) (k n : ℕ) (u : List ℕ) → appendRefusal b k n u ≡ 0 → bookRefusal b ≡ 0
 append-book b k n u e = append-parts b k n u e .0
 
-pub append-preset : (b : List ℕ) (k n : ℕ) (u : List ℕ) → appendRefusal b k n u ≡ 0 → (rankRefusal k n then wordRefusal n u) ≡ 0
-append-preset b k n u e = let p = append-parts b k n u e in then-none (rankRefusal k n) (wordRefusal n u) (p .1) ∙ p .2
+pub append-preset : (b : List ℕ) (k n : ℕ) (u : List ℕ) → appendRefusal b k n u ≡ 0 → (bookRankRefusal k n then wordRefusal n u) ≡ 0
+append-preset b k n u e = let p = append-parts b k n u e in then-none (bookRankRefusal k n) (wordRefusal n u) (p .1) ∙ p .2
 
 pub append-size : (b : List ℕ) (k n : ℕ) (u : List ℕ) → appendRefusal b k n u ≡ 0 → length (appended b k n u) ≤ 65535
 unfolding tooLarge

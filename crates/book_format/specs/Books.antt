@@ -4,8 +4,8 @@ use mathlib.Core.List.{List, [], _∷_, _++_}
 use Prim.Native.Nat.{ℕ, zero, suc, _+_, _-_, _*_, _/_, _%_}
 use lib.Dec.{eqb, leb, ltb}
 use lib.ListN.{length, getD, take, drop}
-use Rattle.coxeter.specs.Kinds.{pick}
-use Rattle.coxeter.specs.Checks.{check, _then_, rankRefusal, wordRefusal}
+use Rattle.coxeter.specs.Kinds.{Kind, A, B, D, pick, kindOf, least}
+use Rattle.coxeter.specs.Checks.{check, _then_, wrongKind, wordRefusal}
 
 -- "Two-byte numbers have the low byte first."
 unfoldable pub twoAt : List ℕ → ℕ → ℕ
@@ -68,6 +68,20 @@ misplaced b = misplacedFrom b (count b) 0 0
 unfoldable pub noSuchPreset : List ℕ → ℕ → Bool
 noSuchPreset b i = leb (count b) i
 
+-- "Books keep the old ranges for now" (document 02, request 6): A 1 to 31, B 2 to 32, D 4 to 32
+abbrev pub greatestInBook : Kind → ℕ
+greatestInBook A = 31
+greatestInBook B = 32
+greatestInBook D = 32
+
+-- "6. The rank is outside its kind's range.": "a record with a higher rank, read or appended, is still refused 6"
+unfoldable pub wrongRankInBook : Kind → ℕ → Bool
+wrongRankInBook k n = ltb n (least k) || ltb (greatestInBook k) n
+
+-- checks 5 and 6, of the kind and the rank of a record
+unfoldable pub bookRankRefusal : ℕ → ℕ → ℕ
+bookRankRefusal k n = check 5 (wrongKind k) then check 6 (wrongRankInBook (kindOf k) n)
+
 -- "13. The appended book would exceed 65,535 bytes."
 unfoldable pub tooLarge : ℕ → Bool
 tooLarge l = ltb 65535 l
@@ -78,7 +92,7 @@ bookRefusal b = check 1 (wrongSize b) then check 2 (wrongCount b) then check 3 (
 
 -- checks 5 to 8, of the record at byte o
 unfoldable pub recordRefusal : List ℕ → ℕ → ℕ
-recordRefusal b o = rankRefusal (kindAt b o) (rankAt b o) then wordRefusal (rankAt b o) (lettersAt b o)
+recordRefusal b o = bookRankRefusal (kindAt b o) (rankAt b o) then wordRefusal (rankAt b o) (lettersAt b o)
 
 -- "reading a preset 1 to 8"
 unfoldable pub presetRefusal : List ℕ → ℕ → ℕ
@@ -99,7 +113,7 @@ appended b k n u =
 
 -- appending makes checks 1 to 3 of the book, 5 to 8 of the preset, and 13
 unfoldable pub appendRefusal : List ℕ → ℕ → ℕ → List ℕ → ℕ
-appendRefusal b k n u = bookRefusal b then rankRefusal k n then wordRefusal n u then check 13 (tooLarge (length (appended b k n u)))
+appendRefusal b k n u = bookRefusal b then bookRankRefusal k n then wordRefusal n u then check 13 (tooLarge (length (appended b k n u)))
 
 -- "in checking order": the number of the first test of a list that holds, 0 where none does
 abbrev pub firstOf : List (ℕ × Bool) → ℕ

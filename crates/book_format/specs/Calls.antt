@@ -9,10 +9,10 @@ use Rattle.book_format.specs.declared.Opened.the-variants as opened
 use Rattle.book_format.specs.declared.Preset.{Preset}
 use Rattle.book_format.specs.declared.Preset.the-variants as preset
 use Rattle.coxeter.specs.Kinds.{pick}
-use Rattle.coxeter.specs.Checks.{check, _then_, tooShort, rankRefusal, wordRefusal}
+use Rattle.coxeter.specs.Checks.{check, _then_, tooShort, wordRefusal}
 use Rattle.coxeter.specs.Calls.{Outcome, answerOf, written, writes}
 use Rattle.book_format.specs.Books.{count, trailer, offset, headSize, kindAt, rankAt, letterCountAt, lettersAt}
-use Rattle.book_format.specs.Books.{noSuchPreset, bookRefusal, recordRefusal, presetRefusal, appended, appendRefusal}
+use Rattle.book_format.specs.Books.{noSuchPreset, bookRankRefusal, bookRefusal, recordRefusal, presetRefusal, appended, appendRefusal}
 
 -- the number and the value of each case of `Opened`: its refusal, or with none the number of presets
 unfoldable pub openedOf : ℕ → ℕ → Opened
@@ -82,7 +82,7 @@ appending b k n u out = writes (appendRefusal b k n u) (appended b k n u) out
 pub record Grown (b : List ℕ) (k n : ℕ) (u : List ℕ) : Type 0 where
   pub unrefused : bookRefusal (appended b k n u) ≡ 0
   pub onePresetMore : count (appended b k n u) ≡ count b + 1
-  pub lastPreset : checkedPreset (appended b k n u) (count b) ≡ presetOf (rankRefusal k n then wordRefusal n u) k n (trailer b + headSize) (length u)
-  pub lastLetters : lettersOf (appended b k n u) (count b) ≡ pick (eqb (rankRefusal k n then wordRefusal n u) 0) u []
+  pub lastPreset : checkedPreset (appended b k n u) (count b) ≡ presetOf (bookRankRefusal k n then wordRefusal n u) k n (trailer b + headSize) (length u)
+  pub lastLetters : lettersOf (appended b k n u) (count b) ≡ pick (eqb (bookRankRefusal k n then wordRefusal n u) 0) u []
   pub presetsBefore : (i : ℕ) → i < count b → checkedPreset (appended b k n u) i ≡ checkedPreset b i
   pub lettersBefore : (i : ℕ) → i < count b → lettersOf (appended b k n u) i ≡ lettersOf b i

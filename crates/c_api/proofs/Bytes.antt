@@ -25,8 +25,9 @@ use Rattle.coxeter.specs.Calls.{countedOf, crossingsOfWindow, crossingsOfWord, 
 use Rattle.coxeter.specs.Calls.{Outcome, answerOf, written, writes, windowOfWord, productOfWindows, inverseOfWindow, normalFormOfWindow, normalFormOfWord, productOfWords, inverseOfWord, lengthOfWindow, lengthOfWord}
 use Rattle.coxeter.proofs.Refusals.{then-assoc}
 use Rattle.rules.specs.Calls.{Step, step}
-use Rattle.book_format.specs.Books.{bookRefusal, appendRefusal}
+use Rattle.book_format.specs.Books.{bookRankRefusal, bookRefusal, appendRefusal}
 use Rattle.book_format.specs.Calls.{appending}
+use Rattle.book_format.proofs.RankLaws.{bookRankRefusal-refused}
 use Rattle.c_api.specs.Calls.{numberOf, rewritingBy, rewriting, sorting, Sorted}
 use Rattle.c_api.proofs.Lengths.{answered, i64-back}
 
@@ -61,9 +62,9 @@ wrongRank-zero D = refl
 
 wrongRank-above : (k : Kind) (n : ℕ) → 255 < n → wrongRank k n ≡ true
 unfolding wrongRank
-wrongRank-above A n h = rw (lt-ltb 31 n (omega arith)) (or-true (ltb n 1))
-wrongRank-above B n h = rw (lt-ltb 32 n (omega arith)) (or-true (ltb n 2))
-wrongRank-above D n h = rw (lt-ltb 32 n (omega arith)) (or-true (ltb n 4))
+wrongRank-above A n h = rw (lt-ltb 63 n (omega arith)) (or-true (ltb n 1))
+wrongRank-above B n h = rw (lt-ltb 64 n (omega arith)) (or-true (ltb n 2))
+wrongRank-above D n h = rw (lt-ltb 64 n (omega arith)) (or-true (ltb n 4))
 
 -- refused with r
 abbrev Refuses : ℕ → ℕ → ℕ → Type 0
@@ -174,9 +175,15 @@ pub crossingsOfWindow-refusable : (w : List ℤ) → Refusable (λ k n. crossing
 unfolding crossingsOfWindow
 crossingsOfWindow-refusable w = record { alike = λ k n l m e f. counted-alike (rankRefusal k n) (rankRefusal l m) _ _ _ _ e f }
 
+-- a record's kind and rank that a call refuses are refused alike
 pub appending-refusable : (b u out : List ℕ) → Refusable (λ k n. appending b k n u out)
 unfolding appending appendRefusal
-appending-refusable b u out = record { alike = λ k n l m e f. writes-alike (bookRefusal b) (rankRefusal k n) (rankRefusal l m) _ _ _ _ out e f }
+appending-refusable b u out = record {
+  alike = λ k n l m e f.
+      let same = bookRankRefusal-refused k n (rankRefusal k n) refl f in
+      let other = bookRankRefusal-refused l m (rankRefusal l m) refl (λ z. f (sym e ∙ z)) in
+      writes-alike (bookRefusal b) (bookRankRefusal k n) (bookRankRefusal l m) _ _ _ _ out (other ∙ e ∙ sym same) (λ z. f (sym same ∙ z));
+}
 
 -- the verdict, in its first preset and in its second
 pub first-refusable : (u : List ℕ) (k₂ n₂ : ℕ) (v : List ℕ) → Refusable (λ k n. presetsEqual k n u k₂ n₂ v)

@@ -13,12 +13,12 @@ use native.Mathlib.Omega.{arith}
 use lib.Dec.{eqb}
 use lib.IntN.{ℤ}
 use lib.ListN.{length}
-use borrow.Author.Tests.{eq-eqb}
+use borrow.Author.Tests.{eq-eqb, le-ltb}
 use Rattle.coxeter.specs.declared.Verdict.the-variants as verdict
-use Rattle.coxeter.specs.Kinds.{Kind, pick, kindOf, lanes, least}
+use Rattle.coxeter.specs.Kinds.{Kind, B, pick, kindOf, lanes, least}
 use Rattle.coxeter.specs.Windows.{act, straight, window, product, inverse}
 use Rattle.coxeter.specs.Length.{windowLength, greatestLength}
-use Rattle.coxeter.specs.Checks.{wrongLetter, rankRefusal, wordRefusal, windowRefusal}
+use Rattle.coxeter.specs.Checks.{tooLong, wrongLetter, rankRefusal, wordRefusal, windowRefusal}
 use Rattle.coxeter.specs.NormalForm.{levels, blocks, Indices, normalForm, wordNormalForm}
 use Rattle.coxeter.specs.Calls.{verdictOf, sameWindow, samePresets, presetsEqual, Better}
 use Rattle.coxeter.proofs.Levels.{Accepted, accepted-of-refusal, refusal-of-accepted, act-accepted, window-accepted}
@@ -29,6 +29,8 @@ use Rattle.coxeter.proofs.Inverses as inverses
 use Rattle.coxeter.proofs.Indices.{indices, indices-in-range, indices-window}
 use Rattle.coxeter.proofs.NormalForms as forms
 use Rattle.coxeter.proofs.Lengths as lengths
+use Rattle.coxeter.proofs.PairWeights.{windowLength-le-4096}
+use Rattle.coxeter.proofs.Acceptance.{lanes-le}
 use Rattle.coxeter.proofs.GreatestLengths as greatest
 use Rattle.coxeter.proofs.FormLaws as laws
 
@@ -90,15 +92,29 @@ module _ (k : Kind) (n : ℕ) (w : List ℤ) (h : windowRefusal k n w ≡ 0) whe
   pub normalForm-is-blocks : (js : List ℕ) × (Indices k n 1 js × (normalForm k n w ≡ blocks k n 1 js))
   normalForm-is-blocks = (indices k n (levels k n) 1 w, (indices-in-range k n w passed, forms.normalForm-is-blocks k n w))
 
--- two windows with one normal form are the same
-pub normalForm-eq-iff : (k : Kind) (n : ℕ) (v w : List ℤ) → windowRefusal k n v ≡ 0 → windowRefusal k n w ≡ 0 → (normalForm k n v ≡ normalForm k n w) ↔ (v ≡ w)
-normalForm-eq-iff k n v w h g = laws.normalForm-eq-iff k n v w (accepted-of-refusal k n v h) (accepted-of-refusal k n w g)
-
 -- the greatest length is reached
 pub greatest-reached : (k : Kind) (n : ℕ) → least k ≤ n → (w : List ℤ) × ((windowRefusal k n w ≡ 0) × (windowLength k w ≡ greatestLength k n))
 greatest-reached k n h = (window k n (blocks k n 1 (greatest.greatestIndices k n)), (window-passes k n _, laws.greatest-reached k n h))
 
--- and each word made of blocks is the normal form of its window; two lists of js make two words
+-- "The longest normal form, B at 64, has 4,096 letters and still fits." (document 02, request 6): a normal form is accepted again as a word
+pub normalForm-fits : (k n : ℕ) (w : List ℤ) → rankRefusal k n ≡ 0 → windowRefusal (kindOf k) n w ≡ 0 → wordRefusal n (normalForm (kindOf k) n w) ≡ 0
+unfolding wordRefusal tooLong
+normalForm-fits k n w r h =
+    let a = passed (kindOf k) n w h in
+    let most = windowLength-le-4096 (kindOf k) n w a (lanes-le k n (length w) r (a .size)) in
+    let u = normalForm (kindOf k) n w in
+    rw (le-ltb 4096 (length u) (rw (length-normalForm (kindOf k) n w h) most), normalForm-letters (kindOf k) n w h)
+
+pub longest-normalForm : (w : List ℤ) × ((windowRefusal B 64 w ≡ 0) × (length (normalForm B 64 w) ≡ 4096))
+longest-normalForm =
+    let g = greatest-reached B 64 (omega arith) in
+    (g .0, (g .1 .0, length-normalForm B 64 (g .0) (g .1 .0) ∙ g .1 .1))
+
+-- two windows with one normal form are the same
+pub normalForm-eq-iff : (k : Kind) (n : ℕ) (v w : List ℤ) → windowRefusal k n v ≡ 0 → windowRefusal k n w ≡ 0 → (normalForm k n v ≡ normalForm k n w) ↔ (v ≡ w)
+normalForm-eq-iff k n v w h g = laws.normalForm-eq-iff k n v w (accepted-of-refusal k n v h) (accepted-of-refusal k n w g)
+
+-- each word made of blocks is the normal form of its window; two lists of js make two words
 pub blocks-normalForm : (k : Kind) (n : ℕ) (js : List ℕ) → Indices k n 1 js → wordNormalForm k n (blocks k n 1 js) ≡ blocks k n 1 js
 blocks-normalForm k n js h = forms.normalForm-blocks k n js h
 

@@ -99,7 +99,7 @@ writingWords =
     ∷ (productOfWords 1 2 (1 ∷ []) (2 ∷ []) (lent 1), refused 14 (lent 1))
     -- the inverse of a word
     ∷ (inverseOfWord 1 2 (1 ∷ 2 ∷ []) (lent 3), wrote 2 (2 ∷ 1 ∷ 9 ∷ []))
-    ∷ (inverseOfWord 1 32 (1 ∷ 2 ∷ []) (lent 3), refused 6 (lent 3))
+    ∷ (inverseOfWord 1 64 (1 ∷ 2 ∷ []) (lent 3), refused 6 (lent 3))
     ∷ (inverseOfWord 1 2 (1 ∷ 2 ∷ []) (lent 1), refused 14 (lent 1))
     ∷ []
 
@@ -236,12 +236,14 @@ refusals =
     (rankRefusal 0 2, 5)
     ∷ (rankRefusal 4 4, 5)
     ∷ (rankRefusal 1 0, 6)
-    ∷ (rankRefusal 1 31, 0)
-    ∷ (rankRefusal 1 32, 6)
+    ∷ (rankRefusal 1 63, 0)
+    ∷ (rankRefusal 1 64, 6)
     ∷ (rankRefusal 2 1, 6)
-    ∷ (rankRefusal 2 32, 0)
+    ∷ (rankRefusal 2 64, 0)
+    ∷ (rankRefusal 2 65, 6)
     ∷ (rankRefusal 3 3, 6)
-    ∷ (rankRefusal 3 33, 6)
+    ∷ (rankRefusal 3 64, 0)
+    ∷ (rankRefusal 3 65, 6)
     -- of a word
     ∷ (wordRefusal 2 (replicate 4096 2), 0)
     ∷ (wordRefusal 2 (replicate 4097 3), 7)

@@ -22,16 +22,16 @@ lanes A n = n + 1
 lanes B n = n
 lanes D n = n
 
--- "Ranks: A 1 to 31, B 2 to 32, D 4 to 32."
+-- "Ranks become A 1 to 63, B 2 to 64, D 4 to 64." (document 02, request 6)
 abbrev pub least : Kind → ℕ
 least A = 1
 least B = 2
 least D = 4
 
 abbrev pub greatest : Kind → ℕ
-greatest A = 31
-greatest B = 32
-greatest D = 32
+greatest A = 63
+greatest B = 64
+greatest D = 64
 
 -- the k numbers from i on: i, i + 1, ..
 unfoldable pub up : ℕ → ℕ → List ℕ

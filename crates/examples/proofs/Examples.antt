@@ -58,9 +58,9 @@ module _ (k : Kind) (n : ℕ) (u : List ℕ) (p : ℕ) (h : Reaches k n u p) whe
 
 rank-passes : (k : Kind) (n : ℕ) → least k ≤ n → n ≤ greatest k → rankRefusal (number k) n ≡ 0
 unfolding rankRefusal wrongKind wrongRank kindOf
-rank-passes A n low high = rw (le-ltb n 1 low, le-ltb 31 n high)
-rank-passes B n low high = rw (le-ltb n 2 low, le-ltb 32 n high)
-rank-passes D n low high = rw (le-ltb n 4 low, le-ltb 32 n high)
+rank-passes A n low high = rw (le-ltb n 1 low, le-ltb 63 n high)
+rank-passes B n low high = rw (le-ltb n 2 low, le-ltb 64 n high)
+rank-passes D n low high = rw (le-ltb n 4 low, le-ltb 64 n high)
 
 module _ (k : Kind) (n : ℕ) (low : least k ≤ n) (high : n ≤ greatest k) where
   empty-form : wordNormalForm k n [] ≡ []

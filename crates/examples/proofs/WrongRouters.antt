@@ -37,7 +37,7 @@ use Rattle.coxeter.specs.Calls.{answerOf, verdictOf, written, writes, windowOfW
 use Rattle.coxeter.proofs.Order.{sameWindow-of-eq}
 use Rattle.rules.specs.Rules.{each, family1, family2, family3, family4, families5to7, rules, begins, fits, firstFitting, rewritten}
 use Rattle.rules.specs.Calls.{pastEnd, refusedStep, usedStep, stepBy, step}
-use Rattle.book_format.specs.Books.{twoAt, two, count, trailer, offset, wrongSize, wrongCount, misplacedFrom, misplaced, noSuchPreset, tooLarge, bookRefusal, recordRefusal, presetRefusal, recordOf, added, appended, appendRefusal}
+use Rattle.book_format.specs.Books.{twoAt, two, count, trailer, offset, wrongSize, wrongCount, misplacedFrom, misplaced, noSuchPreset, tooLarge, wrongRankInBook, bookRankRefusal, bookRefusal, recordRefusal, presetRefusal, recordOf, added, appended, appendRefusal}
 use Rattle.book_format.specs.Calls.{openedOf, presetOf, checkedBook, presetAt, checkedPreset, lettersStart, lettersOf, appending}
 use Rattle.listing_text.specs.Text.{digits, decimal, spaced, letters, entry, entries, kindLetter, head, tail, presetLine, refused, refusedLine, refusedBookLine, countLine, wordLine, lineBy, lineOf}
 use Rattle.listing_text.specs.Calls.{lineCountBy, lineCount, firstLine, line, lines, fitting, nextPiece}
@@ -122,8 +122,8 @@ unfolding table allDiffer differs numbers ofAnswer ofVerdict ofChoice ofRewrite 
     answerOf verdictOf written writes windowOfWord productOfWindows inverseOfWindow normalFormOfWindow normalFormOfWord productOfWords inverseOfWord
     lengthOfWindow lengthOfWord sameEntry sameWindow equalWords samePresets presetsEqual handsBack choice
     each family1 family2 family3 family4 families5to7 rules begins fits firstFitting rewritten pastEnd refusedStep usedStep stepBy step
-    twoAt two count trailer offset wrongSize wrongCount misplacedFrom misplaced noSuchPreset tooLarge bookRefusal recordRefusal presetRefusal recordOf
-    appended appendRefusal openedOf presetOf checkedBook presetAt checkedPreset lettersStart lettersOf appending
+    twoAt two count trailer offset wrongSize wrongCount misplacedFrom misplaced noSuchPreset tooLarge wrongRankInBook bookRankRefusal
+    bookRefusal recordRefusal presetRefusal recordOf appended appendRefusal openedOf presetOf checkedBook presetAt checkedPreset lettersStart lettersOf appending
     digits decimal spaced letters entry entries kindLetter head tail presetLine refused refusedLine refusedBookLine countLine wordLine lineBy lineOf
     lineCountBy lineCount firstLine line lines fitting nextPiece
 all-differ = refl
@@ -158,7 +158,7 @@ bookOf65536Bytes-ruled-out b e h =
     opened-late (wrongCount b) (misplaced b) (count b) (rw e at (sym h) ∙ too-large-book b e)
 
 -- and every preset that would make an accepted book larger than 65,535 bytes tells this one, where the output is shorter than the new book
-pub roomBeforeTheSizeLimit-ruled-out : (b : List ℕ) (k n : ℕ) (u out : List ℕ) → bookRefusal b ≡ 0 → rankRefusal k n ≡ 0 → wordRefusal n u ≡ 0
+pub roomBeforeTheSizeLimit-ruled-out : (b : List ℕ) (k n : ℕ) (u out : List ℕ) → bookRefusal b ≡ 0 → bookRankRefusal k n ≡ 0 → wordRefusal n u ≡ 0
     → 65535 < length b + added u → length out < length b + added u → appending b k n u out ≡ roomBeforeTheSizeLimit b k n u out → ⊥
 unfolding writes answerOf tooShort
 roomBeforeTheSizeLimit-ruled-out b k n u out e f g large short h =

@@ -19,7 +19,7 @@ use Rattle.book_format.specs.Calls.{checkedBook, checkedPreset, appending}
 use Rattle.listing_text.specs.Text.{refusedLine, refusedBookLine, countLine, wordLine}
 use Rattle.listing_text.specs.Calls.{Piecing, nextPiece}
 use Rattle.examples.specs.Examples.{neg}
-use Rattle.examples.specs.WrongWindows.{refusesEveryKind, rank32InA, letterZeroAccepted, wordOf4097Letters}
+use Rattle.examples.specs.WrongWindows.{refusesEveryKind, rank64InA, letterZeroAccepted, wordOf4097Letters}
 use Rattle.examples.specs.WrongWindows.{turnsEveryPresetDown, straightForAllWords, exchangesValues, stepOfBInD, refusedCallWrites, clearsTheOutput}
 use Rattle.examples.specs.WrongWindows.{unshortenedWord, peelsOnlyBlock1, stopsAtAShortestWord, roomForTheRankOnly}
 use Rattle.examples.specs.WrongWindows.{block1Alone, entriesBeforeLanes, oddNegativesAccepted, blockTurnsEarlyInB, indexOneOffOnTheWayDown, lastEntryKeptInD}
@@ -71,7 +71,7 @@ unfoldable pub table : List WrongRouter
 table =
     -- refusals
     differ rankRefusal refusesEveryKind (λ f. number (f 1 2))
-    ∷ differ rankRefusal rank32InA (λ f. number (f 1 32))
+    ∷ differ rankRefusal rank64InA (λ f. number (f 1 64))
     ∷ differ wordRefusal letterZeroAccepted (λ f. number (f 2 (1 ∷ 0 ∷ [])))
     ∷ differ wordRefusal wordOf4097Letters (λ f. number (f 2 (replicate 4097 1)))
     -- the window of a word

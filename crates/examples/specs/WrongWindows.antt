@@ -29,8 +29,8 @@ windowChecks k n w = rankRefusal k n then windowRefusal (kindOf k) n w
 abbrev pub refusesEveryKind : ℕ → ℕ → ℕ
 refusesEveryKind k n = 5
 
-abbrev pub rank32InA : ℕ → ℕ → ℕ
-rank32InA k n = check 5 (wrongKind k) then check 6 (ltb n (least (kindOf k)) || ltb 32 n)
+abbrev pub rank64InA : ℕ → ℕ → ℕ
+rank64InA k n = check 5 (wrongKind k) then check 6 (ltb n (least (kindOf k)) || ltb 64 n)
 
 -- a letter 0 passes as a step
 abbrev pub letterZeroAccepted : ℕ → List ℕ → ℕ

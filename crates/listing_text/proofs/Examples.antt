@@ -8,10 +8,10 @@ use Prim.Native.String.{String}
 use Prim.Native.String as string
 use Rattle.coxeter.specs.Kinds.{kindOf, up}
 use Rattle.coxeter.specs.Windows.{from, exchange, negateFirst, exchangeNegate, act, windowFrom, straight, window, placeFrom, signed}
-use Rattle.coxeter.specs.Checks.{wrongKind, wrongRank, tooLong, wrongLetter, rankRefusal, wordRefusal}
+use Rattle.coxeter.specs.Checks.{wrongKind, tooLong, wrongLetter, wordRefusal}
 use Rattle.coxeter.specs.NormalForm.{down, rise, fall, block, without, indexOf, restOf, normalFrom, normalForm}
 use Rattle.coxeter.proofs.Vectors.{Agree, lent}
-use Rattle.book_format.specs.Books.{twoAt, count, trailer, offset, wrongSize, wrongCount, misplacedFrom, misplaced, noSuchPreset, bookRefusal, recordRefusal, presetRefusal}
+use Rattle.book_format.specs.Books.{twoAt, count, trailer, offset, wrongSize, wrongCount, misplacedFrom, misplaced, noSuchPreset, wrongRankInBook, bookRankRefusal, bookRefusal, recordRefusal, presetRefusal}
 use Rattle.book_format.specs.Calls.{openedOf, presetOf, checkedBook, presetAt, checkedPreset}
 use Rattle.book_format.proofs.Vectors.{book, emptyBook, bookOf}
 use Rattle.listing_text.specs.Text.{digits, decimal, spaced, letters, entry, entries, kindLetter, head, tail, presetLine, refused, refusedLine, refusedBookLine, countLine, wordLine, lineBy, lineOf, linesFrom, listingBy, listing}
@@ -39,8 +39,8 @@ listings =
 pub listings-agree : Agree listings
 unfolding listings codes
     kindOf up from exchange negateFirst exchangeNegate act windowFrom straight window placeFrom signed
-    wrongKind wrongRank tooLong wrongLetter rankRefusal wordRefusal down rise fall block without indexOf restOf normalFrom normalForm
-    twoAt count trailer offset wrongSize wrongCount misplacedFrom misplaced noSuchPreset bookRefusal recordRefusal presetRefusal
+    wrongKind tooLong wrongLetter wordRefusal down rise fall block without indexOf restOf normalFrom normalForm
+    twoAt count trailer offset wrongSize wrongCount misplacedFrom misplaced noSuchPreset wrongRankInBook bookRankRefusal bookRefusal recordRefusal presetRefusal
     openedOf presetOf checkedBook presetAt checkedPreset
     digits decimal spaced letters entry entries kindLetter head tail presetLine refused refusedLine refusedBookLine countLine
     wordLine lineBy lineOf linesFrom listingBy listing
@@ -59,8 +59,8 @@ piecing =
 pub piecing-agrees : Agree piecing
 unfolding piecing codes
     kindOf up from exchange negateFirst exchangeNegate act windowFrom straight window placeFrom signed
-    wrongKind wrongRank tooLong wrongLetter rankRefusal wordRefusal down rise fall block without indexOf restOf normalFrom normalForm
-    twoAt count trailer offset wrongSize wrongCount misplacedFrom misplaced noSuchPreset bookRefusal recordRefusal presetRefusal
+    wrongKind tooLong wrongLetter wordRefusal down rise fall block without indexOf restOf normalFrom normalForm
+    twoAt count trailer offset wrongSize wrongCount misplacedFrom misplaced noSuchPreset wrongRankInBook bookRankRefusal bookRefusal recordRefusal presetRefusal
     openedOf presetOf checkedBook presetAt checkedPreset
     digits decimal spaced letters entry entries kindLetter head tail presetLine refused refusedLine refusedBookLine countLine
     wordLine lineBy lineOf lineCountBy lineCount firstLine line lines fitting nextPiece

@@ -7,7 +7,7 @@ ghost use Prim.Native.Nat.{_≤_};
 
 // "2 as in A but not for the pair n-2, n; also (n-1) n -> n (n-1)."
 fn is_exchange(n: u8, i: u8, j: u8) -> bool
-    requires { ⌜ (i ≤ n) × (n ≤ 32) ⌝ }
+    requires { ⌜ (i ≤ n) × (n ≤ 64) ⌝ }
 {
     if j == n {
         return i + 1 == n || i + 3 <= n;
@@ -17,7 +17,7 @@ fn is_exchange(n: u8, i: u8, j: u8) -> bool
 
 // "3: for i <= n - 3 and i < j <= 2n - i - 2, and for i = n - 2, j = n - 1."
 fn is_braid(n: u8, i: u8, j: u8) -> bool
-    requires { ⌜ (i ≤ n) × (n ≤ 32) × (j ≤ 63) ⌝ }
+    requires { ⌜ (i ≤ n) × (n ≤ 64) × (j ≤ 127) ⌝ }
 {
     if i + 3 <= n {
         return i < j && i + j + 2 <= 2 * n;
@@ -27,7 +27,7 @@ fn is_braid(n: u8, i: u8, j: u8) -> bool
 
 // [i,j] last -> first [i,j].
 fn block_rule(n: u8, i: u8, j: u8, last: u8, first: u8) -> Rule
-    requires { ⌜ (4 ≤ n) × (n ≤ 32) × (j ≤ 64) ⌝ }
+    requires { ⌜ (4 ≤ n) × (n ≤ 64) × (j ≤ 128) ⌝ }
 {
     if j < n {
         return word_rule(i, wrapping_sub_u8(j + 1, i), 0, 0, last, first);
@@ -37,12 +37,12 @@ fn block_rule(n: u8, i: u8, j: u8, last: u8, first: u8) -> Rule
 
 // The family's rule with this i and j.
 pub(crate) fn rule(n: u8, family: u8, i: u8, j: u8) -> Rule
-    requires { ⌜ (4 ≤ n) × (n ≤ 32) ⌝ }
+    requires { ⌜ (4 ≤ n) × (n ≤ 64) ⌝ }
 {
     if n < i {
         return NONE;
     }
-    if 63 < j {
+    if 127 < j {
         return NONE;
     }
     if family == 2 && is_exchange(n, i, j) {

@@ -73,46 +73,42 @@ fn word_step(rule: Rule, place: u8) -> u8 {
     0
 }
 
-fn digit_step(n: u8, digits: u64, t: u8) -> u8
-    requires { ⌜ t ≤ 127 ⌝ }
-{
-    if 7 < t % 64 {
+fn digit_step(n: u8, digits: u64, t: u8) -> u8 {
+    if 7 < t % 128 {
         return 0;
     }
-    let digit = t % 64 + t / 64 * 8;
+    let digit = t % 128 + t / 128 * 8;
     step(n, ((digits >> (60 - 4 * digit)) % 16) as u8)
 }
 
-// The sides, place by place: the left side from 0 on and the right side from 64 on, with zeros behind each.
-pub(crate) fn letter(rule: Rule, t: u8) -> u8
-    requires { ⌜ t ≤ 127 ⌝ }
-{
+// The sides, place by place: the left side from 0 on and the right side from 128 on, with zeros behind each.
+pub(crate) fn letter(rule: Rule, t: u8) -> u8 {
     if rule.digits != 0 {
         return digit_step(rule.n, rule.digits, t);
     }
     if t == wrapping_add_u8(rule.up, rule.down) {
         return rule.last;
     }
-    if t < 64 {
+    if t < 128 {
         return word_step(rule, t);
     }
-    if t == 64 {
+    if t == 128 {
         return rule.first;
     }
     if rule.first == 0 {
         return 0;
     }
-    word_step(rule, t - 65)
+    word_step(rule, t - 129)
 }
 
-// The 64 places from one on.
-pub(crate) fn side(rule: Rule, from: u8) -> [u8; 64]
-    requires { ⌜ from ≤ 64 ⌝ }
-    ensures { λ r. ⌜ 64 ≡ length r ⌝ }
+// The 128 places from one on.
+pub(crate) fn side(rule: Rule, from: u8) -> [u8; 128]
+    requires { ⌜ from ≤ 128 ⌝ }
+    ensures { λ r. ⌜ 128 ≡ length r ⌝ }
 {
-    let mut side = [0; 64];
+    let mut side = [0; 128];
     let mut t: u8 = 0;
-    while t < 64 {
+    while t < 128 {
         side[t as usize] = letter(rule, from + t);
         t += 1;
     }
@@ -120,9 +116,9 @@ pub(crate) fn side(rule: Rule, from: u8) -> [u8; 64]
 }
 
 pub(crate) fn have_same_sides(a: Rule, b: Rule) -> bool {
-    let mut t = 0;
-    while t < 128 {
-        if letter(a, t) != letter(b, t) {
+    let mut t: usize = 0;
+    while t < 256 {
+        if letter(a, t as u8) != letter(b, t as u8) {
             return false;
         }
         t += 1;

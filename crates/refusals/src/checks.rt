@@ -30,9 +30,9 @@ fn greatest(kind: u8) -> u8
     ensures { λ r. ⌜ r ≡ kinds.greatest (kindOf kind) ⌝ }
 {
     if kind == 1 {
-        return 31;
+        return 63;
     }
-    32
+    64
 }
 
 // Answers how many lanes a window of this kind and rank has: one more than the rank in kind 1, else the rank. It checks neither: a number that is

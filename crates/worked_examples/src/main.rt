@@ -39,13 +39,16 @@ fn worked() -> u64 {
     example(t, 3, 5, 523512, 35142, 01001)
 }
 
-// "A rank 31 accepted, 32 refused 6. 4,096 letters accepted, 4,097 refused 7. Letter n accepted, n + 1 refused 8."
+// "A rank 31 accepted, 32 refused 6", moved by request 6 to 63 and 64, and in B and D to 64 and 65. "4,096 letters accepted, 4,097 refused 7. Letter n
+// accepted, n + 1 refused 8."
 fn limits() -> u64 {
-    let t = letter(letter(0, 1, 31, 1, 0), 1, 32, 1, 6);
-    let t = long_words(long_words(long_words(t, 1, 31), 2, 32), 3, 32);
-    let t = letter(letter(t, 1, 31, 31, 0), 1, 31, 32, 8);
-    let t = letter(letter(t, 2, 32, 32, 0), 2, 32, 33, 8);
-    letter(letter(t, 3, 32, 32, 0), 3, 32, 33, 8)
+    let t = letter(letter(0, 1, 63, 1, 0), 1, 64, 1, 6);
+    let t = letter(letter(t, 2, 64, 1, 0), 2, 65, 1, 6);
+    let t = letter(letter(t, 3, 64, 1, 0), 3, 65, 1, 6);
+    let t = long_words(long_words(long_words(t, 1, 63), 2, 64), 3, 64);
+    let t = letter(letter(t, 1, 63, 63, 0), 1, 63, 64, 8);
+    let t = letter(letter(t, 2, 64, 64, 0), 2, 64, 65, 8);
+    letter(letter(t, 3, 64, 64, 0), 3, 64, 65, 8)
 }
 
 // Document 01, "Mistakes close at hand": values exchanged for positions, the usual order of the integers for the last step alone of B and of D, B's rule

@@ -38,7 +38,7 @@ impl Random {
 
     fn windows(&mut self, kind: u32, rank: u32) -> Vec<Vec<i8>> {
         let of = |word: &Vec<u8>| {
-            let mut window = vec![0; 32];
+            let mut window = vec![0; 64];
             let lanes = plain::window_of_word(kind, rank, word, &mut window);
             window.truncate(lanes as usize);
             window
@@ -185,7 +185,7 @@ fn full_book(random: &mut Random, letters: usize, left_out: usize) -> Vec<u8> {
 fn main() {
     let filter = std::env::args().nth(1).unwrap_or_default();
     let outputs = Outputs {
-        lanes: vec![0; 32],
+        lanes: vec![0; 64],
         bytes: vec![0; 65535],
         rule: [0; 3],
         fields: vec![0; 5 * 10_922],
@@ -194,8 +194,8 @@ fn main() {
     let mut bench = Bench { filter, outputs, cells: Vec::new() };
     let mut random = Random(2026);
 
-    for rank in [4, 16, 32] {
-        for (kind, name, most) in [(1, "A", 31), (2, "B", 32), (3, "D", 32)] {
+    for rank in [4, 16, 32, 64] {
+        for (kind, name, most) in [(1, "A", 63), (2, "B", 64), (3, "D", 64)] {
             let rank = rank.min(most);
             let rig = format!("{name}{rank}");
             words(&mut bench, &mut random, kind, rank, &rig);
@@ -215,7 +215,7 @@ fn words(bench: &mut Bench, random: &mut Random, kind: u32, rank: u32, rig: &str
         let other = |k: usize| black_box(&words[INPUTS - 1 - k][..]);
         // Each word's normal form, so that the verdict on the two is yes.
         let form_of = |word: &Vec<u8>| {
-            let mut form = vec![0; 1024];
+            let mut form = vec![0; 4096];
             let length = plain::normal_form_of_word(kind, rank, word, &mut form);
             form.truncate(length as usize);
             form

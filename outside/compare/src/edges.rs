@@ -4,13 +4,13 @@ use crate::sides::{ROOM, Sides};
 
 /// Words and windows that each call gets here.
 fn every_call(sides: &mut Sides, kind: u32, rank: u32, word: &[u8], window: &[i8], out: usize) {
-    sides.window_of_word(kind, rank, word, out.min(40));
+    sides.window_of_word(kind, rank, word, out.min(80));
     sides.normal_form_of_word(kind, rank, word, out);
     sides.normal_form_of_window(kind, rank, window, out);
     sides.product_of_words(kind, rank, word, word, out);
-    sides.product_of_windows(kind, rank, window, window, out.min(40));
+    sides.product_of_windows(kind, rank, window, window, out.min(80));
     sides.inverse_of_word(kind, rank, word, out);
-    sides.inverse_of_window(kind, rank, window, out.min(40));
+    sides.inverse_of_window(kind, rank, window, out.min(80));
     sides.length_of_word(kind, rank, word);
     sides.length_of_window(kind, rank, window);
     sides.crossings_of_word(kind, rank, word);
@@ -66,7 +66,7 @@ pub fn letters(sides: &mut Sides) {
         let n = rank as u8;
         for letter in 0..=255 {
             for word in [&[letter][..], &[1, letter, 1], &[letter, n, letter, n], &[n, n, n, letter]] {
-                sides.window_of_word(kind, rank, word, 32);
+                sides.window_of_word(kind, rank, word, 64);
                 sides.normal_form_of_word(kind, rank, word, 8);
                 sides.rewrite(kind, rank, word, word.len() - 1, 8, 3);
                 sides.rewrite(kind, rank, word, 0, 8, 3);
@@ -108,8 +108,8 @@ pub fn entries(sides: &mut Sides) {
         for length in 0..=m + 3 {
             let window: Vec<i8> = (1..=length as i8).collect();
             sides.normal_form_of_window(kind, rank, &window, 8);
-            sides.product_of_windows(kind, rank, &window, &window, 40);
-            sides.inverse_of_window(kind, rank, &window, 40);
+            sides.product_of_windows(kind, rank, &window, &window, 80);
+            sides.inverse_of_window(kind, rank, &window, 80);
             sides.length_of_window(kind, rank, &window);
         }
         sides.length_of_window(kind, rank, &vec![1; 300]);
@@ -121,8 +121,8 @@ pub fn entries(sides: &mut Sides) {
                 window[at] = value;
                 sides.length_of_window(kind, rank, &window);
                 if rank < 7 || at == 0 || at == m - 1 {
-                    sides.normal_form_of_window(kind, rank, &window, 1024);
-                    sides.inverse_of_window(kind, rank, &window, 40);
+                    sides.normal_form_of_window(kind, rank, &window, 4096);
+                    sides.inverse_of_window(kind, rank, &window, 80);
                     sides.product_of_windows(kind, rank, &straight, &window, m);
                     sides.product_of_windows(kind, rank, &window, &straight, m);
                 }
@@ -159,7 +159,7 @@ pub fn order_of_checks(sides: &mut Sides) {
         &[9, 0, 1, 0, 0, 0, 0, 1, 0],
     ];
     for kind in 0..=4 {
-        for rank in [0, 1, 3, 4, 31, 32, 33] {
+        for rank in [0, 1, 3, 4, 31, 32, 33, 63, 64, 65] {
             for first in words {
                 for second in words {
                     for out in [0, 1, 2, 8] {

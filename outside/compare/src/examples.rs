@@ -17,8 +17,8 @@ impl Table<'_> {
         assert_eq!(self.0.bytes(answer), due, "normal form of {kind} {rank} {word:?}");
         assert_eq!(self.0.length_of_word(kind, rank, word), due.len() as i64);
         // The same by the window.
-        self.0.window_of_word(kind, rank, word, 32);
-        let lanes = self.0.window_of_word(kind, rank, word, 32);
+        self.0.window_of_word(kind, rank, word, 64);
+        let lanes = self.0.window_of_word(kind, rank, word, 64);
         let window = self.0.lanes(lanes).to_vec();
         let answer = self.0.normal_form_of_window(kind, rank, &window, ROOM);
         assert_eq!(self.0.bytes(answer), due);
@@ -77,8 +77,8 @@ pub fn run(sides: &mut Sides) {
     due(sides.length_of_window(D, 4, &[-1, 2, 3, 4]), -11);
     due(sides.length_of_window(D, 4, &[-1, -2, 3, 4]), 10);
     due(sides.length_of_window(B, 2, &[-128, 2]), -10);
-    due(sides.length_of_word(A, 31, &[]), 0);
-    due(sides.length_of_word(A, 32, &[]), -6);
+    due(sides.length_of_word(A, 63, &[]), 0);
+    due(sides.length_of_word(A, 64, &[]), -6);
     due(sides.length_of_word(A, 1, &[1; 4096]), 0);
     due(sides.length_of_word(A, 1, &[1; 4097]), -7);
     for (kind, rank) in crate::inputs::rigs() {
@@ -95,6 +95,11 @@ pub fn run(sides: &mut Sides) {
         };
         due(sides.length_of_window(kind, rank, &window), longest);
         due(sides.each_length(|sides, out| sides.normal_form_of_window(kind, rank, &window, out)), longest);
+        // It is accepted again as a word, also B64's, which has as many letters as a word may have.
+        sides.normal_form_of_window(kind, rank, &window, ROOM);
+        let form = sides.bytes(longest).to_vec();
+        due(sides.normal_form_of_word(kind, rank, &form, ROOM), longest);
+        assert_eq!(sides.bytes(longest), form);
     }
     due(sides.same((A, 2, &[1, 2, 1]), (A, 2, &[2, 1, 2])), 1);
     due(sides.same((A, 2, &[1]), (A, 2, &[2])), 0);
@@ -112,5 +117,5 @@ pub fn run(sides: &mut Sides) {
     due(sides.better(A, 2, &[], &[]), 1);
     due(sides.better(A, 2, &[1], &[2]), 0);
     due(sides.better(A, 2, &[1], &[3]), 0);
-    due(sides.better(A, 32, &[1], &[1]), 0);
+    due(sides.better(A, 64, &[1], &[1]), 0);
 }

@@ -61,7 +61,7 @@ pub fn windows(sides: &mut Sides) {
 }
 
 fn plain_form(kind: u32, rank: u32, window: &[i8]) -> Vec<u8> {
-    let mut form = vec![0; 1024];
+    let mut form = vec![0; 4096];
     let length = plain::normal_form_of_window(kind, rank, window, &mut form);
     form.truncate(length as usize);
     form

@@ -8,9 +8,9 @@ pub const RAISED: [u32; 6] = [1 << 8, 1 << 16, 1 << 24, 1 << 31, 0xffff_ff00, 0x
 /// The ranks of a kind.
 pub fn ranks(kind: u32) -> std::ops::RangeInclusive<u32> {
     match kind {
-        plain::A => 1..=31,
-        plain::B => 2..=32,
-        _ => 4..=32,
+        plain::A => 1..=63,
+        plain::B => 2..=64,
+        _ => 4..=64,
     }
 }
 
@@ -68,7 +68,7 @@ impl Random {
         match self.below(20) {
             0 => (self.byte().into(), rank),
             1 => (kind, self.byte().into()),
-            2 => (kind, self.pick(&[0, 1, 2, 3, 4, 31, 32, 33, 255])),
+            2 => (kind, self.pick(&[0, 1, 2, 3, 4, 31, 32, 33, 63, 64, 65, 255])),
             _ => (kind, rank),
         }
     }

@@ -85,7 +85,7 @@ fn two_words(sides: &mut Sides, random: &mut Random, call: usize) {
     let mut second = match random.below(4) {
         0 => any_word(random, kind, rank),
         1 => {
-            let mut form = vec![0; 1024];
+            let mut form = vec![0; 4096];
             let length = plain::normal_form_of_word(kind, rank, &first, &mut form);
             form.truncate(length.max(0) as usize);
             form

@@ -30,6 +30,9 @@ fn left_side(kind: u32, n: u8, rule: Rule) -> Vec<u8> {
     }
 }
 
+/// The ranks where each rule is tried in each way; at higher ones, where there are more and longer rules, in fewer.
+const EACH_WAY: u32 = 20;
+
 pub fn each_rule(sides: &mut Sides) {
     let mut random = Random(7);
     for (kind, rank) in rigs() {
@@ -37,6 +40,10 @@ pub fn each_rule(sides: &mut Sides) {
         for rule in plain::rules(kind, n) {
             let left = left_side(kind, n, rule);
             let due = [rule.family, rule.i, rule.j];
+            if rank > EACH_WAY {
+                in_few_ways(sides, &mut random, (kind, rank), &left, due);
+                continue;
+            }
             // The left side alone, at the end, at the start, in the middle.
             for (before, after) in [(0, 0), (5, 0), (0, 5), (3, 4)] {
                 let mut word = random.word(kind, rank, before);
@@ -68,6 +75,26 @@ pub fn each_rule(sides: &mut Sides) {
             }
         }
     }
+}
+
+/// The left side with letters around it, without its last letter, and with one letter changed.
+fn in_few_ways(sides: &mut Sides, random: &mut Random, (kind, rank): (u32, u32), left: &[u8], due: [u8; 3]) {
+    let before = random.below(4);
+    let mut word = random.word(kind, rank, before);
+    word.extend(left);
+    word.extend(random.word(kind, rank, 3));
+    let answer = sides.rewrite(kind, rank, &word, before, word.len(), 3);
+    assert!(answer >= 0, "kind {kind}, rank {rank}: {due:?} does not fit");
+    assert_eq!(sides.rule(), due, "kind {kind}, rank {rank}");
+    let new = sides.bytes(answer).to_vec();
+    sides.same((kind, rank, &word), (kind, rank, &new));
+    sides.rewrite(kind, rank, &word, before, new.len() - 1, 3);
+    sides.rewrite(kind, rank, &word, before, new.len(), 2);
+    sides.rewrite(kind, rank, &word, before + 1, word.len(), 3);
+    assert_eq!(sides.rewrite(kind, rank, &left[..left.len() - 1], 0, left.len(), 3), plain::NONE_FITS);
+    let mut changed = left.to_vec();
+    changed[random.below(left.len())] = random.below(rank as usize) as u8 + 1;
+    sides.rewrite(kind, rank, &changed, 0, left.len(), 3);
 }
 
 pub fn to_the_end(sides: &mut Sides) {

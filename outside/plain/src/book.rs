@@ -1,6 +1,6 @@
 //! Preset books: checks 1 to 4, reading by number, appending.
-use crate::checks::check_preset;
-use crate::{MAX_BOOK, Refusal, coded, front};
+use crate::checks::check_word;
+use crate::{A, B, D, MAX_BOOK, Refusal, coded, front};
 
 const HEAD: usize = 4;
 
@@ -39,6 +39,21 @@ fn check(book: &[u8]) -> Result<(usize, usize), Refusal> {
     if end == start { Ok((count, start)) } else { Err(3) }
 }
 
+/// Checks 5 to 8 of a record: a book keeps ranges of its own. Hands back the rank as a byte.
+fn check_record(kind: u32, rank: u32, word: &[u8]) -> Result<u8, Refusal> {
+    let ranks = match kind {
+        A => 1..=31,
+        B => 2..=32,
+        D => 4..=32,
+        _ => return Err(5),
+    };
+    if !ranks.contains(&rank) {
+        return Err(6);
+    }
+    check_word(rank as u8, word)?;
+    Ok(rank as u8)
+}
+
 /// The number of presets.
 pub fn book_check(book: &[u8]) -> i64 {
     coded(check(book).map(|(count, _)| count))
@@ -49,7 +64,7 @@ fn read(book: &[u8], offset: usize) -> Result<[u64; 4], Refusal> {
     let record = two(book, offset);
     let (kind, rank) = (book[record], book[record + 1]);
     let (at, letters) = (record + HEAD, two(book, record + 2));
-    check_preset(kind.into(), rank.into(), &book[at..at + letters])?;
+    check_record(kind.into(), rank.into(), &book[at..at + letters])?;
     Ok([kind.into(), rank.into(), at as u64, letters as u64])
 }
 
@@ -92,7 +107,7 @@ pub fn presets(book: &[u8], first: usize, fields: &mut [u64]) -> i64 {
 pub fn append(book: &[u8], kind: u32, rank: u32, word: &[u8], out: &mut [u8]) -> i64 {
     coded((|| {
         let (count, start) = check(book)?;
-        let rank = check_preset(kind, rank, word)?;
+        let rank = check_record(kind, rank, word)?;
         let length = book.len() + HEAD + word.len() + 2;
         if length > MAX_BOOK {
             return Err(13);

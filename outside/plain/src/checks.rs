@@ -4,9 +4,9 @@ use crate::{A, B, D, MAX_LETTERS, Refusal, lanes};
 /// Hands back the rank as a byte, as steps are.
 pub(crate) fn check_rank(kind: u32, rank: u32) -> Result<u8, Refusal> {
     let ranks = match kind {
-        A => 1..=31,
-        B => 2..=32,
-        D => 4..=32,
+        A => 1..=63,
+        B => 2..=64,
+        D => 4..=64,
         _ => return Err(5),
     };
     if ranks.contains(&rank) { Ok(rank as u8) } else { Err(6) }
@@ -36,10 +36,10 @@ pub(crate) fn check_window(kind: u32, rank: u8, window: &[i8]) -> Result<(), Ref
     let mut negatives = 0;
     for &entry in window {
         let size = entry.unsigned_abs();
-        if size == 0 || size as usize > m || seen >> size & 1 == 1 || (kind == A && entry < 0) {
+        if size == 0 || size as usize > m || seen >> (size - 1) & 1 == 1 || (kind == A && entry < 0) {
             return Err(10);
         }
-        seen |= 1 << size;
+        seen |= 1 << (size - 1);
         negatives += u32::from(entry < 0);
     }
     if kind == D && negatives % 2 == 1 {

@@ -21,7 +21,7 @@ pub const A: u32 = 1;
 pub const B: u32 = 2;
 pub const D: u32 = 3;
 
-pub const MAX_LANES: usize = 32;
+pub const MAX_LANES: usize = 64;
 pub const MAX_LETTERS: usize = 4096;
 pub const MAX_BOOK: usize = 65535;
 

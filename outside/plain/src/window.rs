@@ -115,7 +115,7 @@ pub(crate) fn crossings(kind: u32, w: &[i8]) -> [usize; 3] {
 pub(crate) fn length(kind: u32, w: &[i8]) -> usize {
     let mut sum = 0;
     let mut rest = w;
-    // A row counts at most two for each of 31 entries, so it fits in a byte.
+    // A row counts at most two for each of 63 entries, so it fits in a byte.
     while let [first, later @ ..] = rest {
         let first = place(*first);
         let row: u8 = if kind == A {

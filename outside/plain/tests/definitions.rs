@@ -6,7 +6,7 @@ const RIGS: [(u32, u32); 12] =
     [(A, 1), (A, 2), (A, 3), (A, 4), (A, 5), (A, 6), (B, 2), (B, 3), (B, 4), (B, 5), (D, 4), (D, 5)];
 
 fn window(kind: u32, rank: u32, word: &[u8]) -> Vec<i8> {
-    let mut window = vec![0; 32];
+    let mut window = vec![0; 64];
     let lanes = plain::window_of_word(kind, rank, word, &mut window);
     window.truncate(lanes as usize);
     window
@@ -101,13 +101,13 @@ fn rewrites_keep_the_window_and_come_earlier() {
 
 #[test]
 fn rules_are_as_many_as_the_families_say() {
-    for rank in 4..=32 {
+    for rank in 4..=64 {
         let n = usize::from(rank);
         // Family 1; pairs that commute; family 3 by i; the rest.
         let a = n + (n - 1) * (n - 2) / 2 + n * (n - 1) / 2;
         let b = n + (n - 1) * (n - 2) / 2 + (1..n - 1).map(|i| 2 * n - 2 * i - 2).sum::<usize>() + (n - 1);
         let d = n + (n - 1) * (n - 2) / 2 + (1..n - 2).map(|i| 2 * n - 2 * i - 2).sum::<usize>() + 1 + (n - 3) + 3;
-        if rank < 32 {
+        if rank < 64 {
             assert_eq!(plain::rules(A, rank).count(), a);
         }
         assert_eq!(plain::rules(B, rank).count(), b);

@@ -30,12 +30,12 @@ pub use presets::{Presets, presets};
 pub use refusal::Refusal;
 use std::fmt;
 
-/// The most lanes of a window: 32.
-pub const MAX_LANES: usize = 32;
+/// The most lanes of a window: 64.
+pub const MAX_LANES: usize = 64;
 /// The most letters of a word: 4,096.
 pub const MAX_LETTERS: usize = 4096;
-/// The most letters of a normal form: 1,024, in kind B at rank 32. An output of this length is never too short for one.
-pub const MAX_NORMAL_FORM: usize = 1024;
+/// The most letters of a normal form: 4,096, in kind B at rank 64. An output of this length is never too short for one.
+pub const MAX_NORMAL_FORM: usize = 4096;
 /// The most bytes of a book: 65,535.
 pub const MAX_BOOK: usize = 65535;
 
@@ -45,11 +45,11 @@ pub const MAX_BOOK: usize = 65535;
 pub struct Kind(pub u8);
 
 impl Kind {
-    /// Ranks 1 to 31, one lane more than the rank. Step i exchanges the lanes at i and i + 1.
+    /// Ranks 1 to 63, in a book 1 to 31; one lane more than the rank. Step i exchanges the lanes at i and i + 1.
     pub const A: Kind = Kind(1);
-    /// Ranks 2 to 32. As in A, but step n mirrors the last lane.
+    /// Ranks 2 to 64, in a book 2 to 32. As in A, but step n mirrors the last lane.
     pub const B: Kind = Kind(2);
-    /// Ranks 4 to 32. As in A, but step n exchanges the last two lanes and mirrors both.
+    /// Ranks 4 to 64, in a book 4 to 32. As in A, but step n exchanges the last two lanes and mirrors both.
     pub const D: Kind = Kind(3);
 }
 
@@ -402,7 +402,8 @@ mod tests {
         assert_eq!(number(book_check(&[0, 0, 0])), 3);
         assert_eq!(number(preset(&BOOK, 2)), 4);
         assert_eq!(number(window_of_word(Kind(4), 2, &[], &mut lanes)), 5);
-        assert_eq!(number(window_of_word(Kind::A, 32, &[], &mut lanes)), 6);
+        assert_eq!(number(window_of_word(Kind::A, 64, &[], &mut lanes)), 6);
+        assert_eq!(number(append(&BOOK, Preset { kind: Kind::A, rank: 32, word: &[] }, &mut letters)), 6);
         assert_eq!(number(length_of_word(Kind::A, 1, &[1; 4097])), 7);
         assert_eq!(number(same(empty, Preset { word: &[3], ..empty })), 8);
         assert_eq!(number(length_of_window(Kind::A, 2, &[1, 2])), 9);

@@ -6,10 +6,10 @@ use Rattle.published_rules.proofs.count.Statement.{statement}
 use Rattle.published_rules.proofs.count.Tie as tie
 
 abbrev Inv-loop : tie.InvT-loop
-Inv-loop published from to held₀ x₀ held x = 131072 ≤ x
+Inv-loop published from to held₀ x₀ held x = 524288 ≤ x
 
 abbrev μ-loop : tie.MeasureT-loop
-μ-loop published from to held₀ x₀ held x = (to + 1) * 32768 - x
+μ-loop published from to held₀ x₀ held x = (to + 1) * 131072 - x
 
 mul-x : tie.Need-mul-x Inv-loop μ-loop
 mul-x c = search needs

@@ -9,7 +9,7 @@ abbrev Inv-loop : tie.InvT-loop
 Inv-loop n m rule x₀ x = Unit {0}
 
 abbrev μ-loop : tie.MeasureT-loop
-μ-loop n m rule x₀ x = 320 - x
+μ-loop n m rule x₀ x = 640 - x
 
 loop-holds : tie.Need-loop-holds Inv-loop μ-loop
 loop-holds c = search needs

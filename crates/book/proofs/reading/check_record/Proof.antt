@@ -15,11 +15,11 @@ add-rank c = search needs
 shared-slice-read-rank : tie.Need-shared-slice-read-rank
 shared-slice-read-rank c = search needs
 
-rank-refusal-requires : tie.Need-rank-refusal-requires
-rank-refusal-requires c κs = search needs
+book-rank-refusal-requires : tie.Need-book-rank-refusal-requires
+book-rank-refusal-requires c κs = search needs
 
 returns : tie.Need-returns
-returns c = sym (checkedRecord-rank _ _ _ (c .before .rank-refusal .ensures) (c .if1 .taken))
+returns c = sym (checkedRecord-rank _ _ _ (c .before .book-rank-refusal .ensures) (c .if1 .taken))
 
 add-two-at : tie.Need-add-two-at
 add-two-at c = search needs
@@ -49,13 +49,13 @@ returns-2 : tie.Need-returns-2
 returns-2 c =
     let ranked = c .before .before .before .before in
     let read = c .before .before .before .two-at .ensures .0 in
-    sym (checkedRecord-word _ _ _ (ranked .before .rank-refusal .ensures) _ _ (ranked .if1 .left) read (c .before .word-refusal .ensures) (c .if2 .taken))
+    sym (checkedRecord-word _ _ _ (ranked .before .book-rank-refusal .ensures) _ _ (ranked .if1 .left) read (c .before .word-refusal .ensures) (c .if2 .taken))
 
 returns-3 : tie.Need-returns-3
 returns-3 c =
     let ranked = c .before .before .before .before in
     let read = c .before .before .before .two-at .ensures .0 in
-    sym (checkedRecord-found _ _ _ (ranked .before .rank-refusal .ensures) _ _ (ranked .if1 .left) read (c .before .word-refusal .ensures) (c .if2 .left))
+    sym (checkedRecord-found _ _ _ (ranked .before .book-rank-refusal .ensures) _ _ (ranked .if1 .left) read (c .before .word-refusal .ensures) (c .if2 .left))
 
 pub check-record-spec : {M : Type 1} → statement M
 check-record-spec =
@@ -64,7 +64,7 @@ check-record-spec =
     shared-slice-read-kind
     add-rank
     shared-slice-read-rank
-    rank-refusal-requires
+    book-rank-refusal-requires
     returns
     add-two-at
     two-at-requires

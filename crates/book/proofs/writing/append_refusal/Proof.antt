@@ -14,13 +14,13 @@ book-refusal-requires c κs = search needs
 returns : tie.Need-returns
 returns c = sym (appendRefusal-book _ _ _ _ _ (c .before .book-refusal .ensures) (c .if1 .taken))
 
-rank-refusal-requires : tie.Need-rank-refusal-requires
-rank-refusal-requires c κs = search needs
+book-rank-refusal-requires : tie.Need-book-rank-refusal-requires
+book-rank-refusal-requires c κs = search needs
 
 returns-2 : tie.Need-returns-2
 returns-2 c =
     let opened = c .before .before in
-    sym (appendRefusal-rank _ _ _ _ _ (opened .before .book-refusal .ensures) _ (opened .if1 .left) (c .before .rank-refusal .ensures) (c .if2 .taken))
+    sym (appendRefusal-rank _ _ _ _ _ (opened .before .book-refusal .ensures) _ (opened .if1 .left) (c .before .book-rank-refusal .ensures) (c .if2 .taken))
 
 word-refusal-requires : tie.Need-word-refusal-requires
 word-refusal-requires c κs = search needs
@@ -30,7 +30,7 @@ returns-3 c =
     let ranked = c .before .before in
     let opened = ranked .before .before in
     sym
-    (appendRefusal-word _ _ _ _ _ (opened .before .book-refusal .ensures) _ (opened .if1 .left) (ranked .before .rank-refusal .ensures) _ (ranked .if2 .left)
+    (appendRefusal-word _ _ _ _ _ (opened .before .book-refusal .ensures) _ (opened .if1 .left) (ranked .before .book-rank-refusal .ensures) _ (ranked .if2 .left)
     (c .before .word-refusal .ensures) (c .if3 .taken))
 
 add-if4 : tie.Need-add-if4
@@ -50,7 +50,7 @@ returns-4 c =
     let ranked = c .before .before .before in
     let opened = ranked .before .before in
     sym
-    (appendRefusal-large _ _ _ _ _ (opened .before .book-refusal .ensures) _ (opened .if1 .left) (ranked .before .rank-refusal .ensures) _ (ranked .if2 .left)
+    (appendRefusal-large _ _ _ _ _ (opened .before .book-refusal .ensures) _ (opened .if1 .left) (ranked .before .book-rank-refusal .ensures) _ (ranked .if2 .left)
     (c .before .before .word-refusal .ensures) (c .before .if3 .left) (c .if4 .taken))
 
 returns-5 : tie.Need-returns-5
@@ -58,7 +58,7 @@ returns-5 c =
     let ranked = c .before .before .before in
     let opened = ranked .before .before in
     sym
-    (appendRefusal-none _ _ _ _ _ (opened .before .book-refusal .ensures) _ (opened .if1 .left) (ranked .before .rank-refusal .ensures) _ (ranked .if2 .left)
+    (appendRefusal-none _ _ _ _ _ (opened .before .book-refusal .ensures) _ (opened .if1 .left) (ranked .before .book-rank-refusal .ensures) _ (ranked .if2 .left)
     (c .before .before .word-refusal .ensures) (c .before .if3 .left) (c .if4 .left))
 
 pub append-refusal-spec : {M : Type 1} → statement M
@@ -67,7 +67,7 @@ append-refusal-spec =
     (tie.spec
     book-refusal-requires
     returns
-    rank-refusal-requires
+    book-rank-refusal-requires
     returns-2
     word-refusal-requires
     returns-3

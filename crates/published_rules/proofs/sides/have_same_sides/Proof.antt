@@ -9,13 +9,19 @@ abbrev Inv-loop : tie.InvT-loop
 Inv-loop a b t₀ t = Unit {0}
 
 abbrev μ-loop : tie.MeasureT-loop
-μ-loop a b t₀ t = 128 - t
+μ-loop a b t₀ t = 256 - t
 
 loop-holds : tie.Need-loop-holds Inv-loop μ-loop
 loop-holds c = search needs
 
+cast-letter : tie.Need-cast-letter Inv-loop μ-loop
+cast-letter c = search needs
+
 letter-requires : tie.Need-letter-requires Inv-loop μ-loop
 letter-requires c κs = search needs
+
+cast-letter-2 : tie.Need-cast-letter-2 Inv-loop μ-loop
+cast-letter-2 c = search needs
 
 letter-requires-2 : tie.Need-letter-requires-2 Inv-loop μ-loop
 letter-requires-2 c κs = search needs
@@ -42,7 +48,9 @@ have-same-sides-spec =
     Inv-loop
     μ-loop
     loop-holds
+    cast-letter
     letter-requires
+    cast-letter-2
     letter-requires-2
     returns
     add-t

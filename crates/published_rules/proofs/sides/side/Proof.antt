@@ -1,4 +1,4 @@
--- `side` answers 64 letters, and ends: the measure is the number of places left.
+-- `side` answers 128 letters, and ends: the measure is the number of places left.
 -- Assumes nothing.
 use mathlib.Core.Path.{_≡_}
 use Prim.Native.Nat.{_-_}
@@ -8,10 +8,10 @@ use Rattle.published_rules.proofs.sides.side.Statement.{statement}
 use Rattle.published_rules.proofs.sides.side.Tie as tie
 
 abbrev Inv-loop : tie.InvT-loop
-Inv-loop rule from side₀ t₀ side t = length side ≡ 64
+Inv-loop rule from side₀ t₀ side t = length side ≡ 128
 
 abbrev μ-loop : tie.MeasureT-loop
-μ-loop rule from side₀ t₀ side t = 64 - t
+μ-loop rule from side₀ t₀ side t = 128 - t
 
 loop-holds : tie.Need-loop-holds Inv-loop μ-loop
 loop-holds c = search needs

@@ -11,7 +11,7 @@ returns : tie.Need-returns
 returns c = rw (kindOf-one _ (c .if1 .taken))
 
 returns-2 : tie.Need-returns-2
-returns-2 c = by-kind-else (λ (k : Kind). _≡_ {A = ℕ} 32 (greatest k)) _ (c .if1 .left) refl refl
+returns-2 c = by-kind-else (λ (k : Kind). _≡_ {A = ℕ} 64 (greatest k)) _ (c .if1 .left) refl refl
 
 pub greatest-spec : {M : Type 1} → statement M
 greatest-spec = tie.close (tie.spec returns returns-2)

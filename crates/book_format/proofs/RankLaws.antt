@@ -1,0 +1,60 @@
+-- Checks 5 and 6 of a record beside those of a call: a book's ranges lie inside the calls' ranges, so what the calls refuse is refused with the same
+-- number, and what is left to test is the book's own upper end.
+-- Assumes nothing.
+use mathlib.Core.Path.{_≡_, refl, sym, _∙_}
+use mathlib.Core.Bool.{Bool, true, false, _||_}
+use Prim.Native.Nat.{ℕ, _≤_, _<_}
+use native.Mathlib.Decide.{ℕ-discrete}
+use native.Mathlib.Omega.{arith}
+use lib.Dec.{ltb}
+use borrow.Author.Tests.{ne-eqb, lt-ltb, le-ltb, ltb-true}
+use Rattle.coxeter.specs.Kinds.{Kind, A, B, D, kindOf, least, greatest}
+use Rattle.coxeter.specs.Checks.{check, _then_, wrongKind, wrongRank, rankRefusal}
+use Rattle.coxeter.proofs.Acceptance.{rank-within}
+use Rattle.coxeter.proofs.Refusals.{then-zero}
+use Rattle.book_format.specs.Books.{greatestInBook, wrongRankInBook, bookRankRefusal}
+
+greatestInBook-le : (k : Kind) → greatestInBook k ≤ greatest k
+greatestInBook-le A = omega arith
+greatestInBook-le B = omega arith
+greatestInBook-le D = omega arith
+
+or-wider : (low high higher : Bool) → (high ≡ true → higher ≡ true) → (low || high) ≡ true → (low || higher) ≡ true
+or-wider true high higher f h = refl
+or-wider false high higher f h = f h
+
+wrongRank-inBook : (k : Kind) (n : ℕ) → wrongRank k n ≡ true → wrongRankInBook k n ≡ true
+unfolding wrongRank wrongRankInBook
+wrongRank-inBook k n =
+    or-wider (ltb n (least k)) (ltb (greatest k) n) (ltb (greatestInBook k) n)
+    (λ t. let h = ltb-true (greatest k) n t in lt-ltb (greatestInBook k) n (omega (arith, greatestInBook-le k)))
+
+sixth : (kind rank inBook : Bool) → (rank ≡ true → inBook ≡ true) → ((check 5 kind then check 6 rank) ≡ 0 → ⊥)
+    → (check 5 kind then check 6 inBook) ≡ (check 5 kind then check 6 rank)
+sixth true rank inBook h f = refl
+sixth false true inBook h f = rw (h refl)
+sixth false false inBook h f = absurd (f refl)
+
+-- r is the refusal of the kind and the rank by the calls' ranges
+module _ (k n r : ℕ) (e : r ≡ rankRefusal k n) where
+  pub bookRankRefusal-refused : (r ≡ 0 → ⊥) → bookRankRefusal k n ≡ r
+  unfolding rankRefusal bookRankRefusal
+  bookRankRefusal-refused f =
+      sixth (wrongKind k) (wrongRank (kindOf k) n) (wrongRankInBook (kindOf k) n) (wrongRank-inBook (kindOf k) n) (λ z. f (e ∙ z)) ∙ sym e
+
+  module _ (z : r ≡ 0) where
+    rightKind : check 5 (wrongKind k) ≡ 0
+    unfolding rankRefusal
+    rightKind = then-zero (check 5 (wrongKind k)) (check 6 (wrongRank (kindOf k) n)) (sym e ∙ z) .0
+
+    pub bookRankRefusal-above : greatestInBook (kindOf k) < n → bookRankRefusal k n ≡ 6
+    unfolding bookRankRefusal wrongRankInBook
+    bookRankRefusal-above h = rw (rightKind, lt-ltb (greatestInBook (kindOf k)) n h, le-ltb n (least (kindOf k)) (rank-within k n (sym e ∙ z) .0))
+
+    pub bookRankRefusal-none : n ≤ greatestInBook (kindOf k) → bookRankRefusal k n ≡ 0
+    unfolding bookRankRefusal wrongRankInBook
+    bookRankRefusal-none h = rw (rightKind, le-ltb (greatestInBook (kindOf k)) n h, le-ltb n (least (kindOf k)) (rank-within k n (sym e ∙ z) .0))
+
+-- a kind and a rank that a record may have, every call takes
+pub bookRank-accepted : (k n : ℕ) → bookRankRefusal k n ≡ 0 → rankRefusal k n ≡ 0
+bookRank-accepted k n h = elim (ℕ-discrete (rankRefusal k n) 0) [ yes z ↦ z | no f ↦ absurd (f (sym (bookRankRefusal-refused k n (rankRefusal k n) refl f) ∙ h)) ]
