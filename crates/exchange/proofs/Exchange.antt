@@ -11,13 +11,12 @@ use Prim.Native.Nat.{ℕ, zero, suc, _≤_, _<_}
 use native.Mathlib.Omega.{arith}
 use lib.IntN.{ℤ}
 use lib.ListN.{length, length-append}
-use Rattle.coxeter.specs.Kinds.{Kind, kindOf, least, lanes}
+use Rattle.coxeter.specs.Kinds.{Kind, least, lanes}
 use Rattle.coxeter.specs.Windows.{act, windowFrom, straight, window, product}
 use Rattle.coxeter.specs.Length.{windowLength}
-use Rattle.coxeter.specs.Checks.{wrongLetter, rankRefusal}
+use Rattle.coxeter.specs.Checks.{wrongLetter}
 use Rattle.coxeter.specs.NormalForm.{normalForm}
 use Rattle.coxeter.proofs.Basics.{windowFrom-append}
-use Rattle.coxeter.proofs.Acceptance.{rank-within}
 use Rattle.coxeter.proofs.Levels.{Accepted, window-accepted}
 use Rattle.coxeter.proofs.Steps.{act-involution}
 use Rattle.coxeter.proofs.Relations.{linked-window, wrongLetter-cons}
@@ -25,7 +24,7 @@ use Rattle.coxeter.proofs.Products.{window-append}
 use Rattle.coxeter.proofs.Order.{less, same, more, compared}
 use Rattle.coxeter.proofs.NormalForms.{window-normalForm, normalForm-letters}
 use Rattle.coxeter.proofs.Lengths.{length-normalForm}
-use Rattle.exchange.specs.OneLetter.{Shortest, dropAt, Removable, added, OneLetter}
+use Rattle.exchange.specs.OneLetter.{Shortest, dropAt, Removable, added, addedFront, OneLetter}
 use Rattle.exchange.proofs.Parts.{Part, leave, part-whole, part-append, none, part-letters, part-of-dropAt, length-dropAt, dropAt-of-part}
 use Rattle.exchange.proofs.Carrying.{Carried}
 use Rattle.exchange.proofs.Shortest.{letters-snoc, windowLength-le, length-of-shortest, shortest-of-length, shortest-carries}
@@ -69,7 +68,7 @@ module _ (k : Kind) (n : ℕ) (u : List ℕ) (s : ℕ) (h : least k ≤ n) (e : 
       (rw append-nil at (part-append (part-whole v) (leave {a = s} none))) (simp length-append (omega arith))
 
   -- the same for a step at the front
-  pub exchange-front : windowLength k (window k n (s ∷ u)) < windowLength k (window k n u) → (i : ℕ) × Removable k n u (window k n (s ∷ u)) i
+  pub exchange-front : windowLength k (addedFront k n u s) < windowLength k (window k n u) → (i : ℕ) × Removable k n u (addedFront k n u s) i
   exchange-front g =
       let w : List ℤ = window k n (s ∷ u) in
       let a = window-accepted k n (s ∷ u) in
@@ -121,11 +120,12 @@ shortest-apart k n u i j s g h e =
     let l = s .least (dropAt i (dropAt j u)) letters (dropAt-dropAt k n (straight (lanes k n)) i j u g h e) in
     omega arith
 
--- request 14, for every rank from the kind's least on
-pub oneLetter : (k : Kind) (n : ℕ) (u : List ℕ) (s : ℕ) → least k ≤ n → Shortest k n u → 1 ≤ s → s ≤ n → OneLetter k n u s
-oneLetter k n u s h m o l =
+-- request 14 of a word and a window, from a letter that can be removed where the window is shorter
+oneLetter-of : (k : Kind) (n : ℕ) (u : List ℕ) (w : List ℤ) → least k ≤ n → Shortest k n u
+    → (windowLength k w < windowLength k (window k n u) → (i : ℕ) × Removable k n u w i) → OneLetter k n u w
+oneLetter-of k n u w h m f =
     record {
-      some = exchange k n u s h (m .steps) o l;
+      some = f;
       only = λ i j p q.
           elim (compared i j) [
             | less g ↦ absurd (shortest-apart k n u i j m g (q .0) (p .1 ∙ sym (q .1)))
@@ -137,6 +137,10 @@ oneLetter k n u s h m o l =
           omega (arith, below, ap (windowLength k) (p .1), length-dropAt i u (p .0), length-of-shortest k n u h m);
     }
 
--- "for every kind and rank we accept"
-pub oneLetter-accepted : (k n : ℕ) (u : List ℕ) (s : ℕ) → rankRefusal k n ≡ 0 → Shortest (kindOf k) n u → 1 ≤ s → s ≤ n → OneLetter (kindOf k) n u s
-oneLetter-accepted k n u s r = oneLetter (kindOf k) n u s (rank-within k n r .0)
+-- request 14, for every rank from the kind's least on: a step at the end of a shortest word, and the same for a step at its front
+module _ (k : Kind) (n : ℕ) (u : List ℕ) (s : ℕ) (h : least k ≤ n) (m : Shortest k n u) (o : 1 ≤ s) (l : s ≤ n) where
+  pub oneLetter : OneLetter k n u (added k n u s)
+  oneLetter = oneLetter-of k n u (added k n u s) h m (exchange k n u s h (m .steps) o l)
+
+  pub oneLetter-front : OneLetter k n u (addedFront k n u s)
+  oneLetter-front = oneLetter-of k n u (addedFront k n u s) h m (exchange-front k n u s h (m .steps) o l)

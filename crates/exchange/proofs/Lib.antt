@@ -14,3 +14,5 @@ pub mod Splitting
 pub mod Stripping
 pub mod FarSteps
 pub mod Between
+pub mod Theorems
+pub mod Vectors

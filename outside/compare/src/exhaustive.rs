@@ -4,7 +4,7 @@ use crate::sides::{ROOM, Sides};
 use plain::{A, B, D};
 
 /// Calls `each` with all lists of a length over given values.
-fn lists_over<T: Copy>(values: &[T], length: usize, each: &mut impl FnMut(&[T])) {
+pub fn lists_over<T: Copy>(values: &[T], length: usize, each: &mut impl FnMut(&[T])) {
     fn go<T: Copy>(values: &[T], left: usize, list: &mut Vec<T>, each: &mut impl FnMut(&[T])) {
         if left == 0 {
             return each(list);

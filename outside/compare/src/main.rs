@@ -11,6 +11,7 @@ mod inputs;
 mod random;
 mod rewriting;
 mod safe;
+mod shortest;
 mod sides;
 
 use sides::Sides;
@@ -43,6 +44,8 @@ fn main() -> ExitCode {
     group("all pairs of short words of small ranks", &exhaustive::pairs_of_words);
     group("verdicts on all pairs of short words across kinds and ranks", &exhaustive::pairs_across);
     group("verdicts on all windows of small ranks across kinds", &exhaustive::alike_across);
+    group("one letter to drop: all shortest words of small ranks, each step at either end", &shortest::one_letter);
+    group("two letters to drop: all words of up to 6 letters of small ranks", &shortest::two_letters);
     group("each rule of each rank, whole and cut short", &rewriting::each_rule);
     group("rewriting to the end, at random places", &rewriting::to_the_end);
     group("books: the example, each byte changed, each part", &books::example);
