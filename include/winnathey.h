@@ -30,13 +30,15 @@
  *   13  The appended book would exceed 65,535 bytes.
  *   14  An output is shorter than the part of the answer that goes there.
  *
- * Of two presets, words or windows the first is checked before the second. winnathey_rewrite also answers WINNATHEY_NONE_FITS, with nothing written.
+ * Of two presets, words or windows the first is checked before the second. winnathey_rewrite also answers WINNATHEY_NONE_FITS, and winnathey_fallback
+ * WINNATHEY_NO_FALLBACK, with nothing written.
  *
  * Pointers: each pointer is followed by the number of elements that it points to, all of which the caller lends for the time of the call: nobody else
  * writes them meanwhile. An output overlaps no input and no other output; inputs may overlap. With a length of 0 the pointer is not used and need not
  * be valid: it may be NULL. Nothing is kept after the call.
  *
- * Room that always suffices: 64 for a window, 4,096 for a normal form, the word's length for a rewritten word, 65,535 for a book.
+ * Room that always suffices: 64 for a window, 4,096 for a normal form or for the places of a fallback, the word's length for a rewritten word, 65,535
+ * for a book.
  */
 #ifndef WINNATHEY_H
 #define WINNATHEY_H
@@ -50,6 +52,9 @@ extern "C" {
 
 /* The answer of winnathey_rewrite where no rule fits at the place. */
 #define WINNATHEY_NONE_FITS (-100)
+
+/* The answer of winnathey_fallback where the verdict is no. */
+#define WINNATHEY_NO_FALLBACK (-101)
 
 /* ---- words */
 
@@ -107,6 +112,14 @@ int64_t winnathey_crossings_of_window(uint32_t kind, uint32_t rank, const int8_t
    bytes of rule. Answers the new word's length, or WINNATHEY_NONE_FITS. Refusal 14 concerns both outputs, and comes before either is written. */
 int64_t winnathey_rewrite(uint32_t kind, uint32_t rank, const uint8_t *word, size_t word_len, size_t place, uint8_t *out, size_t out_len,
                           uint8_t *rule, size_t rule_len);
+
+/* ---- shortest words */
+
+/* Whether a simpler window can be had by removing letters from the normal form of the present word. With a yes the places of letters to keep go to
+   places: they count from 0, rise, and are as many as the length of the simpler window, and the letters there have that window. Several lists may
+   serve; which of them comes is not said. Answers how many places are kept, or WINNATHEY_NO_FALLBACK; refusal 14 comes only with a yes. */
+int64_t winnathey_fallback(uint32_t kind, uint32_t rank, const uint8_t *present, size_t present_len, const uint8_t *simpler, size_t simpler_len,
+                           uint16_t *places, size_t places_len);
 
 /* ---- preset books */
 

@@ -15,10 +15,12 @@ static int8_t lanes[ROOM];
 static uint8_t bytes[ROOM];
 static uint8_t rule[ROOM];
 static uint64_t fields[ROOM];
+static uint16_t places[ROOM];
 static size_t counts[ROOM];
 
 static int failed;
 static int seen[15]; /* by the refusal's number; none fits is at 0 */
+static int seen_no_fallback;
 
 static void fill(void)
 {
@@ -26,6 +28,7 @@ static void fill(void)
     memset(bytes, FILL, sizeof bytes);
     memset(rule, FILL, sizeof rule);
     memset(fields, FILL, sizeof fields);
+    memset(places, FILL, sizeof places);
     memset(counts, FILL, sizeof counts);
 }
 
@@ -39,6 +42,8 @@ static int64_t entry(char output, int i)
         return bytes[i];
     case 'r':
         return rule[i];
+    case 'p':
+        return places[i];
     case 'c':
         return (int64_t)counts[i];
     default:
@@ -64,9 +69,11 @@ static void told(const char *call, int64_t answer)
     printf("%s = ", call);
     if (answer == WINNATHEY_NONE_FITS)
         printf("none fits");
+    else if (answer == WINNATHEY_NO_FALLBACK)
+        printf("no fallback");
     else
         printf("%" PRId64, answer);
-    int written = show("lanes") + show("bytes") + show("rule") + show("fields") + show("counts");
+    int written = show("lanes") + show("bytes") + show("rule") + show("fields") + show("counts") + show("places");
     printf("\n");
     if (answer >= 0)
         return;
@@ -76,6 +83,8 @@ static void told(const char *call, int64_t answer)
     }
     if (answer == WINNATHEY_NONE_FITS)
         seen[0] = 1;
+    else if (answer == WINNATHEY_NO_FALLBACK)
+        seen_no_fallback = 1;
     else if (answer >= -14)
         seen[-answer] = 1;
 }
@@ -210,6 +219,23 @@ static void rewrites(void)
     CALL(winnathey_rewrite(1, 258, w121, 3, 0, bytes, 3, rule, 3));
 }
 
+static void shortest(void)
+{
+    CALL(winnathey_fallback(1, 2, w121, 3, w12, 2, places, 2));
+    CALL(winnathey_fallback(1, 2, w121, 3, w212, 3, places, ROOM));
+    CALL(winnathey_fallback(2, 2, w1212, 4, w2, 1, places, 1));
+    CALL(winnathey_fallback(1, 2, w1, 1, NULL, 0, NULL, 0));
+    CALL(winnathey_fallback(1, 2, NULL, 0, w11, 2, NULL, 0));
+    CALL(winnathey_fallback(1, 2, w1, 1, w2, 1, places, ROOM));
+    CALL(winnathey_fallback(1, 2, w1, 1, w2, 1, NULL, 0));
+    CALL(winnathey_fallback(1, 2, w121, 3, w12, 2, places, 1));
+    CALL(winnathey_fallback(1, 2, w121, 3, w12, 2, NULL, 0));
+    CALL(winnathey_fallback(1, 2, w121, 3, w0, 1, places, ROOM));
+    CALL(winnathey_fallback(1, 2, w9, 1, too_long, 4097, places, ROOM));
+    CALL(winnathey_fallback(257, 2, w121, 3, w12, 2, places, ROOM));
+    CALL(winnathey_fallback(1, 258, w121, 3, w12, 2, places, ROOM));
+}
+
 static void books(void)
 {
     CALL(winnathey_book_check(book, sizeof book));
@@ -264,6 +290,7 @@ int main(void)
     words();
     windows();
     rewrites();
+    shortest();
     books();
 
     for (int k = 0; k <= 14; k++)
@@ -271,5 +298,9 @@ int main(void)
             printf("never: %s %d\n", k == 0 ? "none fits," : "refusal", k);
             failed = 1;
         }
+    if (!seen_no_fallback) {
+        printf("never: no fallback\n");
+        failed = 1;
+    }
     return failed;
 }

@@ -2,4 +2,5 @@
 pub mod Lengths
 pub mod Bytes
 pub mod Outcomes
+pub mod Verdicts
 pub mod Vectors

@@ -16,9 +16,11 @@ use Rattle.coxeter.specs.Calls.{Outcome, answerOf, written, writes}
 use Rattle.coxeter.proofs.Vectors.{Agree}
 use Rattle.rules.specs.Rules.{each, family1, family2, family3, family4, families5to7, rules, begins, fits, firstFitting, rewritten}
 use Rattle.rules.specs.Calls.{pastEnd, refusedStep, usedStep, stepBy, step}
+use Rattle.exchange.specs.declared.Fallback.the-variants as fallback
 use Rattle.book_format.specs.declared.Opened.the-variants as opened
 use Rattle.book_format.specs.declared.Preset.the-variants as preset
 use Rattle.c_api.specs.Calls.{refused, numberOf, verdictNumber, choiceNumber, openedNumber, Sorting, sorting, Rewriting, unwritten, rewritingBy, rewriting, presetNumbers}
+use Rattle.c_api.specs.Shortest.{fallbackNumber}
 
 -- the numbers, each beside what it is
 pub numbers : List (ℤ × ℤ)
@@ -39,6 +41,19 @@ numbers =
 pub numbers-agree : Agree numbers
 unfolding numbers refused numberOf verdictNumber choiceNumber openedNumber
 numbers-agree = refl
+
+-- a fallback: a yes with no place kept is not a no
+pub fallbacks : List (ℤ × ℤ)
+fallbacks =
+    (fallbackNumber (fallback.Kept 2), pos 2)
+    ∷ (fallbackNumber (fallback.Kept 0), pos 0)
+    ∷ (fallbackNumber fallback.No, negsuc 100)
+    ∷ (fallbackNumber (fallback.Refused 14), negsuc 13)
+    ∷ []
+
+pub fallbacks-agree : Agree fallbacks
+unfolding fallbacks refused fallbackNumber
+fallbacks-agree = refl
 
 -- lengths by sort: the number is the total, and a refusal leaves the three
 pub sortings : List (Sorting × Sorting)

@@ -3,5 +3,6 @@
 mod numbers;
 pub mod presets;
 pub mod rewriting;
+pub mod shortest;
 pub mod windows;
 pub mod words;

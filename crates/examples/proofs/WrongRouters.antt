@@ -1,14 +1,14 @@
 -- No row of the table of wrong routers gets through: a test of a row, sound for every row, computes to true over the whole table. The test compares
 -- the numbers of what the call and the wrong router tell. Then the wrong answers that no row can show: at books too large to compute with, by the laws
--- of books; and parts handed back, which are not values of a definition.
+-- of books; and parts handed back and places kept, which are not values of a definition.
 --
--- Sections: the test; the table; the largest book; parts handed back.
+-- Sections: the test; the table; the largest book; parts handed back; places kept.
 -- Assumes nothing.
 use mathlib.Core.Path.{_≡_, refl, sym, ap, _∙_}
 use mathlib.Core.Bool.{Bool, true, false, not, _&&_, true≢false, and-eq-true-iff}
 use mathlib.Core.Logic.{⊎-elim}
 use mathlib.Core.List.{List, [], _∷_, _++_, map, List·Memᴰ, List·Memᴰ·not-nil, List·Memᴰ·cases-cons}
-use Prim.Native.Nat.{ℕ, _+_, _<_}
+use Prim.Native.Nat.{ℕ, _+_, _≤_, _<_}
 use native.Mathlib.Omega.{arith}
 use denote.Ref.{RefT, ptr}
 use lib.IntN.{ℤ, pos}
@@ -22,6 +22,8 @@ use Rattle.coxeter.specs.declared.Choice.{Choice}
 use Rattle.coxeter.specs.declared.Choice.the-variants as choices
 use Rattle.rules.specs.declared.Rewrite.{Rewrite}
 use Rattle.rules.specs.declared.Rewrite.the-variants as rewrites
+use Rattle.exchange.specs.declared.Fallback.{Fallback}
+use Rattle.exchange.specs.declared.Fallback.the-variants as fallbacks
 use Rattle.book_format.specs.declared.Opened.{Opened}
 use Rattle.book_format.specs.declared.Opened.the-variants as books
 use Rattle.book_format.specs.declared.Preset.{Preset}
@@ -37,6 +39,8 @@ use Rattle.coxeter.specs.Calls.{answerOf, verdictOf, written, writes, windowOfW
 use Rattle.coxeter.proofs.Order.{sameWindow-of-eq}
 use Rattle.rules.specs.Rules.{each, family1, family2, family3, family4, families5to7, rules, begins, fits, firstFitting, rewritten}
 use Rattle.rules.specs.Calls.{pastEnd, refusedStep, usedStep, stepBy, step}
+use Rattle.exchange.specs.Fallback.{somePart, fallsBack}
+use Rattle.exchange.specs.Calls.{fallbackOf, fallbackAnswer, keptCount, FellBack}
 use Rattle.book_format.specs.Books.{twoAt, two, count, trailer, offset, wrongSize, wrongCount, misplacedFrom, misplaced, noSuchPreset, tooLarge, wrongRankInBook, bookRankRefusal, bookRefusal, recordRefusal, presetRefusal, recordOf, added, appended, appendRefusal}
 use Rattle.book_format.specs.Calls.{openedOf, presetOf, checkedBook, presetAt, checkedPreset, lettersStart, lettersOf, appending}
 use Rattle.listing_text.specs.Text.{digits, decimal, spaced, letters, entry, entries, kindLetter, head, tail, presetLine, refused, refusedLine, refusedBookLine, countLine, wordLine, lineBy, lineOf}
@@ -70,6 +74,11 @@ ofRewrite (rewrites.Used f i j l) = pos 0 ∷ pos f ∷ pos i ∷ pos j ∷ pos 
 ofRewrite rewrites.NoneFits = pos 1 ∷ []
 ofRewrite (rewrites.Refused r) = pos 2 ∷ pos r ∷ []
 
+ofFallback : Fallback → List ℤ
+ofFallback (fallbacks.Kept l) = pos 0 ∷ pos l ∷ []
+ofFallback fallbacks.No = pos 1 ∷ []
+ofFallback (fallbacks.Refused r) = pos 2 ∷ pos r ∷ []
+
 ofOpened : Opened → List ℤ
 ofOpened (books.Presets c) = pos 0 ∷ pos c ∷ []
 ofOpened (books.Refused r) = pos 1 ∷ pos r ∷ []
@@ -90,6 +99,7 @@ numbers (told.piece p) = ofPiece (p .answer) ++ map pos (p .bytes)
 numbers (told.answer a) = ofAnswer a
 numbers (told.verdict v) = ofVerdict v
 numbers (told.choice c) = ofChoice c
+numbers (told.fallback f) = ofFallback f
 numbers (told.opened o) = ofOpened o
 numbers (told.preset p) = ofPreset p
 numbers (told.number r) = pos r ∷ []
@@ -113,7 +123,7 @@ allDiffer (r ∷ rs) = differs r && allDiffer rs
 
 -- the one computed fact, with the definitions that the rows pass through, layer by layer
 all-differ : allDiffer table ≡ true
-unfolding table allDiffer differs numbers ofAnswer ofVerdict ofChoice ofRewrite ofOpened ofPreset ofPiece
+unfolding table allDiffer differs numbers ofAnswer ofVerdict ofChoice ofRewrite ofFallback ofOpened ofPreset ofPiece
     kindOf up from exchange negateFirst exchangeNegate act windowFrom straight window at product signed placeFrom inverse
     later negative one laterThan inversions negativeSumPairs negatives crossings total windowLength before shortlex
     wrongKind wrongRank tooLong wrongLetter wrongLanes hasSize negativeInA wrongAt wrongEntry odd oddNegatives tooShort
@@ -122,6 +132,7 @@ unfolding table allDiffer differs numbers ofAnswer ofVerdict ofChoice ofRewrite 
     answerOf verdictOf written writes windowOfWord productOfWindows inverseOfWindow normalFormOfWindow normalFormOfWord productOfWords inverseOfWord
     lengthOfWindow lengthOfWord sameEntry sameWindow equalWords samePresets presetsEqual handsBack choice
     each family1 family2 family3 family4 families5to7 rules begins fits firstFitting rewritten pastEnd refusedStep usedStep stepBy step
+    somePart fallsBack fallbackOf fallbackAnswer
     twoAt two count trailer offset wrongSize wrongCount misplacedFrom misplaced noSuchPreset tooLarge wrongRankInBook bookRankRefusal
     bookRefusal recordRefusal presetRefusal recordOf appended appendRefusal openedOf presetOf checkedBook presetAt checkedPreset lettersStart lettersOf appending
     digits decimal spaced letters entry entries kindLetter head tail presetLine refused refusedLine refusedBookLine countLine wordLine lineBy lineOf
@@ -140,7 +151,7 @@ pub ruled-out : (r : WrongRouter) → List·Memᴰ r table → r .right ≡ r .w
 ruled-out = all-sound table all-differ
 
 -- so many rows, lest one be lost
-pub table-length : length table ≡ 65
+pub table-length : length table ≡ 68
 unfolding table
 table-length = refl
 
@@ -180,3 +191,15 @@ copy-ruled-out second u v r f b = f (ap ptr (b .whole refl))
 -- where neither is handed back it is no part of the second word
 pub part-of-the-second-ruled-out : (second : Bool) (u v r : RefT (List ℕ)) → (u .ptr ≡ v .ptr → ⊥) → r .ptr ≡ v .ptr → Better false second u v r → ⊥
 part-of-the-second-ruled-out second u v r f e b = f (sym (b .empty refl .1) ∙ e)
+
+-- ---- places kept
+
+module _ (k n : ℕ) (present simpler places : List ℕ) where
+  -- the places kept rise
+  pub falling-places-ruled-out : (p q : ℕ) (rest : List ℕ) → q ≤ p → FellBack k n present simpler places (fallbacks.Kept 2) (p ∷ q ∷ rest) → ⊥
+  falling-places-ruled-out p q rest l h = let r = h .kept 2 refl .serves .rising .2 .0 in omega arith
+
+  -- "a no writes nothing"
+  pub no-that-writes-ruled-out : (after : List ℕ) → (after ≡ places → ⊥) → FellBack k n present simpler places fallbacks.No after → ⊥
+  unfolding keptCount
+  no-that-writes-ruled-out after f h = f (h .others)

@@ -4,4 +4,5 @@ pub mod Examples
 pub mod WrongWindows
 pub mod WrongRewrites
 pub mod WrongBooks
+pub mod WrongShortest
 pub mod WrongRouters

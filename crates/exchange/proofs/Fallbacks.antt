@@ -21,24 +21,24 @@ use Rattle.coxeter.proofs.Relations.{linked-window}
 use Rattle.coxeter.proofs.NormalForms.{window-normalForm}
 use Rattle.coxeter.proofs.Lengths.{length-normalForm}
 use Rattle.exchange.specs.OneLetter.{Shortest}
-use Rattle.exchange.specs.Fallback.{Fallback, FallbackOf, Keeps, fallback, fallbackPlaces}
+use Rattle.exchange.specs.Fallback.{HasPart, FallbackOf, Keeps, fallsBack}
 use Rattle.exchange.proofs.Parts.{part-whole, part-trans, part-length, part-letters}
 use Rattle.exchange.proofs.Shortest.{windowLength-le, shortest-normalForm, shortest-carries}
-use Rattle.exchange.proofs.Places.{part-nothing, part-of-fallback, fallback-of-part}
-use Rattle.exchange.proofs.Walk.{fallback-exactly, fallback-keeps}
+use Rattle.exchange.proofs.Places.{part-nothing, part-of-fallback, fallback-of-part, somePart-exactly}
+use Rattle.exchange.proofs.Walk.{leftOver, placesKept, walk-decides, walk-keeps}
 
 -- ---- fallbacks of a word
 
 -- the straight window is a fallback of every word, and so is its own window
-pub fallback-straight : (k : Kind) (n : ℕ) (u : List ℕ) → Fallback k n u (straight (lanes k n))
+pub fallback-straight : (k : Kind) (n : ℕ) (u : List ℕ) → HasPart k n u (straight (lanes k n))
 unfolding window windowFrom
 fallback-straight k n u = fallback-of-part k n u [] (straight (lanes k n)) (part-nothing u) refl
 
-pub fallback-whole : (k : Kind) (n : ℕ) (u : List ℕ) → Fallback k n u (window k n u)
+pub fallback-whole : (k : Kind) (n : ℕ) (u : List ℕ) → HasPart k n u (window k n u)
 fallback-whole k n u = fallback-of-part k n u u (window k n u) (part-whole u) refl
 
 -- no fallback is longer than the word
-pub fallback-length : (k : Kind) (n : ℕ) (u : List ℕ) (w : List ℤ) → least k ≤ n → wrongLetter n u ≡ false → Fallback k n u w
+pub fallback-length : (k : Kind) (n : ℕ) (u : List ℕ) (w : List ℤ) → least k ≤ n → wrongLetter n u ≡ false → HasPart k n u w
     → windowLength k w ≤ length u
 fallback-length k n u w h e f =
     let p = part-of-fallback k n u w f in
@@ -46,7 +46,7 @@ fallback-length k n u w h e f =
 
 -- the fallbacks of a shortest word are fallbacks of every word that has its window as one
 pub fallback-through : (k : Kind) (n : ℕ) (u z : List ℕ) (w : List ℤ) → least k ≤ n → wrongLetter n u ≡ false → Shortest k n z
-    → Fallback k n u (window k n z) → Fallback k n z w → Fallback k n u w
+    → HasPart k n u (window k n z) → HasPart k n z w → HasPart k n u w
 fallback-through k n u z w h e s f g =
     let p = part-of-fallback k n u (window k n z) f in
     let q = part-of-fallback k n z w g in
@@ -55,7 +55,7 @@ fallback-through k n u z w h e s f g =
 
 -- two shortest words of one window have the same fallbacks
 pub fallback-shortest : (k : Kind) (n : ℕ) (u v : List ℕ) (w : List ℤ) → least k ≤ n → Shortest k n u → Shortest k n v → window k n u ≡ window k n v
-    → Fallback k n u w ↔ Fallback k n v w
+    → HasPart k n u w ↔ HasPart k n v w
 fallback-shortest k n u v w h s t e = (
   fallback-through k n v u w h (t .steps) s (rw e (fallback-whole k n v)),
   fallback-through k n u v w h (s .steps) t (rw (← e) (fallback-whole k n u)),
@@ -70,16 +70,23 @@ module _ (k : Kind) (n : ℕ) (h : least k ≤ n) where
   normal-window : (u : List ℕ) → window k n (wordNormalForm k n u) ≡ window k n u
   normal-window u = window-normalForm k n (window k n u) (window-accepted k n u)
 
-  -- what the walk answers, and the places that it keeps
-  pub verdict-exactly : (u v : List ℕ) → (fallback k n (wordNormalForm k n u) (window k n v) ≡ true) ↔ FallbackOf k n u v
-  verdict-exactly u v = fallback-exactly k n (wordNormalForm k n u) h (normal-shortest u .steps) (window k n v) (window-accepted k n v)
+  -- "The verdict is yes exactly when some part-list of its letters, in order, has the simpler window."
+  pub verdict-exactly : (u v : List ℕ) → (fallsBack k n u v ≡ true) ↔ FallbackOf k n u v
+  unfolding fallsBack
+  verdict-exactly u v = somePart-exactly k n (wordNormalForm k n u) (window k n v)
 
-  pub verdict-keeps : (u v : List ℕ) → fallback k n (wordNormalForm k n u) (window k n v) ≡ true
-      → Keeps k n (wordNormalForm k n u) (window k n v) (fallbackPlaces k n (wordNormalForm k n u) (window k n v))
-  verdict-keeps u v = fallback-keeps k n (wordNormalForm k n u) h (normal-shortest u .steps) (window k n v) (window-accepted k n v)
+  -- the walk through the normal form decides it, and keeps places that serve
+  pub verdict-walk : (u v : List ℕ)
+      → FallbackOf k n u v ↔ (leftOver k n (wordNormalForm k n u) (length (wordNormalForm k n u)) (window k n v) ≡ straight (lanes k n))
+  verdict-walk u v = walk-decides k n (wordNormalForm k n u) h (normal-shortest u .steps) (window k n v) (window-accepted k n v)
+
+  pub verdict-keeps : (u v : List ℕ)
+      → leftOver k n (wordNormalForm k n u) (length (wordNormalForm k n u)) (window k n v) ≡ straight (lanes k n)
+      → Keeps k n (wordNormalForm k n u) (window k n v) (placesKept k n (wordNormalForm k n u) (length (wordNormalForm k n u)) (window k n v) [])
+  verdict-keeps u v = walk-keeps k n (wordNormalForm k n u) h (normal-shortest u .steps) (window k n v) (window-accepted k n v)
 
   -- "The verdict must be the same from every shortest word of the present window, not only its normal form."
-  pub verdict-same : (u v z : List ℕ) → Shortest k n z → window k n z ≡ window k n u → FallbackOf k n u v ↔ Fallback k n z (window k n v)
+  pub verdict-same : (u v z : List ℕ) → Shortest k n z → window k n z ≡ window k n u → FallbackOf k n u v ↔ HasPart k n z (window k n v)
   verdict-same u v z s e = fallback-shortest k n (wordNormalForm k n u) z (window k n v) h (normal-shortest u) s (normal-window u ∙ sym e)
 
   -- "The empty word is a fallback for all presets."
@@ -89,7 +96,7 @@ module _ (k : Kind) (n : ℕ) (h : least k ≤ n) where
 
   -- every word is one for itself
   pub verdict-refl : (u : List ℕ) → FallbackOf k n u u
-  verdict-refl u = subst (Fallback k n (wordNormalForm k n u)) (normal-window u) (fallback-whole k n (wordNormalForm k n u))
+  verdict-refl u = subst (HasPart k n (wordNormalForm k n u)) (normal-window u) (fallback-whole k n (wordNormalForm k n u))
 
   -- a fallback of a fallback is a fallback
   pub verdict-trans : (z y x : List ℕ) → FallbackOf k n z y → FallbackOf k n y x → FallbackOf k n z x

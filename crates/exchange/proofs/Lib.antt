@@ -9,6 +9,7 @@ pub mod Shortening
 pub mod Lifting
 pub mod Walk
 pub mod Fallbacks
+pub mod Verdicts
 pub mod Allowed
 pub mod Splitting
 pub mod Stripping

@@ -10,7 +10,7 @@ use mathlib.Core.List.{List, [], _∷_, _++_, append-nil}
 use Prim.Native.Nat.{ℕ, _≤_, _<_}
 use native.Mathlib.Omega.{arith}
 use lib.IntN.{ℤ}
-use Rattle.coxeter.specs.Kinds.{Kind, least}
+use Rattle.coxeter.specs.Kinds.{Kind, pick, least}
 use Rattle.coxeter.specs.Windows.{act, window}
 use Rattle.coxeter.specs.Length.{windowLength}
 use Rattle.coxeter.specs.Checks.{wrongLetter}
@@ -19,13 +19,17 @@ use Rattle.coxeter.proofs.Levels.{Accepted, act-accepted}
 use Rattle.coxeter.proofs.Steps.{act-involution}
 use Rattle.exchange.specs.OneLetter.{dropAt, added}
 use Rattle.exchange.specs.Shortening.{shortens}
-use Rattle.exchange.specs.Fallback.{Fallback, lowered}
+use Rattle.exchange.specs.Fallback.{HasPart}
 use Rattle.exchange.proofs.Parts.{Part, none, keep, leave, part-trans, part-append, part-letters, part-of-dropAt, Split, both, part-split}
 use Rattle.exchange.proofs.Exchange.{window-snoc, exchange}
 use Rattle.exchange.proofs.Places.{PartWith, part-of-fallback, fallback-of-part}
 use Rattle.exchange.proofs.Shortening.{length-of-shortens, length-of-lengthens}
 
 -- ---- the target after one letter
+
+-- a letter that makes the target shorter steps it back
+unfoldable pub lowered : Kind → ℕ → ℕ → List ℤ → List ℤ
+lowered k n s w = pick (shortens k n s w) (act k n s w) w
 
 pub lowered-shorter : (k : Kind) (n s : ℕ) (w : List ℤ) → shortens k n s w ≡ true → lowered k n s w ≡ act k n s w
 unfolding lowered
@@ -43,7 +47,7 @@ module _ (k : Kind) (n : ℕ) (u : List ℕ) (s : ℕ) (h : least k ≤ n) (e : 
   -- ---- a letter less
 
   -- a step that makes the window of a part-list shorter: a letter of the part-list can be left out for it
-  stepped-back : (w : List ℤ) → windowLength k (act k n s w) < windowLength k w → PartWith k n u w → Fallback k n u (act k n s w)
+  stepped-back : (w : List ℤ) → windowLength k (act k n s w) < windowLength k w → PartWith k n u w → HasPart k n u (act k n s w)
   stepped-back w g p =
       let v : List ℕ = p .word in
       let steps : added k n v s ≡ act k n s w = window-snoc k n v s ∙ ap (act k n s) (p .shows) in
@@ -53,12 +57,12 @@ module _ (k : Kind) (n : ℕ) (u : List ℕ) (s : ℕ) (h : least k ≤ n) (e : 
 
   -- ---- a step at the end
 
-  with-step : (w : List ℤ) → PartWith k n u (act k n s w) → Fallback k n (u ++ (s ∷ [])) w
+  with-step : (w : List ℤ) → PartWith k n u (act k n s w) → HasPart k n (u ++ (s ∷ [])) w
   with-step w p =
       fallback-of-part k n (u ++ (s ∷ [])) (p .word ++ (s ∷ [])) w (part-append (p .part) (keep none))
       (window-snoc k n (p .word) s ∙ ap (act k n s) (p .shows) ∙ act-involution k n s w)
 
-  without-step : (w : List ℤ) → PartWith k n u w → Fallback k n (u ++ (s ∷ [])) w
+  without-step : (w : List ℤ) → PartWith k n u w → HasPart k n (u ++ (s ∷ [])) w
   without-step w p =
       fallback-of-part k n (u ++ (s ∷ [])) (p .word) w
       (subst (Part (u ++ (s ∷ []))) (append-nil (p .word)) (part-append (p .part) (leave none))) (p .shows)
@@ -68,7 +72,7 @@ module _ (k : Kind) (n : ℕ) (u : List ℕ) (s : ℕ) (h : least k ≤ n) (e : 
     kept : PartWith k n u (act k n s w) → Ends w
     left : PartWith k n u w → Ends w
 
-  ends : (w : List ℤ) → Fallback k n (u ++ (s ∷ [])) w → Ends w
+  ends : (w : List ℤ) → HasPart k n (u ++ (s ∷ [])) w → Ends w
   ends w f = cases (part-split u (p .part)) refl
     where
       p : PartWith k n (u ++ (s ∷ [])) w
@@ -83,31 +87,31 @@ module _ (k : Kind) (n : ℕ) (u : List ℕ) (s : ℕ) (h : least k ≤ n) (e : 
       cases (both q r) g = last q r (ap (window k n) g ∙ p .shows)
 
   -- w is a fallback of u with the step added exactly when w stepped back is one of u
-  pub lifting-shorter : (w : List ℤ) → Accepted k n w → shortens k n s w ≡ true → Fallback k n (u ++ (s ∷ [])) w ↔ Fallback k n u (act k n s w)
+  pub lifting-shorter : (w : List ℤ) → Accepted k n w → shortens k n s w ≡ true → HasPart k n (u ++ (s ∷ [])) w ↔ HasPart k n u (act k n s w)
   lifting-shorter w a t = (forth, λ f. with-step w (part-of-fallback k n u (act k n s w) f))
     where
-      forth : Fallback k n (u ++ (s ∷ [])) w → Fallback k n u (act k n s w)
+      forth : HasPart k n (u ++ (s ∷ [])) w → HasPart k n u (act k n s w)
       forth f = elim (ends w f) [
         | kept p ↦ fallback-of-part k n u (p .word) (act k n s w) (p .part) (p .shows)
         | left p ↦ stepped-back w (omega (arith, length-of-shortens k n s w h o l a t)) p
       ]
 
   -- exactly when w itself is one of u
-  pub lifting-longer : (w : List ℤ) → Accepted k n w → shortens k n s w ≡ false → Fallback k n (u ++ (s ∷ [])) w ↔ Fallback k n u w
+  pub lifting-longer : (w : List ℤ) → Accepted k n w → shortens k n s w ≡ false → HasPart k n (u ++ (s ∷ [])) w ↔ HasPart k n u w
   lifting-longer w a t = (forth, λ f. without-step w (part-of-fallback k n u w f))
     where
-      forth : Fallback k n (u ++ (s ∷ [])) w → Fallback k n u w
+      forth : HasPart k n (u ++ (s ∷ [])) w → HasPart k n u w
       forth f = elim (ends w f) [
         | kept p ↦
-            subst (Fallback k n u) (act-involution k n s w)
+            subst (HasPart k n u) (act-involution k n s w)
             (stepped-back (act k n s w) (rw act-involution (omega (arith, length-of-lengthens k n s w h o l a t))) p)
         | left p ↦ fallback-of-part k n u (p .word) w (p .part) (p .shows)
       ]
 
   -- both at once: exactly when the target after the letter s is one of u
-  pub lifting : (w : List ℤ) → Accepted k n w → Fallback k n (u ++ (s ∷ [])) w ↔ Fallback k n u (lowered k n s w)
+  pub lifting : (w : List ℤ) → Accepted k n w → HasPart k n (u ++ (s ∷ [])) w ↔ HasPart k n u (lowered k n s w)
   lifting w a = cases (shortens k n s w) refl
     where
-      cases : (t : Bool) → shortens k n s w ≡ t → Fallback k n (u ++ (s ∷ [])) w ↔ Fallback k n u (lowered k n s w)
+      cases : (t : Bool) → shortens k n s w ≡ t → HasPart k n (u ++ (s ∷ [])) w ↔ HasPart k n u (lowered k n s w)
       cases true t = rw (lowered-shorter k n s w t) (lifting-shorter w a t)
       cases false t = rw (lowered-longer k n s w t) (lifting-longer w a t)

@@ -1,18 +1,21 @@
 -- Part-lists by their places: the letters at rising places inside a word are a part-list of it, and every part-list is at such places. By recursion
 -- on the places and on the part-list.
 --
--- Sections: from places to part-lists; from part-lists to places; fallbacks.
+-- Sections: from places to part-lists; from part-lists to places; fallbacks; the test.
 -- Assumes nothing.
 use mathlib.Core.Path.{_≡_, refl, ap, _∙_}
+use mathlib.Core.Bool.{Bool, true, false, _||_, or-true}
+use mathlib.Core.Logic.{_⊎_, inl, inr, ⊎-elim, _↔_}
 use mathlib.Core.List.{List, [], _∷_, map}
 use Prim.Native.Nat.{ℕ, zero, suc, _+_, _-_, _≤_}
 use native.Mathlib.Omega.{arith}
 use lib.IntN.{ℤ}
 use lib.ListN.{length, getD, drop}
 use lib.Seq.{drop-cons, drop-drop}
-use Rattle.coxeter.specs.Kinds.{Kind}
-use Rattle.coxeter.specs.Windows.{window}
-use Rattle.exchange.specs.Fallback.{Rising, lettersAt, Fallback}
+use Rattle.coxeter.specs.Kinds.{Kind, lanes}
+use Rattle.coxeter.specs.Windows.{act, windowFrom, straight, window}
+use Rattle.coxeter.proofs.Order.{sameWindow-true, sameWindow-of-eq}
+use Rattle.exchange.specs.Fallback.{Rising, lettersAt, HasPart, somePart}
 use Rattle.exchange.proofs.Parts.{Part, none, keep, leave}
 
 -- ---- from places to part-lists
@@ -67,10 +70,45 @@ pub record PartWith (k : Kind) (n : ℕ) (u : List ℕ) (w : List ℤ) : Type 0 
   pub part : Part u word
   pub shows : window k n word ≡ w
 
-pub part-of-fallback : (k : Kind) (n : ℕ) (u : List ℕ) (w : List ℤ) → Fallback k n u w → PartWith k n u w
+pub part-of-fallback : (k : Kind) (n : ℕ) (u : List ℕ) (w : List ℤ) → HasPart k n u w → PartWith k n u w
 part-of-fallback k n u w (ps, s) = record { word = lettersAt u ps; part = letters-part u 0 ps (s .rising); shows = s .shows }
 
-pub fallback-of-part : (k : Kind) (n : ℕ) (u v : List ℕ) (w : List ℤ) → Part u v → window k n v ≡ w → Fallback k n u w
+pub fallback-of-part : (k : Kind) (n : ℕ) (u v : List ℕ) (w : List ℤ) → Part u v → window k n v ≡ w → HasPart k n u w
 fallback-of-part k n u v w p e =
     let (ps, h, q) = part-letters-at p in
     (ps, record { rising = h; shows = ap (window k n) q ∙ e })
+
+-- ---- the test
+
+some-of-part : (k : Kind) (n : ℕ) (v w : List ℤ) {u x : List ℕ} → Part u x → windowFrom k n v x ≡ w → somePart k n v u w ≡ true
+unfolding somePart windowFrom
+some-of-part k n v w none e = sameWindow-of-eq v w e
+some-of-part k n v w (keep {a} p) e = rw (some-of-part k n (act k n a v) w p e)
+some-of-part k n v w (leave {a} {u} p) e = rw (some-of-part k n v w p e) (or-true (somePart k n (act k n a v) u w))
+
+either : (s t : Bool) → (s || t) ≡ true → (s ≡ true) ⊎ (t ≡ true)
+either true t e = inl refl
+either false t e = inr e
+
+-- a part-list of u that leads from v to w
+record PartFrom (k : Kind) (n : ℕ) (v : List ℤ) (u : List ℕ) (w : List ℤ) : Type 0 where
+  word : List ℕ
+  part : Part u word
+  leads : windowFrom k n v word ≡ w
+
+part-of-some : (k : Kind) (n : ℕ) (v : List ℤ) (u : List ℕ) (w : List ℤ) → somePart k n v u w ≡ true → PartFrom k n v u w
+unfolding somePart windowFrom
+part-of-some k n v [] w t = record { word = []; part = none; leads = sameWindow-true v w t }
+part-of-some k n v (s ∷ u) w t =
+    ⊎-elim
+    (λ h. let p = part-of-some k n (act k n s v) u w h in record { word = s ∷ p .word; part = keep (p .part); leads = p .leads })
+    (λ h. let p = part-of-some k n v u w h in record { word = p .word; part = leave (p .part); leads = p .leads })
+    (either (somePart k n (act k n s v) u w) (somePart k n v u w) t)
+
+-- the test is yes exactly when some part-list has the window
+pub somePart-exactly : (k : Kind) (n : ℕ) (u : List ℕ) (w : List ℤ) → (somePart k n (straight (lanes k n)) u w ≡ true) ↔ HasPart k n u w
+unfolding window
+somePart-exactly k n u w = (
+  λ t. let p = part-of-some k n (straight (lanes k n)) u w t in fallback-of-part k n u (p .word) w (p .part) (p .leads),
+  λ f. let p = part-of-fallback k n u w f in some-of-part k n (straight (lanes k n)) w (p .part) (p .shows),
+)

@@ -1,7 +1,7 @@
 -- The walk through a word from its last letter to the first decides whether a window is a fallback, and keeps places that serve: by lifting at each
 -- letter, and since each kept place lowers the length of the target by one.
 --
--- Sections: the target; the places; the verdict.
+-- Sections: the walk; the target; the places; the verdict.
 -- Assumes nothing.
 use mathlib.Core.Path.{_≡_, refl, sym, ap, _∙_}
 use mathlib.Core.Bool.{Bool, true, false}
@@ -9,6 +9,7 @@ use mathlib.Core.Logic.{_↔_, Iff·trans}
 use mathlib.Core.List.{List, [], _∷_}
 use Prim.Native.Nat.{ℕ, zero, suc, _+_, _≤_, _<_}
 use native.Mathlib.Omega.{arith}
+use lib.Dec.{eqb}
 use lib.IntN.{ℤ}
 use lib.ListN.{length, getD, take}
 use lib.Seq.{take-suc, take-length}
@@ -19,15 +20,32 @@ use Rattle.coxeter.specs.Checks.{wrongLetter}
 use Rattle.coxeter.proofs.Levels.{Accepted}
 use Rattle.coxeter.proofs.Steps.{act-involution}
 use Rattle.coxeter.proofs.LetterLaws.{letter-within}
-use Rattle.coxeter.proofs.Order.{sameWindow-true, sameWindow-of-eq}
 use Rattle.rules.proofs.ScanRules.{wrongLetter-drop}
 use Rattle.exchange.specs.Shortening.{shortens}
-use Rattle.exchange.specs.Fallback.{Rising, lettersAt, Fallback, Keeps, lowered, leftOver, placesKept, fallback, fallbackPlaces}
+use Rattle.exchange.specs.Fallback.{Rising, lettersAt, HasPart, Keeps}
 use Rattle.exchange.proofs.Parts.{Part, none, keep, part-letters}
 use Rattle.exchange.proofs.Shortest.{windowLength-le}
 use Rattle.exchange.proofs.Places.{part-nothing, rising-from, part-of-fallback, fallback-of-part}
 use Rattle.exchange.proofs.Shortening.{length-of-shortens}
-use Rattle.exchange.proofs.Lifting.{lowered-shorter, lowered-longer, lowered-accepted, lifting}
+use Rattle.exchange.proofs.Lifting.{lowered, lowered-shorter, lowered-longer, lowered-accepted, lifting}
+
+-- ---- the walk
+
+-- what is left of the target w after the first i letters of u, from the last of them to the first
+unfoldable pub leftOver : Kind → ℕ → List ℕ → ℕ → List ℤ → List ℤ
+leftOver k n u zero w = w
+leftOver k n u (suc i) w = leftOver k n u i (lowered k n (getD u i 0) w)
+
+-- the places kept on the way, before the places ps that were kept already
+unfoldable pub placesKept : Kind → ℕ → List ℕ → ℕ → List ℤ → List ℕ → List ℕ
+placesKept k n u zero w ps = ps
+placesKept k n u (suc i) w ps =
+    placesKept k n u i (lowered k n (getD u i 0) w) (pick (shortens k n (getD u i 0) w) (i ∷ ps) ps)
+
+-- the places, counted from i, of the letters of u that are not 0: a letter that is not kept is made 0
+unfoldable pub marked : ℕ → List ℕ → List ℕ
+marked i [] = []
+marked i (s ∷ u) = pick (eqb s 0) (marked (suc i) u) (i ∷ marked (suc i) u)
 
 -- ---- the target
 
@@ -41,7 +59,7 @@ module _ (k : Kind) (n : ℕ) (u : List ℕ) (h : least k ≤ n) (e : wrongLette
   letter i l = letter-within n u i l (wrongLetter-drop n i u e)
 
   -- the empty word has one part-list
-  empty-exactly : (w : List ℤ) → Fallback k n [] w ↔ (w ≡ straight (lanes k n))
+  empty-exactly : (w : List ℤ) → HasPart k n [] w ↔ (w ≡ straight (lanes k n))
   unfolding window windowFrom
   empty-exactly w = (
     λ f. let p = part-of-fallback k n [] w f in only (p .part) (p .shows),
@@ -52,7 +70,7 @@ module _ (k : Kind) (n : ℕ) (u : List ℕ) (h : least k ≤ n) (e : wrongLette
       only none g = sym g
 
   -- the first i letters have a part-list with the window w exactly when the target ends straight
-  walk-exactly : (i : ℕ) (w : List ℤ) → i ≤ length u → Accepted k n w → Fallback k n (take i u) w ↔ (leftOver k n u i w ≡ straight (lanes k n))
+  walk-exactly : (i : ℕ) (w : List ℤ) → i ≤ length u → Accepted k n w → HasPart k n (take i u) w ↔ (leftOver k n u i w ≡ straight (lanes k n))
   unfolding leftOver
   walk-exactly zero w l a = empty-exactly w
   walk-exactly (suc i) w l a =
@@ -109,18 +127,15 @@ module _ (k : Kind) (n : ℕ) (u : List ℕ) (h : least k ≤ n) (e : wrongLette
   unfolding window windowFrom wrongLetter
   straight-length = let l = windowLength-le k n [] h refl in omega arith
 
-  -- the target ends straight exactly when some part-list of u has the window w
-  pub fallback-exactly : (w : List ℤ) → Accepted k n w → (fallback k n u w ≡ true) ↔ Fallback k n u w
-  unfolding fallback
-  fallback-exactly w a =
-      let walk = rw (take-length u) at (walk-exactly (length u) w (omega arith) a) in
-      (λ t. walk .1 (sameWindow-true _ _ t), λ f. sameWindow-of-eq _ _ (walk .0 f))
+  -- some part-list of u has the window w exactly when the target ends straight
+  pub walk-decides : (w : List ℤ) → Accepted k n w → HasPart k n u w ↔ (leftOver k n u (length u) w ≡ straight (lanes k n))
+  walk-decides w a = rw (take-length u) at (walk-exactly (length u) w (omega arith) a)
 
   -- and then the places kept serve, and are as many as the length of w
-  pub fallback-keeps : (w : List ℤ) → Accepted k n w → fallback k n u w ≡ true → Keeps k n u w (fallbackPlaces k n u w)
-  unfolding fallback fallbackPlaces window windowFrom lettersAt
-  fallback-keeps w a t =
-      let ends : leftOver k n u (length u) w ≡ straight (lanes k n) = sameWindow-true _ _ t in
+  pub walk-keeps : (w : List ℤ) → Accepted k n w → leftOver k n u (length u) w ≡ straight (lanes k n)
+      → Keeps k n u w (placesKept k n u (length u) w [])
+  unfolding window windowFrom lettersAt
+  walk-keeps w a ends =
       record {
         serves = record {
           rising = kept-rising (length u) w [] (omega arith) tt;

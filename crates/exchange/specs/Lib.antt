@@ -6,3 +6,4 @@ pub mod Fallback
 pub mod Allowed
 pub mod Split
 pub mod Between
+pub mod Calls

@@ -1,1 +1,8 @@
-// Shortest words and the letter that a step can stand for: definitions in specs/, laws in proofs/. No function.
+// Shortest words and what steps do to them: definitions in specs/, laws in proofs/, and the answers of the calls on them. No function.
+
+// A fallback verdict: how many places are kept, or no, or the refusal's number.
+pub enum Fallback {
+    Kept(usize),
+    No,
+    Refused(u8),
+}

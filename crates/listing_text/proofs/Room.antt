@@ -16,12 +16,11 @@ use Rattle.coxeter.specs.Kinds.{Kind, kindOf}
 use Rattle.coxeter.specs.Windows.{window}
 use Rattle.coxeter.specs.Checks.{wrongLetter, rankRefusal}
 use Rattle.coxeter.specs.NormalForm.{wordNormalForm}
-use Rattle.coxeter.proofs.Acceptance.{rank-accepted, lanes-le}
+use Rattle.coxeter.proofs.Acceptance.{rank-accepted}
+use Rattle.coxeter.proofs.Fronts.{length-window-le, length-form-le}
 use Rattle.coxeter.proofs.Levels.{Between, window-accepted}
-use Rattle.coxeter.proofs.Lengths.{length-normalForm}
 use Rattle.coxeter.proofs.LetterLaws.{letter-within-cons}
 use Rattle.coxeter.proofs.NormalForms.{normalForm-letters}
-use Rattle.coxeter.proofs.PairWeights.{windowLength-le-4096}
 use Rattle.book_format.specs.declared.Opened.{Opened}
 use Rattle.book_format.specs.declared.Opened.the-variants as opened
 use Rattle.book_format.specs.declared.Preset.{Preset}
@@ -63,15 +62,6 @@ length-entries-le c (e ∷ w) h g =
     rw (length-append (entry e) (entries w)) (omega (arith, length-entry-le e (omega (arith, g .1))))
 
 -- ---- lines of presets
-
-pub length-window-le : (k n : ℕ) (u : List ℕ) → rankRefusal k n ≡ 0 → length (window (kindOf k) n u) ≤ 64
-length-window-le k n u h = lanes-le k n (length (window (kindOf k) n u)) h (window-accepted (kindOf k) n u .size)
-
-pub length-form-le : (k n : ℕ) (u : List ℕ) → rankRefusal k n ≡ 0 → length (wordNormalForm (kindOf k) n u) ≤ 4096
-length-form-le k n u h =
-    let w = window (kindOf k) n u in
-    let a = window-accepted (kindOf k) n u in
-    rw (length-normalForm (kindOf k) n w a) (windowLength-le-4096 (kindOf k) n w a (length-window-le k n u h))
 
 length-head-le : (i : ℕ) (k : Kind) (n l : ℕ) → i < 2 ^ 64 → n < 256 → l < 2 ^ 64 → length (head i k n l) ≤ 48
 unfolding head spaced

@@ -1,2 +1,3 @@
--- What the calls in src/lib.rt share. The laws about a module lie in its folder.
+-- What the calls in src/lib.rt share, and what the crates above share with a module. The other laws about a module lie in its folder.
+pub mod ByteSteps
 pub mod Better

@@ -54,6 +54,7 @@ struct Outputs {
     rule: [u8; 3],
     fields: Vec<u64>,
     counts: [usize; 3],
+    places: Vec<u16>,
 }
 
 /// The time of one call in nanoseconds, by its table, row and column.
@@ -190,6 +191,7 @@ fn main() {
         rule: [0; 3],
         fields: vec![0; 5 * 10_922],
         counts: [0; 3],
+        places: vec![0; 4096],
     };
     let mut bench = Bench { filter, outputs, cells: Vec::new() };
     let mut random = Random(2026);
@@ -201,6 +203,7 @@ fn main() {
             words(&mut bench, &mut random, kind, rank, &rig);
             windows(&mut bench, &mut random, kind, rank, &rig);
             rewrites(&mut bench, &mut random, kind, rank, &rig);
+            shortest(&mut bench, &mut random, kind, rank, &rig);
         }
     }
     books(&mut bench, &mut random);
@@ -355,6 +358,27 @@ fn rewrites(bench: &mut Bench, random: &mut Random, kind: u32, rank: u32, rig: &
         word[..left.len()].copy_from_slice(&left);
     }
     cell("4096 letters, start, longest left side".to_string(), &words, 0);
+}
+
+/// The plain version finds fallbacks by another way, all part-lists or the lengths of windows, and not as fast as it could.
+fn shortest(bench: &mut Bench, random: &mut Random, kind: u32, rank: u32, rig: &str) {
+    for letters in LETTERS {
+        let words = random.words(rank, letters);
+        // Every other letter of the normal form, so that the verdict is yes.
+        let part_of = |word: &Vec<u8>| {
+            let mut form = vec![0; 4096];
+            let length = plain::normal_form_of_word(kind, rank, word, &mut form);
+            form[..length as usize].iter().copied().step_by(2).collect()
+        };
+        let parts: Vec<Vec<u8>> = words.iter().map(part_of).collect();
+        bench.cell(
+            "fallback to half of the letters",
+            rig,
+            format!("{letters} letters"),
+            |k, out| rattle::fallback(kind, rank, black_box(&words[k]), black_box(&parts[k]), &mut out.places),
+            |k, out| plain::fallback(kind, rank, black_box(&words[k]), black_box(&parts[k]), &mut out.places),
+        );
+    }
 }
 
 fn books(bench: &mut Bench, random: &mut Random) {

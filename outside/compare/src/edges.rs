@@ -19,6 +19,8 @@ fn every_call(sides: &mut Sides, kind: u32, rank: u32, word: &[u8], window: &[i8
     sides.same((2, 2, &[1]), (kind, rank, word));
     sides.better(kind, rank, word, word);
     sides.rewrite(kind, rank, word, 0, out, 3);
+    sides.fallback(kind, rank, word, &[1], out);
+    sides.fallback(kind, rank, &[1], word, out);
     sides.append(&[0, 0], kind, rank, word, out);
     // A record of this kind and rank in a book, right or wrong.
     let (Ok(kind), Ok(rank)) = (kind.try_into(), rank.try_into()) else { return };

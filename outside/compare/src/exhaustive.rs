@@ -19,7 +19,7 @@ pub fn lists_over<T: Copy>(values: &[T], length: usize, each: &mut impl FnMut(&[
 }
 
 /// All windows of a kind and rank.
-fn all_windows(kind: u32, rank: u32) -> Vec<Vec<i8>> {
+pub fn all_windows(kind: u32, rank: u32) -> Vec<Vec<i8>> {
     let m = lanes(kind, rank);
     let mut windows: Vec<Vec<i8>> = vec![Vec::new()];
     for entry in 1..=m as i8 {
@@ -60,7 +60,7 @@ pub fn windows(sides: &mut Sides) {
     }
 }
 
-fn plain_form(kind: u32, rank: u32, window: &[i8]) -> Vec<u8> {
+pub fn plain_form(kind: u32, rank: u32, window: &[i8]) -> Vec<u8> {
     let mut form = vec![0; 4096];
     let length = plain::normal_form_of_window(kind, rank, window, &mut form);
     form.truncate(length as usize);

@@ -7,6 +7,7 @@ mod books;
 mod edges;
 mod examples;
 mod exhaustive;
+mod fallbacks;
 mod inputs;
 mod random;
 mod rewriting;
@@ -46,6 +47,8 @@ fn main() -> ExitCode {
     group("verdicts on all windows of small ranks across kinds", &exhaustive::alike_across);
     group("one letter to drop: all shortest words of small ranks, each step at either end", &shortest::one_letter);
     group("two letters to drop: all words of up to 6 letters of small ranks", &shortest::two_letters);
+    group("fallbacks: all pairs of windows of small ranks, from every shortest word", &fallbacks::pairs);
+    group("fallbacks: 200,000 random pairs of words", &|sides| fallbacks::random(sides, 200_000));
     group("each rule of each rank, whole and cut short", &rewriting::each_rule);
     group("rewriting to the end, at random places", &rewriting::to_the_end);
     group("books: the example, each byte changed, each part", &books::example);
@@ -55,7 +58,7 @@ fn main() -> ExitCode {
     });
     println!("{:>10} calls in all, {} different", sides.calls, sides.differences);
     println!("{:>10} of them made by the safe Rust function too", sides.safe_calls);
-    println!("answers: {} accepted, {} none fits", sides.accepted, sides.none_fits);
+    println!("answers: {} accepted, {} none fits, {} no fallback", sides.accepted, sides.none_fits, sides.no_fallback);
     for (number, times) in sides.refused.iter().enumerate().skip(1) {
         println!("{times:>10} times refusal {number}");
     }

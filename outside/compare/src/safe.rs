@@ -98,6 +98,15 @@ pub fn rewrite(kind: u32, rank: u32, word: &[u8], place: usize, out: &mut [u8], 
     })
 }
 
+pub fn fallback(kind: u32, rank: u32, present: &[u8], simpler: &[u8], places: &mut [u16]) -> Option<i64> {
+    let (kind, rank) = rig(kind, rank)?;
+    Some(match winnathey::fallback(kind, rank, present, simpler, places) {
+        Ok(None) => raw::NO_FALLBACK,
+        Ok(Some(kept)) => kept as i64,
+        Err(refusal) => coded(Err(refusal)),
+    })
+}
+
 pub fn book_check(book: &[u8]) -> Option<i64> {
     Some(coded(winnathey::book_check(book)))
 }

@@ -6,7 +6,7 @@ use crate::sides::Sides;
 use plain::{A, B, D};
 use std::collections::HashMap;
 
-const RIGS: [(u32, u32); 7] = [(A, 1), (A, 2), (A, 3), (A, 4), (B, 2), (B, 3), (D, 4)];
+pub const RIGS: [(u32, u32); 7] = [(A, 1), (A, 2), (A, 3), (A, 4), (B, 2), (B, 3), (D, 4)];
 
 fn window(sides: &mut Sides, kind: u32, rank: u32, word: &[u8]) -> Vec<i8> {
     let answer = sides.window_of_word(kind, rank, word, lanes(kind, rank));
@@ -20,7 +20,7 @@ fn without(word: &[u8], places: &[usize]) -> Vec<u8> {
 
 /// The shortest words with their windows, length by length: those whose window no shorter word has. A shortest word
 /// without its last letter is shortest, so that each comes from one with a letter less.
-fn shortest_words(sides: &mut Sides, kind: u32, rank: u32) -> Vec<(Vec<u8>, Vec<i8>)> {
+pub fn shortest_words(sides: &mut Sides, kind: u32, rank: u32) -> Vec<(Vec<u8>, Vec<i8>)> {
     let straight = window(sides, kind, rank, &[]);
     let mut first_length = HashMap::from([(straight.clone(), 0)]);
     let mut found = vec![(Vec::new(), straight)];

@@ -23,6 +23,12 @@ impl Fill for i8 {
     }
 }
 
+impl Fill for u16 {
+    fn fill(at: usize) -> u16 {
+        u16::from(u8::fill(at)) << 8 | at as u16 & 255
+    }
+}
+
 impl Fill for u64 {
     fn fill(at: usize) -> u64 {
         u64::from(u8::fill(at)) << 56 | at as u64
@@ -68,6 +74,7 @@ pub struct Side {
     rule: Output<u8>,
     lanes: Output<i8>,
     fields: Output<u64>,
+    places: Output<u16>,
     counts: Output<usize>,
 }
 
@@ -78,6 +85,7 @@ impl Side {
             rule: Output::new(),
             lanes: Output::new(),
             fields: Output::new(),
+            places: Output::new(),
             counts: Output::new(),
         }
     }
@@ -93,6 +101,7 @@ pub struct Sides {
     pub safe_calls: u64,
     pub accepted: u64,
     pub none_fits: u64,
+    pub no_fallback: u64,
     /// How often each refusal was the answer, by its number.
     pub refused: [u64; 15],
     pub differences: u64,
@@ -133,6 +142,18 @@ fn whole(answer: i64) -> usize {
     answer.max(0) as usize
 }
 
+/// Whether places rise, lie inside the present normal form, are as many as the simpler window's length, and the letters
+/// there have that window.
+fn serve(kind: u32, rank: u32, present: &[u8], simpler: &[u8], places: &[u16]) -> bool {
+    let mut form = [0; ROOM];
+    let length = whole(plain::normal_form_of_word(kind, rank, present, &mut form));
+    let letters: Option<Vec<u8>> =
+        places.iter().map(|&place| form[..length].get(usize::from(place)).copied()).collect();
+    places.is_sorted_by(|before, after| before < after)
+        && places.len() as i64 == plain::length_of_word(kind, rank, simpler)
+        && letters.is_some_and(|letters| plain::same(kind, rank, &letters, kind, rank, simpler) == 1)
+}
+
 impl Sides {
     pub fn new() -> Sides {
         Sides {
@@ -143,6 +164,7 @@ impl Sides {
             safe_calls: 0,
             accepted: 0,
             none_fits: 0,
+            no_fallback: 0,
             refused: [0; 15],
             differences: 0,
         }
@@ -152,6 +174,7 @@ impl Sides {
         match answer {
             0.. => self.accepted += 1,
             plain::NONE_FITS => self.none_fits += 1,
+            plain::NO_FALLBACK => self.no_fallback += 1,
             _ => {
                 if let Some(times) = self.refused.get_mut(answer.unsigned_abs() as usize) {
                     *times += 1;
@@ -245,6 +268,26 @@ impl Sides {
 
     pub fn rewrite(&mut self, kind: u32, rank: u32, word: &[u8], place: usize, out: usize, rule: usize) -> i64 {
         compared!(self, rewrite, (kind, rank, word, place), bytes: out => whole, rule: rule => |_| 3)
+    }
+
+    /// Several lists of places may serve, so the library's is held to what is asked of it and not to the plain version's.
+    pub fn fallback(&mut self, kind: u32, rank: u32, present: &[u8], simpler: &[u8], list: usize) -> i64 {
+        let answer = rattle::fallback(kind, rank, present, simpler, self.rattle.places.filled(list));
+        let expected = plain::fallback(kind, rank, present, simpler, self.plain.places.filled(list));
+        let kept = self.rattle.places.kept(whole(answer));
+        let places = self.rattle.places.all.get(GUARD..GUARD + whole(answer)).unwrap_or_default();
+        let serves = answer < 0 || serve(kind, rank, present, simpler, places);
+        let safe = safe::fallback(kind, rank, present, simpler, self.safe.places.filled(list));
+        self.safe_calls += u64::from(safe.is_some());
+        let safely = safe.is_none_or(|safe| safe == answer && self.safe.places.all == self.rattle.places.all);
+        self.tally(answer);
+        self.noted(answer == expected && kept && serves && safely, || {
+            format!(
+                "fallback{:?}: {answer} and {expected}, {kept} {serves} {safely}",
+                (kind, rank, present, simpler, list)
+            )
+        });
+        answer
     }
 
     pub fn book_check(&mut self, book: &[u8]) -> i64 {

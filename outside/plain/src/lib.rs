@@ -7,11 +7,13 @@
 
 mod book;
 mod checks;
+mod fallback;
 mod rules;
 mod window;
 mod word;
 
 pub use book::{append, book_check, preset, presets};
+pub use fallback::{NO_FALLBACK, fallback};
 pub use rules::{NONE_FITS, Rule, rewrite, rules};
 
 use checks::{check_preset, check_rank, check_window, check_word};

@@ -333,6 +333,38 @@ pub fn rewrite(kind: Kind, rank: u8, word: &[u8], place: usize, out: &mut [u8]) 
     }
 }
 
+/// Whether a simpler window can be had by removing letters from the normal form of the present word. With a yes the
+/// places of letters to keep, which count from 0 and rise, go to the front of `places`, and the answer is their number:
+/// the length of the simpler window. `None` is a no, which writes nothing. Refusals 5 to 8, the present word's before the
+/// simpler one's, and with a yes 14.
+///
+/// ```
+/// use winnathey::{Kind, MAX_NORMAL_FORM, fallback};
+///
+/// // The normal form of 1 2 1 is 2 1 2.
+/// let mut places = [0; MAX_NORMAL_FORM];
+/// let kept = fallback(Kind::A, 2, &[1, 2, 1], &[1, 2], &mut places)?;
+/// assert_eq!(kept, Some(2));
+/// assert_eq!(places[..2], [1, 2]);
+///
+/// assert_eq!(fallback(Kind::A, 2, &[1], &[2], &mut places)?, None);
+/// // The empty word is a fallback for all presets.
+/// assert_eq!(fallback(Kind::A, 2, &[1], &[], &mut [])?, Some(0));
+/// # Ok::<(), winnathey::Refusal>(())
+/// ```
+pub fn fallback(
+    kind: Kind,
+    rank: u8,
+    present: &[u8],
+    simpler: &[u8],
+    places: &mut [u16],
+) -> Result<Option<usize>, Refusal> {
+    match raw::fallback(kind.0.into(), rank.into(), present, simpler, places) {
+        raw::NO_FALLBACK => Ok(None),
+        answer => answered(answer).map(Some),
+    }
+}
+
 /// The number of presets in a book. Refusals 1 to 3.
 ///
 /// ```

@@ -1,6 +1,7 @@
 //! The C interface as it is, with slices in the place of pointers and lengths.
 //!
-//! Each function answers 0 or more, or -k for refusal k; [`rewrite`] also answers [`NONE_FITS`]. The functions of the
+//! Each function answers 0 or more, or -k for refusal k; [`rewrite`] also answers [`NONE_FITS`], and
+//! [`fallback`] [`NO_FALLBACK`]. The functions of the
 //! crate's root say the same in Rust's words.
 
 mod c {
@@ -114,6 +115,16 @@ mod c {
             rule: *mut u8,
             rule_len: usize,
         ) -> i64;
+        pub fn winnathey_fallback(
+            kind: u32,
+            rank: u32,
+            present: *const u8,
+            present_len: usize,
+            simpler: *const u8,
+            simpler_len: usize,
+            places: *mut u16,
+            places_len: usize,
+        ) -> i64;
         pub fn winnathey_book_check(book: *const u8, book_len: usize) -> i64;
         pub fn winnathey_preset(
             book: *const u8,
@@ -144,6 +155,9 @@ mod c {
 
 /// The answer of [`rewrite`] where no rule's left side begins at the place.
 pub const NONE_FITS: i64 = -100;
+
+/// The answer of [`fallback`] where no part-list of the present normal form has the simpler window.
+pub const NO_FALLBACK: i64 = -101;
 
 // SAFETY, for all calls below: each pointer and length are those of one slice, which is borrowed for the call and,
 // where the call writes, borrowed alone. The library asks nothing else of its caller: it is proved to stay inside
@@ -267,6 +281,23 @@ pub fn rewrite(kind: u32, rank: u32, word: &[u8], place: usize, out: &mut [u8], 
             out.len(),
             rule.as_mut_ptr(),
             rule.len(),
+        )
+    }
+}
+
+/// The number of places kept, with the places in the front of `places`, or [`NO_FALLBACK`].
+#[inline]
+pub fn fallback(kind: u32, rank: u32, present: &[u8], simpler: &[u8], places: &mut [u16]) -> i64 {
+    unsafe {
+        c::winnathey_fallback(
+            kind,
+            rank,
+            present.as_ptr(),
+            present.len(),
+            simpler.as_ptr(),
+            simpler.len(),
+            places.as_mut_ptr(),
+            places.len(),
         )
     }
 }

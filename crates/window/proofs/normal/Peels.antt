@@ -31,7 +31,7 @@ use Rattle.coxeter.proofs.Levels.{Accepted, accepted-of-refusal, level-hasSize,
 use Rattle.coxeter.proofs.Peeling.{placeFrom-peeled, without-peeled, restOf-positive, levels-le-lanes}
 use Rattle.coxeter.proofs.KindLaws.{lanes-le-add-one}
 use Rattle.coxeter.proofs.Places.{hasSize-beyond}
-use Rattle.window.proofs.action.Actions.{Negated, set-eq-negateFirst}
+use Rattle.window.proofs.ByteSteps.{Negated, set-eq-negateFirst}
 
 -- ---- entries
 

@@ -10,7 +10,8 @@ use borrow.Author.Needs.{needs}
 use Rattle.coxeter.specs.Kinds.{kindOf}
 use Rattle.coxeter.specs.Windows.{window}
 use Rattle.coxeter.specs.NormalForm.{wordNormalForm}
-use Rattle.listing_lines.proofs.presets.PresetLines.{Front, form-front, form-never, window-front, window-never, wordLine-room, wordLine-put}
+use Rattle.coxeter.proofs.Fronts.{Front, form-front, form-never, window-front, window-never}
+use Rattle.listing_lines.proofs.presets.PresetLines.{wordLine-room, wordLine-put}
 use Rattle.listing_lines.proofs.presets.put_word.Statement.{statement}
 use Rattle.listing_lines.proofs.presets.put_word.Tie as tie
 
@@ -25,7 +26,7 @@ shown : (c : tie.After-m)
     → let a = c .before .before .before .before .before .before .before .before .before .before .before .before .before .before .before .args in Front 64 (window (kindOf (a .kind)) (a .rank) (now (a .word))) (c .before .before .before .window-of-word .last .1 .1 .1 .0) (c .m .given .0 .0)
 shown c =
     let start = c .before .before .before .before .before .before .before .before .before .before .before .before .before .before .before in
-    window-front _ _ _ (start .pre .0) (start .pre .1) _ _ _ (c .before .before .before .before .before .blank .ensures) (c .before .before .before .window-of-word .ensures) _ (c .m .given .1)
+    window-front _ _ _ (start .pre .0) (start .pre .1) _ _ (c .before .before .before .before .before .blank .ensures) _ (c .before .before .before .window-of-word .ensures) _ (c .m .given .1)
 
 inside-form : (c : tie.After-l) → c .l .given .0 .0 ≤ length (c .before .before .before .normal-form-of-word .last .1 .1 .1 .0)
 inside-form c = omega (arith, form c .bound, c .before .before .before .before .before .buffer .ensures, c .before .before .before .normal-form-of-word .kept .1 .1 .1 .0)
@@ -71,7 +72,7 @@ enum-told-2 c = search needs
 returns-2 : tie.Need-returns-2
 returns-2 c =
     let start = c .before .before .before .before .before .before .before .before .before .before .before .before .before .before .before in
-    absurd (window-never _ _ _ (start .pre .0) (start .pre .1) _ _ _ (c .before .before .before .before .before .blank .ensures) (c .before .before .before .window-of-word .ensures) _ (c .enum-told2 .given .1))
+    absurd (window-never _ _ _ (start .pre .0) (start .pre .1) _ _ (c .before .before .before .before .before .blank .ensures) _ (c .before .before .before .window-of-word .ensures) _ (c .enum-told2 .given .1))
 
 array-share-prefix-form : tie.Need-array-share-prefix-form
 array-share-prefix-form c = inside-form (c .before .before .before .before .before .before .before .before)

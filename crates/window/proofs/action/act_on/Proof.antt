@@ -3,8 +3,8 @@
 use mathlib.Core.Path.{_∙_}
 use native.Mathlib.Omega.{arith}
 use borrow.Author.Needs.{needs}
-use Rattle.window.proofs.action.Actions.{exchange-eq-act, negate-at-requires-of-last, negateFirst-eq-act}
-use Rattle.window.proofs.action.Actions.{four-le-of-last, exchange-negate-at-requires-of-last, exchangeNegate-eq-act}
+use Rattle.window.proofs.ByteSteps.{exchange-eq-act, negate-at-requires-of-last, negateFirst-eq-act}
+use Rattle.window.proofs.ByteSteps.{four-le-of-last, exchange-negate-at-requires-of-last, exchangeNegate-eq-act}
 use Rattle.window.proofs.action.act_on.Statement.{statement}
 use Rattle.window.proofs.action.act_on.Tie as tie
 

@@ -1,7 +1,7 @@
 -- `action::exchange_at` exchanges two neighbours: two stores of what was read before.
 -- Assumes nothing.
 use borrow.Author.Needs.{needs}
-use Rattle.window.proofs.action.Actions.{set-eq-exchange}
+use Rattle.window.proofs.ByteSteps.{set-eq-exchange}
 use Rattle.window.proofs.action.exchange_at.Statement.{statement}
 use Rattle.window.proofs.action.exchange_at.Tie as tie
 

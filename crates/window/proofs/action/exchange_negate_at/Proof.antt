@@ -1,7 +1,7 @@
 -- `action::exchange_negate_at` exchanges two neighbours with their signs changed: two stores of the negations.
 -- Assumes nothing.
 use borrow.Author.Needs.{needs}
-use Rattle.window.proofs.action.Actions.{set-eq-exchangeNegate}
+use Rattle.window.proofs.ByteSteps.{set-eq-exchangeNegate}
 use Rattle.window.proofs.action.exchange_negate_at.Statement.{statement}
 use Rattle.window.proofs.action.exchange_negate_at.Tie as tie
 

@@ -1,7 +1,7 @@
 -- `action::negate_at` changes the sign of an entry: one store of its negation, which fits since the size is below 128.
 -- Assumes nothing.
 use borrow.Author.Needs.{needs}
-use Rattle.window.proofs.action.Actions.{set-eq-negateFirst}
+use Rattle.window.proofs.ByteSteps.{set-eq-negateFirst}
 use Rattle.window.proofs.action.negate_at.Statement.{statement}
 use Rattle.window.proofs.action.negate_at.Tie as tie
 

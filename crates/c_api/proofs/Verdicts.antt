@@ -1,0 +1,30 @@
+-- Calls on shortest words, as a call for C makes them: of a kind and a rank that are bytes, or that checks 5 and 6 refuse alike.
+-- Assumes nothing.
+use mathlib.Core.Path.{_≡_, ap, _∙_}
+use mathlib.Core.Logic.{inl, inr}
+use mathlib.Core.List.{List}
+use Prim.Native.Nat.{ℕ, _≤_}
+use native.Mathlib.Omega.{arith}
+use lib.IntN.{ℤ}
+use Rattle.exchange.specs.declared.Fallback.{Fallback}
+use Rattle.exchange.specs.declared.Fallback.the-variants.{Kept}
+use Rattle.exchange.specs.Calls.{FellBack}
+use Rattle.exchange.proofs.Verdicts.{kept-le, fellBack-alike}
+use Rattle.c_api.specs.Shortest.{fallbackNumber, FallbackNumbered}
+use Rattle.c_api.proofs.Bytes.{byteOf, bytes-or-refused}
+
+module _ (k n l m : ℕ) (present simpler places after : List ℕ) (a : Fallback) (e : l ≡ byteOf k) (f : m ≡ byteOf n)
+    (h : FellBack l m present simpler places a after) where
+  pub fellBack-as-bytes : FellBack k n present simpler places a after
+  fellBack-as-bytes = elim (bytes-or-refused k n) [
+    | inl b ↦ rw (e ∙ b .0, f ∙ b .1) at h
+    | inr b ↦ fellBack-alike k n present simpler places after a (byteOf k) (byteOf n) (b .0) (b .1) (rw (e, f) at h)
+  ]
+
+  -- z is its number
+  pub fallback-numbered : (z : ℤ) → z ≡ fallbackNumber a → FallbackNumbered k n present simpler places z after
+  fallback-numbered z p = let q = fellBack-as-bytes .answer in (p ∙ ap fallbackNumber q, rw q at fellBack-as-bytes)
+
+pub fallback-size : (l m : ℕ) (present simpler places after : List ℕ) (a : Fallback) (s : ℕ) → FellBack l m present simpler places a after
+    → a ≡ Kept s → s ≤ 65535
+fallback-size l m present simpler places after a s h q = omega (arith, kept-le l m present simpler places after s (rw q at h))

@@ -1,0 +1,87 @@
+-- `shortest::winnathey_fallback` goes by the cases of the verdict.
+-- Assumes nothing.
+use mathlib.Core.Path.{_∙_}
+use borrow.Author.Needs.{needs}
+use Rattle.c_api.specs.Calls.{refused}
+use Rattle.c_api.specs.Shortest.{fallbackNumber}
+use Rattle.c_api.proofs.Lengths.{i64-back}
+use Rattle.c_api.proofs.Verdicts.{fallback-numbered, fallback-size}
+use Rattle.c_api.proofs.shortest.winnathey_fallback.Statement.{statement}
+use Rattle.c_api.proofs.shortest.winnathey_fallback.Tie as tie
+
+byte-requires : tie.Need-byte-requires
+byte-requires c κs = search needs
+
+byte-requires-2 : tie.Need-byte-requires-2
+byte-requires-2 c κs = search needs
+
+fallback-places-requires : tie.Need-fallback-places-requires
+fallback-places-requires c κs = search needs
+
+enum-known-l : tie.Need-enum-known-l
+enum-known-l c = search needs
+
+size-requires : tie.Need-size-requires
+size-requires c κs =
+    let b = c .before .before .before .before .before in
+    fallback-size _ _ _ _ _ _ _ _ (b .fallback-places .ensures) (c .before .l .given .1)
+
+enum-told : tie.Need-enum-told
+enum-told c = search needs
+
+enum-known-k : tie.Need-enum-known-k
+enum-known-k c = search needs
+
+refusal-requires : tie.Need-refusal-requires
+refusal-requires c κs = search needs
+
+same-length : tie.Need-same-length
+same-length c = search needs
+
+returns : tie.Need-returns
+unfolding fallbackNumber
+returns c =
+    let d = c .before .before in
+    let b = d .before .before .before .before in
+    fallback-numbered _ _ _ _ _ _ _ _ _ (b .before .before .before .byte .ensures) (b .before .before .byte2 .ensures) (b .fallback-places .ensures) _
+    (rw (d .l .given .1) (i64-back _ (c .size .ok) ∙ c .size .ensures))
+
+same-length-2 : tie.Need-same-length-2
+same-length-2 c = search needs
+
+returns-2 : tie.Need-returns-2
+unfolding fallbackNumber refused
+returns-2 c =
+    let b = c .before .before .before .before in
+    fallback-numbered _ _ _ _ _ _ _ _ _ (b .before .before .before .byte .ensures) (b .before .before .byte2 .ensures) (b .fallback-places .ensures) _
+    (rw (c .enum-told .given .1))
+
+same-length-3 : tie.Need-same-length-3
+same-length-3 c = search needs
+
+returns-3 : tie.Need-returns-3
+unfolding fallbackNumber
+returns-3 c =
+    let d = c .before .before in
+    let b = d .before .before .before .before in
+    fallback-numbered _ _ _ _ _ _ _ _ _ (b .before .before .before .byte .ensures) (b .before .before .byte2 .ensures) (b .fallback-places .ensures) _
+    (rw (d .k .given .1) (i64-back _ (c .refusal .ok) ∙ c .refusal .ensures))
+
+pub winnathey-fallback-spec : {M : Type 1} → statement M
+winnathey-fallback-spec =
+    tie.close
+    (tie.spec
+    byte-requires
+    byte-requires-2
+    fallback-places-requires
+    enum-known-l
+    size-requires
+    enum-told
+    enum-known-k
+    refusal-requires
+    same-length
+    returns
+    same-length-2
+    returns-2
+    same-length-3
+    returns-3)

@@ -1,0 +1,21 @@
+-- What a call for C on shortest words answers and writes, from what the layer's call does.
+use mathlib.Core.Path.{_≡_}
+use mathlib.Core.List.{List}
+use Prim.Native.Nat.{ℕ}
+use lib.IntN.{ℤ, pos}
+use Rattle.exchange.specs.declared.Fallback.{Fallback}
+use Rattle.exchange.specs.declared.Fallback.the-variants as fallback
+use Rattle.exchange.specs.Calls.{fallbackAnswer, FellBack}
+use Rattle.c_api.specs.Calls.{refused}
+
+-- a fallback: the number of places kept, and -101 is that the verdict is no
+unfoldable pub fallbackNumber : Fallback → ℤ
+fallbackNumber (fallback.Kept l) = pos l
+fallbackNumber fallback.No = refused 101
+fallbackNumber (fallback.Refused k) = refused k
+
+-- the number that was answered, and what holds of the list of places afterwards
+abbrev pub FallbackNumbered : ℕ → ℕ → List ℕ → List ℕ → List ℕ → ℤ → List ℕ → Type 0
+FallbackNumbered k n present simpler places z after =
+    (z ≡ fallbackNumber (fallbackAnswer k n present simpler places))
+    × FellBack k n present simpler places (fallbackAnswer k n present simpler places) after

@@ -1,0 +1,27 @@
+// Calls on shortest words.
+use crate::numbers::byte;
+use crate::numbers::refusal;
+use crate::numbers::size;
+use descents::Fallback;
+use descents::fallback_places;
+ghost use mathlib.Core.Path.{_≡_};
+ghost use Rattle.c_api.specs.Shortest.{FallbackNumbered};
+
+// Whether a simpler word's window can be had by removing letters from the normal form of the present word. The places of letters to keep, which count
+// from 0 and rise, go to the front of `places`. Answers how many are kept, or -101 where the verdict is no. Refusals 5 to 8, and 14 only with a yes.
+#[no_mangle]
+pub extern "C" fn winnathey_fallback(
+    kind: u32,
+    rank: u32,
+    present: &[u8],
+    simpler: &[u8],
+    places: &mut [u16],
+) -> i64
+    ensures { λ r. ⌜ FallbackNumbered kind rank (now (present .entry)) (now (simpler .entry)) (now (places .entry)) r (now (places .exit)) ⌝ }
+{
+    match fallback_places(byte(kind), byte(rank), present, simpler, places) {
+        Fallback::Kept(l) => size(l),
+        Fallback::No => -101,
+        Fallback::Refused(k) => refusal(k),
+    }
+}

@@ -1,0 +1,2 @@
+-- What the calls in src/lib.rt share. The laws about a module lie in its folder.
+pub mod Fallbacks

@@ -1,0 +1,33 @@
+-- `fallback_places` goes by its checks in their order, and then by the verdict on the two words.
+-- Assumes nothing.
+use Rattle.coxeter.proofs.Acceptance.{words-accepted}
+use Rattle.exchange.proofs.Verdicts.{fellBack-refused, fellBack-settled}
+use borrow.Author.Needs.{needs}
+use Rattle.descents.proofs.fallback_places.Statement.{statement}
+use Rattle.descents.proofs.fallback_places.Tie as tie
+
+ranked-words-refusal-requires : tie.Need-ranked-words-refusal-requires
+ranked-words-refusal-requires c κs = search needs
+
+returns : tie.Need-returns
+returns c =
+    let b = c .before in
+    fellBack-refused _ _ _ _ _ _ (b .ranked-words-refusal .ensures) (c .if1 .taken)
+
+settle-words-requires : tie.Need-settle-words-requires
+settle-words-requires c κs =
+    let b = c .before .before in
+    words-accepted _ _ _ _ _ (b .ranked-words-refusal .ensures) (c .before .if1 .left)
+
+same-length : tie.Need-same-length
+same-length c = search needs
+
+returns-2 : tie.Need-returns-2
+returns-2 c =
+    let b = c .before .before .before .before .before in
+    fellBack-settled _ _ _ _ _ _ (b .ranked-words-refusal .ensures) _ _ (c .before .before .before .before .if1 .left) (c .before .before .settle-words .ensures)
+
+pub fallback-places-spec : {M : Type 1} → statement M
+fallback-places-spec =
+    tie.close
+    (tie.spec ranked-words-refusal-requires returns settle-words-requires same-length returns-2)

@@ -1,0 +1,72 @@
+-- `settle_words` walks through the normal form of the present word towards the simpler window.
+-- Assumes nothing.
+use mathlib.Core.Path.{refl, sym, _∙_}
+use Rattle.descents.proofs.Fallbacks.{part-length, part-is, words-settle-requires, words-settled}
+use borrow.Author.Needs.{needs}
+use Rattle.descents.proofs.settle_words.Statement.{statement}
+use Rattle.descents.proofs.settle_words.Tie as tie
+
+lanes-requires : tie.Need-lanes-requires
+lanes-requires c κs = search needs
+
+shown-requires : tie.Need-shown-requires
+shown-requires c κs = search needs
+
+no-letters-requires : tie.Need-no-letters-requires
+no-letters-requires c κs = search needs
+
+slice-aggregate-write-form : tie.Need-slice-aggregate-write-form
+slice-aggregate-write-form c = search needs
+
+write-form-requires : tie.Need-write-form-requires
+write-form-requires c κs = search needs
+
+array-borrow-prefix-form : tie.Need-array-borrow-prefix-form
+array-borrow-prefix-form c = search needs
+
+slice-aggregate-settle : tie.Need-slice-aggregate-settle
+slice-aggregate-settle c =
+    let b = c .before .before in
+    part-length _ _ _ _ _ (b .write-form .ensures) refl (b .before .before .no-letters .ensures ∙ sym (b .write-form .kept .1 .1 .1 .0))
+
+array-borrow-prefix-target : tie.Need-array-borrow-prefix-target
+array-borrow-prefix-target c = search needs
+
+slice-aggregate-settle-2 : tie.Need-slice-aggregate-settle-2
+slice-aggregate-settle-2 c =
+    let b = c .before .before .before .before .before .before in
+    part-length _ _ _ _ _ (b .shown .ensures .1) (b .before .lanes .ensures) (b .shown .ensures .0)
+
+settle-requires : tie.Need-settle-requires
+settle-requires c κs =
+    let f = c .before .before .before .before in
+    let b = f .before .before .before in
+    words-settle-requires _ _ _ _ _ _ (part-is _ _ _ _ _ (f .write-form .ensures) refl) (part-is _ _ _ _ _ (b .shown .ensures .1) (b .before .lanes .ensures))
+    (b .before .before .before .before .before .pre .0)
+
+same-length : tie.Need-same-length
+same-length c = search needs
+
+returns : tie.Need-returns
+returns c =
+    let f = c .before .before .before .before .before .before .before .before .before in
+    let b = f .before .before .before in
+    words-settled _ _ _ _ _ _ (part-is _ _ _ _ _ (f .write-form .ensures) refl) (part-is _ _ _ _ _ (b .shown .ensures .1) (b .before .lanes .ensures))
+    _ _ _ (c .before .before .before .before .settle .ensures)
+
+pub settle-words-spec : {M : Type 1} → statement M
+settle-words-spec =
+    tie.close
+    (tie.spec
+    lanes-requires
+    shown-requires
+    no-letters-requires
+    slice-aggregate-write-form
+    write-form-requires
+    array-borrow-prefix-form
+    slice-aggregate-settle
+    array-borrow-prefix-target
+    slice-aggregate-settle-2
+    settle-requires
+    same-length
+    returns)

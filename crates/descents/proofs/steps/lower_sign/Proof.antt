@@ -1,0 +1,49 @@
+-- `steps::lower_sign` changes the sign of an entry where it is negative.
+-- Assumes nothing.
+use mathlib.Core.Path.{refl}
+use denote.Ref.{now}
+use lib.IntN.{pos}
+use lib.ListN.{getD}
+use Rattle.descents.proofs.steps.Lowering.{negative-told, negated-fits, set-eq-negated}
+use borrow.Author.Needs.{needs}
+use Rattle.descents.proofs.steps.lower_sign.Statement.{statement}
+use Rattle.descents.proofs.steps.lower_sign.Tie as tie
+
+slice-copy-out-a : tie.Need-slice-copy-out-a
+slice-copy-out-a c = search needs
+
+is-negative-requires : tie.Need-is-negative-requires
+is-negative-requires c κs = search needs
+
+sub-w : tie.Need-sub-w
+sub-w c =
+    let b = c .before .before in
+    negated-fits (getD (now (b .before .args .w)) (b .before .args .p) (pos 0)) (b .a .given) (b .before .pre .1)
+
+slice-set-from-w : tie.Need-slice-set-from-w
+slice-set-from-w c = search needs
+
+same-length : tie.Need-same-length
+same-length c = search needs
+
+returns : tie.Need-returns
+returns c =
+    let b = c .before in (
+      negative-told _ _ _ (b .before .a .given) (b .is-negative .ensures) (c .if1 .taken),
+      set-eq-negated _ _ (b .before .before .pre .0) (b .before .a .given) (b .before .before .pre .1),
+    )
+
+returns-2 : tie.Need-returns-2
+returns-2 c = (negative-told _ _ _ (c .before .before .a .given) (c .before .is-negative .ensures) (c .if1 .left), refl)
+
+pub lower-sign-spec : {M : Type 1} → statement M
+lower-sign-spec =
+    tie.close
+    (tie.spec
+    slice-copy-out-a
+    is-negative-requires
+    sub-w
+    slice-set-from-w
+    same-length
+    returns
+    returns-2)

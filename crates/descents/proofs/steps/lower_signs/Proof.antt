@@ -1,0 +1,78 @@
+-- `steps::lower_signs` exchanges two neighbours with their signs changed, where the first stands later than minus the second.
+-- Assumes nothing.
+use mathlib.Core.Path.{refl}
+use Prim.Native.Nat.{_+_}
+use denote.Ref.{now}
+use lib.IntN.{pos}
+use lib.ListN.{getD}
+use Rattle.descents.proofs.steps.Lowering.{later-negated-told, negated-fits, set-eq-exchanged}
+use borrow.Author.Needs.{needs}
+use Rattle.descents.proofs.steps.lower_signs.Statement.{statement}
+use Rattle.descents.proofs.steps.lower_signs.Tie as tie
+
+slice-copy-out-a : tie.Need-slice-copy-out-a
+slice-copy-out-a c = search needs
+
+add-b : tie.Need-add-b
+add-b c = search needs
+
+slice-copy-out-b : tie.Need-slice-copy-out-b
+slice-copy-out-b c = search needs
+
+sub-c : tie.Need-sub-c
+sub-c c =
+    let b = c .before .before in
+    negated-fits (getD (now (b .args .w)) (b .args .p + 1) (pos 0)) (c .b .given) (b .pre .1 .1)
+
+is-later-requires : tie.Need-is-later-requires
+is-later-requires c κs = search needs
+
+slice-set-from-c : tie.Need-slice-set-from-c
+slice-set-from-c c = search needs
+
+sub-w : tie.Need-sub-w
+sub-w c =
+    let b = c .before .before .before in
+    negated-fits (getD (now (b .before .args .w)) (b .before .args .p) (pos 0)) (b .a .given) (b .before .pre .1 .0)
+
+add-t13 : tie.Need-add-t13
+add-t13 c = search needs
+
+slice-set-from-w : tie.Need-slice-set-from-w
+slice-set-from-w c = search needs
+
+same-length : tie.Need-same-length
+same-length c = search needs
+
+returns : tie.Need-returns
+returns c =
+    let b = c .before in
+    let d = b .before .before .before in
+    let y = getD (now (d .args .w)) (d .args .p + 1) (pos 0) in (
+      later-negated-told _ y _ _ (b .before .before .a .given) (b .before .b .given) (d .pre .1 .1) (b .is-later .ensures) (c .if1 .taken),
+      set-eq-exchanged _ _ (d .pre .0) (b .before .before .a .given) (d .pre .1 .0) (b .before .b .given) (d .pre .1 .1),
+    )
+
+returns-2 : tie.Need-returns-2
+returns-2 c =
+    let b = c .before in
+    let d = b .before .before .before in
+    let y = getD (now (d .args .w)) (d .args .p + 1) (pos 0) in
+    (later-negated-told _ y _ _ (b .before .before .a .given) (b .before .b .given) (d .pre .1 .1) (b .is-later .ensures) (c .if1 .left), refl)
+
+pub lower-signs-spec : {M : Type 1} → statement M
+lower-signs-spec =
+    tie.close
+    (tie.spec
+    slice-copy-out-a
+    add-b
+    slice-copy-out-b
+    sub-c
+    is-later-requires
+    slice-set-from-c
+    sub-w
+    add-t13
+    slice-set-from-w
+    same-length
+    returns
+    returns-2)

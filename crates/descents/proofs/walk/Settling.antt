@@ -1,0 +1,57 @@
+-- The verdict that `walk::settle` reaches, from what keeping letters left of the word and of the target.
+-- Assumes nothing.
+use mathlib.Core.Path.{_≡_, ap, _∙_}
+use mathlib.Core.Bool.{Bool, true, false}
+use mathlib.Core.List.{List, []}
+use Prim.Native.Nat.{ℕ, _≤_, _<_}
+use native.Mathlib.Omega.{arith}
+use lib.IntN.{ℤ}
+use lib.ListN.{length}
+use Rattle.coxeter.specs.Kinds.{kindOf, least, lanes}
+use Rattle.coxeter.specs.Windows.{straight}
+use Rattle.coxeter.specs.Checks.{wrongLetter, rankRefusal, windowRefusal}
+use Rattle.coxeter.specs.Calls.{written, sameWindow}
+use Rattle.coxeter.proofs.Acceptance.{rank-accepted, lanes-le}
+use Rattle.coxeter.proofs.Levels.{Accepted, accepted-of-refusal}
+use Rattle.exchange.specs.declared.Fallback.the-variants.{Kept, No, Refused}
+use Rattle.exchange.proofs.Walk.{leftOver, placesKept, marked}
+use Rattle.exchange.proofs.Verdicts.{Settled, settled-no, settled-short, settled-kept}
+
+-- what `settle` requires
+abbrev pub SettleRequires : ℕ → ℕ → List ℕ → List ℤ → Type 0
+SettleRequires k n u w = (rankRefusal k n ≡ 0) × (((wrongLetter n u ≡ false) × (length u ≤ 4096)) × (windowRefusal (kindOf k) n w ≡ 0))
+
+-- and what `keep_letters` ensures
+abbrev pub LettersKept : ℕ → ℕ → List ℕ → List ℤ → List ℕ → List ℤ → ℕ → Type 0
+LettersKept k n u w f x m =
+    (m ≡ length (marked 0 f))
+    × (marked 0 f ≡ placesKept (kindOf k) n u (length u) w [])
+    × (x ≡ leftOver (kindOf k) n u (length u) w)
+
+module _ (k n : ℕ) (u : List ℕ) (w : List ℤ) (h : SettleRequires k n u w) where
+  pub keep-requires : (least (kindOf k) ≤ n) × ((n ≤ 64) × ((wrongLetter n u ≡ false) × (windowRefusal (kindOf k) n w ≡ 0)))
+  keep-requires = let r = rank-accepted k n (h .0) in (r .0, (r .1, (h .1 .0 .0, h .1 .1)))
+
+  accepted : Accepted (kindOf k) n w
+  accepted = accepted-of-refusal (kindOf k) n w (h .1 .1)
+
+  pub left-length : (m : ℕ) → m ≡ length w → m ≤ 127
+  left-length m e = omega (arith, lanes-le k n m (h .0) (e ∙ accepted .size))
+
+  -- f and x are the word and the target afterwards, m how many letters are kept, t whether the target is straight
+  module _ (f : List ℕ) (x : List ℤ) (m : ℕ) (g : LettersKept k n u w f x m) (e : length x ≡ length w) (t : Bool)
+      (s : t ≡ sameWindow x (straight (length x))) (places : List ℕ) where
+    ends : t ≡ sameWindow x (straight (lanes (kindOf k) n))
+    ends = s ∙ ap (λ (l : ℕ). sameWindow x (straight l)) (e ∙ accepted .size)
+
+    pub settle-no : t ≡ false → Settled (kindOf k) n u w places No places
+    settle-no z = settled-no (kindOf k) n u w places (rank-accepted k n (h .0) .0) (h .1 .0 .0) accepted x t (g .2) ends z
+
+    pub settle-short : t ≡ true → length places < m → Settled (kindOf k) n u w places (Refused 14) places
+    settle-short z =
+        settled-short (kindOf k) n u w places (rank-accepted k n (h .0) .0) (h .1 .0 .0) accepted x t (g .2) ends z (marked 0 f) m (g .1) (g .0)
+
+    pub settle-kept : (after : List ℕ) → t ≡ true → m ≤ length places → after ≡ written 0 (marked 0 f) places
+        → Settled (kindOf k) n u w places (Kept m) after
+    settle-kept after z =
+        settled-kept (kindOf k) n u w places (rank-accepted k n (h .0) .0) (h .1 .0 .0) accepted x t (g .2) ends z (marked 0 f) m (g .1) (g .0) after

@@ -1,0 +1,101 @@
+-- `walk::keep_letters` goes from the last letter to the first: the target steps back at a letter that is kept, and any other letter becomes 0.
+-- Assumes nothing.
+use mathlib.Core.Path.{_≡_, refl, _∙_}
+use Prim.Native.Nat.{_-_}
+use native.Mathlib.Omega.{arith}
+use lib.ListN.{length}
+use borrow.Author.Needs.{needs}
+use Rattle.coxeter.specs.Kinds.{kindOf}
+use Rattle.descents.proofs.walk.Walking.{Walking, walking-start, walking-within, walking-room, walking-kept, walking-left, walking-end}
+use Rattle.descents.proofs.walk.keep_letters.Statement.{statement}
+use Rattle.descents.proofs.walk.keep_letters.Tie as tie
+
+abbrev Inv-loop : tie.InvT-loop
+Inv-loop kind n word₀ w₀ kept₀ i₀ word w kept i =
+    (length w ≡ length w₀) × Walking (kindOf kind) n word₀ w₀ word w i kept
+
+abbrev μ-loop : tie.MeasureT-loop
+μ-loop kind n word₀ w₀ kept₀ i₀ word w kept i = i
+
+loop-holds : tie.Need-loop-holds Inv-loop μ-loop
+loop-holds c = (refl, walking-start _ _ _ _ (c .before .pre .1 .1 .1))
+
+sub-i : tie.Need-sub-i Inv-loop μ-loop
+sub-i c = search needs
+
+slice-read-lower : tie.Need-slice-read-lower Inv-loop μ-loop
+slice-read-lower c =
+    let w = c .before .before .loop .inv .1 in
+    omega (arith, w .inside, w .size)
+
+cast-lower : tie.Need-cast-lower Inv-loop μ-loop
+cast-lower c = omega (arith, c .slice-known2 .given (c .before .before .loop .i - 1))
+
+lower-requires : tie.Need-lower-requires Inv-loop μ-loop
+lower-requires c κs =
+    let b = c .before .before .before in
+    let p = b .before .before .pre in
+    (walking-within _ _ _ _ _ _ _ _ _ (b .loop .inv .1) (omega arith) (p .1 .1 .0), (p .0, (p .1 .0, b .loop .inv .1 .passes)))
+
+add-kept : tie.Need-add-kept Inv-loop μ-loop
+add-kept c =
+    let b = c .before .before .before .before .before .before in
+    let r = walking-room _ _ _ _ _ _ _ (b .loop .i - 1) _ (b .loop .inv .1) (omega arith) in
+    omega arith
+
+loop-less : tie.Need-loop-less Inv-loop μ-loop
+loop-less c = search needs
+
+loop-again : tie.Need-loop-again Inv-loop μ-loop
+loop-again c =
+    let b = c .before .before .before .before .before .before in
+    let l = c .before .before .lower in (
+      l .kept .1 .1 .1 .0 ∙ b .loop .inv .0,
+      walking-kept _ _ _ _ _ _ _ _ _ (b .loop .inv .1) (omega arith) _ _ (l .ensures .0) (l .ensures .1) (c .if1 .taken) (b .before .before .pre .1 .1 .0),
+    )
+
+slice-write-word : tie.Need-slice-write-word Inv-loop μ-loop
+slice-write-word c =
+    let w = c .before .before .before .before .before .before .loop .inv .1 in
+    omega (arith, w .inside, w .size)
+
+loop-less-2 : tie.Need-loop-less-2 Inv-loop μ-loop
+loop-less-2 c = search needs
+
+loop-again-2 : tie.Need-loop-again-2 Inv-loop μ-loop
+loop-again-2 c =
+    let b = c .before .before .before .before .before .before in
+    let l = c .before .before .lower in (
+      l .kept .1 .1 .1 .0 ∙ b .loop .inv .0,
+      walking-left _ _ _ _ _ _ _ _ _ (b .loop .inv .1) (omega arith) _ _ (l .ensures .0) (l .ensures .1) (c .if1 .left),
+    )
+
+same-length : tie.Need-same-length Inv-loop μ-loop
+same-length c = c .before .loop .inv .1 .size
+
+same-length-2 : tie.Need-same-length-2 Inv-loop μ-loop
+same-length-2 c = c .before .loop .inv .0
+
+returns : tie.Need-returns Inv-loop μ-loop
+returns c = walking-end _ _ _ _ _ _ _ _ (c .before .loop .inv .1) (c .loop-test .left)
+
+pub keep-letters-spec : {M : Type 1} → statement M
+keep-letters-spec =
+    tie.close
+    (tie.spec
+    Inv-loop
+    μ-loop
+    loop-holds
+    sub-i
+    slice-read-lower
+    cast-lower
+    lower-requires
+    add-kept
+    loop-less
+    loop-again
+    slice-write-word
+    loop-less-2
+    loop-again-2
+    same-length
+    same-length-2
+    returns)

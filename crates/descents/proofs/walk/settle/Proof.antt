@@ -1,0 +1,75 @@
+-- `walk::settle` decides by what is left of the target: straight, and then the places are written where there is room, or not.
+-- Assumes nothing.
+use borrow.Author.Needs.{needs}
+use Rattle.descents.proofs.walk.Settling.{keep-requires, left-length, settle-no, settle-short, settle-kept}
+use Rattle.descents.proofs.walk.settle.Statement.{statement}
+use Rattle.descents.proofs.walk.settle.Tie as tie
+
+keep-letters-requires : tie.Need-keep-letters-requires
+keep-letters-requires c κs = keep-requires _ _ _ _ (c .before .before .before .before .pre)
+
+is-straight-requires : tie.Need-is-straight-requires
+is-straight-requires c κs =
+    let b = c .before .before .before .before in
+    left-length _ _ _ _ (b .before .before .before .before .before .pre) _ (b .keep-letters .kept .1 .1 .1 .0)
+
+same-length : tie.Need-same-length
+same-length c = search needs
+
+same-length-2 : tie.Need-same-length-2
+same-length-2 c = search needs
+
+returns : tie.Need-returns
+returns c =
+    let b = c .before .before .before .before .before .before .before in
+    settle-short _ _ _ _ (b .before .before .before .before .before .pre) _ _ _ (b .keep-letters .ensures) (b .keep-letters .kept .1 .1 .1 .0) _
+    (c .before .before .is-straight .ensures) _ (c .before .if1 .taken) (c .if2 .taken)
+
+write-places-requires : tie.Need-write-places-requires
+write-places-requires c κs = search needs
+
+same-length-3 : tie.Need-same-length-3
+same-length-3 c = search needs
+
+same-length-4 : tie.Need-same-length-4
+same-length-4 c = search needs
+
+same-length-5 : tie.Need-same-length-5
+same-length-5 c = search needs
+
+returns-2 : tie.Need-returns-2
+returns-2 c =
+    let d = c .before .before .before .before .before .before in
+    let b = d .before .before .before .before .before .before in
+    settle-kept _ _ _ _ (b .before .before .before .before .before .pre) _ _ _ (b .keep-letters .ensures) (b .keep-letters .kept .1 .1 .1 .0) _
+    (d .before .is-straight .ensures) _ _ (d .if1 .taken) (c .before .before .before .before .before .if2 .left) (c .before .before .write-places .ensures)
+
+same-length-6 : tie.Need-same-length-6
+same-length-6 c = search needs
+
+same-length-7 : tie.Need-same-length-7
+same-length-7 c = search needs
+
+returns-3 : tie.Need-returns-3
+returns-3 c =
+    let b = c .before .before .before .before .before .before in
+    settle-no _ _ _ _ (b .before .before .before .before .before .pre) _ _ _ (b .keep-letters .ensures) (b .keep-letters .kept .1 .1 .1 .0) _
+    (c .before .is-straight .ensures) _ (c .if1 .left)
+
+pub settle-spec : {M : Type 1} → statement M
+settle-spec =
+    tie.close
+    (tie.spec
+    keep-letters-requires
+    is-straight-requires
+    same-length
+    same-length-2
+    returns
+    write-places-requires
+    same-length-3
+    same-length-4
+    same-length-5
+    returns-2
+    same-length-6
+    same-length-7
+    returns-3)

@@ -1,0 +1,81 @@
+-- `walk::write_places` stores the places of the letters that are not 0, one after the other; those from letter i on are left.
+-- Assumes nothing.
+use mathlib.Core.Logic.{⊎-elim}
+use Prim.Native.Nat.{_≤_, _-_}
+use native.Mathlib.Omega.{arith}
+use lib.ListN.{length, drop}
+use borrow.Author.Needs.{needs}
+use Rattle.coxeter.proofs.Lists.{Storing, storing-all}
+use Rattle.exchange.proofs.Walk.{marked}
+use Rattle.descents.proofs.walk.Walking.{writing-room, writing-kept, writing-left, writing-end}
+use Rattle.descents.proofs.walk.write_places.Statement.{statement}
+use Rattle.descents.proofs.walk.write_places.Tie as tie
+
+abbrev Inv-loop : tie.InvT-loop
+Inv-loop word places₀ at₀ i₀ places at i = (i ≤ length word) × Storing places₀ 0 (marked 0 word) places at (marked i (drop i word))
+
+abbrev μ-loop : tie.MeasureT-loop
+μ-loop word places₀ at₀ i₀ places at i = length word - i
+
+loop-holds : tie.Need-loop-holds Inv-loop μ-loop
+loop-holds c = (omega arith, storing-all)
+
+shared-slice-read-if1 : tie.Need-shared-slice-read-if1 Inv-loop μ-loop
+shared-slice-read-if1 c = search needs
+
+cast-places : tie.Need-cast-places Inv-loop μ-loop
+cast-places c = search needs
+
+mul-places : tie.Need-mul-places Inv-loop μ-loop
+mul-places c = search needs
+
+slice-write-places : tie.Need-slice-write-places Inv-loop μ-loop
+slice-write-places c =
+    let b = c .before .before in
+    writing-room _ _ _ _ _ (b .loop-test .taken) (b .before .loop .inv .1) (c .if1 .taken) (b .before .before .pre .1)
+
+add-at : tie.Need-add-at Inv-loop μ-loop
+add-at c =
+    let b = c .before .before in
+    let r = writing-room _ _ _ _ _ (b .loop-test .taken) (b .before .loop .inv .1) (c .if1 .taken) (b .before .before .pre .1) in
+    omega arith
+
+add-i : tie.Need-add-i Inv-loop μ-loop
+add-i c = search needs
+
+loop-less : tie.Need-loop-less Inv-loop μ-loop
+loop-less c = search needs
+
+loop-again : tie.Need-loop-again Inv-loop μ-loop
+loop-again c =
+    let b = c .before .before in (
+      omega arith,
+      ⊎-elim
+          (λ x. rw (x .1, x .2) (writing-kept _ _ _ _ _ (b .loop-test .taken) (b .before .loop .inv .1) (x .0 .taken)))
+          (λ x. rw (x .1, x .2) (writing-left _ _ _ _ _ (b .loop-test .taken) (b .before .loop .inv .1) (x .0 .left)))
+          (c .if1 .came),
+    )
+
+same-length : tie.Need-same-length Inv-loop μ-loop
+same-length c = c .before .loop .inv .1 .size
+
+returns : tie.Need-returns Inv-loop μ-loop
+returns c = writing-end _ _ _ _ _ (c .loop-test .left) (c .before .before .pre .1) (c .before .loop .inv .1)
+
+pub write-places-spec : {M : Type 1} → statement M
+write-places-spec =
+    tie.close
+    (tie.spec
+    Inv-loop
+    μ-loop
+    loop-holds
+    shared-slice-read-if1
+    cast-places
+    mul-places
+    slice-write-places
+    add-at
+    add-i
+    loop-less
+    loop-again
+    same-length
+    returns)

@@ -1,0 +1,46 @@
+// Work arrays, with what the window layer writes to them: each has room for every answer, so that no call below is refused.
+use window::Answer;
+use window::normal_form_of_word;
+use window::window_of_word;
+ghost use mathlib.Core.Path.{_≡_};
+ghost use lib.ListN.{length};
+ghost use Rattle.coxeter.specs.Kinds.{kindOf, lanes};
+ghost use Rattle.coxeter.specs.Windows.{window};
+ghost use Rattle.coxeter.specs.Checks.{rankRefusal, wordRefusal};
+ghost use Rattle.coxeter.specs.NormalForm.{wordNormalForm};
+ghost use Rattle.coxeter.proofs.Fronts.{Front};
+
+// A word with room for every normal form.
+pub(crate) fn no_letters() -> [u8; 4096]
+    ensures { λ r. ⌜ 4096 ≡ length r ⌝ }
+{
+    [0u8; 4096]
+}
+
+// A window with room for every lane count.
+fn blank() -> [i8; 64]
+    ensures { λ r. ⌜ 64 ≡ length r ⌝ }
+{
+    [0i8; 64]
+}
+
+// The window of an accepted word.
+pub(crate) fn shown(kind: u8, rank: u8, word: &[u8]) -> [i8; 64]
+    requires { ⌜ (rankRefusal kind rank ≡ 0) × (wordRefusal rank (now word) ≡ 0) ⌝ }
+    ensures { λ r. ⌜ (64 ≡ length r) × Front 64 (window (kindOf kind) rank (now (word .entry))) r (lanes (kindOf kind) rank) ⌝ }
+{
+    let mut work = blank();
+    window_of_word(kind, rank, word, &mut work);
+    work
+}
+
+// The normal form of an accepted word, at the front of `form`. Answers its length.
+pub(crate) fn write_form(kind: u8, rank: u8, word: &[u8], form: &mut [u8]) -> usize
+    requires { ⌜ (rankRefusal kind rank ≡ 0) × (wordRefusal rank (now word) ≡ 0) × (4096 ≡ length (now form)) ⌝ }
+    ensures { λ r. ⌜ Front 4096 (wordNormalForm (kindOf kind) rank (now (word .entry))) (now (form .exit)) r ⌝ }
+{
+    let Answer::Length(l) = normal_form_of_word(kind, rank, word, form) else {
+        return 0;
+    };
+    l
+}
