@@ -1,0 +1,132 @@
+-- Lists as the values of a function at 0, 1, ..: what code that fills a list in place, from its start or from its end, makes of it.
+-- Sections: values; a list that is being filled; parts.
+-- Assumes nothing.
+use mathlib.Core.Path.{_≡_, refl, sym, ap, _∙_}
+use mathlib.Core.List.{List, _++_, map}
+use Prim.Native.Nat.{ℕ, _+_, _-_, _^_, _≤_, _<_}
+use native.Mathlib.Omega.{arith}
+use native.Mathlib.Nat.{zero-add, lt-of-not-le}
+use native.Mathlib.Decide.{ℕ-discrete, decLt}
+use lib.ListN.{length, getD, set, take, drop, length-map, length-set, length-append, length-drop, List·getD-append}
+use lib.Seq.{ext-getD, getD-set-same, getD-set-other, length-take-le, getD-take, getD-drop, getD-append-add}
+use Rattle.coxeter.specs.Kinds.{up}
+use Rattle.coxeter.proofs.Basics.{length-up}
+use Rattle.distribution.proofs.Tables.{getD-map-up}
+
+-- ---- values
+
+-- f 0, .., f (m − 1)
+unfoldable pub values : (ℕ → ℕ) → ℕ → List ℕ
+values f m = map f (up 0 m)
+
+-- the number at a place of a list
+abbrev pub valueAt : List ℕ → ℕ → ℕ
+valueAt l i = getD l i 0
+
+-- the first m values of f are at most those of g
+abbrev pub AtMost : (ℕ → ℕ) → (ℕ → ℕ) → ℕ → Type 0
+AtMost f g m = (l : ℕ) → l < m → f l ≤ g l
+
+-- the first m values fit 64 bits
+abbrev pub Fit : (ℕ → ℕ) → ℕ → Type 0
+Fit f m = (l : ℕ) → l < m → f l < 2 ^ 64
+
+pub length-values : (f : ℕ → ℕ) (m : ℕ) → length (values f m) ≡ m
+unfolding values
+length-values f m = length-map (up 0 m) f ∙ length-up 0 m
+
+pub valueAt-values : (f : ℕ → ℕ) (m i : ℕ) → i < m → valueAt (values f m) i ≡ f i
+unfolding values
+valueAt-values f m i h = getD-map-up f 0 m i h ∙ ap f (zero-add i)
+
+-- a list by its values
+pub values-eq : (w : List ℕ) (f : ℕ → ℕ) (m : ℕ) → length w ≡ m → ((i : ℕ) → i < m → valueAt w i ≡ f i) → w ≡ values f m
+values-eq w f m e h =
+    ext-getD 0 w (values f m) (e ∙ sym (length-values f m)) (λ i o. h i (omega arith) ∙ sym (valueAt-values f m i (omega arith)))
+
+pub values-same : (f g : ℕ → ℕ) (m : ℕ) → ((i : ℕ) → i < m → f i ≡ g i) → values f m ≡ values g m
+values-same f g m h = values-eq (values f m) g m (length-values f m) (λ i o. valueAt-values f m i o ∙ h i o)
+
+-- ---- a list that is being filled
+
+-- m numbers: before place l they are f's, from there on g's
+pub record Filled (l : ℕ) (f g : ℕ → ℕ) (m : ℕ) (w : List ℕ) : Type 0 where
+  pub size : length w ≡ m
+  pub front : (i : ℕ) → i < m → i < l → valueAt w i ≡ f i
+  pub rest : (i : ℕ) → i < m → l ≤ i → valueAt w i ≡ g i
+
+-- nothing is filled yet, from the start or from the end
+pub filled-none : {f : ℕ → ℕ} {w : List ℕ} → Filled 0 f (valueAt w) (length w) w
+filled-none = record { size = refl; front = λ i o h. absurd (omega arith); rest = λ i o h. refl }
+
+pub filled-none-back : {g : ℕ → ℕ} {w : List ℕ} → Filled (length w) (valueAt w) g (length w) w
+filled-none-back = record { size = refl; front = λ i o h. refl; rest = λ i o h. absurd (omega arith) }
+
+module _ {l : ℕ} {f g : ℕ → ℕ} {m : ℕ} {w : List ℕ} (h : Filled l f g m w) where
+  set-here : (j v : ℕ) → j < m → valueAt (set w j v) j ≡ v
+  set-here j v o = getD-set-same w j v 0 (omega (arith, h .size))
+
+  -- the next number
+  pub filled-next : {v : ℕ} → l < m → v ≡ f l → Filled (l + 1) f g m (set w l v)
+  filled-next {v} o e =
+      record { size = length-set w l v ∙ h .size; front = λ i p q. go i p q (ℕ-discrete i l); rest = rest }
+    where
+      go : (i : ℕ) → i < m → i < l + 1 → Dec (i ≡ l) → valueAt (set w l v) i ≡ f i
+      go i p q (yes s) = rw s (set-here l v o ∙ e)
+      go i p q (no s) = getD-set-other w l i v 0 s ∙ h .front i p (omega arith)
+
+      rest : (i : ℕ) → i < m → l + 1 ≤ i → valueAt (set w l v) i ≡ g i
+      rest i p q = getD-set-other w l i v 0 (λ s. omega arith) ∙ h .rest i p (omega arith)
+
+  -- the number before it, from the end
+  pub filled-back : {j v : ℕ} → j + 1 ≡ l → j < m → v ≡ g j → Filled j f g m (set w j v)
+  filled-back {j} {v} s o e =
+      record { size = length-set w j v ∙ h .size; front = front; rest = λ i p q. go i p q (ℕ-discrete i j) }
+    where
+      front : (i : ℕ) → i < m → i < j → valueAt (set w j v) i ≡ f i
+      front i p q = getD-set-other w j i v 0 (λ t. omega arith) ∙ h .front i p (omega arith)
+
+      go : (i : ℕ) → i < m → j ≤ i → Dec (i ≡ j) → valueAt (set w j v) i ≡ g i
+      go i p q (yes t) = rw t (set-here j v o ∙ e)
+      go i p q (no t) = getD-set-other w j i v 0 t ∙ h .rest i p (omega arith)
+
+  -- all numbers are f's
+  pub filled-end : m ≤ l → w ≡ values f m
+  filled-end o = values-eq w f m (h .size) (λ i p. h .front i p (omega arith))
+
+  -- all numbers are g's, since those before l are the same
+  pub filled-start : ((i : ℕ) → i < l → f i ≡ g i) → w ≡ values g m
+  filled-start e =
+      values-eq w g m (h .size) (λ i p. elim (decLt i l) [
+        | yes q ↦ h .front i p q ∙ e i q
+        | no q ↦ h .rest i p (omega (arith, lt-of-not-le q))
+      ])
+
+-- ---- parts
+
+pub take-values : (f : ℕ → ℕ) (d m : ℕ) → d ≤ m → take d (values f m) ≡ values f d
+take-values f d m h =
+    values-eq (take d (values f m)) f d (length-take-le d (values f m) (omega (arith, length-values f m)))
+    (λ i o. getD-take d (values f m) i 0 o ∙ valueAt-values f m i (omega arith))
+
+-- a front that is replaced
+pub values-front : (f g h : ℕ → ℕ) (d m : ℕ) → d ≤ m → ((i : ℕ) → i < d → f i ≡ h i) → ((i : ℕ) → d ≤ i → g i ≡ h i)
+    → values f d ++ drop d (values g m) ≡ values h m
+values-front f g h d m l p q =
+    values-eq (values f d ++ drop d (values g m)) h m
+    (length-append (values f d) (drop d (values g m)) ∙ omega (arith, length-values f d, length-drop d (values g m), length-values g m))
+    (λ i o. elim (decLt i d) [ yes s ↦ before i s | no s ↦ behind i o (omega (arith, lt-of-not-le s)) ])
+  where
+    before : (i : ℕ) → i < d → valueAt (values f d ++ drop d (values g m)) i ≡ h i
+    before i s = List·getD-append (values f d) (drop d (values g m)) 0 i (omega (arith, length-values f d)) ∙ valueAt-values f d i s ∙ p i s
+
+    behind : (i : ℕ) → i < m → d ≤ i → valueAt (values f d ++ drop d (values g m)) i ≡ h i
+    behind i o s =
+        let e : i ≡ length (values f d) + (i - d) = omega (arith, length-values f d) in
+        let t : d + (i - d) ≡ i = omega arith in
+        ap (valueAt (values f d ++ drop d (values g m))) e
+        ∙ getD-append-add (values f d) (drop d (values g m)) (i - d) 0
+        ∙ getD-drop d (values g m) (i - d) 0
+        ∙ ap (valueAt (values g m)) t
+        ∙ valueAt-values g m i o
+        ∙ q i s

@@ -1,0 +1,28 @@
+-- The longest window (document 02, request 11). First what it is, then a definition of it.
+use mathlib.Core.Path.{_≡_}
+use mathlib.Core.List.{List, map}
+use Prim.Native.Nat.{ℕ, _+_, _-_, _<_}
+use lib.IntN.{ℤ, pos, negsuc}
+use lib.ListN.{length}
+use Rattle.coxeter.specs.Kinds.{Kind, A, B, D, pick, up}
+use Rattle.coxeter.specs.Windows.{from, negateFirst}
+use Rattle.coxeter.specs.Length.{windowLength, greatestLength}
+use Rattle.coxeter.specs.Checks.{odd, windowRefusal}
+use Rattle.coxeter.specs.NormalForm.{down, normalForm}
+
+-- "the one window with the greatest length, and its normal form; no other window of the rig has a normal form as long"
+pub record IsLongest (k : Kind) (n : ℕ) (w : List ℤ) : Type 0 where
+  pub passes : windowRefusal k n w ≡ 0
+  pub greatest : windowLength k w ≡ greatestLength k n
+  pub form : length (normalForm k n w) ≡ greatestLength k n
+  pub only : (v : List ℤ) → windowRefusal k n v ≡ 0 → (v ≡ w → ⊥) → length (normalForm k n v) < length (normalForm k n w)
+
+-- −1, −2, .., −n: `negsuc s` is −(s + 1)
+unfoldable pub allNegative : ℕ → List ℤ
+allNegative n = map negsuc (up 0 n)
+
+-- in A n + 1, n, .., 1; in B −1, .., −n; in D the same, but where n is odd the last entry is n
+unfoldable pub longest : Kind → ℕ → List ℤ
+longest A n = map pos (down (n + 1) (n + 1))
+longest B n = allNegative n
+longest D n = pick (odd n) (from (n - 1) negateFirst (allNegative n)) (allNegative n)
