@@ -11,7 +11,7 @@
  *   window    rank + 1 signed bytes in kind A, rank signed bytes in kinds B and D.
  *   book      the bytes of a preset book, at most 65,535. c is the count of presets at its end.
  *
- * Answers: 0 or more is the answer; -k is refusal k, of the first check that fails in the order below. A refused call writes nothing. An
+ * Answers: 0 or more is the answer; -k is refusal k, of the first check that fails: in the order below, but 20 right after 6. A refused call writes nothing. An
  * accepted call that writes puts its answer at the front of the output, answers the length written, and leaves the rest of the output as it was.
  *
  *    1  The book has fewer than 2 or more than 65,535 bytes.
@@ -29,6 +29,7 @@
  *   12  The place is the word's length or more.
  *   13  The appended book would exceed 65,535 bytes.
  *   14  An output is shorter than the part of the answer that goes there.
+ *   20  The rank is above 19 for A or above 16 for B or D.
  *
  * Of two presets, words or windows the first is checked before the second. winnathey_rewrite also answers WINNATHEY_NONE_FITS, and winnathey_fallback
  * WINNATHEY_NO_FALLBACK, with nothing written.
@@ -105,6 +106,14 @@ int64_t winnathey_length_of_window(uint32_t kind, uint32_t rank, const int8_t *w
 /* The length of a window's normal form by sort of crossing, as for a word. Answers the total. */
 int64_t winnathey_crossings_of_window(uint32_t kind, uint32_t rank, const int8_t *window, size_t window_len, size_t *plain, size_t *against,
                                       size_t *mirrored);
+
+/* ---- all windows of a kind and rank */
+
+/* The delay table, up to rank 19 in kind A and 16 in B and D. To counts goes how many windows have the length 0, 1, .. up to the greatest; to window the
+   one window with the greatest length; to form its normal form. Answers the greatest length, which is the length of form; counts gets one number more.
+   Refusal 14 concerns all three outputs, and comes before any is written. 257 numbers, 20 entries and 256 letters always suffice. */
+int64_t winnathey_delay_table(uint32_t kind, uint32_t rank, uint64_t *counts, size_t counts_len, int8_t *window, size_t window_len, uint8_t *form,
+                              size_t form_len);
 
 /* ---- one rewrite */
 

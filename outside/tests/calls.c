@@ -19,7 +19,7 @@ static uint16_t places[ROOM];
 static size_t counts[ROOM];
 
 static int failed;
-static int seen[15]; /* by the refusal's number; none fits is at 0 */
+static int seen[21]; /* by the refusal's number; none fits is at 0 */
 static int seen_no_fallback;
 
 static void fill(void)
@@ -85,7 +85,7 @@ static void told(const char *call, int64_t answer)
         seen[0] = 1;
     else if (answer == WINNATHEY_NO_FALLBACK)
         seen_no_fallback = 1;
-    else if (answer >= -14)
+    else if (answer >= -20)
         seen[-answer] = 1;
 }
 
@@ -203,6 +203,23 @@ static void windows(void)
     CALL(winnathey_crossings_of_window(258, 2, b2, 2, counts, counts + 1, counts + 2));
 }
 
+static void tables(void)
+{
+    CALL(winnathey_delay_table(1, 2, fields, ROOM, lanes, ROOM, bytes, ROOM));
+    CALL(winnathey_delay_table(2, 2, fields, 5, lanes, 2, bytes, 4));
+    CALL(winnathey_delay_table(3, 5, fields, 21, lanes, 5, bytes, 20));
+    CALL(winnathey_delay_table(2, 2, fields, 4, lanes, 2, bytes, 4));
+    CALL(winnathey_delay_table(2, 2, fields, 5, lanes, 1, bytes, 4));
+    CALL(winnathey_delay_table(2, 2, fields, 5, lanes, 2, bytes, 3));
+    CALL(winnathey_delay_table(2, 2, NULL, 0, NULL, 0, NULL, 0));
+    CALL(winnathey_delay_table(1, 20, fields, ROOM, lanes, ROOM, bytes, ROOM));
+    CALL(winnathey_delay_table(2, 17, NULL, 0, NULL, 0, NULL, 0));
+    CALL(winnathey_delay_table(3, 17, fields, ROOM, lanes, ROOM, bytes, ROOM));
+    CALL(winnathey_delay_table(1, 64, fields, ROOM, lanes, ROOM, bytes, ROOM));
+    CALL(winnathey_delay_table(1, 258, fields, ROOM, lanes, ROOM, bytes, ROOM));
+    CALL(winnathey_delay_table(257, 2, fields, ROOM, lanes, ROOM, bytes, ROOM));
+}
+
 static void rewrites(void)
 {
     CALL(winnathey_rewrite(3, 4, w34, 2, 0, bytes, 2, rule, 3));
@@ -289,12 +306,13 @@ int main(void)
 
     words();
     windows();
+    tables();
     rewrites();
     shortest();
     books();
 
-    for (int k = 0; k <= 14; k++)
-        if (!seen[k]) {
+    for (int k = 0; k <= 20; k++)
+        if (!seen[k] && (k <= 14 || k == 20)) {
             printf("never: %s %d\n", k == 0 ? "none fits," : "refusal", k);
             failed = 1;
         }

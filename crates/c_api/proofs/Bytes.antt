@@ -28,7 +28,9 @@ use Rattle.rules.specs.Calls.{Step, step}
 use Rattle.book_format.specs.Books.{bookRankRefusal, bookRefusal, appendRefusal}
 use Rattle.book_format.specs.Calls.{appending}
 use Rattle.book_format.proofs.RankLaws.{bookRankRefusal-refused}
-use Rattle.c_api.specs.Calls.{numberOf, rewritingBy, rewriting, sorting, Sorted}
+use Rattle.distribution.specs.declared.Table.{Table}
+use Rattle.distribution.specs.Calls.{tableRefusal, TableYields, tableOf, tables, delayTable}
+use Rattle.c_api.specs.Calls.{numberOf, rewritingBy, rewriting, sorting, Sorted, tableNumber, TableNumbered}
 use Rattle.c_api.proofs.Lengths.{answered, i64-back}
 
 -- ---- kinds and ranks
@@ -185,6 +187,19 @@ appending-refusable b u out = record {
       writes-alike (bookRefusal b) (bookRankRefusal k n) (bookRankRefusal l m) _ _ _ _ out (other ∙ e ∙ sym same) (λ z. f (sym same ∙ z));
 }
 
+tables-alike : (r q : ℕ) (d d′ : List ℕ) (w w′ : List ℤ) (u u′ counts : List ℕ) (entries : List ℤ) (letters : List ℕ) → q ≡ r → (r ≡ 0 → ⊥)
+    → tables q d w u counts entries letters ≡ tables r d′ w′ u′ counts entries letters
+unfolding tables tableOf written
+tables-alike r q d d′ w w′ u u′ counts entries letters e f = rw (e, ne-eqb r 0 f) (rw (ne-eqb r 0 f) refl)
+
+pub delayTable-refusable : (counts : List ℕ) (entries : List ℤ) (letters : List ℕ) → Refusable (λ k n. delayTable k n counts entries letters)
+unfolding delayTable tableRefusal
+delayTable-refusable counts entries letters = record {
+  alike = λ k n l m e f.
+      let a = alike 0 (rankRefusal k n) (rankRefusal l m) _ _ e f in
+      tables-alike _ _ _ _ _ _ _ _ counts entries letters (a .0) (a .1);
+}
+
 -- the verdict, in its first preset and in its second
 pub first-refusable : (u : List ℕ) (k₂ n₂ : ℕ) (v : List ℕ) → Refusable (λ k n. presetsEqual k n u k₂ n₂ v)
 unfolding presetsEqual
@@ -245,3 +260,11 @@ pub sorted-as-bytes : {F : ℕ → ℕ → Counted} → Refusable F → (k n l m
     → mag z < 9223372036854775808 → Sorted (sorting a p q r) z p′ q′ r′ → a ≡ F l m → Sorted (sorting (F k n) p q r) (toZ w64 (ofZ w64 z)) p′ q′ r′
 sorted-as-bytes {F} f k n l m a p q r z p′ q′ r′ e g h s b =
     rw (← (b ∙ as-bytes f k n l m e g), i64-back z h) s
+
+-- and so for a delay table that the call below answered
+pub table-as-bytes : (k n : ℕ) (counts : List ℕ) (entries : List ℤ) (letters : List ℕ) (l m : ℕ) (a : Table) (z : ℤ) (c : List ℕ) (w : List ℤ) (u : List ℕ)
+    → l ≡ byteOf k → m ≡ byteOf n → mag z < 9223372036854775808 → z ≡ tableNumber a → TableYields (delayTable l m counts entries letters) a c w u
+    → TableNumbered (delayTable k n counts entries letters) (toZ w64 (ofZ w64 z)) c w u
+table-as-bytes k n counts entries letters l m a z c w u e f h q y =
+    let same = as-bytes (delayTable-refusable counts entries letters) k n l m e f in
+    rw (← same) (i64-back z h ∙ q ∙ ap tableNumber (y .0), y .1, y .2, y .3)

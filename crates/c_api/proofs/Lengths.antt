@@ -37,6 +37,12 @@ use Rattle.rules.specs.declared.Rewrite.the-variants.{Used, Refused}
 use Rattle.rules.specs.Calls.{pastEnd, refusedStep, step, Rewrote}
 use Rattle.rules.specs.Runs.{AcceptedWord}
 use Rattle.rules.proofs.Calls.{used-length}
+use Rattle.distribution.specs.declared.Table.the-variants as table
+use Rattle.distribution.specs.Distribution.{distribution}
+use Rattle.distribution.specs.Longest.{longest}
+use Rattle.distribution.specs.Calls.{tableRefusal, tableOf, roomRefusal, tables, delayTable}
+use Rattle.distribution.proofs.Longest.{longest-accepted}
+use Rattle.distribution.proofs.Outcomes.{table-accepted, table-rank}
 use Rattle.book_format.specs.declared.Opened.{Opened}
 use Rattle.book_format.specs.declared.Opened.the-variants as opened
 use Rattle.book_format.specs.Books.{count, noSuchPreset, bookRefusal, appended, appendRefusal}
@@ -222,6 +228,32 @@ rewrote-small k n u p before after a w f i j l e =
     by-rule h =
         let t = used-length k n u p before after f i j l h (subst (Rewrote k n u p before after) e w) in
         omega (arith, length-accepted n u (h .word))
+
+-- the longest normal form at a rank with a table has at most 4,096 letters
+pub delayTable-small : (k n : ℕ) (counts : List ℕ) (entries : List ℤ) (letters : List ℕ)
+    → (a b l : ℕ) → delayTable k n counts entries letters .answer ≡ table.Written a b l → l ≤ 65535
+unfolding delayTable tables tableOf
+delayTable-small k n counts entries letters a b l e =
+    let d = distribution (kindOf k) n in
+    let w = longest (kindOf k) n in
+    let u = normalForm (kindOf k) n w in
+    let r = tableRefusal k n then roomRefusal d w u counts entries letters in
+    elim (ℕ-discrete r 0) [
+      | yes z ↦
+          let q : table.Written (length d) (length w) (length u) ≡ table.Written a b l = rw (eq-eqb r 0 z) at e in
+          let s : length u ≡ l = cc in
+          omega (arith, form-small (then-zero (tableRefusal k n) (roomRefusal d w u counts entries letters) z .0))
+      | no f ↦
+          let q : table.Refused r ≡ table.Written a b l = rw (ne-eqb r 0 f) at e in
+          let y : _≡_ {A = ℕ} 0 1 = cc in
+          absurd (omega arith)
+    ]
+  where
+    form-small : tableRefusal k n ≡ 0 → length (normalForm (kindOf k) n (longest (kindOf k) n)) ≤ 4096
+    form-small z =
+        let x = longest-accepted (kindOf k) n (table-rank k n z .0) in
+        let m = lanes-le k n (length (longest (kindOf k) n)) (table-accepted k n z) (x .size) in
+        omega (arith, length-normalForm (kindOf k) n (longest (kindOf k) n) x, windowLength-le-4096 (kindOf k) n (longest (kindOf k) n) x m)
 
 pub appending-small : (b : List ℕ) (k n : ℕ) (u out : List ℕ) → Small (appending b k n u out .answer)
 unfolding appending

@@ -17,9 +17,10 @@ use Rattle.coxeter.proofs.Vectors.{Agree}
 use Rattle.rules.specs.Rules.{each, family1, family2, family3, family4, families5to7, rules, begins, fits, firstFitting, rewritten}
 use Rattle.rules.specs.Calls.{pastEnd, refusedStep, usedStep, stepBy, step}
 use Rattle.exchange.specs.declared.Fallback.the-variants as fallback
+use Rattle.distribution.specs.declared.Table.the-variants as table
 use Rattle.book_format.specs.declared.Opened.the-variants as opened
 use Rattle.book_format.specs.declared.Preset.the-variants as preset
-use Rattle.c_api.specs.Calls.{refused, numberOf, verdictNumber, choiceNumber, openedNumber, Sorting, sorting, Rewriting, unwritten, rewritingBy, rewriting, presetNumbers}
+use Rattle.c_api.specs.Calls.{refused, numberOf, verdictNumber, choiceNumber, openedNumber, Sorting, sorting, Rewriting, unwritten, rewritingBy, rewriting, presetNumbers, tableNumber}
 use Rattle.c_api.specs.Shortest.{fallbackNumber}
 
 -- the numbers, each beside what it is
@@ -36,10 +37,12 @@ numbers =
     ∷ (choiceNumber choices.Neither, pos 0)
     ∷ (openedNumber (opened.Presets 2), pos 2)
     ∷ (openedNumber (opened.Refused 3), negsuc 2)
+    ∷ (tableNumber (table.Written 4 2 3), pos 3)
+    ∷ (tableNumber (table.Refused 20), negsuc 19)
     ∷ []
 
 pub numbers-agree : Agree numbers
-unfolding numbers refused numberOf verdictNumber choiceNumber openedNumber
+unfolding numbers refused numberOf verdictNumber choiceNumber openedNumber tableNumber
 numbers-agree = refl
 
 -- a fallback: a yes with no place kept is not a no

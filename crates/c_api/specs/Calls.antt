@@ -18,6 +18,9 @@ use Rattle.coxeter.specs.Calls.{Outcome, writes}
 use Rattle.rules.specs.declared.Rewrite.{Rewrite}
 use Rattle.rules.specs.declared.Rewrite.the-variants as rewrite
 use Rattle.rules.specs.Calls.{step}
+use Rattle.distribution.specs.declared.Table.{Table}
+use Rattle.distribution.specs.declared.Table.the-variants as table
+use Rattle.distribution.specs.Calls.{Tabled}
 use Rattle.book_format.specs.declared.Opened.{Opened}
 use Rattle.book_format.specs.declared.Opened.the-variants as opened
 use Rattle.book_format.specs.declared.Preset.{Preset}
@@ -98,3 +101,12 @@ openedNumber (opened.Refused k) = refused k
 unfoldable pub presetNumbers : Preset → List ℕ → Outcome ℕ
 presetNumbers (preset.Found k n s l) out = writes 0 (k ∷ n ∷ s ∷ l ∷ []) out
 presetNumbers (preset.Refused r) out = record { answer = answer.Refused r; bytes = out }
+
+-- the delay table: the greatest length, which is the length of the word written (document 02, request 11)
+unfoldable pub tableNumber : Table → ℤ
+tableNumber (table.Written counts entries letters) = pos letters
+tableNumber (table.Refused k) = refused k
+
+-- the number that was answered, and the three outputs afterwards, are those of the outcome
+abbrev pub TableNumbered : Tabled → ℤ → List ℕ → List ℤ → List ℕ → Type 0
+TableNumbered t z counts window form = (z ≡ tableNumber (t .answer)) × (counts ≡ t .counts) × (window ≡ t .entries) × (form ≡ t .letters)

@@ -4,5 +4,6 @@ mod numbers;
 pub mod presets;
 pub mod rewriting;
 pub mod shortest;
+pub mod tables;
 pub mod windows;
 pub mod words;

@@ -1,4 +1,5 @@
 // The numbers that the calls for C answer.
+use delay::Table;
 use window::Answer;
 use window::Counted;
 ghost use mathlib.Core.Path.{_≡_};
@@ -8,7 +9,8 @@ ghost use lib.IntN.{pos};
 ghost use Rattle.coxeter.specs.Kinds.{pick};
 ghost use Rattle.coxeter.specs.declared.Answer.the-variants.{Length};
 ghost use Rattle.coxeter.specs.declared.Counted.the-variants.{Crossings};
-ghost use Rattle.c_api.specs.Calls.{refused, numberOf, sorting, Sorted};
+ghost use Rattle.distribution.specs.declared.Table.the-variants.{Written};
+ghost use Rattle.c_api.specs.Calls.{refused, numberOf, sorting, Sorted, tableNumber};
 
 // A kind or a rank as the calls below take it. What is no byte becomes 0, which is no kind and no rank either.
 pub(crate) fn byte(x: u32) -> u8
@@ -70,5 +72,20 @@ pub(crate) fn sorted(
             size(inversions + negative_sum_pairs + negatives)
         }
         Counted::Refused(k) => refusal(k),
+    }
+}
+
+// The number of a delay table, the length of the word written, which is at most that of the longest book.
+pub(crate) fn table_number(table: Table) -> i64
+    requires { ⌜ ((a b l : ℕ) → table ≡ Written a b l → l ≤ 65535) ⌝ }
+    ensures { λ r. ⌜ r ≡ tableNumber table ⌝ }
+{
+    match table {
+        Table::Written {
+            counts: _,
+            entries: _,
+            letters,
+        } => size(letters),
+        Table::Refused(k) => refusal(k),
     }
 }

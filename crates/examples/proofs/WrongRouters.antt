@@ -24,6 +24,8 @@ use Rattle.rules.specs.declared.Rewrite.{Rewrite}
 use Rattle.rules.specs.declared.Rewrite.the-variants as rewrites
 use Rattle.exchange.specs.declared.Fallback.{Fallback}
 use Rattle.exchange.specs.declared.Fallback.the-variants as fallbacks
+use Rattle.distribution.specs.declared.Table.{Table}
+use Rattle.distribution.specs.declared.Table.the-variants as tables
 use Rattle.book_format.specs.declared.Opened.{Opened}
 use Rattle.book_format.specs.declared.Opened.the-variants as books
 use Rattle.book_format.specs.declared.Preset.{Preset}
@@ -41,6 +43,12 @@ use Rattle.rules.specs.Rules.{each, family1, family2, family3, family4, familie
 use Rattle.rules.specs.Calls.{pastEnd, refusedStep, usedStep, stepBy, step}
 use Rattle.exchange.specs.Fallback.{somePart, fallsBack}
 use Rattle.exchange.specs.Calls.{fallbackOf, fallbackAnswer, keptCount, FellBack}
+use Rattle.distribution.specs.AllWindows.{keep, lists}
+use Rattle.distribution.specs.AllWindows as all
+use Rattle.distribution.specs.Distribution.{ofLength, distribution, sum}
+use Rattle.distribution.specs.Longest.{allNegative, longest}
+use Rattle.distribution.specs.Calls.{untabled, tableRefusal, tableOf, roomRefusal, delayTable}
+use Rattle.distribution.specs.Calls as tabling
 use Rattle.book_format.specs.Books.{twoAt, two, count, trailer, offset, wrongSize, wrongCount, misplacedFrom, misplaced, noSuchPreset, tooLarge, wrongRankInBook, bookRankRefusal, bookRefusal, recordRefusal, presetRefusal, recordOf, added, appended, appendRefusal}
 use Rattle.book_format.specs.Calls.{openedOf, presetOf, checkedBook, presetAt, checkedPreset, lettersStart, lettersOf, appending}
 use Rattle.listing_text.specs.Text.{digits, decimal, spaced, letters, entry, entries, kindLetter, head, tail, presetLine, refused, refusedLine, refusedBookLine, countLine, wordLine, lineBy, lineOf}
@@ -79,6 +87,10 @@ ofFallback (fallbacks.Kept l) = pos 0 ∷ pos l ∷ []
 ofFallback fallbacks.No = pos 1 ∷ []
 ofFallback (fallbacks.Refused r) = pos 2 ∷ pos r ∷ []
 
+ofTable : Table → List ℤ
+ofTable (tables.Written c e l) = pos 0 ∷ pos c ∷ pos e ∷ pos l ∷ []
+ofTable (tables.Refused r) = pos 1 ∷ pos r ∷ []
+
 ofOpened : Opened → List ℤ
 ofOpened (books.Presets c) = pos 0 ∷ pos c ∷ []
 ofOpened (books.Refused r) = pos 1 ∷ pos r ∷ []
@@ -95,6 +107,7 @@ numbers : Told → List ℤ
 numbers (told.entries o) = ofAnswer (o .answer) ++ o .bytes
 numbers (told.bytes o) = ofAnswer (o .answer) ++ map pos (o .bytes)
 numbers (told.rewrite s) = ofRewrite (s .answer) ++ map pos (s .bytes ++ s .word)
+numbers (told.tabled t) = (ofTable (t .answer) ++ map pos (t .counts)) ++ (t .entries ++ map pos (t .letters))
 numbers (told.piece p) = ofPiece (p .answer) ++ map pos (p .bytes)
 numbers (told.answer a) = ofAnswer a
 numbers (told.verdict v) = ofVerdict v
@@ -123,7 +136,7 @@ allDiffer (r ∷ rs) = differs r && allDiffer rs
 
 -- the one computed fact, with the definitions that the rows pass through, layer by layer
 all-differ : allDiffer table ≡ true
-unfolding table allDiffer differs numbers ofAnswer ofVerdict ofChoice ofRewrite ofFallback ofOpened ofPreset ofPiece
+unfolding table allDiffer differs numbers ofAnswer ofVerdict ofChoice ofRewrite ofFallback ofTable ofOpened ofPreset ofPiece
     kindOf up from exchange negateFirst exchangeNegate act windowFrom straight window at product signed placeFrom inverse
     later negative one laterThan inversions negativeSumPairs negatives crossings total windowLength before shortlex
     wrongKind wrongRank tooLong wrongLetter wrongLanes hasSize negativeInA wrongAt wrongEntry odd oddNegatives tooShort
@@ -133,6 +146,8 @@ unfolding table allDiffer differs numbers ofAnswer ofVerdict ofChoice ofRewrite 
     lengthOfWindow lengthOfWord sameEntry sameWindow equalWords samePresets presetsEqual handsBack choice
     each family1 family2 family3 family4 families5to7 rules begins fits firstFitting rewritten pastEnd refusedStep usedStep stepBy step
     somePart fallsBack fallbackOf fallbackAnswer
+    keep all.each lists all.entries all.windows ofLength distribution sum allNegative longest
+    untabled tableRefusal tableOf roomRefusal tabling.tables delayTable
     twoAt two count trailer offset wrongSize wrongCount misplacedFrom misplaced noSuchPreset tooLarge wrongRankInBook bookRankRefusal
     bookRefusal recordRefusal presetRefusal recordOf appended appendRefusal openedOf presetOf checkedBook presetAt checkedPreset lettersStart lettersOf appending
     digits decimal spaced letters entry entries kindLetter head tail presetLine refused refusedLine refusedBookLine countLine wordLine lineBy lineOf
@@ -151,7 +166,7 @@ pub ruled-out : (r : WrongRouter) → List·Memᴰ r table → r .right ≡ r .w
 ruled-out = all-sound table all-differ
 
 -- so many rows, lest one be lost
-pub table-length : length table ≡ 68
+pub table-length : length table ≡ 73
 unfolding table
 table-length = refl
 

@@ -1,6 +1,6 @@
 -- Wrong routers (document 01, "What contracts have to settle", point c, and "Mistakes close at hand"; and others): a wrong answer for each, and an
 -- input at which the call's definition says otherwise. A contract that is an equation with the definition then lets none of them through. The wrong answers
--- are in WrongWindows, WrongRewrites, WrongShortest and WrongBooks; that each row is wrong is `ruled-out` of proofs/WrongRouters.antt.
+-- are in WrongWindows, WrongRewrites, WrongShortest, WrongTables and WrongBooks; that each row is wrong is `ruled-out` of proofs/WrongRouters.antt.
 -- Not here: those that show only at a book of 65,536 bytes, and parts handed back, which no input computes; they too are in that file.
 use mathlib.Core.List.{List, [], _∷_}
 use Prim.Native.Nat.{ℕ}
@@ -15,6 +15,7 @@ use Rattle.coxeter.specs.Calls.{Outcome, windowOfWord, productOfWindows, invers
 use Rattle.rules.specs.Calls.{Step, step}
 use Rattle.exchange.specs.declared.Fallback.{Fallback}
 use Rattle.exchange.specs.Calls.{fallbackAnswer}
+use Rattle.distribution.specs.Calls.{Tabled, delayTable}
 use Rattle.book_format.specs.declared.Opened.{Opened}
 use Rattle.book_format.specs.declared.Preset.{Preset}
 use Rattle.book_format.specs.Calls.{checkedBook, checkedPreset, appending}
@@ -31,6 +32,7 @@ use Rattle.examples.specs.WrongWindows.{letterTotal, usualOrderOfAWindow
 use Rattle.examples.specs.WrongWindows.{ranksNotCompared, kindsCompared, secondPresetRefusedFirst, better, laterWordHandedBack, windowsNotCompared, secondOfEqualWords}
 use Rattle.examples.specs.WrongRewrites.{noneFitsWithoutLooking, ruleOfBInD, family3OneTooFarInB, family4AsFamily3, replacedOnePlaceToTheLeft, placeAtTheEndAccepted, roomCheckedBeforeTheRule, wordCopiedFirst}
 use Rattle.examples.specs.WrongShortest.{verdictByLengthAlone, presentWordUnshortened, roomAskedForANo}
+use Rattle.examples.specs.WrongTables.{rank20InA, factorLeftOut, runningTotals, straightAsLongest, listWrittenFirst}
 use Rattle.examples.specs.WrongBooks.{countHighByteFirst, offsetAgainstTheTrailer, lastRecordMayStopEarly, onePresetTooMany, preset0ForEveryNumber}
 use Rattle.examples.specs.WrongBooks.{handedOut, lettersFromTheRecord, refusedPresetHandsOutLetters, lastOffsetDropped, kindAndRankExchanged}
 use Rattle.examples.specs.WrongBooks.{countWithoutLineFeed, bookRefusalAlways1, presetRefusalAlways1, lengthBeforeRank, minusLeftOut, noPresetLine, lineCutOff, lastByteUnused}
@@ -40,6 +42,7 @@ pub data Told : Type 0 where
   entries : Outcome ℤ → Told
   bytes : Outcome ℕ → Told
   rewrite : Step → Told
+  tabled : Tabled → Told
   piece : Piecing → Told
   answer : Answer → Told
   verdict : Verdict → Told
@@ -134,6 +137,12 @@ table =
     ∷ differ fallbackAnswer verdictByLengthAlone (λ f. fallback (f 1 2 (1 ∷ []) (2 ∷ []) (lent 1)))
     ∷ differ fallbackAnswer presentWordUnshortened (λ f. fallback (f 1 2 (1 ∷ 1 ∷ []) (1 ∷ []) (lent 1)))
     ∷ differ fallbackAnswer roomAskedForANo (λ f. fallback (f 1 2 (1 ∷ []) (2 ∷ []) []))
+    -- the delay table
+    ∷ differ delayTable rank20InA (λ f. tabled (f 1 20 [] [] []))
+    ∷ differ delayTable factorLeftOut (λ f. tabled (f 1 1 (lent 2) (lentEntries 2) (lent 1)))
+    ∷ differ delayTable runningTotals (λ f. tabled (f 1 1 (lent 2) (lentEntries 2) (lent 1)))
+    ∷ differ delayTable straightAsLongest (λ f. tabled (f 1 1 (lent 2) (lentEntries 2) (lent 1)))
+    ∷ differ delayTable listWrittenFirst (λ f. tabled (f 1 1 (lent 2) (lentEntries 2) []))
     -- opening a book
     ∷ differ checkedBook countHighByteFirst (λ f. opened (f one))
     ∷ differ checkedBook offsetAgainstTheTrailer (λ f. opened (f one))

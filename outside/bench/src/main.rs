@@ -206,6 +206,7 @@ fn main() {
             shortest(&mut bench, &mut random, kind, rank, &rig);
         }
     }
+    tables(&mut bench);
     books(&mut bench, &mut random);
     bench.print();
 }
@@ -378,6 +379,21 @@ fn shortest(bench: &mut Bench, random: &mut Random, kind: u32, rank: u32, rig: &
             |k, out| rattle::fallback(kind, rank, black_box(&words[k]), black_box(&parts[k]), &mut out.places),
             |k, out| plain::fallback(kind, rank, black_box(&words[k]), black_box(&parts[k]), &mut out.places),
         );
+    }
+}
+
+fn tables(bench: &mut Bench) {
+    let rigs: [(u32, &str, &[u32]); 3] = [(1, "A", &[4, 8, 16, 19]), (2, "B", &[4, 8, 16]), (3, "D", &[4, 8, 16])];
+    for (kind, name, ranks) in rigs {
+        for &rank in ranks {
+            bench.cell(
+                "delay table",
+                name,
+                format!("rank {rank}"),
+                |_, out| rattle::delay_table(kind, black_box(rank), &mut out.fields, &mut out.lanes, &mut out.bytes),
+                |_, out| plain::delay_table(kind, black_box(rank), &mut out.fields, &mut out.lanes, &mut out.bytes),
+            );
+        }
     }
 }
 

@@ -15,6 +15,7 @@ fn every_call(sides: &mut Sides, kind: u32, rank: u32, word: &[u8], window: &[i8
     sides.length_of_window(kind, rank, window);
     sides.crossings_of_word(kind, rank, word);
     sides.crossings_of_window(kind, rank, window);
+    sides.delay_table(kind, rank, out, out.min(80), out);
     sides.same((kind, rank, word), (kind, rank, word));
     sides.same((2, 2, &[1]), (kind, rank, word));
     sides.better(kind, rank, word, word);

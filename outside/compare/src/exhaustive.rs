@@ -1,5 +1,5 @@
 //! Everything, where the rank is small.
-use crate::inputs::lanes;
+use crate::inputs::{lanes, rigs};
 use crate::sides::{ROOM, Sides};
 use plain::{A, B, D};
 
@@ -199,6 +199,47 @@ pub fn alike_across(sides: &mut Sides) {
                 second.push(1);
                 assert_eq!(sides.same((kind, rank, &first), (other, other_rank, &second)), 0);
             }
+        }
+    }
+}
+
+/// The table of each rank that has one, with outputs that are one short, exact and longer; up to A7, B6 and D6 held to a
+/// count over all windows by the library's own length call, with the longest of them and its normal form.
+pub fn delay_tables(sides: &mut Sides) {
+    for (kind, rank) in rigs() {
+        let lanes = lanes(kind, rank);
+        let greatest = sides.delay_table(kind, rank, ROOM, ROOM, ROOM);
+        let need = greatest.max(0) as usize;
+        for counts in [need, need + 1, need + 2] {
+            for window in [lanes - 1, lanes, lanes + 1] {
+                for form in [need.saturating_sub(1), need, need + 1] {
+                    let due = if greatest < 0 {
+                        greatest
+                    } else if counts <= need || window < lanes || form < need {
+                        -14
+                    } else {
+                        greatest
+                    };
+                    assert_eq!(sides.delay_table(kind, rank, counts, window, form), due, "kind {kind}, rank {rank}");
+                }
+            }
+        }
+        sides.delay_table(kind, rank, 0, 0, 0);
+    }
+    for (kind, ranks) in [(A, 1..=7), (B, 2..=6), (D, 4..=6)] {
+        for rank in ranks {
+            let greatest = sides.delay_table(kind, rank, ROOM, ROOM, ROOM);
+            let counts = sides.fields(greatest + 1).to_vec();
+            let longest = sides.lanes(lanes(kind, rank) as i64).to_vec();
+            let form = sides.bytes(greatest).to_vec();
+            let mut due = vec![0; counts.len()];
+            for window in all_windows(kind, rank) {
+                let length = sides.length_of_window(kind, rank, &window);
+                due[length as usize] += 1;
+                assert_eq!(length == greatest, window == longest, "kind {kind}, rank {rank}, window {window:?}");
+            }
+            assert_eq!(counts, due, "kind {kind}, rank {rank}");
+            assert_eq!(form, plain_form(kind, rank, &longest));
         }
     }
 }

@@ -49,6 +49,7 @@ fn main() -> ExitCode {
     group("two letters to drop: all words of up to 6 letters of small ranks", &shortest::two_letters);
     group("fallbacks: all pairs of windows of small ranks, from every shortest word", &fallbacks::pairs);
     group("fallbacks: 200,000 random pairs of words", &|sides| fallbacks::random(sides, 200_000));
+    group("delay tables: each rank; small ones held to a count over all windows", &exhaustive::delay_tables);
     group("each rule of each rank, whole and cut short", &rewriting::each_rule);
     group("rewriting to the end, at random places", &rewriting::to_the_end);
     group("books: the example, each byte changed, each part", &books::example);
@@ -59,7 +60,7 @@ fn main() -> ExitCode {
     println!("{:>10} calls in all, {} different", sides.calls, sides.differences);
     println!("{:>10} of them made by the safe Rust function too", sides.safe_calls);
     println!("answers: {} accepted, {} none fits, {} no fallback", sides.accepted, sides.none_fits, sides.no_fallback);
-    for (number, times) in sides.refused.iter().enumerate().skip(1) {
+    for (number, times) in sides.refused.iter().enumerate().skip(1).filter(|(_, times)| **times > 0) {
         println!("{times:>10} times refusal {number}");
     }
     if sides.differences == 0 { ExitCode::SUCCESS } else { ExitCode::FAILURE }

@@ -71,9 +71,16 @@ fn words_and_windows(sides: &mut Sides, random: &mut Random, call: usize) {
             sides.length_of_word(kind, rank, &word);
             sides.crossings_of_word(kind, rank, &word);
         }
-        _ => {
+        8 => {
             sides.length_of_window(kind, rank, &window);
             sides.crossings_of_window(kind, rank, &window);
+        }
+        _ => {
+            let rank = if random.once_in(2) { rank.min(random.pick(&[16, 17, 19, 20])) } else { rank };
+            let need = plain::delay_table(kind, rank, &mut [0; 300], &mut wide, &mut room);
+            let lanes = rank as i64 + i64::from(kind == plain::A);
+            let (counts, out) = (random.output(need + 1), random.output(need));
+            sides.delay_table(kind, rank, counts, random.output(lanes.min(80)), out);
         }
     }
 }

@@ -69,6 +69,10 @@ pub fn crossings_of_window(kind: u32, rank: u32, window: &[i8], counts: &mut [us
     rig(kind, rank).map(|(kind, rank)| sorted(winnathey::crossings_of_window(kind, rank, window), counts))
 }
 
+pub fn delay_table(kind: u32, rank: u32, counts: &mut [u64], window: &mut [i8], form: &mut [u8]) -> Option<i64> {
+    rig(kind, rank).map(|(kind, rank)| coded(winnathey::delay_table(kind, rank, counts, window, form)))
+}
+
 pub fn same(kind1: u32, rank1: u32, word1: &[u8], kind2: u32, rank2: u32, word2: &[u8]) -> Option<i64> {
     let (first, second) = (a_preset(kind1, rank1, word1)?, a_preset(kind2, rank2, word2)?);
     Some(coded(winnathey::same(first, second).map(usize::from)))

@@ -103,7 +103,7 @@ pub struct Sides {
     pub none_fits: u64,
     pub no_fallback: u64,
     /// How often each refusal was the answer, by its number.
-    pub refused: [u64; 15],
+    pub refused: [u64; 21],
     pub differences: u64,
 }
 
@@ -165,7 +165,7 @@ impl Sides {
             accepted: 0,
             none_fits: 0,
             no_fallback: 0,
-            refused: [0; 15],
+            refused: [0; 21],
             differences: 0,
         }
     }
@@ -256,6 +256,12 @@ impl Sides {
 
     pub fn crossings_of_window(&mut self, kind: u32, rank: u32, window: &[i8]) -> i64 {
         compared!(self, crossings_of_window, (kind, rank, window), counts: 3 => |_| 3)
+    }
+
+    /// With outputs of so many numbers, entries and letters.
+    pub fn delay_table(&mut self, kind: u32, rank: u32, counts: usize, window: usize, form: usize) -> i64 {
+        let lanes = rank as usize + usize::from(kind == plain::A);
+        compared!(self, delay_table, (kind, rank), fields: counts => |answer| whole(answer) + 1, lanes: window => |_| lanes, bytes: form => whole)
     }
 
     pub fn same(&mut self, first: (u32, u32, &[u8]), second: (u32, u32, &[u8])) -> i64 {

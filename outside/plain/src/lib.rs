@@ -9,6 +9,7 @@ mod book;
 mod checks;
 mod fallback;
 mod rules;
+mod table;
 mod window;
 mod word;
 
@@ -155,6 +156,29 @@ pub fn crossings_of_window(kind: u32, rank: u32, window: &[i8], counts: &mut [us
         check_window(kind, rank, window)?;
         *counts = window::crossings(kind, window);
         Ok(counts.iter().sum())
+    })())
+}
+
+/// How many windows of a kind and rank have each length, the longest window and its normal form. Answers the greatest
+/// length.
+pub fn delay_table(kind: u32, rank: u32, counts: &mut [u64], window: &mut [i8], form: &mut [u8]) -> i64 {
+    coded((|| {
+        let rank = check_rank(kind, rank)?;
+        if rank > if kind == A { 19 } else { 16 } {
+            return Err(20);
+        }
+        let n = usize::from(rank);
+        let greatest = match kind {
+            A => n * (n + 1) / 2,
+            B => n * n,
+            _ => n * (n - 1),
+        };
+        let counts = front(counts, greatest + 1)?;
+        let window = front(window, lanes(kind, rank))?;
+        let form = front(form, greatest)?;
+        table::count(kind, n, counts);
+        table::longest(kind, n, window);
+        word::write_normal_form(kind, rank, Window::from(window), form)
     })())
 }
 

@@ -115,3 +115,20 @@ fn rules_are_as_many_as_the_families_say() {
     }
     assert_eq!(plain::rules(D, 4).count(), 16);
 }
+
+#[test]
+fn delay_tables_count_the_windows() {
+    for (kind, rank) in RIGS {
+        let found = first_words(kind, rank);
+        let (mut counts, mut longest, mut form) = ([0; 64], [0; 64], [0; 64]);
+        let greatest = plain::delay_table(kind, rank, &mut counts, &mut longest, &mut form) as usize;
+        let mut due = [0; 64];
+        for word in found.values() {
+            due[word.len()] += 1;
+        }
+        assert_eq!(counts, due, "kind {kind}, rank {rank}");
+        let lanes = rank as usize + usize::from(kind == A);
+        assert_eq!(found[&longest[..lanes]], form[..greatest]);
+        assert!(found.values().filter(|word| word.len() >= greatest).count() == 1);
+    }
+}

@@ -36,6 +36,8 @@ pub const MAX_LANES: usize = 64;
 pub const MAX_LETTERS: usize = 4096;
 /// The most letters of a normal form: 4,096, in kind B at rank 64. An output of this length is never too short for one.
 pub const MAX_NORMAL_FORM: usize = 4096;
+/// The most numbers of a delay table: 257, in kind B at rank 16.
+pub const MAX_COUNTS: usize = 257;
 /// The most bytes of a book: 65,535.
 pub const MAX_BOOK: usize = 65535;
 
@@ -255,6 +257,34 @@ pub fn crossings_of_window(kind: Kind, rank: u8, window: &[i8]) -> Result<Crossi
     Crossings::answered(raw::crossings_of_window(kind.0.into(), rank.into(), window, &mut counts), counts)
 }
 
+/// Writes the delay table of a kind and rank: how many windows have the length 0, 1, .. up to the greatest; then the one
+/// window with the greatest length, and its normal form. Answers with the greatest length, which is the normal form's;
+/// `counts` gets one number more and `window` one entry a lane. There are tables up to rank 19 in kind A and up to 16 in
+/// B and D. Refusals 5, 6, 20, 14.
+///
+/// ```
+/// use winnathey::{Kind, MAX_COUNTS, MAX_LANES, MAX_NORMAL_FORM, delay_table};
+///
+/// let (mut counts, mut window, mut form) = ([0; MAX_COUNTS], [0; MAX_LANES], [0; MAX_NORMAL_FORM]);
+/// let greatest = delay_table(Kind::B, 2, &mut counts, &mut window, &mut form)?;
+/// assert_eq!(counts[..=greatest], [1, 2, 2, 2, 1]);
+/// assert_eq!(window[..2], [-1, -2]);
+/// assert_eq!(form[..greatest], [2, 1, 2, 1]);
+///
+/// let refusal = delay_table(Kind::A, 20, &mut counts, &mut window, &mut form).unwrap_err();
+/// assert_eq!(refusal.number(), 20);
+/// # Ok::<(), winnathey::Refusal>(())
+/// ```
+pub fn delay_table(
+    kind: Kind,
+    rank: u8,
+    counts: &mut [u64],
+    window: &mut [i8],
+    form: &mut [u8],
+) -> Result<usize, Refusal> {
+    answered(raw::delay_table(kind.0.into(), rank.into(), counts, window, form))
+}
+
 /// Whether two presets look alike: as many lanes and the same window, whatever their kinds and ranks. Refusals 5 to 8,
 /// the first preset's before the second's. Equal presets of one kind and rank have one normal form; others may not.
 ///
@@ -449,6 +479,7 @@ mod tests {
         }
         assert_eq!(number(append(&book, Preset { word: &[1; 4096], ..empty }, &mut letters)), 13);
         assert_eq!(number(append(&book, empty, &mut letters[..book.len() + 5])), 14);
+        assert_eq!(number(delay_table(Kind::D, 17, &mut [0; MAX_COUNTS], &mut lanes, &mut letters)), 20);
     }
 
     #[test]

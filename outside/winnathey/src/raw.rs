@@ -86,6 +86,16 @@ mod c {
             against: *mut usize,
             mirrored: *mut usize,
         ) -> i64;
+        pub fn winnathey_delay_table(
+            kind: u32,
+            rank: u32,
+            counts: *mut u64,
+            counts_len: usize,
+            window: *mut i8,
+            window_len: usize,
+            form: *mut u8,
+            form_len: usize,
+        ) -> i64;
         pub fn winnathey_same(
             kind1: u32,
             rank1: u32,
@@ -253,6 +263,23 @@ pub fn crossings_of_word(kind: u32, rank: u32, word: &[u8], counts: &mut [usize;
 pub fn crossings_of_window(kind: u32, rank: u32, window: &[i8], counts: &mut [usize; 3]) -> i64 {
     let [plain, against, mirrored] = counts;
     unsafe { c::winnathey_crossings_of_window(kind, rank, window.as_ptr(), window.len(), plain, against, mirrored) }
+}
+
+/// How many windows of a kind and rank have each length, the longest window and its normal form.
+#[inline]
+pub fn delay_table(kind: u32, rank: u32, counts: &mut [u64], window: &mut [i8], form: &mut [u8]) -> i64 {
+    unsafe {
+        c::winnathey_delay_table(
+            kind,
+            rank,
+            counts.as_mut_ptr(),
+            counts.len(),
+            window.as_mut_ptr(),
+            window.len(),
+            form.as_mut_ptr(),
+            form.len(),
+        )
+    }
 }
 
 /// 1 if two presets are equal, 0 if not.

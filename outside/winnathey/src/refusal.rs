@@ -2,23 +2,27 @@
 use std::error::Error;
 use std::fmt;
 
-/// Refusal k is at k - 1.
-const SENTENCES: [&str; 14] = [
-    "the book has fewer than 2 or more than 65,535 bytes",
-    "two times c, plus 2, exceeds the book's length",
-    "an offset is not where the record before it ends (0 for the first), a record runs into the trailer, \
-     or the last record does not end at the trailer (with c = 0, the trailer is not at byte 0)",
-    "the preset number is c or more",
-    "the kind is not 1, 2 or 3",
-    "the rank is outside its kind's range",
-    "the word has more than 4,096 letters",
-    "a letter is 0 or above the rank",
-    "the window's length is not the lane count",
-    "an entry is 0, has a size above the lane count, repeats a size, or is negative in kind A",
-    "a kind D window has an odd number of negative entries",
-    "the place is the word's length or more",
-    "the appended book would exceed 65,535 bytes",
-    "an output is shorter than the part of the answer that goes there",
+/// The numbers with their sentences.
+const SENTENCES: [(u8, &str); 15] = [
+    (1, "the book has fewer than 2 or more than 65,535 bytes"),
+    (2, "two times c, plus 2, exceeds the book's length"),
+    (
+        3,
+        "an offset is not where the record before it ends (0 for the first), a record runs into the trailer, \
+         or the last record does not end at the trailer (with c = 0, the trailer is not at byte 0)",
+    ),
+    (4, "the preset number is c or more"),
+    (5, "the kind is not 1, 2 or 3"),
+    (6, "the rank is outside its kind's range"),
+    (7, "the word has more than 4,096 letters"),
+    (8, "a letter is 0 or above the rank"),
+    (9, "the window's length is not the lane count"),
+    (10, "an entry is 0, has a size above the lane count, repeats a size, or is negative in kind A"),
+    (11, "a kind D window has an odd number of negative entries"),
+    (12, "the place is the word's length or more"),
+    (13, "the appended book would exceed 65,535 bytes"),
+    (14, "an output is shorter than the part of the answer that goes there"),
+    (20, "the rank is above 19 for A or above 16 for B or D"),
 ];
 
 /// Why a call was turned down: the number of the first check that failed, in checking order.
@@ -38,15 +42,15 @@ impl Refusal {
         Refusal(number)
     }
 
-    /// The number, from 1 to 14.
+    /// The number: 1 to 14, or 20.
     pub fn number(self) -> u8 {
         self.0
     }
 
     /// What the number says, where c is the count of presets at the end of a book.
     pub fn meaning(self) -> &'static str {
-        let sentence = usize::from(self.0).checked_sub(1).and_then(|at| SENTENCES.get(at));
-        sentence.unwrap_or(&"a number that this crate does not know")
+        let found = SENTENCES.iter().find(|(number, _)| *number == self.0);
+        found.map_or("a number that this crate does not know", |(_, sentence)| sentence)
     }
 }
 
@@ -80,7 +84,7 @@ mod tests {
     /// The list here, as sentences: with a capital and a full stop.
     fn here() -> List {
         let sentence = |words: &str| words[..1].to_uppercase() + &words[1..] + ".";
-        (1..).zip(SENTENCES.map(sentence)).collect()
+        SENTENCES.iter().map(|(number, words)| (usize::from(*number), sentence(words))).collect()
     }
 
     /// README.md: the rows `| 5 | The kind is not 1, 2 or 3. |` of its section.
@@ -143,7 +147,7 @@ mod tests {
 
     #[test]
     fn a_number_without_a_sentence_is_not_known() {
-        assert!((1..=14).all(|number| !Refusal(number).meaning().contains("not know")));
-        assert!([0, 15, 255].iter().all(|&number| Refusal(number).meaning().contains("not know")));
+        assert!((1..=14).chain([20]).all(|number| !Refusal(number).meaning().contains("not know")));
+        assert!([0, 15, 19, 21, 255].iter().all(|&number| Refusal(number).meaning().contains("not know")));
     }
 }

@@ -1,0 +1,108 @@
+-- `counting::count` multiplies one level after another. The invariant: the levels with less than c greater sizes are counted.
+-- Assumes nothing.
+use mathlib.Core.Path.{sym, _∙_}
+use Prim.Native.Nat.{_-_}
+use native.Mathlib.Omega.{arith}
+use lib.Seq.{length-take-le}
+use borrow.Author.Needs.{needs}
+use Rattle.coxeter.specs.Kinds.{kindOf}
+use Rattle.distribution.proofs.Outcomes.{table-rank}
+use Rattle.delay.proofs.counting.Levels.{Counted, counted-length, counted-none, Turn, sizes-le, part-fits, part-sum-fits, part-factor-fits, counted-next, counted-all}
+use Rattle.delay.proofs.counting.count.Statement.{statement}
+use Rattle.delay.proofs.counting.count.Tie as tie
+
+abbrev Inv-loop : tie.InvT-loop
+Inv-loop kind rank counts₀ m d₀ c₀ counts d c = Counted (kindOf kind) rank counts d c
+
+abbrev μ-loop : tie.MeasureT-loop
+μ-loop kind rank counts₀ m d₀ c₀ counts d c = m - c
+
+set-one-requires : tie.Need-set-one-requires Inv-loop μ-loop
+set-one-requires c κs = search needs
+
+lanes-requires : tie.Need-lanes-requires Inv-loop μ-loop
+lanes-requires c κs = search needs
+
+fewest-of-requires : tie.Need-fewest-of-requires Inv-loop μ-loop
+fewest-of-requires c κs = search needs
+
+loop-holds : tie.Need-loop-holds Inv-loop μ-loop
+loop-holds c =
+    let set = c .before .before .before .before in
+    counted-none _ _ _ _ _ (set .set-one .ensures) (set .before .before .before .pre .1) (c .fewest-of .ensures)
+
+top-of-requires : tie.Need-top-of-requires Inv-loop μ-loop
+top-of-requires c κs =
+    let entered = c .before .before in
+    let start = entered .before .before .before .before .before .before .before in
+    sizes-le _ _ _ _ (start .pre .0) (entered .before .lanes .ensures) (c .loop-test .taken)
+
+-- what a turn starts from
+turn : (c : tie.After-top-of Inv-loop μ-loop) → let start = c .before .before .before .before .before .before .before .before .before .before in
+    let loop = c .before .before .loop in
+    Turn (kindOf (start .args .kind)) (start .args .rank) (loop .counts) (loop .d) (loop .c) (c .top-of .result)
+turn c =
+    let entered = c .before .before .before in
+    let start = entered .before .before .before .before .before .before .before in
+    record {
+      rank = table-rank _ _ (start .pre .0);
+      counted = c .before .before .loop .inv;
+      lower = rw (entered .before .lanes .ensures) at (c .before .loop-test .taken);
+      tops = c .top-of .ensures;
+    }
+
+add-d : tie.Need-add-d Inv-loop μ-loop
+add-d c = omega (arith, part-fits (turn c), counted-length (turn c .counted))
+
+slice-relend-prefix-multiply : tie.Need-slice-relend-prefix-multiply Inv-loop μ-loop
+slice-relend-prefix-multiply c = omega (arith, part-fits (turn c), counted-length (turn c .counted))
+
+slice-aggregate-multiply : tie.Need-slice-aggregate-multiply Inv-loop μ-loop
+slice-aggregate-multiply c = let t = turn (c .before) in sym (length-take-le _ _ (omega (arith, part-fits t, counted-length (t .counted))))
+
+multiply-requires : tie.Need-multiply-requires Inv-loop μ-loop
+multiply-requires c κs =
+    let entered = c .before .before .before .before in
+    let start = entered .before .before .before .before .before .before .before in
+    let small = sizes-le _ _ _ _ (start .pre .0) (entered .before .lanes .ensures) (c .before .before .loop-test .taken) in
+    let t = turn (c .before) in
+    ((omega (arith, t .counted .level), small), (part-sum-fits t, part-factor-fits t))
+
+add-c : tie.Need-add-c Inv-loop μ-loop
+add-c c = search needs
+
+loop-less : tie.Need-loop-less Inv-loop μ-loop
+loop-less c = search needs
+
+loop-again : tie.Need-loop-again Inv-loop μ-loop
+loop-again c = counted-next (turn (c .before .before .before .before)) _ (c .before .before .multiply .ensures)
+
+same-length : tie.Need-same-length Inv-loop μ-loop
+same-length c = counted-length (c .before .loop .inv) ∙ sym (c .before .before .before .before .before .before .before .before .before .pre .1)
+
+returns : tie.Need-returns Inv-loop μ-loop
+returns c =
+    let entered = c .before .before in
+    let start = entered .before .before .before .before .before .before .before in
+    counted-all _ _ _ _ _ (table-rank _ _ (start .pre .0) .0) (c .before .loop .inv) (rw (entered .before .lanes .ensures) at (c .loop-test .left))
+
+pub count-spec : {M : Type 1} → statement M
+count-spec =
+    tie.close
+    (tie.spec
+    Inv-loop
+    μ-loop
+    set-one-requires
+    lanes-requires
+    fewest-of-requires
+    loop-holds
+    top-of-requires
+    add-d
+    slice-relend-prefix-multiply
+    slice-aggregate-multiply
+    multiply-requires
+    add-c
+    loop-less
+    loop-again
+    same-length
+    returns)

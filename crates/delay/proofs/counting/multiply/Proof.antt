@@ -1,0 +1,63 @@
+-- `counting::multiply` makes the factor of a level: running sums, in kind D with a shifted sum after them.
+-- Assumes nothing.
+use borrow.Author.Needs.{needs}
+use Rattle.coxeter.proofs.KindLaws.{kindOf-one, kindOf-two, kindOf-three}
+use Rattle.delay.proofs.counting.Factors.{plus-fit, plus-sums}
+use Rattle.delay.proofs.counting.multiply.Statement.{statement}
+use Rattle.delay.proofs.counting.multiply.Tie as tie
+
+mul-run : tie.Need-mul-run
+mul-run c = search needs
+
+add-run : tie.Need-add-run
+add-run c = search needs
+
+run-requires : tie.Need-run-requires
+run-requires c κs = search needs
+
+same-length : tie.Need-same-length
+same-length c = search needs
+
+returns : tie.Need-returns
+returns c = rw (kindOf-two _ (c .before .before .before .before .if1 .taken)) (c .before .before .run .ensures)
+
+run-requires-2 : tie.Need-run-requires-2
+run-requires-2 c κs = search needs
+
+same-length-2 : tie.Need-same-length-2
+same-length-2 c = search needs
+
+returns-2 : tie.Need-returns-2
+returns-2 c = rw (kindOf-one _ (c .if2 .taken)) (c .before .before .before .run2 .ensures)
+
+add-shifted-requires : tie.Need-add-shifted-requires
+add-shifted-requires c κs =
+    let start = c .before .before .before .before .before .before .before .before in
+    let d = kindOf-three _ (c .before .if2 .left) (c .before .before .before .before .before .before .if1 .left) in
+    (rw d at (start .pre .0 .0), plus-fit _ _ _ _ (c .before .before .before .before .run2 .ensures) (rw d at (start .pre .1 .1)))
+
+same-length-3 : tie.Need-same-length-3
+same-length-3 c = search needs
+
+returns-3 : tie.Need-returns-3
+returns-3 c =
+    let added = c .before .before in
+    let other = added .before .before in
+    rw (kindOf-three _ (other .if2 .left) (c .before .before .before .before .before .before .before .before .before .if1 .left))
+    (plus-sums _ _ _ _ (c .before .before .before .before .before .before .before .run2 .ensures) _ (added .add-shifted .ensures))
+
+pub multiply-spec : {M : Type 1} → statement M
+multiply-spec =
+    tie.close
+    (tie.spec
+    mul-run
+    add-run
+    run-requires
+    same-length
+    returns
+    run-requires-2
+    same-length-2
+    returns-2
+    add-shifted-requires
+    same-length-3
+    returns-3)

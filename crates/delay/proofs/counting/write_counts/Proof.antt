@@ -1,0 +1,50 @@
+-- `counting::write_counts` lends the front of its output to `count`.
+-- Assumes nothing.
+use mathlib.Core.Path.{sym, ap, _∙_}
+use Prim.Native.Nat.{ℕ, _+_}
+use lib.Seq.{length-take-le}
+use borrow.Author.Needs.{needs}
+use Rattle.coxeter.proofs.Outcomes.{written-part}
+use Rattle.distribution.proofs.Tables.{length-distribution}
+use Rattle.distribution.proofs.Outcomes.{table-rank-small}
+use Rattle.delay.proofs.counting.write_counts.Statement.{statement}
+use Rattle.delay.proofs.counting.write_counts.Tie as tie
+
+greatest-length-requires : tie.Need-greatest-length-requires
+greatest-length-requires c κs = table-rank-small _ _ (c .before .pre .0)
+
+add-m : tie.Need-add-m
+add-m c = search needs
+
+slice-relend-prefix-count : tie.Need-slice-relend-prefix-count
+slice-relend-prefix-count c = search needs
+
+slice-aggregate-count : tie.Need-slice-aggregate-count
+slice-aggregate-count c = sym (length-take-le _ _ (search needs))
+
+count-requires : tie.Need-count-requires
+count-requires c κs = (
+  c .before .before .before .pre .0,
+  length-take-le _ _ (search needs) ∙ ap (λ (x : ℕ). x + 1) (c .before .greatest-length .ensures),
+)
+
+same-length : tie.Need-same-length
+same-length c = search needs
+
+returns : tie.Need-returns
+returns c =
+    let called = c .before .before in
+    let size = called .before .before .greatest-length .ensures in
+    written-part _ _ _ _ (length-distribution _ _ ∙ ap (λ (x : ℕ). x + 1) (sym size)) (called .count .ensures)
+
+pub write-counts-spec : {M : Type 1} → statement M
+write-counts-spec =
+    tie.close
+    (tie.spec
+    greatest-length-requires
+    add-m
+    slice-relend-prefix-count
+    slice-aggregate-count
+    count-requires
+    same-length
+    returns)

@@ -1,0 +1,40 @@
+-- `longest::write_form` has the normal form of the longest window written by the call on windows, which no check refuses.
+-- Assumes nothing.
+use mathlib.Core.Path.{sym, ap, _∙_}
+use Prim.Native.Nat.{ℕ}
+use lib.ListN.{take}
+use lib.Seq.{length-take-le}
+use borrow.Author.Needs.{needs}
+use Rattle.delay.proofs.longest.Entries.{form-written}
+use Rattle.delay.proofs.longest.write_form.Statement.{statement}
+use Rattle.delay.proofs.longest.write_form.Tie as tie
+
+lanes-requires : tie.Need-lanes-requires
+lanes-requires c κs = search needs
+
+slice-aggregate-normal-form-of-window : tie.Need-slice-aggregate-normal-form-of-window
+slice-aggregate-normal-form-of-window c = sym (length-take-le _ _ (search needs))
+
+normal-form-of-window-requires : tie.Need-normal-form-of-window-requires
+normal-form-of-window-requires c κs = search needs
+
+same-length : tie.Need-same-length
+same-length c = search needs
+
+returns : tie.Need-returns
+returns c =
+    let called = c .before .before in
+    let start = called .before .before .before .before .before in
+    called .normal-form-of-window .ensures .1
+    ∙ form-written _ _ _ _ (start .pre .0)
+    (ap (λ (m : ℕ). take m (start .args .entries .now)) (called .before .before .before .lanes .ensures) ∙ start .pre .1 .1 .0) (start .pre .1 .1 .1)
+
+pub write-form-spec : {M : Type 1} → statement M
+write-form-spec =
+    tie.close
+    (tie.spec
+    lanes-requires
+    slice-aggregate-normal-form-of-window
+    normal-form-of-window-requires
+    same-length
+    returns)

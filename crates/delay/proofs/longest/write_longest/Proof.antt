@@ -1,0 +1,44 @@
+-- `longest::write_longest` lends the front of its output to `set_longest`.
+-- Assumes nothing.
+use mathlib.Core.Path.{sym, _∙_}
+use lib.Seq.{length-take-le}
+use borrow.Author.Needs.{needs}
+use Rattle.coxeter.proofs.Acceptance.{rank-accepted}
+use Rattle.coxeter.proofs.Outcomes.{written-part}
+use Rattle.distribution.proofs.Tables.{length-longest}
+use Rattle.distribution.proofs.Outcomes.{rank-small}
+use Rattle.delay.proofs.longest.write_longest.Statement.{statement}
+use Rattle.delay.proofs.longest.write_longest.Tie as tie
+
+lanes-requires : tie.Need-lanes-requires
+lanes-requires c κs = search needs
+
+slice-relend-prefix-set-longest : tie.Need-slice-relend-prefix-set-longest
+slice-relend-prefix-set-longest c = search needs
+
+slice-aggregate-set-longest : tie.Need-slice-aggregate-set-longest
+slice-aggregate-set-longest c = sym (length-take-le _ _ (search needs))
+
+set-longest-requires : tie.Need-set-longest-requires
+set-longest-requires c κs =
+    (rank-small _ _ (c .before .before .pre .0), length-take-le _ _ (search needs) ∙ c .before .lanes .ensures)
+
+same-length : tie.Need-same-length
+same-length c = search needs
+
+returns : tie.Need-returns
+returns c =
+    let called = c .before in
+    let rank = rank-accepted _ _ (called .before .before .before .pre .0) in
+    written-part _ _ _ _ (length-longest _ _ (rank .0) ∙ sym (called .before .before .lanes .ensures)) (called .set-longest .ensures)
+
+pub write-longest-spec : {M : Type 1} → statement M
+write-longest-spec =
+    tie.close
+    (tie.spec
+    lanes-requires
+    slice-relend-prefix-set-longest
+    slice-aggregate-set-longest
+    set-longest-requires
+    same-length
+    returns)

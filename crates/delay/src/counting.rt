@@ -1,0 +1,130 @@
+// How many windows have each length: the product of one factor a level, multiplied out in place. A factor is one running sum, in kind D with a shifted
+// sum after it. No sum is greater than the number of all windows, so all fit 64 bits.
+use crate::lengths::fewest_of;
+use crate::lengths::greatest_length;
+use crate::lengths::top_of;
+use refusals::lanes;
+ghost use mathlib.Core.Path.{_≡_};
+ghost use Prim.Native.Nat.{_+_, _^_, _≤_, _<_};
+ghost use lib.ListN.{length};
+ghost use Rattle.coxeter.specs.Kinds.{kindOf};
+ghost use Rattle.coxeter.specs.Length.{greatestLength};
+ghost use Rattle.coxeter.specs.Calls.{written};
+ghost use Rattle.distribution.specs.Distribution.{distribution};
+ghost use Rattle.distribution.specs.Calls.{tableRefusal};
+ghost use Rattle.distribution.proofs.Sums.{below};
+ghost use Rattle.distribution.proofs.Factors.{shifted, plusShifted, lessShifted, sumTo, running, factor};
+ghost use Rattle.distribution.proofs.Products.{fewest, product};
+ghost use Rattle.distribution.proofs.Values.{values, valueAt, AtMost, Fit};
+
+// 1, 0, 0, ..: before the first level.
+fn set_one(kind: u8, counts: &mut [u64])
+    requires { ⌜ 1 ≤ length (now counts) ⌝ }
+    ensures { λ _. ⌜ now (counts .exit) ≡ values (product (kindOf kind) 0) (length (now (counts .entry))) ⌝ }
+{
+    let mut l = 0;
+    while l < counts.len() {
+        counts[l] = 0;
+        l += 1;
+    }
+    counts[0] = 1;
+}
+
+// Each number becomes the sum of those up to it.
+fn sum_up(counts: &mut [u64])
+    requires { ⌜ below (valueAt (now counts)) (length (now counts)) < 2 ^ 64 ⌝ }
+    ensures { λ _. ⌜ now (counts .exit) ≡ values (sumTo (valueAt (now (counts .entry)))) (length (now (counts .entry))) ⌝ }
+{
+    let mut sum: u64 = 0;
+    let mut l = 0;
+    while l < counts.len() {
+        sum += counts[l];
+        counts[l] = sum;
+        l += 1;
+    }
+}
+
+// Each number less the one b places before it, from the last to the first.
+fn take_shifted(counts: &mut [u64], b: usize)
+    requires { ⌜ 1 ≤ b ⌝ }
+    requires { ⌜ AtMost (shifted b (valueAt (now counts))) (valueAt (now counts)) (length (now counts)) ⌝ }
+    ensures { λ _. ⌜ now (counts .exit) ≡ values (lessShifted b (valueAt (now (counts .entry)))) (length (now (counts .entry))) ⌝ }
+{
+    let mut l = counts.len();
+    while b < l {
+        l -= 1;
+        let back = counts[l - b];
+        let own = counts[l];
+        counts[l] = own - back;
+    }
+}
+
+// Each number and the one b places before it, from the last to the first.
+fn add_shifted(counts: &mut [u64], b: usize)
+    requires { ⌜ 1 ≤ b ⌝ }
+    requires { ⌜ Fit (plusShifted b (valueAt (now counts))) (length (now counts)) ⌝ }
+    ensures { λ _. ⌜ now (counts .exit) ≡ values (plusShifted b (valueAt (now (counts .entry)))) (length (now (counts .entry))) ⌝ }
+{
+    let mut l = counts.len();
+    while b < l {
+        l -= 1;
+        let back = counts[l - b];
+        let own = counts[l];
+        counts[l] = own + back;
+    }
+}
+
+// The running sum: each number and the c before it.
+fn run(counts: &mut [u64], c: usize)
+    requires { ⌜ c ≤ 255 ⌝ }
+    requires { ⌜ below (valueAt (now counts)) (length (now counts)) < 2 ^ 64 ⌝ }
+    ensures { λ _. ⌜ now (counts .exit) ≡ values (running c (valueAt (now (counts .entry)))) (length (now (counts .entry))) ⌝ }
+{
+    sum_up(counts);
+    take_shifted(counts, c + 1);
+}
+
+// The factor of a level with c greater sizes.
+fn multiply(kind: u8, c: usize, counts: &mut [u64])
+    requires { ⌜ (fewest (kindOf kind) ≤ c) × (c ≤ 64) ⌝ }
+    requires { ⌜ below (valueAt (now counts)) (length (now counts)) < 2 ^ 64 ⌝ }
+    requires { ⌜ Fit (factor (kindOf kind) c (valueAt (now counts))) (length (now counts)) ⌝ }
+    ensures { λ _. ⌜ now (counts .exit) ≡ values (factor (kindOf kind) c (valueAt (now (counts .entry)))) (length (now (counts .entry))) ⌝ }
+{
+    if kind == 2 {
+        run(counts, 2 * c + 1);
+        return;
+    }
+    run(counts, c);
+    if kind == 1 {
+        return;
+    }
+    add_shifted(counts, c);
+}
+
+// The numbers of windows of each length, one level after another from the last; those of fewer levels end earlier.
+fn count(kind: u8, rank: u8, counts: &mut [u64])
+    requires { ⌜ tableRefusal kind rank ≡ 0 ⌝ }
+    requires { ⌜ length (now counts) ≡ greatestLength (kindOf kind) rank + 1 ⌝ }
+    ensures { λ _. ⌜ now (counts .exit) ≡ distribution (kindOf kind) rank ⌝ }
+{
+    set_one(kind, counts);
+    let m = lanes(kind, rank);
+    let mut d: usize = 1;
+    let mut c = fewest_of(kind);
+    while c < m {
+        d += top_of(kind, c);
+        multiply(kind, c, &mut counts[..d]);
+        c += 1;
+    }
+}
+
+// The same to the front of `counts`.
+pub(crate) fn write_counts(kind: u8, rank: u8, counts: &mut [u64])
+    requires { ⌜ tableRefusal kind rank ≡ 0 ⌝ }
+    requires { ⌜ greatestLength (kindOf kind) rank + 1 ≤ length (now counts) ⌝ }
+    ensures { λ _. ⌜ now (counts .exit) ≡ written 0 (distribution (kindOf kind) rank) (now (counts .entry)) ⌝ }
+{
+    let m = greatest_length(kind, rank) + 1;
+    count(kind, rank, &mut counts[..m]);
+}

@@ -1,0 +1,54 @@
+// The delay table of a kind and a rank: how many windows have each length, the longest window and its normal form.
+//
+// No public function has a `requires`: every input is checked, and what the call answers and writes is a definition of distribution/specs/Calls for
+// every input, refused ones included.
+mod counting;
+mod lengths;
+mod longest;
+
+use counting::write_counts;
+pub use distribution::Table;
+use lengths::greatest_length;
+use lengths::table_refusal;
+use longest::write_form;
+use longest::write_longest;
+use refusals::lanes;
+ghost use Rattle.distribution.specs.Calls.{TableYields, delayTable};
+
+// Writes to the front of `counts` how many windows have the length 0, 1, .. up to the greatest, to the front of `entries` the longest window, to that
+// of `letters` its normal form, and answers how many numbers, entries and letters that is. Refuses with 5 or 6, then 20 where the rank has no table,
+// then 14 where one of the three is too short; all three are then left as they were.
+pub fn delay_table(
+    kind: u8,
+    rank: u8,
+    counts: &mut [u64],
+    entries: &mut [i8],
+    letters: &mut [u8],
+) -> Table
+    ensures { λ r. ⌜ TableYields (delayTable kind rank (now (counts .entry)) (now (entries .entry)) (now (letters .entry)))
+        r (now (counts .exit)) (now (entries .exit)) (now (letters .exit)) ⌝ }
+{
+    let refusal = table_refusal(kind, rank);
+    if refusal != 0 {
+        return Table::Refused(refusal);
+    }
+    let l = greatest_length(kind, rank);
+    if counts.len() <= l {
+        return Table::Refused(14);
+    }
+    let m = lanes(kind, rank);
+    if entries.len() < m {
+        return Table::Refused(14);
+    }
+    if letters.len() < l {
+        return Table::Refused(14);
+    }
+    write_counts(kind, rank, counts);
+    write_longest(kind, rank, entries);
+    write_form(kind, rank, entries, letters);
+    Table::Written {
+        counts: l + 1,
+        entries: m,
+        letters: l,
+    }
+}
