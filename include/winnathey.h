@@ -6,12 +6,14 @@
  *
  * Arguments
  *   kind      1 is A, 2 is B, 3 is D. Any other number of 32 bits is refused 5.
- *   rank      A: 1 to 63, B: 2 to 64, D: 4 to 64; in a book A: 1 to 31, B: 2 to 32, D: 4 to 32. Any other number of 32 bits is refused 6.
+ *   rank      A: 1 to 63, B: 2 to 64, D: 4 to 64; in a book of the first edition A: 1 to 31, B: 2 to 32, D: 4 to 32. Any other
+ *             number of 32 bits is refused 6.
  *   word      0 to 4,096 bytes, each a step from 1 to the rank.
  *   window    rank + 1 signed bytes in kind A, rank signed bytes in kinds B and D.
- *   book      the bytes of a preset book, at most 65,535. c is the count of presets at its end.
+ *   book      the bytes of a preset book, at most 65,535. c is the count of presets at its end. A record is kind, rank, letter count (two bytes, the low
+ *             one first) and letters; in the second edition the lane count is a byte after the rank.
  *
- * Answers: 0 or more is the answer; -k is refusal k, of the first check that fails: in the order below, but 20 right after 6. A refused call writes nothing. An
+ * Answers: 0 or more is the answer; -k is refusal k, of the first check that fails: in the order below, but 17 and 20 right after 6. A refused call writes nothing. An
  * accepted call that writes puts its answer at the front of the output, answers the length written, and leaves the rest of the output as it was.
  *
  *    1  The book has fewer than 2 or more than 65,535 bytes.
@@ -29,6 +31,7 @@
  *   12  The place is the word's length or more.
  *   13  The appended book would exceed 65,535 bytes.
  *   14  An output is shorter than the part of the answer that goes there.
+ *   17  The lane count is not n + 1 for A or n for B and D.
  *   20  The rank is above 19 for A or above 16 for B or D.
  *
  * Of two presets, words or windows the first is checked before the second. winnathey_rewrite also answers WINNATHEY_NONE_FITS, and winnathey_fallback
@@ -130,7 +133,7 @@ int64_t winnathey_rewrite(uint32_t kind, uint32_t rank, const uint8_t *word, siz
 int64_t winnathey_fallback(uint32_t kind, uint32_t rank, const uint8_t *present, size_t present_len, const uint8_t *simpler, size_t simpler_len,
                            uint16_t *places, size_t places_len);
 
-/* ---- preset books */
+/* ---- preset books of the first edition */
 
 /* Checks 1 to 3 of a book. Answers the number of its presets. */
 int64_t winnathey_book_check(const uint8_t *book, size_t book_len);
@@ -147,6 +150,18 @@ int64_t winnathey_presets(const uint8_t *book, size_t book_len, size_t first, ui
 /* Appends a preset to a book: the whole new book goes to out. Answers its length. */
 int64_t winnathey_append(const uint8_t *book, size_t book_len, uint32_t kind, uint32_t rank, const uint8_t *word, size_t word_len, uint8_t *out,
                          size_t out_len);
+
+/* ---- preset books of the second edition: the same calls, with check 17 of each record and the ranks of words and windows. The lane count that is
+   appended follows from kind and rank. */
+
+int64_t winnathey_second_book_check(const uint8_t *book, size_t book_len);
+
+int64_t winnathey_second_preset(const uint8_t *book, size_t book_len, size_t number, uint64_t *fields, size_t fields_len);
+
+int64_t winnathey_second_presets(const uint8_t *book, size_t book_len, size_t first, uint64_t *fields, size_t fields_len);
+
+int64_t winnathey_second_append(const uint8_t *book, size_t book_len, uint32_t kind, uint32_t rank, const uint8_t *word, size_t word_len, uint8_t *out,
+                                size_t out_len);
 
 #ifdef __cplusplus
 }

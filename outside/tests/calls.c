@@ -19,7 +19,10 @@ static uint16_t places[ROOM];
 static size_t counts[ROOM];
 
 static int failed;
-static int seen[21]; /* by the refusal's number; none fits is at 0 */
+/* The last refusal; of those above 14 the calls have 17 and 20. */
+#define LAST 20
+
+static int seen[LAST + 1]; /* by the refusal's number; none fits is at 0 */
 static int seen_no_fallback;
 
 static void fill(void)
@@ -85,7 +88,7 @@ static void told(const char *call, int64_t answer)
         seen[0] = 1;
     else if (answer == WINNATHEY_NO_FALLBACK)
         seen_no_fallback = 1;
-    else if (answer >= -20)
+    else if (answer >= -LAST)
         seen[-answer] = 1;
 }
 
@@ -108,6 +111,8 @@ static const int8_t d5[] = {3, -5, 1, 4, -2};
 static const uint8_t no_presets[] = {0, 0}, bad_count[] = {1, 0}, bad_end[] = {0, 0, 0};
 static const uint8_t book[] = {2, 2, 4, 0, 1, 2, 1, 2, 3, 5, 6, 0, 5, 2, 3, 5, 1, 2, 0, 0, 8, 0, 2, 0};
 static const uint8_t bad_letter[] = {2, 2, 1, 0, 3, 0, 0, 1, 0};
+static const uint8_t second_book[] = {2, 2, 2, 4, 0, 1, 2, 1, 2, 3, 5, 5, 6, 0, 5, 2, 3, 5, 1, 2, 0, 0, 9, 0, 2, 0};
+static const uint8_t bad_lanes[] = {1, 2, 2, 0, 0, 0, 0, 1, 0};
 static uint8_t full[65533]; /* one record of 65,525 letters */
 
 static void words(void)
@@ -297,6 +302,30 @@ static void books(void)
     CALL(winnathey_append(full, sizeof full, 1, 1, NULL, 0, bytes, ROOM));
 }
 
+static void second_books(void)
+{
+    CALL(winnathey_second_book_check(second_book, sizeof second_book));
+    CALL(winnathey_second_book_check(no_presets, sizeof no_presets));
+    CALL(winnathey_second_book_check(book, sizeof book));
+    CALL(winnathey_second_book_check(NULL, 0));
+
+    CALL(winnathey_second_preset(second_book, sizeof second_book, 0, fields, 4));
+    CALL(winnathey_second_preset(second_book, sizeof second_book, 1, fields, ROOM));
+    CALL(winnathey_second_preset(second_book, sizeof second_book, 2, fields, 4));
+    CALL(winnathey_second_preset(second_book, sizeof second_book, 0, fields, 3));
+    CALL(winnathey_second_preset(bad_lanes, sizeof bad_lanes, 0, fields, 4));
+
+    CALL(winnathey_second_presets(second_book, sizeof second_book, 0, fields, ROOM));
+    CALL(winnathey_second_presets(second_book, sizeof second_book, 0, fields, 4));
+    CALL(winnathey_second_presets(bad_lanes, sizeof bad_lanes, 0, fields, 5));
+
+    CALL(winnathey_second_append(no_presets, sizeof no_presets, 2, 2, w1212, 4, bytes, 13));
+    CALL(winnathey_second_append(no_presets, sizeof no_presets, 1, 63, NULL, 0, bytes, ROOM));
+    CALL(winnathey_second_append(second_book, sizeof second_book, 2, 33, w1, 1, bytes, ROOM));
+    CALL(winnathey_second_append(second_book, sizeof second_book, 1, 64, w1, 1, bytes, ROOM));
+    CALL(winnathey_second_append(second_book, sizeof second_book, 1, 1, w1, 1, bytes, 33));
+}
+
 int main(void)
 {
     /* Kind 1, rank 1, 65,525 = 0xfff5 letters, then the offset 0 and the count 1. */
@@ -310,9 +339,10 @@ int main(void)
     rewrites();
     shortest();
     books();
+    second_books();
 
-    for (int k = 0; k <= 20; k++)
-        if (!seen[k] && (k <= 14 || k == 20)) {
+    for (int k = 0; k <= LAST; k++)
+        if (!seen[k] && (k <= 14 || k == 17 || k == 20)) {
             printf("never: %s %d\n", k == 0 ? "none fits," : "refusal", k);
             failed = 1;
         }

@@ -1,11 +1,12 @@
-// The preset book: checks, reading by number, appending. No public function has a `requires`.
+// The preset book in its two editions: checks, reading by number, appending. No public function has a `requires`.
 mod numbers;
-mod ranks;
 pub mod reader;
 mod reading;
+mod records;
 mod runs;
 mod writing;
 
+pub use book_format::Edition;
 pub use book_format::Opened;
 pub use book_format::Preset;
 pub use reading::check_book;

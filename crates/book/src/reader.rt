@@ -1,8 +1,9 @@
-// An opened book: it keeps its bytes and what opening them answered, and serves preset calls by number. Each call hands the bytes to the call on
-// slice and number, and is right whatever `opened` holds.
+// An opened book: it keeps its bytes, its edition and what opening them answered, and serves preset calls by number. Each call hands edition and bytes
+// to the call on edition, slice and number, and is right whatever `opened` holds.
 use crate::reading::check_book;
 use crate::reading::check_preset;
 use crate::reading::letters;
+use book_format::Edition;
 use book_format::Opened;
 use book_format::Preset;
 ghost use mathlib.Core.Path.{_≡_};
@@ -11,35 +12,40 @@ ghost use Rattle.book_format.specs.Calls.{checkedBook, checkedPreset, lettersOf
 
 pub struct Reader<'a> {
     pub bytes: &'a [u8],
+    pub edition: Edition,
     pub opened: Opened,
 }
 
 // Opening makes checks 1 to 3.
-pub fn open<'a>(bytes: &'a [u8]) -> Reader<'a>
-    ensures { λ r. ⌜ (r .bytes ≡ bytes .entry) × (r .opened ≡ checkedBook (now (bytes .entry))) ⌝ }
+pub fn open<'a>(edition: Edition, bytes: &'a [u8]) -> Reader<'a>
+    ensures { λ r. ⌜ (r .bytes ≡ bytes .entry) × (r .edition ≡ edition) × (r .opened ≡ checkedBook edition (now (bytes .entry))) ⌝ }
 {
-    let opened = check_book(bytes);
-    Reader { bytes, opened }
+    let opened = check_book(edition, bytes);
+    Reader {
+        bytes,
+        edition,
+        opened,
+    }
 }
 
 // Checks 1 to 3, and the number of presets.
 pub fn presets<'a>(r: Reader<'a>) -> Opened
-    ensures { λ o. ⌜ o ≡ checkedBook (now (r .entry .bytes)) ⌝ }
+    ensures { λ o. ⌜ o ≡ checkedBook (r .entry .edition) (now (r .entry .bytes)) ⌝ }
 {
-    check_book(r.bytes)
+    check_book(r.edition, r.bytes)
 }
 
 // Checks 1 to 8, and what the preset is.
 pub fn preset<'a>(r: Reader<'a>, number: usize) -> Preset
-    ensures { λ p. ⌜ p ≡ checkedPreset (now (r .entry .bytes)) number ⌝ }
+    ensures { λ p. ⌜ p ≡ checkedPreset (r .entry .edition) (now (r .entry .bytes)) number ⌝ }
 {
-    check_preset(r.bytes, number)
+    check_preset(r.edition, r.bytes, number)
 }
 
 // The letters of a preset, which outlive the reader: a part of the book itself.
 pub fn preset_letters<'a>(r: Reader<'a>, number: usize) -> &'a [u8]
-    ensures { λ s. ⌜ now s ≡ lettersOf (now (r .entry .bytes)) number ⌝ }
-    ensures { λ s. ⌜ (s .ptr .0 ≡ r .entry .bytes .ptr .0) × (s .ptr .1 ≡ r .entry .bytes .ptr .1 + lettersStart (now (r .entry .bytes)) number) ⌝ }
+    ensures { λ s. ⌜ now s ≡ lettersOf (r .entry .edition) (now (r .entry .bytes)) number ⌝ }
+    ensures { λ s. ⌜ (s .ptr .0 ≡ r .entry .bytes .ptr .0) × (s .ptr .1 ≡ r .entry .bytes .ptr .1 + lettersStart (r .entry .edition) (now (r .entry .bytes)) number) ⌝ }
 {
-    letters(r.bytes, number)
+    letters(r.edition, r.bytes, number)
 }

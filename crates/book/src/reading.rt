@@ -1,6 +1,9 @@
 // Checks 1 to 8 on a book and its presets, and the letters of a preset.
 use crate::numbers::two_at;
-use crate::ranks::book_rank_refusal;
+use crate::records::book_rank_refusal;
+use crate::records::count_place;
+use crate::records::has_wrong_lanes;
+use book_format::Edition;
 use book_format::Opened;
 use book_format::Preset;
 use window::word_refusal;
@@ -13,17 +16,16 @@ ghost use Rattle.book_format.specs.Calls.{checkedBook, checkedRecord, checkedPr
 // The most bytes of a book.
 pub(crate) const LARGEST: usize = 65535;
 
-// The bytes of a record before its letters.
-pub(crate) const HEAD: usize = 4;
-
 // Check 3, of a book with c presets: o is where the next record has to begin. Nothing behind the trailer's beginning is read as a record.
-fn is_misplaced(book: &[u8], c: usize) -> bool
+fn is_misplaced(edition: Edition, book: &[u8], c: usize) -> bool
     requires { ⌜ length (now book) ≤ 65535 ⌝ }
     requires { ⌜ 2 * c + 2 ≤ length (now book) ⌝ }
     requires { ⌜ c ≡ count (now book) ⌝ }
-    ensures { λ r. ⌜ r ≡ misplaced (now (book .entry)) ⌝ }
+    ensures { λ r. ⌜ r ≡ misplaced edition (now (book .entry)) ⌝ }
 {
     let trailer = book.len() - (2 * c + 2);
+    let place = count_place(edition);
+    let head = place + 2;
     let mut o = 0;
     let mut i = 0;
     while i < c {
@@ -31,11 +33,11 @@ fn is_misplaced(book: &[u8], c: usize) -> bool
         if offset != o {
             return true;
         }
-        if trailer < o + HEAD {
+        if trailer < o + head {
             return true;
         }
-        let letters = two_at(book, o + 2);
-        let end = o + HEAD + letters;
+        let letters = two_at(book, o + place);
+        let end = o + head + letters;
         if trailer < end {
             return true;
         }
@@ -46,8 +48,8 @@ fn is_misplaced(book: &[u8], c: usize) -> bool
 }
 
 // Checks 1 to 3.
-pub(crate) fn book_refusal(book: &[u8]) -> u8
-    ensures { λ r. ⌜ r ≡ bookRefusal (now (book .entry)) ⌝ }
+pub(crate) fn book_refusal(edition: Edition, book: &[u8]) -> u8
+    ensures { λ r. ⌜ r ≡ bookRefusal edition (now (book .entry)) ⌝ }
 {
     if book.len() < 2 {
         return 1;
@@ -59,17 +61,17 @@ pub(crate) fn book_refusal(book: &[u8]) -> u8
     if book.len() < 2 * c + 2 {
         return 2;
     }
-    if is_misplaced(book, c) {
+    if is_misplaced(edition, book, c) {
         return 3;
     }
     0
 }
 
 // Opening: checks 1 to 3, and the number of presets.
-pub fn check_book(book: &[u8]) -> Opened
-    ensures { λ r. ⌜ r ≡ checkedBook (now (book .entry)) ⌝ }
+pub fn check_book(edition: Edition, book: &[u8]) -> Opened
+    ensures { λ r. ⌜ r ≡ checkedBook edition (now (book .entry)) ⌝ }
 {
-    let r = book_refusal(book);
+    let r = book_refusal(edition, book);
     if r != 0 {
         return Opened::Refused(r);
     }
@@ -77,20 +79,25 @@ pub fn check_book(book: &[u8]) -> Opened
     Opened::Presets(c)
 }
 
-// Checks 5 to 8, of the record at byte o.
-fn check_record(book: &[u8], o: usize) -> Preset
+// Checks 5 to 8, and 17, of the record at byte o.
+fn check_record(edition: Edition, book: &[u8], o: usize) -> Preset
     requires { ⌜ length (now book) ≤ 65535 ⌝ }
-    requires { ⌜ endAt (now book) o ≤ length (now book) ⌝ }
-    ensures { λ r. ⌜ r ≡ checkedRecord (now (book .entry)) o ⌝ }
+    requires { ⌜ endAt edition (now book) o ≤ length (now book) ⌝ }
+    ensures { λ r. ⌜ r ≡ checkedRecord edition (now (book .entry)) o ⌝ }
 {
+    let place = count_place(edition);
+    let head = place + 2;
     let kind = book[o];
     let rank = book[o + 1];
-    let r = book_rank_refusal(kind, rank);
+    let r = book_rank_refusal(edition, kind, rank);
     if r != 0 {
         return Preset::Refused(r);
     }
-    let length = two_at(book, o + 2);
-    let start = o + HEAD;
+    if has_wrong_lanes(edition, book, o) {
+        return Preset::Refused(17);
+    }
+    let length = two_at(book, o + place);
+    let start = o + head;
     let end = start + length;
     let s = word_refusal(rank, &book[start..end]);
     if s != 0 {
@@ -105,21 +112,21 @@ fn check_record(book: &[u8], o: usize) -> Preset
 }
 
 // A preset of a book that passes checks 1 to 3, with a number that passes check 4: the record at its offset.
-pub(crate) fn numbered_preset(book: &[u8], number: usize) -> Preset
-    requires { ⌜ (bookRefusal (now book) ≡ 0) × (number < count (now book)) ⌝ }
-    ensures { λ r. ⌜ r ≡ checkedPreset (now (book .entry)) number ⌝ }
+pub(crate) fn numbered_preset(edition: Edition, book: &[u8], number: usize) -> Preset
+    requires { ⌜ (bookRefusal edition (now book) ≡ 0) × (number < count (now book)) ⌝ }
+    ensures { λ r. ⌜ r ≡ checkedPreset edition (now (book .entry)) number ⌝ }
 {
     let c = two_at(book, book.len() - 2);
     let trailer = book.len() - (2 * c + 2);
     let o = two_at(book, trailer + 2 * number);
-    check_record(book, o)
+    check_record(edition, book, o)
 }
 
 // Reading a preset: checks 1 to 8, its kind and rank, and where its letters are.
-pub fn check_preset(book: &[u8], number: usize) -> Preset
-    ensures { λ r. ⌜ r ≡ checkedPreset (now (book .entry)) number ⌝ }
+pub fn check_preset(edition: Edition, book: &[u8], number: usize) -> Preset
+    ensures { λ r. ⌜ r ≡ checkedPreset edition (now (book .entry)) number ⌝ }
 {
-    let r = book_refusal(book);
+    let r = book_refusal(edition, book);
     if r != 0 {
         return Preset::Refused(r);
     }
@@ -127,15 +134,15 @@ pub fn check_preset(book: &[u8], number: usize) -> Preset
     if c <= number {
         return Preset::Refused(4);
     }
-    numbered_preset(book, number)
+    numbered_preset(edition, book, number)
 }
 
 // The letters of a preset: the part of the book that holds them. For a refused preset an empty part of the book.
-pub fn letters(book: &[u8], number: usize) -> &[u8]
-    ensures { λ r. ⌜ now r ≡ lettersOf (now (book .entry)) number ⌝ }
-    ensures { λ r. ⌜ (r .ptr .0 ≡ book .entry .ptr .0) × (r .ptr .1 ≡ book .entry .ptr .1 + lettersStart (now (book .entry)) number) ⌝ }
+pub fn letters(edition: Edition, book: &[u8], number: usize) -> &[u8]
+    ensures { λ r. ⌜ now r ≡ lettersOf edition (now (book .entry)) number ⌝ }
+    ensures { λ r. ⌜ (r .ptr .0 ≡ book .entry .ptr .0) × (r .ptr .1 ≡ book .entry .ptr .1 + lettersStart edition (now (book .entry)) number) ⌝ }
 {
-    match check_preset(book, number) {
+    match check_preset(edition, book, number) {
         Preset::Found {
             kind: _,
             rank: _,

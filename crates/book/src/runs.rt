@@ -2,6 +2,7 @@
 use crate::numbers::two_at;
 use crate::reading::book_refusal;
 use crate::reading::numbered_preset;
+use book_format::Edition;
 use book_format::Preset;
 use window::Answer;
 ghost use mathlib.Core.Path.{_≡_};
@@ -64,13 +65,13 @@ fn put_preset(answer: Preset, fields: &mut [u64], p: usize)
 }
 
 // The numbers of n presets from preset `first` on.
-fn put_run(book: &[u8], first: usize, n: usize, fields: &mut [u64])
-    requires { ⌜ (bookRefusal (now book) ≡ 0) × (first + n ≤ count (now book)) × (5 * n ≤ length (now fields)) ⌝ }
-    ensures { λ _. ⌜ now (fields .exit) ≡ sets (now (fields .entry)) 0 (presetFields (now (book .entry)) n first) ⌝ }
+fn put_run(edition: Edition, book: &[u8], first: usize, n: usize, fields: &mut [u64])
+    requires { ⌜ (bookRefusal edition (now book) ≡ 0) × (first + n ≤ count (now book)) × (5 * n ≤ length (now fields)) ⌝ }
+    ensures { λ _. ⌜ now (fields .exit) ≡ sets (now (fields .entry)) 0 (presetFields edition (now (book .entry)) n first) ⌝ }
 {
     let mut i = 0;
     while i < n {
-        put_preset(numbered_preset(book, first + i), fields, 5 * i);
+        put_preset(numbered_preset(edition, book, first + i), fields, 5 * i);
         i += 1;
     }
 }
@@ -86,11 +87,11 @@ fn smaller(a: usize, b: usize) -> usize
 
 // Reading the presets from number `first` on, as many as there are and have room: for each its refusal or 0, its kind, its rank, where its letters
 // begin and how many they are. Checks 1 to 3, check 4 of the first, and 14 where not one has room. Answers how many presets were written.
-pub fn read_presets(book: &[u8], first: usize, fields: &mut [u64]) -> Answer
-    ensures { λ r. ⌜ (r ≡ readingPresets (now (book .entry)) first (now (fields .entry)) .answer)
-        × (now (fields .exit) ≡ readingPresets (now (book .entry)) first (now (fields .entry)) .bytes) ⌝ }
+pub fn read_presets(edition: Edition, book: &[u8], first: usize, fields: &mut [u64]) -> Answer
+    ensures { λ r. ⌜ (r ≡ readingPresets edition (now (book .entry)) first (now (fields .entry)) .answer)
+        × (now (fields .exit) ≡ readingPresets edition (now (book .entry)) first (now (fields .entry)) .bytes) ⌝ }
 {
-    let r = book_refusal(book);
+    let r = book_refusal(edition, book);
     if r != 0 {
         return Answer::Refused(r);
     }
@@ -102,6 +103,6 @@ pub fn read_presets(book: &[u8], first: usize, fields: &mut [u64]) -> Answer
         return Answer::Refused(14);
     }
     let n = smaller(c - first, fields.len() / 5);
-    put_run(book, first, n, fields);
+    put_run(edition, book, first, n, fields);
     Answer::Length(n)
 }

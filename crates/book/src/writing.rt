@@ -2,10 +2,12 @@
 use crate::numbers::copy_to;
 use crate::numbers::put_two;
 use crate::numbers::two_at;
-use crate::ranks::book_rank_refusal;
-use crate::reading::HEAD;
 use crate::reading::LARGEST;
 use crate::reading::book_refusal;
+use crate::records::book_rank_refusal;
+use crate::records::count_place;
+use crate::records::put_lanes;
+use book_format::Edition;
 use window::Answer;
 use window::word_refusal;
 ghost use mathlib.Core.Path.{_≡_};
@@ -13,27 +15,40 @@ ghost use mathlib.Core.List.{_++_};
 ghost use Prim.Native.Nat.{_+_, _*_, _≤_};
 ghost use lib.ListN.{length, take, drop};
 ghost use lib.Seq.{sets};
+ghost use Rattle.coxeter.specs.Kinds.{kindOf, lanes};
 ghost use Rattle.book_format.specs.Books.{two, headSize, bookRefusal, recordOf, added, appended, appendRefusal};
 ghost use Rattle.book_format.specs.Calls.{appending};
 
 // The bytes of a record written from p on.
-fn write_record(kind: u8, rank: u8, word: &[u8], out: &mut [u8], p: usize)
-    requires { ⌜ p + headSize + length (now word) ≤ length (now out) ⌝ }
-    ensures { λ _. ⌜ now (out .exit) ≡ sets (now (out .entry)) p (recordOf kind rank (now (word .entry))) ⌝ }
+fn write_record(edition: Edition, kind: u8, rank: u8, word: &[u8], out: &mut [u8], p: usize)
+    requires { ⌜ (rank ≤ 64) × (p + headSize edition + length (now word) ≤ length (now out)) ⌝ }
+    ensures { λ _. ⌜ now (out .exit)
+        ≡ sets (now (out .entry)) p (recordOf edition kind rank (lanes (kindOf kind) rank) (now (word .entry))) ⌝ }
 {
+    let place = count_place(edition);
     out[p] = kind;
     out[p + 1] = rank;
-    put_two(out, p + 2, word.len());
-    copy_to(word, out, p + HEAD);
+    put_lanes(edition, kind, rank, out, p + 2);
+    put_two(out, p + place, word.len());
+    copy_to(word, out, p + place + 2);
 }
 
 // The records of a book, which end at the byte `trailer`, and the new record.
-fn write_records(book: &[u8], trailer: usize, kind: u8, rank: u8, word: &[u8], out: &mut [u8])
-    requires { ⌜ (trailer ≤ length (now book)) × (trailer + headSize + length (now word) ≤ length (now out)) ⌝ }
-    ensures { λ _. ⌜ now (out .exit) ≡ sets (now (out .entry)) 0 (take trailer (now (book .entry)) ++ recordOf kind rank (now (word .entry))) ⌝ }
+fn write_records(
+    edition: Edition,
+    book: &[u8],
+    trailer: usize,
+    kind: u8,
+    rank: u8,
+    word: &[u8],
+    out: &mut [u8],
+)
+    requires { ⌜ (rank ≤ 64) × (trailer ≤ length (now book)) × (trailer + headSize edition + length (now word) ≤ length (now out)) ⌝ }
+    ensures { λ _. ⌜ now (out .exit) ≡ sets (now (out .entry)) 0
+        (take trailer (now (book .entry)) ++ recordOf edition kind rank (lanes (kindOf kind) rank) (now (word .entry))) ⌝ }
 {
     copy_to(&book[..trailer], out, 0);
-    write_record(kind, rank, word, out, trailer);
+    write_record(edition, kind, rank, word, out, trailer);
 }
 
 // The c offsets of a book, which begin at the byte `trailer`, that of the new record, and the count, written from p on.
@@ -50,26 +65,27 @@ fn write_trailer(book: &[u8], trailer: usize, c: usize, out: &mut [u8], p: usize
 }
 
 // The new book written to the front of `out`.
-fn write_appended(book: &[u8], kind: u8, rank: u8, word: &[u8], out: &mut [u8])
-    requires { ⌜ bookRefusal (now book) ≡ 0 ⌝ }
-    requires { ⌜ length (now book) + added (now word) ≤ length (now out) ⌝ }
-    ensures { λ _. ⌜ now (out .exit) ≡ sets (now (out .entry)) 0 (appended (now (book .entry)) kind rank (now (word .entry))) ⌝ }
+fn write_appended(edition: Edition, book: &[u8], kind: u8, rank: u8, word: &[u8], out: &mut [u8])
+    requires { ⌜ (bookRefusal edition (now book) ≡ 0) × (rank ≤ 64) ⌝ }
+    requires { ⌜ length (now book) + added edition (now word) ≤ length (now out) ⌝ }
+    ensures { λ _. ⌜ now (out .exit) ≡ sets (now (out .entry)) 0 (appended edition (now (book .entry)) kind rank (now (word .entry))) ⌝ }
 {
     let c = two_at(book, book.len() - 2);
     let trailer = book.len() - (2 * c + 2);
-    write_records(book, trailer, kind, rank, word, out);
-    write_trailer(book, trailer, c, out, trailer + HEAD + word.len());
+    let place = count_place(edition);
+    write_records(edition, book, trailer, kind, rank, word, out);
+    write_trailer(book, trailer, c, out, trailer + (place + 2) + word.len());
 }
 
 // Checks 1 to 3 of the book, 5 to 8 of the preset, 13.
-fn append_refusal(book: &[u8], kind: u8, rank: u8, word: &[u8]) -> u8
-    ensures { λ r. ⌜ r ≡ appendRefusal (now (book .entry)) kind rank (now (word .entry)) ⌝ }
+fn append_refusal(edition: Edition, book: &[u8], kind: u8, rank: u8, word: &[u8]) -> u8
+    ensures { λ r. ⌜ r ≡ appendRefusal edition (now (book .entry)) kind rank (now (word .entry)) ⌝ }
 {
-    let r = book_refusal(book);
+    let r = book_refusal(edition, book);
     if r != 0 {
         return r;
     }
-    let s = book_rank_refusal(kind, rank);
+    let s = book_rank_refusal(edition, kind, rank);
     if s != 0 {
         return s;
     }
@@ -77,25 +93,34 @@ fn append_refusal(book: &[u8], kind: u8, rank: u8, word: &[u8]) -> u8
     if t != 0 {
         return t;
     }
-    if LARGEST < book.len() + (HEAD + word.len() + 2) {
+    let place = count_place(edition);
+    if LARGEST < book.len() + (place + 2 + word.len() + 2) {
         return 13;
     }
     0
 }
 
 // Appending a preset, with check 14: the length of the new book, written to the front of `out`.
-pub fn append(book: &[u8], kind: u8, rank: u8, word: &[u8], out: &mut [u8]) -> Answer
-    ensures { λ r. ⌜ r ≡ appending (now (book .entry)) kind rank (now (word .entry)) (now (out .entry)) .answer ⌝ }
-    ensures { λ _. ⌜ now (out .exit) ≡ appending (now (book .entry)) kind rank (now (word .entry)) (now (out .entry)) .bytes ⌝ }
+pub fn append(
+    edition: Edition,
+    book: &[u8],
+    kind: u8,
+    rank: u8,
+    word: &[u8],
+    out: &mut [u8],
+) -> Answer
+    ensures { λ r. ⌜ r ≡ appending edition (now (book .entry)) kind rank (now (word .entry)) (now (out .entry)) .answer ⌝ }
+    ensures { λ _. ⌜ now (out .exit) ≡ appending edition (now (book .entry)) kind rank (now (word .entry)) (now (out .entry)) .bytes ⌝ }
 {
-    let r = append_refusal(book, kind, rank, word);
+    let r = append_refusal(edition, book, kind, rank, word);
     if r != 0 {
         return Answer::Refused(r);
     }
-    let size = book.len() + (HEAD + word.len() + 2);
+    let place = count_place(edition);
+    let size = book.len() + (place + 2 + word.len() + 2);
     if out.len() < size {
         return Answer::Refused(14);
     }
-    write_appended(book, kind, rank, word, out);
+    write_appended(edition, book, kind, rank, word, out);
     Answer::Length(size)
 }

@@ -10,9 +10,13 @@ use native.Mathlib.Nat.{add-assoc}
 use native.Mathlib.Omega.{arith}
 use lib.ListN.{length, getD, take, drop, length-append, length-drop, take-append-drop, List·getD-append}
 use lib.Seq.{getD-append-add, getD-take, getD-drop, getD-at, take-at, drop-at, take-append-le, drop-append-le, length-take-le}
-use Rattle.book_format.specs.Books.{twoAt, two, count, trailer, offset, kindAt, rankAt, letterCountAt, lettersAt, endAt, recordOf, appended, headSize, added}
-use Rattle.book_format.proofs.BookLaws.{Accepted, trailer-le, trailer-read}
-use Rattle.book_format.proofs.WritingLaws.{length-two, length-recordOf, length-appended}
+use Rattle.book_format.specs.declared.Edition.{Edition}
+use Rattle.book_format.specs.declared.Edition.the-variants.{First, Second}
+use Rattle.coxeter.specs.Kinds.{kindOf, lanes}
+use Rattle.book_format.specs.Books.{twoAt, two, count, trailer, offset, kindAt, rankAt, lanesAt, letterCountAt, lettersAt, endAt}
+use Rattle.book_format.specs.Books.{laneByte, recordOf, appended, countPlace, headSize, added}
+use Rattle.book_format.proofs.BookLaws.{Accepted, trailer-le, trailer-read, two-le-countPlace}
+use Rattle.book_format.proofs.WritingLaws.{length-two, length-laneByte, length-recordOf, length-appended}
 
 -- ---- two-byte numbers in a list
 
@@ -57,127 +61,158 @@ records b = take (trailer b) b
 abbrev offsets : List ℕ → List ℕ
 offsets b = take (2 * count b) (drop (trailer b) b)
 
-pub trailer-count : (b : List ℕ) → Accepted b → trailer b + 2 * count b + 2 ≡ length b
+pub trailer-count : (ed : Edition) (b : List ℕ) → Accepted ed b → trailer b + 2 * count b + 2 ≡ length b
 unfolding trailer
-trailer-count b a = let h = a .fits in omega arith
+trailer-count ed b a = let h = a .fits in omega arith
 
 length-records : (b : List ℕ) → length (records b) ≡ trailer b
 length-records b = length-take-le (trailer b) b (trailer-le b)
 
-length-offsets : (b : List ℕ) → Accepted b → length (offsets b) ≡ 2 * count b
-length-offsets b a = let h = trailer-count b a in length-take-le (2 * count b) (drop (trailer b) b) (rw length-drop (omega arith))
+length-offsets : (ed : Edition) (b : List ℕ) → Accepted ed b → length (offsets b) ≡ 2 * count b
+length-offsets ed b a = let h = trailer-count ed b a in length-take-le (2 * count b) (drop (trailer b) b) (rw length-drop (omega arith))
+
+-- the lane count of the new record as it is written, and the record
+abbrev lane : Edition → ℕ → ℕ → List ℕ
+lane ed k n = laneByte ed (lanes (kindOf k) n)
+
+abbrev presetRecord : Edition → ℕ → ℕ → List ℕ → List ℕ
+presetRecord ed k n u = recordOf ed k n (lanes (kindOf k) n) u
 
 -- the new book, cut before its count, before its last offset, before its offsets, before its record
-module _ (b : List ℕ) (k n : ℕ) (u : List ℕ) where
-  before-count : appended b k n u ≡ (records b ++ (recordOf k n u ++ (offsets b ++ two (trailer b)))) ++ (two (count b + 1) ++ [])
+module _ (ed : Edition) (b : List ℕ) (k n : ℕ) (u : List ℕ) where
+  before-count : appended ed b k n u ≡ (records b ++ (presetRecord ed k n u ++ (offsets b ++ two (trailer b)))) ++ (two (count b + 1) ++ [])
   unfolding appended
   before-count = simp (append-assoc, append-nil)
 
-  before-offset : appended b k n u ≡ ((records b ++ recordOf k n u) ++ offsets b) ++ (two (trailer b) ++ two (count b + 1))
+  before-offset : appended ed b k n u ≡ ((records b ++ presetRecord ed k n u) ++ offsets b) ++ (two (trailer b) ++ two (count b + 1))
   unfolding appended
   before-offset = simp append-assoc
 
-  before-offsets : appended b k n u ≡ (records b ++ recordOf k n u) ++ (offsets b ++ (two (trailer b) ++ two (count b + 1)))
+  before-offsets : appended ed b k n u ≡ (records b ++ presetRecord ed k n u) ++ (offsets b ++ (two (trailer b) ++ two (count b + 1)))
   unfolding appended
   before-offsets = simp append-assoc
 
   abbrev rest : List ℕ
   rest = offsets b ++ (two (trailer b) ++ two (count b + 1))
 
-  before-record : appended b k n u ≡ records b ++ (k ∷ n ∷ (two (length u) ++ (u ++ rest)))
+  before-record : appended ed b k n u ≡ records b ++ (k ∷ n ∷ (lane ed k n ++ (two (length u) ++ (u ++ rest))))
   unfolding appended recordOf
   before-record = simp append-assoc
 
-module _ (b : List ℕ) (k n : ℕ) (u : List ℕ) (a : Accepted b) (small : length b + added u ≤ 65535) where
+-- the lane count of a record in a book whose bytes are another's there, and in one that has the new record at byte o
+lanesAt-same : (ed : Edition) (l m : List ℕ) (o : ℕ) → kindAt l o ≡ kindAt m o → rankAt l o ≡ rankAt m o
+    → (3 ≤ countPlace ed → getD l (o + 2) 0 ≡ getD m (o + 2) 0) → lanesAt ed l o ≡ lanesAt ed m o
+lanesAt-same First l m o p q r = rw (p, q)
+lanesAt-same Second l m o p q r = r (omega arith)
+
+lanesAt-of : (ed : Edition) (m x y : List ℕ) (o k n : ℕ) → m ≡ x ++ (k ∷ n ∷ (lane ed k n ++ y)) → length x ≡ o → kindAt m o ≡ k → rankAt m o ≡ n
+    → lanesAt ed m o ≡ lanes (kindOf k) n
+lanesAt-of First m x y o k n e f p q = rw (p, q)
+lanesAt-of Second m x y o k n e f p q = rw e (getD-past x (k ∷ n ∷ (lane Second k n ++ y)) o 2 f)
+
+module _ (ed : Edition) (b : List ℕ) (k n : ℕ) (u : List ℕ) (a : Accepted ed b) (small : length b + added ed u ≤ 65535) where
   -- ---- numbers of the new book
 
-  pub count-appended : count (appended b k n u) ≡ count b + 1
+  pub count-appended : count (appended ed b k n u) ≡ count b + 1
   unfolding count
   count-appended =
-      let front = records b ++ (recordOf k n u ++ (offsets b ++ two (trailer b))) in
-      let h = trailer-count b a in
-      let l = length-appended b k n u a in
-      let f : length front ≡ length b + (headSize + length u) = simp (length-append, length-records, length-recordOf, length-offsets b a, length-two) (omega arith) in
-      twoAt-written (appended b k n u) front [] (length (appended b k n u) - 2) (count b + 1) (before-count b k n u) (omega arith) (omega arith)
+      let front = records b ++ (presetRecord ed k n u ++ (offsets b ++ two (trailer b))) in
+      let h = trailer-count ed b a in
+      let l = length-appended ed b k n u a in
+      let f : length front ≡ length b + (headSize ed + length u) = simp (length-append, length-records, length-recordOf, length-offsets ed b a, length-two) (omega arith) in
+      twoAt-written (appended ed b k n u) front [] (length (appended ed b k n u) - 2) (count b + 1) (before-count ed b k n u) (omega arith) (omega arith)
 
-  pub trailer-appended : trailer (appended b k n u) ≡ trailer b + (headSize + length u)
+  pub trailer-appended : trailer (appended ed b k n u) ≡ trailer b + (headSize ed + length u)
   trailer-appended =
-      let l = length-appended b k n u a in
-      let h = trailer-count b a in
-      let r = trailer-read (appended b k n u) (count b + 1) (sym count-appended) in
+      let l = length-appended ed b k n u a in
+      let h = trailer-count ed b a in
+      let r = trailer-read (appended ed b k n u) (count b + 1) (sym count-appended) in
       omega arith
 
-  pub offset-appended-last : offset (appended b k n u) (count b) ≡ trailer b
+  pub offset-appended-last : offset (appended ed b k n u) (count b) ≡ trailer b
   unfolding offset
   offset-appended-last =
-      let h = trailer-count b a in
-      let front = (records b ++ recordOf k n u) ++ offsets b in
-      let f : length front ≡ trailer b + (headSize + length u) + 2 * count b = simp (length-append, length-records, length-recordOf, length-offsets b a) in
+      let h = trailer-count ed b a in
+      let front = (records b ++ presetRecord ed k n u) ++ offsets b in
+      let f : length front ≡ trailer b + (headSize ed + length u) + 2 * count b = simp (length-append, length-records, length-recordOf, length-offsets ed b a) in
       rw trailer-appended
-      (twoAt-written (appended b k n u) front (two (count b + 1)) (trailer b + (headSize + length u) + 2 * count b) (trailer b) (before-offset b k n u) (sym f) (omega arith))
+      (twoAt-written (appended ed b k n u) front (two (count b + 1)) (trailer b + (headSize ed + length u) + 2 * count b) (trailer b) (before-offset ed b k n u) (sym f) (omega arith))
 
-  pub offset-appended : (i : ℕ) → i < count b → offset (appended b k n u) i ≡ offset b i
+  pub offset-appended : (i : ℕ) → i < count b → offset (appended ed b k n u) i ≡ offset b i
   unfolding offset
   offset-appended i h =
-      let s = trailer-count b a in
-      let front = records b ++ recordOf k n u in
-      let f : trailer b + (headSize + length u) ≡ length front = simp (length-append, length-records, length-recordOf) in
-      let l = length-offsets b a in
-      rw (trailer-appended, before-offsets b k n u, f, twoAt-append-right front (rest b k n u) (2 * i), twoAt-append-left (offsets b) (two (trailer b) ++ two (count b + 1)) (2 * i) (omega arith))
+      let s = trailer-count ed b a in
+      let front = records b ++ presetRecord ed k n u in
+      let f : trailer b + (headSize ed + length u) ≡ length front = simp (length-append, length-records, length-recordOf) in
+      let l = length-offsets ed b a in
+      rw (trailer-appended, before-offsets ed b k n u, f, twoAt-append-right front (rest ed b k n u) (2 * i), twoAt-append-left (offsets b) (two (trailer b) ++ two (count b + 1)) (2 * i) (omega arith))
       (twoAt-middle b (trailer b) (2 * count b) (2 * i) (omega arith))
 
   -- ---- its records
 
   -- a byte before the trailer is the old book's
-  getD-appended : (p : ℕ) → p < trailer b → getD (appended b k n u) p 0 ≡ getD b p 0
+  getD-appended : (p : ℕ) → p < trailer b → getD (appended ed b k n u) p 0 ≡ getD b p 0
   unfolding appended
   getD-appended p h =
       let l = length-records b in
-      List·getD-append (records b) (recordOf k n u ++ rest b k n u) 0 p (omega arith) ∙ getD-take (trailer b) b p 0 h
+      List·getD-append (records b) (presetRecord ed k n u ++ rest ed b k n u) 0 p (omega arith) ∙ getD-take (trailer b) b p 0 h
 
-  pub letterCountAt-appended : (o : ℕ) → o + headSize ≤ trailer b → letterCountAt (appended b k n u) o ≡ letterCountAt b o
+  pub letterCountAt-appended : (o : ℕ) → o + headSize ed ≤ trailer b → letterCountAt ed (appended ed b k n u) o ≡ letterCountAt ed b o
   letterCountAt-appended o h =
-      twoAt-agree (appended b k n u) b (o + 2) (getD-appended (o + 2) (omega arith)) (getD-appended (o + 2 + 1) (omega arith))
+      let p = o + countPlace ed in
+      twoAt-agree (appended ed b k n u) b p (getD-appended p (omega arith)) (getD-appended (p + 1) (omega arith))
 
-  pub lettersAt-appended : (o : ℕ) → endAt b o ≤ trailer b → lettersAt (appended b k n u) o ≡ lettersAt b o
+  pub lettersAt-appended : (o : ℕ) → endAt ed b o ≤ trailer b → lettersAt ed (appended ed b k n u) o ≡ lettersAt ed b o
   lettersAt-appended o h =
       let l = length-records b in
-      let m = twoAt b (o + 2) in
+      let m = letterCountAt ed b o in
       rw (letterCountAt-appended o (omega arith))
-      (ap (λ x. take m (drop (o + headSize) x)) (before-record b k n u)
-      ∙ middle-append (records b) (k ∷ n ∷ (two (length u) ++ (u ++ rest b k n u))) (o + headSize) m (omega arith)
-      ∙ sym (middle-append (records b) (drop (trailer b) b) (o + headSize) m (omega arith))
-      ∙ ap (λ x. take m (drop (o + headSize) x)) (take-append-drop (trailer b) b))
+      (ap (λ x. take m (drop (o + headSize ed) x)) (before-record ed b k n u)
+      ∙ middle-append (records b) (k ∷ n ∷ (lane ed k n ++ (two (length u) ++ (u ++ rest ed b k n u)))) (o + headSize ed) m (omega arith)
+      ∙ sym (middle-append (records b) (drop (trailer b) b) (o + headSize ed) m (omega arith))
+      ∙ ap (λ x. take m (drop (o + headSize ed) x)) (take-append-drop (trailer b) b))
 
-  pub kindAt-appended : (o : ℕ) → o + headSize ≤ trailer b → kindAt (appended b k n u) o ≡ kindAt b o
-  kindAt-appended o h = getD-appended o (omega arith)
+  pub kindAt-appended : (o : ℕ) → o + headSize ed ≤ trailer b → kindAt (appended ed b k n u) o ≡ kindAt b o
+  kindAt-appended o h = getD-appended o (omega (arith, two-le-countPlace ed))
 
-  pub rankAt-appended : (o : ℕ) → o + headSize ≤ trailer b → rankAt (appended b k n u) o ≡ rankAt b o
-  rankAt-appended o h = getD-appended (o + 1) (omega arith)
+  pub rankAt-appended : (o : ℕ) → o + headSize ed ≤ trailer b → rankAt (appended ed b k n u) o ≡ rankAt b o
+  rankAt-appended o h = getD-appended (o + 1) (omega (arith, two-le-countPlace ed))
 
-  pub endAt-appended : (o : ℕ) → o + headSize ≤ trailer b → endAt (appended b k n u) o ≡ endAt b o
-  endAt-appended o h = ap (λ m. o + headSize + m) (letterCountAt-appended o h)
+  pub lanesAt-appended : (o : ℕ) → o + headSize ed ≤ trailer b → lanesAt ed (appended ed b k n u) o ≡ lanesAt ed b o
+  lanesAt-appended o h = lanesAt-same ed (appended ed b k n u) b o (kindAt-appended o h) (rankAt-appended o h)
+      (λ g. getD-appended (o + 2) (omega arith))
 
-  pub kindAt-appended-last : kindAt (appended b k n u) (trailer b) ≡ k
+  pub endAt-appended : (o : ℕ) → o + headSize ed ≤ trailer b → endAt ed (appended ed b k n u) o ≡ endAt ed b o
+  endAt-appended o h = ap (λ m. o + headSize ed + m) (letterCountAt-appended o h)
+
+  pub kindAt-appended-last : kindAt (appended ed b k n u) (trailer b) ≡ k
   kindAt-appended-last =
-      rw (before-record b k n u) (getD-at (records b) k (n ∷ (two (length u) ++ (u ++ rest b k n u))) 0 (trailer b) (length-records b))
+      rw (before-record ed b k n u) (getD-at (records b) k (n ∷ (lane ed k n ++ (two (length u) ++ (u ++ rest ed b k n u)))) 0 (trailer b) (length-records b))
 
-  pub rankAt-appended-last : rankAt (appended b k n u) (trailer b) ≡ n
+  pub rankAt-appended-last : rankAt (appended ed b k n u) (trailer b) ≡ n
   rankAt-appended-last =
-      rw (before-record b k n u) (getD-past (records b) (k ∷ n ∷ (two (length u) ++ (u ++ rest b k n u))) (trailer b) 1 (length-records b))
+      rw (before-record ed b k n u) (getD-past (records b) (k ∷ n ∷ (lane ed k n ++ (two (length u) ++ (u ++ rest ed b k n u)))) (trailer b) 1 (length-records b))
 
-  pub letterCountAt-appended-last : letterCountAt (appended b k n u) (trailer b) ≡ length u
+  pub lanesAt-appended-last : lanesAt ed (appended ed b k n u) (trailer b) ≡ lanes (kindOf k) n
+  lanesAt-appended-last =
+      lanesAt-of ed (appended ed b k n u) (records b) (two (length u) ++ (u ++ rest ed b k n u)) (trailer b) k n (before-record ed b k n u) (length-records b)
+      kindAt-appended-last rankAt-appended-last
+
+  pub letterCountAt-appended-last : letterCountAt ed (appended ed b k n u) (trailer b) ≡ length u
   letterCountAt-appended-last =
-      let front = records b ++ (k ∷ n ∷ []) in
-      let f : length front ≡ trailer b + 2 = simp (length-append, length-records) in
-      twoAt-written (appended b k n u) front (u ++ rest b k n u) (trailer b + 2) (length u) (before-record b k n u ∙ simp append-assoc) (sym f) (omega arith)
+      let front = records b ++ (k ∷ n ∷ lane ed k n) in
+      let w = length-laneByte ed (lanes (kindOf k) n) in
+      let f : length front ≡ trailer b + countPlace ed = simp (length-append, length-records) (omega arith) in
+      twoAt-written (appended ed b k n u) front (u ++ rest ed b k n u) (trailer b + countPlace ed) (length u) (before-record ed b k n u ∙ simp append-assoc)
+      (sym f) (omega arith)
 
-  pub lettersAt-appended-last : lettersAt (appended b k n u) (trailer b) ≡ u
+  pub lettersAt-appended-last : lettersAt ed (appended ed b k n u) (trailer b) ≡ u
   lettersAt-appended-last =
-      let front = records b ++ (k ∷ n ∷ two (length u)) in
-      let f : length front ≡ trailer b + headSize = simp (length-append, length-records, length-two) in
-      let cut : appended b k n u ≡ front ++ (u ++ rest b k n u) = before-record b k n u ∙ simp append-assoc in
-      rw (letterCountAt-appended-last, cut, drop-at front (u ++ rest b k n u) (trailer b + headSize) f) (take-at u (rest b k n u) (length u) refl)
+      let front = records b ++ (k ∷ n ∷ (lane ed k n ++ two (length u))) in
+      let w = length-laneByte ed (lanes (kindOf k) n) in
+      let f : length front ≡ trailer b + headSize ed = simp (length-append, length-records, length-two) (omega arith) in
+      let cut : appended ed b k n u ≡ front ++ (u ++ rest ed b k n u) = before-record ed b k n u ∙ simp append-assoc in
+      rw (letterCountAt-appended-last, cut, drop-at front (u ++ rest ed b k n u) (trailer b + headSize ed) f) (take-at u (rest ed b k n u) (length u) refl)
 
-  pub endAt-appended-last : endAt (appended b k n u) (trailer b) ≡ trailer (appended b k n u)
+  pub endAt-appended-last : endAt ed (appended ed b k n u) (trailer b) ≡ trailer (appended ed b k n u)
   endAt-appended-last = rw (letterCountAt-appended-last, trailer-appended) (omega arith)

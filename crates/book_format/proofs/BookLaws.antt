@@ -15,7 +15,9 @@ use borrow.Author.Tests.{eq-eqb, ne-eqb, lt-ltb, le-ltb, eqb-true, ltb-false, no
 use Rattle.coxeter.specs.Checks.{check, _then_}
 use Rattle.coxeter.proofs.Basics.{or-false-left, or-false-right}
 use Rattle.coxeter.proofs.Refusals.{then-zero, check-zero}
-use Rattle.book_format.specs.Books.{twoAt, count, trailer, offset, endAt, wrongSize, wrongCount, misplacedFrom, misplaced, bookRefusal, headSize}
+use Rattle.book_format.specs.declared.Edition.{Edition}
+use Rattle.book_format.specs.declared.Edition.the-variants.{First, Second}
+use Rattle.book_format.specs.Books.{twoAt, count, trailer, offset, endAt, wrongSize, wrongCount, misplacedFrom, misplaced, bookRefusal, countPlace, headSize}
 
 -- ---- checks 1 to 3, in the order of the code: c is the count as it was read, t the answer of the walk
 
@@ -23,22 +25,22 @@ pub count-read : (b : List ℕ) (c : ℕ) → c ≡ twoAt b (length b - 2) → c
 unfolding count
 count-read b c e = e
 
-module _ (b : List ℕ) where
-  pub bookRefusal-small : length b < 2 → bookRefusal b ≡ 1
+module _ (ed : Edition) (b : List ℕ) where
+  pub bookRefusal-small : length b < 2 → bookRefusal ed b ≡ 1
   unfolding bookRefusal wrongSize
   bookRefusal-small h = rw (lt-ltb (length b) 2 h)
 
-  pub bookRefusal-large : 2 ≤ length b → 65535 < length b → bookRefusal b ≡ 1
+  pub bookRefusal-large : 2 ≤ length b → 65535 < length b → bookRefusal ed b ≡ 1
   unfolding bookRefusal wrongSize
   bookRefusal-large h g = rw (le-ltb (length b) 2 h, lt-ltb 65535 (length b) g)
 
-  pub bookRefusal-count : (c : ℕ) → 2 ≤ length b → length b ≤ 65535 → c ≡ twoAt b (length b - 2) → length b < 2 * c + 2 → bookRefusal b ≡ 2
+  pub bookRefusal-count : (c : ℕ) → 2 ≤ length b → length b ≤ 65535 → c ≡ twoAt b (length b - 2) → length b < 2 * c + 2 → bookRefusal ed b ≡ 2
   unfolding bookRefusal wrongSize wrongCount
   bookRefusal-count c h g e f =
       rw (le-ltb (length b) 2 h, le-ltb 65535 (length b) g, ← count-read b c e, lt-ltb (length b) (2 * c + 2) f)
 
-  pub bookRefusal-walk : (c : ℕ) (t : Bool) → 2 ≤ length b → length b ≤ 65535 → c ≡ twoAt b (length b - 2) → 2 * c + 2 ≤ length b → t ≡ misplaced b
-      → bookRefusal b ≡ check 3 t
+  pub bookRefusal-walk : (c : ℕ) (t : Bool) → 2 ≤ length b → length b ≤ 65535 → c ≡ twoAt b (length b - 2) → 2 * c + 2 ≤ length b → t ≡ misplaced ed b
+      → bookRefusal ed b ≡ check 3 t
   unfolding bookRefusal wrongSize wrongCount
   bookRefusal-walk c t h g e f q =
       rw (le-ltb (length b) 2 h, le-ltb 65535 (length b) g, ← count-read b c e, le-ltb (length b) (2 * c + 2) f, q)
@@ -54,104 +56,118 @@ pub offset-read : (b : List ℕ) (c i x : ℕ) → c ≡ count b → x ≡ twoAt
 unfolding offset
 offset-read b c i x e q = rw (← trailer-read b c e) (sym q)
 
--- the tests at record i, which has to begin at byte o, in the order of the code: x is its offset, l its letter count
-module _ (b : List ℕ) (c i o x : ℕ) (e : c ≡ count b) (h : i < c) (q : x ≡ twoAt b (length b - (2 * c + 2) + 2 * i)) where
+-- where the record at byte o ends, as the code computes it: p is the place of its letter count, l the letter count
+pub end-read : (ed : Edition) (b : List ℕ) (o p l : ℕ) → p ≡ countPlace ed → l ≡ twoAt b (o + p) → o + (p + 2) + l ≡ endAt ed b o
+end-read ed b o p l w y = rw (y, w)
+
+pub end-read-le : (ed : Edition) (b : List ℕ) (o p l : ℕ) → p ≡ countPlace ed → l ≡ twoAt b (o + p) → endAt ed b o ≤ length b → o + (p + 2) + l ≤ length b
+end-read-le ed b o p l w y h = rw (end-read ed b o p l w y) h
+
+-- the tests at record i, which has to begin at byte o, in the order of the code: x is its offset, l its letter count, which has the place p in a record
+module _ (ed : Edition) (b : List ℕ) (c i o x : ℕ) (e : c ≡ count b) (h : i < c) (q : x ≡ twoAt b (length b - (2 * c + 2) + 2 * i)) (p : ℕ) (w : p ≡ countPlace ed) where
   left-next : c - i ≡ suc (c - (i + 1))
   left-next = omega arith
 
-  pub misplaced-offset : (x ≡ o → ⊥) → misplacedFrom b (c - i) i o ≡ true
+  pub misplaced-offset : (x ≡ o → ⊥) → misplacedFrom ed b (c - i) i o ≡ true
   unfolding misplacedFrom
   misplaced-offset f = rw (left-next, offset-read b c i x e q, ne-eqb x o f)
 
-  pub misplaced-room : x ≡ o → length b - (2 * c + 2) < o + headSize → misplacedFrom b (c - i) i o ≡ true
+  pub misplaced-room : x ≡ o → length b - (2 * c + 2) < o + (p + 2) → misplacedFrom ed b (c - i) i o ≡ true
   unfolding misplacedFrom
-  misplaced-room p l =
+  misplaced-room s l =
       let t = trailer-read b c e in
-      rw (left-next, offset-read b c i x e q, eq-eqb x o p, lt-ltb (trailer b) (endAt b o) (omega arith))
+      rw (left-next, offset-read b c i x e q, eq-eqb x o s, lt-ltb (trailer b) (endAt ed b o) (omega arith))
 
-  pub misplaced-end : (l : ℕ) → x ≡ o → l ≡ twoAt b (o + 2) → length b - (2 * c + 2) < o + headSize + l → misplacedFrom b (c - i) i o ≡ true
+  pub misplaced-end : (l : ℕ) → x ≡ o → l ≡ twoAt b (o + p) → length b - (2 * c + 2) < o + (p + 2) + l → misplacedFrom ed b (c - i) i o ≡ true
   unfolding misplacedFrom
-  misplaced-end l p y g =
+  misplaced-end l s y g =
       let t = trailer-read b c e in
-      rw (left-next, offset-read b c i x e q, eq-eqb x o p, lt-ltb (trailer b) (endAt b o) (omega arith))
+      let z = end-read ed b o p l w y in
+      rw (left-next, offset-read b c i x e q, eq-eqb x o s, lt-ltb (trailer b) (endAt ed b o) (omega arith))
 
-  pub misplaced-step : (l : ℕ) → x ≡ o → l ≡ twoAt b (o + 2) → o + headSize + l ≤ length b - (2 * c + 2)
-      → misplacedFrom b (c - i) i o ≡ misplacedFrom b (c - (i + 1)) (i + 1) (o + headSize + l)
+  pub misplaced-step : (l : ℕ) → x ≡ o → l ≡ twoAt b (o + p) → o + (p + 2) + l ≤ length b - (2 * c + 2)
+      → misplacedFrom ed b (c - i) i o ≡ misplacedFrom ed b (c - (i + 1)) (i + 1) (o + (p + 2) + l)
   unfolding misplacedFrom
-  misplaced-step l p y g =
+  misplaced-step l s y g =
       let t = trailer-read b c e in
-      rw (left-next, offset-read b c i x e q, eq-eqb x o p, le-ltb (trailer b) (endAt b o) (omega arith), add-one i, y)
+      let z = end-read ed b o p l w y in
+      rw (left-next, offset-read b c i x e q, eq-eqb x o s, le-ltb (trailer b) (endAt ed b o) (omega arith), add-one i, z)
 
-pub misplaced-start : (b : List ℕ) (c : ℕ) → c ≡ count b → misplaced b ≡ misplacedFrom b (c - 0) 0 0
+pub misplaced-start : (ed : Edition) (b : List ℕ) (c : ℕ) → c ≡ count b → misplaced ed b ≡ misplacedFrom ed b (c - 0) 0 0
 unfolding misplaced
-misplaced-start b c e = let z : c - 0 ≡ count b = omega arith in rw z
+misplaced-start ed b c e = let z : c - 0 ≡ count b = omega arith in rw z
 
-pub misplaced-last : (b : List ℕ) (c i o : ℕ) → c ≡ count b → c ≤ i → misplacedFrom b (c - i) i o ≡ not (eqb o (length b - (2 * c + 2)))
+pub misplaced-last : (ed : Edition) (b : List ℕ) (c i o : ℕ) → c ≡ count b → c ≤ i → misplacedFrom ed b (c - i) i o ≡ not (eqb o (length b - (2 * c + 2)))
 unfolding misplacedFrom
-misplaced-last b c i o e h = let z : c - i ≡ 0 = omega arith in rw (z, trailer-read b c e)
+misplaced-last ed b c i o e h = let z : c - i ≡ 0 = omega arith in rw (z, trailer-read b c e)
+
+-- every record has a kind and a rank
+pub two-le-countPlace : (ed : Edition) → 2 ≤ countPlace ed
+two-le-countPlace First = omega arith
+two-le-countPlace Second = omega arith
 
 -- ---- accepted books
 
 -- a book that checks 1 to 3 accept
-pub record Accepted (b : List ℕ) : Type 0 where
+pub record Accepted (ed : Edition) (b : List ℕ) : Type 0 where
   pub least : 2 ≤ length b
   pub most : length b ≤ 65535
   pub fits : 2 * count b + 2 ≤ length b
-  pub placed : misplaced b ≡ false
+  pub placed : misplaced ed b ≡ false
 
-pub accepted : (b : List ℕ) → bookRefusal b ≡ 0 → Accepted b
+pub accepted : (ed : Edition) (b : List ℕ) → bookRefusal ed b ≡ 0 → Accepted ed b
 unfolding bookRefusal wrongSize wrongCount
-accepted b e =
-    let a = then-zero (check 1 (wrongSize b)) (check 2 (wrongCount b) then check 3 (misplaced b)) e in
-    let c = then-zero (check 2 (wrongCount b)) (check 3 (misplaced b)) (a .1) in
+accepted ed b e =
+    let a = then-zero (check 1 (wrongSize b)) (check 2 (wrongCount b) then check 3 (misplaced ed b)) e in
+    let c = then-zero (check 2 (wrongCount b)) (check 3 (misplaced ed b)) (a .1) in
     let size : wrongSize b ≡ false = check-zero 0 (wrongSize b) (a .0) in
     record {
       least = ltb-false (length b) 2 (or-false-left (ltb (length b) 2) (ltb 65535 (length b)) size);
       most = ltb-false 65535 (length b) (or-false-right (ltb (length b) 2) (ltb 65535 (length b)) size);
       fits = ltb-false (length b) (2 * count b + 2) (check-zero 1 (wrongCount b) (c .0));
-      placed = check-zero 2 (misplaced b) (c .1);
+      placed = check-zero 2 (misplaced ed b) (c .1);
     }
 
 -- the same, from what the code has of it
-pub accepted-read : (b : List ℕ) (r : ℕ) → r ≡ bookRefusal b → r ≡ 0 → Accepted b
-accepted-read b r e z = accepted b (sym e ∙ z)
+pub accepted-read : (ed : Edition) (b : List ℕ) (r : ℕ) → r ≡ bookRefusal ed b → r ≡ 0 → Accepted ed b
+accepted-read ed b r e z = accepted ed b (sym e ∙ z)
 
 -- what check 3 says of the first of the records that are left
-pub record First (b : List ℕ) (t i o : ℕ) : Type 0 where
+pub record Leading (ed : Edition) (b : List ℕ) (t i o : ℕ) : Type 0 where
   pub begins : offset b i ≡ o
-  pub ends : endAt b o ≤ trailer b
-  pub others : misplacedFrom b t (suc i) (endAt b o) ≡ false
+  pub ends : endAt ed b o ≤ trailer b
+  pub others : misplacedFrom ed b t (suc i) (endAt ed b o) ≡ false
 
-pub first : (b : List ℕ) (t i o : ℕ) → misplacedFrom b (suc t) i o ≡ false → First b t i o
+pub first : (ed : Edition) (b : List ℕ) (t i o : ℕ) → misplacedFrom ed b (suc t) i o ≡ false → Leading ed b t i o
 unfolding misplacedFrom
-first b t i o e =
+first ed b t i o e =
     let begun = not (eqb (offset b i) o) in
-    let over = ltb (trailer b) (endAt b o) in
-    let more = misplacedFrom b t (suc i) (endAt b o) in
+    let over = ltb (trailer b) (endAt ed b o) in
+    let more = misplacedFrom ed b t (suc i) (endAt ed b o) in
     let r : (over || more) ≡ false = or-false-right begun (over || more) e in
     record {
       begins = eqb-true (offset b i) o (not-false (eqb (offset b i) o) (or-false-left begun (over || more) e));
-      ends = ltb-false (trailer b) (endAt b o) (or-false-left over more r);
+      ends = ltb-false (trailer b) (endAt ed b o) (or-false-left over more r);
       others = or-false-right over more r;
     }
 
-record-inside : (b : List ℕ) (t i o j : ℕ) → misplacedFrom b t i o ≡ false → j < t → endAt b (offset b (i + j)) ≤ trailer b
-record-inside b zero i o j e h = absurd (omega arith)
-record-inside b (suc t) i o zero e h = let f = first b t i o e in rw (add-zero i, f .begins) (f .ends)
-record-inside b (suc t) i o (suc j) e h =
-    let f = first b t i o e in
-    rw (add-suc i j, ← suc-add i j) (record-inside b t (suc i) (endAt b o) j (f .others) (omega arith))
+record-inside : (ed : Edition) (b : List ℕ) (t i o j : ℕ) → misplacedFrom ed b t i o ≡ false → j < t → endAt ed b (offset b (i + j)) ≤ trailer b
+record-inside ed b zero i o j e h = absurd (omega arith)
+record-inside ed b (suc t) i o zero e h = let f = first ed b t i o e in rw (add-zero i, f .begins) (f .ends)
+record-inside ed b (suc t) i o (suc j) e h =
+    let f = first ed b t i o e in
+    rw (add-suc i j, ← suc-add i j) (record-inside ed b t (suc i) (endAt ed b o) j (f .others) (omega arith))
 
 -- each record ends before the trailer
 pub trailer-le : (b : List ℕ) → trailer b ≤ length b
 unfolding trailer
 trailer-le b = omega arith
 
-pub endAt-offset-le : (b : List ℕ) (i : ℕ) → Accepted b → i < count b → endAt b (offset b i) ≤ trailer b
+pub endAt-offset-le : (ed : Edition) (b : List ℕ) (i : ℕ) → Accepted ed b → i < count b → endAt ed b (offset b i) ≤ trailer b
 unfolding misplaced
-endAt-offset-le b i a h = rw zero-add at (record-inside b (count b) 0 0 i (a .placed) h)
+endAt-offset-le ed b i a h = rw zero-add at (record-inside ed b (count b) 0 0 i (a .placed) h)
 
 -- the same as code meets it: c is the count, o the offset
-pub endAt-read-le : (b : List ℕ) (i c o : ℕ) → Accepted b → i < count b → c ≡ twoAt b (length b - 2) → o ≡ twoAt b (length b - (2 * c + 2) + 2 * i)
-    → endAt b o ≤ length b
-endAt-read-le b i c o a h q p = rw (← offset-read b c i o (count-read b c q) p) (le-trans (endAt-offset-le b i a h) (trailer-le b))
+pub endAt-read-le : (ed : Edition) (b : List ℕ) (i c o : ℕ) → Accepted ed b → i < count b → c ≡ twoAt b (length b - 2) → o ≡ twoAt b (length b - (2 * c + 2) + 2 * i)
+    → endAt ed b o ≤ length b
+endAt-read-le ed b i c o a h q p = rw (← offset-read b c i o (count-read b c q) p) (le-trans (endAt-offset-le ed b i a h) (trailer-le b))

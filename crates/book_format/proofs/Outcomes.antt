@@ -2,15 +2,19 @@
 -- does. Shown by taking the definitions apart into their single tests.
 -- Assumes nothing.
 use mathlib.Core.Path.{_≡_, refl, sym, ap, _∙_}
-use mathlib.Core.Bool.{Bool, true, false}
+use mathlib.Core.Bool.{Bool, true, false, not}
 use mathlib.Core.List.{List, [], _∷_}
-use Prim.Native.Nat.{ℕ, _≤_, _<_}
+use Prim.Native.Nat.{ℕ, _+_, _≤_, _<_}
 use native.Mathlib.Decide.{ℕ-discrete}
 use native.Mathlib.Omega.{arith}
-use lib.ListN.{length}
-use Rattle.coxeter.specs.Kinds.{pick, kindOf}
+use lib.Dec.{eqb}
+use lib.ListN.{length, getD}
+use borrow.Author.Tests.{eq-eqb}
+use Rattle.coxeter.specs.Kinds.{pick, kindOf, lanes}
 use Rattle.coxeter.specs.Checks.{check, _then_, wrongKind, tooLong, wrongLetter, wordRefusal}
-use Rattle.book_format.specs.Books.{firstOf, wrongSize, wrongCount, misplaced, noSuchPreset, tooLarge, offset, kindAt, rankAt, lettersAt, wrongRankInBook, bookRankRefusal, bookRefusal, recordRefusal, presetRefusal, appended, appendRefusal}
+use Rattle.book_format.specs.declared.Edition.{Edition}
+use Rattle.book_format.specs.declared.Edition.the-variants.{First, Second}
+use Rattle.book_format.specs.Books.{firstOf, wrongSize, wrongCount, misplaced, noSuchPreset, tooLarge, offset, kindAt, rankAt, lettersAt, wrongRankInBook, wrongLaneCount, bookRankRefusal, bookRefusal, recordRefusal, presetRefusal, appended, appendRefusal}
 use Rattle.coxeter.proofs.Basics.{by-pick}
 use Rattle.coxeter.proofs.Refusals.{then-none, then-some, then-assoc}
 
@@ -20,99 +24,119 @@ check-then m false r h = then-none 0 r refl
 
 -- ---- a book
 
-pub bookRefusal-firstOf : (b : List ℕ) → bookRefusal b ≡ firstOf ((1, wrongSize b) ∷ (2, wrongCount b) ∷ (3, misplaced b) ∷ [])
+pub bookRefusal-firstOf : (ed : Edition) (b : List ℕ) → bookRefusal ed b ≡ firstOf ((1, wrongSize b) ∷ (2, wrongCount b) ∷ (3, misplaced ed b) ∷ [])
 unfolding bookRefusal
-bookRefusal-firstOf b = rw (check-then 1 (wrongSize b) (check 2 (wrongCount b) then check 3 (misplaced b)) (omega arith), check-then 2 (wrongCount b) (check 3 (misplaced b)) (omega arith))
+bookRefusal-firstOf ed b = rw (check-then 1 (wrongSize b) (check 2 (wrongCount b) then check 3 (misplaced ed b)) (omega arith), check-then 2 (wrongCount b) (check 3 (misplaced ed b)) (omega arith))
 
 -- checks 1 to 3, and then others
-bookRefusal-then : (b : List ℕ) (r : ℕ) → (bookRefusal b then r) ≡ pick (wrongSize b) 1 (pick (wrongCount b) 2 (pick (misplaced b) 3 r))
+bookRefusal-then : (ed : Edition) (b : List ℕ) (r : ℕ) → (bookRefusal ed b then r) ≡ pick (wrongSize b) 1 (pick (wrongCount b) 2 (pick (misplaced ed b) 3 r))
 unfolding bookRefusal
-bookRefusal-then b r =
-    then-assoc (check 1 (wrongSize b)) (check 2 (wrongCount b) then check 3 (misplaced b)) r
+bookRefusal-then ed b r =
+    then-assoc (check 1 (wrongSize b)) (check 2 (wrongCount b) then check 3 (misplaced ed b)) r
     ∙ check-then 1 (wrongSize b) _ (omega arith)
     ∙ ap (pick (wrongSize b) 1)
-    (then-assoc (check 2 (wrongCount b)) (check 3 (misplaced b)) r
+    (then-assoc (check 2 (wrongCount b)) (check 3 (misplaced ed b)) r
     ∙ check-then 2 (wrongCount b) _ (omega arith)
-    ∙ ap (pick (wrongCount b) 2) (check-then 3 (misplaced b) r (omega arith)))
+    ∙ ap (pick (wrongCount b) 2) (check-then 3 (misplaced ed b) r (omega arith)))
 
 -- ---- a kind, a rank and a word
 
-rank-word : (k n : ℕ) (u : List ℕ) (r : ℕ)
-    → (bookRankRefusal k n then wordRefusal n u then r) ≡ pick (wrongKind k) 5 (pick (wrongRankInBook (kindOf k) n) 6 (pick (tooLong u) 7 (pick (wrongLetter n u) 8 r)))
-unfolding bookRankRefusal wordRefusal
-rank-word k n u r =
-    then-assoc (check 5 (wrongKind k)) (check 6 (wrongRankInBook (kindOf k) n)) _
+rank-then : (ed : Edition) (k n r : ℕ) → (bookRankRefusal ed k n then r) ≡ pick (wrongKind k) 5 (pick (wrongRankInBook ed (kindOf k) n) 6 r)
+unfolding bookRankRefusal
+rank-then ed k n r =
+    then-assoc (check 5 (wrongKind k)) (check 6 (wrongRankInBook ed (kindOf k) n)) r
     ∙ check-then 5 (wrongKind k) _ (omega arith)
-    ∙ ap (pick (wrongKind k) 5)
-    (check-then 6 (wrongRankInBook (kindOf k) n) _ (omega arith)
-    ∙ ap (pick (wrongRankInBook (kindOf k) n) 6)
-    (then-assoc (check 7 (tooLong u)) (check 8 (wrongLetter n u)) r
+    ∙ ap (pick (wrongKind k) 5) (check-then 6 (wrongRankInBook ed (kindOf k) n) r (omega arith))
+
+word-then : (n : ℕ) (u : List ℕ) (r : ℕ) → (wordRefusal n u then r) ≡ pick (tooLong u) 7 (pick (wrongLetter n u) 8 r)
+unfolding wordRefusal
+word-then n u r =
+    then-assoc (check 7 (tooLong u)) (check 8 (wrongLetter n u)) r
     ∙ check-then 7 (tooLong u) _ (omega arith)
-    ∙ ap (pick (tooLong u) 7) (check-then 8 (wrongLetter n u) r (omega arith))))
+    ∙ ap (pick (tooLong u) 7) (check-then 8 (wrongLetter n u) r (omega arith))
 
 none-last : (s : ℕ) → (s then 0) ≡ s
 none-last s = elim (ℕ-discrete s 0) [ yes z ↦ then-none s 0 z ∙ sym z | no f ↦ then-some s 0 f ]
 
 -- ---- a preset by its number, and appending
 
-pub presetRefusal-firstOf : (b : List ℕ) (i : ℕ) → let o = offset b i in
-    presetRefusal b i
+pub presetRefusal-firstOf : (ed : Edition) (b : List ℕ) (i : ℕ) → let o = offset b i in
+    presetRefusal ed b i
     ≡ firstOf
     ((1, wrongSize b)
     ∷ (2, wrongCount b)
-    ∷ (3, misplaced b)
+    ∷ (3, misplaced ed b)
     ∷ (4, noSuchPreset b i)
     ∷ (5, wrongKind (kindAt b o))
-    ∷ (6, wrongRankInBook (kindOf (kindAt b o)) (rankAt b o))
-    ∷ (7, tooLong (lettersAt b o))
-    ∷ (8, wrongLetter (rankAt b o) (lettersAt b o))
+    ∷ (6, wrongRankInBook ed (kindOf (kindAt b o)) (rankAt b o))
+    ∷ (17, wrongLaneCount ed b o)
+    ∷ (7, tooLong (lettersAt ed b o))
+    ∷ (8, wrongLetter (rankAt b o) (lettersAt ed b o))
     ∷ [])
 unfolding presetRefusal recordRefusal
-presetRefusal-firstOf b i =
+presetRefusal-firstOf ed b i =
     let o = offset b i in
-    let w = wordRefusal (rankAt b o) (lettersAt b o) in
-    bookRefusal-then b (check 4 (noSuchPreset b i) then bookRankRefusal (kindAt b o) (rankAt b o) then w)
-    ∙ ap (λ r. pick (wrongSize b) 1 (pick (wrongCount b) 2 (pick (misplaced b) 3 r)))
+    let k = kindAt b o in
+    let n = rankAt b o in
+    let u = lettersAt ed b o in
+    bookRefusal-then ed b (check 4 (noSuchPreset b i) then bookRankRefusal ed k n then check 17 (wrongLaneCount ed b o) then wordRefusal n u)
+    ∙ ap (λ r. pick (wrongSize b) 1 (pick (wrongCount b) 2 (pick (misplaced ed b) 3 r)))
     (check-then 4 (noSuchPreset b i) _ (omega arith)
     ∙ ap (pick (noSuchPreset b i) 4)
-    (ap (λ s. bookRankRefusal (kindAt b o) (rankAt b o) then s) (sym (none-last w)) ∙ rank-word (kindAt b o) (rankAt b o) (lettersAt b o) 0))
+    (rank-then ed k n (check 17 (wrongLaneCount ed b o) then wordRefusal n u)
+    ∙ ap (λ r. pick (wrongKind k) 5 (pick (wrongRankInBook ed (kindOf k) n) 6 r))
+    (check-then 17 (wrongLaneCount ed b o) _ (omega arith)
+    ∙ ap (pick (wrongLaneCount ed b o) 17) (sym (none-last (wordRefusal n u)) ∙ word-then n u 0))))
 
-pub appendRefusal-firstOf : (b : List ℕ) (k n : ℕ) (u : List ℕ)
-    → appendRefusal b k n u
+pub appendRefusal-firstOf : (ed : Edition) (b : List ℕ) (k n : ℕ) (u : List ℕ)
+    → appendRefusal ed b k n u
     ≡ firstOf
     ((1, wrongSize b)
     ∷ (2, wrongCount b)
-    ∷ (3, misplaced b)
+    ∷ (3, misplaced ed b)
     ∷ (5, wrongKind k)
-    ∷ (6, wrongRankInBook (kindOf k) n)
+    ∷ (6, wrongRankInBook ed (kindOf k) n)
     ∷ (7, tooLong u)
     ∷ (8, wrongLetter n u)
-    ∷ (13, tooLarge (length (appended b k n u)))
+    ∷ (13, tooLarge (length (appended ed b k n u)))
     ∷ [])
 unfolding appendRefusal
-appendRefusal-firstOf b k n u =
-    bookRefusal-then b (bookRankRefusal k n then wordRefusal n u then check 13 (tooLarge (length (appended b k n u))))
-    ∙ ap (λ r. pick (wrongSize b) 1 (pick (wrongCount b) 2 (pick (misplaced b) 3 r)))
-    (rank-word k n u (check 13 (tooLarge (length (appended b k n u)))))
+appendRefusal-firstOf ed b k n u =
+    bookRefusal-then ed b (bookRankRefusal ed k n then wordRefusal n u then check 13 (tooLarge (length (appended ed b k n u))))
+    ∙ ap (λ r. pick (wrongSize b) 1 (pick (wrongCount b) 2 (pick (misplaced ed b) 3 r)))
+    (rank-then ed k n (wordRefusal n u then check 13 (tooLarge (length (appended ed b k n u))))
+    ∙ ap (λ r. pick (wrongKind k) 5 (pick (wrongRankInBook ed (kindOf k) n) 6 r)) (word-then n u (check 13 (tooLarge (length (appended ed b k n u))))))
 
 -- ---- their ranges
 
 pick-le : (t : Bool) (m r x : ℕ) → m ≤ x → r ≤ x → pick t m r ≤ x
 pick-le t m r x = by-pick (λ s. s ≤ x) t m r
 
-pub bookRefusal-le : (b : List ℕ) → bookRefusal b ≤ 3
-bookRefusal-le b =
-    rw (bookRefusal-firstOf b)
-    (pick-le (wrongSize b) 1 _ 3 (omega arith) (pick-le (wrongCount b) 2 _ 3 (omega arith) (pick-le (misplaced b) 3 0 3 (omega arith) (omega arith))))
+pub bookRefusal-le : (ed : Edition) (b : List ℕ) → bookRefusal ed b ≤ 3
+bookRefusal-le ed b =
+    rw (bookRefusal-firstOf ed b)
+    (pick-le (wrongSize b) 1 _ 3 (omega arith) (pick-le (wrongCount b) 2 _ 3 (omega arith) (pick-le (misplaced ed b) 3 0 3 (omega arith) (omega arith))))
 
-pub presetRefusal-le : (b : List ℕ) (i : ℕ) → presetRefusal b i ≤ 8
-presetRefusal-le b i =
+pub presetRefusal-le : (ed : Edition) (b : List ℕ) (i : ℕ) → presetRefusal ed b i ≤ 17
+presetRefusal-le ed b i =
     let o = offset b i in
-    rw (presetRefusal-firstOf b i)
-    (pick-le (wrongSize b) 1 _ 8 (omega arith)
-    (pick-le (wrongCount b) 2 _ 8 (omega arith)
-    (pick-le (misplaced b) 3 _ 8 (omega arith)
-    (pick-le (noSuchPreset b i) 4 _ 8 (omega arith)
-    (pick-le (wrongKind (kindAt b o)) 5 _ 8 (omega arith)
-    (pick-le (wrongRankInBook (kindOf (kindAt b o)) (rankAt b o)) 6 _ 8 (omega arith)
-    (pick-le (tooLong (lettersAt b o)) 7 _ 8 (omega arith) (pick-le (wrongLetter (rankAt b o) (lettersAt b o)) 8 0 8 (omega arith) (omega arith)))))))))
+    rw (presetRefusal-firstOf ed b i)
+    (pick-le (wrongSize b) 1 _ 17 (omega arith)
+    (pick-le (wrongCount b) 2 _ 17 (omega arith)
+    (pick-le (misplaced ed b) 3 _ 17 (omega arith)
+    (pick-le (noSuchPreset b i) 4 _ 17 (omega arith)
+    (pick-le (wrongKind (kindAt b o)) 5 _ 17 (omega arith)
+    (pick-le (wrongRankInBook ed (kindOf (kindAt b o)) (rankAt b o)) 6 _ 17 (omega arith)
+    (pick-le (wrongLaneCount ed b o) 17 _ 17 (omega arith)
+    (pick-le (tooLong (lettersAt ed b o)) 7 _ 17 (omega arith)
+    (pick-le (wrongLetter (rankAt b o) (lettersAt ed b o)) 8 0 17 (omega arith) (omega arith))))))))))
+
+-- the first edition has no check 17: a record there passes it whatever its bytes
+pub first-lane-count : (b : List ℕ) (o : ℕ) → wrongLaneCount First b o ≡ false
+unfolding wrongLaneCount
+first-lane-count b o = let m = lanes (kindOf (kindAt b o)) (rankAt b o) in rw (eq-eqb m m refl)
+
+-- and in the second it compares the byte after the rank: m is the lane count that kind and rank make
+pub second-lane-count : (b : List ℕ) (o m : ℕ) → m ≡ lanes (kindOf (kindAt b o)) (rankAt b o) → not (eqb (getD b (o + 2) 0) m) ≡ wrongLaneCount Second b o
+unfolding wrongLaneCount
+second-lane-count b o m e = rw e

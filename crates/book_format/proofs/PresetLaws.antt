@@ -3,6 +3,7 @@
 -- Sections: answers; records; presets by their number; letters.
 -- Assumes nothing.
 use mathlib.Core.Path.{_≡_, sym, _∙_}
+use mathlib.Core.Bool.{Bool, true, false}
 use mathlib.Core.List.{List, []}
 use Prim.Native.Nat.{ℕ, _+_, _-_, _*_, _≤_, _<_}
 use native.Mathlib.Decide.{ℕ-discrete}
@@ -10,9 +11,10 @@ use native.Mathlib.Omega.{arith}
 use lib.ListN.{length, take, drop}
 use borrow.Author.Tests.{eq-eqb, ne-eqb, lt-leb, le-leb, leb-false}
 use Rattle.coxeter.specs.Checks.{check, _then_, rankRefusal, wordRefusal}
+use Rattle.book_format.specs.declared.Edition.{Edition}
 use Rattle.book_format.specs.declared.Opened.the-variants as opened
 use Rattle.book_format.specs.declared.Preset.the-variants as preset
-use Rattle.book_format.specs.Books.{twoAt, count, offset, headSize, kindAt, rankAt, letterCountAt, lettersAt}
+use Rattle.book_format.specs.Books.{twoAt, count, offset, countPlace, headSize, kindAt, rankAt, letterCountAt, lettersAt, wrongLaneCount}
 use Rattle.book_format.specs.Books.{noSuchPreset, bookRankRefusal, bookRefusal, recordRefusal, presetRefusal}
 use Rattle.book_format.specs.Calls.{openedOf, presetOf, checkedBook, presetAt, checkedRecord, checkedPreset, lettersStart, lettersOf}
 use Rattle.book_format.proofs.RankLaws.{bookRank-accepted}
@@ -21,166 +23,177 @@ use Rattle.coxeter.proofs.Refusals.{then-zero, check-zero, then-some}
 
 -- ---- answers
 
-pub checkedBook-refused : (b : List ℕ) (r : ℕ) → r ≡ bookRefusal b → (r ≡ 0 → ⊥) → checkedBook b ≡ opened.Refused r
+pub checkedBook-refused : (ed : Edition) (b : List ℕ) (r : ℕ) → r ≡ bookRefusal ed b → (r ≡ 0 → ⊥) → checkedBook ed b ≡ opened.Refused r
 unfolding checkedBook openedOf
-checkedBook-refused b r e f = rw (← e, ne-eqb r 0 f)
+checkedBook-refused ed b r e f = rw (← e, ne-eqb r 0 f)
 
-pub checkedBook-presets : (b : List ℕ) (r c : ℕ) → r ≡ bookRefusal b → r ≡ 0 → c ≡ twoAt b (length b - 2) → checkedBook b ≡ opened.Presets c
+pub checkedBook-presets : (ed : Edition) (b : List ℕ) (r c : ℕ) → r ≡ bookRefusal ed b → r ≡ 0 → c ≡ twoAt b (length b - 2) → checkedBook ed b ≡ opened.Presets c
 unfolding checkedBook openedOf
-checkedBook-presets b r c e z q = rw (← e, eq-eqb r 0 z, count-read b c q)
+checkedBook-presets ed b r c e z q = rw (← e, eq-eqb r 0 z, count-read b c q)
 
-presetAt-refused : (b : List ℕ) (o r : ℕ) → (r ≡ 0 → ⊥) → presetAt r b o ≡ preset.Refused r
+presetAt-refused : (ed : Edition) (b : List ℕ) (o r : ℕ) → (r ≡ 0 → ⊥) → presetAt ed r b o ≡ preset.Refused r
 unfolding presetAt presetOf
-presetAt-refused b o r f = rw (ne-eqb r 0 f)
+presetAt-refused ed b o r f = rw (ne-eqb r 0 f)
 
-presetAt-found : (b : List ℕ) (o r : ℕ) → r ≡ 0 → presetAt r b o ≡ preset.Found (kindAt b o) (rankAt b o) (o + headSize) (letterCountAt b o)
+presetAt-found : (ed : Edition) (b : List ℕ) (o r : ℕ) → r ≡ 0 → presetAt ed r b o ≡ preset.Found (kindAt b o) (rankAt b o) (o + headSize ed) (letterCountAt ed b o)
 unfolding presetAt presetOf
-presetAt-found b o r z = rw (eq-eqb r 0 z)
+presetAt-found ed b o r z = rw (eq-eqb r 0 z)
 
 -- ---- records
 
--- the record at byte o: r is the refusal of its kind and rank, l its letter count, s the refusal of its letters
-module _ (b : List ℕ) (o r : ℕ) (e : r ≡ bookRankRefusal (kindAt b o) (rankAt b o)) where
-  pub checkedRecord-rank : (r ≡ 0 → ⊥) → checkedRecord b o ≡ preset.Refused r
+-- the record at byte o: r is the refusal of its kind and rank, t whether its lane count is wrong, l its letter count, which has the place p in a record,
+-- s the refusal of its letters
+module _ (ed : Edition) (b : List ℕ) (o r : ℕ) (e : r ≡ bookRankRefusal ed (kindAt b o) (rankAt b o)) where
+  pub checkedRecord-rank : (r ≡ 0 → ⊥) → checkedRecord ed b o ≡ preset.Refused r
   unfolding checkedRecord recordRefusal
-  checkedRecord-rank f = rw (← e, then-some r (wordRefusal (rankAt b o) (lettersAt b o)) f) (presetAt-refused b o r f)
+  checkedRecord-rank f =
+      rw (← e, then-some r (check 17 (wrongLaneCount ed b o) then wordRefusal (rankAt b o) (lettersAt ed b o)) f) (presetAt-refused ed b o r f)
 
-  recordRefusal-word : (l s : ℕ) → r ≡ 0 → l ≡ twoAt b (o + 2) → s ≡ wordRefusal (rankAt b o) (take (o + headSize + l - (o + headSize)) (drop (o + headSize) b)) → recordRefusal b o ≡ s
-  unfolding recordRefusal
-  recordRefusal-word l s z p q =
-      let d : o + headSize + l - (o + headSize) ≡ l = omega arith in
-      rw (← e, eq-eqb r 0 z, ← p) (sym (rw d at q))
+  module _ (z : r ≡ 0) (t : Bool) (w : t ≡ wrongLaneCount ed b o) where
+    pub checkedRecord-lanes : t ≡ true → checkedRecord ed b o ≡ preset.Refused 17
+    unfolding checkedRecord recordRefusal
+    checkedRecord-lanes y = rw (← e, eq-eqb r 0 z, ← w, y) (presetAt-refused ed b o 17 (omega arith))
 
-  pub checkedRecord-word : (l s : ℕ) → r ≡ 0 → l ≡ twoAt b (o + 2) → s ≡ wordRefusal (rankAt b o) (take (o + headSize + l - (o + headSize)) (drop (o + headSize) b)) → (s ≡ 0 → ⊥)
-      → checkedRecord b o ≡ preset.Refused s
-  unfolding checkedRecord
-  checkedRecord-word l s z p q f = rw (recordRefusal-word l s z p q) (presetAt-refused b o s f)
+    module _ (y : t ≡ false) (p l s : ℕ) (g : p ≡ countPlace ed) (c : l ≡ twoAt b (o + p))
+        (q : s ≡ wordRefusal (rankAt b o) (take (o + (p + 2) + l - (o + (p + 2))) (drop (o + (p + 2)) b))) where
+      recordRefusal-word : recordRefusal ed b o ≡ s
+      unfolding recordRefusal
+      recordRefusal-word =
+          let d : o + (p + 2) + l - (o + (p + 2)) ≡ l = omega arith in
+          rw (← e, eq-eqb r 0 z, ← w, y, ← g, ← c) (sym (rw d at q))
 
-  pub checkedRecord-found : (l s : ℕ) → r ≡ 0 → l ≡ twoAt b (o + 2) → s ≡ wordRefusal (rankAt b o) (take (o + headSize + l - (o + headSize)) (drop (o + headSize) b)) → s ≡ 0
-      → checkedRecord b o ≡ preset.Found (kindAt b o) (rankAt b o) (o + headSize) l
-  unfolding checkedRecord
-  checkedRecord-found l s z p q y = rw (recordRefusal-word l s z p q, p) (presetAt-found b o s y)
+      pub checkedRecord-word : (s ≡ 0 → ⊥) → checkedRecord ed b o ≡ preset.Refused s
+      unfolding checkedRecord
+      checkedRecord-word f = rw recordRefusal-word (presetAt-refused ed b o s f)
+
+      pub checkedRecord-found : s ≡ 0 → checkedRecord ed b o ≡ preset.Found (kindAt b o) (rankAt b o) (o + (p + 2)) l
+      unfolding checkedRecord
+      checkedRecord-found x = rw (recordRefusal-word, c, g) (presetAt-found ed b o s x)
 
 -- ---- presets by their number
 
 -- preset i of a book that has it
-pub presetRefusal-record : (b : List ℕ) (i : ℕ) → bookRefusal b ≡ 0 → i < count b → presetRefusal b i ≡ recordRefusal b (offset b i)
+pub presetRefusal-record : (ed : Edition) (b : List ℕ) (i : ℕ) → bookRefusal ed b ≡ 0 → i < count b → presetRefusal ed b i ≡ recordRefusal ed b (offset b i)
 unfolding presetRefusal noSuchPreset
-presetRefusal-record b i z h = rw (eq-eqb (bookRefusal b) 0 z, lt-leb (count b) i h)
+presetRefusal-record ed b i z h = rw (eq-eqb (bookRefusal ed b) 0 z, lt-leb (count b) i h)
 
 -- the same as code meets it: c is the count, o the offset
-pub checkedPreset-record : (b : List ℕ) (i c o : ℕ) → bookRefusal b ≡ 0 → i < count b → c ≡ twoAt b (length b - 2)
-    → o ≡ twoAt b (length b - (2 * c + 2) + 2 * i) → checkedPreset b i ≡ checkedRecord b o
+pub checkedPreset-record : (ed : Edition) (b : List ℕ) (i c o : ℕ) → bookRefusal ed b ≡ 0 → i < count b → c ≡ twoAt b (length b - 2)
+    → o ≡ twoAt b (length b - (2 * c + 2) + 2 * i) → checkedPreset ed b i ≡ checkedRecord ed b o
 unfolding checkedPreset checkedRecord
-checkedPreset-record b i c o z h q p = rw (presetRefusal-record b i z h, offset-read b c i o (count-read b c q) p)
+checkedPreset-record ed b i c o z h q p = rw (presetRefusal-record ed b i z h, offset-read b c i o (count-read b c q) p)
 
 -- r is the refusal of the book
-module _ (b : List ℕ) (i r : ℕ) (e : r ≡ bookRefusal b) where
-  pub checkedPreset-book : (r ≡ 0 → ⊥) → checkedPreset b i ≡ preset.Refused r
+module _ (ed : Edition) (b : List ℕ) (i r : ℕ) (e : r ≡ bookRefusal ed b) where
+  pub checkedPreset-book : (r ≡ 0 → ⊥) → checkedPreset ed b i ≡ preset.Refused r
   unfolding checkedPreset presetRefusal
-  checkedPreset-book f = rw (← e, ne-eqb r 0 f) (presetAt-refused b (offset b i) r f)
+  checkedPreset-book f = rw (← e, ne-eqb r 0 f) (presetAt-refused ed b (offset b i) r f)
 
-  pub checkedPreset-number : (c : ℕ) → r ≡ 0 → c ≡ twoAt b (length b - 2) → c ≤ i → checkedPreset b i ≡ preset.Refused 4
+  pub checkedPreset-number : (c : ℕ) → r ≡ 0 → c ≡ twoAt b (length b - 2) → c ≤ i → checkedPreset ed b i ≡ preset.Refused 4
   unfolding checkedPreset presetRefusal noSuchPreset
-  checkedPreset-number c z q h = rw (← e, eq-eqb r 0 z, ← count-read b c q, le-leb c i h) (presetAt-refused b (offset b i) 4 (omega arith))
+  checkedPreset-number c z q h = rw (← e, eq-eqb r 0 z, ← count-read b c q, le-leb c i h) (presetAt-refused ed b (offset b i) 4 (omega arith))
 
 -- ---- letters
 
 -- a preset that was found: what its record has, and where its letters are
-pub record Found (b : List ℕ) (i k n s l : ℕ) : Type 0 where
-  pub unrefused : presetRefusal b i ≡ 0
+pub record Found (ed : Edition) (b : List ℕ) (i k n s l : ℕ) : Type 0 where
+  pub unrefused : presetRefusal ed b i ≡ 0
   pub kind : k ≡ kindAt b (offset b i)
   pub rank : n ≡ rankAt b (offset b i)
-  pub begins : s ≡ offset b i + headSize
-  pub counts : l ≡ letterCountAt b (offset b i)
+  pub begins : s ≡ offset b i + headSize ed
+  pub counts : l ≡ letterCountAt ed b (offset b i)
 
-pub found : (b : List ℕ) (i k n s l : ℕ) → preset.Found k n s l ≡ checkedPreset b i → Found b i k n s l
+pub found : (ed : Edition) (b : List ℕ) (i k n s l : ℕ) → preset.Found k n s l ≡ checkedPreset ed b i → Found ed b i k n s l
 unfolding checkedPreset
-found b i k n s l e = elim (ℕ-discrete (presetRefusal b i) 0) [ yes z ↦ at z | no f ↦ absurd (never f) ]
+found ed b i k n s l e = elim (ℕ-discrete (presetRefusal ed b i) 0) [ yes z ↦ at z | no f ↦ absurd (never f) ]
   where
-    at : presetRefusal b i ≡ 0 → Found b i k n s l
+    at : presetRefusal ed b i ≡ 0 → Found ed b i k n s l
     at z =
-        let q : preset.Found k n s l ≡ preset.Found (kindAt b (offset b i)) (rankAt b (offset b i)) (offset b i + headSize) (letterCountAt b (offset b i)) =
-        e ∙ presetAt-found b (offset b i) (presetRefusal b i) z in
+        let q : preset.Found k n s l ≡ preset.Found (kindAt b (offset b i)) (rankAt b (offset b i)) (offset b i + headSize ed) (letterCountAt ed b (offset b i)) =
+        e ∙ presetAt-found ed b (offset b i) (presetRefusal ed b i) z in
         record { unrefused = z; kind = cc; rank = cc; begins = cc; counts = cc }
 
-    never : (presetRefusal b i ≡ 0 → ⊥) → ⊥
+    never : (presetRefusal ed b i ≡ 0 → ⊥) → ⊥
     never f =
-        let q : preset.Found k n s l ≡ preset.Refused (presetRefusal b i) = e ∙ presetAt-refused b (offset b i) (presetRefusal b i) f in
+        let q : preset.Found k n s l ≡ preset.Refused (presetRefusal ed b i) = e ∙ presetAt-refused ed b (offset b i) (presetRefusal ed b i) f in
         let z : _≡_ {A = ℕ} 0 1 = cc in
         omega arith
 
-pub refused : (b : List ℕ) (i r : ℕ) → preset.Refused r ≡ checkedPreset b i → presetRefusal b i ≡ 0 → ⊥
+pub refused : (ed : Edition) (b : List ℕ) (i r : ℕ) → preset.Refused r ≡ checkedPreset ed b i → presetRefusal ed b i ≡ 0 → ⊥
 unfolding checkedPreset
-refused b i r e z =
-    let q : preset.Refused r ≡ preset.Found (kindAt b (offset b i)) (rankAt b (offset b i)) (offset b i + headSize) (letterCountAt b (offset b i)) =
-    e ∙ presetAt-found b (offset b i) (presetRefusal b i) z in
+refused ed b i r e z =
+    let q : preset.Refused r ≡ preset.Found (kindAt b (offset b i)) (rankAt b (offset b i)) (offset b i + headSize ed) (letterCountAt ed b (offset b i)) =
+    e ∙ presetAt-found ed b (offset b i) (presetRefusal ed b i) z in
     let y : _≡_ {A = ℕ} 0 1 = cc in
     omega arith
 
-pub refused-is : (b : List ℕ) (i r : ℕ) → preset.Refused r ≡ checkedPreset b i → r ≡ presetRefusal b i
+pub refused-is : (ed : Edition) (b : List ℕ) (i r : ℕ) → preset.Refused r ≡ checkedPreset ed b i → r ≡ presetRefusal ed b i
 unfolding checkedPreset
-refused-is b i r e =
-    let q : preset.Refused r ≡ preset.Refused (presetRefusal b i) = e ∙ presetAt-refused b (offset b i) (presetRefusal b i) (refused b i r e) in
+refused-is ed b i r e =
+    let q : preset.Refused r ≡ preset.Refused (presetRefusal ed b i) = e ∙ presetAt-refused ed b (offset b i) (presetRefusal ed b i) (refused ed b i r e) in
     cc
 
 -- a preset that is not refused is one of an accepted book, and its record is not refused
-pub preset-accepted : (b : List ℕ) (i : ℕ) → presetRefusal b i ≡ 0 → Accepted b
+pub preset-accepted : (ed : Edition) (b : List ℕ) (i : ℕ) → presetRefusal ed b i ≡ 0 → Accepted ed b
 unfolding presetRefusal
-preset-accepted b i z = accepted b (then-zero (bookRefusal b) (check 4 (noSuchPreset b i) then recordRefusal b (offset b i)) z .0)
+preset-accepted ed b i z = accepted ed b (then-zero (bookRefusal ed b) (check 4 (noSuchPreset b i) then recordRefusal ed b (offset b i)) z .0)
 
-pub preset-below : (b : List ℕ) (i : ℕ) → presetRefusal b i ≡ 0 → i < count b
+pub preset-below : (ed : Edition) (b : List ℕ) (i : ℕ) → presetRefusal ed b i ≡ 0 → i < count b
 unfolding presetRefusal noSuchPreset
-preset-below b i z =
-    let a = then-zero (bookRefusal b) (check 4 (noSuchPreset b i) then recordRefusal b (offset b i)) z in
-    let c = then-zero (check 4 (noSuchPreset b i)) (recordRefusal b (offset b i)) (a .1) in
+preset-below ed b i z =
+    let a = then-zero (bookRefusal ed b) (check 4 (noSuchPreset b i) then recordRefusal ed b (offset b i)) z in
+    let c = then-zero (check 4 (noSuchPreset b i)) (recordRefusal ed b (offset b i)) (a .1) in
     leb-false (count b) i (check-zero 3 (noSuchPreset b i) (c .0))
 
-preset-record : (b : List ℕ) (i : ℕ) → presetRefusal b i ≡ 0 → recordRefusal b (offset b i) ≡ 0
+preset-record : (ed : Edition) (b : List ℕ) (i : ℕ) → presetRefusal ed b i ≡ 0 → recordRefusal ed b (offset b i) ≡ 0
 unfolding presetRefusal
-preset-record b i z =
-    let a = then-zero (bookRefusal b) (check 4 (noSuchPreset b i) then recordRefusal b (offset b i)) z in
-    then-zero (check 4 (noSuchPreset b i)) (recordRefusal b (offset b i)) (a .1) .1
+preset-record ed b i z =
+    let a = then-zero (bookRefusal ed b) (check 4 (noSuchPreset b i) then recordRefusal ed b (offset b i)) z in
+    then-zero (check 4 (noSuchPreset b i)) (recordRefusal ed b (offset b i)) (a .1) .1
 
 -- it passes checks 5 to 8
-record-tests : (b : List ℕ) (o : ℕ) → recordRefusal b o ≡ 0 → (bookRankRefusal (kindAt b o) (rankAt b o) ≡ 0) × (wordRefusal (rankAt b o) (lettersAt b o) ≡ 0)
+record-tests : (ed : Edition) (b : List ℕ) (o : ℕ) → recordRefusal ed b o ≡ 0
+    → (bookRankRefusal ed (kindAt b o) (rankAt b o) ≡ 0) × (wordRefusal (rankAt b o) (lettersAt ed b o) ≡ 0)
 unfolding recordRefusal
-record-tests b o z = then-zero (bookRankRefusal (kindAt b o) (rankAt b o)) (wordRefusal (rankAt b o) (lettersAt b o)) z
+record-tests ed b o z =
+    let word = wordRefusal (rankAt b o) (lettersAt ed b o) in
+    let a = then-zero (bookRankRefusal ed (kindAt b o) (rankAt b o)) (check 17 (wrongLaneCount ed b o) then word) z in
+    (a .0, then-zero (check 17 (wrongLaneCount ed b o)) word (a .1) .1)
 
-pub found-rank : (b : List ℕ) (i k n s l : ℕ) → Found b i k n s l → rankRefusal k n ≡ 0
-found-rank b i k n s l f =
-    bookRank-accepted k n (rw (f .kind, f .rank) (record-tests b (offset b i) (preset-record b i (f .unrefused)) .0))
+pub found-rank : (ed : Edition) (b : List ℕ) (i k n s l : ℕ) → Found ed b i k n s l → rankRefusal k n ≡ 0
+found-rank ed b i k n s l f =
+    bookRank-accepted ed k n (rw (f .kind, f .rank) (record-tests ed b (offset b i) (preset-record ed b i (f .unrefused)) .0))
 
-pub found-word : (b : List ℕ) (i k n s l : ℕ) → Found b i k n s l → wordRefusal n (take (s + l - s) (drop s b)) ≡ 0
-found-word b i k n s l f =
+pub found-word : (ed : Edition) (b : List ℕ) (i k n s l : ℕ) → Found ed b i k n s l → wordRefusal n (take (s + l - s) (drop s b)) ≡ 0
+found-word ed b i k n s l f =
     let d : s + l - s ≡ l = omega arith in
-    rw (d, f .rank, f .begins, f .counts) (record-tests b (offset b i) (preset-record b i (f .unrefused)) .1)
+    rw (d, f .rank, f .begins, f .counts) (record-tests ed b (offset b i) (preset-record ed b i (f .unrefused)) .1)
 
 -- its letters lie inside the book
-pub found-inside : (b : List ℕ) (i k n s l : ℕ) → Found b i k n s l → s + l ≤ length b
-found-inside b i k n s l f =
+pub found-inside : (ed : Edition) (b : List ℕ) (i k n s l : ℕ) → Found ed b i k n s l → s + l ≤ length b
+found-inside ed b i k n s l f =
     let z = f .unrefused in
-    let e = endAt-offset-le b i (preset-accepted b i z) (preset-below b i z) in
+    let e = endAt-offset-le ed b i (preset-accepted ed b i z) (preset-below ed b i z) in
     let t = trailer-le b in
     omega arith
 
-pub found-small : (b : List ℕ) (i k n s l : ℕ) → Found b i k n s l → s + l ≤ 65535
-found-small b i k n s l f = let h = found-inside b i k n s l f in let a = preset-accepted b i (f .unrefused) in omega arith
+pub found-small : (ed : Edition) (b : List ℕ) (i k n s l : ℕ) → Found ed b i k n s l → s + l ≤ 65535
+found-small ed b i k n s l f = let h = found-inside ed b i k n s l f in let a = preset-accepted ed b i (f .unrefused) in omega arith
 
-pub lettersOf-found : (b : List ℕ) (i k n s l : ℕ) → Found b i k n s l → take (s + l - s) (drop s b) ≡ lettersOf b i
+pub lettersOf-found : (ed : Edition) (b : List ℕ) (i k n s l : ℕ) → Found ed b i k n s l → take (s + l - s) (drop s b) ≡ lettersOf ed b i
 unfolding lettersOf
-lettersOf-found b i k n s l f =
+lettersOf-found ed b i k n s l f =
     let d : s + l - s ≡ l = omega arith in
-    rw (eq-eqb (presetRefusal b i) 0 (f .unrefused), d, f .begins, f .counts)
+    rw (eq-eqb (presetRefusal ed b i) 0 (f .unrefused), d, f .begins, f .counts)
 
-pub lettersStart-found : (b : List ℕ) (i k n s l p : ℕ) → Found b i k n s l → s + p ≡ p + lettersStart b i
+pub lettersStart-found : (ed : Edition) (b : List ℕ) (i k n s l p : ℕ) → Found ed b i k n s l → s + p ≡ p + lettersStart ed b i
 unfolding lettersStart
-lettersStart-found b i k n s l p f = rw (eq-eqb (presetRefusal b i) 0 (f .unrefused)) (let e = f .begins in omega arith)
+lettersStart-found ed b i k n s l p f = rw (eq-eqb (presetRefusal ed b i) 0 (f .unrefused)) (let e = f .begins in omega arith)
 
-pub lettersOf-refused : (b : List ℕ) (i : ℕ) → (presetRefusal b i ≡ 0 → ⊥) → [] ≡ lettersOf b i
+pub lettersOf-refused : (ed : Edition) (b : List ℕ) (i : ℕ) → (presetRefusal ed b i ≡ 0 → ⊥) → [] ≡ lettersOf ed b i
 unfolding lettersOf
-lettersOf-refused b i f = rw (ne-eqb (presetRefusal b i) 0 f)
+lettersOf-refused ed b i f = rw (ne-eqb (presetRefusal ed b i) 0 f)
 
-pub lettersStart-refused : (b : List ℕ) (i p : ℕ) → (presetRefusal b i ≡ 0 → ⊥) → 0 + p ≡ p + lettersStart b i
+pub lettersStart-refused : (ed : Edition) (b : List ℕ) (i p : ℕ) → (presetRefusal ed b i ≡ 0 → ⊥) → 0 + p ≡ p + lettersStart ed b i
 unfolding lettersStart
-lettersStart-refused b i p f = rw (ne-eqb (presetRefusal b i) 0 f) (omega arith)
+lettersStart-refused ed b i p f = rw (ne-eqb (presetRefusal ed b i) 0 f) (omega arith)

@@ -12,22 +12,25 @@ use Rattle.coxeter.specs.Kinds.{Kind, A, B, D, kindOf, least, greatest}
 use Rattle.coxeter.specs.Checks.{check, _then_, wrongKind, wrongRank, rankRefusal}
 use Rattle.coxeter.proofs.Acceptance.{rank-within}
 use Rattle.coxeter.proofs.Refusals.{then-zero}
+use Rattle.book_format.specs.declared.Edition.{Edition}
+use Rattle.book_format.specs.declared.Edition.the-variants.{First, Second}
 use Rattle.book_format.specs.Books.{greatestInBook, wrongRankInBook, bookRankRefusal}
 
-greatestInBook-le : (k : Kind) → greatestInBook k ≤ greatest k
-greatestInBook-le A = omega arith
-greatestInBook-le B = omega arith
-greatestInBook-le D = omega arith
+greatestInBook-le : (ed : Edition) (k : Kind) → greatestInBook ed k ≤ greatest k
+greatestInBook-le First A = omega arith
+greatestInBook-le First B = omega arith
+greatestInBook-le First D = omega arith
+greatestInBook-le Second k = omega arith
 
 or-wider : (low high higher : Bool) → (high ≡ true → higher ≡ true) → (low || high) ≡ true → (low || higher) ≡ true
 or-wider true high higher f h = refl
 or-wider false high higher f h = f h
 
-wrongRank-inBook : (k : Kind) (n : ℕ) → wrongRank k n ≡ true → wrongRankInBook k n ≡ true
+wrongRank-inBook : (ed : Edition) (k : Kind) (n : ℕ) → wrongRank k n ≡ true → wrongRankInBook ed k n ≡ true
 unfolding wrongRank wrongRankInBook
-wrongRank-inBook k n =
-    or-wider (ltb n (least k)) (ltb (greatest k) n) (ltb (greatestInBook k) n)
-    (λ t. let h = ltb-true (greatest k) n t in lt-ltb (greatestInBook k) n (omega (arith, greatestInBook-le k)))
+wrongRank-inBook ed k n =
+    or-wider (ltb n (least k)) (ltb (greatest k) n) (ltb (greatestInBook ed k) n)
+    (λ t. let h = ltb-true (greatest k) n t in lt-ltb (greatestInBook ed k) n (omega (arith, greatestInBook-le ed k)))
 
 sixth : (kind rank inBook : Bool) → (rank ≡ true → inBook ≡ true) → ((check 5 kind then check 6 rank) ≡ 0 → ⊥)
     → (check 5 kind then check 6 inBook) ≡ (check 5 kind then check 6 rank)
@@ -36,25 +39,25 @@ sixth false true inBook h f = rw (h refl)
 sixth false false inBook h f = absurd (f refl)
 
 -- r is the refusal of the kind and the rank by the calls' ranges
-module _ (k n r : ℕ) (e : r ≡ rankRefusal k n) where
-  pub bookRankRefusal-refused : (r ≡ 0 → ⊥) → bookRankRefusal k n ≡ r
+module _ (ed : Edition) (k n r : ℕ) (e : r ≡ rankRefusal k n) where
+  pub bookRankRefusal-refused : (r ≡ 0 → ⊥) → bookRankRefusal ed k n ≡ r
   unfolding rankRefusal bookRankRefusal
   bookRankRefusal-refused f =
-      sixth (wrongKind k) (wrongRank (kindOf k) n) (wrongRankInBook (kindOf k) n) (wrongRank-inBook (kindOf k) n) (λ z. f (e ∙ z)) ∙ sym e
+      sixth (wrongKind k) (wrongRank (kindOf k) n) (wrongRankInBook ed (kindOf k) n) (wrongRank-inBook ed (kindOf k) n) (λ z. f (e ∙ z)) ∙ sym e
 
   module _ (z : r ≡ 0) where
     rightKind : check 5 (wrongKind k) ≡ 0
     unfolding rankRefusal
     rightKind = then-zero (check 5 (wrongKind k)) (check 6 (wrongRank (kindOf k) n)) (sym e ∙ z) .0
 
-    pub bookRankRefusal-above : greatestInBook (kindOf k) < n → bookRankRefusal k n ≡ 6
+    pub bookRankRefusal-above : greatestInBook ed (kindOf k) < n → bookRankRefusal ed k n ≡ 6
     unfolding bookRankRefusal wrongRankInBook
-    bookRankRefusal-above h = rw (rightKind, lt-ltb (greatestInBook (kindOf k)) n h, le-ltb n (least (kindOf k)) (rank-within k n (sym e ∙ z) .0))
+    bookRankRefusal-above h = rw (rightKind, lt-ltb (greatestInBook ed (kindOf k)) n h, le-ltb n (least (kindOf k)) (rank-within k n (sym e ∙ z) .0))
 
-    pub bookRankRefusal-none : n ≤ greatestInBook (kindOf k) → bookRankRefusal k n ≡ 0
+    pub bookRankRefusal-none : n ≤ greatestInBook ed (kindOf k) → bookRankRefusal ed k n ≡ 0
     unfolding bookRankRefusal wrongRankInBook
-    bookRankRefusal-none h = rw (rightKind, le-ltb (greatestInBook (kindOf k)) n h, le-ltb n (least (kindOf k)) (rank-within k n (sym e ∙ z) .0))
+    bookRankRefusal-none h = rw (rightKind, le-ltb (greatestInBook ed (kindOf k)) n h, le-ltb n (least (kindOf k)) (rank-within k n (sym e ∙ z) .0))
 
 -- a kind and a rank that a record may have, every call takes
-pub bookRank-accepted : (k n : ℕ) → bookRankRefusal k n ≡ 0 → rankRefusal k n ≡ 0
-bookRank-accepted k n h = elim (ℕ-discrete (rankRefusal k n) 0) [ yes z ↦ z | no f ↦ absurd (f (sym (bookRankRefusal-refused k n (rankRefusal k n) refl f) ∙ h)) ]
+pub bookRank-accepted : (ed : Edition) (k n : ℕ) → bookRankRefusal ed k n ≡ 0 → rankRefusal k n ≡ 0
+bookRank-accepted ed k n h = elim (ℕ-discrete (rankRefusal k n) 0) [ yes z ↦ z | no f ↦ absurd (f (sym (bookRankRefusal-refused ed k n (rankRefusal k n) refl f) ∙ h)) ]

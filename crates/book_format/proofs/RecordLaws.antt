@@ -8,15 +8,19 @@ use mathlib.Core.Bool.{false}
 use mathlib.Core.List.{List, [], _∷_, _++_, append-assoc, append-nil}
 use Prim.Native.Nat.{ℕ, zero, suc, _+_, _-_, _*_, _/_, _%_, _≤_, _<_}
 use native.Mathlib.Nat.{add-zero}
-use native.Mathlib.Numerals.{add-one, add-two}
+use native.Mathlib.Numerals.{add-one, add-two, add-three}
 use native.Mathlib.Omega.{arith}
 use lib.ListN.{length, getD, drop, take-append-drop, length-drop, drop-of-length-le}
 use lib.Seq.{drop-cons, drop-drop, length-take-le}
-use Rattle.book_format.specs.Books.{twoAt, two, count, trailer, offset, kindAt, rankAt, letterCountAt, lettersAt, endAt, misplacedFrom, misplaced, bookRefusal, recordOf, appended, headSize, added}
+use Rattle.coxeter.specs.Kinds.{kindOf, lanes}
+use Rattle.book_format.specs.declared.Edition.{Edition}
+use Rattle.book_format.specs.declared.Edition.the-variants.{First, Second}
+use Rattle.book_format.specs.Books.{twoAt, two, count, trailer, offset, kindAt, rankAt, lanesAt, letterCountAt, lettersAt, endAt}
+use Rattle.book_format.specs.Books.{misplacedFrom, misplaced, bookRefusal, laneByte, recordOf, appended, countPlace, headSize, added}
 use Rattle.book_format.specs.Records.{recordBytes, offsetBytes, layOut, recordAt, recordsFrom, recordsOf, Bytes}
 use Rattle.book_format.proofs.BookLaws.{Accepted, accepted, first, trailer-le}
 use Rattle.book_format.proofs.WritingLaws.{length-appended}
-use Rattle.book_format.proofs.AppendedParts.{trailer-count, count-appended, offset-appended, offset-appended-last, kindAt-appended, rankAt-appended, lettersAt-appended, kindAt-appended-last, rankAt-appended-last, lettersAt-appended-last}
+use Rattle.book_format.proofs.AppendedParts.{trailer-count, count-appended, offset-appended, offset-appended-last, kindAt-appended, rankAt-appended, lanesAt-appended, lettersAt-appended, kindAt-appended-last, rankAt-appended-last, lanesAt-appended-last, lettersAt-appended-last}
 use Rattle.book_format.proofs.Appending.{walk-end}
 
 -- ---- numbers
@@ -40,30 +44,46 @@ two-then-drop b p w h = rw (two-twoAt b p w) (sym (drop-two b p h))
 
 -- ---- one record
 
-length-lettersAt : (b : List ℕ) (o : ℕ) → endAt b o ≤ length b → length (lettersAt b o) ≡ letterCountAt b o
-length-lettersAt b o h = length-take-le (letterCountAt b o) (drop (o + headSize) b) (rw length-drop (omega arith))
+length-lettersAt : (ed : Edition) (b : List ℕ) (o : ℕ) → endAt ed b o ≤ length b → length (lettersAt ed b o) ≡ letterCountAt ed b o
+length-lettersAt ed b o h = length-take-le (letterCountAt ed b o) (drop (o + headSize ed) b) (rw length-drop (omega arith))
 
-letters-then-drop : (b : List ℕ) (o : ℕ) → lettersAt b o ++ drop (endAt b o) b ≡ drop (o + headSize) b
-letters-then-drop b o = rw (← drop-drop (letterCountAt b o) (o + headSize) b) (take-append-drop (letterCountAt b o) (drop (o + headSize) b))
+letters-then-drop : (ed : Edition) (b : List ℕ) (o : ℕ) → lettersAt ed b o ++ drop (endAt ed b o) b ≡ drop (o + headSize ed) b
+letters-then-drop ed b o = rw (← drop-drop (letterCountAt ed b o) (o + headSize ed) b) (take-append-drop (letterCountAt ed b o) (drop (o + headSize ed) b))
 
-record-then-drop : (b : List ℕ) (o : ℕ) → Bytes b → endAt b o ≤ length b → recordOf (kindAt b o) (rankAt b o) (lettersAt b o) ++ drop (endAt b o) b ≡ drop o b
+-- what stands before the letter count
+head-then-drop : (ed : Edition) (b : List ℕ) (o : ℕ) → o + countPlace ed ≤ length b
+    → kindAt b o ∷ rankAt b o ∷ (laneByte ed (lanesAt ed b o) ++ drop (o + countPlace ed) b) ≡ drop o b
+head-then-drop First b o h = sym (drop-two b o (omega arith))
+head-then-drop Second b o h = sym (drop-two b o (omega arith) ∙ ap (λ l. kindAt b o ∷ rankAt b o ∷ l) (drop-cons b (o + 2) 0 (omega arith) ∙ rw (add-two o, add-three o)))
+
+record-then-drop : (ed : Edition) (b : List ℕ) (o : ℕ) → Bytes b → endAt ed b o ≤ length b
+    → recordOf ed (kindAt b o) (rankAt b o) (lanesAt ed b o) (lettersAt ed b o) ++ drop (endAt ed b o) b ≡ drop o b
 unfolding recordOf
-record-then-drop b o w h =
-    let head : o + 2 + 2 ≡ o + headSize = omega arith in
-    rw (append-assoc (two (length (lettersAt b o))) (lettersAt b o) (drop (endAt b o) b), length-lettersAt b o h, letters-then-drop b o, ← head, two-then-drop b (o + 2) w (omega arith))
-    (sym (drop-two b o (omega arith)))
+record-then-drop ed b o w h =
+    let p = o + countPlace ed in
+    let head : p + 2 ≡ o + headSize ed = omega arith in
+    let size = two (length (lettersAt ed b o)) in
+    rw (
+      append-assoc (laneByte ed (lanesAt ed b o)) (size ++ lettersAt ed b o) (drop (endAt ed b o) b),
+      append-assoc size (lettersAt ed b o) (drop (endAt ed b o) b),
+      length-lettersAt ed b o h,
+      letters-then-drop ed b o,
+      ← head,
+      two-then-drop b p w (omega arith),
+    )
+    (head-then-drop ed b o (omega arith))
 
 -- ---- the records
 
-records-then-drop : (b : List ℕ) (j i o : ℕ) → Bytes b → misplacedFrom b j i o ≡ false → recordBytes (recordsFrom b j i) ++ drop (trailer b) b ≡ drop o b
+records-then-drop : (ed : Edition) (b : List ℕ) (j i o : ℕ) → Bytes b → misplacedFrom ed b j i o ≡ false → recordBytes ed (recordsFrom ed b j i) ++ drop (trailer b) b ≡ drop o b
 unfolding recordBytes recordsFrom
-records-then-drop b zero i o w e = rw (walk-end b i o e)
-records-then-drop b (suc j) i o w e =
-    let f = first b j i o e in
+records-then-drop ed b zero i o w e = rw (walk-end ed b i o e)
+records-then-drop ed b (suc j) i o w e =
+    let f = first ed b j i o e in
     let t = trailer-le b in
     let h = f .ends in
-    rw (f .begins, append-assoc (recordOf (kindAt b o) (rankAt b o) (lettersAt b o)) (recordBytes (recordsFrom b j (suc i))) (drop (trailer b) b), records-then-drop b j (suc i) (endAt b o) w (f .others))
-    (record-then-drop b o w (omega arith))
+    rw (f .begins, append-assoc (recordOf ed (kindAt b o) (rankAt b o) (lanesAt ed b o) (lettersAt ed b o)) (recordBytes ed (recordsFrom ed b j (suc i))) (drop (trailer b) b), records-then-drop ed b j (suc i) (endAt ed b o) w (f .others))
+    (record-then-drop ed b o w (omega arith))
 
 -- ---- the offsets
 
@@ -80,12 +100,12 @@ count-bytes b w h =
     rw (count-at b)
     (rw (drop-of-length-le b {i = length b - 2 + 2} (omega arith), append-nil (two (twoAt b (length b - 2)))) at (two-then-drop b (length b - 2) w (omega arith)))
 
-offsets-then-drop : (b : List ℕ) (j i o : ℕ) → Bytes b → trailer b + 2 * (i + j) ≤ length b → misplacedFrom b j i o ≡ false
-    → offsetBytes o (recordsFrom b j i) ++ drop (trailer b + 2 * (i + j)) b ≡ drop (trailer b + 2 * i) b
+offsets-then-drop : (ed : Edition) (b : List ℕ) (j i o : ℕ) → Bytes b → trailer b + 2 * (i + j) ≤ length b → misplacedFrom ed b j i o ≡ false
+    → offsetBytes ed o (recordsFrom ed b j i) ++ drop (trailer b + 2 * (i + j)) b ≡ drop (trailer b + 2 * i) b
 unfolding offsetBytes recordsFrom
-offsets-then-drop b zero i o w h e = rw (add-zero i)
-offsets-then-drop b (suc j) i o w h e =
-    let f = first b j i o e in
+offsets-then-drop ed b zero i o w h e = rw (add-zero i)
+offsets-then-drop ed b (suc j) i o w h e =
+    let f = first ed b j i o e in
     let t = trailer-le b in
     let g = f .ends in
     let p = trailer b + 2 * i in
@@ -94,83 +114,87 @@ offsets-then-drop b (suc j) i o w h e =
     let this : two o ≡ two (twoAt b p) = ap two (sym (f .begins) ∙ offset-at b i) in
     rw (
       f .begins,
-      length-lettersAt b o (omega arith),
-      append-assoc (two o) (offsetBytes (endAt b o) (recordsFrom b j (suc i))) (drop (trailer b + 2 * (i + suc j)) b),
+      length-lettersAt ed b o (omega arith),
+      append-assoc (two o) (offsetBytes ed (endAt ed b o) (recordsFrom ed b j (suc i))) (drop (trailer b + 2 * (i + suc j)) b),
       left,
-      offsets-then-drop b j (suc i) (endAt b o) w (omega arith) (f .others),
+      offsets-then-drop ed b j (suc i) (endAt ed b o) w (omega arith) (f .others),
       next,
       this,
     )
     (two-then-drop b p w (omega arith))
 
-length-recordsFrom : (b : List ℕ) (j i : ℕ) → length (recordsFrom b j i) ≡ j
+length-recordsFrom : (ed : Edition) (b : List ℕ) (j i : ℕ) → length (recordsFrom ed b j i) ≡ j
 unfolding recordsFrom
-length-recordsFrom b zero i = refl
-length-recordsFrom b (suc j) i = ap suc (length-recordsFrom b j (suc i))
+length-recordsFrom ed b zero i = refl
+length-recordsFrom ed b (suc j) i = ap suc (length-recordsFrom ed b j (suc i))
 
-placed-from : (b : List ℕ) → Accepted b → misplacedFrom b (count b) 0 0 ≡ false
+placed-from : (ed : Edition) (b : List ℕ) → Accepted ed b → misplacedFrom ed b (count b) 0 0 ≡ false
 unfolding misplaced
-placed-from b a = a .placed
+placed-from ed b a = a .placed
 
 -- ---- the law
 
-pub layOut-recordsOf : (b : List ℕ) → Bytes b → bookRefusal b ≡ 0 → layOut (recordsOf b) ≡ b
+pub layOut-recordsOf : (ed : Edition) (b : List ℕ) → Bytes b → bookRefusal ed b ≡ 0 → layOut ed (recordsOf ed b) ≡ b
 unfolding layOut recordsOf
-layOut-recordsOf b w z =
-    let a = accepted b z in
-    let h = trailer-count b a in
-    let rs = recordsFrom b (count b) 0 in
+layOut-recordsOf ed b w z =
+    let a = accepted ed b z in
+    let h = trailer-count ed b a in
+    let rs = recordsFrom ed b (count b) 0 in
     let place : trailer b + 2 * (0 + count b) ≡ length b - 2 = omega arith in
     let start : trailer b + 2 * 0 ≡ trailer b = omega arith in
     let number : two (length rs) ≡ drop (trailer b + 2 * (0 + count b)) b =
-    rw (length-recordsFrom b (count b) 0, place) (count-bytes b w (omega arith)) in
-    rw (number, offsets-then-drop b (count b) 0 0 w (omega arith) (placed-from b a), start) (records-then-drop b (count b) 0 0 w (placed-from b a))
+    rw (length-recordsFrom ed b (count b) 0, place) (count-bytes b w (omega arith)) in
+    rw (number, offsets-then-drop ed b (count b) 0 0 w (omega arith) (placed-from ed b a), start) (records-then-drop ed b (count b) 0 0 w (placed-from ed b a))
 
 -- two books with the same presets in the same order are the same bytes
-pub same-records : (b d : List ℕ) → Bytes b → Bytes d → bookRefusal b ≡ 0 → bookRefusal d ≡ 0 → recordsOf b ≡ recordsOf d → b ≡ d
-same-records b d w v y z e = sym (layOut-recordsOf b w y) ∙ ap layOut e ∙ layOut-recordsOf d v z
+pub same-records : (ed : Edition) (b d : List ℕ) → Bytes b → Bytes d → bookRefusal ed b ≡ 0 → bookRefusal ed d ≡ 0 → recordsOf ed b ≡ recordsOf ed d → b ≡ d
+same-records ed b d w v y z e = sym (layOut-recordsOf ed b w y) ∙ ap (layOut ed) e ∙ layOut-recordsOf ed d v z
 
-recordsFrom-same : (b d : List ℕ) (j i : ℕ) → ((m : ℕ) → m < i + j → recordAt b (offset b m) ≡ recordAt d (offset d m)) → recordsFrom b j i ≡ recordsFrom d j i
+recordsFrom-same : (ed : Edition) (b d : List ℕ) (j i : ℕ) → ((m : ℕ) → m < i + j → recordAt ed b (offset b m) ≡ recordAt ed d (offset d m)) → recordsFrom ed b j i ≡ recordsFrom ed d j i
 unfolding recordsFrom
-recordsFrom-same b d zero i e = refl
-recordsFrom-same b d (suc j) i e = rw (e i (omega arith), recordsFrom-same b d j (suc i) (λ m h. e m (omega arith)))
+recordsFrom-same ed b d zero i e = refl
+recordsFrom-same ed b d (suc j) i e = rw (e i (omega arith), recordsFrom-same ed b d j (suc i) (λ m h. e m (omega arith)))
 
 -- the same, number by number
-pub same-presets : (b d : List ℕ) → Bytes b → Bytes d → bookRefusal b ≡ 0 → bookRefusal d ≡ 0 → count b ≡ count d
-    → ((i : ℕ) → i < count b → recordAt b (offset b i) ≡ recordAt d (offset d i)) → b ≡ d
+pub same-presets : (ed : Edition) (b d : List ℕ) → Bytes b → Bytes d → bookRefusal ed b ≡ 0 → bookRefusal ed d ≡ 0 → count b ≡ count d
+    → ((i : ℕ) → i < count b → recordAt ed b (offset b i) ≡ recordAt ed d (offset d i)) → b ≡ d
 unfolding recordsOf
-same-presets b d w v y z n e = same-records b d w v y z (recordsFrom-same b d (count b) 0 (λ m h. e m (omega arith)) ∙ rw n)
+same-presets ed b d w v y z n e = same-records ed b d w v y z (recordsFrom-same ed b d (count b) 0 (λ m h. e m (omega arith)) ∙ rw n)
 
 -- ---- appending
 
-recordAt-same : (l m : List ℕ) (o : ℕ) → kindAt l o ≡ kindAt m o → rankAt l o ≡ rankAt m o → lettersAt l o ≡ lettersAt m o → recordAt l o ≡ recordAt m o
-recordAt-same l m o p q r = rw (p, q, r)
+recordAt-same : (ed : Edition) (l m : List ℕ) (o : ℕ) → kindAt l o ≡ kindAt m o → rankAt l o ≡ rankAt m o → lanesAt ed l o ≡ lanesAt ed m o
+    → lettersAt ed l o ≡ lettersAt ed m o → recordAt ed l o ≡ recordAt ed m o
+recordAt-same ed l m o p q s r = rw (s, p, q, r)
 
-recordAt-of : (m : List ℕ) (o k n : ℕ) (u : List ℕ) → kindAt m o ≡ k → rankAt m o ≡ n → lettersAt m o ≡ u → recordAt m o ≡ record { kind = k; rank = n; letters = u }
-recordAt-of m o k n u p q r = rw (p, q, r)
+recordAt-of : (ed : Edition) (m : List ℕ) (o k n c : ℕ) (u : List ℕ) → kindAt m o ≡ k → rankAt m o ≡ n → lanesAt ed m o ≡ c → lettersAt ed m o ≡ u
+    → recordAt ed m o ≡ record { kind = k; rank = n; lanes = c; letters = u }
+recordAt-of ed m o k n c u p q s r = rw (s, p, q, r)
 
-module _ (b : List ℕ) (k n : ℕ) (u : List ℕ) (a : Accepted b) (small : length b + added u ≤ 65535) where
-  recordsFrom-appended : (j i o : ℕ) → i + j ≡ count b → misplacedFrom b j i o ≡ false
-      → recordsFrom (appended b k n u) (suc j) i ≡ recordsFrom b j i ++ (record { kind = k; rank = n; letters = u } ∷ [])
+module _ (ed : Edition) (b : List ℕ) (k n : ℕ) (u : List ℕ) (a : Accepted ed b) (small : length b + added ed u ≤ 65535) where
+  recordsFrom-appended : (j i o : ℕ) → i + j ≡ count b → misplacedFrom ed b j i o ≡ false
+      → recordsFrom ed (appended ed b k n u) (suc j) i ≡ recordsFrom ed b j i ++ (record { kind = k; rank = n; lanes = lanes (kindOf k) n; letters = u } ∷ [])
   unfolding recordsFrom
   recordsFrom-appended zero i o s e =
       let y : i ≡ count b = omega arith in
-      rw (y, offset-appended-last b k n u a small)
+      rw (y, offset-appended-last ed b k n u a small)
       (ap (λ r. r ∷ [])
-      (recordAt-of (appended b k n u) (trailer b) k n u (kindAt-appended-last b k n u a small) (rankAt-appended-last b k n u a small) (lettersAt-appended-last b k n u a small)))
+      (recordAt-of ed (appended ed b k n u) (trailer b) k n (lanes (kindOf k) n) u (kindAt-appended-last ed b k n u a small) (rankAt-appended-last ed b k n u a small)
+      (lanesAt-appended-last ed b k n u a small) (lettersAt-appended-last ed b k n u a small)))
   recordsFrom-appended (suc j) i o s e =
-      let f = first b j i o e in
+      let f = first ed b j i o e in
       let h = f .ends in
-      rw (offset-appended b k n u a small i (omega arith), f .begins, recordsFrom-appended j (suc i) (endAt b o) (omega arith) (f .others))
-      (ap (λ r. r ∷ (recordsFrom b j (suc i) ++ (record { kind = k; rank = n; letters = u } ∷ [])))
-      (recordAt-same (appended b k n u) b o (kindAt-appended b k n u a small o (omega arith)) (rankAt-appended b k n u a small o (omega arith)) (lettersAt-appended b k n u a small o h)))
+      rw (offset-appended ed b k n u a small i (omega arith), f .begins, recordsFrom-appended j (suc i) (endAt ed b o) (omega arith) (f .others))
+      (ap (λ r. r ∷ (recordsFrom ed b j (suc i) ++ (record { kind = k; rank = n; lanes = lanes (kindOf k) n; letters = u } ∷ [])))
+      (recordAt-same ed (appended ed b k n u) b o (kindAt-appended ed b k n u a small o (omega arith)) (rankAt-appended ed b k n u a small o (omega arith))
+      (lanesAt-appended ed b k n u a small o (omega arith)) (lettersAt-appended ed b k n u a small o h)))
 
 -- the records of the new book are those of the old one and then the one appended
-pub recordsOf-appended : (b : List ℕ) (k n : ℕ) (u : List ℕ) → bookRefusal b ≡ 0 → length (appended b k n u) ≤ 65535
-    → recordsOf (appended b k n u) ≡ recordsOf b ++ (record { kind = k; rank = n; letters = u } ∷ [])
+pub recordsOf-appended : (ed : Edition) (b : List ℕ) (k n : ℕ) (u : List ℕ) → bookRefusal ed b ≡ 0 → length (appended ed b k n u) ≤ 65535
+    → recordsOf ed (appended ed b k n u) ≡ recordsOf ed b ++ (record { kind = k; rank = n; lanes = lanes (kindOf k) n; letters = u } ∷ [])
 unfolding recordsOf
-recordsOf-appended b k n u z h =
-    let a = accepted b z in
-    let l = length-appended b k n u a in
-    let small : length b + added u ≤ 65535 = omega arith in
-    rw (count-appended b k n u a small, add-one (count b)) (recordsFrom-appended b k n u a small (count b) 0 0 (omega arith) (placed-from b a))
+recordsOf-appended ed b k n u z h =
+    let a = accepted ed b z in
+    let l = length-appended ed b k n u a in
+    let small : length b + added ed u ≤ 65535 = omega arith in
+    rw (count-appended ed b k n u a small, add-one (count b)) (recordsFrom-appended ed b k n u a small (count b) 0 0 (omega arith) (placed-from ed b a))

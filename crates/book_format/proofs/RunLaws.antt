@@ -13,6 +13,7 @@ use lib.Dec.{leb, ltb}
 use lib.ListN.{length, getD, take, drop, length-append, List·getD-append}
 use lib.Seq.{sets, getD-append-add, take-at}
 use borrow.Author.Tests.{eq-eqb, ne-eqb, lt-ltb, le-ltb, lt-leb, le-leb, leb-false, ltb-false}
+use Rattle.book_format.specs.declared.Edition.{Edition}
 use Rattle.coxeter.specs.declared.Answer.{Answer}
 use Rattle.coxeter.specs.declared.Answer.the-variants as answer
 use Rattle.coxeter.specs.Checks.{check, _then_, wrongKind, tooShort, rankRefusal}
@@ -50,7 +51,7 @@ presetFrom-found k n s l z =
     let rank : n % 256 ≡ n = omega (arith, rank-accepted k n z .1) in
     rw (kind, rank)
 
-presetFrom-refused : (r k n s l : ℕ) → (r ≡ 0 → ⊥) → r ≤ 8 → presetFrom r k n s l ≡ preset.Refused r
+presetFrom-refused : (r k n s l : ℕ) → (r ≡ 0 → ⊥) → r ≤ 17 → presetFrom r k n s l ≡ preset.Refused r
 unfolding presetFrom presetOf
 presetFrom-refused r k n s l f h =
     let same : r % 256 ≡ r = omega arith in
@@ -61,111 +62,111 @@ abbrev pub presetIn : List ℕ → ℕ → Preset
 presetIn l p = presetFrom (getD l p 0) (getD l (p + 1) 0) (getD l (p + 2) 0) (getD l (p + 3) 0) (getD l (p + 4) 0)
 
 -- it undoes `fieldsOf`, for what reading a preset answers
-pub presetFrom-fieldsOf : (b : List ℕ) (i : ℕ) → presetIn (fieldsOf (checkedPreset b i)) 0 ≡ checkedPreset b i
+pub presetFrom-fieldsOf : (ed : Edition) (b : List ℕ) (i : ℕ) → presetIn (fieldsOf (checkedPreset ed b i)) 0 ≡ checkedPreset ed b i
 unfolding fieldsOf
-presetFrom-fieldsOf b i = by-answer (checkedPreset b i) refl
+presetFrom-fieldsOf ed b i = by-answer (checkedPreset ed b i) refl
   where
-    by-answer : (p : Preset) → p ≡ checkedPreset b i → presetIn (fieldsOf p) 0 ≡ p
-    by-answer (preset.Found k n s l) e = presetFrom-found k n s l (found-rank b i k n s l (found b i k n s l e))
+    by-answer : (p : Preset) → p ≡ checkedPreset ed b i → presetIn (fieldsOf p) 0 ≡ p
+    by-answer (preset.Found k n s l) e = presetFrom-found k n s l (found-rank ed b i k n s l (found ed b i k n s l e))
     by-answer (preset.Refused r) e =
-        let q = refused-is b i r e in
-        presetFrom-refused r 0 0 0 0 (λ z. refused b i r e (sym q ∙ z)) (omega (arith, presetRefusal-le b i))
+        let q = refused-is ed b i r e in
+        presetFrom-refused r 0 0 0 0 (λ z. refused ed b i r e (sym q ∙ z)) (omega (arith, presetRefusal-le ed b i))
 
 -- ---- runs
 
-pub length-presetFields : (b : List ℕ) (t i : ℕ) → length (presetFields b t i) ≡ 5 * t
+pub length-presetFields : (ed : Edition) (b : List ℕ) (t i : ℕ) → length (presetFields ed b t i) ≡ 5 * t
 unfolding presetFields
-length-presetFields b zero i = refl
-length-presetFields b (suc t) i =
-    let h = length-fieldsOf (checkedPreset b i) in
-    let g = length-presetFields b t (suc i) in
+length-presetFields ed b zero i = refl
+length-presetFields ed b (suc t) i =
+    let h = length-fieldsOf (checkedPreset ed b i) in
+    let g = length-presetFields ed b t (suc i) in
     rw length-append (omega arith)
 
 -- the numbers of preset j of a run
-presetFields-at : (b : List ℕ) (t i j k : ℕ) → j < t → k < 5 → getD (presetFields b t i) (5 * j + k) 0 ≡ getD (fieldsOf (checkedPreset b (i + j))) k 0
+presetFields-at : (ed : Edition) (b : List ℕ) (t i j k : ℕ) → j < t → k < 5 → getD (presetFields ed b t i) (5 * j + k) 0 ≡ getD (fieldsOf (checkedPreset ed b (i + j))) k 0
 unfolding presetFields
-presetFields-at b zero i j k h g = absurd (omega arith)
-presetFields-at b (suc t) i zero k h g =
+presetFields-at ed b zero i j k h g = absurd (omega arith)
+presetFields-at ed b (suc t) i zero k h g =
     let e : 5 * 0 + k ≡ k = omega arith in
-    rw (e, add-zero i) (List·getD-append (fieldsOf (checkedPreset b i)) (presetFields b t (suc i)) 0 k (rw (length-fieldsOf (checkedPreset b i)) g))
-presetFields-at b (suc t) i (suc j) k h g =
-    let e : 5 * suc j + k ≡ length (fieldsOf (checkedPreset b i)) + (5 * j + k) = omega (arith, length-fieldsOf (checkedPreset b i)) in
-    rw (e, getD-append-add (fieldsOf (checkedPreset b i)) (presetFields b t (suc i)) (5 * j + k) 0, add-suc i j, ← suc-add i j)
-    (presetFields-at b t (suc i) j k (omega arith) g)
+    rw (e, add-zero i) (List·getD-append (fieldsOf (checkedPreset ed b i)) (presetFields ed b t (suc i)) 0 k (rw (length-fieldsOf (checkedPreset ed b i)) g))
+presetFields-at ed b (suc t) i (suc j) k h g =
+    let e : 5 * suc j + k ≡ length (fieldsOf (checkedPreset ed b i)) + (5 * j + k) = omega (arith, length-fieldsOf (checkedPreset ed b i)) in
+    rw (e, getD-append-add (fieldsOf (checkedPreset ed b i)) (presetFields ed b t (suc i)) (5 * j + k) 0, add-suc i j, ← suc-add i j)
+    (presetFields-at ed b t (suc i) j k (omega arith) g)
 
-pub presetIn-run : (b : List ℕ) (t i j : ℕ) → j < t → presetIn (presetFields b t i) (5 * j) ≡ checkedPreset b (i + j)
-presetIn-run b t i j h =
+pub presetIn-run : (ed : Edition) (b : List ℕ) (t i j : ℕ) → j < t → presetIn (presetFields ed b t i) (5 * j) ≡ checkedPreset ed b (i + j)
+presetIn-run ed b t i j h =
     let none : 5 * j ≡ 5 * j + 0 = omega arith in
-    let at = presetFields-at b t i j in
-    rw (at 1 h (omega arith), at 2 h (omega arith), at 3 h (omega arith), at 4 h (omega arith), none, at 0 h (omega arith)) (presetFrom-fieldsOf b (i + j))
+    let at = presetFields-at ed b t i j in
+    rw (at 1 h (omega arith), at 2 h (omega arith), at 3 h (omega arith), at 4 h (omega arith), none, at 0 h (omega arith)) (presetFrom-fieldsOf ed b (i + j))
 
 -- ---- reading a run
 
 -- what reading a run from preset i on answers, and the list afterwards: r is the refusal of the book, c the count
-module _ (b : List ℕ) (i : ℕ) (out : List ℕ) (r : ℕ) (e : r ≡ bookRefusal b) where
-  pub reading-book : (r ≡ 0 → ⊥) → (answer.Refused r ≡ readingPresets b i out .answer) × (out ≡ readingPresets b i out .bytes)
+module _ (ed : Edition) (b : List ℕ) (i : ℕ) (out : List ℕ) (r : ℕ) (e : r ≡ bookRefusal ed b) where
+  pub reading-book : (r ≡ 0 → ⊥) → (answer.Refused r ≡ readingPresets ed b i out .answer) × (out ≡ readingPresets ed b i out .bytes)
   unfolding readingPresets answerOf written
   reading-book f = rw (← e, ne-eqb r 0 f) (rw (ne-eqb r 0 f) (refl, refl))
 
   module _ (z : r ≡ 0) (c : ℕ) (q : c ≡ twoAt b (length b - 2)) where
-    pub reading-number : c ≤ i → (answer.Refused 4 ≡ readingPresets b i out .answer) × (out ≡ readingPresets b i out .bytes)
+    pub reading-number : c ≤ i → (answer.Refused 4 ≡ readingPresets ed b i out .answer) × (out ≡ readingPresets ed b i out .bytes)
     unfolding readingPresets noSuchPreset answerOf written
     reading-number h = rw (← e, eq-eqb r 0 z, ← count-read b c q, le-leb c i h) (refl, refl)
 
-    pub reading-short : i < c → length out < 5 → (answer.Refused 14 ≡ readingPresets b i out .answer) × (out ≡ readingPresets b i out .bytes)
+    pub reading-short : i < c → length out < 5 → (answer.Refused 14 ≡ readingPresets ed b i out .answer) × (out ≡ readingPresets ed b i out .bytes)
     unfolding readingPresets noSuchPreset tooShort answerOf written
     reading-short h g = rw (← e, eq-eqb r 0 z, ← count-read b c q, lt-leb c i h, lt-ltb (length out) 5 g) (refl, refl)
 
-    pub reading-run : (t : ℕ) (o : List ℕ) → i < c → 5 ≤ length out → t ≡ min (c - i) (length out / 5) → o ≡ sets out 0 (presetFields b t i)
-        → (answer.Length t ≡ readingPresets b i out .answer) × (o ≡ readingPresets b i out .bytes)
+    pub reading-run : (t : ℕ) (o : List ℕ) → i < c → 5 ≤ length out → t ≡ min (c - i) (length out / 5) → o ≡ sets out 0 (presetFields ed b t i)
+        → (answer.Length t ≡ readingPresets ed b i out .answer) × (o ≡ readingPresets ed b i out .bytes)
     unfolding readingPresets noSuchPreset tooShort runLength answerOf written
     reading-run t o h g y p =
-        let numbers = presetFields b t i in
-        let l = length-presetFields b t i in
+        let numbers = presetFields ed b t i in
+        let l = length-presetFields ed b t i in
         let m = min-le-right (c - i) (length out / 5) in
         let w : o ≡ numbers ++ drop (length numbers) out = p ∙ sets-front numbers out (length numbers) (omega arith) refl in
         rw (← e, eq-eqb r 0 z, ← count-read b c q, lt-leb c i h, le-ltb (length out) 5 g, ← y) (refl, w)
 
 -- a run of n presets from preset i on, in numbers at the front of l
-pub record Run (b : List ℕ) (i n : ℕ) (l : List ℕ) : Type 0 where
-  pub accepted : bookRefusal b ≡ 0
+pub record Run (ed : Edition) (b : List ℕ) (i n : ℕ) (l : List ℕ) : Type 0 where
+  pub accepted : bookRefusal ed b ≡ 0
   pub some : 0 < n
   pub within : i + n ≤ count b
   pub room : 5 * n ≤ length l
-  pub numbers : take (5 * n) l ≡ presetFields b n i
+  pub numbers : take (5 * n) l ≡ presetFields ed b n i
 
 -- what a call says that answered a length
-pub run-read : (b : List ℕ) (i : ℕ) (out : List ℕ) (a : Answer) (l : List ℕ) (n : ℕ)
-    → (a ≡ readingPresets b i out .answer) × (l ≡ readingPresets b i out .bytes) → a ≡ answer.Length n → Run b i n l
+pub run-read : (ed : Edition) (b : List ℕ) (i : ℕ) (out : List ℕ) (a : Answer) (l : List ℕ) (n : ℕ)
+    → (a ≡ readingPresets ed b i out .answer) × (l ≡ readingPresets ed b i out .bytes) → a ≡ answer.Length n → Run ed b i n l
 unfolding readingPresets runLength noSuchPreset tooShort answerOf written
-run-read b i out a l n h e = elim (ℕ-discrete refusal 0) [ yes z ↦ at z | no f ↦ absurd (never f) ]
+run-read ed b i out a l n h e = elim (ℕ-discrete refusal 0) [ yes z ↦ at z | no f ↦ absurd (never f) ]
   where
     numbered : ℕ
     numbered = check 4 (leb (count b) i)
 
     refusal : ℕ
-    refusal = bookRefusal b then numbered then check 14 (ltb (length out) 5)
+    refusal = bookRefusal ed b then numbered then check 14 (ltb (length out) 5)
 
     longest : ℕ
     longest = min (count b - i) (length out / 5)
 
-    at : refusal ≡ 0 → Run b i n l
+    at : refusal ≡ 0 → Run ed b i n l
     at z =
         let t = eq-eqb refusal 0 z in
         let p : answer.Length n ≡ answer.Length longest = sym e ∙ rw t at (h .0) in
         let m : n ≡ longest = cc in
-        let books = then-zero (bookRefusal b) (numbered then check 14 (ltb (length out) 5)) z in
+        let books = then-zero (bookRefusal ed b) (numbered then check 14 (ltb (length out) 5)) z in
         let tests = then-zero numbered (check 14 (ltb (length out) 5)) (books .1) in
         let below = leb-false (count b) i (check-zero 3 (leb (count b) i) (tests .0)) in
         let roomy = ltb-false (length out) 5 (check-zero 13 (ltb (length out) 5) (tests .1)) in
-        let w : l ≡ presetFields b n i ++ drop (length (presetFields b n i)) out = rw m (rw t at (h .1)) in
-        let s = length-presetFields b n i in
+        let w : l ≡ presetFields ed b n i ++ drop (length (presetFields ed b n i)) out = rw m (rw t at (h .1)) in
+        let s = length-presetFields ed b n i in
         record {
           accepted = books .0;
           some = rw m (le-min (omega arith) (omega arith));
           within = omega (arith, min-le-left (count b - i) (length out / 5));
           room = rw w (rw length-append (omega arith));
-          numbers = rw w (take-at (presetFields b n i) (drop (length (presetFields b n i)) out) (5 * n) s);
+          numbers = rw w (take-at (presetFields ed b n i) (drop (length (presetFields ed b n i)) out) (5 * n) s);
         }
 
     never : (refusal ≡ 0 → ⊥) → ⊥

@@ -7,6 +7,7 @@ use Prim.Native.Nat.{ℕ}
 use native.Mathlib.Omega.{arith}
 use lib.Dec.{eqb}
 use lib.ListN.{length, drop}
+use Rattle.book_format.specs.declared.Edition.{Edition}
 use Rattle.coxeter.specs.declared.Answer.the-variants.{Length, Refused}
 use Rattle.coxeter.specs.Kinds.{pick}
 use Rattle.coxeter.specs.Checks.{check, _then_, tooShort}
@@ -15,20 +16,20 @@ use Rattle.coxeter.proofs.Unchanged.{writes-unchanged}
 use Rattle.book_format.specs.Books.{noSuchPreset, bookRefusal}
 use Rattle.book_format.specs.Calls.{presetFields, runLength, readingPresets, appending}
 
-pub appending-unchanged : (b : List ℕ) (k n : ℕ) (u out : List ℕ) (r : ℕ)
-    → appending b k n u out .answer ≡ Refused r → appending b k n u out .bytes ≡ out
+pub appending-unchanged : (ed : Edition) (b : List ℕ) (k n : ℕ) (u out : List ℕ) (r : ℕ)
+    → appending ed b k n u out .answer ≡ Refused r → appending ed b k n u out .bytes ≡ out
 unfolding appending
-appending-unchanged b k n u out = writes-unchanged _ _ out
+appending-unchanged ed b k n u out = writes-unchanged _ _ out
 
 pick-unchanged : (t : Bool) (s m : ℕ) (l out : List ℕ) (r : ℕ) → pick t (Length m) (Refused s) ≡ Refused r
     → pick t (l ++ drop (length l) out) out ≡ out
 pick-unchanged true s m l out r h = let z : _≡_ {A = ℕ} 0 1 = cc in absurd (omega arith)
 pick-unchanged false s m l out r h = refl
 
-pub readingPresets-unchanged : (b : List ℕ) (i : ℕ) (out : List ℕ) (r : ℕ)
-    → readingPresets b i out .answer ≡ Refused r → readingPresets b i out .bytes ≡ out
+pub readingPresets-unchanged : (ed : Edition) (b : List ℕ) (i : ℕ) (out : List ℕ) (r : ℕ)
+    → readingPresets ed b i out .answer ≡ Refused r → readingPresets ed b i out .bytes ≡ out
 unfolding readingPresets answerOf written
-readingPresets-unchanged b i out =
-    let s = bookRefusal b then check 4 (noSuchPreset b i) then check 14 (tooShort 5 out) in
+readingPresets-unchanged ed b i out =
+    let s = bookRefusal ed b then check 4 (noSuchPreset b i) then check 14 (tooShort 5 out) in
     let t = runLength b i out in
-    pick-unchanged (eqb s 0) s t (presetFields b t i) out
+    pick-unchanged (eqb s 0) s t (presetFields ed b t i) out

@@ -15,11 +15,13 @@ use Rattle.coxeter.specs.Kinds.{kindOf}
 use Rattle.coxeter.specs.Checks.{wrongKind, tooLong, wrongLetter, tooShort, wordRefusal}
 use Rattle.coxeter.specs.Calls.{answerOf, written, Outcome, writes}
 use Rattle.coxeter.proofs.Vectors.{Agree, lent, wrote, refused}
+use Rattle.book_format.specs.declared.Edition.{Edition}
+use Rattle.book_format.specs.declared.Edition.the-variants.{First, Second}
 use Rattle.book_format.specs.declared.Opened.{Opened}
 use Rattle.book_format.specs.declared.Opened.the-variants as opened
 use Rattle.book_format.specs.declared.Preset.{Preset}
 use Rattle.book_format.specs.declared.Preset.the-variants as preset
-use Rattle.book_format.specs.Books.{twoAt, two, count, trailer, offset, wrongSize, wrongCount, misplacedFrom, misplaced, noSuchPreset, tooLarge, wrongRankInBook, bookRankRefusal, bookRefusal, recordRefusal, presetRefusal, recordOf, added, appended, appendRefusal}
+use Rattle.book_format.specs.Books.{twoAt, two, count, trailer, offset, wrongSize, wrongCount, misplacedFrom, misplaced, noSuchPreset, tooLarge, wrongRankInBook, wrongLaneCount, bookRankRefusal, bookRefusal, recordRefusal, presetRefusal, recordOf, added, appended, appendRefusal}
 use Rattle.book_format.specs.Records.{Bytes}
 use Rattle.book_format.proofs.BookLaws.{accepted}
 use Rattle.book_format.proofs.WritingLaws.{length-appended, appendRefusal-large, appendRefusal-none}
@@ -46,6 +48,11 @@ pub book-bytes : Bytes book
 unfolding allBytes
 book-bytes = bytes-true book refl
 
+-- its presets in the second edition
+abbrev pub secondBook : List ℕ
+secondBook =
+    2 ∷ 2 ∷ 2 ∷ 4 ∷ 0 ∷ 1 ∷ 2 ∷ 1 ∷ 2 ∷ 3 ∷ 5 ∷ 5 ∷ 6 ∷ 0 ∷ 5 ∷ 2 ∷ 3 ∷ 5 ∷ 1 ∷ 2 ∷ 0 ∷ 0 ∷ 9 ∷ 0 ∷ 2 ∷ 0 ∷ []
+
 -- no presets
 abbrev pub emptyBook : List ℕ
 emptyBook = 0 ∷ 0 ∷ []
@@ -58,20 +65,25 @@ bookOf r = r ++ (0 ∷ 0 ∷ 1 ∷ 0 ∷ [])
 
 pub opening : List (Opened × Opened)
 opening =
-    (checkedBook book, opened.Presets 2)
-    ∷ (checkedBook emptyBook, opened.Presets 0)
+    (checkedBook First book, opened.Presets 2)
+    ∷ (checkedBook First emptyBook, opened.Presets 0)
     -- opening does not look into the records
-    ∷ (checkedBook (bookOf (0 ∷ 0 ∷ 0 ∷ 0 ∷ [])), opened.Presets 1)
+    ∷ (checkedBook First (bookOf (0 ∷ 0 ∷ 0 ∷ 0 ∷ [])), opened.Presets 1)
     -- too few bytes; too many below
-    ∷ (checkedBook (0 ∷ []), opened.Refused 1)
+    ∷ (checkedBook First (0 ∷ []), opened.Refused 1)
     -- a count of 1, and of 256, without room for the offsets
-    ∷ (checkedBook (1 ∷ 0 ∷ []), opened.Refused 2)
-    ∷ (checkedBook (0 ∷ 1 ∷ []), opened.Refused 2)
+    ∷ (checkedBook First (1 ∷ 0 ∷ []), opened.Refused 2)
+    ∷ (checkedBook First (0 ∷ 1 ∷ []), opened.Refused 2)
     -- with no presets the trailer is not at byte 0; an offset is not 0; a record runs into the trailer; the last record ends before it
-    ∷ (checkedBook (7 ∷ 0 ∷ 0 ∷ []), opened.Refused 3)
-    ∷ (checkedBook (1 ∷ 1 ∷ 0 ∷ 0 ∷ 1 ∷ 0 ∷ 1 ∷ 0 ∷ []), opened.Refused 3)
-    ∷ (checkedBook (bookOf (1 ∷ 1 ∷ 1 ∷ 0 ∷ [])), opened.Refused 3)
-    ∷ (checkedBook (bookOf (1 ∷ 1 ∷ 0 ∷ 0 ∷ 7 ∷ [])), opened.Refused 3)
+    ∷ (checkedBook First (7 ∷ 0 ∷ 0 ∷ []), opened.Refused 3)
+    ∷ (checkedBook First (1 ∷ 1 ∷ 0 ∷ 0 ∷ 1 ∷ 0 ∷ 1 ∷ 0 ∷ []), opened.Refused 3)
+    ∷ (checkedBook First (bookOf (1 ∷ 1 ∷ 1 ∷ 0 ∷ [])), opened.Refused 3)
+    ∷ (checkedBook First (bookOf (1 ∷ 1 ∷ 0 ∷ 0 ∷ 7 ∷ [])), opened.Refused 3)
+    -- the second edition; a book of the one read as the other
+    ∷ (checkedBook Second secondBook, opened.Presets 2)
+    ∷ (checkedBook Second emptyBook, opened.Presets 0)
+    ∷ (checkedBook Second book, opened.Refused 3)
+    ∷ (checkedBook First secondBook, opened.Refused 3)
     ∷ []
 
 pub opening-agrees : Agree opening
@@ -83,9 +95,9 @@ pub largest-book : (b : List ℕ) → length b ≡ 65535 → wrongSize b ≡ fal
 unfolding wrongSize
 largest-book b e = rw e
 
-pub too-large-book : (b : List ℕ) → length b ≡ 65536 → checkedBook b ≡ opened.Refused 1
+pub too-large-book : (ed : Edition) (b : List ℕ) → length b ≡ 65536 → checkedBook ed b ≡ opened.Refused 1
 unfolding wrongSize bookRefusal openedOf checkedBook
-too-large-book b e = rw e
+too-large-book ed b e = rw e
 
 -- ---- presets
 
@@ -95,27 +107,39 @@ twice = 1 ∷ 1 ∷ 0 ∷ 0 ∷ 1 ∷ 1 ∷ 0 ∷ 0 ∷ 0 ∷ 0 ∷ 0 ∷ 0 ∷ 
 
 pub reading : List (Preset × Preset)
 reading =
-    (checkedPreset book 0, preset.Found 2 2 4 4)
-    ∷ (checkedPreset book 1, preset.Found 3 5 12 6)
-    ∷ (checkedPreset (bookOf (1 ∷ 1 ∷ 0 ∷ 1 ∷ replicate 256 1)) 0, preset.Found 1 1 4 256)
+    (checkedPreset First book 0, preset.Found 2 2 4 4)
+    ∷ (checkedPreset First book 1, preset.Found 3 5 12 6)
+    ∷ (checkedPreset First (bookOf (1 ∷ 1 ∷ 0 ∷ 1 ∷ replicate 256 1)) 0, preset.Found 1 1 4 256)
     -- the count is no preset's number; the book's checks come first
-    ∷ (checkedPreset book 2, preset.Refused 4)
-    ∷ (checkedPreset (7 ∷ 0 ∷ 0 ∷ []) 0, preset.Refused 3)
-    ∷ (checkedPreset twice 1, preset.Refused 3)
-    ∷ (checkedPreset twice 5, preset.Refused 3)
+    ∷ (checkedPreset First book 2, preset.Refused 4)
+    ∷ (checkedPreset First (7 ∷ 0 ∷ 0 ∷ []) 0, preset.Refused 3)
+    ∷ (checkedPreset First twice 1, preset.Refused 3)
+    ∷ (checkedPreset First twice 5, preset.Refused 3)
     -- kind, rank (a book's ranges are the old ones), letter
-    ∷ (checkedPreset (bookOf (4 ∷ 1 ∷ 0 ∷ 0 ∷ [])) 0, preset.Refused 5)
-    ∷ (checkedPreset (bookOf (1 ∷ 31 ∷ 0 ∷ 0 ∷ [])) 0, preset.Found 1 31 4 0)
-    ∷ (checkedPreset (bookOf (1 ∷ 32 ∷ 0 ∷ 0 ∷ [])) 0, preset.Refused 6)
-    ∷ (checkedPreset (bookOf (2 ∷ 32 ∷ 0 ∷ 0 ∷ [])) 0, preset.Found 2 32 4 0)
-    ∷ (checkedPreset (bookOf (2 ∷ 33 ∷ 0 ∷ 0 ∷ [])) 0, preset.Refused 6)
-    ∷ (checkedPreset (bookOf (3 ∷ 33 ∷ 0 ∷ 0 ∷ [])) 0, preset.Refused 6)
-    ∷ (checkedPreset (bookOf (1 ∷ 1 ∷ 1 ∷ 0 ∷ 2 ∷ [])) 0, preset.Refused 8)
+    ∷ (checkedPreset First (bookOf (4 ∷ 1 ∷ 0 ∷ 0 ∷ [])) 0, preset.Refused 5)
+    ∷ (checkedPreset First (bookOf (1 ∷ 31 ∷ 0 ∷ 0 ∷ [])) 0, preset.Found 1 31 4 0)
+    ∷ (checkedPreset First (bookOf (1 ∷ 32 ∷ 0 ∷ 0 ∷ [])) 0, preset.Refused 6)
+    ∷ (checkedPreset First (bookOf (2 ∷ 32 ∷ 0 ∷ 0 ∷ [])) 0, preset.Found 2 32 4 0)
+    ∷ (checkedPreset First (bookOf (2 ∷ 33 ∷ 0 ∷ 0 ∷ [])) 0, preset.Refused 6)
+    ∷ (checkedPreset First (bookOf (3 ∷ 33 ∷ 0 ∷ 0 ∷ [])) 0, preset.Refused 6)
+    ∷ (checkedPreset First (bookOf (1 ∷ 1 ∷ 1 ∷ 0 ∷ 2 ∷ [])) 0, preset.Refused 8)
+    -- the second edition: its ranges are those of the calls
+    ∷ (checkedPreset Second secondBook 0, preset.Found 2 2 5 4)
+    ∷ (checkedPreset Second secondBook 1, preset.Found 3 5 14 6)
+    ∷ (checkedPreset Second (bookOf (1 ∷ 63 ∷ 64 ∷ 0 ∷ 0 ∷ [])) 0, preset.Found 1 63 5 0)
+    ∷ (checkedPreset Second (bookOf (2 ∷ 64 ∷ 64 ∷ 0 ∷ 0 ∷ [])) 0, preset.Found 2 64 5 0)
+    -- kind, rank, lane count (n + 1 in A, n in B and D), letter
+    ∷ (checkedPreset Second (bookOf (4 ∷ 0 ∷ 9 ∷ 0 ∷ 0 ∷ [])) 0, preset.Refused 5)
+    ∷ (checkedPreset Second (bookOf (1 ∷ 64 ∷ 9 ∷ 0 ∷ 0 ∷ [])) 0, preset.Refused 6)
+    ∷ (checkedPreset Second (bookOf (1 ∷ 1 ∷ 1 ∷ 1 ∷ 0 ∷ 2 ∷ [])) 0, preset.Refused 17)
+    ∷ (checkedPreset Second (bookOf (2 ∷ 2 ∷ 3 ∷ 1 ∷ 0 ∷ 2 ∷ [])) 0, preset.Refused 17)
+    ∷ (checkedPreset Second (bookOf (3 ∷ 4 ∷ 5 ∷ 1 ∷ 0 ∷ 2 ∷ [])) 0, preset.Refused 17)
+    ∷ (checkedPreset Second (bookOf (1 ∷ 1 ∷ 2 ∷ 1 ∷ 0 ∷ 2 ∷ [])) 0, preset.Refused 8)
     ∷ []
 
 pub reading-agrees : Agree reading
 unfolding reading
-    kindOf wrongKind wrongRankInBook tooLong wrongLetter bookRankRefusal wordRefusal
+    kindOf wrongKind wrongRankInBook wrongLaneCount tooLong wrongLetter bookRankRefusal wordRefusal
     twoAt count trailer offset wrongSize wrongCount misplacedFrom misplaced noSuchPreset bookRefusal recordRefusal presetRefusal
     presetOf presetAt checkedPreset
 reading-agrees = refl
@@ -125,22 +149,24 @@ reading-agrees = refl
 -- both presets with room for them and a number more; the second alone; the first where only one has room; a refused record beside an accepted one
 pub runs : List (Outcome ℕ × Outcome ℕ)
 runs =
-    (readingPresets book 0 (lent 11), wrote 2 (0 ∷ 2 ∷ 2 ∷ 4 ∷ 4 ∷ 0 ∷ 3 ∷ 5 ∷ 12 ∷ 6 ∷ 9 ∷ []))
-    ∷ (readingPresets book 1 (lent 11), wrote 1 (0 ∷ 3 ∷ 5 ∷ 12 ∷ 6 ∷ lent 6))
-    ∷ (readingPresets book 0 (lent 9), wrote 1 (0 ∷ 2 ∷ 2 ∷ 4 ∷ 4 ∷ lent 4))
-    ∷ (readingPresets (bookOf (1 ∷ 32 ∷ 0 ∷ 0 ∷ [])) 0 (lent 5), wrote 1 (6 ∷ 0 ∷ 0 ∷ 0 ∷ 0 ∷ []))
+    (readingPresets First book 0 (lent 11), wrote 2 (0 ∷ 2 ∷ 2 ∷ 4 ∷ 4 ∷ 0 ∷ 3 ∷ 5 ∷ 12 ∷ 6 ∷ 9 ∷ []))
+    ∷ (readingPresets First book 1 (lent 11), wrote 1 (0 ∷ 3 ∷ 5 ∷ 12 ∷ 6 ∷ lent 6))
+    ∷ (readingPresets First book 0 (lent 9), wrote 1 (0 ∷ 2 ∷ 2 ∷ 4 ∷ 4 ∷ lent 4))
+    ∷ (readingPresets First (bookOf (1 ∷ 32 ∷ 0 ∷ 0 ∷ [])) 0 (lent 5), wrote 1 (6 ∷ 0 ∷ 0 ∷ 0 ∷ 0 ∷ []))
+    ∷ (readingPresets Second (bookOf (1 ∷ 2 ∷ 2 ∷ 0 ∷ 0 ∷ [])) 0 (lent 5), wrote 1 (17 ∷ 0 ∷ 0 ∷ 0 ∷ 0 ∷ []))
+    ∷ (readingPresets Second secondBook 1 (lent 5), wrote 1 (0 ∷ 3 ∷ 5 ∷ 14 ∷ 6 ∷ []))
     -- past the last preset, not even room for one, a book without presets, and a book whose offsets are wrong
-    ∷ (readingPresets book 2 (lent 11), refused 4 (lent 11))
-    ∷ (readingPresets book 0 (lent 4), refused 14 (lent 4))
-    ∷ (readingPresets book 2 (lent 4), refused 4 (lent 4))
-    ∷ (readingPresets emptyBook 0 (lent 5), refused 4 (lent 5))
-    ∷ (readingPresets twice 1 (lent 5), refused 3 (lent 5))
-    ∷ (readingPresets twice 5 (lent 5), refused 3 (lent 5))
+    ∷ (readingPresets First book 2 (lent 11), refused 4 (lent 11))
+    ∷ (readingPresets First book 0 (lent 4), refused 14 (lent 4))
+    ∷ (readingPresets First book 2 (lent 4), refused 4 (lent 4))
+    ∷ (readingPresets First emptyBook 0 (lent 5), refused 4 (lent 5))
+    ∷ (readingPresets First twice 1 (lent 5), refused 3 (lent 5))
+    ∷ (readingPresets First twice 5 (lent 5), refused 3 (lent 5))
     ∷ []
 
 pub runs-agree : Agree runs
 unfolding runs
-    kindOf wrongKind wrongRankInBook tooLong wrongLetter tooShort bookRankRefusal wordRefusal answerOf written
+    kindOf wrongKind wrongRankInBook wrongLaneCount tooLong wrongLetter tooShort bookRankRefusal wordRefusal answerOf written
     twoAt count trailer offset wrongSize wrongCount misplacedFrom misplaced noSuchPreset bookRefusal recordRefusal presetRefusal
     presetOf presetAt checkedPreset fieldsOf presetFields runLength readingPresets
 runs-agree = refl
@@ -148,21 +174,23 @@ runs-agree = refl
 -- ---- letters
 
 -- the byte where the part begins, and its bytes: in a refused preset's place an empty part
-abbrev handedOut : List ℕ → ℕ → ℕ × List ℕ
-handedOut b i = (lettersStart b i, lettersOf b i)
+abbrev handedOut : Edition → List ℕ → ℕ → ℕ × List ℕ
+handedOut ed b i = (lettersStart ed b i, lettersOf ed b i)
 
 pub letters : List ((ℕ × List ℕ) × (ℕ × List ℕ))
 letters =
-    (handedOut book 0, (4, 1 ∷ 2 ∷ 1 ∷ 2 ∷ []))
-    ∷ (handedOut book 1, (12, 5 ∷ 2 ∷ 3 ∷ 5 ∷ 1 ∷ 2 ∷ []))
-    ∷ (handedOut book 2, (0, []))
-    ∷ (handedOut (bookOf (1 ∷ 1 ∷ 1 ∷ 0 ∷ 2 ∷ [])) 0, (0, []))
-    ∷ (handedOut (bookOf (1 ∷ 1 ∷ 0 ∷ 0 ∷ [])) 0, (4, []))
+    (handedOut First book 0, (4, 1 ∷ 2 ∷ 1 ∷ 2 ∷ []))
+    ∷ (handedOut First book 1, (12, 5 ∷ 2 ∷ 3 ∷ 5 ∷ 1 ∷ 2 ∷ []))
+    ∷ (handedOut First book 2, (0, []))
+    ∷ (handedOut First (bookOf (1 ∷ 1 ∷ 1 ∷ 0 ∷ 2 ∷ [])) 0, (0, []))
+    ∷ (handedOut First (bookOf (1 ∷ 1 ∷ 0 ∷ 0 ∷ [])) 0, (4, []))
+    ∷ (handedOut Second secondBook 1, (14, 5 ∷ 2 ∷ 3 ∷ 5 ∷ 1 ∷ 2 ∷ []))
+    ∷ (handedOut Second (bookOf (1 ∷ 1 ∷ 1 ∷ 1 ∷ 0 ∷ 1 ∷ [])) 0, (0, []))
     ∷ []
 
 pub letters-agree : Agree letters
 unfolding letters
-    kindOf wrongKind wrongRankInBook tooLong wrongLetter bookRankRefusal wordRefusal
+    kindOf wrongKind wrongRankInBook wrongLaneCount tooLong wrongLetter bookRankRefusal wordRefusal
     twoAt count trailer offset wrongSize wrongCount misplacedFrom misplaced noSuchPreset bookRefusal recordRefusal presetRefusal
     lettersStart lettersOf
 letters-agree = refl
@@ -171,32 +199,36 @@ letters-agree = refl
 
 pub appendings : List (Outcome ℕ × Outcome ℕ)
 appendings =
-    (appending emptyBook 1 1 (1 ∷ []) (lent 10), wrote 9 (1 ∷ 1 ∷ 1 ∷ 0 ∷ 1 ∷ 0 ∷ 0 ∷ 1 ∷ 0 ∷ 9 ∷ []))
+    (appending First emptyBook 1 1 (1 ∷ []) (lent 10), wrote 9 (1 ∷ 1 ∷ 1 ∷ 0 ∷ 1 ∷ 0 ∷ 0 ∷ 1 ∷ 0 ∷ 9 ∷ []))
     -- the second preset: its offset behind the first's
-    ∷ (appending (bookOf (1 ∷ 1 ∷ 0 ∷ 0 ∷ [])) 2 2 (2 ∷ []) (lent 15), wrote 15 (1 ∷ 1 ∷ 0 ∷ 0 ∷ 2 ∷ 2 ∷ 1 ∷ 0 ∷ 2 ∷ 0 ∷ 0 ∷ 4 ∷ 0 ∷ 2 ∷ 0 ∷ []))
+    ∷ (appending First (bookOf (1 ∷ 1 ∷ 0 ∷ 0 ∷ [])) 2 2 (2 ∷ []) (lent 15), wrote 15 (1 ∷ 1 ∷ 0 ∷ 0 ∷ 2 ∷ 2 ∷ 1 ∷ 0 ∷ 2 ∷ 0 ∷ 0 ∷ 4 ∷ 0 ∷ 2 ∷ 0 ∷ []))
+    -- the second edition, with the lane count after the rank, and its ranges
+    ∷ (appending Second emptyBook 1 1 (1 ∷ []) (lent 10), wrote 10 (1 ∷ 1 ∷ 2 ∷ 1 ∷ 0 ∷ 1 ∷ 0 ∷ 0 ∷ 1 ∷ 0 ∷ []))
+    ∷ (appending Second (bookOf (1 ∷ 1 ∷ 2 ∷ 0 ∷ 0 ∷ [])) 3 64 (64 ∷ []) (lent 17), wrote 17 (1 ∷ 1 ∷ 2 ∷ 0 ∷ 0 ∷ 3 ∷ 64 ∷ 64 ∷ 1 ∷ 0 ∷ 64 ∷ 0 ∷ 0 ∷ 5 ∷ 0 ∷ 2 ∷ 0 ∷ []))
+    ∷ (appending Second emptyBook 1 64 [] (lent 9), refused 6 (lent 9))
     -- the book's refusal before the preset's, the preset's before the room
-    ∷ (appending (7 ∷ 0 ∷ 0 ∷ []) 4 1 [] (lent 1), refused 3 (lent 1))
-    ∷ (appending emptyBook 2 33 [] (lent 9), refused 6 (lent 9))
-    ∷ (appending emptyBook 1 1 (2 ∷ []) (lent 1), refused 8 (lent 1))
-    ∷ (appending emptyBook 1 1 (1 ∷ []) (lent 8), refused 14 (lent 8))
+    ∷ (appending First (7 ∷ 0 ∷ 0 ∷ []) 4 1 [] (lent 1), refused 3 (lent 1))
+    ∷ (appending First emptyBook 2 33 [] (lent 9), refused 6 (lent 9))
+    ∷ (appending First emptyBook 1 1 (2 ∷ []) (lent 1), refused 8 (lent 1))
+    ∷ (appending First emptyBook 1 1 (1 ∷ []) (lent 8), refused 14 (lent 8))
     ∷ []
 
 pub appendings-agree : Agree appendings
 unfolding appendings
-    kindOf wrongKind wrongRankInBook tooLong wrongLetter tooShort bookRankRefusal wordRefusal answerOf written writes
+    kindOf wrongKind wrongRankInBook wrongLaneCount tooLong wrongLetter tooShort bookRankRefusal wordRefusal answerOf written writes
     twoAt two count trailer offset wrongSize wrongCount misplacedFrom misplaced tooLarge bookRefusal recordOf appended appendRefusal
     appending
 appendings-agree = refl
 
 -- the size limit, for every accepted book and preset: a new book of 65,536 bytes or more is refused before the room is looked at, a smaller one only
 -- where there is no room
-module _ (b : List ℕ) (k n : ℕ) (u out : List ℕ) (e : bookRefusal b ≡ 0) (f : bookRankRefusal k n ≡ 0) (g : wordRefusal n u ≡ 0) where
-  pub appending-too-large : 65535 < length b + added u → appending b k n u out ≡ refused 13 out
+module _ (ed : Edition) (b : List ℕ) (k n : ℕ) (u out : List ℕ) (e : bookRefusal ed b ≡ 0) (f : bookRankRefusal ed k n ≡ 0) (g : wordRefusal n u ≡ 0) where
+  pub appending-too-large : 65535 < length b + added ed u → appending ed b k n u out ≡ refused 13 out
   unfolding appending writes answerOf written
-  appending-too-large h = rw (appendRefusal-large b k n u 0 (sym e) 0 refl (sym f) 0 refl (sym g) refl h)
+  appending-too-large h = rw (appendRefusal-large ed b k n u 0 (sym e) 0 refl (sym f) 0 refl (sym g) refl h)
 
-  pub appending-without-room : length b + added u ≤ 65535 → length out < length b + added u → appending b k n u out ≡ refused 14 out
+  pub appending-without-room : length b + added ed u ≤ 65535 → length out < length b + added ed u → appending ed b k n u out ≡ refused 14 out
   unfolding appending writes answerOf written tooShort
   appending-without-room h l =
-      let s = length b + added u in
-      rw (appendRefusal-none b k n u 0 (sym e) 0 refl (sym f) 0 refl (sym g) refl h, length-appended b k n u (accepted b e), lt-ltb (length out) s l)
+      let s = length b + added ed u in
+      rw (appendRefusal-none ed b k n u 0 (sym e) 0 refl (sym f) 0 refl (sym g) refl h, length-appended ed b k n u (accepted ed b e), lt-ltb (length out) s l)

@@ -9,11 +9,15 @@ use native.Mathlib.Omega.{arith}
 use lib.ListN.{length, length-append, length-take, length-drop}
 use lib.Seq.{sets}
 use borrow.Author.Tests.{eq-eqb, ne-eqb, lt-ltb, le-ltb, ltb-false}
+use Rattle.book_format.specs.declared.Edition.{Edition}
+use Rattle.book_format.specs.declared.Edition.the-variants.{First, Second}
 use Rattle.coxeter.specs.declared.Answer.the-variants as answer
 use Rattle.coxeter.specs.Checks.{check, _then_, wordRefusal}
-use Rattle.book_format.specs.Books.{two, trailer, tooLarge, bookRankRefusal, bookRefusal, recordOf, appended, appendRefusal, headSize, added}
+use Rattle.book_format.specs.Books.{two, trailer, tooLarge, bookRankRefusal, bookRefusal, laneByte, recordOf, appended, appendRefusal, countPlace, headSize, added}
 use Rattle.book_format.specs.Calls.{appending}
+use Rattle.book_format.proofs.RankLaws.{bookRank-accepted}
 use Rattle.book_format.proofs.BookLaws.{Accepted, accepted, accepted-read}
+use Rattle.coxeter.proofs.Acceptance.{rank-accepted}
 use Rattle.coxeter.proofs.Lists.{sets-front}
 use Rattle.coxeter.proofs.Outcomes.{writes-refused, writes-short, writes-done}
 use Rattle.coxeter.proofs.Refusals.{then-zero, check-zero, then-none}
@@ -24,87 +28,98 @@ pub length-two : (x : ℕ) → length (two x) ≡ 2
 unfolding two
 length-two x = refl
 
-pub length-recordOf : (k n : ℕ) (u : List ℕ) → length (recordOf k n u) ≡ headSize + length u
-unfolding recordOf
-length-recordOf k n u = simp (length-append, length-two) (omega arith)
+pub length-laneByte : (ed : Edition) (m : ℕ) → 2 + length (laneByte ed m) ≡ countPlace ed
+length-laneByte First m = refl
+length-laneByte Second m = refl
 
-pub length-appended : (b : List ℕ) (k n : ℕ) (u : List ℕ) → Accepted b → length (appended b k n u) ≡ length b + added u
+pub length-recordOf : (ed : Edition) (k n m : ℕ) (u : List ℕ) → length (recordOf ed k n m u) ≡ headSize ed + length u
+unfolding recordOf
+length-recordOf ed k n m u = let l = length-laneByte ed m in simp (length-append, length-two) (omega arith)
+
+pub length-appended : (ed : Edition) (b : List ℕ) (k n : ℕ) (u : List ℕ) → Accepted ed b → length (appended ed b k n u) ≡ length b + added ed u
 unfolding appended trailer
-length-appended b k n u a = let h = a .fits in simp (length-append, length-recordOf, length-two, length-take, length-drop) (omega arith)
+length-appended ed b k n u a = let h = a .fits in simp (length-append, length-recordOf, length-two, length-take, length-drop) (omega arith)
+
+-- its length, as the code computes it: p is the place of a letter count
+pub size-read : (ed : Edition) (b u : List ℕ) (p : ℕ) → p ≡ countPlace ed → length b + (p + 2 + length u + 2) ≡ length b + added ed u
+size-read ed b u p e = rw e
 
 -- ---- appending
 
 -- r is the refusal of the book, s that of the kind and the rank, t that of the word
-module _ (b : List ℕ) (k n : ℕ) (u : List ℕ) (r : ℕ) (e : r ≡ bookRefusal b) where
-  pub appendRefusal-book : (r ≡ 0 → ⊥) → appendRefusal b k n u ≡ r
+module _ (ed : Edition) (b : List ℕ) (k n : ℕ) (u : List ℕ) (r : ℕ) (e : r ≡ bookRefusal ed b) where
+  pub appendRefusal-book : (r ≡ 0 → ⊥) → appendRefusal ed b k n u ≡ r
   unfolding appendRefusal
   appendRefusal-book f = rw (← e, ne-eqb r 0 f)
 
-  module _ (s : ℕ) (z : r ≡ 0) (d : s ≡ bookRankRefusal k n) where
-    pub appendRefusal-rank : (s ≡ 0 → ⊥) → appendRefusal b k n u ≡ s
+  module _ (s : ℕ) (z : r ≡ 0) (d : s ≡ bookRankRefusal ed k n) where
+    pub appendRefusal-rank : (s ≡ 0 → ⊥) → appendRefusal ed b k n u ≡ s
     unfolding appendRefusal
     appendRefusal-rank f = rw (← e, eq-eqb r 0 z, ← d, ne-eqb s 0 f)
 
     module _ (t : ℕ) (y : s ≡ 0) (q : t ≡ wordRefusal n u) where
-      pub appendRefusal-word : (t ≡ 0 → ⊥) → appendRefusal b k n u ≡ t
+      pub appendRefusal-word : (t ≡ 0 → ⊥) → appendRefusal ed b k n u ≡ t
       unfolding appendRefusal
       appendRefusal-word f = rw (← e, eq-eqb r 0 z, ← d, eq-eqb s 0 y, ← q, ne-eqb t 0 f)
 
-      pub appendRefusal-large : t ≡ 0 → 65535 < length b + added u → appendRefusal b k n u ≡ 13
+      pub appendRefusal-large : t ≡ 0 → 65535 < length b + added ed u → appendRefusal ed b k n u ≡ 13
       unfolding appendRefusal tooLarge
       appendRefusal-large x h =
-          rw (← e, eq-eqb r 0 z, ← d, eq-eqb s 0 y, ← q, eq-eqb t 0 x, length-appended b k n u (accepted-read b r e z), lt-ltb 65535 (length b + added u) h)
+          rw (← e, eq-eqb r 0 z, ← d, eq-eqb s 0 y, ← q, eq-eqb t 0 x, length-appended ed b k n u (accepted-read ed b r e z), lt-ltb 65535 (length b + added ed u) h)
 
-      pub appendRefusal-none : t ≡ 0 → length b + added u ≤ 65535 → appendRefusal b k n u ≡ 0
+      pub appendRefusal-none : t ≡ 0 → length b + added ed u ≤ 65535 → appendRefusal ed b k n u ≡ 0
       unfolding appendRefusal tooLarge
       appendRefusal-none x h =
-          rw (← e, eq-eqb r 0 z, ← d, eq-eqb s 0 y, ← q, eq-eqb t 0 x, length-appended b k n u (accepted-read b r e z), le-ltb 65535 (length b + added u) h)
+          rw (← e, eq-eqb r 0 z, ← d, eq-eqb s 0 y, ← q, eq-eqb t 0 x, length-appended ed b k n u (accepted-read ed b r e z), le-ltb 65535 (length b + added ed u) h)
 
 -- where appending is not refused, none of its checks refuses
-append-parts : (b : List ℕ) (k n : ℕ) (u : List ℕ) → appendRefusal b k n u ≡ 0
-    → (bookRefusal b ≡ 0) × (bookRankRefusal k n ≡ 0) × (wordRefusal n u ≡ 0) × (check 13 (tooLarge (length (appended b k n u))) ≡ 0)
+append-parts : (ed : Edition) (b : List ℕ) (k n : ℕ) (u : List ℕ) → appendRefusal ed b k n u ≡ 0
+    → (bookRefusal ed b ≡ 0) × (bookRankRefusal ed k n ≡ 0) × (wordRefusal n u ≡ 0) × (check 13 (tooLarge (length (appended ed b k n u))) ≡ 0)
 unfolding appendRefusal
-append-parts b k n u e =
-    let size = check 13 (tooLarge (length (appended b k n u))) in
-    let a = then-zero (bookRefusal b) (bookRankRefusal k n then wordRefusal n u then size) e in
-    let c = then-zero (bookRankRefusal k n) (wordRefusal n u then size) (a .1) in
+append-parts ed b k n u e =
+    let size = check 13 (tooLarge (length (appended ed b k n u))) in
+    let a = then-zero (bookRefusal ed b) (bookRankRefusal ed k n then wordRefusal n u then size) e in
+    let c = then-zero (bookRankRefusal ed k n) (wordRefusal n u then size) (a .1) in
     let d = then-zero (wordRefusal n u) size (c .1) in
     (a .0, c .0, d .0, d .1)
 
 -- a book to which a preset is appended is accepted
-pub append-book : (b : List ℕ) (k n : ℕ) (u : List ℕ) → appendRefusal b k n u ≡ 0 → bookRefusal b ≡ 0
-append-book b k n u e = append-parts b k n u e .0
+pub append-book : (ed : Edition) (b : List ℕ) (k n : ℕ) (u : List ℕ) → appendRefusal ed b k n u ≡ 0 → bookRefusal ed b ≡ 0
+append-book ed b k n u e = append-parts ed b k n u e .0
 
-pub append-preset : (b : List ℕ) (k n : ℕ) (u : List ℕ) → appendRefusal b k n u ≡ 0 → (bookRankRefusal k n then wordRefusal n u) ≡ 0
-append-preset b k n u e = let p = append-parts b k n u e in then-none (bookRankRefusal k n) (wordRefusal n u) (p .1) ∙ p .2
+pub append-preset : (ed : Edition) (b : List ℕ) (k n : ℕ) (u : List ℕ) → appendRefusal ed b k n u ≡ 0 → (bookRankRefusal ed k n then wordRefusal n u) ≡ 0
+append-preset ed b k n u e = let p = append-parts ed b k n u e in then-none (bookRankRefusal ed k n) (wordRefusal n u) (p .1) ∙ p .2
 
-pub append-size : (b : List ℕ) (k n : ℕ) (u : List ℕ) → appendRefusal b k n u ≡ 0 → length (appended b k n u) ≤ 65535
+pub append-size : (ed : Edition) (b : List ℕ) (k n : ℕ) (u : List ℕ) → appendRefusal ed b k n u ≡ 0 → length (appended ed b k n u) ≤ 65535
 unfolding tooLarge
-append-size b k n u e =
-    ltb-false 65535 (length (appended b k n u)) (check-zero 12 (tooLarge (length (appended b k n u))) (append-parts b k n u e .3))
+append-size ed b k n u e =
+    ltb-false 65535 (length (appended ed b k n u)) (check-zero 12 (tooLarge (length (appended ed b k n u))) (append-parts ed b k n u e .3))
 
-pub append-accepted : (b : List ℕ) (k n : ℕ) (u : List ℕ) → appendRefusal b k n u ≡ 0 → Accepted b
-append-accepted b k n u e = accepted b (append-book b k n u e)
+pub append-rank : (ed : Edition) (b : List ℕ) (k n : ℕ) (u : List ℕ) → appendRefusal ed b k n u ≡ 0 → n ≤ 64
+append-rank ed b k n u e = rank-accepted k n (bookRank-accepted ed k n (append-parts ed b k n u e .1)) .1
 
--- ---- what is answered and written: r is the refusal of checks 1 to 8 and 13
+pub append-accepted : (ed : Edition) (b : List ℕ) (k n : ℕ) (u : List ℕ) → appendRefusal ed b k n u ≡ 0 → Accepted ed b
+append-accepted ed b k n u e = accepted ed b (append-book ed b k n u e)
 
-module _ (b : List ℕ) (k n : ℕ) (u out : List ℕ) (r : ℕ) (e : r ≡ appendRefusal b k n u) where
-  pub appending-refused : (r ≡ 0 → ⊥) → (answer.Refused r ≡ appending b k n u out .answer) × (out ≡ appending b k n u out .bytes)
+-- ---- what is answered and written: r is the refusal of checks 1 to 8 and 13, s the length of the new book
+
+module _ (ed : Edition) (b : List ℕ) (k n : ℕ) (u out : List ℕ) (r : ℕ) (e : r ≡ appendRefusal ed b k n u) where
+  pub appending-refused : (r ≡ 0 → ⊥) → (answer.Refused r ≡ appending ed b k n u out .answer) × (out ≡ appending ed b k n u out .bytes)
   unfolding appending
-  appending-refused f = writes-refused (appending b k n u out) (appendRefusal b k n u) r (appended b k n u) out refl e f
+  appending-refused f = writes-refused (appending ed b k n u out) (appendRefusal ed b k n u) r (appended ed b k n u) out refl e f
 
-  pub appending-short : r ≡ 0 → length out < length b + added u
-      → (answer.Refused 14 ≡ appending b k n u out .answer) × (out ≡ appending b k n u out .bytes)
+  pub appending-short : (s : ℕ) → s ≡ length b + added ed u → r ≡ 0 → length out < s
+      → (answer.Refused 14 ≡ appending ed b k n u out .answer) × (out ≡ appending ed b k n u out .bytes)
   unfolding appending
-  appending-short z h =
-      writes-short (appending b k n u out) (appendRefusal b k n u) r (appended b k n u) out refl e (length b + added u) z
-      (length-appended b k n u (append-accepted b k n u (sym e ∙ z))) h
+  appending-short s f z h =
+      writes-short (appending ed b k n u out) (appendRefusal ed b k n u) r (appended ed b k n u) out refl e s z
+      (length-appended ed b k n u (append-accepted ed b k n u (sym e ∙ z)) ∙ sym f) h
 
-  pub appending-written : (o : List ℕ) → r ≡ 0 → length b + added u ≤ length out → o ≡ sets out 0 (appended b k n u)
-      → (answer.Length (length b + added u) ≡ appending b k n u out .answer) × (o ≡ appending b k n u out .bytes)
+  pub appending-written : (s : ℕ) → s ≡ length b + added ed u → (o : List ℕ) → r ≡ 0 → s ≤ length out → o ≡ sets out 0 (appended ed b k n u)
+      → (answer.Length s ≡ appending ed b k n u out .answer) × (o ≡ appending ed b k n u out .bytes)
   unfolding appending
-  appending-written o z h p =
-      let l = length-appended b k n u (append-accepted b k n u (sym e ∙ z)) in
-      let new = appended b k n u in
-      let d = writes-done (appending b k n u out) (appendRefusal b k n u) r new out refl e (length b + added u) new z l h refl in
-      (d .0, p ∙ sets-front new out (length b + added u) (rw l h) (sym l) ∙ d .1)
+  appending-written s f o z h p =
+      let l = length-appended ed b k n u (append-accepted ed b k n u (sym e ∙ z)) ∙ sym f in
+      let new = appended ed b k n u in
+      let d = writes-done (appending ed b k n u out) (appendRefusal ed b k n u) r new out refl e s new z l h refl in
+      (d .0, p ∙ sets-front new out s (rw l h) (sym l) ∙ d .1)

@@ -4,6 +4,7 @@ use mathlib.Core.List.{List, [], _∷_, _++_}
 use Prim.Native.Nat.{ℕ, zero, suc, _+_, _-_, _/_, _%_, _<_, min}
 use lib.Dec.{eqb}
 use lib.ListN.{length}
+use Rattle.book_format.specs.declared.Edition.{Edition}
 use Rattle.book_format.specs.declared.Opened.{Opened}
 use Rattle.book_format.specs.declared.Opened.the-variants as opened
 use Rattle.book_format.specs.declared.Preset.{Preset}
@@ -23,28 +24,28 @@ unfoldable pub presetOf : ℕ → ℕ → ℕ → ℕ → ℕ → Preset
 presetOf r k n s l = pick (eqb r 0) (preset.Found k n s l) (preset.Refused r)
 
 -- opening a book
-unfoldable pub checkedBook : List ℕ → Opened
-checkedBook b = openedOf (bookRefusal b) (count b)
+unfoldable pub checkedBook : Edition → List ℕ → Opened
+checkedBook ed b = openedOf (bookRefusal ed b) (count b)
 
 -- the preset of the record at byte o, refused with r or not
-unfoldable pub presetAt : ℕ → List ℕ → ℕ → Preset
-presetAt r b o = presetOf r (kindAt b o) (rankAt b o) (o + headSize) (letterCountAt b o)
+unfoldable pub presetAt : Edition → ℕ → List ℕ → ℕ → Preset
+presetAt ed r b o = presetOf r (kindAt b o) (rankAt b o) (o + headSize ed) (letterCountAt ed b o)
 
 -- the record at byte o, by its own checks alone
-unfoldable pub checkedRecord : List ℕ → ℕ → Preset
-checkedRecord b o = presetAt (recordRefusal b o) b o
+unfoldable pub checkedRecord : Edition → List ℕ → ℕ → Preset
+checkedRecord ed b o = presetAt ed (recordRefusal ed b o) b o
 
 -- reading a preset by its number
-unfoldable pub checkedPreset : List ℕ → ℕ → Preset
-checkedPreset b i = presetAt (presetRefusal b i) b (offset b i)
+unfoldable pub checkedPreset : Edition → List ℕ → ℕ → Preset
+checkedPreset ed b i = presetAt ed (presetRefusal ed b i) b (offset b i)
 
 -- "The letters handed out are the book's own bytes, not a copy; for a refused preset they are an empty part of the book": where the part begins
-unfoldable pub lettersStart : List ℕ → ℕ → ℕ
-lettersStart b i = pick (eqb (presetRefusal b i) 0) (offset b i + headSize) 0
+unfoldable pub lettersStart : Edition → List ℕ → ℕ → ℕ
+lettersStart ed b i = pick (eqb (presetRefusal ed b i) 0) (offset b i + headSize ed) 0
 
 -- and its bytes
-unfoldable pub lettersOf : List ℕ → ℕ → List ℕ
-lettersOf b i = pick (eqb (presetRefusal b i) 0) (lettersAt b (offset b i)) []
+unfoldable pub lettersOf : Edition → List ℕ → ℕ → List ℕ
+lettersOf ed b i = pick (eqb (presetRefusal ed b i) 0) (lettersAt ed b (offset b i)) []
 
 -- a run of presets, in numbers. Each preset has five: its refusal or 0, its kind, its rank, where its letters begin and how many they are; the last
 -- four are 0 where it is refused
@@ -53,9 +54,9 @@ fieldsOf (preset.Found k n s l) = 0 ∷ k ∷ n ∷ s ∷ l ∷ []
 fieldsOf (preset.Refused r) = r ∷ 0 ∷ 0 ∷ 0 ∷ 0 ∷ []
 
 -- those of t presets from preset i on
-unfoldable pub presetFields : List ℕ → ℕ → ℕ → List ℕ
-presetFields b zero i = []
-presetFields b (suc t) i = fieldsOf (checkedPreset b i) ++ presetFields b t (suc i)
+unfoldable pub presetFields : Edition → List ℕ → ℕ → ℕ → List ℕ
+presetFields ed b zero i = []
+presetFields ed b (suc t) i = fieldsOf (checkedPreset ed b i) ++ presetFields ed b t (suc i)
 
 -- as many presets from preset i on as there are, and as have room in `out`
 unfoldable pub runLength : List ℕ → ℕ → List ℕ → ℕ
@@ -63,26 +64,26 @@ runLength b i out = min (count b - i) (length out / 5)
 
 -- reading a run makes checks 1 to 3 of the book, 4 of its first preset, and 14 where not even one has room; checks 5 to 8 are those of each preset.
 -- It answers how many presets were written
-unfoldable pub readingPresets : List ℕ → ℕ → List ℕ → Outcome ℕ
-readingPresets b i out =
-    let r = bookRefusal b then check 4 (noSuchPreset b i) then check 14 (tooShort 5 out) in
+unfoldable pub readingPresets : Edition → List ℕ → ℕ → List ℕ → Outcome ℕ
+readingPresets ed b i out =
+    let r = bookRefusal ed b then check 4 (noSuchPreset b i) then check 14 (tooShort 5 out) in
     let t = runLength b i out in
-    record { answer = answerOf r t; bytes = written r (presetFields b t i) out }
+    record { answer = answerOf r t; bytes = written r (presetFields ed b t i) out }
 
 -- the preset of five numbers, each cut to the bits that it has in `Preset`
 unfoldable pub presetFrom : ℕ → ℕ → ℕ → ℕ → ℕ → Preset
 presetFrom r k n s l = presetOf (r % 256) (k % 256) (n % 256) s l
 
 -- appending a preset
-unfoldable pub appending : List ℕ → ℕ → ℕ → List ℕ → List ℕ → Outcome ℕ
-appending b k n u out = writes (appendRefusal b k n u) (appended b k n u) out
+unfoldable pub appending : Edition → List ℕ → ℕ → ℕ → List ℕ → List ℕ → Outcome ℕ
+appending ed b k n u out = writes (appendRefusal ed b k n u) (appended ed b k n u) out
 
 -- the book that appending the preset k, n, u to b makes: it passes checks 1 to 3, has one preset more, its last preset and its letters are those
 -- appended, and those before read as in b
-pub record Grown (b : List ℕ) (k n : ℕ) (u : List ℕ) : Type 0 where
-  pub unrefused : bookRefusal (appended b k n u) ≡ 0
-  pub onePresetMore : count (appended b k n u) ≡ count b + 1
-  pub lastPreset : checkedPreset (appended b k n u) (count b) ≡ presetOf (bookRankRefusal k n then wordRefusal n u) k n (trailer b + headSize) (length u)
-  pub lastLetters : lettersOf (appended b k n u) (count b) ≡ pick (eqb (bookRankRefusal k n then wordRefusal n u) 0) u []
-  pub presetsBefore : (i : ℕ) → i < count b → checkedPreset (appended b k n u) i ≡ checkedPreset b i
-  pub lettersBefore : (i : ℕ) → i < count b → lettersOf (appended b k n u) i ≡ lettersOf b i
+pub record Grown (ed : Edition) (b : List ℕ) (k n : ℕ) (u : List ℕ) : Type 0 where
+  pub unrefused : bookRefusal ed (appended ed b k n u) ≡ 0
+  pub onePresetMore : count (appended ed b k n u) ≡ count b + 1
+  pub lastPreset : checkedPreset ed (appended ed b k n u) (count b) ≡ presetOf (bookRankRefusal ed k n then wordRefusal n u) k n (trailer b + headSize ed) (length u)
+  pub lastLetters : lettersOf ed (appended ed b k n u) (count b) ≡ pick (eqb (bookRankRefusal ed k n then wordRefusal n u) 0) u []
+  pub presetsBefore : (i : ℕ) → i < count b → checkedPreset ed (appended ed b k n u) i ≡ checkedPreset ed b i
+  pub lettersBefore : (i : ℕ) → i < count b → lettersOf ed (appended ed b k n u) i ≡ lettersOf ed b i

@@ -1,4 +1,9 @@
-// The preset book: definitions in specs/, laws in proofs/, and the answers of the calls on it. No function.
+// The preset book: definitions in specs/, laws in proofs/, the editions of a book, and the answers of the calls on it. No function.
+
+pub enum Edition {
+    First,
+    Second,
+}
 
 pub enum Opened {
     Presets(usize),

@@ -25,6 +25,7 @@ use Rattle.coxeter.specs.Calls.{countedOf, crossingsOfWindow, crossingsOfWord, 
 use Rattle.coxeter.specs.Calls.{Outcome, answerOf, written, writes, windowOfWord, productOfWindows, inverseOfWindow, normalFormOfWindow, normalFormOfWord, productOfWords, inverseOfWord, lengthOfWindow, lengthOfWord}
 use Rattle.coxeter.proofs.Refusals.{then-assoc}
 use Rattle.rules.specs.Calls.{Step, step}
+use Rattle.book_format.specs.declared.Edition.{Edition}
 use Rattle.book_format.specs.Books.{bookRankRefusal, bookRefusal, appendRefusal}
 use Rattle.book_format.specs.Calls.{appending}
 use Rattle.book_format.proofs.RankLaws.{bookRankRefusal-refused}
@@ -178,13 +179,13 @@ unfolding crossingsOfWindow
 crossingsOfWindow-refusable w = record { alike = λ k n l m e f. counted-alike (rankRefusal k n) (rankRefusal l m) _ _ _ _ e f }
 
 -- a record's kind and rank that a call refuses are refused alike
-pub appending-refusable : (b u out : List ℕ) → Refusable (λ k n. appending b k n u out)
+pub appending-refusable : (ed : Edition) (b u out : List ℕ) → Refusable (λ k n. appending ed b k n u out)
 unfolding appending appendRefusal
-appending-refusable b u out = record {
+appending-refusable ed b u out = record {
   alike = λ k n l m e f.
-      let same = bookRankRefusal-refused k n (rankRefusal k n) refl f in
-      let other = bookRankRefusal-refused l m (rankRefusal l m) refl (λ z. f (sym e ∙ z)) in
-      writes-alike (bookRefusal b) (bookRankRefusal k n) (bookRankRefusal l m) _ _ _ _ out (other ∙ e ∙ sym same) (λ z. f (sym same ∙ z));
+      let same = bookRankRefusal-refused ed k n (rankRefusal k n) refl f in
+      let other = bookRankRefusal-refused ed l m (rankRefusal l m) refl (λ z. f (sym e ∙ z)) in
+      writes-alike (bookRefusal ed b) (bookRankRefusal ed k n) (bookRankRefusal ed l m) _ _ _ _ out (other ∙ e ∙ sym same) (λ z. f (sym same ∙ z));
 }
 
 tables-alike : (r q : ℕ) (d d′ : List ℕ) (w w′ : List ℤ) (u u′ counts : List ℕ) (entries : List ℤ) (letters : List ℕ) → q ≡ r → (r ≡ 0 → ⊥)

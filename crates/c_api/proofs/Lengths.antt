@@ -43,6 +43,7 @@ use Rattle.distribution.specs.Longest.{longest}
 use Rattle.distribution.specs.Calls.{tableRefusal, tableOf, roomRefusal, tables, delayTable}
 use Rattle.distribution.proofs.Longest.{longest-accepted}
 use Rattle.distribution.proofs.Outcomes.{table-accepted, table-rank}
+use Rattle.book_format.specs.declared.Edition.{Edition}
 use Rattle.book_format.specs.declared.Opened.{Opened}
 use Rattle.book_format.specs.declared.Opened.the-variants as opened
 use Rattle.book_format.specs.Books.{count, noSuchPreset, bookRefusal, appended, appendRefusal}
@@ -255,28 +256,28 @@ delayTable-small k n counts entries letters a b l e =
         let m = lanes-le k n (length (longest (kindOf k) n)) (table-accepted k n z) (x .size) in
         omega (arith, length-normalForm (kindOf k) n (longest (kindOf k) n) x, windowLength-le-4096 (kindOf k) n (longest (kindOf k) n) x m)
 
-pub appending-small : (b : List ℕ) (k n : ℕ) (u out : List ℕ) → Small (appending b k n u out .answer)
+pub appending-small : (ed : Edition) (b : List ℕ) (k n : ℕ) (u out : List ℕ) → Small (appending ed b k n u out .answer)
 unfolding appending
-appending-small b k n u out = writes-small (appendRefusal b k n u) (appended b k n u) out (append-size b k n u)
+appending-small ed b k n u out = writes-small (appendRefusal ed b k n u) (appended ed b k n u) out (append-size ed b k n u)
 
 -- a run has no more presets than the book
-pub readingPresets-small : (b : List ℕ) (i : ℕ) (out : List ℕ) → Small (readingPresets b i out .answer)
+pub readingPresets-small : (ed : Edition) (b : List ℕ) (i : ℕ) (out : List ℕ) → Small (readingPresets ed b i out .answer)
 unfolding readingPresets runLength
-readingPresets-small b i out =
+readingPresets-small ed b i out =
     let r = check 4 (noSuchPreset b i) then check 14 (tooShort 5 out) in
-    answerOf-small (bookRefusal b then r) (min (count b - i) (length out / 5))
-    (λ z. let a = accepted b (then-zero (bookRefusal b) r z .0) in omega arith)
+    answerOf-small (bookRefusal ed b then r) (min (count b - i) (length out / 5))
+    (λ z. let a = accepted ed b (then-zero (bookRefusal ed b) r z .0) in omega arith)
 
-pub presets-small : (b : List ℕ) (a : Opened) (c : ℕ) → a ≡ checkedBook b → a ≡ opened.Presets c → c ≤ 65535
+pub presets-small : (ed : Edition) (b : List ℕ) (a : Opened) (c : ℕ) → a ≡ checkedBook ed b → a ≡ opened.Presets c → c ≤ 65535
 unfolding checkedBook openedOf
-presets-small b a c e q = elim (ℕ-discrete (bookRefusal b) 0) [
+presets-small ed b a c e q = elim (ℕ-discrete (bookRefusal ed b) 0) [
   | yes z ↦
-      let p : opened.Presets (count b) ≡ opened.Presets c = sym (rw (eq-eqb (bookRefusal b) 0 z) at e) ∙ q in
+      let p : opened.Presets (count b) ≡ opened.Presets c = sym (rw (eq-eqb (bookRefusal ed b) 0 z) at e) ∙ q in
       let s : count b ≡ c = cc in
-      let a = accepted b z in
+      let a = accepted ed b z in
       omega arith
   | no f ↦
-      let p : opened.Refused (bookRefusal b) ≡ opened.Presets c = sym (rw (ne-eqb (bookRefusal b) 0 f) at e) ∙ q in
+      let p : opened.Refused (bookRefusal ed b) ≡ opened.Presets c = sym (rw (ne-eqb (bookRefusal ed b) 0 f) at e) ∙ q in
       let y : _≡_ {A = ℕ} 0 1 = cc in
       absurd (omega arith)
 ]

@@ -23,6 +23,7 @@ use Rattle.rules.specs.declared.Rewrite.the-variants.{Used, NoneFits, Refused}
 use Rattle.rules.specs.Rules.{Rule, rules, firstFitting, rewritten}
 use Rattle.rules.specs.Calls.{pastEnd, Step, refusedStep, usedStep, stepBy, step, Rewrote}
 use Rattle.rules.proofs.Unchanged.{step-refused-unchanged, step-noneFits-unchanged}
+use Rattle.book_format.specs.declared.Edition.{Edition}
 use Rattle.book_format.specs.declared.Preset.{Preset}
 use Rattle.book_format.specs.declared.Preset.the-variants as preset
 use Rattle.book_format.specs.Calls.{checkedPreset}
@@ -101,20 +102,20 @@ nothing-before (x ∷ after) out h = absurd (omega arith)
 
 -- ---- a preset's fields
 
-module _ (b : List ℕ) (i : ℕ) (out : List ℕ) (a : Preset) (e : a ≡ checkedPreset b i) where
-  pub fields-refused : (r : ℕ) → a ≡ preset.Refused r → Numbered (presetNumbers (checkedPreset b i) out) (refused r) out
+module _ (ed : Edition) (b : List ℕ) (i : ℕ) (out : List ℕ) (a : Preset) (e : a ≡ checkedPreset ed b i) where
+  pub fields-refused : (r : ℕ) → a ≡ preset.Refused r → Numbered (presetNumbers (checkedPreset ed b i) out) (refused r) out
   unfolding presetNumbers numberOf
   fields-refused r q = rw (← e, q) (refl, refl)
 
   module _ (k n s l : ℕ) (q : a ≡ preset.Found k n s l) where
-    pub fields-short : length out < 4 → Numbered (presetNumbers (checkedPreset b i) out) (refused 14) out
+    pub fields-short : length out < 4 → Numbered (presetNumbers (checkedPreset ed b i) out) (refused 14) out
     unfolding presetNumbers numberOf
     fields-short h =
         let fields = k ∷ n ∷ s ∷ l ∷ [] in
         let d = writes-short (writes 0 fields out) 0 0 fields out refl refl 4 refl refl h in
         rw (← e, q, ← d .0) (refl, d .1)
 
-    pub fields-written : 4 ≤ length out → Numbered (presetNumbers (checkedPreset b i) out) (pos 4) (sets out 0 (k ∷ n ∷ s ∷ l ∷ []))
+    pub fields-written : 4 ≤ length out → Numbered (presetNumbers (checkedPreset ed b i) out) (pos 4) (sets out 0 (k ∷ n ∷ s ∷ l ∷ []))
     unfolding presetNumbers numberOf
     fields-written h =
         let fields = k ∷ n ∷ s ∷ l ∷ [] in

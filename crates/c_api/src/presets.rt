@@ -1,20 +1,21 @@
-// Calls on a preset book.
+// Calls on a preset book of the first edition, and on one of the second. What both do is one function over the edition.
 use crate::numbers::byte;
 use crate::numbers::number;
 use crate::numbers::refusal;
 use crate::numbers::size;
+use book::Edition;
 use book::Opened;
 use book::Preset;
 ghost use mathlib.Core.Path.{_≡_};
+ghost use Rattle.book_format.specs.declared.Edition.the-variants.{First, Second};
 ghost use Rattle.book_format.specs.Calls.{checkedBook, checkedPreset, readingPresets, appending};
 ghost use Rattle.c_api.specs.Calls.{Numbered, numberOf, openedNumber, presetNumbers};
 
 // Opening a book. Answers the number of its presets.
-#[no_mangle]
-pub extern "C" fn winnathey_book_check(book: &[u8]) -> i64
-    ensures { λ r. ⌜ r ≡ openedNumber (checkedBook (now (book .entry))) ⌝ }
+fn opened(edition: Edition, book: &[u8]) -> i64
+    ensures { λ r. ⌜ r ≡ openedNumber (checkedBook edition (now (book .entry))) ⌝ }
 {
-    match book::check_book(book) {
+    match book::check_book(edition, book) {
         Opened::Presets(c) => size(c),
         Opened::Refused(k) => refusal(k),
     }
@@ -22,11 +23,10 @@ pub extern "C" fn winnathey_book_check(book: &[u8]) -> i64
 
 // Reading a preset by its number, from 0: its kind, its rank, the offset of its letters in the book and their count go to the first four places
 // of `fields`. Answers 4.
-#[no_mangle]
-pub extern "C" fn winnathey_preset(book: &[u8], number: usize, fields: &mut [u64]) -> i64
-    ensures { λ r. ⌜ Numbered (presetNumbers (checkedPreset (now (book .entry)) number) (now (fields .entry))) r (now (fields .exit)) ⌝ }
+fn read(edition: Edition, book: &[u8], number: usize, fields: &mut [u64]) -> i64
+    ensures { λ r. ⌜ Numbered (presetNumbers (checkedPreset edition (now (book .entry)) number) (now (fields .entry))) r (now (fields .exit)) ⌝ }
 {
-    match book::check_preset(book, number) {
+    match book::check_preset(edition, book, number) {
         Preset::Found {
             kind,
             rank,
@@ -46,16 +46,44 @@ pub extern "C" fn winnathey_preset(book: &[u8], number: usize, fields: &mut [u64
     }
 }
 
-// Reading a run of presets from number `first` on, with one walk over the book: five numbers each, the refusal (5 to 8, or 0), kind, rank, the
+// Reading a run of presets from number `first` on, with one walk over the book: five numbers each, the refusal (5 to 8 or 17, or 0), kind, rank, the
 // offset of the letters in the book and their count, the last four 0 where it is refused; as many as there are and have room. Answers how many.
-#[no_mangle]
-pub extern "C" fn winnathey_presets(book: &[u8], first: usize, fields: &mut [u64]) -> i64
-    ensures { λ r. ⌜ Numbered (readingPresets (now (book .entry)) first (now (fields .entry))) r (now (fields .exit)) ⌝ }
+fn read_run(edition: Edition, book: &[u8], first: usize, fields: &mut [u64]) -> i64
+    ensures { λ r. ⌜ Numbered (readingPresets edition (now (book .entry)) first (now (fields .entry))) r (now (fields .exit)) ⌝ }
 {
-    number(book::read_presets(book, first, fields))
+    number(book::read_presets(edition, book, first, fields))
 }
 
 // Appending a preset: the whole new book, written to the front of `out`. Answers its length.
+fn extended(edition: Edition, book: &[u8], kind: u32, rank: u32, word: &[u8], out: &mut [u8]) -> i64
+    ensures { λ r. ⌜ Numbered (appending edition (now (book .entry)) kind rank (now (word .entry)) (now (out .entry))) r (now (out .exit)) ⌝ }
+{
+    number(book::append(edition, book, byte(kind), byte(rank), word, out))
+}
+
+// The first edition.
+
+#[no_mangle]
+pub extern "C" fn winnathey_book_check(book: &[u8]) -> i64
+    ensures { λ r. ⌜ r ≡ openedNumber (checkedBook First (now (book .entry))) ⌝ }
+{
+    opened(Edition::First, book)
+}
+
+#[no_mangle]
+pub extern "C" fn winnathey_preset(book: &[u8], number: usize, fields: &mut [u64]) -> i64
+    ensures { λ r. ⌜ Numbered (presetNumbers (checkedPreset First (now (book .entry)) number) (now (fields .entry))) r (now (fields .exit)) ⌝ }
+{
+    read(Edition::First, book, number, fields)
+}
+
+#[no_mangle]
+pub extern "C" fn winnathey_presets(book: &[u8], first: usize, fields: &mut [u64]) -> i64
+    ensures { λ r. ⌜ Numbered (readingPresets First (now (book .entry)) first (now (fields .entry))) r (now (fields .exit)) ⌝ }
+{
+    read_run(Edition::First, book, first, fields)
+}
+
 #[no_mangle]
 pub extern "C" fn winnathey_append(
     book: &[u8],
@@ -64,7 +92,43 @@ pub extern "C" fn winnathey_append(
     word: &[u8],
     out: &mut [u8],
 ) -> i64
-    ensures { λ r. ⌜ Numbered (appending (now (book .entry)) kind rank (now (word .entry)) (now (out .entry))) r (now (out .exit)) ⌝ }
+    ensures { λ r. ⌜ Numbered (appending First (now (book .entry)) kind rank (now (word .entry)) (now (out .entry))) r (now (out .exit)) ⌝ }
 {
-    number(book::append(book, byte(kind), byte(rank), word, out))
+    extended(Edition::First, book, kind, rank, word, out)
+}
+
+// The second edition.
+
+#[no_mangle]
+pub extern "C" fn winnathey_second_book_check(book: &[u8]) -> i64
+    ensures { λ r. ⌜ r ≡ openedNumber (checkedBook Second (now (book .entry))) ⌝ }
+{
+    opened(Edition::Second, book)
+}
+
+#[no_mangle]
+pub extern "C" fn winnathey_second_preset(book: &[u8], number: usize, fields: &mut [u64]) -> i64
+    ensures { λ r. ⌜ Numbered (presetNumbers (checkedPreset Second (now (book .entry)) number) (now (fields .entry))) r (now (fields .exit)) ⌝ }
+{
+    read(Edition::Second, book, number, fields)
+}
+
+#[no_mangle]
+pub extern "C" fn winnathey_second_presets(book: &[u8], first: usize, fields: &mut [u64]) -> i64
+    ensures { λ r. ⌜ Numbered (readingPresets Second (now (book .entry)) first (now (fields .entry))) r (now (fields .exit)) ⌝ }
+{
+    read_run(Edition::Second, book, first, fields)
+}
+
+#[no_mangle]
+pub extern "C" fn winnathey_second_append(
+    book: &[u8],
+    kind: u32,
+    rank: u32,
+    word: &[u8],
+    out: &mut [u8],
+) -> i64
+    ensures { λ r. ⌜ Numbered (appending Second (now (book .entry)) kind rank (now (word .entry)) (now (out .entry))) r (now (out .exit)) ⌝ }
+{
+    extended(Edition::Second, book, kind, rank, word, out)
 }

@@ -26,6 +26,7 @@ use Rattle.exchange.specs.declared.Fallback.{Fallback}
 use Rattle.exchange.specs.declared.Fallback.the-variants as fallbacks
 use Rattle.distribution.specs.declared.Table.{Table}
 use Rattle.distribution.specs.declared.Table.the-variants as tables
+use Rattle.book_format.specs.declared.Edition.{Edition}
 use Rattle.book_format.specs.declared.Opened.{Opened}
 use Rattle.book_format.specs.declared.Opened.the-variants as books
 use Rattle.book_format.specs.declared.Preset.{Preset}
@@ -49,7 +50,7 @@ use Rattle.distribution.specs.Distribution.{ofLength, distribution, sum}
 use Rattle.distribution.specs.Longest.{allNegative, longest}
 use Rattle.distribution.specs.Calls.{untabled, tableRefusal, tableOf, roomRefusal, delayTable}
 use Rattle.distribution.specs.Calls as tabling
-use Rattle.book_format.specs.Books.{twoAt, two, count, trailer, offset, wrongSize, wrongCount, misplacedFrom, misplaced, noSuchPreset, tooLarge, wrongRankInBook, bookRankRefusal, bookRefusal, recordRefusal, presetRefusal, recordOf, added, appended, appendRefusal}
+use Rattle.book_format.specs.Books.{twoAt, two, count, trailer, offset, wrongSize, wrongCount, misplacedFrom, misplaced, noSuchPreset, tooLarge, wrongRankInBook, wrongLaneCount, bookRankRefusal, bookRefusal, recordRefusal, presetRefusal, recordOf, added, appended, appendRefusal}
 use Rattle.book_format.specs.Calls.{openedOf, presetOf, checkedBook, presetAt, checkedPreset, lettersStart, lettersOf, appending}
 use Rattle.listing_text.specs.Text.{digits, decimal, spaced, letters, entry, entries, kindLetter, head, tail, presetLine, refused, refusedLine, refusedBookLine, countLine, wordLine, lineBy, lineOf}
 use Rattle.listing_text.specs.Calls.{lineCountBy, lineCount, firstLine, line, lines, fitting, nextPiece}
@@ -148,7 +149,7 @@ unfolding table allDiffer differs numbers ofAnswer ofVerdict ofChoice ofRewrite 
     somePart fallsBack fallbackOf fallbackAnswer
     keep all.each lists all.entries all.windows ofLength distribution sum allNegative longest
     untabled tableRefusal tableOf roomRefusal tabling.tables delayTable
-    twoAt two count trailer offset wrongSize wrongCount misplacedFrom misplaced noSuchPreset tooLarge wrongRankInBook bookRankRefusal
+    twoAt two count trailer offset wrongSize wrongCount misplacedFrom misplaced noSuchPreset tooLarge wrongRankInBook wrongLaneCount bookRankRefusal
     bookRefusal recordRefusal presetRefusal recordOf appended appendRefusal openedOf presetOf checkedBook presetAt checkedPreset lettersStart lettersOf appending
     digits decimal spaced letters entry entries kindLetter head tail presetLine refused refusedLine refusedBookLine countLine wordLine lineBy lineOf
     lineCountBy lineCount firstLine line lines fitting nextPiece
@@ -166,7 +167,7 @@ pub ruled-out : (r : WrongRouter) → List·Memᴰ r table → r .right ≡ r .w
 ruled-out = all-sound table all-differ
 
 -- so many rows, lest one be lost
-pub table-length : length table ≡ 73
+pub table-length : length table ≡ 78
 unfolding table
 table-length = refl
 
@@ -179,18 +180,18 @@ opened-late false true c e = let z : _≡_ {A = ℕ} 3 1 = cc in omega arith
 opened-late false false c e = let z : _≡_ {A = ℕ} 0 1 = cc in omega arith
 
 -- every book of 65,536 bytes tells this one
-pub bookOf65536Bytes-ruled-out : (b : List ℕ) → length b ≡ 65536 → checkedBook b ≡ bookOf65536Bytes b → ⊥
-bookOf65536Bytes-ruled-out b e h =
-    opened-late (wrongCount b) (misplaced b) (count b) (rw e at (sym h) ∙ too-large-book b e)
+pub bookOf65536Bytes-ruled-out : (ed : Edition) (b : List ℕ) → length b ≡ 65536 → checkedBook ed b ≡ bookOf65536Bytes ed b → ⊥
+bookOf65536Bytes-ruled-out ed b e h =
+    opened-late (wrongCount b) (misplaced ed b) (count b) (rw e at (sym h) ∙ too-large-book ed b e)
 
 -- and every preset that would make an accepted book larger than 65,535 bytes tells this one, where the output is shorter than the new book
-pub roomBeforeTheSizeLimit-ruled-out : (b : List ℕ) (k n : ℕ) (u out : List ℕ) → bookRefusal b ≡ 0 → bookRankRefusal k n ≡ 0 → wordRefusal n u ≡ 0
-    → 65535 < length b + added u → length out < length b + added u → appending b k n u out ≡ roomBeforeTheSizeLimit b k n u out → ⊥
+pub roomBeforeTheSizeLimit-ruled-out : (ed : Edition) (b : List ℕ) (k n : ℕ) (u out : List ℕ) → bookRefusal ed b ≡ 0 → bookRankRefusal ed k n ≡ 0 → wordRefusal n u ≡ 0
+    → 65535 < length b + added ed u → length out < length b + added ed u → appending ed b k n u out ≡ roomBeforeTheSizeLimit ed b k n u out → ⊥
 unfolding writes answerOf tooShort
-roomBeforeTheSizeLimit-ruled-out b k n u out e f g large short h =
-    let l = length-appended b k n u (accepted b e) in
-    let w : roomBeforeTheSizeLimit b k n u out .answer ≡ answers.Refused 14 = rw (l, lt-ltb (length out) (length b + added u) short) in
-    let r = ap (λ (o : Outcome ℕ). o .answer) (appending-too-large b k n u out e f g large) in
+roomBeforeTheSizeLimit-ruled-out ed b k n u out e f g large short h =
+    let l = length-appended ed b k n u (accepted ed b e) in
+    let w : roomBeforeTheSizeLimit ed b k n u out .answer ≡ answers.Refused 14 = rw (l, lt-ltb (length out) (length b + added ed u) short) in
+    let r = ap (λ (o : Outcome ℕ). o .answer) (appending-too-large ed b k n u out e f g large) in
     let z : _≡_ {A = ℕ} 13 14 = cc (ap (λ (o : Outcome ℕ). o .answer) h) in
     omega arith
 

@@ -6,25 +6,28 @@ use Prim.Native.Nat.{ℕ, zero, suc, _+_, _-_, _*_}
 use lib.Dec.{eqb, ltb}
 use lib.IntN.{natAbs}
 use lib.ListN.{length, getD, take, drop}
-use Rattle.coxeter.specs.Kinds.{Kind, pick}
+use Rattle.coxeter.specs.Kinds.{Kind, pick, kindOf, lanes}
 use Rattle.coxeter.specs.Windows.{window}
-use Rattle.coxeter.specs.Checks.{check, _then_, tooShort}
+use Rattle.coxeter.specs.Checks.{check, _then_, tooShort, wordRefusal}
 use Rattle.coxeter.specs.NormalForm.{wordNormalForm}
 use Rattle.coxeter.specs.Calls.{Outcome, writes}
+use Rattle.book_format.specs.declared.Edition.{Edition}
+use Rattle.book_format.specs.declared.Edition.the-variants.{First}
 use Rattle.book_format.specs.declared.Opened.{Opened}
 use Rattle.book_format.specs.declared.Preset.{Preset}
-use Rattle.book_format.specs.Books.{two, count, trailer, offset, lettersAt, endAt, wrongSize, wrongCount, misplaced, bookRefusal, recordRefusal, presetRefusal, recordOf, appended, appendRefusal}
+use Rattle.book_format.specs.Books.{two, count, trailer, offset, kindAt, rankAt, lanesAt, letterCountAt, lettersAt, endAt, wrongSize, wrongCount, misplaced}
+use Rattle.book_format.specs.Books.{noSuchPreset, bookRankRefusal, wrongLaneCount, bookRefusal, recordRefusal, presetRefusal, recordOf, appended, appendRefusal}
 use Rattle.book_format.specs.Calls.{openedOf, checkedBook, presetAt, checkedPreset, lettersStart, lettersOf}
 use Rattle.listing_text.specs.Text.{decimal, spaced, letters, kindLetter, head, tail, presetsText, refusedLine, refusedBookLine}
 use Rattle.listing_text.specs.Calls.{lineCount, line, lines, Piecing, nextPiece}
 
 -- ---- opening
 
-abbrev pub countHighByteFirst : List ℕ → Opened
-countHighByteFirst b = checkedBook (take (length b - 2) b ++ (getD b (length b - 1) 0 ∷ getD b (length b - 2) 0 ∷ []))
+abbrev pub countHighByteFirst : Edition → List ℕ → Opened
+countHighByteFirst ed b = checkedBook ed (take (length b - 2) b ++ (getD b (length b - 1) 0 ∷ getD b (length b - 2) 0 ∷ []))
 
-abbrev pub bookOf65536Bytes : List ℕ → Opened
-bookOf65536Bytes b = openedOf (check 1 (ltb (length b) 2 || ltb 65536 (length b)) then check 2 (wrongCount b) then check 3 (misplaced b)) (count b)
+abbrev pub bookOf65536Bytes : Edition → List ℕ → Opened
+bookOf65536Bytes ed b = openedOf (check 1 (ltb (length b) 2 || ltb 65536 (length b)) then check 2 (wrongCount b) then check 3 (misplaced ed b)) (count b)
 
 -- checks 1 and 2, and check 3 by another test
 abbrev pub openedBy : (List ℕ → Bool) → List ℕ → Opened
@@ -35,49 +38,80 @@ abbrev pub offsetsAgainst : List ℕ → ℕ → ℕ → Bool
 offsetsAgainst b zero i = false
 offsetsAgainst b (suc t) i = not (eqb (offset b i) (trailer b)) || offsetsAgainst b t (suc i)
 
-abbrev pub offsetAgainstTheTrailer : List ℕ → Opened
-offsetAgainstTheTrailer = openedBy (λ b. offsetsAgainst b (count b) 0)
+abbrev pub offsetAgainstTheTrailer : Edition → List ℕ → Opened
+offsetAgainstTheTrailer ed = openedBy (λ b. offsetsAgainst b (count b) 0)
 
 -- the last record may end before the trailer
-abbrev pub stopsEarly : List ℕ → ℕ → ℕ → ℕ → Bool
-stopsEarly b zero i o = ltb (trailer b) o
-stopsEarly b (suc t) i o = not (eqb (offset b i) o) || (ltb (trailer b) (endAt b o) || stopsEarly b t (suc i) (endAt b o))
+abbrev pub stopsEarly : Edition → List ℕ → ℕ → ℕ → ℕ → Bool
+stopsEarly ed b zero i o = ltb (trailer b) o
+stopsEarly ed b (suc t) i o = not (eqb (offset b i) o) || (ltb (trailer b) (endAt ed b o) || stopsEarly ed b t (suc i) (endAt ed b o))
 
-abbrev pub lastRecordMayStopEarly : List ℕ → Opened
-lastRecordMayStopEarly = openedBy (λ b. stopsEarly b (count b) 0 0)
+abbrev pub lastRecordMayStopEarly : Edition → List ℕ → Opened
+lastRecordMayStopEarly ed = openedBy (λ b. stopsEarly ed b (count b) 0 0)
 
 -- ---- presets and their letters
 
-abbrev pub onePresetTooMany : List ℕ → ℕ → Preset
-onePresetTooMany b i = presetAt (bookRefusal b then check 4 (ltb (count b) i) then recordRefusal b (offset b i)) b (offset b i)
+abbrev pub onePresetTooMany : Edition → List ℕ → ℕ → Preset
+onePresetTooMany ed b i = presetAt ed (bookRefusal ed b then check 4 (ltb (count b) i) then recordRefusal ed b (offset b i)) b (offset b i)
 
-abbrev pub preset0ForEveryNumber : List ℕ → ℕ → Preset
-preset0ForEveryNumber b i = checkedPreset b 0
+abbrev pub preset0ForEveryNumber : Edition → List ℕ → ℕ → Preset
+preset0ForEveryNumber ed b i = checkedPreset ed b 0
+
+-- checks 1 to 4, and then others of the record at byte o
+abbrev pub presetBy : Edition → (ℕ → ℕ) → List ℕ → ℕ → Preset
+presetBy ed refusal b i =
+    let o = offset b i in
+    presetAt ed (bookRefusal ed b then check 4 (noSuchPreset b i) then refusal o) b o
+
+-- 17 before 6
+abbrev pub laneCountBeforeRank : Edition → List ℕ → ℕ → Preset
+laneCountBeforeRank ed b =
+    presetBy ed (λ o. check 17 (wrongLaneCount ed b o) then bookRankRefusal ed (kindAt b o) (rankAt b o) then wordRefusal (rankAt b o) (lettersAt ed b o)) b
+
+-- the lane count n in kind A too
+abbrev pub laneCountIsTheRank : Edition → List ℕ → ℕ → Preset
+laneCountIsTheRank ed b =
+    presetBy ed
+    (λ o. bookRankRefusal ed (kindAt b o) (rankAt b o) then check 17 (not (eqb (lanesAt ed b o) (rankAt b o))) then wordRefusal (rankAt b o) (lettersAt ed b o)) b
+
+-- the ranges of the first edition
+abbrev pub rangesOfTheFirst : Edition → List ℕ → ℕ → Preset
+rangesOfTheFirst ed b =
+    presetBy ed
+    (λ o. bookRankRefusal First (kindAt b o) (rankAt b o) then check 17 (wrongLaneCount ed b o) then wordRefusal (rankAt b o) (lettersAt ed b o)) b
 
 -- where the part begins, and its bytes, as they should be
-abbrev pub handedOut : List ℕ → ℕ → ℕ × List ℕ
-handedOut b i = (lettersStart b i, lettersOf b i)
+abbrev pub handedOut : Edition → List ℕ → ℕ → ℕ × List ℕ
+handedOut ed b i = (lettersStart ed b i, lettersOf ed b i)
 
-abbrev pub lettersFromTheRecord : List ℕ → ℕ → ℕ × List ℕ
-lettersFromTheRecord b i = (pick (eqb (presetRefusal b i) 0) (offset b i) 0, lettersOf b i)
+abbrev pub lettersFromTheRecord : Edition → List ℕ → ℕ → ℕ × List ℕ
+lettersFromTheRecord ed b i = (pick (eqb (presetRefusal ed b i) 0) (offset b i) 0, lettersOf ed b i)
 
-abbrev pub refusedPresetHandsOutLetters : List ℕ → ℕ → ℕ × List ℕ
-refusedPresetHandsOutLetters b i = (lettersStart b i, lettersAt b (offset b i))
+abbrev pub refusedPresetHandsOutLetters : Edition → List ℕ → ℕ → ℕ × List ℕ
+refusedPresetHandsOutLetters ed b i = (lettersStart ed b i, lettersAt ed b (offset b i))
+
+-- four bytes of head in either edition
+abbrev pub lettersOneByteEarly : Edition → List ℕ → ℕ → ℕ × List ℕ
+lettersOneByteEarly ed b i = let o = offset b i in (o + 4, take (letterCountAt ed b o) (drop (o + 4) b))
 
 -- ---- appending
 
-abbrev pub lastOffsetDropped : List ℕ → ℕ → ℕ → List ℕ → List ℕ → Outcome ℕ
-lastOffsetDropped b k n u out =
-    writes (appendRefusal b k n u)
-    (take (trailer b) b ++ (recordOf k n u ++ (take (2 * count b) (drop (trailer b) b) ++ two (count b + 1)))) out
+-- a record of the first edition
+abbrev pub laneCountLeftOut : Edition → List ℕ → ℕ → ℕ → List ℕ → List ℕ → Outcome ℕ
+laneCountLeftOut ed b k n u out = writes (appendRefusal ed b k n u) (appended First b k n u) out
 
-abbrev pub kindAndRankExchanged : List ℕ → ℕ → ℕ → List ℕ → List ℕ → Outcome ℕ
-kindAndRankExchanged b k n u out = writes (appendRefusal b k n u) (appended b n k u) out
+abbrev pub lastOffsetDropped : Edition → List ℕ → ℕ → ℕ → List ℕ → List ℕ → Outcome ℕ
+lastOffsetDropped ed b k n u out =
+    writes (appendRefusal ed b k n u)
+    (take (trailer b) b ++ (recordOf ed k n (lanes (kindOf k) n) u ++ (take (2 * count b) (drop (trailer b) b) ++ two (count b + 1)))) out
+
+abbrev pub kindAndRankExchanged : Edition → List ℕ → ℕ → ℕ → List ℕ → List ℕ → Outcome ℕ
+kindAndRankExchanged ed b k n u out = writes (appendRefusal ed b k n u) (appended ed b n k u) out
 
 -- check 14 before the others
-abbrev pub roomBeforeTheSizeLimit : List ℕ → ℕ → ℕ → List ℕ → List ℕ → Outcome ℕ
-roomBeforeTheSizeLimit b k n u out =
-    writes (check 14 (tooShort (length (appended b k n u)) out) then appendRefusal b k n u) (appended b k n u) out
+abbrev pub roomBeforeTheSizeLimit : Edition → List ℕ → ℕ → ℕ → List ℕ → List ℕ → Outcome ℕ
+roomBeforeTheSizeLimit ed b k n u out =
+    writes (check 14 (tooShort (length (appended ed b k n u)) out) then appendRefusal ed b k n u) (appended ed b k n u) out
 
 -- ---- lines of the listing
 
@@ -103,20 +137,20 @@ minusLeftOut i k n u =
 -- ---- pieces of the listing
 
 -- the first line is all there is
-abbrev pub noPresetLine : List ℕ → ℕ → List ℕ → Piecing
-noPresetLine b i out =
-    let text = pick (eqb i 0) (line b 0) [] in
+abbrev pub noPresetLine : Edition → List ℕ → ℕ → List ℕ → Piecing
+noPresetLine ed b i out =
+    let text = pick (eqb i 0) (line ed b 0) [] in
     record { answer = record { next = 1; end = length text; left = 0 }; bytes = text ++ drop (length text) out }
 
 -- the buffer is filled to its last byte
-abbrev pub lineCutOff : List ℕ → ℕ → List ℕ → Piecing
-lineCutOff b i out =
-    let text = take (length out) (lines b (lineCount b - i) i) in
-    record { answer = record { next = lineCount b; end = length text; left = 0 }; bytes = text ++ drop (length text) out }
+abbrev pub lineCutOff : Edition → List ℕ → ℕ → List ℕ → Piecing
+lineCutOff ed b i out =
+    let text = take (length out) (lines ed b (lineCount ed b - i) i) in
+    record { answer = record { next = lineCount ed b; end = length text; left = 0 }; bytes = text ++ drop (length text) out }
 
 -- a line that just fits is left out: the last byte of the buffer is never used
-abbrev pub lastByteUnused : List ℕ → ℕ → List ℕ → Piecing
-lastByteUnused b i out =
+abbrev pub lastByteUnused : Edition → List ℕ → ℕ → List ℕ → Piecing
+lastByteUnused ed b i out =
     let m = length out - 1 in
-    let p = nextPiece b i (take m out) in
+    let p = nextPiece ed b i (take m out) in
     record { answer = p .answer; bytes = p .bytes ++ drop m out }

@@ -16,6 +16,7 @@ use Rattle.rules.specs.Calls.{Step, step}
 use Rattle.exchange.specs.declared.Fallback.{Fallback}
 use Rattle.exchange.specs.Calls.{fallbackAnswer}
 use Rattle.distribution.specs.Calls.{Tabled, delayTable}
+use Rattle.book_format.specs.declared.Edition.the-variants.{First, Second}
 use Rattle.book_format.specs.declared.Opened.{Opened}
 use Rattle.book_format.specs.declared.Preset.{Preset}
 use Rattle.book_format.specs.Calls.{checkedBook, checkedPreset, appending}
@@ -34,6 +35,7 @@ use Rattle.examples.specs.WrongRewrites.{noneFitsWithoutLooking, ruleOfB
 use Rattle.examples.specs.WrongShortest.{verdictByLengthAlone, presentWordUnshortened, roomAskedForANo}
 use Rattle.examples.specs.WrongTables.{rank20InA, factorLeftOut, runningTotals, straightAsLongest, listWrittenFirst}
 use Rattle.examples.specs.WrongBooks.{countHighByteFirst, offsetAgainstTheTrailer, lastRecordMayStopEarly, onePresetTooMany, preset0ForEveryNumber}
+use Rattle.examples.specs.WrongBooks.{laneCountBeforeRank, laneCountIsTheRank, rangesOfTheFirst, lettersOneByteEarly, laneCountLeftOut}
 use Rattle.examples.specs.WrongBooks.{handedOut, lettersFromTheRecord, refusedPresetHandsOutLetters, lastOffsetDropped, kindAndRankExchanged}
 use Rattle.examples.specs.WrongBooks.{countWithoutLineFeed, bookRefusalAlways1, presetRefusalAlways1, lengthBeforeRank, minusLeftOut, noPresetLine, lineCutOff, lastByteUnused}
 
@@ -144,17 +146,22 @@ table =
     ∷ differ delayTable straightAsLongest (λ f. tabled (f 1 1 (lent 2) (lentEntries 2) (lent 1)))
     ∷ differ delayTable listWrittenFirst (λ f. tabled (f 1 1 (lent 2) (lentEntries 2) []))
     -- opening a book
-    ∷ differ checkedBook countHighByteFirst (λ f. opened (f one))
-    ∷ differ checkedBook offsetAgainstTheTrailer (λ f. opened (f one))
-    ∷ differ checkedBook lastRecordMayStopEarly (λ f. opened (f (1 ∷ 1 ∷ 0 ∷ 0 ∷ 7 ∷ 0 ∷ 0 ∷ 1 ∷ 0 ∷ [])))
+    ∷ differ checkedBook countHighByteFirst (λ f. opened (f First one))
+    ∷ differ checkedBook offsetAgainstTheTrailer (λ f. opened (f First one))
+    ∷ differ checkedBook lastRecordMayStopEarly (λ f. opened (f First (1 ∷ 1 ∷ 0 ∷ 0 ∷ 7 ∷ 0 ∷ 0 ∷ 1 ∷ 0 ∷ [])))
     -- reading a preset, and its letters
-    ∷ differ checkedPreset onePresetTooMany (λ f. preset (f one 1))
-    ∷ differ checkedPreset preset0ForEveryNumber (λ f. preset (f (1 ∷ 1 ∷ 0 ∷ 0 ∷ 2 ∷ 2 ∷ 0 ∷ 0 ∷ 0 ∷ 0 ∷ 4 ∷ 0 ∷ 2 ∷ 0 ∷ []) 1))
-    ∷ differ handedOut lettersFromTheRecord (λ f. part (f one 0))
-    ∷ differ handedOut refusedPresetHandsOutLetters (λ f. part (f (1 ∷ 1 ∷ 1 ∷ 0 ∷ 2 ∷ 0 ∷ 0 ∷ 1 ∷ 0 ∷ []) 0))
+    ∷ differ checkedPreset onePresetTooMany (λ f. preset (f First one 1))
+    ∷ differ checkedPreset preset0ForEveryNumber (λ f. preset (f First (1 ∷ 1 ∷ 0 ∷ 0 ∷ 2 ∷ 2 ∷ 0 ∷ 0 ∷ 0 ∷ 0 ∷ 4 ∷ 0 ∷ 2 ∷ 0 ∷ []) 1))
+    ∷ differ checkedPreset laneCountBeforeRank (λ f. preset (f Second (1 ∷ 64 ∷ 9 ∷ 0 ∷ 0 ∷ 0 ∷ 0 ∷ 1 ∷ 0 ∷ []) 0))
+    ∷ differ checkedPreset laneCountIsTheRank (λ f. preset (f Second (1 ∷ 1 ∷ 2 ∷ 0 ∷ 0 ∷ 0 ∷ 0 ∷ 1 ∷ 0 ∷ []) 0))
+    ∷ differ checkedPreset rangesOfTheFirst (λ f. preset (f Second (2 ∷ 64 ∷ 64 ∷ 0 ∷ 0 ∷ 0 ∷ 0 ∷ 1 ∷ 0 ∷ []) 0))
+    ∷ differ handedOut lettersFromTheRecord (λ f. part (f First one 0))
+    ∷ differ handedOut refusedPresetHandsOutLetters (λ f. part (f First (1 ∷ 1 ∷ 1 ∷ 0 ∷ 2 ∷ 0 ∷ 0 ∷ 1 ∷ 0 ∷ []) 0))
+    ∷ differ handedOut lettersOneByteEarly (λ f. part (f Second (1 ∷ 1 ∷ 2 ∷ 1 ∷ 0 ∷ 1 ∷ 0 ∷ 0 ∷ 1 ∷ 0 ∷ []) 0))
     -- appending
-    ∷ differ appending lastOffsetDropped (λ f. bytes (f (0 ∷ 0 ∷ []) 1 2 [] (lent 8)))
-    ∷ differ appending kindAndRankExchanged (λ f. bytes (f (0 ∷ 0 ∷ []) 1 2 [] (lent 8)))
+    ∷ differ appending laneCountLeftOut (λ f. bytes (f Second (0 ∷ 0 ∷ []) 1 2 [] (lent 9)))
+    ∷ differ appending lastOffsetDropped (λ f. bytes (f First (0 ∷ 0 ∷ []) 1 2 [] (lent 8)))
+    ∷ differ appending kindAndRankExchanged (λ f. bytes (f First (0 ∷ 0 ∷ []) 1 2 [] (lent 8)))
     -- lines of the listing
     ∷ differ countLine countWithoutLineFeed (λ f. text (f 2))
     ∷ differ refusedBookLine bookRefusalAlways1 (λ f. text (f 3))
@@ -162,7 +169,7 @@ table =
     ∷ differ wordLine lengthBeforeRank (λ f. text (f 0 B 2 (1 ∷ 2 ∷ 1 ∷ 2 ∷ [])))
     ∷ differ wordLine minusLeftOut (λ f. text (f 0 B 2 (1 ∷ 2 ∷ 1 ∷ 2 ∷ [])))
     -- pieces of the listing
-    ∷ differ nextPiece noPresetLine (λ f. piece (f one 0 (lent 40)))
-    ∷ differ nextPiece lineCutOff (λ f. piece (f one 0 (lent 12)))
-    ∷ differ nextPiece lastByteUnused (λ f. piece (f one 0 (lent 10)))
+    ∷ differ nextPiece noPresetLine (λ f. piece (f First one 0 (lent 40)))
+    ∷ differ nextPiece lineCutOff (λ f. piece (f First one 0 (lent 12)))
+    ∷ differ nextPiece lastByteUnused (λ f. piece (f First one 0 (lent 10)))
     ∷ []

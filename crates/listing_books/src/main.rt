@@ -1,6 +1,8 @@
-// Lists each book file that an argument names, after a heading line with its name, in pieces of at most 4,096 bytes. Of a book with more than 1,000
-// presets only the count line and the last preset's line are printed.
+// Lists each book file that an argument names, after a heading line with its name, in pieces of at most 16,896 bytes. A file whose name begins with
+// `second-` is a book of the second edition, any other one of the first. Of a book with more than 1,000 presets only the count line and the last
+// preset's line are printed.
 use libc::STDOUT_FILENO;
+use listing_lines::Edition;
 use listing_lines::next_piece;
 use listing_lines::print_book;
 ghost use mathlib.Core.Path.{_≡_};
@@ -13,25 +15,42 @@ fn blank_head() -> [u8; 16]
     [0u8; 16]
 }
 
+// Room for any line.
+fn blank_piece() -> [u8; 16896]
+    ensures { λ r. ⌜ 16896 ≡ length r ⌝ }
+{
+    [0u8; 16896]
+}
+
+fn edition_of(name: &[u8]) -> Edition {
+    if name.len() < 7 {
+        return Edition::First;
+    }
+    if check::same(&name[0..7], b"second-") {
+        return Edition::Second;
+    }
+    Edition::First
+}
+
 // The lines from line `first` on, as many as fit in the buffer.
-fn print_piece(book: &[u8], first: usize, out: &mut [u8]) {
-    let piece = next_piece(book, first, out);
+fn print_piece(edition: Edition, book: &[u8], first: usize, out: &mut [u8]) {
+    let piece = next_piece(edition, book, first, out);
     let end = piece.end;
     io::write_all(STDOUT_FILENO, &out[..end]);
 }
 
 // A long listing's first piece is its first line alone, so that as many lines are left as the number of the last one says.
-fn list_book(book: &[u8]) {
+fn list_book(edition: Edition, book: &[u8]) {
     let mut head = blank_head();
-    let mut out = io::buffer();
-    let piece = next_piece(book, 0, &mut head);
+    let mut out = blank_piece();
+    let piece = next_piece(edition, book, 0, &mut head);
     let left = piece.left;
     if left <= 1000 {
-        print_book(book, &mut out);
+        print_book(edition, book, &mut out);
         return;
     }
-    print_piece(book, 0, &mut head);
-    print_piece(book, left, &mut out);
+    print_piece(edition, book, 0, &mut head);
+    print_piece(edition, book, left, &mut out);
 }
 
 fn list_file(name: &[u8]) {
@@ -46,7 +65,7 @@ fn list_file(name: &[u8]) {
     let mut bytes = io::large_buffer();
     let n = io::read_full(fd, &mut bytes);
     libc::close(fd);
-    list_book(&bytes[..n]);
+    list_book(edition_of(name), &bytes[..n]);
 }
 
 fn list_argument(i: usize) {

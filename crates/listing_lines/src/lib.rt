@@ -5,6 +5,7 @@ mod pieces;
 mod presets;
 mod printing;
 
+pub use book::Edition;
 pub use listing_text::Piece;
 pub use pieces::next_piece;
 pub use printing::print_book;

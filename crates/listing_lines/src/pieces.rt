@@ -3,6 +3,7 @@ use crate::lines::put_count;
 use crate::lines::put_refused_book;
 use crate::numbers::put_bytes;
 use crate::presets::put_preset;
+use book::Edition;
 use book::Opened;
 use book::Preset;
 use book::check_book;
@@ -48,20 +49,20 @@ fn preset_at(fields: &[u64], p: usize) -> Preset
 }
 
 // How many lines the listing has.
-fn line_count(book: &[u8]) -> usize
-    ensures { λ r. ⌜ r ≡ lineCount (now (book .entry)) ⌝ }
+fn line_count(edition: Edition, book: &[u8]) -> usize
+    ensures { λ r. ⌜ r ≡ lineCount edition (now (book .entry)) ⌝ }
 {
-    match check_book(book) {
+    match check_book(edition, book) {
         Opened::Presets(c) => c + 1,
         Opened::Refused(_) => 1,
     }
 }
 
 // How many lines there are from line `first` on.
-fn lines_from(book: &[u8], first: usize) -> usize
-    ensures { λ r. ⌜ r ≡ lineCount (now (book .entry)) - first ⌝ }
+fn lines_from(edition: Edition, book: &[u8], first: usize) -> usize
+    ensures { λ r. ⌜ r ≡ lineCount edition (now (book .entry)) - first ⌝ }
 {
-    let count = line_count(book);
+    let count = line_count(edition, book);
     if count < first {
         return 0;
     }
@@ -69,20 +70,27 @@ fn lines_from(book: &[u8], first: usize) -> usize
 }
 
 // Line 0.
-fn put_first(book: &[u8], out: &mut [u8]) -> usize
-    requires { ⌜ length (firstLine (checkedBook (now book))) ≤ length (now out) ⌝ }
-    ensures { λ r. ⌜ Stored (now (out .entry)) 0 (firstLine (checkedBook (now (book .entry)))) (now (out .exit)) r ⌝ }
+fn put_first(edition: Edition, book: &[u8], out: &mut [u8]) -> usize
+    requires { ⌜ length (firstLine (checkedBook edition (now book))) ≤ length (now out) ⌝ }
+    ensures { λ r. ⌜ Stored (now (out .entry)) 0 (firstLine (checkedBook edition (now (book .entry)))) (now (out .exit)) r ⌝ }
 {
-    match check_book(book) {
+    match check_book(edition, book) {
         Opened::Presets(count) => put_count(count, out),
         Opened::Refused(refusal) => put_refused_book(refusal, out),
     }
 }
 
 // The run that has the preset of line i: the one in hand, or the next one.
-fn run_with(book: &[u8], i: usize, first: usize, end: usize, fields: &mut [u64]) -> Run
-    requires { ⌜ (i < lineCount (now book)) × (first ≤ i) × (5 ≤ length (now fields)) × Held (now book) first end (now fields) ⌝ }
-    ensures { λ r. ⌜ Held (now (book .entry)) (r .first) (r .end) (now (fields .exit)) × Ready i (r .first) (r .end) ⌝ }
+fn run_with(
+    edition: Edition,
+    book: &[u8],
+    i: usize,
+    first: usize,
+    end: usize,
+    fields: &mut [u64],
+) -> Run
+    requires { ⌜ (i < lineCount edition (now book)) × (first ≤ i) × (5 ≤ length (now fields)) × Held edition (now book) first end (now fields) ⌝ }
+    ensures { λ r. ⌜ Held edition (now (book .entry)) (r .first) (r .end) (now (fields .exit)) × Ready i (r .first) (r .end) ⌝ }
 {
     if i == 0 {
         return Run { first, end };
@@ -90,22 +98,31 @@ fn run_with(book: &[u8], i: usize, first: usize, end: usize, fields: &mut [u64])
     if i < end {
         return Run { first, end };
     }
-    let Answer::Length(n) = read_presets(book, i - 1, fields) else {
+    let Answer::Length(n) = read_presets(edition, book, i - 1, fields) else {
         return Run { first: i, end: i };
     };
+    let reached = i + n;
     Run {
         first: i,
-        end: i + n,
+        end: reached,
     }
 }
 
 // Line i, from the numbers of a run that has its preset.
-fn put_nth(book: &[u8], i: usize, first: usize, end: usize, fields: &[u64], out: &mut [u8]) -> usize
-    requires { ⌜ (i < lineCount (now book)) × Held (now book) first end (now fields) × Ready i first end × (longest ≤ length (now out)) ⌝ }
-    ensures { λ r. ⌜ Stored (now (out .entry)) 0 (line (now (book .entry)) i) (now (out .exit)) r ⌝ }
+fn put_nth(
+    edition: Edition,
+    book: &[u8],
+    i: usize,
+    first: usize,
+    end: usize,
+    fields: &[u64],
+    out: &mut [u8],
+) -> usize
+    requires { ⌜ (i < lineCount edition (now book)) × Held edition (now book) first end (now fields) × Ready i first end × (longest ≤ length (now out)) ⌝ }
+    ensures { λ r. ⌜ Stored (now (out .entry)) 0 (line edition (now (book .entry)) i) (now (out .exit)) r ⌝ }
 {
     if i == 0 {
-        return put_first(book, out);
+        return put_first(edition, book, out);
     }
     let answer = preset_at(fields, 5 * (i - first));
     put_preset(book, i - 1, answer, out)
@@ -113,9 +130,9 @@ fn put_nth(book: &[u8], i: usize, first: usize, end: usize, fields: &[u64], out:
 
 // The next piece of the listing of a book, from line `first` on: as many lines as fit whole in the buffer, at its front. Line 0 is the first, line
 // i + 1 that of preset i. Answers the line after the piece, where it ends, and how many lines are left. A buffer of 16,896 bytes has room for any line.
-pub fn next_piece(book: &[u8], first: usize, out: &mut [u8]) -> Piece
-    ensures { λ r. ⌜ (r ≡ nextPiece (now (book .entry)) first (now (out .entry)) .answer)
-        × (now (out .exit) ≡ nextPiece (now (book .entry)) first (now (out .entry)) .bytes) ⌝ }
+pub fn next_piece(edition: Edition, book: &[u8], first: usize, out: &mut [u8]) -> Piece
+    ensures { λ r. ⌜ (r ≡ nextPiece edition (now (book .entry)) first (now (out .entry)) .answer)
+        × (now (out .exit) ≡ nextPiece edition (now (book .entry)) first (now (out .entry)) .bytes) ⌝ }
 {
     let mut line = io::large_buffer();
     let mut fields = blank_run();
@@ -123,12 +140,12 @@ pub fn next_piece(book: &[u8], first: usize, out: &mut [u8]) -> Piece
     let mut read = first;
     let mut next = first;
     let mut end = 0;
-    let mut left = lines_from(book, first);
+    let mut left = lines_from(edition, book, first);
     while 0 < left {
-        let in_hand = run_with(book, next, run, read, &mut fields);
+        let in_hand = run_with(edition, book, next, run, read, &mut fields);
         run = in_hand.first;
         read = in_hand.end;
-        let size = put_nth(book, next, run, read, &fields, &mut line);
+        let size = put_nth(edition, book, next, run, read, &fields, &mut line);
         if out.len() - end < size {
             return Piece { next, end, left };
         }

@@ -11,8 +11,9 @@ ghost use lib.ListN.{length};
 ghost use Rattle.coxeter.specs.Kinds.{kindOf};
 ghost use Rattle.coxeter.specs.Checks.{rankRefusal, wordRefusal};
 ghost use Rattle.coxeter.proofs.Lists.{Stored};
+ghost use Rattle.book_format.specs.declared.Edition.{Edition};
 ghost use Rattle.book_format.specs.Calls.{checkedPreset};
-ghost use Rattle.listing_text.specs.Text.{wordLine, lineOf};
+ghost use Rattle.listing_text.specs.Text.{wordLine, lineBy};
 ghost use Rattle.listing_text.proofs.Runs.{refusalOf};
 
 // A window with room for every lane count.
@@ -54,10 +55,10 @@ fn put_word(number: usize, kind: u8, rank: u8, word: &[u8], out: &mut [u8]) -> u
     put_line(number, kind, rank, &form[..l], &shown[..m], out)
 }
 
-// The line of a preset, by its number and what reading it answered.
+// The line of a preset, by its number and what reading it answered, in whichever edition.
 pub(crate) fn put_preset(book: &[u8], number: usize, answer: Preset, out: &mut [u8]) -> usize
-    requires { ⌜ (answer ≡ checkedPreset (now book) number) × (length (lineOf (now book) number) ≤ length (now out)) ⌝ }
-    ensures { λ r. ⌜ Stored (now (out .entry)) 0 (lineOf (now (book .entry)) number) (now (out .exit)) r ⌝ }
+    requires { ⌜ ((ed : Edition) × ((answer ≡ checkedPreset ed (now book) number) × (length (lineBy (now book) number answer) ≤ length (now out)))) ⌝ }
+    ensures { λ r. ⌜ Stored (now (out .entry)) 0 (lineBy (now (book .entry)) number answer) (now (out .exit)) r ⌝ }
 {
     let Preset::Found {
         kind,

@@ -11,9 +11,10 @@ use Rattle.coxeter.specs.Windows.{from, exchange, negateFirst, exchangeNegate, 
 use Rattle.coxeter.specs.Checks.{wrongKind, tooLong, wrongLetter, wordRefusal}
 use Rattle.coxeter.specs.NormalForm.{down, rise, fall, block, without, indexOf, restOf, normalFrom, normalForm}
 use Rattle.coxeter.proofs.Vectors.{Agree, lent}
-use Rattle.book_format.specs.Books.{twoAt, count, trailer, offset, wrongSize, wrongCount, misplacedFrom, misplaced, noSuchPreset, wrongRankInBook, bookRankRefusal, bookRefusal, recordRefusal, presetRefusal}
+use Rattle.book_format.specs.declared.Edition.the-variants.{First, Second}
+use Rattle.book_format.specs.Books.{twoAt, count, trailer, offset, wrongSize, wrongCount, misplacedFrom, misplaced, noSuchPreset, wrongRankInBook, wrongLaneCount, bookRankRefusal, bookRefusal, recordRefusal, presetRefusal}
 use Rattle.book_format.specs.Calls.{openedOf, presetOf, checkedBook, presetAt, checkedPreset}
-use Rattle.book_format.proofs.Vectors.{book, emptyBook, bookOf}
+use Rattle.book_format.proofs.Vectors.{book, secondBook, emptyBook, bookOf}
 use Rattle.listing_text.specs.Text.{digits, decimal, spaced, letters, entry, entries, kindLetter, head, tail, presetLine, refused, refusedLine, refusedBookLine, countLine, wordLine, lineBy, lineOf, linesFrom, listingBy, listing}
 use Rattle.listing_text.specs.Calls.{lineCountBy, lineCount, firstLine, line, lines, fitting, Piecing, nextPiece}
 
@@ -25,22 +26,25 @@ codes (string._∷_ c t) = code c ∷ codes t
 pub listings : List (List ℕ × List ℕ)
 listings =
     -- document 01's book
-    (listing book, codes "presets 2\n0 B 2 4: 2 1 2 1 | -1 -2\n1 D 5 6: 5 2 3 5 1 2 | 3 -5 1 4 -2\n")
+    (listing First book, codes "presets 2\n0 B 2 4: 2 1 2 1 | -1 -2\n1 D 5 6: 5 2 3 5 1 2 | 3 -5 1 4 -2\n")
     -- "With an empty normal form a line reads `0 A 2 0: | 1 2 3`."
-    ∷ (listing (bookOf (1 ∷ 2 ∷ 0 ∷ 0 ∷ [])), codes "presets 1\n0 A 2 0: | 1 2 3\n")
+    ∷ (listing First (bookOf (1 ∷ 2 ∷ 0 ∷ 0 ∷ [])), codes "presets 1\n0 A 2 0: | 1 2 3\n")
     -- "A preset whose record is refused gets the line `0 refused 8`"; "a refused book gives only `book refused 1`"
-    ∷ (listing (bookOf (1 ∷ 2 ∷ 1 ∷ 0 ∷ 3 ∷ [])), codes "presets 1\n0 refused 8\n")
-    ∷ (listing (0 ∷ []), codes "book refused 1\n")
-    ∷ (listing (7 ∷ 0 ∷ 0 ∷ []), codes "book refused 3\n")
+    ∷ (listing First (bookOf (1 ∷ 2 ∷ 1 ∷ 0 ∷ 3 ∷ [])), codes "presets 1\n0 refused 8\n")
+    ∷ (listing First (0 ∷ []), codes "book refused 1\n")
+    ∷ (listing First (7 ∷ 0 ∷ 0 ∷ []), codes "book refused 3\n")
     -- no presets
-    ∷ (listing emptyBook, codes "presets 0\n")
+    ∷ (listing First emptyBook, codes "presets 0\n")
+    -- "The second edition gets a listing program of its own that prints the same lines."
+    ∷ (listing Second secondBook, codes "presets 2\n0 B 2 4: 2 1 2 1 | -1 -2\n1 D 5 6: 5 2 3 5 1 2 | 3 -5 1 4 -2\n")
+    ∷ (listing Second (bookOf (1 ∷ 2 ∷ 2 ∷ 0 ∷ 0 ∷ [])), codes "presets 1\n0 refused 17\n")
     ∷ []
 
 pub listings-agree : Agree listings
 unfolding listings codes
     kindOf up from exchange negateFirst exchangeNegate act windowFrom straight window placeFrom signed
     wrongKind tooLong wrongLetter wordRefusal down rise fall block without indexOf restOf normalFrom normalForm
-    twoAt count trailer offset wrongSize wrongCount misplacedFrom misplaced noSuchPreset wrongRankInBook bookRankRefusal bookRefusal recordRefusal presetRefusal
+    twoAt count trailer offset wrongSize wrongCount misplacedFrom misplaced noSuchPreset wrongRankInBook wrongLaneCount bookRankRefusal bookRefusal recordRefusal presetRefusal
     openedOf presetOf checkedBook presetAt checkedPreset
     digits decimal spaced letters entry entries kindLetter head tail presetLine refused refusedLine refusedBookLine countLine
     wordLine lineBy lineOf linesFrom listingBy listing
@@ -50,17 +54,17 @@ listings-agree = refl
 -- and no line left
 pub piecing : List (Piecing × Piecing)
 piecing =
-    (nextPiece book 0 (lent 35), record { answer = record { next = 2; end = 35; left = 1 }; bytes = codes "presets 2\n0 B 2 4: 2 1 2 1 | -1 -2\n" })
-    ∷ (nextPiece book 0 (lent 34), record { answer = record { next = 1; end = 10; left = 2 }; bytes = codes "presets 2\n" ++ lent 24 })
-    ∷ (nextPiece book 2 (lent 34), record { answer = record { next = 2; end = 0; left = 1 }; bytes = lent 34 })
-    ∷ (nextPiece book 3 (lent 1), record { answer = record { next = 3; end = 0; left = 0 }; bytes = lent 1 })
+    (nextPiece First book 0 (lent 35), record { answer = record { next = 2; end = 35; left = 1 }; bytes = codes "presets 2\n0 B 2 4: 2 1 2 1 | -1 -2\n" })
+    ∷ (nextPiece First book 0 (lent 34), record { answer = record { next = 1; end = 10; left = 2 }; bytes = codes "presets 2\n" ++ lent 24 })
+    ∷ (nextPiece First book 2 (lent 34), record { answer = record { next = 2; end = 0; left = 1 }; bytes = lent 34 })
+    ∷ (nextPiece First book 3 (lent 1), record { answer = record { next = 3; end = 0; left = 0 }; bytes = lent 1 })
     ∷ []
 
 pub piecing-agrees : Agree piecing
 unfolding piecing codes
     kindOf up from exchange negateFirst exchangeNegate act windowFrom straight window placeFrom signed
     wrongKind tooLong wrongLetter wordRefusal down rise fall block without indexOf restOf normalFrom normalForm
-    twoAt count trailer offset wrongSize wrongCount misplacedFrom misplaced noSuchPreset wrongRankInBook bookRankRefusal bookRefusal recordRefusal presetRefusal
+    twoAt count trailer offset wrongSize wrongCount misplacedFrom misplaced noSuchPreset wrongRankInBook wrongLaneCount bookRankRefusal bookRefusal recordRefusal presetRefusal
     openedOf presetOf checkedBook presetAt checkedPreset
     digits decimal spaced letters entry entries kindLetter head tail presetLine refused refusedLine refusedBookLine countLine
     wordLine lineBy lineOf lineCountBy lineCount firstLine line lines fitting nextPiece

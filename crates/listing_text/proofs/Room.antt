@@ -21,6 +21,7 @@ use Rattle.coxeter.proofs.Fronts.{length-window-le, length-form-le}
 use Rattle.coxeter.proofs.Levels.{Between, window-accepted}
 use Rattle.coxeter.proofs.LetterLaws.{letter-within-cons}
 use Rattle.coxeter.proofs.NormalForms.{normalForm-letters}
+use Rattle.book_format.specs.declared.Edition.{Edition}
 use Rattle.book_format.specs.declared.Opened.{Opened}
 use Rattle.book_format.specs.declared.Opened.the-variants as opened
 use Rattle.book_format.specs.declared.Preset.{Preset}
@@ -85,101 +86,101 @@ length-wordLine-le i k n u h g =
 -- ---- every line
 
 -- what opening a book answered
-presets-opened : (b : List ℕ) (c : ℕ) → opened.Presets c ≡ checkedBook b → (bookRefusal b ≡ 0) × (c ≡ count b)
+presets-opened : (ed : Edition) (b : List ℕ) (c : ℕ) → opened.Presets c ≡ checkedBook ed b → (bookRefusal ed b ≡ 0) × (c ≡ count b)
 unfolding checkedBook openedOf
-presets-opened b c e = elim (ℕ-discrete (bookRefusal b) 0) [
+presets-opened ed b c e = elim (ℕ-discrete (bookRefusal ed b) 0) [
   | yes z ↦
-      let q : opened.Presets c ≡ opened.Presets (count b) = e ∙ rw (eq-eqb (bookRefusal b) 0 z) in
+      let q : opened.Presets c ≡ opened.Presets (count b) = e ∙ rw (eq-eqb (bookRefusal ed b) 0 z) in
       (z, cc)
   | no f ↦
-      let q : opened.Presets c ≡ opened.Refused (bookRefusal b) = e ∙ rw (ne-eqb (bookRefusal b) 0 f) in
+      let q : opened.Presets c ≡ opened.Refused (bookRefusal ed b) = e ∙ rw (ne-eqb (bookRefusal ed b) 0 f) in
       let y : _≡_ {A = ℕ} 0 1 = cc in
       absurd (omega arith)
 ]
 
-refused-opened : (b : List ℕ) (r : ℕ) → opened.Refused r ≡ checkedBook b → r ≤ 3
+refused-opened : (ed : Edition) (b : List ℕ) (r : ℕ) → opened.Refused r ≡ checkedBook ed b → r ≤ 3
 unfolding checkedBook openedOf
-refused-opened b r e = elim (ℕ-discrete (bookRefusal b) 0) [
+refused-opened ed b r e = elim (ℕ-discrete (bookRefusal ed b) 0) [
   | yes z ↦
-      let q : opened.Refused r ≡ opened.Presets (count b) = e ∙ rw (eq-eqb (bookRefusal b) 0 z) in
+      let q : opened.Refused r ≡ opened.Presets (count b) = e ∙ rw (eq-eqb (bookRefusal ed b) 0 z) in
       let y : _≡_ {A = ℕ} 0 1 = cc in
       absurd (omega arith)
   | no f ↦
-      let q : opened.Refused r ≡ opened.Refused (bookRefusal b) = e ∙ rw (ne-eqb (bookRefusal b) 0 f) in
-      let p : r ≡ bookRefusal b = cc in
-      omega (arith, bookRefusal-le b)
+      let q : opened.Refused r ≡ opened.Refused (bookRefusal ed b) = e ∙ rw (ne-eqb (bookRefusal ed b) 0 f) in
+      let p : r ≡ bookRefusal ed b = cc in
+      omega (arith, bookRefusal-le ed b)
 ]
 
 -- at most so many presets, since each has two bytes in the trailer
-pub presets-le : (b : List ℕ) (c : ℕ) → opened.Presets c ≡ checkedBook b → c ≤ 32767
-presets-le b c e =
-    let p = presets-opened b c e in
-    let a = accepted b (p .0) in
+pub presets-le : (ed : Edition) (b : List ℕ) (c : ℕ) → opened.Presets c ≡ checkedBook ed b → c ≤ 32767
+presets-le ed b c e =
+    let p = presets-opened ed b c e in
+    let a = accepted ed b (p .0) in
     omega (arith, p .1)
 
 -- a line after the first is that of a preset of an accepted book
-pub lineCount-preset : (b : List ℕ) (i : ℕ) → 1 ≤ i → i < lineCount b → (bookRefusal b ≡ 0) × (i - 1 < count b)
+pub lineCount-preset : (ed : Edition) (b : List ℕ) (i : ℕ) → 1 ≤ i → i < lineCount ed b → (bookRefusal ed b ≡ 0) × (i - 1 < count b)
 unfolding lineCount lineCountBy
-lineCount-preset b i h g = by-answer (checkedBook b) refl g
+lineCount-preset ed b i h g = by-answer (checkedBook ed b) refl g
   where
-    by-answer : (o : Opened) → o ≡ checkedBook b → i < lineCountBy o → (bookRefusal b ≡ 0) × (i - 1 < count b)
-    by-answer (opened.Presets c) e l = let p = presets-opened b c e in (p .0, omega (arith, p .1))
+    by-answer : (o : Opened) → o ≡ checkedBook ed b → i < lineCountBy o → (bookRefusal ed b ≡ 0) × (i - 1 < count b)
+    by-answer (opened.Presets c) e l = let p = presets-opened ed b c e in (p .0, omega (arith, p .1))
     by-answer (opened.Refused r) e l = absurd (omega arith)
 
-pub lineCount-le : (b : List ℕ) → lineCount b ≤ 32768
+pub lineCount-le : (ed : Edition) (b : List ℕ) → lineCount ed b ≤ 32768
 unfolding lineCount lineCountBy
-lineCount-le b = by-answer (checkedBook b) refl
+lineCount-le ed b = by-answer (checkedBook ed b) refl
   where
-    by-answer : (o : Opened) → o ≡ checkedBook b → lineCountBy o ≤ 32768
-    by-answer (opened.Presets c) e = omega (arith, presets-le b c e)
+    by-answer : (o : Opened) → o ≡ checkedBook ed b → lineCountBy o ≤ 32768
+    by-answer (opened.Presets c) e = omega (arith, presets-le ed b c e)
     by-answer (opened.Refused r) e = omega arith
 
-pub length-firstLine-le : (b : List ℕ) → length (firstLine (checkedBook b)) ≤ 29
+pub length-firstLine-le : (ed : Edition) (b : List ℕ) → length (firstLine (checkedBook ed b)) ≤ 29
 unfolding firstLine countLine refusedBookLine refused
-length-firstLine-le b = by-answer (checkedBook b) refl
+length-firstLine-le ed b = by-answer (checkedBook ed b) refl
   where
-    by-answer : (o : Opened) → o ≡ checkedBook b → length (firstLine o) ≤ 29
-    by-answer (opened.Presets c) e = let l = presets-le b c e in simp length-append (omega (arith, length-decimal-word c (omega arith)))
-    by-answer (opened.Refused r) e = let l = refused-opened b r e in simp length-append (omega (arith, length-decimal-byte r (omega arith)))
+    by-answer : (o : Opened) → o ≡ checkedBook ed b → length (firstLine o) ≤ 29
+    by-answer (opened.Presets c) e = let l = presets-le ed b c e in simp length-append (omega (arith, length-decimal-word c (omega arith)))
+    by-answer (opened.Refused r) e = let l = refused-opened ed b r e in simp length-append (omega (arith, length-decimal-byte r (omega arith)))
 
-length-lineOf-le : (b : List ℕ) (i : ℕ) → i < 2 ^ 64 → length (lineOf b i) ≤ longest
+length-lineOf-le : (ed : Edition) (b : List ℕ) (i : ℕ) → i < 2 ^ 64 → length (lineOf ed b i) ≤ longest
 unfolding lineOf lineBy refusedLine refused
-length-lineOf-le b i h = by-answer (checkedPreset b i) refl
+length-lineOf-le ed b i h = by-answer (checkedPreset ed b i) refl
   where
-    by-answer : (p : Preset) → p ≡ checkedPreset b i → length (lineBy b i p) ≤ longest
-    by-answer (preset.Found k n s l) e = length-wordLine-le i k n (take l (drop s b)) h (found-rank b i k n s l (found b i k n s l e))
+    by-answer : (p : Preset) → p ≡ checkedPreset ed b i → length (lineBy b i p) ≤ longest
+    by-answer (preset.Found k n s l) e = length-wordLine-le i k n (take l (drop s b)) h (found-rank ed b i k n s l (found ed b i k n s l e))
     by-answer (preset.Refused r) e =
-        let l = presetRefusal-le b i in
-        let q = refused-is b i r e in
+        let l = presetRefusal-le ed b i in
+        let q = refused-is ed b i r e in
         simp length-append (omega (arith, length-decimal-word i h, length-decimal-byte r (omega arith)))
 
-pub length-line-le : (b : List ℕ) (i : ℕ) → i < lineCount b → length (line b i) ≤ longest
+pub length-line-le : (ed : Edition) (b : List ℕ) (i : ℕ) → i < lineCount ed b → length (line ed b i) ≤ longest
 unfolding line
-length-line-le b zero h = omega (arith, length-firstLine-le b)
-length-line-le b (suc i) h = length-lineOf-le b i (omega (arith, lineCount-le b))
+length-line-le ed b zero h = omega (arith, length-firstLine-le ed b)
+length-line-le ed b (suc i) h = length-lineOf-le ed b i (omega (arith, lineCount-le ed b))
 
 -- ---- progress
 
-pub piece-progress : (b : List ℕ) (i : ℕ) (out : List ℕ) → i < lineCount b → longest ≤ length out → i < nextPiece b i out .answer .next
+pub piece-progress : (ed : Edition) (b : List ℕ) (i : ℕ) (out : List ℕ) → i < lineCount ed b → longest ≤ length out → i < nextPiece ed b i out .answer .next
 unfolding nextPiece
-piece-progress b i out h g =
-    let l = length-line-le b i h in
-    let e : lineCount b - i ≡ suc (lineCount b - suc i) = omega arith in
-    rw (e, fitting-more b (lineCount b - suc i) i (length out) (omega arith)) (omega arith)
+piece-progress ed b i out h g =
+    let l = length-line-le ed b i h in
+    let e : lineCount ed b - i ≡ suc (lineCount ed b - suc i) = omega arith in
+    rw (e, fitting-more ed b (lineCount ed b - suc i) i (length out) (omega arith)) (omega arith)
 
 -- buffers with room for every line
 abbrev pub Roomy : List (List ℕ) → Type 0
 Roomy [] = Unit {0}
 Roomy (out ∷ outs) = (longest ≤ length out) × Roomy outs
 
-reached-end : (b : List ℕ) (i : ℕ) (outs : List (List ℕ)) → Roomy outs → lineCount b ≤ i + length outs → lineCount b ≤ reached b i outs
+reached-end : (ed : Edition) (b : List ℕ) (i : ℕ) (outs : List (List ℕ)) → Roomy outs → lineCount ed b ≤ i + length outs → lineCount ed b ≤ reached ed b i outs
 unfolding reached
-reached-end b i [] h g = omega arith
-reached-end b i (out ∷ outs) h g = reached-end b (nextPiece b i out .answer .next) outs (h .1) (elim (decLe (lineCount b) i) [
+reached-end ed b i [] h g = omega arith
+reached-end ed b i (out ∷ outs) h g = reached-end ed b (nextPiece ed b i out .answer .next) outs (h .1) (elim (decLe (lineCount ed b) i) [
   | yes l ↦ unfold nextPiece in omega arith
-  | no n ↦ let p = piece-progress b i out (omega arith) (h .0) in omega arith
+  | no n ↦ let p = piece-progress ed b i out (omega arith) (h .0) in omega arith
 ])
 
 -- as many of them as there are lines are enough
-pub pieces-enough : (b : List ℕ) (outs : List (List ℕ)) → Roomy outs → lineCount b ≤ length outs → pieces b 0 outs ≡ listing b
-pieces-enough b outs h g = pieces-whole b outs (reached-end b 0 outs h (omega arith))
+pub pieces-enough : (ed : Edition) (b : List ℕ) (outs : List (List ℕ)) → Roomy outs → lineCount ed b ≤ length outs → pieces ed b 0 outs ≡ listing ed b
+pieces-enough ed b outs h g = pieces-whole ed b outs (reached-end ed b 0 outs h (omega arith))

@@ -6,6 +6,7 @@ use Prim.Native.Nat.{ℕ, _+_, _-_, _*_, _/_, _≤_, _<_, min}
 use native.Mathlib.Omega.{arith}
 use lib.ListN.{length, take, getD}
 use lib.Seq.{sets, getD-take}
+use Rattle.book_format.specs.declared.Edition.{Edition}
 use Rattle.coxeter.specs.declared.Answer.{Answer}
 use Rattle.coxeter.specs.declared.Answer.the-variants as answer
 use Rattle.book_format.specs.declared.Preset.{Preset}
@@ -18,31 +19,31 @@ use Rattle.listing_text.specs.Calls.{lineCount}
 use Rattle.listing_text.proofs.Room.{lineCount-preset}
 
 -- l begins with the numbers of the presets of the lines from `first` to before `end`
-pub record Held (b : List ℕ) (first end : ℕ) (l : List ℕ) : Type 0 where
+pub record Held (ed : Edition) (b : List ℕ) (first end : ℕ) (l : List ℕ) : Type 0 where
   pub begins : first ≤ end
   pub numbered : first < end → 1 ≤ first
   pub room : 5 * (end - first) ≤ length l
-  pub numbers : take (5 * (end - first)) l ≡ presetFields b (end - first) (first - 1)
+  pub numbers : take (5 * (end - first)) l ≡ presetFields ed b (end - first) (first - 1)
 
 -- line i is the first, or its preset is one of those
 pub record Ready (i first end : ℕ) : Type 0 where
   pub begins : first ≤ i
   pub has : 1 ≤ i → (1 ≤ first) × (i < end)
 
-pub held-none : (b : List ℕ) (i : ℕ) (l : List ℕ) → Held b i i l
-held-none b i l =
+pub held-none : (ed : Edition) (b : List ℕ) (i : ℕ) (l : List ℕ) → Held ed b i i l
+held-none ed b i l =
     let e : i - i ≡ 0 = omega arith in
     record { begins = omega arith; numbered = λ h. absurd (omega arith); room = omega arith; numbers = rw e (unfold presetFields in refl) }
 
 -- line i is one of the lines in hand
-pub held-ready : (b l : List ℕ) (i first end : ℕ) → Held b first end l → first ≤ i → i < end → Ready i first end
-held-ready b l i first end h g f = record { begins = g; has = λ _. (h .numbered (omega arith), f) }
+pub held-ready : (ed : Edition) (b l : List ℕ) (i first end : ℕ) → Held ed b first end l → first ≤ i → i < end → Ready i first end
+held-ready ed b l i first end h g f = record { begins = g; has = λ _. (h .numbered (omega arith), f) }
 
-module _ (b : List ℕ) (i : ℕ) (out : List ℕ) (a : Answer) (l : List ℕ)
-    (h : (a ≡ readingPresets b (i - 1) out .answer) × (l ≡ readingPresets b (i - 1) out .bytes)) (g : 1 ≤ i) where
-  pub held-read : (n : ℕ) → a ≡ answer.Length n → Held b i (i + n) l × Ready i i (i + n)
+module _ (ed : Edition) (b : List ℕ) (i : ℕ) (out : List ℕ) (a : Answer) (l : List ℕ)
+    (h : (a ≡ readingPresets ed b (i - 1) out .answer) × (l ≡ readingPresets ed b (i - 1) out .bytes)) (g : 1 ≤ i) where
+  pub held-read : (n : ℕ) → a ≡ answer.Length n → Held ed b i (i + n) l × Ready i i (i + n)
   held-read n e =
-      let r = run-read b (i - 1) out a l n h e in
+      let r = run-read ed b (i - 1) out a l n h e in
       let d : i + n - i ≡ n = omega arith in
       let some = r .some in (
         record { begins = omega arith; numbered = λ _. g; room = rw d (r .room); numbers = rw d (r .numbers) },
@@ -51,17 +52,17 @@ module _ (b : List ℕ) (i : ℕ) (out : List ℕ) (a : Answer) (l : List ℕ)
 
   pub held-small : (n : ℕ) → a ≡ answer.Length n → i + n ≤ 65535
   held-small n e =
-      let r = run-read b (i - 1) out a l n h e in
+      let r = run-read ed b (i - 1) out a l n h e in
       let w = r .within in
-      let k = accepted b (r .accepted) in
+      let k = accepted ed b (r .accepted) in
       omega arith
 
-  pub held-never : (s : ℕ) → i < lineCount b → 5 ≤ length out → a ≡ answer.Refused s → ⊥
+  pub held-never : (s : ℕ) → i < lineCount ed b → 5 ≤ length out → a ≡ answer.Refused s → ⊥
   held-never s below room e =
-      let p = lineCount-preset b i g below in
+      let p = lineCount-preset ed b i g below in
       let t = min (twoAt b (length b - 2) - (i - 1)) (length out / 5) in
-      let o = sets out 0 (presetFields b t (i - 1)) in
-      let q = reading-run b (i - 1) out (bookRefusal b) refl (p .0) (twoAt b (length b - 2)) refl t o (unfold count in p .1) room refl refl in
+      let o = sets out 0 (presetFields ed b t (i - 1)) in
+      let q = reading-run ed b (i - 1) out (bookRefusal ed b) refl (p .0) (twoAt b (length b - 2)) refl t o (unfold count in p .1) room refl refl in
       let w : answer.Length t ≡ answer.Refused s = q .0 ∙ sym (h .0) ∙ e in
       let y : _≡_ {A = ℕ} 0 1 = cc in
       omega arith
@@ -72,14 +73,14 @@ presetIn-take m l p h =
     let at : (k : ℕ) → k < m → getD (take m l) k 0 ≡ getD l k 0 = λ k s. getD-take m l k 0 s in
     rw (at p (omega arith), at (p + 1) (omega arith), at (p + 2) (omega arith), at (p + 3) (omega arith), at (p + 4) h)
 
-pub held-preset : (b l : List ℕ) (i first end : ℕ) (a : Preset) → Held b first end l → Ready i first end → 1 ≤ i → a ≡ presetIn l (5 * (i - first))
-    → a ≡ checkedPreset b (i - 1)
-held-preset b l i first end a h r g e =
+pub held-preset : (ed : Edition) (b l : List ℕ) (i first end : ℕ) (a : Preset) → Held ed b first end l → Ready i first end → 1 ≤ i → a ≡ presetIn l (5 * (i - first))
+    → a ≡ checkedPreset ed b (i - 1)
+held-preset ed b l i first end a h r g e =
     let p = r .begins in
     let q = r .has g in
     let d : first - 1 + (i - first) ≡ i - 1 = omega (arith, q .0) in
     e ∙ sym (presetIn-take (5 * (end - first)) l (5 * (i - first)) (omega (arith, q .1)))
-    ∙ rw (h .numbers, presetIn-run b (end - first) (first - 1) (i - first) (omega (arith, q .1)), d)
+    ∙ rw (h .numbers, presetIn-run ed b (end - first) (first - 1) (i - first) (omega (arith, q .1)), d)
 
 -- the number of a refused preset, 0 of one that was found
 unfoldable pub refusalOf : Preset → ℕ

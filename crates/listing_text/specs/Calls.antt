@@ -4,6 +4,7 @@ use Prim.Native.Nat.{ℕ, zero, suc, _+_, _-_}
 use lib.Dec.{leb}
 use lib.ListN.{length, take, drop}
 use Rattle.coxeter.specs.Kinds.{pick}
+use Rattle.book_format.specs.declared.Edition.{Edition}
 use Rattle.book_format.specs.declared.Opened.{Opened}
 use Rattle.book_format.specs.declared.Opened.the-variants as opened
 use Rattle.book_format.specs.Calls.{checkedBook}
@@ -17,29 +18,29 @@ unfoldable pub lineCountBy : Opened → ℕ
 lineCountBy (opened.Presets c) = suc c
 lineCountBy (opened.Refused r) = 1
 
-unfoldable pub lineCount : List ℕ → ℕ
-lineCount b = lineCountBy (checkedBook b)
+unfoldable pub lineCount : Edition → List ℕ → ℕ
+lineCount ed b = lineCountBy (checkedBook ed b)
 
 -- line 0 is `presets 2` or `book refused 1`, line i + 1 that of preset i
 unfoldable pub firstLine : Opened → List ℕ
 firstLine (opened.Presets c) = countLine c
 firstLine (opened.Refused r) = refusedBookLine r
 
-unfoldable pub line : List ℕ → ℕ → List ℕ
-line b zero = firstLine (checkedBook b)
-line b (suc i) = lineOf b i
+unfoldable pub line : Edition → List ℕ → ℕ → List ℕ
+line ed b zero = firstLine (checkedBook ed b)
+line ed b (suc i) = lineOf ed b i
 
 -- t lines from line i on
-unfoldable pub lines : List ℕ → ℕ → ℕ → List ℕ
-lines b zero i = []
-lines b (suc t) i = line b i ++ lines b t (suc i)
+unfoldable pub lines : Edition → List ℕ → ℕ → ℕ → List ℕ
+lines ed b zero i = []
+lines ed b (suc t) i = line ed b i ++ lines ed b t (suc i)
 
 -- ---- pieces
 
 -- how many of the t lines from line i on fit whole, one after the other, in m bytes
-unfoldable pub fitting : List ℕ → ℕ → ℕ → ℕ → ℕ
-fitting b zero i m = 0
-fitting b (suc t) i m = let l = length (line b i) in pick (leb l m) (suc (fitting b t (suc i) (m - l))) 0
+unfoldable pub fitting : Edition → List ℕ → ℕ → ℕ → ℕ → ℕ
+fitting ed b zero i m = 0
+fitting ed b (suc t) i m = let l = length (line ed b i) in pick (leb l m) (suc (fitting ed b t (suc i) (m - l))) 0
 
 -- the answer, and the bytes of the buffer afterwards
 pub record Piecing : Type 0 where
@@ -47,18 +48,18 @@ pub record Piecing : Type 0 where
   pub bytes : List ℕ
 
 -- the next piece of the listing of b, from line i on: as many lines as fit in the buffer `out`, at its front; its other bytes stay
-unfoldable pub nextPiece : List ℕ → ℕ → List ℕ → Piecing
-nextPiece b i out =
-    let left = lineCount b - i in
-    let t = fitting b left i (length out) in
-    let text = lines b t i in
+unfoldable pub nextPiece : Edition → List ℕ → ℕ → List ℕ → Piecing
+nextPiece ed b i out =
+    let left = lineCount ed b - i in
+    let t = fitting ed b left i (length out) in
+    let text = lines ed b t i in
     record { answer = record { next = i + t; end = length text; left = left - t }; bytes = text ++ drop (length text) out }
 
 -- calls with one buffer after the other, each from the line where the last piece ended: what the pieces are together, and the line where they end
-unfoldable pub pieces : List ℕ → ℕ → List (List ℕ) → List ℕ
-pieces b i [] = []
-pieces b i (out ∷ outs) = let p = nextPiece b i out in take (p .answer .end) (p .bytes) ++ pieces b (p .answer .next) outs
+unfoldable pub pieces : Edition → List ℕ → ℕ → List (List ℕ) → List ℕ
+pieces ed b i [] = []
+pieces ed b i (out ∷ outs) = let p = nextPiece ed b i out in take (p .answer .end) (p .bytes) ++ pieces ed b (p .answer .next) outs
 
-unfoldable pub reached : List ℕ → ℕ → List (List ℕ) → ℕ
-reached b i [] = i
-reached b i (out ∷ outs) = reached b (nextPiece b i out .answer .next) outs
+unfoldable pub reached : Edition → List ℕ → ℕ → List (List ℕ) → ℕ
+reached ed b i [] = i
+reached ed b i (out ∷ outs) = reached ed b (nextPiece ed b i out .answer .next) outs

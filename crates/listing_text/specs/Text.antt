@@ -7,6 +7,7 @@ use lib.ListN.{length, take, drop}
 use Rattle.coxeter.specs.Kinds.{Kind, A, B, D, pick, kindOf}
 use Rattle.coxeter.specs.Windows.{window}
 use Rattle.coxeter.specs.NormalForm.{wordNormalForm}
+use Rattle.book_format.specs.declared.Edition.{Edition}
 use Rattle.book_format.specs.declared.Opened.{Opened}
 use Rattle.book_format.specs.declared.Opened.the-variants as opened
 use Rattle.book_format.specs.declared.Preset.{Preset}
@@ -91,18 +92,18 @@ lineBy b i (preset.Found k n s l) = wordLine i (kindOf k) n (take l (drop s b))
 lineBy b i (preset.Refused r) = refusedLine i r
 
 -- the line of preset i of the book b
-unfoldable pub lineOf : List ℕ → ℕ → List ℕ
-lineOf b i = lineBy b i (checkedPreset b i)
+unfoldable pub lineOf : Edition → List ℕ → ℕ → List ℕ
+lineOf ed b i = lineBy b i (checkedPreset ed b i)
 
 -- the lines of t presets from preset i on
-unfoldable pub linesFrom : List ℕ → ℕ → ℕ → List ℕ
-linesFrom b zero i = []
-linesFrom b (suc t) i = lineOf b i ++ linesFrom b t (suc i)
+unfoldable pub linesFrom : Edition → List ℕ → ℕ → ℕ → List ℕ
+linesFrom ed b zero i = []
+linesFrom ed b (suc t) i = lineOf ed b i ++ linesFrom ed b t (suc i)
 
 -- the whole listing, by what opening the book answers
-unfoldable pub listingBy : List ℕ → Opened → List ℕ
-listingBy b (opened.Presets c) = countLine c ++ linesFrom b c 0
-listingBy b (opened.Refused r) = refusedBookLine r
+unfoldable pub listingBy : Edition → List ℕ → Opened → List ℕ
+listingBy ed b (opened.Presets c) = countLine c ++ linesFrom ed b c 0
+listingBy ed b (opened.Refused r) = refusedBookLine r
 
-unfoldable pub listing : List ℕ → List ℕ
-listing b = listingBy b (checkedBook b)
+unfoldable pub listing : Edition → List ℕ → List ℕ
+listing ed b = listingBy ed b (checkedBook ed b)

@@ -167,14 +167,18 @@ impl Bench {
     }
 }
 
+/// The bytes of a record before its letter count: kind B, rank 8 and in the second edition the lane count.
+const FIRST: &[u8] = &[2, 8];
+const SECOND: &[u8] = &[2, 8, 8];
+
 /// A book of as many records of one length as fit, but for those left out.
-fn full_book(random: &mut Random, letters: usize, left_out: usize) -> Vec<u8> {
-    let records = (65535 - 2) / (letters + 6) - left_out;
+fn full_book(random: &mut Random, rig: &[u8], letters: usize, left_out: usize) -> Vec<u8> {
+    let records = (65535 - 2) / (rig.len() + letters + 4) - left_out;
     let mut book = Vec::new();
     let mut offsets = Vec::new();
     for _ in 0..records {
         offsets.extend((book.len() as u16).to_le_bytes());
-        book.extend([2, 8]);
+        book.extend(rig);
         book.extend((letters as u16).to_le_bytes());
         book.extend(random.word(8, letters));
     }
@@ -400,7 +404,7 @@ fn tables(bench: &mut Bench) {
 fn books(bench: &mut Bench, random: &mut Random) {
     let call = "a full book of 65,535 bytes at most";
     for letters in [0, 10, 4096] {
-        let book = full_book(random, letters, 0);
+        let book = full_book(random, FIRST, letters, 0);
         let presets = plain::book_check(&book) as usize;
         let row = format!("{presets} records of {letters} letters");
         bench.cell(
@@ -424,7 +428,7 @@ fn books(bench: &mut Bench, random: &mut Random) {
             |_, out| rattle::presets(black_box(&book), 0, &mut out.fields),
             |_, out| plain::presets(black_box(&book), 0, &mut out.fields),
         );
-        let short = full_book(random, letters, 1);
+        let short = full_book(random, FIRST, letters, 1);
         let words = random.words(8, letters);
         bench.cell(
             call,
@@ -432,6 +436,46 @@ fn books(bench: &mut Bench, random: &mut Random) {
             "append the last record",
             |k, out| rattle::append(black_box(&short), 2, 8, black_box(&words[k]), &mut out.bytes),
             |k, out| plain::append(black_box(&short), 2, 8, black_box(&words[k]), &mut out.bytes),
+        );
+    }
+    second_books(bench, random);
+}
+
+fn second_books(bench: &mut Bench, random: &mut Random) {
+    let call = "a full book of the second edition";
+    for letters in [0, 10, 4096] {
+        let book = full_book(random, SECOND, letters, 0);
+        let presets = plain::second_book_check(&book) as usize;
+        let row = format!("{presets} records of {letters} letters");
+        bench.cell(
+            call,
+            &row,
+            "check",
+            |_, _| rattle::second_book_check(black_box(&book)),
+            |_, _| plain::second_book_check(black_box(&book)),
+        );
+        bench.cell(
+            call,
+            &row,
+            "read a preset",
+            |k, out| rattle::second_preset(black_box(&book), presets * k / INPUTS, &mut out.fields),
+            |k, out| plain::second_preset(black_box(&book), presets * k / INPUTS, &mut out.fields),
+        );
+        bench.cell(
+            call,
+            &row,
+            "read all presets",
+            |_, out| rattle::second_presets(black_box(&book), 0, &mut out.fields),
+            |_, out| plain::second_presets(black_box(&book), 0, &mut out.fields),
+        );
+        let short = full_book(random, SECOND, letters, 1);
+        let words = random.words(8, letters);
+        bench.cell(
+            call,
+            &row,
+            "append the last record",
+            |k, out| rattle::second_append(black_box(&short), 2, 8, black_box(&words[k]), &mut out.bytes),
+            |k, out| plain::second_append(black_box(&short), 2, 8, black_box(&words[k]), &mut out.bytes),
         );
     }
 }

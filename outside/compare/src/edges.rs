@@ -1,6 +1,8 @@
 //! The edges of each range, and the order of the checks.
+use crate::books::record;
 use crate::inputs::{RAISED, Random, lanes, rigs};
 use crate::sides::{ROOM, Sides};
+use winnathey::Edition::{First, Second};
 
 /// Words and windows that each call gets here.
 fn every_call(sides: &mut Sides, kind: u32, rank: u32, word: &[u8], window: &[i8], out: usize) {
@@ -22,14 +24,15 @@ fn every_call(sides: &mut Sides, kind: u32, rank: u32, word: &[u8], window: &[i8
     sides.rewrite(kind, rank, word, 0, out, 3);
     sides.fallback(kind, rank, word, &[1], out);
     sides.fallback(kind, rank, &[1], word, out);
-    sides.append(&[0, 0], kind, rank, word, out);
+    sides.append(First, &[0, 0], kind, rank, word, out);
+    sides.append(Second, &[0, 0], kind, rank, word, out);
     // A record of this kind and rank in a book, right or wrong.
     let (Ok(kind), Ok(rank)) = (kind.try_into(), rank.try_into()) else { return };
-    let mut book = vec![kind, rank];
-    book.extend((word.len() as u16).to_le_bytes());
-    book.extend(word);
-    book.extend([0, 0, 1, 0]);
-    sides.preset(&book, 0, 4);
+    for edition in [First, Second] {
+        let mut book = record(edition, kind, rank, word);
+        book.extend([0, 0, 1, 0]);
+        sides.preset(edition, &book, 0, 4);
+    }
 }
 
 pub fn kinds_and_ranks(sides: &mut Sides) {
@@ -75,7 +78,8 @@ pub fn letters(sides: &mut Sides) {
                 sides.rewrite(kind, rank, word, 0, 8, 3);
                 sides.product_of_words(kind, rank, &[1], word, 8);
                 sides.better(kind, rank, word, &[1]);
-                sides.append(&[0, 0], kind, rank, word, 20);
+                sides.append(First, &[0, 0], kind, rank, word, 20);
+                sides.append(Second, &[0, 0], kind, rank, word, 20);
             }
         }
         let straight: Vec<i8> = (1..=lanes(kind, rank) as i8).collect();
@@ -151,7 +155,7 @@ pub fn order_of_checks(sides: &mut Sides) {
         &[0, 0, 0, 0, 0],
         &[],
     ];
-    let books: [&[u8]; 8] = [
+    let books: [&[u8]; 12] = [
         &[],
         &[0],
         &[0, 0],
@@ -160,6 +164,10 @@ pub fn order_of_checks(sides: &mut Sides) {
         &[2, 4, 1, 0, 9, 0, 0, 1, 0],
         &[2, 4, 1, 0, 1, 0, 0, 1, 0],
         &[9, 0, 1, 0, 0, 0, 0, 1, 0],
+        &[2, 4, 4, 1, 0, 9, 0, 0, 1, 0],
+        &[2, 4, 5, 1, 0, 9, 0, 0, 1, 0],
+        &[2, 4, 4, 1, 0, 1, 0, 0, 1, 0],
+        &[2, 99, 5, 1, 0, 9, 0, 0, 1, 0],
     ];
     for kind in 0..=4 {
         for rank in [0, 1, 3, 4, 31, 32, 33, 63, 64, 65] {
@@ -185,7 +193,8 @@ pub fn order_of_checks(sides: &mut Sides) {
                 }
                 for book in books {
                     for out in [0, 7, 8, 9, 10, 20] {
-                        sides.append(book, kind, rank, first, out);
+                        sides.append(First, book, kind, rank, first, out);
+                        sides.append(Second, book, kind, rank, first, out);
                     }
                 }
             }
@@ -205,9 +214,11 @@ pub fn order_of_checks(sides: &mut Sides) {
     for book in books {
         for number in [0, 1, 2, usize::MAX] {
             for fields in 0..=6 {
-                sides.preset(book, number, fields);
+                sides.preset(First, book, number, fields);
+                sides.preset(Second, book, number, fields);
             }
         }
-        sides.book_check(book);
+        sides.book_check(First, book);
+        sides.book_check(Second, book);
     }
 }

@@ -52,7 +52,7 @@ fn main() -> ExitCode {
     group("delay tables: each rank; small ones held to a count over all windows", &exhaustive::delay_tables);
     group("each rule of each rank, whole and cut short", &rewriting::each_rule);
     group("rewriting to the end, at random places", &rewriting::to_the_end);
-    group("books: the example, each byte changed, each part", &books::example);
+    group("books: the example in both editions, each byte changed, each part", &books::examples);
     group("books: random, damaged, full", &books::others);
     group(&format!("{inputs} random inputs over all calls, from seed {seed}"), &|sides| {
         random::run(sides, inputs, seed)

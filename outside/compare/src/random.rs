@@ -2,6 +2,7 @@
 use crate::books::{damage_book, random_book};
 use crate::inputs::{KINDS, Random};
 use crate::sides::{ROOM, Sides};
+use winnathey::Edition::{First, Second};
 
 pub fn run(sides: &mut Sides, inputs: u64, seed: u64) {
     let mut random = Random(seed);
@@ -163,29 +164,30 @@ fn rewrite(sides: &mut Sides, random: &mut Random) {
 fn book(sides: &mut Sides, random: &mut Random) {
     let records = random.below(5);
     let letters = if random.once_in(60) { 4097 } else { 20 };
-    let mut book = random_book(random, records, letters);
+    let edition = random.pick(&[First, Second]);
+    let mut book = random_book(random, edition, records, letters);
     if random.once_in(3) {
         damage_book(random, &mut book);
     }
     match random.below(4) {
         0 => {
-            sides.book_check(&book);
+            sides.book_check(edition, &book);
         }
         3 => {
             let first = if random.once_in(10) { random.next() as usize } else { random.below(records + 2) };
             let fields = random.below(5 * records + 7);
-            sides.presets(&book, first, fields);
+            sides.presets(edition, &book, first, fields);
         }
         1 => {
             let number = if random.once_in(10) { random.next() as usize } else { random.below(records + 2) };
             let fields = random.pick(&[4, 4, 4, 4, 5, 9, 3, 2, 1, 0]);
-            sides.preset(&book, number, fields);
+            sides.preset(edition, &book, number, fields);
         }
         _ => {
             let (kind, rank) = random.any_rig();
             let word = any_word(random, kind, rank);
-            let out = random.output((book.len() + word.len() + 6) as i64);
-            sides.append(&book, kind, rank, &word, out);
+            let out = random.output((book.len() + word.len() + 6 + usize::from(edition == Second)) as i64);
+            sides.append(edition, &book, kind, rank, &word, out);
         }
     }
 }

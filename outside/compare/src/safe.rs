@@ -1,6 +1,6 @@
 //! The safe Rust functions with the parameters and the answers of the C interface: the same number, and in the outputs
 //! what the safe function wrote or returned. None where it cannot be called so, as with a kind that is no byte.
-use winnathey::{Crossings, Kind, Preset, Refusal, Rewrite, raw};
+use winnathey::{Crossings, Edition, Kind, Preset, Refusal, Rewrite, raw};
 
 /// A kind and a rank that are bytes.
 fn rig(kind: u32, rank: u32) -> Option<(Kind, u8)> {
@@ -111,8 +111,8 @@ pub fn fallback(kind: u32, rank: u32, present: &[u8], simpler: &[u8], places: &m
     })
 }
 
-pub fn book_check(book: &[u8]) -> Option<i64> {
-    Some(coded(winnathey::book_check(book)))
+fn checked(edition: Edition, book: &[u8]) -> Option<i64> {
+    Some(coded(winnathey::book_check(edition, book)))
 }
 
 /// Where a part of a book begins, which must be the book's own bytes.
@@ -121,9 +121,9 @@ fn place(book: &[u8], part: &[u8]) -> u64 {
 }
 
 /// The safe function always has room for the fields.
-pub fn preset(book: &[u8], number: usize, fields: &mut [u64]) -> Option<i64> {
+fn one(edition: Edition, book: &[u8], number: usize, fields: &mut [u64]) -> Option<i64> {
     let fields = fields.get_mut(..4)?;
-    let found = winnathey::preset(book, number).map(|Preset { kind, rank, word }| {
+    let found = winnathey::preset(edition, book, number).map(|Preset { kind, rank, word }| {
         fields.copy_from_slice(&[kind.0.into(), rank.into(), place(book, word), word.len() as u64]);
         fields.len()
     });
@@ -132,12 +132,12 @@ pub fn preset(book: &[u8], number: usize, fields: &mut [u64]) -> Option<i64> {
 
 /// The safe function always reads all presets. Those that there is room for must be the raw call's; where none is left
 /// at `first`, that is refusal 4.
-pub fn presets(book: &[u8], first: usize, fields: &mut [u64]) -> Option<i64> {
+fn run(edition: Edition, book: &[u8], first: usize, fields: &mut [u64]) -> Option<i64> {
     let (rows, _) = fields.as_chunks_mut::<5>();
     if rows.is_empty() {
         return None;
     }
-    let all = match winnathey::presets(book) {
+    let all = match winnathey::presets(edition, book) {
         Ok(all) if first < all.len() => all,
         Ok(_) => return Some(-4),
         Err(refusal) => return Some(coded(Err(refusal))),
@@ -153,6 +153,38 @@ pub fn presets(book: &[u8], first: usize, fields: &mut [u64]) -> Option<i64> {
     Some(written)
 }
 
+fn longer(edition: Edition, book: &[u8], kind: u32, rank: u32, word: &[u8], out: &mut [u8]) -> Option<i64> {
+    a_preset(kind, rank, word).map(|added| coded(winnathey::append(edition, book, added, out)))
+}
+
+pub fn book_check(book: &[u8]) -> Option<i64> {
+    checked(Edition::First, book)
+}
+
+pub fn preset(book: &[u8], number: usize, fields: &mut [u64]) -> Option<i64> {
+    one(Edition::First, book, number, fields)
+}
+
+pub fn presets(book: &[u8], first: usize, fields: &mut [u64]) -> Option<i64> {
+    run(Edition::First, book, first, fields)
+}
+
 pub fn append(book: &[u8], kind: u32, rank: u32, word: &[u8], out: &mut [u8]) -> Option<i64> {
-    a_preset(kind, rank, word).map(|added| coded(winnathey::append(book, added, out)))
+    longer(Edition::First, book, kind, rank, word, out)
+}
+
+pub fn second_book_check(book: &[u8]) -> Option<i64> {
+    checked(Edition::Second, book)
+}
+
+pub fn second_preset(book: &[u8], number: usize, fields: &mut [u64]) -> Option<i64> {
+    one(Edition::Second, book, number, fields)
+}
+
+pub fn second_presets(book: &[u8], first: usize, fields: &mut [u64]) -> Option<i64> {
+    run(Edition::Second, book, first, fields)
+}
+
+pub fn second_append(book: &[u8], kind: u32, rank: u32, word: &[u8], out: &mut [u8]) -> Option<i64> {
+    longer(Edition::Second, book, kind, rank, word, out)
 }

@@ -1,6 +1,7 @@
 //! Each call on both sides and by the safe Rust function, with the answers and every byte of every output compared.
 use crate::safe;
 use std::fmt::Debug;
+use winnathey::Edition::{self, First, Second};
 use winnathey::raw as rattle;
 
 /// What stands before and after each output, and in it before the call.
@@ -103,7 +104,7 @@ pub struct Sides {
     pub none_fits: u64,
     pub no_fallback: u64,
     /// How often each refusal was the answer, by its number.
-    pub refused: [u64; 21],
+    pub refused: [u64; 22],
     pub differences: u64,
 }
 
@@ -165,7 +166,7 @@ impl Sides {
             accepted: 0,
             none_fits: 0,
             no_fallback: 0,
-            refused: [0; 21],
+            refused: [0; 22],
             differences: 0,
         }
     }
@@ -296,20 +297,33 @@ impl Sides {
         answer
     }
 
-    pub fn book_check(&mut self, book: &[u8]) -> i64 {
-        compared!(self, book_check, (book),)
+    pub fn book_check(&mut self, edition: Edition, book: &[u8]) -> i64 {
+        match edition {
+            First => compared!(self, book_check, (book),),
+            Second => compared!(self, second_book_check, (book),),
+        }
     }
 
-    pub fn preset(&mut self, book: &[u8], number: usize, fields: usize) -> i64 {
-        compared!(self, preset, (book, number), fields: fields => whole)
+    pub fn preset(&mut self, edition: Edition, book: &[u8], number: usize, fields: usize) -> i64 {
+        match edition {
+            First => compared!(self, preset, (book, number), fields: fields => whole),
+            Second => compared!(self, second_preset, (book, number), fields: fields => whole),
+        }
     }
 
-    pub fn presets(&mut self, book: &[u8], first: usize, fields: usize) -> i64 {
-        compared!(self, presets, (book, first), fields: fields => |answer| 5 * whole(answer))
+    pub fn presets(&mut self, edition: Edition, book: &[u8], first: usize, fields: usize) -> i64 {
+        let written = |answer| 5 * whole(answer);
+        match edition {
+            First => compared!(self, presets, (book, first), fields: fields => written),
+            Second => compared!(self, second_presets, (book, first), fields: fields => written),
+        }
     }
 
-    pub fn append(&mut self, book: &[u8], kind: u32, rank: u32, word: &[u8], out: usize) -> i64 {
-        compared!(self, append, (book, kind, rank, word), bytes: out => whole)
+    pub fn append(&mut self, edition: Edition, book: &[u8], kind: u32, rank: u32, word: &[u8], out: usize) -> i64 {
+        match edition {
+            First => compared!(self, append, (book, kind, rank, word), bytes: out => whole),
+            Second => compared!(self, second_append, (book, kind, rank, word), bytes: out => whole),
+        }
     }
 
     /// Runs a call with outputs of every interesting length: empty, one element, one too short, exact, one and many more.

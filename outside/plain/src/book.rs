@@ -1,8 +1,38 @@
-//! Preset books: checks 1 to 4, reading by number, appending.
-use crate::checks::check_word;
-use crate::{A, B, D, MAX_BOOK, Refusal, coded, front};
+//! Preset books of both editions: checks 1 to 4, reading by number, appending.
+use crate::checks::{check_rank, check_word};
+use crate::{A, B, D, MAX_BOOK, Refusal, coded, front, lanes};
 
-const HEAD: usize = 4;
+#[derive(Clone, Copy, PartialEq)]
+enum Edition {
+    First,
+    Second,
+}
+
+use Edition::{First, Second};
+
+impl Edition {
+    /// The bytes of a record before its letters; the letter count is in the last two.
+    fn head(self) -> usize {
+        match self {
+            First => 4,
+            Second => 5,
+        }
+    }
+
+    /// Checks 5 and 6 of a record: the first edition keeps ranges of its own. Hands back the rank as a byte.
+    fn check_rank(self, kind: u32, rank: u32) -> Result<u8, Refusal> {
+        if self == Second {
+            return check_rank(kind, rank);
+        }
+        let ranks = match kind {
+            A => 1..=31,
+            B => 2..=32,
+            D => 4..=32,
+            _ => return Err(5),
+        };
+        if ranks.contains(&rank) { Ok(rank as u8) } else { Err(6) }
+    }
+}
 
 /// The two-byte number at a byte.
 fn two(bytes: &[u8], at: usize) -> usize {
@@ -22,16 +52,17 @@ fn trailer(book: &[u8]) -> Result<(usize, usize), Refusal> {
 }
 
 /// The same with check 3: the records stand one after the other from byte 0 to the trailer.
-fn check(book: &[u8]) -> Result<(usize, usize), Refusal> {
+fn check(edition: Edition, book: &[u8]) -> Result<(usize, usize), Refusal> {
     let (count, start) = trailer(book)?;
     let (records, rest) = book.split_at(start);
     let (offsets, _) = rest.as_chunks::<2>();
+    let head = edition.head();
     let mut end = 0;
     for &offset in &offsets[..count] {
-        if usize::from(u16::from_le_bytes(offset)) != end || records.len() - end < HEAD {
+        if usize::from(u16::from_le_bytes(offset)) != end || records.len() - end < head {
             return Err(3);
         }
-        end += HEAD + two(records, end + 2);
+        end += head + two(records, end + head - 2);
         if end > records.len() {
             return Err(3);
         }
@@ -39,52 +70,43 @@ fn check(book: &[u8]) -> Result<(usize, usize), Refusal> {
     if end == start { Ok((count, start)) } else { Err(3) }
 }
 
-/// Checks 5 to 8 of a record: a book keeps ranges of its own. Hands back the rank as a byte.
-fn check_record(kind: u32, rank: u32, word: &[u8]) -> Result<u8, Refusal> {
-    let ranks = match kind {
-        A => 1..=31,
-        B => 2..=32,
-        D => 4..=32,
-        _ => return Err(5),
-    };
-    if !ranks.contains(&rank) {
-        return Err(6);
-    }
-    check_word(rank as u8, word)?;
-    Ok(rank as u8)
-}
-
 /// The number of presets.
-pub fn book_check(book: &[u8]) -> i64 {
-    coded(check(book).map(|(count, _)| count))
+fn count(edition: Edition, book: &[u8]) -> i64 {
+    coded(check(edition, book).map(|(count, _)| count))
 }
 
-/// Kind, rank, where the letters begin and how many they are, of the preset whose offset is at a byte. Checks 5 to 8.
-fn read(book: &[u8], offset: usize) -> Result<[u64; 4], Refusal> {
+/// Kind, rank, where the letters begin and how many they are, of the preset whose offset is at a byte. Checks 5 to 8, and
+/// 17 after 6.
+fn read(edition: Edition, book: &[u8], offset: usize) -> Result<[u64; 4], Refusal> {
     let record = two(book, offset);
     let (kind, rank) = (book[record], book[record + 1]);
-    let (at, letters) = (record + HEAD, two(book, record + 2));
-    check_record(kind.into(), rank.into(), &book[at..at + letters])?;
+    let at = record + edition.head();
+    let letters = two(book, at - 2);
+    edition.check_rank(kind.into(), rank.into())?;
+    if edition == Second && usize::from(book[record + 2]) != lanes(kind.into(), rank) {
+        return Err(17);
+    }
+    check_word(rank, &book[at..at + letters])?;
     Ok([kind.into(), rank.into(), at as u64, letters as u64])
 }
 
 /// A preset in `fields`, as 4 numbers.
-pub fn preset(book: &[u8], number: usize, fields: &mut [u64]) -> i64 {
+fn one(edition: Edition, book: &[u8], number: usize, fields: &mut [u64]) -> i64 {
     coded((|| {
-        let (count, start) = check(book)?;
+        let (count, start) = check(edition, book)?;
         if number >= count {
             return Err(4);
         }
-        let found = read(book, start + 2 * number)?;
+        let found = read(edition, book, start + 2 * number)?;
         front(fields, 4)?.copy_from_slice(&found);
         Ok(4)
     })())
 }
 
 /// The presets from `first` on that there is room for, each as its refusal or 0 and 4 numbers. Answers how many.
-pub fn presets(book: &[u8], first: usize, fields: &mut [u64]) -> i64 {
+fn run(edition: Edition, book: &[u8], first: usize, fields: &mut [u64]) -> i64 {
     coded((|| {
-        let (count, start) = check(book)?;
+        let (count, start) = check(edition, book)?;
         if first >= count {
             return Err(4);
         }
@@ -94,7 +116,7 @@ pub fn presets(book: &[u8], first: usize, fields: &mut [u64]) -> i64 {
         }
         let written = rows.len().min(count - first);
         for (row, number) in rows.iter_mut().zip(first..count) {
-            *row = match read(book, start + 2 * number) {
+            *row = match read(edition, book, start + 2 * number) {
                 Ok([kind, rank, at, letters]) => [0, kind, rank, at, letters],
                 Err(k) => [k as u64, 0, 0, 0, 0],
             };
@@ -104,11 +126,12 @@ pub fn presets(book: &[u8], first: usize, fields: &mut [u64]) -> i64 {
 }
 
 /// Writes the book with one record more.
-pub fn append(book: &[u8], kind: u32, rank: u32, word: &[u8], out: &mut [u8]) -> i64 {
+fn longer(edition: Edition, book: &[u8], kind: u32, rank: u32, word: &[u8], out: &mut [u8]) -> i64 {
     coded((|| {
-        let (count, start) = check(book)?;
-        let rank = check_record(kind, rank, word)?;
-        let length = book.len() + HEAD + word.len() + 2;
+        let (count, start) = check(edition, book)?;
+        let rank = edition.check_rank(kind, rank)?;
+        check_word(rank, word)?;
+        let length = book.len() + edition.head() + word.len() + 2;
         if length > MAX_BOOK {
             return Err(13);
         }
@@ -117,8 +140,10 @@ pub fn append(book: &[u8], kind: u32, rank: u32, word: &[u8], out: &mut [u8]) ->
         let letters = (word.len() as u16).to_le_bytes();
         let offset = (start as u16).to_le_bytes();
         let count_now = (count as u16 + 1).to_le_bytes();
+        let head = [kind as u8, rank, lanes(kind, rank) as u8];
+        let head = &head[..edition.head() - 2];
         let (records, offsets) = (&book[..start], &book[start..book.len() - 2]);
-        let parts: [&[u8]; 7] = [records, &[kind as u8, rank], &letters, word, offsets, &offset, &count_now];
+        let parts: [&[u8]; 7] = [records, head, &letters, word, offsets, &offset, &count_now];
         let mut rest = out;
         for part in parts {
             let (here, after) = rest.split_at_mut(part.len());
@@ -127,4 +152,36 @@ pub fn append(book: &[u8], kind: u32, rank: u32, word: &[u8], out: &mut [u8]) ->
         }
         Ok(length)
     })())
+}
+
+pub fn book_check(book: &[u8]) -> i64 {
+    count(First, book)
+}
+
+pub fn preset(book: &[u8], number: usize, fields: &mut [u64]) -> i64 {
+    one(First, book, number, fields)
+}
+
+pub fn presets(book: &[u8], first: usize, fields: &mut [u64]) -> i64 {
+    run(First, book, first, fields)
+}
+
+pub fn append(book: &[u8], kind: u32, rank: u32, word: &[u8], out: &mut [u8]) -> i64 {
+    longer(First, book, kind, rank, word, out)
+}
+
+pub fn second_book_check(book: &[u8]) -> i64 {
+    count(Second, book)
+}
+
+pub fn second_preset(book: &[u8], number: usize, fields: &mut [u64]) -> i64 {
+    one(Second, book, number, fields)
+}
+
+pub fn second_presets(book: &[u8], first: usize, fields: &mut [u64]) -> i64 {
+    run(Second, book, first, fields)
+}
+
+pub fn second_append(book: &[u8], kind: u32, rank: u32, word: &[u8], out: &mut [u8]) -> i64 {
+    longer(Second, book, kind, rank, word, out)
 }

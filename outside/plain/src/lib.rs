@@ -13,7 +13,7 @@ mod table;
 mod window;
 mod word;
 
-pub use book::{append, book_check, preset, presets};
+pub use book::{append, book_check, preset, presets, second_append, second_book_check, second_preset, second_presets};
 pub use fallback::{NO_FALLBACK, fallback};
 pub use rules::{NONE_FITS, Rule, rewrite, rules};
 

@@ -47,11 +47,11 @@ pub const MAX_BOOK: usize = 65535;
 pub struct Kind(pub u8);
 
 impl Kind {
-    /// Ranks 1 to 63, in a book 1 to 31; one lane more than the rank. Step i exchanges the lanes at i and i + 1.
+    /// Ranks 1 to 63, in a book of the first edition 1 to 31; one lane more than the rank. Step i exchanges the lanes at i and i + 1.
     pub const A: Kind = Kind(1);
-    /// Ranks 2 to 64, in a book 2 to 32. As in A, but step n mirrors the last lane.
+    /// Ranks 2 to 64, in a book of the first edition 2 to 32. As in A, but step n mirrors the last lane.
     pub const B: Kind = Kind(2);
-    /// Ranks 4 to 64, in a book 4 to 32. As in A, but step n exchanges the last two lanes and mirrors both.
+    /// Ranks 4 to 64, in a book of the first edition 4 to 32. As in A, but step n exchanges the last two lanes and mirrors both.
     pub const D: Kind = Kind(3);
 }
 
@@ -395,30 +395,50 @@ pub fn fallback(
     }
 }
 
+/// The edition of a book: what a record has before its letters, and how high its rank may be.
+#[derive(Clone, Copy, PartialEq, Eq, Hash, Debug)]
+pub enum Edition {
+    /// Kind, rank, letter count: four bytes. Ranks 1 to 31 in kind A, 2 to 32 in B, 4 to 32 in D.
+    First,
+    /// Kind, rank, lane count, letter count: five bytes. The ranks of the calls on words and windows.
+    Second,
+}
+
 /// The number of presets in a book. Refusals 1 to 3.
 ///
 /// ```
-/// use winnathey::book_check;
+/// use winnathey::{Edition, book_check};
 ///
-/// assert_eq!(book_check(&[0, 0]), Ok(0));
-/// assert_eq!(book_check(&[0]).unwrap_err().number(), 1);
+/// assert_eq!(book_check(Edition::First, &[0, 0]), Ok(0));
+/// assert_eq!(book_check(Edition::Second, &[0]).unwrap_err().number(), 1);
 /// ```
-pub fn book_check(book: &[u8]) -> Result<usize, Refusal> {
-    answered(raw::book_check(book))
+pub fn book_check(edition: Edition, book: &[u8]) -> Result<usize, Refusal> {
+    answered(match edition {
+        Edition::First => raw::book_check(book),
+        Edition::Second => raw::second_book_check(book),
+    })
 }
 
-/// A preset of a book by its number, from 0. The letters are the book's own bytes. Refusals 1 to 8.
+/// A preset of a book by its number, from 0. The letters are the book's own bytes. Refusals 1 to 8, and in the second
+/// edition 17.
 ///
 /// ```
-/// use winnathey::{Kind, Preset, preset};
+/// use winnathey::{Edition, Kind, Preset, preset};
 ///
+/// let found = Preset { kind: Kind::B, rank: 2, word: &[1, 2, 1, 2] };
 /// let book = [2, 2, 4, 0, 1, 2, 1, 2, 0, 0, 1, 0];
-/// assert_eq!(preset(&book, 0), Ok(Preset { kind: Kind::B, rank: 2, word: &[1, 2, 1, 2] }));
-/// assert_eq!(preset(&book, 1).unwrap_err().number(), 4);
+/// assert_eq!(preset(Edition::First, &book, 0), Ok(found));
+/// assert_eq!(preset(Edition::First, &book, 1).unwrap_err().number(), 4);
+///
+/// let book = [2, 2, 2, 4, 0, 1, 2, 1, 2, 0, 0, 1, 0];
+/// assert_eq!(preset(Edition::Second, &book, 0), Ok(found));
 /// ```
-pub fn preset(book: &[u8], number: usize) -> Result<Preset<'_>, Refusal> {
+pub fn preset(edition: Edition, book: &[u8], number: usize) -> Result<Preset<'_>, Refusal> {
     let mut fields = [0; 4];
-    answered(raw::preset(book, number, &mut fields))?;
+    answered(match edition {
+        Edition::First => raw::preset(book, number, &mut fields),
+        Edition::Second => raw::second_preset(book, number, &mut fields),
+    })?;
     Ok(lent(book, fields))
 }
 
@@ -428,20 +448,28 @@ fn lent(book: &[u8], [kind, rank, start, letters]: [u64; 4]) -> Preset<'_> {
     Preset { kind: Kind(kind as u8), rank: rank as u8, word: &book[start..start + letters] }
 }
 
-/// Writes a book with one preset more, and answers with its length. Refusals 1 to 3, 5 to 8, 13, 14.
+/// Writes a book with one preset more, and answers with its length. The second edition's lane count follows from kind
+/// and rank. Refusals 1 to 3, 5 to 8, 13, 14.
 ///
 /// ```
-/// use winnathey::{Kind, Preset, append, preset};
+/// use winnathey::{Edition, Kind, Preset, append, preset};
 ///
-/// let mut book = [0; 12];
+/// let mut book = [0; 13];
 /// let added = Preset { kind: Kind::B, rank: 2, word: &[1, 2, 1, 2] };
-/// let length = append(&[0, 0], added, &mut book)?;
+/// let length = append(Edition::First, &[0, 0], added, &mut book)?;
 /// assert_eq!(book[..length], [2, 2, 4, 0, 1, 2, 1, 2, 0, 0, 1, 0]);
-/// assert_eq!(preset(&book[..length], 0)?, added);
+/// assert_eq!(preset(Edition::First, &book[..length], 0)?, added);
+///
+/// let length = append(Edition::Second, &[0, 0], added, &mut book)?;
+/// assert_eq!(book[..length], [2, 2, 2, 4, 0, 1, 2, 1, 2, 0, 0, 1, 0]);
 /// # Ok::<(), winnathey::Refusal>(())
 /// ```
-pub fn append(book: &[u8], added: Preset, out: &mut [u8]) -> Result<usize, Refusal> {
-    answered(raw::append(book, added.kind.0.into(), added.rank.into(), added.word, out))
+pub fn append(edition: Edition, book: &[u8], added: Preset, out: &mut [u8]) -> Result<usize, Refusal> {
+    let (kind, rank) = (added.kind.0.into(), added.rank.into());
+    answered(match edition {
+        Edition::First => raw::append(book, kind, rank, added.word, out),
+        Edition::Second => raw::second_append(book, kind, rank, added.word, out),
+    })
 }
 
 #[cfg(test)]
@@ -459,13 +487,16 @@ mod tests {
         let mut lanes = [0; MAX_LANES];
         let mut letters = [0; MAX_BOOK];
         let empty = Preset { kind: Kind::B, rank: 2, word: &[] };
-        assert_eq!(number(book_check(&[])), 1);
-        assert_eq!(number(book_check(&[1, 0])), 2);
-        assert_eq!(number(book_check(&[0, 0, 0])), 3);
-        assert_eq!(number(preset(&BOOK, 2)), 4);
+        assert_eq!(number(book_check(Edition::First, &[])), 1);
+        assert_eq!(number(book_check(Edition::First, &[1, 0])), 2);
+        assert_eq!(number(book_check(Edition::First, &[0, 0, 0])), 3);
+        assert_eq!(number(preset(Edition::First, &BOOK, 2)), 4);
         assert_eq!(number(window_of_word(Kind(4), 2, &[], &mut lanes)), 5);
         assert_eq!(number(window_of_word(Kind::A, 64, &[], &mut lanes)), 6);
-        assert_eq!(number(append(&BOOK, Preset { kind: Kind::A, rank: 32, word: &[] }, &mut letters)), 6);
+        assert_eq!(
+            number(append(Edition::First, &BOOK, Preset { kind: Kind::A, rank: 32, word: &[] }, &mut letters)),
+            6
+        );
         assert_eq!(number(length_of_word(Kind::A, 1, &[1; 4097])), 7);
         assert_eq!(number(same(empty, Preset { word: &[3], ..empty })), 8);
         assert_eq!(number(length_of_window(Kind::A, 2, &[1, 2])), 9);
@@ -474,11 +505,12 @@ mod tests {
         assert_eq!(number(rewrite(Kind::A, 1, &[], 0, &mut letters)), 12);
         let mut book = BOOK.to_vec();
         for _ in 0..15 {
-            let length = append(&book, Preset { word: &[1; 4096], ..empty }, &mut letters).unwrap();
+            let length = append(Edition::First, &book, Preset { word: &[1; 4096], ..empty }, &mut letters).unwrap();
             book = letters[..length].to_vec();
         }
-        assert_eq!(number(append(&book, Preset { word: &[1; 4096], ..empty }, &mut letters)), 13);
-        assert_eq!(number(append(&book, empty, &mut letters[..book.len() + 5])), 14);
+        assert_eq!(number(append(Edition::First, &book, Preset { word: &[1; 4096], ..empty }, &mut letters)), 13);
+        assert_eq!(number(append(Edition::First, &book, empty, &mut letters[..book.len() + 5])), 14);
+        assert_eq!(number(preset(Edition::Second, &[1, 2, 2, 0, 0, 0, 0, 1, 0], 0)), 17);
         assert_eq!(number(delay_table(Kind::D, 17, &mut [0; MAX_COUNTS], &mut lanes, &mut letters)), 20);
     }
 
@@ -495,7 +527,7 @@ mod tests {
 
     #[test]
     fn letters_are_the_books_own_bytes() {
-        let found = preset(&BOOK, 1).unwrap();
+        let found = preset(Edition::First, &BOOK, 1).unwrap();
         assert_eq!((found.kind, found.rank), (Kind::D, 5));
         assert!(std::ptr::eq(found.word, &BOOK[12..18]));
     }

@@ -1,29 +1,34 @@
 //! All presets of a book at once.
-use crate::{MAX_BOOK, Preset, Refusal, answered, lent, raw};
+use crate::{Edition, MAX_BOOK, Preset, Refusal, answered, lent, raw};
 use std::vec;
 
-/// The presets of a book in their order: each as [`preset`](crate::preset) gives it, or its own refusal, 5 to 8. The
-/// book is read once, by one call of the library. Refusals 1 to 3, of the book; one without presets gives none.
+/// The presets of a book in their order: each as [`preset`](crate::preset) gives it, or its own refusal, 5 to 8 or
+/// 17. The book is read once, by one call of the library. Refusals 1 to 3, of the book; one without presets gives none.
 ///
 /// ```
-/// use winnathey::{Kind, Preset, presets};
+/// use winnathey::{Edition, Kind, Preset, presets};
 ///
 /// // B2 with the word 1 2 1 2, and D5 with the letter 9.
 /// let book = [2, 2, 4, 0, 1, 2, 1, 2, 3, 5, 1, 0, 9, 0, 0, 8, 0, 2, 0];
-/// let mut read = presets(&book)?;
+/// let mut read = presets(Edition::First, &book)?;
 /// assert_eq!(read.len(), 2);
 /// assert_eq!(read.next(), Some(Ok(Preset { kind: Kind::B, rank: 2, word: &[1, 2, 1, 2] })));
 /// assert_eq!(read.next().unwrap().unwrap_err().number(), 8);
 /// assert_eq!(read.next(), None);
 ///
-/// let right: Vec<Preset> = presets(&book)?.flatten().collect();
+/// let right: Vec<Preset> = presets(Edition::First, &book)?.flatten().collect();
 /// assert_eq!(right.len(), 1);
 /// # Ok::<(), winnathey::Refusal>(())
 /// ```
-pub fn presets(book: &[u8]) -> Result<Presets<'_>, Refusal> {
+pub fn presets(edition: Edition, book: &[u8]) -> Result<Presets<'_>, Refusal> {
     // Room for all: a record and its offset have six bytes at least.
     let mut rows = vec![[0; 5]; book.len().min(MAX_BOOK) / 6];
-    let count = match raw::presets(book, 0, rows.as_flattened_mut()) {
+    let fields = rows.as_flattened_mut();
+    let answer = match edition {
+        Edition::First => raw::presets(book, 0, fields),
+        Edition::Second => raw::second_presets(book, 0, fields),
+    };
+    let count = match answer {
         // The book has no preset 0.
         -4 => 0,
         answer => answered(answer)?,

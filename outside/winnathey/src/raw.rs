@@ -160,6 +160,31 @@ mod c {
             out: *mut u8,
             out_len: usize,
         ) -> i64;
+        pub fn winnathey_second_book_check(book: *const u8, book_len: usize) -> i64;
+        pub fn winnathey_second_preset(
+            book: *const u8,
+            book_len: usize,
+            number: usize,
+            fields: *mut u64,
+            fields_len: usize,
+        ) -> i64;
+        pub fn winnathey_second_presets(
+            book: *const u8,
+            book_len: usize,
+            first: usize,
+            fields: *mut u64,
+            fields_len: usize,
+        ) -> i64;
+        pub fn winnathey_second_append(
+            book: *const u8,
+            book_len: usize,
+            kind: u32,
+            rank: u32,
+            word: *const u8,
+            word_len: usize,
+            out: *mut u8,
+            out_len: usize,
+        ) -> i64;
     }
 }
 
@@ -353,6 +378,42 @@ pub fn presets(book: &[u8], first: usize, fields: &mut [u64]) -> i64 {
 pub fn append(book: &[u8], kind: u32, rank: u32, word: &[u8], out: &mut [u8]) -> i64 {
     unsafe {
         c::winnathey_append(
+            book.as_ptr(),
+            book.len(),
+            kind,
+            rank,
+            word.as_ptr(),
+            word.len(),
+            out.as_mut_ptr(),
+            out.len(),
+        )
+    }
+}
+
+/// The number of presets in a book of the second edition.
+#[inline]
+pub fn second_book_check(book: &[u8]) -> i64 {
+    unsafe { c::winnathey_second_book_check(book.as_ptr(), book.len()) }
+}
+
+/// Second edition: a preset's kind, rank, place of the letters in the book and letter count, in the four numbers of `fields`.
+#[inline]
+pub fn second_preset(book: &[u8], number: usize, fields: &mut [u64]) -> i64 {
+    unsafe { c::winnathey_second_preset(book.as_ptr(), book.len(), number, fields.as_mut_ptr(), fields.len()) }
+}
+
+/// Second edition: the presets from the number `first` on that `fields` has room for, in five numbers each: its refusal or 0, and what
+/// [`second_preset`] gives or four zeros. Answers how many.
+#[inline]
+pub fn second_presets(book: &[u8], first: usize, fields: &mut [u64]) -> i64 {
+    unsafe { c::winnathey_second_presets(book.as_ptr(), book.len(), first, fields.as_mut_ptr(), fields.len()) }
+}
+
+/// A book of the second edition with one record more.
+#[inline]
+pub fn second_append(book: &[u8], kind: u32, rank: u32, word: &[u8], out: &mut [u8]) -> i64 {
+    unsafe {
+        c::winnathey_second_append(
             book.as_ptr(),
             book.len(),
             kind,

@@ -2,8 +2,8 @@
 use std::error::Error;
 use std::fmt;
 
-/// The numbers with their sentences.
-const SENTENCES: [(u8, &str); 15] = [
+/// The refusals by their numbers.
+const SENTENCES: [(u8, &str); 16] = [
     (1, "the book has fewer than 2 or more than 65,535 bytes"),
     (2, "two times c, plus 2, exceeds the book's length"),
     (
@@ -22,6 +22,7 @@ const SENTENCES: [(u8, &str); 15] = [
     (12, "the place is the word's length or more"),
     (13, "the appended book would exceed 65,535 bytes"),
     (14, "an output is shorter than the part of the answer that goes there"),
+    (17, "the lane count is not n + 1 for A or n for B and D"),
     (20, "the rank is above 19 for A or above 16 for B or D"),
 ];
 
@@ -42,15 +43,15 @@ impl Refusal {
         Refusal(number)
     }
 
-    /// The number: 1 to 14, or 20.
+    /// The number, one of the requirement's.
     pub fn number(self) -> u8 {
         self.0
     }
 
     /// What the number says, where c is the count of presets at the end of a book.
     pub fn meaning(self) -> &'static str {
-        let found = SENTENCES.iter().find(|(number, _)| *number == self.0);
-        found.map_or("a number that this crate does not know", |(_, sentence)| sentence)
+        let sentence = SENTENCES.iter().find(|(number, _)| *number == self.0);
+        sentence.map_or("a number that this crate does not know", |(_, words)| words)
     }
 }
 
@@ -147,7 +148,7 @@ mod tests {
 
     #[test]
     fn a_number_without_a_sentence_is_not_known() {
-        assert!((1..=14).chain([20]).all(|number| !Refusal(number).meaning().contains("not know")));
-        assert!([0, 15, 19, 21, 255].iter().all(|&number| Refusal(number).meaning().contains("not know")));
+        assert!((1..=14).chain([17, 20]).all(|number| !Refusal(number).meaning().contains("not know")));
+        assert!([0, 15, 16, 18, 19, 21, 255].iter().all(|&number| Refusal(number).meaning().contains("not know")));
     }
 }

@@ -1,18 +1,29 @@
 -- Numbers and records stored, as the code that writes a book makes them.
 -- Assumes nothing.
-use mathlib.Core.Path.{_≡_}
+use mathlib.Core.Path.{_≡_, _∙_}
 use mathlib.Core.List.{List}
 use Prim.Native.Nat.{ℕ, _+_, _/_, _%_}
-use native.Mathlib.Numerals.{add-one, add-two, add-four}
+use native.Mathlib.Numerals.{add-one, add-two, add-three}
 use lib.ListN.{length, set}
 use lib.Seq.{sets}
-use Rattle.book_format.specs.Books.{two, recordOf, headSize}
+use Rattle.book_format.specs.declared.Edition.{Edition}
+use Rattle.book_format.specs.declared.Edition.the-variants.{First, Second}
+use Rattle.book_format.specs.Books.{two, laneByte, recordOf, countPlace}
 
 pub sets-two : (l : List ℕ) (p x : ℕ) → set (set l p (x % 256)) (p + 1) (x / 256 % 256) ≡ sets l p (two x)
 unfolding two
 sets-two l p x = rw (add-one p)
 
-pub sets-record : (l : List ℕ) (p k n : ℕ) (u : List ℕ)
-    → sets (sets (set (set l p k) (p + 1) n) (p + 2) (two (length u))) (p + headSize) u ≡ sets l p (recordOf k n u)
+-- a record, with the lane count m: kind and rank, the lane count where there is one, the letter count at its place, and the letters
+pub sets-record : (ed : Edition) (l : List ℕ) (p k n m : ℕ) (u : List ℕ)
+    → sets (sets (sets (set (set l p k) (p + 1) n) (p + 2) (laneByte ed m)) (p + countPlace ed) (two (length u))) (p + countPlace ed + 2) u
+    ≡ sets l p (recordOf ed k n m u)
 unfolding recordOf two
-sets-record l p k n u = simp (add-one, add-two, add-four)
+sets-record First l p k n m u = simp (add-one, add-two)
+sets-record Second l p k n m u = simp (add-one, add-two, add-three)
+
+-- the same step by step: the place c of the letter count is read, and each store gives the next list
+pub record-stored : (ed : Edition) (l : List ℕ) (p k n m c : ℕ) (u o₁ o₂ o₃ : List ℕ) → c ≡ countPlace ed
+    → o₁ ≡ sets (set (set l p k) (p + 1) n) (p + 2) (laneByte ed m) → o₂ ≡ sets o₁ (p + c) (two (length u)) → o₃ ≡ sets o₂ (p + c + 2) u
+    → o₃ ≡ sets l p (recordOf ed k n m u)
+record-stored ed l p k n m c u o₁ o₂ o₃ e e₁ e₂ e₃ = e₃ ∙ rw (e₂, e₁, e) (sets-record ed l p k n m u)

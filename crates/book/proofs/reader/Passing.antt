@@ -1,7 +1,8 @@
 -- What the preset calls of an opened book differ in: whether a preset number is passed, the result's type, and what the contract says of the result.
--- The signatures, contracts and code of such a call and of its callee are made of these, and the call of the callee on the slice, which `open` makes too.
+-- The signatures, contracts and code of such a call and of its callee are made of these, and the call of the callee on edition and slice, which `open`
+-- makes too.
 --
--- Sections: what differs; the other parameters; the call on the slice.
+-- Sections: editions; what differs; the other parameters; the call on the slice.
 -- Assumes nothing.
 use mathlib.Core.List.{List, [], _∷_}
 use mathlib.Core.Path.{refl}
@@ -38,6 +39,25 @@ use denote.Struct.Declared.{Declared}
 use Rattle.book.proofs.reader.Reader as T
 use Rattle.book.proofs.reader.Reader.Laws as T′
 use denote.Struct.Laws as LL
+use denote.Enum.Laws as EL
+use Rattle.book_format.specs.declared.Edition.{Edition}
+use Rattle.book_format.specs.declared.Edition.the-variants.{First, Second}
+use Rattle.book_format.proofs.Edition as E
+use Rattle.book_format.proofs.Edition.Laws as E′
+
+-- ---- editions
+
+-- the machine value of an edition. It owns nothing but the fact that it is one, so it is had wherever it is wanted
+abbrev pub tag : Edition → Val
+tag e = EL.val E.the-type E′.the-laws e
+
+pub tag-is : (e : Edition) → Is E.the-row e (tag e ∷ [])
+tag-is First = EL.owes E.the-type E′.the-laws First tt
+tag-is Second = EL.owes E.the-type E′.the-laws Second tt
+
+module _ {M : Type 1} (𝓤 : URA M) (H : Heap 𝓤) (A : Atoms 𝓤) (W : Given 𝓤 H A) where
+  pub tag-typed : (e : Edition) → Holds (hasTy E′.mir (tag e)) × WT (tag e)
+  tag-typed e = EL.lawful E.the-type E′.the-laws 𝓤 H A W tt .typed e (tag e ∷ []) (tag-is e) .0
 
 -- ---- what differs
 
@@ -53,9 +73,12 @@ others numbered = plain (λ _. usize) ∷ []
 abbrev pub Others : Passing → Lfts 1 → Type 0
 Others p κs = Denots (typesAt (others p) κs)
 
--- the types of the struct and of its bytes, and the struct's laws
+-- the types of the struct, of its edition and of its bytes, and the struct's laws
 abbrev pub B : Lfts 1 → RattleType
 B κs = T.the-row (namedLft 1 0 tt κs)
+
+abbrev pub edition : Slot 1
+edition = plain (λ _. E.the-row)
 
 abbrev pub bytes : Slot 1
 bytes = shrSliceOf (0 ∷ []) tt (plain (λ _. u8))
@@ -66,7 +89,7 @@ struct κs = T.the-type (namedLft 1 0 tt κs)
 abbrev pub laws : (κs : Lfts 1) → LL.Laws (struct κs)
 laws κs = T′.the-laws (namedLft 1 0 tt κs)
 
--- the two signatures: that of the call on the struct, and that of the call on the slice
+-- the two signatures: that of the call on the struct, and that of the call on edition and slice
 abbrev pub outer : Passing → Slot 1 → Ended
 outer p s = record {
   signature = record { lifetimes = 1; outlives = []; params = plain B ∷ others p; result = s };
@@ -75,20 +98,20 @@ outer p s = record {
 
 abbrev pub inner : Passing → Slot 1 → Ended
 inner p s = record {
-  signature = record { lifetimes = 1; outlives = []; params = bytes ∷ others p; result = s };
-  kept = (yes, all yes (others p));
+  signature = record { lifetimes = 1; outlives = []; params = edition ∷ bytes ∷ others p; result = s };
+  kept = (yes, (yes, all yes (others p)));
 }
 
 -- what a contract says of the result of the call on a slice, and the two contracts that say it
 abbrev pub Says : {M : Type 1} → URA M → Passing → Slot 1 → Type 2
-Says 𝓤 p s = (κs : Lfts 1) → RefT (List ℕ) → Others p κs → s .row κs .Denot → SProp 𝓤
+Says 𝓤 p s = (κs : Lfts 1) → Edition → RefT (List ℕ) → Others p κs → s .row κs .Denot → SProp 𝓤
 
 module _ {M : Type 1} (𝓤 : URA M) (p : Passing) (s : Slot 1) (E : Says 𝓤 p s) where
   abbrev pub outerClauses : Clauses 𝓤 (outer p s)
-  outerClauses κs a = record { ghost = Unit {0}; requires = λ g. emp 𝓤; ensures = λ g r e. E κs (a .0 .bytes) (a .1) r }
+  outerClauses κs a = record { ghost = Unit {0}; requires = λ g. emp 𝓤; ensures = λ g r e. E κs (a .0 .edition) (a .0 .bytes) (a .1) r }
 
   abbrev pub innerClauses : Clauses 𝓤 (inner p s)
-  innerClauses κs a = record { ghost = Unit {0}; requires = λ g. emp 𝓤; ensures = λ g r e. E κs (a .0) (a .1) r }
+  innerClauses κs a = record { ghost = Unit {0}; requires = λ g. emp 𝓤; ensures = λ g r e. E κs (a .0) (a .1 .0) (a .1 .1) r }
 
   module _ (H : Heap 𝓤) (A : Atoms 𝓤) where
     abbrev pub Outer : Contract 𝓤
@@ -101,22 +124,29 @@ module _ {M : Type 1} (𝓤 : URA M) (p : Passing) (s : Slot 1) (E : Says 𝓤 p
 abbrev part : Local
 part = local (sliceTy (tyRef erased imm (tyInt w8))) valueLocal
 
+abbrev named-edition : Local
+named-edition = local E′.mir valueLocal
+
 abbrev pub served : Passing → Ty → Name → Fn
 served alone τ f = record {
   lifetimes = 1;
   outlives = [];
   params = 1;
-  locals = local τ valueLocal ∷ local (T′.mir (named 0)) valueLocal ∷ part ∷ [];
-  body = seq (assign (place 2 []) (rvOpd (copy (place 1 (field 0 ∷ []))))) (seq (call f (copy (place 2 []) ∷ []) (place 0 [])) return);
+  locals = local τ valueLocal ∷ local (T′.mir (named 0)) valueLocal ∷ named-edition ∷ part ∷ [];
+  body =
+      seq (assign (place 2 []) (rvOpd (copy (place 1 (field 1 ∷ [])))))
+      (seq (assign (place 3 []) (rvOpd (copy (place 1 (field 0 ∷ [])))))
+      (seq (call f (copy (place 2 []) ∷ copy (place 3 []) ∷ []) (place 0 [])) return));
 }
 served numbered τ f = record {
   lifetimes = 1;
   outlives = [];
   params = 2;
-  locals = local τ valueLocal ∷ local (T′.mir (named 0)) valueLocal ∷ local (tyInt w64) valueLocal ∷ part ∷ [];
+  locals = local τ valueLocal ∷ local (T′.mir (named 0)) valueLocal ∷ local (tyInt w64) valueLocal ∷ named-edition ∷ part ∷ [];
   body =
-      seq (assign (place 3 []) (rvOpd (copy (place 1 (field 0 ∷ [])))))
-      (seq (call f (copy (place 3 []) ∷ copy (place 2 []) ∷ []) (place 0 [])) return);
+      seq (assign (place 3 []) (rvOpd (copy (place 1 (field 1 ∷ [])))))
+      (seq (assign (place 4 []) (rvOpd (copy (place 1 (field 0 ∷ [])))))
+      (seq (call f (copy (place 3 []) ∷ copy (place 4 []) ∷ copy (place 2 []) ∷ []) (place 0 [])) return));
 }
 
 -- the machine values of the result are of that MIR type
@@ -177,12 +207,13 @@ module _ {M : Type 1} (𝓤 : URA M) (H : Heap 𝓤) (A : Atoms 𝓤) (W : Given
 
 -- ---- the call on the slice
 
--- what it is at: the result's type and what is said of it, the lifetime, the share of its token, the slice and the number passed
+-- what it is at: the result's type and what is said of it, the lifetime, the share of its token, the edition, the slice and the number passed
 pub record Here {M : Type 1} (𝓤 : URA M) (p : Passing) : Type 2 where
   pub s : Slot 1
   pub E : Says 𝓤 p s
   pub κ : Lft
   pub q : Share
+  pub e : Edition
   pub b : RefT (List ℕ)
   pub n : Others p (κ, tt)
 
@@ -205,27 +236,27 @@ module _ {M : Type 1} (𝓤 : URA M) (H : Heap 𝓤) (A : Atoms 𝓤) (W : Given
   R = x .s .row κs
 
   abbrev pub Said : R .Denot → SProp 𝓤
-  Said r = x .E κs (x .b) (x .n) r
+  Said r = x .E κs (x .e) (x .b) (x .n) r
 
   -- what is passed and asked
   abbrev passed : Vals (inner p (x .s) .signature) κs
-  passed = (v ∷ [], othersVals p κs (x .n))
+  passed = (tag (x .e) ∷ [], (v ∷ [], othersVals p κs (x .n)))
 
   abbrev pub to : Inner 𝓤 p (x .s) (x .E) H A .Ghost
-  to = ((κs, (x .q, tt), tt, (x .b, x .n), passed), tt)
+  to = ((κs, (x .q, tt), tt, (x .e, (x .b, x .n)), passed), tt)
 
   abbrev pub Pre : SProp 𝓤
   Pre = Inner 𝓤 p (x .s) (x .E) H A .pre to
 
-  pub asked : ent 𝓤 (onEntry 𝓤 H A (inner p (x .s) .signature) κs (x .q, tt) (x .b, x .n) passed) Pre
-  asked = qed W (raw (onEntry 𝓤 H A (inner p (x .s) .signature) κs (x .q, tt) (x .b, x .n) passed) ∷ []) ∵ frame ! $ done !
+  pub asked : ent 𝓤 (onEntry 𝓤 H A (inner p (x .s) .signature) κs (x .q, tt) (x .e, (x .b, x .n)) passed) Pre
+  asked = qed W (raw (onEntry 𝓤 H A (inner p (x .s) .signature) κs (x .q, tt) (x .e, (x .b, x .n)) passed) ∷ []) ∵ frame ! $ done !
 
   -- of what is ensured, the clause alone: there is no `&mut`, so what is said of last values is dropped
   abbrev Ensured : R .Denot → SProp 𝓤
-  Ensured r = ensured 𝓤 H A (inner p (x .s)) (innerClauses 𝓤 p (x .s) (x .E)) κs (x .b, x .n) tt r
+  Ensured r = ensured 𝓤 H A (inner p (x .s)) (innerClauses 𝓤 p (x .s) (x .E)) κs (x .e, (x .b, x .n)) tt r
 
   said : (r : R .Denot) → ent 𝓤 (Ensured r) (Said r)
-  said r = exE 𝓤 _ (λ ws. snd∗ 𝓤 (sem 𝓤 H A (lasts (inner p (x .s)) κs (x .b, x .n) ws)) (Said r))
+  said r = exE 𝓤 _ (λ ws. snd∗ 𝓤 (sem 𝓤 H A (lasts (inner p (x .s)) κs (x .e, (x .b, x .n)) ws)) (Said r))
 
   -- what is handed back is taken apart
   pub handed : {K : Type 0} {Γ : List (Item 𝓤)} {G : Goal 𝓤 H} → K → Soaks G → (u : Val)

@@ -1,6 +1,7 @@
--- Every preset call of an opened book hands the book's bytes, and a preset number where there is one, to the call on slice and number: one walk of the
--- MIR by hand, at whatever `Passing` leaves open. The struct is Copy: what it owns is had twice, one copy is kept whole for the exit, and of the other
--- what `bytes` owns goes to the callee, beside the lifetime's token, which comes back. What the callee says of the result is handed on unread.
+-- Every preset call of an opened book hands the book's edition and bytes, and a preset number where there is one, to the call on edition, slice and
+-- number: one walk of the MIR by hand, at whatever `Passing` leaves open. The struct is Copy: what it owns is had twice, one copy is kept whole for the
+-- exit, and of the other what `bytes` owns goes to the callee, beside the lifetime's token, which comes back, and the edition, which owns nothing. What
+-- the callee says of the result is handed on unread.
 --
 -- Sections: what the struct owns; the walk; the contract.
 -- Assumes nothing.
@@ -34,6 +35,7 @@ use denote.Signature.{Slot, namedLft, typesAt}
 use denote.Struct.Values.{Values}
 use denote.Struct.Rest.{all-own, rest, own-open, own-out}
 use denote.Triple.Walked.{Stays, stay-none, hasOf, goes-none, walkOf, ends-at, walked, walk-meets}
+use Rattle.book.proofs.reader.Passing.{tag, tag-is, tag-typed}
 use Rattle.book.proofs.reader.Passing.{B, struct, laws, outer, Says, outerClauses, Outer, Inner, served, Typed, bytes, Passing, alone}
 use Rattle.book.proofs.reader.Passing.{numbered, others, othersSpell, othersVals, OthersAre, othersTell, othersStay, othersLast, othersFit}
 use Rattle.book.proofs.reader.Passing.{OthersOwn, OthersHad, othersGo, again, Here, Token, Slice, R, Said, Pre, asked, handed, to}
@@ -41,6 +43,11 @@ use Rattle.book_format.specs.declared.Opened.{Opened}
 use Rattle.book.specs.declared.reader.Reader.{Reader}
 use Rattle.book.proofs.reader.Reader.Laws as T′
 use denote.Struct.Laws as LL
+use denote.Enum.Laws as EL
+use denote.Laws.{Is}
+use denote.Steps.{owned}
+use Rattle.book_format.proofs.Edition as E
+use Rattle.book_format.proofs.Edition.Laws as E′
 
 -- ---- what the struct owns
 
@@ -53,7 +60,7 @@ module _ {M : Type 1} (𝓤 : URA M) (H : Heap 𝓤) (A : Atoms 𝓤) (W : Given
   κs = (x .κ, tt)
 
   abbrev d : Reader
-  d = record { bytes = x .b; opened = o }
+  d = record { bytes = x .b; edition = x .e; opened = o }
 
   -- its machine value, and all those passed
   abbrev mach : Val
@@ -80,7 +87,7 @@ module _ {M : Type 1} (𝓤 : URA M) (H : Heap 𝓤) (A : Atoms 𝓤) (W : Given
 
   -- what the fields own
   abbrev vd : Values (struct κs .parts)
-  vd = (x .b, (o, tt))
+  vd = (x .b, (x .e, (o, tt)))
 
   abbrev Fields : Fml
   Fields = all-own (struct κs .parts) (laws κs) vd
@@ -100,6 +107,7 @@ module _ {M : Type 1} (𝓤 : URA M) (H : Heap 𝓤) (A : Atoms 𝓤) (W : Given
       use1 W (‵ (Slice 𝓤 H A W x) ⊛ ‵ Rest) (own-out 𝓤 H A W (struct κs .parts) (laws κs) 0 vd) $ split ! $
       -- [what the bytes own; what the rest owns; what the struct owns; what the others own; the same; the token]
       move ! (1 ∷ []) $ drop ! $ move ! (0 ∷ 2 ∷ []) $ fjoin ! $
+      owned ! E.the-row (Is E.the-row) (EL.makes E.the-type E′.the-plain 𝓤 H A) (x .e) (tag (x .e) ∷ []) (tag-is (x .e)) $ fjoin ! $
       move ! (3 ∷ 0 ∷ []) $ use2 W (raw (Pre 𝓤 H A W x)) (asked 𝓤 H A W x) $ frame ! $ fjoin ! $ done !)
 
   -- what there is at the exit, with the result r
@@ -130,31 +138,37 @@ module _ {M : Type 1} (𝓤 : URA M) (H : Heap 𝓤) (A : Atoms 𝓤) (W : Given
   walk : (p : Passing) (x : Here 𝓤 p) (o : Opened) → Walked p x o
   walk alone x o typed wt are known =
       qed W (raw (Entry 𝓤 H A W x o) ∷ []) ∵ enter ! C Λ (served alone τ f) (mach 𝓤 H A W x o ∷ []) _ $
-      alloc1 ! (λ l₀. alloc1 ! (λ l₁. alloc1 ! (λ l₂. alloc0 ! $ params1 ! $ pass1 ! (init ! 2 refl wt) $ pass0 ! $
-      assigns ! (of-opd ! (load ! (from ! (fld ! refl (stop !))) (look-in ! 2 (sub ! 0 refl (whole !))))) (from ! (stop !))
-      (init ! 0 refl (tt, wt .1 .0)) $
-      move ! (6 ∷ []) $ use1 W (raw (Pre 𝓤 H A W x) ⊛ ‵ (Kept 𝓤 H A W x o)) (apart 𝓤 H A W x o) $ split ! $
-      calls-at ! fm (Inner 𝓤 alone (x .s) (x .E) H A) known (to 𝓤 H A W x)
-      (and-then ! (load ! (from ! (stop !)) (look ! 2 refl)) (no-more !))
-      (λ u. handed 𝓤 H A W x ! tt u (λ r is.
-      -- [the result; the token; the clause; what is kept; _2; …; _1; …; room for _0; …]
-      land ! (from ! (stop !)) (init ! 8 refl (typed (x .κ, tt) r u is)) $ returns ! (look ! 8 refl) $
-      forget ! 4 refl $ forget ! 6 refl $ forget ! 8 refl $
-      move ! (8 ∷ 9 ∷ []) $ free1 ! $ move ! (6 ∷ 7 ∷ []) $ free1 ! $ move ! (4 ∷ 5 ∷ []) $ free1 ! $ free0 ! $ by ! (exits 𝓤 H A W x o r u))))))
-  walk numbered x o typed wt are known =
-      qed W (raw (Entry 𝓤 H A W x o) ∷ []) ∵ enter ! C Λ (served numbered τ f) (mach 𝓤 H A W x o ∷ vint w64 (x .n .0) ∷ []) _ $
-      alloc1 ! (λ l₀. alloc1 ! (λ l₁. alloc1 ! (λ l₂. alloc1 ! (λ l₃. alloc0 ! $ params1 ! $
-      pass1 ! (init ! 4 refl wt) $ pass1 ! (init ! 2 refl (tt, record { fits = are .0 .1 })) $ pass0 ! $
+      alloc1 ! (λ l₀. alloc1 ! (λ l₁. alloc1 ! (λ l₂. alloc1 ! (λ l₃. alloc0 ! $ params1 ! $ pass1 ! (init ! 4 refl wt) $ pass0 ! $
+      assigns ! (of-opd ! (load ! (from ! (fld ! refl (stop !))) (look-in ! 4 (sub ! 1 refl (whole !))))) (from ! (stop !))
+      (init ! 2 refl (tag-typed 𝓤 H A W (x .e))) $
       assigns ! (of-opd ! (load ! (from ! (fld ! refl (stop !))) (look-in ! 4 (sub ! 0 refl (whole !))))) (from ! (stop !))
       (init ! 0 refl (tt, wt .1 .0)) $
       move ! (8 ∷ []) $ use1 W (raw (Pre 𝓤 H A W x) ⊛ ‵ (Kept 𝓤 H A W x o)) (apart 𝓤 H A W x o) $ split ! $
-      calls-at ! fm (Inner 𝓤 numbered (x .s) (x .E) H A) known (to 𝓤 H A W x)
-      (and-then ! (load ! (from ! (stop !)) (look ! 2 refl)) (and-then ! (load ! (from ! (stop !)) (look ! 4 refl)) (no-more !)))
+      calls-at ! fm (Inner 𝓤 alone (x .s) (x .E) H A) known (to 𝓤 H A W x)
+      (and-then ! (load ! (from ! (stop !)) (look ! 4 refl)) (and-then ! (load ! (from ! (stop !)) (look ! 2 refl)) (no-more !)))
       (λ u. handed 𝓤 H A W x ! tt u (λ r is.
       -- [the result; the token; the clause; what is kept; _3; …; _2; …; _1; …; room for _0; …]
       land ! (from ! (stop !)) (init ! 10 refl (typed (x .κ, tt) r u is)) $ returns ! (look ! 10 refl) $
       forget ! 4 refl $ forget ! 6 refl $ forget ! 8 refl $ forget ! 10 refl $ move ! (10 ∷ 11 ∷ []) $ free1 ! $
       move ! (8 ∷ 9 ∷ []) $ free1 ! $ move ! (6 ∷ 7 ∷ []) $ free1 ! $ move ! (4 ∷ 5 ∷ []) $ free1 ! $ free0 ! $ by ! (exits 𝓤 H A W x o r u)))))))
+  walk numbered x o typed wt are known =
+      qed W (raw (Entry 𝓤 H A W x o) ∷ []) ∵ enter ! C Λ (served numbered τ f) (mach 𝓤 H A W x o ∷ vint w64 (x .n .0) ∷ []) _ $
+      alloc1 ! (λ l₀. alloc1 ! (λ l₁. alloc1 ! (λ l₂. alloc1 ! (λ l₃. alloc1 ! (λ l₄. alloc0 ! $ params1 ! $
+      pass1 ! (init ! 6 refl wt) $ pass1 ! (init ! 4 refl (tt, record { fits = are .0 .1 })) $ pass0 ! $
+      assigns ! (of-opd ! (load ! (from ! (fld ! refl (stop !))) (look-in ! 6 (sub ! 1 refl (whole !))))) (from ! (stop !))
+      (init ! 2 refl (tag-typed 𝓤 H A W (x .e))) $
+      assigns ! (of-opd ! (load ! (from ! (fld ! refl (stop !))) (look-in ! 6 (sub ! 0 refl (whole !))))) (from ! (stop !))
+      (init ! 0 refl (tt, wt .1 .0)) $
+      move ! (10 ∷ []) $ use1 W (raw (Pre 𝓤 H A W x) ⊛ ‵ (Kept 𝓤 H A W x o)) (apart 𝓤 H A W x o) $ split ! $
+      calls-at ! fm (Inner 𝓤 numbered (x .s) (x .E) H A) known (to 𝓤 H A W x)
+      (and-then ! (load ! (from ! (stop !)) (look ! 4 refl))
+      (and-then ! (load ! (from ! (stop !)) (look ! 2 refl)) (and-then ! (load ! (from ! (stop !)) (look ! 6 refl)) (no-more !))))
+      (λ u. handed 𝓤 H A W x ! tt u (λ r is.
+      -- [the result; the token; the clause; what is kept; _4; …; _3; …; _2; …; _1; …; room for _0; …]
+      land ! (from ! (stop !)) (init ! 12 refl (typed (x .κ, tt) r u is)) $ returns ! (look ! 12 refl) $
+      forget ! 4 refl $ forget ! 6 refl $ forget ! 8 refl $ forget ! 10 refl $ forget ! 12 refl $
+      move ! (12 ∷ 13 ∷ []) $ free1 ! $ move ! (10 ∷ 11 ∷ []) $ free1 ! $
+      move ! (8 ∷ 9 ∷ []) $ free1 ! $ move ! (6 ∷ 7 ∷ []) $ free1 ! $ move ! (4 ∷ 5 ∷ []) $ free1 ! $ free0 ! $ by ! (exits 𝓤 H A W x o r u))))))))
 
 -- ---- the contract
 
@@ -168,7 +182,7 @@ module _ {M : Type 1} (𝓤 : URA M) (H : Heap 𝓤) (p : Passing) (s : Slot 1) 
       (walked 𝓤 H A (outer p s) (stayed p s) (outerClauses 𝓤 p s E) run
       (λ κs. (LL.vals (struct κs) (laws κs), othersSpell p κs)) (λ κs. (LL.tells (struct κs) (laws κs), othersTell p κs))
       (λ κs qs bounds a g are.
-      let x : Here 𝓤 p = record { s = s; E = E; κ = κs .0; q = qs .0; b = a .0 .bytes; n = a .1 } in
+      let x : Here 𝓤 p = record { s = s; E = E; κ = κs .0; q = qs .0; e = a .0 .edition; b = a .0 .bytes; n = a .1 } in
       let wt = LL.lawful (struct κs) (laws κs) 𝓤 H A W .typed (a .0) _ (are .0) .0 in
       via 𝓤 _ (fst∗ 𝓤 _ (emp 𝓤)) (walk 𝓤 H A W (𝓣 .C) (𝓣 .Λ) (fmOf 𝓤 H (W .laws) 𝓣) τ f p x (a .0 .opened) typed wt (are .1) known)))
 

@@ -9,6 +9,7 @@ use native.Mathlib.Omega.{arith}
 use lib.ListN.{set}
 use lib.Seq.{sets}
 use Rattle.coxeter.proofs.Lists.{sets-next}
+use Rattle.book_format.specs.declared.Edition.{Edition}
 use Rattle.book_format.specs.declared.Preset.{Preset}
 use Rattle.book_format.specs.Calls.{checkedPreset, fieldsOf, presetFields}
 use Rattle.book_format.proofs.RunLaws.{length-fieldsOf}
@@ -17,20 +18,20 @@ pub sets-five : (l : List ℕ) (p a b c d e : ℕ) → set (set (set (set (set l
 sets-five l p a b c d e = simp (add-one, add-two, add-three, add-four)
 
 -- n presets from preset i on, of which those from j on are left
-module _ (out b : List ℕ) (n i : ℕ) where
-  pub run-start : sets out 0 (presetFields b n i) ≡ sets out (5 * 0) (presetFields b (n - 0) (i + 0))
+module _ (ed : Edition) (out b : List ℕ) (n i : ℕ) where
+  pub run-start : sets out 0 (presetFields ed b n i) ≡ sets out (5 * 0) (presetFields ed b (n - 0) (i + 0))
   run-start = let e : n - 0 ≡ n = omega arith in rw (e, add-zero i)
 
-  pub run-step : (j : ℕ) (p : Preset) (o : List ℕ) → j < n → p ≡ checkedPreset b (i + j) → o ≡ sets out (5 * j) (fieldsOf p)
-      → sets out (5 * j) (presetFields b (n - j) (i + j)) ≡ sets o (5 * (j + 1)) (presetFields b (n - (j + 1)) (i + (j + 1)))
+  pub run-step : (j : ℕ) (p : Preset) (o : List ℕ) → j < n → p ≡ checkedPreset ed b (i + j) → o ≡ sets out (5 * j) (fieldsOf p)
+      → sets out (5 * j) (presetFields ed b (n - j) (i + j)) ≡ sets o (5 * (j + 1)) (presetFields ed b (n - (j + 1)) (i + (j + 1)))
   unfolding presetFields
   run-step j p o h e q =
       let left : n - j ≡ suc (n - (j + 1)) = omega arith in
       let next : i + (j + 1) ≡ suc (i + j) = omega arith in
       let size = length-fieldsOf p in
-      rw (left, next, q, ← e) (sym (sets-next out (5 * j) (5 * (j + 1)) (fieldsOf p) (presetFields b (n - (j + 1)) (suc (i + j))) (omega arith)))
+      rw (left, next, q, ← e) (sym (sets-next out (5 * j) (5 * (j + 1)) (fieldsOf p) (presetFields ed b (n - (j + 1)) (suc (i + j))) (omega arith)))
 
-  pub run-end : (j : ℕ) → n ≤ j → sets out (5 * j) (presetFields b (n - j) (i + j)) ≡ out
+  pub run-end : (j : ℕ) → n ≤ j → sets out (5 * j) (presetFields ed b (n - j) (i + j)) ≡ out
   unfolding presetFields
   run-end j h = let e : n - j ≡ 0 = omega arith in rw e
 

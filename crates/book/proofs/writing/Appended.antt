@@ -6,17 +6,19 @@ use Prim.Native.Nat.{ℕ, _+_, _-_, _*_, _≤_}
 use native.Mathlib.Omega.{arith}
 use lib.ListN.{length, take, drop, length-append, length-drop}
 use lib.Seq.{sets, length-take-le}
-use Rattle.book_format.specs.Books.{twoAt, two, headSize, bookRefusal, recordOf, appended}
+use Rattle.coxeter.specs.Kinds.{kindOf, lanes}
+use Rattle.book_format.specs.declared.Edition.{Edition}
+use Rattle.book_format.specs.Books.{twoAt, two, countPlace, headSize, bookRefusal, recordOf, appended}
 use Rattle.coxeter.proofs.Lists.{sets-next}
 use Rattle.book_format.proofs.BookLaws.{count-read, trailer-read}
 use Rattle.book_format.proofs.WritingLaws.{length-recordOf, length-two}
 
 -- the records of b, which end at t, and the new one
-pub records-written : (b out : List ℕ) (t k n : ℕ) (u o₁ o₂ : List ℕ) → t ≤ length b → o₁ ≡ sets out 0 (take t b) → o₂ ≡ sets o₁ t (recordOf k n u)
-    → o₂ ≡ sets out 0 (take t b ++ recordOf k n u)
-records-written b out t k n u o₁ o₂ h e₁ e₂ =
+pub records-written : (b out : List ℕ) (t : ℕ) (r o₁ o₂ : List ℕ) → t ≤ length b → o₁ ≡ sets out 0 (take t b) → o₂ ≡ sets o₁ t r
+    → o₂ ≡ sets out 0 (take t b ++ r)
+records-written b out t r o₁ o₂ h e₁ e₂ =
     let l = length-take-le t b h in
-    e₂ ∙ rw e₁ (sets-next out 0 t (take t b) (recordOf k n u) (omega arith))
+    e₂ ∙ rw e₁ (sets-next out 0 t (take t b) r (omega arith))
 
 -- the c offsets of b, which begin at t, the new one and the count
 pub trailer-written : (b out : List ℕ) (t c p : ℕ) (o₁ o₂ o₃ : List ℕ) → t + 2 * c ≤ length b → o₁ ≡ sets out p (take (t + 2 * c - t) (drop t b))
@@ -37,16 +39,17 @@ trailer-written b out t c p o₁ o₂ o₃ h e₁ e₂ e₃ =
     )
     (ap (sets out p) (append-assoc offsets (two t) (two (c + 1))))
 
--- the records and then the trailer: c and t are the count and the beginning of the trailer as the code has them
-pub appended-written : (b out : List ℕ) (k n : ℕ) (u : List ℕ) (c : ℕ) (o₁ o₂ : List ℕ) → bookRefusal b ≡ 0 → c ≡ twoAt b (length b - 2)
-    → let t = length b - (2 * c + 2) in
-    o₁ ≡ sets out 0 (take t b ++ recordOf k n u) → o₂ ≡ sets o₁ (t + headSize + length u) (take (2 * c) (drop t b) ++ (two t ++ two (c + 1)))
-    → o₂ ≡ sets out 0 (appended b k n u)
+-- the records and then the trailer: c and t are the count and the beginning of the trailer as the code has them, p the place of a letter count
+pub appended-written : (ed : Edition) (b out : List ℕ) (k n : ℕ) (u : List ℕ) (c p : ℕ) (o₁ o₂ : List ℕ) → bookRefusal ed b ≡ 0 → c ≡ twoAt b (length b - 2)
+    → p ≡ countPlace ed → let t = length b - (2 * c + 2) in
+    o₁ ≡ sets out 0 (take t b ++ recordOf ed k n (lanes (kindOf k) n) u) → o₂ ≡ sets o₁ (t + (p + 2) + length u) (take (2 * c) (drop t b) ++ (two t ++ two (c + 1)))
+    → o₂ ≡ sets out 0 (appended ed b k n u)
 unfolding appended
-appended-written b out k n u c o₁ o₂ z q e₁ e₂ =
+appended-written ed b out k n u c p o₁ o₂ z q w e₁ e₂ =
     let t = length b - (2 * c + 2) in
     let trailing = take (2 * c) (drop t b) ++ (two t ++ two (c + 1)) in
     let e = count-read b c q in
-    let l : length (take t b ++ recordOf k n u) ≡ t + (headSize + length u) = simp (length-append, length-take-le t b (omega arith), length-recordOf) in
+    let new = recordOf ed k n (lanes (kindOf k) n) u in
+    let l : length (take t b ++ new) ≡ t + (headSize ed + length u) = simp (length-append, length-take-le t b (omega arith), length-recordOf) in
     e₂
-    ∙ rw (e₁, sets-next out 0 (t + headSize + length u) (take t b ++ recordOf k n u) trailing (omega arith), append-assoc, trailer-read b c e, e)
+    ∙ rw (e₁, sets-next out 0 (t + (p + 2) + length u) (take t b ++ new) trailing (omega arith), append-assoc, trailer-read b c e, e)

@@ -10,8 +10,8 @@ use Rattle.listing_text.proofs.Pieces.{piece-inside}
 use Rattle.listing_books.proofs.print_piece.Statement.{statement}
 use Rattle.listing_books.proofs.print_piece.Tie as tie
 
-inside : (c : tie.After-next-piece) → c .next-piece .result .end ≤ length (c .next-piece .last .1 .1 .0)
-inside c = omega (arith, piece-inside _ _ _ _ (c .next-piece .ensures .0), c .next-piece .kept .1 .1 .0)
+inside : (c : tie.After-next-piece) → c .next-piece .result .end ≤ length (c .next-piece .last .1 .1 .1 .0)
+inside c = omega (arith, piece-inside _ _ _ _ _ (c .next-piece .ensures .0), c .next-piece .kept .1 .1 .1 .0)
 
 next-piece-requires : tie.Need-next-piece-requires
 next-piece-requires c κs = search needs

@@ -14,8 +14,7 @@ use Rattle.coxeter.specs.NormalForm.{wordNormalForm}
 use Rattle.coxeter.proofs.Lists.{Stored}
 use Rattle.book_format.specs.declared.Preset.{Preset}
 use Rattle.book_format.specs.declared.Preset.the-variants as preset
-use Rattle.book_format.specs.Calls.{checkedPreset}
-use Rattle.listing_text.specs.Text.{presetLine, refusedLine, wordLine, lineBy, lineOf}
+use Rattle.listing_text.specs.Text.{presetLine, refusedLine, wordLine, lineBy}
 use Rattle.listing_text.proofs.Runs.{refusalOf}
 
 -- ---- normal form and window
@@ -32,11 +31,11 @@ wordLine-put o at i k n u f w out r p q h = rw (← p, ← q) h
 
 -- ---- presets
 
-pub lineOf-found : (b : List ℕ) (i k n s l : ℕ) (a : Preset) → a ≡ checkedPreset b i → a ≡ preset.Found k n s l
-    → wordLine i (kindOf k) n (take (s + l - s) (drop s b)) ≡ lineOf b i
-unfolding lineOf lineBy
-lineOf-found b i k n s l a e f = let d : s + l - s ≡ l = omega arith in rw (← e, f, d)
+pub lineBy-found : (b : List ℕ) (i k n s l : ℕ) (a : Preset) → a ≡ preset.Found k n s l
+    → wordLine i (kindOf k) n (take (s + l - s) (drop s b)) ≡ lineBy b i a
+unfolding lineBy
+lineBy-found b i k n s l a f = let d : s + l - s ≡ l = omega arith in rw (f, d)
 
-pub lineOf-refused : (b : List ℕ) (i r x : ℕ) (a : Preset) → a ≡ checkedPreset b i → a ≡ preset.Refused r → x ≡ refusalOf a → refusedLine i x ≡ lineOf b i
-unfolding lineOf lineBy refusalOf
-lineOf-refused b i r x a e f q = rw (← e, q, f)
+pub lineBy-refused : (b : List ℕ) (i r x : ℕ) (a : Preset) → a ≡ preset.Refused r → x ≡ refusalOf a → refusedLine i x ≡ lineBy b i a
+unfolding lineBy refusalOf
+lineBy-refused b i r x a f q = rw (q, f)

@@ -1,5 +1,5 @@
--- `reader::open` calls `check_book` and makes the struct of the slice passed and of the answer: a walk of its MIR, by hand.
--- A `&[u8]` is Copy, so what it owns is had three times: for the callee, for the parameter at exit, and inside the result.
+-- `reader::open` calls `check_book` and makes the struct of the slice and the edition passed and of the answer: a walk of its MIR, by hand.
+-- A `&[u8]` is Copy, so what it owns is had three times: for the callee, for the parameter at exit, and inside the result. An edition owns nothing.
 -- Assumes nothing.
 use mathlib.Core.Path.{_≡_, refl, ap}
 use Prim.Native.Nat.{ℕ}
@@ -22,13 +22,13 @@ use types.Run.{look, init, forget, stop, from, load, and-then, no-more, assigns,
 use types.Run.{enter, alloc1, alloc0, params1, pass1, pass0, free1, free0}
 use sound.WpLaws.{FmC, fmOf, WpFn-mono}
 use denote.RattleType.{owns}
-use denote.Laws.{Is}
+use denote.Laws.{Is, Makes}
 use denote.Builtin.{u8}
 use denote.Enum.Laws as EL
 use denote.Ref.{RefT, now}
 use denote.Signature.{plain}
 use denote.Slice.{ShrSlice, slice-vals, shr-slice-tells, shr-slice-lawful, shr-slice-copy}
-use denote.Steps.{only, heard, nothing}
+use denote.Steps.{only, heard, nothing, owned}
 use denote.Struct.Laws as LL
 use denote.Struct.Rest.{own-shut}
 use denote.Triple.Call.{calls-at}
@@ -36,15 +36,18 @@ use denote.Triple.Entry.{onEntry}
 use denote.Triple.Spec.{Meets, tripleOf}
 use denote.Triple.Statement.{Contract, Triple}
 use denote.Triple.Table.{entered, cited}
-use denote.Triple.Walked.{says, Stays, stay-none-slice, walkOf, goes-none-slice, ends-at, walked, walk-meets}
+use denote.Triple.Walked.{says, Stays, stay-none, stay-none-slice, walkOf, goes-none, goes-none-slice, ends-at, walked, walk-meets}
 use denote.Exit.{yes}
+use Rattle.book_format.specs.declared.Edition.{Edition}
 use Rattle.book_format.specs.declared.Opened.{Opened}
 use Rattle.book_format.specs.Calls.{checkedBook}
+use Rattle.book_format.proofs.Edition as E
+use Rattle.book_format.proofs.Edition.Laws as E′
 use Rattle.book_format.proofs.Opened as S
 use Rattle.book_format.proofs.Opened.Laws as S′
 use Rattle.book.specs.declared.reader.Reader.{Reader}
 use Rattle.book.proofs.reader.Reader.Laws as T′
-use Rattle.book.proofs.reader.Passing.{alone, struct, laws, Here, Inner, Token, Slice, Pre, v, to, asked, handed}
+use Rattle.book.proofs.reader.Passing.{tag, tag-is, tag-typed, alone, struct, laws, Here, Inner, Token, Slice, Pre, v, to, asked, handed}
 use Rattle.book.proofs.reading.check_book as check
 use Rattle.book.proofs.reading.check_book.Symbol as symbol
 use Rattle.book.proofs.reading.check_book.Met as met
@@ -54,21 +57,22 @@ use Rattle.book.proofs.reader.open.Statement as stated
 use Rattle.book.proofs.reader.open.Code as code
 
 abbrev stayed : Stays (opened.ended .signature .params) (opened.ended .kept)
-stayed = (stay-none-slice (0 ∷ []) tt (plain (λ _. u8)) yes, tt)
+stayed = (stay-none (λ _. E.the-row) yes, (stay-none-slice (0 ∷ []) tt (plain (λ _. u8)) yes, tt))
 
 -- the machine value of an answer
 abbrev val : Opened → Val
 val o = EL.val S.the-type S′.the-laws o
 
 module _ {M : Type 1} (𝓤 : URA M) (H : Heap 𝓤) (A : Atoms 𝓤) (W : Given 𝓤 H A) (mem : Memory → SProp 𝓤) (run : Routine → Fun 𝓤) (κ : Lft) (q : Share)
-    (s : RefT (List ℕ)) where
+    (ed : Edition) (s : RefT (List ℕ)) where
   -- the call of `check_book`
   abbrev x : Here 𝓤 alone
   x = record {
     s = plain (λ _. S.the-row);
-    E = λ κs b n r. check.clauses 𝓤 H A mem run κs (b, n) .ensures tt r (b, n);
+    E = λ κs e b n r. check.clauses 𝓤 H A mem run κs (e, (b, n)) .ensures tt r (e, (b, n));
     κ = κ;
     q = q;
+    e = ed;
     b = s;
     n = tt;
   }
@@ -79,19 +83,19 @@ module _ {M : Type 1} (𝓤 : URA M) (H : Heap 𝓤) (A : Atoms 𝓤) (W : Given
 
   -- the struct that is made, and its machine value
   abbrev made : Opened → Reader
-  made o = record { bytes = s; opened = o }
+  made o = record { bytes = s; edition = ed; opened = o }
 
   abbrev mach : Opened → Val
   mach o = LL.val (struct (κ, tt)) (laws (κ, tt)) (made o)
 
-  abbrev at : List Val × Unit {0}
-  at = (v 𝓤 H A W x ∷ [], tt)
+  abbrev at : List Val × (List Val × Unit {0})
+  at = (tag ed ∷ [], (v 𝓤 H A W x ∷ [], tt))
 
   abbrev Entry : SProp 𝓤
-  Entry = onEntry 𝓤 H A opened.signature (κ, tt) (q, tt) (s, tt) at
+  Entry = onEntry 𝓤 H A opened.signature (κ, tt) (q, tt) (ed, (s, tt)) at
 
   abbrev exit : walkOf 𝓤 H A opened.ended stayed (opened.clauses 𝓤 H A mem run) .Ghost
-  exit = (((κ, tt), (q, tt), tt, (s, tt), at), tt)
+  exit = (((κ, tt), (q, tt), tt, (ed, (s, tt)), at), tt)
 
   abbrev Post : Val → SProp 𝓤
   Post = walkOf 𝓤 H A opened.ended stayed (opened.clauses 𝓤 H A mem run) .post exit
@@ -102,48 +106,56 @@ module _ {M : Type 1} (𝓤 : URA M) (H : Heap 𝓤) (A : Atoms 𝓤) (W : Given
   -- what the callee asks, and two copies that are kept
   apart : ent 𝓤 Entry (sep 𝓤 (Pre 𝓤 H A W x) (sep 𝓤 (sem 𝓤 H A Bytes) (sem 𝓤 H A Bytes)))
   apart =
-      qed W (Token 𝓤 H A W x ∷ ‵ (owns (ShrSlice (named 0) κ u8 ∷ []) (s, tt) at) ∷ []) ∵ move ! (1 ∷ []) $ fsplit ! $
-      use1 W (‵ Bytes ⊛ ‵ Bytes) again $ split ! $ use1 W (‵ Bytes ⊛ ‵ Bytes) again $ split ! $
-      -- [what the slice owns, three times; nothing; the token]
-      move ! (0 ∷ 3 ∷ []) $ fjoin ! $ move ! (3 ∷ 0 ∷ []) $ use2 W (raw (Pre 𝓤 H A W x)) (asked 𝓤 H A W x) $ frame ! $ frame ! $ done !
+      qed W (Token 𝓤 H A W x ∷ ‵ (owns (E.the-row ∷ ShrSlice (named 0) κ u8 ∷ []) (ed, (s, tt)) at) ∷ []) ∵ move ! (1 ∷ []) $ fsplit ! $
+      move ! (1 ∷ []) $ fsplit ! $ use1 W (‵ Bytes ⊛ ‵ Bytes) again $ split ! $ use1 W (‵ Bytes ⊛ ‵ Bytes) again $ split ! $
+      -- [what the slice owns, three times; nothing; what the edition owns; the token]
+      move ! (0 ∷ 3 ∷ []) $ fjoin ! $ move ! (3 ∷ 0 ∷ []) $ fjoin ! $ move ! (3 ∷ 0 ∷ []) $ use2 W (raw (Pre 𝓤 H A W x)) (asked 𝓤 H A W x) $ frame ! $ frame ! $ done !
 
   -- what there is at the exit, with the answer o
   abbrev AtEnd : Opened → List (Item 𝓤)
   AtEnd o = ‵ (S.the-row .own o (val o ∷ [])) ∷ Token 𝓤 H A W x ∷ ‵ Bytes ∷ ‵ Bytes ∷ []
 
-  exits : (o : Opened) → o ≡ checkedBook (now s) → ent 𝓤 (⋆ 𝓤 H A (AtEnd o)) (Post (mach o))
+  -- what an edition owns is had for nothing
+  had : Makes 𝓤 H A E.the-row (Is E.the-row)
+  had = EL.makes E.the-type E′.the-plain 𝓤 H A
+
+  exits : (o : Opened) → o ≡ checkedBook ed (now s) → ent 𝓤 (⋆ 𝓤 H A (AtEnd o)) (Post (mach o))
   exits o e =
       qed W (AtEnd o) ∵
-      suffices ! _ (ends-at 𝓤 H A opened.ended stayed (opened.clauses 𝓤 H A mem run) W exit (mach o) (made o) (tt, tt) (tt, tt)) $ says ! (refl, e) $
-      move ! (1 ∷ []) $ frame ! $ nothing ! $ move ! (2 ∷ 0 ∷ []) $ fjoin ! $ frame ! $
-      -- [what the answer owns; what the slice owns]: what the two fields own is what the struct owns
-      nothing ! $ move ! (1 ∷ 0 ∷ []) $ fjoin ! $ move ! (1 ∷ 0 ∷ []) $ fjoin ! $
-      by ! (own-shut 𝓤 H A W (struct (κ, tt)) (laws (κ, tt)) (s, (o, tt)))
+      suffices ! _ (ends-at 𝓤 H A opened.ended stayed (opened.clauses 𝓤 H A mem run) W exit (mach o) (made o) (tt, (tt, tt)) (tt, (tt, tt))) $ says ! (refl, refl, e) $
+      move ! (1 ∷ []) $ frame ! $ nothing ! $ move ! (2 ∷ 0 ∷ []) $ fjoin ! $ owned ! E.the-row (Is E.the-row) had ed (tag ed ∷ []) (tag-is ed) $ fjoin ! $
+      frame ! $
+      -- [what the answer owns; what the slice owns]: what the three fields own is what the struct owns
+      nothing ! $ move ! (1 ∷ 0 ∷ []) $ fjoin ! $ owned ! E.the-row (Is E.the-row) had ed (tag ed ∷ []) (tag-is ed) $ fjoin ! $
+      move ! (1 ∷ 0 ∷ []) $ fjoin ! $ by ! (own-shut 𝓤 H A W (struct (κ, tt)) (laws (κ, tt)) (s, (ed, (o, tt))))
 
   -- the machine value of the struct is of its MIR type
   typed : (o : Opened) → Is (ShrSlice (named 0) κ u8) s (v 𝓤 H A W x ∷ []) → Is S.the-row o (val o ∷ [])
       → Holds (hasTy (T′.mir (named 0)) (mach o)) × WT (mach o)
   typed o p is =
-      let holds = LL.owes (struct (κ, tt)) (laws (κ, tt)) (made o) (p, (is, tt)) in
+      let holds = LL.owes (struct (κ, tt)) (laws (κ, tt)) (made o) (p, (tag-is ed, (is, tt))) in
       LL.lawful (struct (κ, tt)) (laws (κ, tt)) 𝓤 H A W .typed (made o) (mach o ∷ []) holds .0
 
   module _ (C : Calls 𝓤 H) (Λ : Loops 𝓤 H) (fm : FmC 𝓤 H (W .laws) C) (known : Triple 𝓤 (C symbol.name) (Inner 𝓤 alone (x .s) (x .E) H A)) where
-    walk : Is (ShrSlice (named 0) κ u8) s (v 𝓤 H A W x ∷ []) → ent 𝓤 Entry (WpFn 𝓤 H C Λ code.function (v 𝓤 H A W x ∷ []) Post)
+    walk : Is (ShrSlice (named 0) κ u8) s (v 𝓤 H A W x ∷ []) → ent 𝓤 Entry (WpFn 𝓤 H C Λ code.function (tag ed ∷ v 𝓤 H A W x ∷ []) Post)
     walk p =
-        qed W (raw Entry ∷ []) ∵ enter ! C Λ code.function (v 𝓤 H A W x ∷ []) _ $
-        alloc1 ! (λ l₀. alloc1 ! (λ l₁. alloc1 ! (λ l₂. alloc0 ! $ params1 ! $
-        pass1 ! (init ! 2 refl (shr-slice-lawful 𝓤 H A W (named 0) κ u8 .typed s (v 𝓤 H A W x ∷ []) p .0)) $ pass0 ! $
-        move ! (6 ∷ []) $ use1 W (raw (Pre 𝓤 H A W x) ⊛ ‵ Bytes ⊛ ‵ Bytes) apart $ split3 ! $
-        calls-at ! fm (Inner 𝓤 alone (x .s) (x .E) H A) known (to 𝓤 H A W x) (and-then ! (load ! (from ! (stop !)) (look ! 5 refl)) (no-more !))
-        (λ u. handed 𝓤 H A W x ! tt u (λ o is. move ! (2 ∷ []) $ heard ! (o ≡ checkedBook (now s)) (λ e.
-        -- [what the answer owns; the token; what the slice owns, twice; room for _2; …; _1; …; room for _0; …]
+        qed W (raw Entry ∷ []) ∵ enter ! C Λ code.function (tag ed ∷ v 𝓤 H A W x ∷ []) _ $
+        alloc1 ! (λ l₀. alloc1 ! (λ l₁. alloc1 ! (λ l₂. alloc1 ! (λ l₃. alloc0 ! $ params1 ! $
+        pass1 ! (init ! 4 refl (tag-typed 𝓤 H A W ed)) $ pass1 ! (init ! 2 refl (shr-slice-lawful 𝓤 H A W (named 0) κ u8 .typed s (v 𝓤 H A W x ∷ []) p .0)) $ pass0 ! $
+        move ! (8 ∷ []) $ use1 W (raw (Pre 𝓤 H A W x) ⊛ ‵ Bytes ⊛ ‵ Bytes) apart $ split3 ! $
+        calls-at ! fm (Inner 𝓤 alone (x .s) (x .E) H A) known (to 𝓤 H A W x)
+        (and-then ! (load ! (from ! (stop !)) (look ! 7 refl)) (and-then ! (load ! (from ! (stop !)) (look ! 5 refl)) (no-more !)))
+        (λ u. handed 𝓤 H A W x ! tt u (λ o is. move ! (2 ∷ []) $ heard ! (o ≡ checkedBook ed (now s)) (λ e.
+        -- [what the answer owns; the token; what the slice owns, twice; room for _3; …; _2; …; _1; …; room for _0; …]
         let same : u ≡ val o = ap only (EL.tells S.the-type S′.the-laws o (u ∷ []) is) in
         let told : Is S.the-row o (val o ∷ []) = rw same at is in
         rw same
         (land ! (from ! (stop !)) (init ! 4 refl (EL.lawful S.the-type S′.the-laws 𝓤 H A W tt .typed o _ told .0)) $
-        assigns ! (agg ! (and-then ! (load ! (from ! (stop !)) (look ! 6 refl)) (and-then ! (load ! (from ! (stop !)) (look ! 4 refl)) (no-more !))))
-        (from ! (stop !)) (init ! 8 refl (typed o p told)) $ returns ! (look ! 8 refl) $ forget ! 4 refl $ forget ! 6 refl $ forget ! 8 refl $
-        move ! (8 ∷ 9 ∷ []) $ free1 ! $ move ! (6 ∷ 7 ∷ []) $ free1 ! $ move ! (4 ∷ 5 ∷ []) $ free1 ! $ free0 ! $ by ! (exits o e))))))))
+        assigns ! (agg ! (and-then ! (load ! (from ! (stop !)) (look ! 6 refl))
+        (and-then ! (load ! (from ! (stop !)) (look ! 8 refl)) (and-then ! (load ! (from ! (stop !)) (look ! 4 refl)) (no-more !)))))
+        (from ! (stop !)) (init ! 10 refl (typed o p told)) $ returns ! (look ! 10 refl) $
+        forget ! 4 refl $ forget ! 6 refl $ forget ! 8 refl $ forget ! 10 refl $ move ! (10 ∷ 11 ∷ []) $ free1 ! $
+        move ! (8 ∷ 9 ∷ []) $ free1 ! $ move ! (6 ∷ 7 ∷ []) $ free1 ! $ move ! (4 ∷ 5 ∷ []) $ free1 ! $ free0 ! $ by ! (exits o e)))))))))
 
 module _ {M : Type 1} (𝓤 : URA M) (H : Heap 𝓤) (A : Atoms 𝓤) (W : Given 𝓤 H A) (mem : Memory → SProp 𝓤) (run : Routine → Fun 𝓤) where
   -- the contract of `check_book`
@@ -154,12 +166,13 @@ module _ {M : Type 1} (𝓤 : URA M) (H : Heap 𝓤) (A : Atoms 𝓤) (W : Given
       → Meets 𝓤 H A opened.signature (WpFn 𝓤 H (𝓣 .C) (𝓣 .Λ) code.function) (opened.spec 𝓤 H A mem run)
   open-meets 𝓣 known =
       let run′ = WpFn 𝓤 H (𝓣 .C) (𝓣 .Λ) code.function in
-      walk-meets 𝓤 H A opened.ended stayed W (goes-none-slice 𝓤 H A W 1 (0 ∷ []) tt (plain (λ _. u8)) yes, tt) (opened.clauses 𝓤 H A mem run)
+      walk-meets 𝓤 H A opened.ended stayed W
+      (goes-none 𝓤 H A W 1 (λ _. E.the-row) yes (λ κs x f. refl), (goes-none-slice 𝓤 H A W 1 (0 ∷ []) tt (plain (λ _. u8)) yes, tt)) (opened.clauses 𝓤 H A mem run)
       run′ (WpFn-mono 𝓤 H (W .laws) 𝓣 code.function)
       (walked 𝓤 H A opened.ended stayed (opened.clauses 𝓤 H A mem run) run′
-      (λ κs. (slice-vals, tt)) (λ κs. (shr-slice-tells (named 0) (κs .0) u8, tt))
+      (λ κs. (EL.vals E.the-type E′.the-laws, (slice-vals, tt))) (λ κs. (EL.tells E.the-type E′.the-laws, (shr-slice-tells (named 0) (κs .0) u8, tt)))
       (λ κs qs bounds a g are.
-      via 𝓤 _ (fst∗ 𝓤 _ (emp 𝓤)) (walk 𝓤 H A W mem run (κs .0) (qs .0) (a .0) (𝓣 .C) (𝓣 .Λ) (fmOf 𝓤 H (W .laws) 𝓣) known (are .0))))
+      via 𝓤 _ (fst∗ 𝓤 _ (emp 𝓤)) (walk 𝓤 H A W mem run (κs .0) (qs .0) (a .0) (a .1 .0) (𝓣 .C) (𝓣 .Λ) (fmOf 𝓤 H (W .laws) 𝓣) known (are .1 .0))))
 
 pub open-spec : {M : Type 1} → stated.statement M
 unfolding code.routine tablesOf

@@ -1,4 +1,4 @@
--- `reader::preset_letters` hands the bytes and the number to `letters`: the shared walk, at that callee and the part that it hands out.
+-- `reader::preset_letters` hands the edition, the bytes and the number to `letters`: the shared walk, at that callee and the part that it hands out.
 -- Assumes nothing.
 use contract.Running.{givenOf}
 use mir.Syntax.{named}
@@ -16,6 +16,6 @@ use Rattle.book.proofs.reader.preset_letters.Code as code
 pub preset-letters-spec : {M : Type 1} → stated.statement M
 unfolding code.routine
 preset-letters-spec 𝓤 H 𝓜 𝓖 𝓡 =
-    serves 𝓤 H numbered bytes (λ κs b n r. letters.clauses 𝓤 H (𝓖 .A) (𝓜 .mem) (𝓡 .run) κs (b, n) .ensures tt r (b, n)) _ symbol.name
+    serves 𝓤 H numbered bytes (λ κs e b n r. letters.clauses 𝓤 H (𝓖 .A) (𝓜 .mem) (𝓡 .run) κs (e, (b, n)) .ensures tt r (e, (b, n))) _ symbol.name
     (λ κs r u is. shr-slice-lawful 𝓤 H (𝓖 .A) (givenOf 𝓤 H 𝓜 𝓖) (named 0) (κs .0) u8 .typed r _ is .0)
     𝓜 𝓖 𝓡 code.env key.name symbol.routine (code.unfolded 𝓤 H 𝓜 𝓡) code.calls-book·reading·letters (met.met 𝓤 H 𝓜 𝓖 𝓡)

@@ -12,16 +12,16 @@ book-refusal-requires : tie.Need-book-refusal-requires
 book-refusal-requires c κs = search needs
 
 returns : tie.Need-returns
-returns c = sym (checkedBook-refused _ _ (c .before .book-refusal .ensures) (c .if1 .taken))
+returns c = sym (checkedBook-refused _ _ _ (c .before .book-refusal .ensures) (c .if1 .taken))
 
 sub-two-at : tie.Need-sub-two-at
-sub-two-at c = let a = accepted-read _ _ (c .before .book-refusal .ensures) (c .if1 .left) in omega arith
+sub-two-at c = let a = accepted-read _ _ _ (c .before .book-refusal .ensures) (c .if1 .left) in omega arith
 
 two-at-requires : tie.Need-two-at-requires
-two-at-requires c κs = let a = accepted-read _ _ (c .before .book-refusal .ensures) (c .if1 .left) in omega arith
+two-at-requires c κs = let a = accepted-read _ _ _ (c .before .book-refusal .ensures) (c .if1 .left) in omega arith
 
 returns-2 : tie.Need-returns-2
-returns-2 c = sym (checkedBook-presets _ _ _ (c .before .before .book-refusal .ensures) (c .before .if1 .left) (c .two-at .ensures .0))
+returns-2 c = sym (checkedBook-presets _ _ _ _ (c .before .before .book-refusal .ensures) (c .before .if1 .left) (c .two-at .ensures .0))
 
 pub check-book-spec : {M : Type 1} → statement M
 check-book-spec =

@@ -12,18 +12,18 @@ book-refusal-requires : tie.Need-book-refusal-requires
 book-refusal-requires c κs = search needs
 
 returns : tie.Need-returns
-returns c = sym (checkedPreset-book _ _ _ (c .before .book-refusal .ensures) (c .if1 .taken))
+returns c = sym (checkedPreset-book _ _ _ _ (c .before .book-refusal .ensures) (c .if1 .taken))
 
 sub-two-at : tie.Need-sub-two-at
-sub-two-at c = accepted-read _ _ (c .before .book-refusal .ensures) (c .if1 .left) .least
+sub-two-at c = accepted-read _ _ _ (c .before .book-refusal .ensures) (c .if1 .left) .least
 
 two-at-requires : tie.Need-two-at-requires
-two-at-requires c κs = let a = accepted-read _ _ (c .before .book-refusal .ensures) (c .if1 .left) in omega arith
+two-at-requires c κs = let a = accepted-read _ _ _ (c .before .book-refusal .ensures) (c .if1 .left) in omega arith
 
 returns-2 : tie.Need-returns-2
 returns-2 c =
     let opened = c .before .before in
-    sym (checkedPreset-number _ _ _ (opened .before .book-refusal .ensures) _ (opened .if1 .left) (c .before .two-at .ensures .0) (c .if2 .taken))
+    sym (checkedPreset-number _ _ _ _ (opened .before .book-refusal .ensures) _ (opened .if1 .left) (c .before .two-at .ensures .0) (c .if2 .taken))
 
 numbered-preset-requires : tie.Need-numbered-preset-requires
 numbered-preset-requires c κs =

@@ -1,10 +1,17 @@
--- `reading::check_record` makes checks 5 to 8 in this order.
+-- `reading::check_record` makes checks 5, 6, 17, 7 and 8 in this order.
 -- Assumes nothing.
 use mathlib.Core.Path.{sym}
-use Rattle.book_format.proofs.PresetLaws.{checkedRecord-rank, checkedRecord-word, checkedRecord-found}
+use Rattle.book_format.proofs.BookLaws.{end-read-le}
+use Rattle.book_format.proofs.PresetLaws.{checkedRecord-rank, checkedRecord-lanes, checkedRecord-word, checkedRecord-found}
 use borrow.Author.Needs.{needs}
 use Rattle.book.proofs.reading.check_record.Statement.{statement}
 use Rattle.book.proofs.reading.check_record.Tie as tie
+
+count-place-requires : tie.Need-count-place-requires
+count-place-requires c κs = search needs
+
+add-head : tie.Need-add-head
+add-head c = search needs
 
 shared-slice-read-kind : tie.Need-shared-slice-read-kind
 shared-slice-read-kind c = search needs
@@ -19,7 +26,16 @@ book-rank-refusal-requires : tie.Need-book-rank-refusal-requires
 book-rank-refusal-requires c κs = search needs
 
 returns : tie.Need-returns
-returns c = sym (checkedRecord-rank _ _ _ (c .before .book-rank-refusal .ensures) (c .if1 .taken))
+returns c = sym (checkedRecord-rank _ _ _ _ (c .before .book-rank-refusal .ensures) (c .if1 .taken))
+
+has-wrong-lanes-requires : tie.Need-has-wrong-lanes-requires
+has-wrong-lanes-requires c κs = search needs
+
+returns-2 : tie.Need-returns-2
+returns-2 c =
+    let ranked = c .before .before in
+    sym
+    (checkedRecord-lanes _ _ _ _ (ranked .before .book-rank-refusal .ensures) (ranked .if1 .left) _ (c .before .has-wrong-lanes .ensures) (c .if2 .taken))
 
 add-two-at : tie.Need-add-two-at
 add-two-at c = search needs
@@ -40,32 +56,47 @@ part-word-refusal-start : tie.Need-part-word-refusal-start
 part-word-refusal-start c = search needs
 
 part-word-refusal-end : tie.Need-part-word-refusal-end
-part-word-refusal-end c = search needs
+part-word-refusal-end c =
+    let placed = c .before .before .before .before .before .before .before in
+    let start = placed .before .before in
+    end-read-le (start .args .edition) _ _ _ _ (placed .count-place .ensures .0) (c .two-at .ensures .0) (start .pre .1)
 
 word-refusal-requires : tie.Need-word-refusal-requires
 word-refusal-requires c κs = search needs
 
-returns-2 : tie.Need-returns-2
-returns-2 c =
-    let ranked = c .before .before .before .before in
-    let read = c .before .before .before .two-at .ensures .0 in
-    sym (checkedRecord-word _ _ _ (ranked .before .book-rank-refusal .ensures) _ _ (ranked .if1 .left) read (c .before .word-refusal .ensures) (c .if2 .taken))
-
 returns-3 : tie.Need-returns-3
 returns-3 c =
-    let ranked = c .before .before .before .before in
-    let read = c .before .before .before .two-at .ensures .0 in
-    sym (checkedRecord-found _ _ _ (ranked .before .book-rank-refusal .ensures) _ _ (ranked .if1 .left) read (c .before .word-refusal .ensures) (c .if2 .left))
+    let read = c .before .before .before in
+    let laned = read .before in
+    let ranked = laned .before .before in
+    let placed = ranked .before .before .before .before in
+    sym
+    (checkedRecord-word _ _ _ _ (ranked .before .book-rank-refusal .ensures) (ranked .if1 .left) _ (laned .before .has-wrong-lanes .ensures) (laned .if2 .left)
+    _ _ _ (placed .count-place .ensures .0) (read .two-at .ensures .0) (c .before .word-refusal .ensures) (c .if3 .taken))
+
+returns-4 : tie.Need-returns-4
+returns-4 c =
+    let read = c .before .before .before in
+    let laned = read .before in
+    let ranked = laned .before .before in
+    let placed = ranked .before .before .before .before in
+    sym
+    (checkedRecord-found _ _ _ _ (ranked .before .book-rank-refusal .ensures) (ranked .if1 .left) _ (laned .before .has-wrong-lanes .ensures) (laned .if2 .left)
+    _ _ _ (placed .count-place .ensures .0) (read .two-at .ensures .0) (c .before .word-refusal .ensures) (c .if3 .left))
 
 pub check-record-spec : {M : Type 1} → statement M
 check-record-spec =
     tie.close
     (tie.spec
+    count-place-requires
+    add-head
     shared-slice-read-kind
     add-rank
     shared-slice-read-rank
     book-rank-refusal-requires
     returns
+    has-wrong-lanes-requires
+    returns-2
     add-two-at
     two-at-requires
     add-start
@@ -74,5 +105,5 @@ check-record-spec =
     part-word-refusal-start
     part-word-refusal-end
     word-refusal-requires
-    returns-2
-    returns-3)
+    returns-3
+    returns-4)

@@ -11,8 +11,8 @@ use Rattle.book.proofs.reading.letters.Tie as tie
 
 -- the preset that was found
 at : (c : tie.After-start)
-    → let a = c .before .before .before .before .args in let g = c .start .given .0 in Found (now (a .book)) (a .number) (g .0) (g .1 .0) (g .1 .1 .0) (g .1 .1 .1 .0)
-at c = found _ _ _ _ _ _ (sym (c .start .given .1) ∙ c .before .before .check-preset .ensures)
+    → let a = c .before .before .before .before .args in let g = c .start .given .0 in Found (a .edition) (now (a .book)) (a .number) (g .0) (g .1 .0) (g .1 .1 .0) (g .1 .1 .1 .0)
+at c = found _ _ _ _ _ _ _ (sym (c .start .given .1) ∙ c .before .before .check-preset .ensures)
 
 check-preset-requires : tie.Need-check-preset-requires
 check-preset-requires c κs = search needs
@@ -21,7 +21,7 @@ enum-known-start : tie.Need-enum-known-start
 enum-known-start c = search needs
 
 add-end : tie.Need-add-end
-add-end c = let h = found-small _ _ _ _ _ _ (at (c .before)) in omega arith
+add-end c = let h = found-small _ _ _ _ _ _ _ (at (c .before)) in omega arith
 
 sub-result : tie.Need-sub-result
 sub-result c = search needs
@@ -30,7 +30,7 @@ part-result-start : tie.Need-part-result-start
 part-result-start c = search needs
 
 part-result-end : tie.Need-part-result-end
-part-result-end c = found-inside _ _ _ _ _ _ (at (c .before))
+part-result-end c = found-inside _ _ _ _ _ _ _ (at (c .before))
 
 enum-told : tie.Need-enum-told
 enum-told c = search needs
@@ -45,12 +45,12 @@ part-result-end-2 : tie.Need-part-result-end-2
 part-result-end-2 c = search needs
 
 returns : tie.Need-returns
-returns c = let f = at (c .before .before) in (lettersOf-found _ _ _ _ _ _ f, (refl, lettersStart-found _ _ _ _ _ _ _ f))
+returns c = let f = at (c .before .before) in (lettersOf-found _ _ _ _ _ _ _ f, (refl, lettersStart-found _ _ _ _ _ _ _ _ f))
 
 returns-2 : tie.Need-returns-2
 returns-2 c =
-    let f = refused _ _ _ (sym (c .before .enum-told .given .1) ∙ c .before .before .before .check-preset .ensures) in
-    (lettersOf-refused _ _ f, (refl, lettersStart-refused _ _ _ f))
+    let f = refused _ _ _ _ (sym (c .before .enum-told .given .1) ∙ c .before .before .before .check-preset .ensures) in
+    (lettersOf-refused _ _ _ f, (refl, lettersStart-refused _ _ _ _ f))
 
 pub letters-spec : {M : Type 1} → statement M
 letters-spec =

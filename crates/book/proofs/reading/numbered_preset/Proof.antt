@@ -12,10 +12,10 @@ use Rattle.book.proofs.reading.numbered_preset.Statement.{statement}
 use Rattle.book.proofs.reading.numbered_preset.Tie as tie
 
 sub-two-at : tie.Need-sub-two-at
-sub-two-at c = accepted _ (c .before .pre .0) .least
+sub-two-at c = accepted _ _ (c .before .pre .0) .least
 
 two-at-requires : tie.Need-two-at-requires
-two-at-requires c κs = let a = accepted _ (c .before .pre .0) in omega arith
+two-at-requires c κs = let a = accepted _ _ (c .before .pre .0) in omega arith
 
 -- the trailer lies inside the book, and has the offset of the preset
 trailer-fits : (c : tie.After-two-at)
@@ -23,7 +23,7 @@ trailer-fits : (c : tie.After-two-at)
 trailer-fits c =
     let pre = c .before .before .pre in
     let e = count-read _ _ (c .two-at .ensures .0) in
-    (omega (arith, accepted _ (pre .0) .fits), omega (arith, pre .1))
+    (omega (arith, accepted _ _ (pre .0) .fits), omega (arith, pre .1))
 
 mul-trailer : tie.Need-mul-trailer
 mul-trailer c = search needs
@@ -46,14 +46,14 @@ two-at-requires-2 c κs = omega (arith, trailer-fits c)
 check-record-requires : tie.Need-check-record-requires
 check-record-requires c κs =
     let start = c .before .before .before in
-    let a = accepted _ (start .pre .0) in
-    (a .most, endAt-read-le _ _ _ _ a (start .pre .1) (c .before .two-at .ensures .0) (c .two-at2 .ensures .0))
+    let a = accepted _ _ (start .pre .0) in
+    (a .most, endAt-read-le _ _ _ _ _ a (start .pre .1) (c .before .two-at .ensures .0) (c .two-at2 .ensures .0))
 
 returns : tie.Need-returns
 returns c =
     let read = c .before .before in
     let start = read .before .before in
-    c .check-record .ensures ∙ sym (checkedPreset-record _ _ _ _ (start .pre .0) (start .pre .1) (read .two-at .ensures .0) (c .before .two-at2 .ensures .0))
+    c .check-record .ensures ∙ sym (checkedPreset-record _ _ _ _ _ (start .pre .0) (start .pre .1) (read .two-at .ensures .0) (c .before .two-at2 .ensures .0))
 
 pub numbered-preset-spec : {M : Type 1} → statement M
 numbered-preset-spec =

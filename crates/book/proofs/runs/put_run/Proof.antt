@@ -12,17 +12,17 @@ use Rattle.book.proofs.runs.put_run.Statement.{statement}
 use Rattle.book.proofs.runs.put_run.Tie as tie
 
 abbrev Inv-loop : tie.InvT-loop
-Inv-loop book first n fields₀ i₀ fields i =
-    (i ≤ n) × (length fields ≡ length fields₀) × (sets fields₀ 0 (presetFields book n first) ≡ sets fields (5 * i) (presetFields book (n - i) (first + i)))
+Inv-loop edition book first n fields₀ i₀ fields i =
+    (i ≤ n) × (length fields ≡ length fields₀) × (sets fields₀ 0 (presetFields edition book n first) ≡ sets fields (5 * i) (presetFields edition book (n - i) (first + i)))
 
 abbrev μ-loop : tie.MeasureT-loop
-μ-loop book first n fields₀ i₀ fields i = n - i
+μ-loop edition book first n fields₀ i₀ fields i = n - i
 
 loop-holds : tie.Need-loop-holds Inv-loop μ-loop
-loop-holds c = (omega arith, refl, run-start _ _ _ _)
+loop-holds c = (omega arith, refl, run-start _ _ _ _ _)
 
 add-numbered-preset : tie.Need-add-numbered-preset Inv-loop μ-loop
-add-numbered-preset c = let pre = c .before .before .before .before .pre in omega (arith, accepted _ (pre .0) .fits, accepted _ (pre .0) .most, pre .1)
+add-numbered-preset c = let pre = c .before .before .before .before .pre in omega (arith, accepted _ _ (pre .0) .fits, accepted _ _ (pre .0) .most, pre .1)
 
 numbered-preset-requires : tie.Need-numbered-preset-requires Inv-loop μ-loop
 numbered-preset-requires c κs = let pre = c .before .before .before .before .pre in (pre .0, omega (arith, pre .1))
@@ -47,13 +47,13 @@ loop-again c =
     let inv = turn .before .loop .inv in
     let put = c .before .before .put-preset in
     let answer = c .before .before .before .before .numbered-preset in
-    (omega arith, put .kept .1 .0 ∙ inv .1, inv .2 ∙ run-step _ _ _ _ _ _ _ (turn .loop-test .taken) (answer .ensures) (put .ensures))
+    (omega arith, put .kept .1 .0 ∙ inv .1, inv .2 ∙ run-step _ _ _ _ _ _ _ _ (turn .loop-test .taken) (answer .ensures) (put .ensures))
 
 same-length : tie.Need-same-length Inv-loop μ-loop
 same-length c = c .before .loop .inv .1
 
 returns : tie.Need-returns Inv-loop μ-loop
-returns c = let inv = c .before .loop .inv in sym (inv .2 ∙ run-end _ _ _ _ _ (c .loop-test .left))
+returns c = let inv = c .before .loop .inv in sym (inv .2 ∙ run-end _ _ _ _ _ _ (c .loop-test .left))
 
 pub put-run-spec : {M : Type 1} → statement M
 put-run-spec =

@@ -13,24 +13,24 @@ book-refusal-requires : tie.Need-book-refusal-requires
 book-refusal-requires c κs = search needs
 
 returns : tie.Need-returns
-returns c = reading-book _ _ _ _ (c .before .book-refusal .ensures) (c .if1 .taken)
+returns c = reading-book _ _ _ _ _ (c .before .book-refusal .ensures) (c .if1 .taken)
 
 sub-two-at : tie.Need-sub-two-at
-sub-two-at c = accepted-read _ _ (c .before .book-refusal .ensures) (c .if1 .left) .least
+sub-two-at c = accepted-read _ _ _ (c .before .book-refusal .ensures) (c .if1 .left) .least
 
 two-at-requires : tie.Need-two-at-requires
-two-at-requires c κs = let a = accepted-read _ _ (c .before .book-refusal .ensures) (c .if1 .left) in omega arith
+two-at-requires c κs = let a = accepted-read _ _ _ (c .before .book-refusal .ensures) (c .if1 .left) in omega arith
 
 returns-2 : tie.Need-returns-2
 returns-2 c =
     let opened = c .before .before in
-    reading-number _ _ _ _ (opened .before .book-refusal .ensures) (opened .if1 .left) _ (c .before .two-at .ensures .0) (c .if2 .taken)
+    reading-number _ _ _ _ _ (opened .before .book-refusal .ensures) (opened .if1 .left) _ (c .before .two-at .ensures .0) (c .if2 .taken)
 
 returns-3 : tie.Need-returns-3
 returns-3 c =
     let read = c .before .before in
     let opened = read .before in
-    reading-short _ _ _ _ (opened .before .book-refusal .ensures) (opened .if1 .left) _ (read .two-at .ensures .0) (c .before .if2 .left) (c .if3 .taken)
+    reading-short _ _ _ _ _ (opened .before .book-refusal .ensures) (opened .if1 .left) _ (read .two-at .ensures .0) (c .before .if2 .left) (c .if3 .taken)
 
 sub-smaller : tie.Need-sub-smaller
 sub-smaller c = search needs
@@ -56,7 +56,7 @@ returns-4 c =
     let roomy = sized .before in
     let read = roomy .before .before in
     let opened = read .before in
-    reading-run _ _ _ _ (opened .before .book-refusal .ensures) (opened .if1 .left) _ (read .two-at .ensures .0) _ _ (roomy .before .if2 .left) (roomy .if3 .left)
+    reading-run _ _ _ _ _ (opened .before .book-refusal .ensures) (opened .if1 .left) _ (read .two-at .ensures .0) _ _ (roomy .before .if2 .left) (roomy .if3 .left)
     (sized .smaller .ensures) (c .before .before .put-run .ensures)
 
 pub read-presets-spec : {M : Type 1} → statement M

@@ -2,8 +2,9 @@
 -- Assumes nothing.
 use mathlib.Core.Path.{sym, _∙_}
 use native.Mathlib.Omega.{arith}
+use denote.Ref.{now}
 use Rattle.book_format.proofs.BookLaws.{accepted}
-use Rattle.book_format.proofs.WritingLaws.{append-book, appending-refused, appending-short, appending-written}
+use Rattle.book_format.proofs.WritingLaws.{append-book, append-rank, size-read, appending-refused, appending-short, appending-written}
 use borrow.Author.Needs.{needs}
 use Rattle.book.proofs.writing.append.Statement.{statement}
 use Rattle.book.proofs.writing.append.Tie as tie
@@ -12,7 +13,10 @@ append-refusal-requires : tie.Need-append-refusal-requires
 append-refusal-requires c κs = search needs
 
 returns : tie.Need-returns
-returns c = appending-refused _ _ _ _ _ _ (c .before .append-refusal .ensures) (c .if1 .taken)
+returns c = appending-refused _ _ _ _ _ _ _ (c .before .append-refusal .ensures) (c .if1 .taken)
+
+count-place-requires : tie.Need-count-place-requires
+count-place-requires c κs = search needs
 
 add-size : tie.Need-add-size
 add-size c = search needs
@@ -21,15 +25,28 @@ add-size-2 : tie.Need-add-size-2
 add-size-2 c = search needs
 
 add-size-3 : tie.Need-add-size-3
-add-size-3 c = let a = accepted _ (append-book _ _ _ _ (sym (c .before .append-refusal .ensures) ∙ c .if1 .left)) in omega arith
+add-size-3 c = search needs
+
+add-size-4 : tie.Need-add-size-4
+add-size-4 c =
+    let checked = c .before in
+    let a = accepted _ _ (append-book _ _ _ _ _ (sym (checked .before .append-refusal .ensures) ∙ checked .if1 .left)) in
+    omega arith
 
 returns-2 : tie.Need-returns-2
-returns-2 c = appending-short _ _ _ _ _ _ (c .before .before .append-refusal .ensures) (c .before .if1 .left) (c .if2 .taken)
+returns-2 c =
+    let placed = c .before in
+    let checked = placed .before in
+    let a = checked .before .before .before .before .before .args in
+    let s = size-read (a .edition) (now (a .book)) (now (a .word)) _ (placed .count-place .ensures .0) in
+    appending-short _ _ _ _ _ _ _ (checked .before .append-refusal .ensures) _ s (checked .if1 .left) (c .if2 .taken)
 
 write-appended-requires : tie.Need-write-appended-requires
 write-appended-requires c κs =
-    let checked = c .before .before in
-    (append-book _ _ _ _ (sym (checked .before .append-refusal .ensures) ∙ checked .if1 .left), c .before .if2 .left)
+    let placed = c .before .before in
+    let checked = placed .before in
+    let passed = sym (checked .before .append-refusal .ensures) ∙ checked .if1 .left in
+    ((append-book _ _ _ _ _ passed, append-rank _ _ _ _ _ passed), omega (arith, c .before .if2 .left, placed .count-place .ensures .0))
 
 same-length : tie.Need-same-length
 same-length c = search needs
@@ -37,8 +54,12 @@ same-length c = search needs
 returns-3 : tie.Need-returns-3
 returns-3 c =
     let roomy = c .before .before .before .before in
-    let checked = roomy .before in
-    appending-written _ _ _ _ _ _ (checked .before .append-refusal .ensures) _ (checked .if1 .left) (roomy .if2 .left) (c .before .before .write-appended .ensures)
+    let placed = roomy .before in
+    let checked = placed .before in
+    let a = checked .before .before .before .before .before .args in
+    let s = size-read (a .edition) (now (a .book)) (now (a .word)) _ (placed .count-place .ensures .0) in
+    appending-written _ _ _ _ _ _ _ (checked .before .append-refusal .ensures) _ s _ (checked .if1 .left) (roomy .if2 .left)
+    (c .before .before .write-appended .ensures)
 
 pub append-spec : {M : Type 1} → statement M
 append-spec =
@@ -46,9 +67,11 @@ append-spec =
     (tie.spec
     append-refusal-requires
     returns
+    count-place-requires
     add-size
     add-size-2
     add-size-3
+    add-size-4
     returns-2
     write-appended-requires
     same-length

@@ -12,7 +12,7 @@ book-refusal-requires : tie.Need-book-refusal-requires
 book-refusal-requires c κs = search needs
 
 returns : tie.Need-returns
-returns c = sym (appendRefusal-book _ _ _ _ _ (c .before .book-refusal .ensures) (c .if1 .taken))
+returns c = sym (appendRefusal-book _ _ _ _ _ _ (c .before .book-refusal .ensures) (c .if1 .taken))
 
 book-rank-refusal-requires : tie.Need-book-rank-refusal-requires
 book-rank-refusal-requires c κs = search needs
@@ -20,7 +20,7 @@ book-rank-refusal-requires c κs = search needs
 returns-2 : tie.Need-returns-2
 returns-2 c =
     let opened = c .before .before in
-    sym (appendRefusal-rank _ _ _ _ _ (opened .before .book-refusal .ensures) _ (opened .if1 .left) (c .before .book-rank-refusal .ensures) (c .if2 .taken))
+    sym (appendRefusal-rank _ _ _ _ _ _ (opened .before .book-refusal .ensures) _ (opened .if1 .left) (c .before .book-rank-refusal .ensures) (c .if2 .taken))
 
 word-refusal-requires : tie.Need-word-refusal-requires
 word-refusal-requires c κs = search needs
@@ -30,8 +30,11 @@ returns-3 c =
     let ranked = c .before .before in
     let opened = ranked .before .before in
     sym
-    (appendRefusal-word _ _ _ _ _ (opened .before .book-refusal .ensures) _ (opened .if1 .left) (ranked .before .book-rank-refusal .ensures) _ (ranked .if2 .left)
+    (appendRefusal-word _ _ _ _ _ _ (opened .before .book-refusal .ensures) _ (opened .if1 .left) (ranked .before .book-rank-refusal .ensures) _ (ranked .if2 .left)
     (c .before .word-refusal .ensures) (c .if3 .taken))
+
+count-place-requires : tie.Need-count-place-requires
+count-place-requires c κs = search needs
 
 add-if4 : tie.Need-add-if4
 add-if4 c = search needs
@@ -40,26 +43,31 @@ add-if4-2 : tie.Need-add-if4-2
 add-if4-2 c = search needs
 
 add-if4-3 : tie.Need-add-if4-3
-add-if4-3 c =
-    let opened = c .before .before .before .before in
-    let a = accepted-read _ _ (opened .before .book-refusal .ensures) (opened .if1 .left) in
+add-if4-3 c = search needs
+
+add-if4-4 : tie.Need-add-if4-4
+add-if4-4 c =
+    let opened = c .before .before .before .before .before in
+    let a = accepted-read _ _ _ (opened .before .book-refusal .ensures) (opened .if1 .left) in
     omega arith
 
 returns-4 : tie.Need-returns-4
 returns-4 c =
-    let ranked = c .before .before .before in
+    let worded = c .before .before in
+    let ranked = worded .before .before in
     let opened = ranked .before .before in
     sym
-    (appendRefusal-large _ _ _ _ _ (opened .before .book-refusal .ensures) _ (opened .if1 .left) (ranked .before .book-rank-refusal .ensures) _ (ranked .if2 .left)
-    (c .before .before .word-refusal .ensures) (c .before .if3 .left) (c .if4 .taken))
+    (appendRefusal-large _ _ _ _ _ _ (opened .before .book-refusal .ensures) _ (opened .if1 .left) (ranked .before .book-rank-refusal .ensures) _ (ranked .if2 .left)
+    (worded .before .word-refusal .ensures) (worded .if3 .left) (omega (arith, c .if4 .taken, c .before .count-place .ensures .0)))
 
 returns-5 : tie.Need-returns-5
 returns-5 c =
-    let ranked = c .before .before .before in
+    let worded = c .before .before in
+    let ranked = worded .before .before in
     let opened = ranked .before .before in
     sym
-    (appendRefusal-none _ _ _ _ _ (opened .before .book-refusal .ensures) _ (opened .if1 .left) (ranked .before .book-rank-refusal .ensures) _ (ranked .if2 .left)
-    (c .before .before .word-refusal .ensures) (c .before .if3 .left) (c .if4 .left))
+    (appendRefusal-none _ _ _ _ _ _ (opened .before .book-refusal .ensures) _ (opened .if1 .left) (ranked .before .book-rank-refusal .ensures) _ (ranked .if2 .left)
+    (worded .before .word-refusal .ensures) (worded .if3 .left) (omega (arith, c .if4 .left, c .before .count-place .ensures .0)))
 
 pub append-refusal-spec : {M : Type 1} → statement M
 append-refusal-spec =
@@ -71,8 +79,10 @@ append-refusal-spec =
     returns-2
     word-refusal-requires
     returns-3
+    count-place-requires
     add-if4
     add-if4-2
     add-if4-3
+    add-if4-4
     returns-4
     returns-5)

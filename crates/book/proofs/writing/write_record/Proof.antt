@@ -5,56 +5,74 @@ use denote.Ref.{now}
 use Prim.Native.Nat.{_+_}
 use native.Mathlib.Omega.{arith}
 use lib.ListN.{length-set}
-use lib.Seq.{sets}
-use Rattle.book_format.specs.Books.{headSize}
-use Rattle.book.proofs.numbers.Stores.{sets-record}
+use Rattle.book.proofs.numbers.Stores.{record-stored}
+use borrow.Author.Needs.{needs}
 use Rattle.book.proofs.writing.write_record.Statement.{statement}
 use Rattle.book.proofs.writing.write_record.Tie as tie
 
+count-place-requires : tie.Need-count-place-requires
+count-place-requires c κs = search needs
+
 slice-write-out : tie.Need-slice-write-out
-slice-write-out c = omega arith
+slice-write-out c = search needs
 
 add-out : tie.Need-add-out
-add-out c = omega arith
+add-out c = search needs
 
 slice-write-out-2 : tie.Need-slice-write-out-2
 slice-write-out-2 c = simp length-set (omega arith)
 
+add-put-lanes : tie.Need-add-put-lanes
+add-put-lanes c = search needs
+
+put-lanes-requires : tie.Need-put-lanes-requires
+put-lanes-requires c κs = (c .before .before .before .before .pre .0, simp length-set (omega arith))
+
 add-put-two : tie.Need-add-put-two
-add-put-two c = omega arith
+add-put-two c = search needs
 
 put-two-requires : tie.Need-put-two-requires
-put-two-requires c κs = simp length-set (omega arith)
+put-two-requires c κs = let k = simp length-set at (c .before .before .before .put-lanes .kept .1 .1 .1 .0) in omega arith
 
 add-copy-to : tie.Need-add-copy-to
-add-copy-to c = omega arith
+add-copy-to c = search needs
+
+add-copy-to-2 : tie.Need-add-copy-to-2
+add-copy-to-2 c = search needs
 
 copy-to-requires : tie.Need-copy-to-requires
-copy-to-requires c κs = let k = simp length-set at (c .before .before .before .put-two .kept .0) in omega arith
+copy-to-requires c κs =
+    let k = simp length-set at (c .before .before .before .before .before .before .before .put-lanes .kept .1 .1 .1 .0) in
+    let l = c .before .before .before .put-two .kept .0 in
+    omega arith
 
 same-length : tie.Need-same-length
 same-length c =
     let stored = c .before .before .before .before .before .before in
-    c .before .before .copy-to .kept .1 .0 ∙ simp length-set at (stored .put-two .kept .0)
+    let laned = stored .before .before .before .before in
+    c .before .before .copy-to .kept .1 .0 ∙ stored .put-two .kept .0 ∙ simp length-set at (laned .put-lanes .kept .1 .1 .1 .0)
 
 returns : tie.Need-returns
 returns c =
     let stored = c .before .before .before .before .before .before in
-    let a = stored .before .before .before .before .args in
-    c .before .before .copy-to .ensures
-    ∙ ap (λ l. sets l (a .p + headSize) (now (a .word))) (stored .put-two .ensures)
-    ∙ sets-record (now (a .out)) (a .p) (a .kind) (a .rank) (now (a .word))
+    let laned = stored .before .before .before .before in
+    let placed = laned .before .before in
+    record-stored _ _ _ _ _ _ _ _ _ _ _ (placed .count-place .ensures .0) (laned .put-lanes .ensures) (stored .put-two .ensures) (c .before .before .copy-to .ensures)
 
 pub write-record-spec : {M : Type 1} → statement M
 write-record-spec =
     tie.close
     (tie.spec
+    count-place-requires
     slice-write-out
     add-out
     slice-write-out-2
+    add-put-lanes
+    put-lanes-requires
     add-put-two
     put-two-requires
     add-copy-to
+    add-copy-to-2
     copy-to-requires
     same-length
     returns)

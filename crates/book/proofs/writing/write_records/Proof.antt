@@ -10,12 +10,12 @@ use Rattle.book.proofs.writing.write_records.Statement.{statement}
 use Rattle.book.proofs.writing.write_records.Tie as tie
 
 slice-aggregate-copy-to : tie.Need-slice-aggregate-copy-to
-slice-aggregate-copy-to c = sym (length-take-le _ _ (c .before .before .before .before .pre .0))
+slice-aggregate-copy-to c = sym (length-take-le _ _ (c .before .before .before .before .pre .1))
 
 copy-to-requires : tie.Need-copy-to-requires
 copy-to-requires c κs =
     let start = c .before .before .before .before .before in
-    omega (arith, length-take-le (start .args .trailer) (now (start .args .book)) (start .pre .0))
+    omega (arith, length-take-le (start .args .trailer) (now (start .args .book)) (start .pre .1))
 
 write-record-requires : tie.Need-write-record-requires
 write-record-requires c κs = search needs
@@ -27,7 +27,7 @@ returns : tie.Need-returns
 returns c =
     let copied = c .before .before .before .before .before .before in
     let start = copied .before .before .before .before .before .before in
-    records-written _ _ _ _ _ _ _ _ (start .pre .0) (copied .copy-to .ensures) (c .before .before .write-record .ensures)
+    records-written _ _ _ _ _ _ (start .pre .1) (copied .copy-to .ensures) (c .before .before .write-record .ensures)
 
 pub write-records-spec : {M : Type 1} → statement M
 write-records-spec =

@@ -15,16 +15,16 @@ enum-known-c : tie.Need-enum-known-c
 enum-known-c c = search needs
 
 add-result : tie.Need-add-result
-add-result c = omega (arith, presets-le _ _ (sym (c .before .c .given .1) ∙ c .before .before .before .check-book .ensures))
+add-result c = omega (arith, presets-le _ _ _ (sym (c .before .c .given .1) ∙ c .before .before .before .check-book .ensures))
 
 enum-told : tie.Need-enum-told
 enum-told c = search needs
 
 returns : tie.Need-returns
-returns c = lineCount-presets _ _ (c .before .before .before .check-book .ensures) _ (c .before .c .given .1)
+returns c = lineCount-presets _ _ _ (c .before .before .before .check-book .ensures) _ (c .before .c .given .1)
 
 returns-2 : tie.Need-returns-2
-returns-2 c = lineCount-refused _ _ (c .before .before .check-book .ensures) _ (c .enum-told .given .1)
+returns-2 c = lineCount-refused _ _ _ (c .before .before .check-book .ensures) _ (c .enum-told .given .1)
 
 pub line-count-spec : {M : Type 1} → statement M
 line-count-spec =

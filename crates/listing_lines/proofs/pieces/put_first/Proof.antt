@@ -14,7 +14,7 @@ enum-known-count c = search needs
 put-count-requires : tie.Need-put-count-requires
 put-count-requires c κs =
     let opened = c .before .before .before .before in
-    rw (firstLine-presets _ _ (opened .check-book .ensures) _ (c .before .before .count .given .1)) at (opened .before .before .before .pre)
+    rw (firstLine-presets _ _ _ (opened .check-book .ensures) _ (c .before .before .count .given .1)) at (opened .before .before .before .pre)
 
 enum-known-refusal : tie.Need-enum-known-refusal
 enum-known-refusal c = search needs
@@ -22,7 +22,7 @@ enum-known-refusal c = search needs
 put-refused-book-requires : tie.Need-put-refused-book-requires
 put-refused-book-requires c κs =
     let opened = c .before .before .before .before in
-    rw (firstLine-refused _ _ (opened .check-book .ensures) _ (c .before .before .refusal .given .1)) at (opened .before .before .before .pre)
+    rw (firstLine-refused _ _ _ (opened .check-book .ensures) _ (c .before .before .refusal .given .1)) at (opened .before .before .before .pre)
 
 same-length : tie.Need-same-length
 same-length c = search needs
@@ -31,7 +31,7 @@ returns : tie.Need-returns
 returns c =
     let put = c .before .before in
     let known = put .before .before .before in
-    rw (firstLine-presets _ _ (known .before .before .check-book .ensures) _ (known .count .given .1)) (put .put-count .ensures)
+    rw (firstLine-presets _ _ _ (known .before .before .check-book .ensures) _ (known .count .given .1)) (put .put-count .ensures)
 
 same-length-2 : tie.Need-same-length-2
 same-length-2 c = search needs
@@ -40,7 +40,7 @@ returns-2 : tie.Need-returns-2
 returns-2 c =
     let put = c .before .before in
     let known = put .before .before .before in
-    rw (firstLine-refused _ _ (known .before .before .check-book .ensures) _ (known .refusal .given .1)) (put .put-refused-book .ensures)
+    rw (firstLine-refused _ _ _ (known .before .before .check-book .ensures) _ (known .refusal .given .1)) (put .put-refused-book .ensures)
 
 pub put-first-spec : {M : Type 1} → statement M
 put-first-spec =

@@ -18,7 +18,7 @@ after c = omega (arith, c .if1 .left)
 put-first-requires : tie.Need-put-first-requires
 put-first-requires c κs =
     let start = c .before .before .before .before .before in
-    omega (arith, length-firstLine-le (now (start .args .book)), start .pre .3)
+    omega (arith, length-firstLine-le (start .args .edition) (now (start .args .book)), start .pre .3)
 
 same-length : tie.Need-same-length
 same-length c = search needs
@@ -26,7 +26,7 @@ same-length c = search needs
 returns : tie.Need-returns
 returns c =
     let put = c .before .before in
-    rw (line-first _ _ (put .before .before .if1 .taken)) (put .put-first .ensures)
+    rw (line-first _ _ _ (put .before .before .if1 .taken)) (put .put-first .ensures)
 
 sub-preset-at : tie.Need-sub-preset-at
 sub-preset-at c = c .before .before .before .before .pre .2 .begins
@@ -48,10 +48,15 @@ put-preset-requires : tie.Need-put-preset-requires
 put-preset-requires c κs =
     let other = c .before .before in
     let start = other .before .before .before .before in
-    let pre = start .pre in (
-      held-preset _ _ _ _ _ _ (pre .1) (pre .2) (after other) (c .before .preset-at .ensures),
-      rw (← line-preset (now (start .args .book)) (start .args .i) (after other))
-          (omega (arith, length-line-le (now (start .args .book)) (start .args .i) (pre .0), pre .3)),
+    let pre = start .pre in
+    let a = start .args in
+    let read = held-preset _ _ _ _ _ _ _ (pre .1) (pre .2) (after other) (c .before .preset-at .ensures) in (
+      a .edition,
+      (
+        read,
+        rw (← line-preset (a .edition) (now (a .book)) (a .i) _ (after other) read)
+            (omega (arith, length-line-le (a .edition) (now (a .book)) (a .i) (pre .0), pre .3)),
+      ),
     )
 
 same-length-2 : tie.Need-same-length-2
@@ -60,7 +65,10 @@ same-length-2 c = search needs
 returns-2 : tie.Need-returns-2
 returns-2 c =
     let put = c .before .before in
-    rw (line-preset _ _ (after (put .before .before .before))) (put .put-preset .ensures)
+    let other = put .before .before .before in
+    let pre = other .before .before .before .before .pre in
+    let read = held-preset _ _ _ _ _ _ _ (pre .1) (pre .2) (after other) (put .before .before .preset-at .ensures) in
+    rw (line-preset _ _ _ _ (after other) read) (put .put-preset .ensures)
 
 pub put-nth-spec : {M : Type 1} → statement M
 put-nth-spec =

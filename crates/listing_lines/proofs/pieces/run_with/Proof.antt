@@ -12,7 +12,7 @@ returns c = search needs
 returns-2 : tie.Need-returns-2
 returns-2 c =
     let pre = c .before .before .before .before .pre in
-    (pre .3, held-ready _ _ _ _ _ (pre .3) (pre .1) (c .if2 .taken))
+    (pre .3, held-ready _ _ _ _ _ _ (pre .3) (pre .1) (c .if2 .taken))
 
 sub-read-presets : tie.Need-sub-read-presets
 sub-read-presets c = search needs
@@ -34,12 +34,12 @@ returns-3 c =
     let read = c .before .before .before .before in
     let other = read .before .before .before in
     let pre = other .before .before .before .pre in
-    absurd (held-never _ _ _ _ _ (read .read-presets .ensures) (omega (arith, other .if1 .left)) _ (pre .0) (pre .2) (c .enum-told .given .1))
+    absurd (held-never _ _ _ _ _ _ (read .read-presets .ensures) (omega (arith, other .if1 .left)) _ (pre .0) (pre .2) (c .enum-told .given .1))
 
-add-t9 : tie.Need-add-t9
-add-t9 c =
+add-reached : tie.Need-add-reached
+add-reached c =
     let read = c .before .before .before .before .before in
-    omega (arith, held-small _ _ _ _ _ (read .read-presets .ensures) (omega (arith, read .before .before .before .if1 .left)) _ (c .before .n .given .1))
+    omega (arith, held-small _ _ _ _ _ _ (read .read-presets .ensures) (omega (arith, read .before .before .before .if1 .left)) _ (c .before .n .given .1))
 
 same-length-2 : tie.Need-same-length-2
 same-length-2 c = search needs
@@ -47,7 +47,7 @@ same-length-2 c = search needs
 returns-4 : tie.Need-returns-4
 returns-4 c =
     let read = c .before .before .before .before .before in
-    held-read _ _ _ _ _ (read .read-presets .ensures) (omega (arith, read .before .before .before .if1 .left)) _ (c .before .n .given .1)
+    held-read _ _ _ _ _ _ (read .read-presets .ensures) (omega (arith, read .before .before .before .if1 .left)) _ (c .before .n .given .1)
 
 pub run-with-spec : {M : Type 1} → statement M
 run-with-spec =
@@ -61,6 +61,6 @@ run-with-spec =
     enum-told
     same-length
     returns-3
-    add-t9
+    add-reached
     same-length-2
     returns-4)

@@ -5,14 +5,14 @@ use denote.Ref.{now}
 use native.Mathlib.Omega.{arith}
 use borrow.Author.Needs.{needs}
 use Rattle.book_format.proofs.PresetLaws.{Found, found, found-rank, found-word, found-inside, found-small}
-use Rattle.listing_lines.proofs.presets.PresetLines.{lineOf-found, lineOf-refused}
+use Rattle.listing_lines.proofs.presets.PresetLines.{lineBy-found, lineBy-refused}
 use Rattle.listing_lines.proofs.presets.put_preset.Statement.{statement}
 use Rattle.listing_lines.proofs.presets.put_preset.Tie as tie
 
 -- the preset that was found
 preset : (c : tie.After-answer)
-    → let a = c .before .before .before .before .args in let g = c .answer .given .0 in Found (now (a .book)) (a .number) (g .0) (g .1 .0) (g .1 .1 .0) (g .1 .1 .1 .0)
-preset c = found _ _ _ _ _ _ (sym (c .answer .given .1) ∙ c .before .before .before .before .pre .0)
+    → let a = c .before .before .before .before .args in let g = c .answer .given .0 in Found (c .before .before .before .before .pre .0) (now (a .book)) (a .number) (g .0) (g .1 .0) (g .1 .1 .0) (g .1 .1 .1 .0)
+preset c = found _ _ _ _ _ _ _ (sym (c .answer .given .1) ∙ c .before .before .before .before .pre .1 .0)
 
 enum-known-answer : tie.Need-enum-known-answer
 enum-known-answer c = search needs
@@ -26,8 +26,8 @@ refusal-of-requires c κs = search needs
 put-refused-requires : tie.Need-put-refused-requires
 put-refused-requires c κs =
     let told = c .before .before in
-    let pre = told .before .before .before .before .pre in
-    rw (lineOf-refused _ _ _ _ _ (pre .0) (told .enum-told .given .1) (c .before .refusal-of .ensures)) (pre .1)
+    let start = told .before .before .before .before in
+    rw (lineBy-refused (now (start .args .book)) (start .args .number) _ _ _ (told .enum-told .given .1) (c .before .refusal-of .ensures)) (start .pre .1 .1)
 
 same-length : tie.Need-same-length
 same-length c = search needs
@@ -37,11 +37,11 @@ returns c =
     let put = c .before .before in
     let called = put .before .before in
     let told = called .before in
-    let pre = told .before .before .before .before .pre in
-    rw (lineOf-refused _ _ _ _ _ (pre .0) (told .enum-told .given .1) (called .refusal-of .ensures)) at (put .put-refused .ensures)
+    let a = told .before .before .before .before .args in
+    rw (lineBy-refused (now (a .book)) (a .number) _ _ _ (told .enum-told .given .1) (called .refusal-of .ensures)) at (put .put-refused .ensures)
 
 add-end : tie.Need-add-end
-add-end c = omega (arith, found-small _ _ _ _ _ _ (preset (c .before)))
+add-end c = omega (arith, found-small _ _ _ _ _ _ _ (preset (c .before)))
 
 sub-put-word : tie.Need-sub-put-word
 sub-put-word c = search needs
@@ -50,14 +50,14 @@ part-put-word-start : tie.Need-part-put-word-start
 part-put-word-start c = search needs
 
 part-put-word-end : tie.Need-part-put-word-end
-part-put-word-end c = found-inside _ _ _ _ _ _ (preset (c .before))
+part-put-word-end c = found-inside _ _ _ _ _ _ _ (preset (c .before))
 
 put-word-requires : tie.Need-put-word-requires
 put-word-requires c κs =
     let told = c .before .before .before in
     let f = preset told in
     let pre = told .before .before .before .before .pre in
-    (found-rank _ _ _ _ _ _ f, found-word _ _ _ _ _ _ f, rw (lineOf-found _ _ _ _ _ _ _ (pre .0) (told .answer .given .1)) (pre .1))
+    (found-rank _ _ _ _ _ _ _ f, found-word _ _ _ _ _ _ _ f, rw (lineBy-found _ _ _ _ _ _ _ (told .answer .given .1)) (pre .1 .1))
 
 same-length-2 : tie.Need-same-length-2
 same-length-2 c = search needs
@@ -66,8 +66,7 @@ returns-2 : tie.Need-returns-2
 returns-2 c =
     let put = c .before .before in
     let told = put .before .before .before .before in
-    let pre = told .before .before .before .before .pre in
-    rw (lineOf-found _ _ _ _ _ _ _ (pre .0) (told .answer .given .1)) at (put .put-word .ensures)
+    rw (lineBy-found _ _ _ _ _ _ _ (told .answer .given .1)) at (put .put-word .ensures)
 
 pub put-preset-spec : {M : Type 1} → statement M
 put-preset-spec =

@@ -1,4 +1,4 @@
--- `presets::winnathey_preset` goes by the cases of the answer, and stores the four fields one after the other.
+-- `presets::read` goes by the cases of the answer, and stores the four fields one after the other.
 -- Assumes nothing.
 use mathlib.Core.Path.{_∙_}
 use native.Mathlib.Omega.{arith}
@@ -7,8 +7,8 @@ use borrow.Author.Needs.{needs}
 use Rattle.c_api.specs.Calls.{refused}
 use Rattle.c_api.proofs.Lengths.{i64-back}
 use Rattle.c_api.proofs.Outcomes.{fields-refused, fields-short, fields-written}
-use Rattle.c_api.proofs.presets.winnathey_preset.Statement.{statement}
-use Rattle.c_api.proofs.presets.winnathey_preset.Tie as tie
+use Rattle.c_api.proofs.presets.read.Statement.{statement}
+use Rattle.c_api.proofs.presets.read.Tie as tie
 
 check-preset-requires : tie.Need-check-preset-requires
 check-preset-requires c κs = search needs
@@ -20,7 +20,7 @@ returns : tie.Need-returns
 unfolding refused
 returns c =
     let told = c .before .before in
-    fields-short _ _ _ _ (told .before .before .check-preset .ensures) _ _ _ _ (told .kind .given .1) (c .if1 .taken)
+    fields-short _ _ _ _ _ (told .before .before .check-preset .ensures) _ _ _ _ (told .kind .given .1) (c .if1 .taken)
 
 cast-fields : tie.Need-cast-fields
 cast-fields c = search needs
@@ -52,16 +52,16 @@ same-length c = search needs
 returns-2 : tie.Need-returns-2
 returns-2 c =
     let told = c .before .before in
-    fields-written _ _ _ _ (told .before .before .check-preset .ensures) _ _ _ _ (told .kind .given .1) (c .if1 .left)
+    fields-written _ _ _ _ _ (told .before .before .check-preset .ensures) _ _ _ _ (told .kind .given .1) (c .if1 .left)
 
 returns-3 : tie.Need-returns-3
 returns-3 c =
     let told = c .before .before in
-    let f = fields-refused _ _ _ _ (told .before .before .check-preset .ensures) _ (told .k .given .1) in
+    let f = fields-refused _ _ _ _ _ (told .before .before .check-preset .ensures) _ (told .k .given .1) in
     (i64-back _ (c .refusal .ok) ∙ c .refusal .ensures ∙ f .0, f .1)
 
-pub winnathey-preset-spec : {M : Type 1} → statement M
-winnathey-preset-spec =
+pub read-spec : {M : Type 1} → statement M
+read-spec =
     tie.close
     (tie.spec
     check-preset-requires

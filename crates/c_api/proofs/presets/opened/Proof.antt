@@ -1,11 +1,11 @@
--- `presets::winnathey_book_check` goes by the cases of the answer; a book of at most 65,535 bytes has fewer presets.
+-- `presets::opened` goes by the cases of the answer; a book of at most 65,535 bytes has fewer presets.
 -- Assumes nothing.
 use mathlib.Core.Path.{_∙_}
 use borrow.Author.Needs.{needs}
 use Rattle.c_api.specs.Calls.{openedNumber}
 use Rattle.c_api.proofs.Lengths.{i64-back, presets-small}
-use Rattle.c_api.proofs.presets.winnathey_book_check.Statement.{statement}
-use Rattle.c_api.proofs.presets.winnathey_book_check.Tie as tie
+use Rattle.c_api.proofs.presets.opened.Statement.{statement}
+use Rattle.c_api.proofs.presets.opened.Tie as tie
 
 check-book-requires : tie.Need-check-book-requires
 check-book-requires c κs = search needs
@@ -14,7 +14,7 @@ enum-known-c : tie.Need-enum-known-c
 enum-known-c c = search needs
 
 size-requires : tie.Need-size-requires
-size-requires c κs = presets-small _ _ _ (c .before .before .before .check-book .ensures) (c .before .c .given .1)
+size-requires c κs = presets-small _ _ _ _ (c .before .before .before .check-book .ensures) (c .before .c .given .1)
 
 enum-known-k : tie.Need-enum-known-k
 enum-known-k c = search needs
@@ -34,8 +34,8 @@ returns-2 c =
     let told = c .before .before in
     rw (← told .before .before .check-book .ensures, told .k .given .1) (i64-back _ (c .refusal .ok) ∙ c .refusal .ensures)
 
-pub winnathey-book-check-spec : {M : Type 1} → statement M
-winnathey-book-check-spec =
+pub opened-spec : {M : Type 1} → statement M
+opened-spec =
     tie.close
     (tie.spec
     check-book-requires

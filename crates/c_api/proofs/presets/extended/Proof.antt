@@ -1,11 +1,11 @@
--- `presets::winnathey_append` answers the number of the call below it, which fits: a book has at most 65,535 bytes.
+-- `presets::extended` answers the number of the call below it, which fits: a book has at most 65,535 bytes.
 -- Assumes nothing.
 use mathlib.Core.Path.{sym, _∙_}
 use borrow.Author.Needs.{needs}
 use Rattle.c_api.proofs.Lengths.{appending-small}
 use Rattle.c_api.proofs.Bytes.{appending-refusable, yielded}
-use Rattle.c_api.proofs.presets.winnathey_append.Statement.{statement}
-use Rattle.c_api.proofs.presets.winnathey_append.Tie as tie
+use Rattle.c_api.proofs.presets.extended.Statement.{statement}
+use Rattle.c_api.proofs.presets.extended.Tie as tie
 
 byte-requires : tie.Need-byte-requires
 byte-requires c κs = search needs
@@ -17,7 +17,7 @@ append-requires : tie.Need-append-requires
 append-requires c κs = search needs
 
 number-requires : tie.Need-number-requires
-number-requires c κs l e = appending-small _ _ _ _ _ l (sym (c .before .before .append .ensures .0) ∙ e)
+number-requires c κs l e = appending-small _ _ _ _ _ _ l (sym (c .before .before .append .ensures .0) ∙ e)
 
 same-length : tie.Need-same-length
 same-length c = search needs
@@ -27,7 +27,7 @@ returns c =
     let below = c .before .before .before in
     let rank = below .before .before in
     let kind = rank .before in
-    yielded (appending-refusable _ _ _) _ _ _ _ _ _ _ (kind .byte .ensures) (rank .byte2 .ensures) (c .number .ok) (c .number .ensures) (below .append .ensures)
+    yielded (appending-refusable _ _ _ _) _ _ _ _ _ _ _ (kind .byte .ensures) (rank .byte2 .ensures) (c .number .ok) (c .number .ensures) (below .append .ensures)
 
-pub winnathey-append-spec : {M : Type 1} → statement M
-winnathey-append-spec = tie.close (tie.spec byte-requires byte-requires-2 append-requires number-requires same-length returns)
+pub extended-spec : {M : Type 1} → statement M
+extended-spec = tie.close (tie.spec byte-requires byte-requires-2 append-requires number-requires same-length returns)

@@ -1,0 +1,84 @@
+// What the editions of a book differ in: the place of a record's letter count, its lane count, and the ranges of its ranks.
+use book_format::Edition;
+use refusals::lanes;
+use window::rank_refusal;
+ghost use mathlib.Core.Path.{_≡_};
+ghost use Prim.Native.Nat.{_+_, _≤_, _<_};
+ghost use lib.ListN.{length};
+ghost use lib.Seq.{sets};
+ghost use Rattle.coxeter.specs.Kinds as kinds;
+ghost use Rattle.coxeter.specs.Kinds.{kindOf};
+ghost use Rattle.book_format.specs.Books.{countPlace, greatestInBook, bookRankRefusal, wrongLaneCount, laneByte};
+
+// Where a record has its letter count. Its letters begin two bytes later.
+pub(crate) fn count_place(edition: Edition) -> usize
+    ensures { λ r. ⌜ (r ≡ countPlace edition) × (2 ≤ r) × (r ≤ 3) ⌝ }
+{
+    match edition {
+        Edition::First => 2,
+        Edition::Second => 3,
+    }
+}
+
+// The greatest rank of a record.
+fn greatest(edition: Edition, kind: u8) -> u8
+    ensures { λ r. ⌜ r ≡ greatestInBook edition (kindOf kind) ⌝ }
+{
+    match edition {
+        Edition::First => {
+            if kind == 1 {
+                return 31;
+            }
+            32
+        }
+        Edition::Second => {
+            if kind == 1 {
+                return 63;
+            }
+            64
+        }
+    }
+}
+
+// Answers 5 where the kind is not 1, 2 or 3, else 6 where the rank is outside the range of a record, else 0.
+pub(crate) fn book_rank_refusal(edition: Edition, kind: u8, rank: u8) -> u8
+    ensures { λ r. ⌜ r ≡ bookRankRefusal edition kind rank ⌝ }
+{
+    let r = rank_refusal(kind, rank);
+    if r != 0 {
+        return r;
+    }
+    if greatest(edition, kind) < rank {
+        return 6;
+    }
+    0
+}
+
+// Check 17, of the record at byte o. The first edition has no lane count that could be wrong.
+pub(crate) fn has_wrong_lanes(edition: Edition, book: &[u8], o: usize) -> bool
+    requires { ⌜ o + countPlace edition ≤ length (now book) ⌝ }
+    requires { ⌜ length (now book) ≤ 65535 ⌝ }
+    ensures { λ r. ⌜ r ≡ wrongLaneCount edition (now (book .entry)) o ⌝ }
+{
+    match edition {
+        Edition::First => false,
+        Edition::Second => {
+            let written = book[o + 2] as usize;
+            let due = lanes(book[o], book[o + 1]);
+            written != due
+        }
+    }
+}
+
+// The lane count of a kind and a rank written at p, where the edition has one.
+pub(crate) fn put_lanes(edition: Edition, kind: u8, rank: u8, out: &mut [u8], p: usize)
+    requires { ⌜ (rank ≤ 64) × (p < length (now out)) ⌝ }
+    ensures { λ _. ⌜ now (out .exit) ≡ sets (now (out .entry)) p (laneByte edition (kinds.lanes (kindOf kind) rank)) ⌝ }
+{
+    match edition {
+        Edition::First => {}
+        Edition::Second => {
+            out[p] = lanes(kind, rank) as u8;
+        }
+    }
+}

@@ -1,0 +1,24 @@
+-- `presets::read_run` answers the number of the call below it, which fits: a book of at most 65,535 bytes has fewer presets.
+-- Assumes nothing.
+use mathlib.Core.Path.{sym, _∙_}
+use borrow.Author.Needs.{needs}
+use Rattle.c_api.proofs.Lengths.{answered, readingPresets-small}
+use Rattle.c_api.proofs.presets.read_run.Statement.{statement}
+use Rattle.c_api.proofs.presets.read_run.Tie as tie
+
+read-presets-requires : tie.Need-read-presets-requires
+read-presets-requires c κs = search needs
+
+number-requires : tie.Need-number-requires
+number-requires c κs l e = readingPresets-small _ _ _ _ l (sym (c .before .before .read-presets .ensures .0) ∙ e)
+
+same-length : tie.Need-same-length
+same-length c = search needs
+
+returns : tie.Need-returns
+returns c =
+    let below = c .before .before .before .read-presets .ensures in
+    (answered _ _ _ (c .number .ok) (c .number .ensures) (below .0), below .1)
+
+pub read-run-spec : {M : Type 1} → statement M
+read-run-spec = tie.close (tie.spec read-presets-requires number-requires same-length returns)
