@@ -184,7 +184,7 @@ none-of-answer (noneFits e h) a = e
 none-of-answer (past h) a = let z : _≡_ {A = ℕ} 0 1 = cc in absurd (omega arith)
 none-of-answer (short x e h q) a = let z : _≡_ {A = ℕ} 0 1 = cc in absurd (omega arith)
 
-answer-of-none : {k : Kind} {n : ℕ} {u : List ℕ} {p : ℕ} {out : List ℕ} {s : Step} → Stepped k n u p out s → p < length u
+pub answer-of-none : {k : Kind} {n : ℕ} {u : List ℕ} {p : ℕ} {out : List ℕ} {s : Step} → Stepped k n u p out s → p < length u
     → firstFitting (rules k n) u p ≡ none → s .answer ≡ NoneFits
 answer-of-none (used x e h q) l a = absurd (Option·none-ne-some x (sym a ∙ e))
 answer-of-none (noneFits e h) l a = refl

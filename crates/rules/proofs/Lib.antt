@@ -19,3 +19,5 @@ pub mod Vectors
 pub mod Demand3
 pub mod Sentences
 pub mod Theorems
+pub mod Traces
+pub mod Replays
