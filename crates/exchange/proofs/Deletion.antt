@@ -30,18 +30,18 @@ use Rattle.exchange.proofs.Exchange.{window-snoc, exchange}
 
 -- ---- two letters
 
-dropAt-append : (i : ℕ) (x y : List ℕ) → i < length x → dropAt i (x ++ y) ≡ dropAt i x ++ y
+pub dropAt-append : (i : ℕ) (x y : List ℕ) → i < length x → dropAt i (x ++ y) ≡ dropAt i x ++ y
 unfolding dropAt
 dropAt-append i [] y h = absurd (omega arith)
 dropAt-append zero (a ∷ x) y h = refl
 dropAt-append (suc i) (a ∷ x) y h = ap (λ (l : List ℕ). a ∷ l) (dropAt-append i x y (omega arith))
 
-dropAt-seam : (x : List ℕ) (s : ℕ) (y : List ℕ) → dropAt (length x) (x ++ (s ∷ y)) ≡ x ++ y
+pub dropAt-seam : (x : List ℕ) (s : ℕ) (y : List ℕ) → dropAt (length x) (x ++ (s ∷ y)) ≡ x ++ y
 unfolding dropAt
 dropAt-seam [] s y = refl
 dropAt-seam (a ∷ x) s y = ap (λ (l : List ℕ). a ∷ l) (dropAt-seam x s y)
 
-window-from : (k : Kind) (n : ℕ) (u v : List ℕ) → window k n (u ++ v) ≡ windowFrom k n (window k n u) v
+pub window-from : (k : Kind) (n : ℕ) (u v : List ℕ) → window k n (u ++ v) ≡ windowFrom k n (window k n u) v
 unfolding window
 window-from k n u v = windowFrom-append k n (straight (lanes k n)) u v
 

@@ -51,7 +51,7 @@ pub window-snoc : (k : Kind) (n : ℕ) (u : List ℕ) (s : ℕ) → window k n (
 unfolding window windowFrom
 window-snoc k n u s = windowFrom-append k n (straight (lanes k n)) u (s ∷ [])
 
-window-twice : (k : Kind) (n s : ℕ) (u : List ℕ) → window k n (s ∷ s ∷ u) ≡ window k n u
+pub window-twice : (k : Kind) (n s : ℕ) (u : List ℕ) → window k n (s ∷ s ∷ u) ≡ window k n u
 unfolding window windowFrom
 window-twice k n s u = ap (λ (w : List ℤ). windowFrom k n w u) (act-involution k n s (straight (lanes k n)))
 

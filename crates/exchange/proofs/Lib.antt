@@ -4,6 +4,8 @@ pub mod Carrying
 pub mod Shortest
 pub mod Exchange
 pub mod Deletion
+pub mod LeastWords
+pub mod Inserting
 pub mod Places
 pub mod Shortening
 pub mod Lifting
@@ -15,5 +17,7 @@ pub mod Splitting
 pub mod Stripping
 pub mod FarSteps
 pub mod Between
+pub mod Reading
+pub mod Tracing
 pub mod Theorems
 pub mod Vectors

@@ -165,7 +165,7 @@ rule-lowers {k} {n} {l} {r} q x y e =
 
 -- ---- the dictionary
 
-before-append : (x u v : List ℕ) → before (x ++ u) (x ++ v) ≡ before u v
+pub before-append : (x u v : List ℕ) → before (x ++ u) (x ++ v) ≡ before u v
 before-append [] u v = refl
 before-append (a ∷ x) u v = before-cons a (x ++ u) (x ++ v) ∙ before-append x u v
 

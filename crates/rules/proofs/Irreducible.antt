@@ -64,7 +64,7 @@ extended-word k n c i j (x ∷ u) e o h g m s t =
 
 -- ---- all levels
 
-block-empty : (k : Kind) (n i : ℕ) → i < n → block k n (suc i) i ≡ []
+pub block-empty : (k : Kind) (n i : ℕ) → i < n → block k n (suc i) i ≡ []
 block-empty k n i h = block-up k n (suc i) i h ∙ span-nil (suc i) (suc i) (omega arith)
 
 -- a word of blocks of the levels from i on, or reducible

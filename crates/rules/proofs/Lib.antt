@@ -21,3 +21,6 @@ pub mod Sentences
 pub mod Theorems
 pub mod Traces
 pub mod Replays
+pub mod BlockWords
+pub mod LeftSides
+pub mod Endings

@@ -5,21 +5,21 @@
 -- Sections: one step of an accepted word; replaying; only one replay; the number of steps.
 -- Assumes nothing.
 use mathlib.Core.Path.{_≡_, refl, sym, ap, ap₂, subst, _∙_}
-use mathlib.Core.Bool.{true, false, true≢false}
-use mathlib.Core.List.{List, [], _∷_, _++_}
-use mathlib.Core.Option.{Option, none, some, Option·none-ne-some}
-use Prim.Native.Nat.{ℕ, suc, _+_, _≤_, _<_}
+use mathlib.Core.Bool.{false, true≢false}
+use mathlib.Core.List.{List, [], _∷_}
+use mathlib.Core.Option.{none}
+use Prim.Native.Nat.{ℕ, suc, _+_, _≤_}
 use native.Mathlib.Omega.{arith}
 use lib.ListN.{length, take, drop, replicate, length-replicate}
 use lib.Seq.{take-append-seam}
 use borrow.Author.Tests.{le-ltb, lt-leb}
 use Rattle.coxeter.specs.Kinds.{kindOf}
-use Rattle.coxeter.specs.Checks.{wrongLetter, tooShort}
+use Rattle.coxeter.specs.Checks.{tooShort}
 use Rattle.rules.specs.declared.Rewrite.{Rewrite}
-use Rattle.rules.specs.declared.Rewrite.the-variants.{Used, NoneFits, Refused}
-use Rattle.rules.specs.Rules.{Rule, rules, firstFitting, rewritten}
+use Rattle.rules.specs.declared.Rewrite.the-variants.{Used}
+use Rattle.rules.specs.Rules.{rules, firstFitting}
 use Rattle.rules.specs.Calls.{pastEnd, Step, atFront, usedStep, step, Rewrote}
-use Rattle.rules.specs.Runs.{AcceptedWord, Lent, Call, wordAfter, Run, uses}
+use Rattle.rules.specs.Runs.{AcceptedWord, Call, wordAfter, Run, uses}
 use Rattle.rules.specs.Demand3.{IsUsed, Demand3}
 use Rattle.rules.specs.Traces.{Use, lowestUse, Line, Trace, trace, NoneFitsBelow, Replays}
 use Rattle.rules.proofs.Fits.{firstFitting-some, firstFitting-none, none-firstFitting}
@@ -161,7 +161,8 @@ record Replay (k n : ℕ) (u : List ℕ) (t : Trace) : Type 0 where
   run : Run k n u calls
   counted : uses calls ≡ length (t .lines)
 
-replay-goes : (k n : ℕ) (u : List ℕ) (h : AcceptedWord k n u) (s : Use) → Lowest (kindOf k) n u s → Replay k n (after u s) (trace (kindOf k) n (after u s))
+replay-goes : (k n : ℕ) (u : List ℕ) (h : AcceptedWord k n u) (s : Use) → Lowest (kindOf k) n u s
+    → Replay k n (after u s) (trace (kindOf k) n (after u s))
     → Replay k n u (continued u s (trace (kindOf k) n (after u s)))
 unfolding wordAfter uses usedStep
 replay-goes k n u h s a r =

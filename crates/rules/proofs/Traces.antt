@@ -5,20 +5,17 @@
 -- Sections: the lowest place; one step; enough steps; one step of the whole; the end; the number of steps; replaying; only one replay; refusals.
 -- Assumes nothing.
 use mathlib.Core.Path.{_≡_, refl, sym, ap, ap₂, subst, _∙_}
-use mathlib.Core.Bool.{true, false}
+use mathlib.Core.Bool.{false}
 use mathlib.Core.Logic.{_⊎_, inl, inr, ⊎-elim}
-use mathlib.Core.List.{List, [], _∷_, _++_}
+use mathlib.Core.List.{List, [], _∷_}
 use mathlib.Core.Option.{Option, none, some, Option·some-injective, Option·none-ne-some}
 use Prim.Native.Nat.{ℕ, zero, suc, _+_, _-_, _*_, _^_, _≤_, _<_}
 use native.Mathlib.Nat.{lt-of-not-le, lt-of-lt-of-le, add-mul, mul-assoc, mul-le-mul-right, pow-zero, pow-succ'}
 use native.Mathlib.Decide.{decLe}
 use native.Mathlib.Omega.{arith}
-use lib.ListN.{length, take, drop}
-use lib.Seq.{take-append-seam}
-use borrow.Author.Tests.{le-ltb}
-use Rattle.coxeter.specs.Kinds.{Kind, kindOf, least}
-use Rattle.coxeter.specs.Windows.{window}
-use Rattle.coxeter.specs.Checks.{wrongLetter, tooShort}
+use lib.ListN.{length}
+use Rattle.coxeter.specs.Kinds.{Kind, least}
+use Rattle.coxeter.specs.Checks.{wrongLetter}
 use Rattle.coxeter.specs.NormalForm.{normalForm, wordNormalForm}
 use Rattle.rules.specs.Rules.{Rule, rules, firstFitting, rewritten, Irreducible}
 use Rattle.rules.specs.Traces.{Use, lowestFrom, lowestUse, Line, Trace, traceWithin, trace}
@@ -206,8 +203,10 @@ module _ (k : Kind) (n : ℕ) (h : least k ≤ n) where
       ∙ ap (continued u s) (trace-enough v (lowers k n h u s e d .0) t (omega arith))
 
   -- what holds where none fits, and of a word if it holds after its step, holds of every word of steps
-  module _ (P : List ℕ → Trace → Type 0) (ends : (u : List ℕ) → wrongLetter n u ≡ false → lowestUse k n u ≡ none → P u (record { lines = []; final = u }))
-      (goes : (u : List ℕ) (s : Use) → wrongLetter n u ≡ false → Lowest k n u s → P (after u s) (trace k n (after u s)) → P u (continued u s (trace k n (after u s)))) where
+  module _ (P : List ℕ → Trace → Type 0)
+      (ends : (u : List ℕ) → wrongLetter n u ≡ false → lowestUse k n u ≡ none → P u (record { lines = []; final = u }))
+      (goes : (u : List ℕ) (s : Use) → wrongLetter n u ≡ false → Lowest k n u s → P (after u s) (trace k n (after u s))
+      → P u (continued u s (trace k n (after u s)))) where
     below : (t : ℕ) (u : List ℕ) → wrongLetter n u ≡ false → value n u < t → P u (trace k n u)
     below zero u e g = absurd (omega arith)
     below (suc t) u e g = go (lowestUse k n u) refl (λ v. below t v)

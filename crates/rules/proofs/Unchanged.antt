@@ -84,7 +84,8 @@ data Written (t : Trace) (families places lengths out : List ℕ) : Traced → T
     bytes = atFront (t .final) out;
   })
 
-tracedBy-written : (q : ℕ) (t : Trace) (families places lengths out : List ℕ) → Written t families places lengths out (tracedBy q t families places lengths out)
+tracedBy-written : (q : ℕ) (t : Trace) (families places lengths out : List ℕ)
+    → Written t families places lengths out (tracedBy q t families places lengths out)
 unfolding tracedBy toEndOf written
 tracedBy-written q t families places lengths out =
     let r = q then check 15 (tooFewPlaces (length (t .lines)) families places lengths) then check 14 (tooShort (length (t .final)) out) in
@@ -103,7 +104,8 @@ drop-mapped m f ls out e = drop-front m (map f ls) out (length-map ls f ∙ e)
 
 written-past : {t : Trace} {families places lengths out : List ℕ} {a : Traced} (s l : ℕ) → Written t families places lengths out a
     → a .answer ≡ toEnd.Ended s l
-    → (drop s (a .families) ≡ drop s families) × (drop s (a .places) ≡ drop s places) × (drop s (a .lengths) ≡ drop s lengths) × (drop l (a .bytes) ≡ drop l out)
+    → (drop s (a .families) ≡ drop s families) × (drop s (a .places) ≡ drop s places)
+    × (drop s (a .lengths) ≡ drop s lengths) × (drop l (a .bytes) ≡ drop l out)
 written-past s l (refused r) e = let z : _≡_ {A = ℕ} 0 1 = cc in absurd (omega arith)
 written-past {t} {families} {places} {lengths} {out} s l ended e =
     let steps : length (t .lines) ≡ s = cc in

@@ -1,0 +1,108 @@
+-- What is left of a rewriting to its end while its steps are noted in three lists: how many steps there will be, what the lists will hold and which word
+-- will stand, from any word on the way. Each step noted keeps it, and at a normal form nothing is left.
+--
+-- Sections: what is left; a step; the end; a letter read.
+-- Assumes nothing.
+use mathlib.Core.Path.{_≡_, sym, ap, _∙_}
+use mathlib.Core.Bool.{false}
+use mathlib.Core.List.{List, _∷_, _++_}
+use mathlib.Core.Option.{some}
+use Prim.Native.Nat.{ℕ, suc, _+_, _-_, _≤_}
+use native.Mathlib.Nat.{add-zero, add-suc, suc-add}
+use native.Mathlib.Numerals.{add-one}
+use lib.ListN.{length, take, set, length-append}
+use lib.Seq.{sets}
+use Rattle.coxeter.specs.Kinds.{Kind, least}
+use Rattle.coxeter.specs.Checks.{wrongLetter}
+use Rattle.rules.specs.Traces.{Use, lowestUse, Line, Trace, trace, familiesOf, placesOf, lengthsOf}
+use Rattle.rules.proofs.Traces.{after, lineOf, lowest-is, none-of-irreducible, trace-none, trace-some}
+use Rattle.exchange.proofs.LeastWords.{letters-append, Normal}
+use Rattle.exchange.proofs.Reading.{Reading, reading-lowest, after-rest}
+
+-- ---- what is left
+
+-- the number of steps, what the lists hold and the word, at the end
+pub record Finished : Type 0 where
+  pub steps : ℕ
+  pub families : List ℕ
+  pub places : List ℕ
+  pub lengths : List ℕ
+  pub final : List ℕ
+
+-- after s steps that are noted in the lists, the steps of t are noted behind them
+unfoldable pub finishWith : ℕ → List ℕ → List ℕ → List ℕ → Trace → Finished
+finishWith s families places lengths t = record {
+  steps = s + length (t .lines);
+  families = sets families s (familiesOf (t .lines));
+  places = sets places s (placesOf (t .lines));
+  lengths = sets lengths s (lengthsOf (t .lines));
+  final = t .final;
+}
+
+-- the steps of the rewriting of u
+abbrev pub finish : Kind → ℕ → ℕ → List ℕ → List ℕ → List ℕ → List ℕ → Finished
+finish k n s families places lengths u = finishWith s families places lengths (trace k n u)
+
+-- ---- a step
+
+module _ (s : ℕ) (families places lengths : List ℕ) where
+  with-line : (l : Line) (t : Trace) → finishWith s families places lengths (record { lines = l ∷ t .lines; final = t .final })
+      ≡ finishWith (s + 1) (set families s (l .family)) (set places s (l .place)) (set lengths s (l .left)) t
+  unfolding finishWith
+  with-line l t = rw add-one (λ i. record {
+    steps = (add-suc s (length (t .lines)) ∙ sym (suc-add s (length (t .lines)))) i;
+    families = sets (set families s (l .family)) (suc s) (familiesOf (t .lines));
+    places = sets (set places s (l .place)) (suc s) (placesOf (t .lines));
+    lengths = sets (set lengths s (l .left)) (suc s) (lengthsOf (t .lines));
+    final = t .final;
+  })
+
+  module _ (k : Kind) (n : ℕ) (h : least k ≤ n) where
+    pub finish-step : (z : List ℕ) (q : ℕ) (rest : List ℕ) → Reading k n z q → wrongLetter n rest ≡ false → (u : Use)
+        → lowestUse k n (take (suc q) z) ≡ some u
+        → finish k n s families places lengths (z ++ rest)
+        ≡ finish k n (s + 1) (set families s (u .rule .family)) (set places s (u .place)) (set lengths s (length (after z u) + length rest)) (after z u ++ rest)
+    finish-step z q rest r l u e =
+        let b = after-rest k n h z q r u e rest in
+        let c : length (after (z ++ rest) u) ≡ length (after z u) + length rest = ap length b ∙ length-append (after z u) rest in
+        ap (finishWith s families places lengths)
+        (trace-some k n h (z ++ rest) u (letters-append n z rest (r .letters) l) (lowest-is k n (z ++ rest) u (reading-lowest k n h z q r u e rest)))
+        ∙ with-line (lineOf (z ++ rest) u) (trace k n (after (z ++ rest) u))
+        ∙ rw (c, b)
+
+    -- ---- the end
+
+    pub finish-end : (w : List ℕ) → Normal k n w
+        → finish k n s families places lengths w ≡ record { steps = s; families = families; places = places; lengths = lengths; final = w }
+    unfolding finishWith
+    finish-end w m = rw (trace-none k n h w (none-of-irreducible k n w (m .irreducible))) (λ i. record {
+      steps = add-zero s i;
+      families = families;
+      places = places;
+      lengths = lengths;
+      final = w;
+    })
+
+-- ---- a letter read
+
+-- the last letter of `word` was read behind a normal form; the rest follows, and s steps were made before
+pub record Insertable (k : Kind) (n : ℕ) (rest : List ℕ) (s : ℕ) (word : List ℕ) : Type 0 where
+  pub rank : least k ≤ n
+  pub high : n ≤ 64
+  pub reading : Reading k n word (length word - 1)
+  pub letters : wrongLetter n rest ≡ false
+  pub short : length word + length rest ≤ 4096
+  pub room : s + length (trace k n (word ++ rest) .lines) ≤ 16777216
+
+-- after its steps are noted, a normal form of `size` letters stands at the front of `after`
+pub record Inserted (k : Kind) (n : ℕ) (rest : List ℕ) (s : ℕ) (families places lengths word : List ℕ) (s′ : ℕ)
+    (families′ places′ lengths′ word′ : List ℕ) (size : ℕ) : Type 0 where
+  pub inside : size ≤ length word
+  pub normal : Normal k n (take size word′)
+  pub same : finish k n s families places lengths (word ++ rest) ≡ finish k n s′ families′ places′ lengths′ (take size word′ ++ rest)
+
+-- the whole rewriting of a word was made: it has so many steps, which stand in the lists, and its final word is at the front of `work`
+pub record Made (k : Kind) (n : ℕ) (word families places lengths : List ℕ) (steps : ℕ) (families′ places′ lengths′ work : List ℕ) (size : ℕ) : Type 0 where
+  pub inside : size ≤ length work
+  pub all : finish k n 0 families places lengths word
+      ≡ record { steps = steps; families = families′; places = places′; lengths = lengths′; final = take size work }
