@@ -3,4 +3,5 @@ pub mod Lengths
 pub mod Bytes
 pub mod Outcomes
 pub mod Verdicts
+pub mod Unchanged
 pub mod Vectors
