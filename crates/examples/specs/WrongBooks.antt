@@ -12,14 +12,14 @@ use Rattle.coxeter.specs.Checks.{check, _then_, tooShort, wordRefusal}
 use Rattle.coxeter.specs.NormalForm.{wordNormalForm}
 use Rattle.coxeter.specs.Calls.{Outcome, writes}
 use Rattle.book_format.specs.declared.Edition.{Edition}
-use Rattle.book_format.specs.declared.Edition.the-variants.{First}
+use Rattle.book_format.specs.declared.Edition.the-variants.{First, Second}
 use Rattle.book_format.specs.declared.Opened.{Opened}
 use Rattle.book_format.specs.declared.Preset.{Preset}
 use Rattle.book_format.specs.Books.{two, count, trailer, offset, kindAt, rankAt, lanesAt, letterCountAt, lettersAt, endAt, wrongSize, wrongCount, misplaced}
 use Rattle.book_format.specs.Books.{noSuchPreset, bookRankRefusal, wrongLaneCount, bookRefusal, recordRefusal, presetRefusal, recordOf, appended, appendRefusal}
 use Rattle.book_format.specs.Calls.{openedOf, checkedBook, presetAt, checkedPreset, lettersStart, lettersOf}
 use Rattle.listing_text.specs.Text.{decimal, spaced, letters, kindLetter, head, tail, presetsText, refusedLine, refusedBookLine}
-use Rattle.listing_text.specs.Calls.{lineCount, line, lines, Piecing, nextPiece}
+use Rattle.listing_text.specs.Calls.{lineCount, line, lines, fitting, Piecing, nextPiece}
 
 -- ---- opening
 
@@ -48,6 +48,10 @@ stopsEarly ed b (suc t) i o = not (eqb (offset b i) o) || (ltb (trailer b) (endA
 
 abbrev pub lastRecordMayStopEarly : Edition → List ℕ → Opened
 lastRecordMayStopEarly ed = openedBy (λ b. stopsEarly ed b (count b) 0 0)
+
+-- the letters of preset 0 opened as if they were the book
+abbrev pub opensOtherBytes : Edition → List ℕ → Opened
+opensOtherBytes ed b = checkedBook ed (lettersOf ed b 0)
 
 -- ---- presets and their letters
 
@@ -79,6 +83,12 @@ abbrev pub rangesOfTheFirst : Edition → List ℕ → ℕ → Preset
 rangesOfTheFirst ed b =
     presetBy ed
     (λ o. bookRankRefusal First (kindAt b o) (rankAt b o) then check 17 (wrongLaneCount ed b o) then wordRefusal (rankAt b o) (lettersAt ed b o)) b
+
+-- the ranges of the second edition
+abbrev pub rangesOfTheSecond : Edition → List ℕ → ℕ → Preset
+rangesOfTheSecond ed b =
+    presetBy ed
+    (λ o. bookRankRefusal Second (kindAt b o) (rankAt b o) then check 17 (wrongLaneCount ed b o) then wordRefusal (rankAt b o) (lettersAt ed b o)) b
 
 -- where the part begins, and its bytes, as they should be
 abbrev pub handedOut : Edition → List ℕ → ℕ → ℕ × List ℕ
@@ -141,6 +151,14 @@ abbrev pub noPresetLine : Edition → List ℕ → ℕ → List ℕ → Piecing
 noPresetLine ed b i out =
     let text = pick (eqb i 0) (line ed b 0) [] in
     record { answer = record { next = 1; end = length text; left = 0 }; bytes = text ++ drop (length text) out }
+
+-- the last line is never written
+abbrev pub lastLineLeftOut : Edition → List ℕ → ℕ → List ℕ → Piecing
+lastLineLeftOut ed b i out =
+    let left = lineCount ed b - i in
+    let t = fitting ed b (left - 1) i (length out) in
+    let text = lines ed b t i in
+    record { answer = record { next = i + t; end = length text; left = left - t }; bytes = text ++ drop (length text) out }
 
 -- the buffer is filled to its last byte
 abbrev pub lineCutOff : Edition → List ℕ → ℕ → List ℕ → Piecing

@@ -30,14 +30,14 @@ use Rattle.examples.specs.WrongWindows.{block1Alone, entriesBeforeLanes,
 use Rattle.examples.specs.WrongWindows.{productInWrongOrder, secondWindowCheckedFirst, windowAsItsInverse, inverseWithoutSigns}
 use Rattle.examples.specs.WrongWindows.{wordsJoinedTheOtherWay, wordsJoinedUnshortened, wordAsItsInverse, reversedUnshortened}
 use Rattle.examples.specs.WrongWindows.{letterTotal, usualOrderOfAWindow, usualOrderOfAWord, negativesNotCounted, negatesBeforeItsRange}
-use Rattle.examples.specs.WrongWindows.{ranksNotCompared, kindsCompared, secondPresetRefusedFirst, better, laterWordHandedBack, windowsNotCompared, secondOfEqualWords}
+use Rattle.examples.specs.WrongWindows.{ranksNotCompared, kindsCompared, kindOfTheFirstForBoth, secondPresetRefusedFirst, better, laterWordHandedBack, windowsNotCompared, secondOfEqualWords}
 use Rattle.examples.specs.WrongRewrites.{noneFitsWithoutLooking, ruleOfBInD, family3OneTooFarInB, family4AsFamily3, replacedOnePlaceToTheLeft, placeAtTheEndAccepted, roomCheckedBeforeTheRule, wordCopiedFirst}
 use Rattle.examples.specs.WrongShortest.{verdictByLengthAlone, presentWordUnshortened, roomAskedForANo}
-use Rattle.examples.specs.WrongTables.{rank20InA, factorLeftOut, runningTotals, straightAsLongest, listWrittenFirst}
-use Rattle.examples.specs.WrongBooks.{countHighByteFirst, offsetAgainstTheTrailer, lastRecordMayStopEarly, onePresetTooMany, preset0ForEveryNumber}
-use Rattle.examples.specs.WrongBooks.{laneCountBeforeRank, laneCountIsTheRank, rangesOfTheFirst, lettersOneByteEarly, laneCountLeftOut}
+use Rattle.examples.specs.WrongTables.{rank20InA, factorLeftOut, runningTotals, straightAsLongest, roomOfTheListOnly, listWrittenFirst}
+use Rattle.examples.specs.WrongBooks.{countHighByteFirst, offsetAgainstTheTrailer, lastRecordMayStopEarly, opensOtherBytes, onePresetTooMany, preset0ForEveryNumber}
+use Rattle.examples.specs.WrongBooks.{laneCountBeforeRank, laneCountIsTheRank, rangesOfTheFirst, rangesOfTheSecond, lettersOneByteEarly, laneCountLeftOut}
 use Rattle.examples.specs.WrongBooks.{handedOut, lettersFromTheRecord, refusedPresetHandsOutLetters, lastOffsetDropped, kindAndRankExchanged}
-use Rattle.examples.specs.WrongBooks.{countWithoutLineFeed, bookRefusalAlways1, presetRefusalAlways1, lengthBeforeRank, minusLeftOut, noPresetLine, lineCutOff, lastByteUnused}
+use Rattle.examples.specs.WrongBooks.{countWithoutLineFeed, bookRefusalAlways1, presetRefusalAlways1, lengthBeforeRank, minusLeftOut, noPresetLine, lastLineLeftOut, lineCutOff, lastByteUnused}
 
 -- what a call tells: its answer, with the output afterwards if it writes one
 pub data Told : Type 0 where
@@ -121,6 +121,7 @@ table =
     -- verdicts
     ∷ differ presetsEqual ranksNotCompared (λ f. verdict (f 1 2 [] 1 3 []))
     ∷ differ presetsEqual kindsCompared (λ f. verdict (f 2 4 [] 3 4 []))
+    ∷ differ presetsEqual kindOfTheFirstForBoth (λ f. verdict (f 1 2 [] 2 2 []))
     ∷ differ presetsEqual secondPresetRefusedFirst (λ f. verdict (f 1 2 (3 ∷ []) 4 2 []))
     -- the better of two words
     ∷ differ better laterWordHandedBack (λ f. choice (f 1 2 (1 ∷ 2 ∷ 1 ∷ []) (2 ∷ 1 ∷ 2 ∷ [])))
@@ -144,17 +145,20 @@ table =
     ∷ differ delayTable factorLeftOut (λ f. tabled (f 1 1 (lent 2) (lentEntries 2) (lent 1)))
     ∷ differ delayTable runningTotals (λ f. tabled (f 1 1 (lent 2) (lentEntries 2) (lent 1)))
     ∷ differ delayTable straightAsLongest (λ f. tabled (f 1 1 (lent 2) (lentEntries 2) (lent 1)))
+    ∷ differ delayTable roomOfTheListOnly (λ f. tabled (f 1 1 (lent 2) (lentEntries 1) (lent 1)))
     ∷ differ delayTable listWrittenFirst (λ f. tabled (f 1 1 (lent 2) (lentEntries 2) []))
     -- opening a book
     ∷ differ checkedBook countHighByteFirst (λ f. opened (f First one))
     ∷ differ checkedBook offsetAgainstTheTrailer (λ f. opened (f First one))
     ∷ differ checkedBook lastRecordMayStopEarly (λ f. opened (f First (1 ∷ 1 ∷ 0 ∷ 0 ∷ 7 ∷ 0 ∷ 0 ∷ 1 ∷ 0 ∷ [])))
+    ∷ differ checkedBook opensOtherBytes (λ f. opened (f First one))
     -- reading a preset, and its letters
     ∷ differ checkedPreset onePresetTooMany (λ f. preset (f First one 1))
     ∷ differ checkedPreset preset0ForEveryNumber (λ f. preset (f First (1 ∷ 1 ∷ 0 ∷ 0 ∷ 2 ∷ 2 ∷ 0 ∷ 0 ∷ 0 ∷ 0 ∷ 4 ∷ 0 ∷ 2 ∷ 0 ∷ []) 1))
     ∷ differ checkedPreset laneCountBeforeRank (λ f. preset (f Second (1 ∷ 64 ∷ 9 ∷ 0 ∷ 0 ∷ 0 ∷ 0 ∷ 1 ∷ 0 ∷ []) 0))
     ∷ differ checkedPreset laneCountIsTheRank (λ f. preset (f Second (1 ∷ 1 ∷ 2 ∷ 0 ∷ 0 ∷ 0 ∷ 0 ∷ 1 ∷ 0 ∷ []) 0))
     ∷ differ checkedPreset rangesOfTheFirst (λ f. preset (f Second (2 ∷ 64 ∷ 64 ∷ 0 ∷ 0 ∷ 0 ∷ 0 ∷ 1 ∷ 0 ∷ []) 0))
+    ∷ differ checkedPreset rangesOfTheSecond (λ f. preset (f First (2 ∷ 33 ∷ 0 ∷ 0 ∷ 0 ∷ 0 ∷ 1 ∷ 0 ∷ []) 0))
     ∷ differ handedOut lettersFromTheRecord (λ f. part (f First one 0))
     ∷ differ handedOut refusedPresetHandsOutLetters (λ f. part (f First (1 ∷ 1 ∷ 1 ∷ 0 ∷ 2 ∷ 0 ∷ 0 ∷ 1 ∷ 0 ∷ []) 0))
     ∷ differ handedOut lettersOneByteEarly (λ f. part (f Second (1 ∷ 1 ∷ 2 ∷ 1 ∷ 0 ∷ 1 ∷ 0 ∷ 0 ∷ 1 ∷ 0 ∷ []) 0))
@@ -170,6 +174,7 @@ table =
     ∷ differ wordLine minusLeftOut (λ f. text (f 0 B 2 (1 ∷ 2 ∷ 1 ∷ 2 ∷ [])))
     -- pieces of the listing
     ∷ differ nextPiece noPresetLine (λ f. piece (f First one 0 (lent 40)))
+    ∷ differ nextPiece lastLineLeftOut (λ f. piece (f First one 0 (lent 40)))
     ∷ differ nextPiece lineCutOff (λ f. piece (f First one 0 (lent 12)))
     ∷ differ nextPiece lastByteUnused (λ f. piece (f First one 0 (lent 10)))
     ∷ []

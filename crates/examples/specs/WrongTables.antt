@@ -12,7 +12,7 @@ use Rattle.coxeter.specs.NormalForm.{normalForm}
 use Rattle.coxeter.specs.Calls.{written}
 use Rattle.distribution.specs.Distribution.{distribution, sum}
 use Rattle.distribution.specs.Longest.{longest}
-use Rattle.distribution.specs.Calls.{tableRefusal, Tabled, tables, delayTable}
+use Rattle.distribution.specs.Calls.{tableRefusal, Tabled, tableOf, tables, delayTable}
 
 -- the table with other numbers, or with another window as the longest
 abbrev pub tableWith : (Kind → ℕ → List ℕ) → (Kind → ℕ → List ℤ) → ℕ → ℕ → List ℕ → List ℤ → List ℕ → Tabled
@@ -37,6 +37,15 @@ runningTotals = tableWith (λ k n. map (λ l. sum (take (suc l) (distribution k 
 -- the straight window as the longest
 abbrev pub straightAsLongest : ℕ → ℕ → List ℕ → List ℤ → List ℕ → Tabled
 straightAsLongest = tableWith distribution (λ k n. straight (lanes k n))
+
+-- check 14 of the list alone
+abbrev pub roomOfTheListOnly : ℕ → ℕ → List ℕ → List ℤ → List ℕ → Tabled
+roomOfTheListOnly k n counts entries letters =
+    let d = distribution (kindOf k) n in
+    let w = longest (kindOf k) n in
+    let u = normalForm (kindOf k) n w in
+    let r = tableRefusal k n then check 14 (tooShort (length d) counts) in
+    record { answer = tableOf r (length d) (length w) (length u); counts = written r d counts; entries = written r w entries; letters = written r u letters }
 
 -- the list written before the other outputs are checked
 abbrev pub listWrittenFirst : ℕ → ℕ → List ℕ → List ℤ → List ℕ → Tabled

@@ -14,7 +14,7 @@ use Rattle.coxeter.specs.Length.{one, negatives, inversions, negativeSumPairs, 
 use Rattle.coxeter.specs.Dictionary.{shortlex}
 use Rattle.coxeter.specs.Checks.{check, _then_, wrongKind, tooLong, wrongLetter, wrongLanes, wrongEntry, oddNegatives, rankRefusal, wordRefusal, windowRefusal}
 use Rattle.coxeter.specs.NormalForm.{rise, fall, block, levels, without, indexOf, restOf, normalFrom, normalForm, wordNormalForm}
-use Rattle.coxeter.specs.Calls.{Outcome, answerOf, verdictOf, written, writes, windowOfWord, equalWords, samePresets, handsBack, choice}
+use Rattle.coxeter.specs.Calls.{Outcome, answerOf, verdictOf, written, writes, windowOfWord, equalWords, samePresets, presetsEqual, handsBack, choice}
 
 -- the checks of a word and of a window, as they should be
 abbrev pub wordChecks : ℕ → ℕ → List ℕ → ℕ
@@ -222,6 +222,10 @@ ranksNotCompared k₁ n₁ u₁ k₂ n₂ u₂ = verdictOf (wordChecks k₁ n₁
 -- presets of different kind are never equal, as before request 1 of document 02
 abbrev pub kindsCompared : ℕ → ℕ → List ℕ → ℕ → ℕ → List ℕ → Verdict
 kindsCompared k₁ n₁ u₁ k₂ n₂ u₂ = verdictOf (wordChecks k₁ n₁ u₁ then wordChecks k₂ n₂ u₂) (eqb k₁ k₂ && samePresets k₁ n₁ u₁ k₂ n₂ u₂)
+
+-- the kind of the first preset for both
+abbrev pub kindOfTheFirstForBoth : ℕ → ℕ → List ℕ → ℕ → ℕ → List ℕ → Verdict
+kindOfTheFirstForBoth k₁ n₁ u₁ k₂ n₂ u₂ = presetsEqual k₁ n₁ u₁ k₁ n₂ u₂
 
 abbrev pub secondPresetRefusedFirst : ℕ → ℕ → List ℕ → ℕ → ℕ → List ℕ → Verdict
 secondPresetRefusedFirst k₁ n₁ u₁ k₂ n₂ u₂ = verdictOf (wordChecks k₂ n₂ u₂ then wordChecks k₁ n₁ u₁) (samePresets k₁ n₁ u₁ k₂ n₂ u₂)

@@ -1,8 +1,9 @@
 //! Compares the verified library with the plain Rust version: the answer and every byte of every output of each call,
 //! made over the C interface and, where kind and rank are bytes, by the safe Rust function as well.
 //!
-//! `compare` runs all groups; `compare N` makes N random inputs in the last group, `compare N SEED` starts them
-//! elsewhere. It prints how many calls each group compared, and ends with status 1 if any differed.
+//! `compare` runs all groups, as many at a time as there are processors; `compare N` makes N random inputs in the last
+//! group, `compare N SEED` starts them elsewhere. It prints how many calls each group compared, and ends with status 1 if
+//! any differed.
 mod books;
 mod edges;
 mod examples;
@@ -17,21 +18,48 @@ mod sides;
 
 use sides::Sides;
 use std::process::ExitCode;
+use std::sync::Mutex;
+use std::sync::atomic::{AtomicUsize, Ordering};
+use std::thread;
 
 const RANDOM_INPUTS: u64 = 2_000_000;
 const SEED: u64 = 1;
+
+/// A name, and inputs that share nothing with those of another group.
+type Group<'a> = (String, &'a (dyn Fn(&mut Sides) + Sync));
+
+/// Runs the groups, each with sides of its own, and prints them in their order, each once those before it are done.
+fn run(groups: &[Group]) -> Sides {
+    let next = AtomicUsize::new(0);
+    let ended = Mutex::new((vec![None; groups.len()], 0, Sides::new()));
+    let work = || {
+        loop {
+            let at = next.fetch_add(1, Ordering::Relaxed);
+            let Some((_, run)) = groups.get(at) else { return };
+            let mut sides = Sides::new();
+            run(&mut sides);
+            let (calls, printed, all) = &mut *ended.lock().expect("no group failed");
+            calls[at] = Some(sides.calls);
+            all.add(&sides);
+            while let Some(&Some(calls)) = calls.get(*printed) {
+                println!("{calls:>10} calls: {}", groups[*printed].0);
+                *printed += 1;
+            }
+        }
+    };
+    let threads = thread::available_parallelism().map_or(1, usize::from);
+    thread::scope(|scope| (0..threads).for_each(|_| drop(scope.spawn(work))));
+    ended.into_inner().expect("no group failed").2
+}
 
 fn main() -> ExitCode {
     let mut numbers = std::env::args().skip(1).map(|word| word.parse().expect("a number"));
     let inputs = numbers.next().unwrap_or(RANDOM_INPUTS);
     let seed = numbers.next().unwrap_or(SEED);
 
-    let mut sides = Sides::new();
-    let mut group = |name: &str, run: &dyn Fn(&mut Sides)| {
-        let before = sides.calls;
-        run(&mut sides);
-        println!("{:>10} calls: {name}", sides.calls - before);
-    };
+    let random_inputs = |sides: &mut Sides| random::run(sides, inputs, seed);
+    let mut groups: Vec<Group> = Vec::new();
+    let mut group = |name: &str, run| groups.push((name.to_string(), run));
     group("the requirement's examples, held to its values", &examples::run);
     group("all 65,536 pairs of kind and rank that are bytes", &edges::kinds_and_ranks);
     group("kinds and ranks that are no byte, over right words and windows", &edges::no_bytes);
@@ -54,9 +82,8 @@ fn main() -> ExitCode {
     group("rewriting to the end, at random places", &rewriting::to_the_end);
     group("books: the example in both editions, each byte changed, each part", &books::examples);
     group("books: random, damaged, full", &books::others);
-    group(&format!("{inputs} random inputs over all calls, from seed {seed}"), &|sides| {
-        random::run(sides, inputs, seed)
-    });
+    group(&format!("{inputs} random inputs over all calls, from seed {seed}"), &random_inputs);
+    let sides = run(&groups);
     println!("{:>10} calls in all, {} different", sides.calls, sides.differences);
     println!("{:>10} of them made by the safe Rust function too", sides.safe_calls);
     println!("answers: {} accepted, {} none fits, {} no fallback", sides.accepted, sides.none_fits, sides.no_fallback);

@@ -171,6 +171,19 @@ impl Sides {
         }
     }
 
+    /// Takes over what others counted.
+    pub fn add(&mut self, others: &Sides) {
+        self.calls += others.calls;
+        self.safe_calls += others.safe_calls;
+        self.accepted += others.accepted;
+        self.none_fits += others.none_fits;
+        self.no_fallback += others.no_fallback;
+        self.differences += others.differences;
+        for (times, more) in self.refused.iter_mut().zip(others.refused) {
+            *times += more;
+        }
+    }
+
     fn tally(&mut self, answer: i64) {
         match answer {
             0.. => self.accepted += 1,
