@@ -13,8 +13,9 @@
  *   book      the bytes of a preset book, at most 65,535. c is the count of presets at its end. A record is kind, rank, letter count (two bytes, the low
  *             one first) and letters; in the second edition the lane count is a byte after the rank.
  *
- * Answers: 0 or more is the answer; -k is refusal k, of the first check that fails: in the order below, but 17 and 20 right after 6. A refused call writes nothing. An
- * accepted call that writes puts its answer at the front of the output, answers the length written, and leaves the rest of the output as it was.
+ * Answers: 0 or more is the answer; -k is refusal k, of the first check that fails: in the order below, but 17 and 20 right after 6, and 18 right
+ * after 8. A refused call writes nothing. An accepted call that writes puts its answer at the front of the output, answers the length written, and
+ * leaves the rest of the output as it was.
  *
  *    1  The book has fewer than 2 or more than 65,535 bytes.
  *    2  Two times c, plus 2, exceeds the book's length.
@@ -32,6 +33,7 @@
  *   13  The appended book would exceed 65,535 bytes.
  *   14  An output is shorter than the part of the answer that goes there.
  *   17  The lane count is not n + 1 for A or n for B and D.
+ *   18  A second-edition record going back has more than 32 lanes.
  *   20  The rank is above 19 for A or above 16 for B or D.
  *
  * Of two presets, words or windows the first is checked before the second. winnathey_rewrite also answers WINNATHEY_NONE_FITS, and winnathey_fallback
@@ -162,6 +164,16 @@ int64_t winnathey_second_presets(const uint8_t *book, size_t book_len, size_t fi
 
 int64_t winnathey_second_append(const uint8_t *book, size_t book_len, uint32_t kind, uint32_t rank, const uint8_t *word, size_t word_len, uint8_t *out,
                                 size_t out_len);
+
+/* ---- from one edition to the other: the presets and their order stay. The whole new book goes to out. */
+
+/* Turns a book of the first edition into one of the second. Checks 1 to 3 of the book, then 5 to 8 of each record, one record after the other, then 13 and
+   14 of the new book. Answers its length. */
+int64_t winnathey_to_second(const uint8_t *book, size_t book_len, uint8_t *out, size_t out_len);
+
+/* Turns a book of the second edition into one of the first. The same checks, and of each record also 17 and, after its 8, 18. Answers the new book's
+   length. */
+int64_t winnathey_to_first(const uint8_t *book, size_t book_len, uint8_t *out, size_t out_len);
 
 #ifdef __cplusplus
 }

@@ -19,7 +19,7 @@ static uint16_t places[ROOM];
 static size_t counts[ROOM];
 
 static int failed;
-/* The last refusal; of those above 14 the calls have 17 and 20. */
+/* The last refusal; of those above 14 the calls have 17, 18 and 20. */
 #define LAST 20
 
 static int seen[LAST + 1]; /* by the refusal's number; none fits is at 0 */
@@ -113,7 +113,10 @@ static const uint8_t book[] = {2, 2, 4, 0, 1, 2, 1, 2, 3, 5, 6, 0, 5, 2, 3, 5, 1
 static const uint8_t bad_letter[] = {2, 2, 1, 0, 3, 0, 0, 1, 0};
 static const uint8_t second_book[] = {2, 2, 2, 4, 0, 1, 2, 1, 2, 3, 5, 5, 6, 0, 5, 2, 3, 5, 1, 2, 0, 0, 9, 0, 2, 0};
 static const uint8_t bad_lanes[] = {1, 2, 2, 0, 0, 0, 0, 1, 0};
+static const uint8_t bad_rank[] = {2, 33, 0, 0, 0, 0, 1, 0};
+static const uint8_t wide[] = {1, 31, 32, 0, 0, 1, 32, 33, 0, 0, 0, 0, 5, 0, 2, 0};
 static uint8_t full[65533]; /* one record of 65,525 letters */
+static uint8_t heads[56174]; /* 9,362 records without letters: in the second edition 65,536 bytes */
 
 static void words(void)
 {
@@ -326,12 +329,47 @@ static void second_books(void)
     CALL(winnathey_second_append(second_book, sizeof second_book, 1, 1, w1, 1, bytes, 33));
 }
 
+static void editions(void)
+{
+    CALL(winnathey_to_second(book, sizeof book, bytes, 26));
+    CALL(winnathey_to_second(book, sizeof book, bytes, ROOM));
+    CALL(winnathey_to_second(no_presets, sizeof no_presets, bytes, ROOM));
+    CALL(winnathey_to_second(book, sizeof book, bytes, 25));
+    CALL(winnathey_to_second(book, sizeof book, NULL, 0));
+    CALL(winnathey_to_second(NULL, 0, bytes, ROOM));
+    CALL(winnathey_to_second(bad_count, sizeof bad_count, bytes, ROOM));
+    CALL(winnathey_to_second(second_book, sizeof second_book, bytes, ROOM));
+    CALL(winnathey_to_second(bad_rank, sizeof bad_rank, bytes, ROOM));
+    CALL(winnathey_to_second(full, sizeof full, bytes, ROOM));
+    CALL(winnathey_to_second(bad_letter, sizeof bad_letter, bytes, ROOM));
+    CALL(winnathey_to_second(heads, sizeof heads, bytes, ROOM));
+
+    CALL(winnathey_to_first(second_book, sizeof second_book, bytes, 24));
+    CALL(winnathey_to_first(second_book, sizeof second_book, bytes, ROOM));
+    CALL(winnathey_to_first(no_presets, sizeof no_presets, bytes, ROOM));
+    CALL(winnathey_to_first(wide, sizeof wide, bytes, ROOM));
+    CALL(winnathey_to_first(second_book, sizeof second_book, bytes, 23));
+    CALL(winnathey_to_first(NULL, 0, bytes, ROOM));
+    CALL(winnathey_to_first(bad_end, sizeof bad_end, bytes, ROOM));
+    CALL(winnathey_to_first(book, sizeof book, bytes, ROOM));
+    CALL(winnathey_to_first(bad_lanes, sizeof bad_lanes, bytes, ROOM));
+}
+
 int main(void)
 {
     /* Kind 1, rank 1, 65,525 = 0xfff5 letters, then the offset 0 and the count 1. */
     full[0] = full[1] = full[65531] = 1;
     full[2] = 0xf5;
     full[3] = 0xff;
+    /* Kind 2, rank 2, no letters; then the offsets and the count. */
+    for (size_t k = 0; k < 9362; k++) {
+        uint8_t *offset = heads + 4 * 9362 + 2 * k;
+        heads[4 * k] = heads[4 * k + 1] = 2;
+        offset[0] = (uint8_t)(4 * k & 0xff);
+        offset[1] = (uint8_t)(4 * k >> 8);
+    }
+    heads[sizeof heads - 2] = 9362 & 0xff;
+    heads[sizeof heads - 1] = 9362 >> 8;
 
     words();
     windows();
@@ -340,9 +378,10 @@ int main(void)
     shortest();
     books();
     second_books();
+    editions();
 
     for (int k = 0; k <= LAST; k++)
-        if (!seen[k] && (k <= 14 || k == 17 || k == 20)) {
+        if (!seen[k] && (k <= 14 || k == 17 || k == 18 || k == 20)) {
             printf("never: %s %d\n", k == 0 ? "none fits," : "refusal", k);
             failed = 1;
         }

@@ -1,4 +1,5 @@
-// The preset book in its two editions: checks, reading by number, appending. No public function has a `requires`.
+// The preset book in its two editions: checks, reading by number, appending, converting. No public function has a `requires`.
+mod converting;
 mod numbers;
 pub mod reader;
 mod reading;
@@ -9,6 +10,7 @@ mod writing;
 pub use book_format::Edition;
 pub use book_format::Opened;
 pub use book_format::Preset;
+pub use converting::convert;
 pub use reading::check_book;
 pub use reading::check_preset;
 pub use reading::letters;

@@ -3,7 +3,7 @@ ghost use mathlib.Core.Path.{_≡_};
 ghost use Prim.Native.Nat.{_+_, _<_, _≤_};
 ghost use lib.ListN.{length};
 ghost use lib.Seq.{sets};
-ghost use Rattle.book_format.specs.Books.{twoAt, two};
+ghost use Rattle.book_format.specs.Books.{twoAt, two, count};
 
 // The number at p.
 pub(crate) fn two_at(b: &[u8], p: usize) -> usize
@@ -13,6 +13,14 @@ pub(crate) fn two_at(b: &[u8], p: usize) -> usize
     let low = b[p] as usize;
     let high = b[p + 1] as usize;
     low + 256 * high
+}
+
+// The number of presets of a book, its last two bytes.
+pub(crate) fn count_of(book: &[u8]) -> usize
+    requires { ⌜ 2 ≤ length (now book) ⌝ }
+    ensures { λ r. ⌜ (r ≡ count (now (book .entry))) × (r < 65536) ⌝ }
+{
+    two_at(book, book.len() - 2)
 }
 
 // The number x written at p.

@@ -80,7 +80,7 @@ pub fn check_book(edition: Edition, book: &[u8]) -> Opened
 }
 
 // Checks 5 to 8, and 17, of the record at byte o.
-fn check_record(edition: Edition, book: &[u8], o: usize) -> Preset
+pub(crate) fn check_record(edition: Edition, book: &[u8], o: usize) -> Preset
     requires { ⌜ length (now book) ≤ 65535 ⌝ }
     requires { ⌜ endAt edition (now book) o ≤ length (now book) ⌝ }
     ensures { λ r. ⌜ r ≡ checkedRecord edition (now (book .entry)) o ⌝ }

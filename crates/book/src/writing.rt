@@ -20,7 +20,14 @@ ghost use Rattle.book_format.specs.Books.{two, headSize, bookRefusal, recordOf,
 ghost use Rattle.book_format.specs.Calls.{appending};
 
 // The bytes of a record written from p on.
-fn write_record(edition: Edition, kind: u8, rank: u8, word: &[u8], out: &mut [u8], p: usize)
+pub(crate) fn write_record(
+    edition: Edition,
+    kind: u8,
+    rank: u8,
+    word: &[u8],
+    out: &mut [u8],
+    p: usize,
+)
     requires { ⌜ (rank ≤ 64) × (p + headSize edition + length (now word) ≤ length (now out)) ⌝ }
     ensures { λ _. ⌜ now (out .exit)
         ≡ sets (now (out .entry)) p (recordOf edition kind rank (lanes (kindOf kind) rank) (now (word .entry))) ⌝ }

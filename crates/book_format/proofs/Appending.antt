@@ -116,17 +116,17 @@ module _ (ed : Edition) (b : List ℕ) (k n : ℕ) (u : List ℕ) (z : bookRefus
 
 -- ---- the last preset
 
-recordRefusal-of : (ed : Edition) (m : List ℕ) (o k n : ℕ) (u : List ℕ) → kindAt m o ≡ k → rankAt m o ≡ n → lanesAt ed m o ≡ lanes (kindOf k) n → lettersAt ed m o ≡ u
+pub recordRefusal-of : (ed : Edition) (m : List ℕ) (o k n : ℕ) (u : List ℕ) → kindAt m o ≡ k → rankAt m o ≡ n → lanesAt ed m o ≡ lanes (kindOf k) n → lettersAt ed m o ≡ u
     → recordRefusal ed m o ≡ (bookRankRefusal ed k n then wordRefusal n u)
 unfolding recordRefusal wrongLaneCount
 recordRefusal-of ed m o k n u p q s r = rw (s, p, q, r, eq-eqb (lanes (kindOf k) n) (lanes (kindOf k) n) refl)
 
-checkedPreset-of : (ed : Edition) (m : List ℕ) (i o k n l r : ℕ) → presetRefusal ed m i ≡ r → offset m i ≡ o → kindAt m o ≡ k → rankAt m o ≡ n → letterCountAt ed m o ≡ l
+pub checkedPreset-of : (ed : Edition) (m : List ℕ) (i o k n l r : ℕ) → presetRefusal ed m i ≡ r → offset m i ≡ o → kindAt m o ≡ k → rankAt m o ≡ n → letterCountAt ed m o ≡ l
     → checkedPreset ed m i ≡ presetOf r k n (o + headSize ed) l
 unfolding checkedPreset presetAt
 checkedPreset-of ed m i o k n l r e f p q g = rw (e, f, p, q, g)
 
-lettersOf-of : (ed : Edition) (m : List ℕ) (i o r : ℕ) (u : List ℕ) → presetRefusal ed m i ≡ r → offset m i ≡ o → lettersAt ed m o ≡ u → lettersOf ed m i ≡ pick (eqb r 0) u []
+pub lettersOf-of : (ed : Edition) (m : List ℕ) (i o r : ℕ) (u : List ℕ) → presetRefusal ed m i ≡ r → offset m i ≡ o → lettersAt ed m o ≡ u → lettersOf ed m i ≡ pick (eqb r 0) u []
 unfolding lettersOf
 lettersOf-of ed m i o r u e f p = rw (e, f, p)
 

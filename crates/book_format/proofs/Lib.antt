@@ -7,6 +7,8 @@ pub mod AppendedParts
 pub mod Appending
 pub mod Outcomes
 pub mod Unchanged
-pub mod Vectors
 pub mod RecordLaws
+pub mod LayOuts
+pub mod Converting
+pub mod Vectors
 pub mod RunLaws

@@ -70,6 +70,32 @@ module _ (ed : Edition) (b : List ℕ) (o r : ℕ) (e : r ≡ bookRankRefusal ed
       unfolding checkedRecord
       checkedRecord-found x = rw (recordRefusal-word, c, g) (presetAt-found ed b o s x)
 
+-- what its checks answered says its refusal
+pub record-found : (ed : Edition) (b : List ℕ) (o k n s l : ℕ) → preset.Found k n s l ≡ checkedRecord ed b o → recordRefusal ed b o ≡ 0
+unfolding checkedRecord
+record-found ed b o k n s l e = elim (ℕ-discrete (recordRefusal ed b o) 0) [ yes z ↦ z | no f ↦ absurd (never f) ]
+  where
+    never : (recordRefusal ed b o ≡ 0 → ⊥) → ⊥
+    never f =
+        let q : preset.Found k n s l ≡ preset.Refused (recordRefusal ed b o) = e ∙ presetAt-refused ed b o (recordRefusal ed b o) f in
+        let z : _≡_ {A = ℕ} 0 1 = cc in
+        omega arith
+
+pub record-refused : (ed : Edition) (b : List ℕ) (o r : ℕ) → preset.Refused r ≡ checkedRecord ed b o → (recordRefusal ed b o ≡ r) × (r ≡ 0 → ⊥)
+unfolding checkedRecord
+record-refused ed b o r e = elim (ℕ-discrete (recordRefusal ed b o) 0) [ yes z ↦ absurd (never z) | no f ↦ (at f, λ y. f (at f ∙ y)) ]
+  where
+    at : (recordRefusal ed b o ≡ 0 → ⊥) → recordRefusal ed b o ≡ r
+    at f =
+        let q : preset.Refused r ≡ preset.Refused (recordRefusal ed b o) = e ∙ presetAt-refused ed b o (recordRefusal ed b o) f in
+        cc
+
+    never : recordRefusal ed b o ≡ 0 → ⊥
+    never z =
+        let q : preset.Refused r ≡ preset.Found (kindAt b o) (rankAt b o) (o + headSize ed) (letterCountAt ed b o) = e ∙ presetAt-found ed b o (recordRefusal ed b o) z in
+        let y : _≡_ {A = ℕ} 0 1 = cc in
+        omega arith
+
 -- ---- presets by their number
 
 -- preset i of a book that has it

@@ -7,11 +7,12 @@ use Prim.Native.Nat.{ℕ, _≤_, _<_}
 use native.Mathlib.Decide.{ℕ-discrete}
 use native.Mathlib.Omega.{arith}
 use lib.Dec.{ltb}
-use borrow.Author.Tests.{ne-eqb, lt-ltb, le-ltb, ltb-true}
+use borrow.Author.Tests.{ne-eqb, lt-ltb, le-ltb, ltb-true, ltb-false}
 use Rattle.coxeter.specs.Kinds.{Kind, A, B, D, kindOf, least, greatest}
 use Rattle.coxeter.specs.Checks.{check, _then_, wrongKind, wrongRank, rankRefusal}
 use Rattle.coxeter.proofs.Acceptance.{rank-within}
-use Rattle.coxeter.proofs.Refusals.{then-zero}
+use Rattle.coxeter.proofs.Basics.{or-false-left, or-false-right}
+use Rattle.coxeter.proofs.Refusals.{then-zero, check-zero}
 use Rattle.book_format.specs.declared.Edition.{Edition}
 use Rattle.book_format.specs.declared.Edition.the-variants.{First, Second}
 use Rattle.book_format.specs.Books.{greatestInBook, wrongRankInBook, bookRankRefusal}
@@ -61,3 +62,13 @@ module _ (ed : Edition) (k n r : ℕ) (e : r ≡ rankRefusal k n) where
 -- a kind and a rank that a record may have, every call takes
 pub bookRank-accepted : (ed : Edition) (k n : ℕ) → bookRankRefusal ed k n ≡ 0 → rankRefusal k n ≡ 0
 bookRank-accepted ed k n h = elim (ℕ-discrete (rankRefusal k n) 0) [ yes z ↦ z | no f ↦ absurd (f (sym (bookRankRefusal-refused ed k n (rankRefusal k n) refl f) ∙ h)) ]
+
+-- a rank that a record may have lies in its range
+pub bookRank-within : (ed : Edition) (k n : ℕ) → bookRankRefusal ed k n ≡ 0 → (least (kindOf k) ≤ n) × (n ≤ greatestInBook ed (kindOf k))
+unfolding bookRankRefusal wrongRankInBook
+bookRank-within ed k n h =
+    let six = then-zero (check 5 (wrongKind k)) (check 6 (wrongRankInBook ed (kindOf k) n)) h .1 in
+    let w = check-zero 5 (wrongRankInBook ed (kindOf k) n) six in
+    let low = ltb n (least (kindOf k)) in
+    let high = ltb (greatestInBook ed (kindOf k)) n in
+    (ltb-false n (least (kindOf k)) (or-false-left low high w), ltb-false (greatestInBook ed (kindOf k)) n (or-false-right low high w))

@@ -44,7 +44,7 @@ two-then-drop b p w h = rw (two-twoAt b p w) (sym (drop-two b p h))
 
 -- ---- one record
 
-length-lettersAt : (ed : Edition) (b : List ℕ) (o : ℕ) → endAt ed b o ≤ length b → length (lettersAt ed b o) ≡ letterCountAt ed b o
+pub length-lettersAt : (ed : Edition) (b : List ℕ) (o : ℕ) → endAt ed b o ≤ length b → length (lettersAt ed b o) ≡ letterCountAt ed b o
 length-lettersAt ed b o h = length-take-le (letterCountAt ed b o) (drop (o + headSize ed) b) (rw length-drop (omega arith))
 
 letters-then-drop : (ed : Edition) (b : List ℕ) (o : ℕ) → lettersAt ed b o ++ drop (endAt ed b o) b ≡ drop (o + headSize ed) b
@@ -123,12 +123,12 @@ offsets-then-drop ed b (suc j) i o w h e =
     )
     (two-then-drop b p w (omega arith))
 
-length-recordsFrom : (ed : Edition) (b : List ℕ) (j i : ℕ) → length (recordsFrom ed b j i) ≡ j
+pub length-recordsFrom : (ed : Edition) (b : List ℕ) (j i : ℕ) → length (recordsFrom ed b j i) ≡ j
 unfolding recordsFrom
 length-recordsFrom ed b zero i = refl
 length-recordsFrom ed b (suc j) i = ap suc (length-recordsFrom ed b j (suc i))
 
-placed-from : (ed : Edition) (b : List ℕ) → Accepted ed b → misplacedFrom ed b (count b) 0 0 ≡ false
+pub placed-from : (ed : Edition) (b : List ℕ) → Accepted ed b → misplacedFrom ed b (count b) 0 0 ≡ false
 unfolding misplaced
 placed-from ed b a = a .placed
 

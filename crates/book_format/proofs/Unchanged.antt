@@ -15,11 +15,16 @@ use Rattle.coxeter.specs.Calls.{answerOf, written}
 use Rattle.coxeter.proofs.Unchanged.{writes-unchanged}
 use Rattle.book_format.specs.Books.{noSuchPreset, bookRefusal}
 use Rattle.book_format.specs.Calls.{presetFields, runLength, readingPresets, appending}
+use Rattle.book_format.specs.Conversion.{converting}
 
 pub appending-unchanged : (ed : Edition) (b : List ℕ) (k n : ℕ) (u out : List ℕ) (r : ℕ)
     → appending ed b k n u out .answer ≡ Refused r → appending ed b k n u out .bytes ≡ out
 unfolding appending
 appending-unchanged ed b k n u out = writes-unchanged _ _ out
+
+pub converting-unchanged : (ed : Edition) (b out : List ℕ) (r : ℕ) → converting ed b out .answer ≡ Refused r → converting ed b out .bytes ≡ out
+unfolding converting
+converting-unchanged ed b out = writes-unchanged _ _ out
 
 pick-unchanged : (t : Bool) (s m : ℕ) (l out : List ℕ) (r : ℕ) → pick t (Length m) (Refused s) ≡ Refused r
     → pick t (l ++ drop (length l) out) out ≡ out

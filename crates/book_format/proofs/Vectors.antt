@@ -1,7 +1,7 @@
 -- Vectors: each call on a book at a few inputs, with its answer and the bytes of its output afterwards, worked out by hand from document 01. All by
 -- computing the definitions. An output is lent full of 9s. The limits of 65,535 bytes are laws for every book.
 --
--- Sections: books; opening; presets; letters; appending.
+-- Sections: books; opening; presets; letters; appending; converting.
 -- Assumes nothing.
 use mathlib.Core.Path.{_≡_, refl, sym}
 use mathlib.Core.Bool.{Bool, true, false, _&&_, and-eq-true-iff}
@@ -22,8 +22,10 @@ use Rattle.book_format.specs.declared.Opened.the-variants as opened
 use Rattle.book_format.specs.declared.Preset.{Preset}
 use Rattle.book_format.specs.declared.Preset.the-variants as preset
 use Rattle.book_format.specs.Books.{twoAt, two, count, trailer, offset, wrongSize, wrongCount, misplacedFrom, misplaced, noSuchPreset, tooLarge, wrongRankInBook, wrongLaneCount, bookRankRefusal, bookRefusal, recordRefusal, presetRefusal, recordOf, added, appended, appendRefusal}
-use Rattle.book_format.specs.Records.{Bytes}
+use Rattle.book_format.specs.Records.{recordBytes, offsetBytes, layOut, recordsFrom, recordsOf, Bytes}
+use Rattle.book_format.specs.Conversion.{converted, tooManyLanes, recordConversionRefusal, recordsConversionRefusal, conversionRefusal, converting}
 use Rattle.book_format.proofs.BookLaws.{accepted}
+use Rattle.book_format.proofs.Converting.{conversion-too-large, length-converted}
 use Rattle.book_format.proofs.WritingLaws.{length-appended, appendRefusal-large, appendRefusal-none}
 use Rattle.book_format.specs.Calls.{openedOf, presetOf, checkedBook, presetAt, checkedPreset, lettersStart, lettersOf, fieldsOf, presetFields, runLength, readingPresets, appending}
 
@@ -232,3 +234,45 @@ module _ (ed : Edition) (b : List ℕ) (k n : ℕ) (u out : List ℕ) (e : bookR
   appending-without-room h l =
       let s = length b + added ed u in
       rw (appendRefusal-none ed b k n u 0 (sym e) 0 refl (sym f) 0 refl (sym g) refl h, length-appended ed b k n u (accepted ed b e), lt-ltb (length out) s l)
+
+-- ---- converting
+
+-- two records, of which the second has too many lanes and a wrong letter
+abbrev lateRefusal : List ℕ
+lateRefusal = 1 ∷ 2 ∷ 3 ∷ 0 ∷ 0 ∷ 2 ∷ 40 ∷ 40 ∷ 1 ∷ 0 ∷ 41 ∷ 0 ∷ 0 ∷ 5 ∷ 0 ∷ 2 ∷ 0 ∷ []
+
+pub conversions : List (Outcome ℕ × Outcome ℕ)
+conversions =
+    (converting First book (lent 27), wrote 26 (secondBook ++ (9 ∷ [])))
+    ∷ (converting Second secondBook (lent 24), wrote 24 book)
+    ∷ (converting First emptyBook (lent 2), wrote 2 emptyBook)
+    ∷ (converting Second emptyBook (lent 3), wrote 2 (0 ∷ 0 ∷ 9 ∷ []))
+    -- room for all of it
+    ∷ (converting First book (lent 25), refused 14 (lent 25))
+    -- the book's checks by the edition that it is lent as, then each record's
+    ∷ (converting Second book (lent 30), refused 3 (lent 30))
+    ∷ (converting First (7 ∷ []) (lent 30), refused 1 (lent 30))
+    ∷ (converting First (bookOf (1 ∷ 32 ∷ 0 ∷ 0 ∷ [])) (lent 30), refused 6 (lent 30))
+    ∷ (converting Second (bookOf (1 ∷ 1 ∷ 1 ∷ 1 ∷ 0 ∷ 2 ∷ [])) (lent 30), refused 17 (lent 30))
+    -- 18 after the record's 8: 32 lanes pass, 33 do not
+    ∷ (converting Second (bookOf (1 ∷ 31 ∷ 32 ∷ 0 ∷ 0 ∷ [])) (lent 8), wrote 8 (bookOf (1 ∷ 31 ∷ 0 ∷ 0 ∷ [])))
+    ∷ (converting Second (bookOf (1 ∷ 32 ∷ 33 ∷ 0 ∷ 0 ∷ [])) (lent 30), refused 18 (lent 30))
+    ∷ (converting Second (bookOf (2 ∷ 33 ∷ 33 ∷ 1 ∷ 0 ∷ 34 ∷ [])) (lent 30), refused 8 (lent 30))
+    ∷ (converting Second lateRefusal (lent 30), refused 8 (lent 30))
+    ∷ []
+
+pub conversions-agree : Agree conversions
+unfolding conversions
+    kindOf wrongKind wrongRankInBook wrongLaneCount tooLong wrongLetter bookRankRefusal wordRefusal
+    twoAt two count trailer offset wrongSize wrongCount misplacedFrom misplaced bookRefusal recordRefusal recordOf tooLarge tooShort
+    recordBytes offsetBytes layOut recordsFrom recordsOf
+    converted tooManyLanes recordConversionRefusal recordsConversionRefusal conversionRefusal converting answerOf written writes
+conversions-agree = refl
+
+-- the size limit is the new book's: a book of the first edition with c presets grows by c bytes
+pub converting-too-large : (b out : List ℕ) → bookRefusal First b ≡ 0 → recordsConversionRefusal First b (count b) 0 ≡ 0 → 65535 < length b + count b
+    → converting First b out ≡ refused 13 out
+unfolding converting writes answerOf written
+converting-too-large b out e f h =
+    let l = length-converted First b (accepted First b e) in
+    rw (conversion-too-large First b e f (omega arith))

@@ -2,3 +2,4 @@
 pub mod Books
 pub mod Records
 pub mod Calls
+pub mod Conversion

@@ -48,8 +48,10 @@ use Rattle.book_format.specs.declared.Opened.{Opened}
 use Rattle.book_format.specs.declared.Opened.the-variants as opened
 use Rattle.book_format.specs.Books.{count, noSuchPreset, bookRefusal, appended, appendRefusal}
 use Rattle.book_format.specs.Calls.{openedOf, checkedBook, runLength, readingPresets, appending}
+use Rattle.book_format.specs.Conversion.{converted, conversionRefusal, converting}
 use Rattle.book_format.proofs.BookLaws.{accepted}
 use Rattle.book_format.proofs.WritingLaws.{append-size}
+use Rattle.book_format.proofs.Converting.{convertible}
 use Rattle.c_api.specs.Calls.{refused, numberOf}
 
 -- ---- numbers
@@ -259,6 +261,10 @@ delayTable-small k n counts entries letters a b l e =
 pub appending-small : (ed : Edition) (b : List ℕ) (k n : ℕ) (u out : List ℕ) → Small (appending ed b k n u out .answer)
 unfolding appending
 appending-small ed b k n u out = writes-small (appendRefusal ed b k n u) (appended ed b k n u) out (append-size ed b k n u)
+
+pub converting-small : (ed : Edition) (b out : List ℕ) → Small (converting ed b out .answer)
+unfolding converting
+converting-small ed b out = writes-small (conversionRefusal ed b) (converted ed b) out (λ z. convertible ed b z .small)
 
 -- a run has no more presets than the book
 pub readingPresets-small : (ed : Edition) (b : List ℕ) (i : ℕ) (out : List ℕ) → Small (readingPresets ed b i out .answer)

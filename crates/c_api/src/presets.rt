@@ -9,6 +9,7 @@ use book::Preset;
 ghost use mathlib.Core.Path.{_≡_};
 ghost use Rattle.book_format.specs.declared.Edition.the-variants.{First, Second};
 ghost use Rattle.book_format.specs.Calls.{checkedBook, checkedPreset, readingPresets, appending};
+ghost use Rattle.book_format.specs.Conversion.{converting};
 ghost use Rattle.c_api.specs.Calls.{Numbered, numberOf, openedNumber, presetNumbers};
 
 // Opening a book. Answers the number of its presets.
@@ -59,6 +60,13 @@ fn extended(edition: Edition, book: &[u8], kind: u32, rank: u32, word: &[u8], ou
     ensures { λ r. ⌜ Numbered (appending edition (now (book .entry)) kind rank (now (word .entry)) (now (out .entry))) r (now (out .exit)) ⌝ }
 {
     number(book::append(edition, book, byte(kind), byte(rank), word, out))
+}
+
+// Converting a book of the edition to the other one: the whole new book, written to the front of `out`. Answers its length.
+fn turned(edition: Edition, book: &[u8], out: &mut [u8]) -> i64
+    ensures { λ r. ⌜ Numbered (converting edition (now (book .entry)) (now (out .entry))) r (now (out .exit)) ⌝ }
+{
+    number(book::convert(edition, book, out))
 }
 
 // The first edition.
@@ -131,4 +139,20 @@ pub extern "C" fn winnathey_second_append(
     ensures { λ r. ⌜ Numbered (appending Second (now (book .entry)) kind rank (now (word .entry)) (now (out .entry))) r (now (out .exit)) ⌝ }
 {
     extended(Edition::Second, book, kind, rank, word, out)
+}
+
+// Between the editions.
+
+#[no_mangle]
+pub extern "C" fn winnathey_to_second(book: &[u8], out: &mut [u8]) -> i64
+    ensures { λ r. ⌜ Numbered (converting First (now (book .entry)) (now (out .entry))) r (now (out .exit)) ⌝ }
+{
+    turned(Edition::First, book, out)
+}
+
+#[no_mangle]
+pub extern "C" fn winnathey_to_first(book: &[u8], out: &mut [u8]) -> i64
+    ensures { λ r. ⌜ Numbered (converting Second (now (book .entry)) (now (out .entry))) r (now (out .exit)) ⌝ }
+{
+    turned(Edition::Second, book, out)
 }

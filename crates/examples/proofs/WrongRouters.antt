@@ -13,7 +13,7 @@ use native.Mathlib.Omega.{arith}
 use denote.Ref.{RefT, ptr}
 use lib.IntN.{ℤ, pos}
 use lib.ListN.{length}
-use borrow.Author.Tests.{lt-ltb}
+use borrow.Author.Tests.{lt-ltb, le-ltb}
 use Rattle.coxeter.specs.declared.Answer.{Answer}
 use Rattle.coxeter.specs.declared.Answer.the-variants as answers
 use Rattle.coxeter.specs.declared.Verdict.{Verdict}
@@ -27,6 +27,7 @@ use Rattle.exchange.specs.declared.Fallback.the-variants as fallbacks
 use Rattle.distribution.specs.declared.Table.{Table}
 use Rattle.distribution.specs.declared.Table.the-variants as tables
 use Rattle.book_format.specs.declared.Edition.{Edition}
+use Rattle.book_format.specs.declared.Edition.the-variants.{First}
 use Rattle.book_format.specs.declared.Opened.{Opened}
 use Rattle.book_format.specs.declared.Opened.the-variants as books
 use Rattle.book_format.specs.declared.Preset.{Preset}
@@ -52,12 +53,14 @@ use Rattle.distribution.specs.Calls.{untabled, tableRefusal, tableOf, roomRefus
 use Rattle.distribution.specs.Calls as tabling
 use Rattle.book_format.specs.Books.{twoAt, two, count, trailer, offset, wrongSize, wrongCount, misplacedFrom, misplaced, noSuchPreset, tooLarge, wrongRankInBook, wrongLaneCount, bookRankRefusal, bookRefusal, recordRefusal, presetRefusal, recordOf, added, appended, appendRefusal}
 use Rattle.book_format.specs.Calls.{openedOf, presetOf, checkedBook, presetAt, checkedPreset, lettersStart, lettersOf, appending}
+use Rattle.book_format.specs.Records.{recordBytes, offsetBytes, layOut, recordsFrom, recordsOf}
+use Rattle.book_format.specs.Conversion.{converted, tooManyLanes, recordConversionRefusal, recordsConversionRefusal, conversionRefusal, converting}
 use Rattle.listing_text.specs.Text.{digits, decimal, spaced, letters, entry, entries, kindLetter, head, tail, presetLine, refused, refusedLine, refusedBookLine, countLine, wordLine, lineBy, lineOf}
 use Rattle.listing_text.specs.Calls.{lineCountBy, lineCount, firstLine, line, lines, fitting, nextPiece}
 use Rattle.book_format.proofs.BookLaws.{accepted}
 use Rattle.book_format.proofs.WritingLaws.{length-appended}
-use Rattle.book_format.proofs.Vectors.{too-large-book, appending-too-large}
-use Rattle.examples.specs.WrongBooks.{bookOf65536Bytes, roomBeforeTheSizeLimit}
+use Rattle.book_format.proofs.Vectors.{too-large-book, appending-too-large, converting-too-large}
+use Rattle.examples.specs.WrongBooks.{bookOf65536Bytes, roomBeforeTheSizeLimit, sizeLimitOfTheOldBook}
 use Rattle.examples.specs.WrongRouters as told
 use Rattle.examples.specs.WrongRouters.{Told, WrongRouter, table}
 
@@ -151,6 +154,7 @@ unfolding table allDiffer differs numbers ofAnswer ofVerdict ofChoice ofRewrite 
     untabled tableRefusal tableOf roomRefusal tabling.tables delayTable
     twoAt two count trailer offset wrongSize wrongCount misplacedFrom misplaced noSuchPreset tooLarge wrongRankInBook wrongLaneCount bookRankRefusal
     bookRefusal recordRefusal presetRefusal recordOf appended appendRefusal openedOf presetOf checkedBook presetAt checkedPreset lettersStart lettersOf appending
+    recordBytes offsetBytes layOut recordsFrom recordsOf converted tooManyLanes recordConversionRefusal recordsConversionRefusal conversionRefusal converting
     digits decimal spaced letters entry entries kindLetter head tail presetLine refused refusedLine refusedBookLine countLine wordLine lineBy lineOf
     lineCountBy lineCount firstLine line lines fitting nextPiece
 all-differ = refl
@@ -167,7 +171,7 @@ pub ruled-out : (r : WrongRouter) → List·Memᴰ r table → r .right ≡ r .w
 ruled-out = all-sound table all-differ
 
 -- so many rows, lest one be lost
-pub table-length : length table ≡ 83
+pub table-length : length table ≡ 86
 unfolding table
 table-length = refl
 
@@ -193,6 +197,18 @@ roomBeforeTheSizeLimit-ruled-out ed b k n u out e f g large short h =
     let w : roomBeforeTheSizeLimit ed b k n u out .answer ≡ answers.Refused 14 = rw (l, lt-ltb (length out) (length b + added ed u) short) in
     let r = ap (λ (o : Outcome ℕ). o .answer) (appending-too-large ed b k n u out e f g large) in
     let z : _≡_ {A = ℕ} 13 14 = cc (ap (λ (o : Outcome ℕ). o .answer) h) in
+    omega arith
+
+-- and every accepted book of the first edition that would grow beyond 65,535 bytes tells this one, where the output has room
+pub sizeLimitOfTheOldBook-ruled-out : (b out : List ℕ) → bookRefusal First b ≡ 0 → recordsConversionRefusal First b (count b) 0 ≡ 0
+    → 65535 < length b + count b → length (converted First b) ≤ length out → converting First b out ≡ sizeLimitOfTheOldBook First b out → ⊥
+unfolding writes answerOf tooShort tooLarge
+sizeLimitOfTheOldBook-ruled-out b out e f large room h =
+    let m = accepted First b e .most in
+    let w : sizeLimitOfTheOldBook First b out .answer ≡ answers.Length (length (converted First b)) =
+    rw (e, f, le-ltb 65535 (length b) m, le-ltb (length out) (length (converted First b)) room) in
+    let r = ap (λ (o : Outcome ℕ). o .answer) (converting-too-large b out e f large) in
+    let z : _≡_ {A = ℕ} 0 1 = cc (ap (λ (o : Outcome ℕ). o .answer) h) in
     omega arith
 
 -- ---- parts handed back

@@ -1,4 +1,4 @@
--- Wrong answers of the calls on books, of the lines of a listing and of its pieces, each of the type of its call's definition. WrongRouters.antt says where each
+-- Wrong answers of the calls on books, of converting them, of the lines of a listing and of its pieces, each of the type of its call's definition. WrongRouters.antt says where each
 -- is wrong.
 use mathlib.Core.Bool.{Bool, false, not, _||_}
 use mathlib.Core.List.{List, [], _∷_, _++_, map}
@@ -17,6 +17,9 @@ use Rattle.book_format.specs.declared.Opened.{Opened}
 use Rattle.book_format.specs.declared.Preset.{Preset}
 use Rattle.book_format.specs.Books.{two, count, trailer, offset, kindAt, rankAt, lanesAt, letterCountAt, lettersAt, endAt, wrongSize, wrongCount, misplaced}
 use Rattle.book_format.specs.Books.{noSuchPreset, bookRankRefusal, wrongLaneCount, bookRefusal, recordRefusal, presetRefusal, recordOf, appended, appendRefusal}
+use Rattle.book_format.specs.Books.{tooLarge}
+use Rattle.book_format.specs.Records.{layOut, recordsOf}
+use Rattle.book_format.specs.Conversion.{other, converted, tooManyLanes, recordConversionRefusal, recordsConversionRefusal, conversionRefusal}
 use Rattle.book_format.specs.Calls.{openedOf, checkedBook, presetAt, checkedPreset, lettersStart, lettersOf}
 use Rattle.listing_text.specs.Text.{decimal, spaced, letters, kindLetter, head, tail, presetsText, refusedLine, refusedBookLine}
 use Rattle.listing_text.specs.Calls.{lineCount, line, lines, fitting, Piecing, nextPiece}
@@ -122,6 +125,25 @@ kindAndRankExchanged ed b k n u out = writes (appendRefusal ed b k n u) (appende
 abbrev pub roomBeforeTheSizeLimit : Edition → List ℕ → ℕ → ℕ → List ℕ → List ℕ → Outcome ℕ
 roomBeforeTheSizeLimit ed b k n u out =
     writes (check 14 (tooShort (length (appended ed b k n u)) out) then appendRefusal ed b k n u) (appended ed b k n u) out
+
+-- ---- converting
+
+-- the last record left out of the new book
+abbrev pub lastRecordDropped : Edition → List ℕ → List ℕ → Outcome ℕ
+lastRecordDropped ed b out = writes (conversionRefusal ed b) (layOut (other ed) (take (count b - 1) (recordsOf ed b))) out
+
+-- 18 before the record's other checks
+abbrev pub laneLimitFirst : Edition → List ℕ → List ℕ → Outcome ℕ
+laneLimitFirst ed b out = writes (bookRefusal ed b then check 18 (tooManyLanes ed b 0) then conversionRefusal ed b) (converted ed b) out
+
+-- only the first record is checked
+abbrev pub laterRecordsUnchecked : Edition → List ℕ → List ℕ → Outcome ℕ
+laterRecordsUnchecked ed b out = writes (bookRefusal ed b then recordConversionRefusal ed b (offset b 0)) (converted ed b) out
+
+-- 13 by the size of the old book
+abbrev pub sizeLimitOfTheOldBook : Edition → List ℕ → List ℕ → Outcome ℕ
+sizeLimitOfTheOldBook ed b out =
+    writes (bookRefusal ed b then recordsConversionRefusal ed b (count b) 0 then check 13 (tooLarge (length b))) (converted ed b) out
 
 -- ---- lines of the listing
 

@@ -20,6 +20,7 @@ use Rattle.book_format.specs.declared.Edition.the-variants.{First, Second}
 use Rattle.book_format.specs.declared.Opened.{Opened}
 use Rattle.book_format.specs.declared.Preset.{Preset}
 use Rattle.book_format.specs.Calls.{checkedBook, checkedPreset, appending}
+use Rattle.book_format.specs.Conversion.{converting}
 use Rattle.listing_text.specs.Text.{refusedLine, refusedBookLine, countLine, wordLine}
 use Rattle.listing_text.specs.Calls.{Piecing, nextPiece}
 use Rattle.examples.specs.Examples.{neg}
@@ -37,6 +38,7 @@ use Rattle.examples.specs.WrongTables.{rank20InA, factorLeftOut, running
 use Rattle.examples.specs.WrongBooks.{countHighByteFirst, offsetAgainstTheTrailer, lastRecordMayStopEarly, opensOtherBytes, onePresetTooMany, preset0ForEveryNumber}
 use Rattle.examples.specs.WrongBooks.{laneCountBeforeRank, laneCountIsTheRank, rangesOfTheFirst, rangesOfTheSecond, lettersOneByteEarly, laneCountLeftOut}
 use Rattle.examples.specs.WrongBooks.{handedOut, lettersFromTheRecord, refusedPresetHandsOutLetters, lastOffsetDropped, kindAndRankExchanged}
+use Rattle.examples.specs.WrongBooks.{lastRecordDropped, laneLimitFirst, laterRecordsUnchecked}
 use Rattle.examples.specs.WrongBooks.{countWithoutLineFeed, bookRefusalAlways1, presetRefusalAlways1, lengthBeforeRank, minusLeftOut, noPresetLine, lastLineLeftOut, lineCutOff, lastByteUnused}
 
 -- what a call tells: its answer, with the output afterwards if it writes one
@@ -166,6 +168,10 @@ table =
     ∷ differ appending laneCountLeftOut (λ f. bytes (f Second (0 ∷ 0 ∷ []) 1 2 [] (lent 9)))
     ∷ differ appending lastOffsetDropped (λ f. bytes (f First (0 ∷ 0 ∷ []) 1 2 [] (lent 8)))
     ∷ differ appending kindAndRankExchanged (λ f. bytes (f First (0 ∷ 0 ∷ []) 1 2 [] (lent 8)))
+    -- converting
+    ∷ differ converting lastRecordDropped (λ f. bytes (f First one (lent 9)))
+    ∷ differ converting laneLimitFirst (λ f. bytes (f Second (2 ∷ 33 ∷ 33 ∷ 1 ∷ 0 ∷ 34 ∷ 0 ∷ 0 ∷ 1 ∷ 0 ∷ []) (lent 9)))
+    ∷ differ converting laterRecordsUnchecked (λ f. bytes (f First (1 ∷ 1 ∷ 0 ∷ 0 ∷ 1 ∷ 32 ∷ 0 ∷ 0 ∷ 0 ∷ 0 ∷ 4 ∷ 0 ∷ 2 ∷ 0 ∷ []) (lent 16)))
     -- lines of the listing
     ∷ differ countLine countWithoutLineFeed (λ f. text (f 2))
     ∷ differ refusedBookLine bookRefusalAlways1 (λ f. text (f 3))

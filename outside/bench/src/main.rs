@@ -478,4 +478,31 @@ fn second_books(bench: &mut Bench, random: &mut Random) {
             |k, out| plain::second_append(black_box(&short), 2, 8, black_box(&words[k]), &mut out.bytes),
         );
     }
+    editions(bench, random);
+}
+
+fn editions(bench: &mut Bench, random: &mut Random) {
+    let call = "a book that is full in the second edition, converted";
+    for letters in [0, 10, 4096] {
+        let second = full_book(random, SECOND, letters, 0);
+        let mut first = vec![0; second.len()];
+        let length = plain::to_first(&second, &mut first);
+        first.truncate(length as usize);
+        let presets = plain::book_check(&first);
+        let row = format!("{presets} records of {letters} letters");
+        bench.cell(
+            call,
+            &row,
+            "first to second",
+            |_, out| rattle::to_second(black_box(&first), &mut out.bytes),
+            |_, out| plain::to_second(black_box(&first), &mut out.bytes),
+        );
+        bench.cell(
+            call,
+            &row,
+            "second to first",
+            |_, out| rattle::to_first(black_box(&second), &mut out.bytes),
+            |_, out| plain::to_first(black_box(&second), &mut out.bytes),
+        );
+    }
 }

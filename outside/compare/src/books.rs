@@ -1,11 +1,12 @@
 //! Preset books of both editions.
+use crate::conversions::{converted_length, other};
 use crate::inputs::{Random, lanes};
 use crate::sides::Sides;
 use winnathey::Edition::{self, First, Second};
 
-const EXAMPLE: &[u8] = &[2, 2, 4, 0, 1, 2, 1, 2, 3, 5, 6, 0, 5, 2, 3, 5, 1, 2, 0, 0, 8, 0, 2, 0];
+pub const EXAMPLE: &[u8] = &[2, 2, 4, 0, 1, 2, 1, 2, 3, 5, 6, 0, 5, 2, 3, 5, 1, 2, 0, 0, 8, 0, 2, 0];
 /// Its presets in the second edition.
-const SECOND_EXAMPLE: &[u8] = &[2, 2, 2, 4, 0, 1, 2, 1, 2, 3, 5, 5, 6, 0, 5, 2, 3, 5, 1, 2, 0, 0, 9, 0, 2, 0];
+pub const SECOND_EXAMPLE: &[u8] = &[2, 2, 2, 4, 0, 1, 2, 1, 2, 3, 5, 5, 6, 0, 5, 2, 3, 5, 1, 2, 0, 0, 9, 0, 2, 0];
 
 /// The bytes of a record before its letters.
 fn head(edition: Edition) -> usize {
@@ -42,6 +43,9 @@ fn one_book(sides: &mut Sides, edition: Edition, book: &[u8]) {
     }
     sides.append(edition, book, 3, 4, &[4, 3], book.len() + head(edition) + 4);
     sides.append(edition, book, 3, 4, &[4, 3], book.len() + head(edition) + 3);
+    let need = converted_length(edition, book.len(), count.max(0) as usize);
+    sides.convert(edition, book, need);
+    sides.convert(edition, book, need.saturating_sub(1));
 }
 
 pub fn examples(sides: &mut Sides) {
@@ -56,6 +60,7 @@ pub fn examples(sides: &mut Sides) {
         }
         for out in 0..40 {
             sides.append(edition, example, 1, 1, &[1, 1], out);
+            sides.convert(edition, example, out);
         }
         for at in 0..example.len() {
             for value in 0..=255 {
@@ -80,6 +85,7 @@ pub fn examples(sides: &mut Sides) {
                 sides.book_check(edition, &[low, high]);
                 sides.preset(edition, &[low, high], 0, 4);
                 sides.append(edition, &[low, high], 1, 1, &[], 9);
+                sides.convert(edition, &[low, high], 2);
                 sides.book_check(edition, &[low, high, 0]);
                 sides.book_check(edition, &[0, 0, 0, 0, low, high, 1, 0]);
                 sides.book_check(edition, &[1, 1, low, high, 0, 0, 1, 0]);
@@ -87,8 +93,7 @@ pub fn examples(sides: &mut Sides) {
             }
         }
         // Read as the other edition.
-        let other = if edition == First { Second } else { First };
-        one_book(sides, other, example);
+        one_book(sides, other(edition), example);
     }
 }
 
@@ -150,7 +155,7 @@ fn held_to_values(sides: &mut Sides) {
 }
 
 /// The bytes of a book with these records.
-fn book_with(records: impl Iterator<Item = Vec<u8>>) -> Vec<u8> {
+pub fn book_with(records: impl Iterator<Item = Vec<u8>>) -> Vec<u8> {
     let mut book = Vec::new();
     let mut offsets = Vec::new();
     let mut count = 0u16;

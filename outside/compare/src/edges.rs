@@ -32,6 +32,7 @@ fn every_call(sides: &mut Sides, kind: u32, rank: u32, word: &[u8], window: &[i8
         let mut book = record(edition, kind, rank, word);
         book.extend([0, 0, 1, 0]);
         sides.preset(edition, &book, 0, 4);
+        sides.convert(edition, &book, book.len() + 1);
     }
 }
 
@@ -220,5 +221,9 @@ pub fn order_of_checks(sides: &mut Sides) {
         }
         sides.book_check(First, book);
         sides.book_check(Second, book);
+        for out in 0..=11 {
+            sides.convert(First, book, out);
+            sides.convert(Second, book, out);
+        }
     }
 }

@@ -5,6 +5,7 @@
 //! group, `compare N SEED` starts them elsewhere. It prints how many calls each group compared, and ends with status 1 if
 //! any differed.
 mod books;
+mod conversions;
 mod edges;
 mod examples;
 mod exhaustive;
@@ -82,6 +83,7 @@ fn main() -> ExitCode {
     group("rewriting to the end, at random places", &rewriting::to_the_end);
     group("books: the example in both editions, each byte changed, each part", &books::examples);
     group("books: random, damaged, full", &books::others);
+    group("books from one edition to the other and back: random, damaged, full", &conversions::run);
     group(&format!("{inputs} random inputs over all calls, from seed {seed}"), &random_inputs);
     let sides = run(&groups);
     println!("{:>10} calls in all, {} different", sides.calls, sides.differences);

@@ -1,5 +1,6 @@
 //! Random inputs over all calls, right and damaged, short and long.
 use crate::books::{damage_book, random_book};
+use crate::conversions::converted_length;
 use crate::inputs::{KINDS, Random};
 use crate::sides::{ROOM, Sides};
 use winnathey::Edition::{First, Second};
@@ -169,9 +170,13 @@ fn book(sides: &mut Sides, random: &mut Random) {
     if random.once_in(3) {
         damage_book(random, &mut book);
     }
-    match random.below(4) {
+    match random.below(5) {
         0 => {
             sides.book_check(edition, &book);
+        }
+        4 => {
+            let out = random.output(converted_length(edition, book.len(), records) as i64);
+            sides.convert(edition, &book, out);
         }
         3 => {
             let first = if random.once_in(10) { random.next() as usize } else { random.below(records + 2) };

@@ -188,3 +188,11 @@ pub fn second_presets(book: &[u8], first: usize, fields: &mut [u64]) -> Option<i
 pub fn second_append(book: &[u8], kind: u32, rank: u32, word: &[u8], out: &mut [u8]) -> Option<i64> {
     longer(Edition::Second, book, kind, rank, word, out)
 }
+
+pub fn to_second(book: &[u8], out: &mut [u8]) -> Option<i64> {
+    Some(coded(winnathey::convert(Edition::First, book, out)))
+}
+
+pub fn to_first(book: &[u8], out: &mut [u8]) -> Option<i64> {
+    Some(coded(winnathey::convert(Edition::Second, book, out)))
+}

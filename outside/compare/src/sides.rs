@@ -339,6 +339,14 @@ impl Sides {
         }
     }
 
+    /// The edition is the lent book's.
+    pub fn convert(&mut self, edition: Edition, book: &[u8], out: usize) -> i64 {
+        match edition {
+            First => compared!(self, to_second, (book), bytes: out => whole),
+            Second => compared!(self, to_first, (book), bytes: out => whole),
+        }
+    }
+
     /// Runs a call with outputs of every interesting length: empty, one element, one too short, exact, one and many more.
     pub fn each_length(&mut self, mut call: impl FnMut(&mut Sides, usize) -> i64) -> i64 {
         let answer = call(self, ROOM);

@@ -1,4 +1,4 @@
-//! Preset books of both editions: checks 1 to 4, reading by number, appending.
+//! Preset books of both editions: checks 1 to 4, reading by number, appending, turning one edition into the other.
 use crate::checks::{check_rank, check_word};
 use crate::{A, B, D, MAX_BOOK, Refusal, coded, front, lanes};
 
@@ -16,6 +16,13 @@ impl Edition {
         match self {
             First => 4,
             Second => 5,
+        }
+    }
+
+    fn other(self) -> Edition {
+        match self {
+            First => Second,
+            Second => First,
         }
     }
 
@@ -125,6 +132,15 @@ fn run(edition: Edition, book: &[u8], first: usize, fields: &mut [u64]) -> i64 {
     })())
 }
 
+/// A record's head in the front of five bytes, and its length. The letter count has been checked to fit.
+fn head_of(edition: Edition, kind: u8, rank: u8, letters: usize) -> ([u8; 5], usize) {
+    let [low, high] = (letters as u16).to_le_bytes();
+    match edition {
+        First => ([kind, rank, low, high, 0], 4),
+        Second => ([kind, rank, lanes(kind.into(), rank) as u8, low, high], 5),
+    }
+}
+
 /// Writes the book with one record more.
 fn longer(edition: Edition, book: &[u8], kind: u32, rank: u32, word: &[u8], out: &mut [u8]) -> i64 {
     coded((|| {
@@ -136,20 +152,58 @@ fn longer(edition: Edition, book: &[u8], kind: u32, rank: u32, word: &[u8], out:
             return Err(13);
         }
         let out = front(out, length)?;
-        // Below 65,535 bytes, so each of these fits in two.
-        let letters = (word.len() as u16).to_le_bytes();
+        // At most 65,535 bytes, so each of these fits in two.
         let offset = (start as u16).to_le_bytes();
         let count_now = (count as u16 + 1).to_le_bytes();
-        let head = [kind as u8, rank, lanes(kind, rank) as u8];
-        let head = &head[..edition.head() - 2];
+        let (head, size) = head_of(edition, kind as u8, rank, word.len());
         let (records, offsets) = (&book[..start], &book[start..book.len() - 2]);
-        let parts: [&[u8]; 7] = [records, head, &letters, word, offsets, &offset, &count_now];
+        let parts: [&[u8]; 6] = [records, &head[..size], word, offsets, &offset, &count_now];
         let mut rest = out;
         for part in parts {
             let (here, after) = rest.split_at_mut(part.len());
             here.copy_from_slice(part);
             rest = after;
         }
+        Ok(length)
+    })())
+}
+
+/// The most lanes of a first-edition record.
+const FIRST_LANES: usize = 32;
+
+/// Writes the book in the other edition. Each record is checked before anything is written, and 18 comes after its 8.
+fn converted(edition: Edition, book: &[u8], out: &mut [u8]) -> i64 {
+    coded((|| {
+        let (count, start) = check(edition, book)?;
+        for number in 0..count {
+            let [kind, rank, ..] = read(edition, book, start + 2 * number)?;
+            if edition == Second && lanes(kind as u32, rank as u8) > FIRST_LANES {
+                return Err(18);
+            }
+        }
+        // The lane count comes to each record or goes from it.
+        let length = match edition {
+            First => book.len() + count,
+            Second => book.len() - count,
+        };
+        if length > MAX_BOOK {
+            return Err(13);
+        }
+        let (records, trailer) = front(out, length)?.split_at_mut(length - 2 * count - 2);
+        let (numbers, _) = trailer.as_chunks_mut::<2>();
+        let mut end = 0;
+        for (number, offset) in numbers[..count].iter_mut().enumerate() {
+            *offset = (end as u16).to_le_bytes();
+            let record = two(book, start + 2 * number);
+            let at = record + edition.head();
+            let letters = two(book, at - 2);
+            let (head, size) = head_of(edition.other(), book[record], book[record + 1], letters);
+            records[end..end + size].copy_from_slice(&head[..size]);
+            end += size;
+            records[end..end + letters].copy_from_slice(&book[at..at + letters]);
+            end += letters;
+        }
+        numbers[count] = (count as u16).to_le_bytes();
         Ok(length)
     })())
 }
@@ -184,4 +238,12 @@ pub fn second_presets(book: &[u8], first: usize, fields: &mut [u64]) -> i64 {
 
 pub fn second_append(book: &[u8], kind: u32, rank: u32, word: &[u8], out: &mut [u8]) -> i64 {
     longer(Second, book, kind, rank, word, out)
+}
+
+pub fn to_second(book: &[u8], out: &mut [u8]) -> i64 {
+    converted(First, book, out)
+}
+
+pub fn to_first(book: &[u8], out: &mut [u8]) -> i64 {
+    converted(Second, book, out)
 }

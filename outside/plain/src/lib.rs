@@ -13,7 +13,10 @@ mod table;
 mod window;
 mod word;
 
-pub use book::{append, book_check, preset, presets, second_append, second_book_check, second_preset, second_presets};
+pub use book::{
+    append, book_check, preset, presets, second_append, second_book_check, second_preset, second_presets, to_first,
+    to_second,
+};
 pub use fallback::{NO_FALLBACK, fallback};
 pub use rules::{NONE_FITS, Rule, rewrite, rules};
 

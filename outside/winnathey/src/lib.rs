@@ -472,6 +472,34 @@ pub fn append(edition: Edition, book: &[u8], added: Preset, out: &mut [u8]) -> R
     })
 }
 
+/// Writes a book in the other edition, with the same presets in the same order, and answers with its length. `edition`
+/// is the one of `book`. Refusals 1 to 3 of the book; then record by record, in order, 5 to 8, and in the second edition
+/// 17 after 6 and 18 after 8; then 13, 14.
+///
+/// ```
+/// use winnathey::{Edition, MAX_BOOK, convert};
+///
+/// // B2 with the word 1 2 1 2, in either edition.
+/// let first = [2, 2, 4, 0, 1, 2, 1, 2, 0, 0, 1, 0];
+/// let second = [2, 2, 2, 4, 0, 1, 2, 1, 2, 0, 0, 1, 0];
+/// let mut out = [0; MAX_BOOK];
+/// let length = convert(Edition::First, &first, &mut out)?;
+/// assert_eq!(out[..length], second);
+/// let length = convert(Edition::Second, &second, &mut out)?;
+/// assert_eq!(out[..length], first);
+///
+/// // B33 has more lanes than a record of the first edition may have.
+/// let wide = [2, 33, 33, 0, 0, 0, 0, 1, 0];
+/// assert_eq!(convert(Edition::Second, &wide, &mut out).unwrap_err().number(), 18);
+/// # Ok::<(), winnathey::Refusal>(())
+/// ```
+pub fn convert(edition: Edition, book: &[u8], out: &mut [u8]) -> Result<usize, Refusal> {
+    answered(match edition {
+        Edition::First => raw::to_second(book, out),
+        Edition::Second => raw::to_first(book, out),
+    })
+}
+
 #[cfg(test)]
 mod tests {
     use super::*;
@@ -511,6 +539,7 @@ mod tests {
         assert_eq!(number(append(Edition::First, &book, Preset { word: &[1; 4096], ..empty }, &mut letters)), 13);
         assert_eq!(number(append(Edition::First, &book, empty, &mut letters[..book.len() + 5])), 14);
         assert_eq!(number(preset(Edition::Second, &[1, 2, 2, 0, 0, 0, 0, 1, 0], 0)), 17);
+        assert_eq!(number(convert(Edition::Second, &[1, 32, 33, 0, 0, 0, 0, 1, 0], &mut letters)), 18);
         assert_eq!(number(delay_table(Kind::D, 17, &mut [0; MAX_COUNTS], &mut lanes, &mut letters)), 20);
     }
 

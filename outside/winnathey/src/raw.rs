@@ -185,6 +185,8 @@ mod c {
             out: *mut u8,
             out_len: usize,
         ) -> i64;
+        pub fn winnathey_to_second(book: *const u8, book_len: usize, out: *mut u8, out_len: usize) -> i64;
+        pub fn winnathey_to_first(book: *const u8, book_len: usize, out: *mut u8, out_len: usize) -> i64;
     }
 }
 
@@ -424,4 +426,16 @@ pub fn second_append(book: &[u8], kind: u32, rank: u32, word: &[u8], out: &mut [
             out.len(),
         )
     }
+}
+
+/// A book of the first edition as one of the second.
+#[inline]
+pub fn to_second(book: &[u8], out: &mut [u8]) -> i64 {
+    unsafe { c::winnathey_to_second(book.as_ptr(), book.len(), out.as_mut_ptr(), out.len()) }
+}
+
+/// A book of the second edition as one of the first.
+#[inline]
+pub fn to_first(book: &[u8], out: &mut [u8]) -> i64 {
+    unsafe { c::winnathey_to_first(book.as_ptr(), book.len(), out.as_mut_ptr(), out.len()) }
 }

@@ -3,7 +3,7 @@ use std::error::Error;
 use std::fmt;
 
 /// The refusals by their numbers.
-const SENTENCES: [(u8, &str); 16] = [
+const SENTENCES: [(u8, &str); 17] = [
     (1, "the book has fewer than 2 or more than 65,535 bytes"),
     (2, "two times c, plus 2, exceeds the book's length"),
     (
@@ -23,6 +23,7 @@ const SENTENCES: [(u8, &str); 16] = [
     (13, "the appended book would exceed 65,535 bytes"),
     (14, "an output is shorter than the part of the answer that goes there"),
     (17, "the lane count is not n + 1 for A or n for B and D"),
+    (18, "a second-edition record going back has more than 32 lanes"),
     (20, "the rank is above 19 for A or above 16 for B or D"),
 ];
 
@@ -148,7 +149,7 @@ mod tests {
 
     #[test]
     fn a_number_without_a_sentence_is_not_known() {
-        assert!((1..=14).chain([17, 20]).all(|number| !Refusal(number).meaning().contains("not know")));
-        assert!([0, 15, 16, 18, 19, 21, 255].iter().all(|&number| Refusal(number).meaning().contains("not know")));
+        assert!((1..=14).chain([17, 18, 20]).all(|number| !Refusal(number).meaning().contains("not know")));
+        assert!([0, 15, 16, 19, 21, 255].iter().all(|&number| Refusal(number).meaning().contains("not know")));
     }
 }

@@ -1,0 +1,2 @@
+-- What the proofs of the module `converting` share.
+pub mod Conversions

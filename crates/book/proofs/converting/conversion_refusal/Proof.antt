@@ -1,0 +1,63 @@
+-- `converting::conversion_refusal` makes the checks in order: the book's, the records', the new size.
+-- Assumes nothing.
+use mathlib.Core.Path.{sym, _∙_}
+use native.Mathlib.Omega.{arith}
+use Rattle.book_format.proofs.BookLaws.{accepted-read}
+use Rattle.book.proofs.converting.Conversions.{conversion-book, conversion-records, conversion-large, conversion-none}
+use borrow.Author.Needs.{needs}
+use Rattle.book.proofs.converting.conversion_refusal.Statement.{statement}
+use Rattle.book.proofs.converting.conversion_refusal.Tie as tie
+
+book-refusal-requires : tie.Need-book-refusal-requires
+book-refusal-requires c κs = search needs
+
+returns : tie.Need-returns
+returns c = conversion-book _ _ _ (c .before .book-refusal .ensures) (c .if1 .taken)
+
+count-of-requires : tie.Need-count-of-requires
+count-of-requires c κs = accepted-read _ _ _ (c .before .book-refusal .ensures) (c .if1 .left) .least
+
+records-refusal-requires : tie.Need-records-refusal-requires
+records-refusal-requires c κs = search needs
+
+returns-2 : tie.Need-returns-2
+returns-2 c =
+    let counted = c .before .before in
+    let opened = counted .before in
+    conversion-records _ _ _ (opened .before .book-refusal .ensures) (opened .if1 .left) _ _ (counted .count-of .ensures .0) (c .before .records-refusal .ensures) (c .if2 .taken)
+
+converted-size-requires : tie.Need-converted-size-requires
+converted-size-requires c κs =
+    let counted = c .before .before in
+    let opened = counted .before in
+    let a = accepted-read _ _ _ (opened .before .book-refusal .ensures) (opened .if1 .left) in
+    (omega (arith, a .fits, counted .count-of .ensures .0), a .most)
+
+returns-3 : tie.Need-returns-3
+returns-3 c =
+    let passed = c .before .before in
+    let counted = passed .before .before in
+    let opened = counted .before in
+    conversion-large _ _ _ (opened .before .book-refusal .ensures) (opened .if1 .left) _ _ (counted .count-of .ensures .0) (passed .before .records-refusal .ensures) (passed .if2 .left)
+    _ (c .before .converted-size .ensures) (c .if3 .taken)
+
+returns-4 : tie.Need-returns-4
+returns-4 c =
+    let passed = c .before .before in
+    let counted = passed .before .before in
+    let opened = counted .before in
+    conversion-none _ _ _ (opened .before .book-refusal .ensures) (opened .if1 .left) _ _ (counted .count-of .ensures .0) (passed .before .records-refusal .ensures) (passed .if2 .left)
+    _ (c .before .converted-size .ensures) (c .if3 .left)
+
+pub conversion-refusal-spec : {M : Type 1} → statement M
+conversion-refusal-spec =
+    tie.close
+    (tie.spec
+    book-refusal-requires
+    returns
+    count-of-requires
+    records-refusal-requires
+    returns-2
+    converted-size-requires
+    returns-3
+    returns-4)

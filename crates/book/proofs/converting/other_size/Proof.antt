@@ -1,0 +1,59 @@
+-- `converting::other_size` reads the letter count of the record.
+-- Assumes nothing.
+use native.Mathlib.Omega.{arith}
+use Rattle.book_format.proofs.BookLaws.{accepted}
+use Rattle.book.proofs.converting.Conversions.{inside, size-of-other}
+use borrow.Author.Needs.{needs}
+use Rattle.book.proofs.converting.other_size.Statement.{statement}
+use Rattle.book.proofs.converting.other_size.Tie as tie
+
+record-start-requires : tie.Need-record-start-requires
+record-start-requires c κs =
+    let pre = c .before .pre in
+    (pre .1, omega (arith, accepted _ _ (pre .0 .opens) .fits), pre .2)
+
+count-place-requires : tie.Need-count-place-requires
+count-place-requires c κs = search needs
+
+other-requires : tie.Need-other-requires
+other-requires c κs = search needs
+
+count-place-requires-2 : tie.Need-count-place-requires-2
+count-place-requires-2 c κs = search needs
+
+add-result : tie.Need-add-result
+add-result c = search needs
+
+add-two-at : tie.Need-add-two-at
+add-two-at c = search needs
+
+two-at-requires : tie.Need-two-at-requires
+two-at-requires c κs =
+    let read = c .before .before .before in
+    let pre = read .before .before .pre in
+    omega (arith, inside _ _ _ _ _ (pre .0 .opens) (pre .1) (pre .2) (read .record-start .ensures .0), c .before .before .count-place .ensures .0)
+
+add-result-2 : tie.Need-add-result-2
+add-result-2 c = search needs
+
+returns : tie.Need-returns
+returns c =
+    let placed = c .before .before .before in
+    let read = placed .before in
+    let pre = read .before .before .pre in
+    size-of-other _ _ (pre .0) _ (pre .1) _ _ _ _ (pre .2) (read .record-start .ensures .0) (placed .count-place .ensures .0) (c .two-at .ensures .0) _ _
+    (c .before .before .other .ensures) (c .before .count-place2 .ensures .0)
+
+pub other-size-spec : {M : Type 1} → statement M
+other-size-spec =
+    tie.close
+    (tie.spec
+    record-start-requires
+    count-place-requires
+    other-requires
+    count-place-requires-2
+    add-result
+    add-two-at
+    two-at-requires
+    add-result-2
+    returns)

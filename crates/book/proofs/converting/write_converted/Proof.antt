@@ -1,0 +1,58 @@
+-- `converting::write_converted` writes the records, the offsets and the count, one behind the other.
+-- Assumes nothing.
+use mathlib.Core.Path.{sym, _∙_}
+use native.Mathlib.Omega.{arith}
+use Rattle.book.proofs.converting.Conversions.{length-parts, all-written}
+use borrow.Author.Needs.{needs}
+use Rattle.book.proofs.converting.write_converted.Statement.{statement}
+use Rattle.book.proofs.converting.write_converted.Tie as tie
+
+write-others-requires : tie.Need-write-others-requires
+write-others-requires c κs = search needs
+
+write-offsets-requires : tie.Need-write-offsets-requires
+write-offsets-requires c κs =
+    let others = c .before .before .before in
+    let pre = others .before .before .before .before .pre in
+    (pre .0, pre .1, omega (arith, pre .2, length-parts _ _ (pre .0) _ (pre .1), others .write-others .ensures .1, others .write-others .kept .1 .1 .1 .0))
+
+mul-put-two : tie.Need-mul-put-two
+mul-put-two c =
+    let others = c .before .before .before .before .before .before .before in
+    let pre = others .before .before .before .before .pre in
+    omega (arith, length-parts _ _ (pre .0) _ (pre .1), pre .0 .small)
+
+add-put-two : tie.Need-add-put-two
+add-put-two c =
+    let others = c .before .before .before .before .before .before .before in
+    let pre = others .before .before .before .before .pre in
+    omega (arith, length-parts _ _ (pre .0) _ (pre .1), pre .0 .small, others .write-others .ensures .1)
+
+put-two-requires : tie.Need-put-two-requires
+put-two-requires c κs =
+    let others = c .before .before .before .before .before .before .before in
+    let pre = others .before .before .before .before .pre in
+    omega (arith, pre .2, length-parts _ _ (pre .0) _ (pre .1), others .write-others .ensures .1, others .write-others .kept .1 .1 .1 .0, c .before .before .before .write-offsets .kept .1 .1 .1 .0)
+
+same-length : tie.Need-same-length
+same-length c = search needs
+
+returns : tie.Need-returns
+returns c =
+    let put = c .before .before in
+    let offsets = put .before .before .before .before in
+    let others = offsets .before .before .before .before in
+    let pre = others .before .before .before .before .pre in
+    all-written _ _ (pre .0) _ (pre .1) _ _ _ _ _ (others .write-others .ensures) (offsets .write-offsets .ensures) (put .put-two .ensures)
+
+pub write-converted-spec : {M : Type 1} → statement M
+write-converted-spec =
+    tie.close
+    (tie.spec
+    write-others-requires
+    write-offsets-requires
+    mul-put-two
+    add-put-two
+    put-two-requires
+    same-length
+    returns)

@@ -1,0 +1,113 @@
+-- `converting::write_other` hands the letters of the record, a part of the book, to `write_record` of the other edition.
+-- Assumes nothing.
+use native.Mathlib.Omega.{arith}
+use Rattle.book_format.proofs.BookLaws.{accepted, two-le-countPlace}
+use Rattle.book.proofs.converting.Conversions.{inside, rank-fits, end-inside, room-for, other-written}
+use borrow.Author.Needs.{needs}
+use Rattle.book.proofs.converting.write_other.Statement.{statement}
+use Rattle.book.proofs.converting.write_other.Tie as tie
+
+record-start-requires : tie.Need-record-start-requires
+record-start-requires c κs =
+    let pre = c .before .before .pre .0 in
+    (pre .1, omega (arith, accepted _ _ (pre .0 .opens) .fits), pre .2)
+
+count-place-requires : tie.Need-count-place-requires
+count-place-requires c κs = search needs
+
+add-start : tie.Need-add-start
+add-start c = search needs
+
+add-start-2 : tie.Need-add-start-2
+add-start-2 c = search needs
+
+add-two-at : tie.Need-add-two-at
+add-two-at c = search needs
+
+two-at-requires : tie.Need-two-at-requires
+two-at-requires c κs =
+    let read = c .before in
+    let pre = read .before .before .before .pre .0 in
+    omega (arith, inside _ _ _ _ _ (pre .0 .opens) (pre .1) (pre .2) (read .record-start .ensures .0), c .count-place .ensures .0)
+
+add-end : tie.Need-add-end
+add-end c = search needs
+
+other-requires : tie.Need-other-requires
+other-requires c κs = search needs
+
+shared-slice-read-write-record : tie.Need-shared-slice-read-write-record
+shared-slice-read-write-record c =
+    let read = c .before .before .before .before in
+    let pre = read .before .before .before .pre .0 in
+    omega (arith, inside _ _ _ _ _ (pre .0 .opens) (pre .1) (pre .2) (read .record-start .ensures .0))
+
+add-write-record : tie.Need-add-write-record
+add-write-record c = search needs
+
+shared-slice-read-write-record-2 : tie.Need-shared-slice-read-write-record-2
+shared-slice-read-write-record-2 c =
+    let read = c .before .before .before .before .before in
+    let pre = read .before .before .before .pre .0 in
+    omega (arith, inside _ _ _ _ _ (pre .0 .opens) (pre .1) (pre .2) (read .record-start .ensures .0), two-le-countPlace (read .before .before .before .args .edition))
+
+sub-write-record : tie.Need-sub-write-record
+sub-write-record c = search needs
+
+part-write-record-start : tie.Need-part-write-record-start
+part-write-record-start c = search needs
+
+part-write-record-end : tie.Need-part-write-record-end
+part-write-record-end c =
+    let counted = c .before .before .before in
+    let placed = counted .before in
+    let read = placed .before in
+    let pre = read .before .before .before .pre .0 in
+    end-inside _ _ (pre .0) _ (pre .1) _ _ _ _ (pre .2) (read .record-start .ensures .0) (placed .count-place .ensures .0) (counted .two-at .ensures .0)
+
+write-record-requires : tie.Need-write-record-requires
+write-record-requires c κs =
+    let counted = c .before .before .before .before .before in
+    let placed = counted .before in
+    let read = placed .before in
+    let start = read .before .before .before in
+    let pre = start .pre .0 in (
+      rank-fits _ _ (pre .0) _ (pre .1) _ _ _ _ (pre .2) (read .record-start .ensures .0) (placed .count-place .ensures .0) (counted .two-at .ensures .0),
+      room-for _ _ (pre .0) _ (pre .1) _ _ _ _ (pre .2) (read .record-start .ensures .0) (placed .count-place .ensures .0) (counted .two-at .ensures .0) _ _ _
+          (c .before .before .before .before .other .ensures) (start .pre .1),
+    )
+
+same-length : tie.Need-same-length
+same-length c = search needs
+
+returns : tie.Need-returns
+returns c =
+    let written = c .before .before in
+    let counted = written .before .before .before .before .before .before in
+    let placed = counted .before in
+    let read = placed .before in
+    let pre = read .before .before .before .pre .0 in
+    other-written _ _ (pre .0) _ (pre .1) _ _ _ _ (pre .2) (read .record-start .ensures .0) (placed .count-place .ensures .0) (counted .two-at .ensures .0) _ _ _ _
+    (written .before .before .before .before .before .other .ensures) (written .write-record .ensures)
+
+pub write-other-spec : {M : Type 1} → statement M
+write-other-spec =
+    tie.close
+    (tie.spec
+    record-start-requires
+    count-place-requires
+    add-start
+    add-start-2
+    add-two-at
+    two-at-requires
+    add-end
+    other-requires
+    shared-slice-read-write-record
+    add-write-record
+    shared-slice-read-write-record-2
+    sub-write-record
+    part-write-record-start
+    part-write-record-end
+    write-record-requires
+    same-length
+    returns)

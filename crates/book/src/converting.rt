@@ -1,0 +1,203 @@
+// A book turned into the other edition: the checks of each record, then the records one after the other, their offsets and the count.
+use crate::numbers::count_of;
+use crate::numbers::put_two;
+use crate::numbers::two_at;
+use crate::reading::LARGEST;
+use crate::reading::book_refusal;
+use crate::reading::check_record;
+use crate::records::count_place;
+use crate::writing::write_record;
+use book_format::Edition;
+use book_format::Preset;
+use window::Answer;
+ghost use mathlib.Core.Path.{_≡_};
+ghost use Prim.Native.Nat.{_+_, _*_, _≤_, _<_};
+ghost use lib.ListN.{length};
+ghost use lib.Seq.{sets};
+ghost use Rattle.book_format.specs.Books.{count, offset, countPlace, headSize, kindAt, rankAt, lanesAt, letterCountAt, lettersAt, bookRefusal, recordOf};
+ghost use Rattle.book_format.specs.Records.{recordBytes, offsetBytes, recordsFrom};
+ghost use Rattle.book_format.specs.Conversion as conversion;
+ghost use Rattle.book_format.specs.Conversion.{converted, tooManyLanes, recordConversionRefusal, recordsConversionRefusal, conversionRefusal, converting};
+ghost use Rattle.book_format.proofs.Converting.{Convertible, sizeOf};
+
+fn other(edition: Edition) -> Edition
+    ensures { λ r. ⌜ r ≡ conversion.other edition ⌝ }
+{
+    match edition {
+        Edition::First => Edition::Second,
+        Edition::Second => Edition::First,
+    }
+}
+
+// The size of the converted book: a record has one byte more in the second edition.
+fn converted_size(edition: Edition, length: usize, c: usize) -> usize
+    requires { ⌜ (c ≤ length) × (length ≤ 65535) ⌝ }
+    ensures { λ r. ⌜ r ≡ sizeOf edition length c ⌝ }
+{
+    match edition {
+        Edition::First => length + c,
+        Edition::Second => length - c,
+    }
+}
+
+// Where the record of a number begins, in a book of c presets that passes checks 1 to 3.
+fn record_start(book: &[u8], c: usize, number: usize) -> usize
+    requires { ⌜ (c ≡ count (now book)) × (2 * c + 2 ≤ length (now book)) × (number < c) ⌝ }
+    ensures { λ r. ⌜ (r ≡ offset (now (book .entry)) number) × (r < 65536) ⌝ }
+{
+    let trailer = book.len() - (2 * c + 2);
+    two_at(book, trailer + 2 * number)
+}
+
+// Check 18, of the record at byte o. Going to the second edition no record has too many lanes.
+fn has_too_many_lanes(edition: Edition, book: &[u8], o: usize) -> bool
+    requires { ⌜ o + countPlace edition ≤ length (now book) ⌝ }
+    ensures { λ r. ⌜ r ≡ tooManyLanes edition (now (book .entry)) o ⌝ }
+{
+    match edition {
+        Edition::First => false,
+        Edition::Second => 32 < book[o + 2],
+    }
+}
+
+// Checks 5 to 8, with 17, and 18, of a record by its number.
+fn record_refusal(edition: Edition, book: &[u8], c: usize, number: usize) -> u8
+    requires { ⌜ (bookRefusal edition (now book) ≡ 0) × (c ≡ count (now book)) × (number < c) ⌝ }
+    ensures { λ r. ⌜ r ≡ recordConversionRefusal edition (now (book .entry)) (offset (now (book .entry)) number) ⌝ }
+{
+    let o = record_start(book, c, number);
+    let Preset::Refused(r) = check_record(edition, book, o) else {
+        if has_too_many_lanes(edition, book, o) {
+            return 18;
+        }
+        return 0;
+    };
+    r
+}
+
+// The first refusal of a record, or 0.
+fn records_refusal(edition: Edition, book: &[u8], c: usize) -> u8
+    requires { ⌜ (bookRefusal edition (now book) ≡ 0) × (c ≡ count (now book)) ⌝ }
+    ensures { λ r. ⌜ r ≡ recordsConversionRefusal edition (now (book .entry)) c 0 ⌝ }
+{
+    let mut i = 0;
+    while i < c {
+        let r = record_refusal(edition, book, c, i);
+        if r != 0 {
+            return r;
+        }
+        i += 1;
+    }
+    0
+}
+
+// Checks 1 to 3 of the book, each record's in order, 13.
+fn conversion_refusal(edition: Edition, book: &[u8]) -> u8
+    ensures { λ r. ⌜ r ≡ conversionRefusal edition (now (book .entry)) ⌝ }
+{
+    let r = book_refusal(edition, book);
+    if r != 0 {
+        return r;
+    }
+    let c = count_of(book);
+    let s = records_refusal(edition, book, c);
+    if s != 0 {
+        return s;
+    }
+    if LARGEST < converted_size(edition, book.len(), c) {
+        return 13;
+    }
+    0
+}
+
+// The size of a record in the other edition, by its number.
+fn other_size(edition: Edition, book: &[u8], c: usize, number: usize) -> usize
+    requires { ⌜ (Convertible edition (now book)) × (c ≡ count (now book)) × (number < c) ⌝ }
+    ensures { λ r. ⌜ r ≡ headSize (conversion.other edition) + letterCountAt edition (now (book .entry)) (offset (now (book .entry)) number) ⌝ }
+{
+    let o = record_start(book, c, number);
+    let place = count_place(edition);
+    let new_place = count_place(other(edition));
+    new_place + 2 + two_at(book, o + place)
+}
+
+// The record of a number, written from p on in the other edition.
+fn write_other(edition: Edition, book: &[u8], c: usize, number: usize, out: &mut [u8], p: usize)
+    requires { ⌜ (Convertible edition (now book)) × (c ≡ count (now book)) × (number < c) ⌝ }
+    requires { ⌜ p + headSize (conversion.other edition) + letterCountAt edition (now book) (offset (now book) number) ≤ length (now out) ⌝ }
+    ensures { λ _. ⌜ now (out .exit) ≡ sets (now (out .entry)) p (recordOf (conversion.other edition)
+        (kindAt (now (book .entry)) (offset (now (book .entry)) number)) (rankAt (now (book .entry)) (offset (now (book .entry)) number))
+        (lanesAt edition (now (book .entry)) (offset (now (book .entry)) number)) (lettersAt edition (now (book .entry)) (offset (now (book .entry)) number))) ⌝ }
+{
+    let o = record_start(book, c, number);
+    let place = count_place(edition);
+    let start = o + (place + 2);
+    let end = start + two_at(book, o + place);
+    write_record(
+        other(edition),
+        book[o],
+        book[o + 1],
+        &book[start..end],
+        out,
+        p,
+    );
+}
+
+// The records, written from byte 0 on. Answers where they end.
+fn write_others(edition: Edition, book: &[u8], c: usize, out: &mut [u8]) -> usize
+    requires { ⌜ (Convertible edition (now book)) × (c ≡ count (now book)) × (length (converted edition (now book)) ≤ length (now out)) ⌝ }
+    ensures { λ r. ⌜ (now (out .exit) ≡ sets (now (out .entry)) 0 (recordBytes (conversion.other edition) (recordsFrom edition (now (book .entry)) c 0)))
+        × (r ≡ length (recordBytes (conversion.other edition) (recordsFrom edition (now (book .entry)) c 0))) ⌝ }
+{
+    let mut p = 0;
+    let mut i = 0;
+    while i < c {
+        write_other(edition, book, c, i, out, p);
+        p += other_size(edition, book, c, i);
+        i += 1;
+    }
+    p
+}
+
+// The offsets of the converted records, written from p on.
+fn write_offsets(edition: Edition, book: &[u8], c: usize, out: &mut [u8], p: usize)
+    requires { ⌜ (Convertible edition (now book)) × (c ≡ count (now book)) × (p + 2 * c ≤ length (now out)) ⌝ }
+    ensures { λ _. ⌜ now (out .exit) ≡ sets (now (out .entry)) p (offsetBytes (conversion.other edition) 0 (recordsFrom edition (now (book .entry)) c 0)) ⌝ }
+{
+    let mut o = 0;
+    let mut i = 0;
+    while i < c {
+        put_two(out, p + 2 * i, o);
+        o += other_size(edition, book, c, i);
+        i += 1;
+    }
+}
+
+// The new book written to the front of `out`.
+fn write_converted(edition: Edition, book: &[u8], c: usize, out: &mut [u8])
+    requires { ⌜ (Convertible edition (now book)) × (c ≡ count (now book)) × (length (converted edition (now book)) ≤ length (now out)) ⌝ }
+    ensures { λ _. ⌜ now (out .exit) ≡ sets (now (out .entry)) 0 (converted edition (now (book .entry))) ⌝ }
+{
+    let p = write_others(edition, book, c, out);
+    write_offsets(edition, book, c, out, p);
+    put_two(out, p + 2 * c, c);
+}
+
+// Converting a book of the edition to the other one: the length of the new book, written to the front of `out`. Checks 1 to 3 of the book, then record
+// by record its 5 to 8, in the second edition with 17 and then 18, then 13 and 14.
+pub fn convert(edition: Edition, book: &[u8], out: &mut [u8]) -> Answer
+    ensures { λ r. ⌜ r ≡ converting edition (now (book .entry)) (now (out .entry)) .answer ⌝ }
+    ensures { λ _. ⌜ now (out .exit) ≡ converting edition (now (book .entry)) (now (out .entry)) .bytes ⌝ }
+{
+    let r = conversion_refusal(edition, book);
+    if r != 0 {
+        return Answer::Refused(r);
+    }
+    let c = count_of(book);
+    let size = converted_size(edition, book.len(), c);
+    if out.len() < size {
+        return Answer::Refused(14);
+    }
+    write_converted(edition, book, c, out);
+    Answer::Length(size)
+}

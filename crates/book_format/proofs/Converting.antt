@@ -1,0 +1,343 @@
+-- A converted book is a book of the other edition with the same presets, and converting it back gives the bytes of the first. By the records: what
+-- they lay out has just these records (LayOuts), and each passes the checks of the other edition too.
+--
+-- Sections: one record; the records; the converted book; there and back; its size.
+-- Assumes nothing.
+use mathlib.Core.Path.{_≡_, refl, sym, ap, _∙_}
+use mathlib.Core.Bool.{false}
+use mathlib.Core.List.{List, [], _∷_}
+use Prim.Native.Nat.{ℕ, zero, suc, _+_, _-_, _*_, _≤_, _<_}
+use native.Mathlib.Decide.{ℕ-discrete}
+use native.Mathlib.Nat.{add-zero, zero-add, add-suc, suc-add}
+use native.Mathlib.Omega.{arith}
+use lib.Dec.{eqb, ltb}
+use lib.ListN.{length, length-append}
+use borrow.Author.Tests.{eq-eqb, ne-eqb, lt-ltb, le-ltb, eqb-true, ltb-false, not-false}
+use Rattle.coxeter.specs.Kinds.{Kind, A, B, D, kindOf, lanes, greatest}
+use Rattle.coxeter.specs.declared.Answer.the-variants as answer
+use Rattle.coxeter.specs.Checks.{check, _then_, tooShort, wordRefusal}
+use Rattle.coxeter.specs.Calls.{answerOf, writes}
+use Rattle.coxeter.proofs.Acceptance.{rank-within}
+use Rattle.coxeter.proofs.Refusals.{then-zero, check-zero, then-none}
+use Rattle.book_format.specs.declared.Edition.{Edition}
+use Rattle.book_format.specs.declared.Edition.the-variants.{First, Second}
+use Rattle.book_format.specs.declared.Preset.the-variants as preset
+use Rattle.book_format.specs.Books.{count, trailer, offset, headSize, kindAt, rankAt, lanesAt, letterCountAt, lettersAt, endAt, misplacedFrom, tooLarge, greatestInBook, wrongLaneCount, bookRankRefusal, bookRefusal, recordRefusal, presetRefusal}
+use Rattle.book_format.specs.Records.{Record, recordBytes, layOut, recordAt, recordsFrom, recordsOf, Bytes}
+use Rattle.book_format.specs.Calls.{presetOf, checkedPreset, lettersOf}
+use Rattle.book_format.specs.Conversion.{other, converted, tooManyLanes, recordConversionRefusal, recordsConversionRefusal, conversionRefusal, converting, SamePreset, Converted}
+use Rattle.book_format.proofs.RankLaws.{bookRank-accepted, bookRankRefusal-none, bookRank-within}
+use Rattle.book_format.proofs.BookLaws.{Accepted, accepted, first, trailer-le, endAt-offset-le}
+use Rattle.book_format.proofs.PresetLaws.{presetRefusal-record}
+use Rattle.book_format.proofs.WritingLaws.{length-recordOf}
+use Rattle.book_format.proofs.AppendedParts.{trailer-count}
+use Rattle.book_format.proofs.Appending.{walk-end, recordRefusal-of, checkedPreset-of, lettersOf-of}
+use Rattle.book_format.proofs.RecordLaws.{layOut-recordsOf, length-recordsFrom, length-lettersAt, placed-from}
+use Rattle.book_format.proofs.LayOuts.{length-layOut, LanesRight, AllRight, laidOut}
+
+pub other-other : (ed : Edition) → other (other ed) ≡ ed
+other-other First = refl
+other-other Second = refl
+
+-- ---- one record
+
+-- a record that no check of a conversion refuses
+pub record Passing (ed : Edition) (b : List ℕ) (o : ℕ) : Type 0 where
+  pub rank : bookRankRefusal ed (kindAt b o) (rankAt b o) ≡ 0
+  pub lanes-right : LanesRight (recordAt ed b o)
+  pub word : wordRefusal (rankAt b o) (lettersAt ed b o) ≡ 0
+  pub few : tooManyLanes ed b o ≡ false
+
+pub passing : (ed : Edition) (b : List ℕ) (o : ℕ) → recordConversionRefusal ed b o ≡ 0 → Passing ed b o
+unfolding recordConversionRefusal recordRefusal wrongLaneCount
+passing ed b o z =
+    let own = bookRankRefusal ed (kindAt b o) (rankAt b o) in
+    let word = wordRefusal (rankAt b o) (lettersAt ed b o) in
+    let a = then-zero (recordRefusal ed b o) (check 18 (tooManyLanes ed b o)) z in
+    let c = then-zero own (check 17 (wrongLaneCount ed b o) then word) (a .0) in
+    let d = then-zero (check 17 (wrongLaneCount ed b o)) word (c .1) in
+    record {
+      rank = c .0;
+      lanes-right = eqb-true (lanesAt ed b o) (lanes (kindOf (kindAt b o)) (rankAt b o)) (not-false (eqb (lanesAt ed b o) (lanes (kindOf (kindAt b o)) (rankAt b o))) (check-zero 16 (wrongLaneCount ed b o) (d .0)));
+      word = d .1;
+      few = check-zero 17 (tooManyLanes ed b o) (a .1);
+    }
+
+-- a rank of the first edition has at most 32 lanes, and one with so few is a rank of the first
+few-lanes : (k : Kind) (n : ℕ) → n ≤ greatestInBook First k → lanes k n ≤ 32
+few-lanes A n h = omega arith
+few-lanes B n h = omega arith
+few-lanes D n h = omega arith
+
+of-few-lanes : (k : Kind) (n : ℕ) → lanes k n ≤ 32 → n ≤ greatestInBook First k
+of-few-lanes A n h = omega arith
+of-few-lanes B n h = omega arith
+of-few-lanes D n h = omega arith
+
+-- its rank is one of the other edition too
+rank-other : (ed : Edition) (b : List ℕ) (o : ℕ) → Passing ed b o → bookRankRefusal (other ed) (kindAt b o) (rankAt b o) ≡ 0
+unfolding tooManyLanes
+rank-other First b o p =
+    let r = bookRank-accepted First (kindAt b o) (rankAt b o) (p .rank) in
+    bookRankRefusal-none Second (kindAt b o) (rankAt b o) 0 (sym r) refl (rank-within (kindAt b o) (rankAt b o) r .1)
+rank-other Second b o p =
+    let r = bookRank-accepted Second (kindAt b o) (rankAt b o) (p .rank) in
+    let h : lanes (kindOf (kindAt b o)) (rankAt b o) ≤ 32 = rw (← p .lanes-right) (ltb-false 32 (lanesAt Second b o) (p .few)) in
+    bookRankRefusal-none First (kindAt b o) (rankAt b o) 0 (sym r) refl (of-few-lanes (kindOf (kindAt b o)) (rankAt b o) h)
+
+-- and going back it has few enough lanes
+few-other : (ed : Edition) (b d : List ℕ) (o p : ℕ) → Passing ed b o → lanesAt (other ed) d p ≡ lanesAt ed b o → tooManyLanes (other ed) d p ≡ false
+unfolding tooManyLanes
+few-other First b d o p w e =
+    let h = few-lanes (kindOf (kindAt b o)) (rankAt b o) (bookRank-within First (kindAt b o) (rankAt b o) (w .rank) .1) in
+    rw (e, le-ltb 32 (lanes (kindOf (kindAt b o)) (rankAt b o)) h)
+few-other Second b d o p w e = refl
+
+-- ---- the records
+
+-- each of the t records from record i on passes
+module _ (ed : Edition) (b : List ℕ) where
+  record-passes : (t i j : ℕ) → recordsConversionRefusal ed b t i ≡ 0 → j < t → Passing ed b (offset b (i + j))
+  unfolding recordsConversionRefusal
+  record-passes zero i j z h = absurd (omega arith)
+  record-passes (suc t) i zero z h =
+      rw (add-zero i) (passing ed b (offset b i) (then-zero (recordConversionRefusal ed b (offset b i)) (recordsConversionRefusal ed b t (suc i)) z .0))
+  record-passes (suc t) i (suc j) z h =
+      rw (add-suc i j, ← suc-add i j)
+      (record-passes t (suc i) j (then-zero (recordConversionRefusal ed b (offset b i)) (recordsConversionRefusal ed b t (suc i)) z .1) (omega arith))
+
+  lanes-all-right : (t i : ℕ) → recordsConversionRefusal ed b t i ≡ 0 → AllRight (recordsFrom ed b t i)
+  unfolding recordsConversionRefusal recordsFrom
+  lanes-all-right zero i z = tt
+  lanes-all-right (suc t) i z =
+      let a = then-zero (recordConversionRefusal ed b (offset b i)) (recordsConversionRefusal ed b t (suc i)) z in
+      (passing ed b (offset b i) (a .0) .lanes-right, lanes-all-right t (suc i) (a .1))
+
+-- books with the same records have them place by place
+record-same : (ed ed′ : Edition) (b d : List ℕ) (t i j : ℕ) → recordsFrom ed b t i ≡ recordsFrom ed′ d t i → j < t
+    → recordAt ed b (offset b (i + j)) ≡ recordAt ed′ d (offset d (i + j))
+unfolding recordsFrom
+record-same ed ed′ b d zero i j e h = absurd (omega arith)
+record-same ed ed′ b d (suc t) i zero e h = rw (add-zero i) (cc)
+record-same ed ed′ b d (suc t) i (suc j) e h =
+    let rest : recordsFrom ed b t (suc i) ≡ recordsFrom ed′ d t (suc i) = cc in
+    rw (add-suc i j, ← suc-add i j) (record-same ed ed′ b d t (suc i) j rest (omega arith))
+
+-- ---- the converted book
+
+-- what no check of a conversion refuses
+pub record Convertible (ed : Edition) (b : List ℕ) : Type 0 where
+  pub opens : bookRefusal ed b ≡ 0
+  pub passes : recordsConversionRefusal ed b (count b) 0 ≡ 0
+  pub small : length (converted ed b) ≤ 65535
+
+pub convertible : (ed : Edition) (b : List ℕ) → conversionRefusal ed b ≡ 0 → Convertible ed b
+unfolding conversionRefusal tooLarge
+convertible ed b z =
+    let records = recordsConversionRefusal ed b (count b) 0 in
+    let size = check 13 (tooLarge (length (converted ed b))) in
+    let a = then-zero (bookRefusal ed b) (records then size) z in
+    let c = then-zero records size (a .1) in
+    record { opens = a .0; passes = c .0; small = ltb-false 65535 (length (converted ed b)) (check-zero 12 (tooLarge (length (converted ed b))) (c .1)) }
+
+-- each of its records passes
+pub passing-at : (ed : Edition) (b : List ℕ) (i : ℕ) → Convertible ed b → i < count b → Passing ed b (offset b i)
+passing-at ed b i w h = rw (zero-add i) at (record-passes ed b (count b) 0 i (w .passes) h)
+
+module _ (ed : Edition) (b : List ℕ) (w : Convertible ed b) where
+  pub converted-opens : bookRefusal (other ed) (converted ed b) ≡ 0
+  unfolding converted recordsOf
+  converted-opens = laidOut (other ed) (recordsOf ed b) (lanes-all-right ed b (count b) 0 (w .passes)) (w .small) .opens
+
+  -- the records of both, with their lane counts
+  pub recordsOf-converted : recordsOf (other ed) (converted ed b) ≡ recordsOf ed b
+  unfolding converted recordsOf
+  recordsOf-converted = laidOut (other ed) (recordsOf ed b) (lanes-all-right ed b (count b) 0 (w .passes)) (w .small) .records
+
+  pub count-converted : count (converted ed b) ≡ count b
+  unfolding recordsOf
+  count-converted =
+      sym (length-recordsFrom (other ed) (converted ed b) (count (converted ed b)) 0) ∙ ap length recordsOf-converted ∙ length-recordsFrom ed b (count b) 0
+
+  same-record : (i : ℕ) → i < count b → recordAt ed b (offset b i) ≡ recordAt (other ed) (converted ed b) (offset (converted ed b) i)
+  unfolding recordsOf
+  same-record i h =
+      let e : recordsFrom ed b (count b) 0 ≡ recordsFrom (other ed) (converted ed b) (count b) 0 = sym (rw count-converted at recordsOf-converted) in
+      rw (← zero-add i) (record-same ed (other ed) b (converted ed b) (count b) 0 i e h)
+
+  -- what converting makes of record i, of which the letters are u: k and n are its kind and rank
+  record Kept (i k n : ℕ) (u : List ℕ) : Type 0 where
+    unrefused : presetRefusal (other ed) (converted ed b) i ≡ 0
+    kind : kindAt (converted ed b) (offset (converted ed b) i) ≡ k
+    rank : rankAt (converted ed b) (offset (converted ed b) i) ≡ n
+    laned : lanesAt (other ed) (converted ed b) (offset (converted ed b) i) ≡ lanes (kindOf k) n
+    letters : lettersAt (other ed) (converted ed b) (offset (converted ed b) i) ≡ u
+    size : letterCountAt (other ed) (converted ed b) (offset (converted ed b) i) ≡ length u
+
+  kept : (i : ℕ) → i < count b → Kept i (kindAt b (offset b i)) (rankAt b (offset b i)) (lettersAt ed b (offset b i))
+  kept i h =
+      let o = offset b i in
+      let d = converted ed b in
+      let p = offset d i in
+      let n = count-converted in
+      let e = same-record i h in
+      let kinds : kindAt d p ≡ kindAt b o = sym (ap (λ (r : Record). r .kind) e) in
+      let ranks : rankAt d p ≡ rankAt b o = sym (ap (λ (r : Record). r .rank) e) in
+      let laned : lanesAt (other ed) d p ≡ lanesAt ed b o = sym (ap (λ (r : Record). r .lanes) e) in
+      let words : lettersAt (other ed) d p ≡ lettersAt ed b o = sym (ap (λ (r : Record). r .letters) e) in
+      let g = passing-at ed b i w h in
+      let right = laned ∙ g .lanes-right in
+      let inside = endAt-offset-le (other ed) d i (accepted (other ed) d converted-opens) (omega arith) in
+      record {
+        unrefused =
+            presetRefusal-record (other ed) d i converted-opens (omega arith)
+            ∙ recordRefusal-of (other ed) d p (kindAt b o) (rankAt b o) (lettersAt ed b o) kinds ranks right words
+            ∙ then-none (bookRankRefusal (other ed) (kindAt b o) (rankAt b o)) (wordRefusal (rankAt b o) (lettersAt ed b o)) (rank-other ed b o g)
+            ∙ g .word;
+        kind = kinds;
+        rank = ranks;
+        laned = right;
+        letters = words;
+        size = sym (length-lettersAt (other ed) d p (omega (arith, trailer-le d))) ∙ ap length words;
+      }
+
+  same-preset : (i : ℕ) → i < count b → SamePreset ed (other ed) b (converted ed b) i
+  unfolding presetOf
+  same-preset i h =
+      let o = offset b i in
+      let d = converted ed b in
+      let p = offset d i in
+      let q = kept i h in
+      let g = passing-at ed b i w h in
+      let inside = endAt-offset-le ed b i (accepted ed b (w .opens)) h in
+      let l : letterCountAt ed b o ≡ length (lettersAt ed b o) = sym (length-lettersAt ed b o (omega (arith, trailer-le b))) in
+      let z : presetRefusal ed b i ≡ 0 =
+      presetRefusal-record ed b i (w .opens) h
+      ∙ recordRefusal-of ed b o (kindAt b o) (rankAt b o) (lettersAt ed b o) refl refl (g .lanes-right) refl
+      ∙ then-none (bookRankRefusal ed (kindAt b o) (rankAt b o)) (wordRefusal (rankAt b o) (lettersAt ed b o)) (g .rank)
+      ∙ g .word in
+      record {
+        kind = kindAt b o;
+        rank = rankAt b o;
+        start = o + headSize ed;
+        start′ = p + headSize (other ed);
+        size = length (lettersAt ed b o);
+        found = checkedPreset-of ed b i o (kindAt b o) (rankAt b o) (length (lettersAt ed b o)) 0 z refl refl refl l;
+        found′ = checkedPreset-of (other ed) d i p (kindAt b o) (rankAt b o) (length (lettersAt ed b o)) 0 (q .unrefused) refl (q .kind) (q .rank) (q .size);
+        letters =
+            lettersOf-of ed b i o 0 (lettersAt ed b o) z refl refl
+            ∙ sym (lettersOf-of (other ed) d i p 0 (lettersAt ed b o) (q .unrefused) refl (q .letters));
+      }
+
+  pub converted-is : Converted ed b
+  converted-is = record { unrefused = converted-opens; asMany = count-converted; presets = same-preset }
+
+  -- ---- there and back
+
+  pub there-and-back : Bytes b → converted (other ed) (converted ed b) ≡ b
+  unfolding converted
+  there-and-back v = back (other-other ed) ∙ layOut-recordsOf ed b v (w .opens)
+    where
+      back : other (other ed) ≡ ed → layOut (other (other ed)) (recordsOf (other ed) (converted ed b)) ≡ layOut ed (recordsOf ed b)
+      back e = rw (e, recordsOf-converted)
+
+  -- the new book passes the checks of the way back
+  records-back : (t i : ℕ) → i + t ≤ count b → recordsConversionRefusal (other ed) (converted ed b) t i ≡ 0
+  unfolding recordsConversionRefusal recordConversionRefusal
+  records-back zero i h = refl
+  records-back (suc t) i h =
+      let d = converted ed b in
+      let o = offset b i in
+      let p = offset d i in
+      let q = kept i (omega arith) in
+      let n = count-converted in
+      let g = passing-at ed b i w (omega arith) in
+      let own = sym (presetRefusal-record (other ed) d i converted-opens (omega arith)) ∙ q .unrefused in
+      rw (own, few-other ed b d o p g (q .laned ∙ sym (g .lanes-right))) (records-back t (suc i) (omega arith))
+
+  back-accepted : Bytes b → conversionRefusal (other ed) (converted ed b) ≡ 0
+  unfolding conversionRefusal tooLarge
+  back-accepted v =
+      let size = accepted ed b (w .opens) .most in
+      rw (converted-opens, records-back (count (converted ed b)) 0 (omega (arith, count-converted)), there-and-back v, le-ltb 65535 (length b) size)
+
+-- every book that the call `convert` writes
+pub convert-converted : (ed : Edition) (b : List ℕ) → conversionRefusal ed b ≡ 0 → Converted ed b
+convert-converted ed b z = converted-is ed b (convertible ed b z)
+
+-- "Forward and back gives the first book's bytes again"
+pub convert-back : (ed : Edition) (b : List ℕ) → Bytes b → conversionRefusal ed b ≡ 0 → converted (other ed) (converted ed b) ≡ b
+convert-back ed b v z = there-and-back ed b (convertible ed b z) v
+
+-- and the way back is not refused
+pub convert-back-accepted : (ed : Edition) (b : List ℕ) → Bytes b → conversionRefusal ed b ≡ 0 → conversionRefusal (other ed) (converted ed b) ≡ 0
+convert-back-accepted ed b v z = back-accepted ed b (convertible ed b z) v
+
+-- a book that would grow beyond the limit is refused 13, after every check of its records
+pub conversion-too-large : (ed : Edition) (b : List ℕ) → bookRefusal ed b ≡ 0 → recordsConversionRefusal ed b (count b) 0 ≡ 0
+    → 65535 < length (converted ed b) → conversionRefusal ed b ≡ 13
+unfolding conversionRefusal tooLarge
+conversion-too-large ed b e f h = rw (e, f, lt-ltb 65535 (length (converted ed b)) h)
+
+-- ---- its size
+
+-- a record has one byte more in the second edition
+length-second : (rs : List Record) → length (recordBytes Second rs) ≡ length (recordBytes First rs) + length rs
+unfolding recordBytes
+length-second [] = refl
+length-second (r ∷ rs) =
+    let h = length-second rs in
+    let a = length-recordOf First (r .kind) (r .rank) (r .lanes) (r .letters) in
+    let b = length-recordOf Second (r .kind) (r .rank) (r .lanes) (r .letters) in
+    simp length-append (omega arith)
+
+-- the records of a book end at its trailer
+length-records : (ed : Edition) (b : List ℕ) (t i o : ℕ) → misplacedFrom ed b t i o ≡ false → o + length (recordBytes ed (recordsFrom ed b t i)) ≡ trailer b
+unfolding recordBytes recordsFrom
+length-records ed b zero i o e = add-zero o ∙ walk-end ed b i o e
+length-records ed b (suc t) i o e =
+    let f = first ed b t i o e in
+    let h = f .ends in
+    let l = length-lettersAt ed b o (omega (arith, trailer-le b)) in
+    let r = length-recordOf ed (kindAt b o) (rankAt b o) (lanesAt ed b o) (lettersAt ed b o) in
+    let rest = length-records ed b t (suc i) (endAt ed b o) (f .others) in
+    rw (f .begins) (simp length-append (omega arith))
+
+-- the size of the new book, from the length l of the old one and its count c
+abbrev pub sizeOf : Edition → ℕ → ℕ → ℕ
+sizeOf First l c = l + c
+sizeOf Second l c = l - c
+
+pub length-converted : (ed : Edition) (b : List ℕ) → Accepted ed b → length (converted ed b) ≡ sizeOf ed (length b) (count b)
+unfolding converted recordsOf
+length-converted ed b a =
+    sized ed (recordsFrom ed b (count b) 0) (length-recordsFrom ed b (count b) 0) (length-records ed b (count b) 0 0 (placed-from ed b a)) (trailer-count ed b a)
+  where
+    sized : (ed : Edition) (rs : List Record) → length rs ≡ count b → 0 + length (recordBytes ed rs) ≡ trailer b → trailer b + 2 * count b + 2 ≡ length b
+        → length (layOut (other ed) rs) ≡ sizeOf ed (length b) (count b)
+    sized First rs e f g = let l = length-layOut Second rs in let s = length-second rs in omega arith
+    sized Second rs e f g = let l = length-layOut First rs in let s = length-second rs in omega arith
+
+-- what the call answers has room in the output
+pub converting-room : (ed : Edition) (b out : List ℕ) (m : ℕ) → converting ed b out .answer ≡ answer.Length m → m ≤ length out
+unfolding converting writes answerOf tooShort
+converting-room ed b out m e = elim (ℕ-discrete refusal 0) [ yes z ↦ at z | no f ↦ absurd (never f) ]
+  where
+    short : ℕ
+    short = check 14 (ltb (length out) (length (converted ed b)))
+
+    refusal : ℕ
+    refusal = conversionRefusal ed b then short
+
+    at : refusal ≡ 0 → m ≤ length out
+    at z =
+        let q : answer.Length (length (converted ed b)) ≡ answer.Length m = rw (eq-eqb refusal 0 z) at e in
+        let s : length (converted ed b) ≡ m = cc in
+        let r = ltb-false (length out) (length (converted ed b)) (check-zero 13 (ltb (length out) (length (converted ed b))) (then-zero (conversionRefusal ed b) short z .1)) in
+        omega arith
+
+    never : (refusal ≡ 0 → ⊥) → ⊥
+    never f =
+        let q : answer.Refused refusal ≡ answer.Length m = rw (ne-eqb refusal 0 f) at e in
+        let y : _≡_ {A = ℕ} 0 1 = cc in
+        omega arith

@@ -1,0 +1,24 @@
+-- `presets::turned` answers the number of the call below it, which fits: a book has at most 65,535 bytes.
+-- Assumes nothing.
+use mathlib.Core.Path.{sym, _∙_}
+use borrow.Author.Needs.{needs}
+use Rattle.c_api.proofs.Lengths.{answered, converting-small}
+use Rattle.c_api.proofs.presets.turned.Statement.{statement}
+use Rattle.c_api.proofs.presets.turned.Tie as tie
+
+convert-requires : tie.Need-convert-requires
+convert-requires c κs = search needs
+
+number-requires : tie.Need-number-requires
+number-requires c κs l e = converting-small _ _ _ l (sym (c .before .before .convert .ensures .0) ∙ e)
+
+same-length : tie.Need-same-length
+same-length c = search needs
+
+returns : tie.Need-returns
+returns c =
+    let below = c .before .before .before .convert .ensures in
+    (answered _ _ _ (c .number .ok) (c .number .ensures) (below .0), below .1)
+
+pub turned-spec : {M : Type 1} → statement M
+turned-spec = tie.close (tie.spec convert-requires number-requires same-length returns)

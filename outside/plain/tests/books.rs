@@ -1,0 +1,104 @@
+//! Books laid out by hand, and what the calls make of them.
+use plain::{to_first, to_second};
+
+/// B2 with 1 2 1 2 and D5 with 5 2 3 5 1 2, in the first edition and in the second.
+const FIRST: &[u8] = &[2, 2, 4, 0, 1, 2, 1, 2, 3, 5, 6, 0, 5, 2, 3, 5, 1, 2, 0, 0, 8, 0, 2, 0];
+const SECOND: &[u8] = &[2, 2, 2, 4, 0, 1, 2, 1, 2, 3, 5, 5, 6, 0, 5, 2, 3, 5, 1, 2, 0, 0, 9, 0, 2, 0];
+
+/// The answer, and the output, which held 7s.
+fn made(call: impl Fn(&[u8], &mut [u8]) -> i64, book: &[u8], room: usize) -> (i64, Vec<u8>) {
+    let mut out = vec![7; room];
+    let answer = call(book, &mut out);
+    (answer, out)
+}
+
+/// A refused call, with an output that is long enough for all: its number, and nothing written.
+fn refused(call: impl Fn(&[u8], &mut [u8]) -> i64, book: &[u8]) -> i64 {
+    let (answer, out) = made(call, book, 65_535);
+    assert!(answer < 0 && out.iter().all(|&byte| byte == 7));
+    -answer
+}
+
+#[test]
+fn the_example_in_both_editions() {
+    assert_eq!(made(to_second, FIRST, 26), (26, SECOND.to_vec()));
+    assert_eq!(made(to_first, SECOND, 24), (24, FIRST.to_vec()));
+    assert_eq!(made(to_second, FIRST, 28), (26, [SECOND, &[7, 7]].concat()));
+    assert_eq!(made(to_second, FIRST, 25), (-14, vec![7; 25]));
+    assert_eq!(made(to_first, SECOND, 23), (-14, vec![7; 23]));
+    assert_eq!(made(to_second, &[0, 0], 2), (2, vec![0, 0]));
+    assert_eq!(made(to_first, &[0, 0], 2), (2, vec![0, 0]));
+    assert_eq!(made(to_first, &[0, 0], 1), (-14, vec![7]));
+    // A has one lane more than its rank.
+    assert_eq!(made(to_second, &[1, 31, 0, 0, 0, 0, 1, 0], 9), (9, vec![1, 31, 32, 0, 0, 0, 0, 1, 0]));
+    assert_eq!(made(to_first, &[1, 31, 32, 0, 0, 0, 0, 1, 0], 8), (8, vec![1, 31, 0, 0, 0, 0, 1, 0]));
+}
+
+/// A second-edition book of one or two records without letters, or with one.
+fn second(records: &[[u8; 3]], letter: Option<u8>) -> Vec<u8> {
+    let mut book = Vec::new();
+    let mut offsets = Vec::new();
+    for record in records {
+        offsets.extend([book.len() as u8, 0]);
+        book.extend(record);
+        book.extend([letter.is_some().into(), 0]);
+        book.extend(letter);
+    }
+    book.extend(offsets);
+    book.extend([records.len() as u8, 0]);
+    book
+}
+
+#[test]
+fn checks_go_record_by_record() {
+    // In one record: 5, 6, 17, 8, 18.
+    assert_eq!(refused(to_first, &second(&[[4, 65, 0]], Some(0))), 5);
+    assert_eq!(refused(to_first, &second(&[[2, 65, 0]], Some(0))), 6);
+    assert_eq!(refused(to_first, &second(&[[2, 33, 32]], Some(0))), 17);
+    assert_eq!(refused(to_first, &second(&[[2, 33, 33]], Some(0))), 8);
+    assert_eq!(refused(to_first, &second(&[[2, 33, 33]], Some(33))), 18);
+    assert_eq!(refused(to_first, &second(&[[1, 32, 33]], None)), 18);
+    assert_eq!(refused(to_first, &second(&[[3, 64, 64]], None)), 18);
+    // 7, with a wrong letter and too many lanes.
+    let mut long = vec![2, 33, 33, 1, 16];
+    long.extend([0; 4097]);
+    long.extend([0, 0, 1, 0]);
+    assert_eq!(refused(to_first, &long), 7);
+    // The first record's refusal, whatever the second's is.
+    assert_eq!(refused(to_first, &second(&[[2, 33, 33], [4, 2, 2]], None)), 18);
+    assert_eq!(refused(to_first, &second(&[[4, 2, 2], [2, 33, 33]], None)), 5);
+    assert_eq!(refused(to_first, &second(&[[2, 2, 2], [2, 33, 33]], None)), 18);
+    assert_eq!(refused(to_second, &[2, 33, 0, 0, 4, 2, 0, 0, 0, 0, 4, 0, 2, 0]), 6);
+    // The book's own checks come first, in its own edition.
+    assert_eq!(refused(to_first, FIRST), 3);
+    assert_eq!(refused(to_second, SECOND), 3);
+    assert_eq!(refused(to_first, &[4, 0, 0, 0, 0, 0, 2, 0]), 3);
+    assert_eq!(refused(to_first, &[1, 0]), 2);
+    assert_eq!(refused(to_second, &[0]), 1);
+    assert_eq!(refused(to_second, &[0; 65_536]), 1);
+}
+
+#[test]
+fn the_new_book_has_its_limit() {
+    // 9,361 records have 56,168 bytes in the first edition and 65,529 in the second, without letters.
+    let book = |letters: u8, kind: u8| {
+        let mut book = [2, 2, 0, 0].repeat(9_360);
+        book.extend([kind, 2, letters, 0]);
+        book.extend(vec![1; letters.into()]);
+        (0..9_361u16).for_each(|number| book.extend((4 * number).to_le_bytes()));
+        book.extend(9_361u16.to_le_bytes());
+        book
+    };
+    for letters in 0..=6 {
+        let first = book(letters, 2);
+        let length = 65_529 + i64::from(letters);
+        let (answer, out) = made(to_second, &first, length as usize);
+        assert_eq!(answer, length);
+        assert_eq!(made(to_first, &out, first.len()), (first.len() as i64, first));
+    }
+    assert_eq!(refused(to_second, &book(7, 2)), 13);
+    // 13 comes after every record's checks, and before 14.
+    assert_eq!(refused(to_second, &book(7, 4)), 5);
+    assert_eq!(made(to_second, &book(7, 2), 0).0, -13);
+    assert_eq!(made(to_second, &book(6, 2), 0).0, -14);
+}
