@@ -11,13 +11,13 @@
  *   word      0 to 4,096 bytes, each a step from 1 to the rank.
  *   window    rank + 1 signed bytes in kind A, rank signed bytes in kinds B and D.
  *   book      the bytes of a preset book, at most 65,535. c is the count of presets at its end. A record is kind, rank, letter count (two bytes, the low
- *             one first) and letters; in the second edition the lane count is a byte after the rank.
+ *             one first) and letters; in the second edition the lane count is a byte after the rank. A book of no bytes has no presets.
  *
  * Answers: 0 or more is the answer; -k is refusal k, of the first check that fails: in the order below, but 17 and 20 right after 6, and 18 right
  * after 8. A refused call writes nothing. An accepted call that writes puts its answer at the front of the output, answers the length written, and
  * leaves the rest of the output as it was.
  *
- *    1  The book has fewer than 2 or more than 65,535 bytes.
+ *    1  The book has 1 byte or more than 65,535 bytes.
  *    2  Two times c, plus 2, exceeds the book's length.
  *    3  An offset is not where the record before it ends (0 for the first), a record runs into the trailer, or the last record does not end at the
  *       trailer (with c = 0, the trailer is not at byte 0).
@@ -165,7 +165,7 @@ int64_t winnathey_second_presets(const uint8_t *book, size_t book_len, size_t fi
 int64_t winnathey_second_append(const uint8_t *book, size_t book_len, uint32_t kind, uint32_t rank, const uint8_t *word, size_t word_len, uint8_t *out,
                                 size_t out_len);
 
-/* ---- from one edition to the other: the presets and their order stay. The whole new book goes to out. */
+/* ---- from one edition to the other: the presets and their order stay. The whole new book goes to out; a book of no bytes gives no bytes. */
 
 /* Turns a book of the first edition into one of the second. Checks 1 to 3 of the book, then 5 to 8 of each record, one record after the other, then 13 and
    14 of the new book. Answers its length. */

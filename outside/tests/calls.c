@@ -108,7 +108,7 @@ static const int8_t straight3[] = {1, 2, 3}, straight4[] = {1, 2, 3, 4};
 static const int8_t b2[] = {-1, -2}, a2[] = {2, 3, 1}, least[] = {-128, 2}, odd[] = {-1, 2, 3, 4};
 static const int8_t d5[] = {3, -5, 1, 4, -2};
 
-static const uint8_t no_presets[] = {0, 0}, bad_count[] = {1, 0}, bad_end[] = {0, 0, 0};
+static const uint8_t one_byte[] = {0}, no_presets[] = {0, 0}, bad_count[] = {1, 0}, bad_end[] = {0, 0, 0};
 static const uint8_t book[] = {2, 2, 4, 0, 1, 2, 1, 2, 3, 5, 6, 0, 5, 2, 3, 5, 1, 2, 0, 0, 8, 0, 2, 0};
 static const uint8_t bad_letter[] = {2, 2, 1, 0, 3, 0, 0, 1, 0};
 static const uint8_t second_book[] = {2, 2, 2, 4, 0, 1, 2, 1, 2, 3, 5, 5, 6, 0, 5, 2, 3, 5, 1, 2, 0, 0, 9, 0, 2, 0};
@@ -267,6 +267,7 @@ static void books(void)
     CALL(winnathey_book_check(no_presets, sizeof no_presets));
     CALL(winnathey_book_check(full, sizeof full));
     CALL(winnathey_book_check(NULL, 0));
+    CALL(winnathey_book_check(one_byte, sizeof one_byte));
     CALL(winnathey_book_check(bad_count, sizeof bad_count));
     CALL(winnathey_book_check(bad_end, sizeof bad_end));
 
@@ -277,6 +278,7 @@ static void books(void)
     CALL(winnathey_preset(book, sizeof book, 0, fields, 3));
     CALL(winnathey_preset(book, sizeof book, 0, NULL, 0));
     CALL(winnathey_preset(NULL, 0, 0, fields, 4));
+    CALL(winnathey_preset(one_byte, sizeof one_byte, 0, fields, 4));
     CALL(winnathey_preset(bad_letter, sizeof bad_letter, 0, fields, 4));
     CALL(winnathey_preset(full, sizeof full, 0, fields, 4));
 
@@ -288,6 +290,8 @@ static void books(void)
     CALL(winnathey_presets(book, sizeof book, 0, NULL, 0));
     CALL(winnathey_presets(no_presets, sizeof no_presets, 0, fields, 5));
     CALL(winnathey_presets(NULL, 0, 0, fields, 5));
+    CALL(winnathey_presets(NULL, 0, 0, NULL, 0));
+    CALL(winnathey_presets(one_byte, sizeof one_byte, 0, fields, 5));
     CALL(winnathey_presets(bad_count, sizeof bad_count, 0, fields, 5));
     CALL(winnathey_presets(bad_end, sizeof bad_end, 0, fields, 5));
     CALL(winnathey_presets(bad_letter, sizeof bad_letter, 0, fields, 5));
@@ -298,7 +302,10 @@ static void books(void)
     CALL(winnathey_append(book, sizeof book, 1, 1, w1, 1, bytes, ROOM));
     CALL(winnathey_append(book, sizeof book, 1, 1, w1, 1, bytes, 30));
     CALL(winnathey_append(book, sizeof book, 1, 1, w1, 1, NULL, 0));
-    CALL(winnathey_append(NULL, 0, 1, 1, w1, 1, bytes, ROOM));
+    CALL(winnathey_append(NULL, 0, 2, 2, w1212, 4, bytes, 12));
+    CALL(winnathey_append(NULL, 0, 2, 2, w1212, 4, bytes, 11));
+    CALL(winnathey_append(NULL, 0, 2, 33, NULL, 0, bytes, ROOM));
+    CALL(winnathey_append(one_byte, sizeof one_byte, 2, 2, w1212, 4, bytes, ROOM));
     CALL(winnathey_append(book, sizeof book, 257, 1, w1, 1, bytes, ROOM));
     CALL(winnathey_append(book, sizeof book, 1, 257, w1, 1, bytes, ROOM));
     CALL(winnathey_append(book, sizeof book, 2, 33, w1, 1, bytes, ROOM));
@@ -311,19 +318,24 @@ static void second_books(void)
     CALL(winnathey_second_book_check(no_presets, sizeof no_presets));
     CALL(winnathey_second_book_check(book, sizeof book));
     CALL(winnathey_second_book_check(NULL, 0));
+    CALL(winnathey_second_book_check(one_byte, sizeof one_byte));
 
     CALL(winnathey_second_preset(second_book, sizeof second_book, 0, fields, 4));
     CALL(winnathey_second_preset(second_book, sizeof second_book, 1, fields, ROOM));
     CALL(winnathey_second_preset(second_book, sizeof second_book, 2, fields, 4));
     CALL(winnathey_second_preset(second_book, sizeof second_book, 0, fields, 3));
     CALL(winnathey_second_preset(bad_lanes, sizeof bad_lanes, 0, fields, 4));
+    CALL(winnathey_second_preset(NULL, 0, 0, fields, 4));
 
     CALL(winnathey_second_presets(second_book, sizeof second_book, 0, fields, ROOM));
     CALL(winnathey_second_presets(second_book, sizeof second_book, 0, fields, 4));
     CALL(winnathey_second_presets(bad_lanes, sizeof bad_lanes, 0, fields, 5));
+    CALL(winnathey_second_presets(NULL, 0, 0, fields, 5));
 
     CALL(winnathey_second_append(no_presets, sizeof no_presets, 2, 2, w1212, 4, bytes, 13));
     CALL(winnathey_second_append(no_presets, sizeof no_presets, 1, 63, NULL, 0, bytes, ROOM));
+    CALL(winnathey_second_append(NULL, 0, 2, 2, w1212, 4, bytes, 13));
+    CALL(winnathey_second_append(one_byte, sizeof one_byte, 2, 2, w1212, 4, bytes, 13));
     CALL(winnathey_second_append(second_book, sizeof second_book, 2, 33, w1, 1, bytes, ROOM));
     CALL(winnathey_second_append(second_book, sizeof second_book, 1, 64, w1, 1, bytes, ROOM));
     CALL(winnathey_second_append(second_book, sizeof second_book, 1, 1, w1, 1, bytes, 33));
@@ -337,6 +349,8 @@ static void editions(void)
     CALL(winnathey_to_second(book, sizeof book, bytes, 25));
     CALL(winnathey_to_second(book, sizeof book, NULL, 0));
     CALL(winnathey_to_second(NULL, 0, bytes, ROOM));
+    CALL(winnathey_to_second(NULL, 0, NULL, 0));
+    CALL(winnathey_to_second(one_byte, sizeof one_byte, bytes, ROOM));
     CALL(winnathey_to_second(bad_count, sizeof bad_count, bytes, ROOM));
     CALL(winnathey_to_second(second_book, sizeof second_book, bytes, ROOM));
     CALL(winnathey_to_second(bad_rank, sizeof bad_rank, bytes, ROOM));
@@ -350,6 +364,8 @@ static void editions(void)
     CALL(winnathey_to_first(wide, sizeof wide, bytes, ROOM));
     CALL(winnathey_to_first(second_book, sizeof second_book, bytes, 23));
     CALL(winnathey_to_first(NULL, 0, bytes, ROOM));
+    CALL(winnathey_to_first(NULL, 0, NULL, 0));
+    CALL(winnathey_to_first(one_byte, sizeof one_byte, bytes, ROOM));
     CALL(winnathey_to_first(bad_end, sizeof bad_end, bytes, ROOM));
     CALL(winnathey_to_first(book, sizeof book, bytes, ROOM));
     CALL(winnathey_to_first(bad_lanes, sizeof bad_lanes, bytes, ROOM));

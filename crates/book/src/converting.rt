@@ -183,7 +183,7 @@ fn write_converted(edition: Edition, book: &[u8], c: usize, out: &mut [u8])
     put_two(out, p + 2 * c, c);
 }
 
-// Converting a book of the edition to the other one: the length of the new book, written to the front of `out`. Checks 1 to 3 of the book, then record
+// Converting a book of the edition to the other one: the length of the new book, written to the front of `out`; a book of no bytes stays one. Checks 1 to 3 of the book, then record
 // by record its 5 to 8, in the second edition with 17 and then 18, then 13 and 14.
 pub fn convert(edition: Edition, book: &[u8], out: &mut [u8]) -> Answer
     ensures { λ r. ⌜ r ≡ converting edition (now (book .entry)) (now (out .entry)) .answer ⌝ }
@@ -192,6 +192,9 @@ pub fn convert(edition: Edition, book: &[u8], out: &mut [u8]) -> Answer
     let r = conversion_refusal(edition, book);
     if r != 0 {
         return Answer::Refused(r);
+    }
+    if book.len() == 0 {
+        return Answer::Length(0);
     }
     let c = count_of(book);
     let size = converted_size(edition, book.len(), c);

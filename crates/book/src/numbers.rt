@@ -4,6 +4,7 @@ ghost use Prim.Native.Nat.{_+_, _<_, _≤_};
 ghost use lib.ListN.{length};
 ghost use lib.Seq.{sets};
 ghost use Rattle.book_format.specs.Books.{twoAt, two, count};
+ghost use Rattle.book_format.proofs.BookLaws.{bookSize};
 
 // The number at p.
 pub(crate) fn two_at(b: &[u8], p: usize) -> usize
@@ -15,12 +16,25 @@ pub(crate) fn two_at(b: &[u8], p: usize) -> usize
     low + 256 * high
 }
 
-// The number of presets of a book, its last two bytes.
+// The number of presets of a book, its last two bytes; a book of no bytes has none.
 pub(crate) fn count_of(book: &[u8]) -> usize
-    requires { ⌜ 2 ≤ length (now book) ⌝ }
+    requires { ⌜ (length (now book) ≡ 1 → ⊥) ⌝ }
     ensures { λ r. ⌜ (r ≡ count (now (book .entry))) × (r < 65536) ⌝ }
 {
+    if book.len() == 0 {
+        return 0;
+    }
     two_at(book, book.len() - 2)
+}
+
+// The size of a book with its count, which a book of no bytes lacks.
+pub(crate) fn size_of(book: &[u8]) -> usize
+    ensures { λ r. ⌜ r ≡ bookSize (now (book .entry)) ⌝ }
+{
+    if book.len() == 0 {
+        return 2;
+    }
+    book.len()
 }
 
 // The number x written at p.

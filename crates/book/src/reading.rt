@@ -1,4 +1,5 @@
 // Checks 1 to 8 on a book and its presets, and the letters of a preset.
+use crate::numbers::count_of;
 use crate::numbers::two_at;
 use crate::records::book_rank_refusal;
 use crate::records::count_place;
@@ -47,17 +48,20 @@ fn is_misplaced(edition: Edition, book: &[u8], c: usize) -> bool
     o != trailer
 }
 
-// Checks 1 to 3.
+// Checks 1 to 3, which a book of no bytes passes.
 pub(crate) fn book_refusal(edition: Edition, book: &[u8]) -> u8
     ensures { λ r. ⌜ r ≡ bookRefusal edition (now (book .entry)) ⌝ }
 {
+    if book.len() == 0 {
+        return 0;
+    }
     if book.len() < 2 {
         return 1;
     }
     if LARGEST < book.len() {
         return 1;
     }
-    let c = two_at(book, book.len() - 2);
+    let c = count_of(book);
     if book.len() < 2 * c + 2 {
         return 2;
     }
@@ -75,7 +79,7 @@ pub fn check_book(edition: Edition, book: &[u8]) -> Opened
     if r != 0 {
         return Opened::Refused(r);
     }
-    let c = two_at(book, book.len() - 2);
+    let c = count_of(book);
     Opened::Presets(c)
 }
 
@@ -116,7 +120,7 @@ pub(crate) fn numbered_preset(edition: Edition, book: &[u8], number: usize) -> P
     requires { ⌜ (bookRefusal edition (now book) ≡ 0) × (number < count (now book)) ⌝ }
     ensures { λ r. ⌜ r ≡ checkedPreset edition (now (book .entry)) number ⌝ }
 {
-    let c = two_at(book, book.len() - 2);
+    let c = count_of(book);
     let trailer = book.len() - (2 * c + 2);
     let o = two_at(book, trailer + 2 * number);
     check_record(edition, book, o)
@@ -130,7 +134,7 @@ pub fn check_preset(edition: Edition, book: &[u8], number: usize) -> Preset
     if r != 0 {
         return Preset::Refused(r);
     }
-    let c = two_at(book, book.len() - 2);
+    let c = count_of(book);
     if c <= number {
         return Preset::Refused(4);
     }

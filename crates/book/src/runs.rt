@@ -1,5 +1,5 @@
 // A run of presets, read with one walk over the book: five numbers for each.
-use crate::numbers::two_at;
+use crate::numbers::count_of;
 use crate::reading::book_refusal;
 use crate::reading::numbered_preset;
 use book_format::Edition;
@@ -95,7 +95,7 @@ pub fn read_presets(edition: Edition, book: &[u8], first: usize, fields: &mut [u
     if r != 0 {
         return Answer::Refused(r);
     }
-    let c = two_at(book, book.len() - 2);
+    let c = count_of(book);
     if c <= first {
         return Answer::Refused(4);
     }

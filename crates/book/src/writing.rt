@@ -1,7 +1,8 @@
 // Appending a preset: the whole new book to an output.
 use crate::numbers::copy_to;
+use crate::numbers::count_of;
 use crate::numbers::put_two;
-use crate::numbers::two_at;
+use crate::numbers::size_of;
 use crate::reading::LARGEST;
 use crate::reading::book_refusal;
 use crate::records::book_rank_refusal;
@@ -18,6 +19,7 @@ ghost use lib.Seq.{sets};
 ghost use Rattle.coxeter.specs.Kinds.{kindOf, lanes};
 ghost use Rattle.book_format.specs.Books.{two, headSize, bookRefusal, recordOf, added, appended, appendRefusal};
 ghost use Rattle.book_format.specs.Calls.{appending};
+ghost use Rattle.book_format.proofs.BookLaws.{bookSize};
 
 // The bytes of a record written from p on.
 pub(crate) fn write_record(
@@ -74,11 +76,11 @@ fn write_trailer(book: &[u8], trailer: usize, c: usize, out: &mut [u8], p: usize
 // The new book written to the front of `out`.
 fn write_appended(edition: Edition, book: &[u8], kind: u8, rank: u8, word: &[u8], out: &mut [u8])
     requires { ⌜ (bookRefusal edition (now book) ≡ 0) × (rank ≤ 64) ⌝ }
-    requires { ⌜ length (now book) + added edition (now word) ≤ length (now out) ⌝ }
+    requires { ⌜ bookSize (now book) + added edition (now word) ≤ length (now out) ⌝ }
     ensures { λ _. ⌜ now (out .exit) ≡ sets (now (out .entry)) 0 (appended edition (now (book .entry)) kind rank (now (word .entry))) ⌝ }
 {
-    let c = two_at(book, book.len() - 2);
-    let trailer = book.len() - (2 * c + 2);
+    let c = count_of(book);
+    let trailer = size_of(book) - (2 * c + 2);
     let place = count_place(edition);
     write_records(edition, book, trailer, kind, rank, word, out);
     write_trailer(book, trailer, c, out, trailer + (place + 2) + word.len());
@@ -101,7 +103,7 @@ fn append_refusal(edition: Edition, book: &[u8], kind: u8, rank: u8, word: &[u8]
         return t;
     }
     let place = count_place(edition);
-    if LARGEST < book.len() + (place + 2 + word.len() + 2) {
+    if LARGEST < size_of(book) + (place + 2 + word.len() + 2) {
         return 13;
     }
     0
@@ -124,7 +126,7 @@ pub fn append(
         return Answer::Refused(r);
     }
     let place = count_place(edition);
-    let size = book.len() + (place + 2 + word.len() + 2);
+    let size = size_of(book) + (place + 2 + word.len() + 2);
     if out.len() < size {
         return Answer::Refused(14);
     }

@@ -15,7 +15,7 @@ use Rattle.book_format.specs.declared.Edition.the-variants.{First, Secon
 use Rattle.coxeter.specs.Kinds.{kindOf, lanes}
 use Rattle.book_format.specs.Books.{twoAt, two, count, trailer, offset, kindAt, rankAt, lanesAt, letterCountAt, lettersAt, endAt}
 use Rattle.book_format.specs.Books.{laneByte, recordOf, appended, countPlace, headSize, added}
-use Rattle.book_format.proofs.BookLaws.{Accepted, trailer-le, trailer-read, two-le-countPlace}
+use Rattle.book_format.proofs.BookLaws.{Accepted, bookSize, trailer-le, trailer-read, two-le-countPlace}
 use Rattle.book_format.proofs.WritingLaws.{length-two, length-laneByte, length-recordOf, length-appended}
 
 -- ---- two-byte numbers in a list
@@ -61,15 +61,11 @@ records b = take (trailer b) b
 abbrev offsets : List ℕ → List ℕ
 offsets b = take (2 * count b) (drop (trailer b) b)
 
-pub trailer-count : (ed : Edition) (b : List ℕ) → Accepted ed b → trailer b + 2 * count b + 2 ≡ length b
-unfolding trailer
-trailer-count ed b a = let h = a .fits in omega arith
-
 length-records : (b : List ℕ) → length (records b) ≡ trailer b
 length-records b = length-take-le (trailer b) b (trailer-le b)
 
 length-offsets : (ed : Edition) (b : List ℕ) → Accepted ed b → length (offsets b) ≡ 2 * count b
-length-offsets ed b a = let h = trailer-count ed b a in length-take-le (2 * count b) (drop (trailer b) b) (rw length-drop (omega arith))
+length-offsets ed b a = let h = a .inside in length-take-le (2 * count b) (drop (trailer b) b) (rw length-drop (omega arith))
 
 -- the lane count of the new record as it is written, and the record
 abbrev lane : Edition → ℕ → ℕ → List ℕ
@@ -110,29 +106,29 @@ lanesAt-of : (ed : Edition) (m x y : List ℕ) (o k n : ℕ) → m ≡ x ++ (k �
 lanesAt-of First m x y o k n e f p q = rw (p, q)
 lanesAt-of Second m x y o k n e f p q = rw e (getD-past x (k ∷ n ∷ (lane Second k n ++ y)) o 2 f)
 
-module _ (ed : Edition) (b : List ℕ) (k n : ℕ) (u : List ℕ) (a : Accepted ed b) (small : length b + added ed u ≤ 65535) where
+module _ (ed : Edition) (b : List ℕ) (k n : ℕ) (u : List ℕ) (a : Accepted ed b) (small : bookSize b + added ed u ≤ 65535) where
   -- ---- numbers of the new book
 
   pub count-appended : count (appended ed b k n u) ≡ count b + 1
   unfolding count
   count-appended =
       let front = records b ++ (presetRecord ed k n u ++ (offsets b ++ two (trailer b))) in
-      let h = trailer-count ed b a in
+      let h = a .sized in
       let l = length-appended ed b k n u a in
-      let f : length front ≡ length b + (headSize ed + length u) = simp (length-append, length-records, length-recordOf, length-offsets ed b a, length-two) (omega arith) in
+      let f : length front ≡ bookSize b + (headSize ed + length u) = simp (length-append, length-records, length-recordOf, length-offsets ed b a, length-two) (omega arith) in
       twoAt-written (appended ed b k n u) front [] (length (appended ed b k n u) - 2) (count b + 1) (before-count ed b k n u) (omega arith) (omega arith)
 
   pub trailer-appended : trailer (appended ed b k n u) ≡ trailer b + (headSize ed + length u)
   trailer-appended =
       let l = length-appended ed b k n u a in
-      let h = trailer-count ed b a in
+      let h = a .sized in
       let r = trailer-read (appended ed b k n u) (count b + 1) (sym count-appended) in
       omega arith
 
   pub offset-appended-last : offset (appended ed b k n u) (count b) ≡ trailer b
   unfolding offset
   offset-appended-last =
-      let h = trailer-count ed b a in
+      let h = a .sized in
       let front = (records b ++ presetRecord ed k n u) ++ offsets b in
       let f : length front ≡ trailer b + (headSize ed + length u) + 2 * count b = simp (length-append, length-records, length-recordOf, length-offsets ed b a) in
       rw trailer-appended
@@ -141,7 +137,7 @@ module _ (ed : Edition) (b : List ℕ) (k n : ℕ) (u : List ℕ) (a : Accepted 
   pub offset-appended : (i : ℕ) → i < count b → offset (appended ed b k n u) i ≡ offset b i
   unfolding offset
   offset-appended i h =
-      let s = trailer-count ed b a in
+      let s = a .sized in
       let front = records b ++ presetRecord ed k n u in
       let f : trailer b + (headSize ed + length u) ≡ length front = simp (length-append, length-records, length-recordOf) in
       let l = length-offsets ed b a in

@@ -2,16 +2,18 @@
 --
 -- Sections: checks 1 to 3; the walk over the records; accepted books.
 -- Assumes nothing.
-use mathlib.Core.Path.{_≡_, sym, _∙_}
-use mathlib.Core.Bool.{Bool, true, false, not, _||_}
-use mathlib.Core.List.{List}
+use mathlib.Core.Path.{_≡_, refl, sym, _∙_}
+use mathlib.Core.Bool.{Bool, true, false, not, _||_, true≢false}
+use mathlib.Core.List.{List, [], _∷_}
 use Prim.Native.Nat.{ℕ, zero, suc, _+_, _-_, _*_, _≤_, _<_}
+use native.Mathlib.Decide.{ℕ-discrete}
 use native.Mathlib.Nat.{add-zero, add-suc, suc-add, zero-add, le-trans}
 use native.Mathlib.Numerals.{add-one}
 use native.Mathlib.Omega.{arith}
 use lib.Dec.{eqb, ltb}
 use lib.ListN.{length}
 use borrow.Author.Tests.{eq-eqb, ne-eqb, lt-ltb, le-ltb, eqb-true, ltb-false, not-false}
+use Rattle.coxeter.specs.Kinds.{pick}
 use Rattle.coxeter.specs.Checks.{check, _then_}
 use Rattle.coxeter.proofs.Basics.{or-false-left, or-false-right}
 use Rattle.coxeter.proofs.Refusals.{then-zero, check-zero}
@@ -25,25 +27,49 @@ pub count-read : (b : List ℕ) (c : ℕ) → c ≡ twoAt b (length b - 2) → c
 unfolding count
 count-read b c e = e
 
+-- a book of no bytes: its count and its trailer
+pub no-bytes : (b : List ℕ) → length b ≡ 0 → b ≡ []
+no-bytes [] h = refl
+no-bytes (x ∷ b) h = absurd (omega arith)
+
+pub count-bytes : (b : List ℕ) → length b ≡ 0 → count b ≡ 0
+unfolding count twoAt
+count-bytes b h = rw (no-bytes b h)
+
+pub trailer-bytes : (b : List ℕ) → length b ≡ 0 → trailer b ≡ 0
+unfolding trailer
+trailer-bytes b h = rw (count-bytes b h, h)
+
+placed-bytes : (ed : Edition) (b : List ℕ) → length b ≡ 0 → misplaced ed b ≡ false
+unfolding misplaced misplacedFrom
+placed-bytes ed b h = rw (count-bytes b h, trailer-bytes b h)
+
+above-zero : (m : ℕ) → (m ≡ 0 → ⊥) → 0 < m
+above-zero m f = elim (ℕ-discrete m 0) [ yes z ↦ absurd (f z) | no g ↦ omega arith ]
+
 module _ (ed : Edition) (b : List ℕ) where
-  pub bookRefusal-small : length b < 2 → bookRefusal ed b ≡ 1
+  pub bookRefusal-bytes : length b ≡ 0 → bookRefusal ed b ≡ 0
+  unfolding bookRefusal wrongSize wrongCount
+  bookRefusal-bytes h = rw (h, placed-bytes ed b h)
+
+  pub bookRefusal-small : (length b ≡ 0 → ⊥) → length b < 2 → bookRefusal ed b ≡ 1
   unfolding bookRefusal wrongSize
-  bookRefusal-small h = rw (lt-ltb (length b) 2 h)
+  bookRefusal-small f h = let e : length b ≡ 1 = omega (arith, above-zero (length b) f) in rw (eq-eqb (length b) 1 e)
 
   pub bookRefusal-large : 2 ≤ length b → 65535 < length b → bookRefusal ed b ≡ 1
   unfolding bookRefusal wrongSize
-  bookRefusal-large h g = rw (le-ltb (length b) 2 h, lt-ltb 65535 (length b) g)
+  bookRefusal-large h g = rw (ne-eqb (length b) 1 (omega arith), lt-ltb 65535 (length b) g)
 
-  pub bookRefusal-count : (c : ℕ) → 2 ≤ length b → length b ≤ 65535 → c ≡ twoAt b (length b - 2) → length b < 2 * c + 2 → bookRefusal ed b ≡ 2
+  pub bookRefusal-count : (c : ℕ) → 2 ≤ length b → length b ≤ 65535 → c ≡ count b → length b < 2 * c + 2 → bookRefusal ed b ≡ 2
   unfolding bookRefusal wrongSize wrongCount
   bookRefusal-count c h g e f =
-      rw (le-ltb (length b) 2 h, le-ltb 65535 (length b) g, ← count-read b c e, lt-ltb (length b) (2 * c + 2) f)
+      rw (ne-eqb (length b) 1 (omega arith), le-ltb 65535 (length b) g, ne-eqb (length b) 0 (omega arith), ← e, lt-ltb (length b) (2 * c + 2) f)
 
-  pub bookRefusal-walk : (c : ℕ) (t : Bool) → 2 ≤ length b → length b ≤ 65535 → c ≡ twoAt b (length b - 2) → 2 * c + 2 ≤ length b → t ≡ misplaced ed b
+  pub bookRefusal-walk : (c : ℕ) (t : Bool) → 2 ≤ length b → length b ≤ 65535 → c ≡ count b → 2 * c + 2 ≤ length b → t ≡ misplaced ed b
       → bookRefusal ed b ≡ check 3 t
   unfolding bookRefusal wrongSize wrongCount
   bookRefusal-walk c t h g e f q =
-      rw (le-ltb (length b) 2 h, le-ltb 65535 (length b) g, ← count-read b c e, le-ltb (length b) (2 * c + 2) f, q)
+      rw (ne-eqb (length b) 1 (omega arith), le-ltb 65535 (length b) g, ne-eqb (length b) 0 (omega arith), ← e, le-ltb (length b) (2 * c + 2) f, q)
 
 -- ---- the walk over the records
 
@@ -108,25 +134,77 @@ two-le-countPlace Second = omega arith
 
 -- ---- accepted books
 
+-- the size of a book with its count: 2 where there are no bytes
+unfoldable pub bookSize : List ℕ → ℕ
+bookSize b = pick (eqb (length b) 0) 2 (length b)
+
+pub bookSize-none : (b : List ℕ) → length b ≡ 0 → bookSize b ≡ 2
+unfolding bookSize
+bookSize-none b h = rw h
+
+pub bookSize-some : (b : List ℕ) → (length b ≡ 0 → ⊥) → bookSize b ≡ length b
+unfolding bookSize
+bookSize-some b f = rw (ne-eqb (length b) 0 f)
+
 -- a book that checks 1 to 3 accept
 pub record Accepted (ed : Edition) (b : List ℕ) : Type 0 where
-  pub least : 2 ≤ length b
-  pub most : length b ≤ 65535
-  pub fits : 2 * count b + 2 ≤ length b
+  pub most : bookSize b ≤ 65535
+  pub longer : length b ≤ bookSize b
+  pub sized : trailer b + 2 * count b + 2 ≡ bookSize b
+  pub inside : trailer b + 2 * count b ≤ length b
   pub placed : misplaced ed b ≡ false
 
-pub accepted : (ed : Edition) (b : List ℕ) → bookRefusal ed b ≡ 0 → Accepted ed b
-unfolding bookRefusal wrongSize wrongCount
-accepted ed b e =
-    let a = then-zero (check 1 (wrongSize b)) (check 2 (wrongCount b) then check 3 (misplaced ed b)) e in
-    let c = then-zero (check 2 (wrongCount b)) (check 3 (misplaced ed b)) (a .1) in
-    let size : wrongSize b ≡ false = check-zero 0 (wrongSize b) (a .0) in
-    record {
-      least = ltb-false (length b) 2 (or-false-left (ltb (length b) 2) (ltb 65535 (length b)) size);
-      most = ltb-false 65535 (length b) (or-false-right (ltb (length b) 2) (ltb 65535 (length b)) size);
-      fits = ltb-false (length b) (2 * count b + 2) (check-zero 1 (wrongCount b) (c .0));
-      placed = check-zero 2 (misplaced ed b) (c .1);
-    }
+-- it has no bytes, or at least those of its count and its offsets
+pub record Counted (b : List ℕ) : Type 0 where
+  pub some : 0 < length b
+  pub fits : 2 * count b + 2 ≤ length b
+
+pub accepted-bytes : (ed : Edition) (b : List ℕ) → length b ≡ 0 → Accepted ed b
+accepted-bytes ed b z =
+    let s = bookSize-none b z in
+    let c = count-bytes b z in
+    let t = trailer-bytes b z in
+    record { most = omega arith; longer = omega arith; sized = omega arith; inside = omega arith; placed = placed-bytes ed b z }
+
+trailer-fits : (b : List ℕ) → 2 * count b + 2 ≤ length b → trailer b + 2 * count b + 2 ≡ length b
+unfolding trailer
+trailer-fits b h = omega arith
+
+module _ (ed : Edition) (b : List ℕ) (e : bookRefusal ed b ≡ 0) where
+  sizes : (wrongSize b ≡ false) × (wrongCount b ≡ false) × (misplaced ed b ≡ false)
+  unfolding bookRefusal
+  sizes =
+      let a = then-zero (check 1 (wrongSize b)) (check 2 (wrongCount b) then check 3 (misplaced ed b)) e in
+      let c = then-zero (check 2 (wrongCount b)) (check 3 (misplaced ed b)) (a .1) in
+      (check-zero 0 (wrongSize b) (a .0), check-zero 1 (wrongCount b) (c .0), check-zero 2 (misplaced ed b) (c .1))
+
+  pub counted-some : (length b ≡ 0 → ⊥) → Counted b
+  unfolding wrongCount
+  counted-some f = record {
+    some = above-zero (length b) f;
+    fits = ltb-false (length b) (2 * count b + 2) (rw (ne-eqb (length b) 0 f) at (sizes .1));
+  }
+
+  pub accepted : Accepted ed b
+  unfolding wrongSize
+  accepted = elim (ℕ-discrete (length b) 0) [
+    | yes z ↦ accepted-bytes ed b z
+    | no f ↦
+        let s = bookSize-some b f in
+        let c = counted-some f in
+        let t = trailer-fits b (c .fits) in
+        let m = ltb-false 65535 (length b) (or-false-right (eqb (length b) 1) (ltb 65535 (length b)) (sizes .0)) in
+        record { most = omega arith; longer = omega arith; sized = omega arith; inside = omega arith; placed = sizes .2 }
+  ]
+
+  -- no accepted book has one byte
+  pub never-one : length b ≡ 1 → ⊥
+  unfolding wrongSize
+  never-one h = let z : true ≡ false = rw (eq-eqb (length b) 1 h) at (sizes .0) in true≢false z
+
+-- a book with a preset has bytes
+pub counted : (ed : Edition) (b : List ℕ) (i : ℕ) → bookRefusal ed b ≡ 0 → i < count b → Counted b
+counted ed b i e h = counted-some ed b e (λ z. let c = count-bytes b z in omega arith)
 
 -- the same, from what the code has of it
 pub accepted-read : (ed : Edition) (b : List ℕ) (r : ℕ) → r ≡ bookRefusal ed b → r ≡ 0 → Accepted ed b
@@ -168,6 +246,6 @@ unfolding misplaced
 endAt-offset-le ed b i a h = rw zero-add at (record-inside ed b (count b) 0 0 i (a .placed) h)
 
 -- the same as code meets it: c is the count, o the offset
-pub endAt-read-le : (ed : Edition) (b : List ℕ) (i c o : ℕ) → Accepted ed b → i < count b → c ≡ twoAt b (length b - 2) → o ≡ twoAt b (length b - (2 * c + 2) + 2 * i)
+pub endAt-read-le : (ed : Edition) (b : List ℕ) (i c o : ℕ) → Accepted ed b → i < count b → c ≡ count b → o ≡ twoAt b (length b - (2 * c + 2) + 2 * i)
     → endAt ed b o ≤ length b
-endAt-read-le ed b i c o a h q p = rw (← offset-read b c i o (count-read b c q) p) (le-trans (endAt-offset-le ed b i a h) (trailer-le b))
+endAt-read-le ed b i c o a h q p = rw (← offset-read b c i o q p) (le-trans (endAt-offset-le ed b i a h) (trailer-le b))

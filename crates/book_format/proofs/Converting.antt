@@ -27,13 +27,12 @@ use Rattle.book_format.specs.Records.{Record, recordBytes, layOut, recor
 use Rattle.book_format.specs.Calls.{presetOf, checkedPreset, lettersOf}
 use Rattle.book_format.specs.Conversion.{other, converted, tooManyLanes, recordConversionRefusal, recordsConversionRefusal, conversionRefusal, converting, SamePreset, Converted}
 use Rattle.book_format.proofs.RankLaws.{bookRank-accepted, bookRankRefusal-none, bookRank-within}
-use Rattle.book_format.proofs.BookLaws.{Accepted, accepted, first, trailer-le, endAt-offset-le}
+use Rattle.book_format.proofs.BookLaws.{Accepted, accepted, bookSize-some, bookRefusal-bytes, no-bytes, count-bytes, first, trailer-le, endAt-offset-le}
 use Rattle.book_format.proofs.PresetLaws.{presetRefusal-record}
 use Rattle.book_format.proofs.WritingLaws.{length-recordOf}
-use Rattle.book_format.proofs.AppendedParts.{trailer-count}
 use Rattle.book_format.proofs.Appending.{walk-end, recordRefusal-of, checkedPreset-of, lettersOf-of}
 use Rattle.book_format.proofs.RecordLaws.{layOut-recordsOf, length-recordsFrom, length-lettersAt, placed-from}
-use Rattle.book_format.proofs.LayOuts.{length-layOut, LanesRight, AllRight, laidOut}
+use Rattle.book_format.proofs.LayOuts.{length-layOut, LanesRight, AllRight, LaidOut, laidOut}
 
 pub other-other : (ed : Edition) → other (other ed) ≡ ed
 other-other First = refl
@@ -125,34 +124,61 @@ record-same ed ed′ b d (suc t) i (suc j) e h =
 
 -- ---- the converted book
 
--- what no check of a conversion refuses
+-- the converted book, of no bytes and of some
+pub converted-bytes : (ed : Edition) (b : List ℕ) → length b ≡ 0 → converted ed b ≡ []
+unfolding converted
+converted-bytes ed b z = rw z
+
+pub converted-some : (ed : Edition) (b : List ℕ) → (length b ≡ 0 → ⊥) → converted ed b ≡ layOut (other ed) (recordsOf ed b)
+unfolding converted
+converted-some ed b f = rw (ne-eqb (length b) 0 f)
+
+-- a book of no bytes is converted
+pub conversion-bytes : (ed : Edition) (b : List ℕ) → length b ≡ 0 → conversionRefusal ed b ≡ 0
+unfolding conversionRefusal recordsConversionRefusal tooLarge
+conversion-bytes ed b z = rw (bookRefusal-bytes ed b z, count-bytes b z, converted-bytes ed b z)
+
+-- a book with bytes that no check of a conversion refuses
 pub record Convertible (ed : Edition) (b : List ℕ) : Type 0 where
+  pub some : length b ≡ 0 → ⊥
   pub opens : bookRefusal ed b ≡ 0
   pub passes : recordsConversionRefusal ed b (count b) 0 ≡ 0
   pub small : length (converted ed b) ≤ 65535
 
-pub convertible : (ed : Edition) (b : List ℕ) → conversionRefusal ed b ≡ 0 → Convertible ed b
+conversion-parts : (ed : Edition) (b : List ℕ) → conversionRefusal ed b ≡ 0
+    → (bookRefusal ed b ≡ 0) × (recordsConversionRefusal ed b (count b) 0 ≡ 0) × (length (converted ed b) ≤ 65535)
 unfolding conversionRefusal tooLarge
-convertible ed b z =
+conversion-parts ed b z =
     let records = recordsConversionRefusal ed b (count b) 0 in
     let size = check 13 (tooLarge (length (converted ed b))) in
     let a = then-zero (bookRefusal ed b) (records then size) z in
     let c = then-zero records size (a .1) in
-    record { opens = a .0; passes = c .0; small = ltb-false 65535 (length (converted ed b)) (check-zero 12 (tooLarge (length (converted ed b))) (c .1)) }
+    (a .0, c .0, ltb-false 65535 (length (converted ed b)) (check-zero 12 (tooLarge (length (converted ed b))) (c .1)))
+
+pub conversion-opens : (ed : Edition) (b : List ℕ) → conversionRefusal ed b ≡ 0 → bookRefusal ed b ≡ 0
+conversion-opens ed b z = conversion-parts ed b z .0
+
+pub conversion-small : (ed : Edition) (b : List ℕ) → conversionRefusal ed b ≡ 0 → length (converted ed b) ≤ 65535
+conversion-small ed b z = conversion-parts ed b z .2
+
+pub convertible : (ed : Edition) (b : List ℕ) → (length b ≡ 0 → ⊥) → conversionRefusal ed b ≡ 0 → Convertible ed b
+convertible ed b f z = let p = conversion-parts ed b z in record { some = f; opens = p .0; passes = p .1; small = p .2 }
 
 -- each of its records passes
 pub passing-at : (ed : Edition) (b : List ℕ) (i : ℕ) → Convertible ed b → i < count b → Passing ed b (offset b i)
 passing-at ed b i w h = rw (zero-add i) at (record-passes ed b (count b) 0 i (w .passes) h)
 
 module _ (ed : Edition) (b : List ℕ) (w : Convertible ed b) where
+  laid : LaidOut (other ed) (recordsOf ed b)
+  unfolding recordsOf
+  laid = laidOut (other ed) (recordsOf ed b) (lanes-all-right ed b (count b) 0 (w .passes)) (rw (converted-some ed b (w .some)) at (w .small))
+
   pub converted-opens : bookRefusal (other ed) (converted ed b) ≡ 0
-  unfolding converted recordsOf
-  converted-opens = laidOut (other ed) (recordsOf ed b) (lanes-all-right ed b (count b) 0 (w .passes)) (w .small) .opens
+  converted-opens = rw (converted-some ed b (w .some)) (laid .opens)
 
   -- the records of both, with their lane counts
   pub recordsOf-converted : recordsOf (other ed) (converted ed b) ≡ recordsOf ed b
-  unfolding converted recordsOf
-  recordsOf-converted = laidOut (other ed) (recordsOf ed b) (lanes-all-right ed b (count b) 0 (w .passes)) (w .small) .records
+  recordsOf-converted = rw (converted-some ed b (w .some)) (laid .records)
 
   pub count-converted : count (converted ed b) ≡ count b
   unfolding recordsOf
@@ -234,9 +260,12 @@ module _ (ed : Edition) (b : List ℕ) (w : Convertible ed b) where
 
   -- ---- there and back
 
+  converted-longer : length (converted ed b) ≡ 0 → ⊥
+  converted-longer z = let l = length-layOut (other ed) (recordsOf ed b) in let e = ap length (converted-some ed b (w .some)) in omega arith
+
   pub there-and-back : Bytes b → converted (other ed) (converted ed b) ≡ b
-  unfolding converted
-  there-and-back v = back (other-other ed) ∙ layOut-recordsOf ed b v (w .opens)
+  there-and-back v =
+      converted-some (other ed) (converted ed b) converted-longer ∙ back (other-other ed) ∙ layOut-recordsOf ed b v (w .opens) (w .some)
     where
       back : other (other ed) ≡ ed → layOut (other (other ed)) (recordsOf (other ed) (converted ed b)) ≡ layOut ed (recordsOf ed b)
       back e = rw (e, recordsOf-converted)
@@ -258,20 +287,33 @@ module _ (ed : Edition) (b : List ℕ) (w : Convertible ed b) where
   back-accepted : Bytes b → conversionRefusal (other ed) (converted ed b) ≡ 0
   unfolding conversionRefusal tooLarge
   back-accepted v =
-      let size = accepted ed b (w .opens) .most in
+      let a = accepted ed b (w .opens) in
+      let size : length b ≤ 65535 = omega arith in
       rw (converted-opens, records-back (count (converted ed b)) 0 (omega (arith, count-converted)), there-and-back v, le-ltb 65535 (length b) size)
 
 -- every book that the call `convert` writes
 pub convert-converted : (ed : Edition) (b : List ℕ) → conversionRefusal ed b ≡ 0 → Converted ed b
-convert-converted ed b z = converted-is ed b (convertible ed b z)
+convert-converted ed b z = elim (ℕ-discrete (length b) 0) [
+  | yes n ↦
+      let e = converted-bytes ed b n in
+      let c = count-bytes b n in
+      record { unrefused = rw e (bookRefusal-bytes (other ed) [] refl); asMany = rw e (count-bytes [] refl ∙ sym c); presets = λ i h. absurd (omega arith) }
+  | no f ↦ converted-is ed b (convertible ed b f z)
+]
 
 -- "Forward and back gives the first book's bytes again"
 pub convert-back : (ed : Edition) (b : List ℕ) → Bytes b → conversionRefusal ed b ≡ 0 → converted (other ed) (converted ed b) ≡ b
-convert-back ed b v z = there-and-back ed b (convertible ed b z) v
+convert-back ed b v z = elim (ℕ-discrete (length b) 0) [
+  | yes n ↦ rw (converted-bytes ed b n) (converted-bytes (other ed) [] refl ∙ sym (no-bytes b n))
+  | no f ↦ there-and-back ed b (convertible ed b f z) v
+]
 
 -- and the way back is not refused
 pub convert-back-accepted : (ed : Edition) (b : List ℕ) → Bytes b → conversionRefusal ed b ≡ 0 → conversionRefusal (other ed) (converted ed b) ≡ 0
-convert-back-accepted ed b v z = back-accepted ed b (convertible ed b z) v
+convert-back-accepted ed b v z = elim (ℕ-discrete (length b) 0) [
+  | yes n ↦ rw (converted-bytes ed b n) (conversion-bytes (other ed) [] refl)
+  | no f ↦ back-accepted ed b (convertible ed b f z) v
+]
 
 -- a book that would grow beyond the limit is refused 13, after every check of its records
 pub conversion-too-large : (ed : Edition) (b : List ℕ) → bookRefusal ed b ≡ 0 → recordsConversionRefusal ed b (count b) 0 ≡ 0
@@ -308,10 +350,18 @@ abbrev pub sizeOf : Edition → ℕ → ℕ → ℕ
 sizeOf First l c = l + c
 sizeOf Second l c = l - c
 
+sizeOf-bytes : (ed : Edition) → sizeOf ed 0 0 ≡ 0
+sizeOf-bytes First = refl
+sizeOf-bytes Second = refl
+
 pub length-converted : (ed : Edition) (b : List ℕ) → Accepted ed b → length (converted ed b) ≡ sizeOf ed (length b) (count b)
-unfolding converted recordsOf
-length-converted ed b a =
-    sized ed (recordsFrom ed b (count b) 0) (length-recordsFrom ed b (count b) 0) (length-records ed b (count b) 0 0 (placed-from ed b a)) (trailer-count ed b a)
+unfolding recordsOf
+length-converted ed b a = elim (ℕ-discrete (length b) 0) [
+  | yes n ↦ rw (converted-bytes ed b n, n, count-bytes b n) (sym (sizeOf-bytes ed))
+  | no f ↦
+      rw (converted-some ed b f)
+      (sized ed (recordsFrom ed b (count b) 0) (length-recordsFrom ed b (count b) 0) (length-records ed b (count b) 0 0 (placed-from ed b a)) (a .sized ∙ bookSize-some b f))
+]
   where
     sized : (ed : Edition) (rs : List Record) → length rs ≡ count b → 0 + length (recordBytes ed rs) ≡ trailer b → trailer b + 2 * count b + 2 ≡ length b
         → length (layOut (other ed) rs) ≡ sizeOf ed (length b) (count b)

@@ -10,5 +10,6 @@ pub mod Unchanged
 pub mod RecordLaws
 pub mod LayOuts
 pub mod Converting
+pub mod NoBytes
 pub mod Vectors
 pub mod RunLaws

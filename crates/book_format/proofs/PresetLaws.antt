@@ -18,7 +18,7 @@ use Rattle.book_format.specs.Books.{twoAt, count, offset, countPlace, he
 use Rattle.book_format.specs.Books.{noSuchPreset, bookRankRefusal, bookRefusal, recordRefusal, presetRefusal}
 use Rattle.book_format.specs.Calls.{openedOf, presetOf, checkedBook, presetAt, checkedRecord, checkedPreset, lettersStart, lettersOf}
 use Rattle.book_format.proofs.RankLaws.{bookRank-accepted}
-use Rattle.book_format.proofs.BookLaws.{Accepted, accepted, count-read, offset-read, trailer-le, endAt-offset-le}
+use Rattle.book_format.proofs.BookLaws.{Accepted, accepted, offset-read, trailer-le, endAt-offset-le}
 use Rattle.coxeter.proofs.Refusals.{then-zero, check-zero, then-some}
 
 -- ---- answers
@@ -27,9 +27,9 @@ pub checkedBook-refused : (ed : Edition) (b : List ℕ) (r : ℕ) → r ≡ book
 unfolding checkedBook openedOf
 checkedBook-refused ed b r e f = rw (← e, ne-eqb r 0 f)
 
-pub checkedBook-presets : (ed : Edition) (b : List ℕ) (r c : ℕ) → r ≡ bookRefusal ed b → r ≡ 0 → c ≡ twoAt b (length b - 2) → checkedBook ed b ≡ opened.Presets c
+pub checkedBook-presets : (ed : Edition) (b : List ℕ) (r c : ℕ) → r ≡ bookRefusal ed b → r ≡ 0 → c ≡ count b → checkedBook ed b ≡ opened.Presets c
 unfolding checkedBook openedOf
-checkedBook-presets ed b r c e z q = rw (← e, eq-eqb r 0 z, count-read b c q)
+checkedBook-presets ed b r c e z q = rw (← e, eq-eqb r 0 z, q)
 
 presetAt-refused : (ed : Edition) (b : List ℕ) (o r : ℕ) → (r ≡ 0 → ⊥) → presetAt ed r b o ≡ preset.Refused r
 unfolding presetAt presetOf
@@ -104,10 +104,10 @@ unfolding presetRefusal noSuchPreset
 presetRefusal-record ed b i z h = rw (eq-eqb (bookRefusal ed b) 0 z, lt-leb (count b) i h)
 
 -- the same as code meets it: c is the count, o the offset
-pub checkedPreset-record : (ed : Edition) (b : List ℕ) (i c o : ℕ) → bookRefusal ed b ≡ 0 → i < count b → c ≡ twoAt b (length b - 2)
+pub checkedPreset-record : (ed : Edition) (b : List ℕ) (i c o : ℕ) → bookRefusal ed b ≡ 0 → i < count b → c ≡ count b
     → o ≡ twoAt b (length b - (2 * c + 2) + 2 * i) → checkedPreset ed b i ≡ checkedRecord ed b o
 unfolding checkedPreset checkedRecord
-checkedPreset-record ed b i c o z h q p = rw (presetRefusal-record ed b i z h, offset-read b c i o (count-read b c q) p)
+checkedPreset-record ed b i c o z h q p = rw (presetRefusal-record ed b i z h, offset-read b c i o q p)
 
 -- r is the refusal of the book
 module _ (ed : Edition) (b : List ℕ) (i r : ℕ) (e : r ≡ bookRefusal ed b) where
@@ -115,9 +115,9 @@ module _ (ed : Edition) (b : List ℕ) (i r : ℕ) (e : r ≡ bookRefusal ed b) 
   unfolding checkedPreset presetRefusal
   checkedPreset-book f = rw (← e, ne-eqb r 0 f) (presetAt-refused ed b (offset b i) r f)
 
-  pub checkedPreset-number : (c : ℕ) → r ≡ 0 → c ≡ twoAt b (length b - 2) → c ≤ i → checkedPreset ed b i ≡ preset.Refused 4
+  pub checkedPreset-number : (c : ℕ) → r ≡ 0 → c ≡ count b → c ≤ i → checkedPreset ed b i ≡ preset.Refused 4
   unfolding checkedPreset presetRefusal noSuchPreset
-  checkedPreset-number c z q h = rw (← e, eq-eqb r 0 z, ← count-read b c q, le-leb c i h) (presetAt-refused ed b (offset b i) 4 (omega arith))
+  checkedPreset-number c z q h = rw (← e, eq-eqb r 0 z, ← q, le-leb c i h) (presetAt-refused ed b (offset b i) 4 (omega arith))
 
 -- ---- letters
 

@@ -1,12 +1,14 @@
--- Every book that passes checks 1 to 3 is made of its records: laying them out again gives its bytes. So two books with the same presets in the same
--- order are the same bytes. Shown part by part from the end: what a part lays out, followed by the book after it, is the book from its beginning.
+-- Every book that passes checks 1 to 3, but the one of no bytes, is made of its records: laying them out again gives its bytes. So two books with the
+-- same presets in the same order are the same bytes, unless one of them has no bytes. Shown part by part from the end: what a part lays out, followed by the book after it, is the book from its beginning.
 --
 -- Sections: numbers; one record; the records; the offsets; the law; appending.
 -- Assumes nothing.
 use mathlib.Core.Path.{_≡_, refl, sym, ap, _∙_}
+use mathlib.Core.Logic.{_⊎_, inl, inr}
 use mathlib.Core.Bool.{false}
 use mathlib.Core.List.{List, [], _∷_, _++_, append-assoc, append-nil}
 use Prim.Native.Nat.{ℕ, zero, suc, _+_, _-_, _*_, _/_, _%_, _≤_, _<_}
+use native.Mathlib.Decide.{ℕ-discrete}
 use native.Mathlib.Nat.{add-zero}
 use native.Mathlib.Numerals.{add-one, add-two, add-three}
 use native.Mathlib.Omega.{arith}
@@ -17,10 +19,10 @@ use Rattle.book_format.specs.declared.Edition.{Edition}
 use Rattle.book_format.specs.declared.Edition.the-variants.{First, Second}
 use Rattle.book_format.specs.Books.{twoAt, two, count, trailer, offset, kindAt, rankAt, lanesAt, letterCountAt, lettersAt, endAt}
 use Rattle.book_format.specs.Books.{misplacedFrom, misplaced, bookRefusal, laneByte, recordOf, appended, countPlace, headSize, added}
-use Rattle.book_format.specs.Records.{recordBytes, offsetBytes, layOut, recordAt, recordsFrom, recordsOf, Bytes}
-use Rattle.book_format.proofs.BookLaws.{Accepted, accepted, first, trailer-le}
+use Rattle.book_format.specs.Records.{recordBytes, offsetBytes, layOut, recordAt, recordsFrom, recordsOf, Empties, Bytes}
+use Rattle.book_format.proofs.BookLaws.{Accepted, accepted, bookSize, bookSize-some, no-bytes, count-bytes, first, trailer-le}
 use Rattle.book_format.proofs.WritingLaws.{length-appended}
-use Rattle.book_format.proofs.AppendedParts.{trailer-count, count-appended, offset-appended, offset-appended-last, kindAt-appended, rankAt-appended, lanesAt-appended, lettersAt-appended, kindAt-appended-last, rankAt-appended-last, lanesAt-appended-last, lettersAt-appended-last}
+use Rattle.book_format.proofs.AppendedParts.{count-appended, offset-appended, offset-appended-last, kindAt-appended, rankAt-appended, lanesAt-appended, lettersAt-appended, kindAt-appended-last, rankAt-appended-last, lanesAt-appended-last, lettersAt-appended-last}
 use Rattle.book_format.proofs.Appending.{walk-end}
 
 -- ---- numbers
@@ -95,8 +97,8 @@ count-at : (b : List ℕ) → count b ≡ twoAt b (length b - 2)
 unfolding count
 count-at b = refl
 
-count-bytes : (b : List ℕ) → Bytes b → 2 ≤ length b → two (count b) ≡ drop (length b - 2) b
-count-bytes b w h =
+count-then-end : (b : List ℕ) → Bytes b → 2 ≤ length b → two (count b) ≡ drop (length b - 2) b
+count-then-end b w h =
     rw (count-at b)
     (rw (drop-of-length-le b {i = length b - 2 + 2} (omega arith), append-nil (two (twoAt b (length b - 2)))) at (two-then-drop b (length b - 2) w (omega arith)))
 
@@ -134,21 +136,37 @@ placed-from ed b a = a .placed
 
 -- ---- the law
 
-pub layOut-recordsOf : (ed : Edition) (b : List ℕ) → Bytes b → bookRefusal ed b ≡ 0 → layOut ed (recordsOf ed b) ≡ b
+-- every book but the one of no bytes, which has no count
+pub layOut-recordsOf : (ed : Edition) (b : List ℕ) → Bytes b → bookRefusal ed b ≡ 0 → (length b ≡ 0 → ⊥) → layOut ed (recordsOf ed b) ≡ b
 unfolding layOut recordsOf
-layOut-recordsOf ed b w z =
+layOut-recordsOf ed b w z some =
     let a = accepted ed b z in
-    let h = trailer-count ed b a in
+    let h = a .sized ∙ bookSize-some b some in
     let rs = recordsFrom ed b (count b) 0 in
     let place : trailer b + 2 * (0 + count b) ≡ length b - 2 = omega arith in
     let start : trailer b + 2 * 0 ≡ trailer b = omega arith in
     let number : two (length rs) ≡ drop (trailer b + 2 * (0 + count b)) b =
-    rw (length-recordsFrom ed b (count b) 0, place) (count-bytes b w (omega arith)) in
+    rw (length-recordsFrom ed b (count b) 0, place) (count-then-end b w (omega arith)) in
     rw (number, offsets-then-drop ed b (count b) 0 0 w (omega arith) (placed-from ed b a), start) (records-then-drop ed b (count b) 0 0 w (placed-from ed b a))
 
--- two books with the same presets in the same order are the same bytes
-pub same-records : (ed : Edition) (b d : List ℕ) → Bytes b → Bytes d → bookRefusal ed b ≡ 0 → bookRefusal ed d ≡ 0 → recordsOf ed b ≡ recordsOf ed d → b ≡ d
-same-records ed b d w v y z e = sym (layOut-recordsOf ed b w y) ∙ ap (layOut ed) e ∙ layOut-recordsOf ed d v z
+-- a book whose records are those of a book of no bytes is the count 0 alone, unless it has no bytes either
+empty-records : (ed : Edition) (b d : List ℕ) → Bytes d → bookRefusal ed d ≡ 0 → length b ≡ 0 → (length d ≡ 0 → ⊥) → recordsOf ed b ≡ recordsOf ed d → d ≡ two 0
+unfolding layOut recordBytes offsetBytes recordsOf recordsFrom
+empty-records ed b d v z n f e = sym (layOut-recordsOf ed d v z f) ∙ ap (layOut ed) (sym e) ∙ rw (count-bytes b n)
+
+-- two books with the same presets in the same order are the same bytes, with the one exception `Empties`
+pub same-records : (ed : Edition) (b d : List ℕ) → Bytes b → Bytes d → bookRefusal ed b ≡ 0 → bookRefusal ed d ≡ 0 → recordsOf ed b ≡ recordsOf ed d
+    → (b ≡ d) ⊎ Empties b d
+same-records ed b d w v y z e = elim (ℕ-discrete (length b) 0) [
+  | yes n ↦ elim (ℕ-discrete (length d) 0) [
+    | yes m ↦ inl (no-bytes b n ∙ sym (no-bytes d m))
+    | no f ↦ inr (inl (no-bytes b n, empty-records ed b d v z n f e))
+  ]
+  | no f ↦ elim (ℕ-discrete (length d) 0) [
+    | yes m ↦ inr (inr (empty-records ed d b w y m f (sym e), no-bytes d m))
+    | no g ↦ inl (sym (layOut-recordsOf ed b w y f) ∙ ap (layOut ed) e ∙ layOut-recordsOf ed d v z g)
+  ]
+]
 
 recordsFrom-same : (ed : Edition) (b d : List ℕ) (j i : ℕ) → ((m : ℕ) → m < i + j → recordAt ed b (offset b m) ≡ recordAt ed d (offset d m)) → recordsFrom ed b j i ≡ recordsFrom ed d j i
 unfolding recordsFrom
@@ -157,7 +175,7 @@ recordsFrom-same ed b d (suc j) i e = rw (e i (omega arith), recordsFrom-same ed
 
 -- the same, number by number
 pub same-presets : (ed : Edition) (b d : List ℕ) → Bytes b → Bytes d → bookRefusal ed b ≡ 0 → bookRefusal ed d ≡ 0 → count b ≡ count d
-    → ((i : ℕ) → i < count b → recordAt ed b (offset b i) ≡ recordAt ed d (offset d i)) → b ≡ d
+    → ((i : ℕ) → i < count b → recordAt ed b (offset b i) ≡ recordAt ed d (offset d i)) → (b ≡ d) ⊎ Empties b d
 unfolding recordsOf
 same-presets ed b d w v y z n e = same-records ed b d w v y z (recordsFrom-same ed b d (count b) 0 (λ m h. e m (omega arith)) ∙ rw n)
 
@@ -171,7 +189,7 @@ recordAt-of : (ed : Edition) (m : List ℕ) (o k n c : ℕ) (u : List ℕ) → k
     → recordAt ed m o ≡ record { kind = k; rank = n; lanes = c; letters = u }
 recordAt-of ed m o k n c u p q s r = rw (s, p, q, r)
 
-module _ (ed : Edition) (b : List ℕ) (k n : ℕ) (u : List ℕ) (a : Accepted ed b) (small : length b + added ed u ≤ 65535) where
+module _ (ed : Edition) (b : List ℕ) (k n : ℕ) (u : List ℕ) (a : Accepted ed b) (small : bookSize b + added ed u ≤ 65535) where
   recordsFrom-appended : (j i o : ℕ) → i + j ≡ count b → misplacedFrom ed b j i o ≡ false
       → recordsFrom ed (appended ed b k n u) (suc j) i ≡ recordsFrom ed b j i ++ (record { kind = k; rank = n; lanes = lanes (kindOf k) n; letters = u } ∷ [])
   unfolding recordsFrom
@@ -196,5 +214,5 @@ unfolding recordsOf
 recordsOf-appended ed b k n u z h =
     let a = accepted ed b z in
     let l = length-appended ed b k n u a in
-    let small : length b + added ed u ≤ 65535 = omega arith in
+    let small : bookSize b + added ed u ≤ 65535 = omega arith in
     rw (count-appended ed b k n u a small, add-one (count b)) (recordsFrom-appended ed b k n u a small (count b) 0 0 (omega arith) (placed-from ed b a))

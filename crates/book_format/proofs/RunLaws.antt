@@ -25,7 +25,6 @@ use Rattle.book_format.specs.declared.Preset.{Preset}
 use Rattle.book_format.specs.declared.Preset.the-variants as preset
 use Rattle.book_format.specs.Books.{twoAt, count, noSuchPreset, bookRefusal}
 use Rattle.book_format.specs.Calls.{presetOf, checkedPreset, fieldsOf, presetFields, runLength, readingPresets, presetFrom}
-use Rattle.book_format.proofs.BookLaws.{count-read}
 use Rattle.book_format.proofs.PresetLaws.{found, found-rank, refused, refused-is}
 use Rattle.book_format.proofs.Outcomes.{presetRefusal-le}
 
@@ -108,14 +107,14 @@ module _ (ed : Edition) (b : List ℕ) (i : ℕ) (out : List ℕ) (r : ℕ) (e :
   unfolding readingPresets answerOf written
   reading-book f = rw (← e, ne-eqb r 0 f) (rw (ne-eqb r 0 f) (refl, refl))
 
-  module _ (z : r ≡ 0) (c : ℕ) (q : c ≡ twoAt b (length b - 2)) where
+  module _ (z : r ≡ 0) (c : ℕ) (q : c ≡ count b) where
     pub reading-number : c ≤ i → (answer.Refused 4 ≡ readingPresets ed b i out .answer) × (out ≡ readingPresets ed b i out .bytes)
     unfolding readingPresets noSuchPreset answerOf written
-    reading-number h = rw (← e, eq-eqb r 0 z, ← count-read b c q, le-leb c i h) (refl, refl)
+    reading-number h = rw (← e, eq-eqb r 0 z, ← q, le-leb c i h) (refl, refl)
 
     pub reading-short : i < c → length out < 5 → (answer.Refused 14 ≡ readingPresets ed b i out .answer) × (out ≡ readingPresets ed b i out .bytes)
     unfolding readingPresets noSuchPreset tooShort answerOf written
-    reading-short h g = rw (← e, eq-eqb r 0 z, ← count-read b c q, lt-leb c i h, lt-ltb (length out) 5 g) (refl, refl)
+    reading-short h g = rw (← e, eq-eqb r 0 z, ← q, lt-leb c i h, lt-ltb (length out) 5 g) (refl, refl)
 
     pub reading-run : (t : ℕ) (o : List ℕ) → i < c → 5 ≤ length out → t ≡ min (c - i) (length out / 5) → o ≡ sets out 0 (presetFields ed b t i)
         → (answer.Length t ≡ readingPresets ed b i out .answer) × (o ≡ readingPresets ed b i out .bytes)
@@ -125,7 +124,7 @@ module _ (ed : Edition) (b : List ℕ) (i : ℕ) (out : List ℕ) (r : ℕ) (e :
         let l = length-presetFields ed b t i in
         let m = min-le-right (c - i) (length out / 5) in
         let w : o ≡ numbers ++ drop (length numbers) out = p ∙ sets-front numbers out (length numbers) (omega arith) refl in
-        rw (← e, eq-eqb r 0 z, ← count-read b c q, lt-leb c i h, le-ltb (length out) 5 g, ← y) (refl, w)
+        rw (← e, eq-eqb r 0 z, ← q, lt-leb c i h, le-ltb (length out) 5 g, ← y) (refl, w)
 
 -- a run of n presets from preset i on, in numbers at the front of l
 pub record Run (ed : Edition) (b : List ℕ) (i n : ℕ) (l : List ℕ) : Type 0 where

@@ -84,6 +84,8 @@ opening =
     -- the second edition; a book of the one read as the other
     ∷ (checkedBook Second secondBook, opened.Presets 2)
     ∷ (checkedBook Second emptyBook, opened.Presets 0)
+    ∷ (checkedBook Second [], opened.Presets 0)
+    ∷ (checkedBook Second (0 ∷ []), opened.Refused 1)
     ∷ (checkedBook Second book, opened.Refused 3)
     ∷ (checkedBook First secondBook, opened.Refused 3)
     ∷ []
@@ -225,15 +227,18 @@ appendings-agree = refl
 -- the size limit, for every accepted book and preset: a new book of 65,536 bytes or more is refused before the room is looked at, a smaller one only
 -- where there is no room
 module _ (ed : Edition) (b : List ℕ) (k n : ℕ) (u out : List ℕ) (e : bookRefusal ed b ≡ 0) (f : bookRankRefusal ed k n ≡ 0) (g : wordRefusal n u ≡ 0) where
-  pub appending-too-large : 65535 < length b + added ed u → appending ed b k n u out ≡ refused 13 out
+  pub appending-too-large : 65535 < length (appended ed b k n u) → appending ed b k n u out ≡ refused 13 out
   unfolding appending writes answerOf written
-  appending-too-large h = rw (appendRefusal-large ed b k n u 0 (sym e) 0 refl (sym f) 0 refl (sym g) refl h)
+  appending-too-large h =
+      rw (appendRefusal-large ed b k n u 0 (sym e) 0 refl (sym f) 0 refl (sym g) refl (rw (length-appended ed b k n u (accepted ed b e)) at h))
 
-  pub appending-without-room : length b + added ed u ≤ 65535 → length out < length b + added ed u → appending ed b k n u out ≡ refused 14 out
+  pub appending-without-room : length (appended ed b k n u) ≤ 65535 → length out < length (appended ed b k n u) → appending ed b k n u out ≡ refused 14 out
   unfolding appending writes answerOf written tooShort
   appending-without-room h l =
-      let s = length b + added ed u in
-      rw (appendRefusal-none ed b k n u 0 (sym e) 0 refl (sym f) 0 refl (sym g) refl h, length-appended ed b k n u (accepted ed b e), lt-ltb (length out) s l)
+      rw (
+        appendRefusal-none ed b k n u 0 (sym e) 0 refl (sym f) 0 refl (sym g) refl (rw (length-appended ed b k n u (accepted ed b e)) at h),
+        lt-ltb (length out) (length (appended ed b k n u)) l,
+      )
 
 -- ---- converting
 
@@ -247,6 +252,8 @@ conversions =
     ∷ (converting Second secondBook (lent 24), wrote 24 book)
     ∷ (converting First emptyBook (lent 2), wrote 2 emptyBook)
     ∷ (converting Second emptyBook (lent 3), wrote 2 (0 ∷ 0 ∷ 9 ∷ []))
+    ∷ (converting First [] (lent 3), wrote 0 (lent 3))
+    ∷ (converting Second [] [], wrote 0 [])
     -- room for all of it
     ∷ (converting First book (lent 25), refused 14 (lent 25))
     -- the book's checks by the edition that it is lent as, then each record's

@@ -4,19 +4,19 @@
 -- Assumes nothing.
 use mathlib.Core.Path.{_≡_, refl, sym, _∙_}
 use mathlib.Core.List.{List}
-use Prim.Native.Nat.{ℕ, _+_, _≤_, _<_}
+use Prim.Native.Nat.{ℕ, _+_, _*_, _≤_, _<_}
 use native.Mathlib.Omega.{arith}
-use lib.ListN.{length, length-append, length-take, length-drop}
-use lib.Seq.{sets}
+use lib.ListN.{length, drop, length-append, length-drop}
+use lib.Seq.{sets, length-take-le}
 use borrow.Author.Tests.{eq-eqb, ne-eqb, lt-ltb, le-ltb, ltb-false}
 use Rattle.book_format.specs.declared.Edition.{Edition}
 use Rattle.book_format.specs.declared.Edition.the-variants.{First, Second}
 use Rattle.coxeter.specs.declared.Answer.the-variants as answer
 use Rattle.coxeter.specs.Checks.{check, _then_, wordRefusal}
-use Rattle.book_format.specs.Books.{two, trailer, tooLarge, bookRankRefusal, bookRefusal, laneByte, recordOf, appended, appendRefusal, countPlace, headSize, added}
+use Rattle.book_format.specs.Books.{two, count, trailer, tooLarge, bookRankRefusal, bookRefusal, laneByte, recordOf, appended, appendRefusal, countPlace, headSize, added}
 use Rattle.book_format.specs.Calls.{appending}
 use Rattle.book_format.proofs.RankLaws.{bookRank-accepted}
-use Rattle.book_format.proofs.BookLaws.{Accepted, accepted, accepted-read}
+use Rattle.book_format.proofs.BookLaws.{Accepted, accepted, accepted-read, bookSize, trailer-le}
 use Rattle.coxeter.proofs.Acceptance.{rank-accepted}
 use Rattle.coxeter.proofs.Lists.{sets-front}
 use Rattle.coxeter.proofs.Outcomes.{writes-refused, writes-short, writes-done}
@@ -36,13 +36,16 @@ pub length-recordOf : (ed : Edition) (k n m : ℕ) (u : List ℕ) → length (re
 unfolding recordOf
 length-recordOf ed k n m u = let l = length-laneByte ed m in simp (length-append, length-two) (omega arith)
 
-pub length-appended : (ed : Edition) (b : List ℕ) (k n : ℕ) (u : List ℕ) → Accepted ed b → length (appended ed b k n u) ≡ length b + added ed u
-unfolding appended trailer
-length-appended ed b k n u a = let h = a .fits in simp (length-append, length-recordOf, length-two, length-take, length-drop) (omega arith)
+pub length-appended : (ed : Edition) (b : List ℕ) (k n : ℕ) (u : List ℕ) → Accepted ed b → length (appended ed b k n u) ≡ bookSize b + added ed u
+unfolding appended
+length-appended ed b k n u a =
+    let h = a .inside in
+    let s = a .sized in
+    simp (length-append, length-recordOf, length-two, length-take-le (trailer b) b (trailer-le b), length-take-le (2 * count b) (drop (trailer b) b) (rw length-drop (omega arith))) (omega arith)
 
--- its length, as the code computes it: p is the place of a letter count
-pub size-read : (ed : Edition) (b u : List ℕ) (p : ℕ) → p ≡ countPlace ed → length b + (p + 2 + length u + 2) ≡ length b + added ed u
-size-read ed b u p e = rw e
+-- its length, as the code computes it: s is the size of the old book with its count, p the place of a letter count
+pub size-read : (ed : Edition) (b u : List ℕ) (s p : ℕ) → s ≡ bookSize b → p ≡ countPlace ed → s + (p + 2 + length u + 2) ≡ bookSize b + added ed u
+size-read ed b u s p q e = rw (q, e)
 
 -- ---- appending
 
@@ -62,15 +65,15 @@ module _ (ed : Edition) (b : List ℕ) (k n : ℕ) (u : List ℕ) (r : ℕ) (e :
       unfolding appendRefusal
       appendRefusal-word f = rw (← e, eq-eqb r 0 z, ← d, eq-eqb s 0 y, ← q, ne-eqb t 0 f)
 
-      pub appendRefusal-large : t ≡ 0 → 65535 < length b + added ed u → appendRefusal ed b k n u ≡ 13
+      pub appendRefusal-large : t ≡ 0 → 65535 < bookSize b + added ed u → appendRefusal ed b k n u ≡ 13
       unfolding appendRefusal tooLarge
       appendRefusal-large x h =
-          rw (← e, eq-eqb r 0 z, ← d, eq-eqb s 0 y, ← q, eq-eqb t 0 x, length-appended ed b k n u (accepted-read ed b r e z), lt-ltb 65535 (length b + added ed u) h)
+          rw (← e, eq-eqb r 0 z, ← d, eq-eqb s 0 y, ← q, eq-eqb t 0 x, length-appended ed b k n u (accepted-read ed b r e z), lt-ltb 65535 (bookSize b + added ed u) h)
 
-      pub appendRefusal-none : t ≡ 0 → length b + added ed u ≤ 65535 → appendRefusal ed b k n u ≡ 0
+      pub appendRefusal-none : t ≡ 0 → bookSize b + added ed u ≤ 65535 → appendRefusal ed b k n u ≡ 0
       unfolding appendRefusal tooLarge
       appendRefusal-none x h =
-          rw (← e, eq-eqb r 0 z, ← d, eq-eqb s 0 y, ← q, eq-eqb t 0 x, length-appended ed b k n u (accepted-read ed b r e z), le-ltb 65535 (length b + added ed u) h)
+          rw (← e, eq-eqb r 0 z, ← d, eq-eqb s 0 y, ← q, eq-eqb t 0 x, length-appended ed b k n u (accepted-read ed b r e z), le-ltb 65535 (bookSize b + added ed u) h)
 
 -- where appending is not refused, none of its checks refuses
 append-parts : (ed : Edition) (b : List ℕ) (k n : ℕ) (u : List ℕ) → appendRefusal ed b k n u ≡ 0
@@ -108,14 +111,14 @@ module _ (ed : Edition) (b : List ℕ) (k n : ℕ) (u out : List ℕ) (r : ℕ) 
   unfolding appending
   appending-refused f = writes-refused (appending ed b k n u out) (appendRefusal ed b k n u) r (appended ed b k n u) out refl e f
 
-  pub appending-short : (s : ℕ) → s ≡ length b + added ed u → r ≡ 0 → length out < s
+  pub appending-short : (s : ℕ) → s ≡ bookSize b + added ed u → r ≡ 0 → length out < s
       → (answer.Refused 14 ≡ appending ed b k n u out .answer) × (out ≡ appending ed b k n u out .bytes)
   unfolding appending
   appending-short s f z h =
       writes-short (appending ed b k n u out) (appendRefusal ed b k n u) r (appended ed b k n u) out refl e s z
       (length-appended ed b k n u (append-accepted ed b k n u (sym e ∙ z)) ∙ sym f) h
 
-  pub appending-written : (s : ℕ) → s ≡ length b + added ed u → (o : List ℕ) → r ≡ 0 → s ≤ length out → o ≡ sets out 0 (appended ed b k n u)
+  pub appending-written : (s : ℕ) → s ≡ bookSize b + added ed u → (o : List ℕ) → r ≡ 0 → s ≤ length out → o ≡ sets out 0 (appended ed b k n u)
       → (answer.Length s ≡ appending ed b k n u out .answer) × (o ≡ appending ed b k n u out .bytes)
   unfolding appending
   appending-written s f o z h p =

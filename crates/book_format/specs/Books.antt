@@ -1,7 +1,7 @@
--- The preset book (document 01, "The preset book"; its second edition: document 02, request 7), read from its end, and its checks 1 to 4, 6, 13 and
+-- The preset book (document 01, "The preset book"; its second edition: document 02, request 7; a book of no bytes: request 9), read from its end, and its checks 1 to 4, 6, 13 and
 -- 17. "Callers name the edition they read or append, first or second; no third can be named.": `Edition` has these two cases, and what differs between
 -- the editions goes by them.
-use mathlib.Core.Bool.{Bool, not, _||_}
+use mathlib.Core.Bool.{Bool, not, _&&_, _||_}
 use mathlib.Core.List.{List, [], _∷_, _++_}
 use Prim.Native.Nat.{ℕ, zero, suc, _+_, _-_, _*_, _/_, _%_}
 use lib.Dec.{eqb, leb, ltb}
@@ -18,7 +18,7 @@ twoAt b p = getD b p 0 + 256 * getD b (p + 1) 0
 unfoldable pub two : ℕ → List ℕ
 two x = x % 256 ∷ x / 256 % 256 ∷ []
 
--- "The last two bytes are the count c."
+-- "The last two bytes are the count c."; 0 where there are no bytes
 unfoldable pub count : List ℕ → ℕ
 count b = twoAt b (length b - 2)
 
@@ -61,13 +61,14 @@ lettersAt ed b o = take (letterCountAt ed b o) (drop (o + headSize ed) b)
 abbrev pub endAt : Edition → List ℕ → ℕ → ℕ
 endAt ed b o = o + headSize ed + letterCountAt ed b o
 
--- "1. The book has fewer than 2 or more than 65,535 bytes."
+-- "1. The book has 1 byte or more than 65,535 bytes.": "A book of length 0 is to be read as a book without presets, in both editions", and "Refusal 1
+-- remains for a length of 1 and for more than 65,535 bytes" (document 02, request 9)
 unfoldable pub wrongSize : List ℕ → Bool
-wrongSize b = ltb (length b) 2 || ltb 65535 (length b)
+wrongSize b = eqb (length b) 1 || ltb 65535 (length b)
 
--- "2. Two times c, plus 2, exceeds the book's length."
+-- "2. Two times c, plus 2, exceeds the book's length.": a book of no bytes has no count that could be wrong
 unfoldable pub wrongCount : List ℕ → Bool
-wrongCount b = ltb (length b) (2 * count b + 2)
+wrongCount b = not (eqb (length b) 0) && ltb (length b) (2 * count b + 2)
 
 -- "3. An offset is not where the record before it ends (0 for the first), a record runs into the trailer, or the last record does not end at
 -- the trailer (with c = 0, the trailer is not at byte 0).": t records are left, the next is record i and has to begin at byte o

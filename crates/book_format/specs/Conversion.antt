@@ -2,10 +2,11 @@
 -- every input, and what holds of a converted book.
 use mathlib.Core.Path.{_≡_}
 use mathlib.Core.Bool.{Bool, false}
-use mathlib.Core.List.{List}
+use mathlib.Core.List.{List, []}
 use Prim.Native.Nat.{ℕ, zero, suc, _<_}
-use lib.Dec.{ltb}
+use lib.Dec.{eqb, ltb}
 use lib.ListN.{length}
+use Rattle.coxeter.specs.Kinds.{pick}
 use Rattle.coxeter.specs.Checks.{check, _then_}
 use Rattle.coxeter.specs.Calls.{Outcome, writes}
 use Rattle.book_format.specs.declared.Edition.{Edition}
@@ -20,9 +21,10 @@ abbrev pub other : Edition → Edition
 other First = Second
 other Second = First
 
--- "A converter turns a whole book into the other edition, record order and letters kept.": b is a book of the edition ed
+-- "A converter turns a whole book into the other edition, record order and letters kept.": b is a book of the edition ed; "converting it gives no bytes"
+-- (request 9) of a book of no bytes
 unfoldable pub converted : Edition → List ℕ → List ℕ
-converted ed b = layOut (other ed) (recordsOf ed b)
+converted ed b = pick (eqb (length b) 0) [] (layOut (other ed) (recordsOf ed b))
 
 -- "18. A second-edition record going back has more than 32 lanes.": the record at byte o
 unfoldable pub tooManyLanes : Edition → List ℕ → ℕ → Bool

@@ -1,5 +1,7 @@
 -- A book as the list of its records (document 01, "The preset book"): the bytes that a list of records lays out, and the records of a book. In either
 -- edition a record has its lane count, written or not, so that lists of records are the same for both.
+use mathlib.Core.Path.{_≡_}
+use mathlib.Core.Logic.{_⊎_}
 use mathlib.Core.List.{List, [], _∷_, _++_}
 use Prim.Native.Nat.{ℕ, zero, suc, _+_, _<_}
 use lib.ListN.{length, getD}
@@ -36,6 +38,10 @@ recordsFrom ed b (suc t) i = recordAt ed b (offset b i) ∷ recordsFrom ed b t (
 
 unfoldable pub recordsOf : Edition → List ℕ → List Record
 recordsOf ed b = recordsFrom ed b (count b) 0
+
+-- books with the same records that are not the same bytes, the only ones: neither has a preset, and one of them has no bytes
+abbrev pub Empties : List ℕ → List ℕ → Type 0
+Empties b d = ((b ≡ []) × (d ≡ two 0)) ⊎ ((b ≡ two 0) × (d ≡ []))
 
 -- every number of the list is a byte
 abbrev pub Bytes : List ℕ → Type 0

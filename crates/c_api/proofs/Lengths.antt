@@ -51,7 +51,7 @@ use Rattle.book_format.specs.Calls.{openedOf, checkedBook, runLength, readingPr
 use Rattle.book_format.specs.Conversion.{converted, conversionRefusal, converting}
 use Rattle.book_format.proofs.BookLaws.{accepted}
 use Rattle.book_format.proofs.WritingLaws.{append-size}
-use Rattle.book_format.proofs.Converting.{convertible}
+use Rattle.book_format.proofs.Converting.{conversion-small}
 use Rattle.c_api.specs.Calls.{refused, numberOf}
 
 -- ---- numbers
@@ -264,7 +264,7 @@ appending-small ed b k n u out = writes-small (appendRefusal ed b k n u) (append
 
 pub converting-small : (ed : Edition) (b out : List ℕ) → Small (converting ed b out .answer)
 unfolding converting
-converting-small ed b out = writes-small (conversionRefusal ed b) (converted ed b) out (λ z. convertible ed b z .small)
+converting-small ed b out = writes-small (conversionRefusal ed b) (converted ed b) out (conversion-small ed b)
 
 -- a run has no more presets than the book
 pub readingPresets-small : (ed : Edition) (b : List ℕ) (i : ℕ) (out : List ℕ) → Small (readingPresets ed b i out .answer)

@@ -51,14 +51,13 @@ use Rattle.distribution.specs.Distribution.{ofLength, distribution, sum}
 use Rattle.distribution.specs.Longest.{allNegative, longest}
 use Rattle.distribution.specs.Calls.{untabled, tableRefusal, tableOf, roomRefusal, delayTable}
 use Rattle.distribution.specs.Calls as tabling
-use Rattle.book_format.specs.Books.{twoAt, two, count, trailer, offset, wrongSize, wrongCount, misplacedFrom, misplaced, noSuchPreset, tooLarge, wrongRankInBook, wrongLaneCount, bookRankRefusal, bookRefusal, recordRefusal, presetRefusal, recordOf, added, appended, appendRefusal}
+use Rattle.book_format.specs.Books.{twoAt, two, count, trailer, offset, wrongSize, wrongCount, misplacedFrom, misplaced, noSuchPreset, tooLarge, wrongRankInBook, wrongLaneCount, bookRankRefusal, bookRefusal, recordRefusal, presetRefusal, recordOf, appended, appendRefusal}
 use Rattle.book_format.specs.Calls.{openedOf, presetOf, checkedBook, presetAt, checkedPreset, lettersStart, lettersOf, appending}
 use Rattle.book_format.specs.Records.{recordBytes, offsetBytes, layOut, recordsFrom, recordsOf}
 use Rattle.book_format.specs.Conversion.{converted, tooManyLanes, recordConversionRefusal, recordsConversionRefusal, conversionRefusal, converting}
 use Rattle.listing_text.specs.Text.{digits, decimal, spaced, letters, entry, entries, kindLetter, head, tail, presetLine, refused, refusedLine, refusedBookLine, countLine, wordLine, lineBy, lineOf}
 use Rattle.listing_text.specs.Calls.{lineCountBy, lineCount, firstLine, line, lines, fitting, nextPiece}
 use Rattle.book_format.proofs.BookLaws.{accepted}
-use Rattle.book_format.proofs.WritingLaws.{length-appended}
 use Rattle.book_format.proofs.Vectors.{too-large-book, appending-too-large, converting-too-large}
 use Rattle.examples.specs.WrongBooks.{bookOf65536Bytes, roomBeforeTheSizeLimit, sizeLimitOfTheOldBook}
 use Rattle.examples.specs.WrongRouters as told
@@ -171,7 +170,7 @@ pub ruled-out : (r : WrongRouter) → List·Memᴰ r table → r .right ≡ r .w
 ruled-out = all-sound table all-differ
 
 -- so many rows, lest one be lost
-pub table-length : length table ≡ 86
+pub table-length : length table ≡ 89
 unfolding table
 table-length = refl
 
@@ -190,11 +189,10 @@ bookOf65536Bytes-ruled-out ed b e h =
 
 -- and every preset that would make an accepted book larger than 65,535 bytes tells this one, where the output is shorter than the new book
 pub roomBeforeTheSizeLimit-ruled-out : (ed : Edition) (b : List ℕ) (k n : ℕ) (u out : List ℕ) → bookRefusal ed b ≡ 0 → bookRankRefusal ed k n ≡ 0 → wordRefusal n u ≡ 0
-    → 65535 < length b + added ed u → length out < length b + added ed u → appending ed b k n u out ≡ roomBeforeTheSizeLimit ed b k n u out → ⊥
+    → 65535 < length (appended ed b k n u) → length out < length (appended ed b k n u) → appending ed b k n u out ≡ roomBeforeTheSizeLimit ed b k n u out → ⊥
 unfolding writes answerOf tooShort
 roomBeforeTheSizeLimit-ruled-out ed b k n u out e f g large short h =
-    let l = length-appended ed b k n u (accepted ed b e) in
-    let w : roomBeforeTheSizeLimit ed b k n u out .answer ≡ answers.Refused 14 = rw (l, lt-ltb (length out) (length b + added ed u) short) in
+    let w : roomBeforeTheSizeLimit ed b k n u out .answer ≡ answers.Refused 14 = rw (lt-ltb (length out) (length (appended ed b k n u)) short) in
     let r = ap (λ (o : Outcome ℕ). o .answer) (appending-too-large ed b k n u out e f g large) in
     let z : _≡_ {A = ℕ} 13 14 = cc (ap (λ (o : Outcome ℕ). o .answer) h) in
     omega arith
@@ -204,7 +202,8 @@ pub sizeLimitOfTheOldBook-ruled-out : (b out : List ℕ) → bookRefusal First b
     → 65535 < length b + count b → length (converted First b) ≤ length out → converting First b out ≡ sizeLimitOfTheOldBook First b out → ⊥
 unfolding writes answerOf tooShort tooLarge
 sizeLimitOfTheOldBook-ruled-out b out e f large room h =
-    let m = accepted First b e .most in
+    let a = accepted First b e in
+    let m : length b ≤ 65535 = omega arith in
     let w : sizeLimitOfTheOldBook First b out .answer ≡ answers.Length (length (converted First b)) =
     rw (e, f, le-ltb 65535 (length b) m, le-ltb (length out) (length (converted First b)) room) in
     let r = ap (λ (o : Outcome ℕ). o .answer) (converting-too-large b out e f large) in

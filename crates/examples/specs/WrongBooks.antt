@@ -1,6 +1,6 @@
 -- Wrong answers of the calls on books, of converting them, of the lines of a listing and of its pieces, each of the type of its call's definition. WrongRouters.antt says where each
 -- is wrong.
-use mathlib.Core.Bool.{Bool, false, not, _||_}
+use mathlib.Core.Bool.{Bool, false, not, _&&_, _||_}
 use mathlib.Core.List.{List, [], _∷_, _++_, map}
 use Prim.Native.Nat.{ℕ, zero, suc, _+_, _-_, _*_}
 use lib.Dec.{eqb, ltb}
@@ -30,7 +30,14 @@ abbrev pub countHighByteFirst : Edition → List ℕ → Opened
 countHighByteFirst ed b = checkedBook ed (take (length b - 2) b ++ (getD b (length b - 1) 0 ∷ getD b (length b - 2) 0 ∷ []))
 
 abbrev pub bookOf65536Bytes : Edition → List ℕ → Opened
-bookOf65536Bytes ed b = openedOf (check 1 (ltb (length b) 2 || ltb 65536 (length b)) then check 2 (wrongCount b) then check 3 (misplaced ed b)) (count b)
+bookOf65536Bytes ed b = openedOf (check 1 (eqb (length b) 1 || ltb 65536 (length b)) then check 2 (wrongCount b) then check 3 (misplaced ed b)) (count b)
+
+-- a book of no bytes refused, and one of one byte accepted
+abbrev pub noBytesRefused : Edition → List ℕ → Opened
+noBytesRefused ed b = openedOf (check 1 (ltb (length b) 2 || ltb 65535 (length b)) then bookRefusal ed b) (count b)
+
+abbrev pub oneByteAccepted : Edition → List ℕ → Opened
+oneByteAccepted ed b = openedOf (check 1 (ltb 65535 (length b)) then check 2 (ltb 1 (length b) && wrongCount b) then check 3 (misplaced ed b)) (count b)
 
 -- checks 1 and 2, and check 3 by another test
 abbrev pub openedBy : (List ℕ → Bool) → List ℕ → Opened
@@ -57,6 +64,10 @@ abbrev pub opensOtherBytes : Edition → List ℕ → Opened
 opensOtherBytes ed b = checkedBook ed (lettersOf ed b 0)
 
 -- ---- presets and their letters
+
+-- a preset of a book without presets refused as a damaged book is
+abbrev pub noPresetsRefused3 : Edition → List ℕ → ℕ → Preset
+noPresetsRefused3 ed b i = presetAt ed (bookRefusal ed b then check 3 (eqb (count b) 0) then presetRefusal ed b i) b (offset b i)
 
 abbrev pub onePresetTooMany : Edition → List ℕ → ℕ → Preset
 onePresetTooMany ed b i = presetAt ed (bookRefusal ed b then check 4 (ltb (count b) i) then recordRefusal ed b (offset b i)) b (offset b i)

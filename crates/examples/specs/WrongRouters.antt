@@ -35,6 +35,7 @@ use Rattle.examples.specs.WrongWindows.{ranksNotCompared, kindsCompared,
 use Rattle.examples.specs.WrongRewrites.{noneFitsWithoutLooking, ruleOfBInD, family3OneTooFarInB, family4AsFamily3, replacedOnePlaceToTheLeft, placeAtTheEndAccepted, roomCheckedBeforeTheRule, wordCopiedFirst}
 use Rattle.examples.specs.WrongShortest.{verdictByLengthAlone, presentWordUnshortened, roomAskedForANo}
 use Rattle.examples.specs.WrongTables.{rank20InA, factorLeftOut, runningTotals, straightAsLongest, roomOfTheListOnly, listWrittenFirst}
+use Rattle.examples.specs.WrongBooks.{noBytesRefused, oneByteAccepted, noPresetsRefused3}
 use Rattle.examples.specs.WrongBooks.{countHighByteFirst, offsetAgainstTheTrailer, lastRecordMayStopEarly, opensOtherBytes, onePresetTooMany, preset0ForEveryNumber}
 use Rattle.examples.specs.WrongBooks.{laneCountBeforeRank, laneCountIsTheRank, rangesOfTheFirst, rangesOfTheSecond, lettersOneByteEarly, laneCountLeftOut}
 use Rattle.examples.specs.WrongBooks.{handedOut, lettersFromTheRecord, refusedPresetHandsOutLetters, lastOffsetDropped, kindAndRankExchanged}
@@ -150,11 +151,14 @@ table =
     ∷ differ delayTable roomOfTheListOnly (λ f. tabled (f 1 1 (lent 2) (lentEntries 1) (lent 1)))
     ∷ differ delayTable listWrittenFirst (λ f. tabled (f 1 1 (lent 2) (lentEntries 2) []))
     -- opening a book
+    ∷ differ checkedBook noBytesRefused (λ f. opened (f Second []))
+    ∷ differ checkedBook oneByteAccepted (λ f. opened (f First (0 ∷ [])))
     ∷ differ checkedBook countHighByteFirst (λ f. opened (f First one))
     ∷ differ checkedBook offsetAgainstTheTrailer (λ f. opened (f First one))
     ∷ differ checkedBook lastRecordMayStopEarly (λ f. opened (f First (1 ∷ 1 ∷ 0 ∷ 0 ∷ 7 ∷ 0 ∷ 0 ∷ 1 ∷ 0 ∷ [])))
     ∷ differ checkedBook opensOtherBytes (λ f. opened (f First one))
     -- reading a preset, and its letters
+    ∷ differ checkedPreset noPresetsRefused3 (λ f. preset (f First [] 0))
     ∷ differ checkedPreset onePresetTooMany (λ f. preset (f First one 1))
     ∷ differ checkedPreset preset0ForEveryNumber (λ f. preset (f First (1 ∷ 1 ∷ 0 ∷ 0 ∷ 2 ∷ 2 ∷ 0 ∷ 0 ∷ 0 ∷ 0 ∷ 4 ∷ 0 ∷ 2 ∷ 0 ∷ []) 1))
     ∷ differ checkedPreset laneCountBeforeRank (λ f. preset (f Second (1 ∷ 64 ∷ 9 ∷ 0 ∷ 0 ∷ 0 ∷ 0 ∷ 1 ∷ 0 ∷ []) 0))

@@ -11,7 +11,7 @@ use Rattle.coxeter.specs.declared.Answer.{Answer}
 use Rattle.coxeter.specs.declared.Answer.the-variants as answer
 use Rattle.book_format.specs.declared.Preset.{Preset}
 use Rattle.book_format.specs.declared.Preset.the-variants as preset
-use Rattle.book_format.specs.Books.{twoAt, count, bookRefusal}
+use Rattle.book_format.specs.Books.{count, bookRefusal}
 use Rattle.book_format.specs.Calls.{checkedPreset, presetFields, readingPresets}
 use Rattle.book_format.proofs.BookLaws.{accepted}
 use Rattle.book_format.proofs.RunLaws.{presetIn, presetIn-run, Run, run-read, reading-run}
@@ -60,9 +60,9 @@ module _ (ed : Edition) (b : List ℕ) (i : ℕ) (out : List ℕ) (a : Answer) (
   pub held-never : (s : ℕ) → i < lineCount ed b → 5 ≤ length out → a ≡ answer.Refused s → ⊥
   held-never s below room e =
       let p = lineCount-preset ed b i g below in
-      let t = min (twoAt b (length b - 2) - (i - 1)) (length out / 5) in
+      let t = min (count b - (i - 1)) (length out / 5) in
       let o = sets out 0 (presetFields ed b t (i - 1)) in
-      let q = reading-run ed b (i - 1) out (bookRefusal ed b) refl (p .0) (twoAt b (length b - 2)) refl t o (unfold count in p .1) room refl refl in
+      let q = reading-run ed b (i - 1) out (bookRefusal ed b) refl (p .0) (count b) refl t o (p .1) room refl refl in
       let w : answer.Length t ≡ answer.Refused s = q .0 ∙ sym (h .0) ∙ e in
       let y : _≡_ {A = ℕ} 0 1 = cc in
       omega arith

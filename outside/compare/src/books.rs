@@ -41,8 +41,9 @@ fn one_book(sides: &mut Sides, edition: Edition, book: &[u8]) {
             sides.presets(edition, book, first, fields);
         }
     }
-    sides.append(edition, book, 3, 4, &[4, 3], book.len() + head(edition) + 4);
-    sides.append(edition, book, 3, 4, &[4, 3], book.len() + head(edition) + 3);
+    let need = book.len().max(2) + head(edition) + 4;
+    sides.append(edition, book, 3, 4, &[4, 3], need);
+    sides.append(edition, book, 3, 4, &[4, 3], need - 1);
     let need = converted_length(edition, book.len(), count.max(0) as usize);
     sides.convert(edition, book, need);
     sides.convert(edition, book, need.saturating_sub(1));

@@ -7,6 +7,7 @@
 mod books;
 mod conversions;
 mod edges;
+mod empty;
 mod examples;
 mod exhaustive;
 mod fallbacks;
@@ -83,6 +84,7 @@ fn main() -> ExitCode {
     group("rewriting to the end, at random places", &rewriting::to_the_end);
     group("books: the example in both editions, each byte changed, each part", &books::examples);
     group("books: random, damaged, full", &books::others);
+    group("books of no bytes and of one byte: every call", &empty::run);
     group("books from one edition to the other and back: random, damaged, full", &conversions::run);
     group(&format!("{inputs} random inputs over all calls, from seed {seed}"), &random_inputs);
     let sides = run(&groups);

@@ -170,6 +170,9 @@ fn book(sides: &mut Sides, random: &mut Random) {
     if random.once_in(3) {
         damage_book(random, &mut book);
     }
+    if random.once_in(50) {
+        book.truncate(random.below(3));
+    }
     match random.below(5) {
         0 => {
             sides.book_check(edition, &book);
@@ -191,7 +194,7 @@ fn book(sides: &mut Sides, random: &mut Random) {
         _ => {
             let (kind, rank) = random.any_rig();
             let word = any_word(random, kind, rank);
-            let out = random.output((book.len() + word.len() + 6 + usize::from(edition == Second)) as i64);
+            let out = random.output((book.len().max(2) + word.len() + 6 + usize::from(edition == Second)) as i64);
             sides.append(edition, &book, kind, rank, &word, out);
         }
     }

@@ -46,9 +46,12 @@ fn two(bytes: &[u8], at: usize) -> usize {
     usize::from(u16::from_le_bytes([bytes[at], bytes[at + 1]]))
 }
 
-/// The count and the byte where the trailer begins. Checks 1 and 2.
+/// The count and the byte where the trailer begins. Checks 1 and 2. A book of no bytes has no presets.
 fn trailer(book: &[u8]) -> Result<(usize, usize), Refusal> {
-    if book.len() < 2 || book.len() > MAX_BOOK {
+    if book.is_empty() {
+        return Ok((0, 0));
+    }
+    if book.len() == 1 || book.len() > MAX_BOOK {
         return Err(1);
     }
     let count = two(book, book.len() - 2);
@@ -147,6 +150,7 @@ fn longer(edition: Edition, book: &[u8], kind: u32, rank: u32, word: &[u8], out:
         let (count, start) = check(edition, book)?;
         let rank = edition.check_rank(kind, rank)?;
         check_word(rank, word)?;
+        let book = if book.is_empty() { &[0, 0] } else { book };
         let length = book.len() + edition.head() + word.len() + 2;
         if length > MAX_BOOK {
             return Err(13);
@@ -175,6 +179,9 @@ const FIRST_LANES: usize = 32;
 fn converted(edition: Edition, book: &[u8], out: &mut [u8]) -> i64 {
     coded((|| {
         let (count, start) = check(edition, book)?;
+        if book.is_empty() {
+            return Ok(0);
+        }
         for number in 0..count {
             let [kind, rank, ..] = read(edition, book, start + 2 * number)?;
             if edition == Second && lanes(kind as u32, rank as u8) > FIRST_LANES {

@@ -1,5 +1,6 @@
 //! Books laid out by hand, and what the calls make of them.
-use plain::{to_first, to_second};
+use plain::{append, book_check, preset, presets, to_first, to_second};
+use plain::{second_append, second_book_check, second_preset, second_presets};
 
 /// B2 with 1 2 1 2 and D5 with 5 2 3 5 1 2, in the first edition and in the second.
 const FIRST: &[u8] = &[2, 2, 4, 0, 1, 2, 1, 2, 3, 5, 6, 0, 5, 2, 3, 5, 1, 2, 0, 0, 8, 0, 2, 0];
@@ -101,4 +102,40 @@ fn the_new_book_has_its_limit() {
     assert_eq!(refused(to_second, &book(7, 4)), 5);
     assert_eq!(made(to_second, &book(7, 2), 0).0, -13);
     assert_eq!(made(to_second, &book(6, 2), 0).0, -14);
+}
+
+#[test]
+fn a_book_of_no_bytes_has_no_presets() {
+    assert_eq!((book_check(&[]), second_book_check(&[])), (0, 0));
+    for fields in [0, 4, 5] {
+        let mut fields = vec![7; fields];
+        assert_eq!((preset(&[], 0, &mut fields), second_preset(&[], 0, &mut fields)), (-4, -4));
+        assert_eq!((presets(&[], 0, &mut fields), second_presets(&[], 0, &mut fields)), (-4, -4));
+        assert!(fields.iter().all(|&field| field == 7));
+    }
+    let to_b2 = |book: &[u8], out: &mut [u8]| append(book, 2, 2, &[1, 2], out);
+    assert_eq!(made(to_b2, &[], 10), (10, vec![2, 2, 2, 0, 1, 2, 0, 0, 1, 0]));
+    assert_eq!(made(to_b2, &[], 10), made(to_b2, &[0, 0], 10));
+    assert_eq!(made(to_b2, &[], 9), (-14, vec![7; 9]));
+    let to_b2 = |book: &[u8], out: &mut [u8]| second_append(book, 2, 2, &[1, 2], out);
+    assert_eq!(made(to_b2, &[], 11), (11, vec![2, 2, 2, 2, 0, 1, 2, 0, 0, 1, 0]));
+    assert_eq!(made(to_b2, &[], 10), (-14, vec![7; 10]));
+    for room in [0, 1, 2, 9] {
+        assert_eq!(made(to_second, &[], room), (0, vec![7; room]));
+        assert_eq!(made(to_first, &[], room), (0, vec![7; room]));
+    }
+}
+
+#[test]
+fn a_book_of_one_byte_is_refused() {
+    for byte in 0..=255 {
+        let book = [byte];
+        let mut fields = [7; 5];
+        assert_eq!((book_check(&book), second_book_check(&book)), (-1, -1));
+        assert_eq!((preset(&book, 0, &mut fields), second_preset(&book, 0, &mut fields)), (-1, -1));
+        assert_eq!((presets(&book, 0, &mut fields), second_presets(&book, 0, &mut fields)), (-1, -1));
+        assert_eq!(refused(|book, out| append(book, 0, 0, &[], out), &book), 1);
+        assert_eq!(refused(|book, out| second_append(book, 2, 2, &[1, 2], out), &book), 1);
+        assert_eq!((refused(to_second, &book), refused(to_first, &book)), (1, 1));
+    }
 }

@@ -404,11 +404,12 @@ pub enum Edition {
     Second,
 }
 
-/// The number of presets in a book. Refusals 1 to 3.
+/// The number of presets in a book. One of no bytes has none, as one of two zeros. Refusals 1 to 3.
 ///
 /// ```
 /// use winnathey::{Edition, book_check};
 ///
+/// assert_eq!(book_check(Edition::First, &[]), Ok(0));
 /// assert_eq!(book_check(Edition::First, &[0, 0]), Ok(0));
 /// assert_eq!(book_check(Edition::Second, &[0]).unwrap_err().number(), 1);
 /// ```
@@ -456,7 +457,7 @@ fn lent(book: &[u8], [kind, rank, start, letters]: [u64; 4]) -> Preset<'_> {
 ///
 /// let mut book = [0; 13];
 /// let added = Preset { kind: Kind::B, rank: 2, word: &[1, 2, 1, 2] };
-/// let length = append(Edition::First, &[0, 0], added, &mut book)?;
+/// let length = append(Edition::First, &[], added, &mut book)?;
 /// assert_eq!(book[..length], [2, 2, 4, 0, 1, 2, 1, 2, 0, 0, 1, 0]);
 /// assert_eq!(preset(Edition::First, &book[..length], 0)?, added);
 ///
@@ -473,8 +474,8 @@ pub fn append(edition: Edition, book: &[u8], added: Preset, out: &mut [u8]) -> R
 }
 
 /// Writes a book in the other edition, with the same presets in the same order, and answers with its length. `edition`
-/// is the one of `book`. Refusals 1 to 3 of the book; then record by record, in order, 5 to 8, and in the second edition
-/// 17 after 6 and 18 after 8; then 13, 14.
+/// is the one of `book`. A book of no bytes gives no bytes. Refusals 1 to 3 of the book; then record by record, in order,
+/// 5 to 8, and in the second edition 17 after 6 and 18 after 8; then 13, 14.
 ///
 /// ```
 /// use winnathey::{Edition, MAX_BOOK, convert};
@@ -515,7 +516,7 @@ mod tests {
         let mut lanes = [0; MAX_LANES];
         let mut letters = [0; MAX_BOOK];
         let empty = Preset { kind: Kind::B, rank: 2, word: &[] };
-        assert_eq!(number(book_check(Edition::First, &[])), 1);
+        assert_eq!(number(book_check(Edition::First, &[0])), 1);
         assert_eq!(number(book_check(Edition::First, &[1, 0])), 2);
         assert_eq!(number(book_check(Edition::First, &[0, 0, 0])), 3);
         assert_eq!(number(preset(Edition::First, &BOOK, 2)), 4);
@@ -541,6 +542,16 @@ mod tests {
         assert_eq!(number(preset(Edition::Second, &[1, 2, 2, 0, 0, 0, 0, 1, 0], 0)), 17);
         assert_eq!(number(convert(Edition::Second, &[1, 32, 33, 0, 0, 0, 0, 1, 0], &mut letters)), 18);
         assert_eq!(number(delay_table(Kind::D, 17, &mut [0; MAX_COUNTS], &mut lanes, &mut letters)), 20);
+    }
+
+    #[test]
+    fn a_book_of_no_bytes_has_no_presets() {
+        for edition in [Edition::First, Edition::Second] {
+            assert_eq!(book_check(edition, &[]), Ok(0));
+            assert_eq!(number(preset(edition, &[], 0)), 4);
+            assert_eq!(presets(edition, &[]).map(Iterator::count), Ok(0));
+            assert_eq!(convert(edition, &[], &mut []), Ok(0));
+        }
     }
 
     #[test]

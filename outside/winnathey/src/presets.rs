@@ -3,7 +3,8 @@ use crate::{Edition, MAX_BOOK, Preset, Refusal, answered, lent, raw};
 use std::vec;
 
 /// The presets of a book in their order: each as [`preset`](crate::preset) gives it, or its own refusal, 5 to 8 or
-/// 17. The book is read once, by one call of the library. Refusals 1 to 3, of the book; one without presets gives none.
+/// 17. The book is read once, by one call of the library. Refusals 1 to 3, of the book; one without presets gives
+/// none, as does one of no bytes.
 ///
 /// ```
 /// use winnathey::{Edition, Kind, Preset, presets};

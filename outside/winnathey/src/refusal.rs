@@ -4,7 +4,7 @@ use std::fmt;
 
 /// The refusals by their numbers.
 const SENTENCES: [(u8, &str); 17] = [
-    (1, "the book has fewer than 2 or more than 65,535 bytes"),
+    (1, "the book has 1 byte or more than 65,535 bytes"),
     (2, "two times c, plus 2, exceeds the book's length"),
     (
         3,

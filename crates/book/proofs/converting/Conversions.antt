@@ -32,7 +32,7 @@ use Rattle.book_format.proofs.PresetLaws.{record-found, record-refused}
 use Rattle.book_format.proofs.WritingLaws.{length-two, length-recordOf}
 use Rattle.book_format.proofs.RecordLaws.{length-lettersAt, length-recordsFrom}
 use Rattle.book_format.proofs.LayOuts.{length-layOut, length-offsetBytes}
-use Rattle.book_format.proofs.Converting.{Convertible, convertible, passing-at, sizeOf, length-converted}
+use Rattle.book_format.proofs.Converting.{Convertible, converted-some, converted-bytes, conversion-opens, passing-at, sizeOf, length-converted}
 
 -- ---- records by their number
 
@@ -177,8 +177,8 @@ module _ (ed : Edition) (b : List ℕ) (w : Convertible ed b) (c : ℕ) (n : c �
 
   -- the new book: records, offsets, count
   pub converted-parts : converted ed b ≡ (allBytes ed b c) ++ (offsetBytes (other ed) 0 (recordsFrom ed b c 0) ++ two c)
-  unfolding converted layOut recordsOf
-  converted-parts = rw (← n, length-recordsFrom ed b c 0)
+  unfolding layOut recordsOf
+  converted-parts = converted-some ed b (w .some) ∙ rw (← n, length-recordsFrom ed b c 0)
 
   pub length-parts : length (converted ed b) ≡ length (allBytes ed b c) + 2 * c + 2
   length-parts =
@@ -274,12 +274,19 @@ module _ (ed : Edition) (b : List ℕ) (w : Convertible ed b) (c : ℕ) (n : c �
 
 pub size-made : (ed : Edition) (b : List ℕ) (r : ℕ) → r ≡ conversionRefusal ed b → r ≡ 0 → (c m : ℕ) → c ≡ count b → m ≡ sizeOf ed (length b) c
     → length (converted ed b) ≡ m
-size-made ed b r e z c m n w = length-converted ed b (accepted ed b (convertible ed b (sym e ∙ z) .opens)) ∙ rw (w, n)
+size-made ed b r e z c m n w = length-converted ed b (accepted ed b (conversion-opens ed b (sym e ∙ z))) ∙ rw (w, n)
 
 module _ (ed : Edition) (b out : List ℕ) (r : ℕ) (e : r ≡ conversionRefusal ed b) where
   pub converting-refused : (r ≡ 0 → ⊥) → (answer.Refused r ≡ converting ed b out .answer) × (out ≡ converting ed b out .bytes)
   unfolding converting
   converting-refused f = writes-refused (converting ed b out) (conversionRefusal ed b) r (converted ed b) out refl e f
+
+  -- no bytes are converted to none
+  pub converting-bytes : r ≡ 0 → length b ≡ 0 → (answer.Length 0 ≡ converting ed b out .answer) × (out ≡ converting ed b out .bytes)
+  unfolding converting
+  converting-bytes z h =
+      let none = converted-bytes ed b h in
+      writes-done (converting ed b out) (conversionRefusal ed b) r (converted ed b) out refl e 0 [] z (ap length none) (omega arith) (sym none)
 
   module _ (z : r ≡ 0) (c m : ℕ) (n : c ≡ count b) (w : m ≡ sizeOf ed (length b) c) where
     pub converting-short : length out < m → (answer.Refused 14 ≡ converting ed b out .answer) × (out ≡ converting ed b out .bytes)

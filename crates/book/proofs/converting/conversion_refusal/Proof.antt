@@ -2,7 +2,7 @@
 -- Assumes nothing.
 use mathlib.Core.Path.{sym, _∙_}
 use native.Mathlib.Omega.{arith}
-use Rattle.book_format.proofs.BookLaws.{accepted-read}
+use Rattle.book_format.proofs.BookLaws.{accepted-read, never-one}
 use Rattle.book.proofs.converting.Conversions.{conversion-book, conversion-records, conversion-large, conversion-none}
 use borrow.Author.Needs.{needs}
 use Rattle.book.proofs.converting.conversion_refusal.Statement.{statement}
@@ -15,7 +15,7 @@ returns : tie.Need-returns
 returns c = conversion-book _ _ _ (c .before .book-refusal .ensures) (c .if1 .taken)
 
 count-of-requires : tie.Need-count-of-requires
-count-of-requires c κs = accepted-read _ _ _ (c .before .book-refusal .ensures) (c .if1 .left) .least
+count-of-requires c κs = never-one _ _ (sym (c .before .book-refusal .ensures) ∙ c .if1 .left)
 
 records-refusal-requires : tie.Need-records-refusal-requires
 records-refusal-requires c κs = search needs
@@ -31,7 +31,7 @@ converted-size-requires c κs =
     let counted = c .before .before in
     let opened = counted .before in
     let a = accepted-read _ _ _ (opened .before .book-refusal .ensures) (opened .if1 .left) in
-    (omega (arith, a .fits, counted .count-of .ensures .0), a .most)
+    (omega (arith, a .inside, counted .count-of .ensures .0), omega (arith, a .longer, a .most))
 
 returns-3 : tie.Need-returns-3
 returns-3 c =

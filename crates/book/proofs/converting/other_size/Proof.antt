@@ -1,7 +1,7 @@
 -- `converting::other_size` reads the letter count of the record.
 -- Assumes nothing.
 use native.Mathlib.Omega.{arith}
-use Rattle.book_format.proofs.BookLaws.{accepted}
+use Rattle.book_format.proofs.BookLaws.{counted-some}
 use Rattle.book.proofs.converting.Conversions.{inside, size-of-other}
 use borrow.Author.Needs.{needs}
 use Rattle.book.proofs.converting.other_size.Statement.{statement}
@@ -10,7 +10,7 @@ use Rattle.book.proofs.converting.other_size.Tie as tie
 record-start-requires : tie.Need-record-start-requires
 record-start-requires c κs =
     let pre = c .before .pre in
-    (pre .1, omega (arith, accepted _ _ (pre .0 .opens) .fits), pre .2)
+    (pre .1, omega (arith, counted-some _ _ (pre .0 .opens) (pre .0 .some) .fits), pre .2)
 
 count-place-requires : tie.Need-count-place-requires
 count-place-requires c κs = search needs

@@ -2,7 +2,7 @@
 -- Assumes nothing.
 use mathlib.Core.Path.{sym, _∙_}
 use native.Mathlib.Omega.{arith}
-use Rattle.book_format.proofs.BookLaws.{accepted}
+use Rattle.book_format.proofs.BookLaws.{accepted, counted}
 use Rattle.book.proofs.converting.Conversions.{inside, refused-by-itself, lanes-decide}
 use borrow.Author.Needs.{needs}
 use Rattle.book.proofs.converting.record_refusal.Statement.{statement}
@@ -11,12 +11,12 @@ use Rattle.book.proofs.converting.record_refusal.Tie as tie
 record-start-requires : tie.Need-record-start-requires
 record-start-requires c κs =
     let pre = c .before .pre in
-    (pre .1, omega (arith, accepted _ _ (pre .0) .fits), pre .2)
+    (pre .1, omega (arith, counted _ _ _ (pre .0) (rw (pre .1) at (pre .2)) .fits), pre .2)
 
 check-record-requires : tie.Need-check-record-requires
 check-record-requires c κs =
     let pre = c .before .before .pre in
-    (accepted _ _ (pre .0) .most, inside _ _ _ _ _ (pre .0) (pre .1) (pre .2) (c .record-start .ensures .0))
+    (omega (arith, accepted _ _ (pre .0)), inside _ _ _ _ _ (pre .0) (pre .1) (pre .2) (c .record-start .ensures .0))
 
 enum-known-r : tie.Need-enum-known-r
 enum-known-r c = search needs

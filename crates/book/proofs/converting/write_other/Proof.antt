@@ -1,7 +1,7 @@
 -- `converting::write_other` hands the letters of the record, a part of the book, to `write_record` of the other edition.
 -- Assumes nothing.
 use native.Mathlib.Omega.{arith}
-use Rattle.book_format.proofs.BookLaws.{accepted, two-le-countPlace}
+use Rattle.book_format.proofs.BookLaws.{counted-some, two-le-countPlace}
 use Rattle.book.proofs.converting.Conversions.{inside, rank-fits, end-inside, room-for, other-written}
 use borrow.Author.Needs.{needs}
 use Rattle.book.proofs.converting.write_other.Statement.{statement}
@@ -10,7 +10,7 @@ use Rattle.book.proofs.converting.write_other.Tie as tie
 record-start-requires : tie.Need-record-start-requires
 record-start-requires c κs =
     let pre = c .before .before .pre .0 in
-    (pre .1, omega (arith, accepted _ _ (pre .0 .opens) .fits), pre .2)
+    (pre .1, omega (arith, counted-some _ _ (pre .0 .opens) (pre .0 .some) .fits), pre .2)
 
 count-place-requires : tie.Need-count-place-requires
 count-place-requires c κs = search needs

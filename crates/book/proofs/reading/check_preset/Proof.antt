@@ -1,8 +1,8 @@
--- `reading::check_preset` makes checks 1 to 3, then 4, and then those of the record.
+-- `reading::check_preset` makes checks 1 to 4, and then those of the record.
 -- Assumes nothing.
 use mathlib.Core.Path.{sym, _∙_}
 use native.Mathlib.Omega.{arith}
-use Rattle.book_format.proofs.BookLaws.{accepted-read, count-read}
+use Rattle.book_format.proofs.BookLaws.{never-one}
 use Rattle.book_format.proofs.PresetLaws.{checkedPreset-book, checkedPreset-number}
 use borrow.Author.Needs.{needs}
 use Rattle.book.proofs.reading.check_preset.Statement.{statement}
@@ -14,21 +14,16 @@ book-refusal-requires c κs = search needs
 returns : tie.Need-returns
 returns c = sym (checkedPreset-book _ _ _ _ (c .before .book-refusal .ensures) (c .if1 .taken))
 
-sub-two-at : tie.Need-sub-two-at
-sub-two-at c = accepted-read _ _ _ (c .before .book-refusal .ensures) (c .if1 .left) .least
-
-two-at-requires : tie.Need-two-at-requires
-two-at-requires c κs = let a = accepted-read _ _ _ (c .before .book-refusal .ensures) (c .if1 .left) in omega arith
+count-of-requires : tie.Need-count-of-requires
+count-of-requires c κs = never-one _ _ (sym (c .before .book-refusal .ensures) ∙ c .if1 .left)
 
 returns-2 : tie.Need-returns-2
 returns-2 c =
     let opened = c .before .before in
-    sym (checkedPreset-number _ _ _ _ (opened .before .book-refusal .ensures) _ (opened .if1 .left) (c .before .two-at .ensures .0) (c .if2 .taken))
+    sym (checkedPreset-number _ _ _ _ (opened .before .book-refusal .ensures) _ (opened .if1 .left) (c .before .count-of .ensures .0) (c .if2 .taken))
 
 numbered-preset-requires : tie.Need-numbered-preset-requires
-numbered-preset-requires c κs =
-    let opened = c .before .before in
-    (sym (opened .before .book-refusal .ensures) ∙ opened .if1 .left, omega (arith, c .if2 .left, count-read _ _ (c .before .two-at .ensures .0)))
+numbered-preset-requires c κs = search needs
 
 returns-3 : tie.Need-returns-3
 returns-3 c = search needs
@@ -39,8 +34,7 @@ check-preset-spec =
     (tie.spec
     book-refusal-requires
     returns
-    sub-two-at
-    two-at-requires
+    count-of-requires
     returns-2
     numbered-preset-requires
     returns-3)

@@ -22,7 +22,7 @@ loop-holds : tie.Need-loop-holds Inv-loop μ-loop
 loop-holds c = (omega arith, refl, run-start _ _ _ _ _)
 
 add-numbered-preset : tie.Need-add-numbered-preset Inv-loop μ-loop
-add-numbered-preset c = let pre = c .before .before .before .before .pre in omega (arith, accepted _ _ (pre .0) .fits, accepted _ _ (pre .0) .most, pre .1)
+add-numbered-preset c = let pre = c .before .before .before .before .pre in omega (arith, accepted _ _ (pre .0) .inside, accepted _ _ (pre .0) .longer, accepted _ _ (pre .0) .most, pre .1)
 
 numbered-preset-requires : tie.Need-numbered-preset-requires Inv-loop μ-loop
 numbered-preset-requires c κs = let pre = c .before .before .before .before .pre in (pre .0, omega (arith, pre .1))

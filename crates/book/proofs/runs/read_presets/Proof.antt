@@ -1,8 +1,8 @@
--- `runs::read_presets` makes checks 1 to 3, 4 and 14 in this order, and writes a run as long as the presets and the room allow.
+-- `runs::read_presets` makes checks 1 to 4 and 14 in this order, and then writes as many presets as there are and have room.
 -- Assumes nothing.
 use mathlib.Core.Path.{sym, _∙_}
 use native.Mathlib.Omega.{arith}
-use Rattle.book_format.proofs.BookLaws.{accepted-read, count-read}
+use Rattle.book_format.proofs.BookLaws.{never-one}
 use Rattle.book_format.proofs.RunLaws.{reading-book, reading-number, reading-short, reading-run}
 use Rattle.book.proofs.runs.Runs.{run-fits}
 use borrow.Author.Needs.{needs}
@@ -15,22 +15,19 @@ book-refusal-requires c κs = search needs
 returns : tie.Need-returns
 returns c = reading-book _ _ _ _ _ (c .before .book-refusal .ensures) (c .if1 .taken)
 
-sub-two-at : tie.Need-sub-two-at
-sub-two-at c = accepted-read _ _ _ (c .before .book-refusal .ensures) (c .if1 .left) .least
-
-two-at-requires : tie.Need-two-at-requires
-two-at-requires c κs = let a = accepted-read _ _ _ (c .before .book-refusal .ensures) (c .if1 .left) in omega arith
+count-of-requires : tie.Need-count-of-requires
+count-of-requires c κs = never-one _ _ (sym (c .before .book-refusal .ensures) ∙ c .if1 .left)
 
 returns-2 : tie.Need-returns-2
 returns-2 c =
     let opened = c .before .before in
-    reading-number _ _ _ _ _ (opened .before .book-refusal .ensures) (opened .if1 .left) _ (c .before .two-at .ensures .0) (c .if2 .taken)
+    reading-number _ _ _ _ _ (opened .before .book-refusal .ensures) (opened .if1 .left) _ (c .before .count-of .ensures .0) (c .if2 .taken)
 
 returns-3 : tie.Need-returns-3
 returns-3 c =
     let read = c .before .before in
     let opened = read .before in
-    reading-short _ _ _ _ _ (opened .before .book-refusal .ensures) (opened .if1 .left) _ (read .two-at .ensures .0) (c .before .if2 .left) (c .if3 .taken)
+    reading-short _ _ _ _ _ (opened .before .book-refusal .ensures) (opened .if1 .left) _ (read .count-of .ensures .0) (c .before .if2 .left) (c .if3 .taken)
 
 sub-smaller : tie.Need-sub-smaller
 sub-smaller c = search needs
@@ -44,7 +41,7 @@ put-run-requires c κs =
     let read = sized .before .before .before in
     let opened = read .before in
     let fits = run-fits _ _ _ _ (sized .smaller .ensures) (sized .before .before .if2 .left) in
-    let e = count-read _ _ (read .two-at .ensures .0) in
+    let e = read .count-of .ensures .0 in
     (sym (opened .before .book-refusal .ensures) ∙ opened .if1 .left, omega (arith, fits .0), fits .1)
 
 same-length : tie.Need-same-length
@@ -56,7 +53,7 @@ returns-4 c =
     let roomy = sized .before in
     let read = roomy .before .before in
     let opened = read .before in
-    reading-run _ _ _ _ _ (opened .before .book-refusal .ensures) (opened .if1 .left) _ (read .two-at .ensures .0) _ _ (roomy .before .if2 .left) (roomy .if3 .left)
+    reading-run _ _ _ _ _ (opened .before .book-refusal .ensures) (opened .if1 .left) _ (read .count-of .ensures .0) _ _ (roomy .before .if2 .left) (roomy .if3 .left)
     (sized .smaller .ensures) (c .before .before .put-run .ensures)
 
 pub read-presets-spec : {M : Type 1} → statement M
@@ -65,8 +62,7 @@ read-presets-spec =
     (tie.spec
     book-refusal-requires
     returns
-    sub-two-at
-    two-at-requires
+    count-of-requires
     returns-2
     returns-3
     sub-smaller

@@ -18,6 +18,9 @@ returns c = appending-refused _ _ _ _ _ _ _ (c .before .append-refusal .ensures)
 count-place-requires : tie.Need-count-place-requires
 count-place-requires c κs = search needs
 
+size-of-requires : tie.Need-size-of-requires
+size-of-requires c κs = search needs
+
 add-size : tie.Need-add-size
 add-size c = search needs
 
@@ -29,24 +32,26 @@ add-size-3 c = search needs
 
 add-size-4 : tie.Need-add-size-4
 add-size-4 c =
-    let checked = c .before in
+    let checked = c .before .before in
     let a = accepted _ _ (append-book _ _ _ _ _ (sym (checked .before .append-refusal .ensures) ∙ checked .if1 .left)) in
-    omega arith
+    omega (arith, a .most, c .size-of .ensures)
 
 returns-2 : tie.Need-returns-2
 returns-2 c =
-    let placed = c .before in
+    let sized = c .before in
+    let placed = sized .before in
     let checked = placed .before in
     let a = checked .before .before .before .before .before .args in
-    let s = size-read (a .edition) (now (a .book)) (now (a .word)) _ (placed .count-place .ensures .0) in
+    let s = size-read (a .edition) (now (a .book)) (now (a .word)) _ _ (sized .size-of .ensures) (placed .count-place .ensures .0) in
     appending-short _ _ _ _ _ _ _ (checked .before .append-refusal .ensures) _ s (checked .if1 .left) (c .if2 .taken)
 
 write-appended-requires : tie.Need-write-appended-requires
 write-appended-requires c κs =
-    let placed = c .before .before in
+    let sized = c .before .before in
+    let placed = sized .before in
     let checked = placed .before in
     let passed = sym (checked .before .append-refusal .ensures) ∙ checked .if1 .left in
-    ((append-book _ _ _ _ _ passed, append-rank _ _ _ _ _ passed), omega (arith, c .before .if2 .left, placed .count-place .ensures .0))
+    ((append-book _ _ _ _ _ passed, append-rank _ _ _ _ _ passed), omega (arith, c .before .if2 .left, placed .count-place .ensures .0, sized .size-of .ensures))
 
 same-length : tie.Need-same-length
 same-length c = search needs
@@ -54,10 +59,11 @@ same-length c = search needs
 returns-3 : tie.Need-returns-3
 returns-3 c =
     let roomy = c .before .before .before .before in
-    let placed = roomy .before in
+    let sized = roomy .before in
+    let placed = sized .before in
     let checked = placed .before in
     let a = checked .before .before .before .before .before .args in
-    let s = size-read (a .edition) (now (a .book)) (now (a .word)) _ (placed .count-place .ensures .0) in
+    let s = size-read (a .edition) (now (a .book)) (now (a .word)) _ _ (sized .size-of .ensures) (placed .count-place .ensures .0) in
     appending-written _ _ _ _ _ _ _ (checked .before .append-refusal .ensures) _ s _ (checked .if1 .left) (roomy .if2 .left)
     (c .before .before .write-appended .ensures)
 
@@ -68,6 +74,7 @@ append-spec =
     append-refusal-requires
     returns
     count-place-requires
+    size-of-requires
     add-size
     add-size-2
     add-size-3

@@ -36,6 +36,9 @@ returns-3 c =
 count-place-requires : tie.Need-count-place-requires
 count-place-requires c κs = search needs
 
+size-of-requires : tie.Need-size-of-requires
+size-of-requires c κs = search needs
+
 add-if4 : tie.Need-add-if4
 add-if4 c = search needs
 
@@ -47,27 +50,29 @@ add-if4-3 c = search needs
 
 add-if4-4 : tie.Need-add-if4-4
 add-if4-4 c =
-    let opened = c .before .before .before .before .before in
-    let a = accepted-read _ _ _ (opened .before .book-refusal .ensures) (opened .if1 .left) in
-    omega arith
+    let worded = c .before .before in
+    let opened = worded .before .before .before .before in
+    omega (arith, accepted-read _ _ _ (opened .before .book-refusal .ensures) (opened .if1 .left) .most, c .size-of .ensures)
 
 returns-4 : tie.Need-returns-4
 returns-4 c =
-    let worded = c .before .before in
+    let sized = c .before in
+    let worded = sized .before .before in
     let ranked = worded .before .before in
     let opened = ranked .before .before in
     sym
     (appendRefusal-large _ _ _ _ _ _ (opened .before .book-refusal .ensures) _ (opened .if1 .left) (ranked .before .book-rank-refusal .ensures) _ (ranked .if2 .left)
-    (worded .before .word-refusal .ensures) (worded .if3 .left) (omega (arith, c .if4 .taken, c .before .count-place .ensures .0)))
+    (worded .before .word-refusal .ensures) (worded .if3 .left) (omega (arith, c .if4 .taken, sized .before .count-place .ensures .0, sized .size-of .ensures)))
 
 returns-5 : tie.Need-returns-5
 returns-5 c =
-    let worded = c .before .before in
+    let sized = c .before in
+    let worded = sized .before .before in
     let ranked = worded .before .before in
     let opened = ranked .before .before in
     sym
     (appendRefusal-none _ _ _ _ _ _ (opened .before .book-refusal .ensures) _ (opened .if1 .left) (ranked .before .book-rank-refusal .ensures) _ (ranked .if2 .left)
-    (worded .before .word-refusal .ensures) (worded .if3 .left) (omega (arith, c .if4 .left, c .before .count-place .ensures .0)))
+    (worded .before .word-refusal .ensures) (worded .if3 .left) (omega (arith, c .if4 .left, sized .before .count-place .ensures .0, sized .size-of .ensures)))
 
 pub append-refusal-spec : {M : Type 1} → statement M
 append-refusal-spec =
@@ -80,6 +85,7 @@ append-refusal-spec =
     word-refusal-requires
     returns-3
     count-place-requires
+    size-of-requires
     add-if4
     add-if4-2
     add-if4-3

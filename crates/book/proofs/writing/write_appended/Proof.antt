@@ -4,21 +4,23 @@ use denote.Ref.{now}
 use Prim.Native.Nat.{_+_, _*_, _≤_}
 use native.Mathlib.Omega.{arith}
 use lib.ListN.{length}
-use Rattle.book_format.proofs.BookLaws.{accepted, count-read}
+use Rattle.book_format.proofs.BookLaws.{accepted, never-one}
 use Rattle.book.proofs.writing.Appended.{appended-written}
 use borrow.Author.Needs.{needs}
 use Rattle.book.proofs.writing.write_appended.Statement.{statement}
 use Rattle.book.proofs.writing.write_appended.Tie as tie
 
-sub-two-at : tie.Need-sub-two-at
-sub-two-at c = accepted _ _ (c .before .before .before .pre .0 .0) .least
+count-of-requires : tie.Need-count-of-requires
+count-of-requires c κs = never-one _ _ (c .before .before .before .pre .0 .0)
 
-two-at-requires : tie.Need-two-at-requires
-two-at-requires c κs = let a = accepted _ _ (c .before .before .before .pre .0 .0) in omega arith
+size-of-requires : tie.Need-size-of-requires
+size-of-requires c κs = search needs
 
--- the trailer lies inside the book
-trailer-fits : (c : tie.After-two-at) → 2 * c .two-at .result + 2 ≤ length (now (c .before .before .before .before .args .book))
-trailer-fits c = omega (arith, accepted _ _ (c .before .before .before .before .pre .0 .0) .fits, count-read _ _ (c .two-at .ensures .0))
+-- the trailer lies inside the book with its count
+trailer-fits : (c : tie.After-size-of) → 2 * c .before .count-of .result + 2 ≤ c .size-of .result
+trailer-fits c =
+    let counted = c .before in
+    omega (arith, accepted _ _ (counted .before .before .before .before .pre .0 .0), counted .count-of .ensures .0, c .size-of .ensures)
 
 mul-trailer : tie.Need-mul-trailer
 mul-trailer c = search needs
@@ -33,7 +35,15 @@ count-place-requires : tie.Need-count-place-requires
 count-place-requires c κs = search needs
 
 write-records-requires : tie.Need-write-records-requires
-write-records-requires c κs = search needs
+write-records-requires c κs =
+    let placed = c .before in
+    let sized = placed .before in
+    let counted = sized .before in
+    let pre = counted .before .before .before .before .pre in
+    let a = accepted _ _ (pre .0 .0) in
+    let e = counted .count-of .ensures .0 in
+    let s = sized .size-of .ensures in
+    (pre .0 .1, omega (arith, a), omega (arith, a, pre .1))
 
 add-write-trailer : tie.Need-add-write-trailer
 add-write-trailer c = search needs
@@ -47,12 +57,15 @@ add-write-trailer-3 c = search needs
 write-trailer-requires : tie.Need-write-trailer-requires
 write-trailer-requires c κs =
     let placed = c .before .before .before .before .before in
-    let read = placed .before in
+    let sized = placed .before in
+    let counted = sized .before in
     let kept = c .before .before .before .write-records .kept .1 .1 .1 .1 .1 .1 .0 in
-    let room = read .before .before .before .before .pre .1 in
-    let fits = trailer-fits read in
+    let pre = counted .before .before .before .before .pre in
+    let a = accepted _ _ (pre .0 .0) in
+    let e = counted .count-of .ensures .0 in
+    let s = sized .size-of .ensures in
     let place = placed .count-place .ensures .0 in
-    (omega arith, omega arith)
+    (omega (arith, a), omega (arith, a, pre .1))
 
 same-length : tie.Need-same-length
 same-length c = search needs
@@ -60,17 +73,19 @@ same-length c = search needs
 returns : tie.Need-returns
 returns c =
     let placed = c .before .before .before .before .before .before .before .before in
-    let read = placed .before in
-    let start = read .before .before .before .before in
-    appended-written _ (now (start .args .book)) (now (start .args .out)) _ _ (now (start .args .word)) _ _ _ _ (start .pre .0 .0) (read .two-at .ensures .0)
-    (placed .count-place .ensures .0) (c .before .before .before .before .before .before .write-records .ensures) (c .before .before .write-trailer .ensures)
+    let sized = placed .before in
+    let counted = sized .before in
+    let start = counted .before .before .before .before in
+    appended-written _ (now (start .args .book)) (now (start .args .out)) _ _ (now (start .args .word)) _ _ _ _ _ (start .pre .0 .0) (counted .count-of .ensures .0)
+    (sized .size-of .ensures) (placed .count-place .ensures .0) (c .before .before .before .before .before .before .write-records .ensures)
+    (c .before .before .write-trailer .ensures)
 
 pub write-appended-spec : {M : Type 1} → statement M
 write-appended-spec =
     tie.close
     (tie.spec
-    sub-two-at
-    two-at-requires
+    count-of-requires
+    size-of-requires
     mul-trailer
     add-trailer
     sub-trailer
