@@ -13,9 +13,9 @@
  *   book      the bytes of a preset book, at most 65,535. c is the count of presets at its end. A record is kind, rank, letter count (two bytes, the low
  *             one first) and letters; in the second edition the lane count is a byte after the rank. A book of no bytes has no presets.
  *
- * Answers: 0 or more is the answer; -k is refusal k, of the first check that fails: in the order below, but 17 and 20 right after 6, and 18 right
- * after 8. A refused call writes nothing. An accepted call that writes puts its answer at the front of the output, answers the length written, and
- * leaves the rest of the output as it was.
+ * Answers: 0 or more is the answer; -k is refusal k, of the first check that fails: in the order below, but 17 and 20 right after 6, and 18 and 21
+ * right after 8. A refused call writes nothing. An accepted call that writes puts its answer at the front of the output, answers the length written,
+ * and leaves the rest of the output as it was.
  *
  *    1  The book has 1 byte or more than 65,535 bytes.
  *    2  Two times c, plus 2, exceeds the book's length.
@@ -35,6 +35,7 @@
  *   17  The lane count is not n + 1 for A or n for B and D.
  *   18  A second-edition record going back has more than 32 lanes.
  *   20  The rank is above 19 for A or above 16 for B or D.
+ *   21  A preset of kind A and rank 1 is appended.
  *
  * Of two presets, words or windows the first is checked before the second. winnathey_rewrite also answers WINNATHEY_NONE_FITS, and winnathey_fallback
  * WINNATHEY_NO_FALLBACK, with nothing written.

@@ -19,8 +19,8 @@ static uint16_t places[ROOM];
 static size_t counts[ROOM];
 
 static int failed;
-/* The last refusal; of those above 14 the calls have 17, 18 and 20. */
-#define LAST 20
+/* The last refusal; of those above 14 the calls have 17, 18, 20 and 21. */
+#define LAST 21
 
 static int seen[LAST + 1]; /* by the refusal's number; none fits is at 0 */
 static int seen_no_fallback;
@@ -115,6 +115,7 @@ static const uint8_t second_book[] = {2, 2, 2, 4, 0, 1, 2, 1, 2, 3, 5, 5, 6, 0, 
 static const uint8_t bad_lanes[] = {1, 2, 2, 0, 0, 0, 0, 1, 0};
 static const uint8_t bad_rank[] = {2, 33, 0, 0, 0, 0, 1, 0};
 static const uint8_t wide[] = {1, 31, 32, 0, 0, 1, 32, 33, 0, 0, 0, 0, 5, 0, 2, 0};
+static const uint8_t retired[] = {1, 1, 1, 0, 1, 0, 0, 1, 0}, second_retired[] = {1, 1, 2, 1, 0, 1, 0, 0, 1, 0};
 static uint8_t full[65533]; /* one record of 65,525 letters */
 static uint8_t heads[56174]; /* 9,362 records without letters: in the second edition 65,536 bytes */
 
@@ -281,6 +282,7 @@ static void books(void)
     CALL(winnathey_preset(one_byte, sizeof one_byte, 0, fields, 4));
     CALL(winnathey_preset(bad_letter, sizeof bad_letter, 0, fields, 4));
     CALL(winnathey_preset(full, sizeof full, 0, fields, 4));
+    CALL(winnathey_preset(retired, sizeof retired, 0, fields, 4));
 
     CALL(winnathey_presets(book, sizeof book, 0, fields, ROOM));
     CALL(winnathey_presets(book, sizeof book, 0, fields, 9));
@@ -298,10 +300,11 @@ static void books(void)
     CALL(winnathey_presets(full, sizeof full, 0, fields, 10));
 
     CALL(winnathey_append(no_presets, sizeof no_presets, 2, 2, w1212, 4, bytes, 12));
-    CALL(winnathey_append(no_presets, sizeof no_presets, 1, 1, NULL, 0, bytes, ROOM));
-    CALL(winnathey_append(book, sizeof book, 1, 1, w1, 1, bytes, ROOM));
-    CALL(winnathey_append(book, sizeof book, 1, 1, w1, 1, bytes, 30));
-    CALL(winnathey_append(book, sizeof book, 1, 1, w1, 1, NULL, 0));
+    CALL(winnathey_append(no_presets, sizeof no_presets, 1, 2, NULL, 0, bytes, ROOM));
+    CALL(winnathey_append(book, sizeof book, 1, 2, w1, 1, bytes, ROOM));
+    CALL(winnathey_append(book, sizeof book, 1, 2, w1, 1, bytes, 30));
+    CALL(winnathey_append(book, sizeof book, 1, 2, w1, 1, NULL, 0));
+    CALL(winnathey_append(retired, sizeof retired, 1, 2, w1, 1, bytes, ROOM));
     CALL(winnathey_append(NULL, 0, 2, 2, w1212, 4, bytes, 12));
     CALL(winnathey_append(NULL, 0, 2, 2, w1212, 4, bytes, 11));
     CALL(winnathey_append(NULL, 0, 2, 33, NULL, 0, bytes, ROOM));
@@ -309,6 +312,10 @@ static void books(void)
     CALL(winnathey_append(book, sizeof book, 257, 1, w1, 1, bytes, ROOM));
     CALL(winnathey_append(book, sizeof book, 1, 257, w1, 1, bytes, ROOM));
     CALL(winnathey_append(book, sizeof book, 2, 33, w1, 1, bytes, ROOM));
+    CALL(winnathey_append(full, sizeof full, 1, 2, NULL, 0, bytes, ROOM));
+    CALL(winnathey_append(book, sizeof book, 1, 1, w1, 1, bytes, ROOM));
+    CALL(winnathey_append(NULL, 0, 1, 1, NULL, 0, NULL, 0));
+    CALL(winnathey_append(book, sizeof book, 1, 1, w2, 1, bytes, ROOM));
     CALL(winnathey_append(full, sizeof full, 1, 1, NULL, 0, bytes, ROOM));
 }
 
@@ -338,7 +345,8 @@ static void second_books(void)
     CALL(winnathey_second_append(one_byte, sizeof one_byte, 2, 2, w1212, 4, bytes, 13));
     CALL(winnathey_second_append(second_book, sizeof second_book, 2, 33, w1, 1, bytes, ROOM));
     CALL(winnathey_second_append(second_book, sizeof second_book, 1, 64, w1, 1, bytes, ROOM));
-    CALL(winnathey_second_append(second_book, sizeof second_book, 1, 1, w1, 1, bytes, 33));
+    CALL(winnathey_second_append(second_book, sizeof second_book, 1, 2, w1, 1, bytes, 33));
+    CALL(winnathey_second_append(second_book, sizeof second_book, 1, 1, w1, 1, bytes, ROOM));
 }
 
 static void editions(void)
@@ -346,6 +354,7 @@ static void editions(void)
     CALL(winnathey_to_second(book, sizeof book, bytes, 26));
     CALL(winnathey_to_second(book, sizeof book, bytes, ROOM));
     CALL(winnathey_to_second(no_presets, sizeof no_presets, bytes, ROOM));
+    CALL(winnathey_to_second(retired, sizeof retired, bytes, ROOM));
     CALL(winnathey_to_second(book, sizeof book, bytes, 25));
     CALL(winnathey_to_second(book, sizeof book, NULL, 0));
     CALL(winnathey_to_second(NULL, 0, bytes, ROOM));
@@ -361,6 +370,7 @@ static void editions(void)
     CALL(winnathey_to_first(second_book, sizeof second_book, bytes, 24));
     CALL(winnathey_to_first(second_book, sizeof second_book, bytes, ROOM));
     CALL(winnathey_to_first(no_presets, sizeof no_presets, bytes, ROOM));
+    CALL(winnathey_to_first(second_retired, sizeof second_retired, bytes, ROOM));
     CALL(winnathey_to_first(wide, sizeof wide, bytes, ROOM));
     CALL(winnathey_to_first(second_book, sizeof second_book, bytes, 23));
     CALL(winnathey_to_first(NULL, 0, bytes, ROOM));
@@ -397,7 +407,7 @@ int main(void)
     editions();
 
     for (int k = 0; k <= LAST; k++)
-        if (!seen[k] && (k <= 14 || k == 17 || k == 18 || k == 20)) {
+        if (!seen[k] && (k <= 14 || k == 17 || k == 18 || k == 20 || k == 21)) {
             printf("never: %s %d\n", k == 0 ? "none fits," : "refusal", k);
             failed = 1;
         }

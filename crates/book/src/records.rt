@@ -8,7 +8,7 @@ ghost use lib.ListN.{length};
 ghost use lib.Seq.{sets};
 ghost use Rattle.coxeter.specs.Kinds as kinds;
 ghost use Rattle.coxeter.specs.Kinds.{kindOf};
-ghost use Rattle.book_format.specs.Books.{countPlace, greatestInBook, bookRankRefusal, wrongLaneCount, laneByte};
+ghost use Rattle.book_format.specs.Books.{countPlace, greatestInBook, bookRankRefusal, wrongLaneCount, laneByte, retired};
 
 // Where a record has its letter count. Its letters begin two bytes later.
 pub(crate) fn count_place(edition: Edition) -> usize
@@ -52,6 +52,16 @@ pub(crate) fn book_rank_refusal(edition: Edition, kind: u8, rank: u8) -> u8
         return 6;
     }
     0
+}
+
+// Check 21.
+pub(crate) fn is_retired(kind: u8, rank: u8) -> bool
+    ensures { λ r. ⌜ r ≡ retired kind rank ⌝ }
+{
+    if kind == 1 {
+        return rank == 1;
+    }
+    false
 }
 
 // Check 17, of the record at byte o. The first edition has no lane count that could be wrong.

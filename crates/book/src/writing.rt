@@ -7,6 +7,7 @@ use crate::reading::LARGEST;
 use crate::reading::book_refusal;
 use crate::records::book_rank_refusal;
 use crate::records::count_place;
+use crate::records::is_retired;
 use crate::records::put_lanes;
 use book_format::Edition;
 use window::Answer;
@@ -86,7 +87,7 @@ fn write_appended(edition: Edition, book: &[u8], kind: u8, rank: u8, word: &[u8]
     write_trailer(book, trailer, c, out, trailer + (place + 2) + word.len());
 }
 
-// Checks 1 to 3 of the book, 5 to 8 of the preset, 13.
+// Checks 1 to 3 of the book, 5 to 8 of the preset, 21, 13.
 fn append_refusal(edition: Edition, book: &[u8], kind: u8, rank: u8, word: &[u8]) -> u8
     ensures { λ r. ⌜ r ≡ appendRefusal edition (now (book .entry)) kind rank (now (word .entry)) ⌝ }
 {
@@ -101,6 +102,9 @@ fn append_refusal(edition: Edition, book: &[u8], kind: u8, rank: u8, word: &[u8]
     let t = word_refusal(rank, word);
     if t != 0 {
         return t;
+    }
+    if is_retired(kind, rank) {
+        return 21;
     }
     let place = count_place(edition);
     if LARGEST < size_of(book) + (place + 2 + word.len() + 2) {

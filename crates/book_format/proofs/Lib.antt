@@ -11,5 +11,6 @@ pub mod RecordLaws
 pub mod LayOuts
 pub mod Converting
 pub mod NoBytes
+pub mod Retired
 pub mod Vectors
 pub mod RunLaws

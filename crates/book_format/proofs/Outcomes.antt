@@ -14,7 +14,7 @@ use Rattle.coxeter.specs.Kinds.{pick, kindOf, lanes}
 use Rattle.coxeter.specs.Checks.{check, _then_, wrongKind, tooLong, wrongLetter, wordRefusal}
 use Rattle.book_format.specs.declared.Edition.{Edition}
 use Rattle.book_format.specs.declared.Edition.the-variants.{First, Second}
-use Rattle.book_format.specs.Books.{firstOf, wrongSize, wrongCount, misplaced, noSuchPreset, tooLarge, offset, kindAt, rankAt, lettersAt, wrongRankInBook, wrongLaneCount, bookRankRefusal, bookRefusal, recordRefusal, presetRefusal, appended, appendRefusal}
+use Rattle.book_format.specs.Books.{firstOf, wrongSize, wrongCount, misplaced, noSuchPreset, tooLarge, retired, offset, kindAt, rankAt, lettersAt, wrongRankInBook, wrongLaneCount, bookRankRefusal, bookRefusal, recordRefusal, presetRefusal, appended, appendRefusal}
 use Rattle.coxeter.proofs.Basics.{by-pick}
 use Rattle.coxeter.proofs.Refusals.{then-none, then-some, then-assoc}
 
@@ -98,14 +98,17 @@ pub appendRefusal-firstOf : (ed : Edition) (b : List ℕ) (k n : ℕ) (u : List 
     ∷ (6, wrongRankInBook ed (kindOf k) n)
     ∷ (7, tooLong u)
     ∷ (8, wrongLetter n u)
+    ∷ (21, retired k n)
     ∷ (13, tooLarge (length (appended ed b k n u)))
     ∷ [])
 unfolding appendRefusal
 appendRefusal-firstOf ed b k n u =
-    bookRefusal-then ed b (bookRankRefusal ed k n then wordRefusal n u then check 13 (tooLarge (length (appended ed b k n u))))
+    bookRefusal-then ed b (bookRankRefusal ed k n then wordRefusal n u then check 21 (retired k n) then check 13 (tooLarge (length (appended ed b k n u))))
     ∙ ap (λ r. pick (wrongSize b) 1 (pick (wrongCount b) 2 (pick (misplaced ed b) 3 r)))
-    (rank-then ed k n (wordRefusal n u then check 13 (tooLarge (length (appended ed b k n u))))
-    ∙ ap (λ r. pick (wrongKind k) 5 (pick (wrongRankInBook ed (kindOf k) n) 6 r)) (word-then n u (check 13 (tooLarge (length (appended ed b k n u))))))
+    (rank-then ed k n (wordRefusal n u then check 21 (retired k n) then check 13 (tooLarge (length (appended ed b k n u))))
+    ∙ ap (λ r. pick (wrongKind k) 5 (pick (wrongRankInBook ed (kindOf k) n) 6 r))
+    (word-then n u (check 21 (retired k n) then check 13 (tooLarge (length (appended ed b k n u))))
+    ∙ ap (λ r. pick (tooLong u) 7 (pick (wrongLetter n u) 8 r)) (check-then 21 (retired k n) _ (omega arith))))
 
 -- ---- their ranges
 

@@ -21,7 +21,7 @@ use Rattle.book_format.specs.declared.Opened.{Opened}
 use Rattle.book_format.specs.declared.Opened.the-variants as opened
 use Rattle.book_format.specs.declared.Preset.{Preset}
 use Rattle.book_format.specs.declared.Preset.the-variants as preset
-use Rattle.book_format.specs.Books.{twoAt, two, count, trailer, offset, wrongSize, wrongCount, misplacedFrom, misplaced, noSuchPreset, tooLarge, wrongRankInBook, wrongLaneCount, bookRankRefusal, bookRefusal, recordRefusal, presetRefusal, recordOf, added, appended, appendRefusal}
+use Rattle.book_format.specs.Books.{twoAt, two, count, trailer, offset, wrongSize, wrongCount, misplacedFrom, misplaced, noSuchPreset, tooLarge, retired, wrongRankInBook, wrongLaneCount, bookRankRefusal, bookRefusal, recordRefusal, presetRefusal, recordOf, added, appended, appendRefusal}
 use Rattle.book_format.specs.Records.{recordBytes, offsetBytes, layOut, recordsFrom, recordsOf, Bytes}
 use Rattle.book_format.specs.Conversion.{converted, tooManyLanes, recordConversionRefusal, recordsConversionRefusal, conversionRefusal, converting}
 use Rattle.book_format.proofs.BookLaws.{accepted}
@@ -203,40 +203,50 @@ letters-agree = refl
 
 pub appendings : List (Outcome ℕ × Outcome ℕ)
 appendings =
-    (appending First emptyBook 1 1 (1 ∷ []) (lent 10), wrote 9 (1 ∷ 1 ∷ 1 ∷ 0 ∷ 1 ∷ 0 ∷ 0 ∷ 1 ∷ 0 ∷ 9 ∷ []))
+    (appending First emptyBook 1 2 (1 ∷ []) (lent 10), wrote 9 (1 ∷ 2 ∷ 1 ∷ 0 ∷ 1 ∷ 0 ∷ 0 ∷ 1 ∷ 0 ∷ 9 ∷ []))
+    ∷ (appending First [] 1 2 (1 ∷ []) (lent 10), wrote 9 (1 ∷ 2 ∷ 1 ∷ 0 ∷ 1 ∷ 0 ∷ 0 ∷ 1 ∷ 0 ∷ 9 ∷ []))
     -- the second preset: its offset behind the first's
     ∷ (appending First (bookOf (1 ∷ 1 ∷ 0 ∷ 0 ∷ [])) 2 2 (2 ∷ []) (lent 15), wrote 15 (1 ∷ 1 ∷ 0 ∷ 0 ∷ 2 ∷ 2 ∷ 1 ∷ 0 ∷ 2 ∷ 0 ∷ 0 ∷ 4 ∷ 0 ∷ 2 ∷ 0 ∷ []))
     -- the second edition, with the lane count after the rank, and its ranges
-    ∷ (appending Second emptyBook 1 1 (1 ∷ []) (lent 10), wrote 10 (1 ∷ 1 ∷ 2 ∷ 1 ∷ 0 ∷ 1 ∷ 0 ∷ 0 ∷ 1 ∷ 0 ∷ []))
+    ∷ (appending Second emptyBook 1 2 (1 ∷ []) (lent 10), wrote 10 (1 ∷ 2 ∷ 3 ∷ 1 ∷ 0 ∷ 1 ∷ 0 ∷ 0 ∷ 1 ∷ 0 ∷ []))
+    ∷ (appending Second [] 1 2 (1 ∷ []) (lent 10), wrote 10 (1 ∷ 2 ∷ 3 ∷ 1 ∷ 0 ∷ 1 ∷ 0 ∷ 0 ∷ 1 ∷ 0 ∷ []))
     ∷ (appending Second (bookOf (1 ∷ 1 ∷ 2 ∷ 0 ∷ 0 ∷ [])) 3 64 (64 ∷ []) (lent 17), wrote 17 (1 ∷ 1 ∷ 2 ∷ 0 ∷ 0 ∷ 3 ∷ 64 ∷ 64 ∷ 1 ∷ 0 ∷ 64 ∷ 0 ∷ 0 ∷ 5 ∷ 0 ∷ 2 ∷ 0 ∷ []))
     ∷ (appending Second emptyBook 1 64 [] (lent 9), refused 6 (lent 9))
     -- the book's refusal before the preset's, the preset's before the room
     ∷ (appending First (7 ∷ 0 ∷ 0 ∷ []) 4 1 [] (lent 1), refused 3 (lent 1))
     ∷ (appending First emptyBook 2 33 [] (lent 9), refused 6 (lent 9))
     ∷ (appending First emptyBook 1 1 (2 ∷ []) (lent 1), refused 8 (lent 1))
-    ∷ (appending First emptyBook 1 1 (1 ∷ []) (lent 8), refused 14 (lent 8))
+    ∷ (appending First emptyBook 1 2 (1 ∷ []) (lent 8), refused 14 (lent 8))
+    -- kind A at rank 1: 21 after 8 and before 14, in both editions; kind B has no rank 1
+    ∷ (appending First emptyBook 1 1 (1 ∷ []) (lent 1), refused 21 (lent 1))
+    ∷ (appending Second [] 1 1 [] (lent 10), refused 21 (lent 10))
+    ∷ (appending Second emptyBook 1 1 (2 ∷ []) (lent 10), refused 8 (lent 10))
+    ∷ (appending First emptyBook 2 1 (1 ∷ []) (lent 10), refused 6 (lent 10))
+    -- a book that holds such a preset takes others
+    ∷ (appending First (bookOf (1 ∷ 1 ∷ 0 ∷ 0 ∷ [])) 1 2 [] (lent 14), wrote 14 (1 ∷ 1 ∷ 0 ∷ 0 ∷ 1 ∷ 2 ∷ 0 ∷ 0 ∷ 0 ∷ 0 ∷ 4 ∷ 0 ∷ 2 ∷ 0 ∷ []))
     ∷ []
 
 pub appendings-agree : Agree appendings
 unfolding appendings
     kindOf wrongKind wrongRankInBook wrongLaneCount tooLong wrongLetter tooShort bookRankRefusal wordRefusal answerOf written writes
-    twoAt two count trailer offset wrongSize wrongCount misplacedFrom misplaced tooLarge bookRefusal recordOf appended appendRefusal
+    twoAt two count trailer offset wrongSize wrongCount misplacedFrom misplaced tooLarge retired bookRefusal recordOf appended appendRefusal
     appending
 appendings-agree = refl
 
 -- the size limit, for every accepted book and preset: a new book of 65,536 bytes or more is refused before the room is looked at, a smaller one only
 -- where there is no room
-module _ (ed : Edition) (b : List ℕ) (k n : ℕ) (u out : List ℕ) (e : bookRefusal ed b ≡ 0) (f : bookRankRefusal ed k n ≡ 0) (g : wordRefusal n u ≡ 0) where
+module _ (ed : Edition) (b : List ℕ) (k n : ℕ) (u out : List ℕ) (e : bookRefusal ed b ≡ 0) (f : bookRankRefusal ed k n ≡ 0) (g : wordRefusal n u ≡ 0)
+    (o : retired k n ≡ false) where
   pub appending-too-large : 65535 < length (appended ed b k n u) → appending ed b k n u out ≡ refused 13 out
   unfolding appending writes answerOf written
   appending-too-large h =
-      rw (appendRefusal-large ed b k n u 0 (sym e) 0 refl (sym f) 0 refl (sym g) refl (rw (length-appended ed b k n u (accepted ed b e)) at h))
+      rw (appendRefusal-large ed b k n u 0 (sym e) 0 refl (sym f) 0 refl (sym g) refl (retired k n) refl o (rw (length-appended ed b k n u (accepted ed b e)) at h))
 
   pub appending-without-room : length (appended ed b k n u) ≤ 65535 → length out < length (appended ed b k n u) → appending ed b k n u out ≡ refused 14 out
   unfolding appending writes answerOf written tooShort
   appending-without-room h l =
       rw (
-        appendRefusal-none ed b k n u 0 (sym e) 0 refl (sym f) 0 refl (sym g) refl (rw (length-appended ed b k n u (accepted ed b e)) at h),
+        appendRefusal-none ed b k n u 0 (sym e) 0 refl (sym f) 0 refl (sym g) refl (retired k n) refl o (rw (length-appended ed b k n u (accepted ed b e)) at h),
         lt-ltb (length out) (length (appended ed b k n u)) l,
       )
 

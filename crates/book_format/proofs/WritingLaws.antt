@@ -3,6 +3,7 @@
 -- Sections: the appended book; appending; what is answered and written.
 -- Assumes nothing.
 use mathlib.Core.Path.{_≡_, refl, sym, _∙_}
+use mathlib.Core.Bool.{Bool, true, false}
 use mathlib.Core.List.{List}
 use Prim.Native.Nat.{ℕ, _+_, _*_, _≤_, _<_}
 use native.Mathlib.Omega.{arith}
@@ -13,7 +14,7 @@ use Rattle.book_format.specs.declared.Edition.{Edition}
 use Rattle.book_format.specs.declared.Edition.the-variants.{First, Second}
 use Rattle.coxeter.specs.declared.Answer.the-variants as answer
 use Rattle.coxeter.specs.Checks.{check, _then_, wordRefusal}
-use Rattle.book_format.specs.Books.{two, count, trailer, tooLarge, bookRankRefusal, bookRefusal, laneByte, recordOf, appended, appendRefusal, countPlace, headSize, added}
+use Rattle.book_format.specs.Books.{two, count, trailer, tooLarge, retired, bookRankRefusal, bookRefusal, laneByte, recordOf, appended, appendRefusal, countPlace, headSize, added}
 use Rattle.book_format.specs.Calls.{appending}
 use Rattle.book_format.proofs.RankLaws.{bookRank-accepted}
 use Rattle.book_format.proofs.BookLaws.{Accepted, accepted, accepted-read, bookSize, trailer-le}
@@ -65,15 +66,22 @@ module _ (ed : Edition) (b : List ℕ) (k n : ℕ) (u : List ℕ) (r : ℕ) (e :
       unfolding appendRefusal
       appendRefusal-word f = rw (← e, eq-eqb r 0 z, ← d, eq-eqb s 0 y, ← q, ne-eqb t 0 f)
 
-      pub appendRefusal-large : t ≡ 0 → 65535 < bookSize b + added ed u → appendRefusal ed b k n u ≡ 13
-      unfolding appendRefusal tooLarge
-      appendRefusal-large x h =
-          rw (← e, eq-eqb r 0 z, ← d, eq-eqb s 0 y, ← q, eq-eqb t 0 x, length-appended ed b k n u (accepted-read ed b r e z), lt-ltb 65535 (bookSize b + added ed u) h)
+      -- o is whether the preset is retired
+      module _ (x : t ≡ 0) (o : Bool) (v : o ≡ retired k n) where
+        pub appendRefusal-retired : o ≡ true → appendRefusal ed b k n u ≡ 21
+        unfolding appendRefusal
+        appendRefusal-retired w = rw (← e, eq-eqb r 0 z, ← d, eq-eqb s 0 y, ← q, eq-eqb t 0 x, ← v, w)
 
-      pub appendRefusal-none : t ≡ 0 → bookSize b + added ed u ≤ 65535 → appendRefusal ed b k n u ≡ 0
-      unfolding appendRefusal tooLarge
-      appendRefusal-none x h =
-          rw (← e, eq-eqb r 0 z, ← d, eq-eqb s 0 y, ← q, eq-eqb t 0 x, length-appended ed b k n u (accepted-read ed b r e z), le-ltb 65535 (bookSize b + added ed u) h)
+        module _ (w : o ≡ false) where
+          pub appendRefusal-large : 65535 < bookSize b + added ed u → appendRefusal ed b k n u ≡ 13
+          unfolding appendRefusal tooLarge
+          appendRefusal-large h =
+              rw (← e, eq-eqb r 0 z, ← d, eq-eqb s 0 y, ← q, eq-eqb t 0 x, ← v, w, length-appended ed b k n u (accepted-read ed b r e z), lt-ltb 65535 (bookSize b + added ed u) h)
+
+          pub appendRefusal-none : bookSize b + added ed u ≤ 65535 → appendRefusal ed b k n u ≡ 0
+          unfolding appendRefusal tooLarge
+          appendRefusal-none h =
+              rw (← e, eq-eqb r 0 z, ← d, eq-eqb s 0 y, ← q, eq-eqb t 0 x, ← v, w, length-appended ed b k n u (accepted-read ed b r e z), le-ltb 65535 (bookSize b + added ed u) h)
 
 -- where appending is not refused, none of its checks refuses
 append-parts : (ed : Edition) (b : List ℕ) (k n : ℕ) (u : List ℕ) → appendRefusal ed b k n u ≡ 0
@@ -81,10 +89,11 @@ append-parts : (ed : Edition) (b : List ℕ) (k n : ℕ) (u : List ℕ) → appe
 unfolding appendRefusal
 append-parts ed b k n u e =
     let size = check 13 (tooLarge (length (appended ed b k n u))) in
-    let a = then-zero (bookRefusal ed b) (bookRankRefusal ed k n then wordRefusal n u then size) e in
-    let c = then-zero (bookRankRefusal ed k n) (wordRefusal n u then size) (a .1) in
-    let d = then-zero (wordRefusal n u) size (c .1) in
-    (a .0, c .0, d .0, d .1)
+    let own = check 21 (retired k n) in
+    let a = then-zero (bookRefusal ed b) (bookRankRefusal ed k n then wordRefusal n u then own then size) e in
+    let c = then-zero (bookRankRefusal ed k n) (wordRefusal n u then own then size) (a .1) in
+    let d = then-zero (wordRefusal n u) (own then size) (c .1) in
+    (a .0, c .0, d .0, then-zero own size (d .1) .1)
 
 -- a book to which a preset is appended is accepted
 pub append-book : (ed : Edition) (b : List ℕ) (k n : ℕ) (u : List ℕ) → appendRefusal ed b k n u ≡ 0 → bookRefusal ed b ≡ 0

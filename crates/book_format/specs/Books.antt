@@ -1,5 +1,5 @@
--- The preset book (document 01, "The preset book"; its second edition: document 02, request 7; a book of no bytes: request 9), read from its end, and its checks 1 to 4, 6, 13 and
--- 17. "Callers name the edition they read or append, first or second; no third can be named.": `Edition` has these two cases, and what differs between
+-- The preset book (document 01, "The preset book"; its second edition: document 02, request 7; a book of no bytes: request 9), read from its end, and its checks 1 to 4, 6, 13, 17
+-- and 21. "Callers name the edition they read or append, first or second; no third can be named.": `Edition` has these two cases, and what differs between
 -- the editions goes by them.
 use mathlib.Core.Bool.{Bool, not, _&&_, _||_}
 use mathlib.Core.List.{List, [], _∷_, _++_}
@@ -141,10 +141,15 @@ appended ed b k n u =
     take (trailer b) b
     ++ (recordOf ed k n (lanes (kindOf k) n) u ++ (take (2 * count b) (drop (trailer b) b) ++ (two (trailer b) ++ two (count b + 1))))
 
--- appending makes checks 1 to 3 of the book, 5 to 8 of the preset, and 13
+-- "21. A preset of kind A and rank 1 is appended.": "Kind A at rank 1 leaves the certificate. Such presets can no longer be appended." (document 02,
+-- request 13)
+unfoldable pub retired : ℕ → ℕ → Bool
+retired k n = eqb k 1 && eqb n 1
+
+-- appending makes checks 1 to 3 of the book, 5 to 8 of the preset, 21, "checked after refusal 8", and 13
 unfoldable pub appendRefusal : Edition → List ℕ → ℕ → ℕ → List ℕ → ℕ
 appendRefusal ed b k n u =
-    bookRefusal ed b then bookRankRefusal ed k n then wordRefusal n u then check 13 (tooLarge (length (appended ed b k n u)))
+    bookRefusal ed b then bookRankRefusal ed k n then wordRefusal n u then check 21 (retired k n) then check 13 (tooLarge (length (appended ed b k n u)))
 
 -- "in checking order": the number of the first test of a list that holds, 0 where none does
 abbrev pub firstOf : List (ℕ × Bool) → ℕ

@@ -51,7 +51,7 @@ use Rattle.distribution.specs.Distribution.{ofLength, distribution, sum}
 use Rattle.distribution.specs.Longest.{allNegative, longest}
 use Rattle.distribution.specs.Calls.{untabled, tableRefusal, tableOf, roomRefusal, delayTable}
 use Rattle.distribution.specs.Calls as tabling
-use Rattle.book_format.specs.Books.{twoAt, two, count, trailer, offset, wrongSize, wrongCount, misplacedFrom, misplaced, noSuchPreset, tooLarge, wrongRankInBook, wrongLaneCount, bookRankRefusal, bookRefusal, recordRefusal, presetRefusal, recordOf, appended, appendRefusal}
+use Rattle.book_format.specs.Books.{twoAt, two, count, trailer, offset, wrongSize, wrongCount, misplacedFrom, misplaced, noSuchPreset, tooLarge, retired, wrongRankInBook, wrongLaneCount, bookRankRefusal, bookRefusal, recordRefusal, presetRefusal, recordOf, appended, appendRefusal}
 use Rattle.book_format.specs.Calls.{openedOf, presetOf, checkedBook, presetAt, checkedPreset, lettersStart, lettersOf, appending}
 use Rattle.book_format.specs.Records.{recordBytes, offsetBytes, layOut, recordsFrom, recordsOf}
 use Rattle.book_format.specs.Conversion.{converted, tooManyLanes, recordConversionRefusal, recordsConversionRefusal, conversionRefusal, converting}
@@ -151,7 +151,7 @@ unfolding table allDiffer differs numbers ofAnswer ofVerdict ofChoice ofRewrite 
     somePart fallsBack fallbackOf fallbackAnswer
     keep all.each lists all.entries all.windows ofLength distribution sum allNegative longest
     untabled tableRefusal tableOf roomRefusal tabling.tables delayTable
-    twoAt two count trailer offset wrongSize wrongCount misplacedFrom misplaced noSuchPreset tooLarge wrongRankInBook wrongLaneCount bookRankRefusal
+    twoAt two count trailer offset wrongSize wrongCount misplacedFrom misplaced noSuchPreset tooLarge retired wrongRankInBook wrongLaneCount bookRankRefusal
     bookRefusal recordRefusal presetRefusal recordOf appended appendRefusal openedOf presetOf checkedBook presetAt checkedPreset lettersStart lettersOf appending
     recordBytes offsetBytes layOut recordsFrom recordsOf converted tooManyLanes recordConversionRefusal recordsConversionRefusal conversionRefusal converting
     digits decimal spaced letters entry entries kindLetter head tail presetLine refused refusedLine refusedBookLine countLine wordLine lineBy lineOf
@@ -170,7 +170,7 @@ pub ruled-out : (r : WrongRouter) → List·Memᴰ r table → r .right ≡ r .w
 ruled-out = all-sound table all-differ
 
 -- so many rows, lest one be lost
-pub table-length : length table ≡ 89
+pub table-length : length table ≡ 93
 unfolding table
 table-length = refl
 
@@ -189,11 +189,11 @@ bookOf65536Bytes-ruled-out ed b e h =
 
 -- and every preset that would make an accepted book larger than 65,535 bytes tells this one, where the output is shorter than the new book
 pub roomBeforeTheSizeLimit-ruled-out : (ed : Edition) (b : List ℕ) (k n : ℕ) (u out : List ℕ) → bookRefusal ed b ≡ 0 → bookRankRefusal ed k n ≡ 0 → wordRefusal n u ≡ 0
-    → 65535 < length (appended ed b k n u) → length out < length (appended ed b k n u) → appending ed b k n u out ≡ roomBeforeTheSizeLimit ed b k n u out → ⊥
+    → retired k n ≡ false → 65535 < length (appended ed b k n u) → length out < length (appended ed b k n u) → appending ed b k n u out ≡ roomBeforeTheSizeLimit ed b k n u out → ⊥
 unfolding writes answerOf tooShort
-roomBeforeTheSizeLimit-ruled-out ed b k n u out e f g large short h =
+roomBeforeTheSizeLimit-ruled-out ed b k n u out e f g o large short h =
     let w : roomBeforeTheSizeLimit ed b k n u out .answer ≡ answers.Refused 14 = rw (lt-ltb (length out) (length (appended ed b k n u)) short) in
-    let r = ap (λ (o : Outcome ℕ). o .answer) (appending-too-large ed b k n u out e f g large) in
+    let r = ap (λ (o : Outcome ℕ). o .answer) (appending-too-large ed b k n u out e f g o large) in
     let z : _≡_ {A = ℕ} 13 14 = cc (ap (λ (o : Outcome ℕ). o .answer) h) in
     omega arith
 

@@ -17,7 +17,7 @@ use Rattle.book_format.specs.declared.Opened.{Opened}
 use Rattle.book_format.specs.declared.Preset.{Preset}
 use Rattle.book_format.specs.Books.{two, count, trailer, offset, kindAt, rankAt, lanesAt, letterCountAt, lettersAt, endAt, wrongSize, wrongCount, misplaced}
 use Rattle.book_format.specs.Books.{noSuchPreset, bookRankRefusal, wrongLaneCount, bookRefusal, recordRefusal, presetRefusal, recordOf, appended, appendRefusal}
-use Rattle.book_format.specs.Books.{tooLarge}
+use Rattle.book_format.specs.Books.{tooLarge, retired}
 use Rattle.book_format.specs.Records.{layOut, recordsOf}
 use Rattle.book_format.specs.Conversion.{other, converted, tooManyLanes, recordConversionRefusal, recordsConversionRefusal, conversionRefusal}
 use Rattle.book_format.specs.Calls.{openedOf, checkedBook, presetAt, checkedPreset, lettersStart, lettersOf}
@@ -64,6 +64,11 @@ abbrev pub opensOtherBytes : Edition → List ℕ → Opened
 opensOtherBytes ed b = checkedBook ed (lettersOf ed b 0)
 
 -- ---- presets and their letters
+
+-- a preset of kind A and rank 1 refused where it is read
+abbrev pub retiredNotRead : Edition → List ℕ → ℕ → Preset
+retiredNotRead ed b i =
+    presetAt ed (presetRefusal ed b i then check 21 (retired (kindAt b (offset b i)) (rankAt b (offset b i)))) b (offset b i)
 
 -- a preset of a book without presets refused as a damaged book is
 abbrev pub noPresetsRefused3 : Edition → List ℕ → ℕ → Preset
@@ -136,6 +141,18 @@ kindAndRankExchanged ed b k n u out = writes (appendRefusal ed b k n u) (appende
 abbrev pub roomBeforeTheSizeLimit : Edition → List ℕ → ℕ → ℕ → List ℕ → List ℕ → Outcome ℕ
 roomBeforeTheSizeLimit ed b k n u out =
     writes (check 14 (tooShort (length (appended ed b k n u)) out) then appendRefusal ed b k n u) (appended ed b k n u) out
+
+-- kind A at rank 1 appended; refused before its letters are looked at; and rank 1 refused 21 in every kind
+abbrev pub retiredAppended : Edition → List ℕ → ℕ → ℕ → List ℕ → List ℕ → Outcome ℕ
+retiredAppended ed b k n u out =
+    writes (bookRefusal ed b then bookRankRefusal ed k n then wordRefusal n u then check 13 (tooLarge (length (appended ed b k n u)))) (appended ed b k n u) out
+
+abbrev pub retiredBeforeLetters : Edition → List ℕ → ℕ → ℕ → List ℕ → List ℕ → Outcome ℕ
+retiredBeforeLetters ed b k n u out =
+    writes (bookRefusal ed b then bookRankRefusal ed k n then check 21 (retired k n) then appendRefusal ed b k n u) (appended ed b k n u) out
+
+abbrev pub retiredInEveryKind : Edition → List ℕ → ℕ → ℕ → List ℕ → List ℕ → Outcome ℕ
+retiredInEveryKind ed b k n u out = writes (bookRefusal ed b then check 21 (eqb n 1) then appendRefusal ed b k n u) (appended ed b k n u) out
 
 -- ---- converting
 

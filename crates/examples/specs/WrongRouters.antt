@@ -35,7 +35,7 @@ use Rattle.examples.specs.WrongWindows.{ranksNotCompared, kindsCompared,
 use Rattle.examples.specs.WrongRewrites.{noneFitsWithoutLooking, ruleOfBInD, family3OneTooFarInB, family4AsFamily3, replacedOnePlaceToTheLeft, placeAtTheEndAccepted, roomCheckedBeforeTheRule, wordCopiedFirst}
 use Rattle.examples.specs.WrongShortest.{verdictByLengthAlone, presentWordUnshortened, roomAskedForANo}
 use Rattle.examples.specs.WrongTables.{rank20InA, factorLeftOut, runningTotals, straightAsLongest, roomOfTheListOnly, listWrittenFirst}
-use Rattle.examples.specs.WrongBooks.{noBytesRefused, oneByteAccepted, noPresetsRefused3}
+use Rattle.examples.specs.WrongBooks.{noBytesRefused, oneByteAccepted, noPresetsRefused3, retiredNotRead, retiredAppended, retiredBeforeLetters, retiredInEveryKind}
 use Rattle.examples.specs.WrongBooks.{countHighByteFirst, offsetAgainstTheTrailer, lastRecordMayStopEarly, opensOtherBytes, onePresetTooMany, preset0ForEveryNumber}
 use Rattle.examples.specs.WrongBooks.{laneCountBeforeRank, laneCountIsTheRank, rangesOfTheFirst, rangesOfTheSecond, lettersOneByteEarly, laneCountLeftOut}
 use Rattle.examples.specs.WrongBooks.{handedOut, lettersFromTheRecord, refusedPresetHandsOutLetters, lastOffsetDropped, kindAndRankExchanged}
@@ -158,6 +158,7 @@ table =
     ∷ differ checkedBook lastRecordMayStopEarly (λ f. opened (f First (1 ∷ 1 ∷ 0 ∷ 0 ∷ 7 ∷ 0 ∷ 0 ∷ 1 ∷ 0 ∷ [])))
     ∷ differ checkedBook opensOtherBytes (λ f. opened (f First one))
     -- reading a preset, and its letters
+    ∷ differ checkedPreset retiredNotRead (λ f. preset (f First one 0))
     ∷ differ checkedPreset noPresetsRefused3 (λ f. preset (f First [] 0))
     ∷ differ checkedPreset onePresetTooMany (λ f. preset (f First one 1))
     ∷ differ checkedPreset preset0ForEveryNumber (λ f. preset (f First (1 ∷ 1 ∷ 0 ∷ 0 ∷ 2 ∷ 2 ∷ 0 ∷ 0 ∷ 0 ∷ 0 ∷ 4 ∷ 0 ∷ 2 ∷ 0 ∷ []) 1))
@@ -172,6 +173,9 @@ table =
     ∷ differ appending laneCountLeftOut (λ f. bytes (f Second (0 ∷ 0 ∷ []) 1 2 [] (lent 9)))
     ∷ differ appending lastOffsetDropped (λ f. bytes (f First (0 ∷ 0 ∷ []) 1 2 [] (lent 8)))
     ∷ differ appending kindAndRankExchanged (λ f. bytes (f First (0 ∷ 0 ∷ []) 1 2 [] (lent 8)))
+    ∷ differ appending retiredAppended (λ f. bytes (f First (0 ∷ 0 ∷ []) 1 1 [] (lent 8)))
+    ∷ differ appending retiredBeforeLetters (λ f. bytes (f Second (0 ∷ 0 ∷ []) 1 1 (2 ∷ []) (lent 10)))
+    ∷ differ appending retiredInEveryKind (λ f. bytes (f First (0 ∷ 0 ∷ []) 2 1 [] (lent 8)))
     -- converting
     ∷ differ converting lastRecordDropped (λ f. bytes (f First one (lent 9)))
     ∷ differ converting laneLimitFirst (λ f. bytes (f Second (2 ∷ 33 ∷ 33 ∷ 1 ∷ 0 ∷ 34 ∷ 0 ∷ 0 ∷ 1 ∷ 0 ∷ []) (lent 9)))

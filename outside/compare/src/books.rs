@@ -60,7 +60,7 @@ pub fn examples(sides: &mut Sides) {
             }
         }
         for out in 0..40 {
-            sides.append(edition, example, 1, 1, &[1, 1], out);
+            sides.append(edition, example, 1, 2, &[1, 1], out);
             sides.convert(edition, example, out);
         }
         for at in 0..example.len() {
@@ -85,7 +85,7 @@ pub fn examples(sides: &mut Sides) {
             for high in 0..=255 {
                 sides.book_check(edition, &[low, high]);
                 sides.preset(edition, &[low, high], 0, 4);
-                sides.append(edition, &[low, high], 1, 1, &[], 9);
+                sides.append(edition, &[low, high], 1, 2, &[], 9);
                 sides.convert(edition, &[low, high], 2);
                 sides.book_check(edition, &[low, high, 0]);
                 sides.book_check(edition, &[0, 0, 0, 0, low, high, 1, 0]);
@@ -150,7 +150,12 @@ fn held_to_values(sides: &mut Sides) {
             book.extend([0, 0, 1, 0]);
             assert_eq!(sides.preset(edition, &book, 0, 4), due);
             let length = sides.append(edition, &[0, 0], kind.into(), rank.into(), &[rank], 10);
-            assert_eq!(length, if due == 4 { book.len() as i64 } else { -6 });
+            let due = match (kind, rank, due) {
+                (1, 1, _) => -21,
+                (_, _, 4) => book.len() as i64,
+                _ => -6,
+            };
+            assert_eq!(length, due);
         }
     }
 }
@@ -248,7 +253,7 @@ fn full(sides: &mut Sides, random: &mut Random, edition: Edition) {
         one_book(sides, edition, &book);
         for letters in 0..40 {
             let word = vec![1; letters];
-            let answer = sides.append(edition, &book, 1, 1, &word, 65_600);
+            let answer = sides.append(edition, &book, 1, 2, &word, 65_600);
             let due = if length > 65_535 {
                 -1
             } else if length + added + letters > 65_535 {

@@ -50,7 +50,7 @@ fn presets(sides: &mut Sides, edition: Edition, book: &[u8], count: usize) -> Ve
 
 /// Converts a book with outputs of every interesting length. An accepted one gives a book with the same presets in the
 /// same order, and that book gives the bytes of the first again.
-fn there_and_back(sides: &mut Sides, edition: Edition, book: &[u8]) -> i64 {
+pub fn there_and_back(sides: &mut Sides, edition: Edition, book: &[u8]) -> i64 {
     let count = sides.book_check(edition, book).max(0) as usize;
     let need = converted_length(edition, book.len(), count);
     for out in [0, need.saturating_sub(1), need + 1, need + 50] {

@@ -13,6 +13,7 @@ mod exhaustive;
 mod fallbacks;
 mod inputs;
 mod random;
+mod retired;
 mod rewriting;
 mod safe;
 mod shortest;
@@ -86,6 +87,7 @@ fn main() -> ExitCode {
     group("books: random, damaged, full", &books::others);
     group("books of no bytes and of one byte: every call", &empty::run);
     group("books from one edition to the other and back: random, damaged, full", &conversions::run);
+    group("kind A at rank 1: appended to books, held by books", &retired::run);
     group(&format!("{inputs} random inputs over all calls, from seed {seed}"), &random_inputs);
     let sides = run(&groups);
     println!("{:>10} calls in all, {} different", sides.calls, sides.differences);

@@ -144,12 +144,15 @@ fn head_of(edition: Edition, kind: u8, rank: u8, letters: usize) -> ([u8; 5], us
     }
 }
 
-/// Writes the book with one record more.
+/// Writes the book with one record more. Kind A at rank 1 is read and converted, but no longer appended.
 fn longer(edition: Edition, book: &[u8], kind: u32, rank: u32, word: &[u8], out: &mut [u8]) -> i64 {
     coded((|| {
         let (count, start) = check(edition, book)?;
         let rank = edition.check_rank(kind, rank)?;
         check_word(rank, word)?;
+        if kind == A && rank == 1 {
+            return Err(21);
+        }
         let book = if book.is_empty() { &[0, 0] } else { book };
         let length = book.len() + edition.head() + word.len() + 2;
         if length > MAX_BOOK {

@@ -139,3 +139,34 @@ fn a_book_of_one_byte_is_refused() {
         assert_eq!((refused(to_second, &book), refused(to_first, &book)), (1, 1));
     }
 }
+
+#[test]
+fn kind_a_at_rank_1_is_not_appended() {
+    // A1 with 1 1 1, and B2 with 2, in either edition.
+    let first = [1, 1, 3, 0, 1, 1, 1, 2, 2, 1, 0, 2, 0, 0, 7, 0, 2, 0];
+    let second = [1, 1, 2, 3, 0, 1, 1, 1, 2, 2, 2, 1, 0, 2, 0, 0, 8, 0, 2, 0];
+    for book in [&[][..], &[0, 0], &first] {
+        for (word, number) in [(&[][..], 21), (&[1], 21), (&[1; 4096], 21), (&[2], 8), (&[0], 8), (&[1; 4097], 7)] {
+            assert_eq!(refused(|book, out| append(book, 1, 1, word, out), book), number);
+        }
+    }
+    assert_eq!(refused(|book, out| second_append(book, 1, 1, &[1], out), &second), 21);
+    assert_eq!(refused(|book, out| append(book, 1, 1, &[1], out), &[0]), 1);
+    assert_eq!(refused(|book, out| append(book, 257, 1, &[1], out), &first), 5);
+    assert_eq!(refused(|book, out| append(book, 1, 257, &[1], out), &first), 6);
+    // 21 comes before 13 and 14: a record of 65,525 letters leaves no room for another.
+    let mut full = vec![2, 2, 0xf5, 0xff];
+    full.extend(vec![1; 65_525]);
+    full.extend([0, 0, 1, 0]);
+    assert_eq!(refused(|book, out| append(book, 1, 1, &[], out), &full), 21);
+    assert_eq!(refused(|book, out| append(book, 1, 2, &[], out), &full), 13);
+    assert_eq!(append(&full, 1, 1, &[], &mut []), -21);
+
+    // What a book holds stays: it is read and converted, and other presets are appended after it.
+    let mut fields = [0; 4];
+    assert_eq!((preset(&first, 0, &mut fields), fields), (4, [1, 1, 4, 3]));
+    assert_eq!((second_preset(&second, 0, &mut fields), fields), (4, [1, 1, 5, 3]));
+    assert_eq!(made(to_second, &first, 20), (20, second.to_vec()));
+    assert_eq!(made(to_first, &second, 18), (18, first.to_vec()));
+    assert_eq!(made(|book, out| append(book, 1, 2, &[], out), &first, 24).0, 24);
+}

@@ -450,7 +450,7 @@ fn lent(book: &[u8], [kind, rank, start, letters]: [u64; 4]) -> Preset<'_> {
 }
 
 /// Writes a book with one preset more, and answers with its length. The second edition's lane count follows from kind
-/// and rank. Refusals 1 to 3, 5 to 8, 13, 14.
+/// and rank. A preset of kind A and rank 1, which a book may hold, is not appended. Refusals 1 to 3, 5 to 8, 21, 13, 14.
 ///
 /// ```
 /// use winnathey::{Edition, Kind, Preset, append, preset};
@@ -463,6 +463,10 @@ fn lent(book: &[u8], [kind, rank, start, letters]: [u64; 4]) -> Preset<'_> {
 ///
 /// let length = append(Edition::Second, &[0, 0], added, &mut book)?;
 /// assert_eq!(book[..length], [2, 2, 2, 4, 0, 1, 2, 1, 2, 0, 0, 1, 0]);
+///
+/// let retired = Preset { kind: Kind::A, rank: 1, word: &[1] };
+/// assert_eq!(append(Edition::First, &[], retired, &mut book).unwrap_err().number(), 21);
+/// assert_eq!(preset(Edition::First, &[1, 1, 1, 0, 1, 0, 0, 1, 0], 0)?, retired);
 /// # Ok::<(), winnathey::Refusal>(())
 /// ```
 pub fn append(edition: Edition, book: &[u8], added: Preset, out: &mut [u8]) -> Result<usize, Refusal> {
@@ -542,6 +546,10 @@ mod tests {
         assert_eq!(number(preset(Edition::Second, &[1, 2, 2, 0, 0, 0, 0, 1, 0], 0)), 17);
         assert_eq!(number(convert(Edition::Second, &[1, 32, 33, 0, 0, 0, 0, 1, 0], &mut letters)), 18);
         assert_eq!(number(delay_table(Kind::D, 17, &mut [0; MAX_COUNTS], &mut lanes, &mut letters)), 20);
+        assert_eq!(
+            number(append(Edition::Second, &[], Preset { kind: Kind::A, rank: 1, word: &[] }, &mut letters)),
+            21
+        );
     }
 
     #[test]

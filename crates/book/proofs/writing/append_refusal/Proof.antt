@@ -3,7 +3,7 @@
 use mathlib.Core.Path.{sym}
 use native.Mathlib.Omega.{arith}
 use Rattle.book_format.proofs.BookLaws.{accepted-read}
-use Rattle.book_format.proofs.WritingLaws.{appendRefusal-book, appendRefusal-rank, appendRefusal-word, appendRefusal-large, appendRefusal-none}
+use Rattle.book_format.proofs.WritingLaws.{appendRefusal-book, appendRefusal-rank, appendRefusal-word, appendRefusal-retired, appendRefusal-large, appendRefusal-none}
 use borrow.Author.Needs.{needs}
 use Rattle.book.proofs.writing.append_refusal.Statement.{statement}
 use Rattle.book.proofs.writing.append_refusal.Tie as tie
@@ -33,46 +33,62 @@ returns-3 c =
     (appendRefusal-word _ _ _ _ _ _ (opened .before .book-refusal .ensures) _ (opened .if1 .left) (ranked .before .book-rank-refusal .ensures) _ (ranked .if2 .left)
     (c .before .word-refusal .ensures) (c .if3 .taken))
 
+is-retired-requires : tie.Need-is-retired-requires
+is-retired-requires c κs = search needs
+
+returns-4 : tie.Need-returns-4
+returns-4 c =
+    let worded = c .before .before in
+    let ranked = worded .before .before in
+    let opened = ranked .before .before in
+    sym
+    (appendRefusal-retired _ _ _ _ _ _ (opened .before .book-refusal .ensures) _ (opened .if1 .left) (ranked .before .book-rank-refusal .ensures) _ (ranked .if2 .left)
+    (worded .before .word-refusal .ensures) (worded .if3 .left) _ (c .before .is-retired .ensures) (c .if4 .taken))
+
 count-place-requires : tie.Need-count-place-requires
 count-place-requires c κs = search needs
 
 size-of-requires : tie.Need-size-of-requires
 size-of-requires c κs = search needs
 
-add-if4 : tie.Need-add-if4
-add-if4 c = search needs
+add-if5 : tie.Need-add-if5
+add-if5 c = search needs
 
-add-if4-2 : tie.Need-add-if4-2
-add-if4-2 c = search needs
+add-if5-2 : tie.Need-add-if5-2
+add-if5-2 c = search needs
 
-add-if4-3 : tie.Need-add-if4-3
-add-if4-3 c = search needs
+add-if5-3 : tie.Need-add-if5-3
+add-if5-3 c = search needs
 
-add-if4-4 : tie.Need-add-if4-4
-add-if4-4 c =
-    let worded = c .before .before in
-    let opened = worded .before .before .before .before in
+add-if5-4 : tie.Need-add-if5-4
+add-if5-4 c =
+    let kept = c .before .before in
+    let opened = kept .before .before .before .before .before .before in
     omega (arith, accepted-read _ _ _ (opened .before .book-refusal .ensures) (opened .if1 .left) .most, c .size-of .ensures)
-
-returns-4 : tie.Need-returns-4
-returns-4 c =
-    let sized = c .before in
-    let worded = sized .before .before in
-    let ranked = worded .before .before in
-    let opened = ranked .before .before in
-    sym
-    (appendRefusal-large _ _ _ _ _ _ (opened .before .book-refusal .ensures) _ (opened .if1 .left) (ranked .before .book-rank-refusal .ensures) _ (ranked .if2 .left)
-    (worded .before .word-refusal .ensures) (worded .if3 .left) (omega (arith, c .if4 .taken, sized .before .count-place .ensures .0, sized .size-of .ensures)))
 
 returns-5 : tie.Need-returns-5
 returns-5 c =
     let sized = c .before in
-    let worded = sized .before .before in
+    let kept = sized .before .before in
+    let worded = kept .before .before in
+    let ranked = worded .before .before in
+    let opened = ranked .before .before in
+    sym
+    (appendRefusal-large _ _ _ _ _ _ (opened .before .book-refusal .ensures) _ (opened .if1 .left) (ranked .before .book-rank-refusal .ensures) _ (ranked .if2 .left)
+    (worded .before .word-refusal .ensures) (worded .if3 .left) _ (kept .before .is-retired .ensures) (kept .if4 .left)
+    (omega (arith, c .if5 .taken, sized .before .count-place .ensures .0, sized .size-of .ensures)))
+
+returns-6 : tie.Need-returns-6
+returns-6 c =
+    let sized = c .before in
+    let kept = sized .before .before in
+    let worded = kept .before .before in
     let ranked = worded .before .before in
     let opened = ranked .before .before in
     sym
     (appendRefusal-none _ _ _ _ _ _ (opened .before .book-refusal .ensures) _ (opened .if1 .left) (ranked .before .book-rank-refusal .ensures) _ (ranked .if2 .left)
-    (worded .before .word-refusal .ensures) (worded .if3 .left) (omega (arith, c .if4 .left, sized .before .count-place .ensures .0, sized .size-of .ensures)))
+    (worded .before .word-refusal .ensures) (worded .if3 .left) _ (kept .before .is-retired .ensures) (kept .if4 .left)
+    (omega (arith, c .if5 .left, sized .before .count-place .ensures .0, sized .size-of .ensures)))
 
 pub append-refusal-spec : {M : Type 1} → statement M
 append-refusal-spec =
@@ -84,11 +100,13 @@ append-refusal-spec =
     returns-2
     word-refusal-requires
     returns-3
+    is-retired-requires
+    returns-4
     count-place-requires
     size-of-requires
-    add-if4
-    add-if4-2
-    add-if4-3
-    add-if4-4
-    returns-4
-    returns-5)
+    add-if5
+    add-if5-2
+    add-if5-3
+    add-if5-4
+    returns-5
+    returns-6)
