@@ -2,6 +2,7 @@
 //
 // No public function has a `requires`: every input is checked in document 01's order, and what a call answers and writes is a definition of
 // exchange/specs/Calls for every input, refused ones included.
+mod allowed;
 mod steps;
 mod walk;
 mod work;

@@ -13,6 +13,7 @@ pub mod Walk
 pub mod Fallbacks
 pub mod Verdicts
 pub mod Allowed
+pub mod AllowedSets
 pub mod Splitting
 pub mod Stripping
 pub mod FarSteps

@@ -1,0 +1,20 @@
+-- `allowed::is_allowed` asks for one bit of the set.
+-- Assumes nothing.
+use mathlib.Core.Path.{refl}
+use borrow.Author.Needs.{needs}
+use Rattle.exchange.specs.Allowed.{allows}
+use Rattle.descents.proofs.allowed.is_allowed.Statement.{statement}
+use Rattle.descents.proofs.allowed.is_allowed.Tie as tie
+
+sub-result : tie.Need-sub-result
+sub-result c = search needs
+
+shr-result : tie.Need-shr-result
+shr-result c = search needs
+
+returns : tie.Need-returns
+unfolding allows
+returns c = refl
+
+pub is-allowed-spec : {M : Type 1} → statement M
+is-allowed-spec = tie.close (tie.spec sub-result shr-result returns)
