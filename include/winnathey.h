@@ -13,7 +13,7 @@
  *   book      the bytes of a preset book, at most 65,535. c is the count of presets at its end. A record is kind, rank, letter count (two bytes, the low
  *             one first) and letters; in the second edition the lane count is a byte after the rank. A book of no bytes has no presets.
  *
- * Answers: 0 or more is the answer; -k is refusal k, of the first check that fails: in the order below, but 17 and 20 right after 6, and 18 and 21
+ * Answers: 0 or more is the answer; -k is refusal k, of the first check that fails: in the order below, but 16, 17 and 20 right after 6, and 18 and 21
  * right after 8. A refused call writes nothing. An accepted call that writes puts its answer at the front of the output, answers the length written,
  * and leaves the rest of the output as it was.
  *
@@ -32,6 +32,7 @@
  *   12  The place is the word's length or more.
  *   13  The appended book would exceed 65,535 bytes.
  *   14  An output is shorter than the part of the answer that goes there.
+ *   16  A bit stands for a step above the rank.
  *   17  The lane count is not n + 1 for A or n for B and D.
  *   18  A second-edition record going back has more than 32 lanes.
  *   20  The rank is above 19 for A or above 16 for B or D.
@@ -135,6 +136,14 @@ int64_t winnathey_rewrite(uint32_t kind, uint32_t rank, const uint8_t *word, siz
    serve; which of them comes is not said. Answers how many places are kept, or WINNATHEY_NO_FALLBACK; refusal 14 comes only with a yes. */
 int64_t winnathey_fallback(uint32_t kind, uint32_t rank, const uint8_t *present, size_t present_len, const uint8_t *simpler, size_t simpler_len,
                            uint16_t *places, size_t places_len);
+
+/* ---- allowed steps: a set of steps in 64 bits, one bit a step, bit 0 for step 1 */
+
+/* Splits a word by allowed steps: into a first word over allowed steps and a second whose window has no shortest word that begins with an allowed step.
+   Both are normal forms, the product of their windows is the word's window, their lengths add up to its length, and there is just one such pair. Their
+   lengths go to first_written and second_written. Answers the sum of the two. Refusal 14 concerns both outputs, and comes before anything is written. */
+int64_t winnathey_split(uint32_t kind, uint32_t rank, uint64_t allowed, const uint8_t *word, size_t word_len, uint8_t *first, size_t first_len,
+                        uint8_t *second, size_t second_len, size_t *first_written, size_t *second_written);
 
 /* ---- preset books of the first edition */
 

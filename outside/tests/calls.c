@@ -19,7 +19,7 @@ static uint16_t places[ROOM];
 static size_t counts[ROOM];
 
 static int failed;
-/* The last refusal; of those above 14 the calls have 17, 18, 20 and 21. */
+/* The last refusal; of those above 14 the calls have 16, 17, 18, 20 and 21. */
 #define LAST 21
 
 static int seen[LAST + 1]; /* by the refusal's number; none fits is at 0 */
@@ -262,6 +262,26 @@ static void shortest(void)
     CALL(winnathey_fallback(1, 258, w121, 3, w12, 2, places, ROOM));
 }
 
+static void splits(void)
+{
+    CALL(winnathey_split(1, 2, 1, w121, 3, bytes, 1, rule, 2, counts, counts + 1));
+    CALL(winnathey_split(1, 2, 2, w121, 3, bytes, ROOM, rule, ROOM, counts, counts + 1));
+    CALL(winnathey_split(1, 2, 0, w121, 3, NULL, 0, rule, 3, counts, counts + 1));
+    CALL(winnathey_split(1, 2, 3, w121, 3, bytes, 3, NULL, 0, counts, counts + 1));
+    CALL(winnathey_split(2, 2, 2, w1212, 4, bytes, 1, rule, 3, counts, counts + 1));
+    CALL(winnathey_split(3, 5, 0x1b, d5_word, 6, bytes, ROOM, rule, ROOM, counts, counts + 1));
+    CALL(winnathey_split(2, 64, UINT64_MAX, w212, 3, bytes, ROOM, rule, ROOM, counts, counts + 1));
+    CALL(winnathey_split(1, 2, 3, NULL, 0, NULL, 0, NULL, 0, counts, counts + 1));
+    CALL(winnathey_split(1, 2, 4, w9, 1, bytes, ROOM, rule, ROOM, counts, counts + 1));
+    CALL(winnathey_split(1, 63, UINT64_C(1) << 63, w1, 1, bytes, ROOM, rule, ROOM, counts, counts + 1));
+    CALL(winnathey_split(1, 2, 3, w9, 1, bytes, ROOM, rule, ROOM, counts, counts + 1));
+    CALL(winnathey_split(1, 2, 3, too_long, 4097, bytes, ROOM, rule, ROOM, counts, counts + 1));
+    CALL(winnathey_split(1, 2, 1, w121, 3, bytes, 0, rule, 2, counts, counts + 1));
+    CALL(winnathey_split(1, 2, 1, w121, 3, bytes, 1, rule, 1, counts, counts + 1));
+    CALL(winnathey_split(257, 2, 1, w121, 3, bytes, ROOM, rule, ROOM, counts, counts + 1));
+    CALL(winnathey_split(1, 258, 1, w121, 3, bytes, ROOM, rule, ROOM, counts, counts + 1));
+}
+
 static void books(void)
 {
     CALL(winnathey_book_check(book, sizeof book));
@@ -402,12 +422,13 @@ int main(void)
     tables();
     rewrites();
     shortest();
+    splits();
     books();
     second_books();
     editions();
 
     for (int k = 0; k <= LAST; k++)
-        if (!seen[k] && (k <= 14 || k == 17 || k == 18 || k == 20 || k == 21)) {
+        if (!seen[k] && (k <= 14 || k == 16 || k == 17 || k == 18 || k == 20 || k == 21)) {
             printf("never: %s %d\n", k == 0 ? "none fits," : "refusal", k);
             failed = 1;
         }

@@ -3,5 +3,6 @@ pub mod Lengths
 pub mod Bytes
 pub mod Outcomes
 pub mod Verdicts
+pub mod SplitNumbers
 pub mod Unchanged
 pub mod Vectors

@@ -1,5 +1,5 @@
 -- "A refused call changes no lent byte", for the calls for C that write more than the call below them does: the three counts of a length by sort, one
--- rewrite with its rule, the fields of a preset. By the cases of the answer below.
+-- rewrite with its rule, the fields of a preset, the two lengths of a split. By the cases of the answer below.
 -- Assumes nothing.
 use mathlib.Core.Path.{_≡_, refl}
 use mathlib.Core.Bool.{Bool, true, false}
@@ -17,9 +17,14 @@ use Rattle.coxeter.proofs.Unchanged.{writes-unchanged}
 use Rattle.rules.specs.declared.Rewrite.{Rewrite}
 use Rattle.rules.specs.declared.Rewrite.the-variants.{Used, NoneFits, Refused}
 use Rattle.rules.specs.Calls.{step}
+use Rattle.exchange.specs.declared.Split.{Split}
+use Rattle.exchange.specs.declared.Split.the-variants as split
+use Rattle.exchange.specs.SplitCalls.{splitting}
+use Rattle.exchange.proofs.Splits.{splitting-unchanged}
 use Rattle.book_format.specs.declared.Preset.{Preset}
 use Rattle.book_format.specs.declared.Preset.the-variants as preset
 use Rattle.c_api.specs.Calls.{refused, sorting, Rewriting, unwritten, rewritingBy, rewriting, presetNumbers}
+use Rattle.c_api.specs.Splits.{splitNumbers}
 
 pub sorting-unchanged : (c : Counted) (plain against mirrored r : ℕ) → sorting c plain against mirrored .number ≡ refused (suc r)
     → (sorting c plain against mirrored .plain ≡ plain)
@@ -53,3 +58,21 @@ pub presetNumbers-unchanged : (p : Preset) (out : List ℕ) (r : ℕ) → preset
 unfolding presetNumbers
 presetNumbers-unchanged (preset.Found k n s l) out r h = writes-unchanged 0 (k ∷ n ∷ s ∷ l ∷ []) out r h
 presetNumbers-unchanged (preset.Refused k) out r h = refl
+
+-- the two outputs and the two lengths
+pub split-unchanged : (k n set : ℕ) (u first second : List ℕ) (x y r : ℕ)
+    → splitNumbers (splitting k n set u first second .answer) x y .number ≡ refused (suc r)
+    → (splitting k n set u first second .first ≡ first)
+    × (splitting k n set u first second .second ≡ second)
+    × (splitNumbers (splitting k n set u first second .answer) x y .first ≡ x)
+    × (splitNumbers (splitting k n set u first second .answer) x y .second ≡ y)
+unfolding splitNumbers refused
+split-unchanged k n set u first second x y r = cases (splitting k n set u first second .answer) refl
+  where
+    cases : (a : Split) → splitting k n set u first second .answer ≡ a → splitNumbers a x y .number ≡ refused (suc r)
+        → (splitting k n set u first second .first ≡ first)
+        × (splitting k n set u first second .second ≡ second)
+        × (splitNumbers a x y .first ≡ x)
+        × (splitNumbers a x y .second ≡ y)
+    cases (split.Words a b) e h = let z : _≡_ {A = ℕ} 0 1 = cc in absurd (omega arith)
+    cases (split.Refused s) e h = let p = splitting-unchanged k n set u first second s e in (p .0, p .1, refl, refl)

@@ -4,6 +4,7 @@ mod numbers;
 pub mod presets;
 pub mod rewriting;
 pub mod shortest;
+pub mod splits;
 pub mod tables;
 pub mod windows;
 pub mod words;

@@ -1,15 +1,21 @@
 // Calls on shortest words: they go by the steps that make a window shorter, which the field calls its descents.
 //
 // No public function has a `requires`: every input is checked in document 01's order, and what a call answers and writes is a definition of
-// exchange/specs/Calls for every input, refused ones included.
+// exchange/specs/Calls or SplitCalls for every input, refused ones included.
 mod allowed;
+mod splitting;
 mod steps;
+mod stripping;
 mod walk;
 mod work;
 
+use allowed::set_refusal;
 pub use exchange::Fallback;
+pub use exchange::Split;
 use refusals::lanes;
 use refusals::ranked_words_refusal;
+use refusals::word_refusal;
+use splitting::split_accepted;
 use walk::settle;
 use work::no_letters;
 use work::shown;
@@ -17,9 +23,11 @@ use work::write_form;
 ghost use mathlib.Core.Path.{_≡_};
 ghost use Rattle.coxeter.specs.Kinds.{kindOf};
 ghost use Rattle.coxeter.specs.Windows.{window};
-ghost use Rattle.coxeter.specs.Checks.{rankRefusal, wordRefusal};
+ghost use Rattle.coxeter.specs.Checks.{_then_, rankRefusal, wordRefusal};
 ghost use Rattle.coxeter.specs.NormalForm.{wordNormalForm};
+ghost use Rattle.exchange.specs.Allowed.{setRefusal};
 ghost use Rattle.exchange.specs.Calls.{FellBack};
+ghost use Rattle.exchange.specs.SplitCalls.{splitting, SplitYields};
 ghost use Rattle.exchange.proofs.Verdicts.{Settled};
 
 // The verdict on two accepted words of one kind and rank, by the normal form of the first and the window of the second.
@@ -54,4 +62,37 @@ pub fn fallback_places(
         return Fallback::Refused(refusal);
     }
     settle_words(kind, rank, present, simpler, places)
+}
+
+// Checks 5, 6 and 16, then 7 and 8. Answers the first number that refuses, or 0.
+fn split_refusal(kind: u8, rank: u8, allowed: u64, word: &[u8]) -> u8
+    ensures { λ r. ⌜ r ≡ (setRefusal kind rank allowed then wordRefusal rank (now (word .entry))) ⌝ }
+{
+    let refusal = set_refusal(kind, rank, allowed);
+    if refusal != 0 {
+        return refusal;
+    }
+    word_refusal(rank, word)
+}
+
+// Splits a word by a set of allowed steps, one bit a step, bit 0 for step 1: the first word is over allowed steps, no shortest word of the second's
+// window begins with one, and their windows' product is the word's window. Writes each, a normal form, to the front of its output, and answers the
+// length of each; the lengths add up to the length of the word's window. Refuses with 5 or 6, then 16 where a bit stands for a step above the rank,
+// then 7 or 8, then 14 where an output is shorter than its word; both outputs are then left as they were.
+pub fn split_word(
+    kind: u8,
+    rank: u8,
+    allowed: u64,
+    word: &[u8],
+    first: &mut [u8],
+    second: &mut [u8],
+) -> Split
+    ensures { λ r. ⌜ SplitYields (splitting kind rank allowed (now (word .entry)) (now (first .entry)) (now (second .entry)))
+        r (now (first .exit)) (now (second .exit)) ⌝ }
+{
+    let refusal = split_refusal(kind, rank, allowed, word);
+    if refusal != 0 {
+        return Split::Refused(refusal);
+    }
+    split_accepted(kind, rank, allowed, word, first, second)
 }

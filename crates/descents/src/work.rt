@@ -1,13 +1,16 @@
 // Work arrays, with what the window layer writes to them: each has room for every answer, so that no call below is refused.
 use window::Answer;
+use window::inverse_of_window;
+use window::length_of_window;
 use window::normal_form_of_word;
+use window::product_of_windows;
 use window::window_of_word;
 ghost use mathlib.Core.Path.{_≡_};
 ghost use lib.ListN.{length};
 ghost use Rattle.coxeter.specs.Kinds.{kindOf, lanes};
-ghost use Rattle.coxeter.specs.Windows.{window};
-ghost use Rattle.coxeter.specs.Checks.{rankRefusal, wordRefusal};
-ghost use Rattle.coxeter.specs.NormalForm.{wordNormalForm};
+ghost use Rattle.coxeter.specs.Windows.{window, product, inverse};
+ghost use Rattle.coxeter.specs.Checks.{rankRefusal, wordRefusal, windowRefusal};
+ghost use Rattle.coxeter.specs.NormalForm.{normalForm, wordNormalForm};
 ghost use Rattle.coxeter.proofs.Fronts.{Front};
 
 // A word with room for every normal form.
@@ -40,6 +43,39 @@ pub(crate) fn write_form(kind: u8, rank: u8, word: &[u8], form: &mut [u8]) -> us
     ensures { λ r. ⌜ Front 4096 (wordNormalForm (kindOf kind) rank (now (word .entry))) (now (form .exit)) r ⌝ }
 {
     let Answer::Length(l) = normal_form_of_word(kind, rank, word, form) else {
+        return 0;
+    };
+    l
+}
+
+// The product of two accepted windows.
+pub(crate) fn multiplied(kind: u8, rank: u8, u: &[i8], v: &[i8]) -> [i8; 64]
+    requires { ⌜ rankRefusal kind rank ≡ 0 ⌝ }
+    requires { ⌜ windowRefusal (kindOf kind) rank (now u) ≡ 0 ⌝ }
+    requires { ⌜ windowRefusal (kindOf kind) rank (now v) ≡ 0 ⌝ }
+    ensures { λ r. ⌜ (64 ≡ length r) × Front 64 (product (now (u .entry)) (now (v .entry))) r (lanes (kindOf kind) rank) ⌝ }
+{
+    let mut work = blank();
+    product_of_windows(kind, rank, u, v, &mut work);
+    work
+}
+
+// The inverse of an accepted window.
+pub(crate) fn inverted(kind: u8, rank: u8, w: &[i8]) -> [i8; 64]
+    requires { ⌜ (rankRefusal kind rank ≡ 0) × (windowRefusal (kindOf kind) rank (now w) ≡ 0) ⌝ }
+    ensures { λ r. ⌜ (64 ≡ length r) × Front 64 (inverse (now (w .entry))) r (lanes (kindOf kind) rank) ⌝ }
+{
+    let mut work = blank();
+    inverse_of_window(kind, rank, w, &mut work);
+    work
+}
+
+// The length of the normal form of an accepted window.
+pub(crate) fn form_length(kind: u8, rank: u8, w: &[i8]) -> usize
+    requires { ⌜ (rankRefusal kind rank ≡ 0) × (windowRefusal (kindOf kind) rank (now w) ≡ 0) ⌝ }
+    ensures { λ r. ⌜ r ≡ length (normalForm (kindOf kind) rank (now (w .entry))) ⌝ }
+{
+    let Answer::Length(l) = length_of_window(kind, rank, w) else {
         return 0;
     };
     l

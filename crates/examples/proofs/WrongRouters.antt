@@ -24,6 +24,8 @@ use Rattle.rules.specs.declared.Rewrite.{Rewrite}
 use Rattle.rules.specs.declared.Rewrite.the-variants as rewrites
 use Rattle.exchange.specs.declared.Fallback.{Fallback}
 use Rattle.exchange.specs.declared.Fallback.the-variants as fallbacks
+use Rattle.exchange.specs.declared.Split.{Split}
+use Rattle.exchange.specs.declared.Split.the-variants as splits
 use Rattle.distribution.specs.declared.Table.{Table}
 use Rattle.distribution.specs.declared.Table.the-variants as tables
 use Rattle.book_format.specs.declared.Edition.{Edition}
@@ -44,6 +46,10 @@ use Rattle.coxeter.proofs.Order.{sameWindow-of-eq}
 use Rattle.rules.specs.Rules.{each, family1, family2, family3, family4, families5to7, rules, begins, fits, firstFitting, rewritten}
 use Rattle.rules.specs.Calls.{pastEnd, refusedStep, usedStep, stepBy, step}
 use Rattle.exchange.specs.Fallback.{somePart, fallsBack}
+use Rattle.exchange.specs.Shortening.{shortens}
+use Rattle.exchange.specs.Allowed.{allows, wrongSet, setRefusal}
+use Rattle.exchange.specs.Split.{lowest, stripped, restInverse, firstWord, secondWord}
+use Rattle.exchange.specs.SplitCalls.{splitOf, parts, splitting}
 use Rattle.exchange.specs.Calls.{fallbackOf, fallbackAnswer, keptCount, FellBack}
 use Rattle.distribution.specs.AllWindows.{keep, lists}
 use Rattle.distribution.specs.AllWindows as all
@@ -90,6 +96,10 @@ ofFallback (fallbacks.Kept l) = pos 0 ∷ pos l ∷ []
 ofFallback fallbacks.No = pos 1 ∷ []
 ofFallback (fallbacks.Refused r) = pos 2 ∷ pos r ∷ []
 
+ofSplit : Split → List ℤ
+ofSplit (splits.Words a b) = pos 0 ∷ pos a ∷ pos b ∷ []
+ofSplit (splits.Refused r) = pos 1 ∷ pos r ∷ []
+
 ofTable : Table → List ℤ
 ofTable (tables.Written c e l) = pos 0 ∷ pos c ∷ pos e ∷ pos l ∷ []
 ofTable (tables.Refused r) = pos 1 ∷ pos r ∷ []
@@ -111,6 +121,7 @@ numbers (told.entries o) = ofAnswer (o .answer) ++ o .bytes
 numbers (told.bytes o) = ofAnswer (o .answer) ++ map pos (o .bytes)
 numbers (told.rewrite s) = ofRewrite (s .answer) ++ map pos (s .bytes ++ s .word)
 numbers (told.tabled t) = (ofTable (t .answer) ++ map pos (t .counts)) ++ (t .entries ++ map pos (t .letters))
+numbers (told.parted p) = ofSplit (p .answer) ++ map pos (p .first ++ p .second)
 numbers (told.piece p) = ofPiece (p .answer) ++ map pos (p .bytes)
 numbers (told.answer a) = ofAnswer a
 numbers (told.verdict v) = ofVerdict v
@@ -139,7 +150,7 @@ allDiffer (r ∷ rs) = differs r && allDiffer rs
 
 -- the one computed fact, with the definitions that the rows pass through, layer by layer
 all-differ : allDiffer table ≡ true
-unfolding table allDiffer differs numbers ofAnswer ofVerdict ofChoice ofRewrite ofFallback ofTable ofOpened ofPreset ofPiece
+unfolding table allDiffer differs numbers ofAnswer ofVerdict ofChoice ofRewrite ofFallback ofSplit ofTable ofOpened ofPreset ofPiece
     kindOf up from exchange negateFirst exchangeNegate act windowFrom straight window at product signed placeFrom inverse
     later negative one laterThan inversions negativeSumPairs negatives crossings total windowLength before shortlex
     wrongKind wrongRank tooLong wrongLetter wrongLanes hasSize negativeInA wrongAt wrongEntry odd oddNegatives tooShort
@@ -149,6 +160,7 @@ unfolding table allDiffer differs numbers ofAnswer ofVerdict ofChoice ofRewrite 
     lengthOfWindow lengthOfWord sameEntry sameWindow equalWords samePresets presetsEqual handsBack choice
     each family1 family2 family3 family4 families5to7 rules begins fits firstFitting rewritten pastEnd refusedStep usedStep stepBy step
     somePart fallsBack fallbackOf fallbackAnswer
+    shortens allows wrongSet setRefusal lowest stripped restInverse firstWord secondWord splitOf parts splitting
     keep all.each lists all.entries all.windows ofLength distribution sum allNegative longest
     untabled tableRefusal tableOf roomRefusal tabling.tables delayTable
     twoAt two count trailer offset wrongSize wrongCount misplacedFrom misplaced noSuchPreset tooLarge retired wrongRankInBook wrongLaneCount bookRankRefusal
@@ -170,7 +182,7 @@ pub ruled-out : (r : WrongRouter) → List·Memᴰ r table → r .right ≡ r .w
 ruled-out = all-sound table all-differ
 
 -- so many rows, lest one be lost
-pub table-length : length table ≡ 93
+pub table-length : length table ≡ 99
 unfolding table
 table-length = refl
 

@@ -6,4 +6,5 @@ pub mod WrongRewrites
 pub mod WrongTables
 pub mod WrongBooks
 pub mod WrongShortest
+pub mod WrongSplits
 pub mod WrongRouters

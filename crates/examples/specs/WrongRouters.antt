@@ -1,6 +1,6 @@
 -- Wrong routers (document 01, "What contracts have to settle", point c, and "Mistakes close at hand"; and others): a wrong answer for each, and an
 -- input at which the call's definition says otherwise. A contract that is an equation with the definition then lets none of them through. The wrong answers
--- are in WrongWindows, WrongRewrites, WrongShortest, WrongTables and WrongBooks; that each row is wrong is `ruled-out` of proofs/WrongRouters.antt.
+-- are in WrongWindows, WrongRewrites, WrongShortest, WrongSplits, WrongTables and WrongBooks; that each row is wrong is `ruled-out` of proofs/WrongRouters.antt.
 -- Not here: those that show only at a book of 65,536 bytes, and parts handed back, which no input computes; they too are in that file.
 use mathlib.Core.List.{List, [], _∷_}
 use Prim.Native.Nat.{ℕ}
@@ -15,6 +15,7 @@ use Rattle.coxeter.specs.Calls.{Outcome, windowOfWord, productOfWindows, invers
 use Rattle.rules.specs.Calls.{Step, step}
 use Rattle.exchange.specs.declared.Fallback.{Fallback}
 use Rattle.exchange.specs.Calls.{fallbackAnswer}
+use Rattle.exchange.specs.SplitCalls.{Parted, splitting}
 use Rattle.distribution.specs.Calls.{Tabled, delayTable}
 use Rattle.book_format.specs.declared.Edition.the-variants.{First, Second}
 use Rattle.book_format.specs.declared.Opened.{Opened}
@@ -34,6 +35,7 @@ use Rattle.examples.specs.WrongWindows.{letterTotal, usualOrderOfAWindow
 use Rattle.examples.specs.WrongWindows.{ranksNotCompared, kindsCompared, kindOfTheFirstForBoth, secondPresetRefusedFirst, better, laterWordHandedBack, windowsNotCompared, secondOfEqualWords}
 use Rattle.examples.specs.WrongRewrites.{noneFitsWithoutLooking, ruleOfBInD, family3OneTooFarInB, family4AsFamily3, replacedOnePlaceToTheLeft, placeAtTheEndAccepted, roomCheckedBeforeTheRule, wordCopiedFirst}
 use Rattle.examples.specs.WrongShortest.{verdictByLengthAlone, presentWordUnshortened, roomAskedForANo}
+use Rattle.examples.specs.WrongSplits.{wordsExchanged, bit0ForStep2, oneStepLeft, setCheckedAfterTheWord, oneBitTooMany, firstWordWrittenFirst}
 use Rattle.examples.specs.WrongTables.{rank20InA, factorLeftOut, runningTotals, straightAsLongest, roomOfTheListOnly, listWrittenFirst}
 use Rattle.examples.specs.WrongBooks.{noBytesRefused, oneByteAccepted, noPresetsRefused3, retiredNotRead, retiredAppended, retiredBeforeLetters, retiredInEveryKind}
 use Rattle.examples.specs.WrongBooks.{countHighByteFirst, offsetAgainstTheTrailer, lastRecordMayStopEarly, opensOtherBytes, onePresetTooMany, preset0ForEveryNumber}
@@ -48,6 +50,7 @@ pub data Told : Type 0 where
   bytes : Outcome ℕ → Told
   rewrite : Step → Told
   tabled : Tabled → Told
+  parted : Parted → Told
   piece : Piecing → Told
   answer : Answer → Told
   verdict : Verdict → Told
@@ -143,6 +146,13 @@ table =
     ∷ differ fallbackAnswer verdictByLengthAlone (λ f. fallback (f 1 2 (1 ∷ []) (2 ∷ []) (lent 1)))
     ∷ differ fallbackAnswer presentWordUnshortened (λ f. fallback (f 1 2 (1 ∷ 1 ∷ []) (1 ∷ []) (lent 1)))
     ∷ differ fallbackAnswer roomAskedForANo (λ f. fallback (f 1 2 (1 ∷ []) (2 ∷ []) []))
+    -- splits
+    ∷ differ splitting wordsExchanged (λ f. parted (f 1 2 1 (1 ∷ 2 ∷ []) (lent 2) (lent 2)))
+    ∷ differ splitting bit0ForStep2 (λ f. parted (f 1 2 1 (1 ∷ 2 ∷ []) (lent 2) (lent 2)))
+    ∷ differ splitting oneStepLeft (λ f. parted (f 1 2 1 (1 ∷ []) (lent 1) (lent 1)))
+    ∷ differ splitting setCheckedAfterTheWord (λ f. parted (f 1 2 4 (9 ∷ []) (lent 1) (lent 1)))
+    ∷ differ splitting oneBitTooMany (λ f. parted (f 1 2 4 [] [] []))
+    ∷ differ splitting firstWordWrittenFirst (λ f. parted (f 1 2 1 (1 ∷ 2 ∷ []) (lent 1) []))
     -- the delay table
     ∷ differ delayTable rank20InA (λ f. tabled (f 1 20 [] [] []))
     ∷ differ delayTable factorLeftOut (λ f. tabled (f 1 1 (lent 2) (lentEntries 2) (lent 1)))

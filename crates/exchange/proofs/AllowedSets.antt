@@ -1,10 +1,12 @@
 -- Sets of allowed steps as numbers: refusal 16 comes exactly when a bit stands for a step above the rank, 0 allows no step, and all bits of the
 -- steps allow each of them.
+--
+-- Sections: bits; refusal 16; no step and all steps.
 -- Assumes nothing.
 use mathlib.Core.Path.{_≡_, refl, sym, ap, _∙_}
 use mathlib.Core.Bool.{Bool, true, false}
-use mathlib.Core.Logic.{_↔_, _⊎_, inl, inr}
-use Prim.Native.Nat.{ℕ, zero, suc, _+_, _-_, _*_, _/_, _%_, _^_, _≤_, _<_}
+use mathlib.Core.Logic.{_↔_}
+use Prim.Native.Nat.{ℕ, zero, suc, _+_, _-_, _/_, _%_, _^_, _≤_, _<_}
 use native.Mathlib.Nat.{div-eq-of-lt, le-div-iff-mul-le, le-trans, lt-of-lt-of-le}
 use native.Mathlib.Omega.{arith}
 use lib.Pow.{pow-pos, pow-mono, shr-shr, ones-split, ones-lt, high, low}
@@ -38,7 +40,7 @@ pow-le-of-bit x t e = cases (leb (2 ^ t) x) refl
 
 -- ---- refusal 16
 
--- "16 when a bit stands for a step above the rank"
+-- "16. A bit stands for a step above the rank."
 pub wrongSet-exactly : (n set : ℕ) → (wrongSet n set ≡ true) ↔ ((s : ℕ) × (n < s) × (allows set s ≡ true))
 unfolding wrongSet allows
 wrongSet-exactly n set = (

@@ -1,5 +1,5 @@
--- A step changes nothing for the steps more than two below it: they make the window shorter after it exactly when they did before. So a search for
--- the lowest such step need go back by two only. By the entries that the steps act on.
+-- A step changes nothing for the steps below its neighbours: they make the window shorter after it exactly when they did before. So a search for
+-- the lowest such step need go back by one only, from step n of D by two. By the entries that the steps act on.
 -- Assumes nothing.
 use mathlib.Core.Path.{_≡_, refl, sym, ap₂, _∙_}
 use mathlib.Core.Bool.{Bool}
@@ -25,11 +25,19 @@ getD-before f (suc p) q [] h = refl
 getD-before f (suc p) zero (x ∷ w) h = refl
 getD-before f (suc p) (suc q) (x ∷ w) h = getD-before f p q w (omega arith)
 
+-- j is below the neighbours of s; step n of D is a neighbour of n − 2
+abbrev pub Far : Kind → ℕ → ℕ → ℕ → Type 0
+Far k n j s = (j + 1 < s) × (k ≡ D → s ≡ n → j + 2 < s)
+
 -- the entries before those that step s acts on; step n of D acts on one more
-act-before : {k : Kind} {n s : ℕ} (q : ℕ) (w : List ℤ) → Sort k n s → q + 2 < s → getD (act k n s w) q (pos 0) ≡ getD w q (pos 0)
-act-before q w (exchanges k n p l) h = rw (act-exchange k n p l) (getD-before exchange p q w (omega arith))
-act-before q w (negates p) h = rw (act-B-last (suc p) p (omega arith)) (getD-before negateFirst p q w (omega arith))
-act-before q w (exchangesNegates p) h = rw (act-D-last (suc (suc p)) p (omega arith)) (getD-before exchangeNegate p q w (omega arith))
+act-before : {k : Kind} {n s : ℕ} (q : ℕ) (w : List ℤ) → Sort k n s → Far k n q s → getD (act k n s w) q (pos 0) ≡ getD w q (pos 0)
+act-before q w (exchanges k n p l) h = rw (act-exchange k n p l) (getD-before exchange p q w (omega (arith, h .0)))
+act-before q w (negates p) h = rw (act-B-last (suc p) p (omega arith)) (getD-before negateFirst p q w (omega (arith, h .0)))
+act-before q w (exchangesNegates p) h =
+    rw (act-D-last (suc (suc p)) p (omega arith)) (getD-before exchangeNegate p q w (omega (arith, h .1 refl refl)))
+
+far-below : (k : Kind) (n i j s : ℕ) → i ≤ j → Far k n j s → Far k n i s
+far-below k n i j s l h = (omega (arith, h .0), λ d e. omega (arith, h .1 d e))
 
 below-lanes : (k : Kind) (n j : ℕ) → suc j < n → suc j < lanes k n
 below-lanes A n j h = omega arith
@@ -37,21 +45,21 @@ below-lanes B n j h = omega arith
 below-lanes D n j h = omega arith
 
 module _ (k : Kind) (n s : ℕ) (w : List ℤ) (h : least k ≤ n) (o : 1 ≤ s) (l : s ≤ n) (a : Accepted k n w) where
-  pub descends-far : (j : ℕ) → 1 ≤ j → j + 2 < s → descends k n j (act k n s w) ≡ descends k n j w
+  pub descends-far : (j : ℕ) → 1 ≤ j → Far k n j s → descends k n j (act k n s w) ≡ descends k n j w
   descends-far zero i g = absurd (omega arith)
   descends-far (suc j) i g =
-      let inside = below-lanes k n j (omega arith) in
+      let inside = below-lanes k n j (omega (arith, g .0)) in
       let sort = sortOf k n s h o l in
       descends-exchange k n j (act k n s w) inside
-      ∙ ap₂ later (act-before j w sort (omega arith)) (act-before (suc j) w sort (omega arith))
+      ∙ ap₂ later (act-before j w sort (far-below k n j (suc j) s (omega arith) g)) (act-before (suc j) w sort g)
       ∙ sym (descends-exchange k n j w inside)
 
-  pub shortens-far : (j : ℕ) → 1 ≤ j → j + 2 < s → shortens k n j (act k n s w) ≡ shortens k n j w
+  pub shortens-far : (j : ℕ) → 1 ≤ j → Far k n j s → shortens k n j (act k n s w) ≡ shortens k n j w
   shortens-far j i g =
-      shortens-descends k n j (act k n s w) h i (omega arith) (act-accepted k n s w a)
+      shortens-descends k n j (act k n s w) h i (omega (arith, g .0)) (act-accepted k n s w a)
       ∙ descends-far j i g
-      ∙ sym (shortens-descends k n j w h i (omega arith) a)
+      ∙ sym (shortens-descends k n j w h i (omega (arith, g .0)) a)
 
   -- where no allowed one of the first t steps makes w shorter, none does after step s
-  pub ended-far : (allowed : ℕ → Bool) (t : ℕ) → t + 2 < s → Ended allowed k n t 1 w → Ended allowed k n t 1 (act k n s w)
-  ended-far allowed t g e j i m b = shortens-far j i (omega arith) ∙ e j i m b
+  pub ended-far : (allowed : ℕ → Bool) (t : ℕ) → Far k n t s → Ended allowed k n t 1 w → Ended allowed k n t 1 (act k n s w)
+  ended-far allowed t g e j i m b = shortens-far j i (far-below k n j t s (omega arith) g) ∙ e j i m b

@@ -16,6 +16,8 @@ pub mod Allowed
 pub mod AllowedSets
 pub mod Splitting
 pub mod Stripping
+pub mod SplitOutcomes
+pub mod Splits
 pub mod FarSteps
 pub mod Between
 pub mod Reading

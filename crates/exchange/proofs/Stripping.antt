@@ -140,7 +140,7 @@ front-shortens k n s u x h a m q =
 
 -- w stripped from the front to the inverse of x
 module _ (allowed : ℕ → Bool) (k : Kind) (n : ℕ) (w x : List ℤ) (h : least k ≤ n) (a : Accepted k n w) (r : Strips allowed k n (inverse w) x) where
-  rest-accepted : Accepted k n x
+  pub rest-accepted : Accepted k n x
   rest-accepted = rw (← r .leads) (windowFrom-accepted k n (inverse w) (r .word) (inverse-accepted k n w a))
 
   -- what was taken off is the window of the steps taken
@@ -151,7 +151,7 @@ module _ (allowed : ℕ → Bool) (k : Kind) (n : ℕ) (w x : List ℤ) (h : lea
       ∙ ap (λ (v : List ℤ). product v (window k n (r .word))) (product-inverse k n w a)
       ∙ straight-product (lanes k n) (window k n (r .word)) (accepted-between k n (window k n (r .word)) (window-accepted k n (r .word)))
 
-  taken-accepted : Accepted k n (product w x)
+  pub taken-accepted : Accepted k n (product w x)
   taken-accepted = rw taken (window-accepted k n (r .word))
 
   abbrev first : List ℕ

@@ -1,24 +1,30 @@
 -- Words with their values: definitions at small ranks, computed, and words that a definition shuts out. What has another value here is another
 -- definition.
 --
--- Sections: one letter; fallbacks.
+-- Sections: one letter; fallbacks; splits.
 -- Assumes nothing.
 use mathlib.Core.Path.{_≡_, refl}
 use mathlib.Core.List.{List, [], _∷_}
-use Prim.Native.Nat.{_≤_}
+use Prim.Native.Nat.{ℕ, _≤_}
 use native.Mathlib.Omega.{arith}
 use Rattle.coxeter.specs.Kinds.{A, kindOf, up}
-use Rattle.coxeter.specs.Windows.{from, exchange, negateFirst, exchangeNegate, act, windowFrom, straight, window, signed, placeFrom}
+use Rattle.coxeter.specs.Windows.{from, exchange, negateFirst, exchangeNegate, act, windowFrom, straight, window, at, product, signed, placeFrom, inverse}
 use Rattle.coxeter.specs.Length.{later, negative, one, laterThan, inversions, negativeSumPairs, negatives, crossings, total, windowLength}
 use Rattle.coxeter.specs.Checks.{wrongKind, wrongRank, tooLong, wrongLetter, tooShort, rankRefusal, wordRefusal}
 use Rattle.coxeter.specs.NormalForm.{down, rise, fall, block, without, indexOf, restOf, normalFrom, normalForm}
-use Rattle.coxeter.specs.Calls.{sameEntry, sameWindow}
+use Rattle.coxeter.specs.Calls.{sameEntry, sameWindow, written}
 use Rattle.coxeter.proofs.Vectors.{Agree}
 use Rattle.exchange.specs.declared.Fallback.{Fallback}
 use Rattle.exchange.specs.declared.Fallback.the-variants.{Kept, No, Refused}
+use Rattle.exchange.specs.declared.Split.{Split}
+use Rattle.exchange.specs.declared.Split.the-variants as split
 use Rattle.exchange.specs.OneLetter.{Shortest, dropAt}
+use Rattle.exchange.specs.Shortening.{shortens}
 use Rattle.exchange.specs.Fallback.{lettersAt, somePart, fallsBack}
+use Rattle.exchange.specs.Allowed.{allows, wrongSet, setRefusal}
+use Rattle.exchange.specs.Split.{lowest, stripped, restInverse, firstWord, secondWord}
 use Rattle.exchange.specs.Calls.{fallbackOf, fallbackAnswer}
+use Rattle.exchange.specs.SplitCalls.{Parted, splitOf, parts, splitting}
 
 -- ---- one letter
 
@@ -63,3 +69,34 @@ unfolding fallbacks fallbackAnswer fallbackOf fallsBack somePart sameWindow same
     later negative one laterThan inversions negativeSumPairs negatives crossings total windowLength
     wrongKind wrongRank tooLong wrongLetter tooShort rankRefusal wordRefusal down rise fall block without indexOf restOf normalFrom normalForm
 fallbacks-agree = refl
+
+-- ---- splits
+
+-- A2, the word 1 2 1, window 3 2 1: of step 1 the first word 1 and the second 2 1; of step 2 the words 2 and 1 2, where the normal form of 1 2 is
+-- itself; of none and of both. B2, the word 1 2 1 2 by step 2; D4, the word 4 2 by step 4, the bit 8. Refusals in their order: kind, rank, a bit above the
+-- rank, the word, and 14 for either output, with nothing written.
+told : Split → List ℕ → List ℕ → Parted
+told a first second = record { answer = a; first = first; second = second }
+
+pub splits : List (Parted × Parted)
+splits =
+    (splitting 1 2 1 (1 ∷ 2 ∷ 1 ∷ []) (9 ∷ 9 ∷ []) (9 ∷ 9 ∷ 9 ∷ []), told (split.Words 1 2) (1 ∷ 9 ∷ []) (2 ∷ 1 ∷ 9 ∷ []))
+    ∷ (splitting 1 2 2 (1 ∷ 2 ∷ 1 ∷ []) (9 ∷ 9 ∷ []) (9 ∷ 9 ∷ 9 ∷ []), told (split.Words 1 2) (2 ∷ 9 ∷ []) (1 ∷ 2 ∷ 9 ∷ []))
+    ∷ (splitting 1 2 0 (1 ∷ 2 ∷ 1 ∷ []) [] (9 ∷ 9 ∷ 9 ∷ []), told (split.Words 0 3) [] (2 ∷ 1 ∷ 2 ∷ []))
+    ∷ (splitting 1 2 3 (1 ∷ 2 ∷ 1 ∷ []) (9 ∷ 9 ∷ 9 ∷ []) [], told (split.Words 3 0) (2 ∷ 1 ∷ 2 ∷ []) [])
+    ∷ (splitting 2 2 2 (1 ∷ 2 ∷ 1 ∷ 2 ∷ []) (9 ∷ []) (9 ∷ 9 ∷ 9 ∷ []), told (split.Words 1 3) (2 ∷ []) (1 ∷ 2 ∷ 1 ∷ []))
+    ∷ (splitting 3 4 8 (4 ∷ 2 ∷ []) (9 ∷ []) (9 ∷ []), told (split.Words 1 1) (4 ∷ []) (2 ∷ []))
+    ∷ (splitting 4 0 1 (9 ∷ []) (9 ∷ []) (9 ∷ []), told (split.Refused 5) (9 ∷ []) (9 ∷ []))
+    ∷ (splitting 1 0 1 (9 ∷ []) (9 ∷ []) (9 ∷ []), told (split.Refused 6) (9 ∷ []) (9 ∷ []))
+    ∷ (splitting 1 2 4 (9 ∷ []) (9 ∷ []) (9 ∷ []), told (split.Refused 16) (9 ∷ []) (9 ∷ []))
+    ∷ (splitting 1 2 3 (9 ∷ []) (9 ∷ []) (9 ∷ []), told (split.Refused 8) (9 ∷ []) (9 ∷ []))
+    ∷ (splitting 1 2 1 (1 ∷ 2 ∷ []) [] (9 ∷ []), told (split.Refused 14) [] (9 ∷ []))
+    ∷ (splitting 1 2 1 (1 ∷ 2 ∷ []) (9 ∷ []) [], told (split.Refused 14) (9 ∷ []) [])
+    ∷ []
+
+pub splits-agree : Agree splits
+unfolding splits told splitting parts splitOf written firstWord secondWord restInverse stripped lowest shortens allows wrongSet setRefusal kindOf up
+    from exchange negateFirst exchangeNegate act windowFrom straight window at product signed placeFrom inverse
+    later negative one laterThan inversions negativeSumPairs negatives crossings total windowLength
+    wrongKind wrongRank tooLong wrongLetter tooShort rankRefusal wordRefusal down rise fall block without indexOf restOf normalFrom normalForm
+splits-agree = refl

@@ -18,7 +18,7 @@ Over allowed u = over allowed u ≡ true
 unfoldable pub allows : ℕ → ℕ → Bool
 allows set s = eqb (set / 2 ^ (s - 1) % 2) 1
 
--- "16 when a bit stands for a step above the rank": the bits of the n steps make a number below 2 to the n
+-- "16. A bit stands for a step above the rank.": the bits of the n steps make a number below 2 to the n
 unfoldable pub wrongSet : ℕ → ℕ → Bool
 wrongSet n set = leb (2 ^ n) set
 

@@ -7,3 +7,4 @@ pub mod Allowed
 pub mod Split
 pub mod Between
 pub mod Calls
+pub mod SplitCalls

@@ -6,3 +6,9 @@ pub enum Fallback {
     No,
     Refused(u8),
 }
+
+// A preset split by allowed steps: the lengths of the two words, or the refusal's number.
+pub enum Split {
+    Words { first: usize, second: usize },
+    Refused(u8),
+}

@@ -55,6 +55,8 @@ struct Outputs {
     fields: Vec<u64>,
     counts: [usize; 3],
     places: Vec<u16>,
+    second: Vec<u8>,
+    written: [usize; 2],
 }
 
 /// The time of one call in nanoseconds, by its table, row and column.
@@ -196,6 +198,8 @@ fn main() {
         fields: vec![0; 5 * 10_922],
         counts: [0; 3],
         places: vec![0; 4096],
+        second: vec![0; 4096],
+        written: [0; 2],
     };
     let mut bench = Bench { filter, outputs, cells: Vec::new() };
     let mut random = Random(2026);
@@ -208,6 +212,7 @@ fn main() {
             windows(&mut bench, &mut random, kind, rank, &rig);
             rewrites(&mut bench, &mut random, kind, rank, &rig);
             shortest(&mut bench, &mut random, kind, rank, &rig);
+            splits(&mut bench, &mut random, kind, rank, &rig);
         }
     }
     tables(&mut bench);
@@ -383,6 +388,25 @@ fn shortest(bench: &mut Bench, random: &mut Random, kind: u32, rank: u32, rig: &
             |k, out| rattle::fallback(kind, rank, black_box(&words[k]), black_box(&parts[k]), &mut out.places),
             |k, out| plain::fallback(kind, rank, black_box(&words[k]), black_box(&parts[k]), &mut out.places),
         );
+    }
+}
+
+fn splits(bench: &mut Bench, random: &mut Random, kind: u32, rank: u32, rig: &str) {
+    let all = u64::MAX >> (64 - rank);
+    let half: Vec<u64> = (0..INPUTS).map(|_| random.next() & all).collect();
+    for (call, sets) in [("split by half of the steps", half), ("split by all steps", vec![all; INPUTS])] {
+        for letters in LETTERS {
+            let words = random.words(rank, letters);
+            let word = |k: usize| black_box(&words[k][..]);
+            let set = |k: usize| black_box(sets[k]);
+            bench.cell(
+                call,
+                rig,
+                format!("{letters} letters"),
+                |k, out| rattle::split(kind, rank, set(k), word(k), &mut out.bytes, &mut out.second, &mut out.written),
+                |k, out| plain::split(kind, rank, set(k), word(k), &mut out.bytes, &mut out.second, &mut out.written),
+            );
+        }
     }
 }
 

@@ -18,6 +18,7 @@ mod rewriting;
 mod safe;
 mod shortest;
 mod sides;
+mod splits;
 
 use sides::Sides;
 use std::process::ExitCode;
@@ -80,6 +81,10 @@ fn main() -> ExitCode {
     group("two letters to drop: all words of up to 6 letters of small ranks", &shortest::two_letters);
     group("fallbacks: all pairs of windows of small ranks, from every shortest word", &fallbacks::pairs);
     group("fallbacks: 200,000 random pairs of words", &|sides| fallbacks::random(sides, 200_000));
+    group("splits: all windows and all sets of small ranks, against all pairs of words", &splits::pairs);
+    group("splits: all words of up to 4 letters of small ranks, all sets", &splits::words);
+    group("splits: two faults at once, bits above the rank, sets at the highest ranks", &splits::edges);
+    group("splits: 200,000 random words and sets", &|sides| splits::random(sides, 200_000));
     group("delay tables: each rank; small ones held to a count over all windows", &exhaustive::delay_tables);
     group("each rule of each rank, whole and cut short", &rewriting::each_rule);
     group("rewriting to the end, at random places", &rewriting::to_the_end);

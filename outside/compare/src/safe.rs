@@ -1,6 +1,6 @@
 //! The safe Rust functions with the parameters and the answers of the C interface: the same number, and in the outputs
 //! what the safe function wrote or returned. None where it cannot be called so, as with a kind that is no byte.
-use winnathey::{Crossings, Edition, Kind, Preset, Refusal, Rewrite, raw};
+use winnathey::{Crossings, Edition, Kind, Preset, Refusal, Rewrite, Split, raw};
 
 /// A kind and a rank that are bytes.
 fn rig(kind: u32, rank: u32) -> Option<(Kind, u8)> {
@@ -109,6 +109,23 @@ pub fn fallback(kind: u32, rank: u32, present: &[u8], simpler: &[u8], places: &m
         Ok(Some(kept)) => kept as i64,
         Err(refusal) => coded(Err(refusal)),
     })
+}
+
+pub fn split(
+    kind: u32,
+    rank: u32,
+    allowed: u64,
+    word: &[u8],
+    first: &mut [u8],
+    second: &mut [u8],
+    written: &mut [usize; 2],
+) -> Option<i64> {
+    let (kind, rank) = rig(kind, rank)?;
+    let answer = winnathey::split(kind, rank, allowed, word, first, second);
+    if let Ok(Split { first, second }) = answer {
+        *written = [first, second];
+    }
+    Some(coded(answer.map(|split| split.first + split.second)))
 }
 
 fn checked(edition: Edition, book: &[u8]) -> Option<i64> {

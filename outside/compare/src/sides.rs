@@ -310,6 +310,23 @@ impl Sides {
         answer
     }
 
+    /// With outputs of so many letters.
+    pub fn split(&mut self, kind: u32, rank: u32, allowed: u64, word: &[u8], first: usize, second: usize) -> i64 {
+        compared!(
+            self, split, (kind, rank, allowed, word),
+            bytes: first => |_| self.rattle.counts.all[GUARD],
+            rule: second => |_| self.rattle.counts.all[GUARD + 1],
+            counts: 2 => |_| 2
+        )
+    }
+
+    /// The two words that the last split of the library wrote.
+    pub fn halves(&self) -> (&[u8], &[u8]) {
+        let front = |output: &'_ Output<u8>, at: usize| GUARD..GUARD + self.rattle.counts.all[at].min(output.length);
+        let (first, second) = (&self.rattle.bytes, &self.rattle.rule);
+        (&first.all[front(first, GUARD)], &second.all[front(second, GUARD + 1)])
+    }
+
     pub fn book_check(&mut self, edition: Edition, book: &[u8]) -> i64 {
         match edition {
             First => compared!(self, book_check, (book),),

@@ -9,6 +9,7 @@ mod book;
 mod checks;
 mod fallback;
 mod rules;
+mod split;
 mod table;
 mod window;
 mod word;
@@ -19,6 +20,7 @@ pub use book::{
 };
 pub use fallback::{NO_FALLBACK, fallback};
 pub use rules::{NONE_FITS, Rule, rewrite, rules};
+pub use split::split;
 
 use checks::{check_preset, check_rank, check_window, check_word};
 use window::{Window, inverse_into, length, product_into};

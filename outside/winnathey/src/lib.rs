@@ -395,6 +395,49 @@ pub fn fallback(
     }
 }
 
+/// The two words into which a word is split: the length of each.
+#[derive(Clone, Copy, PartialEq, Eq, Hash, Debug)]
+pub struct Split {
+    /// Letters of the word over allowed steps.
+    pub first: usize,
+    /// Letters of what is left.
+    pub second: usize,
+}
+
+/// Splits a word by a set of allowed steps, one bit a step, bit 0 for step 1: into a first word over allowed steps and a
+/// second whose window has no shortest word that begins with an allowed step. Both are normal forms, the product of their
+/// windows is the word's window, their lengths add up to its length, and there is just one such pair. Refusals 5, 6, 16, 7,
+/// 8, 14.
+///
+/// ```
+/// use winnathey::{Kind, MAX_NORMAL_FORM, Split, split};
+///
+/// // The normal form of 1 2 1 is 2 1 2; of the steps only 1 is allowed.
+/// let (mut first, mut second) = ([0; MAX_NORMAL_FORM], [0; MAX_NORMAL_FORM]);
+/// let lengths = split(Kind::A, 2, 0b01, &[1, 2, 1], &mut first, &mut second)?;
+/// assert_eq!(lengths, Split { first: 1, second: 2 });
+/// assert_eq!(first[..1], [1]);
+/// assert_eq!(second[..2], [2, 1]);
+///
+/// // There is no step 3.
+/// let refusal = split(Kind::A, 2, 0b100, &[1, 2, 1], &mut first, &mut second).unwrap_err();
+/// assert_eq!(refusal.number(), 16);
+/// # Ok::<(), winnathey::Refusal>(())
+/// ```
+pub fn split(
+    kind: Kind,
+    rank: u8,
+    allowed: u64,
+    word: &[u8],
+    first: &mut [u8],
+    second: &mut [u8],
+) -> Result<Split, Refusal> {
+    let mut written = [0; 2];
+    answered(raw::split(kind.0.into(), rank.into(), allowed, word, first, second, &mut written))?;
+    let [first, second] = written;
+    Ok(Split { first, second })
+}
+
 /// The edition of a book: what a record has before its letters, and how high its rank may be.
 #[derive(Clone, Copy, PartialEq, Eq, Hash, Debug)]
 pub enum Edition {
@@ -543,6 +586,7 @@ mod tests {
         }
         assert_eq!(number(append(Edition::First, &book, Preset { word: &[1; 4096], ..empty }, &mut letters)), 13);
         assert_eq!(number(append(Edition::First, &book, empty, &mut letters[..book.len() + 5])), 14);
+        assert_eq!(number(split(Kind::A, 63, 1 << 63, &[], &mut [], &mut [])), 16);
         assert_eq!(number(preset(Edition::Second, &[1, 2, 2, 0, 0, 0, 0, 1, 0], 0)), 17);
         assert_eq!(number(convert(Edition::Second, &[1, 32, 33, 0, 0, 0, 0, 1, 0], &mut letters)), 18);
         assert_eq!(number(delay_table(Kind::D, 17, &mut [0; MAX_COUNTS], &mut lanes, &mut letters)), 20);

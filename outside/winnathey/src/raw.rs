@@ -135,6 +135,19 @@ mod c {
             places: *mut u16,
             places_len: usize,
         ) -> i64;
+        pub fn winnathey_split(
+            kind: u32,
+            rank: u32,
+            allowed: u64,
+            word: *const u8,
+            word_len: usize,
+            first: *mut u8,
+            first_len: usize,
+            second: *mut u8,
+            second_len: usize,
+            first_written: *mut usize,
+            second_written: *mut usize,
+        ) -> i64;
         pub fn winnathey_book_check(book: *const u8, book_len: usize) -> i64;
         pub fn winnathey_preset(
             book: *const u8,
@@ -352,6 +365,35 @@ pub fn fallback(kind: u32, rank: u32, present: &[u8], simpler: &[u8], places: &m
             simpler.len(),
             places.as_mut_ptr(),
             places.len(),
+        )
+    }
+}
+
+/// The two words into which a word is split by a set of allowed steps, with the length of each in `written`.
+#[inline]
+pub fn split(
+    kind: u32,
+    rank: u32,
+    allowed: u64,
+    word: &[u8],
+    first: &mut [u8],
+    second: &mut [u8],
+    written: &mut [usize; 2],
+) -> i64 {
+    let [first_written, second_written] = written;
+    unsafe {
+        c::winnathey_split(
+            kind,
+            rank,
+            allowed,
+            word.as_ptr(),
+            word.len(),
+            first.as_mut_ptr(),
+            first.len(),
+            second.as_mut_ptr(),
+            second.len(),
+            first_written,
+            second_written,
         )
     }
 }

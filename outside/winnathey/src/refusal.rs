@@ -3,7 +3,7 @@ use std::error::Error;
 use std::fmt;
 
 /// The refusals by their numbers.
-const SENTENCES: [(u8, &str); 18] = [
+const SENTENCES: [(u8, &str); 19] = [
     (1, "the book has 1 byte or more than 65,535 bytes"),
     (2, "two times c, plus 2, exceeds the book's length"),
     (
@@ -22,6 +22,7 @@ const SENTENCES: [(u8, &str); 18] = [
     (12, "the place is the word's length or more"),
     (13, "the appended book would exceed 65,535 bytes"),
     (14, "an output is shorter than the part of the answer that goes there"),
+    (16, "a bit stands for a step above the rank"),
     (17, "the lane count is not n + 1 for A or n for B and D"),
     (18, "a second-edition record going back has more than 32 lanes"),
     (20, "the rank is above 19 for A or above 16 for B or D"),
@@ -150,7 +151,7 @@ mod tests {
 
     #[test]
     fn a_number_without_a_sentence_is_not_known() {
-        assert!((1..=14).chain([17, 18, 20, 21]).all(|number| !Refusal(number).meaning().contains("not know")));
-        assert!([0, 15, 16, 19, 22, 255].iter().all(|&number| Refusal(number).meaning().contains("not know")));
+        assert!((1..=14).chain([16, 17, 18, 20, 21]).all(|number| !Refusal(number).meaning().contains("not know")));
+        assert!([0, 15, 19, 22, 255].iter().all(|&number| Refusal(number).meaning().contains("not know")));
     }
 }

@@ -1,0 +1,2 @@
+-- What the proofs of the module `splitting` share.
+pub mod Halves

@@ -1,0 +1,82 @@
+-- `splitting::split_window` strips the inverse of the window, and has the two words written.
+-- Assumes nothing.
+use Rattle.descents.proofs.Fallbacks.{part-length, part-is}
+use Rattle.descents.proofs.splitting.Halves.{stored-room, stored-is, stored-size, strip-asked, parts-asked, parts-are}
+use borrow.Author.Needs.{needs}
+use Rattle.descents.proofs.splitting.split_window.Statement.{statement}
+use Rattle.descents.proofs.splitting.split_window.Tie as tie
+
+lanes-requires : tie.Need-lanes-requires
+lanes-requires c κs = search needs
+
+inverted-requires : tie.Need-inverted-requires
+inverted-requires c κs = search needs
+
+array-borrow-prefix-rest : tie.Need-array-borrow-prefix-rest
+array-borrow-prefix-rest c = search needs
+
+slice-aggregate-strip : tie.Need-slice-aggregate-strip
+slice-aggregate-strip c =
+    let b = c .before in
+    part-length _ _ _ _ _ (b .inverted .ensures .1) (b .before .lanes .ensures) (b .inverted .ensures .0)
+
+strip-requires : tie.Need-strip-requires
+strip-requires c κs =
+    let b = c .before in
+    let p = b .before .before .before .before .pre in
+    strip-asked _ _ 0 _ _ (p .0) (p .1) (part-is _ _ _ _ _ (b .inverted .ensures .1) (b .before .lanes .ensures))
+
+array-share-prefix-rest : tie.Need-array-share-prefix-rest
+array-share-prefix-rest c =
+    let b = c .before .before .before in
+    let size = part-length _ _ _ _ _ (b .inverted .ensures .1) (b .before .lanes .ensures) (b .inverted .ensures .0) in
+    stored-room _ _ (c .before .strip .last .1 .1 .1 .0) size (c .before .strip .kept .1 .1 .1 .0)
+
+slice-aggregate-write-parts : tie.Need-slice-aggregate-write-parts
+slice-aggregate-write-parts c =
+    let b = c .before .before .before .before in
+    let size = part-length _ _ _ _ _ (b .inverted .ensures .1) (b .before .lanes .ensures) (b .inverted .ensures .0) in
+    stored-size _ _ (c .before .before .strip .last .1 .1 .1 .0) size (c .before .before .strip .kept .1 .1 .1 .0)
+
+write-parts-requires : tie.Need-write-parts-requires
+write-parts-requires c κs =
+    let s = c .before .before .before .before in
+    let b = s .before .before in
+    let l = b .before .lanes .ensures in
+    let p = b .before .before .before .before .pre in
+    let size = part-length _ _ _ _ _ (b .inverted .ensures .1) l (b .inverted .ensures .0) in
+    parts-asked _ _ _ _ _ (p .0) (p .1) (part-is _ _ _ _ _ (b .inverted .ensures .1) l) _ _ (stored-is _ _ _ size (s .strip .kept .1 .1 .1 .0))
+    (s .strip .ensures)
+
+same-length : tie.Need-same-length
+same-length c = search needs
+
+same-length-2 : tie.Need-same-length-2
+same-length-2 c = search needs
+
+returns : tie.Need-returns
+returns c =
+    let f = c .before .before .before .before in
+    let s = f .before .before .before .before .before in
+    let b = s .before .before in
+    let l = b .before .lanes .ensures in
+    let p = b .before .before .before .before .pre in
+    let size = part-length _ _ _ _ _ (b .inverted .ensures .1) l (b .inverted .ensures .0) in
+    parts-are _ _ _ _ _ (p .0) (p .1) (part-is _ _ _ _ _ (b .inverted .ensures .1) l) _ _ (stored-is _ _ _ size (s .strip .kept .1 .1 .1 .0))
+    (s .strip .ensures) _ _ _ _ _ (f .write-parts .ensures)
+
+pub split-window-spec : {M : Type 1} → statement M
+split-window-spec =
+    tie.close
+    (tie.spec
+    lanes-requires
+    inverted-requires
+    array-borrow-prefix-rest
+    slice-aggregate-strip
+    strip-requires
+    array-share-prefix-rest
+    slice-aggregate-write-parts
+    write-parts-requires
+    same-length
+    same-length-2
+    returns)

@@ -1,0 +1,2 @@
+-- What the proofs of the module `stripping` share.
+pub mod Turns

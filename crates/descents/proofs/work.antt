@@ -1,0 +1,2 @@
+-- What the proofs of the module `work` share.
+pub mod Windows
