@@ -35,6 +35,7 @@
  *   16  A bit stands for a step above the rank.
  *   17  The lane count is not n + 1 for A or n for B and D.
  *   18  A second-edition record going back has more than 32 lanes.
+ *   19  No word of any length over the allowed steps leads from the first window to the second.
  *   20  The rank is above 19 for A or above 16 for B or D.
  *   21  A preset of kind A and rank 1 is appended.
  *
@@ -144,6 +145,11 @@ int64_t winnathey_fallback(uint32_t kind, uint32_t rank, const uint8_t *present,
    lengths go to first_written and second_written. Answers the sum of the two. Refusal 14 concerns both outputs, and comes before anything is written. */
 int64_t winnathey_split(uint32_t kind, uint32_t rank, uint64_t allowed, const uint8_t *word, size_t word_len, uint8_t *first, size_t first_len,
                         uint8_t *second, size_t second_len, size_t *first_written, size_t *second_written);
+/* The normal form of the word over the allowed steps that leads from one window to another: of all such words a shortest, and of those the first in the
+   dictionary. Bit 0 of allowed stands for step 1. Where the windows agree it is empty, whatever is allowed. Answers its length. Refusal 16 is checked
+   after 6, and 19 after both windows and before 14. */
+int64_t winnathey_between(uint32_t kind, uint32_t rank, uint64_t allowed, const int8_t *from, size_t from_len, const int8_t *to, size_t to_len,
+                          uint8_t *out, size_t out_len);
 
 /* ---- preset books of the first edition */
 

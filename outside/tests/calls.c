@@ -19,7 +19,7 @@ static uint16_t places[ROOM];
 static size_t counts[ROOM];
 
 static int failed;
-/* The last refusal; of those above 14 the calls have 16, 17, 18, 20 and 21. */
+/* The last refusal; of those above 14 the calls have 16, 17, 18, 19, 20 and 21. */
 #define LAST 21
 
 static int seen[LAST + 1]; /* by the refusal's number; none fits is at 0 */
@@ -260,6 +260,23 @@ static void shortest(void)
     CALL(winnathey_fallback(1, 2, w9, 1, too_long, 4097, places, ROOM));
     CALL(winnathey_fallback(257, 2, w121, 3, w12, 2, places, ROOM));
     CALL(winnathey_fallback(1, 258, w121, 3, w12, 2, places, ROOM));
+
+    CALL(winnathey_between(1, 2, 3, straight3, 3, a2, 3, bytes, 2));
+    CALL(winnathey_between(1, 2, 3, a2, 3, straight3, 3, bytes, ROOM));
+    CALL(winnathey_between(2, 2, 3, b2, 2, b2, 2, bytes, ROOM));
+    CALL(winnathey_between(1, 2, 0, a2, 3, a2, 3, NULL, 0));
+    CALL(winnathey_between(1, 2, 1, straight3, 3, a2, 3, bytes, ROOM));
+    CALL(winnathey_between(1, 2, 0, straight3, 3, a2, 3, NULL, 0));
+    CALL(winnathey_between(1, 2, 3, straight3, 3, a2, 3, bytes, 1));
+    CALL(winnathey_between(1, 2, 3, straight3, 3, a2, 3, NULL, 0));
+    CALL(winnathey_between(1, 2, 4, NULL, 0, NULL, 0, NULL, 0));
+    CALL(winnathey_between(1, 2, UINT64_MAX, straight3, 3, a2, 3, bytes, ROOM));
+    CALL(winnathey_between(1, 2, 3, NULL, 0, a2, 3, bytes, ROOM));
+    CALL(winnathey_between(1, 2, 3, straight3, 3, b2, 2, bytes, ROOM));
+    CALL(winnathey_between(2, 2, 3, least, 2, NULL, 0, bytes, ROOM));
+    CALL(winnathey_between(3, 4, 15, straight4, 4, odd, 4, bytes, ROOM));
+    CALL(winnathey_between(257, 2, 3, straight3, 3, a2, 3, bytes, ROOM));
+    CALL(winnathey_between(1, 258, 3, straight3, 3, a2, 3, bytes, ROOM));
 }
 
 static void splits(void)
@@ -428,7 +445,7 @@ int main(void)
     editions();
 
     for (int k = 0; k <= LAST; k++)
-        if (!seen[k] && (k <= 14 || k == 16 || k == 17 || k == 18 || k == 20 || k == 21)) {
+        if (!seen[k] && (k <= 14 || k == 16 || k == 17 || k == 18 || k == 19 || k == 20 || k == 21)) {
             printf("never: %s %d\n", k == 0 ? "none fits," : "refusal", k);
             failed = 1;
         }

@@ -1,4 +1,6 @@
 -- Calls on shortest words, as a call for C makes them: of a kind and a rank that are bytes, or that checks 5 and 6 refuse alike.
+--
+-- Sections: fallbacks; from one window to another.
 -- Assumes nothing.
 use mathlib.Core.Path.{_≡_, ap, _∙_}
 use mathlib.Core.Logic.{inl, inr}
@@ -9,9 +11,15 @@ use lib.IntN.{ℤ}
 use Rattle.exchange.specs.declared.Fallback.{Fallback}
 use Rattle.exchange.specs.declared.Fallback.the-variants.{Kept}
 use Rattle.exchange.specs.Calls.{FellBack}
+use Rattle.exchange.specs.BetweenCalls.{betweenWindows}
 use Rattle.exchange.proofs.Verdicts.{kept-le, fellBack-alike}
+use Rattle.exchange.proofs.BetweenChecks.{between-alike}
+use Rattle.exchange.proofs.BetweenCalls.{between-fits}
 use Rattle.c_api.specs.Shortest.{fallbackNumber, FallbackNumbered}
-use Rattle.c_api.proofs.Bytes.{byteOf, bytes-or-refused}
+use Rattle.c_api.proofs.Lengths.{Small}
+use Rattle.c_api.proofs.Bytes.{byteOf, bytes-or-refused, Refusable}
+
+-- ---- fallbacks
 
 module _ (k n l m : ℕ) (present simpler places after : List ℕ) (a : Fallback) (e : l ≡ byteOf k) (f : m ≡ byteOf n)
     (h : FellBack l m present simpler places a after) where
@@ -28,3 +36,11 @@ module _ (k n l m : ℕ) (present simpler places after : List ℕ) (a : Fallback
 pub fallback-size : (l m : ℕ) (present simpler places after : List ℕ) (a : Fallback) (s : ℕ) → FellBack l m present simpler places a after
     → a ≡ Kept s → s ≤ 65535
 fallback-size l m present simpler places after a s h q = omega (arith, kept-le l m present simpler places after s (rw q at h))
+
+-- ---- from one window to another
+
+pub betweenWindows-refusable : (set : ℕ) (v w : List ℤ) (out : List ℕ) → Refusable (λ k n. betweenWindows k n set v w out)
+betweenWindows-refusable set v w out = record { alike = λ k n l m e f. between-alike k n l m set v w out e f }
+
+pub betweenWindows-small : (k n set : ℕ) (v w : List ℤ) (out : List ℕ) → Small (betweenWindows k n set v w out .answer)
+betweenWindows-small k n set v w out l e = omega (arith, between-fits k n set v w out l e)

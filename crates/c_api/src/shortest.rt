@@ -1,10 +1,13 @@
 // Calls on shortest words.
 use crate::numbers::byte;
+use crate::numbers::number;
 use crate::numbers::refusal;
 use crate::numbers::size;
 use descents::Fallback;
 use descents::fallback_places;
 ghost use mathlib.Core.Path.{_≡_};
+ghost use Rattle.exchange.specs.BetweenCalls.{betweenWindows};
+ghost use Rattle.c_api.specs.Calls.{Numbered};
 ghost use Rattle.c_api.specs.Shortest.{FallbackNumbered};
 
 // Whether a simpler word's window can be had by removing letters from the normal form of the present word. The places of letters to keep, which count
@@ -24,4 +27,20 @@ pub extern "C" fn winnathey_fallback(
         Fallback::No => -101,
         Fallback::Refused(k) => refusal(k),
     }
+}
+
+// The normal form of the word over the allowed steps that leads from one window to another, written to the front of `out`. Bit 0 of `allowed` stands for
+// step 1. Answers its length. Refusals 5 and 6, 16, 9 to 11 for each window, 19 where no word over the allowed steps leads there, 14.
+#[no_mangle]
+pub extern "C" fn winnathey_between(
+    kind: u32,
+    rank: u32,
+    allowed: u64,
+    from: &[i8],
+    to: &[i8],
+    out: &mut [u8],
+) -> i64
+    ensures { λ r. ⌜ Numbered (betweenWindows kind rank allowed (now (from .entry)) (now (to .entry)) (now (out .entry))) r (now (out .exit)) ⌝ }
+{
+    number(descents::between_windows(byte(kind), byte(rank), allowed, from, to, out))
 }

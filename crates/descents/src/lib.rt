@@ -1,8 +1,9 @@
 // Calls on shortest words: they go by the steps that make a window shorter, which the field calls its descents.
 //
 // No public function has a `requires`: every input is checked in document 01's order, and what a call answers and writes is a definition of
-// exchange/specs/Calls or SplitCalls for every input, refused ones included.
+// exchange/specs for every input, refused ones included.
 mod allowed;
+mod between;
 mod splitting;
 mod steps;
 mod stripping;
@@ -10,6 +11,7 @@ mod walk;
 mod work;
 
 use allowed::set_refusal;
+pub use between::between_windows;
 pub use exchange::Fallback;
 pub use exchange::Split;
 use refusals::lanes;
@@ -17,6 +19,7 @@ use refusals::ranked_words_refusal;
 use refusals::word_refusal;
 use splitting::split_accepted;
 use walk::settle;
+pub use window::Answer;
 use work::no_letters;
 use work::shown;
 use work::write_form;

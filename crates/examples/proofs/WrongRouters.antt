@@ -51,6 +51,9 @@ use Rattle.exchange.specs.Allowed.{allows, wrongSet, setRefusal}
 use Rattle.exchange.specs.Split.{lowest, stripped, restInverse, firstWord, secondWord}
 use Rattle.exchange.specs.SplitCalls.{splitOf, parts, splitting}
 use Rattle.exchange.specs.Calls.{fallbackOf, fallbackAnswer, keptCount, FellBack}
+use Rattle.exchange.specs.Allowed.{over, allows, wrongSet, setRefusal}
+use Rattle.exchange.specs.Between.{between, reachable}
+use Rattle.exchange.specs.BetweenCalls.{unreachable, betweenRefusal, betweenWindows}
 use Rattle.distribution.specs.AllWindows.{keep, lists}
 use Rattle.distribution.specs.AllWindows as all
 use Rattle.distribution.specs.Distribution.{ofLength, distribution, sum}
@@ -161,6 +164,7 @@ unfolding table allDiffer differs numbers ofAnswer ofVerdict ofChoice ofRewrite 
     each family1 family2 family3 family4 families5to7 rules begins fits firstFitting rewritten pastEnd refusedStep usedStep stepBy step
     somePart fallsBack fallbackOf fallbackAnswer
     shortens allows wrongSet setRefusal lowest stripped restInverse firstWord secondWord splitOf parts splitting
+    over between reachable unreachable betweenRefusal betweenWindows
     keep all.each lists all.entries all.windows ofLength distribution sum allNegative longest
     untabled tableRefusal tableOf roomRefusal tabling.tables delayTable
     twoAt two count trailer offset wrongSize wrongCount misplacedFrom misplaced noSuchPreset tooLarge retired wrongRankInBook wrongLaneCount bookRankRefusal
@@ -182,7 +186,7 @@ pub ruled-out : (r : WrongRouter) → List·Memᴰ r table → r .right ≡ r .w
 ruled-out = all-sound table all-differ
 
 -- so many rows, lest one be lost
-pub table-length : length table ≡ 99
+pub table-length : length table ≡ 104
 unfolding table
 table-length = refl
 

@@ -16,6 +16,7 @@ use Rattle.rules.specs.Calls.{Step, step}
 use Rattle.exchange.specs.declared.Fallback.{Fallback}
 use Rattle.exchange.specs.Calls.{fallbackAnswer}
 use Rattle.exchange.specs.SplitCalls.{Parted, splitting}
+use Rattle.exchange.specs.BetweenCalls.{betweenWindows}
 use Rattle.distribution.specs.Calls.{Tabled, delayTable}
 use Rattle.book_format.specs.declared.Edition.the-variants.{First, Second}
 use Rattle.book_format.specs.declared.Opened.{Opened}
@@ -36,6 +37,7 @@ use Rattle.examples.specs.WrongWindows.{ranksNotCompared, kindsCompared,
 use Rattle.examples.specs.WrongRewrites.{noneFitsWithoutLooking, ruleOfBInD, family3OneTooFarInB, family4AsFamily3, replacedOnePlaceToTheLeft, placeAtTheEndAccepted, roomCheckedBeforeTheRule, wordCopiedFirst}
 use Rattle.examples.specs.WrongShortest.{verdictByLengthAlone, presentWordUnshortened, roomAskedForANo}
 use Rattle.examples.specs.WrongSplits.{wordsExchanged, bit0ForStep2, oneStepLeft, setCheckedAfterTheWord, oneBitTooMany, firstWordWrittenFirst}
+use Rattle.examples.specs.WrongShortest.{wayBack, lettersNotAsked, roomBeforeTheWay, windowsBeforeTheSet, bitsOneOff}
 use Rattle.examples.specs.WrongTables.{rank20InA, factorLeftOut, runningTotals, straightAsLongest, roomOfTheListOnly, listWrittenFirst}
 use Rattle.examples.specs.WrongBooks.{noBytesRefused, oneByteAccepted, noPresetsRefused3, retiredNotRead, retiredAppended, retiredBeforeLetters, retiredInEveryKind}
 use Rattle.examples.specs.WrongBooks.{countHighByteFirst, offsetAgainstTheTrailer, lastRecordMayStopEarly, opensOtherBytes, onePresetTooMany, preset0ForEveryNumber}
@@ -153,6 +155,12 @@ table =
     ∷ differ splitting setCheckedAfterTheWord (λ f. parted (f 1 2 4 (9 ∷ []) (lent 1) (lent 1)))
     ∷ differ splitting oneBitTooMany (λ f. parted (f 1 2 4 [] [] []))
     ∷ differ splitting firstWordWrittenFirst (λ f. parted (f 1 2 1 (1 ∷ 2 ∷ []) (lent 1) []))
+    -- from one window to another
+    ∷ differ betweenWindows wayBack (λ f. bytes (f 1 2 3 (pos 1 ∷ pos 2 ∷ pos 3 ∷ []) (pos 2 ∷ pos 3 ∷ pos 1 ∷ []) (lent 2)))
+    ∷ differ betweenWindows lettersNotAsked (λ f. bytes (f 1 2 2 (pos 1 ∷ pos 2 ∷ pos 3 ∷ []) (pos 2 ∷ pos 1 ∷ pos 3 ∷ []) (lent 1)))
+    ∷ differ betweenWindows roomBeforeTheWay (λ f. bytes (f 1 2 2 (pos 1 ∷ pos 2 ∷ pos 3 ∷ []) (pos 2 ∷ pos 1 ∷ pos 3 ∷ []) []))
+    ∷ differ betweenWindows windowsBeforeTheSet (λ f. bytes (f 1 2 4 [] [] []))
+    ∷ differ betweenWindows bitsOneOff (λ f. bytes (f 1 2 1 (pos 1 ∷ pos 2 ∷ pos 3 ∷ []) (pos 2 ∷ pos 1 ∷ pos 3 ∷ []) (lent 1)))
     -- the delay table
     ∷ differ delayTable rank20InA (λ f. tabled (f 1 20 [] [] []))
     ∷ differ delayTable factorLeftOut (λ f. tabled (f 1 1 (lent 2) (lentEntries 2) (lent 1)))

@@ -32,7 +32,7 @@ product-accepted k n v w a b =
     rw (← f) (window-accepted k n (normalForm k n v ++ normalForm k n w))
 
 module _ (k : Kind) (n : ℕ) (v w : List ℤ) (a : Accepted k n v) (b : Accepted k n w) where
-  between-accepted : Accepted k n (product (inverse v) w)
+  pub between-accepted : Accepted k n (product (inverse v) w)
   between-accepted = product-accepted k n (inverse v) w (inverse-accepted k n v a) b
 
   -- a word leads from v to w exactly when it has the window between them

@@ -20,7 +20,10 @@ pub mod SplitOutcomes
 pub mod Splits
 pub mod FarSteps
 pub mod Between
+pub mod BetweenChecks
+pub mod BetweenCalls
 pub mod Reading
 pub mod Tracing
 pub mod Theorems
 pub mod Vectors
+pub mod BetweenVectors

@@ -8,3 +8,4 @@ pub mod Split
 pub mod Between
 pub mod Calls
 pub mod SplitCalls
+pub mod BetweenCalls

@@ -334,6 +334,14 @@ fn windows(bench: &mut Bench, random: &mut Random, kind: u32, rank: u32, rig: &s
         |k, out| rattle::inverse_of_window(kind, rank, window(k), &mut out.lanes),
         |k, out| plain::inverse_of_window(kind, rank, window(k), &mut out.lanes),
     );
+    let all = u64::MAX >> (64 - rank);
+    bench.cell(
+        call,
+        rig,
+        "way to another",
+        |k, out| rattle::between(kind, rank, black_box(all), window(k), other(k), &mut out.bytes),
+        |k, out| plain::between(kind, rank, black_box(all), window(k), other(k), &mut out.bytes),
+    );
 }
 
 fn rewrites(bench: &mut Bench, random: &mut Random, kind: u32, rank: u32, rig: &str) {

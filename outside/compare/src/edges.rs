@@ -24,6 +24,7 @@ fn every_call(sides: &mut Sides, kind: u32, rank: u32, word: &[u8], window: &[i8
     sides.rewrite(kind, rank, word, 0, out, 3);
     sides.fallback(kind, rank, word, &[1], out);
     sides.fallback(kind, rank, &[1], word, out);
+    sides.between(kind, rank, 1, window, window, out);
     sides.append(First, &[0, 0], kind, rank, word, out);
     sides.append(Second, &[0, 0], kind, rank, word, out);
     // A record of this kind and rank in a book, right or wrong.
@@ -203,6 +204,9 @@ pub fn order_of_checks(sides: &mut Sides) {
                 for second in windows {
                     for out in [0, 3, 4, 5] {
                         sides.product_of_windows(kind, rank, first, second, out);
+                        for allowed in [0, 1, 7, 15, 16, 1 << 63, u64::MAX] {
+                            sides.between(kind, rank, allowed, first, second, out);
+                        }
                     }
                 }
                 for out in [0, 3, 4, 5, 40] {

@@ -19,6 +19,7 @@ mod safe;
 mod shortest;
 mod sides;
 mod splits;
+mod ways;
 
 use sides::Sides;
 use std::process::ExitCode;
@@ -85,6 +86,11 @@ fn main() -> ExitCode {
     group("splits: all words of up to 4 letters of small ranks, all sets", &splits::words);
     group("splits: two faults at once, bits above the rank, sets at the highest ranks", &splits::edges);
     group("splits: 200,000 random words and sets", &|sides| splits::random(sides, 200_000));
+    group("from window to window: all pairs and all sets of small ranks, by a search", &ways::pairs);
+    group("from window to window: each bit of the set, and the longest way, at each rank", &ways::bits);
+    group("from window to window: 200,000 random pairs and sets, by single steps", &|sides| {
+        ways::random(sides, 200_000)
+    });
     group("delay tables: each rank; small ones held to a count over all windows", &exhaustive::delay_tables);
     group("each rule of each rank, whole and cut short", &rewriting::each_rule);
     group("rewriting to the end, at random places", &rewriting::to_the_end);

@@ -128,6 +128,10 @@ pub fn split(
     Some(coded(answer.map(|split| split.first + split.second)))
 }
 
+pub fn between(kind: u32, rank: u32, allowed: u64, from: &[i8], to: &[i8], out: &mut [u8]) -> Option<i64> {
+    rig(kind, rank).map(|(kind, rank)| coded(winnathey::between(kind, rank, allowed, from, to, out)))
+}
+
 fn checked(edition: Edition, book: &[u8]) -> Option<i64> {
     Some(coded(winnathey::book_check(edition, book)))
 }

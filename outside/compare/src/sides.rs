@@ -327,6 +327,10 @@ impl Sides {
         (&first.all[front(first, GUARD)], &second.all[front(second, GUARD + 1)])
     }
 
+    pub fn between(&mut self, kind: u32, rank: u32, allowed: u64, from: &[i8], to: &[i8], out: usize) -> i64 {
+        compared!(self, between, (kind, rank, allowed, from, to), bytes: out => whole)
+    }
+
     pub fn book_check(&mut self, edition: Edition, book: &[u8]) -> i64 {
         match edition {
             First => compared!(self, book_check, (book),),

@@ -1,4 +1,4 @@
-//! Checks 5 to 11.
+//! Checks 5 to 11 and 16.
 use crate::{A, B, D, MAX_LETTERS, Refusal, lanes};
 
 /// Hands back the rank as a byte, as steps are.
@@ -10,6 +10,11 @@ pub(crate) fn check_rank(kind: u32, rank: u32) -> Result<u8, Refusal> {
         _ => return Err(5),
     };
     if ranks.contains(&rank) { Ok(rank as u8) } else { Err(6) }
+}
+
+/// A set of steps has no bit above the rank's; at rank 64 there is none.
+pub(crate) fn check_set(rank: u8, allowed: u64) -> Result<(), Refusal> {
+    if allowed.checked_shr(rank.into()).unwrap_or(0) == 0 { Ok(()) } else { Err(16) }
 }
 
 pub(crate) fn check_word(rank: u8, word: &[u8]) -> Result<(), Refusal> {

@@ -5,6 +5,7 @@
 //! call writes nothing, an accepted one only the front of its outputs.
 #![forbid(unsafe_code)]
 
+mod between;
 mod book;
 mod checks;
 mod fallback;
@@ -14,6 +15,7 @@ mod table;
 mod window;
 mod word;
 
+pub use between::between;
 pub use book::{
     append, book_check, preset, presets, second_append, second_book_check, second_preset, second_presets, to_first,
     to_second,

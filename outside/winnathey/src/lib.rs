@@ -438,6 +438,30 @@ pub fn split(
     Ok(Split { first, second })
 }
 
+/// Writes the normal form of the word over allowed steps that leads from one window to another, and answers with its
+/// length: of all such words it is a shortest, and of those the first in the dictionary. Bit 0 of `allowed` stands for
+/// step 1. Where the windows agree the word is empty, whatever is allowed. Refusals 5 and 6, 16, 9 to 11 for `from`, then
+/// for `to`, 19 where no word over the allowed steps leads there, 14.
+///
+/// ```
+/// use winnathey::{Kind, MAX_NORMAL_FORM, between};
+///
+/// let mut out = [0; MAX_NORMAL_FORM];
+/// let length = between(Kind::A, 3, 0b111, &[1, 2, 3, 4], &[3, 2, 1, 4], &mut out)?;
+/// assert_eq!(out[..length], [2, 1, 2]);
+///
+/// // With step 2 locked there is no way, and with steps 1 and 2 alone there is the same.
+/// let refusal = between(Kind::A, 3, 0b101, &[1, 2, 3, 4], &[3, 2, 1, 4], &mut out).unwrap_err();
+/// assert_eq!(refusal.number(), 19);
+/// assert_eq!(between(Kind::A, 3, 0b011, &[1, 2, 3, 4], &[3, 2, 1, 4], &mut out), Ok(3));
+///
+/// assert_eq!(between(Kind::A, 3, 0, &[3, 2, 1, 4], &[3, 2, 1, 4], &mut []), Ok(0));
+/// # Ok::<(), winnathey::Refusal>(())
+/// ```
+pub fn between(kind: Kind, rank: u8, allowed: u64, from: &[i8], to: &[i8], out: &mut [u8]) -> Result<usize, Refusal> {
+    answered(raw::between(kind.0.into(), rank.into(), allowed, from, to, out))
+}
+
 /// The edition of a book: what a record has before its letters, and how high its rank may be.
 #[derive(Clone, Copy, PartialEq, Eq, Hash, Debug)]
 pub enum Edition {

@@ -148,6 +148,17 @@ mod c {
             first_written: *mut usize,
             second_written: *mut usize,
         ) -> i64;
+        pub fn winnathey_between(
+            kind: u32,
+            rank: u32,
+            allowed: u64,
+            from: *const i8,
+            from_len: usize,
+            to: *const i8,
+            to_len: usize,
+            out: *mut u8,
+            out_len: usize,
+        ) -> i64;
         pub fn winnathey_book_check(book: *const u8, book_len: usize) -> i64;
         pub fn winnathey_preset(
             book: *const u8,
@@ -394,6 +405,24 @@ pub fn split(
             second.len(),
             first_written,
             second_written,
+        )
+    }
+}
+
+/// The word over allowed steps that leads from one window to another. Bit 0 of `allowed` stands for step 1.
+#[inline]
+pub fn between(kind: u32, rank: u32, allowed: u64, from: &[i8], to: &[i8], out: &mut [u8]) -> i64 {
+    unsafe {
+        c::winnathey_between(
+            kind,
+            rank,
+            allowed,
+            from.as_ptr(),
+            from.len(),
+            to.as_ptr(),
+            to.len(),
+            out.as_mut_ptr(),
+            out.len(),
         )
     }
 }

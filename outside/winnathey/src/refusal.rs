@@ -3,7 +3,7 @@ use std::error::Error;
 use std::fmt;
 
 /// The refusals by their numbers.
-const SENTENCES: [(u8, &str); 19] = [
+const SENTENCES: [(u8, &str); 20] = [
     (1, "the book has 1 byte or more than 65,535 bytes"),
     (2, "two times c, plus 2, exceeds the book's length"),
     (
@@ -25,6 +25,7 @@ const SENTENCES: [(u8, &str); 19] = [
     (16, "a bit stands for a step above the rank"),
     (17, "the lane count is not n + 1 for A or n for B and D"),
     (18, "a second-edition record going back has more than 32 lanes"),
+    (19, "no word of any length over the allowed steps leads from the first window to the second"),
     (20, "the rank is above 19 for A or above 16 for B or D"),
     (21, "a preset of kind A and rank 1 is appended"),
 ];
@@ -151,7 +152,7 @@ mod tests {
 
     #[test]
     fn a_number_without_a_sentence_is_not_known() {
-        assert!((1..=14).chain([16, 17, 18, 20, 21]).all(|number| !Refusal(number).meaning().contains("not know")));
-        assert!([0, 15, 19, 22, 255].iter().all(|&number| Refusal(number).meaning().contains("not know")));
+        assert!((1..=14).chain([16, 17, 18, 19, 20, 21]).all(|number| !Refusal(number).meaning().contains("not know")));
+        assert!([0, 15, 22, 255].iter().all(|&number| Refusal(number).meaning().contains("not know")));
     }
 }

@@ -1,0 +1,2 @@
+-- What the proofs of the module `between` share.
+pub mod Leading

@@ -1,0 +1,114 @@
+// From one window to another over allowed steps, with no search: the normal form of the window between the two has an allowed letter at every place
+// exactly when some word over the allowed steps leads there, and is then the least of those words.
+use crate::allowed::is_allowed;
+use crate::allowed::set_refusal;
+use crate::work::blank;
+use crate::work::no_letters;
+use refusals::lanes;
+use refusals::ranked_windows_refusal;
+use window::Answer;
+use window::inverse_of_window;
+use window::normal_form_of_window;
+use window::product_of_windows;
+ghost use mathlib.Core.Path.{_≡_};
+ghost use mathlib.Core.Bool.{false, not};
+ghost use lib.ListN.{length};
+ghost use Rattle.coxeter.specs.Kinds as kinds;
+ghost use Rattle.coxeter.specs.Kinds.{kindOf};
+ghost use Rattle.coxeter.specs.Windows.{product, inverse};
+ghost use Rattle.coxeter.specs.Checks.{check, rankRefusal, windowRefusal, wrongLetter};
+ghost use Rattle.coxeter.specs.Calls.{Yields, writes};
+ghost use Rattle.coxeter.proofs.Fronts.{Front};
+ghost use Rattle.exchange.specs.Allowed.{over, allows};
+ghost use Rattle.exchange.specs.Between.{between};
+ghost use Rattle.exchange.specs.BetweenCalls.{betweenWindows};
+
+// Whether every letter of a word of steps is allowed.
+fn are_allowed(allowed: u64, word: &[u8]) -> bool
+    requires { ⌜ wrongLetter 64 (now word) ≡ false ⌝ }
+    ensures { λ r. ⌜ r ≡ over (allows allowed) (now (word .entry)) ⌝ }
+{
+    let mut i = 0;
+    while i < word.len() {
+        if !is_allowed(allowed, word[i] as usize) {
+            return false;
+        }
+        i += 1;
+    }
+    true
+}
+
+// Writes a word of steps to the front of `out`, or refuses with 19 where a letter is not allowed, then 14.
+fn write_allowed(allowed: u64, word: &[u8], out: &mut [u8]) -> Answer
+    requires { ⌜ wrongLetter 64 (now word) ≡ false ⌝ }
+    ensures { λ r. ⌜ Yields (writes (check 19 (not (over (allows allowed) (now (word .entry))))) (now (word .entry)) (now (out .entry)))
+        r (now (out .exit)) ⌝ }
+{
+    if !are_allowed(allowed, word) {
+        return Answer::Refused(19);
+    }
+    let l = word.len();
+    if out.len() < l {
+        return Answer::Refused(14);
+    }
+    bytes::copy(word, out);
+    Answer::Length(l)
+}
+
+// The window between two accepted windows, which leads from the first to the second.
+fn window_between(kind: u8, rank: u8, from: &[i8], to: &[i8]) -> [i8; 64]
+    requires { ⌜ rankRefusal kind rank ≡ 0 ⌝ }
+    requires { ⌜ windowRefusal (kindOf kind) rank (now from) ≡ 0 ⌝ }
+    requires { ⌜ windowRefusal (kindOf kind) rank (now to) ≡ 0 ⌝ }
+    ensures { λ r. ⌜ (64 ≡ length r) × Front 64 (product (inverse (now (from .entry))) (now (to .entry))) r (kinds.lanes (kindOf kind) rank) ⌝ }
+{
+    let m = lanes(kind, rank);
+    let mut back = blank();
+    inverse_of_window(kind, rank, from, &mut back);
+    let mut work = blank();
+    product_of_windows(kind, rank, &back[..m], to, &mut work);
+    work
+}
+
+// Its normal form, at the front of `form`. Answers its length.
+fn write_between(kind: u8, rank: u8, from: &[i8], to: &[i8], form: &mut [u8]) -> usize
+    requires { ⌜ rankRefusal kind rank ≡ 0 ⌝ }
+    requires { ⌜ windowRefusal (kindOf kind) rank (now from) ≡ 0 ⌝ }
+    requires { ⌜ windowRefusal (kindOf kind) rank (now to) ≡ 0 ⌝ }
+    requires { ⌜ 4096 ≡ length (now form) ⌝ }
+    ensures { λ r. ⌜ Front 4096 (between (kindOf kind) rank (now (from .entry)) (now (to .entry))) (now (form .exit)) r ⌝ }
+{
+    let m = lanes(kind, rank);
+    let work = window_between(kind, rank, from, to);
+    let Answer::Length(l) = normal_form_of_window(kind, rank, &work[..m], form) else {
+        return 0;
+    };
+    l
+}
+
+// Writes to the front of `out` the normal form of the word over allowed steps that leads from one window to another, and answers its length: of all
+// words over those steps, of any length, that lead there, a shortest, and of those the first in the dictionary. Bit 0 of `allowed` stands for step 1.
+// Refuses with 5 or 6, then 16, then 9 to 11 for `from`, then 9 to 11 for `to`, then 19 where no word over the allowed steps leads there, then 14
+// where `out` is shorter than the word; `out` is then left as it was.
+pub fn between_windows(
+    kind: u8,
+    rank: u8,
+    allowed: u64,
+    from: &[i8],
+    to: &[i8],
+    out: &mut [u8],
+) -> Answer
+    ensures { λ r. ⌜ Yields (betweenWindows kind rank allowed (now (from .entry)) (now (to .entry)) (now (out .entry))) r (now (out .exit)) ⌝ }
+{
+    let locked = set_refusal(kind, rank, allowed);
+    if locked != 0 {
+        return Answer::Refused(locked);
+    }
+    let refusal = ranked_windows_refusal(kind, rank, from, to);
+    if refusal != 0 {
+        return Answer::Refused(refusal);
+    }
+    let mut form = no_letters();
+    let l = write_between(kind, rank, from, to, &mut form);
+    write_allowed(allowed, &form[..l], out)
+}
