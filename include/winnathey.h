@@ -13,8 +13,8 @@
  *   book      the bytes of a preset book, at most 65,535. c is the count of presets at its end. A record is kind, rank, letter count (two bytes, the low
  *             one first) and letters; in the second edition the lane count is a byte after the rank. A book of no bytes has no presets.
  *
- * Answers: 0 or more is the answer; -k is refusal k, of the first check that fails: in the order below, but 16, 17 and 20 right after 6, and 18 and 21
- * right after 8. A refused call writes nothing. An accepted call that writes puts its answer at the front of the output, answers the length written,
+ * Answers: 0 or more is the answer; -k is refusal k, of the first check that fails: in the order below, but 16, 17 and 20 right after 6, 18 and 21
+ * right after 8, and 15 and 19 right before 14. A refused call writes nothing. An accepted call that writes puts its answer at the front of the output, answers the length written,
  * and leaves the rest of the output as it was.
  *
  *    1  The book has 1 byte or more than 65,535 bytes.
@@ -32,6 +32,7 @@
  *   12  The place is the word's length or more.
  *   13  The appended book would exceed 65,535 bytes.
  *   14  An output is shorter than the part of the answer that goes there.
+ *   15  One of the three lists has fewer places than the rewriting has steps.
  *   16  A bit stands for a step above the rank.
  *   17  The lane count is not n + 1 for A or n for B and D.
  *   18  A second-edition record going back has more than 32 lanes.
@@ -47,7 +48,7 @@
  * be valid: it may be NULL. Nothing is kept after the call.
  *
  * Room that always suffices: 64 for a window, 4,096 for a normal form or for the places of a fallback, the word's length for a rewritten word, 65,535
- * for a book.
+ * for a book. How long the lists of a rewriting must be, winnathey_rewrite_steps says: at most the square of the word's length.
  */
 #ifndef WINNATHEY_H
 #define WINNATHEY_H
@@ -129,6 +130,18 @@ int64_t winnathey_delay_table(uint32_t kind, uint32_t rank, uint64_t *counts, si
    bytes of rule. Answers the new word's length, or WINNATHEY_NONE_FITS. Refusal 14 concerns both outputs, and comes before either is written. */
 int64_t winnathey_rewrite(uint32_t kind, uint32_t rank, const uint8_t *word, size_t word_len, size_t place, uint8_t *out, size_t out_len,
                           uint8_t *rule, size_t rule_len);
+
+/* ---- the rewriting to its end */
+
+/* How many steps winnathey_rewrite_to_end takes: so many places each of its lists must have. */
+int64_t winnathey_rewrite_steps(uint32_t kind, uint32_t rank, const uint8_t *word, size_t word_len);
+
+/* Rewrites a word always at the lowest place where a rule fits, until none fits. To the three lists go the rule's family, the place, which counts from 0,
+   and the word's length after it, for each step; to out the final word, which is the normal form, and to *final_len its length. Answers the number of
+   steps. winnathey_rewrite at the places of the list replays it. Refusals 15 and 14 come before anything is written, and a refusal leaves *final_len. */
+int64_t winnathey_rewrite_to_end(uint32_t kind, uint32_t rank, const uint8_t *word, size_t word_len, uint8_t *families, size_t families_len,
+                                 uint16_t *places, size_t places_len, uint16_t *lengths, size_t lengths_len, uint8_t *out, size_t out_len,
+                                 size_t *final_len);
 
 /* ---- shortest words */
 

@@ -16,10 +16,11 @@ static uint8_t bytes[ROOM];
 static uint8_t rule[ROOM];
 static uint64_t fields[ROOM];
 static uint16_t places[ROOM];
+static uint16_t sizes[ROOM];
 static size_t counts[ROOM];
 
 static int failed;
-/* The last refusal; of those above 14 the calls have 16, 17, 18, 19, 20 and 21. */
+/* The last refusal. */
 #define LAST 21
 
 static int seen[LAST + 1]; /* by the refusal's number; none fits is at 0 */
@@ -32,6 +33,7 @@ static void fill(void)
     memset(rule, FILL, sizeof rule);
     memset(fields, FILL, sizeof fields);
     memset(places, FILL, sizeof places);
+    memset(sizes, FILL, sizeof sizes);
     memset(counts, FILL, sizeof counts);
 }
 
@@ -47,6 +49,8 @@ static int64_t entry(char output, int i)
         return rule[i];
     case 'p':
         return places[i];
+    case 's':
+        return sizes[i];
     case 'c':
         return (int64_t)counts[i];
     default:
@@ -76,7 +80,8 @@ static void told(const char *call, int64_t answer)
         printf("no fallback");
     else
         printf("%" PRId64, answer);
-    int written = show("lanes") + show("bytes") + show("rule") + show("fields") + show("counts") + show("places");
+    int written = show("lanes") + show("bytes") + show("rule") + show("fields") + show("counts") + show("places")
+                  + show("sizes");
     printf("\n");
     if (answer >= 0)
         return;
@@ -100,6 +105,7 @@ static void told(const char *call, int64_t answer)
 
 static const uint8_t w1[] = {1}, w2[] = {2}, w9[] = {9}, w0[] = {0};
 static const uint8_t w12[] = {1, 2}, w11[] = {1, 1}, w34[] = {3, 4};
+static const uint8_t w133[] = {1, 3, 3}, w12121[] = {1, 2, 1, 2, 1};
 static const uint8_t w121[] = {1, 2, 1}, w212[] = {2, 1, 2}, w1212[] = {1, 2, 1, 2};
 static const uint8_t d5_word[] = {5, 2, 3, 5, 1, 2};
 static const uint8_t too_long[4097] = {0};
@@ -243,6 +249,29 @@ static void rewrites(void)
     CALL(winnathey_rewrite(1, 2, NULL, 0, 0, bytes, 3, rule, 3));
     CALL(winnathey_rewrite(257, 2, w121, 3, 0, bytes, 3, rule, 3));
     CALL(winnathey_rewrite(1, 258, w121, 3, 0, bytes, 3, rule, 3));
+}
+
+static void traces(void)
+{
+    CALL(winnathey_rewrite_steps(1, 3, w133, 3));
+    CALL(winnathey_rewrite_steps(2, 2, w12121, 5));
+    CALL(winnathey_rewrite_steps(1, 2, NULL, 0));
+    CALL(winnathey_rewrite_steps(257, 2, w121, 3));
+    CALL(winnathey_rewrite_steps(1, 258, w121, 3));
+    CALL(winnathey_rewrite_steps(1, 2, w9, 1));
+    CALL(winnathey_rewrite_to_end(1, 3, w133, 3, rule, 3, places, 4, sizes, 5, bytes, 2, counts));
+    CALL(winnathey_rewrite_to_end(2, 2, w12121, 5, rule, 2, places, 2, sizes, 2, bytes, 3, counts));
+    CALL(winnathey_rewrite_to_end(3, 4, w34, 2, rule, ROOM, places, ROOM, sizes, ROOM, bytes, ROOM, counts));
+    CALL(winnathey_rewrite_to_end(1, 2, w11, 2, rule, 1, places, 1, sizes, 1, NULL, 0, counts));
+    CALL(winnathey_rewrite_to_end(1, 2, w212, 3, NULL, 0, NULL, 0, NULL, 0, bytes, 3, counts));
+    CALL(winnathey_rewrite_to_end(1, 3, w133, 3, rule, 2, places, 3, sizes, 3, bytes, 1, counts));
+    CALL(winnathey_rewrite_to_end(1, 3, w133, 3, rule, 3, places, 2, sizes, 3, bytes, 1, counts));
+    CALL(winnathey_rewrite_to_end(1, 3, w133, 3, rule, 3, places, 3, sizes, 2, bytes, 0, counts));
+    CALL(winnathey_rewrite_to_end(1, 3, w133, 3, rule, 3, places, 3, sizes, 3, bytes, 0, counts));
+    CALL(winnathey_rewrite_to_end(1, 2, w212, 3, NULL, 0, NULL, 0, NULL, 0, NULL, 0, counts));
+    CALL(winnathey_rewrite_to_end(4, 2, w121, 3, rule, 0, places, 0, sizes, 0, bytes, 0, counts));
+    CALL(winnathey_rewrite_to_end(1, 258, w121, 3, rule, 1, places, 1, sizes, 1, bytes, 3, counts));
+    CALL(winnathey_rewrite_to_end(1, 2, too_long, 4097, rule, 0, places, 0, sizes, 0, bytes, 0, counts));
 }
 
 static void shortest(void)
@@ -438,6 +467,7 @@ int main(void)
     windows();
     tables();
     rewrites();
+    traces();
     shortest();
     splits();
     books();
@@ -445,7 +475,7 @@ int main(void)
     editions();
 
     for (int k = 0; k <= LAST; k++)
-        if (!seen[k] && (k <= 14 || k == 16 || k == 17 || k == 18 || k == 19 || k == 20 || k == 21)) {
+        if (!seen[k]) {
             printf("never: %s %d\n", k == 0 ? "none fits," : "refusal", k);
             failed = 1;
         }

@@ -4,5 +4,6 @@ pub mod Bytes
 pub mod Outcomes
 pub mod Verdicts
 pub mod SplitNumbers
+pub mod StepNumbers
 pub mod Unchanged
 pub mod Vectors

@@ -16,12 +16,14 @@ use Rattle.coxeter.specs.Calls.{Outcome, answerOf, written, writes}
 use Rattle.coxeter.proofs.Vectors.{Agree}
 use Rattle.rules.specs.Rules.{each, family1, family2, family3, family4, families5to7, rules, begins, fits, firstFitting, rewritten}
 use Rattle.rules.specs.Calls.{pastEnd, refusedStep, usedStep, stepBy, step}
+use Rattle.rules.specs.declared.ToEnd.the-variants as toEnd
 use Rattle.exchange.specs.declared.Fallback.the-variants as fallback
 use Rattle.distribution.specs.declared.Table.the-variants as table
 use Rattle.book_format.specs.declared.Opened.the-variants as opened
 use Rattle.book_format.specs.declared.Preset.the-variants as preset
 use Rattle.c_api.specs.Calls.{refused, numberOf, verdictNumber, choiceNumber, openedNumber, Sorting, sorting, Rewriting, unwritten, rewritingBy, rewriting, presetNumbers, tableNumber}
 use Rattle.c_api.specs.Shortest.{fallbackNumber}
+use Rattle.c_api.specs.Traces.{traceNumber, finalLength}
 
 -- the numbers, each beside what it is
 pub numbers : List (ℤ × ℤ)
@@ -57,6 +59,18 @@ fallbacks =
 pub fallbacks-agree : Agree fallbacks
 unfolding fallbacks refused fallbackNumber
 fallbacks-agree = refl
+
+-- the rewriting to its end: the number of steps and the final word's length, and a refusal leaves that
+pub traces : List ((ℤ × ℕ) × (ℤ × ℕ))
+traces =
+    ((traceNumber (toEnd.Ended 3 1), finalLength (toEnd.Ended 3 1) 9), (pos 3, 1))
+    ∷ ((traceNumber (toEnd.Ended 0 2), finalLength (toEnd.Ended 0 2) 9), (pos 0, 2))
+    ∷ ((traceNumber (toEnd.Refused 15), finalLength (toEnd.Refused 15) 9), (negsuc 14, 9))
+    ∷ []
+
+pub traces-agree : Agree traces
+unfolding traces refused traceNumber finalLength
+traces-agree = refl
 
 -- lengths by sort: the number is the total, and a refusal leaves the three
 pub sortings : List (Sorting × Sorting)

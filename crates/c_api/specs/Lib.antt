@@ -2,3 +2,4 @@
 pub mod Calls
 pub mod Shortest
 pub mod Splits
+pub mod Traces

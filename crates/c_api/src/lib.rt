@@ -6,5 +6,6 @@ pub mod rewriting;
 pub mod shortest;
 pub mod splits;
 pub mod tables;
+pub mod traces;
 pub mod windows;
 pub mod words;

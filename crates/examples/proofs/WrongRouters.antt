@@ -22,6 +22,8 @@ use Rattle.coxeter.specs.declared.Choice.{Choice}
 use Rattle.coxeter.specs.declared.Choice.the-variants as choices
 use Rattle.rules.specs.declared.Rewrite.{Rewrite}
 use Rattle.rules.specs.declared.Rewrite.the-variants as rewrites
+use Rattle.rules.specs.declared.ToEnd.{ToEnd}
+use Rattle.rules.specs.declared.ToEnd.the-variants as ends
 use Rattle.exchange.specs.declared.Fallback.{Fallback}
 use Rattle.exchange.specs.declared.Fallback.the-variants as fallbacks
 use Rattle.exchange.specs.declared.Split.{Split}
@@ -45,6 +47,7 @@ use Rattle.coxeter.specs.Calls.{answerOf, verdictOf, written, writes, windowOfW
 use Rattle.coxeter.proofs.Order.{sameWindow-of-eq}
 use Rattle.rules.specs.Rules.{each, family1, family2, family3, family4, families5to7, rules, begins, fits, firstFitting, rewritten}
 use Rattle.rules.specs.Calls.{pastEnd, refusedStep, usedStep, stepBy, step}
+use Rattle.rules.specs.Traces.{lowestFrom, lowestUse, traceWithin, trace, tooFewPlaces, toEndOf, tracedBy, rewritingToEnd, numberOfSteps}
 use Rattle.exchange.specs.Fallback.{somePart, fallsBack}
 use Rattle.exchange.specs.Shortening.{shortens}
 use Rattle.exchange.specs.Allowed.{allows, wrongSet, setRefusal}
@@ -69,6 +72,7 @@ use Rattle.listing_text.specs.Calls.{lineCountBy, lineCount, firstLine, line, l
 use Rattle.book_format.proofs.BookLaws.{accepted}
 use Rattle.book_format.proofs.Vectors.{too-large-book, appending-too-large, converting-too-large}
 use Rattle.examples.specs.WrongBooks.{bookOf65536Bytes, roomBeforeTheSizeLimit, sizeLimitOfTheOldBook}
+use Rattle.examples.specs.WrongTraces.{behindLast, ones}
 use Rattle.examples.specs.WrongRouters as told
 use Rattle.examples.specs.WrongRouters.{Told, WrongRouter, table}
 
@@ -93,6 +97,10 @@ ofRewrite : Rewrite → List ℤ
 ofRewrite (rewrites.Used f i j l) = pos 0 ∷ pos f ∷ pos i ∷ pos j ∷ pos l ∷ []
 ofRewrite rewrites.NoneFits = pos 1 ∷ []
 ofRewrite (rewrites.Refused r) = pos 2 ∷ pos r ∷ []
+
+ofEnd : ToEnd → List ℤ
+ofEnd (ends.Ended s l) = pos 0 ∷ pos s ∷ pos l ∷ []
+ofEnd (ends.Refused r) = pos 1 ∷ pos r ∷ []
 
 ofFallback : Fallback → List ℤ
 ofFallback (fallbacks.Kept l) = pos 0 ∷ pos l ∷ []
@@ -123,6 +131,7 @@ numbers : Told → List ℤ
 numbers (told.entries o) = ofAnswer (o .answer) ++ o .bytes
 numbers (told.bytes o) = ofAnswer (o .answer) ++ map pos (o .bytes)
 numbers (told.rewrite s) = ofRewrite (s .answer) ++ map pos (s .bytes ++ s .word)
+numbers (told.traced t) = ofEnd (t .answer) ++ map pos ((t .families ++ t .places) ++ (t .lengths ++ t .bytes))
 numbers (told.tabled t) = (ofTable (t .answer) ++ map pos (t .counts)) ++ (t .entries ++ map pos (t .letters))
 numbers (told.parted p) = ofSplit (p .answer) ++ map pos (p .first ++ p .second)
 numbers (told.piece p) = ofPiece (p .answer) ++ map pos (p .bytes)
@@ -153,7 +162,7 @@ allDiffer (r ∷ rs) = differs r && allDiffer rs
 
 -- the one computed fact, with the definitions that the rows pass through, layer by layer
 all-differ : allDiffer table ≡ true
-unfolding table allDiffer differs numbers ofAnswer ofVerdict ofChoice ofRewrite ofFallback ofSplit ofTable ofOpened ofPreset ofPiece
+unfolding table allDiffer differs numbers ofAnswer ofVerdict ofChoice ofRewrite ofEnd ofFallback ofSplit ofTable ofOpened ofPreset ofPiece
     kindOf up from exchange negateFirst exchangeNegate act windowFrom straight window at product signed placeFrom inverse
     later negative one laterThan inversions negativeSumPairs negatives crossings total windowLength before shortlex
     wrongKind wrongRank tooLong wrongLetter wrongLanes hasSize negativeInA wrongAt wrongEntry odd oddNegatives tooShort
@@ -162,6 +171,7 @@ unfolding table allDiffer differs numbers ofAnswer ofVerdict ofChoice ofRewrite 
     answerOf verdictOf written writes windowOfWord productOfWindows inverseOfWindow normalFormOfWindow normalFormOfWord productOfWords inverseOfWord
     lengthOfWindow lengthOfWord sameEntry sameWindow equalWords samePresets presetsEqual handsBack choice
     each family1 family2 family3 family4 families5to7 rules begins fits firstFitting rewritten pastEnd refusedStep usedStep stepBy step
+    lowestFrom lowestUse traceWithin trace tooFewPlaces toEndOf tracedBy rewritingToEnd numberOfSteps behindLast ones
     somePart fallsBack fallbackOf fallbackAnswer
     shortens allows wrongSet setRefusal lowest stripped restInverse firstWord secondWord splitOf parts splitting
     over between reachable unreachable betweenRefusal betweenWindows
@@ -186,7 +196,7 @@ pub ruled-out : (r : WrongRouter) → List·Memᴰ r table → r .right ≡ r .w
 ruled-out = all-sound table all-differ
 
 -- so many rows, lest one be lost
-pub table-length : length table ≡ 104
+pub table-length : length table ≡ 108
 unfolding table
 table-length = refl
 

@@ -3,6 +3,7 @@
 pub mod Examples
 pub mod WrongWindows
 pub mod WrongRewrites
+pub mod WrongTraces
 pub mod WrongTables
 pub mod WrongBooks
 pub mod WrongShortest

@@ -1,6 +1,6 @@
 -- Wrong routers (document 01, "What contracts have to settle", point c, and "Mistakes close at hand"; and others): a wrong answer for each, and an
 -- input at which the call's definition says otherwise. A contract that is an equation with the definition then lets none of them through. The wrong answers
--- are in WrongWindows, WrongRewrites, WrongShortest, WrongSplits, WrongTables and WrongBooks; that each row is wrong is `ruled-out` of proofs/WrongRouters.antt.
+-- are in WrongWindows, WrongRewrites, WrongTraces, WrongShortest, WrongSplits, WrongTables and WrongBooks; that each row is wrong is `ruled-out` of proofs/WrongRouters.antt.
 -- Not here: those that show only at a book of 65,536 bytes, and parts handed back, which no input computes; they too are in that file.
 use mathlib.Core.List.{List, [], _∷_}
 use Prim.Native.Nat.{ℕ}
@@ -13,6 +13,7 @@ use Rattle.coxeter.specs.Kinds.{B}
 use Rattle.coxeter.specs.Checks.{rankRefusal, wordRefusal}
 use Rattle.coxeter.specs.Calls.{Outcome, windowOfWord, productOfWindows, inverseOfWindow, normalFormOfWindow, normalFormOfWord, productOfWords, inverseOfWord, lengthOfWindow, lengthOfWord, presetsEqual}
 use Rattle.rules.specs.Calls.{Step, step}
+use Rattle.rules.specs.Traces.{Traced, rewritingToEnd, numberOfSteps}
 use Rattle.exchange.specs.declared.Fallback.{Fallback}
 use Rattle.exchange.specs.Calls.{fallbackAnswer}
 use Rattle.exchange.specs.SplitCalls.{Parted, splitting}
@@ -35,6 +36,7 @@ use Rattle.examples.specs.WrongWindows.{wordsJoinedTheOtherWay, wordsJoi
 use Rattle.examples.specs.WrongWindows.{letterTotal, usualOrderOfAWindow, usualOrderOfAWord, negativesNotCounted, negatesBeforeItsRange}
 use Rattle.examples.specs.WrongWindows.{ranksNotCompared, kindsCompared, kindOfTheFirstForBoth, secondPresetRefusedFirst, better, laterWordHandedBack, windowsNotCompared, secondOfEqualWords}
 use Rattle.examples.specs.WrongRewrites.{noneFitsWithoutLooking, ruleOfBInD, family3OneTooFarInB, family4AsFamily3, replacedOnePlaceToTheLeft, placeAtTheEndAccepted, roomCheckedBeforeTheRule, wordCopiedFirst}
+use Rattle.examples.specs.WrongTraces.{searchBehindTheLastPlace, outputBeforeTheLists, lettersCounted, shorteningStepsCounted}
 use Rattle.examples.specs.WrongShortest.{verdictByLengthAlone, presentWordUnshortened, roomAskedForANo}
 use Rattle.examples.specs.WrongSplits.{wordsExchanged, bit0ForStep2, oneStepLeft, setCheckedAfterTheWord, oneBitTooMany, firstWordWrittenFirst}
 use Rattle.examples.specs.WrongShortest.{wayBack, lettersNotAsked, roomBeforeTheWay, windowsBeforeTheSet, bitsOneOff}
@@ -51,6 +53,7 @@ pub data Told : Type 0 where
   entries : Outcome ℤ → Told
   bytes : Outcome ℕ → Told
   rewrite : Step → Told
+  traced : Traced → Told
   tabled : Tabled → Told
   parted : Parted → Told
   piece : Piecing → Told
@@ -144,6 +147,11 @@ table =
     ∷ differ step placeAtTheEndAccepted (λ f. rewrite (f 1 2 (1 ∷ []) 1 (lent 1)))
     ∷ differ step roomCheckedBeforeTheRule (λ f. rewrite (f 2 4 (3 ∷ 4 ∷ []) 0 []))
     ∷ differ step wordCopiedFirst (λ f. rewrite (f 1 2 (1 ∷ []) 1 (lent 1)))
+    -- the rewriting to its end
+    ∷ differ rewritingToEnd searchBehindTheLastPlace (λ f. traced (f 1 3 (1 ∷ 3 ∷ 3 ∷ []) (lent 3) (lent 3) (lent 3) (lent 3)))
+    ∷ differ rewritingToEnd outputBeforeTheLists (λ f. traced (f 1 2 (1 ∷ 2 ∷ 1 ∷ []) [] [] [] []))
+    ∷ differ numberOfSteps lettersCounted (λ f. answer (f 1 2 (1 ∷ 1 ∷ [])))
+    ∷ differ numberOfSteps shorteningStepsCounted (λ f. answer (f 1 2 (1 ∷ 2 ∷ 1 ∷ [])))
     -- fallbacks
     ∷ differ fallbackAnswer verdictByLengthAlone (λ f. fallback (f 1 2 (1 ∷ []) (2 ∷ []) (lent 1)))
     ∷ differ fallbackAnswer presentWordUnshortened (λ f. fallback (f 1 2 (1 ∷ 1 ∷ []) (1 ∷ []) (lent 1)))

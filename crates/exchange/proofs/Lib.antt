@@ -23,6 +23,7 @@ pub mod Between
 pub mod BetweenChecks
 pub mod BetweenCalls
 pub mod Reading
+pub mod ReadingSteps
 pub mod Tracing
 pub mod Theorems
 pub mod Vectors

@@ -46,7 +46,7 @@ length-nil : (u : List ℕ) → length u ≡ 0 → u ≡ []
 length-nil [] e = refl
 length-nil (x ∷ u) e = let z : suc (length u) ≡ 0 = e in absurd (omega arith)
 
-nil-irreducible : (k : Kind) (n : ℕ) → least k ≤ n → Irreducible k n []
+pub nil-irreducible : (k : Kind) (n : ℕ) → least k ≤ n → Irreducible k n []
 nil-irreducible k n h r m p = fits-past r [] p (left-nonempty k n h r m) (omega arith)
 
 -- ---- the letter that moves
@@ -86,7 +86,7 @@ reading-next k n w x m o l = record {
 
 module _ (k : Kind) (n : ℕ) (h : least k ≤ n) (z : List ℕ) (q : ℕ) (r : Reading k n z q) where
   -- what has been read up to the letter
-  upto : take (suc q) z ≡ r .front ++ (r .letter ∷ [])
+  pub upto : take (suc q) z ≡ r .front ++ (r .letter ∷ [])
   upto =
       ap (take (suc q)) (r .is ∙ sym (append-snoc (r .front) (r .letter) (r .back)))
       ∙ take-at (r .front ++ (r .letter ∷ [])) (r .back) (suc q) (rw length-append (omega (arith, r .place)))
@@ -116,10 +116,10 @@ module _ (k : Kind) (n : ℕ) (h : least k ≤ n) (z : List ℕ) (q : ℕ) (r : 
 
   module _ (s : Use) (e : lowestUse k n (take (suc q) z) ≡ some s) where
     -- the rule is of the list, and fits there
-    fitting : List·Memᴰ (s .rule) (rules k n) × (fits (s .rule) (r .front ++ (r .letter ∷ [])) (s .place) ≡ true)
+    pub fitting : List·Memᴰ (s .rule) (rules k n) × (fits (s .rule) (r .front ++ (r .letter ∷ [])) (s .place) ≡ true)
     fitting = firstFitting-some (rules k n) _ (s .place) (s .rule) (lowest-some k n _ s (ap (lowestUse k n) (sym upto) ∙ e) .fitting)
 
-    none-before : Irreducible k n (r .front)
+    pub none-before : Irreducible k n (r .front)
     none-before = normal-front k n h (r .front) (r .back) (r .normal) .irreducible
 
     pub reading-length : s .place + length (s .rule .left) ≡ suc q
@@ -133,19 +133,19 @@ module _ (k : Kind) (n : ℕ) (h : least k ≤ n) (z : List ℕ) (q : ℕ) (r : 
         (lowest-of-ending k n h (r .front) (r .letter) none-before (s .rule) (fitting .0) (s .place) (fitting .1) (r .back ++ rest))
 
     -- the left side stands at the end of what has been read up to the letter
-    split : (x : List ℕ) × (length x ≡ s .place) × (r .front ++ (r .letter ∷ []) ≡ x ++ s .rule .left)
+    pub split : (x : List ℕ) × (length x ≡ s .place) × (r .front ++ (r .letter ∷ []) ≡ x ++ s .rule .left)
     split =
         let l : s .place ≤ length (r .front ++ (r .letter ∷ [])) = rw length-append (omega (arith, reading-length, r .place)) in
         let t = fits-split (s .rule) (r .front ++ (r .letter ∷ [])) (s .place) l (fitting .1) in
         let y : t .1 ≡ [] = length-nil (t .1) (omega (arith, simp length-append at (ap length (t .3)), reading-length, r .place, t .2)) in
         (t .0, t .2, t .3 ∙ rw (y, append-nil))
 
-    z-split : z ≡ split .0 ++ (s .rule .left ++ r .back)
+    pub z-split : z ≡ split .0 ++ (s .rule .left ++ r .back)
     z-split =
         r .is ∙ sym (append-snoc (r .front) (r .letter) (r .back)) ∙ ap (λ (w : List ℕ). w ++ r .back) (split .2)
         ∙ append-assoc (split .0) (s .rule .left) (r .back)
 
-    after-is : after z s ≡ split .0 ++ (s .rule .right ++ r .back)
+    pub after-is : after z s ≡ split .0 ++ (s .rule .right ++ r .back)
     after-is = ap₂ (rewritten (s .rule)) z-split (sym (split .1)) ∙ rewritten-split (s .rule) (split .0) (r .back)
 
     -- what follows is not touched

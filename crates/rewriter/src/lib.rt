@@ -1,14 +1,24 @@
-// The rewriter layer: one rewrite at a named place. No public function has a `requires`.
+// The rewriter layer: one rewrite at a named place, and the rewriting to its end. No public function has a `requires`.
+use refusals::preset_refusal;
 pub use rules::Rewrite;
+pub use rules::ToEnd;
 use search::Fitting;
 use search::fitting_rule;
+use tracing::count;
+use tracing::write_trace;
+pub use window::Answer;
 use window::rank_refusal;
 use window::word_refusal;
 use writing::new_length;
 use writing::write_rewritten;
+ghost use mathlib.Core.Path.{_≡_};
 ghost use Rattle.rules.specs.Calls.{Rewrote};
+ghost use Rattle.rules.specs.Traces.{TraceYields, rewritingToEnd, numberOfSteps};
 
+mod carrying;
+mod ending;
 mod search;
+mod tracing;
 mod writing;
 
 // Replaces the left side of the rule that begins at `place` and lies wholly inside the word; at one place at most one rule does. The new
@@ -41,4 +51,54 @@ pub fn rewrite_at(kind: u8, rank: u8, word: &[u8], place: usize, out: &mut [u8])
         j,
         length,
     }
+}
+
+// How many steps the rewriting to its end takes: so many places each list of `rewrite_to_end` must have. Refuses with 5 or 6, then 7 or 8.
+pub fn rewrite_steps(kind: u8, rank: u8, word: &[u8]) -> Answer
+    ensures { λ r. ⌜ r ≡ numberOfSteps kind rank (now (word .entry)) ⌝ }
+{
+    let refusal = preset_refusal(kind, rank, word);
+    if refusal != 0 {
+        return Answer::Refused(refusal);
+    }
+    let counted = count(kind, rank, word);
+    Answer::Length(counted.steps)
+}
+
+// Rewrites always at the lowest place where a rule fits, until none fits. Writes the family, the place and the length left of each step to the fronts
+// of the three lists and the final word, which is the normal form, to the front of `out`. Refuses with 5 or 6, then 7 or 8, then 15 where a list has
+// fewer places than there are steps, then 14 where `out` is too short; lists and output are then left as they were.
+pub fn rewrite_to_end(
+    kind: u8,
+    rank: u8,
+    word: &[u8],
+    families: &mut [u8],
+    places: &mut [u16],
+    lengths: &mut [u16],
+    out: &mut [u8],
+) -> ToEnd
+    ensures { λ r. ⌜ TraceYields (rewritingToEnd kind rank (now (word .entry)) (now (families .entry)) (now (places .entry)) (now (lengths .entry))
+        (now (out .entry))) r (now (families .exit)) (now (places .exit)) (now (lengths .exit)) (now (out .exit)) ⌝ }
+{
+    let refusal = preset_refusal(kind, rank, word);
+    if refusal != 0 {
+        return ToEnd::Refused(refusal);
+    }
+    let counted = count(kind, rank, word);
+    let steps = counted.steps;
+    let length = counted.size;
+    if families.len() < steps {
+        return ToEnd::Refused(15);
+    }
+    if places.len() < steps {
+        return ToEnd::Refused(15);
+    }
+    if lengths.len() < steps {
+        return ToEnd::Refused(15);
+    }
+    if out.len() < length {
+        return ToEnd::Refused(14);
+    }
+    write_trace(kind, rank, word, steps, families, places, lengths, out);
+    ToEnd::Ended { steps, length }
 }

@@ -23,7 +23,7 @@ pub(crate) enum Fitting {
 }
 
 // The step at which the way of a block turns.
-fn corner_of(kind: u8, n: u8) -> u8
+pub(crate) fn corner_of(kind: u8, n: u8) -> u8
     requires { ⌜ least (kindOf kind) ≤ n ⌝ }
     ensures { λ r. ⌜ r ≡ levels (kindOf kind) n ⌝ }
 {
@@ -37,7 +37,7 @@ fn corner_of(kind: u8, n: u8) -> u8
 }
 
 // The last index of the blocks of level i.
-fn last_index_of(kind: u8, n: u8, i: u8) -> u8
+pub(crate) fn last_index_of(kind: u8, n: u8, i: u8) -> u8
     requires { ⌜ (n ≤ 64) × (i ≤ n) ⌝ }
     ensures { λ r. ⌜ r ≡ lastIndex (kindOf kind) n i ⌝ }
 {
@@ -48,7 +48,7 @@ fn last_index_of(kind: u8, n: u8, i: u8) -> u8
 }
 
 // The step after which the way of kind D's blocks goes on with n - 1 or with n; the other kinds have none.
-fn fork_of(kind: u8, n: u8) -> u8
+pub(crate) fn fork_of(kind: u8, n: u8) -> u8
     requires { ⌜ least (kindOf kind) ≤ n ⌝ }
     ensures { λ r. ⌜ r ≡ fork (kindOf kind) n ⌝ }
 {
@@ -62,7 +62,7 @@ fn fork_of(kind: u8, n: u8) -> u8
 }
 
 // The index of the block [i,j] with the letter x after it, or 0 where x leaves the way.
-fn next_index(n: u8, corner: u8, last: u8, j: u8, x: u8) -> u8
+pub(crate) fn next_index(n: u8, corner: u8, last: u8, j: u8, x: u8) -> u8
     requires { ⌜ (n ≤ 64) × (last ≤ 2 * n) × (x ≤ n) ⌝ }
     ensures { λ r. ⌜ r ≡ nextIndex n corner last j x ⌝ }
 {
@@ -108,7 +108,7 @@ fn family_at_end(n: u8, fork: u8, i: u8, x: u8) -> u8
 }
 
 // The family whose left side is [i,j] x, where x leaves the way, or 0.
-fn family_at(n: u8, fork: u8, i: u8, j: u8, x: u8) -> u8
+pub(crate) fn family_at(n: u8, fork: u8, i: u8, j: u8, x: u8) -> u8
     requires { ⌜ (n ≤ 64) × (i ≤ n) × (j ≤ 2 * n) ⌝ }
     ensures { λ r. ⌜ r ≡ familyAt n fork i j x ⌝ }
 {
@@ -137,7 +137,7 @@ fn family_at(n: u8, fork: u8, i: u8, j: u8, x: u8) -> u8
 }
 
 // The j that a rule of the family shows.
-fn shown_index(family: u8, j: u8, x: u8) -> u8
+pub(crate) fn shown_index(family: u8, j: u8, x: u8) -> u8
     ensures { λ r. ⌜ r ≡ shownIndex family j x ⌝ }
 {
     if family == 2 {

@@ -8,7 +8,7 @@ ghost use Rattle.rules.specs.Calls.{atFront};
 ghost use Rattle.rules.proofs.Scan.{firstLetter, shownRule, rightLength};
 
 // `part` written to `out` from `at` on.
-fn copy(part: &[u8], out: &mut [u8], at: usize)
+pub(crate) fn copy(part: &[u8], out: &mut [u8], at: usize)
     requires { ⌜ at + length (now part) ≤ length (now out) ⌝ }
     ensures { λ _. ⌜ now (out .exit) ≡
         take at (now (out .entry)) ++ (now (part .entry) ++ drop (at + length (now (part .entry))) (now (out .entry))) ⌝ }
@@ -39,7 +39,7 @@ fn write_without(word: &[u8], place: usize, left: usize, out: &mut [u8])
 }
 
 // The letter that the right side of families 2 to 7 puts first.
-fn first_letter(n: u8, family: u8, i: u8, j: u8) -> u8
+pub(crate) fn first_letter(n: u8, family: u8, i: u8, j: u8) -> u8
     requires { ⌜ (1 ≤ n) × (i < 255) ⌝ }
     ensures { λ r. ⌜ r ≡ firstLetter n family i j ⌝ }
 {

@@ -128,3 +128,16 @@ first-of-ending k n h r m u p q f e =
     let three : getD u (suc q) 0 ≡ getD (r .left) (suc t) 0 =
     ap (λ (i : ℕ). getD u i 0) (sym d) ∙ letter-of-fits r u p (suc t) f (omega (arith, s .long)) in
     (one ∙ s .lowest t (omega (arith, s .long)) ∙ rw (two, three), omega (arith, s .short))
+
+-- and below every letter between it and these two
+pub between-of-ending : (k : Kind) (n : ℕ) → least k ≤ n → (r : Rule) → List·Memᴰ r (rules k n) → (u : List ℕ) (p q : ℕ) → fits r u p ≡ true
+    → p + length (r .left) ≡ suc (suc q) → (t : ℕ) → p < t → t < q → getD u p 0 < getD u t 0
+between-of-ending k n h r m u p q f e t a b =
+    let s = shape-of-rule k n h r m in
+    let d : ℕ = t - p in
+    let c : length (r .left) ≡ suc (length (s .tail)) = ap length (s .is) in
+    let i : p + d ≡ t = omega arith in
+    let z : p + 0 ≡ p = omega arith in
+    let one : getD u p 0 ≡ s .first = (rw z at (letter-of-fits r u p 0 f (omega arith))) ∙ ap (λ (w : List ℕ). getD w 0 0) (s .is) in
+    let two : getD u t 0 ≡ getD (r .left) d 0 = ap (λ (j : ℕ). getD u j 0) (sym i) ∙ letter-of-fits r u p d f (omega arith) in
+    rw (one, two) (s .higher d (omega arith) (omega arith))

@@ -82,7 +82,7 @@ block-descend k n c i j x e o h q t r =
     block-turn-snoc k n c i (suc j) x e o h (omega arith) t (omega arith)
     ∙ ap (λ (w : List ℕ). w ++ (x ∷ [])) (sym (block-turn k n i j c (suc x) e h q (omega arith) (omega arith) o))
 
-block-last : (k : Kind) (n c i j l : ℕ) → Corner k n c → 1 ≤ i → i ≤ c → j ≤ lastIndex k n i → Last n i j l
+pub block-last : (k : Kind) (n c i j l : ℕ) → Corner k n c → 1 ≤ i → i ≤ c → j ≤ lastIndex k n i → Last n i j l
     → (p : List ℕ) × (block k n i j ≡ p ++ (l ∷ []))
 block-last k n c i j l e o h g (rising q a b) = (span i j, block-up k n i j b ∙ span-snoc i j a ∙ ap (λ (y : ℕ). span i j ++ (y ∷ [])) (sym q))
 block-last k n c i j l e o h g (falling a q) = (span i c ++ slide (suc n) (suc l), block-turn-snoc k n c i j l e o h a g q)

@@ -20,7 +20,7 @@ use Rattle.rules.proofs.Letters.{block-one}
 -- ---- words over the letters of a level
 
 -- every letter is from i to n
-abbrev Letters : ℕ → ℕ → List ℕ → Type 0
+abbrev pub Letters : ℕ → ℕ → List ℕ → Type 0
 Letters i n [] = Unit {0}
 Letters i n (x ∷ u) = (i ≤ x) × (x ≤ n) × Letters i n u
 
@@ -61,6 +61,15 @@ extended-word k n c i j (x ∷ u) e o h g m s t =
       | inl r ↦ rw (r .3) (extended-word k n c i (r .0) u e o h (omega (arith, r .1)) (r .2) (inl (r .1)) (t .2))
       | inr r ↦ inr (reducible-within [] u r)
     ])
+
+-- a word that begins with i and has no lower letter
+pub one-block : (k : Kind) (n i : ℕ) (u : List ℕ) → least k ≤ n → 1 ≤ i → i ≤ levels k n → Letters i n u
+    → ((j : ℕ) × (i ≤ suc j) × (j ≤ lastIndex k n i) × (i ∷ u ≡ block k n i j)) ⊎ Reducible k n (i ∷ u)
+one-block k n i u h o g l =
+    let c = corner-levels k n h in
+    let f = corner-le k n (levels k n) c in
+    rw (block-one k n i h (omega arith)) at
+    (extended-word k n (levels k n) i i u c o g (omega arith) (le-lastIndex k n i i (omega arith) (omega arith)) (inl (omega arith)) l)
 
 -- ---- all levels
 

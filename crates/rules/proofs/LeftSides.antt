@@ -45,7 +45,7 @@ fits-inside r u p o e = elim (decLe p (length u)) [
 abbrev pub lower : ℕ → ℕ → ℕ
 lower l x = pick (ltb x l) x l
 
--- no rule fits after the first letter, which is the lower of the last two, and there are at most 2n letters
+-- no rule fits after the first letter, which is the lower of the last two and below those before them, and there are at most 2n letters
 pub record Shape (k : Kind) (n : ℕ) (l : List ℕ) : Type 0 where
   pub first : ℕ
   pub tail : List ℕ
@@ -54,6 +54,7 @@ pub record Shape (k : Kind) (n : ℕ) (l : List ℕ) : Type 0 where
   pub long : 1 ≤ length tail
   pub short : suc (length tail) ≤ 2 * n
   pub lowest : (t : ℕ) → suc t ≡ length tail → first ≡ lower (getD l t 0) (getD l (suc t) 0)
+  pub higher : (t : ℕ) → 1 ≤ t → t + 2 ≤ length tail → first < getD l t 0
 
 -- a left side has two letters or more
 pub left-two : (k : Kind) (n : ℕ) → least k ≤ n → (r : Rule) → List·Memᴰ r (rules k n) → 2 ≤ length (r .left)
@@ -79,6 +80,7 @@ shape-pair k n i x h o g = record {
   long = omega arith;
   short = omega arith;
   lowest = λ t e. let z : t ≡ 0 = omega arith in rw (z, le-ltb x i g);
+  higher = λ t a b. absurd (omega arith);
 }
 
 -- the first letter again after higher ones
@@ -102,6 +104,11 @@ lowest-turned b i x (suc t) h e =
     let before : getD (b ++ (i ∷ x ∷ [])) t 0 ≡ i = rw z (getD-append-seam b i (x ∷ []) 0) in
     rw (last, before, le-ltb x i (omega arith))
 
+-- higher letters behind the first
+higher-inside : (b c : List ℕ) (i t : ℕ) → ((a : ℕ) → List·Memᴰ a b → i < a) → 1 ≤ t → t ≤ length b → i < getD (i ∷ (b ++ c)) t 0
+higher-inside b c i zero f o l = absurd (omega arith)
+higher-inside b c i (suc t) f o l = rw (List·getD-append b c 0 t l) (f (getD b t 0) (mem-getD b t l))
+
 module _ (k : Kind) (n i j : ℕ) (h : least k ≤ n) (o : 1 ≤ i) (g : i < levels k n) (m : j ≤ lastIndex k n (suc i)) where
   abbrev inner : List ℕ
   inner = block k n (suc i) j
@@ -121,6 +128,8 @@ module _ (k : Kind) (n i j : ℕ) (h : least k ≤ n) (o : 1 ≤ i) (g : i < lev
         short = simp length-append (omega (arith, block-short k n (suc i) j (omega arith) g m));
         lowest = λ t e.
             lowest-closed inner i t (block-at-least k n (suc i) j h (omega arith) g m) (block-nonempty k n (suc i) j (omega arith) g l m) e;
+        higher = λ t a e.
+            higher-inside inner (i ∷ []) i t (block-at-least k n (suc i) j h (omega arith) g m) a (omega (arith, length-append inner (i ∷ [])));
       }
 
   -- a block that came back to its first letter, and a letter that can follow it
@@ -133,6 +142,8 @@ module _ (k : Kind) (n i j : ℕ) (h : least k ≤ n) (o : 1 ≤ i) (g : i < lev
     long = simp length-append (omega arith);
     short = simp length-append (omega (arith, block-short k n (suc i) j (omega arith) g m));
     lowest = λ t e. lowest-turned inner i x t a e;
+    higher = λ t b e.
+        higher-inside inner (i ∷ x ∷ []) i t (block-at-least k n (suc i) j h (omega arith) g m) b (omega (arith, length-append inner (i ∷ x ∷ [])));
   }
 
 -- ---- each left side has one

@@ -13,6 +13,7 @@ pub mod Completeness
 pub mod Scan
 pub mod ScanFamilies
 pub mod ScanRules
+pub mod TwoLetters
 pub mod Calls
 pub mod Unchanged
 pub mod Vectors
@@ -22,5 +23,6 @@ pub mod Theorems
 pub mod Traces
 pub mod Replays
 pub mod BlockWords
+pub mod PartBlocks
 pub mod LeftSides
 pub mod Endings

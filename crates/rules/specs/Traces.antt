@@ -63,7 +63,7 @@ trace k n u = traceWithin k n ((n + 1) ^ length u) u
 
 -- ---- the calls
 
--- "15 when one of the three lists has fewer places than the rewriting has steps"
+-- "15. One of the three lists has fewer places than the rewriting has steps."
 unfoldable pub tooFewPlaces : ℕ → List ℕ → List ℕ → List ℕ → Bool
 tooFewPlaces steps families places lengths = tooShort steps families || (tooShort steps places || tooShort steps lengths)
 
@@ -107,6 +107,11 @@ tracedBy q t families places lengths out =
 unfoldable pub rewritingToEnd : ℕ → ℕ → List ℕ → List ℕ → List ℕ → List ℕ → List ℕ → Traced
 rewritingToEnd k n u families places lengths out =
     tracedBy (rankRefusal k n then wordRefusal n u) (trace (kindOf k) n u) families places lengths out
+
+-- a call answers a and leaves these in the lists and the output, as the outcome t says
+abbrev pub TraceYields : Traced → ToEnd → List ℕ → List ℕ → List ℕ → List ℕ → Type 0
+TraceYields t a families places lengths out =
+    (a ≡ t .answer) × (families ≡ t .families) × (places ≡ t .places) × (lengths ≡ t .lengths) × (out ≡ t .bytes)
 
 -- how many places each list must have
 unfoldable pub numberOfSteps : ℕ → ℕ → List ℕ → Answer

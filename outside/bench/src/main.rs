@@ -3,6 +3,8 @@
 //! Both answer the same call on the same inputs into the same outputs, through functions that are not inlined here: the
 //! archive's, called over the C interface, and `plain`'s, at opt-level 3. Outputs are not cleared in between.
 //! `bench WORD` times only the calls whose names have that word.
+mod traces;
+
 use std::hint::black_box;
 use std::time::{Duration, Instant};
 use winnathey::raw as rattle;
@@ -218,6 +220,9 @@ fn main() {
     tables(&mut bench);
     books(&mut bench, &mut random);
     bench.print();
+    if "rewriting to the end".contains(&bench.filter) {
+        traces::print(&mut random);
+    }
 }
 
 fn words(bench: &mut Bench, random: &mut Random, kind: u32, rank: u32, rig: &str) {

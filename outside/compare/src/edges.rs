@@ -22,6 +22,8 @@ fn every_call(sides: &mut Sides, kind: u32, rank: u32, word: &[u8], window: &[i8
     sides.same((2, 2, &[1]), (kind, rank, word));
     sides.better(kind, rank, word, word);
     sides.rewrite(kind, rank, word, 0, out, 3);
+    sides.rewrite_steps(kind, rank, word);
+    sides.rewrite_to_end(kind, rank, word, [out; 4]);
     sides.fallback(kind, rank, word, &[1], out);
     sides.fallback(kind, rank, &[1], word, out);
     sides.between(kind, rank, 1, window, window, out);

@@ -128,6 +128,8 @@ fn one_word(sides: &mut Sides, kind: u32, rank: u32, word: &[u8]) {
     sides.same((kind, rank, word), (kind, rank, &form));
     sides.better(kind, rank, word, &form);
     sides.better(kind, rank, &form, word);
+    let steps = sides.rewrite_steps(kind, rank, word).max(0) as usize;
+    sides.rewrite_to_end(kind, rank, word, [steps, steps, steps, form.len()]);
     for place in 0..=word.len() {
         let answer = sides.rewrite(kind, rank, word, place, word.len(), 3);
         if answer >= 0 {

@@ -19,6 +19,7 @@ mod safe;
 mod shortest;
 mod sides;
 mod splits;
+mod traces;
 mod ways;
 
 use sides::Sides;
@@ -94,6 +95,7 @@ fn main() -> ExitCode {
     group("delay tables: each rank; small ones held to a count over all windows", &exhaustive::delay_tables);
     group("each rule of each rank, whole and cut short", &rewriting::each_rule);
     group("rewriting to the end, at random places", &rewriting::to_the_end);
+    group("rewriting line by line, replayed, at every rank; lists too short", &traces::replays);
     group("books: the example in both editions, each byte changed, each part", &books::examples);
     group("books: random, damaged, full", &books::others);
     group("books of no bytes and of one byte: every call", &empty::run);

@@ -102,6 +102,29 @@ pub fn rewrite(kind: u32, rank: u32, word: &[u8], place: usize, out: &mut [u8], 
     })
 }
 
+pub fn rewrite_steps(kind: u32, rank: u32, word: &[u8]) -> Option<i64> {
+    rig(kind, rank).map(|(kind, rank)| coded(winnathey::rewrite_steps(kind, rank, word)))
+}
+
+#[expect(clippy::too_many_arguments, reason = "as the C interface has them")]
+pub fn rewrite_to_end(
+    kind: u32,
+    rank: u32,
+    word: &[u8],
+    families: &mut [u8],
+    places: &mut [u16],
+    lengths: &mut [u16],
+    out: &mut [u8],
+    final_len: &mut usize,
+) -> Option<i64> {
+    let (kind, rank) = rig(kind, rank)?;
+    let ended = winnathey::rewrite_to_end(kind, rank, word, families, places, lengths, out);
+    if let Ok(ended) = ended {
+        *final_len = ended.length;
+    }
+    Some(coded(ended.map(|ended| ended.steps)))
+}
+
 pub fn fallback(kind: u32, rank: u32, present: &[u8], simpler: &[u8], places: &mut [u16]) -> Option<i64> {
     let (kind, rank) = rig(kind, rank)?;
     Some(match winnathey::fallback(kind, rank, present, simpler, places) {

@@ -76,6 +76,7 @@ pub struct Side {
     lanes: Output<i8>,
     fields: Output<u64>,
     places: Output<u16>,
+    lengths: Output<u16>,
     counts: Output<usize>,
 }
 
@@ -87,6 +88,7 @@ impl Side {
             lanes: Output::new(),
             fields: Output::new(),
             places: Output::new(),
+            lengths: Output::new(),
             counts: Output::new(),
         }
     }
@@ -288,6 +290,60 @@ impl Sides {
 
     pub fn rewrite(&mut self, kind: u32, rank: u32, word: &[u8], place: usize, out: usize, rule: usize) -> i64 {
         compared!(self, rewrite, (kind, rank, word, place), bytes: out => whole, rule: rule => |_| 3)
+    }
+
+    pub fn rewrite_steps(&mut self, kind: u32, rank: u32, word: &[u8]) -> i64 {
+        compared!(self, rewrite_steps, (kind, rank, word),)
+    }
+
+    /// With three lists and an output of these lengths.
+    pub fn rewrite_to_end(&mut self, kind: u32, rank: u32, word: &[u8], [f, p, l, out]: [usize; 4]) -> i64 {
+        macro_rules! told {
+            ($side:ident, $from:ident) => {{
+                let Side { rule, places, lengths, bytes, counts, .. } = &mut self.$side;
+                let final_len = &mut counts.filled(1)[0];
+                $from::rewrite_to_end(
+                    kind,
+                    rank,
+                    word,
+                    rule.filled(f),
+                    places.filled(p),
+                    lengths.filled(l),
+                    bytes.filled(out),
+                    final_len,
+                )
+            }};
+        }
+        let (answer, expected, safe) = (told!(rattle, rattle), told!(plain, plain), told!(safe, safe));
+        self.safe_calls += u64::from(safe.is_some());
+        let alike = |one: &Side, other: &Side| {
+            one.rule.all == other.rule.all
+                && one.places.all == other.places.all
+                && one.lengths.all == other.lengths.all
+                && one.bytes.all == other.bytes.all
+                && one.counts.all == other.counts.all
+        };
+        let Side { rule, places, lengths, bytes, counts, .. } = &self.rattle;
+        let (steps, one) = (whole(answer), usize::from(answer >= 0));
+        let size = if answer < 0 { 0 } else { counts.all[GUARD] };
+        let kept =
+            rule.kept(steps) && places.kept(steps) && lengths.kept(steps) && bytes.kept(size) && counts.kept(one);
+        let outputs = alike(&self.rattle, &self.plain);
+        let safely = safe.is_none_or(|safe| safe == answer && alike(&self.rattle, &self.safe));
+        self.tally(answer);
+        self.noted(answer == expected && outputs && kept && safely, || {
+            let call = (kind, rank, word, [f, p, l, out]);
+            format!("rewrite_to_end{call:?}: {answer} and {expected}, {outputs} {kept} {safely}")
+        });
+        answer
+    }
+
+    /// The families, places and lengths left that the last rewriting to its end wrote, and its final word.
+    pub fn lines(&self, steps: usize) -> (&[u8], &[u16], &[u16], &[u8]) {
+        let Side { rule, places, lengths, bytes, counts, .. } = &self.rattle;
+        let lines = GUARD..GUARD + steps;
+        let word = GUARD..GUARD + counts.all[GUARD];
+        (&rule.all[lines.clone()], &places.all[lines.clone()], &lengths.all[lines], &bytes.all[word])
     }
 
     /// Several lists of places may serve, so the library's is held to what is asked of it and not to the plain version's.

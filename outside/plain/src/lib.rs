@@ -12,6 +12,7 @@ mod fallback;
 mod rules;
 mod split;
 mod table;
+mod traces;
 mod window;
 mod word;
 
@@ -23,6 +24,7 @@ pub use book::{
 pub use fallback::{NO_FALLBACK, fallback};
 pub use rules::{NONE_FITS, Rule, rewrite, rules};
 pub use split::split;
+pub use traces::{rewrite_steps, rewrite_to_end};
 
 use checks::{check_preset, check_rank, check_window, check_word};
 use window::{Window, inverse_into, length, product_into};

@@ -363,6 +363,71 @@ pub fn rewrite(kind: Kind, rank: u8, word: &[u8], place: usize, out: &mut [u8]) 
     }
 }
 
+/// How many steps [`rewrite_to_end`] takes: so many places each of its lists must have. Refusals 5 to 8.
+///
+/// ```
+/// use winnathey::{Kind, rewrite_steps};
+///
+/// assert_eq!(rewrite_steps(Kind::A, 3, &[1, 3, 3]), Ok(3));
+/// assert_eq!(rewrite_steps(Kind::A, 3, &[3, 1]), Ok(0));
+/// ```
+pub fn rewrite_steps(kind: Kind, rank: u8, word: &[u8]) -> Result<usize, Refusal> {
+    answered(raw::rewrite_steps(kind.0.into(), rank.into(), word))
+}
+
+/// A rewriting to its end: how many steps it took, and the length of the final word.
+#[derive(Clone, Copy, PartialEq, Eq, Hash, Debug)]
+pub struct Ended {
+    pub steps: usize,
+    pub length: usize,
+}
+
+/// Rewrites a word always at the lowest place where a rule fits, until none fits. Writes for each step the rule's family,
+/// the place, counted from 0, and the length left to the fronts of the three lists, and the final word, which is the
+/// normal form, to the front of `out`. [`rewrite_steps`] says how long the lists must be. [`rewrite`] at the places of the
+/// list replays it. Refusals 5 to 8, 15, 14.
+///
+/// ```
+/// use winnathey::{Ended, Kind, MAX_NORMAL_FORM, rewrite_steps, rewrite_to_end};
+///
+/// let word = [1, 2, 1, 2, 1];
+/// let steps = rewrite_steps(Kind::B, 2, &word)?;
+/// let (mut families, mut places, mut lengths) = (vec![0; steps], vec![0; steps], vec![0; steps]);
+/// let mut out = [0; MAX_NORMAL_FORM];
+/// let ended = rewrite_to_end(Kind::B, 2, &word, &mut families, &mut places, &mut lengths, &mut out)?;
+/// assert_eq!(ended, Ended { steps: 2, length: 3 });
+///
+/// let mut lines = vec![format!("{word:?}")];
+/// for step in 0..ended.steps {
+///     let (family, place, length) = (families[step], places[step], lengths[step]);
+///     lines.push(format!("family {family} at place {place}: {length} letters left"));
+/// }
+/// lines.push(format!("{:?}", &out[..ended.length]));
+/// assert_eq!(
+///     lines,
+///     [
+///         "[1, 2, 1, 2, 1]",
+///         "family 4 at place 0: 5 letters left",
+///         "family 1 at place 3: 3 letters left",
+///         "[2, 1, 2]",
+///     ]
+/// );
+/// # Ok::<(), winnathey::Refusal>(())
+/// ```
+pub fn rewrite_to_end(
+    kind: Kind,
+    rank: u8,
+    word: &[u8],
+    families: &mut [u8],
+    places: &mut [u16],
+    lengths: &mut [u16],
+    out: &mut [u8],
+) -> Result<Ended, Refusal> {
+    let mut length = 0;
+    let answer = raw::rewrite_to_end(kind.0.into(), rank.into(), word, families, places, lengths, out, &mut length);
+    answered(answer).map(|steps| Ended { steps, length })
+}
+
 /// Whether a simpler window can be had by removing letters from the normal form of the present word. With a yes the
 /// places of letters to keep, which count from 0 and rise, go to the front of `places`, and the answer is their number:
 /// the length of the simpler window. `None` is a no, which writes nothing. Refusals 5 to 8, the present word's before the

@@ -125,6 +125,22 @@ mod c {
             rule: *mut u8,
             rule_len: usize,
         ) -> i64;
+        pub fn winnathey_rewrite_steps(kind: u32, rank: u32, word: *const u8, word_len: usize) -> i64;
+        pub fn winnathey_rewrite_to_end(
+            kind: u32,
+            rank: u32,
+            word: *const u8,
+            word_len: usize,
+            families: *mut u8,
+            families_len: usize,
+            places: *mut u16,
+            places_len: usize,
+            lengths: *mut u16,
+            lengths_len: usize,
+            out: *mut u8,
+            out_len: usize,
+            final_len: *mut usize,
+        ) -> i64;
         pub fn winnathey_fallback(
             kind: u32,
             rank: u32,
@@ -359,6 +375,44 @@ pub fn rewrite(kind: u32, rank: u32, word: &[u8], place: usize, out: &mut [u8], 
             out.len(),
             rule.as_mut_ptr(),
             rule.len(),
+        )
+    }
+}
+
+/// How many steps [`rewrite_to_end`] takes.
+#[inline]
+pub fn rewrite_steps(kind: u32, rank: u32, word: &[u8]) -> i64 {
+    unsafe { c::winnathey_rewrite_steps(kind, rank, word.as_ptr(), word.len()) }
+}
+
+/// The rewriting of a word to its end.
+#[expect(clippy::too_many_arguments, reason = "as the C interface has them")]
+#[inline]
+pub fn rewrite_to_end(
+    kind: u32,
+    rank: u32,
+    word: &[u8],
+    families: &mut [u8],
+    places: &mut [u16],
+    lengths: &mut [u16],
+    out: &mut [u8],
+    final_len: &mut usize,
+) -> i64 {
+    unsafe {
+        c::winnathey_rewrite_to_end(
+            kind,
+            rank,
+            word.as_ptr(),
+            word.len(),
+            families.as_mut_ptr(),
+            families.len(),
+            places.as_mut_ptr(),
+            places.len(),
+            lengths.as_mut_ptr(),
+            lengths.len(),
+            out.as_mut_ptr(),
+            out.len(),
+            final_len,
         )
     }
 }

@@ -3,7 +3,7 @@ use std::error::Error;
 use std::fmt;
 
 /// The refusals by their numbers.
-const SENTENCES: [(u8, &str); 20] = [
+const SENTENCES: [(u8, &str); 21] = [
     (1, "the book has 1 byte or more than 65,535 bytes"),
     (2, "two times c, plus 2, exceeds the book's length"),
     (
@@ -22,6 +22,7 @@ const SENTENCES: [(u8, &str); 20] = [
     (12, "the place is the word's length or more"),
     (13, "the appended book would exceed 65,535 bytes"),
     (14, "an output is shorter than the part of the answer that goes there"),
+    (15, "one of the three lists has fewer places than the rewriting has steps"),
     (16, "a bit stands for a step above the rank"),
     (17, "the lane count is not n + 1 for A or n for B and D"),
     (18, "a second-edition record going back has more than 32 lanes"),
@@ -152,7 +153,7 @@ mod tests {
 
     #[test]
     fn a_number_without_a_sentence_is_not_known() {
-        assert!((1..=14).chain([16, 17, 18, 19, 20, 21]).all(|number| !Refusal(number).meaning().contains("not know")));
-        assert!([0, 15, 22, 255].iter().all(|&number| Refusal(number).meaning().contains("not know")));
+        assert!((1..=21).all(|number| !Refusal(number).meaning().contains("not know")));
+        assert!([0, 22, 255].iter().all(|&number| Refusal(number).meaning().contains("not know")));
     }
 }

@@ -1,0 +1,108 @@
+-- The turns of `carrying::insert`: the rule that the search hands on is the step of the rewriting, which is noted and made; where there is none, or an equal
+-- letter is struck out, what stands is a normal form.
+--
+-- Sections: the rule that was found; no rule; a letter struck out; a letter carried on.
+-- Assumes nothing.
+use mathlib.Core.Path.{_≡_, refl, sym, ap, subst, _∙_}
+use mathlib.Core.Bool.{false}
+use mathlib.Core.List.{List, _∷_, _++_}
+use mathlib.Core.Option.{Option, none, some}
+use Prim.Native.Nat.{ℕ, suc, _+_, _-_, _≤_, _<_}
+use native.Mathlib.Omega.{arith}
+use lib.ListN.{length, getD, take, drop, set}
+use Rattle.coxeter.specs.Kinds.{Kind}
+use Rattle.coxeter.specs.NormalForm.{levels}
+use Rattle.rules.specs.Traces.{Use, lowestUse}
+use Rattle.rules.proofs.TwoLetters.{exchanging}
+use Rattle.exchange.proofs.Reading.{reading-lower}
+use Rattle.exchange.proofs.ReadingSteps.{after-moved, after-dropped}
+use Rattle.exchange.proofs.Tracing.{Ready, Carried, Inserted, carried-ready, carried-trans, carried-step, inserted-step, inserted-end, inserted-after}
+use Rattle.rewriter.specs.declared.ending.Ending.{Ending}
+use Rattle.rewriter.specs.declared.ending.Ending.the-variants.{Rule, Nothing}
+use Rattle.rewriter.proofs.carrying.Shifting.{put}
+use Rattle.rewriter.proofs.carrying.Passing.{ready-inside}
+use Rattle.rewriter.proofs.ending.Ends.{endingOf}
+
+-- ---- the rule that was found
+
+-- the step at the lowest place has the family f, the place p and y first on its right side
+record Found (o : Option Use) (f p y : ℕ) : Type 0 where
+  pub step : Use
+  pub is : o ≡ some step
+  pub family : step .rule .family ≡ f
+  pub place : step .place ≡ p
+  pub first : getD (step .rule .right) 0 0 ≡ y
+
+found : (o : Option Use) (a : Ending) (f p y : ℕ) → a ≡ endingOf o → a ≡ Rule f p y → Found o f p y
+found none a f p y e z = let c : _≡_ {A = ℕ} 0 1 = cc in absurd (omega arith)
+found (some s) a f p y e z = record { step = s; is = refl; family = (cc); place = (cc); first = (cc) }
+
+not-found : (o : Option Use) (a : Ending) → a ≡ endingOf o → a ≡ Nothing → o ≡ none
+not-found none a e z = refl
+not-found (some s) a e z = let c : _≡_ {A = ℕ} 0 1 = cc in absurd (omega arith)
+
+-- what has been made before, from where the call began
+module _ {k : Kind} {n : ℕ} {rest : List ℕ} {s : ℕ} {families places lengths word : List ℕ} {t : ℕ}
+    (a : Ready k n rest s families places lengths word t) where
+  module _ {s′ : ℕ} {families′ places′ lengths′ word′ : List ℕ} {q : ℕ}
+      (b : Carried k n rest s families places lengths word s′ families′ places′ lengths′ word′ q) where
+    now-ready : Ready k n rest s′ families′ places′ lengths′ word′ q
+    now-ready = carried-ready b a
+
+    pub insert-inside : (q < length word) × (length word ≤ 4096)
+    insert-inside = omega (arith, ready-inside now-ready, b .size, a .short)
+
+    -- ---- no rule
+
+    pub insert-none : (m : Ending) → m ≡ endingOf (lowestUse k n (take (suc q) word′)) → m ≡ Nothing
+        → Inserted k n rest s families places lengths word s′ families′ places′ lengths′ word′ (length word)
+    insert-none m e z = inserted-after b (inserted-end now-ready (not-found _ m e z) (length word) (sym (b .size)))
+
+    -- the letter stands at the word's front
+    pub insert-front : q ≤ 0 → Inserted k n rest s families places lengths word s′ families′ places′ lengths′ word′ (length word)
+    insert-front l = inserted-after b (inserted-end now-ready (nowhere (lowestUse k n (take (suc q) word′)) refl) (length word) (sym (b .size)))
+      where
+        nowhere : (o : Option Use) → lowestUse k n (take (suc q) word′) ≡ o → o ≡ none
+        nowhere none e = refl
+        nowhere (some u) e = absurd (omega (arith, reading-lower k n (now-ready .rank) word′ q (now-ready .reading) u e))
+
+    module _ (f p y : ℕ) (m : Ending) (e : m ≡ endingOf (lowestUse k n (take (suc q) word′))) (z : m ≡ Rule f p y) where
+      have : Found (lowestUse k n (take (suc q) word′)) f p y
+      have = found _ m f p y e z
+
+      pub insert-place : p < q
+      insert-place = omega (arith, reading-lower k n (now-ready .rank) word′ q (now-ready .reading) (have .step) (have .is), have .place)
+
+      -- ---- a letter struck out
+
+      pub insert-pair : f ≡ 1 → p + 2 ≤ length word
+      insert-pair c =
+          let d = after-dropped k n (now-ready .rank) word′ q (now-ready .reading) (have .step) (have .is) (have .family ∙ c) in
+          omega (arith, d .0, have .place, insert-inside)
+
+      pub insert-struck : (families″ places″ lengths″ word″ : List ℕ) → f ≡ 1 → families″ ≡ set families′ s′ 1 → places″ ≡ set places′ s′ p
+          → lengths″ ≡ set lengths′ s′ (length word - 2 + length rest) → take (length word′ - 2) word″ ≡ take p word′ ++ drop (p + 2) word′
+          → Inserted k n rest s families places lengths word (s′ + 1) families″ places″ lengths″ word″ (length word - 2)
+      insert-struck families″ places″ lengths″ word″ c i j l w =
+          let d = after-dropped k n (now-ready .rank) word′ q (now-ready .reading) (have .step) (have .is) (have .family ∙ c) in
+          let g : p + 2 ≡ suc q = omega (arith, d .0, have .place) in
+          let v : take (length word - 2) word″ ≡ take (have .step .place) word′ ++ drop (suc q) word′ = rw (← b .size, have .place, ← g) w in
+          inserted-after b
+          (inserted-step now-ready (have .step) (have .is) (s′ + 1) families″ places″ lengths″ word″ (length word - 2) (have .family ∙ c) refl
+          (i ∙ ap (set families′ s′) (sym (have .family ∙ c))) (j ∙ ap (set places′ s′) (sym (have .place)))
+          (omega (arith, insert-pair c, b .size)) l (v ∙ sym (d .1)))
+
+      -- ---- a letter carried on
+
+      pub insert-carried : (families″ places″ lengths″ word″ : List ℕ) → (f ≡ 1 → ⊥) → families″ ≡ set families′ s′ f → places″ ≡ set places′ s′ p
+          → lengths″ ≡ set lengths′ s′ (length word + length rest) → word″ ≡ put word′ p q y
+          → Carried k n rest s families places lengths word (s′ + 1) families″ places″ lengths″ word″ p
+      insert-carried families″ places″ lengths″ word″ c i j l w =
+          let g : (have .step .rule .family ≡ 1 → ⊥) = λ x. c (sym (have .family) ∙ x) in
+          let d = after-moved k n (now-ready .rank) word′ q (now-ready .reading) (have .step) (have .is) g in
+          let v : word″ ≡ put word′ (have .step .place) q (getD (have .step .rule .right) 0 0) = rw (have .place, have .first) w in
+          carried-trans b
+          (subst (Carried k n rest s′ families′ places′ lengths′ word′ (s′ + 1) families″ places″ lengths″ word″) (have .place)
+          (carried-step now-ready (have .step) (have .is) (s′ + 1) families″ places″ lengths″ word″ g refl
+          (i ∙ ap (set families′ s′) (sym (have .family))) (j ∙ ap (set places′ s′) (sym (have .place)))
+          (l ∙ ap (λ (x : ℕ). set lengths′ s′ (x + length rest)) (sym (b .size))) (v ∙ sym (d .1))))

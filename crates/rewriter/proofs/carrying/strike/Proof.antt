@@ -1,0 +1,66 @@
+-- `carrying::strike` moves the letters behind two by two places, from the first to the last.
+-- Assumes nothing.
+use Prim.Native.Nat.{_-_}
+use native.Mathlib.Omega.{arith}
+use lib.ListN.{length, length-set}
+use Rattle.rewriter.proofs.carrying.Shifting.{Struck, struck-start, struck-next, struck-end}
+use borrow.Author.Needs.{needs}
+use Rattle.rewriter.proofs.carrying.strike.Statement.{statement}
+use Rattle.rewriter.proofs.carrying.strike.Tie as tie
+
+abbrev Inv-loop : tie.InvT-loop
+Inv-loop word₀ place t₀ word t = Struck word₀ place word t
+
+abbrev μ-loop : tie.MeasureT-loop
+μ-loop word₀ place t₀ word t = length word - t
+
+add-t : tie.Need-add-t Inv-loop μ-loop
+add-t c = search needs
+
+loop-holds : tie.Need-loop-holds Inv-loop μ-loop
+loop-holds c = struck-start _ _ (c .pre)
+
+slice-read-word : tie.Need-slice-read-word Inv-loop μ-loop
+slice-read-word c = search needs
+
+sub-word : tie.Need-sub-word Inv-loop μ-loop
+sub-word c = search needs
+
+slice-write-word : tie.Need-slice-write-word Inv-loop μ-loop
+slice-write-word c = search needs
+
+add-t-2 : tie.Need-add-t-2 Inv-loop μ-loop
+add-t-2 c = search needs
+
+loop-less : tie.Need-loop-less Inv-loop μ-loop
+loop-less c =
+    let i = c .before .before .loop .inv in
+    simp length-set (omega (arith, i .size))
+
+loop-again : tie.Need-loop-again Inv-loop μ-loop
+loop-again c =
+    let b = c .before in
+    struck-next _ _ _ _ (b .before .loop .inv) (b .loop-test .taken)
+
+same-length : tie.Need-same-length Inv-loop μ-loop
+same-length c = c .before .loop .inv .size
+
+returns : tie.Need-returns Inv-loop μ-loop
+returns c = struck-end _ _ _ _ (c .before .loop .inv) (c .loop-test .left)
+
+pub strike-spec : {M : Type 1} → statement M
+strike-spec =
+    tie.close
+    (tie.spec
+    Inv-loop
+    μ-loop
+    add-t
+    loop-holds
+    slice-read-word
+    sub-word
+    slice-write-word
+    add-t-2
+    loop-less
+    loop-again
+    same-length
+    returns)

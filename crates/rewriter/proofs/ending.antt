@@ -1,0 +1,3 @@
+-- What the proofs of the module `ending` share.
+pub mod Ends
+pub mod BlockEnds

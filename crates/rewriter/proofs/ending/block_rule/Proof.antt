@@ -1,0 +1,83 @@
+-- `ending::block_rule` goes by the tests of the search: the next index, then the family.
+-- Assumes nothing.
+use Rattle.coxeter.specs.Kinds.{kindOf}
+use Rattle.rewriter.proofs.search.Searches.{lastIndex-le-of}
+use Rattle.rewriter.proofs.ending.Ends.{block-goes-on, block-no-rule, block-has-rule}
+use borrow.Author.Needs.{needs}
+use Rattle.rewriter.proofs.ending.block_rule.Statement.{statement}
+use Rattle.rewriter.proofs.ending.block_rule.Tie as tie
+
+corner-of-requires : tie.Need-corner-of-requires
+corner-of-requires c κs = search needs
+
+last-index-of-requires : tie.Need-last-index-of-requires
+last-index-of-requires c κs = search needs
+
+next-index-requires : tie.Need-next-index-requires
+next-index-requires c κs =
+    let s = c .before .before in
+    (s .pre .0 .2, lastIndex-le-of (kindOf (s .args .kind)) (s .args .n) (s .args .i) _ (c .last-index-of .ensures), s .pre .1 .2)
+
+returns : tie.Need-returns
+returns c =
+    let g = c .before in
+    let m = g .before in
+    let k = m .before in
+    let s = k .before in
+    block-goes-on (kindOf (s .args .kind)) (s .args .n) (s .args .place) (s .args .i) (s .args .j) (s .args .x) _ _ _
+    (k .corner-of .ensures) (m .last-index-of .ensures) (g .next-index .ensures) (c .if1 .taken)
+
+fork-of-requires : tie.Need-fork-of-requires
+fork-of-requires c κs = search needs
+
+family-at-requires : tie.Need-family-at-requires
+family-at-requires c κs = search needs
+
+returns-2 : tie.Need-returns-2
+returns-2 c =
+    let f = c .before in
+    let d = f .before in
+    let a = d .before in
+    let g = a .before in
+    let m = g .before in
+    let k = m .before in
+    let s = k .before in
+    block-no-rule (kindOf (s .args .kind)) (s .args .n) (s .args .place) (s .args .i) (s .args .j) (s .args .x) _ _ _
+    (k .corner-of .ensures) (m .last-index-of .ensures) (g .next-index .ensures)
+    _ _ (a .if1 .left) (d .fork-of .ensures) (f .family-at .ensures) (c .if2 .taken)
+
+shown-index-requires : tie.Need-shown-index-requires
+shown-index-requires c κs = search needs
+
+first-letter-requires : tie.Need-first-letter-requires
+first-letter-requires c κs = search needs
+
+returns-3 : tie.Need-returns-3
+returns-3 c =
+    let v = c .before in
+    let b = v .before in
+    let f = b .before in
+    let d = f .before in
+    let a = d .before in
+    let g = a .before in
+    let m = g .before in
+    let k = m .before in
+    let s = k .before in
+    block-has-rule (kindOf (s .args .kind)) (s .args .n) (s .args .place) (s .args .i) (s .args .j) (s .args .x) _ _ _
+    (k .corner-of .ensures) (m .last-index-of .ensures) (g .next-index .ensures)
+    _ _ (a .if1 .left) (d .fork-of .ensures) (f .family-at .ensures) _ _ (b .if2 .left) (v .shown-index .ensures) (c .first-letter .ensures)
+
+pub block-rule-spec : {M : Type 1} → statement M
+block-rule-spec =
+    tie.close
+    (tie.spec
+    corner-of-requires
+    last-index-of-requires
+    next-index-requires
+    returns
+    fork-of-requires
+    family-at-requires
+    returns-2
+    shown-index-requires
+    first-letter-requires
+    returns-3)

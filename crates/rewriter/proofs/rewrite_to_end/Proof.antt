@@ -1,0 +1,113 @@
+-- `rewrite_to_end` refuses in the order of its checks, with the steps counted first, or writes the rewriting.
+-- Assumes nothing.
+use mathlib.Core.Path.{sym, _∙_}
+use native.Mathlib.Omega.{arith}
+use Rattle.rewriter.proofs.ToEnd.{accepted, traced-refused, families-short, places-short, lengths-short, out-short, traced-done}
+use borrow.Author.Needs.{needs}
+use Rattle.rewriter.proofs.rewrite_to_end.Statement.{statement}
+use Rattle.rewriter.proofs.rewrite_to_end.Tie as tie
+
+preset-refusal-requires : tie.Need-preset-refusal-requires
+preset-refusal-requires c κs = search needs
+
+returns : tie.Need-returns
+returns c =
+    let r = c .before in
+    traced-refused _ _ _ _ (r .preset-refusal .ensures) _ _ _ _ (c .if1 .taken)
+
+count-requires : tie.Need-count-requires
+count-requires c κs =
+    let r = c .before in
+    accepted _ _ _ _ (r .preset-refusal .ensures) (c .if1 .left)
+
+returns-2 : tie.Need-returns-2
+returns-2 c =
+    let n = c .before in
+    let i = n .before in
+    let r = i .before in
+    families-short _ _ _ _ (r .preset-refusal .ensures) _ _ _ _ _ (i .if1 .left) (n .count .ensures .0) (c .if2 .taken)
+
+returns-3 : tie.Need-returns-3
+returns-3 c =
+    let a = c .before in
+    let n = a .before in
+    let i = n .before in
+    let r = i .before in
+    places-short _ _ _ _ (r .preset-refusal .ensures) _ _ _ _ _ (i .if1 .left) (n .count .ensures .0) (a .if2 .left) (c .if3 .taken)
+
+returns-4 : tie.Need-returns-4
+returns-4 c =
+    let b = c .before in
+    let a = b .before in
+    let n = a .before in
+    let i = n .before in
+    let r = i .before in
+    lengths-short _ _ _ _ (r .preset-refusal .ensures) _ _ _ _ _ (i .if1 .left) (n .count .ensures .0) (a .if2 .left) (b .if3 .left) (c .if4 .taken)
+
+returns-5 : tie.Need-returns-5
+returns-5 c =
+    let d = c .before in
+    let b = d .before in
+    let a = b .before in
+    let n = a .before in
+    let i = n .before in
+    let r = i .before in
+    out-short _ _ _ _ (r .preset-refusal .ensures) _ _ _ _ _ (i .if1 .left) (n .count .ensures .0) (a .if2 .left) (b .if3 .left) (d .if4 .left)
+    _ (n .count .ensures .1) (c .if5 .taken)
+
+write-trace-requires : tie.Need-write-trace-requires
+write-trace-requires c κs =
+    let e = c .before .before .before .before in
+    let d = e .before in
+    let b = d .before in
+    let a = b .before in
+    let n = a .before in
+    let i = n .before in
+    let r = i .before in (
+      accepted _ _ _ _ (r .preset-refusal .ensures) (i .if1 .left),
+      (n .count .ensures .0, ((a .if2 .left, b .if3 .left, d .if4 .left), rw (n .count .ensures .1) at (e .if5 .left))),
+    )
+
+same-length : tie.Need-same-length
+same-length c = search needs
+
+same-length-2 : tie.Need-same-length-2
+same-length-2 c = search needs
+
+same-length-3 : tie.Need-same-length-3
+same-length-3 c = search needs
+
+same-length-4 : tie.Need-same-length-4
+same-length-4 c = search needs
+
+returns-6 : tie.Need-returns-6
+returns-6 c =
+    let w = c .before .before .before .before .before .before .before .before in
+    let e = w .before .before .before .before .before in
+    let d = e .before in
+    let b = d .before in
+    let a = b .before in
+    let n = a .before in
+    let i = n .before in
+    let r = i .before in
+    let t = w .write-trace .ensures in
+    traced-done _ _ _ _ (r .preset-refusal .ensures) _ _ _ _ _ (i .if1 .left) (n .count .ensures .0) (a .if2 .left) (b .if3 .left) (d .if4 .left)
+    _ (n .count .ensures .1) _ _ _ _ (e .if5 .left) (t .0) (t .1) (t .2) (t .3)
+
+pub rewrite-to-end-spec : {M : Type 1} → statement M
+rewrite-to-end-spec =
+    tie.close
+    (tie.spec
+    preset-refusal-requires
+    returns
+    count-requires
+    returns-2
+    returns-3
+    returns-4
+    returns-5
+    write-trace-requires
+    same-length
+    same-length-2
+    same-length-3
+    same-length-4
+    returns-6)

@@ -1,0 +1,2 @@
+-- What the proofs of the module `tracing` share.
+pub mod Making

@@ -1,0 +1,180 @@
+// A letter read behind a normal form is carried to the left by rules, in place, and each step is noted in three lists. Letters that exchange are passed
+// one by one; where none does, the rule that ends with the letter carries it past a block, or strikes it out with an equal one.
+use crate::ending::Ending;
+use crate::ending::ending_rule;
+use crate::search::corner_of;
+ghost use mathlib.Core.Path.{_≡_};
+ghost use mathlib.Core.Bool.{false};
+ghost use mathlib.Core.List.{_∷_, _++_};
+ghost use Prim.Native.Nat.{suc, _+_, _-_, _≤_, _<_};
+ghost use lib.ListN.{length, getD, take, drop, set};
+ghost use Rattle.coxeter.specs.Kinds.{kindOf};
+ghost use Rattle.coxeter.specs.NormalForm.{levels};
+ghost use Rattle.rules.proofs.TwoLetters.{exchanging};
+ghost use Rattle.exchange.proofs.Tracing.{Ready, Carried, Inserted};
+
+// How many steps were made, and how many letters the word has then.
+pub(crate) struct Count {
+    pub(crate) steps: usize,
+    pub(crate) size: usize,
+}
+
+// Whether family 2 exchanges l x; `corner` is the step at which the way of a block turns.
+fn exchanges(n: u8, corner: u8, l: u8, x: u8) -> bool
+    requires { ⌜ l < 255 ⌝ }
+    ensures { λ r. ⌜ r ≡ exchanging n corner l x ⌝ }
+{
+    if x == n {
+        if l + 1 == corner {
+            return false;
+        }
+        return l < x;
+    }
+    l + 1 < x
+}
+
+// Step s as an entry of each list; past their ends nothing is noted.
+fn note(
+    families: &mut [u8],
+    places: &mut [u16],
+    lengths: &mut [u16],
+    s: usize,
+    family: u8,
+    place: usize,
+    left: usize,
+)
+    requires { ⌜ (length (now places) ≡ length (now families)) × (length (now lengths) ≡ length (now families)) ⌝ }
+    requires { ⌜ (place ≤ 4096) × (left ≤ 4096) ⌝ }
+    ensures { λ _. ⌜ (now (families .exit) ≡ set (now (families .entry)) s family)
+        × (now (places .exit) ≡ set (now (places .entry)) s place)
+        × (now (lengths .exit) ≡ set (now (lengths .entry)) s left) ⌝ }
+{
+    if s < families.len() {
+        families[s] = family;
+        places[s] = place as u16;
+        lengths[s] = left as u16;
+    }
+}
+
+// The letter at q passes letters by family 2, one step each, as far as it goes. Answers where it stands then.
+fn pass(
+    kind: u8,
+    n: u8,
+    rest: &[u8],
+    s: usize,
+    families: &mut [u8],
+    places: &mut [u16],
+    lengths: &mut [u16],
+    word: &mut [u8],
+    q: usize,
+) -> usize
+    requires { ⌜ Ready (kindOf kind) n (now rest) s (now families) (now places) (now lengths) (now word) q ⌝ }
+    ensures { λ r. ⌜ (r ≤ q) × Carried (kindOf kind) n (now (rest .entry)) s (now (families .entry)) (now (places .entry)) (now (lengths .entry))
+        (now (word .entry)) (s + (q - r)) (now (families .exit)) (now (places .exit)) (now (lengths .exit)) (now (word .exit)) r
+        × (1 ≤ r → exchanging n (levels (kindOf kind) n) (getD (now (word .exit)) (r - 1) 0) (getD (now (word .exit)) r 0) ≡ false) ⌝ }
+{
+    let corner = corner_of(kind, n);
+    let left = word.len() + rest.len();
+    let x = word[q];
+    let mut t = q;
+    while 0 < t {
+        let l = word[t - 1];
+        if exchanges(n, corner, l, x) {
+            word[t] = l;
+            word[t - 1] = x;
+            note(families, places, lengths, s + (q - t), 2, t - 1, left);
+            t -= 1;
+        } else {
+            return t;
+        }
+    }
+    t
+}
+
+// `first` stored at `place`, and the letters from there up to before q moved on by one, over the letter at q.
+fn carry(word: &mut [u8], place: usize, q: usize, first: u8)
+    requires { ⌜ (place ≤ q) × (q < length (now word)) ⌝ }
+    ensures { λ _. ⌜ now (word .exit) ≡ take place (now (word .entry))
+        ++ ((first ∷ take (q - place) (drop place (now (word .entry)))) ++ drop (suc q) (now (word .entry))) ⌝ }
+{
+    let mut t = q;
+    while place < t {
+        word[t] = word[t - 1];
+        t -= 1;
+    }
+    word[place] = first;
+}
+
+// The letters behind the two at `place` moved there.
+fn strike(word: &mut [u8], place: usize)
+    requires { ⌜ place + 2 ≤ length (now word) ⌝ }
+    ensures { λ _. ⌜ take (length (now (word .entry)) - 2) (now (word .exit))
+        ≡ take place (now (word .entry)) ++ drop (place + 2) (now (word .entry)) ⌝ }
+{
+    let mut t = place + 2;
+    while t < word.len() {
+        word[t - 2] = word[t];
+        t += 1;
+    }
+}
+
+// The last letter of `word` is carried to where no rule ends with it, or struck out; `rest` follows the word, and s steps were made before.
+pub(crate) fn insert(
+    kind: u8,
+    n: u8,
+    rest: &[u8],
+    s: usize,
+    families: &mut [u8],
+    places: &mut [u16],
+    lengths: &mut [u16],
+    word: &mut [u8],
+) -> Count
+    requires { ⌜ Ready (kindOf kind) n (now rest) s (now families) (now places) (now lengths) (now word) (length (now word) - 1) ⌝ }
+    ensures { λ r. ⌜ Inserted (kindOf kind) n (now (rest .entry)) s (now (families .entry)) (now (places .entry)) (now (lengths .entry))
+        (now (word .entry)) (r .steps) (now (families .exit)) (now (places .exit)) (now (lengths .exit)) (now (word .exit)) (r .size) ⌝ }
+{
+    let size = word.len();
+    let mut steps = s;
+    let mut q = size - 1;
+    while 0 < q {
+        let at = pass(kind, n, rest, steps, families, places, lengths, word, q);
+        steps += q - at;
+        let Ending::Rule {
+            family,
+            place,
+            first,
+        } = ending_rule(kind, n, word, at)
+        else {
+            return Count { steps, size };
+        };
+        if family == 1 {
+            note(
+                families,
+                places,
+                lengths,
+                steps,
+                1,
+                place,
+                size - 2 + rest.len(),
+            );
+            strike(word, place);
+            return Count {
+                steps: steps + 1,
+                size: size - 2,
+            };
+        }
+        note(
+            families,
+            places,
+            lengths,
+            steps,
+            family,
+            place,
+            size + rest.len(),
+        );
+        carry(word, place, at, first);
+        steps += 1;
+        q = place;
+    }
+    Count { steps, size }
+}

@@ -1,0 +1,168 @@
+// The rule whose left side ends with the letter that moves. Its first letter is looked for from that letter back, less than 2n places; what stands from
+// there on is then a block, whose last letter and length tell which, and so the rule.
+use crate::search::corner_of;
+use crate::search::family_at;
+use crate::search::fork_of;
+use crate::search::last_index_of;
+use crate::search::next_index;
+use crate::search::shown_index;
+use crate::writing::first_letter;
+ghost use mathlib.Core.Path.{_≡_};
+ghost use mathlib.Core.Bool.{false};
+ghost use mathlib.Core.Option.{none, some};
+ghost use Prim.Native.Nat.{suc, _-_, _*_, _≤_, _<_};
+ghost use lib.Dec.{eqb};
+ghost use lib.ListN.{length, getD, take};
+ghost use Rattle.coxeter.specs.Kinds.{pick, kindOf, least};
+ghost use Rattle.coxeter.specs.NormalForm.{levels, lastIndex};
+ghost use Rattle.rules.specs.Traces.{lowestUse};
+ghost use Rattle.rules.proofs.LeftSides.{lower};
+ghost use Rattle.rules.proofs.PartBlocks.{indexBy};
+ghost use Rattle.rules.proofs.Scan.{nextIndex, fork, familyAt, shownIndex, firstLetter};
+ghost use Rattle.rules.proofs.TwoLetters.{exchanging};
+ghost use Rattle.exchange.proofs.Reading.{Reading};
+ghost use Rattle.exchange.proofs.ReadingSteps.{Stopped};
+
+// A rule that ends there: its family, where it begins and the letter that its right side puts first.
+pub(crate) enum Ending {
+    Rule { family: u8, place: usize, first: u8 },
+    Nothing,
+}
+
+// The last place before `from` with a letter not above i, but none before `floor`.
+fn start_of(word: &[u8], floor: usize, from: usize, i: u8) -> usize
+    requires { ⌜ from ≤ length (now word) ⌝ }
+    ensures { λ r. ⌜ Stopped (now (word .entry)) floor from i r ⌝ }
+{
+    let mut t = from;
+    while floor < t {
+        t -= 1;
+        if word[t] <= i {
+            return t;
+        }
+    }
+    t
+}
+
+// Where a left side of 2n letters would begin that ends at q, or 0.
+fn floor_of(n: u8, q: usize) -> usize
+    requires { ⌜ (n ≤ 64) × (q ≤ 4096) ⌝ }
+    ensures { λ r. ⌜ r ≡ suc q - 2 * n ⌝ }
+{
+    let most = 2 * (n as usize);
+    if q + 1 < most {
+        return 0;
+    }
+    q + 1 - most
+}
+
+// The lower of two letters.
+fn lower_of(l: u8, x: u8) -> u8
+    ensures { λ r. ⌜ r ≡ lower l x ⌝ }
+{
+    if x < l {
+        return x;
+    }
+    l
+}
+
+// Where a rule of families 3 to 7 that ends at q begins, if there is one: at the lower of the last two letters.
+fn place_of(n: u8, word: &[u8], q: usize) -> usize
+    requires { ⌜ n ≤ 64 ⌝ }
+    requires { ⌜ (1 ≤ q) × (q < length (now word)) × (q ≤ 4096) ⌝ }
+    ensures { λ r. ⌜ (r ≤ q)
+        × (getD (now (word .entry)) (q - 1) 0 < getD (now (word .entry)) q 0
+        → Stopped (now (word .entry)) (suc q - 2 * n) (q - 1) (getD (now (word .entry)) (q - 1) 0) r)
+        × (getD (now (word .entry)) q 0 ≤ getD (now (word .entry)) (q - 1) 0
+        → Stopped (now (word .entry)) (suc q - 2 * n) q (getD (now (word .entry)) q 0) r) ⌝ }
+{
+    let l = word[q - 1];
+    let x = word[q];
+    let floor = floor_of(n, q);
+    if l < x {
+        return start_of(word, floor, q - 1, l);
+    }
+    start_of(word, floor, q, x)
+}
+
+// The index j of the block [i,j] that has m letters and ends with l.
+fn index_of(kind: u8, n: u8, i: u8, m: u8, l: u8) -> u8
+    requires { ⌜ (n ≤ 64) × (i ≤ n) × (1 ≤ m) × (m ≤ 128) ⌝ }
+    ensures { λ r. ⌜ r ≡ indexBy (kindOf kind) n i m l ⌝ }
+{
+    if l == n {
+        return n;
+    }
+    let j = i + m - 1;
+    if j < n {
+        return j;
+    }
+    if kind == 1 {
+        return j;
+    }
+    if kind == 2 {
+        return j;
+    }
+    j + 1
+}
+
+// The rule with the left side [i,j] x, if there is one, as it begins at `place`.
+fn block_rule(kind: u8, n: u8, i: u8, j: u8, x: u8, place: usize) -> Ending
+    requires { ⌜ (least (kindOf kind) ≤ n) × (1 ≤ n) × (n ≤ 64) ⌝ }
+    requires { ⌜ (i ≤ n) × (j ≤ 2 * n) × (x ≤ n) ⌝ }
+    ensures { λ r. ⌜ r ≡ pick (eqb (nextIndex n (levels (kindOf kind) n) (lastIndex (kindOf kind) n i) j x) 0)
+        (pick (eqb (familyAt n (fork (kindOf kind) n) i j x) 0) Ending.Nothing
+        (Ending.Rule (familyAt n (fork (kindOf kind) n) i j x) place
+        (firstLetter n (familyAt n (fork (kindOf kind) n) i j x) i (shownIndex (familyAt n (fork (kindOf kind) n) i j x) j x))))
+        Ending.Nothing ⌝ }
+{
+    let corner = corner_of(kind, n);
+    let last = last_index_of(kind, n, i);
+    let next = next_index(n, corner, last, j, x);
+    if next != 0 {
+        return Ending::Nothing;
+    }
+    let fork = fork_of(kind, n);
+    let family = family_at(n, fork, i, j, x);
+    if family == 0 {
+        return Ending::Nothing;
+    }
+    let shown = shown_index(family, j, x);
+    let first = first_letter(n, family, i, shown);
+    Ending::Rule {
+        family,
+        place,
+        first,
+    }
+}
+
+// The rule that ends with the letter at q, which does not exchange with the one before it.
+pub(crate) fn ending_rule(kind: u8, n: u8, word: &[u8], q: usize) -> Ending
+    requires { ⌜ (least (kindOf kind) ≤ n) × (n ≤ 64) ⌝ }
+    requires { ⌜ Reading (kindOf kind) n (now word) q × (q ≤ 4096) ⌝ }
+    requires { ⌜ (1 ≤ q → exchanging n (levels (kindOf kind) n) (getD (now word) (q - 1) 0) (getD (now word) q 0) ≡ false) ⌝ }
+    ensures { λ r. ⌜ r ≡ elim (lowestUse (kindOf kind) n (take (suc q) (now (word .entry)))) [
+      | none ↦ Ending.Nothing
+      | some s ↦ Ending.Rule (s .rule .family) (s .place) (getD (s .rule .right) 0 0)
+    ] ⌝ }
+{
+    if q == 0 {
+        return Ending::Nothing;
+    }
+    let l = word[q - 1];
+    let x = word[q];
+    if l == x {
+        return Ending::Rule {
+            family: 1,
+            place: q - 1,
+            first: 0,
+        };
+    }
+    let place = place_of(n, word, q);
+    let low = lower_of(l, x);
+    if word[place] != low {
+        return Ending::Nothing;
+    }
+    let j = index_of(kind, n, low, (q - place) as u8, l);
+    block_rule(kind, n, low, j, x, place)
+}
