@@ -3,17 +3,16 @@
 --
 -- Sections: the search for its first letter; the rule that fits; its place; the word after it.
 -- Assumes nothing.
-use mathlib.Core.Path.{_≡_, refl, sym, ap, _∙_}
+use mathlib.Core.Path.{_≡_, sym, ap, _∙_}
 use mathlib.Core.Bool.{true, false}
 use mathlib.Core.Logic.{_⊎_, ⊎-elim}
 use mathlib.Core.List.{List, [], _∷_, _++_, append-assoc, List·Memᴰ}
-use mathlib.Core.Option.{Option, none, some, Option·none-ne-some}
-use Prim.Native.Nat.{ℕ, zero, suc, _+_, _-_, _*_, _≤_, _<_}
-use native.Mathlib.Nat.{lt-of-not-le}
-use native.Mathlib.Decide.{decLe, ℕ-discrete}
+use mathlib.Core.Option.{some, Option·none-ne-some}
+use Prim.Native.Nat.{ℕ, suc, _+_, _-_, _*_, _≤_, _<_}
+use native.Mathlib.Decide.{ℕ-discrete}
 use native.Mathlib.Omega.{arith}
 use lib.ListN.{length, getD, take, drop, length-append, length-take, length-drop, take-append-drop}
-use lib.Seq.{append-snoc, take-at, drop-at, take-suc, getD-take, getD-at, getD-drop, drop-cons, length-take-le}
+use lib.Seq.{append-snoc, take-at, drop-at, take-suc, getD-take, getD-at, length-take-le}
 use borrow.Author.Tests.{lt-ltb, le-ltb}
 use Rattle.coxeter.specs.Kinds.{Kind, least}
 use Rattle.coxeter.specs.Checks.{wrongLetter}
@@ -21,7 +20,7 @@ use Rattle.coxeter.specs.NormalForm.{levels}
 use Rattle.rules.specs.Rules.{Rule, rules, rule, fits, firstFitting, rewritten, exchanged}
 use Rattle.rules.specs.Traces.{Use, lowestUse}
 use Rattle.rules.proofs.Fits.{firstFitting-some}
-use Rattle.rules.proofs.LeftSides.{lower, left-two, Sides, drops, moves, sides-of-rule}
+use Rattle.rules.proofs.LeftSides.{lower, Sides, drops, moves, sides-of-rule}
 use Rattle.rules.proofs.Traces.{after, lowest-some, lowest-is}
 use Rattle.coxeter.proofs.Order.{less, same, more, compared}
 use Rattle.rules.proofs.Endings.{lowest-of-ending, first-of-ending, between-of-ending}

@@ -1,10 +1,11 @@
-// The length of a window, by one comparison of sizes for each pair of its entries, and the length by sort.
+// The length of a window, by one comparison of sizes for each pair of its entries, and the length by sort, in one pass over the entries.
 use coxeter::Counted;
 use refusals::is_negative;
 use refusals::size;
 ghost use mathlib.Core.Path.{_≡_};
 ghost use mathlib.Core.List.{map};
-ghost use Prim.Native.Nat.{_+_, _-_, _*_, _≤_};
+ghost use Prim.Native.Nat.{_+_, _-_, _*_, _/_, _^_, _≤_, _<_};
+ghost use lib.Count.{ones};
 ghost use lib.IntN.{natAbs, pos};
 ghost use lib.ListN.{length, take};
 ghost use Rattle.coxeter.specs.Kinds.{B, pick, kindOf, lanes};
@@ -103,23 +104,64 @@ fn negative_entries(w: &[i8]) -> usize
     sum
 }
 
-// The negative sum pairs of an accepted window with these sizes. Of two entries the one of the smaller size decides, so that a negative entry has a pair with each
-// larger size.
-fn negative_sum_pairs(w: &[i8], sizes: &[u8]) -> usize
+// What a length is made of: the pairs of both sorts, the negative sum pairs among them, and the negative entries.
+struct Parts {
+    pairs: usize,
+    against: usize,
+    negatives: usize,
+}
+
+// How many sizes of a set are s or larger; the size s is bit s - 1.
+fn from_size(set: u64, s: u8) -> usize
+    requires { ⌜ (1 ≤ s) × (s ≤ 64) ⌝ }
+    ensures { λ r. ⌜ r ≡ ones (set / 2 ^ (s - 1)) ⌝ }
+{
+    u64::count_ones(set >> (s - 1)) as usize
+}
+
+// A set with the size s, which it lacked.
+fn with_size(set: u64, s: u8) -> u64
+    requires { ⌜ (1 ≤ s) × (s ≤ 64) × (set + 2 ^ (s - 1) < 2 ^ 64) ⌝ }
+    ensures { λ r. ⌜ r ≡ set + 2 ^ (s - 1) ⌝ }
+{
+    set + (1u64 << (s - 1))
+}
+
+// One pass from the last entry to the first, with the set of the sizes behind. Where l of the sizes behind are larger than an entry's own, the entry
+// makes as many pairs as there are entries behind, and l more if it is negative, l fewer if not; `larger` sums l, `more` that of the
+// negative entries. A negative entry has a negative sum pair with each larger size. An accepted window of any kind is one of kind B.
+fn parts_of(w: &[i8]) -> Parts
     requires { ⌜ length (now w) ≤ 64 ⌝ }
     requires { ⌜ windowRefusal B (length (now w)) (now w) ≡ 0 ⌝ }
-    requires { ⌜ now sizes ≡ map natAbs (now w) ⌝ }
-    ensures { λ r. ⌜ r ≡ negativeSumPairs (now (w .entry)) ⌝ }
+    ensures { λ r. ⌜ (r .pairs ≡ inversions (now (w .entry)) + negativeSumPairs (now (w .entry)))
+        × (r .against ≡ negativeSumPairs (now (w .entry))) × (r .negatives ≡ negatives (now (w .entry))) ⌝ }
 {
-    let mut sum: usize = 0;
-    let mut i = 0;
-    while i < w.len() {
-        if is_negative(w[i]) {
-            sum += w.len() - sizes[i] as usize;
+    let m = w.len();
+    let mut behind: u64 = 0;
+    let mut larger: usize = 0;
+    let mut more: usize = 0;
+    let mut against: usize = 0;
+    let mut negatives: usize = 0;
+    let mut i = m;
+    while 0 < i {
+        i -= 1;
+        let e = w[i];
+        let s = size(e);
+        let l = from_size(behind, s);
+        behind = with_size(behind, s);
+        let lack = m - s as usize;
+        larger += l;
+        if is_negative(e) {
+            more += l;
+            against += lack;
+            negatives += 1;
         }
-        i += 1;
     }
-    sum
+    Parts {
+        pairs: (m * m - m) / 2 + 2 * more - larger,
+        against: against,
+        negatives: negatives,
+    }
 }
 
 // The length of an accepted window by sort. In kind A no entry is negative, so that all pairs are inversions.
@@ -128,21 +170,18 @@ pub(crate) fn crossings_of(kind: u8, n: usize, w: &[i8]) -> Counted
     requires { ⌜ windowRefusal (kindOf kind) n (now w) ≡ 0 ⌝ }
     ensures { λ r. ⌜ r ≡ countedOf 0 (crossings (kindOf kind) (now (w .entry))) ⌝ }
 {
-    let m = w.len();
-    let mut work = no_sizes();
-    set_sizes(w, &mut work);
-    let sums = negative_sum_pairs(w, &work[..m]);
-    let inversions = sized_pairs(w, &work[..m]) - sums;
+    let parts = parts_of(w);
+    let inversions = parts.pairs - parts.against;
     if kind == 2 {
         return Counted::Crossings {
             inversions: inversions,
-            negative_sum_pairs: sums,
-            negatives: negative_entries(w),
+            negative_sum_pairs: parts.against,
+            negatives: parts.negatives,
         };
     }
     Counted::Crossings {
         inversions: inversions,
-        negative_sum_pairs: sums,
+        negative_sum_pairs: parts.against,
         negatives: 0,
     }
 }

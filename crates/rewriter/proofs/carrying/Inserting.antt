@@ -4,16 +4,13 @@
 -- Sections: the rule that was found; no rule; a letter struck out; a letter carried on.
 -- Assumes nothing.
 use mathlib.Core.Path.{_≡_, refl, sym, ap, subst, _∙_}
-use mathlib.Core.Bool.{false}
-use mathlib.Core.List.{List, _∷_, _++_}
+use mathlib.Core.List.{List, _++_}
 use mathlib.Core.Option.{Option, none, some}
 use Prim.Native.Nat.{ℕ, suc, _+_, _-_, _≤_, _<_}
 use native.Mathlib.Omega.{arith}
 use lib.ListN.{length, getD, take, drop, set}
 use Rattle.coxeter.specs.Kinds.{Kind}
-use Rattle.coxeter.specs.NormalForm.{levels}
 use Rattle.rules.specs.Traces.{Use, lowestUse}
-use Rattle.rules.proofs.TwoLetters.{exchanging}
 use Rattle.exchange.proofs.Reading.{reading-lower}
 use Rattle.exchange.proofs.ReadingSteps.{after-moved, after-dropped}
 use Rattle.exchange.proofs.Tracing.{Ready, Carried, Inserted, carried-ready, carried-trans, carried-step, inserted-step, inserted-end, inserted-after}

@@ -5,23 +5,20 @@
 -- Assumes nothing.
 use mathlib.Core.Path.{_≡_, refl, sym, ap, ap₂, subst, _∙_}
 use mathlib.Core.Bool.{Bool, true, false}
-use mathlib.Core.List.{List, [], _∷_, _++_}
-use mathlib.Core.Option.{Option, none, some}
+use mathlib.Core.List.{List, _∷_, _++_}
 use Prim.Native.Nat.{ℕ, suc, _+_, _-_, _≤_, _<_}
 use native.Mathlib.Omega.{arith}
-use lib.ListN.{length, getD, take, drop, set, length-set}
-use lib.Seq.{set-split, drop-cons, take-set-le, drop-set-add, drop-set-lt, getD-set-same, set-getD}
-use Rattle.coxeter.specs.Kinds.{Kind, least}
+use lib.ListN.{length, getD, drop, set, length-set}
+use lib.Seq.{set-split, drop-cons, take-set-le, drop-set-lt, getD-set-same}
+use Rattle.coxeter.specs.Kinds.{Kind}
 use Rattle.coxeter.specs.NormalForm.{levels}
 use Rattle.coxeter.proofs.LetterLaws.{letter-within}
 use Rattle.rules.specs.Rules.{rewritten, exchanged}
-use Rattle.rules.specs.Traces.{Use, lowestUse}
 use Rattle.rules.proofs.ScanRules.{wrongLetter-drop}
-use Rattle.rules.proofs.Traces.{after}
 use Rattle.rules.proofs.TwoLetters.{exchanging}
-use Rattle.exchange.proofs.Reading.{Reading, reading-inside, reading-lower}
-use Rattle.exchange.proofs.ReadingSteps.{exchange-use, after-moved, after-dropped, length-dropped}
-use Rattle.exchange.proofs.Tracing.{Ready, Carried, Inserted, carried-start, carried-ready, carried-trans, carried-step, inserted-step, inserted-end, inserted-after}
+use Rattle.exchange.proofs.Reading.{reading-inside}
+use Rattle.exchange.proofs.ReadingSteps.{exchange-use}
+use Rattle.exchange.proofs.Tracing.{Ready, Carried, carried-start, carried-ready, carried-trans, carried-step}
 
 -- ---- letters
 

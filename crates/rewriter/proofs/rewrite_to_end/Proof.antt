@@ -1,7 +1,5 @@
 -- `rewrite_to_end` refuses in the order of its checks, with the steps counted first, or writes the rewriting.
 -- Assumes nothing.
-use mathlib.Core.Path.{sym, _∙_}
-use native.Mathlib.Omega.{arith}
 use Rattle.rewriter.proofs.ToEnd.{accepted, traced-refused, families-short, places-short, lengths-short, out-short, traced-done}
 use borrow.Author.Needs.{needs}
 use Rattle.rewriter.proofs.rewrite_to_end.Statement.{statement}

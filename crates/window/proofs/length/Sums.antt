@@ -21,8 +21,6 @@ use Rattle.coxeter.proofs.Lists.{written-next, take-rest, drop-next}
 use Rattle.coxeter.proofs.Levels.{Between, Distinct, accepted-of-refusal, refusal-of-accepted, hasSize-below}
 use Rattle.coxeter.proofs.PairWeights.{weight, weights, pairWeights, signWeight, pairWeights-le}
 use Rattle.coxeter.proofs.PairWeights.{laterThan-add, inversions-add-negativeSumPairs, length-by-weights, negativeSumPairs-of-negatives-zero}
-use Rattle.coxeter.proofs.NegativeSums.{lackOfNegatives, negativeSumPairs-level}
-use Rattle.coxeter.proofs.Places.{between-getD}
 use Rattle.coxeter.specs.Calls.{countedOf}
 use Rattle.coxeter.specs.declared.Counted.the-variants as counted
 
@@ -86,7 +84,7 @@ weights-of-positive x (y ∷ w) e =
 unfoldable pub behind : Bool → ℕ → List ℕ → ℕ
 behind t a l = pick t (2 * length l - smaller a l) (smaller a l)
 
-weights-behind : (x : ℤ) (w : List ℤ) → weights x w ≡ behind (negative x) (natAbs x) (map natAbs w)
+pub weights-behind : (x : ℤ) (w : List ℤ) → weights x w ≡ behind (negative x) (natAbs x) (map natAbs w)
 unfolding behind
 weights-behind x w = rw (length-map w natAbs) (by-sign (negative x) refl)
   where
@@ -102,7 +100,7 @@ between-drop a c zero w b = b
 between-drop a c (suc i) [] b = tt
 between-drop a c (suc i) (e ∷ w) b = between-drop a c i w (b .2)
 
-distinct-drop : (i : ℕ) (w : List ℤ) → Distinct w → Distinct (drop i w)
+pub distinct-drop : (i : ℕ) (w : List ℤ) → Distinct w → Distinct (drop i w)
 distinct-drop zero w d = d
 distinct-drop (suc i) [] d = tt
 distinct-drop (suc i) (e ∷ w) d = distinct-drop i w (d .1)
@@ -135,7 +133,7 @@ pub bothPairs-end : (w : List ℤ) (i : ℕ) → length w ≤ i → bothPairs (d
 unfolding bothPairs inversions negativeSumPairs
 bothPairs-end w i h = rw (drop-of-length-le w h)
 
-bothPairs-is-pairWeights : (w : List ℤ) → windowRefusal B (length w) w ≡ 0 → bothPairs w ≡ pairWeights w
+pub bothPairs-is-pairWeights : (w : List ℤ) → windowRefusal B (length w) w ≡ 0 → bothPairs w ≡ pairWeights w
 unfolding bothPairs
 bothPairs-is-pairWeights w h =
     let a = accepted-of-refusal B (length w) w h .level in
@@ -182,21 +180,6 @@ windowLength-else k n w h d =
     ]
 
 -- ---- a length by sort
-
-pub negativeSumPairs-by-lack : (w : List ℤ) → windowRefusal B (length w) w ≡ 0 → negativeSumPairs w ≡ lackOfNegatives (length w) w
-negativeSumPairs-by-lack w h = negativeSumPairs-level w (accepted-of-refusal B (length w) w h .level)
-
-pub size-le : (w : List ℤ) (i : ℕ) → windowRefusal B (length w) w ≡ 0 → i < length w → natAbs (getD w i (pos 0)) ≤ length w
-size-le w i h l = omega (arith, between-getD 1 (1 + length w) w i (accepted-of-refusal B (length w) w h .level .between) l .1)
-
-pub lack-step : (m i : ℕ) (w : List ℤ) (t : Bool) → i < length w → t ≡ negative (getD w i (pos 0))
-    → lackOfNegatives m (drop i w) ≡ pick t (m - natAbs (getD w i (pos 0))) 0 + lackOfNegatives m (drop (i + 1) w)
-unfolding lackOfNegatives
-lack-step m i w t h e = rw (drop-next w i (pos 0) h, e)
-
-pub lack-end : (m i : ℕ) (w : List ℤ) → length w ≤ i → lackOfNegatives m (drop i w) ≡ 0
-unfolding lackOfNegatives
-lack-end m i w h = rw (drop-of-length-le w h)
 
 -- p are the pairs of both sorts, s the negative sum pairs, t the negative entries
 module _ (k n : ℕ) (w : List ℤ) (h : windowRefusal (kindOf k) n w ≡ 0) (p s : ℕ) (e : p ≡ inversions w + negativeSumPairs w)

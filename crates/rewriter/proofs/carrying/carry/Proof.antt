@@ -1,6 +1,6 @@
 -- `carrying::carry` moves letters on by one place, from the last to the first, and stores a letter before them.
 -- Assumes nothing.
-use mathlib.Core.Path.{_≡_, refl, _∙_}
+use mathlib.Core.Path.{_≡_, refl}
 use Prim.Native.Nat.{_≤_}
 use native.Mathlib.Omega.{arith}
 use lib.ListN.{length, getD, length-set}

@@ -1,7 +1,7 @@
 -- `carrying::exchanges` tells letters that exchange by two comparisons.
 -- Assumes nothing.
 use mathlib.Core.Path.{refl}
-use borrow.Author.Tests.{eq-eqb, ne-eqb, lt-ltb, le-ltb}
+use borrow.Author.Tests.{eq-eqb, ne-eqb}
 use Rattle.rules.proofs.TwoLetters.{exchanging}
 use borrow.Author.Needs.{needs}
 use Rattle.rewriter.proofs.carrying.exchanges.Statement.{statement}

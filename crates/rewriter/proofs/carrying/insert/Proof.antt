@@ -5,7 +5,7 @@ use native.Mathlib.Omega.{arith}
 use Rattle.coxeter.specs.Kinds.{kindOf}
 use Rattle.exchange.proofs.Tracing.{Carried, carried-start, carried-ready, carried-trans}
 use Rattle.rewriter.proofs.carrying.Passing.{ready-inside}
-use Rattle.rewriter.proofs.carrying.Inserting.{insert-inside, insert-none, insert-front, insert-place, insert-pair, insert-struck, insert-carried}
+use Rattle.rewriter.proofs.carrying.Inserting.{insert-none, insert-front, insert-place, insert-pair, insert-struck, insert-carried}
 use borrow.Author.Needs.{needs}
 use Rattle.rewriter.proofs.carrying.insert.Statement.{statement}
 use Rattle.rewriter.proofs.carrying.insert.Tie as tie

@@ -1,11 +1,11 @@
 -- `carrying::pass` carries a letter to the left by family 2, one step a letter.
 -- Assumes nothing.
-use mathlib.Core.Path.{_≡_, refl, sym, ap, _∙_}
+use mathlib.Core.Path.{_≡_, refl}
 use Prim.Native.Nat.{_+_, _-_, _≤_}
 use native.Mathlib.Omega.{arith}
-use lib.ListN.{length, getD, length-set}
+use lib.ListN.{getD, length-set}
 use Rattle.coxeter.specs.Kinds.{kindOf}
-use Rattle.exchange.proofs.Tracing.{Ready, Carried, carried-start, carried-ready, carried-trans}
+use Rattle.exchange.proofs.Tracing.{Carried, carried-ready}
 use Rattle.rewriter.proofs.carrying.Passing.{ready-inside, ready-letter, pass-start, pass-again, pass-stopped, pass-ended}
 use borrow.Author.Needs.{needs}
 use Rattle.rewriter.proofs.carrying.pass.Statement.{statement}

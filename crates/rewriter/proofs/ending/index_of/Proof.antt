@@ -1,7 +1,5 @@
 -- `ending::index_of` is the index of a block by its last letter, its length and the kind.
 -- Assumes nothing.
-use mathlib.Core.Path.{_≡_, refl}
-use Prim.Native.Nat.{ℕ}
 use borrow.Author.Tests.{eq-eqb, ne-eqb, lt-ltb, le-ltb}
 use Rattle.coxeter.proofs.KindLaws.{kindOf-one, kindOf-two, kindOf-three}
 use Rattle.rules.proofs.PartBlocks.{indexBy}

@@ -2,7 +2,6 @@
 -- Assumes nothing.
 use mathlib.Core.Path.{refl}
 use borrow.Author.Tests.{lt-ltb, le-ltb}
-use borrow.Author.Needs.{needs}
 use Rattle.rewriter.proofs.ending.lower_of.Statement.{statement}
 use Rattle.rewriter.proofs.ending.lower_of.Tie as tie
 
