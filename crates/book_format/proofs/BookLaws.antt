@@ -19,7 +19,7 @@ use Rattle.coxeter.proofs.Basics.{or-false-left, or-false-right}
 use Rattle.coxeter.proofs.Refusals.{then-zero, check-zero}
 use Rattle.book_format.specs.declared.Edition.{Edition}
 use Rattle.book_format.specs.declared.Edition.the-variants.{First, Second}
-use Rattle.book_format.specs.Books.{twoAt, count, trailer, offset, endAt, wrongSize, wrongCount, misplacedFrom, misplaced, bookRefusal, countPlace, headSize}
+use Rattle.book_format.specs.Books.{twoAt, count, trailer, offset, endAt, wrongSize, wrongCount, misplacedFrom, misplaced, bookRefusal, countPlace}
 
 -- ---- checks 1 to 3, in the order of the code: c is the count as it was read, t the answer of the walk
 

@@ -13,7 +13,7 @@ use native.Mathlib.Omega.{arith}
 use lib.Dec.{eqb, ltb}
 use lib.ListN.{length, length-append}
 use borrow.Author.Tests.{eq-eqb, ne-eqb, lt-ltb, le-ltb, eqb-true, ltb-false, not-false}
-use Rattle.coxeter.specs.Kinds.{Kind, A, B, D, kindOf, lanes, greatest}
+use Rattle.coxeter.specs.Kinds.{Kind, A, B, D, kindOf, lanes}
 use Rattle.coxeter.specs.declared.Answer.the-variants as answer
 use Rattle.coxeter.specs.Checks.{check, _then_, tooShort, wordRefusal}
 use Rattle.coxeter.specs.Calls.{answerOf, writes}
@@ -21,10 +21,9 @@ use Rattle.coxeter.proofs.Acceptance.{rank-within}
 use Rattle.coxeter.proofs.Refusals.{then-zero, check-zero, then-none}
 use Rattle.book_format.specs.declared.Edition.{Edition}
 use Rattle.book_format.specs.declared.Edition.the-variants.{First, Second}
-use Rattle.book_format.specs.declared.Preset.the-variants as preset
 use Rattle.book_format.specs.Books.{count, trailer, offset, headSize, kindAt, rankAt, lanesAt, letterCountAt, lettersAt, endAt, misplacedFrom, tooLarge, greatestInBook, wrongLaneCount, bookRankRefusal, bookRefusal, recordRefusal, presetRefusal}
 use Rattle.book_format.specs.Records.{Record, recordBytes, layOut, recordAt, recordsFrom, recordsOf, Bytes}
-use Rattle.book_format.specs.Calls.{presetOf, checkedPreset, lettersOf}
+use Rattle.book_format.specs.Calls.{presetOf}
 use Rattle.book_format.specs.Conversion.{other, converted, tooManyLanes, recordConversionRefusal, recordsConversionRefusal, conversionRefusal, converting, SamePreset, Converted}
 use Rattle.book_format.proofs.RankLaws.{bookRank-accepted, bookRankRefusal-none, bookRank-within}
 use Rattle.book_format.proofs.BookLaws.{Accepted, accepted, bookSize-some, bookRefusal-bytes, no-bytes, count-bytes, first, trailer-le, endAt-offset-le}

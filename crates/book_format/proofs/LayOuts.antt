@@ -5,15 +5,14 @@
 -- Assumes nothing.
 use mathlib.Core.Path.{_≡_, refl, sym, ap, _∙_}
 use mathlib.Core.List.{List, [], _∷_, _++_, append-assoc, append-nil}
-use Prim.Native.Nat.{ℕ, suc, _+_, _-_, _*_, _≤_, _<_}
+use Prim.Native.Nat.{ℕ, _+_, _-_, _*_, _≤_}
 use native.Mathlib.Nat.{add-zero, zero-add}
-use native.Mathlib.Numerals.{add-one}
 use native.Mathlib.Omega.{arith}
-use lib.ListN.{length, take, drop, length-append}
+use lib.ListN.{length, length-append}
 use lib.Seq.{take-at, drop-at}
 use Rattle.coxeter.specs.Kinds.{kindOf, lanes}
 use Rattle.book_format.specs.declared.Edition.{Edition}
-use Rattle.book_format.specs.Books.{twoAt, two, count, trailer, misplacedFrom, misplaced, wrongSize, wrongCount, bookRefusal, recordOf, appended, headSize, added}
+use Rattle.book_format.specs.Books.{twoAt, two, count, trailer, misplacedFrom, misplaced, wrongSize, wrongCount, bookRefusal, recordOf, appended, headSize}
 use Rattle.book_format.specs.Records.{Record, recordBytes, offsetBytes, layOut, recordsFrom, recordsOf}
 use Rattle.book_format.proofs.BookLaws.{accepted, trailer-read}
 use Rattle.book_format.proofs.WritingLaws.{length-two, length-recordOf, length-appended}

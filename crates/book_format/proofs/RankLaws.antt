@@ -7,7 +7,7 @@ use Prim.Native.Nat.{ℕ, _≤_, _<_}
 use native.Mathlib.Decide.{ℕ-discrete}
 use native.Mathlib.Omega.{arith}
 use lib.Dec.{ltb}
-use borrow.Author.Tests.{ne-eqb, lt-ltb, le-ltb, ltb-true, ltb-false}
+use borrow.Author.Tests.{lt-ltb, le-ltb, ltb-true, ltb-false}
 use Rattle.coxeter.specs.Kinds.{Kind, A, B, D, kindOf, least, greatest}
 use Rattle.coxeter.specs.Checks.{check, _then_, wrongKind, wrongRank, rankRefusal}
 use Rattle.coxeter.proofs.Acceptance.{rank-within}

@@ -23,7 +23,7 @@ use Rattle.coxeter.proofs.Acceptance.{rank-accepted}
 use Rattle.coxeter.proofs.Lists.{sets-front}
 use Rattle.book_format.specs.declared.Preset.{Preset}
 use Rattle.book_format.specs.declared.Preset.the-variants as preset
-use Rattle.book_format.specs.Books.{twoAt, count, noSuchPreset, bookRefusal}
+use Rattle.book_format.specs.Books.{count, noSuchPreset, bookRefusal}
 use Rattle.book_format.specs.Calls.{presetOf, checkedPreset, fieldsOf, presetFields, runLength, readingPresets, presetFrom}
 use Rattle.book_format.proofs.PresetLaws.{found, found-rank, refused, refused-is}
 use Rattle.book_format.proofs.Outcomes.{presetRefusal-le}

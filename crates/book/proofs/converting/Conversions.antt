@@ -3,10 +3,9 @@
 -- Sections: records by their number; the checks; what is left to write; the answers.
 -- Assumes nothing.
 use mathlib.Core.Path.{_≡_, refl, sym, ap, _∙_}
-use mathlib.Core.Bool.{Bool, true, false}
-use mathlib.Core.List.{List, [], _∷_, _++_, append-assoc}
-use Prim.Native.Nat.{ℕ, zero, suc, _+_, _-_, _*_, _≤_, _<_}
-use native.Mathlib.Decide.{ℕ-discrete}
+use mathlib.Core.Bool.{Bool}
+use mathlib.Core.List.{List, [], _∷_, _++_}
+use Prim.Native.Nat.{ℕ, suc, _+_, _-_, _*_, _≤_, _<_}
 use native.Mathlib.Nat.{le-trans, zero-add}
 use native.Mathlib.Numerals.{add-one}
 use native.Mathlib.Omega.{arith}
@@ -19,19 +18,19 @@ use Rattle.coxeter.specs.declared.Answer.the-variants as answer
 use Rattle.coxeter.proofs.Acceptance.{rank-accepted}
 use Rattle.coxeter.proofs.Lists.{Storing, storing-all, sets-next, sets-front}
 use Rattle.coxeter.proofs.Outcomes.{writes-refused, writes-short, writes-done}
-use Rattle.coxeter.proofs.Refusals.{then-some, then-none, then-next}
+use Rattle.coxeter.proofs.Refusals.{then-some, then-none}
 use Rattle.book_format.specs.declared.Edition.{Edition}
 use Rattle.book_format.specs.declared.Preset.the-variants as preset
-use Rattle.book_format.specs.Books.{twoAt, two, count, trailer, offset, countPlace, headSize, kindAt, rankAt, lanesAt, letterCountAt, lettersAt, endAt, tooLarge, bookRefusal, recordRefusal, recordOf}
-use Rattle.book_format.specs.Records.{Record, recordBytes, offsetBytes, layOut, recordAt, recordsFrom, recordsOf}
+use Rattle.book_format.specs.Books.{twoAt, two, count, offset, countPlace, headSize, kindAt, rankAt, lanesAt, letterCountAt, lettersAt, endAt, tooLarge, bookRefusal, recordOf}
+use Rattle.book_format.specs.Records.{recordBytes, offsetBytes, layOut, recordAt, recordsFrom, recordsOf}
 use Rattle.book_format.specs.Calls.{checkedRecord}
 use Rattle.book_format.specs.Conversion.{other, converted, tooManyLanes, recordConversionRefusal, recordsConversionRefusal, conversionRefusal, converting}
-use Rattle.book_format.proofs.BookLaws.{Accepted, accepted, trailer-le, endAt-offset-le, end-read-le}
+use Rattle.book_format.proofs.BookLaws.{accepted, trailer-le, endAt-offset-le, end-read-le}
 use Rattle.book_format.proofs.RankLaws.{bookRank-accepted}
 use Rattle.book_format.proofs.PresetLaws.{record-found, record-refused}
 use Rattle.book_format.proofs.WritingLaws.{length-two, length-recordOf}
 use Rattle.book_format.proofs.RecordLaws.{length-lettersAt, length-recordsFrom}
-use Rattle.book_format.proofs.LayOuts.{length-layOut, length-offsetBytes}
+use Rattle.book_format.proofs.LayOuts.{length-offsetBytes}
 use Rattle.book_format.proofs.Converting.{Convertible, converted-some, converted-bytes, conversion-opens, passing-at, sizeOf, length-converted}
 
 -- ---- records by their number

@@ -1,6 +1,5 @@
 -- `converting::write_converted` writes the records, the offsets and the count, one behind the other.
 -- Assumes nothing.
-use mathlib.Core.Path.{sym, _∙_}
 use native.Mathlib.Omega.{arith}
 use Rattle.book.proofs.converting.Conversions.{length-parts, all-written}
 use borrow.Author.Needs.{needs}

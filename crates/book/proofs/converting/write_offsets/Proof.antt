@@ -1,11 +1,8 @@
 -- `converting::write_offsets` writes offset after offset. The invariant: what is left to store are the offsets of the records from `i` on, of which the
 -- first begins at `o` in the new book.
 -- Assumes nothing.
-use mathlib.Core.Path.{_≡_, sym, _∙_}
-use Prim.Native.Nat.{_+_, _-_, _*_}
+use Prim.Native.Nat.{_-_}
 use native.Mathlib.Omega.{arith}
-use Rattle.book_format.specs.Books.{count}
-use Rattle.book_format.proofs.Converting.{Convertible}
 use Rattle.book.proofs.converting.Conversions.{Placing, offsets-start, offset-small, offsets-next, offsets-end}
 use Rattle.book.proofs.converting.write_offsets.Statement.{statement}
 use Rattle.book.proofs.converting.write_offsets.Tie as tie

@@ -1,7 +1,6 @@
 -- `reading::check_preset` makes checks 1 to 4, and then those of the record.
 -- Assumes nothing.
 use mathlib.Core.Path.{sym, _∙_}
-use native.Mathlib.Omega.{arith}
 use Rattle.book_format.proofs.BookLaws.{never-one}
 use Rattle.book_format.proofs.PresetLaws.{checkedPreset-book, checkedPreset-number}
 use borrow.Author.Needs.{needs}

@@ -3,7 +3,6 @@
 use denote.Ref.{now}
 use Prim.Native.Nat.{_+_, _*_, _≤_}
 use native.Mathlib.Omega.{arith}
-use lib.ListN.{length}
 use Rattle.book_format.proofs.BookLaws.{accepted, never-one}
 use Rattle.book.proofs.writing.Appended.{appended-written}
 use borrow.Author.Needs.{needs}
