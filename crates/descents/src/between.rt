@@ -2,14 +2,13 @@
 // exactly when some word over the allowed steps leads there, and is then the least of those words.
 use crate::allowed::is_allowed;
 use crate::allowed::set_refusal;
-use crate::work::blank;
+use crate::work::inverted;
+use crate::work::multiplied;
 use crate::work::no_letters;
 use refusals::lanes;
 use refusals::ranked_windows_refusal;
 use window::Answer;
-use window::inverse_of_window;
 use window::normal_form_of_window;
-use window::product_of_windows;
 ghost use mathlib.Core.Path.{_≡_};
 ghost use mathlib.Core.Bool.{false, not};
 ghost use lib.ListN.{length};
@@ -63,11 +62,8 @@ fn window_between(kind: u8, rank: u8, from: &[i8], to: &[i8]) -> [i8; 64]
     ensures { λ r. ⌜ (64 ≡ length r) × Front 64 (product (inverse (now (from .entry))) (now (to .entry))) r (kinds.lanes (kindOf kind) rank) ⌝ }
 {
     let m = lanes(kind, rank);
-    let mut back = blank();
-    inverse_of_window(kind, rank, from, &mut back);
-    let mut work = blank();
-    product_of_windows(kind, rank, &back[..m], to, &mut work);
-    work
+    let back = inverted(kind, rank, from);
+    multiplied(kind, rank, &back[..m], to)
 }
 
 // Its normal form, at the front of `form`. Answers its length.

@@ -21,7 +21,7 @@ pub(crate) fn no_letters() -> [u8; 4096]
 }
 
 // A window with room for every lane count.
-pub(crate) fn blank() -> [i8; 64]
+fn blank() -> [i8; 64]
     ensures { λ r. ⌜ 64 ≡ length r ⌝ }
 {
     [0i8; 64]

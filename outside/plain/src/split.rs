@@ -1,5 +1,5 @@
 //! A word split by allowed steps: what can be taken off its front, and what is left.
-use crate::checks::{check_rank, check_word};
+use crate::checks::{check_rank, check_set, check_word};
 use crate::window::{Window, inverse_into, length};
 use crate::{B, coded, front, lanes, word};
 
@@ -24,10 +24,7 @@ pub fn split(
 ) -> i64 {
     coded((|| {
         let rank = check_rank(kind, rank)?;
-        // At rank 64 every bit is a step.
-        if rank < 64 && allowed >> rank != 0 {
-            return Err(16);
-        }
+        check_set(rank, allowed)?;
         check_word(rank, word)?;
         let m = lanes(kind, rank);
         let mut window = Window::straight(m);

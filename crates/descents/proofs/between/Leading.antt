@@ -13,11 +13,11 @@ use lib.Seq.{take-length}
 use borrow.Author.Tests.{ne-eqb, le-ltb}
 use Rattle.coxeter.specs.declared.Answer.{Answer}
 use Rattle.coxeter.specs.declared.Answer.the-variants as answer
-use Rattle.coxeter.specs.Kinds.{kindOf, lanes}
+use Rattle.coxeter.specs.Kinds.{kindOf}
 use Rattle.coxeter.specs.Windows.{product, inverse}
 use Rattle.coxeter.specs.Checks.{check, _then_, rankRefusal, windowRefusal, wrongLetter}
 use Rattle.coxeter.specs.NormalForm.{normalForm}
-use Rattle.coxeter.specs.Calls.{Yields, written, writes, inverseOfWindow, productOfWindows, normalFormOfWindow}
+use Rattle.coxeter.specs.Calls.{Yields, written, writes, normalFormOfWindow}
 use Rattle.coxeter.proofs.Acceptance.{rank-accepted, lanes-le}
 use Rattle.coxeter.proofs.Levels.{Accepted, accepted-of-refusal, refusal-of-accepted}
 use Rattle.coxeter.proofs.Inverses.{inverse-accepted}
@@ -28,7 +28,7 @@ use Rattle.coxeter.proofs.NormalForms.{normalForm-letters}
 use Rattle.coxeter.proofs.PairWeights.{windowLength-le-4096}
 use Rattle.coxeter.proofs.Refusals.{then-zero, then-none, then-some, then-assoc}
 use Rattle.coxeter.proofs.Outcomes.{writes-refused}
-use Rattle.coxeter.proofs.Fronts.{Front, front-of-bytes, front-written, never-refused}
+use Rattle.coxeter.proofs.Fronts.{Front, front-written, never-refused}
 use Rattle.exchange.specs.Allowed.{over, allows, setRefusal}
 use Rattle.exchange.specs.Between.{between, reachable}
 use Rattle.exchange.specs.BetweenCalls.{unreachable, betweenRefusal, betweenWindows}
@@ -84,12 +84,9 @@ copied u out after e = e ∙ ap (λ (x : List ℕ). x ++ drop (length u) out) (t
 small : (k n : ℕ) (x : List ℤ) → rankRefusal k n ≡ 0 → Accepted (kindOf k) n x → length x ≤ 64
 small k n x r p = lanes-le k n (length x) r (p .size)
 
-pub inverse-front : (k n : ℕ) (v out back : List ℤ) → rankRefusal k n ≡ 0 → windowRefusal (kindOf k) n v ≡ 0 → 64 ≡ length out
-    → back ≡ inverseOfWindow k n v out .bytes → Front 64 (inverse v) back (lanes (kindOf k) n)
-unfolding inverseOfWindow
-inverse-front k n v out back r a f e =
-    let p = inverse-accepted (kindOf k) n v (accepted-of-refusal (kindOf k) n v a) in
-    front-of-bytes 64 _ (inverse v) out back (then-none _ _ r ∙ a) (small k n (inverse v) r p) f (lanes (kindOf k) n) (sym (p .size)) e
+-- the inverse as it was handed on is accepted
+pub back-accepted : (k n : ℕ) (u v : List ℤ) → u ≡ inverse v → windowRefusal (kindOf k) n v ≡ 0 → windowRefusal (kindOf k) n u ≡ 0
+back-accepted k n u v e a = rw e (refusal-of-accepted (kindOf k) n (inverse v) (inverse-accepted (kindOf k) n v (accepted-of-refusal (kindOf k) n v a)))
 
 module _ (k n : ℕ) (v w : List ℤ) (r : rankRefusal k n ≡ 0) (a : windowRefusal (kindOf k) n v ≡ 0) (b : windowRefusal (kindOf k) n w ≡ 0) where
   first : Accepted (kindOf k) n v
@@ -97,15 +94,6 @@ module _ (k n : ℕ) (v w : List ℤ) (r : rankRefusal k n ≡ 0) (a : windowRef
 
   middle : Accepted (kindOf k) n (product (inverse v) w)
   middle = between-accepted (kindOf k) n v w first (accepted-of-refusal (kindOf k) n w b)
-
-  -- u is the inverse as it was handed on
-  pub product-front : (u out work : List ℤ) → u ≡ inverse v → 64 ≡ length out → work ≡ productOfWindows k n u w out .bytes
-      → Front 64 (product (inverse v) w) work (lanes (kindOf k) n)
-  unfolding productOfWindows
-  product-front u out work q f e =
-      let c = refusal-of-accepted (kindOf k) n (inverse v) (inverse-accepted (kindOf k) n v first) in
-      front-of-bytes 64 _ (product (inverse v) w) out work (then-none _ _ r ∙ then-none _ _ c ∙ b) (small k n (product (inverse v) w) r middle) f
-      (lanes (kindOf k) n) (sym (middle .size)) (rw q at e)
 
   -- x is the window between the two as it was handed on, and y what the call on it answered
   module _ (x : List ℤ) (q : x ≡ product (inverse v) w) (out form : List ℕ) (y : Answer) (f : 4096 ≡ length out) (e : Yields (normalFormOfWindow k n x out) y form) where
