@@ -5,6 +5,7 @@ use refusals::size;
 ghost use mathlib.Core.Path.{_≡_};
 ghost use mathlib.Core.List.{map};
 ghost use Prim.Native.Nat.{_+_, _-_, _*_, _/_, _^_, _≤_, _<_};
+ghost use lib.Bits.{bitOr};
 ghost use lib.Count.{ones};
 ghost use lib.IntN.{natAbs, pos};
 ghost use lib.ListN.{length, take};
@@ -111,25 +112,29 @@ struct Parts {
     negatives: usize,
 }
 
-// How many sizes of a set are s or larger; the size s is bit s - 1.
-fn from_size(set: u64, s: u8) -> usize
-    requires { ⌜ (1 ≤ s) × (s ≤ 64) ⌝ }
+// How many sizes of a set are s or larger; the size s is bit s - 1. The set has m bits, and few of them are counted faster.
+fn from_size(m: usize, set: u64, s: u8) -> usize
+    requires { ⌜ (1 ≤ s) × (s ≤ 64) × (set < 2 ^ m) ⌝ }
     ensures { λ r. ⌜ r ≡ ones (set / 2 ^ (s - 1)) ⌝ }
 {
-    u64::count_ones(set >> (s - 1)) as usize
+    let rest = set >> (s - 1);
+    if m <= 8 {
+        return u8::count_ones(rest as u8) as usize;
+    }
+    u64::count_ones(rest) as usize
 }
 
-// A set with the size s, which it lacked.
+// A set and the size s.
 fn with_size(set: u64, s: u8) -> u64
-    requires { ⌜ (1 ≤ s) × (s ≤ 64) × (set + 2 ^ (s - 1) < 2 ^ 64) ⌝ }
-    ensures { λ r. ⌜ r ≡ set + 2 ^ (s - 1) ⌝ }
+    requires { ⌜ (1 ≤ s) × (s ≤ 64) ⌝ }
+    ensures { λ r. ⌜ r ≡ bitOr set (2 ^ (s - 1)) ⌝ }
 {
-    set + (1u64 << (s - 1))
+    set | (1u64 << (s - 1))
 }
 
-// One pass from the last entry to the first, with the set of the sizes behind. Where l of the sizes behind are larger than an entry's own, the entry
-// makes as many pairs as there are entries behind, and l more if it is negative, l fewer if not; `larger` sums l, `more` that of the
-// negative entries. A negative entry has a negative sum pair with each larger size. An accepted window of any kind is one of kind B.
+// One pass from the last entry to the first, with the set of the sizes behind. An entry makes one pair with each entry behind, of one sort or the other,
+// but with a larger one two if it is negative, and none if not. A negative entry has a negative sum pair with each larger size. An accepted
+// window of any kind is one of kind B.
 fn parts_of(w: &[i8]) -> Parts
     requires { ⌜ length (now w) ≤ 64 ⌝ }
     requires { ⌜ windowRefusal B (length (now w)) (now w) ≡ 0 ⌝ }
@@ -138,8 +143,7 @@ fn parts_of(w: &[i8]) -> Parts
 {
     let m = w.len();
     let mut behind: u64 = 0;
-    let mut larger: usize = 0;
-    let mut more: usize = 0;
+    let mut pairs = (m * m - m) / 2;
     let mut against: usize = 0;
     let mut negatives: usize = 0;
     let mut i = m;
@@ -147,18 +151,18 @@ fn parts_of(w: &[i8]) -> Parts
         i -= 1;
         let e = w[i];
         let s = size(e);
-        let l = from_size(behind, s);
+        let larger = from_size(m, behind, s);
         behind = with_size(behind, s);
-        let lack = m - s as usize;
-        larger += l;
         if is_negative(e) {
-            more += l;
-            against += lack;
+            pairs += larger;
+            against += m - s as usize;
             negatives += 1;
+        } else {
+            pairs -= larger;
         }
     }
     Parts {
-        pairs: (m * m - m) / 2 + 2 * more - larger,
+        pairs: pairs,
         against: against,
         negatives: negatives,
     }
@@ -208,4 +212,15 @@ pub(crate) fn length_of_front(kind: u8, rank: u8, work: &[i8]) -> usize
 {
     let m = refusals::lanes(kind, rank);
     length_of(kind, rank as usize, &work[..m])
+}
+
+// The length by sort of the accepted window at the front of `work`.
+pub(crate) fn crossings_of_front(kind: u8, rank: u8, work: &[i8]) -> Counted
+    requires { ⌜ rankRefusal kind rank ≡ 0 ⌝ }
+    requires { ⌜ lanes (kindOf kind) rank ≤ length (now work) ⌝ }
+    requires { ⌜ windowRefusal (kindOf kind) rank (take (lanes (kindOf kind) rank) (now work)) ≡ 0 ⌝ }
+    ensures { λ r. ⌜ r ≡ countedOf 0 (crossings (kindOf kind) (take (lanes (kindOf kind) rank) (now (work .entry)))) ⌝ }
+{
+    let m = refusals::lanes(kind, rank);
+    crossings_of(kind, rank as usize, &work[..m])
 }

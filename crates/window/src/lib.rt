@@ -31,6 +31,7 @@ use refusals::ranked_windows_refusal;
 use refusals::ranked_words_refusal;
 pub use refusals::word_refusal;
 use shown::copied;
+use shown::crossings_of_shown;
 use shown::equal_words;
 use shown::inverse_shown;
 use shown::length_of_shown;
@@ -192,10 +193,7 @@ pub fn crossings_of_word(kind: u8, rank: u8, word: &[u8]) -> Counted
     if refusal != 0 {
         return Counted::Refused(refusal);
     }
-    let n = rank as usize;
-    let m = lanes(kind, rank);
-    let work = shown(kind, rank, word);
-    crossings_of(kind, n, &work[..m])
+    crossings_of_shown(kind, rank, word)
 }
 
 // Answers whether two presets show the same. Refuses with 5 or 6, then 7 or 8 for the first preset, and then the same for the second. Accepted

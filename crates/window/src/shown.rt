@@ -1,9 +1,11 @@
 // What words show, written to the front of an output or of a work window of this module's own.
 use crate::action::apply;
 use crate::action::show;
+use crate::length::crossings_of_front;
 use crate::length::length_of_front;
 use crate::product::inverse_into;
 use crate::product::same_fronts;
+use coxeter::Counted;
 use refusals::lanes;
 ghost use mathlib.Core.Path.{_≡_};
 ghost use Prim.Native.Nat.{_≤_};
@@ -11,9 +13,9 @@ ghost use lib.ListN.{length, take};
 ghost use Rattle.coxeter.specs.Kinds as kinds;
 ghost use Rattle.coxeter.specs.Kinds.{kindOf};
 ghost use Rattle.coxeter.specs.Windows.{window, product, inverse};
-ghost use Rattle.coxeter.specs.Length.{windowLength};
+ghost use Rattle.coxeter.specs.Length.{crossings, windowLength};
 ghost use Rattle.coxeter.specs.Checks.{rankRefusal, wordRefusal};
-ghost use Rattle.coxeter.specs.Calls.{written, equalWords, samePresets};
+ghost use Rattle.coxeter.specs.Calls.{written, countedOf, equalWords, samePresets};
 
 // A window with room for every lane count.
 fn blank() -> [i8; 64]
@@ -99,6 +101,17 @@ pub(crate) fn length_of_shown(kind: u8, rank: u8, word: &[u8]) -> usize
     let mut work = blank();
     show_front(kind, rank, word, &mut work);
     length_of_front(kind, rank, &work)
+}
+
+// The length of an accepted word's window by sort.
+pub(crate) fn crossings_of_shown(kind: u8, rank: u8, word: &[u8]) -> Counted
+    requires { ⌜ rankRefusal kind rank ≡ 0 ⌝ }
+    requires { ⌜ wordRefusal rank (now word) ≡ 0 ⌝ }
+    ensures { λ r. ⌜ r ≡ countedOf 0 (crossings (kindOf kind) (window (kindOf kind) rank (now (word .entry)))) ⌝ }
+{
+    let mut work = blank();
+    show_front(kind, rank, word, &mut work);
+    crossings_of_front(kind, rank, &work)
 }
 
 // Whether two accepted presets show the same: as many lanes, and the same entry in each, whatever the kinds.

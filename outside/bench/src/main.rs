@@ -3,6 +3,7 @@
 //! Both answer the same call on the same inputs into the same outputs, through functions that are not inlined here: the
 //! archive's, called over the C interface, and `plain`'s, at opt-level 3. Outputs are not cleared in between.
 //! `bench WORD` times only the calls whose names have that word.
+mod sorts;
 mod traces;
 
 use std::hint::black_box;
@@ -96,8 +97,26 @@ fn rounds(call: &mut impl FnMut(usize, &mut Outputs) -> i64, outputs: &mut Outpu
     rounds
 }
 
+/// Nanoseconds for one call of either side on inputs 0 to INPUTS - 1.
+fn times(
+    mut first: impl FnMut(usize, &mut Outputs) -> i64,
+    mut second: impl FnMut(usize, &mut Outputs) -> i64,
+    outputs: &mut Outputs,
+) -> [f64; 2] {
+    let rounds = rounds(&mut first, outputs).max(rounds(&mut second, outputs));
+    let mut times = [Vec::new(), Vec::new()];
+    for _ in 0..SAMPLES {
+        times[0].push(run(&mut first, outputs, rounds));
+        times[1].push(run(&mut second, outputs, rounds));
+    }
+    times.map(|mut times| {
+        times.sort_by(f64::total_cmp);
+        times[times.len() / 2]
+    })
+}
+
 impl Bench {
-    /// Times both sides on inputs 0 to INPUTS - 1.
+    /// Times both sides.
     fn cell(
         &mut self,
         call: &'static str,
@@ -114,16 +133,7 @@ impl Bench {
             let (r, p) = (rattle(k, outputs), plain(k, outputs));
             assert!(r == p && r >= 0, "{call}: the answers are {r} and {p}");
         }
-        let rounds = rounds(&mut rattle, outputs).max(rounds(&mut plain, outputs));
-        let mut times = [Vec::new(), Vec::new()];
-        for _ in 0..SAMPLES {
-            times[0].push(run(&mut rattle, outputs, rounds));
-            times[1].push(run(&mut plain, outputs, rounds));
-        }
-        let [rattle, plain] = times.map(|mut times| {
-            times.sort_by(f64::total_cmp);
-            times[times.len() / 2]
-        });
+        let [rattle, plain] = times(rattle, plain, outputs);
         self.cells.push(Cell { call, row: row.to_string(), column: column.to_string(), rattle, plain });
     }
 
@@ -220,6 +230,9 @@ fn main() {
     tables(&mut bench);
     books(&mut bench, &mut random);
     bench.print();
+    if "length by sort".contains(&bench.filter) {
+        sorts::print(&mut random, &mut bench.outputs);
+    }
     if "rewriting to the end".contains(&bench.filter) {
         traces::print(&mut random);
     }

@@ -1,16 +1,19 @@
 -- The sizes of some entries as a set in a number, one binary digit a size. A shift drops the smaller sizes, and the set digits count the others.
+--
+-- Sections: the set; one entry more; how many sizes; the sizes from s on.
 -- Assumes nothing.
 use mathlib.Core.Path.{_≡_, refl, sym, ap, _∙_}
-use mathlib.Core.Bool.{Bool, true, false}
+use mathlib.Core.Bool.{Bool, true, false, not, _||_, or-true, or-false}
 use mathlib.Core.List.{List, [], _∷_, map}
-use Prim.Native.Nat.{ℕ, zero, suc, _+_, _-_, _*_, _/_, _%_, _^_, _≤_, _<_}
-use native.Mathlib.Nat.{lt-of-le-of-lt, pow-zero, pow-suc, div-one}
+use Prim.Native.Nat.{ℕ, zero, suc, _+_, _-_, _*_, _/_, _%_, _^_, _≤_, _<_, max}
+use native.Mathlib.Nat.{add-zero, pow-zero, pow-suc, div-one}
 use native.Mathlib.Omega.{arith}
-use lib.Count.{ones, ones-step, ones-le}
+use lib.Bits.{bitOr, or-step, or-zero-r}
+use lib.Count.{ones, ones-step}
 use lib.Dec.{ltb}
 use lib.IntN.{ℤ, natAbs}
 use lib.ListN.{length}
-use lib.Pow.{shr-shr, shr-le}
+use lib.Pow.{shr-shr}
 use borrow.Author.Tests.{eq-eqb, ne-eqb, ltb-true, ltb-false}
 use Rattle.coxeter.specs.Kinds.{pick}
 use Rattle.coxeter.specs.Length.{one, later, laterThan}
@@ -50,53 +53,85 @@ unfolding one
 digit-odd true x = omega arith
 digit-odd false x = omega arith
 
--- ---- one size more
+-- ---- one entry more
 
--- an entry below s
-hasSize-apart : (s : ℕ) (e : ℤ) (w : List ℤ) → (natAbs e ≡ s → ⊥) → hasSize s (e ∷ w) ≡ hasSize s w
+-- an entry of the size s
+there : (s : ℕ) (e : ℤ) (w : List ℤ) → natAbs e ≡ s → hasSize s (e ∷ w) ≡ true
 unfolding hasSize
-hasSize-apart s e w n = rw (ne-eqb (natAbs e) s n)
+there s e w q = rw (eq-eqb (natAbs e) s q)
 
-pub sizeSet-below : (d s : ℕ) (e : ℤ) (w : List ℤ) → natAbs e < s → sizeSet d s (e ∷ w) ≡ sizeSet d s w
+-- of another size
+apart : (s : ℕ) (e : ℤ) (w : List ℤ) → (natAbs e ≡ s → ⊥) → hasSize s (e ∷ w) ≡ hasSize s w
+unfolding hasSize
+apart s e w n = rw (ne-eqb (natAbs e) s n)
+
+-- of a size below s
+sizeSet-below : (d s : ℕ) (e : ℤ) (w : List ℤ) → natAbs e < s → sizeSet d s (e ∷ w) ≡ sizeSet d s w
 unfolding sizeSet
 sizeSet-below zero s e w l = refl
-sizeSet-below (suc d) s e w l = rw (sizeSet-below d (suc s) e w (omega arith), hasSize-apart s e w (λ q. omega arith))
+sizeSet-below (suc d) s e w l = rw (sizeSet-below d (suc s) e w (omega arith), apart s e w (λ q. omega arith))
+
+lowest : (t u : Bool) (z : ℕ) → z * 2 + max (one t) (one u) ≡ 2 * z + one (t || u)
+unfolding one
+lowest true true z = omega arith
+lowest true false z = omega arith
+lowest false true z = omega arith
+lowest false false z = omega arith
+
+-- digit by digit
+or-digits : (t u : Bool) (x y : ℕ) → bitOr (2 * x + one t) (2 * y + one u) ≡ 2 * bitOr x y + one (t || u)
+or-digits t u x y =
+    or-step (2 * x + one t) (2 * y + one u) ∙ rw (digit-half t x, digit-half u y, digit-odd t x, digit-odd u y) (lowest t u (bitOr x y))
+
+or-lowest : (t : Bool) (x : ℕ) → bitOr (2 * x + one t) 1 ≡ 2 * x + one true
+unfolding one
+or-lowest t x = or-digits t true x 0 ∙ rw (or-true t, or-zero-r x)
+
+or-higher : (t : Bool) (x y : ℕ) → bitOr (2 * x + one t) (2 * y) ≡ 2 * bitOr x y + one t
+unfolding one
+or-higher t x y =
+    ap (bitOr (2 * x + one t)) (sym (add-zero (2 * y)))
+    ∙ or-digits t false x y
+    ∙ ap (λ (u : Bool). 2 * bitOr x y + one u) (or-false t)
+
+-- an entry of the size s + p
+pub sizeSet-cons : (d s p : ℕ) (e : ℤ) (w : List ℤ) → natAbs e ≡ s + p → p < d → sizeSet d s (e ∷ w) ≡ bitOr (sizeSet d s w) (2 ^ p)
+unfolding sizeSet
+sizeSet-cons zero s p e w q l = absurd (omega arith)
+sizeSet-cons (suc d) s zero e w q l =
+    rw (there s e w (omega arith), sizeSet-below d (suc s) e w (omega arith)) (sym (or-lowest (hasSize s w) (sizeSet d (suc s) w)))
+sizeSet-cons (suc d) s (suc p) e w q l =
+    let twice : 2 ^ suc p ≡ 2 * 2 ^ p = omega (arith, pow-suc 2 p) in
+    rw (sizeSet-cons d (suc s) p e w (omega arith) (omega arith), apart s e w (λ a. omega arith), twice)
+    (sym (or-higher (hasSize s w) (sizeSet d (suc s) w) (2 ^ p)))
+
+-- ---- how many sizes
 
 ones-digit : (t : Bool) (x : ℕ) → ones (2 * x + one t) ≡ one t + ones x
 ones-digit t x = ones-step (2 * x + one t) ∙ rw (digit-odd t x, digit-half t x)
 
--- an entry of the size s + p, which is new
-module _ (e : ℤ) (w : List ℤ) (new : hasSize (natAbs e) w ≡ false) where
-  there : (s : ℕ) → natAbs e ≡ s → hasSize s (e ∷ w) ≡ true
-  unfolding hasSize
-  there s q = rw (eq-eqb (natAbs e) s q)
+one-more : (t : Bool) (y : ℕ) → one true + y ≡ one (not t) + (one t + y)
+unfolding one
+one-more true y = omega arith
+one-more false y = omega arith
 
-  absent : (s : ℕ) → natAbs e ≡ s → hasSize s w ≡ false
-  absent s q = rw (sym q) new
-
-  sizeSet-add : (d s p : ℕ) → natAbs e ≡ s + p → p < d → sizeSet d s (e ∷ w) ≡ sizeSet d s w + 2 ^ p
-  unfolding sizeSet one
-  sizeSet-add zero s p q l = absurd (omega arith)
-  sizeSet-add (suc d) s zero q l =
-      let a : natAbs e ≡ s = omega arith in
-      rw (there s a, absent s a, sizeSet-below d (suc s) e w (omega arith)) (omega arith)
-  sizeSet-add (suc d) s (suc p) q l =
-      rw (sizeSet-add d (suc s) p (omega arith) (omega arith), hasSize-apart s e w (λ a. omega arith)) (omega (arith, pow-suc 2 p))
-
-  ones-add : (d s p : ℕ) → natAbs e ≡ s + p → p < d → ones (sizeSet d s (e ∷ w)) ≡ 1 + ones (sizeSet d s w)
-  unfolding sizeSet
-  ones-add zero s p q l = absurd (omega arith)
-  ones-add (suc d) s zero q l =
-      let a : natAbs e ≡ s = omega arith in
-      rw (there s a, absent s a, sizeSet-below d (suc s) e w (omega arith), ones-digit true (sizeSet d (suc s) w), ones-digit false (sizeSet d (suc s) w))
-      (unfold one in omega arith)
-  ones-add (suc d) s (suc p) q l =
-      rw (ones-digit (hasSize s (e ∷ w)) (sizeSet d (suc s) (e ∷ w)), ones-digit (hasSize s w) (sizeSet d (suc s) w), hasSize-apart s e w (λ a. omega arith))
-      (omega (arith, ones-add d (suc s) p (omega arith) (omega arith)))
+-- an entry of the size s + p counts if its size is new
+ones-cons : (d s p : ℕ) (e : ℤ) (w : List ℤ) → natAbs e ≡ s + p → p < d
+    → ones (sizeSet d s (e ∷ w)) ≡ one (not (hasSize (natAbs e) w)) + ones (sizeSet d s w)
+unfolding sizeSet
+ones-cons zero s p e w q l = absurd (omega arith)
+ones-cons (suc d) s zero e w q l =
+    let x = sizeSet d (suc s) w in
+    let a : natAbs e ≡ s = omega arith in
+    rw (there s e w a, sizeSet-below d (suc s) e w (omega arith), ones-digit true x, ones-digit (hasSize s w) x, a) (one-more (hasSize s w) (ones x))
+ones-cons (suc d) s (suc p) e w q l =
+    let x = sizeSet d (suc s) w in
+    rw (ones-digit (hasSize s (e ∷ w)) (sizeSet d (suc s) (e ∷ w)), ones-digit (hasSize s w) x, apart s e w (λ a. omega arith))
+    (omega (arith, ones-cons d (suc s) p e w (omega arith) (omega arith)))
 
 -- ---- the sizes from s on
 
--- the sizes below s are shifted out
+-- the sizes below s + p are shifted out
 shifted : (p d s : ℕ) (w : List ℤ) → sizeSet (p + d) s w / 2 ^ p ≡ sizeSet d (s + p) w
 unfolding sizeSet
 shifted zero d s w =
@@ -122,39 +157,19 @@ ones-or-smaller d s (e ∷ w) b h = go (ltb (natAbs e) s) refl (ones-or-smaller 
     go true q r = rw (sizeSet-below d s e w (ltb-true (natAbs e) s q)) (omega (arith, r))
     go false q r =
         let l = ltb-false (natAbs e) s q in
-        omega (arith, r, ones-add e w (h .0) d s (natAbs e - s) (omega arith) (omega arith))
+        rw (ones-cons d s (natAbs e - s) e w (omega arith) (omega arith), h .0) (omega (arith, r))
 
--- ---- the set of all sizes up to 64
-
-unfoldable pub sizes : List ℤ → ℕ
-sizes w = sizeSet 64 1 w
-
--- how many entries have a size of at least a
-unfoldable pub fromSize : ℕ → List ℤ → ℕ
-fromSize a w = ones (sizes w / 2 ^ (a - 1))
-
-pub sizes-nil : sizes [] ≡ 0
-unfolding sizes
-sizes-nil = sizeSet-nil 64 1
-
-pub sizes-cons : (e : ℤ) (w : List ℤ) → 1 ≤ natAbs e → natAbs e ≤ 64 → hasSize (natAbs e) w ≡ false → sizes (e ∷ w) ≡ sizes w + 2 ^ (natAbs e - 1)
-unfolding sizes
-sizes-cons e w a b new = sizeSet-add e w new 64 1 (natAbs e - 1) (omega arith) (omega arith)
-
-pub sizes-lt : (w : List ℤ) → sizes w < 2 ^ 64
-unfolding sizes
-sizes-lt w = sizeSet-lt 64 1 w
-
-pub fromSize-le : (a : ℕ) (w : List ℤ) → fromSize a w ≤ 64
-unfolding fromSize
-fromSize-le a w = ones-le 64 (sizes w / 2 ^ (a - 1)) (lt-of-le-of-lt (shr-le (sizes w) (a - 1)) (sizes-lt w))
+-- of m sizes, how many are a or larger
+unfoldable pub fromSize : ℕ → ℕ → List ℤ → ℕ
+fromSize m a w = ones (sizeSet m 1 w / 2 ^ (a - 1))
 
 -- each entry has a size of at least a or one below a
-pub fromSize-add-smaller : (a : ℕ) (w : List ℤ) → 1 ≤ a → a ≤ 64 → Between 1 65 w → Distinct w → fromSize a w + smaller a (map natAbs w) ≡ length w
-unfolding fromSize sizes
-fromSize-add-smaller a w l h b d =
-    let all : a - 1 + (65 - a) ≡ 64 = omega arith in
+pub fromSize-add-smaller : (m a : ℕ) (w : List ℤ) → 1 ≤ a → a ≤ m → Between 1 (1 + m) w → Distinct w
+    → fromSize m a w + smaller a (map natAbs w) ≡ length w
+unfolding fromSize
+fromSize-add-smaller m a w l h b d =
+    let all : a - 1 + (1 + m - a) ≡ m = omega arith in
     let first : 1 + (a - 1) ≡ a = omega arith in
-    let above = rw (all, first) at (shifted (a - 1) (65 - a) 1 w) in
-    let upper : a + (65 - a) ≡ 65 = omega arith in
-    rw above (ones-or-smaller (65 - a) a w (rw upper b) d)
+    let above = rw (all, first) at (shifted (a - 1) (1 + m - a) 1 w) in
+    let upper : a + (1 + m - a) ≡ 1 + m = omega arith in
+    rw above (ones-or-smaller (1 + m - a) a w (rw upper b) d)

@@ -95,7 +95,7 @@ weights-behind x w = rw (length-map w natAbs) (by-sign (negative x) refl)
 
 -- ---- all entries
 
-between-drop : (a c i : ℕ) (w : List ℤ) → Between a c w → Between a c (drop i w)
+pub between-drop : (a c i : ℕ) (w : List ℤ) → Between a c w → Between a c (drop i w)
 between-drop a c zero w b = b
 between-drop a c (suc i) [] b = tt
 between-drop a c (suc i) (e ∷ w) b = between-drop a c i w (b .2)

@@ -1,7 +1,7 @@
--- `length::parts_of` goes from the last entry to the first, with the set of the sizes behind and four sums over the entries behind.
+-- `length::parts_of` goes from the last entry to the first, with the set of the sizes behind and three sums.
 -- Assumes nothing.
 use mathlib.Core.Path.{_≡_, ap, _∙_}
-use Prim.Native.Nat.{_-_, _*_, _≤_}
+use Prim.Native.Nat.{_-_, _≤_}
 use denote.Ref.{now}
 use native.Mathlib.Omega.{arith}
 use lib.IntN.{ℤ, pos, natAbs}
@@ -9,17 +9,21 @@ use lib.ListN.{length, getD}
 use borrow.Author.Needs.{needs}
 use Rattle.coxeter.specs.Length.{negative}
 use Rattle.refusals.proofs.Bytes.{element-back}
-use Rattle.window.proofs.length.OnePass.{Gone, gone-none, size-bounds, set-fits, sums-fit, larger-fits, gone-negative, gone-positive}
-use Rattle.window.proofs.length.OnePass.{larger-le-pairs, pairs-fit, parts}
+use Rattle.window.proofs.length.OnePass.{Gone, gone-none, square-fits, size-bounds, set-fits, sums-fit, pairs-fit, left, gone-negative, gone-positive, parts}
 use Rattle.window.proofs.length.parts_of.Statement.{statement}
 use Rattle.window.proofs.length.parts_of.Tie as tie
 
 abbrev Inv-loop : tie.InvT-loop
-Inv-loop w m behind₀ larger₀ more₀ against₀ negatives₀ i₀ behind larger more against negatives i =
-    Gone w behind larger more against negatives i
+Inv-loop w m behind₀ pairs₀ against₀ negatives₀ i₀ behind pairs against negatives i = Gone w behind pairs against negatives i
 
 abbrev μ-loop : tie.MeasureT-loop
-μ-loop w m behind₀ larger₀ more₀ against₀ negatives₀ i₀ behind larger more against negatives i = i
+μ-loop w m behind₀ pairs₀ against₀ negatives₀ i₀ behind pairs against negatives i = i
+
+mul-pairs : tie.Need-mul-pairs Inv-loop μ-loop
+mul-pairs c = record { fits = omega (arith, square-fits _ (c .pre .0) .0) }
+
+sub-pairs : tie.Need-sub-pairs Inv-loop μ-loop
+sub-pairs c = square-fits _ (c .pre .0) .1
 
 loop-holds : tie.Need-loop-holds Inv-loop μ-loop
 loop-holds c = gone-none _
@@ -46,60 +50,25 @@ bounds : (c : tie.After-size Inv-loop μ-loop) → (1 ≤ c .size .result) × (c
 bounds c =
     let turn = c .before .before in
     let pre = turn .before .before .pre in
-    size-bounds _ _ _ _ _ _ _ _ (turn .before .loop .inv) (turn .loop-test .taken) (pre .0) (pre .1) (size-of c)
-
--- the sums so far, and how many are larger
-small : (c : tie.After-from-size Inv-loop μ-loop)
-    → let sums = c .before .before .before .before .loop in
-    (sums .larger ≤ 4096) × (sums .more ≤ 4096) × (sums .against ≤ 4096) × (sums .negatives ≤ 64) × (c .from-size .result ≤ 64)
-small c =
-    let at = c .before in
-    let turn = at .before .before in
-    let pre = turn .before .before .pre in
-    let f = sums-fit _ _ _ _ _ _ _ _ (turn .before .loop .inv) (turn .loop-test .taken) (pre .0) (pre .1) (size-of at) in (
-      f .0,
-      f .1,
-      f .2,
-      f .3,
-      larger-fits _ _ _ _ _ _ _ _ (turn .before .loop .inv) (turn .loop-test .taken) (pre .0) (pre .1) (size-of at) _ (c .from-size .ensures),
-    )
+    size-bounds _ _ _ _ _ _ _ (turn .before .loop .inv) (turn .loop-test .taken) (pre .0) (pre .1) (size-of c)
 
 from-size-requires : tie.Need-from-size-requires Inv-loop μ-loop
-from-size-requires c κs = let b = bounds c in (b .0, omega (arith, b .1, c .before .before .before .before .pre .0))
+from-size-requires c κs =
+    let turn = c .before .before in
+    let pre = turn .before .before .pre in
+    let b = bounds c in (
+      b .0,
+      omega (arith, b .1, pre .0),
+      set-fits _ _ _ _ _ _ _ (turn .before .loop .inv) (turn .loop-test .taken) (pre .0) (pre .1) (size-of c),
+    )
 
 with-size-requires : tie.Need-with-size-requires Inv-loop μ-loop
 with-size-requires c κs =
     let at = c .before in
-    let turn = at .before .before in
-    let pre = turn .before .before .pre in
-    let b = bounds at in (
-      b .0,
-      omega (arith, b .1, pre .0),
-      set-fits _ _ _ _ _ _ _ _ (turn .before .loop .inv) (turn .loop-test .taken) (pre .0) (pre .1) (size-of at),
-    )
-
-cast-lack : tie.Need-cast-lack Inv-loop μ-loop
-cast-lack c = search needs
-
-sub-lack : tie.Need-sub-lack Inv-loop μ-loop
-sub-lack c = bounds (c .before .before) .1
-
-add-larger : tie.Need-add-larger Inv-loop μ-loop
-add-larger c = record { fits = omega (arith, small (c .before)) }
+    let b = bounds at in (b .0, omega (arith, b .1, at .before .before .before .before .pre .0))
 
 is-negative-requires : tie.Need-is-negative-requires Inv-loop μ-loop
 is-negative-requires c κs = search needs
-
-add-more : tie.Need-add-more Inv-loop μ-loop
-add-more c = record { fits = omega (arith, small (c .before .before .before)) }
-
-add-against : tie.Need-add-against Inv-loop μ-loop
-add-against c =
-    let at = c .before .before .before in
-    record { fits = omega (arith, small at, at .before .before .before .before .before .pre .0) }
-
-add-negatives : tie.Need-add-negatives Inv-loop μ-loop
-add-negatives c = record { fits = omega (arith, small (c .before .before .before)) }
 
 -- the sign is that of the same entry
 sign-of : (c : tie.After-is-negative Inv-loop μ-loop)
@@ -110,6 +79,38 @@ sign-of c =
     let turn = read .before in
     let e : ℤ = getD (now (turn .before .before .args .w)) (turn .before .loop .i - 1) (pos 0) in
     c .is-negative .ensures ∙ ap negative (element-back e (read .e .given))
+
+-- the sums over the entries behind
+small : (c : tie.After-size Inv-loop μ-loop) → let sums = c .before .before .before .loop in (sums .against ≤ 4096) × (sums .negatives ≤ 64)
+small c =
+    let turn = c .before .before in
+    let pre = turn .before .before .pre in
+    sums-fit _ _ _ _ _ _ _ (turn .before .loop .inv) (turn .loop-test .taken) (pre .0) (pre .1) (size-of c)
+
+add-pairs : tie.Need-add-pairs Inv-loop μ-loop
+add-pairs c =
+    let asked = c .before in
+    let got = asked .before .before in
+    let at = got .before in
+    let turn = at .before .before in
+    let pre = turn .before .before .pre in
+    let fits = pairs-fit _ _ _ _ _ _ _ (turn .before .loop .inv) (turn .loop-test .taken) (pre .0) (pre .1) (size-of at) _ (got .from-size .ensures) _
+    (sign-of asked) (c .if1 .taken) in
+    record { fits = omega (arith, fits) }
+
+cast-against : tie.Need-cast-against Inv-loop μ-loop
+cast-against c = search needs
+
+sub-against : tie.Need-sub-against Inv-loop μ-loop
+sub-against c = bounds (c .before .before .before .before) .1
+
+add-against : tie.Need-add-against Inv-loop μ-loop
+add-against c =
+    let at = c .before .before .before .before in
+    record { fits = omega (arith, small at, at .before .before .before .before .pre .0) }
+
+add-negatives : tie.Need-add-negatives Inv-loop μ-loop
+add-negatives c = record { fits = omega (arith, small (c .before .before .before .before)) }
 
 loop-less : tie.Need-loop-less Inv-loop μ-loop
 loop-less c = search needs
@@ -122,8 +123,18 @@ loop-again c =
     let turn = at .before .before in
     let pre = turn .before .before .pre in
     rw (asked .before .with-size .ensures)
-    (gone-negative _ _ _ _ _ _ _ _ (turn .before .loop .inv) (turn .loop-test .taken) (pre .0) (pre .1) (size-of at) _ (got .from-size .ensures) _
+    (gone-negative _ _ _ _ _ _ _ (turn .before .loop .inv) (turn .loop-test .taken) (pre .0) (pre .1) (size-of at) _ (got .from-size .ensures) _
     (sign-of asked) (c .if1 .taken))
+
+sub-pairs-2 : tie.Need-sub-pairs-2 Inv-loop μ-loop
+sub-pairs-2 c =
+    let asked = c .before in
+    let got = asked .before .before in
+    let at = got .before in
+    let turn = at .before .before in
+    let pre = turn .before .before .pre in
+    left _ _ _ _ _ _ _ (turn .before .loop .inv) (turn .loop-test .taken) (pre .0) (pre .1) (size-of at) _ (got .from-size .ensures) _
+    (sign-of asked) (c .if1 .left)
 
 loop-less-2 : tie.Need-loop-less-2 Inv-loop μ-loop
 loop-less-2 c = search needs
@@ -136,40 +147,13 @@ loop-again-2 c =
     let turn = at .before .before in
     let pre = turn .before .before .pre in
     rw (asked .before .with-size .ensures)
-    (gone-positive _ _ _ _ _ _ _ _ (turn .before .loop .inv) (turn .loop-test .taken) (pre .0) (pre .1) (size-of at) _ (got .from-size .ensures) _
+    (gone-positive _ _ _ _ _ _ _ (turn .before .loop .inv) (turn .loop-test .taken) (pre .0) (pre .1) (size-of at) _ (got .from-size .ensures) _
     (sign-of asked) (c .if1 .left))
-
-none : (c : tie.After-loop Inv-loop μ-loop) → c .before .loop .i ≡ 0
-none c = omega (arith, c .loop-test .left)
-
-end : (c : tie.After-loop Inv-loop μ-loop)
-    → let m = length (c .before .before .args .w .now) in
-    (m * m ≤ 4096) × (m ≤ m * m) × (c .before .loop .more ≤ 4096)
-end c =
-    let pre = c .before .before .pre in
-    pairs-fit _ _ _ _ _ _ _ (c .before .loop .inv) (none c) (pre .0) (pre .1)
-
-mul-t18 : tie.Need-mul-t18 Inv-loop μ-loop
-mul-t18 c = record { fits = omega (arith, end c .0) }
-
-sub-t19 : tie.Need-sub-t19 Inv-loop μ-loop
-sub-t19 c = end c .1
-
-mul-t21 : tie.Need-mul-t21 Inv-loop μ-loop
-mul-t21 c = record { fits = omega (arith, end c .2) }
-
-add-t22 : tie.Need-add-t22 Inv-loop μ-loop
-add-t22 c = record { fits = omega (arith, end c) }
-
-sub-t23 : tie.Need-sub-t23 Inv-loop μ-loop
-sub-t23 c =
-    let pre = c .before .before .pre in
-    larger-le-pairs _ _ _ _ _ _ _ (c .before .loop .inv) (none c) (pre .0) (pre .1)
 
 returns : tie.Need-returns Inv-loop μ-loop
 returns c =
     let pre = c .before .before .pre in
-    parts _ _ _ _ _ _ _ (c .before .loop .inv) (none c) (pre .0) (pre .1)
+    parts _ _ _ _ _ _ (c .before .loop .inv) (omega (arith, c .loop-test .left)) (pre .0) (pre .1)
 
 pub parts-of-spec : {M : Type 1} → statement M
 parts-of-spec =
@@ -177,26 +161,23 @@ parts-of-spec =
     (tie.spec
     Inv-loop
     μ-loop
+    mul-pairs
+    sub-pairs
     loop-holds
     sub-i
     shared-slice-copy-out-e
     size-requires
     from-size-requires
     with-size-requires
-    cast-lack
-    sub-lack
-    add-larger
     is-negative-requires
-    add-more
+    add-pairs
+    cast-against
+    sub-against
     add-against
     add-negatives
     loop-less
     loop-again
+    sub-pairs-2
     loop-less-2
     loop-again-2
-    mul-t18
-    sub-t19
-    mul-t21
-    add-t22
-    sub-t23
     returns)
