@@ -1,19 +1,24 @@
--- The calls that write normal forms: check 14 against the length that the sums give, and what is written from a work window.
+-- The calls that write normal forms: check 14 against the length that the sums give, or against n × n, and what is written from a work window.
 -- Assumes nothing.
 use mathlib.Core.Path.{_≡_, refl, sym, _∙_}
+use mathlib.Core.Bool.{Bool, true, false}
 use mathlib.Core.List.{List}
-use Prim.Native.Nat.{ℕ, _≤_, _<_}
+use Prim.Native.Nat.{ℕ, zero, suc, _*_, _≤_}
+use native.Mathlib.Nat.{le-refl, suc-mul, mul-add, mul-le-mul-left}
 use native.Mathlib.Omega.{arith}
+use lib.Dec.{ltb}
 use lib.IntN.{ℤ}
 use lib.ListN.{length, take}
+use borrow.Author.Tests.{ltb-true, ltb-false, le-ltb}
 use Rattle.coxeter.specs.declared.Answer.{Answer}
 use Rattle.coxeter.specs.declared.Answer.the-variants.{Length, Refused}
 use Rattle.coxeter.proofs.Levels.{accepted-of-refusal}
 use Rattle.coxeter.proofs.Acceptance.{lanes-le}
 use Rattle.coxeter.proofs.Outcomes.{writes-short, writes-written, writes-passed}
 use Rattle.coxeter.proofs.Lengths.{length-normalForm}
-use Rattle.coxeter.specs.Kinds.{Kind, kindOf, lanes}
-use Rattle.coxeter.specs.Length.{windowLength}
+use Rattle.coxeter.proofs.GreatestLengths.{windowLength-le}
+use Rattle.coxeter.specs.Kinds.{Kind, A, B, D, kindOf, lanes}
+use Rattle.coxeter.specs.Length.{windowLength, greatestLength}
 use Rattle.coxeter.specs.Checks.{rankRefusal, windowRefusal}
 use Rattle.coxeter.specs.NormalForm.{normalForm}
 use Rattle.coxeter.specs.Calls.{Outcome, Yields, written, writes}
@@ -21,20 +26,36 @@ use Rattle.window.proofs.shown.Fronts.{Front}
 
 -- ---- check 14
 
-module _ (k : Kind) (n : ℕ) (w : List ℤ) (out : List ℕ) (l : ℕ) (g : windowRefusal k n w ≡ 0) (e : l ≡ windowLength k w) where
+square-le : (n : ℕ) → n ≤ n * n
+square-le zero = omega arith
+square-le (suc n) = omega (arith, suc-mul n (suc n))
+
+greatest-le : (k : Kind) (n : ℕ) → greatestLength k n ≤ n * n
+greatest-le A n = omega (arith, square-le n, mul-add n n 1)
+greatest-le B n = le-refl (n * n)
+greatest-le D n = mul-le-mul-left n (omega arith)
+
+-- n × n letters are room for every normal form
+pub square-room : (k : Kind) (n room : ℕ) (w : List ℤ) → windowRefusal k n w ≡ 0 → n * n ≤ room → false ≡ ltb room (windowLength k w)
+square-room k n room w g s =
+    sym (le-ltb room (windowLength k w) (omega (arith, s, greatest-le k n, windowLength-le k n w (accepted-of-refusal k n w g))))
+
+-- t says whether there is too little room
+module _ (k : Kind) (n : ℕ) (w : List ℤ) (out : List ℕ) (t : Bool) (g : windowRefusal k n w ≡ 0) (e : t ≡ ltb (length out) (windowLength k w)) where
   -- the sums are the normal form's length
-  sums : length (normalForm k n w) ≡ l
-  sums = length-normalForm k n w (accepted-of-refusal k n w g) ∙ sym e
+  sums : length (normalForm k n w) ≡ windowLength k w
+  sums = length-normalForm k n w (accepted-of-refusal k n w g)
 
-  pub checked-short : length out < l → Yields (writes 0 (normalForm k n w) out) (Refused 14) out
-  checked-short = writes-short _ 0 0 (normalForm k n w) out refl refl l refl sums
+  pub checked-short : t ≡ true → Yields (writes 0 (normalForm k n w) out) (Refused 14) out
+  checked-short y =
+      writes-short _ 0 0 (normalForm k n w) out refl refl (windowLength k w) refl sums (ltb-true (length out) (windowLength k w) (sym e ∙ y))
 
-  pub checked-room : l ≤ length out → length (normalForm k n w) ≤ length out
-  checked-room s = omega (arith, sums)
+  pub checked-room : t ≡ false → length (normalForm k n w) ≤ length out
+  checked-room y = omega (arith, sums, ltb-false (length out) (windowLength k w) (sym e ∙ y))
 
-  pub checked-written : (r : ℕ) (v : List ℕ) → l ≤ length out → r ≡ length (normalForm k n w) → v ≡ written 0 (normalForm k n w) out
+  pub checked-written : (r : ℕ) (v : List ℕ) → t ≡ false → r ≡ length (normalForm k n w) → v ≡ written 0 (normalForm k n w) out
       → Yields (writes 0 (normalForm k n w) out) (Length r) v
-  checked-written r v s a b = writes-written _ 0 0 (normalForm k n w) out refl refl r v refl (sym a) (omega (arith, sums)) b
+  checked-written r v y a b = writes-written _ 0 0 (normalForm k n w) out refl refl r v refl (sym a) (omega (arith, a, checked-room y)) b
 
 -- ---- what the calls answer
 

@@ -1,4 +1,4 @@
--- `forms::write_checked` makes check 14 against the length of the normal form, which the sums give, and writes it.
+-- `forms::write_checked` makes check 14 and writes the normal form.
 -- Assumes nothing.
 use denote.Ref.{now}
 use borrow.Author.Needs.{needs}
@@ -6,8 +6,8 @@ use Rattle.window.proofs.forms.Rooms.{checked-short, checked-room, chec
 use Rattle.window.proofs.forms.write_checked.Statement.{statement}
 use Rattle.window.proofs.forms.write_checked.Tie as tie
 
-length-of-front-requires : tie.Need-length-of-front-requires
-length-of-front-requires c κs = c .before .before .pre
+lacks-room-requires : tie.Need-lacks-room-requires
+lacks-room-requires c κs = search needs
 
 same-length : tie.Need-same-length
 same-length c = search needs
@@ -15,14 +15,14 @@ same-length c = search needs
 returns : tie.Need-returns
 returns c =
     let measured = c .before in
-    checked-short _ _ _ _ _ (measured .before .before .before .pre .1 .1) (measured .length-of-front .ensures) (c .if1 .taken)
+    checked-short _ _ _ _ _ (measured .before .before .before .pre .1 .1) (measured .lacks-room .ensures) (c .if1 .taken)
 
 write-normal-form-requires : tie.Need-write-normal-form-requires
 write-normal-form-requires c κs =
     let fits = c .before .before in
     let start = fits .before .before .before .before in
     let pre = start .pre in
-    let room = checked-room _ _ _ (now (start .args .out)) _ (pre .1 .1) (fits .before .length-of-front .ensures) (fits .if1 .left) in
+    let room = checked-room _ _ _ (now (start .args .out)) _ (pre .1 .1) (fits .before .lacks-room .ensures) (fits .if1 .left) in
     (pre .0, (pre .1 .0, (pre .1 .1, room)))
 
 same-length-2 : tie.Need-same-length-2
@@ -36,14 +36,14 @@ returns-2 c =
     let wrote = c .before .before .before in
     let fits = wrote .before .before .before in
     let pre = fits .before .before .before .before .pre in
-    checked-written _ _ _ _ _ (pre .1 .1) (fits .before .length-of-front .ensures) _ _ (fits .if1 .left)
+    checked-written _ _ _ _ _ (pre .1 .1) (fits .before .lacks-room .ensures) _ _ (fits .if1 .left)
     (wrote .write-normal-form .ensures .0) (wrote .write-normal-form .ensures .1)
 
 pub write-checked-spec : {M : Type 1} → statement M
 write-checked-spec =
     tie.close
     (tie.spec
-    length-of-front-requires
+    lacks-room-requires
     same-length
     returns
     write-normal-form-requires

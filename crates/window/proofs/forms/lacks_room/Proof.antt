@@ -1,0 +1,29 @@
+-- `forms::lacks_room` compares the room with n × n, and where that is more with the length.
+-- Assumes nothing.
+use mathlib.Core.Path.{ap}
+use native.Mathlib.Nat.{mul-le-mul}
+use native.Mathlib.Omega.{arith}
+use lib.Dec.{ltb}
+use borrow.Author.Needs.{needs}
+use Rattle.coxeter.proofs.Acceptance.{rank-accepted}
+use Rattle.window.proofs.forms.Rooms.{square-room}
+use Rattle.window.proofs.forms.lacks_room.Statement.{statement}
+use Rattle.window.proofs.forms.lacks_room.Tie as tie
+
+mul-if1 : tie.Need-mul-if1
+mul-if1 c =
+    let n = c .args .rank in
+    let l = rank-accepted _ _ (c .pre .0) .1 in
+    record { fits = omega (arith, mul-le-mul {n₁ = n} {m₁ = n} {n₂ = 64} {m₂ = 64} l l) }
+
+returns : tie.Need-returns
+returns c = square-room _ _ _ _ (c .before .pre .1 .1) (c .if1 .taken)
+
+length-of-front-requires : tie.Need-length-of-front-requires
+length-of-front-requires c κs = search needs
+
+returns-2 : tie.Need-returns-2
+returns-2 c = ap (ltb _) (c .length-of-front .ensures)
+
+pub lacks-room-spec : {M : Type 1} → statement M
+lacks-room-spec = tie.close (tie.spec mul-if1 returns length-of-front-requires returns-2)
