@@ -1,8 +1,9 @@
 /*
- * Presets as words in the Coxeter groups of kind A, B and D: windows, normal forms, products, lengths, single rewrites, preset books.
+ * Presets as words in the Coxeter groups of kind A, B and D: windows, normal forms, products, lengths, delay tables, fallbacks, splits by allowed steps,
+ * ways between windows, rewritings, preset books.
  *
- * Link with libc_api.a, which is for x86-64 Linux. Every function answers for every input. Each is proved: its answer and each byte of its outputs
- * are what the definitions of crates/c_api/specs make of the input.
+ * Link with libc_api.a, which is for x86-64 Linux. Every function answers for every input whose pointers are as below. Each is proved: its answer
+ * and each byte of its outputs are what the definitions of crates/c_api/specs make of the input; which places a fallback keeps they leave free.
  *
  * Arguments
  *   kind      1 is A, 2 is B, 3 is D. Any other number of 32 bits is refused 5.
@@ -14,8 +15,8 @@
  *             one first) and letters; in the second edition the lane count is a byte after the rank. A book of no bytes has no presets.
  *
  * Answers: 0 or more is the answer; -k is refusal k, of the first check that fails: in the order below, but 16, 17 and 20 right after 6, 18 and 21
- * right after 8, and 15 and 19 right before 14. A refused call writes nothing. An accepted call that writes puts its answer at the front of the output, answers the length written,
- * and leaves the rest of the output as it was.
+ * right after 8, and 15 and 19 right before 14. A refused call writes nothing. An accepted call that writes does so at the front of its
+ * outputs and leaves the rest of each as it was; it answers the length written unless its own comment says another number.
  *
  *    1  The book has 1 byte or more than 65,535 bytes.
  *    2  Two times c, plus 2, exceeds the book's length.
@@ -43,9 +44,10 @@
  * Of two presets, words or windows the first is checked before the second. winnathey_rewrite also answers WINNATHEY_NONE_FITS, and winnathey_fallback
  * WINNATHEY_NO_FALLBACK, with nothing written.
  *
- * Pointers: each pointer is followed by the number of elements that it points to, all of which the caller lends for the time of the call: nobody else
- * writes them meanwhile. An output overlaps no input and no other output; inputs may overlap. With a length of 0 the pointer is not used and need not
- * be valid: it may be NULL. Nothing is kept after the call.
+ * Pointers: each pointer but those to a single size_t is followed by the number of elements that it points to, all of which the caller lends for the
+ * time of the call: nobody else writes them meanwhile. With a length of 0 the pointer is not used and need not be valid: it may be NULL. A pointer to a
+ * single size_t points to one that the caller lends, in every call, and is not NULL. An output overlaps no input and no other output; inputs may
+ * overlap. Nothing is kept after the call.
  *
  * Room that always suffices: 64 for a window, 4,096 for a normal form or for the places of a fallback, the word's length for a rewritten word, 65,535
  * for a book. How long the lists of a rewriting must be, winnathey_rewrite_steps says: at most the square of the word's length.

@@ -35,7 +35,7 @@ pub fn presets<'a>(r: Reader<'a>) -> Opened
     check_book(r.edition, r.bytes)
 }
 
-// Checks 1 to 8, and what the preset is.
+// Checks 1 to 8, in the second edition also 17, and what the preset is.
 pub fn preset<'a>(r: Reader<'a>, number: usize) -> Preset
     ensures { λ p. ⌜ p ≡ checkedPreset (r .entry .edition) (now (r .entry .bytes)) number ⌝ }
 {

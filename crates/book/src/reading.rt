@@ -1,4 +1,4 @@
-// Checks 1 to 8 on a book and its presets, and the letters of a preset.
+// Checks 1 to 8 on a book and its presets, in the second edition also 17, and the letters of a preset.
 use crate::numbers::count_of;
 use crate::numbers::two_at;
 use crate::records::book_rank_refusal;
@@ -126,7 +126,7 @@ pub(crate) fn numbered_preset(edition: Edition, book: &[u8], number: usize) -> P
     check_record(edition, book, o)
 }
 
-// Reading a preset: checks 1 to 8, its kind and rank, and where its letters are.
+// Reading a preset: checks 1 to 8, in the second edition also 17 after 6, its kind and rank, and where its letters are.
 pub fn check_preset(edition: Edition, book: &[u8], number: usize) -> Preset
     ensures { λ r. ⌜ r ≡ checkedPreset edition (now (book .entry)) number ⌝ }
 {

@@ -1,7 +1,7 @@
 -- Vectors: each call on a book at a few inputs, with its answer and the bytes of its output afterwards, worked out by hand from document 01. All by
 -- computing the definitions. An output is lent full of 9s. The limits of 65,535 bytes are laws for every book.
 --
--- Sections: books; opening; presets; letters; appending; converting.
+-- Sections: books; opening; presets; runs of presets; letters; appending; converting.
 -- Assumes nothing.
 use mathlib.Core.Path.{_≡_, refl, sym}
 use mathlib.Core.Bool.{Bool, true, false, _&&_, and-eq-true-iff}

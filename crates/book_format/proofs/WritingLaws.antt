@@ -113,7 +113,7 @@ append-rank ed b k n u e = rank-accepted k n (bookRank-accepted ed k n (append-p
 pub append-accepted : (ed : Edition) (b : List ℕ) (k n : ℕ) (u : List ℕ) → appendRefusal ed b k n u ≡ 0 → Accepted ed b
 append-accepted ed b k n u e = accepted ed b (append-book ed b k n u e)
 
--- ---- what is answered and written: r is the refusal of checks 1 to 8 and 13, s the length of the new book
+-- ---- what is answered and written: r is the refusal of checks 1 to 3, 5 to 8, 21 and 13, s the length of the new book
 
 module _ (ed : Edition) (b : List ℕ) (k n : ℕ) (u out : List ℕ) (r : ℕ) (e : r ≡ appendRefusal ed b k n u) where
   pub appending-refused : (r ≡ 0 → ⊥) → (answer.Refused r ≡ appending ed b k n u out .answer) × (out ≡ appending ed b k n u out .bytes)

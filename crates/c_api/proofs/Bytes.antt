@@ -4,10 +4,10 @@
 -- Sections: kinds and ranks; calls that go by them; the calls; answers.
 -- Assumes nothing.
 use mathlib.Core.Path.{_≡_, refl, sym, ap, ap₂, _∙_}
-use mathlib.Core.Bool.{Bool, true, false, _||_, or-true}
+use mathlib.Core.Bool.{Bool, true, false, or-true}
 use mathlib.Core.Logic.{_⊎_, inl, inr}
 use mathlib.Core.List.{List}
-use Prim.Native.Nat.{ℕ, suc, _≤_, _<_}
+use Prim.Native.Nat.{ℕ, _≤_, _<_}
 use native.Mathlib.Decide.{ℕ-discrete, decLe}
 use native.Mathlib.Omega.{arith}
 use lib.Dec.{ltb}
@@ -15,10 +15,10 @@ use lib.IntN.{ℤ}
 use lib.Signed.{mag}
 use mir.Syntax.{w64}
 use mir.Val.{toZ, ofZ}
-use borrow.Author.Tests.{eq-eqb, ne-eqb, lt-ltb, le-ltb}
+use borrow.Author.Tests.{ne-eqb, lt-ltb, le-ltb}
 use Rattle.coxeter.specs.declared.Answer.{Answer}
-use Rattle.coxeter.specs.Kinds.{Kind, A, B, D, pick, kindOf, least, greatest}
-use Rattle.coxeter.specs.Checks.{check, _then_, wrongKind, wrongRank, rankRefusal, wordRefusal, windowRefusal}
+use Rattle.coxeter.specs.Kinds.{Kind, A, B, D, pick, kindOf}
+use Rattle.coxeter.specs.Checks.{_then_, wrongKind, wrongRank, rankRefusal, wordRefusal}
 use Rattle.coxeter.specs.declared.Counted.{Counted}
 use Rattle.coxeter.specs.Length.{Crossings}
 use Rattle.coxeter.specs.Calls.{countedOf, crossingsOfWindow, crossingsOfWord, verdictOf, presetsEqual, handsBack, choice}

@@ -10,24 +10,24 @@ use mathlib.Core.Option.{Option, none, some}
 use Prim.Native.Nat.{ℕ, _≤_, _<_}
 use native.Mathlib.Omega.{arith}
 use lib.Dec.{eqb}
-use lib.IntN.{ℤ, pos}
+use lib.IntN.{pos}
 use lib.ListN.{length}
 use lib.Seq.{sets, sets-eq}
 use borrow.Author.Tests.{lt-ltb, le-ltb}
 use Rattle.coxeter.specs.Kinds.{pick, kindOf}
 use Rattle.coxeter.specs.Checks.{check, _then_, tooShort, rankRefusal, wordRefusal}
-use Rattle.coxeter.specs.Calls.{Outcome, writes}
+use Rattle.coxeter.specs.Calls.{writes}
 use Rattle.coxeter.proofs.Outcomes.{writes-short, writes-done}
 use Rattle.rules.specs.declared.Rewrite.{Rewrite}
 use Rattle.rules.specs.declared.Rewrite.the-variants.{Used, NoneFits, Refused}
 use Rattle.rules.specs.Rules.{Rule, rules, firstFitting, rewritten}
-use Rattle.rules.specs.Calls.{pastEnd, Step, refusedStep, usedStep, stepBy, step, Rewrote}
+use Rattle.rules.specs.Calls.{pastEnd, refusedStep, usedStep, stepBy, step, Rewrote}
 use Rattle.rules.proofs.Unchanged.{step-refused-unchanged, step-noneFits-unchanged}
 use Rattle.book_format.specs.declared.Edition.{Edition}
 use Rattle.book_format.specs.declared.Preset.{Preset}
 use Rattle.book_format.specs.declared.Preset.the-variants as preset
 use Rattle.book_format.specs.Calls.{checkedPreset}
-use Rattle.c_api.specs.Calls.{refused, numberOf, Numbered, Rewriting, Rewritten, unwritten, rewritingBy, rewriting, presetNumbers}
+use Rattle.c_api.specs.Calls.{refused, numberOf, Numbered, Rewritten, unwritten, rewritingBy, rewriting, presetNumbers}
 
 -- ---- one rewrite
 

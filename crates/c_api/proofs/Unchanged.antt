@@ -6,7 +6,7 @@ use mathlib.Core.Bool.{Bool, true, false}
 use mathlib.Core.List.{List, [], _∷_}
 use Prim.Native.Nat.{ℕ, suc}
 use native.Mathlib.Omega.{arith}
-use lib.IntN.{ℤ, pos, negsuc}
+use lib.IntN.{pos}
 use lib.ListN.{drop}
 use Rattle.coxeter.specs.declared.Answer.the-variants as answer
 use Rattle.coxeter.specs.declared.Counted.{Counted}
@@ -23,7 +23,7 @@ use Rattle.exchange.specs.SplitCalls.{splitting}
 use Rattle.exchange.proofs.Splits.{splitting-unchanged}
 use Rattle.book_format.specs.declared.Preset.{Preset}
 use Rattle.book_format.specs.declared.Preset.the-variants as preset
-use Rattle.c_api.specs.Calls.{refused, sorting, Rewriting, unwritten, rewritingBy, rewriting, presetNumbers}
+use Rattle.c_api.specs.Calls.{refused, sorting, unwritten, rewritingBy, rewriting, presetNumbers}
 use Rattle.c_api.specs.Splits.{splitNumbers}
 
 pub sorting-unchanged : (c : Counted) (plain against mirrored r : ℕ) → sorting c plain against mirrored .number ≡ refused (suc r)

@@ -18,11 +18,13 @@ use Rattle.rules.specs.Rules.{each, family1, family2, family3, family4, familie
 use Rattle.rules.specs.Calls.{pastEnd, refusedStep, usedStep, stepBy, step}
 use Rattle.rules.specs.declared.ToEnd.the-variants as toEnd
 use Rattle.exchange.specs.declared.Fallback.the-variants as fallback
+use Rattle.exchange.specs.declared.Split.the-variants as split
 use Rattle.distribution.specs.declared.Table.the-variants as table
 use Rattle.book_format.specs.declared.Opened.the-variants as opened
 use Rattle.book_format.specs.declared.Preset.the-variants as preset
 use Rattle.c_api.specs.Calls.{refused, numberOf, verdictNumber, choiceNumber, openedNumber, Sorting, sorting, Rewriting, unwritten, rewritingBy, rewriting, presetNumbers, tableNumber}
 use Rattle.c_api.specs.Shortest.{fallbackNumber}
+use Rattle.c_api.specs.Splits.{SplitNumbers, splitNumbers}
 use Rattle.c_api.specs.Traces.{traceNumber, finalLength}
 
 -- the numbers, each beside what it is
@@ -82,6 +84,17 @@ sortings =
 pub sortings-agree : Agree sortings
 unfolding sortings refused sorting
 sortings-agree = refl
+
+-- splits: the number is the sum of the two lengths, and a refusal leaves the two
+pub splits : List (SplitNumbers × SplitNumbers)
+splits =
+    (splitNumbers (split.Words 1 2) 8 9, record { number = pos 3; first = 1; second = 2 })
+    ∷ (splitNumbers (split.Refused 16) 8 9, record { number = negsuc 15; first = 8; second = 9 })
+    ∷ []
+
+pub splits-agree : Agree splits
+unfolding splits refused splitNumbers
+splits-agree = refl
 
 -- one rewrite: D4's 3 4, B4's 3 4, which no rule fits, and D4's again with too short a rule, too short an output, and a place past the end
 pub rewritings : List (Rewriting × Rewriting)

@@ -10,7 +10,7 @@ ghost use mathlib.Core.Path.{_≡_};
 ghost use Rattle.book_format.specs.declared.Edition.the-variants.{First, Second};
 ghost use Rattle.book_format.specs.Calls.{checkedBook, checkedPreset, readingPresets, appending};
 ghost use Rattle.book_format.specs.Conversion.{converting};
-ghost use Rattle.c_api.specs.Calls.{Numbered, numberOf, openedNumber, presetNumbers};
+ghost use Rattle.c_api.specs.Calls.{Numbered, openedNumber, presetNumbers};
 
 // Opening a book. Answers the number of its presets.
 fn opened(edition: Edition, book: &[u8]) -> i64

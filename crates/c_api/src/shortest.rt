@@ -5,7 +5,6 @@ use crate::numbers::refusal;
 use crate::numbers::size;
 use descents::Fallback;
 use descents::fallback_places;
-ghost use mathlib.Core.Path.{_≡_};
 ghost use Rattle.exchange.specs.BetweenCalls.{betweenWindows};
 ghost use Rattle.c_api.specs.Calls.{Numbered};
 ghost use Rattle.c_api.specs.Shortest.{FallbackNumbered};

@@ -1,7 +1,6 @@
 // The delay table.
 use crate::numbers::byte;
 use crate::numbers::table_number;
-ghost use mathlib.Core.Path.{_≡_};
 ghost use Rattle.distribution.specs.Calls.{delayTable};
 ghost use Rattle.c_api.specs.Calls.{TableNumbered};
 

@@ -1,6 +1,6 @@
 -- Lengths of runs and windows, and the window of a joined word.
 --
--- Sections: tests and cases; runs of numbers; lengths; words; lists written element by element.
+-- Sections: tests and cases; runs of numbers; lengths; words.
 -- Not here: what the steps do to each other (Relations), products and inverses (Products, Inverses).
 -- Assumes nothing.
 use mathlib.Core.Path.{_≡_, refl, ap, _∙_}

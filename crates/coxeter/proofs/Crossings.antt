@@ -8,8 +8,6 @@ use mathlib.Core.Path.{_≡_, refl, sym, ap, _∙_}
 use mathlib.Core.Bool.{Bool, true, false, not}
 use mathlib.Core.List.{List, [], _∷_}
 use Prim.Native.Nat.{ℕ, zero, suc, _+_, _≤_, _<_}
-use native.Mathlib.Nat.{suc-add, zero-add, add-zero}
-use native.Mathlib.Numerals.{add-one}
 use native.Mathlib.Omega.{arith}
 use lib.Dec.{ltb, leb·suc-suc}
 use lib.IntN.{ℤ, pos, negsuc, negℤ, natAbs, negℤ-negℤ}
@@ -143,21 +141,6 @@ pair p w l h =
       second = between-getD 1 (1 + length w) w (suc p) (l .between) h .0;
       apart = neighbours-apart p w (l .distinct) h;
     }
-
-getD-from : (f : List ℤ → List ℤ) (p i : ℕ) (w : List ℤ) → p ≤ length w → getD (from p f w) (p + i) (pos 0) ≡ getD (f (drop p w)) i (pos 0)
-unfolding from
-getD-from f zero i w h = rw zero-add
-getD-from f (suc p) i [] h = absurd (omega arith)
-getD-from f (suc p) i (x ∷ w) h = rw suc-add (getD-from f p i w (omega arith))
-
--- the first two entries from position p on, after a step
-pub getD-from-first : (f : List ℤ → List ℤ) (p : ℕ) (w v : List ℤ) → p ≤ length w → drop p w ≡ v
-    → getD (from p f w) p (pos 0) ≡ getD (f v) 0 (pos 0)
-getD-from-first f p w v h e = rw (add-zero, e) at (getD-from f p 0 w h)
-
-pub getD-from-second : (f : List ℤ → List ℤ) (p : ℕ) (w v : List ℤ) → p ≤ length w → drop p w ≡ v
-    → getD (from p f w) (suc p) (pos 0) ≡ getD (f v) 1 (pos 0)
-getD-from-second f p w v h e = rw (add-one, e) at (getD-from f p 1 w h)
 
 -- ---- the weights of the pair
 

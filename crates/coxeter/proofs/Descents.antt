@@ -3,16 +3,15 @@
 --
 -- Sections: the definition; the sorts of steps; one step; the length.
 -- Assumes nothing.
-use mathlib.Core.Path.{_≡_, refl, sym, ap, ap₂, _∙_}
+use mathlib.Core.Path.{_≡_, refl, ap}
 use mathlib.Core.Bool.{Bool, true, false, not}
 use mathlib.Core.List.{List, []}
 use Prim.Native.Nat.{ℕ, zero, suc, _+_, _-_, _≤_, _<_}
 use native.Mathlib.Decide.{ℕ-discrete}
 use native.Mathlib.Omega.{arith}
 use lib.Dec.{eqb}
-use lib.IntN.{ℤ, pos, negℤ, negℤ-negℤ}
+use lib.IntN.{ℤ, pos, negℤ}
 use lib.ListN.{length, getD, drop, drop-of-length-le}
-use lib.Seq.{drop-cons}
 use borrow.Author.Tests.{eq-eqb, ne-eqb}
 use Rattle.coxeter.specs.Kinds.{Kind, A, B, D, pick, lanes, least}
 use Rattle.coxeter.specs.Windows.{from, exchange, negateFirst, exchangeNegate, act, at}
@@ -23,7 +22,7 @@ use Rattle.coxeter.proofs.Steps.{act-exchange, act-B-last, act-D-last}
 use Rattle.coxeter.proofs.Places.{between-getD}
 use Rattle.coxeter.proofs.PairWeights.{pairWeights, signWeight, length-by-weights}
 use Rattle.coxeter.proofs.Lengths.{pairWeights-negateLast}
-use Rattle.coxeter.proofs.Crossings.{later-flip, negative-flip, pair, getD-from-first, getD-from-second, exchange-weighs, exchangeNegate-weighs, signWeight-exchange, negatives-from-negateFirst}
+use Rattle.coxeter.proofs.Crossings.{later-flip, negative-flip, pair, exchange-weighs, exchangeNegate-weighs, signWeight-exchange, negatives-from-negateFirst}
 
 -- ---- the definition
 
@@ -76,33 +75,27 @@ record Turned (k : Kind) (n s : ℕ) (w : List ℤ) : Type 0 where
   after : Bool
   acts : act k n s w ≡ result
   was : descends k n s w ≡ before
-  is : descends k n s result ≡ after
   flips : after ≡ not before
   weighs : pairWeights result + signWeight k result + one before ≡ pairWeights w + signWeight k w + one after
 
 turned-exchange : (k : Kind) (n p : ℕ) (w : List ℤ) → suc p < lanes k n → Accepted k n w → Turned k n (suc p) w
-unfolding exchange
 turned-exchange k n p w h c =
     let e = c .size in
     let q = pair p w (c .level) (omega arith) in
-    let x = getD-from-first exchange p w _ (omega arith) (q .rest) in
-    let y = getD-from-second exchange p w _ (omega arith) (q .rest) in
     record {
       result = from p exchange w;
       before = later (getD w p (pos 0)) (getD w (suc p) (pos 0));
       after = later (getD w (suc p) (pos 0)) (getD w p (pos 0));
       acts = ap (λ f. f w) (act-exchange k n p h);
       was = descends-exchange k n p w h;
-      is = descends-exchange k n p (from p exchange w) h ∙ ap₂ later x y;
       flips = later-flip _ _ (q .apart);
       weighs = omega (arith, exchange-weighs p w _ _ _ (omega arith) q, signWeight-exchange k p w);
     }
 
 turned-negate : (p : ℕ) (w : List ℤ) → Accepted B (suc p) w → Turned B (suc p) (suc p) w
-unfolding negateFirst signWeight
+unfolding signWeight
 turned-negate p w c =
     let e = c .size in
-    let x = getD-from-first negateFirst p w _ (omega arith) (drop-cons w p (pos 0) (omega arith)) in
     let last : length w - 1 ≡ p = omega arith in
     record {
       result = from p negateFirst w;
@@ -110,26 +103,22 @@ turned-negate p w c =
       after = negative (negℤ (getD w p (pos 0)));
       acts = ap (λ f. f w) (act-B-last (suc p) p (omega arith));
       was = descends-B-last p w;
-      is = descends-B-last p (from p negateFirst w) ∙ ap negative x;
       flips = negative-flip (getD w p (pos 0)) (between-getD 1 (1 + length w) w p (c .level .between) (omega arith) .0);
       weighs = omega (arith, negatives-from-negateFirst p w (omega arith), rw last at (pairWeights-negateLast w));
     }
 
 turned-exchangeNegate : (p : ℕ) (w : List ℤ) → Accepted D (suc (suc p)) w → Turned D (suc (suc p)) (suc (suc p)) w
-unfolding exchangeNegate signWeight
+unfolding signWeight
 turned-exchangeNegate p w c =
     let e = c .size in
     let none : drop (suc (suc p)) w ≡ [] = drop-of-length-le w {i = suc (suc p)} (omega arith) in
     let q = rw none at (pair p w (c .level) (omega arith)) in
-    let x = getD-from-first exchangeNegate p w _ (omega arith) (q .rest) in
-    let y = getD-from-second exchangeNegate p w _ (omega arith) (q .rest) in
     record {
       result = from p exchangeNegate w;
       before = later (getD w p (pos 0)) (negℤ (getD w (suc p) (pos 0)));
       after = later (negℤ (getD w (suc p) (pos 0))) (getD w p (pos 0));
       acts = ap (λ f. f w) (act-D-last (suc (suc p)) p (omega arith));
       was = descends-D-last p w;
-      is = descends-D-last p (from p exchangeNegate w) ∙ ap₂ later x (ap negℤ y ∙ negℤ-negℤ (getD w p (pos 0)));
       flips = later-flip _ _ (rw natAbs-negℤ (q .apart));
       weighs = omega (arith, exchangeNegate-weighs p w _ _ (omega arith) q);
     }
@@ -144,10 +133,6 @@ turned w (exchangesNegates p) c = turned-exchangeNegate p w c
 module _ (k : Kind) (n s : ℕ) (w : List ℤ) (r : least k ≤ n) (o : 1 ≤ s) (l : s ≤ n) (c : Accepted k n w) where
   turns : Turned k n s w
   turns = turned w (sortOf k n s r o l) c
-
-  -- after the step the pair is crossed where it was not
-  pub descends-act : descends k n s (act k n s w) ≡ not (descends k n s w)
-  descends-act = rw (turns .acts) (turns .is ∙ turns .flips ∙ ap not (sym (turns .was)))
 
   length-act-add : windowLength k (act k n s w) + one (descends k n s w) ≡ windowLength k w + one (not (descends k n s w))
   length-act-add =
@@ -164,18 +149,3 @@ module _ (k : Kind) (n s : ℕ) (w : List ℤ) (r : least k ≤ n) (o : 1 ≤ s)
   pub length-of-ascends : descends k n s w ≡ false → windowLength k (act k n s w) ≡ windowLength k w + 1
   unfolding one
   length-of-ascends e = let q = rw e at length-act-add in omega arith
-
-  -- and so a step that lowers the length acts on a crossed pair, and one that raises it does not
-  pub descends-of-shorter : windowLength k (act k n s w) < windowLength k w → descends k n s w ≡ true
-  descends-of-shorter h = cases (descends k n s w) refl
-    where
-      cases : (t : Bool) → descends k n s w ≡ t → t ≡ true
-      cases true e = refl
-      cases false e = absurd (omega (arith, length-of-ascends e))
-
-  pub ascends-of-longer : windowLength k w < windowLength k (act k n s w) → descends k n s w ≡ false
-  ascends-of-longer h = cases (descends k n s w) refl
-    where
-      cases : (t : Bool) → descends k n s w ≡ t → t ≡ false
-      cases true e = absurd (omega (arith, length-of-descends e))
-      cases false e = refl

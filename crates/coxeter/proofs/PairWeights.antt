@@ -1,11 +1,11 @@
 -- The length of a window as one sum over its pairs, the way that code counts it: an entry x before an entry y weighs 1 if it is the larger
 -- in size, and else 2 if it is negative. By cases on the two signs. And bounds of these sums.
 -- Assumes nothing.
-use mathlib.Core.Path.{_≡_, refl, sym, _∙_}
+use mathlib.Core.Path.{_≡_, refl, _∙_}
 use mathlib.Core.Bool.{Bool, true, false}
 use mathlib.Core.List.{List, [], _∷_, map}
 use Prim.Native.Nat.{ℕ, zero, suc, _+_, _*_, _≤_}
-use native.Mathlib.Nat.{add-zero, add-comm, mul-suc, suc-mul, mul-le-mul}
+use native.Mathlib.Nat.{add-comm, mul-suc, suc-mul, mul-le-mul}
 use native.Mathlib.Omega.{arith}
 use borrow.Author.Tests.{ltb-true, ltb-false, eqb-false, lt-ltb, le-ltb}
 use lib.Dec.{ltb}

@@ -4,12 +4,13 @@
 -- Not here: those that show only at a book of 65,536 bytes, and parts handed back, which no input computes; they too are in that file.
 use mathlib.Core.List.{List, [], _∷_}
 use Prim.Native.Nat.{ℕ}
-use lib.IntN.{ℤ, pos}
+use lib.IntN.{ℤ, pos, natAbs}
 use lib.ListN.{replicate}
 use Rattle.coxeter.specs.declared.Answer.{Answer}
 use Rattle.coxeter.specs.declared.Verdict.{Verdict}
 use Rattle.coxeter.specs.declared.Choice.{Choice}
-use Rattle.coxeter.specs.Kinds.{B}
+use Rattle.coxeter.specs.Kinds.{A, B, pick, lanes}
+use Rattle.coxeter.specs.Length.{negative}
 use Rattle.coxeter.specs.Checks.{rankRefusal, wordRefusal}
 use Rattle.coxeter.specs.Calls.{Outcome, windowOfWord, productOfWindows, inverseOfWindow, normalFormOfWindow, normalFormOfWord, productOfWords, inverseOfWord, lengthOfWindow, lengthOfWord, presetsEqual}
 use Rattle.rules.specs.Calls.{Step, step}
@@ -27,7 +28,10 @@ use Rattle.book_format.specs.Conversion.{converting}
 use Rattle.listing_text.specs.Text.{refusedLine, refusedBookLine, countLine, wordLine}
 use Rattle.listing_text.specs.Calls.{Piecing, nextPiece}
 use Rattle.examples.specs.Examples.{neg}
+use Rattle.examples.specs.WrongWindows.{lanesAsTheRank, oneLaneMoreInEveryKind, sizeOneLess, size127AtMost, zeroIsNegative, noneIsNegative}
 use Rattle.examples.specs.WrongWindows.{refusesEveryKind, rank64InA, letterZeroAccepted, wordOf4097Letters}
+use Rattle.examples.specs.WrongWindows.{wordChecks, lettersBeforeTheRank, rankUnchecked, presetsChecks, secondPresetFirst, bothRanksFirst, wordsChecks, secondWordFirst, secondWordUnchecked}
+use Rattle.examples.specs.WrongWindows.{windowChecks, windowBeforeTheRank, oddNegativesRefusedInB, windowsChecks, secondWindowFirst, secondWindowUnchecked}
 use Rattle.examples.specs.WrongWindows.{turnsEveryPresetDown, straightForAllWords, exchangesValues, stepOfBInD, refusedCallWrites, clearsTheOutput}
 use Rattle.examples.specs.WrongWindows.{unshortenedWord, peelsOnlyBlock1, stopsAtAShortestWord, roomForTheRankOnly}
 use Rattle.examples.specs.WrongWindows.{block1Alone, entriesBeforeLanes, oddNegativesAccepted, blockTurnsEarlyInB, indexOneOffOnTheWayDown, lastEntryKeptInD}
@@ -89,11 +93,28 @@ one = 1 ∷ 1 ∷ 0 ∷ 0 ∷ 0 ∷ 0 ∷ 1 ∷ 0 ∷ []
 
 unfoldable pub table : List WrongRouter
 table =
+    -- lanes and entries
+    differ lanes lanesAsTheRank (λ f. number (f A 2))
+    ∷ differ lanes oneLaneMoreInEveryKind (λ f. number (f B 2))
+    ∷ differ natAbs sizeOneLess (λ f. number (f (neg 1)))
+    ∷ differ natAbs size127AtMost (λ f. number (f (neg 128)))
+    ∷ differ negative zeroIsNegative (λ f. number (pick (f (pos 0)) 1 0))
+    ∷ differ negative noneIsNegative (λ f. number (pick (f (neg 1)) 1 0))
     -- refusals
-    differ rankRefusal refusesEveryKind (λ f. number (f 1 2))
+    ∷ differ rankRefusal refusesEveryKind (λ f. number (f 1 2))
     ∷ differ rankRefusal rank64InA (λ f. number (f 1 64))
     ∷ differ wordRefusal letterZeroAccepted (λ f. number (f 2 (1 ∷ 0 ∷ [])))
     ∷ differ wordRefusal wordOf4097Letters (λ f. number (f 2 (replicate 4097 1)))
+    ∷ differ wordChecks lettersBeforeTheRank (λ f. number (f 4 2 (3 ∷ [])))
+    ∷ differ wordChecks rankUnchecked (λ f. number (f 1 64 []))
+    ∷ differ presetsChecks secondPresetFirst (λ f. number (f 1 2 (3 ∷ []) 4 2 []))
+    ∷ differ presetsChecks bothRanksFirst (λ f. number (f 1 2 (3 ∷ []) 4 2 []))
+    ∷ differ wordsChecks secondWordFirst (λ f. number (f 1 2 (3 ∷ []) (replicate 4097 1)))
+    ∷ differ wordsChecks secondWordUnchecked (λ f. number (f 1 2 [] (3 ∷ [])))
+    ∷ differ windowChecks windowBeforeTheRank (λ f. number (f 4 2 []))
+    ∷ differ windowChecks oddNegativesRefusedInB (λ f. number (f 2 2 (neg 1 ∷ pos 2 ∷ [])))
+    ∷ differ windowsChecks secondWindowFirst (λ f. number (f 2 2 (pos 1 ∷ pos 1 ∷ []) (pos 1 ∷ [])))
+    ∷ differ windowsChecks secondWindowUnchecked (λ f. number (f 2 2 (pos 1 ∷ pos 2 ∷ []) (pos 1 ∷ [])))
     -- the window of a word
     ∷ differ windowOfWord turnsEveryPresetDown (λ f. entries (f 1 2 (1 ∷ 2 ∷ []) (lentEntries 3)))
     ∷ differ windowOfWord straightForAllWords (λ f. entries (f 1 2 (1 ∷ 2 ∷ []) (lentEntries 3)))

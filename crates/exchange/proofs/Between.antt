@@ -9,7 +9,6 @@ use mathlib.Core.Logic.{_↔_}
 use mathlib.Core.List.{List, [], _++_}
 use Prim.Native.Nat.{ℕ, _≤_}
 use lib.IntN.{ℤ}
-use lib.ListN.{length}
 use Rattle.coxeter.specs.Kinds.{Kind, least, lanes}
 use Rattle.coxeter.specs.Windows.{windowFrom, window, product, inverse}
 use Rattle.coxeter.specs.NormalForm.{normalForm, wordNormalForm, IsNormalForm}

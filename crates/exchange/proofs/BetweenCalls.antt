@@ -12,7 +12,7 @@ use native.Mathlib.Omega.{arith}
 use lib.IntN.{ℤ}
 use lib.ListN.{length, take, drop}
 use lib.Seq.{take-at}
-use lib.Pow.{pow-pos, ones-lt}
+use lib.Pow.{pow-pos}
 use borrow.Author.Tests.{le-ltb, lt-leb}
 use Rattle.coxeter.specs.declared.Answer.the-variants.{Length, Refused}
 use Rattle.coxeter.specs.Kinds.{Kind, kindOf, least}
@@ -151,18 +151,10 @@ between-equal k n set v out a b =
       le-ltb (length out) 0 (omega arith),
     )
 
--- the sets of no step and of all steps pass check 16
-rank-passes-set : (k n set : ℕ) → rankRefusal k n ≡ 0 → wrongSet n set ≡ false → setRefusal k n set ≡ 0
-unfolding setRefusal
-rank-passes-set k n set r e = then-none (rankRefusal k n) _ r ∙ rw e
-
+-- the set of no step passes check 16
 pub set-of-none-passes : (k n : ℕ) → rankRefusal k n ≡ 0 → setRefusal k n 0 ≡ 0
-unfolding wrongSet
-set-of-none-passes k n r = rank-passes-set k n 0 r (lt-leb (2 ^ n) 0 (pow-pos n))
-
-pub set-of-all-passes : (k n : ℕ) → rankRefusal k n ≡ 0 → setRefusal k n (2 ^ n - 1) ≡ 0
-unfolding wrongSet
-set-of-all-passes k n r = rank-passes-set k n (2 ^ n - 1) r (lt-leb (2 ^ n) (2 ^ n - 1) (ones-lt n))
+unfolding setRefusal wrongSet
+set-of-none-passes k n r = then-none (rankRefusal k n) _ r ∙ rw (lt-leb (2 ^ n) 0 (pow-pos n))
 
 -- the empty word leads to the window itself; with no step allowed no other does
 empty-leads : (allowed : ℕ → Bool) (k : Kind) (n : ℕ) (v w : List ℤ) → v ≡ w → Leads allowed k n v w []

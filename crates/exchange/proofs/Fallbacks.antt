@@ -21,11 +21,10 @@ use Rattle.coxeter.proofs.Relations.{linked-window}
 use Rattle.coxeter.proofs.NormalForms.{window-normalForm}
 use Rattle.coxeter.proofs.Lengths.{length-normalForm}
 use Rattle.exchange.specs.OneLetter.{Shortest}
-use Rattle.exchange.specs.Fallback.{HasPart, FallbackOf, Keeps, fallsBack}
+use Rattle.exchange.specs.Fallback.{HasPart, FallbackOf, fallsBack}
 use Rattle.exchange.proofs.Parts.{part-whole, part-trans, part-length, part-letters}
 use Rattle.exchange.proofs.Shortest.{windowLength-le, shortest-normalForm, shortest-carries}
 use Rattle.exchange.proofs.Places.{part-nothing, part-of-fallback, fallback-of-part, somePart-exactly}
-use Rattle.exchange.proofs.Walk.{leftOver, placesKept, walk-decides, walk-keeps}
 
 -- ---- fallbacks of a word
 
@@ -74,16 +73,6 @@ module _ (k : Kind) (n : ℕ) (h : least k ≤ n) where
   pub verdict-exactly : (u v : List ℕ) → (fallsBack k n u v ≡ true) ↔ FallbackOf k n u v
   unfolding fallsBack
   verdict-exactly u v = somePart-exactly k n (wordNormalForm k n u) (window k n v)
-
-  -- the walk through the normal form decides it, and keeps places that serve
-  pub verdict-walk : (u v : List ℕ)
-      → FallbackOf k n u v ↔ (leftOver k n (wordNormalForm k n u) (length (wordNormalForm k n u)) (window k n v) ≡ straight (lanes k n))
-  verdict-walk u v = walk-decides k n (wordNormalForm k n u) h (normal-shortest u .steps) (window k n v) (window-accepted k n v)
-
-  pub verdict-keeps : (u v : List ℕ)
-      → leftOver k n (wordNormalForm k n u) (length (wordNormalForm k n u)) (window k n v) ≡ straight (lanes k n)
-      → Keeps k n (wordNormalForm k n u) (window k n v) (placesKept k n (wordNormalForm k n u) (length (wordNormalForm k n u)) (window k n v) [])
-  verdict-keeps u v = walk-keeps k n (wordNormalForm k n u) h (normal-shortest u .steps) (window k n v) (window-accepted k n v)
 
   -- "The verdict must be the same from every shortest word of the present window, not only its normal form."
   pub verdict-same : (u v z : List ℕ) → Shortest k n z → window k n z ≡ window k n u → FallbackOf k n u v ↔ HasPart k n z (window k n v)

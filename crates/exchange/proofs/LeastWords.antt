@@ -1,4 +1,4 @@
--- Normal forms as least words: words with one window, more letters in front or behind and fewer; parts of normal forms; and the first difference
+-- Normal forms as least words: words with one window, more letters in front, and fewer in front or behind; parts of normal forms; and the first difference
 -- of two words, from which a normal form is told by having no earlier word with its window.
 --
 -- Sections: words with one window; the least word; the first difference.
@@ -36,12 +36,9 @@ use Rattle.exchange.proofs.Deletion.{window-from}
 -- ---- words with one window
 
 module _ (k : Kind) (n : ℕ) where
-  -- more letters in front or behind, and fewer
+  -- more letters in front, and fewer behind or in front
   pub same-front : (x u v : List ℕ) → window k n u ≡ window k n v → window k n (x ++ u) ≡ window k n (x ++ v)
   same-front x u v e = window-append k n x u ∙ ap (product (window k n x)) e ∙ sym (window-append k n x v)
-
-  pub same-back : (u v y : List ℕ) → window k n u ≡ window k n v → window k n (u ++ y) ≡ window k n (v ++ y)
-  same-back u v y e = window-from k n u y ∙ ap (λ (w : List ℤ). windowFrom k n w y) e ∙ sym (window-from k n v y)
 
   pub cancel-back : (u v y : List ℕ) → window k n (u ++ y) ≡ window k n (v ++ y) → window k n u ≡ window k n v
   cancel-back u v y e = windowFrom-injective k n (window k n u) (window k n v) y (sym (window-from k n u y) ∙ e ∙ window-from k n v y)

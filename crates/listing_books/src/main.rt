@@ -1,4 +1,4 @@
-// Lists each book file that an argument names, after a heading line with its name, in pieces of at most 16,896 bytes. A file whose name begins with
+// Lists each book file that an argument names, after a heading line with its name. A file whose name begins with
 // `second-` is a book of the second edition, any other one of the first. Of a book with more than 1,000 presets only the count line and the last
 // preset's line are printed.
 use libc::STDOUT_FILENO;
@@ -42,13 +42,13 @@ fn print_piece(edition: Edition, book: &[u8], first: usize, out: &mut [u8]) {
 // A long listing's first piece is its first line alone, so that as many lines are left as the number of the last one says.
 fn list_book(edition: Edition, book: &[u8]) {
     let mut head = blank_head();
-    let mut out = blank_piece();
     let piece = next_piece(edition, book, 0, &mut head);
     let left = piece.left;
     if left <= 1000 {
-        print_book(edition, book, &mut out);
+        print_book(edition, book);
         return;
     }
+    let mut out = blank_piece();
     print_piece(edition, book, 0, &mut head);
     print_piece(edition, book, left, &mut out);
 }
@@ -64,8 +64,11 @@ fn list_file(name: &[u8]) {
     }
     let mut bytes = io::large_buffer();
     let n = io::read_full(fd, &mut bytes);
+    let ended = console::input_ended(fd, n);
     libc::close(fd);
-    list_book(edition_of(name), &bytes[..n]);
+    if ended {
+        list_book(edition_of(name), &bytes[..n]);
+    }
 }
 
 fn list_argument(i: usize) {

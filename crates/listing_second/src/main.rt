@@ -1,9 +1,11 @@
 // Prints the preset book of the second edition on standard input.
+use libc::STDIN_FILENO;
 use listing_lines::Edition;
 
 fn main() {
     let mut bytes = io::large_buffer();
-    let n = io::read_full(0, &mut bytes);
-    let mut out = io::large_buffer();
-    listing_lines::print_book(Edition::Second, &bytes[..n], &mut out);
+    let n = io::read_full(STDIN_FILENO, &mut bytes);
+    if console::input_ended(STDIN_FILENO, n) {
+        listing_lines::print_book(Edition::Second, &bytes[..n]);
+    }
 }

@@ -1,6 +1,7 @@
--- The lines that document 01 prints, some more listings, and pieces of one, from the definitions alone: by computing them.
+-- The listing of a book of no bytes, the lines that document 01 prints, some more listings, and pieces of one, from the definitions alone: by computing
+-- them.
 -- Assumes nothing.
-use mathlib.Core.Path.{refl}
+use mathlib.Core.Path.{_≡_, refl}
 use mathlib.Core.List.{List, [], _∷_, _++_}
 use Prim.Native.Nat.{ℕ}
 use Prim.Native.Char.{code}
@@ -11,12 +12,18 @@ use Rattle.coxeter.specs.Windows.{from, exchange, negateFirst, exchangeNegate, 
 use Rattle.coxeter.specs.Checks.{wrongKind, tooLong, wrongLetter, wordRefusal}
 use Rattle.coxeter.specs.NormalForm.{down, rise, fall, block, without, indexOf, restOf, normalFrom, normalForm}
 use Rattle.coxeter.proofs.Vectors.{Agree, lent}
+use Rattle.book_format.specs.declared.Edition.{Edition}
 use Rattle.book_format.specs.declared.Edition.the-variants.{First, Second}
 use Rattle.book_format.specs.Books.{twoAt, count, trailer, offset, wrongSize, wrongCount, misplacedFrom, misplaced, noSuchPreset, wrongRankInBook, wrongLaneCount, bookRankRefusal, bookRefusal, recordRefusal, presetRefusal}
 use Rattle.book_format.specs.Calls.{openedOf, presetOf, checkedBook, presetAt, checkedPreset}
 use Rattle.book_format.proofs.Vectors.{book, secondBook, emptyBook, bookOf}
 use Rattle.listing_text.specs.Text.{digits, decimal, spaced, letters, entry, entries, kindLetter, head, tail, presetLine, refused, refusedLine, refusedBookLine, countLine, wordLine, lineBy, lineOf, linesFrom, listingBy, listing}
 use Rattle.listing_text.specs.Calls.{lineCountBy, lineCount, firstLine, line, lines, fitting, Piecing, nextPiece}
+
+-- "the listing prints `presets 0`" of a book of length 0, "in both editions" (document 02, request 9)
+pub listing-of-no-bytes : (ed : Edition) → listing ed [] ≡ countLine 0
+unfolding twoAt count trailer wrongSize wrongCount misplacedFrom misplaced bookRefusal openedOf checkedBook digits decimal countLine linesFrom listingBy listing
+listing-of-no-bytes ed = refl
 
 -- the ASCII codes of a text
 pub codes : String → List ℕ
@@ -33,8 +40,13 @@ listings =
     ∷ (listing First (bookOf (1 ∷ 2 ∷ 1 ∷ 0 ∷ 3 ∷ [])), codes "presets 1\n0 refused 8\n")
     ∷ (listing First (0 ∷ []), codes "book refused 1\n")
     ∷ (listing First (7 ∷ 0 ∷ 0 ∷ []), codes "book refused 3\n")
-    -- no presets
+    -- no presets: a count of 0, and no bytes
     ∷ (listing First emptyBook, codes "presets 0\n")
+    ∷ (listing First [], codes "presets 0\n")
+    ∷ (listing Second [], codes "presets 0\n")
+    -- "Books that hold them are read, listed and converted as before": presets of kind A and rank 1 (document 02, request 13)
+    ∷ (listing First (bookOf (1 ∷ 1 ∷ 0 ∷ 0 ∷ [])), codes "presets 1\n0 A 1 0: | 1 2\n")
+    ∷ (listing Second (bookOf (1 ∷ 1 ∷ 2 ∷ 0 ∷ 0 ∷ [])), codes "presets 1\n0 A 1 0: | 1 2\n")
     -- "The second edition gets a listing program of its own that prints the same lines."
     ∷ (listing Second secondBook, codes "presets 2\n0 B 2 4: 2 1 2 1 | -1 -2\n1 D 5 6: 5 2 3 5 1 2 | 3 -5 1 4 -2\n")
     ∷ (listing Second (bookOf (1 ∷ 2 ∷ 2 ∷ 0 ∷ 0 ∷ [])), codes "presets 1\n0 refused 17\n")

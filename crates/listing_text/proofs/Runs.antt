@@ -14,7 +14,7 @@ use Rattle.book_format.specs.declared.Preset.the-variants as preset
 use Rattle.book_format.specs.Books.{count, bookRefusal}
 use Rattle.book_format.specs.Calls.{checkedPreset, presetFields, readingPresets}
 use Rattle.book_format.proofs.BookLaws.{accepted}
-use Rattle.book_format.proofs.RunLaws.{presetIn, presetIn-run, Run, run-read, reading-run}
+use Rattle.book_format.proofs.RunLaws.{presetIn, presetIn-run, run-read, reading-run}
 use Rattle.listing_text.specs.Calls.{lineCount}
 use Rattle.listing_text.proofs.Room.{lineCount-preset}
 

@@ -1,4 +1,5 @@
--- Signed bytes as integers: what the four helpers of the module `entries` compute, from the range of a byte.
+-- Signed bytes as integers, from the range of a byte: a byte read back from its bits, its size and sign, which the module `entries` computes, and its
+-- negation.
 -- Assumes nothing.
 use mathlib.Core.Path.{_≡_, refl, sym, _∙_}
 use mathlib.Core.Bool.{true, false, false≢true}
@@ -24,10 +25,6 @@ byte-back z h = toZ-ofZ w8 z h
 -- the same for an element of a slice, with its range as it is known of one
 pub element-back : (z : ℤ) → mag z < 128 → toZ w8 (ofZ w8 z) ≡ z
 element-back z h = byte-back z (record { sfits = h })
-
-pub sfits-of-size : (z : ℤ) → natAbs z < 128 → SFits w8 z
-sfits-of-size (pos a) h = record { sfits = h }
-sfits-of-size (negsuc a) h = record { sfits = omega arith }
 
 pub negate-fits : (z : ℤ) → natAbs z < 128 → SFits w8 (negℤ z)
 negate-fits (pos zero) h = record { sfits = h }

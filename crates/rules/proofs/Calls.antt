@@ -18,7 +18,7 @@ use lib.ListN.{length, drop}
 use lib.Seq.{take-append-seam}
 use borrow.Author.Tests.{le-ltb, le-leb, lt-leb, leb-false}
 use Rattle.coxeter.specs.Kinds.{Kind, pick, kindOf, least}
-use Rattle.coxeter.specs.Checks.{check, _then_, tooLong, wrongLetter, tooShort, rankRefusal, wordRefusal}
+use Rattle.coxeter.specs.Checks.{check, tooLong, wrongLetter, tooShort, wordRefusal}
 use Rattle.rules.specs.declared.Rewrite.{Rewrite}
 use Rattle.rules.specs.declared.Rewrite.the-variants.{Used, NoneFits, Refused}
 use Rattle.rules.specs.Rules.{Rule, rules, firstFitting, rewritten, Irreducible}

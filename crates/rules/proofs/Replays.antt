@@ -1,32 +1,36 @@
 -- Replaying the lines of a rewriting with single rewrites. Any reader who makes them at the lines' places sees the lines' families and lengths and
 -- ends in the final word; only the lines of the rewriting can be replayed so; and there are no more of them than demand 3's number. By induction along
--- the rewriting.
+-- the rewriting. A call that ends has written such lines and the normal form.
 --
--- Sections: one step of an accepted word; replaying; only one replay; the number of steps.
+-- Sections: one step of an accepted word; replaying; only one replay; the number of steps; what a call writes.
 -- Assumes nothing.
 use mathlib.Core.Path.{_≡_, refl, sym, ap, ap₂, subst, _∙_}
 use mathlib.Core.Bool.{false, true≢false}
-use mathlib.Core.List.{List, [], _∷_}
+use mathlib.Core.List.{List, [], _∷_, map}
 use mathlib.Core.Option.{none}
 use Prim.Native.Nat.{ℕ, suc, _+_, _≤_}
 use native.Mathlib.Omega.{arith}
-use lib.ListN.{length, take, drop, replicate, length-replicate}
-use lib.Seq.{take-append-seam}
+use lib.ListN.{length, take, drop, replicate, length-replicate, length-map}
+use lib.Seq.{take-append-seam, take-at}
 use borrow.Author.Tests.{le-ltb, lt-leb}
 use Rattle.coxeter.specs.Kinds.{kindOf}
-use Rattle.coxeter.specs.Checks.{tooShort}
+use Rattle.coxeter.specs.Checks.{tooShort, rankRefusal, wordRefusal}
+use Rattle.coxeter.specs.NormalForm.{wordNormalForm}
 use Rattle.rules.specs.declared.Rewrite.{Rewrite}
 use Rattle.rules.specs.declared.Rewrite.the-variants.{Used}
+use Rattle.rules.specs.declared.ToEnd.the-variants.{Ended}
 use Rattle.rules.specs.Rules.{rules, firstFitting}
 use Rattle.rules.specs.Calls.{pastEnd, Step, atFront, usedStep, step, Rewrote}
 use Rattle.rules.specs.Runs.{AcceptedWord, Call, wordAfter, Run, uses}
 use Rattle.rules.specs.Demand3.{IsUsed, Demand3}
-use Rattle.rules.specs.Traces.{Use, lowestUse, Line, Trace, trace, NoneFitsBelow, Replays}
+use Rattle.rules.specs.Traces.{Use, lowestUse, Line, Trace, trace, familiesOf, placesOf, lengthsOf, Traced, rewritingToEnd, NoneFitsBelow, Replays}
 use Rattle.rules.proofs.Fits.{firstFitting-some, firstFitting-none, none-firstFitting}
 use Rattle.rules.proofs.Completeness.{rewrites-letters, rewrites-length}
 use Rattle.rules.proofs.Calls.{accepted-least, accepted-letters, accepted-of-shorter, stepped, answer-of-none, step-used, usable-of-used, nowhereFits-iff}
+use Rattle.rules.proofs.Unchanged.{Written, refused, ended, tracedBy-written, toEnd-past}
+use Rattle.coxeter.proofs.Refusals.{then-zero}
 use Rattle.coxeter.proofs.Order.{less, same, more, compared}
-use Rattle.rules.proofs.Traces.{Lowest, irreducible-of-none, after, lineOf, continued, lowest-rewrites, trace-induction}
+use Rattle.rules.proofs.Traces.{Lowest, irreducible-of-none, after, lineOf, continued, lowest-rewrites, trace-induction, trace-normalForm}
 
 -- ---- one step of an accepted word
 
@@ -189,3 +193,48 @@ trace-at-most k n u h d =
     (λ u e d g. record { calls = []; run = tt; counted = refl }) (λ u s e a ih g. replay-goes k n u g s a (ih (next-accepted k n u g s a)))
     u (accepted-letters h) h in
     omega (arith, r .counted, d .follows (r .calls) (r .run) .uses-at-most)
+
+-- ---- what a call writes
+
+take-mapped : (m : ℕ) (f : Line → ℕ) (ls : List Line) (out : List ℕ) → length ls ≡ m → take m (atFront (map f ls) out) ≡ map f ls
+take-mapped m f ls out e = take-at (map f ls) (drop (length (map f ls)) out) m (length-map ls f ∙ e)
+
+-- a call that ends was not refused with q, and wrote the lines and the final word
+written-front : {q : ℕ} {t : Trace} {families places lengths out : List ℕ} {a : Traced} (s l : ℕ) → Written q t families places lengths out a
+    → a .answer ≡ Ended s l
+    → (q ≡ 0) × (length (t .lines) ≡ s) × (length (t .final) ≡ l)
+    × (take s (a .families) ≡ familiesOf (t .lines)) × (take s (a .places) ≡ placesOf (t .lines))
+    × (take s (a .lengths) ≡ lengthsOf (t .lines)) × (take l (a .bytes) ≡ t .final)
+written-front s l (refused r) e = let z : _≡_ {A = ℕ} 0 1 = cc in absurd (omega arith)
+written-front {t} {families} {places} {lengths} {out} s l (ended z) e =
+    let steps : length (t .lines) ≡ s = cc in
+    let final : length (t .final) ≡ l = cc in (
+      z,
+      steps,
+      final,
+      take-mapped s (λ (m : Line). m .family) (t .lines) families steps,
+      take-mapped s (λ (m : Line). m .place) (t .lines) places steps,
+      take-mapped s (λ (m : Line). m .left) (t .lines) lengths steps,
+      take-at (t .final) (drop (length (t .final)) out) l final,
+    )
+
+-- the first l bytes of the output are the normal form and the others stay; the first s places of the three lists are the families, places and lengths
+-- of lines that any reader can replay from the word to the normal form
+pub toEnd-wrote : (k n : ℕ) (u families places lengths out : List ℕ) (s l : ℕ)
+    → rewritingToEnd k n u families places lengths out .answer ≡ Ended s l
+    → let t = rewritingToEnd k n u families places lengths out in
+    let v = wordNormalForm (kindOf k) n u in
+    (length v ≡ l) × (take l (t .bytes) ≡ v) × (drop l (t .bytes) ≡ drop l out)
+    × ((ls : List Line) × (length ls ≡ s) × (take s (t .families) ≡ familiesOf ls) × (take s (t .places) ≡ placesOf ls)
+    × (take s (t .lengths) ≡ lengthsOf ls) × Replays k n u ls v)
+unfolding rewritingToEnd
+toEnd-wrote k n u families places lengths out s l e =
+    let w = written-front s l (tracedBy-written _ _ families places lengths out) e in
+    let z = then-zero (rankRefusal k n) (wordRefusal n u) (w .0) in
+    let h : AcceptedWord k n u = record { rank = z .0; word = z .1 } in
+    let f = trace-normalForm (kindOf k) n (accepted-least h) u (accepted-letters h) in (
+      ap (λ (v : List ℕ). length v) (sym f) ∙ w .2,
+      w .6 ∙ f,
+      toEnd-past k n u families places lengths out s l e .3,
+      (trace (kindOf k) n u .lines, w .1, w .3, w .4, w .5, subst (Replays k n u (trace (kindOf k) n u .lines)) f (trace-replays k n u h)),
+    )

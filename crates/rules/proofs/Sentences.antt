@@ -3,10 +3,10 @@
 --
 -- Sections: every list of calls; each call of a list; two words; the least word.
 -- Assumes nothing.
-use mathlib.Core.Path.{_≡_, refl, subst, ap, _∙_}
+use mathlib.Core.Path.{_≡_, refl, sym, subst, ap, _∙_}
 use mathlib.Core.Bool.{true, false}
 use mathlib.Core.Logic.{_↔_, ⊎-elim}
-use mathlib.Core.List.{List, [], _∷_, _++_}
+use mathlib.Core.List.{List, [], _∷_, _++_, append-nil, map, List·Memᴰ}
 use Prim.Native.Nat.{ℕ, _≤_}
 use native.Mathlib.Omega.{arith}
 use lib.ListN.{length, drop}
@@ -18,8 +18,8 @@ use Rattle.coxeter.specs.Dictionary.{before}
 use Rattle.coxeter.specs.Relations.{Relation, Linked}
 use Rattle.coxeter.proofs.Order.{shortlex-cases}
 use Rattle.rules.specs.declared.Rewrite.the-variants.{Used, NoneFits}
-use Rattle.rules.specs.Rules.{Rule}
-use Rattle.rules.specs.Runs.{AcceptedWord, Call, Run, uses, wordLeft}
+use Rattle.rules.specs.Rules.{Rule, rules, fits}
+use Rattle.rules.specs.Runs.{AcceptedWord, Call, Outcome, Run, machine, uses, wordLeft}
 use Rattle.rules.specs.Demand3.{normalFormOf, NowhereFits, IsUsed, Usable, Replaced, UsedExactly, Demand3}
 
 module _ {k n : ℕ} {u : List ℕ} (d : Demand3 k n u) where
@@ -29,7 +29,17 @@ module _ {k n : ℕ} {u : List ℕ} (d : Demand3 k n u) where
   pub one-number : (cs ds : List Call) → Run k n u cs → Run k n u ds → (uses cs ≤ d .most) × (uses ds ≤ d .most)
   one-number cs ds r s = (d .follows cs r .uses-at-most, d .follows ds s .uses-at-most)
 
-  -- "after it the window is still the first word's": also where calls follow
+  -- "Over the whole list .. the refusal numbers, the answers, the outputs' bytes and the word are the machine's", which sees only what each call is lent
+  pub as-the-machine : (cs : List Call) → Run k n u cs
+      → let m = machine k n u (map (λ (c : Call). c .lent) cs) in (map (λ (c : Call). c .told) cs ≡ m .told) × (wordLeft u cs ≡ m .word)
+  as-the-machine cs r =
+      let e = d .follows cs r .machines in
+      (ap (λ (o : Outcome). o .told) e, ap (λ (o : Outcome). o .word) e)
+
+  -- "after it the window is still the first word's": at the end of the list, and where calls follow
+  pub window-at-the-end : (cs : List Call) → Run k n u cs → window (kindOf k) n (wordLeft u cs) ≡ window (kindOf k) n u
+  window-at-the-end cs r = d .follows cs r .window-kept cs [] (sym (append-nil cs))
+
   pub window-on-the-way : (front : List Call) (c : Call) (rest : List Call) → Run k n u (front ++ (c ∷ rest))
       → window (kindOf k) n (wordLeft u front) ≡ window (kindOf k) n u
   window-on-the-way front c rest r = d .follows (front ++ (c ∷ rest)) r .window-kept front (c ∷ rest) refl
@@ -47,9 +57,13 @@ module _ {k n : ℕ} {u : List ℕ} (d : Demand3 k n u) where
     call-exactly : UsedExactly k n (wordLeft u front) c (wordLeft u (front ++ (c ∷ [])))
     call-exactly = d .follows (front ++ (c ∷ rest)) r .used-exactly front c rest refl
 
+    -- a call uses a rule where one fits and no check refuses
+    pub usable-used : (x : Rule) → Usable k n (wordLeft u front) (c .lent) x → IsUsed (c .told .answer)
+    usable-used x b = call-exactly .exactly .1 (x, b)
+
     -- a call that answers that none fits has none that fits, where no check refuses: no rewriter may pass a place over
     pub none-fits-truly : c .told .answer ≡ NoneFits → (x : Rule) → Usable k n (wordLeft u front) (c .lent) x → ⊥
-    none-fits-truly e x b = subst IsUsed e (call-exactly .exactly .1 (x, b))
+    none-fits-truly e x b = subst IsUsed e (usable-used x b)
 
     -- a call that used a rule replaced the left side of one of document 01's, the only one that fits, and nothing else
     pub used-replaced : IsUsed (c .told .answer)
@@ -58,8 +72,9 @@ module _ {k n : ℕ} {u : List ℕ} (d : Demand3 k n u) where
         let s = call-exactly .exactly .0 t in
         (s .0, s .1, call-exactly .used (s .0) (s .1) .replaced)
 
-    pub used-only : (x y : Rule) → Usable k n (wordLeft u front) (c .lent) x → Usable k n (wordLeft u front) (c .lent) y → y ≡ x
-    used-only x y b a = call-exactly .used x b .only y (a .listed) (a .fitting)
+    pub used-only : (x y : Rule) → Usable k n (wordLeft u front) (c .lent) x → List·Memᴰ y (rules (kindOf k) n)
+        → fits y (wordLeft u front) (c .lent .place) ≡ true → y ≡ x
+    used-only x y b = call-exactly .used x b .only y
 
     -- its answer is that rule's family, i and j with the new length, and beyond the new word the output is as it was lent
     pub used-answer : (x : Rule) → Usable k n (wordLeft u front) (c .lent) x → (f i j l : ℕ) → c .told .answer ≡ Used f i j l
@@ -74,7 +89,14 @@ module _ {k n : ℕ} {u : List ℕ} (d : Demand3 k n u) where
 
   -- ---- two words
 
-  -- "exactly when their windows are equal, and exactly when the defining relations alone turn one into the other"
+  -- "the same normal form exactly when their windows are equal, and exactly when the defining relations alone turn one into the other"
+  pub normal-form-iff-window : (v : List ℕ) → AcceptedWord k n v
+      → (normalFormOf k n u ≡ normalFormOf k n v) ↔ (window (kindOf k) n u ≡ window (kindOf k) n v)
+  normal-form-iff-window v a = d .agree v a .by-window
+
+  pub normal-form-iff-linked : (v : List ℕ) → AcceptedWord k n v → (normalFormOf k n u ≡ normalFormOf k n v) ↔ Linked (Relation (kindOf k) n) u v
+  normal-form-iff-linked v a = d .agree v a .by-relations
+
   pub window-iff-linked : (v : List ℕ) → AcceptedWord k n v → (window (kindOf k) n u ≡ window (kindOf k) n v) ↔ Linked (Relation (kindOf k) n) u v
   window-iff-linked v a =
       let g = d .agree v a in

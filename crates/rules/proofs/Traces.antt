@@ -1,8 +1,8 @@
 -- The rewriting to its end: at each step the lowest place is found; every step lowers the measure `value`, so that the number of steps allowed for is
--- enough; at the end none fits, and so the final word is the normal form. Any reader can replay the lines, no other lines can be replayed so, and
--- there are no more than demand 3's number. By induction on the measure.
+-- enough; at the end none fits, and so the final word is the normal form. By induction on the measure. Replaying, and the number of steps, are in
+-- Replays.antt; refused calls, and what lies past the steps, in Unchanged.antt.
 --
--- Sections: the lowest place; one step; enough steps; one step of the whole; the end; the number of steps; replaying; only one replay; refusals.
+-- Sections: the lowest place; one step; enough steps; one step of the whole; the end.
 -- Assumes nothing.
 use mathlib.Core.Path.{_≡_, refl, sym, ap, ap₂, subst, _∙_}
 use mathlib.Core.Bool.{false}

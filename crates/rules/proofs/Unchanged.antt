@@ -18,6 +18,7 @@ use borrow.Author.Tests.{eq-eqb, ne-eqb}
 use Rattle.coxeter.specs.Kinds.{pick, kindOf}
 use Rattle.coxeter.specs.Checks.{check, _then_, tooShort, rankRefusal, wordRefusal}
 use Rattle.coxeter.specs.Calls.{written}
+use Rattle.coxeter.proofs.Refusals.{then-zero}
 use Rattle.rules.specs.declared.Rewrite.the-variants.{Used, NoneFits, Refused}
 use Rattle.rules.specs.declared.ToEnd.the-variants as toEnd
 use Rattle.rules.specs.Rules.{Rule, rules, firstFitting, rewritten}
@@ -72,11 +73,11 @@ module _ (k n : ℕ) (u : List ℕ) (p : ℕ) (out : List ℕ) where
 
 -- ---- the rewriting to its end
 
--- either all is as it was, or the lines and the final word are written
-data Written (t : Trace) (families places lengths out : List ℕ) : Traced → Type 0 where
-  refused : (r : ℕ) → Written t families places lengths out
+-- either all is as it was, or q is no refusal and the lines and the final word are written
+pub data Written (q : ℕ) (t : Trace) (families places lengths out : List ℕ) : Traced → Type 0 where
+  refused : (r : ℕ) → Written q t families places lengths out
       (record { answer = toEnd.Refused r; families = families; places = places; lengths = lengths; bytes = out })
-  ended : Written t families places lengths out (record {
+  ended : q ≡ 0 → Written q t families places lengths out (record {
     answer = toEnd.Ended (length (t .lines)) (length (t .final));
     families = atFront (familiesOf (t .lines)) families;
     places = atFront (placesOf (t .lines)) places;
@@ -84,17 +85,20 @@ data Written (t : Trace) (families places lengths out : List ℕ) : Traced → T
     bytes = atFront (t .final) out;
   })
 
-tracedBy-written : (q : ℕ) (t : Trace) (families places lengths out : List ℕ)
-    → Written t families places lengths out (tracedBy q t families places lengths out)
+pub tracedBy-written : (q : ℕ) (t : Trace) (families places lengths out : List ℕ)
+    → Written q t families places lengths out (tracedBy q t families places lengths out)
 unfolding tracedBy toEndOf written
 tracedBy-written q t families places lengths out =
     let r = q then check 15 (tooFewPlaces (length (t .lines)) families places lengths) then check 14 (tooShort (length (t .final)) out) in
-    elim (ℕ-discrete r 0) [ yes z ↦ rw (eq-eqb r 0 z) ended | no z ↦ rw (ne-eqb r 0 z) (refused r) ]
+    elim (ℕ-discrete r 0) [
+      | yes z ↦ rw (eq-eqb r 0 z) (ended (then-zero q _ z .0))
+      | no z ↦ rw (ne-eqb r 0 z) (refused r)
+    ]
 
-written-unchanged : {t : Trace} {families places lengths out : List ℕ} {a : Traced} (q : ℕ) → Written t families places lengths out a
-    → a .answer ≡ toEnd.Refused q → (a .families ≡ families) × (a .places ≡ places) × (a .lengths ≡ lengths) × (a .bytes ≡ out)
-written-unchanged q (refused r) e = (refl, refl, refl, refl)
-written-unchanged q ended e = let z : _≡_ {A = ℕ} 0 1 = cc in absurd (omega arith)
+written-unchanged : {q : ℕ} {t : Trace} {families places lengths out : List ℕ} {a : Traced} (r : ℕ) → Written q t families places lengths out a
+    → a .answer ≡ toEnd.Refused r → (a .families ≡ families) × (a .places ≡ places) × (a .lengths ≡ lengths) × (a .bytes ≡ out)
+written-unchanged r (refused p) e = (refl, refl, refl, refl)
+written-unchanged r (ended p) e = let z : _≡_ {A = ℕ} 0 1 = cc in absurd (omega arith)
 
 drop-front : (m : ℕ) (l out : List ℕ) → length l ≡ m → drop m (atFront l out) ≡ drop m out
 drop-front m l out e = rw (← e) (drop-append-seam l (drop (length l) out))
@@ -102,12 +106,12 @@ drop-front m l out e = rw (← e) (drop-append-seam l (drop (length l) out))
 drop-mapped : (m : ℕ) (f : Line → ℕ) (ls : List Line) (out : List ℕ) → length ls ≡ m → drop m (atFront (map f ls) out) ≡ drop m out
 drop-mapped m f ls out e = drop-front m (map f ls) out (length-map ls f ∙ e)
 
-written-past : {t : Trace} {families places lengths out : List ℕ} {a : Traced} (s l : ℕ) → Written t families places lengths out a
+written-past : {q : ℕ} {t : Trace} {families places lengths out : List ℕ} {a : Traced} (s l : ℕ) → Written q t families places lengths out a
     → a .answer ≡ toEnd.Ended s l
     → (drop s (a .families) ≡ drop s families) × (drop s (a .places) ≡ drop s places)
     × (drop s (a .lengths) ≡ drop s lengths) × (drop l (a .bytes) ≡ drop l out)
 written-past s l (refused r) e = let z : _≡_ {A = ℕ} 0 1 = cc in absurd (omega arith)
-written-past {t} {families} {places} {lengths} {out} s l ended e =
+written-past {t} {families} {places} {lengths} {out} s l (ended z) e =
     let steps : length (t .lines) ≡ s = cc in
     let final : length (t .final) ≡ l = cc in (
       drop-mapped s (λ (m : Line). m .family) (t .lines) families steps,

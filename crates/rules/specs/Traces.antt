@@ -57,7 +57,7 @@ traceWithin k n (suc t) u = elim (lowestUse k n u) [
       record { lines = record { family = s .rule .family; place = s .place; left = length v } ∷ rest .lines; final = rest .final }
 ]
 
--- A word of steps never takes that many steps: at the end none fits (`trace-ends`), and a greater number gives the same (`trace-enough`).
+-- That many steps are enough for a word of steps: at the end none fits (`trace-ends`), and a greater number gives the same (`trace-enough`).
 unfoldable pub trace : Kind → ℕ → List ℕ → Trace
 trace k n u = traceWithin k n ((n + 1) ^ length u) u
 

@@ -183,7 +183,8 @@ pub fn pairs_across(sides: &mut Sides) {
     }
 }
 
-/// The normal form of each window in every rig that has it: the presets look alike, and no other pair of windows does.
+/// The normal form of each window in every two rigs that have it: the presets look alike, and with step 1 added to the
+/// second they do not.
 pub fn alike_across(sides: &mut Sides) {
     let rigs = [(A, 3), (A, 4), (B, 4), (B, 5), (D, 4), (D, 5)];
     for (kind, rank) in rigs {

@@ -1,6 +1,6 @@
 -- A conversion as the code makes it, record by record: the checks, what is left to write of the records and of their offsets, and the answers.
 --
--- Sections: records by their number; the checks; what is left to write; the answers.
+-- Sections: records by their number; the checks; what is left to write; the records, one after the other; their offsets; the whole; the answers.
 -- Assumes nothing.
 use mathlib.Core.Path.{_≡_, refl, sym, ap, _∙_}
 use mathlib.Core.Bool.{Bool}

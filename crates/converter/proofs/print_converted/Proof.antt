@@ -11,10 +11,16 @@ use Rattle.converter.proofs.print_converted.Statement.{statement}
 use Rattle.converter.proofs.print_converted.Tie as tie
 
 -- the new book ends inside the buffer
-inside : (c : tie.After-known-told) → c .before .l .given .0 .0 ≤ length (c .before .before .before .before .before .convert .last .1 .1 .0)
+inside : (c : tie.After-known-told) → c .before .l .given .0 .0 ≤ length (c .before .before .before .before .convert .last .1 .1 .0)
 inside c =
-    let made = c .before .before .before .before .before .convert in
+    let made = c .before .before .before .before .convert in
     omega (arith, converting-room _ _ _ _ (sym (made .ensures .0) ∙ c .before .l .given .1), made .kept .1 .1 .0)
+
+large-buffer-requires : tie.Need-large-buffer-requires
+large-buffer-requires c κs = search needs
+
+slice-aggregate-convert : tie.Need-slice-aggregate-convert
+slice-aggregate-convert c = search needs
 
 convert-requires : tie.Need-convert-requires
 convert-requires c κs = search needs
@@ -22,14 +28,14 @@ convert-requires c κs = search needs
 enum-known-l : tie.Need-enum-known-l
 enum-known-l c = search needs
 
-slice-reshare-prefix-write-all : tie.Need-slice-reshare-prefix-write-all
-slice-reshare-prefix-write-all c = inside c
+array-share-prefix-out : tie.Need-array-share-prefix-out
+array-share-prefix-out c = inside c
 
-slice-aggregate-write-all : tie.Need-slice-aggregate-write-all
-slice-aggregate-write-all c = sym (length-take-le _ _ (inside (c .before)))
+slice-aggregate-print : tie.Need-slice-aggregate-print
+slice-aggregate-print c = sym (length-take-le _ _ (inside (c .before)))
 
-write-all-requires : tie.Need-write-all-requires
-write-all-requires c κs = search needs
+print-requires : tie.Need-print-requires
+print-requires c κs = search needs
 
 enum-known-k : tie.Need-enum-known-k
 enum-known-k c = search needs
@@ -37,14 +43,8 @@ enum-known-k c = search needs
 print-refused-requires : tie.Need-print-refused-requires
 print-refused-requires c κs = search needs
 
-same-length : tie.Need-same-length
-same-length c = search needs
-
 returns : tie.Need-returns
 returns c = search needs
-
-same-length-2 : tie.Need-same-length-2
-same-length-2 c = search needs
 
 returns-2 : tie.Need-returns-2
 returns-2 c = search needs
@@ -53,14 +53,14 @@ pub print-converted-spec : {M : Type 1} → statement M
 print-converted-spec =
     tie.close
     (tie.spec
+    large-buffer-requires
+    slice-aggregate-convert
     convert-requires
     enum-known-l
-    slice-reshare-prefix-write-all
-    slice-aggregate-write-all
-    write-all-requires
+    array-share-prefix-out
+    slice-aggregate-print
+    print-requires
     enum-known-k
     print-refused-requires
-    same-length
     returns
-    same-length-2
     returns-2)

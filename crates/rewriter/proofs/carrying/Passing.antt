@@ -1,7 +1,6 @@
--- The steps of the module `carrying`, from what its functions find and store: a letter passes another, is carried past a block, or is struck out with an
--- equal one; each is a step of the rewriting that is noted.
+-- The turns of `carrying::pass`, from what it compares and stores: where a letter passes another, that is a step of the rewriting, and it is noted.
 --
--- Sections: letters; a letter that passes another; the rule that ends with the letter.
+-- Sections: letters; a letter that passes another; letters passed one by one.
 -- Assumes nothing.
 use mathlib.Core.Path.{_≡_, refl, sym, ap, ap₂, subst, _∙_}
 use mathlib.Core.Bool.{Bool, true, false}

@@ -1,6 +1,6 @@
--- Runs of stores in a list of letters, and the runs and blocks that are written so, one letter a turn of a loop.
+-- Runs of letters up and down, stored one letter a turn of a loop, and the blocks as such runs.
 --
--- Sections: runs of stores; letters up and down; blocks as runs.
+-- Sections: letters up and down; blocks as runs.
 -- Assumes nothing.
 use mathlib.Core.Path.{_≡_, sym, ap, _∙_}
 use mathlib.Core.Logic.{_⊎_, ⊎-elim}

@@ -1,9 +1,6 @@
 -- `records::put_lanes` stores the lane count where the edition has one, by cases on the edition: it is a byte.
 -- Assumes nothing.
-use mathlib.Core.Path.{ap}
 use native.Mathlib.Omega.{arith}
-use Prim.Native.Nat.{ℕ}
-use lib.ListN.{set}
 use Rattle.coxeter.proofs.KindLaws.{lanes-le-add-one}
 use Rattle.coxeter.specs.Kinds.{kindOf}
 use borrow.Author.Needs.{needs}

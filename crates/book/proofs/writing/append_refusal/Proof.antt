@@ -1,4 +1,4 @@
--- `writing::append_refusal` makes checks 1 to 3, 5 to 8 and 13 in this order.
+-- `writing::append_refusal` makes checks 1 to 3, 5 to 8, 21 and 13 in this order.
 -- Assumes nothing.
 use mathlib.Core.Path.{sym}
 use native.Mathlib.Omega.{arith}

@@ -1,8 +1,6 @@
 -- `writing::write_record` stores the bytes before the letters, and then the letters.
 -- Assumes nothing.
-use mathlib.Core.Path.{ap, _∙_}
-use denote.Ref.{now}
-use Prim.Native.Nat.{_+_}
+use mathlib.Core.Path.{_∙_}
 use native.Mathlib.Omega.{arith}
 use lib.ListN.{length-set}
 use Rattle.book.proofs.numbers.Stores.{record-stored}

@@ -1,7 +1,6 @@
 -- `pieces::put_nth` puts the first line, or that of the preset which the numbers of the run give.
 -- Assumes nothing.
 use denote.Ref.{now}
-use mathlib.Core.Path.{sym}
 use Prim.Native.Nat.{_≤_}
 use native.Mathlib.Omega.{arith}
 use borrow.Author.Needs.{needs}

@@ -1,7 +1,6 @@
 -- `printing::print_book` is safe and ends: a piece that has a byte leaves fewer lines, which is the measure.
 -- Assumes nothing.
-use denote.Ref.{now}
-use mathlib.Core.Path.{_≡_, refl, sym, _∙_}
+use mathlib.Core.Path.{_≡_, sym, _∙_}
 use Prim.Native.Nat.{_-_, _≤_}
 use native.Mathlib.Omega.{arith}
 use lib.ListN.{length}
@@ -13,37 +12,38 @@ use Rattle.listing_lines.proofs.printing.print_book.Statement.{statemen
 use Rattle.listing_lines.proofs.printing.print_book.Tie as tie
 
 abbrev Inv-loop : tie.InvT-loop
-Inv-loop edition book out₀ first₀ out first = length out ≡ length out₀
+Inv-loop edition book out₀ first₀ out first = length out ≡ 65536
 
 abbrev μ-loop : tie.MeasureT-loop
 μ-loop edition book out₀ first₀ out first = lineCount edition book - first
 
+-- a piece ends inside the buffer, which keeps its size
 inside : (c : tie.After-next-piece Inv-loop μ-loop) → c .next-piece .result .end ≤ length (c .next-piece .last .1 .1 .1 .0)
 inside c = omega (arith, piece-inside _ _ _ _ _ (c .next-piece .ensures .0), c .next-piece .kept .1 .1 .1 .0)
 
+large-buffer-requires : tie.Need-large-buffer-requires Inv-loop μ-loop
+large-buffer-requires c κs = search needs
+
 loop-holds : tie.Need-loop-holds Inv-loop μ-loop
-loop-holds c = refl
+loop-holds c = sym (c .large-buffer .ensures)
+
+slice-aggregate-next-piece : tie.Need-slice-aggregate-next-piece Inv-loop μ-loop
+slice-aggregate-next-piece c = sym (c .before .loop .inv)
 
 next-piece-requires : tie.Need-next-piece-requires Inv-loop μ-loop
 next-piece-requires c κs = search needs
 
-same-length : tie.Need-same-length Inv-loop μ-loop
-same-length c = let called = c .before .before .before in called .next-piece .kept .1 .1 .1 .0 ∙ called .before .before .loop .inv
-
 returns : tie.Need-returns Inv-loop μ-loop
 returns c = search needs
 
-slice-reshare-prefix-write-all : tie.Need-slice-reshare-prefix-write-all Inv-loop μ-loop
-slice-reshare-prefix-write-all c = inside (c .before .before .before)
+array-share-prefix-out : tie.Need-array-share-prefix-out Inv-loop μ-loop
+array-share-prefix-out c = inside (c .before .before)
 
-slice-aggregate-write-all : tie.Need-slice-aggregate-write-all Inv-loop μ-loop
-slice-aggregate-write-all c = sym (length-take-le _ _ (inside (c .before .before .before .before)))
+slice-aggregate-print : tie.Need-slice-aggregate-print Inv-loop μ-loop
+slice-aggregate-print c = sym (length-take-le _ _ (inside (c .before .before .before)))
 
-write-all-requires : tie.Need-write-all-requires Inv-loop μ-loop
-write-all-requires c κs = search needs
-
-same-length-2 : tie.Need-same-length-2 Inv-loop μ-loop
-same-length-2 c = let called = c .before .before .before .before .before .before in called .next-piece .kept .1 .1 .1 .0 ∙ called .before .before .loop .inv
+print-requires : tie.Need-print-requires Inv-loop μ-loop
+print-requires c κs = search needs
 
 returns-2 : tie.Need-returns-2 Inv-loop μ-loop
 returns-2 c = search needs
@@ -51,10 +51,12 @@ returns-2 c = search needs
 loop-less : tie.Need-loop-less Inv-loop μ-loop
 loop-less c =
     let other = c .before .before .before in
-    piece-falls _ _ _ _ _ (other .before .before .before .next-piece .ensures .0) (other .if1 .left)
+    piece-falls _ _ _ _ _ (other .before .before .next-piece .ensures .0) (other .if1 .left)
 
 loop-again : tie.Need-loop-again Inv-loop μ-loop
-loop-again c = let called = c .before .before .before .before .before .before in called .next-piece .kept .1 .1 .1 .0 ∙ called .before .before .loop .inv
+loop-again c =
+    let called = c .before .before .before .before .before in
+    called .next-piece .kept .1 .1 .1 .0 ∙ called .before .before .loop .inv
 
 pub print-book-spec : {M : Type 1} → statement M
 print-book-spec =
@@ -62,14 +64,14 @@ print-book-spec =
     (tie.spec
     Inv-loop
     μ-loop
+    large-buffer-requires
     loop-holds
+    slice-aggregate-next-piece
     next-piece-requires
-    same-length
     returns
-    slice-reshare-prefix-write-all
-    slice-aggregate-write-all
-    write-all-requires
-    same-length-2
+    array-share-prefix-out
+    slice-aggregate-print
+    print-requires
     returns-2
     loop-less
     loop-again)
