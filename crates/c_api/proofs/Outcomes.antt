@@ -1,5 +1,4 @@
--- What the two calls for C write that go beyond the call below them: one rewrite with its rule, by the cases of the layer's answer, and the fields
--- of a preset.
+-- What two of the calls for C write beyond the call below them: one rewrite its rule, by the cases of the layer's answer, and a preset its fields.
 --
 -- Sections: one rewrite; a preset's fields.
 -- Assumes nothing.

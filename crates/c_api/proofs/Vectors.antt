@@ -1,5 +1,6 @@
 -- Numbers that the calls for C answer, and what they leave in their outputs, computed from the definitions at some inputs: a refusal is negative, a
--- length, a verdict and a choice are told apart, a rule of fewer than three bytes keeps both outputs.
+-- length, a verdict and a choice are told apart, a rule of fewer than three bytes keeps both outputs; fallbacks, rewritings to their end, lengths by
+-- sort, splits, a preset's fields; kinds and ranks above a byte.
 -- Assumes nothing.
 use mathlib.Core.Path.{refl}
 use mathlib.Core.List.{List, [], _∷_}

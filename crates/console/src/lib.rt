@@ -1,4 +1,5 @@
-// What the programs read and print, with failures said on standard error: a program has no exit status. No public function has a `requires`.
+// Whether the input of a program on books ended, and its output. Failures are said on standard error: a program has no exit status. No public function
+// has a `requires`.
 use libc::STDERR_FILENO;
 use libc::STDOUT_FILENO;
 

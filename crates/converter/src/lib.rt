@@ -5,9 +5,10 @@ use libc::STDOUT_FILENO;
 use window::Answer;
 
 fn print_refused(k: u8) {
-    print(b"book refused ");
-    io::print_decimal(STDOUT_FILENO, k as u64);
-    print(b"\n");
+    if print(b"book refused ") {
+        io::print_decimal(STDOUT_FILENO, k as u64);
+        print(b"\n");
+    }
 }
 
 // The book in the other edition. Where the conversion is refused only a line with its number is printed, which no edition takes for a book: the count

@@ -1,7 +1,7 @@
 -- Wrong routers (document 01, "What contracts have to settle", point c, and "Mistakes close at hand"; and others): a wrong answer for each, and an
 -- input at which the call's definition says otherwise. A contract that is an equation with the definition then lets none of them through. The wrong answers
 -- are in WrongWindows, WrongRewrites, WrongTraces, WrongShortest, WrongSplits, WrongTables and WrongBooks; that each row is wrong is `ruled-out` of proofs/WrongRouters.antt.
--- Not here: those that show only at a book of 65,536 bytes, and parts handed back, which no input computes; they too are in that file.
+-- Not here: those that show only at books too large to compute with, parts handed back and places kept; they too are in that file.
 use mathlib.Core.List.{List, [], _∷_}
 use Prim.Native.Nat.{ℕ}
 use lib.IntN.{ℤ, pos, natAbs}
