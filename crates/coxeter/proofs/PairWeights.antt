@@ -148,7 +148,7 @@ unfolding weights
 weights-le x [] = omega arith
 weights-le x (y ∷ w) = omega (arith, weight-le x y, weights-le x w)
 
-one-le : (t : Bool) → one t ≤ 1
+pub one-le : (t : Bool) → one t ≤ 1
 unfolding one
 one-le true = omega arith
 one-le false = omega arith

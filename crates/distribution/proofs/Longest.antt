@@ -9,18 +9,19 @@ use Prim.Native.Nat.{ℕ, zero, suc, _+_, _-_, _*_, _≤_, _<_}
 use native.Mathlib.Omega.{arith}
 use native.Mathlib.Nat.{suc-mul, mul-suc, add-mul, mul-sub}
 use native.Mathlib.Numerals.{lt-of-le-of-ne}
-use borrow.Author.Tests.{lt-ltb, le-ltb, ltb-true, ltb-false, ne-eqb, not-true}
+use borrow.Author.Tests.{lt-ltb, le-ltb, ltb-true, ltb-false, not-true}
 use lib.Dec.{ltb}
 use lib.IntN.{ℤ, pos, negsuc, natAbs}
 use lib.ListN.{length, length-map}
 use Rattle.coxeter.specs.Kinds.{Kind, A, B, D, pick, least, up}
 use Rattle.coxeter.specs.Windows.{from, negateFirst}
 use Rattle.coxeter.specs.Length.{negative, one, negatives, windowLength, greatestLength}
-use Rattle.coxeter.specs.Checks.{hasSize, odd}
+use Rattle.coxeter.specs.Checks.{odd}
 use Rattle.coxeter.specs.NormalForm.{down, levels, lastIndex, Indices, none, level, normalForm}
 use Rattle.coxeter.proofs.Basics.{length-up}
 use Rattle.coxeter.proofs.Sizes.{negatives-map-pos}
 use Rattle.coxeter.proofs.Levels.{Between, Distinct, Level, Accepted, accepted-of-refusal, refusal-of-accepted, hasSize-below, SameSizes, sameSizes-from, sameSizes-negateFirst, level-of-sameSizes}
+use Rattle.coxeter.proofs.Places.{hasSize-beyond}
 use Rattle.coxeter.proofs.PairWeights.{weight, weights, pairWeights, signWeight, length-by-weights}
 use Rattle.coxeter.proofs.Lengths.{blockLength, length-normalForm, pairWeights-negateLast}
 use Rattle.coxeter.proofs.Indices.{length-of-indices, window-indices, indices-in-range}
@@ -81,16 +82,11 @@ between-falling : (m c : ℕ) → m < c → Between 1 c (map pos (down m m))
 between-falling zero c h = unfold down in tt
 between-falling (suc m) c h = rw (falling-suc m) (omega arith, h, between-falling m c (omega arith))
 
-hasSize-above : (i c s : ℕ) (w : List ℤ) → c ≤ s → Between i c w → hasSize s w ≡ false
-unfolding hasSize
-hasSize-above i c s [] h b = refl
-hasSize-above i c s (e ∷ w) h b = rw (ne-eqb (natAbs e) s (λ q. omega arith)) (hasSize-above i c s w h (b .2))
-
 distinct-falling : (m : ℕ) → Distinct (map pos (down m m))
 distinct-falling zero = unfold down in tt
 distinct-falling (suc m) =
     rw (falling-suc m)
-    (hasSize-above 1 (suc m) (suc m) (map pos (down m m)) (omega arith) (between-falling m (suc m) (omega arith)), distinct-falling m)
+    (hasSize-beyond 1 (suc m) (suc m) (map pos (down m m)) (omega arith) (between-falling m (suc m) (omega arith)), distinct-falling m)
 
 weights-smaller : (i : ℕ) (x : ℤ) (w : List ℤ) → Between i (natAbs x) w → weights x w ≡ length w
 unfolding weights weight

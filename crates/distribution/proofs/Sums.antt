@@ -15,6 +15,7 @@ use lib.ListN.{length}
 use Rattle.coxeter.specs.Kinds.{pick, up}
 use Rattle.coxeter.specs.Length.{one}
 use Rattle.coxeter.proofs.Basics.{up-append}
+use Rattle.coxeter.proofs.PairWeights.{one-le}
 use Rattle.distribution.specs.AllWindows.{In, keep}
 use Rattle.distribution.specs.Distribution.{sum}
 
@@ -92,11 +93,6 @@ below-one c (suc m) = cases (eqb c m) refl (ltb c m) refl (below-one c m)
     cases false p false q h =
         let ne = eqb-false c m p in
         rw (le-ltb c (suc m) (omega (arith, ltb-false c m q))) (omega arith)
-
-one-le : (t : Bool) → one t ≤ 1
-unfolding one
-one-le true = omega arith
-one-le false = omega arith
 
 below-timesOf-cons : {X : Type 0} (f : X → ℕ) (x : X) (xs : List X) (m : ℕ)
     → below (timesOf f (x ∷ xs)) m ≡ one (ltb (f x) m) + below (timesOf f xs) m

@@ -3,8 +3,8 @@
 use mathlib.Core.Path.{_≡_, refl, sym, _∙_}
 use mathlib.Core.Bool.{Bool, true, false}
 use mathlib.Core.List.{List}
-use Prim.Native.Nat.{ℕ, zero, suc, _*_, _≤_}
-use native.Mathlib.Nat.{le-refl, suc-mul, mul-add, mul-le-mul-left}
+use Prim.Native.Nat.{ℕ, _*_, _≤_}
+use native.Mathlib.Nat.{le-refl, mul-add, mul-le-mul-left}
 use native.Mathlib.Omega.{arith}
 use lib.Dec.{ltb}
 use lib.IntN.{ℤ}
@@ -22,13 +22,10 @@ use Rattle.coxeter.specs.Length.{windowLength, greatestLength}
 use Rattle.coxeter.specs.Checks.{rankRefusal, windowRefusal}
 use Rattle.coxeter.specs.NormalForm.{normalForm}
 use Rattle.coxeter.specs.Calls.{Outcome, Yields, written, writes}
+use Rattle.window.proofs.length.Sums.{square-le}
 use Rattle.window.proofs.shown.Fronts.{Front}
 
 -- ---- check 14
-
-square-le : (n : ℕ) → n ≤ n * n
-square-le zero = omega arith
-square-le (suc n) = omega (arith, suc-mul n (suc n))
 
 greatest-le : (k : Kind) (n : ℕ) → greatestLength k n ≤ n * n
 greatest-le A n = omega (arith, square-le n, mul-add n n 1)

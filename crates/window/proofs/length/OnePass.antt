@@ -7,7 +7,7 @@ use mathlib.Core.Path.{_≡_, refl, sym, ap, _∙_}
 use mathlib.Core.Bool.{Bool, true, false}
 use mathlib.Core.List.{List, [], _∷_, map}
 use Prim.Native.Nat.{ℕ, zero, suc, _+_, _-_, _*_, _/_, _^_, _≤_, _<_}
-use native.Mathlib.Nat.{zero-add, suc-add, add-zero, le-refl, suc-mul, mul-suc, mul-le-mul}
+use native.Mathlib.Nat.{zero-add, suc-add, add-zero, le-refl, suc-mul, mul-suc}
 use native.Mathlib.Omega.{arith}
 use lib.Bits.{bitOr}
 use lib.Count.{ones}
@@ -22,7 +22,7 @@ use Rattle.coxeter.proofs.PairWeights.{weights, pairWeights, negatives-le}
 use Rattle.coxeter.proofs.NegativeSums.{lackOfNegatives, negativeSumPairs-level}
 use Rattle.coxeter.proofs.Places.{between-getD}
 use Rattle.window.proofs.length.SizeSets.{sizeSet, sizeSet-nil, sizeSet-lt, sizeSet-cons, fromSize, fromSize-add-smaller}
-use Rattle.window.proofs.length.Sums.{smaller, behind, weights-behind, between-drop, distinct-drop, bothPairs, bothPairs-is-pairWeights}
+use Rattle.window.proofs.length.Sums.{smaller, behind, weights-behind, between-drop, distinct-drop, square-fits, bothPairs, bothPairs-is-pairWeights}
 
 -- ---- one entry against those behind it
 
@@ -114,10 +114,6 @@ gone-none w =
       lack-is = rw none;
       minus-is = rw none;
     }
-
--- the square fits
-pub square-fits : (m : ℕ) → m ≤ 64 → (m * m ≤ 4096) × (m ≤ m * m)
-square-fits m few = (mul-le-mul {n₁ = m} {m₁ = m} {n₂ = 64} {m₂ = 64} few few, omega (arith, triangle-square m))
 
 -- one entry further to the front: the entry at j - 1, of size s
 module _ (w : List ℤ) (set pairs lack minus j s : ℕ) (h : Gone w set pairs lack minus j) (p : 0 < j) (few : length w ≤ 64)

@@ -19,6 +19,7 @@ use Rattle.coxeter.specs.Kinds.{pick}
 use Rattle.coxeter.specs.Length.{one, later, laterThan}
 use Rattle.coxeter.specs.Checks.{hasSize}
 use Rattle.coxeter.proofs.Levels.{Between, Distinct}
+use Rattle.coxeter.proofs.PairWeights.{one-le}
 use Rattle.window.proofs.length.Sums.{smaller}
 
 -- ---- the set
@@ -32,11 +33,6 @@ pub sizeSet-nil : (d s : ℕ) → sizeSet d s [] ≡ 0
 unfolding sizeSet hasSize one
 sizeSet-nil zero s = refl
 sizeSet-nil (suc d) s = rw (sizeSet-nil d (suc s))
-
-one-le : (t : Bool) → one t ≤ 1
-unfolding one
-one-le true = omega arith
-one-le false = omega arith
 
 pub sizeSet-lt : (d s : ℕ) (w : List ℤ) → sizeSet d s w < 2 ^ d
 unfolding sizeSet

@@ -6,7 +6,7 @@ use mathlib.Core.Path.{_≡_, refl, sym, ap, _∙_}
 use mathlib.Core.Bool.{Bool, true, false}
 use mathlib.Core.List.{List, [], _∷_, map}
 use Prim.Native.Nat.{ℕ, zero, suc, _+_, _-_, _*_, _≤_, _<_}
-use native.Mathlib.Nat.{add-zero, mul-le-mul}
+use native.Mathlib.Nat.{add-zero, suc-mul, mul-le-mul}
 use native.Mathlib.Decide.{ℕ-discrete}
 use native.Mathlib.Omega.{arith}
 use lib.Dec.{ltb}
@@ -139,9 +139,17 @@ bothPairs-is-pairWeights w h =
     let a = accepted-of-refusal B (length w) w h .level in
     inversions-add-negativeSumPairs (1 + length w) w (a .between) (a .distinct)
 
+pub square-le : (n : ℕ) → n ≤ n * n
+square-le zero = omega arith
+square-le (suc n) = omega (arith, suc-mul n (suc n))
+
+-- a square of at most 64 lanes fits
+pub square-fits : (m : ℕ) → m ≤ 64 → (m * m ≤ 4096) × (m ≤ m * m)
+square-fits m few = (mul-le-mul {n₁ = m} {m₁ = m} {n₂ = 64} {m₂ = 64} few few, square-le m)
+
 pub bothPairs-le : (w : List ℤ) → windowRefusal B (length w) w ≡ 0 → length w ≤ 64 → bothPairs w ≤ 4096
 bothPairs-le w h l =
-    omega (arith, bothPairs-is-pairWeights w h, pairWeights-le w, mul-le-mul {n₁ = length w} {m₁ = length w} {n₂ = 64} {m₂ = 64} l l)
+    omega (arith, bothPairs-is-pairWeights w h, pairWeights-le w, square-fits (length w) l .0)
 
 -- ---- the three kinds
 

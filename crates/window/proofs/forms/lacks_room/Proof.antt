@@ -1,20 +1,17 @@
 -- `forms::lacks_room` compares the room with n × n, and where that is more with the length.
 -- Assumes nothing.
 use mathlib.Core.Path.{ap}
-use native.Mathlib.Nat.{mul-le-mul}
 use native.Mathlib.Omega.{arith}
 use lib.Dec.{ltb}
 use borrow.Author.Needs.{needs}
 use Rattle.coxeter.proofs.Acceptance.{rank-accepted}
 use Rattle.window.proofs.forms.Rooms.{square-room}
+use Rattle.window.proofs.length.Sums.{square-fits}
 use Rattle.window.proofs.forms.lacks_room.Statement.{statement}
 use Rattle.window.proofs.forms.lacks_room.Tie as tie
 
 mul-if1 : tie.Need-mul-if1
-mul-if1 c =
-    let n = c .args .rank in
-    let l = rank-accepted _ _ (c .pre .0) .1 in
-    record { fits = omega (arith, mul-le-mul {n₁ = n} {m₁ = n} {n₂ = 64} {m₂ = 64} l l) }
+mul-if1 c = record { fits = omega (arith, square-fits (c .args .rank) (rank-accepted _ _ (c .pre .0) .1) .0) }
 
 returns : tie.Need-returns
 returns c = square-room _ _ _ _ (c .before .pre .1 .1) (c .if1 .taken)

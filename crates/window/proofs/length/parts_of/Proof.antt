@@ -9,7 +9,8 @@ use lib.ListN.{length, getD}
 use borrow.Author.Needs.{needs}
 use Rattle.coxeter.specs.Length.{negative}
 use Rattle.refusals.proofs.Bytes.{element-back}
-use Rattle.window.proofs.length.OnePass.{Gone, gone-none, square-fits, size-bounds, set-fits, sums-fit, pairs-fit, left, gone-negative, gone-positive, parts}
+use Rattle.window.proofs.length.OnePass.{Gone, gone-none, size-bounds, set-fits, sums-fit, pairs-fit, left, gone-negative, gone-positive, parts}
+use Rattle.window.proofs.length.Sums.{square-fits}
 use Rattle.window.proofs.length.parts_of.Statement.{statement}
 use Rattle.window.proofs.length.parts_of.Tie as tie
 
