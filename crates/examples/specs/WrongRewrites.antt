@@ -20,6 +20,13 @@ stepWith others k n u p out =
 abbrev pub noneFitsWithoutLooking : ℕ → ℕ → List ℕ → ℕ → List ℕ → Step
 noneFitsWithoutLooking = stepWith (λ k n. [])
 
+-- none fits for want of room: where the new word has none, instead of refusal 14
+abbrev pub noneFitsForWantOfRoom : ℕ → ℕ → List ℕ → ℕ → List ℕ → Step
+noneFitsForWantOfRoom k n u p out = elim (firstFitting (rules (kindOf k) n) u p) [
+  | none ↦ step k n u p out
+  | some r ↦ pick (tooShort (length (rewritten r u p)) out) (stepBy none u p out) (step k n u p out)
+]
+
 -- "Taking kind B's rule for 2 4 into D4."
 abbrev pub ruleOfBInD : ℕ → ℕ → List ℕ → ℕ → List ℕ → Step
 ruleOfBInD = stepWith (λ k n. rules k n ++ family2 B n)

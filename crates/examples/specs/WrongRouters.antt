@@ -39,7 +39,7 @@ use Rattle.examples.specs.WrongWindows.{productInWrongOrder, secondWindo
 use Rattle.examples.specs.WrongWindows.{wordsJoinedTheOtherWay, wordsJoinedUnshortened, wordAsItsInverse, reversedUnshortened}
 use Rattle.examples.specs.WrongWindows.{letterTotal, usualOrderOfAWindow, usualOrderOfAWord, negativesNotCounted, negatesBeforeItsRange}
 use Rattle.examples.specs.WrongWindows.{ranksNotCompared, kindsCompared, kindOfTheFirstForBoth, secondPresetRefusedFirst, better, laterWordHandedBack, windowsNotCompared, secondOfEqualWords}
-use Rattle.examples.specs.WrongRewrites.{noneFitsWithoutLooking, ruleOfBInD, family3OneTooFarInB, family4AsFamily3, replacedOnePlaceToTheLeft, placeAtTheEndAccepted, roomCheckedBeforeTheRule, wordCopiedFirst}
+use Rattle.examples.specs.WrongRewrites.{noneFitsWithoutLooking, noneFitsForWantOfRoom, ruleOfBInD, family3OneTooFarInB, family4AsFamily3, replacedOnePlaceToTheLeft, placeAtTheEndAccepted, roomCheckedBeforeTheRule, wordCopiedFirst}
 use Rattle.examples.specs.WrongTraces.{searchBehindTheLastPlace, outputBeforeTheLists, lettersCounted, shorteningStepsCounted}
 use Rattle.examples.specs.WrongShortest.{verdictByLengthAlone, presentWordUnshortened, roomAskedForANo}
 use Rattle.examples.specs.WrongSplits.{wordsExchanged, bit0ForStep2, oneStepLeft, setCheckedAfterTheWord, oneBitTooMany, firstWordWrittenFirst}
@@ -161,6 +161,7 @@ table =
     ∷ differ better secondOfEqualWords (λ f. choice (f 1 2 (1 ∷ []) (1 ∷ [])))
     -- one rewrite
     ∷ differ step noneFitsWithoutLooking (λ f. rewrite (f 1 2 (1 ∷ 1 ∷ []) 0 (lent 2)))
+    ∷ differ step noneFitsForWantOfRoom (λ f. rewrite (f 1 3 (1 ∷ 3 ∷ []) 0 []))
     ∷ differ step ruleOfBInD (λ f. rewrite (f 3 4 (2 ∷ 4 ∷ []) 0 (lent 2)))
     ∷ differ step family3OneTooFarInB (λ f. rewrite (f 2 2 (1 ∷ 2 ∷ 1 ∷ []) 0 (lent 3)))
     ∷ differ step family4AsFamily3 (λ f. rewrite (f 2 2 (1 ∷ 2 ∷ 1 ∷ 2 ∷ []) 0 (lent 4)))

@@ -2,12 +2,12 @@
 -- word, which stays or is rewritten by that rule; and none fits anywhere exactly when the word is irreducible. By cases on the checks in their order.
 -- A rule is used exactly when one of the list fits and no check refuses. Not here: what lists of calls keep (Demand3).
 --
--- Sections: accepted words; what a step does; the word that a step leaves; which calls use a rule; where none fits.
+-- Sections: accepted words; what a step does; the word that a step leaves; which calls use a rule; the four answers; where none fits.
 -- Assumes nothing.
 use mathlib.Core.Path.{_≡_, refl, sym, ap, ap₂, subst, _∙_}
-use mathlib.Core.Bool.{Bool, true, false}
-use mathlib.Core.Logic.{_↔_}
-use mathlib.Core.List.{List, []}
+use mathlib.Core.Bool.{Bool, true, false, true≢false}
+use mathlib.Core.Logic.{_↔_, inl, inr}
+use mathlib.Core.List.{List, [], List·Memᴰ}
 use mathlib.Core.Option.{Option, none, some, Option·none-ne-some}
 use Prim.Native.Nat.{ℕ, _≤_, _<_}
 use native.Mathlib.Nat.{lt-of-not-le}
@@ -16,15 +16,15 @@ use native.Mathlib.Omega.{arith}
 use lib.Dec.{eqb}
 use lib.ListN.{length, drop}
 use lib.Seq.{take-append-seam}
-use borrow.Author.Tests.{le-ltb, le-leb, lt-leb, leb-false}
+use borrow.Author.Tests.{ltb-true, ltb-false, le-ltb, le-leb, lt-leb, leb-false}
 use Rattle.coxeter.specs.Kinds.{Kind, pick, kindOf, least}
 use Rattle.coxeter.specs.Checks.{check, tooLong, wrongLetter, tooShort, wordRefusal}
 use Rattle.rules.specs.declared.Rewrite.{Rewrite}
 use Rattle.rules.specs.declared.Rewrite.the-variants.{Used, NoneFits, Refused}
-use Rattle.rules.specs.Rules.{Rule, rules, firstFitting, rewritten, Irreducible}
+use Rattle.rules.specs.Rules.{Rule, rules, fits, firstFitting, rewritten, Irreducible}
 use Rattle.rules.specs.Calls.{pastEnd, Step, refusedStep, usedStep, stepBy, step, Rewrote}
 use Rattle.rules.specs.Runs.{AcceptedWord, Lent, wordAfter}
-use Rattle.rules.specs.Demand3.{NowhereFits, IsUsed, Usable, Replaced}
+use Rattle.rules.specs.Demand3.{NowhereFits, NowhereFitsOnce, IsUsed, Usable, Replaced, FourAnswers}
 use Rattle.rules.proofs.Rewriting.{Rewrites}
 use Rattle.rules.proofs.Fits.{fits-split, rewritten-split, fits-past, firstFitting-some, firstFitting-none, none-firstFitting, firstFitting-of-unique, left-nonempty, rewrites-of-fits}
 use Rattle.rules.proofs.Completeness.{rewrites-length}
@@ -174,6 +174,63 @@ used-length k n u p before after f i j l h w =
     let m = leb-false (length u) p (b .1 .inside) in
     omega (arith, rewrites-length (rewrites-of-fits (kindOf k) n (accepted-least h) x (b .1 .listed) u p (omega arith) (b .1 .fitting)))
 
+-- ---- the four answers
+
+-- two different answers are not equal
+told-apart : {X : Type 0} → _≡_ {A = ℕ} 0 1 → X
+told-apart e = absurd (omega arith)
+
+module _ {k n : ℕ} {v : List ℕ} (l : Lent) (a : AcceptedWord k n v) where
+  fits-inside : (x : Rule) → List·Memᴰ x (rules (kindOf k) n) → fits x v (l .place) ≡ true → l .place < length v
+  fits-inside x m f = elim (decLe (length v) (l .place)) [
+    | yes h ↦ absurd (true≢false (sym f ∙ fits-past x v (l .place) (left-nonempty (kindOf k) n (accepted-least a) x m) h))
+    | no h ↦ lt-of-not-le h
+  ]
+
+  -- each answer of a step comes exactly under its condition
+  pub stepped-answers : {s : Step} → Stepped (kindOf k) n v (l .place) (l .output) s
+      → FourAnswers k n v (record { lent = l; told = record { answer = s .answer; output = s .bytes } }) (s .word)
+  unfolding usedStep refusedStep tooShort
+  stepped-answers (used x e h q) =
+      let f = firstFitting-some (rules (kindOf k) n) v (l .place) x e in record {
+        no-fifth = inl tt;
+        none-fits-exactly = (λ z. told-apart (cc), λ g. absurd (true≢false (sym (f .1) ∙ g .1 x (f .0))));
+        past-exactly = (λ z. told-apart (cc), λ g. absurd (omega arith));
+        short-exactly = (
+          λ z. told-apart (cc),
+          λ g.
+              let same = fitting-unique (kindOf k) n v (l .place) (g .0) x (accepted-least a) (g .1) (f .0) (g .2) (f .1) in
+              let longer = subst (λ (y : Rule). length (l .output) < length (rewritten y v (l .place))) same (g .3) in
+              absurd (omega (arith, longer, ltb-false (length (l .output)) (length (rewritten x v (l .place))) q)),
+        );
+        unwritten = λ t. absurd (t tt);
+      }
+  stepped-answers (noneFits e h) = record {
+    no-fifth = inr (inl refl);
+    none-fits-exactly = (λ z. (h, firstFitting-none (rules (kindOf k) n) v (l .place) e), λ g. refl);
+    past-exactly = (λ z. told-apart (cc), λ g. absurd (omega arith));
+    short-exactly = (
+      λ z. told-apart (cc),
+      λ g. absurd (true≢false (sym (g .2) ∙ firstFitting-none (rules (kindOf k) n) v (l .place) e (g .0) (g .1))),
+    );
+    unwritten = λ t. (refl, refl);
+  }
+  stepped-answers (past h) = record {
+    no-fifth = inr (inr (inl refl));
+    none-fits-exactly = (λ z. told-apart (cc), λ g. absurd (omega arith));
+    past-exactly = (λ z. h, λ g. refl);
+    short-exactly = (λ z. told-apart (cc), λ g. absurd (omega (arith, fits-inside (g .0) (g .1) (g .2))));
+    unwritten = λ t. (refl, refl);
+  }
+  stepped-answers (short x e h q) =
+      let f = firstFitting-some (rules (kindOf k) n) v (l .place) x e in record {
+        no-fifth = inr (inr (inr refl));
+        none-fits-exactly = (λ z. told-apart (cc), λ g. absurd (true≢false (sym (f .1) ∙ g .1 x (f .0))));
+        past-exactly = (λ z. told-apart (cc), λ g. absurd (omega arith));
+        short-exactly = (λ z. (x, f .0, f .1, ltb-true (length (l .output)) (length (rewritten x v (l .place))) q), λ g. refl);
+        unwritten = λ t. (refl, refl);
+      }
+
 -- ---- where none fits
 
 none-of-answer : {k : Kind} {n : ℕ} {u : List ℕ} {p : ℕ} {out : List ℕ} {s : Step} → Stepped k n u p out s → s .answer ≡ NoneFits
@@ -191,15 +248,20 @@ answer-of-none (noneFits e h) l a = refl
 answer-of-none (past h) l a = absurd (omega arith)
 answer-of-none (short x e h q) l a = absurd (Option·none-ne-some x (sym a ∙ e))
 
+-- one answer that none fits, with whatever output, is enough
+pub irreducible-of-once : (k n : ℕ) (u : List ℕ) → AcceptedWord k n u → NowhereFitsOnce k n u → Irreducible (kindOf k) n u
+irreducible-of-once k n u h f x m p = elim (decLe (length u) p) [
+  | yes l ↦ fits-past x u p (left-nonempty (kindOf k) n (accepted-least h) x m) l
+  | no l ↦
+      let c = f p (lt-of-not-le l) in
+      firstFitting-none (rules (kindOf k) n) u p (none-of-answer (stepped k n u p (c .0) h) (sym (c .2 .answer))) x m
+]
+
 -- an accepted word is irreducible exactly when every call at each of its places answers that none fits
 pub nowhereFits-iff : (k n : ℕ) (u : List ℕ) → AcceptedWord k n u → Irreducible (kindOf k) n u ↔ NowhereFits k n u
 nowhereFits-iff k n u h = (
   λ f p l before after a w.
       w .answer ∙ answer-of-none (stepped k n u p before h) l (none-firstFitting (rules (kindOf k) n) u p (λ x m. f x m p)),
-  λ f x m p. elim (decLe (length u) p) [
-    | yes l ↦ fits-past x u p (left-nonempty (kindOf k) n (accepted-least h) x m) l
-    | no l ↦
-        firstFitting-none (rules (kindOf k) n) u p
-        (none-of-answer (stepped k n u p [] h) (f p (lt-of-not-le l) [] _ _ (record { answer = refl; bytes = refl }))) x m
-  ],
+  λ f. irreducible-of-once k n u h
+      (λ p l. ([], step k n u p [] .bytes, record { answer = sym (f p l [] _ _ (record { answer = refl; bytes = refl })); bytes = refl })),
 )

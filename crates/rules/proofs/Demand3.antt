@@ -16,10 +16,10 @@ use Rattle.rules.specs.declared.Rewrite.the-variants.{Used, NoneFits, Re
 use Rattle.rules.specs.Rules.{rewritten}
 use Rattle.rules.specs.Calls.{Step, usedStep, step}
 use Rattle.rules.specs.Runs.{AcceptedWord, Told, Call, wordAfter, wordLeft, Meets, Run, Outcome, machine, uses}
-use Rattle.rules.specs.Demand3.{normalFormOf, NowhereFits, IsUsed, UsedExactly, Demand3}
+use Rattle.rules.specs.Demand3.{normalFormOf, NowhereFits, NowhereFitsOnce, IsUsed, UsedExactly, FourAnswers, Demand3}
 use Rattle.rules.proofs.Ending.{value}
 use Rattle.rules.proofs.Completeness.{rewrites-window, rewrites-letters, rewrites-lowers, rewrites-length, irreducible-iff, normalForm-least-window, same-normalForm-linked}
-use Rattle.rules.proofs.Calls.{accepted-least, accepted-letters, accepted-of-shorter, stepped, Moves, rewrote, fitless, refused, wordOf-stepped, stepped-moves, step-used, usable-of-used, usable-replaced, nowhereFits-iff}
+use Rattle.rules.proofs.Calls.{accepted-least, accepted-letters, accepted-of-shorter, stepped, Moves, rewrote, fitless, refused, wordOf-stepped, stepped-moves, step-used, usable-of-used, usable-replaced, stepped-answers, irreducible-of-once, nowhereFits-iff}
 use Rattle.rules.proofs.ScanRules.{fitting-unique}
 use Rattle.coxeter.proofs.FormLaws.{wordNormalForm-eq-iff}
 
@@ -60,6 +60,13 @@ call-used k n u c h r = record {
         replaced = rw w (usable-replaced k n u (c .lent) x b);
       };
 }
+
+-- and its answer is one of four, each exactly under its condition
+call-answers : (k n : ℕ) (u : List ℕ) (c : Call) → AcceptedWord k n u → Meets k n u c → FourAnswers k n u c (wordAfter u (c .told))
+call-answers k n u c h r =
+    rw (wordAfter-step k n u c h r)
+    (subst⁻¹ (λ (t : Told). FourAnswers k n u (record { lent = c .lent; told = t }) (step k n u (c .lent .place) (c .lent .output) .word))
+    (told-step k n u c r) (stepped-answers (c .lent) h (stepped k n u (c .lent .place) (c .lent .output) h)))
 
 -- what a use takes from the measure
 abbrev cost : Rewrite → ℕ
@@ -124,6 +131,12 @@ run-used k n u front c rest h r =
     let a = run-kept k n u front h (run-front k n u front (c ∷ rest) r) .accepted in
     rw (wordLeft-snoc u front c) (call-used k n (wordLeft u front) c a (run-rest k n u front (c ∷ rest) r .0))
 
+run-answers : (k n : ℕ) (u : List ℕ) (front : List Call) (c : Call) (rest : List Call) → AcceptedWord k n u → Run k n u (front ++ (c ∷ rest))
+    → FourAnswers k n (wordLeft u front) c (wordLeft u (front ++ (c ∷ [])))
+run-answers k n u front c rest h r =
+    let a = run-kept k n u front h (run-front k n u front (c ∷ rest) r) .accepted in
+    rw (wordLeft-snoc u front c) (call-answers k n (wordLeft u front) c a (run-rest k n u front (c ∷ rest) r .0))
+
 -- what the calls tell and leave is what the machine tells and leaves
 run-machine : (k n : ℕ) (u : List ℕ) (cs : List Call) → AcceptedWord k n u → Run k n u cs
     → _≡_ {A = Outcome} (record { told = map (λ (c : Call). c .told) cs; word = wordLeft u cs }) (machine k n u (map (λ (c : Call). c .lent) cs))
@@ -146,6 +159,11 @@ normal-iff k n u v h e =
     let t = nowhereFits-iff k n v h in
     (λ q. t .0 (s .1 (q ∙ sym f)), λ g. s .0 (t .1 g) ∙ f)
 
+-- and it is as soon as none fitted once at each place
+normal-of-once : (k n : ℕ) (u v : List ℕ) → AcceptedWord k n v → window (kindOf k) n v ≡ window (kindOf k) n u → NowhereFitsOnce k n v → v ≡ normalFormOf k n u
+normal-of-once k n u v h e g =
+    irreducible-iff (kindOf k) n v (accepted-least h) (accepted-letters h) .0 (irreducible-of-once k n v h g) ∙ ap (normalForm (kindOf k) n) e
+
 pub demand3 : (k n : ℕ) (u : List ℕ) → AcceptedWord k n u → Demand3 k n u
 demand3 k n u h = record {
   most = value n u;
@@ -157,7 +175,9 @@ demand3 k n u h = record {
             run-kept k n u front h (run-front k n u front rest (subst (Run k n u) e r)) .shows;
         uses-at-most = omega (arith, t .lower);
         normal-exactly = normal-iff k n u (wordLeft u cs) (t .accepted) (t .shows);
+        normal-once = normal-of-once k n u (wordLeft u cs) (t .accepted) (t .shows);
         used-exactly = λ front c rest e. run-used k n u front c rest h (subst (Run k n u) e r);
+        four-answers = λ front c rest e. run-answers k n u front c rest h (subst (Run k n u) e r);
       };
   agree = λ v g. record {
     by-window = wordNormalForm-eq-iff (kindOf k) n u v;

@@ -5,9 +5,9 @@
 -- Assumes nothing.
 use mathlib.Core.Path.{_≡_, refl, sym, subst, ap, _∙_}
 use mathlib.Core.Bool.{true, false}
-use mathlib.Core.Logic.{_↔_, ⊎-elim}
+use mathlib.Core.Logic.{_↔_, _⊎_, ⊎-elim}
 use mathlib.Core.List.{List, [], _∷_, _++_, append-nil, map, List·Memᴰ}
-use Prim.Native.Nat.{ℕ, _≤_}
+use Prim.Native.Nat.{ℕ, _≤_, _<_}
 use native.Mathlib.Omega.{arith}
 use lib.ListN.{length, drop}
 use lib.Seq.{drop-append-seam}
@@ -17,10 +17,10 @@ use Rattle.coxeter.specs.Checks.{wrongLetter}
 use Rattle.coxeter.specs.Dictionary.{before}
 use Rattle.coxeter.specs.Relations.{Relation, Linked}
 use Rattle.coxeter.proofs.Order.{shortlex-cases}
-use Rattle.rules.specs.declared.Rewrite.the-variants.{Used, NoneFits}
-use Rattle.rules.specs.Rules.{Rule, rules, fits}
+use Rattle.rules.specs.declared.Rewrite.the-variants.{Used, NoneFits, Refused}
+use Rattle.rules.specs.Rules.{Rule, rules, fits, rewritten}
 use Rattle.rules.specs.Runs.{AcceptedWord, Call, Outcome, Run, machine, uses, wordLeft}
-use Rattle.rules.specs.Demand3.{normalFormOf, NowhereFits, IsUsed, Usable, Replaced, UsedExactly, Demand3}
+use Rattle.rules.specs.Demand3.{normalFormOf, NowhereFits, NowhereFitsOnce, IsUsed, Usable, Replaced, UsedExactly, FourAnswers, Demand3}
 
 module _ {k n : ℕ} {u : List ℕ} (d : Demand3 k n u) where
   -- ---- every list of calls
@@ -48,6 +48,10 @@ module _ {k n : ℕ} {u : List ℕ} (d : Demand3 k n u) where
   pub ends-normal : (cs : List Call) → Run k n u cs → NowhereFits k n (wordLeft u cs) → wordLeft u cs ≡ normalFormOf k n u
   ends-normal cs r = d .follows cs r .normal-exactly .1
 
+  -- one such answer at each place is enough, with whatever output
+  pub ends-normal-once : (cs : List Call) → Run k n u cs → NowhereFitsOnce k n (wordLeft u cs) → wordLeft u cs ≡ normalFormOf k n u
+  ends-normal-once cs r = d .follows cs r .normal-once
+
   pub normal-ends : (cs : List Call) → Run k n u cs → wordLeft u cs ≡ normalFormOf k n u → NowhereFits k n (wordLeft u cs)
   normal-ends cs r = d .follows cs r .normal-exactly .0
 
@@ -61,9 +65,47 @@ module _ {k n : ℕ} {u : List ℕ} (d : Demand3 k n u) where
     pub usable-used : (x : Rule) → Usable k n (wordLeft u front) (c .lent) x → IsUsed (c .told .answer)
     usable-used x b = call-exactly .exactly .1 (x, b)
 
-    -- a call that answers that none fits has none that fits, where no check refuses: no rewriter may pass a place over
-    pub none-fits-truly : c .told .answer ≡ NoneFits → (x : Rule) → Usable k n (wordLeft u front) (c .lent) x → ⊥
-    none-fits-truly e x b = subst IsUsed e (usable-used x b)
+    call-answers : FourAnswers k n (wordLeft u front) c (wordLeft u (front ++ (c ∷ [])))
+    call-answers = d .follows (front ++ (c ∷ rest)) r .four-answers front c rest refl
+
+    -- its answer is one of four; two of them are never equal
+    pub one-of-four : IsUsed (c .told .answer) ⊎ ((c .told .answer ≡ NoneFits) ⊎ ((c .told .answer ≡ Refused 12) ⊎ (c .told .answer ≡ Refused 14)))
+    one-of-four = call-answers .no-fifth
+
+    -- "None fits .. only if no left side begins there": no rule of the list fits there, with room or without, so no rewriter may pass a place over
+    pub none-fits-truly : c .told .answer ≡ NoneFits → (x : Rule) → List·Memᴰ x (rules (kindOf k) n) → fits x (wordLeft u front) (c .lent .place) ≡ false
+    none-fits-truly e = call-answers .none-fits-exactly .0 e .1
+
+    pub none-fits-inside : c .told .answer ≡ NoneFits → c .lent .place < length (wordLeft u front)
+    none-fits-inside e = call-answers .none-fits-exactly .0 e .0
+
+    -- and it is the answer wherever none fits, whatever the output
+    pub none-fits-answered : c .lent .place < length (wordLeft u front)
+        → ((x : Rule) → List·Memᴰ x (rules (kindOf k) n) → fits x (wordLeft u front) (c .lent .place) ≡ false) → c .told .answer ≡ NoneFits
+    none-fits-answered h f = call-answers .none-fits-exactly .1 (h, f)
+
+    -- "12. The place is the word's length or more."
+    pub refused-12-exactly : (c .told .answer ≡ Refused 12) ↔ (length (wordLeft u front) ≤ c .lent .place)
+    refused-12-exactly = call-answers .past-exactly
+
+    -- "14. An output is shorter than the part of the answer that goes there.": the rule that fits has no room
+    pub refused-14-fits : c .told .answer ≡ Refused 14
+        → (x : Rule) × List·Memᴰ x (rules (kindOf k) n) × (fits x (wordLeft u front) (c .lent .place) ≡ true)
+        × (length (c .lent .output) < length (rewritten x (wordLeft u front) (c .lent .place)))
+    refused-14-fits = call-answers .short-exactly .0
+
+    pub refused-14-answered : (x : Rule) → List·Memᴰ x (rules (kindOf k) n) → fits x (wordLeft u front) (c .lent .place) ≡ true
+        → length (c .lent .output) < length (rewritten x (wordLeft u front) (c .lent .place)) → c .told .answer ≡ Refused 14
+    refused-14-answered x m f s = call-answers .short-exactly .1 (x, m, f, s)
+
+    -- refused or none fits: no byte of the output changes, and the word stays
+    pub refused-unwritten : (q : ℕ) → c .told .answer ≡ Refused q
+        → (c .told .output ≡ c .lent .output) × (wordLeft u (front ++ (c ∷ [])) ≡ wordLeft u front)
+    refused-unwritten q e = call-answers .unwritten (λ t. subst IsUsed e t)
+
+    pub none-fits-unwritten : c .told .answer ≡ NoneFits
+        → (c .told .output ≡ c .lent .output) × (wordLeft u (front ++ (c ∷ [])) ≡ wordLeft u front)
+    none-fits-unwritten e = call-answers .unwritten (λ t. subst IsUsed e t)
 
     -- a call that used a rule replaced the left side of one of document 01's, the only one that fits, and nothing else
     pub used-replaced : IsUsed (c .told .answer)
