@@ -50,7 +50,8 @@
  * overlap. Nothing is kept after the call.
  *
  * Room that always suffices: 64 for a window, 4,096 for a normal form or for the places of a fallback, the word's length for a rewritten word, 65,535
- * for a book. How long the lists of a rewriting must be, winnathey_rewrite_steps says: at most the square of the word's length.
+ * for a book. For each list of a rewriting of a word of L letters, L * (L - 1) / 2: at most 8,386,560. How long the lists of one word must be,
+ * winnathey_rewrite_steps says.
  */
 #ifndef WINNATHEY_H
 #define WINNATHEY_H
@@ -135,7 +136,7 @@ int64_t winnathey_rewrite(uint32_t kind, uint32_t rank, const uint8_t *word, siz
 
 /* ---- the rewriting to its end */
 
-/* How many steps winnathey_rewrite_to_end takes: so many places each of its lists must have. */
+/* How many steps winnathey_rewrite_to_end takes: so many places each of its lists must have. At most word_len * (word_len - 1) / 2. */
 int64_t winnathey_rewrite_steps(uint32_t kind, uint32_t rank, const uint8_t *word, size_t word_len);
 
 /* Rewrites a word always at the lowest place where a rule fits, until none fits. To the three lists go the rule's family, the place, which counts from 0,

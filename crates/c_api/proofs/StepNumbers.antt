@@ -6,25 +6,24 @@
 use mathlib.Core.Path.{_≡_, refl, sym, ap, _∙_}
 use mathlib.Core.List.{List}
 use Prim.Native.Nat.{ℕ, suc, _≤_, _<_}
-use native.Mathlib.Decide.{ℕ-discrete}
 use native.Mathlib.Omega.{arith}
 use lib.IntN.{ℤ, pos}
-use lib.ListN.{length}
 use lib.Signed.{mag}
 use mir.Syntax.{w64}
 use mir.Val.{toZ, ofZ}
 use mir.ValLaws.{toZ-pos}
-use borrow.Author.Tests.{eq-eqb, ne-eqb}
+use borrow.Author.Tests.{ne-eqb}
 use Rattle.coxeter.specs.declared.Answer.the-variants as answer
 use Rattle.coxeter.specs.Kinds.{kindOf}
-use Rattle.coxeter.specs.Checks.{check, _then_, tooShort, rankRefusal, wordRefusal}
+use Rattle.coxeter.specs.Checks.{_then_, rankRefusal, wordRefusal}
 use Rattle.coxeter.specs.Calls.{answerOf, written}
-use Rattle.coxeter.proofs.Refusals.{then-zero, then-some}
+use Rattle.coxeter.proofs.Refusals.{then-some}
 use Rattle.rules.specs.declared.ToEnd.{ToEnd}
 use Rattle.rules.specs.declared.ToEnd.the-variants as toEnd
-use Rattle.rules.specs.Traces.{Trace, trace, tooFewPlaces, toEndOf, tracedBy, rewritingToEnd, numberOfSteps, TraceYields}
+use Rattle.rules.specs.Traces.{Trace, trace, toEndOf, tracedBy, rewritingToEnd, numberOfSteps, TraceYields}
 use Rattle.rules.proofs.Unchanged.{toEnd-refused-unchanged}
 use Rattle.exchange.proofs.Tracing.{steps-few}
+use Rattle.exchange.proofs.StepBounds.{counted-steps, ended-steps}
 use Rattle.c_api.specs.Calls.{refused}
 use Rattle.c_api.specs.Traces.{traceNumber, finalLength, TraceNumbered}
 use Rattle.c_api.proofs.Lengths.{i64-back}
@@ -33,44 +32,19 @@ use Rattle.c_api.proofs.Bytes.{byteOf, Refusable, as-bytes}
 -- ---- numbers of steps
 
 -- a number of steps as an `i64`
-pub steps-back : (s : ℕ) → s ≤ 16777216 → toZ w64 s ≡ pos s
+pub steps-back : (s : ℕ) → s ≤ 8386560 → toZ w64 s ≡ pos s
 steps-back s h = toZ-pos w64 s (omega arith)
 
-few : (k n : ℕ) (u : List ℕ) → (rankRefusal k n then wordRefusal n u) ≡ 0 → length (trace (kindOf k) n u .lines) ≤ 16777216
-few k n u z = let a = then-zero (rankRefusal k n) (wordRefusal n u) z in steps-few k n u (record { rank = a .0; word = a .1 })
-
-pub numberOfSteps-few : (k n : ℕ) (u : List ℕ) (l : ℕ) → numberOfSteps k n u ≡ answer.Length l → l ≤ 16777216
-unfolding numberOfSteps answerOf
+pub numberOfSteps-few : (k n : ℕ) (u : List ℕ) (l : ℕ) → numberOfSteps k n u ≡ answer.Length l → l ≤ 8386560
 numberOfSteps-few k n u l e =
-    let r = rankRefusal k n then wordRefusal n u in
-    elim (ℕ-discrete r 0) [
-      | yes z ↦
-          let q : answer.Length (length (trace (kindOf k) n u .lines)) ≡ answer.Length l = rw (eq-eqb r 0 z) at e in
-          let s : length (trace (kindOf k) n u .lines) ≡ l = cc in
-          omega (arith, few k n u z)
-      | no f ↦
-          let q : answer.Refused r ≡ answer.Length l = rw (ne-eqb r 0 f) at e in
-          let y : _≡_ {A = ℕ} 0 1 = cc in
-          absurd (omega arith)
-    ]
+    let a = counted-steps k n u l e in
+    omega (arith, a .1, steps-few k n u (a .0))
 
 pub rewritingToEnd-few : (k n : ℕ) (u families places lengths out : List ℕ) (s l : ℕ)
-    → rewritingToEnd k n u families places lengths out .answer ≡ toEnd.Ended s l → s ≤ 16777216
-unfolding rewritingToEnd tracedBy toEndOf
+    → rewritingToEnd k n u families places lengths out .answer ≡ toEnd.Ended s l → s ≤ 8386560
 rewritingToEnd-few k n u families places lengths out s l e =
-    let t = trace (kindOf k) n u in
-    let p = rankRefusal k n then wordRefusal n u in
-    let q = check 15 (tooFewPlaces (length (t .lines)) families places lengths) then check 14 (tooShort (length (t .final)) out) in
-    elim (ℕ-discrete (p then q) 0) [
-      | yes z ↦
-          let i : toEnd.Ended (length (t .lines)) (length (t .final)) ≡ toEnd.Ended s l = rw (eq-eqb (p then q) 0 z) at e in
-          let m : length (t .lines) ≡ s = cc in
-          omega (arith, few k n u (then-zero p q z .0))
-      | no f ↦
-          let i : toEnd.Refused (p then q) ≡ toEnd.Ended s l = rw (ne-eqb (p then q) 0 f) at e in
-          let y : _≡_ {A = ℕ} 0 1 = cc in
-          absurd (omega arith)
-    ]
+    let a = ended-steps k n u families places lengths out s l e in
+    omega (arith, a .1, steps-few k n u (a .0))
 
 -- ---- kinds and ranks
 

@@ -14,9 +14,9 @@ ghost use Rattle.rules.specs.Traces.{rewritingToEnd, numberOfSteps};
 ghost use Rattle.c_api.specs.Calls.{numberOf};
 ghost use Rattle.c_api.specs.Traces.{traceNumber, finalLength, TraceNumbered};
 
-// A number of steps, of which each is at most the square of the longest word's length.
+// A number of steps, which is at most the number of pairs of letters of the longest word.
 fn steps_number(steps: usize) -> i64
-    requires { ⌜ steps ≤ 16777216 ⌝ }
+    requires { ⌜ steps ≤ 8386560 ⌝ }
     ensures { λ r. ⌜ r ≡ pos steps ⌝ }
 {
     steps as i64
@@ -24,7 +24,7 @@ fn steps_number(steps: usize) -> i64
 
 // The number of an answer that counts steps.
 fn counted(answer: Answer) -> i64
-    requires { ⌜ ((l : ℕ) → answer ≡ Length l → l ≤ 16777216) ⌝ }
+    requires { ⌜ ((l : ℕ) → answer ≡ Length l → l ≤ 8386560) ⌝ }
     ensures { λ r. ⌜ r ≡ numberOf answer ⌝ }
 {
     match answer {
@@ -35,7 +35,7 @@ fn counted(answer: Answer) -> i64
 
 // The number of a rewriting to its end; the length of its final word goes to `final_len`, and a refusal leaves that.
 fn ended(answer: ToEnd, final_len: &mut usize) -> i64
-    requires { ⌜ ((s l : ℕ) → answer ≡ Ended s l → s ≤ 16777216) ⌝ }
+    requires { ⌜ ((s l : ℕ) → answer ≡ Ended s l → s ≤ 8386560) ⌝ }
     ensures { λ r. ⌜ (r ≡ traceNumber answer) × (now («final_len» .exit) ≡ finalLength answer (now («final_len» .entry))) ⌝ }
 {
     match answer {
@@ -47,7 +47,8 @@ fn ended(answer: ToEnd, final_len: &mut usize) -> i64
     }
 }
 
-// How many steps `winnathey_rewrite_to_end` takes: so many places each of its lists must have. Refusals 5 to 8.
+// How many steps `winnathey_rewrite_to_end` takes: so many places each of its lists must have. For a word of L letters that is at most L (L - 1) / 2.
+// Refusals 5 to 8.
 #[no_mangle]
 pub extern "C" fn winnathey_rewrite_steps(kind: u32, rank: u32, word: &[u8]) -> i64
     ensures { λ r. ⌜ r ≡ numberOf (numberOfSteps kind rank (now (word .entry))) ⌝ }

@@ -21,11 +21,11 @@ use Rattle.exchange.specs.BetweenCalls.{unreachable, betweenRefusal, bet
 
 -- ---- checks one after another
 
-check-le : (r : ℕ) (t : Bool) (m : ℕ) → r ≤ m → check r t ≤ m
+pub check-le : (r : ℕ) (t : Bool) (m : ℕ) → r ≤ m → check r t ≤ m
 check-le r true m h = h
 check-le r false m h = omega arith
 
-then-le : (p q m : ℕ) → p ≤ m → q ≤ m → (p then q) ≤ m
+pub then-le : (p q m : ℕ) → p ≤ m → q ≤ m → (p then q) ≤ m
 then-le p q m h g = elim (ℕ-discrete p 0) [ yes z ↦ rw (then-none p q z) g | no f ↦ rw (then-some p q f) h ]
 
 -- no check before 19 has its number

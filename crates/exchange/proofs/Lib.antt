@@ -25,6 +25,8 @@ pub mod BetweenCalls
 pub mod Reading
 pub mod ReadingSteps
 pub mod Tracing
+pub mod StepBounds
+pub mod StepsReached
 pub mod Theorems
 pub mod Vectors
 pub mod BetweenVectors

@@ -1,7 +1,7 @@
 -- Reading a word letter by letter, rewriting at the lowest place. What has been read is a normal form and one letter that rules carry to the left:
 -- the rule that ends with that letter is at the lowest place of the whole word, and after it the letter stands at that place, or is gone with an equal
--- one. Where no rule ends with it, what has been read is a normal form (Inserting), and the next letter is read. So no rewriting has more steps than the
--- word has pairs of letters.
+-- one. Where no rule ends with it, what has been read is a normal form (Inserting), and the next letter is read. So each letter takes at most as many
+-- steps as letters stand before it, and no rewriting has more steps than the word has pairs of letters.
 --
 -- Sections: lists; the letter that moves; the rule that it ends; the number of steps.
 -- Assumes nothing.
@@ -9,8 +9,8 @@ use mathlib.Core.Path.{_≡_, refl, sym, ap, ap₂, subst, _∙_}
 use mathlib.Core.Bool.{true, false}
 use mathlib.Core.List.{List, [], _∷_, _++_, append-assoc, append-nil, List·Memᴰ}
 use mathlib.Core.Option.{Option, none, some}
-use Prim.Native.Nat.{ℕ, zero, suc, _+_, _*_, _≤_, _<_}
-use native.Mathlib.Nat.{zero-add, suc-mul, le-trans, mul-le-mul-left}
+use Prim.Native.Nat.{ℕ, zero, suc, _+_, _-_, _*_, _/_, _≤_, _<_}
+use native.Mathlib.Nat.{zero-add, mul-zero, suc-mul, mul-suc, mul-le-mul-left}
 use native.Mathlib.Decide.{ℕ-discrete}
 use native.Mathlib.Omega.{arith}
 use lib.ListN.{length, getD, take, drop, length-append}
@@ -209,12 +209,20 @@ module _ (k : Kind) (n : ℕ) (h : least k ≤ n) (z : List ℕ) (q : ℕ) (r : 
 
 -- ---- the number of steps
 
+-- one letter more makes a pair with each of the others
+pub pairs-suc : (r : ℕ) → suc r * (suc r - 1) / 2 ≡ r + r * (r - 1) / 2
+pairs-suc zero = omega arith
+pairs-suc (suc r) =
+    let a : suc (suc r) - 1 ≡ suc r = omega arith in
+    let b : suc r - 1 ≡ r = omega arith in
+    rw (a, b) (omega (arith, suc-mul (suc r) (suc r), mul-suc (suc r) r))
+
 module _ (k : Kind) (n : ℕ) (h : least k ≤ n) where
-  abbrev steps : List ℕ → ℕ
+  abbrev pub steps : List ℕ → ℕ
   steps u = length (trace k n u .lines)
 
   -- the step of the whole word
-  steps-step : (z : List ℕ) (q : ℕ) (rest : List ℕ) (r : Reading k n z q) (s : Use) → lowestUse k n (take (suc q) z) ≡ some s
+  pub steps-step : (z : List ℕ) (q : ℕ) (rest : List ℕ) (r : Reading k n z q) (s : Use) → lowestUse k n (take (suc q) z) ≡ some s
       → wrongLetter n (z ++ rest) ≡ false
       → (steps (z ++ rest) ≡ suc (steps (after z s ++ rest))) × (wrongLetter n (after z s ++ rest) ≡ false) × (length (after z s) ≤ length z)
   steps-step z q rest r s e l =
@@ -247,20 +255,23 @@ module _ (k : Kind) (n : ℕ) (h : least k ≤ n) where
                 omega (arith, b .0, d)
           ]
 
-  -- each letter of the rest moves over at most the letters before it
-  steps-normal : (rest w : List ℕ) → Normal k n w → wrongLetter n (w ++ rest) ≡ false → steps (w ++ rest) ≤ length rest * (length w + length rest)
+  -- each letter of the rest moves over at most the letters before it: those of w, and those of the rest
+  steps-normal : (rest w : List ℕ) → Normal k n w → wrongLetter n (w ++ rest) ≡ false
+      → steps (w ++ rest) ≤ length rest * length w + length rest * (length rest - 1) / 2
   steps-normal [] w m l =
       rw append-nil (omega (arith, ap (λ (t : Trace). length (t .lines)) (trace-none k n h w (none-of-irreducible k n w (m .irreducible)))))
   steps-normal (x ∷ rest) w m l =
       let a = letter-within-cons n x rest (letters-right n w (x ∷ rest) l) in
       let b = length-append w (x ∷ []) in
-      let c = suc-mul (length rest) (length w + suc (length rest)) in
-      let d = steps-reading (suc (length w)) (w ++ (x ∷ [])) (length w) rest (length rest * (length w + suc (length rest))) (omega arith)
-      (reading-next k n w x m (a .0) (a .1)) (ap (wrongLetter n) (append-snoc w x rest) ∙ l)
-      (λ v i j e. le-trans (steps-normal rest v i e) (mul-le-mul-left (length rest) (omega arith))) in
-      omega (arith, ap steps (append-snoc w x rest))
+      let c = steps-reading (suc (length w)) (w ++ (x ∷ [])) (length w) rest (length rest * suc (length w) + length rest * (length rest - 1) / 2)
+      (omega arith) (reading-next k n w x m (a .0) (a .1)) (ap (wrongLetter n) (append-snoc w x rest) ∙ l)
+      (λ v i j e. let d : length rest * length v ≤ length rest * suc (length w) = mul-le-mul-left (length rest) (omega arith) in
+      omega (arith, steps-normal rest v i e)) in
+      omega (arith, ap steps (append-snoc w x rest), suc-mul (length rest) (length w), mul-suc (length rest) (length w), pairs-suc (length rest))
 
--- the number of steps is at most the square of the word's length
-pub steps-at-most : (k : Kind) (n : ℕ) → least k ≤ n → (u : List ℕ) → wrongLetter n u ≡ false → length (trace k n u .lines) ≤ length u * length u
+-- the number of steps is at most the number of pairs of the word's letters
+pub steps-at-most : (k : Kind) (n : ℕ) → least k ≤ n → (u : List ℕ) → wrongLetter n u ≡ false
+    → length (trace k n u .lines) ≤ length u * (length u - 1) / 2
 unfolding wrongLetter
-steps-at-most k n h u l = rw zero-add at (steps-normal k n h u [] (record { letters = refl; irreducible = nil-irreducible k n h }) l)
+steps-at-most k n h u l =
+    rw (mul-zero, zero-add) at (steps-normal k n h u [] (record { letters = refl; irreducible = nil-irreducible k n h }) l)

@@ -7,8 +7,8 @@ use mathlib.Core.Path.{_≡_, refl, sym, ap, subst, _∙_}
 use mathlib.Core.Bool.{false}
 use mathlib.Core.List.{List, _∷_, _++_}
 use mathlib.Core.Option.{none, some}
-use Prim.Native.Nat.{ℕ, suc, _+_, _≤_}
-use native.Mathlib.Nat.{add-zero, add-suc, suc-add, le-trans, mul-le-mul-left, mul-le-mul-right}
+use Prim.Native.Nat.{ℕ, suc, _+_, _-_, _*_, _≤_}
+use native.Mathlib.Nat.{add-zero, add-suc, suc-add, mul-le-mul}
 use native.Mathlib.Numerals.{add-one}
 use native.Mathlib.Omega.{arith}
 use lib.ListN.{length, take, set, length-append, length-set}
@@ -96,7 +96,7 @@ pub record Ready (k : Kind) (n : ℕ) (rest : List ℕ) (s : ℕ) (families plac
   pub reading : Reading k n word q
   pub letters : wrongLetter n rest ≡ false
   pub short : length word + length rest ≤ 4096
-  pub room : s + length (trace k n (word ++ rest) .lines) ≤ 16777216
+  pub room : s + length (trace k n (word ++ rest) .lines) ≤ 8386560
   pub as-places : length places ≡ length families
   pub as-lengths : length lengths ≡ length families
 
@@ -209,12 +209,12 @@ module _ {k : Kind} {n : ℕ} {rest : List ℕ} {s : ℕ} {families places lengt
 
 -- ---- the whole
 
--- a word that passes its checks takes at most 4,096 · 4,096 steps
-pub steps-few : (k n : ℕ) (u : List ℕ) → AcceptedWord k n u → length (trace (kindOf k) n u .lines) ≤ 16777216
+-- a word that passes its checks takes at most 4,096 · 4,095 / 2 steps
+pub steps-few : (k n : ℕ) (u : List ℕ) → AcceptedWord k n u → length (trace (kindOf k) n u .lines) ≤ 8386560
 steps-few k n u h =
     let l = length-accepted n u (h .word) in
-    le-trans (steps-at-most (kindOf k) n (rank-within k n (h .rank) .0) u (letters-accepted n u (h .word)))
-    (le-trans (mul-le-mul-left (length u) l) (mul-le-mul-right 4096 l))
+    let m : length u * (length u - 1) ≤ 4096 * 4095 = mul-le-mul {n₁ = length u} {m₁ = length u - 1} {n₂ = 4096} {m₂ = 4095} l (omega arith) in
+    omega (arith, steps-at-most (kindOf k) n (rank-within k n (h .rank) .0) u (letters-accepted n u (h .word)))
 
 -- the whole rewriting of a word was made: it has so many steps, which stand in the lists, and its final word is at the front of `work`
 pub record Made (k : Kind) (n : ℕ) (word families places lengths : List ℕ) (steps : ℕ) (families′ places′ lengths′ work : List ℕ) (size : ℕ) : Type 0 where

@@ -53,7 +53,8 @@ pub fn rewrite_at(kind: u8, rank: u8, word: &[u8], place: usize, out: &mut [u8])
     }
 }
 
-// How many steps the rewriting to its end takes: so many places each list of `rewrite_to_end` must have. Refuses with 5 or 6, then 7 or 8.
+// How many steps the rewriting to its end takes: so many places each list of `rewrite_to_end` must have. For a word of L letters that is at most
+// L (L - 1) / 2. Refuses with 5 or 6, then 7 or 8.
 pub fn rewrite_steps(kind: u8, rank: u8, word: &[u8]) -> Answer
     ensures { λ r. ⌜ r ≡ numberOfSteps kind rank (now (word .entry)) ⌝ }
 {

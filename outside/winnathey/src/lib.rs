@@ -363,7 +363,8 @@ pub fn rewrite(kind: Kind, rank: u8, word: &[u8], place: usize, out: &mut [u8]) 
     }
 }
 
-/// How many steps [`rewrite_to_end`] takes: so many places each of its lists must have. Refusals 5 to 8.
+/// How many steps [`rewrite_to_end`] takes: so many places each of its lists must have. At most L * (L - 1) / 2 for a
+/// word of L letters. Refusals 5 to 8.
 ///
 /// ```
 /// use winnathey::{Kind, rewrite_steps};
