@@ -29,14 +29,14 @@ fn other(edition: Edition) -> Edition
     }
 }
 
-// The size of the converted book: a record has one byte more in the second edition.
-fn converted_size(edition: Edition, length: usize, c: usize) -> usize
-    requires { ⌜ (c ≤ length) × (length ≤ 65535) ⌝ }
-    ensures { λ r. ⌜ r ≡ sizeOf edition length c ⌝ }
+// The size of the book converted from one of that size: a record has one byte more in the second edition.
+fn converted_size(edition: Edition, size: usize, c: usize) -> usize
+    requires { ⌜ (c ≤ size) × (size ≤ 65535) ⌝ }
+    ensures { λ r. ⌜ r ≡ sizeOf edition size c ⌝ }
 {
     match edition {
-        Edition::First => length + c,
-        Edition::Second => length - c,
+        Edition::First => size + c,
+        Edition::Second => size - c,
     }
 }
 

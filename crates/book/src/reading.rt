@@ -100,9 +100,9 @@ pub(crate) fn check_record(edition: Edition, book: &[u8], o: usize) -> Preset
     if has_wrong_lanes(edition, book, o) {
         return Preset::Refused(17);
     }
-    let length = two_at(book, o + place);
+    let letter_count = two_at(book, o + place);
     let start = o + head;
-    let end = start + length;
+    let end = start + letter_count;
     let s = word_refusal(rank, &book[start..end]);
     if s != 0 {
         return Preset::Refused(s);
@@ -111,7 +111,7 @@ pub(crate) fn check_record(edition: Edition, book: &[u8], o: usize) -> Preset
         kind,
         rank,
         start,
-        length,
+        length: letter_count,
     }
 }
 
@@ -151,9 +151,9 @@ pub fn letters(edition: Edition, book: &[u8], number: usize) -> &[u8]
             kind: _,
             rank: _,
             start,
-            length,
+            length: letter_count,
         } => {
-            let end = start + length;
+            let end = start + letter_count;
             &book[start..end]
         }
         Preset::Refused(_) => &book[0..0],

@@ -50,7 +50,7 @@ fn put_preset(answer: Preset, fields: &mut [u64], p: usize)
             kind,
             rank,
             start,
-            length,
+            length: letter_count,
         } => put_five(
             fields,
             p,
@@ -58,7 +58,7 @@ fn put_preset(answer: Preset, fields: &mut [u64], p: usize)
             kind as u64,
             rank as u64,
             start as u64,
-            length as u64,
+            letter_count as u64,
         ),
         Preset::Refused(r) => put_five(fields, p, r as u64, 0, 0, 0, 0),
     }

@@ -64,11 +64,11 @@ pub(crate) fn put_preset(book: &[u8], number: usize, answer: Preset, out: &mut [
         kind,
         rank,
         start,
-        length,
+        length: letter_count,
     } = answer
     else {
         return put_refused(number, refusal_of(answer), out);
     };
-    let end = start + length;
+    let end = start + letter_count;
     put_word(number, kind, rank, &book[start..end], out)
 }

@@ -9,7 +9,8 @@ ghost use Rattle.coxeter.specs.Kinds.{kindOf, least};
 ghost use Rattle.coxeter.specs.NormalForm.{levels, lastIndex};
 ghost use Rattle.coxeter.specs.Checks.{wrongLetter};
 ghost use Rattle.rules.specs.Rules.{rules, firstFitting};
-ghost use Rattle.rules.proofs.Scan.{nextIndex, fork, familyAtEnd, familyAt, shownIndex};
+ghost use Rattle.rules.proofs.Scan as scan;
+ghost use Rattle.rules.proofs.Scan.{nextIndex, familyAtEnd, familyAt, shownIndex};
 
 // A rule that fits, as a rewrite answers it, with the length of its left side.
 pub(crate) enum Fitting {
@@ -50,7 +51,7 @@ pub(crate) fn last_index_of(kind: u8, n: u8, i: u8) -> u8
 // The step after which the way of kind D's blocks goes on with n - 1 or with n; the other kinds have none.
 pub(crate) fn fork_of(kind: u8, n: u8) -> u8
     requires { ⌜ least (kindOf kind) ≤ n ⌝ }
-    ensures { λ r. ⌜ r ≡ fork (kindOf kind) n ⌝ }
+    ensures { λ r. ⌜ r ≡ scan.fork (kindOf kind) n ⌝ }
 {
     if kind == 1 {
         return 0;

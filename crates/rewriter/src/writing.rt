@@ -16,15 +16,15 @@ pub(crate) fn copy(part: &[u8], out: &mut [u8], at: usize)
     bytes::copy(part, &mut out[at..]);
 }
 
-// The length of the word that a rule of the family leaves: without its left side of `left` letters, with its right side.
-pub(crate) fn new_length(family: u8, left: usize, length: usize) -> usize
-    requires { ⌜ left ≤ length ⌝ }
-    ensures { λ r. ⌜ r ≡ length - left + rightLength family left ⌝ }
+// The length of the word that a rule of the family leaves of one of `size` letters: without its left side of `left` letters, with its right side.
+pub(crate) fn new_length(family: u8, left: usize, size: usize) -> usize
+    requires { ⌜ left ≤ size ⌝ }
+    ensures { λ r. ⌜ r ≡ size - left + rightLength family left ⌝ }
 {
     if family == 1 {
-        return length - left;
+        return size - left;
     }
-    length
+    size
 }
 
 // The word without the `left` letters at the place, as family 1 leaves it.

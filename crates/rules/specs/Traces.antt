@@ -79,7 +79,7 @@ lengthsOf ls = map (λ (l : Line). l .left) ls
 
 -- the number and the values of each case of `ToEnd`: its refusal, or with none "the number of steps and the final word's length"
 unfoldable pub toEndOf : ℕ → ℕ → ℕ → ToEnd
-toEndOf r steps length = pick (eqb r 0) (Ended steps length) (Refused r)
+toEndOf r s l = pick (eqb r 0) (Ended s l) (Refused r)
 
 -- the answer, the numbers in the three lists and the bytes of the output afterwards
 pub record Traced : Type 0 where
