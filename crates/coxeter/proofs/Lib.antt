@@ -32,3 +32,7 @@ pub mod Fronts
 pub mod Unchanged
 pub mod Vectors
 pub mod Theorems
+pub mod Written
+pub mod Room
+pub mod HandedOn
+pub mod Sentences

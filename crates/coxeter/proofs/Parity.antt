@@ -19,7 +19,7 @@ use Rattle.coxeter.specs.Parity.{flipped, flagAfter, Odd}
 
 -- ---- one entry more
 
-flipped-snoc : (t : Bool) (w : List ℤ) (e : ℤ) → flipped t (w ++ (e ∷ [])) ≡ pick (negative e) (not (flipped t w)) (flipped t w)
+pub flipped-snoc : (t : Bool) (w : List ℤ) (e : ℤ) → flipped t (w ++ (e ∷ [])) ≡ pick (negative e) (not (flipped t w)) (flipped t w)
 unfolding flipped
 flipped-snoc t [] e = refl
 flipped-snoc t (x ∷ w) e = flipped-snoc (pick (negative x) (not t) t) w e

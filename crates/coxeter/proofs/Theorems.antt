@@ -1,12 +1,12 @@
 -- What the certificate cites of windows and normal forms, over the definitions of specs/ alone. Each is a corollary of a law of the files before;
 -- `windowRefusal k n w ≡ 0` says that w passes checks 9 to 11. The ranks need no upper end, and words may have any length.
 --
--- Sections: windows; inverses; normal forms; lengths; blocks; the better word; the verdict.
+-- Sections: windows; inverses; normal forms; lengths; blocks; products; longest and equal normal forms; the better word; the verdict.
 -- Assumes nothing.
 use mathlib.Core.Path.{_≡_, refl, sym, ap, _∙_}
-use mathlib.Core.Bool.{Bool, true, false, false≢true, and-eq-true-iff}
-use mathlib.Core.Logic.{_↔_}
-use mathlib.Core.List.{List, []}
+use mathlib.Core.Bool.{Bool, true, false, false≢true, true≢false, and-eq-true-iff}
+use mathlib.Core.Logic.{_↔_, inl, inr}
+use mathlib.Core.List.{List, [], _++_}
 use denote.Ref.{RefT, now}
 use Prim.Native.Nat.{ℕ, _≤_}
 use native.Mathlib.Omega.{arith}
@@ -18,13 +18,14 @@ use Rattle.coxeter.specs.declared.Verdict.the-variants as verdict
 use Rattle.coxeter.specs.Kinds.{Kind, B, pick, kindOf, lanes, least}
 use Rattle.coxeter.specs.Windows.{act, straight, window, product, inverse}
 use Rattle.coxeter.specs.Length.{windowLength, greatestLength}
+use Rattle.coxeter.specs.Dictionary.{shortlex}
 use Rattle.coxeter.specs.Checks.{tooLong, wrongLetter, rankRefusal, wordRefusal, windowRefusal}
-use Rattle.coxeter.specs.NormalForm.{levels, blocks, Indices, normalForm, wordNormalForm}
+use Rattle.coxeter.specs.NormalForm.{levels, blocks, Indices, normalForm, wordNormalForm, IsNormalForm}
 use Rattle.coxeter.specs.Calls.{verdictOf, sameWindow, samePresets, presetsEqual, Better}
 use Rattle.coxeter.proofs.Levels.{Accepted, accepted-of-refusal, refusal-of-accepted, act-accepted, window-accepted}
 use Rattle.coxeter.proofs.Basics.{length-window}
-use Rattle.coxeter.proofs.Order.{sameWindow-true, sameWindow-of-eq}
-use Rattle.coxeter.proofs.Products.{product-straight, straight-product}
+use Rattle.coxeter.proofs.Order.{shortlex-irrefl, shortlex-total, shortlex-asymm, sameWindow-true, sameWindow-of-eq}
+use Rattle.coxeter.proofs.Products.{product-straight, straight-product, window-append}
 use Rattle.coxeter.proofs.Inverses as inverses
 use Rattle.coxeter.proofs.Indices.{indices, indices-in-range, indices-window}
 use Rattle.coxeter.proofs.NormalForms as forms
@@ -92,6 +93,16 @@ module _ (k : Kind) (n : ℕ) (w : List ℤ) (h : windowRefusal k n w ≡ 0) whe
   pub normalForm-is-blocks : (js : List ℕ) × (Indices k n 1 js × (normalForm k n w ≡ blocks k n 1 js))
   normalForm-is-blocks = (indices k n (levels k n) 1 w, (indices-in-range k n w passed, forms.normalForm-is-blocks k n w))
 
+-- ---- products
+
+-- the product of two windows that pass checks 9 to 11 passes them
+pub product-passes : (k : Kind) (n : ℕ) (v w : List ℤ) → windowRefusal k n v ≡ 0 → windowRefusal k n w ≡ 0 → windowRefusal k n (product v w) ≡ 0
+product-passes k n v w h g =
+    rw (← window-normalForm k n v h, ← window-normalForm k n w g, ← window-append k n (normalForm k n v) (normalForm k n w))
+    (window-passes k n (normalForm k n v ++ normalForm k n w))
+
+-- ---- longest and equal normal forms
+
 -- the greatest length is reached
 pub greatest-reached : (k : Kind) (n : ℕ) → least k ≤ n → (w : List ℤ) × ((windowRefusal k n w ≡ 0) × (windowLength k w ≡ greatestLength k n))
 greatest-reached k n h = (window k n (blocks k n 1 (greatest.greatestIndices k n)), (window-passes k n _, laws.greatest-reached k n h))
@@ -109,6 +120,17 @@ pub longest-normalForm : (w : List ℤ) × ((windowRefusal B 64 w ≡ 0) × (len
 longest-normalForm =
     let g = greatest-reached B 64 (omega arith) in
     (g .0, (g .1 .0, length-normalForm B 64 (g .0) (g .1 .0) ∙ g .1 .1))
+
+-- of one window there is at most one normal form in the mission's sense
+pub normal-unique : (k : Kind) (n : ℕ) (w : List ℤ) (u v : List ℕ) → IsNormalForm k n w u → IsNormalForm k n w v → u ≡ v
+normal-unique k n w u v f g = elim (shortlex-total u v) [
+  | inl e ↦ e
+  | inr (inl t) ↦ absurd (true≢false (sym (g .least u (f .steps) (f .shows) (apart u v t)) ∙ shortlex-asymm u v t))
+  | inr (inr t) ↦ absurd (true≢false (sym (f .least v (g .steps) (g .shows) (apart v u t)) ∙ shortlex-asymm v u t))
+]
+  where
+    apart : (a b : List ℕ) → shortlex a b ≡ true → a ≡ b → ⊥
+    apart a b t e = true≢false (sym t ∙ ap (shortlex a) (sym e) ∙ shortlex-irrefl a)
 
 -- two windows with one normal form are the same
 pub normalForm-eq-iff : (k : Kind) (n : ℕ) (v w : List ℤ) → windowRefusal k n v ≡ 0 → windowRefusal k n w ≡ 0 → (normalForm k n v ≡ normalForm k n w) ↔ (v ≡ w)
