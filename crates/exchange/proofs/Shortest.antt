@@ -4,8 +4,7 @@
 -- Sections: letters; lengths; normal forms; part-lists; inverses.
 -- Assumes nothing.
 use mathlib.Core.Path.{_≡_, sym, ap, subst, _∙_}
-use mathlib.Core.Bool.{true, false, true≢false}
-use mathlib.Core.Logic.{⊎-elim}
+use mathlib.Core.Bool.{false}
 use mathlib.Core.List.{List, [], _∷_, _++_, reverse, reverse-cons}
 use Prim.Native.Nat.{ℕ, _≤_}
 use native.Mathlib.Omega.{arith}
@@ -15,16 +14,14 @@ use Rattle.coxeter.specs.Kinds.{Kind, least}
 use Rattle.coxeter.specs.Windows.{window, inverse}
 use Rattle.coxeter.specs.Length.{windowLength}
 use Rattle.coxeter.specs.Checks.{wrongLetter}
-use Rattle.coxeter.specs.Dictionary.{shortlex}
 use Rattle.coxeter.specs.NormalForm.{normalForm, wordNormalForm, IsNormalForm}
 use Rattle.coxeter.proofs.LetterLaws.{letter-within-cons}
 use Rattle.coxeter.proofs.Levels.{Accepted, window-accepted}
 use Rattle.coxeter.proofs.Relations.{wrongLetter-append, wrongLetter-cons}
-use Rattle.coxeter.proofs.Order.{shortlex-irrefl, shortlex-asymm}
 use Rattle.coxeter.proofs.Inverses.{inverse-accepted, inverse-inverse, window-reverse}
 use Rattle.coxeter.proofs.NormalForms.{window-normalForm, normalForm-letters}
 use Rattle.coxeter.proofs.Lengths.{length-normalForm}
-use Rattle.rules.proofs.Completeness.{RewritesTo, rewritesTo-normalForm, rewritesTo-shortlex, normalForm-least}
+use Rattle.rules.proofs.Completeness.{RewritesTo, rewritesTo-normalForm, normalForm-least, normalForm-only}
 use Rattle.exchange.specs.OneLetter.{Shortest}
 use Rattle.exchange.proofs.Carrying.{Carries, carries-trans, rewritesTo-length, rewritesTo-carries, rewritesTo-carries-back}
 
@@ -72,17 +69,7 @@ normalForm-normal k n w h a = rw (window-normalForm k n w a) (normalForm-least k
 
 -- and the only one
 pub normal-is : (k : Kind) (n : ℕ) (u : List ℕ) → least k ≤ n → IsNormalForm k n (window k n u) u → u ≡ wordNormalForm k n u
-normal-is k n u h m =
-    ⊎-elim (λ e. e) (λ t. absurd (true≢false (sym (below t) ∙ shortlex-asymm form u t)))
-    (rewritesTo-shortlex (rewritesTo-normalForm k n u h (m .steps)))
-  where
-    form : List ℕ
-    form = wordNormalForm k n u
-
-    below : shortlex form u ≡ true → shortlex u form ≡ true
-    below t =
-        m .least form (normalForm-letters k n (window k n u) (window-accepted k n u)) (window-normalForm k n (window k n u) (window-accepted k n u))
-        (λ e. true≢false (sym t ∙ ap (λ (v : List ℕ). shortlex v u) e ∙ shortlex-irrefl u))
+normal-is k n u h m = normalForm-only k n (window k n u) u h m
 
 pub shortest-normal : (k : Kind) (n : ℕ) (u : List ℕ) → least k ≤ n → IsNormalForm k n (window k n u) u → Shortest k n u
 shortest-normal k n u h m = rw (normal-is k n u h m) (shortest-normalForm k n (window k n u) h (window-accepted k n u))

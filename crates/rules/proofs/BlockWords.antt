@@ -26,7 +26,7 @@ use Rattle.rules.proofs.Scan.{Along, start, further}
 -- ---- words of two blocks
 
 -- a word of blocks from a higher level on is one from level 1 on
-lowered : (k : Kind) (n : ℕ) → least k ≤ n → (i : ℕ) (js : List ℕ) → i ≤ levels k n → Indices k n (suc i) js
+pub lowered : (k : Kind) (n : ℕ) → least k ≤ n → (i : ℕ) (js : List ℕ) → i ≤ levels k n → Indices k n (suc i) js
     → (ls : List ℕ) × Indices k n 1 ls × (blocks k n 1 ls ≡ blocks k n (suc i) js)
 unfolding blocks
 lowered k n h zero js g x = (js, x, refl)

@@ -23,6 +23,7 @@ use Rattle.coxeter.proofs.Links.{linked-trans, linked-sym, linked-context, link
 use Rattle.coxeter.proofs.Relations.{linked-window}
 use Rattle.coxeter.proofs.Order.{shortlex-trans, shortlex-cases}
 use Rattle.coxeter.proofs.NormalForms.{normalForm-blocks, window-normalForm, normalForm-letters}
+use Rattle.coxeter.proofs.Theorems.{normal-unique}
 use Rattle.rules.specs.Rules.{fits, Irreducible}
 use Rattle.rules.proofs.Rewriting.{Rewrites, within}
 use Rattle.rules.proofs.Derivations.{rule-linked}
@@ -159,6 +160,11 @@ normalForm-least k n w h a = record {
 
 pub normalForm-least-window : (k : Kind) (n : ℕ) (u : List ℕ) → least k ≤ n → IsNormalForm k n (window k n u) (normalForm k n (window k n u))
 normalForm-least-window k n u h = normalForm-least k n (window k n u) h (window-accepted k n u)
+
+-- and the only one
+pub normalForm-only : (k : Kind) (n : ℕ) (w : List ℤ) (u : List ℕ) → least k ≤ n → IsNormalForm k n w u → u ≡ normalForm k n w
+normalForm-only k n w u h m =
+    normal-unique k n w u (normalForm k n w) m (normalForm-least k n w h (subst (Accepted k n) (m .shows) (window-accepted k n u)))
 
 -- ---- equal normal forms
 

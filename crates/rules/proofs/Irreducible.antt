@@ -114,6 +114,12 @@ settled-from k n h (suc t) i e u l =
           (extended-word k n (levels k n) (suc i) (suc i) s c (omega arith) (omega arith) (omega arith) j (inl (omega arith)) m)))
     ]
 
+-- a word over the letters from i on
+pub blocks-from-or-rewrites : (k : Kind) (n i : ℕ) → least k ≤ n → 1 ≤ i → i ≤ levels k n → (u : List ℕ) → Letters i n u
+    → ((js : List ℕ) × Indices k n i js × (u ≡ blocks k n i js)) ⊎ ((v : List ℕ) × Rewrites k n u v)
+blocks-from-or-rewrites k n zero h o g u l = absurd (omega arith)
+blocks-from-or-rewrites k n (suc i) h o g u l = settled-from k n h (levels k n - suc i) i (omega arith) u l
+
 pub blocks-or-rewrites : (k : Kind) (n : ℕ) → least k ≤ n → (u : List ℕ) → wrongLetter n u ≡ false
     → ((js : List ℕ) × Indices k n 1 js × (u ≡ blocks k n 1 js)) ⊎ ((v : List ℕ) × Rewrites k n u v)
 blocks-or-rewrites k n h u w = settled-from k n h (levels k n - 1) 0 (omega (arith, one-le-levels k n h)) u (letters-of-steps n u w)

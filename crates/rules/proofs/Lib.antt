@@ -13,6 +13,7 @@ pub mod Completeness
 pub mod Scan
 pub mod ScanFamilies
 pub mod ScanRules
+pub mod RuleFields
 pub mod TwoLetters
 pub mod Calls
 pub mod Unchanged
@@ -20,9 +21,11 @@ pub mod Vectors
 pub mod Demand3
 pub mod Sentences
 pub mod Theorems
+pub mod Written
 pub mod Traces
 pub mod Replays
 pub mod BlockWords
+pub mod HigherSteps
 pub mod PartBlocks
 pub mod LeftSides
 pub mod Endings

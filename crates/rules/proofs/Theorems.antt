@@ -5,7 +5,7 @@
 -- Assumes nothing.
 use mathlib.Core.Path.{_≡_}
 use mathlib.Core.Bool.{true}
-use mathlib.Core.List.{List, [], List·Memᴰ}
+use mathlib.Core.List.{List, List·Memᴰ}
 use Prim.Native.Nat.{ℕ, _≤_}
 use native.Mathlib.Omega.{arith}
 use native.Mathlib.Decide.{decLe}
@@ -22,6 +22,7 @@ use Rattle.coxeter.specs.NormalForm.{normalForm, IsNormalForm}
 use Rattle.coxeter.proofs.Levels.{accepted-of-refusal}
 use Rattle.rules.specs.Rules.{Rule, rules, fits, rewritten}
 use Rattle.rules.proofs.RuleList.{rule-of-list}
+use Rattle.rules.proofs.RuleFields.{right-empty}
 use Rattle.rules.proofs.Derivations as derivations
 use Rattle.rules.proofs.Fits.{fits-past, left-nonempty, rewrites-of-fits}
 use Rattle.rules.proofs.Rewriting.{Rewrites}
@@ -35,8 +36,8 @@ module _ (k : Kind) (n : ℕ) (low : least k ≤ n) (x : Rule) (listed : List·M
   rule-linked = derivations.rule-linked k n low (rule-of-list k n low x listed)
 
   -- and, but for family 1, by relations of equal length alone
-  pub rule-braid : (x .right ≡ [] → ⊥) → Linked (Braid k n) (x .left) (x .right)
-  rule-braid = derivations.rule-braid k n low (rule-of-list k n low x listed)
+  pub rule-braid : (x .family ≡ 1 → ⊥) → Linked (Braid k n) (x .left) (x .right)
+  rule-braid f = derivations.rule-braid k n low (rule-of-list k n low x listed) (λ e. f (right-empty k n low x listed e))
 
   -- ---- one use of a rule
 
