@@ -2,7 +2,7 @@
 -- Assumes nothing.
 use mathlib.Core.Path.{_≡_, refl, sym, ap, _∙_}
 use mathlib.Core.List.{List, [], _∷_, _++_, append-assoc, append-nil}
-use Prim.Native.Nat.{ℕ, _+_, _-_, _≤_, _<_, suc}
+use Prim.Native.Nat.{ℕ, zero, suc, _+_, _-_, _≤_, _<_}
 use native.Mathlib.Nat.{zero-add, le-refl, le-of-eq, add-suc, suc-add, add-zero}
 use native.Mathlib.Numerals.{add-one}
 use native.Mathlib.Omega.{arith}
@@ -15,6 +15,12 @@ take-rest a l = take-all (length l - a) (drop a l) (le-of-eq (length-drop a l))
 
 pub drop-next {ℓ} : {X : Type ℓ} (l : List X) (i : ℕ) (d : X) → i < length l → drop i l ≡ getD l i d ∷ drop (i + 1) l
 drop-next l i d h = drop-cons l i d h ∙ ap (λ (j : ℕ). getD l i d ∷ drop j l) (sym (add-one i))
+
+pub getD-take {ℓ} : {X : Type ℓ} (j i : ℕ) (l : List X) (d : X) → i < j → getD (take j l) i d ≡ getD l i d
+getD-take zero i l d h = absurd (omega arith)
+getD-take (suc j) i [] d h = refl
+getD-take (suc j) zero (x ∷ l) d h = refl
+getD-take (suc j) (suc i) (x ∷ l) d h = getD-take j i l d (omega arith)
 
 -- ---- lists written element by element, and at a front
 

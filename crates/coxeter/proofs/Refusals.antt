@@ -1,12 +1,17 @@
--- The first refusal of two, case by case.
+-- The first refusal of two, case by case; the greatest number that each group of checks gives; when a check among others gives its number.
 -- Assumes nothing.
 use mathlib.Core.Path.{_≡_, refl, sym, _∙_}
-use mathlib.Core.Bool.{Bool, true, false}
-use Prim.Native.Nat.{ℕ, zero, suc}
+use mathlib.Core.Bool.{Bool, true, false, true≢false}
+use mathlib.Core.List.{List}
+use mathlib.Core.Logic.{_⊎_, inl, inr, ⊎-elim, _↔_}
+use Prim.Native.Nat.{ℕ, zero, suc, _≤_}
+use native.Mathlib.Decide.{ℕ-discrete}
 use native.Mathlib.Omega.{arith}
 use lib.Dec.{eqb, eqb·suc-zero}
+use lib.IntN.{ℤ}
 use borrow.Author.Tests.{eq-eqb, ne-eqb}
-use Rattle.coxeter.specs.Checks.{check, _then_}
+use Rattle.coxeter.specs.Kinds.{Kind, kindOf, lanes}
+use Rattle.coxeter.specs.Checks.{check, _then_, wrongKind, wrongRank, tooLong, wrongLetter, wrongLanes, wrongEntry, oddNegatives, rankRefusal, wordRefusal, windowRefusal}
 
 pub then-zero : (r s : ℕ) → (r then s) ≡ 0 → (r ≡ 0) × (s ≡ 0)
 then-zero zero s h = (refl, h)
@@ -36,3 +41,57 @@ then-refused q r s e f = e ∙ sym (then-some q s (λ z. f (e ∙ z)))
 
 pub then-next : (q r s t : ℕ) → r ≡ q → r ≡ 0 → t ≡ s → t ≡ (q then s)
 then-next q r s t e z h = h ∙ sym (then-none q s (sym e ∙ z))
+
+-- ---- the greatest number
+
+pub check-le : (r : ℕ) (t : Bool) (m : ℕ) → r ≤ m → check r t ≤ m
+check-le r true m h = h
+check-le r false m h = omega arith
+
+pub then-le : (p q m : ℕ) → p ≤ m → q ≤ m → (p then q) ≤ m
+then-le p q m h g = elim (ℕ-discrete p 0) [ yes z ↦ rw (then-none p q z) g | no f ↦ rw (then-some p q f) h ]
+
+pub rankRefusal-le : (k n : ℕ) → rankRefusal k n ≤ 6
+unfolding rankRefusal
+rankRefusal-le k n = then-le _ _ 6 (check-le 5 (wrongKind k) 6 (omega arith)) (check-le 6 (wrongRank (kindOf k) n) 6 (omega arith))
+
+pub wordRefusal-le : (n : ℕ) (u : List ℕ) → wordRefusal n u ≤ 8
+unfolding wordRefusal
+wordRefusal-le n u = then-le _ _ 8 (check-le 7 (tooLong u) 8 (omega arith)) (check-le 8 (wrongLetter n u) 8 (omega arith))
+
+pub windowRefusal-le : (k : Kind) (n : ℕ) (w : List ℤ) → windowRefusal k n w ≤ 11
+unfolding windowRefusal
+windowRefusal-le k n w =
+    then-le _ _ 11 (check-le 9 (wrongLanes k n w) 11 (omega arith))
+    (then-le _ _ 11 (check-le 10 (wrongEntry k (lanes k n) w) 11 (omega arith)) (check-le 11 (oddNegatives k w) 11 (omega arith)))
+
+-- ---- a check among others
+
+-- a number is the first refusal of two exactly when it is the first one, or the second and the first passes
+pub then-exactly : (p q c : ℕ) → ((p then q) ≡ suc c) ↔ ((p ≡ suc c) ⊎ ((p ≡ 0) × (q ≡ suc c)))
+then-exactly p q c = (
+  λ e. elim (ℕ-discrete p 0) [ yes z ↦ inr (z, sym (then-none p q z) ∙ e) | no f ↦ inl (sym (then-some p q f) ∙ e) ],
+  λ h. elim h [ inl e ↦ then-some p q (λ z. omega arith) ∙ e | inr e ↦ then-none p q (e .0) ∙ e .1 ],
+)
+
+pub then-avoids : (p q c : ℕ) → (p ≡ suc c → ⊥) → (q ≡ suc c → ⊥) → (p then q) ≡ suc c → ⊥
+then-avoids p q c f g e = ⊎-elim f (λ h. g (h .1)) (then-exactly p q c .0 e)
+
+pub check-avoids : (r c : ℕ) (t : Bool) → (r ≡ suc c → ⊥) → check r t ≡ suc c → ⊥
+check-avoids r c true f e = f e
+check-avoids r c false f e = omega arith
+
+pub check-number : (c : ℕ) (t : Bool) → (check (suc c) t ≡ suc c) ↔ (t ≡ true)
+check-number c true = (λ e. refl, λ e. refl)
+check-number c false = (λ e. absurd (omega arith), λ e. absurd (true≢false (sym e)))
+
+-- where neither the checks p before it nor the checks q after it have its number, it comes exactly when those before it pass and its test holds
+pub check-exactly : (p c : ℕ) (t : Bool) (q : ℕ) → (p ≡ suc c → ⊥) → (q ≡ suc c → ⊥)
+    → ((p then check (suc c) t then q) ≡ suc c) ↔ ((p ≡ 0) × (t ≡ true))
+check-exactly p c t q f g = (
+  λ e. ⊎-elim (λ x. absurd (f x)) (λ x. (x .0, own x)) (then-exactly p (check (suc c) t then q) c .0 e),
+  λ h. then-exactly p (check (suc c) t then q) c .1 (inr (h .0, then-exactly (check (suc c) t) q c .1 (inl (check-number c t .1 (h .1))))),
+)
+  where
+    own : (p ≡ 0) × ((check (suc c) t then q) ≡ suc c) → t ≡ true
+    own x = ⊎-elim (check-number c t .0) (λ y. absurd (g (y .1))) (then-exactly (check (suc c) t) q c .0 (x .1))

@@ -12,4 +12,5 @@ pub mod Products
 pub mod Values
 pub mod Outcomes
 pub mod Unchanged
+pub mod Sentences
 pub mod Vectors

@@ -66,6 +66,13 @@ module _ (k n set : ℕ) (v w : List ℤ) (a : setRefusal k n set ≡ 0) (b : wi
       let t = exactly .1 (u, m .leads) in
       rw (last k n set v w a b c, t, ← laws.between-only (allows set) (kindOf k) n v w rank first second u m)
 
+  -- where some word over the allowed steps leads there, the normal form of that word is written, whichever it is
+  pub between-leading : (u out : List ℕ) → Leads (allows set) (kindOf k) n v w u
+      → betweenWindows k n set v w out ≡ writes 0 (wordNormalForm (kindOf k) n u) out
+  unfolding betweenWindows unreachable
+  between-leading u out l =
+      rw (last k n set v w a b c, exactly .1 (u, l), laws.between-normalForm (allows set) (kindOf k) n v w rank first second u l)
+
   -- and where no word over the allowed steps leads there the call is refused 19
   pub between-unreachable : (out : List ℕ) → (Reachable (allows set) (kindOf k) n v w → ⊥)
       → betweenWindows k n set v w out ≡ record { answer = Refused 19; bytes = out }

@@ -12,34 +12,19 @@ use lib.IntN.{ℤ}
 use lib.ListN.{length, drop}
 use borrow.Author.Tests.{eq-eqb, ne-eqb}
 use Rattle.coxeter.specs.declared.Answer.the-variants.{Length, Refused}
-use Rattle.coxeter.specs.Kinds.{Kind, kindOf, lanes}
-use Rattle.coxeter.specs.Checks.{check, _then_, tooShort, rankRefusal, windowRefusal, wrongKind, wrongRank, wrongLanes, wrongEntry, oddNegatives}
+use Rattle.coxeter.specs.Kinds.{kindOf}
+use Rattle.coxeter.specs.Checks.{check, _then_, tooShort, rankRefusal, windowRefusal}
 use Rattle.coxeter.specs.Calls.{answerOf, written, writes}
-use Rattle.coxeter.proofs.Refusals.{then-zero, then-none, then-some}
+use Rattle.coxeter.proofs.Refusals.{then-zero, then-none, then-some, check-le, then-le, rankRefusal-le, windowRefusal-le}
 use Rattle.exchange.specs.Allowed.{wrongSet, setRefusal}
 use Rattle.exchange.specs.BetweenCalls.{unreachable, betweenRefusal, betweenWindows}
 
 -- ---- checks one after another
 
-pub check-le : (r : ℕ) (t : Bool) (m : ℕ) → r ≤ m → check r t ≤ m
-check-le r true m h = h
-check-le r false m h = omega arith
-
-pub then-le : (p q m : ℕ) → p ≤ m → q ≤ m → (p then q) ≤ m
-then-le p q m h g = elim (ℕ-discrete p 0) [ yes z ↦ rw (then-none p q z) g | no f ↦ rw (then-some p q f) h ]
-
 -- no check before 19 has its number
 set-le : (k n set : ℕ) → setRefusal k n set ≤ 16
-unfolding setRefusal rankRefusal
-set-le k n set =
-    then-le _ _ 16 (then-le _ _ 16 (check-le 5 (wrongKind k) 16 (omega arith)) (check-le 6 (wrongRank (kindOf k) n) 16 (omega arith)))
-    (check-le 16 (wrongSet n set) 16 (omega arith))
-
-window-le : (k : Kind) (n : ℕ) (w : List ℤ) → windowRefusal k n w ≤ 16
-unfolding windowRefusal
-window-le k n w =
-    then-le _ _ 16 (check-le 9 (wrongLanes k n w) 16 (omega arith))
-    (then-le _ _ 16 (check-le 10 (wrongEntry k (lanes k n) w) 16 (omega arith)) (check-le 11 (oddNegatives k w) 16 (omega arith)))
+unfolding setRefusal
+set-le k n set = then-le (rankRefusal k n) _ 16 (omega (arith, rankRefusal-le k n)) (check-le 16 (wrongSet n set) 16 (omega arith))
 
 -- so a 19 comes from the last check, and all before it passed
 then-late : (p q : ℕ) → p ≤ 16 → (p then q) ≡ 19 → (p ≡ 0) × (q ≡ 19)
@@ -75,8 +60,8 @@ module _ (k n set : ℕ) (v w : List ℤ) where
   unfolding betweenRefusal
   all-passed-19 e =
       let a = then-late (setRefusal k n set) _ (set-le k n set) e in
-      let b = then-late (windowRefusal (kindOf k) n v) _ (window-le (kindOf k) n v) (a .1) in
-      let c = then-late (windowRefusal (kindOf k) n w) _ (window-le (kindOf k) n w) (b .1) in
+      let b = then-late (windowRefusal (kindOf k) n v) _ (omega (arith, windowRefusal-le (kindOf k) n v)) (a .1) in
+      let c = then-late (windowRefusal (kindOf k) n w) _ (omega (arith, windowRefusal-le (kindOf k) n w)) (b .1) in
       (a .0, b .0, c .0, check-late (unreachable (kindOf k) n set v w) (c .1))
 
 -- ---- what an answer says

@@ -28,5 +28,7 @@ pub mod Tracing
 pub mod StepBounds
 pub mod StepsReached
 pub mod Theorems
+pub mod Sentences
+pub mod AllowedSentences
 pub mod Vectors
 pub mod BetweenVectors

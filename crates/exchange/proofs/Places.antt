@@ -1,13 +1,13 @@
 -- Part-lists by their places: the letters at rising places inside a word are a part-list of it, and every part-list is at such places. By recursion
 -- on the places and on the part-list.
 --
--- Sections: from places to part-lists; from part-lists to places; fallbacks; the test.
+-- Sections: from places to part-lists; from part-lists to places; fallbacks; the test; places one by one.
 -- Assumes nothing.
 use mathlib.Core.Path.{_≡_, refl, ap, _∙_}
 use mathlib.Core.Bool.{Bool, true, false, _||_, or-true}
 use mathlib.Core.Logic.{_⊎_, inl, inr, ⊎-elim, _↔_}
 use mathlib.Core.List.{List, [], _∷_, map}
-use Prim.Native.Nat.{ℕ, zero, suc, _+_, _-_, _≤_}
+use Prim.Native.Nat.{ℕ, zero, suc, _+_, _-_, _≤_, _<_}
 use native.Mathlib.Omega.{arith}
 use lib.IntN.{ℤ}
 use lib.ListN.{length, getD, drop}
@@ -112,3 +112,28 @@ somePart-exactly k n u w = (
   λ t. let p = part-of-some k n (straight (lanes k n)) u w t in fallback-of-part k n u (p .word) w (p .part) (p .leads),
   λ f. let p = part-of-fallback k n u w f in some-of-part k n (straight (lanes k n)) w (p .part) (p .shows),
 )
+
+-- ---- places one by one
+
+-- rising places one by one: each is inside, from `low` on, and below every later one
+pub rising-bounds : (m low : ℕ) (ps : List ℕ) → Rising m low ps → (i : ℕ) → i < length ps → (low ≤ getD ps i 0) × (getD ps i 0 < m)
+rising-bounds m low [] r i h = absurd (omega arith)
+rising-bounds m low (p ∷ ps) r zero h = (r .0, r .1)
+rising-bounds m low (p ∷ ps) r (suc i) h = let q = rising-bounds m (suc p) ps (r .2) i (omega arith) in (omega (arith, r .0), q .1)
+
+pub rising-apart : (m low : ℕ) (ps : List ℕ) → Rising m low ps → (i j : ℕ) → i < j → j < length ps → getD ps i 0 < getD ps j 0
+rising-apart m low [] r i j l h = absurd (omega arith)
+rising-apart m low (p ∷ ps) r i zero l h = absurd (omega arith)
+rising-apart m low (p ∷ ps) r zero (suc j) l h = let q = rising-bounds m (suc p) ps (r .2) j (omega arith) in omega (arith, q .0)
+rising-apart m low (p ∷ ps) r (suc i) (suc j) l h = rising-apart m (suc p) ps (r .2) i j (omega arith) (omega arith)
+
+pub rising-of : (m low : ℕ) (ps : List ℕ) → ((i : ℕ) → i < length ps → (low ≤ getD ps i 0) × (getD ps i 0 < m))
+    → ((i j : ℕ) → i < j → j < length ps → getD ps i 0 < getD ps j 0) → Rising m low ps
+rising-of m low [] f g = tt
+rising-of m low (p ∷ ps) f g =
+    let a = f 0 (omega arith) in (
+      a .0,
+      a .1,
+      rising-of m (suc p) ps (λ i h. (let q = g 0 (suc i) (omega arith) (omega arith) in omega (arith, q), f (suc i) (omega arith) .1))
+          (λ i j l h. g (suc i) (suc j) (omega arith) (omega arith)),
+    )

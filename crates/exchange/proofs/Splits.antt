@@ -20,7 +20,8 @@ use Rattle.coxeter.specs.Checks.{check, _then_, tooShort, rankRefusal, wordRefu
 use Rattle.coxeter.specs.Calls.{written}
 use Rattle.coxeter.proofs.Refusals.{then-zero}
 use Rattle.coxeter.proofs.Acceptance.{rank-within}
-use Rattle.coxeter.proofs.Levels.{accepted-of-refusal, window-accepted}
+use Rattle.coxeter.proofs.Levels.{accepted-of-refusal}
+use Rattle.coxeter.proofs.Theorems.{window-passes}
 use Rattle.exchange.specs.declared.Split.the-variants.{Words, Refused}
 use Rattle.exchange.specs.Allowed.{allows, setRefusal}
 use Rattle.exchange.specs.Split.{IsSplit, firstWord, secondWord}
@@ -111,16 +112,16 @@ module _ (k n set : ℕ) (u first second : List ℕ) where
     -- the fronts of the two outputs are the two words
     pub splitting-splits : IsSplit (allows set) (kindOf k) n (window (kindOf k) n u)
         (take a (splitting k n set u first second .first)) (take b (splitting k n set u first second .second))
-    splitting-splits = rw (told .1, told .2) (split-is (allows set) (kindOf k) n shown rank (window-accepted (kindOf k) n u))
+    splitting-splits = rw (told .1, told .2) (splits (kindOf k) n shown rank (window-passes (kindOf k) n u) (allows set))
 
     pub splitting-only : (x y : List ℕ) → IsSplit (allows set) (kindOf k) n (window (kindOf k) n u) x y
         → (x ≡ take a (splitting k n set u first second .first)) × (y ≡ take b (splitting k n set u first second .second))
-    splitting-only x y s = rw (told .1, told .2) (split-only (allows set) (kindOf k) n shown rank (window-accepted (kindOf k) n u) x y s)
+    splitting-only x y s = rw (told .1, told .2) (splits-only (kindOf k) n shown rank (window-passes (kindOf k) n u) (allows set) x y s)
 
     -- "their lengths add up to that window's length"
     pub splitting-lengths : a + b ≡ windowLength (kindOf k) (window (kindOf k) n u)
     splitting-lengths =
-        ap₂ _+_ (sym (told .3)) (sym (told .4)) ∙ split-is (allows set) (kindOf k) n shown rank (window-accepted (kindOf k) n u) .lengths
+        ap₂ _+_ (sym (told .3)) (sym (told .4)) ∙ splits (kindOf k) n shown rank (window-passes (kindOf k) n u) (allows set) .lengths
 
     -- ---- what a call leaves
 

@@ -13,15 +13,14 @@ use lib.ListN.{length}
 use borrow.Author.Tests.{eq-eqb, ne-eqb, le-ltb}
 use Rattle.coxeter.specs.declared.Answer.the-variants as answer
 use Rattle.coxeter.specs.Kinds.{kindOf}
-use Rattle.coxeter.specs.Checks.{check, _then_, wrongKind, wrongRank, tooLong, wrongLetter, tooShort, rankRefusal, wordRefusal}
+use Rattle.coxeter.specs.Checks.{check, _then_, tooShort, rankRefusal, wordRefusal}
 use Rattle.coxeter.specs.Calls.{answerOf}
-use Rattle.coxeter.proofs.Refusals.{then-zero, then-none, then-some}
+use Rattle.coxeter.proofs.Refusals.{then-zero, then-none, then-some, check-le, then-le, rankRefusal-le, wordRefusal-le}
 use Rattle.rules.specs.declared.ToEnd.the-variants as toEnd
 use Rattle.rules.specs.Runs.{AcceptedWord}
 use Rattle.rules.specs.Traces.{Trace, trace, tooFewPlaces, toEndOf, Traced, tracedBy, rewritingToEnd, numberOfSteps}
 use Rattle.rules.proofs.Calls.{accepted-least, accepted-letters}
 use Rattle.rules.proofs.Unchanged.{Written, refused, ended, tracedBy-written}
-use Rattle.exchange.proofs.BetweenChecks.{check-le, then-le}
 use Rattle.exchange.proofs.Reading.{steps-at-most}
 
 -- ---- what is counted
@@ -84,12 +83,7 @@ unfolding tooFewPlaces tooShort
 places-few m families places lengths f p l = rw (le-ltb (length families) m f, le-ltb (length places) m p, le-ltb (length lengths) m l)
 
 preset-refusal-le : (k n : ℕ) (u : List ℕ) → (rankRefusal k n then wordRefusal n u) ≤ 8
-unfolding rankRefusal wordRefusal
-preset-refusal-le k n u =
-    then-le (rankRefusal k n) (wordRefusal n u) 8
-    (then-le (check 5 (wrongKind k)) (check 6 (wrongRank (kindOf k) n)) 8 (check-le 5 (wrongKind k) 8 (omega arith))
-    (check-le 6 (wrongRank (kindOf k) n) 8 (omega arith)))
-    (then-le (check 7 (tooLong u)) (check 8 (wrongLetter n u)) 8 (check-le 7 (tooLong u) 8 (omega arith)) (check-le 8 (wrongLetter n u) 8 (omega arith)))
+preset-refusal-le k n u = then-le (rankRefusal k n) (wordRefusal n u) 8 (omega (arith, rankRefusal-le k n)) (wordRefusal-le n u)
 
 -- lists with a place for each pair of letters are never refused
 pub enough-places : (k n : ℕ) (u families places lengths out : List ℕ) → length u * (length u - 1) / 2 ≤ length families

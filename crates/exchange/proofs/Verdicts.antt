@@ -3,7 +3,7 @@
 -- Sections: a word and a target; two words; what an outcome says.
 -- Assumes nothing.
 use mathlib.Core.Path.{_≡_, refl, sym, ap, _∙_}
-use mathlib.Core.Bool.{Bool, true, false, _&&_}
+use mathlib.Core.Bool.{Bool, true, false, _&&_, true≢false}
 use mathlib.Core.Logic.{_↔_}
 use mathlib.Core.List.{List, []}
 use Prim.Native.Nat.{ℕ, _≤_, _<_}
@@ -13,7 +13,7 @@ use lib.Dec.{eqb}
 use lib.IntN.{ℤ}
 use lib.ListN.{length, take, drop}
 use lib.Seq.{take-at, drop-at}
-use borrow.Author.Tests.{ne-eqb, lt-ltb, le-ltb}
+use borrow.Author.Tests.{eq-eqb, ne-eqb, lt-ltb, le-ltb}
 use Rattle.coxeter.specs.Kinds.{Kind, pick, kindOf, least, lanes}
 use Rattle.coxeter.specs.Windows.{straight, window}
 use Rattle.coxeter.specs.Length.{windowLength}
@@ -90,7 +90,7 @@ module _ (k : Kind) (n : ℕ) (u : List ℕ) (w : List ℤ) (places : List ℕ) 
 -- ---- two words
 
 -- check 14 comes after the others
-then-last : (p q r s : ℕ) → (p then q then r then s) ≡ ((p then q then r) then s)
+pub then-last : (p q r s : ℕ) → (p then q then r then s) ≡ ((p then q then r) then s)
 then-last p q r s = sym (then-assoc p (q then r) s ∙ ap (λ (x : ℕ). p then x) (then-assoc q r s))
 
 by-verdict : (t short : Bool) (l : ℕ) → pick t (pick short (Refused 14) (Kept l)) No ≡ fallbackOf (check 14 (t && short)) t l
@@ -121,6 +121,68 @@ module _ (k n : ℕ) (present simpler places : List ℕ) (r : ℕ) (e : r ≡ (r
   }
 
 -- ---- what an outcome says
+
+-- what the answer is: q is the refusal of the checks before 14, t the verdict, l the length of the simpler window
+pub data Told (q : ℕ) (t short : Bool) (l : ℕ) : Fallback → Type 0 where
+  is-refused : (q ≡ 0 → ⊥) → Told q t short l (Refused q)
+  is-no : q ≡ 0 → t ≡ false → Told q t short l No
+  is-short : q ≡ 0 → t ≡ true → short ≡ true → Told q t short l (Refused 14)
+  is-kept : q ≡ 0 → t ≡ true → short ≡ false → Told q t short l (Kept l)
+
+pub told : (q : ℕ) (t short : Bool) (l : ℕ) → Told q t short l (fallbackOf (q then check 14 (t && short)) t l)
+unfolding fallbackOf
+told q t short l = elim (ℕ-discrete q 0) [
+  | yes z ↦ rw (eq-eqb q 0 z) (cases z t short refl refl)
+  | no f ↦ rw (ne-eqb q 0 f) (rw (ne-eqb q 0 f) (is-refused f))
+]
+  where
+    cases : q ≡ 0 → (b c : Bool) → t ≡ b → short ≡ c → Told q t short l (pick (eqb (check 14 (b && c)) 0) (pick b (Kept l) No) (Refused (check 14 (b && c))))
+    cases z true true e d = is-short z e d
+    cases z true false e d = is-kept z e d
+    cases z false c e d = is-no z e
+
+module _ {q : ℕ} {t short : Bool} {l : ℕ} where
+  pub told-no : {a : Fallback} → Told q t short l a → a ≡ No → (q ≡ 0) × (t ≡ false)
+  told-no (is-refused f) e = let z : _≡_ {A = ℕ} 0 1 = cc in absurd (omega arith)
+  told-no (is-no z n) e = (z, n)
+  told-no (is-short z y s) e = let z : _≡_ {A = ℕ} 0 1 = cc in absurd (omega arith)
+  told-no (is-kept z y s) e = let z : _≡_ {A = ℕ} 0 1 = cc in absurd (omega arith)
+
+  pub told-kept : {a : Fallback} (m : ℕ) → Told q t short l a → a ≡ Kept m → (q ≡ 0) × (t ≡ true) × (short ≡ false) × (m ≡ l)
+  told-kept m (is-refused f) e = let z : _≡_ {A = ℕ} 0 1 = cc in absurd (omega arith)
+  told-kept m (is-no z n) e = let z : _≡_ {A = ℕ} 0 1 = cc in absurd (omega arith)
+  told-kept m (is-short z y s) e = let z : _≡_ {A = ℕ} 0 1 = cc in absurd (omega arith)
+  told-kept m (is-kept z y s) e = (z, y, s, cc)
+
+  pub told-short : {a : Fallback} → (q ≡ 14 → ⊥) → Told q t short l a → a ≡ Refused 14 → (q ≡ 0) × (t ≡ true) × (short ≡ true)
+  told-short g (is-refused f) e = absurd (g cc)
+  told-short g (is-no z n) e = let z : _≡_ {A = ℕ} 0 1 = cc in absurd (omega arith)
+  told-short g (is-short z y s) e = (z, y, s)
+  told-short g (is-kept z y s) e = let z : _≡_ {A = ℕ} 0 1 = cc in absurd (omega arith)
+
+  pub is-told-no : {a : Fallback} → Told q t short l a → q ≡ 0 → t ≡ false → a ≡ No
+  is-told-no (is-refused f) z n = absurd (f z)
+  is-told-no (is-no x y) z n = refl
+  is-told-no (is-short x y s) z n = absurd (true≢false (sym y ∙ n))
+  is-told-no (is-kept x y s) z n = absurd (true≢false (sym y ∙ n))
+
+  pub is-told-kept : {a : Fallback} → Told q t short l a → q ≡ 0 → t ≡ true → short ≡ false → a ≡ Kept l
+  is-told-kept (is-refused f) z n r = absurd (f z)
+  is-told-kept (is-no x y) z n r = absurd (true≢false (sym n ∙ y))
+  is-told-kept (is-short x y s) z n r = absurd (true≢false (sym s ∙ r))
+  is-told-kept (is-kept x y s) z n r = refl
+
+  pub is-told-short : {a : Fallback} → Told q t short l a → q ≡ 0 → t ≡ true → short ≡ true → a ≡ Refused 14
+  is-told-short (is-refused f) z n r = absurd (f z)
+  is-told-short (is-no x y) z n r = absurd (true≢false (sym n ∙ y))
+  is-told-short (is-short x y s) z n r = refl
+  is-told-short (is-kept x y s) z n r = absurd (true≢false (sym r ∙ s))
+
+  pub is-told-refused : {a : Fallback} → Told q t short l a → (q ≡ 0 → ⊥) → a ≡ Refused q
+  is-told-refused (is-refused f) g = refl
+  is-told-refused (is-no x y) g = absurd (g x)
+  is-told-refused (is-short x y s) g = absurd (g x)
+  is-told-refused (is-kept x y s) g = absurd (g x)
 
 -- checks 5 and 6 refuse before anything else is looked at
 fallbackAnswer-refused : (k n : ℕ) (present simpler places : List ℕ) → (rankRefusal k n ≡ 0 → ⊥)

@@ -24,6 +24,7 @@ pub mod Theorems
 pub mod Written
 pub mod Traces
 pub mod Replays
+pub mod TraceSentences
 pub mod BlockWords
 pub mod HigherSteps
 pub mod PartBlocks

@@ -200,7 +200,7 @@ take-mapped : (m : ℕ) (f : Line → ℕ) (ls : List Line) (out : List ℕ) →
 take-mapped m f ls out e = take-at (map f ls) (drop (length (map f ls)) out) m (length-map ls f ∙ e)
 
 -- a call that ends was not refused with q, and wrote the lines and the final word
-written-front : {q : ℕ} {t : Trace} {families places lengths out : List ℕ} {a : Traced} (s l : ℕ) → Written q t families places lengths out a
+pub written-front : {q : ℕ} {t : Trace} {families places lengths out : List ℕ} {a : Traced} (s l : ℕ) → Written q t families places lengths out a
     → a .answer ≡ Ended s l
     → (q ≡ 0) × (length (t .lines) ≡ s) × (length (t .final) ≡ l)
     × (take s (a .families) ≡ familiesOf (t .lines)) × (take s (a .places) ≡ placesOf (t .lines))

@@ -1,0 +1,294 @@
+-- Document 02's request 11 in plain terms, at the answer and the three outputs that the call left. The record `IsLongest` is taken apart: each field
+-- is read out as strongly as it is stated.
+--
+-- Sections: what the call wrote; the table; the longest window; refusals.
+-- Assumes nothing.
+use mathlib.Core.Path.{_≡_, refl, sym, ap, _∙_}
+use mathlib.Core.Bool.{Bool, true, false, true≢false}
+use mathlib.Core.Logic.{_⊎_, inl, inr, ⊎-elim, _↔_}
+use mathlib.Core.List.{List, _++_}
+use Prim.Native.Nat.{ℕ, suc, _+_, _≤_, _<_}
+use native.Mathlib.Decide.{ℕ-discrete}
+use native.Mathlib.Omega.{arith}
+use borrow.Author.Tests.{eq-eqb, ne-eqb, eqb-true, ltb-true, lt-ltb, le-ltb}
+use lib.Dec.{eqb}
+use lib.IntN.{ℤ}
+use lib.ListN.{length, getD, take, drop}
+use lib.Seq.{take-at}
+use Rattle.coxeter.specs.Kinds.{Kind, A, B, D, pick, kindOf, lanes, least}
+use Rattle.coxeter.specs.Dictionary.{shortlex}
+use Rattle.coxeter.specs.Length.{windowLength, greatestLength}
+use Rattle.coxeter.specs.Checks.{check, _then_, tooShort, rankRefusal, windowRefusal}
+use Rattle.coxeter.specs.NormalForm.{normalForm, IsNormalForm}
+use Rattle.coxeter.specs.Calls.{written}
+use Rattle.coxeter.proofs.Lists.{getD-take}
+use Rattle.coxeter.proofs.Refusals.{then-zero, then-none, then-assoc, rankRefusal-le, then-exactly, then-avoids, check-avoids, check-number, check-exactly}
+use Rattle.coxeter.proofs.Levels.{accepted-of-refusal}
+use Rattle.coxeter.proofs.Order.{shortlex-cases, shortlex-total, shortlex-irrefl}
+use Rattle.coxeter.proofs.Theorems.{length-normalForm}
+use Rattle.rules.proofs.Theorems.{normalForm-least}
+use Rattle.distribution.specs.declared.Table.{Table}
+use Rattle.distribution.specs.declared.Table.the-variants.{Written, Refused}
+use Rattle.distribution.specs.AllWindows.{In, Once, keep, windows}
+use Rattle.distribution.specs.Distribution.{ofLength, distribution, sum, order}
+use Rattle.distribution.specs.Longest.{IsLongest, longest}
+use Rattle.distribution.specs.Calls.{greatestTabled, untabled, tableRefusal, TableYields, tableOf, roomRefusal, tables, delayTable}
+use Rattle.distribution.proofs.Members.{in-keep, of-keep, once-keep}
+use Rattle.distribution.proofs.AllWindows.{windows-exactly, windows-once}
+use Rattle.distribution.proofs.Orders.{sum-distribution}
+use Rattle.distribution.proofs.Longest.{longest-is, longest-unique}
+use Rattle.distribution.proofs.Tables.{length-distribution, entry-of-length, length-longest}
+use Rattle.distribution.proofs.Outcomes.{table-rank}
+use Rattle.distribution.proofs.Unchanged.{delayTable-unchanged, delayTable-past}
+
+-- ---- what the call wrote
+
+module _ (d : List ℕ) (w : List ℤ) (u counts : List ℕ) (entries : List ℤ) (letters : List ℕ) where
+  pick-told : (t : Bool) (s a b c : ℕ) → pick t (Written (length d) (length w) (length u)) (Refused s) ≡ Written a b c
+      → (t ≡ true) × (length d ≡ a) × (length w ≡ b) × (length u ≡ c)
+      × (take a (pick t (d ++ drop (length d) counts) counts) ≡ d)
+      × (take b (pick t (w ++ drop (length w) entries) entries) ≡ w)
+      × (take c (pick t (u ++ drop (length u) letters) letters) ≡ u)
+  pick-told true s a b c h =
+      let e : length d ≡ a = cc in
+      let f : length w ≡ b = cc in
+      let g : length u ≡ c = cc in
+      (refl, e, f, g, take-at d (drop (length d) counts) a e, take-at w (drop (length w) entries) b f, take-at u (drop (length u) letters) c g)
+  pick-told false s a b c h = let z : _≡_ {A = ℕ} 0 1 = cc in absurd (omega arith)
+
+module _ (k n : ℕ) (counts : List ℕ) (entries : List ℤ) (letters : List ℕ) (c e l : ℕ) (x : List ℕ) (y : List ℤ) (z : List ℕ)
+    (h : TableYields (delayTable k n counts entries letters) (Written c e l) x y z) where
+  wrote : (tableRefusal k n ≡ 0) × (length (distribution (kindOf k) n) ≡ c) × (length (longest (kindOf k) n) ≡ e)
+      × (length (normalForm (kindOf k) n (longest (kindOf k) n)) ≡ l) × (take c x ≡ distribution (kindOf k) n) × (take e y ≡ longest (kindOf k) n)
+      × (take l z ≡ normalForm (kindOf k) n (longest (kindOf k) n))
+  unfolding delayTable tables tableOf written
+  wrote =
+      let d = distribution (kindOf k) n in
+      let w = longest (kindOf k) n in
+      let u = normalForm (kindOf k) n w in
+      let s = tableRefusal k n then roomRefusal d w u counts entries letters in
+      let p = pick-told d w u counts entries letters (eqb s 0) s c e l (sym (h .0)) in
+      let q = then-zero (tableRefusal k n) _ (eqb-true s 0 (p .0)) in
+      (q .0, p .1, p .2, p .3, rw (h .1) (p .4), rw (h .2) (p .5), rw (h .3) (p .6))
+
+  rank : least (kindOf k) ≤ n
+  rank = table-rank k n (wrote .0) .0
+
+  is-longest : IsLongest (kindOf k) n (take e y)
+  is-longest = rw (wrote .5) (longest-is (kindOf k) n rank)
+
+  -- how many numbers, entries and letters are written
+  pub written-lengths : (c ≡ greatestLength (kindOf k) n + 1) × (e ≡ lanes (kindOf k) n) × (l ≡ greatestLength (kindOf k) n)
+      × (length (take c x) ≡ c) × (length (take e y) ≡ e) × (length (take l z) ≡ l)
+  written-lengths = (
+    sym (wrote .1) ∙ length-distribution (kindOf k) n,
+    sym (wrote .2) ∙ length-longest (kindOf k) n rank,
+    sym (wrote .3) ∙ longest-is (kindOf k) n rank .form,
+    ap (λ (r : List ℕ). length r) (wrote .4) ∙ wrote .1,
+    ap (λ (r : List ℤ). length r) (wrote .5) ∙ wrote .2,
+    ap (λ (r : List ℕ). length r) (wrote .6) ∙ wrote .3,
+  )
+
+  -- ---- the table
+
+  -- "entry k is the exact number of windows whose length is k, for k from 0 to the greatest length"
+  pub entry-exactly : (i : ℕ) → i ≤ greatestLength (kindOf k) n → getD x i 0 ≡ ofLength (kindOf k) n i
+  entry-exactly i g =
+      sym (getD-take c i x 0 (omega (arith, written-lengths .0))) ∙ ap (λ (r : List ℕ). getD r i 0) (wrote .4) ∙ entry-of-length (kindOf k) n i g
+
+  -- the same with the windows at hand: a list of all those of that length, none twice, has as many
+  pub entry-counts : (i : ℕ) → i ≤ greatestLength (kindOf k) n
+      → (ws : List (List ℤ)) × Once ws × ((w : List ℤ) → In w ws ↔ ((windowRefusal (kindOf k) n w ≡ 0) × (windowLength (kindOf k) w ≡ i)))
+      × (getD x i 0 ≡ length ws)
+  unfolding ofLength
+  entry-counts i g =
+      let t : List ℤ → Bool = λ w. eqb (windowLength (kindOf k) w) i in (
+        keep t (windows (kindOf k) n),
+        once-keep t (windows (kindOf k) n) (windows-once (kindOf k) n),
+        λ w. (
+          λ m.
+              let p = of-keep t w (windows (kindOf k) n) m in
+              (windows-exactly (kindOf k) n w .0 (p .0), eqb-true (windowLength (kindOf k) w) i (p .1)),
+          λ p. in-keep t w (windows (kindOf k) n) (eq-eqb (windowLength (kindOf k) w) i (p .1)) (windows-exactly (kindOf k) n w .1 (p .0)),
+        ),
+        entry-exactly i g,
+      )
+
+  -- "The entries sum to (n + 1)! for A, 2 to the n times n! for B, and half of that for D."
+  pub entries-sum : sum (take c x) ≡ order (kindOf k) n
+  entries-sum = ap sum (wrote .4) ∙ sum-distribution (kindOf k) n rank
+
+  -- ---- the longest window
+
+  -- "Give also the one window with the greatest length": it passes checks 9 to 11 and has that length, and every other window is shorter
+  pub longest-passes : (windowRefusal (kindOf k) n (take e y) ≡ 0) × (windowLength (kindOf k) (take e y) ≡ greatestLength (kindOf k) n)
+  longest-passes = (is-longest .passes, is-longest .greatest)
+
+  pub others-shorter : (v : List ℤ) → windowRefusal (kindOf k) n v ≡ 0 → (v ≡ take e y → ⊥)
+      → windowLength (kindOf k) v < windowLength (kindOf k) (take e y)
+  others-shorter v p f =
+      omega (arith, is-longest .only v p f, length-normalForm (kindOf k) n v p, length-normalForm (kindOf k) n (take e y) (is-longest .passes))
+
+  pub one-longest : (v : List ℤ) → windowRefusal (kindOf k) n v ≡ 0 → windowLength (kindOf k) v ≡ greatestLength (kindOf k) n → v ≡ take e y
+  one-longest v p q =
+      longest-unique (kindOf k) n v (take e y) rank (accepted-of-refusal (kindOf k) n v p)
+      (accepted-of-refusal (kindOf k) n (take e y) (is-longest .passes)) q (is-longest .greatest)
+
+  -- "and its normal form", among words of any length
+  pub longest-form : IsNormalForm (kindOf k) n (take e y) (take l z)
+  longest-form =
+      rw (wrote .5, wrote .6) (normalForm-least (kindOf k) n (longest (kindOf k) n) rank (longest-is (kindOf k) n rank .passes))
+
+  -- "no other window of the rig has a normal form as long"
+  pub others-form-shorter : (v : List ℤ) (u : List ℕ) → windowRefusal (kindOf k) n v ≡ 0 → (v ≡ take e y → ⊥) → IsNormalForm (kindOf k) n v u
+      → length u < l
+  others-form-shorter v u p f m =
+      let form = normalForm (kindOf k) n v in
+      let q = normalForm-least (kindOf k) n v rank p in
+      let shorter : length u ≤ length form =
+      elim (shortlex-total u form) [
+        | inl s ↦ omega (arith, ap (λ (r : List ℕ). length r) s)
+        | inr s ↦ first s (λ t. m .least form (q .steps) (q .shows) t)
+      ] in
+      let a = is-longest .only v p f in
+      let b = is-longest .form in
+      omega (arith, shorter, a, b, written-lengths .2)
+    where
+      le-of-shortlex : (s t : List ℕ) → shortlex s t ≡ true → length s ≤ length t
+      le-of-shortlex s t g = ⊎-elim (λ o. omega (arith, o)) (λ o. omega (arith, o .0)) (shortlex-cases s t g)
+
+      first : (shortlex u (normalForm (kindOf k) n v) ≡ true) ⊎ (shortlex (normalForm (kindOf k) n v) u ≡ true)
+          → ((normalForm (kindOf k) n v ≡ u → ⊥) → shortlex u (normalForm (kindOf k) n v) ≡ true) → length u ≤ length (normalForm (kindOf k) n v)
+      first s g = elim s [
+        | inl t ↦ le-of-shortlex u (normalForm (kindOf k) n v) t
+        | inr t ↦
+            le-of-shortlex u (normalForm (kindOf k) n v)
+            (g (λ o. true≢false (sym t ∙ ap (λ (r : List ℕ). shortlex r u) o ∙ shortlex-irrefl u)))
+      ]
+
+  -- what is left of each output keeps what it held
+  pub table-past : (drop c x ≡ drop c counts) × (drop e y ≡ drop e entries) × (drop l z ≡ drop l letters)
+  table-past = rw (h .1, h .2, h .3) (delayTable-past k n counts entries letters c e l (sym (h .0)))
+
+-- ---- refusals
+
+tableOf-refused : (r c e l m : ℕ) → (tableOf r c e l ≡ Refused (suc m)) ↔ (r ≡ suc m)
+unfolding tableOf
+tableOf-refused r c e l m = elim (ℕ-discrete r 0) [
+  | yes z ↦ rw (eq-eqb r 0 z) (λ q. let o : _≡_ {A = ℕ} 0 1 = cc in absurd (omega arith), λ q. absurd (omega arith))
+  | no f ↦ rw (ne-eqb r 0 f) (λ q. cc, λ q. ap Refused q)
+]
+
+false-true : {X : Type 0} → false ≡ true → X
+false-true e = absurd (true≢false (sym e))
+
+room-exactly : (s t r : Bool) → ((check 14 s then check 14 t then check 14 r) ≡ 14) ↔ ((s ≡ true) ⊎ ((t ≡ true) ⊎ (r ≡ true)))
+room-exactly true t r = (λ e. inl refl, λ e. refl)
+room-exactly false true r = (λ e. inr (inl refl), λ e. refl)
+room-exactly false false r = (λ e. inr (inr (check-number 13 r .0 e)), ⊎-elim false-true (⊎-elim false-true (check-number 13 r .1)))
+
+room-avoids : (s t r : Bool) → (check 14 s then check 14 t then check 14 r) ≡ 20 → ⊥
+room-avoids s t r =
+    then-avoids (check 14 s) _ 19 (check-avoids 14 19 s (λ z. omega arith))
+    (then-avoids (check 14 t) (check 14 r) 19 (check-avoids 14 19 t (λ z. omega arith)) (check-avoids 14 19 r (λ z. omega arith)))
+
+not-B : A ≡ B → ⊥
+not-B e = let o : _≡_ {A = ℕ} 0 1 = cc in omega arith
+
+not-D : A ≡ D → ⊥
+not-D e = let o : _≡_ {A = ℕ} 0 1 = cc in omega arith
+
+-- "the rank is above 19 for A or above 16 for B or D"
+untabled-exactly : (k : Kind) (n : ℕ) → (untabled k n ≡ true) ↔ (((k ≡ A) × (19 < n)) ⊎ (((k ≡ B) ⊎ (k ≡ D)) × (16 < n)))
+unfolding untabled
+untabled-exactly A n = (
+  λ e. inl (refl, ltb-true 19 n e),
+  ⊎-elim (λ p. lt-ltb 19 n (p .1)) (λ p. absurd (⊎-elim not-B not-D (p .0))),
+)
+untabled-exactly B n = (
+  λ e. inr (inl refl, ltb-true 16 n e),
+  ⊎-elim (λ p. absurd (not-B (sym (p .0)))) (λ p. lt-ltb 16 n (p .1)),
+)
+untabled-exactly D n = (
+  λ e. inr (inr refl, ltb-true 16 n e),
+  ⊎-elim (λ p. absurd (not-D (sym (p .0)))) (λ p. lt-ltb 16 n (p .1)),
+)
+
+module _ (k n : ℕ) (counts : List ℕ) (entries : List ℤ) (letters : List ℕ) (a : Table) (x : List ℕ) (y : List ℤ) (z : List ℕ)
+    (h : TableYields (delayTable k n counts entries letters) a x y z) where
+  abbrev short-counts : Bool
+  short-counts = tooShort (length (distribution (kindOf k) n)) counts
+
+  abbrev short-entries : Bool
+  short-entries = tooShort (length (longest (kindOf k) n)) entries
+
+  abbrev short-letters : Bool
+  short-letters = tooShort (length (normalForm (kindOf k) n (longest (kindOf k) n))) letters
+
+  abbrev room : ℕ
+  room = check 14 short-counts then check 14 short-entries then check 14 short-letters
+
+  refused-exactly : (m : ℕ) → (a ≡ Refused (suc m)) ↔ ((tableRefusal k n then room) ≡ suc m)
+  unfolding delayTable tables roomRefusal
+  refused-exactly m =
+      let e = tableOf-refused (tableRefusal k n then room) _ _ _ m in
+      (λ q. e .0 (sym (h .0) ∙ q), λ q. h .0 ∙ e .1 q)
+
+  -- "20 when the rank is above 19 for A or above 16 for B or D, checked after refusal 6"
+  pub table-20-exactly : (a ≡ Refused 20)
+      ↔ ((rankRefusal k n ≡ 0) × (((kindOf k ≡ A) × (19 < n)) ⊎ (((kindOf k ≡ B) ⊎ (kindOf k ≡ D)) × (16 < n))))
+  unfolding tableRefusal
+  table-20-exactly =
+      let e = refused-exactly 19 in
+      let r = then-assoc (rankRefusal k n) (check 20 (untabled (kindOf k) n)) room in
+      let c = check-exactly (rankRefusal k n) 19 (untabled (kindOf k) n) room (λ q. omega (arith, rankRefusal-le k n))
+      (room-avoids short-counts short-entries short-letters) in
+      let t = untabled-exactly (kindOf k) n in (
+        λ q. let p = c .0 (sym r ∙ e .0 q) in (p .0, t .0 (p .1)),
+        λ p. e .1 (r ∙ c .1 (p .0, t .1 (p .1))),
+      )
+
+  table-avoids : tableRefusal k n ≡ 14 → ⊥
+  unfolding tableRefusal
+  table-avoids =
+      then-avoids (rankRefusal k n) (check 20 (untabled (kindOf k) n)) 13 (λ q. omega (arith, rankRefusal-le k n))
+      (check-avoids 20 13 (untabled (kindOf k) n) (λ q. omega arith))
+
+  accepted : tableRefusal k n ≡ 0 → rankRefusal k n ≡ 0
+  unfolding tableRefusal
+  accepted q = then-zero (rankRefusal k n) _ q .0
+
+  passes : rankRefusal k n ≡ 0 → n ≤ greatestTabled (kindOf k) → tableRefusal k n ≡ 0
+  unfolding tableRefusal untabled
+  passes q g = then-none (rankRefusal k n) _ q ∙ rw (le-ltb (greatestTabled (kindOf k)) n g)
+
+  rooms : tableRefusal k n ≡ 0 → ((short-counts ≡ true) ⊎ ((short-entries ≡ true) ⊎ (short-letters ≡ true)))
+      ↔ ((length counts < greatestLength (kindOf k) n + 1) ⊎ ((length entries < lanes (kindOf k) n) ⊎ (length letters < greatestLength (kindOf k) n)))
+  unfolding tooShort
+  rooms q =
+      let low = table-rank k n q .0 in
+      rw (length-distribution (kindOf k) n, length-longest (kindOf k) n low, longest-is (kindOf k) n low .form) (
+        ⊎-elim (λ b. inl (ltb-true _ _ b)) (⊎-elim (λ b. inr (inl (ltb-true _ _ b))) (λ b. inr (inr (ltb-true _ _ b)))),
+        ⊎-elim (λ b. inl (lt-ltb _ _ b)) (⊎-elim (λ b. inr (inl (lt-ltb _ _ b))) (λ b. inr (inr (lt-ltb _ _ b)))),
+      )
+
+  -- 14 exactly when those pass and one of the outputs is too short
+  pub table-14-exactly : (a ≡ Refused 14)
+      ↔ ((rankRefusal k n ≡ 0) × (n ≤ greatestTabled (kindOf k)) × ((length counts < greatestLength (kindOf k) n + 1)
+      ⊎ ((length entries < lanes (kindOf k) n) ⊎ (length letters < greatestLength (kindOf k) n))))
+  table-14-exactly =
+      let e = refused-exactly 13 in
+      let t = then-exactly (tableRefusal k n) room 13 in
+      let o = room-exactly short-counts short-entries short-letters in (
+        λ q.
+            let p = ⊎-elim (λ b. absurd (table-avoids b)) (λ b. b) (t .0 (e .0 q)) in
+            let r = table-rank k n (p .0) in
+            (accepted (p .0), r .1, rooms (p .0) .0 (o .0 (p .1))),
+        λ p.
+            let r = passes (p .0) (p .1) in
+            e .1 (t .1 (inr (r, o .1 (rooms r .1 (p .2))))),
+      )
+
+  -- a refused call changes none of the three outputs
+  pub table-unchanged : (r : ℕ) → a ≡ Refused r → (x ≡ counts) × (y ≡ entries) × (z ≡ letters)
+  table-unchanged r e = rw (h .1, h .2, h .3) (delayTable-unchanged k n counts entries letters r (sym (h .0) ∙ e))
