@@ -151,7 +151,7 @@ module _ (ed : Edition) (b : List ℕ) (k n : ℕ) (u : List ℕ) (a : Accepted 
 
 -- ---- the law
 
-pub appended-grown : (ed : Edition) (b : List ℕ) (k n : ℕ) (u : List ℕ) → bookRefusal ed b ≡ 0 → length (appended ed b k n u) ≤ 65535 → Grown ed b k n u
+pub appended-grown : (ed : Edition) (b : List ℕ) (k n : ℕ) (u : List ℕ) → bookRefusal ed b ≡ 0 → length (appended ed b k n u) ≤ 65535 → Grown ed b k n u (appended ed b k n u)
 appended-grown ed b k n u z h =
     let a = accepted ed b z in
     let l = length-appended ed b k n u a in
@@ -166,7 +166,7 @@ appended-grown ed b k n u z h =
     }
 
 -- every book that the call `append` writes
-pub append-grown : (ed : Edition) (b : List ℕ) (k n : ℕ) (u : List ℕ) → appendRefusal ed b k n u ≡ 0 → Grown ed b k n u
+pub append-grown : (ed : Edition) (b : List ℕ) (k n : ℕ) (u : List ℕ) → appendRefusal ed b k n u ≡ 0 → Grown ed b k n u (appended ed b k n u)
 append-grown ed b k n u e = appended-grown ed b k n u (append-book ed b k n u e) (append-size ed b k n u e)
 
 -- and its last preset, which is not refused

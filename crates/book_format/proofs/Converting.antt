@@ -10,13 +10,12 @@ use Prim.Native.Nat.{ℕ, zero, suc, _+_, _-_, _*_, _≤_, _<_}
 use native.Mathlib.Decide.{ℕ-discrete}
 use native.Mathlib.Nat.{add-zero, zero-add, add-suc, suc-add}
 use native.Mathlib.Omega.{arith}
-use lib.Dec.{eqb, ltb}
+use lib.Dec.{eqb}
 use lib.ListN.{length, length-append}
-use borrow.Author.Tests.{eq-eqb, ne-eqb, lt-ltb, le-ltb, eqb-true, ltb-false, not-false}
+use borrow.Author.Tests.{ne-eqb, lt-ltb, le-ltb, eqb-true, ltb-false, not-false}
 use Rattle.coxeter.specs.Kinds.{Kind, A, B, D, kindOf, lanes}
 use Rattle.coxeter.specs.declared.Answer.the-variants as answer
-use Rattle.coxeter.specs.Checks.{check, _then_, tooShort, wordRefusal}
-use Rattle.coxeter.specs.Calls.{answerOf, writes}
+use Rattle.coxeter.specs.Checks.{check, _then_, wordRefusal}
 use Rattle.coxeter.proofs.Acceptance.{rank-within}
 use Rattle.coxeter.proofs.Refusals.{then-zero, check-zero, then-none}
 use Rattle.book_format.specs.declared.Edition.{Edition}
@@ -29,6 +28,7 @@ use Rattle.book_format.proofs.RankLaws.{bookRank-accepted, bookRankRefu
 use Rattle.book_format.proofs.BookLaws.{Accepted, accepted, bookSize-some, bookRefusal-bytes, no-bytes, count-bytes, first, trailer-le, endAt-offset-le}
 use Rattle.book_format.proofs.PresetLaws.{presetRefusal-record}
 use Rattle.book_format.proofs.WritingLaws.{length-recordOf}
+use Rattle.book_format.proofs.Written.{wrote}
 use Rattle.book_format.proofs.Appending.{walk-end, recordRefusal-of, checkedPreset-of, lettersOf-of}
 use Rattle.book_format.proofs.RecordLaws.{layOut-recordsOf, length-recordsFrom, length-lettersAt, placed-from}
 use Rattle.book_format.proofs.LayOuts.{length-layOut, LanesRight, AllRight, LaidOut, laidOut}
@@ -254,7 +254,7 @@ module _ (ed : Edition) (b : List ℕ) (w : Convertible ed b) where
             ∙ sym (lettersOf-of (other ed) d i p 0 (lettersAt ed b o) (q .unrefused) refl (q .letters));
       }
 
-  pub converted-is : Converted ed b
+  pub converted-is : Converted ed b (converted ed b)
   converted-is = record { unrefused = converted-opens; asMany = count-converted; presets = same-preset }
 
   -- ---- there and back
@@ -291,7 +291,7 @@ module _ (ed : Edition) (b : List ℕ) (w : Convertible ed b) where
       rw (converted-opens, records-back (count (converted ed b)) 0 (omega (arith, count-converted)), there-and-back v, le-ltb 65535 (length b) size)
 
 -- every book that the call `convert` writes
-pub convert-converted : (ed : Edition) (b : List ℕ) → conversionRefusal ed b ≡ 0 → Converted ed b
+pub convert-converted : (ed : Edition) (b : List ℕ) → conversionRefusal ed b ≡ 0 → Converted ed b (converted ed b)
 convert-converted ed b z = elim (ℕ-discrete (length b) 0) [
   | yes n ↦
       let e = converted-bytes ed b n in
@@ -369,24 +369,5 @@ length-converted ed b a = elim (ℕ-discrete (length b) 0) [
 
 -- what the call answers has room in the output
 pub converting-room : (ed : Edition) (b out : List ℕ) (m : ℕ) → converting ed b out .answer ≡ answer.Length m → m ≤ length out
-unfolding converting writes answerOf tooShort
-converting-room ed b out m e = elim (ℕ-discrete refusal 0) [ yes z ↦ at z | no f ↦ absurd (never f) ]
-  where
-    short : ℕ
-    short = check 14 (ltb (length out) (length (converted ed b)))
-
-    refusal : ℕ
-    refusal = conversionRefusal ed b then short
-
-    at : refusal ≡ 0 → m ≤ length out
-    at z =
-        let q : answer.Length (length (converted ed b)) ≡ answer.Length m = rw (eq-eqb refusal 0 z) at e in
-        let s : length (converted ed b) ≡ m = cc in
-        let r = ltb-false (length out) (length (converted ed b)) (check-zero 13 (ltb (length out) (length (converted ed b))) (then-zero (conversionRefusal ed b) short z .1)) in
-        omega arith
-
-    never : (refusal ≡ 0 → ⊥) → ⊥
-    never f =
-        let q : answer.Refused refusal ≡ answer.Length m = rw (ne-eqb refusal 0 f) at e in
-        let y : _≡_ {A = ℕ} 0 1 = cc in
-        omega arith
+unfolding converting
+converting-room ed b out m e = wrote (conversionRefusal ed b) (converted ed b) out (converting ed b out .bytes) m (sym e, refl) .room

@@ -7,6 +7,8 @@ pub mod AppendedParts
 pub mod Appending
 pub mod Outcomes
 pub mod Unchanged
+pub mod Numbers
+pub mod Written
 pub mod RecordLaws
 pub mod LayOuts
 pub mod Converting
@@ -14,3 +16,7 @@ pub mod NoBytes
 pub mod Retired
 pub mod Vectors
 pub mod RunLaws
+pub mod Sentences
+pub mod ReadingSentences
+pub mod AppendingSentences
+pub mod ConversionSentences

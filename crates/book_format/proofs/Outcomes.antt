@@ -3,18 +3,20 @@
 -- Assumes nothing.
 use mathlib.Core.Path.{_≡_, refl, sym, ap, _∙_}
 use mathlib.Core.Bool.{Bool, true, false, not}
-use mathlib.Core.List.{List, [], _∷_}
-use Prim.Native.Nat.{ℕ, _+_, _≤_, _<_}
+use mathlib.Core.List.{List, [], _∷_, _++_}
+use Prim.Native.Nat.{ℕ, zero, suc, _+_, _≤_, _<_}
 use native.Mathlib.Decide.{ℕ-discrete}
 use native.Mathlib.Omega.{arith}
 use lib.Dec.{eqb}
 use lib.ListN.{length, getD}
 use borrow.Author.Tests.{eq-eqb}
 use Rattle.coxeter.specs.Kinds.{pick, kindOf, lanes}
-use Rattle.coxeter.specs.Checks.{check, _then_, wrongKind, tooLong, wrongLetter, wordRefusal}
+use Rattle.coxeter.specs.Checks.{check, _then_, wrongKind, tooLong, wrongLetter, tooShort, wordRefusal}
+use Rattle.coxeter.specs.Calls.{answerOf, writes}
 use Rattle.book_format.specs.declared.Edition.{Edition}
 use Rattle.book_format.specs.declared.Edition.the-variants.{First, Second}
-use Rattle.book_format.specs.Books.{firstOf, wrongSize, wrongCount, misplaced, noSuchPreset, tooLarge, retired, offset, kindAt, rankAt, lettersAt, wrongRankInBook, wrongLaneCount, bookRankRefusal, bookRefusal, recordRefusal, presetRefusal, appended, appendRefusal}
+use Rattle.book_format.specs.Books.{firstOf, count, wrongSize, wrongCount, misplaced, noSuchPreset, tooLarge, retired, offset, kindAt, rankAt, lettersAt, wrongRankInBook, wrongLaneCount, bookRankRefusal, bookRefusal, recordRefusal, presetRefusal, appended, appendRefusal}
+use Rattle.book_format.specs.Conversion.{converted, tooManyLanes, recordConversionRefusal, recordsConversionRefusal, conversionRefusal, converting, recordTests, recordsTests}
 use Rattle.coxeter.proofs.Basics.{by-pick}
 use Rattle.coxeter.proofs.Refusals.{then-none, then-some, then-assoc}
 
@@ -109,6 +111,82 @@ appendRefusal-firstOf ed b k n u =
     ∙ ap (λ r. pick (wrongKind k) 5 (pick (wrongRankInBook ed (kindOf k) n) 6 r))
     (word-then n u (check 21 (retired k n) then check 13 (tooLarge (length (appended ed b k n u))))
     ∙ ap (λ r. pick (tooLong u) 7 (pick (wrongLetter n u) 8 r)) (check-then 21 (retired k n) _ (omega arith))))
+
+-- ---- converting
+
+-- a record's tests, and then others
+record-then : (ed : Edition) (b : List ℕ) (i : ℕ) (fs : List (ℕ × Bool))
+    → (recordConversionRefusal ed b (offset b i) then firstOf fs) ≡ firstOf (recordTests ed b i ++ fs)
+unfolding recordConversionRefusal recordRefusal
+record-then ed b i fs =
+    let o = offset b i in
+    let k = kindAt b o in
+    let n = rankAt b o in
+    let u = lettersAt ed b o in
+    let rank = bookRankRefusal ed k n in
+    let lane = check 17 (wrongLaneCount ed b o) in
+    let word = wordRefusal n u in
+    let few = check 18 (tooManyLanes ed b o) in
+    let rest = few then firstOf fs in
+    then-assoc (rank then (lane then word)) few (firstOf fs)
+    ∙ then-assoc rank (lane then word) rest
+    ∙ rank-then ed k n ((lane then word) then rest)
+    ∙ ap (λ r. pick (wrongKind k) 5 (pick (wrongRankInBook ed (kindOf k) n) 6 r))
+    (then-assoc lane word rest
+    ∙ check-then 17 (wrongLaneCount ed b o) (word then rest) (omega arith)
+    ∙ ap (pick (wrongLaneCount ed b o) 17)
+    (word-then n u rest ∙ ap (λ r. pick (tooLong u) 7 (pick (wrongLetter n u) 8 r)) (check-then 18 (tooManyLanes ed b o) (firstOf fs) (omega arith))))
+
+-- the refusal of a record in a conversion
+pub recordConversionRefusal-firstOf : (ed : Edition) (b : List ℕ) (i : ℕ) → recordConversionRefusal ed b (offset b i) ≡ firstOf (recordTests ed b i)
+recordConversionRefusal-firstOf ed b i = sym (none-last (recordConversionRefusal ed b (offset b i))) ∙ record-then ed b i []
+
+records-then : (ed : Edition) (b : List ℕ) (t i : ℕ) (fs : List (ℕ × Bool))
+    → (recordsConversionRefusal ed b t i then firstOf fs) ≡ firstOf (recordsTests ed b t i ++ fs)
+unfolding recordsConversionRefusal recordsTests
+records-then ed b zero i fs = refl
+records-then ed b (suc t) i fs =
+    then-assoc (recordConversionRefusal ed b (offset b i)) (recordsConversionRefusal ed b t (suc i)) (firstOf fs)
+    ∙ ap (λ r. recordConversionRefusal ed b (offset b i) then r) (records-then ed b t (suc i) fs)
+    ∙ record-then ed b i (recordsTests ed b t (suc i) ++ fs)
+
+pub conversionRefusal-firstOf : (ed : Edition) (b : List ℕ)
+    → conversionRefusal ed b
+    ≡ firstOf
+    ((1, wrongSize b)
+    ∷ (2, wrongCount b)
+    ∷ (3, misplaced ed b)
+    ∷ (recordsTests ed b (count b) 0 ++ ((13, tooLarge (length (converted ed b))) ∷ [])))
+unfolding conversionRefusal
+conversionRefusal-firstOf ed b =
+    let large : List (ℕ × Bool) = (13, tooLarge (length (converted ed b))) ∷ [] in
+    bookRefusal-then ed b (recordsConversionRefusal ed b (count b) 0 then firstOf large)
+    ∙ ap (λ r. pick (wrongSize b) 1 (pick (wrongCount b) 2 (pick (misplaced ed b) 3 r))) (records-then ed b (count b) 0 large)
+
+-- and check 14 of its output after them
+pub converting-firstOf : (ed : Edition) (b out : List ℕ)
+    → converting ed b out .answer
+    ≡ answerOf
+    (firstOf
+    ((1, wrongSize b)
+    ∷ (2, wrongCount b)
+    ∷ (3, misplaced ed b)
+    ∷ (recordsTests ed b (count b) 0 ++ ((13, tooLarge (length (converted ed b))) ∷ (14, tooShort (length (converted ed b)) out) ∷ []))))
+    (length (converted ed b))
+unfolding converting writes conversionRefusal
+converting-firstOf ed b out =
+    let l = length (converted ed b) in
+    let records = recordsConversionRefusal ed b (count b) 0 in
+    let large = check 13 (tooLarge l) in
+    let short = check 14 (tooShort l out) in
+    let both : List (ℕ × Bool) = (13, tooLarge l) ∷ (14, tooShort l out) ∷ [] in
+    ap (λ r. answerOf r l)
+    (then-assoc (bookRefusal ed b) (records then large) short
+    ∙ bookRefusal-then ed b ((records then large) then short)
+    ∙ ap (λ r. pick (wrongSize b) 1 (pick (wrongCount b) 2 (pick (misplaced ed b) 3 r)))
+    (then-assoc records large short
+    ∙ ap (λ r. records then r) (check-then 13 (tooLarge l) short (omega arith))
+    ∙ records-then ed b (count b) 0 both))
 
 -- ---- their ranges
 

@@ -22,15 +22,15 @@ unfolding retired
 retired-exactly k n =
     (λ h. let t = and-eq-true-iff (eqb k 1) (eqb n 1) .0 h in (eqb-true k 1 (t .0), eqb-true n 1 (t .1)), λ p. rw (eq-eqb k 1 (p .0), eq-eqb n 1 (p .1)))
 
--- the calls on words and windows
+-- the calls on words and windows, and the records of a book
 pub rank-1-taken : rankRefusal 1 1 ≡ 0
 unfolding rankRefusal wrongKind wrongRank kindOf
 rank-1-taken = refl
 
-inBook : (ed : Edition) → bookRankRefusal ed 1 1 ≡ 0
+pub rank-1-in-book : (ed : Edition) → bookRankRefusal ed 1 1 ≡ 0
 unfolding bookRankRefusal wrongKind wrongRankInBook kindOf
-inBook First = refl
-inBook Second = refl
+rank-1-in-book First = refl
+rank-1-in-book Second = refl
 
 few-lanes : (ed : Edition) (b : List ℕ) (o : ℕ) → lanesAt ed b o ≡ 2 → tooManyLanes ed b o ≡ false
 unfolding tooManyLanes
@@ -42,7 +42,7 @@ module _ (ed : Edition) (b : List ℕ) (o : ℕ) (u : List ℕ) (k : kindAt b o 
     (w : wordRefusal 1 u ≡ 0) where
   pub retired-read : recordRefusal ed b o ≡ 0
   unfolding kindOf
-  retired-read = recordRefusal-of ed b o 1 1 u k n m l ∙ rw (inBook ed, w)
+  retired-read = recordRefusal-of ed b o 1 1 u k n m l ∙ rw (rank-1-in-book ed, w)
 
   pub retired-converted : recordConversionRefusal ed b o ≡ 0
   unfolding recordConversionRefusal

@@ -78,12 +78,12 @@ presetFrom r k n s l = presetOf (r % 256) (k % 256) (n % 256) s l
 unfoldable pub appending : Edition → List ℕ → ℕ → ℕ → List ℕ → List ℕ → Outcome ℕ
 appending ed b k n u out = writes (appendRefusal ed b k n u) (appended ed b k n u) out
 
--- the book that appending the preset k, n, u to b makes: it passes checks 1 to 3, has one preset more, its last preset and its letters are those
--- appended, and those before read as in b
-pub record Grown (ed : Edition) (b : List ℕ) (k n : ℕ) (u : List ℕ) : Type 0 where
-  pub unrefused : bookRefusal ed (appended ed b k n u) ≡ 0
-  pub onePresetMore : count (appended ed b k n u) ≡ count b + 1
-  pub lastPreset : checkedPreset ed (appended ed b k n u) (count b) ≡ presetOf (bookRankRefusal ed k n then wordRefusal n u) k n (trailer b + headSize ed) (length u)
-  pub lastLetters : lettersOf ed (appended ed b k n u) (count b) ≡ pick (eqb (bookRankRefusal ed k n then wordRefusal n u) 0) u []
-  pub presetsBefore : (i : ℕ) → i < count b → checkedPreset ed (appended ed b k n u) i ≡ checkedPreset ed b i
-  pub lettersBefore : (i : ℕ) → i < count b → lettersOf ed (appended ed b k n u) i ≡ lettersOf ed b i
+-- the book d is b with the preset k, n, u appended: it passes checks 1 to 3, has one preset more, its last preset and its letters are those appended,
+-- and those before read as in b
+pub record Grown (ed : Edition) (b : List ℕ) (k n : ℕ) (u d : List ℕ) : Type 0 where
+  pub unrefused : bookRefusal ed d ≡ 0
+  pub onePresetMore : count d ≡ count b + 1
+  pub lastPreset : checkedPreset ed d (count b) ≡ presetOf (bookRankRefusal ed k n then wordRefusal n u) k n (trailer b + headSize ed) (length u)
+  pub lastLetters : lettersOf ed d (count b) ≡ pick (eqb (bookRankRefusal ed k n then wordRefusal n u) 0) u []
+  pub presetsBefore : (i : ℕ) → i < count b → checkedPreset ed d i ≡ checkedPreset ed b i
+  pub lettersBefore : (i : ℕ) → i < count b → lettersOf ed d i ≡ lettersOf ed b i

@@ -2,17 +2,17 @@
 -- every input, and what holds of a converted book.
 use mathlib.Core.Path.{_≡_}
 use mathlib.Core.Bool.{Bool, false}
-use mathlib.Core.List.{List, []}
+use mathlib.Core.List.{List, [], _∷_, _++_}
 use Prim.Native.Nat.{ℕ, zero, suc, _<_}
 use lib.Dec.{eqb, ltb}
 use lib.ListN.{length}
-use Rattle.coxeter.specs.Kinds.{pick}
-use Rattle.coxeter.specs.Checks.{check, _then_}
+use Rattle.coxeter.specs.Kinds.{pick, kindOf}
+use Rattle.coxeter.specs.Checks.{check, _then_, wrongKind, tooLong, wrongLetter}
 use Rattle.coxeter.specs.Calls.{Outcome, writes}
 use Rattle.book_format.specs.declared.Edition.{Edition}
 use Rattle.book_format.specs.declared.Edition.the-variants.{First, Second}
 use Rattle.book_format.specs.declared.Preset.the-variants as preset
-use Rattle.book_format.specs.Books.{count, offset, lanesAt, tooLarge, bookRefusal, recordRefusal}
+use Rattle.book_format.specs.Books.{count, offset, kindAt, rankAt, lanesAt, lettersAt, wrongRankInBook, wrongLaneCount, tooLarge, bookRefusal, recordRefusal}
 use Rattle.book_format.specs.Records.{layOut, recordsOf}
 use Rattle.book_format.specs.Calls.{checkedPreset, lettersOf}
 
@@ -48,6 +48,22 @@ conversionRefusal ed b = bookRefusal ed b then recordsConversionRefusal ed b (co
 unfoldable pub converting : Edition → List ℕ → List ℕ → Outcome ℕ
 converting ed b out = writes (conversionRefusal ed b) (converted ed b) out
 
+-- the tests of record i with their numbers, "in order", and those of the t records from record i on
+abbrev pub recordTests : Edition → List ℕ → ℕ → List (ℕ × Bool)
+recordTests ed b i =
+    let o = offset b i in
+    (5, wrongKind (kindAt b o))
+    ∷ (6, wrongRankInBook ed (kindOf (kindAt b o)) (rankAt b o))
+    ∷ (17, wrongLaneCount ed b o)
+    ∷ (7, tooLong (lettersAt ed b o))
+    ∷ (8, wrongLetter (rankAt b o) (lettersAt ed b o))
+    ∷ (18, tooManyLanes ed b o)
+    ∷ []
+
+unfoldable pub recordsTests : Edition → List ℕ → ℕ → ℕ → List (ℕ × Bool)
+recordsTests ed b zero i = []
+recordsTests ed b (suc t) i = recordTests ed b i ++ recordsTests ed b t (suc i)
+
 -- preset i of two books, each of its edition, is found in both: the same kind, rank and letter count
 pub record SamePreset (ed ed′ : Edition) (b b′ : List ℕ) (i : ℕ) : Type 0 where
   pub kind : ℕ
@@ -60,8 +76,8 @@ pub record SamePreset (ed ed′ : Edition) (b b′ : List ℕ) (i : ℕ) : Type 
   -- and the same letters
   pub letters : lettersOf ed b i ≡ lettersOf ed′ b′ i
 
--- the book b of the edition ed and what converting makes of it: it passes checks 1 to 3 of the other edition and has as many presets, each the same
-pub record Converted (ed : Edition) (b : List ℕ) : Type 0 where
-  pub unrefused : bookRefusal (other ed) (converted ed b) ≡ 0
-  pub asMany : count (converted ed b) ≡ count b
-  pub presets : (i : ℕ) → i < count b → SamePreset ed (other ed) b (converted ed b) i
+-- the book b of the edition ed turned into d: that passes checks 1 to 3 of the other edition and has as many presets, each the same
+pub record Converted (ed : Edition) (b d : List ℕ) : Type 0 where
+  pub unrefused : bookRefusal (other ed) d ≡ 0
+  pub asMany : count d ≡ count b
+  pub presets : (i : ℕ) → i < count b → SamePreset ed (other ed) b d i

@@ -4,3 +4,4 @@ pub mod Pieces
 pub mod Room
 pub mod Runs
 pub mod Examples
+pub mod Sentences

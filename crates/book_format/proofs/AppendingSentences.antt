@@ -1,0 +1,133 @@
+-- Document 02's sentences on refused appending in plain terms: which preset is refused with which number, and exactly when. A refused call leaves its
+-- output as it was lent.
+-- Not here: what an accepted call leaves (Sentences).
+-- Assumes nothing.
+use mathlib.Core.Path.{_≡_, refl, sym, ap, _∙_}
+use mathlib.Core.Bool.{Bool, true, true≢false}
+use mathlib.Core.Logic.{_⊎_, _↔_}
+use mathlib.Core.List.{List, [], _∷_, _++_}
+use Prim.Native.Nat.{ℕ, suc, _<_}
+use native.Mathlib.Omega.{arith}
+use lib.ListN.{length}
+use Rattle.coxeter.specs.declared.Answer.{Answer}
+use Rattle.coxeter.specs.declared.Answer.the-variants.{Length, Refused}
+use Rattle.coxeter.specs.Kinds.{kindOf}
+use Rattle.coxeter.specs.Checks.{check, _then_, wrongKind, tooLong, wrongLetter, tooShort, wordRefusal}
+use Rattle.coxeter.specs.Calls.{Yields, writes}
+use Rattle.coxeter.proofs.Refusals.{then-zero, check-zero}
+use Rattle.book_format.specs.declared.Edition.{Edition}
+use Rattle.book_format.specs.declared.Edition.the-variants.{First}
+use Rattle.book_format.specs.Books.{firstOf, wrongSize, wrongCount, misplaced, wrongRankInBook, tooLarge, retired, bookRankRefusal, bookRefusal, appended, appendRefusal}
+use Rattle.book_format.specs.Calls.{appending}
+use Rattle.book_format.proofs.WritingLaws.{appendRefusal-rank, appendRefusal-retired}
+use Rattle.book_format.proofs.Numbers.{then-late, then-early, check-other, check-holds, firstOf-then, answerOf-refused, rank-other, word-other}
+use Rattle.book_format.proofs.Outcomes.{appendRefusal-firstOf, bookRefusal-le}
+use Rattle.book_format.proofs.Unchanged.{appending-unchanged}
+use Rattle.book_format.proofs.Retired.{retired-exactly, rank-1-in-book}
+use Rattle.book_format.proofs.Sentences.{append-answers}
+use Rattle.book_format.proofs.ReadingSentences.{rank-above}
+
+module _ (ed : Edition) (b : List ℕ) (k n : ℕ) (u before after : List ℕ) (a : Answer) (c : Yields (appending ed b k n u before) a after) where
+  append-refusal : (r : ℕ) → (a ≡ Refused r) ↔ (((appendRefusal ed b k n u then check 14 (tooShort (length (appended ed b k n u)) before)) ≡ r) × (r ≡ 0 → ⊥))
+  unfolding appending writes
+  append-refusal r =
+      let s = appendRefusal ed b k n u then check 14 (tooShort (length (appended ed b k n u)) before) in
+      let q = answerOf-refused s (length (appended ed b k n u)) r in
+      (λ e. q .0 (sym (c .0) ∙ e), λ p. c .0 ∙ q .1 p)
+
+  -- the number of the first test that holds, 21 "after refusal 8"
+  pub append-refused : (r : ℕ)
+      → (a ≡ Refused r)
+      ↔ ((firstOf
+      ((1, wrongSize b)
+      ∷ (2, wrongCount b)
+      ∷ (3, misplaced ed b)
+      ∷ (5, wrongKind k)
+      ∷ (6, wrongRankInBook ed (kindOf k) n)
+      ∷ (7, tooLong u)
+      ∷ (8, wrongLetter n u)
+      ∷ (21, retired k n)
+      ∷ (13, tooLarge (length (appended ed b k n u)))
+      ∷ (14, tooShort (length (appended ed b k n u)) before)
+      ∷ [])
+      ≡ r)
+      × (r ≡ 0 → ⊥))
+  append-refused r = rw (← all) (append-refusal r)
+    where
+      size : ℕ
+      size = length (appended ed b k n u)
+
+      tests : List (ℕ × Bool)
+      tests =
+          (1, wrongSize b)
+          ∷ (2, wrongCount b)
+          ∷ (3, misplaced ed b)
+          ∷ (5, wrongKind k)
+          ∷ (6, wrongRankInBook ed (kindOf k) n)
+          ∷ (7, tooLong u)
+          ∷ (8, wrongLetter n u)
+          ∷ (21, retired k n)
+          ∷ (13, tooLarge size)
+          ∷ []
+
+      none : (m : ℕ) → suc m ≡ 0 → ⊥
+      none m e = omega arith
+
+      all : (appendRefusal ed b k n u then check 14 (tooShort size before)) ≡ firstOf (tests ++ ((14, tooShort size before) ∷ []))
+      all =
+          ap (λ q. q then check 14 (tooShort size before)) (appendRefusal-firstOf ed b k n u)
+          ∙ firstOf-then tests 14 (tooShort size before) (none 0, (none 1, (none 2, (none 4, (none 5, (none 6, (none 7, (none 20, (none 12, tt)))))))))
+
+  -- "a refused call changes no lent byte"
+  pub append-refused-unchanged : (r : ℕ) → a ≡ Refused r → after ≡ before
+  append-refused-unchanged r e = c .1 ∙ appending-unchanged ed b k n u before r (sym (c .0) ∙ e)
+
+  append-parts-21 : appendRefusal ed b k n u ≡ 21 → (bookRefusal ed b ≡ 0) × (wordRefusal n u ≡ 0) × (retired k n ≡ true)
+  unfolding appendRefusal
+  append-parts-21 e =
+      let rank = bookRankRefusal ed k n in
+      let word = wordRefusal n u in
+      let own = check 21 (retired k n) in
+      let size = check 13 (tooLarge (length (appended ed b k n u))) in
+      let p = then-late (bookRefusal ed b) (rank then (word then (own then size))) 21 (λ z. omega (arith, bookRefusal-le ed b)) e in
+      let q = then-late rank (word then (own then size)) 21 (rank-other ed k n 21 (omega arith)) (p .1) in
+      let s = then-late word (own then size) 21 (word-other n u 21 (omega arith)) (q .1) in
+      let t = then-early own size 21 (check-other 13 21 (tooLarge (length (appended ed b k n u))) (λ z. omega arith) (λ z. omega arith)) (s .1) in
+      (p .0, s .0, check-holds 21 (retired k n) (λ z. omega arith) t)
+
+  -- "21 when a preset of kind A and rank 1 is appended, checked after refusal 8": exactly then. Checks 5 and 6 accept this kind and rank
+  pub refused-21-exactly : (a ≡ Refused 21) ↔ ((bookRefusal ed b ≡ 0) × (wordRefusal n u ≡ 0) × (k ≡ 1) × (n ≡ 1))
+  refused-21-exactly = (
+    λ e.
+        let l = length (appended ed b k n u) in
+        let short = check-other 14 21 (tooShort l before) (λ z. omega arith) (λ z. omega arith) in
+        let p = append-parts-21 (then-early (appendRefusal ed b k n u) (check 14 (tooShort l before)) 21 short (append-refusal 21 .0 e .0)) in
+        let q = retired-exactly k n .0 (p .2) in
+        (p .0, p .1, q .0, q .1),
+    λ p.
+        let rank : bookRankRefusal ed k n ≡ 0 = rw (p .2, p .3) (rank-1-in-book ed) in
+        let r = appendRefusal-retired ed b k n u 0 (sym (p .0)) 0 refl (sym rank) 0 refl (sym (p .1)) refl true (sym (retired-exactly k n .1 (p .2, p .3))) refl in
+        append-refusal 21 .1 (rw r, λ z. omega arith),
+  )
+
+-- "Such presets can no longer be appended.": no book, word or output, in either edition
+pub never-appended : (ed : Edition) (b u before after : List ℕ) (l : ℕ) → Yields (appending ed b 1 1 u before) (Length l) after → ⊥
+unfolding appendRefusal
+never-appended ed b u before after l c =
+    let rank = bookRankRefusal ed 1 1 in
+    let word = wordRefusal 1 u in
+    let own = check 21 (retired 1 1) in
+    let size = check 13 (tooLarge (length (appended ed b 1 1 u))) in
+    let p = then-zero (bookRefusal ed b) (rank then (word then (own then size))) (append-answers ed b 1 1 u before after (Length l) c l .0 refl .0) in
+    let q = then-zero rank (word then (own then size)) (p .1) in
+    let s = then-zero word (own then size) (q .1) in
+    let t = check-zero 20 (retired 1 1) (then-zero own size (s .1) .0) in
+    true≢false (sym (retired-exactly 1 1 .1 (refl, refl)) ∙ t)
+
+-- "a record with a higher rank, .. appended, is still refused 6"
+pub above-range-appended : (b : List ℕ) (k n : ℕ) (u before after : List ℕ) (a : Answer) → Yields (appending First b k n u before) a after
+    → bookRefusal First b ≡ 0 → (((k ≡ 1) × (31 < n)) ⊎ (((k ≡ 2) ⊎ (k ≡ 3)) × (32 < n))) → (a ≡ Refused 6) × (after ≡ before)
+above-range-appended b k n u before after a c z g =
+    let r = appendRefusal-rank First b k n u 0 (sym z) 6 refl (sym (rank-above k n g)) (λ e. omega arith) in
+    let e = append-refusal First b k n u before after a c 6 .1 (rw r, λ y. omega arith) in
+    (e, append-refused-unchanged First b k n u before after a c 6 e)

@@ -1,0 +1,204 @@
+-- Document 02's sentences on refused conversions in plain terms: "Each record passes its checks in order, and the first refusal stops the conversion
+-- with nothing written."
+-- Not here: what an accepted conversion leaves (Sentences).
+--
+-- Sections: the records; converting; refusals 17 and 18.
+-- Assumes nothing.
+use mathlib.Core.Path.{_≡_, refl, sym, ap, _∙_}
+use mathlib.Core.Bool.{true, true≢false}
+use mathlib.Core.Logic.{_↔_}
+use mathlib.Core.List.{List, [], _∷_, _++_}
+use Prim.Native.Nat.{ℕ, zero, suc, _+_, _<_}
+use native.Mathlib.Decide.{ℕ-discrete}
+use native.Mathlib.Nat.{add-zero, zero-add, add-suc, suc-add}
+use native.Mathlib.Omega.{arith}
+use lib.ListN.{length, getD}
+use borrow.Author.Tests.{lt-ltb, ltb-true}
+use Rattle.coxeter.specs.declared.Answer.{Answer}
+use Rattle.coxeter.specs.declared.Answer.the-variants.{Refused}
+use Rattle.coxeter.specs.Checks.{check, _then_, tooShort, wordRefusal}
+use Rattle.coxeter.specs.Calls.{Yields, writes}
+use Rattle.coxeter.proofs.Refusals.{then-none, then-some}
+use Rattle.book_format.specs.declared.Edition.{Edition}
+use Rattle.book_format.specs.declared.Edition.the-variants.{First, Second}
+use Rattle.book_format.specs.Books.{firstOf, count, offset, kindAt, rankAt, lettersAt, wrongSize, wrongCount, misplaced, wrongLaneCount, tooLarge, bookRankRefusal, bookRefusal, recordRefusal}
+use Rattle.book_format.specs.Conversion.{converted, tooManyLanes, recordConversionRefusal, recordsConversionRefusal, conversionRefusal, converting, recordTests, recordsTests}
+use Rattle.book_format.proofs.Numbers.{then-late, then-early, check-other, check-holds, answerOf-refused, rank-other, word-other}
+use Rattle.book_format.proofs.Outcomes.{recordConversionRefusal-firstOf, converting-firstOf, bookRefusal-le, first-lane-count}
+use Rattle.book_format.proofs.Unchanged.{converting-unchanged}
+use Rattle.book_format.proofs.Converting.{conversion-too-large}
+use Rattle.book_format.proofs.ReadingSentences.{record-17}
+
+-- ---- the records
+
+module _ (ed : Edition) (b : List ℕ) where
+  -- the refusal of record i
+  abbrev at-record : ℕ → ℕ
+  at-record i = recordConversionRefusal ed b (offset b i)
+
+  passes-next : (i j : ℕ) → ((x : ℕ) → x < suc j → at-record (i + x) ≡ 0) → (x : ℕ) → x < j → at-record (suc i + x) ≡ 0
+  passes-next i j p x h = rw (suc-add i x, ← add-suc i x) (p (suc x) (omega arith))
+
+  passes-all : (i j : ℕ) → at-record i ≡ 0 → ((x : ℕ) → x < j → at-record (suc i + x) ≡ 0) → (x : ℕ) → x < suc j → at-record (i + x) ≡ 0
+  passes-all i j z p zero h = rw (add-zero i) z
+  passes-all i j z p (suc x) h = rw (add-suc i x, ← suc-add i x) (p x (omega arith))
+
+  -- the first record that is refused stops the walk, and where none is it ends
+  records-stop : (t i j r : ℕ) → j < t → ((x : ℕ) → x < j → at-record (i + x) ≡ 0) → at-record (i + j) ≡ r → (r ≡ 0 → ⊥)
+      → recordsConversionRefusal ed b t i ≡ r
+  unfolding recordsConversionRefusal
+  records-stop zero i j r h p e f = absurd (omega arith)
+  records-stop (suc t) i zero r h p e f =
+      ap (λ q. q then recordsConversionRefusal ed b t (suc i)) (rw (add-zero i) at e) ∙ then-some r (recordsConversionRefusal ed b t (suc i)) f
+  records-stop (suc t) i (suc j) r h p e f =
+      then-none (at-record i) (recordsConversionRefusal ed b t (suc i)) (rw (add-zero i) at (p 0 (omega arith)))
+      ∙ records-stop t (suc i) j r (omega arith) (passes-next i j p) (rw (add-suc i j, ← suc-add i j) at e) f
+
+  records-pass : (t i : ℕ) → ((x : ℕ) → x < t → at-record (i + x) ≡ 0) → recordsConversionRefusal ed b t i ≡ 0
+  unfolding recordsConversionRefusal
+  records-pass zero i p = refl
+  records-pass (suc t) i p =
+      then-none (at-record i) (recordsConversionRefusal ed b t (suc i)) (rw (add-zero i) at (p 0 (omega arith))) ∙ records-pass t (suc i) (passes-next i t p)
+
+  -- a refusal is that of a record whose predecessors pass
+  records-refused : (t i r : ℕ) → recordsConversionRefusal ed b t i ≡ r → (r ≡ 0 → ⊥)
+      → (j : ℕ) × (j < t) × ((x : ℕ) → x < j → at-record (i + x) ≡ 0) × (at-record (i + j) ≡ r)
+  unfolding recordsConversionRefusal
+  records-refused zero i r e f = absurd (f (sym e))
+  records-refused (suc t) i r e f = elim (ℕ-discrete (at-record i) 0) [
+    | yes z ↦
+        let q = records-refused t (suc i) r (sym (then-none (at-record i) (recordsConversionRefusal ed b t (suc i)) z) ∙ e) f in
+        (suc (q .0), omega (arith, q .1), passes-all i (q .0) z (q .2), rw (add-suc i (q .0), ← suc-add i (q .0)) (q .3))
+    | no g ↦ (zero, omega arith, λ x h. absurd (omega arith), rw (add-zero i) (sym (then-some (at-record i) (recordsConversionRefusal ed b t (suc i)) g) ∙ e))
+  ]
+
+  passes-tests : (j : ℕ) → ((i : ℕ) → i < j → firstOf (recordTests ed b i) ≡ 0) → (x : ℕ) → x < j → at-record (0 + x) ≡ 0
+  passes-tests j p x h = rw (zero-add x) (recordConversionRefusal-firstOf ed b x ∙ p x h)
+
+-- ---- converting
+
+module _ (ed : Edition) (b before after : List ℕ) (a : Answer) (c : Yields (converting ed b before) a after) where
+  -- the number of the first test that holds: of the book, of each record in order, of the new book's size, of the output
+  pub convert-refused : (r : ℕ)
+      → (a ≡ Refused r)
+      ↔ ((firstOf
+      ((1, wrongSize b)
+      ∷ (2, wrongCount b)
+      ∷ (3, misplaced ed b)
+      ∷ (recordsTests ed b (count b) 0 ++ ((13, tooLarge (length (converted ed b))) ∷ (14, tooShort (length (converted ed b)) before) ∷ [])))
+      ≡ r)
+      × (r ≡ 0 → ⊥))
+  convert-refused r =
+      let q = answerOf-refused _ (length (converted ed b)) r in
+      let e = c .0 ∙ converting-firstOf ed b before in
+      (λ s. q .0 (sym e ∙ s), λ p. e ∙ q .1 p)
+
+  -- "with nothing written"
+  pub convert-refused-unchanged : (r : ℕ) → a ≡ Refused r → after ≡ before
+  convert-refused-unchanged r e = c .1 ∙ converting-unchanged ed b before r (sym (c .0) ∙ e)
+
+  convert-refusal : (r : ℕ) → (a ≡ Refused r) ↔ (((conversionRefusal ed b then check 14 (tooShort (length (converted ed b)) before)) ≡ r) × (r ≡ 0 → ⊥))
+  unfolding converting writes
+  convert-refusal r =
+      let s = conversionRefusal ed b then check 14 (tooShort (length (converted ed b)) before) in
+      let q = answerOf-refused s (length (converted ed b)) r in
+      (λ e. q .0 (sym (c .0) ∙ e), λ p. c .0 ∙ q .1 p)
+
+  refused-with : (r : ℕ) → conversionRefusal ed b ≡ r → (r ≡ 0 → ⊥) → (a ≡ Refused r) × (after ≡ before)
+  refused-with r e f =
+      let s = check 14 (tooShort (length (converted ed b)) before) in
+      let q = convert-refusal r .1 (ap (λ x. x then s) e ∙ then-some r s f, f) in
+      (q, convert-refused-unchanged r q)
+
+  -- "the first refusal stops the conversion": record j, where the book opens and each record before it passes
+  pub convert-stops : (j r : ℕ) → bookRefusal ed b ≡ 0 → j < count b → ((i : ℕ) → i < j → firstOf (recordTests ed b i) ≡ 0)
+      → firstOf (recordTests ed b j) ≡ r → (r ≡ 0 → ⊥) → (a ≡ Refused r) × (after ≡ before)
+  unfolding conversionRefusal
+  convert-stops j r z h p e f =
+      let size = check 13 (tooLarge (length (converted ed b))) in
+      let own : at-record ed b (0 + j) ≡ r = rw (zero-add j) (recordConversionRefusal-firstOf ed b j ∙ e) in
+      let s = records-stop ed b (count b) 0 j r h (passes-tests ed b j p) own f in
+      refused-with r (then-none (bookRefusal ed b) (recordsConversionRefusal ed b (count b) 0 then size) z ∙ ap (λ x. x then size) s ∙ then-some r size f) f
+
+  -- "The size limit of refusal 13 holds for the new book."
+  pub convert-too-large : bookRefusal ed b ≡ 0 → ((i : ℕ) → i < count b → firstOf (recordTests ed b i) ≡ 0) → 65535 < length (converted ed b)
+      → (a ≡ Refused 13) × (after ≡ before)
+  convert-too-large z p h = refused-with 13 (conversion-too-large ed b z (records-pass ed b (count b) 0 (passes-tests ed b (count b) p)) h) (λ e. omega arith)
+
+  -- a number above 14 is that of a record
+  from-record : (r : ℕ) → 14 < r → a ≡ Refused r
+      → (bookRefusal ed b ≡ 0) × ((j : ℕ) × (j < count b) × ((i : ℕ) → i < j → firstOf (recordTests ed b i) ≡ 0) × (at-record ed b j ≡ r))
+  unfolding conversionRefusal
+  from-record r g e =
+      let l = length (converted ed b) in
+      let records = recordsConversionRefusal ed b (count b) 0 in
+      let size = check 13 (tooLarge l) in
+      let short = check 14 (tooShort l before) in
+      let fourteen = check-other 14 r (tooShort l before) (λ z. omega arith) (λ z. omega arith) in
+      let thirteen = check-other 13 r (tooLarge l) (λ z. omega arith) (λ z. omega arith) in
+      let whole = then-early (conversionRefusal ed b) short r fourteen (convert-refusal r .0 e .0) in
+      let p = then-late (bookRefusal ed b) (records then size) r (λ z. omega (arith, bookRefusal-le ed b)) whole in
+      let q = records-refused ed b (count b) 0 r (then-early records size r thirteen (p .1)) (λ z. omega arith) in
+      (p .0, (q .0, q .1, λ i h. sym (recordConversionRefusal-firstOf ed b i) ∙ rw (zero-add i) at (q .2 i h), rw (zero-add (q .0)) at (q .3)))
+
+-- ---- refusals 17 and 18
+
+record-other : (ed : Edition) (b : List ℕ) (o : ℕ) → recordRefusal ed b o ≡ 18 → ⊥
+unfolding recordRefusal
+record-other ed b o e =
+    let rank = bookRankRefusal ed (kindAt b o) (rankAt b o) in
+    let lane = check 17 (wrongLaneCount ed b o) in
+    let word = wordRefusal (rankAt b o) (lettersAt ed b o) in
+    let p = then-late rank (lane then word) 18 (rank-other ed (kindAt b o) (rankAt b o) 18 (omega arith)) e in
+    let q = then-late lane word 18 (check-other 17 18 (wrongLaneCount ed b o) (λ z. omega arith) (λ z. omega arith)) (p .1) in
+    word-other (rankAt b o) (lettersAt ed b o) 18 (omega arith) (q .1)
+
+-- the record at byte o is refused 18
+record-18 : (ed : Edition) (b : List ℕ) (o : ℕ) → (recordConversionRefusal ed b o ≡ 18) ↔ ((recordRefusal ed b o ≡ 0) × (tooManyLanes ed b o ≡ true))
+unfolding recordConversionRefusal
+record-18 ed b o = (
+  λ e.
+      let p = then-late (recordRefusal ed b o) (check 18 (tooManyLanes ed b o)) 18 (record-other ed b o) e in
+      (p .0, check-holds 18 (tooManyLanes ed b o) (λ z. omega arith) (p .1)),
+  λ p. rw (p .0, p .1),
+)
+
+-- "18 when a second-edition record going back has more than 32 lanes, checked after that record's refusal 8": exactly when the book opens, a record
+-- passes its checks 5 to 8 and has more than 32 lanes, and each record before it passes all of its checks
+pub refused-18-exactly : (b before after : List ℕ) (a : Answer) → Yields (converting Second b before) a after
+    → (a ≡ Refused 18)
+    ↔ ((bookRefusal Second b ≡ 0)
+    × ((j : ℕ)
+    × (j < count b)
+    × ((i : ℕ) → i < j → firstOf (recordTests Second b i) ≡ 0)
+    × (recordRefusal Second b (offset b j) ≡ 0)
+    × (32 < getD b (offset b j + 2) 0)))
+unfolding tooManyLanes
+refused-18-exactly b before after a c = (
+  λ e.
+      let p = from-record Second b before after a c 18 (omega arith) e in
+      let j = p .1 .0 in
+      let q = record-18 Second b (offset b j) .0 (p .1 .3) in
+      (p .0, (j, p .1 .1, p .1 .2, q .0, ltb-true 32 (getD b (offset b j + 2) 0) (q .1))),
+  λ p.
+      let j = p .1 .0 in
+      let own = record-18 Second b (offset b j) .1 (p .1 .3, lt-ltb 32 (getD b (offset b j + 2) 0) (p .1 .4)) in
+      convert-stops Second b before after a c j 18 (p .0) (p .1 .1) (p .1 .2) (sym (recordConversionRefusal-firstOf Second b j) ∙ own) (λ z. omega arith) .0,
+)
+
+-- a book of the first edition is never refused 17 or 18
+pub first-edition-converted : (b before after : List ℕ) (a : Answer) → Yields (converting First b before) a after
+    → (a ≡ Refused 17 → ⊥) × (a ≡ Refused 18 → ⊥)
+unfolding recordConversionRefusal tooManyLanes
+first-edition-converted b before after a c = (
+  λ e.
+      let p = from-record First b before after a c 17 (omega arith) e in
+      let o = offset b (p .1 .0) in
+      let few = check-other 18 17 (tooManyLanes First b o) (λ z. omega arith) (λ z. omega arith) in
+      let q = record-17 First b o (then-early (recordRefusal First b o) (check 18 (tooManyLanes First b o)) 17 few (p .1 .3)) in
+      true≢false (sym (q .1) ∙ first-lane-count b o),
+  λ e.
+      let p = from-record First b before after a c 18 (omega arith) e in
+      let q = record-18 First b (offset b (p .1 .0)) .0 (p .1 .3) in
+      true≢false (sym (q .1)),
+)
