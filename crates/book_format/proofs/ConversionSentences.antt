@@ -8,14 +8,14 @@ use mathlib.Core.Path.{_≡_, refl, sym, ap, _∙_}
 use mathlib.Core.Bool.{true, true≢false}
 use mathlib.Core.Logic.{_↔_}
 use mathlib.Core.List.{List, [], _∷_, _++_}
-use Prim.Native.Nat.{ℕ, zero, suc, _+_, _<_}
+use Prim.Native.Nat.{ℕ, zero, suc, _+_, _≤_, _<_}
 use native.Mathlib.Decide.{ℕ-discrete}
 use native.Mathlib.Nat.{add-zero, zero-add, add-suc, suc-add}
 use native.Mathlib.Omega.{arith}
 use lib.ListN.{length, getD}
 use borrow.Author.Tests.{lt-ltb, ltb-true}
 use Rattle.coxeter.specs.declared.Answer.{Answer}
-use Rattle.coxeter.specs.declared.Answer.the-variants.{Refused}
+use Rattle.coxeter.specs.declared.Answer.the-variants.{Length, Refused}
 use Rattle.coxeter.specs.Checks.{check, _then_, tooShort, wordRefusal}
 use Rattle.coxeter.specs.Calls.{Yields, writes}
 use Rattle.coxeter.proofs.Refusals.{then-none, then-some}
@@ -24,9 +24,10 @@ use Rattle.book_format.specs.declared.Edition.the-variants.{First, Secon
 use Rattle.book_format.specs.Books.{firstOf, count, offset, kindAt, rankAt, lettersAt, wrongSize, wrongCount, misplaced, wrongLaneCount, tooLarge, bookRankRefusal, bookRefusal, recordRefusal}
 use Rattle.book_format.specs.Conversion.{converted, tooManyLanes, recordConversionRefusal, recordsConversionRefusal, conversionRefusal, converting, recordTests, recordsTests}
 use Rattle.book_format.proofs.Numbers.{then-late, then-early, check-other, check-holds, answerOf-refused, rank-other, word-other}
-use Rattle.book_format.proofs.Outcomes.{recordConversionRefusal-firstOf, converting-firstOf, bookRefusal-le, first-lane-count}
+use Rattle.book_format.proofs.Outcomes.{recordConversionRefusal-firstOf, conversionRefusal-firstOf, converting-firstOf, bookRefusal-le, first-lane-count}
 use Rattle.book_format.proofs.Unchanged.{converting-unchanged}
 use Rattle.book_format.proofs.Converting.{conversion-too-large}
+use Rattle.book_format.proofs.Sentences.{convert-answers}
 use Rattle.book_format.proofs.ReadingSentences.{record-17}
 
 -- ---- the records
@@ -92,6 +93,19 @@ module _ (ed : Edition) (b before after : List ℕ) (a : Answer) (c : Yields (co
       let q = answerOf-refused _ (length (converted ed b)) r in
       let e = c .0 ∙ converting-firstOf ed b before in
       (λ s. q .0 (sym e ∙ s), λ p. e ∙ q .1 p)
+
+  -- a length is answered exactly where none of them holds
+  pub convert-accepted : (l : ℕ)
+      → (a ≡ Length l)
+      ↔ ((firstOf
+      ((1, wrongSize b)
+      ∷ (2, wrongCount b)
+      ∷ (3, misplaced ed b)
+      ∷ (recordsTests ed b (count b) 0 ++ ((13, tooLarge (length (converted ed b))) ∷ [])))
+      ≡ 0)
+      × (l ≡ length (converted ed b))
+      × (l ≤ length before))
+  convert-accepted l = rw (← conversionRefusal-firstOf ed b) (convert-answers ed b before after a c l)
 
   -- "with nothing written"
   pub convert-refused-unchanged : (r : ℕ) → a ≡ Refused r → after ≡ before

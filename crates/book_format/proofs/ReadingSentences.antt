@@ -13,21 +13,24 @@ use native.Mathlib.Omega.{arith}
 use lib.Dec.{eqb}
 use lib.ListN.{length, getD}
 use borrow.Author.Tests.{eq-eqb, ne-eqb, lt-ltb, le-ltb, leb-false}
+use Rattle.coxeter.specs.declared.Answer.the-variants.{Refused}
 use Rattle.coxeter.specs.Kinds.{A, B, D, pick, kindOf, lanes}
 use Rattle.coxeter.specs.Checks.{check, _then_, wrongKind, tooLong, wrongLetter, rankRefusal, wordRefusal}
+use Rattle.coxeter.specs.Calls.{Yields}
 use Rattle.coxeter.proofs.Refusals.{then-zero, check-zero}
 use Rattle.book_format.specs.declared.Edition.{Edition}
 use Rattle.book_format.specs.declared.Edition.the-variants.{First, Second}
 use Rattle.book_format.specs.declared.Opened.the-variants as opened
 use Rattle.book_format.specs.declared.Preset.the-variants as preset
 use Rattle.book_format.specs.Books.{firstOf, count, offset, headSize, kindAt, rankAt, lanesAt, letterCountAt, lettersAt, wrongSize, wrongCount, misplaced, noSuchPreset, greatestInBook, wrongRankInBook, wrongLaneCount, bookRankRefusal, bookRefusal, recordRefusal, presetRefusal}
-use Rattle.book_format.specs.Calls.{openedOf, presetOf, checkedBook, presetAt, checkedPreset, lettersOf}
+use Rattle.book_format.specs.Calls.{openedOf, presetOf, checkedBook, presetAt, checkedPreset, lettersOf, readingPresets}
 use Rattle.book_format.specs.Conversion.{recordTests}
 use Rattle.book_format.proofs.Numbers.{then-late, then-early, check-other, check-holds, firstOf-never, rank-other, word-other}
 use Rattle.book_format.proofs.RankLaws.{bookRank-within}
 use Rattle.book_format.proofs.PresetLaws.{presetRefusal-record, refused, refused-is, lettersOf-refused}
 use Rattle.book_format.proofs.Appending.{checkedPreset-of, lettersOf-of}
 use Rattle.book_format.proofs.Outcomes.{bookRefusal-firstOf, presetRefusal-firstOf, recordConversionRefusal-firstOf, bookRefusal-le, first-lane-count, second-lane-count}
+use Rattle.book_format.proofs.Unchanged.{readingPresets-unchanged}
 use Rattle.book_format.proofs.NoBytes.{refusal-1-exactly}
 use Rattle.book_format.proofs.Retired.{retired-read, retired-converted, rank-1-taken}
 
@@ -146,6 +149,11 @@ module _ (ed : Edition) (b : List ℕ) (i r : ℕ) where
   -- "for a refused preset they are an empty part of the book"
   pub preset-refused-letters : checkedPreset ed b i ≡ preset.Refused r → lettersOf ed b i ≡ []
   preset-refused-letters e = let p = preset-refusal ed b i r .0 e in sym (lettersOf-refused ed b i (λ z. p .1 (sym (p .0) ∙ z)))
+
+-- a run of presets that is refused leaves its output as it was lent
+pub run-refused-unchanged : (ed : Edition) (b : List ℕ) (i : ℕ) (before after : List ℕ) (r : ℕ) → Yields (readingPresets ed b i before) (Refused r) after
+    → after ≡ before
+run-refused-unchanged ed b i before after r c = c .1 ∙ readingPresets-unchanged ed b i before r (sym (c .0))
 
 -- "Books keep the old ranges for now: a record with a higher rank, read .., is still refused 6."
 pub above-range-read : (b : List ℕ) (i : ℕ) → bookRefusal First b ≡ 0 → i < count b

@@ -9,7 +9,7 @@ use mathlib.Core.Path.{_≡_, refl, sym, ap, _∙_}
 use mathlib.Core.Bool.{Bool, true, false}
 use mathlib.Core.Logic.{_↔_}
 use mathlib.Core.List.{List, [], _∷_, _++_}
-use Prim.Native.Nat.{ℕ, _+_, _≤_, _<_}
+use Prim.Native.Nat.{ℕ, _+_, _-_, _≤_, _<_}
 use native.Mathlib.Decide.{ℕ-discrete}
 use native.Mathlib.Nat.{zero-add}
 use native.Mathlib.Omega.{arith}
@@ -36,7 +36,7 @@ use Rattle.book_format.proofs.Written.{Wrote, wrote, answers-exactly, a
 use Rattle.book_format.proofs.AppendedParts.{offset-appended-last, lanesAt-appended-last}
 use Rattle.book_format.proofs.Appending.{append-grown, append-reads-back}
 use Rattle.book_format.proofs.RecordLaws.{recordsOf-appended}
-use Rattle.book_format.proofs.Converting.{convertible, recordsOf-converted, converted-bytes, convert-converted, convert-back, convert-back-accepted}
+use Rattle.book_format.proofs.Converting.{convertible, recordsOf-converted, converted-bytes, conversion-opens, convert-converted, convert-back, convert-back-accepted, length-converted}
 use Rattle.book_format.proofs.NoBytes.{opening-no-bytes, preset-of-no-bytes, letters-of-no-bytes, run-of-no-bytes, append-to-no-bytes, converting-no-bytes}
 use Rattle.book_format.proofs.Retired.{retired-exactly}
 
@@ -205,6 +205,17 @@ pub convert-answers : (ed : Edition) (b before after : List ℕ) (a : Answer) �
     → (l : ℕ) → (a ≡ Length l) ↔ ((conversionRefusal ed b ≡ 0) × (l ≡ length (converted ed b)) × (l ≤ length before))
 unfolding converting
 convert-answers ed b before after = answers-exactly (conversionRefusal ed b) (converted ed b) before after
+
+-- a record has one byte more in the second edition
+pub convert-length-first : (b before after : List ℕ) (l : ℕ) → Yields (converting First b before) (Length l) after → l ≡ length b + count b
+convert-length-first b before after l c =
+    let w = wrote-converted First b before after l c in
+    w .size ∙ length-converted First b (accepted First b (conversion-opens First b (w .unrefused)))
+
+pub convert-length-second : (b before after : List ℕ) (l : ℕ) → Yields (converting Second b before) (Length l) after → l ≡ length b - count b
+convert-length-second b before after l c =
+    let w = wrote-converted Second b before after l c in
+    w .size ∙ length-converted Second b (accepted Second b (conversion-opens Second b (w .unrefused)))
 
 -- ---- a book of no bytes
 
