@@ -28,7 +28,7 @@ use Rattle.book_format.proofs.RankLaws.{bookRank-accepted, bookRankRefu
 use Rattle.book_format.proofs.BookLaws.{Accepted, accepted, bookSize-some, bookRefusal-bytes, no-bytes, count-bytes, first, trailer-le, endAt-offset-le}
 use Rattle.book_format.proofs.PresetLaws.{presetRefusal-record}
 use Rattle.book_format.proofs.WritingLaws.{length-recordOf}
-use Rattle.book_format.proofs.Written.{wrote}
+use Rattle.coxeter.proofs.Writes.{wrote}
 use Rattle.book_format.proofs.Appending.{walk-end, recordRefusal-of, checkedPreset-of, lettersOf-of}
 use Rattle.book_format.proofs.RecordLaws.{layOut-recordsOf, length-recordsFrom, length-lettersAt, placed-from}
 use Rattle.book_format.proofs.LayOuts.{length-layOut, LanesRight, AllRight, LaidOut, laidOut}

@@ -8,7 +8,6 @@ pub mod Appending
 pub mod Outcomes
 pub mod Unchanged
 pub mod Numbers
-pub mod Written
 pub mod RecordLaws
 pub mod LayOuts
 pub mod Converting

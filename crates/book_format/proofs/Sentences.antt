@@ -32,7 +32,7 @@ use Rattle.book_format.specs.Conversion.{other, converted, conversionRef
 use Rattle.book_format.proofs.BookLaws.{accepted, bookSize, bookSize-none, bookRefusal-bytes, count-bytes, trailer-bytes, no-bytes}
 use Rattle.book_format.proofs.PresetLaws.{checkedBook-presets}
 use Rattle.book_format.proofs.WritingLaws.{length-appended, appendRefusal-none, append-book, append-size}
-use Rattle.book_format.proofs.Written.{Wrote, wrote, answers-exactly, answers-short, answers-length}
+use Rattle.coxeter.proofs.Writes.{Wrote, wrote, answers-exactly, answers-short, answers-length}
 use Rattle.book_format.proofs.AppendedParts.{offset-appended-last, lanesAt-appended-last}
 use Rattle.book_format.proofs.Appending.{append-grown, append-reads-back}
 use Rattle.book_format.proofs.RecordLaws.{recordsOf-appended}

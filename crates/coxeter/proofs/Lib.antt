@@ -32,6 +32,7 @@ pub mod Fronts
 pub mod Unchanged
 pub mod Vectors
 pub mod Theorems
+pub mod Writes
 pub mod Written
 pub mod Room
 pub mod HandedOn

@@ -1,61 +1,30 @@
 -- The length calls beside the calls that write a normal form: both are refused alike but for the room of the output, the length that the one answers
 -- is the number of letters that the other writes, and the three counts add up to it. For every input and every output. By the ways in which a call
--- that writes can end (Written).
+-- that writes can end (Writes).
 --
--- Sections: refusals below 14; a length and what is written; from a word; from a window.
+-- Sections: a length and what is written; from a word; from a window.
 -- Assumes nothing.
 use mathlib.Core.Path.{_≡_, refl, sym, ap, _∙_}
-use mathlib.Core.Bool.{Bool, true, false}
 use mathlib.Core.Logic.{_↔_}
 use mathlib.Core.List.{List}
 use Prim.Native.Nat.{ℕ, _+_, _≤_, _<_}
-use native.Mathlib.Decide.{ℕ-discrete}
 use native.Mathlib.Omega.{arith}
 use lib.IntN.{ℤ}
 use lib.ListN.{length}
 use borrow.Author.Tests.{eq-eqb, ne-eqb}
 use Rattle.coxeter.specs.declared.Answer.the-variants.{Length, Refused}
 use Rattle.coxeter.specs.declared.Counted.the-variants as counted
-use Rattle.coxeter.specs.Kinds.{Kind, kindOf, lanes}
+use Rattle.coxeter.specs.Kinds.{kindOf}
 use Rattle.coxeter.specs.Windows.{window}
 use Rattle.coxeter.specs.Length.{windowLength}
-use Rattle.coxeter.specs.Checks.{check, _then_, wrongKind, wrongRank, tooLong, wrongLetter, wrongLanes, wrongEntry, oddNegatives, rankRefusal, wordRefusal, windowRefusal}
+use Rattle.coxeter.specs.Checks.{_then_, rankRefusal, wordRefusal, windowRefusal}
 use Rattle.coxeter.specs.NormalForm.{normalForm, wordNormalForm}
 use Rattle.coxeter.specs.Calls.{Yields, answerOf, writes, normalFormOfWindow, normalFormOfWord, lengthOfWindow, lengthOfWord, crossingsOfWindow, crossingsOfWord}
-use Rattle.coxeter.proofs.Refusals.{then-zero, then-none, then-some}
+use Rattle.coxeter.proofs.Refusals.{then-zero, then-le, rankRefusal-le, wordRefusal-le, windowRefusal-le}
 use Rattle.coxeter.proofs.FormLaws.{lengthOfWord-normalForm, lengthOfWindow-normalForm, crossingsOfWord-total, crossingsOfWindow-total}
 use Rattle.coxeter.proofs.Theorems.{window-passes, length-normalForm}
-use Rattle.coxeter.proofs.Written.{ended, refused, short, made, length-or-refused, normalFormOfWord-accepted, normalFormOfWord-wrote, normalFormOfWindow-accepted, normalFormOfWindow-wrote}
-
--- ---- refusals below 14
-
-then-below : (m r s : ℕ) → r < m → s < m → (r then s) < m
-then-below m r s h g = elim (ℕ-discrete r 0) [ yes z ↦ rw (then-none r s z) g | no f ↦ rw (then-some r s f) h ]
-
-check-below : (m r : ℕ) (t : Bool) → r < m → check r t < m
-check-below m r true h = h
-check-below m r false h = omega arith
-
-rank-below : (k n : ℕ) → rankRefusal k n < 14
-unfolding rankRefusal
-rank-below k n =
-    let five = check-below 14 5 (wrongKind k) (omega arith) in
-    then-below 14 (check 5 (wrongKind k)) (check 6 (wrongRank (kindOf k) n)) five (check-below 14 6 (wrongRank (kindOf k) n) (omega arith))
-
-word-below : (n : ℕ) (u : List ℕ) → wordRefusal n u < 14
-unfolding wordRefusal
-word-below n u =
-    let seven = check-below 14 7 (tooLong u) (omega arith) in
-    then-below 14 (check 7 (tooLong u)) (check 8 (wrongLetter n u)) seven (check-below 14 8 (wrongLetter n u) (omega arith))
-
-window-below : (k : Kind) (n : ℕ) (w : List ℤ) → windowRefusal k n w < 14
-unfolding windowRefusal
-window-below k n w =
-    let nine = check-below 14 9 (wrongLanes k n w) (omega arith) in
-    let ten = check-below 14 10 (wrongEntry k (lanes k n) w) (omega arith) in
-    let eleven = check-below 14 11 (oddNegatives k w) (omega arith) in
-    let last = then-below 14 (check 10 (wrongEntry k (lanes k n) w)) (check 11 (oddNegatives k w)) ten eleven in
-    then-below 14 (check 9 (wrongLanes k n w)) (check 10 (wrongEntry k (lanes k n) w) then check 11 (oddNegatives k w)) nine last
+use Rattle.coxeter.proofs.Writes.{ended, refused, short, made, length-or-refused}
+use Rattle.coxeter.proofs.Written.{normalFormOfWord-accepted, normalFormOfWord-wrote, normalFormOfWindow-accepted, normalFormOfWindow-wrote}
 
 -- ---- a length and what is written
 
@@ -103,7 +72,7 @@ module _ (k n : ℕ) (u before : List ℕ) where
   -- the length call is refused exactly where the normal form call is, but for the room of its output
   pub lengthOfWord-refused : (r : ℕ) → (lengthOfWord k n u ≡ Refused r) ↔ ((normalFormOfWord k n u before .answer ≡ Refused r) × (r ≡ 14 → ⊥))
   unfolding lengthOfWord normalFormOfWord
-  lengthOfWord-refused = length-refused _ _ _ before form-size (then-below 14 (rankRefusal k n) (wordRefusal n u) (rank-below k n) (word-below n u))
+  lengthOfWord-refused = length-refused _ _ _ before form-size (omega (arith, then-le (rankRefusal k n) (wordRefusal n u) 8 (omega (arith, rankRefusal-le k n)) (wordRefusal-le n u)))
 
   -- and its length is the room that the normal form call asks for
   pub lengthOfWord-room : (l : ℕ) → lengthOfWord k n u ≡ Length l
@@ -134,7 +103,7 @@ module _ (k n : ℕ) (w : List ℤ) (before : List ℕ) where
   pub lengthOfWindow-refused : (r : ℕ) → (lengthOfWindow k n w ≡ Refused r) ↔ ((normalFormOfWindow k n w before .answer ≡ Refused r) × (r ≡ 14 → ⊥))
   unfolding lengthOfWindow normalFormOfWindow
   lengthOfWindow-refused =
-      length-refused _ _ _ before window-form-size (then-below 14 _ (windowRefusal (kindOf k) n w) (rank-below k n) (window-below (kindOf k) n w))
+      length-refused _ _ _ before window-form-size (omega (arith, then-le (rankRefusal k n) (windowRefusal (kindOf k) n w) 11 (omega (arith, rankRefusal-le k n)) (windowRefusal-le (kindOf k) n w)))
 
   pub lengthOfWindow-room : (l : ℕ) → lengthOfWindow k n w ≡ Length l
       → ((normalFormOfWindow k n w before .answer ≡ Length l) ↔ (l ≤ length before))

@@ -32,7 +32,8 @@ use Rattle.coxeter.proofs.Acceptance.{length-accepted, presets-accepted
 use Rattle.coxeter.proofs.Outcomes.{verdict-refused, verdict-yes, verdict-no}
 use Rattle.coxeter.proofs.Parity.{flipped-snoc, odd-exactly, flag-is-odd}
 use Rattle.coxeter.proofs.Theorems.{window-passes, longest-normalForm, normalForm-fits, equal-lanes, verdict-exactly}
-use Rattle.coxeter.proofs.Written.{length-or-refused, normalFormOfWindow-accepted, normalFormOfWindow-wrote}
+use Rattle.coxeter.proofs.Writes.{length-or-refused}
+use Rattle.coxeter.proofs.Written.{normalFormOfWindow-accepted, normalFormOfWindow-wrote}
 
 -- ---- presets that look alike
 

@@ -1,21 +1,16 @@
 -- What each call that writes has left, told from its answer and its output alone: `take l after` are the bytes that a call wrote which answered
 -- `Length l` and left `after` of the output `before`. Such an answer says that no check refused, so the laws ask for nothing else. By one law about
--- `writes`. That what the normal form calls write is the least word with its window is in the crate rules (Written).
+-- `writes` (Writes). That what the normal form calls write is the least word with its window is in the crate rules (Written).
 --
 -- Sections: any call that writes; windows; words.
 -- Not here: the lengths (Room), and what a call left as the next call's input (HandedOn).
 -- Assumes nothing.
 use mathlib.Core.Path.{_≡_, refl, sym, ap, _∙_}
 use mathlib.Core.List.{List, _++_, reverse}
-use Prim.Native.Nat.{ℕ, _≤_, _<_}
-use native.Mathlib.Nat.{lt-of-not-le}
-use native.Mathlib.Decide.{ℕ-discrete, decLe}
-use native.Mathlib.Omega.{arith}
+use Prim.Native.Nat.{ℕ}
 use lib.IntN.{ℤ}
 use lib.ListN.{length, take, drop}
-use lib.Seq.{take-at, drop-at}
-use Rattle.coxeter.specs.declared.Answer.{Answer}
-use Rattle.coxeter.specs.declared.Answer.the-variants.{Length, Refused}
+use Rattle.coxeter.specs.declared.Answer.the-variants.{Length}
 use Rattle.coxeter.specs.Kinds.{kindOf, lanes}
 use Rattle.coxeter.specs.Windows.{straight, window, product, inverse}
 use Rattle.coxeter.specs.Checks.{rankRefusal, wordRefusal, windowRefusal}
@@ -24,59 +19,19 @@ use Rattle.coxeter.specs.Calls.{Yields, writes, windowOfWord, productOfW
 use Rattle.coxeter.proofs.Refusals.{then-zero}
 use Rattle.coxeter.proofs.Acceptance.{words-accepted, windows-accepted}
 use Rattle.coxeter.proofs.Levels.{accepted-of-refusal}
-use Rattle.coxeter.proofs.Outcomes.{writes-refused, writes-short, writes-done}
+use Rattle.coxeter.proofs.Writes.{wrote}
 use Rattle.coxeter.proofs.Theorems.{window-passes, product-passes, inverse-passes, product-inverse, inverse-product}
 use Rattle.coxeter.proofs.FormLaws.{normalForm-product, normalForm-inverse}
 
 -- ---- any call that writes
 
--- how a call ends that is to write w: a check before check 14 refuses, or the output is too short, or w is written
-pub data Ended {X : Type 0} (q : ℕ) (w before : List X) : Type 0 where
-  refused : (q ≡ 0 → ⊥) → Yields (writes q w before) (Refused q) before → Ended q w before
-  short : q ≡ 0 → length before < length w → Yields (writes q w before) (Refused 14) before → Ended q w before
-  made : q ≡ 0 → length w ≤ length before → Yields (writes q w before) (Length (length w)) (w ++ drop (length w) before) → Ended q w before
-
-pub ended : {X : Type 0} (q : ℕ) (w before : List X) → Ended q w before
-ended q w before = elim (ℕ-discrete q 0) [
-  | yes z ↦ elim (decLe (length w) (length before)) [
-    | yes g ↦ made z g (writes-done (writes q w before) q q w before refl refl (length w) w z refl g refl)
-    | no g ↦ short z (lt-of-not-le g) (writes-short (writes q w before) q q w before refl refl (length w) z refl (lt-of-not-le g))
-  ]
-  | no f ↦ refused f (writes-refused (writes q w before) q q w before refl refl f)
-]
-
--- one answer is not both
-pub length-or-refused : {a : Answer} {l r : ℕ} → a ≡ Length l → a ≡ Refused r → ⊥
-length-or-refused p q = let n : _≡_ {A = ℕ} 0 1 = cc in omega arith
-
--- a call that was to write w, and that answered the length l
-record Done {X : Type 0} (q : ℕ) (w before after : List X) (l : ℕ) : Type 0 where
-  accepted : q ≡ 0
-  size : l ≡ length w
-  whole : after ≡ w ++ drop l before
-
-done : {X : Type 0} (q : ℕ) (w before after : List X) (l : ℕ) → Yields (writes q w before) (Length l) after → Done q w before after l
-done q w before after l h = elim (ended q w before) [
-  | refused f e ↦ absurd (length-or-refused (sym (h .0)) (sym (e .0)))
-  | short z g e ↦ absurd (length-or-refused (sym (h .0)) (sym (e .0)))
-  | made z g e ↦
-      let c : Length l ≡ Length (length w) = h .0 ∙ sym (e .0) in
-      let s : l ≡ length w = cc in
-      record { accepted = z; size = s; whole = rw s (h .1 ∙ sym (e .1)) }
-]
-
 module _ {X : Type 0} (q : ℕ) (w before after : List X) (l : ℕ) (left : Yields (writes q w before) (Length l) after) where
-  d : Done q w before after l
-  d = done q w before after l left
-
   pub writes-accepted : q ≡ 0
-  writes-accepted = d .accepted
+  writes-accepted = wrote q w before after l left .unrefused
 
   -- the answer is the front of the output, as long as was answered, and the rest is as it was lent
   pub writes-wrote : (take l after ≡ w) × (length (take l after) ≡ l) × (drop l after ≡ drop l before)
-  writes-wrote =
-      let t : take l after ≡ w = rw (d .whole) (take-at w (drop l before) l (sym (d .size))) in
-      (t, ap length t ∙ sym (d .size), rw (d .whole) (drop-at w (drop l before) l (sym (d .size))))
+  writes-wrote = let t = wrote q w before after l left in (t .front, ap length (t .front) ∙ sym (t .size), t .behind)
 
 -- ---- windows
 
