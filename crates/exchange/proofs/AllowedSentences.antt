@@ -257,13 +257,13 @@ answerOf-refused r l c = elim (ℕ-discrete r 0) [
 ]
 
 module _ (k n set : ℕ) (v w : List ℤ) (out : List ℕ) (a : Answer) (after : List ℕ) (h : Yields (betweenWindows k n set v w out) a after) where
-  abbrev place : ℕ
-  place = check 14 (tooShort (length (between (kindOf k) n v w)) out)
+  abbrev last-check : ℕ
+  last-check = check 14 (tooShort (length (between (kindOf k) n v w)) out)
 
-  between-refused : (c : ℕ) → (a ≡ answer.Refused (suc c)) ↔ ((betweenRefusal k n set v w then place) ≡ suc c)
+  between-refused : (c : ℕ) → (a ≡ answer.Refused (suc c)) ↔ ((betweenRefusal k n set v w then last-check) ≡ suc c)
   unfolding betweenWindows writes
   between-refused c =
-      let e = answerOf-refused (betweenRefusal k n set v w then place) (length (between (kindOf k) n v w)) c in
+      let e = answerOf-refused (betweenRefusal k n set v w then last-check) (length (between (kindOf k) n v w)) c in
       (λ q. e .0 (sym (h .0) ∙ q), λ q. h .0 ∙ e .1 q)
 
   -- "16 ..": "Checks run kind, rank, refusal 16, then both windows."
@@ -274,8 +274,8 @@ module _ (k n set : ℕ) (v w : List ℤ) (out : List ℕ) (a : Answer) (after :
       let far = unreachable (kindOf k) n set v w in
       let short = tooShort (length (between (kindOf k) n v w)) out in
       let windows = windowRefusal (kindOf k) n v then windowRefusal (kindOf k) n w then check 19 far in
-      let r = then-assoc (setRefusal k n set) windows place in
-      let s = set-refuses k n set (windows then place) (then-avoids windows place 15
+      let r = then-assoc (setRefusal k n set) windows last-check in
+      let s = set-refuses k n set (windows then last-check) (then-avoids windows last-check 15
       (then-avoids (windowRefusal (kindOf k) n v) _ 15 (λ z. omega (arith, windowRefusal-le (kindOf k) n v))
       (then-avoids (windowRefusal (kindOf k) n w) _ 15 (λ z. omega (arith, windowRefusal-le (kindOf k) n w)) (check-avoids 19 15 far (λ z. omega arith))))
       (check-avoids 14 15 short (λ z. omega arith))) in

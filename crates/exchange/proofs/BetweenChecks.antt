@@ -9,13 +9,14 @@ use Prim.Native.Nat.{ℕ, _≤_}
 use native.Mathlib.Decide.{ℕ-discrete}
 use native.Mathlib.Omega.{arith}
 use lib.IntN.{ℤ}
-use lib.ListN.{length, drop}
+use lib.ListN.{length, drop, take-append-drop}
 use borrow.Author.Tests.{eq-eqb, ne-eqb}
 use Rattle.coxeter.specs.declared.Answer.the-variants.{Length, Refused}
 use Rattle.coxeter.specs.Kinds.{kindOf}
 use Rattle.coxeter.specs.Checks.{check, _then_, tooShort, rankRefusal, windowRefusal}
 use Rattle.coxeter.specs.Calls.{answerOf, written, writes}
 use Rattle.coxeter.proofs.Refusals.{then-zero, then-none, then-some, check-le, then-le, rankRefusal-le, windowRefusal-le}
+use Rattle.coxeter.proofs.Writes.{wrote}
 use Rattle.exchange.specs.Allowed.{wrongSet, setRefusal}
 use Rattle.exchange.specs.BetweenCalls.{unreachable, betweenRefusal, betweenWindows}
 
@@ -82,17 +83,9 @@ writes-19 q l out e = elim (ℕ-discrete q 0) [
     short false h = let z : _≡_ {A = ℕ} 0 1 = cc in omega arith
 
 pub writes-length : (q : ℕ) (l out : List ℕ) (m : ℕ) → writes q l out .answer ≡ Length m → (q ≡ 0) × (m ≡ length l) × (writes q l out .bytes ≡ l ++ drop m out)
-unfolding writes answerOf written
-writes-length q l out m e = elim (ℕ-discrete (q then check 14 (tooShort (length l) out)) 0) [
-  | yes z ↦
-      let r : Length (length l) ≡ Length m = rw (eq-eqb _ 0 z) at e in
-      let s : length l ≡ m = cc in
-      (then-zero q _ z .0, sym s, rw (eq-eqb _ 0 z, s))
-  | no f ↦
-      let r : Refused (q then check 14 (tooShort (length l) out)) ≡ Length m = rw (ne-eqb _ 0 f) at e in
-      let y : _≡_ {A = ℕ} 0 1 = cc in
-      absurd (omega arith)
-]
+writes-length q l out m e =
+    let w = wrote q l out (writes q l out .bytes) m (sym e, refl) in
+    (w .unrefused, w .size, sym (take-append-drop m (writes q l out .bytes)) ∙ rw (w .front, w .behind))
 
 -- ---- kinds and ranks that are refused
 
