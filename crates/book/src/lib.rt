@@ -14,6 +14,5 @@ pub use converting::convert;
 pub use reading::check_book;
 pub use reading::check_preset;
 pub use reading::letters;
-pub use runs::preset_of;
 pub use runs::read_presets;
 pub use writing::append;

@@ -7,7 +7,7 @@ use crate::records::has_wrong_lanes;
 use book_format::Edition;
 use book_format::Opened;
 use book_format::Preset;
-use window::word_refusal;
+use refusals::preset_refusal;
 ghost use mathlib.Core.Path.{_≡_};
 ghost use Prim.Native.Nat.{_+_, _*_, _≤_, _<_};
 ghost use lib.ListN.{length};
@@ -103,7 +103,7 @@ pub(crate) fn check_record(edition: Edition, book: &[u8], o: usize) -> Preset
     let letter_count = two_at(book, o + place);
     let start = o + head;
     let end = start + letter_count;
-    let s = word_refusal(rank, &book[start..end]);
+    let s = preset_refusal(kind, rank, &book[start..end]);
     if s != 0 {
         return Preset::Refused(s);
     }

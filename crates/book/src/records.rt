@@ -1,7 +1,6 @@
 // What the editions of a book differ in: the place of a record's letter count, its lane count, and the ranges of its ranks.
 use book_format::Edition;
-use refusals::lanes;
-use window::rank_refusal;
+use refusals::rank_refusal;
 ghost use mathlib.Core.Path.{_≡_};
 ghost use Prim.Native.Nat.{_+_, _≤_, _<_};
 ghost use lib.ListN.{length};
@@ -62,6 +61,17 @@ pub(crate) fn is_retired(kind: u8, rank: u8) -> bool
         return rank == 1;
     }
     false
+}
+
+// How many lanes a kind and a rank have.
+fn lanes(kind: u8, rank: u8) -> usize
+    ensures { λ r. ⌜ r ≡ kinds.lanes (kindOf kind) rank ⌝ }
+{
+    let n = rank as usize;
+    if kind == 1 {
+        return n + 1;
+    }
+    n
 }
 
 // Check 17, of the record at byte o. The first edition has no lane count that could be wrong.

@@ -11,23 +11,7 @@ ghost use Prim.Native.Nat.{_+_, _*_, _≤_, min};
 ghost use lib.ListN.{length};
 ghost use lib.Seq.{sets};
 ghost use Rattle.book_format.specs.Books.{count, bookRefusal};
-ghost use Rattle.book_format.specs.Calls.{fieldsOf, presetFields, readingPresets, presetFrom};
-
-// The preset of five numbers as `read_presets` writes them.
-pub fn preset_of(refusal: u64, kind: u64, rank: u64, start: u64, length: u64) -> Preset
-    ensures { λ r. ⌜ r ≡ presetFrom refusal kind rank start length ⌝ }
-{
-    let r = (refusal % 256) as u8;
-    if r != 0 {
-        return Preset::Refused(r);
-    }
-    Preset::Found {
-        kind: (kind % 256) as u8,
-        rank: (rank % 256) as u8,
-        start: start as usize,
-        length: length as usize,
-    }
-}
+ghost use Rattle.book_format.specs.Calls.{fieldsOf, presetFields, readingPresets};
 
 fn put_five(fields: &mut [u64], p: usize, a: u64, b: u64, c: u64, d: u64, e: u64)
     requires { ⌜ p + 5 ≤ length (now fields) ⌝ }

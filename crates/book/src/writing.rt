@@ -10,8 +10,8 @@ use crate::records::count_place;
 use crate::records::is_retired;
 use crate::records::put_lanes;
 use book_format::Edition;
+use refusals::preset_refusal;
 use window::Answer;
-use window::word_refusal;
 ghost use mathlib.Core.Path.{_≡_};
 ghost use mathlib.Core.List.{_++_};
 ghost use Prim.Native.Nat.{_+_, _*_, _≤_};
@@ -99,7 +99,7 @@ fn append_refusal(edition: Edition, book: &[u8], kind: u8, rank: u8, word: &[u8]
     if s != 0 {
         return s;
     }
-    let t = word_refusal(rank, word);
+    let t = preset_refusal(kind, rank, word);
     if t != 0 {
         return t;
     }

@@ -19,7 +19,7 @@ use Rattle.book_format.specs.Books.{noSuchPreset, bookRankRefusal, bookR
 use Rattle.book_format.specs.Calls.{openedOf, presetOf, checkedBook, presetAt, checkedRecord, checkedPreset, lettersStart, lettersOf}
 use Rattle.book_format.proofs.RankLaws.{bookRank-accepted}
 use Rattle.book_format.proofs.BookLaws.{Accepted, accepted, offset-read, trailer-le, endAt-offset-le}
-use Rattle.coxeter.proofs.Refusals.{then-zero, check-zero, then-some}
+use Rattle.coxeter.proofs.Refusals.{then-zero, check-zero, then-none, then-some}
 
 -- ---- answers
 
@@ -42,7 +42,7 @@ presetAt-found ed b o r z = rw (eq-eqb r 0 z)
 -- ---- records
 
 -- the record at byte o: r is the refusal of its kind and rank, t whether its lane count is wrong, l its letter count, which has the place p in a record,
--- s the refusal of its letters
+-- s the refusal of its preset by the calls' checks, of which kind and rank have passed theirs
 module _ (ed : Edition) (b : List ℕ) (o r : ℕ) (e : r ≡ bookRankRefusal ed (kindAt b o) (rankAt b o)) where
   pub checkedRecord-rank : (r ≡ 0 → ⊥) → checkedRecord ed b o ≡ preset.Refused r
   unfolding checkedRecord recordRefusal
@@ -55,12 +55,14 @@ module _ (ed : Edition) (b : List ℕ) (o r : ℕ) (e : r ≡ bookRankRefusal ed
     checkedRecord-lanes y = rw (← e, eq-eqb r 0 z, ← w, y) (presetAt-refused ed b o 17 (omega arith))
 
     module _ (y : t ≡ false) (p l s : ℕ) (g : p ≡ countPlace ed) (c : l ≡ twoAt b (o + p))
-        (q : s ≡ wordRefusal (rankAt b o) (take (o + (p + 2) + l - (o + (p + 2))) (drop (o + (p + 2)) b))) where
+        (q : s ≡ (rankRefusal (kindAt b o) (rankAt b o)
+        then wordRefusal (rankAt b o) (take (o + (p + 2) + l - (o + (p + 2))) (drop (o + (p + 2)) b)))) where
       recordRefusal-word : recordRefusal ed b o ≡ s
       unfolding recordRefusal
       recordRefusal-word =
           let d : o + (p + 2) + l - (o + (p + 2)) ≡ l = omega arith in
-          rw (← e, eq-eqb r 0 z, ← w, y, ← g, ← c) (sym (rw d at q))
+          let passed = q ∙ then-none (rankRefusal (kindAt b o) (rankAt b o)) _ (bookRank-accepted ed (kindAt b o) (rankAt b o) (sym e ∙ z)) in
+          rw (← e, eq-eqb r 0 z, ← w, y, ← g, ← c) (sym (rw d at passed))
 
       pub checkedRecord-word : (s ≡ 0 → ⊥) → checkedRecord ed b o ≡ preset.Refused s
       unfolding checkedRecord

@@ -1,11 +1,11 @@
--- Runs of presets in numbers: the preset of five numbers is what reading it answered, and what reading a run answers and writes, case by case, in the
--- form in which the code meets it.
+-- Runs of presets in numbers: the preset of five numbers is what reading it answered, its refusal, kind and rank are bytes, and what reading a run
+-- answers and writes, case by case, in the form in which the code meets it.
 --
 -- Sections: five numbers; runs; reading a run.
 -- Assumes nothing.
 use mathlib.Core.Path.{_≡_, refl, sym, _∙_}
 use mathlib.Core.List.{List, _++_}
-use Prim.Native.Nat.{ℕ, zero, suc, _+_, _-_, _*_, _/_, _%_, _≤_, _<_, min}
+use Prim.Native.Nat.{ℕ, zero, suc, _+_, _-_, _*_, _/_, _≤_, _<_, min}
 use native.Mathlib.Decide.{ℕ-discrete, decLe}
 use native.Mathlib.Nat.{add-zero, add-suc, suc-add, min-le-left, min-le-right, le-min}
 use native.Mathlib.Omega.{arith}
@@ -24,7 +24,7 @@ use Rattle.coxeter.proofs.Lists.{sets-front}
 use Rattle.book_format.specs.declared.Preset.{Preset}
 use Rattle.book_format.specs.declared.Preset.the-variants as preset
 use Rattle.book_format.specs.Books.{count, noSuchPreset, bookRefusal}
-use Rattle.book_format.specs.Calls.{presetOf, checkedPreset, fieldsOf, presetFields, runLength, readingPresets, presetFrom}
+use Rattle.book_format.specs.Calls.{presetOf, checkedPreset, fieldsOf, presetFields, runLength, readingPresets}
 use Rattle.book_format.proofs.PresetLaws.{found, found-rank, refused, refused-is}
 use Rattle.book_format.proofs.Outcomes.{presetRefusal-le}
 
@@ -43,33 +43,27 @@ kind-small k n z = elim (decLe k 3) [
   | no f ↦ absurd (omega (arith, rw (ne-eqb k 1 (omega arith), ne-eqb k 2 (omega arith), ne-eqb k 3 (omega arith)) at z))
 ]
 
-presetFrom-found : (k n s l : ℕ) → rankRefusal k n ≡ 0 → presetFrom 0 k n s l ≡ preset.Found k n s l
-unfolding presetFrom presetOf
-presetFrom-found k n s l z =
-    let kind : k % 256 ≡ k = omega (arith, kind-small k n z) in
-    let rank : n % 256 ≡ n = omega (arith, rank-accepted k n z .1) in
-    rw (kind, rank)
-
-presetFrom-refused : (r k n s l : ℕ) → (r ≡ 0 → ⊥) → r ≤ 17 → presetFrom r k n s l ≡ preset.Refused r
-unfolding presetFrom presetOf
-presetFrom-refused r k n s l f h =
-    let same : r % 256 ≡ r = omega arith in
-    rw (same, ne-eqb r 0 f)
-
 -- the preset of the five numbers of a list from p on
 abbrev pub presetIn : List ℕ → ℕ → Preset
-presetIn l p = presetFrom (getD l p 0) (getD l (p + 1) 0) (getD l (p + 2) 0) (getD l (p + 3) 0) (getD l (p + 4) 0)
+presetIn l p = presetOf (getD l p 0) (getD l (p + 1) 0) (getD l (p + 2) 0) (getD l (p + 3) 0) (getD l (p + 4) 0)
 
--- it undoes `fieldsOf`, for what reading a preset answers
-pub presetFrom-fieldsOf : (ed : Edition) (b : List ℕ) (i : ℕ) → presetIn (fieldsOf (checkedPreset ed b i)) 0 ≡ checkedPreset ed b i
-unfolding fieldsOf
-presetFrom-fieldsOf ed b i = by-answer (checkedPreset ed b i) refl
+-- of which the first three are bytes
+abbrev pub BytesIn : List ℕ → ℕ → Type 0
+BytesIn l p = (getD l p 0 < 256) × (getD l (p + 1) 0 < 256) × (getD l (p + 2) 0 < 256)
+
+-- of what reading a preset answered, `presetIn` undoes `fieldsOf`
+fieldsOf-preset : (ed : Edition) (b : List ℕ) (i : ℕ)
+    → (presetIn (fieldsOf (checkedPreset ed b i)) 0 ≡ checkedPreset ed b i) × BytesIn (fieldsOf (checkedPreset ed b i)) 0
+unfolding fieldsOf presetOf
+fieldsOf-preset ed b i = by-answer (checkedPreset ed b i) refl
   where
-    by-answer : (p : Preset) → p ≡ checkedPreset ed b i → presetIn (fieldsOf p) 0 ≡ p
-    by-answer (preset.Found k n s l) e = presetFrom-found k n s l (found-rank ed b i k n s l (found ed b i k n s l e))
+    by-answer : (p : Preset) → p ≡ checkedPreset ed b i → (presetIn (fieldsOf p) 0 ≡ p) × BytesIn (fieldsOf p) 0
+    by-answer (preset.Found k n s l) e =
+        let z = found-rank ed b i k n s l (found ed b i k n s l e) in
+        (refl, (omega arith, kind-small k n z, omega (arith, rank-accepted k n z .1)))
     by-answer (preset.Refused r) e =
         let q = refused-is ed b i r e in
-        presetFrom-refused r 0 0 0 0 (λ z. refused ed b i r e (sym q ∙ z)) (omega (arith, presetRefusal-le ed b i))
+        (rw (ne-eqb r 0 (λ z. refused ed b i r e (sym q ∙ z))), (omega (arith, presetRefusal-le ed b i), omega arith, omega arith))
 
 -- ---- runs
 
@@ -93,11 +87,12 @@ presetFields-at ed b (suc t) i (suc j) k h g =
     rw (e, getD-append-add (fieldsOf (checkedPreset ed b i)) (presetFields ed b t (suc i)) (5 * j + k) 0, add-suc i j, ← suc-add i j)
     (presetFields-at ed b t (suc i) j k (omega arith) g)
 
-pub presetIn-run : (ed : Edition) (b : List ℕ) (t i j : ℕ) → j < t → presetIn (presetFields ed b t i) (5 * j) ≡ checkedPreset ed b (i + j)
+pub presetIn-run : (ed : Edition) (b : List ℕ) (t i j : ℕ) → j < t
+    → (presetIn (presetFields ed b t i) (5 * j) ≡ checkedPreset ed b (i + j)) × BytesIn (presetFields ed b t i) (5 * j)
 presetIn-run ed b t i j h =
     let none : 5 * j ≡ 5 * j + 0 = omega arith in
     let at = presetFields-at ed b t i j in
-    rw (at 1 h (omega arith), at 2 h (omega arith), at 3 h (omega arith), at 4 h (omega arith), none, at 0 h (omega arith)) (presetFrom-fieldsOf ed b (i + j))
+    rw (at 1 h (omega arith), at 2 h (omega arith), at 3 h (omega arith), at 4 h (omega arith), none, at 0 h (omega arith)) (fieldsOf-preset ed b (i + j))
 
 -- ---- reading a run
 

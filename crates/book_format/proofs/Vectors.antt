@@ -12,8 +12,9 @@ use lib.Dec.{ltb}
 use lib.ListN.{length, replicate}
 use borrow.Author.Tests.{ltb-true, lt-ltb}
 use Rattle.coxeter.specs.Kinds.{kindOf}
-use Rattle.coxeter.specs.Checks.{wrongKind, tooLong, wrongLetter, tooShort, wordRefusal}
+use Rattle.coxeter.specs.Checks.{_then_, wrongKind, tooLong, wrongLetter, tooShort, rankRefusal, wordRefusal}
 use Rattle.coxeter.specs.Calls.{answerOf, written, Outcome, writes}
+use Rattle.coxeter.proofs.Refusals.{then-next}
 use Rattle.coxeter.proofs.Vectors.{Agree, lent, wrote, refused}
 use Rattle.book_format.specs.declared.Edition.{Edition}
 use Rattle.book_format.specs.declared.Edition.the-variants.{First, Second}
@@ -24,6 +25,7 @@ use Rattle.book_format.specs.declared.Preset.the-variants as preset
 use Rattle.book_format.specs.Books.{twoAt, two, count, trailer, offset, wrongSize, wrongCount, misplacedFrom, misplaced, noSuchPreset, tooLarge, retired, wrongRankInBook, wrongLaneCount, bookRankRefusal, bookRefusal, recordRefusal, presetRefusal, recordOf, appended, appendRefusal}
 use Rattle.book_format.specs.Records.{recordBytes, offsetBytes, layOut, recordsFrom, recordsOf, Bytes}
 use Rattle.book_format.specs.Conversion.{converted, tooManyLanes, recordConversionRefusal, recordsConversionRefusal, conversionRefusal, converting}
+use Rattle.book_format.proofs.RankLaws.{bookRank-accepted}
 use Rattle.book_format.proofs.BookLaws.{accepted}
 use Rattle.book_format.proofs.Converting.{conversion-too-large, length-converted}
 use Rattle.book_format.proofs.WritingLaws.{length-appended, appendRefusal-large, appendRefusal-none}
@@ -237,16 +239,19 @@ appendings-agree = refl
 -- where there is no room
 module _ (ed : Edition) (b : List ℕ) (k n : ℕ) (u out : List ℕ) (e : bookRefusal ed b ≡ 0) (f : bookRankRefusal ed k n ≡ 0) (g : wordRefusal n u ≡ 0)
     (o : retired k n ≡ false) where
+  passes : 0 ≡ (rankRefusal k n then wordRefusal n u)
+  passes = then-next (rankRefusal k n) 0 (wordRefusal n u) 0 (sym (bookRank-accepted ed k n f)) refl (sym g)
+
   pub appending-too-large : 65535 < length (appended ed b k n u) → appending ed b k n u out ≡ refused 13 out
   unfolding appending writes answerOf written
   appending-too-large h =
-      rw (appendRefusal-large ed b k n u 0 (sym e) 0 refl (sym f) 0 refl (sym g) refl (retired k n) refl o (rw (length-appended ed b k n u (accepted ed b e)) at h))
+      rw (appendRefusal-large ed b k n u 0 (sym e) 0 refl (sym f) 0 refl passes refl (retired k n) refl o (rw (length-appended ed b k n u (accepted ed b e)) at h))
 
   pub appending-without-room : length (appended ed b k n u) ≤ 65535 → length out < length (appended ed b k n u) → appending ed b k n u out ≡ refused 14 out
   unfolding appending writes answerOf written tooShort
   appending-without-room h l =
       rw (
-        appendRefusal-none ed b k n u 0 (sym e) 0 refl (sym f) 0 refl (sym g) refl (retired k n) refl o (rw (length-appended ed b k n u (accepted ed b e)) at h),
+        appendRefusal-none ed b k n u 0 (sym e) 0 refl (sym f) 0 refl passes refl (retired k n) refl o (rw (length-appended ed b k n u (accepted ed b e)) at h),
         lt-ltb (length out) (length (appended ed b k n u)) l,
       )
 

@@ -13,7 +13,7 @@ use borrow.Author.Tests.{eq-eqb, ne-eqb, lt-ltb, le-ltb, ltb-false}
 use Rattle.book_format.specs.declared.Edition.{Edition}
 use Rattle.book_format.specs.declared.Edition.the-variants.{First, Second}
 use Rattle.coxeter.specs.declared.Answer.the-variants as answer
-use Rattle.coxeter.specs.Checks.{check, _then_, wordRefusal}
+use Rattle.coxeter.specs.Checks.{check, _then_, rankRefusal, wordRefusal}
 use Rattle.book_format.specs.Books.{two, count, trailer, tooLarge, retired, bookRankRefusal, bookRefusal, laneByte, recordOf, appended, appendRefusal, countPlace, headSize, added}
 use Rattle.book_format.specs.Calls.{appending}
 use Rattle.book_format.proofs.RankLaws.{bookRank-accepted}
@@ -50,7 +50,7 @@ size-read ed b u s p q e = rw (q, e)
 
 -- ---- appending
 
--- r is the refusal of the book, s that of the kind and the rank, t that of the word
+-- r is the refusal of the book, s that of the kind and the rank, t that of the preset by the calls' checks
 module _ (ed : Edition) (b : List ℕ) (k n : ℕ) (u : List ℕ) (r : ℕ) (e : r ≡ bookRefusal ed b) where
   pub appendRefusal-book : (r ≡ 0 → ⊥) → appendRefusal ed b k n u ≡ r
   unfolding appendRefusal
@@ -61,27 +61,30 @@ module _ (ed : Edition) (b : List ℕ) (k n : ℕ) (u : List ℕ) (r : ℕ) (e :
     unfolding appendRefusal
     appendRefusal-rank f = rw (← e, eq-eqb r 0 z, ← d, ne-eqb s 0 f)
 
-    module _ (t : ℕ) (y : s ≡ 0) (q : t ≡ wordRefusal n u) where
+    module _ (t : ℕ) (y : s ≡ 0) (q : t ≡ (rankRefusal k n then wordRefusal n u)) where
+      word : t ≡ wordRefusal n u
+      word = q ∙ then-none (rankRefusal k n) (wordRefusal n u) (bookRank-accepted ed k n (sym d ∙ y))
+
       pub appendRefusal-word : (t ≡ 0 → ⊥) → appendRefusal ed b k n u ≡ t
       unfolding appendRefusal
-      appendRefusal-word f = rw (← e, eq-eqb r 0 z, ← d, eq-eqb s 0 y, ← q, ne-eqb t 0 f)
+      appendRefusal-word f = rw (← e, eq-eqb r 0 z, ← d, eq-eqb s 0 y, ← word, ne-eqb t 0 f)
 
       -- o is whether the preset is retired
       module _ (x : t ≡ 0) (o : Bool) (v : o ≡ retired k n) where
         pub appendRefusal-retired : o ≡ true → appendRefusal ed b k n u ≡ 21
         unfolding appendRefusal
-        appendRefusal-retired w = rw (← e, eq-eqb r 0 z, ← d, eq-eqb s 0 y, ← q, eq-eqb t 0 x, ← v, w)
+        appendRefusal-retired w = rw (← e, eq-eqb r 0 z, ← d, eq-eqb s 0 y, ← word, eq-eqb t 0 x, ← v, w)
 
         module _ (w : o ≡ false) where
           pub appendRefusal-large : 65535 < bookSize b + added ed u → appendRefusal ed b k n u ≡ 13
           unfolding appendRefusal tooLarge
           appendRefusal-large h =
-              rw (← e, eq-eqb r 0 z, ← d, eq-eqb s 0 y, ← q, eq-eqb t 0 x, ← v, w, length-appended ed b k n u (accepted-read ed b r e z), lt-ltb 65535 (bookSize b + added ed u) h)
+              rw (← e, eq-eqb r 0 z, ← d, eq-eqb s 0 y, ← word, eq-eqb t 0 x, ← v, w, length-appended ed b k n u (accepted-read ed b r e z), lt-ltb 65535 (bookSize b + added ed u) h)
 
           pub appendRefusal-none : bookSize b + added ed u ≤ 65535 → appendRefusal ed b k n u ≡ 0
           unfolding appendRefusal tooLarge
           appendRefusal-none h =
-              rw (← e, eq-eqb r 0 z, ← d, eq-eqb s 0 y, ← q, eq-eqb t 0 x, ← v, w, length-appended ed b k n u (accepted-read ed b r e z), le-ltb 65535 (bookSize b + added ed u) h)
+              rw (← e, eq-eqb r 0 z, ← d, eq-eqb s 0 y, ← word, eq-eqb t 0 x, ← v, w, length-appended ed b k n u (accepted-read ed b r e z), le-ltb 65535 (bookSize b + added ed u) h)
 
 -- where appending is not refused, none of its checks refuses
 append-parts : (ed : Edition) (b : List ℕ) (k n : ℕ) (u : List ℕ) → appendRefusal ed b k n u ≡ 0

@@ -1,7 +1,7 @@
 -- What each call on a book answers and writes, for every input (document 01, "The preset book" and "What contracts have to settle").
 use mathlib.Core.Path.{_≡_}
 use mathlib.Core.List.{List, [], _∷_, _++_}
-use Prim.Native.Nat.{ℕ, zero, suc, _+_, _-_, _/_, _%_, _<_, min}
+use Prim.Native.Nat.{ℕ, zero, suc, _+_, _-_, _/_, _<_, min}
 use lib.Dec.{eqb}
 use lib.ListN.{length}
 use Rattle.book_format.specs.declared.Edition.{Edition}
@@ -69,10 +69,6 @@ readingPresets ed b i out =
     let r = bookRefusal ed b then check 4 (noSuchPreset b i) then check 14 (tooShort 5 out) in
     let t = runLength b i out in
     record { answer = answerOf r t; bytes = written r (presetFields ed b t i) out }
-
--- the preset of five numbers, each cut to the bits that it has in `Preset`
-unfoldable pub presetFrom : ℕ → ℕ → ℕ → ℕ → ℕ → Preset
-presetFrom r k n s l = presetOf (r % 256) (k % 256) (n % 256) s l
 
 -- appending a preset
 unfoldable pub appending : Edition → List ℕ → ℕ → ℕ → List ℕ → List ℕ → Outcome ℕ

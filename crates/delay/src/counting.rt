@@ -2,8 +2,8 @@
 // sum after it. No sum is greater than the number of all windows, so all fit 64 bits.
 use crate::lengths::fewest_of;
 use crate::lengths::greatest_length;
+use crate::lengths::lanes;
 use crate::lengths::top_of;
-use refusals::lanes;
 ghost use mathlib.Core.Path.{_≡_};
 ghost use Prim.Native.Nat.{_+_, _^_, _≤_, _<_};
 ghost use lib.ListN.{length};

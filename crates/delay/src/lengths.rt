@@ -1,7 +1,8 @@
-// What a kind and a rank say of their table: whether there is one, and the greatest lengths.
+// What a kind and a rank say of their table: whether there is one, the lane count, and the greatest lengths.
 use refusals::rank_refusal;
 ghost use mathlib.Core.Path.{_≡_};
 ghost use Prim.Native.Nat.{_≤_};
+ghost use Rattle.coxeter.specs.Kinds as kinds;
 ghost use Rattle.coxeter.specs.Kinds.{kindOf};
 ghost use Rattle.coxeter.specs.Length.{greatestLength};
 ghost use Rattle.distribution.specs.Calls.{greatestTabled, tableRefusal};
@@ -28,6 +29,17 @@ pub(crate) fn table_refusal(kind: u8, rank: u8) -> u8
         return 20;
     }
     0
+}
+
+// How many lanes a window of this kind and rank has.
+pub(crate) fn lanes(kind: u8, rank: u8) -> usize
+    ensures { λ r. ⌜ r ≡ kinds.lanes (kindOf kind) rank ⌝ }
+{
+    let n = rank as usize;
+    if kind == 1 {
+        return n + 1;
+    }
+    n
 }
 
 // The greatest length of a window.

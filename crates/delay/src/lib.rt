@@ -9,10 +9,10 @@ mod longest;
 use counting::write_counts;
 pub use distribution::Table;
 use lengths::greatest_length;
+use lengths::lanes;
 use lengths::table_refusal;
 use longest::write_form;
 use longest::write_longest;
-use refusals::lanes;
 ghost use Rattle.distribution.specs.Calls.{TableYields, delayTable};
 
 // Writes to the front of `counts` how many windows have the length 0, 1, .. up to the greatest, to the front of `entries` the longest window, to that

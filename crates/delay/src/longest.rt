@@ -1,5 +1,5 @@
 // The longest window and its normal form.
-use refusals::lanes;
+use crate::lengths::lanes;
 use window::normal_form_of_window;
 ghost use mathlib.Core.Path.{_≡_};
 ghost use mathlib.Core.List.{map};

@@ -3,9 +3,9 @@
 use crate::allowed::is_allowed;
 use crate::allowed::set_refusal;
 use crate::work::inverted;
+use crate::work::lanes;
 use crate::work::multiplied;
 use crate::work::no_letters;
-use refusals::lanes;
 use refusals::ranked_windows_refusal;
 use window::Answer;
 use window::normal_form_of_window;

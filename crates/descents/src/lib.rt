@@ -14,12 +14,12 @@ use allowed::set_refusal;
 pub use between::between_windows;
 pub use exchange::Fallback;
 pub use exchange::Split;
-use refusals::lanes;
+use refusals::preset_refusal;
 use refusals::ranked_words_refusal;
-use refusals::word_refusal;
 use splitting::split_accepted;
 use walk::settle;
 pub use window::Answer;
+use work::lanes;
 use work::no_letters;
 use work::shown;
 use work::write_form;
@@ -75,7 +75,7 @@ fn split_refusal(kind: u8, rank: u8, allowed: u64, word: &[u8]) -> u8
     if refusal != 0 {
         return refusal;
     }
-    word_refusal(rank, word)
+    preset_refusal(kind, rank, word)
 }
 
 // Splits a word by a set of allowed steps, one bit a step, bit 0 for step 1: the first word is over allowed steps, no shortest word of the second's

@@ -2,10 +2,10 @@
 use crate::stripping::strip;
 use crate::work::form_length;
 use crate::work::inverted;
+use crate::work::lanes;
 use crate::work::multiplied;
 use crate::work::shown;
 use exchange::Split;
-use refusals::lanes;
 use window::normal_form_of_window;
 ghost use mathlib.Core.Path.{_≡_};
 ghost use Rattle.coxeter.specs.Kinds.{kindOf};

@@ -7,7 +7,8 @@ use window::product_of_windows;
 use window::window_of_word;
 ghost use mathlib.Core.Path.{_≡_};
 ghost use lib.ListN.{length};
-ghost use Rattle.coxeter.specs.Kinds.{kindOf, lanes};
+ghost use Rattle.coxeter.specs.Kinds as kinds;
+ghost use Rattle.coxeter.specs.Kinds.{kindOf};
 ghost use Rattle.coxeter.specs.Windows.{window, product, inverse};
 ghost use Rattle.coxeter.specs.Checks.{rankRefusal, wordRefusal, windowRefusal};
 ghost use Rattle.coxeter.specs.NormalForm.{normalForm, wordNormalForm};
@@ -27,10 +28,21 @@ fn blank() -> [i8; 64]
     [0i8; 64]
 }
 
+// How many lanes a window of this kind and rank has.
+pub(crate) fn lanes(kind: u8, rank: u8) -> usize
+    ensures { λ r. ⌜ r ≡ kinds.lanes (kindOf kind) rank ⌝ }
+{
+    let n = rank as usize;
+    if kind == 1 {
+        return n + 1;
+    }
+    n
+}
+
 // The window of an accepted word.
 pub(crate) fn shown(kind: u8, rank: u8, word: &[u8]) -> [i8; 64]
     requires { ⌜ (rankRefusal kind rank ≡ 0) × (wordRefusal rank (now word) ≡ 0) ⌝ }
-    ensures { λ r. ⌜ (64 ≡ length r) × Front 64 (window (kindOf kind) rank (now (word .entry))) r (lanes (kindOf kind) rank) ⌝ }
+    ensures { λ r. ⌜ (64 ≡ length r) × Front 64 (window (kindOf kind) rank (now (word .entry))) r (kinds.lanes (kindOf kind) rank) ⌝ }
 {
     let mut work = blank();
     window_of_word(kind, rank, word, &mut work);
@@ -53,7 +65,7 @@ pub(crate) fn multiplied(kind: u8, rank: u8, u: &[i8], v: &[i8]) -> [i8; 64]
     requires { ⌜ rankRefusal kind rank ≡ 0 ⌝ }
     requires { ⌜ windowRefusal (kindOf kind) rank (now u) ≡ 0 ⌝ }
     requires { ⌜ windowRefusal (kindOf kind) rank (now v) ≡ 0 ⌝ }
-    ensures { λ r. ⌜ (64 ≡ length r) × Front 64 (product (now (u .entry)) (now (v .entry))) r (lanes (kindOf kind) rank) ⌝ }
+    ensures { λ r. ⌜ (64 ≡ length r) × Front 64 (product (now (u .entry)) (now (v .entry))) r (kinds.lanes (kindOf kind) rank) ⌝ }
 {
     let mut work = blank();
     product_of_windows(kind, rank, u, v, &mut work);
@@ -63,7 +75,7 @@ pub(crate) fn multiplied(kind: u8, rank: u8, u: &[i8], v: &[i8]) -> [i8; 64]
 // The inverse of an accepted window.
 pub(crate) fn inverted(kind: u8, rank: u8, w: &[i8]) -> [i8; 64]
     requires { ⌜ (rankRefusal kind rank ≡ 0) × (windowRefusal (kindOf kind) rank (now w) ≡ 0) ⌝ }
-    ensures { λ r. ⌜ (64 ≡ length r) × Front 64 (inverse (now (w .entry))) r (lanes (kindOf kind) rank) ⌝ }
+    ensures { λ r. ⌜ (64 ≡ length r) × Front 64 (inverse (now (w .entry))) r (kinds.lanes (kindOf kind) rank) ⌝ }
 {
     let mut work = blank();
     inverse_of_window(kind, rank, w, &mut work);

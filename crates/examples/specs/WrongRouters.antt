@@ -11,7 +11,7 @@ use Rattle.coxeter.specs.declared.Verdict.{Verdict}
 use Rattle.coxeter.specs.declared.Choice.{Choice}
 use Rattle.coxeter.specs.Kinds.{A, B, pick, lanes}
 use Rattle.coxeter.specs.Length.{negative}
-use Rattle.coxeter.specs.Checks.{rankRefusal, wordRefusal}
+use Rattle.coxeter.specs.Checks.{rankRefusal}
 use Rattle.coxeter.specs.Calls.{Outcome, windowOfWord, productOfWindows, inverseOfWindow, normalFormOfWindow, normalFormOfWord, productOfWords, inverseOfWord, lengthOfWindow, lengthOfWord, presetsEqual}
 use Rattle.rules.specs.Calls.{Step, step}
 use Rattle.rules.specs.Traces.{Traced, rewritingToEnd, numberOfSteps}
@@ -103,8 +103,8 @@ table =
     -- refusals
     ∷ differ rankRefusal refusesEveryKind (λ f. number (f 1 2))
     ∷ differ rankRefusal rank64InA (λ f. number (f 1 64))
-    ∷ differ wordRefusal letterZeroAccepted (λ f. number (f 2 (1 ∷ 0 ∷ [])))
-    ∷ differ wordRefusal wordOf4097Letters (λ f. number (f 2 (replicate 4097 1)))
+    ∷ differ wordChecks letterZeroAccepted (λ f. number (f 1 2 (1 ∷ 0 ∷ [])))
+    ∷ differ wordChecks wordOf4097Letters (λ f. number (f 1 2 (replicate 4097 1)))
     ∷ differ wordChecks lettersBeforeTheRank (λ f. number (f 4 2 (3 ∷ [])))
     ∷ differ wordChecks rankUnchecked (λ f. number (f 1 64 []))
     ∷ differ presetsChecks secondPresetFirst (λ f. number (f 1 2 (3 ∷ []) 4 2 []))

@@ -67,11 +67,11 @@ abbrev pub rank64InA : ℕ → ℕ → ℕ
 rank64InA k n = check 5 (wrongKind k) then check 6 (ltb n (least (kindOf k)) || ltb 64 n)
 
 -- a letter 0 passes as a step
-abbrev pub letterZeroAccepted : ℕ → List ℕ → ℕ
-letterZeroAccepted n u = check 7 (tooLong u) then check 8 (wrongLetter n (map (λ s. pick (eqb s 0) 1 s) u))
+abbrev pub letterZeroAccepted : ℕ → ℕ → List ℕ → ℕ
+letterZeroAccepted k n u = rankRefusal k n then check 7 (tooLong u) then check 8 (wrongLetter n (map (λ s. pick (eqb s 0) 1 s) u))
 
-abbrev pub wordOf4097Letters : ℕ → List ℕ → ℕ
-wordOf4097Letters n u = check 7 (ltb 4097 (length u)) then check 8 (wrongLetter n u)
+abbrev pub wordOf4097Letters : ℕ → ℕ → List ℕ → ℕ
+wordOf4097Letters k n u = rankRefusal k n then check 7 (ltb 4097 (length u)) then check 8 (wrongLetter n u)
 
 abbrev pub lettersBeforeTheRank : ℕ → ℕ → List ℕ → ℕ
 lettersBeforeTheRank k n u = wordRefusal n u then rankRefusal k n

@@ -7,15 +7,15 @@ use book::Edition;
 use book::Opened;
 use book::Preset;
 use book::check_book;
-use book::preset_of;
 use book::read_presets;
 use listing_text::Piece;
 use window::Answer;
 ghost use mathlib.Core.Path.{_≡_};
 ghost use Prim.Native.Nat.{_+_, _-_, _≤_, _<_};
-ghost use lib.ListN.{length, getD};
+ghost use lib.ListN.{length};
 ghost use Rattle.coxeter.proofs.Lists.{Stored};
-ghost use Rattle.book_format.specs.Calls.{checkedBook, presetFrom};
+ghost use Rattle.book_format.specs.Calls.{checkedBook};
+ghost use Rattle.book_format.proofs.RunLaws.{presetIn, BytesIn};
 ghost use Rattle.listing_text.specs.Calls.{lineCount, line, firstLine, nextPiece};
 ghost use Rattle.listing_text.proofs.Room.{longest};
 ghost use Rattle.listing_text.proofs.Runs.{Held, Ready};
@@ -33,19 +33,21 @@ fn blank_run() -> [u64; 640]
     [0u64; 640]
 }
 
-// The preset of the five numbers from p on.
+// The preset of the five numbers from p on, as `read_presets` wrote them.
 fn preset_at(fields: &[u64], p: usize) -> Preset
-    requires { ⌜ p + 5 ≤ length (now fields) ⌝ }
-    ensures { λ r. ⌜ r ≡ presetFrom (getD (now (fields .entry)) p 0) (getD (now (fields .entry)) (p + 1) 0) (getD (now (fields .entry)) (p + 2) 0)
-        (getD (now (fields .entry)) (p + 3) 0) (getD (now (fields .entry)) (p + 4) 0) ⌝ }
+    requires { ⌜ (p + 5 ≤ length (now fields)) × BytesIn (now fields) p ⌝ }
+    ensures { λ r. ⌜ r ≡ presetIn (now (fields .entry)) p ⌝ }
 {
-    preset_of(
-        fields[p],
-        fields[p + 1],
-        fields[p + 2],
-        fields[p + 3],
-        fields[p + 4],
-    )
+    let refusal = fields[p] as u8;
+    if refusal != 0 {
+        return Preset::Refused(refusal);
+    }
+    Preset::Found {
+        kind: fields[p + 1] as u8,
+        rank: fields[p + 2] as u8,
+        start: fields[p + 3] as usize,
+        length: fields[p + 4] as usize,
+    }
 }
 
 // How many lines the listing has.

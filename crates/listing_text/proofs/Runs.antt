@@ -14,7 +14,7 @@ use Rattle.book_format.specs.declared.Preset.the-variants as preset
 use Rattle.book_format.specs.Books.{count, bookRefusal}
 use Rattle.book_format.specs.Calls.{checkedPreset, presetFields, readingPresets}
 use Rattle.book_format.proofs.BookLaws.{accepted}
-use Rattle.book_format.proofs.RunLaws.{presetIn, presetIn-run, run-read, reading-run}
+use Rattle.book_format.proofs.RunLaws.{presetIn, BytesIn, presetIn-run, run-read, reading-run}
 use Rattle.listing_text.specs.Calls.{lineCount}
 use Rattle.listing_text.proofs.Room.{lineCount-preset}
 
@@ -67,20 +67,28 @@ module _ (ed : Edition) (b : List ℕ) (i : ℕ) (out : List ℕ) (a : Answer) (
       let y : _≡_ {A = ℕ} 0 1 = cc in
       omega arith
 
--- the preset of line i
-presetIn-take : (m : ℕ) (l : List ℕ) (p : ℕ) → p + 4 < m → presetIn (take m l) p ≡ presetIn l p
+-- the preset of line i, and that its refusal, kind and rank are bytes
+presetIn-take : (m : ℕ) (l : List ℕ) (p : ℕ) → p + 4 < m → (presetIn l p ≡ presetIn (take m l) p) × (BytesIn (take m l) p → BytesIn l p)
 presetIn-take m l p h =
     let at : (k : ℕ) → k < m → getD (take m l) k 0 ≡ getD l k 0 = λ k s. getD-take m l k 0 s in
-    rw (at p (omega arith), at (p + 1) (omega arith), at (p + 2) (omega arith), at (p + 3) (omega arith), at (p + 4) h)
+    rw (at p (omega arith), at (p + 1) (omega arith), at (p + 2) (omega arith), at (p + 3) (omega arith), at (p + 4) h) (refl, λ s. s)
 
-pub held-preset : (ed : Edition) (b l : List ℕ) (i first end : ℕ) (a : Preset) → Held ed b first end l → Ready i first end → 1 ≤ i → a ≡ presetIn l (5 * (i - first))
-    → a ≡ checkedPreset ed b (i - 1)
-held-preset ed b l i first end a h r g e =
-    let p = r .begins in
-    let q = r .has g in
-    let d : first - 1 + (i - first) ≡ i - 1 = omega (arith, q .0) in
-    e ∙ sym (presetIn-take (5 * (end - first)) l (5 * (i - first)) (omega (arith, q .1)))
-    ∙ rw (h .numbers, presetIn-run ed b (end - first) (first - 1) (i - first) (omega (arith, q .1)), d)
+module _ (ed : Edition) (b l : List ℕ) (i first end : ℕ) (h : Held ed b first end l) (r : Ready i first end) (g : 1 ≤ i) where
+  numbers-run : (presetIn (take (5 * (end - first)) l) (5 * (i - first)) ≡ checkedPreset ed b (i - 1)) × BytesIn (take (5 * (end - first)) l) (5 * (i - first))
+  numbers-run =
+      let p = r .begins in
+      let q = r .has g in
+      let d : first - 1 + (i - first) ≡ i - 1 = omega (arith, q .0) in
+      rw (h .numbers, ← d) (presetIn-run ed b (end - first) (first - 1) (i - first) (omega (arith, q .1)))
+
+  inside : 5 * (i - first) + 4 < 5 * (end - first)
+  inside = let p = r .begins in let q = r .has g in omega (arith, q .1)
+
+  pub held-preset : (a : Preset) → a ≡ presetIn l (5 * (i - first)) → a ≡ checkedPreset ed b (i - 1)
+  held-preset a e = e ∙ presetIn-take (5 * (end - first)) l (5 * (i - first)) inside .0 ∙ numbers-run .0
+
+  pub held-bytes : BytesIn l (5 * (i - first))
+  held-bytes = presetIn-take (5 * (end - first)) l (5 * (i - first)) inside .1 (numbers-run .1)
 
 -- the number of a refused preset, 0 of one that was found
 unfoldable pub refusalOf : Preset → ℕ

@@ -35,9 +35,8 @@ fn greatest(kind: u8) -> u8
     64
 }
 
-// Answers how many lanes a window of this kind and rank has: one more than the rank in kind 1, else the rank. It checks neither: a number that is
-// no kind counts as kind 3.
-pub fn lanes(kind: u8, rank: u8) -> usize
+// How many lanes a window of this kind and rank has.
+fn lanes(kind: u8, rank: u8) -> usize
     ensures { λ r. ⌜ r ≡ kinds.lanes (kindOf kind) rank ⌝ }
 {
     let n = rank as usize;
@@ -82,9 +81,8 @@ fn has_wrong_letter(rank: u8, word: &[u8]) -> bool
     wrong
 }
 
-// Checks 7 and 8. Answers 7 where the word has more than 4,096 letters, else 8 where a letter is 0 or above the rank, else 0. The rank is not
-// checked.
-pub fn word_refusal(rank: u8, word: &[u8]) -> u8
+// Checks 7 and 8, after 5 and 6: 7 where the word has more than 4,096 letters, else 8 where a letter is 0 or above the rank, else 0.
+fn word_refusal(rank: u8, word: &[u8]) -> u8
     ensures { λ r. ⌜ r ≡ wordRefusal rank (now (word .entry)) ⌝ }
 {
     if LONGEST < word.len() {
@@ -96,7 +94,8 @@ pub fn word_refusal(rank: u8, word: &[u8]) -> u8
     0
 }
 
-// Checks 5 to 8 of one preset. Answers the first number that refuses, or 0.
+// Checks 5 to 8 of one preset: 7 where the word has more than 4,096 letters, else 8 where a letter is 0 or above the rank, each after 5 and 6.
+// Answers the first number that refuses, or 0.
 pub fn preset_refusal(kind: u8, rank: u8, word: &[u8]) -> u8
     ensures { λ r. ⌜ r ≡ (rankRefusal kind rank then wordRefusal rank (now (word .entry))) ⌝ }
 {

@@ -3,13 +3,11 @@
 mod checks;
 mod entries;
 
-pub use checks::lanes;
 pub use checks::preset_refusal;
 pub use checks::presets_refusal;
 pub use checks::rank_refusal;
 pub use checks::ranked_window_refusal;
 pub use checks::ranked_windows_refusal;
 pub use checks::ranked_words_refusal;
-pub use checks::word_refusal;
 pub use entries::is_negative;
 pub use entries::size;

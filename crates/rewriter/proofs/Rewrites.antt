@@ -13,7 +13,7 @@ use lib.ListN.{length, take, drop, length-append, length-drop}
 use lib.Seq.{take-append-seam}
 use borrow.Author.Tests.{ne-eqb, lt-ltb, le-ltb, lt-leb, le-leb}
 use Rattle.coxeter.specs.Kinds.{Kind, A, B, D, kindOf, least}
-use Rattle.coxeter.specs.Checks.{tooShort, rankRefusal, wordRefusal}
+use Rattle.coxeter.specs.Checks.{check, _then_, tooShort, rankRefusal, wordRefusal}
 use Rattle.rules.specs.declared.Rewrite.the-variants.{Used, NoneFits, Refused}
 use Rattle.rewriter.specs.declared.search.Fitting.{Fitting}
 use Rattle.rewriter.specs.declared.search.Fitting.the-variants.{Rule as Shown, Nothing}
@@ -28,6 +28,7 @@ use Rattle.rules.proofs.ScanFamilies.{ends-of-listed, shown-of-listed}
 use Rattle.rewriter.proofs.search.Searches.{fittingOf, along-le}
 use Rattle.rewriter.proofs.writing.Words.{length-new}
 use Rattle.coxeter.proofs.Acceptance.{rank-accepted}
+use Rattle.coxeter.proofs.Refusals.{then-assoc, then-refused}
 
 -- ---- the rule that the search hands on
 
@@ -79,14 +80,14 @@ rewrote-refused : (k n : ℕ) (u : List ℕ) (p : ℕ) (out : List ℕ) (r : ℕ
 unfolding refusedStep
 rewrote-refused k n u p out r e = rewrote-by k n u p out e
 
-pub rewrote-rank : (k n : ℕ) (u : List ℕ) (p : ℕ) (out : List ℕ) (r : ℕ) → r ≡ rankRefusal k n → (r ≡ 0 → ⊥) → Rewrote k n u p out out (Refused r)
+pub rewrote-preset : (k n : ℕ) (u : List ℕ) (p : ℕ) (out : List ℕ) (r : ℕ) → r ≡ (rankRefusal k n then wordRefusal n u) → (r ≡ 0 → ⊥)
+    → Rewrote k n u p out out (Refused r)
 unfolding step
-rewrote-rank k n u p out r e z = rewrote-refused k n u p out r (rw (← e, ne-eqb r 0 z, ne-eqb r 0 z))
-
-pub rewrote-word : (k n : ℕ) (u : List ℕ) (p : ℕ) (out : List ℕ) (r s : ℕ) → r ≡ rankRefusal k n → r ≡ 0 → s ≡ wordRefusal n u → (s ≡ 0 → ⊥)
-    → Rewrote k n u p out out (Refused s)
-unfolding step
-rewrote-word k n u p out r s e z g y = rewrote-refused k n u p out s (rw (← e, ← g, z, ne-eqb s 0 y, ne-eqb s 0 y))
+rewrote-preset k n u p out r e f =
+    let twelfth = check 12 (pastEnd u p) in
+    let q : (rankRefusal k n then wordRefusal n u then twelfth) ≡ r =
+    sym (then-assoc (rankRefusal k n) (wordRefusal n u) twelfth) ∙ sym (then-refused (rankRefusal k n then wordRefusal n u) r twelfth e f) in
+    rewrote-refused k n u p out r (rw (q, ne-eqb r 0 f))
 
 pub rewrote-place : (k n : ℕ) (u : List ℕ) (p : ℕ) (out : List ℕ) → AcceptedWord k n u → length u ≤ p → Rewrote k n u p out out (Refused 12)
 unfolding pastEnd

@@ -7,8 +7,6 @@ use search::fitting_rule;
 use tracing::count;
 use tracing::write_trace;
 pub use window::Answer;
-use window::rank_refusal;
-use window::word_refusal;
 use writing::new_length;
 use writing::write_rewritten;
 ghost use mathlib.Core.Path.{_≡_};
@@ -26,13 +24,9 @@ mod writing;
 pub fn rewrite_at(kind: u8, rank: u8, word: &[u8], place: usize, out: &mut [u8]) -> Rewrite
     ensures { λ r. ⌜ Rewrote kind rank (now (word .entry)) place (now (out .entry)) (now (out .exit)) r ⌝ }
 {
-    let wrong_rank = rank_refusal(kind, rank);
-    if wrong_rank != 0 {
-        return Rewrite::Refused(wrong_rank);
-    }
-    let wrong_word = word_refusal(rank, word);
-    if wrong_word != 0 {
-        return Rewrite::Refused(wrong_word);
+    let refusal = preset_refusal(kind, rank, word);
+    if refusal != 0 {
+        return Rewrite::Refused(refusal);
     }
     if word.len() <= place {
         return Rewrite::Refused(12);

@@ -210,7 +210,7 @@ pub(crate) fn length_of_front(kind: u8, rank: u8, work: &[i8]) -> usize
     requires { ⌜ windowRefusal (kindOf kind) rank (take (lanes (kindOf kind) rank) (now work)) ≡ 0 ⌝ }
     ensures { λ r. ⌜ r ≡ windowLength (kindOf kind) (take (lanes (kindOf kind) rank) (now (work .entry))) ⌝ }
 {
-    let m = refusals::lanes(kind, rank);
+    let m = crate::entries::lanes(kind, rank);
     length_of(kind, rank as usize, &work[..m])
 }
 
@@ -221,6 +221,6 @@ pub(crate) fn crossings_of_front(kind: u8, rank: u8, work: &[i8]) -> Counted
     requires { ⌜ windowRefusal (kindOf kind) rank (take (lanes (kindOf kind) rank) (now work)) ≡ 0 ⌝ }
     ensures { λ r. ⌜ r ≡ countedOf 0 (crossings (kindOf kind) (take (lanes (kindOf kind) rank) (now (work .entry)))) ⌝ }
 {
-    let m = refusals::lanes(kind, rank);
+    let m = crate::entries::lanes(kind, rank);
     crossings_of(kind, rank as usize, &work[..m])
 }

@@ -211,7 +211,7 @@ pub(crate) fn write_normal_form(kind: u8, rank: u8, work: &mut [i8], out: &mut [
         × (now (out .exit) ≡ written 0 (normalForm (kindOf kind) rank (take (lanes (kindOf kind) rank) (now (work .entry)))) (now (out .entry))) ⌝ }
 {
     let n = rank as usize;
-    let m = refusals::lanes(kind, rank);
+    let m = crate::entries::lanes(kind, rank);
     let t = levels_of(kind, n);
     write_from(kind, n, t, 1, &mut work[..m], out)
 }

@@ -1,12 +1,12 @@
 // What words show, written to the front of an output or of a work window of this module's own.
 use crate::action::apply;
 use crate::action::show;
+use crate::entries::lanes;
 use crate::length::crossings_of_front;
 use crate::length::length_of_front;
 use crate::product::inverse_into;
 use crate::product::same_fronts;
 use coxeter::Counted;
-use refusals::lanes;
 ghost use mathlib.Core.Path.{_≡_};
 ghost use Prim.Native.Nat.{_≤_};
 ghost use lib.ListN.{length, take};

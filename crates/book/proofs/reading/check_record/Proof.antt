@@ -49,20 +49,20 @@ add-start c = search needs
 add-end : tie.Need-add-end
 add-end c = search needs
 
-sub-word-refusal : tie.Need-sub-word-refusal
-sub-word-refusal c = search needs
+sub-preset-refusal : tie.Need-sub-preset-refusal
+sub-preset-refusal c = search needs
 
-part-word-refusal-start : tie.Need-part-word-refusal-start
-part-word-refusal-start c = search needs
+part-preset-refusal-start : tie.Need-part-preset-refusal-start
+part-preset-refusal-start c = search needs
 
-part-word-refusal-end : tie.Need-part-word-refusal-end
-part-word-refusal-end c =
+part-preset-refusal-end : tie.Need-part-preset-refusal-end
+part-preset-refusal-end c =
     let placed = c .before .before .before .before .before .before .before in
     let start = placed .before .before in
     end-read-le (start .args .edition) _ _ _ _ (placed .count-place .ensures .0) (c .two-at .ensures .0) (start .pre .1)
 
-word-refusal-requires : tie.Need-word-refusal-requires
-word-refusal-requires c κs = search needs
+preset-refusal-requires : tie.Need-preset-refusal-requires
+preset-refusal-requires c κs = search needs
 
 returns-3 : tie.Need-returns-3
 returns-3 c =
@@ -72,7 +72,7 @@ returns-3 c =
     let placed = ranked .before .before .before .before in
     sym
     (checkedRecord-word _ _ _ _ (ranked .before .book-rank-refusal .ensures) (ranked .if1 .left) _ (laned .before .has-wrong-lanes .ensures) (laned .if2 .left)
-    _ _ _ (placed .count-place .ensures .0) (read .two-at .ensures .0) (c .before .word-refusal .ensures) (c .if3 .taken))
+    _ _ _ (placed .count-place .ensures .0) (read .two-at .ensures .0) (c .before .preset-refusal .ensures) (c .if3 .taken))
 
 returns-4 : tie.Need-returns-4
 returns-4 c =
@@ -82,7 +82,7 @@ returns-4 c =
     let placed = ranked .before .before .before .before in
     sym
     (checkedRecord-found _ _ _ _ (ranked .before .book-rank-refusal .ensures) (ranked .if1 .left) _ (laned .before .has-wrong-lanes .ensures) (laned .if2 .left)
-    _ _ _ (placed .count-place .ensures .0) (read .two-at .ensures .0) (c .before .word-refusal .ensures) (c .if3 .left))
+    _ _ _ (placed .count-place .ensures .0) (read .two-at .ensures .0) (c .before .preset-refusal .ensures) (c .if3 .left))
 
 pub check-record-spec : {M : Type 1} → statement M
 check-record-spec =
@@ -101,9 +101,9 @@ check-record-spec =
     two-at-requires
     add-start
     add-end
-    sub-word-refusal
-    part-word-refusal-start
-    part-word-refusal-end
-    word-refusal-requires
+    sub-preset-refusal
+    part-preset-refusal-start
+    part-preset-refusal-end
+    preset-refusal-requires
     returns-3
     returns-4)

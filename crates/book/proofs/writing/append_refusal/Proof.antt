@@ -22,8 +22,8 @@ returns-2 c =
     let opened = c .before .before in
     sym (appendRefusal-rank _ _ _ _ _ _ (opened .before .book-refusal .ensures) _ (opened .if1 .left) (c .before .book-rank-refusal .ensures) (c .if2 .taken))
 
-word-refusal-requires : tie.Need-word-refusal-requires
-word-refusal-requires c κs = search needs
+preset-refusal-requires : tie.Need-preset-refusal-requires
+preset-refusal-requires c κs = search needs
 
 returns-3 : tie.Need-returns-3
 returns-3 c =
@@ -31,7 +31,7 @@ returns-3 c =
     let opened = ranked .before .before in
     sym
     (appendRefusal-word _ _ _ _ _ _ (opened .before .book-refusal .ensures) _ (opened .if1 .left) (ranked .before .book-rank-refusal .ensures) _ (ranked .if2 .left)
-    (c .before .word-refusal .ensures) (c .if3 .taken))
+    (c .before .preset-refusal .ensures) (c .if3 .taken))
 
 is-retired-requires : tie.Need-is-retired-requires
 is-retired-requires c κs = search needs
@@ -43,7 +43,7 @@ returns-4 c =
     let opened = ranked .before .before in
     sym
     (appendRefusal-retired _ _ _ _ _ _ (opened .before .book-refusal .ensures) _ (opened .if1 .left) (ranked .before .book-rank-refusal .ensures) _ (ranked .if2 .left)
-    (worded .before .word-refusal .ensures) (worded .if3 .left) _ (c .before .is-retired .ensures) (c .if4 .taken))
+    (worded .before .preset-refusal .ensures) (worded .if3 .left) _ (c .before .is-retired .ensures) (c .if4 .taken))
 
 count-place-requires : tie.Need-count-place-requires
 count-place-requires c κs = search needs
@@ -75,7 +75,7 @@ returns-5 c =
     let opened = ranked .before .before in
     sym
     (appendRefusal-large _ _ _ _ _ _ (opened .before .book-refusal .ensures) _ (opened .if1 .left) (ranked .before .book-rank-refusal .ensures) _ (ranked .if2 .left)
-    (worded .before .word-refusal .ensures) (worded .if3 .left) _ (kept .before .is-retired .ensures) (kept .if4 .left)
+    (worded .before .preset-refusal .ensures) (worded .if3 .left) _ (kept .before .is-retired .ensures) (kept .if4 .left)
     (omega (arith, c .if5 .taken, sized .before .count-place .ensures .0, sized .size-of .ensures)))
 
 returns-6 : tie.Need-returns-6
@@ -87,7 +87,7 @@ returns-6 c =
     let opened = ranked .before .before in
     sym
     (appendRefusal-none _ _ _ _ _ _ (opened .before .book-refusal .ensures) _ (opened .if1 .left) (ranked .before .book-rank-refusal .ensures) _ (ranked .if2 .left)
-    (worded .before .word-refusal .ensures) (worded .if3 .left) _ (kept .before .is-retired .ensures) (kept .if4 .left)
+    (worded .before .preset-refusal .ensures) (worded .if3 .left) _ (kept .before .is-retired .ensures) (kept .if4 .left)
     (omega (arith, c .if5 .left, sized .before .count-place .ensures .0, sized .size-of .ensures)))
 
 pub append-refusal-spec : {M : Type 1} → statement M
@@ -98,7 +98,7 @@ append-refusal-spec =
     returns
     book-rank-refusal-requires
     returns-2
-    word-refusal-requires
+    preset-refusal-requires
     returns-3
     is-retired-requires
     returns-4

@@ -5,7 +5,7 @@ use Prim.Native.Nat.{_≤_}
 use native.Mathlib.Omega.{arith}
 use borrow.Author.Needs.{needs}
 use Rattle.listing_text.proofs.Room.{length-firstLine-le, length-line-le}
-use Rattle.listing_text.proofs.Runs.{held-preset}
+use Rattle.listing_text.proofs.Runs.{held-preset, held-bytes}
 use Rattle.listing_lines.proofs.pieces.Filling.{line-first, line-preset}
 use Rattle.listing_lines.proofs.pieces.put_nth.Statement.{statement}
 use Rattle.listing_lines.proofs.pieces.put_nth.Tie as tie
@@ -38,7 +38,7 @@ mul-preset-at c =
 preset-at-requires : tie.Need-preset-at-requires
 preset-at-requires c κs =
     let pre = c .before .before .before .before .pre in
-    omega (arith, pre .1 .room, pre .2 .begins, pre .2 .has (after c) .1)
+    (omega (arith, pre .1 .room, pre .2 .begins, pre .2 .has (after c) .1), held-bytes _ _ _ _ _ _ (pre .1) (pre .2) (after c))
 
 sub-put-preset : tie.Need-sub-put-preset
 sub-put-preset c = after (c .before)
@@ -49,7 +49,7 @@ put-preset-requires c κs =
     let start = other .before .before .before .before in
     let pre = start .pre in
     let a = start .args in
-    let read = held-preset _ _ _ _ _ _ _ (pre .1) (pre .2) (after other) (c .before .preset-at .ensures) in (
+    let read = held-preset _ _ _ _ _ _ (pre .1) (pre .2) (after other) _ (c .before .preset-at .ensures) in (
       a .edition,
       (
         read,
@@ -66,7 +66,7 @@ returns-2 c =
     let put = c .before .before in
     let other = put .before .before .before in
     let pre = other .before .before .before .before .pre in
-    let read = held-preset _ _ _ _ _ _ _ (pre .1) (pre .2) (after other) (put .before .before .preset-at .ensures) in
+    let read = held-preset _ _ _ _ _ _ (pre .1) (pre .2) (after other) _ (put .before .before .preset-at .ensures) in
     rw (line-preset _ _ _ _ (after other) read) (put .put-preset .ensures)
 
 pub put-nth-spec : {M : Type 1} → statement M
