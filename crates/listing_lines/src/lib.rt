@@ -1,11 +1,9 @@
-// The listing of a book (document 01, "Examples"), piece by piece into a lent buffer, and printed. No public function has a `requires`.
+// The listing of a book (document 01, "Examples"), piece by piece into a lent buffer. No public function has a `requires`.
 mod lines;
 mod numbers;
 mod pieces;
 mod presets;
-mod printing;
 
 pub use book::Edition;
 pub use listing_text::Piece;
 pub use pieces::next_piece;
-pub use printing::print_book;

@@ -1,8 +1,8 @@
--- The listing of a book of no bytes, the lines that document 01 prints, some more listings, and pieces of one, from the definitions alone: by computing
--- them.
+-- The listing of a book of no bytes, the lines that document 01 prints, some more listings, lines that are no book, and pieces of a listing, from the
+-- definitions alone: by computing them.
 -- Assumes nothing.
 use mathlib.Core.Path.{_≡_, refl}
-use mathlib.Core.List.{List, [], _∷_, _++_}
+use mathlib.Core.List.{List, [], _∷_, _++_, map}
 use Prim.Native.Nat.{ℕ}
 use Prim.Native.Char.{code}
 use Prim.Native.String.{String}
@@ -61,6 +61,14 @@ unfolding listings codes
     digits decimal spaced letters entry entries kindLetter head tail presetLine refused refusedLine refusedBookLine countLine
     wordLine lineBy lineOf linesFrom listingBy listing
 listings-agree = refl
+
+-- what a converting program prints in place of a book: that the input was not read, or the number of a refusal. Check 2 refuses each in both editions
+pub noBooks : Edition → List (ℕ × ℕ)
+noBooks ed = (bookRefusal ed (codes "book not read\n"), 2) ∷ map (λ r. (bookRefusal ed (refusedBookLine r), 2)) (rise 0 255)
+
+pub noBooks-agree : (ed : Edition) → Agree (noBooks ed)
+unfolding noBooks codes up rise twoAt count trailer wrongSize wrongCount bookRefusal digits decimal refused refusedBookLine
+noBooks-agree ed = refl
 
 -- pieces of document 01's listing, whose lines have 10, 25 and 35 bytes: a buffer that two lines fill, one byte less, one byte less than the last line,
 -- and no line left

@@ -1,4 +1,4 @@
--- `print_converted` is safe: the new book ends inside the buffer.
+-- `converting::print_converted` is safe: the new book ends inside the buffer.
 -- Assumes nothing.
 use mathlib.Core.Path.{sym, _∙_}
 use Prim.Native.Nat.{_≤_}
@@ -7,8 +7,8 @@ use lib.ListN.{length}
 use lib.Seq.{length-take-le}
 use Rattle.book_format.proofs.Converting.{converting-room}
 use borrow.Author.Needs.{needs}
-use Rattle.converter.proofs.print_converted.Statement.{statement}
-use Rattle.converter.proofs.print_converted.Tie as tie
+use Rattle.programs.proofs.converting.print_converted.Statement.{statement}
+use Rattle.programs.proofs.converting.print_converted.Tie as tie
 
 -- the new book ends inside the buffer
 inside : (c : tie.After-known-told) → c .before .l .given .0 .0 ≤ length (c .before .before .before .before .convert .last .1 .1 .0)

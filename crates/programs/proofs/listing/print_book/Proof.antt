@@ -1,4 +1,4 @@
--- `printing::print_book` is safe and ends: a piece that has a byte leaves fewer lines, which is the measure.
+-- `listing::print_book` is safe and ends: a piece that has a byte leaves fewer lines, which is the measure.
 -- Assumes nothing.
 use mathlib.Core.Path.{_≡_, sym, _∙_}
 use Prim.Native.Nat.{_-_, _≤_}
@@ -8,8 +8,8 @@ use lib.Seq.{length-take-le}
 use borrow.Author.Needs.{needs}
 use Rattle.listing_text.specs.Calls.{lineCount}
 use Rattle.listing_text.proofs.Pieces.{piece-inside, piece-falls}
-use Rattle.listing_lines.proofs.printing.print_book.Statement.{statement}
-use Rattle.listing_lines.proofs.printing.print_book.Tie as tie
+use Rattle.programs.proofs.listing.print_book.Statement.{statement}
+use Rattle.programs.proofs.listing.print_book.Tie as tie
 
 abbrev Inv-loop : tie.InvT-loop
 Inv-loop edition book out₀ first₀ out first = length out ≡ 65536

@@ -1,0 +1,37 @@
+// A book converted to the other edition, on standard output.
+use crate::streams::input_ended;
+use crate::streams::print;
+use book::Edition;
+use libc::STDIN_FILENO;
+use libc::STDOUT_FILENO;
+use window::Answer;
+
+fn print_refused(k: u8) {
+    if print(b"book refused ") {
+        io::print_decimal(STDOUT_FILENO, k as u64);
+        print(b"\n");
+    }
+}
+
+// The book in the other edition, or where the conversion is refused only a line with its number.
+fn print_converted(edition: Edition, book: &[u8]) {
+    let mut out = io::large_buffer();
+    match book::convert(edition, book, &mut out) {
+        Answer::Length(l) => {
+            print(&out[..l]);
+        }
+        Answer::Refused(k) => print_refused(k),
+    }
+}
+
+// Converts the book on standard input, which is of the edition named. Where the conversion is refused, or the input cannot be read to its end, only a
+// line that says so is printed, which no edition takes for a book: the count in its last two bytes is far above its length.
+pub fn convert(edition: Edition) {
+    let mut bytes = io::large_buffer();
+    let n = io::read_full(STDIN_FILENO, &mut bytes);
+    if input_ended(STDIN_FILENO, &bytes, n) {
+        print_converted(edition, &bytes[..n]);
+        return;
+    }
+    print(b"book not read\n");
+}

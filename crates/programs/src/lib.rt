@@ -1,0 +1,10 @@
+// What the programs on preset books do: they read a book from standard input and write its listing, or the book in the other edition, to standard
+// output. Failures are said on standard error: a program has no exit status. No public function has a `requires`.
+mod converting;
+mod listing;
+mod streams;
+
+pub use book::Edition;
+pub use converting::convert;
+pub use listing::list;
+pub use listing::list_from;
