@@ -2,6 +2,7 @@
 use crate::digits::are_entries;
 use crate::digits::are_letters;
 use crate::digits::put_digits;
+use book::Edition;
 use rewriter::Rewrite;
 use std::num::wrapping_add_u64;
 use window::Answer;
@@ -126,4 +127,18 @@ pub(crate) fn none_fits(t: u64) -> u64 {
         Rewrite::NoneFits => wrapping_add_u64(t, 1),
         _ => t,
     }
+}
+
+// The letters of a preset of a book; a refused one has none.
+pub(crate) fn preset_letters(
+    t: u64,
+    edition: Edition,
+    book: &[u8],
+    number: usize,
+    word: usize,
+) -> u64 {
+    wrapping_add_u64(
+        t,
+        are_letters(book::letters(edition, book, number), word) as u64,
+    )
 }

@@ -1,14 +1,16 @@
-// Checks the worked examples of source document 000 and those of document 01 that no table proves, and prints how many cases of each group hold.
-// Words and windows are written in digits, as digits.rt says.
+// Checks the worked examples of source document 000 and those of document 01 that no table proves, and the letters of document 01's book, and prints
+// how many cases of each group hold. Words and windows are written in digits, as digits.rt says.
 mod cases;
 mod digits;
 
+use book::Edition;
 use cases::example;
 use cases::least_entry;
 use cases::letter;
 use cases::long_words;
 use cases::none_fits;
 use cases::not_first;
+use cases::preset_letters;
 use cases::product;
 use cases::window_product;
 use libc::STDOUT_FILENO;
@@ -62,6 +64,21 @@ fn mistakes() -> u64 {
     not_first(not_first(not_first(t, 1, 3), 2, 4), 3, 4)
 }
 
+// Document 01's book in either edition, with the letters 1 2 1 2 of B2 and 5 2 3 5 1 2 of D5. There is no preset 2, so it has no letters.
+fn letters(t: u64, edition: Edition, book: &[u8]) -> u64 {
+    let t = preset_letters(t, edition, book, 0, 1212);
+    let t = preset_letters(t, edition, book, 1, 523512);
+    preset_letters(t, edition, book, 2, 0)
+}
+
+fn books() -> u64 {
+    let first =
+        b"\x02\x02\x04\x00\x01\x02\x01\x02\x03\x05\x06\x00\x05\x02\x03\x05\x01\x02\x00\x00\x08\x00\x02\x00";
+    let second =
+        b"\x02\x02\x02\x04\x00\x01\x02\x01\x02\x03\x05\x05\x06\x00\x05\x02\x03\x05\x01\x02\x00\x00\x09\x00\x02\x00";
+    letters(letters(0, Edition::First, first), Edition::Second, second)
+}
+
 fn report(name: &[u8], held: u64) {
     io::write_all(STDOUT_FILENO, name);
     io::print_decimal(STDOUT_FILENO, held);
@@ -72,4 +89,5 @@ fn main() {
     report(b"Examples 2 to 4: ", worked());
     report(b"Limits: ", limits());
     report(b"Mistakes close at hand: ", mistakes());
+    report(b"Letters in books: ", books());
 }
