@@ -44,14 +44,14 @@
  * Of two presets, words or windows the first is checked before the second. winnathey_rewrite also answers WINNATHEY_NONE_FITS, and winnathey_fallback
  * WINNATHEY_NO_FALLBACK, with nothing written.
  *
- * Pointers: each pointer but those to a single size_t is followed by the number of elements that it points to, all of which the caller lends for the
- * time of the call: nobody else writes them meanwhile. With a length of 0 the pointer is not used and need not be valid: it may be NULL. A pointer to a
- * single size_t points to one that the caller lends, in every call, and is not NULL. An output overlaps no input and no other output; inputs may
- * overlap. Nothing is kept after the call.
+ * Pointers: every pointer is followed by the number of elements that it points to, all of which the caller lends for the time of the call: nobody else
+ * writes them meanwhile. With a length of 0 the pointer is not used and need not be valid: it may be NULL. An output overlaps no input and no other
+ * output; inputs may overlap. Nothing is kept after the call.
  *
  * Room that always suffices: 64 for a window, 4,096 for a normal form or for the places of a fallback, the word's length for a rewritten word, 65,535
- * for a book. For each list of a rewriting of a word of L letters, L * (L - 1) / 2: at most 8,386,560. How long the lists of one word must be,
- * winnathey_rewrite_steps says.
+ * for a book; 3 for the counts of a length, the rule of a rewrite and the lengths of a delay table, 2 for the lengths of a split, 1 for that of a final
+ * word, 4 for the fields of a preset. For each list of a rewriting of a word of L letters, L * (L - 1) / 2: at most 8,386,560. How long the lists of one
+ * word must be, winnathey_rewrite_steps says.
  */
 #ifndef WINNATHEY_H
 #define WINNATHEY_H
@@ -87,10 +87,9 @@ int64_t winnathey_inverse_of_word(uint32_t kind, uint32_t rank, const uint8_t *w
 /* The length of a word's normal form. */
 int64_t winnathey_length_of_word(uint32_t kind, uint32_t rank, const uint8_t *word, size_t word_len);
 
-/* The length of a word's normal form by sort of crossing: plain pairs, pairs against a mirrored lane, mirrored lanes; 0 for a sort that the kind does
-   not count. Answers the total, which is the length. */
-int64_t winnathey_crossings_of_word(uint32_t kind, uint32_t rank, const uint8_t *word, size_t word_len, size_t *plain, size_t *against,
-                                    size_t *mirrored);
+/* The length of a word's normal form by sort of crossing: to counts go three numbers, plain pairs, pairs against a mirrored lane and mirrored lanes; 0 for
+   a sort that the kind does not count. Answers their total, which is the length. */
+int64_t winnathey_crossings_of_word(uint32_t kind, uint32_t rank, const uint8_t *word, size_t word_len, uint64_t *counts, size_t counts_len);
 
 /* Whether two presets look alike: as many lanes and the same window, whatever their kinds and ranks. 1 is yes, 0 is no. */
 int64_t winnathey_same(uint32_t kind1, uint32_t rank1, const uint8_t *word1, size_t len1, uint32_t kind2, uint32_t rank2, const uint8_t *word2,
@@ -115,17 +114,17 @@ int64_t winnathey_inverse_of_window(uint32_t kind, uint32_t rank, const int8_t *
 /* The length of a window's normal form. */
 int64_t winnathey_length_of_window(uint32_t kind, uint32_t rank, const int8_t *window, size_t window_len);
 
-/* The length of a window's normal form by sort of crossing, as for a word. Answers the total. */
-int64_t winnathey_crossings_of_window(uint32_t kind, uint32_t rank, const int8_t *window, size_t window_len, size_t *plain, size_t *against,
-                                      size_t *mirrored);
+/* The length of a window's normal form by sort of crossing, as for a word: three numbers. Answers their total. */
+int64_t winnathey_crossings_of_window(uint32_t kind, uint32_t rank, const int8_t *window, size_t window_len, uint64_t *counts, size_t counts_len);
 
 /* ---- all windows of a kind and rank */
 
 /* The delay table, up to rank 19 in kind A and 16 in B and D. To counts goes how many windows have the length 0, 1, .. up to the greatest; to window the
-   one window with the greatest length; to form its normal form. Answers the greatest length, which is the length of form; counts gets one number more.
-   Refusal 14 concerns all three outputs, and comes before any is written. 257 numbers, 20 entries and 256 letters always suffice. */
+   one window with the greatest length; to form its normal form; to lengths three numbers, how many went to counts, to window and to form. Answers the
+   greatest length, which is the last of them. Refusal 14 concerns all four outputs, and comes before any is written. 257 counts, 20 entries and 256
+   letters always suffice. */
 int64_t winnathey_delay_table(uint32_t kind, uint32_t rank, uint64_t *counts, size_t counts_len, int8_t *window, size_t window_len, uint8_t *form,
-                              size_t form_len);
+                              size_t form_len, uint64_t *lengths, size_t lengths_len);
 
 /* ---- one rewrite */
 
@@ -140,11 +139,12 @@ int64_t winnathey_rewrite(uint32_t kind, uint32_t rank, const uint8_t *word, siz
 int64_t winnathey_rewrite_steps(uint32_t kind, uint32_t rank, const uint8_t *word, size_t word_len);
 
 /* Rewrites a word always at the lowest place where a rule fits, until none fits. To the three lists go the rule's family, the place, which counts from 0,
-   and the word's length after it, for each step; to out the final word, which is the normal form, and to *final_len its length. Answers the number of
-   steps. winnathey_rewrite at the places of the list replays it. Refusals 15 and 14 come before anything is written, and a refusal leaves *final_len. */
+   and the word's length after it, for each step; to out the final word, which is the normal form; to written one number, its length. Answers the number
+   of steps. winnathey_rewrite at the places of the list replays it. Refusal 15 concerns the three lists, then 14 out and written; both come before
+   anything is written. */
 int64_t winnathey_rewrite_to_end(uint32_t kind, uint32_t rank, const uint8_t *word, size_t word_len, uint8_t *families, size_t families_len,
                                  uint16_t *places, size_t places_len, uint16_t *lengths, size_t lengths_len, uint8_t *out, size_t out_len,
-                                 size_t *final_len);
+                                 uint64_t *written, size_t written_len);
 
 /* ---- shortest words */
 
@@ -157,10 +157,12 @@ int64_t winnathey_fallback(uint32_t kind, uint32_t rank, const uint8_t *present,
 /* ---- allowed steps: a set of steps in 64 bits, one bit a step, bit 0 for step 1 */
 
 /* Splits a word by allowed steps: into a first word over allowed steps and a second whose window has no shortest word that begins with an allowed step.
-   Both are normal forms, the product of their windows is the word's window, their lengths add up to its length, and there is just one such pair. Their
-   lengths go to first_written and second_written. Answers the sum of the two. Refusal 14 concerns both outputs, and comes before anything is written. */
+   Both are normal forms, the product of their windows is the word's window, their lengths add up to its length, and there is just one such pair. To
+   lengths go two numbers, the length of first and that of second. Answers their sum. Refusal 14 concerns all three outputs, and comes before anything is
+   written. */
 int64_t winnathey_split(uint32_t kind, uint32_t rank, uint64_t allowed, const uint8_t *word, size_t word_len, uint8_t *first, size_t first_len,
-                        uint8_t *second, size_t second_len, size_t *first_written, size_t *second_written);
+                        uint8_t *second, size_t second_len, uint64_t *lengths, size_t lengths_len);
+
 /* The normal form of the word over the allowed steps that leads from one window to another: of all such words a shortest, and of those the first in the
    dictionary. Bit 0 of allowed stands for step 1. Where the windows agree it is empty, whatever is allowed. Answers its length. Refusal 16 is checked
    after 6, and 19 after both windows and before 14. */

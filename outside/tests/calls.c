@@ -17,7 +17,7 @@ static uint8_t rule[ROOM];
 static uint64_t fields[ROOM];
 static uint16_t places[ROOM];
 static uint16_t sizes[ROOM];
-static size_t counts[ROOM];
+static uint64_t counts[ROOM];
 
 static int failed;
 /* The last refusal. */
@@ -165,10 +165,15 @@ static void words(void)
     CALL(winnathey_length_of_word(1, 259, w12, 2));
     CALL(winnathey_length_of_word(1, 2, too_long, 4097));
 
-    CALL(winnathey_crossings_of_word(2, 2, w1212, 4, counts, counts + 1, counts + 2));
-    CALL(winnathey_crossings_of_word(1, 2, NULL, 0, counts, counts + 1, counts + 2));
-    CALL(winnathey_crossings_of_word(1, 259, w12, 2, counts, counts + 1, counts + 2));
-    CALL(winnathey_crossings_of_word(1, 2, w9, 1, counts, counts + 1, counts + 2));
+    CALL(winnathey_crossings_of_word(2, 2, w1212, 4, counts, 3));
+    CALL(winnathey_crossings_of_word(1, 2, NULL, 0, counts, 3));
+    CALL(winnathey_crossings_of_word(1, 259, w12, 2, counts, 3));
+    CALL(winnathey_crossings_of_word(1, 2, w9, 1, counts, 3));
+    CALL(winnathey_crossings_of_word(2, 2, w1212, 4, counts, ROOM));
+    CALL(winnathey_crossings_of_word(2, 2, w1212, 4, counts, 2));
+    CALL(winnathey_crossings_of_word(2, 2, w1212, 4, NULL, 0));
+    CALL(winnathey_crossings_of_word(1, 2, NULL, 0, NULL, 0));
+    CALL(winnathey_crossings_of_word(1, 2, w9, 1, NULL, 0));
 
     CALL(winnathey_same(1, 2, w121, 3, 1, 2, w212, 3));
     CALL(winnathey_same(1, 2, w1, 1, 1, 2, w2, 1));
@@ -212,27 +217,36 @@ static void windows(void)
     CALL(winnathey_length_of_window(3, 4, odd, 4));
     CALL(winnathey_length_of_window(0, 0, NULL, 0));
 
-    CALL(winnathey_crossings_of_window(3, 5, d5, 5, counts, counts + 1, counts + 2));
-    CALL(winnathey_crossings_of_window(1, 2, a2, 3, counts, counts + 1, counts + 2));
-    CALL(winnathey_crossings_of_window(3, 4, odd, 4, counts, counts + 1, counts + 2));
-    CALL(winnathey_crossings_of_window(258, 2, b2, 2, counts, counts + 1, counts + 2));
+    CALL(winnathey_crossings_of_window(3, 5, d5, 5, counts, 3));
+    CALL(winnathey_crossings_of_window(1, 2, a2, 3, counts, 3));
+    CALL(winnathey_crossings_of_window(3, 4, odd, 4, counts, 3));
+    CALL(winnathey_crossings_of_window(258, 2, b2, 2, counts, 3));
+    CALL(winnathey_crossings_of_window(3, 5, d5, 5, counts, ROOM));
+    CALL(winnathey_crossings_of_window(3, 5, d5, 5, counts, 2));
+    CALL(winnathey_crossings_of_window(3, 5, d5, 5, NULL, 0));
+    CALL(winnathey_crossings_of_window(1, 2, NULL, 0, NULL, 0));
 }
 
 static void tables(void)
 {
-    CALL(winnathey_delay_table(1, 2, fields, ROOM, lanes, ROOM, bytes, ROOM));
-    CALL(winnathey_delay_table(2, 2, fields, 5, lanes, 2, bytes, 4));
-    CALL(winnathey_delay_table(3, 5, fields, 21, lanes, 5, bytes, 20));
-    CALL(winnathey_delay_table(2, 2, fields, 4, lanes, 2, bytes, 4));
-    CALL(winnathey_delay_table(2, 2, fields, 5, lanes, 1, bytes, 4));
-    CALL(winnathey_delay_table(2, 2, fields, 5, lanes, 2, bytes, 3));
-    CALL(winnathey_delay_table(2, 2, NULL, 0, NULL, 0, NULL, 0));
-    CALL(winnathey_delay_table(1, 20, fields, ROOM, lanes, ROOM, bytes, ROOM));
-    CALL(winnathey_delay_table(2, 17, NULL, 0, NULL, 0, NULL, 0));
-    CALL(winnathey_delay_table(3, 17, fields, ROOM, lanes, ROOM, bytes, ROOM));
-    CALL(winnathey_delay_table(1, 64, fields, ROOM, lanes, ROOM, bytes, ROOM));
-    CALL(winnathey_delay_table(1, 258, fields, ROOM, lanes, ROOM, bytes, ROOM));
-    CALL(winnathey_delay_table(257, 2, fields, ROOM, lanes, ROOM, bytes, ROOM));
+    CALL(winnathey_delay_table(1, 2, fields, ROOM, lanes, ROOM, bytes, ROOM, counts, 3));
+    CALL(winnathey_delay_table(2, 2, fields, 5, lanes, 2, bytes, 4, counts, 3));
+    CALL(winnathey_delay_table(3, 5, fields, 21, lanes, 5, bytes, 20, counts, 3));
+    CALL(winnathey_delay_table(2, 2, fields, 4, lanes, 2, bytes, 4, counts, 3));
+    CALL(winnathey_delay_table(2, 2, fields, 5, lanes, 1, bytes, 4, counts, 3));
+    CALL(winnathey_delay_table(2, 2, fields, 5, lanes, 2, bytes, 3, counts, 3));
+    CALL(winnathey_delay_table(2, 2, NULL, 0, NULL, 0, NULL, 0, counts, 3));
+    CALL(winnathey_delay_table(1, 20, fields, ROOM, lanes, ROOM, bytes, ROOM, counts, 3));
+    CALL(winnathey_delay_table(2, 17, NULL, 0, NULL, 0, NULL, 0, counts, 3));
+    CALL(winnathey_delay_table(3, 17, fields, ROOM, lanes, ROOM, bytes, ROOM, counts, 3));
+    CALL(winnathey_delay_table(1, 64, fields, ROOM, lanes, ROOM, bytes, ROOM, counts, 3));
+    CALL(winnathey_delay_table(1, 258, fields, ROOM, lanes, ROOM, bytes, ROOM, counts, 3));
+    CALL(winnathey_delay_table(257, 2, fields, ROOM, lanes, ROOM, bytes, ROOM, counts, 3));
+    CALL(winnathey_delay_table(2, 2, fields, 5, lanes, 2, bytes, 4, counts, ROOM));
+    CALL(winnathey_delay_table(2, 2, fields, 5, lanes, 2, bytes, 4, counts, 2));
+    CALL(winnathey_delay_table(2, 2, fields, 5, lanes, 2, bytes, 4, NULL, 0));
+    CALL(winnathey_delay_table(2, 2, NULL, 0, NULL, 0, NULL, 0, NULL, 0));
+    CALL(winnathey_delay_table(2, 17, fields, ROOM, lanes, ROOM, bytes, ROOM, NULL, 0));
 }
 
 static void rewrites(void)
@@ -259,19 +273,27 @@ static void traces(void)
     CALL(winnathey_rewrite_steps(257, 2, w121, 3));
     CALL(winnathey_rewrite_steps(1, 258, w121, 3));
     CALL(winnathey_rewrite_steps(1, 2, w9, 1));
-    CALL(winnathey_rewrite_to_end(1, 3, w133, 3, rule, 3, places, 4, sizes, 5, bytes, 2, counts));
-    CALL(winnathey_rewrite_to_end(2, 2, w12121, 5, rule, 2, places, 2, sizes, 2, bytes, 3, counts));
-    CALL(winnathey_rewrite_to_end(3, 4, w34, 2, rule, ROOM, places, ROOM, sizes, ROOM, bytes, ROOM, counts));
-    CALL(winnathey_rewrite_to_end(1, 2, w11, 2, rule, 1, places, 1, sizes, 1, NULL, 0, counts));
-    CALL(winnathey_rewrite_to_end(1, 2, w212, 3, NULL, 0, NULL, 0, NULL, 0, bytes, 3, counts));
-    CALL(winnathey_rewrite_to_end(1, 3, w133, 3, rule, 2, places, 3, sizes, 3, bytes, 1, counts));
-    CALL(winnathey_rewrite_to_end(1, 3, w133, 3, rule, 3, places, 2, sizes, 3, bytes, 1, counts));
-    CALL(winnathey_rewrite_to_end(1, 3, w133, 3, rule, 3, places, 3, sizes, 2, bytes, 0, counts));
-    CALL(winnathey_rewrite_to_end(1, 3, w133, 3, rule, 3, places, 3, sizes, 3, bytes, 0, counts));
-    CALL(winnathey_rewrite_to_end(1, 2, w212, 3, NULL, 0, NULL, 0, NULL, 0, NULL, 0, counts));
-    CALL(winnathey_rewrite_to_end(4, 2, w121, 3, rule, 0, places, 0, sizes, 0, bytes, 0, counts));
-    CALL(winnathey_rewrite_to_end(1, 258, w121, 3, rule, 1, places, 1, sizes, 1, bytes, 3, counts));
-    CALL(winnathey_rewrite_to_end(1, 2, too_long, 4097, rule, 0, places, 0, sizes, 0, bytes, 0, counts));
+    CALL(winnathey_rewrite_to_end(1, 3, w133, 3, rule, 3, places, 4, sizes, 5, bytes, 2, counts, 1));
+    CALL(winnathey_rewrite_to_end(2, 2, w12121, 5, rule, 2, places, 2, sizes, 2, bytes, 3, counts, 1));
+    CALL(winnathey_rewrite_to_end(3, 4, w34, 2, rule, ROOM, places, ROOM, sizes, ROOM, bytes, ROOM, counts, 1));
+    CALL(winnathey_rewrite_to_end(1, 2, w11, 2, rule, 1, places, 1, sizes, 1, NULL, 0, counts, 1));
+    CALL(winnathey_rewrite_to_end(1, 2, w212, 3, NULL, 0, NULL, 0, NULL, 0, bytes, 3, counts, 1));
+    CALL(winnathey_rewrite_to_end(1, 3, w133, 3, rule, 2, places, 3, sizes, 3, bytes, 1, counts, 1));
+    CALL(winnathey_rewrite_to_end(1, 3, w133, 3, rule, 3, places, 2, sizes, 3, bytes, 1, counts, 1));
+    CALL(winnathey_rewrite_to_end(1, 3, w133, 3, rule, 3, places, 3, sizes, 2, bytes, 0, counts, 1));
+    CALL(winnathey_rewrite_to_end(1, 3, w133, 3, rule, 3, places, 3, sizes, 3, bytes, 0, counts, 1));
+    CALL(winnathey_rewrite_to_end(1, 2, w212, 3, NULL, 0, NULL, 0, NULL, 0, NULL, 0, counts, 1));
+    CALL(winnathey_rewrite_to_end(4, 2, w121, 3, rule, 0, places, 0, sizes, 0, bytes, 0, counts, 1));
+    CALL(winnathey_rewrite_to_end(1, 258, w121, 3, rule, 1, places, 1, sizes, 1, bytes, 3, counts, 1));
+    CALL(winnathey_rewrite_to_end(1, 2, too_long, 4097, rule, 0, places, 0, sizes, 0, bytes, 0, counts, 1));
+    CALL(winnathey_rewrite_to_end(1, 3, w133, 3, rule, 3, places, 3, sizes, 3, bytes, 1, counts, ROOM));
+    CALL(winnathey_rewrite_to_end(1, 3, w133, 3, rule, 3, places, 3, sizes, 3, bytes, 1, NULL, 0));
+    CALL(winnathey_rewrite_to_end(1, 3, w133, 3, rule, 2, places, 3, sizes, 3, bytes, 1, NULL, 0));
+    CALL(winnathey_rewrite_to_end(1, 3, w133, 3, rule, 3, places, 2, sizes, 3, bytes, 1, NULL, 0));
+    CALL(winnathey_rewrite_to_end(1, 3, w133, 3, rule, 3, places, 3, sizes, 2, bytes, 1, NULL, 0));
+    CALL(winnathey_rewrite_to_end(1, 2, w11, 2, rule, 1, places, 1, sizes, 1, NULL, 0, NULL, 0));
+    CALL(winnathey_rewrite_to_end(1, 2, NULL, 0, NULL, 0, NULL, 0, NULL, 0, NULL, 0, NULL, 0));
+    CALL(winnathey_rewrite_to_end(1, 2, w9, 1, NULL, 0, NULL, 0, NULL, 0, NULL, 0, NULL, 0));
 }
 
 static void shortest(void)
@@ -310,22 +332,27 @@ static void shortest(void)
 
 static void splits(void)
 {
-    CALL(winnathey_split(1, 2, 1, w121, 3, bytes, 1, rule, 2, counts, counts + 1));
-    CALL(winnathey_split(1, 2, 2, w121, 3, bytes, ROOM, rule, ROOM, counts, counts + 1));
-    CALL(winnathey_split(1, 2, 0, w121, 3, NULL, 0, rule, 3, counts, counts + 1));
-    CALL(winnathey_split(1, 2, 3, w121, 3, bytes, 3, NULL, 0, counts, counts + 1));
-    CALL(winnathey_split(2, 2, 2, w1212, 4, bytes, 1, rule, 3, counts, counts + 1));
-    CALL(winnathey_split(3, 5, 0x1b, d5_word, 6, bytes, ROOM, rule, ROOM, counts, counts + 1));
-    CALL(winnathey_split(2, 64, UINT64_MAX, w212, 3, bytes, ROOM, rule, ROOM, counts, counts + 1));
-    CALL(winnathey_split(1, 2, 3, NULL, 0, NULL, 0, NULL, 0, counts, counts + 1));
-    CALL(winnathey_split(1, 2, 4, w9, 1, bytes, ROOM, rule, ROOM, counts, counts + 1));
-    CALL(winnathey_split(1, 63, UINT64_C(1) << 63, w1, 1, bytes, ROOM, rule, ROOM, counts, counts + 1));
-    CALL(winnathey_split(1, 2, 3, w9, 1, bytes, ROOM, rule, ROOM, counts, counts + 1));
-    CALL(winnathey_split(1, 2, 3, too_long, 4097, bytes, ROOM, rule, ROOM, counts, counts + 1));
-    CALL(winnathey_split(1, 2, 1, w121, 3, bytes, 0, rule, 2, counts, counts + 1));
-    CALL(winnathey_split(1, 2, 1, w121, 3, bytes, 1, rule, 1, counts, counts + 1));
-    CALL(winnathey_split(257, 2, 1, w121, 3, bytes, ROOM, rule, ROOM, counts, counts + 1));
-    CALL(winnathey_split(1, 258, 1, w121, 3, bytes, ROOM, rule, ROOM, counts, counts + 1));
+    CALL(winnathey_split(1, 2, 1, w121, 3, bytes, 1, rule, 2, counts, 2));
+    CALL(winnathey_split(1, 2, 2, w121, 3, bytes, ROOM, rule, ROOM, counts, 2));
+    CALL(winnathey_split(1, 2, 0, w121, 3, NULL, 0, rule, 3, counts, 2));
+    CALL(winnathey_split(1, 2, 3, w121, 3, bytes, 3, NULL, 0, counts, 2));
+    CALL(winnathey_split(2, 2, 2, w1212, 4, bytes, 1, rule, 3, counts, 2));
+    CALL(winnathey_split(3, 5, 0x1b, d5_word, 6, bytes, ROOM, rule, ROOM, counts, 2));
+    CALL(winnathey_split(2, 64, UINT64_MAX, w212, 3, bytes, ROOM, rule, ROOM, counts, 2));
+    CALL(winnathey_split(1, 2, 3, NULL, 0, NULL, 0, NULL, 0, counts, 2));
+    CALL(winnathey_split(1, 2, 4, w9, 1, bytes, ROOM, rule, ROOM, counts, 2));
+    CALL(winnathey_split(1, 63, UINT64_C(1) << 63, w1, 1, bytes, ROOM, rule, ROOM, counts, 2));
+    CALL(winnathey_split(1, 2, 3, w9, 1, bytes, ROOM, rule, ROOM, counts, 2));
+    CALL(winnathey_split(1, 2, 3, too_long, 4097, bytes, ROOM, rule, ROOM, counts, 2));
+    CALL(winnathey_split(1, 2, 1, w121, 3, bytes, 0, rule, 2, counts, 2));
+    CALL(winnathey_split(1, 2, 1, w121, 3, bytes, 1, rule, 1, counts, 2));
+    CALL(winnathey_split(257, 2, 1, w121, 3, bytes, ROOM, rule, ROOM, counts, 2));
+    CALL(winnathey_split(1, 258, 1, w121, 3, bytes, ROOM, rule, ROOM, counts, 2));
+    CALL(winnathey_split(1, 2, 1, w121, 3, bytes, 1, rule, 2, counts, ROOM));
+    CALL(winnathey_split(1, 2, 1, w121, 3, bytes, 1, rule, 2, counts, 1));
+    CALL(winnathey_split(1, 2, 1, w121, 3, bytes, 1, rule, 2, NULL, 0));
+    CALL(winnathey_split(1, 2, 3, NULL, 0, NULL, 0, NULL, 0, NULL, 0));
+    CALL(winnathey_split(1, 2, 4, w9, 1, bytes, ROOM, rule, ROOM, NULL, 0));
 }
 
 static void books(void)

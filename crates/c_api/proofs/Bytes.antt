@@ -29,10 +29,9 @@ use Rattle.book_format.specs.declared.Edition.{Edition}
 use Rattle.book_format.specs.Books.{bookRankRefusal, bookRefusal, appendRefusal}
 use Rattle.book_format.specs.Calls.{appending}
 use Rattle.book_format.proofs.RankLaws.{bookRankRefusal-refused}
-use Rattle.distribution.specs.declared.Table.{Table}
-use Rattle.distribution.specs.Calls.{tableRefusal, TableYields, tableOf, tables, delayTable}
-use Rattle.c_api.specs.Calls.{numberOf, rewritingBy, rewriting, sorting, Sorted, tableNumber, TableNumbered}
-use Rattle.c_api.proofs.Lengths.{answered, i64-back}
+use Rattle.distribution.specs.Calls.{tableRefusal, tableOf, tables, delayTable}
+use Rattle.c_api.specs.Calls.{numberOf, numbered, rewriteNumbers, rewriting, crossingNumbers, listed, listedBeside}
+use Rattle.c_api.proofs.Lengths.{answered, i64-back, numbers-alike}
 
 -- ---- kinds and ranks
 
@@ -239,33 +238,27 @@ step-refusable u p out = record { alike = λ k n l m e f. rw (e, ne-eqb (rankRef
 pub rewriting-refusable : (u : List ℕ) (p : ℕ) (out rule : List ℕ) → Refusable (λ k n. rewriting k n u p out rule)
 unfolding rewriting
 rewriting-refusable u p out rule = record {
-  alike = λ k n l m e f. ap (λ (s : Step). rewritingBy (s .answer) (s .bytes) out rule) (step-refusable u p out .alike k n l m e f);
+  alike = λ k n l m e f. ap (λ (s : Step). listedBeside (rewriteNumbers (s .answer)) (s .bytes) out rule) (step-refusable u p out .alike k n l m e f);
 }
 
 -- ---- answers
 
 -- a call below was given the bytes, and answered a; its number is z
-pub numbered : {F : ℕ → ℕ → Answer} → Refusable F → (k n l m : ℕ) (z : ℤ) (a : Answer) → l ≡ byteOf k → m ≡ byteOf n → mag z < 9223372036854775808
+pub measured : {F : ℕ → ℕ → Answer} → Refusable F → (k n l m : ℕ) (z : ℤ) (a : Answer) → l ≡ byteOf k → m ≡ byteOf n → mag z < 9223372036854775808
     → z ≡ numberOf a → a ≡ F l m → toZ w64 (ofZ w64 z) ≡ numberOf (F k n)
-numbered r k n l m z a e f h q b = answered z a _ h q (b ∙ as-bytes r k n l m e f)
+measured r k n l m z a e f h q b = answered z a _ h q (b ∙ as-bytes r k n l m e f)
 
 pub yielded : {X : Type 0} {F : ℕ → ℕ → Outcome X} → Refusable F → (k n l m : ℕ) (z : ℤ) (a : Answer) (after : List X) → l ≡ byteOf k → m ≡ byteOf n
-    → mag z < 9223372036854775808 → z ≡ numberOf a → (a ≡ F l m .answer) × (after ≡ F l m .bytes)
-    → (toZ w64 (ofZ w64 z) ≡ numberOf (F k n .answer)) × (after ≡ F k n .bytes)
-yielded {X} r k n l m z a after e f h q b =
-    let same = as-bytes r k n l m e f in
-    (answered z a _ h q (b .0 ∙ ap (λ (o : Outcome X). o .answer) same), b .1 ∙ ap (λ (o : Outcome X). o .bytes) same)
+    → mag z < 9223372036854775808 → z ≡ numberOf a → (a ≡ F l m .answer) × (after ≡ F l m .bytes) → (toZ w64 (ofZ w64 z), after) ≡ numbered (F k n)
+yielded r k n l m z a after e f h q b = numbers-alike z a after _ h q (rw (as-bytes r k n l m e f) at b)
 
--- and a call that counts answered a, which was sorted
-pub sorted-as-bytes : {F : ℕ → ℕ → Counted} → Refusable F → (k n l m : ℕ) (a : Counted) (p q r : ℕ) (z : ℤ) (p′ q′ r′ : ℕ) → l ≡ byteOf k → m ≡ byteOf n
-    → mag z < 9223372036854775808 → Sorted (sorting a p q r) z p′ q′ r′ → a ≡ F l m → Sorted (sorting (F k n) p q r) (toZ w64 (ofZ w64 z)) p′ q′ r′
-sorted-as-bytes {F} f k n l m a p q r z p′ q′ r′ e g h s b =
-    rw (← (b ∙ as-bytes f k n l m e g), i64-back z h) s
+-- and a call that counts answered a, whose numbers went to a list
+pub crossings-as-bytes : {F : ℕ → ℕ → Counted} → Refusable F → (k n l m : ℕ) (a : Counted) (list : List ℕ) (z : ℤ) (after : List ℕ) → l ≡ byteOf k
+    → m ≡ byteOf n → mag z < 9223372036854775808 → (z, after) ≡ listed (crossingNumbers a) list → a ≡ F l m
+    → (toZ w64 (ofZ w64 z), after) ≡ listed (crossingNumbers (F k n)) list
+crossings-as-bytes f k n l m a list z after e g h s b = rw (← (b ∙ as-bytes f k n l m e g), i64-back z h) s
 
--- and so for a delay table that the call below answered
-pub table-as-bytes : (k n : ℕ) (counts : List ℕ) (entries : List ℤ) (letters : List ℕ) (l m : ℕ) (a : Table) (z : ℤ) (c : List ℕ) (w : List ℤ) (u : List ℕ)
-    → l ≡ byteOf k → m ≡ byteOf n → mag z < 9223372036854775808 → z ≡ tableNumber a → TableYields (delayTable l m counts entries letters) a c w u
-    → TableNumbered (delayTable k n counts entries letters) (toZ w64 (ofZ w64 z)) c w u
-table-as-bytes k n counts entries letters l m a z c w u e f h q y =
-    let same = as-bytes (delayTable-refusable counts entries letters) k n l m e f in
-    rw (← same) (i64-back z h ∙ q ∙ ap tableNumber (y .0), y .1, y .2, y .3)
+-- and a call whose number is z left y
+pub handed-on : {Y : Type 0} {F : ℕ → ℕ → ℤ × Y} → Refusable F → (k n l m : ℕ) (z : ℤ) (y : Y) → l ≡ byteOf k → m ≡ byteOf n
+    → mag z < 9223372036854775808 → (z, y) ≡ F l m → (toZ w64 (ofZ w64 z), y) ≡ F k n
+handed-on r k n l m z y e f h q = rw (i64-back z h) (q ∙ as-bytes r k n l m e f)

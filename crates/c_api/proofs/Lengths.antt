@@ -24,7 +24,7 @@ use Rattle.coxeter.specs.Windows.{window, product, inverse}
 use Rattle.coxeter.specs.Length.{Crossings, crossings, total, windowLength}
 use Rattle.coxeter.specs.NormalForm.{normalForm}
 use Rattle.coxeter.specs.Checks.{check, _then_, tooShort, rankRefusal, wordRefusal, windowRefusal}
-use Rattle.coxeter.specs.Calls.{answerOf, writes, windowOfWord, productOfWindows, inverseOfWindow, normalFormOfWindow, normalFormOfWord, productOfWords, inverseOfWord, lengthOfWindow, lengthOfWord, countedOf, crossingsOfWindow, crossingsOfWord}
+use Rattle.coxeter.specs.Calls.{Outcome, answerOf, writes, windowOfWord, productOfWindows, inverseOfWindow, normalFormOfWindow, normalFormOfWord, productOfWords, inverseOfWord, lengthOfWindow, lengthOfWord, countedOf, crossingsOfWindow, crossingsOfWord}
 use Rattle.coxeter.proofs.Refusals.{then-zero}
 use Rattle.coxeter.proofs.Acceptance.{lanes-le, length-accepted}
 use Rattle.coxeter.proofs.Levels.{Accepted, accepted-of-refusal, window-accepted}
@@ -52,7 +52,7 @@ use Rattle.book_format.specs.Conversion.{converted, conversionRefusal, converti
 use Rattle.book_format.proofs.BookLaws.{accepted}
 use Rattle.book_format.proofs.WritingLaws.{append-size}
 use Rattle.book_format.proofs.Converting.{conversion-small}
-use Rattle.c_api.specs.Calls.{refused, numberOf}
+use Rattle.c_api.specs.Calls.{refused, numberOf, numbered}
 
 -- ---- numbers
 
@@ -81,6 +81,11 @@ i64-back z h = toZ-ofZ w64 z (record { sfits = h })
 
 pub answered : (z : ℤ) (a b : Answer) → mag z < 9223372036854775808 → z ≡ numberOf a → a ≡ b → toZ w64 (ofZ w64 z) ≡ numberOf b
 answered z a b h e q = i64-back z h ∙ e ∙ ap numberOf q
+
+-- with the output that the call below left
+pub numbers-alike : {X : Type 0} (z : ℤ) (a : Answer) (after : List X) (o : Outcome X) → mag z < 9223372036854775808 → z ≡ numberOf a
+    → (a ≡ o .answer) × (after ≡ o .bytes) → (toZ w64 (ofZ w64 z), after) ≡ numbered o
+numbers-alike z a after o h e q = rw (i64-back z h, e, q .0, q .1)
 
 -- ---- answers
 

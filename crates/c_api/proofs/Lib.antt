@@ -1,9 +1,11 @@
 -- The laws that the proofs of the calls for C share.
 pub mod Lengths
 pub mod Bytes
+pub mod Lists
 pub mod Outcomes
 pub mod Verdicts
 pub mod SplitNumbers
 pub mod StepNumbers
+pub mod TableNumbers
 pub mod Unchanged
 pub mod Vectors

@@ -1,122 +1,133 @@
--- What two of the calls for C write beyond the call below them: one rewrite its rule, by the cases of the layer's answer, and a preset its fields.
+-- What calls for C write to a list beyond the call below them: the counts of a length by sort, a preset its fields, one rewrite its rule. By the cases of
+-- the layer's answer.
 --
--- Sections: one rewrite; a preset's fields.
+-- Sections: counts and fields; one rewrite; a rule without room.
 -- Assumes nothing.
-use mathlib.Core.Path.{_≡_, refl, sym, _∙_}
+use mathlib.Core.Path.{_≡_, refl, sym, ap, _∙_}
 use mathlib.Core.Bool.{Bool, true, false}
 use mathlib.Core.List.{List, [], _∷_, _++_}
 use mathlib.Core.Option.{Option, none, some}
-use Prim.Native.Nat.{ℕ, _≤_, _<_}
+use Prim.Native.Nat.{ℕ, _+_, _≤_, _<_}
 use native.Mathlib.Omega.{arith}
 use lib.Dec.{eqb}
-use lib.IntN.{pos}
+use lib.IntN.{ℤ, pos}
 use lib.ListN.{length}
-use lib.Seq.{sets, sets-eq}
-use borrow.Author.Tests.{lt-ltb, le-ltb}
+use lib.Seq.{sets}
+use Rattle.coxeter.specs.declared.Counted.{Counted}
+use Rattle.coxeter.specs.declared.Counted.the-variants as counted
 use Rattle.coxeter.specs.Kinds.{pick, kindOf}
 use Rattle.coxeter.specs.Checks.{check, _then_, tooShort, rankRefusal, wordRefusal}
-use Rattle.coxeter.specs.Calls.{writes}
-use Rattle.coxeter.proofs.Outcomes.{writes-short, writes-done}
 use Rattle.rules.specs.declared.Rewrite.{Rewrite}
 use Rattle.rules.specs.declared.Rewrite.the-variants.{Used, NoneFits, Refused}
 use Rattle.rules.specs.Rules.{Rule, rules, firstFitting, rewritten}
 use Rattle.rules.specs.Calls.{pastEnd, refusedStep, usedStep, stepBy, step, Rewrote}
 use Rattle.rules.proofs.Unchanged.{step-refused-unchanged, step-noneFits-unchanged}
-use Rattle.book_format.specs.declared.Edition.{Edition}
 use Rattle.book_format.specs.declared.Preset.{Preset}
 use Rattle.book_format.specs.declared.Preset.the-variants as preset
-use Rattle.book_format.specs.Calls.{checkedPreset}
-use Rattle.c_api.specs.Calls.{refused, numberOf, Numbered, Rewritten, unwritten, rewritingBy, rewriting, presetNumbers}
+use Rattle.c_api.specs.Calls.{refused, crossingNumbers, rewriteNumbers, presetNumbers, listed, listedBeside, rewriting}
+use Rattle.c_api.proofs.Lists.{roomless, rewrite-numbers, listed-stored, listed-alone, listed-short, beside-stored, beside-alone, beside-roomless}
+
+-- ---- counts and fields
+
+module _ (x : Counted) (list : List ℕ) where
+  pub crossings-refused : (z : ℤ) (r : ℕ) → x ≡ counted.Refused r → z ≡ refused r → (z, list) ≡ listed (crossingNumbers x) list
+  unfolding crossingNumbers
+  crossings-refused z r q e = rw (q, ← e) (listed-alone z list)
+
+  module _ (a b c : ℕ) (q : x ≡ counted.Crossings a b c) where
+    pub crossings-short : length list < 3 → (refused 14, list) ≡ listed (crossingNumbers x) list
+    unfolding crossingNumbers
+    crossings-short h = rw q (listed-short (pos (a + b + c)) (a ∷ b ∷ c ∷ []) list h)
+
+    pub crossings-stored : (z : ℤ) → 3 ≤ length list → z ≡ pos (a + b + c) → (z, sets list 0 (a ∷ b ∷ c ∷ [])) ≡ listed (crossingNumbers x) list
+    unfolding crossingNumbers
+    crossings-stored z h e = rw (q, ← e) (listed-stored z (a ∷ b ∷ c ∷ []) list h)
+
+-- the call below answered a, which is its definition d
+module _ (a d : Preset) (list : List ℕ) (e : a ≡ d) where
+  pub fields-refused : (z : ℤ) (r : ℕ) → a ≡ preset.Refused r → z ≡ refused r → (z, list) ≡ listed (presetNumbers d) list
+  unfolding presetNumbers
+  fields-refused z r q f = rw (← e, q, ← f) (listed-alone z list)
+
+  module _ (k n s l : ℕ) (q : a ≡ preset.Found k n s l) where
+    pub fields-short : length list < 4 → (refused 14, list) ≡ listed (presetNumbers d) list
+    unfolding presetNumbers
+    fields-short h = rw (← e, q) (listed-short (pos 4) (k ∷ n ∷ s ∷ l ∷ []) list h)
+
+    pub fields-stored : 4 ≤ length list → (pos 4, sets list 0 (k ∷ n ∷ s ∷ l ∷ [])) ≡ listed (presetNumbers d) list
+    unfolding presetNumbers
+    fields-stored h = rw (← e, q) (listed-stored (pos 4) (k ∷ n ∷ s ∷ l ∷ []) list h)
 
 -- ---- one rewrite
 
-module _ (k n : ℕ) (u : List ℕ) (p : ℕ) (out after rule : List ℕ) (a : Rewrite) (w : Rewrote k n u p out after a) where
-  pub rewriting-used : (f i j l : ℕ) → a ≡ Used f i j l → 3 ≤ length rule → Rewritten (rewriting k n u p out rule) (pos l) after (sets rule 0 (f ∷ i ∷ j ∷ []))
-  unfolding rewriting rewritingBy tooShort
-  rewriting-used f i j l q h =
-      rw (← w .answer, q, le-ltb (length rule) 3 h) (refl, w .bytes, sets-eq (f ∷ i ∷ j ∷ []) rule 0 h)
+module _ (k n : ℕ) (u : List ℕ) (p : ℕ) (out after rule : List ℕ) (a : Rewrite) (w : Rewrote k n u p out after a) (z : ℤ) where
+  pub rewriting-used : (f i j l : ℕ) → a ≡ Used f i j l → 3 ≤ length rule → z ≡ pos l
+      → (z, (after, sets rule 0 (f ∷ i ∷ j ∷ []))) ≡ rewriting k n u p out rule
+  unfolding rewriting rewriteNumbers
+  rewriting-used f i j l q h e = rw (← w .answer, ← w .bytes, q, ← e) (beside-stored z (f ∷ i ∷ j ∷ []) rule after out h)
 
-  pub rewriting-fitless : a ≡ NoneFits → Rewritten (rewriting k n u p out rule) (refused 100) after rule
-  unfolding rewriting rewritingBy unwritten
-  rewriting-fitless q = let e = step-noneFits-unchanged k n u p out (sym (w .answer) ∙ q) in rw (← w .answer, q) (refl, w .bytes ∙ e .0, refl)
+  pub rewriting-fitless : a ≡ NoneFits → z ≡ refused 100 → (z, (after, rule)) ≡ rewriting k n u p out rule
+  unfolding rewriting rewriteNumbers
+  rewriting-fitless q e = rw (← w .answer, ← w .bytes, q, ← e) (beside-alone z after out rule)
 
-  pub rewriting-refused : (r : ℕ) → a ≡ Refused r → Rewritten (rewriting k n u p out rule) (refused r) after rule
-  unfolding rewriting rewritingBy unwritten
-  rewriting-refused r q = let e = step-refused-unchanged k n u p out r (sym (w .answer) ∙ q) in rw (← w .answer, q) (refl, w .bytes ∙ e .0, refl)
+  pub rewriting-refused : (r : ℕ) → a ≡ Refused r → z ≡ refused r → (z, (after, rule)) ≡ rewriting k n u p out rule
+  unfolding rewriting rewriteNumbers
+  rewriting-refused r q e = rw (← w .answer, ← w .bytes, q, ← e) (beside-alone z after out rule)
 
--- where the rule has no room nothing is written, and the refusal does not depend on the outputs
-unfoldable pub roomless : Rewrite → ℕ
-roomless (Used f i j l) = 14
-roomless NoneFits = 100
-roomless (Refused k) = k
+-- where nothing goes to the rule, nothing is written
+pub step-still : (k n : ℕ) (u : List ℕ) (p : ℕ) (out : List ℕ) → rewriteNumbers (step k n u p out .answer) .1 ≡ [] → step k n u p out .bytes ≡ out
+unfolding rewriteNumbers
+step-still k n u p out = cases (step k n u p out .answer) refl
+  where
+    cases : (a : Rewrite) → step k n u p out .answer ≡ a → rewriteNumbers a .1 ≡ [] → step k n u p out .bytes ≡ out
+    cases (Used f i j l) e h = let z : _≡_ {A = ℕ} 0 1 = cc in absurd (omega arith)
+    cases NoneFits e h = step-noneFits-unchanged k n u p out e .0
+    cases (Refused r) e h = step-refused-unchanged k n u p out r e .0
 
-roomless-step : (k n : ℕ) (u : List ℕ) (p : ℕ) (out : List ℕ) → roomless (step k n u p out .answer) ≡ roomless (step k n u p [] .answer)
-unfolding step stepBy usedStep refusedStep roomless
+-- ---- a rule without room
+
+-- the number does not depend on the outputs
+roomless-step : (k n : ℕ) (u : List ℕ) (p : ℕ) (out : List ℕ)
+    → roomless (rewriteNumbers (step k n u p out .answer)) ≡ roomless (rewriteNumbers (step k n u p [] .answer))
+unfolding step stepBy usedStep refusedStep roomless rewriteNumbers
 roomless-step k n u p out = go (eqb r 0)
   where
     r : ℕ
     r = rankRefusal k n then wordRefusal n u then check 12 (pastEnd u p)
 
-    same : (o : Option Rule) → roomless (stepBy o u p out .answer) ≡ roomless (stepBy o u p [] .answer)
+    same : (o : Option Rule) → roomless (rewriteNumbers (stepBy o u p out .answer)) ≡ roomless (rewriteNumbers (stepBy o u p [] .answer))
     same none = refl
     same (some x) = both (tooShort (length (rewritten x u p)) out) (tooShort (length (rewritten x u p)) [])
       where
-        both : (s t : Bool) → roomless (pick s (refusedStep 14 u out) (usedStep x (rewritten x u p) out) .answer)
-            ≡ roomless (pick t (refusedStep 14 u []) (usedStep x (rewritten x u p) []) .answer)
+        both : (s t : Bool) → roomless (rewriteNumbers (pick s (refusedStep 14 u out) (usedStep x (rewritten x u p) out) .answer))
+            ≡ roomless (rewriteNumbers (pick t (refusedStep 14 u []) (usedStep x (rewritten x u p) []) .answer))
         both true true = refl
         both true false = refl
         both false true = refl
         both false false = refl
 
-    go : (t : Bool) → roomless (pick t (stepBy (firstFitting (rules (kindOf k) n) u p) u p out) (refusedStep r u out) .answer)
-        ≡ roomless (pick t (stepBy (firstFitting (rules (kindOf k) n) u p) u p []) (refusedStep r u []) .answer)
+    go : (t : Bool) → roomless (rewriteNumbers (pick t (stepBy (firstFitting (rules (kindOf k) n) u p) u p out) (refusedStep r u out) .answer))
+        ≡ roomless (rewriteNumbers (pick t (stepBy (firstFitting (rules (kindOf k) n) u p) u p []) (refusedStep r u []) .answer))
     go true = same (firstFitting (rules (kindOf k) n) u p)
     go false = refl
 
-rewritingBy-roomless : (a : Rewrite) (new out rule : List ℕ) → length rule < 3 → rewritingBy a new out rule ≡ unwritten (roomless a) out rule
-unfolding rewritingBy tooShort roomless
-rewritingBy-roomless (Used f i j l) new out rule h = rw (lt-ltb (length rule) 3 h)
-rewritingBy-roomless NoneFits new out rule h = refl
-rewritingBy-roomless (Refused k) new out rule h = refl
+rewriting-without : (k n : ℕ) (u : List ℕ) (p : ℕ) (out rule : List ℕ) → length rule < 3
+    → rewriting k n u p out rule ≡ (roomless (rewriteNumbers (step k n u p out .answer)), (out, rule))
+unfolding rewriting
+rewriting-without k n u p out rule h =
+    beside-roomless (rewrite-numbers (step k n u p out .answer)) (step k n u p out .bytes) out rule (omega arith) h (step-still k n u p out)
 
 -- the number that an empty output gives
 pub rewriting-narrow : (k n : ℕ) (u : List ℕ) (p : ℕ) (after : List ℕ) (a : Rewrite) → Rewrote k n u p [] after a
-    → refused (roomless a) ≡ rewriting k n u p [] [] .number
-unfolding rewriting unwritten
-rewriting-narrow k n u p after a w = rw (← w .answer, rewritingBy-roomless a (step k n u p [] .bytes) [] [] (omega arith))
+    → roomless (rewriteNumbers a) ≡ rewriting k n u p [] [] .0
+rewriting-narrow k n u p after a w = rw (rewriting-without k n u p [] [] (omega arith), ← w .answer)
 
-pub rewriting-roomless : (k n : ℕ) (u : List ℕ) (p : ℕ) (out rule : List ℕ) → length rule < 3 → Rewritten (rewriting k n u p out rule) (rewriting k n u p [] [] .number) out rule
-unfolding rewriting unwritten
-rewriting-roomless k n u p out rule h =
-    rw (
-      rewritingBy-roomless (step k n u p [] .answer) (step k n u p [] .bytes) [] [] (omega arith),
-      rewritingBy-roomless (step k n u p out .answer) (step k n u p out .bytes) out rule h,
-      roomless-step k n u p out,
-    ) (refl, refl, refl)
+pub rewriting-roomless : (k n : ℕ) (u : List ℕ) (p : ℕ) (out rule : List ℕ) (z : ℤ) (after : List ℕ) → length rule < 3
+    → z ≡ rewriting k n u p [] [] .0 → after ≡ out → (z, (after, rule)) ≡ rewriting k n u p out rule
+rewriting-roomless k n u p out rule z after h e f =
+    rw (e, f, rewriting-without k n u p out rule h, rewriting-without k n u p [] [] (omega arith), roomless-step k n u p out)
 
 -- an empty part holds nothing
-pub nothing-before : (after out : List ℕ) → length after ≡ 0 → after ++ out ≡ out
+pub nothing-before : {X : Type 0} (after out : List X) → length after ≡ 0 → after ++ out ≡ out
 nothing-before [] out h = refl
 nothing-before (x ∷ after) out h = absurd (omega arith)
-
--- ---- a preset's fields
-
-module _ (ed : Edition) (b : List ℕ) (i : ℕ) (out : List ℕ) (a : Preset) (e : a ≡ checkedPreset ed b i) where
-  pub fields-refused : (r : ℕ) → a ≡ preset.Refused r → Numbered (presetNumbers (checkedPreset ed b i) out) (refused r) out
-  unfolding presetNumbers numberOf
-  fields-refused r q = rw (← e, q) (refl, refl)
-
-  module _ (k n s l : ℕ) (q : a ≡ preset.Found k n s l) where
-    pub fields-short : length out < 4 → Numbered (presetNumbers (checkedPreset ed b i) out) (refused 14) out
-    unfolding presetNumbers numberOf
-    fields-short h =
-        let fields = k ∷ n ∷ s ∷ l ∷ [] in
-        let d = writes-short (writes 0 fields out) 0 0 fields out refl refl 4 refl refl h in
-        rw (← e, q, ← d .0) (refl, d .1)
-
-    pub fields-written : 4 ≤ length out → Numbered (presetNumbers (checkedPreset ed b i) out) (pos 4) (sets out 0 (k ∷ n ∷ s ∷ l ∷ []))
-    unfolding presetNumbers numberOf
-    fields-written h =
-        let fields = k ∷ n ∷ s ∷ l ∷ [] in
-        let d = writes-done (writes 0 fields out) 0 0 fields out refl refl 4 fields refl refl h refl in
-        rw (← e, q, ← d .0) (refl, sets-eq fields out 0 h ∙ d .1)

@@ -1,29 +1,36 @@
--- A split as a call for C makes it: of a kind and a rank that are bytes, or that checks 5 and 6 refuse alike; and its number fits.
+-- A split as a call for C makes it: of a kind and a rank that are bytes, or that checks 5 and 6 refuse alike; its number fits, and the two lengths go to a
+-- list, which has room for them or not.
+--
+-- Sections: the number; kinds and ranks; the lengths; lengths without room.
 -- Assumes nothing.
-use mathlib.Core.Path.{_≡_, refl, _∙_}
-use mathlib.Core.List.{List}
+use mathlib.Core.Path.{_≡_, refl, sym, ap, ap₂, _∙_}
+use mathlib.Core.Bool.{Bool, true, false}
+use mathlib.Core.List.{List, [], _∷_}
 use Prim.Native.Nat.{ℕ, _+_, _≤_, _<_}
 use native.Mathlib.Omega.{arith}
-use lib.IntN.{ℤ}
-use lib.Signed.{mag}
-use mir.Syntax.{w64}
-use mir.Val.{toZ, ofZ}
+use lib.Dec.{eqb}
+use lib.IntN.{ℤ, pos}
+use lib.ListN.{length}
+use lib.Seq.{sets}
 use borrow.Author.Tests.{ne-eqb}
-use Rattle.coxeter.specs.Kinds.{kindOf}
+use Rattle.coxeter.specs.Kinds.{pick, kindOf}
 use Rattle.coxeter.specs.Windows.{window}
-use Rattle.coxeter.specs.Checks.{_then_, rankRefusal}
+use Rattle.coxeter.specs.Checks.{check, _then_, tooShort, rankRefusal, wordRefusal}
 use Rattle.coxeter.specs.Calls.{written}
 use Rattle.coxeter.proofs.Levels.{window-accepted}
 use Rattle.coxeter.proofs.PairWeights.{windowLength-le-4096}
 use Rattle.coxeter.proofs.Fronts.{length-window-le}
 use Rattle.exchange.specs.declared.Split.{Split}
-use Rattle.exchange.specs.declared.Split.the-variants.{Words}
-use Rattle.exchange.specs.Allowed.{setRefusal}
-use Rattle.exchange.specs.SplitCalls.{splitOf, parts, splitting, SplitYields}
-use Rattle.exchange.proofs.Splits.{splitting-accepted, splitting-lengths}
-use Rattle.c_api.specs.Splits.{splitNumbers, SplitCounted, SplitNumbered}
-use Rattle.c_api.proofs.Lengths.{i64-back}
-use Rattle.c_api.proofs.Bytes.{byteOf, Refusable, as-bytes}
+use Rattle.exchange.specs.declared.Split.the-variants.{Words, Refused}
+use Rattle.exchange.specs.Allowed.{allows, setRefusal}
+use Rattle.exchange.specs.Split.{firstWord, secondWord}
+use Rattle.exchange.specs.SplitCalls.{Parted, splitOf, parts, splitting, SplitYields}
+use Rattle.exchange.proofs.Splits.{splitting-accepted, splitting-lengths, splitting-unchanged}
+use Rattle.c_api.specs.Calls.{refused, splitNumbers, listedBeside, splittingListed}
+use Rattle.c_api.proofs.Bytes.{Refusable}
+use Rattle.c_api.proofs.Lists.{split-numbers, roomless, beside-stored, beside-alone, beside-roomless, room-then, room-last, room-more}
+
+-- ---- the number
 
 -- the sum is the length of the word's window
 pub splitting-small : (k n set : ℕ) (u first second : List ℕ) (a b : ℕ) → splitting k n set u first second .answer ≡ Words a b → a + b ≤ 65535
@@ -33,6 +40,8 @@ splitting-small k n set u first second a b h =
     let m = windowLength-le-4096 (kindOf k) n w (window-accepted (kindOf k) n u) (length-window-le k n u r) in
     omega (arith, m, splitting-lengths k n set u first second a b h)
 
+-- ---- kinds and ranks
+
 parts-alike : (r q : ℕ) (u v u′ v′ first second : List ℕ) → q ≡ r → (r ≡ 0 → ⊥) → parts q u v first second ≡ parts r u′ v′ first second
 unfolding parts splitOf written
 parts-alike r q u v u′ v′ first second e f = rw (e, ne-eqb r 0 f) (rw (ne-eqb r 0 f) refl)
@@ -40,17 +49,82 @@ parts-alike r q u v u′ v′ first second e f = rw (e, ne-eqb r 0 f) (rw (ne-eq
 alike : (r q s t s′ t′ : ℕ) → q ≡ r → (r ≡ 0 → ⊥) → (((q then s) then t) ≡ ((r then s′) then t′)) × (((r then s′) then t′) ≡ 0 → ⊥)
 alike r q s t s′ t′ e f = rw (e, ne-eqb r 0 f) (rw (ne-eqb r 0 f) (refl, f))
 
-splitting-refusable : (set : ℕ) (u first second : List ℕ) → Refusable (λ k n. splitting k n set u first second)
+splitting-alike : (set : ℕ) (u first second : List ℕ) (k n l m : ℕ) → rankRefusal l m ≡ rankRefusal k n → (rankRefusal k n ≡ 0 → ⊥)
+    → splitting l m set u first second ≡ splitting k n set u first second
 unfolding splitting setRefusal
-splitting-refusable set u first second = record {
+splitting-alike set u first second k n l m e f =
+    let a = alike (rankRefusal k n) (rankRefusal l m) _ _ _ _ e f in
+    parts-alike _ _ _ _ _ _ first second (a .0) (a .1)
+
+pub splittingListed-refusable : (set : ℕ) (u first second lengths : List ℕ) → Refusable (λ k n. splittingListed k n set u first second lengths)
+unfolding splittingListed
+splittingListed-refusable set u first second lengths = record {
   alike = λ k n l m e f.
-      let a = alike (rankRefusal k n) (rankRefusal l m) _ _ _ _ e f in
-      parts-alike _ _ _ _ _ _ first second (a .0) (a .1);
+      ap (λ (p : Parted). listedBeside (splitNumbers (p .answer)) (p .first, p .second) (first, second) lengths)
+      (splitting-alike set u first second k n l m e f);
 }
 
-pub split-as-bytes : (k n l m set : ℕ) (u first second : List ℕ) (x y : ℕ) (z : ℤ) (a : Split) (v w : List ℕ) (i j : ℕ) → l ≡ byteOf k → m ≡ byteOf n
-    → mag z < 9223372036854775808 → SplitCounted (splitNumbers a x y) z i j → SplitYields (splitting l m set u first second) a v w
-    → SplitNumbered (splitting k n set u first second) x y (toZ w64 (ofZ w64 z)) v w i j
-split-as-bytes k n l m set u first second x y z a v w i j e f g c s =
-    let q = as-bytes (splitting-refusable set u first second) k n l m e f in
-    rw (← q, ← s .0) ((i64-back z g ∙ c .0, c .1, c .2), s .1, s .2)
+-- ---- the lengths
+
+module _ (k n set : ℕ) (u first second lengths : List ℕ) (a : Split) (v w : List ℕ) (y : SplitYields (splitting k n set u first second) a v w) (z : ℤ) where
+  pub splittingListed-stored : (l m : ℕ) → a ≡ Words l m → 2 ≤ length lengths → z ≡ pos (l + m)
+      → (z, ((v, w), sets lengths 0 (l ∷ m ∷ []))) ≡ splittingListed k n set u first second lengths
+  unfolding splittingListed splitNumbers
+  splittingListed-stored l m q h e =
+      rw (← y .0, ← y .1, ← y .2, q, ← e) (beside-stored z (l ∷ m ∷ []) lengths (v, w) (first, second) h)
+
+  pub splittingListed-refused : (r : ℕ) → a ≡ Refused r → z ≡ refused r → (z, ((v, w), lengths)) ≡ splittingListed k n set u first second lengths
+  unfolding splittingListed splitNumbers
+  splittingListed-refused r q e = rw (← y .0, ← y .1, ← y .2, q, ← e) (beside-alone z (v, w) (first, second) lengths)
+
+-- where no length is given, nothing is written
+pub splitting-still : (k n set : ℕ) (u first second : List ℕ)
+    → let p = splitting k n set u first second in
+    splitNumbers (p .answer) .1 ≡ [] → _≡_ {A = List ℕ × List ℕ} (p .first, p .second) (first, second)
+unfolding splitNumbers
+splitting-still k n set u first second = cases (splitting k n set u first second .answer) refl
+  where
+    cases : (a : Split) → let p = splitting k n set u first second in
+        p .answer ≡ a → splitNumbers a .1 ≡ [] → _≡_ {A = List ℕ × List ℕ} (p .first, p .second) (first, second)
+    cases (Words l m) e h = let z : _≡_ {A = ℕ} 0 1 = cc in absurd (omega arith)
+    cases (Refused r) e h = let q = splitting-unchanged k n set u first second r e in rw (q .0, q .1)
+
+-- ---- lengths without room
+
+number-without : (r l m : ℕ) → roomless (splitNumbers (splitOf r l m)) ≡ refused (r then 14)
+unfolding splitOf splitNumbers roomless
+number-without r l m = go (eqb r 0)
+  where
+    go : (t : Bool) → roomless (splitNumbers (pick t (Words l m) (Refused r))) ≡ refused (pick t 14 r)
+    go true = refl
+    go false = refl
+
+-- the number does not depend on the outputs
+roomless-splitting : (k n set : ℕ) (u first second : List ℕ)
+    → roomless (splitNumbers (splitting k n set u first second .answer)) ≡ refused ((setRefusal k n set then wordRefusal n u) then 14)
+unfolding splitting parts
+roomless-splitting k n set u first second =
+    let q = setRefusal k n set then wordRefusal n u in
+    let s = tooShort (length (firstWord (allows set) (kindOf k) n (window (kindOf k) n u))) first in
+    let t = tooShort (length (secondWord (allows set) (kindOf k) n (window (kindOf k) n u))) second in
+    number-without _ _ _ ∙ ap refused (room-then q (check 14 s then check 14 t) (room-more s (check 14 t) (room-last t)))
+
+splittingListed-without : (k n set : ℕ) (u first second lengths : List ℕ) → length lengths < 2
+    → splittingListed k n set u first second lengths ≡ (refused ((setRefusal k n set then wordRefusal n u) then 14), ((first, second), lengths))
+unfolding splittingListed
+splittingListed-without k n set u first second lengths h =
+    let p = splitting k n set u first second in
+    beside-roomless (split-numbers (p .answer)) (p .first, p .second) (first, second) lengths (omega arith) h (splitting-still k n set u first second)
+    ∙ ap (λ (z : ℤ). (z, ((first, second), lengths))) (roomless-splitting k n set u first second)
+
+-- the number that empty outputs give
+pub splittingListed-narrow : (k n set : ℕ) (u : List ℕ) (a : Split) (v w : List ℕ) → SplitYields (splitting k n set u [] []) a v w
+    → roomless (splitNumbers a) ≡ splittingListed k n set u [] [] [] .0
+splittingListed-narrow k n set u a v w y =
+    ap (λ (b : Split). roomless (splitNumbers b)) (y .0) ∙ roomless-splitting k n set u [] []
+    ∙ sym (ap (λ (o : ℤ × ((List ℕ × List ℕ) × List ℕ)). o .0) (splittingListed-without k n set u [] [] [] (omega arith)))
+
+pub splittingListed-roomless : (k n set : ℕ) (u first second lengths : List ℕ) (z : ℤ) (v w : List ℕ) → length lengths < 2
+    → z ≡ splittingListed k n set u [] [] [] .0 → v ≡ first → w ≡ second → (z, ((v, w), lengths)) ≡ splittingListed k n set u first second lengths
+splittingListed-roomless k n set u first second lengths z v w h e f g =
+    rw (e, f, g, splittingListed-without k n set u first second lengths h, splittingListed-without k n set u [] [] [] (omega arith))

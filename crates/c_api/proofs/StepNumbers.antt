@@ -1,33 +1,37 @@
--- The calls for C on the rewriting to its end: a number of steps fits an `i64`, a kind and a rank are taken as bytes, and a refused call leaves all that
--- it was lent.
+-- The calls for C on the rewriting to its end: a number of steps fits an `i64`, a kind and a rank are taken as bytes, and the final word's length goes to a
+-- list, which has room for it or not.
 --
--- Sections: numbers of steps; kinds and ranks; answers; refusals.
+-- Sections: numbers of steps; kinds and ranks; the final length; a final length without room.
 -- Assumes nothing.
 use mathlib.Core.Path.{_≡_, refl, sym, ap, _∙_}
-use mathlib.Core.List.{List}
-use Prim.Native.Nat.{ℕ, suc, _≤_, _<_}
+use mathlib.Core.Bool.{Bool, true, false}
+use mathlib.Core.List.{List, [], _∷_}
+use Prim.Native.Nat.{ℕ, _≤_, _<_}
+use native.Mathlib.Decide.{ℕ-discrete}
 use native.Mathlib.Omega.{arith}
+use lib.Dec.{eqb}
 use lib.IntN.{ℤ, pos}
-use lib.Signed.{mag}
+use lib.ListN.{length}
+use lib.Seq.{sets}
 use mir.Syntax.{w64}
-use mir.Val.{toZ, ofZ}
+use mir.Val.{toZ}
 use mir.ValLaws.{toZ-pos}
-use borrow.Author.Tests.{ne-eqb}
+use borrow.Author.Tests.{eq-eqb, ne-eqb, lt-ltb, le-ltb}
+use Rattle.coxeter.specs.declared.Answer.{Answer}
 use Rattle.coxeter.specs.declared.Answer.the-variants as answer
-use Rattle.coxeter.specs.Kinds.{kindOf}
-use Rattle.coxeter.specs.Checks.{_then_, rankRefusal, wordRefusal}
+use Rattle.coxeter.specs.Kinds.{pick, kindOf}
+use Rattle.coxeter.specs.Checks.{check, _then_, tooShort, rankRefusal, wordRefusal}
 use Rattle.coxeter.specs.Calls.{answerOf, written}
-use Rattle.coxeter.proofs.Refusals.{then-some}
+use Rattle.coxeter.proofs.Refusals.{then-zero, then-some, then-assoc}
 use Rattle.rules.specs.declared.ToEnd.{ToEnd}
 use Rattle.rules.specs.declared.ToEnd.the-variants as toEnd
-use Rattle.rules.specs.Traces.{Trace, trace, toEndOf, tracedBy, rewritingToEnd, numberOfSteps, TraceYields}
+use Rattle.rules.specs.Traces.{Trace, trace, tooFewPlaces, toEndOf, Traced, tracedBy, rewritingToEnd, numberOfSteps, TraceYields}
 use Rattle.rules.proofs.Unchanged.{toEnd-refused-unchanged}
 use Rattle.exchange.proofs.Tracing.{steps-few}
 use Rattle.exchange.proofs.StepBounds.{counted-steps, ended-steps}
-use Rattle.c_api.specs.Calls.{refused}
-use Rattle.c_api.specs.Traces.{traceNumber, finalLength, TraceNumbered}
-use Rattle.c_api.proofs.Lengths.{i64-back}
-use Rattle.c_api.proofs.Bytes.{byteOf, Refusable, as-bytes}
+use Rattle.c_api.specs.Calls.{refused, traceNumbers, listedBeside, rewritingToEndListed}
+use Rattle.c_api.proofs.Bytes.{Refusable}
+use Rattle.c_api.proofs.Lists.{trace-numbers, roomless, beside-stored, beside-alone, beside-roomless, room-then, room-last}
 
 -- ---- numbers of steps
 
@@ -59,47 +63,148 @@ refused-traced : (r : ℕ) → (r ≡ 0 → ⊥) → (t : Trace) (families place
 unfolding tracedBy toEndOf written
 refused-traced r f t families places lengths out = rw (ne-eqb r 0 f) (rw (ne-eqb r 0 f) refl)
 
-rewritingToEnd-refusable : (u families places lengths out : List ℕ) → Refusable (λ k n. rewritingToEnd k n u families places lengths out)
+rewritingToEnd-alike : (u families places lengths out : List ℕ) (k n l m : ℕ) → rankRefusal l m ≡ rankRefusal k n → (rankRefusal k n ≡ 0 → ⊥)
+    → rewritingToEnd l m u families places lengths out ≡ rewritingToEnd k n u families places lengths out
 unfolding rewritingToEnd
-rewritingToEnd-refusable u families places lengths out = record {
+rewritingToEnd-alike u families places lengths out k n l m e f =
+    let r = rankRefusal k n in
+    let a : (rankRefusal l m then wordRefusal m u) ≡ r = ap (λ (x : ℕ). x then wordRefusal m u) e ∙ then-some r (wordRefusal m u) f in
+    let b : (rankRefusal k n then wordRefusal n u) ≡ r = then-some r (wordRefusal n u) f in
+    ap (λ (q : ℕ). tracedBy q (trace (kindOf l) m u) families places lengths out) a
+    ∙ refused-traced r f (trace (kindOf l) m u) families places lengths out
+    ∙ sym (ap (λ (q : ℕ). tracedBy q (trace (kindOf k) n u) families places lengths out) b
+    ∙ refused-traced r f (trace (kindOf k) n u) families places lengths out)
+
+pub rewritingToEndListed-refusable : (u families places lengths out written : List ℕ)
+    → Refusable (λ k n. rewritingToEndListed k n u families places lengths out written)
+unfolding rewritingToEndListed
+rewritingToEndListed-refusable u families places lengths out written = record {
   alike = λ k n l m e f.
-      let r = rankRefusal k n in
-      let a : (rankRefusal l m then wordRefusal m u) ≡ r = ap (λ (x : ℕ). x then wordRefusal m u) e ∙ then-some r (wordRefusal m u) f in
-      let b : (rankRefusal k n then wordRefusal n u) ≡ r = then-some r (wordRefusal n u) f in
-      ap (λ (q : ℕ). tracedBy q (trace (kindOf l) m u) families places lengths out) a
-      ∙ refused-traced r f (trace (kindOf l) m u) families places lengths out
-      ∙ sym (ap (λ (q : ℕ). tracedBy q (trace (kindOf k) n u) families places lengths out) b
-      ∙ refused-traced r f (trace (kindOf k) n u) families places lengths out);
+      ap (λ (t : Traced). listedBeside (traceNumbers (t .answer)) (t .families, t .places, t .lengths, t .bytes) (families, places, lengths, out) written)
+      (rewritingToEnd-alike u families places lengths out k n l m e f);
 }
 
--- ---- answers
+-- ---- the final length
 
--- the call below was given the bytes, and answered a; its number is z
-pub trace-as-bytes : (k n : ℕ) (u families places lengths out : List ℕ) (before l m : ℕ) (a : ToEnd) (z : ℤ) (f p g o : List ℕ) (after : ℕ)
-    → l ≡ byteOf k → m ≡ byteOf n → mag z < 9223372036854775808 → (z ≡ traceNumber a) × (after ≡ finalLength a before)
-    → TraceYields (rewritingToEnd l m u families places lengths out) a f p g o
-    → TraceNumbered (rewritingToEnd k n u families places lengths out) before (toZ w64 (ofZ w64 z)) f p g o after
-trace-as-bytes k n u families places lengths out before l m a z f p g o after e i h q y =
-    let same = as-bytes (rewritingToEnd-refusable u families places lengths out) k n l m e i in
-    rw (← same)
-    (i64-back z h ∙ q .0 ∙ ap traceNumber (y .0), q .1 ∙ ap (λ (b : ToEnd). finalLength b before) (y .0), y .1, y .2, y .3, y .4)
+module _ (k n : ℕ) (u families places lengths out written : List ℕ) (a : ToEnd) (f p g o : List ℕ)
+    (y : TraceYields (rewritingToEnd k n u families places lengths out) a f p g o) (z : ℤ) where
+  pub rewritingToEndListed-stored : (s l : ℕ) → a ≡ toEnd.Ended s l → 1 ≤ length written → z ≡ pos s
+      → (z, ((f, p, g, o), sets written 0 (l ∷ []))) ≡ rewritingToEndListed k n u families places lengths out written
+  unfolding rewritingToEndListed traceNumbers
+  rewritingToEndListed-stored s l q h e =
+      rw (← y .0, ← y .1, ← y .2, ← y .3, ← y .4, q, ← e) (beside-stored z (l ∷ []) written (f, p, g, o) (families, places, lengths, out) h)
 
--- ---- refusals
+  pub rewritingToEndListed-refused : (r : ℕ) → a ≡ toEnd.Refused r → z ≡ refused r
+      → (z, ((f, p, g, o), written)) ≡ rewritingToEndListed k n u families places lengths out written
+  unfolding rewritingToEndListed traceNumbers
+  rewritingToEndListed-refused r q e =
+      rw (← y .0, ← y .1, ← y .2, ← y .3, ← y .4, q, ← e) (beside-alone z (f, p, g, o) (families, places, lengths, out) written)
 
-refused-answer : (a : ToEnd) (before r : ℕ) → traceNumber a ≡ refused (suc r) → ((q : ℕ) × (a ≡ toEnd.Refused q)) × (finalLength a before ≡ before)
-unfolding traceNumber finalLength refused
-refused-answer (toEnd.Ended s l) before r e = let z : _≡_ {A = ℕ} 0 1 = cc in absurd (omega arith)
-refused-answer (toEnd.Refused k) before r e = ((k, refl), refl)
+-- where no length is given, nothing is written
+pub rewritingToEnd-still : (k n : ℕ) (u families places lengths out : List ℕ) → let t = rewritingToEnd k n u families places lengths out in
+    traceNumbers (t .answer) .1 ≡ [] → _≡_ {A = List ℕ × List ℕ × List ℕ × List ℕ} (t .families, t .places, t .lengths, t .bytes) (families, places, lengths, out)
+unfolding traceNumbers
+rewritingToEnd-still k n u families places lengths out = cases (rewritingToEnd k n u families places lengths out .answer) refl
+  where
+    cases : (a : ToEnd) → let t = rewritingToEnd k n u families places lengths out in
+        t .answer ≡ a → traceNumbers a .1 ≡ [] → _≡_ {A = List ℕ × List ℕ × List ℕ × List ℕ} (t .families, t .places, t .lengths, t .bytes) (families, places, lengths, out)
+    cases (toEnd.Ended s l) e h = let z : _≡_ {A = ℕ} 0 1 = cc in absurd (omega arith)
+    cases (toEnd.Refused r) e h = let q = toEnd-refused-unchanged k n u families places lengths out r e in rw (q .0, q .1, q .2, q .3)
 
--- "A refused call changes no lent byte": lists, output and length
-pub trace-unchanged : (k n : ℕ) (u families places lengths out : List ℕ) (before r : ℕ)
-    → traceNumber (rewritingToEnd k n u families places lengths out .answer) ≡ refused (suc r)
-    → (finalLength (rewritingToEnd k n u families places lengths out .answer) before ≡ before)
-    × (rewritingToEnd k n u families places lengths out .families ≡ families)
-    × (rewritingToEnd k n u families places lengths out .places ≡ places)
-    × (rewritingToEnd k n u families places lengths out .lengths ≡ lengths)
-    × (rewritingToEnd k n u families places lengths out .bytes ≡ out)
-trace-unchanged k n u families places lengths out before r e =
-    let a = refused-answer (rewritingToEnd k n u families places lengths out .answer) before r e in
-    let b = toEnd-refused-unchanged k n u families places lengths out (a .0 .0) (a .0 .1) in
-    (a .1, b .0, b .1, b .2, b .3)
+-- ---- a final length without room
+
+number-without : (r s l : ℕ) → roomless (traceNumbers (toEndOf r s l)) ≡ refused (r then 14)
+unfolding toEndOf traceNumbers roomless
+number-without r s l = go (eqb r 0)
+  where
+    go : (t : Bool) → roomless (traceNumbers (pick t (toEnd.Ended s l) (toEnd.Refused r))) ≡ refused (pick t 14 r)
+    go true = refl
+    go false = refl
+
+-- checks 5 to 8, 15, then 14
+without : ℕ → ℕ → List ℕ → List ℕ → List ℕ → List ℕ → ℤ
+without k n u families places lengths =
+    let few = tooFewPlaces (length (trace (kindOf k) n u .lines)) families places lengths in
+    refused (((rankRefusal k n then wordRefusal n u) then check 15 few) then 14)
+
+-- the number does not depend on the output
+roomless-trace : (k n : ℕ) (u families places lengths out : List ℕ)
+    → roomless (traceNumbers (rewritingToEnd k n u families places lengths out .answer)) ≡ without k n u families places lengths
+unfolding rewritingToEnd tracedBy without
+roomless-trace k n u families places lengths out =
+    let q = rankRefusal k n then wordRefusal n u in
+    let c = check 15 (tooFewPlaces (length (trace (kindOf k) n u .lines)) families places lengths) in
+    let t = tooShort (length (trace (kindOf k) n u .final)) out in
+    number-without _ _ _
+    ∙ ap refused (ap (λ (r : ℕ). r then 14) (sym (then-assoc q c (check 14 t))) ∙ room-then (q then c) (check 14 t) (room-last t))
+
+module _ (k n : ℕ) (u families places lengths : List ℕ) where
+  toEnd-without : (out written : List ℕ) → length written < 1
+      → rewritingToEndListed k n u families places lengths out written ≡ (without k n u families places lengths, ((families, places, lengths, out), written))
+  unfolding rewritingToEndListed
+  toEnd-without out written h =
+      let t = rewritingToEnd k n u families places lengths out in
+      beside-roomless (trace-numbers (t .answer)) (t .families, t .places, t .lengths, t .bytes) (families, places, lengths, out) written (omega arith) h
+      (rewritingToEnd-still k n u families places lengths out)
+      ∙ ap (λ (z : ℤ). (z, ((families, places, lengths, out), written))) (roomless-trace k n u families places lengths out)
+
+  pub rewritingToEndListed-roomless : (out written : List ℕ) (z : ℤ) → length written < 1 → z ≡ rewritingToEndListed k n u families places lengths [] [] .0
+      → (z, ((families, places, lengths, out), written)) ≡ rewritingToEndListed k n u families places lengths out written
+  rewritingToEndListed-roomless out written z h e = rw (e, toEnd-without out written h, toEnd-without [] [] (omega arith))
+
+  module _ (a : Answer) (e : a ≡ numberOfSteps k n u) where
+    -- refused before check 15
+    pub toEnd-refused : (r : ℕ) → a ≡ answer.Refused r → refused r ≡ rewritingToEndListed k n u families places lengths [] [] .0
+    unfolding numberOfSteps answerOf without
+    toEnd-refused r p =
+        let q = rankRefusal k n then wordRefusal n u in
+        rw (toEnd-without [] [] (omega arith)) (elim (ℕ-discrete q 0) [
+          | yes z ↦
+              let i : answer.Length (length (trace (kindOf k) n u .lines)) ≡ answer.Refused r = sym (rw (eq-eqb q 0 z) at e) ∙ p in
+              let y : _≡_ {A = ℕ} 0 1 = cc in
+              absurd (omega arith)
+          | no f ↦
+              let i : answer.Refused q ≡ answer.Refused r = sym (rw (ne-eqb q 0 f) at e) ∙ p in
+              let j : q ≡ r = cc in
+              rw (← j) (rw (ne-eqb q 0 f) (rw (ne-eqb q 0 f) refl))
+        ])
+
+    module _ (s : ℕ) (p : a ≡ answer.Length s) where
+      toEnd-steps : refused (check 15 (tooFewPlaces s families places lengths) then 14) ≡ rewritingToEndListed k n u families places lengths [] [] .0
+      unfolding numberOfSteps answerOf without
+      toEnd-steps =
+          let q = rankRefusal k n then wordRefusal n u in
+          rw (toEnd-without [] [] (omega arith)) (elim (ℕ-discrete q 0) [
+            | yes z ↦
+                let i : answer.Length (length (trace (kindOf k) n u .lines)) ≡ answer.Length s = sym (rw (eq-eqb q 0 z) at e) ∙ p in
+                let j : length (trace (kindOf k) n u .lines) ≡ s = cc in
+                rw (z, j)
+            | no f ↦
+                let i : answer.Refused q ≡ answer.Length s = sym (rw (ne-eqb q 0 f) at e) ∙ p in
+                let y : _≡_ {A = ℕ} 0 1 = cc in
+                absurd (omega arith)
+          ])
+
+      toEnd-few : tooFewPlaces s families places lengths ≡ true → refused 15 ≡ rewritingToEndListed k n u families places lengths [] [] .0
+      toEnd-few h = rw h at toEnd-steps
+
+      pub few-families : length families < s → refused 15 ≡ rewritingToEndListed k n u families places lengths [] [] .0
+      unfolding tooFewPlaces tooShort
+      few-families h = toEnd-few (rw (lt-ltb (length families) s h))
+
+      pub few-places : s ≤ length families → length places < s → refused 15 ≡ rewritingToEndListed k n u families places lengths [] [] .0
+      unfolding tooFewPlaces tooShort
+      few-places f h = toEnd-few (rw (le-ltb (length families) s f, lt-ltb (length places) s h))
+
+      pub few-lengths : s ≤ length families → s ≤ length places → length lengths < s
+          → refused 15 ≡ rewritingToEndListed k n u families places lengths [] [] .0
+      unfolding tooFewPlaces tooShort
+      few-lengths f g h = toEnd-few (rw (le-ltb (length families) s f, le-ltb (length places) s g, lt-ltb (length lengths) s h))
+
+      pub enough-places : s ≤ length families → s ≤ length places → s ≤ length lengths
+          → refused 14 ≡ rewritingToEndListed k n u families places lengths [] [] .0
+      unfolding tooFewPlaces tooShort
+      enough-places f g h =
+          let e : tooFewPlaces s families places lengths ≡ false =
+          rw (le-ltb (length families) s f, le-ltb (length places) s g, le-ltb (length lengths) s h) in
+          rw e at toEnd-steps

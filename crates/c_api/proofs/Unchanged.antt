@@ -1,78 +1,62 @@
--- "A refused call changes no lent byte", for the calls for C that write more than the call below them does: the three counts of a length by sort, one
--- rewrite with its rule, the fields of a preset, the two lengths of a split. By the cases of the answer below.
+-- "A refused call changes no lent byte", for the calls for C that write more than the call below them does: where the number is negative, every output and
+-- the list of numbers are as they were. Each is an instance of the law of Lists.
 -- Assumes nothing.
-use mathlib.Core.Path.{_≡_, refl}
-use mathlib.Core.Bool.{Bool, true, false}
-use mathlib.Core.List.{List, [], _∷_}
+use mathlib.Core.Path.{_≡_}
+use mathlib.Core.List.{List}
 use Prim.Native.Nat.{ℕ, suc}
-use native.Mathlib.Omega.{arith}
-use lib.IntN.{pos}
-use lib.ListN.{drop}
-use Rattle.coxeter.specs.declared.Answer.the-variants as answer
+use lib.IntN.{ℤ}
 use Rattle.coxeter.specs.declared.Counted.{Counted}
-use Rattle.coxeter.specs.declared.Counted.the-variants as counted
-use Rattle.coxeter.specs.Kinds.{pick}
-use Rattle.coxeter.specs.Checks.{tooShort}
-use Rattle.coxeter.proofs.Unchanged.{writes-unchanged}
-use Rattle.rules.specs.declared.Rewrite.{Rewrite}
-use Rattle.rules.specs.declared.Rewrite.the-variants.{Used, NoneFits, Refused}
 use Rattle.rules.specs.Calls.{step}
-use Rattle.exchange.specs.declared.Split.{Split}
-use Rattle.exchange.specs.declared.Split.the-variants as split
+use Rattle.rules.specs.Traces.{rewritingToEnd}
 use Rattle.exchange.specs.SplitCalls.{splitting}
-use Rattle.exchange.proofs.Splits.{splitting-unchanged}
+use Rattle.distribution.specs.Calls.{delayTable}
 use Rattle.book_format.specs.declared.Preset.{Preset}
-use Rattle.book_format.specs.declared.Preset.the-variants as preset
-use Rattle.c_api.specs.Calls.{refused, sorting, unwritten, rewritingBy, rewriting, presetNumbers}
-use Rattle.c_api.specs.Splits.{splitNumbers}
+use Rattle.c_api.specs.Calls.{refused, crossingNumbers, presetNumbers, listed, rewriting, rewritingToEndListed, splittingListed, delayTableListed}
+use Rattle.c_api.proofs.Lists.{crossing-numbers, rewrite-numbers, trace-numbers, split-numbers, table-numbers, preset-numbers, listed-unchanged, beside-unchanged}
+use Rattle.c_api.proofs.Outcomes.{step-still}
+use Rattle.c_api.proofs.SplitNumbers.{splitting-still}
+use Rattle.c_api.proofs.StepNumbers.{rewritingToEnd-still}
+use Rattle.c_api.proofs.TableNumbers.{delayTable-still}
 
-pub sorting-unchanged : (c : Counted) (plain against mirrored r : ℕ) → sorting c plain against mirrored .number ≡ refused (suc r)
-    → (sorting c plain against mirrored .plain ≡ plain)
-    × (sorting c plain against mirrored .against ≡ against)
-    × (sorting c plain against mirrored .mirrored ≡ mirrored)
-unfolding sorting refused
-sorting-unchanged (counted.Crossings a b c) plain against mirrored r h = let z : _≡_ {A = ℕ} 0 1 = cc in absurd (omega arith)
-sorting-unchanged (counted.Refused k) plain against mirrored r h = (refl, refl, refl)
+pub crossings-unchanged : (a : Counted) (counts : List ℕ) (r : ℕ) → listed (crossingNumbers a) counts .0 ≡ refused (suc r)
+    → listed (crossingNumbers a) counts .1 ≡ counts
+crossings-unchanged a counts r h = listed-unchanged (crossing-numbers a) counts r h
 
-rewritten-unchanged : (t : Bool) (f i j l : ℕ) (new out rule : List ℕ) (r : ℕ)
-    → let o = pick t (unwritten 14 out rule) (record { number = pos l; bytes = new; rule = f ∷ i ∷ j ∷ drop 3 rule }) in
-    o .number ≡ refused (suc r) → (o .bytes ≡ out) × (o .rule ≡ rule)
-unfolding unwritten refused
-rewritten-unchanged true f i j l new out rule r h = (refl, refl)
-rewritten-unchanged false f i j l new out rule r h = let z : _≡_ {A = ℕ} 0 1 = cc in absurd (omega arith)
-
-by-answer : (a : Rewrite) (new out rule : List ℕ) (r : ℕ) → rewritingBy a new out rule .number ≡ refused (suc r)
-    → (rewritingBy a new out rule .bytes ≡ out) × (rewritingBy a new out rule .rule ≡ rule)
-unfolding rewritingBy unwritten
-by-answer (Used f i j l) new out rule r h = rewritten-unchanged (tooShort 3 rule) f i j l new out rule r h
-by-answer NoneFits new out rule r h = (refl, refl)
-by-answer (Refused k) new out rule r h = (refl, refl)
+pub preset-unchanged : (a : Preset) (fields : List ℕ) (r : ℕ) → listed (presetNumbers a) fields .0 ≡ refused (suc r)
+    → listed (presetNumbers a) fields .1 ≡ fields
+preset-unchanged a fields r h = listed-unchanged (preset-numbers a) fields r h
 
 -- that none fits is a negative number too, and writes nothing either
-pub rewriting-unchanged : (k n : ℕ) (u : List ℕ) (p : ℕ) (out rule : List ℕ) (r : ℕ) → rewriting k n u p out rule .number ≡ refused (suc r)
-    → (rewriting k n u p out rule .bytes ≡ out) × (rewriting k n u p out rule .rule ≡ rule)
+pub rewriting-unchanged : (k n : ℕ) (u : List ℕ) (p : ℕ) (out rule : List ℕ) (r : ℕ) → rewriting k n u p out rule .0 ≡ refused (suc r)
+    → rewriting k n u p out rule .1 ≡ (out, rule)
 unfolding rewriting
-rewriting-unchanged k n u p out rule = by-answer (step k n u p out .answer) (step k n u p out .bytes) out rule
+rewriting-unchanged k n u p out rule r h =
+    let s = step k n u p out in
+    beside-unchanged (rewrite-numbers (s .answer)) (s .bytes) out rule r (step-still k n u p out) h
 
-pub presetNumbers-unchanged : (p : Preset) (out : List ℕ) (r : ℕ) → presetNumbers p out .answer ≡ answer.Refused r → presetNumbers p out .bytes ≡ out
-unfolding presetNumbers
-presetNumbers-unchanged (preset.Found k n s l) out r h = writes-unchanged 0 (k ∷ n ∷ s ∷ l ∷ []) out r h
-presetNumbers-unchanged (preset.Refused k) out r h = refl
+-- the three lists of the steps, the output and the list for the final length
+pub rewritingToEndListed-unchanged : (k n : ℕ) (u families places lengths out written : List ℕ) (r : ℕ)
+    → rewritingToEndListed k n u families places lengths out written .0 ≡ refused (suc r)
+    → rewritingToEndListed k n u families places lengths out written .1 ≡ ((families, places, lengths, out), written)
+unfolding rewritingToEndListed
+rewritingToEndListed-unchanged k n u families places lengths out written r h =
+    let t = rewritingToEnd k n u families places lengths out in
+    beside-unchanged (trace-numbers (t .answer)) (t .families, t .places, t .lengths, t .bytes) (families, places, lengths, out) written r
+    (rewritingToEnd-still k n u families places lengths out) h
 
--- the two outputs and the two lengths
-pub split-unchanged : (k n set : ℕ) (u first second : List ℕ) (x y r : ℕ)
-    → splitNumbers (splitting k n set u first second .answer) x y .number ≡ refused (suc r)
-    → (splitting k n set u first second .first ≡ first)
-    × (splitting k n set u first second .second ≡ second)
-    × (splitNumbers (splitting k n set u first second .answer) x y .first ≡ x)
-    × (splitNumbers (splitting k n set u first second .answer) x y .second ≡ y)
-unfolding splitNumbers refused
-split-unchanged k n set u first second x y r = cases (splitting k n set u first second .answer) refl
-  where
-    cases : (a : Split) → splitting k n set u first second .answer ≡ a → splitNumbers a x y .number ≡ refused (suc r)
-        → (splitting k n set u first second .first ≡ first)
-        × (splitting k n set u first second .second ≡ second)
-        × (splitNumbers a x y .first ≡ x)
-        × (splitNumbers a x y .second ≡ y)
-    cases (split.Words a b) e h = let z : _≡_ {A = ℕ} 0 1 = cc in absurd (omega arith)
-    cases (split.Refused s) e h = let p = splitting-unchanged k n set u first second s e in (p .0, p .1, refl, refl)
+-- the two outputs and the lengths
+pub splittingListed-unchanged : (k n set : ℕ) (u first second lengths : List ℕ) (r : ℕ) → splittingListed k n set u first second lengths .0 ≡ refused (suc r)
+    → splittingListed k n set u first second lengths .1 ≡ ((first, second), lengths)
+unfolding splittingListed
+splittingListed-unchanged k n set u first second lengths r h =
+    let p = splitting k n set u first second in
+    beside-unchanged (split-numbers (p .answer)) (p .first, p .second) (first, second) lengths r (splitting-still k n set u first second) h
+
+-- the three outputs and the lengths
+pub delayTableListed-unchanged : (k n : ℕ) (counts : List ℕ) (window : List ℤ) (form lengths : List ℕ) (r : ℕ)
+    → delayTableListed k n counts window form lengths .0 ≡ refused (suc r) → delayTableListed k n counts window form lengths .1 ≡ ((counts, window, form), lengths)
+unfolding delayTableListed
+delayTableListed-unchanged k n counts window form lengths r h =
+    let t = delayTable k n counts window form in
+    beside-unchanged (table-numbers (t .answer)) (t .counts, t .entries, t .letters) (counts, window, form) lengths r
+    (delayTable-still k n counts window form) h

@@ -1,5 +1,3 @@
 -- What an auditor must believe of the calls for C beyond the layers below. Definitions and nothing else: the laws are in proofs/.
 pub mod Calls
 pub mod Shortest
-pub mod Splits
-pub mod Traces

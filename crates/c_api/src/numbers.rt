@@ -1,5 +1,4 @@
 // The numbers that the calls for C answer.
-use delay::Table;
 use window::Answer;
 use window::Counted;
 ghost use mathlib.Core.Path.{_≡_};
@@ -9,8 +8,7 @@ ghost use lib.IntN.{pos};
 ghost use Rattle.coxeter.specs.Kinds.{pick};
 ghost use Rattle.coxeter.specs.declared.Answer.the-variants.{Length};
 ghost use Rattle.coxeter.specs.declared.Counted.the-variants.{Crossings};
-ghost use Rattle.distribution.specs.declared.Table.the-variants.{Written};
-ghost use Rattle.c_api.specs.Calls.{refused, numberOf, sorting, Sorted, tableNumber};
+ghost use Rattle.c_api.specs.Calls.{refused, numberOf, crossingNumbers, listed};
 
 // A kind or a rank as the calls below take it. What is no byte becomes 0, which is no kind and no rank either.
 pub(crate) fn byte(x: u32) -> u8
@@ -48,17 +46,10 @@ pub(crate) fn number(answer: Answer) -> i64
     }
 }
 
-// Writes the three counts of a length by sort and answers their total, which is at most the length of the longest book; a refusal leaves the three
-// as they were.
-pub(crate) fn sorted(
-    counted: Counted,
-    plain: &mut usize,
-    against: &mut usize,
-    mirrored: &mut usize,
-) -> i64
+// Writes the three counts of a length by sort to the front of `counts` and answers their total, which is at most the length of the longest book.
+pub(crate) fn write_crossings(counted: Counted, counts: &mut [u64]) -> i64
     requires { ⌜ ((a b c : ℕ) → counted ≡ Crossings a b c → a + b + c ≤ 65535) ⌝ }
-    ensures { λ r. ⌜ Sorted (sorting counted (now (plain .entry)) (now (against .entry)) (now (mirrored .entry))) r
-        (now (plain .exit)) (now (against .exit)) (now (mirrored .exit)) ⌝ }
+    ensures { λ r. ⌜ (r, now (counts .exit)) ≡ listed (crossingNumbers counted) (now (counts .entry)) ⌝ }
 {
     match counted {
         Counted::Crossings {
@@ -66,26 +57,14 @@ pub(crate) fn sorted(
             negative_sum_pairs,
             negatives,
         } => {
-            *plain = inversions;
-            *against = negative_sum_pairs;
-            *mirrored = negatives;
+            if counts.len() < 3 {
+                return -14;
+            }
+            counts[0] = inversions as u64;
+            counts[1] = negative_sum_pairs as u64;
+            counts[2] = negatives as u64;
             size(inversions + negative_sum_pairs + negatives)
         }
         Counted::Refused(k) => refusal(k),
-    }
-}
-
-// The number of a delay table, the length of the word written, which is at most that of the longest book.
-pub(crate) fn table_number(table: Table) -> i64
-    requires { ⌜ ((a b l : ℕ) → table ≡ Written a b l → l ≤ 65535) ⌝ }
-    ensures { λ r. ⌜ r ≡ tableNumber table ⌝ }
-{
-    match table {
-        Table::Written {
-            counts: _,
-            entries: _,
-            letters,
-        } => size(letters),
-        Table::Refused(k) => refusal(k),
     }
 }

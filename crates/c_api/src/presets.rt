@@ -10,7 +10,7 @@ ghost use mathlib.Core.Path.{_≡_};
 ghost use Rattle.book_format.specs.declared.Edition.the-variants.{First, Second};
 ghost use Rattle.book_format.specs.Calls.{checkedBook, checkedPreset, readingPresets, appending};
 ghost use Rattle.book_format.specs.Conversion.{converting};
-ghost use Rattle.c_api.specs.Calls.{Numbered, openedNumber, presetNumbers};
+ghost use Rattle.c_api.specs.Calls.{numbered, openedNumber, presetNumbers, listed};
 
 // Opening a book. Answers the number of its presets.
 fn opened(edition: Edition, book: &[u8]) -> i64
@@ -25,7 +25,7 @@ fn opened(edition: Edition, book: &[u8]) -> i64
 // Reading a preset by its number, from 0: its kind, its rank, the offset of its letters in the book and their count go to the first four places
 // of `fields`. Answers 4.
 fn read(edition: Edition, book: &[u8], number: usize, fields: &mut [u64]) -> i64
-    ensures { λ r. ⌜ Numbered (presetNumbers (checkedPreset edition (now (book .entry)) number) (now (fields .entry))) r (now (fields .exit)) ⌝ }
+    ensures { λ r. ⌜ (r, now (fields .exit)) ≡ listed (presetNumbers (checkedPreset edition (now (book .entry)) number)) (now (fields .entry)) ⌝ }
 {
     match book::check_preset(edition, book, number) {
         Preset::Found {
@@ -50,21 +50,21 @@ fn read(edition: Edition, book: &[u8], number: usize, fields: &mut [u64]) -> i64
 // Reading a run of presets from number `first` on, with one walk over the book: five numbers each, the refusal (5 to 8 or 17, or 0), kind, rank, the
 // offset of the letters in the book and their count, the last four 0 where it is refused; as many as there are and have room. Answers how many.
 fn read_run(edition: Edition, book: &[u8], first: usize, fields: &mut [u64]) -> i64
-    ensures { λ r. ⌜ Numbered (readingPresets edition (now (book .entry)) first (now (fields .entry))) r (now (fields .exit)) ⌝ }
+    ensures { λ r. ⌜ (r, now (fields .exit)) ≡ numbered (readingPresets edition (now (book .entry)) first (now (fields .entry))) ⌝ }
 {
     number(book::read_presets(edition, book, first, fields))
 }
 
 // Appending a preset: the whole new book, written to the front of `out`. Answers its length.
 fn extended(edition: Edition, book: &[u8], kind: u32, rank: u32, word: &[u8], out: &mut [u8]) -> i64
-    ensures { λ r. ⌜ Numbered (appending edition (now (book .entry)) kind rank (now (word .entry)) (now (out .entry))) r (now (out .exit)) ⌝ }
+    ensures { λ r. ⌜ (r, now (out .exit)) ≡ numbered (appending edition (now (book .entry)) kind rank (now (word .entry)) (now (out .entry))) ⌝ }
 {
     number(book::append(edition, book, byte(kind), byte(rank), word, out))
 }
 
 // Converting a book of the edition to the other one: the whole new book, written to the front of `out`. Answers its length.
 fn turned(edition: Edition, book: &[u8], out: &mut [u8]) -> i64
-    ensures { λ r. ⌜ Numbered (converting edition (now (book .entry)) (now (out .entry))) r (now (out .exit)) ⌝ }
+    ensures { λ r. ⌜ (r, now (out .exit)) ≡ numbered (converting edition (now (book .entry)) (now (out .entry))) ⌝ }
 {
     number(book::convert(edition, book, out))
 }
@@ -80,14 +80,14 @@ pub extern "C" fn winnathey_book_check(book: &[u8]) -> i64
 
 #[no_mangle]
 pub extern "C" fn winnathey_preset(book: &[u8], number: usize, fields: &mut [u64]) -> i64
-    ensures { λ r. ⌜ Numbered (presetNumbers (checkedPreset First (now (book .entry)) number) (now (fields .entry))) r (now (fields .exit)) ⌝ }
+    ensures { λ r. ⌜ (r, now (fields .exit)) ≡ listed (presetNumbers (checkedPreset First (now (book .entry)) number)) (now (fields .entry)) ⌝ }
 {
     read(Edition::First, book, number, fields)
 }
 
 #[no_mangle]
 pub extern "C" fn winnathey_presets(book: &[u8], first: usize, fields: &mut [u64]) -> i64
-    ensures { λ r. ⌜ Numbered (readingPresets First (now (book .entry)) first (now (fields .entry))) r (now (fields .exit)) ⌝ }
+    ensures { λ r. ⌜ (r, now (fields .exit)) ≡ numbered (readingPresets First (now (book .entry)) first (now (fields .entry))) ⌝ }
 {
     read_run(Edition::First, book, first, fields)
 }
@@ -100,7 +100,7 @@ pub extern "C" fn winnathey_append(
     word: &[u8],
     out: &mut [u8],
 ) -> i64
-    ensures { λ r. ⌜ Numbered (appending First (now (book .entry)) kind rank (now (word .entry)) (now (out .entry))) r (now (out .exit)) ⌝ }
+    ensures { λ r. ⌜ (r, now (out .exit)) ≡ numbered (appending First (now (book .entry)) kind rank (now (word .entry)) (now (out .entry))) ⌝ }
 {
     extended(Edition::First, book, kind, rank, word, out)
 }
@@ -116,14 +116,14 @@ pub extern "C" fn winnathey_second_book_check(book: &[u8]) -> i64
 
 #[no_mangle]
 pub extern "C" fn winnathey_second_preset(book: &[u8], number: usize, fields: &mut [u64]) -> i64
-    ensures { λ r. ⌜ Numbered (presetNumbers (checkedPreset Second (now (book .entry)) number) (now (fields .entry))) r (now (fields .exit)) ⌝ }
+    ensures { λ r. ⌜ (r, now (fields .exit)) ≡ listed (presetNumbers (checkedPreset Second (now (book .entry)) number)) (now (fields .entry)) ⌝ }
 {
     read(Edition::Second, book, number, fields)
 }
 
 #[no_mangle]
 pub extern "C" fn winnathey_second_presets(book: &[u8], first: usize, fields: &mut [u64]) -> i64
-    ensures { λ r. ⌜ Numbered (readingPresets Second (now (book .entry)) first (now (fields .entry))) r (now (fields .exit)) ⌝ }
+    ensures { λ r. ⌜ (r, now (fields .exit)) ≡ numbered (readingPresets Second (now (book .entry)) first (now (fields .entry))) ⌝ }
 {
     read_run(Edition::Second, book, first, fields)
 }
@@ -136,7 +136,7 @@ pub extern "C" fn winnathey_second_append(
     word: &[u8],
     out: &mut [u8],
 ) -> i64
-    ensures { λ r. ⌜ Numbered (appending Second (now (book .entry)) kind rank (now (word .entry)) (now (out .entry))) r (now (out .exit)) ⌝ }
+    ensures { λ r. ⌜ (r, now (out .exit)) ≡ numbered (appending Second (now (book .entry)) kind rank (now (word .entry)) (now (out .entry))) ⌝ }
 {
     extended(Edition::Second, book, kind, rank, word, out)
 }
@@ -145,14 +145,14 @@ pub extern "C" fn winnathey_second_append(
 
 #[no_mangle]
 pub extern "C" fn winnathey_to_second(book: &[u8], out: &mut [u8]) -> i64
-    ensures { λ r. ⌜ Numbered (converting First (now (book .entry)) (now (out .entry))) r (now (out .exit)) ⌝ }
+    ensures { λ r. ⌜ (r, now (out .exit)) ≡ numbered (converting First (now (book .entry)) (now (out .entry))) ⌝ }
 {
     turned(Edition::First, book, out)
 }
 
 #[no_mangle]
 pub extern "C" fn winnathey_to_first(book: &[u8], out: &mut [u8]) -> i64
-    ensures { λ r. ⌜ Numbered (converting Second (now (book .entry)) (now (out .entry))) r (now (out .exit)) ⌝ }
+    ensures { λ r. ⌜ (r, now (out .exit)) ≡ numbered (converting Second (now (book .entry)) (now (out .entry))) ⌝ }
 {
     turned(Edition::Second, book, out)
 }

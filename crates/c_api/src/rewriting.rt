@@ -6,11 +6,11 @@ use rewriter::Rewrite;
 use rewriter::rewrite_at;
 ghost use mathlib.Core.Path.{_≡_};
 ghost use mathlib.Core.List.{[]};
-ghost use Rattle.c_api.specs.Calls.{rewriting, Rewritten};
+ghost use Rattle.c_api.specs.Calls.{rewriting};
 
 // The number where the rule has no room: nothing can be written, so the rewrite gets an empty part of `out`.
 fn refused_rule(kind: u8, rank: u8, word: &[u8], place: usize, out: &mut [u8]) -> i64
-    ensures { λ r. ⌜ (r ≡ rewriting kind rank (now (word .entry)) place [] [] .number) × (now (out .exit) ≡ now (out .entry)) ⌝ }
+    ensures { λ r. ⌜ (r ≡ rewriting kind rank (now (word .entry)) place [] [] .0) × (now (out .exit) ≡ now (out .entry)) ⌝ }
 {
     match rewrite_at(kind, rank, word, place, &mut out[..0]) {
         Rewrite::Used {
@@ -26,7 +26,7 @@ fn refused_rule(kind: u8, rank: u8, word: &[u8], place: usize, out: &mut [u8]) -
 
 // One rewrite with its rule, of a kind and a rank that are bytes. Both outputs are checked before either is written.
 fn rewrite(kind: u8, rank: u8, word: &[u8], place: usize, out: &mut [u8], rule: &mut [u8]) -> i64
-    ensures { λ r. ⌜ Rewritten (rewriting kind rank (now (word .entry)) place (now (out .entry)) (now (rule .entry))) r (now (out .exit)) (now (rule .exit)) ⌝ }
+    ensures { λ r. ⌜ (r, (now (out .exit), now (rule .exit))) ≡ rewriting kind rank (now (word .entry)) place (now (out .entry)) (now (rule .entry)) ⌝ }
 {
     if rule.len() < 3 {
         return refused_rule(kind, rank, word, place, out);
@@ -59,7 +59,7 @@ pub extern "C" fn winnathey_rewrite(
     out: &mut [u8],
     rule: &mut [u8],
 ) -> i64
-    ensures { λ r. ⌜ Rewritten (rewriting kind rank (now (word .entry)) place (now (out .entry)) (now (rule .entry))) r (now (out .exit)) (now (rule .exit)) ⌝ }
+    ensures { λ r. ⌜ (r, (now (out .exit), now (rule .exit))) ≡ rewriting kind rank (now (word .entry)) place (now (out .entry)) (now (rule .entry)) ⌝ }
 {
     rewrite(byte(kind), byte(rank), word, place, out, rule)
 }

@@ -5,8 +5,9 @@ use crate::numbers::refusal;
 use crate::numbers::size;
 use descents::Fallback;
 use descents::fallback_places;
+ghost use mathlib.Core.Path.{_≡_};
 ghost use Rattle.exchange.specs.BetweenCalls.{betweenWindows};
-ghost use Rattle.c_api.specs.Calls.{Numbered};
+ghost use Rattle.c_api.specs.Calls.{numbered};
 ghost use Rattle.c_api.specs.Shortest.{FallbackNumbered};
 
 // Whether a simpler word's window can be had by removing letters from the normal form of the present word. The places of letters to keep, which count
@@ -39,7 +40,7 @@ pub extern "C" fn winnathey_between(
     to: &[i8],
     out: &mut [u8],
 ) -> i64
-    ensures { λ r. ⌜ Numbered (betweenWindows kind rank allowed (now (from .entry)) (now (to .entry)) (now (out .entry))) r (now (out .exit)) ⌝ }
+    ensures { λ r. ⌜ (r, now (out .exit)) ≡ numbered (betweenWindows kind rank allowed (now (from .entry)) (now (to .entry)) (now (out .entry))) ⌝ }
 {
     number(descents::between_windows(byte(kind), byte(rank), allowed, from, to, out))
 }

@@ -5,30 +5,62 @@ use crate::numbers::size;
 use descents::Split;
 use descents::split_word;
 ghost use mathlib.Core.Path.{_≡_};
-ghost use Prim.Native.Nat.{ℕ, _+_, _≤_};
-ghost use Rattle.exchange.specs.declared.Split.the-variants.{Words};
-ghost use Rattle.exchange.specs.SplitCalls.{splitting};
-ghost use Rattle.c_api.specs.Splits.{splitNumbers, SplitCounted, SplitNumbered};
+ghost use mathlib.Core.List.{[]};
+ghost use Rattle.c_api.specs.Calls.{splittingListed};
 
-// Writes the two lengths of a split and answers their sum, which is at most the length of the longest book; a refusal leaves the two as they were.
-fn counted(split: Split, first_written: &mut usize, second_written: &mut usize) -> i64
-    requires { ⌜ ((a b : ℕ) → split ≡ Words a b → a + b ≤ 65535) ⌝ }
-    ensures { λ r. ⌜ SplitCounted (splitNumbers split (now («first_written» .entry)) (now («second_written» .entry)))
-        r (now («first_written» .exit)) (now («second_written» .exit)) ⌝ }
+// The number where the lengths have no room: nothing can be written, so the split gets empty parts of its outputs.
+fn refused_lengths(
+    kind: u8,
+    rank: u8,
+    allowed: u64,
+    word: &[u8],
+    first: &mut [u8],
+    second: &mut [u8],
+) -> i64
+    ensures { λ r. ⌜ (r ≡ splittingListed kind rank allowed (now (word .entry)) [] [] [] .0)
+        × (now (first .exit) ≡ now (first .entry)) × (now (second .exit) ≡ now (second .entry)) ⌝ }
 {
-    match split {
-        Split::Words { first, second } => {
-            *first_written = first;
-            *second_written = second;
-            size(first + second)
+    match split_word(kind, rank, allowed, word, &mut first[..0], &mut second[..0]) {
+        Split::Words {
+            first: _,
+            second: _,
+        } => -14,
+        Split::Refused(k) => refusal(k),
+    }
+}
+
+// A split with its lengths, of a kind and a rank that are bytes. Every output is checked before any is written.
+fn split(
+    kind: u8,
+    rank: u8,
+    allowed: u64,
+    word: &[u8],
+    first: &mut [u8],
+    second: &mut [u8],
+    lengths: &mut [u64],
+) -> i64
+    ensures { λ r. ⌜ (r, ((now (first .exit), now (second .exit)), now (lengths .exit)))
+        ≡ splittingListed kind rank allowed (now (word .entry)) (now (first .entry)) (now (second .entry)) (now (lengths .entry)) ⌝ }
+{
+    if lengths.len() < 2 {
+        return refused_lengths(kind, rank, allowed, word, first, second);
+    }
+    match split_word(kind, rank, allowed, word, first, second) {
+        Split::Words {
+            first: a,
+            second: b,
+        } => {
+            lengths[0] = a as u64;
+            lengths[1] = b as u64;
+            size(a + b)
         }
         Split::Refused(k) => refusal(k),
     }
 }
 
 // A word split by the set of allowed steps, bit 0 for step 1: the first word is over allowed steps, the second's window has no shortest word that
-// begins with one. Each is a normal form, written to the front of its output, with its length in `first_written` or `second_written`. Answers the sum
-// of the two lengths. Refusals 5, 6, 16, 7 and 8, then 14 for either output; a refused call leaves all four.
+// begins with one. Each is a normal form, written to the front of its output, and the length of each goes to the first two places of `lengths`.
+// Answers the sum of the two lengths. Refusals 5, 6, 16, 7 and 8, then 14 for any of the three.
 #[no_mangle]
 pub extern "C" fn winnathey_split(
     kind: u32,
@@ -37,16 +69,18 @@ pub extern "C" fn winnathey_split(
     word: &[u8],
     first: &mut [u8],
     second: &mut [u8],
-    first_written: &mut usize,
-    second_written: &mut usize,
+    lengths: &mut [u64],
 ) -> i64
-    ensures { λ r. ⌜ SplitNumbered (splitting kind rank allowed (now (word .entry)) (now (first .entry)) (now (second .entry)))
-        (now («first_written» .entry)) (now («second_written» .entry)) r (now (first .exit)) (now (second .exit))
-        (now («first_written» .exit)) (now («second_written» .exit)) ⌝ }
+    ensures { λ r. ⌜ (r, ((now (first .exit), now (second .exit)), now (lengths .exit)))
+        ≡ splittingListed kind rank allowed (now (word .entry)) (now (first .entry)) (now (second .entry)) (now (lengths .entry)) ⌝ }
 {
-    counted(
-        split_word(byte(kind), byte(rank), allowed, word, first, second),
-        first_written,
-        second_written,
+    split(
+        byte(kind),
+        byte(rank),
+        allowed,
+        word,
+        first,
+        second,
+        lengths,
     )
 }

@@ -1,11 +1,73 @@
 // The delay table.
 use crate::numbers::byte;
-use crate::numbers::table_number;
-ghost use Rattle.distribution.specs.Calls.{delayTable};
-ghost use Rattle.c_api.specs.Calls.{TableNumbered};
+use crate::numbers::refusal;
+use crate::numbers::size;
+use delay::Table;
+use delay::delay_table;
+ghost use mathlib.Core.Path.{_≡_};
+ghost use mathlib.Core.List.{[]};
+ghost use Rattle.c_api.specs.Calls.{delayTableListed};
+
+// The number where the lengths have no room: nothing can be written, so the table gets empty parts of its outputs.
+fn refused_lengths(
+    kind: u8,
+    rank: u8,
+    counts: &mut [u64],
+    window: &mut [i8],
+    form: &mut [u8],
+) -> i64
+    ensures { λ r. ⌜ (r ≡ delayTableListed kind rank [] [] [] [] .0)
+        × (now (counts .exit) ≡ now (counts .entry)) × (now (window .exit) ≡ now (window .entry)) × (now (form .exit) ≡ now (form .entry)) ⌝ }
+{
+    match delay_table(
+        kind,
+        rank,
+        &mut counts[..0],
+        &mut window[..0],
+        &mut form[..0],
+    ) {
+        Table::Written {
+            counts: _,
+            entries: _,
+            letters: _,
+        } => -14,
+        Table::Refused(k) => refusal(k),
+    }
+}
+
+// A table with its lengths, of a kind and a rank that are bytes. Every output is checked before any is written.
+fn table(
+    kind: u8,
+    rank: u8,
+    counts: &mut [u64],
+    window: &mut [i8],
+    form: &mut [u8],
+    lengths: &mut [u64],
+) -> i64
+    ensures { λ r. ⌜ (r, ((now (counts .exit), now (window .exit), now (form .exit)), now (lengths .exit)))
+        ≡ delayTableListed kind rank (now (counts .entry)) (now (window .entry)) (now (form .entry)) (now (lengths .entry)) ⌝ }
+{
+    if lengths.len() < 3 {
+        return refused_lengths(kind, rank, counts, window, form);
+    }
+    match delay_table(kind, rank, counts, window, form) {
+        Table::Written {
+            counts: c,
+            entries: e,
+            letters: l,
+        } => {
+            lengths[0] = c as u64;
+            lengths[1] = e as u64;
+            lengths[2] = l as u64;
+            size(l)
+        }
+        Table::Refused(k) => refusal(k),
+    }
+}
 
 // How many windows of a kind and a rank have each length, from 0 to the greatest, written to the front of `counts`; the longest window, written to
-// that of `window`; its normal form, written to that of `form`. Answers the greatest length: `counts` gets one number more.
+// that of `window`; its normal form, written to that of `form`. The length of each goes to the first three places of `lengths`. Answers the greatest
+// length. Refusals 5, 6 and 20, then 14 for any of the four.
 #[no_mangle]
 pub extern "C" fn winnathey_delay_table(
     kind: u32,
@@ -13,9 +75,10 @@ pub extern "C" fn winnathey_delay_table(
     counts: &mut [u64],
     window: &mut [i8],
     form: &mut [u8],
+    lengths: &mut [u64],
 ) -> i64
-    ensures { λ r. ⌜ TableNumbered (delayTable kind rank (now (counts .entry)) (now (window .entry)) (now (form .entry)))
-        r (now (counts .exit)) (now (window .exit)) (now (form .exit)) ⌝ }
+    ensures { λ r. ⌜ (r, ((now (counts .exit), now (window .exit), now (form .exit)), now (lengths .exit)))
+        ≡ delayTableListed kind rank (now (counts .entry)) (now (window .entry)) (now (form .entry)) (now (lengths .entry)) ⌝ }
 {
-    table_number(delay::delay_table(byte(kind), byte(rank), counts, window, form))
+    table(byte(kind), byte(rank), counts, window, form, lengths)
 }

@@ -6,13 +6,12 @@ use rewriter::ToEnd;
 use rewriter::rewrite_steps;
 use rewriter::rewrite_to_end;
 ghost use mathlib.Core.Path.{_≡_};
+ghost use mathlib.Core.List.{[]};
 ghost use Prim.Native.Nat.{ℕ, _≤_};
 ghost use lib.IntN.{pos};
 ghost use Rattle.coxeter.specs.declared.Answer.the-variants.{Length};
-ghost use Rattle.rules.specs.declared.ToEnd.the-variants.{Ended};
-ghost use Rattle.rules.specs.Traces.{rewritingToEnd, numberOfSteps};
-ghost use Rattle.c_api.specs.Calls.{numberOf};
-ghost use Rattle.c_api.specs.Traces.{traceNumber, finalLength, TraceNumbered};
+ghost use Rattle.rules.specs.Traces.{numberOfSteps};
+ghost use Rattle.c_api.specs.Calls.{numberOf, rewritingToEndListed};
 
 // A number of steps, which is at most the number of pairs of letters of the longest word.
 fn steps_number(steps: usize) -> i64
@@ -33,20 +32,6 @@ fn counted(answer: Answer) -> i64
     }
 }
 
-// The number of a rewriting to its end; the length of its final word goes to `final_len`, and a refusal leaves that.
-fn ended(answer: ToEnd, final_len: &mut usize) -> i64
-    requires { ⌜ ((s l : ℕ) → answer ≡ Ended s l → s ≤ 8386560) ⌝ }
-    ensures { λ r. ⌜ (r ≡ traceNumber answer) × (now («final_len» .exit) ≡ finalLength answer (now («final_len» .entry))) ⌝ }
-{
-    match answer {
-        ToEnd::Ended { steps, length } => {
-            *final_len = length;
-            steps_number(steps)
-        }
-        ToEnd::Refused(k) => refusal(k),
-    }
-}
-
 // How many steps `winnathey_rewrite_to_end` takes: so many places each of its lists must have. For a word of L letters that is at most L (L - 1) / 2.
 // Refusals 5 to 8.
 #[no_mangle]
@@ -56,9 +41,64 @@ pub extern "C" fn winnathey_rewrite_steps(kind: u32, rank: u32, word: &[u8]) -> 
     counted(rewrite_steps(byte(kind), byte(rank), word))
 }
 
+// The number where the final length has no room: nothing can be written, and 15 comes before 14.
+fn refused_written(
+    kind: u8,
+    rank: u8,
+    word: &[u8],
+    families: &[u8],
+    places: &[u16],
+    lengths: &[u16],
+) -> i64
+    ensures { λ r. ⌜ r ≡ rewritingToEndListed kind rank (now (word .entry)) (now (families .entry)) (now (places .entry)) (now (lengths .entry)) [] [] .0 ⌝ }
+{
+    match rewrite_steps(kind, rank, word) {
+        Answer::Length(steps) => {
+            if families.len() < steps {
+                return -15;
+            }
+            if places.len() < steps {
+                return -15;
+            }
+            if lengths.len() < steps {
+                return -15;
+            }
+            -14
+        }
+        Answer::Refused(k) => refusal(k),
+    }
+}
+
+// A rewriting to its end with the final word's length, of a kind and a rank that are bytes. Every output is checked before any is written.
+fn to_end(
+    kind: u8,
+    rank: u8,
+    word: &[u8],
+    families: &mut [u8],
+    places: &mut [u16],
+    lengths: &mut [u16],
+    out: &mut [u8],
+    written: &mut [u64],
+) -> i64
+    ensures { λ r. ⌜ (r, ((now (families .exit), now (places .exit), now (lengths .exit), now (out .exit)), now (written .exit)))
+        ≡ rewritingToEndListed kind rank (now (word .entry)) (now (families .entry)) (now (places .entry)) (now (lengths .entry))
+        (now (out .entry)) (now (written .entry)) ⌝ }
+{
+    if written.len() < 1 {
+        return refused_written(kind, rank, word, families, places, lengths);
+    }
+    match rewrite_to_end(kind, rank, word, families, places, lengths, out) {
+        ToEnd::Ended { steps, length } => {
+            written[0] = length as u64;
+            steps_number(steps)
+        }
+        ToEnd::Refused(k) => refusal(k),
+    }
+}
+
 // Rewrites the word always at the lowest place where a rule fits, until none fits. The family, the place and the length left of each step go to the
-// fronts of the three lists, the final word, which is the normal form, to that of `out`, and its length to `final_len`. Answers the number of steps.
-// Refusals 5 to 8, 15 for a list with too few places, and 14.
+// fronts of the three lists, the final word, which is the normal form, to that of `out`, and its length to the first place of `written`. Answers the
+// number of steps. Refusals 5 to 8, 15 for a list with too few places, and 14 for `out` or `written`.
 #[no_mangle]
 pub extern "C" fn winnathey_rewrite_to_end(
     kind: u32,
@@ -68,14 +108,20 @@ pub extern "C" fn winnathey_rewrite_to_end(
     places: &mut [u16],
     lengths: &mut [u16],
     out: &mut [u8],
-    final_len: &mut usize,
+    written: &mut [u64],
 ) -> i64
-    ensures { λ r. ⌜ TraceNumbered (rewritingToEnd kind rank (now (word .entry)) (now (families .entry)) (now (places .entry)) (now (lengths .entry))
-        (now (out .entry))) (now («final_len» .entry)) r (now (families .exit)) (now (places .exit)) (now (lengths .exit)) (now (out .exit))
-        (now («final_len» .exit)) ⌝ }
+    ensures { λ r. ⌜ (r, ((now (families .exit), now (places .exit), now (lengths .exit), now (out .exit)), now (written .exit)))
+        ≡ rewritingToEndListed kind rank (now (word .entry)) (now (families .entry)) (now (places .entry)) (now (lengths .entry))
+        (now (out .entry)) (now (written .entry)) ⌝ }
 {
-    ended(
-        rewrite_to_end(byte(kind), byte(rank), word, families, places, lengths, out),
-        final_len,
+    to_end(
+        byte(kind),
+        byte(rank),
+        word,
+        families,
+        places,
+        lengths,
+        out,
+        written,
     )
 }

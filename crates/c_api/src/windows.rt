@@ -1,10 +1,10 @@
 // Calls on windows.
 use crate::numbers::byte;
 use crate::numbers::number;
-use crate::numbers::sorted;
+use crate::numbers::write_crossings;
 ghost use mathlib.Core.Path.{_≡_};
 ghost use Rattle.coxeter.specs.Calls.{productOfWindows, inverseOfWindow, normalFormOfWindow, lengthOfWindow, crossingsOfWindow};
-ghost use Rattle.c_api.specs.Calls.{Numbered, numberOf, sorting, Sorted};
+ghost use Rattle.c_api.specs.Calls.{numbered, numberOf, crossingNumbers, listed};
 
 // The normal form of a window, written to the front of `out`. Answers its length.
 #[no_mangle]
@@ -14,7 +14,7 @@ pub extern "C" fn winnathey_normal_form_of_window(
     window: &[i8],
     out: &mut [u8],
 ) -> i64
-    ensures { λ r. ⌜ Numbered (normalFormOfWindow kind rank (now (window .entry)) (now (out .entry))) r (now (out .exit)) ⌝ }
+    ensures { λ r. ⌜ (r, now (out .exit)) ≡ numbered (normalFormOfWindow kind rank (now (window .entry)) (now (out .entry))) ⌝ }
 {
     number(window::normal_form_of_window(byte(kind), byte(rank), window, out))
 }
@@ -28,7 +28,7 @@ pub extern "C" fn winnathey_product_of_windows(
     second: &[i8],
     out: &mut [i8],
 ) -> i64
-    ensures { λ r. ⌜ Numbered (productOfWindows kind rank (now (first .entry)) (now (second .entry)) (now (out .entry))) r (now (out .exit)) ⌝ }
+    ensures { λ r. ⌜ (r, now (out .exit)) ≡ numbered (productOfWindows kind rank (now (first .entry)) (now (second .entry)) (now (out .entry))) ⌝ }
 {
     number(window::product_of_windows(byte(kind), byte(rank), first, second, out))
 }
@@ -41,7 +41,7 @@ pub extern "C" fn winnathey_inverse_of_window(
     window: &[i8],
     out: &mut [i8],
 ) -> i64
-    ensures { λ r. ⌜ Numbered (inverseOfWindow kind rank (now (window .entry)) (now (out .entry))) r (now (out .exit)) ⌝ }
+    ensures { λ r. ⌜ (r, now (out .exit)) ≡ numbered (inverseOfWindow kind rank (now (window .entry)) (now (out .entry))) ⌝ }
 {
     number(window::inverse_of_window(byte(kind), byte(rank), window, out))
 }
@@ -54,24 +54,19 @@ pub extern "C" fn winnathey_length_of_window(kind: u32, rank: u32, window: &[i8]
     number(window::length_of_window(byte(kind), byte(rank), window))
 }
 
-// The length of a window's normal form by sort: inversions go to `plain`, negative sum pairs to `against`, negative entries to `mirrored`. Answers their
-// total.
+// The length of a window's normal form by sort: inversions, negative sum pairs and negative entries go to the first three places of `counts`. Answers
+// their total.
 #[no_mangle]
 pub extern "C" fn winnathey_crossings_of_window(
     kind: u32,
     rank: u32,
     window: &[i8],
-    plain: &mut usize,
-    against: &mut usize,
-    mirrored: &mut usize,
+    counts: &mut [u64],
 ) -> i64
-    ensures { λ r. ⌜ Sorted (sorting (crossingsOfWindow kind rank (now (window .entry))) (now (plain .entry)) (now (against .entry)) (now (mirrored .entry)))
-        r (now (plain .exit)) (now (against .exit)) (now (mirrored .exit)) ⌝ }
+    ensures { λ r. ⌜ (r, now (counts .exit)) ≡ listed (crossingNumbers (crossingsOfWindow kind rank (now (window .entry)))) (now (counts .entry)) ⌝ }
 {
-    sorted(
+    write_crossings(
         window::crossings_of_window(byte(kind), byte(rank), window),
-        plain,
-        against,
-        mirrored,
+        counts,
     )
 }

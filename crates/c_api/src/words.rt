@@ -2,18 +2,18 @@
 use crate::numbers::byte;
 use crate::numbers::number;
 use crate::numbers::refusal;
-use crate::numbers::sorted;
+use crate::numbers::write_crossings;
 use window::Choice;
 use window::Verdict;
 ghost use mathlib.Core.Path.{_≡_};
 ghost use Rattle.coxeter.specs.Dictionary.{shortlex};
 ghost use Rattle.coxeter.specs.Calls.{windowOfWord, normalFormOfWord, productOfWords, inverseOfWord, lengthOfWord, crossingsOfWord, presetsEqual, handsBack, choice};
-ghost use Rattle.c_api.specs.Calls.{Numbered, numberOf, verdictNumber, choiceNumber, sorting, Sorted};
+ghost use Rattle.c_api.specs.Calls.{numbered, numberOf, verdictNumber, choiceNumber, crossingNumbers, listed};
 
 // The window of a word, written to the front of `out`. Answers the number of its entries.
 #[no_mangle]
 pub extern "C" fn winnathey_window_of_word(kind: u32, rank: u32, word: &[u8], out: &mut [i8]) -> i64
-    ensures { λ r. ⌜ Numbered (windowOfWord kind rank (now (word .entry)) (now (out .entry))) r (now (out .exit)) ⌝ }
+    ensures { λ r. ⌜ (r, now (out .exit)) ≡ numbered (windowOfWord kind rank (now (word .entry)) (now (out .entry))) ⌝ }
 {
     number(window::window_of_word(byte(kind), byte(rank), word, out))
 }
@@ -26,7 +26,7 @@ pub extern "C" fn winnathey_normal_form_of_word(
     word: &[u8],
     out: &mut [u8],
 ) -> i64
-    ensures { λ r. ⌜ Numbered (normalFormOfWord kind rank (now (word .entry)) (now (out .entry))) r (now (out .exit)) ⌝ }
+    ensures { λ r. ⌜ (r, now (out .exit)) ≡ numbered (normalFormOfWord kind rank (now (word .entry)) (now (out .entry))) ⌝ }
 {
     number(window::normal_form_of_word(byte(kind), byte(rank), word, out))
 }
@@ -40,7 +40,7 @@ pub extern "C" fn winnathey_product_of_words(
     second: &[u8],
     out: &mut [u8],
 ) -> i64
-    ensures { λ r. ⌜ Numbered (productOfWords kind rank (now (first .entry)) (now (second .entry)) (now (out .entry))) r (now (out .exit)) ⌝ }
+    ensures { λ r. ⌜ (r, now (out .exit)) ≡ numbered (productOfWords kind rank (now (first .entry)) (now (second .entry)) (now (out .entry))) ⌝ }
 {
     number(window::product_of_words(byte(kind), byte(rank), first, second, out))
 }
@@ -53,7 +53,7 @@ pub extern "C" fn winnathey_inverse_of_word(
     word: &[u8],
     out: &mut [u8],
 ) -> i64
-    ensures { λ r. ⌜ Numbered (inverseOfWord kind rank (now (word .entry)) (now (out .entry))) r (now (out .exit)) ⌝ }
+    ensures { λ r. ⌜ (r, now (out .exit)) ≡ numbered (inverseOfWord kind rank (now (word .entry)) (now (out .entry))) ⌝ }
 {
     number(window::inverse_of_word(byte(kind), byte(rank), word, out))
 }
@@ -66,25 +66,20 @@ pub extern "C" fn winnathey_length_of_word(kind: u32, rank: u32, word: &[u8]) ->
     number(window::length_of_word(byte(kind), byte(rank), word))
 }
 
-// The length of a word's normal form by sort: inversions go to `plain`, negative sum pairs to `against`, negative entries to `mirrored`. Answers their
-// total.
+// The length of a word's normal form by sort: inversions, negative sum pairs and negative entries go to the first three places of `counts`. Answers
+// their total.
 #[no_mangle]
 pub extern "C" fn winnathey_crossings_of_word(
     kind: u32,
     rank: u32,
     word: &[u8],
-    plain: &mut usize,
-    against: &mut usize,
-    mirrored: &mut usize,
+    counts: &mut [u64],
 ) -> i64
-    ensures { λ r. ⌜ Sorted (sorting (crossingsOfWord kind rank (now (word .entry))) (now (plain .entry)) (now (against .entry)) (now (mirrored .entry)))
-        r (now (plain .exit)) (now (against .exit)) (now (mirrored .exit)) ⌝ }
+    ensures { λ r. ⌜ (r, now (counts .exit)) ≡ listed (crossingNumbers (crossingsOfWord kind rank (now (word .entry)))) (now (counts .entry)) ⌝ }
 {
-    sorted(
+    write_crossings(
         window::crossings_of_word(byte(kind), byte(rank), word),
-        plain,
-        against,
-        mirrored,
+        counts,
     )
 }
 

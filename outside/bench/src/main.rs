@@ -56,10 +56,9 @@ struct Outputs {
     bytes: Vec<u8>,
     rule: [u8; 3],
     fields: Vec<u64>,
-    counts: [usize; 3],
+    counts: [u64; 3],
     places: Vec<u16>,
     second: Vec<u8>,
-    written: [usize; 2],
 }
 
 /// The time of one call in nanoseconds, by its table, row and column.
@@ -211,7 +210,6 @@ fn main() {
         counts: [0; 3],
         places: vec![0; 4096],
         second: vec![0; 4096],
-        written: [0; 2],
     };
     let mut bench = Bench { filter, outputs, cells: Vec::new() };
     let mut random = Random(2026);
@@ -429,8 +427,8 @@ fn splits(bench: &mut Bench, random: &mut Random, kind: u32, rank: u32, rig: &st
                 call,
                 rig,
                 format!("{letters} letters"),
-                |k, out| rattle::split(kind, rank, set(k), word(k), &mut out.bytes, &mut out.second, &mut out.written),
-                |k, out| plain::split(kind, rank, set(k), word(k), &mut out.bytes, &mut out.second, &mut out.written),
+                |k, out| rattle::split(kind, rank, set(k), word(k), &mut out.bytes, &mut out.second, &mut out.counts),
+                |k, out| plain::split(kind, rank, set(k), word(k), &mut out.bytes, &mut out.second, &mut out.counts),
             );
         }
     }
@@ -444,8 +442,12 @@ fn tables(bench: &mut Bench) {
                 "delay table",
                 name,
                 format!("rank {rank}"),
-                |_, out| rattle::delay_table(kind, black_box(rank), &mut out.fields, &mut out.lanes, &mut out.bytes),
-                |_, out| plain::delay_table(kind, black_box(rank), &mut out.fields, &mut out.lanes, &mut out.bytes),
+                |_, Outputs { fields, lanes, bytes, counts, .. }| {
+                    rattle::delay_table(kind, black_box(rank), fields, lanes, bytes, counts)
+                },
+                |_, Outputs { fields, lanes, bytes, counts, .. }| {
+                    plain::delay_table(kind, black_box(rank), fields, lanes, bytes, counts)
+                },
             );
         }
     }

@@ -64,7 +64,7 @@ fn row(kind: u32, rank: u32, name: &str, word: &[u8]) {
         ($from:ident) => {{
             let Lists { families, places, lengths, out } = &mut lists;
             let start = Instant::now();
-            let answer = $from::rewrite_to_end(kind, rank, black_box(word), families, places, lengths, out, &mut 0);
+            let answer = $from::rewrite_to_end(kind, rank, black_box(word), families, places, lengths, out, &mut [0]);
             assert_eq!(answer, steps as i64);
             start.elapsed().as_secs_f64()
         }};

@@ -12,6 +12,7 @@ mod examples;
 mod exhaustive;
 mod fallbacks;
 mod inputs;
+mod numbers;
 mod random;
 mod retired;
 mod rewriting;
@@ -96,6 +97,7 @@ fn main() -> ExitCode {
     group("each rule of each rank, whole and cut short", &rewriting::each_rule);
     group("rewriting to the end, at random places", &rewriting::to_the_end);
     group("rewriting line by line, replayed, at every rank; lists too short", &traces::replays);
+    group("lists for numbers: too short, empty, longer", &numbers::run);
     group("books: the example in both editions, each byte changed, each part", &books::examples);
     group("books: random, damaged, full", &books::others);
     group("books of no bytes and of one byte: every call", &empty::run);

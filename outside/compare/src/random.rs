@@ -71,18 +71,21 @@ fn words_and_windows(sides: &mut Sides, random: &mut Random, call: usize) {
         }
         7 => {
             sides.length_of_word(kind, rank, &word);
-            sides.crossings_of_word(kind, rank, &word);
+            let counts = random.output(3);
+            sides.crossings_of_word_into(kind, rank, &word, counts);
         }
         8 => {
             sides.length_of_window(kind, rank, &window);
-            sides.crossings_of_window(kind, rank, &window);
+            let counts = random.output(3);
+            sides.crossings_of_window_into(kind, rank, &window, counts);
         }
         _ => {
             let rank = if random.once_in(2) { rank.min(random.pick(&[16, 17, 19, 20])) } else { rank };
-            let need = plain::delay_table(kind, rank, &mut [0; 300], &mut wide, &mut room);
+            let need = plain::delay_table(kind, rank, &mut [0; 300], &mut wide, &mut room, &mut [0; 3]);
             let lanes = rank as i64 + i64::from(kind == plain::A);
-            let (counts, out) = (random.output(need + 1), random.output(need));
-            sides.delay_table(kind, rank, counts, random.output(lanes.min(80)), out);
+            let outputs = [need + 1, lanes.min(80), need].map(|need| random.output(need));
+            let lengths = random.output(3);
+            sides.delay_table_into(kind, rank, outputs, lengths);
         }
     }
 }

@@ -1,6 +1,6 @@
 //! The safe Rust functions with the parameters and the answers of the C interface: the same number, and in the outputs
 //! what the safe function wrote or returned. None where it cannot be called so, as with a kind that is no byte.
-use winnathey::{Crossings, Edition, Kind, Preset, Refusal, Rewrite, Split, raw};
+use winnathey::{Crossings, DelayTable, Edition, Kind, Preset, Refusal, Rewrite, Split, raw};
 
 /// A kind and a rank that are bytes.
 fn rig(kind: u32, rank: u32) -> Option<(Kind, u8)> {
@@ -54,23 +54,43 @@ pub fn length_of_window(kind: u32, rank: u32, window: &[i8]) -> Option<i64> {
     rig(kind, rank).map(|(kind, rank)| coded(winnathey::length_of_window(kind, rank, window)))
 }
 
-fn sorted(answer: Result<Crossings, Refusal>, counts: &mut [usize; 3]) -> i64 {
-    if let Ok(Crossings { plain, against, mirrored }) = answer {
-        *counts = [plain, against, mirrored];
+/// Writes what a safe function returned to the front of a list, for which it always has room.
+fn listed<const N: usize>(list: &mut [u64], numbers: Option<[usize; N]>) {
+    if let Some(numbers) = numbers {
+        list[..N].copy_from_slice(&numbers.map(|number| number as u64));
     }
+}
+
+fn sorted(answer: Result<Crossings, Refusal>, counts: &mut [u64]) -> i64 {
+    listed(counts, answer.ok().map(|Crossings { plain, against, mirrored }| [plain, against, mirrored]));
     coded(answer.map(|crossings| crossings.total()))
 }
 
-pub fn crossings_of_word(kind: u32, rank: u32, word: &[u8], counts: &mut [usize; 3]) -> Option<i64> {
-    rig(kind, rank).map(|(kind, rank)| sorted(winnathey::crossings_of_word(kind, rank, word), counts))
+pub fn crossings_of_word(kind: u32, rank: u32, word: &[u8], counts: &mut [u64]) -> Option<i64> {
+    let (kind, rank) = rig(kind, rank)?;
+    let counts = counts.get_mut(..3)?;
+    Some(sorted(winnathey::crossings_of_word(kind, rank, word), counts))
 }
 
-pub fn crossings_of_window(kind: u32, rank: u32, window: &[i8], counts: &mut [usize; 3]) -> Option<i64> {
-    rig(kind, rank).map(|(kind, rank)| sorted(winnathey::crossings_of_window(kind, rank, window), counts))
+pub fn crossings_of_window(kind: u32, rank: u32, window: &[i8], counts: &mut [u64]) -> Option<i64> {
+    let (kind, rank) = rig(kind, rank)?;
+    let counts = counts.get_mut(..3)?;
+    Some(sorted(winnathey::crossings_of_window(kind, rank, window), counts))
 }
 
-pub fn delay_table(kind: u32, rank: u32, counts: &mut [u64], window: &mut [i8], form: &mut [u8]) -> Option<i64> {
-    rig(kind, rank).map(|(kind, rank)| coded(winnathey::delay_table(kind, rank, counts, window, form)))
+pub fn delay_table(
+    kind: u32,
+    rank: u32,
+    counts: &mut [u64],
+    window: &mut [i8],
+    form: &mut [u8],
+    lengths: &mut [u64],
+) -> Option<i64> {
+    let (kind, rank) = rig(kind, rank)?;
+    let lengths = lengths.get_mut(..3)?;
+    let answer = winnathey::delay_table(kind, rank, counts, window, form);
+    listed(lengths, answer.ok().map(|DelayTable { counts, window, form }| [counts, window, form]));
+    Some(coded(answer.map(|table| table.form)))
 }
 
 pub fn same(kind1: u32, rank1: u32, word1: &[u8], kind2: u32, rank2: u32, word2: &[u8]) -> Option<i64> {
@@ -115,13 +135,12 @@ pub fn rewrite_to_end(
     places: &mut [u16],
     lengths: &mut [u16],
     out: &mut [u8],
-    final_len: &mut usize,
+    written: &mut [u64],
 ) -> Option<i64> {
     let (kind, rank) = rig(kind, rank)?;
+    let written = written.get_mut(..1)?;
     let ended = winnathey::rewrite_to_end(kind, rank, word, families, places, lengths, out);
-    if let Ok(ended) = ended {
-        *final_len = ended.length;
-    }
+    listed(written, ended.ok().map(|ended| [ended.length]));
     Some(coded(ended.map(|ended| ended.steps)))
 }
 
@@ -141,13 +160,12 @@ pub fn split(
     word: &[u8],
     first: &mut [u8],
     second: &mut [u8],
-    written: &mut [usize; 2],
+    lengths: &mut [u64],
 ) -> Option<i64> {
     let (kind, rank) = rig(kind, rank)?;
+    let lengths = lengths.get_mut(..2)?;
     let answer = winnathey::split(kind, rank, allowed, word, first, second);
-    if let Ok(Split { first, second }) = answer {
-        *written = [first, second];
-    }
+    listed(lengths, answer.ok().map(|Split { first, second }| [first, second]));
     Some(coded(answer.map(|split| split.first + split.second)))
 }
 

@@ -36,12 +36,6 @@ impl Fill for u64 {
     }
 }
 
-impl Fill for usize {
-    fn fill(at: usize) -> usize {
-        u64::fill(at) as usize
-    }
-}
-
 /// An output inside a longer filled list.
 struct Output<T> {
     all: Vec<T>,
@@ -77,7 +71,7 @@ pub struct Side {
     fields: Output<u64>,
     places: Output<u16>,
     lengths: Output<u16>,
-    counts: Output<usize>,
+    counts: Output<u64>,
 }
 
 impl Side {
@@ -113,19 +107,14 @@ pub struct Sides {
 /// Room for the answer of any call on words and windows.
 pub const ROOM: usize = 4200;
 
-/// An output as a call takes it: a slice, or an array where its length is fixed.
-fn fit<'a, T, O: TryFrom<&'a mut [T]>>(output: &'a mut [T]) -> O {
-    output.try_into().unwrap_or_else(|_| panic!("the output has another length"))
-}
-
 macro_rules! compared {
     ($self:ident, $call:ident, ($($arg:expr),*), $($out:ident: $length:expr => $written:expr),*) => {{
-        let answer = rattle::$call($($arg,)* $(fit($self.rattle.$out.filled($length))),*);
-        let expected = plain::$call($($arg,)* $(fit($self.plain.$out.filled($length))),*);
+        let answer = rattle::$call($($arg,)* $($self.rattle.$out.filled($length)),*);
+        let expected = plain::$call($($arg,)* $($self.plain.$out.filled($length)),*);
         let outputs = true $(&& $self.rattle.$out.all == $self.plain.$out.all)*;
         // An accepted call writes the bytes of its answer and nothing else, any other call nothing.
         let kept = true $(&& $self.rattle.$out.kept(if answer < 0 { 0 } else { $written(answer) }))*;
-        let safe = safe::$call($($arg,)* $(fit($self.safe.$out.filled($length))),*);
+        let safe = safe::$call($($arg,)* $($self.safe.$out.filled($length)),*);
         $self.safe_calls += u64::from(safe.is_some());
         let safely = safe.is_none_or(|safe| safe == answer $(&& $self.safe.$out.all == $self.rattle.$out.all)*);
         $self.tally(answer);
@@ -230,6 +219,11 @@ impl Sides {
         &self.rattle.fields.all[GUARD..GUARD + whole(length)]
     }
 
+    /// A number that the last call of the library wrote to its list.
+    fn told(&self, at: usize) -> usize {
+        self.rattle.counts.all[GUARD + at] as usize
+    }
+
     pub fn window_of_word(&mut self, kind: u32, rank: u32, word: &[u8], out: usize) -> i64 {
         compared!(self, window_of_word, (kind, rank, word), lanes: out => whole)
     }
@@ -267,17 +261,34 @@ impl Sides {
     }
 
     pub fn crossings_of_word(&mut self, kind: u32, rank: u32, word: &[u8]) -> i64 {
-        compared!(self, crossings_of_word, (kind, rank, word), counts: 3 => |_| 3)
+        self.crossings_of_word_into(kind, rank, word, 3)
+    }
+
+    pub fn crossings_of_word_into(&mut self, kind: u32, rank: u32, word: &[u8], counts: usize) -> i64 {
+        compared!(self, crossings_of_word, (kind, rank, word), counts: counts => |_| 3)
     }
 
     pub fn crossings_of_window(&mut self, kind: u32, rank: u32, window: &[i8]) -> i64 {
-        compared!(self, crossings_of_window, (kind, rank, window), counts: 3 => |_| 3)
+        self.crossings_of_window_into(kind, rank, window, 3)
+    }
+
+    pub fn crossings_of_window_into(&mut self, kind: u32, rank: u32, window: &[i8], counts: usize) -> i64 {
+        compared!(self, crossings_of_window, (kind, rank, window), counts: counts => |_| 3)
     }
 
     /// With outputs of so many numbers, entries and letters.
     pub fn delay_table(&mut self, kind: u32, rank: u32, counts: usize, window: usize, form: usize) -> i64 {
-        let lanes = rank as usize + usize::from(kind == plain::A);
-        compared!(self, delay_table, (kind, rank), fields: counts => |answer| whole(answer) + 1, lanes: window => |_| lanes, bytes: form => whole)
+        self.delay_table_into(kind, rank, [counts, window, form], 3)
+    }
+
+    pub fn delay_table_into(&mut self, kind: u32, rank: u32, room: [usize; 3], lengths: usize) -> i64 {
+        compared!(
+            self, delay_table, (kind, rank),
+            fields: room[0] => |_| self.told(0),
+            lanes: room[1] => |_| self.told(1),
+            bytes: room[2] => |_| self.told(2),
+            counts: lengths => |_| 3
+        )
     }
 
     pub fn same(&mut self, first: (u32, u32, &[u8]), second: (u32, u32, &[u8])) -> i64 {
@@ -297,11 +308,22 @@ impl Sides {
     }
 
     /// With three lists and an output of these lengths.
-    pub fn rewrite_to_end(&mut self, kind: u32, rank: u32, word: &[u8], [f, p, l, out]: [usize; 4]) -> i64 {
+    pub fn rewrite_to_end(&mut self, kind: u32, rank: u32, word: &[u8], room: [usize; 4]) -> i64 {
+        self.rewrite_to_end_into(kind, rank, word, room, 1)
+    }
+
+    /// And with so many numbers for the final word's length.
+    pub fn rewrite_to_end_into(
+        &mut self,
+        kind: u32,
+        rank: u32,
+        word: &[u8],
+        [f, p, l, out]: [usize; 4],
+        written: usize,
+    ) -> i64 {
         macro_rules! told {
             ($side:ident, $from:ident) => {{
                 let Side { rule, places, lengths, bytes, counts, .. } = &mut self.$side;
-                let final_len = &mut counts.filled(1)[0];
                 $from::rewrite_to_end(
                     kind,
                     rank,
@@ -310,7 +332,7 @@ impl Sides {
                     places.filled(p),
                     lengths.filled(l),
                     bytes.filled(out),
-                    final_len,
+                    counts.filled(written),
                 )
             }};
         }
@@ -325,14 +347,14 @@ impl Sides {
         };
         let Side { rule, places, lengths, bytes, counts, .. } = &self.rattle;
         let (steps, one) = (whole(answer), usize::from(answer >= 0));
-        let size = if answer < 0 { 0 } else { counts.all[GUARD] };
+        let size = if answer < 0 { 0 } else { self.told(0) };
         let kept =
             rule.kept(steps) && places.kept(steps) && lengths.kept(steps) && bytes.kept(size) && counts.kept(one);
         let outputs = alike(&self.rattle, &self.plain);
         let safely = safe.is_none_or(|safe| safe == answer && alike(&self.rattle, &self.safe));
         self.tally(answer);
         self.noted(answer == expected && outputs && kept && safely, || {
-            let call = (kind, rank, word, [f, p, l, out]);
+            let call = (kind, rank, word, [f, p, l, out], written);
             format!("rewrite_to_end{call:?}: {answer} and {expected}, {outputs} {kept} {safely}")
         });
         answer
@@ -340,9 +362,9 @@ impl Sides {
 
     /// The families, places and lengths left that the last rewriting to its end wrote, and its final word.
     pub fn lines(&self, steps: usize) -> (&[u8], &[u16], &[u16], &[u8]) {
-        let Side { rule, places, lengths, bytes, counts, .. } = &self.rattle;
+        let Side { rule, places, lengths, bytes, .. } = &self.rattle;
         let lines = GUARD..GUARD + steps;
-        let word = GUARD..GUARD + counts.all[GUARD];
+        let word = GUARD..GUARD + self.told(0);
         (&rule.all[lines.clone()], &places.all[lines.clone()], &lengths.all[lines], &bytes.all[word])
     }
 
@@ -368,19 +390,32 @@ impl Sides {
 
     /// With outputs of so many letters.
     pub fn split(&mut self, kind: u32, rank: u32, allowed: u64, word: &[u8], first: usize, second: usize) -> i64 {
+        self.split_into(kind, rank, allowed, word, [first, second], 2)
+    }
+
+    /// And with so many numbers for their lengths.
+    pub fn split_into(
+        &mut self,
+        kind: u32,
+        rank: u32,
+        allowed: u64,
+        word: &[u8],
+        [first, second]: [usize; 2],
+        lengths: usize,
+    ) -> i64 {
         compared!(
             self, split, (kind, rank, allowed, word),
-            bytes: first => |_| self.rattle.counts.all[GUARD],
-            rule: second => |_| self.rattle.counts.all[GUARD + 1],
-            counts: 2 => |_| 2
+            bytes: first => |_| self.told(0),
+            rule: second => |_| self.told(1),
+            counts: lengths => |_| 2
         )
     }
 
     /// The two words that the last split of the library wrote.
     pub fn halves(&self) -> (&[u8], &[u8]) {
-        let front = |output: &'_ Output<u8>, at: usize| GUARD..GUARD + self.rattle.counts.all[at].min(output.length);
+        let front = |output: &'_ Output<u8>, at: usize| GUARD..GUARD + self.told(at).min(output.length);
         let (first, second) = (&self.rattle.bytes, &self.rattle.rule);
-        (&first.all[front(first, GUARD)], &second.all[front(second, GUARD + 1)])
+        (&first.all[front(first, 0)], &second.all[front(second, 1)])
     }
 
     pub fn between(&mut self, kind: u32, rank: u32, allowed: u64, from: &[i8], to: &[i8], out: usize) -> i64 {

@@ -148,29 +148,40 @@ pub fn length_of_window(kind: u32, rank: u32, window: &[i8]) -> i64 {
     })())
 }
 
+/// Writes numbers to the front of a list. Answers their sum.
+fn listed<const N: usize>(numbers: [usize; N], list: &mut [u64]) -> Result<usize, Refusal> {
+    front(list, N)?.copy_from_slice(&numbers.map(|number| number as u64));
+    Ok(numbers.iter().sum())
+}
+
 /// The length by sort: plain pairs, pairs against a mirrored lane, mirrored lanes. Answers the total.
-pub fn crossings_of_word(kind: u32, rank: u32, word: &[u8], counts: &mut [usize; 3]) -> i64 {
+pub fn crossings_of_word(kind: u32, rank: u32, word: &[u8], counts: &mut [u64]) -> i64 {
     coded((|| {
         let rank = check_preset(kind, rank, word)?;
         let mut window = Window::straight(lanes(kind, rank));
         window.apply(kind, word);
-        *counts = window::crossings(kind, window.entries());
-        Ok(counts.iter().sum())
+        listed(window::crossings(kind, window.entries()), counts)
     })())
 }
 
-pub fn crossings_of_window(kind: u32, rank: u32, window: &[i8], counts: &mut [usize; 3]) -> i64 {
+pub fn crossings_of_window(kind: u32, rank: u32, window: &[i8], counts: &mut [u64]) -> i64 {
     coded((|| {
         let rank = check_rank(kind, rank)?;
         check_window(kind, rank, window)?;
-        *counts = window::crossings(kind, window);
-        Ok(counts.iter().sum())
+        listed(window::crossings(kind, window), counts)
     })())
 }
 
-/// How many windows of a kind and rank have each length, the longest window and its normal form. Answers the greatest
-/// length.
-pub fn delay_table(kind: u32, rank: u32, counts: &mut [u64], window: &mut [i8], form: &mut [u8]) -> i64 {
+/// How many windows of a kind and rank have each length, the longest window and its normal form, with the length of each
+/// in `lengths`. Answers the greatest length.
+pub fn delay_table(
+    kind: u32,
+    rank: u32,
+    counts: &mut [u64],
+    window: &mut [i8],
+    form: &mut [u8],
+    lengths: &mut [u64],
+) -> i64 {
     coded((|| {
         let rank = check_rank(kind, rank)?;
         if rank > if kind == A { 19 } else { 16 } {
@@ -185,6 +196,7 @@ pub fn delay_table(kind: u32, rank: u32, counts: &mut [u64], window: &mut [i8], 
         let counts = front(counts, greatest + 1)?;
         let window = front(window, lanes(kind, rank))?;
         let form = front(form, greatest)?;
+        listed([counts.len(), window.len(), greatest], lengths)?;
         table::count(kind, n, counts);
         table::longest(kind, n, window);
         word::write_normal_form(kind, rank, Window::from(window), form)

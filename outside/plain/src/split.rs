@@ -1,7 +1,7 @@
 //! A word split by allowed steps: what can be taken off its front, and what is left.
 use crate::checks::{check_rank, check_set, check_word};
 use crate::window::{Window, inverse_into, length};
-use crate::{B, coded, front, lanes, word};
+use crate::{B, coded, front, lanes, listed, word};
 
 /// Whether a step at the end makes a window shorter, in the order 1, 2, .., m, -m, .., -1 of the bytes without sign.
 fn shortens(kind: u32, w: &[i8], step: u8) -> bool {
@@ -12,7 +12,7 @@ fn shortens(kind: u32, w: &[i8], step: u8) -> bool {
     if kind == B { w[n - 1] < 0 } else { w[n - 2] as u8 > -w[n - 1] as u8 }
 }
 
-/// Writes the first word and the second to their outputs and their lengths to `written`. Answers the sum of the lengths.
+/// Writes the first word and the second to their outputs and their lengths to `lengths`. Answers the sum of the lengths.
 pub fn split(
     kind: u32,
     rank: u32,
@@ -20,7 +20,7 @@ pub fn split(
     word: &[u8],
     first: &mut [u8],
     second: &mut [u8],
-    written: &mut [usize; 2],
+    lengths: &mut [u64],
 ) -> i64 {
     coded((|| {
         let rank = check_rank(kind, rank)?;
@@ -52,10 +52,10 @@ pub fn split(
         inverse_into(rest.entries(), left.entries_mut());
         let (a, b) = (length(kind, taken.entries()), length(kind, left.entries()));
         let (first, second) = (front(first, a)?, front(second, b)?);
+        let sum = listed([a, b], lengths)?;
         word::write_normal_form(kind, rank, taken, first)?;
         word::write_normal_form(kind, rank, left, second)?;
-        *written = [a, b];
-        Ok(a + b)
+        Ok(sum)
     })())
 }
 
@@ -65,11 +65,11 @@ mod tests {
     use crate::{A, D};
 
     fn both(kind: u32, rank: u32, allowed: u64, word: &[u8]) -> (Vec<u8>, Vec<u8>) {
-        let (mut first, mut second, mut written) = (vec![0; 4096], vec![0; 4096], [0; 2]);
-        let sum = split(kind, rank, allowed, word, &mut first, &mut second, &mut written);
-        assert_eq!(sum, written.iter().sum::<usize>() as i64);
-        first.truncate(written[0]);
-        second.truncate(written[1]);
+        let (mut first, mut second, mut lengths) = (vec![0; 4096], vec![0; 4096], [0; 2]);
+        let sum = split(kind, rank, allowed, word, &mut first, &mut second, &mut lengths);
+        assert_eq!(sum, lengths.iter().sum::<u64>() as i64);
+        first.truncate(lengths[0] as usize);
+        second.truncate(lengths[1] as usize);
         (first, second)
     }
 

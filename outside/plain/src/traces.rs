@@ -3,7 +3,7 @@
 //! Letters are read one by one behind a normal form. Only a left side that ends with the letter just read, or just moved,
 //! can fit, and it is at the lowest place; so nothing behind that letter is looked at again.
 use crate::checks::check_preset;
-use crate::{A, D, MAX_LETTERS, Refusal, coded, front};
+use crate::{A, D, MAX_LETTERS, Refusal, coded, front, listed};
 
 /// A rule whose left side ends with a letter: its family, the place where it begins, the letter that its right side puts
 /// first.
@@ -102,7 +102,8 @@ pub fn rewrite_steps(kind: u32, rank: u32, word: &[u8]) -> i64 {
     coded(check_preset(kind, rank, word).map(|rank| count(kind, rank, word).0))
 }
 
-/// The number of steps, with the family, the place and the length left of each in the three lists, and the final word.
+/// The number of steps, with the family, the place and the length left of each in the three lists, the final word, and its
+/// length in `written`.
 #[expect(clippy::too_many_arguments, reason = "as the C interface has them")]
 pub fn rewrite_to_end(
     kind: u32,
@@ -112,7 +113,7 @@ pub fn rewrite_to_end(
     places: &mut [u16],
     lengths: &mut [u16],
     out: &mut [u8],
-    final_len: &mut usize,
+    written: &mut [u64],
 ) -> i64 {
     coded((|| -> Result<usize, Refusal> {
         let rank = check_preset(kind, rank, word)?;
@@ -121,6 +122,7 @@ pub fn rewrite_to_end(
         let places = places.get_mut(..steps).ok_or(15)?;
         let lengths = lengths.get_mut(..steps).ok_or(15)?;
         let out = front(out, size)?;
+        listed([size], written)?;
         let mut work = [0; MAX_LETTERS];
         let mut at = 0;
         rewrite(kind, rank, word, &mut work, |family, place, left| {
@@ -130,7 +132,6 @@ pub fn rewrite_to_end(
             at += 1;
         });
         out.copy_from_slice(&work[..size]);
-        *final_len = size;
         Ok(steps)
     })())
 }

@@ -121,13 +121,15 @@ fn delay_tables_count_the_windows() {
     for (kind, rank) in RIGS {
         let found = first_words(kind, rank);
         let (mut counts, mut longest, mut form) = ([0; 64], [0; 64], [0; 64]);
-        let greatest = plain::delay_table(kind, rank, &mut counts, &mut longest, &mut form) as usize;
+        let mut lengths = [0; 3];
+        let greatest = plain::delay_table(kind, rank, &mut counts, &mut longest, &mut form, &mut lengths) as usize;
         let mut due = [0; 64];
         for word in found.values() {
             due[word.len()] += 1;
         }
         assert_eq!(counts, due, "kind {kind}, rank {rank}");
         let lanes = rank as usize + usize::from(kind == A);
+        assert_eq!(lengths.map(|length| length as usize), [greatest + 1, lanes, greatest]);
         assert_eq!(found[&longest[..lanes]], form[..greatest]);
         assert!(found.values().filter(|word| word.len() >= greatest).count() == 1);
     }

@@ -223,7 +223,8 @@ impl Crossings {
         self.plain + self.against + self.mirrored
     }
 
-    fn answered(answer: i64, [plain, against, mirrored]: [usize; 3]) -> Result<Crossings, Refusal> {
+    fn answered(answer: i64, counts: [u64; 3]) -> Result<Crossings, Refusal> {
+        let [plain, against, mirrored] = counts.map(|count| count as usize);
         answered(answer).map(|_| Crossings { plain, against, mirrored })
     }
 }
@@ -257,19 +258,30 @@ pub fn crossings_of_window(kind: Kind, rank: u8, window: &[i8]) -> Result<Crossi
     Crossings::answered(raw::crossings_of_window(kind.0.into(), rank.into(), window, &mut counts), counts)
 }
 
+/// A delay table: how many numbers, entries and letters it has.
+#[derive(Clone, Copy, PartialEq, Eq, Hash, Debug)]
+pub struct DelayTable {
+    /// Lengths that are counted, from 0 to the greatest.
+    pub counts: usize,
+    /// Entries of the longest window.
+    pub window: usize,
+    /// Letters of its normal form: the greatest length.
+    pub form: usize,
+}
+
 /// Writes the delay table of a kind and rank: how many windows have the length 0, 1, .. up to the greatest; then the one
-/// window with the greatest length, and its normal form. Answers with the greatest length, which is the normal form's;
-/// `counts` gets one number more and `window` one entry a lane. There are tables up to rank 19 in kind A and up to 16 in
-/// B and D. Refusals 5, 6, 20, 14.
+/// window with the greatest length, and its normal form. Answers with the length of each. There are tables up to rank 19
+/// in kind A and up to 16 in B and D. Refusals 5, 6, 20, 14.
 ///
 /// ```
-/// use winnathey::{Kind, MAX_COUNTS, MAX_LANES, MAX_NORMAL_FORM, delay_table};
+/// use winnathey::{DelayTable, Kind, MAX_COUNTS, MAX_LANES, MAX_NORMAL_FORM, delay_table};
 ///
 /// let (mut counts, mut window, mut form) = ([0; MAX_COUNTS], [0; MAX_LANES], [0; MAX_NORMAL_FORM]);
-/// let greatest = delay_table(Kind::B, 2, &mut counts, &mut window, &mut form)?;
-/// assert_eq!(counts[..=greatest], [1, 2, 2, 2, 1]);
+/// let lengths = delay_table(Kind::B, 2, &mut counts, &mut window, &mut form)?;
+/// assert_eq!(lengths, DelayTable { counts: 5, window: 2, form: 4 });
+/// assert_eq!(counts[..5], [1, 2, 2, 2, 1]);
 /// assert_eq!(window[..2], [-1, -2]);
-/// assert_eq!(form[..greatest], [2, 1, 2, 1]);
+/// assert_eq!(form[..4], [2, 1, 2, 1]);
 ///
 /// let refusal = delay_table(Kind::A, 20, &mut counts, &mut window, &mut form).unwrap_err();
 /// assert_eq!(refusal.number(), 20);
@@ -281,8 +293,11 @@ pub fn delay_table(
     counts: &mut [u64],
     window: &mut [i8],
     form: &mut [u8],
-) -> Result<usize, Refusal> {
-    answered(raw::delay_table(kind.0.into(), rank.into(), counts, window, form))
+) -> Result<DelayTable, Refusal> {
+    let mut lengths = [0; 3];
+    answered(raw::delay_table(kind.0.into(), rank.into(), counts, window, form, &mut lengths))?;
+    let [counts, window, form] = lengths.map(|length| length as usize);
+    Ok(DelayTable { counts, window, form })
 }
 
 /// Whether two presets look alike: as many lanes and the same window, whatever their kinds and ranks. Refusals 5 to 8,
@@ -424,9 +439,9 @@ pub fn rewrite_to_end(
     lengths: &mut [u16],
     out: &mut [u8],
 ) -> Result<Ended, Refusal> {
-    let mut length = 0;
-    let answer = raw::rewrite_to_end(kind.0.into(), rank.into(), word, families, places, lengths, out, &mut length);
-    answered(answer).map(|steps| Ended { steps, length })
+    let mut written = [0];
+    let answer = raw::rewrite_to_end(kind.0.into(), rank.into(), word, families, places, lengths, out, &mut written);
+    answered(answer).map(|steps| Ended { steps, length: written[0] as usize })
 }
 
 /// Whether a simpler window can be had by removing letters from the normal form of the present word. With a yes the
@@ -498,9 +513,9 @@ pub fn split(
     first: &mut [u8],
     second: &mut [u8],
 ) -> Result<Split, Refusal> {
-    let mut written = [0; 2];
-    answered(raw::split(kind.0.into(), rank.into(), allowed, word, first, second, &mut written))?;
-    let [first, second] = written;
+    let mut lengths = [0; 2];
+    answered(raw::split(kind.0.into(), rank.into(), allowed, word, first, second, &mut lengths))?;
+    let [first, second] = lengths.map(|length| length as usize);
     Ok(Split { first, second })
 }
 

@@ -73,18 +73,16 @@ mod c {
             rank: u32,
             word: *const u8,
             word_len: usize,
-            plain: *mut usize,
-            against: *mut usize,
-            mirrored: *mut usize,
+            counts: *mut u64,
+            counts_len: usize,
         ) -> i64;
         pub fn winnathey_crossings_of_window(
             kind: u32,
             rank: u32,
             window: *const i8,
             window_len: usize,
-            plain: *mut usize,
-            against: *mut usize,
-            mirrored: *mut usize,
+            counts: *mut u64,
+            counts_len: usize,
         ) -> i64;
         pub fn winnathey_delay_table(
             kind: u32,
@@ -95,6 +93,8 @@ mod c {
             window_len: usize,
             form: *mut u8,
             form_len: usize,
+            lengths: *mut u64,
+            lengths_len: usize,
         ) -> i64;
         pub fn winnathey_same(
             kind1: u32,
@@ -139,7 +139,8 @@ mod c {
             lengths_len: usize,
             out: *mut u8,
             out_len: usize,
-            final_len: *mut usize,
+            written: *mut u64,
+            written_len: usize,
         ) -> i64;
         pub fn winnathey_fallback(
             kind: u32,
@@ -161,8 +162,8 @@ mod c {
             first_len: usize,
             second: *mut u8,
             second_len: usize,
-            first_written: *mut usize,
-            second_written: *mut usize,
+            lengths: *mut u64,
+            lengths_len: usize,
         ) -> i64;
         pub fn winnathey_between(
             kind: u32,
@@ -320,21 +321,29 @@ pub fn length_of_window(kind: u32, rank: u32, window: &[i8]) -> i64 {
 
 /// The length of a word's normal form by sort: plain pairs, pairs against a mirrored lane, mirrored lanes.
 #[inline]
-pub fn crossings_of_word(kind: u32, rank: u32, word: &[u8], counts: &mut [usize; 3]) -> i64 {
-    let [plain, against, mirrored] = counts;
-    unsafe { c::winnathey_crossings_of_word(kind, rank, word.as_ptr(), word.len(), plain, against, mirrored) }
+pub fn crossings_of_word(kind: u32, rank: u32, word: &[u8], counts: &mut [u64]) -> i64 {
+    unsafe { c::winnathey_crossings_of_word(kind, rank, word.as_ptr(), word.len(), counts.as_mut_ptr(), counts.len()) }
 }
 
 /// The length of a window's normal form by sort.
 #[inline]
-pub fn crossings_of_window(kind: u32, rank: u32, window: &[i8], counts: &mut [usize; 3]) -> i64 {
-    let [plain, against, mirrored] = counts;
-    unsafe { c::winnathey_crossings_of_window(kind, rank, window.as_ptr(), window.len(), plain, against, mirrored) }
+pub fn crossings_of_window(kind: u32, rank: u32, window: &[i8], counts: &mut [u64]) -> i64 {
+    unsafe {
+        c::winnathey_crossings_of_window(kind, rank, window.as_ptr(), window.len(), counts.as_mut_ptr(), counts.len())
+    }
 }
 
-/// How many windows of a kind and rank have each length, the longest window and its normal form.
+/// How many windows of a kind and rank have each length, the longest window and its normal form, with the length of each
+/// in `lengths`.
 #[inline]
-pub fn delay_table(kind: u32, rank: u32, counts: &mut [u64], window: &mut [i8], form: &mut [u8]) -> i64 {
+pub fn delay_table(
+    kind: u32,
+    rank: u32,
+    counts: &mut [u64],
+    window: &mut [i8],
+    form: &mut [u8],
+    lengths: &mut [u64],
+) -> i64 {
     unsafe {
         c::winnathey_delay_table(
             kind,
@@ -345,6 +354,8 @@ pub fn delay_table(kind: u32, rank: u32, counts: &mut [u64], window: &mut [i8], 
             window.len(),
             form.as_mut_ptr(),
             form.len(),
+            lengths.as_mut_ptr(),
+            lengths.len(),
         )
     }
 }
@@ -385,7 +396,7 @@ pub fn rewrite_steps(kind: u32, rank: u32, word: &[u8]) -> i64 {
     unsafe { c::winnathey_rewrite_steps(kind, rank, word.as_ptr(), word.len()) }
 }
 
-/// The rewriting of a word to its end.
+/// The rewriting of a word to its end, with the length of the final word in `written`.
 #[expect(clippy::too_many_arguments, reason = "as the C interface has them")]
 #[inline]
 pub fn rewrite_to_end(
@@ -396,7 +407,7 @@ pub fn rewrite_to_end(
     places: &mut [u16],
     lengths: &mut [u16],
     out: &mut [u8],
-    final_len: &mut usize,
+    written: &mut [u64],
 ) -> i64 {
     unsafe {
         c::winnathey_rewrite_to_end(
@@ -412,7 +423,8 @@ pub fn rewrite_to_end(
             lengths.len(),
             out.as_mut_ptr(),
             out.len(),
-            final_len,
+            written.as_mut_ptr(),
+            written.len(),
         )
     }
 }
@@ -434,7 +446,7 @@ pub fn fallback(kind: u32, rank: u32, present: &[u8], simpler: &[u8], places: &m
     }
 }
 
-/// The two words into which a word is split by a set of allowed steps, with the length of each in `written`.
+/// The two words into which a word is split by a set of allowed steps, with the length of each in `lengths`.
 #[inline]
 pub fn split(
     kind: u32,
@@ -443,9 +455,8 @@ pub fn split(
     word: &[u8],
     first: &mut [u8],
     second: &mut [u8],
-    written: &mut [usize; 2],
+    lengths: &mut [u64],
 ) -> i64 {
-    let [first_written, second_written] = written;
     unsafe {
         c::winnathey_split(
             kind,
@@ -457,8 +468,8 @@ pub fn split(
             first.len(),
             second.as_mut_ptr(),
             second.len(),
-            first_written,
-            second_written,
+            lengths.as_mut_ptr(),
+            lengths.len(),
         )
     }
 }

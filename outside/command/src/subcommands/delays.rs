@@ -34,18 +34,16 @@ fn run(mut args: Args, out: &mut dyn Write) -> Result<(), Failure> {
     let (kind, rank) = args.kind_and_rank()?;
     args.done()?;
     let (mut counts, mut window, mut form) = ([0; MAX_COUNTS], [0; MAX_LANES], [0; MAX_NORMAL_FORM]);
-    let greatest = delay_table(kind, rank, &mut counts, &mut window, &mut form)?;
-    let counts = &counts[..=greatest];
-    // The entries of the longest window are those before the 0 that the output began with.
-    let lanes = window.iter().position(|&entry| entry == 0).unwrap_or(window.len());
+    let lengths = delay_table(kind, rank, &mut counts, &mut window, &mut form)?;
+    let counts = &counts[..lengths.counts];
     let name = format!("{kind}{rank}");
     if let Some(file) = args.path("--svg") {
         return files::write_picture(&file, &svg::bars(&name, counts), out);
     }
-    writeln!(out, "{name}: {} windows, of length 0 to {greatest}", text::grouped(counts.iter().sum()))?;
+    writeln!(out, "{name}: {} windows, of length 0 to {}", text::grouped(counts.iter().sum()), lengths.form)?;
     chart(counts, out)?;
-    writeln!(out, "the longest shows {}", text::spaced(&window[..lanes]))?;
-    writeln!(out, "its normal form is {}", text::spaced(&form[..greatest]))?;
+    writeln!(out, "the longest shows {}", text::spaced(&window[..lengths.window]))?;
+    writeln!(out, "its normal form is {}", text::spaced(&form[..lengths.form]))?;
     Ok(())
 }
 

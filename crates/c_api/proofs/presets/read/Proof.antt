@@ -6,7 +6,7 @@ use lib.ListN.{length-set}
 use borrow.Author.Needs.{needs}
 use Rattle.c_api.specs.Calls.{refused}
 use Rattle.c_api.proofs.Lengths.{i64-back}
-use Rattle.c_api.proofs.Outcomes.{fields-refused, fields-short, fields-written}
+use Rattle.c_api.proofs.Outcomes.{fields-refused, fields-short, fields-stored}
 use Rattle.c_api.proofs.presets.read.Statement.{statement}
 use Rattle.c_api.proofs.presets.read.Tie as tie
 
@@ -20,7 +20,7 @@ returns : tie.Need-returns
 unfolding refused
 returns c =
     let told = c .before .before in
-    fields-short _ _ _ _ _ (told .before .before .check-preset .ensures) _ _ _ _ (told .kind .given .1) (c .if1 .taken)
+    fields-short _ _ _ (told .before .before .check-preset .ensures) _ _ _ _ (told .kind .given .1) (c .if1 .taken)
 
 cast-fields : tie.Need-cast-fields
 cast-fields c = search needs
@@ -52,13 +52,12 @@ same-length c = search needs
 returns-2 : tie.Need-returns-2
 returns-2 c =
     let told = c .before .before in
-    fields-written _ _ _ _ _ (told .before .before .check-preset .ensures) _ _ _ _ (told .kind .given .1) (c .if1 .left)
+    fields-stored _ _ _ (told .before .before .check-preset .ensures) _ _ _ _ (told .kind .given .1) (c .if1 .left)
 
 returns-3 : tie.Need-returns-3
 returns-3 c =
     let told = c .before .before in
-    let f = fields-refused _ _ _ _ _ (told .before .before .check-preset .ensures) _ (told .k .given .1) in
-    (i64-back _ (c .refusal .ok) ∙ c .refusal .ensures ∙ f .0, f .1)
+    fields-refused _ _ _ (told .before .before .check-preset .ensures) _ _ (told .k .given .1) (i64-back _ (c .refusal .ok) ∙ c .refusal .ensures)
 
 pub read-spec : {M : Type 1} → statement M
 read-spec =

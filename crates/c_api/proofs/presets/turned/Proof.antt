@@ -2,7 +2,7 @@
 -- Assumes nothing.
 use mathlib.Core.Path.{sym, _∙_}
 use borrow.Author.Needs.{needs}
-use Rattle.c_api.proofs.Lengths.{answered, converting-small}
+use Rattle.c_api.proofs.Lengths.{numbers-alike, converting-small}
 use Rattle.c_api.proofs.presets.turned.Statement.{statement}
 use Rattle.c_api.proofs.presets.turned.Tie as tie
 
@@ -18,7 +18,7 @@ same-length c = search needs
 returns : tie.Need-returns
 returns c =
     let below = c .before .before .before .convert .ensures in
-    (answered _ _ _ (c .number .ok) (c .number .ensures) (below .0), below .1)
+    numbers-alike _ _ _ _ (c .number .ok) (c .number .ensures) below
 
 pub turned-spec : {M : Type 1} → statement M
 turned-spec = tie.close (tie.spec convert-requires number-requires same-length returns)

@@ -4,15 +4,16 @@ use mathlib.Core.Path.{_≡_, _∙_}
 use mathlib.Core.List.{[], _++_}
 use denote.Ref.{now}
 use borrow.Author.Needs.{needs}
-use Rattle.c_api.specs.Calls.{refused, rewriting}
+use Rattle.c_api.specs.Calls.{refused, rewriteNumbers, rewriting}
 use Rattle.c_api.proofs.Lengths.{i64-back}
-use Rattle.c_api.proofs.Outcomes.{roomless, rewriting-narrow, nothing-before}
+use Rattle.c_api.proofs.Lists.{roomless}
+use Rattle.c_api.proofs.Outcomes.{rewriting-narrow, nothing-before}
 use Rattle.c_api.proofs.rewriting.refused_rule.Statement.{statement}
 use Rattle.c_api.proofs.rewriting.refused_rule.Tie as tie
 
 narrow : (w : tie.After-rewrite-at)
     → let a = w .before .before .before .before .args in
-    refused (roomless (w .rewrite-at .result)) ≡ rewriting (a .kind) (a .rank) (now (a .word)) (a .place) [] [] .number
+    roomless (rewriteNumbers (w .rewrite-at .result)) ≡ rewriting (a .kind) (a .rank) (now (a .word)) (a .place) [] [] .0
 narrow w = rewriting-narrow _ _ _ _ _ _ (w .rewrite-at .ensures)
 
 unwritten : (w : tie.After-rewrite-at)
@@ -45,7 +46,7 @@ same-length : tie.Need-same-length
 same-length c = search needs
 
 returns : tie.Need-returns
-unfolding roomless refused
+unfolding roomless rewriteNumbers refused
 returns c =
     let w = c .before .before .before .before in
     (rw (c .enum-told .given .1) at (narrow w), unwritten w)
@@ -54,7 +55,7 @@ same-length-2 : tie.Need-same-length-2
 same-length-2 c = search needs
 
 returns-2 : tie.Need-returns-2
-unfolding roomless refused
+unfolding roomless rewriteNumbers refused
 returns-2 c =
     let w = c .before .before .before .before in
     (rw (c .enum-told2 .given .1) at (narrow w), unwritten w)
@@ -63,7 +64,7 @@ same-length-3 : tie.Need-same-length-3
 same-length-3 c = search needs
 
 returns-3 : tie.Need-returns-3
-unfolding roomless
+unfolding roomless rewriteNumbers
 returns-3 c =
     let told = c .before .before in
     let w = told .before .before .before .before in

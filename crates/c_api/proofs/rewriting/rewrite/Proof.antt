@@ -1,6 +1,6 @@
 -- `rewriting::rewrite` writes the rule where it has room for it, and else nothing; it goes by the cases of the answer.
 -- Assumes nothing.
-use mathlib.Core.Path.{_∙_}
+use mathlib.Core.Path.{refl, _∙_}
 use native.Mathlib.Omega.{arith}
 use lib.ListN.{length-set}
 use borrow.Author.Needs.{needs}
@@ -20,8 +20,7 @@ returns : tie.Need-returns
 returns c =
     let r = c .before .before .refused-rule in
     let t = c .before .before .before .before in
-    let u = rewriting-roomless _ _ _ _ _ _ (t .if1 .taken) in
-    (i64-back _ (r .ok) ∙ r .ensures .0 ∙ u .0, r .ensures .1 ∙ u .1, u .2)
+    rewriting-roomless _ _ _ _ _ _ _ _ (t .if1 .taken) (i64-back _ (r .ok) ∙ r .ensures .0) (r .ensures .1)
 
 rewrite-at-requires : tie.Need-rewrite-at-requires
 rewrite-at-requires c κs = search needs
@@ -60,15 +59,15 @@ returns-2 : tie.Need-returns-2
 returns-2 c =
     let told = c .before .before in
     let w = told .before .before .before .before in
-    let r = rewriting-used _ _ _ _ _ _ _ _ (w .rewrite-at .ensures) _ _ _ _ (told .family .given .1) (w .before .before .if1 .left) in
-    (i64-back _ (c .size .ok) ∙ c .size .ensures ∙ r .0, r .1, r .2)
+    rewriting-used _ _ _ _ _ _ _ _ (w .rewrite-at .ensures) _ _ _ _ _ (told .family .given .1) (w .before .before .if1 .left)
+    (i64-back _ (c .size .ok) ∙ c .size .ensures)
 
 same-length-4 : tie.Need-same-length-4
 same-length-4 c = search needs
 
 returns-3 : tie.Need-returns-3
 unfolding refused
-returns-3 c = rewriting-fitless _ _ _ _ _ _ _ _ (c .before .before .before .before .rewrite-at .ensures) (c .enum-told .given .1)
+returns-3 c = rewriting-fitless _ _ _ _ _ _ _ _ (c .before .before .before .before .rewrite-at .ensures) _ (c .enum-told .given .1) refl
 
 same-length-5 : tie.Need-same-length-5
 same-length-5 c = search needs
@@ -76,8 +75,8 @@ same-length-5 c = search needs
 returns-4 : tie.Need-returns-4
 returns-4 c =
     let told = c .before .before in
-    let r = rewriting-refused _ _ _ _ _ _ _ _ (told .before .before .before .before .rewrite-at .ensures) _ (told .k .given .1) in
-    (i64-back _ (c .refusal .ok) ∙ c .refusal .ensures ∙ r .0, r .1, r .2)
+    rewriting-refused _ _ _ _ _ _ _ _ (told .before .before .before .before .rewrite-at .ensures) _ _ (told .k .given .1)
+    (i64-back _ (c .refusal .ok) ∙ c .refusal .ensures)
 
 pub rewrite-spec : {M : Type 1} → statement M
 rewrite-spec =

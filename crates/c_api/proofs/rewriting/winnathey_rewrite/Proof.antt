@@ -1,10 +1,7 @@
 -- `rewriting::winnathey_rewrite` hands the bytes of kind and rank on.
 -- Assumes nothing.
-use mathlib.Core.Path.{ap, _∙_}
 use borrow.Author.Needs.{needs}
-use Rattle.c_api.specs.Calls.{Rewriting}
-use Rattle.c_api.proofs.Lengths.{i64-back}
-use Rattle.c_api.proofs.Bytes.{as-bytes, rewriting-refusable}
+use Rattle.c_api.proofs.Bytes.{rewriting-refusable, handed-on}
 use Rattle.c_api.proofs.rewriting.winnathey_rewrite.Statement.{statement}
 use Rattle.c_api.proofs.rewriting.winnathey_rewrite.Tie as tie
 
@@ -27,12 +24,7 @@ returns : tie.Need-returns
 returns c =
     let below = c .before .before .before .before in
     let rank = below .before .before .before in
-    let same = as-bytes (rewriting-refusable _ _ _ _) _ _ _ _ (rank .before .byte .ensures) (rank .byte2 .ensures) in
-    let done = below .rewrite .ensures in (
-      i64-back _ (below .rewrite .ok) ∙ done .0 ∙ ap (λ (r : Rewriting). r .number) same,
-      done .1 ∙ ap (λ (r : Rewriting). r .bytes) same,
-      done .2 ∙ ap (λ (r : Rewriting). r .rule) same,
-    )
+    handed-on (rewriting-refusable _ _ _ _) _ _ _ _ _ _ (rank .before .byte .ensures) (rank .byte2 .ensures) (below .rewrite .ok) (below .rewrite .ensures)
 
 pub winnathey-rewrite-spec : {M : Type 1} → statement M
 winnathey-rewrite-spec =

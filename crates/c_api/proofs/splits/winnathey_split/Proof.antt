@@ -1,8 +1,8 @@
--- `splits::winnathey_split` counts the words of the call below it; the sum fits, since it is the length of the word's window.
+-- `splits::winnathey_split` hands the bytes of kind and rank on.
 -- Assumes nothing.
-use mathlib.Core.Path.{sym, _∙_}
+use Rattle.c_api.proofs.Bytes.{handed-on}
+use Rattle.c_api.proofs.SplitNumbers.{splittingListed-refusable}
 use borrow.Author.Needs.{needs}
-use Rattle.c_api.proofs.SplitNumbers.{splitting-small, split-as-bytes}
 use Rattle.c_api.proofs.splits.winnathey_split.Statement.{statement}
 use Rattle.c_api.proofs.splits.winnathey_split.Tie as tie
 
@@ -12,12 +12,8 @@ byte-requires c κs = search needs
 byte-requires-2 : tie.Need-byte-requires-2
 byte-requires-2 c κs = search needs
 
-split-word-requires : tie.Need-split-word-requires
-split-word-requires c κs = search needs
-
-counted-requires : tie.Need-counted-requires
-counted-requires c κs a b e =
-    splitting-small _ _ _ _ _ _ a b (sym (c .before .before .before .before .before .before .split-word .ensures .0) ∙ e)
+split-requires : tie.Need-split-requires
+split-requires c κs = search needs
 
 same-length : tie.Need-same-length
 same-length c = search needs
@@ -25,13 +21,15 @@ same-length c = search needs
 same-length-2 : tie.Need-same-length-2
 same-length-2 c = search needs
 
+same-length-3 : tie.Need-same-length-3
+same-length-3 c = search needs
+
 returns : tie.Need-returns
 returns c =
-    let below = c .before .before .before .before .before .before .before in
-    let rank = below .before .before .before in
-    let kind = rank .before in
-    split-as-bytes _ _ _ _ _ _ _ _ _ _ _ _ _ _ _ _ (kind .byte .ensures) (rank .byte2 .ensures) (c .counted .ok) (c .counted .ensures)
-    (below .split-word .ensures)
+    let below = c .before .before .before .before .before .before in
+    let rank = below .before .before .before .before in
+    handed-on (splittingListed-refusable _ _ _ _ _) _ _ _ _ _ _ (rank .before .byte .ensures) (rank .byte2 .ensures) (below .split .ok)
+    (below .split .ensures)
 
 pub winnathey-split-spec : {M : Type 1} → statement M
 winnathey-split-spec =
@@ -39,8 +37,8 @@ winnathey-split-spec =
     (tie.spec
     byte-requires
     byte-requires-2
-    split-word-requires
-    counted-requires
+    split-requires
     same-length
     same-length-2
+    same-length-3
     returns)

@@ -1,9 +1,8 @@
--- `tables::winnathey_delay_table` answers the number of the call below it, which fits, since a normal form has at most 4,096 letters.
+-- `tables::winnathey_delay_table` hands the bytes of kind and rank on.
 -- Assumes nothing.
-use mathlib.Core.Path.{sym, _∙_}
+use Rattle.c_api.proofs.Bytes.{handed-on}
+use Rattle.c_api.proofs.TableNumbers.{delayTableListed-refusable}
 use borrow.Author.Needs.{needs}
-use Rattle.c_api.proofs.Lengths.{delayTable-small}
-use Rattle.c_api.proofs.Bytes.{table-as-bytes}
 use Rattle.c_api.proofs.tables.winnathey_delay_table.Statement.{statement}
 use Rattle.c_api.proofs.tables.winnathey_delay_table.Tie as tie
 
@@ -13,11 +12,8 @@ byte-requires c κs = search needs
 byte-requires-2 : tie.Need-byte-requires-2
 byte-requires-2 c κs = search needs
 
-delay-table-requires : tie.Need-delay-table-requires
-delay-table-requires c κs = search needs
-
-table-number-requires : tie.Need-table-number-requires
-table-number-requires c κs a b l e = delayTable-small _ _ _ _ _ a b l (sym (c .before .before .before .before .before .delay-table .ensures .0) ∙ e)
+table-requires : tie.Need-table-requires
+table-requires c κs = search needs
 
 same-length : tie.Need-same-length
 same-length c = search needs
@@ -28,13 +24,15 @@ same-length-2 c = search needs
 same-length-3 : tie.Need-same-length-3
 same-length-3 c = search needs
 
+same-length-4 : tie.Need-same-length-4
+same-length-4 c = search needs
+
 returns : tie.Need-returns
 returns c =
-    let below = c .before .before .before .before .before .before in
-    let rank = below .before .before .before .before in
-    let kind = rank .before in
-    table-as-bytes _ _ _ _ _ _ _ _ _ _ _ _ (kind .byte .ensures) (rank .byte2 .ensures) (c .table-number .ok) (c .table-number .ensures)
-    (below .delay-table .ensures)
+    let below = c .before .before .before .before .before .before .before in
+    let rank = below .before .before .before .before .before in
+    handed-on (delayTableListed-refusable _ _ _ _) _ _ _ _ _ _ (rank .before .byte .ensures) (rank .byte2 .ensures) (below .table .ok)
+    (below .table .ensures)
 
 pub winnathey-delay-table-spec : {M : Type 1} → statement M
 winnathey-delay-table-spec =
@@ -42,9 +40,9 @@ winnathey-delay-table-spec =
     (tie.spec
     byte-requires
     byte-requires-2
-    delay-table-requires
-    table-number-requires
+    table-requires
     same-length
     same-length-2
     same-length-3
+    same-length-4
     returns)

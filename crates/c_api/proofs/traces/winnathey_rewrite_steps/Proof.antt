@@ -1,7 +1,7 @@
 -- `traces::winnathey_rewrite_steps` answers the number of the call below it, which fits.
 -- Assumes nothing.
 use mathlib.Core.Path.{sym, _∙_}
-use Rattle.c_api.proofs.Bytes.{numbered}
+use Rattle.c_api.proofs.Bytes.{measured}
 use Rattle.c_api.proofs.StepNumbers.{numberOfSteps-few, numberOfSteps-refusable}
 use borrow.Author.Needs.{needs}
 use Rattle.c_api.proofs.traces.winnathey_rewrite_steps.Statement.{statement}
@@ -24,7 +24,7 @@ returns c =
     let below = c .before in
     let rank = below .before in
     let kind = rank .before in
-    numbered (numberOfSteps-refusable _) _ _ _ _ _ _ (kind .byte .ensures) (rank .byte2 .ensures) (c .counted .ok) (c .counted .ensures)
+    measured (numberOfSteps-refusable _) _ _ _ _ _ _ (kind .byte .ensures) (rank .byte2 .ensures) (c .counted .ok) (c .counted .ensures)
     (below .rewrite-steps .ensures)
 
 pub winnathey-rewrite-steps-spec : {M : Type 1} → statement M

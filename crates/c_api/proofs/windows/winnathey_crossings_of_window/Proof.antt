@@ -1,9 +1,9 @@
--- `windows::winnathey_crossings_of_window` sorts what the call below it counted; the total fits, since a normal form has at most 4,096 letters.
+-- `windows::winnathey_crossings_of_window` writes what the call below it counted; the total fits, since a normal form has at most 4,096 letters.
 -- Assumes nothing.
 use mathlib.Core.Path.{sym, _∙_}
-use borrow.Author.Needs.{needs}
 use Rattle.c_api.proofs.Lengths.{crossingsOfWindow-small}
-use Rattle.c_api.proofs.Bytes.{crossingsOfWindow-refusable, sorted-as-bytes}
+use Rattle.c_api.proofs.Bytes.{crossingsOfWindow-refusable, crossings-as-bytes}
+use borrow.Author.Needs.{needs}
 use Rattle.c_api.proofs.windows.winnathey_crossings_of_window.Statement.{statement}
 use Rattle.c_api.proofs.windows.winnathey_crossings_of_window.Tie as tie
 
@@ -16,17 +16,27 @@ byte-requires-2 c κs = search needs
 crossings-of-window-requires : tie.Need-crossings-of-window-requires
 crossings-of-window-requires c κs = search needs
 
-sorted-requires : tie.Need-sorted-requires
-sorted-requires c κs x y z e = crossingsOfWindow-small _ _ _ x y z (sym (c .before .before .before .crossings-of-window .ensures) ∙ e)
+write-crossings-requires : tie.Need-write-crossings-requires
+write-crossings-requires c κs x y z e = crossingsOfWindow-small _ _ _ x y z (sym (c .before .crossings-of-window .ensures) ∙ e)
+
+same-length : tie.Need-same-length
+same-length c = search needs
 
 returns : tie.Need-returns
 returns c =
-    let below = c .before .before .before .before in
+    let written = c .before .before in
+    let below = written .before .before in
     let rank = below .before in
-    let kind = rank .before in
-    sorted-as-bytes (crossingsOfWindow-refusable _) _ _ _ _ _ _ _ _ _ _ _ _ (kind .byte .ensures) (rank .byte2 .ensures) (c .sorted .ok)
-    (c .sorted .ensures) (below .crossings-of-window .ensures)
+    crossings-as-bytes (crossingsOfWindow-refusable _) _ _ _ _ _ _ _ _ (rank .before .byte .ensures) (rank .byte2 .ensures) (written .write-crossings .ok)
+    (written .write-crossings .ensures) (below .crossings-of-window .ensures)
 
 pub winnathey-crossings-of-window-spec : {M : Type 1} → statement M
 winnathey-crossings-of-window-spec =
-    tie.close (tie.spec byte-requires byte-requires-2 crossings-of-window-requires sorted-requires returns)
+    tie.close
+    (tie.spec
+    byte-requires
+    byte-requires-2
+    crossings-of-window-requires
+    write-crossings-requires
+    same-length
+    returns)

@@ -3,7 +3,7 @@
 use mathlib.Core.Path.{sym, _∙_}
 use borrow.Author.Needs.{needs}
 use Rattle.c_api.proofs.Lengths.{lengthOfWindow-small}
-use Rattle.c_api.proofs.Bytes.{lengthOfWindow-refusable, numbered}
+use Rattle.c_api.proofs.Bytes.{lengthOfWindow-refusable, measured}
 use Rattle.c_api.proofs.windows.winnathey_length_of_window.Statement.{statement}
 use Rattle.c_api.proofs.windows.winnathey_length_of_window.Tie as tie
 
@@ -24,7 +24,7 @@ returns c =
     let below = c .before in
     let rank = below .before in
     let kind = rank .before in
-    numbered (lengthOfWindow-refusable _) _ _ _ _ _ _ (kind .byte .ensures) (rank .byte2 .ensures) (c .number .ok) (c .number .ensures) (below .length-of-window .ensures)
+    measured (lengthOfWindow-refusable _) _ _ _ _ _ _ (kind .byte .ensures) (rank .byte2 .ensures) (c .number .ok) (c .number .ensures) (below .length-of-window .ensures)
 
 pub winnathey-length-of-window-spec : {M : Type 1} → statement M
 winnathey-length-of-window-spec = tie.close (tie.spec byte-requires byte-requires-2 length-of-window-requires number-requires returns)

@@ -1,9 +1,9 @@
--- `words::winnathey_crossings_of_word` sorts what the call below it counted; the total fits, since a normal form has at most 4,096 letters.
+-- `words::winnathey_crossings_of_word` writes what the call below it counted; the total fits, since a normal form has at most 4,096 letters.
 -- Assumes nothing.
 use mathlib.Core.Path.{sym, _∙_}
-use borrow.Author.Needs.{needs}
 use Rattle.c_api.proofs.Lengths.{crossingsOfWord-small}
-use Rattle.c_api.proofs.Bytes.{crossingsOfWord-refusable, sorted-as-bytes}
+use Rattle.c_api.proofs.Bytes.{crossingsOfWord-refusable, crossings-as-bytes}
+use borrow.Author.Needs.{needs}
 use Rattle.c_api.proofs.words.winnathey_crossings_of_word.Statement.{statement}
 use Rattle.c_api.proofs.words.winnathey_crossings_of_word.Tie as tie
 
@@ -16,17 +16,27 @@ byte-requires-2 c κs = search needs
 crossings-of-word-requires : tie.Need-crossings-of-word-requires
 crossings-of-word-requires c κs = search needs
 
-sorted-requires : tie.Need-sorted-requires
-sorted-requires c κs x y z e = crossingsOfWord-small _ _ _ x y z (sym (c .before .before .before .crossings-of-word .ensures) ∙ e)
+write-crossings-requires : tie.Need-write-crossings-requires
+write-crossings-requires c κs x y z e = crossingsOfWord-small _ _ _ x y z (sym (c .before .crossings-of-word .ensures) ∙ e)
+
+same-length : tie.Need-same-length
+same-length c = search needs
 
 returns : tie.Need-returns
 returns c =
-    let below = c .before .before .before .before in
+    let written = c .before .before in
+    let below = written .before .before in
     let rank = below .before in
-    let kind = rank .before in
-    sorted-as-bytes (crossingsOfWord-refusable _) _ _ _ _ _ _ _ _ _ _ _ _ (kind .byte .ensures) (rank .byte2 .ensures) (c .sorted .ok)
-    (c .sorted .ensures) (below .crossings-of-word .ensures)
+    crossings-as-bytes (crossingsOfWord-refusable _) _ _ _ _ _ _ _ _ (rank .before .byte .ensures) (rank .byte2 .ensures) (written .write-crossings .ok)
+    (written .write-crossings .ensures) (below .crossings-of-word .ensures)
 
 pub winnathey-crossings-of-word-spec : {M : Type 1} → statement M
 winnathey-crossings-of-word-spec =
-    tie.close (tie.spec byte-requires byte-requires-2 crossings-of-word-requires sorted-requires returns)
+    tie.close
+    (tie.spec
+    byte-requires
+    byte-requires-2
+    crossings-of-word-requires
+    write-crossings-requires
+    same-length
+    returns)

@@ -3,7 +3,7 @@
 use mathlib.Core.Path.{sym, _∙_}
 use borrow.Author.Needs.{needs}
 use Rattle.c_api.proofs.Lengths.{lengthOfWord-small}
-use Rattle.c_api.proofs.Bytes.{lengthOfWord-refusable, numbered}
+use Rattle.c_api.proofs.Bytes.{lengthOfWord-refusable, measured}
 use Rattle.c_api.proofs.words.winnathey_length_of_word.Statement.{statement}
 use Rattle.c_api.proofs.words.winnathey_length_of_word.Tie as tie
 
@@ -24,7 +24,7 @@ returns c =
     let below = c .before in
     let rank = below .before in
     let kind = rank .before in
-    numbered (lengthOfWord-refusable _) _ _ _ _ _ _ (kind .byte .ensures) (rank .byte2 .ensures) (c .number .ok) (c .number .ensures) (below .length-of-word .ensures)
+    measured (lengthOfWord-refusable _) _ _ _ _ _ _ (kind .byte .ensures) (rank .byte2 .ensures) (c .number .ok) (c .number .ensures) (below .length-of-word .ensures)
 
 pub winnathey-length-of-word-spec : {M : Type 1} → statement M
 winnathey-length-of-word-spec = tie.close (tie.spec byte-requires byte-requires-2 length-of-word-requires number-requires returns)

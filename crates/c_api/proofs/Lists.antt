@@ -1,0 +1,145 @@
+-- Calls for C that write numbers to a list of their own: what is left where the list has room for them, where it has none, and where no number goes there;
+-- and that a call which answers a negative number leaves everything. By the test of check 14, and by what the numbers of each answer are.
+--
+-- Sections: the numbers of an answer; a list with room; a list without; refusals.
+-- Assumes nothing.
+use mathlib.Core.Path.{_≡_, refl, ap, _∙_}
+use mathlib.Core.Bool.{Bool, true, false}
+use mathlib.Core.List.{List, [], _∷_, _++_}
+use Prim.Native.Nat.{ℕ, suc, _+_, _≤_, _<_}
+use native.Mathlib.Decide.{ℕ-discrete}
+use native.Mathlib.Omega.{arith}
+use lib.IntN.{ℤ, pos}
+use lib.ListN.{length, drop}
+use lib.Seq.{sets, sets-eq}
+use borrow.Author.Tests.{ne-eqb, lt-ltb, le-ltb}
+use Rattle.coxeter.specs.declared.Counted.{Counted}
+use Rattle.coxeter.specs.declared.Counted.the-variants as counted
+use Rattle.coxeter.specs.Kinds.{pick}
+use Rattle.coxeter.specs.Checks.{check, _then_, tooShort}
+use Rattle.rules.specs.declared.Rewrite.{Rewrite}
+use Rattle.rules.specs.declared.Rewrite.the-variants as rewrite
+use Rattle.rules.specs.declared.ToEnd.{ToEnd}
+use Rattle.rules.specs.declared.ToEnd.the-variants as toEnd
+use Rattle.exchange.specs.declared.Split.{Split}
+use Rattle.exchange.specs.declared.Split.the-variants as split
+use Rattle.distribution.specs.declared.Table.{Table}
+use Rattle.distribution.specs.declared.Table.the-variants as table
+use Rattle.book_format.specs.declared.Preset.{Preset}
+use Rattle.book_format.specs.declared.Preset.the-variants as preset
+use Rattle.c_api.specs.Calls.{refused, crossingNumbers, rewriteNumbers, traceNumbers, splitNumbers, tableNumbers, presetNumbers, listed, listedBeside}
+
+-- ---- the numbers of an answer
+
+-- a negative number alone, or a number 0 or more with m numbers for the list
+pub data Numbers (m : ℕ) : ℤ × List ℕ → Type 0 where
+  alone : (k : ℕ) → Numbers m (refused k, [])
+  more : (p : ℕ) (l : List ℕ) → length l ≡ m → Numbers m (pos p, l)
+
+pub crossing-numbers : (a : Counted) → Numbers 3 (crossingNumbers a)
+unfolding crossingNumbers
+crossing-numbers (counted.Crossings a b c) = more (a + b + c) (a ∷ b ∷ c ∷ []) refl
+crossing-numbers (counted.Refused k) = alone k
+
+pub rewrite-numbers : (a : Rewrite) → Numbers 3 (rewriteNumbers a)
+unfolding rewriteNumbers
+rewrite-numbers (rewrite.Used f i j l) = more l (f ∷ i ∷ j ∷ []) refl
+rewrite-numbers rewrite.NoneFits = alone 100
+rewrite-numbers (rewrite.Refused k) = alone k
+
+pub trace-numbers : (a : ToEnd) → Numbers 1 (traceNumbers a)
+unfolding traceNumbers
+trace-numbers (toEnd.Ended s l) = more s (l ∷ []) refl
+trace-numbers (toEnd.Refused k) = alone k
+
+pub split-numbers : (a : Split) → Numbers 2 (splitNumbers a)
+unfolding splitNumbers
+split-numbers (split.Words a b) = more (a + b) (a ∷ b ∷ []) refl
+split-numbers (split.Refused k) = alone k
+
+pub table-numbers : (a : Table) → Numbers 3 (tableNumbers a)
+unfolding tableNumbers
+table-numbers (table.Written c e l) = more l (c ∷ e ∷ l ∷ []) refl
+table-numbers (table.Refused k) = alone k
+
+pub preset-numbers : (a : Preset) → Numbers 4 (presetNumbers a)
+unfolding presetNumbers
+preset-numbers (preset.Found k n s l) = more 4 (k ∷ n ∷ s ∷ l ∷ []) refl
+preset-numbers (preset.Refused k) = alone k
+
+-- ---- a list with room
+
+-- numbers stored one after the other
+front-sets : (l list : List ℕ) → length l ≤ length list → sets list 0 l ≡ l ++ drop (length l) list
+front-sets l list h =
+    let e : 0 + length l ≡ length l = omega arith in
+    sets-eq l list 0 (omega arith) ∙ ap (λ (k : ℕ). l ++ drop k list) e
+
+module _ (z : ℤ) (l list : List ℕ) where
+  pub listed-stored : length l ≤ length list → (z, sets list 0 l) ≡ listed (z, l) list
+  unfolding listed tooShort
+  listed-stored h = rw (le-ltb (length list) (length l) h, front-sets l list h)
+
+  pub beside-stored : {Outputs : Type 0} (new old : Outputs) → length l ≤ length list → (z, (new, sets list 0 l)) ≡ listedBeside (z, l) new old list
+  unfolding listedBeside tooShort
+  beside-stored new old h = rw (le-ltb (length list) (length l) h, front-sets l list h)
+
+-- and where no number goes there
+pub listed-alone : (z : ℤ) (list : List ℕ) → (z, list) ≡ listed (z, []) list
+listed-alone z list = listed-stored z [] list (omega arith)
+
+pub beside-alone : {Outputs : Type 0} (z : ℤ) (new old : Outputs) (list : List ℕ) → (z, (new, list)) ≡ listedBeside (z, []) new old list
+beside-alone z new old list = beside-stored z [] list new old (omega arith)
+
+-- ---- a list without
+
+pub listed-short : (z : ℤ) (l list : List ℕ) → length list < length l → (refused 14, list) ≡ listed (z, l) list
+unfolding listed tooShort
+listed-short z l list h = rw (lt-ltb (length list) (length l) h)
+
+-- the number then
+unfoldable pub roomless : ℤ × List ℕ → ℤ
+roomless (z, []) = z
+roomless (z, x ∷ l) = refused 14
+
+pub beside-roomless : {Outputs : Type 0} {m : ℕ} {x : ℤ × List ℕ} → Numbers m x → (new old : Outputs) (list : List ℕ) → 0 < m → length list < m
+    → (x .1 ≡ [] → new ≡ old) → listedBeside x new old list ≡ (roomless x, (old, list))
+unfolding listedBeside tooShort roomless
+beside-roomless (alone k) new old list p h same = rw (le-ltb (length list) 0 (omega arith), same refl)
+beside-roomless (more s [] e) new old list p h same = absurd (omega arith)
+beside-roomless (more s (x ∷ l) e) new old list p h same = rw (lt-ltb (length list) (length (x ∷ l)) (omega arith))
+
+-- refusal 14 of an output stands for that of the list: after the refusal q, check 14 of the outputs is s
+pub room-then : (q s : ℕ) → (s then 14) ≡ 14 → ((q then s) then 14) ≡ (q then 14)
+room-then q s h = elim (ℕ-discrete q 0) [ yes z ↦ rw z h | no f ↦ rw (ne-eqb q 0 f) (rw (ne-eqb q 0 f) refl) ]
+
+pub room-last : (t : Bool) → (check 14 t then 14) ≡ 14
+room-last true = refl
+room-last false = refl
+
+pub room-more : (t : Bool) (s : ℕ) → (s then 14) ≡ 14 → ((check 14 t then s) then 14) ≡ 14
+room-more true s h = refl
+room-more false s h = h
+
+-- ---- refusals
+
+pub listed-unchanged : {m : ℕ} {x : ℤ × List ℕ} → Numbers m x → (list : List ℕ) (r : ℕ) → listed x list .0 ≡ refused (suc r) → listed x list .1 ≡ list
+unfolding listed tooShort refused
+listed-unchanged (alone k) list r h = rw (le-ltb (length list) 0 (omega arith))
+listed-unchanged (more p l e) list r h = cases (tooShort (length l) list) h
+  where
+    cases : (t : Bool) → let o = pick {X = ℤ × List ℕ} t (refused 14, list) (pos p, l ++ drop (length l) list) in
+        o .0 ≡ refused (suc r) → o .1 ≡ list
+    cases true h = refl
+    cases false h = let z : _≡_ {A = ℕ} 0 1 = cc in absurd (omega arith)
+
+pub beside-unchanged : {Outputs : Type 0} {m : ℕ} {x : ℤ × List ℕ} → Numbers m x → (new old : Outputs) (list : List ℕ) (r : ℕ)
+    → (x .1 ≡ [] → new ≡ old) → listedBeside x new old list .0 ≡ refused (suc r) → listedBeside x new old list .1 ≡ (old, list)
+unfolding listedBeside tooShort refused
+beside-unchanged {Outputs} (alone k) new old list r same h = rw (le-ltb (length list) 0 (omega arith), same refl)
+beside-unchanged {Outputs} (more p l e) new old list r same h = cases (tooShort (length l) list) h
+  where
+    cases : (t : Bool) → let o = pick {X = ℤ × (Outputs × List ℕ)} t (refused 14, (old, list)) (pos p, (new, l ++ drop (length l) list)) in
+        o .0 ≡ refused (suc r) → o .1 ≡ (old, list)
+    cases true h = refl
+    cases false h = let z : _≡_ {A = ℕ} 0 1 = cc in absurd (omega arith)

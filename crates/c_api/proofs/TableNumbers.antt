@@ -1,0 +1,103 @@
+-- A delay table as a call for C makes it: its three lengths go to a list, which has room for them or not.
+--
+-- Sections: the lengths; lengths without room.
+-- Assumes nothing.
+use mathlib.Core.Path.{_≡_, refl, sym, ap, _∙_}
+use mathlib.Core.Bool.{Bool, true, false}
+use mathlib.Core.List.{List, [], _∷_}
+use Prim.Native.Nat.{ℕ, _≤_, _<_}
+use native.Mathlib.Omega.{arith}
+use lib.Dec.{eqb}
+use lib.IntN.{ℤ, pos}
+use lib.ListN.{length}
+use lib.Seq.{sets}
+use Rattle.coxeter.specs.Kinds.{pick, kindOf}
+use Rattle.coxeter.specs.NormalForm.{normalForm}
+use Rattle.coxeter.specs.Checks.{check, _then_, tooShort}
+use Rattle.distribution.specs.declared.Table.{Table}
+use Rattle.distribution.specs.declared.Table.the-variants.{Written, Refused}
+use Rattle.distribution.specs.Distribution.{distribution}
+use Rattle.distribution.specs.Longest.{longest}
+use Rattle.distribution.specs.Calls.{Tabled, tableRefusal, tableOf, roomRefusal, tables, delayTable, TableYields}
+use Rattle.distribution.proofs.Unchanged.{delayTable-unchanged}
+use Rattle.c_api.specs.Calls.{refused, tableNumbers, listedBeside, delayTableListed}
+use Rattle.c_api.proofs.Bytes.{Refusable, delayTable-refusable}
+use Rattle.c_api.proofs.Lists.{table-numbers, roomless, beside-stored, beside-alone, beside-roomless, room-then, room-last, room-more}
+
+pub delayTableListed-refusable : (counts : List ℕ) (entries : List ℤ) (letters lengths : List ℕ) → Refusable (λ k n. delayTableListed k n counts entries letters lengths)
+unfolding delayTableListed
+delayTableListed-refusable counts entries letters lengths = record {
+  alike = λ k n l m e f.
+      ap (λ (t : Tabled). listedBeside (tableNumbers (t .answer)) (t .counts, t .entries, t .letters) (counts, entries, letters) lengths)
+      (delayTable-refusable counts entries letters .alike k n l m e f);
+}
+
+-- ---- the lengths
+
+module _ (k n : ℕ) (counts : List ℕ) (entries : List ℤ) (letters lengths : List ℕ) (a : Table) (d : List ℕ) (w : List ℤ) (u : List ℕ)
+    (y : TableYields (delayTable k n counts entries letters) a d w u) (z : ℤ) where
+  pub delayTableListed-stored : (i j l : ℕ) → a ≡ Written i j l → 3 ≤ length lengths → z ≡ pos l
+      → (z, ((d, w, u), sets lengths 0 (i ∷ j ∷ l ∷ []))) ≡ delayTableListed k n counts entries letters lengths
+  unfolding delayTableListed tableNumbers
+  delayTableListed-stored i j l q h e =
+      rw (← y .0, ← y .1, ← y .2, ← y .3, q, ← e) (beside-stored z (i ∷ j ∷ l ∷ []) lengths (d, w, u) (counts, entries, letters) h)
+
+  pub delayTableListed-refused : (r : ℕ) → a ≡ Refused r → z ≡ refused r → (z, ((d, w, u), lengths)) ≡ delayTableListed k n counts entries letters lengths
+  unfolding delayTableListed tableNumbers
+  delayTableListed-refused r q e = rw (← y .0, ← y .1, ← y .2, ← y .3, q, ← e) (beside-alone z (d, w, u) (counts, entries, letters) lengths)
+
+-- where no length is given, nothing is written
+pub delayTable-still : (k n : ℕ) (counts : List ℕ) (entries : List ℤ) (letters : List ℕ) → let t = delayTable k n counts entries letters in
+    tableNumbers (t .answer) .1 ≡ [] → _≡_ {A = List ℕ × List ℤ × List ℕ} (t .counts, t .entries, t .letters) (counts, entries, letters)
+unfolding tableNumbers
+delayTable-still k n counts entries letters = cases (delayTable k n counts entries letters .answer) refl
+  where
+    cases : (a : Table) → let t = delayTable k n counts entries letters in
+        t .answer ≡ a → tableNumbers a .1 ≡ [] → _≡_ {A = List ℕ × List ℤ × List ℕ} (t .counts, t .entries, t .letters) (counts, entries, letters)
+    cases (Written i j l) e h = let z : _≡_ {A = ℕ} 0 1 = cc in absurd (omega arith)
+    cases (Refused r) e h = let q = delayTable-unchanged k n counts entries letters r e in rw (q .0, q .1, q .2)
+
+-- ---- lengths without room
+
+number-without : (r i j l : ℕ) → roomless (tableNumbers (tableOf r i j l)) ≡ refused (r then 14)
+unfolding tableOf tableNumbers roomless
+number-without r i j l = go (eqb r 0)
+  where
+    go : (t : Bool) → roomless (tableNumbers (pick t (Written i j l) (Refused r))) ≡ refused (pick t 14 r)
+    go true = refl
+    go false = refl
+
+-- the number does not depend on the outputs
+roomless-table : (k n : ℕ) (counts : List ℕ) (entries : List ℤ) (letters : List ℕ)
+    → roomless (tableNumbers (delayTable k n counts entries letters .answer)) ≡ refused (tableRefusal k n then 14)
+unfolding delayTable tables roomRefusal
+roomless-table k n counts entries letters =
+    let w = longest (kindOf k) n in
+    let r = tooShort (length (distribution (kindOf k) n)) counts in
+    let s = tooShort (length w) entries in
+    let t = tooShort (length (normalForm (kindOf k) n w)) letters in
+    number-without _ _ _ _
+    ∙ ap refused (room-then (tableRefusal k n) (check 14 r then check 14 s then check 14 t)
+    (room-more r (check 14 s then check 14 t) (room-more s (check 14 t) (room-last t))))
+
+delayTableListed-without : (k n : ℕ) (counts : List ℕ) (entries : List ℤ) (letters lengths : List ℕ) → length lengths < 3
+    → delayTableListed k n counts entries letters lengths ≡ (refused (tableRefusal k n then 14), ((counts, entries, letters), lengths))
+unfolding delayTableListed
+delayTableListed-without k n counts entries letters lengths h =
+    let t = delayTable k n counts entries letters in
+    beside-roomless (table-numbers (t .answer)) (t .counts, t .entries, t .letters) (counts, entries, letters) lengths (omega arith) h
+    (delayTable-still k n counts entries letters)
+    ∙ ap (λ (z : ℤ). (z, ((counts, entries, letters), lengths))) (roomless-table k n counts entries letters)
+
+-- the number that empty outputs give
+pub delayTableListed-narrow : (k n : ℕ) (a : Table) (d : List ℕ) (w : List ℤ) (u : List ℕ) → TableYields (delayTable k n [] [] []) a d w u
+    → roomless (tableNumbers a) ≡ delayTableListed k n [] [] [] [] .0
+delayTableListed-narrow k n a d w u y =
+    ap (λ (b : Table). roomless (tableNumbers b)) (y .0) ∙ roomless-table k n [] [] []
+    ∙ sym (ap (λ (o : ℤ × ((List ℕ × List ℤ × List ℕ) × List ℕ)). o .0) (delayTableListed-without k n [] [] [] [] (omega arith)))
+
+pub delayTableListed-roomless : (k n : ℕ) (counts : List ℕ) (entries : List ℤ) (letters lengths : List ℕ) (z : ℤ) (d : List ℕ) (w : List ℤ) (u : List ℕ)
+    → length lengths < 3 → z ≡ delayTableListed k n [] [] [] [] .0 → d ≡ counts → w ≡ entries → u ≡ letters
+    → (z, ((d, w, u), lengths)) ≡ delayTableListed k n counts entries letters lengths
+delayTableListed-roomless k n counts entries letters lengths z d w u h e f g i =
+    rw (e, f, g, i, delayTableListed-without k n counts entries letters lengths h, delayTableListed-without k n [] [] [] [] (omega arith))

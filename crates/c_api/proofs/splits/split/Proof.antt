@@ -1,0 +1,106 @@
+-- `splits::split` writes the lengths where they have room, and else nothing; it goes by the cases of the answer.
+-- Assumes nothing.
+use mathlib.Core.Path.{sym, _∙_}
+use Prim.Native.Nat.{_+_, _≤_}
+use native.Mathlib.Omega.{arith}
+use Rattle.c_api.proofs.Lengths.{i64-back}
+use Rattle.c_api.proofs.SplitNumbers.{splitting-small, splittingListed-stored, splittingListed-refused, splittingListed-roomless}
+use borrow.Author.Needs.{needs}
+use Rattle.c_api.proofs.splits.split.Statement.{statement}
+use Rattle.c_api.proofs.splits.split.Tie as tie
+
+-- the sum is small
+small : (c : tie.After-known-told) → c .before .a .given .0 .0 + c .before .a .given .0 .1 .0 ≤ 65535
+small c =
+    let w = c .before .before .before .before .before .before .before in
+    splitting-small _ _ _ _ _ _ _ _ (sym (w .split-word .ensures .0) ∙ c .before .a .given .1)
+
+refused-lengths-requires : tie.Need-refused-lengths-requires
+refused-lengths-requires c κs = search needs
+
+same-length : tie.Need-same-length
+same-length c = search needs
+
+same-length-2 : tie.Need-same-length-2
+same-length-2 c = search needs
+
+returns : tie.Need-returns
+returns c =
+    let r = c .before .before .before .before .refused-lengths in
+    splittingListed-roomless _ _ _ _ _ _ _ _ _ _ (c .before .before .before .before .before .before .before .if1 .taken) (i64-back _ (r .ok) ∙ r .ensures .0) (r .ensures .1) (r .ensures .2)
+
+split-word-requires : tie.Need-split-word-requires
+split-word-requires c κs = search needs
+
+enum-known-a : tie.Need-enum-known-a
+enum-known-a c = search needs
+
+slice-write-lengths : tie.Need-slice-write-lengths
+slice-write-lengths c = search needs
+
+slice-write-lengths-2 : tie.Need-slice-write-lengths-2
+slice-write-lengths-2 c = search needs
+
+add-size : tie.Need-add-size
+add-size c = omega (arith, small c)
+
+size-requires : tie.Need-size-requires
+size-requires c κs = small c
+
+enum-known-k : tie.Need-enum-known-k
+enum-known-k c = search needs
+
+refusal-requires : tie.Need-refusal-requires
+refusal-requires c κs = search needs
+
+same-length-3 : tie.Need-same-length-3
+same-length-3 c = search needs
+
+same-length-4 : tie.Need-same-length-4
+same-length-4 c = search needs
+
+same-length-5 : tie.Need-same-length-5
+same-length-5 c = search needs
+
+returns-2 : tie.Need-returns-2
+returns-2 c =
+    let told = c .before .before in
+    let w = told .before .before .before .before .before .before in
+    splittingListed-stored _ _ _ _ _ _ _ _ _ _ (w .split-word .ensures) _ _ _ (told .a .given .1) (w .before .before .before .if1 .left)
+    (i64-back _ (c .size .ok) ∙ c .size .ensures)
+
+same-length-6 : tie.Need-same-length-6
+same-length-6 c = search needs
+
+same-length-7 : tie.Need-same-length-7
+same-length-7 c = search needs
+
+returns-3 : tie.Need-returns-3
+returns-3 c =
+    let told = c .before .before in
+    let w = told .before .before .before .before .before .before in
+    splittingListed-refused _ _ _ _ _ _ _ _ _ _ (w .split-word .ensures) _ _ (told .k .given .1) (i64-back _ (c .refusal .ok) ∙ c .refusal .ensures)
+
+pub split-spec : {M : Type 1} → statement M
+split-spec =
+    tie.close
+    (tie.spec
+    refused-lengths-requires
+    same-length
+    same-length-2
+    returns
+    split-word-requires
+    enum-known-a
+    slice-write-lengths
+    slice-write-lengths-2
+    add-size
+    size-requires
+    enum-known-k
+    refusal-requires
+    same-length-3
+    same-length-4
+    same-length-5
+    returns-2
+    same-length-6
+    same-length-7
+    returns-3)
