@@ -8,4 +8,6 @@ pub mod SplitNumbers
 pub mod StepNumbers
 pub mod TableNumbers
 pub mod Unchanged
+pub mod Demand3
+pub mod Sentences
 pub mod Vectors

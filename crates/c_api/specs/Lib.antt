@@ -1,3 +1,4 @@
 -- What an auditor must believe of the calls for C beyond the layers below. Definitions and nothing else: the laws are in proofs/.
 pub mod Calls
 pub mod Shortest
+pub mod Demand3

@@ -181,7 +181,8 @@ told-apart : {X : Type 0} → _≡_ {A = ℕ} 0 1 → X
 told-apart e = absurd (omega arith)
 
 module _ {k n : ℕ} {v : List ℕ} (l : Lent) (a : AcceptedWord k n v) where
-  fits-inside : (x : Rule) → List·Memᴰ x (rules (kindOf k) n) → fits x v (l .place) ≡ true → l .place < length v
+  -- a rule fits at places of the word only
+  pub fits-inside : (x : Rule) → List·Memᴰ x (rules (kindOf k) n) → fits x v (l .place) ≡ true → l .place < length v
   fits-inside x m f = elim (decLe (length v) (l .place)) [
     | yes h ↦ absurd (true≢false (sym f ∙ fits-past x v (l .place) (left-nonempty (kindOf k) n (accepted-least a) x m) h))
     | no h ↦ lt-of-not-le h

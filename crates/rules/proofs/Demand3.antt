@@ -110,6 +110,10 @@ run-kept k n u (c ∷ cs) h r =
     let t = run-kept k n (wordAfter u (c .told)) cs (s .accepted) (r .1) in
     record { accepted = t .accepted; shows = t .shows ∙ s .shows; lower = omega (arith, uses-cons c cs, s .lower, t .lower) }
 
+-- it is accepted again
+pub wordLeft-accepted : (k n : ℕ) (u : List ℕ) (cs : List Call) → AcceptedWord k n u → Run k n u cs → AcceptedWord k n (wordLeft u cs)
+wordLeft-accepted k n u cs h r = run-kept k n u cs h r .accepted
+
 run-front : (k n : ℕ) (u : List ℕ) (front rest : List Call) → Run k n u (front ++ rest) → Run k n u front
 run-front k n u [] rest r = tt
 run-front k n u (c ∷ front) rest r = (r .0, run-front k n (wordAfter u (c .told)) front rest (r .1))
