@@ -1,11 +1,13 @@
 //! Times the verified library against the plain Rust version, and prints Markdown tables.
 //!
 //! Both answer the same call on the same inputs into the same outputs, through functions that are not inlined here: the
-//! archive's, called over the C interface, and `plain`'s, at opt-level 3. Outputs are not cleared in between.
+//! archive's, called over the C interface, and `plain`'s, at opt-level 3; for rewritings to their end, splits and ways that
+//! of `plain::library_way`, which has the library's method. Outputs are not cleared in between.
 //! `bench WORD` times only the calls whose names have that word.
 mod sorts;
 mod traces;
 
+use plain::library_way;
 use std::hint::black_box;
 use std::time::{Duration, Instant};
 use winnathey::raw as rattle;
@@ -356,7 +358,7 @@ fn windows(bench: &mut Bench, random: &mut Random, kind: u32, rank: u32, rig: &s
         rig,
         "way to another",
         |k, out| rattle::between(kind, rank, black_box(all), window(k), other(k), &mut out.bytes),
-        |k, out| plain::between(kind, rank, black_box(all), window(k), other(k), &mut out.bytes),
+        |k, out| library_way::between(kind, rank, black_box(all), window(k), other(k), &mut out.bytes),
     );
 }
 
@@ -428,7 +430,9 @@ fn splits(bench: &mut Bench, random: &mut Random, kind: u32, rank: u32, rig: &st
                 rig,
                 format!("{letters} letters"),
                 |k, out| rattle::split(kind, rank, set(k), word(k), &mut out.bytes, &mut out.second, &mut out.counts),
-                |k, out| plain::split(kind, rank, set(k), word(k), &mut out.bytes, &mut out.second, &mut out.counts),
+                |k, out| {
+                    library_way::split(kind, rank, set(k), word(k), &mut out.bytes, &mut out.second, &mut out.counts)
+                },
             );
         }
     }

@@ -1,5 +1,6 @@
 //! Rewritings to their end: long words, and the worst that are known, with the number of steps.
 use crate::Random;
+use plain::library_way;
 use std::hint::black_box;
 use std::time::Instant;
 use winnathey::raw as rattle;
@@ -78,7 +79,8 @@ fn row(kind: u32, rank: u32, name: &str, word: &[u8]) {
     }
     let mut times = [const { Vec::new() }; 4];
     for _ in 0..SAMPLES {
-        for (list, time) in times.iter_mut().zip([run!(rattle), run!(plain), count!(rattle), count!(plain)]) {
+        for (list, time) in times.iter_mut().zip([run!(rattle), run!(library_way), count!(rattle), count!(library_way)])
+        {
             list.push(time);
         }
     }

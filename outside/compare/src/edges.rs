@@ -22,8 +22,7 @@ fn every_call(sides: &mut Sides, kind: u32, rank: u32, word: &[u8], window: &[i8
     sides.same((2, 2, &[1]), (kind, rank, word));
     sides.better(kind, rank, word, word);
     sides.rewrite(kind, rank, word, 0, out, 3);
-    sides.rewrite_steps(kind, rank, word);
-    sides.rewrite_to_end(kind, rank, word, [out; 4]);
+    to_end(sides, kind, rank, word, out);
     sides.fallback(kind, rank, word, &[1], out);
     sides.fallback(kind, rank, &[1], word, out);
     sides.between(kind, rank, 1, window, window, out);
@@ -37,6 +36,16 @@ fn every_call(sides: &mut Sides, kind: u32, rank: u32, word: &[u8], window: &[i8
         sides.preset(edition, &book, 0, 4);
         sides.convert(edition, &book, book.len() + 1);
     }
+}
+
+/// At high ranks a random word of thousands of letters takes hundreds of thousands of steps, which would be long to search
+/// for; there the right letters are all 1 here, and `traces` has some random ones.
+fn to_end(sides: &mut Sides, kind: u32, rank: u32, word: &[u8], out: usize) {
+    let in_range = |letter: u8| letter > 0 && u32::from(letter) <= rank;
+    let ones = |&letter: &u8| if in_range(letter) { 1 } else { letter };
+    let few: Vec<u8> = if rank > 8 && word.len() > 300 { word.iter().map(ones).collect() } else { word.to_vec() };
+    sides.rewrite_steps(kind, rank, &few);
+    sides.rewrite_to_end(kind, rank, &few, [out; 4]);
 }
 
 pub fn kinds_and_ranks(sides: &mut Sides) {

@@ -10,6 +10,7 @@ mod edges;
 mod empty;
 mod examples;
 mod exhaustive;
+mod expected;
 mod fallbacks;
 mod inputs;
 mod numbers;
@@ -90,9 +91,7 @@ fn main() -> ExitCode {
     group("splits: 200,000 random words and sets", &|sides| splits::random(sides, 200_000));
     group("from window to window: all pairs and all sets of small ranks, by a search", &ways::pairs);
     group("from window to window: each bit of the set, and the longest way, at each rank", &ways::bits);
-    group("from window to window: 200,000 random pairs and sets, by single steps", &|sides| {
-        ways::random(sides, 200_000)
-    });
+    group("from window to window: 200,000 random pairs and sets", &|sides| ways::random(sides, 200_000));
     group("delay tables: each rank; small ones held to a count over all windows", &exhaustive::delay_tables);
     group("each rule of each rank, whole and cut short", &rewriting::each_rule);
     group("rewriting to the end, at random places", &rewriting::to_the_end);

@@ -1,5 +1,5 @@
 //! Each call on both sides and by the safe Rust function, with the answers and every byte of every output compared.
-use crate::safe;
+use crate::{expected, safe};
 use std::fmt::Debug;
 use winnathey::Edition::{self, First, Second};
 use winnathey::raw as rattle;
@@ -40,26 +40,29 @@ impl Fill for u64 {
 struct Output<T> {
     all: Vec<T>,
     length: usize,
+    /// The filling, as long as the longest list so far.
+    old: Vec<T>,
 }
 
 impl<T: Fill> Output<T> {
     fn new() -> Output<T> {
-        Output { all: Vec::new(), length: 0 }
+        Output { all: Vec::new(), length: 0, old: Vec::new() }
     }
 
     fn filled(&mut self, length: usize) -> &mut [T] {
+        let all = length + 2 * GUARD;
+        self.old.extend((self.old.len()..all).map(T::fill));
         self.all.clear();
-        self.all.extend((0..length + 2 * GUARD).map(T::fill));
+        self.all.extend_from_slice(&self.old[..all]);
         self.length = length;
         &mut self.all[GUARD..GUARD + length]
     }
 
     /// Whether all but the first `written` elements of the output are as they were.
     fn kept(&self, written: usize) -> bool {
-        let old = |(at, &value): (usize, &T)| value == T::fill(at);
-        written <= self.length
-            && self.all[..GUARD].iter().enumerate().all(|(at, value)| old((at, value)))
-            && self.all.iter().enumerate().skip(GUARD + written).all(old)
+        let old = &self.old[..self.all.len()];
+        let behind = GUARD + written;
+        written <= self.length && self.all[..GUARD] == old[..GUARD] && self.all[behind..] == old[behind..]
     }
 }
 
@@ -110,7 +113,7 @@ pub const ROOM: usize = 4200;
 macro_rules! compared {
     ($self:ident, $call:ident, ($($arg:expr),*), $($out:ident: $length:expr => $written:expr),*) => {{
         let answer = rattle::$call($($arg,)* $($self.rattle.$out.filled($length)),*);
-        let expected = plain::$call($($arg,)* $($self.plain.$out.filled($length)),*);
+        let expected = expected::$call($($arg,)* $($self.plain.$out.filled($length)),*);
         let outputs = true $(&& $self.rattle.$out.all == $self.plain.$out.all)*;
         // An accepted call writes the bytes of its answer and nothing else, any other call nothing.
         let kept = true $(&& $self.rattle.$out.kept(if answer < 0 { 0 } else { $written(answer) }))*;

@@ -17,6 +17,9 @@ fn shown(kind: u32, rank: u32, word: &[u8]) -> Vec<i8> {
     window
 }
 
+/// A first word and a second.
+type Pair<'a> = (&'a [u8], &'a [u8]);
+
 /// All pairs of normal forms, by the window of the first and then the second: the first over allowed steps, the second's
 /// window without a shortest word that begins with an allowed step, and no letter too many in both together.
 fn all_pairs<'a>(
@@ -25,8 +28,8 @@ fn all_pairs<'a>(
     allowed: u64,
     forms: &'a [Vec<u8>],
     beginning: &HashMap<Vec<i8>, u64>,
-) -> HashMap<Vec<i8>, Vec<(&'a [u8], &'a [u8])>> {
-    let mut pairs: HashMap<Vec<i8>, Vec<(&[u8], &[u8])>> = HashMap::new();
+) -> HashMap<Vec<i8>, Vec<Pair<'a>>> {
+    let mut pairs: HashMap<Vec<i8>, Vec<Pair>> = HashMap::new();
     for second in forms.iter().filter(|form| beginning[&shown(kind, rank, form)] & allowed == 0) {
         for first in forms.iter().filter(|form| form.iter().all(|&step| in_set(allowed, step))) {
             let word = [&first[..], second].concat();

@@ -1,11 +1,11 @@
-//! From one window to another over allowed steps: all pairs of windows and all sets of small ranks against a search
-//! through all windows, each bit of the set at each rank, and random ones of all ranks against steps taken one by one.
+//! From one window to another over allowed steps: all pairs of windows and all sets of small ranks, each bit of the set at
+//! each rank, and random ones of all ranks.
 use crate::exhaustive::all_windows;
+use crate::expected;
 use crate::inputs::{Random, lanes, rigs};
 use crate::shortest::RIGS;
 use crate::sides::Sides;
 use plain::{A, B};
-use std::collections::HashMap;
 
 /// One step on a window.
 fn act(kind: u32, step: u8, window: &mut [i8]) {
@@ -21,28 +21,6 @@ fn act(kind: u32, step: u8, window: &mut [i8]) {
 
 fn is_allowed(allowed: u64, step: u8) -> bool {
     allowed & 1 << (step - 1) != 0
-}
-
-/// The windows that the allowed steps reach, each with the first word that leads there: shorter words come before longer
-/// ones and, of one length, those of higher steps first.
-fn search(kind: u32, rank: u32, allowed: u64, from: &[i8]) -> HashMap<Vec<i8>, Vec<u8>> {
-    let mut words = HashMap::from([(from.to_vec(), Vec::new())]);
-    let mut level = vec![from.to_vec()];
-    while !level.is_empty() {
-        let mut next = Vec::new();
-        for window in &level {
-            for step in (1..=rank as u8).rev().filter(|&step| is_allowed(allowed, step)) {
-                let mut shown = window.clone();
-                act(kind, step, &mut shown);
-                if !words.contains_key(&shown) {
-                    words.insert(shown.clone(), [&words[window][..], &[step]].concat());
-                    next.push(shown);
-                }
-            }
-        }
-        level = next;
-    }
-    words
 }
 
 /// Answers 19 if there is no word, else with the word, which an output of its length holds and a shorter one does not.
@@ -61,15 +39,17 @@ fn held(sides: &mut Sides, kind: u32, rank: u32, allowed: u64, from: &[i8], to: 
     }
 }
 
-/// All pairs of windows and all sets, by the search.
+/// All pairs of windows and all sets, by the plain version's search through all windows.
 pub fn pairs(sides: &mut Sides) {
     for (kind, rank) in RIGS {
         let windows = all_windows(kind, rank);
         for allowed in 0..1 << rank {
             for from in &windows {
-                let words = search(kind, rank, allowed, from);
                 for to in &windows {
-                    held(sides, kind, rank, allowed, from, to, words.get(to).map(|word| &word[..]));
+                    let mut word = [0; 50];
+                    let length = plain::between(kind, rank, allowed, from, to, &mut word);
+                    let due = (length != -19).then(|| &word[..length as usize]);
+                    held(sides, kind, rank, allowed, from, to, due);
                 }
             }
         }
@@ -111,36 +91,6 @@ pub fn bits(sides: &mut Sides) {
     }
 }
 
-/// Whether a step makes a window shorter: whether the entries that it moves are crossed. Bytes without sign have the
-/// order 1, 2, .., m, -m, .., -2, -1.
-fn shortens(kind: u32, step: u8, window: &[i8]) -> bool {
-    let (i, m) = (usize::from(step), window.len());
-    if i < m {
-        window[i - 1] as u8 > window[i] as u8
-    } else if kind == B {
-        window[m - 1] < 0
-    } else {
-        window[m - 2] as u8 > -window[m - 1] as u8
-    }
-}
-
-/// The way step by step: the highest allowed step with which a shortest word of what is left begins, which is one that
-/// shortens its inverse, until nothing is left or there is no such step.
-fn by_steps(kind: u32, rank: u32, allowed: u64, from: &[i8], to: &[i8]) -> Option<Vec<u8>> {
-    let m = from.len();
-    let mut back = vec![0; m];
-    plain::inverse_of_window(kind, rank, to, &mut back);
-    let mut left = vec![0; m];
-    plain::product_of_windows(kind, rank, &back, from, &mut left);
-    let steps: Vec<u8> = (1..=rank as u8).rev().filter(|&step| is_allowed(allowed, step)).collect();
-    let mut word = Vec::new();
-    while let Some(&step) = steps.iter().find(|&&step| shortens(kind, step, &left)) {
-        act(kind, step, &mut left);
-        word.push(step);
-    }
-    left.iter().copied().eq(1..=m as i8).then_some(word)
-}
-
 /// A set of steps: all, none, most, few, half, or with a bit above the rank.
 fn set(random: &mut Random, rank: u32) -> u64 {
     let all = u64::MAX >> (64 - rank.clamp(1, 64));
@@ -180,13 +130,7 @@ pub fn random(sides: &mut Sides, inputs: u64) {
         if random.once_in(10) {
             random.damage_window(&mut to);
         }
-        let mut form = [0; 4096];
-        let need = plain::between(kind, rank, allowed, &from, &to, &mut form);
-        if need >= 0 || need == -19 {
-            let due = by_steps(kind, rank, allowed, &from, &to);
-            let found = (need >= 0).then(|| form[..need as usize].to_vec());
-            assert_eq!(found, due, "from {from:?} to {to:?} in {kind} {rank} over {allowed:#b}");
-        }
+        let need = expected::between(kind, rank, allowed, &from, &to, &mut [0; 4096]);
         let out = random.output(need);
         sides.between(kind, rank, allowed, &from, &to, out);
     }

@@ -1,5 +1,5 @@
 //! The requirement once more, in plain Rust: written from its text alone and sharing no line with the
-//! verified library, to compare it with.
+//! verified library, to compare it with. Only [`library_way`] works as the library does, and only the benchmark calls it.
 //!
 //! Each function answers as the C interface does: 0 or more is the answer, -k is refusal k. A refused
 //! call writes nothing, an accepted one only the front of its outputs.
@@ -9,21 +9,25 @@ mod between;
 mod book;
 mod checks;
 mod fallback;
+mod kept;
+pub mod library_way;
 mod rules;
+mod search;
 mod split;
 mod table;
 mod traces;
 mod window;
 mod word;
 
-pub use between::between;
+pub use between::{between, is_way};
 pub use book::{
     append, book_check, preset, presets, second_append, second_book_check, second_preset, second_presets, to_first,
     to_second,
 };
 pub use fallback::{NO_FALLBACK, fallback};
 pub use rules::{NONE_FITS, Rule, rewrite, rules};
-pub use split::split;
+pub use search::{FEW_STEPS, TOO_MANY};
+pub use split::{is_split, split};
 pub use traces::{rewrite_steps, rewrite_to_end};
 
 use checks::{check_preset, check_rank, check_window, check_word};

@@ -69,6 +69,19 @@ impl Rule {
     }
 }
 
+impl Rule {
+    /// The two sides as words.
+    pub(crate) fn words(self, kind: u32, n: u8) -> (Vec<u8>, Vec<u8>) {
+        let written = |side: Side| {
+            let mut word = vec![0; side.len()];
+            side.write(&mut word);
+            word
+        };
+        let (left, right) = self.sides(kind, n);
+        (written(left), written(right))
+    }
+}
+
 impl Side {
     fn len(&self) -> usize {
         usize::from(self.before.is_some()) + self.block.map_or(0, Block::len) + usize::from(self.after.is_some())

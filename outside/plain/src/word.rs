@@ -1,6 +1,6 @@
 //! Blocks and normal forms.
 use crate::window::Window;
-use crate::{D, MAX_LANES, Refusal, front};
+use crate::{D, MAX_LANES, MAX_LETTERS, Refusal, front, lanes};
 use std::ops::Range;
 
 /// The block [i,j] of a kind and a rank n.
@@ -90,4 +90,12 @@ fn peel(kind: u32, n: u8, i: u8, rest: &mut [i8]) -> (u8, &mut [i8]) {
         rest[left - 1] = -rest[left - 1];
     }
     (2 * n - position, rest)
+}
+
+/// Whether a word is the normal form of its own window.
+pub(crate) fn is_normal_form(kind: u32, rank: u8, word: &[u8]) -> bool {
+    let mut window = Window::straight(lanes(kind, rank));
+    window.apply(kind, word);
+    let mut form = [0; MAX_LETTERS];
+    write_normal_form(kind, rank, window, &mut form).is_ok_and(|letters| form[..letters] == *word)
 }
