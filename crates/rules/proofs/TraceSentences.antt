@@ -12,7 +12,7 @@ use native.Mathlib.Decide.{ℕ-discrete}
 use native.Mathlib.Omega.{arith}
 use borrow.Author.Tests.{eq-eqb, ne-eqb, ltb-true, lt-ltb, le-ltb}
 use lib.Dec.{ltb}
-use lib.ListN.{length, getD, take, drop}
+use lib.ListN.{length, getD, take, drop, length-map, length-append}
 use Rattle.coxeter.specs.declared.Answer.the-variants as answer
 use Rattle.coxeter.specs.Kinds.{kindOf}
 use Rattle.coxeter.specs.Windows.{window}
@@ -138,11 +138,17 @@ module _ (k n : ℕ) (u families places lengths out : List ℕ) (s l : ℕ) (fs 
         let e = ap (λ (y : List ℕ). getD y i 0) (sym (w .4)) ∙ getD-take s i ls 0 c in
         omega (arith, e, room i c)))
 
-    pub each-replayed : (front : List Call) (c : Call) (rest : List Call) → cs ≡ front ++ (c ∷ rest) → length front < s
+    -- as many calls as steps
+    called : length cs ≡ s
+    called = sym (length-map cs (λ (c : Call). c .lent .place)) ∙ ap (λ (y : List ℕ). length y) (at ∙ lines-replay .3)
+        ∙ length-map (lines-replay .0) (λ (m : Line). m .place) ∙ lines-replay .1
+
+    pub each-replayed : (front : List Call) (c : Call) (rest : List Call) → cs ≡ front ++ (c ∷ rest)
         → NoneFitsBelow k n (wordLeft u front) (c .lent .place)
         × ((i j : ℕ) × (c .told .answer ≡ Used (getD fs (length front) 0) i j (getD ls (length front) 0)))
-    each-replayed front c rest e b =
+    each-replayed front c rest e =
         let r = replay .each front c rest e in
+        let b : length front < s = omega (arith, called, ap (λ (y : List Call). length y) e, length-append front (c ∷ rest)) in
         rw (getD-take s (length front) fs 0 b, getD-take s (length front) ls 0 b) at r
 
     pub replayed-to-end : (wordLeft u cs ≡ take l after) × NowhereFits k n (take l after)
