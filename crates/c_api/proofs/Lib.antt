@@ -11,3 +11,4 @@ pub mod Unchanged
 pub mod Demand3
 pub mod Sentences
 pub mod Vectors
+pub mod CallVectors

@@ -102,12 +102,14 @@ module _ (k n : ℕ) (u families places lengths out written : List ℕ) (a : ToE
 
 -- where no length is given, nothing is written
 pub rewritingToEnd-still : (k n : ℕ) (u families places lengths out : List ℕ) → let t = rewritingToEnd k n u families places lengths out in
-    traceNumbers (t .answer) .1 ≡ [] → _≡_ {A = List ℕ × List ℕ × List ℕ × List ℕ} (t .families, t .places, t .lengths, t .bytes) (families, places, lengths, out)
+    traceNumbers (t .answer) .1 ≡ []
+    → _≡_ {A = List ℕ × List ℕ × List ℕ × List ℕ} (t .families, t .places, t .lengths, t .bytes) (families, places, lengths, out)
 unfolding traceNumbers
 rewritingToEnd-still k n u families places lengths out = cases (rewritingToEnd k n u families places lengths out .answer) refl
   where
     cases : (a : ToEnd) → let t = rewritingToEnd k n u families places lengths out in
-        t .answer ≡ a → traceNumbers a .1 ≡ [] → _≡_ {A = List ℕ × List ℕ × List ℕ × List ℕ} (t .families, t .places, t .lengths, t .bytes) (families, places, lengths, out)
+        t .answer ≡ a → traceNumbers a .1 ≡ []
+        → _≡_ {A = List ℕ × List ℕ × List ℕ × List ℕ} (t .families, t .places, t .lengths, t .bytes) (families, places, lengths, out)
     cases (toEnd.Ended s l) e h = let z : _≡_ {A = ℕ} 0 1 = cc in absurd (omega arith)
     cases (toEnd.Refused r) e h = let q = toEnd-refused-unchanged k n u families places lengths out r e in rw (q .0, q .1, q .2, q .3)
 
@@ -140,7 +142,8 @@ roomless-trace k n u families places lengths out =
 
 module _ (k n : ℕ) (u families places lengths : List ℕ) where
   toEnd-without : (out written : List ℕ) → length written < 1
-      → rewritingToEndListed k n u families places lengths out written ≡ (without k n u families places lengths, ((families, places, lengths, out), written))
+      → rewritingToEndListed k n u families places lengths out written
+      ≡ (without k n u families places lengths, ((families, places, lengths, out), written))
   unfolding rewritingToEndListed
   toEnd-without out written h =
       let t = rewritingToEnd k n u families places lengths out in
@@ -148,7 +151,8 @@ module _ (k n : ℕ) (u families places lengths : List ℕ) where
       (rewritingToEnd-still k n u families places lengths out)
       ∙ ap (λ (z : ℤ). (z, ((families, places, lengths, out), written))) (roomless-trace k n u families places lengths out)
 
-  pub rewritingToEndListed-roomless : (out written : List ℕ) (z : ℤ) → length written < 1 → z ≡ rewritingToEndListed k n u families places lengths [] [] .0
+  pub rewritingToEndListed-roomless : (out written : List ℕ) (z : ℤ) → length written < 1
+      → z ≡ rewritingToEndListed k n u families places lengths [] [] .0
       → (z, ((families, places, lengths, out), written)) ≡ rewritingToEndListed k n u families places lengths out written
   rewritingToEndListed-roomless out written z h e = rw (e, toEnd-without out written h, toEnd-without [] [] (omega arith))
 

@@ -24,7 +24,8 @@ use Rattle.c_api.specs.Calls.{refused, tableNumbers, listedBeside, delay
 use Rattle.c_api.proofs.Bytes.{Refusable, delayTable-refusable}
 use Rattle.c_api.proofs.Lists.{table-numbers, roomless, beside-stored, beside-alone, beside-roomless, room-then, room-last, room-more}
 
-pub delayTableListed-refusable : (counts : List ℕ) (entries : List ℤ) (letters lengths : List ℕ) → Refusable (λ k n. delayTableListed k n counts entries letters lengths)
+pub delayTableListed-refusable : (counts : List ℕ) (entries : List ℤ) (letters lengths : List ℕ)
+    → Refusable (λ k n. delayTableListed k n counts entries letters lengths)
 unfolding delayTableListed
 delayTableListed-refusable counts entries letters lengths = record {
   alike = λ k n l m e f.

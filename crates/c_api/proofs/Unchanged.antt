@@ -12,7 +12,8 @@ use Rattle.exchange.specs.SplitCalls.{splitting}
 use Rattle.distribution.specs.Calls.{delayTable}
 use Rattle.book_format.specs.declared.Preset.{Preset}
 use Rattle.c_api.specs.Calls.{refused, crossingNumbers, presetNumbers, listed, rewriting, rewritingToEndListed, splittingListed, delayTableListed}
-use Rattle.c_api.proofs.Lists.{crossing-numbers, rewrite-numbers, trace-numbers, split-numbers, table-numbers, preset-numbers, listed-unchanged, beside-unchanged}
+use Rattle.c_api.proofs.Lists.{crossing-numbers, rewrite-numbers, trace-numbers, split-numbers, table-numbers, preset-numbers}
+use Rattle.c_api.proofs.Lists.{listed-unchanged, beside-unchanged}
 use Rattle.c_api.proofs.Outcomes.{step-still}
 use Rattle.c_api.proofs.SplitNumbers.{splitting-still}
 use Rattle.c_api.proofs.StepNumbers.{rewritingToEnd-still}
@@ -45,7 +46,8 @@ rewritingToEndListed-unchanged k n u families places lengths out written r h =
     (rewritingToEnd-still k n u families places lengths out) h
 
 -- the two outputs and the lengths
-pub splittingListed-unchanged : (k n set : ℕ) (u first second lengths : List ℕ) (r : ℕ) → splittingListed k n set u first second lengths .0 ≡ refused (suc r)
+pub splittingListed-unchanged : (k n set : ℕ) (u first second lengths : List ℕ) (r : ℕ)
+    → splittingListed k n set u first second lengths .0 ≡ refused (suc r)
     → splittingListed k n set u first second lengths .1 ≡ ((first, second), lengths)
 unfolding splittingListed
 splittingListed-unchanged k n set u first second lengths r h =
@@ -54,7 +56,8 @@ splittingListed-unchanged k n set u first second lengths r h =
 
 -- the three outputs and the lengths
 pub delayTableListed-unchanged : (k n : ℕ) (counts : List ℕ) (window : List ℤ) (form lengths : List ℕ) (r : ℕ)
-    → delayTableListed k n counts window form lengths .0 ≡ refused (suc r) → delayTableListed k n counts window form lengths .1 ≡ ((counts, window, form), lengths)
+    → delayTableListed k n counts window form lengths .0 ≡ refused (suc r)
+    → delayTableListed k n counts window form lengths .1 ≡ ((counts, window, form), lengths)
 unfolding delayTableListed
 delayTableListed-unchanged k n counts window form lengths r h =
     let t = delayTable k n counts window form in

@@ -50,7 +50,8 @@ fn refused_written(
     places: &[u16],
     lengths: &[u16],
 ) -> i64
-    ensures { λ r. ⌜ r ≡ rewritingToEndListed kind rank (now (word .entry)) (now (families .entry)) (now (places .entry)) (now (lengths .entry)) [] [] .0 ⌝ }
+    ensures { λ r. ⌜ r ≡ rewritingToEndListed kind rank (now (word .entry)) (now (families .entry)) (now (places .entry)) (now (lengths .entry))
+        [] [] .0 ⌝ }
 {
     match rewrite_steps(kind, rank, word) {
         Answer::Length(steps) => {

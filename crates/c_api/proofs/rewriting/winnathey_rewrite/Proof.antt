@@ -24,7 +24,8 @@ returns : tie.Need-returns
 returns c =
     let below = c .before .before .before .before in
     let rank = below .before .before .before in
-    handed-on (rewriting-refusable _ _ _ _) _ _ _ _ _ _ (rank .before .byte .ensures) (rank .byte2 .ensures) (below .rewrite .ok) (below .rewrite .ensures)
+    handed-on (rewriting-refusable _ _ _ _) _ _ _ _ _ _ (rank .before .byte .ensures) (rank .byte2 .ensures) (below .rewrite .ok)
+    (below .rewrite .ensures)
 
 pub winnathey-rewrite-spec : {M : Type 1} → statement M
 winnathey-rewrite-spec =

@@ -26,8 +26,10 @@ same-length-2 c = search needs
 
 returns : tie.Need-returns
 returns c =
-    let r = c .before .before .before .before .refused-lengths in
-    splittingListed-roomless _ _ _ _ _ _ _ _ _ _ (c .before .before .before .before .before .before .before .if1 .taken) (i64-back _ (r .ok) ∙ r .ensures .0) (r .ensures .1) (r .ensures .2)
+    let w = c .before .before .before .before in
+    let r = w .refused-lengths in
+    splittingListed-roomless _ _ _ _ _ _ _ _ _ _ (w .before .before .before .if1 .taken)
+    (i64-back _ (r .ok) ∙ r .ensures .0) (r .ensures .1) (r .ensures .2)
 
 split-word-requires : tie.Need-split-word-requires
 split-word-requires c κs = search needs

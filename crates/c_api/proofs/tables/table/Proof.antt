@@ -23,8 +23,10 @@ same-length-3 c = search needs
 
 returns : tie.Need-returns
 returns c =
-    let r = c .before .before .before .before .before .refused-lengths in
-    delayTableListed-roomless _ _ _ _ _ _ _ _ _ _ (c .before .before .before .before .before .before .before .before .before .if1 .taken) (i64-back _ (r .ok) ∙ r .ensures .0) (r .ensures .1) (r .ensures .2) (r .ensures .3)
+    let w = c .before .before .before .before .before in
+    let r = w .refused-lengths in
+    delayTableListed-roomless _ _ _ _ _ _ _ _ _ _ (w .before .before .before .before .if1 .taken)
+    (i64-back _ (r .ok) ∙ r .ensures .0) (r .ensures .1) (r .ensures .2) (r .ensures .3)
 
 delay-table-requires : tie.Need-delay-table-requires
 delay-table-requires c κs = search needs

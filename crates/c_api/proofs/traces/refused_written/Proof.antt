@@ -30,7 +30,8 @@ returns-3 : tie.Need-returns-3
 unfolding refused
 returns-3 c =
     let told = c .before .before .before .before in
-    few-lengths _ _ _ _ _ _ _ (told .before .before .rewrite-steps .ensures) _ (told .steps .given .1) (c .before .before .if1 .left) (c .before .if2 .left) (c .if3 .taken)
+    few-lengths _ _ _ _ _ _ _ (told .before .before .rewrite-steps .ensures) _ (told .steps .given .1)
+    (c .before .before .if1 .left) (c .before .if2 .left) (c .if3 .taken)
 
 enum-known-k : tie.Need-enum-known-k
 enum-known-k c = search needs
@@ -42,7 +43,8 @@ returns-4 : tie.Need-returns-4
 unfolding refused
 returns-4 c =
     let told = c .before .before .before .before in
-    enough-places _ _ _ _ _ _ _ (told .before .before .rewrite-steps .ensures) _ (told .steps .given .1) (c .before .before .if1 .left) (c .before .if2 .left) (c .if3 .left)
+    enough-places _ _ _ _ _ _ _ (told .before .before .rewrite-steps .ensures) _ (told .steps .given .1)
+    (c .before .before .if1 .left) (c .before .if2 .left) (c .if3 .left)
 
 returns-5 : tie.Need-returns-5
 returns-5 c =

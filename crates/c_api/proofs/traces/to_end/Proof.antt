@@ -21,7 +21,8 @@ same-length-3 c = search needs
 
 returns : tie.Need-returns
 returns c =
-    rewritingToEndListed-roomless _ _ _ _ _ _ _ _ _ (c .before .before .before .before .if1 .taken) (i64-back _ (c .refused-written .ok) ∙ c .refused-written .ensures)
+    rewritingToEndListed-roomless _ _ _ _ _ _ _ _ _ (c .before .before .before .before .if1 .taken)
+    (i64-back _ (c .refused-written .ok) ∙ c .refused-written .ensures)
 
 rewrite-to-end-requires : tie.Need-rewrite-to-end-requires
 rewrite-to-end-requires c κs = search needs
