@@ -12,13 +12,14 @@ use lib.ListN.{length}
 use Rattle.coxeter.specs.declared.Answer.{Answer}
 use Rattle.coxeter.specs.declared.Answer.the-variants.{Length, Refused}
 use Rattle.coxeter.specs.Kinds.{kindOf}
-use Rattle.coxeter.specs.Checks.{check, _then_, wrongKind, tooLong, wrongLetter, tooShort, wordRefusal}
+use Rattle.coxeter.specs.Checks.{check, _then_, wrongKind, tooLong, wrongLetter, tooShort, rankRefusal, wordRefusal}
 use Rattle.coxeter.specs.Calls.{Yields, writes}
-use Rattle.coxeter.proofs.Refusals.{then-zero, check-zero}
+use Rattle.coxeter.proofs.Refusals.{then-zero, then-none, check-zero}
 use Rattle.book_format.specs.declared.Edition.{Edition}
 use Rattle.book_format.specs.declared.Edition.the-variants.{First}
 use Rattle.book_format.specs.Books.{firstOf, wrongSize, wrongCount, misplaced, wrongRankInBook, tooLarge, retired, bookRankRefusal, bookRefusal, appended, appendRefusal}
 use Rattle.book_format.specs.Calls.{appending}
+use Rattle.book_format.proofs.RankLaws.{bookRank-accepted}
 use Rattle.book_format.proofs.WritingLaws.{appendRefusal-rank, appendRefusal-retired}
 use Rattle.book_format.proofs.Numbers.{then-late, then-early, check-other, check-holds, firstOf-then, answerOf-refused, rank-other, word-other}
 use Rattle.book_format.proofs.Outcomes.{appendRefusal-firstOf, bookRefusal-le}
@@ -106,7 +107,7 @@ module _ (ed : Edition) (b : List ℕ) (k n : ℕ) (u before after : List ℕ) (
         (p .0, p .1, q .0, q .1),
     λ p.
         let rank : bookRankRefusal ed k n ≡ 0 = rw (p .2, p .3) (rank-1-in-book ed) in
-        let r = appendRefusal-retired ed b k n u 0 (sym (p .0)) 0 refl (sym rank) 0 refl (sym (p .1)) refl true (sym (retired-exactly k n .1 (p .2, p .3))) refl in
+        let r = appendRefusal-retired ed b k n u 0 (sym (p .0)) 0 refl (sym rank) 0 refl (sym (then-none (rankRefusal k n) _ (bookRank-accepted ed k n rank) ∙ p .1)) refl true (sym (retired-exactly k n .1 (p .2, p .3))) refl in
         append-refusal 21 .1 (rw r, λ z. omega arith),
   )
 
