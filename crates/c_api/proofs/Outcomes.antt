@@ -3,7 +3,7 @@
 --
 -- Sections: counts and fields; one rewrite; a rule without room.
 -- Assumes nothing.
-use mathlib.Core.Path.{_≡_, refl, sym, ap, _∙_}
+use mathlib.Core.Path.{_≡_, refl}
 use mathlib.Core.Bool.{Bool, true, false}
 use mathlib.Core.List.{List, [], _∷_, _++_}
 use mathlib.Core.Option.{Option, none, some}
@@ -24,7 +24,7 @@ use Rattle.rules.specs.Calls.{pastEnd, refusedStep, usedStep, stepBy, step, Rew
 use Rattle.rules.proofs.Unchanged.{step-refused-unchanged, step-noneFits-unchanged}
 use Rattle.book_format.specs.declared.Preset.{Preset}
 use Rattle.book_format.specs.declared.Preset.the-variants as preset
-use Rattle.c_api.specs.Calls.{refused, crossingNumbers, rewriteNumbers, presetNumbers, listed, listedBeside, rewriting}
+use Rattle.c_api.specs.Calls.{refused, crossingNumbers, rewriteNumbers, presetNumbers, listed, rewriting}
 use Rattle.c_api.proofs.Lists.{roomless, rewrite-numbers, listed-stored, listed-alone, listed-short, beside-stored, beside-alone, beside-roomless}
 
 -- ---- counts and fields
