@@ -23,12 +23,20 @@ use Rattle.coxeter.proofs.LetterLaws.{letter-within-cons}
 use Rattle.coxeter.proofs.Levels.{window-accepted}
 use Rattle.coxeter.proofs.Relations.{wrongLetter-append}
 use Rattle.coxeter.proofs.Descents.{descends, length-of-descends, length-of-ascends}
-use Rattle.exchange.specs.OneLetter.{Shortest, dropAt, Removable, added, TwoLetters}
+use Rattle.exchange.specs.OneLetter.{Shortest, dropAt, Removable, added}
 use Rattle.exchange.proofs.Parts.{Part, part-whole, part-trans, part-letters, part-of-dropAt, length-dropAt}
 use Rattle.exchange.proofs.Shortest.{windowLength-le, shortest-of-length}
 use Rattle.exchange.proofs.Exchange.{window-snoc, exchange}
 
 -- ---- two letters
+
+-- two places whose letters can both be removed so that the rest has the window of the word
+pub record TwoLetters (k : Kind) (n : ℕ) (u : List ℕ) : Type 0 where
+  pub first : ℕ
+  pub second : ℕ
+  pub below : first < second
+  pub inside : second < length u
+  pub shows : window k n (dropAt first (dropAt second u)) ≡ window k n u
 
 pub dropAt-append : (i : ℕ) (x y : List ℕ) → i < length x → dropAt i (x ++ y) ≡ dropAt i x ++ y
 unfolding dropAt

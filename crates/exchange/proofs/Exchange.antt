@@ -24,7 +24,7 @@ use Rattle.coxeter.proofs.Products.{window-append}
 use Rattle.coxeter.proofs.Order.{less, same, more, compared}
 use Rattle.coxeter.proofs.NormalForms.{window-normalForm, normalForm-letters}
 use Rattle.coxeter.proofs.Lengths.{length-normalForm}
-use Rattle.exchange.specs.OneLetter.{Shortest, dropAt, Removable, added, addedFront, OneLetter}
+use Rattle.exchange.specs.OneLetter.{Shortest, dropAt, Removable, added, OneLetter}
 use Rattle.exchange.proofs.Parts.{Part, leave, part-whole, part-append, none, part-letters, part-of-dropAt, length-dropAt, dropAt-of-part}
 use Rattle.exchange.proofs.Carrying.{Carried}
 use Rattle.exchange.proofs.Shortest.{letters-snoc, windowLength-le, length-of-shortest, shortest-of-length, shortest-carries}
@@ -68,7 +68,7 @@ module _ (k : Kind) (n : ℕ) (u : List ℕ) (s : ℕ) (h : least k ≤ n) (e : 
       (rw append-nil at (part-append (part-whole v) (leave {a = s} none))) (simp length-append (omega arith))
 
   -- the same for a step at the front
-  pub exchange-front : windowLength k (addedFront k n u s) < windowLength k (window k n u) → (i : ℕ) × Removable k n u (addedFront k n u s) i
+  pub exchange-front : windowLength k (window k n (s ∷ u)) < windowLength k (window k n u) → (i : ℕ) × Removable k n u (window k n (s ∷ u)) i
   exchange-front g =
       let w : List ℤ = window k n (s ∷ u) in
       let a = window-accepted k n (s ∷ u) in
@@ -142,5 +142,5 @@ module _ (k : Kind) (n : ℕ) (u : List ℕ) (s : ℕ) (h : least k ≤ n) (m : 
   pub oneLetter : OneLetter k n u (added k n u s)
   oneLetter = oneLetter-of k n u (added k n u s) h m (exchange k n u s h (m .steps) o l)
 
-  pub oneLetter-front : OneLetter k n u (addedFront k n u s)
-  oneLetter-front = oneLetter-of k n u (addedFront k n u s) h m (exchange-front k n u s h (m .steps) o l)
+  pub oneLetter-front : OneLetter k n u (window k n (s ∷ u))
+  oneLetter-front = oneLetter-of k n u (window k n (s ∷ u)) h m (exchange-front k n u s h (m .steps) o l)

@@ -19,7 +19,7 @@ use Rattle.coxeter.proofs.Acceptance.{rank-within}
 use Rattle.coxeter.proofs.Levels.{accepted-of-refusal, window-accepted}
 use Rattle.coxeter.proofs.Theorems.{window-passes}
 use Rattle.coxeter.proofs.Inverses.{window-reverse}
-use Rattle.exchange.specs.OneLetter.{Shortest, added, addedFront, OneLetter}
+use Rattle.exchange.specs.OneLetter.{Shortest, added, OneLetter}
 use Rattle.exchange.specs.Shortening.{shortens}
 use Rattle.exchange.proofs.Shortest.{length-of-shortest, shortest-of-length, windowLength-inverse}
 use Rattle.exchange.proofs.Exchange.{window-snoc, oneLetter, oneLetter-front}
@@ -52,9 +52,9 @@ module _ (k : Kind) (n s : ℕ) (h : least k ≤ n) (o : 1 ≤ s) (l : s ≤ n) 
   length-reverse : (u : List ℕ) → windowLength k (window k n (reverse u)) ≡ windowLength k (window k n u)
   length-reverse u = ap (windowLength k) (window-reverse k n u) ∙ windowLength-inverse k n (window k n u) h (window-accepted k n u)
 
-  pub length-addedFront : (u : List ℕ) → (windowLength k (addedFront k n u s) ≡ windowLength k (window k n u) + 1)
-      ⊎ (windowLength k (window k n u) ≡ windowLength k (addedFront k n u s) + 1)
-  length-addedFront u =
+  pub length-added-front : (u : List ℕ) → (windowLength k (window k n (s ∷ u)) ≡ windowLength k (window k n u) + 1)
+      ⊎ (windowLength k (window k n u) ≡ windowLength k (window k n (s ∷ u)) + 1)
+  length-added-front u =
       let turned = ap (λ (v : List ℕ). windowLength k (window k n v)) (sym (reverse-cons s u)) ∙ length-reverse (s ∷ u) in
       subst (λ (a : ℕ). OneApart a (windowLength k (window k n u))) turned
       (subst (OneApart (windowLength k (added k n (reverse u) s))) (length-reverse u) (length-added (reverse u)))
@@ -69,7 +69,7 @@ shortest-exactly k n u h e = (length-of-shortest k n u h, λ q. shortest-of-leng
 
 -- request 14 "for every kind and rank we accept"
 pub oneLetter-accepted : (k n : ℕ) (u : List ℕ) (s : ℕ) → rankRefusal k n ≡ 0 → Shortest (kindOf k) n u → 1 ≤ s → s ≤ n
-    → OneLetter (kindOf k) n u (added (kindOf k) n u s) × OneLetter (kindOf k) n u (addedFront (kindOf k) n u s)
+    → OneLetter (kindOf k) n u (added (kindOf k) n u s) × OneLetter (kindOf k) n u (window (kindOf k) n (s ∷ u))
 oneLetter-accepted k n u s r m o l =
     let h = rank-within k n r .0 in
     (oneLetter (kindOf k) n u s h m o l, oneLetter-front (kindOf k) n u s h m o l)

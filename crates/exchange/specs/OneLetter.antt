@@ -1,5 +1,5 @@
--- Request 14 (document 02, "Exactly one letter to drop"): shortest words, a letter removed, and the statement about a word and a window. Its proofs
--- are `oneLetter` and `oneLetter-front` of proofs/Exchange.antt. Then two letters at once (in the field's words, the deletion property).
+-- Request 14 (document 02, "Exactly one letter to drop"): shortest words, a letter removed, and the statement about a word and a window. Its proof
+-- is `oneLetter` of proofs/Exchange.antt.
 use mathlib.Core.Path.{_≡_}
 use mathlib.Core.Bool.{false}
 use mathlib.Core.List.{List, [], _∷_, _++_}
@@ -26,12 +26,9 @@ dropAt (suc i) (a ∷ u) = a ∷ dropAt i u
 abbrev pub Removable : Kind → ℕ → List ℕ → List ℤ → ℕ → Type 0
 Removable k n u w i = (i < length u) × (window k n (dropAt i u) ≡ w)
 
--- "the window of the word with the step added", "at the end"; and at the front
+-- "the window of the word with the step added", "at the end"
 abbrev pub added : Kind → ℕ → List ℕ → ℕ → List ℤ
 added k n u s = window k n (u ++ (s ∷ []))
-
-abbrev pub addedFront : Kind → ℕ → List ℕ → ℕ → List ℤ
-addedFront k n u s = window k n (s ∷ u)
 
 -- the statement, of the word u and the window w that it has with a step added
 pub record OneLetter (k : Kind) (n : ℕ) (u : List ℕ) (w : List ℤ) : Type 0 where
@@ -40,11 +37,3 @@ pub record OneLetter (k : Kind) (n : ℕ) (u : List ℕ) (w : List ℤ) : Type 0
   pub only : (i j : ℕ) → Removable k n u w i → Removable k n u w j → i ≡ j
   -- "If the step makes the length greater, no single removal has that effect."
   pub none : windowLength k (window k n u) < windowLength k w → (i : ℕ) → Removable k n u w i → ⊥
-
--- two places whose letters can both be removed so that the rest has the window of the word
-pub record TwoLetters (k : Kind) (n : ℕ) (u : List ℕ) : Type 0 where
-  pub first : ℕ
-  pub second : ℕ
-  pub below : first < second
-  pub inside : second < length u
-  pub shows : window k n (dropAt first (dropAt second u)) ≡ window k n u

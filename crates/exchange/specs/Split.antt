@@ -1,5 +1,5 @@
 -- Request 4 (document 02, "Locked modules"; in the field's words, the parabolic decomposition). First what the two words are, then a definition of
--- them.
+-- them, which nobody has to believe: they have the properties (`splits` of proofs/Splits.antt), and no other two words have (`splits-only`).
 use mathlib.Core.Path.{_≡_}
 use mathlib.Core.Bool.{Bool, true, _&&_}
 use mathlib.Core.List.{List, _∷_}
