@@ -1,6 +1,6 @@
-# Request 5: the test for mirrored lanes, `odd_negatives` with what calls it, has neither division nor remainder. The archive's machine code could not
+# Request 5: the test for mirrored lanes, `odd_negatives` with what calls it and what it calls, has neither division nor remainder. The archive's machine code could not
 # show a remainder by 2. Prints what is wrong; the exit status is 0 where nothing is.
-/^fn (has_)?odd_negatives\(/ {
+/^(pub )?fn ((has_)?odd_negatives|is_negative)\(/ {
     inside = 1
     found++
 }
@@ -16,8 +16,8 @@ inside {
     inside = 0
 }
 END {
-    if (found != 2) {
-        print FILENAME ": no function odd_negatives or has_odd_negatives"
+    if (found != 3) {
+        print FILENAME ": no function odd_negatives, has_odd_negatives or is_negative"
         wrong = 1
     }
     exit wrong
