@@ -11,7 +11,7 @@ use Prim.Native.Nat.{ℕ, suc, _≤_, _<_}
 use native.Mathlib.Nat.{lt-of-not-le}
 use native.Mathlib.Decide.{decLe}
 use native.Mathlib.Omega.{arith}
-use lib.IntN.{ℤ, pos, negsuc}
+use lib.IntN.{ℤ, pos}
 use lib.ListN.{length, take, drop}
 use lib.Seq.{take-append-seam}
 use borrow.Author.Tests.{ltb-true, ltb-false, le-ltb, leb-false, lt-leb}
@@ -32,9 +32,8 @@ use Rattle.rules.proofs.Completeness.{irreducible-iff}
 use Rattle.rules.proofs.Calls as calls
 use Rattle.rules.proofs.Calls.{Stepped, stepped, step-used, usable-replaced, fits-inside, accepted-least, accepted-letters}
 use Rattle.rules.proofs.Demand3.{wordLeft-accepted}
-use Rattle.rules.proofs.Sentences as sentences
 use Rattle.c_api.specs.Calls.{refused, rewriteNumbers, listedBeside, rewriting}
-use Rattle.c_api.specs.Demand3.{Lent, Told, Call, IsUsed, wordAfter, wordLeft, Meets, Run, uses, tells, Outcome, machine, NowhereFits, NowhereFitsOnce, Usable, UsedRule, Answers, Follows, Demand3Calls}
+use Rattle.c_api.specs.Demand3.{Lent, Told, Call, wordAfter, wordLeft, Meets, Run, uses, tells, Outcome, machine, NowhereFits, NowhereFitsOnce, Usable, UsedRule, Answers, Demand3Calls}
 
 -- ---- one call
 
@@ -271,7 +270,7 @@ module _ (k n : ℕ) (u : List ℕ) (h : AcceptedWord k n u) where
   window-left : (d : Demand3 k n u) (cs : List Call) → Run k n u cs → window (kindOf k) n (wordLeft u cs) ≡ window (kindOf k) n u
   window-left d cs r =
       let s = singles k n u cs h r in
-      ap (window (kindOf k) n) (sym (s .left)) ∙ sentences.window-at-the-end d (s .calls) (s .run)
+      ap (window (kindOf k) n) (sym (s .left)) ∙ d .follows (s .calls) (s .run) .window-kept (s .calls) [] (sym (append-nil (s .calls)))
 
   -- the word left is the normal form exactly when it is irreducible
   normal-irreducible : (d : Demand3 k n u) (cs : List Call) → Run k n u cs → Irreducible (kindOf k) n (wordLeft u cs) ↔ (wordLeft u cs ≡ normalFormOf k n u)
@@ -297,23 +296,23 @@ module _ (k n : ℕ) (u : List ℕ) (h : AcceptedWord k n u) where
       let c : Call = record { lent = e; told = tells k n v e } in
       (c, refl, refl, f c l refl)
 
-  pub demand3-calls : (d : Demand3 k n u) → Demand3Calls k n u d
-  demand3-calls d cs r =
-      let s = singles k n u cs h r in
-      let v = wordLeft u cs in
-      let a = accepted-left cs r in
-      let i = normal-irreducible d cs r in
-      record {
-        machines = run-machine k n u cs r;
-        window-kept = λ front rest e. window-left d front (run-front k n u front rest (subst (Run k n u) e r));
-        uses-at-most = subst (λ (m : ℕ). m ≤ d .most) (s .count) (d .follows (s .calls) (s .run) .uses-at-most);
-        normal-exactly = (
-          λ e c l m. call-answers k n v c a m .none-fits-exactly .1 (l, λ x q. i .1 e x q (c .lent .place)),
-          λ f. i .0 (irreducible-of-once v a (once-of-every v f)),
-        );
-        normal-once = λ g. i .0 (irreducible-of-once v a g);
-        answers = λ front c rest e.
-            let q = subst (Run k n u) e r in
-            let b = accepted-left front (run-front k n u front (c ∷ rest) q) in
-            rw (wordLeft-snoc u front c) (call-answers k n (wordLeft u front) c b (run-rest k n u front (c ∷ rest) q .0));
-      }
+pub demand3-calls : Demand3Calls
+demand3-calls k n u h d cs r =
+    let s = singles k n u cs h r in
+    let v = wordLeft u cs in
+    let a = accepted-left k n u h cs r in
+    let i = normal-irreducible k n u h d cs r in
+    record {
+      machines = run-machine k n u cs r;
+      window-kept = λ front rest e. window-left k n u h d front (run-front k n u front rest (subst (Run k n u) e r));
+      uses-at-most = subst (λ (m : ℕ). m ≤ d .most) (s .count) (d .follows (s .calls) (s .run) .uses-at-most);
+      normal-exactly = (
+        λ e c l m. call-answers k n v c a m .none-fits-exactly .1 (l, λ x q. i .1 e x q (c .lent .place)),
+        λ f. i .0 (irreducible-of-once k n u h v a (once-of-every k n u h v f)),
+      );
+      normal-once = λ g. i .0 (irreducible-of-once k n u h v a g);
+      answers = λ front c rest e.
+          let q = subst (Run k n u) e r in
+          let b = accepted-left k n u h front (run-front k n u front (c ∷ rest) q) in
+          rw (wordLeft-snoc u front c) (call-answers k n (wordLeft u front) c b (run-rest k n u front (c ∷ rest) q .0));
+    }

@@ -1,5 +1,5 @@
--- Demand 3's sentences for lists of calls of `winnathey_rewrite` in plain terms, each from the claim `Demand3Calls` alone: every field of its records is
--- used here as strongly as it is stated, so that a weaker record would not do.
+-- Demand 3's sentences for lists of calls of `winnathey_rewrite` in plain terms, of every accepted word, each by the claim `Demand3Calls` alone: every
+-- field of its records is used here as strongly as it is stated, so that a weaker record would not do.
 --
 -- Sections: every list of calls; each call of a list.
 -- Assumes nothing.
@@ -14,17 +14,26 @@ use Rattle.coxeter.specs.Kinds.{kindOf}
 use Rattle.coxeter.specs.Windows.{window}
 use Rattle.rules.specs.Rules.{Rule, rules, fits, rewritten}
 use Rattle.rules.specs.Calls.{atFront}
-use Rattle.rules.specs.Demand3.{normalFormOf, Replaced, Demand3}
+use Rattle.rules.specs.Demand3.{normalFormOf, Demand3}
+use Rattle.rules.proofs.Demand3.{demand3}
+use Rattle.rules.specs.Runs.{AcceptedWord}
 use Rattle.rules.specs.Runs as runs
 use Rattle.c_api.specs.Calls.{refused}
-use Rattle.c_api.specs.Demand3.{Call, IsUsed, wordLeft, Run, uses, Outcome, machine, NowhereFits, NowhereFitsOnce, Usable, Answers, Demand3Calls}
+use Rattle.c_api.specs.Demand3.{Call, IsUsed, wordLeft, Run, uses, Outcome, machine, NowhereFits, NowhereFitsOnce, Usable, Answers, Follows}
+use Rattle.c_api.proofs.Demand3.{demand3-calls}
 
-module _ {k n : ℕ} {u : List ℕ} (d : Demand3 k n u) (e : Demand3Calls k n u d) where
+module _ (k n : ℕ) (u : List ℕ) (h : AcceptedWord k n u) where
+  d : Demand3 k n u
+  d = demand3 k n u h
+
+  e : (cs : List Call) → Run k n u cs → Follows k n u (d .most) cs
+  e = demand3-calls k n u h d
+
   -- ---- every list of calls
 
   -- one number bounds the uses of a rule by calls for C and by single rewrites
-  pub one-number : (cs : List Call) (ds : List runs.Call) → Run k n u cs → runs.Run k n u ds → (uses cs ≤ d .most) × (runs.uses ds ≤ d .most)
-  one-number cs ds r s = (e cs r .uses-at-most, d .follows ds s .uses-at-most)
+  pub one-number : (most : ℕ) × ((cs : List Call) → Run k n u cs → uses cs ≤ most) × ((ds : List runs.Call) → runs.Run k n u ds → runs.uses ds ≤ most)
+  one-number = (d .most, λ cs r. e cs r .uses-at-most, λ ds r. d .follows ds r .uses-at-most)
 
   pub as-the-machine : (cs : List Call) → Run k n u cs
       → let m = machine k n u (map (λ (c : Call). c .lent) cs) in (map (λ (c : Call). c .told) cs ≡ m .told) × (wordLeft u cs ≡ m .word)
@@ -63,8 +72,9 @@ module _ {k n : ℕ} {u : List ℕ} (d : Demand3 k n u) (e : Demand3Calls k n u 
 
     -- a call that used a rule replaced its left side, the only one that fits, and nothing else
     pub used-replaced : (x : Rule) → Usable k n (wordLeft u front) (c .lent) x
-        → Replaced x (c .lent .place) (wordLeft u front) (wordLeft u (front ++ (c ∷ [])))
-    used-replaced x b = told .used x b .replaced
+        → (before after : List ℕ) × (length before ≡ c .lent .place) × (wordLeft u front ≡ before ++ (x .left ++ after))
+        × (wordLeft u (front ++ (c ∷ [])) ≡ before ++ (x .right ++ after))
+    used-replaced x b = let q = told .used x b .replaced in (q .before, q .after, q .place, q .old, q .new)
 
     pub used-only : (x y : Rule) → Usable k n (wordLeft u front) (c .lent) x → List·Memᴰ y (rules (kindOf k) n)
         → fits y (wordLeft u front) (c .lent .place) ≡ true → y ≡ x

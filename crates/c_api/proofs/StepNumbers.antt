@@ -22,7 +22,7 @@ use Rattle.coxeter.specs.declared.Answer.the-variants as answer
 use Rattle.coxeter.specs.Kinds.{pick, kindOf}
 use Rattle.coxeter.specs.Checks.{check, _then_, tooShort, rankRefusal, wordRefusal}
 use Rattle.coxeter.specs.Calls.{answerOf, written}
-use Rattle.coxeter.proofs.Refusals.{then-zero, then-some, then-assoc}
+use Rattle.coxeter.proofs.Refusals.{then-some, then-assoc}
 use Rattle.rules.specs.declared.ToEnd.{ToEnd}
 use Rattle.rules.specs.declared.ToEnd.the-variants as toEnd
 use Rattle.rules.specs.Traces.{Trace, trace, tooFewPlaces, toEndOf, Traced, tracedBy, rewritingToEnd, numberOfSteps, TraceYields}

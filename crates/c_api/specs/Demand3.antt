@@ -12,6 +12,7 @@ use Rattle.coxeter.specs.Windows.{window}
 use Rattle.coxeter.specs.Checks.{tooShort}
 use Rattle.rules.specs.Rules.{Rule, rules, fits, rewritten}
 use Rattle.rules.specs.Calls.{atFront}
+use Rattle.rules.specs.Runs.{AcceptedWord}
 use Rattle.rules.specs.Demand3.{normalFormOf, Replaced}
 use Rattle.rules.specs.Demand3 as single
 use Rattle.c_api.specs.Calls.{refused, rewriting}
@@ -133,6 +134,7 @@ pub record Follows (k n : ℕ) (u : List ℕ) (most : ℕ) (cs : List Call) : Ty
   pub answers : (front : List Call) (c : Call) (rest : List Call) → cs ≡ front ++ (c ∷ rest)
       → Answers k n (wordLeft u front) c (wordLeft u (front ++ (c ∷ [])))
 
--- the number is the same for all lists, of these calls and of single rewrites: `most` of `Demand3`
-abbrev pub Demand3Calls : (k n : ℕ) (u : List ℕ) → single.Demand3 k n u → Type 0
-Demand3Calls k n u d = (cs : List Call) → Run k n u cs → Follows k n u (d .most) cs
+-- the claim: for every kind, rank and accepted word; the number is the same for all lists, of these calls and of single rewrites: `most` of `Demand3`
+abbrev pub Demand3Calls : Type 0
+Demand3Calls =
+    (k n : ℕ) (u : List ℕ) → AcceptedWord k n u → (d : single.Demand3 k n u) (cs : List Call) → Run k n u cs → Follows k n u (d .most) cs

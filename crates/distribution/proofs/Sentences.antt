@@ -10,7 +10,7 @@ use mathlib.Core.List.{List, _++_}
 use Prim.Native.Nat.{ℕ, suc, _+_, _≤_, _<_}
 use native.Mathlib.Decide.{ℕ-discrete}
 use native.Mathlib.Omega.{arith}
-use borrow.Author.Tests.{eq-eqb, ne-eqb, eqb-true, ltb-true, lt-ltb, le-ltb}
+use borrow.Author.Tests.{eq-eqb, ne-eqb, eqb-true, ltb-true, ltb-false, lt-ltb, le-ltb}
 use lib.Dec.{eqb}
 use lib.IntN.{ℤ}
 use lib.ListN.{length, getD, take, drop}
@@ -22,7 +22,7 @@ use Rattle.coxeter.specs.Checks.{check, _then_, tooShort, rankRefusal, windowRe
 use Rattle.coxeter.specs.NormalForm.{normalForm, IsNormalForm}
 use Rattle.coxeter.specs.Calls.{written}
 use Rattle.coxeter.proofs.Lists.{getD-take}
-use Rattle.coxeter.proofs.Refusals.{then-zero, then-none, then-assoc, rankRefusal-le, then-exactly, then-avoids, check-avoids, check-number, check-exactly}
+use Rattle.coxeter.proofs.Refusals.{then-zero, then-none, then-some, then-assoc, check-zero, rankRefusal-le, then-exactly, then-avoids, check-avoids, check-number, check-exactly}
 use Rattle.coxeter.proofs.Levels.{accepted-of-refusal}
 use Rattle.coxeter.proofs.Order.{shortlex-cases, shortlex-total, shortlex-irrefl}
 use Rattle.coxeter.proofs.Theorems.{length-normalForm}
@@ -179,6 +179,13 @@ tableOf-refused r c e l m = elim (ℕ-discrete r 0) [
   | no f ↦ rw (ne-eqb r 0 f) (λ q. cc, λ q. ap Refused q)
 ]
 
+tableOf-written : (r a b m c e l : ℕ) → (tableOf r a b m ≡ Written c e l) ↔ ((r ≡ 0) × (a ≡ c) × (b ≡ e) × (m ≡ l))
+unfolding tableOf
+tableOf-written r a b m c e l = elim (ℕ-discrete r 0) [
+  | yes z ↦ rw (eq-eqb r 0 z) (λ q. (z, cc, cc, cc), λ q. rw (q .1, q .2, q .3))
+  | no f ↦ rw (ne-eqb r 0 f) (λ q. let o : _≡_ {A = ℕ} 0 1 = cc in absurd (omega arith), λ q. absurd (f (q .0)))
+]
+
 false-true : {X : Type 0} → false ≡ true → X
 false-true e = absurd (true≢false (sym e))
 
@@ -288,6 +295,45 @@ module _ (k n : ℕ) (counts : List ℕ) (entries : List ℤ) (letters : List �
             let r = passes (p .0) (p .1) in
             e .1 (t .1 (inr (r, o .1 (rooms r .1 (p .2))))),
       )
+
+  -- lengths are answered exactly when checks 5, 6 and 20 accept and the three outputs have room
+  pub table-exactly : ((c e l : ℕ) × (a ≡ Written c e l))
+      ↔ ((rankRefusal k n ≡ 0) × (n ≤ greatestTabled (kindOf k)) × (greatestLength (kindOf k) n + 1 ≤ length counts)
+      × (lanes (kindOf k) n ≤ length entries) × (greatestLength (kindOf k) n ≤ length letters))
+  unfolding delayTable tables roomRefusal tooShort
+  table-exactly =
+      let d = length (distribution (kindOf k) n) in
+      let w = length (longest (kindOf k) n) in
+      let u = length (normalForm (kindOf k) n (longest (kindOf k) n)) in
+      let sizes : (q : tableRefusal k n ≡ 0) → (d ≡ greatestLength (kindOf k) n + 1) × (w ≡ lanes (kindOf k) n) × (u ≡ greatestLength (kindOf k) n) =
+      λ q. let low = table-rank k n q .0 in
+      (length-distribution (kindOf k) n, length-longest (kindOf k) n low, longest-is (kindOf k) n low .form) in (
+        λ p.
+            let q = then-zero (tableRefusal k n) room (tableOf-written (tableRefusal k n then room) d w u (p .0) (p .1) (p .2) .0 (sym (h .0) ∙ p .3) .0) in
+            let one = then-zero (check 14 short-counts) (check 14 short-entries then check 14 short-letters) (q .1) in
+            let two = then-zero (check 14 short-entries) (check 14 short-letters) (one .1) in
+            let s = sizes (q .0) in (
+              accepted (q .0),
+              table-rank k n (q .0) .1,
+              omega (arith, s .0, ltb-false (length counts) d (check-zero 13 short-counts (one .0))),
+              omega (arith, s .1, ltb-false (length entries) w (check-zero 13 short-entries (two .0))),
+              omega (arith, s .2, ltb-false (length letters) u (check-zero 13 short-letters (two .1))),
+            ),
+        λ p.
+            let q = passes (p .0) (p .1) in
+            let s = sizes q in
+            let r : room ≡ 0 = rw (
+              le-ltb (length counts) d (omega (arith, s .0, p .2)),
+              le-ltb (length entries) w (omega (arith, s .1, p .3)),
+              le-ltb (length letters) u (omega (arith, s .2, p .4)),
+            ) in
+            (d, w, u, h .0 ∙ tableOf-written (tableRefusal k n then room) d w u d w u .1 (then-none (tableRefusal k n) room q ∙ r, refl, refl, refl)),
+      )
+
+  -- and otherwise the first check's number
+  pub table-first-refusal : (r : ℕ) → (r ≡ 0 → ⊥) → tableRefusal k n ≡ r → a ≡ Refused r
+  unfolding delayTable tables tableOf roomRefusal
+  table-first-refusal r f q = h .0 ∙ rw (then-some (tableRefusal k n) room (λ z. f (sym q ∙ z)), q, ne-eqb r 0 f)
 
   -- a refused call changes none of the three outputs
   pub table-unchanged : (r : ℕ) → a ≡ Refused r → (x ≡ counts) × (y ≡ entries) × (z ≡ letters)

@@ -11,7 +11,7 @@ use Prim.Native.Nat.{ℕ, suc, _+_, _≤_, _<_}
 use native.Mathlib.Decide.{ℕ-discrete}
 use native.Mathlib.Nat.{min-le-left}
 use native.Mathlib.Omega.{arith}
-use borrow.Author.Tests.{eq-eqb, ne-eqb, ltb-true, lt-ltb, le-ltb}
+use borrow.Author.Tests.{eq-eqb, ne-eqb, ltb-true, ltb-false, lt-ltb, le-ltb}
 use lib.IntN.{ℤ}
 use lib.ListN.{length, take, drop, length-take}
 use Rattle.coxeter.specs.declared.Answer.{Answer}
@@ -23,7 +23,7 @@ use Rattle.coxeter.specs.Dictionary.{before}
 use Rattle.coxeter.specs.Checks.{check, _then_, tooShort, wrongLetter, rankRefusal, wordRefusal, windowRefusal}
 use Rattle.coxeter.specs.NormalForm.{wordNormalForm, IsNormalForm}
 use Rattle.coxeter.specs.Calls.{Outcome, Yields, answerOf, writes}
-use Rattle.coxeter.proofs.Refusals.{then-zero, then-none, then-assoc, rankRefusal-le, wordRefusal-le, windowRefusal-le, then-exactly, then-avoids, check-avoids, check-number, check-exactly}
+use Rattle.coxeter.proofs.Refusals.{then-zero, then-none, then-some, then-assoc, check-zero, rankRefusal-le, wordRefusal-le, windowRefusal-le, then-exactly, then-avoids, check-avoids, check-number, check-exactly}
 use Rattle.coxeter.proofs.Acceptance.{rank-within}
 use Rattle.coxeter.proofs.Order.{shortlex-cases}
 use Rattle.coxeter.proofs.Theorems.{window-passes}
@@ -152,6 +152,13 @@ splitOf-refused r a b c = elim (ℕ-discrete r 0) [
   | no f ↦ rw (ne-eqb r 0 f) (λ e. cc, λ e. ap Refused e)
 ]
 
+splitOf-words : (r a b p q : ℕ) → (splitOf r a b ≡ Words p q) ↔ ((r ≡ 0) × (a ≡ p) × (b ≡ q))
+unfolding splitOf
+splitOf-words r a b p q = elim (ℕ-discrete r 0) [
+  | yes z ↦ rw (eq-eqb r 0 z) (λ e. (z, cc, cc), λ e. rw (e .1, e .2))
+  | no f ↦ rw (ne-eqb r 0 f) (λ e. let o : _≡_ {A = ℕ} 0 1 = cc in absurd (omega arith), λ e. absurd (f (e .0)))
+]
+
 room-exactly : (s t : Bool) → ((check 14 s then check 14 t) ≡ 14) ↔ ((s ≡ true) ⊎ (t ≡ true))
 room-exactly true t = (λ e. inl refl, λ e. refl)
 room-exactly false true = (λ e. inr refl, λ e. refl)
@@ -211,6 +218,40 @@ module _ (k n set : ℕ) (u first second : List ℕ) (a : Split) (x y : List ℕ
               o .1 (⊎-elim (λ c. inl (lt-ltb (length first) _ c)) (λ c. inr (lt-ltb (length second) _ c)) (p .3)),
             ))),
       )
+
+  -- words are answered exactly when checks 5 to 8 and 16 accept and both outputs have room
+  pub split-exactly : ((p q : ℕ) × (a ≡ Words p q))
+      ↔ ((rankRefusal k n ≡ 0) × ((s : ℕ) → n < s → allows set s ≡ true → ⊥) × (wordRefusal n u ≡ 0)
+      × (length (firstWord (allows set) (kindOf k) n (window (kindOf k) n u)) ≤ length first)
+      × (length (secondWord (allows set) (kindOf k) n (window (kindOf k) n u)) ≤ length second))
+  unfolding splitting parts tooShort
+  split-exactly =
+      let q = setRefusal k n set then wordRefusal n u in
+      let l = length (firstWord (allows set) (kindOf k) n (window (kindOf k) n u)) in
+      let m = length (secondWord (allows set) (kindOf k) n (window (kindOf k) n u)) in (
+        λ w.
+            let z = then-zero q room (splitOf-words (q then room) l m (w .0) (w .1) .0 (sym (h .0) ∙ w .2) .0) in
+            let c = then-zero (setRefusal k n set) (wordRefusal n u) (z .0) in
+            let s = set-passes k n set .0 (c .0) in
+            let r = then-zero (check 14 first-short) (check 14 second-short) (z .1) in (
+              s .0,
+              s .1,
+              c .1,
+              ltb-false (length first) l (check-zero 13 first-short (r .0)),
+              ltb-false (length second) m (check-zero 13 second-short (r .1)),
+            ),
+        λ w.
+            let c = then-none (setRefusal k n set) (wordRefusal n u) (set-passes k n set .1 (w .0, w .1)) ∙ w .2 in
+            let r : room ≡ 0 = rw (le-ltb (length first) l (w .3), le-ltb (length second) m (w .4)) in
+            (l, m, h .0 ∙ splitOf-words (q then room) l m l m .1 (then-none q room c ∙ r, refl, refl)),
+      )
+
+  -- and otherwise the first check's number
+  pub split-first-refusal : (r : ℕ) → (r ≡ 0 → ⊥) → (setRefusal k n set then wordRefusal n u) ≡ r → a ≡ Refused r
+  unfolding splitting parts splitOf
+  split-first-refusal r f e =
+      let q = setRefusal k n set then wordRefusal n u in
+      h .0 ∙ rw (then-some q room (λ z. f (sym e ∙ z)), e, ne-eqb r 0 f)
 
   -- a refused call changes no byte of either output
   pub split-unchanged : (r : ℕ) → a ≡ Refused r → (x ≡ first) × (y ≡ second)

@@ -16,7 +16,7 @@ use Rattle.rules.specs.declared.Rewrite.the-variants.{Used, NoneFits, Re
 use Rattle.rules.specs.Rules.{rewritten}
 use Rattle.rules.specs.Calls.{Step, usedStep, step}
 use Rattle.rules.specs.Runs.{AcceptedWord, Told, Call, wordAfter, wordLeft, Meets, Run, Outcome, machine, uses}
-use Rattle.rules.specs.Demand3.{normalFormOf, NowhereFits, NowhereFitsOnce, IsUsed, UsedExactly, FourAnswers, Demand3}
+use Rattle.rules.specs.Demand3.{normalFormOf, NowhereFits, NowhereFitsOnce, IsUsed, UsedExactly, FourAnswers, Demand3Holds}
 use Rattle.rules.proofs.Ending.{value}
 use Rattle.rules.proofs.Completeness.{rewrites-window, rewrites-letters, rewrites-lowers, rewrites-length, irreducible-iff, normalForm-least-window, same-normalForm-linked}
 use Rattle.rules.proofs.Calls.{accepted-least, accepted-letters, accepted-of-shorter, stepped, Moves, rewrote, fitless, refused, wordOf-stepped, stepped-moves, step-used, usable-of-used, usable-replaced, stepped-answers, irreducible-of-once, nowhereFits-iff}
@@ -168,7 +168,7 @@ normal-of-once : (k n : ℕ) (u v : List ℕ) → AcceptedWord k n v → window 
 normal-of-once k n u v h e g =
     irreducible-iff (kindOf k) n v (accepted-least h) (accepted-letters h) .0 (irreducible-of-once k n v h g) ∙ ap (normalForm (kindOf k) n) e
 
-pub demand3 : (k n : ℕ) (u : List ℕ) → AcceptedWord k n u → Demand3 k n u
+pub demand3 : Demand3Holds
 demand3 k n u h = record {
   most = value n u;
   follows = λ cs r.

@@ -1,5 +1,5 @@
--- Demand 3's sentences in plain terms, each from the record `Demand3` alone: every field is used here as strongly as it is stated, so that a weaker
--- record would not do.
+-- Demand 3's sentences in plain terms, of every accepted word, each by the record `Demand3` alone: every field is used here as strongly as it is
+-- stated, so that a weaker record would not do, and neither would a theorem that gives it for fewer words.
 --
 -- Sections: every list of calls; each call of a list; two words; the least word.
 -- Assumes nothing.
@@ -20,14 +20,18 @@ use Rattle.coxeter.proofs.Order.{shortlex-cases}
 use Rattle.rules.specs.declared.Rewrite.the-variants.{Used, NoneFits, Refused}
 use Rattle.rules.specs.Rules.{Rule, rules, fits, rewritten}
 use Rattle.rules.specs.Runs.{AcceptedWord, Call, Outcome, Run, machine, uses, wordLeft}
-use Rattle.rules.specs.Demand3.{normalFormOf, NowhereFits, NowhereFitsOnce, IsUsed, Usable, Replaced, UsedExactly, FourAnswers, Demand3}
+use Rattle.rules.specs.Demand3.{normalFormOf, NowhereFits, NowhereFitsOnce, IsUsed, Usable, UsedExactly, FourAnswers, Demand3}
+use Rattle.rules.proofs.Demand3.{demand3}
 
-module _ {k n : ℕ} {u : List ℕ} (d : Demand3 k n u) where
+module _ (k n : ℕ) (u : List ℕ) (h : AcceptedWord k n u) where
+  d : Demand3 k n u
+  d = demand3 k n u h
+
   -- ---- every list of calls
 
-  -- "for each accepted word there is a number, and no such list uses a rule more often": one number for any two lists
-  pub one-number : (cs ds : List Call) → Run k n u cs → Run k n u ds → (uses cs ≤ d .most) × (uses ds ≤ d .most)
-  one-number cs ds r s = (d .follows cs r .uses-at-most, d .follows ds s .uses-at-most)
+  -- "for each accepted word there is a number, and no such list uses a rule more often": one number for all lists
+  pub one-number : (most : ℕ) × ((cs : List Call) → Run k n u cs → uses cs ≤ most)
+  one-number = (d .most, λ cs r. d .follows cs r .uses-at-most)
 
   -- "Over the whole list .. the refusal numbers, the answers, the outputs' bytes and the word are the machine's", which sees only what each call is lent
   pub as-the-machine : (cs : List Call) → Run k n u cs
@@ -109,10 +113,13 @@ module _ {k n : ℕ} {u : List ℕ} (d : Demand3 k n u) where
 
     -- a call that used a rule replaced the left side of one of document 01's, the only one that fits, and nothing else
     pub used-replaced : IsUsed (c .told .answer)
-        → (x : Rule) × Usable k n (wordLeft u front) (c .lent) x × Replaced x (c .lent .place) (wordLeft u front) (wordLeft u (front ++ (c ∷ [])))
+        → (x : Rule) × Usable k n (wordLeft u front) (c .lent) x
+        × ((before after : List ℕ) × (length before ≡ c .lent .place) × (wordLeft u front ≡ before ++ (x .left ++ after))
+        × (wordLeft u (front ++ (c ∷ [])) ≡ before ++ (x .right ++ after)))
     used-replaced t =
         let s = call-exactly .exactly .0 t in
-        (s .0, s .1, call-exactly .used (s .0) (s .1) .replaced)
+        let q = call-exactly .used (s .0) (s .1) .replaced in
+        (s .0, s .1, (q .before, q .after, q .place, q .old, q .new))
 
     pub used-only : (x y : Rule) → Usable k n (wordLeft u front) (c .lent) x → List·Memᴰ y (rules (kindOf k) n)
         → fits y (wordLeft u front) (c .lent .place) ≡ true → y ≡ x

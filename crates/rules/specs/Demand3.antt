@@ -112,3 +112,7 @@ pub record Demand3 (k n : ℕ) (u : List ℕ) : Type 0 where
   pub agree : (v : List ℕ) → AcceptedWord k n v → Agree k n u v
   -- the normal form is the mission's, taken among words of any length
   pub least : IsNormalForm (kindOf k) n (window (kindOf k) n u) (normalFormOf k n u)
+
+-- the claim: for every kind, rank and accepted word
+abbrev pub Demand3Holds : Type 0
+Demand3Holds = (k n : ℕ) (u : List ℕ) → AcceptedWord k n u → Demand3 k n u
