@@ -19,7 +19,7 @@ use Rattle.coxeter.specs.Checks.{windowRefusal}
 use Rattle.coxeter.proofs.KindLaws.{lanes-le-add-one, kindOf-one, kindOf-two, kindOf-three}
 use Rattle.coxeter.proofs.Levels.{Between, accepted-of-refusal}
 use Rattle.coxeter.proofs.Steps.{act-exchange, act-B-last, act-D-last}
-use Rattle.refusals.proofs.Bytes.{element-back}
+use Rattle.refusals.proofs.Bytes.{held, element-back}
 
 -- ---- stores
 
@@ -93,6 +93,15 @@ size-lt-of-refusal k n p w h r =
 abbrev pub ActRequires : ℕ → ℕ → ℕ → List ℤ → Type 0
 ActRequires k n s w = ((1 ≤ s) × (s ≤ n)) × ((least (kindOf k) ≤ n) × ((n ≤ 64) × (windowRefusal (kindOf k) n w ≡ 0)))
 
+-- every step has an entry at s − 1, step n of B and D too
+place-lt : (k : Kind) (n s : ℕ) (w : List ℤ) → 1 ≤ s → s ≤ n → windowRefusal k n w ≡ 0 → s - 1 < length w
+place-lt A n s w h l r = omega (arith, length-of-refusal A n w r)
+place-lt B n s w h l r = omega (arith, length-of-refusal B n w r)
+place-lt D n s w h l r = omega (arith, length-of-refusal D n w r)
+
+pub place-lt-of-requires : (k n s : ℕ) (w : List ℤ) → ActRequires k n s w → s - 1 < length w
+place-lt-of-requires k n s w h = place-lt (kindOf k) n s w (h .0 .0) (h .0 .1) (h .1 .1 .1)
+
 exchange-eq-act-suc : (k : Kind) (n p : ℕ) (w : List ℤ) → suc p < lanes k n → from (suc p - 1) exchange w ≡ act k n (suc p) w
 exchange-eq-act-suc k n p w h = let e : suc p - 1 ≡ p = omega arith in rw (e, act-exchange k n p h)
 
@@ -126,12 +135,22 @@ module _ (k n s : ℕ) (w : List ℤ) (h : ActRequires k n s w) (l : length w �
   pub negateFirst-eq-act : k ≡ 2 → from (n - 1) negateFirst w ≡ act (kindOf k) n s w
   negateFirst-eq-act e = rw (kindOf-two k e, last .0, act-B-last n (n - 1) (omega (arith, last, h .0 .0)))
 
+  -- the entry read at s − 1, as code holds it, is the one at p
+  held-eq-getD : (p : ℕ) → s - 1 ≡ p → mag (getD w (s - 1) (pos 0)) < 128 → held (getD w (s - 1) (pos 0)) ≡ getD w p (pos 0)
+  held-eq-getD p e m = element-back (getD w (s - 1) (pos 0)) m ∙ ap (λ (i : ℕ). getD w i (pos 0)) e
+
+  pub held-eq-last : mag (getD w (s - 1) (pos 0)) < 128 → held (getD w (s - 1) (pos 0)) ≡ getD w (n - 1) (pos 0)
+  held-eq-last = held-eq-getD (n - 1) (omega (arith, last))
+
   pub four-le-of-last : (k ≡ 2 → ⊥) → 4 ≤ n
   four-le-of-last f = rw (last-kind k n s w h l f) at (h .1 .0)
 
   pub exchange-negate-at-requires-of-last : (k ≡ 2 → ⊥)
       → (n - 2 + 1 < length w) × ((natAbs (getD w (n - 2) (pos 0)) < 128) × (natAbs (getD w (n - 2 + 1) (pos 0)) < 128))
   exchange-negate-at-requires-of-last f = (omega (arith, last, four-le-of-last f), (small (n - 2), small (n - 2 + 1)))
+
+  pub held-eq-last-of-D : (k ≡ 2 → ⊥) → mag (getD w (s - 1) (pos 0)) < 128 → held (getD w (s - 1) (pos 0)) ≡ getD w (n - 2 + 1) (pos 0)
+  held-eq-last-of-D f = held-eq-getD (n - 2 + 1) (omega (arith, last, four-le-of-last f))
 
   pub exchangeNegate-eq-act : (k ≡ 2 → ⊥) → from (n - 2) exchangeNegate w ≡ act (kindOf k) n s w
   exchangeNegate-eq-act f = rw (last-kind k n s w h l f, last .0, act-D-last n (n - 2) (omega (arith, four-le-of-last f)))

@@ -9,35 +9,35 @@ ghost use Rattle.coxeter.specs.Windows.{from, exchange, negateFirst, exchangeNe
 ghost use Rattle.coxeter.specs.Checks.{wrongLetter, windowRefusal};
 use super::entries::negated;
 
-// w[p] and w[p + 1] exchanged.
-fn exchange_at(w: &mut [i8], p: usize)
+// w[p] and w[p + 1] exchanged, where w[p] is a.
+fn exchange_at(w: &mut [i8], p: usize, a: i8)
     requires { ⌜ p + 1 < length (now w) ⌝ }
+    requires { ⌜ a ≡ getD (now w) p (pos 0) ⌝ }
     ensures { λ _. ⌜ now (w .exit) ≡ from p exchange (now (w .entry)) ⌝ }
 {
-    let a = w[p];
     let b = w[p + 1];
     w[p] = b;
     w[p + 1] = a;
 }
 
-// The sign of w[p] changed.
-fn negate_at(w: &mut [i8], p: usize)
+// The sign of w[p], which is a, changed.
+fn negate_at(w: &mut [i8], p: usize, a: i8)
     requires { ⌜ (p < length (now w)) × (natAbs (getD (now w) p (pos 0)) < 128) ⌝ }
+    requires { ⌜ a ≡ getD (now w) p (pos 0) ⌝ }
     ensures { λ _. ⌜ now (w .exit) ≡ from p negateFirst (now (w .entry)) ⌝ }
 {
-    let a = w[p];
     w[p] = negated(a);
 }
 
-// w[p] and w[p + 1] exchanged, both with their signs changed.
-fn exchange_negate_at(w: &mut [i8], p: usize)
+// w[p] and w[p + 1], which is b, exchanged, both with their signs changed.
+fn exchange_negate_at(w: &mut [i8], p: usize, b: i8)
     requires { ⌜ p + 1 < length (now w) ⌝ }
     requires { ⌜ natAbs (getD (now w) p (pos 0)) < 128 ⌝ }
     requires { ⌜ natAbs (getD (now w) (p + 1) (pos 0)) < 128 ⌝ }
+    requires { ⌜ b ≡ getD (now w) (p + 1) (pos 0) ⌝ }
     ensures { λ _. ⌜ now (w .exit) ≡ from p exchangeNegate (now (w .entry)) ⌝ }
 {
     let a = w[p];
-    let b = w[p + 1];
     let c = negated(a);
     let d = negated(b);
     w[p] = d;
@@ -45,6 +45,8 @@ fn exchange_negate_at(w: &mut [i8], p: usize)
 }
 
 // One step. Below the number of entries a step exchanges, in every kind. Any other is step n of B or D: A has an entry more than steps.
+// The entry at s - 1, which each of them needs, is read before it is known which step it is: read beside its neighbour, the compiler would turn
+// the two as one number of 16 bits, and the next step at a neighbour would wait for half of that number.
 fn act_on(kind: u8, n: usize, s: usize, w: &mut [i8])
     requires { ⌜ (1 ≤ s) × (s ≤ n) ⌝ }
     requires { ⌜ least (kindOf kind) ≤ n ⌝ }
@@ -52,15 +54,16 @@ fn act_on(kind: u8, n: usize, s: usize, w: &mut [i8])
     requires { ⌜ windowRefusal (kindOf kind) n (now w) ≡ 0 ⌝ }
     ensures { λ _. ⌜ now (w .exit) ≡ act (kindOf kind) n s (now (w .entry)) ⌝ }
 {
+    let a = w[s - 1];
     if s < w.len() {
-        exchange_at(w, s - 1);
+        exchange_at(w, s - 1, a);
         return;
     }
     if kind == 2 {
-        negate_at(w, n - 1);
+        negate_at(w, n - 1, a);
         return;
     }
-    exchange_negate_at(w, n - 2);
+    exchange_negate_at(w, n - 2, a);
 }
 
 // The steps of a word from the left.
@@ -78,14 +81,16 @@ pub(crate) fn apply(kind: u8, n: usize, word: &[u8], w: &mut [i8])
     }
 }
 
-// 1, 2, 3 and so on.
+// 1, 2, 3 and so on, counted in a byte that begins at 1: as i does it would be made from i, and each entry narrowed from 64 bits.
 fn set_straight(w: &mut [i8])
     requires { ⌜ length (now w) ≤ 127 ⌝ }
     ensures { λ _. ⌜ now (w .exit) ≡ straight (length (now (w .entry))) ⌝ }
 {
     let mut i = 0;
+    let mut e: u8 = 1;
     while i < w.len() {
-        w[i] = (i + 1) as i8;
+        w[i] = e as i8;
+        e += 1;
         i += 1;
     }
 }

@@ -41,10 +41,10 @@ straight-next : (i : ℕ) → straight (i + 1) ≡ straight i ++ (pos (i + 1) �
 unfolding straight up
 straight-next i = let e : 1 + i ≡ i + 1 = omega arith in rw (up-append 1 i 1, map-append) (rw e)
 
-pub take-straight-next : (i : ℕ) (w : List ℤ) → i < length w → length w ≤ 127 → take i w ≡ straight i
-    → take (i + 1) (set w i (toZ w8 (i + 1))) ≡ straight (i + 1)
-take-straight-next i w h l t =
-    rw (cast-back (i + 1) (omega arith), straight-next i, ← t) (rw (add-one i) (take-suc-set w i (pos (suc i)) h))
+pub take-straight-next : (i e : ℕ) (w : List ℤ) → i < length w → length w ≤ 127 → take i w ≡ straight i → e ≡ i + 1
+    → take (i + 1) (set w i (toZ w8 e)) ≡ straight (i + 1)
+take-straight-next i e w h l t q =
+    rw (q, cast-back (i + 1) (omega arith), straight-next i, ← t) (rw (add-one i) (take-suc-set w i (pos (suc i)) h))
 
 pub take-straight-end : (i m : ℕ) (w : List ℤ) → length w ≤ i → i ≤ length w → length w ≡ m → take i w ≡ straight i → w ≡ straight m
 take-straight-end i m w h l e t = sym (take-all i w h) ∙ t ∙ ap straight (omega arith)

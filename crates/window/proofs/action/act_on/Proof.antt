@@ -3,28 +3,40 @@
 use mathlib.Core.Path.{_∙_}
 use native.Mathlib.Omega.{arith}
 use borrow.Author.Needs.{needs}
-use Rattle.window.proofs.ByteSteps.{exchange-eq-act, negate-at-requires-of-last, negateFirst-eq-act}
-use Rattle.window.proofs.ByteSteps.{four-le-of-last, exchange-negate-at-requires-of-last, exchangeNegate-eq-act}
+use Rattle.refusals.proofs.Bytes.{element-back}
+use Rattle.window.proofs.ByteSteps.{place-lt-of-requires, exchange-eq-act, negate-at-requires-of-last, held-eq-last, negateFirst-eq-act}
+use Rattle.window.proofs.ByteSteps.{four-le-of-last, exchange-negate-at-requires-of-last, held-eq-last-of-D, exchangeNegate-eq-act}
 use Rattle.window.proofs.action.act_on.Statement.{statement}
 use Rattle.window.proofs.action.act_on.Tie as tie
+
+sub-a : tie.Need-sub-a
+sub-a c = search needs
+
+slice-copy-out-a : tie.Need-slice-copy-out-a
+slice-copy-out-a c = place-lt-of-requires _ _ _ _ (c .pre)
 
 sub-exchange-at : tie.Need-sub-exchange-at
 sub-exchange-at c = search needs
 
 exchange-at-requires : tie.Need-exchange-at-requires
-exchange-at-requires c κs = search needs
+exchange-at-requires c κs = (search needs, element-back _ (c .before .before .a .given))
 
 same-length : tie.Need-same-length
 same-length c = search needs
 
 returns : tie.Need-returns
-returns c = c .before .exchange-at .ensures ∙ exchange-eq-act _ _ _ _ (c .before .before .before .before .pre) (c .before .before .before .if1 .taken)
+returns c =
+    let b = c .before .before .before in
+    c .before .exchange-at .ensures ∙ exchange-eq-act _ _ _ _ (b .before .before .pre) (b .if1 .taken)
 
 sub-negate-at : tie.Need-sub-negate-at
 sub-negate-at c = search needs
 
 negate-at-requires : tie.Need-negate-at-requires
-negate-at-requires c κs = negate-at-requires-of-last _ _ _ _ (c .before .before .before .pre) (c .before .before .if1 .left)
+negate-at-requires c κs =
+    let d = c .before .before in
+    let p = d .before .before .pre in
+    (negate-at-requires-of-last _ _ _ _ p (d .if1 .left), held-eq-last _ _ _ _ p (d .if1 .left) (d .before .a .given))
 
 same-length-2 : tie.Need-same-length-2
 same-length-2 c = search needs
@@ -32,16 +44,19 @@ same-length-2 c = search needs
 returns-2 : tie.Need-returns-2
 returns-2 c =
     let b = c .before .before .before in
-    c .before .negate-at .ensures ∙ negateFirst-eq-act _ _ _ _ (b .before .before .pre) (b .before .if1 .left) (b .if2 .taken)
+    c .before .negate-at .ensures ∙ negateFirst-eq-act _ _ _ _ (b .before .before .before .pre) (b .before .if1 .left) (b .if2 .taken)
 
 sub-exchange-negate-at : tie.Need-sub-exchange-negate-at
 sub-exchange-negate-at c =
     let third = c .before in
-    omega (arith, four-le-of-last _ _ _ _ (third .before .before .pre) (third .before .if1 .left) (third .if2 .left))
+    omega (arith, four-le-of-last _ _ _ _ (third .before .before .before .pre) (third .before .if1 .left) (third .if2 .left))
 
 exchange-negate-at-requires : tie.Need-exchange-negate-at-requires
 exchange-negate-at-requires c κs =
-    exchange-negate-at-requires-of-last _ _ _ _ (c .before .before .before .pre) (c .before .before .if1 .left) (c .before .if2 .left)
+    let d = c .before .before in
+    let p = d .before .before .pre in
+    let q = exchange-negate-at-requires-of-last _ _ _ _ p (d .if1 .left) (c .before .if2 .left) in
+    (q .0, (q .1 .0, (q .1 .1, held-eq-last-of-D _ _ _ _ p (d .if1 .left) (c .before .if2 .left) (d .before .a .given))))
 
 same-length-3 : tie.Need-same-length-3
 same-length-3 c = search needs
@@ -49,12 +64,14 @@ same-length-3 c = search needs
 returns-3 : tie.Need-returns-3
 returns-3 c =
     let b = c .before .before .before in
-    c .before .exchange-negate-at .ensures ∙ exchangeNegate-eq-act _ _ _ _ (b .before .before .pre) (b .before .if1 .left) (b .if2 .left)
+    c .before .exchange-negate-at .ensures ∙ exchangeNegate-eq-act _ _ _ _ (b .before .before .before .pre) (b .before .if1 .left) (b .if2 .left)
 
 pub act-on-spec : {M : Type 1} → statement M
 act-on-spec =
     tie.close
     (tie.spec
+    sub-a
+    slice-copy-out-a
     sub-exchange-at
     exchange-at-requires
     same-length

@@ -1,12 +1,9 @@
--- `action::exchange_at` exchanges two neighbours: two stores of what was read before.
+-- `action::exchange_at` exchanges two neighbours: two stores, of the one that it reads and of the one that it is given.
 -- Assumes nothing.
 use borrow.Author.Needs.{needs}
 use Rattle.window.proofs.ByteSteps.{set-eq-exchange}
 use Rattle.window.proofs.action.exchange_at.Statement.{statement}
 use Rattle.window.proofs.action.exchange_at.Tie as tie
-
-slice-copy-out-a : tie.Need-slice-copy-out-a
-slice-copy-out-a c = search needs
 
 add-b : tie.Need-add-b
 add-b c = search needs
@@ -27,13 +24,14 @@ same-length : tie.Need-same-length
 same-length c = search needs
 
 returns : tie.Need-returns
-returns c = set-eq-exchange _ _ (c .before .before .pre) (c .before .a .given) (c .b .given)
+returns c =
+    let e = c .before .pre .1 in
+    rw e (set-eq-exchange _ _ (c .before .pre .0) (rw e at (c .before .fits .a .sfits)) (c .b .given))
 
 pub exchange-at-spec : {M : Type 1} → statement M
 exchange-at-spec =
     tie.close
     (tie.spec
-    slice-copy-out-a
     add-b
     slice-copy-out-b
     slice-set-from-b

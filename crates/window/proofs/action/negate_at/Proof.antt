@@ -1,15 +1,13 @@
 -- `action::negate_at` changes the sign of an entry: one store of its negation, which fits since the size is below 128.
 -- Assumes nothing.
 use borrow.Author.Needs.{needs}
+use Rattle.refusals.proofs.Bytes.{element-back}
 use Rattle.window.proofs.ByteSteps.{set-eq-negateFirst}
 use Rattle.window.proofs.action.negate_at.Statement.{statement}
 use Rattle.window.proofs.action.negate_at.Tie as tie
 
-slice-copy-out-a : tie.Need-slice-copy-out-a
-slice-copy-out-a c = search needs
-
 negated-requires : tie.Need-negated-requires
-negated-requires c κs = search needs
+negated-requires c κs = rw (element-back _ (c .fits .a .sfits), c .pre .1) (c .pre .0 .1)
 
 slice-set-from-w : tie.Need-slice-set-from-w
 slice-set-from-w c = search needs
@@ -19,10 +17,11 @@ same-length c = search needs
 
 returns : tie.Need-returns
 returns c =
+    let e = c .before .pre .1 in
     set-eq-negateFirst _ _ _
-    (c .before .before .pre .0)
-    (record { entry = c .before .a .given; result = c .negated .ok; negation = c .negated .ensures })
+    (c .before .pre .0 .0)
+    (record { entry = rw e at (c .before .fits .a .sfits); result = c .negated .ok; negation = rw e at (c .negated .ensures) })
 
 pub negate-at-spec : {M : Type 1} → statement M
 negate-at-spec =
-    tie.close (tie.spec slice-copy-out-a negated-requires slice-set-from-w same-length returns)
+    tie.close (tie.spec negated-requires slice-set-from-w same-length returns)

@@ -1,7 +1,7 @@
--- `action::set_straight` writes the straight window. The invariant: the entries before i are 1, .., i.
+-- `action::set_straight` writes the straight window. The invariant: the entries before i are 1, .., i, and the byte is i + 1.
 -- Assumes nothing.
-use mathlib.Core.Path.{_≡_, refl}
-use Prim.Native.Nat.{_≤_, _-_}
+use mathlib.Core.Path.{_≡_, refl, ap}
+use Prim.Native.Nat.{ℕ, _+_, _≤_, _-_}
 use native.Mathlib.Omega.{arith}
 use lib.ListN.{length, length-set, take}
 use Rattle.coxeter.specs.Kinds.{up}
@@ -11,23 +11,23 @@ use Rattle.window.proofs.action.set_straight.Statement.{statement}
 use Rattle.window.proofs.action.set_straight.Tie as tie
 
 abbrev Inv-loop : tie.InvT-loop
-Inv-loop w₀ i₀ w i = (i ≤ length w) × (length w ≡ length w₀) × (take i w ≡ straight i)
+Inv-loop w₀ i₀ e₀ w i e = (i ≤ length w) × (length w ≡ length w₀) × (take i w ≡ straight i) × (e ≡ i + 1)
 
 abbrev μ-loop : tie.MeasureT-loop
-μ-loop w₀ i₀ w i = length w₀ - i
+μ-loop w₀ i₀ e₀ w i e = length w₀ - i
 
 loop-holds : tie.Need-loop-holds Inv-loop μ-loop
 unfolding straight up
-loop-holds c = (omega arith, refl, refl)
-
-add-w : tie.Need-add-w Inv-loop μ-loop
-add-w c = omega arith
+loop-holds c = (omega arith, refl, refl, refl)
 
 cast-w : tie.Need-cast-w Inv-loop μ-loop
 cast-w c = omega arith
 
 slice-set-from-w : tie.Need-slice-set-from-w Inv-loop μ-loop
 slice-set-from-w c = omega arith
+
+add-e : tie.Need-add-e Inv-loop μ-loop
+add-e c = omega arith
 
 add-i : tie.Need-add-i Inv-loop μ-loop
 add-i c = omega arith
@@ -38,7 +38,8 @@ loop-less c = omega arith
 loop-again : tie.Need-loop-again Inv-loop μ-loop
 loop-again c =
     let i = c .before .loop .inv in
-    (simp length-set (omega arith), simp length-set (i .1), take-straight-next _ _ (c .loop-test .taken) (omega arith) (i .2))
+    let t = take-straight-next _ _ _ (c .loop-test .taken) (omega arith) (i .2) (i .3) in
+    (simp length-set (omega arith), simp length-set (i .1), t, ap (λ (p : ℕ). p + 1) (i .3))
 
 same-length : tie.Need-same-length Inv-loop μ-loop
 same-length c = c .before .loop .inv .1
@@ -53,9 +54,9 @@ set-straight-spec =
     Inv-loop
     μ-loop
     loop-holds
-    add-w
     cast-w
     slice-set-from-w
+    add-e
     add-i
     loop-less
     loop-again
