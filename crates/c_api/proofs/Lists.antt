@@ -19,10 +19,10 @@ use Rattle.coxeter.specs.Kinds.{pick}
 use Rattle.coxeter.specs.Checks.{check, _then_, tooShort}
 use Rattle.rules.specs.declared.Rewrite.{Rewrite}
 use Rattle.rules.specs.declared.Rewrite.the-variants as rewrite
-use Rattle.rules.specs.declared.ToEnd.{ToEnd}
-use Rattle.rules.specs.declared.ToEnd.the-variants as toEnd
 use Rattle.exchange.specs.declared.Split.{Split}
 use Rattle.exchange.specs.declared.Split.the-variants as split
+use Rattle.traces.specs.declared.ToEnd.{ToEnd}
+use Rattle.traces.specs.declared.ToEnd.the-variants as toEnd
 use Rattle.distribution.specs.declared.Table.{Table}
 use Rattle.distribution.specs.declared.Table.the-variants as table
 use Rattle.book_format.specs.declared.Preset.{Preset}

@@ -23,12 +23,12 @@ use Rattle.coxeter.specs.Kinds.{pick, kindOf}
 use Rattle.coxeter.specs.Checks.{check, _then_, tooShort, rankRefusal, wordRefusal}
 use Rattle.coxeter.specs.Calls.{answerOf, written}
 use Rattle.coxeter.proofs.Refusals.{then-some, then-assoc}
-use Rattle.rules.specs.declared.ToEnd.{ToEnd}
-use Rattle.rules.specs.declared.ToEnd.the-variants as toEnd
-use Rattle.rules.specs.Traces.{Trace, trace, tooFewPlaces, toEndOf, Traced, tracedBy, rewritingToEnd, numberOfSteps, TraceYields}
-use Rattle.rules.proofs.Unchanged.{toEnd-refused-unchanged}
-use Rattle.exchange.proofs.Tracing.{steps-few}
-use Rattle.exchange.proofs.StepBounds.{counted-steps, ended-steps}
+use Rattle.traces.specs.declared.ToEnd.{ToEnd}
+use Rattle.traces.specs.declared.ToEnd.the-variants as toEnd
+use Rattle.traces.specs.Traces.{Trace, trace, tooFewPlaces, toEndOf, Traced, tracedBy, rewritingToEnd, numberOfSteps, TraceYields}
+use Rattle.traces.proofs.Unchanged.{toEnd-refused-unchanged}
+use Rattle.traces.proofs.Tracing.{steps-few}
+use Rattle.traces.proofs.StepBounds.{counted-steps, ended-steps}
 use Rattle.c_api.specs.Calls.{refused, traceNumbers, listedBeside, rewritingToEndListed}
 use Rattle.c_api.proofs.Bytes.{Refusable}
 use Rattle.c_api.proofs.Lists.{trace-numbers, roomless, beside-stored, beside-alone, beside-roomless, room-then, room-last}

@@ -7,8 +7,8 @@ use Prim.Native.Nat.{ℕ, suc}
 use lib.IntN.{ℤ}
 use Rattle.coxeter.specs.declared.Counted.{Counted}
 use Rattle.rules.specs.Calls.{step}
-use Rattle.rules.specs.Traces.{rewritingToEnd}
 use Rattle.exchange.specs.SplitCalls.{splitting}
+use Rattle.traces.specs.Traces.{rewritingToEnd}
 use Rattle.distribution.specs.Calls.{delayTable}
 use Rattle.book_format.specs.declared.Preset.{Preset}
 use Rattle.c_api.specs.Calls.{refused, crossingNumbers, presetNumbers, listed, rewriting, rewritingToEndListed, splittingListed, delayTableListed}

@@ -19,13 +19,13 @@ use Rattle.coxeter.specs.Checks.{tooShort}
 use Rattle.coxeter.specs.Calls.{Outcome}
 use Rattle.rules.specs.declared.Rewrite.{Rewrite}
 use Rattle.rules.specs.declared.Rewrite.the-variants as rewrite
-use Rattle.rules.specs.declared.ToEnd.{ToEnd}
-use Rattle.rules.specs.declared.ToEnd.the-variants as toEnd
 use Rattle.rules.specs.Calls.{step}
-use Rattle.rules.specs.Traces.{rewritingToEnd}
 use Rattle.exchange.specs.declared.Split.{Split}
 use Rattle.exchange.specs.declared.Split.the-variants as split
 use Rattle.exchange.specs.SplitCalls.{splitting}
+use Rattle.traces.specs.declared.ToEnd.{ToEnd}
+use Rattle.traces.specs.declared.ToEnd.the-variants as toEnd
+use Rattle.traces.specs.Traces.{rewritingToEnd}
 use Rattle.distribution.specs.declared.Table.{Table}
 use Rattle.distribution.specs.declared.Table.the-variants as table
 use Rattle.distribution.specs.Calls.{delayTable}

@@ -7,6 +7,6 @@ pub mod rewriting;
 pub mod shortest;
 pub mod splits;
 pub mod tables;
-pub mod traces;
+pub mod tracing;
 pub mod windows;
 pub mod words;

@@ -22,12 +22,12 @@ use Rattle.coxeter.specs.declared.Choice.{Choice}
 use Rattle.coxeter.specs.declared.Choice.the-variants as choices
 use Rattle.rules.specs.declared.Rewrite.{Rewrite}
 use Rattle.rules.specs.declared.Rewrite.the-variants as rewrites
-use Rattle.rules.specs.declared.ToEnd.{ToEnd}
-use Rattle.rules.specs.declared.ToEnd.the-variants as ends
 use Rattle.exchange.specs.declared.Fallback.{Fallback}
 use Rattle.exchange.specs.declared.Fallback.the-variants as fallbacks
 use Rattle.exchange.specs.declared.Split.{Split}
 use Rattle.exchange.specs.declared.Split.the-variants as splits
+use Rattle.traces.specs.declared.ToEnd.{ToEnd}
+use Rattle.traces.specs.declared.ToEnd.the-variants as ends
 use Rattle.distribution.specs.declared.Table.{Table}
 use Rattle.distribution.specs.declared.Table.the-variants as tables
 use Rattle.book_format.specs.declared.Edition.{Edition}
@@ -47,7 +47,6 @@ use Rattle.coxeter.specs.Calls.{answerOf, verdictOf, written, writes, windowOfW
 use Rattle.coxeter.proofs.Order.{sameWindow-of-eq}
 use Rattle.rules.specs.Rules.{each, family1, family2, family3, family4, families5to7, rules, begins, fits, firstFitting, rewritten}
 use Rattle.rules.specs.Calls.{pastEnd, refusedStep, usedStep, stepBy, step}
-use Rattle.rules.specs.Traces.{lowestFrom, lowestUse, traceWithin, trace, tooFewPlaces, toEndOf, tracedBy, rewritingToEnd, numberOfSteps}
 use Rattle.exchange.specs.Fallback.{somePart, fallsBack}
 use Rattle.exchange.specs.Shortening.{shortens}
 use Rattle.exchange.specs.Allowed.{allows, wrongSet, setRefusal}
@@ -57,6 +56,7 @@ use Rattle.exchange.specs.Calls.{fallbackOf, fallbackAnswer, keptCount, FellBac
 use Rattle.exchange.specs.Allowed.{over, allows, wrongSet, setRefusal}
 use Rattle.exchange.specs.Between.{between, reachable}
 use Rattle.exchange.specs.BetweenCalls.{unreachable, betweenRefusal, betweenWindows}
+use Rattle.traces.specs.Traces.{lowestFrom, lowestUse, traceWithin, trace, tooFewPlaces, toEndOf, tracedBy, rewritingToEnd, numberOfSteps}
 use Rattle.distribution.specs.AllWindows.{keep, lists}
 use Rattle.distribution.specs.AllWindows as all
 use Rattle.distribution.specs.Distribution.{ofLength, distribution, sum}

@@ -14,11 +14,11 @@ use Rattle.coxeter.specs.Length.{negative}
 use Rattle.coxeter.specs.Checks.{rankRefusal}
 use Rattle.coxeter.specs.Calls.{Outcome, windowOfWord, productOfWindows, inverseOfWindow, normalFormOfWindow, normalFormOfWord, productOfWords, inverseOfWord, lengthOfWindow, lengthOfWord, presetsEqual}
 use Rattle.rules.specs.Calls.{Step, step}
-use Rattle.rules.specs.Traces.{Traced, rewritingToEnd, numberOfSteps}
 use Rattle.exchange.specs.declared.Fallback.{Fallback}
 use Rattle.exchange.specs.Calls.{fallbackAnswer}
 use Rattle.exchange.specs.SplitCalls.{Parted, splitting}
 use Rattle.exchange.specs.BetweenCalls.{betweenWindows}
+use Rattle.traces.specs.Traces.{Traced, rewritingToEnd, numberOfSteps}
 use Rattle.distribution.specs.Calls.{Tabled, delayTable}
 use Rattle.book_format.specs.declared.Edition.the-variants.{First, Second}
 use Rattle.book_format.specs.declared.Opened.{Opened}

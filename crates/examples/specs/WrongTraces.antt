@@ -10,7 +10,7 @@ use Rattle.coxeter.specs.Kinds.{Kind, pick, kindOf}
 use Rattle.coxeter.specs.Checks.{check, _then_, tooShort, rankRefusal, wordRefusal}
 use Rattle.coxeter.specs.Calls.{answerOf}
 use Rattle.rules.specs.Rules.{rewritten}
-use Rattle.rules.specs.Traces.{lowestFrom, Trace, trace, familiesOf, Traced, tracedBy}
+use Rattle.traces.specs.Traces.{lowestFrom, Trace, trace, familiesOf, Traced, tracedBy}
 
 -- each search starts behind the place of the last step; t steps at most, the first search from place p on
 unfoldable pub behindLast : Kind → ℕ → ℕ → ℕ → List ℕ → Trace

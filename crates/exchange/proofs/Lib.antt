@@ -4,8 +4,6 @@ pub mod Carrying
 pub mod Shortest
 pub mod Exchange
 pub mod Deletion
-pub mod LeastWords
-pub mod Inserting
 pub mod Places
 pub mod Shortening
 pub mod Lifting
@@ -22,11 +20,6 @@ pub mod FarSteps
 pub mod Between
 pub mod BetweenChecks
 pub mod BetweenCalls
-pub mod Reading
-pub mod ReadingSteps
-pub mod Tracing
-pub mod StepBounds
-pub mod StepsReached
 pub mod Theorems
 pub mod Sentences
 pub mod AllowedSentences

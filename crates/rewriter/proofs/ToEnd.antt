@@ -11,9 +11,9 @@ use Rattle.coxeter.specs.Checks.{_then_, tooShort, rankRefusal, wordRefusal}
 use Rattle.coxeter.specs.Calls.{written}
 use Rattle.coxeter.proofs.Acceptance.{two-accepted}
 use Rattle.coxeter.proofs.Outcomes.{answer-refused, answer-length}
-use Rattle.rules.specs.declared.ToEnd.the-variants.{Ended, Refused}
 use Rattle.rules.specs.Runs.{AcceptedWord}
-use Rattle.rules.specs.Traces.{trace, familiesOf, placesOf, lengthsOf, tooFewPlaces, toEndOf, tracedBy, rewritingToEnd, numberOfSteps, TraceYields}
+use Rattle.traces.specs.declared.ToEnd.the-variants.{Ended, Refused}
+use Rattle.traces.specs.Traces.{trace, familiesOf, placesOf, lengthsOf, tooFewPlaces, toEndOf, tracedBy, rewritingToEnd, numberOfSteps, TraceYields}
 
 -- r is the refusal that was computed
 module _ (k n : ℕ) (u : List ℕ) (r : ℕ) (e : r ≡ (rankRefusal k n then wordRefusal n u)) where

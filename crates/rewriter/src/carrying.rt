@@ -10,8 +10,8 @@ ghost use Prim.Native.Nat.{suc, _+_, _-_, _≤_, _<_};
 ghost use lib.ListN.{length, getD, take, drop, set};
 ghost use Rattle.coxeter.specs.Kinds.{kindOf};
 ghost use Rattle.coxeter.specs.NormalForm.{levels};
-ghost use Rattle.rules.proofs.TwoLetters.{exchanging};
-ghost use Rattle.exchange.proofs.Tracing.{Ready, Carried, Inserted};
+ghost use Rattle.traces.proofs.TwoLetters.{exchanging};
+ghost use Rattle.traces.proofs.Tracing.{Ready, Carried, Inserted};
 
 // How many steps were made, and how many letters the word has then.
 pub(crate) struct Count {

@@ -15,13 +15,13 @@ ghost use lib.Dec.{eqb};
 ghost use lib.ListN.{length, getD, take};
 ghost use Rattle.coxeter.specs.Kinds.{pick, kindOf, least};
 ghost use Rattle.coxeter.specs.NormalForm.{levels, lastIndex};
-ghost use Rattle.rules.specs.Traces.{lowestUse};
-ghost use Rattle.rules.proofs.LeftSides.{lower};
-ghost use Rattle.rules.proofs.PartBlocks.{indexBy};
 ghost use Rattle.rules.proofs.Scan.{nextIndex, fork, familyAt, shownIndex, firstLetter};
-ghost use Rattle.rules.proofs.TwoLetters.{exchanging};
-ghost use Rattle.exchange.proofs.Reading.{Reading};
-ghost use Rattle.exchange.proofs.ReadingSteps.{Stopped};
+ghost use Rattle.traces.specs.Traces.{lowestUse};
+ghost use Rattle.traces.proofs.LeftSides.{lower};
+ghost use Rattle.traces.proofs.PartBlocks.{indexBy};
+ghost use Rattle.traces.proofs.TwoLetters.{exchanging};
+ghost use Rattle.traces.proofs.Reading.{Reading};
+ghost use Rattle.traces.proofs.ReadingSteps.{Stopped};
 
 // A rule that ends there: its family, where it begins and the letter that its right side puts first.
 pub(crate) enum Ending {

@@ -1,9 +1,9 @@
 // The rewriter layer: one rewrite at a named place, and the rewriting to its end. No public function has a `requires`.
 use refusals::preset_refusal;
 pub use rules::Rewrite;
-pub use rules::ToEnd;
 use search::Fitting;
 use search::fitting_rule;
+pub use traces::ToEnd;
 use tracing::count;
 use tracing::write_trace;
 pub use window::Answer;
@@ -11,7 +11,7 @@ use writing::new_length;
 use writing::write_rewritten;
 ghost use mathlib.Core.Path.{_≡_};
 ghost use Rattle.rules.specs.Calls.{Rewrote};
-ghost use Rattle.rules.specs.Traces.{TraceYields, rewritingToEnd, numberOfSteps};
+ghost use Rattle.traces.specs.Traces.{TraceYields, rewritingToEnd, numberOfSteps};
 
 mod carrying;
 mod ending;

@@ -8,8 +8,8 @@ ghost use lib.ListN.{length};
 ghost use Rattle.coxeter.specs.Kinds.{kindOf};
 ghost use Rattle.coxeter.specs.Calls.{written};
 ghost use Rattle.rules.specs.Runs.{AcceptedWord};
-ghost use Rattle.rules.specs.Traces.{trace, familiesOf, placesOf, lengthsOf};
-ghost use Rattle.exchange.proofs.Tracing.{Made};
+ghost use Rattle.traces.specs.Traces.{trace, familiesOf, placesOf, lengthsOf};
+ghost use Rattle.traces.proofs.Tracing.{Made};
 
 // Room for every word.
 fn no_letters() -> [u8; 4096]

@@ -14,7 +14,6 @@ pub mod Scan
 pub mod ScanFamilies
 pub mod ScanRules
 pub mod RuleFields
-pub mod TwoLetters
 pub mod Calls
 pub mod Unchanged
 pub mod Vectors
@@ -22,11 +21,5 @@ pub mod Demand3
 pub mod Sentences
 pub mod Theorems
 pub mod Written
-pub mod Traces
-pub mod Replays
-pub mod TraceSentences
 pub mod BlockWords
 pub mod HigherSteps
-pub mod PartBlocks
-pub mod LeftSides
-pub mod Endings

@@ -3,4 +3,3 @@ pub mod Rules
 pub mod Calls
 pub mod Runs
 pub mod Demand3
-pub mod Traces

@@ -1,4 +1,4 @@
-// The rules, one rewrite, demand 3 and the rewriting to its end: definitions in specs/, laws in proofs/, and the answers of the calls. No function.
+// The rules, one rewrite and demand 3: definitions in specs/, laws in proofs/, and the answer of the call. No function.
 
 // One rewrite at a named place: the rule used with the new word's length, or that none fits, or a refusal.
 pub enum Rewrite {
@@ -9,11 +9,5 @@ pub enum Rewrite {
         length: usize,
     },
     NoneFits,
-    Refused(u8),
-}
-
-// The rewriting to its end: the number of steps with the final word's length, or a refusal.
-pub enum ToEnd {
-    Ended { steps: usize, length: usize },
     Refused(u8),
 }

@@ -10,10 +10,10 @@ use Prim.Native.Nat.{ℕ, suc, _+_, _-_, _≤_, _<_}
 use native.Mathlib.Omega.{arith}
 use lib.ListN.{length, getD, take, drop, set}
 use Rattle.coxeter.specs.Kinds.{Kind}
-use Rattle.rules.specs.Traces.{Use, lowestUse}
-use Rattle.exchange.proofs.Reading.{reading-lower}
-use Rattle.exchange.proofs.ReadingSteps.{after-moved, after-dropped}
-use Rattle.exchange.proofs.Tracing.{Ready, Carried, Inserted, carried-ready, carried-trans, carried-step, inserted-step, inserted-end, inserted-after}
+use Rattle.traces.specs.Traces.{Use, lowestUse}
+use Rattle.traces.proofs.Reading.{reading-lower}
+use Rattle.traces.proofs.ReadingSteps.{after-moved, after-dropped}
+use Rattle.traces.proofs.Tracing.{Ready, Carried, Inserted, carried-ready, carried-trans, carried-step, inserted-step, inserted-end, inserted-after}
 use Rattle.rewriter.specs.declared.ending.Ending.{Ending}
 use Rattle.rewriter.specs.declared.ending.Ending.the-variants.{Rule, Nothing}
 use Rattle.rewriter.proofs.carrying.Shifting.{put}

@@ -14,10 +14,10 @@ use Rattle.coxeter.specs.NormalForm.{levels}
 use Rattle.coxeter.proofs.LetterLaws.{letter-within}
 use Rattle.rules.specs.Rules.{rewritten, exchanged}
 use Rattle.rules.proofs.ScanRules.{wrongLetter-drop}
-use Rattle.rules.proofs.TwoLetters.{exchanging}
-use Rattle.exchange.proofs.Reading.{reading-inside}
-use Rattle.exchange.proofs.ReadingSteps.{exchange-use}
-use Rattle.exchange.proofs.Tracing.{Ready, Carried, carried-start, carried-ready, carried-trans, carried-step}
+use Rattle.traces.proofs.TwoLetters.{exchanging}
+use Rattle.traces.proofs.Reading.{reading-inside}
+use Rattle.traces.proofs.ReadingSteps.{exchange-use}
+use Rattle.traces.proofs.Tracing.{Ready, Carried, carried-start, carried-ready, carried-trans, carried-step}
 
 -- ---- letters
 

@@ -18,16 +18,16 @@ use Rattle.coxeter.specs.Checks.{wrongLetter}
 use Rattle.coxeter.specs.NormalForm.{block, levels, lastIndex}
 use Rattle.coxeter.proofs.LetterLaws.{letter-within, letter-within-cons}
 use Rattle.rules.specs.Rules.{Rule, Irreducible}
-use Rattle.rules.specs.Traces.{lowestUse}
 use Rattle.rules.proofs.Letters.{block-one}
 use Rattle.rules.proofs.BlockWords.{block-short}
-use Rattle.rules.proofs.PartBlocks.{indexBy, part-block}
 use Rattle.rules.proofs.ScanRules.{wrongLetter-drop}
 use Rattle.rules.proofs.Scan.{nextIndex, fork, familyAt, shownIndex, firstLetter, walk, scan, Along, start, further, scan-block}
-use Rattle.rules.proofs.LeftSides.{lower}
-use Rattle.rules.proofs.TwoLetters.{exchanging}
-use Rattle.exchange.proofs.LeastWords.{letters-left, Normal, normal-back}
-use Rattle.exchange.proofs.Reading.{Reading, reading-inside, reading-before}
+use Rattle.traces.specs.Traces.{lowestUse}
+use Rattle.traces.proofs.PartBlocks.{indexBy, part-block}
+use Rattle.traces.proofs.LeftSides.{lower}
+use Rattle.traces.proofs.TwoLetters.{exchanging}
+use Rattle.traces.proofs.LeastWords.{letters-left, Normal, normal-back}
+use Rattle.traces.proofs.Reading.{Reading, reading-inside, reading-before}
 use Rattle.rewriter.specs.declared.ending.Ending.{Ending}
 use Rattle.rewriter.specs.declared.ending.Ending.the-variants as ending
 use Rattle.rewriter.proofs.search.Searches.{Searching, Searchable, along-le, searching-next, searching-found, searching-end}

@@ -20,14 +20,14 @@ use Rattle.coxeter.specs.Kinds.{Kind, pick, least}
 use Rattle.coxeter.specs.NormalForm.{levels, lastIndex}
 use Rattle.coxeter.proofs.LetterLaws.{letter-within}
 use Rattle.rules.specs.Rules.{Rule, rules, firstFitting}
-use Rattle.rules.specs.Traces.{Use, lowestUse}
 use Rattle.rules.proofs.ScanRules.{wrongLetter-drop}
 use Rattle.rules.proofs.Scan.{nextIndex, fork, familyAt, shownIndex, firstLetter, shownRule}
-use Rattle.rules.proofs.LeftSides.{lower}
-use Rattle.rules.proofs.Traces.{lowest-some}
-use Rattle.rules.proofs.TwoLetters.{exchanging}
-use Rattle.exchange.proofs.Reading.{Reading, reading-inside, reading-lower}
-use Rattle.exchange.proofs.ReadingSteps.{Stopped, use-of-fitting, square-use, first-letter, place-rising, place-falling, after-dropped, letters-dropped}
+use Rattle.traces.specs.Traces.{Use, lowestUse}
+use Rattle.traces.proofs.LeftSides.{lower}
+use Rattle.traces.proofs.Traces.{lowest-some}
+use Rattle.traces.proofs.TwoLetters.{exchanging}
+use Rattle.traces.proofs.Reading.{Reading, reading-inside, reading-lower}
+use Rattle.traces.proofs.ReadingSteps.{Stopped, use-of-fitting, square-use, first-letter, place-rising, place-falling, after-dropped, letters-dropped}
 use Rattle.rewriter.specs.declared.search.Fitting.{Fitting}
 use Rattle.rewriter.specs.declared.search.Fitting.the-variants as found
 use Rattle.rewriter.specs.declared.ending.Ending.{Ending}

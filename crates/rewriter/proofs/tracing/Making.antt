@@ -17,11 +17,11 @@ use Rattle.coxeter.proofs.Acceptance.{rank-accepted, letters-accepted, length-a
 use Rattle.coxeter.proofs.LetterLaws.{letter-within}
 use Rattle.coxeter.proofs.Lists.{take-rest, drop-next, sets-front}
 use Rattle.rules.specs.Runs.{AcceptedWord}
-use Rattle.rules.specs.Traces.{Line, Trace, trace, familiesOf, placesOf, lengthsOf}
 use Rattle.rules.proofs.ScanRules.{wrongLetter-drop}
-use Rattle.exchange.proofs.LeastWords.{Normal}
-use Rattle.exchange.proofs.Reading.{reading-next, nil-irreducible}
-use Rattle.exchange.proofs.Tracing.{Finished, finishWith, finish, finish-end, finish-steps, Ready, Inserted, steps-few, Made}
+use Rattle.traces.specs.Traces.{Line, Trace, trace, familiesOf, placesOf, lengthsOf}
+use Rattle.traces.proofs.LeastWords.{Normal}
+use Rattle.traces.proofs.Reading.{reading-next, nil-irreducible}
+use Rattle.traces.proofs.Tracing.{Finished, finishWith, finish, finish-end, finish-steps, Ready, Inserted, steps-few, Made}
 
 -- ---- letters read
 

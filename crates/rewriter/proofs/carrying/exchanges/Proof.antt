@@ -2,7 +2,7 @@
 -- Assumes nothing.
 use mathlib.Core.Path.{refl}
 use borrow.Author.Tests.{eq-eqb, ne-eqb}
-use Rattle.rules.proofs.TwoLetters.{exchanging}
+use Rattle.traces.proofs.TwoLetters.{exchanging}
 use borrow.Author.Needs.{needs}
 use Rattle.rewriter.proofs.carrying.exchanges.Statement.{statement}
 use Rattle.rewriter.proofs.carrying.exchanges.Tie as tie

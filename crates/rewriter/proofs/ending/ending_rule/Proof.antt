@@ -3,7 +3,7 @@
 -- Assumes nothing.
 use mathlib.Core.Path.{sym, _∙_}
 use native.Mathlib.Omega.{arith}
-use Rattle.exchange.proofs.Reading.{reading-inside}
+use Rattle.traces.proofs.Reading.{reading-inside}
 use Rattle.rewriter.proofs.ending.Ends.{one, ending-front, ending-square, ending-other}
 use Rattle.rewriter.proofs.ending.BlockEnds.{size-there, index-small, ending-block}
 use borrow.Author.Needs.{needs}

@@ -2,7 +2,7 @@
 -- Assumes nothing.
 use borrow.Author.Tests.{eq-eqb, ne-eqb, lt-ltb, le-ltb}
 use Rattle.coxeter.proofs.KindLaws.{kindOf-one, kindOf-two, kindOf-three}
-use Rattle.rules.proofs.PartBlocks.{indexBy}
+use Rattle.traces.proofs.PartBlocks.{indexBy}
 use borrow.Author.Needs.{needs}
 use Rattle.rewriter.proofs.ending.index_of.Statement.{statement}
 use Rattle.rewriter.proofs.ending.index_of.Tie as tie

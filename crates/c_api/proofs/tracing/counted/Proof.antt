@@ -1,0 +1,39 @@
+-- `traces::counted` goes by the cases of the answer.
+-- Assumes nothing.
+use mathlib.Core.Path.{_∙_}
+use Rattle.c_api.specs.Calls.{numberOf}
+use Rattle.c_api.proofs.Lengths.{i64-back}
+use borrow.Author.Needs.{needs}
+use Rattle.c_api.proofs.tracing.counted.Statement.{statement}
+use Rattle.c_api.proofs.tracing.counted.Tie as tie
+
+enum-known-answer : tie.Need-enum-known-answer
+enum-known-answer c = search needs
+
+steps-number-requires : tie.Need-steps-number-requires
+steps-number-requires c κs = c .before .before .before .pre _ (c .before .answer .given .1)
+
+enum-known-answer-2 : tie.Need-enum-known-answer-2
+enum-known-answer-2 c = search needs
+
+refusal-requires : tie.Need-refusal-requires
+refusal-requires c κs = search needs
+
+returns : tie.Need-returns
+unfolding numberOf
+returns c = rw (c .before .before .answer .given .1) (i64-back _ (c .steps-number .ok) ∙ c .steps-number .ensures)
+
+returns-2 : tie.Need-returns-2
+unfolding numberOf
+returns-2 c = rw (c .before .before .answer2 .given .1) (i64-back _ (c .refusal .ok) ∙ c .refusal .ensures)
+
+pub counted-spec : {M : Type 1} → statement M
+counted-spec =
+    tie.close
+    (tie.spec
+    enum-known-answer
+    steps-number-requires
+    enum-known-answer-2
+    refusal-requires
+    returns
+    returns-2)

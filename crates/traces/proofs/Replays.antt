@@ -1,0 +1,240 @@
+-- Replaying the lines of a rewriting with single rewrites. Any reader who makes them at the lines' places sees the lines' families and lengths and
+-- ends in the final word; only the lines of the rewriting can be replayed so; and there are no more of them than demand 3's number. By induction along
+-- the rewriting. A call that ends has written such lines and the normal form.
+--
+-- Sections: one step of an accepted word; replaying; only one replay; the number of steps; what a call writes.
+-- Assumes nothing.
+use mathlib.Core.Path.{_≡_, refl, sym, ap, ap₂, subst, _∙_}
+use mathlib.Core.Bool.{false, true≢false}
+use mathlib.Core.List.{List, [], _∷_, map}
+use mathlib.Core.Option.{none}
+use Prim.Native.Nat.{ℕ, suc, _+_, _≤_}
+use native.Mathlib.Omega.{arith}
+use lib.ListN.{length, take, drop, replicate, length-replicate, length-map}
+use lib.Seq.{take-append-seam, take-at}
+use borrow.Author.Tests.{le-ltb, lt-leb}
+use Rattle.coxeter.specs.Kinds.{kindOf}
+use Rattle.coxeter.specs.Checks.{tooShort, rankRefusal, wordRefusal}
+use Rattle.coxeter.specs.NormalForm.{wordNormalForm}
+use Rattle.coxeter.proofs.Refusals.{then-zero}
+use Rattle.coxeter.proofs.Order.{less, same, more, compared}
+use Rattle.rules.specs.declared.Rewrite.{Rewrite}
+use Rattle.rules.specs.declared.Rewrite.the-variants.{Used}
+use Rattle.rules.specs.Rules.{rules, firstFitting}
+use Rattle.rules.specs.Calls.{pastEnd, Step, atFront, usedStep, step, Rewrote}
+use Rattle.rules.specs.Runs.{AcceptedWord, Call, wordAfter, Run, uses}
+use Rattle.rules.specs.Demand3.{IsUsed, Demand3}
+use Rattle.rules.proofs.Fits.{firstFitting-some, firstFitting-none, none-firstFitting}
+use Rattle.rules.proofs.Completeness.{rewrites-letters, rewrites-length}
+use Rattle.rules.proofs.Calls.{accepted-least, accepted-letters, accepted-of-shorter, stepped, answer-of-none, step-used, usable-of-used, nowhereFits-iff}
+use Rattle.traces.specs.declared.ToEnd.the-variants.{Ended}
+use Rattle.traces.specs.Traces.{Use, lowestUse, Line, Trace, trace, familiesOf, placesOf, lengthsOf, Traced, rewritingToEnd, NoneFitsBelow, Replays}
+use Rattle.traces.proofs.Traces.{Lowest, irreducible-of-none, after, lineOf, continued, lowest-rewrites, trace-induction, trace-normalForm}
+use Rattle.traces.proofs.Unchanged.{Written, refused, ended, tracedBy-written, toEnd-past}
+
+-- ---- one step of an accepted word
+
+module _ (k n : ℕ) (u : List ℕ) (h : AcceptedWord k n u) (s : Use) (a : Lowest (kindOf k) n u s) where
+  next-shorter : length (after u s) ≤ length u
+  next-shorter = rewrites-length (lowest-rewrites (accepted-least h) a)
+
+  -- the word after the step is accepted
+  next-accepted : AcceptedWord k n (after u s)
+  next-accepted =
+      accepted-of-shorter (after u s) h next-shorter (rewrites-letters (lowest-rewrites (accepted-least h) a) (accepted-letters h))
+
+  -- below the place none fits
+  none-below : NoneFitsBelow k n u (s .place)
+  none-below q l before out x w =
+      w .answer ∙ answer-of-none (stepped k n u q before h) (omega (arith, a .inside)) (a .below q l)
+
+  -- at the place, with room, the rule is used
+  step-at : (before : List ℕ) → tooShort (length (after u s)) before ≡ false → step k n u (s .place) before ≡ usedStep (s .rule) (after u s) before
+  unfolding pastEnd
+  step-at before r =
+      let f = firstFitting-some (rules (kindOf k) n) u (s .place) (s .rule) (a .fitting) in
+      step-used k n u (record { place = s .place; output = before }) (s .rule)
+      (record { listed = f .0; fitting = f .1; accepted = h; inside = lt-leb (length u) (s .place) (a .inside); room = r })
+
+  used-at : (before out : List ℕ) (x : Rewrite) → Rewrote k n u (s .place) before out x → tooShort (length (after u s)) before ≡ false
+      → (x ≡ Used (s .rule .family) (s .rule .i) (s .rule .j) (length (after u s))) × (take (length (after u s)) out ≡ after u s)
+  unfolding usedStep
+  used-at before out x w r = (
+    w .answer ∙ ap (λ (t : Step). t .answer) (step-at before r),
+    ap (take (length (after u s))) (w .bytes ∙ ap (λ (t : Step). t .bytes) (step-at before r))
+        ∙ take-append-seam (after u s) (drop (length (after u s)) before),
+  )
+
+-- ---- replaying
+
+-- what is shown of a word of steps by induction along its rewriting, if it is accepted
+pub trace-replays : (k n : ℕ) (u : List ℕ) → AcceptedWord k n u → Replays k n u (trace (kindOf k) n u .lines) (trace (kindOf k) n u .final)
+trace-replays k n u h =
+    trace-induction (kindOf k) n (accepted-least h)
+    (λ u t. AcceptedWord k n u → Replays k n u (t .lines) (t .final))
+    (λ u e d g. (nowhereFits-iff k n u g .0 (irreducible-of-none (kindOf k) n u (accepted-least h) d), refl))
+    (λ u s e a ih g. (
+      none-below k n u g s a,
+      λ before out x w r.
+          let q = used-at k n u g s a before out x w r in (
+            (s .rule .i, s .rule .j, q .0),
+            subst (λ (v : List ℕ). Replays k n v (trace (kindOf k) n (after u s) .lines) (trace (kindOf k) n (after u s) .final)) (sym (q .1))
+                (ih (next-accepted k n u g s a)),
+          ),
+    ))
+    u (accepted-letters h) h
+
+-- ---- only one replay
+
+-- an output of any length
+room : (m : ℕ) → (out : List ℕ) × (length out ≡ m)
+room m = (replicate m 0, length-replicate m 0)
+
+has-room : (m : ℕ) (out : List ℕ) → m ≤ length out → tooShort m out ≡ false
+unfolding tooShort
+has-room m out l = le-ltb (length out) m l
+
+-- where a rule is used, one fits
+fits-of-used : (k n : ℕ) (u : List ℕ) (p : ℕ) (before : List ℕ) (f i j l : ℕ) → AcceptedWord k n u
+    → step k n u p before .answer ≡ Used f i j l → firstFitting (rules (kindOf k) n) u p ≡ none → ⊥
+fits-of-used k n u p before f i j l h e d =
+    let b = usable-of-used k n u (record { place = p; output = before }) h (subst IsUsed (sym e) tt) in
+    true≢false (sym (b .1 .fitting) ∙ firstFitting-none (rules (kindOf k) n) u p d (b .0) (b .1 .listed))
+
+same-line : (l m : Line) → l .family ≡ m .family → l .place ≡ m .place → l .left ≡ m .left → l ≡ m
+same-line l m f p e i = record { family = f i; place = p i; left = e i }
+
+abbrev Only : ℕ → ℕ → List ℕ → Trace → Type 0
+Only k n u t = AcceptedWord k n u → (ls : List Line) (v : List ℕ) → Replays k n u ls v → (ls ≡ t .lines) × (v ≡ t .final)
+
+module _ (k n : ℕ) (u : List ℕ) (h : AcceptedWord k n u) where
+  -- no line can be replayed where none fits
+  only-ends : lowestUse (kindOf k) n u ≡ none → (ls : List Line) (v : List ℕ) → Replays k n u ls v → (ls ≡ []) × (v ≡ u)
+  only-ends d [] v r = (refl, sym (r .1))
+  only-ends d (l ∷ ls) v r =
+      let o = room (l .left) in
+      let q = r .1 (o .0) _ _ (record { answer = refl; bytes = refl }) (has-room (l .left) (o .0) (omega (arith, o .1))) .0 in
+      absurd (fits-of-used k n u (l .place) (o .0) (l .family) (q .0) (q .1) (l .left) h (q .2) (none-firstFitting (rules (kindOf k) n) u (l .place)
+      (λ x m. irreducible-of-none (kindOf k) n u (accepted-least h) d x m (l .place))))
+
+  module _ (s : Use) (a : Lowest (kindOf k) n u s) where
+    used-with : (m : ℕ) → (o : List ℕ) × (m ≤ length o)
+        × (step k n u (s .place) o .answer ≡ Used (s .rule .family) (s .rule .i) (s .rule .j) (length (after u s)))
+        × (take (length (after u s)) (step k n u (s .place) o .bytes) ≡ after u s)
+    used-with m =
+        let o = room (m + length u) in
+        let q = used-at k n u h s a (o .0) _ _ (record { answer = refl; bytes = refl })
+        (has-room (length (after u s)) (o .0) (omega (arith, o .1, next-shorter k n u h s a))) in
+        (o .0, omega (arith, o .1), q .0, q .1)
+
+    only-goes : Only k n (after u s) (trace (kindOf k) n (after u s)) → (ls : List Line) (v : List ℕ) → Replays k n u ls v
+        → (ls ≡ lineOf u s ∷ trace (kindOf k) n (after u s) .lines) × (v ≡ trace (kindOf k) n (after u s) .final)
+    only-goes ih [] v r =
+        let o = used-with 0 in
+        let n = r .0 (s .place) (a .inside) (o .0) _ _ (record { answer = refl; bytes = refl }) in
+        let z : _≡_ {A = ℕ} 0 1 = cc in absurd (omega arith)
+    only-goes ih (l ∷ ls) v r =
+        let o = used-with (l .left) in
+        let q = r .1 (o .0) _ _ (record { answer = refl; bytes = refl }) (has-room (l .left) (o .0) (o .1)) in
+        elim (compared (l .place) (s .place)) [
+          | less g ↦ absurd (fits-of-used k n u (l .place) (o .0) (l .family) (q .0 .0) (q .0 .1) (l .left) h (q .0 .2) (a .below (l .place) g))
+          | same g ↦
+              let f : l .family ≡ s .rule .family = cc in
+              let e : l .left ≡ length (after u s) = cc in
+              let w : take (l .left) (step k n u (l .place) (o .0) .bytes) ≡ after u s =
+              ap₂ (λ (m p : ℕ). take m (step k n u p (o .0) .bytes)) e g ∙ o .3 in
+              let i = ih (next-accepted k n u h s a) ls v (subst (λ (y : List ℕ). Replays k n y ls v) w (q .1)) in
+              (ap₂ (λ (y : Line) (ys : List Line). y ∷ ys) (same-line l (lineOf u s) f g e) (i .0), i .1)
+          | more g ↦
+              let n = r .0 (s .place) g (o .0) _ _ (record { answer = refl; bytes = refl }) in
+              let z : _≡_ {A = ℕ} 0 1 = cc in absurd (omega arith)
+        ]
+
+-- whoever replays lines from the word replays the rewriting's
+pub replays-only : (k n : ℕ) (u : List ℕ) → AcceptedWord k n u → (ls : List Line) (v : List ℕ) → Replays k n u ls v
+    → (ls ≡ trace (kindOf k) n u .lines) × (v ≡ trace (kindOf k) n u .final)
+replays-only k n u h =
+    trace-induction (kindOf k) n (accepted-least h) (Only k n)
+    (λ u e d g. only-ends k n u g d) (λ u s e a ih g. only-goes k n u g s a ih) u (accepted-letters h) h
+
+-- ---- the number of steps
+
+-- the calls at the lines' places, each with its word's length as room
+record Replay (k n : ℕ) (u : List ℕ) (t : Trace) : Type 0 where
+  calls : List Call
+  run : Run k n u calls
+  counted : uses calls ≡ length (t .lines)
+
+replay-goes : (k n : ℕ) (u : List ℕ) (h : AcceptedWord k n u) (s : Use) → Lowest (kindOf k) n u s
+    → Replay k n (after u s) (trace (kindOf k) n (after u s))
+    → Replay k n u (continued u s (trace (kindOf k) n (after u s)))
+unfolding wordAfter uses usedStep
+replay-goes k n u h s a r =
+    let v = after u s in
+    let e = step-at k n u h s a u (has-room (length v) u (next-shorter k n u h s a)) in
+    record {
+      calls = record {
+        lent = record { place = s .place; output = u };
+        told = record { answer = Used (s .rule .family) (s .rule .i) (s .rule .j) (length v); output = atFront v u };
+      } ∷ r .calls;
+      run = (
+        record { answer = sym (ap (λ (t : Step). t .answer) e); bytes = sym (ap (λ (t : Step). t .bytes) e) },
+        subst (λ (w : List ℕ). Run k n w (r .calls)) (sym (take-append-seam v (drop (length v) u))) (r .run),
+      );
+      counted = ap suc (r .counted);
+    }
+
+-- "one number, the same for all lists, and no list has more calls that use a rule" (document 01): the rewriting has no more steps
+pub trace-at-most : (k n : ℕ) (u : List ℕ) → AcceptedWord k n u → (d : Demand3 k n u) → length (trace (kindOf k) n u .lines) ≤ d .most
+unfolding uses
+trace-at-most k n u h d =
+    let r =
+    trace-induction (kindOf k) n (accepted-least h) (λ u t. AcceptedWord k n u → Replay k n u t)
+    (λ u e d g. record { calls = []; run = tt; counted = refl }) (λ u s e a ih g. replay-goes k n u g s a (ih (next-accepted k n u g s a)))
+    u (accepted-letters h) h in
+    omega (arith, r .counted, d .follows (r .calls) (r .run) .uses-at-most)
+
+-- ---- what a call writes
+
+take-mapped : (m : ℕ) (f : Line → ℕ) (ls : List Line) (out : List ℕ) → length ls ≡ m → take m (atFront (map f ls) out) ≡ map f ls
+take-mapped m f ls out e = take-at (map f ls) (drop (length (map f ls)) out) m (length-map ls f ∙ e)
+
+-- a call that ends was not refused with q, and wrote the lines and the final word
+pub written-front : {q : ℕ} {t : Trace} {families places lengths out : List ℕ} {a : Traced} (s l : ℕ) → Written q t families places lengths out a
+    → a .answer ≡ Ended s l
+    → (q ≡ 0) × (length (t .lines) ≡ s) × (length (t .final) ≡ l)
+    × (take s (a .families) ≡ familiesOf (t .lines)) × (take s (a .places) ≡ placesOf (t .lines))
+    × (take s (a .lengths) ≡ lengthsOf (t .lines)) × (take l (a .bytes) ≡ t .final)
+written-front s l (refused r) e = let z : _≡_ {A = ℕ} 0 1 = cc in absurd (omega arith)
+written-front {t} {families} {places} {lengths} {out} s l (ended z) e =
+    let steps : length (t .lines) ≡ s = cc in
+    let final : length (t .final) ≡ l = cc in (
+      z,
+      steps,
+      final,
+      take-mapped s (λ (m : Line). m .family) (t .lines) families steps,
+      take-mapped s (λ (m : Line). m .place) (t .lines) places steps,
+      take-mapped s (λ (m : Line). m .left) (t .lines) lengths steps,
+      take-at (t .final) (drop (length (t .final)) out) l final,
+    )
+
+-- the first l bytes of the output are the normal form and the others stay; the first s places of the three lists are the families, places and lengths
+-- of lines that any reader can replay from the word to the normal form
+pub toEnd-wrote : (k n : ℕ) (u families places lengths out : List ℕ) (s l : ℕ)
+    → rewritingToEnd k n u families places lengths out .answer ≡ Ended s l
+    → let t = rewritingToEnd k n u families places lengths out in
+    let v = wordNormalForm (kindOf k) n u in
+    (length v ≡ l) × (take l (t .bytes) ≡ v) × (drop l (t .bytes) ≡ drop l out)
+    × ((ls : List Line) × (length ls ≡ s) × (take s (t .families) ≡ familiesOf ls) × (take s (t .places) ≡ placesOf ls)
+    × (take s (t .lengths) ≡ lengthsOf ls) × Replays k n u ls v)
+unfolding rewritingToEnd
+toEnd-wrote k n u families places lengths out s l e =
+    let w = written-front s l (tracedBy-written _ _ families places lengths out) e in
+    let z = then-zero (rankRefusal k n) (wordRefusal n u) (w .0) in
+    let h : AcceptedWord k n u = record { rank = z .0; word = z .1 } in
+    let f = trace-normalForm (kindOf k) n (accepted-least h) u (accepted-letters h) in (
+      ap (λ (v : List ℕ). length v) (sym f) ∙ w .2,
+      w .6 ∙ f,
+      toEnd-past k n u families places lengths out s l e .3,
+      (trace (kindOf k) n u .lines, w .1, w .3, w .4, w .5, subst (Replays k n u (trace (kindOf k) n u .lines)) f (trace-replays k n u h)),
+    )

@@ -1,0 +1,223 @@
+-- What is left of a rewriting to its end while its steps are noted in three lists: how many steps there will be, what the lists will hold and which word
+-- will stand, from any word on the way. Each step noted keeps it, and at a normal form nothing is left.
+--
+-- Sections: what is left; a step; the end; a letter that moves; the whole.
+-- Assumes nothing.
+use mathlib.Core.Path.{_≡_, refl, sym, ap, subst, _∙_}
+use mathlib.Core.Bool.{false}
+use mathlib.Core.List.{List, _∷_, _++_}
+use mathlib.Core.Option.{none, some}
+use Prim.Native.Nat.{ℕ, suc, _+_, _-_, _*_, _≤_}
+use native.Mathlib.Nat.{add-zero, add-suc, suc-add, mul-le-mul}
+use native.Mathlib.Numerals.{add-one}
+use native.Mathlib.Omega.{arith}
+use lib.ListN.{length, take, set, length-append, length-set}
+use lib.Seq.{sets, take-length}
+use Rattle.coxeter.specs.Kinds.{Kind, kindOf, least}
+use Rattle.coxeter.specs.Checks.{wrongLetter}
+use Rattle.coxeter.proofs.Acceptance.{rank-within, letters-accepted, length-accepted}
+use Rattle.rules.specs.Runs.{AcceptedWord}
+use Rattle.traces.specs.Traces.{Use, lowestUse, Line, Trace, trace, familiesOf, placesOf, lengthsOf}
+use Rattle.traces.proofs.Traces.{after, lineOf, lowest-is, none-of-irreducible, trace-none, trace-some}
+use Rattle.traces.proofs.LeastWords.{letters-append, Normal}
+use Rattle.traces.proofs.Reading.{Reading, reading-lowest, after-rest, reading-ends, reading-dropped, reading-moved, steps-at-most}
+use Rattle.traces.proofs.ReadingSteps.{length-dropped, after-moved}
+
+-- ---- what is left
+
+-- the number of steps, what the lists hold and the word, at the end
+pub record Finished : Type 0 where
+  pub steps : ℕ
+  pub families : List ℕ
+  pub places : List ℕ
+  pub lengths : List ℕ
+  pub final : List ℕ
+
+-- after s steps that are noted in the lists, the steps of t are noted behind them
+unfoldable pub finishWith : ℕ → List ℕ → List ℕ → List ℕ → Trace → Finished
+finishWith s families places lengths t = record {
+  steps = s + length (t .lines);
+  families = sets families s (familiesOf (t .lines));
+  places = sets places s (placesOf (t .lines));
+  lengths = sets lengths s (lengthsOf (t .lines));
+  final = t .final;
+}
+
+-- the steps of the rewriting of u
+abbrev pub finish : Kind → ℕ → ℕ → List ℕ → List ℕ → List ℕ → List ℕ → Finished
+finish k n s families places lengths u = finishWith s families places lengths (trace k n u)
+
+-- ---- a step
+
+module _ (s : ℕ) (families places lengths : List ℕ) where
+  with-line : (l : Line) (t : Trace) → finishWith s families places lengths (record { lines = l ∷ t .lines; final = t .final })
+      ≡ finishWith (s + 1) (set families s (l .family)) (set places s (l .place)) (set lengths s (l .left)) t
+  unfolding finishWith
+  with-line l t = rw add-one (λ i. record {
+    steps = (add-suc s (length (t .lines)) ∙ sym (suc-add s (length (t .lines)))) i;
+    families = sets (set families s (l .family)) (suc s) (familiesOf (t .lines));
+    places = sets (set places s (l .place)) (suc s) (placesOf (t .lines));
+    lengths = sets (set lengths s (l .left)) (suc s) (lengthsOf (t .lines));
+    final = t .final;
+  })
+
+  module _ (k : Kind) (n : ℕ) (h : least k ≤ n) where
+    pub finish-step : (z : List ℕ) (q : ℕ) (rest : List ℕ) → Reading k n z q → wrongLetter n rest ≡ false → (u : Use)
+        → lowestUse k n (take (suc q) z) ≡ some u
+        → finish k n s families places lengths (z ++ rest)
+        ≡ finish k n (s + 1) (set families s (u .rule .family)) (set places s (u .place)) (set lengths s (length (after z u) + length rest)) (after z u ++ rest)
+    finish-step z q rest r l u e =
+        let b = after-rest k n h z q r u e rest in
+        let c : length (after (z ++ rest) u) ≡ length (after z u) + length rest = ap length b ∙ length-append (after z u) rest in
+        ap (finishWith s families places lengths)
+        (trace-some k n h (z ++ rest) u (letters-append n z rest (r .letters) l) (lowest-is k n (z ++ rest) u (reading-lowest k n h z q r u e rest)))
+        ∙ with-line (lineOf (z ++ rest) u) (trace k n (after (z ++ rest) u))
+        ∙ rw (c, b)
+
+    -- ---- the end
+
+    pub finish-end : (w : List ℕ) → Normal k n w
+        → finish k n s families places lengths w ≡ record { steps = s; families = families; places = places; lengths = lengths; final = w }
+    unfolding finishWith
+    finish-end w m = rw (trace-none k n h w (none-of-irreducible k n w (m .irreducible))) (λ i. record {
+      steps = add-zero s i;
+      families = families;
+      places = places;
+      lengths = lengths;
+      final = w;
+    })
+
+-- ---- a letter that moves
+
+-- the letter at place q of `word` moves, the rest follows, and s steps were made before: so many numbers fit, and the three lists are equally long
+pub record Ready (k : Kind) (n : ℕ) (rest : List ℕ) (s : ℕ) (families places lengths word : List ℕ) (q : ℕ) : Type 0 where
+  pub rank : least k ≤ n
+  pub high : n ≤ 64
+  pub reading : Reading k n word q
+  pub letters : wrongLetter n rest ≡ false
+  pub short : length word + length rest ≤ 4096
+  pub room : s + length (trace k n (word ++ rest) .lines) ≤ 8386560
+  pub as-places : length places ≡ length families
+  pub as-lengths : length lengths ≡ length families
+
+-- steps were made and noted, none of family 1: the word is as long as before, and the letter has come to place q
+pub record Carried (k : Kind) (n : ℕ) (rest : List ℕ) (s : ℕ) (families places lengths word : List ℕ) (s′ : ℕ)
+    (families′ places′ lengths′ word′ : List ℕ) (q : ℕ) : Type 0 where
+  pub reading : Reading k n word′ q
+  pub same : finish k n s families places lengths (word ++ rest) ≡ finish k n s′ families′ places′ lengths′ (word′ ++ rest)
+  pub size : length word′ ≡ length word
+  pub families-size : length families′ ≡ length families
+  pub places-size : length places′ ≡ length places
+  pub lengths-size : length lengths′ ≡ length lengths
+
+-- steps were made and noted, and a normal form of `size` letters stands at the front of `word′`
+pub record Inserted (k : Kind) (n : ℕ) (rest : List ℕ) (s : ℕ) (families places lengths word : List ℕ) (s′ : ℕ)
+    (families′ places′ lengths′ word′ : List ℕ) (size : ℕ) : Type 0 where
+  pub inside : size ≤ length word
+  pub normal : Normal k n (take size word′)
+  pub same : finish k n s families places lengths (word ++ rest) ≡ finish k n s′ families′ places′ lengths′ (take size word′ ++ rest)
+
+pub finish-steps : (k : Kind) (n s : ℕ) (families places lengths u : List ℕ) (s′ : ℕ) (families′ places′ lengths′ v : List ℕ)
+    → finish k n s families places lengths u ≡ finish k n s′ families′ places′ lengths′ v
+    → s + length (trace k n u .lines) ≡ s′ + length (trace k n v .lines)
+unfolding finishWith
+finish-steps k n s families places lengths u s′ families′ places′ lengths′ v e = ap (λ (f : Finished). f .steps) e
+
+module _ {k : Kind} {n : ℕ} {rest : List ℕ} {s : ℕ} {families places lengths word : List ℕ} where
+  pub carried-start : {q : ℕ} → Ready k n rest s families places lengths word q
+      → Carried k n rest s families places lengths word s families places lengths word q
+  carried-start a = record { reading = a .reading; same = refl; size = refl; families-size = refl; places-size = refl; lengths-size = refl }
+
+  module _ {s′ : ℕ} {families′ places′ lengths′ word′ : List ℕ} {q′ : ℕ}
+      (b : Carried k n rest s families places lengths word s′ families′ places′ lengths′ word′ q′) where
+    pub carried-ready : {q : ℕ} → Ready k n rest s families places lengths word q → Ready k n rest s′ families′ places′ lengths′ word′ q′
+    carried-ready a = record {
+      rank = a .rank;
+      high = a .high;
+      reading = b .reading;
+      letters = a .letters;
+      short = omega (arith, b .size, a .short);
+      room = omega (arith, a .room, finish-steps k n s families places lengths _ s′ families′ places′ lengths′ _ (b .same));
+      as-places = b .places-size ∙ a .as-places ∙ sym (b .families-size);
+      as-lengths = b .lengths-size ∙ a .as-lengths ∙ sym (b .families-size);
+    }
+
+    pub carried-trans : {s″ : ℕ} {families″ places″ lengths″ word″ : List ℕ} {q″ : ℕ}
+        → Carried k n rest s′ families′ places′ lengths′ word′ s″ families″ places″ lengths″ word″ q″
+        → Carried k n rest s families places lengths word s″ families″ places″ lengths″ word″ q″
+    carried-trans c = record {
+      reading = c .reading;
+      same = b .same ∙ c .same;
+      size = c .size ∙ b .size;
+      families-size = c .families-size ∙ b .families-size;
+      places-size = c .places-size ∙ b .places-size;
+      lengths-size = c .lengths-size ∙ b .lengths-size;
+    }
+
+  module _ {q : ℕ} (a : Ready k n rest s families places lengths word q) (u : Use) (e : lowestUse k n (take (suc q) word) ≡ some u) where
+    -- a step that is noted, of any family but 1
+    pub carried-step : (s′ : ℕ) (families′ places′ lengths′ word′ : List ℕ) → (u .rule .family ≡ 1 → ⊥) → s′ ≡ s + 1 → families′ ≡ set families s (u .rule .family)
+        → places′ ≡ set places s (u .place) → lengths′ ≡ set lengths s (length word + length rest) → word′ ≡ after word u
+        → Carried k n rest s families places lengths word s′ families′ places′ lengths′ word′ (u .place)
+    carried-step s′ families′ places′ lengths′ word′ f i j l m o =
+        let b = after-moved k n (a .rank) word q (a .reading) u e f in
+        record {
+          reading = subst (λ (w : List ℕ). Reading k n w (u .place)) (sym o) (reading-moved k n (a .rank) word q (a .reading) u e f);
+          same =
+              finish-step s families places lengths k n (a .rank) word q rest (a .reading) (a .letters) u e
+              ∙ rw (i, j, l, m, o, b .0);
+          size = ap length o ∙ b .0;
+          families-size = ap length j ∙ length-set families s (u .rule .family);
+          places-size = ap length l ∙ length-set places s (u .place);
+          lengths-size = ap length m ∙ length-set lengths s (length word + length rest);
+        }
+
+    -- a step of family 1
+    pub inserted-step : (s′ : ℕ) (families′ places′ lengths′ word′ : List ℕ) (size : ℕ) → u .rule .family ≡ 1 → s′ ≡ s + 1
+        → families′ ≡ set families s (u .rule .family) → places′ ≡ set places s (u .place) → size + 2 ≡ length word
+        → lengths′ ≡ set lengths s (size + length rest) → take size word′ ≡ after word u
+        → Inserted k n rest s families places lengths word s′ families′ places′ lengths′ word′ size
+    inserted-step s′ families′ places′ lengths′ word′ size f i j l p m o =
+        let b = length-dropped k n (a .rank) word q (a .reading) u e f in
+        let d : length (after word u) ≡ size = omega (arith, b) in
+        record {
+          inside = omega arith;
+          normal = subst (Normal k n) (sym o) (reading-dropped k n (a .rank) word q (a .reading) u e f);
+          same =
+              finish-step s families places lengths k n (a .rank) word q rest (a .reading) (a .letters) u e
+              ∙ rw (i, j, l, m, o, d);
+        }
+
+  -- no rule ends with the letter
+  pub inserted-end : {q : ℕ} → Ready k n rest s families places lengths word q → lowestUse k n (take (suc q) word) ≡ none → (size : ℕ) → size ≡ length word
+      → Inserted k n rest s families places lengths word s families places lengths word size
+  inserted-end {q} a e size l =
+      let w : take size word ≡ word = rw l (take-length word) in
+      record {
+        inside = omega arith;
+        normal = subst (Normal k n) (sym w) (reading-ends k n (a .rank) word q (a .reading) e);
+        same = rw w;
+      }
+
+  -- what was carried before
+  pub inserted-after : {s′ : ℕ} {families′ places′ lengths′ word′ : List ℕ} {q′ : ℕ}
+      → Carried k n rest s families places lengths word s′ families′ places′ lengths′ word′ q′
+      → {s″ : ℕ} {families″ places″ lengths″ word″ : List ℕ} {size : ℕ}
+      → Inserted k n rest s′ families′ places′ lengths′ word′ s″ families″ places″ lengths″ word″ size
+      → Inserted k n rest s families places lengths word s″ families″ places″ lengths″ word″ size
+  inserted-after b c = record { inside = omega (arith, c .inside, b .size); normal = c .normal; same = b .same ∙ c .same }
+
+-- ---- the whole
+
+-- a word that passes its checks takes at most 4,096 · 4,095 / 2 steps
+pub steps-few : (k n : ℕ) (u : List ℕ) → AcceptedWord k n u → length (trace (kindOf k) n u .lines) ≤ 8386560
+steps-few k n u h =
+    let l = length-accepted n u (h .word) in
+    let m : length u * (length u - 1) ≤ 4096 * 4095 = mul-le-mul {n₁ = length u} {m₁ = length u - 1} {n₂ = 4096} {m₂ = 4095} l (omega arith) in
+    omega (arith, steps-at-most (kindOf k) n (rank-within k n (h .rank) .0) u (letters-accepted n u (h .word)))
+
+-- the whole rewriting of a word was made: it has so many steps, which stand in the lists, and its final word is at the front of `work`
+pub record Made (k : Kind) (n : ℕ) (word families places lengths : List ℕ) (steps : ℕ) (families′ places′ lengths′ work : List ℕ) (size : ℕ) : Type 0 where
+  pub inside : size ≤ length work
+  pub all : finish k n 0 families places lengths word
+      ≡ record { steps = steps; families = families′; places = places′; lengths = lengths′; final = take size work }

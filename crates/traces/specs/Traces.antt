@@ -1,0 +1,134 @@
+-- The rewriting to its end, step by step (document 02, request 2), and what its two calls answer, for every input.
+use mathlib.Core.Path.{_≡_}
+use mathlib.Core.Bool.{Bool, false, _||_}
+use mathlib.Core.List.{List, [], _∷_, map}
+use mathlib.Core.Option.{Option, none, some}
+use Prim.Native.Nat.{ℕ, zero, suc, _+_, _^_, _<_}
+use lib.Dec.{eqb}
+use lib.ListN.{length, take}
+use Rattle.coxeter.specs.declared.Answer.{Answer}
+use Rattle.coxeter.specs.Kinds.{Kind, pick, kindOf}
+use Rattle.coxeter.specs.Checks.{check, _then_, tooShort, rankRefusal, wordRefusal}
+use Rattle.coxeter.specs.Calls.{answerOf, written}
+use Rattle.rules.specs.declared.Rewrite.{Rewrite}
+use Rattle.rules.specs.declared.Rewrite.the-variants.{Used, NoneFits}
+use Rattle.rules.specs.Rules.{Rule, rules, firstFitting, rewritten}
+use Rattle.rules.specs.Calls.{Rewrote}
+use Rattle.rules.specs.Demand3.{NowhereFits}
+use Rattle.traces.specs.declared.ToEnd.{ToEnd}
+use Rattle.traces.specs.declared.ToEnd.the-variants.{Ended, Refused}
+
+-- ---- the rewriting
+
+-- a rule that fits, and its place
+pub record Use : Type 0 where
+  pub place : ℕ
+  pub rule : Rule
+
+-- "the lowest place where a rule fits", among the t places from p on
+unfoldable pub lowestFrom : Kind → ℕ → List ℕ → ℕ → ℕ → Option Use
+lowestFrom k n u p zero = none
+lowestFrom k n u p (suc t) =
+    elim (firstFitting (rules k n) u p) [ none ↦ lowestFrom k n u (suc p) t | some r ↦ some (record { place = p; rule = r }) ]
+
+-- among all places of the word
+unfoldable pub lowestUse : Kind → ℕ → List ℕ → Option Use
+lowestUse k n u = lowestFrom k n u 0 (length u)
+
+-- a step of the rewriting: "the rule family, the place and the length left", which is the word's length after the step
+pub record Line : Type 0 where
+  pub family : ℕ
+  pub place : ℕ
+  pub left : ℕ
+
+-- the steps in their order, and "the final word"
+pub record Trace : Type 0 where
+  pub lines : List Line
+  pub final : List ℕ
+
+-- "rewrite always at the lowest place where a rule fits, until none fits", but no more than t times
+unfoldable pub traceWithin : Kind → ℕ → ℕ → List ℕ → Trace
+traceWithin k n zero u = record { lines = []; final = u }
+traceWithin k n (suc t) u = elim (lowestUse k n u) [
+  | none ↦ record { lines = []; final = u }
+  | some s ↦
+      let v = rewritten (s .rule) u (s .place) in
+      let rest = traceWithin k n t v in
+      record { lines = record { family = s .rule .family; place = s .place; left = length v } ∷ rest .lines; final = rest .final }
+]
+
+-- That many steps are enough for a word of steps: at the end none fits (`trace-ends`), and a greater number gives the same (`trace-enough`).
+unfoldable pub trace : Kind → ℕ → List ℕ → Trace
+trace k n u = traceWithin k n ((n + 1) ^ length u) u
+
+-- ---- the calls
+
+-- "15. One of the three lists has fewer places than the rewriting has steps."
+unfoldable pub tooFewPlaces : ℕ → List ℕ → List ℕ → List ℕ → Bool
+tooFewPlaces steps families places lengths = tooShort steps families || (tooShort steps places || tooShort steps lengths)
+
+-- "Three lent lists of numbers are filled"
+abbrev pub familiesOf : List Line → List ℕ
+familiesOf ls = map (λ (l : Line). l .family) ls
+
+abbrev pub placesOf : List Line → List ℕ
+placesOf ls = map (λ (l : Line). l .place) ls
+
+abbrev pub lengthsOf : List Line → List ℕ
+lengthsOf ls = map (λ (l : Line). l .left) ls
+
+-- the number and the values of each case of `ToEnd`: its refusal, or with none "the number of steps and the final word's length"
+unfoldable pub toEndOf : ℕ → ℕ → ℕ → ToEnd
+toEndOf r s l = pick (eqb r 0) (Ended s l) (Refused r)
+
+-- the answer, the numbers in the three lists and the bytes of the output afterwards
+pub record Traced : Type 0 where
+  pub answer : ToEnd
+  pub families : List ℕ
+  pub places : List ℕ
+  pub lengths : List ℕ
+  pub bytes : List ℕ
+
+-- refused with q before check 15, or else 15, "checked just before refusal 14", or else 14, or else the lines and the final word are written; "list
+-- places past the steps keep what they held"
+unfoldable pub tracedBy : ℕ → Trace → List ℕ → List ℕ → List ℕ → List ℕ → Traced
+tracedBy q t families places lengths out =
+    let steps = length (t .lines) in
+    let r = q then check 15 (tooFewPlaces steps families places lengths) then check 14 (tooShort (length (t .final)) out) in
+    record {
+      answer = toEndOf r steps (length (t .final));
+      families = written r (familiesOf (t .lines)) families;
+      places = written r (placesOf (t .lines)) places;
+      lengths = written r (lengthsOf (t .lines)) lengths;
+      bytes = written r (t .final) out;
+    }
+
+-- checks 5 to 8, then as above
+unfoldable pub rewritingToEnd : ℕ → ℕ → List ℕ → List ℕ → List ℕ → List ℕ → List ℕ → Traced
+rewritingToEnd k n u families places lengths out =
+    tracedBy (rankRefusal k n then wordRefusal n u) (trace (kindOf k) n u) families places lengths out
+
+-- a call answers a and leaves these in the lists and the output, as the outcome t says
+abbrev pub TraceYields : Traced → ToEnd → List ℕ → List ℕ → List ℕ → List ℕ → Type 0
+TraceYields t a families places lengths out =
+    (a ≡ t .answer) × (families ≡ t .families) × (places ≡ t .places) × (lengths ≡ t .lengths) × (out ≡ t .bytes)
+
+-- how many places each list must have
+unfoldable pub numberOfSteps : ℕ → ℕ → List ℕ → Answer
+numberOfSteps k n u = answerOf (rankRefusal k n then wordRefusal n u) (length (trace (kindOf k) n u .lines))
+
+-- ---- what a reader of the lists sees
+
+-- at every place below p the single rewrite answers that none fits, with any output
+abbrev pub NoneFitsBelow : ℕ → ℕ → List ℕ → ℕ → Type 0
+NoneFitsBelow k n u p =
+    (q : ℕ) → q < p → (before after : List ℕ) (a : Rewrite) → Rewrote k n u q before after a → a ≡ NoneFits
+
+-- "Any reader can replay the lists with 01's single rewrite": from the word u, with any outputs that have room, each rewrite at a line's place uses a
+-- rule of its family and leaves a word of its length; no rule fits at a lower place; after the last line none fits anywhere and the word is v
+abbrev pub Replays : ℕ → ℕ → List ℕ → List Line → List ℕ → Type 0
+Replays k n u [] v = NowhereFits k n u × (u ≡ v)
+Replays k n u (l ∷ ls) v =
+    NoneFitsBelow k n u (l .place)
+    × ((before after : List ℕ) (a : Rewrite) → Rewrote k n u (l .place) before after a → tooShort (l .left) before ≡ false
+    → ((i j : ℕ) × (a ≡ Used (l .family) i j (l .left))) × Replays k n (take (l .left) after) ls v)
