@@ -4,8 +4,8 @@ use mathlib.Core.Path.{_≡_}
 use Prim.Native.Nat.{_≤_}
 use lib.ListN.{length}
 use borrow.Author.Needs.{needs}
-use Rattle.worked_examples.proofs.digits.put_digits.Statement.{statement}
-use Rattle.worked_examples.proofs.digits.put_digits.Tie as tie
+use Rattle.test_worked_examples.proofs.digits.put_digits.Statement.{statement}
+use Rattle.test_worked_examples.proofs.digits.put_digits.Tie as tie
 
 abbrev Inv-loop : tie.InvT-loop
 Inv-loop out₀ digits at₀ rest₀ out at rest = (length out ≡ length out₀) × (at ≤ length out₀)

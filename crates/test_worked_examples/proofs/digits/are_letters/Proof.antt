@@ -3,8 +3,8 @@
 use Prim.Native.Nat.{_≤_}
 use lib.ListN.{length}
 use borrow.Author.Needs.{needs}
-use Rattle.worked_examples.proofs.digits.are_letters.Statement.{statement}
-use Rattle.worked_examples.proofs.digits.are_letters.Tie as tie
+use Rattle.test_worked_examples.proofs.digits.are_letters.Statement.{statement}
+use Rattle.test_worked_examples.proofs.digits.are_letters.Tie as tie
 
 abbrev Inv-loop : tie.InvT-loop
 Inv-loop word digits at₀ rest₀ at rest = at ≤ length word

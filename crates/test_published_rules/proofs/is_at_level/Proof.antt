@@ -2,8 +2,8 @@
 -- Assumes nothing.
 use Prim.Native.Nat.{_-_}
 use borrow.Author.Needs.{needs}
-use Rattle.published_rules.proofs.is_at_level.Statement.{statement}
-use Rattle.published_rules.proofs.is_at_level.Tie as tie
+use Rattle.test_published_rules.proofs.is_at_level.Statement.{statement}
+use Rattle.test_published_rules.proofs.is_at_level.Tie as tie
 
 abbrev Inv-loop : tie.InvT-loop
 Inv-loop n m rule x₀ x = Unit {0}

@@ -2,8 +2,8 @@
 -- Assumes nothing.
 use Prim.Native.Nat.{_+_, _-_, _*_, _≤_}
 use borrow.Author.Needs.{needs}
-use Rattle.published_rules.proofs.count.Statement.{statement}
-use Rattle.published_rules.proofs.count.Tie as tie
+use Rattle.test_published_rules.proofs.count.Statement.{statement}
+use Rattle.test_published_rules.proofs.count.Tie as tie
 
 abbrev Inv-loop : tie.InvT-loop
 Inv-loop published from to held₀ x₀ held x = 524288 ≤ x

@@ -2,8 +2,8 @@
 -- Assumes nothing.
 use Prim.Native.Nat.{_-_}
 use native.Mathlib.Omega.{arith}
-use Rattle.listing_books.proofs.main.Statement.{statement}
-use Rattle.listing_books.proofs.main.Tie as tie
+use Rattle.test_listing_books.proofs.main.Statement.{statement}
+use Rattle.test_listing_books.proofs.main.Tie as tie
 
 abbrev Inv-loop : tie.InvT-loop
 Inv-loop count i₀ i = Unit {0}

@@ -2,8 +2,8 @@
 -- Assumes nothing.
 use Prim.Native.Nat.{_-_}
 use borrow.Author.Needs.{needs}
-use Rattle.published_rules.proofs.sides.have_same_sides.Statement.{statement}
-use Rattle.published_rules.proofs.sides.have_same_sides.Tie as tie
+use Rattle.test_published_rules.proofs.sides.have_same_sides.Statement.{statement}
+use Rattle.test_published_rules.proofs.sides.have_same_sides.Tie as tie
 
 abbrev Inv-loop : tie.InvT-loop
 Inv-loop a b t₀ t = Unit {0}

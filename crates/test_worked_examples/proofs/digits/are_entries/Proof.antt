@@ -3,8 +3,8 @@
 use Prim.Native.Nat.{_≤_}
 use lib.ListN.{length}
 use borrow.Author.Needs.{needs}
-use Rattle.worked_examples.proofs.digits.are_entries.Statement.{statement}
-use Rattle.worked_examples.proofs.digits.are_entries.Tie as tie
+use Rattle.test_worked_examples.proofs.digits.are_entries.Statement.{statement}
+use Rattle.test_worked_examples.proofs.digits.are_entries.Tie as tie
 
 abbrev Inv-loop : tie.InvT-loop
 Inv-loop w sizes signs at₀ size₀ sign₀ at size sign = at ≤ length w

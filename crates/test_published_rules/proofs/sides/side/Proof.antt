@@ -4,8 +4,8 @@ use mathlib.Core.Path.{_≡_}
 use Prim.Native.Nat.{_-_}
 use lib.ListN.{length}
 use borrow.Author.Needs.{needs}
-use Rattle.published_rules.proofs.sides.side.Statement.{statement}
-use Rattle.published_rules.proofs.sides.side.Tie as tie
+use Rattle.test_published_rules.proofs.sides.side.Statement.{statement}
+use Rattle.test_published_rules.proofs.sides.side.Tie as tie
 
 abbrev Inv-loop : tie.InvT-loop
 Inv-loop rule from side₀ t₀ side t = length side ≡ 128
