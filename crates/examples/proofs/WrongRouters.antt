@@ -71,10 +71,10 @@ use Rattle.listing_text.specs.Text.{digits, decimal, spaced, letters, entry, en
 use Rattle.listing_text.specs.Calls.{lineCountBy, lineCount, firstLine, line, lines, fitting, nextPiece}
 use Rattle.book_format.proofs.BookLaws.{accepted}
 use Rattle.book_format.proofs.Vectors.{too-large-book, appending-too-large, converting-too-large}
-use Rattle.examples.specs.WrongBooks.{bookOf65536Bytes, roomBeforeTheSizeLimit, sizeLimitOfTheOldBook}
-use Rattle.examples.specs.WrongTraces.{behindLast, ones}
-use Rattle.examples.specs.WrongRouters as told
-use Rattle.examples.specs.WrongRouters.{Told, WrongRouter, table}
+use Rattle.examples.proofs.WrongBooks.{bookOf65536Bytes, roomBeforeTheSizeLimit, sizeLimitOfTheOldBook}
+use Rattle.examples.proofs.WrongTraces.{behindLast, ones}
+use Rattle.examples.proofs.WrongAnswers as told
+use Rattle.examples.proofs.WrongAnswers.{Told, WrongRouter, table}
 
 -- ---- the test
 

@@ -1,4 +1,5 @@
--- Wrong answers of the checks and of the calls on words and windows, each of the type of its call's definition. WrongRouters.antt says where each is wrong.
+-- Wrong answers of the checks and of the calls on words and windows, each of the type of its call's definition. WrongAnswers.antt says where each is wrong.
+-- Assumes nothing.
 use mathlib.Core.Bool.{Bool, true, false, _&&_, _||_}
 use mathlib.Core.List.{List, [], _∷_, _++_, map}
 use Prim.Native.Nat.{ℕ, zero, suc, _+_, _-_, _*_}

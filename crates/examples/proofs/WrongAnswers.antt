@@ -1,7 +1,8 @@
 -- Wrong routers (document 01, "What contracts have to settle", point c, and "Mistakes close at hand"; and others): a wrong answer for each, and an
 -- input at which the call's definition says otherwise. A contract that is an equation with the definition then lets none of them through. The wrong answers
--- are in WrongWindows, WrongRewrites, WrongTraces, WrongShortest, WrongSplits, WrongTables and WrongBooks; that each row is wrong is `ruled-out` of proofs/WrongRouters.antt.
--- Not here: those that show only at books too large to compute with, parts handed back and places kept; they too are in that file.
+-- are in WrongWindows, WrongRewrites, WrongTraces, WrongShortest, WrongSplits, WrongTables and WrongBooks; that each row is wrong is `ruled-out` of
+-- WrongRouters.antt. Not here: those that show only at books too large to compute with, parts handed back and places kept; they too are in that file.
+-- Assumes nothing.
 use mathlib.Core.List.{List, [], _∷_}
 use Prim.Native.Nat.{ℕ}
 use lib.IntN.{ℤ, pos, natAbs}
@@ -28,29 +29,29 @@ use Rattle.book_format.specs.Conversion.{converting}
 use Rattle.listing_text.specs.Text.{refusedLine, refusedBookLine, countLine, wordLine}
 use Rattle.listing_text.specs.Calls.{Piecing, nextPiece}
 use Rattle.examples.specs.Examples.{neg}
-use Rattle.examples.specs.WrongWindows.{lanesAsTheRank, oneLaneMoreInEveryKind, sizeOneLess, size127AtMost, zeroIsNegative, noneIsNegative}
-use Rattle.examples.specs.WrongWindows.{refusesEveryKind, rank64InA, letterZeroAccepted, wordOf4097Letters}
-use Rattle.examples.specs.WrongWindows.{wordChecks, lettersBeforeTheRank, rankUnchecked, presetsChecks, secondPresetFirst, bothRanksFirst, wordsChecks, secondWordFirst, secondWordUnchecked}
-use Rattle.examples.specs.WrongWindows.{windowChecks, windowBeforeTheRank, oddNegativesRefusedInB, windowsChecks, secondWindowFirst, secondWindowUnchecked}
-use Rattle.examples.specs.WrongWindows.{turnsEveryPresetDown, straightForAllWords, exchangesValues, stepOfBInD, refusedCallWrites, clearsTheOutput}
-use Rattle.examples.specs.WrongWindows.{unshortenedWord, peelsOnlyBlock1, stopsAtAShortestWord, roomForTheRankOnly}
-use Rattle.examples.specs.WrongWindows.{block1Alone, entriesBeforeLanes, oddNegativesAccepted, blockTurnsEarlyInB, indexOneOffOnTheWayDown, lastEntryKeptInD}
-use Rattle.examples.specs.WrongWindows.{productInWrongOrder, secondWindowCheckedFirst, windowAsItsInverse, inverseWithoutSigns}
-use Rattle.examples.specs.WrongWindows.{wordsJoinedTheOtherWay, wordsJoinedUnshortened, wordAsItsInverse, reversedUnshortened}
-use Rattle.examples.specs.WrongWindows.{letterTotal, usualOrderOfAWindow, usualOrderOfAWord, negativesNotCounted, negatesBeforeItsRange}
-use Rattle.examples.specs.WrongWindows.{ranksNotCompared, kindsCompared, kindOfTheFirstForBoth, secondPresetRefusedFirst, better, laterWordHandedBack, windowsNotCompared, secondOfEqualWords}
-use Rattle.examples.specs.WrongRewrites.{noneFitsWithoutLooking, noneFitsForWantOfRoom, ruleOfBInD, family3OneTooFarInB, family4AsFamily3, replacedOnePlaceToTheLeft, placeAtTheEndAccepted, roomCheckedBeforeTheRule, wordCopiedFirst}
-use Rattle.examples.specs.WrongTraces.{searchBehindTheLastPlace, outputBeforeTheLists, lettersCounted, shorteningStepsCounted}
-use Rattle.examples.specs.WrongShortest.{verdictByLengthAlone, presentWordUnshortened, roomAskedForANo}
-use Rattle.examples.specs.WrongSplits.{wordsExchanged, bit0ForStep2, oneStepLeft, setCheckedAfterTheWord, oneBitTooMany, firstWordWrittenFirst}
-use Rattle.examples.specs.WrongShortest.{wayBack, lettersNotAsked, roomBeforeTheWay, windowsBeforeTheSet, bitsOneOff}
-use Rattle.examples.specs.WrongTables.{rank20InA, factorLeftOut, runningTotals, straightAsLongest, roomOfTheListOnly, listWrittenFirst}
-use Rattle.examples.specs.WrongBooks.{noBytesRefused, oneByteAccepted, noPresetsRefused3, retiredNotRead, retiredAppended, retiredBeforeLetters, retiredInEveryKind}
-use Rattle.examples.specs.WrongBooks.{countHighByteFirst, offsetAgainstTheTrailer, lastRecordMayStopEarly, opensOtherBytes, onePresetTooMany, preset0ForEveryNumber}
-use Rattle.examples.specs.WrongBooks.{laneCountBeforeRank, laneCountIsTheRank, rangesOfTheFirst, rangesOfTheSecond, lettersOneByteEarly, laneCountLeftOut}
-use Rattle.examples.specs.WrongBooks.{handedOut, lettersFromTheRecord, refusedPresetHandsOutLetters, lastOffsetDropped, kindAndRankExchanged}
-use Rattle.examples.specs.WrongBooks.{lastRecordDropped, laneLimitFirst, laterRecordsUnchecked}
-use Rattle.examples.specs.WrongBooks.{countWithoutLineFeed, bookRefusalAlways1, presetRefusalAlways1, lengthBeforeRank, minusLeftOut, noPresetLine, lastLineLeftOut, lineCutOff, lastByteUnused}
+use Rattle.examples.proofs.WrongWindows.{lanesAsTheRank, oneLaneMoreInEveryKind, sizeOneLess, size127AtMost, zeroIsNegative, noneIsNegative}
+use Rattle.examples.proofs.WrongWindows.{refusesEveryKind, rank64InA, letterZeroAccepted, wordOf4097Letters}
+use Rattle.examples.proofs.WrongWindows.{wordChecks, lettersBeforeTheRank, rankUnchecked, presetsChecks, secondPresetFirst, bothRanksFirst, wordsChecks, secondWordFirst, secondWordUnchecked}
+use Rattle.examples.proofs.WrongWindows.{windowChecks, windowBeforeTheRank, oddNegativesRefusedInB, windowsChecks, secondWindowFirst, secondWindowUnchecked}
+use Rattle.examples.proofs.WrongWindows.{turnsEveryPresetDown, straightForAllWords, exchangesValues, stepOfBInD, refusedCallWrites, clearsTheOutput}
+use Rattle.examples.proofs.WrongWindows.{unshortenedWord, peelsOnlyBlock1, stopsAtAShortestWord, roomForTheRankOnly}
+use Rattle.examples.proofs.WrongWindows.{block1Alone, entriesBeforeLanes, oddNegativesAccepted, blockTurnsEarlyInB, indexOneOffOnTheWayDown, lastEntryKeptInD}
+use Rattle.examples.proofs.WrongWindows.{productInWrongOrder, secondWindowCheckedFirst, windowAsItsInverse, inverseWithoutSigns}
+use Rattle.examples.proofs.WrongWindows.{wordsJoinedTheOtherWay, wordsJoinedUnshortened, wordAsItsInverse, reversedUnshortened}
+use Rattle.examples.proofs.WrongWindows.{letterTotal, usualOrderOfAWindow, usualOrderOfAWord, negativesNotCounted, negatesBeforeItsRange}
+use Rattle.examples.proofs.WrongWindows.{ranksNotCompared, kindsCompared, kindOfTheFirstForBoth, secondPresetRefusedFirst, better, laterWordHandedBack, windowsNotCompared, secondOfEqualWords}
+use Rattle.examples.proofs.WrongRewrites.{noneFitsWithoutLooking, noneFitsForWantOfRoom, ruleOfBInD, family3OneTooFarInB, family4AsFamily3, replacedOnePlaceToTheLeft, placeAtTheEndAccepted, roomCheckedBeforeTheRule, wordCopiedFirst}
+use Rattle.examples.proofs.WrongTraces.{searchBehindTheLastPlace, outputBeforeTheLists, lettersCounted, shorteningStepsCounted}
+use Rattle.examples.proofs.WrongShortest.{verdictByLengthAlone, presentWordUnshortened, roomAskedForANo}
+use Rattle.examples.proofs.WrongSplits.{wordsExchanged, bit0ForStep2, oneStepLeft, setCheckedAfterTheWord, oneBitTooMany, firstWordWrittenFirst}
+use Rattle.examples.proofs.WrongShortest.{wayBack, lettersNotAsked, roomBeforeTheWay, windowsBeforeTheSet, bitsOneOff}
+use Rattle.examples.proofs.WrongTables.{rank20InA, factorLeftOut, runningTotals, straightAsLongest, roomOfTheListOnly, listWrittenFirst}
+use Rattle.examples.proofs.WrongBooks.{noBytesRefused, oneByteAccepted, noPresetsRefused3, retiredNotRead, retiredAppended, retiredBeforeLetters, retiredInEveryKind}
+use Rattle.examples.proofs.WrongBooks.{countHighByteFirst, offsetAgainstTheTrailer, lastRecordMayStopEarly, opensOtherBytes, onePresetTooMany, preset0ForEveryNumber}
+use Rattle.examples.proofs.WrongBooks.{laneCountBeforeRank, laneCountIsTheRank, rangesOfTheFirst, rangesOfTheSecond, lettersOneByteEarly, laneCountLeftOut}
+use Rattle.examples.proofs.WrongBooks.{handedOut, lettersFromTheRecord, refusedPresetHandsOutLetters, lastOffsetDropped, kindAndRankExchanged}
+use Rattle.examples.proofs.WrongBooks.{lastRecordDropped, laneLimitFirst, laterRecordsUnchecked}
+use Rattle.examples.proofs.WrongBooks.{countWithoutLineFeed, bookRefusalAlways1, presetRefusalAlways1, lengthBeforeRank, minusLeftOut, noPresetLine, lastLineLeftOut, lineCutOff, lastByteUnused}
 
 -- what a call tells: its answer, with the output afterwards if it writes one
 pub data Told : Type 0 where

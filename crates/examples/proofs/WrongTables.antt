@@ -1,4 +1,5 @@
--- Wrong answers of the delay table, each of the type of `delayTable`. WrongRouters.antt says where each is wrong.
+-- Wrong answers of the delay table, each of the type of `delayTable`. WrongAnswers.antt says where each is wrong.
+-- Assumes nothing.
 use mathlib.Core.List.{List, _++_, map}
 use Prim.Native.Nat.{ℕ, suc, _+_, _-_}
 use lib.Dec.{ltb}

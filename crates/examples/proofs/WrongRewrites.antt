@@ -1,4 +1,5 @@
--- Wrong answers of one rewrite, each of the type of `step`. WrongRouters.antt says where each is wrong.
+-- Wrong answers of one rewrite, each of the type of `step`. WrongAnswers.antt says where each is wrong.
+-- Assumes nothing.
 use mathlib.Core.List.{List, [], _∷_, _++_, map}
 use mathlib.Core.Option.{none, some}
 use Prim.Native.Nat.{ℕ, _-_, _*_}
