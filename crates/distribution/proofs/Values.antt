@@ -1,14 +1,14 @@
--- Lists as the values of a function at 0, 1, ..: what code that fills a list in place, from its start or from its end, makes of it.
--- Sections: values; a list that is being filled; parts.
+-- Lists as the values of a function at 0, 1, ...
+-- Sections: values; parts.
 -- Assumes nothing.
-use mathlib.Core.Path.{_≡_, refl, sym, ap, _∙_}
+use mathlib.Core.Path.{_≡_, sym, ap, _∙_}
 use mathlib.Core.List.{List, _++_, map}
 use Prim.Native.Nat.{ℕ, _+_, _-_, _^_, _≤_, _<_}
 use native.Mathlib.Omega.{arith}
 use native.Mathlib.Nat.{zero-add, lt-of-not-le}
-use native.Mathlib.Decide.{ℕ-discrete, decLt}
-use lib.ListN.{length, getD, set, take, drop, length-map, length-set, length-append, length-drop, List·getD-append}
-use lib.Seq.{ext-getD, getD-set-same, getD-set-other, length-take-le, getD-take, getD-drop, getD-append-add}
+use native.Mathlib.Decide.{decLt}
+use lib.ListN.{length, getD, take, drop, length-map, length-append, length-drop, List·getD-append}
+use lib.Seq.{ext-getD, length-take-le, getD-take, getD-drop, getD-append-add}
 use Rattle.coxeter.specs.Kinds.{up}
 use Rattle.coxeter.proofs.Basics.{length-up}
 use Rattle.distribution.proofs.Tables.{getD-map-up}
@@ -46,61 +46,6 @@ values-eq w f m e h =
 
 pub values-same : (f g : ℕ → ℕ) (m : ℕ) → ((i : ℕ) → i < m → f i ≡ g i) → values f m ≡ values g m
 values-same f g m h = values-eq (values f m) g m (length-values f m) (λ i o. valueAt-values f m i o ∙ h i o)
-
--- ---- a list that is being filled
-
--- m numbers: before place l they are f's, from there on g's
-pub record Filled (l : ℕ) (f g : ℕ → ℕ) (m : ℕ) (w : List ℕ) : Type 0 where
-  pub size : length w ≡ m
-  pub front : (i : ℕ) → i < m → i < l → valueAt w i ≡ f i
-  pub rest : (i : ℕ) → i < m → l ≤ i → valueAt w i ≡ g i
-
--- nothing is filled yet, from the start or from the end
-pub filled-none : {f : ℕ → ℕ} {w : List ℕ} → Filled 0 f (valueAt w) (length w) w
-filled-none = record { size = refl; front = λ i o h. absurd (omega arith); rest = λ i o h. refl }
-
-pub filled-none-back : {g : ℕ → ℕ} {w : List ℕ} → Filled (length w) (valueAt w) g (length w) w
-filled-none-back = record { size = refl; front = λ i o h. refl; rest = λ i o h. absurd (omega arith) }
-
-module _ {l : ℕ} {f g : ℕ → ℕ} {m : ℕ} {w : List ℕ} (h : Filled l f g m w) where
-  set-here : (j v : ℕ) → j < m → valueAt (set w j v) j ≡ v
-  set-here j v o = getD-set-same w j v 0 (omega (arith, h .size))
-
-  -- the next number
-  pub filled-next : {v : ℕ} → l < m → v ≡ f l → Filled (l + 1) f g m (set w l v)
-  filled-next {v} o e =
-      record { size = length-set w l v ∙ h .size; front = λ i p q. go i p q (ℕ-discrete i l); rest = rest }
-    where
-      go : (i : ℕ) → i < m → i < l + 1 → Dec (i ≡ l) → valueAt (set w l v) i ≡ f i
-      go i p q (yes s) = rw s (set-here l v o ∙ e)
-      go i p q (no s) = getD-set-other w l i v 0 s ∙ h .front i p (omega arith)
-
-      rest : (i : ℕ) → i < m → l + 1 ≤ i → valueAt (set w l v) i ≡ g i
-      rest i p q = getD-set-other w l i v 0 (λ s. omega arith) ∙ h .rest i p (omega arith)
-
-  -- the number before it, from the end
-  pub filled-back : {j v : ℕ} → j + 1 ≡ l → j < m → v ≡ g j → Filled j f g m (set w j v)
-  filled-back {j} {v} s o e =
-      record { size = length-set w j v ∙ h .size; front = front; rest = λ i p q. go i p q (ℕ-discrete i j) }
-    where
-      front : (i : ℕ) → i < m → i < j → valueAt (set w j v) i ≡ f i
-      front i p q = getD-set-other w j i v 0 (λ t. omega arith) ∙ h .front i p (omega arith)
-
-      go : (i : ℕ) → i < m → j ≤ i → Dec (i ≡ j) → valueAt (set w j v) i ≡ g i
-      go i p q (yes t) = rw t (set-here j v o ∙ e)
-      go i p q (no t) = getD-set-other w j i v 0 t ∙ h .rest i p (omega arith)
-
-  -- all numbers are f's
-  pub filled-end : m ≤ l → w ≡ values f m
-  filled-end o = values-eq w f m (h .size) (λ i p. h .front i p (omega arith))
-
-  -- all numbers are g's, since those before l are the same
-  pub filled-start : ((i : ℕ) → i < l → f i ≡ g i) → w ≡ values g m
-  filled-start e =
-      values-eq w g m (h .size) (λ i p. elim (decLt i l) [
-        | yes q ↦ h .front i p q ∙ e i q
-        | no q ↦ h .rest i p (omega (arith, lt-of-not-le q))
-      ])
 
 -- ---- parts
 

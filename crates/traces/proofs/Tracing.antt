@@ -1,18 +1,19 @@
 -- What is left of a rewriting to its end while its steps are noted in three lists: how many steps there will be, what the lists will hold and which word
--- will stand, from any word on the way. Each step noted keeps it, and at a normal form nothing is left.
+-- will stand, from any word on the way. Each step noted keeps it, and at a normal form nothing is left. The records are what the contracts of `rewriter`
+-- name, and a contract cannot name a definition of its own crate's proofs/; the laws about them lie there.
 --
 -- Sections: what is left; a step; the end; a letter that moves; the whole.
 -- Assumes nothing.
-use mathlib.Core.Path.{_≡_, refl, sym, ap, subst, _∙_}
+use mathlib.Core.Path.{_≡_, sym, ap, _∙_}
 use mathlib.Core.Bool.{false}
 use mathlib.Core.List.{List, _∷_, _++_}
-use mathlib.Core.Option.{none, some}
+use mathlib.Core.Option.{some}
 use Prim.Native.Nat.{ℕ, suc, _+_, _-_, _*_, _≤_}
 use native.Mathlib.Nat.{add-zero, add-suc, suc-add, mul-le-mul}
 use native.Mathlib.Numerals.{add-one}
 use native.Mathlib.Omega.{arith}
-use lib.ListN.{length, take, set, length-append, length-set}
-use lib.Seq.{sets, take-length}
+use lib.ListN.{length, take, set, length-append}
+use lib.Seq.{sets}
 use Rattle.coxeter.specs.Kinds.{Kind, kindOf, least}
 use Rattle.coxeter.specs.Checks.{wrongLetter}
 use Rattle.coxeter.proofs.Acceptance.{rank-within, letters-accepted, length-accepted}
@@ -20,8 +21,7 @@ use Rattle.rules.specs.Runs.{AcceptedWord}
 use Rattle.traces.specs.Traces.{Use, lowestUse, Line, Trace, trace, familiesOf, placesOf, lengthsOf}
 use Rattle.traces.proofs.Traces.{after, lineOf, lowest-is, none-of-irreducible, trace-none, trace-some}
 use Rattle.traces.proofs.LeastWords.{letters-append, Normal}
-use Rattle.traces.proofs.Reading.{Reading, reading-lowest, after-rest, reading-ends, reading-dropped, reading-moved, steps-at-most}
-use Rattle.traces.proofs.ReadingSteps.{length-dropped, after-moved}
+use Rattle.traces.proofs.Reading.{Reading, reading-lowest, after-rest, steps-at-most}
 
 -- ---- what is left
 
@@ -46,6 +46,13 @@ finishWith s families places lengths t = record {
 -- the steps of the rewriting of u
 abbrev pub finish : Kind → ℕ → ℕ → List ℕ → List ℕ → List ℕ → List ℕ → Finished
 finish k n s families places lengths u = finishWith s families places lengths (trace k n u)
+
+-- as many steps in all
+pub finish-steps : (k : Kind) (n s : ℕ) (families places lengths u : List ℕ) (s′ : ℕ) (families′ places′ lengths′ v : List ℕ)
+    → finish k n s families places lengths u ≡ finish k n s′ families′ places′ lengths′ v
+    → s + length (trace k n u .lines) ≡ s′ + length (trace k n v .lines)
+unfolding finishWith
+finish-steps k n s families places lengths u s′ families′ places′ lengths′ v e = ap (λ (f : Finished). f .steps) e
 
 -- ---- a step
 
@@ -116,96 +123,6 @@ pub record Inserted (k : Kind) (n : ℕ) (rest : List ℕ) (s : ℕ) (families p
   pub inside : size ≤ length word
   pub normal : Normal k n (take size word′)
   pub same : finish k n s families places lengths (word ++ rest) ≡ finish k n s′ families′ places′ lengths′ (take size word′ ++ rest)
-
-pub finish-steps : (k : Kind) (n s : ℕ) (families places lengths u : List ℕ) (s′ : ℕ) (families′ places′ lengths′ v : List ℕ)
-    → finish k n s families places lengths u ≡ finish k n s′ families′ places′ lengths′ v
-    → s + length (trace k n u .lines) ≡ s′ + length (trace k n v .lines)
-unfolding finishWith
-finish-steps k n s families places lengths u s′ families′ places′ lengths′ v e = ap (λ (f : Finished). f .steps) e
-
-module _ {k : Kind} {n : ℕ} {rest : List ℕ} {s : ℕ} {families places lengths word : List ℕ} where
-  pub carried-start : {q : ℕ} → Ready k n rest s families places lengths word q
-      → Carried k n rest s families places lengths word s families places lengths word q
-  carried-start a = record { reading = a .reading; same = refl; size = refl; families-size = refl; places-size = refl; lengths-size = refl }
-
-  module _ {s′ : ℕ} {families′ places′ lengths′ word′ : List ℕ} {q′ : ℕ}
-      (b : Carried k n rest s families places lengths word s′ families′ places′ lengths′ word′ q′) where
-    pub carried-ready : {q : ℕ} → Ready k n rest s families places lengths word q → Ready k n rest s′ families′ places′ lengths′ word′ q′
-    carried-ready a = record {
-      rank = a .rank;
-      high = a .high;
-      reading = b .reading;
-      letters = a .letters;
-      short = omega (arith, b .size, a .short);
-      room = omega (arith, a .room, finish-steps k n s families places lengths _ s′ families′ places′ lengths′ _ (b .same));
-      as-places = b .places-size ∙ a .as-places ∙ sym (b .families-size);
-      as-lengths = b .lengths-size ∙ a .as-lengths ∙ sym (b .families-size);
-    }
-
-    pub carried-trans : {s″ : ℕ} {families″ places″ lengths″ word″ : List ℕ} {q″ : ℕ}
-        → Carried k n rest s′ families′ places′ lengths′ word′ s″ families″ places″ lengths″ word″ q″
-        → Carried k n rest s families places lengths word s″ families″ places″ lengths″ word″ q″
-    carried-trans c = record {
-      reading = c .reading;
-      same = b .same ∙ c .same;
-      size = c .size ∙ b .size;
-      families-size = c .families-size ∙ b .families-size;
-      places-size = c .places-size ∙ b .places-size;
-      lengths-size = c .lengths-size ∙ b .lengths-size;
-    }
-
-  module _ {q : ℕ} (a : Ready k n rest s families places lengths word q) (u : Use) (e : lowestUse k n (take (suc q) word) ≡ some u) where
-    -- a step that is noted, of any family but 1
-    pub carried-step : (s′ : ℕ) (families′ places′ lengths′ word′ : List ℕ) → (u .rule .family ≡ 1 → ⊥) → s′ ≡ s + 1 → families′ ≡ set families s (u .rule .family)
-        → places′ ≡ set places s (u .place) → lengths′ ≡ set lengths s (length word + length rest) → word′ ≡ after word u
-        → Carried k n rest s families places lengths word s′ families′ places′ lengths′ word′ (u .place)
-    carried-step s′ families′ places′ lengths′ word′ f i j l m o =
-        let b = after-moved k n (a .rank) word q (a .reading) u e f in
-        record {
-          reading = subst (λ (w : List ℕ). Reading k n w (u .place)) (sym o) (reading-moved k n (a .rank) word q (a .reading) u e f);
-          same =
-              finish-step s families places lengths k n (a .rank) word q rest (a .reading) (a .letters) u e
-              ∙ rw (i, j, l, m, o, b .0);
-          size = ap length o ∙ b .0;
-          families-size = ap length j ∙ length-set families s (u .rule .family);
-          places-size = ap length l ∙ length-set places s (u .place);
-          lengths-size = ap length m ∙ length-set lengths s (length word + length rest);
-        }
-
-    -- a step of family 1
-    pub inserted-step : (s′ : ℕ) (families′ places′ lengths′ word′ : List ℕ) (size : ℕ) → u .rule .family ≡ 1 → s′ ≡ s + 1
-        → families′ ≡ set families s (u .rule .family) → places′ ≡ set places s (u .place) → size + 2 ≡ length word
-        → lengths′ ≡ set lengths s (size + length rest) → take size word′ ≡ after word u
-        → Inserted k n rest s families places lengths word s′ families′ places′ lengths′ word′ size
-    inserted-step s′ families′ places′ lengths′ word′ size f i j l p m o =
-        let b = length-dropped k n (a .rank) word q (a .reading) u e f in
-        let d : length (after word u) ≡ size = omega (arith, b) in
-        record {
-          inside = omega arith;
-          normal = subst (Normal k n) (sym o) (reading-dropped k n (a .rank) word q (a .reading) u e f);
-          same =
-              finish-step s families places lengths k n (a .rank) word q rest (a .reading) (a .letters) u e
-              ∙ rw (i, j, l, m, o, d);
-        }
-
-  -- no rule ends with the letter
-  pub inserted-end : {q : ℕ} → Ready k n rest s families places lengths word q → lowestUse k n (take (suc q) word) ≡ none → (size : ℕ) → size ≡ length word
-      → Inserted k n rest s families places lengths word s families places lengths word size
-  inserted-end {q} a e size l =
-      let w : take size word ≡ word = rw l (take-length word) in
-      record {
-        inside = omega arith;
-        normal = subst (Normal k n) (sym w) (reading-ends k n (a .rank) word q (a .reading) e);
-        same = rw w;
-      }
-
-  -- what was carried before
-  pub inserted-after : {s′ : ℕ} {families′ places′ lengths′ word′ : List ℕ} {q′ : ℕ}
-      → Carried k n rest s families places lengths word s′ families′ places′ lengths′ word′ q′
-      → {s″ : ℕ} {families″ places″ lengths″ word″ : List ℕ} {size : ℕ}
-      → Inserted k n rest s′ families′ places′ lengths′ word′ s″ families″ places″ lengths″ word″ size
-      → Inserted k n rest s families places lengths word s″ families″ places″ lengths″ word″ size
-  inserted-after b c = record { inside = omega (arith, c .inside, b .size); normal = c .normal; same = b .same ∙ c .same }
 
 -- ---- the whole
 

@@ -15,7 +15,8 @@ use Rattle.coxeter.specs.Length.{one}
 use Rattle.distribution.proofs.Sums.{below, below-le}
 use Rattle.distribution.proofs.Factors.{shifted, shifted-lt, shifted-le, plusShifted, lessShifted, sumTo}
 use Rattle.distribution.proofs.Products.{product}
-use Rattle.distribution.proofs.Values.{values, AtMost, Fit, values-eq, Filled, filled-next, filled-back, filled-start}
+use Rattle.distribution.proofs.Values.{values, AtMost, Fit, values-eq}
+use Rattle.delay.proofs.counting.Filling.{Filled, filled-next, filled-back, filled-start}
 
 -- ---- sums from the start
 

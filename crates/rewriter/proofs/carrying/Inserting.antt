@@ -13,10 +13,11 @@ use Rattle.coxeter.specs.Kinds.{Kind}
 use Rattle.traces.specs.Traces.{Use, lowestUse}
 use Rattle.traces.proofs.Reading.{reading-lower}
 use Rattle.traces.proofs.ReadingSteps.{after-moved, after-dropped}
-use Rattle.traces.proofs.Tracing.{Ready, Carried, Inserted, carried-ready, carried-trans, carried-step, inserted-step, inserted-end, inserted-after}
+use Rattle.traces.proofs.Tracing.{Ready, Carried, Inserted}
 use Rattle.rewriter.specs.declared.ending.Ending.{Ending}
 use Rattle.rewriter.specs.declared.ending.Ending.the-variants.{Rule, Nothing}
 use Rattle.rewriter.proofs.carrying.Shifting.{put}
+use Rattle.rewriter.proofs.carrying.CarriedSteps.{carried-ready, carried-trans, carried-step, inserted-step, inserted-end, inserted-after}
 use Rattle.rewriter.proofs.carrying.Passing.{ready-inside}
 use Rattle.rewriter.proofs.ending.Ends.{endingOf}
 

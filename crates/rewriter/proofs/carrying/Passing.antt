@@ -17,7 +17,8 @@ use Rattle.rules.proofs.ScanRules.{wrongLetter-drop}
 use Rattle.traces.proofs.TwoLetters.{exchanging}
 use Rattle.traces.proofs.Reading.{reading-inside}
 use Rattle.traces.proofs.ReadingSteps.{exchange-use}
-use Rattle.traces.proofs.Tracing.{Ready, Carried, carried-start, carried-ready, carried-trans, carried-step}
+use Rattle.traces.proofs.Tracing.{Ready, Carried}
+use Rattle.rewriter.proofs.carrying.CarriedSteps.{carried-start, carried-ready, carried-trans, carried-step}
 
 -- ---- letters
 

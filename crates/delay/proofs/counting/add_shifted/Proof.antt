@@ -5,7 +5,8 @@ use native.Mathlib.Omega.{arith}
 use lib.ListN.{length}
 use borrow.Author.Needs.{needs}
 use Rattle.distribution.proofs.Factors.{plusShifted}
-use Rattle.distribution.proofs.Values.{valueAt, Filled, filled-none-back}
+use Rattle.distribution.proofs.Values.{valueAt}
+use Rattle.delay.proofs.counting.Filling.{Filled, filled-none-back}
 use Rattle.delay.proofs.counting.Loops.{plus-fits, plus-filled, plus-end}
 use Rattle.delay.proofs.counting.add_shifted.Statement.{statement}
 use Rattle.delay.proofs.counting.add_shifted.Tie as tie

@@ -5,7 +5,8 @@ use Prim.Native.Nat.{_-_, _≤_}
 use native.Mathlib.Omega.{arith}
 use lib.ListN.{length}
 use borrow.Author.Needs.{needs}
-use Rattle.distribution.proofs.Values.{valueAt, Filled, filled-none, filled-next}
+use Rattle.distribution.proofs.Values.{valueAt}
+use Rattle.delay.proofs.counting.Filling.{Filled, filled-none, filled-next}
 use Rattle.delay.proofs.counting.Loops.{one-start}
 use Rattle.delay.proofs.counting.set_one.Statement.{statement}
 use Rattle.delay.proofs.counting.set_one.Tie as tie

@@ -7,7 +7,8 @@ use lib.ListN.{length}
 use borrow.Author.Needs.{needs}
 use Rattle.distribution.proofs.Sums.{below}
 use Rattle.distribution.proofs.Factors.{sumTo}
-use Rattle.distribution.proofs.Values.{valueAt, Filled, filled-none, filled-end}
+use Rattle.distribution.proofs.Values.{valueAt}
+use Rattle.delay.proofs.counting.Filling.{Filled, filled-none, filled-end}
 use Rattle.delay.proofs.counting.Loops.{sum-next, sum-fits, sum-filled}
 use Rattle.delay.proofs.counting.sum_up.Statement.{statement}
 use Rattle.delay.proofs.counting.sum_up.Tie as tie

@@ -5,7 +5,8 @@ use native.Mathlib.Omega.{arith}
 use lib.ListN.{length}
 use borrow.Author.Needs.{needs}
 use Rattle.distribution.proofs.Factors.{lessShifted}
-use Rattle.distribution.proofs.Values.{valueAt, Filled, filled-none-back}
+use Rattle.distribution.proofs.Values.{valueAt}
+use Rattle.delay.proofs.counting.Filling.{Filled, filled-none-back}
 use Rattle.delay.proofs.counting.Loops.{less-fits, less-filled, less-end}
 use Rattle.delay.proofs.counting.take_shifted.Statement.{statement}
 use Rattle.delay.proofs.counting.take_shifted.Tie as tie

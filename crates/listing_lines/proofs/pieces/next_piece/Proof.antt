@@ -9,7 +9,8 @@ use lib.Seq.{length-take-le}
 use borrow.Author.Needs.{needs}
 use Rattle.listing_text.specs.Calls.{lineCount, line}
 use Rattle.listing_text.proofs.Room.{lineCount-le, length-line-le}
-use Rattle.listing_text.proofs.Runs.{Held, held-none}
+use Rattle.listing_text.proofs.Runs.{Held}
+use Rattle.listing_lines.proofs.pieces.HeldRuns.{held-none}
 use Rattle.listing_lines.proofs.pieces.Filling.{Filling, line-front, filling-none, filling-next, filling-full, filling-done}
 use Rattle.listing_lines.proofs.pieces.next_piece.Statement.{statement}
 use Rattle.listing_lines.proofs.pieces.next_piece.Tie as tie

@@ -5,7 +5,7 @@ use Prim.Native.Nat.{_≤_}
 use native.Mathlib.Omega.{arith}
 use borrow.Author.Needs.{needs}
 use Rattle.listing_text.proofs.Room.{length-firstLine-le, length-line-le}
-use Rattle.listing_text.proofs.Runs.{held-preset, held-bytes}
+use Rattle.listing_lines.proofs.pieces.HeldRuns.{held-preset, held-bytes}
 use Rattle.listing_lines.proofs.pieces.Filling.{line-first, line-preset}
 use Rattle.listing_lines.proofs.pieces.put_nth.Statement.{statement}
 use Rattle.listing_lines.proofs.pieces.put_nth.Tie as tie

@@ -2,7 +2,7 @@
 -- Assumes nothing.
 use native.Mathlib.Omega.{arith}
 use borrow.Author.Needs.{needs}
-use Rattle.listing_text.proofs.Runs.{held-ready, held-read, held-small, held-never}
+use Rattle.listing_lines.proofs.pieces.HeldRuns.{held-ready, held-read, held-small, held-never}
 use Rattle.listing_lines.proofs.pieces.run_with.Statement.{statement}
 use Rattle.listing_lines.proofs.pieces.run_with.Tie as tie
 

@@ -3,7 +3,8 @@
 use mathlib.Core.Path.{_∙_}
 use native.Mathlib.Omega.{arith}
 use Rattle.coxeter.specs.Kinds.{kindOf}
-use Rattle.traces.proofs.Tracing.{Carried, carried-start, carried-ready, carried-trans}
+use Rattle.traces.proofs.Tracing.{Carried}
+use Rattle.rewriter.proofs.carrying.CarriedSteps.{carried-start, carried-ready, carried-trans}
 use Rattle.rewriter.proofs.carrying.Passing.{ready-inside}
 use Rattle.rewriter.proofs.carrying.Inserting.{insert-none, insert-front, insert-place, insert-pair, insert-struck, insert-carried}
 use borrow.Author.Needs.{needs}

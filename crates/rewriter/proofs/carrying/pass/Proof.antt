@@ -5,7 +5,8 @@ use Prim.Native.Nat.{_+_, _-_, _≤_}
 use native.Mathlib.Omega.{arith}
 use lib.ListN.{getD, length-set}
 use Rattle.coxeter.specs.Kinds.{kindOf}
-use Rattle.traces.proofs.Tracing.{Carried, carried-ready}
+use Rattle.traces.proofs.Tracing.{Carried}
+use Rattle.rewriter.proofs.carrying.CarriedSteps.{carried-ready}
 use Rattle.rewriter.proofs.carrying.Passing.{ready-inside, ready-letter, pass-start, pass-again, pass-stopped, pass-ended}
 use borrow.Author.Needs.{needs}
 use Rattle.rewriter.proofs.carrying.pass.Statement.{statement}
