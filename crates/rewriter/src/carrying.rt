@@ -118,6 +118,74 @@ fn strike(word: &mut [u8], place: usize)
     }
 }
 
+// How many steps were made, how many letters the word has then, and where the letter stands that moves: 0 if it moves no further.
+struct Moved {
+    steps: usize,
+    size: usize,
+    place: usize,
+}
+
+// The step by the rule that ends with the letter at q, if there is one. That letter does not exchange with the one before it.
+fn turn(
+    kind: u8,
+    n: u8,
+    rest: &[u8],
+    s: usize,
+    families: &mut [u8],
+    places: &mut [u16],
+    lengths: &mut [u16],
+    word: &mut [u8],
+    q: usize,
+) -> Moved
+    requires { ⌜ Ready (kindOf kind) n (now rest) s (now families) (now places) (now lengths) (now word) q ⌝ }
+    requires { ⌜ (1 ≤ q → exchanging n (levels (kindOf kind) n) (getD (now word) (q - 1) 0) (getD (now word) q 0) ≡ false) ⌝ }
+    ensures { λ r. ⌜ r .place ≤ q - 1 ⌝ }
+    ensures { λ r. ⌜ (1 ≤ r .place → (r .size ≡ length (now (word .entry)))
+        × Carried (kindOf kind) n (now (rest .entry)) s (now (families .entry)) (now (places .entry)) (now (lengths .entry)) (now (word .entry))
+        (r .steps) (now (families .exit)) (now (places .exit)) (now (lengths .exit)) (now (word .exit)) (r .place))
+        × (r .place ≤ 0 → Inserted (kindOf kind) n (now (rest .entry)) s (now (families .entry)) (now (places .entry)) (now (lengths .entry))
+        (now (word .entry)) (r .steps) (now (families .exit)) (now (places .exit)) (now (lengths .exit)) (now (word .exit)) (r .size)) ⌝ }
+{
+    let size = word.len();
+    let Ending::Rule {
+        family,
+        place,
+        first,
+    } = ending_rule(kind, n, word, q)
+    else {
+        return Moved {
+            steps: s,
+            size,
+            place: 0,
+        };
+    };
+    if family == 1 {
+        let left = size - 2;
+        note(families, places, lengths, s, 1, place, left + rest.len());
+        strike(word, place);
+        return Moved {
+            steps: s + 1,
+            size: left,
+            place: 0,
+        };
+    }
+    note(
+        families,
+        places,
+        lengths,
+        s,
+        family,
+        place,
+        size + rest.len(),
+    );
+    carry(word, place, q, first);
+    Moved {
+        steps: s + 1,
+        size,
+        place,
+    }
+}
+
 // The last letter of `word` is carried to where no rule ends with it, or struck out; `rest` follows the word, and s steps were made before.
 pub(crate) fn insert(
     kind: u8,
@@ -133,48 +201,25 @@ pub(crate) fn insert(
     ensures { λ r. ⌜ Inserted (kindOf kind) n (now (rest .entry)) s (now (families .entry)) (now (places .entry)) (now (lengths .entry))
         (now (word .entry)) (r .steps) (now (families .exit)) (now (places .exit)) (now (lengths .exit)) (now (word .exit)) (r .size) ⌝ }
 {
-    let size = word.len();
+    let mut size = word.len();
     let mut steps = s;
     let mut q = size - 1;
     while 0 < q {
         let at = pass(kind, n, rest, steps, families, places, lengths, word, q);
-        steps += q - at;
-        let Ending::Rule {
-            family,
-            place,
-            first,
-        } = ending_rule(kind, n, word, at)
-        else {
-            return Count { steps, size };
-        };
-        if family == 1 {
-            note(
-                families,
-                places,
-                lengths,
-                steps,
-                1,
-                place,
-                size - 2 + rest.len(),
-            );
-            strike(word, place);
-            return Count {
-                steps: steps + 1,
-                size: size - 2,
-            };
-        }
-        note(
+        let made = turn(
+            kind,
+            n,
+            rest,
+            steps + (q - at),
             families,
             places,
             lengths,
-            steps,
-            family,
-            place,
-            size + rest.len(),
+            word,
+            at,
         );
-        carry(word, place, at, first);
-        steps += 1;
-        q = place;
+        steps = made.steps;
+        size = made.size;
+        q = made.place;
     }
     Count { steps, size }
 }

@@ -1,7 +1,7 @@
--- The turns of `carrying::insert`: the rule that the search hands on is the step of the rewriting, which is noted and made; where there is none, or an equal
--- letter is struck out, what stands is a normal form.
+-- What `carrying::turn` and `carrying::insert` do: the rule that the search hands on is the step of the rewriting, which is noted and made. Where there
+-- is none, or an equal letter is struck out, what stands is a normal form.
 --
--- Sections: the rule that was found; no rule; a letter struck out; a letter carried on.
+-- Sections: the rule that was found; no rule; a letter struck out; a letter carried on; turn after turn.
 -- Assumes nothing.
 use mathlib.Core.Path.{_≡_, refl, sym, ap, subst, _∙_}
 use mathlib.Core.List.{List, _++_}
@@ -39,68 +39,87 @@ not-found : (o : Option Use) (a : Ending) → a ≡ endingOf o → a ≡ Nothing
 not-found none a e z = refl
 not-found (some s) a e z = let c : _≡_ {A = ℕ} 0 1 = cc in absurd (omega arith)
 
--- what has been made before, from where the call began
-module _ {k : Kind} {n : ℕ} {rest : List ℕ} {s : ℕ} {families places lengths word : List ℕ} {t : ℕ}
-    (a : Ready k n rest s families places lengths word t) where
-  module _ {s′ : ℕ} {families′ places′ lengths′ word′ : List ℕ} {q : ℕ}
-      (b : Carried k n rest s families places lengths word s′ families′ places′ lengths′ word′ q) where
-    now-ready : Ready k n rest s′ families′ places′ lengths′ word′ q
-    now-ready = carried-ready b a
+-- the letter that moves stands at place q
+module _ {k : Kind} {n : ℕ} {rest : List ℕ} {s : ℕ} {families places lengths word : List ℕ} {q : ℕ}
+    (a : Ready k n rest s families places lengths word q) where
+  -- ---- no rule
 
-    pub insert-inside : (q < length word) × (length word ≤ 4096)
-    insert-inside = omega (arith, ready-inside now-ready, b .size, a .short)
+  pub turn-none : (m : Ending) → m ≡ endingOf (lowestUse k n (take (suc q) word)) → m ≡ Nothing
+      → Inserted k n rest s families places lengths word s families places lengths word (length word)
+  turn-none m e z = inserted-end a (not-found _ m e z) (length word) refl
 
-    -- ---- no rule
+  -- the letter stands at the word's front
+  turn-front : q ≤ 0 → Inserted k n rest s families places lengths word s families places lengths word (length word)
+  turn-front l = inserted-end a (nowhere (lowestUse k n (take (suc q) word)) refl) (length word) refl
+    where
+      nowhere : (o : Option Use) → lowestUse k n (take (suc q) word) ≡ o → o ≡ none
+      nowhere none e = refl
+      nowhere (some u) e = absurd (omega (arith, reading-lower k n (a .rank) word q (a .reading) u e))
 
-    pub insert-none : (m : Ending) → m ≡ endingOf (lowestUse k n (take (suc q) word′)) → m ≡ Nothing
-        → Inserted k n rest s families places lengths word s′ families′ places′ lengths′ word′ (length word)
-    insert-none m e z = inserted-after b (inserted-end now-ready (not-found _ m e z) (length word) (sym (b .size)))
+  module _ (f p y : ℕ) (m : Ending) (e : m ≡ endingOf (lowestUse k n (take (suc q) word))) (z : m ≡ Rule f p y) where
+    have : Found (lowestUse k n (take (suc q) word)) f p y
+    have = found _ m f p y e z
 
-    -- the letter stands at the word's front
-    pub insert-front : q ≤ 0 → Inserted k n rest s families places lengths word s′ families′ places′ lengths′ word′ (length word)
-    insert-front l = inserted-after b (inserted-end now-ready (nowhere (lowestUse k n (take (suc q) word′)) refl) (length word) (sym (b .size)))
-      where
-        nowhere : (o : Option Use) → lowestUse k n (take (suc q) word′) ≡ o → o ≡ none
-        nowhere none e = refl
-        nowhere (some u) e = absurd (omega (arith, reading-lower k n (now-ready .rank) word′ q (now-ready .reading) u e))
+    pub turn-place : p < q
+    turn-place = omega (arith, reading-lower k n (a .rank) word q (a .reading) (have .step) (have .is), have .place)
 
-    module _ (f p y : ℕ) (m : Ending) (e : m ≡ endingOf (lowestUse k n (take (suc q) word′))) (z : m ≡ Rule f p y) where
-      have : Found (lowestUse k n (take (suc q) word′)) f p y
-      have = found _ m f p y e z
+    -- ---- a letter struck out
 
-      pub insert-place : p < q
-      insert-place = omega (arith, reading-lower k n (now-ready .rank) word′ q (now-ready .reading) (have .step) (have .is), have .place)
+    pub turn-pair : f ≡ 1 → p + 2 ≤ length word
+    turn-pair c =
+        let d = after-dropped k n (a .rank) word q (a .reading) (have .step) (have .is) (have .family ∙ c) in
+        omega (arith, d .0, have .place, ready-inside a)
 
-      -- ---- a letter struck out
+    pub turn-struck : (families′ places′ lengths′ word′ : List ℕ) → f ≡ 1 → families′ ≡ set families s 1 → places′ ≡ set places s p
+        → lengths′ ≡ set lengths s (length word - 2 + length rest) → take (length word - 2) word′ ≡ take p word ++ drop (p + 2) word
+        → Inserted k n rest s families places lengths word (s + 1) families′ places′ lengths′ word′ (length word - 2)
+    turn-struck families′ places′ lengths′ word′ c i j l w =
+        let d = after-dropped k n (a .rank) word q (a .reading) (have .step) (have .is) (have .family ∙ c) in
+        let g : p + 2 ≡ suc q = omega (arith, d .0, have .place) in
+        let v : take (length word - 2) word′ ≡ take (have .step .place) word ++ drop (suc q) word = rw (have .place, ← g) w in
+        inserted-step a (have .step) (have .is) (s + 1) families′ places′ lengths′ word′ (length word - 2) (have .family ∙ c) refl
+        (i ∙ ap (set families s) (sym (have .family ∙ c))) (j ∙ ap (set places s) (sym (have .place)))
+        (omega (arith, turn-pair c)) l (v ∙ sym (d .1))
 
-      pub insert-pair : f ≡ 1 → p + 2 ≤ length word
-      insert-pair c =
-          let d = after-dropped k n (now-ready .rank) word′ q (now-ready .reading) (have .step) (have .is) (have .family ∙ c) in
-          omega (arith, d .0, have .place, insert-inside)
+    -- ---- a letter carried on
 
-      pub insert-struck : (families″ places″ lengths″ word″ : List ℕ) → f ≡ 1 → families″ ≡ set families′ s′ 1 → places″ ≡ set places′ s′ p
-          → lengths″ ≡ set lengths′ s′ (length word - 2 + length rest) → take (length word′ - 2) word″ ≡ take p word′ ++ drop (p + 2) word′
-          → Inserted k n rest s families places lengths word (s′ + 1) families″ places″ lengths″ word″ (length word - 2)
-      insert-struck families″ places″ lengths″ word″ c i j l w =
-          let d = after-dropped k n (now-ready .rank) word′ q (now-ready .reading) (have .step) (have .is) (have .family ∙ c) in
-          let g : p + 2 ≡ suc q = omega (arith, d .0, have .place) in
-          let v : take (length word - 2) word″ ≡ take (have .step .place) word′ ++ drop (suc q) word′ = rw (← b .size, have .place, ← g) w in
-          inserted-after b
-          (inserted-step now-ready (have .step) (have .is) (s′ + 1) families″ places″ lengths″ word″ (length word - 2) (have .family ∙ c) refl
-          (i ∙ ap (set families′ s′) (sym (have .family ∙ c))) (j ∙ ap (set places′ s′) (sym (have .place)))
-          (omega (arith, insert-pair c, b .size)) l (v ∙ sym (d .1)))
+    pub turn-carried : (families′ places′ lengths′ word′ : List ℕ) → (f ≡ 1 → ⊥) → families′ ≡ set families s f → places′ ≡ set places s p
+        → lengths′ ≡ set lengths s (length word + length rest) → word′ ≡ put word p q y
+        → Carried k n rest s families places lengths word (s + 1) families′ places′ lengths′ word′ p
+    turn-carried families′ places′ lengths′ word′ c i j l w =
+        let g : (have .step .rule .family ≡ 1 → ⊥) = λ x. c (sym (have .family) ∙ x) in
+        let d = after-moved k n (a .rank) word q (a .reading) (have .step) (have .is) g in
+        let v : word′ ≡ put word (have .step .place) q (getD (have .step .rule .right) 0 0) = rw (have .place, have .first) w in
+        subst (Carried k n rest s families places lengths word (s + 1) families′ places′ lengths′ word′) (have .place)
+        (carried-step a (have .step) (have .is) (s + 1) families′ places′ lengths′ word′ g refl
+        (i ∙ ap (set families s) (sym (have .family))) (j ∙ ap (set places s) (sym (have .place))) l (v ∙ sym (d .1)))
 
-      -- ---- a letter carried on
+-- ---- turn after turn
 
-      pub insert-carried : (families″ places″ lengths″ word″ : List ℕ) → (f ≡ 1 → ⊥) → families″ ≡ set families′ s′ f → places″ ≡ set places′ s′ p
-          → lengths″ ≡ set lengths′ s′ (length word + length rest) → word″ ≡ put word′ p q y
-          → Carried k n rest s families places lengths word (s′ + 1) families″ places″ lengths″ word″ p
-      insert-carried families″ places″ lengths″ word″ c i j l w =
-          let g : (have .step .rule .family ≡ 1 → ⊥) = λ x. c (sym (have .family) ∙ x) in
-          let d = after-moved k n (now-ready .rank) word′ q (now-ready .reading) (have .step) (have .is) g in
-          let v : word″ ≡ put word′ (have .step .place) q (getD (have .step .rule .right) 0 0) = rw (have .place, have .first) w in
-          carried-trans b
-          (subst (Carried k n rest s′ families′ places′ lengths′ word′ (s′ + 1) families″ places″ lengths″ word″) (have .place)
-          (carried-step now-ready (have .step) (have .is) (s′ + 1) families″ places″ lengths″ word″ g refl
-          (i ∙ ap (set families′ s′) (sym (have .family))) (j ∙ ap (set places′ s′) (sym (have .place)))
-          (l ∙ ap (λ (x : ℕ). set lengths′ s′ (x + length rest)) (sym (b .size))) (v ∙ sym (d .1))))
+-- the letter stands at place q of a word that is as long as before, or else q is 0 and a normal form of `size` letters stands
+abbrev pub Turned : Kind → ℕ → List ℕ → ℕ → List ℕ → List ℕ → List ℕ → List ℕ → ℕ → List ℕ → List ℕ → List ℕ → List ℕ → ℕ → ℕ → Type 0
+Turned k n rest s families places lengths word s′ families′ places′ lengths′ word′ size q =
+    (1 ≤ q → (size ≡ length word) × Carried k n rest s families places lengths word s′ families′ places′ lengths′ word′ q)
+    × (q ≤ 0 → Inserted k n rest s families places lengths word s′ families′ places′ lengths′ word′ size)
+
+module _ {k : Kind} {n : ℕ} {rest : List ℕ} {s : ℕ} {families places lengths word : List ℕ} where
+  module _ {s′ : ℕ} {families′ places′ lengths′ word′ : List ℕ} where
+    pub turned-ended : {size : ℕ} → Inserted k n rest s families places lengths word s′ families′ places′ lengths′ word′ size
+        → Turned k n rest s families places lengths word s′ families′ places′ lengths′ word′ size 0
+    turned-ended d = (λ h. absurd (omega arith), λ h. d)
+
+    pub turned-carried : {t q : ℕ} → Ready k n rest s families places lengths word t
+        → Carried k n rest s families places lengths word s′ families′ places′ lengths′ word′ q
+        → Turned k n rest s families places lengths word s′ families′ places′ lengths′ word′ (length word) q
+    turned-carried a b = (λ h. (refl, b), λ h. inserted-after b (rw (← b .size) (turn-front (carried-ready b a) h)))
+
+    -- the letter passes others from place q to p, and then makes a turn
+    pub turned-again : {size q : ℕ} → Turned k n rest s families places lengths word s′ families′ places′ lengths′ word′ size q → 1 ≤ q
+        → {s″ : ℕ} {families″ places″ lengths″ word″ : List ℕ} {p : ℕ}
+        → Carried k n rest s′ families′ places′ lengths′ word′ s″ families″ places″ lengths″ word″ p
+        → {s‴ : ℕ} {families‴ places‴ lengths‴ word‴ : List ℕ} {size‴ q‴ : ℕ}
+        → Turned k n rest s″ families″ places″ lengths″ word″ s‴ families‴ places‴ lengths‴ word‴ size‴ q‴
+        → Turned k n rest s families places lengths word s‴ families‴ places‴ lengths‴ word‴ size‴ q‴
+    turned-again a o c d =
+        let b = carried-trans (a .0 o .1) c in
+        (λ h. (d .0 h .0 ∙ b .size, carried-trans b (d .0 h .1)), λ h. inserted-after b (d .1 h))

@@ -1,0 +1,165 @@
+-- `carrying::turn` looks for the rule that ends with the letter, notes it and makes the step; the laws of Inserting say what each way out leaves.
+-- Assumes nothing.
+use native.Mathlib.Omega.{arith}
+use Rattle.rewriter.proofs.carrying.Passing.{ready-inside}
+use Rattle.rewriter.proofs.carrying.Inserting.{turn-none, turn-place, turn-pair, turn-struck, turn-carried, turned-ended, turned-carried}
+use borrow.Author.Needs.{needs}
+use Rattle.rewriter.proofs.carrying.turn.Statement.{statement}
+use Rattle.rewriter.proofs.carrying.turn.Tie as tie
+
+-- stages on the way: where the call began, where a rule was looked for, where it was found to be of family 1 and where of another
+abbrev start : tie.After-ending-rule → tie.Start
+start c = c .before .before .before .before .before .before .before
+
+abbrev searched : tie.After-family → tie.After-ending-rule
+searched c = c .before .before
+
+abbrev is-pair : tie.After-note → tie.Then1
+is-pair c = c .before .before .before .before
+
+abbrev is-none : tie.After-note2 → tie.Else1
+is-none c = c .before .before .before .before
+
+ending-rule-requires : tie.Need-ending-rule-requires
+ending-rule-requires c κs =
+    let s = c .before .before .before .before .before .before in
+    let a = s .pre .0 in
+    ((a .rank, a .high), ((a .reading, omega (arith, ready-inside a, a .short)), s .pre .1))
+
+enum-known-family : tie.Need-enum-known-family
+enum-known-family c = search needs
+
+enum-told : tie.Need-enum-told
+enum-told c = search needs
+
+same-length : tie.Need-same-length
+same-length c = search needs
+
+returns : tie.Need-returns
+returns c =
+    let r = c .before .before in
+    (omega arith, turned-ended (turn-none (start r .pre .0) _ (r .ending-rule .ensures) (c .enum-told .given .1)))
+
+sub-left : tie.Need-sub-left
+sub-left c =
+    let f = c .before .before in
+    let r = searched f in
+    omega (arith, turn-pair (start r .pre .0) _ _ _ _ (r .ending-rule .ensures) (f .family .given .1) (c .if1 .taken))
+
+add-note : tie.Need-add-note
+add-note c = search needs
+
+note-requires : tie.Need-note-requires
+note-requires c κs =
+    let f = c .before .before .before .before .before in
+    let r = searched f in
+    let a = start r .pre .0 in
+    let p = turn-place a _ _ _ _ (r .ending-rule .ensures) (f .family .given .1) in
+    ((a .as-places, a .as-lengths), (omega (arith, p, ready-inside a, a .short), omega (arith, a .short)))
+
+strike-requires : tie.Need-strike-requires
+strike-requires c κs =
+    let i = is-pair (c .before .before .before .before .before .before .before) in
+    let f = i .before .before in
+    let r = searched f in
+    turn-pair (start r .pre .0) _ _ _ _ (r .ending-rule .ensures) (f .family .given .1) (i .if1 .taken)
+
+add-t27 : tie.Need-add-t27
+add-t27 c = search needs
+
+same-length-2 : tie.Need-same-length-2
+same-length-2 c = search needs
+
+same-length-3 : tie.Need-same-length-3
+same-length-3 c = search needs
+
+same-length-4 : tie.Need-same-length-4
+same-length-4 c = search needs
+
+same-length-5 : tie.Need-same-length-5
+same-length-5 c = search needs
+
+returns-2 : tie.Need-returns-2
+returns-2 c =
+    let t = c .before .before in
+    let n = t .before .before .before .before .before .before .before .before in
+    let i = is-pair n in
+    let f = i .before .before in
+    let r = searched f in
+    let d = turn-struck (start r .pre .0) _ _ _ _ (r .ending-rule .ensures) (f .family .given .1) _ _ _ _ (i .if1 .taken)
+    (n .note .ensures .0) (n .note .ensures .1) (n .note .ensures .2) (t .strike .ensures) in
+    (omega arith, turned-ended d)
+
+add-note-2 : tie.Need-add-note-2
+add-note-2 c = search needs
+
+note-requires-2 : tie.Need-note-requires-2
+note-requires-2 c κs =
+    let f = c .before .before .before .before .before in
+    let r = searched f in
+    let a = start r .pre .0 in
+    let p = turn-place a _ _ _ _ (r .ending-rule .ensures) (f .family .given .1) in
+    ((a .as-places, a .as-lengths), (omega (arith, p, ready-inside a, a .short), omega (arith, a .short)))
+
+carry-requires : tie.Need-carry-requires
+carry-requires c κs =
+    let i = is-none (c .before .before .before .before .before .before .before) in
+    let f = i .before .before in
+    let r = searched f in
+    (omega (arith, turn-place (start r .pre .0) _ _ _ _ (r .ending-rule .ensures) (f .family .given .1)), ready-inside (start r .pre .0))
+
+add-t38 : tie.Need-add-t38
+add-t38 c = search needs
+
+same-length-6 : tie.Need-same-length-6
+same-length-6 c = search needs
+
+same-length-7 : tie.Need-same-length-7
+same-length-7 c = search needs
+
+same-length-8 : tie.Need-same-length-8
+same-length-8 c = search needs
+
+same-length-9 : tie.Need-same-length-9
+same-length-9 c = search needs
+
+returns-3 : tie.Need-returns-3
+returns-3 c =
+    let t = c .before .before in
+    let n = t .before .before .before .before .before .before .before .before in
+    let i = is-none n in
+    let f = i .before .before in
+    let r = searched f in
+    let p = turn-place (start r .pre .0) _ _ _ _ (r .ending-rule .ensures) (f .family .given .1) in
+    let d = turn-carried (start r .pre .0) _ _ _ _ (r .ending-rule .ensures) (f .family .given .1) _ _ _ _ (i .if1 .left)
+    (n .note2 .ensures .0) (n .note2 .ensures .1) (n .note2 .ensures .2) (t .carry .ensures) in
+    (omega (arith, p), turned-carried (start r .pre .0) d)
+
+pub turn-spec : {M : Type 1} → statement M
+turn-spec =
+    tie.close
+    (tie.spec
+    ending-rule-requires
+    enum-known-family
+    enum-told
+    same-length
+    returns
+    sub-left
+    add-note
+    note-requires
+    strike-requires
+    add-t27
+    same-length-2
+    same-length-3
+    same-length-4
+    same-length-5
+    returns-2
+    add-note-2
+    note-requires-2
+    carry-requires
+    add-t38
+    same-length-6
+    same-length-7
+    same-length-8
+    same-length-9
+    returns-3)
