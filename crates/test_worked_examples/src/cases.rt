@@ -1,7 +1,4 @@
 // Cases: each function makes a call or a few, and answers the count t plus the number of its cases that hold.
-use crate::digits::are_entries;
-use crate::digits::are_letters;
-use crate::digits::put_digits;
 use book::Edition;
 use rewriter::Rewrite;
 use std::num::wrapping_add_u64;
@@ -29,21 +26,34 @@ fn is_answer(answer: Answer, refusal: u8, length: usize) -> bool {
     }
 }
 
+// Whether two windows have the same entries.
+fn same_entries(a: &[i8], b: &[i8]) -> bool {
+    if a.len() != b.len() {
+        return false;
+    }
+    let mut i = 0;
+    while i < a.len() {
+        if a[i] != b[i] {
+            return false;
+        }
+        i += 1;
+    }
+    true
+}
+
 // The window of a word, at the front of `out`; answers how many entries it has.
-fn put_window(kind: u8, rank: u8, word: usize, out: &mut [i8]) -> usize
+fn put_window(kind: u8, rank: u8, word: &[u8], out: &mut [i8]) -> usize
     ensures { λ r. do ⌜ r ≤ (← ⟦out.len()⟧ .entry) ⌝ }
 {
-    let mut u = [0; 16];
-    let at = put_digits(&mut u, word);
-    let answer = window::window_of_word(kind, rank, &u[at..16], out);
+    let answer = window::window_of_word(kind, rank, word, out);
     written(answer, out.len())
 }
 
 // The normal form of a window, and its length.
-fn normal_form(t: u64, kind: u8, rank: u8, w: &[i8], word: usize) -> u64 {
+fn normal_form(t: u64, kind: u8, rank: u8, w: &[i8], word: &[u8]) -> u64 {
     let mut out = [0; 16];
     let k = written(window::normal_form_of_window(kind, rank, w, &mut out), 16);
-    let t = wrapping_add_u64(t, are_letters(&out[0..k], word) as u64);
+    let t = wrapping_add_u64(t, check::same(&out[0..k], word) as u64);
     wrapping_add_u64(
         t,
         is_answer(window::length_of_window(kind, rank, w), 0, k) as u64,
@@ -51,24 +61,20 @@ fn normal_form(t: u64, kind: u8, rank: u8, w: &[i8], word: usize) -> u64 {
 }
 
 // A word in normal form and its window: the window, its normal form and its length.
-pub(crate) fn example(t: u64, kind: u8, rank: u8, word: usize, sizes: usize, signs: usize) -> u64 {
+pub(crate) fn example(t: u64, kind: u8, rank: u8, word: &[u8], entries: &[i8]) -> u64 {
     let mut out = [0; 6];
     let m = put_window(kind, rank, word, &mut out);
     let w = &out[0..m];
-    let t = wrapping_add_u64(t, are_entries(w, sizes, signs) as u64);
+    let t = wrapping_add_u64(t, same_entries(w, entries) as u64);
     normal_form(t, kind, rank, w, word)
 }
 
 // The product of two words.
-pub(crate) fn product(t: u64, kind: u8, rank: u8, x: usize, y: usize, word: usize) -> u64 {
-    let mut u = [0; 16];
-    let mut v = [0; 16];
+pub(crate) fn product(t: u64, kind: u8, rank: u8, x: &[u8], y: &[u8], word: &[u8]) -> u64 {
     let mut out = [0; 16];
-    let i = put_digits(&mut u, x);
-    let j = put_digits(&mut v, y);
-    let answer = window::product_of_words(kind, rank, &u[i..16], &v[j..16], &mut out);
+    let answer = window::product_of_words(kind, rank, x, y, &mut out);
     let k = written(answer, 16);
-    wrapping_add_u64(t, are_letters(&out[0..k], word) as u64)
+    wrapping_add_u64(t, check::same(&out[0..k], word) as u64)
 }
 
 // The product of the windows of two words.
@@ -76,10 +82,9 @@ pub(crate) fn window_product(
     t: u64,
     kind: u8,
     rank: u8,
-    x: usize,
-    y: usize,
-    sizes: usize,
-    signs: usize,
+    x: &[u8],
+    y: &[u8],
+    entries: &[i8],
 ) -> u64 {
     let mut u = [0; 6];
     let mut v = [0; 6];
@@ -88,7 +93,7 @@ pub(crate) fn window_product(
     let j = put_window(kind, rank, y, &mut v);
     let answer = window::product_of_windows(kind, rank, &u[0..i], &v[0..j], &mut out);
     let m = written(answer, 6);
-    wrapping_add_u64(t, are_entries(&out[0..m], sizes, signs) as u64)
+    wrapping_add_u64(t, same_entries(&out[0..m], entries) as u64)
 }
 
 // A word of one letter: refused with this number, or accepted with length 1.
@@ -117,7 +122,7 @@ pub(crate) fn not_first(t: u64, kind: u8, rank: u8) -> u64 {
     let mut out = [0; 16];
     let answer = window::normal_form_of_word(kind, rank, &[1, 3, 2], &mut out);
     let k = written(answer, 16);
-    wrapping_add_u64(t, are_letters(&out[0..k], 312) as u64)
+    wrapping_add_u64(t, check::same(&out[0..k], &[3, 1, 2]) as u64)
 }
 
 // 2 4 in D4 has no rule.
@@ -135,10 +140,10 @@ pub(crate) fn preset_letters(
     edition: Edition,
     book: &[u8],
     number: usize,
-    word: usize,
+    word: &[u8],
 ) -> u64 {
     wrapping_add_u64(
         t,
-        are_letters(book::letters(edition, book, number), word) as u64,
+        check::same(book::letters(edition, book, number), word) as u64,
     )
 }

@@ -1,7 +1,6 @@
 // Checks the worked examples of source document 000 and those of document 01 that no table proves, and the letters of document 01's book, and prints
-// how many cases of each group hold. Words and windows are written in digits, as digits.rt says.
+// how many cases of each group hold.
 mod cases;
-mod digits;
 
 use book::Edition;
 use cases::example;
@@ -15,30 +14,45 @@ use cases::product;
 use cases::window_product;
 use libc::STDOUT_FILENO;
 
-// Source document 000, Examples 2 and 3: x, y and z = xy. Then the blocks of Example 3, r4, r35, r23 and r14 of x and r34, r25 and r16 of y. Then
-// Example 4, with document 01's blocks, since the paper's product of blocks for D has damaged indices.
+// Source document 000, Example 2: x, y and z = xy.
+fn example_2() -> u64 {
+    let x = &[4, 2, 3, 1, 2, 3, 4];
+    let y = &[5, 4, 3, 4, 5, 2, 3, 4, 5, 1, 2, 3, 4];
+    let z = &[5, 4, 3, 4, 2, 3, 1, 2];
+    let t = example(0, 1, 5, x, &[3, 5, 2, 4, 1, 6]);
+    let t = example(t, 1, 5, y, &[6, 4, 5, 3, 1, 2]);
+    let t = example(t, 1, 5, z, &[6, 4, 1, 2, 3, 5]);
+    let t = product(t, 1, 5, x, y, z);
+    window_product(t, 1, 5, x, y, &[6, 4, 1, 2, 3, 5])
+}
+
+// Example 3: x, y and z = xy.
+fn example_3(t: u64) -> u64 {
+    let x = &[4, 3, 4, 3, 2, 3, 1, 2, 3, 4];
+    let y = &[3, 4, 2, 3, 4, 3, 1, 2, 3, 4, 3, 2];
+    let z = &[2, 3, 4, 1, 2, 3, 4, 3, 2, 1];
+    let t = example(t, 2, 4, x, &[-3, -4, 2, -1]);
+    let t = example(t, 2, 4, y, &[4, -1, -2, -3]);
+    let t = example(t, 2, 4, z, &[-1, 3, 4, -2]);
+    let t = product(t, 2, 4, x, y, z);
+    window_product(t, 2, 4, x, y, &[-1, 3, 4, -2])
+}
+
+// The blocks of Example 3: r4, r35, r23 and r14 of x and r34, r25 and r16 of y.
+fn blocks_of_example_3(t: u64) -> u64 {
+    let t = example(t, 2, 4, &[4], &[1, 2, 3, -4]);
+    let t = example(t, 2, 4, &[3, 4, 3], &[1, 2, -3, 4]);
+    let t = example(t, 2, 4, &[2, 3], &[1, 3, 4, 2]);
+    let t = example(t, 2, 4, &[1, 2, 3, 4], &[2, 3, 4, -1]);
+    let t = example(t, 2, 4, &[3, 4], &[1, 2, 4, -3]);
+    let t = example(t, 2, 4, &[2, 3, 4, 3], &[1, 3, -2, 4]);
+    example(t, 2, 4, &[1, 2, 3, 4, 3, 2], &[2, -1, 3, 4])
+}
+
+// Examples 2 to 4. Of Example 4 document 01's blocks, since the paper's product of blocks for D has damaged indices.
 fn worked() -> u64 {
-    let t = example(0, 1, 5, 4231234, 352416, 0);
-    let t = example(t, 1, 5, 5434523451234, 645312, 0);
-    let t = example(t, 1, 5, 54342312, 641235, 0);
-    let t = product(t, 1, 5, 4231234, 5434523451234, 54342312);
-    let t = window_product(t, 1, 5, 4231234, 5434523451234, 641235, 0);
-
-    let t = example(t, 2, 4, 4343231234, 3421, 1101);
-    let t = example(t, 2, 4, 342343123432, 4123, 0111);
-    let t = example(t, 2, 4, 2341234321, 1342, 1001);
-    let t = product(t, 2, 4, 4343231234, 342343123432, 2341234321);
-    let t = window_product(t, 2, 4, 4343231234, 342343123432, 1342, 1001);
-
-    let t = example(t, 2, 4, 4, 1234, 0001);
-    let t = example(t, 2, 4, 343, 1234, 0010);
-    let t = example(t, 2, 4, 23, 1342, 0000);
-    let t = example(t, 2, 4, 1234, 2341, 0001);
-    let t = example(t, 2, 4, 34, 1243, 0001);
-    let t = example(t, 2, 4, 2343, 1324, 0010);
-    let t = example(t, 2, 4, 123432, 2134, 0100);
-
-    example(t, 3, 5, 523512, 35142, 01001)
+    let t = blocks_of_example_3(example_3(example_2()));
+    example(t, 3, 5, &[5, 2, 3, 5, 1, 2], &[3, -5, 1, 4, -2])
 }
 
 // "A rank 31 accepted, 32 refused 6", moved by request 6 to 63 and 64, and in B and D to 64 and 65. "4,096 letters accepted, 4,097 refused 7. Letter n
@@ -56,9 +70,9 @@ fn limits() -> u64 {
 // Document 01, "Mistakes close at hand": values exchanged for positions, the usual order of the integers for the last step alone of B and of D, B's rule
 // for 2 4 in D4, a negated -128, and a shortest word that is not the first in the dictionary.
 fn mistakes() -> u64 {
-    let t = example(0, 1, 2, 12, 231, 0);
-    let t = example(t, 2, 2, 2, 12, 01);
-    let t = example(t, 3, 4, 4, 1243, 0011);
+    let t = example(0, 1, 2, &[1, 2], &[2, 3, 1]);
+    let t = example(t, 2, 2, &[2], &[1, -2]);
+    let t = example(t, 3, 4, &[4], &[1, 2, -4, -3]);
     let t = none_fits(t);
     let t = least_entry(least_entry(least_entry(t, 1, 3), 2, 4), 3, 4);
     not_first(not_first(not_first(t, 1, 3), 2, 4), 3, 4)
@@ -66,9 +80,9 @@ fn mistakes() -> u64 {
 
 // Document 01's book in either edition, with the letters 1 2 1 2 of B2 and 5 2 3 5 1 2 of D5. There is no preset 2, so it has no letters.
 fn letters(t: u64, edition: Edition, book: &[u8]) -> u64 {
-    let t = preset_letters(t, edition, book, 0, 1212);
-    let t = preset_letters(t, edition, book, 1, 523512);
-    preset_letters(t, edition, book, 2, 0)
+    let t = preset_letters(t, edition, book, 0, &[1, 2, 1, 2]);
+    let t = preset_letters(t, edition, book, 1, &[5, 2, 3, 5, 1, 2]);
+    preset_letters(t, edition, book, 2, &book[0..0])
 }
 
 fn books() -> u64 {
