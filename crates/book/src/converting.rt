@@ -1,11 +1,13 @@
 // A book turned into the other edition: the checks of each record, then the records one after the other, their offsets and the count.
 use crate::numbers::count_of;
 use crate::numbers::put_two;
+use crate::numbers::record_start;
 use crate::numbers::two_at;
 use crate::reading::LARGEST;
 use crate::reading::book_refusal;
 use crate::reading::check_record;
 use crate::records::count_place;
+use crate::records::head_size;
 use crate::writing::write_record;
 use book_format::Edition;
 use book_format::Preset;
@@ -38,15 +40,6 @@ fn converted_size(edition: Edition, size: usize, c: usize) -> usize
         Edition::First => size + c,
         Edition::Second => size - c,
     }
-}
-
-// Where the record of a number begins, in a book of c presets that passes checks 1 to 3.
-fn record_start(book: &[u8], c: usize, number: usize) -> usize
-    requires { ⌜ (c ≡ count (now book)) × (2 * c + 2 ≤ length (now book)) × (number < c) ⌝ }
-    ensures { λ r. ⌜ (r ≡ offset (now (book .entry)) number) × (r < 65536) ⌝ }
-{
-    let trailer = book.len() - (2 * c + 2);
-    two_at(book, trailer + 2 * number)
 }
 
 // Check 18, of the record at byte o. Going to the second edition no record has too many lanes.
@@ -117,8 +110,7 @@ fn other_size(edition: Edition, book: &[u8], c: usize, number: usize) -> usize
 {
     let o = record_start(book, c, number);
     let place = count_place(edition);
-    let new_place = count_place(other(edition));
-    new_place + 2 + two_at(book, o + place)
+    head_size(other(edition)) + two_at(book, o + place)
 }
 
 // The record of a number, written from p on in the other edition.
@@ -131,7 +123,7 @@ fn write_other(edition: Edition, book: &[u8], c: usize, number: usize, out: &mut
 {
     let o = record_start(book, c, number);
     let place = count_place(edition);
-    let start = o + (place + 2);
+    let start = o + head_size(edition);
     let end = start + two_at(book, o + place);
     write_record(
         other(edition),
@@ -183,8 +175,8 @@ fn write_converted(edition: Edition, book: &[u8], c: usize, out: &mut [u8])
     put_two(out, p + 2 * c, c);
 }
 
-// Converting a book of the edition to the other one: the length of the new book, written to the front of `out`; a book of no bytes stays one. Checks 1 to 3 of the book, then record
-// by record its 5 to 8, in the second edition with 17 and then 18, then 13 and 14.
+// Converting a book of the edition to the other one: the length of the new book, written to the front of `out`; a book of no bytes stays one. Checks 1
+// to 3 of the book, then record by record its 5 to 8, in the second edition with 17 and then 18, then 13 and 14.
 pub fn convert(edition: Edition, book: &[u8], out: &mut [u8]) -> Answer
     ensures { λ r. ⌜ r ≡ converting edition (now (book .entry)) (now (out .entry)) .answer ⌝ }
     ensures { λ _. ⌜ now (out .exit) ≡ converting edition (now (book .entry)) (now (out .entry)) .bytes ⌝ }

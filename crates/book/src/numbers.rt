@@ -1,9 +1,9 @@
-// Two-byte numbers, low byte first, and runs of bytes in a slice.
+// Two-byte numbers, low byte first, in a slice and in a book, and runs of bytes.
 ghost use mathlib.Core.Path.{_≡_};
-ghost use Prim.Native.Nat.{_+_, _<_, _≤_};
+ghost use Prim.Native.Nat.{_+_, _*_, _<_, _≤_};
 ghost use lib.ListN.{length};
 ghost use lib.Seq.{sets};
-ghost use Rattle.book_format.specs.Books.{twoAt, two, count};
+ghost use Rattle.book_format.specs.Books.{twoAt, two, count, offset};
 ghost use Rattle.book_format.proofs.BookLaws.{bookSize};
 
 // The number at p.
@@ -25,6 +25,15 @@ pub(crate) fn count_of(book: &[u8]) -> usize
         return 0;
     }
     two_at(book, book.len() - 2)
+}
+
+// Where the record of a number begins, in a book of c presets that passes checks 1 to 3.
+pub(crate) fn record_start(book: &[u8], c: usize, number: usize) -> usize
+    requires { ⌜ (c ≡ count (now book)) × (2 * c + 2 ≤ length (now book)) × (number < c) ⌝ }
+    ensures { λ r. ⌜ (r ≡ offset (now (book .entry)) number) × (r < 65536) ⌝ }
+{
+    let trailer = book.len() - (2 * c + 2);
+    two_at(book, trailer + 2 * number)
 }
 
 // The size of a book with its count, which a book of no bytes lacks.

@@ -1,5 +1,6 @@
 // Checks 1 to 8 on a book and its presets, in the second edition also 17, and the letters of a preset.
 use crate::numbers::count_of;
+use crate::numbers::record_start;
 use crate::numbers::two_at;
 use crate::records::book_rank_refusal;
 use crate::records::count_place;
@@ -121,8 +122,7 @@ pub(crate) fn numbered_preset(edition: Edition, book: &[u8], number: usize) -> P
     ensures { λ r. ⌜ r ≡ checkedPreset edition (now (book .entry)) number ⌝ }
 {
     let c = count_of(book);
-    let trailer = book.len() - (2 * c + 2);
-    let o = two_at(book, trailer + 2 * number);
+    let o = record_start(book, c, number);
     check_record(edition, book, o)
 }
 

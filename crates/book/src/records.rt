@@ -1,4 +1,4 @@
-// What the editions of a book differ in: the place of a record's letter count, its lane count, and the ranges of its ranks.
+// What the editions of a book differ in: the place of a record's letter count and of its letters, its lane count, and the ranges of its ranks.
 use book_format::Edition;
 use refusals::rank_refusal;
 ghost use mathlib.Core.Path.{_≡_};
@@ -7,9 +7,9 @@ ghost use lib.ListN.{length};
 ghost use lib.Seq.{sets};
 ghost use Rattle.coxeter.specs.Kinds as kinds;
 ghost use Rattle.coxeter.specs.Kinds.{kindOf};
-ghost use Rattle.book_format.specs.Books.{countPlace, greatestInBook, bookRankRefusal, wrongLaneCount, laneByte, retired};
+ghost use Rattle.book_format.specs.Books.{countPlace, headSize, greatestInBook, bookRankRefusal, wrongLaneCount, laneByte, retired};
 
-// Where a record has its letter count. Its letters begin two bytes later.
+// Where a record has its letter count.
 pub(crate) fn count_place(edition: Edition) -> usize
     ensures { λ r. ⌜ (r ≡ countPlace edition) × (2 ≤ r) × (r ≤ 3) ⌝ }
 {
@@ -17,6 +17,13 @@ pub(crate) fn count_place(edition: Edition) -> usize
         Edition::First => 2,
         Edition::Second => 3,
     }
+}
+
+// How many bytes of a record stand before its letters.
+pub(crate) fn head_size(edition: Edition) -> usize
+    ensures { λ r. ⌜ (r ≡ headSize edition) × (4 ≤ r) × (r ≤ 5) ⌝ }
+{
+    count_place(edition) + 2
 }
 
 // The greatest rank of a record.

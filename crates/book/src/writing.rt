@@ -7,6 +7,7 @@ use crate::reading::LARGEST;
 use crate::reading::book_refusal;
 use crate::records::book_rank_refusal;
 use crate::records::count_place;
+use crate::records::head_size;
 use crate::records::is_retired;
 use crate::records::put_lanes;
 use book_format::Edition;
@@ -36,11 +37,12 @@ pub(crate) fn write_record(
         ≡ sets (now (out .entry)) p (recordOf edition kind rank (lanes (kindOf kind) rank) (now (word .entry))) ⌝ }
 {
     let place = count_place(edition);
+    let head = head_size(edition);
     out[p] = kind;
     out[p + 1] = rank;
     put_lanes(edition, kind, rank, out, p + 2);
     put_two(out, p + place, word.len());
-    copy_to(word, out, p + place + 2);
+    copy_to(word, out, p + head);
 }
 
 // The records of a book, which end at the byte `trailer`, and the new record.
@@ -82,9 +84,9 @@ fn write_appended(edition: Edition, book: &[u8], kind: u8, rank: u8, word: &[u8]
 {
     let c = count_of(book);
     let trailer = size_of(book) - (2 * c + 2);
-    let place = count_place(edition);
+    let head = head_size(edition);
     write_records(edition, book, trailer, kind, rank, word, out);
-    write_trailer(book, trailer, c, out, trailer + (place + 2) + word.len());
+    write_trailer(book, trailer, c, out, trailer + head + word.len());
 }
 
 // Checks 1 to 3 of the book, 5 to 8 of the preset, 21, 13.
@@ -106,8 +108,8 @@ fn append_refusal(edition: Edition, book: &[u8], kind: u8, rank: u8, word: &[u8]
     if is_retired(kind, rank) {
         return 21;
     }
-    let place = count_place(edition);
-    if LARGEST < size_of(book) + (place + 2 + word.len() + 2) {
+    let head = head_size(edition);
+    if LARGEST < size_of(book) + (head + word.len() + 2) {
         return 13;
     }
     0
@@ -129,8 +131,8 @@ pub fn append(
     if r != 0 {
         return Answer::Refused(r);
     }
-    let place = count_place(edition);
-    let size = size_of(book) + (place + 2 + word.len() + 2);
+    let head = head_size(edition);
+    let size = size_of(book) + (head + word.len() + 2);
     if out.len() < size {
         return Answer::Refused(14);
     }

@@ -245,7 +245,6 @@ pub endAt-offset-le : (ed : Edition) (b : List ℕ) (i : ℕ) → Accepted ed b 
 unfolding misplaced
 endAt-offset-le ed b i a h = rw zero-add at (record-inside ed b (count b) 0 0 i (a .placed) h)
 
--- the same as code meets it: c is the count, o the offset
-pub endAt-read-le : (ed : Edition) (b : List ℕ) (i c o : ℕ) → Accepted ed b → i < count b → c ≡ count b → o ≡ twoAt b (length b - (2 * c + 2) + 2 * i)
-    → endAt ed b o ≤ length b
-endAt-read-le ed b i c o a h q p = rw (← offset-read b c i o q p) (le-trans (endAt-offset-le ed b i a h) (trailer-le b))
+-- the same as code meets it: o is the offset
+pub endAt-read-le : (ed : Edition) (b : List ℕ) (i o : ℕ) → Accepted ed b → i < count b → o ≡ offset b i → endAt ed b o ≤ length b
+endAt-read-le ed b i o a h q = rw q (le-trans (endAt-offset-le ed b i a h) (trailer-le b))

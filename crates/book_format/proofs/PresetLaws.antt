@@ -5,7 +5,7 @@
 use mathlib.Core.Path.{_≡_, sym, _∙_}
 use mathlib.Core.Bool.{Bool, true, false}
 use mathlib.Core.List.{List, []}
-use Prim.Native.Nat.{ℕ, _+_, _-_, _*_, _≤_, _<_}
+use Prim.Native.Nat.{ℕ, _+_, _-_, _≤_, _<_}
 use native.Mathlib.Decide.{ℕ-discrete}
 use native.Mathlib.Omega.{arith}
 use lib.ListN.{length, take, drop}
@@ -18,7 +18,7 @@ use Rattle.book_format.specs.Books.{twoAt, count, offset, countPlace, he
 use Rattle.book_format.specs.Books.{noSuchPreset, bookRankRefusal, bookRefusal, recordRefusal, presetRefusal}
 use Rattle.book_format.specs.Calls.{openedOf, presetOf, checkedBook, presetAt, checkedRecord, checkedPreset, lettersStart, lettersOf}
 use Rattle.book_format.proofs.RankLaws.{bookRank-accepted}
-use Rattle.book_format.proofs.BookLaws.{Accepted, accepted, offset-read, trailer-le, endAt-offset-le}
+use Rattle.book_format.proofs.BookLaws.{Accepted, accepted, trailer-le, endAt-offset-le}
 use Rattle.coxeter.proofs.Refusals.{then-zero, check-zero, then-none, then-some}
 
 -- ---- answers
@@ -105,11 +105,11 @@ pub presetRefusal-record : (ed : Edition) (b : List ℕ) (i : ℕ) → bookRefus
 unfolding presetRefusal noSuchPreset
 presetRefusal-record ed b i z h = rw (eq-eqb (bookRefusal ed b) 0 z, lt-leb (count b) i h)
 
--- the same as code meets it: c is the count, o the offset
-pub checkedPreset-record : (ed : Edition) (b : List ℕ) (i c o : ℕ) → bookRefusal ed b ≡ 0 → i < count b → c ≡ count b
-    → o ≡ twoAt b (length b - (2 * c + 2) + 2 * i) → checkedPreset ed b i ≡ checkedRecord ed b o
+-- the same as code meets it: o is the offset
+pub checkedPreset-record : (ed : Edition) (b : List ℕ) (i o : ℕ) → bookRefusal ed b ≡ 0 → i < count b → o ≡ offset b i
+    → checkedPreset ed b i ≡ checkedRecord ed b o
 unfolding checkedPreset checkedRecord
-checkedPreset-record ed b i c o z h q p = rw (presetRefusal-record ed b i z h, offset-read b c i o q p)
+checkedPreset-record ed b i o z h q = rw (presetRefusal-record ed b i z h, q)
 
 -- r is the refusal of the book
 module _ (ed : Edition) (b : List ℕ) (i r : ℕ) (e : r ≡ bookRefusal ed b) where

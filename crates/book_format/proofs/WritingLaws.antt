@@ -44,9 +44,9 @@ length-appended ed b k n u a =
     let s = a .sized in
     simp (length-append, length-recordOf, length-two, length-take-le (trailer b) b (trailer-le b), length-take-le (2 * count b) (drop (trailer b) b) (rw length-drop (omega arith))) (omega arith)
 
--- its length, as the code computes it: s is the size of the old book with its count, p the place of a letter count
-pub size-read : (ed : Edition) (b u : List ℕ) (s p : ℕ) → s ≡ bookSize b → p ≡ countPlace ed → s + (p + 2 + length u + 2) ≡ bookSize b + added ed u
-size-read ed b u s p q e = rw (q, e)
+-- its length, as the code computes it: s is the size of the old book with its count, m that of a record's head
+pub size-read : (ed : Edition) (b u : List ℕ) (s m : ℕ) → s ≡ bookSize b → m ≡ headSize ed → s + (m + length u + 2) ≡ bookSize b + added ed u
+size-read ed b u s m q e = rw (q, e)
 
 -- ---- appending
 

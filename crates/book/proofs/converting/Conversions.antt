@@ -6,7 +6,7 @@ use mathlib.Core.Path.{_≡_, refl, sym, ap, _∙_}
 use mathlib.Core.Bool.{Bool}
 use mathlib.Core.List.{List, [], _∷_, _++_}
 use Prim.Native.Nat.{ℕ, suc, _+_, _-_, _*_, _≤_, _<_}
-use native.Mathlib.Nat.{le-trans, zero-add}
+use native.Mathlib.Nat.{zero-add}
 use native.Mathlib.Numerals.{add-one}
 use native.Mathlib.Omega.{arith}
 use lib.ListN.{length, getD, take, drop, length-append}
@@ -25,7 +25,7 @@ use Rattle.book_format.specs.Books.{twoAt, two, count, offset, countPlace, head
 use Rattle.book_format.specs.Records.{recordBytes, offsetBytes, layOut, recordAt, recordsFrom, recordsOf}
 use Rattle.book_format.specs.Calls.{checkedRecord}
 use Rattle.book_format.specs.Conversion.{other, converted, tooManyLanes, recordConversionRefusal, recordsConversionRefusal, conversionRefusal, converting}
-use Rattle.book_format.proofs.BookLaws.{accepted, trailer-le, endAt-offset-le, end-read-le}
+use Rattle.book_format.proofs.BookLaws.{accepted, endAt-read-le, end-read-le}
 use Rattle.book_format.proofs.RankLaws.{bookRank-accepted}
 use Rattle.book_format.proofs.PresetLaws.{record-found, record-refused}
 use Rattle.book_format.proofs.WritingLaws.{length-two, length-recordOf}
@@ -37,7 +37,7 @@ use Rattle.book_format.proofs.Converting.{Convertible, converted-some, converte
 
 -- a record of an accepted book lies before its trailer
 pub inside : (ed : Edition) (b : List ℕ) (c i o : ℕ) → bookRefusal ed b ≡ 0 → c ≡ count b → i < c → o ≡ offset b i → endAt ed b o ≤ length b
-inside ed b c i o z e h q = rw q (le-trans (endAt-offset-le ed b i (accepted ed b z) (omega arith)) (trailer-le b))
+inside ed b c i o z e h q = endAt-read-le ed b i o (accepted ed b z) (omega arith) q
 
 -- ---- the checks
 
@@ -153,24 +153,27 @@ module _ (ed : Edition) (b : List ℕ) (w : Convertible ed b) (c : ℕ) (n : c �
         let r = passing-at ed b i w (omega arith) .rank in
         rw q (rank-accepted (kindAt b (offset b i)) (rankAt b (offset b i)) (bookRank-accepted ed (kindAt b (offset b i)) (rankAt b (offset b i)) r) .1)
 
-    letters-are : take (o + (p + 2) + l - (o + (p + 2))) (drop (o + (p + 2)) b) ≡ lettersAt ed b (offset b i)
-    letters-are = let d : o + (p + 2) + l - (o + (p + 2)) ≡ l = omega arith in rw (d, g, f, q)
-
-    pub end-inside : o + (p + 2) + l ≤ length b
-    end-inside = end-read-le ed b o p l f g (inside ed b c i o (w .opens) n h q)
-
-    pub room-for : (to : Edition) (at m : ℕ) → to ≡ other ed → at + headSize (other ed) + letterCountAt ed b (offset b i) ≤ m
-        → at + headSize to + length (take (o + (p + 2) + l - (o + (p + 2))) (drop (o + (p + 2)) b)) ≤ m
-    room-for to at m e k =
-        rw (letters-are, e, length-lettersAt ed b (offset b i) (inside ed b c i (offset b i) (w .opens) n h refl)) k
-
-    pub other-written : (to : Edition) (at : ℕ) (out out′ : List ℕ) → to ≡ other ed
-        → out′ ≡ sets out at (recordOf to (getD b o 0) (getD b (o + 1) 0) (lanes (kindOf (getD b o 0)) (getD b (o + 1) 0)) (take (o + (p + 2) + l - (o + (p + 2))) (drop (o + (p + 2)) b)))
-        → out′ ≡ sets out at (bytesAt ed b i)
-    other-written to at out out′ e k = k ∙ rw (letters-are, e, q, ← passing-at ed b i w (omega arith) .lanes-right)
-
-    pub size-of-other : (to : Edition) (x : ℕ) → to ≡ other ed → x ≡ countPlace to → x + 2 + l ≡ headSize (other ed) + letterCountAt ed b (offset b i)
+    pub size-of-other : (to : Edition) (x : ℕ) → to ≡ other ed → x ≡ headSize to → x + l ≡ headSize (other ed) + letterCountAt ed b (offset b i)
     size-of-other to x e k = rw (k, e, g, f, q)
+
+    -- its letters begin m bytes after it
+    module _ (m : ℕ) (d : m ≡ headSize ed) where
+      letters-are : take (o + m + l - (o + m)) (drop (o + m) b) ≡ lettersAt ed b (offset b i)
+      letters-are = let s : o + m + l - (o + m) ≡ l = omega arith in rw (s, d, g, f, q)
+
+      pub end-inside : o + m + l ≤ length b
+      end-inside = omega (arith, end-read-le ed b o p l f g (inside ed b c i o (w .opens) n h q))
+
+      pub room-for : (to : Edition) (at most : ℕ) → to ≡ other ed → at + headSize (other ed) + letterCountAt ed b (offset b i) ≤ most
+          → at + headSize to + length (take (o + m + l - (o + m)) (drop (o + m) b)) ≤ most
+      room-for to at most e k =
+          rw (letters-are, e, length-lettersAt ed b (offset b i) (inside ed b c i (offset b i) (w .opens) n h refl)) k
+
+      pub other-written : (to : Edition) (at : ℕ) (out out′ : List ℕ) → to ≡ other ed
+          → out′ ≡ sets out at (recordOf to (getD b o 0) (getD b (o + 1) 0) (lanes (kindOf (getD b o 0)) (getD b (o + 1) 0))
+          (take (o + m + l - (o + m)) (drop (o + m) b)))
+          → out′ ≡ sets out at (bytesAt ed b i)
+      other-written to at out out′ e k = k ∙ rw (letters-are, e, q, ← passing-at ed b i w (omega arith) .lanes-right)
 
   -- ---- the records, one after the other
 

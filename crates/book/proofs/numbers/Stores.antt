@@ -4,11 +4,12 @@ use mathlib.Core.Path.{_≡_, _∙_}
 use mathlib.Core.List.{List}
 use Prim.Native.Nat.{ℕ, _+_, _/_, _%_}
 use native.Mathlib.Numerals.{add-one, add-two, add-three}
+use native.Mathlib.Omega.{arith}
 use lib.ListN.{length, set}
 use lib.Seq.{sets}
 use Rattle.book_format.specs.declared.Edition.{Edition}
 use Rattle.book_format.specs.declared.Edition.the-variants.{First, Second}
-use Rattle.book_format.specs.Books.{two, laneByte, recordOf, countPlace}
+use Rattle.book_format.specs.Books.{two, laneByte, recordOf, countPlace, headSize}
 
 pub sets-two : (l : List ℕ) (p x : ℕ) → set (set l p (x % 256)) (p + 1) (x / 256 % 256) ≡ sets l p (two x)
 unfolding two
@@ -22,8 +23,10 @@ unfolding recordOf two
 sets-record First l p k n m u = simp (add-one, add-two)
 sets-record Second l p k n m u = simp (add-one, add-two, add-three)
 
--- the same step by step: the place c of the letter count is read, and each store gives the next list
-pub record-stored : (ed : Edition) (l : List ℕ) (p k n m c : ℕ) (u o₁ o₂ o₃ : List ℕ) → c ≡ countPlace ed
-    → o₁ ≡ sets (set (set l p k) (p + 1) n) (p + 2) (laneByte ed m) → o₂ ≡ sets o₁ (p + c) (two (length u)) → o₃ ≡ sets o₂ (p + c + 2) u
+-- the same step by step: the place c of the letter count and the place h of the letters are read, and each store gives the next list
+pub record-stored : (ed : Edition) (l : List ℕ) (p k n m c h : ℕ) (u o₁ o₂ o₃ : List ℕ) → c ≡ countPlace ed → h ≡ headSize ed
+    → o₁ ≡ sets (set (set l p k) (p + 1) n) (p + 2) (laneByte ed m) → o₂ ≡ sets o₁ (p + c) (two (length u)) → o₃ ≡ sets o₂ (p + h) u
     → o₃ ≡ sets l p (recordOf ed k n m u)
-record-stored ed l p k n m c u o₁ o₂ o₃ e e₁ e₂ e₃ = e₃ ∙ rw (e₂, e₁, e) (sets-record ed l p k n m u)
+record-stored ed l p k n m c h u o₁ o₂ o₃ e d e₁ e₂ e₃ =
+    let s : p + h ≡ p + countPlace ed + 2 = omega arith in
+    e₃ ∙ rw (s, e₂, e₁, e) (sets-record ed l p k n m u)

@@ -8,7 +8,7 @@ use lib.ListN.{length, take, drop, length-append, length-drop}
 use lib.Seq.{sets, length-take-le}
 use Rattle.coxeter.specs.Kinds.{kindOf, lanes}
 use Rattle.book_format.specs.declared.Edition.{Edition}
-use Rattle.book_format.specs.Books.{two, countPlace, headSize, bookRefusal, recordOf, appended, count, trailer}
+use Rattle.book_format.specs.Books.{two, headSize, bookRefusal, recordOf, appended, count, trailer}
 use Rattle.coxeter.proofs.Lists.{sets-next}
 use Rattle.book_format.proofs.BookLaws.{accepted, bookSize}
 use Rattle.book_format.proofs.WritingLaws.{length-recordOf, length-two}
@@ -39,14 +39,14 @@ trailer-written b out t c p o₁ o₂ o₃ h e₁ e₂ e₃ =
     )
     (ap (sets out p) (append-assoc offsets (two t) (two (c + 1))))
 
--- the records and then the trailer: c is the count, s the size with its count, t the beginning of the trailer as the code has it, p the place of a letter
--- count
-pub appended-written : (ed : Edition) (b out : List ℕ) (k n : ℕ) (u : List ℕ) (c s p : ℕ) (o₁ o₂ : List ℕ) → bookRefusal ed b ≡ 0 → c ≡ count b → s ≡ bookSize b
-    → p ≡ countPlace ed → let t = s - (2 * c + 2) in
-    o₁ ≡ sets out 0 (take t b ++ recordOf ed k n (lanes (kindOf k) n) u) → o₂ ≡ sets o₁ (t + (p + 2) + length u) (take (2 * c) (drop t b) ++ (two t ++ two (c + 1)))
+-- the records and then the trailer: c is the count, s the size with its count, t the beginning of the trailer as the code has it, m the size of a
+-- record's head
+pub appended-written : (ed : Edition) (b out : List ℕ) (k n : ℕ) (u : List ℕ) (c s m : ℕ) (o₁ o₂ : List ℕ) → bookRefusal ed b ≡ 0 → c ≡ count b → s ≡ bookSize b
+    → m ≡ headSize ed → let t = s - (2 * c + 2) in
+    o₁ ≡ sets out 0 (take t b ++ recordOf ed k n (lanes (kindOf k) n) u) → o₂ ≡ sets o₁ (t + m + length u) (take (2 * c) (drop t b) ++ (two t ++ two (c + 1)))
     → o₂ ≡ sets out 0 (appended ed b k n u)
 unfolding appended
-appended-written ed b out k n u c s p o₁ o₂ z q y w e₁ e₂ =
+appended-written ed b out k n u c s m o₁ o₂ z q y w e₁ e₂ =
     let t = s - (2 * c + 2) in
     let trailing = take (2 * c) (drop t b) ++ (two t ++ two (c + 1)) in
     let a = accepted ed b z in
@@ -54,4 +54,4 @@ appended-written ed b out k n u c s p o₁ o₂ z q y w e₁ e₂ =
     let new = recordOf ed k n (lanes (kindOf k) n) u in
     let l : length (take t b ++ new) ≡ t + (headSize ed + length u) = simp (length-append, length-take-le t b (omega arith), length-recordOf) in
     e₂
-    ∙ rw (e₁, sets-next out 0 (t + (p + 2) + length u) (take t b ++ new) trailing (omega arith), append-assoc, e, q)
+    ∙ rw (e₁, sets-next out 0 (t + m + length u) (take t b ++ new) trailing (omega arith), append-assoc, e, q)

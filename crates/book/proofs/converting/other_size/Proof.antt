@@ -18,11 +18,8 @@ count-place-requires c κs = search needs
 other-requires : tie.Need-other-requires
 other-requires c κs = search needs
 
-count-place-requires-2 : tie.Need-count-place-requires-2
-count-place-requires-2 c κs = search needs
-
-add-result : tie.Need-add-result
-add-result c = search needs
+head-size-requires : tie.Need-head-size-requires
+head-size-requires c κs = search needs
 
 add-two-at : tie.Need-add-two-at
 add-two-at c = search needs
@@ -33,8 +30,8 @@ two-at-requires c κs =
     let pre = read .before .before .pre in
     omega (arith, inside _ _ _ _ _ (pre .0 .opens) (pre .1) (pre .2) (read .record-start .ensures .0), c .before .before .count-place .ensures .0)
 
-add-result-2 : tie.Need-add-result-2
-add-result-2 c = search needs
+add-result : tie.Need-add-result
+add-result c = search needs
 
 returns : tie.Need-returns
 returns c =
@@ -42,7 +39,7 @@ returns c =
     let read = placed .before in
     let pre = read .before .before .pre in
     size-of-other _ _ (pre .0) _ (pre .1) _ _ _ _ (pre .2) (read .record-start .ensures .0) (placed .count-place .ensures .0) (c .two-at .ensures .0) _ _
-    (c .before .before .other .ensures) (c .before .count-place2 .ensures .0)
+    (c .before .before .other .ensures) (c .before .head-size .ensures .0)
 
 pub other-size-spec : {M : Type 1} → statement M
 other-size-spec =
@@ -51,9 +48,8 @@ other-size-spec =
     record-start-requires
     count-place-requires
     other-requires
-    count-place-requires-2
-    add-result
+    head-size-requires
     add-two-at
     two-at-requires
-    add-result-2
+    add-result
     returns)

@@ -15,20 +15,20 @@ record-start-requires c κs =
 count-place-requires : tie.Need-count-place-requires
 count-place-requires c κs = search needs
 
+head-size-requires : tie.Need-head-size-requires
+head-size-requires c κs = search needs
+
 add-start : tie.Need-add-start
 add-start c = search needs
-
-add-start-2 : tie.Need-add-start-2
-add-start-2 c = search needs
 
 add-two-at : tie.Need-add-two-at
 add-two-at c = search needs
 
 two-at-requires : tie.Need-two-at-requires
 two-at-requires c κs =
-    let read = c .before in
+    let read = c .before .before in
     let pre = read .before .before .before .pre .0 in
-    omega (arith, inside _ _ _ _ _ (pre .0 .opens) (pre .1) (pre .2) (read .record-start .ensures .0), c .count-place .ensures .0)
+    omega (arith, inside _ _ _ _ _ (pre .0 .opens) (pre .1) (pre .2) (read .record-start .ensures .0), c .before .count-place .ensures .0)
 
 add-end : tie.Need-add-end
 add-end c = search needs
@@ -38,7 +38,7 @@ other-requires c κs = search needs
 
 shared-slice-read-write-record : tie.Need-shared-slice-read-write-record
 shared-slice-read-write-record c =
-    let read = c .before .before .before .before in
+    let read = c .before .before .before .before .before in
     let pre = read .before .before .before .pre .0 in
     omega (arith, inside _ _ _ _ _ (pre .0 .opens) (pre .1) (pre .2) (read .record-start .ensures .0))
 
@@ -47,9 +47,11 @@ add-write-record c = search needs
 
 shared-slice-read-write-record-2 : tie.Need-shared-slice-read-write-record-2
 shared-slice-read-write-record-2 c =
-    let read = c .before .before .before .before .before in
-    let pre = read .before .before .before .pre .0 in
-    omega (arith, inside _ _ _ _ _ (pre .0 .opens) (pre .1) (pre .2) (read .record-start .ensures .0), two-le-countPlace (read .before .before .before .args .edition))
+    let read = c .before .before .before .before .before .before in
+    let start = read .before .before .before in
+    let pre = start .pre .0 in
+    let h = two-le-countPlace (start .args .edition) in
+    omega (arith, inside _ _ _ _ _ (pre .0 .opens) (pre .1) (pre .2) (read .record-start .ensures .0))
 
 sub-write-record : tie.Need-sub-write-record
 sub-write-record c = search needs
@@ -60,21 +62,24 @@ part-write-record-start c = search needs
 part-write-record-end : tie.Need-part-write-record-end
 part-write-record-end c =
     let counted = c .before .before .before in
-    let placed = counted .before in
+    let headed = counted .before in
+    let placed = headed .before in
     let read = placed .before in
     let pre = read .before .before .before .pre .0 in
     end-inside _ _ (pre .0) _ (pre .1) _ _ _ _ (pre .2) (read .record-start .ensures .0) (placed .count-place .ensures .0) (counted .two-at .ensures .0)
+    _ (headed .head-size .ensures .0)
 
 write-record-requires : tie.Need-write-record-requires
 write-record-requires c κs =
     let counted = c .before .before .before .before .before in
-    let placed = counted .before in
+    let headed = counted .before in
+    let placed = headed .before in
     let read = placed .before in
     let start = read .before .before .before in
     let pre = start .pre .0 in (
       rank-fits _ _ (pre .0) _ (pre .1) _ _ _ _ (pre .2) (read .record-start .ensures .0) (placed .count-place .ensures .0) (counted .two-at .ensures .0),
-      room-for _ _ (pre .0) _ (pre .1) _ _ _ _ (pre .2) (read .record-start .ensures .0) (placed .count-place .ensures .0) (counted .two-at .ensures .0) _ _ _
-          (c .before .before .before .before .other .ensures) (start .pre .1),
+      room-for _ _ (pre .0) _ (pre .1) _ _ _ _ (pre .2) (read .record-start .ensures .0) (placed .count-place .ensures .0) (counted .two-at .ensures .0)
+          _ (headed .head-size .ensures .0) _ _ _ (c .before .before .before .before .other .ensures) (start .pre .1),
     )
 
 same-length : tie.Need-same-length
@@ -84,11 +89,12 @@ returns : tie.Need-returns
 returns c =
     let written = c .before .before in
     let counted = written .before .before .before .before .before .before in
-    let placed = counted .before in
+    let headed = counted .before in
+    let placed = headed .before in
     let read = placed .before in
     let pre = read .before .before .before .pre .0 in
-    other-written _ _ (pre .0) _ (pre .1) _ _ _ _ (pre .2) (read .record-start .ensures .0) (placed .count-place .ensures .0) (counted .two-at .ensures .0) _ _ _ _
-    (written .before .before .before .before .before .other .ensures) (written .write-record .ensures)
+    other-written _ _ (pre .0) _ (pre .1) _ _ _ _ (pre .2) (read .record-start .ensures .0) (placed .count-place .ensures .0) (counted .two-at .ensures .0)
+    _ (headed .head-size .ensures .0) _ _ _ _ (written .before .before .before .before .before .other .ensures) (written .write-record .ensures)
 
 pub write-other-spec : {M : Type 1} → statement M
 write-other-spec =
@@ -96,8 +102,8 @@ write-other-spec =
     (tie.spec
     record-start-requires
     count-place-requires
+    head-size-requires
     add-start
-    add-start-2
     add-two-at
     two-at-requires
     add-end

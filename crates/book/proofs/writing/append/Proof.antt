@@ -15,8 +15,8 @@ append-refusal-requires c κs = search needs
 returns : tie.Need-returns
 returns c = appending-refused _ _ _ _ _ _ _ (c .before .append-refusal .ensures) (c .if1 .taken)
 
-count-place-requires : tie.Need-count-place-requires
-count-place-requires c κs = search needs
+head-size-requires : tie.Need-head-size-requires
+head-size-requires c κs = search needs
 
 size-of-requires : tie.Need-size-of-requires
 size-of-requires c κs = search needs
@@ -28,10 +28,7 @@ add-size-2 : tie.Need-add-size-2
 add-size-2 c = search needs
 
 add-size-3 : tie.Need-add-size-3
-add-size-3 c = search needs
-
-add-size-4 : tie.Need-add-size-4
-add-size-4 c =
+add-size-3 c =
     let checked = c .before .before in
     let a = accepted _ _ (append-book _ _ _ _ _ (sym (checked .before .append-refusal .ensures) ∙ checked .if1 .left)) in
     omega (arith, a .most, c .size-of .ensures)
@@ -39,19 +36,19 @@ add-size-4 c =
 returns-2 : tie.Need-returns-2
 returns-2 c =
     let sized = c .before in
-    let placed = sized .before in
-    let checked = placed .before in
+    let headed = sized .before in
+    let checked = headed .before in
     let a = checked .before .before .before .before .before .args in
-    let s = size-read (a .edition) (now (a .book)) (now (a .word)) _ _ (sized .size-of .ensures) (placed .count-place .ensures .0) in
+    let s = size-read (a .edition) (now (a .book)) (now (a .word)) _ _ (sized .size-of .ensures) (headed .head-size .ensures .0) in
     appending-short _ _ _ _ _ _ _ (checked .before .append-refusal .ensures) _ s (checked .if1 .left) (c .if2 .taken)
 
 write-appended-requires : tie.Need-write-appended-requires
 write-appended-requires c κs =
     let sized = c .before .before in
-    let placed = sized .before in
-    let checked = placed .before in
+    let headed = sized .before in
+    let checked = headed .before in
     let passed = sym (checked .before .append-refusal .ensures) ∙ checked .if1 .left in
-    ((append-book _ _ _ _ _ passed, append-rank _ _ _ _ _ passed), omega (arith, c .before .if2 .left, placed .count-place .ensures .0, sized .size-of .ensures))
+    ((append-book _ _ _ _ _ passed, append-rank _ _ _ _ _ passed), omega (arith, c .before .if2 .left, headed .head-size .ensures .0, sized .size-of .ensures))
 
 same-length : tie.Need-same-length
 same-length c = search needs
@@ -60,10 +57,10 @@ returns-3 : tie.Need-returns-3
 returns-3 c =
     let roomy = c .before .before .before .before in
     let sized = roomy .before in
-    let placed = sized .before in
-    let checked = placed .before in
+    let headed = sized .before in
+    let checked = headed .before in
     let a = checked .before .before .before .before .before .args in
-    let s = size-read (a .edition) (now (a .book)) (now (a .word)) _ _ (sized .size-of .ensures) (placed .count-place .ensures .0) in
+    let s = size-read (a .edition) (now (a .book)) (now (a .word)) _ _ (sized .size-of .ensures) (headed .head-size .ensures .0) in
     appending-written _ _ _ _ _ _ _ (checked .before .append-refusal .ensures) _ s _ (checked .if1 .left) (roomy .if2 .left)
     (c .before .before .write-appended .ensures)
 
@@ -73,12 +70,11 @@ append-spec =
     (tie.spec
     append-refusal-requires
     returns
-    count-place-requires
+    head-size-requires
     size-of-requires
     add-size
     add-size-2
     add-size-3
-    add-size-4
     returns-2
     write-appended-requires
     same-length

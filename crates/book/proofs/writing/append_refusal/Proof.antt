@@ -45,8 +45,8 @@ returns-4 c =
     (appendRefusal-retired _ _ _ _ _ _ (opened .before .book-refusal .ensures) _ (opened .if1 .left) (ranked .before .book-rank-refusal .ensures) _ (ranked .if2 .left)
     (worded .before .preset-refusal .ensures) (worded .if3 .left) _ (c .before .is-retired .ensures) (c .if4 .taken))
 
-count-place-requires : tie.Need-count-place-requires
-count-place-requires c κs = search needs
+head-size-requires : tie.Need-head-size-requires
+head-size-requires c κs = search needs
 
 size-of-requires : tie.Need-size-of-requires
 size-of-requires c κs = search needs
@@ -58,10 +58,7 @@ add-if5-2 : tie.Need-add-if5-2
 add-if5-2 c = search needs
 
 add-if5-3 : tie.Need-add-if5-3
-add-if5-3 c = search needs
-
-add-if5-4 : tie.Need-add-if5-4
-add-if5-4 c =
+add-if5-3 c =
     let kept = c .before .before in
     let opened = kept .before .before .before .before .before .before in
     omega (arith, accepted-read _ _ _ (opened .before .book-refusal .ensures) (opened .if1 .left) .most, c .size-of .ensures)
@@ -76,7 +73,7 @@ returns-5 c =
     sym
     (appendRefusal-large _ _ _ _ _ _ (opened .before .book-refusal .ensures) _ (opened .if1 .left) (ranked .before .book-rank-refusal .ensures) _ (ranked .if2 .left)
     (worded .before .preset-refusal .ensures) (worded .if3 .left) _ (kept .before .is-retired .ensures) (kept .if4 .left)
-    (omega (arith, c .if5 .taken, sized .before .count-place .ensures .0, sized .size-of .ensures)))
+    (omega (arith, c .if5 .taken, sized .before .head-size .ensures .0, sized .size-of .ensures)))
 
 returns-6 : tie.Need-returns-6
 returns-6 c =
@@ -88,7 +85,7 @@ returns-6 c =
     sym
     (appendRefusal-none _ _ _ _ _ _ (opened .before .book-refusal .ensures) _ (opened .if1 .left) (ranked .before .book-rank-refusal .ensures) _ (ranked .if2 .left)
     (worded .before .preset-refusal .ensures) (worded .if3 .left) _ (kept .before .is-retired .ensures) (kept .if4 .left)
-    (omega (arith, c .if5 .left, sized .before .count-place .ensures .0, sized .size-of .ensures)))
+    (omega (arith, c .if5 .left, sized .before .head-size .ensures .0, sized .size-of .ensures)))
 
 pub append-refusal-spec : {M : Type 1} → statement M
 append-refusal-spec =
@@ -102,11 +99,10 @@ append-refusal-spec =
     returns-3
     is-retired-requires
     returns-4
-    count-place-requires
+    head-size-requires
     size-of-requires
     add-if5
     add-if5-2
     add-if5-3
-    add-if5-4
     returns-5
     returns-6)

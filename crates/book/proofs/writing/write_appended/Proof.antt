@@ -30,13 +30,13 @@ add-trailer c = search needs
 sub-trailer : tie.Need-sub-trailer
 sub-trailer c = trailer-fits c
 
-count-place-requires : tie.Need-count-place-requires
-count-place-requires c κs = search needs
+head-size-requires : tie.Need-head-size-requires
+head-size-requires c κs = search needs
 
 write-records-requires : tie.Need-write-records-requires
 write-records-requires c κs =
-    let placed = c .before in
-    let sized = placed .before in
+    let headed = c .before in
+    let sized = headed .before in
     let counted = sized .before in
     let pre = counted .before .before .before .before .pre in
     let a = accepted _ _ (pre .0 .0) in
@@ -50,20 +50,17 @@ add-write-trailer c = search needs
 add-write-trailer-2 : tie.Need-add-write-trailer-2
 add-write-trailer-2 c = search needs
 
-add-write-trailer-3 : tie.Need-add-write-trailer-3
-add-write-trailer-3 c = search needs
-
 write-trailer-requires : tie.Need-write-trailer-requires
 write-trailer-requires c κs =
-    let placed = c .before .before .before .before .before in
-    let sized = placed .before in
+    let headed = c .before .before .before .before .before in
+    let sized = headed .before in
     let counted = sized .before in
     let kept = c .before .before .before .write-records .kept .1 .1 .1 .1 .1 .1 .0 in
     let pre = counted .before .before .before .before .pre in
     let a = accepted _ _ (pre .0 .0) in
     let e = counted .count-of .ensures .0 in
     let s = sized .size-of .ensures in
-    let place = placed .count-place .ensures .0 in
+    let head = headed .head-size .ensures .0 in
     (omega (arith, a), omega (arith, a, pre .1))
 
 same-length : tie.Need-same-length
@@ -71,12 +68,12 @@ same-length c = search needs
 
 returns : tie.Need-returns
 returns c =
-    let placed = c .before .before .before .before .before .before .before .before in
-    let sized = placed .before in
+    let headed = c .before .before .before .before .before .before .before .before in
+    let sized = headed .before in
     let counted = sized .before in
     let start = counted .before .before .before .before in
     appended-written _ (now (start .args .book)) (now (start .args .out)) _ _ (now (start .args .word)) _ _ _ _ _ (start .pre .0 .0) (counted .count-of .ensures .0)
-    (sized .size-of .ensures) (placed .count-place .ensures .0) (c .before .before .before .before .before .before .write-records .ensures)
+    (sized .size-of .ensures) (headed .head-size .ensures .0) (c .before .before .before .before .before .before .write-records .ensures)
     (c .before .before .write-trailer .ensures)
 
 pub write-appended-spec : {M : Type 1} → statement M
@@ -88,11 +85,10 @@ write-appended-spec =
     mul-trailer
     add-trailer
     sub-trailer
-    count-place-requires
+    head-size-requires
     write-records-requires
     add-write-trailer
     add-write-trailer-2
-    add-write-trailer-3
     write-trailer-requires
     same-length
     returns)

@@ -11,6 +11,9 @@ use Rattle.book.proofs.writing.write_record.Tie as tie
 count-place-requires : tie.Need-count-place-requires
 count-place-requires c κs = search needs
 
+head-size-requires : tie.Need-head-size-requires
+head-size-requires c κs = search needs
+
 slice-write-out : tie.Need-slice-write-out
 slice-write-out c = search needs
 
@@ -24,7 +27,7 @@ add-put-lanes : tie.Need-add-put-lanes
 add-put-lanes c = search needs
 
 put-lanes-requires : tie.Need-put-lanes-requires
-put-lanes-requires c κs = (c .before .before .before .before .pre .0, simp length-set (omega arith))
+put-lanes-requires c κs = (c .before .before .before .before .before .pre .0, simp length-set (omega arith))
 
 add-put-two : tie.Need-add-put-two
 add-put-two c = search needs
@@ -34,9 +37,6 @@ put-two-requires c κs = let k = simp length-set at (c .before .before .before .
 
 add-copy-to : tie.Need-add-copy-to
 add-copy-to c = search needs
-
-add-copy-to-2 : tie.Need-add-copy-to-2
-add-copy-to-2 c = search needs
 
 copy-to-requires : tie.Need-copy-to-requires
 copy-to-requires c κs =
@@ -54,14 +54,16 @@ returns : tie.Need-returns
 returns c =
     let stored = c .before .before .before .before .before .before in
     let laned = stored .before .before .before .before in
-    let placed = laned .before .before in
-    record-stored _ _ _ _ _ _ _ _ _ _ _ (placed .count-place .ensures .0) (laned .put-lanes .ensures) (stored .put-two .ensures) (c .before .before .copy-to .ensures)
+    let headed = laned .before .before in
+    let placed = headed .before in
+    record-stored _ _ _ _ _ _ _ _ _ _ _ _ (placed .count-place .ensures .0) (headed .head-size .ensures .0) (laned .put-lanes .ensures) (stored .put-two .ensures) (c .before .before .copy-to .ensures)
 
 pub write-record-spec : {M : Type 1} → statement M
 write-record-spec =
     tie.close
     (tie.spec
     count-place-requires
+    head-size-requires
     slice-write-out
     add-out
     slice-write-out-2
@@ -70,7 +72,6 @@ write-record-spec =
     add-put-two
     put-two-requires
     add-copy-to
-    add-copy-to-2
     copy-to-requires
     same-length
     returns)

@@ -1,10 +1,10 @@
--- `converting::record_start` reads the offset of the record.
+-- `numbers::record_start` reads the offset of the record.
 -- Assumes nothing.
 use mathlib.Core.Path.{sym}
 use Rattle.book_format.proofs.BookLaws.{offset-read}
 use borrow.Author.Needs.{needs}
-use Rattle.book.proofs.converting.record_start.Statement.{statement}
-use Rattle.book.proofs.converting.record_start.Tie as tie
+use Rattle.book.proofs.numbers.record_start.Statement.{statement}
+use Rattle.book.proofs.numbers.record_start.Tie as tie
 
 mul-trailer : tie.Need-mul-trailer
 mul-trailer c = search needs
