@@ -6,8 +6,23 @@ use Rattle.listing_lines.proofs.lines.Lines.{length-head, head-put}
 use Rattle.listing_lines.proofs.lines.put_head.Statement.{statement}
 use Rattle.listing_lines.proofs.lines.put_head.Tie as tie
 
+-- stages on the way: where the call began, and where the first, second and third parts were put
+abbrev start : tie.After-put-decimal → tie.Start
+start c = c .before .before .before
+
+abbrev first : tie.After-put-bytes → tie.After-put-decimal
+first c = c .before .before .before .before .before .before
+
+abbrev second : tie.After-put-spaced → tie.After-put-bytes
+second c = c .before .before .before .before
+
+abbrev third : tie.After-put-spaced2 → tie.After-put-spaced
+third c = c .before .before .before .before
+
 put-decimal-requires : tie.Need-put-decimal-requires
-put-decimal-requires c κs = let a = c .before .before .args in omega (arith, length-head (a .number) (a .kind) (a .rank) (a .size))
+put-decimal-requires c κs =
+    let a = c .before .before .args in
+    omega (arith, length-head (a .number) (a .kind) (a .rank) (a .size))
 
 kind-letter-requires : tie.Need-kind-letter-requires
 kind-letter-requires c κs = search needs
@@ -16,33 +31,40 @@ slice-aggregate-put-bytes : tie.Need-slice-aggregate-put-bytes
 slice-aggregate-put-bytes c = search needs
 
 put-bytes-requires : tie.Need-put-bytes-requires
-put-bytes-requires c κs = let a = c .before .before .before .before .before .before .before .before .args in omega (arith, length-head (a .number) (a .kind) (a .rank) (a .size))
+put-bytes-requires c κs =
+    let a = start (c .before .before .before .before .before) .args in
+    omega (arith, length-head (a .number) (a .kind) (a .rank) (a .size))
 
 put-spaced-requires : tie.Need-put-spaced-requires
-put-spaced-requires c κs = let a = c .before .before .before .before .before .before .before .before .before .before .before .before .args in omega (arith, length-head (a .number) (a .kind) (a .rank) (a .size))
+put-spaced-requires c κs =
+    let a = start (first (c .before .before .before)) .args in
+    omega (arith, length-head (a .number) (a .kind) (a .rank) (a .size))
 
 put-spaced-requires-2 : tie.Need-put-spaced-requires-2
-put-spaced-requires-2 c κs = let a = c .before .before .before .before .before .before .before .before .before .before .before .before .before .before .before .before .args in omega (arith, length-head (a .number) (a .kind) (a .rank) (a .size))
+put-spaced-requires-2 c κs =
+    let a = start (first (second (c .before .before .before))) .args in
+    omega (arith, length-head (a .number) (a .kind) (a .rank) (a .size))
 
 slice-aggregate-put-bytes-2 : tie.Need-slice-aggregate-put-bytes-2
 slice-aggregate-put-bytes-2 c = search needs
 
 put-bytes-requires-2 : tie.Need-put-bytes-requires-2
-put-bytes-requires-2 c κs = let a = c .before .before .before .before .before .before .before .before .before .before .before .before .before .before .before .before .before .before .before .before .before .args in omega (arith, length-head (a .number) (a .kind) (a .rank) (a .size))
+put-bytes-requires-2 c κs =
+    let a = start (first (second (third (c .before .before .before .before)))) .args in
+    omega (arith, length-head (a .number) (a .kind) (a .rank) (a .size))
 
 same-length : tie.Need-same-length
 same-length c = search needs
 
 returns : tie.Need-returns
 returns c =
-    let fifth = c .before .before in
-    let fourth = fifth .before .before .before .before .before in
-    let third = fourth .before .before .before .before in
-    let second = third .before .before .before .before in
-    let letter = second .before .before in
-    let first = letter .before .before .before .before in
-    head-put _ _ _ _ _ _ _ _ _ _ _ _ _ _ _ _ _ (first .put-decimal .ensures) (letter .kind-letter .ensures) (second .put-bytes .ensures)
-    (third .put-spaced .ensures) (fourth .put-spaced2 .ensures) (fifth .put-bytes2 .ensures)
+    let five = c .before .before in
+    let four = five .before .before .before .before .before in
+    let three = third four in
+    let two = second three in
+    let one = first two in
+    head-put _ _ _ _ _ _ _ _ _ _ _ _ _ _ _ _ _ (one .put-decimal .ensures) (two .before .before .kind-letter .ensures) (two .put-bytes .ensures)
+    (three .put-spaced .ensures) (four .put-spaced2 .ensures) (five .put-bytes2 .ensures)
 
 pub put-head-spec : {M : Type 1} → statement M
 put-head-spec =

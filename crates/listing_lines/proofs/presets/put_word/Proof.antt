@@ -15,24 +15,39 @@ use Rattle.listing_lines.proofs.presets.PresetLines.{wordLine-room, wor
 use Rattle.listing_lines.proofs.presets.put_word.Statement.{statement}
 use Rattle.listing_lines.proofs.presets.put_word.Tie as tie
 
--- the normal form in its buffer, and the window in its own
-form : (c : tie.After-l)
-    → let a = c .before .before .before .before .before .before .before .before .args in Front 4096 (wordNormalForm (kindOf (a .kind)) (a .rank) (now (a .word))) (c .before .before .before .normal-form-of-word .last .1 .1 .1 .0) (c .l .given .0 .0)
-form c =
-    let start = c .before .before .before .before .before .before .before .before in
-    form-front _ _ _ (start .pre .0) (start .pre .1) _ _ _ (c .before .before .before .before .before .buffer .ensures) (c .before .before .before .normal-form-of-word .ensures) _ (c .l .given .1)
+-- stages on the way: where the call began, and where the normal form is known
+abbrev start : tie.After-normal-form-of-word → tie.Start
+start c = c .before .before .before .before .before
 
-shown : (c : tie.After-m)
-    → let a = c .before .before .before .before .before .before .before .before .before .before .before .before .before .before .before .args in Front 64 (window (kindOf (a .kind)) (a .rank) (now (a .word))) (c .before .before .before .window-of-word .last .1 .1 .1 .0) (c .m .given .0 .0)
+abbrev formed : tie.After-window-of-word → tie.After-l
+formed c = c .before .before .before .before
+
+-- the normal form in its buffer, and the window in its own
+form : (c : tie.After-l) → let n = c .before .before .before in
+    let a = start n .args in
+    Front 4096 (wordNormalForm (kindOf (a .kind)) (a .rank) (now (a .word))) (n .normal-form-of-word .last .1 .1 .1 .0) (c .l .given .0 .0)
+form c =
+    let n = c .before .before .before in
+    let pre = start n .pre in
+    form-front _ _ _ (pre .0) (pre .1) _ _ _ (n .before .before .buffer .ensures) (n .normal-form-of-word .ensures) _ (c .l .given .1)
+
+shown : (c : tie.After-m) → let w = c .before .before .before in
+    let a = start (formed w .before .before .before) .args in
+    Front 64 (window (kindOf (a .kind)) (a .rank) (now (a .word))) (w .window-of-word .last .1 .1 .1 .0) (c .m .given .0 .0)
 shown c =
-    let start = c .before .before .before .before .before .before .before .before .before .before .before .before .before .before .before in
-    window-front _ _ _ (start .pre .0) (start .pre .1) _ _ (c .before .before .before .before .before .blank .ensures) _ (c .before .before .before .window-of-word .ensures) _ (c .m .given .1)
+    let w = c .before .before .before in
+    let pre = start (formed w .before .before .before) .pre in
+    window-front _ _ _ (pre .0) (pre .1) _ _ (w .before .before .blank .ensures) _ (w .window-of-word .ensures) _ (c .m .given .1)
 
 inside-form : (c : tie.After-l) → c .l .given .0 .0 ≤ length (c .before .before .before .normal-form-of-word .last .1 .1 .1 .0)
-inside-form c = omega (arith, form c .bound, c .before .before .before .before .before .buffer .ensures, c .before .before .before .normal-form-of-word .kept .1 .1 .1 .0)
+inside-form c =
+    let n = c .before .before .before in
+    omega (arith, form c .bound, n .before .before .buffer .ensures, n .normal-form-of-word .kept .1 .1 .1 .0)
 
 inside-shown : (c : tie.After-m) → c .m .given .0 .0 ≤ length (c .before .before .before .window-of-word .last .1 .1 .1 .0)
-inside-shown c = omega (arith, shown c .bound, c .before .before .before .before .before .blank .ensures, c .before .before .before .window-of-word .kept .1 .1 .1 .0)
+inside-shown c =
+    let w = c .before .before .before in
+    omega (arith, shown c .bound, w .before .before .blank .ensures, w .window-of-word .kept .1 .1 .1 .0)
 
 buffer-requires : tie.Need-buffer-requires
 buffer-requires c κs = search needs
@@ -51,8 +66,10 @@ enum-told c = search needs
 
 returns : tie.Need-returns
 returns c =
-    let start = c .before .before .before .before .before .before .before .before in
-    absurd (form-never _ _ _ (start .pre .0) (start .pre .1) _ _ _ (c .before .before .before .before .before .buffer .ensures) (c .before .before .before .normal-form-of-word .ensures) _ (c .enum-told .given .1))
+    let n = c .before .before .before in
+    let pre = start n .pre in
+    absurd
+    (form-never _ _ _ (pre .0) (pre .1) _ _ _ (n .before .before .buffer .ensures) (n .normal-form-of-word .ensures) _ (c .enum-told .given .1))
 
 blank-requires : tie.Need-blank-requires
 blank-requires c κs = search needs
@@ -71,8 +88,10 @@ enum-told-2 c = search needs
 
 returns-2 : tie.Need-returns-2
 returns-2 c =
-    let start = c .before .before .before .before .before .before .before .before .before .before .before .before .before .before .before in
-    absurd (window-never _ _ _ (start .pre .0) (start .pre .1) _ _ (c .before .before .before .before .before .blank .ensures) _ (c .before .before .before .window-of-word .ensures) _ (c .enum-told2 .given .1))
+    let w = c .before .before .before in
+    let pre = start (formed w .before .before .before) .pre in
+    absurd
+    (window-never _ _ _ (pre .0) (pre .1) _ _ (w .before .before .blank .ensures) _ (w .window-of-word .ensures) _ (c .enum-told2 .given .1))
 
 array-share-prefix-form : tie.Need-array-share-prefix-form
 array-share-prefix-form c = inside-form (c .before .before .before .before .before .before .before .before)
@@ -88,19 +107,18 @@ slice-aggregate-put-line-2 c = sym (length-take-le _ _ (inside-shown (c .before 
 
 put-line-requires : tie.Need-put-line-requires
 put-line-requires c κs =
-    let f = form (c .before .before .before .before .before .before .before .before .before .before .before) in
-    let s = shown (c .before .before .before .before) in
-    let start = c .before .before .before .before .before .before .before .before .before .before .before .before .before .before .before .before .before .before .before in
-    wordLine-room _ _ _ _ _ _ _ (f .part) (s .part) (start .pre .2)
+    let m = c .before .before .before .before in
+    let l = formed (m .before .before .before) in
+    wordLine-room _ _ _ _ _ _ _ (form l .part) (shown m .part) (start (l .before .before .before) .pre .2)
 
 same-length : tie.Need-same-length
 same-length c = search needs
 
 returns-3 : tie.Need-returns-3
 returns-3 c =
-    let f = form (c .before .before .before .before .before .before .before .before .before .before .before .before .before .before) in
-    let s = shown (c .before .before .before .before .before .before .before) in
-    wordLine-put _ _ _ _ _ _ _ _ _ _ (f .part) (s .part) (c .before .before .put-line .ensures)
+    let m = c .before .before .before .before .before .before .before in
+    let l = formed (m .before .before .before) in
+    wordLine-put _ _ _ _ _ _ _ _ _ _ (form l .part) (shown m .part) (c .before .before .put-line .ensures)
 
 pub put-word-spec : {M : Type 1} → statement M
 put-word-spec =
