@@ -97,29 +97,29 @@ module _ {k : Kind} {n : ℕ} {rest : List ℕ} {s : ℕ} {families places lengt
 -- ---- turn after turn
 
 -- the letter stands at place q of a word that is as long as before, or else q is 0 and a normal form of `size` letters stands
-abbrev pub Turned : Kind → ℕ → List ℕ → ℕ → List ℕ → List ℕ → List ℕ → List ℕ → ℕ → List ℕ → List ℕ → List ℕ → List ℕ → ℕ → ℕ → Type 0
-Turned k n rest s families places lengths word s′ families′ places′ lengths′ word′ size q =
+abbrev pub Moved : Kind → ℕ → List ℕ → ℕ → List ℕ → List ℕ → List ℕ → List ℕ → ℕ → List ℕ → List ℕ → List ℕ → List ℕ → ℕ → ℕ → Type 0
+Moved k n rest s families places lengths word s′ families′ places′ lengths′ word′ size q =
     (1 ≤ q → (size ≡ length word) × Carried k n rest s families places lengths word s′ families′ places′ lengths′ word′ q)
     × (q ≤ 0 → Inserted k n rest s families places lengths word s′ families′ places′ lengths′ word′ size)
 
 module _ {k : Kind} {n : ℕ} {rest : List ℕ} {s : ℕ} {families places lengths word : List ℕ} where
   module _ {s′ : ℕ} {families′ places′ lengths′ word′ : List ℕ} where
-    pub turned-ended : {size : ℕ} → Inserted k n rest s families places lengths word s′ families′ places′ lengths′ word′ size
-        → Turned k n rest s families places lengths word s′ families′ places′ lengths′ word′ size 0
-    turned-ended d = (λ h. absurd (omega arith), λ h. d)
+    pub moved-ended : {size : ℕ} → Inserted k n rest s families places lengths word s′ families′ places′ lengths′ word′ size
+        → Moved k n rest s families places lengths word s′ families′ places′ lengths′ word′ size 0
+    moved-ended d = (λ h. absurd (omega arith), λ h. d)
 
-    pub turned-carried : {t q : ℕ} → Ready k n rest s families places lengths word t
+    pub moved-carried : {t q : ℕ} → Ready k n rest s families places lengths word t
         → Carried k n rest s families places lengths word s′ families′ places′ lengths′ word′ q
-        → Turned k n rest s families places lengths word s′ families′ places′ lengths′ word′ (length word) q
-    turned-carried a b = (λ h. (refl, b), λ h. inserted-after b (rw (← b .size) (turn-front (carried-ready b a) h)))
+        → Moved k n rest s families places lengths word s′ families′ places′ lengths′ word′ (length word) q
+    moved-carried a b = (λ h. (refl, b), λ h. inserted-after b (rw (← b .size) (turn-front (carried-ready b a) h)))
 
     -- the letter passes others from place q to p, and then makes a turn
-    pub turned-again : {size q : ℕ} → Turned k n rest s families places lengths word s′ families′ places′ lengths′ word′ size q → 1 ≤ q
+    pub moved-again : {size q : ℕ} → Moved k n rest s families places lengths word s′ families′ places′ lengths′ word′ size q → 1 ≤ q
         → {s″ : ℕ} {families″ places″ lengths″ word″ : List ℕ} {p : ℕ}
         → Carried k n rest s′ families′ places′ lengths′ word′ s″ families″ places″ lengths″ word″ p
         → {s‴ : ℕ} {families‴ places‴ lengths‴ word‴ : List ℕ} {size‴ q‴ : ℕ}
-        → Turned k n rest s″ families″ places″ lengths″ word″ s‴ families‴ places‴ lengths‴ word‴ size‴ q‴
-        → Turned k n rest s families places lengths word s‴ families‴ places‴ lengths‴ word‴ size‴ q‴
-    turned-again a o c d =
+        → Moved k n rest s″ families″ places″ lengths″ word″ s‴ families‴ places‴ lengths‴ word‴ size‴ q‴
+        → Moved k n rest s families places lengths word s‴ families‴ places‴ lengths‴ word‴ size‴ q‴
+    moved-again a o c d =
         let b = carried-trans (a .0 o .1) c in
         (λ h. (d .0 h .0 ∙ b .size, carried-trans b (d .0 h .1)), λ h. inserted-after b (d .1 h))

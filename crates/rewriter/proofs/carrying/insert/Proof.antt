@@ -7,7 +7,7 @@ use lib.ListN.{length}
 use Rattle.coxeter.specs.Kinds.{kindOf}
 use Rattle.rewriter.proofs.carrying.CarriedSteps.{carried-start, carried-ready}
 use Rattle.rewriter.proofs.carrying.Passing.{ready-inside}
-use Rattle.rewriter.proofs.carrying.Inserting.{Turned, turned-carried, turned-again}
+use Rattle.rewriter.proofs.carrying.Inserting.{Moved, moved-carried, moved-again}
 use borrow.Author.Needs.{needs}
 use Rattle.rewriter.proofs.carrying.insert.Statement.{statement}
 use Rattle.rewriter.proofs.carrying.insert.Tie as tie
@@ -15,7 +15,7 @@ use Rattle.rewriter.proofs.carrying.insert.Tie as tie
 abbrev Inv-loop : tie.InvT-loop
 Inv-loop kind n rest s families₀ places₀ lengths₀ word₀ size₀ steps₀ q₀ families places lengths word size steps q =
     (length families ≡ length families₀) × (length places ≡ length places₀) × (length lengths ≡ length lengths₀) × (length word ≡ length word₀)
-    × Turned (kindOf kind) n rest s families₀ places₀ lengths₀ word₀ steps families places lengths word size q
+    × Moved (kindOf kind) n rest s families₀ places₀ lengths₀ word₀ steps families places lengths word size q
 
 abbrev μ-loop : tie.MeasureT-loop
 μ-loop kind n rest s families₀ places₀ lengths₀ word₀ size₀ steps₀ q₀ families places lengths word size steps q =
@@ -36,7 +36,7 @@ sub-q c =
 loop-holds : tie.Need-loop-holds Inv-loop μ-loop
 loop-holds c =
     let s = c .before .before .before .before .before in
-    (refl, refl, refl, refl, turned-carried (s .pre) (carried-start (s .pre)))
+    (refl, refl, refl, refl, moved-carried (s .pre) (carried-start (s .pre)))
 
 pass-requires : tie.Need-pass-requires Inv-loop μ-loop
 pass-requires c κs =
@@ -73,7 +73,7 @@ loop-again : tie.Need-loop-again Inv-loop μ-loop
 loop-again c =
     let t = c .before .before .before .before .before .before .before .before in
     let g = t .before .before .before .before .before .before .before .before .before .before .before .before .before in
-    let d = turned-again (begun g .loop .inv .4) (omega arith) (g .pass .ensures .1) (t .turn .ensures .1) in
+    let d = moved-again (begun g .loop .inv .4) (omega arith) (g .pass .ensures .1) (t .turn .ensures .1) in
     (search needs, search needs, search needs, search needs, d)
 
 same-length : tie.Need-same-length Inv-loop μ-loop

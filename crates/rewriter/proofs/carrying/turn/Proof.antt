@@ -2,7 +2,7 @@
 -- Assumes nothing.
 use native.Mathlib.Omega.{arith}
 use Rattle.rewriter.proofs.carrying.Passing.{ready-inside}
-use Rattle.rewriter.proofs.carrying.Inserting.{turn-none, turn-place, turn-pair, turn-struck, turn-carried, turned-ended, turned-carried}
+use Rattle.rewriter.proofs.carrying.Inserting.{turn-none, turn-place, turn-pair, turn-struck, turn-carried, moved-ended, moved-carried}
 use borrow.Author.Needs.{needs}
 use Rattle.rewriter.proofs.carrying.turn.Statement.{statement}
 use Rattle.rewriter.proofs.carrying.turn.Tie as tie
@@ -38,7 +38,7 @@ same-length c = search needs
 returns : tie.Need-returns
 returns c =
     let r = c .before .before in
-    (omega arith, turned-ended (turn-none (start r .pre .0) _ (r .ending-rule .ensures) (c .enum-told .given .1)))
+    (omega arith, moved-ended (turn-none (start r .pre .0) _ (r .ending-rule .ensures) (c .enum-told .given .1)))
 
 sub-left : tie.Need-sub-left
 sub-left c =
@@ -88,7 +88,7 @@ returns-2 c =
     let r = searched f in
     let d = turn-struck (start r .pre .0) _ _ _ _ (r .ending-rule .ensures) (f .family .given .1) _ _ _ _ (i .if1 .taken)
     (n .note .ensures .0) (n .note .ensures .1) (n .note .ensures .2) (t .strike .ensures) in
-    (omega arith, turned-ended d)
+    (omega arith, moved-ended d)
 
 add-note-2 : tie.Need-add-note-2
 add-note-2 c = search needs
@@ -133,7 +133,7 @@ returns-3 c =
     let p = turn-place (start r .pre .0) _ _ _ _ (r .ending-rule .ensures) (f .family .given .1) in
     let d = turn-carried (start r .pre .0) _ _ _ _ (r .ending-rule .ensures) (f .family .given .1) _ _ _ _ (i .if1 .left)
     (n .note2 .ensures .0) (n .note2 .ensures .1) (n .note2 .ensures .2) (t .carry .ensures) in
-    (omega (arith, p), turned-carried (start r .pre .0) d)
+    (omega (arith, p), moved-carried (start r .pre .0) d)
 
 pub turn-spec : {M : Type 1} → statement M
 turn-spec =
