@@ -119,7 +119,8 @@ fn write_other(edition: Edition, book: &[u8], c: usize, number: usize, out: &mut
     requires { ⌜ p + headSize (conversion.other edition) + letterCountAt edition (now book) (offset (now book) number) ≤ length (now out) ⌝ }
     ensures { λ _. ⌜ now (out .exit) ≡ sets (now (out .entry)) p (recordOf (conversion.other edition)
         (kindAt (now (book .entry)) (offset (now (book .entry)) number)) (rankAt (now (book .entry)) (offset (now (book .entry)) number))
-        (lanesAt edition (now (book .entry)) (offset (now (book .entry)) number)) (lettersAt edition (now (book .entry)) (offset (now (book .entry)) number))) ⌝ }
+        (lanesAt edition (now (book .entry)) (offset (now (book .entry)) number))
+        (lettersAt edition (now (book .entry)) (offset (now (book .entry)) number))) ⌝ }
 {
     let o = record_start(book, c, number);
     let place = count_place(edition);

@@ -45,7 +45,8 @@ pub fn preset<'a>(r: Reader<'a>, number: usize) -> Preset
 // The letters of a preset, which outlive the reader: a part of the book itself.
 pub fn preset_letters<'a>(r: Reader<'a>, number: usize) -> &'a [u8]
     ensures { λ s. ⌜ now s ≡ lettersOf (r .entry .edition) (now (r .entry .bytes)) number ⌝ }
-    ensures { λ s. ⌜ (s .ptr .0 ≡ r .entry .bytes .ptr .0) × (s .ptr .1 ≡ r .entry .bytes .ptr .1 + lettersStart (r .entry .edition) (now (r .entry .bytes)) number) ⌝ }
+    ensures { λ s. ⌜ (s .ptr .0 ≡ r .entry .bytes .ptr .0)
+        × (s .ptr .1 ≡ r .entry .bytes .ptr .1 + lettersStart (r .entry .edition) (now (r .entry .bytes)) number) ⌝ }
 {
     letters(r.edition, r.bytes, number)
 }

@@ -115,7 +115,8 @@ module _ (ed : Edition) (b : List ℕ) (k n : ℕ) (u : List ℕ) (a : Accepted 
       let front = records b ++ (presetRecord ed k n u ++ (offsets b ++ two (trailer b))) in
       let h = a .sized in
       let l = length-appended ed b k n u a in
-      let f : length front ≡ bookSize b + (headSize ed + length u) = simp (length-append, length-records, length-recordOf, length-offsets ed b a, length-two) (omega arith) in
+      let f : length front ≡ bookSize b + (headSize ed + length u) =
+      simp (length-append, length-records, length-recordOf, length-offsets ed b a, length-two) (omega arith) in
       twoAt-written (appended ed b k n u) front [] (length (appended ed b k n u) - 2) (count b + 1) (before-count ed b k n u) (omega arith) (omega arith)
 
   pub trailer-appended : trailer (appended ed b k n u) ≡ trailer b + (headSize ed + length u)
@@ -130,9 +131,11 @@ module _ (ed : Edition) (b : List ℕ) (k n : ℕ) (u : List ℕ) (a : Accepted 
   offset-appended-last =
       let h = a .sized in
       let front = (records b ++ presetRecord ed k n u) ++ offsets b in
-      let f : length front ≡ trailer b + (headSize ed + length u) + 2 * count b = simp (length-append, length-records, length-recordOf, length-offsets ed b a) in
+      let f : length front ≡ trailer b + (headSize ed + length u) + 2 * count b =
+      simp (length-append, length-records, length-recordOf, length-offsets ed b a) in
       rw trailer-appended
-      (twoAt-written (appended ed b k n u) front (two (count b + 1)) (trailer b + (headSize ed + length u) + 2 * count b) (trailer b) (before-offset ed b k n u) (sym f) (omega arith))
+      (twoAt-written (appended ed b k n u) front (two (count b + 1)) (trailer b + (headSize ed + length u) + 2 * count b) (trailer b)
+      (before-offset ed b k n u) (sym f) (omega arith))
 
   pub offset-appended : (i : ℕ) → i < count b → offset (appended ed b k n u) i ≡ offset b i
   unfolding offset
@@ -141,7 +144,13 @@ module _ (ed : Edition) (b : List ℕ) (k n : ℕ) (u : List ℕ) (a : Accepted 
       let front = records b ++ presetRecord ed k n u in
       let f : trailer b + (headSize ed + length u) ≡ length front = simp (length-append, length-records, length-recordOf) in
       let l = length-offsets ed b a in
-      rw (trailer-appended, before-offsets ed b k n u, f, twoAt-append-right front (rest ed b k n u) (2 * i), twoAt-append-left (offsets b) (two (trailer b) ++ two (count b + 1)) (2 * i) (omega arith))
+      rw (
+        trailer-appended,
+        before-offsets ed b k n u,
+        f,
+        twoAt-append-right front (rest ed b k n u) (2 * i),
+        twoAt-append-left (offsets b) (two (trailer b) ++ two (count b + 1)) (2 * i) (omega arith),
+      )
       (twoAt-middle b (trailer b) (2 * count b) (2 * i) (omega arith))
 
   -- ---- its records
@@ -187,7 +196,8 @@ module _ (ed : Edition) (b : List ℕ) (k n : ℕ) (u : List ℕ) (a : Accepted 
 
   pub rankAt-appended-last : rankAt (appended ed b k n u) (trailer b) ≡ n
   rankAt-appended-last =
-      rw (before-record ed b k n u) (getD-past (records b) (k ∷ n ∷ (lane ed k n ++ (two (length u) ++ (u ++ rest ed b k n u)))) (trailer b) 1 (length-records b))
+      rw (before-record ed b k n u) (getD-past (records b) (k ∷ n ∷ (lane ed k n ++ (two (length u) ++ (u ++ rest ed b k n u)))) (trailer b) 1
+      (length-records b))
 
   pub lanesAt-appended-last : lanesAt ed (appended ed b k n u) (trailer b) ≡ lanes (kindOf k) n
   lanesAt-appended-last =

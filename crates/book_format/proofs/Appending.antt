@@ -17,16 +17,22 @@ use Rattle.coxeter.specs.Kinds.{pick, kindOf, lanes}
 use Rattle.coxeter.specs.Checks.{check, _then_, wordRefusal}
 use Rattle.book_format.specs.declared.Edition.{Edition}
 use Rattle.book_format.specs.declared.Preset.the-variants as preset
-use Rattle.book_format.specs.Books.{count, trailer, offset, kindAt, rankAt, lanesAt, letterCountAt, lettersAt, endAt, misplacedFrom, misplaced, wrongLaneCount, bookRankRefusal, bookRefusal, recordRefusal, presetRefusal, appended, appendRefusal, headSize, added}
+use Rattle.book_format.specs.Books.{count, trailer, offset, kindAt, rankAt, lanesAt, letterCountAt}
+use Rattle.book_format.specs.Books.{lettersAt, endAt, misplacedFrom, misplaced, wrongLaneCount, bookRankRefusal, bookRefusal}
+use Rattle.book_format.specs.Books.{recordRefusal, presetRefusal, appended, appendRefusal, headSize, added}
 use Rattle.book_format.specs.Calls.{presetOf, presetAt, checkedPreset, lettersOf, Grown}
 use Rattle.book_format.proofs.BookLaws.{Accepted, accepted, bookSize, first, bookRefusal-walk, endAt-offset-le}
 use Rattle.book_format.proofs.PresetLaws.{presetRefusal-record}
 use Rattle.book_format.proofs.WritingLaws.{length-appended, append-book, append-preset, append-size}
-use Rattle.book_format.proofs.AppendedParts.{count-appended, trailer-appended, offset-appended, offset-appended-last, kindAt-appended, rankAt-appended, lanesAt-appended, letterCountAt-appended, lettersAt-appended, endAt-appended, kindAt-appended-last, rankAt-appended-last, lanesAt-appended-last, letterCountAt-appended-last, lettersAt-appended-last, endAt-appended-last}
+use Rattle.book_format.proofs.AppendedParts.{count-appended, trailer-appended, offset-appended, offset-appended-last}
+use Rattle.book_format.proofs.AppendedParts.{kindAt-appended, rankAt-appended, lanesAt-appended, letterCountAt-appended}
+use Rattle.book_format.proofs.AppendedParts.{lettersAt-appended, endAt-appended, kindAt-appended-last, rankAt-appended-last}
+use Rattle.book_format.proofs.AppendedParts.{lanesAt-appended-last, letterCountAt-appended-last, lettersAt-appended-last, endAt-appended-last}
 
 -- ---- one record of a walk
 
-walk-one : (ed : Edition) (m : List ℕ) (j i o e : ℕ) → offset m i ≡ o → endAt ed m o ≡ e → e ≤ trailer m → misplacedFrom ed m (suc j) i o ≡ misplacedFrom ed m j (suc i) e
+walk-one : (ed : Edition) (m : List ℕ) (j i o e : ℕ) → offset m i ≡ o → endAt ed m o ≡ e → e ≤ trailer m
+    → misplacedFrom ed m (suc j) i o ≡ misplacedFrom ed m j (suc i) e
 unfolding misplacedFrom
 walk-one ed m j i o e p q h = rw (eq-eqb (offset m i) o p, q, le-ltb (trailer m) e h)
 
@@ -52,12 +58,14 @@ module _ (ed : Edition) (b : List ℕ) (k n : ℕ) (u : List ℕ) (a : Accepted 
       let y : i ≡ count b = omega arith in
       let p = offset-appended-last ed b k n u a small in
       let q = endAt-appended-last ed b k n u a small in
-      rw (z, y) (walk-one ed (appended ed b k n u) zero (count b) (trailer b) (trailer (appended ed b k n u)) p q (omega arith) ∙ walk-ended ed (appended ed b k n u) _ _ refl)
+      rw (z, y) (walk-one ed (appended ed b k n u) zero (count b) (trailer b) (trailer (appended ed b k n u)) p q (omega arith)
+      ∙ walk-ended ed (appended ed b k n u) _ _ refl)
   walk-appended (suc j) i o s e =
       let f = first ed b j i o e in
       let h = f .ends in
       let t = trailer-appended ed b k n u a small in
-      walk-one ed (appended ed b k n u) (suc j) i o (endAt ed b o) (offset-appended ed b k n u a small i (omega arith) ∙ f .begins) (endAt-appended ed b k n u a small o (omega arith)) (omega arith)
+      walk-one ed (appended ed b k n u) (suc j) i o (endAt ed b o) (offset-appended ed b k n u a small i (omega arith) ∙ f .begins)
+      (endAt-appended ed b k n u a small o (omega arith)) (omega arith)
       ∙ walk-appended j (suc i) (endAt ed b o) (omega arith) (f .others)
 
   pub bookRefusal-appended : bookRefusal ed (appended ed b k n u) ≡ 0
@@ -82,7 +90,8 @@ checkedPreset-same : (ed : Edition) (l m : List ℕ) (i o : ℕ) → presetRefus
 unfolding checkedPreset presetAt
 checkedPreset-same ed l m i o e f g p q r = rw (e, f, g, p, q, r)
 
-lettersOf-same : (ed : Edition) (l m : List ℕ) (i o : ℕ) → presetRefusal ed l i ≡ presetRefusal ed m i → offset l i ≡ o → offset m i ≡ o → lettersAt ed l o ≡ lettersAt ed m o
+lettersOf-same : (ed : Edition) (l m : List ℕ) (i o : ℕ) → presetRefusal ed l i ≡ presetRefusal ed m i → offset l i ≡ o → offset m i ≡ o
+    → lettersAt ed l o ≡ lettersAt ed m o
     → lettersOf ed l i ≡ lettersOf ed m i
 unfolding lettersOf
 lettersOf-same ed l m i o e f g p = rw (e, f, g, p)
@@ -96,7 +105,8 @@ module _ (ed : Edition) (b : List ℕ) (k n : ℕ) (u : List ℕ) (z : bookRefus
       let c = count-appended ed b k n u a small in
       presetRefusal-record ed (appended ed b k n u) i (bookRefusal-appended ed b k n u a small) (omega arith)
       ∙ ap (recordRefusal ed (appended ed b k n u)) (offset-appended ed b k n u a small i h)
-      ∙ recordRefusal-same ed (appended ed b k n u) b o (kindAt-appended ed b k n u a small o (omega arith)) (rankAt-appended ed b k n u a small o (omega arith))
+      ∙ recordRefusal-same ed (appended ed b k n u) b o (kindAt-appended ed b k n u a small o (omega arith))
+      (rankAt-appended ed b k n u a small o (omega arith))
       (lanesAt-appended ed b k n u a small o (omega arith)) (lettersAt-appended ed b k n u a small o e)
       ∙ sym (presetRefusal-record ed b i z h)
 
@@ -106,7 +116,8 @@ module _ (ed : Edition) (b : List ℕ) (k n : ℕ) (u : List ℕ) (z : bookRefus
       let e = endAt-offset-le ed b i a h in
       let o = offset b i in
       checkedPreset-same ed (appended ed b k n u) b i o presetRefusal-appended (offset-appended ed b k n u a small i h) refl
-      (kindAt-appended ed b k n u a small o (omega arith)) (rankAt-appended ed b k n u a small o (omega arith)) (letterCountAt-appended ed b k n u a small o (omega arith))
+      (kindAt-appended ed b k n u a small o (omega arith)) (rankAt-appended ed b k n u a small o (omega arith))
+      (letterCountAt-appended ed b k n u a small o (omega arith))
 
   pub lettersOf-appended : lettersOf ed (appended ed b k n u) i ≡ lettersOf ed b i
   lettersOf-appended =
@@ -116,17 +127,20 @@ module _ (ed : Edition) (b : List ℕ) (k n : ℕ) (u : List ℕ) (z : bookRefus
 
 -- ---- the last preset
 
-pub recordRefusal-of : (ed : Edition) (m : List ℕ) (o k n : ℕ) (u : List ℕ) → kindAt m o ≡ k → rankAt m o ≡ n → lanesAt ed m o ≡ lanes (kindOf k) n → lettersAt ed m o ≡ u
+pub recordRefusal-of : (ed : Edition) (m : List ℕ) (o k n : ℕ) (u : List ℕ) → kindAt m o ≡ k → rankAt m o ≡ n → lanesAt ed m o ≡ lanes (kindOf k) n
+    → lettersAt ed m o ≡ u
     → recordRefusal ed m o ≡ (bookRankRefusal ed k n then wordRefusal n u)
 unfolding recordRefusal wrongLaneCount
 recordRefusal-of ed m o k n u p q s r = rw (s, p, q, r, eq-eqb (lanes (kindOf k) n) (lanes (kindOf k) n) refl)
 
-pub checkedPreset-of : (ed : Edition) (m : List ℕ) (i o k n l r : ℕ) → presetRefusal ed m i ≡ r → offset m i ≡ o → kindAt m o ≡ k → rankAt m o ≡ n → letterCountAt ed m o ≡ l
+pub checkedPreset-of : (ed : Edition) (m : List ℕ) (i o k n l r : ℕ) → presetRefusal ed m i ≡ r → offset m i ≡ o → kindAt m o ≡ k → rankAt m o ≡ n
+    → letterCountAt ed m o ≡ l
     → checkedPreset ed m i ≡ presetOf r k n (o + headSize ed) l
 unfolding checkedPreset presetAt
 checkedPreset-of ed m i o k n l r e f p q g = rw (e, f, p, q, g)
 
-pub lettersOf-of : (ed : Edition) (m : List ℕ) (i o r : ℕ) (u : List ℕ) → presetRefusal ed m i ≡ r → offset m i ≡ o → lettersAt ed m o ≡ u → lettersOf ed m i ≡ pick (eqb r 0) u []
+pub lettersOf-of : (ed : Edition) (m : List ℕ) (i o r : ℕ) (u : List ℕ) → presetRefusal ed m i ≡ r → offset m i ≡ o → lettersAt ed m o ≡ u
+    → lettersOf ed m i ≡ pick (eqb r 0) u []
 unfolding lettersOf
 lettersOf-of ed m i o r u e f p = rw (e, f, p)
 
@@ -139,19 +153,23 @@ module _ (ed : Edition) (b : List ℕ) (k n : ℕ) (u : List ℕ) (a : Accepted 
       ∙ recordRefusal-of ed (appended ed b k n u) (trailer b) k n u (kindAt-appended-last ed b k n u a small) (rankAt-appended-last ed b k n u a small)
       (lanesAt-appended-last ed b k n u a small) (lettersAt-appended-last ed b k n u a small)
 
-  pub checkedPreset-appended-last : checkedPreset ed (appended ed b k n u) (count b) ≡ presetOf (bookRankRefusal ed k n then wordRefusal n u) k n (trailer b + headSize ed) (length u)
+  pub checkedPreset-appended-last : checkedPreset ed (appended ed b k n u) (count b)
+      ≡ presetOf (bookRankRefusal ed k n then wordRefusal n u) k n (trailer b + headSize ed) (length u)
   checkedPreset-appended-last =
-      checkedPreset-of ed (appended ed b k n u) (count b) (trailer b) k n (length u) (bookRankRefusal ed k n then wordRefusal n u) presetRefusal-appended-last (offset-appended-last ed b k n u a small)
+      checkedPreset-of ed (appended ed b k n u) (count b) (trailer b) k n (length u) (bookRankRefusal ed k n then wordRefusal n u)
+      presetRefusal-appended-last (offset-appended-last ed b k n u a small)
       (kindAt-appended-last ed b k n u a small) (rankAt-appended-last ed b k n u a small) (letterCountAt-appended-last ed b k n u a small)
 
   pub lettersOf-appended-last : lettersOf ed (appended ed b k n u) (count b) ≡ pick (eqb (bookRankRefusal ed k n then wordRefusal n u) 0) u []
   lettersOf-appended-last =
-      lettersOf-of ed (appended ed b k n u) (count b) (trailer b) (bookRankRefusal ed k n then wordRefusal n u) u presetRefusal-appended-last (offset-appended-last ed b k n u a small)
+      lettersOf-of ed (appended ed b k n u) (count b) (trailer b) (bookRankRefusal ed k n then wordRefusal n u) u presetRefusal-appended-last
+      (offset-appended-last ed b k n u a small)
       (lettersAt-appended-last ed b k n u a small)
 
 -- ---- the law
 
-pub appended-grown : (ed : Edition) (b : List ℕ) (k n : ℕ) (u : List ℕ) → bookRefusal ed b ≡ 0 → length (appended ed b k n u) ≤ 65535 → Grown ed b k n u (appended ed b k n u)
+pub appended-grown : (ed : Edition) (b : List ℕ) (k n : ℕ) (u : List ℕ) → bookRefusal ed b ≡ 0 → length (appended ed b k n u) ≤ 65535
+    → Grown ed b k n u (appended ed b k n u)
 appended-grown ed b k n u z h =
     let a = accepted ed b z in
     let l = length-appended ed b k n u a in
@@ -171,7 +189,8 @@ append-grown ed b k n u e = appended-grown ed b k n u (append-book ed b k n u e)
 
 -- and its last preset, which is not refused
 pub append-reads-back : (ed : Edition) (b : List ℕ) (k n : ℕ) (u : List ℕ) → appendRefusal ed b k n u ≡ 0
-    → (checkedPreset ed (appended ed b k n u) (count b) ≡ preset.Found k n (trailer b + headSize ed) (length u)) × (lettersOf ed (appended ed b k n u) (count b) ≡ u)
+    → (checkedPreset ed (appended ed b k n u) (count b) ≡ preset.Found k n (trailer b + headSize ed) (length u))
+    × (lettersOf ed (appended ed b k n u) (count b) ≡ u)
 unfolding presetOf
 append-reads-back ed b k n u e =
     let g = append-grown ed b k n u e in

@@ -90,7 +90,8 @@ pub end-read-le : (ed : Edition) (b : List ℕ) (o p l : ℕ) → p ≡ countPla
 end-read-le ed b o p l w y h = rw (end-read ed b o p l w y) h
 
 -- the tests at record i, which has to begin at byte o, in the order of the code: x is its offset, l its letter count, which has the place p in a record
-module _ (ed : Edition) (b : List ℕ) (c i o x : ℕ) (e : c ≡ count b) (h : i < c) (q : x ≡ twoAt b (length b - (2 * c + 2) + 2 * i)) (p : ℕ) (w : p ≡ countPlace ed) where
+module _ (ed : Edition) (b : List ℕ) (c i o x : ℕ) (e : c ≡ count b) (h : i < c) (q : x ≡ twoAt b (length b - (2 * c + 2) + 2 * i)) (p : ℕ)
+    (w : p ≡ countPlace ed) where
   left-next : c - i ≡ suc (c - (i + 1))
   left-next = omega arith
 

@@ -21,8 +21,10 @@ use Rattle.coxeter.specs.Calls.{Yields, writes}
 use Rattle.coxeter.proofs.Refusals.{then-none, then-some}
 use Rattle.book_format.specs.declared.Edition.{Edition}
 use Rattle.book_format.specs.declared.Edition.the-variants.{First, Second}
-use Rattle.book_format.specs.Books.{firstOf, count, offset, kindAt, rankAt, lettersAt, wrongSize, wrongCount, misplaced, wrongLaneCount, tooLarge, bookRankRefusal, bookRefusal, recordRefusal}
-use Rattle.book_format.specs.Conversion.{converted, tooManyLanes, recordConversionRefusal, recordsConversionRefusal, conversionRefusal, converting, recordTests, recordsTests}
+use Rattle.book_format.specs.Books.{firstOf, count, offset, kindAt, rankAt, lettersAt, wrongSize}
+use Rattle.book_format.specs.Books.{wrongCount, misplaced, wrongLaneCount, tooLarge, bookRankRefusal, bookRefusal, recordRefusal}
+use Rattle.book_format.specs.Conversion.{converted, tooManyLanes, recordConversionRefusal, recordsConversionRefusal}
+use Rattle.book_format.specs.Conversion.{conversionRefusal, converting, recordTests, recordsTests}
 use Rattle.book_format.proofs.Numbers.{then-late, then-early, check-other, check-holds, answerOf-refused, rank-other, word-other}
 use Rattle.book_format.proofs.Outcomes.{recordConversionRefusal-firstOf, conversionRefusal-firstOf, converting-firstOf, bookRefusal-le, first-lane-count}
 use Rattle.book_format.proofs.Unchanged.{converting-unchanged}

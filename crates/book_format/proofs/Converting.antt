@@ -20,10 +20,13 @@ use Rattle.coxeter.proofs.Acceptance.{rank-within}
 use Rattle.coxeter.proofs.Refusals.{then-zero, check-zero, then-none}
 use Rattle.book_format.specs.declared.Edition.{Edition}
 use Rattle.book_format.specs.declared.Edition.the-variants.{First, Second}
-use Rattle.book_format.specs.Books.{count, trailer, offset, headSize, kindAt, rankAt, lanesAt, letterCountAt, lettersAt, endAt, misplacedFrom, tooLarge, greatestInBook, wrongLaneCount, bookRankRefusal, bookRefusal, recordRefusal, presetRefusal}
+use Rattle.book_format.specs.Books.{count, trailer, offset, headSize, kindAt, rankAt}
+use Rattle.book_format.specs.Books.{lanesAt, letterCountAt, lettersAt, endAt, misplacedFrom, tooLarge}
+use Rattle.book_format.specs.Books.{greatestInBook, wrongLaneCount, bookRankRefusal, bookRefusal, recordRefusal, presetRefusal}
 use Rattle.book_format.specs.Records.{Record, recordBytes, layOut, recordAt, recordsFrom, recordsOf, Bytes}
 use Rattle.book_format.specs.Calls.{presetOf}
-use Rattle.book_format.specs.Conversion.{other, converted, tooManyLanes, recordConversionRefusal, recordsConversionRefusal, conversionRefusal, converting, SamePreset, Converted}
+use Rattle.book_format.specs.Conversion.{other, converted, tooManyLanes, recordConversionRefusal, recordsConversionRefusal}
+use Rattle.book_format.specs.Conversion.{conversionRefusal, converting, SamePreset, Converted}
 use Rattle.book_format.proofs.RankLaws.{bookRank-accepted, bookRankRefusal-none, bookRank-within}
 use Rattle.book_format.proofs.BookLaws.{Accepted, accepted, bookSize-some, bookRefusal-bytes, no-bytes, count-bytes, first, trailer-le, endAt-offset-le}
 use Rattle.book_format.proofs.PresetLaws.{presetRefusal-record}
@@ -56,7 +59,9 @@ passing ed b o z =
     let d = then-zero (check 17 (wrongLaneCount ed b o)) word (c .1) in
     record {
       rank = c .0;
-      lanes-right = eqb-true (lanesAt ed b o) (lanes (kindOf (kindAt b o)) (rankAt b o)) (not-false (eqb (lanesAt ed b o) (lanes (kindOf (kindAt b o)) (rankAt b o))) (check-zero 16 (wrongLaneCount ed b o) (d .0)));
+      lanes-right =
+          eqb-true (lanesAt ed b o) (lanes (kindOf (kindAt b o)) (rankAt b o))
+          (not-false (eqb (lanesAt ed b o) (lanes (kindOf (kindAt b o)) (rankAt b o))) (check-zero 16 (wrongLaneCount ed b o) (d .0)));
       word = d .1;
       few = check-zero 17 (tooManyLanes ed b o) (a .1);
     }
@@ -359,7 +364,8 @@ length-converted ed b a = elim (ℕ-discrete (length b) 0) [
   | yes n ↦ rw (converted-bytes ed b n, n, count-bytes b n) (sym (sizeOf-bytes ed))
   | no f ↦
       rw (converted-some ed b f)
-      (sized ed (recordsFrom ed b (count b) 0) (length-recordsFrom ed b (count b) 0) (length-records ed b (count b) 0 0 (placed-from ed b a)) (a .sized ∙ bookSize-some b f))
+      (sized ed (recordsFrom ed b (count b) 0) (length-recordsFrom ed b (count b) 0) (length-records ed b (count b) 0 0 (placed-from ed b a))
+      (a .sized ∙ bookSize-some b f))
 ]
   where
     sized : (ed : Edition) (rs : List Record) → length rs ≡ count b → 0 + length (recordBytes ed rs) ≡ trailer b → trailer b + 2 * count b + 2 ≡ length b

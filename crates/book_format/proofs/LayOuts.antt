@@ -12,7 +12,8 @@ use lib.ListN.{length, length-append}
 use lib.Seq.{take-at, drop-at}
 use Rattle.coxeter.specs.Kinds.{kindOf, lanes}
 use Rattle.book_format.specs.declared.Edition.{Edition}
-use Rattle.book_format.specs.Books.{twoAt, two, count, trailer, misplacedFrom, misplaced, wrongSize, wrongCount, bookRefusal, recordOf, appended, headSize}
+use Rattle.book_format.specs.Books.{twoAt, two, count, trailer, misplacedFrom, misplaced}
+use Rattle.book_format.specs.Books.{wrongSize, wrongCount, bookRefusal, recordOf, appended, headSize}
 use Rattle.book_format.specs.Records.{Record, recordBytes, offsetBytes, layOut, recordsFrom, recordsOf}
 use Rattle.book_format.proofs.BookLaws.{accepted, trailer-read}
 use Rattle.book_format.proofs.WritingLaws.{length-two, length-recordOf, length-appended}
@@ -76,7 +77,8 @@ module _ (ed : Edition) where
     count-layOut =
         let l = length-layOut rs in
         let front = recordBytes ed rs ++ offsetBytes ed 0 rs in
-        let f : length front ≡ length (recordBytes ed rs) + 2 * length rs = length-append (recordBytes ed rs) (offsetBytes ed 0 rs) ∙ rw (length-offsetBytes 0 rs) in
+        let f : length front ≡ length (recordBytes ed rs) + 2 * length rs =
+        length-append (recordBytes ed rs) (offsetBytes ed 0 rs) ∙ rw (length-offsetBytes 0 rs) in
         twoAt-written (layOut ed rs) front [] (length (layOut ed rs) - 2) (length rs) (before-count rs) (omega arith) (omega arith)
 
     trailer-layOut : trailer (layOut ed rs) ≡ length (recordBytes ed rs)
@@ -100,7 +102,8 @@ module _ (ed : Edition) where
   layOut-joined : (rs : List Record) (r : Record) → LanesRight r → layOut ed (rs ++ (r ∷ [])) ≡ joined rs r
   unfolding layOut recordBytes offsetBytes
   layOut-joined rs r h =
-      rw (recordBytes-append rs (r ∷ []), offsetBytes-append rs (r ∷ []) 0, length-snoc rs r, h, zero-add (length (recordBytes ed rs))) (simp (append-assoc, append-nil))
+      rw (recordBytes-append rs (r ∷ []), offsetBytes-append rs (r ∷ []) 0, length-snoc rs r, h, zero-add (length (recordBytes ed rs)))
+      (simp (append-assoc, append-nil))
 
   appended-joined : (rs : List Record) (r : Record) → length (layOut ed rs) ≤ 65535
       → appended ed (layOut ed rs) (r .kind) (r .rank) (r .letters) ≡ joined rs r
@@ -134,7 +137,8 @@ module _ (ed : Edition) where
   length-layOut-le rs ss =
       let a = length-layOut rs in
       let b = length-layOut (rs ++ ss) in
-      let c : length (recordBytes ed (rs ++ ss)) ≡ length (recordBytes ed rs) + length (recordBytes ed ss) = ap length (recordBytes-append rs ss) ∙ length-append (recordBytes ed rs) (recordBytes ed ss) in
+      let c : length (recordBytes ed (rs ++ ss)) ≡ length (recordBytes ed rs) + length (recordBytes ed ss) =
+      ap length (recordBytes-append rs ss) ∙ length-append (recordBytes ed rs) (recordBytes ed ss) in
       let d = length-append rs ss in
       omega arith
 

@@ -15,7 +15,8 @@ use Rattle.coxeter.specs.Calls.{answerOf, written, writes}
 use Rattle.book_format.specs.declared.Edition.{Edition}
 use Rattle.book_format.specs.declared.Opened.the-variants as opened
 use Rattle.book_format.specs.declared.Preset.the-variants as preset
-use Rattle.book_format.specs.Books.{twoAt, count, trailer, wrongSize, wrongCount, misplacedFrom, misplaced, noSuchPreset, bookRefusal, presetRefusal, appended, appendRefusal}
+use Rattle.book_format.specs.Books.{twoAt, count, trailer, wrongSize, wrongCount, misplacedFrom}
+use Rattle.book_format.specs.Books.{misplaced, noSuchPreset, bookRefusal, presetRefusal, appended, appendRefusal}
 use Rattle.book_format.specs.Calls.{openedOf, presetOf, checkedBook, presetAt, checkedPreset, lettersOf, lettersStart, readingPresets, appending}
 use Rattle.book_format.specs.Conversion.{converting}
 use Rattle.book_format.proofs.BookLaws.{bookRefusal-bytes}

@@ -15,8 +15,11 @@ use Rattle.coxeter.specs.Checks.{check, _then_, wrongKind, tooLong, wrongLetter
 use Rattle.coxeter.specs.Calls.{answerOf, writes}
 use Rattle.book_format.specs.declared.Edition.{Edition}
 use Rattle.book_format.specs.declared.Edition.the-variants.{First, Second}
-use Rattle.book_format.specs.Books.{firstOf, count, wrongSize, wrongCount, misplaced, noSuchPreset, tooLarge, retired, offset, kindAt, rankAt, lettersAt, wrongRankInBook, wrongLaneCount, bookRankRefusal, bookRefusal, recordRefusal, presetRefusal, appended, appendRefusal}
-use Rattle.book_format.specs.Conversion.{converted, tooManyLanes, recordConversionRefusal, recordsConversionRefusal, conversionRefusal, converting, recordTests, recordsTests}
+use Rattle.book_format.specs.Books.{firstOf, count, wrongSize, wrongCount, misplaced, noSuchPreset, tooLarge}
+use Rattle.book_format.specs.Books.{retired, offset, kindAt, rankAt, lettersAt, wrongRankInBook, wrongLaneCount}
+use Rattle.book_format.specs.Books.{bookRankRefusal, bookRefusal, recordRefusal, presetRefusal, appended, appendRefusal}
+use Rattle.book_format.specs.Conversion.{converted, tooManyLanes, recordConversionRefusal, recordsConversionRefusal}
+use Rattle.book_format.specs.Conversion.{conversionRefusal, converting, recordTests, recordsTests}
 use Rattle.coxeter.proofs.Basics.{by-pick}
 use Rattle.coxeter.proofs.Refusals.{then-none, then-some, then-assoc}
 
@@ -28,7 +31,11 @@ check-then m false r h = then-none 0 r refl
 
 pub bookRefusal-firstOf : (ed : Edition) (b : List ℕ) → bookRefusal ed b ≡ firstOf ((1, wrongSize b) ∷ (2, wrongCount b) ∷ (3, misplaced ed b) ∷ [])
 unfolding bookRefusal
-bookRefusal-firstOf ed b = rw (check-then 1 (wrongSize b) (check 2 (wrongCount b) then check 3 (misplaced ed b)) (omega arith), check-then 2 (wrongCount b) (check 3 (misplaced ed b)) (omega arith))
+bookRefusal-firstOf ed b =
+    rw (
+      check-then 1 (wrongSize b) (check 2 (wrongCount b) then check 3 (misplaced ed b)) (omega arith),
+      check-then 2 (wrongCount b) (check 3 (misplaced ed b)) (omega arith),
+    )
 
 -- checks 1 to 3, and then others
 bookRefusal-then : (ed : Edition) (b : List ℕ) (r : ℕ) → (bookRefusal ed b then r) ≡ pick (wrongSize b) 1 (pick (wrongCount b) 2 (pick (misplaced ed b) 3 r))

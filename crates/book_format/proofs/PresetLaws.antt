@@ -35,7 +35,8 @@ presetAt-refused : (ed : Edition) (b : List ℕ) (o r : ℕ) → (r ≡ 0 → �
 unfolding presetAt presetOf
 presetAt-refused ed b o r f = rw (ne-eqb r 0 f)
 
-presetAt-found : (ed : Edition) (b : List ℕ) (o r : ℕ) → r ≡ 0 → presetAt ed r b o ≡ preset.Found (kindAt b o) (rankAt b o) (o + headSize ed) (letterCountAt ed b o)
+presetAt-found : (ed : Edition) (b : List ℕ) (o r : ℕ) → r ≡ 0
+    → presetAt ed r b o ≡ preset.Found (kindAt b o) (rankAt b o) (o + headSize ed) (letterCountAt ed b o)
 unfolding presetAt presetOf
 presetAt-found ed b o r z = rw (eq-eqb r 0 z)
 
@@ -94,7 +95,8 @@ record-refused ed b o r e = elim (ℕ-discrete (recordRefusal ed b o) 0) [ yes z
 
     never : recordRefusal ed b o ≡ 0 → ⊥
     never z =
-        let q : preset.Refused r ≡ preset.Found (kindAt b o) (rankAt b o) (o + headSize ed) (letterCountAt ed b o) = e ∙ presetAt-found ed b o (recordRefusal ed b o) z in
+        let q : preset.Refused r ≡ preset.Found (kindAt b o) (rankAt b o) (o + headSize ed) (letterCountAt ed b o) =
+        e ∙ presetAt-found ed b o (recordRefusal ed b o) z in
         let y : _≡_ {A = ℕ} 0 1 = cc in
         omega arith
 
@@ -137,7 +139,8 @@ found ed b i k n s l e = elim (ℕ-discrete (presetRefusal ed b i) 0) [ yes z �
   where
     at : presetRefusal ed b i ≡ 0 → Found ed b i k n s l
     at z =
-        let q : preset.Found k n s l ≡ preset.Found (kindAt b (offset b i)) (rankAt b (offset b i)) (offset b i + headSize ed) (letterCountAt ed b (offset b i)) =
+        let q : preset.Found k n s l ≡ preset.Found (kindAt b (offset b i)) (rankAt b (offset b i)) (offset b i + headSize ed)
+        (letterCountAt ed b (offset b i)) =
         e ∙ presetAt-found ed b (offset b i) (presetRefusal ed b i) z in
         record { unrefused = z; kind = cc; rank = cc; begins = cc; counts = cc }
 

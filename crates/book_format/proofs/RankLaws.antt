@@ -61,7 +61,8 @@ module _ (ed : Edition) (k n r : ℕ) (e : r ≡ rankRefusal k n) where
 
 -- a kind and a rank that a record may have, every call takes
 pub bookRank-accepted : (ed : Edition) (k n : ℕ) → bookRankRefusal ed k n ≡ 0 → rankRefusal k n ≡ 0
-bookRank-accepted ed k n h = elim (ℕ-discrete (rankRefusal k n) 0) [ yes z ↦ z | no f ↦ absurd (f (sym (bookRankRefusal-refused ed k n (rankRefusal k n) refl f) ∙ h)) ]
+bookRank-accepted ed k n h =
+    elim (ℕ-discrete (rankRefusal k n) 0) [ yes z ↦ z | no f ↦ absurd (f (sym (bookRankRefusal-refused ed k n (rankRefusal k n) refl f) ∙ h)) ]
 
 -- a rank that a record may have lies in its range
 pub bookRank-within : (ed : Edition) (k n : ℕ) → bookRankRefusal ed k n ≡ 0 → (least (kindOf k) ≤ n) × (n ≤ greatestInBook ed (kindOf k))

@@ -22,14 +22,17 @@ use Rattle.book_format.specs.declared.Edition.{Edition}
 use Rattle.book_format.specs.declared.Edition.the-variants.{First, Second}
 use Rattle.book_format.specs.declared.Opened.the-variants as opened
 use Rattle.book_format.specs.declared.Preset.the-variants as preset
-use Rattle.book_format.specs.Books.{firstOf, count, offset, headSize, kindAt, rankAt, lanesAt, letterCountAt, lettersAt, wrongSize, wrongCount, misplaced, noSuchPreset, greatestInBook, wrongRankInBook, wrongLaneCount, bookRankRefusal, bookRefusal, recordRefusal, presetRefusal}
+use Rattle.book_format.specs.Books.{firstOf, count, offset, headSize, kindAt, rankAt, lanesAt}
+use Rattle.book_format.specs.Books.{letterCountAt, lettersAt, wrongSize, wrongCount, misplaced, noSuchPreset, greatestInBook}
+use Rattle.book_format.specs.Books.{wrongRankInBook, wrongLaneCount, bookRankRefusal, bookRefusal, recordRefusal, presetRefusal}
 use Rattle.book_format.specs.Calls.{openedOf, presetOf, checkedBook, presetAt, checkedPreset, lettersOf, readingPresets}
 use Rattle.book_format.specs.Conversion.{recordTests}
 use Rattle.book_format.proofs.Numbers.{then-late, then-early, check-other, check-holds, firstOf-never, rank-other, word-other}
 use Rattle.book_format.proofs.RankLaws.{bookRank-within}
 use Rattle.book_format.proofs.PresetLaws.{presetRefusal-record, refused, refused-is, lettersOf-refused}
 use Rattle.book_format.proofs.Appending.{checkedPreset-of, lettersOf-of}
-use Rattle.book_format.proofs.Outcomes.{bookRefusal-firstOf, presetRefusal-firstOf, recordConversionRefusal-firstOf, bookRefusal-le, first-lane-count, second-lane-count}
+use Rattle.book_format.proofs.Outcomes.{bookRefusal-firstOf, presetRefusal-firstOf, recordConversionRefusal-firstOf}
+use Rattle.book_format.proofs.Outcomes.{bookRefusal-le, first-lane-count, second-lane-count}
 use Rattle.book_format.proofs.Unchanged.{readingPresets-unchanged}
 use Rattle.book_format.proofs.NoBytes.{refusal-1-exactly}
 use Rattle.book_format.proofs.Retired.{retired-read, retired-converted, rank-1-taken}

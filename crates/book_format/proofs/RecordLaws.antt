@@ -1,5 +1,6 @@
 -- Every book that passes checks 1 to 3, but the one of no bytes, is made of its records: laying them out again gives its bytes. So two books with the
--- same presets in the same order are the same bytes, unless one of them has no bytes. Shown part by part from the end: what a part lays out, followed by the book after it, is the book from its beginning.
+-- same presets in the same order are the same bytes, unless one of them has no bytes. Shown part by part from the end: what a part lays out, followed
+-- by the book after it, is the book from its beginning.
 --
 -- Sections: numbers; one record; the records; the offsets; the law; appending.
 -- Assumes nothing.
@@ -22,7 +23,9 @@ use Rattle.book_format.specs.Books.{misplacedFrom, misplaced, bookRefusa
 use Rattle.book_format.specs.Records.{recordBytes, offsetBytes, layOut, recordAt, recordsFrom, recordsOf, Empties, Bytes}
 use Rattle.book_format.proofs.BookLaws.{Accepted, accepted, bookSize, bookSize-some, no-bytes, count-bytes, first, trailer-le}
 use Rattle.book_format.proofs.WritingLaws.{length-appended}
-use Rattle.book_format.proofs.AppendedParts.{count-appended, offset-appended, offset-appended-last, kindAt-appended, rankAt-appended, lanesAt-appended, lettersAt-appended, kindAt-appended-last, rankAt-appended-last, lanesAt-appended-last, lettersAt-appended-last}
+use Rattle.book_format.proofs.AppendedParts.{count-appended, offset-appended, offset-appended-last, kindAt-appended}
+use Rattle.book_format.proofs.AppendedParts.{rankAt-appended, lanesAt-appended, lettersAt-appended, kindAt-appended-last}
+use Rattle.book_format.proofs.AppendedParts.{rankAt-appended-last, lanesAt-appended-last, lettersAt-appended-last}
 use Rattle.book_format.proofs.Appending.{walk-end}
 
 -- ---- numbers
@@ -56,7 +59,8 @@ letters-then-drop ed b o = rw (← drop-drop (letterCountAt ed b o) (o + headSiz
 head-then-drop : (ed : Edition) (b : List ℕ) (o : ℕ) → o + countPlace ed ≤ length b
     → kindAt b o ∷ rankAt b o ∷ (laneByte ed (lanesAt ed b o) ++ drop (o + countPlace ed) b) ≡ drop o b
 head-then-drop First b o h = sym (drop-two b o (omega arith))
-head-then-drop Second b o h = sym (drop-two b o (omega arith) ∙ ap (λ l. kindAt b o ∷ rankAt b o ∷ l) (drop-cons b (o + 2) 0 (omega arith) ∙ rw (add-two o, add-three o)))
+head-then-drop Second b o h =
+    sym (drop-two b o (omega arith) ∙ ap (λ l. kindAt b o ∷ rankAt b o ∷ l) (drop-cons b (o + 2) 0 (omega arith) ∙ rw (add-two o, add-three o)))
 
 record-then-drop : (ed : Edition) (b : List ℕ) (o : ℕ) → Bytes b → endAt ed b o ≤ length b
     → recordOf ed (kindAt b o) (rankAt b o) (lanesAt ed b o) (lettersAt ed b o) ++ drop (endAt ed b o) b ≡ drop o b
@@ -77,14 +81,20 @@ record-then-drop ed b o w h =
 
 -- ---- the records
 
-records-then-drop : (ed : Edition) (b : List ℕ) (j i o : ℕ) → Bytes b → misplacedFrom ed b j i o ≡ false → recordBytes ed (recordsFrom ed b j i) ++ drop (trailer b) b ≡ drop o b
+records-then-drop : (ed : Edition) (b : List ℕ) (j i o : ℕ) → Bytes b → misplacedFrom ed b j i o ≡ false
+    → recordBytes ed (recordsFrom ed b j i) ++ drop (trailer b) b ≡ drop o b
 unfolding recordBytes recordsFrom
 records-then-drop ed b zero i o w e = rw (walk-end ed b i o e)
 records-then-drop ed b (suc j) i o w e =
     let f = first ed b j i o e in
     let t = trailer-le b in
     let h = f .ends in
-    rw (f .begins, append-assoc (recordOf ed (kindAt b o) (rankAt b o) (lanesAt ed b o) (lettersAt ed b o)) (recordBytes ed (recordsFrom ed b j (suc i))) (drop (trailer b) b), records-then-drop ed b j (suc i) (endAt ed b o) w (f .others))
+    rw (
+      f .begins,
+      append-assoc (recordOf ed (kindAt b o) (rankAt b o) (lanesAt ed b o) (lettersAt ed b o))
+          (recordBytes ed (recordsFrom ed b j (suc i))) (drop (trailer b) b),
+      records-then-drop ed b j (suc i) (endAt ed b o) w (f .others),
+    )
     (record-then-drop ed b o w (omega arith))
 
 -- ---- the offsets
@@ -100,7 +110,10 @@ count-at b = refl
 count-then-end : (b : List ℕ) → Bytes b → 2 ≤ length b → two (count b) ≡ drop (length b - 2) b
 count-then-end b w h =
     rw (count-at b)
-    (rw (drop-of-length-le b {i = length b - 2 + 2} (omega arith), append-nil (two (twoAt b (length b - 2)))) at (two-then-drop b (length b - 2) w (omega arith)))
+    (rw (
+      drop-of-length-le b {i = length b - 2 + 2} (omega arith),
+      append-nil (two (twoAt b (length b - 2))),
+    ) at (two-then-drop b (length b - 2) w (omega arith)))
 
 offsets-then-drop : (ed : Edition) (b : List ℕ) (j i o : ℕ) → Bytes b → trailer b + 2 * (i + j) ≤ length b → misplacedFrom ed b j i o ≡ false
     → offsetBytes ed o (recordsFrom ed b j i) ++ drop (trailer b + 2 * (i + j)) b ≡ drop (trailer b + 2 * i) b
@@ -168,7 +181,8 @@ same-records ed b d w v y z e = elim (ℕ-discrete (length b) 0) [
   ]
 ]
 
-recordsFrom-same : (ed : Edition) (b d : List ℕ) (j i : ℕ) → ((m : ℕ) → m < i + j → recordAt ed b (offset b m) ≡ recordAt ed d (offset d m)) → recordsFrom ed b j i ≡ recordsFrom ed d j i
+recordsFrom-same : (ed : Edition) (b d : List ℕ) (j i : ℕ) → ((m : ℕ) → m < i + j → recordAt ed b (offset b m) ≡ recordAt ed d (offset d m))
+    → recordsFrom ed b j i ≡ recordsFrom ed d j i
 unfolding recordsFrom
 recordsFrom-same ed b d zero i e = refl
 recordsFrom-same ed b d (suc j) i e = rw (e i (omega arith), recordsFrom-same ed b d j (suc i) (λ m h. e m (omega arith)))
@@ -197,7 +211,8 @@ module _ (ed : Edition) (b : List ℕ) (k n : ℕ) (u : List ℕ) (a : Accepted 
       let y : i ≡ count b = omega arith in
       rw (y, offset-appended-last ed b k n u a small)
       (ap (λ r. r ∷ [])
-      (recordAt-of ed (appended ed b k n u) (trailer b) k n (lanes (kindOf k) n) u (kindAt-appended-last ed b k n u a small) (rankAt-appended-last ed b k n u a small)
+      (recordAt-of ed (appended ed b k n u) (trailer b) k n (lanes (kindOf k) n) u (kindAt-appended-last ed b k n u a small)
+      (rankAt-appended-last ed b k n u a small)
       (lanesAt-appended-last ed b k n u a small) (lettersAt-appended-last ed b k n u a small)))
   recordsFrom-appended (suc j) i o s e =
       let f = first ed b j i o e in

@@ -76,7 +76,8 @@ length-presetFields ed b (suc t) i =
     rw length-append (omega arith)
 
 -- the numbers of preset j of a run
-presetFields-at : (ed : Edition) (b : List ℕ) (t i j k : ℕ) → j < t → k < 5 → getD (presetFields ed b t i) (5 * j + k) 0 ≡ getD (fieldsOf (checkedPreset ed b (i + j))) k 0
+presetFields-at : (ed : Edition) (b : List ℕ) (t i j k : ℕ) → j < t → k < 5
+    → getD (presetFields ed b t i) (5 * j + k) 0 ≡ getD (fieldsOf (checkedPreset ed b (i + j))) k 0
 unfolding presetFields
 presetFields-at ed b zero i j k h g = absurd (omega arith)
 presetFields-at ed b (suc t) i zero k h g =

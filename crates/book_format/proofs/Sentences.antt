@@ -38,8 +38,10 @@ use Rattle.coxeter.proofs.Writes.{Wrote, wrote, answers-exactly, answers-short,
 use Rattle.book_format.proofs.AppendedParts.{offset-appended-last, lanesAt-appended-last}
 use Rattle.book_format.proofs.Appending.{append-grown, append-reads-back}
 use Rattle.book_format.proofs.RecordLaws.{recordsOf-appended}
-use Rattle.book_format.proofs.Converting.{convertible, recordsOf-converted, converted-bytes, conversion-opens, convert-converted, convert-back, convert-back-accepted, length-converted}
-use Rattle.book_format.proofs.NoBytes.{opening-no-bytes, preset-of-no-bytes, letters-of-no-bytes, run-of-no-bytes, append-to-no-bytes, converting-no-bytes}
+use Rattle.book_format.proofs.Converting.{convertible, recordsOf-converted, converted-bytes, conversion-opens}
+use Rattle.book_format.proofs.Converting.{convert-converted, convert-back, convert-back-accepted, length-converted}
+use Rattle.book_format.proofs.NoBytes.{opening-no-bytes, preset-of-no-bytes, letters-of-no-bytes}
+use Rattle.book_format.proofs.NoBytes.{run-of-no-bytes, append-to-no-bytes, converting-no-bytes}
 use Rattle.book_format.proofs.Retired.{retired-exactly}
 
 -- ---- a book grown by a preset
@@ -268,7 +270,9 @@ module _ (ed : Edition) where
         let none = bookSize-none [] refl in
         let size : length (appended ed [] k n u) ≡ headSize ed + length u + 4 = length-appended ed [] k n u (accepted ed [] opens) ∙ rw none (omega arith) in
         let small : bookSize [] + added ed u ≤ 65535 = rw (bookSize-none [] refl) (omega (arith, length-accepted n u word, headSize-le ed)) in
-        let r = appendRefusal-none ed [] k n u 0 (sym opens) 0 refl (sym rank) 0 refl (sym (then-none (rankRefusal k n) _ (bookRank-accepted ed k n rank) ∙ word)) refl false (sym (not-retired k n f)) refl small in
+        let r =
+        appendRefusal-none ed [] k n u 0 (sym opens) 0 refl (sym rank) 0 refl
+        (sym (then-none (rankRefusal k n) _ (bookRank-accepted ed k n rank) ∙ word)) refl false (sym (not-retired k n f)) refl small in
         append-answers ed [] k n u before after a c (headSize ed + length u + 4) .1 (r, sym size, h)
 
     -- the answer and the bytes are those of appending to the book of two zero bytes

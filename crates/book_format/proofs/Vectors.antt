@@ -22,14 +22,17 @@ use Rattle.book_format.specs.declared.Opened.{Opened}
 use Rattle.book_format.specs.declared.Opened.the-variants as opened
 use Rattle.book_format.specs.declared.Preset.{Preset}
 use Rattle.book_format.specs.declared.Preset.the-variants as preset
-use Rattle.book_format.specs.Books.{twoAt, two, count, trailer, offset, wrongSize, wrongCount, misplacedFrom, misplaced, noSuchPreset, tooLarge, retired, wrongRankInBook, wrongLaneCount, bookRankRefusal, bookRefusal, recordRefusal, presetRefusal, recordOf, appended, appendRefusal}
+use Rattle.book_format.specs.Books.{twoAt, two, count, trailer, offset, wrongSize, wrongCount}
+use Rattle.book_format.specs.Books.{misplacedFrom, misplaced, noSuchPreset, tooLarge, retired, wrongRankInBook, wrongLaneCount}
+use Rattle.book_format.specs.Books.{bookRankRefusal, bookRefusal, recordRefusal, presetRefusal, recordOf, appended, appendRefusal}
 use Rattle.book_format.specs.Records.{recordBytes, offsetBytes, layOut, recordsFrom, recordsOf, Bytes}
 use Rattle.book_format.specs.Conversion.{converted, tooManyLanes, recordConversionRefusal, recordsConversionRefusal, conversionRefusal, converting}
 use Rattle.book_format.proofs.RankLaws.{bookRank-accepted}
 use Rattle.book_format.proofs.BookLaws.{accepted}
 use Rattle.book_format.proofs.Converting.{conversion-too-large, length-converted}
 use Rattle.book_format.proofs.WritingLaws.{length-appended, appendRefusal-large, appendRefusal-none}
-use Rattle.book_format.specs.Calls.{openedOf, presetOf, checkedBook, presetAt, checkedPreset, lettersStart, lettersOf, fieldsOf, presetFields, runLength, readingPresets, appending}
+use Rattle.book_format.specs.Calls.{openedOf, presetOf, checkedBook, presetAt, checkedPreset, lettersStart}
+use Rattle.book_format.specs.Calls.{lettersOf, fieldsOf, presetFields, runLength, readingPresets, appending}
 
 -- ---- books
 
@@ -212,7 +215,10 @@ appendings =
     -- the second edition, with the lane count after the rank, and its ranges
     ∷ (appending Second emptyBook 1 2 (1 ∷ []) (lent 10), wrote 10 (1 ∷ 2 ∷ 3 ∷ 1 ∷ 0 ∷ 1 ∷ 0 ∷ 0 ∷ 1 ∷ 0 ∷ []))
     ∷ (appending Second [] 1 2 (1 ∷ []) (lent 10), wrote 10 (1 ∷ 2 ∷ 3 ∷ 1 ∷ 0 ∷ 1 ∷ 0 ∷ 0 ∷ 1 ∷ 0 ∷ []))
-    ∷ (appending Second (bookOf (1 ∷ 1 ∷ 2 ∷ 0 ∷ 0 ∷ [])) 3 64 (64 ∷ []) (lent 17), wrote 17 (1 ∷ 1 ∷ 2 ∷ 0 ∷ 0 ∷ 3 ∷ 64 ∷ 64 ∷ 1 ∷ 0 ∷ 64 ∷ 0 ∷ 0 ∷ 5 ∷ 0 ∷ 2 ∷ 0 ∷ []))
+    ∷ (
+      appending Second (bookOf (1 ∷ 1 ∷ 2 ∷ 0 ∷ 0 ∷ [])) 3 64 (64 ∷ []) (lent 17),
+      wrote 17 (1 ∷ 1 ∷ 2 ∷ 0 ∷ 0 ∷ 3 ∷ 64 ∷ 64 ∷ 1 ∷ 0 ∷ 64 ∷ 0 ∷ 0 ∷ 5 ∷ 0 ∷ 2 ∷ 0 ∷ []),
+    )
     ∷ (appending Second emptyBook 1 64 [] (lent 9), refused 6 (lent 9))
     -- the book's refusal before the preset's, the preset's before the room
     ∷ (appending First (7 ∷ 0 ∷ 0 ∷ []) 4 1 [] (lent 1), refused 3 (lent 1))
@@ -245,7 +251,8 @@ module _ (ed : Edition) (b : List ℕ) (k n : ℕ) (u out : List ℕ) (e : bookR
   pub appending-too-large : 65535 < length (appended ed b k n u) → appending ed b k n u out ≡ refused 13 out
   unfolding appending writes answerOf written
   appending-too-large h =
-      rw (appendRefusal-large ed b k n u 0 (sym e) 0 refl (sym f) 0 refl passes refl (retired k n) refl o (rw (length-appended ed b k n u (accepted ed b e)) at h))
+      rw (appendRefusal-large ed b k n u 0 (sym e) 0 refl (sym f) 0 refl passes refl (retired k n) refl o
+      (rw (length-appended ed b k n u (accepted ed b e)) at h))
 
   pub appending-without-room : length (appended ed b k n u) ≤ 65535 → length out < length (appended ed b k n u) → appending ed b k n u out ≡ refused 14 out
   unfolding appending writes answerOf written tooShort

@@ -14,7 +14,8 @@ use Rattle.book_format.specs.declared.Edition.{Edition}
 use Rattle.book_format.specs.declared.Edition.the-variants.{First, Second}
 use Rattle.coxeter.specs.declared.Answer.the-variants as answer
 use Rattle.coxeter.specs.Checks.{check, _then_, rankRefusal, wordRefusal}
-use Rattle.book_format.specs.Books.{two, count, trailer, tooLarge, retired, bookRankRefusal, bookRefusal, laneByte, recordOf, appended, appendRefusal, countPlace, headSize, added}
+use Rattle.book_format.specs.Books.{two, count, trailer, tooLarge, retired, bookRankRefusal, bookRefusal}
+use Rattle.book_format.specs.Books.{laneByte, recordOf, appended, appendRefusal, countPlace, headSize, added}
 use Rattle.book_format.specs.Calls.{appending}
 use Rattle.book_format.proofs.RankLaws.{bookRank-accepted}
 use Rattle.book_format.proofs.BookLaws.{Accepted, accepted, accepted-read, bookSize, trailer-le}
@@ -42,7 +43,13 @@ unfolding appended
 length-appended ed b k n u a =
     let h = a .inside in
     let s = a .sized in
-    simp (length-append, length-recordOf, length-two, length-take-le (trailer b) b (trailer-le b), length-take-le (2 * count b) (drop (trailer b) b) (rw length-drop (omega arith))) (omega arith)
+    simp (
+      length-append,
+      length-recordOf,
+      length-two,
+      length-take-le (trailer b) b (trailer-le b),
+      length-take-le (2 * count b) (drop (trailer b) b) (rw length-drop (omega arith)),
+    ) (omega arith)
 
 -- its length, as the code computes it: s is the size of the old book with its count, m that of a record's head
 pub size-read : (ed : Edition) (b u : List ℕ) (s m : ℕ) → s ≡ bookSize b → m ≡ headSize ed → s + (m + length u + 2) ≡ bookSize b + added ed u
@@ -79,12 +86,34 @@ module _ (ed : Edition) (b : List ℕ) (k n : ℕ) (u : List ℕ) (r : ℕ) (e :
           pub appendRefusal-large : 65535 < bookSize b + added ed u → appendRefusal ed b k n u ≡ 13
           unfolding appendRefusal tooLarge
           appendRefusal-large h =
-              rw (← e, eq-eqb r 0 z, ← d, eq-eqb s 0 y, ← word, eq-eqb t 0 x, ← v, w, length-appended ed b k n u (accepted-read ed b r e z), lt-ltb 65535 (bookSize b + added ed u) h)
+              rw (
+                ← e,
+                eq-eqb r 0 z,
+                ← d,
+                eq-eqb s 0 y,
+                ← word,
+                eq-eqb t 0 x,
+                ← v,
+                w,
+                length-appended ed b k n u (accepted-read ed b r e z),
+                lt-ltb 65535 (bookSize b + added ed u) h,
+              )
 
           pub appendRefusal-none : bookSize b + added ed u ≤ 65535 → appendRefusal ed b k n u ≡ 0
           unfolding appendRefusal tooLarge
           appendRefusal-none h =
-              rw (← e, eq-eqb r 0 z, ← d, eq-eqb s 0 y, ← word, eq-eqb t 0 x, ← v, w, length-appended ed b k n u (accepted-read ed b r e z), le-ltb 65535 (bookSize b + added ed u) h)
+              rw (
+                ← e,
+                eq-eqb r 0 z,
+                ← d,
+                eq-eqb s 0 y,
+                ← word,
+                eq-eqb t 0 x,
+                ← v,
+                w,
+                length-appended ed b k n u (accepted-read ed b r e z),
+                le-ltb 65535 (bookSize b + added ed u) h,
+              )
 
 -- where appending is not refused, none of its checks refuses
 append-parts : (ed : Edition) (b : List ℕ) (k n : ℕ) (u : List ℕ) → appendRefusal ed b k n u ≡ 0

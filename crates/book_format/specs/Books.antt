@@ -1,6 +1,6 @@
--- The preset book (document 01, "The preset book"; its second edition: document 02, request 7; a book of no bytes: request 9), read from its end, and its checks 1 to 4, 6, 13, 17
--- and 21. "Callers name the edition they read or append, first or second; no third can be named.": `Edition` has these two cases, and what differs between
--- the editions goes by them.
+-- The preset book (document 01, "The preset book"; its second edition: document 02, request 7; a book of no bytes: request 9), read from its end, and
+-- its checks 1 to 4, 6, 13, 17 and 21. "Callers name the edition they read or append, first or second; no third can be named.": `Edition` has these
+-- two cases, and what differs between the editions goes by them.
 use mathlib.Core.Bool.{Bool, not, _&&_, _||_}
 use mathlib.Core.List.{List, [], _∷_, _++_}
 use Prim.Native.Nat.{ℕ, zero, suc, _+_, _-_, _*_, _/_, _%_}

@@ -12,7 +12,8 @@ use Rattle.coxeter.specs.Calls.{Outcome, writes}
 use Rattle.book_format.specs.declared.Edition.{Edition}
 use Rattle.book_format.specs.declared.Edition.the-variants.{First, Second}
 use Rattle.book_format.specs.declared.Preset.the-variants as preset
-use Rattle.book_format.specs.Books.{count, offset, kindAt, rankAt, lanesAt, lettersAt, wrongRankInBook, wrongLaneCount, tooLarge, bookRefusal, recordRefusal}
+use Rattle.book_format.specs.Books.{count, offset, kindAt, rankAt, lanesAt, lettersAt}
+use Rattle.book_format.specs.Books.{wrongRankInBook, wrongLaneCount, tooLarge, bookRefusal, recordRefusal}
 use Rattle.book_format.specs.Records.{layOut, recordsOf}
 use Rattle.book_format.specs.Calls.{checkedPreset, lettersOf}
 

@@ -13,7 +13,7 @@ use lib.ListN.{length, getD, take, drop, length-append}
 use lib.Seq.{sets, length-sets}
 use borrow.Author.Tests.{eq-eqb, ne-eqb, lt-ltb, le-ltb}
 use Rattle.coxeter.specs.Kinds.{kindOf, lanes}
-use Rattle.coxeter.specs.Checks.{check, _then_}
+use Rattle.coxeter.specs.Checks.{check}
 use Rattle.coxeter.specs.declared.Answer.the-variants as answer
 use Rattle.coxeter.proofs.Acceptance.{rank-accepted}
 use Rattle.coxeter.proofs.Lists.{Storing, storing-all, sets-next, sets-front}
@@ -21,7 +21,8 @@ use Rattle.coxeter.proofs.Outcomes.{writes-refused, writes-short, writes-done}
 use Rattle.coxeter.proofs.Refusals.{then-some, then-none}
 use Rattle.book_format.specs.declared.Edition.{Edition}
 use Rattle.book_format.specs.declared.Preset.the-variants as preset
-use Rattle.book_format.specs.Books.{twoAt, two, count, offset, countPlace, headSize, kindAt, rankAt, lanesAt, letterCountAt, lettersAt, endAt, tooLarge, bookRefusal, recordOf}
+use Rattle.book_format.specs.Books.{twoAt, two, count, offset, countPlace, headSize, kindAt, rankAt}
+use Rattle.book_format.specs.Books.{lanesAt, letterCountAt, lettersAt, endAt, tooLarge, bookRefusal, recordOf}
 use Rattle.book_format.specs.Records.{recordBytes, offsetBytes, layOut, recordAt, recordsFrom, recordsOf}
 use Rattle.book_format.specs.Calls.{checkedRecord}
 use Rattle.book_format.specs.Conversion.{other, converted, tooManyLanes, recordConversionRefusal, recordsConversionRefusal, conversionRefusal, converting}
@@ -205,7 +206,8 @@ module _ (ed : Edition) (b : List ℕ) (w : Convertible ed b) (c : ℕ) (n : c �
     pub others-next : (out′ : List ℕ) (x : ℕ) → i < c → out′ ≡ sets out p (bytesAt ed b i) → x ≡ headSize (other ed) + letterCountAt ed b (offset b i)
         → Storing o 0 (allBytes ed b c) out′ (p + x) (bytesLeft ed b c (i + 1))
     others-next out′ x h e k =
-        storing-part o 0 (allBytes ed b c) out p (bytesAt ed b i) (bytesLeft ed b c (i + 1)) out′ (p + x) (rw (← bytes-next i h) s) e (rw (length-bytesAt i h, k))
+        storing-part o 0 (allBytes ed b c) out p (bytesAt ed b i) (bytesLeft ed b c (i + 1)) out′ (p + x) (rw (← bytes-next i h) s) e
+        (rw (length-bytesAt i h, k))
 
     pub others-end : c ≤ i → (out ≡ sets o 0 (allBytes ed b c)) × (p ≡ length (allBytes ed b c))
     unfolding recordBytes
@@ -216,7 +218,8 @@ module _ (ed : Edition) (b : List ℕ) (w : Convertible ed b) (c : ℕ) (n : c �
 
   -- ---- their offsets
 
-  offsetsLeft-next : (o i x : ℕ) → i < c → x ≡ headSize (other ed) + letterCountAt ed b (offset b i) → offsetsLeft ed b c o i ≡ two o ++ offsetsLeft ed b c (o + x) (i + 1)
+  offsetsLeft-next : (o i x : ℕ) → i < c → x ≡ headSize (other ed) + letterCountAt ed b (offset b i)
+      → offsetsLeft ed b c o i ≡ two o ++ offsetsLeft ed b c (o + x) (i + 1)
   unfolding offsetBytes
   offsetsLeft-next o i x h k =
       let l = length-lettersAt ed b (offset b i) (inside ed b c i (offset b i) (w .opens) n h refl) in
@@ -243,7 +246,9 @@ module _ (ed : Edition) (b : List ℕ) (w : Convertible ed b) (c : ℕ) (n : c �
     pub offsets-next : (out′ : List ℕ) (x : ℕ) → i < c → out′ ≡ sets out (at + 2 * i) (two o) → x ≡ headSize (other ed) + letterCountAt ed b (offset b i)
         → Placing ed b c before at out′ (o + x) (i + 1)
     offsets-next out′ x h e k = record {
-      storing = storing-part before at (allOffsets ed b c) out (at + 2 * i) (two o) (offsetsLeft ed b c (o + x) (i + 1)) out′ (at + 2 * (i + 1)) (rw (← offsetsLeft-next o i x h k) (s .storing)) e (let l = length-two o in omega arith);
+      storing =
+          storing-part before at (allOffsets ed b c) out (at + 2 * i) (two o) (offsetsLeft ed b c (o + x) (i + 1)) out′ (at + 2 * (i + 1))
+          (rw (← offsetsLeft-next o i x h k) (s .storing)) e (let l = length-two o in omega arith);
       begins =
           let l = length-append (bytesAt ed b i) (bytesLeft ed b c (i + 1)) in
           let d = ap length (bytes-next i h) in
@@ -260,7 +265,8 @@ module _ (ed : Edition) (b : List ℕ) (w : Convertible ed b) (c : ℕ) (n : c �
 
   -- ---- the whole
 
-  pub all-written : (out a d z : List ℕ) (p : ℕ) → (a ≡ sets out 0 (allBytes ed b c)) × (p ≡ length (allBytes ed b c)) → d ≡ sets a p (allOffsets ed b c) → z ≡ sets d (p + 2 * c) (two c)
+  pub all-written : (out a d z : List ℕ) (p : ℕ) → (a ≡ sets out 0 (allBytes ed b c)) × (p ≡ length (allBytes ed b c))
+      → d ≡ sets a p (allOffsets ed b c) → z ≡ sets d (p + 2 * c) (two c)
       → z ≡ sets out 0 (converted ed b)
   all-written out a d z p e f g =
       let l = length-offsetBytes (other ed) 0 (recordsFrom ed b c 0) in
@@ -295,7 +301,8 @@ module _ (ed : Edition) (b out : List ℕ) (r : ℕ) (e : r ≡ conversionRefusa
     unfolding converting
     converting-short h = writes-short (converting ed b out) (conversionRefusal ed b) r (converted ed b) out refl e m z (size-made ed b r e z c m n w) h
 
-    pub converting-written : (o : List ℕ) → m ≤ length out → o ≡ sets out 0 (converted ed b) → (answer.Length m ≡ converting ed b out .answer) × (o ≡ converting ed b out .bytes)
+    pub converting-written : (o : List ℕ) → m ≤ length out → o ≡ sets out 0 (converted ed b)
+        → (answer.Length m ≡ converting ed b out .answer) × (o ≡ converting ed b out .bytes)
     unfolding converting
     converting-written o h p =
         let new = converted ed b in

@@ -9,7 +9,8 @@ use lib.ListN.{length, length-append}
 use Rattle.coxeter.specs.Kinds.{kindOf}
 use Rattle.coxeter.proofs.Lists.{Stored, stored-append}
 use Rattle.coxeter.proofs.KindLaws.{kindOf-one, kindOf-two, kindOf-three}
-use Rattle.listing_text.specs.Text.{decimal, spaced, letters, entries, kindLetter, head, tail, presetLine, refusedText, bookText, presetsText, refused, refusedLine, refusedBookLine, countLine}
+use Rattle.listing_text.specs.Text.{decimal, spaced, letters, entries, kindLetter, head, tail, presetLine}
+use Rattle.listing_text.specs.Text.{refusedText, bookText, presetsText, refused, refusedLine, refusedBookLine, countLine}
 
 -- ---- lengths
 
@@ -83,7 +84,8 @@ module _ (o : List ℕ) (at : ℕ) (o₁ : List ℕ) (a : ℕ) (o₂ : List ℕ)
     countLine-put x h₁ h₂ h₃ = put-three presetsText (decimal x) (10 ∷ []) h₁ h₂ h₃
 
     module _ (o₄ : List ℕ) (d : ℕ) where
-      pub tail-put : (u : List ℕ) (w : List ℤ) → Stored o at (letters u) o₁ a → Stored o₁ a (32 ∷ 124 ∷ []) o₂ b → Stored o₂ b (entries w) o₃ c → Stored o₃ c (10 ∷ []) o₄ d
+      pub tail-put : (u : List ℕ) (w : List ℤ) → Stored o at (letters u) o₁ a → Stored o₁ a (32 ∷ 124 ∷ []) o₂ b → Stored o₂ b (entries w) o₃ c
+          → Stored o₃ c (10 ∷ []) o₄ d
           → Stored o at (tail u w) o₄ d
       unfolding tail
       tail-put u w h₁ h₂ h₃ h₄ =
@@ -91,7 +93,8 @@ module _ (o : List ℕ) (at : ℕ) (o₁ : List ℕ) (a : ℕ) (o₂ : List ℕ)
           (stored-append o at (letters u ++ (32 ∷ 124 ∷ [])) o₂ b (entries w) o₃ c (stored-append o at (letters u) o₁ a (32 ∷ 124 ∷ []) o₂ b h₁ h₂) h₃)
           h₄
 
-      pub head-put : (o₅ : List ℕ) (e i k n l y : ℕ) → Stored o at (decimal i) o₁ a → y ≡ kindLetter (kindOf k) → Stored o₁ a (32 ∷ y ∷ []) o₂ b → Stored o₂ b (spaced n) o₃ c
+      pub head-put : (o₅ : List ℕ) (e i k n l y : ℕ) → Stored o at (decimal i) o₁ a → y ≡ kindLetter (kindOf k) → Stored o₁ a (32 ∷ y ∷ []) o₂ b
+          → Stored o₂ b (spaced n) o₃ c
           → Stored o₃ c (spaced l) o₄ d → Stored o₄ d (58 ∷ []) o₅ e → Stored o at (head i (kindOf k) n l) o₅ e
       unfolding head
       head-put o₅ e i k n l y h₁ q h₂ h₃ h₄ h₅ =

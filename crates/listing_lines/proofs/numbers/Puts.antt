@@ -26,7 +26,8 @@ put-byte o at x = (refl, refl)
 pub put-digit : (o : List ℕ) (at x : ℕ) → x < 10 → Stored o at (decimal x) (set o at (48 + x)) (at + 1)
 put-digit o at x h = rw (decimal-digit x h) (put-byte o at (48 + x))
 
-pub put-last : (o : List ℕ) (at x : ℕ) (out : List ℕ) (r : ℕ) → 10 ≤ x → Stored o at (decimal (x / 10)) out r → Stored o at (decimal x) (set out r (48 + x % 10)) (r + 1)
+pub put-last : (o : List ℕ) (at x : ℕ) (out : List ℕ) (r : ℕ) → 10 ≤ x → Stored o at (decimal (x / 10)) out r
+    → Stored o at (decimal x) (set out r (48 + x % 10)) (r + 1)
 put-last o at x out r h g = rw (decimal-more x h) (stored-append o at (decimal (x / 10)) out r ((48 + x % 10) ∷ []) _ _ g (put-byte out r (48 + x % 10)))
 
 -- room for a number is room for its digits before the last, and then for the last
@@ -61,7 +62,8 @@ storing-put o at u out r v w out′ r′ s h = record {
 }
 
 -- room for all that is left is room for what comes next
-storing-room : (o : List ℕ) (at : ℕ) (u out : List ℕ) (r : ℕ) (v w : List ℕ) → at + length u ≤ length o → Storing o at u out r (v ++ w) → r + length v ≤ length out
+storing-room : (o : List ℕ) (at : ℕ) (u out : List ℕ) (r : ℕ) (v w : List ℕ) → at + length u ≤ length o → Storing o at u out r (v ++ w)
+    → r + length v ≤ length out
 storing-room o at u out r v w h s = omega (arith, s .place, s .size, length-append v w)
 
 letters-next : (u : List ℕ) (i : ℕ) → i < length u → letters (drop i u) ≡ spaced (getD u i 0) ++ letters (drop (i + 1) u)
@@ -75,7 +77,8 @@ pub letters-room : (o : List ℕ) (at : ℕ) (u out : List ℕ) (r i : ℕ) → 
 letters-room o at u out r i h g s =
     storing-room o at (letters u) out r (spaced (getD u i 0)) (letters (drop (i + 1) u)) g (rw (letters-next u i h) at s)
 
-pub entries-room : (o : List ℕ) (at : ℕ) (w : List ℤ) (out : List ℕ) (r i : ℕ) → i < length w → mag (getD w i (pos 0)) < 128 → at + length (entries w) ≤ length o
+pub entries-room : (o : List ℕ) (at : ℕ) (w : List ℤ) (out : List ℕ) (r i : ℕ) → i < length w → mag (getD w i (pos 0)) < 128
+    → at + length (entries w) ≤ length o
     → Storing o at (entries w) out r (entries (drop i w)) → r + length (entry (toZ w8 (ofZ w8 (getD w i (pos 0))))) ≤ length out
 entries-room o at w out r i h f g s =
     rw (element-back (getD w i (pos 0)) f)
@@ -87,17 +90,20 @@ letters-put o at u out r i out′ r′ h s p =
     storing-put o at (letters u) out r (spaced (getD u i 0)) (letters (drop (i + 1) u)) out′ r′ (rw (letters-next u i h) at s) p
 
 pub entries-put : (o : List ℕ) (at : ℕ) (w : List ℤ) (out : List ℕ) (r i : ℕ) (out′ : List ℕ) (r′ : ℕ) → i < length w → mag (getD w i (pos 0)) < 128
-    → Storing o at (entries w) out r (entries (drop i w)) → Stored out r (entry (toZ w8 (ofZ w8 (getD w i (pos 0))))) out′ r′ → Storing o at (entries w) out′ r′ (entries (drop (i + 1) w))
+    → Storing o at (entries w) out r (entries (drop i w)) → Stored out r (entry (toZ w8 (ofZ w8 (getD w i (pos 0))))) out′ r′
+    → Storing o at (entries w) out′ r′ (entries (drop (i + 1) w))
 entries-put o at w out r i out′ r′ h f s p =
     storing-put o at (entries w) out r (entry (getD w i (pos 0))) (entries (drop (i + 1) w)) out′ r′ (rw (entries-next w i h) at s)
     (rw (element-back (getD w i (pos 0)) f) at p)
 
-pub letters-done : (o : List ℕ) (at : ℕ) (u out : List ℕ) (r i : ℕ) → length u ≤ i → Storing o at (letters u) out r (letters (drop i u)) → Stored o at (letters u) out r
+pub letters-done : (o : List ℕ) (at : ℕ) (u out : List ℕ) (r i : ℕ) → length u ≤ i → Storing o at (letters u) out r (letters (drop i u))
+    → Stored o at (letters u) out r
 letters-done o at u out r i h s =
     let e : letters (drop i u) ≡ [] = rw (drop-of-length-le u h) (unfold letters in refl) in
     (omega (arith, s .place, ap length e), sym (rw e at (s .same)))
 
-pub entries-done : (o : List ℕ) (at : ℕ) (w : List ℤ) (out : List ℕ) (r i : ℕ) → length w ≤ i → Storing o at (entries w) out r (entries (drop i w)) → Stored o at (entries w) out r
+pub entries-done : (o : List ℕ) (at : ℕ) (w : List ℤ) (out : List ℕ) (r i : ℕ) → length w ≤ i → Storing o at (entries w) out r (entries (drop i w))
+    → Stored o at (entries w) out r
 entries-done o at w out r i h s =
     let e : entries (drop i w) ≡ [] = rw (drop-of-length-le w h) (unfold entries in refl) in
     (omega (arith, s .place, ap length e), sym (rw e at (s .same)))

@@ -144,7 +144,8 @@ module _ (ed : Edition) (b : List ℕ) (first : ℕ) (o out : List ℕ) (next en
   filling-full m h e g =
       let t : left ≡ suc (left - 1) = omega arith in
       let q : nextPiece ed b first o ≡ stopped next end left out =
-      f .same ∙ ap (λ (s : ℕ). pieceFrom ed b s next out end) t ∙ pieceFrom-full ed b next out end (left - 1) (omega arith) ∙ ap (λ (s : ℕ). stopped next end s out) (sym t) in
+      f .same ∙ ap (λ (s : ℕ). pieceFrom ed b s next out end) t ∙ pieceFrom-full ed b next out end (left - 1) (omega arith)
+      ∙ ap (λ (s : ℕ). stopped next end s out) (sym t) in
       rw q (refl, refl)
 
   pub filling-done : left ≤ 0 → (stopped next end left out .answer ≡ nextPiece ed b first o .answer) × (out ≡ nextPiece ed b first o .bytes)

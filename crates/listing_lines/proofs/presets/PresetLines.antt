@@ -24,7 +24,8 @@ pub wordLine-room : (i k n : ℕ) (u f : List ℕ) (w : List ℤ) (m : ℕ) → 
 unfolding wordLine
 wordLine-room i k n u f w m p q h = rw (p, q) h
 
-pub wordLine-put : (o : List ℕ) (at i k n : ℕ) (u f : List ℕ) (w : List ℤ) (out : List ℕ) (r : ℕ) → f ≡ wordNormalForm (kindOf k) n u → w ≡ window (kindOf k) n u
+pub wordLine-put : (o : List ℕ) (at i k n : ℕ) (u f : List ℕ) (w : List ℤ) (out : List ℕ) (r : ℕ) → f ≡ wordNormalForm (kindOf k) n u
+    → w ≡ window (kindOf k) n u
     → Stored o at (presetLine i (kindOf k) n f w) out r → Stored o at (wordLine i (kindOf k) n u) out r
 unfolding wordLine
 wordLine-put o at i k n u f w out r p q h = rw (← p, ← q) h

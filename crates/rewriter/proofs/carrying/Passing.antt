@@ -55,7 +55,8 @@ module _ {k : Kind} {n : ℕ} {rest : List ℕ} {s : ℕ} {families places lengt
       (omega arith) i f g m (sym (exchanged-set word p (getD word p 0) (getD word (suc p) 0) (ready-inside a)))
 
   -- t is the letter's place and p the one before; `done` is what comparing the two letters answered
-  pub pass-step : (t p : ℕ) → t ≡ suc p → Ready k n rest s families places lengths word t → (c x left s′ : ℕ) (families′ places′ lengths′ : List ℕ) (done : Bool)
+  pub pass-step : (t p : ℕ) → t ≡ suc p → Ready k n rest s families places lengths word t
+      → (c x left s′ : ℕ) (families′ places′ lengths′ : List ℕ) (done : Bool)
       → c ≡ levels k n → getD word t 0 ≡ x → done ≡ exchanging n c (getD word p 0) x → done ≡ true → s′ ≡ s + 1 → families′ ≡ set families s 2
       → places′ ≡ set places s p → left ≡ length word + length rest → lengths′ ≡ set lengths s left
       → Carried k n rest s families places lengths word s′ families′ places′ lengths′ (set (set word t (getD word p 0)) p x) p
@@ -80,7 +81,8 @@ module _ {k : Kind} {n : ℕ} {rest : List ℕ} {s : ℕ} {families places lengt
       → Passed k n rest s families places lengths word q families places lengths word q (getD word q 0)
   pass-start a = let e : s + (q - q) ≡ s = omega arith in (omega arith, refl, rw e (carried-start a))
 
-  module _ {families′ places′ lengths′ word′ : List ℕ} {t x : ℕ} (b : Passed k n rest s families places lengths word q families′ places′ lengths′ word′ t x) where
+  module _ {families′ places′ lengths′ word′ : List ℕ} {t x : ℕ}
+      (b : Passed k n rest s families places lengths word q families′ places′ lengths′ word′ t x) where
     pub pass-again : {c left : ℕ} {families″ places″ lengths″ : List ℕ} {done : Bool} → Ready k n rest s families places lengths word q → 0 < t
         → c ≡ levels k n → done ≡ exchanging n c (getD word′ (t - 1) 0) x → done ≡ true → left ≡ length word + length rest
         → families″ ≡ set families′ (s + (q - t)) 2 → places″ ≡ set places′ (s + (q - t)) (t - 1) → lengths″ ≡ set lengths′ (s + (q - t)) left

@@ -128,7 +128,8 @@ module _ (k : Kind) (n : ℕ) (h : least k ≤ n) (w : List ℕ) (q : ℕ) (r : 
         let z : p + m ≡ q - 1 = omega (arith, low .before-q) in
         rw s at
         (there .3 m before (s ∙ sym (sym (ap length part-cons) ∙ part-size))
-        (sym (ap (λ (u : List ℕ). getD u m 0) (sym part-cons) ∙ getD-drop p (take q w) m 0 ∙ ap (λ (t : ℕ). getD (take q w) t 0) z ∙ getD-take q w (q - 1) 0 (omega arith))))
+        (sym (ap (λ (u : List ℕ). getD u m 0) (sym part-cons) ∙ getD-drop p (take q w) m 0 ∙ ap (λ (t : ℕ). getD (take q w) t 0) z
+        ∙ getD-take q w (q - 1) 0 (omega arith))))
 
     along-short : (j : ℕ) → Along k n i j → length (block k n i j) ≤ 2 * n
     along-short j (start o l t) = rw (t, block-one k n i h l) (omega arith)

@@ -26,7 +26,8 @@ use Rattle.traces.proofs.Tracing.{Finished, finishWith, finish, finish-end, fin
 -- ---- letters read
 
 -- i letters were read, and the normal form that stands for them is the first `size` of `work`
-pub record Making (k : Kind) (n : ℕ) (word families places lengths work₀ : List ℕ) (i s : ℕ) (families′ places′ lengths′ work : List ℕ) (size : ℕ) : Type 0 where
+pub record Making (k : Kind) (n : ℕ) (word families places lengths work₀ : List ℕ) (i s : ℕ) (families′ places′ lengths′ work : List ℕ)
+    (size : ℕ) : Type 0 where
   pub inside : i ≤ length word
   pub short : size ≤ i
   pub work-size : length work ≡ length work₀
@@ -211,7 +212,10 @@ module _ (k : Kind) (n : ℕ) (word families places lengths : List ℕ) (steps m
       × (lengths′ ++ drop steps lengths ≡ written 0 (lengthsOf (trace k n word .lines)) lengths)
   lists-written e f p l =
       let ls = trace k n word .lines in (
-        list-written families families′ (familiesOf ls) steps f (length-numbers _ ls ∙ sym e) (made-families k n word _ _ _ made families′ places′ lengths′ work size m),
-        list-written places places′ (placesOf ls) steps p (length-numbers _ ls ∙ sym e) (made-places k n word _ _ _ made families′ places′ lengths′ work size m),
-        list-written lengths lengths′ (lengthsOf ls) steps l (length-numbers _ ls ∙ sym e) (made-lengths k n word _ _ _ made families′ places′ lengths′ work size m),
+        list-written families families′ (familiesOf ls) steps f (length-numbers _ ls ∙ sym e)
+            (made-families k n word _ _ _ made families′ places′ lengths′ work size m),
+        list-written places places′ (placesOf ls) steps p (length-numbers _ ls ∙ sym e)
+            (made-places k n word _ _ _ made families′ places′ lengths′ work size m),
+        list-written lengths lengths′ (lengthsOf ls) steps l (length-numbers _ ls ∙ sym e)
+            (made-lengths k n word _ _ _ made families′ places′ lengths′ work size m),
       )

@@ -24,7 +24,8 @@ returns-2 : tie.Need-returns-2
 returns-2 c =
     let counted = c .before .before in
     let opened = counted .before in
-    conversion-records _ _ _ (opened .before .book-refusal .ensures) (opened .if1 .left) _ _ (counted .count-of .ensures .0) (c .before .records-refusal .ensures) (c .if2 .taken)
+    conversion-records _ _ _ (opened .before .book-refusal .ensures) (opened .if1 .left) _ _ (counted .count-of .ensures .0)
+    (c .before .records-refusal .ensures) (c .if2 .taken)
 
 converted-size-requires : tie.Need-converted-size-requires
 converted-size-requires c κs =
@@ -38,7 +39,8 @@ returns-3 c =
     let passed = c .before .before in
     let counted = passed .before .before in
     let opened = counted .before in
-    conversion-large _ _ _ (opened .before .book-refusal .ensures) (opened .if1 .left) _ _ (counted .count-of .ensures .0) (passed .before .records-refusal .ensures) (passed .if2 .left)
+    conversion-large _ _ _ (opened .before .book-refusal .ensures) (opened .if1 .left) _ _ (counted .count-of .ensures .0)
+    (passed .before .records-refusal .ensures) (passed .if2 .left)
     _ (c .before .converted-size .ensures) (c .if3 .taken)
 
 returns-4 : tie.Need-returns-4
@@ -46,7 +48,8 @@ returns-4 c =
     let passed = c .before .before in
     let counted = passed .before .before in
     let opened = counted .before in
-    conversion-none _ _ _ (opened .before .book-refusal .ensures) (opened .if1 .left) _ _ (counted .count-of .ensures .0) (passed .before .records-refusal .ensures) (passed .if2 .left)
+    conversion-none _ _ _ (opened .before .book-refusal .ensures) (opened .if1 .left) _ _ (counted .count-of .ensures .0)
+    (passed .before .records-refusal .ensures) (passed .if2 .left)
     _ (c .before .converted-size .ensures) (c .if3 .left)
 
 pub conversion-refusal-spec : {M : Type 1} → statement M

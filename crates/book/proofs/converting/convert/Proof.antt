@@ -35,7 +35,8 @@ returns-3 : tie.Need-returns-3
 returns-3 c =
     let counted = c .before .before in
     let passed = counted .before .before in
-    converting-short _ _ _ _ (passed .before .conversion-refusal .ensures) (passed .if1 .left) _ _ (counted .count-of .ensures .0) (c .before .converted-size .ensures) (c .if3 .taken)
+    converting-short _ _ _ _ (passed .before .conversion-refusal .ensures) (passed .if1 .left) _ _ (counted .count-of .ensures .0)
+    (c .before .converted-size .ensures) (c .if3 .taken)
 
 write-converted-requires : tie.Need-write-converted-requires
 write-converted-requires c κs =
@@ -60,7 +61,8 @@ returns-4 c =
     let sized = roomy .before in
     let counted = sized .before in
     let passed = counted .before .before in
-    converting-written _ _ _ _ (passed .before .conversion-refusal .ensures) (passed .if1 .left) _ _ (counted .count-of .ensures .0) (sized .converted-size .ensures) _ (roomy .if3 .left)
+    converting-written _ _ _ _ (passed .before .conversion-refusal .ensures) (passed .if1 .left) _ _ (counted .count-of .ensures .0)
+    (sized .converted-size .ensures) _ (roomy .if3 .left)
     (written .write-converted .ensures)
 
 pub convert-spec : {M : Type 1} → statement M

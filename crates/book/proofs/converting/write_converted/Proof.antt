@@ -31,7 +31,14 @@ put-two-requires : tie.Need-put-two-requires
 put-two-requires c κs =
     let others = c .before .before .before .before .before .before .before in
     let pre = others .before .before .before .before .pre in
-    omega (arith, pre .2, length-parts _ _ (pre .0) _ (pre .1), others .write-others .ensures .1, others .write-others .kept .1 .1 .1 .0, c .before .before .before .write-offsets .kept .1 .1 .1 .0)
+    omega (
+      arith,
+      pre .2,
+      length-parts _ _ (pre .0) _ (pre .1),
+      others .write-others .ensures .1,
+      others .write-others .kept .1 .1 .1 .0,
+      c .before .before .before .write-offsets .kept .1 .1 .1 .0,
+    )
 
 same-length : tie.Need-same-length
 same-length c = search needs

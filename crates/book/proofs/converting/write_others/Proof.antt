@@ -49,7 +49,8 @@ loop-again : tie.Need-loop-again Inv-loop μ-loop
 loop-again c =
     let turn = c .before .before .before .before .before in
     let pre = turn .before .before .before .before .pre in
-    others-next _ _ (pre .0) _ (pre .1) _ _ _ _ (turn .before .loop .inv) _ _ (turn .loop-test .taken) (c .before .before .before .write-other .ensures) (c .other-size .ensures)
+    others-next _ _ (pre .0) _ (pre .1) _ _ _ _ (turn .before .loop .inv) _ _ (turn .loop-test .taken)
+    (c .before .before .before .write-other .ensures) (c .other-size .ensures)
 
 same-length : tie.Need-same-length Inv-loop μ-loop
 same-length c = c .before .loop .inv .size

@@ -109,7 +109,8 @@ module _ {M : Type 1} (𝓤 : URA M) (H : Heap 𝓤) (A : Atoms 𝓤) (W : Given
       qed W (Token 𝓤 H A W x ∷ ‵ (owns (E.the-row ∷ ShrSlice (named 0) κ u8 ∷ []) (ed, (s, tt)) at) ∷ []) ∵ move ! (1 ∷ []) $ fsplit ! $
       move ! (1 ∷ []) $ fsplit ! $ use1 W (‵ Bytes ⊛ ‵ Bytes) again $ split ! $ use1 W (‵ Bytes ⊛ ‵ Bytes) again $ split ! $
       -- [what the slice owns, three times; nothing; what the edition owns; the token]
-      move ! (0 ∷ 3 ∷ []) $ fjoin ! $ move ! (3 ∷ 0 ∷ []) $ fjoin ! $ move ! (3 ∷ 0 ∷ []) $ use2 W (raw (Pre 𝓤 H A W x)) (asked 𝓤 H A W x) $ frame ! $ frame ! $ done !
+      move ! (0 ∷ 3 ∷ []) $ fjoin ! $ move ! (3 ∷ 0 ∷ []) $ fjoin ! $ move ! (3 ∷ 0 ∷ []) $ use2 W (raw (Pre 𝓤 H A W x)) (asked 𝓤 H A W x) $ frame ! $
+      frame ! $ done !
 
   -- what there is at the exit, with the answer o
   abbrev AtEnd : Opened → List (Item 𝓤)
@@ -122,7 +123,8 @@ module _ {M : Type 1} (𝓤 : URA M) (H : Heap 𝓤) (A : Atoms 𝓤) (W : Given
   exits : (o : Opened) → o ≡ checkedBook ed (now s) → ent 𝓤 (⋆ 𝓤 H A (AtEnd o)) (Post (mach o))
   exits o e =
       qed W (AtEnd o) ∵
-      suffices ! _ (ends-at 𝓤 H A opened.ended stayed (opened.clauses 𝓤 H A mem run) W exit (mach o) (made o) (tt, (tt, tt)) (tt, (tt, tt))) $ says ! (refl, refl, e) $
+      suffices ! _ (ends-at 𝓤 H A opened.ended stayed (opened.clauses 𝓤 H A mem run) W exit (mach o) (made o) (tt, (tt, tt)) (tt, (tt, tt))) $
+      says ! (refl, refl, e) $
       move ! (1 ∷ []) $ frame ! $ nothing ! $ move ! (2 ∷ 0 ∷ []) $ fjoin ! $ owned ! E.the-row (Is E.the-row) had ed (tag ed ∷ []) (tag-is ed) $ fjoin ! $
       frame ! $
       -- [what the answer owns; what the slice owns]: what the three fields own is what the struct owns
@@ -141,7 +143,8 @@ module _ {M : Type 1} (𝓤 : URA M) (H : Heap 𝓤) (A : Atoms 𝓤) (W : Given
     walk p =
         qed W (raw Entry ∷ []) ∵ enter ! C Λ code.function (tag ed ∷ v 𝓤 H A W x ∷ []) _ $
         alloc1 ! (λ l₀. alloc1 ! (λ l₁. alloc1 ! (λ l₂. alloc1 ! (λ l₃. alloc0 ! $ params1 ! $
-        pass1 ! (init ! 4 refl (tag-typed 𝓤 H A W ed)) $ pass1 ! (init ! 2 refl (shr-slice-lawful 𝓤 H A W (named 0) κ u8 .typed s (v 𝓤 H A W x ∷ []) p .0)) $ pass0 ! $
+        pass1 ! (init ! 4 refl (tag-typed 𝓤 H A W ed)) $
+        pass1 ! (init ! 2 refl (shr-slice-lawful 𝓤 H A W (named 0) κ u8 .typed s (v 𝓤 H A W x ∷ []) p .0)) $ pass0 ! $
         move ! (8 ∷ []) $ use1 W (raw (Pre 𝓤 H A W x) ⊛ ‵ Bytes ⊛ ‵ Bytes) apart $ split3 ! $
         calls-at ! fm (Inner 𝓤 alone (x .s) (x .E) H A) known (to 𝓤 H A W x)
         (and-then ! (load ! (from ! (stop !)) (look ! 7 refl)) (and-then ! (load ! (from ! (stop !)) (look ! 5 refl)) (no-more !)))
@@ -167,7 +170,8 @@ module _ {M : Type 1} (𝓤 : URA M) (H : Heap 𝓤) (A : Atoms 𝓤) (W : Given
   open-meets 𝓣 known =
       let run′ = WpFn 𝓤 H (𝓣 .C) (𝓣 .Λ) code.function in
       walk-meets 𝓤 H A opened.ended stayed W
-      (goes-none 𝓤 H A W 1 (λ _. E.the-row) yes (λ κs x f. refl), (goes-none-slice 𝓤 H A W 1 (0 ∷ []) tt (plain (λ _. u8)) yes, tt)) (opened.clauses 𝓤 H A mem run)
+      (goes-none 𝓤 H A W 1 (λ _. E.the-row) yes (λ κs x f. refl), (goes-none-slice 𝓤 H A W 1 (0 ∷ []) tt (plain (λ _. u8)) yes, tt))
+      (opened.clauses 𝓤 H A mem run)
       run′ (WpFn-mono 𝓤 H (W .laws) 𝓣 code.function)
       (walked 𝓤 H A opened.ended stayed (opened.clauses 𝓤 H A mem run) run′
       (λ κs. (EL.vals E.the-type E′.the-laws, (slice-vals, tt))) (λ κs. (EL.tells E.the-type E′.the-laws, (shr-slice-tells (named 0) (κs .0) u8, tt)))

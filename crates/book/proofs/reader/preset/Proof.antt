@@ -17,6 +17,7 @@ use Rattle.book.proofs.reader.preset.Code as code
 pub preset-spec : {M : Type 1} → stated.statement M
 unfolding code.routine
 preset-spec 𝓤 H 𝓜 𝓖 𝓡 =
-    serves 𝓤 H numbered (plain (λ _. S.the-row)) (λ κs e b n r. check.clauses 𝓤 H (𝓖 .A) (𝓜 .mem) (𝓡 .run) κs (e, (b, n)) .ensures tt r (e, (b, n))) _ symbol.name
+    serves 𝓤 H numbered (plain (λ _. S.the-row)) (λ κs e b n r. check.clauses 𝓤 H (𝓖 .A) (𝓜 .mem) (𝓡 .run) κs (e, (b, n)) .ensures tt r (e, (b, n)))
+    _ symbol.name
     (λ κs r u is. EL.lawful S.the-type S′.the-laws 𝓤 H (𝓖 .A) (givenOf 𝓤 H 𝓜 𝓖) tt .typed r _ is .0)
     𝓜 𝓖 𝓡 code.env key.name symbol.routine (code.unfolded 𝓤 H 𝓜 𝓡) code.calls-book·reading·check-preset (met.met 𝓤 H 𝓜 𝓖 𝓡)

@@ -41,7 +41,8 @@ walked : (c : tie.After-is-misplaced)
     bookRefusal (a .edition) (now (a .book)) ≡ check 3 (c .is-misplaced .result)
 walked c =
     let sized = c .before .before .before in
-    bookRefusal-walk _ _ _ _ (sized .before .if2 .left) (sized .if3 .left) (c .before .before .count-of .ensures .0) (c .before .if4 .left) (c .is-misplaced .ensures)
+    bookRefusal-walk _ _ _ _ (sized .before .if2 .left) (sized .if3 .left) (c .before .before .count-of .ensures .0) (c .before .if4 .left)
+    (c .is-misplaced .ensures)
 
 returns-5 : tie.Need-returns-5
 returns-5 c = sym (walked (c .before) ∙ ap (check 3) (c .if5 .taken))

@@ -13,7 +13,8 @@ use Rattle.book.proofs.runs.put_run.Tie as tie
 
 abbrev Inv-loop : tie.InvT-loop
 Inv-loop edition book first n fields₀ i₀ fields i =
-    (i ≤ n) × (length fields ≡ length fields₀) × (sets fields₀ 0 (presetFields edition book n first) ≡ sets fields (5 * i) (presetFields edition book (n - i) (first + i)))
+    (i ≤ n) × (length fields ≡ length fields₀)
+    × (sets fields₀ 0 (presetFields edition book n first) ≡ sets fields (5 * i) (presetFields edition book (n - i) (first + i)))
 
 abbrev μ-loop : tie.MeasureT-loop
 μ-loop edition book first n fields₀ i₀ fields i = n - i
@@ -22,7 +23,9 @@ loop-holds : tie.Need-loop-holds Inv-loop μ-loop
 loop-holds c = (omega arith, refl, run-start _ _ _ _ _)
 
 add-numbered-preset : tie.Need-add-numbered-preset Inv-loop μ-loop
-add-numbered-preset c = let pre = c .before .before .before .before .pre in omega (arith, accepted _ _ (pre .0) .inside, accepted _ _ (pre .0) .longer, accepted _ _ (pre .0) .most, pre .1)
+add-numbered-preset c =
+    let pre = c .before .before .before .before .pre in
+    omega (arith, accepted _ _ (pre .0) .inside, accepted _ _ (pre .0) .longer, accepted _ _ (pre .0) .most, pre .1)
 
 numbered-preset-requires : tie.Need-numbered-preset-requires Inv-loop μ-loop
 numbered-preset-requires c κs = let pre = c .before .before .before .before .pre in (pre .0, omega (arith, pre .1))

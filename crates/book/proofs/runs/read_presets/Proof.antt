@@ -53,7 +53,8 @@ returns-4 c =
     let roomy = sized .before in
     let read = roomy .before .before in
     let opened = read .before in
-    reading-run _ _ _ _ _ (opened .before .book-refusal .ensures) (opened .if1 .left) _ (read .count-of .ensures .0) _ _ (roomy .before .if2 .left) (roomy .if3 .left)
+    reading-run _ _ _ _ _ (opened .before .book-refusal .ensures) (opened .if1 .left) _ (read .count-of .ensures .0) _ _ (roomy .before .if2 .left)
+    (roomy .if3 .left)
     (sized .smaller .ensures) (c .before .before .put-run .ensures)
 
 pub read-presets-spec : {M : Type 1} → statement M

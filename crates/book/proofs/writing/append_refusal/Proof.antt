@@ -3,7 +3,8 @@
 use mathlib.Core.Path.{sym}
 use native.Mathlib.Omega.{arith}
 use Rattle.book_format.proofs.BookLaws.{accepted-read}
-use Rattle.book_format.proofs.WritingLaws.{appendRefusal-book, appendRefusal-rank, appendRefusal-word, appendRefusal-retired, appendRefusal-large, appendRefusal-none}
+use Rattle.book_format.proofs.WritingLaws.{appendRefusal-book, appendRefusal-rank, appendRefusal-word}
+use Rattle.book_format.proofs.WritingLaws.{appendRefusal-retired, appendRefusal-large, appendRefusal-none}
 use borrow.Author.Needs.{needs}
 use Rattle.book.proofs.writing.append_refusal.Statement.{statement}
 use Rattle.book.proofs.writing.append_refusal.Tie as tie
@@ -30,8 +31,8 @@ returns-3 c =
     let ranked = c .before .before in
     let opened = ranked .before .before in
     sym
-    (appendRefusal-word _ _ _ _ _ _ (opened .before .book-refusal .ensures) _ (opened .if1 .left) (ranked .before .book-rank-refusal .ensures) _ (ranked .if2 .left)
-    (c .before .preset-refusal .ensures) (c .if3 .taken))
+    (appendRefusal-word _ _ _ _ _ _ (opened .before .book-refusal .ensures) _ (opened .if1 .left) (ranked .before .book-rank-refusal .ensures)
+    _ (ranked .if2 .left) (c .before .preset-refusal .ensures) (c .if3 .taken))
 
 is-retired-requires : tie.Need-is-retired-requires
 is-retired-requires c κs = search needs
@@ -42,8 +43,8 @@ returns-4 c =
     let ranked = worded .before .before in
     let opened = ranked .before .before in
     sym
-    (appendRefusal-retired _ _ _ _ _ _ (opened .before .book-refusal .ensures) _ (opened .if1 .left) (ranked .before .book-rank-refusal .ensures) _ (ranked .if2 .left)
-    (worded .before .preset-refusal .ensures) (worded .if3 .left) _ (c .before .is-retired .ensures) (c .if4 .taken))
+    (appendRefusal-retired _ _ _ _ _ _ (opened .before .book-refusal .ensures) _ (opened .if1 .left) (ranked .before .book-rank-refusal .ensures)
+    _ (ranked .if2 .left) (worded .before .preset-refusal .ensures) (worded .if3 .left) _ (c .before .is-retired .ensures) (c .if4 .taken))
 
 head-size-requires : tie.Need-head-size-requires
 head-size-requires c κs = search needs
@@ -71,8 +72,8 @@ returns-5 c =
     let ranked = worded .before .before in
     let opened = ranked .before .before in
     sym
-    (appendRefusal-large _ _ _ _ _ _ (opened .before .book-refusal .ensures) _ (opened .if1 .left) (ranked .before .book-rank-refusal .ensures) _ (ranked .if2 .left)
-    (worded .before .preset-refusal .ensures) (worded .if3 .left) _ (kept .before .is-retired .ensures) (kept .if4 .left)
+    (appendRefusal-large _ _ _ _ _ _ (opened .before .book-refusal .ensures) _ (opened .if1 .left) (ranked .before .book-rank-refusal .ensures)
+    _ (ranked .if2 .left) (worded .before .preset-refusal .ensures) (worded .if3 .left) _ (kept .before .is-retired .ensures) (kept .if4 .left)
     (omega (arith, c .if5 .taken, sized .before .head-size .ensures .0, sized .size-of .ensures)))
 
 returns-6 : tie.Need-returns-6
@@ -83,8 +84,8 @@ returns-6 c =
     let ranked = worded .before .before in
     let opened = ranked .before .before in
     sym
-    (appendRefusal-none _ _ _ _ _ _ (opened .before .book-refusal .ensures) _ (opened .if1 .left) (ranked .before .book-rank-refusal .ensures) _ (ranked .if2 .left)
-    (worded .before .preset-refusal .ensures) (worded .if3 .left) _ (kept .before .is-retired .ensures) (kept .if4 .left)
+    (appendRefusal-none _ _ _ _ _ _ (opened .before .book-refusal .ensures) _ (opened .if1 .left) (ranked .before .book-rank-refusal .ensures)
+    _ (ranked .if2 .left) (worded .before .preset-refusal .ensures) (worded .if3 .left) _ (kept .before .is-retired .ensures) (kept .if4 .left)
     (omega (arith, c .if5 .left, sized .before .head-size .ensures .0, sized .size-of .ensures)))
 
 pub append-refusal-spec : {M : Type 1} → statement M

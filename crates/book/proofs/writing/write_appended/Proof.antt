@@ -72,7 +72,8 @@ returns c =
     let sized = headed .before in
     let counted = sized .before in
     let start = counted .before .before .before .before in
-    appended-written _ (now (start .args .book)) (now (start .args .out)) _ _ (now (start .args .word)) _ _ _ _ _ (start .pre .0 .0) (counted .count-of .ensures .0)
+    appended-written _ (now (start .args .book)) (now (start .args .out)) _ _ (now (start .args .word)) _ _ _ _ _ (start .pre .0 .0)
+    (counted .count-of .ensures .0)
     (sized .size-of .ensures) (headed .head-size .ensures .0) (c .before .before .before .before .before .before .write-records .ensures)
     (c .before .before .write-trailer .ensures)
 

@@ -19,7 +19,8 @@ slice-aggregate-put-bytes-2 : tie.Need-slice-aggregate-put-bytes-2
 slice-aggregate-put-bytes-2 c = search needs
 
 put-bytes-requires-2 : tie.Need-put-bytes-requires-2
-put-bytes-requires-2 c κs = omega (arith, length-refused (c .before .before .before .before .before .before .before .before .before .before .before .before .args .refusal))
+put-bytes-requires-2 c κs =
+    omega (arith, length-refused (c .before .before .before .before .before .before .before .before .before .before .before .before .args .refusal))
 
 same-length : tie.Need-same-length
 same-length c = search needs

@@ -14,16 +14,22 @@ slice-aggregate-put-bytes : tie.Need-slice-aggregate-put-bytes
 slice-aggregate-put-bytes c = search needs
 
 put-bytes-requires : tie.Need-put-bytes-requires
-put-bytes-requires c κs = let a = c .before .before .before .before .before .before .before .before .args in omega (arith, length-tail (now (a .word)) (now (a .window)))
+put-bytes-requires c κs =
+    let a = c .before .before .before .before .before .before .before .before .args in
+    omega (arith, length-tail (now (a .word)) (now (a .window)))
 
 put-entries-requires : tie.Need-put-entries-requires
-put-entries-requires c κs = let a = c .before .before .before .before .before .before .before .before .before .before .before .before .args in omega (arith, length-tail (now (a .word)) (now (a .window)))
+put-entries-requires c κs =
+    let a = c .before .before .before .before .before .before .before .before .before .before .before .before .args in
+    omega (arith, length-tail (now (a .word)) (now (a .window)))
 
 slice-aggregate-put-bytes-2 : tie.Need-slice-aggregate-put-bytes-2
 slice-aggregate-put-bytes-2 c = search needs
 
 put-bytes-requires-2 : tie.Need-put-bytes-requires-2
-put-bytes-requires-2 c κs = let a = c .before .before .before .before .before .before .before .before .before .before .before .before .before .before .before .before .before .args in omega (arith, length-tail (now (a .word)) (now (a .window)))
+put-bytes-requires-2 c κs =
+    let a = c .before .before .before .before .before .before .before .before .before .before .before .before .before .before .before .before .before .args in
+    omega (arith, length-tail (now (a .word)) (now (a .window)))
 
 same-length : tie.Need-same-length
 same-length c = search needs

@@ -20,7 +20,8 @@ below c = below-size _ (c .before .before .fits .e) (c .if1 .taken)
 
 -- the length of the text: with the sign, and without
 room-minus : (c : tie.Then1)
-    → length (entry (c .before .before .args .e)) ≡ 2 + length (decimal (natAbs (toZ w8 (ofZ w8 (negsuc 0 -ℤ toZ w8 (ofZ w8 (c .before .before .args .e))))) + 1))
+    → length (entry (c .before .before .args .e))
+    ≡ 2 + length (decimal (natAbs (toZ w8 (ofZ w8 (negsuc 0 -ℤ toZ w8 (ofZ w8 (c .before .before .args .e))))) + 1))
 room-minus c = rw (entry-minus _ (c .before .before .fits .e) (c .if1 .taken), ← below c .size) (omega arith)
 
 room-plus : (c : tie.Else1) → length (entry (c .before .before .args .e)) ≡ length (spaced (natAbs (toZ w8 (ofZ w8 (c .before .before .args .e)))))

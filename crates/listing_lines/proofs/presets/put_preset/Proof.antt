@@ -11,7 +11,9 @@ use Rattle.listing_lines.proofs.presets.put_preset.Tie as tie
 
 -- the preset that was found
 preset : (c : tie.After-answer)
-    → let a = c .before .before .before .before .args in let g = c .answer .given .0 in Found (c .before .before .before .before .pre .0) (now (a .book)) (a .number) (g .0) (g .1 .0) (g .1 .1 .0) (g .1 .1 .1 .0)
+    → let a = c .before .before .before .before .args in
+    let g = c .answer .given .0 in
+    Found (c .before .before .before .before .pre .0) (now (a .book)) (a .number) (g .0) (g .1 .0) (g .1 .1 .0) (g .1 .1 .1 .0)
 preset c = found _ _ _ _ _ _ _ (sym (c .answer .given .1) ∙ c .before .before .before .before .pre .1 .0)
 
 enum-known-answer : tie.Need-enum-known-answer

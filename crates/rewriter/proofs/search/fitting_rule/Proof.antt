@@ -10,7 +10,8 @@ use Rattle.coxeter.specs.Kinds.{pick, kindOf}
 use Rattle.rules.specs.Rules.{rules, firstFitting}
 use Rattle.rules.proofs.Scan.{shownIndex}
 use Rattle.rewriter.specs.declared.search.Fitting.the-variants.{Rule as Shown, Nothing}
-use Rattle.rewriter.proofs.search.Searches.{fittingOf, Searching, Searchable, along-le, lastIndex-le-of, letter, searching-start, searching-next, searching-found, searching-end}
+use Rattle.rewriter.proofs.search.Searches.{fittingOf, Searching, Searchable, along-le, lastIndex-le-of}
+use Rattle.rewriter.proofs.search.Searches.{letter, searching-start, searching-next, searching-found, searching-end}
 use Rattle.rewriter.proofs.search.fitting_rule.Statement.{statement}
 use Rattle.rewriter.proofs.search.fitting_rule.Tie as tie
 
