@@ -22,7 +22,8 @@ use Rattle.coxeter.specs.Checks.{_then_, wrongKind, wrongRank, rankRefusal, wor
 use Rattle.coxeter.specs.declared.Counted.{Counted}
 use Rattle.coxeter.specs.Length.{Crossings}
 use Rattle.coxeter.specs.Calls.{countedOf, crossingsOfWindow, crossingsOfWord, verdictOf, presetsEqual, handsBack, choice}
-use Rattle.coxeter.specs.Calls.{Outcome, answerOf, written, writes, windowOfWord, productOfWindows, inverseOfWindow, normalFormOfWindow, normalFormOfWord, productOfWords, inverseOfWord, lengthOfWindow, lengthOfWord}
+use Rattle.coxeter.specs.Calls.{Outcome, answerOf, written, writes, windowOfWord, productOfWindows, inverseOfWindow}
+use Rattle.coxeter.specs.Calls.{normalFormOfWindow, normalFormOfWord, productOfWords, inverseOfWord, lengthOfWindow, lengthOfWord}
 use Rattle.coxeter.proofs.Refusals.{then-assoc}
 use Rattle.rules.specs.Calls.{Step, step}
 use Rattle.book_format.specs.declared.Edition.{Edition}
@@ -101,7 +102,8 @@ pub record Refusable {Y : Type 0} (F : ℕ → ℕ → Y) : Type 0 where
 
 -- so it is the same for the bytes
 pub as-bytes : {Y : Type 0} {F : ℕ → ℕ → Y} → Refusable F → (k n l m : ℕ) → l ≡ byteOf k → m ≡ byteOf n → F l m ≡ F k n
-as-bytes {Y} {F} r k n l m e f = ap₂ F e f ∙ elim (bytes-or-refused k n) [ inl h ↦ ap₂ F (h .0) (h .1) | inr h ↦ r .alike k n (byteOf k) (byteOf n) (h .0) (h .1) ]
+as-bytes {Y} {F} r k n l m e f =
+    ap₂ F e f ∙ elim (bytes-or-refused k n) [ inl h ↦ ap₂ F (h .0) (h .1) | inr h ↦ r .alike k n (byteOf k) (byteOf n) (h .0) (h .1) ]
 
 -- the refusal of checks 5 and 6, after p and before s or t, decides
 alike : (p r q s t : ℕ) → q ≡ r → (r ≡ 0 → ⊥) → ((p then (q then s)) ≡ (p then (r then t))) × ((p then (r then t)) ≡ 0 → ⊥)

@@ -33,7 +33,8 @@ use Rattle.rules.proofs.Calls as calls
 use Rattle.rules.proofs.Calls.{Stepped, stepped, step-used, usable-replaced, fits-inside, accepted-least, accepted-letters}
 use Rattle.rules.proofs.Demand3.{wordLeft-accepted}
 use Rattle.c_api.specs.Calls.{refused, rewriteNumbers, listedBeside, rewriting}
-use Rattle.c_api.specs.Demand3.{Lent, Told, Call, wordAfter, wordLeft, Meets, Run, uses, tells, Outcome, machine, NowhereFits, NowhereFitsOnce, Usable, UsedRule, Answers, Demand3Calls}
+use Rattle.c_api.specs.Demand3.{Lent, Told, Call, wordAfter, wordLeft, Meets, Run, uses, tells, Outcome, machine, NowhereFits}
+use Rattle.c_api.specs.Demand3.{NowhereFitsOnce, Usable, UsedRule, Answers, Demand3Calls}
 
 -- ---- one call
 

@@ -24,7 +24,8 @@ use Rattle.coxeter.specs.Windows.{window, product, inverse}
 use Rattle.coxeter.specs.Length.{Crossings, crossings, total, windowLength}
 use Rattle.coxeter.specs.NormalForm.{normalForm}
 use Rattle.coxeter.specs.Checks.{check, _then_, tooShort, rankRefusal, wordRefusal, windowRefusal}
-use Rattle.coxeter.specs.Calls.{Outcome, answerOf, writes, windowOfWord, productOfWindows, inverseOfWindow, normalFormOfWindow, normalFormOfWord, productOfWords, inverseOfWord, lengthOfWindow, lengthOfWord, countedOf, crossingsOfWindow, crossingsOfWord}
+use Rattle.coxeter.specs.Calls.{Outcome, answerOf, writes, windowOfWord, productOfWindows, inverseOfWindow, normalFormOfWindow, normalFormOfWord}
+use Rattle.coxeter.specs.Calls.{productOfWords, inverseOfWord, lengthOfWindow, lengthOfWord, countedOf, crossingsOfWindow, crossingsOfWord}
 use Rattle.coxeter.proofs.Refusals.{then-zero}
 use Rattle.coxeter.proofs.Acceptance.{lanes-le, length-accepted}
 use Rattle.coxeter.proofs.Levels.{Accepted, accepted-of-refusal, window-accepted}

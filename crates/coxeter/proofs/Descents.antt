@@ -22,7 +22,8 @@ use Rattle.coxeter.proofs.Steps.{act-exchange, act-B-last, act-D-last}
 use Rattle.coxeter.proofs.Places.{between-getD}
 use Rattle.coxeter.proofs.PairWeights.{pairWeights, signWeight, length-by-weights}
 use Rattle.coxeter.proofs.Lengths.{pairWeights-negateLast}
-use Rattle.coxeter.proofs.Crossings.{later-flip, negative-flip, pair, exchange-weighs, exchangeNegate-weighs, signWeight-exchange, negatives-from-negateFirst}
+use Rattle.coxeter.proofs.Crossings.{later-flip, negative-flip, pair, exchange-weighs}
+use Rattle.coxeter.proofs.Crossings.{exchangeNegate-weighs, signWeight-exchange, negatives-from-negateFirst}
 
 -- ---- the definition
 

@@ -18,7 +18,8 @@ use Rattle.coxeter.specs.Kinds.{kindOf, lanes}
 use Rattle.coxeter.specs.Windows.{straight, window, product, inverse}
 use Rattle.coxeter.specs.Checks.{check, _then_, tooLong, wrongLetter, rankRefusal, wordRefusal, windowRefusal}
 use Rattle.coxeter.specs.NormalForm.{normalForm, wordNormalForm}
-use Rattle.coxeter.specs.Calls.{Yields, writes, windowOfWord, productOfWindows, inverseOfWindow, normalFormOfWindow, normalFormOfWord, productOfWords, inverseOfWord, lengthOfWindow, lengthOfWord, crossingsOfWindow, crossingsOfWord}
+use Rattle.coxeter.specs.Calls.{Yields, writes, windowOfWord, productOfWindows, inverseOfWindow, normalFormOfWindow, normalFormOfWord}
+use Rattle.coxeter.specs.Calls.{productOfWords, inverseOfWord, lengthOfWindow, lengthOfWord, crossingsOfWindow, crossingsOfWord}
 use Rattle.coxeter.proofs.Basics.{length-window}
 use Rattle.coxeter.proofs.Levels.{accepted-of-refusal}
 use Rattle.coxeter.proofs.Relations.{wrongLetter-append}
@@ -27,7 +28,10 @@ use Rattle.coxeter.proofs.Inverses.{window-reverse}
 use Rattle.coxeter.proofs.Outcomes.{writes-short, writes-done}
 use Rattle.coxeter.proofs.FormLaws.{normalForm-product, normalForm-inverse}
 use Rattle.coxeter.proofs.Theorems.{window-passes, product-inverse, inverse-product, inverse-inverse, inverse-passes, window-normalForm, normalForm-fits}
-use Rattle.coxeter.proofs.Written.{windowOfWord-accepted, windowOfWord-wrote, productOfWindows-wrote, inverseOfWindow-accepted, inverseOfWindow-wrote, normalFormOfWord-accepted, normalFormOfWord-wrote, normalFormOfWindow-accepted, normalFormOfWindow-wrote, productOfWords-accepted, productOfWords-wrote, inverseOfWord-accepted, inverseOfWord-wrote}
+use Rattle.coxeter.proofs.Written.{windowOfWord-accepted, windowOfWord-wrote, productOfWindows-wrote, inverseOfWindow-accepted}
+use Rattle.coxeter.proofs.Written.{inverseOfWindow-wrote, normalFormOfWord-accepted, normalFormOfWord-wrote, normalFormOfWindow-accepted}
+use Rattle.coxeter.proofs.Written.{normalFormOfWindow-wrote, productOfWords-accepted, productOfWords-wrote, inverseOfWord-accepted}
+use Rattle.coxeter.proofs.Written.{inverseOfWord-wrote}
 
 -- ---- outcomes
 

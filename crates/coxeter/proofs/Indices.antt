@@ -18,7 +18,9 @@ use Rattle.coxeter.specs.Checks.{hasSize, negativeInA}
 use Rattle.coxeter.specs.NormalForm.{block, levels, lastIndex, blocks, Indices, none, level, without, indexOf, restOf}
 use Rattle.coxeter.proofs.Basics.{length-up, up-append, windowFrom-append}
 use Rattle.coxeter.proofs.Levels.{Accepted, hasSize-below, windowFrom-accepted, straight-accepted}
-use Rattle.coxeter.proofs.Peeling.{Peeled, placeFrom-peeled, restOf-positive, indexOf-positive, indexOf-negative, restOf-peeled, length-restOf, restOf-restOf, between-restOf, AtLevel, atLevel-of-accepted, peeled, atLevel-rest, atLevel-negativeInA, atLevel-last, levels-le-lanes}
+use Rattle.coxeter.proofs.Peeling.{Peeled, placeFrom-peeled, restOf-positive, indexOf-positive, indexOf-negative, restOf-peeled}
+use Rattle.coxeter.proofs.Peeling.{length-restOf, restOf-restOf, between-restOf, AtLevel, atLevel-of-accepted, peeled}
+use Rattle.coxeter.proofs.Peeling.{atLevel-rest, atLevel-negativeInA, atLevel-last, levels-le-lanes}
 use Rattle.coxeter.proofs.BlockAction.{turning, windowFrom-block}
 use Rattle.coxeter.proofs.Sizes.{hasSize-head, hasSize-tail}
 
@@ -89,9 +91,11 @@ windowFrom-indices k n (suc t) p w l h = go (peeled k n (suc p) w (omega arith) 
     go c ih =
         let g : AtLevel k n (suc p) (c .left ++ (c .entry ∷ c .right)) = subst (AtLevel k n (suc p)) (c .whole) h in
         ap (λ (js : List ℕ). windowFrom k n (straight (lanes k n)) (blocks k n (suc p) js)) (indices-of-peeled k n t (suc p) w c (omega arith))
-        ∙ windowFrom-step k n p (indices k n t (suc (suc p)) (restOf k (c .entry) (c .left ++ c .right))) (c .left) (c .entry) (c .right) (omega arith) (g .size) (c .size)
+        ∙ windowFrom-step k n p (indices k n t (suc (suc p)) (restOf k (c .entry) (c .left ++ c .right))) (c .left) (c .entry) (c .right)
+        (omega arith) (g .size) (c .size)
         (atLevel-negativeInA k n (suc p) (c .left) (c .entry) (c .right) g)
-        (ih (restOf k (c .entry) (c .left ++ c .right)) (omega arith) (atLevel-rest k n (suc p) (c .left) (c .entry) (c .right) (omega arith) (omega arith) (c .size) g))
+        (ih (restOf k (c .entry) (c .left ++ c .right)) (omega arith)
+        (atLevel-rest k n (suc p) (c .left) (c .entry) (c .right) (omega arith) (omega arith) (c .size) g))
         ∙ ap (λ (v : List ℤ). map pos (up 1 p) ++ v) (sym (c .whole))
 
 pub window-indices : (k : Kind) (n : ℕ) (w : List ℤ) → Accepted k n w → window k n (blocks k n 1 (indices k n (levels k n) 1 w)) ≡ w

@@ -18,8 +18,10 @@ use Rattle.coxeter.specs.Checks.{hasSize, odd}
 use Rattle.coxeter.proofs.Basics.{length-up, length-straight, windowFrom-append}
 use Rattle.coxeter.proofs.Levels.{Between, Level, Signs, Accepted, level-hasSize, window-accepted}
 use Rattle.coxeter.proofs.Steps.{act-involution}
-use Rattle.coxeter.proofs.Places.{between-mono, between-getD, natAbs-at, at-placeFrom, placeFrom-getD, natAbs-placeFrom, between-map-up, distinct-map-up, negatives-placeFrom}
-use Rattle.coxeter.proofs.Products.{getD-up, getD-map, map-up, getD-straight, length-product, getD-product, product-assoc, product-straight, straight-product, window-append}
+use Rattle.coxeter.proofs.Places.{between-mono, between-getD, natAbs-at, at-placeFrom, placeFrom-getD}
+use Rattle.coxeter.proofs.Places.{natAbs-placeFrom, between-map-up, distinct-map-up, negatives-placeFrom}
+use Rattle.coxeter.proofs.Products.{getD-up, getD-map, map-up, getD-straight, length-product}
+use Rattle.coxeter.proofs.Products.{getD-product, product-assoc, product-straight, straight-product, window-append}
 
 -- ---- elements
 

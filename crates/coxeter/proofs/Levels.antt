@@ -16,7 +16,9 @@ use Rattle.coxeter.specs.Length.{negatives}
 use Rattle.coxeter.specs.Checks.{check, _then_, hasSize, wrongLanes, wrongAt, wrongEntry, odd, oddNegatives, windowRefusal}
 use Rattle.coxeter.specs.NormalForm.{without}
 use Rattle.coxeter.proofs.Basics.{length-straight, by-pick}
-use Rattle.coxeter.proofs.Sizes.{or-left-comm, hasSize-without, length-le-without, wrongEntry-cons, hasSize-head, hasSize-tail, PositiveInA, positiveInA-nil, positiveInA-cons, positiveInA-head, positiveInA-tail, natAbs-negℤ, negatives-from-exchange, odd-from-exchangeNegate, negatives-map-pos}
+use Rattle.coxeter.proofs.Sizes.{or-left-comm, hasSize-without, length-le-without, wrongEntry-cons, hasSize-head}
+use Rattle.coxeter.proofs.Sizes.{hasSize-tail, PositiveInA, positiveInA-nil, positiveInA-cons, positiveInA-head}
+use Rattle.coxeter.proofs.Sizes.{positiveInA-tail, natAbs-negℤ, negatives-from-exchange, odd-from-exchangeNegate, negatives-map-pos}
 use Rattle.coxeter.proofs.Refusals.{then-zero, check-zero}
 
 -- every size is at least i and below c

@@ -49,8 +49,11 @@ Stored o at u out r = (r ≡ at + length u) × (out ≡ sets o at u)
 
 pub stored-append : (o : List ℕ) (at : ℕ) (u out : List ℕ) (r : ℕ) (v out′ : List ℕ) (r′ : ℕ) → Stored o at u out r → Stored out r v out′ r′
     → Stored o at (u ++ v) out′ r′
-stored-append o at u out r v out′ r′ h g =
-    (omega (arith, h .0, g .0, length-append u v), g .1 ∙ ap (λ (l : List ℕ). sets l r v) (h .1) ∙ ap (λ (s : ℕ). sets (sets o at u) s v) (h .0) ∙ sets-append o at u v)
+stored-append o at u out r v out′ r′ h g = (
+  omega (arith, h .0, g .0, length-append u v),
+  g .1 ∙ ap (λ (l : List ℕ). sets l r v) (h .1) ∙ ap (λ (s : ℕ). sets (sets o at u) s v) (h .0)
+      ∙ sets-append o at u v,
+)
 
 -- room for u and v is room for u, and for v after it
 pub room-left : (at : ℕ) (u v : List ℕ) (m : ℕ) → at + length (u ++ v) ≤ m → at + length u ≤ m

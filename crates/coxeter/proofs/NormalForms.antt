@@ -97,7 +97,8 @@ pub wrongLetter-blocks : (k : Kind) (n : ℕ) {i : ℕ} {js : List ℕ} → 1 �
 unfolding blocks wrongLetter
 wrongLetter-blocks k n o (none q) = refl
 wrongLetter-blocks k n o (level {i = i} {j = j} {js = js} a b c d) =
-    rw (wrongLetter-append n (blocks k n (suc i) js) (block k n i j), wrongLetter-blocks k n {i = suc i} {js = js} (omega arith) d) (wrongLetter-block k n i j o a c)
+    rw (wrongLetter-append n (blocks k n (suc i) js) (block k n i j), wrongLetter-blocks k n {i = suc i} {js = js} (omega arith) d)
+    (wrongLetter-block k n i j o a c)
 
 -- the letters of a normal form are steps
 pub normalForm-letters : (k : Kind) (n : ℕ) (w : List ℤ) → Accepted k n w → wrongLetter n (normalForm k n w) ≡ false

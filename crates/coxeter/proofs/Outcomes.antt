@@ -15,7 +15,8 @@ use Rattle.coxeter.specs.Kinds.{kindOf, lanes}
 use Rattle.coxeter.specs.Windows.{window}
 use Rattle.coxeter.specs.Checks.{_then_, tooShort, rankRefusal, wordRefusal}
 use Rattle.coxeter.specs.Length.{Crossings}
-use Rattle.coxeter.specs.Calls.{Outcome, Yields, answerOf, written, writes, verdictOf, countedOf, sameWindow, equalWords, samePresets, presetsEqual, handsBack}
+use Rattle.coxeter.specs.Calls.{Outcome, Yields, answerOf, written, writes, verdictOf}
+use Rattle.coxeter.specs.Calls.{countedOf, sameWindow, equalWords, samePresets, presetsEqual, handsBack}
 use native.Mathlib.Decide.{ℕ-discrete}
 use Rattle.coxeter.specs.declared.Answer.{Answer}
 use Rattle.coxeter.specs.declared.Verdict.the-variants as verdict

@@ -149,7 +149,8 @@ unfolding restOf
 restOf-restOf A e w = refl
 restOf-restOf B e w = refl
 restOf-restOf D (pos x) w = refl
-restOf-restOf D (negsuc x) w = rw (length-from negateFirst length-negateFirst (length w - 1) w) (from-involution negateFirst negateFirst-involution (length w - 1) w)
+restOf-restOf D (negsuc x) w =
+    rw (length-from negateFirst length-negateFirst (length w - 1) w) (from-involution negateFirst negateFirst-involution (length w - 1) w)
 
 pub negatives-middle : (u : List ℤ) (e : ℤ) (v : List ℤ) → negatives (u ++ (e ∷ v)) ≡ one (negative e) + negatives (u ++ v)
 unfolding negatives

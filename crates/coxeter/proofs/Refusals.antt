@@ -11,7 +11,8 @@ use lib.Dec.{eqb, eqb·suc-zero}
 use lib.IntN.{ℤ}
 use borrow.Author.Tests.{eq-eqb, ne-eqb}
 use Rattle.coxeter.specs.Kinds.{Kind, kindOf, lanes}
-use Rattle.coxeter.specs.Checks.{check, _then_, wrongKind, wrongRank, tooLong, wrongLetter, wrongLanes, wrongEntry, oddNegatives, rankRefusal, wordRefusal, windowRefusal}
+use Rattle.coxeter.specs.Checks.{check, _then_, wrongKind, wrongRank, tooLong, wrongLetter}
+use Rattle.coxeter.specs.Checks.{wrongLanes, wrongEntry, oddNegatives, rankRefusal, wordRefusal, windowRefusal}
 
 pub then-zero : (r s : ℕ) → (r then s) ≡ 0 → (r ≡ 0) × (s ≡ 0)
 then-zero zero s h = (refl, h)

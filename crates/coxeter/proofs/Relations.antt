@@ -1,4 +1,5 @@
--- Linked words have one window, one length where no step is cancelled, and letters from 1 to n together; each shown for a relation, then for a use, then for a link.
+-- Linked words have one window, one length where no step is cancelled, and letters from 1 to n together; each shown for a relation, then for a use,
+-- then for a link.
 --
 -- Sections: pairs of steps; a relation's sides; windows; lengths; letters.
 -- Not here: links over any relation (Links), what a step is as a map of lists (Steps).
@@ -16,11 +17,14 @@ use lib.ListN.{length, length-append}
 use borrow.Author.Tests.{le-ltb, ne-eqb}
 use Rattle.coxeter.specs.Kinds.{Kind, A, B, D, lanes}
 use Rattle.coxeter.specs.Windows.{exchange, negateFirst, exchangeNegate, act, windowFrom, straight, window}
-use Rattle.coxeter.specs.Relations.{Neighbours, FourfoldPair, Commuting, Braid, threefold, fourfold, commute, Relation, twice, braid, Use, forth, back, Linked}
+use Rattle.coxeter.specs.Relations.{Neighbours, FourfoldPair, Commuting, Braid, threefold, fourfold, commute}
+use Rattle.coxeter.specs.Relations.{Relation, twice, braid, Use, forth, back, Linked}
 use Rattle.coxeter.specs.Checks.{wrongLetter}
 use Rattle.coxeter.proofs.Basics.{windowFrom-append, length-windowFrom, length-straight}
 use Rattle.coxeter.proofs.Links.{linked-keeps}
-use Rattle.coxeter.proofs.Steps.{from-commute, from-exchange-exchangeNegate, from-exchange-threefold, from-exchangeNegate-threefold, from-negateFirst-fourfold, act-exchange, act-B-last, act-D-last, act-involution}
+use Rattle.coxeter.proofs.Steps.{from-commute, from-exchange-exchangeNegate, from-exchange-threefold}
+use Rattle.coxeter.proofs.Steps.{from-exchangeNegate-threefold, from-negateFirst-fourfold, act-exchange}
+use Rattle.coxeter.proofs.Steps.{act-B-last, act-D-last, act-involution}
 
 -- ---- pairs of steps
 

@@ -19,7 +19,8 @@ use Rattle.coxeter.specs.Windows.{window}
 use Rattle.coxeter.specs.Length.{windowLength}
 use Rattle.coxeter.specs.Checks.{_then_, rankRefusal, wordRefusal, windowRefusal}
 use Rattle.coxeter.specs.NormalForm.{normalForm, wordNormalForm}
-use Rattle.coxeter.specs.Calls.{Yields, answerOf, writes, normalFormOfWindow, normalFormOfWord, lengthOfWindow, lengthOfWord, crossingsOfWindow, crossingsOfWord}
+use Rattle.coxeter.specs.Calls.{Yields, answerOf, writes, normalFormOfWindow, normalFormOfWord}
+use Rattle.coxeter.specs.Calls.{lengthOfWindow, lengthOfWord, crossingsOfWindow, crossingsOfWord}
 use Rattle.coxeter.proofs.Refusals.{then-zero, then-le, rankRefusal-le, wordRefusal-le, windowRefusal-le}
 use Rattle.coxeter.proofs.FormLaws.{lengthOfWord-normalForm, lengthOfWindow-normalForm, crossingsOfWord-total, crossingsOfWindow-total}
 use Rattle.coxeter.proofs.Theorems.{window-passes, length-normalForm}
@@ -72,7 +73,11 @@ module _ (k n : ℕ) (u before : List ℕ) where
   -- the length call is refused exactly where the normal form call is, but for the room of its output
   pub lengthOfWord-refused : (r : ℕ) → (lengthOfWord k n u ≡ Refused r) ↔ ((normalFormOfWord k n u before .answer ≡ Refused r) × (r ≡ 14 → ⊥))
   unfolding lengthOfWord normalFormOfWord
-  lengthOfWord-refused = length-refused _ _ _ before form-size (omega (arith, then-le (rankRefusal k n) (wordRefusal n u) 8 (omega (arith, rankRefusal-le k n)) (wordRefusal-le n u)))
+  lengthOfWord-refused =
+      length-refused _ _ _ before form-size (omega (
+        arith,
+        then-le (rankRefusal k n) (wordRefusal n u) 8 (omega (arith, rankRefusal-le k n)) (wordRefusal-le n u),
+      ))
 
   -- and its length is the room that the normal form call asks for
   pub lengthOfWord-room : (l : ℕ) → lengthOfWord k n u ≡ Length l
@@ -103,7 +108,10 @@ module _ (k n : ℕ) (w : List ℤ) (before : List ℕ) where
   pub lengthOfWindow-refused : (r : ℕ) → (lengthOfWindow k n w ≡ Refused r) ↔ ((normalFormOfWindow k n w before .answer ≡ Refused r) × (r ≡ 14 → ⊥))
   unfolding lengthOfWindow normalFormOfWindow
   lengthOfWindow-refused =
-      length-refused _ _ _ before window-form-size (omega (arith, then-le (rankRefusal k n) (windowRefusal (kindOf k) n w) 11 (omega (arith, rankRefusal-le k n)) (windowRefusal-le (kindOf k) n w)))
+      length-refused _ _ _ before window-form-size (omega (
+        arith,
+        then-le (rankRefusal k n) (windowRefusal (kindOf k) n w) 11 (omega (arith, rankRefusal-le k n)) (windowRefusal-le (kindOf k) n w),
+      ))
 
   pub lengthOfWindow-room : (l : ℕ) → lengthOfWindow k n w ≡ Length l
       → ((normalFormOfWindow k n w before .answer ≡ Length l) ↔ (l ≤ length before))

@@ -26,7 +26,8 @@ use Rattle.coxeter.specs.Length.{negative, inversions, negativeSumPairs,
 use Rattle.coxeter.specs.Checks.{check, _then_, wrongKind, wrongRank, wrongLanes, wrongEntry, oddNegatives, rankRefusal, wordRefusal, windowRefusal}
 use Rattle.coxeter.specs.Parity.{flipped, flagAfter, Odd}
 use Rattle.coxeter.specs.NormalForm.{normalForm}
-use Rattle.coxeter.specs.Calls.{Yields, answerOf, countedOf, samePresets, presetsEqual, normalFormOfWindow, lengthOfWindow, lengthOfWord, crossingsOfWindow, crossingsOfWord}
+use Rattle.coxeter.specs.Calls.{Yields, answerOf, countedOf, samePresets, presetsEqual}
+use Rattle.coxeter.specs.Calls.{normalFormOfWindow, lengthOfWindow, lengthOfWord, crossingsOfWindow, crossingsOfWord}
 use Rattle.coxeter.proofs.Refusals.{then-zero}
 use Rattle.coxeter.proofs.Acceptance.{length-accepted, presets-accepted}
 use Rattle.coxeter.proofs.Outcomes.{verdict-refused, verdict-yes, verdict-no}

@@ -17,7 +17,8 @@ use lib.Seq.{drop-append-seam}
 use Rattle.coxeter.specs.declared.Answer.the-variants.{Length, Refused}
 use Rattle.coxeter.specs.Kinds.{pick}
 use Rattle.coxeter.specs.Checks.{check, _then_, tooShort}
-use Rattle.coxeter.specs.Calls.{answerOf, written, writes, windowOfWord, productOfWindows, inverseOfWindow, normalFormOfWindow, normalFormOfWord, productOfWords, inverseOfWord}
+use Rattle.coxeter.specs.Calls.{answerOf, written, writes, windowOfWord, productOfWindows}
+use Rattle.coxeter.specs.Calls.{inverseOfWindow, normalFormOfWindow, normalFormOfWord, productOfWords, inverseOfWord}
 
 -- ---- what every call that writes keeps
 

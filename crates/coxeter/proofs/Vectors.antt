@@ -21,9 +21,13 @@ use Rattle.coxeter.specs.Kinds.{A, B, D, kindOf, up}
 use Rattle.coxeter.specs.Windows.{from, exchange, negateFirst, exchangeNegate, act, windowFrom, straight, window, at, product, signed, placeFrom, inverse}
 use Rattle.coxeter.specs.Length.{later, negative, one, laterThan, inversions, negativeSumPairs, negatives, crossings, total, windowLength}
 use Rattle.coxeter.specs.Dictionary.{before, shortlex}
-use Rattle.coxeter.specs.Checks.{wrongKind, wrongRank, tooLong, wrongLetter, wrongLanes, hasSize, negativeInA, wrongAt, wrongEntry, odd, oddNegatives, tooShort, rankRefusal, wordRefusal, windowRefusal}
+use Rattle.coxeter.specs.Checks.{wrongKind, wrongRank, tooLong, wrongLetter, wrongLanes, hasSize, negativeInA, wrongAt}
+use Rattle.coxeter.specs.Checks.{wrongEntry, odd, oddNegatives, tooShort, rankRefusal, wordRefusal, windowRefusal}
 use Rattle.coxeter.specs.NormalForm.{down, rise, fall, block, without, indexOf, restOf, normalFrom, normalForm, wordNormalForm}
-use Rattle.coxeter.specs.Calls.{answerOf, verdictOf, countedOf, written, Outcome, writes, windowOfWord, productOfWindows, inverseOfWindow, normalFormOfWindow, normalFormOfWord, productOfWords, inverseOfWord, lengthOfWindow, lengthOfWord, crossingsOfWindow, crossingsOfWord, sameEntry, sameWindow, equalWords, samePresets, presetsEqual, handsBack, choice}
+use Rattle.coxeter.specs.Calls.{answerOf, verdictOf, countedOf, written, Outcome, writes}
+use Rattle.coxeter.specs.Calls.{windowOfWord, productOfWindows, inverseOfWindow, normalFormOfWindow, normalFormOfWord, productOfWords}
+use Rattle.coxeter.specs.Calls.{inverseOfWord, lengthOfWindow, lengthOfWord, crossingsOfWindow, crossingsOfWord, sameEntry}
+use Rattle.coxeter.specs.Calls.{sameWindow, equalWords, samePresets, presetsEqual, handsBack, choice}
 
 -- ---- how a table is read
 

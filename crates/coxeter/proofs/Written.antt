@@ -15,7 +15,8 @@ use Rattle.coxeter.specs.Kinds.{kindOf, lanes}
 use Rattle.coxeter.specs.Windows.{straight, window, product, inverse}
 use Rattle.coxeter.specs.Checks.{rankRefusal, wordRefusal, windowRefusal}
 use Rattle.coxeter.specs.NormalForm.{normalForm, wordNormalForm}
-use Rattle.coxeter.specs.Calls.{Yields, writes, windowOfWord, productOfWindows, inverseOfWindow, normalFormOfWindow, normalFormOfWord, productOfWords, inverseOfWord}
+use Rattle.coxeter.specs.Calls.{Yields, writes, windowOfWord, productOfWindows, inverseOfWindow}
+use Rattle.coxeter.specs.Calls.{normalFormOfWindow, normalFormOfWord, productOfWords, inverseOfWord}
 use Rattle.coxeter.proofs.Refusals.{then-zero}
 use Rattle.coxeter.proofs.Acceptance.{words-accepted, windows-accepted}
 use Rattle.coxeter.proofs.Levels.{accepted-of-refusal}

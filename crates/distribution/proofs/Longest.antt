@@ -20,7 +20,8 @@ use Rattle.coxeter.specs.Checks.{odd}
 use Rattle.coxeter.specs.NormalForm.{down, levels, lastIndex, Indices, none, level, normalForm}
 use Rattle.coxeter.proofs.Basics.{length-up}
 use Rattle.coxeter.proofs.Sizes.{negatives-map-pos}
-use Rattle.coxeter.proofs.Levels.{Between, Distinct, Level, Accepted, accepted-of-refusal, refusal-of-accepted, hasSize-below, SameSizes, sameSizes-from, sameSizes-negateFirst, level-of-sameSizes}
+use Rattle.coxeter.proofs.Levels.{Between, Distinct, Level, Accepted, accepted-of-refusal, refusal-of-accepted}
+use Rattle.coxeter.proofs.Levels.{hasSize-below, SameSizes, sameSizes-from, sameSizes-negateFirst, level-of-sameSizes}
 use Rattle.coxeter.proofs.Places.{hasSize-beyond}
 use Rattle.coxeter.proofs.PairWeights.{weight, weights, pairWeights, signWeight, length-by-weights}
 use Rattle.coxeter.proofs.Lengths.{blockLength, length-normalForm, pairWeights-negateLast}

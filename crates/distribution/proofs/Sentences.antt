@@ -22,7 +22,8 @@ use Rattle.coxeter.specs.Checks.{check, _then_, tooShort, rankRefusal, windowRe
 use Rattle.coxeter.specs.NormalForm.{normalForm, IsNormalForm}
 use Rattle.coxeter.specs.Calls.{written}
 use Rattle.coxeter.proofs.Lists.{getD-take}
-use Rattle.coxeter.proofs.Refusals.{then-zero, then-none, then-some, then-assoc, check-zero, rankRefusal-le, then-exactly, then-avoids, check-avoids, check-number, check-exactly}
+use Rattle.coxeter.proofs.Refusals.{then-zero, then-none, then-some, then-assoc, check-zero, rankRefusal-le, then-exactly, then-avoids}
+use Rattle.coxeter.proofs.Refusals.{check-avoids, check-number, check-exactly}
 use Rattle.coxeter.proofs.Levels.{accepted-of-refusal}
 use Rattle.coxeter.proofs.Order.{shortlex-cases, shortlex-total, shortlex-irrefl}
 use Rattle.coxeter.proofs.Theorems.{length-normalForm}

@@ -11,7 +11,8 @@ use lib.ListN.{replicate}
 use Rattle.coxeter.specs.Kinds.{A, B, D, kindOf, up}
 use Rattle.coxeter.specs.Windows.{from, negateFirst, signed, placeFrom}
 use Rattle.coxeter.specs.Length.{later, negative, one, laterThan, inversions, negativeSumPairs, negatives, crossings, total, windowLength}
-use Rattle.coxeter.specs.Checks.{wrongKind, wrongRank, wrongLanes, hasSize, negativeInA, wrongAt, wrongEntry, odd, oddNegatives, tooShort, rankRefusal, windowRefusal}
+use Rattle.coxeter.specs.Checks.{wrongKind, wrongRank, wrongLanes, hasSize, negativeInA, wrongAt}
+use Rattle.coxeter.specs.Checks.{wrongEntry, odd, oddNegatives, tooShort, rankRefusal, windowRefusal}
 use Rattle.coxeter.specs.NormalForm.{down, rise, fall, block, without, indexOf, restOf, normalFrom, normalForm}
 use Rattle.coxeter.specs.Calls.{written}
 use Rattle.coxeter.proofs.Vectors.{Agree, lent}

@@ -17,7 +17,8 @@ use Rattle.coxeter.specs.Kinds.{Kind, A, B, D, kindOf, least, greatest, up}
 use Rattle.coxeter.specs.Windows.{from, exchange, negateFirst, act, windowFrom, straight, window, signed, placeFrom, inverse}
 use Rattle.coxeter.specs.Length.{later, negative, one, laterThan, inversions, negativeSumPairs, negatives, crossings, total, windowLength}
 use Rattle.coxeter.specs.Relations.{twice, forth, alone, next}
-use Rattle.coxeter.specs.Checks.{wrongKind, wrongRank, tooLong, wrongLetter, wrongLanes, hasSize, negativeInA, wrongAt, wrongEntry, odd, oddNegatives, tooShort, rankRefusal, wordRefusal, windowRefusal}
+use Rattle.coxeter.specs.Checks.{wrongKind, wrongRank, tooLong, wrongLetter, wrongLanes, hasSize, negativeInA, wrongAt, wrongEntry, odd}
+use Rattle.coxeter.specs.Checks.{oddNegatives, tooShort, rankRefusal, wordRefusal, windowRefusal}
 use Rattle.coxeter.specs.NormalForm.{down, rise, fall, block, without, indexOf, restOf, normalFrom, normalForm, wordNormalForm}
 use Rattle.coxeter.specs.Calls.{sameEntry, sameWindow}
 use Rattle.coxeter.proofs.Order.{sameWindow-true}
@@ -29,7 +30,8 @@ use Rattle.rules.specs.Calls.{pastEnd, refusedStep, usedStep, stepBy}
 use Rattle.rules.specs.Runs.{AcceptedWord}
 use Rattle.rules.proofs.Calls.{step-accepted}
 use Rattle.rules.specs.declared.Rewrite.the-variants.{NoneFits, Refused}
-use Rattle.examples.specs.Examples.{Example, wordWindow, wordForm, wordLength, windowForm, ownInverse, gives, noneFits, squareVanishes, emptyStays, ruleCount, refused, accepted, number, Gives, Stays, Fact, table}
+use Rattle.examples.specs.Examples.{Example, wordWindow, wordForm, wordLength, windowForm, ownInverse, gives, noneFits}
+use Rattle.examples.specs.Examples.{squareVanishes, emptyStays, ruleCount, refused, accepted, number, Gives, Stays, Fact, table}
 
 -- ---- one rewrite
 

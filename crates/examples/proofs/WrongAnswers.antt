@@ -13,7 +13,8 @@ use Rattle.coxeter.specs.declared.Choice.{Choice}
 use Rattle.coxeter.specs.Kinds.{A, B, pick, lanes}
 use Rattle.coxeter.specs.Length.{negative}
 use Rattle.coxeter.specs.Checks.{rankRefusal}
-use Rattle.coxeter.specs.Calls.{Outcome, windowOfWord, productOfWindows, inverseOfWindow, normalFormOfWindow, normalFormOfWord, productOfWords, inverseOfWord, lengthOfWindow, lengthOfWord, presetsEqual}
+use Rattle.coxeter.specs.Calls.{Outcome, windowOfWord, productOfWindows, inverseOfWindow, normalFormOfWindow, normalFormOfWord}
+use Rattle.coxeter.specs.Calls.{productOfWords, inverseOfWord, lengthOfWindow, lengthOfWord, presetsEqual}
 use Rattle.rules.specs.Calls.{Step, step}
 use Rattle.exchange.specs.declared.Fallback.{Fallback}
 use Rattle.exchange.specs.Calls.{fallbackAnswer}
@@ -31,27 +32,37 @@ use Rattle.listing_text.specs.Calls.{Piecing, nextPiece}
 use Rattle.examples.specs.Examples.{neg}
 use Rattle.examples.proofs.WrongWindows.{lanesAsTheRank, oneLaneMoreInEveryKind, sizeOneLess, size127AtMost, zeroIsNegative, noneIsNegative}
 use Rattle.examples.proofs.WrongWindows.{refusesEveryKind, rank64InA, letterZeroAccepted, wordOf4097Letters}
-use Rattle.examples.proofs.WrongWindows.{wordChecks, lettersBeforeTheRank, rankUnchecked, presetsChecks, secondPresetFirst, bothRanksFirst, wordsChecks, secondWordFirst, secondWordUnchecked}
-use Rattle.examples.proofs.WrongWindows.{windowChecks, windowBeforeTheRank, oddNegativesRefusedInB, windowsChecks, secondWindowFirst, secondWindowUnchecked}
+use Rattle.examples.proofs.WrongWindows.{wordChecks, lettersBeforeTheRank, rankUnchecked, presetsChecks, secondPresetFirst}
+use Rattle.examples.proofs.WrongWindows.{bothRanksFirst, wordsChecks, secondWordFirst, secondWordUnchecked}
+use Rattle.examples.proofs.WrongWindows.{windowChecks, windowBeforeTheRank, oddNegativesRefusedInB, windowsChecks, secondWindowFirst}
+use Rattle.examples.proofs.WrongWindows.{secondWindowUnchecked}
 use Rattle.examples.proofs.WrongWindows.{turnsEveryPresetDown, straightForAllWords, exchangesValues, stepOfBInD, refusedCallWrites, clearsTheOutput}
 use Rattle.examples.proofs.WrongWindows.{unshortenedWord, peelsOnlyBlock1, stopsAtAShortestWord, roomForTheRankOnly}
-use Rattle.examples.proofs.WrongWindows.{block1Alone, entriesBeforeLanes, oddNegativesAccepted, blockTurnsEarlyInB, indexOneOffOnTheWayDown, lastEntryKeptInD}
+use Rattle.examples.proofs.WrongWindows.{block1Alone, entriesBeforeLanes, oddNegativesAccepted, blockTurnsEarlyInB}
+use Rattle.examples.proofs.WrongWindows.{indexOneOffOnTheWayDown, lastEntryKeptInD}
 use Rattle.examples.proofs.WrongWindows.{productInWrongOrder, secondWindowCheckedFirst, windowAsItsInverse, inverseWithoutSigns}
 use Rattle.examples.proofs.WrongWindows.{wordsJoinedTheOtherWay, wordsJoinedUnshortened, wordAsItsInverse, reversedUnshortened}
 use Rattle.examples.proofs.WrongWindows.{letterTotal, usualOrderOfAWindow, usualOrderOfAWord, negativesNotCounted, negatesBeforeItsRange}
-use Rattle.examples.proofs.WrongWindows.{ranksNotCompared, kindsCompared, kindOfTheFirstForBoth, secondPresetRefusedFirst, better, laterWordHandedBack, windowsNotCompared, secondOfEqualWords}
-use Rattle.examples.proofs.WrongRewrites.{noneFitsWithoutLooking, noneFitsForWantOfRoom, ruleOfBInD, family3OneTooFarInB, family4AsFamily3, replacedOnePlaceToTheLeft, placeAtTheEndAccepted, roomCheckedBeforeTheRule, wordCopiedFirst}
+use Rattle.examples.proofs.WrongWindows.{ranksNotCompared, kindsCompared, kindOfTheFirstForBoth, secondPresetRefusedFirst, better}
+use Rattle.examples.proofs.WrongWindows.{laterWordHandedBack, windowsNotCompared, secondOfEqualWords}
+use Rattle.examples.proofs.WrongRewrites.{noneFitsWithoutLooking, noneFitsForWantOfRoom, ruleOfBInD, family3OneTooFarInB}
+use Rattle.examples.proofs.WrongRewrites.{family4AsFamily3, replacedOnePlaceToTheLeft, placeAtTheEndAccepted}
+use Rattle.examples.proofs.WrongRewrites.{roomCheckedBeforeTheRule, wordCopiedFirst}
 use Rattle.examples.proofs.WrongTraces.{searchBehindTheLastPlace, outputBeforeTheLists, lettersCounted, shorteningStepsCounted}
 use Rattle.examples.proofs.WrongShortest.{verdictByLengthAlone, presentWordUnshortened, roomAskedForANo}
 use Rattle.examples.proofs.WrongSplits.{wordsExchanged, bit0ForStep2, oneStepLeft, setCheckedAfterTheWord, oneBitTooMany, firstWordWrittenFirst}
 use Rattle.examples.proofs.WrongShortest.{wayBack, lettersNotAsked, roomBeforeTheWay, windowsBeforeTheSet, bitsOneOff}
 use Rattle.examples.proofs.WrongTables.{rank20InA, factorLeftOut, runningTotals, straightAsLongest, roomOfTheListOnly, listWrittenFirst}
-use Rattle.examples.proofs.WrongBooks.{noBytesRefused, oneByteAccepted, noPresetsRefused3, retiredNotRead, retiredAppended, retiredBeforeLetters, retiredInEveryKind}
-use Rattle.examples.proofs.WrongBooks.{countHighByteFirst, offsetAgainstTheTrailer, lastRecordMayStopEarly, opensOtherBytes, onePresetTooMany, preset0ForEveryNumber}
-use Rattle.examples.proofs.WrongBooks.{laneCountBeforeRank, laneCountIsTheRank, rangesOfTheFirst, rangesOfTheSecond, lettersOneByteEarly, laneCountLeftOut}
+use Rattle.examples.proofs.WrongBooks.{noBytesRefused, oneByteAccepted, noPresetsRefused3, retiredNotRead, retiredAppended}
+use Rattle.examples.proofs.WrongBooks.{retiredBeforeLetters, retiredInEveryKind}
+use Rattle.examples.proofs.WrongBooks.{countHighByteFirst, offsetAgainstTheTrailer, lastRecordMayStopEarly, opensOtherBytes}
+use Rattle.examples.proofs.WrongBooks.{onePresetTooMany, preset0ForEveryNumber}
+use Rattle.examples.proofs.WrongBooks.{laneCountBeforeRank, laneCountIsTheRank, rangesOfTheFirst, rangesOfTheSecond}
+use Rattle.examples.proofs.WrongBooks.{lettersOneByteEarly, laneCountLeftOut}
 use Rattle.examples.proofs.WrongBooks.{handedOut, lettersFromTheRecord, refusedPresetHandsOutLetters, lastOffsetDropped, kindAndRankExchanged}
 use Rattle.examples.proofs.WrongBooks.{lastRecordDropped, laneLimitFirst, laterRecordsUnchecked}
-use Rattle.examples.proofs.WrongBooks.{countWithoutLineFeed, bookRefusalAlways1, presetRefusalAlways1, lengthBeforeRank, minusLeftOut, noPresetLine, lastLineLeftOut, lineCutOff, lastByteUnused}
+use Rattle.examples.proofs.WrongBooks.{countWithoutLineFeed, bookRefusalAlways1, presetRefusalAlways1, lengthBeforeRank}
+use Rattle.examples.proofs.WrongBooks.{minusLeftOut, noPresetLine, lastLineLeftOut, lineCutOff, lastByteUnused}
 
 -- what a call tells: its answer, with the output afterwards if it writes one
 pub data Told : Type 0 where

@@ -13,7 +13,8 @@ use Rattle.coxeter.specs.Kinds.{Kind, A, B, D, pick, kindOf, lanes, least}
 use Rattle.coxeter.specs.Windows.{straight, window, product, signed, placeFrom, inverse}
 use Rattle.coxeter.specs.Length.{one, negatives, inversions, negativeSumPairs, windowLength}
 use Rattle.coxeter.specs.Dictionary.{shortlex}
-use Rattle.coxeter.specs.Checks.{check, _then_, wrongKind, tooLong, wrongLetter, wrongLanes, wrongEntry, odd, oddNegatives, rankRefusal, wordRefusal, windowRefusal}
+use Rattle.coxeter.specs.Checks.{check, _then_, wrongKind, tooLong, wrongLetter, wrongLanes, wrongEntry, odd, oddNegatives, rankRefusal}
+use Rattle.coxeter.specs.Checks.{wordRefusal, windowRefusal}
 use Rattle.coxeter.specs.NormalForm.{rise, fall, block, levels, without, indexOf, restOf, normalFrom, normalForm, wordNormalForm}
 use Rattle.coxeter.specs.Calls.{Outcome, answerOf, verdictOf, written, writes, windowOfWord, equalWords, samePresets, presetsEqual, handsBack, choice}
 

@@ -23,7 +23,8 @@ use Rattle.coxeter.specs.Dictionary.{before}
 use Rattle.coxeter.specs.Checks.{check, _then_, tooShort, wrongLetter, rankRefusal, wordRefusal, windowRefusal}
 use Rattle.coxeter.specs.NormalForm.{wordNormalForm, IsNormalForm}
 use Rattle.coxeter.specs.Calls.{Outcome, Yields, answerOf, writes}
-use Rattle.coxeter.proofs.Refusals.{then-zero, then-none, then-some, then-assoc, check-zero, rankRefusal-le, wordRefusal-le, windowRefusal-le, then-exactly, then-avoids, check-avoids, check-number, check-exactly}
+use Rattle.coxeter.proofs.Refusals.{then-zero, then-none, then-some, then-assoc, check-zero, rankRefusal-le, wordRefusal-le}
+use Rattle.coxeter.proofs.Refusals.{windowRefusal-le, then-exactly, then-avoids, check-avoids, check-number, check-exactly}
 use Rattle.coxeter.proofs.Acceptance.{rank-within}
 use Rattle.coxeter.proofs.Order.{shortlex-cases}
 use Rattle.coxeter.proofs.Theorems.{window-passes}
@@ -35,7 +36,8 @@ use Rattle.exchange.specs.SplitCalls.{splitOf, parts, splitting, SplitYi
 use Rattle.exchange.specs.Between.{IsBetween, between}
 use Rattle.exchange.specs.BetweenCalls.{unreachable, betweenRefusal, betweenWindows}
 use Rattle.exchange.proofs.AllowedSets.{wrongSet-exactly}
-use Rattle.exchange.proofs.Splits.{splitting-accepted, splitting-splits, splitting-only, splitting-lengths, splitting-past, splitting-unchanged, splits-none, splits-only}
+use Rattle.exchange.proofs.Splits.{splitting-accepted, splitting-splits, splitting-only, splitting-lengths}
+use Rattle.exchange.proofs.Splits.{splitting-past, splitting-unchanged, splits-none, splits-only}
 use Rattle.exchange.proofs.BetweenCalls.{between-leading, between-answers, between-of-word, between-refuses-19, between-equal, betweenWindows-unchanged}
 
 -- ---- a bit above the rank

@@ -8,7 +8,8 @@ use Rattle.coxeter.specs.declared.Answer.the-variants.{Length, Refused}
 use Rattle.coxeter.specs.Kinds.{kindOf, up}
 use Rattle.coxeter.specs.Windows.{from, negateFirst, at, product, signed, placeFrom, inverse}
 use Rattle.coxeter.specs.Length.{negative, one, negatives}
-use Rattle.coxeter.specs.Checks.{wrongKind, wrongRank, wrongLanes, hasSize, negativeInA, wrongAt, wrongEntry, odd, oddNegatives, tooShort, rankRefusal, windowRefusal}
+use Rattle.coxeter.specs.Checks.{wrongKind, wrongRank, wrongLanes, hasSize, negativeInA, wrongAt}
+use Rattle.coxeter.specs.Checks.{wrongEntry, odd, oddNegatives, tooShort, rankRefusal, windowRefusal}
 use Rattle.coxeter.specs.NormalForm.{down, rise, fall, block, without, indexOf, restOf, normalFrom, normalForm}
 use Rattle.coxeter.specs.Calls.{Outcome, answerOf, written, writes}
 use Rattle.coxeter.proofs.Vectors.{Agree}

@@ -31,7 +31,8 @@ use Rattle.exchange.proofs.Exchange.{oneLetter, oneLetter-front}
 use Rattle.exchange.proofs.Deletion.{deletion}
 use Rattle.exchange.proofs.Places.{rising-bounds, rising-apart, rising-of}
 use Rattle.exchange.proofs.Fallbacks.{verdict-exactly, verdict-same, verdict-empty}
-use Rattle.exchange.proofs.Verdicts.{then-last, Told, told, told-no, told-kept, told-short, is-told-no, is-told-kept, is-told-short, is-told-refused, no-unchanged, refused-unchanged}
+use Rattle.exchange.proofs.Verdicts.{then-last, Told, told, told-no, told-kept, told-short}
+use Rattle.exchange.proofs.Verdicts.{is-told-no, is-told-kept, is-told-short, is-told-refused, no-unchanged, refused-unchanged}
 use Rattle.exchange.proofs.Theorems.{length-added, shortest-exactly, oneLetter-accepted}
 
 -- ---- request 14

@@ -51,7 +51,8 @@ module _ (k n set : ℕ) (u : List ℕ) (r : ℕ) (e : r ≡ (setRefusal k n set
     split-refused f = rw (← e, ne-eqb r 0 f) (rw (ne-eqb r 0 f) (refl, refl, refl))
 
     pub split-passed : r ≡ 0 → (a : Split) (x y : List ℕ)
-        → SplitYields (parts 0 (firstWord (allows set) (kindOf k) n (window (kindOf k) n u)) (secondWord (allows set) (kindOf k) n (window (kindOf k) n u)) first second)
+        → SplitYields (parts 0 (firstWord (allows set) (kindOf k) n (window (kindOf k) n u))
+        (secondWord (allows set) (kindOf k) n (window (kindOf k) n u)) first second)
         a x y
         → SplitYields (splitting k n set u first second) a x y
     unfolding splitting

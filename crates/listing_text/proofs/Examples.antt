@@ -14,10 +14,12 @@ use Rattle.coxeter.specs.NormalForm.{down, rise, fall, block, without, indexOf,
 use Rattle.coxeter.proofs.Vectors.{Agree, lent}
 use Rattle.book_format.specs.declared.Edition.{Edition}
 use Rattle.book_format.specs.declared.Edition.the-variants.{First, Second}
-use Rattle.book_format.specs.Books.{twoAt, count, trailer, offset, wrongSize, wrongCount, misplacedFrom, misplaced, noSuchPreset, wrongRankInBook, wrongLaneCount, bookRankRefusal, bookRefusal, recordRefusal, presetRefusal}
+use Rattle.book_format.specs.Books.{twoAt, count, trailer, offset, wrongSize, wrongCount, misplacedFrom, misplaced}
+use Rattle.book_format.specs.Books.{noSuchPreset, wrongRankInBook, wrongLaneCount, bookRankRefusal, bookRefusal, recordRefusal, presetRefusal}
 use Rattle.book_format.specs.Calls.{openedOf, presetOf, checkedBook, presetAt, checkedPreset}
 use Rattle.book_format.proofs.Vectors.{book, secondBook, emptyBook, bookOf}
-use Rattle.listing_text.specs.Text.{digits, decimal, spaced, letters, entry, entries, kindLetter, head, tail, presetLine, refused, refusedLine, refusedBookLine, countLine, wordLine, lineBy, lineOf, linesFrom, listingBy, listing}
+use Rattle.listing_text.specs.Text.{digits, decimal, spaced, letters, entry, entries, kindLetter, head, tail, presetLine}
+use Rattle.listing_text.specs.Text.{refused, refusedLine, refusedBookLine, countLine, wordLine, lineBy, lineOf, linesFrom, listingBy, listing}
 use Rattle.listing_text.specs.Calls.{lineCountBy, lineCount, firstLine, line, lines, fitting, Piecing, nextPiece}
 
 -- "the listing prints `presets 0`" of a book of length 0, "in both editions" (document 02, request 9)
@@ -56,7 +58,8 @@ pub listings-agree : Agree listings
 unfolding listings codes
     kindOf up from exchange negateFirst exchangeNegate act windowFrom straight window placeFrom signed
     wrongKind tooLong wrongLetter wordRefusal down rise fall block without indexOf restOf normalFrom normalForm
-    twoAt count trailer offset wrongSize wrongCount misplacedFrom misplaced noSuchPreset wrongRankInBook wrongLaneCount bookRankRefusal bookRefusal recordRefusal presetRefusal
+    twoAt count trailer offset wrongSize wrongCount misplacedFrom misplaced noSuchPreset
+    wrongRankInBook wrongLaneCount bookRankRefusal bookRefusal recordRefusal presetRefusal
     openedOf presetOf checkedBook presetAt checkedPreset
     digits decimal spaced letters entry entries kindLetter head tail presetLine refused refusedLine refusedBookLine countLine
     wordLine lineBy lineOf linesFrom listingBy listing
@@ -84,7 +87,8 @@ pub piecing-agrees : Agree piecing
 unfolding piecing codes
     kindOf up from exchange negateFirst exchangeNegate act windowFrom straight window placeFrom signed
     wrongKind tooLong wrongLetter wordRefusal down rise fall block without indexOf restOf normalFrom normalForm
-    twoAt count trailer offset wrongSize wrongCount misplacedFrom misplaced noSuchPreset wrongRankInBook wrongLaneCount bookRankRefusal bookRefusal recordRefusal presetRefusal
+    twoAt count trailer offset wrongSize wrongCount misplacedFrom misplaced noSuchPreset
+    wrongRankInBook wrongLaneCount bookRankRefusal bookRefusal recordRefusal presetRefusal
     openedOf presetOf checkedBook presetAt checkedPreset
     digits decimal spaced letters entry entries kindLetter head tail presetLine refused refusedLine refusedBookLine countLine
     wordLine lineBy lineOf lineCountBy lineCount firstLine line lines fitting nextPiece

@@ -88,11 +88,13 @@ module _ (ed : Edition) (b : List ℕ) (i : ℕ) (out : List ℕ) (p : Piece) (e
   ]
 
 -- a piece and the lines after it are the lines from its first on
-piece-lines : (ed : Edition) (b : List ℕ) (i t : ℕ) → t ≤ lineCount ed b - i → lines ed b t i ++ lines ed b (lineCount ed b - (i + t)) (i + t) ≡ lines ed b (lineCount ed b - i) i
+piece-lines : (ed : Edition) (b : List ℕ) (i t : ℕ) → t ≤ lineCount ed b - i
+    → lines ed b t i ++ lines ed b (lineCount ed b - (i + t)) (i + t) ≡ lines ed b (lineCount ed b - i) i
 piece-lines ed b i t h = let e : t + (lineCount ed b - (i + t)) ≡ lineCount ed b - i = omega arith in lines-append ed b t (lineCount ed b - (i + t)) i ∙ rw e
 
 -- for every list of buffers
-pub pieces-lines : (ed : Edition) (b : List ℕ) (i : ℕ) (outs : List (List ℕ)) → let r = reached ed b i outs in pieces ed b i outs ++ lines ed b (lineCount ed b - r) r ≡ lines ed b (lineCount ed b - i) i
+pub pieces-lines : (ed : Edition) (b : List ℕ) (i : ℕ) (outs : List (List ℕ))
+    → let r = reached ed b i outs in pieces ed b i outs ++ lines ed b (lineCount ed b - r) r ≡ lines ed b (lineCount ed b - i) i
 unfolding pieces reached nextPiece
 pieces-lines ed b i [] = refl
 pieces-lines ed b i (out ∷ outs) =
@@ -102,7 +104,8 @@ pieces-lines ed b i (out ∷ outs) =
     (piece-lines ed b i t (fitting-le ed b (lineCount ed b - i) i (length out)))
 
 -- the pieces from the first line on, and the lines that are left, are the listing
-pub pieces-listing : (ed : Edition) (b : List ℕ) (outs : List (List ℕ)) → let r = reached ed b 0 outs in pieces ed b 0 outs ++ lines ed b (lineCount ed b - r) r ≡ listing ed b
+pub pieces-listing : (ed : Edition) (b : List ℕ) (outs : List (List ℕ))
+    → let r = reached ed b 0 outs in pieces ed b 0 outs ++ lines ed b (lineCount ed b - r) r ≡ listing ed b
 pieces-listing ed b outs =
     let e : lineCount ed b - 0 ≡ lineCount ed b = omega arith in
     pieces-lines ed b 0 outs ∙ rw e (lines-all ed b)

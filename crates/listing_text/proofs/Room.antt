@@ -31,7 +31,8 @@ use Rattle.book_format.specs.Calls.{openedOf, checkedBook, checkedPreset}
 use Rattle.book_format.proofs.BookLaws.{accepted}
 use Rattle.book_format.proofs.Outcomes.{bookRefusal-le, presetRefusal-le}
 use Rattle.book_format.proofs.PresetLaws.{found, found-rank, refused-is}
-use Rattle.listing_text.specs.Text.{spaced, letters, entry, entries, head, tail, presetLine, refused, refusedLine, refusedBookLine, countLine, wordLine, lineBy, lineOf, listing}
+use Rattle.listing_text.specs.Text.{spaced, letters, entry, entries, head, tail, presetLine, refused}
+use Rattle.listing_text.specs.Text.{refusedLine, refusedBookLine, countLine, wordLine, lineBy, lineOf, listing}
 use Rattle.listing_text.specs.Calls.{lineCountBy, lineCount, firstLine, line, nextPiece, reached, pieces}
 use Rattle.listing_text.proofs.Decimals.{length-decimal-byte, length-decimal-word}
 use Rattle.listing_text.proofs.Pieces.{fitting-more, pieces-whole}

@@ -26,7 +26,8 @@ use Rattle.rules.specs.Calls.{pastEnd, Step, refusedStep, usedStep, step
 use Rattle.rules.specs.Runs.{AcceptedWord, Lent, wordAfter}
 use Rattle.rules.specs.Demand3.{NowhereFits, NowhereFitsOnce, IsUsed, Usable, Replaced, FourAnswers}
 use Rattle.rules.proofs.Rewriting.{Rewrites}
-use Rattle.rules.proofs.Fits.{fits-split, rewritten-split, fits-past, firstFitting-some, firstFitting-none, none-firstFitting, firstFitting-of-unique, left-nonempty, rewrites-of-fits}
+use Rattle.rules.proofs.Fits.{fits-split, rewritten-split, fits-past, firstFitting-some, firstFitting-none}
+use Rattle.rules.proofs.Fits.{none-firstFitting, firstFitting-of-unique, left-nonempty, rewrites-of-fits}
 use Rattle.rules.proofs.Completeness.{rewrites-length}
 use Rattle.rules.proofs.ScanRules.{fitting-unique}
 use Rattle.coxeter.proofs.Acceptance.{rank-within, letters-accepted, length-accepted}

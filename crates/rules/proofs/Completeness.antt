@@ -80,7 +80,8 @@ rewritesTo-value (step r s) e = omega (arith, rewrites-lowers r e, rewritesTo-va
 pub rewritesTo-shortlex : {k : Kind} {n : ℕ} {u v : List ℕ} → RewritesTo k n u v → (u ≡ v) ⊎ (shortlex v u ≡ true)
 rewritesTo-shortlex stays = inl refl
 rewritesTo-shortlex (step {u} {v} {w} r s) =
-    inr (⊎-elim (λ e. subst (λ (x : List ℕ). shortlex x u ≡ true) e (rewrites-shortlex r)) (λ l. shortlex-trans w v u l (rewrites-shortlex r)) (rewritesTo-shortlex s))
+    inr (⊎-elim (λ e. subst (λ (x : List ℕ). shortlex x u ≡ true) e (rewrites-shortlex r)) (λ l. shortlex-trans w v u l (rewrites-shortlex r))
+    (rewritesTo-shortlex s))
 
 -- a word that does not rewrite stays
 rewritesTo-same : {k : Kind} {n : ℕ} {u v : List ℕ} → RewritesTo k n u v → ((w : List ℕ) → Rewrites k n u w → ⊥) → u ≡ v

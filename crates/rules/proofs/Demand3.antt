@@ -18,8 +18,11 @@ use Rattle.rules.specs.Calls.{Step, usedStep, step}
 use Rattle.rules.specs.Runs.{AcceptedWord, Told, Call, wordAfter, wordLeft, Meets, Run, Outcome, machine, uses}
 use Rattle.rules.specs.Demand3.{normalFormOf, NowhereFits, NowhereFitsOnce, IsUsed, UsedExactly, FourAnswers, Demand3Holds}
 use Rattle.rules.proofs.Ending.{value}
-use Rattle.rules.proofs.Completeness.{rewrites-window, rewrites-letters, rewrites-lowers, rewrites-length, irreducible-iff, normalForm-least-window, same-normalForm-linked}
-use Rattle.rules.proofs.Calls.{accepted-least, accepted-letters, accepted-of-shorter, stepped, Moves, rewrote, fitless, refused, wordOf-stepped, stepped-moves, step-used, usable-of-used, usable-replaced, stepped-answers, irreducible-of-once, nowhereFits-iff}
+use Rattle.rules.proofs.Completeness.{rewrites-window, rewrites-letters, rewrites-lowers, rewrites-length}
+use Rattle.rules.proofs.Completeness.{irreducible-iff, normalForm-least-window, same-normalForm-linked}
+use Rattle.rules.proofs.Calls.{accepted-least, accepted-letters, accepted-of-shorter, stepped, Moves, rewrote}
+use Rattle.rules.proofs.Calls.{fitless, refused, wordOf-stepped, stepped-moves, step-used, usable-of-used}
+use Rattle.rules.proofs.Calls.{usable-replaced, stepped-answers, irreducible-of-once, nowhereFits-iff}
 use Rattle.rules.proofs.ScanRules.{fitting-unique}
 use Rattle.coxeter.proofs.FormLaws.{wordNormalForm-eq-iff}
 

@@ -13,7 +13,9 @@ use Rattle.coxeter.specs.NormalForm.{block, lastIndex}
 use Rattle.coxeter.proofs.Runs.{span, span-cut, span-snoc, slide, slide-snoc, Corner, block-up, block-turn, slide-one, corner-le}
 use Rattle.rules.proofs.Families.{RuleOf, square, exchange, carry, turn, five, six, seven, IsD}
 use Rattle.rules.proofs.Rewriting.{Rewrites, within}
-use Rattle.rules.proofs.NextLetter.{Last, rising, falling, Next, climbs, tops, descends, repeats, exchanges, carries, turns, fives, sixes, sevens, le-corner, corner-D, le-lastIndex, le-lastIndex-of, level-le-last, lastIndex-le, next-rising, next-falling}
+use Rattle.rules.proofs.NextLetter.{Last, rising, falling, Next, climbs, tops, descends, repeats}
+use Rattle.rules.proofs.NextLetter.{exchanges, carries, turns, fives, sixes, sevens, le-corner, corner-D}
+use Rattle.rules.proofs.NextLetter.{le-lastIndex, le-lastIndex-of, level-le-last, lastIndex-le, next-rising, next-falling}
 use Rattle.rules.proofs.Letters.{slide-three}
 
 -- ---- words that a rule fits into

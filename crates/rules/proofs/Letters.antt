@@ -4,7 +4,8 @@
 -- Assumes nothing.
 use mathlib.Core.Path.{_≡_, refl, sym, ap, ap₂, _∙_}
 use mathlib.Core.Logic.{_⊎_, inl, inr, ⊎-elim}
-use mathlib.Core.List.{List, [], _∷_, _++_, append-assoc, List·Memᴰ, List·Memᴰ·head, List·Memᴰ·tail, List·Memᴰ·not-nil, List·Memᴰ·cases-cons, List·Memᴰ·append-cases}
+use mathlib.Core.List.{List, [], _∷_, _++_, append-assoc, List·Memᴰ}
+use mathlib.Core.List.{List·Memᴰ·head, List·Memᴰ·tail, List·Memᴰ·not-nil, List·Memᴰ·cases-cons, List·Memᴰ·append-cases}
 use Prim.Native.Nat.{ℕ, zero, suc, _+_, _-_, _*_, _≤_, _<_}
 use native.Mathlib.Nat.{lt-of-not-le}
 use native.Mathlib.Decide.{decLe, ℕ-discrete}
@@ -14,7 +15,8 @@ use borrow.Author.Tests.{le-leb, le-ltb}
 use Rattle.coxeter.specs.Kinds.{Kind, A, B, D, up, least}
 use Rattle.coxeter.specs.NormalForm.{down, rise, block, lastIndex}
 use Rattle.coxeter.specs.Relations.{Neighbours, FourfoldPair}
-use Rattle.coxeter.proofs.Runs.{span, slide, span-nil, span-cons, slide-nil, slide-snoc, rise-span, Corner, block-up, block-turn, span-one, slide-one, fall-slide, corner-le}
+use Rattle.coxeter.proofs.Runs.{span, slide, span-nil, span-cons, slide-nil, slide-snoc, rise-span}
+use Rattle.coxeter.proofs.Runs.{Corner, block-up, block-turn, span-one, slide-one, fall-slide, corner-le}
 use Rattle.rules.proofs.Families.{Exchanges, Carries, Turns}
 
 -- ---- letters of a run
@@ -143,7 +145,8 @@ carries-carried D n i j o h (inr g) = carried-up D n i j h (omega arith)
 
 -- [i,2n−i]: up from i to i + 1, letters that commute with i, and down again; or i (i+1) i with i + 1 the last step of B
 pub data Turned (k : Kind) (n i : ℕ) : Type 0 where
-  wide : (middle : List ℕ) → block k n i (2 * n - i) ≡ i ∷ (i + 1) ∷ (middle ++ ((i + 1) ∷ i ∷ [])) → Clear k n i middle → Neighbours k n i (i + 1) → i + 1 ≤ n → Turned k n i
+  wide : (middle : List ℕ) → block k n i (2 * n - i) ≡ i ∷ (i + 1) ∷ (middle ++ ((i + 1) ∷ i ∷ [])) → Clear k n i middle → Neighbours k n i (i + 1)
+      → i + 1 ≤ n → Turned k n i
   narrow : block k n i (2 * n - i) ≡ i ∷ (i + 1) ∷ i ∷ [] → FourfoldPair k n i (i + 1) → i + 1 ≤ n → Turned k n i
 
 turned-wide : (k : Kind) (n i c : ℕ) → Corner k n c → i + 2 ≤ c → 2 * n - i ≤ lastIndex k n i → 1 ≤ i → Neighbours k n i (i + 1) → Turned k n i

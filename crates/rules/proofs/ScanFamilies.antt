@@ -21,7 +21,8 @@ use Rattle.rules.proofs.Families.{Exchanges, Carries, Turns, IsD}
 use Rattle.rules.proofs.Letters.{block-fork, block-one}
 use Rattle.rules.proofs.Extending.{block-top}
 use Rattle.rules.proofs.RuleList.{Listed, square, exchange, carry, turn, five, six, seven}
-use Rattle.rules.proofs.Scan.{fork, familyAtEnd, familyAt, shownIndex, firstLetter, shownRule, rightLength, ruleAt, found, walk, scan, Leaving, nextIndex-leave, Along, start, further, lastIndex-top, scan-block}
+use Rattle.rules.proofs.Scan.{fork, familyAtEnd, familyAt, shownIndex, firstLetter, shownRule, rightLength, ruleAt, found}
+use Rattle.rules.proofs.Scan.{walk, scan, Leaving, nextIndex-leave, Along, start, further, lastIndex-top, scan-block}
 
 -- ---- the family of a letter that leaves
 

@@ -22,8 +22,12 @@ use Rattle.rules.proofs.Families.{Exchanges, Carries, Turns, IsD}
 use Rattle.rules.proofs.NextLetter.{corner-levels, exchanges-top}
 use Rattle.rules.proofs.RuleList.{Listed, square, exchange, carry, turn, five, six, seven, listed-of-mem, mem-of-listed}
 use Rattle.rules.proofs.Fits.{begins-append, begins-split, firstFitting-some, firstFitting-none}
-use Rattle.rules.proofs.ScanFamilies.{familyAt-square, familyAt-exchange, familyAt-below, familyAt-carry, familyAt-five, familyAt-inside, familyAt-turn, familyAt-six, familyAt-seven, familyAt-after, ruleAt-square, ruleAt-exchange, ruleAt-carry, ruleAt-turn, ruleAt-five, ruleAt-six, ruleAt-seven, left-of, scan-left}
-use Rattle.rules.proofs.Scan.{fork, familyAt, ruleAt, found, walk, scan, nextIndex, Leaving, Going, climbs, tops, descends, leaves, going, Along, start, further, along-next}
+use Rattle.rules.proofs.ScanFamilies.{familyAt-square, familyAt-exchange, familyAt-below, familyAt-carry, familyAt-five}
+use Rattle.rules.proofs.ScanFamilies.{familyAt-inside, familyAt-turn, familyAt-six, familyAt-seven, familyAt-after}
+use Rattle.rules.proofs.ScanFamilies.{ruleAt-square, ruleAt-exchange, ruleAt-carry, ruleAt-turn, ruleAt-five}
+use Rattle.rules.proofs.ScanFamilies.{ruleAt-six, ruleAt-seven, left-of, scan-left}
+use Rattle.rules.proofs.Scan.{fork, familyAt, ruleAt, found, walk, scan, nextIndex, Leaving, Going}
+use Rattle.rules.proofs.Scan.{climbs, tops, descends, leaves, going, Along, start, further, along-next}
 use Rattle.rules.proofs.Letters.{exchanges-below, block-one}
 use Rattle.coxeter.proofs.Order.{less, same, more, compared}
 use Rattle.coxeter.proofs.LetterLaws.{letter-within-cons}
@@ -192,7 +196,8 @@ pub fitting-unique : (k : Kind) (n : ℕ) (u : List ℕ) (p : ℕ) (x y : Rule) 
 fitting-unique k n u p x y h m q f g =
     Option·some-injective x y (sym (scan-of-fits k n u p x h m f) ∙ scan-of-fits k n u p y h q g)
 
-pub scan-is-firstFitting : (k : Kind) (n : ℕ) → least k ≤ n → (u : List ℕ) (p : ℕ) → wrongLetter n u ≡ false → scan k n (drop p u) ≡ firstFitting (rules k n) u p
+pub scan-is-firstFitting : (k : Kind) (n : ℕ) → least k ≤ n → (u : List ℕ) (p : ℕ) → wrongLetter n u ≡ false
+    → scan k n (drop p u) ≡ firstFitting (rules k n) u p
 unfolding fits
 scan-is-firstFitting k n h u p w = go (scan k n (drop p u)) refl (firstFitting (rules k n) u p) refl
   where

@@ -27,7 +27,8 @@ use Rattle.exchange.proofs.Parts.{length-dropAt, part-of-dropAt, part-letters}
 use Rattle.exchange.proofs.Shortest.{letters-snoc, windowLength-le, length-of-shortest}
 use Rattle.exchange.proofs.Exchange.{window-snoc, exchange, exchange-front}
 use Rattle.exchange.proofs.Deletion.{dropAt-append, dropAt-seam}
-use Rattle.traces.proofs.LeastWords.{cancel-back, cancel-front, across, undo, letters-left, letters-append, letters-right, Normal, normal-shortest, normal-back, not-earlier, Earlier, normal-if}
+use Rattle.traces.proofs.LeastWords.{cancel-back, cancel-front, across, undo, letters-left, letters-append, letters-right, Normal}
+use Rattle.traces.proofs.LeastWords.{normal-shortest, normal-back, not-earlier, Earlier, normal-if}
 
 -- ---- where a letter stands
 

@@ -27,7 +27,8 @@ use Rattle.coxeter.proofs.Order.{before-higher, shortlex-before, shortlex-cases
 use Rattle.rules.specs.Rules.{Irreducible}
 use Rattle.rules.proofs.Ending.{before-append}
 use Rattle.rules.proofs.Extending.{rewrites-within}
-use Rattle.rules.proofs.Completeness.{RewritesTo, rewritesTo-normalForm, rewritesTo-shortlex, rewritesTo-letters, rewritesTo-window, irreducible-iff, irreducible-of-not-rewritten, not-rewritten-of-irreducible, normalForm-least-window}
+use Rattle.rules.proofs.Completeness.{RewritesTo, rewritesTo-normalForm, rewritesTo-shortlex, rewritesTo-letters, rewritesTo-window}
+use Rattle.rules.proofs.Completeness.{irreducible-iff, irreducible-of-not-rewritten, not-rewritten-of-irreducible, normalForm-least-window}
 use Rattle.exchange.specs.OneLetter.{Shortest}
 use Rattle.exchange.proofs.Shortest.{shortest-normal}
 use Rattle.exchange.proofs.Exchange.{window-snoc, window-twice, windowFrom-injective}

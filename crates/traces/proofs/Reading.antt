@@ -26,7 +26,8 @@ use Rattle.rules.proofs.Completeness.{rewrites-letters, rewrites-window, rewrit
 use Rattle.exchange.proofs.Shortest.{letters-snoc}
 use Rattle.traces.specs.Traces.{Use, lowestUse, Trace, trace}
 use Rattle.traces.proofs.LeftSides.{left-two, Sides, drops, moves, sides-of-rule}
-use Rattle.traces.proofs.Traces.{Lowest, after, lowest-some, lowest-is, irreducible-of-none, none-of-irreducible, lowest-rewrites, trace-none, trace-some}
+use Rattle.traces.proofs.Traces.{Lowest, after, lowest-some, lowest-is, irreducible-of-none, none-of-irreducible, lowest-rewrites}
+use Rattle.traces.proofs.Traces.{trace-none, trace-some}
 use Rattle.traces.proofs.Endings.{ends-there, lowest-of-ending}
 use Rattle.traces.proofs.LeastWords.{letters-left, letters-right, Normal, normal-front}
 use Rattle.traces.proofs.Inserting.{Below, normal-without, normal-with}

@@ -19,7 +19,8 @@ use Rattle.coxeter.specs.Windows.{window}
 use Rattle.coxeter.specs.Checks.{check, _then_, tooShort, rankRefusal, wordRefusal}
 use Rattle.coxeter.specs.NormalForm.{wordNormalForm, IsNormalForm}
 use Rattle.coxeter.specs.Calls.{answerOf}
-use Rattle.coxeter.proofs.Refusals.{then-zero, then-none, then-assoc, check-zero, rankRefusal-le, wordRefusal-le, then-exactly, then-avoids, check-avoids, check-number, check-exactly}
+use Rattle.coxeter.proofs.Refusals.{then-zero, then-none, then-assoc, check-zero, rankRefusal-le, wordRefusal-le, then-exactly, then-avoids}
+use Rattle.coxeter.proofs.Refusals.{check-avoids, check-number, check-exactly}
 use Rattle.coxeter.proofs.Basics.{or-false-left, or-false-right}
 use Rattle.coxeter.proofs.Lists.{getD-take}
 use Rattle.coxeter.proofs.Theorems.{window-passes}
@@ -30,7 +31,8 @@ use Rattle.rules.proofs.Calls.{accepted-least, accepted-letters}
 use Rattle.rules.proofs.Theorems.{normalForm-least}
 use Rattle.traces.specs.declared.ToEnd.{ToEnd}
 use Rattle.traces.specs.declared.ToEnd.the-variants.{Ended, Refused}
-use Rattle.traces.specs.Traces.{Line, trace, tooFewPlaces, familiesOf, placesOf, lengthsOf, toEndOf, tracedBy, rewritingToEnd, TraceYields, numberOfSteps, NoneFitsBelow, Replays}
+use Rattle.traces.specs.Traces.{Line, trace, tooFewPlaces, familiesOf, placesOf, lengthsOf, toEndOf, tracedBy, rewritingToEnd}
+use Rattle.traces.specs.Traces.{TraceYields, numberOfSteps, NoneFitsBelow, Replays}
 use Rattle.traces.proofs.Traces.{trace-normalForm}
 use Rattle.traces.proofs.Unchanged.{tracedBy-written, toEnd-refused-unchanged, toEnd-past}
 use Rattle.traces.proofs.Replays.{trace-replays, replays-only, written-front, toEnd-wrote}

@@ -14,7 +14,8 @@ use Rattle.distribution.specs.Distribution.{ofLength, distribution}
 use Rattle.distribution.specs.Calls.{greatestTabled, tableRefusal}
 use Rattle.distribution.proofs.Sums.{below, below-same}
 use Rattle.distribution.proofs.Factors.{factor, factor-same}
-use Rattle.distribution.proofs.Products.{fewest, product, lanes-levels, top, degree, degree-le, degree-greatest, product-beyond, ofLength-product, below-product-fits, product-fits}
+use Rattle.distribution.proofs.Products.{fewest, product, lanes-levels, top, degree, degree-le}
+use Rattle.distribution.proofs.Products.{degree-greatest, product-beyond, ofLength-product, below-product-fits, product-fits}
 use Rattle.distribution.proofs.Outcomes.{table-accepted}
 use Rattle.distribution.proofs.Values.{values, valueAt, Fit, length-values, valueAt-values, values-same, take-values, values-front}
 

@@ -96,14 +96,18 @@ module _ (k n : ℕ) (v w : List ℤ) (r : rankRefusal k n ≡ 0) (a : windowRef
   middle = between-accepted (kindOf k) n v w first (accepted-of-refusal (kindOf k) n w b)
 
   -- x is the window between the two as it was handed on, and y what the call on it answered
-  module _ (x : List ℤ) (q : x ≡ product (inverse v) w) (out form : List ℕ) (y : Answer) (f : 4096 ≡ length out) (e : Yields (normalFormOfWindow k n x out) y form) where
+  module _ (x : List ℤ) (q : x ≡ product (inverse v) w) (out form : List ℕ) (y : Answer) (f : 4096 ≡ length out)
+      (e : Yields (normalFormOfWindow k n x out) y form) where
     form-small : length (normalForm (kindOf k) n (product (inverse v) w)) ≤ 4096
-    form-small = let x = product (inverse v) w in rw (length-normalForm (kindOf k) n x middle) (windowLength-le-4096 (kindOf k) n x middle (small k n x r middle))
+    form-small =
+        let x = product (inverse v) w in
+        rw (length-normalForm (kindOf k) n x middle) (windowLength-le-4096 (kindOf k) n x middle (small k n x r middle))
 
     none : (rankRefusal k n then windowRefusal (kindOf k) n (product (inverse v) w)) ≡ 0
     none = then-none _ _ r ∙ refusal-of-accepted (kindOf k) n (product (inverse v) w) middle
 
-    yields : Yields (writes (rankRefusal k n then windowRefusal (kindOf k) n (product (inverse v) w)) (normalForm (kindOf k) n (product (inverse v) w)) out) y form
+    yields : Yields (writes (rankRefusal k n then windowRefusal (kindOf k) n (product (inverse v) w))
+        (normalForm (kindOf k) n (product (inverse v) w)) out) y form
     unfolding normalFormOfWindow
     yields = rw q at e
 
@@ -118,7 +122,8 @@ module _ (k n : ℕ) (v w : List ℤ) (r : rankRefusal k n ≡ 0) (a : windowRef
   pub between-letters : (u : List ℕ) → u ≡ between (kindOf k) n v w → wrongLetter 64 u ≡ false
   unfolding between
   between-letters u e =
-      rw e (letters-le n 64 (normalForm (kindOf k) n (product (inverse v) w)) (rank-accepted k n r .1) (normalForm-letters (kindOf k) n (product (inverse v) w) middle))
+      rw e (letters-le n 64 (normalForm (kindOf k) n (product (inverse v) w)) (rank-accepted k n r .1)
+      (normalForm-letters (kindOf k) n (product (inverse v) w) middle))
 
 -- ---- the call
 

@@ -25,7 +25,8 @@ same-length c = search needs
 returns-2 : tie.Need-returns-2
 returns-2 c =
     let b = c .before .before .before .before .before in
-    fellBack-settled _ _ _ _ _ _ (b .ranked-words-refusal .ensures) _ _ (c .before .before .before .before .if1 .left) (c .before .before .settle-words .ensures)
+    fellBack-settled _ _ _ _ _ _ (b .ranked-words-refusal .ensures) _ _ (c .before .before .before .before .if1 .left)
+    (c .before .before .settle-words .ensures)
 
 pub fallback-places-spec : {M : Type 1} → statement M
 fallback-places-spec =

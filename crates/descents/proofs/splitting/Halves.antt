@@ -81,6 +81,7 @@ module _ (k n set : ℕ) (u : List ℕ) (w : List ℤ) (p : w ≡ window (kindOf
 
   pub words-are : (first second : List ℕ) (r : Split) (y z : List ℕ)
       → SplitYields (parts 0 (firstWord (allows set) (kindOf k) n w) (secondWord (allows set) (kindOf k) n w) first second) r y z
-      → SplitYields (parts 0 (firstWord (allows set) (kindOf k) n (window (kindOf k) n u)) (secondWord (allows set) (kindOf k) n (window (kindOf k) n u)) first second)
+      → SplitYields (parts 0 (firstWord (allows set) (kindOf k) n (window (kindOf k) n u))
+      (secondWord (allows set) (kindOf k) n (window (kindOf k) n u)) first second)
       r y z
   words-are first second r y z s = rw (← p) s

@@ -27,7 +27,8 @@ returns c =
     let below = c .before .before .before in
     let rank = below .before .before in
     let kind = rank .before in
-    yielded (appending-refusable _ _ _ _) _ _ _ _ _ _ _ (kind .byte .ensures) (rank .byte2 .ensures) (c .number .ok) (c .number .ensures) (below .append .ensures)
+    yielded (appending-refusable _ _ _ _) _ _ _ _ _ _ _ (kind .byte .ensures) (rank .byte2 .ensures) (c .number .ok) (c .number .ensures)
+    (below .append .ensures)
 
 pub extended-spec : {M : Type 1} → statement M
 extended-spec = tie.close (tie.spec byte-requires byte-requires-2 append-requires number-requires same-length returns)

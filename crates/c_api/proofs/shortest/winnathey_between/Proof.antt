@@ -27,7 +27,8 @@ returns c =
     let below = c .before .before .before in
     let rank = below .before .before in
     let kind = rank .before in
-    yielded (betweenWindows-refusable _ _ _ _) _ _ _ _ _ _ _ (kind .byte .ensures) (rank .byte2 .ensures) (c .number .ok) (c .number .ensures) (below .between-windows .ensures)
+    yielded (betweenWindows-refusable _ _ _ _) _ _ _ _ _ _ _ (kind .byte .ensures) (rank .byte2 .ensures) (c .number .ok) (c .number .ensures)
+    (below .between-windows .ensures)
 
 pub winnathey-between-spec : {M : Type 1} → statement M
 winnathey-between-spec = tie.close (tie.spec byte-requires byte-requires-2 between-windows-requires number-requires same-length returns)

@@ -24,7 +24,8 @@ returns c =
     let below = c .before in
     let rank = below .before in
     let kind = rank .before in
-    measured (lengthOfWord-refusable _) _ _ _ _ _ _ (kind .byte .ensures) (rank .byte2 .ensures) (c .number .ok) (c .number .ensures) (below .length-of-word .ensures)
+    measured (lengthOfWord-refusable _) _ _ _ _ _ _ (kind .byte .ensures) (rank .byte2 .ensures) (c .number .ok) (c .number .ensures)
+    (below .length-of-word .ensures)
 
 pub winnathey-length-of-word-spec : {M : Type 1} → statement M
 winnathey-length-of-word-spec = tie.close (tie.spec byte-requires byte-requires-2 length-of-word-requires number-requires returns)

@@ -27,7 +27,8 @@ returns c =
     let below = c .before .before .before in
     let rank = below .before .before in
     let kind = rank .before in
-    yielded (normalFormOfWord-refusable _ _) _ _ _ _ _ _ _ (kind .byte .ensures) (rank .byte2 .ensures) (c .number .ok) (c .number .ensures) (below .normal-form-of-word .ensures)
+    yielded (normalFormOfWord-refusable _ _) _ _ _ _ _ _ _ (kind .byte .ensures) (rank .byte2 .ensures) (c .number .ok) (c .number .ensures)
+    (below .normal-form-of-word .ensures)
 
 pub winnathey-normal-form-of-word-spec : {M : Type 1} → statement M
 winnathey-normal-form-of-word-spec = tie.close (tie.spec byte-requires byte-requires-2 normal-form-of-word-requires number-requires same-length returns)

@@ -27,7 +27,8 @@ returns c =
     let below = c .before .before in
     let rank = below .before .before in
     let kind = rank .before in
-    yielded (windowOfWord-refusable _ _) _ _ _ _ _ _ _ (kind .byte .ensures) (rank .byte2 .ensures) (c .number .ok) (c .number .ensures) (below .window-of-word .ensures)
+    yielded (windowOfWord-refusable _ _) _ _ _ _ _ _ _ (kind .byte .ensures) (rank .byte2 .ensures) (c .number .ok) (c .number .ensures)
+    (below .window-of-word .ensures)
 
 pub winnathey-window-of-word-spec : {M : Type 1} → statement M
 winnathey-window-of-word-spec = tie.close (tie.spec byte-requires byte-requires-2 window-of-word-requires number-requires same-length returns)

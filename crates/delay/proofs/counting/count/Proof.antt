@@ -7,7 +7,8 @@ use lib.Seq.{length-take-le}
 use borrow.Author.Needs.{needs}
 use Rattle.coxeter.specs.Kinds.{kindOf}
 use Rattle.distribution.proofs.Outcomes.{table-rank}
-use Rattle.delay.proofs.counting.Levels.{Counted, counted-length, counted-none, Turn, sizes-le, part-fits, part-sum-fits, part-factor-fits, counted-next, counted-all}
+use Rattle.delay.proofs.counting.Levels.{Counted, counted-length, counted-none, Turn, sizes-le}
+use Rattle.delay.proofs.counting.Levels.{part-fits, part-sum-fits, part-factor-fits, counted-next, counted-all}
 use Rattle.delay.proofs.counting.count.Statement.{statement}
 use Rattle.delay.proofs.counting.count.Tie as tie
 

@@ -39,7 +39,8 @@ returns c =
     let b = f .before .before .before in
     let p = part-is _ _ _ _ _ (b .window-between .ensures .1) (b .before .lanes .ensures) in
     absurd
-    (between-never _ _ _ _ (s .pre .0) (s .pre .1 .0) (s .pre .1 .1 .0) _ p _ _ _ (s .pre .1 .1 .1) (f .normal-form-of-window .ensures) _ (c .enum-told .given .1))
+    (between-never _ _ _ _ (s .pre .0) (s .pre .1 .0) (s .pre .1 .1 .0) _ p _ _ _ (s .pre .1 .1 .1) (f .normal-form-of-window .ensures) _
+    (c .enum-told .given .1))
 
 same-length-2 : tie.Need-same-length-2
 same-length-2 c = search needs
@@ -50,7 +51,8 @@ returns-2 c =
     let s = f .before .before .before .before .before .before in
     let b = f .before .before .before in
     let p = part-is _ _ _ _ _ (b .window-between .ensures .1) (b .before .lanes .ensures) in
-    between-front _ _ _ _ (s .pre .0) (s .pre .1 .0) (s .pre .1 .1 .0) _ p _ _ _ (s .pre .1 .1 .1) (f .normal-form-of-window .ensures) _ (c .before .l .given .1)
+    between-front _ _ _ _ (s .pre .0) (s .pre .1 .0) (s .pre .1 .1 .0) _ p _ _ _ (s .pre .1 .1 .1) (f .normal-form-of-window .ensures) _
+    (c .before .l .given .1)
 
 pub write-between-spec : {M : Type 1} → statement M
 write-between-spec =
