@@ -3,8 +3,10 @@
 //! Both answer the same call on the same inputs into the same outputs, through functions that are not inlined here: the
 //! archive's, called over the C interface, and `plain`'s, at opt-level 3; for rewritings to their end, splits and ways that
 //! of `plain::library_way`, which has the library's method. Outputs are not cleared in between.
-//! `bench WORD` times only the calls whose names have that word.
+//! Windows and verdicts are timed beside some lines of C++ too. `bench WORD` times only the calls whose names have that
+//! word.
 mod sorts;
+mod straight;
 mod traces;
 
 use plain::library_way;
@@ -13,7 +15,7 @@ use std::time::{Duration, Instant};
 use winnathey::raw as rattle;
 
 /// Inputs for one cell: a run goes through all of them, so that the processor cannot learn a single one by heart.
-const INPUTS: usize = 8;
+const INPUTS: usize = 64;
 /// Runs of each side; they alternate, and the middle one counts.
 const SAMPLES: usize = 41;
 /// The least time of one run.
@@ -230,12 +232,26 @@ fn main() {
     tables(&mut bench);
     books(&mut bench, &mut random);
     bench.print();
+    if "straight C++".contains(&bench.filter) {
+        straight::print(&mut random, &mut bench.outputs);
+    }
     if "length by sort".contains(&bench.filter) {
         sorts::print(&mut random, &mut bench.outputs);
     }
     if "rewriting to the end".contains(&bench.filter) {
         traces::print(&mut random);
     }
+}
+
+/// The normal form of each word.
+fn forms_of(kind: u32, rank: u32, words: &[Vec<u8>]) -> Vec<Vec<u8>> {
+    let form_of = |word: &Vec<u8>| {
+        let mut form = vec![0; 4096];
+        let length = plain::normal_form_of_word(kind, rank, word, &mut form);
+        form.truncate(length as usize);
+        form
+    };
+    words.iter().map(form_of).collect()
 }
 
 fn words(bench: &mut Bench, random: &mut Random, kind: u32, rank: u32, rig: &str) {
@@ -245,14 +261,17 @@ fn words(bench: &mut Bench, random: &mut Random, kind: u32, rank: u32, rig: &str
         let word = |k: usize| black_box(&words[k][..]);
         let other = |k: usize| black_box(&words[INPUTS - 1 - k][..]);
         // Each word's normal form, so that the verdict on the two is yes.
-        let form_of = |word: &Vec<u8>| {
-            let mut form = vec![0; 4096];
-            let length = plain::normal_form_of_word(kind, rank, word, &mut form);
-            form.truncate(length as usize);
-            form
-        };
-        let forms: Vec<Vec<u8>> = words.iter().map(form_of).collect();
+        let forms = forms_of(kind, rank, &words);
         let form = |k: usize| black_box(&forms[k][..]);
+        if letters == 4096 {
+            bench.cell(
+                "window of a word",
+                rig,
+                "a normal form",
+                |k, out| rattle::window_of_word(kind, rank, form(k), &mut out.lanes),
+                |k, out| plain::window_of_word(kind, rank, form(k), &mut out.lanes),
+            );
+        }
         bench.cell(
             "window of a word",
             rig,
