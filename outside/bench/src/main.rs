@@ -255,6 +255,15 @@ fn forms_of(kind: u32, rank: u32, words: &[Vec<u8>]) -> Vec<Vec<u8>> {
 }
 
 fn words(bench: &mut Bench, random: &mut Random, kind: u32, rank: u32, rig: &str) {
+    let forms = forms_of(kind, rank, &random.words(rank, 4096));
+    let form = |k: usize| black_box(&forms[k][..]);
+    bench.cell(
+        "window of a word",
+        rig,
+        "a normal form",
+        |k, out| rattle::window_of_word(kind, rank, form(k), &mut out.lanes),
+        |k, out| plain::window_of_word(kind, rank, form(k), &mut out.lanes),
+    );
     for letters in LETTERS {
         let column = format!("{letters} letters");
         let words = random.words(rank, letters);
@@ -263,15 +272,6 @@ fn words(bench: &mut Bench, random: &mut Random, kind: u32, rank: u32, rig: &str
         // Each word's normal form, so that the verdict on the two is yes.
         let forms = forms_of(kind, rank, &words);
         let form = |k: usize| black_box(&forms[k][..]);
-        if letters == 4096 {
-            bench.cell(
-                "window of a word",
-                rig,
-                "a normal form",
-                |k, out| rattle::window_of_word(kind, rank, form(k), &mut out.lanes),
-                |k, out| plain::window_of_word(kind, rank, form(k), &mut out.lanes),
-            );
-        }
         bench.cell(
             "window of a word",
             rig,
