@@ -1,9 +1,10 @@
 -- "a refusal gives the number and writes nothing, and an accepted call writes only the bytes of its answer": for each call that writes, an output
--- whose call is refused holds what it held, whatever the number. By one law about `writes`, by cases on whether there is a refusal; past the length
--- that is answered `writes` changes nothing either.
--- Not here: one rewrite (in the crate rules), appending to a book (in book_format).
+-- whose call is refused holds what it held, whatever the number, and past the length that is answered it holds that too. By two laws about calls of
+-- every sort; those of the other crates are instances of the same two.
+-- Not here: one rewrite (in the crate rules), the rewriting to its end (in traces), fallbacks, splits and ways (in exchange), the delay table (in
+-- distribution), calls on books (in book_format).
 --
--- Sections: what every call that writes keeps; the calls.
+-- Sections: what every call keeps; what a call with one output keeps; the calls.
 -- Assumes nothing.
 use mathlib.Core.Path.{_≡_, refl}
 use mathlib.Core.Bool.{Bool, true, false}
@@ -20,25 +21,44 @@ use Rattle.coxeter.specs.Checks.{check, _then_, tooShort}
 use Rattle.coxeter.specs.Calls.{answerOf, written, writes, windowOfWord, productOfWindows}
 use Rattle.coxeter.specs.Calls.{inverseOfWindow, normalFormOfWindow, normalFormOfWord, productOfWords, inverseOfWord}
 
--- ---- what every call that writes keeps
+-- ---- what every call keeps
 
-pick-unchanged : {X : Type 0} (t : Bool) (s : ℕ) (l out : List X) (r : ℕ)
-    → pick t (Length (length l)) (Refused s) ≡ Refused r → pick t (l ++ drop (length l) out) out ≡ out
-pick-unchanged true s l out r h = let z : _≡_ {A = ℕ} 0 1 = cc in absurd (omega arith)
-pick-unchanged false s l out r h = refl
+by-test : {A Output : Type 0} (t : Bool) (good bad a : A) → pick t good bad ≡ a → (good ≡ a → ⊥) → (new old : Output) → pick t new old ≡ old
+by-test true good bad a h f new old = absurd (f h)
+by-test false good bad a h f new old = refl
+
+by-test-past : {A X : Type 0} (t : Bool) (good bad a : A) → pick t good bad ≡ a → (l out : List X) (m : ℕ) → (good ≡ a → length l ≡ m)
+    → drop m (pick t (l ++ drop (length l) out) out) ≡ drop m out
+by-test-past true good bad a h l out m f = rw (← f h) (drop-append-seam l (drop (length l) out))
+by-test-past false good bad a h l out m f = refl
+
+-- a call with the refusal s, 0 for none, and answers of any sort, of which `good` is the one with no refusal
+module _ {A : Type 0} (s : ℕ) (good : A) (refuse : ℕ → A) where
+  -- any other answer leaves an output as it was lent
+  pub kept-whole : {a : A} → pick (eqb s 0) good (refuse s) ≡ a → (good ≡ a → ⊥) → {X : Type 0} (l out : List X) → written s l out ≡ out
+  unfolding written
+  kept-whole {a} h f l out = by-test (eqb s 0) good (refuse s) a h f (l ++ drop (length l) out) out
+
+  -- and so does every answer from the place m on, if the good one says that m entries are written
+  pub kept-past : {a : A} → pick (eqb s 0) good (refuse s) ≡ a → {X : Type 0} (l out : List X) (m : ℕ) → (good ≡ a → length l ≡ m)
+      → drop m (written s l out) ≡ drop m out
+  unfolding written
+  kept-past {a} h l out m f = by-test-past (eqb s 0) good (refuse s) a h l out m f
+
+-- ---- what a call with one output keeps
+
+pub length-not-refused : (l r : ℕ) → Length l ≡ Refused r → ⊥
+length-not-refused l r e = let z : _≡_ {A = ℕ} 0 1 = cc in omega arith
 
 pub writes-unchanged : {X : Type 0} (q : ℕ) (l out : List X) (r : ℕ) → writes q l out .answer ≡ Refused r → writes q l out .bytes ≡ out
-unfolding writes answerOf written
-writes-unchanged q l out = let s = q then check 14 (tooShort (length l) out) in pick-unchanged (eqb s 0) s l out
-
-pick-past : {X : Type 0} (t : Bool) (s : ℕ) (l out : List X) (m : ℕ)
-    → pick t (Length (length l)) (Refused s) ≡ Length m → drop m (pick t (l ++ drop (length l) out) out) ≡ drop m out
-pick-past true s l out m h = let e : length l ≡ m = cc in rw (← e) (drop-append-seam l (drop (length l) out))
-pick-past false s l out m h = refl
+unfolding writes answerOf
+writes-unchanged q l out r h =
+    let s = q then check 14 (tooShort (length l) out) in
+    kept-whole s (Length (length l)) Refused h (length-not-refused (length l) r) l out
 
 pub writes-past : {X : Type 0} (q : ℕ) (l out : List X) (m : ℕ) → writes q l out .answer ≡ Length m → drop m (writes q l out .bytes) ≡ drop m out
-unfolding writes answerOf written
-writes-past q l out = let s = q then check 14 (tooShort (length l) out) in pick-past (eqb s 0) s l out
+unfolding writes answerOf
+writes-past q l out m h = let s = q then check 14 (tooShort (length l) out) in kept-past s (Length (length l)) Refused h l out m (λ e. cc)
 
 -- ---- the calls
 

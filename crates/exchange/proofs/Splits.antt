@@ -11,7 +11,7 @@ use native.Mathlib.Omega.{arith}
 use lib.Dec.{eqb}
 use lib.IntN.{ℤ}
 use lib.ListN.{length, take, drop}
-use lib.Seq.{take-at, drop-append-seam}
+use lib.Seq.{take-at}
 use borrow.Author.Tests.{eqb-true}
 use Rattle.coxeter.specs.Kinds.{Kind, pick, kindOf, least}
 use Rattle.coxeter.specs.Windows.{window}
@@ -19,6 +19,7 @@ use Rattle.coxeter.specs.Length.{windowLength}
 use Rattle.coxeter.specs.Checks.{check, _then_, tooShort, rankRefusal, wordRefusal, windowRefusal}
 use Rattle.coxeter.specs.Calls.{written}
 use Rattle.coxeter.proofs.Refusals.{then-zero}
+use Rattle.coxeter.proofs.Unchanged.{kept-whole, kept-past}
 use Rattle.coxeter.proofs.Acceptance.{rank-within}
 use Rattle.coxeter.proofs.Levels.{accepted-of-refusal}
 use Rattle.coxeter.proofs.Theorems.{window-passes}
@@ -64,18 +65,8 @@ module _ (u v first second : List ℕ) where
       (refl, take-at u (drop (length u) first) a e, take-at v (drop (length v) second) b f, e, f)
   pick-told false s a b h = let z : _≡_ {A = ℕ} 0 1 = cc in absurd (omega arith)
 
-  pick-unchanged : (t : Bool) (s a b r : ℕ) → pick t (Words a b) (Refused s) ≡ Refused r
-      → (pick t (u ++ drop (length u) first) first ≡ first) × (pick t (v ++ drop (length v) second) second ≡ second)
-  pick-unchanged true s a b r h = let z : _≡_ {A = ℕ} 0 1 = cc in absurd (omega arith)
-  pick-unchanged false s a b r h = (refl, refl)
-
-  pick-past : (t : Bool) (s a b : ℕ) → pick t (Words (length u) (length v)) (Refused s) ≡ Words a b
-      → (drop a (pick t (u ++ drop (length u) first) first) ≡ drop a first) × (drop b (pick t (v ++ drop (length v) second) second) ≡ drop b second)
-  pick-past true s a b h =
-      let e : length u ≡ a = cc in
-      let f : length v ≡ b = cc in
-      rw (← e, ← f) (drop-append-seam u (drop (length u) first), drop-append-seam v (drop (length v) second))
-  pick-past false s a b h = (refl, refl)
+words-not-refused : (a b r : ℕ) → Words a b ≡ Refused r → ⊥
+words-not-refused a b r e = let z : _≡_ {A = ℕ} 0 1 = cc in omega arith
 
 module _ (k n set : ℕ) (u first second : List ℕ) where
   abbrev shown : List ℤ
@@ -128,11 +119,16 @@ module _ (k n set : ℕ) (u first second : List ℕ) where
     -- what lies behind the two words keeps what it held
     pub splitting-past : (drop a (splitting k n set u first second .first) ≡ drop a first)
         × (drop b (splitting k n set u first second .second) ≡ drop b second)
-    unfolding splitting parts splitOf written
-    splitting-past = pick-past taken left first second (eqb refusal 0) refusal a b h
+    unfolding splitting parts splitOf
+    splitting-past =
+        let good = Words (length taken) (length left) in
+        (kept-past refusal good Refused h taken first a (λ e. cc), kept-past refusal good Refused h left second b (λ e. cc))
 
   -- a refused call changes no byte of either output
   pub splitting-unchanged : (r : ℕ) → splitting k n set u first second .answer ≡ Refused r
       → (splitting k n set u first second .first ≡ first) × (splitting k n set u first second .second ≡ second)
-  unfolding splitting parts splitOf written
-  splitting-unchanged r = pick-unchanged taken left first second (eqb refusal 0) refusal (length taken) (length left) r
+  unfolding splitting parts splitOf
+  splitting-unchanged r h =
+      let good = Words (length taken) (length left) in
+      let not-good = words-not-refused (length taken) (length left) r in
+      (kept-whole refusal good Refused h not-good taken first, kept-whole refusal good Refused h not-good left second)

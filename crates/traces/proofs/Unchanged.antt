@@ -7,14 +7,15 @@ use Prim.Native.Nat.{ℕ}
 use native.Mathlib.Decide.{ℕ-discrete}
 use native.Mathlib.Omega.{arith}
 use lib.ListN.{length, drop, length-map}
-use lib.Seq.{drop-append-seam}
 use borrow.Author.Tests.{eq-eqb, ne-eqb}
-use Rattle.coxeter.specs.Checks.{check, _then_, tooShort}
+use Rattle.coxeter.specs.Kinds.{kindOf}
+use Rattle.coxeter.specs.Checks.{check, _then_, tooShort, rankRefusal, wordRefusal}
 use Rattle.coxeter.specs.Calls.{written}
 use Rattle.coxeter.proofs.Refusals.{then-zero}
+use Rattle.coxeter.proofs.Unchanged.{kept-whole, kept-past}
 use Rattle.rules.specs.Calls.{atFront}
 use Rattle.traces.specs.declared.ToEnd.the-variants as toEnd
-use Rattle.traces.specs.Traces.{Line, Trace, tooFewPlaces, familiesOf, placesOf, lengthsOf, toEndOf, Traced, tracedBy, rewritingToEnd}
+use Rattle.traces.specs.Traces.{Line, Trace, tooFewPlaces, familiesOf, placesOf, lengthsOf, toEndOf, Traced, tracedBy, trace, rewritingToEnd}
 
 -- either all is as it was, or q is no refusal and the lines and the final word are written
 pub data Written (q : ℕ) (t : Trace) (families places lengths out : List ℕ) : Traced → Type 0 where
@@ -38,40 +39,32 @@ tracedBy-written q t families places lengths out =
       | no z ↦ rw (ne-eqb r 0 z) (refused r)
     ]
 
-written-unchanged : {q : ℕ} {t : Trace} {families places lengths out : List ℕ} {a : Traced} (r : ℕ) → Written q t families places lengths out a
-    → a .answer ≡ toEnd.Refused r → (a .families ≡ families) × (a .places ≡ places) × (a .lengths ≡ lengths) × (a .bytes ≡ out)
-written-unchanged r (refused p) e = (refl, refl, refl, refl)
-written-unchanged r (ended p) e = let z : _≡_ {A = ℕ} 0 1 = cc in absurd (omega arith)
-
-drop-front : (m : ℕ) (l out : List ℕ) → length l ≡ m → drop m (atFront l out) ≡ drop m out
-drop-front m l out e = rw (← e) (drop-append-seam l (drop (length l) out))
-
-drop-mapped : (m : ℕ) (f : Line → ℕ) (ls : List Line) (out : List ℕ) → length ls ≡ m → drop m (atFront (map f ls) out) ≡ drop m out
-drop-mapped m f ls out e = drop-front m (map f ls) out (length-map ls f ∙ e)
-
-written-past : {q : ℕ} {t : Trace} {families places lengths out : List ℕ} {a : Traced} (s l : ℕ) → Written q t families places lengths out a
-    → a .answer ≡ toEnd.Ended s l
-    → (drop s (a .families) ≡ drop s families) × (drop s (a .places) ≡ drop s places)
-    × (drop s (a .lengths) ≡ drop s lengths) × (drop l (a .bytes) ≡ drop l out)
-written-past s l (refused r) e = let z : _≡_ {A = ℕ} 0 1 = cc in absurd (omega arith)
-written-past {t} {families} {places} {lengths} {out} s l (ended z) e =
-    let steps : length (t .lines) ≡ s = cc in
-    let final : length (t .final) ≡ l = cc in (
-      drop-mapped s (λ (m : Line). m .family) (t .lines) families steps,
-      drop-mapped s (λ (m : Line). m .place) (t .lines) places steps,
-      drop-mapped s (λ (m : Line). m .left) (t .lines) lengths steps,
-      drop-front l (t .final) out final,
-    )
+ended-not-refused : (m l r : ℕ) → toEnd.Ended m l ≡ toEnd.Refused r → ⊥
+ended-not-refused m l r e = let z : _≡_ {A = ℕ} 0 1 = cc in omega arith
 
 module _ (k n : ℕ) (u families places lengths out : List ℕ) where
+  abbrev refusal : ℕ
+  refusal =
+      let t = trace (kindOf k) n u in
+      let checks = rankRefusal k n then wordRefusal n u in
+      checks then check 15 (tooFewPlaces (length (t .lines)) families places lengths) then check 14 (tooShort (length (t .final)) out)
+
   -- a refused call changes nothing
   pub toEnd-refused-unchanged : (q : ℕ) → rewritingToEnd k n u families places lengths out .answer ≡ toEnd.Refused q
       → (rewritingToEnd k n u families places lengths out .families ≡ families)
       × (rewritingToEnd k n u families places lengths out .places ≡ places)
       × (rewritingToEnd k n u families places lengths out .lengths ≡ lengths)
       × (rewritingToEnd k n u families places lengths out .bytes ≡ out)
-  unfolding rewritingToEnd
-  toEnd-refused-unchanged q = written-unchanged q (tracedBy-written _ _ families places lengths out)
+  unfolding rewritingToEnd tracedBy toEndOf
+  toEnd-refused-unchanged q h =
+      let t = trace (kindOf k) n u in
+      let good = toEnd.Ended (length (t .lines)) (length (t .final)) in
+      let not-good = ended-not-refused (length (t .lines)) (length (t .final)) q in (
+        kept-whole refusal good toEnd.Refused h not-good (familiesOf (t .lines)) families,
+        kept-whole refusal good toEnd.Refused h not-good (placesOf (t .lines)) places,
+        kept-whole refusal good toEnd.Refused h not-good (lengthsOf (t .lines)) lengths,
+        kept-whole refusal good toEnd.Refused h not-good (t .final) out,
+      )
 
   -- "list places past the steps keep what they held", and so does the output past the final word
   pub toEnd-past : (s l : ℕ) → rewritingToEnd k n u families places lengths out .answer ≡ toEnd.Ended s l
@@ -79,5 +72,13 @@ module _ (k n : ℕ) (u families places lengths out : List ℕ) where
       × (drop s (rewritingToEnd k n u families places lengths out .places) ≡ drop s places)
       × (drop s (rewritingToEnd k n u families places lengths out .lengths) ≡ drop s lengths)
       × (drop l (rewritingToEnd k n u families places lengths out .bytes) ≡ drop l out)
-  unfolding rewritingToEnd
-  toEnd-past s l = written-past s l (tracedBy-written _ _ families places lengths out)
+  unfolding rewritingToEnd tracedBy toEndOf
+  toEnd-past s l h =
+      let t = trace (kindOf k) n u in
+      let good = toEnd.Ended (length (t .lines)) (length (t .final)) in
+      let steps : (f : Line → ℕ) → good ≡ toEnd.Ended s l → length (map f (t .lines)) ≡ s = λ f e. length-map (t .lines) f ∙ cc in (
+        kept-past refusal good toEnd.Refused h (familiesOf (t .lines)) families s (steps (λ m. m .family)),
+        kept-past refusal good toEnd.Refused h (placesOf (t .lines)) places s (steps (λ m. m .place)),
+        kept-past refusal good toEnd.Refused h (lengthsOf (t .lines)) lengths s (steps (λ m. m .left)),
+        kept-past refusal good toEnd.Refused h (t .final) out l (λ e. cc),
+      )
