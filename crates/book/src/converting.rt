@@ -75,9 +75,9 @@ fn records_refusal(edition: Edition, book: &[u8], c: usize) -> u8
 {
     let mut i = 0;
     while i < c {
-        let r = record_refusal(edition, book, c, i);
-        if r != 0 {
-            return r;
+        let refusal = record_refusal(edition, book, c, i);
+        if refusal != 0 {
+            return refusal;
         }
         i += 1;
     }
@@ -88,14 +88,14 @@ fn records_refusal(edition: Edition, book: &[u8], c: usize) -> u8
 fn conversion_refusal(edition: Edition, book: &[u8]) -> u8
     ensures { λ r. ⌜ r ≡ conversionRefusal edition (now (book .entry)) ⌝ }
 {
-    let r = book_refusal(edition, book);
-    if r != 0 {
-        return r;
+    let refusal = book_refusal(edition, book);
+    if refusal != 0 {
+        return refusal;
     }
     let c = count_of(book);
-    let s = records_refusal(edition, book, c);
-    if s != 0 {
-        return s;
+    let refusal = records_refusal(edition, book, c);
+    if refusal != 0 {
+        return refusal;
     }
     if LARGEST < converted_size(edition, book.len(), c) {
         return 13;
@@ -182,9 +182,9 @@ pub fn convert(edition: Edition, book: &[u8], out: &mut [u8]) -> Answer
     ensures { λ r. ⌜ r ≡ converting edition (now (book .entry)) (now (out .entry)) .answer ⌝ }
     ensures { λ _. ⌜ now (out .exit) ≡ converting edition (now (book .entry)) (now (out .entry)) .bytes ⌝ }
 {
-    let r = conversion_refusal(edition, book);
-    if r != 0 {
-        return Answer::Refused(r);
+    let refusal = conversion_refusal(edition, book);
+    if refusal != 0 {
+        return Answer::Refused(refusal);
     }
     if book.len() == 0 {
         return Answer::Length(0);

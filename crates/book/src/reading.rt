@@ -76,9 +76,9 @@ pub(crate) fn book_refusal(edition: Edition, book: &[u8]) -> u8
 pub fn check_book(edition: Edition, book: &[u8]) -> Opened
     ensures { λ r. ⌜ r ≡ checkedBook edition (now (book .entry)) ⌝ }
 {
-    let r = book_refusal(edition, book);
-    if r != 0 {
-        return Opened::Refused(r);
+    let refusal = book_refusal(edition, book);
+    if refusal != 0 {
+        return Opened::Refused(refusal);
     }
     let c = count_of(book);
     Opened::Presets(c)
@@ -94,9 +94,9 @@ pub(crate) fn check_record(edition: Edition, book: &[u8], o: usize) -> Preset
     let head = place + 2;
     let kind = book[o];
     let rank = book[o + 1];
-    let r = book_rank_refusal(edition, kind, rank);
-    if r != 0 {
-        return Preset::Refused(r);
+    let refusal = book_rank_refusal(edition, kind, rank);
+    if refusal != 0 {
+        return Preset::Refused(refusal);
     }
     if has_wrong_lanes(edition, book, o) {
         return Preset::Refused(17);
@@ -104,9 +104,9 @@ pub(crate) fn check_record(edition: Edition, book: &[u8], o: usize) -> Preset
     let letter_count = two_at(book, o + place);
     let start = o + head;
     let end = start + letter_count;
-    let s = preset_refusal(kind, rank, &book[start..end]);
-    if s != 0 {
-        return Preset::Refused(s);
+    let refusal = preset_refusal(kind, rank, &book[start..end]);
+    if refusal != 0 {
+        return Preset::Refused(refusal);
     }
     Preset::Found {
         kind,
@@ -130,9 +130,9 @@ pub(crate) fn numbered_preset(edition: Edition, book: &[u8], number: usize) -> P
 pub fn check_preset(edition: Edition, book: &[u8], number: usize) -> Preset
     ensures { λ r. ⌜ r ≡ checkedPreset edition (now (book .entry)) number ⌝ }
 {
-    let r = book_refusal(edition, book);
-    if r != 0 {
-        return Preset::Refused(r);
+    let refusal = book_refusal(edition, book);
+    if refusal != 0 {
+        return Preset::Refused(refusal);
     }
     let c = count_of(book);
     if c <= number {

@@ -50,9 +50,9 @@ fn greatest(edition: Edition, kind: u8) -> u8
 pub(crate) fn book_rank_refusal(edition: Edition, kind: u8, rank: u8) -> u8
     ensures { λ r. ⌜ r ≡ bookRankRefusal edition kind rank ⌝ }
 {
-    let r = rank_refusal(kind, rank);
-    if r != 0 {
-        return r;
+    let refusal = rank_refusal(kind, rank);
+    if refusal != 0 {
+        return refusal;
     }
     if greatest(edition, kind) < rank {
         return 6;

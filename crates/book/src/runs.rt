@@ -60,7 +60,7 @@ fn put_run(edition: Edition, book: &[u8], first: usize, n: usize, fields: &mut [
     }
 }
 
-fn smaller(a: usize, b: usize) -> usize
+fn smaller_of(a: usize, b: usize) -> usize
     ensures { λ r. ⌜ r ≡ min a b ⌝ }
 {
     if a < b {
@@ -75,9 +75,9 @@ pub fn read_presets(edition: Edition, book: &[u8], first: usize, fields: &mut [u
     ensures { λ r. ⌜ (r ≡ readingPresets edition (now (book .entry)) first (now (fields .entry)) .answer)
         × (now (fields .exit) ≡ readingPresets edition (now (book .entry)) first (now (fields .entry)) .bytes) ⌝ }
 {
-    let r = book_refusal(edition, book);
-    if r != 0 {
-        return Answer::Refused(r);
+    let refusal = book_refusal(edition, book);
+    if refusal != 0 {
+        return Answer::Refused(refusal);
     }
     let c = count_of(book);
     if c <= first {
@@ -86,7 +86,7 @@ pub fn read_presets(edition: Edition, book: &[u8], first: usize, fields: &mut [u
     if fields.len() < 5 {
         return Answer::Refused(14);
     }
-    let n = smaller(c - first, fields.len() / 5);
+    let n = smaller_of(c - first, fields.len() / 5);
     put_run(edition, book, first, n, fields);
     Answer::Length(n)
 }

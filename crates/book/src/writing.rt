@@ -93,17 +93,17 @@ fn write_appended(edition: Edition, book: &[u8], kind: u8, rank: u8, word: &[u8]
 fn append_refusal(edition: Edition, book: &[u8], kind: u8, rank: u8, word: &[u8]) -> u8
     ensures { λ r. ⌜ r ≡ appendRefusal edition (now (book .entry)) kind rank (now (word .entry)) ⌝ }
 {
-    let r = book_refusal(edition, book);
-    if r != 0 {
-        return r;
+    let refusal = book_refusal(edition, book);
+    if refusal != 0 {
+        return refusal;
     }
-    let s = book_rank_refusal(edition, kind, rank);
-    if s != 0 {
-        return s;
+    let refusal = book_rank_refusal(edition, kind, rank);
+    if refusal != 0 {
+        return refusal;
     }
-    let t = preset_refusal(kind, rank, word);
-    if t != 0 {
-        return t;
+    let refusal = preset_refusal(kind, rank, word);
+    if refusal != 0 {
+        return refusal;
     }
     if is_retired(kind, rank) {
         return 21;
@@ -127,9 +127,9 @@ pub fn append(
     ensures { λ r. ⌜ r ≡ appending edition (now (book .entry)) kind rank (now (word .entry)) (now (out .entry)) .answer ⌝ }
     ensures { λ _. ⌜ now (out .exit) ≡ appending edition (now (book .entry)) kind rank (now (word .entry)) (now (out .entry)) .bytes ⌝ }
 {
-    let r = append_refusal(edition, book, kind, rank, word);
-    if r != 0 {
-        return Answer::Refused(r);
+    let refusal = append_refusal(edition, book, kind, rank, word);
+    if refusal != 0 {
+        return Answer::Refused(refusal);
     }
     let head = head_size(edition);
     let size = size_of(book) + (head + word.len() + 2);

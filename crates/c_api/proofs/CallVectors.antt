@@ -14,7 +14,7 @@ use Rattle.coxeter.specs.NormalForm.{down, rise, fall, block, without, indexOf,
 use Rattle.coxeter.specs.Calls.{written}
 use Rattle.coxeter.proofs.Vectors.{Agree}
 use Rattle.rules.specs.Rules.{each, family1, family2, family3, family4, families5to7, rules, begins, fits, firstFitting, rewritten}
-use Rattle.exchange.specs.Shortening.{shortens}
+use Rattle.exchange.specs.Descents.{isDescent}
 use Rattle.exchange.specs.Allowed.{allows, wrongSet, setRefusal}
 use Rattle.exchange.specs.Split.{lowest, stripped, restInverse, firstWord, secondWord}
 use Rattle.exchange.specs.SplitCalls.{splitOf, parts, splitting}
@@ -55,7 +55,7 @@ splits =
 
 pub splits-agree : Agree splits
 unfolding splits refused splitNumbers listedBeside splittingListed
-    splitting parts splitOf written firstWord secondWord restInverse stripped lowest shortens allows wrongSet setRefusal kindOf up
+    splitting parts splitOf written firstWord secondWord restInverse stripped lowest isDescent allows wrongSet setRefusal kindOf up
     from exchange negateFirst exchangeNegate act windowFrom straight window at product signed placeFrom inverse
     later negative one laterThan inversions negativeSumPairs negatives crossings total windowLength
     wrongKind wrongRank tooLong wrongLetter tooShort rankRefusal wordRefusal down rise fall block without indexOf restOf normalFrom normalForm

@@ -115,10 +115,10 @@ countedOf-small : (r : ℕ) (s : Crossings) → (r ≡ 0 → total s ≤ 65535) 
 unfolding countedOf total
 countedOf-small r s h a b c e = elim (ℕ-discrete r 0) [
   | yes z ↦
-      let q : counted.Crossings (s .inv) (s .nsp) (s .neg) ≡ counted.Crossings a b c = rw (eq-eqb r 0 z) at e in
-      let inv : s .inv ≡ a = cc in
-      let nsp : s .nsp ≡ b = cc in
-      let neg : s .neg ≡ c = cc in
+      let q : counted.Crossings (s .inversions) (s .negativeSumPairs) (s .negatives) ≡ counted.Crossings a b c = rw (eq-eqb r 0 z) at e in
+      let inversions : s .inversions ≡ a = cc in
+      let negativeSumPairs : s .negativeSumPairs ≡ b = cc in
+      let negatives : s .negatives ≡ c = cc in
       omega (arith, h z)
   | no f ↦
       let q : counted.Refused r ≡ counted.Crossings a b c = rw (ne-eqb r 0 f) at e in
@@ -156,9 +156,9 @@ module _ (k n : ℕ) where
     measured-small : Small (answerOf (rankRefusal k n then s) (windowLength (kindOf k) w))
     measured-small = answerOf-small (rankRefusal k n then s) (windowLength (kindOf k) w) (windowLength-small s w a)
 
-    sorted-small : SmallTotal (countedOf (rankRefusal k n then s) (crossings (kindOf k) w))
+    crossings-small : SmallTotal (countedOf (rankRefusal k n then s) (crossings (kindOf k) w))
     unfolding windowLength
-    sorted-small = countedOf-small (rankRefusal k n then s) (crossings (kindOf k) w) (windowLength-small s w a)
+    crossings-small = countedOf-small (rankRefusal k n then s) (crossings (kindOf k) w) (windowLength-small s w a)
 
   shown : (u : List ℕ) → Accepted (kindOf k) n (window (kindOf k) n u)
   shown u = window-accepted (kindOf k) n u
@@ -208,11 +208,11 @@ module _ (k n : ℕ) where
 
   pub crossingsOfWindow-small : (w : List ℤ) → SmallTotal (crossingsOfWindow k n w)
   unfolding crossingsOfWindow
-  crossingsOfWindow-small w = sorted-small (windowRefusal (kindOf k) n w) w (accepted-of-refusal (kindOf k) n w)
+  crossingsOfWindow-small w = crossings-small (windowRefusal (kindOf k) n w) w (accepted-of-refusal (kindOf k) n w)
 
   pub crossingsOfWord-small : (u : List ℕ) → SmallTotal (crossingsOfWord k n u)
   unfolding crossingsOfWord
-  crossingsOfWord-small u = sorted-small (wordRefusal n u) (window (kindOf k) n u) (λ z. shown u)
+  crossingsOfWord-small u = crossings-small (wordRefusal n u) (window (kindOf k) n u) (λ z. shown u)
 
 -- ---- the layers above it
 

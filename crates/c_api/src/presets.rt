@@ -13,7 +13,7 @@ ghost use Rattle.book_format.specs.Conversion.{converting};
 ghost use Rattle.c_api.specs.Calls.{numbered, openedNumber, presetNumbers, listed};
 
 // Opening a book. Answers the number of its presets.
-fn opened(edition: Edition, book: &[u8]) -> i64
+fn check_book(edition: Edition, book: &[u8]) -> i64
     ensures { λ r. ⌜ r ≡ openedNumber (checkedBook edition (now (book .entry))) ⌝ }
 {
     match book::check_book(edition, book) {
@@ -24,7 +24,7 @@ fn opened(edition: Edition, book: &[u8]) -> i64
 
 // Reading a preset by its number, from 0: its kind, its rank, the offset of its letters in the book and their count go to the first four places
 // of `fields`. Answers 4.
-fn read(edition: Edition, book: &[u8], number: usize, fields: &mut [u64]) -> i64
+fn check_preset(edition: Edition, book: &[u8], number: usize, fields: &mut [u64]) -> i64
     ensures { λ r. ⌜ (r, now (fields .exit)) ≡ listed (presetNumbers (checkedPreset edition (now (book .entry)) number)) (now (fields .entry)) ⌝ }
 {
     match book::check_preset(edition, book, number) {
@@ -49,21 +49,21 @@ fn read(edition: Edition, book: &[u8], number: usize, fields: &mut [u64]) -> i64
 
 // Reading a run of presets from number `first` on, with one walk over the book: five numbers each, the refusal (5 to 8 or 17, or 0), kind, rank, the
 // offset of the letters in the book and their count, the last four 0 where it is refused; as many as there are and have room. Answers how many.
-fn read_run(edition: Edition, book: &[u8], first: usize, fields: &mut [u64]) -> i64
+fn read_presets(edition: Edition, book: &[u8], first: usize, fields: &mut [u64]) -> i64
     ensures { λ r. ⌜ (r, now (fields .exit)) ≡ numbered (readingPresets edition (now (book .entry)) first (now (fields .entry))) ⌝ }
 {
     number(book::read_presets(edition, book, first, fields))
 }
 
 // Appending a preset: the whole new book, written to the front of `out`. Answers its length.
-fn extended(edition: Edition, book: &[u8], kind: u32, rank: u32, word: &[u8], out: &mut [u8]) -> i64
+fn append(edition: Edition, book: &[u8], kind: u32, rank: u32, word: &[u8], out: &mut [u8]) -> i64
     ensures { λ r. ⌜ (r, now (out .exit)) ≡ numbered (appending edition (now (book .entry)) kind rank (now (word .entry)) (now (out .entry))) ⌝ }
 {
     number(book::append(edition, book, byte(kind), byte(rank), word, out))
 }
 
 // Converting a book of the edition to the other one: the whole new book, written to the front of `out`. Answers its length.
-fn turned(edition: Edition, book: &[u8], out: &mut [u8]) -> i64
+fn convert(edition: Edition, book: &[u8], out: &mut [u8]) -> i64
     ensures { λ r. ⌜ (r, now (out .exit)) ≡ numbered (converting edition (now (book .entry)) (now (out .entry))) ⌝ }
 {
     number(book::convert(edition, book, out))
@@ -75,21 +75,21 @@ fn turned(edition: Edition, book: &[u8], out: &mut [u8]) -> i64
 pub extern "C" fn winnathey_book_check(book: &[u8]) -> i64
     ensures { λ r. ⌜ r ≡ openedNumber (checkedBook First (now (book .entry))) ⌝ }
 {
-    opened(Edition::First, book)
+    check_book(Edition::First, book)
 }
 
 #[no_mangle]
 pub extern "C" fn winnathey_preset(book: &[u8], number: usize, fields: &mut [u64]) -> i64
     ensures { λ r. ⌜ (r, now (fields .exit)) ≡ listed (presetNumbers (checkedPreset First (now (book .entry)) number)) (now (fields .entry)) ⌝ }
 {
-    read(Edition::First, book, number, fields)
+    check_preset(Edition::First, book, number, fields)
 }
 
 #[no_mangle]
 pub extern "C" fn winnathey_presets(book: &[u8], first: usize, fields: &mut [u64]) -> i64
     ensures { λ r. ⌜ (r, now (fields .exit)) ≡ numbered (readingPresets First (now (book .entry)) first (now (fields .entry))) ⌝ }
 {
-    read_run(Edition::First, book, first, fields)
+    read_presets(Edition::First, book, first, fields)
 }
 
 #[no_mangle]
@@ -102,7 +102,7 @@ pub extern "C" fn winnathey_append(
 ) -> i64
     ensures { λ r. ⌜ (r, now (out .exit)) ≡ numbered (appending First (now (book .entry)) kind rank (now (word .entry)) (now (out .entry))) ⌝ }
 {
-    extended(Edition::First, book, kind, rank, word, out)
+    append(Edition::First, book, kind, rank, word, out)
 }
 
 // The second edition.
@@ -111,21 +111,21 @@ pub extern "C" fn winnathey_append(
 pub extern "C" fn winnathey_second_book_check(book: &[u8]) -> i64
     ensures { λ r. ⌜ r ≡ openedNumber (checkedBook Second (now (book .entry))) ⌝ }
 {
-    opened(Edition::Second, book)
+    check_book(Edition::Second, book)
 }
 
 #[no_mangle]
 pub extern "C" fn winnathey_second_preset(book: &[u8], number: usize, fields: &mut [u64]) -> i64
     ensures { λ r. ⌜ (r, now (fields .exit)) ≡ listed (presetNumbers (checkedPreset Second (now (book .entry)) number)) (now (fields .entry)) ⌝ }
 {
-    read(Edition::Second, book, number, fields)
+    check_preset(Edition::Second, book, number, fields)
 }
 
 #[no_mangle]
 pub extern "C" fn winnathey_second_presets(book: &[u8], first: usize, fields: &mut [u64]) -> i64
     ensures { λ r. ⌜ (r, now (fields .exit)) ≡ numbered (readingPresets Second (now (book .entry)) first (now (fields .entry))) ⌝ }
 {
-    read_run(Edition::Second, book, first, fields)
+    read_presets(Edition::Second, book, first, fields)
 }
 
 #[no_mangle]
@@ -138,7 +138,7 @@ pub extern "C" fn winnathey_second_append(
 ) -> i64
     ensures { λ r. ⌜ (r, now (out .exit)) ≡ numbered (appending Second (now (book .entry)) kind rank (now (word .entry)) (now (out .entry))) ⌝ }
 {
-    extended(Edition::Second, book, kind, rank, word, out)
+    append(Edition::Second, book, kind, rank, word, out)
 }
 
 // Between the editions.
@@ -147,12 +147,12 @@ pub extern "C" fn winnathey_second_append(
 pub extern "C" fn winnathey_to_second(book: &[u8], out: &mut [u8]) -> i64
     ensures { λ r. ⌜ (r, now (out .exit)) ≡ numbered (converting First (now (book .entry)) (now (out .entry))) ⌝ }
 {
-    turned(Edition::First, book, out)
+    convert(Edition::First, book, out)
 }
 
 #[no_mangle]
 pub extern "C" fn winnathey_to_first(book: &[u8], out: &mut [u8]) -> i64
     ensures { λ r. ⌜ (r, now (out .exit)) ≡ numbered (converting Second (now (book .entry)) (now (out .entry))) ⌝ }
 {
-    turned(Edition::Second, book, out)
+    convert(Edition::Second, book, out)
 }

@@ -54,8 +54,8 @@ pub extern "C" fn winnathey_length_of_window(kind: u32, rank: u32, window: &[i8]
     number(window::length_of_window(byte(kind), byte(rank), window))
 }
 
-// The length of a window's normal form by sort: inversions, negative sum pairs and negative entries go to the first three places of `counts`. Answers
-// their total.
+// The length of a window's normal form as its three counts: inversions, negative sum pairs and negative entries go to the first three
+// places of `counts`. Answers their total.
 #[no_mangle]
 pub extern "C" fn winnathey_crossings_of_window(
     kind: u32,

@@ -66,8 +66,8 @@ pub extern "C" fn winnathey_length_of_word(kind: u32, rank: u32, word: &[u8]) ->
     number(window::length_of_word(byte(kind), byte(rank), word))
 }
 
-// The length of a word's normal form by sort: inversions, negative sum pairs and negative entries go to the first three places of `counts`. Answers
-// their total.
+// The length of a word's normal form as its three counts: inversions, negative sum pairs and negative entries go to the first three
+// places of `counts`. Answers their total.
 #[no_mangle]
 pub extern "C" fn winnathey_crossings_of_word(
     kind: u32,

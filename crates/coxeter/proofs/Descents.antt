@@ -29,10 +29,10 @@ use Rattle.coxeter.proofs.Crossings.{exchangeNegate-weighs, signWeight-
 
 -- the entries that step s acts on are crossed: entry s stands later than entry s + 1; in B for s = n, entry n is negative; in D for s = n,
 -- entry n − 1 stands later than minus entry n
-unfoldable pub descends : Kind → ℕ → ℕ → List ℤ → Bool
-descends A n s w = later (at w (pos s)) (at w (pos (suc s)))
-descends B n s w = pick (eqb s n) (negative (at w (pos n))) (later (at w (pos s)) (at w (pos (suc s))))
-descends D n s w = pick (eqb s n) (later (at w (pos (n - 1))) (negℤ (at w (pos n)))) (later (at w (pos s)) (at w (pos (suc s))))
+unfoldable pub crossed : Kind → ℕ → ℕ → List ℤ → Bool
+crossed A n s w = later (at w (pos s)) (at w (pos (suc s)))
+crossed B n s w = pick (eqb s n) (negative (at w (pos n))) (later (at w (pos s)) (at w (pos (suc s))))
+crossed D n s w = pick (eqb s n) (later (at w (pos (n - 1))) (negℤ (at w (pos n)))) (later (at w (pos s)) (at w (pos (suc s))))
 
 -- ---- the sorts of steps
 
@@ -51,21 +51,21 @@ sortOf D n (suc (suc p)) r o l =
     elim (ℕ-discrete (suc (suc p)) n) [ yes e ↦ rw (← e) (exchangesNegates p) | no e ↦ exchanges D n (suc p) (omega arith) ]
 
 -- what each sort compares, with positions from 0
-pub descends-exchange : (k : Kind) (n p : ℕ) (w : List ℤ) → suc p < lanes k n
-    → descends k n (suc p) w ≡ later (getD w p (pos 0)) (getD w (suc p) (pos 0))
-unfolding descends at
-descends-exchange A n p w h = refl
-descends-exchange B n p w h = rw (ne-eqb (suc p) n (omega arith))
-descends-exchange D n p w h = rw (ne-eqb (suc p) n (omega arith))
+pub crossed-exchange : (k : Kind) (n p : ℕ) (w : List ℤ) → suc p < lanes k n
+    → crossed k n (suc p) w ≡ later (getD w p (pos 0)) (getD w (suc p) (pos 0))
+unfolding crossed at
+crossed-exchange A n p w h = refl
+crossed-exchange B n p w h = rw (ne-eqb (suc p) n (omega arith))
+crossed-exchange D n p w h = rw (ne-eqb (suc p) n (omega arith))
 
-pub descends-B-last : (p : ℕ) (w : List ℤ) → descends B (suc p) (suc p) w ≡ negative (getD w p (pos 0))
-unfolding descends at
-descends-B-last p w = rw (eq-eqb (suc p) (suc p) refl)
+pub crossed-B-last : (p : ℕ) (w : List ℤ) → crossed B (suc p) (suc p) w ≡ negative (getD w p (pos 0))
+unfolding crossed at
+crossed-B-last p w = rw (eq-eqb (suc p) (suc p) refl)
 
-pub descends-D-last : (p : ℕ) (w : List ℤ)
-    → descends D (suc (suc p)) (suc (suc p)) w ≡ later (getD w p (pos 0)) (negℤ (getD w (suc p) (pos 0)))
-unfolding descends at
-descends-D-last p w = let e : suc (suc p) - 1 ≡ suc p = omega arith in rw (eq-eqb (suc (suc p)) (suc (suc p)) refl, e)
+pub crossed-D-last : (p : ℕ) (w : List ℤ)
+    → crossed D (suc (suc p)) (suc (suc p)) w ≡ later (getD w p (pos 0)) (negℤ (getD w (suc p) (pos 0)))
+unfolding crossed at
+crossed-D-last p w = let e : suc (suc p) - 1 ≡ suc p = omega arith in rw (eq-eqb (suc (suc p)) (suc (suc p)) refl, e)
 
 -- ---- one step
 
@@ -75,7 +75,7 @@ record Turned (k : Kind) (n s : ℕ) (w : List ℤ) : Type 0 where
   before : Bool
   after : Bool
   acts : act k n s w ≡ result
-  was : descends k n s w ≡ before
+  was : crossed k n s w ≡ before
   flips : after ≡ not before
   weighs : pairWeights result + signWeight k result + one before ≡ pairWeights w + signWeight k w + one after
 
@@ -88,7 +88,7 @@ turned-exchange k n p w h c =
       before = later (getD w p (pos 0)) (getD w (suc p) (pos 0));
       after = later (getD w (suc p) (pos 0)) (getD w p (pos 0));
       acts = ap (λ f. f w) (act-exchange k n p h);
-      was = descends-exchange k n p w h;
+      was = crossed-exchange k n p w h;
       flips = later-flip _ _ (q .apart);
       weighs = omega (arith, exchange-weighs p w _ _ _ (omega arith) q, signWeight-exchange k p w);
     }
@@ -103,7 +103,7 @@ turned-negate p w c =
       before = negative (getD w p (pos 0));
       after = negative (negℤ (getD w p (pos 0)));
       acts = ap (λ f. f w) (act-B-last (suc p) p (omega arith));
-      was = descends-B-last p w;
+      was = crossed-B-last p w;
       flips = negative-flip (getD w p (pos 0)) (between-getD 1 (1 + length w) w p (c .level .between) (omega arith) .0);
       weighs = omega (arith, negatives-from-negateFirst p w (omega arith), rw last at (pairWeights-negateLast w));
     }
@@ -119,7 +119,7 @@ turned-exchangeNegate p w c =
       before = later (getD w p (pos 0)) (negℤ (getD w (suc p) (pos 0)));
       after = later (negℤ (getD w (suc p) (pos 0))) (getD w p (pos 0));
       acts = ap (λ f. f w) (act-D-last (suc (suc p)) p (omega arith));
-      was = descends-D-last p w;
+      was = crossed-D-last p w;
       flips = later-flip _ _ (rw natAbs-negℤ (q .apart));
       weighs = omega (arith, exchangeNegate-weighs p w _ _ (omega arith) q);
     }
@@ -135,18 +135,18 @@ module _ (k : Kind) (n s : ℕ) (w : List ℤ) (r : least k ≤ n) (o : 1 ≤ s)
   turns : Turned k n s w
   turns = turned w (sortOf k n s r o l) c
 
-  length-act-add : windowLength k (act k n s w) + one (descends k n s w) ≡ windowLength k w + one (not (descends k n s w))
+  length-act-add : windowLength k (act k n s w) + one (crossed k n s w) ≡ windowLength k w + one (not (crossed k n s w))
   length-act-add =
       let before = length-by-weights k n w c in
       let after = length-by-weights k n (act k n s w) (act-accepted k n s w c) in
       rw (turns .was, ← turns .flips) (omega (arith, rw (← turns .acts) at (turns .weighs)))
 
   -- a step at a crossed pair lowers the length by one
-  pub length-of-descends : descends k n s w ≡ true → windowLength k w ≡ windowLength k (act k n s w) + 1
+  pub length-of-crossed : crossed k n s w ≡ true → windowLength k w ≡ windowLength k (act k n s w) + 1
   unfolding one
-  length-of-descends e = let q = rw e at length-act-add in omega arith
+  length-of-crossed e = let q = rw e at length-act-add in omega arith
 
   -- a step at any other pair raises it by one
-  pub length-of-ascends : descends k n s w ≡ false → windowLength k (act k n s w) ≡ windowLength k w + 1
+  pub length-of-uncrossed : crossed k n s w ≡ false → windowLength k (act k n s w) ≡ windowLength k w + 1
   unfolding one
-  length-of-ascends e = let q = rw e at length-act-add in omega arith
+  length-of-uncrossed e = let q = rw e at length-act-add in omega arith

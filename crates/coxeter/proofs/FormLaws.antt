@@ -47,11 +47,11 @@ total-of : (r : ℕ) (s : Crossings) (a b c : ℕ) → countedOf r s ≡ counted
 unfolding answerOf countedOf total
 total-of r s a b c e = elim (ℕ-discrete r 0) [
   | yes z ↦
-      let q : counted.Crossings (s .inv) (s .nsp) (s .neg) ≡ counted.Crossings a b c = rw (eq-eqb r 0 z) at e in
-      let inv : s .inv ≡ a = cc in
-      let nsp : s .nsp ≡ b = cc in
-      let neg : s .neg ≡ c = cc in
-      rw (eq-eqb r 0 z, inv, nsp, neg)
+      let q : counted.Crossings (s .inversions) (s .negativeSumPairs) (s .negatives) ≡ counted.Crossings a b c = rw (eq-eqb r 0 z) at e in
+      let inversions : s .inversions ≡ a = cc in
+      let negativeSumPairs : s .negativeSumPairs ≡ b = cc in
+      let negatives : s .negatives ≡ c = cc in
+      rw (eq-eqb r 0 z, inversions, negativeSumPairs, negatives)
   | no f ↦
       let q : counted.Refused r ≡ counted.Crossings a b c = rw (ne-eqb r 0 f) at e in
       let y : _≡_ {A = ℕ} 0 1 = cc in

@@ -72,7 +72,7 @@ pub answer-length : (q r l a : ℕ) → r ≡ q → r ≡ 0 → a ≡ l → Leng
 unfolding answerOf
 answer-length q r l a e z v = rw (← e, eq-eqb r 0 z, v)
 
--- ---- a length by sort
+-- ---- crossings
 
 pub counted-refused : (q r : ℕ) (c : Crossings) → r ≡ q → (r ≡ 0 → ⊥) → counted.Refused r ≡ countedOf q c
 unfolding countedOf

@@ -1,7 +1,7 @@
 -- Requests 1, 3, 5 and 6 of document 02 in plain terms, as far as they concern words and windows: each sentence by itself, for every input of its
 -- call, refused ones included. By the laws of the files before.
 --
--- Sections: presets that look alike; lengths by sort; parity; sixty-four lanes.
+-- Sections: presets that look alike; crossings; parity; sixty-four lanes.
 -- Assumes nothing.
 use mathlib.Core.Path.{_≡_, refl, sym, _∙_}
 use mathlib.Core.Bool.{Bool, true, false, not, _||_, false≢true, true≢false}
@@ -115,13 +115,13 @@ module _ (k n : ℕ) (u : List ℕ) (l m : ℕ) (v : List ℕ) where
           either true e = yes-or-refused (sym (verdict-yes k n u l m v q refl true z e refl)) h
           either false e = no-or-refused (sym (verdict-no k n u l m v q refl false z e refl)) h
 
--- ---- lengths by sort
+-- ---- crossings
 
 counted-or-refused : {a : Counted} {p q r s : ℕ} → a ≡ counted.Crossings p q r → a ≡ counted.Refused s → ⊥
 counted-or-refused p q = let n : _≡_ {A = ℕ} 0 1 = cc in omega arith
 
 counted-exactly : (q : ℕ) (s : Crossings) (a b c : ℕ)
-    → (countedOf q s ≡ counted.Crossings a b c) ↔ ((q ≡ 0) × (a ≡ s .inv) × (b ≡ s .nsp) × (c ≡ s .neg))
+    → (countedOf q s ≡ counted.Crossings a b c) ↔ ((q ≡ 0) × (a ≡ s .inversions) × (b ≡ s .negativeSumPairs) × (c ≡ s .negatives))
 unfolding countedOf
 counted-exactly q s a b c = elim (ℕ-discrete q 0) [
   | yes z ↦ rw (eq-eqb q 0 z) (λ h. (z, cc, cc, cc), λ h. rw (h .1, h .2, h .3))
@@ -191,9 +191,9 @@ total-exactly : (q : ℕ) (s : Crossings) (l : ℕ)
 unfolding answerOf total
 total-exactly q s l = elim (ℕ-discrete q 0) [
   | yes z ↦ (
-    λ h. let e : Length (s .inv + s .nsp + s .neg) ≡ Length l = rw (eq-eqb q 0 z) at h in
-        let f : s .inv + s .nsp + s .neg ≡ l = cc in
-        (s .inv, s .nsp, s .neg, counted-exactly q s _ _ _ .1 (z, refl, refl, refl), sym f),
+    λ h. let e : Length (s .inversions + s .negativeSumPairs + s .negatives) ≡ Length l = rw (eq-eqb q 0 z) at h in
+        let f : s .inversions + s .negativeSumPairs + s .negatives ≡ l = cc in
+        (s .inversions, s .negativeSumPairs, s .negatives, counted-exactly q s _ _ _ .1 (z, refl, refl, refl), sym f),
     λ h. let e = counted-exactly q s (h .0) (h .1) (h .2) .0 (h .3) in rw (eq-eqb q 0 z, ← e .1, ← e .2, ← e .3, ← h .4),
   )
   | no f ↦ (

@@ -1,7 +1,7 @@
 -- Vectors: each call at a few inputs, with its answer and the bytes of its output afterwards, worked out by hand from document 01. All by computing
 -- the definitions. An output is lent full of 9s, mostly longer than the answer.
 --
--- Sections: how a table is read; the calls that write a window; the calls that write a word; lengths; lengths by sort; verdicts; the better word; refusals.
+-- Sections: how a table is read; the calls that write a window; the calls that write a word; lengths; crossings; verdicts; the better word; refusals.
 -- Assumes nothing.
 use mathlib.Core.Path.{_≡_, refl, ap}
 use mathlib.Core.List.{List, [], _∷_, map}
@@ -141,10 +141,10 @@ unfolding measuring
     answerOf lengthOfWindow lengthOfWord
 measuring-lengths = refl
 
--- ---- lengths by sort
+-- ---- crossings
 
-pub sorting : List (Counted × Counted)
-sorting =
+pub counting : List (Counted × Counted)
+counting =
     -- from a window: in A the inversions only, in D no negative entries
     (crossingsOfWindow 1 2 (pos 3 ∷ pos 2 ∷ pos 1 ∷ []), counted.Crossings 3 0 0)
     ∷ (crossingsOfWindow 2 3 (pos 3 ∷ pos 2 ∷ neg 1 ∷ []), counted.Crossings 1 2 1)
@@ -160,13 +160,13 @@ sorting =
     ∷ (crossingsOfWord 2 2 (3 ∷ []), counted.Refused 8)
     ∷ []
 
-pub sorting-lengths : Agree sorting
-unfolding sorting
+pub counting-crossings : Agree counting
+unfolding counting
     kindOf up from exchange negateFirst exchangeNegate act windowFrom straight window
     later negative one laterThan inversions negativeSumPairs negatives crossings
     wrongKind wrongRank tooLong wrongLetter wrongLanes hasSize negativeInA wrongAt wrongEntry odd oddNegatives rankRefusal wordRefusal windowRefusal
     countedOf crossingsOfWindow crossingsOfWord
-sorting-lengths = refl
+counting-crossings = refl
 
 -- ---- verdicts
 

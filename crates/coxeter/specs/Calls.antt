@@ -31,7 +31,7 @@ verdictOf r t = pick (eqb r 0) (pick t verdict.Yes verdict.No) (verdict.Refused 
 
 -- the number and the values of each case of `Counted`: its refusal, or with none the three counts
 unfoldable pub countedOf : ℕ → Crossings → Counted
-countedOf r c = pick (eqb r 0) (counted.Crossings (c .inv) (c .nsp) (c .neg)) (counted.Refused r)
+countedOf r c = pick (eqb r 0) (counted.Crossings (c .inversions) (c .negativeSumPairs) (c .negatives)) (counted.Refused r)
 
 -- "a refusal writes nothing, and an accepted call writes only the bytes of its answer": `out` after a call that writes `l`
 unfoldable pub written : {X : Type 0} → ℕ → List X → List X → List X
@@ -90,7 +90,7 @@ unfoldable pub lengthOfWord : ℕ → ℕ → List ℕ → Answer
 lengthOfWord k n u =
     answerOf (rankRefusal k n then wordRefusal n u) (windowLength (kindOf k) (window (kindOf k) n u))
 
--- the length by sort, from a window and from a word (document 02, request 3)
+-- the length as its three counts, from a window and from a word (document 02, request 3)
 unfoldable pub crossingsOfWindow : ℕ → ℕ → List ℤ → Counted
 crossingsOfWindow k n w = countedOf (rankRefusal k n then windowRefusal (kindOf k) n w) (crossings (kindOf k) w)
 

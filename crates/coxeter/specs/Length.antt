@@ -41,21 +41,21 @@ unfoldable pub negatives : List ℤ → ℕ
 negatives [] = 0
 negatives (x ∷ w) = one (negative x) + negatives w
 
--- a length by sort: "plain pairs, pairs against a mirrored lane, mirrored lanes" (document 02, request 3)
+-- a length as its three counts: "plain pairs, pairs against a mirrored lane, mirrored lanes" (document 02, request 3)
 pub record Crossings : Type 0 where
-  pub inv : ℕ
-  pub nsp : ℕ
-  pub neg : ℕ
+  pub inversions : ℕ
+  pub negativeSumPairs : ℕ
+  pub negatives : ℕ
 
 -- "as 01's three sums define them, with 0 for a sum the kind lacks": A has the first sum, D the first two, B all three
 unfoldable pub crossings : Kind → List ℤ → Crossings
-crossings A w = record { inv = inversions w; nsp = 0; neg = 0 }
-crossings B w = record { inv = inversions w; nsp = negativeSumPairs w; neg = negatives w }
-crossings D w = record { inv = inversions w; nsp = negativeSumPairs w; neg = 0 }
+crossings A w = record { inversions = inversions w; negativeSumPairs = 0; negatives = 0 }
+crossings B w = record { inversions = inversions w; negativeSumPairs = negativeSumPairs w; negatives = negatives w }
+crossings D w = record { inversions = inversions w; negativeSumPairs = negativeSumPairs w; negatives = 0 }
 
 -- "the total of the three"
 unfoldable pub total : Crossings → ℕ
-total c = c .inv + c .nsp + c .neg
+total c = c .inversions + c .negativeSumPairs + c .negatives
 
 -- "The sum is the length of the normal form."
 unfoldable pub windowLength : Kind → List ℤ → ℕ

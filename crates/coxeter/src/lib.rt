@@ -20,7 +20,7 @@ pub enum Choice {
     Neither,
 }
 
-// A length by sort of crossing, or the refusal's number.
+// A length as its three counts, or the refusal's number.
 pub enum Counted {
     Crossings {
         inversions: usize,

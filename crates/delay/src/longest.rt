@@ -41,7 +41,7 @@ fn set_negative(w: &mut [i8])
 }
 
 // The last of these entries with its sign changed.
-fn turn_last(w: &mut [i8])
+fn negate_last(w: &mut [i8])
     requires { ⌜ (1 ≤ length (now w)) × (length (now w) ≤ 127) ⌝ }
     requires { ⌜ now w ≡ allNegative (length (now w)) ⌝ }
     ensures { λ _. ⌜ now (w .exit) ≡ from (length (now (w .entry)) - 1) negateFirst (now (w .entry)) ⌝ }
@@ -64,7 +64,7 @@ fn set_longest(kind: u8, n: usize, w: &mut [i8])
         return;
     }
     if n % 2 == 1 {
-        turn_last(w);
+        negate_last(w);
     }
 }
 

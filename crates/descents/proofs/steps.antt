@@ -1,2 +1,2 @@
 -- What the proofs of the module `steps` share.
-pub mod Lowering
+pub mod Descents

@@ -96,9 +96,9 @@ pub fn between_windows(
 ) -> Answer
     ensures { λ r. ⌜ Yields (betweenWindows kind rank allowed (now (from .entry)) (now (to .entry)) (now (out .entry))) r (now (out .exit)) ⌝ }
 {
-    let locked = set_refusal(kind, rank, allowed);
-    if locked != 0 {
-        return Answer::Refused(locked);
+    let refusal = set_refusal(kind, rank, allowed);
+    if refusal != 0 {
+        return Answer::Refused(refusal);
     }
     let refusal = ranked_windows_refusal(kind, rank, from, to);
     if refusal != 0 {

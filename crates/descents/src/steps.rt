@@ -8,7 +8,7 @@ ghost use Rattle.coxeter.specs.Kinds.{kindOf, least, pick};
 ghost use Rattle.coxeter.specs.Windows.{from, exchange, negateFirst, exchangeNegate, act};
 ghost use Rattle.coxeter.specs.Length.{later, negative};
 ghost use Rattle.coxeter.specs.Checks.{windowRefusal};
-ghost use Rattle.exchange.specs.Shortening.{shortens};
+ghost use Rattle.exchange.specs.Descents.{isDescent};
 
 // Whether x stands later than y in the order 1, 2, .., m, -m, .., -2, -1: of one sign, where y is below x, and else where y is not below x.
 fn is_later(x: i8, y: i8) -> bool
@@ -18,7 +18,7 @@ fn is_later(x: i8, y: i8) -> bool
 }
 
 // Where w[p] stands later than w[p + 1] the two are exchanged. Answers whether they were.
-fn lower_pair(w: &mut [i8], p: usize) -> bool
+fn uncross_pair(w: &mut [i8], p: usize) -> bool
     requires { ⌜ p + 1 < length (now w) ⌝ }
     ensures { λ r. ⌜ (r ≡ later (getD (now (w .entry)) p (pos 0)) (getD (now (w .entry)) (p + 1) (pos 0)))
         × (now (w .exit) ≡ pick r (from p exchange (now (w .entry))) (now (w .entry))) ⌝ }
@@ -34,7 +34,7 @@ fn lower_pair(w: &mut [i8], p: usize) -> bool
 }
 
 // Where w[p] is negative its sign is changed. Answers whether it was.
-fn lower_sign(w: &mut [i8], p: usize) -> bool
+fn uncross_sign(w: &mut [i8], p: usize) -> bool
     requires { ⌜ (p < length (now w)) × (natAbs (getD (now w) p (pos 0)) < 128) ⌝ }
     ensures { λ r. ⌜ (r ≡ negative (getD (now (w .entry)) p (pos 0)))
         × (now (w .exit) ≡ pick r (from p negateFirst (now (w .entry))) (now (w .entry))) ⌝ }
@@ -48,7 +48,7 @@ fn lower_sign(w: &mut [i8], p: usize) -> bool
 }
 
 // Where w[p] stands later than minus w[p + 1] the two are exchanged and both change sign. Answers whether they were.
-fn lower_signs(w: &mut [i8], p: usize) -> bool
+fn uncross_signs(w: &mut [i8], p: usize) -> bool
     requires { ⌜ p + 1 < length (now w) ⌝ }
     requires { ⌜ natAbs (getD (now w) p (pos 0)) < 128 ⌝ }
     requires { ⌜ natAbs (getD (now w) (p + 1) (pos 0)) < 128 ⌝ }
@@ -68,19 +68,19 @@ fn lower_signs(w: &mut [i8], p: usize) -> bool
 
 // Step s, taken where it makes the window shorter. Answers whether it does. Below the number of entries a step exchanges, in every kind; any other
 // is step n of B or D.
-pub(crate) fn lower(kind: u8, n: usize, s: usize, w: &mut [i8]) -> bool
+pub(crate) fn take_descent(kind: u8, n: usize, s: usize, w: &mut [i8]) -> bool
     requires { ⌜ (1 ≤ s) × (s ≤ n) ⌝ }
     requires { ⌜ least (kindOf kind) ≤ n ⌝ }
     requires { ⌜ n ≤ 64 ⌝ }
     requires { ⌜ windowRefusal (kindOf kind) n (now w) ≡ 0 ⌝ }
-    ensures { λ r. ⌜ (r ≡ shortens (kindOf kind) n s (now (w .entry)))
+    ensures { λ r. ⌜ (r ≡ isDescent (kindOf kind) n s (now (w .entry)))
         × (now (w .exit) ≡ pick r (act (kindOf kind) n s (now (w .entry))) (now (w .entry))) ⌝ }
 {
     if s < w.len() {
-        return lower_pair(w, s - 1);
+        return uncross_pair(w, s - 1);
     }
     if kind == 2 {
-        return lower_sign(w, n - 1);
+        return uncross_sign(w, n - 1);
     }
-    lower_signs(w, n - 2)
+    uncross_signs(w, n - 2)
 }

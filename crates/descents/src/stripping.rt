@@ -1,14 +1,14 @@
 // Allowed steps that make a window shorter, taken until none does. A step changes nothing for the steps below its neighbours, so the search goes back
 // to the lowest neighbour of a step taken: at most two comparisons for each of them, and three in kind D for step n, beside one for each step.
 use crate::allowed::is_allowed;
-use crate::steps::lower;
+use crate::steps::take_descent;
 ghost use mathlib.Core.Path.{_≡_};
 ghost use mathlib.Core.Bool.{_&&_};
 ghost use Prim.Native.Nat.{_-_, _≤_};
 ghost use Rattle.coxeter.specs.Kinds.{kindOf, least, pick};
 ghost use Rattle.coxeter.specs.Windows.{act};
 ghost use Rattle.coxeter.specs.Checks.{windowRefusal};
-ghost use Rattle.exchange.specs.Shortening.{shortens};
+ghost use Rattle.exchange.specs.Descents.{isDescent};
 ghost use Rattle.exchange.specs.Allowed.{allows};
 ghost use Rattle.exchange.proofs.Stripping.{Strips};
 ghost use Rattle.exchange.proofs.FarSteps.{Far};
@@ -35,16 +35,16 @@ fn back(kind: u8, n: usize, s: usize) -> usize
 }
 
 // Step s, taken where it is allowed and makes the window shorter. Answers whether it was.
-fn lower_allowed(kind: u8, n: usize, allowed: u64, s: usize, w: &mut [i8]) -> bool
+fn take_allowed_descent(kind: u8, n: usize, allowed: u64, s: usize, w: &mut [i8]) -> bool
     requires { ⌜ (1 ≤ s) × (s ≤ n) ⌝ }
     requires { ⌜ least (kindOf kind) ≤ n ⌝ }
     requires { ⌜ n ≤ 64 ⌝ }
     requires { ⌜ windowRefusal (kindOf kind) n (now w) ≡ 0 ⌝ }
-    ensures { λ r. ⌜ (r ≡ (allows allowed s && shortens (kindOf kind) n s (now (w .entry))))
+    ensures { λ r. ⌜ (r ≡ (allows allowed s && isDescent (kindOf kind) n s (now (w .entry))))
         × (now (w .exit) ≡ pick r (act (kindOf kind) n s (now (w .entry))) (now (w .entry))) ⌝ }
 {
     if is_allowed(allowed, s) {
-        return lower(kind, n, s, w);
+        return take_descent(kind, n, s, w);
     }
     false
 }
@@ -58,7 +58,7 @@ pub(crate) fn strip(kind: u8, n: usize, allowed: u64, w: &mut [i8])
 {
     let mut s = 1;
     while s <= n {
-        if lower_allowed(kind, n, allowed, s, w) {
+        if take_allowed_descent(kind, n, allowed, s, w) {
             s = back(kind, n, s);
         } else {
             s += 1;

@@ -1,6 +1,6 @@
 // The walk through a word from its last letter to the first. A letter that makes the target shorter is kept, and the target steps back; the word has
 // a part-list with the target's window exactly when the target ends straight.
-use crate::steps::lower;
+use crate::steps::take_descent;
 use exchange::Fallback;
 ghost use mathlib.Core.Path.{_≡_};
 ghost use mathlib.Core.Bool.{false};
@@ -28,7 +28,7 @@ fn keep_letters(kind: u8, n: usize, word: &mut [u8], w: &mut [i8]) -> usize
     let mut i = word.len();
     while 0 < i {
         i -= 1;
-        if lower(kind, n, word[i] as usize, w) {
+        if take_descent(kind, n, word[i] as usize, w) {
             kept += 1;
         } else {
             word[i] = 0;

@@ -51,7 +51,7 @@ use Rattle.coxeter.proofs.Order.{sameWindow-of-eq}
 use Rattle.rules.specs.Rules.{each, family1, family2, family3, family4, families5to7, rules, begins, fits, firstFitting, rewritten}
 use Rattle.rules.specs.Calls.{pastEnd, refusedStep, usedStep, stepBy, step}
 use Rattle.exchange.specs.Fallback.{somePart, fallsBack}
-use Rattle.exchange.specs.Shortening.{shortens}
+use Rattle.exchange.specs.Descents.{isDescent}
 use Rattle.exchange.specs.Allowed.{allows, wrongSet, setRefusal}
 use Rattle.exchange.specs.Split.{lowest, stripped, restInverse, firstWord, secondWord}
 use Rattle.exchange.specs.SplitCalls.{splitOf, parts, splitting}
@@ -179,7 +179,7 @@ unfolding table allDiffer differs numbers ofAnswer ofVerdict ofChoice ofRewrite 
     each family1 family2 family3 family4 families5to7 rules begins fits firstFitting rewritten pastEnd refusedStep usedStep stepBy step
     lowestFrom lowestUse traceWithin trace tooFewPlaces toEndOf tracedBy rewritingToEnd numberOfSteps behindLast ones
     somePart fallsBack fallbackOf fallbackAnswer
-    shortens allows wrongSet setRefusal lowest stripped restInverse firstWord secondWord splitOf parts splitting
+    isDescent allows wrongSet setRefusal lowest stripped restInverse firstWord secondWord splitOf parts splitting
     over between reachable unreachable betweenRefusal betweenWindows
     keep all.each lists all.entries all.windows ofLength distribution sum allNegative longest
     untabled tableRefusal tableOf roomRefusal tabling.tables delayTable

@@ -90,7 +90,7 @@ module _ (k n set : ℕ) (u first second : List ℕ) (a b : ℕ) (x y : List ℕ
   pub second-none-begins : (s : ℕ) (v : List ℕ) → allows set s ≡ true → wrongLetter n (s ∷ v) ≡ false
       → ((z : List ℕ) → wrongLetter n z ≡ false → window (kindOf k) n z ≡ window (kindOf k) n (s ∷ v) → length (s ∷ v) ≤ length z)
       → window (kindOf k) n (s ∷ v) ≡ window (kindOf k) n (take b y) → ⊥
-  second-none-begins s v q letters shortest = split .none-begins s v q (record { steps = letters; least = shortest })
+  second-none-begins s v q letters shortest = split .none-begins s v q (record { steps = letters; none-shorter = shortest })
 
   -- "Both are normal forms"
   pub both-normal : IsNormalForm (kindOf k) n (window (kindOf k) n (take a x)) (take a x)
@@ -118,7 +118,7 @@ module _ (k n set : ℕ) (u first second : List ℕ) (a b : ℕ) (x y : List ℕ
   just-one-pair v w over begins p q joins lengths =
       rw (h .1, h .2) (splitting-only k n set u first second a b (sym (h .0)) v w (record {
         over = over;
-        none-begins = λ s z t m. begins s z t (m .steps) (m .least);
+        none-begins = λ s z t m. begins s z t (m .steps) (m .none-shorter);
         first-normal = p;
         second-normal = q;
         joins = joins;

@@ -22,7 +22,7 @@ use Rattle.coxeter.proofs.Basics.{windowFrom-append, or-false-left, or-false-ri
 use Rattle.coxeter.proofs.LetterLaws.{letter-within-cons}
 use Rattle.coxeter.proofs.Levels.{window-accepted}
 use Rattle.coxeter.proofs.Relations.{wrongLetter-append}
-use Rattle.coxeter.proofs.Descents.{descends, length-of-descends, length-of-ascends}
+use Rattle.coxeter.proofs.Descents.{crossed, length-of-crossed, length-of-uncrossed}
 use Rattle.exchange.specs.OneLetter.{Shortest, dropAt, Removable, added}
 use Rattle.exchange.proofs.Parts.{Part, part-whole, part-trans, part-letters, part-of-dropAt, length-dropAt}
 use Rattle.exchange.proofs.Shortest.{windowLength-le, shortest-of-length}
@@ -77,7 +77,7 @@ deletion-from : (k : Kind) (n : ℕ) (x y : List ℕ) → least k ≤ n → wron
     → windowLength k (window k n (x ++ y)) < length (x ++ y) → TwoLetters k n (x ++ y)
 deletion-from k n x [] h e q g = let f = rw append-nil at g in absurd (omega arith)
 deletion-from k n x (s ∷ y) h e q g =
-    cases (descends k n s (window k n x)) refl
+    cases (crossed k n s (window k n x)) refl
     (λ longer.
     subst (TwoLetters k n) (append-snoc x s y)
     (deletion-from k n (x ++ (s ∷ [])) y h (ap (wrongLetter n) (append-snoc x s y) ∙ e) longer (rw append-snoc g)))
@@ -91,13 +91,13 @@ deletion-from k n x (s ∷ y) h e q g =
     here : (1 ≤ s) × (s ≤ n) × (wrongLetter n y ≡ false)
     here = letter-within-cons n s y (or-false-right (wrongLetter n x) (wrongLetter n (s ∷ y)) letters)
 
-    cases : (t : Bool) → descends k n s (window k n x) ≡ t
+    cases : (t : Bool) → crossed k n s (window k n x) ≡ t
         → (length (x ++ (s ∷ [])) ≡ windowLength k (added k n x s) → TwoLetters k n (x ++ (s ∷ y))) → TwoLetters k n (x ++ (s ∷ y))
     cases true d next =
-        let lower = length-of-descends k n s (window k n x) h (here .0) (here .1) (window-accepted k n x) d in
+        let lower = length-of-crossed k n s (window k n x) h (here .0) (here .1) (window-accepted k n x) d in
         exchange-within k n x s y (exchange k n x s h front (here .0) (here .1) (omega (arith, ap (windowLength k) (window-snoc k n x s))))
     cases false d next =
-        let higher = length-of-ascends k n s (window k n x) h (here .0) (here .1) (window-accepted k n x) d in
+        let higher = length-of-uncrossed k n s (window k n x) h (here .0) (here .1) (window-accepted k n x) d in
         next (length-append x (s ∷ []) ∙ omega (arith, ap (windowLength k) (window-snoc k n x s)))
 
 -- a word longer than its window's length has two letters that can both be removed

@@ -117,7 +117,7 @@ shortest-apart k n u i j s g h e =
     let one = length-dropAt j u h in
     let two = length-dropAt i (dropAt j u) (omega arith) in
     let letters = part-letters n (part-of-dropAt i (dropAt j u)) (part-letters n (part-of-dropAt j u) (s .steps)) in
-    let l = s .least (dropAt i (dropAt j u)) letters (dropAt-dropAt k n (straight (lanes k n)) i j u g h e) in
+    let l = s .none-shorter (dropAt i (dropAt j u)) letters (dropAt-dropAt k n (straight (lanes k n)) i j u g h e) in
     omega arith
 
 -- request 14 of a word and a window, from a letter that can be removed where the window is shorter

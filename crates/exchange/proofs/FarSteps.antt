@@ -13,9 +13,9 @@ use Rattle.coxeter.specs.Windows.{from, exchange, negateFirst, exchangeNegate, 
 use Rattle.coxeter.specs.Length.{later}
 use Rattle.coxeter.proofs.Levels.{Accepted, act-accepted}
 use Rattle.coxeter.proofs.Steps.{act-exchange, act-B-last, act-D-last}
-use Rattle.coxeter.proofs.Descents.{Sort, exchanges, negates, exchangesNegates, sortOf, descends, descends-exchange}
-use Rattle.exchange.specs.Shortening.{shortens}
-use Rattle.exchange.proofs.Shortening.{shortens-descends}
+use Rattle.coxeter.proofs.Descents.{Sort, exchanges, negates, exchangesNegates, sortOf, crossed, crossed-exchange}
+use Rattle.exchange.specs.Descents.{isDescent}
+use Rattle.exchange.proofs.Descents.{descent-crossed}
 use Rattle.exchange.proofs.Stripping.{Ended}
 
 getD-before : (f : List ℤ → List ℤ) (p q : ℕ) (w : List ℤ) → q < p → getD (from p f w) q (pos 0) ≡ getD w q (pos 0)
@@ -45,21 +45,21 @@ below-lanes B n j h = omega arith
 below-lanes D n j h = omega arith
 
 module _ (k : Kind) (n s : ℕ) (w : List ℤ) (h : least k ≤ n) (o : 1 ≤ s) (l : s ≤ n) (a : Accepted k n w) where
-  pub descends-far : (j : ℕ) → 1 ≤ j → Far k n j s → descends k n j (act k n s w) ≡ descends k n j w
-  descends-far zero i g = absurd (omega arith)
-  descends-far (suc j) i g =
+  pub crossed-far : (j : ℕ) → 1 ≤ j → Far k n j s → crossed k n j (act k n s w) ≡ crossed k n j w
+  crossed-far zero i g = absurd (omega arith)
+  crossed-far (suc j) i g =
       let inside = below-lanes k n j (omega (arith, g .0)) in
       let sort = sortOf k n s h o l in
-      descends-exchange k n j (act k n s w) inside
+      crossed-exchange k n j (act k n s w) inside
       ∙ ap₂ later (act-before j w sort (far-below k n j (suc j) s (omega arith) g)) (act-before (suc j) w sort g)
-      ∙ sym (descends-exchange k n j w inside)
+      ∙ sym (crossed-exchange k n j w inside)
 
-  pub shortens-far : (j : ℕ) → 1 ≤ j → Far k n j s → shortens k n j (act k n s w) ≡ shortens k n j w
-  shortens-far j i g =
-      shortens-descends k n j (act k n s w) h i (omega (arith, g .0)) (act-accepted k n s w a)
-      ∙ descends-far j i g
-      ∙ sym (shortens-descends k n j w h i (omega (arith, g .0)) a)
+  pub descent-far : (j : ℕ) → 1 ≤ j → Far k n j s → isDescent k n j (act k n s w) ≡ isDescent k n j w
+  descent-far j i g =
+      descent-crossed k n j (act k n s w) h i (omega (arith, g .0)) (act-accepted k n s w a)
+      ∙ crossed-far j i g
+      ∙ sym (descent-crossed k n j w h i (omega (arith, g .0)) a)
 
   -- where no allowed one of the first t steps makes w shorter, none does after step s
   pub ended-far : (allowed : ℕ → Bool) (t : ℕ) → Far k n t s → Ended allowed k n t 1 w → Ended allowed k n t 1 (act k n s w)
-  ended-far allowed t g e j i m b = shortens-far j i (far-below k n j t s (omega arith) g) ∙ e j i m b
+  ended-far allowed t g e j i m b = descent-far j i (far-below k n j t s (omega arith) g) ∙ e j i m b

@@ -5,7 +5,7 @@ pub mod Shortest
 pub mod Exchange
 pub mod Deletion
 pub mod Places
-pub mod Shortening
+pub mod Descents
 pub mod Lifting
 pub mod Walk
 pub mod Fallbacks

@@ -18,30 +18,30 @@ use Rattle.coxeter.proofs.Basics.{by-pick}
 use Rattle.coxeter.proofs.Levels.{Accepted, act-accepted}
 use Rattle.coxeter.proofs.Steps.{act-involution}
 use Rattle.exchange.specs.OneLetter.{dropAt, added}
-use Rattle.exchange.specs.Shortening.{shortens}
+use Rattle.exchange.specs.Descents.{isDescent}
 use Rattle.exchange.specs.Fallback.{HasPart}
 use Rattle.exchange.proofs.Parts.{Part, none, keep, leave, part-trans, part-append, part-letters, part-of-dropAt, Split, both, part-split}
 use Rattle.exchange.proofs.Exchange.{window-snoc, exchange}
 use Rattle.exchange.proofs.Places.{PartWith, part-of-fallback, fallback-of-part}
-use Rattle.exchange.proofs.Shortening.{length-of-shortens, length-of-lengthens}
+use Rattle.exchange.proofs.Descents.{length-of-descent, length-of-ascent}
 
 -- ---- the target after one letter
 
 -- a letter that makes the target shorter steps it back
-unfoldable pub lowered : Kind → ℕ → ℕ → List ℤ → List ℤ
-lowered k n s w = pick (shortens k n s w) (act k n s w) w
+unfoldable pub descended : Kind → ℕ → ℕ → List ℤ → List ℤ
+descended k n s w = pick (isDescent k n s w) (act k n s w) w
 
-pub lowered-shorter : (k : Kind) (n s : ℕ) (w : List ℤ) → shortens k n s w ≡ true → lowered k n s w ≡ act k n s w
-unfolding lowered
-lowered-shorter k n s w t = rw t
+pub descended-step : (k : Kind) (n s : ℕ) (w : List ℤ) → isDescent k n s w ≡ true → descended k n s w ≡ act k n s w
+unfolding descended
+descended-step k n s w t = rw t
 
-pub lowered-longer : (k : Kind) (n s : ℕ) (w : List ℤ) → shortens k n s w ≡ false → lowered k n s w ≡ w
-unfolding lowered
-lowered-longer k n s w t = rw t
+pub descended-same : (k : Kind) (n s : ℕ) (w : List ℤ) → isDescent k n s w ≡ false → descended k n s w ≡ w
+unfolding descended
+descended-same k n s w t = rw t
 
-pub lowered-accepted : (k : Kind) (n s : ℕ) (w : List ℤ) → Accepted k n w → Accepted k n (lowered k n s w)
-unfolding lowered
-lowered-accepted k n s w a = by-pick (Accepted k n) (shortens k n s w) (act k n s w) w (act-accepted k n s w a) a
+pub descended-accepted : (k : Kind) (n s : ℕ) (w : List ℤ) → Accepted k n w → Accepted k n (descended k n s w)
+unfolding descended
+descended-accepted k n s w a = by-pick (Accepted k n) (isDescent k n s w) (act k n s w) w (act-accepted k n s w a) a
 
 module _ (k : Kind) (n : ℕ) (u : List ℕ) (s : ℕ) (h : least k ≤ n) (e : wrongLetter n u ≡ false) (o : 1 ≤ s) (l : s ≤ n) where
   -- ---- a letter less
@@ -87,31 +87,31 @@ module _ (k : Kind) (n : ℕ) (u : List ℕ) (s : ℕ) (h : least k ≤ n) (e : 
       cases (both q r) g = last q r (ap (window k n) g ∙ p .shows)
 
   -- w is a fallback of u with the step added exactly when w stepped back is one of u
-  pub lifting-shorter : (w : List ℤ) → Accepted k n w → shortens k n s w ≡ true → HasPart k n (u ++ (s ∷ [])) w ↔ HasPart k n u (act k n s w)
+  pub lifting-shorter : (w : List ℤ) → Accepted k n w → isDescent k n s w ≡ true → HasPart k n (u ++ (s ∷ [])) w ↔ HasPart k n u (act k n s w)
   lifting-shorter w a t = (forth, λ f. with-step w (part-of-fallback k n u (act k n s w) f))
     where
       forth : HasPart k n (u ++ (s ∷ [])) w → HasPart k n u (act k n s w)
       forth f = elim (ends w f) [
         | kept p ↦ fallback-of-part k n u (p .word) (act k n s w) (p .part) (p .shows)
-        | left p ↦ stepped-back w (omega (arith, length-of-shortens k n s w h o l a t)) p
+        | left p ↦ stepped-back w (omega (arith, length-of-descent k n s w h o l a t)) p
       ]
 
   -- exactly when w itself is one of u
-  pub lifting-longer : (w : List ℤ) → Accepted k n w → shortens k n s w ≡ false → HasPart k n (u ++ (s ∷ [])) w ↔ HasPart k n u w
+  pub lifting-longer : (w : List ℤ) → Accepted k n w → isDescent k n s w ≡ false → HasPart k n (u ++ (s ∷ [])) w ↔ HasPart k n u w
   lifting-longer w a t = (forth, λ f. without-step w (part-of-fallback k n u w f))
     where
       forth : HasPart k n (u ++ (s ∷ [])) w → HasPart k n u w
       forth f = elim (ends w f) [
         | kept p ↦
             subst (HasPart k n u) (act-involution k n s w)
-            (stepped-back (act k n s w) (rw act-involution (omega (arith, length-of-lengthens k n s w h o l a t))) p)
+            (stepped-back (act k n s w) (rw act-involution (omega (arith, length-of-ascent k n s w h o l a t))) p)
         | left p ↦ fallback-of-part k n u (p .word) w (p .part) (p .shows)
       ]
 
   -- both at once: exactly when the target after the letter s is one of u
-  pub lifting : (w : List ℤ) → Accepted k n w → HasPart k n (u ++ (s ∷ [])) w ↔ HasPart k n u (lowered k n s w)
-  lifting w a = cases (shortens k n s w) refl
+  pub lifting : (w : List ℤ) → Accepted k n w → HasPart k n (u ++ (s ∷ [])) w ↔ HasPart k n u (descended k n s w)
+  lifting w a = cases (isDescent k n s w) refl
     where
-      cases : (t : Bool) → shortens k n s w ≡ t → HasPart k n (u ++ (s ∷ [])) w ↔ HasPart k n u (lowered k n s w)
-      cases true t = rw (lowered-shorter k n s w t) (lifting-shorter w a t)
-      cases false t = rw (lowered-longer k n s w t) (lifting-longer w a t)
+      cases : (t : Bool) → isDescent k n s w ≡ t → HasPart k n (u ++ (s ∷ [])) w ↔ HasPart k n u (descended k n s w)
+      cases true t = rw (descended-step k n s w t) (lifting-shorter w a t)
+      cases false t = rw (descended-same k n s w t) (lifting-longer w a t)

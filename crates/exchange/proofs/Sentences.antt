@@ -43,7 +43,7 @@ module _ (k : Kind) (n : ℕ) (u : List ℕ) (rank : least k ≤ n) (letters : w
   module _ (shortest : (v : List ℕ) → wrongLetter n v ≡ false → window k n v ≡ window k n u → length u ≤ length v)
       (s : ℕ) (low : 1 ≤ s) (high : s ≤ n) where
     is-shortest : Shortest k n u
-    is-shortest = record { steps = letters; least = shortest }
+    is-shortest = record { steps = letters; none-shorter = shortest }
 
     -- "if adding a step at the end .. makes the window's length smaller, .. there is .. one place whose letter can be removed so that the rest has
     -- the window of the word with the step added"
@@ -84,7 +84,7 @@ module _ (k : Kind) (n : ℕ) (u : List ℕ) (rank : least k ≤ n) (letters : w
       ↔ (length u ≡ windowLength k (window k n u))
   shortest-by-length =
       let e = shortest-exactly k n u rank letters in
-      (λ f. e .0 (record { steps = letters; least = f }), λ q. e .1 q .least)
+      (λ f. e .0 (record { steps = letters; none-shorter = f }), λ q. e .1 q .none-shorter)
 
   pub two-to-drop : windowLength k (window k n u) < length u
       → (i j : ℕ) × (i < j) × (j < length u) × (window k n (dropAt i (dropAt j u)) ≡ window k n u)
@@ -109,7 +109,7 @@ pub one-letter-accepted : (k n : ℕ) (u : List ℕ) (s : ℕ) (w : List ℤ) �
     × (windowLength (kindOf k) (window (kindOf k) n u) < windowLength (kindOf k) w
     → (i : ℕ) → i < length u → window (kindOf k) n (dropAt i u) ≡ w → ⊥)
 one-letter-accepted k n u s w r letters shortest low high e =
-    let d = oneLetter-accepted k n u s r (record { steps = letters; least = shortest }) low high in
+    let d = oneLetter-accepted k n u s r (record { steps = letters; none-shorter = shortest }) low high in
     let of : (v : List ℤ) → w ≡ v → OneLetter (kindOf k) n u v → OneLetter (kindOf k) n u w = λ v q. subst (OneLetter (kindOf k) n u) (sym q) in
     exactly-one (kindOf k) n u w (elim e [ inl q ↦ of _ q (d .0) | inr q ↦ of _ q (d .1) ])
 
@@ -260,7 +260,7 @@ module _ (k n : ℕ) (present simpler places : List ℕ) (a : Fallback) (after :
     (shortest : (v : List ℕ) → wrongLetter n v ≡ false → window (kindOf k) n v ≡ window (kindOf k) n z → length z ≤ length v)
     (same : window (kindOf k) n z ≡ window (kindOf k) n present) where
   same-verdict : rankRefusal k n ≡ 0 → FallbackOf (kindOf k) n present simpler ↔ HasPart (kindOf k) n z (window (kindOf k) n simpler)
-  same-verdict r = verdict-same (kindOf k) n (rank-within k n r .0) present simpler z (record { steps = letters; least = shortest }) same
+  same-verdict r = verdict-same (kindOf k) n (rank-within k n r .0) present simpler z (record { steps = letters; none-shorter = shortest }) same
 
   pub no-from-every-shortest : (a ≡ No)
       ↔ ((rankRefusal k n ≡ 0) × (wordRefusal n present ≡ 0) × (wordRefusal n simpler ≡ 0)

@@ -47,13 +47,13 @@ windowLength-le k n u h e =
 pub length-of-shortest : (k : Kind) (n : ℕ) (u : List ℕ) → least k ≤ n → Shortest k n u → length u ≡ windowLength k (window k n u)
 length-of-shortest k n u h s =
     let a = window-accepted k n u in
-    let above = s .least (normalForm k n (window k n u)) (normalForm-letters k n (window k n u) a) (window-normalForm k n (window k n u) a) in
+    let above = s .none-shorter (normalForm k n (window k n u)) (normalForm-letters k n (window k n u) a) (window-normalForm k n (window k n u) a) in
     omega (arith, windowLength-le k n u h (s .steps), length-normalForm k n (window k n u) a)
 
 pub shortest-of-length : (k : Kind) (n : ℕ) (u : List ℕ) → least k ≤ n → wrongLetter n u ≡ false → length u ≤ windowLength k (window k n u)
     → Shortest k n u
 shortest-of-length k n u h e l =
-    record { steps = e; least = λ v f q. omega (arith, windowLength-le k n v h f, ap (windowLength k) q) }
+    record { steps = e; none-shorter = λ v f q. omega (arith, windowLength-le k n v h f, ap (windowLength k) q) }
 
 pub shortest-normalForm : (k : Kind) (n : ℕ) (w : List ℤ) → least k ≤ n → Accepted k n w → Shortest k n (normalForm k n w)
 shortest-normalForm k n w h a =

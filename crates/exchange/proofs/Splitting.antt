@@ -56,9 +56,9 @@ left allowed k n u v w h e o b q = cases (part-split u (r .part)) refl
 -- ---- two splits
 
 -- where u and v lead to the window that x and y lead to, reversed x, then u and v lead to the window of y
-crossed : (k : Kind) (n : ℕ) (u v x y : List ℕ) → window k n (u ++ v) ≡ window k n (x ++ y) → window k n ((reverse x ++ u) ++ v) ≡ window k n y
+reversed-front : (k : Kind) (n : ℕ) (u v x y : List ℕ) → window k n (u ++ v) ≡ window k n (x ++ y) → window k n ((reverse x ++ u) ++ v) ≡ window k n y
 unfolding window
-crossed k n u v x y q =
+reversed-front k n u v x y q =
     ap (window k n) (append-assoc (reverse x) u v)
     ∙ window-append k n (reverse x) (u ++ v)
     ∙ ap (product (window k n (reverse x))) q
@@ -89,7 +89,7 @@ module _ (allowed : ℕ → Bool) (k : Kind) (n : ℕ) (u v x y : List ℕ) (h :
   across a b q =
       let front = letters-append n (reverse x) u (letters-reverse n x (b .steps)) (a .steps) in
       left allowed k n (reverse x ++ u) v (window k n y) h (letters-append n (reverse x ++ u) v front (a .shortest .steps))
-      (over-append allowed (reverse x) u (over-reverse allowed x (b .over)) (a .over)) (b .none-begins) (crossed k n u v x y q)
+      (over-append allowed (reverse x) u (over-reverse allowed x (b .over)) (a .over)) (b .none-begins) (reversed-front k n u v x y q)
 
 -- a shortest word of the window of y is as long as y
 left-length : (k : Kind) (n : ℕ) (v y : List ℕ) → least k ≤ n → Shortest k n y → (l : Left k n v (window k n y)) → length (l .word) ≡ length y

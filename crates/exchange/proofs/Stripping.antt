@@ -26,12 +26,12 @@ use Rattle.coxeter.proofs.Inverses.{inverse-accepted, accepted-between, product
 use Rattle.coxeter.proofs.NormalForms.{window-normalForm, normalForm-letters}
 use Rattle.coxeter.proofs.Lengths.{length-normalForm}
 use Rattle.exchange.specs.OneLetter.{Shortest}
-use Rattle.exchange.specs.Shortening.{shortens}
+use Rattle.exchange.specs.Descents.{isDescent}
 use Rattle.exchange.specs.Allowed.{over, Over}
 use Rattle.exchange.specs.Split.{NoneBegins, IsSplit, lowest, stripped, restInverse, firstWord, secondWord}
 use Rattle.exchange.proofs.Shortest.{letters-reverse, windowLength-le, normalForm-normal, length-of-shortest, windowLength-inverse}
 use Rattle.exchange.proofs.Exchange.{window-snoc}
-use Rattle.exchange.proofs.Shortening.{shortens-of-shorter, not-shortens, length-of-shortens}
+use Rattle.exchange.proofs.Descents.{descent-of-shorter, not-descent, length-of-descent}
 use Rattle.exchange.proofs.Allowed.{over-cons, over-normalForm}
 use Rattle.exchange.proofs.Splitting.{letters-append, split-unique, none-allowed, all-allowed}
 
@@ -43,11 +43,11 @@ module _ (allowed : ℕ → Bool) (k : Kind) (n : ℕ) where
     above : s ≤ j
     below : j < s + t
     is-allowed : allowed j ≡ true
-    shorter : shortens k n j x ≡ true
+    shorter : isDescent k n j x ≡ true
 
   -- no allowed one of the t steps from s on makes x shorter
   abbrev pub Ended : ℕ → ℕ → List ℤ → Type 0
-  Ended t s x = (j : ℕ) → s ≤ j → j < s + t → allowed j ≡ true → shortens k n j x ≡ false
+  Ended t s x = (j : ℕ) → s ≤ j → j < s + t → allowed j ≡ true → isDescent k n j x ≡ false
 
   data Lowest (t s : ℕ) (x : List ℤ) : Option ℕ → Type 0 where
     found : {j : ℕ} → Found t s x j → Lowest t s x (some j)
@@ -56,19 +56,19 @@ module _ (allowed : ℕ → Bool) (k : Kind) (n : ℕ) where
   lowest-is : (t s : ℕ) (x : List ℤ) → Lowest t s x (lowest allowed k n t s x)
   unfolding lowest
   lowest-is zero s x = ended (λ j g l a. absurd (omega arith))
-  lowest-is (suc t) s x = cases (allowed s && shortens k n s x) refl (lowest-is t (suc s) x)
+  lowest-is (suc t) s x = cases (allowed s && isDescent k n s x) refl (lowest-is t (suc s) x)
     where
-      higher : (allowed s ≡ true → shortens k n s x ≡ false) → {o : Option ℕ} → Lowest t (suc s) x o → Lowest (suc t) s x o
+      higher : (allowed s ≡ true → isDescent k n s x ≡ false) → {o : Option ℕ} → Lowest t (suc s) x o → Lowest (suc t) s x o
       higher f (found {j} q) =
           let (l, g) : (s ≤ j) × (j < s + suc t) = (omega (arith, q .above), omega (arith, q .below)) in
           found {j = j} (record { above = l; below = g; is-allowed = q .is-allowed; shorter = q .shorter })
       higher f (ended q) =
           ended (λ j g l a. elim (ℕ-discrete s j) [ yes e ↦ rw (← e) (f (rw e a)) | no e ↦ q j (omega arith) (omega arith) a ])
 
-      cases : (b : Bool) → (allowed s && shortens k n s x) ≡ b → Lowest t (suc s) x (lowest allowed k n t (suc s) x)
+      cases : (b : Bool) → (allowed s && isDescent k n s x) ≡ b → Lowest t (suc s) x (lowest allowed k n t (suc s) x)
           → Lowest (suc t) s x (pick b (some s) (lowest allowed k n t (suc s) x))
       cases true e r =
-          let c = and-eq-true-iff (allowed s) (shortens k n s x) .0 e in
+          let c = and-eq-true-iff (allowed s) (isDescent k n s x) .0 e in
           found {j = s} (record { above = omega arith; below = omega arith; is-allowed = c .0; shorter = c .1 })
       cases false e r = higher (λ a. rw a at e) r
 
@@ -88,7 +88,7 @@ module _ (allowed : ℕ → Bool) (k : Kind) (n : ℕ) where
   strips-nothing x e = record { word = []; steps = refl; over = refl; leads = refl; lowers = omega arith; ended = e }
 
   -- one step more, before the others
-  pub strips-first : (x y : List ℤ) (s : ℕ) → least k ≤ n → Accepted k n x → 1 ≤ s → s ≤ n → allowed s ≡ true → shortens k n s x ≡ true
+  pub strips-first : (x y : List ℤ) (s : ℕ) → least k ≤ n → Accepted k n x → 1 ≤ s → s ≤ n → allowed s ≡ true → isDescent k n s x ≡ true
       → Strips (act k n s x) y → Strips x y
   unfolding windowFrom
   strips-first x y s h a o l is t r =
@@ -97,14 +97,14 @@ module _ (allowed : ℕ → Bool) (k : Kind) (n : ℕ) where
         steps = wrongLetter-cons n s (r .word) o l ∙ r .steps;
         over = over-cons allowed s (r .word) is (r .over);
         leads = r .leads;
-        lowers = omega (arith, length-of-shortens k n s x h o l a t, r .lowers);
+        lowers = omega (arith, length-of-descent k n s x h o l a t, r .lowers);
         ended = r .ended;
       }
 
   -- the definition strips
   stripped-strips : (t : ℕ) (x : List ℤ) → least k ≤ n → Accepted k n x → windowLength k x ≤ t → Strips x (stripped allowed k n t x)
   unfolding stripped
-  stripped-strips zero x h a l = strips-nothing x (λ j g m b. not-shortens k n j x (omega arith))
+  stripped-strips zero x h a l = strips-nothing x (λ j g m b. not-descent k n j x (omega arith))
   stripped-strips (suc t) x h a l = cases (lowest-is n 1 x) (λ s. stripped-strips t (act k n s x) h (act-accepted k n s x a))
     where
       after : ℕ → List ℤ
@@ -115,17 +115,17 @@ module _ (allowed : ℕ → Bool) (k : Kind) (n : ℕ) where
       cases (ended e) r = strips-nothing x e
       cases (found {j} f) r =
           let m : j ≤ n = omega (arith, f .below) in
-          let shorter = length-of-shortens k n j x h (f .above) m a (f .shorter) in
+          let shorter = length-of-descent k n j x h (f .above) m a (f .shorter) in
           strips-first x (after j) j h a (f .above) m (f .is-allowed) (f .shorter) (r j (omega (arith, shorter)))
 
 -- ---- the two words
 
 -- a step that begins a shortest word of a window makes its inverse shorter
-front-shortens : (k : Kind) (n s : ℕ) (u : List ℕ) (x : List ℤ) → least k ≤ n → Accepted k n x → Shortest k n (s ∷ u)
-    → window k n (s ∷ u) ≡ inverse x → shortens k n s x ≡ true
-front-shortens k n s u x h a m q =
+front-descent : (k : Kind) (n s : ℕ) (u : List ℕ) (x : List ℤ) → least k ≤ n → Accepted k n x → Shortest k n (s ∷ u)
+    → window k n (s ∷ u) ≡ inverse x → isDescent k n s x ≡ true
+front-descent k n s u x h a m q =
     let short = windowLength-le k n (reverse u) h (letters-reverse n u (letter-within-cons n s u (m .steps) .2)) in
-    shortens-of-shorter k n s x (rw (back, long) (omega (arith, short, length-reverse u)))
+    descent-of-shorter k n s x (rw (back, long) (omega (arith, short, length-reverse u)))
   where
     turned : x ≡ act k n s (window k n (reverse u))
     turned =
@@ -198,7 +198,7 @@ module _ (allowed : ℕ → Bool) (k : Kind) (n : ℕ) (w x : List ℤ) (h : lea
   none-begins-second : NoneBegins allowed k n (window k n second)
   none-begins-second s u b m q =
       let l = letter-within-cons n s u (m .steps) in
-      let shorter = front-shortens k n s u x h rest-accepted m (q ∙ second-window) in
+      let shorter = front-descent k n s u x h rest-accepted m (q ∙ second-window) in
       true≢false (sym shorter ∙ r .ended s (l .0) (omega (arith, l .1)) b)
 
   pub split-of-strips : IsSplit allowed k n w (normalForm k n (product w x)) (normalForm k n (inverse x))

@@ -20,10 +20,10 @@ use Rattle.coxeter.proofs.Levels.{accepted-of-refusal, window-accepted}
 use Rattle.coxeter.proofs.Theorems.{window-passes}
 use Rattle.coxeter.proofs.Inverses.{window-reverse}
 use Rattle.exchange.specs.OneLetter.{Shortest, added, OneLetter}
-use Rattle.exchange.specs.Shortening.{shortens}
+use Rattle.exchange.specs.Descents.{isDescent}
 use Rattle.exchange.proofs.Shortest.{length-of-shortest, shortest-of-length, windowLength-inverse}
 use Rattle.exchange.proofs.Exchange.{window-snoc, oneLetter, oneLetter-front}
-use Rattle.exchange.proofs.Shortening.{length-of-shortens, length-of-lengthens}
+use Rattle.exchange.proofs.Descents.{length-of-descent, length-of-ascent}
 
 -- ---- one step
 
@@ -35,11 +35,11 @@ module _ (k : Kind) (n s : ℕ) (h : least k ≤ n) (o : 1 ≤ s) (l : s ≤ n) 
   -- a step changes the length of a window by exactly one
   pub length-act : (w : List ℤ) → windowRefusal k n w ≡ 0
       → (windowLength k (act k n s w) ≡ windowLength k w + 1) ⊎ (windowLength k w ≡ windowLength k (act k n s w) + 1)
-  length-act w p = cases (shortens k n s w) refl
+  length-act w p = cases (isDescent k n s w) refl
     where
-      cases : (t : Bool) → shortens k n s w ≡ t → OneApart (windowLength k (act k n s w)) (windowLength k w)
-      cases true t = inr (length-of-shortens k n s w h o l (accepted-of-refusal k n w p) t)
-      cases false t = inl (length-of-lengthens k n s w h o l (accepted-of-refusal k n w p) t)
+      cases : (t : Bool) → isDescent k n s w ≡ t → OneApart (windowLength k (act k n s w)) (windowLength k w)
+      cases true t = inr (length-of-descent k n s w h o l (accepted-of-refusal k n w p) t)
+      cases false t = inl (length-of-ascent k n s w h o l (accepted-of-refusal k n w p) t)
 
   -- adding a step at the end of a word, shortest or not
   pub length-added : (u : List ℕ) → (windowLength k (added k n u s) ≡ windowLength k (window k n u) + 1)

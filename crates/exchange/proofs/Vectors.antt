@@ -19,7 +19,7 @@ use Rattle.exchange.specs.declared.Fallback.the-variants.{Kept, No, Refu
 use Rattle.exchange.specs.declared.Split.{Split}
 use Rattle.exchange.specs.declared.Split.the-variants as split
 use Rattle.exchange.specs.OneLetter.{Shortest, dropAt}
-use Rattle.exchange.specs.Shortening.{shortens}
+use Rattle.exchange.specs.Descents.{isDescent}
 use Rattle.exchange.specs.Fallback.{lettersAt, somePart, fallsBack}
 use Rattle.exchange.specs.Allowed.{allows, wrongSet, setRefusal}
 use Rattle.exchange.specs.Split.{lowest, stripped, restInverse, firstWord, secondWord}
@@ -36,7 +36,7 @@ dropped = (refl, refl, refl)
 -- a step twice is no shortest word
 pub twice-not-shortest : Shortest A 2 (1 ∷ 1 ∷ []) → ⊥
 unfolding wrongLetter window windowFrom straight up act from exchange
-twice-not-shortest s = let l : 2 ≤ 0 = s .least [] refl refl in omega arith
+twice-not-shortest s = let l : 2 ≤ 0 = s .none-shorter [] refl refl in omega arith
 
 -- ---- fallbacks
 
@@ -95,7 +95,7 @@ splits =
     ∷ []
 
 pub splits-agree : Agree splits
-unfolding splits told splitting parts splitOf written firstWord secondWord restInverse stripped lowest shortens allows wrongSet setRefusal kindOf up
+unfolding splits told splitting parts splitOf written firstWord secondWord restInverse stripped lowest isDescent allows wrongSet setRefusal kindOf up
     from exchange negateFirst exchangeNegate act windowFrom straight window at product signed placeFrom inverse
     later negative one laterThan inversions negativeSumPairs negatives crossings total windowLength
     wrongKind wrongRank tooLong wrongLetter tooShort rankRefusal wordRefusal down rise fall block without indexOf restOf normalFrom normalForm

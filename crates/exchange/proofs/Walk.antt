@@ -21,26 +21,26 @@ use Rattle.coxeter.proofs.Levels.{Accepted}
 use Rattle.coxeter.proofs.Steps.{act-involution}
 use Rattle.coxeter.proofs.LetterLaws.{letter-within}
 use Rattle.rules.proofs.ScanRules.{wrongLetter-drop}
-use Rattle.exchange.specs.Shortening.{shortens}
+use Rattle.exchange.specs.Descents.{isDescent}
 use Rattle.exchange.specs.Fallback.{Rising, lettersAt, HasPart, Keeps}
 use Rattle.exchange.proofs.Parts.{Part, none, keep, part-letters}
 use Rattle.exchange.proofs.Shortest.{windowLength-le}
 use Rattle.exchange.proofs.Places.{part-nothing, rising-from, part-of-fallback, fallback-of-part}
-use Rattle.exchange.proofs.Shortening.{length-of-shortens}
-use Rattle.exchange.proofs.Lifting.{lowered, lowered-shorter, lowered-longer, lowered-accepted, lifting}
+use Rattle.exchange.proofs.Descents.{length-of-descent}
+use Rattle.exchange.proofs.Lifting.{descended, descended-step, descended-same, descended-accepted, lifting}
 
 -- ---- the walk
 
 -- what is left of the target w after the first i letters of u, from the last of them to the first
 unfoldable pub leftOver : Kind → ℕ → List ℕ → ℕ → List ℤ → List ℤ
 leftOver k n u zero w = w
-leftOver k n u (suc i) w = leftOver k n u i (lowered k n (getD u i 0) w)
+leftOver k n u (suc i) w = leftOver k n u i (descended k n (getD u i 0) w)
 
 -- the places kept on the way, before the places ps that were kept already
 unfoldable pub placesKept : Kind → ℕ → List ℕ → ℕ → List ℤ → List ℕ → List ℕ
 placesKept k n u zero w ps = ps
 placesKept k n u (suc i) w ps =
-    placesKept k n u i (lowered k n (getD u i 0) w) (pick (shortens k n (getD u i 0) w) (i ∷ ps) ps)
+    placesKept k n u i (descended k n (getD u i 0) w) (pick (isDescent k n (getD u i 0) w) (i ∷ ps) ps)
 
 -- the places, counted from i, of the letters of u that are not 0: a letter that is not kept is made 0
 unfoldable pub marked : ℕ → List ℕ → List ℕ
@@ -78,7 +78,7 @@ module _ (k : Kind) (n : ℕ) (u : List ℕ) (h : least k ≤ n) (e : wrongLette
       let front = part-letters n (part-take i u) e in
       rw (take-suc u i 0 l)
       (Iff·trans (lifting k n (take i u) s h front (letter i l .0) (letter i l .1) w a)
-      (walk-exactly i (lowered k n s w) (omega arith) (lowered-accepted k n s w a)))
+      (walk-exactly i (descended k n s w) (omega arith) (descended-accepted k n s w a)))
 
   -- ---- the places
 
@@ -86,7 +86,7 @@ module _ (k : Kind) (n : ℕ) (u : List ℕ) (h : least k ≤ n) (e : wrongLette
   kept-rising : (i : ℕ) (w : List ℤ) (ps : List ℕ) → i ≤ length u → Rising (length u) i ps → Rising (length u) 0 (placesKept k n u i w ps)
   unfolding placesKept
   kept-rising zero w ps l r = r
-  kept-rising (suc i) w ps l r = kept-rising i (lowered k n (getD u i 0) w) _ (omega arith) (cases (shortens k n (getD u i 0) w))
+  kept-rising (suc i) w ps l r = kept-rising i (descended k n (getD u i 0) w) _ (omega arith) (cases (isDescent k n (getD u i 0) w))
     where
       cases : (t : Bool) → Rising (length u) i (pick t (i ∷ ps) ps)
       cases true = (omega arith, l, r)
@@ -95,9 +95,9 @@ module _ (k : Kind) (n : ℕ) (u : List ℕ) (h : least k ≤ n) (e : wrongLette
   -- their letters lead from what is left of the target to the target
   kept-leads : (i : ℕ) (w : List ℤ) (ps : List ℕ)
       → windowFrom k n (leftOver k n u i w) (lettersAt u (placesKept k n u i w ps)) ≡ windowFrom k n w (lettersAt u ps)
-  unfolding leftOver placesKept lettersAt windowFrom lowered
+  unfolding leftOver placesKept lettersAt windowFrom descended
   kept-leads zero w ps = refl
-  kept-leads (suc i) w ps = kept-leads i _ _ ∙ cases (shortens k n (getD u i 0) w)
+  kept-leads (suc i) w ps = kept-leads i _ _ ∙ cases (isDescent k n (getD u i 0) w)
     where
       cases : (t : Bool)
           → windowFrom k n (pick t (act k n (getD u i 0) w) w) (lettersAt u (pick t (i ∷ ps) ps)) ≡ windowFrom k n w (lettersAt u ps)
@@ -110,16 +110,16 @@ module _ (k : Kind) (n : ℕ) (u : List ℕ) (h : least k ≤ n) (e : wrongLette
   unfolding leftOver placesKept
   kept-count zero w ps l a = refl
   kept-count (suc i) w ps l a =
-      kept-count i (lowered k n (getD u i 0) w) (pick (shortens k n (getD u i 0) w) (i ∷ ps) ps) (omega arith)
-      (lowered-accepted k n (getD u i 0) w a)
-      ∙ cases (shortens k n (getD u i 0) w) refl
+      kept-count i (descended k n (getD u i 0) w) (pick (isDescent k n (getD u i 0) w) (i ∷ ps) ps) (omega arith)
+      (descended-accepted k n (getD u i 0) w a)
+      ∙ cases (isDescent k n (getD u i 0) w) refl
     where
-      cases : (t : Bool) → shortens k n (getD u i 0) w ≡ t
-          → length (pick t (i ∷ ps) ps) + windowLength k (lowered k n (getD u i 0) w) ≡ length ps + windowLength k w
+      cases : (t : Bool) → isDescent k n (getD u i 0) w ≡ t
+          → length (pick t (i ∷ ps) ps) + windowLength k (descended k n (getD u i 0) w) ≡ length ps + windowLength k w
       cases true t =
-          rw (lowered-shorter k n (getD u i 0) w t)
-          (omega (arith, length-of-shortens k n (getD u i 0) w h (letter i l .0) (letter i l .1) a t))
-      cases false t = rw (lowered-longer k n (getD u i 0) w t)
+          rw (descended-step k n (getD u i 0) w t)
+          (omega (arith, length-of-descent k n (getD u i 0) w h (letter i l .0) (letter i l .1) a t))
+      cases false t = rw (descended-same k n (getD u i 0) w t)
 
   -- ---- the verdict
 

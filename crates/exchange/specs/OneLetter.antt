@@ -14,7 +14,7 @@ use Rattle.coxeter.specs.Checks.{wrongLetter}
 -- a shortest word: of all words of steps with its window, of any length, none is shorter
 pub record Shortest (k : Kind) (n : ℕ) (u : List ℕ) : Type 0 where
   pub steps : wrongLetter n u ≡ false
-  pub least : (v : List ℕ) → wrongLetter n v ≡ false → window k n v ≡ window k n u → length u ≤ length v
+  pub none-shorter : (v : List ℕ) → wrongLetter n v ≡ false → window k n v ≡ window k n u → length u ≤ length v
 
 -- u without the letter at place i; places count from 0
 unfoldable pub dropAt : ℕ → List ℕ → List ℕ

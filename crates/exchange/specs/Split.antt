@@ -12,7 +12,7 @@ use Rattle.coxeter.specs.Windows.{act, window, product, inverse}
 use Rattle.coxeter.specs.Length.{windowLength}
 use Rattle.coxeter.specs.NormalForm.{normalForm, IsNormalForm}
 use Rattle.exchange.specs.OneLetter.{Shortest}
-use Rattle.exchange.specs.Shortening.{shortens}
+use Rattle.exchange.specs.Descents.{isDescent}
 use Rattle.exchange.specs.Allowed.{Over}
 
 -- the window w "has no shortest word beginning with an allowed step": none of all words, of any length
@@ -36,7 +36,7 @@ pub record IsSplit (allowed : ℕ → Bool) (k : Kind) (n : ℕ) (w : List ℤ) 
 -- the lowest of the t steps from s on that is allowed and makes the window x shorter
 unfoldable pub lowest : (ℕ → Bool) → Kind → ℕ → ℕ → ℕ → List ℤ → Option ℕ
 lowest allowed k n zero s x = none
-lowest allowed k n (suc t) s x = pick (allowed s && shortens k n s x) (some s) (lowest allowed k n t (suc s) x)
+lowest allowed k n (suc t) s x = pick (allowed s && isDescent k n s x) (some s) (lowest allowed k n t (suc s) x)
 
 -- x after the lowest allowed step that makes it shorter, again and again, at most t times
 unfoldable pub stripped : (ℕ → Bool) → Kind → ℕ → ℕ → List ℤ → List ℤ

@@ -13,7 +13,7 @@ use Rattle.coxeter.specs.NormalForm.{block, lastIndex}
 use Rattle.coxeter.proofs.Runs.{span, span-cut, span-snoc, slide, slide-snoc, Corner, block-up, block-turn, slide-one, corner-le}
 use Rattle.rules.proofs.Families.{RuleOf, square, exchange, carry, turn, five, six, seven, IsD}
 use Rattle.rules.proofs.Rewriting.{Rewrites, within}
-use Rattle.rules.proofs.NextLetter.{Last, rising, falling, Next, climbs, tops, descends, repeats}
+use Rattle.rules.proofs.NextLetter.{Last, rising, falling, Next, climbs, tops, falls, repeats}
 use Rattle.rules.proofs.NextLetter.{exchanges, carries, turns, fives, sixes, sevens, le-corner, corner-D}
 use Rattle.rules.proofs.NextLetter.{le-lastIndex, le-lastIndex-of, level-le-last, lastIndex-le, next-rising, next-falling}
 use Rattle.rules.proofs.Letters.{slide-three}
@@ -78,9 +78,9 @@ block-top k n c i j e o h q =
     ∙ ap (λ (w : List ℕ). span i c ++ w) (slide-one (suc n) n (omega arith))
     ∙ ap (λ (w : List ℕ). w ++ (n ∷ [])) (sym (block-up k n i j (omega (arith, corner-le k n c e)) ∙ ap (span i) q))
 
-pub block-descend : (k : Kind) (n c i j x : ℕ) → Corner k n c → 1 ≤ i → i ≤ c → n ≤ j → suc j ≤ lastIndex k n i → suc (x + j) ≡ 2 * n
+pub block-fall : (k : Kind) (n c i j x : ℕ) → Corner k n c → 1 ≤ i → i ≤ c → n ≤ j → suc j ≤ lastIndex k n i → suc (x + j) ≡ 2 * n
     → block k n i (suc j) ≡ block k n i j ++ (x ∷ [])
-block-descend k n c i j x e o h q t r =
+block-fall k n c i j x e o h q t r =
     block-turn-snoc k n c i (suc j) x e o h (omega arith) t (omega arith)
     ∙ ap (λ (w : List ℕ). w ++ (x ∷ [])) (sym (block-turn k n i j c (suc x) e h q (omega arith) (omega arith) o))
 
@@ -126,8 +126,8 @@ extended-next k n c i j x e o h g m a b (tops q r) =
       le-lastIndex k n i n (omega arith) (omega arith),
       rw r (sym (block-top k n c i j e o h q)),
     )
-extended-next k n c i j x e o h g m a b (descends q r t) =
-    inl (suc j, omega arith, t, sym (block-descend k n c i j x e o h q t r))
+extended-next k n c i j x e o h g m a b (falls q r t) =
+    inl (suc j, omega arith, t, sym (block-fall k n c i j x e o h q t r))
 extended-next k n c i j x e o h g m a b (repeats t) =
     let z = block-last k n c i j x e o h m t in
     inr (reducible-end (z .0) (x ∷ []) x (z .1) (square (omega arith) b))

@@ -24,7 +24,7 @@ pub data Last (n i j : ℕ) : ℕ → Type 0 where
 pub data Next (k : Kind) (n c i j x : ℕ) : Type 0 where
   climbs : x ≡ suc j → x < n → Next k n c i j x
   tops : suc j ≡ c → x ≡ n → Next k n c i j x
-  descends : n ≤ j → suc (x + j) ≡ 2 * n → suc j ≤ lastIndex k n i → Next k n c i j x
+  falls : n ≤ j → suc (x + j) ≡ 2 * n → suc j ≤ lastIndex k n i → Next k n c i j x
   repeats : Last n i j x → Next k n c i j x
   exchanges : {l : ℕ} → Last n i j l → Exchanges k n l x → Next k n c i j x
   carries : x < j → x < n → j ≤ lastIndex k n x → Carries k n x j → Next k n c i j x
@@ -122,7 +122,7 @@ next-lower A n c i j d x h g e o m t = carries (omega arith) (omega arith) g g
 next-lower B n c i j d x h g e o m t =
     elim (compared (suc x) d) [
       | less q ↦ carries (omega arith) (omega arith) (omega arith) (omega arith)
-      | same q ↦ descends h (omega arith) (omega arith)
+      | same q ↦ falls h (omega arith) (omega arith)
       | more q ↦ absurd (omega arith)
     ]
 next-lower D n c i j d x h g e o m t =
@@ -133,7 +133,7 @@ next-lower D n c i j d x h g e o m t =
             | same r ↦ fives tt (omega arith) r
             | more r ↦ absurd (omega arith)
           ]
-      | same q ↦ descends h (omega arith) (omega arith)
+      | same q ↦ falls h (omega arith) (omega arith)
       | more q ↦ absurd (omega arith)
     ]
 

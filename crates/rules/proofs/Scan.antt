@@ -20,7 +20,7 @@ use Rattle.coxeter.specs.NormalForm.{block, levels, lastIndex}
 use Rattle.coxeter.proofs.Runs.{corner-le}
 use Rattle.rules.specs.Rules.{Rule, rule}
 use Rattle.rules.proofs.NextLetter.{le-corner, corner-levels, le-lastIndex, lastIndex-le}
-use Rattle.rules.proofs.Extending.{block-climb, block-top, block-descend}
+use Rattle.rules.proofs.Extending.{block-climb, block-top, block-fall}
 use Rattle.rules.proofs.Letters.{block-one}
 
 -- ---- the search
@@ -100,7 +100,7 @@ pub record Leaving (n c m j x : ℕ) : Type 0 where
 pub data Going (n c m j x : ℕ) : ℕ → Type 0 where
   climbs : x ≡ suc j → x < n → Going n c m j x x
   tops : suc j ≡ c → j < n → x ≡ n → Going n c m j x n
-  descends : n ≤ j → j < m → suc (x + j) ≡ 2 * n → Going n c m j x (suc j)
+  falls : n ≤ j → j < m → suc (x + j) ≡ 2 * n → Going n c m j x (suc j)
   leaves : Leaving n c m j x → Going n c m j x 0
 
 nextIndex-climb : (n c m j x : ℕ) → x ≡ suc j → x < n → nextIndex n c m j x ≡ x
@@ -111,9 +111,9 @@ nextIndex-top : (n c m j x : ℕ) → suc j ≡ c → j < n → x ≡ n → next
 unfolding nextIndex
 nextIndex-top n c m j x e h g = rw (lt-ltb j n h, eq-eqb x n g, eq-eqb (j + 1) c (omega arith))
 
-nextIndex-descend : (n c m j x : ℕ) → n ≤ j → j < m → suc (x + j) ≡ 2 * n → nextIndex n c m j x ≡ suc j
+nextIndex-fall : (n c m j x : ℕ) → n ≤ j → j < m → suc (x + j) ≡ 2 * n → nextIndex n c m j x ≡ suc j
 unfolding nextIndex
-nextIndex-descend n c m j x h g e = rw (le-ltb j n h, lt-ltb j m g, eq-eqb (x + j + 1) (2 * n) (omega arith)) (add-one j)
+nextIndex-fall n c m j x h g e = rw (le-ltb j n h, lt-ltb j m g, eq-eqb (x + j + 1) (2 * n) (omega arith)) (add-one j)
 
 pub nextIndex-leave : (n c m j x : ℕ) → x ≤ n → Leaving n c m j x → nextIndex n c m j x ≡ 0
 unfolding nextIndex
@@ -162,7 +162,7 @@ going n c m j x l = elim (decLe n j) [ yes h ↦ falling h | no h ↦ rising (lt
           | no g ↦
               let t : j < m = lt-of-not-le g in
               elim (ℕ-discrete (suc (x + j)) (2 * n)) [
-                | yes q ↦ rw (nextIndex-descend n c m j x h t q) (descends h t q)
+                | yes q ↦ rw (nextIndex-fall n c m j x h t q) (falls h t q)
                 | no q ↦ left (record { not-up = λ a. omega arith; not-top = λ a. omega arith; not-down = λ a b. q })
               ]
         ]
@@ -191,7 +191,7 @@ along-next k n i j x h (start o l e) (tops q r t) z = (
   further o (omega arith) (omega arith) (le-lastIndex k n i n l (omega arith)),
   rw t (block-top k n (levels k n) i j (corner-levels k n h) o (omega arith) q),
 )
-along-next k n i j x h (start o l e) (descends q r t) z =
+along-next k n i j x h (start o l e) (falls q r t) z =
     absurd (omega (arith, lastIndex-top k n i (omega arith)))
 along-next k n i j x h (further o l g f) (climbs q r) z =
     (further o l (omega arith) (le-lastIndex k n i x (omega arith) (omega arith)), block-climb k n i j x (omega arith) q r)
@@ -199,8 +199,8 @@ along-next k n i j x h (further o l g f) (tops q r t) z = (
   further o l (omega arith) (le-lastIndex k n i n (omega arith) (omega arith)),
   rw t (block-top k n (levels k n) i j (corner-levels k n h) o (omega arith) q),
 )
-along-next k n i j x h (further o l g f) (descends q r t) z =
-    (further o l (omega arith) r, block-descend k n (levels k n) i j x (corner-levels k n h) o (omega arith) q r t)
+along-next k n i j x h (further o l g f) (falls q r t) z =
+    (further o l (omega arith) r, block-fall k n (levels k n) i j x (corner-levels k n h) o (omega arith) q r t)
 along-next k n i j x h a (leaves w) z = absurd (z refl)
 
 pub walk-next : (k : Kind) (n i j x : ℕ) {s : ℕ} (v : List ℕ) → nextIndex n (levels k n) (lastIndex k n i) j x ≡ s → (s ≡ 0 → ⊥)
@@ -244,8 +244,8 @@ scan-down k n i (suc t) j h o l e g =
     let q : j ≡ suc (n + t) = omega arith in
     let f : suc (x + (n + t)) ≡ 2 * n = omega (arith, lastIndex-le k n i) in
     scan-longer k n i (n + t) x j (scan-down k n i t (n + t) h o l refl (omega arith))
-    (ap (block k n i) q ∙ block-descend k n (levels k n) i (n + t) x (corner-levels k n h) o (omega arith) (omega arith) (omega arith) f)
-    (nextIndex-descend n (levels k n) (lastIndex k n i) (n + t) x (omega arith) (omega arith) f ∙ sym q)
+    (ap (block k n i) q ∙ block-fall k n (levels k n) i (n + t) x (corner-levels k n h) o (omega arith) (omega arith) (omega arith) f)
+    (nextIndex-fall n (levels k n) (lastIndex k n i) (n + t) x (omega arith) (omega arith) f ∙ sym q)
     (omega arith)
 
 -- the search follows a block to its end

@@ -27,7 +27,7 @@ use Rattle.rules.proofs.ScanFamilies.{familyAt-inside, familyAt-turn, f
 use Rattle.rules.proofs.ScanFamilies.{ruleAt-square, ruleAt-exchange, ruleAt-carry, ruleAt-turn, ruleAt-five}
 use Rattle.rules.proofs.ScanFamilies.{ruleAt-six, ruleAt-seven, left-of, scan-left}
 use Rattle.rules.proofs.Scan.{fork, familyAt, ruleAt, found, walk, scan, nextIndex, Leaving, Going}
-use Rattle.rules.proofs.Scan.{climbs, tops, descends, leaves, going, Along, start, further, along-next}
+use Rattle.rules.proofs.Scan.{climbs, tops, falls, leaves, going, Along, start, further, along-next}
 use Rattle.rules.proofs.Letters.{exchanges-below, block-one}
 use Rattle.coxeter.proofs.Order.{less, same, more, compared}
 use Rattle.coxeter.proofs.LetterLaws.{letter-within-cons}
@@ -134,7 +134,7 @@ Begins k n v r = Listed k n r × ((y : List ℕ) × (v ≡ r .left ++ y))
 leaving-of : {n c m j x s : ℕ} → Going n c m j x s → s ≡ 0 → Leaving n c m j x
 leaving-of (climbs q r) z = absurd (omega arith)
 leaving-of (tops q r t) z = absurd (omega arith)
-leaving-of (descends q r t) z = absurd (omega arith)
+leaving-of (falls q r t) z = absurd (omega arith)
 leaving-of (leaves w) z = w
 
 found-some : (k : Kind) (n i j x f : ℕ) (r : Rule) → found k n i j x f ≡ some r → (f ≡ 0 → ⊥) × (r ≡ ruleAt k n i j x f)

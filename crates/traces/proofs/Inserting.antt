@@ -21,7 +21,7 @@ use Rattle.coxeter.proofs.LetterLaws.{letter-within-cons}
 use Rattle.coxeter.proofs.Levels.{window-accepted}
 use Rattle.coxeter.proofs.Relations.{wrongLetter-cons}
 use Rattle.coxeter.proofs.Order.{same}
-use Rattle.coxeter.proofs.Descents.{descends, length-of-descends, length-of-ascends}
+use Rattle.coxeter.proofs.Descents.{crossed, length-of-crossed, length-of-uncrossed}
 use Rattle.exchange.specs.OneLetter.{dropAt, Removable, added}
 use Rattle.exchange.proofs.Parts.{length-dropAt, part-of-dropAt, part-letters}
 use Rattle.exchange.proofs.Shortest.{letters-snoc, windowLength-le, length-of-shortest}
@@ -66,7 +66,7 @@ module _ (k : Kind) (n : ℕ) (h : least k ≤ n) where
 
       shorter : (v : List ℕ) → Normal k n v → window k n v ≡ window k n (a ++ b) → length v < length (a ++ b) → ⊥
       shorter v q e g =
-          let t = normal-shortest k n h (a ++ (x ∷ b)) m .least (v ++ (s ∷ [])) (letters-snoc n v s (q .letters) o l) (back v e) in
+          let t = normal-shortest k n h (a ++ (x ∷ b)) m .none-shorter (v ++ (s ∷ [])) (letters-snoc n v s (q .letters) o l) (back v e) in
           omega (arith, simp length-append at t, simp length-append at g)
 
       earlier : (v : List ℕ) → Normal k n v → window k n v ≡ window k n (a ++ b) → length v ≡ length (a ++ b) → Earlier v (a ++ b) → ⊥
@@ -169,7 +169,7 @@ module _ (k : Kind) (n : ℕ) (h : least k ≤ n) where
       (above : Below x b) (o : 1 ≤ s) (l : s ≤ n) (w : window k n (a ++ (x ∷ b)) ≡ window k n ((a ++ b) ++ (s ∷ []))) where
     -- if the step made the window shorter, a letter of a b could be struck out: none of a, since a x is shortest, and none of b
     shorter : (v : List ℕ) → Normal k n v → window k n v ≡ window k n (a ++ (x ∷ b)) → length v < length (a ++ (x ∷ b)) → ⊥
-    shorter v q e g = cases (descends k n s (window k n (a ++ b))) refl
+    shorter v q e g = cases (crossed k n s (window k n (a ++ b))) refl
       where
         u : List ℕ
         u = a ++ b
@@ -181,7 +181,7 @@ module _ (k : Kind) (n : ℕ) (h : least k ≤ n) where
             in-a c =
                 let d = cancel-back k n (dropAt i a) (a ++ (x ∷ [])) b
                 (ap (window k n) (sym (dropAt-append i a b c)) ∙ t .1 ∙ sym w ∙ ap (window k n) (sym (append-snoc a x b))) in
-                let y = normal-shortest k n h (a ++ (x ∷ [])) p .least (dropAt i a)
+                let y = normal-shortest k n h (a ++ (x ∷ [])) p .none-shorter (dropAt i a)
                 (part-letters n (part-of-dropAt i a) (letters-left n a b (m .letters))) d in
                 omega (arith, length-append a (x ∷ []), length-dropAt i a c)
 
@@ -201,12 +201,12 @@ module _ (k : Kind) (n : ℕ) (h : least k ≤ n) where
         short : windowLength k (added k n u s) ≤ length v
         short = omega (arith, ap (windowLength k) (sym w ∙ sym e), windowLength-le k n v h (q .letters))
 
-        cases : (t : Bool) → descends k n s (window k n u) ≡ t → ⊥
+        cases : (t : Bool) → crossed k n s (window k n u) ≡ t → ⊥
         cases true d =
-            let y = length-of-descends k n s (window k n u) h o l (window-accepted k n u) d in
+            let y = length-of-crossed k n s (window k n u) h o l (window-accepted k n u) d in
             struck (exchange k n u s h (m .letters) o l (omega (arith, ap (windowLength k) (window-snoc k n u s))))
         cases false d =
-            let y = length-of-ascends k n s (window k n u) h o l (window-accepted k n u) d in
+            let y = length-of-uncrossed k n s (window k n u) h o l (window-accepted k n u) d in
             omega (arith, ap (windowLength k) (window-snoc k n u s), long, short, length-append a (x ∷ b), length-append a b)
 
     -- a difference in a x: from there on, q b and q x are normal forms that begin with lower letters than v

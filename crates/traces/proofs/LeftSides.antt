@@ -21,7 +21,7 @@ use Rattle.coxeter.specs.NormalForm.{block, levels, lastIndex}
 use Rattle.coxeter.proofs.Runs.{span-one, corner-le}
 use Rattle.rules.specs.Rules.{Rule, rules, fits, Irreducible}
 use Rattle.rules.proofs.NextLetter.{corner-levels, le-lastIndex}
-use Rattle.rules.proofs.Extending.{block-cut, block-climb, block-top, block-descend}
+use Rattle.rules.proofs.Extending.{block-cut, block-climb, block-top, block-fall}
 use Rattle.rules.proofs.Letters.{block-one}
 use Rattle.rules.proofs.Fits.{fits-split, fits-past, left-nonempty}
 use Rattle.rules.proofs.RuleList.{rule-of-list, listed-of-mem}
@@ -239,7 +239,7 @@ shape-of-ends k n r h e =
             let s : j ≡ suc p = omega arith in
             let w = block-two k n i x h o g (after t) in
             let d : block k n i j ≡ block k n i p ++ (i ∷ []) =
-            ap (block k n i) s ∙ block-descend k n (levels k n) i p i (corner-levels k n h) o (omega arith) (omega arith) (omega arith) (omega arith) in
+            ap (block k n i) s ∙ block-fall k n (levels k n) i p i (corner-levels k n h) o (omega arith) (omega arith) (omega arith) (omega arith) in
             let v : block k n i j ++ (x ∷ []) ≡ i ∷ (block k n (suc i) p ++ (i ∷ x ∷ [])) =
             rw (d, cut p (omega arith) (b .1)) (simp append-assoc) in
             let c = corner-le k n (levels k n) (corner-levels k n h) in

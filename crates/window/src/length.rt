@@ -1,4 +1,4 @@
-// The length of a window, by one comparison of sizes for each pair of its entries, and the length by sort, in one pass over the entries.
+// The length of a window, by one comparison of sizes for each pair of its entries, and its three counts, in one pass over the entries.
 use coxeter::Counted;
 use refusals::is_negative;
 use refusals::size;
@@ -33,7 +33,7 @@ fn set_sizes(w: &[i8], out: &mut [u8])
 }
 
 // How many of the sizes are smaller than `own`. The number fits a byte, so that many of them are compared at a time.
-fn smaller(own: u8, rest: &[u8]) -> usize
+fn count_smaller(own: u8, rest: &[u8]) -> usize
     requires { ⌜ length (now rest) ≤ 64 ⌝ }
     ensures { λ r. ⌜ (r ≤ length (now (rest .entry))) × (r ≡ laterThan (pos own) (map pos (now (rest .entry)))) ⌝ }
 {
@@ -55,7 +55,7 @@ fn pairs_behind(minus: bool, own: u8, rest: &[u8]) -> usize
     ensures { λ r. ⌜ r ≡ pick minus (2 * length (now (rest .entry)) - laterThan (pos own) (map pos (now (rest .entry))))
         (laterThan (pos own) (map pos (now (rest .entry)))) ⌝ }
 {
-    let less = smaller(own, rest);
+    let less = count_smaller(own, rest);
     if minus {
         return 2 * rest.len() - less;
     }
@@ -108,7 +108,7 @@ fn negative_entries(w: &[i8]) -> usize
 // What a length is made of: the pairs of both sorts, the negative sum pairs among them, and the negative entries.
 struct Parts {
     pairs: usize,
-    against: usize,
+    negative_sum_pairs: usize,
     negatives: usize,
 }
 
@@ -139,12 +139,12 @@ fn parts_of(w: &[i8]) -> Parts
     requires { ⌜ length (now w) ≤ 64 ⌝ }
     requires { ⌜ windowRefusal B (length (now w)) (now w) ≡ 0 ⌝ }
     ensures { λ r. ⌜ (r .pairs ≡ inversions (now (w .entry)) + negativeSumPairs (now (w .entry)))
-        × (r .against ≡ negativeSumPairs (now (w .entry))) × (r .negatives ≡ negatives (now (w .entry))) ⌝ }
+        × (r .«negative_sum_pairs» ≡ negativeSumPairs (now (w .entry))) × (r .negatives ≡ negatives (now (w .entry))) ⌝ }
 {
     let m = w.len();
     let mut behind: u64 = 0;
     let mut pairs = (m * m - m) / 2;
-    let mut against: usize = 0;
+    let mut negative_sum_pairs: usize = 0;
     let mut negatives: usize = 0;
     let mut i = m;
     while 0 < i {
@@ -155,7 +155,7 @@ fn parts_of(w: &[i8]) -> Parts
         behind = with_size(behind, s);
         if is_negative(e) {
             pairs += larger;
-            against += m - s as usize;
+            negative_sum_pairs += m - s as usize;
             negatives += 1;
         } else {
             pairs -= larger;
@@ -163,29 +163,29 @@ fn parts_of(w: &[i8]) -> Parts
     }
     Parts {
         pairs: pairs,
-        against: against,
+        negative_sum_pairs: negative_sum_pairs,
         negatives: negatives,
     }
 }
 
-// The length of an accepted window by sort. In kind A no entry is negative, so that all pairs are inversions.
+// The length of an accepted window as its three counts. In kind A no entry is negative, so that all pairs are inversions.
 pub(crate) fn crossings_of(kind: u8, n: usize, w: &[i8]) -> Counted
     requires { ⌜ lanes (kindOf kind) n ≤ 64 ⌝ }
     requires { ⌜ windowRefusal (kindOf kind) n (now w) ≡ 0 ⌝ }
     ensures { λ r. ⌜ r ≡ countedOf 0 (crossings (kindOf kind) (now (w .entry))) ⌝ }
 {
     let parts = parts_of(w);
-    let inversions = parts.pairs - parts.against;
+    let inversions = parts.pairs - parts.negative_sum_pairs;
     if kind == 2 {
         return Counted::Crossings {
             inversions: inversions,
-            negative_sum_pairs: parts.against,
+            negative_sum_pairs: parts.negative_sum_pairs,
             negatives: parts.negatives,
         };
     }
     Counted::Crossings {
         inversions: inversions,
-        negative_sum_pairs: parts.against,
+        negative_sum_pairs: parts.negative_sum_pairs,
         negatives: 0,
     }
 }
@@ -214,7 +214,7 @@ pub(crate) fn length_of_front(kind: u8, rank: u8, work: &[i8]) -> usize
     length_of(kind, rank as usize, &work[..m])
 }
 
-// The length by sort of the accepted window at the front of `work`.
+// The three counts of the length of the accepted window at the front of `work`.
 pub(crate) fn crossings_of_front(kind: u8, rank: u8, work: &[i8]) -> Counted
     requires { ⌜ rankRefusal kind rank ≡ 0 ⌝ }
     requires { ⌜ lanes (kindOf kind) rank ≤ length (now work) ⌝ }

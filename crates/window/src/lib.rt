@@ -170,8 +170,8 @@ pub fn length_of_word(kind: u8, rank: u8, word: &[u8]) -> Answer
     Answer::Length(length_of_shown(kind, rank, word))
 }
 
-// Answers the length of a window's normal form by sort: inversions, negative sum pairs and negative entries, as the kind counts them. Nothing is
-// written. Refuses with 5 or 6, then 9 to 11.
+// Answers the length of a window's normal form as its three counts: inversions, negative sum pairs and negative entries, as the kind counts
+// them. Nothing is written. Refuses with 5 or 6, then 9 to 11.
 pub fn crossings_of_window(kind: u8, rank: u8, w: &[i8]) -> Counted
     ensures { λ r. ⌜ r ≡ crossingsOfWindow kind rank (now (w .entry)) ⌝ }
 {
@@ -183,7 +183,7 @@ pub fn crossings_of_window(kind: u8, rank: u8, w: &[i8]) -> Counted
     crossings_of(kind, n, w)
 }
 
-// Answers the length of a word's normal form by sort. Refuses with 5 or 6, then 7 or 8.
+// Answers the length of a word's normal form as its three counts. Refuses with 5 or 6, then 7 or 8.
 pub fn crossings_of_word(kind: u8, rank: u8, word: &[u8]) -> Counted
     ensures { λ r. ⌜ r ≡ crossingsOfWord kind rank (now (word .entry)) ⌝ }
 {

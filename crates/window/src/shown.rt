@@ -103,7 +103,7 @@ pub(crate) fn length_of_shown(kind: u8, rank: u8, word: &[u8]) -> usize
     length_of_front(kind, rank, &work)
 }
 
-// The length of an accepted word's window by sort.
+// The length of an accepted word's window as its three counts.
 pub(crate) fn crossings_of_shown(kind: u8, rank: u8, word: &[u8]) -> Counted
     requires { ⌜ rankRefusal kind rank ≡ 0 ⌝ }
     requires { ⌜ wordRefusal rank (now word) ≡ 0 ⌝ }

@@ -69,25 +69,25 @@ all-written i w l h e t = sym (take-all i w h) ∙ t ∙ take-all i l (omega ari
 
 -- ---- the last entry
 
-turned-last : (j m : ℕ) → set (map negsuc (up j (suc m))) m (pos (suc (j + m))) ≡ from m negateFirst (map negsuc (up j (suc m)))
+negated-last : (j m : ℕ) → set (map negsuc (up j (suc m))) m (pos (suc (j + m))) ≡ from m negateFirst (map negsuc (up j (suc m)))
 unfolding up from negateFirst
-turned-last j zero = ap (λ (x : ℕ). pos (suc x) ∷ []) (add-zero j)
-turned-last j (suc m) =
+negated-last j zero = ap (λ (x : ℕ). pos (suc x) ∷ []) (add-zero j)
+negated-last j (suc m) =
     let e : j + suc m ≡ suc j + m = omega arith in
     ap (λ (w : List ℤ). negsuc j ∷ w)
-    (ap (λ (x : ℕ). set (map negsuc (up (suc j) (suc m))) m (pos (suc x))) e ∙ turned-last (suc j) m)
+    (ap (λ (x : ℕ). set (map negsuc (up (suc j) (suc m))) m (pos (suc x))) e ∙ negated-last (suc j) m)
 
-pub turned-entry : (w : List ℤ) → 1 ≤ length w → length w ≤ 127 → w ≡ allNegative (length w)
+pub negated-entry : (w : List ℤ) → 1 ≤ length w → length w ≤ 127 → w ≡ allNegative (length w)
     → set w (length w - 1) (toZ w8 (length w)) ≡ from (length w - 1) negateFirst w
 unfolding allNegative
-turned-entry w h b e = go (length w) h b e
+negated-entry w h b e = go (length w) h b e
   where
     go : (m : ℕ) → 1 ≤ m → m ≤ 127 → w ≡ map negsuc (up 0 m) → set w (m - 1) (toZ w8 m) ≡ from (m - 1) negateFirst w
     go zero p q s = absurd (omega arith)
     go (suc m) p q s =
         let d : suc m - 1 ≡ m = omega arith in
         let z : 0 + m ≡ m = omega arith in
-        rw (cast-back (suc m) (omega arith), d, s) (rw z at (turned-last 0 m))
+        rw (cast-back (suc m) (omega arith), d, s) (rw z at (negated-last 0 m))
 
 -- ---- odd ranks
 

@@ -18,9 +18,9 @@ use Rattle.coxeter.specs.Checks.{windowRefusal}
 use Rattle.coxeter.proofs.KindLaws.{kindOf-one, kindOf-two, kindOf-three}
 use Rattle.coxeter.proofs.Levels.{Accepted, accepted-of-refusal}
 use Rattle.coxeter.proofs.Theorems.{act-passes}
-use Rattle.exchange.specs.Shortening.{shortens}
+use Rattle.exchange.specs.Descents.{isDescent}
 use Rattle.exchange.specs.Allowed.{allows}
-use Rattle.exchange.proofs.Shortening.{length-of-shortens}
+use Rattle.exchange.proofs.Descents.{length-of-descent}
 use Rattle.exchange.proofs.Stripping.{Ended, Strips, strips-nothing, strips-first}
 use Rattle.exchange.proofs.FarSteps.{Far, ended-far}
 
@@ -57,11 +57,11 @@ back-D k n s f g h l m =
 
 -- step s was asked for, and taken where it is allowed and makes the window shorter
 abbrev pub Taken : Kind → ℕ → ℕ → ℕ → List ℤ → Bool → List ℤ → Type 0
-Taken k n set s w r v = (r ≡ (allows set s && shortens k n s w)) × (v ≡ pick r (act k n s w) w)
+Taken k n set s w r v = (r ≡ (allows set s && isDescent k n s w)) × (v ≡ pick r (act k n s w) w)
 
 -- the test of the set comes first
 pub taken-allowed : (k : Kind) (n set s : ℕ) (w : List ℤ) (r : Bool) (v : List ℤ) (b : Bool) → b ≡ allows set s → b ≡ true
-    → (r ≡ shortens k n s w) × (v ≡ pick r (act k n s w) w) → Taken k n set s w r v
+    → (r ≡ isDescent k n s w) × (v ≡ pick r (act k n s w) w) → Taken k n set s w r v
 taken-allowed k n set s w r v b e t h = (rw (← e, t) (h .0), h .1)
 
 pub taken-not : (k : Kind) (n set s : ℕ) (w : List ℤ) (b : Bool) → b ≡ allows set s → b ≡ false → Taken k n set s w false w
@@ -99,7 +99,7 @@ module _ (set : ℕ) (k : Kind) (n : ℕ) (w₀ w : List ℤ) (s : ℕ) (t : Tur
       same : v ≡ w
       same = g .1 ∙ ap (λ (b : Bool). pick b (act k n s w) w) e
 
-      not-taken : allows set s ≡ true → shortens k n s w ≡ false
+      not-taken : allows set s ≡ true → isDescent k n s w ≡ false
       not-taken a = let f = sym (g .0) ∙ e in rw a at f
 
       still : Ended (allows set) k n (s + 1 - 1) 1 w
@@ -109,8 +109,8 @@ module _ (set : ℕ) (k : Kind) (n : ℕ) (w₀ w : List ℤ) (s : ℕ) (t : Tur
   passed-less e = let same : v ≡ w = g .1 ∙ ap (λ (b : Bool). pick b (act k n s w) w) e in rw same (omega arith)
 
   module _ (e : r ≡ true) where
-    both : (allows set s ≡ true) × (shortens k n s w ≡ true)
-    both = and-eq-true-iff (allows set s) (shortens k n s w) .0 (sym (g .0) ∙ e)
+    both : (allows set s ≡ true) × (isDescent k n s w ≡ true)
+    both = and-eq-true-iff (allows set s) (isDescent k n s w) .0 (sym (g .0) ∙ e)
 
     after : v ≡ act k n s w
     after = g .1 ∙ ap (λ (b : Bool). pick b (act k n s w) w) e
@@ -131,6 +131,6 @@ module _ (set : ℕ) (k : Kind) (n : ℕ) (w₀ w : List ℤ) (s : ℕ) (t : Tur
     -- the length falls by one, and the step goes back by less than the steps there are
     pub turning-less : (b : ℕ) → 1 ≤ b → windowLength k v * (n + 1) + (n + 1 - b) < windowLength k w * (n + 1) + (n + 1 - s)
     turning-less b o =
-        let shorter = length-of-shortens k n s w h (t .low) l accepted (both .1) in
+        let shorter = length-of-descent k n s w h (t .low) l accepted (both .1) in
         let whole : windowLength k w ≡ windowLength k v + 1 = shorter ∙ ap (λ (x : List ℤ). windowLength k x + 1) (sym after) in
         rw (whole, one-more (windowLength k v) (n + 1)) (omega arith)

@@ -30,8 +30,8 @@ use Rattle.coxeter.proofs.Outcomes.{written-sets}
 use Rattle.coxeter.proofs.LetterLaws.{letter-within}
 use Rattle.coxeter.proofs.Theorems.{act-passes}
 use Rattle.rules.proofs.ScanRules.{wrongLetter-drop}
-use Rattle.exchange.specs.Shortening.{shortens}
-use Rattle.exchange.proofs.Lifting.{lowered}
+use Rattle.exchange.specs.Descents.{isDescent}
+use Rattle.exchange.proofs.Lifting.{descended}
 use Rattle.exchange.proofs.Walk.{leftOver, placesKept, marked}
 
 -- ---- letters kept
@@ -88,21 +88,21 @@ module _ (k : Kind) (n : ℕ) (u : List ℕ) (w₀ : List ℤ) where
     front-next = sym (take-take j i f (omega arith)) ∙ ap (take j) (h .front) ∙ take-take j i u (omega arith)
 
     -- v is the target after the letter, and t whether it was kept
-    module _ (t : Bool) (v : List ℤ) (e : t ≡ shortens k n (getD f j 0) w) (q : v ≡ pick t (act k n (getD f j 0) w) w) where
-      is-lowered : v ≡ lowered k n (getD u j 0) w
-      unfolding lowered
-      is-lowered = q ∙ rw (e, letter)
+    module _ (t : Bool) (v : List ℤ) (e : t ≡ isDescent k n (getD f j 0) w) (q : v ≡ pick t (act k n (getD f j 0) w) w) where
+      is-descended : v ≡ descended k n (getD u j 0) w
+      unfolding descended
+      is-descended = q ∙ rw (e, letter)
 
       passed : windowRefusal k n v ≡ 0
       passed = rw q (by-pick (λ (x : List ℤ). windowRefusal k n x ≡ 0) t _ w (act-passes k n (getD f j 0) w (h .passes)) (h .passes))
 
       target-next : leftOver k n u (length u) w₀ ≡ leftOver k n u j v
       unfolding leftOver
-      target-next = rw g at (h .target) ∙ rw is-lowered
+      target-next = rw g at (h .target) ∙ rw is-descended
 
       places-next : placesKept k n u (length u) w₀ [] ≡ placesKept k n u j v (pick t (j ∷ marked i (drop i f)) (marked i (drop i f)))
       unfolding placesKept
-      places-next = rw g (rw g at (h .places) ∙ rw (is-lowered, e, letter))
+      places-next = rw g (rw g at (h .places) ∙ rw (is-descended, e, letter))
 
       pub walking-kept : t ≡ true → wrongLetter n u ≡ false → Walking k n u w₀ f v j (kept + 1)
       walking-kept z s =

@@ -1,4 +1,4 @@
--- The pass that counts a length by sort: from the last entry to the first, with the set of the sizes behind and sums over the entries behind, and
+-- The pass that counts crossings: from the last entry to the first, with the set of the sizes behind and sums over the entries behind, and
 -- what keeps the sums small.
 --
 -- Sections: one entry against those behind it; all entries; the pass.

@@ -1,6 +1,6 @@
 -- The sums of the length, one entry at a time, in the form in which the code meets them, and what keeps them small.
 --
--- Sections: sizes; one entry against those behind it; all entries; the three kinds; a length by sort.
+-- Sections: sizes; one entry against those behind it; all entries; the three kinds; crossings.
 -- Assumes nothing.
 use mathlib.Core.Path.{_≡_, refl, sym, ap, _∙_}
 use mathlib.Core.Bool.{Bool, true, false}
@@ -187,7 +187,7 @@ windowLength-else k n w h d =
       | no f ↦ rw (kindOf-three k f d) (windowLength-is-add D n w (rw (kindOf-three k f d) at h) ∙ add-zero _)
     ]
 
--- ---- a length by sort
+-- ---- crossings
 
 -- p are the pairs of both sorts, s the negative sum pairs, t the negative entries
 module _ (k n : ℕ) (w : List ℤ) (h : windowRefusal (kindOf k) n w ≡ 0) (p s : ℕ) (e : p ≡ inversions w + negativeSumPairs w)

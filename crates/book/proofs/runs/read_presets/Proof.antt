@@ -29,18 +29,18 @@ returns-3 c =
     let opened = read .before in
     reading-short _ _ _ _ _ (opened .before .book-refusal .ensures) (opened .if1 .left) _ (read .count-of .ensures .0) (c .before .if2 .left) (c .if3 .taken)
 
-sub-smaller : tie.Need-sub-smaller
-sub-smaller c = search needs
+sub-smaller-of : tie.Need-sub-smaller-of
+sub-smaller-of c = search needs
 
-smaller-requires : tie.Need-smaller-requires
-smaller-requires c κs = search needs
+smaller-of-requires : tie.Need-smaller-of-requires
+smaller-of-requires c κs = search needs
 
 put-run-requires : tie.Need-put-run-requires
 put-run-requires c κs =
     let sized = c .before in
     let read = sized .before .before .before in
     let opened = read .before in
-    let fits = run-fits _ _ _ _ (sized .smaller .ensures) (sized .before .before .if2 .left) in
+    let fits = run-fits _ _ _ _ (sized .smaller-of .ensures) (sized .before .before .if2 .left) in
     let e = read .count-of .ensures .0 in
     (sym (opened .before .book-refusal .ensures) ∙ opened .if1 .left, omega (arith, fits .0), fits .1)
 
@@ -55,7 +55,7 @@ returns-4 c =
     let opened = read .before in
     reading-run _ _ _ _ _ (opened .before .book-refusal .ensures) (opened .if1 .left) _ (read .count-of .ensures .0) _ _ (roomy .before .if2 .left)
     (roomy .if3 .left)
-    (sized .smaller .ensures) (c .before .before .put-run .ensures)
+    (sized .smaller-of .ensures) (c .before .before .put-run .ensures)
 
 pub read-presets-spec : {M : Type 1} → statement M
 read-presets-spec =
@@ -66,8 +66,8 @@ read-presets-spec =
     count-of-requires
     returns-2
     returns-3
-    sub-smaller
-    smaller-requires
+    sub-smaller-of
+    smaller-of-requires
     put-run-requires
     same-length
     returns-4)

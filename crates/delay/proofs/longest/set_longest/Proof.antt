@@ -27,8 +27,8 @@ returns-2 c =
     let start = c .before .before .before .before .before in
     longest-negative _ _ _ _ (c .if2 .taken) (start .pre .1) (c .before .before .set-negative .ensures)
 
-turn-last-requires : tie.Need-turn-last-requires
-turn-last-requires c κs =
+negate-last-requires : tie.Need-negate-last-requires
+negate-last-requires c κs =
     let other = c .before .before in
     let negative = other .before .before in
     let pre = negative .before .before .before .pre in
@@ -44,7 +44,7 @@ returns-3 c =
     let negative = other .before .before in
     let start = negative .before .before .before in
     longest-turned _ _ _ _ (negative .before .before .if1 .left) (other .if2 .left) (start .pre .1) (negative .set-negative .ensures) _
-    (odd .if3 .taken) (c .before .turn-last .ensures)
+    (odd .if3 .taken) (c .before .negate-last .ensures)
 
 same-length-4 : tie.Need-same-length-4
 same-length-4 c = search needs
@@ -66,7 +66,7 @@ set-longest-spec =
     set-negative-requires
     same-length-2
     returns-2
-    turn-last-requires
+    negate-last-requires
     same-length-3
     returns-3
     same-length-4

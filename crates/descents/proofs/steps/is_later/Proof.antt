@@ -1,6 +1,6 @@
 -- `steps::is_later` is the order of entries: by one comparison and the signs of both.
 -- Assumes nothing.
-use Rattle.descents.proofs.steps.Lowering.{later-of-signs}
+use Rattle.descents.proofs.steps.Descents.{later-of-signs}
 use borrow.Author.Needs.{needs}
 use Rattle.descents.proofs.steps.is_later.Statement.{statement}
 use Rattle.descents.proofs.steps.is_later.Tie as tie

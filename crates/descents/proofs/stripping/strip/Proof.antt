@@ -20,8 +20,8 @@ abbrev μ-loop : tie.MeasureT-loop
 loop-holds : tie.Need-loop-holds Inv-loop μ-loop
 loop-holds c = (refl, turning-start _ _ _ _ (c .pre .1 .1))
 
-lower-allowed-requires : tie.Need-lower-allowed-requires Inv-loop μ-loop
-lower-allowed-requires c κs =
+take-allowed-descent-requires : tie.Need-take-allowed-descent-requires Inv-loop μ-loop
+take-allowed-descent-requires c κs =
     let b = c .before .before in
     let p = b .before .pre in
     let t = b .loop .inv .1 in
@@ -36,12 +36,12 @@ loop-less : tie.Need-loop-less Inv-loop μ-loop
 loop-less c =
     let b = c .before .before .before .before .before .before in
     turning-less _ _ _ _ _ _ (b .loop .inv .1) (b .before .pre .0) (c .before .before .before .before .before .loop-test .taken) _ _
-    (c .before .before .before .lower-allowed .ensures) (c .before .if1 .taken) _ (c .back .ensures .0)
+    (c .before .before .before .take-allowed-descent .ensures) (c .before .if1 .taken) _ (c .back .ensures .0)
 
 loop-again : tie.Need-loop-again Inv-loop μ-loop
 loop-again c =
     let b = c .before .before .before .before .before .before in
-    let l = c .before .before .before .lower-allowed in (
+    let l = c .before .before .before .take-allowed-descent in (
       l .kept .1 .1 .1 .1 .0 ∙ b .loop .inv .0,
       turning-taken _ _ _ _ _ _ (b .loop .inv .1) (b .before .pre .0) (c .before .before .before .before .before .loop-test .taken) _ _ (l .ensures)
           (c .before .if1 .taken) _ (c .back .ensures),
@@ -54,12 +54,12 @@ loop-less-2 : tie.Need-loop-less-2 Inv-loop μ-loop
 loop-less-2 c =
     let b = c .before .before .before .before .before in
     passed-less _ _ _ _ _ _ (b .loop .inv .1) (b .before .pre .0) (c .before .before .before .before .loop-test .taken) _ _
-    (c .before .before .lower-allowed .ensures) (c .if1 .left)
+    (c .before .before .take-allowed-descent .ensures) (c .if1 .left)
 
 loop-again-2 : tie.Need-loop-again-2 Inv-loop μ-loop
 loop-again-2 c =
     let b = c .before .before .before .before .before in
-    let l = c .before .before .lower-allowed in (
+    let l = c .before .before .take-allowed-descent in (
       l .kept .1 .1 .1 .1 .0 ∙ b .loop .inv .0,
       turning-passed _ _ _ _ _ _ (b .loop .inv .1) (b .before .pre .0) (c .before .before .before .before .loop-test .taken) _ _ (l .ensures) (c .if1 .left),
     )
@@ -77,7 +77,7 @@ strip-spec =
     Inv-loop
     μ-loop
     loop-holds
-    lower-allowed-requires
+    take-allowed-descent-requires
     back-requires
     loop-less
     loop-again

@@ -23,16 +23,16 @@ loop-holds c = (refl, walking-start _ _ _ _ (c .before .pre .1 .1 .1))
 sub-i : tie.Need-sub-i Inv-loop μ-loop
 sub-i c = search needs
 
-slice-read-lower : tie.Need-slice-read-lower Inv-loop μ-loop
-slice-read-lower c =
+slice-read-take-descent : tie.Need-slice-read-take-descent Inv-loop μ-loop
+slice-read-take-descent c =
     let w = c .before .before .loop .inv .1 in
     omega (arith, w .inside, w .size)
 
-cast-lower : tie.Need-cast-lower Inv-loop μ-loop
-cast-lower c = omega (arith, c .slice-known2 .given (c .before .before .loop .i - 1))
+cast-take-descent : tie.Need-cast-take-descent Inv-loop μ-loop
+cast-take-descent c = omega (arith, c .slice-known2 .given (c .before .before .loop .i - 1))
 
-lower-requires : tie.Need-lower-requires Inv-loop μ-loop
-lower-requires c κs =
+take-descent-requires : tie.Need-take-descent-requires Inv-loop μ-loop
+take-descent-requires c κs =
     let b = c .before .before .before in
     let p = b .before .before .pre in
     (walking-within _ _ _ _ _ _ _ _ _ (b .loop .inv .1) (omega arith) (p .1 .1 .0), (p .0, (p .1 .0, b .loop .inv .1 .passes)))
@@ -49,7 +49,7 @@ loop-less c = search needs
 loop-again : tie.Need-loop-again Inv-loop μ-loop
 loop-again c =
     let b = c .before .before .before .before .before .before in
-    let l = c .before .before .lower in (
+    let l = c .before .before .take-descent in (
       l .kept .1 .1 .1 .0 ∙ b .loop .inv .0,
       walking-kept _ _ _ _ _ _ _ _ _ (b .loop .inv .1) (omega arith) _ _ (l .ensures .0) (l .ensures .1) (c .if1 .taken) (b .before .before .pre .1 .1 .0),
     )
@@ -65,7 +65,7 @@ loop-less-2 c = search needs
 loop-again-2 : tie.Need-loop-again-2 Inv-loop μ-loop
 loop-again-2 c =
     let b = c .before .before .before .before .before .before in
-    let l = c .before .before .lower in (
+    let l = c .before .before .take-descent in (
       l .kept .1 .1 .1 .0 ∙ b .loop .inv .0,
       walking-left _ _ _ _ _ _ _ _ _ (b .loop .inv .1) (omega arith) _ _ (l .ensures .0) (l .ensures .1) (c .if1 .left),
     )
@@ -87,9 +87,9 @@ keep-letters-spec =
     μ-loop
     loop-holds
     sub-i
-    slice-read-lower
-    cast-lower
-    lower-requires
+    slice-read-take-descent
+    cast-take-descent
+    take-descent-requires
     add-kept
     loop-less
     loop-again

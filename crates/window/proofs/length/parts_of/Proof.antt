@@ -15,10 +15,10 @@ use Rattle.window.proofs.length.parts_of.Statement.{statement}
 use Rattle.window.proofs.length.parts_of.Tie as tie
 
 abbrev Inv-loop : tie.InvT-loop
-Inv-loop w m behind₀ pairs₀ against₀ negatives₀ i₀ behind pairs against negatives i = Gone w behind pairs against negatives i
+Inv-loop w m behind₀ pairs₀ negativeSumPairs₀ negatives₀ i₀ behind pairs negativeSumPairs negatives i = Gone w behind pairs negativeSumPairs negatives i
 
 abbrev μ-loop : tie.MeasureT-loop
-μ-loop w m behind₀ pairs₀ against₀ negatives₀ i₀ behind pairs against negatives i = i
+μ-loop w m behind₀ pairs₀ negativeSumPairs₀ negatives₀ i₀ behind pairs negativeSumPairs negatives i = i
 
 mul-pairs : tie.Need-mul-pairs Inv-loop μ-loop
 mul-pairs c = record { fits = omega (arith, square-fits _ (c .pre .0) .0) }
@@ -82,7 +82,7 @@ sign-of c =
     c .is-negative .ensures ∙ ap negative (element-back e (read .e .given))
 
 -- the sums over the entries behind
-small : (c : tie.After-size Inv-loop μ-loop) → let sums = c .before .before .before .loop in (sums .against ≤ 4096) × (sums .negatives ≤ 64)
+small : (c : tie.After-size Inv-loop μ-loop) → let sums = c .before .before .before .loop in (sums .negative-sum-pairs ≤ 4096) × (sums .negatives ≤ 64)
 small c =
     let turn = c .before .before in
     let pre = turn .before .before .pre in
@@ -99,14 +99,14 @@ add-pairs c =
     (sign-of asked) (c .if1 .taken) in
     record { fits = omega (arith, fits) }
 
-cast-against : tie.Need-cast-against Inv-loop μ-loop
-cast-against c = search needs
+cast-negative-sum-pairs : tie.Need-cast-negative-sum-pairs Inv-loop μ-loop
+cast-negative-sum-pairs c = search needs
 
-sub-against : tie.Need-sub-against Inv-loop μ-loop
-sub-against c = bounds (c .before .before .before .before) .1
+sub-negative-sum-pairs : tie.Need-sub-negative-sum-pairs Inv-loop μ-loop
+sub-negative-sum-pairs c = bounds (c .before .before .before .before) .1
 
-add-against : tie.Need-add-against Inv-loop μ-loop
-add-against c =
+add-negative-sum-pairs : tie.Need-add-negative-sum-pairs Inv-loop μ-loop
+add-negative-sum-pairs c =
     let at = c .before .before .before .before in
     record { fits = omega (arith, small at, at .before .before .before .before .pre .0) }
 
@@ -172,9 +172,9 @@ parts-of-spec =
     with-size-requires
     is-negative-requires
     add-pairs
-    cast-against
-    sub-against
-    add-against
+    cast-negative-sum-pairs
+    sub-negative-sum-pairs
+    add-negative-sum-pairs
     add-negatives
     loop-less
     loop-again

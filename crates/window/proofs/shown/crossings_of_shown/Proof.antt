@@ -1,4 +1,4 @@
--- `shown::crossings_of_shown` shows the word at the front of a blank window and counts the front by sort.
+-- `shown::crossings_of_shown` shows the word at the front of a blank window and counts the front's crossings.
 -- Assumes nothing.
 use mathlib.Core.Path.{ap, _∙_}
 use Rattle.coxeter.specs.Kinds.{kindOf}

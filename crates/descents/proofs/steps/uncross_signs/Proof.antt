@@ -1,14 +1,14 @@
--- `steps::lower_signs` exchanges two neighbours with their signs changed, where the first stands later than minus the second.
+-- `steps::uncross_signs` exchanges two neighbours with their signs changed, where the first stands later than minus the second.
 -- Assumes nothing.
 use mathlib.Core.Path.{refl}
 use Prim.Native.Nat.{_+_}
 use denote.Ref.{now}
 use lib.IntN.{pos}
 use lib.ListN.{getD}
-use Rattle.descents.proofs.steps.Lowering.{later-negated-told, negated-fits, set-eq-exchanged}
+use Rattle.descents.proofs.steps.Descents.{later-negated-told, negated-fits, set-eq-exchanged}
 use borrow.Author.Needs.{needs}
-use Rattle.descents.proofs.steps.lower_signs.Statement.{statement}
-use Rattle.descents.proofs.steps.lower_signs.Tie as tie
+use Rattle.descents.proofs.steps.uncross_signs.Statement.{statement}
+use Rattle.descents.proofs.steps.uncross_signs.Tie as tie
 
 slice-copy-out-a : tie.Need-slice-copy-out-a
 slice-copy-out-a c = search needs
@@ -60,8 +60,8 @@ returns-2 c =
     let y = getD (now (d .args .w)) (d .args .p + 1) (pos 0) in
     (later-negated-told _ y _ _ (b .before .before .a .given) (b .before .b .given) (d .pre .1 .1) (b .is-later .ensures) (c .if1 .left), refl)
 
-pub lower-signs-spec : {M : Type 1} → statement M
-lower-signs-spec =
+pub uncross-signs-spec : {M : Type 1} → statement M
+uncross-signs-spec =
     tie.close
     (tie.spec
     slice-copy-out-a

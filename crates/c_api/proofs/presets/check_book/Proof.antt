@@ -1,11 +1,11 @@
--- `presets::opened` goes by the cases of the answer; a book of at most 65,535 bytes has fewer presets.
+-- `presets::check_book` goes by the cases of the answer; a book of at most 65,535 bytes has fewer presets.
 -- Assumes nothing.
 use mathlib.Core.Path.{_∙_}
 use borrow.Author.Needs.{needs}
 use Rattle.c_api.specs.Calls.{openedNumber}
 use Rattle.c_api.proofs.Lengths.{i64-back, presets-small}
-use Rattle.c_api.proofs.presets.opened.Statement.{statement}
-use Rattle.c_api.proofs.presets.opened.Tie as tie
+use Rattle.c_api.proofs.presets.check_book.Statement.{statement}
+use Rattle.c_api.proofs.presets.check_book.Tie as tie
 
 check-book-requires : tie.Need-check-book-requires
 check-book-requires c κs = search needs
@@ -34,8 +34,8 @@ returns-2 c =
     let told = c .before .before in
     rw (← told .before .before .check-book .ensures, told .k .given .1) (i64-back _ (c .refusal .ok) ∙ c .refusal .ensures)
 
-pub opened-spec : {M : Type 1} → statement M
-opened-spec =
+pub check-book-spec : {M : Type 1} → statement M
+check-book-spec =
     tie.close
     (tie.spec
     check-book-requires

@@ -1,4 +1,4 @@
--- `presets::read` goes by the cases of the answer, and stores the four fields one after the other.
+-- `presets::check_preset` goes by the cases of the answer, and stores the four fields one after the other.
 -- Assumes nothing.
 use mathlib.Core.Path.{_∙_}
 use native.Mathlib.Omega.{arith}
@@ -7,8 +7,8 @@ use borrow.Author.Needs.{needs}
 use Rattle.c_api.specs.Calls.{refused}
 use Rattle.c_api.proofs.Lengths.{i64-back}
 use Rattle.c_api.proofs.Outcomes.{fields-refused, fields-short, fields-stored}
-use Rattle.c_api.proofs.presets.read.Statement.{statement}
-use Rattle.c_api.proofs.presets.read.Tie as tie
+use Rattle.c_api.proofs.presets.check_preset.Statement.{statement}
+use Rattle.c_api.proofs.presets.check_preset.Tie as tie
 
 check-preset-requires : tie.Need-check-preset-requires
 check-preset-requires c κs = search needs
@@ -59,8 +59,8 @@ returns-3 c =
     let told = c .before .before in
     fields-refused _ _ _ (told .before .before .check-preset .ensures) _ _ (told .k .given .1) (i64-back _ (c .refusal .ok) ∙ c .refusal .ensures)
 
-pub read-spec : {M : Type 1} → statement M
-read-spec =
+pub check-preset-spec : {M : Type 1} → statement M
+check-preset-spec =
     tie.close
     (tie.spec
     check-preset-requires

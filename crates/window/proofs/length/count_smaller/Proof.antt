@@ -1,4 +1,4 @@
--- `length::smaller` counts the smaller sizes of the part before `i`; the rest is counted from `i` on.
+-- `length::count_smaller` counts the smaller sizes of the part before `i`; the rest is counted from `i` on.
 -- Assumes nothing.
 use mathlib.Core.Path.{_≡_}
 use mathlib.Core.Logic.{⊎-elim}
@@ -8,8 +8,8 @@ use lib.ListN.{length, getD, drop}
 use borrow.Author.Needs.{needs}
 use borrow.Author.Tests.{lt-ltb, le-ltb}
 use Rattle.window.proofs.length.Sums.{smaller, smaller-next, smaller-end}
-use Rattle.window.proofs.length.smaller.Statement.{statement}
-use Rattle.window.proofs.length.smaller.Tie as tie
+use Rattle.window.proofs.length.count_smaller.Statement.{statement}
+use Rattle.window.proofs.length.count_smaller.Tie as tie
 
 abbrev Inv-loop : tie.InvT-loop
 Inv-loop own rest sum₀ i₀ sum i = (i ≤ length rest) × (sum ≤ i) × (smaller own rest ≡ sum + smaller own (drop i rest))
@@ -52,8 +52,8 @@ returns c =
     let all = smaller-end (c .before .before .args .own) (c .before .before .args .rest .now) (c .before .loop .i) (c .loop-test .left) in
     (omega arith, unfold smaller in omega (arith, all))
 
-pub smaller-spec : {M : Type 1} → statement M
-smaller-spec =
+pub count-smaller-spec : {M : Type 1} → statement M
+count-smaller-spec =
     tie.close
     (tie.spec
     Inv-loop

@@ -1,11 +1,11 @@
--- `presets::extended` answers the number of the call below it, which fits: a book has at most 65,535 bytes.
+-- `presets::append` answers the number of the call below it, which fits: a book has at most 65,535 bytes.
 -- Assumes nothing.
 use mathlib.Core.Path.{sym, _∙_}
 use borrow.Author.Needs.{needs}
 use Rattle.c_api.proofs.Lengths.{appending-small}
 use Rattle.c_api.proofs.Bytes.{appending-refusable, yielded}
-use Rattle.c_api.proofs.presets.extended.Statement.{statement}
-use Rattle.c_api.proofs.presets.extended.Tie as tie
+use Rattle.c_api.proofs.presets.append.Statement.{statement}
+use Rattle.c_api.proofs.presets.append.Tie as tie
 
 byte-requires : tie.Need-byte-requires
 byte-requires c κs = search needs
@@ -30,5 +30,5 @@ returns c =
     yielded (appending-refusable _ _ _ _) _ _ _ _ _ _ _ (kind .byte .ensures) (rank .byte2 .ensures) (c .number .ok) (c .number .ensures)
     (below .append .ensures)
 
-pub extended-spec : {M : Type 1} → statement M
-extended-spec = tie.close (tie.spec byte-requires byte-requires-2 append-requires number-requires same-length returns)
+pub append-spec : {M : Type 1} → statement M
+append-spec = tie.close (tie.spec byte-requires byte-requires-2 append-requires number-requires same-length returns)

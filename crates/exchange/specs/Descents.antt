@@ -9,5 +9,5 @@ use Rattle.coxeter.specs.Windows.{act}
 use Rattle.coxeter.specs.Length.{windowLength}
 
 -- step s makes the length of the window w smaller
-unfoldable pub shortens : Kind → ℕ → ℕ → List ℤ → Bool
-shortens k n s w = ltb (windowLength k (act k n s w)) (windowLength k w)
+unfoldable pub isDescent : Kind → ℕ → ℕ → List ℤ → Bool
+isDescent k n s w = ltb (windowLength k (act k n s w)) (windowLength k w)

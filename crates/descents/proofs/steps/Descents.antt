@@ -17,12 +17,12 @@ use Rattle.coxeter.specs.Windows.{from, exchange, negateFirst, exchangeNegate, 
 use Rattle.coxeter.specs.Length.{later, negative}
 use Rattle.coxeter.proofs.KindLaws.{kindOf-two}
 use Rattle.coxeter.proofs.Levels.{accepted-of-refusal}
-use Rattle.coxeter.proofs.Descents.{descends, descends-exchange, descends-B-last, descends-D-last}
+use Rattle.coxeter.proofs.Descents.{crossed, crossed-exchange, crossed-B-last, crossed-D-last}
 use Rattle.refusals.proofs.Bytes.{held, byte-back, element-back, minus-is-negate, minus-fits, minus-back}
 use Rattle.window.proofs.ByteSteps.{ActRequires, Negated, set-eq-negateFirst, set-eq-exchangeNegate, length-of-refusal}
 use Rattle.window.proofs.ByteSteps.{exchange-eq-act, negateFirst-eq-act, exchangeNegate-eq-act, four-le-of-last, last-step, last-kind}
-use Rattle.exchange.specs.Shortening.{shortens}
-use Rattle.exchange.proofs.Shortening.{shortens-descends}
+use Rattle.exchange.specs.Descents.{isDescent}
+use Rattle.exchange.proofs.Descents.{descent-crossed}
 
 -- ---- the order of entries
 
@@ -85,39 +85,39 @@ set-eq-exchanged p w h f g d e =
 -- ---- one step
 
 -- step s was tested, and taken where the test holds
-abbrev pub Lowered : ℕ → ℕ → ℕ → List ℤ → Bool → List ℤ → Type 0
-Lowered k n s w r v = (r ≡ shortens (kindOf k) n s w) × (v ≡ pick r (act (kindOf k) n s w) w)
+abbrev pub TakenDescent : ℕ → ℕ → ℕ → List ℤ → Bool → List ℤ → Type 0
+TakenDescent k n s w r v = (r ≡ isDescent (kindOf k) n s w) × (v ≡ pick r (act (kindOf k) n s w) w)
 
 module _ (k n s : ℕ) (w v : List ℤ) (r : Bool) (h : ActRequires k n s w) where
   -- from the test of the entries and what taking the step does
-  lowered : (x : List ℤ) → r ≡ descends (kindOf k) n s w → x ≡ act (kindOf k) n s w → v ≡ pick r x w → Lowered k n s w r v
-  lowered x t e q =
+  taken-descent : (x : List ℤ) → r ≡ crossed (kindOf k) n s w → x ≡ act (kindOf k) n s w → v ≡ pick r x w → TakenDescent k n s w r v
+  taken-descent x t e q =
       let a = accepted-of-refusal (kindOf k) n w (h .1 .1 .1) in
-      (t ∙ sym (shortens-descends (kindOf k) n s w (h .1 .0) (h .0 .0) (h .0 .1) a), q ∙ ap (λ (y : List ℤ). pick r y w) e)
+      (t ∙ sym (descent-crossed (kindOf k) n s w (h .1 .0) (h .0 .0) (h .0 .1) a), q ∙ ap (λ (y : List ℤ). pick r y w) e)
 
-  pub lowered-pair : s < length w → r ≡ later (getD w (s - 1) (pos 0)) (getD w (s - 1 + 1) (pos 0)) → v ≡ pick r (from (s - 1) exchange w) w
-      → Lowered k n s w r v
-  lowered-pair l t q =
+  pub taken-pair : s < length w → r ≡ later (getD w (s - 1) (pos 0)) (getD w (s - 1 + 1) (pos 0)) → v ≡ pick r (from (s - 1) exchange w) w
+      → TakenDescent k n s w r v
+  taken-pair l t q =
       let e : suc (s - 1) ≡ s = omega (arith, h .0 .0) in
       let f : s - 1 + 1 ≡ s = omega (arith, h .0 .0) in
       let inside : suc (s - 1) < lanes (kindOf k) n = rw (e, ← length-of-refusal (kindOf k) n w (h .1 .1 .1)) l in
-      let test = rw e at (descends-exchange (kindOf k) n (s - 1) w inside) in
-      lowered (from (s - 1) exchange w) (t ∙ rw f (sym test)) (exchange-eq-act k n s w h l) q
+      let test = rw e at (crossed-exchange (kindOf k) n (s - 1) w inside) in
+      taken-descent (from (s - 1) exchange w) (t ∙ rw f (sym test)) (exchange-eq-act k n s w h l) q
 
   module _ (l : length w ≤ s) where
     last : (s ≡ n) × (length w ≡ n)
     last = last-step (kindOf k) n s w (h .0 .1) l (h .1 .1 .1)
 
-    pub lowered-sign : k ≡ 2 → r ≡ negative (getD w (n - 1) (pos 0)) → v ≡ pick r (from (n - 1) negateFirst w) w → Lowered k n s w r v
-    lowered-sign b t q =
+    pub taken-sign : k ≡ 2 → r ≡ negative (getD w (n - 1) (pos 0)) → v ≡ pick r (from (n - 1) negateFirst w) w → TakenDescent k n s w r v
+    taken-sign b t q =
         let e : suc (n - 1) ≡ n = omega (arith, last, h .0 .0) in
-        let test = rw e at (descends-B-last (n - 1) w) in
-        lowered (from (n - 1) negateFirst w) (t ∙ rw (kindOf-two k b, last .0) (sym test)) (negateFirst-eq-act k n s w h l b) q
+        let test = rw e at (crossed-B-last (n - 1) w) in
+        taken-descent (from (n - 1) negateFirst w) (t ∙ rw (kindOf-two k b, last .0) (sym test)) (negateFirst-eq-act k n s w h l b) q
 
-    pub lowered-signs : (k ≡ 2 → ⊥) → r ≡ later (getD w (n - 2) (pos 0)) (negℤ (getD w (n - 2 + 1) (pos 0)))
-        → v ≡ pick r (from (n - 2) exchangeNegate w) w → Lowered k n s w r v
-    lowered-signs b t q =
+    pub taken-signs : (k ≡ 2 → ⊥) → r ≡ later (getD w (n - 2) (pos 0)) (negℤ (getD w (n - 2 + 1) (pos 0)))
+        → v ≡ pick r (from (n - 2) exchangeNegate w) w → TakenDescent k n s w r v
+    taken-signs b t q =
         let e : suc (suc (n - 2)) ≡ n = omega (arith, four-le-of-last k n s w h l b) in
         let f : n - 2 + 1 ≡ suc (n - 2) = omega arith in
-        let test = rw e at (descends-D-last (n - 2) w) in
-        lowered (from (n - 2) exchangeNegate w) (t ∙ rw (f, last-kind k n s w h l b, last .0) (sym test)) (exchangeNegate-eq-act k n s w h l b) q
+        let test = rw e at (crossed-D-last (n - 2) w) in
+        taken-descent (from (n - 2) exchangeNegate w) (t ∙ rw (f, last-kind k n s w h l b, last .0) (sym test)) (exchangeNegate-eq-act k n s w h l b) q

@@ -1,10 +1,10 @@
--- `presets::read_run` answers the number of the call below it, which fits: a book of at most 65,535 bytes has fewer presets.
+-- `presets::read_presets` answers the number of the call below it, which fits: a book of at most 65,535 bytes has fewer presets.
 -- Assumes nothing.
 use mathlib.Core.Path.{sym, _∙_}
 use borrow.Author.Needs.{needs}
 use Rattle.c_api.proofs.Lengths.{numbers-alike, readingPresets-small}
-use Rattle.c_api.proofs.presets.read_run.Statement.{statement}
-use Rattle.c_api.proofs.presets.read_run.Tie as tie
+use Rattle.c_api.proofs.presets.read_presets.Statement.{statement}
+use Rattle.c_api.proofs.presets.read_presets.Tie as tie
 
 read-presets-requires : tie.Need-read-presets-requires
 read-presets-requires c κs = search needs
@@ -20,5 +20,5 @@ returns c =
     let below = c .before .before .before .read-presets .ensures in
     numbers-alike _ _ _ _ (c .number .ok) (c .number .ensures) below
 
-pub read-run-spec : {M : Type 1} → statement M
-read-run-spec = tie.close (tie.spec read-presets-requires number-requires same-length returns)
+pub read-presets-spec : {M : Type 1} → statement M
+read-presets-spec = tie.close (tie.spec read-presets-requires number-requires same-length returns)

@@ -1,10 +1,10 @@
--- `presets::turned` answers the number of the call below it, which fits: a book has at most 65,535 bytes.
+-- `presets::convert` answers the number of the call below it, which fits: a book has at most 65,535 bytes.
 -- Assumes nothing.
 use mathlib.Core.Path.{sym, _∙_}
 use borrow.Author.Needs.{needs}
 use Rattle.c_api.proofs.Lengths.{numbers-alike, converting-small}
-use Rattle.c_api.proofs.presets.turned.Statement.{statement}
-use Rattle.c_api.proofs.presets.turned.Tie as tie
+use Rattle.c_api.proofs.presets.convert.Statement.{statement}
+use Rattle.c_api.proofs.presets.convert.Tie as tie
 
 convert-requires : tie.Need-convert-requires
 convert-requires c κs = search needs
@@ -20,5 +20,5 @@ returns c =
     let below = c .before .before .before .convert .ensures in
     numbers-alike _ _ _ _ (c .number .ok) (c .number .ensures) below
 
-pub turned-spec : {M : Type 1} → statement M
-turned-spec = tie.close (tie.spec convert-requires number-requires same-length returns)
+pub convert-spec : {M : Type 1} → statement M
+convert-spec = tie.close (tie.spec convert-requires number-requires same-length returns)
