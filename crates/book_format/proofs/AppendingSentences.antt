@@ -125,7 +125,7 @@ never-appended ed b u before after l c =
     let p = then-zero (bookRefusal ed b) (rank then (word then (own then size))) (append-answers ed b 1 1 u before after (Length l) c l .0 refl .0) in
     let q = then-zero rank (word then (own then size)) (p .1) in
     let s = then-zero word (own then size) (q .1) in
-    let t = check-zero 20 (retired 1 1) (then-zero own size (s .1) .0) in
+    let t = check-zero 21 (retired 1 1) refl (then-zero own size (s .1) .0) in
     true≢false (sym (retired-exactly 1 1 .1 (refl, refl)) ∙ t)
 
 -- "a record with a higher rank, .. appended, is still refused 6"

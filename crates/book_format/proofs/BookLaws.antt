@@ -177,7 +177,7 @@ module _ (ed : Edition) (b : List ℕ) (e : bookRefusal ed b ≡ 0) where
   sizes =
       let a = then-zero (check 1 (wrongSize b)) (check 2 (wrongCount b) then check 3 (misplaced ed b)) e in
       let c = then-zero (check 2 (wrongCount b)) (check 3 (misplaced ed b)) (a .1) in
-      (check-zero 0 (wrongSize b) (a .0), check-zero 1 (wrongCount b) (c .0), check-zero 2 (misplaced ed b) (c .1))
+      (check-zero 1 (wrongSize b) refl (a .0), check-zero 2 (wrongCount b) refl (c .0), check-zero 3 (misplaced ed b) refl (c .1))
 
   pub counted-some : (length b ≡ 0 → ⊥) → Counted b
   unfolding wrongCount

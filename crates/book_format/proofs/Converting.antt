@@ -61,9 +61,9 @@ passing ed b o z =
       rank = c .0;
       lanes-right =
           eqb-true (lanesAt ed b o) (lanes (kindOf (kindAt b o)) (rankAt b o))
-          (not-false (eqb (lanesAt ed b o) (lanes (kindOf (kindAt b o)) (rankAt b o))) (check-zero 16 (wrongLaneCount ed b o) (d .0)));
+          (not-false (eqb (lanesAt ed b o) (lanes (kindOf (kindAt b o)) (rankAt b o))) (check-zero 17 (wrongLaneCount ed b o) refl (d .0)));
       word = d .1;
-      few = check-zero 17 (tooManyLanes ed b o) (a .1);
+      few = check-zero 18 (tooManyLanes ed b o) refl (a .1);
     }
 
 -- a rank of the first edition has at most 32 lanes, and one with so few is a rank of the first
@@ -157,7 +157,7 @@ conversion-parts ed b z =
     let size = check 13 (tooLarge (length (converted ed b))) in
     let a = then-zero (bookRefusal ed b) (records then size) z in
     let c = then-zero records size (a .1) in
-    (a .0, c .0, ltb-false 65535 (length (converted ed b)) (check-zero 12 (tooLarge (length (converted ed b))) (c .1)))
+    (a .0, c .0, ltb-false 65535 (length (converted ed b)) (check-zero 13 (tooLarge (length (converted ed b))) refl (c .1)))
 
 pub conversion-opens : (ed : Edition) (b : List ℕ) → conversionRefusal ed b ≡ 0 → bookRefusal ed b ≡ 0
 conversion-opens ed b z = conversion-parts ed b z .0

@@ -2,7 +2,7 @@
 --
 -- Sections: answers; records; presets by their number; letters.
 -- Assumes nothing.
-use mathlib.Core.Path.{_≡_, sym, _∙_}
+use mathlib.Core.Path.{_≡_, refl, sym, _∙_}
 use mathlib.Core.Bool.{Bool, true, false}
 use mathlib.Core.List.{List, []}
 use Prim.Native.Nat.{ℕ, _+_, _-_, _≤_, _<_}
@@ -174,7 +174,7 @@ unfolding presetRefusal noSuchPreset
 preset-below ed b i z =
     let a = then-zero (bookRefusal ed b) (check 4 (noSuchPreset b i) then recordRefusal ed b (offset b i)) z in
     let c = then-zero (check 4 (noSuchPreset b i)) (recordRefusal ed b (offset b i)) (a .1) in
-    leb-false (count b) i (check-zero 3 (noSuchPreset b i) (c .0))
+    leb-false (count b) i (check-zero 4 (noSuchPreset b i) refl (c .0))
 
 preset-record : (ed : Edition) (b : List ℕ) (i : ℕ) → presetRefusal ed b i ≡ 0 → recordRefusal ed b (offset b i) ≡ 0
 unfolding presetRefusal

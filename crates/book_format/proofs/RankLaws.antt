@@ -69,7 +69,7 @@ pub bookRank-within : (ed : Edition) (k n : ℕ) → bookRankRefusal ed k n ≡ 
 unfolding bookRankRefusal wrongRankInBook
 bookRank-within ed k n h =
     let six = then-zero (check 5 (wrongKind k)) (check 6 (wrongRankInBook ed (kindOf k) n)) h .1 in
-    let w = check-zero 5 (wrongRankInBook ed (kindOf k) n) six in
+    let w = check-zero 6 (wrongRankInBook ed (kindOf k) n) refl six in
     let low = ltb n (least (kindOf k)) in
     let high = ltb (greatestInBook ed (kindOf k)) n in
     (ltb-false n (least (kindOf k)) (or-false-left low high w), ltb-false (greatestInBook ed (kindOf k)) n (or-false-right low high w))

@@ -65,7 +65,7 @@ ranges ed k n = (
       let five = then-zero (check 5 (wrongKind k)) (check 6 (wrongRankInBook ed (kindOf k) n)) h .0 in
       ⊎-elim (λ z. inl (z, rw z at (w .0), rw z at (w .1)))
       (⊎-elim (λ z. inr (inl (z, rw z at (w .0), rw z at (w .1)))) (λ z. inr (inr (z, rw z at (w .0), rw z at (w .1)))))
-      (wrongKind-exactly k (check-zero 4 (wrongKind k) five)),
+      (wrongKind-exactly k (check-zero 5 (wrongKind k) refl five)),
   ⊎-elim (λ p. rw (p .0, le-ltb n 1 (p .1), le-ltb (greatestInBook ed A) n (p .2)))
       (⊎-elim (λ p. rw (p .0, le-ltb n 2 (p .1), le-ltb (greatestInBook ed B) n (p .2)))
       (λ p. rw (p .0, le-ltb n 4 (p .1), le-ltb (greatestInBook ed D) n (p .2)))),
@@ -192,7 +192,7 @@ preset-17 ed b i e =
     let own = recordRefusal ed b (offset b i) in
     let p = then-late (bookRefusal ed b) (four then own) 17 (λ z. omega (arith, bookRefusal-le ed b)) e in
     let q = then-late four own 17 (check-other 4 17 (noSuchPreset b i) (λ z. omega arith) (λ z. omega arith)) (p .1) in
-    (p .0, leb-false (count b) i (check-zero 3 (noSuchPreset b i) (q .0)), q .1)
+    (p .0, leb-false (count b) i (check-zero 4 (noSuchPreset b i) refl (q .0)), q .1)
 
 -- exactly when checks 1 to 6 accept and the byte after the rank is another
 pub refused-17-exactly : (b : List ℕ) (i : ℕ) → let o = offset b i in

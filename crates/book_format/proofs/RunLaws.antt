@@ -152,8 +152,8 @@ run-read ed b i out a l n h e = elim (ℕ-discrete refusal 0) [ yes z ↦ at z |
         let m : n ≡ longest = cc in
         let books = then-zero (bookRefusal ed b) (numbered then check 14 (ltb (length out) 5)) z in
         let tests = then-zero numbered (check 14 (ltb (length out) 5)) (books .1) in
-        let below = leb-false (count b) i (check-zero 3 (leb (count b) i) (tests .0)) in
-        let roomy = ltb-false (length out) 5 (check-zero 13 (ltb (length out) 5) (tests .1)) in
+        let below = leb-false (count b) i (check-zero 4 (leb (count b) i) refl (tests .0)) in
+        let roomy = ltb-false (length out) 5 (check-zero 14 (ltb (length out) 5) refl (tests .1)) in
         let w : l ≡ presetFields ed b n i ++ drop (length (presetFields ed b n i)) out = rw m (rw t at (h .1)) in
         let s = length-presetFields ed b n i in
         record {

@@ -137,7 +137,7 @@ append-preset ed b k n u e = let p = append-parts ed b k n u e in then-none (boo
 pub append-size : (ed : Edition) (b : List ℕ) (k n : ℕ) (u : List ℕ) → appendRefusal ed b k n u ≡ 0 → length (appended ed b k n u) ≤ 65535
 unfolding tooLarge
 append-size ed b k n u e =
-    ltb-false 65535 (length (appended ed b k n u)) (check-zero 12 (tooLarge (length (appended ed b k n u))) (append-parts ed b k n u e .3))
+    ltb-false 65535 (length (appended ed b k n u)) (check-zero 13 (tooLarge (length (appended ed b k n u))) refl (append-parts ed b k n u e .3))
 
 pub append-rank : (ed : Edition) (b : List ℕ) (k n : ℕ) (u : List ℕ) → appendRefusal ed b k n u ≡ 0 → n ≤ 64
 append-rank ed b k n u e = rank-accepted k n (bookRank-accepted ed k n (append-parts ed b k n u e .1)) .1

@@ -1,6 +1,6 @@
 -- What kinds, ranks, words and windows that pass their checks are known to be.
 -- Assumes nothing.
-use mathlib.Core.Path.{_≡_, sym, _∙_}
+use mathlib.Core.Path.{_≡_, refl, sym, _∙_}
 use mathlib.Core.Bool.{false}
 use mathlib.Core.List.{List}
 use Prim.Native.Nat.{ℕ, _≤_}
@@ -20,7 +20,7 @@ pub rank-within : (k n : ℕ) → rankRefusal k n ≡ 0 → (least (kindOf k) �
 unfolding rankRefusal wrongRank
 rank-within k n h =
     let six : check 6 (wrongRank (kindOf k) n) ≡ 0 = then-zero (check 5 (wrongKind k)) (check 6 (wrongRank (kindOf k) n)) h .1 in
-    let w : wrongRank (kindOf k) n ≡ false = check-zero 5 (wrongRank (kindOf k) n) six in
+    let w : wrongRank (kindOf k) n ≡ false = check-zero 6 (wrongRank (kindOf k) n) refl six in
     (ltb-false n (least (kindOf k)) (or-false-left _ _ w), ltb-false (greatest (kindOf k)) n (or-false-right (ltb n (least (kindOf k))) _ w))
 
 pub rank-accepted : (k n : ℕ) → rankRefusal k n ≡ 0 → (least (kindOf k) ≤ n) × (n ≤ 64)
@@ -33,11 +33,11 @@ rank-accepted k n h = (rank-within k n h .0, bounded (kindOf k) (rank-within k n
 
 pub letters-accepted : (n : ℕ) (u : List ℕ) → wordRefusal n u ≡ 0 → wrongLetter n u ≡ false
 unfolding wordRefusal
-letters-accepted n u h = check-zero 7 (wrongLetter n u) (then-zero (check 7 (tooLong u)) (check 8 (wrongLetter n u)) h .1)
+letters-accepted n u h = check-zero 8 (wrongLetter n u) refl (then-zero (check 7 (tooLong u)) (check 8 (wrongLetter n u)) h .1)
 
 pub length-accepted : (n : ℕ) (u : List ℕ) → wordRefusal n u ≡ 0 → length u ≤ 4096
 unfolding wordRefusal tooLong
-length-accepted n u h = ltb-false 4096 (length u) (check-zero 6 (tooLong u) (then-zero (check 7 (tooLong u)) (check 8 (wrongLetter n u)) h .0))
+length-accepted n u h = ltb-false 4096 (length u) (check-zero 7 (tooLong u) refl (then-zero (check 7 (tooLong u)) (check 8 (wrongLetter n u)) h .0))
 
 -- a kind and a rank that pass checks 5 and 6 have at most 64 lanes
 pub lanes-le : (k n m : ℕ) → rankRefusal k n ≡ 0 → m ≡ lanes (kindOf k) n → m ≤ 64

@@ -138,9 +138,9 @@ accepted-of-refusal k n w h =
     let m : ℕ = lanes k n in
     let a = then-zero (check 9 (wrongLanes k n w)) (check 10 (wrongEntry k m w) then check 11 (oddNegatives k w)) h in
     let b = then-zero (check 10 (wrongEntry k m w)) (check 11 (oddNegatives k w)) (a .1) in
-    let q : length w ≡ m = eqb-true (length w) m (not-false (eqb (length w) m) (check-zero 8 (wrongLanes k n w) (a .0))) in
-    let f = facts-of-wrongEntry k m w (check-zero 9 (wrongEntry k m w) (b .0)) in
-    let o : oddNegatives k w ≡ false = check-zero 10 (oddNegatives k w) (b .1) in
+    let q : length w ≡ m = eqb-true (length w) m (not-false (eqb (length w) m) (check-zero 9 (wrongLanes k n w) refl (a .0))) in
+    let f = facts-of-wrongEntry k m w (check-zero 10 (wrongEntry k m w) refl (b .0)) in
+    let o : oddNegatives k w ≡ false = check-zero 11 (oddNegatives k w) refl (b .1) in
     record {
       size = q;
       level = record { between = rw q (f .0); distinct = f .1 };

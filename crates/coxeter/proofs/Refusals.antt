@@ -18,9 +18,10 @@ pub then-zero : (r s : ℕ) → (r then s) ≡ 0 → (r ≡ 0) × (s ≡ 0)
 then-zero zero s h = (refl, h)
 then-zero (suc r) s h = let z : suc r ≡ 0 = rw eqb·suc-zero at h in let f : ⊥ = omega arith in absurd f
 
-pub check-zero : (r : ℕ) (t : Bool) → check (suc r) t ≡ 0 → t ≡ false
-check-zero r true h = let f : ⊥ = omega arith in absurd f
-check-zero r false h = refl
+-- check r, one of the numbers from 1 on, found nothing wrong
+pub check-zero : (r : ℕ) (t : Bool) → eqb r 0 ≡ false → check r t ≡ 0 → t ≡ false
+check-zero r true e h = absurd (true≢false (sym (eq-eqb r 0 h) ∙ e))
+check-zero r false e h = refl
 
 -- none, and then the other; some, and then whatever
 pub then-none : (r s : ℕ) → r ≡ 0 → (r then s) ≡ s

@@ -39,7 +39,7 @@ module _ (k n : ℕ) (h : tableRefusal k n ≡ 0) where
   unfolding untabled
   table-rank = (
     rank-within k n table-accepted .0,
-    ltb-false (greatestTabled (kindOf k)) n (check-zero 19 (ltb (greatestTabled (kindOf k)) n) (passed .1)),
+    ltb-false (greatestTabled (kindOf k)) n (check-zero 20 (ltb (greatestTabled (kindOf k)) n) refl (passed .1)),
   )
 
   pub table-rank-small : (1 ≤ n) × (n ≤ 64)

@@ -316,9 +316,9 @@ module _ (k n : ℕ) (counts : List ℕ) (entries : List ℤ) (letters : List �
             let s = sizes (q .0) in (
               accepted (q .0),
               table-rank k n (q .0) .1,
-              omega (arith, s .0, ltb-false (length counts) d (check-zero 13 short-counts (one .0))),
-              omega (arith, s .1, ltb-false (length entries) w (check-zero 13 short-entries (two .0))),
-              omega (arith, s .2, ltb-false (length letters) u (check-zero 13 short-letters (two .1))),
+              omega (arith, s .0, ltb-false (length counts) d (check-zero 14 short-counts refl (one .0))),
+              omega (arith, s .1, ltb-false (length entries) w (check-zero 14 short-entries refl (two .0))),
+              omega (arith, s .2, ltb-false (length letters) u (check-zero 14 short-letters refl (two .1))),
             ),
         λ p.
             let q = passes (p .0) (p .1) in

@@ -239,8 +239,8 @@ module _ (k n set : ℕ) (u first second : List ℕ) (a : Split) (x y : List ℕ
               s .0,
               s .1,
               c .1,
-              ltb-false (length first) l (check-zero 13 first-short (r .0)),
-              ltb-false (length second) m (check-zero 13 second-short (r .1)),
+              ltb-false (length first) l (check-zero 14 first-short refl (r .0)),
+              ltb-false (length second) m (check-zero 14 second-short refl (r .1)),
             ),
         λ w.
             let c = then-none (setRefusal k n set) (wordRefusal n u) (set-passes k n set .1 (w .0, w .1)) ∙ w .2 in

@@ -295,9 +295,9 @@ module _ (k n : ℕ) (u families places lengths out : List ℕ) (a : ToEnd) (fs 
             let p = e .0 (sym (h .0) ∙ g) in
             let z = then-zero q (check 15 few then check 14 short) (p .0) in
             let y = then-zero (check 15 few) (check 14 short) (z .1) in
-            let r = enough-exactly (length (t .lines)) families places lengths .0 (check-zero 14 few (y .0)) in
+            let r = enough-exactly (length (t .lines)) families places lengths .0 (check-zero 15 few refl (y .0)) in
             let m = p .1 in
-            let o = ltb-false (length out) (length (t .final)) (check-zero 13 short (y .1)) in
+            let o = ltb-false (length out) (length (t .final)) (check-zero 14 short refl (y .1)) in
             (rw (eq-eqb q 0 (z .0)) (ap answer.Length m), omega arith, omega arith, omega arith, sym (p .2) ∙ final-length (z .0), omega (arith, o, p .2)),
         λ g.
             let p = counted k n u s (g .0) in
@@ -327,7 +327,7 @@ module _ (k n : ℕ) (u families places lengths out : List ℕ) (a : ToEnd) (fs 
         λ g.
             let p = ⊎-elim (λ z. absurd (early z)) (λ z. z) (c .0 (regroup ∙ e .0 (sym (h .0) ∙ g))) in
             let z = then-zero q (check 15 few) (p .0) in
-            let r = enough-exactly m families places lengths .0 (check-zero 14 few (z .1)) in
+            let r = enough-exactly m families places lengths .0 (check-zero 15 few refl (z .1)) in
             let o = ltb-true (length out) (length (t .final)) (check-number 13 short .0 (p .1)) in
             let w = final-length (z .0) in
             (m, rw (eq-eqb q 0 (z .0)), r .0, r .1, r .2, omega arith),
