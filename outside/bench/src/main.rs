@@ -5,7 +5,7 @@
 //! of `plain::library_way`, which has the library's method. Outputs are not cleared in between.
 //! Windows and verdicts are timed beside some lines of C++ too. `bench WORD` times only the calls whose names have that
 //! word.
-mod sorts;
+mod crossings;
 mod straight;
 mod traces;
 
@@ -235,8 +235,8 @@ fn main() {
     if "straight C++".contains(&bench.filter) {
         straight::print(&mut random, &mut bench.outputs);
     }
-    if "length by sort".contains(&bench.filter) {
-        sorts::print(&mut random, &mut bench.outputs);
+    if "crossings".contains(&bench.filter) {
+        crossings::print(&mut random, &mut bench.outputs);
     }
     if "rewriting to the end".contains(&bench.filter) {
         traces::print(&mut random);
@@ -294,7 +294,7 @@ fn words(bench: &mut Bench, random: &mut Random, kind: u32, rank: u32, rig: &str
             |k, _| plain::length_of_word(kind, rank, word(k)),
         );
         bench.cell(
-            "length of a word by sort",
+            "crossings of a word",
             rig,
             &column,
             |k, out| rattle::crossings_of_word(kind, rank, word(k), &mut out.counts),
@@ -353,7 +353,7 @@ fn windows(bench: &mut Bench, random: &mut Random, kind: u32, rank: u32, rig: &s
     bench.cell(
         call,
         rig,
-        "length by sort",
+        "crossings",
         |k, out| rattle::crossings_of_window(kind, rank, window(k), &mut out.counts),
         |k, out| plain::crossings_of_window(kind, rank, window(k), &mut out.counts),
     );

@@ -61,7 +61,7 @@ fn listed<const N: usize>(list: &mut [u64], numbers: Option<[usize; N]>) {
     }
 }
 
-fn sorted(answer: Result<Crossings, Refusal>, counts: &mut [u64]) -> i64 {
+fn counted(answer: Result<Crossings, Refusal>, counts: &mut [u64]) -> i64 {
     listed(counts, answer.ok().map(|Crossings { plain, against, mirrored }| [plain, against, mirrored]));
     coded(answer.map(|crossings| crossings.total()))
 }
@@ -69,13 +69,13 @@ fn sorted(answer: Result<Crossings, Refusal>, counts: &mut [u64]) -> i64 {
 pub fn crossings_of_word(kind: u32, rank: u32, word: &[u8], counts: &mut [u64]) -> Option<i64> {
     let (kind, rank) = rig(kind, rank)?;
     let counts = counts.get_mut(..3)?;
-    Some(sorted(winnathey::crossings_of_word(kind, rank, word), counts))
+    Some(counted(winnathey::crossings_of_word(kind, rank, word), counts))
 }
 
 pub fn crossings_of_window(kind: u32, rank: u32, window: &[i8], counts: &mut [u64]) -> Option<i64> {
     let (kind, rank) = rig(kind, rank)?;
     let counts = counts.get_mut(..3)?;
-    Some(sorted(winnathey::crossings_of_window(kind, rank, window), counts))
+    Some(counted(winnathey::crossings_of_window(kind, rank, window), counts))
 }
 
 pub fn delay_table(

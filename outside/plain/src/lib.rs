@@ -158,7 +158,7 @@ fn listed<const N: usize>(numbers: [usize; N], list: &mut [u64]) -> Result<usize
     Ok(numbers.iter().sum())
 }
 
-/// The length by sort: plain pairs, pairs against a mirrored lane, mirrored lanes. Answers the total.
+/// The length as its three counts: plain pairs, pairs against a mirrored lane, mirrored lanes. Answers the total.
 pub fn crossings_of_word(kind: u32, rank: u32, word: &[u8], counts: &mut [u64]) -> i64 {
     coded((|| {
         let rank = check_preset(kind, rank, word)?;
