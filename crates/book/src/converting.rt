@@ -59,13 +59,13 @@ fn record_refusal(edition: Edition, book: &[u8], c: usize, number: usize) -> u8
     ensures { λ r. ⌜ r ≡ recordConversionRefusal edition (now (book .entry)) (offset (now (book .entry)) number) ⌝ }
 {
     let o = record_start(book, c, number);
-    let Preset::Refused(r) = check_record(edition, book, o) else {
+    let Preset::Refused(refusal) = check_record(edition, book, o) else {
         if has_too_many_lanes(edition, book, o) {
             return 18;
         }
         return 0;
     };
-    r
+    refusal
 }
 
 // The first refusal of a record, or 0.

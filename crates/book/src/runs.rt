@@ -44,7 +44,7 @@ fn put_preset(answer: Preset, fields: &mut [u64], p: usize)
             start as u64,
             letter_count as u64,
         ),
-        Preset::Refused(r) => put_five(fields, p, r as u64, 0, 0, 0, 0),
+        Preset::Refused(refusal) => put_five(fields, p, refusal as u64, 0, 0, 0, 0),
     }
 }
 

@@ -21,7 +21,7 @@ pub(crate) fn byte(x: u32) -> u8
 }
 
 // The number of a refusal.
-pub(crate) fn refusal(k: u8) -> i64
+pub(crate) fn refusal_number(k: u8) -> i64
     ensures { λ r. ⌜ r ≡ refused k ⌝ }
 {
     -(k as i64)
@@ -42,7 +42,7 @@ pub(crate) fn number(answer: Answer) -> i64
 {
     match answer {
         Answer::Length(l) => size(l),
-        Answer::Refused(k) => refusal(k),
+        Answer::Refused(refusal) => refusal_number(refusal),
     }
 }
 
@@ -65,6 +65,6 @@ pub(crate) fn write_crossings(counted: Counted, counts: &mut [u64]) -> i64
             counts[2] = negatives as u64;
             size(inversions + negative_sum_pairs + negatives)
         }
-        Counted::Refused(k) => refusal(k),
+        Counted::Refused(refusal) => refusal_number(refusal),
     }
 }

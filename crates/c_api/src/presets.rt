@@ -1,7 +1,7 @@
 // Calls on a preset book of the first edition, and on one of the second. What both do is one function over the edition.
 use crate::numbers::byte;
 use crate::numbers::number;
-use crate::numbers::refusal;
+use crate::numbers::refusal_number;
 use crate::numbers::size;
 use book::Edition;
 use book::Opened;
@@ -18,7 +18,7 @@ fn check_book(edition: Edition, book: &[u8]) -> i64
 {
     match book::check_book(edition, book) {
         Opened::Presets(c) => size(c),
-        Opened::Refused(k) => refusal(k),
+        Opened::Refused(refusal) => refusal_number(refusal),
     }
 }
 
@@ -43,7 +43,7 @@ fn check_preset(edition: Edition, book: &[u8], number: usize, fields: &mut [u64]
             fields[3] = length as u64;
             4
         }
-        Preset::Refused(k) => refusal(k),
+        Preset::Refused(refusal) => refusal_number(refusal),
     }
 }
 

@@ -1,6 +1,6 @@
 // One rewrite at a named place.
 use crate::numbers::byte;
-use crate::numbers::refusal;
+use crate::numbers::refusal_number;
 use crate::numbers::size;
 use rewriter::Rewrite;
 use rewriter::rewrite_at;
@@ -20,7 +20,7 @@ fn refused_rule(kind: u8, rank: u8, word: &[u8], place: usize, out: &mut [u8]) -
             length: _,
         } => -14,
         Rewrite::NoneFits => -100,
-        Rewrite::Refused(k) => refusal(k),
+        Rewrite::Refused(refusal) => refusal_number(refusal),
     }
 }
 
@@ -44,7 +44,7 @@ fn rewrite(kind: u8, rank: u8, word: &[u8], place: usize, out: &mut [u8], rule: 
             size(length)
         }
         Rewrite::NoneFits => -100,
-        Rewrite::Refused(k) => refusal(k),
+        Rewrite::Refused(refusal) => refusal_number(refusal),
     }
 }
 

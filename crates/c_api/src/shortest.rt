@@ -1,7 +1,7 @@
 // Calls on shortest words.
 use crate::numbers::byte;
 use crate::numbers::number;
-use crate::numbers::refusal;
+use crate::numbers::refusal_number;
 use crate::numbers::size;
 use descents::Fallback;
 use descents::fallback_places;
@@ -25,7 +25,7 @@ pub extern "C" fn winnathey_fallback(
     match fallback_places(byte(kind), byte(rank), present, simpler, places) {
         Fallback::Kept(l) => size(l),
         Fallback::No => -101,
-        Fallback::Refused(k) => refusal(k),
+        Fallback::Refused(refusal) => refusal_number(refusal),
     }
 }
 

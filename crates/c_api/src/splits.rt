@@ -1,6 +1,6 @@
 // Words split by allowed steps.
 use crate::numbers::byte;
-use crate::numbers::refusal;
+use crate::numbers::refusal_number;
 use crate::numbers::size;
 use descents::Split;
 use descents::split_word;
@@ -25,7 +25,7 @@ fn refused_lengths(
             first: _,
             second: _,
         } => -14,
-        Split::Refused(k) => refusal(k),
+        Split::Refused(refusal) => refusal_number(refusal),
     }
 }
 
@@ -54,7 +54,7 @@ fn split(
             lengths[1] = b as u64;
             size(a + b)
         }
-        Split::Refused(k) => refusal(k),
+        Split::Refused(refusal) => refusal_number(refusal),
     }
 }
 

@@ -1,6 +1,6 @@
 // The delay table.
 use crate::numbers::byte;
-use crate::numbers::refusal;
+use crate::numbers::refusal_number;
 use crate::numbers::size;
 use delay::Table;
 use delay::delay_table;
@@ -31,7 +31,7 @@ fn refused_lengths(
             entries: _,
             letters: _,
         } => -14,
-        Table::Refused(k) => refusal(k),
+        Table::Refused(refusal) => refusal_number(refusal),
     }
 }
 
@@ -61,7 +61,7 @@ fn table(
             lengths[2] = l as u64;
             size(l)
         }
-        Table::Refused(k) => refusal(k),
+        Table::Refused(refusal) => refusal_number(refusal),
     }
 }
 

@@ -1,6 +1,6 @@
 // The rewriting to its end.
 use crate::numbers::byte;
-use crate::numbers::refusal;
+use crate::numbers::refusal_number;
 use rewriter::Answer;
 use rewriter::ToEnd;
 use rewriter::rewrite_steps;
@@ -28,7 +28,7 @@ fn counted(answer: Answer) -> i64
 {
     match answer {
         Answer::Length(l) => steps_number(l),
-        Answer::Refused(k) => refusal(k),
+        Answer::Refused(refusal) => refusal_number(refusal),
     }
 }
 
@@ -66,7 +66,7 @@ fn refused_written(
             }
             -14
         }
-        Answer::Refused(k) => refusal(k),
+        Answer::Refused(refusal) => refusal_number(refusal),
     }
 }
 
@@ -93,7 +93,7 @@ fn to_end(
             written[0] = length as u64;
             steps_number(steps)
         }
-        ToEnd::Refused(k) => refusal(k),
+        ToEnd::Refused(refusal) => refusal_number(refusal),
     }
 }
 

@@ -1,7 +1,7 @@
 // Calls on words.
 use crate::numbers::byte;
 use crate::numbers::number;
-use crate::numbers::refusal;
+use crate::numbers::refusal_number;
 use crate::numbers::write_crossings;
 use window::Choice;
 use window::Verdict;
@@ -105,7 +105,7 @@ pub extern "C" fn winnathey_same(
     ) {
         Verdict::Yes => 1,
         Verdict::No => 0,
-        Verdict::Refused(k) => refusal(k),
+        Verdict::Refused(refusal) => refusal_number(refusal),
     }
 }
 

@@ -34,7 +34,7 @@ fn refusal_of(answer: Preset) -> u8
             start: _,
             length: _,
         } => 0,
-        Preset::Refused(r) => r,
+        Preset::Refused(refusal) => refusal,
     }
 }
 

@@ -20,7 +20,7 @@ fn print_converted(edition: Edition, book: &[u8]) {
         Answer::Length(l) => {
             print(&out[..l]);
         }
-        Answer::Refused(k) => print_refused(k),
+        Answer::Refused(refusal) => print_refused(refusal),
     }
 }
 

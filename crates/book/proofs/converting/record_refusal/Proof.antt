@@ -18,8 +18,8 @@ check-record-requires c κs =
     let pre = c .before .before .pre in
     (omega (arith, accepted _ _ (pre .0)), inside _ _ _ _ _ (pre .0) (pre .1) (pre .2) (c .record-start .ensures .0))
 
-enum-known-r : tie.Need-enum-known-r
-enum-known-r c = search needs
+enum-known-refusal : tie.Need-enum-known-refusal
+enum-known-refusal c = search needs
 
 enum-told : tie.Need-enum-told
 enum-told c = search needs
@@ -49,7 +49,7 @@ returns-2 c =
 returns-3 : tie.Need-returns-3
 returns-3 c =
     let read = c .before .before .before in
-    refused-by-itself _ _ _ _ _ (read .before .record-start .ensures .0) (sym (c .before .r .given .1) ∙ read .check-record .ensures)
+    refused-by-itself _ _ _ _ _ (read .before .record-start .ensures .0) (sym (c .before .refusal .given .1) ∙ read .check-record .ensures)
 
 pub record-refusal-spec : {M : Type 1} → statement M
 record-refusal-spec =
@@ -57,7 +57,7 @@ record-refusal-spec =
     (tie.spec
     record-start-requires
     check-record-requires
-    enum-known-r
+    enum-known-refusal
     enum-told
     has-too-many-lanes-requires
     returns

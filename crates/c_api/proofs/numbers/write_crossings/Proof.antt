@@ -43,8 +43,8 @@ size-requires c κs = small (c .before)
 enum-known-counted-2 : tie.Need-enum-known-counted-2
 enum-known-counted-2 c = search needs
 
-refusal-requires : tie.Need-refusal-requires
-refusal-requires c κs = search needs
+refusal-number-requires : tie.Need-refusal-number-requires
+refusal-number-requires c κs = search needs
 
 same-length : tie.Need-same-length
 same-length c = search needs
@@ -54,7 +54,7 @@ returns-2 c =
     crossings-stored _ _ _ _ _ (c .before .before .before .counted .given .1) _ (c .before .if1 .left) (i64-back _ (c .size .ok) ∙ c .size .ensures)
 
 returns-3 : tie.Need-returns-3
-returns-3 c = crossings-refused _ _ _ _ (c .before .before .counted2 .given .1) (i64-back _ (c .refusal .ok) ∙ c .refusal .ensures)
+returns-3 c = crossings-refused _ _ _ _ (c .before .before .counted2 .given .1) (i64-back _ (c .refusal-number .ok) ∙ c .refusal-number .ensures)
 
 pub write-crossings-spec : {M : Type 1} → statement M
 write-crossings-spec =
@@ -69,7 +69,7 @@ write-crossings-spec =
     add-size-2
     size-requires
     enum-known-counted-2
-    refusal-requires
+    refusal-number-requires
     same-length
     returns-2
     returns-3)

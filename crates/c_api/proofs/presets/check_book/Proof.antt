@@ -16,11 +16,11 @@ enum-known-c c = search needs
 size-requires : tie.Need-size-requires
 size-requires c κs = presets-small _ _ _ _ (c .before .before .before .check-book .ensures) (c .before .c .given .1)
 
-enum-known-k : tie.Need-enum-known-k
-enum-known-k c = search needs
+enum-known-refusal : tie.Need-enum-known-refusal
+enum-known-refusal c = search needs
 
-refusal-requires : tie.Need-refusal-requires
-refusal-requires c κs = search needs
+refusal-number-requires : tie.Need-refusal-number-requires
+refusal-number-requires c κs = search needs
 
 returns : tie.Need-returns
 unfolding openedNumber
@@ -32,7 +32,7 @@ returns-2 : tie.Need-returns-2
 unfolding openedNumber
 returns-2 c =
     let told = c .before .before in
-    rw (← told .before .before .check-book .ensures, told .k .given .1) (i64-back _ (c .refusal .ok) ∙ c .refusal .ensures)
+    rw (← told .before .before .check-book .ensures, told .refusal .given .1) (i64-back _ (c .refusal-number .ok) ∙ c .refusal-number .ensures)
 
 pub check-book-spec : {M : Type 1} → statement M
 check-book-spec =
@@ -41,7 +41,7 @@ check-book-spec =
     check-book-requires
     enum-known-c
     size-requires
-    enum-known-k
-    refusal-requires
+    enum-known-refusal
+    refusal-number-requires
     returns
     returns-2)

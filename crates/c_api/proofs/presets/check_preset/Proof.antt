@@ -40,11 +40,11 @@ slice-write-fields-3 c = simp length-set (omega arith)
 slice-write-fields-4 : tie.Need-slice-write-fields-4
 slice-write-fields-4 c = search needs
 
-enum-known-k : tie.Need-enum-known-k
-enum-known-k c = search needs
+enum-known-refusal : tie.Need-enum-known-refusal
+enum-known-refusal c = search needs
 
-refusal-requires : tie.Need-refusal-requires
-refusal-requires c κs = search needs
+refusal-number-requires : tie.Need-refusal-number-requires
+refusal-number-requires c κs = search needs
 
 same-length : tie.Need-same-length
 same-length c = search needs
@@ -57,7 +57,8 @@ returns-2 c =
 returns-3 : tie.Need-returns-3
 returns-3 c =
     let told = c .before .before in
-    fields-refused _ _ _ (told .before .before .check-preset .ensures) _ _ (told .k .given .1) (i64-back _ (c .refusal .ok) ∙ c .refusal .ensures)
+    fields-refused _ _ _ (told .before .before .check-preset .ensures) _ _ (told .refusal .given .1)
+    (i64-back _ (c .refusal-number .ok) ∙ c .refusal-number .ensures)
 
 pub check-preset-spec : {M : Type 1} → statement M
 check-preset-spec =
@@ -72,8 +73,8 @@ check-preset-spec =
     slice-write-fields-2
     slice-write-fields-3
     slice-write-fields-4
-    enum-known-k
-    refusal-requires
+    enum-known-refusal
+    refusal-number-requires
     same-length
     returns-2
     returns-3)

@@ -36,11 +36,11 @@ enum-told c = search needs
 enum-told-2 : tie.Need-enum-told-2
 enum-told-2 c = search needs
 
-enum-known-k : tie.Need-enum-known-k
-enum-known-k c = search needs
+enum-known-refusal : tie.Need-enum-known-refusal
+enum-known-refusal c = search needs
 
-refusal-requires : tie.Need-refusal-requires
-refusal-requires c κs = search needs
+refusal-number-requires : tie.Need-refusal-number-requires
+refusal-number-requires c κs = search needs
 
 same-length : tie.Need-same-length
 same-length c = search needs
@@ -68,7 +68,7 @@ unfolding roomless rewriteNumbers
 returns-3 c =
     let told = c .before .before in
     let w = told .before .before .before .before in
-    (i64-back _ (c .refusal .ok) ∙ c .refusal .ensures ∙ (rw (told .k .given .1) at (narrow w)), unwritten w)
+    (i64-back _ (c .refusal-number .ok) ∙ c .refusal-number .ensures ∙ (rw (told .refusal .given .1) at (narrow w)), unwritten w)
 
 pub refused-rule-spec : {M : Type 1} → statement M
 refused-rule-spec =
@@ -79,8 +79,8 @@ refused-rule-spec =
     rewrite-at-requires
     enum-told
     enum-told-2
-    enum-known-k
-    refusal-requires
+    enum-known-refusal
+    refusal-number-requires
     same-length
     returns
     same-length-2

@@ -43,11 +43,11 @@ size-requires c κs = rewrote-small _ _ _ _ _ _ _ (c .before .before .before .be
 enum-told : tie.Need-enum-told
 enum-told c = search needs
 
-enum-known-k : tie.Need-enum-known-k
-enum-known-k c = search needs
+enum-known-refusal : tie.Need-enum-known-refusal
+enum-known-refusal c = search needs
 
-refusal-requires : tie.Need-refusal-requires
-refusal-requires c κs = search needs
+refusal-number-requires : tie.Need-refusal-number-requires
+refusal-number-requires c κs = search needs
 
 same-length-2 : tie.Need-same-length-2
 same-length-2 c = search needs
@@ -75,8 +75,8 @@ same-length-5 c = search needs
 returns-4 : tie.Need-returns-4
 returns-4 c =
     let told = c .before .before in
-    rewriting-refused _ _ _ _ _ _ _ _ (told .before .before .before .before .rewrite-at .ensures) _ _ (told .k .given .1)
-    (i64-back _ (c .refusal .ok) ∙ c .refusal .ensures)
+    rewriting-refused _ _ _ _ _ _ _ _ (told .before .before .before .before .rewrite-at .ensures) _ _ (told .refusal .given .1)
+    (i64-back _ (c .refusal-number .ok) ∙ c .refusal-number .ensures)
 
 pub rewrite-spec : {M : Type 1} → statement M
 rewrite-spec =
@@ -92,8 +92,8 @@ rewrite-spec =
     slice-write-rule-3
     size-requires
     enum-told
-    enum-known-k
-    refusal-requires
+    enum-known-refusal
+    refusal-number-requires
     same-length-2
     same-length-3
     returns-2

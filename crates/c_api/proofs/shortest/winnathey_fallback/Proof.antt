@@ -29,11 +29,11 @@ size-requires c κs =
 enum-told : tie.Need-enum-told
 enum-told c = search needs
 
-enum-known-k : tie.Need-enum-known-k
-enum-known-k c = search needs
+enum-known-refusal : tie.Need-enum-known-refusal
+enum-known-refusal c = search needs
 
-refusal-requires : tie.Need-refusal-requires
-refusal-requires c κs = search needs
+refusal-number-requires : tie.Need-refusal-number-requires
+refusal-number-requires c κs = search needs
 
 same-length : tie.Need-same-length
 same-length c = search needs
@@ -65,7 +65,7 @@ returns-3 c =
     let d = c .before .before in
     let b = d .before .before .before .before in
     fallback-numbered _ _ _ _ _ _ _ _ _ (b .before .before .before .byte .ensures) (b .before .before .byte2 .ensures) (b .fallback-places .ensures) _
-    (rw (d .k .given .1) (i64-back _ (c .refusal .ok) ∙ c .refusal .ensures))
+    (rw (d .refusal .given .1) (i64-back _ (c .refusal-number .ok) ∙ c .refusal-number .ensures))
 
 pub winnathey-fallback-spec : {M : Type 1} → statement M
 winnathey-fallback-spec =
@@ -77,8 +77,8 @@ winnathey-fallback-spec =
     enum-known-l
     size-requires
     enum-told
-    enum-known-k
-    refusal-requires
+    enum-known-refusal
+    refusal-number-requires
     same-length
     returns
     same-length-2

@@ -45,11 +45,11 @@ split-word-requires c κs = search needs
 enum-told : tie.Need-enum-told
 enum-told c = search needs
 
-enum-known-k : tie.Need-enum-known-k
-enum-known-k c = search needs
+enum-known-refusal : tie.Need-enum-known-refusal
+enum-known-refusal c = search needs
 
-refusal-requires : tie.Need-refusal-requires
-refusal-requires c κs = search needs
+refusal-number-requires : tie.Need-refusal-number-requires
+refusal-number-requires c κs = search needs
 
 same-length : tie.Need-same-length
 same-length c = search needs
@@ -74,7 +74,7 @@ unfolding roomless splitNumbers
 returns-2 c =
     let told = c .before .before in
     let w = told .before .before .before .before .before .before in
-    (i64-back _ (c .refusal .ok) ∙ c .refusal .ensures ∙ (rw (told .k .given .1) at (narrow w)), first-unwritten w, second-unwritten w)
+    (i64-back _ (c .refusal-number .ok) ∙ c .refusal-number .ensures ∙ (rw (told .refusal .given .1) at (narrow w)), first-unwritten w, second-unwritten w)
 
 pub refused-lengths-spec : {M : Type 1} → statement M
 refused-lengths-spec =
@@ -86,8 +86,8 @@ refused-lengths-spec =
     slice-aggregate-split-word-2
     split-word-requires
     enum-told
-    enum-known-k
-    refusal-requires
+    enum-known-refusal
+    refusal-number-requires
     same-length
     same-length-2
     returns

@@ -49,11 +49,11 @@ add-size c = omega (arith, small c)
 size-requires : tie.Need-size-requires
 size-requires c κs = small c
 
-enum-known-k : tie.Need-enum-known-k
-enum-known-k c = search needs
+enum-known-refusal : tie.Need-enum-known-refusal
+enum-known-refusal c = search needs
 
-refusal-requires : tie.Need-refusal-requires
-refusal-requires c κs = search needs
+refusal-number-requires : tie.Need-refusal-number-requires
+refusal-number-requires c κs = search needs
 
 same-length-3 : tie.Need-same-length-3
 same-length-3 c = search needs
@@ -81,7 +81,8 @@ returns-3 : tie.Need-returns-3
 returns-3 c =
     let told = c .before .before in
     let w = told .before .before .before .before .before .before in
-    splittingListed-refused _ _ _ _ _ _ _ _ _ _ (w .split-word .ensures) _ _ (told .k .given .1) (i64-back _ (c .refusal .ok) ∙ c .refusal .ensures)
+    splittingListed-refused _ _ _ _ _ _ _ _ _ _ (w .split-word .ensures) _ _ (told .refusal .given .1)
+    (i64-back _ (c .refusal-number .ok) ∙ c .refusal-number .ensures)
 
 pub split-spec : {M : Type 1} → statement M
 split-spec =
@@ -97,8 +98,8 @@ split-spec =
     slice-write-lengths-2
     add-size
     size-requires
-    enum-known-k
-    refusal-requires
+    enum-known-refusal
+    refusal-number-requires
     same-length-3
     same-length-4
     same-length-5

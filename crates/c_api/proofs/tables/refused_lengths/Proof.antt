@@ -56,11 +56,11 @@ delay-table-requires c κs = search needs
 enum-told : tie.Need-enum-told
 enum-told c = search needs
 
-enum-known-k : tie.Need-enum-known-k
-enum-known-k c = search needs
+enum-known-refusal : tie.Need-enum-known-refusal
+enum-known-refusal c = search needs
 
-refusal-requires : tie.Need-refusal-requires
-refusal-requires c κs = search needs
+refusal-number-requires : tie.Need-refusal-number-requires
+refusal-number-requires c κs = search needs
 
 same-length : tie.Need-same-length
 same-length c = search needs
@@ -91,7 +91,7 @@ unfolding roomless tableNumbers
 returns-2 c =
     let told = c .before .before in
     let w = told .before .before .before .before .before .before .before in (
-      i64-back _ (c .refusal .ok) ∙ c .refusal .ensures ∙ (rw (told .k .given .1) at (narrow w)),
+      i64-back _ (c .refusal-number .ok) ∙ c .refusal-number .ensures ∙ (rw (told .refusal .given .1) at (narrow w)),
       counts-unwritten w,
       window-unwritten w,
       form-unwritten w,
@@ -109,8 +109,8 @@ refused-lengths-spec =
     slice-aggregate-delay-table-3
     delay-table-requires
     enum-told
-    enum-known-k
-    refusal-requires
+    enum-known-refusal
+    refusal-number-requires
     same-length
     same-length-2
     same-length-3

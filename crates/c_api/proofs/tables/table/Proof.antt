@@ -48,11 +48,11 @@ size-requires c κs =
     let w = c .before .before .before .before .before .before .before .before in
     delayTable-small _ _ _ _ _ _ _ _ (sym (w .delay-table .ensures .0) ∙ c .before .c .given .1)
 
-enum-known-k : tie.Need-enum-known-k
-enum-known-k c = search needs
+enum-known-refusal : tie.Need-enum-known-refusal
+enum-known-refusal c = search needs
 
-refusal-requires : tie.Need-refusal-requires
-refusal-requires c κs = search needs
+refusal-number-requires : tie.Need-refusal-number-requires
+refusal-number-requires c κs = search needs
 
 same-length-4 : tie.Need-same-length-4
 same-length-4 c = search needs
@@ -86,7 +86,8 @@ returns-3 : tie.Need-returns-3
 returns-3 c =
     let told = c .before .before in
     let w = told .before .before .before .before .before .before .before in
-    delayTableListed-refused _ _ _ _ _ _ _ _ _ _ (w .delay-table .ensures) _ _ (told .k .given .1) (i64-back _ (c .refusal .ok) ∙ c .refusal .ensures)
+    delayTableListed-refused _ _ _ _ _ _ _ _ _ _ (w .delay-table .ensures) _ _ (told .refusal .given .1)
+    (i64-back _ (c .refusal-number .ok) ∙ c .refusal-number .ensures)
 
 pub table-spec : {M : Type 1} → statement M
 table-spec =
@@ -103,8 +104,8 @@ table-spec =
     slice-write-lengths-2
     slice-write-lengths-3
     size-requires
-    enum-known-k
-    refusal-requires
+    enum-known-refusal
+    refusal-number-requires
     same-length-4
     same-length-5
     same-length-6

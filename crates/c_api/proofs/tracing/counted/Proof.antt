@@ -16,8 +16,8 @@ steps-number-requires c κs = c .before .before .before .pre _ (c .before .answe
 enum-known-answer-2 : tie.Need-enum-known-answer-2
 enum-known-answer-2 c = search needs
 
-refusal-requires : tie.Need-refusal-requires
-refusal-requires c κs = search needs
+refusal-number-requires : tie.Need-refusal-number-requires
+refusal-number-requires c κs = search needs
 
 returns : tie.Need-returns
 unfolding numberOf
@@ -25,7 +25,7 @@ returns c = rw (c .before .before .answer .given .1) (i64-back _ (c .steps-numbe
 
 returns-2 : tie.Need-returns-2
 unfolding numberOf
-returns-2 c = rw (c .before .before .answer2 .given .1) (i64-back _ (c .refusal .ok) ∙ c .refusal .ensures)
+returns-2 c = rw (c .before .before .answer2 .given .1) (i64-back _ (c .refusal-number .ok) ∙ c .refusal-number .ensures)
 
 pub counted-spec : {M : Type 1} → statement M
 counted-spec =
@@ -34,6 +34,6 @@ counted-spec =
     enum-known-answer
     steps-number-requires
     enum-known-answer-2
-    refusal-requires
+    refusal-number-requires
     returns
     returns-2)

@@ -33,11 +33,11 @@ returns-3 c =
     few-lengths _ _ _ _ _ _ _ (told .before .before .rewrite-steps .ensures) _ (told .steps .given .1)
     (c .before .before .if1 .left) (c .before .if2 .left) (c .if3 .taken)
 
-enum-known-k : tie.Need-enum-known-k
-enum-known-k c = search needs
+enum-known-refusal : tie.Need-enum-known-refusal
+enum-known-refusal c = search needs
 
-refusal-requires : tie.Need-refusal-requires
-refusal-requires c κs = search needs
+refusal-number-requires : tie.Need-refusal-number-requires
+refusal-number-requires c κs = search needs
 
 returns-4 : tie.Need-returns-4
 unfolding refused
@@ -49,8 +49,8 @@ returns-4 c =
 returns-5 : tie.Need-returns-5
 returns-5 c =
     let told = c .before .before in
-    i64-back _ (c .refusal .ok) ∙ c .refusal .ensures
-    ∙ toEnd-refused _ _ _ _ _ _ _ (told .before .before .rewrite-steps .ensures) _ (told .k .given .1)
+    i64-back _ (c .refusal-number .ok) ∙ c .refusal-number .ensures
+    ∙ toEnd-refused _ _ _ _ _ _ _ (told .before .before .rewrite-steps .ensures) _ (told .refusal .given .1)
 
 pub refused-written-spec : {M : Type 1} → statement M
 refused-written-spec =
@@ -61,7 +61,7 @@ refused-written-spec =
     returns
     returns-2
     returns-3
-    enum-known-k
-    refusal-requires
+    enum-known-refusal
+    refusal-number-requires
     returns-4
     returns-5)

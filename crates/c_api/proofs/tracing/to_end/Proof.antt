@@ -38,11 +38,11 @@ steps-number-requires c κs =
     let w = c .before .before .before .before .before .before .before .before .before .before .before in
     rewritingToEnd-few _ _ _ _ _ _ _ _ _ (sym (w .rewrite-to-end .ensures .0) ∙ c .before .steps .given .1)
 
-enum-known-k : tie.Need-enum-known-k
-enum-known-k c = search needs
+enum-known-refusal : tie.Need-enum-known-refusal
+enum-known-refusal c = search needs
 
-refusal-requires : tie.Need-refusal-requires
-refusal-requires c κs = search needs
+refusal-number-requires : tie.Need-refusal-number-requires
+refusal-number-requires c κs = search needs
 
 same-length-4 : tie.Need-same-length-4
 same-length-4 c = search needs
@@ -82,8 +82,8 @@ returns-3 : tie.Need-returns-3
 returns-3 c =
     let told = c .before .before in
     let w = told .before .before .before .before .before .before .before .before .before .before in
-    rewritingToEndListed-refused _ _ _ _ _ _ _ _ _ _ _ _ _ (w .rewrite-to-end .ensures) _ _ (told .k .given .1)
-    (i64-back _ (c .refusal .ok) ∙ c .refusal .ensures)
+    rewritingToEndListed-refused _ _ _ _ _ _ _ _ _ _ _ _ _ (w .rewrite-to-end .ensures) _ _ (told .refusal .given .1)
+    (i64-back _ (c .refusal-number .ok) ∙ c .refusal-number .ensures)
 
 pub to-end-spec : {M : Type 1} → statement M
 to-end-spec =
@@ -98,8 +98,8 @@ to-end-spec =
     enum-known-steps
     slice-write-written
     steps-number-requires
-    enum-known-k
-    refusal-requires
+    enum-known-refusal
+    refusal-number-requires
     same-length-4
     same-length-5
     same-length-6

@@ -31,11 +31,11 @@ enum-told c = search needs
 enum-told-2 : tie.Need-enum-told-2
 enum-told-2 c = search needs
 
-enum-known-k : tie.Need-enum-known-k
-enum-known-k c = search needs
+enum-known-refusal : tie.Need-enum-known-refusal
+enum-known-refusal c = search needs
 
-refusal-requires : tie.Need-refusal-requires
-refusal-requires c κs = search needs
+refusal-number-requires : tie.Need-refusal-number-requires
+refusal-number-requires c κs = search needs
 
 -- the verdict on the bytes is that on the numbers
 below : (w : tie.After-presets-equal)
@@ -60,7 +60,7 @@ returns-3 : tie.Need-returns-3
 unfolding verdictNumber
 returns-3 c =
     let told = c .before .before in
-    rw (← below (told .before .before), told .k .given .1) (i64-back _ (c .refusal .ok) ∙ c .refusal .ensures)
+    rw (← below (told .before .before), told .refusal .given .1) (i64-back _ (c .refusal-number .ok) ∙ c .refusal-number .ensures)
 
 pub winnathey-same-spec : {M : Type 1} → statement M
 winnathey-same-spec =
@@ -73,8 +73,8 @@ winnathey-same-spec =
     presets-equal-requires
     enum-told
     enum-told-2
-    enum-known-k
-    refusal-requires
+    enum-known-refusal
+    refusal-number-requires
     returns
     returns-2
     returns-3)

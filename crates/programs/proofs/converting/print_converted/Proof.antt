@@ -37,8 +37,8 @@ slice-aggregate-print c = sym (length-take-le _ _ (inside (c .before)))
 print-requires : tie.Need-print-requires
 print-requires c κs = search needs
 
-enum-known-k : tie.Need-enum-known-k
-enum-known-k c = search needs
+enum-known-refusal : tie.Need-enum-known-refusal
+enum-known-refusal c = search needs
 
 print-refused-requires : tie.Need-print-refused-requires
 print-refused-requires c κs = search needs
@@ -60,7 +60,7 @@ print-converted-spec =
     array-share-prefix-out
     slice-aggregate-print
     print-requires
-    enum-known-k
+    enum-known-refusal
     print-refused-requires
     returns
     returns-2)
