@@ -2,69 +2,48 @@
 use crate::lengths::lanes;
 use window::normal_form_of_window;
 ghost use mathlib.Core.Path.{_≡_};
-ghost use mathlib.Core.List.{map};
-ghost use Prim.Native.Nat.{_-_, _≤_};
+ghost use Prim.Native.Nat.{_<_, _≤_};
 ghost use lib.IntN.{pos};
-ghost use lib.ListN.{length, take};
+ghost use lib.ListN.{length, getD, take};
 ghost use Rattle.coxeter.specs.Kinds as kinds;
 ghost use Rattle.coxeter.specs.Kinds.{kindOf};
-ghost use Rattle.coxeter.specs.Windows.{from, negateFirst};
 ghost use Rattle.coxeter.specs.Length.{greatestLength};
 ghost use Rattle.coxeter.specs.Checks.{rankRefusal};
-ghost use Rattle.coxeter.specs.NormalForm.{down, normalForm};
+ghost use Rattle.coxeter.specs.NormalForm.{normalForm};
 ghost use Rattle.coxeter.specs.Calls.{written};
-ghost use Rattle.distribution.specs.Longest.{allNegative, longest};
+ghost use Rattle.distribution.specs.Longest.{longest};
 
-// m, m - 1, .., 1.
-fn set_falling(w: &mut [i8])
-    requires { ⌜ length (now w) ≤ 127 ⌝ }
-    ensures { λ _. ⌜ now (w .exit) ≡ map pos (down (length (now (w .entry))) (length (now (w .entry)))) ⌝ }
+// The entry at position i, from 0, of the longest window, which has m entries: m, m - 1, .., 1 in kind A, and else -1, -2, .., -m, but in kind D the
+// last one is positive where the rank is odd.
+fn longest_entry(kind: u8, n: usize, m: usize, i: usize) -> i8
+    requires { ⌜ (m ≡ kinds.lanes (kindOf kind) n) × (i < m) × (m ≤ 127) ⌝ }
+    ensures { λ r. ⌜ r ≡ getD (longest (kindOf kind) n) i (pos 0) ⌝ }
 {
-    let mut i = 0;
-    while i < w.len() {
-        w[i] = (w.len() - i) as i8;
-        i += 1;
+    if kind == 1 {
+        return (m - i) as i8;
     }
-}
-
-// -1, -2, .., -m.
-fn set_negative(w: &mut [i8])
-    requires { ⌜ length (now w) ≤ 127 ⌝ }
-    ensures { λ _. ⌜ now (w .exit) ≡ allNegative (length (now (w .entry))) ⌝ }
-{
-    let mut i = 0;
-    while i < w.len() {
-        let x = (i + 1) as i8;
-        w[i] = -x;
-        i += 1;
+    let x = (i + 1) as i8;
+    if kind == 2 {
+        return -x;
     }
-}
-
-// The last of these entries with its sign changed.
-fn negate_last(w: &mut [i8])
-    requires { ⌜ (1 ≤ length (now w)) × (length (now w) ≤ 127) ⌝ }
-    requires { ⌜ now w ≡ allNegative (length (now w)) ⌝ }
-    ensures { λ _. ⌜ now (w .exit) ≡ from (length (now (w .entry)) - 1) negateFirst (now (w .entry)) ⌝ }
-{
-    let m = w.len();
-    w[m - 1] = m as i8;
+    if n % 2 == 0 {
+        return -x;
+    }
+    if i + 1 == n {
+        return x;
+    }
+    -x
 }
 
 fn set_longest(kind: u8, n: usize, w: &mut [i8])
-    requires { ⌜ (1 ≤ n) × (n ≤ 64) ⌝ }
+    requires { ⌜ (kinds.least (kindOf kind) ≤ n) × (n ≤ 64) ⌝ }
     requires { ⌜ length (now w) ≡ kinds.lanes (kindOf kind) n ⌝ }
     ensures { λ _. ⌜ now (w .exit) ≡ longest (kindOf kind) n ⌝ }
 {
-    if kind == 1 {
-        set_falling(w);
-        return;
-    }
-    set_negative(w);
-    if kind == 2 {
-        return;
-    }
-    if n % 2 == 1 {
-        negate_last(w);
+    let mut i = 0;
+    while i < w.len() {
+        w[i] = longest_entry(kind, n, w.len(), i);
+        i += 1;
     }
 }
 

@@ -1,7 +1,7 @@
 -- The entries of the longest window one by one, as code writes them, and its normal form as another call writes it.
--- Sections: entries; the last entry; odd ranks; the longest window, by cases as code has them; the normal form.
+-- Sections: entries; the last entry; odd ranks; the longest window, entry by entry, by cases as code has them; the normal form.
 -- Assumes nothing.
-use mathlib.Core.Path.{_≡_, refl, sym, ap, ap₂, _∙_}
+use mathlib.Core.Path.{_≡_, refl, sym, ap, _∙_}
 use mathlib.Core.Bool.{Bool, true, false, not}
 use mathlib.Core.List.{List, [], _∷_, map}
 use Prim.Native.Nat.{ℕ, zero, suc, _+_, _-_, _%_, _≤_, _<_}
@@ -11,10 +11,11 @@ use native.Mathlib.Numerals.{add-one}
 use borrow.Author.Tests.{eq-eqb, le-ltb}
 use lib.IntN.{ℤ, pos, negsuc, negℤ, _-ℤ_}
 use lib.ListN.{length, getD, set, take}
-use lib.Seq.{take-all}
+use lib.Seq.{take-all, getD-set-same, getD-set-other}
+use lib.Signed.{mag}
 use mir.Syntax.{w8}
 use mir.Val.{toZ, ofZ}
-use Rattle.coxeter.specs.Kinds.{pick, kindOf, lanes, up}
+use Rattle.coxeter.specs.Kinds.{pick, kindOf, lanes, least, up}
 use Rattle.coxeter.specs.Windows.{from, negateFirst}
 use Rattle.coxeter.specs.Length.{greatestLength}
 use Rattle.coxeter.specs.Checks.{odd, tooShort, rankRefusal, windowRefusal}
@@ -24,9 +25,9 @@ use Rattle.coxeter.proofs.KindLaws.{kindOf-one, kindOf-two, kindOf-three, lanes
 use Rattle.coxeter.proofs.Lists.{written-next}
 use Rattle.coxeter.proofs.Acceptance.{rank-within}
 use Rattle.coxeter.proofs.Outcomes.{written-front}
-use Rattle.refusals.proofs.Bytes.{cast-back, minus-cast-back}
+use Rattle.refusals.proofs.Bytes.{element-back, cast-back, minus-cast-back}
 use Rattle.distribution.specs.Longest.{allNegative, longest}
-use Rattle.distribution.proofs.Longest.{falling-suc, length-falling, length-allNegative, longest-is}
+use Rattle.distribution.proofs.Longest.{falling-suc, length-allNegative, longest-is}
 use Rattle.distribution.proofs.Tables.{length-longest, length-longest-form}
 
 -- ---- entries
@@ -46,26 +47,9 @@ getD-negative j zero i h = absurd (omega arith)
 getD-negative j (suc m) zero h = ap negsuc (sym (add-zero j))
 getD-negative j (suc m) (suc i) h = getD-negative (suc j) m i (omega arith) ∙ ap negsuc (suc-add j i ∙ sym (add-suc j i))
 
-module _ (i m : ℕ) (w : List ℤ) (o : i < length w) (s : length w ≡ m) (b : m ≤ 127) where
-  pub falling-next : take i w ≡ take i (map pos (down m m)) → take (i + 1) (set w i (toZ w8 (length w - i))) ≡ take (i + 1) (map pos (down m m))
-  falling-next t =
-      let e : length w - i ≡ m - i = omega arith in
-      written-next i (toZ w8 (length w - i)) (pos 0) (map pos (down m m)) w (omega (arith, length-falling m)) o
-      (cast-back (length w - i) (omega arith) ∙ ap pos e ∙ sym (getD-falling m i (omega arith))) t
-
-  pub negative-next : take i w ≡ take i (allNegative m)
-      → take (i + 1) (set w i (toZ w8 (ofZ w8 (pos 0 -ℤ toZ w8 (i + 1))))) ≡ take (i + 1) (allNegative m)
-  unfolding allNegative
-  negative-next t =
-      written-next i (toZ w8 (ofZ w8 (pos 0 -ℤ toZ w8 (i + 1)))) (pos 0) (allNegative m) w (omega (arith, length-allNegative m)) o
-      (minus-cast-back (i + 1) (omega arith) ∙ ap (λ (x : ℕ). negℤ (pos x)) (add-one i) ∙ sym entry) t
-    where
-      entry : getD (map negsuc (up 0 m)) i (pos 0) ≡ negsuc i
-      entry = let e : 0 + i ≡ i = omega arith in getD-negative 0 m i (omega arith) ∙ ap negsuc e
-
--- all entries are written
-pub all-written : (i : ℕ) (w l : List ℤ) → length w ≤ i → length w ≡ length l → take i w ≡ take i l → w ≡ l
-all-written i w l h e t = sym (take-all i w h) ∙ t ∙ take-all i l (omega arith)
+getD-allNegative : (m i : ℕ) → i < m → getD (allNegative m) i (pos 0) ≡ negsuc i
+unfolding allNegative
+getD-allNegative m i h = let e : 0 + i ≡ i = omega arith in getD-negative 0 m i h ∙ ap negsuc e
 
 -- ---- the last entry
 
@@ -77,17 +61,14 @@ negated-last j (suc m) =
     ap (λ (w : List ℤ). negsuc j ∷ w)
     (ap (λ (x : ℕ). set (map negsuc (up (suc j) (suc m))) m (pos (suc x))) e ∙ negated-last (suc j) m)
 
-pub negated-entry : (w : List ℤ) → 1 ≤ length w → length w ≤ 127 → w ≡ allNegative (length w)
-    → set w (length w - 1) (toZ w8 (length w)) ≡ from (length w - 1) negateFirst w
+-- the last entry changed is the last position
+last-positive : (n : ℕ) → 1 ≤ n → from (n - 1) negateFirst (allNegative n) ≡ set (allNegative n) (n - 1) (pos n)
 unfolding allNegative
-negated-entry w h b e = go (length w) h b e
-  where
-    go : (m : ℕ) → 1 ≤ m → m ≤ 127 → w ≡ map negsuc (up 0 m) → set w (m - 1) (toZ w8 m) ≡ from (m - 1) negateFirst w
-    go zero p q s = absurd (omega arith)
-    go (suc m) p q s =
-        let d : suc m - 1 ≡ m = omega arith in
-        let z : 0 + m ≡ m = omega arith in
-        rw (cast-back (suc m) (omega arith), d, s) (rw z at (negated-last 0 m))
+last-positive zero h = absurd (omega arith)
+last-positive (suc m) h =
+    let d : suc m - 1 ≡ m = omega arith in
+    let z : 0 + m ≡ m = omega arith in
+    rw d (sym (rw z at (negated-last 0 m)))
 
 -- ---- odd ranks
 
@@ -100,53 +81,77 @@ odd-mod (suc n) = cases (odd n) (odd-mod n)
     cases true e = omega arith
     cases false e = omega arith
 
-pub odd-of-one : (n : ℕ) → n % 2 ≡ 1 → odd n ≡ true
-odd-of-one n e = cases (odd n) (odd-mod n)
+even-of-zero : (n : ℕ) → n % 2 ≡ 0 → odd n ≡ false
+even-of-zero n e = cases (odd n) (odd-mod n)
+  where
+    cases : (t : Bool) → pick t 1 0 ≡ n % 2 → t ≡ false
+    cases true h = absurd (omega arith)
+    cases false h = refl
+
+odd-of-other : (n : ℕ) → (n % 2 ≡ 0 → ⊥) → odd n ≡ true
+odd-of-other n f = cases (odd n) (odd-mod n)
   where
     cases : (t : Bool) → pick t 1 0 ≡ n % 2 → t ≡ true
     cases true h = refl
-    cases false h = absurd (omega arith)
+    cases false h = absurd (f (sym h))
 
-pub even-of-other : (n : ℕ) → (n % 2 ≡ 1 → ⊥) → odd n ≡ false
-even-of-other n f = cases (odd n) (odd-mod n)
-  where
-    cases : (t : Bool) → pick t 1 0 ≡ n % 2 → t ≡ false
-    cases true h = absurd (f (sym h))
-    cases false h = refl
-
--- ---- the longest window, by cases as code has them
+-- ---- the longest window, entry by entry, by cases as code has them
 
 pub lanes-fit : (k n m : ℕ) → n ≤ 64 → m ≡ lanes (kindOf k) n → m ≤ 127
 lanes-fit k n m h e = omega (arith, lanes-le-add-one (kindOf k) n)
 
-module _ (k n m : ℕ) (v : List ℤ) where
-  pub longest-falling : k ≡ 1 → m ≡ lanes (kindOf k) n → v ≡ map pos (down m m) → v ≡ longest (kindOf k) n
+module _ (k n m i : ℕ) (e : m ≡ lanes (kindOf k) n) (o : i < m) where
+  abbrev Entry : ℤ → Type 0
+  Entry z = z ≡ getD (longest (kindOf k) n) i (pos 0)
+
+  pub entry-A : k ≡ 1 → m ≤ 127 → Entry (toZ w8 (m - i))
   unfolding longest
-  longest-falling i e h = let a = kindOf-one k i in rw a (h ∙ ap (λ (x : ℕ). map pos (down x x)) (rw a at e))
+  entry-A a b =
+      let q = kindOf-one k a in
+      rw q (cast-back (m - i) (omega arith) ∙ sym (getD-falling m i o) ∙ ap (λ (x : ℕ). getD (map pos (down x x)) i (pos 0)) (rw q at e))
 
-  pub longest-negative : k ≡ 2 → m ≡ lanes (kindOf k) n → v ≡ allNegative m → v ≡ longest (kindOf k) n
+  negative-is : m ≤ 127 → toZ w8 (ofZ w8 (pos 0 -ℤ toZ w8 (i + 1))) ≡ getD (allNegative m) i (pos 0)
+  negative-is b = minus-cast-back (i + 1) (omega arith) ∙ ap (λ (x : ℕ). negℤ (pos x)) (add-one i) ∙ sym (getD-allNegative m i o)
+
+  pub entry-B : k ≡ 2 → m ≤ 127 → Entry (toZ w8 (ofZ w8 (pos 0 -ℤ toZ w8 (i + 1))))
   unfolding longest
-  longest-negative i e h = let b = kindOf-two k i in rw b (h ∙ ap allNegative (rw b at e))
+  entry-B a b = let q = kindOf-two k a in rw q (negative-is b ∙ ap (λ (x : ℕ). getD (allNegative x) i (pos 0)) (rw q at e))
 
-module _ (k n m : ℕ) (v : List ℤ) (i : k ≡ 1 → ⊥) (j : k ≡ 2 → ⊥) (e : m ≡ lanes (kindOf k) n) (h : v ≡ allNegative m) where
-  rank-lanes : m ≡ n
-  rank-lanes = rw (kindOf-three k i j) at e
+  module _ (f : k ≡ 1 → ⊥) (g : k ≡ 2 → ⊥) where
+    rank-lanes : m ≡ n
+    rank-lanes = rw (kindOf-three k f g) at e
 
-  pub longest-even : (n % 2 ≡ 1 → ⊥) → v ≡ longest (kindOf k) n
-  unfolding longest
-  longest-even f = rw (kindOf-three k i j, even-of-other n f) (h ∙ ap allNegative rank-lanes)
+    negative-rank : m ≤ 127 → toZ w8 (ofZ w8 (pos 0 -ℤ toZ w8 (i + 1))) ≡ getD (allNegative n) i (pos 0)
+    negative-rank b = negative-is b ∙ ap (λ (x : ℕ). getD (allNegative x) i (pos 0)) rank-lanes
 
-  pub turning : (1 ≤ n) × (n ≤ 64) → ((1 ≤ length v) × (length v ≤ 127)) × (v ≡ allNegative (length v))
-  turning r =
-      let l : length v ≡ m = ap length h ∙ length-allNegative m in
-      ((omega (arith, rank-lanes), omega (arith, rank-lanes)), h ∙ ap allNegative (sym l))
+    pub entry-even : n % 2 ≡ 0 → m ≤ 127 → Entry (toZ w8 (ofZ w8 (pos 0 -ℤ toZ w8 (i + 1))))
+    unfolding longest
+    entry-even t b = rw (kindOf-three k f g, even-of-zero n t) (negative-rank b)
 
-  pub longest-turned : (x : List ℤ) → n % 2 ≡ 1 → x ≡ from (length v - 1) negateFirst v → x ≡ longest (kindOf k) n
-  unfolding longest
-  longest-turned x f g =
-      let l : length v ≡ n = ap length h ∙ length-allNegative m ∙ rank-lanes in
-      rw (kindOf-three k i j, odd-of-one n f)
-      (g ∙ ap₂ (λ (a : ℕ) (w : List ℤ). from (a - 1) negateFirst w) l (h ∙ ap allNegative rank-lanes))
+    pub entry-last : (n % 2 ≡ 0 → ⊥) → i + 1 ≡ n → m ≤ 127 → Entry (toZ w8 (i + 1))
+    unfolding longest
+    entry-last t l b =
+        let p : n - 1 ≡ i = omega arith in
+        let inside : i < length (allNegative (i + 1)) = omega (arith, length-allNegative (i + 1)) in
+        rw (kindOf-three k f g, odd-of-other n t, last-positive n (omega arith), p, ← l)
+        (cast-back (i + 1) (omega arith) ∙ sym (getD-set-same (allNegative (i + 1)) i (pos (i + 1)) (pos 0) inside))
+
+    pub entry-odd : (n % 2 ≡ 0 → ⊥) → (i + 1 ≡ n → ⊥) → m ≤ 127 → Entry (toZ w8 (ofZ w8 (pos 0 -ℤ toZ w8 (i + 1))))
+    unfolding longest
+    entry-odd t l b =
+        rw (kindOf-three k f g, odd-of-other n t, last-positive n (omega (arith, rank-lanes)))
+        (negative-rank b ∙ sym (getD-set-other (allNegative n) (n - 1) i (pos n) (pos 0) (λ q. l (omega (arith, rank-lanes)))))
+
+-- the next entry is written, and all are
+pub longest-next : (k n i : ℕ) (z : ℤ) (w : List ℤ) → least (kindOf k) ≤ n → i < length w → length w ≡ lanes (kindOf k) n → mag z < 128
+    → z ≡ getD (longest (kindOf k) n) i (pos 0) → take i w ≡ take i (longest (kindOf k) n)
+    → take (i + 1) (set w i (toZ w8 (ofZ w8 z))) ≡ take (i + 1) (longest (kindOf k) n)
+longest-next k n i z w r o s f e t =
+    written-next i (toZ w8 (ofZ w8 z)) (pos 0) (longest (kindOf k) n) w (omega (arith, length-longest (kindOf k) n r)) o (element-back z f ∙ e) t
+
+pub longest-all : (k n i : ℕ) (w : List ℤ) → least (kindOf k) ≤ n → length w ≤ i → length w ≡ lanes (kindOf k) n
+    → take i w ≡ take i (longest (kindOf k) n) → w ≡ longest (kindOf k) n
+longest-all k n i w r h s t = sym (take-all i w h) ∙ t ∙ take-all i (longest (kindOf k) n) (omega (arith, length-longest (kindOf k) n r))
 
 -- ---- the normal form
 

@@ -1,73 +1,70 @@
--- `longest::set_longest` writes the longest window, by cases on the kind and, in kind D, on whether the rank is odd.
+-- `longest::set_longest` writes the longest window entry by entry. The invariant: the entries before i are written.
 -- Assumes nothing.
+use mathlib.Core.Path.{_≡_, refl, _∙_}
+use Prim.Native.Nat.{_-_, _≤_}
+use native.Mathlib.Omega.{arith}
+use lib.ListN.{length, length-set, take}
 use borrow.Author.Needs.{needs}
-use Rattle.delay.proofs.longest.Entries.{lanes-fit, longest-falling, longest-negative, turning, longest-turned, longest-even}
+use Rattle.coxeter.specs.Kinds.{kindOf}
+use Rattle.distribution.specs.Longest.{longest}
+use Rattle.delay.proofs.longest.Entries.{lanes-fit, longest-next, longest-all}
 use Rattle.delay.proofs.longest.set_longest.Statement.{statement}
 use Rattle.delay.proofs.longest.set_longest.Tie as tie
 
-set-falling-requires : tie.Need-set-falling-requires
-set-falling-requires c κs = let pre = c .before .before .pre in lanes-fit _ _ _ (pre .0 .1) (pre .1)
+abbrev Inv-loop : tie.InvT-loop
+Inv-loop kind n w₀ i₀ w i = (i ≤ length w) × (length w ≡ length w₀) × (take i w ≡ take i (longest (kindOf kind) n))
 
-same-length : tie.Need-same-length
+abbrev μ-loop : tie.MeasureT-loop
+μ-loop kind n w₀ i₀ w i = length w₀ - i
+
+loop-holds : tie.Need-loop-holds Inv-loop μ-loop
+loop-holds c = (omega arith, refl, refl)
+
+longest-entry-requires : tie.Need-longest-entry-requires Inv-loop μ-loop
+longest-entry-requires c κs =
+    let size = c .before .loop .inv .1 in
+    let pre = c .before .before .pre in
+    (size ∙ pre .1, c .loop-test .taken, lanes-fit _ _ _ (pre .0 .1) (size ∙ pre .1))
+
+slice-set-from-w : tie.Need-slice-set-from-w Inv-loop μ-loop
+slice-set-from-w c = search needs
+
+add-i : tie.Need-add-i Inv-loop μ-loop
+add-i c = search needs
+
+loop-less : tie.Need-loop-less Inv-loop μ-loop
+loop-less c = search needs
+
+loop-again : tie.Need-loop-again Inv-loop μ-loop
+loop-again c =
+    let turn = c .before in
+    let i = turn .before .loop .inv in
+    let pre = turn .before .before .pre in (
+      simp length-set (omega arith),
+      simp length-set (i .1),
+      longest-next _ _ _ _ _ (pre .0 .0) (turn .loop-test .taken) (i .1 ∙ pre .1) (c .longest-entry .ok) (c .longest-entry .ensures) (i .2),
+    )
+
+same-length : tie.Need-same-length Inv-loop μ-loop
 same-length c = search needs
 
-returns : tie.Need-returns
+returns : tie.Need-returns Inv-loop μ-loop
 returns c =
-    let start = c .before .before .before .before in
-    longest-falling _ _ _ _ (c .before .before .before .if1 .taken) (start .pre .1) (c .before .set-falling .ensures)
-
-set-negative-requires : tie.Need-set-negative-requires
-set-negative-requires c κs = let pre = c .before .before .pre in lanes-fit _ _ _ (pre .0 .1) (pre .1)
-
-same-length-2 : tie.Need-same-length-2
-same-length-2 c = search needs
-
-returns-2 : tie.Need-returns-2
-returns-2 c =
-    let start = c .before .before .before .before .before in
-    longest-negative _ _ _ _ (c .if2 .taken) (start .pre .1) (c .before .before .set-negative .ensures)
-
-negate-last-requires : tie.Need-negate-last-requires
-negate-last-requires c κs =
-    let other = c .before .before in
-    let negative = other .before .before in
-    let pre = negative .before .before .before .pre in
-    turning _ _ _ _ (negative .before .before .if1 .left) (other .if2 .left) (pre .1) (negative .set-negative .ensures) (pre .0)
-
-same-length-3 : tie.Need-same-length-3
-same-length-3 c = search needs
-
-returns-3 : tie.Need-returns-3
-returns-3 c =
-    let odd = c .before .before .before in
-    let other = odd .before in
-    let negative = other .before .before in
-    let start = negative .before .before .before in
-    longest-turned _ _ _ _ (negative .before .before .if1 .left) (other .if2 .left) (start .pre .1) (negative .set-negative .ensures) _
-    (odd .if3 .taken) (c .before .negate-last .ensures)
-
-same-length-4 : tie.Need-same-length-4
-same-length-4 c = search needs
-
-returns-4 : tie.Need-returns-4
-returns-4 c =
-    let other = c .before in
-    let negative = other .before .before in
-    let start = negative .before .before .before in
-    longest-even _ _ _ _ (negative .before .before .if1 .left) (other .if2 .left) (start .pre .1) (negative .set-negative .ensures) (c .if3 .left)
+    let i = c .before .loop .inv in
+    let pre = c .before .before .pre in
+    longest-all _ _ _ _ (pre .0 .0) (c .loop-test .left) (i .1 ∙ pre .1) (i .2)
 
 pub set-longest-spec : {M : Type 1} → statement M
 set-longest-spec =
     tie.close
     (tie.spec
-    set-falling-requires
+    Inv-loop
+    μ-loop
+    loop-holds
+    longest-entry-requires
+    slice-set-from-w
+    add-i
+    loop-less
+    loop-again
     same-length
-    returns
-    set-negative-requires
-    same-length-2
-    returns-2
-    negate-last-requires
-    same-length-3
-    returns-3
-    same-length-4
-    returns-4)
+    returns)

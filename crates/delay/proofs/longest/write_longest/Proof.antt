@@ -6,7 +6,6 @@ use borrow.Author.Needs.{needs}
 use Rattle.coxeter.proofs.Acceptance.{rank-accepted}
 use Rattle.coxeter.proofs.Outcomes.{written-part}
 use Rattle.distribution.proofs.Tables.{length-longest}
-use Rattle.distribution.proofs.Outcomes.{rank-small}
 use Rattle.delay.proofs.longest.write_longest.Statement.{statement}
 use Rattle.delay.proofs.longest.write_longest.Tie as tie
 
@@ -21,7 +20,7 @@ slice-aggregate-set-longest c = sym (length-take-le _ _ (search needs))
 
 set-longest-requires : tie.Need-set-longest-requires
 set-longest-requires c κs =
-    (rank-small _ _ (c .before .before .pre .0), length-take-le _ _ (search needs) ∙ c .before .lanes .ensures)
+    (rank-accepted _ _ (c .before .before .pre .0), length-take-le _ _ (search needs) ∙ c .before .lanes .ensures)
 
 same-length : tie.Need-same-length
 same-length c = search needs
