@@ -93,10 +93,13 @@ laneCountBeforeRank ed b =
     presetBy ed (λ o. check 17 (wrongLaneCount ed b o) then bookRankRefusal ed (kindAt b o) (rankAt b o) then wordRefusal (rankAt b o) (lettersAt ed b o)) b
 
 -- the lane count n in kind A too
+abbrev otherThanRank : Edition → List ℕ → ℕ → Bool
+otherThanRank ed b o = not (eqb (lanesAt ed b o) (rankAt b o))
+
 abbrev pub laneCountIsTheRank : Edition → List ℕ → ℕ → Preset
 laneCountIsTheRank ed b =
     presetBy ed
-    (λ o. bookRankRefusal ed (kindAt b o) (rankAt b o) then check 17 (not (eqb (lanesAt ed b o) (rankAt b o))) then wordRefusal (rankAt b o) (lettersAt ed b o)) b
+    (λ o. bookRankRefusal ed (kindAt b o) (rankAt b o) then check 17 (otherThanRank ed b o) then wordRefusal (rankAt b o) (lettersAt ed b o)) b
 
 -- the ranges of the first edition
 abbrev pub rangesOfTheFirst : Edition → List ℕ → ℕ → Preset

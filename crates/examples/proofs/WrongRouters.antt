@@ -184,7 +184,8 @@ unfolding table allDiffer differs numbers ofAnswer ofVerdict ofChoice ofRewrite 
     keep all.each lists all.entries all.windows ofLength distribution sum allNegative longest
     untabled tableRefusal tableOf roomRefusal tabling.tables delayTable
     twoAt two count trailer offset wrongSize wrongCount misplacedFrom misplaced noSuchPreset tooLarge retired wrongRankInBook wrongLaneCount bookRankRefusal
-    bookRefusal recordRefusal presetRefusal recordOf appended appendRefusal openedOf presetOf checkedBook presetAt checkedPreset lettersStart lettersOf appending
+    bookRefusal recordRefusal presetRefusal recordOf appended appendRefusal openedOf presetOf
+    checkedBook presetAt checkedPreset lettersStart lettersOf appending
     recordBytes offsetBytes layOut recordsFrom recordsOf converted tooManyLanes recordConversionRefusal recordsConversionRefusal conversionRefusal converting
     digits decimal spaced letters entry entries kindLetter head tail presetLine refused refusedLine refusedBookLine countLine wordLine lineBy lineOf
     lineCountBy lineCount firstLine line lines fitting nextPiece
@@ -220,8 +221,10 @@ bookOf65536Bytes-ruled-out ed b e h =
     opened-late (wrongCount b) (misplaced ed b) (count b) (rw e at (sym h) ∙ too-large-book ed b e)
 
 -- and every preset that would make an accepted book larger than 65,535 bytes tells this one, where the output is shorter than the new book
-pub roomBeforeTheSizeLimit-ruled-out : (ed : Edition) (b : List ℕ) (k n : ℕ) (u out : List ℕ) → bookRefusal ed b ≡ 0 → bookRankRefusal ed k n ≡ 0 → wordRefusal n u ≡ 0
-    → retired k n ≡ false → 65535 < length (appended ed b k n u) → length out < length (appended ed b k n u) → appending ed b k n u out ≡ roomBeforeTheSizeLimit ed b k n u out → ⊥
+pub roomBeforeTheSizeLimit-ruled-out : (ed : Edition) (b : List ℕ) (k n : ℕ) (u out : List ℕ)
+    → bookRefusal ed b ≡ 0 → bookRankRefusal ed k n ≡ 0 → wordRefusal n u ≡ 0 → retired k n ≡ false
+    → 65535 < length (appended ed b k n u) → length out < length (appended ed b k n u)
+    → appending ed b k n u out ≡ roomBeforeTheSizeLimit ed b k n u out → ⊥
 unfolding writes answerOf tooShort
 roomBeforeTheSizeLimit-ruled-out ed b k n u out e f g o large short h =
     let w : roomBeforeTheSizeLimit ed b k n u out .answer ≡ answers.Refused 14 = rw (lt-ltb (length out) (length (appended ed b k n u)) short) in

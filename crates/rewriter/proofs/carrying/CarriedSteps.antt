@@ -50,8 +50,9 @@ module _ {k : Kind} {n : ℕ} {rest : List ℕ} {s : ℕ} {families places lengt
 
   module _ {q : ℕ} (a : Ready k n rest s families places lengths word q) (u : Use) (e : lowestUse k n (take (suc q) word) ≡ some u) where
     -- a step that is noted, of any family but 1
-    pub carried-step : (s′ : ℕ) (families′ places′ lengths′ word′ : List ℕ) → (u .rule .family ≡ 1 → ⊥) → s′ ≡ s + 1 → families′ ≡ set families s (u .rule .family)
-        → places′ ≡ set places s (u .place) → lengths′ ≡ set lengths s (length word + length rest) → word′ ≡ after word u
+    pub carried-step : (s′ : ℕ) (families′ places′ lengths′ word′ : List ℕ) → (u .rule .family ≡ 1 → ⊥) → s′ ≡ s + 1
+        → families′ ≡ set families s (u .rule .family) → places′ ≡ set places s (u .place)
+        → lengths′ ≡ set lengths s (length word + length rest) → word′ ≡ after word u
         → Carried k n rest s families places lengths word s′ families′ places′ lengths′ word′ (u .place)
     carried-step s′ families′ places′ lengths′ word′ f i j l m o =
         let b = after-moved k n (a .rank) word q (a .reading) u e f in
