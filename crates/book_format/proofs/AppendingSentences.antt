@@ -12,7 +12,7 @@ use lib.ListN.{length}
 use Rattle.coxeter.specs.declared.Answer.{Answer}
 use Rattle.coxeter.specs.declared.Answer.the-variants.{Length, Refused}
 use Rattle.coxeter.specs.Kinds.{kindOf}
-use Rattle.coxeter.specs.Checks.{check, _then_, wrongKind, tooLong, wrongLetter, tooShort, rankRefusal, wordRefusal}
+use Rattle.coxeter.specs.Checks.{check, _then_, wrongKind, tooLong, wrongLetter, tooShort, rankRefusal, wordRefusal, WordOf}
 use Rattle.coxeter.specs.Calls.{Yields, writes}
 use Rattle.coxeter.proofs.Refusals.{then-zero, then-none, check-zero}
 use Rattle.book_format.specs.declared.Edition.{Edition}
@@ -84,7 +84,7 @@ module _ (ed : Edition) (b : List ℕ) (k n : ℕ) (u before after : List ℕ) (
   pub append-refused-unchanged : (r : ℕ) → a ≡ Refused r → after ≡ before
   append-refused-unchanged r e = c .1 ∙ appending-unchanged ed b k n u before r (sym (c .0) ∙ e)
 
-  append-parts-21 : appendRefusal ed b k n u ≡ 21 → (bookRefusal ed b ≡ 0) × (wordRefusal n u ≡ 0) × (retired k n ≡ true)
+  append-parts-21 : appendRefusal ed b k n u ≡ 21 → (bookRefusal ed b ≡ 0) × WordOf n u × (retired k n ≡ true)
   unfolding appendRefusal
   append-parts-21 e =
       let rank = bookRankRefusal ed k n in
@@ -98,7 +98,7 @@ module _ (ed : Edition) (b : List ℕ) (k n : ℕ) (u before after : List ℕ) (
       (p .0, s .0, check-holds 21 (retired k n) (λ z. omega arith) t)
 
   -- "21 when a preset of kind A and rank 1 is appended, checked after refusal 8": exactly then. Checks 5 and 6 accept this kind and rank
-  pub refused-21-exactly : (a ≡ Refused 21) ↔ ((bookRefusal ed b ≡ 0) × (wordRefusal n u ≡ 0) × (k ≡ 1) × (n ≡ 1))
+  pub refused-21-exactly : (a ≡ Refused 21) ↔ ((bookRefusal ed b ≡ 0) × WordOf n u × (k ≡ 1) × (n ≡ 1))
   refused-21-exactly = (
     λ e.
         let l = length (appended ed b k n u) in

@@ -15,7 +15,7 @@ use lib.ListN.{length, length-append}
 use borrow.Author.Tests.{ne-eqb, lt-ltb, le-ltb, eqb-true, ltb-false, not-false}
 use Rattle.coxeter.specs.Kinds.{Kind, A, B, D, kindOf, lanes}
 use Rattle.coxeter.specs.declared.Answer.the-variants as answer
-use Rattle.coxeter.specs.Checks.{check, _then_, wordRefusal}
+use Rattle.coxeter.specs.Checks.{check, _then_, wordRefusal, WordOf}
 use Rattle.coxeter.proofs.Acceptance.{rank-within}
 use Rattle.coxeter.proofs.Refusals.{then-zero, check-zero, then-none}
 use Rattle.book_format.specs.declared.Edition.{Edition}
@@ -46,7 +46,7 @@ other-other Second = refl
 pub record Passing (ed : Edition) (b : List ℕ) (o : ℕ) : Type 0 where
   pub rank : bookRankRefusal ed (kindAt b o) (rankAt b o) ≡ 0
   pub lanes-right : LanesRight (recordAt ed b o)
-  pub word : wordRefusal (rankAt b o) (lettersAt ed b o) ≡ 0
+  pub word : WordOf (rankAt b o) (lettersAt ed b o)
   pub few : tooManyLanes ed b o ≡ false
 
 pub passing : (ed : Edition) (b : List ℕ) (o : ℕ) → recordConversionRefusal ed b o ≡ 0 → Passing ed b o

@@ -10,7 +10,7 @@ use native.Mathlib.Decide.{ℕ-discrete}
 use native.Mathlib.Omega.{arith}
 use lib.ListN.{length, take, drop}
 use borrow.Author.Tests.{eq-eqb, ne-eqb, lt-leb, le-leb, leb-false}
-use Rattle.coxeter.specs.Checks.{check, _then_, rankRefusal, wordRefusal}
+use Rattle.coxeter.specs.Checks.{check, _then_, rankRefusal, wordRefusal, Rig, WordOf}
 use Rattle.book_format.specs.declared.Edition.{Edition}
 use Rattle.book_format.specs.declared.Opened.the-variants as opened
 use Rattle.book_format.specs.declared.Preset.the-variants as preset
@@ -184,18 +184,18 @@ preset-record ed b i z =
 
 -- it passes checks 5 to 8
 record-tests : (ed : Edition) (b : List ℕ) (o : ℕ) → recordRefusal ed b o ≡ 0
-    → (bookRankRefusal ed (kindAt b o) (rankAt b o) ≡ 0) × (wordRefusal (rankAt b o) (lettersAt ed b o) ≡ 0)
+    → (bookRankRefusal ed (kindAt b o) (rankAt b o) ≡ 0) × WordOf (rankAt b o) (lettersAt ed b o)
 unfolding recordRefusal
 record-tests ed b o z =
     let word = wordRefusal (rankAt b o) (lettersAt ed b o) in
     let a = then-zero (bookRankRefusal ed (kindAt b o) (rankAt b o)) (check 17 (wrongLaneCount ed b o) then word) z in
     (a .0, then-zero (check 17 (wrongLaneCount ed b o)) word (a .1) .1)
 
-pub found-rank : (ed : Edition) (b : List ℕ) (i k n s l : ℕ) → Found ed b i k n s l → rankRefusal k n ≡ 0
+pub found-rank : (ed : Edition) (b : List ℕ) (i k n s l : ℕ) → Found ed b i k n s l → Rig k n
 found-rank ed b i k n s l f =
     bookRank-accepted ed k n (rw (f .kind, f .rank) (record-tests ed b (offset b i) (preset-record ed b i (f .unrefused)) .0))
 
-pub found-word : (ed : Edition) (b : List ℕ) (i k n s l : ℕ) → Found ed b i k n s l → wordRefusal n (take (s + l - s) (drop s b)) ≡ 0
+pub found-word : (ed : Edition) (b : List ℕ) (i k n s l : ℕ) → Found ed b i k n s l → WordOf n (take (s + l - s) (drop s b))
 found-word ed b i k n s l f =
     let d : s + l - s ≡ l = omega arith in
     rw (d, f .rank, f .begins, f .counts) (record-tests ed b (offset b i) (preset-record ed b i (f .unrefused)) .1)

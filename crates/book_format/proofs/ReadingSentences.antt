@@ -15,7 +15,7 @@ use lib.ListN.{length, getD}
 use borrow.Author.Tests.{eq-eqb, ne-eqb, lt-ltb, le-ltb, leb-false}
 use Rattle.coxeter.specs.declared.Answer.the-variants.{Refused}
 use Rattle.coxeter.specs.Kinds.{A, B, D, pick, kindOf, lanes}
-use Rattle.coxeter.specs.Checks.{check, _then_, wrongKind, tooLong, wrongLetter, rankRefusal, wordRefusal}
+use Rattle.coxeter.specs.Checks.{check, _then_, wrongKind, tooLong, wrongLetter, rankRefusal, wordRefusal, WordOf}
 use Rattle.coxeter.specs.Calls.{Yields}
 use Rattle.coxeter.proofs.Refusals.{then-zero, check-zero}
 use Rattle.book_format.specs.declared.Edition.{Edition}
@@ -226,7 +226,7 @@ first-edition-never-17 b i e =
 -- "Books that hold them are read, .. and converted as before": preset i of a book is of kind A and rank 1, with its lane count, 2, and with letters
 -- that pass. It is found, its letters are handed out, and no test of a conversion holds of its record
 module _ (ed : Edition) (b : List ℕ) (i : ℕ) (z : bookRefusal ed b ≡ 0) (h : i < count b) (k : kindAt b (offset b i) ≡ 1) (n : rankAt b (offset b i) ≡ 1)
-    (m : lanesAt ed b (offset b i) ≡ 2) (w : wordRefusal 1 (lettersAt ed b (offset b i)) ≡ 0) where
+    (m : lanesAt ed b (offset b i) ≡ 2) (w : WordOf 1 (lettersAt ed b (offset b i))) where
   pub rank-1-read : (checkedPreset ed b i ≡ preset.Found 1 1 (offset b i + headSize ed) (letterCountAt ed b (offset b i)))
       × (lettersOf ed b i ≡ lettersAt ed b (offset b i))
   unfolding presetOf

@@ -9,7 +9,7 @@ use Prim.Native.Nat.{ℕ}
 use lib.Dec.{eqb}
 use borrow.Author.Tests.{eq-eqb, eqb-true}
 use Rattle.coxeter.specs.Kinds.{kindOf}
-use Rattle.coxeter.specs.Checks.{wrongKind, wrongRank, rankRefusal, wordRefusal}
+use Rattle.coxeter.specs.Checks.{wrongKind, wrongRank, rankRefusal, Rig, WordOf}
 use Rattle.book_format.specs.declared.Edition.{Edition}
 use Rattle.book_format.specs.declared.Edition.the-variants.{First, Second}
 use Rattle.book_format.specs.Books.{kindAt, rankAt, lanesAt, lettersAt, wrongRankInBook, bookRankRefusal, recordRefusal, retired}
@@ -23,7 +23,7 @@ retired-exactly k n =
     (λ h. let t = and-eq-true-iff (eqb k 1) (eqb n 1) .0 h in (eqb-true k 1 (t .0), eqb-true n 1 (t .1)), λ p. rw (eq-eqb k 1 (p .0), eq-eqb n 1 (p .1)))
 
 -- the calls on words and windows, and the records of a book
-pub rank-1-taken : rankRefusal 1 1 ≡ 0
+pub rank-1-taken : Rig 1 1
 unfolding rankRefusal wrongKind wrongRank kindOf
 rank-1-taken = refl
 
@@ -39,7 +39,7 @@ few-lanes Second b o m = rw m
 
 -- a record of this kind and rank, with its lane count, 2, whose letters pass: u are its letters
 module _ (ed : Edition) (b : List ℕ) (o : ℕ) (u : List ℕ) (k : kindAt b o ≡ 1) (n : rankAt b o ≡ 1) (m : lanesAt ed b o ≡ 2) (l : lettersAt ed b o ≡ u)
-    (w : wordRefusal 1 u ≡ 0) where
+    (w : WordOf 1 u) where
   pub retired-read : recordRefusal ed b o ≡ 0
   unfolding kindOf
   retired-read = recordRefusal-of ed b o 1 1 u k n m l ∙ rw (rank-1-in-book ed, w)

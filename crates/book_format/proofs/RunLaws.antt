@@ -16,7 +16,7 @@ use borrow.Author.Tests.{eq-eqb, ne-eqb, lt-ltb, le-ltb, lt-leb, le-leb, leb-fal
 use Rattle.book_format.specs.declared.Edition.{Edition}
 use Rattle.coxeter.specs.declared.Answer.{Answer}
 use Rattle.coxeter.specs.declared.Answer.the-variants as answer
-use Rattle.coxeter.specs.Checks.{check, _then_, wrongKind, tooShort, rankRefusal}
+use Rattle.coxeter.specs.Checks.{check, _then_, wrongKind, tooShort, rankRefusal, Rig}
 use Rattle.coxeter.specs.Calls.{answerOf, written}
 use Rattle.coxeter.proofs.Refusals.{then-zero, check-zero}
 use Rattle.coxeter.proofs.Acceptance.{rank-accepted}
@@ -36,7 +36,7 @@ length-fieldsOf (preset.Found k n s l) = refl
 length-fieldsOf (preset.Refused r) = refl
 
 -- a kind and a rank that pass checks 5 and 6 are bytes
-kind-small : (k n : ℕ) → rankRefusal k n ≡ 0 → k < 256
+kind-small : (k n : ℕ) → Rig k n → k < 256
 unfolding rankRefusal wrongKind
 kind-small k n z = elim (decLe k 3) [
   | yes h ↦ omega arith

@@ -18,7 +18,7 @@ use borrow.Author.Tests.{eq-eqb, ne-eqb}
 use Rattle.coxeter.specs.declared.Answer.{Answer}
 use Rattle.coxeter.specs.declared.Answer.the-variants.{Length, Refused}
 use Rattle.coxeter.specs.Kinds.{kindOf, lanes}
-use Rattle.coxeter.specs.Checks.{_then_, rankRefusal, wordRefusal}
+use Rattle.coxeter.specs.Checks.{_then_, rankRefusal, wordRefusal, WordOf}
 use Rattle.coxeter.specs.Calls.{Yields, writes}
 use Rattle.coxeter.proofs.Acceptance.{length-accepted}
 use Rattle.book_format.specs.declared.Edition.{Edition}
@@ -263,7 +263,7 @@ module _ (ed : Edition) where
         (rw none at (append-opens ed [] k n u before after l c .1), last .0, last .1)
 
     -- it is given for every preset that passes checks 5 to 8 and 21, wherever the output has room for it
-    pub no-bytes-append : (a : Answer) → Yields (appending ed [] k n u before) a after → bookRankRefusal ed k n ≡ 0 → wordRefusal n u ≡ 0
+    pub no-bytes-append : (a : Answer) → Yields (appending ed [] k n u before) a after → bookRankRefusal ed k n ≡ 0 → WordOf n u
         → ((k ≡ 1) × (n ≡ 1) → ⊥) → headSize ed + length u + 4 ≤ length before → a ≡ Length (headSize ed + length u + 4)
     no-bytes-append a c rank word f h =
         let opens = bookRefusal-bytes ed [] refl in

@@ -12,7 +12,7 @@ use lib.Dec.{ltb}
 use lib.ListN.{length, replicate}
 use borrow.Author.Tests.{ltb-true, lt-ltb}
 use Rattle.coxeter.specs.Kinds.{kindOf}
-use Rattle.coxeter.specs.Checks.{_then_, wrongKind, tooLong, wrongLetter, tooShort, rankRefusal, wordRefusal}
+use Rattle.coxeter.specs.Checks.{_then_, wrongKind, tooLong, wrongLetter, tooShort, rankRefusal, wordRefusal, WordOf}
 use Rattle.coxeter.specs.Calls.{answerOf, written, Outcome, writes}
 use Rattle.coxeter.proofs.Refusals.{then-next}
 use Rattle.coxeter.proofs.Vectors.{Agree, lent, wrote, refused}
@@ -243,7 +243,7 @@ appendings-agree = refl
 
 -- the size limit, for every accepted book and preset: a new book of 65,536 bytes or more is refused before the room is looked at, a smaller one only
 -- where there is no room
-module _ (ed : Edition) (b : List ℕ) (k n : ℕ) (u out : List ℕ) (e : bookRefusal ed b ≡ 0) (f : bookRankRefusal ed k n ≡ 0) (g : wordRefusal n u ≡ 0)
+module _ (ed : Edition) (b : List ℕ) (k n : ℕ) (u out : List ℕ) (e : bookRefusal ed b ≡ 0) (f : bookRankRefusal ed k n ≡ 0) (g : WordOf n u)
     (o : retired k n ≡ false) where
   passes : 0 ≡ (rankRefusal k n then wordRefusal n u)
   passes = then-next (rankRefusal k n) 0 (wordRefusal n u) 0 (sym (bookRank-accepted ed k n f)) refl (sym g)

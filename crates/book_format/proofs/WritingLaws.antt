@@ -13,7 +13,7 @@ use borrow.Author.Tests.{eq-eqb, ne-eqb, lt-ltb, le-ltb, ltb-false}
 use Rattle.book_format.specs.declared.Edition.{Edition}
 use Rattle.book_format.specs.declared.Edition.the-variants.{First, Second}
 use Rattle.coxeter.specs.declared.Answer.the-variants as answer
-use Rattle.coxeter.specs.Checks.{check, _then_, rankRefusal, wordRefusal}
+use Rattle.coxeter.specs.Checks.{check, _then_, rankRefusal, wordRefusal, WordOf}
 use Rattle.book_format.specs.Books.{two, count, trailer, tooLarge, retired, bookRankRefusal, bookRefusal}
 use Rattle.book_format.specs.Books.{laneByte, recordOf, appended, appendRefusal, countPlace, headSize, added}
 use Rattle.book_format.specs.Calls.{appending}
@@ -117,7 +117,7 @@ module _ (ed : Edition) (b : List ℕ) (k n : ℕ) (u : List ℕ) (r : ℕ) (e :
 
 -- where appending is not refused, none of its checks refuses
 append-parts : (ed : Edition) (b : List ℕ) (k n : ℕ) (u : List ℕ) → appendRefusal ed b k n u ≡ 0
-    → (bookRefusal ed b ≡ 0) × (bookRankRefusal ed k n ≡ 0) × (wordRefusal n u ≡ 0) × (check 13 (tooLarge (length (appended ed b k n u))) ≡ 0)
+    → (bookRefusal ed b ≡ 0) × (bookRankRefusal ed k n ≡ 0) × WordOf n u × (check 13 (tooLarge (length (appended ed b k n u))) ≡ 0)
 unfolding appendRefusal
 append-parts ed b k n u e =
     let size = check 13 (tooLarge (length (appended ed b k n u))) in

@@ -16,7 +16,7 @@ use borrow.Author.Tests.{le-ltb}
 use Rattle.coxeter.specs.declared.Answer.the-variants.{Length, Refused}
 use Rattle.coxeter.specs.Kinds.{kindOf, lanes}
 use Rattle.coxeter.specs.Windows.{straight, window, product, inverse}
-use Rattle.coxeter.specs.Checks.{check, _then_, tooLong, wrongLetter, rankRefusal, wordRefusal, windowRefusal}
+use Rattle.coxeter.specs.Checks.{check, _then_, tooLong, wrongLetter, wordRefusal, Rig, WordOf, WindowOf}
 use Rattle.coxeter.specs.NormalForm.{normalForm, wordNormalForm}
 use Rattle.coxeter.specs.Calls.{Yields, writes, windowOfWord, productOfWindows, inverseOfWindow, normalFormOfWindow, normalFormOfWord}
 use Rattle.coxeter.specs.Calls.{productOfWords, inverseOfWord, lengthOfWindow, lengthOfWord, crossingsOfWindow, crossingsOfWord}
@@ -36,35 +36,35 @@ use Rattle.coxeter.proofs.Written.{inverseOfWord-wrote}
 -- ---- outcomes
 
 -- the calls where no check before check 14 refuses
-module _ (k n : ℕ) (rank : rankRefusal k n ≡ 0) where
-  window-of : (u : List ℕ) (out : List ℤ) → wordRefusal n u ≡ 0 → windowOfWord k n u out ≡ writes 0 (window (kindOf k) n u) out
+module _ (k n : ℕ) (rank : Rig k n) where
+  window-of : (u : List ℕ) (out : List ℤ) → WordOf n u → windowOfWord k n u out ≡ writes 0 (window (kindOf k) n u) out
   unfolding windowOfWord
   window-of u out h = rw (rank, h)
 
-  form-of-word : (u out : List ℕ) → wordRefusal n u ≡ 0 → normalFormOfWord k n u out ≡ writes 0 (wordNormalForm (kindOf k) n u) out
+  form-of-word : (u out : List ℕ) → WordOf n u → normalFormOfWord k n u out ≡ writes 0 (wordNormalForm (kindOf k) n u) out
   unfolding normalFormOfWord
   form-of-word u out h = rw (rank, h)
 
-  form-of-window : (w : List ℤ) (out : List ℕ) → windowRefusal (kindOf k) n w ≡ 0
+  form-of-window : (w : List ℤ) (out : List ℕ) → WindowOf (kindOf k) n w
       → normalFormOfWindow k n w out ≡ writes 0 (normalForm (kindOf k) n w) out
   unfolding normalFormOfWindow
   form-of-window w out h = rw (rank, h)
 
-  product-of-windows : (v w out : List ℤ) → windowRefusal (kindOf k) n v ≡ 0 → windowRefusal (kindOf k) n w ≡ 0
+  product-of-windows : (v w out : List ℤ) → WindowOf (kindOf k) n v → WindowOf (kindOf k) n w
       → productOfWindows k n v w out ≡ writes 0 (product v w) out
   unfolding productOfWindows
   product-of-windows v w out h g = rw (rank, h, g)
 
-  inverse-of-window : (w out : List ℤ) → windowRefusal (kindOf k) n w ≡ 0 → inverseOfWindow k n w out ≡ writes 0 (inverse w) out
+  inverse-of-window : (w out : List ℤ) → WindowOf (kindOf k) n w → inverseOfWindow k n w out ≡ writes 0 (inverse w) out
   unfolding inverseOfWindow
   inverse-of-window w out h = rw (rank, h)
 
-  pub product-of-words : (u v out : List ℕ) → wordRefusal n u ≡ 0 → wordRefusal n v ≡ 0
+  pub product-of-words : (u v out : List ℕ) → WordOf n u → WordOf n v
       → productOfWords k n u v out ≡ writes 0 (wordNormalForm (kindOf k) n (u ++ v)) out
   unfolding productOfWords
   product-of-words u v out h g = rw (rank, h, g, normalForm-product (kindOf k) n u v)
 
-  inverse-of-word : (u out : List ℕ) → wordRefusal n u ≡ 0 → inverseOfWord k n u out ≡ writes 0 (wordNormalForm (kindOf k) n (reverse u)) out
+  inverse-of-word : (u out : List ℕ) → WordOf n u → inverseOfWord k n u out ≡ writes 0 (wordNormalForm (kindOf k) n (reverse u)) out
   unfolding inverseOfWord
   inverse-of-word u out h = rw (rank, h, normalForm-inverse (kindOf k) n u)
 
@@ -100,7 +100,7 @@ module _ (k n : ℕ) (u : List ℕ) (before after : List ℤ) (l : ℕ) (left : 
 -- ---- from a normal form
 
 -- a normal form is accepted as a word
-form-fits : (k n : ℕ) (u : List ℕ) → rankRefusal k n ≡ 0 → wordRefusal n (wordNormalForm (kindOf k) n u) ≡ 0
+form-fits : (k n : ℕ) (u : List ℕ) → Rig k n → WordOf n (wordNormalForm (kindOf k) n u)
 form-fits k n u h = normalForm-fits k n (window (kindOf k) n u) h (window-passes (kindOf k) n u)
 
 form-window : (k n : ℕ) (u : List ℕ) → window (kindOf k) n (wordNormalForm (kindOf k) n u) ≡ window (kindOf k) n u

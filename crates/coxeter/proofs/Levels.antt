@@ -13,7 +13,7 @@ use borrow.Author.Tests.{eqb-true, eqb-false, eq-eqb, ne-eqb, ltb-false, le-ltb,
 use Rattle.coxeter.specs.Kinds.{Kind, A, B, D, pick, lanes, up}
 use Rattle.coxeter.specs.Windows.{from, exchange, negateFirst, exchangeNegate, act, windowFrom, straight, window}
 use Rattle.coxeter.specs.Length.{negatives}
-use Rattle.coxeter.specs.Checks.{check, _then_, hasSize, wrongLanes, wrongAt, wrongEntry, odd, oddNegatives, windowRefusal}
+use Rattle.coxeter.specs.Checks.{check, _then_, hasSize, wrongLanes, wrongAt, wrongEntry, odd, oddNegatives, windowRefusal, WindowOf}
 use Rattle.coxeter.specs.NormalForm.{without}
 use Rattle.coxeter.proofs.Basics.{length-straight, by-pick}
 use Rattle.coxeter.proofs.Sizes.{or-left-comm, hasSize-without, length-le-without, wrongEntry-cons, hasSize-head}
@@ -132,7 +132,7 @@ checks-of-signs A w s = (s, refl)
 checks-of-signs B w s = (tt, refl)
 checks-of-signs D w s = (tt, s)
 
-pub accepted-of-refusal : (k : Kind) (n : ℕ) (w : List ℤ) → windowRefusal k n w ≡ 0 → Accepted k n w
+pub accepted-of-refusal : (k : Kind) (n : ℕ) (w : List ℤ) → WindowOf k n w → Accepted k n w
 unfolding windowRefusal wrongLanes
 accepted-of-refusal k n w h =
     let m : ℕ = lanes k n in
@@ -147,7 +147,7 @@ accepted-of-refusal k n w h =
       signs = signs-of-checks k w (f .2) o;
     }
 
-pub refusal-of-accepted : (k : Kind) (n : ℕ) (w : List ℤ) → Accepted k n w → windowRefusal k n w ≡ 0
+pub refusal-of-accepted : (k : Kind) (n : ℕ) (w : List ℤ) → Accepted k n w → WindowOf k n w
 unfolding windowRefusal wrongLanes
 refusal-of-accepted k n w h =
     let f = checks-of-signs k w (h .signs) in

@@ -23,7 +23,8 @@ use Rattle.coxeter.specs.declared.Counted.the-variants as counted
 use Rattle.coxeter.specs.Kinds.{Kind, A, B, D, kindOf, lanes}
 use Rattle.coxeter.specs.Windows.{window}
 use Rattle.coxeter.specs.Length.{negative, inversions, negativeSumPairs, negatives, Crossings, crossings, total, windowLength}
-use Rattle.coxeter.specs.Checks.{check, _then_, wrongKind, wrongRank, wrongLanes, wrongEntry, oddNegatives, rankRefusal, wordRefusal, windowRefusal}
+use Rattle.coxeter.specs.Checks.{check, _then_, wrongKind, wrongRank, wrongLanes, wrongEntry, oddNegatives}
+use Rattle.coxeter.specs.Checks.{rankRefusal, wordRefusal, windowRefusal, Rig, WordOf, WindowOf}
 use Rattle.coxeter.specs.Parity.{flipped, flagAfter, Odd}
 use Rattle.coxeter.specs.NormalForm.{normalForm}
 use Rattle.coxeter.specs.Calls.{Yields, answerOf, countedOf, samePresets, presetsEqual}
@@ -50,7 +51,7 @@ no-or-refused p q = let n : _≡_ {A = ℕ} 0 1 = cc in omega arith
 module _ (k n : ℕ) (u : List ℕ) (l m : ℕ) (v : List ℕ) where
   -- what the checks say where the verdict is no number
   accepted-or : {P : Type 0}
-      → ((rankRefusal k n ≡ 0) × ((wordRefusal n u ≡ 0) × ((rankRefusal l m ≡ 0) × (wordRefusal m v ≡ 0))) → P)
+      → (Rig k n × (WordOf n u × (Rig l m × WordOf m v)) → P)
       → ((r : ℕ) → presetsEqual k n u l m v ≡ verdict.Refused r → P) → P
   accepted-or given refuses =
       let r = rankRefusal k n then wordRefusal n u then rankRefusal l m then wordRefusal m v in
@@ -61,7 +62,7 @@ module _ (k n : ℕ) (u : List ℕ) (l m : ℕ) (v : List ℕ) where
 
   -- "The verdict becomes yes exactly when lane counts and windows agree, whatever the kinds": where the four checks accept
   pub verdict-yes-exactly : (presetsEqual k n u l m v ≡ verdict.Yes)
-      ↔ ((rankRefusal k n ≡ 0) × (wordRefusal n u ≡ 0) × (rankRefusal l m ≡ 0) × (wordRefusal m v ≡ 0)
+      ↔ (Rig k n × WordOf n u × Rig l m × WordOf m v
       × (lanes (kindOf k) n ≡ lanes (kindOf l) m) × (window (kindOf k) n u ≡ window (kindOf l) m v))
   verdict-yes-exactly = (
     λ h. accepted-or
@@ -74,7 +75,7 @@ module _ (k n : ℕ) (u : List ℕ) (l m : ℕ) (v : List ℕ) where
 
   -- else no, and no only then: the windows differ; where the lane counts differ the windows do
   pub verdict-no-exactly : (presetsEqual k n u l m v ≡ verdict.No)
-      ↔ ((rankRefusal k n ≡ 0) × (wordRefusal n u ≡ 0) × (rankRefusal l m ≡ 0) × (wordRefusal m v ≡ 0)
+      ↔ (Rig k n × WordOf n u × Rig l m × WordOf m v
       × (window (kindOf k) n u ≡ window (kindOf l) m v → ⊥))
   verdict-no-exactly = (
     λ h. accepted-or
@@ -86,7 +87,7 @@ module _ (k n : ℕ) (u : List ℕ) (l m : ℕ) (v : List ℕ) where
   )
     where
       differ : (t : Bool) → t ≡ samePresets k n u l m v
-          → ((rankRefusal k n ≡ 0) × (wordRefusal n u ≡ 0) × (rankRefusal l m ≡ 0) × (wordRefusal m v ≡ 0)
+          → (Rig k n × WordOf n u × Rig l m × WordOf m v
           × (window (kindOf k) n u ≡ window (kindOf l) m v → ⊥))
           → presetsEqual k n u l m v ≡ verdict.No
       differ true e a =
@@ -141,7 +142,7 @@ then-both q r h g = rw (h, g)
 -- "as 01's three sums define them, with 0 for a sum the kind lacks": A has the first sum, B all three, D the first two
 pub counts-in-A : (n : ℕ) (w : List ℤ) (a b c : ℕ)
     → (crossingsOfWindow 1 n w ≡ counted.Crossings a b c)
-    ↔ ((rankRefusal 1 n ≡ 0) × (windowRefusal A n w ≡ 0) × (a ≡ inversions w) × (b ≡ 0) × (c ≡ 0))
+    ↔ (Rig 1 n × WindowOf A n w × (a ≡ inversions w) × (b ≡ 0) × (c ≡ 0))
 unfolding crossingsOfWindow crossings kindOf
 counts-in-A n w a b c =
     let e = counted-exactly (rankRefusal 1 n then windowRefusal A n w) (crossings A w) a b c in (
@@ -151,7 +152,7 @@ counts-in-A n w a b c =
 
 pub counts-in-B : (n : ℕ) (w : List ℤ) (a b c : ℕ)
     → (crossingsOfWindow 2 n w ≡ counted.Crossings a b c)
-    ↔ ((rankRefusal 2 n ≡ 0) × (windowRefusal B n w ≡ 0) × (a ≡ inversions w) × (b ≡ negativeSumPairs w) × (c ≡ negatives w))
+    ↔ (Rig 2 n × WindowOf B n w × (a ≡ inversions w) × (b ≡ negativeSumPairs w) × (c ≡ negatives w))
 unfolding crossingsOfWindow crossings kindOf
 counts-in-B n w a b c =
     let e = counted-exactly (rankRefusal 2 n then windowRefusal B n w) (crossings B w) a b c in (
@@ -161,7 +162,7 @@ counts-in-B n w a b c =
 
 pub counts-in-D : (n : ℕ) (w : List ℤ) (a b c : ℕ)
     → (crossingsOfWindow 3 n w ≡ counted.Crossings a b c)
-    ↔ ((rankRefusal 3 n ≡ 0) × (windowRefusal D n w ≡ 0) × (a ≡ inversions w) × (b ≡ negativeSumPairs w) × (c ≡ 0))
+    ↔ (Rig 3 n × WindowOf D n w × (a ≡ inversions w) × (b ≡ negativeSumPairs w) × (c ≡ 0))
 unfolding crossingsOfWindow crossings kindOf
 counts-in-D n w a b c =
     let e = counted-exactly (rankRefusal 3 n then windowRefusal D n w) (crossings D w) a b c in (
@@ -170,7 +171,7 @@ counts-in-D n w a b c =
     )
 
 -- "from a word or from a window": a word's counts are its window's
-pub counts-of-word : (k n : ℕ) (u : List ℕ) → wordRefusal n u ≡ 0 → crossingsOfWord k n u ≡ crossingsOfWindow k n (window (kindOf k) n u)
+pub counts-of-word : (k n : ℕ) (u : List ℕ) → WordOf n u → crossingsOfWord k n u ≡ crossingsOfWindow k n (window (kindOf k) n u)
 unfolding crossingsOfWord crossingsOfWindow
 counts-of-word k n u h = rw (h, window-passes (kindOf k) n u)
 
@@ -285,20 +286,20 @@ unfolding rankRefusal wrongKind
 no-other-kind k n a b d = rw (ne-eqb k 1 a, ne-eqb k 2 b, ne-eqb k 3 d)
 
 -- "The longest normal form, B at 64, has 4,096 letters and still fits": it is accepted as a word, and none of any kind and rank is longer
-pub longest-fits : (w : List ℤ) × (windowRefusal B 64 w ≡ 0) × (length (normalForm B 64 w) ≡ 4096) × (wordRefusal 64 (normalForm B 64 w) ≡ 0)
+pub longest-fits : (w : List ℤ) × WindowOf B 64 w × (length (normalForm B 64 w) ≡ 4096) × WordOf 64 (normalForm B 64 w)
 unfolding kindOf
 longest-fits =
     let g = longest-normalForm in
     (g .0, g .1 .0, g .1 .1, normalForm-fits 2 64 (g .0) (ranks-of-B 64 .0 .1 (omega arith)) (g .1 .0))
 
-pub none-longer : (k n : ℕ) (w : List ℤ) → rankRefusal k n ≡ 0 → windowRefusal (kindOf k) n w ≡ 0 → length (normalForm (kindOf k) n w) ≤ 4096
+pub none-longer : (k n : ℕ) (w : List ℤ) → Rig k n → WindowOf (kindOf k) n w → length (normalForm (kindOf k) n w) ≤ 4096
 none-longer k n w h g = length-accepted n (normalForm (kindOf k) n w) (normalForm-fits k n w h g)
 
 -- what a normal form call wrote is accepted as a word
 pub written-form-fits : (k n : ℕ) (w : List ℤ) (before after : List ℕ) (l : ℕ) → Yields (normalFormOfWindow k n w before) (Length l) after
-    → (l ≤ 4096) × (wordRefusal n (take l after) ≡ 0)
+    → (l ≤ 4096) × WordOf n (take l after)
 written-form-fits k n w before after l left =
     let a = normalFormOfWindow-accepted k n w before after l left in
     let b = normalFormOfWindow-wrote k n w before after l left in
-    let f : wordRefusal n (take l after) ≡ 0 = rw (b .0) (normalForm-fits k n w (a .0) (a .1)) in
+    let f : WordOf n (take l after) = rw (b .0) (normalForm-fits k n w (a .0) (a .1)) in
     (omega (arith, b .1, length-accepted n (take l after) f), f)

@@ -1,5 +1,5 @@
 -- What the certificate cites of windows and normal forms, over the definitions of specs/ alone. Each is a corollary of a law of the files before;
--- `windowRefusal k n w ≡ 0` says that w passes checks 9 to 11. The ranks need no upper end, and words may have any length.
+-- `WindowOf k n w` says that w passes checks 9 to 11. The ranks need no upper end, and words may have any length.
 --
 -- Sections: windows; inverses; normal forms; lengths; blocks; products; longest and equal normal forms; the better word; the verdict.
 -- Assumes nothing.
@@ -19,7 +19,7 @@ use Rattle.coxeter.specs.Kinds.{Kind, B, pick, kindOf, lanes, least}
 use Rattle.coxeter.specs.Windows.{act, straight, window, product, inverse}
 use Rattle.coxeter.specs.Length.{windowLength, greatestLength}
 use Rattle.coxeter.specs.Dictionary.{shortlex}
-use Rattle.coxeter.specs.Checks.{tooLong, wrongLetter, rankRefusal, wordRefusal, windowRefusal}
+use Rattle.coxeter.specs.Checks.{tooLong, wrongLetter, rankRefusal, wordRefusal, Rig, WordOf, WindowOf}
 use Rattle.coxeter.specs.NormalForm.{levels, blocks, Indices, normalForm, wordNormalForm, IsNormalForm}
 use Rattle.coxeter.specs.Calls.{verdictOf, sameWindow, samePresets, presetsEqual, Better}
 use Rattle.coxeter.proofs.Levels.{Accepted, accepted-of-refusal, refusal-of-accepted, act-accepted, window-accepted}
@@ -38,13 +38,13 @@ use Rattle.coxeter.proofs.FormLaws as laws
 -- ---- windows
 
 -- a word's window passes checks 9 to 11, and a step keeps them
-pub window-passes : (k : Kind) (n : ℕ) (u : List ℕ) → windowRefusal k n (window k n u) ≡ 0
+pub window-passes : (k : Kind) (n : ℕ) (u : List ℕ) → WindowOf k n (window k n u)
 window-passes k n u = refusal-of-accepted k n (window k n u) (window-accepted k n u)
 
-pub act-passes : (k : Kind) (n s : ℕ) (w : List ℤ) → windowRefusal k n w ≡ 0 → windowRefusal k n (act k n s w) ≡ 0
+pub act-passes : (k : Kind) (n s : ℕ) (w : List ℤ) → WindowOf k n w → WindowOf k n (act k n s w)
 act-passes k n s w h = refusal-of-accepted k n (act k n s w) (act-accepted k n s w (accepted-of-refusal k n w h))
 
-module _ (k : Kind) (n : ℕ) (w : List ℤ) (h : windowRefusal k n w ≡ 0) where
+module _ (k : Kind) (n : ℕ) (w : List ℤ) (h : WindowOf k n w) where
   passed : Accepted k n w
   passed = accepted-of-refusal k n w h
 
@@ -65,7 +65,7 @@ module _ (k : Kind) (n : ℕ) (w : List ℤ) (h : windowRefusal k n w ≡ 0) whe
   pub inverse-inverse : inverse (inverse w) ≡ w
   inverse-inverse = inverses.inverse-inverse k n w passed
 
-  pub inverse-passes : windowRefusal k n (inverse w) ≡ 0
+  pub inverse-passes : WindowOf k n (inverse w)
   inverse-passes = refusal-of-accepted k n (inverse w) (inverses.inverse-accepted k n w passed)
 
   -- ---- normal forms
@@ -96,7 +96,7 @@ module _ (k : Kind) (n : ℕ) (w : List ℤ) (h : windowRefusal k n w ≡ 0) whe
 -- ---- products
 
 -- the product of two windows that pass checks 9 to 11 passes them
-pub product-passes : (k : Kind) (n : ℕ) (v w : List ℤ) → windowRefusal k n v ≡ 0 → windowRefusal k n w ≡ 0 → windowRefusal k n (product v w) ≡ 0
+pub product-passes : (k : Kind) (n : ℕ) (v w : List ℤ) → WindowOf k n v → WindowOf k n w → WindowOf k n (product v w)
 product-passes k n v w h g =
     rw (← window-normalForm k n v h, ← window-normalForm k n w g, ← window-append k n (normalForm k n v) (normalForm k n w))
     (window-passes k n (normalForm k n v ++ normalForm k n w))
@@ -104,11 +104,11 @@ product-passes k n v w h g =
 -- ---- longest and equal normal forms
 
 -- the greatest length is reached
-pub greatest-reached : (k : Kind) (n : ℕ) → least k ≤ n → (w : List ℤ) × ((windowRefusal k n w ≡ 0) × (windowLength k w ≡ greatestLength k n))
+pub greatest-reached : (k : Kind) (n : ℕ) → least k ≤ n → (w : List ℤ) × (WindowOf k n w × (windowLength k w ≡ greatestLength k n))
 greatest-reached k n h = (window k n (blocks k n 1 (greatest.greatestIndices k n)), (window-passes k n _, laws.greatest-reached k n h))
 
 -- "The longest normal form, B at 64, has 4,096 letters and still fits." (document 02, request 6): a normal form is accepted again as a word
-pub normalForm-fits : (k n : ℕ) (w : List ℤ) → rankRefusal k n ≡ 0 → windowRefusal (kindOf k) n w ≡ 0 → wordRefusal n (normalForm (kindOf k) n w) ≡ 0
+pub normalForm-fits : (k n : ℕ) (w : List ℤ) → Rig k n → WindowOf (kindOf k) n w → WordOf n (normalForm (kindOf k) n w)
 unfolding wordRefusal tooLong
 normalForm-fits k n w r h =
     let a = passed (kindOf k) n w h in
@@ -116,7 +116,7 @@ normalForm-fits k n w r h =
     let u = normalForm (kindOf k) n w in
     rw (le-ltb 4096 (length u) (rw (length-normalForm (kindOf k) n w h) most), normalForm-letters (kindOf k) n w h)
 
-pub longest-normalForm : (w : List ℤ) × ((windowRefusal B 64 w ≡ 0) × (length (normalForm B 64 w) ≡ 4096))
+pub longest-normalForm : (w : List ℤ) × (WindowOf B 64 w × (length (normalForm B 64 w) ≡ 4096))
 longest-normalForm =
     let g = greatest-reached B 64 (omega arith) in
     (g .0, (g .1 .0, length-normalForm B 64 (g .0) (g .1 .0) ∙ g .1 .1))
@@ -133,7 +133,7 @@ normal-unique k n w u v f g = elim (shortlex-total u v) [
     apart a b t e = true≢false (sym t ∙ ap (shortlex a) (sym e) ∙ shortlex-irrefl a)
 
 -- two windows with one normal form are the same
-pub normalForm-eq-iff : (k : Kind) (n : ℕ) (v w : List ℤ) → windowRefusal k n v ≡ 0 → windowRefusal k n w ≡ 0 → (normalForm k n v ≡ normalForm k n w) ↔ (v ≡ w)
+pub normalForm-eq-iff : (k : Kind) (n : ℕ) (v w : List ℤ) → WindowOf k n v → WindowOf k n w → (normalForm k n v ≡ normalForm k n w) ↔ (v ≡ w)
 normalForm-eq-iff k n v w h g = laws.normalForm-eq-iff k n v w (accepted-of-refusal k n v h) (accepted-of-refusal k n w g)
 
 -- each word made of blocks is the normal form of its window; two lists of js make two words
@@ -175,7 +175,7 @@ same-exactly k n u l m v =
       λ e. both .1 (eq-eqb (lanes (kindOf k) n) (lanes (kindOf l) m) (equal-lanes k n u l m v e), sameWindow-of-eq a b e),
     )
 
-pub verdict-exactly : (k n : ℕ) (u : List ℕ) (l m : ℕ) (v : List ℕ) → rankRefusal k n ≡ 0 → wordRefusal n u ≡ 0 → rankRefusal l m ≡ 0 → wordRefusal m v ≡ 0
+pub verdict-exactly : (k n : ℕ) (u : List ℕ) (l m : ℕ) (v : List ℕ) → Rig k n → WordOf n u → Rig l m → WordOf m v
     → (presetsEqual k n u l m v ≡ verdict.Yes) ↔ (window (kindOf k) n u ≡ window (kindOf l) m v)
 unfolding presetsEqual verdictOf
 verdict-exactly k n u l m v a b c d =
@@ -183,7 +183,7 @@ verdict-exactly k n u l m v a b c d =
     (by-same (samePresets k n u l m v) (same-exactly k n u l m v))
 
 -- "the agreement of normal forms and verdict stays a fact about one kind and rank"
-pub verdict-normalForm : (k n : ℕ) (u v : List ℕ) → rankRefusal k n ≡ 0 → wordRefusal n u ≡ 0 → wordRefusal n v ≡ 0
+pub verdict-normalForm : (k n : ℕ) (u v : List ℕ) → Rig k n → WordOf n u → WordOf n v
     → (presetsEqual k n u k n v ≡ verdict.Yes) ↔ (wordNormalForm (kindOf k) n u ≡ wordNormalForm (kindOf k) n v)
 verdict-normalForm k n u v a b c =
     let w = verdict-exactly k n u k n v a b a c in

@@ -13,7 +13,7 @@ use lib.ListN.{length, take, drop}
 use Rattle.coxeter.specs.declared.Answer.the-variants.{Length}
 use Rattle.coxeter.specs.Kinds.{kindOf, lanes}
 use Rattle.coxeter.specs.Windows.{straight, window, product, inverse}
-use Rattle.coxeter.specs.Checks.{rankRefusal, wordRefusal, windowRefusal}
+use Rattle.coxeter.specs.Checks.{rankRefusal, wordRefusal, windowRefusal, Rig, WordOf, WindowOf}
 use Rattle.coxeter.specs.NormalForm.{normalForm, wordNormalForm}
 use Rattle.coxeter.specs.Calls.{Yields, writes, windowOfWord, productOfWindows, inverseOfWindow}
 use Rattle.coxeter.specs.Calls.{normalFormOfWindow, normalFormOfWord, productOfWords, inverseOfWord}
@@ -38,7 +38,7 @@ module _ {X : Type 0} (q : ℕ) (w before after : List X) (l : ℕ) (left : Yiel
 
 -- window_of_word
 module _ (k n : ℕ) (u : List ℕ) (before after : List ℤ) (l : ℕ) (left : Yields (windowOfWord k n u before) (Length l) after) where
-  pub windowOfWord-accepted : (rankRefusal k n ≡ 0) × (wordRefusal n u ≡ 0)
+  pub windowOfWord-accepted : Rig k n × WordOf n u
   unfolding windowOfWord
   windowOfWord-accepted = then-zero (rankRefusal k n) (wordRefusal n u) (writes-accepted _ _ before after l left)
 
@@ -47,7 +47,7 @@ module _ (k n : ℕ) (u : List ℕ) (before after : List ℤ) (l : ℕ) (left : 
   windowOfWord-wrote = writes-wrote _ _ before after l left
 
   -- what was written passes checks 9 to 11
-  pub windowOfWord-passes : windowRefusal (kindOf k) n (take l after) ≡ 0
+  pub windowOfWord-passes : WindowOf (kindOf k) n (take l after)
   windowOfWord-passes = rw (windowOfWord-wrote .0) (window-passes (kindOf k) n u)
 
   -- and has an entry for each lane
@@ -56,7 +56,7 @@ module _ (k n : ℕ) (u : List ℕ) (before after : List ℤ) (l : ℕ) (left : 
 
 -- product_of_windows
 module _ (k n : ℕ) (v w before after : List ℤ) (l : ℕ) (left : Yields (productOfWindows k n v w before) (Length l) after) where
-  pub productOfWindows-accepted : (rankRefusal k n ≡ 0) × (windowRefusal (kindOf k) n v ≡ 0) × (windowRefusal (kindOf k) n w ≡ 0)
+  pub productOfWindows-accepted : Rig k n × WindowOf (kindOf k) n v × WindowOf (kindOf k) n w
   unfolding productOfWindows
   productOfWindows-accepted =
       let a = windows-accepted k n v w _ refl (writes-accepted _ _ before after l left) in
@@ -66,7 +66,7 @@ module _ (k n : ℕ) (v w before after : List ℤ) (l : ℕ) (left : Yields (pro
   unfolding productOfWindows
   productOfWindows-wrote = writes-wrote _ _ before after l left
 
-  pub productOfWindows-passes : windowRefusal (kindOf k) n (take l after) ≡ 0
+  pub productOfWindows-passes : WindowOf (kindOf k) n (take l after)
   productOfWindows-passes =
       let a = productOfWindows-accepted in
       rw (productOfWindows-wrote .0) (product-passes (kindOf k) n v w (a .1) (a .2))
@@ -76,7 +76,7 @@ module _ (k n : ℕ) (v w before after : List ℤ) (l : ℕ) (left : Yields (pro
 
 -- inverse_of_window
 module _ (k n : ℕ) (w before after : List ℤ) (l : ℕ) (left : Yields (inverseOfWindow k n w before) (Length l) after) where
-  pub inverseOfWindow-accepted : (rankRefusal k n ≡ 0) × (windowRefusal (kindOf k) n w ≡ 0)
+  pub inverseOfWindow-accepted : Rig k n × WindowOf (kindOf k) n w
   unfolding inverseOfWindow
   inverseOfWindow-accepted = then-zero (rankRefusal k n) (windowRefusal (kindOf k) n w) (writes-accepted _ _ before after l left)
 
@@ -84,7 +84,7 @@ module _ (k n : ℕ) (w before after : List ℤ) (l : ℕ) (left : Yields (inver
   unfolding inverseOfWindow
   inverseOfWindow-wrote = writes-wrote _ _ before after l left
 
-  pub inverseOfWindow-passes : windowRefusal (kindOf k) n (take l after) ≡ 0
+  pub inverseOfWindow-passes : WindowOf (kindOf k) n (take l after)
   inverseOfWindow-passes = rw (inverseOfWindow-wrote .0) (inverse-passes (kindOf k) n w (inverseOfWindow-accepted .1))
 
   pub inverseOfWindow-lanes : l ≡ lanes (kindOf k) n
@@ -101,7 +101,7 @@ module _ (k n : ℕ) (w before after : List ℤ) (l : ℕ) (left : Yields (inver
 
 -- normal_form_of_word
 module _ (k n : ℕ) (u before after : List ℕ) (l : ℕ) (left : Yields (normalFormOfWord k n u before) (Length l) after) where
-  pub normalFormOfWord-accepted : (rankRefusal k n ≡ 0) × (wordRefusal n u ≡ 0)
+  pub normalFormOfWord-accepted : Rig k n × WordOf n u
   unfolding normalFormOfWord
   normalFormOfWord-accepted = then-zero (rankRefusal k n) (wordRefusal n u) (writes-accepted _ _ before after l left)
 
@@ -111,7 +111,7 @@ module _ (k n : ℕ) (u before after : List ℕ) (l : ℕ) (left : Yields (norma
 
 -- normal_form_of_window
 module _ (k n : ℕ) (w : List ℤ) (before after : List ℕ) (l : ℕ) (left : Yields (normalFormOfWindow k n w before) (Length l) after) where
-  pub normalFormOfWindow-accepted : (rankRefusal k n ≡ 0) × (windowRefusal (kindOf k) n w ≡ 0)
+  pub normalFormOfWindow-accepted : Rig k n × WindowOf (kindOf k) n w
   unfolding normalFormOfWindow
   normalFormOfWindow-accepted = then-zero (rankRefusal k n) (windowRefusal (kindOf k) n w) (writes-accepted _ _ before after l left)
 
@@ -121,7 +121,7 @@ module _ (k n : ℕ) (w : List ℤ) (before after : List ℕ) (l : ℕ) (left : 
 
 -- product_of_words
 module _ (k n : ℕ) (u v before after : List ℕ) (l : ℕ) (left : Yields (productOfWords k n u v before) (Length l) after) where
-  pub productOfWords-accepted : (rankRefusal k n ≡ 0) × (wordRefusal n u ≡ 0) × (wordRefusal n v ≡ 0)
+  pub productOfWords-accepted : Rig k n × WordOf n u × WordOf n v
   unfolding productOfWords
   productOfWords-accepted =
       let a = words-accepted k n u v _ refl (writes-accepted _ _ before after l left) in
@@ -136,7 +136,7 @@ module _ (k n : ℕ) (u v before after : List ℕ) (l : ℕ) (left : Yields (pro
 
 -- inverse_of_word
 module _ (k n : ℕ) (u before after : List ℕ) (l : ℕ) (left : Yields (inverseOfWord k n u before) (Length l) after) where
-  pub inverseOfWord-accepted : (rankRefusal k n ≡ 0) × (wordRefusal n u ≡ 0)
+  pub inverseOfWord-accepted : Rig k n × WordOf n u
   unfolding inverseOfWord
   inverseOfWord-accepted = then-zero (rankRefusal k n) (wordRefusal n u) (writes-accepted _ _ before after l left)
 

@@ -1,4 +1,5 @@
 -- The checks (document 01, "Turned-down calls, in checking order"). A refusal is a number of that list; 0 stands for none.
+use mathlib.Core.Path.{_≡_}
 use mathlib.Core.Bool.{Bool, false, not, _||_}
 use mathlib.Core.List.{List, [], _∷_}
 use Prim.Native.Nat.{ℕ, zero, suc}
@@ -82,3 +83,15 @@ wordRefusal n u = check 7 (tooLong u) then check 8 (wrongLetter n u)
 -- checks 9 to 11, of a window
 unfoldable pub windowRefusal : Kind → ℕ → List ℤ → ℕ
 windowRefusal k n w = check 9 (wrongLanes k n w) then check 10 (wrongEntry k (lanes k n) w) then check 11 (oddNegatives k w)
+
+-- a kind and a rank that pass checks 5 and 6
+abbrev pub Rig : ℕ → ℕ → Type 0
+Rig k n = rankRefusal k n ≡ 0
+
+-- a word of rank n that passes checks 7 and 8
+abbrev pub WordOf : ℕ → List ℕ → Type 0
+WordOf n u = wordRefusal n u ≡ 0
+
+-- a window that passes checks 9 to 11
+abbrev pub WindowOf : Kind → ℕ → List ℤ → Type 0
+WindowOf k n w = windowRefusal k n w ≡ 0

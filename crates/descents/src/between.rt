@@ -15,7 +15,7 @@ ghost use lib.ListN.{length};
 ghost use Rattle.coxeter.specs.Kinds as kinds;
 ghost use Rattle.coxeter.specs.Kinds.{kindOf};
 ghost use Rattle.coxeter.specs.Windows.{product, inverse};
-ghost use Rattle.coxeter.specs.Checks.{check, rankRefusal, windowRefusal, wrongLetter};
+ghost use Rattle.coxeter.specs.Checks.{check, wrongLetter, Rig, WindowOf};
 ghost use Rattle.coxeter.specs.Calls.{Yields, writes};
 ghost use Rattle.coxeter.proofs.Fronts.{Front};
 ghost use Rattle.exchange.specs.Allowed.{over, allows};
@@ -56,9 +56,9 @@ fn write_allowed(allowed: u64, word: &[u8], out: &mut [u8]) -> Answer
 
 // The window between two accepted windows, which leads from the first to the second.
 fn window_between(kind: u8, rank: u8, from: &[i8], to: &[i8]) -> [i8; 64]
-    requires { ⌜ rankRefusal kind rank ≡ 0 ⌝ }
-    requires { ⌜ windowRefusal (kindOf kind) rank (now from) ≡ 0 ⌝ }
-    requires { ⌜ windowRefusal (kindOf kind) rank (now to) ≡ 0 ⌝ }
+    requires { ⌜ Rig kind rank ⌝ }
+    requires { ⌜ WindowOf (kindOf kind) rank (now from) ⌝ }
+    requires { ⌜ WindowOf (kindOf kind) rank (now to) ⌝ }
     ensures { λ r. ⌜ (64 ≡ length r) × Front 64 (product (inverse (now (from .entry))) (now (to .entry))) r (kinds.lanes (kindOf kind) rank) ⌝ }
 {
     let m = lanes(kind, rank);
@@ -68,9 +68,9 @@ fn window_between(kind: u8, rank: u8, from: &[i8], to: &[i8]) -> [i8; 64]
 
 // Its normal form, at the front of `form`. Answers its length.
 fn write_between(kind: u8, rank: u8, from: &[i8], to: &[i8], form: &mut [u8]) -> usize
-    requires { ⌜ rankRefusal kind rank ≡ 0 ⌝ }
-    requires { ⌜ windowRefusal (kindOf kind) rank (now from) ≡ 0 ⌝ }
-    requires { ⌜ windowRefusal (kindOf kind) rank (now to) ≡ 0 ⌝ }
+    requires { ⌜ Rig kind rank ⌝ }
+    requires { ⌜ WindowOf (kindOf kind) rank (now from) ⌝ }
+    requires { ⌜ WindowOf (kindOf kind) rank (now to) ⌝ }
     requires { ⌜ 4096 ≡ length (now form) ⌝ }
     ensures { λ r. ⌜ Front 4096 (between (kindOf kind) rank (now (from .entry)) (now (to .entry))) (now (form .exit)) r ⌝ }
 {

@@ -7,10 +7,9 @@ use crate::work::multiplied;
 use crate::work::shown;
 use exchange::Split;
 use window::normal_form_of_window;
-ghost use mathlib.Core.Path.{_≡_};
 ghost use Rattle.coxeter.specs.Kinds.{kindOf};
 ghost use Rattle.coxeter.specs.Windows.{window, product, inverse};
-ghost use Rattle.coxeter.specs.Checks.{rankRefusal, wordRefusal, windowRefusal};
+ghost use Rattle.coxeter.specs.Checks.{Rig, WordOf, WindowOf};
 ghost use Rattle.coxeter.specs.NormalForm.{normalForm};
 ghost use Rattle.exchange.specs.Allowed.{allows};
 ghost use Rattle.exchange.specs.Split.{firstWord, secondWord};
@@ -18,9 +17,9 @@ ghost use Rattle.exchange.specs.SplitCalls.{parts, SplitYields};
 
 // The normal forms of two accepted windows, each to the front of its output, where both have room.
 fn write_forms(kind: u8, rank: u8, a: &[i8], b: &[i8], first: &mut [u8], second: &mut [u8]) -> Split
-    requires { ⌜ rankRefusal kind rank ≡ 0 ⌝ }
-    requires { ⌜ windowRefusal (kindOf kind) rank (now a) ≡ 0 ⌝ }
-    requires { ⌜ windowRefusal (kindOf kind) rank (now b) ≡ 0 ⌝ }
+    requires { ⌜ Rig kind rank ⌝ }
+    requires { ⌜ WindowOf (kindOf kind) rank (now a) ⌝ }
+    requires { ⌜ WindowOf (kindOf kind) rank (now b) ⌝ }
     ensures { λ r. ⌜ SplitYields (parts 0 (normalForm (kindOf kind) rank (now (a .entry))) (normalForm (kindOf kind) rank (now (b .entry)))
         (now (first .entry)) (now (second .entry))) r (now (first .exit)) (now (second .exit)) ⌝ }
 {
@@ -49,10 +48,10 @@ fn write_parts(
     first: &mut [u8],
     second: &mut [u8],
 ) -> Split
-    requires { ⌜ rankRefusal kind rank ≡ 0 ⌝ }
-    requires { ⌜ windowRefusal (kindOf kind) rank (now w) ≡ 0 ⌝ }
-    requires { ⌜ windowRefusal (kindOf kind) rank (now rest) ≡ 0 ⌝ }
-    requires { ⌜ windowRefusal (kindOf kind) rank (product (now w) (now rest)) ≡ 0 ⌝ }
+    requires { ⌜ Rig kind rank ⌝ }
+    requires { ⌜ WindowOf (kindOf kind) rank (now w) ⌝ }
+    requires { ⌜ WindowOf (kindOf kind) rank (now rest) ⌝ }
+    requires { ⌜ WindowOf (kindOf kind) rank (product (now w) (now rest)) ⌝ }
     ensures { λ r. ⌜ SplitYields (parts 0 (normalForm (kindOf kind) rank (product (now (w .entry)) (now (rest .entry))))
         (normalForm (kindOf kind) rank (inverse (now (rest .entry)))) (now (first .entry)) (now (second .entry)))
         r (now (first .exit)) (now (second .exit)) ⌝ }
@@ -72,7 +71,7 @@ fn split_window(
     first: &mut [u8],
     second: &mut [u8],
 ) -> Split
-    requires { ⌜ (rankRefusal kind rank ≡ 0) × (windowRefusal (kindOf kind) rank (now w) ≡ 0) ⌝ }
+    requires { ⌜ Rig kind rank × WindowOf (kindOf kind) rank (now w) ⌝ }
     ensures { λ r. ⌜ SplitYields (parts 0 (firstWord (allows allowed) (kindOf kind) rank (now (w .entry)))
         (secondWord (allows allowed) (kindOf kind) rank (now (w .entry))) (now (first .entry)) (now (second .entry)))
         r (now (first .exit)) (now (second .exit)) ⌝ }
@@ -92,7 +91,7 @@ pub(crate) fn split_accepted(
     first: &mut [u8],
     second: &mut [u8],
 ) -> Split
-    requires { ⌜ (rankRefusal kind rank ≡ 0) × (wordRefusal rank (now word) ≡ 0) ⌝ }
+    requires { ⌜ Rig kind rank × WordOf rank (now word) ⌝ }
     ensures { λ r. ⌜ SplitYields (parts 0 (firstWord (allows allowed) (kindOf kind) rank (window (kindOf kind) rank (now (word .entry))))
         (secondWord (allows allowed) (kindOf kind) rank (window (kindOf kind) rank (now (word .entry))))
         (now (first .entry)) (now (second .entry))) r (now (first .exit)) (now (second .exit)) ⌝ }

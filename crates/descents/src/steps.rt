@@ -7,7 +7,7 @@ ghost use lib.ListN.{length, getD};
 ghost use Rattle.coxeter.specs.Kinds.{kindOf, least, pick};
 ghost use Rattle.coxeter.specs.Windows.{from, exchange, negateFirst, exchangeNegate, act};
 ghost use Rattle.coxeter.specs.Length.{later, negative};
-ghost use Rattle.coxeter.specs.Checks.{windowRefusal};
+ghost use Rattle.coxeter.specs.Checks.{WindowOf};
 ghost use Rattle.exchange.specs.Descents.{isDescent};
 
 // Whether x stands later than y in the order 1, 2, .., m, -m, .., -2, -1: of one sign, where y is below x, and else where y is not below x.
@@ -72,7 +72,7 @@ pub(crate) fn take_descent(kind: u8, n: usize, s: usize, w: &mut [i8]) -> bool
     requires { ⌜ (1 ≤ s) × (s ≤ n) ⌝ }
     requires { ⌜ least (kindOf kind) ≤ n ⌝ }
     requires { ⌜ n ≤ 64 ⌝ }
-    requires { ⌜ windowRefusal (kindOf kind) n (now w) ≡ 0 ⌝ }
+    requires { ⌜ WindowOf (kindOf kind) n (now w) ⌝ }
     ensures { λ r. ⌜ (r ≡ isDescent (kindOf kind) n s (now (w .entry)))
         × (now (w .exit) ≡ pick r (act (kindOf kind) n s (now (w .entry))) (now (w .entry))) ⌝ }
 {

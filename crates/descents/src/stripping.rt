@@ -7,7 +7,7 @@ ghost use mathlib.Core.Bool.{_&&_};
 ghost use Prim.Native.Nat.{_-_, _≤_};
 ghost use Rattle.coxeter.specs.Kinds.{kindOf, least, pick};
 ghost use Rattle.coxeter.specs.Windows.{act};
-ghost use Rattle.coxeter.specs.Checks.{windowRefusal};
+ghost use Rattle.coxeter.specs.Checks.{WindowOf};
 ghost use Rattle.exchange.specs.Descents.{isDescent};
 ghost use Rattle.exchange.specs.Allowed.{allows};
 ghost use Rattle.exchange.proofs.Stripping.{Strips};
@@ -39,7 +39,7 @@ fn take_allowed_descent(kind: u8, n: usize, allowed: u64, s: usize, w: &mut [i8]
     requires { ⌜ (1 ≤ s) × (s ≤ n) ⌝ }
     requires { ⌜ least (kindOf kind) ≤ n ⌝ }
     requires { ⌜ n ≤ 64 ⌝ }
-    requires { ⌜ windowRefusal (kindOf kind) n (now w) ≡ 0 ⌝ }
+    requires { ⌜ WindowOf (kindOf kind) n (now w) ⌝ }
     ensures { λ r. ⌜ (r ≡ (allows allowed s && isDescent (kindOf kind) n s (now (w .entry))))
         × (now (w .exit) ≡ pick r (act (kindOf kind) n s (now (w .entry))) (now (w .entry))) ⌝ }
 {
@@ -53,7 +53,7 @@ fn take_allowed_descent(kind: u8, n: usize, allowed: u64, s: usize, w: &mut [i8]
 pub(crate) fn strip(kind: u8, n: usize, allowed: u64, w: &mut [i8])
     requires { ⌜ least (kindOf kind) ≤ n ⌝ }
     requires { ⌜ n ≤ 64 ⌝ }
-    requires { ⌜ windowRefusal (kindOf kind) n (now w) ≡ 0 ⌝ }
+    requires { ⌜ WindowOf (kindOf kind) n (now w) ⌝ }
     ensures { λ _. ⌜ Strips (allows allowed) (kindOf kind) n (now (w .entry)) (now (w .exit)) ⌝ }
 {
     let mut s = 1;

@@ -9,7 +9,7 @@ ghost use Prim.Native.Nat.{_≤_};
 ghost use lib.ListN.{length};
 ghost use Rattle.coxeter.specs.Kinds.{kindOf, least};
 ghost use Rattle.coxeter.specs.Windows.{straight};
-ghost use Rattle.coxeter.specs.Checks.{wrongLetter, rankRefusal, windowRefusal};
+ghost use Rattle.coxeter.specs.Checks.{wrongLetter, Rig, WindowOf};
 ghost use Rattle.coxeter.specs.Calls.{written, sameWindow};
 ghost use Rattle.exchange.proofs.Walk.{leftOver, placesKept, marked};
 ghost use Rattle.exchange.proofs.Verdicts.{Settled};
@@ -19,7 +19,7 @@ fn keep_letters(kind: u8, n: usize, word: &mut [u8], w: &mut [i8]) -> usize
     requires { ⌜ least (kindOf kind) ≤ n ⌝ }
     requires { ⌜ n ≤ 64 ⌝ }
     requires { ⌜ wrongLetter n (now word) ≡ false ⌝ }
-    requires { ⌜ windowRefusal (kindOf kind) n (now w) ≡ 0 ⌝ }
+    requires { ⌜ WindowOf (kindOf kind) n (now w) ⌝ }
     ensures { λ r. ⌜ (r ≡ length (marked 0 (now (word .exit))))
         × (marked 0 (now (word .exit)) ≡ placesKept (kindOf kind) n (now (word .entry)) (length (now (word .entry))) (now (w .entry)) [])
         × (now (w .exit) ≡ leftOver (kindOf kind) n (now (word .entry)) (length (now (word .entry))) (now (w .entry))) ⌝ }
@@ -76,9 +76,9 @@ pub(crate) fn settle(
     w: &mut [i8],
     places: &mut [u16],
 ) -> Fallback
-    requires { ⌜ rankRefusal kind rank ≡ 0 ⌝ }
+    requires { ⌜ Rig kind rank ⌝ }
     requires { ⌜ (wrongLetter rank (now word) ≡ false) × (length (now word) ≤ 4096) ⌝ }
-    requires { ⌜ windowRefusal (kindOf kind) rank (now w) ≡ 0 ⌝ }
+    requires { ⌜ WindowOf (kindOf kind) rank (now w) ⌝ }
     ensures { λ r. ⌜ Settled (kindOf kind) rank (now (word .entry)) (now (w .entry)) (now (places .entry)) r (now (places .exit)) ⌝ }
 {
     let kept = keep_letters(kind, rank as usize, word, w);

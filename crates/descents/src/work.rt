@@ -10,7 +10,7 @@ ghost use lib.ListN.{length};
 ghost use Rattle.coxeter.specs.Kinds as kinds;
 ghost use Rattle.coxeter.specs.Kinds.{kindOf};
 ghost use Rattle.coxeter.specs.Windows.{window, product, inverse};
-ghost use Rattle.coxeter.specs.Checks.{rankRefusal, wordRefusal, windowRefusal};
+ghost use Rattle.coxeter.specs.Checks.{Rig, WordOf, WindowOf};
 ghost use Rattle.coxeter.specs.NormalForm.{normalForm, wordNormalForm};
 ghost use Rattle.coxeter.proofs.Fronts.{Front};
 
@@ -41,7 +41,7 @@ pub(crate) fn lanes(kind: u8, rank: u8) -> usize
 
 // The window of an accepted word.
 pub(crate) fn shown(kind: u8, rank: u8, word: &[u8]) -> [i8; 64]
-    requires { ⌜ (rankRefusal kind rank ≡ 0) × (wordRefusal rank (now word) ≡ 0) ⌝ }
+    requires { ⌜ Rig kind rank × WordOf rank (now word) ⌝ }
     ensures { λ r. ⌜ (64 ≡ length r) × Front 64 (window (kindOf kind) rank (now (word .entry))) r (kinds.lanes (kindOf kind) rank) ⌝ }
 {
     let mut work = blank();
@@ -51,7 +51,7 @@ pub(crate) fn shown(kind: u8, rank: u8, word: &[u8]) -> [i8; 64]
 
 // The normal form of an accepted word, at the front of `form`. Answers its length.
 pub(crate) fn write_form(kind: u8, rank: u8, word: &[u8], form: &mut [u8]) -> usize
-    requires { ⌜ (rankRefusal kind rank ≡ 0) × (wordRefusal rank (now word) ≡ 0) × (4096 ≡ length (now form)) ⌝ }
+    requires { ⌜ Rig kind rank × WordOf rank (now word) × (4096 ≡ length (now form)) ⌝ }
     ensures { λ r. ⌜ Front 4096 (wordNormalForm (kindOf kind) rank (now (word .entry))) (now (form .exit)) r ⌝ }
 {
     let Answer::Length(l) = normal_form_of_word(kind, rank, word, form) else {
@@ -62,9 +62,9 @@ pub(crate) fn write_form(kind: u8, rank: u8, word: &[u8], form: &mut [u8]) -> us
 
 // The product of two accepted windows.
 pub(crate) fn multiplied(kind: u8, rank: u8, u: &[i8], v: &[i8]) -> [i8; 64]
-    requires { ⌜ rankRefusal kind rank ≡ 0 ⌝ }
-    requires { ⌜ windowRefusal (kindOf kind) rank (now u) ≡ 0 ⌝ }
-    requires { ⌜ windowRefusal (kindOf kind) rank (now v) ≡ 0 ⌝ }
+    requires { ⌜ Rig kind rank ⌝ }
+    requires { ⌜ WindowOf (kindOf kind) rank (now u) ⌝ }
+    requires { ⌜ WindowOf (kindOf kind) rank (now v) ⌝ }
     ensures { λ r. ⌜ (64 ≡ length r) × Front 64 (product (now (u .entry)) (now (v .entry))) r (kinds.lanes (kindOf kind) rank) ⌝ }
 {
     let mut work = blank();
@@ -74,7 +74,7 @@ pub(crate) fn multiplied(kind: u8, rank: u8, u: &[i8], v: &[i8]) -> [i8; 64]
 
 // The inverse of an accepted window.
 pub(crate) fn inverted(kind: u8, rank: u8, w: &[i8]) -> [i8; 64]
-    requires { ⌜ (rankRefusal kind rank ≡ 0) × (windowRefusal (kindOf kind) rank (now w) ≡ 0) ⌝ }
+    requires { ⌜ Rig kind rank × WindowOf (kindOf kind) rank (now w) ⌝ }
     ensures { λ r. ⌜ (64 ≡ length r) × Front 64 (inverse (now (w .entry))) r (kinds.lanes (kindOf kind) rank) ⌝ }
 {
     let mut work = blank();
@@ -84,7 +84,7 @@ pub(crate) fn inverted(kind: u8, rank: u8, w: &[i8]) -> [i8; 64]
 
 // The length of the normal form of an accepted window.
 pub(crate) fn form_length(kind: u8, rank: u8, w: &[i8]) -> usize
-    requires { ⌜ (rankRefusal kind rank ≡ 0) × (windowRefusal (kindOf kind) rank (now w) ≡ 0) ⌝ }
+    requires { ⌜ Rig kind rank × WindowOf (kindOf kind) rank (now w) ⌝ }
     ensures { λ r. ⌜ r ≡ length (normalForm (kindOf kind) rank (now (w .entry))) ⌝ }
 {
     let Answer::Length(l) = length_of_window(kind, rank, w) else {

@@ -12,7 +12,7 @@ use lib.Dec.{eqb}
 use lib.IntN.{ℤ, pos, negsuc, natAbs}
 use lib.ListN.{length}
 use Rattle.coxeter.specs.Kinds.{Kind, lanes, up}
-use Rattle.coxeter.specs.Checks.{windowRefusal}
+use Rattle.coxeter.specs.Checks.{windowRefusal, WindowOf}
 use Rattle.coxeter.proofs.Levels.{Between, accepted-of-refusal}
 use Rattle.distribution.specs.AllWindows.{In, Once, lists, entries, windows}
 use Rattle.distribution.proofs.Members.{in-keep, of-keep, once-keep, once-map, once-append, in-each, once-lists, in-up, once-up}
@@ -42,7 +42,7 @@ in-lists m (suc c) (x ∷ w) e b =
     in-each x w (entries m) (lists c (entries m)) (in-entries x m (b .0) (b .1)) (in-lists m c w (suc-inj e) (b .2))
 
 module _ (k : Kind) (n : ℕ) where
-  in-windows : (w : List ℤ) → windowRefusal k n w ≡ 0 → In w (windows k n)
+  in-windows : (w : List ℤ) → WindowOf k n w → In w (windows k n)
   unfolding windows
   in-windows w h =
       let a = accepted-of-refusal k n w h in
@@ -50,13 +50,13 @@ module _ (k : Kind) (n : ℕ) where
       in-keep (λ v. eqb (windowRefusal k n v) 0) w (lists (lanes k n) (entries (lanes k n))) (eq-eqb (windowRefusal k n w) 0 h)
       (in-lists (lanes k n) (lanes k n) w (a .size) b)
 
-  of-windows : (w : List ℤ) → In w (windows k n) → windowRefusal k n w ≡ 0
+  of-windows : (w : List ℤ) → In w (windows k n) → WindowOf k n w
   unfolding windows
   of-windows w m =
       eqb-true (windowRefusal k n w) 0 (of-keep (λ v. eqb (windowRefusal k n v) 0) w (lists (lanes k n) (entries (lanes k n))) m .1)
 
   -- every window that passes checks 9 to 11 is in the list, and nothing else is
-  pub windows-exactly : (w : List ℤ) → In w (windows k n) ↔ (windowRefusal k n w ≡ 0)
+  pub windows-exactly : (w : List ℤ) → In w (windows k n) ↔ WindowOf k n w
   windows-exactly w = (of-windows w, in-windows w)
 
   -- none is in it twice

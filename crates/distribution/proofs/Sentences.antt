@@ -18,7 +18,7 @@ use lib.Seq.{take-at}
 use Rattle.coxeter.specs.Kinds.{Kind, A, B, D, pick, kindOf, lanes, least}
 use Rattle.coxeter.specs.Dictionary.{shortlex}
 use Rattle.coxeter.specs.Length.{windowLength, greatestLength}
-use Rattle.coxeter.specs.Checks.{check, _then_, tooShort, rankRefusal, windowRefusal}
+use Rattle.coxeter.specs.Checks.{check, _then_, tooShort, rankRefusal, Rig, WindowOf}
 use Rattle.coxeter.specs.NormalForm.{normalForm, IsNormalForm}
 use Rattle.coxeter.specs.Calls.{written}
 use Rattle.coxeter.proofs.Lists.{getD-take}
@@ -99,7 +99,7 @@ module _ (k n : ℕ) (counts : List ℕ) (entries : List ℤ) (letters : List �
 
   -- the same with the windows at hand: a list of all those of that length, none twice, has as many
   pub entry-counts : (i : ℕ) → i ≤ greatestLength (kindOf k) n
-      → (ws : List (List ℤ)) × Once ws × ((w : List ℤ) → In w ws ↔ ((windowRefusal (kindOf k) n w ≡ 0) × (windowLength (kindOf k) w ≡ i)))
+      → (ws : List (List ℤ)) × Once ws × ((w : List ℤ) → In w ws ↔ (WindowOf (kindOf k) n w × (windowLength (kindOf k) w ≡ i)))
       × (getD x i 0 ≡ length ws)
   unfolding ofLength
   entry-counts i g =
@@ -122,15 +122,15 @@ module _ (k n : ℕ) (counts : List ℕ) (entries : List ℤ) (letters : List �
   -- ---- the longest window
 
   -- "Give also the one window with the greatest length": it passes checks 9 to 11 and has that length, and every other window is shorter
-  pub longest-passes : (windowRefusal (kindOf k) n (take e y) ≡ 0) × (windowLength (kindOf k) (take e y) ≡ greatestLength (kindOf k) n)
+  pub longest-passes : WindowOf (kindOf k) n (take e y) × (windowLength (kindOf k) (take e y) ≡ greatestLength (kindOf k) n)
   longest-passes = (is-longest .passes, is-longest .greatest)
 
-  pub others-shorter : (v : List ℤ) → windowRefusal (kindOf k) n v ≡ 0 → (v ≡ take e y → ⊥)
+  pub others-shorter : (v : List ℤ) → WindowOf (kindOf k) n v → (v ≡ take e y → ⊥)
       → windowLength (kindOf k) v < windowLength (kindOf k) (take e y)
   others-shorter v p f =
       omega (arith, is-longest .only v p f, length-normalForm (kindOf k) n v p, length-normalForm (kindOf k) n (take e y) (is-longest .passes))
 
-  pub one-longest : (v : List ℤ) → windowRefusal (kindOf k) n v ≡ 0 → windowLength (kindOf k) v ≡ greatestLength (kindOf k) n → v ≡ take e y
+  pub one-longest : (v : List ℤ) → WindowOf (kindOf k) n v → windowLength (kindOf k) v ≡ greatestLength (kindOf k) n → v ≡ take e y
   one-longest v p q =
       longest-unique (kindOf k) n v (take e y) rank (accepted-of-refusal (kindOf k) n v p)
       (accepted-of-refusal (kindOf k) n (take e y) (is-longest .passes)) q (is-longest .greatest)
@@ -141,7 +141,7 @@ module _ (k n : ℕ) (counts : List ℕ) (entries : List ℤ) (letters : List �
       rw (wrote .5, wrote .6) (normalForm-least (kindOf k) n (longest (kindOf k) n) rank (longest-is (kindOf k) n rank .passes))
 
   -- "no other window of the rig has a normal form as long"
-  pub others-form-shorter : (v : List ℤ) (u : List ℕ) → windowRefusal (kindOf k) n v ≡ 0 → (v ≡ take e y → ⊥) → IsNormalForm (kindOf k) n v u
+  pub others-form-shorter : (v : List ℤ) (u : List ℕ) → WindowOf (kindOf k) n v → (v ≡ take e y → ⊥) → IsNormalForm (kindOf k) n v u
       → length u < l
   others-form-shorter v u p f m =
       let form = normalForm (kindOf k) n v in
@@ -244,7 +244,7 @@ module _ (k n : ℕ) (counts : List ℕ) (entries : List ℤ) (letters : List �
 
   -- "20 when the rank is above 19 for A or above 16 for B or D, checked after refusal 6"
   pub table-20-exactly : (a ≡ Refused 20)
-      ↔ ((rankRefusal k n ≡ 0) × (((kindOf k ≡ A) × (19 < n)) ⊎ (((kindOf k ≡ B) ⊎ (kindOf k ≡ D)) × (16 < n))))
+      ↔ (Rig k n × (((kindOf k ≡ A) × (19 < n)) ⊎ (((kindOf k ≡ B) ⊎ (kindOf k ≡ D)) × (16 < n))))
   unfolding tableRefusal
   table-20-exactly =
       let e = refused-exactly 19 in
@@ -262,11 +262,11 @@ module _ (k n : ℕ) (counts : List ℕ) (entries : List ℤ) (letters : List �
       then-avoids (rankRefusal k n) (check 20 (untabled (kindOf k) n)) 13 (λ q. omega (arith, rankRefusal-le k n))
       (check-avoids 20 13 (untabled (kindOf k) n) (λ q. omega arith))
 
-  accepted : tableRefusal k n ≡ 0 → rankRefusal k n ≡ 0
+  accepted : tableRefusal k n ≡ 0 → Rig k n
   unfolding tableRefusal
   accepted q = then-zero (rankRefusal k n) _ q .0
 
-  passes : rankRefusal k n ≡ 0 → n ≤ greatestTabled (kindOf k) → tableRefusal k n ≡ 0
+  passes : Rig k n → n ≤ greatestTabled (kindOf k) → tableRefusal k n ≡ 0
   unfolding tableRefusal untabled
   passes q g = then-none (rankRefusal k n) _ q ∙ rw (le-ltb (greatestTabled (kindOf k)) n g)
 
@@ -282,7 +282,7 @@ module _ (k n : ℕ) (counts : List ℕ) (entries : List ℤ) (letters : List �
 
   -- 14 exactly when those pass and one of the outputs is too short
   pub table-14-exactly : (a ≡ Refused 14)
-      ↔ ((rankRefusal k n ≡ 0) × (n ≤ greatestTabled (kindOf k)) × ((length counts < greatestLength (kindOf k) n + 1)
+      ↔ (Rig k n × (n ≤ greatestTabled (kindOf k)) × ((length counts < greatestLength (kindOf k) n + 1)
       ⊎ ((length entries < lanes (kindOf k) n) ⊎ (length letters < greatestLength (kindOf k) n))))
   table-14-exactly =
       let e = refused-exactly 13 in
@@ -299,7 +299,7 @@ module _ (k n : ℕ) (counts : List ℕ) (entries : List ℤ) (letters : List �
 
   -- lengths are answered exactly when checks 5, 6 and 20 accept and the three outputs have room
   pub table-exactly : ((c e l : ℕ) × (a ≡ Written c e l))
-      ↔ ((rankRefusal k n ≡ 0) × (n ≤ greatestTabled (kindOf k)) × (greatestLength (kindOf k) n + 1 ≤ length counts)
+      ↔ (Rig k n × (n ≤ greatestTabled (kindOf k)) × (greatestLength (kindOf k) n + 1 ≤ length counts)
       × (lanes (kindOf k) n ≤ length entries) × (greatestLength (kindOf k) n ≤ length letters))
   unfolding delayTable tables roomRefusal tooShort
   table-exactly =

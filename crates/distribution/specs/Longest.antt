@@ -7,15 +7,15 @@ use lib.ListN.{length}
 use Rattle.coxeter.specs.Kinds.{Kind, A, B, D, pick, up}
 use Rattle.coxeter.specs.Windows.{from, negateFirst}
 use Rattle.coxeter.specs.Length.{windowLength, greatestLength}
-use Rattle.coxeter.specs.Checks.{odd, windowRefusal}
+use Rattle.coxeter.specs.Checks.{odd, WindowOf}
 use Rattle.coxeter.specs.NormalForm.{down, normalForm}
 
 -- "the one window with the greatest length, and its normal form; no other window of the rig has a normal form as long"
 pub record IsLongest (k : Kind) (n : ℕ) (w : List ℤ) : Type 0 where
-  pub passes : windowRefusal k n w ≡ 0
+  pub passes : WindowOf k n w
   pub greatest : windowLength k w ≡ greatestLength k n
   pub form : length (normalForm k n w) ≡ greatestLength k n
-  pub only : (v : List ℤ) → windowRefusal k n v ≡ 0 → (v ≡ w → ⊥) → length (normalForm k n v) < length (normalForm k n w)
+  pub only : (v : List ℤ) → WindowOf k n v → (v ≡ w → ⊥) → length (normalForm k n v) < length (normalForm k n w)
 
 -- −1, −2, .., −n: `negsuc s` is −(s + 1)
 unfoldable pub allNegative : ℕ → List ℤ

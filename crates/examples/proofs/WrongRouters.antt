@@ -42,7 +42,7 @@ use Rattle.coxeter.specs.Windows.{from, exchange, negateFirst, exchangeNegate, 
 use Rattle.coxeter.specs.Length.{later, negative, one, laterThan, inversions, negativeSumPairs, negatives, crossings, total, windowLength}
 use Rattle.coxeter.specs.Dictionary.{before, shortlex}
 use Rattle.coxeter.specs.Checks.{check, _then_, wrongKind, wrongRank, tooLong, wrongLetter, wrongLanes, hasSize, negativeInA, wrongAt}
-use Rattle.coxeter.specs.Checks.{wrongEntry, odd, oddNegatives, tooShort, rankRefusal, wordRefusal, windowRefusal}
+use Rattle.coxeter.specs.Checks.{wrongEntry, odd, oddNegatives, tooShort, rankRefusal, wordRefusal, windowRefusal, WordOf}
 use Rattle.coxeter.specs.NormalForm.{down, rise, fall, block, without, indexOf, restOf, normalFrom, normalForm}
 use Rattle.coxeter.specs.Calls.{answerOf, verdictOf, written, writes, windowOfWord, productOfWindows, inverseOfWindow, normalFormOfWindow}
 use Rattle.coxeter.specs.Calls.{normalFormOfWord, productOfWords, inverseOfWord, lengthOfWindow, lengthOfWord, sameEntry, sameWindow}
@@ -222,7 +222,7 @@ bookOf65536Bytes-ruled-out ed b e h =
 
 -- and every preset that would make an accepted book larger than 65,535 bytes tells this one, where the output is shorter than the new book
 pub roomBeforeTheSizeLimit-ruled-out : (ed : Edition) (b : List ℕ) (k n : ℕ) (u out : List ℕ)
-    → bookRefusal ed b ≡ 0 → bookRankRefusal ed k n ≡ 0 → wordRefusal n u ≡ 0 → retired k n ≡ false
+    → bookRefusal ed b ≡ 0 → bookRankRefusal ed k n ≡ 0 → WordOf n u → retired k n ≡ false
     → 65535 < length (appended ed b k n u) → length out < length (appended ed b k n u)
     → appending ed b k n u out ≡ roomBeforeTheSizeLimit ed b k n u out → ⊥
 unfolding writes answerOf tooShort

@@ -17,7 +17,7 @@ use borrow.Author.Tests.{le-ltb, lt-leb}
 use Rattle.coxeter.specs.declared.Answer.the-variants.{Length, Refused}
 use Rattle.coxeter.specs.Kinds.{Kind, kindOf, least}
 use Rattle.coxeter.specs.Windows.{windowFrom, product, inverse}
-use Rattle.coxeter.specs.Checks.{check, tooShort, rankRefusal, windowRefusal, wrongLetter}
+use Rattle.coxeter.specs.Checks.{check, tooShort, rankRefusal, wrongLetter, Rig, WindowOf}
 use Rattle.coxeter.specs.NormalForm.{wordNormalForm}
 use Rattle.coxeter.specs.Calls.{Outcome, answerOf, written, writes}
 use Rattle.coxeter.proofs.Acceptance.{rank-within, lanes-le}
@@ -37,7 +37,7 @@ use Rattle.exchange.proofs.BetweenChecks.{last, all-passed, all-passed-
 -- ---- the word that is written
 
 -- kind and rank of a set that passes
-rank-of-set : (k n set : ℕ) → setRefusal k n set ≡ 0 → rankRefusal k n ≡ 0
+rank-of-set : (k n set : ℕ) → setRefusal k n set ≡ 0 → Rig k n
 unfolding setRefusal
 rank-of-set k n set e = then-zero (rankRefusal k n) _ e .0
 
@@ -45,7 +45,7 @@ check-none : (t : Bool) → check 19 (not t) ≡ 0 → t ≡ true
 check-none true e = refl
 check-none false e = absurd (omega arith)
 
-module _ (k n set : ℕ) (v w : List ℤ) (a : setRefusal k n set ≡ 0) (b : windowRefusal (kindOf k) n v ≡ 0) (c : windowRefusal (kindOf k) n w ≡ 0) where
+module _ (k n set : ℕ) (v w : List ℤ) (a : setRefusal k n set ≡ 0) (b : WindowOf (kindOf k) n v) (c : WindowOf (kindOf k) n w) where
   rank : least (kindOf k) ≤ n
   rank = rank-within k n (rank-of-set k n set a) .0
 
@@ -115,13 +115,13 @@ module _ (k n set : ℕ) (v w : List ℤ) (out : List ℕ) where
 
   -- "19 when no word of any length over the allowed steps leads there, checked after both windows and before refusal 14": just then
   pub between-refuses-19 : (betweenWindows k n set v w out .answer ≡ Refused 19)
-      ↔ ((setRefusal k n set ≡ 0) × (windowRefusal (kindOf k) n v ≡ 0) × (windowRefusal (kindOf k) n w ≡ 0)
+      ↔ ((setRefusal k n set ≡ 0) × WindowOf (kindOf k) n v × WindowOf (kindOf k) n w
       × (Reachable (allows set) (kindOf k) n v w → ⊥))
   unfolding betweenWindows unreachable
   between-refuses-19 = (there, λ h. ap (λ (o : Outcome ℕ). o .answer) (between-unreachable k n set v w (h .0) (h .1) (h .2) out (h .3)))
     where
       there : betweenWindows k n set v w out .answer ≡ Refused 19
-          → (setRefusal k n set ≡ 0) × (windowRefusal (kindOf k) n v ≡ 0) × (windowRefusal (kindOf k) n w ≡ 0)
+          → (setRefusal k n set ≡ 0) × WindowOf (kindOf k) n v × WindowOf (kindOf k) n w
           × (Reachable (allows set) (kindOf k) n v w → ⊥)
       there e =
           let p = all-passed-19 k n set v w (writes-19 _ _ out e) in
@@ -146,7 +146,7 @@ module _ (k n set : ℕ) (v w : List ℤ) (out : List ℕ) where
 -- ---- equal windows, no step and all steps allowed
 
 -- "Where the windows agree it is empty": whatever steps are allowed and whatever the output, even one of no length
-pub between-equal : (k n set : ℕ) (v : List ℤ) (out : List ℕ) → setRefusal k n set ≡ 0 → windowRefusal (kindOf k) n v ≡ 0
+pub between-equal : (k n set : ℕ) (v : List ℤ) (out : List ℕ) → setRefusal k n set ≡ 0 → WindowOf (kindOf k) n v
     → betweenWindows k n set v v out ≡ record { answer = Length 0; bytes = out }
 unfolding betweenWindows unreachable writes answerOf written tooShort
 between-equal k n set v out a b =
@@ -159,7 +159,7 @@ between-equal k n set v out a b =
     )
 
 -- the set of no step passes check 16
-pub set-of-none-passes : (k n : ℕ) → rankRefusal k n ≡ 0 → setRefusal k n 0 ≡ 0
+pub set-of-none-passes : (k n : ℕ) → Rig k n → setRefusal k n 0 ≡ 0
 unfolding setRefusal wrongSet
 set-of-none-passes k n r = then-none (rankRefusal k n) _ r ∙ rw (lt-leb (2 ^ n) 0 (pow-pos n))
 
@@ -174,7 +174,7 @@ none-leads k n v w [] l = l .arrives
 none-leads k n v w (s ∷ u) l = absurd (true≢false (sym (over-head (allows 0) s u (l .over)) ∙ allows-none s))
 
 -- with no step allowed only the window itself is reached
-pub between-none-allowed : (k n : ℕ) (v w : List ℤ) (out : List ℕ) → rankRefusal k n ≡ 0 → windowRefusal (kindOf k) n v ≡ 0 → windowRefusal (kindOf k) n w ≡ 0
+pub between-none-allowed : (k n : ℕ) (v w : List ℤ) (out : List ℕ) → Rig k n → WindowOf (kindOf k) n v → WindowOf (kindOf k) n w
     → (betweenWindows k n 0 v w out .answer ≡ Refused 19) ↔ (v ≡ w → ⊥)
 between-none-allowed k n v w out r b c =
     let refused = between-refuses-19 k n 0 v w out in (

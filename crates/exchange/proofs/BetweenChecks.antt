@@ -13,7 +13,7 @@ use lib.ListN.{length, drop, take-append-drop}
 use borrow.Author.Tests.{ne-eqb}
 use Rattle.coxeter.specs.declared.Answer.the-variants.{Length, Refused}
 use Rattle.coxeter.specs.Kinds.{kindOf}
-use Rattle.coxeter.specs.Checks.{check, _then_, tooShort, rankRefusal, windowRefusal}
+use Rattle.coxeter.specs.Checks.{check, _then_, tooShort, rankRefusal, windowRefusal, WindowOf}
 use Rattle.coxeter.specs.Calls.{answerOf, written, writes}
 use Rattle.coxeter.proofs.Refusals.{then-zero, then-none, then-some, check-le, then-le, rankRefusal-le, windowRefusal-le}
 use Rattle.coxeter.proofs.Writes.{wrote}
@@ -42,13 +42,13 @@ check-late false e = absurd (omega arith)
 
 module _ (k n set : ℕ) (v w : List ℤ) where
   -- what the last check finds decides
-  pub last : setRefusal k n set ≡ 0 → windowRefusal (kindOf k) n v ≡ 0 → windowRefusal (kindOf k) n w ≡ 0
+  pub last : setRefusal k n set ≡ 0 → WindowOf (kindOf k) n v → WindowOf (kindOf k) n w
       → betweenRefusal k n set v w ≡ check 19 (unreachable (kindOf k) n set v w)
   unfolding betweenRefusal
   last a b c = then-none _ _ a ∙ then-none _ _ b ∙ then-none _ _ c
 
   pub all-passed : betweenRefusal k n set v w ≡ 0
-      → (setRefusal k n set ≡ 0) × (windowRefusal (kindOf k) n v ≡ 0) × (windowRefusal (kindOf k) n w ≡ 0) × (check 19 (unreachable (kindOf k) n set v w) ≡ 0)
+      → (setRefusal k n set ≡ 0) × WindowOf (kindOf k) n v × WindowOf (kindOf k) n w × (check 19 (unreachable (kindOf k) n set v w) ≡ 0)
   unfolding betweenRefusal
   all-passed e =
       let a = then-zero (setRefusal k n set) _ e in
@@ -57,7 +57,7 @@ module _ (k n set : ℕ) (v w : List ℤ) where
       (a .0, b .0, c .0, c .1)
 
   pub all-passed-19 : betweenRefusal k n set v w ≡ 19
-      → (setRefusal k n set ≡ 0) × (windowRefusal (kindOf k) n v ≡ 0) × (windowRefusal (kindOf k) n w ≡ 0) × (unreachable (kindOf k) n set v w ≡ true)
+      → (setRefusal k n set ≡ 0) × WindowOf (kindOf k) n v × WindowOf (kindOf k) n w × (unreachable (kindOf k) n set v w ≡ true)
   unfolding betweenRefusal
   all-passed-19 e =
       let a = then-late (setRefusal k n set) _ (set-le k n set) e in

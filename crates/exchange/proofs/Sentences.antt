@@ -16,7 +16,7 @@ use lib.ListN.{length, getD, take, drop}
 use Rattle.coxeter.specs.Kinds.{Kind, kindOf, least}
 use Rattle.coxeter.specs.Windows.{window}
 use Rattle.coxeter.specs.Length.{windowLength}
-use Rattle.coxeter.specs.Checks.{check, _then_, tooShort, tooLong, wrongLetter, rankRefusal, wordRefusal}
+use Rattle.coxeter.specs.Checks.{check, _then_, tooShort, tooLong, wrongLetter, rankRefusal, wordRefusal, Rig, WordOf}
 use Rattle.coxeter.specs.NormalForm.{wordNormalForm}
 use Rattle.coxeter.proofs.Lists.{getD-take}
 use Rattle.coxeter.proofs.Refusals.{then-none, rankRefusal-le, wordRefusal-le, then-avoids}
@@ -100,7 +100,7 @@ exactly-one k n u w d = (
   λ g i a p. d .none g i (a, p),
 )
 
-pub one-letter-accepted : (k n : ℕ) (u : List ℕ) (s : ℕ) (w : List ℤ) → rankRefusal k n ≡ 0 → wrongLetter n u ≡ false
+pub one-letter-accepted : (k n : ℕ) (u : List ℕ) (s : ℕ) (w : List ℤ) → Rig k n → wrongLetter n u ≡ false
     → ((v : List ℕ) → wrongLetter n v ≡ false → window (kindOf k) n v ≡ window (kindOf k) n u → length u ≤ length v) → 1 ≤ s → s ≤ n
     → (w ≡ window (kindOf k) n (u ++ (s ∷ []))) ⊎ (w ≡ window (kindOf k) n (s ∷ u))
     → (windowLength (kindOf k) w < windowLength (kindOf k) (window (kindOf k) n u)
@@ -148,10 +148,10 @@ module _ (k n : ℕ) (present simpler places : List ℕ) where
       rw (then-last (rankRefusal k n) (wordRefusal n present) (wordRefusal n simpler) (check 14 (falls && tooShort size places)))
       (told checks falls (tooShort size places) size)
 
-  passed : (rankRefusal k n ≡ 0) × (wordRefusal n present ≡ 0) × (wordRefusal n simpler ≡ 0) → checks ≡ 0
+  passed : Rig k n × WordOf n present × WordOf n simpler → checks ≡ 0
   passed h = then-none _ _ (h .0) ∙ then-none _ _ (h .1) ∙ h .2
 
-  all-passed : checks ≡ 0 → (rankRefusal k n ≡ 0) × (wordRefusal n present ≡ 0) × (wordRefusal n simpler ≡ 0)
+  all-passed : checks ≡ 0 → Rig k n × WordOf n present × WordOf n simpler
   all-passed e = let p = words-accepted k n present simpler checks refl e in (p .0, p .1 .0, p .1 .1)
 
   checks-14 : checks ≡ 14 → ⊥
@@ -166,7 +166,7 @@ module _ (k n : ℕ) (present simpler places : List ℕ) where
   module _ (a : Fallback) (after : List ℕ) (f : FellBack k n present simpler places a after) where
     -- "The verdict is yes exactly when some part-list of its letters, in order, has the simpler window": no when no check refuses and none has it
     pub no-exactly : (a ≡ No)
-        ↔ ((rankRefusal k n ≡ 0) × (wordRefusal n present ≡ 0) × (wordRefusal n simpler ≡ 0) × (FallbackOf (kindOf k) n present simpler → ⊥))
+        ↔ (Rig k n × WordOf n present × WordOf n simpler × (FallbackOf (kindOf k) n present simpler → ⊥))
     no-exactly = (
       λ e.
           let t = told-no answer-told (sym (f .answer) ∙ e) in
@@ -179,7 +179,7 @@ module _ (k n : ℕ) (present simpler places : List ℕ) where
 
     -- places come exactly when no check refuses, some part-list has the simpler window and the list has room for its length
     pub kept-exactly : ((l : ℕ) × (a ≡ Kept l))
-        ↔ ((rankRefusal k n ≡ 0) × (wordRefusal n present ≡ 0) × (wordRefusal n simpler ≡ 0) × FallbackOf (kindOf k) n present simpler
+        ↔ (Rig k n × WordOf n present × WordOf n simpler × FallbackOf (kindOf k) n present simpler
         × (windowLength (kindOf k) (window (kindOf k) n simpler) ≤ length places))
     unfolding tooShort
     kept-exactly = (
@@ -194,7 +194,7 @@ module _ (k n : ℕ) (present simpler places : List ℕ) where
 
     -- 14 exactly when the list has not
     pub short-exactly : (a ≡ Refused 14)
-        ↔ ((rankRefusal k n ≡ 0) × (wordRefusal n present ≡ 0) × (wordRefusal n simpler ≡ 0) × FallbackOf (kindOf k) n present simpler
+        ↔ (Rig k n × WordOf n present × WordOf n simpler × FallbackOf (kindOf k) n present simpler
         × (length places < windowLength (kindOf k) (window (kindOf k) n simpler)))
     unfolding tooShort
     short-exactly = (
@@ -259,11 +259,11 @@ module _ (k n : ℕ) (present simpler places : List ℕ) (a : Fallback) (after :
     (z : List ℕ) (letters : wrongLetter n z ≡ false)
     (shortest : (v : List ℕ) → wrongLetter n v ≡ false → window (kindOf k) n v ≡ window (kindOf k) n z → length z ≤ length v)
     (same : window (kindOf k) n z ≡ window (kindOf k) n present) where
-  same-verdict : rankRefusal k n ≡ 0 → FallbackOf (kindOf k) n present simpler ↔ HasPart (kindOf k) n z (window (kindOf k) n simpler)
+  same-verdict : Rig k n → FallbackOf (kindOf k) n present simpler ↔ HasPart (kindOf k) n z (window (kindOf k) n simpler)
   same-verdict r = verdict-same (kindOf k) n (rank-within k n r .0) present simpler z (record { steps = letters; none-shorter = shortest }) same
 
   pub no-from-every-shortest : (a ≡ No)
-      ↔ ((rankRefusal k n ≡ 0) × (wordRefusal n present ≡ 0) × (wordRefusal n simpler ≡ 0)
+      ↔ (Rig k n × WordOf n present × WordOf n simpler
       × (HasPart (kindOf k) n z (window (kindOf k) n simpler) → ⊥))
   no-from-every-shortest =
       let e = no-exactly k n present simpler places a after f in (
@@ -272,7 +272,7 @@ module _ (k n : ℕ) (present simpler places : List ℕ) (a : Fallback) (after :
       )
 
   pub kept-from-every-shortest : ((l : ℕ) × (a ≡ Kept l))
-      ↔ ((rankRefusal k n ≡ 0) × (wordRefusal n present ≡ 0) × (wordRefusal n simpler ≡ 0) × HasPart (kindOf k) n z (window (kindOf k) n simpler)
+      ↔ (Rig k n × WordOf n present × WordOf n simpler × HasPart (kindOf k) n z (window (kindOf k) n simpler)
       × (windowLength (kindOf k) (window (kindOf k) n simpler) ≤ length places))
   kept-from-every-shortest =
       let e = kept-exactly k n present simpler places a after f in (
@@ -283,7 +283,7 @@ module _ (k n : ℕ) (present simpler places : List ℕ) (a : Fallback) (after :
 -- as an answer: present words of one window get the same one
 pub same-answer : (k n : ℕ) (present other simpler places : List ℕ) (a b : Fallback) (after also : List ℕ)
     → FellBack k n present simpler places a after → FellBack k n other simpler places b also
-    → wordRefusal n present ≡ 0 → wordRefusal n other ≡ 0 → window (kindOf k) n present ≡ window (kindOf k) n other → a ≡ b
+    → WordOf n present → WordOf n other → window (kindOf k) n present ≡ window (kindOf k) n other → a ≡ b
 unfolding fallbackAnswer fallsBack
 same-answer k n present other simpler places a b after also f g p q e =
     let same : fallbackAnswer k n present simpler places ≡ fallbackAnswer k n other simpler places = rw (p, q, e) in
@@ -291,7 +291,7 @@ same-answer k n present other simpler places a b after also f g p q e =
 
 -- "The empty word is a fallback for all presets."
 pub empty-kept : (k n : ℕ) (present places : List ℕ) (a : Fallback) (after : List ℕ) → FellBack k n present [] places a after
-    → rankRefusal k n ≡ 0 → wordRefusal n present ≡ 0 → (a ≡ Kept 0) × (after ≡ places)
+    → Rig k n → WordOf n present → (a ≡ Kept 0) × (after ≡ places)
 unfolding keptCount
 empty-kept k n present places a after f r p =
     let low = rank-within k n r .0 in

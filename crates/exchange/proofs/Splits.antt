@@ -16,7 +16,7 @@ use borrow.Author.Tests.{eqb-true}
 use Rattle.coxeter.specs.Kinds.{Kind, pick, kindOf, least}
 use Rattle.coxeter.specs.Windows.{window}
 use Rattle.coxeter.specs.Length.{windowLength}
-use Rattle.coxeter.specs.Checks.{check, _then_, tooShort, rankRefusal, wordRefusal, windowRefusal}
+use Rattle.coxeter.specs.Checks.{check, _then_, tooShort, wordRefusal, Rig, WindowOf}
 use Rattle.coxeter.specs.Calls.{written}
 use Rattle.coxeter.proofs.Refusals.{then-zero}
 use Rattle.coxeter.proofs.Unchanged.{kept-whole, kept-past}
@@ -33,7 +33,7 @@ use Rattle.exchange.proofs.SplitOutcomes.{split-accepted}
 
 -- ---- the two words
 
-module _ (k : Kind) (n : ℕ) (w : List ℤ) (h : least k ≤ n) (p : windowRefusal k n w ≡ 0) where
+module _ (k : Kind) (n : ℕ) (w : List ℤ) (h : least k ≤ n) (p : WindowOf k n w) where
   -- the definition has the properties, whatever steps are allowed
   pub splits : (allowed : ℕ → Bool) → IsSplit allowed k n w (firstWord allowed k n w) (secondWord allowed k n w)
   splits allowed = split-is allowed k n w h (accepted-of-refusal k n w p)
@@ -94,7 +94,7 @@ module _ (k n set : ℕ) (u first second : List ℕ) where
     told = pick-told taken left first second (eqb refusal 0) refusal a b h
 
     -- such an answer comes only where checks 5 and 6 pass
-    pub splitting-accepted : rankRefusal k n ≡ 0
+    pub splitting-accepted : Rig k n
     splitting-accepted = split-accepted k n set u checks refl (then-zero checks _ (eqb-true refusal 0 (told .0)) .0) .0
 
     rank : least (kindOf k) ≤ n

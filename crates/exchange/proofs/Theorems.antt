@@ -1,5 +1,5 @@
 -- What the certificate cites of shortest words, over the definitions of specs/ alone. Each is a corollary of a law of the files before;
--- `windowRefusal k n w ≡ 0` says that w passes checks 9 to 11. The ranks need no upper end, and words may have any length.
+-- `WindowOf k n w` says that w passes checks 9 to 11. The ranks need no upper end, and words may have any length.
 --
 -- Sections: one step; shortest words; one letter.
 -- Assumes nothing.
@@ -14,7 +14,7 @@ use lib.ListN.{length}
 use Rattle.coxeter.specs.Kinds.{Kind, kindOf, least}
 use Rattle.coxeter.specs.Windows.{act, window}
 use Rattle.coxeter.specs.Length.{windowLength}
-use Rattle.coxeter.specs.Checks.{wrongLetter, rankRefusal, windowRefusal}
+use Rattle.coxeter.specs.Checks.{wrongLetter, Rig, WindowOf}
 use Rattle.coxeter.proofs.Acceptance.{rank-within}
 use Rattle.coxeter.proofs.Levels.{accepted-of-refusal, window-accepted}
 use Rattle.coxeter.proofs.Theorems.{window-passes}
@@ -33,7 +33,7 @@ OneApart a b = (a ≡ b + 1) ⊎ (b ≡ a + 1)
 
 module _ (k : Kind) (n s : ℕ) (h : least k ≤ n) (o : 1 ≤ s) (l : s ≤ n) where
   -- a step changes the length of a window by exactly one
-  pub length-act : (w : List ℤ) → windowRefusal k n w ≡ 0
+  pub length-act : (w : List ℤ) → WindowOf k n w
       → (windowLength k (act k n s w) ≡ windowLength k w + 1) ⊎ (windowLength k w ≡ windowLength k (act k n s w) + 1)
   length-act w p = cases (isDescent k n s w) refl
     where
@@ -68,7 +68,7 @@ shortest-exactly k n u h e = (length-of-shortest k n u h, λ q. shortest-of-leng
 -- ---- one letter
 
 -- request 14 "for every kind and rank we accept"
-pub oneLetter-accepted : (k n : ℕ) (u : List ℕ) (s : ℕ) → rankRefusal k n ≡ 0 → Shortest (kindOf k) n u → 1 ≤ s → s ≤ n
+pub oneLetter-accepted : (k n : ℕ) (u : List ℕ) (s : ℕ) → Rig k n → Shortest (kindOf k) n u → 1 ≤ s → s ≤ n
     → OneLetter (kindOf k) n u (added (kindOf k) n u s) × OneLetter (kindOf k) n u (window (kindOf k) n (s ∷ u))
 oneLetter-accepted k n u s r m o l =
     let h = rank-within k n r .0 in

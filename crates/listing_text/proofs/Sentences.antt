@@ -11,7 +11,7 @@ use native.Mathlib.Omega.{arith}
 use lib.ListN.{length, take, drop}
 use Rattle.coxeter.specs.declared.Answer.the-variants.{Length}
 use Rattle.coxeter.specs.Kinds.{A, kindOf}
-use Rattle.coxeter.specs.Checks.{wordRefusal}
+use Rattle.coxeter.specs.Checks.{WordOf}
 use Rattle.coxeter.specs.Calls.{Yields}
 use Rattle.book_format.specs.declared.Edition.{Edition}
 use Rattle.book_format.specs.declared.Preset.{Preset}
@@ -140,7 +140,7 @@ convert-listed ed b before after l c =
 
 -- "Books that hold them are .. listed .. as before": preset i is of kind A and rank 1, with its lane count, 2, and with letters that pass
 pub rank-1-listed : (ed : Edition) (b : List ℕ) (i : ℕ) → bookRefusal ed b ≡ 0 → i < count b → kindAt b (offset b i) ≡ 1 → rankAt b (offset b i) ≡ 1
-    → lanesAt ed b (offset b i) ≡ 2 → wordRefusal 1 (lettersAt ed b (offset b i)) ≡ 0 → lineOf ed b i ≡ wordLine i A 1 (lettersAt ed b (offset b i))
+    → lanesAt ed b (offset b i) ≡ 2 → WordOf 1 (lettersAt ed b (offset b i)) → lineOf ed b i ≡ wordLine i A 1 (lettersAt ed b (offset b i))
 unfolding kindOf
 rank-1-listed ed b i z h k n m w =
     let p = rank-1-read ed b i z h k n m w in

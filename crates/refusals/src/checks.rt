@@ -7,7 +7,7 @@ ghost use Prim.Native.Nat.{ℕ, _<_, _≤_};
 ghost use lib.ListN.{length, getD};
 ghost use Rattle.coxeter.specs.Kinds as kinds;
 ghost use Rattle.coxeter.specs.Kinds.{kindOf};
-ghost use Rattle.coxeter.specs.Checks.{_then_, rankRefusal, wordRefusal, windowRefusal};
+ghost use Rattle.coxeter.specs.Checks.{_then_, rankRefusal, wordRefusal, windowRefusal, Rig};
 ghost use Rattle.coxeter.specs.Checks.{wrongLetter, wrongEntry, oddNegatives, negativeInA, odd};
 ghost use Rattle.coxeter.specs.Length.{negatives};
 
@@ -204,7 +204,7 @@ fn has_odd_negatives(kind: u8, w: &[i8]) -> bool
 
 // Checks 9 to 11, where 5 and 6 passed.
 fn window_refusal(kind: u8, rank: u8, w: &[i8]) -> u8
-    requires { ⌜ rankRefusal kind rank ≡ 0 ⌝ }
+    requires { ⌜ Rig kind rank ⌝ }
     ensures { λ r. ⌜ r ≡ windowRefusal (kindOf kind) rank (now (w .entry)) ⌝ }
 {
     let m = lanes(kind, rank);

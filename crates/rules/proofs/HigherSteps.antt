@@ -14,7 +14,7 @@ use native.Mathlib.Omega.{arith}
 use lib.IntN.{ℤ}
 use Rattle.coxeter.specs.Kinds.{Kind, A, B, D, least}
 use Rattle.coxeter.specs.Windows.{window}
-use Rattle.coxeter.specs.Checks.{wrongLetter, windowRefusal}
+use Rattle.coxeter.specs.Checks.{wrongLetter, WindowOf}
 use Rattle.coxeter.specs.NormalForm.{block, blocks, Indices, none, level, levels, lastIndex, normalForm, IsNormalForm}
 use Rattle.coxeter.proofs.LetterLaws.{letter-within-cons}
 use Rattle.coxeter.proofs.NormalForms.{normalForm-blocks}
@@ -112,7 +112,7 @@ letter-ge n (s ∷ u) e a m =
     ⊎-elim (λ q. omega (arith, h .0)) (λ t. letter-ge n u (h .2) a t) (List·Memᴰ·cases-cons m)
 
 -- the normal form of an accepted window is a normal form over the steps from 2 on, and then a block of level 1
-pub block-1-peeled : (k : Kind) (n : ℕ) (w : List ℤ) → least k ≤ n → windowRefusal k n w ≡ 0
+pub block-1-peeled : (k : Kind) (n : ℕ) (w : List ℤ) → least k ≤ n → WindowOf k n w
     → (j : ℕ) × (v js : List ℕ) × (normalForm k n w ≡ v ++ block k n 1 j) × (j ≤ lastIndex k n 1)
     × IsNormalForm k n (window k n v) v × (v ≡ normalForm k n (window k n v)) × ((a : ℕ) → List·Memᴰ a v → (2 ≤ a) × (a ≤ n))
     × (v ≡ blocks k n 2 js) × Indices k n 2 js

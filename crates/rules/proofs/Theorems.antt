@@ -17,7 +17,7 @@ use Rattle.coxeter.specs.Kinds.{Kind, least}
 use Rattle.coxeter.specs.Windows.{window}
 use Rattle.coxeter.specs.Dictionary.{shortlex}
 use Rattle.coxeter.specs.Relations.{Braid, Relation, Linked}
-use Rattle.coxeter.specs.Checks.{windowRefusal}
+use Rattle.coxeter.specs.Checks.{WindowOf}
 use Rattle.coxeter.specs.NormalForm.{normalForm, IsNormalForm}
 use Rattle.coxeter.proofs.Levels.{accepted-of-refusal}
 use Rattle.rules.specs.Rules.{Rule, rules, fits, rewritten}
@@ -62,5 +62,5 @@ module _ (k : Kind) (n : ℕ) (low : least k ≤ n) (x : Rule) (listed : List·M
 -- ---- normal forms
 
 -- the normal form of a window is the mission's: the shortest word with that window, and among those the first in the dictionary
-pub normalForm-least : (k : Kind) (n : ℕ) (w : List ℤ) → least k ≤ n → windowRefusal k n w ≡ 0 → IsNormalForm k n w (normalForm k n w)
+pub normalForm-least : (k : Kind) (n : ℕ) (w : List ℤ) → least k ≤ n → WindowOf k n w → IsNormalForm k n w (normalForm k n w)
 normalForm-least k n w low passed = complete.normalForm-least k n w low (accepted-of-refusal k n w passed)

@@ -1,17 +1,16 @@
 -- A list of single rewrites and the plain machine beside it (document 01, "Demand 3, read exactly").
-use mathlib.Core.Path.{_≡_}
 use mathlib.Core.List.{List, [], _∷_}
 use Prim.Native.Nat.{ℕ, suc}
 use lib.ListN.{take}
-use Rattle.coxeter.specs.Checks.{rankRefusal, wordRefusal}
+use Rattle.coxeter.specs.Checks.{Rig, WordOf}
 use Rattle.rules.specs.declared.Rewrite.{Rewrite}
 use Rattle.rules.specs.declared.Rewrite.the-variants.{Used, NoneFits, Refused}
 use Rattle.rules.specs.Calls.{step, Rewrote}
 
 -- "An accepted word passes checks 5 to 8."
 pub record AcceptedWord (k n : ℕ) (u : List ℕ) : Type 0 where
-  pub rank : rankRefusal k n ≡ 0
-  pub word : wordRefusal n u ≡ 0
+  pub rank : Rig k n
+  pub word : WordOf n u
 
 -- what a call is lent, and what it then tells
 pub record Lent : Type 0 where

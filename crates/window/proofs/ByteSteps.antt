@@ -15,7 +15,7 @@ use mir.Syntax.{w8}
 use mir.Val.{toZ, ofZ}
 use Rattle.coxeter.specs.Kinds.{Kind, A, B, D, kindOf, lanes, least}
 use Rattle.coxeter.specs.Windows.{from, exchange, negateFirst, exchangeNegate, act}
-use Rattle.coxeter.specs.Checks.{windowRefusal}
+use Rattle.coxeter.specs.Checks.{WindowOf}
 use Rattle.coxeter.proofs.KindLaws.{lanes-le-add-one, kindOf-one, kindOf-two, kindOf-three}
 use Rattle.coxeter.proofs.Levels.{Between, accepted-of-refusal}
 use Rattle.coxeter.proofs.Steps.{act-exchange, act-B-last, act-D-last}
@@ -77,11 +77,11 @@ size-getD-lt i c p [] h b = h
 size-getD-lt i c zero (e ∷ w) h b = b .1
 size-getD-lt i c (suc p) (e ∷ w) h b = size-getD-lt i c p w h (b .2)
 
-pub length-of-refusal : (k : Kind) (n : ℕ) (w : List ℤ) → windowRefusal k n w ≡ 0 → length w ≡ lanes k n
+pub length-of-refusal : (k : Kind) (n : ℕ) (w : List ℤ) → WindowOf k n w → length w ≡ lanes k n
 length-of-refusal k n w h = accepted-of-refusal k n w h .size
 
 -- each entry can be negated as a signed byte
-pub size-lt-of-refusal : (k : Kind) (n p : ℕ) (w : List ℤ) → n ≤ 64 → windowRefusal k n w ≡ 0 → natAbs (getD w p (pos 0)) < 128
+pub size-lt-of-refusal : (k : Kind) (n p : ℕ) (w : List ℤ) → n ≤ 64 → WindowOf k n w → natAbs (getD w p (pos 0)) < 128
 size-lt-of-refusal k n p w h r =
     let b = accepted-of-refusal k n w r .level .between in
     let s : natAbs (getD w p (pos 0)) < 1 + length w = size-getD-lt 1 (1 + length w) p w (omega arith) b in
@@ -91,10 +91,10 @@ size-lt-of-refusal k n p w h r =
 
 -- what `act_on` requires
 abbrev pub ActRequires : ℕ → ℕ → ℕ → List ℤ → Type 0
-ActRequires k n s w = ((1 ≤ s) × (s ≤ n)) × ((least (kindOf k) ≤ n) × ((n ≤ 64) × (windowRefusal (kindOf k) n w ≡ 0)))
+ActRequires k n s w = ((1 ≤ s) × (s ≤ n)) × ((least (kindOf k) ≤ n) × ((n ≤ 64) × WindowOf (kindOf k) n w))
 
 -- every step has an entry at s − 1, step n of B and D too
-place-lt : (k : Kind) (n s : ℕ) (w : List ℤ) → 1 ≤ s → s ≤ n → windowRefusal k n w ≡ 0 → s - 1 < length w
+place-lt : (k : Kind) (n s : ℕ) (w : List ℤ) → 1 ≤ s → s ≤ n → WindowOf k n w → s - 1 < length w
 place-lt A n s w h l r = omega (arith, length-of-refusal A n w r)
 place-lt B n s w h l r = omega (arith, length-of-refusal B n w r)
 place-lt D n s w h l r = omega (arith, length-of-refusal D n w r)
@@ -111,7 +111,7 @@ exchange-eq-act k n zero w h l = let z : ⊥ = omega (arith, h .0 .0) in absurd 
 exchange-eq-act k n (suc p) w h l = exchange-eq-act-suc (kindOf k) n p w (rw (length-of-refusal (kindOf k) n w (h .1 .1 .1)) at l)
 
 -- any other step is step n, and the kind is B or D
-pub last-step : (k : Kind) (n s : ℕ) (w : List ℤ) → s ≤ n → length w ≤ s → windowRefusal k n w ≡ 0 → (s ≡ n) × (length w ≡ n)
+pub last-step : (k : Kind) (n s : ℕ) (w : List ℤ) → s ≤ n → length w ≤ s → WindowOf k n w → (s ≡ n) × (length w ≡ n)
 last-step A n s w h l r = let z : ⊥ = omega (arith, length-of-refusal A n w r) in absurd z
 last-step B n s w h l r = omega (arith, length-of-refusal B n w r)
 last-step D n s w h l r = omega (arith, length-of-refusal D n w r)

@@ -6,7 +6,7 @@ ghost use lib.IntN.{natAbs, pos};
 ghost use lib.ListN.{length, getD};
 ghost use Rattle.coxeter.specs.Kinds.{kindOf, lanes, least};
 ghost use Rattle.coxeter.specs.Windows.{from, exchange, negateFirst, exchangeNegate, act, windowFrom, straight, window};
-ghost use Rattle.coxeter.specs.Checks.{wrongLetter, windowRefusal};
+ghost use Rattle.coxeter.specs.Checks.{wrongLetter, WindowOf};
 use super::entries::negated;
 
 // w[p] and w[p + 1] exchanged, where w[p] is a.
@@ -51,7 +51,7 @@ fn act_on(kind: u8, n: usize, s: usize, w: &mut [i8])
     requires { ⌜ (1 ≤ s) × (s ≤ n) ⌝ }
     requires { ⌜ least (kindOf kind) ≤ n ⌝ }
     requires { ⌜ n ≤ 64 ⌝ }
-    requires { ⌜ windowRefusal (kindOf kind) n (now w) ≡ 0 ⌝ }
+    requires { ⌜ WindowOf (kindOf kind) n (now w) ⌝ }
     ensures { λ _. ⌜ now (w .exit) ≡ act (kindOf kind) n s (now (w .entry)) ⌝ }
 {
     let a = w[s - 1];
@@ -71,7 +71,7 @@ pub(crate) fn apply(kind: u8, n: usize, word: &[u8], w: &mut [i8])
     requires { ⌜ least (kindOf kind) ≤ n ⌝ }
     requires { ⌜ n ≤ 64 ⌝ }
     requires { ⌜ wrongLetter n (now word) ≡ false ⌝ }
-    requires { ⌜ windowRefusal (kindOf kind) n (now w) ≡ 0 ⌝ }
+    requires { ⌜ WindowOf (kindOf kind) n (now w) ⌝ }
     ensures { λ _. ⌜ now (w .exit) ≡ windowFrom (kindOf kind) n (now (w .entry)) (now (word .entry)) ⌝ }
 {
     let mut i = 0;

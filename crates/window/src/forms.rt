@@ -8,16 +8,16 @@ ghost use lib.Dec.{ltb};
 ghost use lib.ListN.{length, take};
 ghost use Rattle.coxeter.specs.Kinds.{kindOf, lanes};
 ghost use Rattle.coxeter.specs.Length.{windowLength};
-ghost use Rattle.coxeter.specs.Checks.{rankRefusal, windowRefusal};
+ghost use Rattle.coxeter.specs.Checks.{Rig, WindowOf};
 ghost use Rattle.coxeter.specs.NormalForm.{normalForm};
 ghost use Rattle.coxeter.specs.Calls.{Yields, writes};
 
 // Check 14: whether `room` is less than the length of the normal form of the window at the front of `work`. No normal form has more than n × n
 // letters, so that the length is measured only where there is less room.
 fn lacks_room(kind: u8, rank: u8, work: &[i8], room: usize) -> bool
-    requires { ⌜ rankRefusal kind rank ≡ 0 ⌝ }
+    requires { ⌜ Rig kind rank ⌝ }
     requires { ⌜ lanes (kindOf kind) rank ≤ length (now work) ⌝ }
-    requires { ⌜ windowRefusal (kindOf kind) rank (take (lanes (kindOf kind) rank) (now work)) ≡ 0 ⌝ }
+    requires { ⌜ WindowOf (kindOf kind) rank (take (lanes (kindOf kind) rank) (now work)) ⌝ }
     ensures { λ r. ⌜ r ≡ ltb room (windowLength (kindOf kind) (take (lanes (kindOf kind) rank) (now (work .entry)))) ⌝ }
 {
     let n = rank as usize;
@@ -29,9 +29,9 @@ fn lacks_room(kind: u8, rank: u8, work: &[i8], room: usize) -> bool
 
 // Check 14, then the normal form of the window at the front of `work` to the front of `out`. `work` is used up.
 pub(crate) fn write_checked(kind: u8, rank: u8, work: &mut [i8], out: &mut [u8]) -> Answer
-    requires { ⌜ rankRefusal kind rank ≡ 0 ⌝ }
+    requires { ⌜ Rig kind rank ⌝ }
     requires { ⌜ lanes (kindOf kind) rank ≤ length (now work) ⌝ }
-    requires { ⌜ windowRefusal (kindOf kind) rank (take (lanes (kindOf kind) rank) (now work)) ≡ 0 ⌝ }
+    requires { ⌜ WindowOf (kindOf kind) rank (take (lanes (kindOf kind) rank) (now work)) ⌝ }
     ensures { λ r. ⌜ Yields (writes 0 (normalForm (kindOf kind) rank (take (lanes (kindOf kind) rank) (now (work .entry)))) (now (out .entry)))
         r (now (out .exit)) ⌝ }
 {

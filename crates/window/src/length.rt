@@ -11,7 +11,7 @@ ghost use lib.IntN.{natAbs, pos};
 ghost use lib.ListN.{length, take};
 ghost use Rattle.coxeter.specs.Kinds.{B, pick, kindOf, lanes};
 ghost use Rattle.coxeter.specs.Length.{laterThan, inversions, negativeSumPairs, negatives, crossings, windowLength};
-ghost use Rattle.coxeter.specs.Checks.{rankRefusal, windowRefusal};
+ghost use Rattle.coxeter.specs.Checks.{Rig, WindowOf};
 ghost use Rattle.coxeter.specs.Calls.{countedOf};
 
 fn no_sizes() -> [u8; 64]
@@ -65,7 +65,7 @@ fn pairs_behind(minus: bool, own: u8, rest: &[u8]) -> usize
 // Both sorts of pairs of a window with these sizes. An accepted window of any kind is one of kind B.
 fn sized_pairs(w: &[i8], sizes: &[u8]) -> usize
     requires { ⌜ length (now w) ≤ 64 ⌝ }
-    requires { ⌜ windowRefusal B (length (now w)) (now w) ≡ 0 ⌝ }
+    requires { ⌜ WindowOf B (length (now w)) (now w) ⌝ }
     requires { ⌜ now sizes ≡ map natAbs (now w) ⌝ }
     ensures { λ r. ⌜ r ≡ inversions (now (w .entry)) + negativeSumPairs (now (w .entry)) ⌝ }
 {
@@ -82,7 +82,7 @@ fn sized_pairs(w: &[i8], sizes: &[u8]) -> usize
 // The same of a window alone.
 fn pairs(w: &[i8]) -> usize
     requires { ⌜ length (now w) ≤ 64 ⌝ }
-    requires { ⌜ windowRefusal B (length (now w)) (now w) ≡ 0 ⌝ }
+    requires { ⌜ WindowOf B (length (now w)) (now w) ⌝ }
     ensures { λ r. ⌜ r ≡ inversions (now (w .entry)) + negativeSumPairs (now (w .entry)) ⌝ }
 {
     let m = w.len();
@@ -137,7 +137,7 @@ fn with_size(set: u64, s: u8) -> u64
 // window of any kind is one of kind B.
 fn parts_of(w: &[i8]) -> Parts
     requires { ⌜ length (now w) ≤ 64 ⌝ }
-    requires { ⌜ windowRefusal B (length (now w)) (now w) ≡ 0 ⌝ }
+    requires { ⌜ WindowOf B (length (now w)) (now w) ⌝ }
     ensures { λ r. ⌜ (r .pairs ≡ inversions (now (w .entry)) + negativeSumPairs (now (w .entry)))
         × (r .«negative_sum_pairs» ≡ negativeSumPairs (now (w .entry))) × (r .negatives ≡ negatives (now (w .entry))) ⌝ }
 {
@@ -171,7 +171,7 @@ fn parts_of(w: &[i8]) -> Parts
 // The length of an accepted window as its three counts. In kind A no entry is negative, so that all pairs are inversions.
 pub(crate) fn crossings_of(kind: u8, n: usize, w: &[i8]) -> Counted
     requires { ⌜ lanes (kindOf kind) n ≤ 64 ⌝ }
-    requires { ⌜ windowRefusal (kindOf kind) n (now w) ≡ 0 ⌝ }
+    requires { ⌜ WindowOf (kindOf kind) n (now w) ⌝ }
     ensures { λ r. ⌜ r ≡ countedOf 0 (crossings (kindOf kind) (now (w .entry))) ⌝ }
 {
     let parts = parts_of(w);
@@ -193,7 +193,7 @@ pub(crate) fn crossings_of(kind: u8, n: usize, w: &[i8]) -> Counted
 // The length of an accepted window.
 pub(crate) fn length_of(kind: u8, n: usize, w: &[i8]) -> usize
     requires { ⌜ lanes (kindOf kind) n ≤ 64 ⌝ }
-    requires { ⌜ windowRefusal (kindOf kind) n (now w) ≡ 0 ⌝ }
+    requires { ⌜ WindowOf (kindOf kind) n (now w) ⌝ }
     ensures { λ r. ⌜ r ≡ windowLength (kindOf kind) (now (w .entry)) ⌝ }
 {
     let sum = pairs(w);
@@ -205,9 +205,9 @@ pub(crate) fn length_of(kind: u8, n: usize, w: &[i8]) -> usize
 
 // The length of the accepted window at the front of `work`.
 pub(crate) fn length_of_front(kind: u8, rank: u8, work: &[i8]) -> usize
-    requires { ⌜ rankRefusal kind rank ≡ 0 ⌝ }
+    requires { ⌜ Rig kind rank ⌝ }
     requires { ⌜ lanes (kindOf kind) rank ≤ length (now work) ⌝ }
-    requires { ⌜ windowRefusal (kindOf kind) rank (take (lanes (kindOf kind) rank) (now work)) ≡ 0 ⌝ }
+    requires { ⌜ WindowOf (kindOf kind) rank (take (lanes (kindOf kind) rank) (now work)) ⌝ }
     ensures { λ r. ⌜ r ≡ windowLength (kindOf kind) (take (lanes (kindOf kind) rank) (now (work .entry))) ⌝ }
 {
     let m = crate::entries::lanes(kind, rank);
@@ -216,9 +216,9 @@ pub(crate) fn length_of_front(kind: u8, rank: u8, work: &[i8]) -> usize
 
 // The three counts of the length of the accepted window at the front of `work`.
 pub(crate) fn crossings_of_front(kind: u8, rank: u8, work: &[i8]) -> Counted
-    requires { ⌜ rankRefusal kind rank ≡ 0 ⌝ }
+    requires { ⌜ Rig kind rank ⌝ }
     requires { ⌜ lanes (kindOf kind) rank ≤ length (now work) ⌝ }
-    requires { ⌜ windowRefusal (kindOf kind) rank (take (lanes (kindOf kind) rank) (now work)) ≡ 0 ⌝ }
+    requires { ⌜ WindowOf (kindOf kind) rank (take (lanes (kindOf kind) rank) (now work)) ⌝ }
     ensures { λ r. ⌜ r ≡ countedOf 0 (crossings (kindOf kind) (take (lanes (kindOf kind) rank) (now (work .entry)))) ⌝ }
 {
     let m = crate::entries::lanes(kind, rank);

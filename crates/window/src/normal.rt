@@ -12,7 +12,7 @@ ghost use lib.Seq.{sets};
 ghost use Rattle.coxeter.specs.Kinds.{pick, kindOf, least, lanes};
 ghost use Rattle.coxeter.specs.Windows.{placeFrom};
 ghost use Rattle.coxeter.specs.Length.{negative};
-ghost use Rattle.coxeter.specs.Checks.{hasSize, rankRefusal, windowRefusal};
+ghost use Rattle.coxeter.specs.Checks.{hasSize, Rig, WindowOf};
 ghost use Rattle.coxeter.specs.Calls.{written};
 ghost use Rattle.coxeter.specs.NormalForm.{rise, fall, block, levels, without, indexOf, restOf, normalFrom, normalForm};
 
@@ -203,9 +203,9 @@ fn levels_of(kind: u8, n: usize) -> usize
 
 // The normal form of the accepted window at the front of `work`, which is used up, written to the front of `out`; the answer is its length.
 pub(crate) fn write_normal_form(kind: u8, rank: u8, work: &mut [i8], out: &mut [u8]) -> usize
-    requires { ⌜ rankRefusal kind rank ≡ 0 ⌝ }
+    requires { ⌜ Rig kind rank ⌝ }
     requires { ⌜ lanes (kindOf kind) rank ≤ length (now work) ⌝ }
-    requires { ⌜ windowRefusal (kindOf kind) rank (take (lanes (kindOf kind) rank) (now work)) ≡ 0 ⌝ }
+    requires { ⌜ WindowOf (kindOf kind) rank (take (lanes (kindOf kind) rank) (now work)) ⌝ }
     requires { ⌜ length (normalForm (kindOf kind) rank (take (lanes (kindOf kind) rank) (now work))) ≤ length (now out) ⌝ }
     ensures { λ r. ⌜ (r ≡ length (normalForm (kindOf kind) rank (take (lanes (kindOf kind) rank) (now (work .entry)))))
         × (now (out .exit) ≡ written 0 (normalForm (kindOf kind) rank (take (lanes (kindOf kind) rank) (now (work .entry)))) (now (out .entry))) ⌝ }

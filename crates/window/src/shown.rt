@@ -14,7 +14,7 @@ ghost use Rattle.coxeter.specs.Kinds as kinds;
 ghost use Rattle.coxeter.specs.Kinds.{kindOf};
 ghost use Rattle.coxeter.specs.Windows.{window, product, inverse};
 ghost use Rattle.coxeter.specs.Length.{crossings, windowLength};
-ghost use Rattle.coxeter.specs.Checks.{rankRefusal, wordRefusal};
+ghost use Rattle.coxeter.specs.Checks.{Rig, WordOf};
 ghost use Rattle.coxeter.specs.Calls.{written, countedOf, equalWords, samePresets};
 
 // A window with room for every lane count.
@@ -26,8 +26,8 @@ fn blank() -> [i8; 64]
 
 // The window of an accepted word, written to the front of `out`.
 pub(crate) fn show_front(kind: u8, rank: u8, word: &[u8], out: &mut [i8])
-    requires { ⌜ rankRefusal kind rank ≡ 0 ⌝ }
-    requires { ⌜ wordRefusal rank (now word) ≡ 0 ⌝ }
+    requires { ⌜ Rig kind rank ⌝ }
+    requires { ⌜ WordOf rank (now word) ⌝ }
     requires { ⌜ kinds.lanes (kindOf kind) rank ≤ length (now out) ⌝ }
     ensures { λ _. ⌜ now (out .exit) ≡ written 0 (window (kindOf kind) rank (now (word .entry))) (now (out .entry)) ⌝ }
 {
@@ -38,8 +38,8 @@ pub(crate) fn show_front(kind: u8, rank: u8, word: &[u8], out: &mut [i8])
 
 // The window of an accepted word, at the front of a work window.
 pub(crate) fn shown(kind: u8, rank: u8, word: &[u8]) -> [i8; 64]
-    requires { ⌜ rankRefusal kind rank ≡ 0 ⌝ }
-    requires { ⌜ wordRefusal rank (now word) ≡ 0 ⌝ }
+    requires { ⌜ Rig kind rank ⌝ }
+    requires { ⌜ WordOf rank (now word) ⌝ }
     ensures { λ r. ⌜ (length r ≡ 64)
         × (take (kinds.lanes (kindOf kind) rank) r ≡ window (kindOf kind) rank (now (word .entry))) ⌝ }
 {
@@ -50,9 +50,9 @@ pub(crate) fn shown(kind: u8, rank: u8, word: &[u8]) -> [i8; 64]
 
 // The product of two accepted words' windows.
 pub(crate) fn product_shown(kind: u8, rank: u8, u: &[u8], v: &[u8]) -> [i8; 64]
-    requires { ⌜ rankRefusal kind rank ≡ 0 ⌝ }
-    requires { ⌜ wordRefusal rank (now u) ≡ 0 ⌝ }
-    requires { ⌜ wordRefusal rank (now v) ≡ 0 ⌝ }
+    requires { ⌜ Rig kind rank ⌝ }
+    requires { ⌜ WordOf rank (now u) ⌝ }
+    requires { ⌜ WordOf rank (now v) ⌝ }
     ensures { λ r. ⌜ (length r ≡ 64)
         × (take (kinds.lanes (kindOf kind) rank) r
         ≡ product (window (kindOf kind) rank (now (u .entry))) (window (kindOf kind) rank (now (v .entry)))) ⌝ }
@@ -66,8 +66,8 @@ pub(crate) fn product_shown(kind: u8, rank: u8, u: &[u8], v: &[u8]) -> [i8; 64]
 
 // The inverse of an accepted word's window.
 pub(crate) fn inverse_shown(kind: u8, rank: u8, word: &[u8]) -> [i8; 64]
-    requires { ⌜ rankRefusal kind rank ≡ 0 ⌝ }
-    requires { ⌜ wordRefusal rank (now word) ≡ 0 ⌝ }
+    requires { ⌜ Rig kind rank ⌝ }
+    requires { ⌜ WordOf rank (now word) ⌝ }
     ensures { λ r. ⌜ (length r ≡ 64)
         × (take (kinds.lanes (kindOf kind) rank) r ≡ inverse (window (kindOf kind) rank (now (word .entry)))) ⌝ }
 {
@@ -94,8 +94,8 @@ pub(crate) fn copied(w: &[i8]) -> [i8; 64]
 
 // The length of an accepted word's window.
 pub(crate) fn length_of_shown(kind: u8, rank: u8, word: &[u8]) -> usize
-    requires { ⌜ rankRefusal kind rank ≡ 0 ⌝ }
-    requires { ⌜ wordRefusal rank (now word) ≡ 0 ⌝ }
+    requires { ⌜ Rig kind rank ⌝ }
+    requires { ⌜ WordOf rank (now word) ⌝ }
     ensures { λ r. ⌜ r ≡ windowLength (kindOf kind) (window (kindOf kind) rank (now (word .entry))) ⌝ }
 {
     let mut work = blank();
@@ -105,8 +105,8 @@ pub(crate) fn length_of_shown(kind: u8, rank: u8, word: &[u8]) -> usize
 
 // The length of an accepted word's window as its three counts.
 pub(crate) fn crossings_of_shown(kind: u8, rank: u8, word: &[u8]) -> Counted
-    requires { ⌜ rankRefusal kind rank ≡ 0 ⌝ }
-    requires { ⌜ wordRefusal rank (now word) ≡ 0 ⌝ }
+    requires { ⌜ Rig kind rank ⌝ }
+    requires { ⌜ WordOf rank (now word) ⌝ }
     ensures { λ r. ⌜ r ≡ countedOf 0 (crossings (kindOf kind) (window (kindOf kind) rank (now (word .entry)))) ⌝ }
 {
     let mut work = blank();
@@ -123,10 +123,10 @@ pub(crate) fn same_presets(
     rank_b: u8,
     b: &[u8],
 ) -> bool
-    requires { ⌜ rankRefusal «kind_a» «rank_a» ≡ 0 ⌝ }
-    requires { ⌜ wordRefusal «rank_a» (now a) ≡ 0 ⌝ }
-    requires { ⌜ rankRefusal «kind_b» «rank_b» ≡ 0 ⌝ }
-    requires { ⌜ wordRefusal «rank_b» (now b) ≡ 0 ⌝ }
+    requires { ⌜ Rig «kind_a» «rank_a» ⌝ }
+    requires { ⌜ WordOf «rank_a» (now a) ⌝ }
+    requires { ⌜ Rig «kind_b» «rank_b» ⌝ }
+    requires { ⌜ WordOf «rank_b» (now b) ⌝ }
     ensures { λ r. ⌜ r ≡ samePresets «kind_a» «rank_a» (now (a .entry)) «kind_b» «rank_b» (now (b .entry)) ⌝ }
 {
     let m = lanes(kind_a, rank_a);
@@ -142,9 +142,9 @@ pub(crate) fn same_presets(
 
 // Whether two accepted words of one kind and rank have one window.
 pub(crate) fn equal_words(kind: u8, rank: u8, u: &[u8], v: &[u8]) -> bool
-    requires { ⌜ rankRefusal kind rank ≡ 0 ⌝ }
-    requires { ⌜ wordRefusal rank (now u) ≡ 0 ⌝ }
-    requires { ⌜ wordRefusal rank (now v) ≡ 0 ⌝ }
+    requires { ⌜ Rig kind rank ⌝ }
+    requires { ⌜ WordOf rank (now u) ⌝ }
+    requires { ⌜ WordOf rank (now v) ⌝ }
     ensures { λ r. ⌜ r ≡ equalWords (kindOf kind) rank (now (u .entry)) (now (v .entry)) ⌝ }
 {
     same_presets(kind, rank, u, kind, rank, v)

@@ -15,7 +15,7 @@ use Rattle.coxeter.specs.declared.Answer.{Answer}
 use Rattle.coxeter.specs.declared.Answer.the-variants as answer
 use Rattle.coxeter.specs.Kinds.{kindOf}
 use Rattle.coxeter.specs.Windows.{product, inverse}
-use Rattle.coxeter.specs.Checks.{check, _then_, rankRefusal, windowRefusal, wrongLetter}
+use Rattle.coxeter.specs.Checks.{check, _then_, rankRefusal, windowRefusal, wrongLetter, Rig, WindowOf}
 use Rattle.coxeter.specs.NormalForm.{normalForm}
 use Rattle.coxeter.specs.Calls.{Yields, written, writes, normalFormOfWindow}
 use Rattle.coxeter.proofs.Acceptance.{rank-accepted, lanes-le}
@@ -81,14 +81,14 @@ copied u out after e = e ∙ ap (λ (x : List ℕ). x ++ drop (length u) out) (t
 
 -- ---- the window between two windows and its normal form
 
-small : (k n : ℕ) (x : List ℤ) → rankRefusal k n ≡ 0 → Accepted (kindOf k) n x → length x ≤ 64
+small : (k n : ℕ) (x : List ℤ) → Rig k n → Accepted (kindOf k) n x → length x ≤ 64
 small k n x r p = lanes-le k n (length x) r (p .size)
 
 -- the inverse as it was handed on is accepted
-pub back-accepted : (k n : ℕ) (u v : List ℤ) → u ≡ inverse v → windowRefusal (kindOf k) n v ≡ 0 → windowRefusal (kindOf k) n u ≡ 0
+pub back-accepted : (k n : ℕ) (u v : List ℤ) → u ≡ inverse v → WindowOf (kindOf k) n v → WindowOf (kindOf k) n u
 back-accepted k n u v e a = rw e (refusal-of-accepted (kindOf k) n (inverse v) (inverse-accepted (kindOf k) n v (accepted-of-refusal (kindOf k) n v a)))
 
-module _ (k n : ℕ) (v w : List ℤ) (r : rankRefusal k n ≡ 0) (a : windowRefusal (kindOf k) n v ≡ 0) (b : windowRefusal (kindOf k) n w ≡ 0) where
+module _ (k n : ℕ) (v w : List ℤ) (r : Rig k n) (a : WindowOf (kindOf k) n v) (b : WindowOf (kindOf k) n w) where
   first : Accepted (kindOf k) n v
   first = accepted-of-refusal (kindOf k) n v a
 
@@ -136,7 +136,7 @@ module _ (k n set : ℕ) (v w : List ℤ) (out : List ℕ) where
 
     -- q is what the checks of the windows found
     module _ (z : p ≡ 0) (q : ℕ) (g : q ≡ (rankRefusal k n then windowRefusal (kindOf k) n v then windowRefusal (kindOf k) n w)) where
-      rank : rankRefusal k n ≡ 0
+      rank : Rig k n
       unfolding setRefusal
       rank = then-zero (rankRefusal k n) _ (sym e ∙ z) .0
 

@@ -10,7 +10,7 @@ use lib.ListN.{length, take, drop, length-append}
 use lib.Seq.{take-at}
 use Rattle.coxeter.specs.Kinds.{kindOf, least}
 use Rattle.coxeter.specs.Windows.{window, product, inverse}
-use Rattle.coxeter.specs.Checks.{rankRefusal, windowRefusal}
+use Rattle.coxeter.specs.Checks.{Rig, WindowOf}
 use Rattle.coxeter.specs.NormalForm.{normalForm}
 use Rattle.coxeter.proofs.Acceptance.{rank-accepted}
 use Rattle.coxeter.proofs.Levels.{accepted-of-refusal, refusal-of-accepted}
@@ -34,8 +34,8 @@ module _ (m : ℕ) (r x : List ℤ) (e : m ≡ length (take m r)) (f : length x 
 
 -- a and b are the two windows as they were computed
 module _ (k n : ℕ) (w x a b : List ℤ) (p : a ≡ product w x) (q : b ≡ inverse x) where
-  pub forms-asked : rankRefusal k n ≡ 0 → windowRefusal (kindOf k) n x ≡ 0 → windowRefusal (kindOf k) n (product w x) ≡ 0
-      → (rankRefusal k n ≡ 0) × ((windowRefusal (kindOf k) n a ≡ 0) × (windowRefusal (kindOf k) n b ≡ 0))
+  pub forms-asked : Rig k n → WindowOf (kindOf k) n x → WindowOf (kindOf k) n (product w x)
+      → Rig k n × (WindowOf (kindOf k) n a × WindowOf (kindOf k) n b)
   forms-asked h f g = (h, (rw p g, rw q (inverse-passes (kindOf k) n x f)))
 
   pub forms-are : (first second : List ℕ) (r : Split) (y z : List ℕ)
@@ -44,16 +44,16 @@ module _ (k n : ℕ) (w x a b : List ℤ) (p : a ≡ product w x) (q : b ≡ inv
   forms-are first second r y z s = rw (← p, ← q) s
 
 -- v is the inverse of w as it was computed, and x what is left of it, as y was stored
-module _ (k n set : ℕ) (w v : List ℤ) (h : rankRefusal k n ≡ 0) (a : windowRefusal (kindOf k) n w ≡ 0) (p : v ≡ inverse w) where
-  pub strip-asked : (least (kindOf k) ≤ n) × ((n ≤ 64) × (windowRefusal (kindOf k) n v ≡ 0))
+module _ (k n set : ℕ) (w v : List ℤ) (h : Rig k n) (a : WindowOf (kindOf k) n w) (p : v ≡ inverse w) where
+  pub strip-asked : (least (kindOf k) ≤ n) × ((n ≤ 64) × WindowOf (kindOf k) n v)
   strip-asked = let r = rank-accepted k n h in (r .0, (r .1, rw p (inverse-passes (kindOf k) n w a)))
 
   module _ (y x : List ℤ) (q : x ≡ y) (s : Strips (allows set) (kindOf k) n v y) where
     stripped : Strips (allows set) (kindOf k) n (inverse w) x
     stripped = rw (q, ← p) s
 
-    pub parts-asked : (rankRefusal k n ≡ 0)
-        × ((windowRefusal (kindOf k) n w ≡ 0) × ((windowRefusal (kindOf k) n x ≡ 0) × (windowRefusal (kindOf k) n (product w x) ≡ 0)))
+    pub parts-asked : Rig k n
+        × (WindowOf (kindOf k) n w × (WindowOf (kindOf k) n x × WindowOf (kindOf k) n (product w x)))
     parts-asked =
         let o = rank-accepted k n h .0 in
         let c = accepted-of-refusal (kindOf k) n w a in (
@@ -76,7 +76,7 @@ module _ (k n set : ℕ) (w v : List ℤ) (h : rankRefusal k n ≡ 0) (a : windo
 
 -- w is the window of a word as it was computed
 module _ (k n set : ℕ) (u : List ℕ) (w : List ℤ) (p : w ≡ window (kindOf k) n u) where
-  pub window-asked : rankRefusal k n ≡ 0 → (rankRefusal k n ≡ 0) × (windowRefusal (kindOf k) n w ≡ 0)
+  pub window-asked : Rig k n → Rig k n × WindowOf (kindOf k) n w
   window-asked h = (h, rw p (window-passes (kindOf k) n u))
 
   pub words-are : (first second : List ℕ) (r : Split) (y z : List ℕ)

@@ -14,7 +14,7 @@ use lib.IntN.{ℤ}
 use Rattle.coxeter.specs.Kinds.{Kind, A, B, D, kindOf, least, pick}
 use Rattle.coxeter.specs.Windows.{act}
 use Rattle.coxeter.specs.Length.{windowLength}
-use Rattle.coxeter.specs.Checks.{windowRefusal}
+use Rattle.coxeter.specs.Checks.{WindowOf}
 use Rattle.coxeter.proofs.KindLaws.{kindOf-one, kindOf-two, kindOf-three}
 use Rattle.coxeter.proofs.Levels.{Accepted, accepted-of-refusal}
 use Rattle.coxeter.proofs.Theorems.{act-passes}
@@ -76,11 +76,11 @@ one-more a b = add-mul a 1 b ∙ ap (λ (x : ℕ). a * b + x) (one-mul b)
 pub record Turning (set : ℕ) (k : Kind) (n : ℕ) (w₀ w : List ℤ) (s : ℕ) : Type 0 where
   pub low : 1 ≤ s
   pub high : s ≤ n + 1
-  pub passes : windowRefusal k n w ≡ 0
+  pub passes : WindowOf k n w
   pub ended : Ended (allows set) k n (s - 1) 1 w
   pub reached : (y : List ℤ) → Strips (allows set) k n w y → Strips (allows set) k n w₀ y
 
-pub turning-start : (set : ℕ) (k : Kind) (n : ℕ) (w : List ℤ) → windowRefusal k n w ≡ 0 → Turning set k n w w 1
+pub turning-start : (set : ℕ) (k : Kind) (n : ℕ) (w : List ℤ) → WindowOf k n w → Turning set k n w w 1
 turning-start set k n w p =
     record { low = omega arith; high = omega arith; passes = p; ended = λ j g l a. absurd (omega arith); reached = λ y r. r }
 

@@ -9,7 +9,7 @@ use lib.IntN.{ℤ}
 use lib.ListN.{length}
 use Rattle.coxeter.specs.Kinds.{kindOf, least, lanes}
 use Rattle.coxeter.specs.Windows.{straight}
-use Rattle.coxeter.specs.Checks.{wrongLetter, rankRefusal, windowRefusal}
+use Rattle.coxeter.specs.Checks.{wrongLetter, Rig, WindowOf}
 use Rattle.coxeter.specs.Calls.{written, sameWindow}
 use Rattle.coxeter.proofs.Acceptance.{rank-accepted, lanes-le}
 use Rattle.coxeter.proofs.Levels.{Accepted, accepted-of-refusal}
@@ -19,7 +19,7 @@ use Rattle.exchange.proofs.Verdicts.{Settled, settled-no, settled-short, settle
 
 -- what `settle` requires
 abbrev pub SettleRequires : ℕ → ℕ → List ℕ → List ℤ → Type 0
-SettleRequires k n u w = (rankRefusal k n ≡ 0) × (((wrongLetter n u ≡ false) × (length u ≤ 4096)) × (windowRefusal (kindOf k) n w ≡ 0))
+SettleRequires k n u w = Rig k n × (((wrongLetter n u ≡ false) × (length u ≤ 4096)) × WindowOf (kindOf k) n w)
 
 -- and what `keep_letters` ensures
 abbrev pub LettersKept : ℕ → ℕ → List ℕ → List ℤ → List ℕ → List ℤ → ℕ → Type 0
@@ -29,7 +29,7 @@ LettersKept k n u w f x m =
     × (x ≡ leftOver (kindOf k) n u (length u) w)
 
 module _ (k n : ℕ) (u : List ℕ) (w : List ℤ) (h : SettleRequires k n u w) where
-  pub keep-requires : (least (kindOf k) ≤ n) × ((n ≤ 64) × ((wrongLetter n u ≡ false) × (windowRefusal (kindOf k) n w ≡ 0)))
+  pub keep-requires : (least (kindOf k) ≤ n) × ((n ≤ 64) × ((wrongLetter n u ≡ false) × WindowOf (kindOf k) n w))
   keep-requires = let r = rank-accepted k n (h .0) in (r .0, (r .1, (h .1 .0 .0, h .1 .1)))
 
   accepted : Accepted (kindOf k) n w

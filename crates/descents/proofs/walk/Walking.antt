@@ -19,7 +19,7 @@ use mir.Val.{toZ, ofZ}
 use borrow.Author.Tests.{eq-eqb, ne-eqb}
 use Rattle.coxeter.specs.Kinds.{Kind, pick}
 use Rattle.coxeter.specs.Windows.{act, straight}
-use Rattle.coxeter.specs.Checks.{wrongLetter, windowRefusal}
+use Rattle.coxeter.specs.Checks.{wrongLetter, WindowOf}
 use Rattle.coxeter.specs.Calls.{written, sameWindow}
 use Rattle.coxeter.proofs.Basics.{by-pick, length-straight}
 use Rattle.coxeter.proofs.Order.{sameWindow-true, sameWindow-of-eq}
@@ -41,7 +41,7 @@ pub record Walking (k : Kind) (n : ℕ) (u : List ℕ) (w₀ : List ℤ) (f : Li
   pub inside : i ≤ length u
   pub size : length f ≡ length u
   pub front : take i f ≡ take i u
-  pub passes : windowRefusal k n w ≡ 0
+  pub passes : WindowOf k n w
   pub target : leftOver k n u (length u) w₀ ≡ leftOver k n u i w
   pub places : placesKept k n u (length u) w₀ [] ≡ placesKept k n u i w (marked i (drop i f))
   pub count : kept ≡ length (marked i (drop i f))
@@ -61,7 +61,7 @@ unfolding marked
 marked-left f i h g = rw (drop-cons f i 0 h, eq-eqb (getD f i 0) 0 g)
 
 module _ (k : Kind) (n : ℕ) (u : List ℕ) (w₀ : List ℤ) where
-  pub walking-start : windowRefusal k n w₀ ≡ 0 → Walking k n u w₀ u w₀ (length u) 0
+  pub walking-start : WindowOf k n w₀ → Walking k n u w₀ u w₀ (length u) 0
   unfolding marked
   walking-start p =
       let none : drop (length u) u ≡ [] = drop-of-length-le u (le-refl (length u)) in
@@ -93,8 +93,8 @@ module _ (k : Kind) (n : ℕ) (u : List ℕ) (w₀ : List ℤ) where
       unfolding descended
       is-descended = q ∙ rw (e, letter)
 
-      passed : windowRefusal k n v ≡ 0
-      passed = rw q (by-pick (λ (x : List ℤ). windowRefusal k n x ≡ 0) t _ w (act-passes k n (getD f j 0) w (h .passes)) (h .passes))
+      passed : WindowOf k n v
+      passed = rw q (by-pick (λ (x : List ℤ). WindowOf k n x) t _ w (act-passes k n (getD f j 0) w (h .passes)) (h .passes))
 
       target-next : leftOver k n u (length u) w₀ ≡ leftOver k n u j v
       unfolding leftOver

@@ -10,7 +10,7 @@ use Rattle.coxeter.specs.declared.Answer.{Answer}
 use Rattle.coxeter.specs.declared.Answer.the-variants as answer
 use Rattle.coxeter.specs.Kinds.{kindOf, lanes}
 use Rattle.coxeter.specs.Windows.{product, inverse}
-use Rattle.coxeter.specs.Checks.{rankRefusal, windowRefusal}
+use Rattle.coxeter.specs.Checks.{rankRefusal, windowRefusal, Rig, WindowOf}
 use Rattle.coxeter.specs.NormalForm.{normalForm}
 use Rattle.coxeter.specs.Calls.{written, productOfWindows, inverseOfWindow, normalFormOfWindow, lengthOfWindow}
 use Rattle.coxeter.proofs.Acceptance.{lanes-le}
@@ -22,29 +22,29 @@ use Rattle.coxeter.proofs.FormLaws.{lengthOfWindow-normalForm}
 use Rattle.coxeter.proofs.Outcomes.{writes-written}
 use Rattle.coxeter.proofs.Fronts.{Front, front-of-bytes}
 
-module _ (k n : ℕ) (h : rankRefusal k n ≡ 0) where
+module _ (k n : ℕ) (h : Rig k n) where
   -- the length of an accepted window
-  size : (w : List ℤ) → windowRefusal (kindOf k) n w ≡ 0 → length w ≡ lanes (kindOf k) n
+  size : (w : List ℤ) → WindowOf (kindOf k) n w → length w ≡ lanes (kindOf k) n
   size w a = accepted-of-refusal (kindOf k) n w a .size
 
-  small : (w : List ℤ) → windowRefusal (kindOf k) n w ≡ 0 → length w ≤ 64
+  small : (w : List ℤ) → WindowOf (kindOf k) n w → length w ≤ 64
   small w a = lanes-le k n (length w) h (size w a)
 
-  pub inverse-front : (w out v : List ℤ) → windowRefusal (kindOf k) n w ≡ 0 → 64 ≡ length out → v ≡ inverseOfWindow k n w out .bytes
+  pub inverse-front : (w out v : List ℤ) → WindowOf (kindOf k) n w → 64 ≡ length out → v ≡ inverseOfWindow k n w out .bytes
       → Front 64 (inverse w) v (lanes (kindOf k) n)
   unfolding inverseOfWindow
   inverse-front w out v a f e =
       front-of-bytes 64 _ (inverse w) out v (then-none _ _ h ∙ a) (rw (length-inverse w) (small w a)) f (lanes (kindOf k) n)
       (sym (length-inverse w ∙ size w a)) e
 
-  pub product-front : (u w out v : List ℤ) → windowRefusal (kindOf k) n u ≡ 0 → windowRefusal (kindOf k) n w ≡ 0 → 64 ≡ length out
+  pub product-front : (u w out v : List ℤ) → WindowOf (kindOf k) n u → WindowOf (kindOf k) n w → 64 ≡ length out
       → v ≡ productOfWindows k n u w out .bytes → Front 64 (product u w) v (lanes (kindOf k) n)
   unfolding productOfWindows
   product-front u w out v a b f e =
       front-of-bytes 64 _ (product u w) out v (then-none _ _ h ∙ then-none _ _ a ∙ b) (rw (length-product u w) (small w b)) f (lanes (kindOf k) n)
       (sym (length-product u w ∙ size w b)) e
 
-  module _ (w : List ℤ) (a : windowRefusal (kindOf k) n w ≡ 0) where
+  module _ (w : List ℤ) (a : WindowOf (kindOf k) n w) where
     pub length-told : (r : Answer) (l : ℕ) → r ≡ lengthOfWindow k n w → r ≡ answer.Length l → l ≡ length (normalForm (kindOf k) n w)
     length-told r l e q =
         let p : answer.Length l ≡ answer.Length (length (normalForm (kindOf k) n w)) = sym q ∙ e ∙ lengthOfWindow-normalForm k n w h a in

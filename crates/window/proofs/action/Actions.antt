@@ -14,7 +14,7 @@ use mir.Syntax.{w8}
 use mir.Val.{toZ}
 use Rattle.coxeter.specs.Kinds.{Kind, lanes, up}
 use Rattle.coxeter.specs.Windows.{act, windowFrom, straight, window}
-use Rattle.coxeter.specs.Checks.{windowRefusal}
+use Rattle.coxeter.specs.Checks.{WindowOf}
 use Rattle.coxeter.proofs.Basics.{up-append}
 use Rattle.coxeter.proofs.KindLaws.{lanes-le-add-one}
 use Rattle.refusals.proofs.Bytes.{cast-back}
@@ -23,7 +23,7 @@ use Rattle.coxeter.proofs.Levels.{accepted-of-refusal, refusal-of-accepted, act
 
 -- ---- the letters of a word
 
-pub refusal-next : (k : Kind) (n s : ℕ) (w v : List ℤ) → windowRefusal k n w ≡ 0 → v ≡ act k n s w → windowRefusal k n v ≡ 0
+pub refusal-next : (k : Kind) (n s : ℕ) (w v : List ℤ) → WindowOf k n w → v ≡ act k n s w → WindowOf k n v
 refusal-next k n s w v r e = rw e (refusal-of-accepted k n (act k n s w) (act-accepted k n s w (accepted-of-refusal k n w r)))
 
 pub windowFrom-next : (k : Kind) (n : ℕ) (u : List ℕ) (i : ℕ) (w v : List ℤ) → i < length u → v ≡ act k n (getD u i 0) w
@@ -53,7 +53,7 @@ take-straight-end i m w h l e t = sym (take-all i w h) ∙ t ∙ ap straight (om
 pub le-of-lanes : (k : Kind) (n m : ℕ) → n ≤ 64 → m ≡ lanes k n → m ≤ 127
 le-of-lanes k n m h e = omega (arith, lanes-le-add-one k n)
 
-pub refusal-straight : (k : Kind) (n m : ℕ) (w : List ℤ) → m ≡ lanes k n → w ≡ straight m → windowRefusal k n w ≡ 0
+pub refusal-straight : (k : Kind) (n m : ℕ) (w : List ℤ) → m ≡ lanes k n → w ≡ straight m → WindowOf k n w
 refusal-straight k n m w h e = rw (e, h) (refusal-of-accepted k n (straight (lanes k n)) (straight-accepted k n))
 
 pub windowFrom-straight : (k : Kind) (n m : ℕ) (w : List ℤ) (u : List ℕ) → m ≡ lanes k n → w ≡ straight m → windowFrom k n w u ≡ window k n u

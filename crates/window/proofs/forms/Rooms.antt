@@ -19,7 +19,7 @@ use Rattle.coxeter.proofs.Lengths.{length-normalForm}
 use Rattle.coxeter.proofs.GreatestLengths.{windowLength-le}
 use Rattle.coxeter.specs.Kinds.{Kind, A, B, D, kindOf, lanes}
 use Rattle.coxeter.specs.Length.{windowLength, greatestLength}
-use Rattle.coxeter.specs.Checks.{rankRefusal, windowRefusal}
+use Rattle.coxeter.specs.Checks.{Rig, WindowOf}
 use Rattle.coxeter.specs.NormalForm.{normalForm}
 use Rattle.coxeter.specs.Calls.{Outcome, Yields, written, writes}
 use Rattle.window.proofs.length.Sums.{square-le}
@@ -33,12 +33,12 @@ greatest-le B n = le-refl (n * n)
 greatest-le D n = mul-le-mul-left n (omega arith)
 
 -- n × n letters are room for every normal form
-pub square-room : (k : Kind) (n room : ℕ) (w : List ℤ) → windowRefusal k n w ≡ 0 → n * n ≤ room → false ≡ ltb room (windowLength k w)
+pub square-room : (k : Kind) (n room : ℕ) (w : List ℤ) → WindowOf k n w → n * n ≤ room → false ≡ ltb room (windowLength k w)
 square-room k n room w g s =
     sym (le-ltb room (windowLength k w) (omega (arith, s, greatest-le k n, windowLength-le k n w (accepted-of-refusal k n w g))))
 
 -- t says whether there is too little room
-module _ (k : Kind) (n : ℕ) (w : List ℤ) (out : List ℕ) (t : Bool) (g : windowRefusal k n w ≡ 0) (e : t ≡ ltb (length out) (windowLength k w)) where
+module _ (k : Kind) (n : ℕ) (w : List ℤ) (out : List ℕ) (t : Bool) (g : WindowOf k n w) (e : t ≡ ltb (length out) (windowLength k w)) where
   -- the sums are the normal form's length
   sums : length (normalForm k n w) ≡ windowLength k w
   sums = length-normalForm k n w (accepted-of-refusal k n w g)
@@ -56,7 +56,7 @@ module _ (k : Kind) (n : ℕ) (w : List ℤ) (out : List ℕ) (t : Bool) (g : wi
 
 -- ---- what the calls answer
 
-pub window-fits : (k n : ℕ) (w : List ℤ) → rankRefusal k n ≡ 0 → windowRefusal (kindOf k) n w ≡ 0 → length w ≤ 64
+pub window-fits : (k n : ℕ) (w : List ℤ) → Rig k n → WindowOf (kindOf k) n w → length w ≤ 64
 window-fits k n w h g = lanes-le k n (length w) h (accepted-of-refusal (kindOf k) n w g .size)
 
 -- no check refused before check 14, and the normal form was written from a work window that holds x

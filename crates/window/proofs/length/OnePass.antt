@@ -15,7 +15,7 @@ use lib.IntN.{ℤ, pos, natAbs}
 use lib.ListN.{length, length-map, length-drop, getD, drop, drop-of-length-le}
 use Rattle.coxeter.specs.Kinds.{B, pick}
 use Rattle.coxeter.specs.Length.{negative, one, inversions, negativeSumPairs, negatives}
-use Rattle.coxeter.specs.Checks.{windowRefusal}
+use Rattle.coxeter.specs.Checks.{WindowOf}
 use Rattle.coxeter.proofs.Lists.{drop-next}
 use Rattle.coxeter.proofs.Levels.{Between, Distinct, accepted-of-refusal}
 use Rattle.coxeter.proofs.PairWeights.{weights, pairWeights, negatives-le}
@@ -117,7 +117,7 @@ gone-none w =
 
 -- one entry further to the front: the entry at j - 1, of size s
 module _ (w : List ℤ) (set pairs lack minus j s : ℕ) (h : Gone w set pairs lack minus j) (p : 0 < j) (few : length w ≤ 64)
-    (g : windowRefusal B (length w) w ≡ 0) (q : s ≡ natAbs (getD w (j - 1) (pos 0))) where
+    (g : WindowOf B (length w) w) (q : s ≡ natAbs (getD w (j - 1) (pos 0))) where
   abbrev e : ℤ
   e = getD w (j - 1) (pos 0)
 
@@ -197,7 +197,7 @@ module _ (w : List ℤ) (set pairs lack minus j s : ℕ) (h : Gone w set pairs l
       pairs-fit = omega (arith, rw (sym n ∙ y, sym from) at changes, h .pairs-is, triangle-fits)
 
 -- all entries were gone through
-pub parts : (w : List ℤ) (set pairs lack minus j : ℕ) → Gone w set pairs lack minus j → j ≡ 0 → length w ≤ 64 → windowRefusal B (length w) w ≡ 0
+pub parts : (w : List ℤ) (set pairs lack minus j : ℕ) → Gone w set pairs lack minus j → j ≡ 0 → length w ≤ 64 → WindowOf B (length w) w
     → (pairs ≡ inversions w + negativeSumPairs w) × (lack ≡ negativeSumPairs w) × (minus ≡ negatives w)
 unfolding bothPairs
 parts w set pairs lack minus j h z few g =

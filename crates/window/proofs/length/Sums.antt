@@ -15,7 +15,7 @@ use lib.ListN.{length, length-map, getD, set, take, drop, drop-of-length-le, Lis
 use lib.Seq.{take-all}
 use Rattle.coxeter.specs.Kinds.{Kind, A, B, D, pick, kindOf, lanes}
 use Rattle.coxeter.specs.Length.{later, negative, one, laterThan, inversions, negativeSumPairs, negatives, crossings, windowLength}
-use Rattle.coxeter.specs.Checks.{windowRefusal}
+use Rattle.coxeter.specs.Checks.{WindowOf}
 use Rattle.coxeter.proofs.KindLaws.{lanes-le-add-one, kindOf-one, kindOf-two, kindOf-three}
 use Rattle.coxeter.proofs.Lists.{written-next, take-rest, drop-next}
 use Rattle.coxeter.proofs.Levels.{Between, Distinct, accepted-of-refusal, refusal-of-accepted, hasSize-below}
@@ -106,7 +106,7 @@ distinct-drop (suc i) [] d = tt
 distinct-drop (suc i) (e ∷ w) d = distinct-drop i w (d .1)
 
 -- an accepted window of any kind, as one of kind B
-pub refusal-B : (k : Kind) (n : ℕ) (w : List ℤ) → windowRefusal k n w ≡ 0 → windowRefusal B (length w) w ≡ 0
+pub refusal-B : (k : Kind) (n : ℕ) (w : List ℤ) → WindowOf k n w → WindowOf B (length w) w
 refusal-B k n w h =
     refusal-of-accepted B (length w) w (record { size = refl; level = accepted-of-refusal k n w h .level; signs = tt })
 
@@ -115,7 +115,7 @@ unfoldable pub bothPairs : List ℤ → ℕ
 bothPairs w = inversions w + negativeSumPairs w
 
 -- r are the pairs of the entry at i
-pub bothPairs-row : (i r : ℕ) (t : Bool) (w : List ℤ) (sizes : List ℕ) → i < length w → windowRefusal B (length w) w ≡ 0 → sizes ≡ map natAbs w
+pub bothPairs-row : (i r : ℕ) (t : Bool) (w : List ℤ) (sizes : List ℕ) → i < length w → WindowOf B (length w) w → sizes ≡ map natAbs w
     → t ≡ negative (getD w i (pos 0)) → r ≡ behind t (getD sizes i 0) (take (length sizes - (i + 1)) (drop (i + 1) sizes))
     → bothPairs (drop i w) ≡ r + bothPairs (drop (i + 1) w)
 unfolding bothPairs inversions negativeSumPairs
@@ -133,7 +133,7 @@ pub bothPairs-end : (w : List ℤ) (i : ℕ) → length w ≤ i → bothPairs (d
 unfolding bothPairs inversions negativeSumPairs
 bothPairs-end w i h = rw (drop-of-length-le w h)
 
-pub bothPairs-is-pairWeights : (w : List ℤ) → windowRefusal B (length w) w ≡ 0 → bothPairs w ≡ pairWeights w
+pub bothPairs-is-pairWeights : (w : List ℤ) → WindowOf B (length w) w → bothPairs w ≡ pairWeights w
 unfolding bothPairs
 bothPairs-is-pairWeights w h =
     let a = accepted-of-refusal B (length w) w h .level in
@@ -147,7 +147,7 @@ square-le (suc n) = omega (arith, suc-mul n (suc n))
 pub square-fits : (m : ℕ) → m ≤ 64 → (m * m ≤ 4096) × (m ≤ m * m)
 square-fits m few = (mul-le-mul {n₁ = m} {m₁ = m} {n₂ = 64} {m₂ = 64} few few, square-le m)
 
-pub bothPairs-le : (w : List ℤ) → windowRefusal B (length w) w ≡ 0 → length w ≤ 64 → bothPairs w ≤ 4096
+pub bothPairs-le : (w : List ℤ) → WindowOf B (length w) w → length w ≤ 64 → bothPairs w ≤ 4096
 bothPairs-le w h l =
     omega (arith, bothPairs-is-pairWeights w h, pairWeights-le w, square-fits (length w) l .0)
 
@@ -162,23 +162,23 @@ pub negatives-end : (w : List ℤ) (i : ℕ) → length w ≤ i → negatives (d
 unfolding negatives
 negatives-end w i h = rw (drop-of-length-le w h)
 
-pub length-le-of-lanes : (k : Kind) (n : ℕ) (w : List ℤ) → lanes k n ≤ 64 → windowRefusal k n w ≡ 0 → length w ≤ 64
+pub length-le-of-lanes : (k : Kind) (n : ℕ) (w : List ℤ) → lanes k n ≤ 64 → WindowOf k n w → length w ≤ 64
 length-le-of-lanes k n w l h = omega (arith, accepted-of-refusal k n w h .size)
 
-pub length-le-of-refusal : (k : Kind) (n : ℕ) (w : List ℤ) → n ≤ 64 → windowRefusal k n w ≡ 0 → length w ≤ 65
+pub length-le-of-refusal : (k : Kind) (n : ℕ) (w : List ℤ) → n ≤ 64 → WindowOf k n w → length w ≤ 65
 length-le-of-refusal k n w l h = omega (arith, accepted-of-refusal k n w h .size, lanes-le-add-one k n)
 
-windowLength-is-add : (k : Kind) (n : ℕ) (w : List ℤ) → windowRefusal k n w ≡ 0 → windowLength k w ≡ bothPairs w + signWeight k w
+windowLength-is-add : (k : Kind) (n : ℕ) (w : List ℤ) → WindowOf k n w → windowLength k w ≡ bothPairs w + signWeight k w
 windowLength-is-add k n w h =
     length-by-weights k n w (accepted-of-refusal k n w h)
     ∙ ap (λ (x : ℕ). x + signWeight k w) (sym (bothPairs-is-pairWeights w (refusal-B k n w h)))
 
-pub windowLength-two : (k n : ℕ) (w : List ℤ) → windowRefusal (kindOf k) n w ≡ 0 → k ≡ 2
+pub windowLength-two : (k n : ℕ) (w : List ℤ) → WindowOf (kindOf k) n w → k ≡ 2
     → windowLength (kindOf k) w ≡ inversions w + negativeSumPairs w + negatives w
 unfolding bothPairs signWeight
 windowLength-two k n w h e = rw (kindOf-two k e) (windowLength-is-add B n w (rw (kindOf-two k e) at h))
 
-pub windowLength-else : (k n : ℕ) (w : List ℤ) → windowRefusal (kindOf k) n w ≡ 0 → (k ≡ 2 → ⊥)
+pub windowLength-else : (k n : ℕ) (w : List ℤ) → WindowOf (kindOf k) n w → (k ≡ 2 → ⊥)
     → windowLength (kindOf k) w ≡ inversions w + negativeSumPairs w
 unfolding bothPairs signWeight
 windowLength-else k n w h d =
@@ -190,7 +190,7 @@ windowLength-else k n w h d =
 -- ---- crossings
 
 -- p are the pairs of both sorts, s the negative sum pairs, t the negative entries
-module _ (k n : ℕ) (w : List ℤ) (h : windowRefusal (kindOf k) n w ≡ 0) (p s : ℕ) (e : p ≡ inversions w + negativeSumPairs w)
+module _ (k n : ℕ) (w : List ℤ) (h : WindowOf (kindOf k) n w) (p s : ℕ) (e : p ≡ inversions w + negativeSumPairs w)
     (q : s ≡ negativeSumPairs w) where
   first : p - s ≡ inversions w
   first = omega arith

@@ -16,7 +16,7 @@ use lib.Seq.{sets, take-suc, split-at, length-take-le}
 use borrow.Author.Tests.{ne-eqb, eqb-false, eqb-true}
 use Rattle.coxeter.specs.Kinds.{Kind, A, B, D, pick, lanes}
 use Rattle.coxeter.specs.Length.{negative}
-use Rattle.coxeter.specs.Checks.{hasSize, windowRefusal}
+use Rattle.coxeter.specs.Checks.{hasSize, WindowOf}
 use mathlib.Core.Logic.{_⊎_, ⊎-elim}
 use lib.Signed.{mag}
 use mir.Syntax.{w8}
@@ -261,10 +261,10 @@ module _ (k : Kind) (n m t : ℕ) (work : List ℤ) (e : m ≡ lanes k n) (c : t
   first-room l h = rw first h
 
   -- the length and the sizes that `write_from` asks
-  pub first-length : windowRefusal k n (take (lanes k n) work) ≡ 0 → 1 + length (take m work) ≤ n + 2
+  pub first-length : WindowOf k n (take (lanes k n) work) → 1 + length (take m work) ≤ n + 2
   first-length h = rw e (omega (arith, accepted-of-refusal k n (take (lanes k n) work) h .size, lanes-le-add-one k n))
 
-  pub first-sizes : n ≤ 64 → windowRefusal k n (take (lanes k n) work) ≡ 0 → Sizes 1 t (take m work)
+  pub first-sizes : n ≤ 64 → WindowOf k n (take (lanes k n) work) → Sizes 1 t (take m work)
   first-sizes l h =
       let w = take m work in
       let a : Accepted k n w = accepted-of-refusal k n w (rw e h) in (

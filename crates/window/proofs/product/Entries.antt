@@ -18,7 +18,7 @@ use borrow.Author.Tests.{ne-eqb}
 use Rattle.coxeter.specs.Kinds.{Kind, pick}
 use Rattle.coxeter.specs.Windows.{at, product, signed, inverse}
 use Rattle.coxeter.specs.Length.{negative}
-use Rattle.coxeter.specs.Checks.{windowRefusal}
+use Rattle.coxeter.specs.Checks.{WindowOf}
 use Rattle.coxeter.specs.Calls.{written, sameEntry, sameWindow}
 use Rattle.coxeter.proofs.Lists.{drop-next}
 use Rattle.coxeter.proofs.Outcomes.{written-part, written-sets}
@@ -59,7 +59,7 @@ pub signed-plus : (e : ℤ) (k : ℕ) → negative e ≡ false → pos k ≡ sig
 signed-plus e k h = rw (signed-by-sign e k, h)
 
 -- the size of the entry at position i of an accepted window
-pub entry-bounds : (k : Kind) (n : ℕ) (w : List ℤ) (i : ℕ) → windowRefusal k n w ≡ 0 → i < length w
+pub entry-bounds : (k : Kind) (n : ℕ) (w : List ℤ) (i : ℕ) → WindowOf k n w → i < length w
     → (1 ≤ natAbs (getD w i (pos 0))) × (natAbs (getD w i (pos 0)) ≤ length w)
 entry-bounds k n w i h l =
     let b = between-getD 1 (1 + length w) w i (accepted-of-refusal k n w h .level .between) l in
@@ -83,11 +83,11 @@ image-positive u e s q h n f =
     let x : at u e ≡ getD u (s - 1) (pos 0) = rw (at-by-sign u e h, n, q) in
     element-back (getD u (s - 1) (pos 0)) f ∙ sym x
 
-same-length-of-refusals : (k : Kind) (n : ℕ) (u v : List ℤ) → windowRefusal k n u ≡ 0 → windowRefusal k n v ≡ 0 → length v ≡ length u
+same-length-of-refusals : (k : Kind) (n : ℕ) (u v : List ℤ) → WindowOf k n u → WindowOf k n v → length v ≡ length u
 same-length-of-refusals k n u v h g = accepted-of-refusal k n v g .size ∙ sym (accepted-of-refusal k n u h .size)
 
 -- what `image` asks at position i of v
-pub image-asks : (k : Kind) (n : ℕ) (u v : List ℤ) (i : ℕ) → n ≤ 64 → windowRefusal k n u ≡ 0 → windowRefusal k n v ≡ 0 → i < length v
+pub image-asks : (k : Kind) (n : ℕ) (u v : List ℤ) (i : ℕ) → n ≤ 64 → WindowOf k n u → WindowOf k n v → i < length v
     → mag (getD v i (pos 0)) < 128
     → (1 ≤ natAbs (held (getD v i (pos 0)))) × ((natAbs (held (getD v i (pos 0))) ≤ length u) × (natAbs (at u (held (getD v i (pos 0)))) < 128))
 image-asks k n u v i l h g m f =
@@ -131,7 +131,7 @@ pub scatter-end : (w out : List ℤ) (k i : ℕ) → length w ≤ i → scatter 
 unfolding scatter
 scatter-end w out k i h = rw (drop-of-length-le w h)
 
-pub scatter-written : (k : Kind) (n : ℕ) (w out : List ℤ) → windowRefusal k n w ≡ 0 → length w ≤ length out
+pub scatter-written : (k : Kind) (n : ℕ) (w out : List ℤ) → WindowOf k n w → length w ≤ length out
     → scatter out 1 w ≡ written 0 (inverse w) out
 scatter-written k n w out h l =
     scatter-inverse w out (accepted-of-refusal k n w h .level) l ∙ written-part (length w) (inverse w) (inverse w) out (length-inverse w) refl

@@ -22,18 +22,18 @@ use Rattle.coxeter.proofs.Acceptance.{lanes-le}
 use Rattle.coxeter.proofs.Outcomes.{written-part, written-front}
 use Rattle.coxeter.specs.Kinds.{kindOf, lanes, Kind}
 use Rattle.coxeter.specs.Windows.{window, windowFrom, product, inverse}
-use Rattle.coxeter.specs.Checks.{rankRefusal, windowRefusal}
+use Rattle.coxeter.specs.Checks.{windowRefusal, Rig, WindowOf}
 use Rattle.coxeter.specs.Calls.{written}
 
 -- ---- what words show
 
-pub window-passes : (k : Kind) (n : ℕ) (u : List ℕ) → windowRefusal k n (window k n u) ≡ 0
+pub window-passes : (k : Kind) (n : ℕ) (u : List ℕ) → WindowOf k n (window k n u)
 window-passes k n u = refusal-of-accepted k n (window k n u) (window-accepted k n u)
 
-pub product-passes : (k : Kind) (n : ℕ) (u v : List ℕ) → windowRefusal k n (product (window k n u) (window k n v)) ≡ 0
+pub product-passes : (k : Kind) (n : ℕ) (u v : List ℕ) → WindowOf k n (product (window k n u) (window k n v))
 product-passes k n u v = rw (← window-append k n u v) (window-passes k n (u ++ v))
 
-pub inverse-passes : (k : Kind) (n : ℕ) (u : List ℕ) → windowRefusal k n (inverse (window k n u)) ≡ 0
+pub inverse-passes : (k : Kind) (n : ℕ) (u : List ℕ) → WindowOf k n (inverse (window k n u))
 inverse-passes k n u = refusal-of-accepted k n (inverse (window k n u)) (inverse-accepted k n (window k n u) (window-accepted k n u))
 
 -- ---- a front that is written
@@ -42,7 +42,7 @@ inverse-passes k n u = refusal-of-accepted k n (inverse (window k n u)) (inverse
 abbrev pub Front : ℕ → ℕ → List ℤ → List ℤ → Type 0
 Front k n x r = (length r ≡ 64) × (take (lanes (kindOf k) n) r ≡ x)
 
-module _ (k n : ℕ) (h : rankRefusal k n ≡ 0) where
+module _ (k n : ℕ) (h : Rig k n) where
   pub room : (work : List ℤ) → length work ≡ 64 → lanes (kindOf k) n ≤ length work
   room work l = omega (arith, lanes-le k n (lanes (kindOf k) n) h refl)
 
@@ -56,13 +56,13 @@ module _ (k n : ℕ) (h : rankRefusal k n ≡ 0) where
   front-window u work r = front-written (window (kindOf k) n u) work r (length-window (kindOf k) n u)
 
   -- what the functions on a front ask: the front is an accepted window x
-  pub front-asks : (x r : List ℤ) → windowRefusal (kindOf k) n x ≡ 0 → Front k n x r
-      → (rankRefusal k n ≡ 0) × ((lanes (kindOf k) n ≤ length r) × (windowRefusal (kindOf k) n (take (lanes (kindOf k) n) r) ≡ 0))
+  pub front-asks : (x r : List ℤ) → WindowOf (kindOf k) n x → Front k n x r
+      → Rig k n × ((lanes (kindOf k) n ≤ length r) × WindowOf (kindOf k) n (take (lanes (kindOf k) n) r))
   front-asks x r a f = (h, (room r (f .0), ap (windowRefusal (kindOf k) n) (f .1) ∙ a))
 
 -- ---- a front that is read, as a part of m entries
 
-module _ (k n m : ℕ) (h : rankRefusal k n ≡ 0) (e : m ≡ lanes (kindOf k) n) where
+module _ (k n m : ℕ) (h : Rig k n) (e : m ≡ lanes (kindOf k) n) where
   pub part-room : (l : List ℤ) → length l ≡ 64 → m ≤ length l
   part-room l q = let b : m ≤ 64 = lanes-le k n m h e in omega arith
 
@@ -72,7 +72,7 @@ module _ (k n m : ℕ) (h : rankRefusal k n ≡ 0) (e : m ≡ lanes (kindOf k) n
   part-is : (x r : List ℤ) → Front k n x r → take m r ≡ x
   part-is x r f = ap (λ (a : ℕ). take a r) e ∙ f .1
 
-  pub part-passes : (x r : List ℤ) → windowRefusal (kindOf k) n x ≡ 0 → Front k n x r → windowRefusal (kindOf k) n (take m r) ≡ 0
+  pub part-passes : (x r : List ℤ) → WindowOf (kindOf k) n x → Front k n x r → WindowOf (kindOf k) n (take m r)
   part-passes x r a f = ap (windowRefusal (kindOf k) n) (part-is x r f) ∙ a
 
   -- the part replaced by the product with the window of z
@@ -108,5 +108,5 @@ copy-end i w out a b q =
     ap (λ (x : ℕ). take x out) e ∙ q ∙ take-all i w b
 
 -- an accepted window's copy
-pub copy-front : (k n : ℕ) (w r : List ℤ) → windowRefusal (kindOf k) n w ≡ 0 → (length r ≡ 64) × (take (length w) r ≡ w) → Front k n w r
+pub copy-front : (k n : ℕ) (w r : List ℤ) → WindowOf (kindOf k) n w → (length r ≡ 64) × (take (length w) r ≡ w) → Front k n w r
 copy-front k n w r a f = (f .0, ap (λ (m : ℕ). take m r) (sym (accepted-of-refusal (kindOf k) n w a .size)) ∙ f .1)

@@ -9,7 +9,7 @@ use lib.ListN.{length, drop}
 use borrow.Author.Needs.{needs}
 use Rattle.coxeter.specs.Kinds.{kindOf}
 use Rattle.coxeter.specs.Windows.{windowFrom}
-use Rattle.coxeter.specs.Checks.{wrongLetter, windowRefusal}
+use Rattle.coxeter.specs.Checks.{wrongLetter, WindowOf}
 use Rattle.coxeter.proofs.LetterLaws.{letter-within, wrongLetter-next}
 use Rattle.window.proofs.action.Actions.{refusal-next, windowFrom-next, windowFrom-end}
 use Rattle.window.proofs.action.apply.Statement.{statement}
@@ -20,7 +20,7 @@ Inv-loop kind n word w₀ i₀ w i =
     (i ≤ length word)
     × (length w ≡ length w₀)
     × (wrongLetter n (drop i word) ≡ false)
-    × (windowRefusal (kindOf kind) n w ≡ 0)
+    × WindowOf (kindOf kind) n w
     × (windowFrom (kindOf kind) n w₀ word ≡ windowFrom (kindOf kind) n w (drop i word))
 
 abbrev μ-loop : tie.MeasureT-loop
