@@ -8,7 +8,7 @@ ghost use lib.ListN.{length, getD, take};
 ghost use Rattle.coxeter.specs.Kinds as kinds;
 ghost use Rattle.coxeter.specs.Kinds.{kindOf};
 ghost use Rattle.coxeter.specs.Length.{greatestLength};
-ghost use Rattle.coxeter.specs.Checks.{rankRefusal};
+ghost use Rattle.coxeter.specs.Checks.{Rig};
 ghost use Rattle.coxeter.specs.NormalForm.{normalForm};
 ghost use Rattle.coxeter.specs.Calls.{written};
 ghost use Rattle.distribution.specs.Longest.{longest};

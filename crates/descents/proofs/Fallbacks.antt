@@ -10,10 +10,8 @@ use Rattle.coxeter.specs.Kinds.{kindOf}
 use Rattle.coxeter.specs.Windows.{window}
 use Rattle.coxeter.specs.Checks.{Rig}
 use Rattle.coxeter.specs.NormalForm.{wordNormalForm}
-use Rattle.coxeter.proofs.Fronts.{Front, length-form-le}
-use Rattle.coxeter.proofs.Levels.{window-accepted}
-use Rattle.coxeter.proofs.NormalForms.{normalForm-letters}
-use Rattle.coxeter.proofs.Theorems.{window-passes}
+use Rattle.coxeter.proofs.Fronts.{Front}
+use Rattle.coxeter.proofs.Theorems.{window-passes, normalForm-fits}
 use Rattle.exchange.specs.declared.Fallback.{Fallback}
 use Rattle.exchange.proofs.Verdicts.{Settled}
 use Rattle.descents.proofs.walk.Settling.{SettleRequires}
@@ -29,8 +27,7 @@ module _ {X : Type 0} (most : ℕ) (l v : List X) (i m : ℕ) (f : Front most l 
 module _ (k n : ℕ) (present simpler u : List ℕ) (w : List ℤ) (p : u ≡ wordNormalForm (kindOf k) n present) (q : w ≡ window (kindOf k) n simpler) where
   pub words-settle-requires : Rig k n → SettleRequires k n u w
   words-settle-requires h =
-      rw (p, q)
-      (h, ((normalForm-letters (kindOf k) n _ (window-accepted (kindOf k) n present), length-form-le k n present h), window-passes (kindOf k) n simpler))
+      rw (p, q) (h, (normalForm-fits k n (window (kindOf k) n present) h (window-passes (kindOf k) n present), window-passes (kindOf k) n simpler))
 
   pub words-settled : (places : List ℕ) (a : Fallback) (after : List ℕ) → Settled (kindOf k) n u w places a after
       → Settled (kindOf k) n (wordNormalForm (kindOf k) n present) (window (kindOf k) n simpler) places a after

@@ -4,10 +4,11 @@ ghost use mathlib.Core.Path.{_≡_};
 ghost use Prim.Native.Nat.{_+_, _<_, _≤_};
 ghost use lib.IntN.{natAbs, pos, negℤ};
 ghost use lib.ListN.{length, getD};
-ghost use Rattle.coxeter.specs.Kinds.{kindOf, least, pick};
+ghost use Rattle.coxeter.specs.Kinds.{kindOf, pick};
 ghost use Rattle.coxeter.specs.Windows.{from, exchange, negateFirst, exchangeNegate, act};
 ghost use Rattle.coxeter.specs.Length.{later, negative};
 ghost use Rattle.coxeter.specs.Checks.{WindowOf};
+ghost use Rattle.coxeter.proofs.Acceptance.{Ranked};
 ghost use Rattle.exchange.specs.Descents.{isDescent};
 
 // Whether x stands later than y in the order 1, 2, .., m, -m, .., -2, -1: of one sign, where y is below x, and else where y is not below x.
@@ -70,8 +71,7 @@ fn uncross_signs(w: &mut [i8], p: usize) -> bool
 // is step n of B or D.
 pub(crate) fn take_descent(kind: u8, n: usize, s: usize, w: &mut [i8]) -> bool
     requires { ⌜ (1 ≤ s) × (s ≤ n) ⌝ }
-    requires { ⌜ least (kindOf kind) ≤ n ⌝ }
-    requires { ⌜ n ≤ 64 ⌝ }
+    requires { ⌜ Ranked (kindOf kind) n ⌝ }
     requires { ⌜ WindowOf (kindOf kind) n (now w) ⌝ }
     ensures { λ r. ⌜ (r ≡ isDescent (kindOf kind) n s (now (w .entry)))
         × (now (w .exit) ≡ pick r (act (kindOf kind) n s (now (w .entry))) (now (w .entry))) ⌝ }

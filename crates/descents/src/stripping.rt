@@ -5,9 +5,10 @@ use crate::steps::take_descent;
 ghost use mathlib.Core.Path.{_≡_};
 ghost use mathlib.Core.Bool.{_&&_};
 ghost use Prim.Native.Nat.{_-_, _≤_};
-ghost use Rattle.coxeter.specs.Kinds.{kindOf, least, pick};
+ghost use Rattle.coxeter.specs.Kinds.{kindOf, pick};
 ghost use Rattle.coxeter.specs.Windows.{act};
 ghost use Rattle.coxeter.specs.Checks.{WindowOf};
+ghost use Rattle.coxeter.proofs.Acceptance.{Ranked};
 ghost use Rattle.exchange.specs.Descents.{isDescent};
 ghost use Rattle.exchange.specs.Allowed.{allows};
 ghost use Rattle.exchange.proofs.Stripping.{Strips};
@@ -16,7 +17,7 @@ ghost use Rattle.exchange.proofs.FarSteps.{Far};
 // The lowest neighbour of step s; step 1, which has no lower one, for itself.
 fn back(kind: u8, n: usize, s: usize) -> usize
     requires { ⌜ (1 ≤ s) × (s ≤ n) ⌝ }
-    requires { ⌜ least (kindOf kind) ≤ n ⌝ }
+    requires { ⌜ Ranked (kindOf kind) n ⌝ }
     ensures { λ r. ⌜ (1 ≤ r) × (r ≤ s) × (2 ≤ r → Far (kindOf kind) n (r - 1) s) ⌝ }
 {
     if s == 1 {
@@ -37,8 +38,7 @@ fn back(kind: u8, n: usize, s: usize) -> usize
 // Step s, taken where it is allowed and makes the window shorter. Answers whether it was.
 fn take_allowed_descent(kind: u8, n: usize, allowed: u64, s: usize, w: &mut [i8]) -> bool
     requires { ⌜ (1 ≤ s) × (s ≤ n) ⌝ }
-    requires { ⌜ least (kindOf kind) ≤ n ⌝ }
-    requires { ⌜ n ≤ 64 ⌝ }
+    requires { ⌜ Ranked (kindOf kind) n ⌝ }
     requires { ⌜ WindowOf (kindOf kind) n (now w) ⌝ }
     ensures { λ r. ⌜ (r ≡ (allows allowed s && isDescent (kindOf kind) n s (now (w .entry))))
         × (now (w .exit) ≡ pick r (act (kindOf kind) n s (now (w .entry))) (now (w .entry))) ⌝ }
@@ -51,8 +51,7 @@ fn take_allowed_descent(kind: u8, n: usize, allowed: u64, s: usize, w: &mut [i8]
 
 // The window with allowed steps taken until none makes it shorter.
 pub(crate) fn strip(kind: u8, n: usize, allowed: u64, w: &mut [i8])
-    requires { ⌜ least (kindOf kind) ≤ n ⌝ }
-    requires { ⌜ n ≤ 64 ⌝ }
+    requires { ⌜ Ranked (kindOf kind) n ⌝ }
     requires { ⌜ WindowOf (kindOf kind) n (now w) ⌝ }
     ensures { λ _. ⌜ Strips (allows allowed) (kindOf kind) n (now (w .entry)) (now (w .exit)) ⌝ }
 {

@@ -3,22 +3,21 @@
 use crate::steps::take_descent;
 use exchange::Fallback;
 ghost use mathlib.Core.Path.{_≡_};
-ghost use mathlib.Core.Bool.{false};
 ghost use mathlib.Core.List.{[]};
 ghost use Prim.Native.Nat.{_≤_};
 ghost use lib.ListN.{length};
-ghost use Rattle.coxeter.specs.Kinds.{kindOf, least};
+ghost use Rattle.coxeter.specs.Kinds.{kindOf};
 ghost use Rattle.coxeter.specs.Windows.{straight};
-ghost use Rattle.coxeter.specs.Checks.{wrongLetter, Rig, WindowOf};
+ghost use Rattle.coxeter.specs.Checks.{Rig, WordOf, WindowOf};
 ghost use Rattle.coxeter.specs.Calls.{written, sameWindow};
+ghost use Rattle.coxeter.proofs.Acceptance.{Ranked};
 ghost use Rattle.exchange.proofs.Walk.{leftOver, placesKept, marked};
 ghost use Rattle.exchange.proofs.Verdicts.{Settled};
 
 // A letter that is not kept becomes 0. Answers how many are kept; `w` becomes what is left of the target.
 fn keep_letters(kind: u8, n: usize, word: &mut [u8], w: &mut [i8]) -> usize
-    requires { ⌜ least (kindOf kind) ≤ n ⌝ }
-    requires { ⌜ n ≤ 64 ⌝ }
-    requires { ⌜ wrongLetter n (now word) ≡ false ⌝ }
+    requires { ⌜ Ranked (kindOf kind) n ⌝ }
+    requires { ⌜ WordOf n (now word) ⌝ }
     requires { ⌜ WindowOf (kindOf kind) n (now w) ⌝ }
     ensures { λ r. ⌜ (r ≡ length (marked 0 (now (word .exit))))
         × (marked 0 (now (word .exit)) ≡ placesKept (kindOf kind) n (now (word .entry)) (length (now (word .entry))) (now (w .entry)) [])
@@ -77,7 +76,7 @@ pub(crate) fn settle(
     places: &mut [u16],
 ) -> Fallback
     requires { ⌜ Rig kind rank ⌝ }
-    requires { ⌜ (wrongLetter rank (now word) ≡ false) × (length (now word) ≤ 4096) ⌝ }
+    requires { ⌜ WordOf rank (now word) ⌝ }
     requires { ⌜ WindowOf (kindOf kind) rank (now w) ⌝ }
     ensures { λ r. ⌜ Settled (kindOf kind) rank (now (word .entry)) (now (w .entry)) (now (places .entry)) r (now (places .exit)) ⌝ }
 {

@@ -13,8 +13,9 @@ ghost use mathlib.Core.Option.{none, some};
 ghost use Prim.Native.Nat.{suc, _-_, _*_, _≤_, _<_};
 ghost use lib.Dec.{eqb};
 ghost use lib.ListN.{length, getD, take};
-ghost use Rattle.coxeter.specs.Kinds.{pick, kindOf, least};
+ghost use Rattle.coxeter.specs.Kinds.{pick, kindOf};
 ghost use Rattle.coxeter.specs.NormalForm.{levels, lastIndex};
+ghost use Rattle.coxeter.proofs.Acceptance.{Ranked};
 ghost use Rattle.rules.proofs.Scan.{nextIndex, fork, familyAt, shownIndex, firstLetter};
 ghost use Rattle.traces.specs.Traces.{lowestUse};
 ghost use Rattle.traces.proofs.LeftSides.{lower};
@@ -108,7 +109,7 @@ fn index_of(kind: u8, n: u8, i: u8, m: u8, l: u8) -> u8
 
 // The rule with the left side [i,j] x, if there is one, as it begins at `place`.
 fn block_rule(kind: u8, n: u8, i: u8, j: u8, x: u8, place: usize) -> Ending
-    requires { ⌜ (least (kindOf kind) ≤ n) × (1 ≤ n) × (n ≤ 64) ⌝ }
+    requires { ⌜ Ranked (kindOf kind) n ⌝ }
     requires { ⌜ (i ≤ n) × (j ≤ 2 * n) × (x ≤ n) ⌝ }
     ensures { λ r. ⌜ r ≡ pick (eqb (nextIndex n (levels (kindOf kind) n) (lastIndex (kindOf kind) n i) j x) 0)
         (pick (eqb (familyAt n (fork (kindOf kind) n) i j x) 0) Ending.Nothing
@@ -138,7 +139,7 @@ fn block_rule(kind: u8, n: u8, i: u8, j: u8, x: u8, place: usize) -> Ending
 
 // The rule that ends with the letter at q, which does not exchange with the one before it.
 pub(crate) fn ending_rule(kind: u8, n: u8, word: &[u8], q: usize) -> Ending
-    requires { ⌜ (least (kindOf kind) ≤ n) × (n ≤ 64) ⌝ }
+    requires { ⌜ Ranked (kindOf kind) n ⌝ }
     requires { ⌜ Reading (kindOf kind) n (now word) q × (q ≤ 4096) ⌝ }
     requires { ⌜ (1 ≤ q → exchanging n (levels (kindOf kind) n) (getD (now word) (q - 1) 0) (getD (now word) q 0) ≡ false) ⌝ }
     ensures { λ r. ⌜ r ≡ elim (lowestUse (kindOf kind) n (take (suc q) (now (word .entry)))) [

@@ -1,13 +1,13 @@
 // The search for the rule that fits at a place. The letters are followed along the way of the blocks [i,j] of the first letter i; the letter
 // that leaves the way decides the rule, so at most 2n letters are looked at.
 ghost use mathlib.Core.Path.{_≡_};
-ghost use mathlib.Core.Bool.{false};
 ghost use mathlib.Core.Option.{none, some};
 ghost use Prim.Native.Nat.{_*_, _<_, _≤_};
 ghost use lib.ListN.{length};
-ghost use Rattle.coxeter.specs.Kinds.{kindOf, least};
+ghost use Rattle.coxeter.specs.Kinds.{kindOf};
 ghost use Rattle.coxeter.specs.NormalForm.{levels, lastIndex};
-ghost use Rattle.coxeter.specs.Checks.{wrongLetter};
+ghost use Rattle.coxeter.specs.Checks.{WordOf};
+ghost use Rattle.coxeter.proofs.Acceptance.{Ranked};
 ghost use Rattle.rules.specs.Rules.{rules, firstFitting};
 ghost use Rattle.rules.proofs.Scan as scan;
 ghost use Rattle.rules.proofs.Scan.{nextIndex, familyAtEnd, familyAt, shownIndex};
@@ -25,7 +25,7 @@ pub(crate) enum Fitting {
 
 // The step at which the way of a block turns.
 pub(crate) fn corner_of(kind: u8, n: u8) -> u8
-    requires { ⌜ least (kindOf kind) ≤ n ⌝ }
+    requires { ⌜ Ranked (kindOf kind) n ⌝ }
     ensures { λ r. ⌜ r ≡ levels (kindOf kind) n ⌝ }
 {
     if kind == 1 {
@@ -50,7 +50,7 @@ pub(crate) fn last_index_of(kind: u8, n: u8, i: u8) -> u8
 
 // The step after which the way of kind D's blocks goes on with n - 1 or with n; the other kinds have none.
 pub(crate) fn fork_of(kind: u8, n: u8) -> u8
-    requires { ⌜ least (kindOf kind) ≤ n ⌝ }
+    requires { ⌜ Ranked (kindOf kind) n ⌝ }
     ensures { λ r. ⌜ r ≡ scan.fork (kindOf kind) n ⌝ }
 {
     if kind == 1 {
@@ -152,9 +152,8 @@ pub(crate) fn shown_index(family: u8, j: u8, x: u8) -> u8
 
 // The rule that fits at a place.
 pub(crate) fn fitting_rule(kind: u8, n: u8, word: &[u8], place: usize) -> Fitting
-    requires { ⌜ least (kindOf kind) ≤ n ⌝ }
-    requires { ⌜ n ≤ 64 ⌝ }
-    requires { ⌜ wrongLetter n (now word) ≡ false ⌝ }
+    requires { ⌜ Ranked (kindOf kind) n ⌝ }
+    requires { ⌜ WordOf n (now word) ⌝ }
     requires { ⌜ place < length (now word) ⌝ }
     ensures { λ r. ⌜ r ≡ elim (firstFitting (rules (kindOf kind) n) (now (word .entry)) place) [
       | none ↦ Fitting.Nothing

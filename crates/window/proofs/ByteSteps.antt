@@ -13,10 +13,11 @@ use lib.ListN.{length, getD, set}
 use lib.Signed.{mag}
 use mir.Syntax.{w8}
 use mir.Val.{toZ, ofZ}
-use Rattle.coxeter.specs.Kinds.{Kind, A, B, D, kindOf, lanes, least}
+use Rattle.coxeter.specs.Kinds.{Kind, A, B, D, kindOf, lanes}
 use Rattle.coxeter.specs.Windows.{from, exchange, negateFirst, exchangeNegate, act}
 use Rattle.coxeter.specs.Checks.{WindowOf}
 use Rattle.coxeter.proofs.KindLaws.{lanes-le-add-one, kindOf-one, kindOf-two, kindOf-three}
+use Rattle.coxeter.proofs.Acceptance.{Ranked}
 use Rattle.coxeter.proofs.Levels.{Between, accepted-of-refusal}
 use Rattle.coxeter.proofs.Steps.{act-exchange, act-B-last, act-D-last}
 use Rattle.refusals.proofs.Bytes.{held, element-back}
@@ -91,7 +92,7 @@ size-lt-of-refusal k n p w h r =
 
 -- what `act_on` requires
 abbrev pub ActRequires : ℕ → ℕ → ℕ → List ℤ → Type 0
-ActRequires k n s w = ((1 ≤ s) × (s ≤ n)) × ((least (kindOf k) ≤ n) × ((n ≤ 64) × WindowOf (kindOf k) n w))
+ActRequires k n s w = ((1 ≤ s) × (s ≤ n)) × (Ranked (kindOf k) n × WindowOf (kindOf k) n w)
 
 -- every step has an entry at s − 1, step n of B and D too
 place-lt : (k : Kind) (n s : ℕ) (w : List ℤ) → 1 ≤ s → s ≤ n → WindowOf k n w → s - 1 < length w
@@ -100,7 +101,7 @@ place-lt B n s w h l r = omega (arith, length-of-refusal B n w r)
 place-lt D n s w h l r = omega (arith, length-of-refusal D n w r)
 
 pub place-lt-of-requires : (k n s : ℕ) (w : List ℤ) → ActRequires k n s w → s - 1 < length w
-place-lt-of-requires k n s w h = place-lt (kindOf k) n s w (h .0 .0) (h .0 .1) (h .1 .1 .1)
+place-lt-of-requires k n s w h = place-lt (kindOf k) n s w (h .0 .0) (h .0 .1) (h .1 .1)
 
 exchange-eq-act-suc : (k : Kind) (n p : ℕ) (w : List ℤ) → suc p < lanes k n → from (suc p - 1) exchange w ≡ act k n (suc p) w
 exchange-eq-act-suc k n p w h = let e : suc p - 1 ≡ p = omega arith in rw (e, act-exchange k n p h)
@@ -108,7 +109,7 @@ exchange-eq-act-suc k n p w h = let e : suc p - 1 ≡ p = omega arith in rw (e, 
 -- a step below the number of lanes exchanges two entries
 pub exchange-eq-act : (k n s : ℕ) (w : List ℤ) → ActRequires k n s w → s < length w → from (s - 1) exchange w ≡ act (kindOf k) n s w
 exchange-eq-act k n zero w h l = let z : ⊥ = omega (arith, h .0 .0) in absurd z
-exchange-eq-act k n (suc p) w h l = exchange-eq-act-suc (kindOf k) n p w (rw (length-of-refusal (kindOf k) n w (h .1 .1 .1)) at l)
+exchange-eq-act k n (suc p) w h l = exchange-eq-act-suc (kindOf k) n p w (rw (length-of-refusal (kindOf k) n w (h .1 .1)) at l)
 
 -- any other step is step n, and the kind is B or D
 pub last-step : (k : Kind) (n s : ℕ) (w : List ℤ) → s ≤ n → length w ≤ s → WindowOf k n w → (s ≡ n) × (length w ≡ n)
@@ -120,14 +121,14 @@ pub last-kind : (k n s : ℕ) (w : List ℤ) → ActRequires k n s w → length 
 last-kind k n s w h l f = elim (ℕ-discrete k 1) [ yes e ↦ absurd (never e) | no g ↦ kindOf-three k g f ]
   where
     never : k ≡ 1 → ⊥
-    never e = omega (arith, length-of-refusal A n w (rw (kindOf-one k e) at (h .1 .1 .1)), h .0 .1)
+    never e = omega (arith, length-of-refusal A n w (rw (kindOf-one k e) at (h .1 .1)), h .0 .1)
 
 module _ (k n s : ℕ) (w : List ℤ) (h : ActRequires k n s w) (l : length w ≤ s) where
   last : (s ≡ n) × (length w ≡ n)
-  last = last-step (kindOf k) n s w (h .0 .1) l (h .1 .1 .1)
+  last = last-step (kindOf k) n s w (h .0 .1) l (h .1 .1)
 
   small : (p : ℕ) → natAbs (getD w p (pos 0)) < 128
-  small p = size-lt-of-refusal (kindOf k) n p w (h .1 .1 .0) (h .1 .1 .1)
+  small p = size-lt-of-refusal (kindOf k) n p w (h .1 .0 .1) (h .1 .1)
 
   pub negate-at-requires-of-last : (n - 1 < length w) × (natAbs (getD w (n - 1) (pos 0)) < 128)
   negate-at-requires-of-last = (omega (arith, last, h .0 .0), small (n - 1))
@@ -143,7 +144,7 @@ module _ (k n s : ℕ) (w : List ℤ) (h : ActRequires k n s w) (l : length w �
   held-eq-last = held-eq-getD (n - 1) (omega (arith, last))
 
   pub four-le-of-last : (k ≡ 2 → ⊥) → 4 ≤ n
-  four-le-of-last f = rw (last-kind k n s w h l f) at (h .1 .0)
+  four-le-of-last f = rw (last-kind k n s w h l f) at (h .1 .0 .0)
 
   pub exchange-negate-at-requires-of-last : (k ≡ 2 → ⊥)
       → (n - 2 + 1 < length w) × ((natAbs (getD w (n - 2) (pos 0)) < 128) × (natAbs (getD w (n - 2 + 1) (pos 0)) < 128))

@@ -1,12 +1,12 @@
 // Steps on a window, in place: each changes one or two entries, so a word costs constant work a letter.
 ghost use mathlib.Core.Path.{_≡_};
-ghost use mathlib.Core.Bool.{false};
 ghost use Prim.Native.Nat.{_+_, _<_, _≤_};
 ghost use lib.IntN.{natAbs, pos};
 ghost use lib.ListN.{length, getD};
-ghost use Rattle.coxeter.specs.Kinds.{kindOf, lanes, least};
+ghost use Rattle.coxeter.specs.Kinds.{kindOf, lanes};
 ghost use Rattle.coxeter.specs.Windows.{from, exchange, negateFirst, exchangeNegate, act, windowFrom, straight, window};
-ghost use Rattle.coxeter.specs.Checks.{wrongLetter, WindowOf};
+ghost use Rattle.coxeter.specs.Checks.{WordOf, WindowOf};
+ghost use Rattle.coxeter.proofs.Acceptance.{Ranked};
 use super::entries::negated;
 
 // w[p] and w[p + 1] exchanged, where w[p] is a.
@@ -49,8 +49,7 @@ fn exchange_negate_at(w: &mut [i8], p: usize, b: i8)
 // the two as one number of 16 bits, and the next step at a neighbour would wait for half of that number.
 fn act_on(kind: u8, n: usize, s: usize, w: &mut [i8])
     requires { ⌜ (1 ≤ s) × (s ≤ n) ⌝ }
-    requires { ⌜ least (kindOf kind) ≤ n ⌝ }
-    requires { ⌜ n ≤ 64 ⌝ }
+    requires { ⌜ Ranked (kindOf kind) n ⌝ }
     requires { ⌜ WindowOf (kindOf kind) n (now w) ⌝ }
     ensures { λ _. ⌜ now (w .exit) ≡ act (kindOf kind) n s (now (w .entry)) ⌝ }
 {
@@ -68,9 +67,8 @@ fn act_on(kind: u8, n: usize, s: usize, w: &mut [i8])
 
 // The steps of a word from the left.
 pub(crate) fn apply(kind: u8, n: usize, word: &[u8], w: &mut [i8])
-    requires { ⌜ least (kindOf kind) ≤ n ⌝ }
-    requires { ⌜ n ≤ 64 ⌝ }
-    requires { ⌜ wrongLetter n (now word) ≡ false ⌝ }
+    requires { ⌜ Ranked (kindOf kind) n ⌝ }
+    requires { ⌜ WordOf n (now word) ⌝ }
     requires { ⌜ WindowOf (kindOf kind) n (now w) ⌝ }
     ensures { λ _. ⌜ now (w .exit) ≡ windowFrom (kindOf kind) n (now (w .entry)) (now (word .entry)) ⌝ }
 {
@@ -97,10 +95,9 @@ fn set_straight(w: &mut [i8])
 
 // The window of a word.
 pub(crate) fn show(kind: u8, n: usize, word: &[u8], w: &mut [i8])
-    requires { ⌜ least (kindOf kind) ≤ n ⌝ }
-    requires { ⌜ n ≤ 64 ⌝ }
+    requires { ⌜ Ranked (kindOf kind) n ⌝ }
     requires { ⌜ length (now w) ≡ lanes (kindOf kind) n ⌝ }
-    requires { ⌜ wrongLetter n (now word) ≡ false ⌝ }
+    requires { ⌜ WordOf n (now word) ⌝ }
     ensures { λ _. ⌜ now (w .exit) ≡ window (kindOf kind) n (now (word .entry)) ⌝ }
 {
     set_straight(w);

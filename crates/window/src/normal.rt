@@ -9,12 +9,13 @@ ghost use Prim.Native.Nat.{ℕ, _+_, _-_, _*_, _<_, _≤_};
 ghost use lib.IntN.{natAbs, pos, negsuc};
 ghost use lib.ListN.{length, take, drop, getD};
 ghost use lib.Seq.{sets};
-ghost use Rattle.coxeter.specs.Kinds.{pick, kindOf, least, lanes};
+ghost use Rattle.coxeter.specs.Kinds.{pick, kindOf, lanes};
 ghost use Rattle.coxeter.specs.Windows.{placeFrom};
 ghost use Rattle.coxeter.specs.Length.{negative};
 ghost use Rattle.coxeter.specs.Checks.{hasSize, Rig, WindowOf};
 ghost use Rattle.coxeter.specs.Calls.{written};
 ghost use Rattle.coxeter.specs.NormalForm.{rise, fall, block, levels, without, indexOf, restOf, normalFrom, normalForm};
+ghost use Rattle.coxeter.proofs.Acceptance.{Ranked};
 
 // The letters from a up to b, written from the place `at` on; the answer is the place after them.
 fn write_up(out: &mut [u8], at: usize, a: usize, b: usize) -> usize
@@ -54,7 +55,7 @@ struct Turn {
 
 // The turn of the blocks of B and D. In D the way down starts with n.
 fn turn_of(kind: u8, n: usize) -> Turn
-    requires { ⌜ (least (kindOf kind) ≤ n) × (n ≤ 64) × (kind ≡ 1 → ⊥) ⌝ }
+    requires { ⌜ Ranked (kindOf kind) n × (kind ≡ 1 → ⊥) ⌝ }
     ensures { λ r. ⌜ (r .top < 256) × (r .high < 256)
         × ((i j : ℕ) → n ≤ j → block (kindOf kind) n i j ≡ rise i (r .top) ++ fall (r .high) (2 * n - j)) ⌝ }
 {
@@ -72,7 +73,7 @@ fn turn_of(kind: u8, n: usize) -> Turn
 
 // A block of B or D that turns: both its ways.
 fn write_turned(kind: u8, n: usize, i: usize, j: usize, out: &mut [u8], at: usize) -> usize
-    requires { ⌜ (least (kindOf kind) ≤ n) × (n ≤ 64) × (kind ≡ 1 → ⊥) × (n ≤ j) × (j ≤ 2 * n) ⌝ }
+    requires { ⌜ Ranked (kindOf kind) n × (kind ≡ 1 → ⊥) × (n ≤ j) × (j ≤ 2 * n) ⌝ }
     requires { ⌜ at + length (block (kindOf kind) n i j) ≤ length (now out) ⌝ }
     ensures { λ r. ⌜ (r ≡ at + length (block (kindOf kind) n i j))
         × (now (out .exit) ≡ sets (now (out .entry)) at (block (kindOf kind) n i j)) ⌝ }
@@ -84,7 +85,7 @@ fn write_turned(kind: u8, n: usize, i: usize, j: usize, out: &mut [u8], at: usiz
 
 // The block [i,j], written from the place `at` on; the answer is the place after it. Before the turn, and in A always, it goes up only.
 fn write_block(kind: u8, n: usize, i: usize, j: usize, out: &mut [u8], at: usize) -> usize
-    requires { ⌜ (least (kindOf kind) ≤ n) × (n ≤ 64) × (j ≤ 2 * n) ⌝ }
+    requires { ⌜ Ranked (kindOf kind) n × (j ≤ 2 * n) ⌝ }
     requires { ⌜ at + length (block (kindOf kind) n i j) ≤ length (now out) ⌝ }
     ensures { λ r. ⌜ (r ≡ at + length (block (kindOf kind) n i j))
         × (now (out .exit) ≡ sets (now (out .entry)) at (block (kindOf kind) n i j)) ⌝ }
@@ -173,7 +174,7 @@ fn peel(kind: u8, n: usize, i: usize, w: &mut [i8]) -> usize
 // The normal form of t levels from i on, written to the front of out; the answer is its length. w holds the entries at positions i, i + 1, ..,
 // each of the next t sizes among them, and is used up. The number of levels left falls at each call.
 fn write_from(kind: u8, n: usize, t: usize, i: usize, w: &mut [i8], out: &mut [u8]) -> usize
-    requires { ⌜ (least (kindOf kind) ≤ n) × (n ≤ 64) × (1 ≤ i) × (i + length (now w) ≤ n + 2) ⌝ }
+    requires { ⌜ Ranked (kindOf kind) n × (1 ≤ i) × (i + length (now w) ≤ n + 2) ⌝ }
     requires { ⌜ (((j : ℕ) → i ≤ j → j < i + t → hasSize j (now w) ≡ true) × (hasSize 128 (now w) ≡ false)) ⌝ }
     requires { ⌜ length (normalFrom (kindOf kind) n t i (now w)) ≤ length (now out) ⌝ }
     ensures { λ r. ⌜ (r ≡ length (normalFrom (kindOf kind) n t i (now (w .entry))))

@@ -8,11 +8,11 @@ use native.Mathlib.Omega.{arith}
 use lib.IntN.{ℤ}
 use lib.ListN.{length, take, drop, length-append}
 use lib.Seq.{take-at}
-use Rattle.coxeter.specs.Kinds.{kindOf, least}
+use Rattle.coxeter.specs.Kinds.{kindOf}
 use Rattle.coxeter.specs.Windows.{window, product, inverse}
 use Rattle.coxeter.specs.Checks.{Rig, WindowOf}
 use Rattle.coxeter.specs.NormalForm.{normalForm}
-use Rattle.coxeter.proofs.Acceptance.{rank-accepted}
+use Rattle.coxeter.proofs.Acceptance.{Ranked, rank-accepted}
 use Rattle.coxeter.proofs.Levels.{accepted-of-refusal, refusal-of-accepted}
 use Rattle.coxeter.proofs.Theorems.{window-passes, inverse-passes}
 use Rattle.exchange.specs.declared.Split.{Split}
@@ -45,8 +45,8 @@ module _ (k n : ℕ) (w x a b : List ℤ) (p : a ≡ product w x) (q : b ≡ inv
 
 -- v is the inverse of w as it was computed, and x what is left of it, as y was stored
 module _ (k n set : ℕ) (w v : List ℤ) (h : Rig k n) (a : WindowOf (kindOf k) n w) (p : v ≡ inverse w) where
-  pub strip-asked : (least (kindOf k) ≤ n) × ((n ≤ 64) × WindowOf (kindOf k) n v)
-  strip-asked = let r = rank-accepted k n h in (r .0, (r .1, rw p (inverse-passes (kindOf k) n w a)))
+  pub strip-asked : Ranked (kindOf k) n × WindowOf (kindOf k) n v
+  strip-asked = (rank-accepted k n h, rw p (inverse-passes (kindOf k) n w a))
 
   module _ (y x : List ℤ) (q : x ≡ y) (s : Strips (allows set) (kindOf k) n v y) where
     stripped : Strips (allows set) (kindOf k) n (inverse w) x

@@ -92,21 +92,21 @@ module _ (k n s : ℕ) (w v : List ℤ) (r : Bool) (h : ActRequires k n s w) whe
   -- from the test of the entries and what taking the step does
   taken-descent : (x : List ℤ) → r ≡ crossed (kindOf k) n s w → x ≡ act (kindOf k) n s w → v ≡ pick r x w → TakenDescent k n s w r v
   taken-descent x t e q =
-      let a = accepted-of-refusal (kindOf k) n w (h .1 .1 .1) in
-      (t ∙ sym (descent-crossed (kindOf k) n s w (h .1 .0) (h .0 .0) (h .0 .1) a), q ∙ ap (λ (y : List ℤ). pick r y w) e)
+      let a = accepted-of-refusal (kindOf k) n w (h .1 .1) in
+      (t ∙ sym (descent-crossed (kindOf k) n s w (h .1 .0 .0) (h .0 .0) (h .0 .1) a), q ∙ ap (λ (y : List ℤ). pick r y w) e)
 
   pub taken-pair : s < length w → r ≡ later (getD w (s - 1) (pos 0)) (getD w (s - 1 + 1) (pos 0)) → v ≡ pick r (from (s - 1) exchange w) w
       → TakenDescent k n s w r v
   taken-pair l t q =
       let e : suc (s - 1) ≡ s = omega (arith, h .0 .0) in
       let f : s - 1 + 1 ≡ s = omega (arith, h .0 .0) in
-      let inside : suc (s - 1) < lanes (kindOf k) n = rw (e, ← length-of-refusal (kindOf k) n w (h .1 .1 .1)) l in
+      let inside : suc (s - 1) < lanes (kindOf k) n = rw (e, ← length-of-refusal (kindOf k) n w (h .1 .1)) l in
       let test = rw e at (crossed-exchange (kindOf k) n (s - 1) w inside) in
       taken-descent (from (s - 1) exchange w) (t ∙ rw f (sym test)) (exchange-eq-act k n s w h l) q
 
   module _ (l : length w ≤ s) where
     last : (s ≡ n) × (length w ≡ n)
-    last = last-step (kindOf k) n s w (h .0 .1) l (h .1 .1 .1)
+    last = last-step (kindOf k) n s w (h .0 .1) l (h .1 .1)
 
     pub taken-sign : k ≡ 2 → r ≡ negative (getD w (n - 1) (pos 0)) → v ≡ pick r (from (n - 1) negateFirst w) w → TakenDescent k n s w r v
     taken-sign b t q =

@@ -7,11 +7,11 @@ use Prim.Native.Nat.{ℕ, _≤_, _<_}
 use native.Mathlib.Omega.{arith}
 use lib.IntN.{ℤ}
 use lib.ListN.{length}
-use Rattle.coxeter.specs.Kinds.{kindOf, least, lanes}
+use Rattle.coxeter.specs.Kinds.{kindOf, lanes}
 use Rattle.coxeter.specs.Windows.{straight}
-use Rattle.coxeter.specs.Checks.{wrongLetter, Rig, WindowOf}
+use Rattle.coxeter.specs.Checks.{wrongLetter, Rig, WordOf, WindowOf}
 use Rattle.coxeter.specs.Calls.{written, sameWindow}
-use Rattle.coxeter.proofs.Acceptance.{rank-accepted, lanes-le}
+use Rattle.coxeter.proofs.Acceptance.{Ranked, rank-accepted, letters-accepted, lanes-le}
 use Rattle.coxeter.proofs.Levels.{Accepted, accepted-of-refusal}
 use Rattle.exchange.specs.declared.Fallback.the-variants.{Kept, No, Refused}
 use Rattle.exchange.proofs.Walk.{leftOver, placesKept, marked}
@@ -19,7 +19,7 @@ use Rattle.exchange.proofs.Verdicts.{Settled, settled-no, settled-short, settle
 
 -- what `settle` requires
 abbrev pub SettleRequires : ℕ → ℕ → List ℕ → List ℤ → Type 0
-SettleRequires k n u w = Rig k n × (((wrongLetter n u ≡ false) × (length u ≤ 4096)) × WindowOf (kindOf k) n w)
+SettleRequires k n u w = Rig k n × (WordOf n u × WindowOf (kindOf k) n w)
 
 -- and what `keep_letters` ensures
 abbrev pub LettersKept : ℕ → ℕ → List ℕ → List ℤ → List ℕ → List ℤ → ℕ → Type 0
@@ -29,8 +29,11 @@ LettersKept k n u w f x m =
     × (x ≡ leftOver (kindOf k) n u (length u) w)
 
 module _ (k n : ℕ) (u : List ℕ) (w : List ℤ) (h : SettleRequires k n u w) where
-  pub keep-requires : (least (kindOf k) ≤ n) × ((n ≤ 64) × ((wrongLetter n u ≡ false) × WindowOf (kindOf k) n w))
-  keep-requires = let r = rank-accepted k n (h .0) in (r .0, (r .1, (h .1 .0 .0, h .1 .1)))
+  pub keep-requires : Ranked (kindOf k) n × (WordOf n u × WindowOf (kindOf k) n w)
+  keep-requires = (rank-accepted k n (h .0), h .1)
+
+  letters : wrongLetter n u ≡ false
+  letters = letters-accepted n u (h .1 .0)
 
   accepted : Accepted (kindOf k) n w
   accepted = accepted-of-refusal (kindOf k) n w (h .1 .1)
@@ -45,13 +48,13 @@ module _ (k n : ℕ) (u : List ℕ) (w : List ℤ) (h : SettleRequires k n u w) 
     ends = s ∙ ap (λ (l : ℕ). sameWindow x (straight l)) (e ∙ accepted .size)
 
     pub settle-no : t ≡ false → Settled (kindOf k) n u w places No places
-    settle-no z = settled-no (kindOf k) n u w places (rank-accepted k n (h .0) .0) (h .1 .0 .0) accepted x t (g .2) ends z
+    settle-no z = settled-no (kindOf k) n u w places (rank-accepted k n (h .0) .0) letters accepted x t (g .2) ends z
 
     pub settle-short : t ≡ true → length places < m → Settled (kindOf k) n u w places (Refused 14) places
     settle-short z =
-        settled-short (kindOf k) n u w places (rank-accepted k n (h .0) .0) (h .1 .0 .0) accepted x t (g .2) ends z (marked 0 f) m (g .1) (g .0)
+        settled-short (kindOf k) n u w places (rank-accepted k n (h .0) .0) letters accepted x t (g .2) ends z (marked 0 f) m (g .1) (g .0)
 
     pub settle-kept : (after : List ℕ) → t ≡ true → m ≤ length places → after ≡ written 0 (marked 0 f) places
         → Settled (kindOf k) n u w places (Kept m) after
     settle-kept after z =
-        settled-kept (kindOf k) n u w places (rank-accepted k n (h .0) .0) (h .1 .0 .0) accepted x t (g .2) ends z (marked 0 f) m (g .1) (g .0) after
+        settled-kept (kindOf k) n u w places (rank-accepted k n (h .0) .0) letters accepted x t (g .2) ends z (marked 0 f) m (g .1) (g .0) after

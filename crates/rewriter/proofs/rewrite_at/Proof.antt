@@ -4,7 +4,8 @@ use native.Mathlib.Omega.{arith}
 use borrow.Author.Needs.{needs}
 use Rattle.coxeter.specs.Kinds.{kindOf}
 use Rattle.rules.specs.Runs.{AcceptedWord}
-use Rattle.rules.proofs.Calls.{accepted-least, accepted-letters}
+use Rattle.coxeter.proofs.Acceptance.{rank-accepted}
+use Rattle.rules.proofs.Calls.{accepted-least}
 use Rattle.rewriter.proofs.ToEnd.{accepted}
 use Rattle.rewriter.proofs.Rewrites.{Fitted, fitted, rewrote-preset, rewrote-place, rank-between, rewrote-none, rewrote-short, rewrote-used}
 use Rattle.rewriter.proofs.rewrite_at.Statement.{statement}
@@ -45,7 +46,7 @@ returns-2 c = rewrote-place _ _ _ _ _ (passed (c .before)) (c .if2 .taken)
 fitting-rule-requires : tie.Need-fitting-rule-requires
 fitting-rule-requires c κs =
     let a = passed (c .before) in
-    (accepted-least a, (rank-between a .1, (accepted-letters a, c .if2 .left)))
+    (rank-accepted _ _ (a .rank), (a .word, c .if2 .left))
 
 enum-known-family : tie.Need-enum-known-family
 enum-known-family c = search needs

@@ -10,10 +10,10 @@ use native.Mathlib.Nat.{zero-add}
 use native.Mathlib.Omega.{arith}
 use lib.ListN.{length, getD, take, drop, set, length-append, length-set, length-drop, drop-of-length-le}
 use lib.Seq.{length-take-le, take-suc-set, take-append-le, append-snoc, sets}
-use Rattle.coxeter.specs.Kinds.{Kind, kindOf, least}
+use Rattle.coxeter.specs.Kinds.{Kind, kindOf}
 use Rattle.coxeter.specs.Checks.{wrongLetter}
 use Rattle.coxeter.specs.Calls.{written}
-use Rattle.coxeter.proofs.Acceptance.{rank-accepted, letters-accepted, length-accepted}
+use Rattle.coxeter.proofs.Acceptance.{Ranked, rank-accepted, letters-accepted, length-accepted}
 use Rattle.coxeter.proofs.LetterLaws.{letter-within}
 use Rattle.coxeter.proofs.Lists.{take-rest, drop-next, sets-front}
 use Rattle.rules.specs.Runs.{AcceptedWord}
@@ -41,7 +41,7 @@ module _ (k n : ℕ) (word families places lengths work₀ : List ℕ) (h : Acce
   abbrev kind : Kind
   kind = kindOf k
 
-  rank : (least kind ≤ n) × (n ≤ 64)
+  rank : Ranked kind n
   rank = rank-accepted k n (h .rank)
 
   pub making-start : Making (kindOf k) n word families places lengths work₀ 0 0 families places lengths work₀ 0

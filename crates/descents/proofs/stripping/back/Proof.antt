@@ -34,7 +34,7 @@ returns-5 : tie.Need-returns-5
 returns-5 c =
     let last = c .before .before in
     let start = last .before .before in
-    back-D _ _ _ (c .before .if3 .left) (c .if4 .left) (start .pre .1) (last .if2 .left) (start .pre .0 .1)
+    back-D _ _ _ (c .before .if3 .left) (c .if4 .left) (start .pre .1 .0) (last .if2 .left) (start .pre .0 .1)
 
 pub back-spec : {M : Type 1} → statement M
 back-spec =

@@ -18,14 +18,14 @@ abbrev μ-loop : tie.MeasureT-loop
 μ-loop kind n allowed w₀ s₀ w s = windowLength (kindOf kind) w * (n + 1) + (n + 1 - s)
 
 loop-holds : tie.Need-loop-holds Inv-loop μ-loop
-loop-holds c = (refl, turning-start _ _ _ _ (c .pre .1 .1))
+loop-holds c = (refl, turning-start _ _ _ _ (c .pre .1))
 
 take-allowed-descent-requires : tie.Need-take-allowed-descent-requires Inv-loop μ-loop
 take-allowed-descent-requires c κs =
     let b = c .before .before in
     let p = b .before .pre in
     let t = b .loop .inv .1 in
-    ((t .low, c .before .loop-test .taken), (p .0, (p .1 .0, t .passes)))
+    ((t .low, c .before .loop-test .taken), (p .0, t .passes))
 
 back-requires : tie.Need-back-requires Inv-loop μ-loop
 back-requires c κs =
@@ -35,7 +35,7 @@ back-requires c κs =
 loop-less : tie.Need-loop-less Inv-loop μ-loop
 loop-less c =
     let b = c .before .before .before .before .before .before in
-    turning-less _ _ _ _ _ _ (b .loop .inv .1) (b .before .pre .0) (c .before .before .before .before .before .loop-test .taken) _ _
+    turning-less _ _ _ _ _ _ (b .loop .inv .1) (b .before .pre .0 .0) (c .before .before .before .before .before .loop-test .taken) _ _
     (c .before .before .before .take-allowed-descent .ensures) (c .before .if1 .taken) _ (c .back .ensures .0)
 
 loop-again : tie.Need-loop-again Inv-loop μ-loop
@@ -43,8 +43,8 @@ loop-again c =
     let b = c .before .before .before .before .before .before in
     let l = c .before .before .before .take-allowed-descent in (
       l .kept .1 .1 .1 .1 .0 ∙ b .loop .inv .0,
-      turning-taken _ _ _ _ _ _ (b .loop .inv .1) (b .before .pre .0) (c .before .before .before .before .before .loop-test .taken) _ _ (l .ensures)
-          (c .before .if1 .taken) _ (c .back .ensures),
+      turning-taken _ _ _ _ _ _ (b .loop .inv .1) (b .before .pre .0 .0) (c .before .before .before .before .before .loop-test .taken) _ _
+          (l .ensures) (c .before .if1 .taken) _ (c .back .ensures),
     )
 
 add-s : tie.Need-add-s Inv-loop μ-loop
@@ -53,7 +53,7 @@ add-s c = search needs
 loop-less-2 : tie.Need-loop-less-2 Inv-loop μ-loop
 loop-less-2 c =
     let b = c .before .before .before .before .before in
-    passed-less _ _ _ _ _ _ (b .loop .inv .1) (b .before .pre .0) (c .before .before .before .before .loop-test .taken) _ _
+    passed-less _ _ _ _ _ _ (b .loop .inv .1) (b .before .pre .0 .0) (c .before .before .before .before .loop-test .taken) _ _
     (c .before .before .take-allowed-descent .ensures) (c .if1 .left)
 
 loop-again-2 : tie.Need-loop-again-2 Inv-loop μ-loop
@@ -61,7 +61,8 @@ loop-again-2 c =
     let b = c .before .before .before .before .before in
     let l = c .before .before .take-allowed-descent in (
       l .kept .1 .1 .1 .1 .0 ∙ b .loop .inv .0,
-      turning-passed _ _ _ _ _ _ (b .loop .inv .1) (b .before .pre .0) (c .before .before .before .before .loop-test .taken) _ _ (l .ensures) (c .if1 .left),
+      turning-passed _ _ _ _ _ _ (b .loop .inv .1) (b .before .pre .0 .0) (c .before .before .before .before .loop-test .taken) _ _
+          (l .ensures) (c .if1 .left),
     )
 
 same-length : tie.Need-same-length Inv-loop μ-loop

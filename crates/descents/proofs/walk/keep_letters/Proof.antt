@@ -6,6 +6,7 @@ use native.Mathlib.Omega.{arith}
 use lib.ListN.{length}
 use borrow.Author.Needs.{needs}
 use Rattle.coxeter.specs.Kinds.{kindOf}
+use Rattle.coxeter.proofs.Acceptance.{letters-accepted}
 use Rattle.descents.proofs.walk.Walking.{Walking, walking-start, walking-within, walking-room, walking-kept, walking-left, walking-end}
 use Rattle.descents.proofs.walk.keep_letters.Statement.{statement}
 use Rattle.descents.proofs.walk.keep_letters.Tie as tie
@@ -18,7 +19,7 @@ abbrev μ-loop : tie.MeasureT-loop
 μ-loop kind n word₀ w₀ kept₀ i₀ word w kept i = i
 
 loop-holds : tie.Need-loop-holds Inv-loop μ-loop
-loop-holds c = (refl, walking-start _ _ _ _ (c .before .pre .1 .1 .1))
+loop-holds c = (refl, walking-start _ _ _ _ (c .before .pre .1 .1))
 
 sub-i : tie.Need-sub-i Inv-loop μ-loop
 sub-i c = search needs
@@ -35,7 +36,7 @@ take-descent-requires : tie.Need-take-descent-requires Inv-loop μ-loop
 take-descent-requires c κs =
     let b = c .before .before .before in
     let p = b .before .before .pre in
-    (walking-within _ _ _ _ _ _ _ _ _ (b .loop .inv .1) (omega arith) (p .1 .1 .0), (p .0, (p .1 .0, b .loop .inv .1 .passes)))
+    (walking-within _ _ _ _ _ _ _ _ _ (b .loop .inv .1) (omega arith) (letters-accepted _ _ (p .1 .0)), (p .0, b .loop .inv .1 .passes))
 
 add-kept : tie.Need-add-kept Inv-loop μ-loop
 add-kept c =
@@ -51,7 +52,8 @@ loop-again c =
     let b = c .before .before .before .before .before .before in
     let l = c .before .before .take-descent in (
       l .kept .1 .1 .1 .0 ∙ b .loop .inv .0,
-      walking-kept _ _ _ _ _ _ _ _ _ (b .loop .inv .1) (omega arith) _ _ (l .ensures .0) (l .ensures .1) (c .if1 .taken) (b .before .before .pre .1 .1 .0),
+      walking-kept _ _ _ _ _ _ _ _ _ (b .loop .inv .1) (omega arith) _ _ (l .ensures .0) (l .ensures .1) (c .if1 .taken)
+          (letters-accepted _ _ (b .before .before .pre .1 .0)),
     )
 
 slice-write-word : tie.Need-slice-write-word Inv-loop μ-loop

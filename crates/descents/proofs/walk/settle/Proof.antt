@@ -1,6 +1,8 @@
 -- `walk::settle` decides by what is left of the target: straight, and then the places are written where there is room, or not.
 -- Assumes nothing.
+use native.Mathlib.Omega.{arith}
 use borrow.Author.Needs.{needs}
+use Rattle.coxeter.proofs.Acceptance.{length-accepted}
 use Rattle.descents.proofs.walk.Settling.{keep-requires, left-length, settle-no, settle-short, settle-kept}
 use Rattle.descents.proofs.walk.settle.Statement.{statement}
 use Rattle.descents.proofs.walk.settle.Tie as tie
@@ -26,7 +28,10 @@ returns c =
     (c .before .before .is-straight .ensures) _ (c .before .if1 .taken) (c .if2 .taken)
 
 write-places-requires : tie.Need-write-places-requires
-write-places-requires c κs = search needs
+write-places-requires c κs =
+    let b = c .before .before .before .before .before .before .before .before .before in
+    let s = b .before .before .before .before .before in
+    (omega (arith, length-accepted _ _ (s .pre .1 .0), b .keep-letters .kept .1 .1 .0), search needs)
 
 same-length-3 : tie.Need-same-length-3
 same-length-3 c = search needs

@@ -23,7 +23,7 @@ abbrev μ-loop : tie.MeasureT-loop
 corner-of-requires : tie.Need-corner-of-requires Inv-loop μ-loop
 corner-of-requires c κs =
     let s = c .before .before .before .before .before in
-    s .pre .rank
+    (s .pre .rank, s .pre .high)
 
 add-left : tie.Need-add-left Inv-loop μ-loop
 add-left c =

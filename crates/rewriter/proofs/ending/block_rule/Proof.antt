@@ -1,6 +1,7 @@
 -- `ending::block_rule` goes by the tests of the search: the next index, then the family.
 -- Assumes nothing.
 use Rattle.coxeter.specs.Kinds.{kindOf}
+use Rattle.coxeter.proofs.KindLaws.{one-le}
 use Rattle.rewriter.proofs.search.Searches.{lastIndex-le-of}
 use Rattle.rewriter.proofs.ending.Ends.{block-goes-on, block-no-rule, block-has-rule}
 use borrow.Author.Needs.{needs}
@@ -16,7 +17,7 @@ last-index-of-requires c κs = search needs
 next-index-requires : tie.Need-next-index-requires
 next-index-requires c κs =
     let s = c .before .before in
-    (s .pre .0 .2, lastIndex-le-of (kindOf (s .args .kind)) (s .args .n) (s .args .i) _ (c .last-index-of .ensures), s .pre .1 .2)
+    (s .pre .0 .1, lastIndex-le-of (kindOf (s .args .kind)) (s .args .n) (s .args .i) _ (c .last-index-of .ensures), s .pre .1 .2)
 
 returns : tie.Need-returns
 returns c =
@@ -50,7 +51,9 @@ shown-index-requires : tie.Need-shown-index-requires
 shown-index-requires c κs = search needs
 
 first-letter-requires : tie.Need-first-letter-requires
-first-letter-requires c κs = search needs
+first-letter-requires c κs =
+    let s = c .before .before .before .before .before .before .before .before in
+    (one-le (kindOf (s .args .kind)) _ (s .pre .0 .0), search needs)
 
 returns-3 : tie.Need-returns-3
 returns-3 c =

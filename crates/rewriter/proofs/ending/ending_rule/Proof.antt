@@ -97,7 +97,7 @@ block-rule-requires c κs =
     let s = o .before .before in
     let z = index-small _ _ (s .pre .0 .0) _ _ (s .pre .1 .0 .0) (one (o .if1 .left)) _ (q .place-of .ensures) (d .if2 .left)
     (s .pre .1 .1 (one (o .if1 .left))) (t .if3 .left ∙ m .lower-of .ensures) _ _ (m .lower-of .ensures) (c .index-of .ensures) in
-    ((s .pre .0 .0, omega (arith, z, s .pre .0, reading-inside _ _ (s .pre .0 .0) _ _ (s .pre .1 .0 .0)), s .pre .0 .1), z)
+    (s .pre .0, z)
 
 returns-4 : tie.Need-returns-4
 returns-4 c =

@@ -12,7 +12,7 @@ returns-2 : tie.Need-returns-2
 returns-2 c = rw (kindOf-two _ (c .if2 .taken))
 
 sub-result : tie.Need-sub-result
-sub-result c = omega (arith, rw (kindOf-three _ (c .before .if1 .left) (c .if2 .left)) at (c .before .before .pre))
+sub-result c = omega (arith, rw (kindOf-three _ (c .before .if1 .left) (c .if2 .left)) at (c .before .before .pre .0))
 
 returns-3 : tie.Need-returns-3
 returns-3 c = rw (kindOf-three _ (c .before .if1 .left) (c .if2 .left))

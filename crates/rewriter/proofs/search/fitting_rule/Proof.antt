@@ -7,6 +7,7 @@ use lib.ListN.{length, getD}
 use borrow.Author.Needs.{needs}
 use borrow.Author.Tests.{eq-eqb, ne-eqb}
 use Rattle.coxeter.specs.Kinds.{pick, kindOf}
+use Rattle.coxeter.proofs.Acceptance.{letters-accepted}
 use Rattle.rules.specs.Rules.{rules, firstFitting}
 use Rattle.rules.proofs.Scan.{shownIndex}
 use Rattle.rewriter.specs.declared.search.Fitting.the-variants.{Rule as Shown, Nothing}
@@ -22,7 +23,7 @@ abbrev μ-loop : tie.MeasureT-loop
 μ-loop kind n word place i corner last fork j₀ at₀ j at = length word - at
 
 searchable : (s : tie.Start Inv-loop μ-loop) → Searchable (kindOf (s .args .kind)) (s .args .n) (s .args .word .now)
-searchable s = record { rank = s .pre .0; letters = s .pre .1 .1 .0 }
+searchable s = record { rank = s .pre .0 .0; letters = letters-accepted _ _ (s .pre .1 .0) }
 
 shared-slice-read-i : tie.Need-shared-slice-read-i Inv-loop μ-loop
 shared-slice-read-i c = search needs
@@ -33,7 +34,7 @@ corner-of-requires c κs = search needs
 last-index-of-requires : tie.Need-last-index-of-requires Inv-loop μ-loop
 last-index-of-requires c κs =
     let s = c .before .before .before in
-    (s .pre .1 .0, letter _ _ _ (searchable s) _ (s .pre .1 .1 .1) .1)
+    (s .pre .0 .1, letter _ _ _ (searchable s) _ (s .pre .1 .1) .1)
 
 fork-of-requires : tie.Need-fork-of-requires Inv-loop μ-loop
 fork-of-requires c κs = search needs
@@ -42,7 +43,7 @@ add-at : tie.Need-add-at Inv-loop μ-loop
 add-at c = search needs
 
 loop-holds : tie.Need-loop-holds Inv-loop μ-loop
-loop-holds c = let s = c .before .before .before .before .before in searching-start _ _ _ (searchable s) _ (s .pre .1 .1 .1)
+loop-holds c = let s = c .before .before .before .before .before in searching-start _ _ _ (searchable s) _ (s .pre .1 .1)
 
 shared-slice-read-x : tie.Need-shared-slice-read-x Inv-loop μ-loop
 shared-slice-read-x c = search needs
@@ -53,14 +54,14 @@ next-index-requires c κs =
     let s = l .before .before .before .before in
     let i = getD (s .args .word .now) (s .args .place) 0 in
     let m = lastIndex-le-of (kindOf (s .args .kind)) _ i _ (l .last-index-of .ensures) in
-    (s .pre .1 .0, m, letter _ _ _ (searchable s) _ (c .before .loop-test .taken) .1)
+    (s .pre .0 .1, m, letter _ _ _ (searchable s) _ (c .before .loop-test .taken) .1)
 
 family-at-requires : tie.Need-family-at-requires Inv-loop μ-loop
 family-at-requires c κs =
     let l = c .before .before .before .before in
     let s = l .before .before .before .before .before .before in
-    let a = along-le _ _ _ _ (s .pre .0) (l .loop .inv .along) in
-    (s .pre .1 .0, a .0, a .1)
+    let a = along-le _ _ _ _ (s .pre .0 .0) (l .loop .inv .along) in
+    (s .pre .0 .1, a .0, a .1)
 
 -- the answer where the letter x has left the way, with the family that `family_at` gave
 abbrev Answered : tie.After-family-at Inv-loop μ-loop → Type 0

@@ -10,6 +10,7 @@ use borrow.Author.Needs.{needs}
 use Rattle.coxeter.specs.Kinds.{kindOf}
 use Rattle.coxeter.specs.Windows.{windowFrom}
 use Rattle.coxeter.specs.Checks.{wrongLetter, WindowOf}
+use Rattle.coxeter.proofs.Acceptance.{letters-accepted}
 use Rattle.coxeter.proofs.LetterLaws.{letter-within, wrongLetter-next}
 use Rattle.window.proofs.action.Actions.{refusal-next, windowFrom-next, windowFrom-end}
 use Rattle.window.proofs.action.apply.Statement.{statement}
@@ -27,7 +28,7 @@ abbrev μ-loop : tie.MeasureT-loop
 μ-loop kind n word w₀ i₀ w i = length word - i
 
 loop-holds : tie.Need-loop-holds Inv-loop μ-loop
-loop-holds c = (omega arith, refl, c .before .pre .1 .1 .0, c .before .pre .1 .1 .1, refl)
+loop-holds c = (omega arith, refl, letters-accepted _ _ (c .before .pre .1 .0), c .before .pre .1 .1, refl)
 
 shared-slice-read-act-on : tie.Need-shared-slice-read-act-on Inv-loop μ-loop
 shared-slice-read-act-on c = search needs
@@ -39,7 +40,7 @@ act-on-requires : tie.Need-act-on-requires Inv-loop μ-loop
 act-on-requires c κs =
     let i = c .before .before .before .loop .inv in
     let p = c .before .before .before .before .before .pre in
-    (letter-within _ _ _ (c .before .before .loop-test .taken) (i .2), (p .0, (p .1 .0, i .3)))
+    (letter-within _ _ _ (c .before .before .loop-test .taken) (i .2), (p .0, i .3))
 
 add-i : tie.Need-add-i Inv-loop μ-loop
 add-i c = omega arith

@@ -10,12 +10,12 @@ use Rattle.window.proofs.action.show.Tie as tie
 set-straight-requires : tie.Need-set-straight-requires
 set-straight-requires c κs =
     let b = c .before .before in
-    le-of-lanes (kindOf (b .args .kind)) _ _ (b .pre .1 .0) (b .pre .1 .1 .0)
+    le-of-lanes (kindOf (b .args .kind)) _ _ (b .pre .0 .1) (b .pre .1 .0)
 
 apply-requires : tie.Need-apply-requires
 apply-requires c κs =
     let p = c .before .before .before .before .before .pre in
-    (p .0, (p .1 .0, (p .1 .1 .1, refusal-straight _ _ _ _ (p .1 .1 .0) (c .before .before .set-straight .ensures))))
+    (p .0, (p .1 .1, refusal-straight _ _ _ _ (p .1 .0) (c .before .before .set-straight .ensures)))
 
 same-length : tie.Need-same-length
 same-length c = search needs
@@ -23,7 +23,7 @@ same-length c = search needs
 returns : tie.Need-returns
 returns c =
     let b = c .before .before .before .before in
-    c .before .apply .ensures ∙ windowFrom-straight _ _ _ _ _ (b .before .before .before .pre .1 .1 .0) (b .set-straight .ensures)
+    c .before .apply .ensures ∙ windowFrom-straight _ _ _ _ _ (b .before .before .before .pre .1 .0) (b .set-straight .ensures)
 
 pub show-spec : {M : Type 1} → statement M
 show-spec = tie.close (tie.spec set-straight-requires apply-requires same-length returns)

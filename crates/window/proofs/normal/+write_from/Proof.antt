@@ -65,7 +65,7 @@ write-from-peel-requires : (t : ℕ) → write-from-lts.Need-peel-requires (
 write-from-peel-requires t c κs =
     let start = c .before .before .before in
     let pre = start .pre .1 in (
-      (pre .0 .2, omega (arith, one-le (kindOf (start .args .kind)) _ (pre .0 .0)), pre .0 .1),
+      (pre .0 .1, omega (arith, one-le (kindOf (start .args .kind)) _ (pre .0 .0 .0)), pre .0 .0 .1),
       (pre .1 .0 .0 (start .args .i) (omega arith) (omega arith), pre .1 .0 .1),
     )
 
@@ -136,7 +136,7 @@ write-from-write-from-requires t c κs =
     let level = normalFrom-next _ _ _ _ _ u _ more (peeled .ensures .1) (peeled .ensures .2) in (
       omega arith,
       (
-        (pre .0 .0, pre .0 .1, omega arith, omega (arith, length-tail u (room t at-peel), peeled .kept .1 .1 .1 .0)),
+        (pre .0 .0, omega arith, omega (arith, length-tail u (room t at-peel), peeled .kept .1 .1 .1 .0)),
         (sizes-next _ _ _ _ _ u (peeled .ensures .2) (pre .1 .0), joined-room-left level _ (pre .1 .1)),
       ),
     )
@@ -157,7 +157,7 @@ write-from-write-block-requires t c κs =
     let more = at-peel .before .before .if1 .left in
     let pre = at-peel .before .before .before .before .pre .1 in
     let level = normalFrom-next _ _ _ _ _ (peeled .last .1 .1 .1 .0) _ more (peeled .ensures .1) (peeled .ensures .2) in (
-      (pre .0 .0, pre .0 .1, peeled .ensures .0),
+      (pre .0 .0, peeled .ensures .0),
       joined-room-right level (pre .1 .1) (written .ensures .0) (written .kept .1 .1 .1 .1 .1 .0),
     )
 

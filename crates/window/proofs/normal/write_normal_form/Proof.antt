@@ -33,7 +33,7 @@ write-from-requires c κs =
     let a = rank-accepted _ _ (pre .0) in
     let e = counted .lanes .ensures in
     let t = leveled .levels-of .ensures in (
-      (a .0, a .1, omega arith, first-length _ _ _ _ _ e t (pre .1 .1 .0)),
+      (a, omega arith, first-length _ _ _ _ _ e t (pre .1 .1 .0)),
       (first-sizes _ _ _ _ _ e t (a .1) (pre .1 .1 .0), first-room _ _ _ _ _ e t _ (pre .1 .1 .1)),
     )
 

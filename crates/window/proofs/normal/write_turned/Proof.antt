@@ -11,14 +11,14 @@ use Rattle.window.proofs.normal.write_turned.Statement.{statement}
 use Rattle.window.proofs.normal.write_turned.Tie as tie
 
 turn-of-requires : tie.Need-turn-of-requires
-turn-of-requires c κs = let pre = c .before .pre .0 in (pre .0, pre .1, pre .2)
+turn-of-requires c κs = let pre = c .before .pre .0 in (pre .0, pre .1)
 
 -- the block's two runs
 runs : (c : tie.After-turn-of)
     → let a = c .before .before .args in
     let turn = c .turn-of .result in
     block (kindOf (a .kind)) (a .n) (a .i) (a .j) ≡ rise (a .i) (turn .top) ++ fall (turn .high) (2 * a .n - a .j)
-runs c = c .turn-of .ensures .2 _ _ (c .before .before .pre .0 .3)
+runs c = c .turn-of .ensures .2 _ _ (c .before .before .pre .0 .2)
 
 write-up-requires : tie.Need-write-up-requires
 write-up-requires c κs =

@@ -1,7 +1,7 @@
 -- `shown::product_shown` applies the second word to what the first shows.
 -- Assumes nothing.
 use mathlib.Core.Path.{sym}
-use Rattle.coxeter.proofs.Acceptance.{rank-accepted, letters-accepted}
+use Rattle.coxeter.proofs.Acceptance.{rank-accepted}
 use Rattle.window.proofs.shown.Fronts.{part-room, length-part, part-passes, front-product, window-passes}
 use borrow.Author.Needs.{needs}
 use Rattle.window.proofs.shown.product_shown.Statement.{statement}
@@ -27,9 +27,8 @@ apply-requires : tie.Need-apply-requires
 apply-requires c κs =
     let held = c .before in
     let pre = held .before .before .before .before .pre in
-    let a = rank-accepted _ _ (pre .0) in
     let passes = part-passes _ _ _ (pre .0) (held .before .lanes .ensures) _ _ (window-passes _ _ _) (held .shown .ensures) in
-    (a .0, (a .1, (letters-accepted _ _ (pre .1 .1), passes)))
+    (rank-accepted _ _ (pre .0), (pre .1 .1, passes))
 
 returns : tie.Need-returns
 returns c =

@@ -2,7 +2,7 @@
 -- Assumes nothing.
 use mathlib.Core.Path.{sym, _∙_}
 use lib.Seq.{length-take-le}
-use Rattle.coxeter.proofs.Acceptance.{rank-accepted, letters-accepted}
+use Rattle.coxeter.proofs.Acceptance.{rank-accepted}
 use Rattle.coxeter.proofs.Basics.{length-window}
 use Rattle.coxeter.proofs.Outcomes.{written-part}
 use borrow.Author.Needs.{needs}
@@ -21,8 +21,7 @@ slice-aggregate-show c = sym (length-take-le _ _ (search needs))
 show-requires : tie.Need-show-requires
 show-requires c κs =
     let start = c .before .before .before in
-    let a = rank-accepted _ _ (start .pre .0) in
-    (a .0, (a .1, (length-take-le _ _ (search needs) ∙ c .before .lanes .ensures, letters-accepted _ _ (start .pre .1 .0))))
+    (rank-accepted _ _ (start .pre .0), (length-take-le _ _ (search needs) ∙ c .before .lanes .ensures, start .pre .1 .0))
 
 same-length : tie.Need-same-length
 same-length c = search needs
