@@ -26,13 +26,10 @@ fn back(kind: u8, n: usize, s: usize) -> usize
     if s < n {
         return s - 1;
     }
-    if kind == 1 {
-        return s - 1;
+    match kind {
+        1 | 2 => s - 1,
+        _ => s - 2,
     }
-    if kind == 2 {
-        return s - 1;
-    }
-    s - 2
 }
 
 // Step s, taken where it is allowed and makes the window shorter. Answers whether it was.

@@ -193,13 +193,10 @@ fn odd_negatives(w: &[i8]) -> bool
 fn has_odd_negatives(kind: u8, w: &[i8]) -> bool
     ensures { λ r. ⌜ r ≡ oddNegatives (kindOf kind) (now (w .entry)) ⌝ }
 {
-    if kind == 1 {
-        return false;
+    match kind {
+        1 | 2 => false,
+        _ => odd_negatives(w),
     }
-    if kind == 2 {
-        return false;
-    }
-    odd_negatives(w)
 }
 
 // Checks 9 to 11, where 5 and 6 passed.

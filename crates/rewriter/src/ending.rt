@@ -98,13 +98,10 @@ fn index_of(kind: u8, n: u8, i: u8, m: u8, l: u8) -> u8
     if j < n {
         return j;
     }
-    if kind == 1 {
-        return j;
+    match kind {
+        1 | 2 => j,
+        _ => j + 1,
     }
-    if kind == 2 {
-        return j;
-    }
-    j + 1
 }
 
 // The rule with the left side [i,j] x, if there is one, as it begins at `place`.

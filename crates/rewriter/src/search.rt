@@ -28,13 +28,10 @@ pub(crate) fn corner_of(kind: u8, n: u8) -> u8
     requires { ⌜ Ranked (kindOf kind) n ⌝ }
     ensures { λ r. ⌜ r ≡ levels (kindOf kind) n ⌝ }
 {
-    if kind == 1 {
-        return n;
+    match kind {
+        1 | 2 => n,
+        _ => n - 1,
     }
-    if kind == 2 {
-        return n;
-    }
-    n - 1
 }
 
 // The last index of the blocks of level i.
@@ -53,13 +50,10 @@ pub(crate) fn fork_of(kind: u8, n: u8) -> u8
     requires { ⌜ Ranked (kindOf kind) n ⌝ }
     ensures { λ r. ⌜ r ≡ scan.fork (kindOf kind) n ⌝ }
 {
-    if kind == 1 {
-        return 0;
+    match kind {
+        1 | 2 => 0,
+        _ => n - 2,
     }
-    if kind == 2 {
-        return 0;
-    }
-    n - 2
 }
 
 // The index of the block [i,j] with the letter x after it, or 0 where x leaves the way.

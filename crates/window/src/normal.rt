@@ -193,13 +193,10 @@ fn levels_of(kind: u8, n: usize) -> usize
     requires { ⌜ 1 ≤ n ⌝ }
     ensures { λ r. ⌜ r ≡ levels (kindOf kind) n ⌝ }
 {
-    if kind == 1 {
-        return n;
+    match kind {
+        1 | 2 => n,
+        _ => n - 1,
     }
-    if kind == 2 {
-        return n;
-    }
-    n - 1
 }
 
 // The normal form of the accepted window at the front of `work`, which is used up, written to the front of `out`; the answer is its length.

@@ -4,6 +4,7 @@
 -- Sections: how far back; one step; the loop.
 -- Assumes nothing.
 use mathlib.Core.Path.{_≡_, refl, sym, ap, _∙_}
+use mathlib.Core.Logic.{_⊎_, ⊎-elim}
 use mathlib.Core.Bool.{Bool, true, false, _&&_, and-eq-true-iff}
 use mathlib.Core.List.{List}
 use Prim.Native.Nat.{ℕ, _+_, _-_, _*_, _≤_, _<_}
@@ -15,7 +16,6 @@ use Rattle.coxeter.specs.Kinds.{Kind, A, B, D, kindOf, least, pick}
 use Rattle.coxeter.specs.Windows.{act}
 use Rattle.coxeter.specs.Length.{windowLength}
 use Rattle.coxeter.specs.Checks.{WindowOf}
-use Rattle.coxeter.proofs.KindLaws.{kindOf-one, kindOf-two, kindOf-three}
 use Rattle.coxeter.proofs.Levels.{Accepted, accepted-of-refusal}
 use Rattle.coxeter.proofs.Theorems.{act-passes}
 use Rattle.exchange.specs.Descents.{isDescent}
@@ -42,15 +42,12 @@ A≢D e = let z : _≡_ {A = ℕ} 0 1 = cc in omega arith
 B≢D : B ≡ D → ⊥
 B≢D e = let z : _≡_ {A = ℕ} 0 1 = cc in omega arith
 
-pub back-A : (k n s : ℕ) → 2 ≤ s → k ≡ 1 → Back (kindOf k) n s (s - 1)
-back-A k n s o e = rw (kindOf-one k e) (back-one A n s o (λ d f. A≢D d))
+pub back-straight : (k : Kind) (n s : ℕ) → 2 ≤ s → (k ≡ A) ⊎ (k ≡ B) → Back k n s (s - 1)
+back-straight k n s o = ⊎-elim (λ e. rw e (back-one A n s o (λ d f. A≢D d))) (λ e. rw e (back-one B n s o (λ d f. B≢D d)))
 
-pub back-B : (k n s : ℕ) → 2 ≤ s → k ≡ 2 → Back (kindOf k) n s (s - 1)
-back-B k n s o e = rw (kindOf-two k e) (back-one B n s o (λ d f. B≢D d))
-
-pub back-D : (k n s : ℕ) → (k ≡ 1 → ⊥) → (k ≡ 2 → ⊥) → least (kindOf k) ≤ n → n ≤ s → s ≤ n → Back (kindOf k) n s (s - 2)
-back-D k n s f g h l m =
-    let four : 4 ≤ n = rw (kindOf-three k f g) at h in
+pub back-fork : (k : Kind) (n s : ℕ) → k ≡ D → least k ≤ n → n ≤ s → s ≤ n → Back k n s (s - 2)
+back-fork k n s f h l m =
+    let four : 4 ≤ n = rw f at h in
     (omega arith, omega arith, λ t. (omega arith, λ d e. omega arith))
 
 -- ---- one step

@@ -1,25 +1,24 @@
 -- `checks::has_odd_negatives`, by cases on the kind.
 -- Assumes nothing.
-use Rattle.coxeter.proofs.KindLaws.{kindOf-one, kindOf-two, kindOf-three}
+use mathlib.Core.Logic.{⊎-elim}
+use Rattle.coxeter.proofs.KindLaws.{kindOf-one-or-two, kindOf-below, kindOf-above}
 use Rattle.coxeter.specs.Checks.{oddNegatives}
 use borrow.Author.Needs.{needs}
 use Rattle.refusals.proofs.checks.has_odd_negatives.Statement.{statement}
 use Rattle.refusals.proofs.checks.has_odd_negatives.Tie as tie
 
-returns : tie.Need-returns
-unfolding oddNegatives
-returns c = rw (kindOf-one _ (c .if1 .taken))
-
-returns-2 : tie.Need-returns-2
-unfolding oddNegatives
-returns-2 c = rw (kindOf-two _ (c .if2 .taken))
-
 odd-negatives-requires : tie.Need-odd-negatives-requires
 odd-negatives-requires c κs = search needs
 
-returns-3 : tie.Need-returns-3
+returns : tie.Need-returns
 unfolding oddNegatives
-returns-3 c = rw (kindOf-three _ (c .before .before .if1 .left) (c .before .if2 .left)) (c .odd-negatives .ensures)
+returns c = ⊎-elim (λ e. rw e) (λ e. rw e) (kindOf-one-or-two _ (c .before .if1 .left) (c .if2 .taken))
+
+returns-2 : tie.Need-returns-2
+unfolding oddNegatives
+returns-2 c =
+    let d = ⊎-elim (λ w. kindOf-below _ (w .taken)) (λ w. kindOf-above _ (w .1 .left)) (c .before .if1 .came) in
+    rw d (c .odd-negatives .ensures)
 
 pub has-odd-negatives-spec : {M : Type 1} → statement M
-has-odd-negatives-spec = tie.close (tie.spec returns returns-2 odd-negatives-requires returns-3)
+has-odd-negatives-spec = tie.close (tie.spec odd-negatives-requires returns returns-2)
