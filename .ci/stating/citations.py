@@ -1,0 +1,108 @@
+"""Reads docs/SPECIFICATION.md, the clauses, and docs/statements.txt, which says what settles each of them."""
+import re
+from dataclasses import dataclass, field
+
+SPECIFICATION, CITATIONS = "docs/SPECIFICATION.md", "docs/statements.txt"
+# what settles a clause; vectors, edits and notes only stand beside it
+SETTLES = ("law", "contract", "definition", "field", "type", "row", "code", "tests", "gate", "file", "checker", "outside")
+
+
+@dataclass
+class Clause:
+    name: str
+    text: str
+    section: "Section"
+    line: int
+
+
+@dataclass
+class Section:
+    name: str
+    title: str
+    clauses: list = field(default_factory=list)
+
+
+@dataclass
+class Citation:
+    kind: str
+    where: str  # a path without its ending, a crate, or nothing
+    names: list  # of a test, a note and the like: the sentence
+    line: int
+
+
+def plain(text):
+    """The text without its links."""
+    return re.sub(r"\[([^\]]*)\]\([^)]*\)", r"\1", text)
+
+
+def sections_of(source):
+    """The sections of the specification that have clauses; a clause begins with its identifier in bold."""
+    sections, clause = [], None
+    for number, text in enumerate(source.split("\n"), 1):
+        heading = re.match(r"## ([A-Z]+) (.+)", text)
+        begin = re.match(r"(?:[-*] )?\*\*([A-Z]+[0-9]+[a-z]?)\*\*[.:]? *(.*)", re.sub(r"<a [^>]*></a>", "", text))
+        if text.startswith("#"):
+            clause = None
+            if text.startswith("## "):
+                sections.append(Section(*heading.groups()) if heading else Section("", text[3:]))
+        elif begin and sections:
+            clause = Clause(begin.group(1), plain(begin.group(2)), sections[-1], number)
+            sections[-1].clauses.append(clause)
+        elif clause and text.startswith("  ") and text.strip():
+            clause.text += " " + plain(text.strip())
+        else:
+            clause = None
+    return [section for section in sections if section.clauses]
+
+
+FORMS = (
+    ("definition", r"(\w+/specs/[\w/]+): (.+)"),
+    ("law", r"(\w+/proofs/[\w/]+): (.+)"),
+    ("vectors", r"vectors (\w+/proofs/[\w/]+): (.+)"),
+    ("row", r"rows()?: (.+)"),
+    ("edit", r"edits (\w+): (.+)"),
+    ("code", r"code (\w+/src/[\w/]+): (.+)"),
+    ("type", r"types (\w+): (.+)"),
+)
+PLAIN, OF_FILES = ("note", "checker", "outside"), ("tests", "gate", "file")
+SENTENCES = PLAIN + OF_FILES
+
+
+def citations_of(source):
+    """Clause by clause the citations of statements.txt, and what is wrong with its form."""
+    found, wrong, clause = {}, [], None
+    for number, text in enumerate(source.split("\n"), 1):
+        if not text.strip() or text.startswith("#"):
+            continue
+        if not text.startswith(" "):
+            clause = text.strip()
+            if clause in found:
+                wrong.append(f"{CITATIONS}:{number}: {clause} stands twice")
+            found.setdefault(clause, [])
+            continue
+        if clause is None:
+            wrong.append(f"{CITATIONS}:{number}: a citation before any clause")
+            continue
+        citation = cited(text.strip(), number)
+        if citation is None:
+            wrong.append(f"{CITATIONS}:{number}: cannot read {text.strip()}")
+        else:
+            found[clause].append(citation)
+    return found, wrong
+
+
+def cited(text, number):
+    for kind in PLAIN:
+        if text.startswith(f"{kind}: "):
+            return Citation(kind, "", [text[len(kind) + 2:]], number)
+    path = re.fullmatch(rf"({'|'.join(OF_FILES)}) ([\w./-]+): (.+)", text)
+    if path:
+        return Citation(path.group(1), path.group(2), [path.group(3)], number)
+    for kind, form in FORMS:
+        match = re.fullmatch(form, text)
+        if match:
+            return Citation(kind, match.group(1) or "", [name.strip() for name in match.group(2).split(",")], number)
+    contract = re.fullmatch(r"(\w+): ([\w, ]+)", text)
+    if contract:
+        return Citation("contract", contract.group(1), [name.strip() for name in contract.group(2).split(",")], number)
+    return None
