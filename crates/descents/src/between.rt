@@ -2,24 +2,17 @@
 // exactly when some word over the allowed steps leads there, and is then the least of those words.
 use crate::allowed::is_allowed;
 use crate::allowed::set_refusal;
-use crate::work::inverted;
-use crate::work::lanes;
-use crate::work::multiplied;
+use crate::work::few_letters;
 use crate::work::no_letters;
-use refusals::ranked_windows_refusal;
 use window::Answer;
-use window::normal_form_of_window;
+use window::normal_form_between;
 ghost use mathlib.Core.Path.{_≡_};
 ghost use mathlib.Core.Bool.{false, not};
+ghost use Prim.Native.Nat.{_*_, _≤_};
 ghost use lib.ListN.{length};
-ghost use Rattle.coxeter.specs.Kinds as kinds;
-ghost use Rattle.coxeter.specs.Kinds.{kindOf};
-ghost use Rattle.coxeter.specs.Windows.{product, inverse};
-ghost use Rattle.coxeter.specs.Checks.{check, wrongLetter, Rig, WindowOf};
+ghost use Rattle.coxeter.specs.Checks.{check, wrongLetter};
 ghost use Rattle.coxeter.specs.Calls.{Yields, writes};
-ghost use Rattle.coxeter.proofs.Fronts.{Front};
-ghost use Rattle.exchange.specs.Allowed.{over, allows};
-ghost use Rattle.exchange.specs.Between.{between};
+ghost use Rattle.exchange.specs.Allowed.{over, allows, setRefusal};
 ghost use Rattle.exchange.specs.BetweenCalls.{betweenWindows};
 
 // Whether every letter of a word of steps is allowed.
@@ -54,32 +47,25 @@ fn write_allowed(allowed: u64, word: &[u8], out: &mut [u8]) -> Answer
     Answer::Length(l)
 }
 
-// The window between two accepted windows, which leads from the first to the second.
-fn window_between(kind: u8, rank: u8, from: &[i8], to: &[i8]) -> [i8; 64]
-    requires { ⌜ Rig kind rank ⌝ }
-    requires { ⌜ WindowOf (kindOf kind) rank (now from) ⌝ }
-    requires { ⌜ WindowOf (kindOf kind) rank (now to) ⌝ }
-    ensures { λ r. ⌜ (64 ≡ length r) × Front 64 (product (inverse (now (from .entry))) (now (to .entry))) r (kinds.lanes (kindOf kind) rank) ⌝ }
+// The call after checks 5, 6 and 16. The normal form of the window between the two is first written to `form`, which has room for it.
+fn write_between(
+    kind: u8,
+    rank: u8,
+    allowed: u64,
+    from: &[i8],
+    to: &[i8],
+    form: &mut [u8],
+    out: &mut [u8],
+) -> Answer
+    requires { ⌜ setRefusal kind rank allowed ≡ 0 ⌝ }
+    requires { ⌜ rank * rank ≤ length (now form) ⌝ }
+    ensures { λ r. ⌜ Yields (betweenWindows kind rank allowed (now (from .entry)) (now (to .entry)) (now (out .entry))) r (now (out .exit)) ⌝ }
 {
-    let m = lanes(kind, rank);
-    let back = inverted(kind, rank, from);
-    multiplied(kind, rank, &back[..m], to)
-}
-
-// Its normal form, at the front of `form`. Answers its length.
-fn write_between(kind: u8, rank: u8, from: &[i8], to: &[i8], form: &mut [u8]) -> usize
-    requires { ⌜ Rig kind rank ⌝ }
-    requires { ⌜ WindowOf (kindOf kind) rank (now from) ⌝ }
-    requires { ⌜ WindowOf (kindOf kind) rank (now to) ⌝ }
-    requires { ⌜ 4096 ≡ length (now form) ⌝ }
-    ensures { λ r. ⌜ Front 4096 (between (kindOf kind) rank (now (from .entry)) (now (to .entry))) (now (form .exit)) r ⌝ }
-{
-    let m = lanes(kind, rank);
-    let work = window_between(kind, rank, from, to);
-    let Answer::Length(l) = normal_form_of_window(kind, rank, &work[..m], form) else {
-        return 0;
+    let answer = normal_form_between(kind, rank, from, to, form);
+    let Answer::Length(l) = answer else {
+        return answer;
     };
-    l
+    write_allowed(allowed, &form[..l], out)
 }
 
 // Writes to the front of `out` the normal form of the word over allowed steps that leads from one window to another, and answers its length: of all
@@ -100,11 +86,10 @@ pub fn between_windows(
     if refusal != 0 {
         return Answer::Refused(refusal);
     }
-    let refusal = ranked_windows_refusal(kind, rank, from, to);
-    if refusal != 0 {
-        return Answer::Refused(refusal);
+    if rank <= 8 {
+        let mut form = few_letters();
+        return write_between(kind, rank, allowed, from, to, &mut form, out);
     }
     let mut form = no_letters();
-    let l = write_between(kind, rank, from, to, &mut form);
-    write_allowed(allowed, &form[..l], out)
+    write_between(kind, rank, allowed, from, to, &mut form, out)
 }

@@ -3,10 +3,14 @@ use crate::stripping::strip;
 use crate::work::form_length;
 use crate::work::inverted;
 use crate::work::lanes;
-use crate::work::multiplied;
 use crate::work::shown;
 use exchange::Split;
-use window::normal_form_of_window;
+use window::Answer;
+use window::normal_form_of_inverse;
+use window::normal_form_of_product;
+ghost use mathlib.Core.Path.{_≡_};
+ghost use lib.Dec.{leb};
+ghost use lib.ListN.{length};
 ghost use Rattle.coxeter.specs.Kinds.{kindOf};
 ghost use Rattle.coxeter.specs.Windows.{window, product, inverse};
 ghost use Rattle.coxeter.specs.Checks.{Rig, WordOf, WindowOf};
@@ -15,31 +19,21 @@ ghost use Rattle.exchange.specs.Allowed.{allows};
 ghost use Rattle.exchange.specs.Split.{firstWord, secondWord};
 ghost use Rattle.exchange.specs.SplitCalls.{parts, SplitYields};
 
-// The normal forms of two accepted windows, each to the front of its output, where both have room.
-fn write_forms(kind: u8, rank: u8, a: &[i8], b: &[i8], first: &mut [u8], second: &mut [u8]) -> Split
-    requires { ⌜ Rig kind rank ⌝ }
-    requires { ⌜ WindowOf (kindOf kind) rank (now a) ⌝ }
-    requires { ⌜ WindowOf (kindOf kind) rank (now b) ⌝ }
-    ensures { λ r. ⌜ SplitYields (parts 0 (normalForm (kindOf kind) rank (now (a .entry))) (normalForm (kindOf kind) rank (now (b .entry)))
-        (now (first .entry)) (now (second .entry))) r (now (first .exit)) (now (second .exit)) ⌝ }
+// Whether `room` letters are enough for the normal form of an accepted window's inverse, which is as long as that of the window. No normal form has more
+// than n × n letters, so that the length is measured only where there is less room.
+fn has_room(kind: u8, rank: u8, w: &[i8], room: usize) -> bool
+    requires { ⌜ Rig kind rank × WindowOf (kindOf kind) rank (now w) ⌝ }
+    ensures { λ r. ⌜ r ≡ leb (length (normalForm (kindOf kind) rank (inverse (now (w .entry))))) room ⌝ }
 {
-    let l = form_length(kind, rank, a);
-    if first.len() < l {
-        return Split::Refused(14);
+    let n = rank as usize;
+    if n * n <= room {
+        return true;
     }
-    let m = form_length(kind, rank, b);
-    if second.len() < m {
-        return Split::Refused(14);
-    }
-    normal_form_of_window(kind, rank, a, first);
-    normal_form_of_window(kind, rank, b, second);
-    Split::Words {
-        first: l,
-        second: m,
-    }
+    form_length(kind, rank, w) <= room
 }
 
-// The two words of an accepted window w, `rest` being the inverse of what is left of it: what was taken off is w times `rest`.
+// The two words of an accepted window w, `rest` being the inverse of what is left of it: what was taken off is w times `rest`. The second output is
+// checked before the first is written.
 fn write_parts(
     kind: u8,
     rank: u8,
@@ -51,15 +45,23 @@ fn write_parts(
     requires { ⌜ Rig kind rank ⌝ }
     requires { ⌜ WindowOf (kindOf kind) rank (now w) ⌝ }
     requires { ⌜ WindowOf (kindOf kind) rank (now rest) ⌝ }
-    requires { ⌜ WindowOf (kindOf kind) rank (product (now w) (now rest)) ⌝ }
     ensures { λ r. ⌜ SplitYields (parts 0 (normalForm (kindOf kind) rank (product (now (w .entry)) (now (rest .entry))))
         (normalForm (kindOf kind) rank (inverse (now (rest .entry)))) (now (first .entry)) (now (second .entry)))
         r (now (first .exit)) (now (second .exit)) ⌝ }
 {
-    let m = lanes(kind, rank);
-    let a = multiplied(kind, rank, w, rest);
-    let b = inverted(kind, rank, rest);
-    write_forms(kind, rank, &a[..m], &b[..m], first, second)
+    if !has_room(kind, rank, rest, second.len()) {
+        return Split::Refused(14);
+    }
+    let Answer::Length(l) = normal_form_of_product(kind, rank, w, rest, first) else {
+        return Split::Refused(14);
+    };
+    let Answer::Length(m) = normal_form_of_inverse(kind, rank, rest, second) else {
+        return Split::Refused(14);
+    };
+    Split::Words {
+        first: l,
+        second: m,
+    }
 }
 
 // The split of an accepted window: steps are taken off its front, that is, off the end of its inverse.

@@ -3,14 +3,13 @@ use window::Answer;
 use window::inverse_of_window;
 use window::length_of_window;
 use window::normal_form_of_word;
-use window::product_of_windows;
 use window::window_of_word;
 ghost use mathlib.Core.Path.{_≡_};
 ghost use lib.ListN.{length};
 ghost use Rattle.coxeter.specs.Kinds as kinds;
 ghost use Rattle.coxeter.specs.Kinds.{kindOf};
-ghost use Rattle.coxeter.specs.Windows.{window, product, inverse};
-ghost use Rattle.coxeter.specs.Checks.{Rig, WordOf, WindowOf};
+ghost use Rattle.coxeter.specs.Windows.{window, inverse};
+ghost use Rattle.coxeter.specs.Checks.{rankRefusal, wordRefusal, windowRefusal};
 ghost use Rattle.coxeter.specs.NormalForm.{normalForm, wordNormalForm};
 ghost use Rattle.coxeter.proofs.Fronts.{Front};
 
@@ -19,6 +18,13 @@ pub(crate) fn no_letters() -> [u8; 4096]
     ensures { λ r. ⌜ 4096 ≡ length r ⌝ }
 {
     [0u8; 4096]
+}
+
+// One with room for every normal form of rank 8 or less, which takes no time to make.
+pub(crate) fn few_letters() -> [u8; 64]
+    ensures { λ r. ⌜ 64 ≡ length r ⌝ }
+{
+    [0u8; 64]
 }
 
 // A window with room for every lane count.
@@ -58,18 +64,6 @@ pub(crate) fn write_form(kind: u8, rank: u8, word: &[u8], form: &mut [u8]) -> us
         return 0;
     };
     l
-}
-
-// The product of two accepted windows.
-pub(crate) fn multiplied(kind: u8, rank: u8, u: &[i8], v: &[i8]) -> [i8; 64]
-    requires { ⌜ Rig kind rank ⌝ }
-    requires { ⌜ WindowOf (kindOf kind) rank (now u) ⌝ }
-    requires { ⌜ WindowOf (kindOf kind) rank (now v) ⌝ }
-    ensures { λ r. ⌜ (64 ≡ length r) × Front 64 (product (now (u .entry)) (now (v .entry))) r (kinds.lanes (kindOf kind) rank) ⌝ }
-{
-    let mut work = blank();
-    product_of_windows(kind, rank, u, v, &mut work);
-    work
 }
 
 // The inverse of an accepted window.

@@ -5,6 +5,7 @@
 // included. The refusals are 5 for the kind, 6 for the rank, 7 and 8 for a word's length and letters, 9 to 11 for a window's length, entries
 // and signs, and 14 for an output that is too short. An accepted call writes to the front of its output and leaves what lies behind.
 mod action;
+mod combined;
 mod entries;
 mod forms;
 mod length;
@@ -13,6 +14,9 @@ mod product;
 mod shown;
 mod words;
 
+pub use combined::normal_form_between;
+pub use combined::normal_form_of_inverse;
+pub use combined::normal_form_of_product;
 pub use coxeter::Answer;
 pub use coxeter::Choice;
 pub use coxeter::Counted;

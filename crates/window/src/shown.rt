@@ -18,7 +18,7 @@ ghost use Rattle.coxeter.specs.Checks.{Rig, WordOf};
 ghost use Rattle.coxeter.specs.Calls.{written, countedOf, equalWords, samePresets};
 
 // A window with room for every lane count.
-fn blank() -> [i8; 64]
+pub(crate) fn blank() -> [i8; 64]
     ensures { λ r. ⌜ length r ≡ 64 ⌝ }
 {
     [0i8; 64]

@@ -5,55 +5,47 @@
 use mathlib.Core.Path.{_≡_, refl, sym, ap, _∙_}
 use mathlib.Core.Bool.{Bool, true, false, not}
 use mathlib.Core.List.{List, [], _∷_, _++_}
-use Prim.Native.Nat.{ℕ, _+_, _≤_, _<_}
+use Prim.Native.Nat.{ℕ, _+_, _*_, _≤_, _<_}
+use native.Mathlib.Nat.{mul-le-mul}
+use native.Mathlib.Decide.{ℕ-discrete}
 use native.Mathlib.Omega.{arith}
 use lib.IntN.{ℤ}
 use lib.ListN.{length, getD, take, drop, drop-of-length-le}
-use lib.Seq.{take-length}
-use borrow.Author.Tests.{ne-eqb, le-ltb}
+use lib.Seq.{take-length, length-take-le}
+use borrow.Author.Tests.{ne-eqb, le-ltb, not-true, not-false}
 use Rattle.coxeter.specs.declared.Answer.{Answer}
 use Rattle.coxeter.specs.declared.Answer.the-variants as answer
 use Rattle.coxeter.specs.Kinds.{kindOf}
 use Rattle.coxeter.specs.Windows.{product, inverse}
 use Rattle.coxeter.specs.Checks.{check, _then_, rankRefusal, windowRefusal, wrongLetter, Rig, WindowOf}
 use Rattle.coxeter.specs.NormalForm.{normalForm}
-use Rattle.coxeter.specs.Calls.{Yields, written, writes, normalFormOfWindow}
-use Rattle.coxeter.proofs.Acceptance.{rank-accepted, lanes-le}
-use Rattle.coxeter.proofs.Levels.{Accepted, accepted-of-refusal, refusal-of-accepted}
-use Rattle.coxeter.proofs.Inverses.{inverse-accepted}
-use Rattle.coxeter.proofs.Lengths.{length-normalForm}
+use Rattle.coxeter.specs.Calls.{Yields, written, writes}
+use Rattle.coxeter.proofs.Acceptance.{rank-accepted, windows-accepted}
+use Rattle.coxeter.proofs.Levels.{Accepted, accepted-of-refusal}
 use Rattle.coxeter.proofs.Lists.{drop-next}
 use Rattle.coxeter.proofs.LetterLaws.{letter-within-cons}
 use Rattle.coxeter.proofs.NormalForms.{normalForm-letters}
-use Rattle.coxeter.proofs.PairWeights.{windowLength-le-4096}
 use Rattle.coxeter.proofs.Refusals.{then-zero, then-none, then-some, then-assoc}
-use Rattle.coxeter.proofs.Outcomes.{writes-refused}
-use Rattle.coxeter.proofs.Fronts.{Front, front-written, never-refused}
+use Rattle.coxeter.proofs.Outcomes.{writes-refused, written-front}
 use Rattle.exchange.specs.Allowed.{over, allows, setRefusal}
 use Rattle.exchange.specs.Between.{between, reachable}
 use Rattle.exchange.specs.BetweenCalls.{unreachable, betweenRefusal, betweenWindows}
 use Rattle.exchange.proofs.Between.{between-accepted}
+use Rattle.descents.proofs.Answers.{length-is-no-refusal, told-length, told-refused}
+use Rattle.descents.proofs.work.Windows.{form-le-square}
 
 -- ---- letters
-
-is-false : (t : Bool) → not t ≡ true → t ≡ false
-is-false true e = sym e
-is-false false e = refl
-
-is-true : (t : Bool) → not t ≡ false → t ≡ true
-is-true true e = refl
-is-true false e = sym e
 
 module _ (allowed : ℕ → Bool) (u : List ℕ) (i : ℕ) (s : over allowed u ≡ over allowed (drop i u)) where
   -- t is whether the letter at i is allowed
   module _ (t : Bool) (h : i < length u) (e : t ≡ allowed (getD u i 0)) where
     pub over-stop : not t ≡ true → false ≡ over allowed u
     unfolding over
-    over-stop f = sym (s ∙ rw (drop-next u i 0 h, ← e, is-false t f))
+    over-stop f = sym (s ∙ rw (drop-next u i 0 h, ← e, not-true t f))
 
     pub over-next : not t ≡ false → over allowed u ≡ over allowed (drop (i + 1) u)
     unfolding over
-    over-next f = s ∙ rw (drop-next u i 0 h, ← e, is-true t f)
+    over-next f = s ∙ rw (drop-next u i 0 h, ← e, not-false t f)
 
   pub over-end : length u ≤ i → true ≡ over allowed u
   unfolding over
@@ -81,79 +73,90 @@ copied u out after e = e ∙ ap (λ (x : List ℕ). x ++ drop (length u) out) (t
 
 -- ---- the window between two windows and its normal form
 
-small : (k n : ℕ) (x : List ℤ) → Rig k n → Accepted (kindOf k) n x → length x ≤ 64
-small k n x r p = lanes-le k n (length x) r (p .size)
+-- what there is room for up to rank 8 and up to rank 64
+pub square-le-64 : (n : ℕ) → n ≤ 8 → n * n ≤ 64
+square-le-64 n h = mul-le-mul {n₁ = n} {m₁ = n} {n₂ = 8} {m₂ = 8} h h
 
--- the inverse as it was handed on is accepted
-pub back-accepted : (k n : ℕ) (u v : List ℤ) → u ≡ inverse v → WindowOf (kindOf k) n v → WindowOf (kindOf k) n u
-back-accepted k n u v e a = rw e (refusal-of-accepted (kindOf k) n (inverse v) (inverse-accepted (kindOf k) n v (accepted-of-refusal (kindOf k) n v a)))
-
-module _ (k n : ℕ) (v w : List ℤ) (r : Rig k n) (a : WindowOf (kindOf k) n v) (b : WindowOf (kindOf k) n w) where
-  first : Accepted (kindOf k) n v
-  first = accepted-of-refusal (kindOf k) n v a
-
-  middle : Accepted (kindOf k) n (product (inverse v) w)
-  middle = between-accepted (kindOf k) n v w first (accepted-of-refusal (kindOf k) n w b)
-
-  -- x is the window between the two as it was handed on, and y what the call on it answered
-  module _ (x : List ℤ) (q : x ≡ product (inverse v) w) (out form : List ℕ) (y : Answer) (f : 4096 ≡ length out)
-      (e : Yields (normalFormOfWindow k n x out) y form) where
-    form-small : length (normalForm (kindOf k) n (product (inverse v) w)) ≤ 4096
-    form-small =
-        let x = product (inverse v) w in
-        rw (length-normalForm (kindOf k) n x middle) (windowLength-le-4096 (kindOf k) n x middle (small k n x r middle))
-
-    none : (rankRefusal k n then windowRefusal (kindOf k) n (product (inverse v) w)) ≡ 0
-    none = then-none _ _ r ∙ refusal-of-accepted (kindOf k) n (product (inverse v) w) middle
-
-    yields : Yields (writes (rankRefusal k n then windowRefusal (kindOf k) n (product (inverse v) w))
-        (normalForm (kindOf k) n (product (inverse v) w)) out) y form
-    unfolding normalFormOfWindow
-    yields = rw q at e
-
-    pub between-front : (m : ℕ) → y ≡ answer.Length m → Front 4096 (between (kindOf k) n v w) form m
-    unfolding between
-    between-front m g = front-written 4096 _ _ out form none form-small f y yields m g
-
-    pub between-never : (s : ℕ) → y ≡ answer.Refused s → ⊥
-    between-never s g = never-refused 4096 _ _ out form none form-small f y yields s g
-
-  -- the letters of the word between them
-  pub between-letters : (u : List ℕ) → u ≡ between (kindOf k) n v w → wrongLetter 64 u ≡ false
-  unfolding between
-  between-letters u e =
-      rw e (letters-le n 64 (normalForm (kindOf k) n (product (inverse v) w)) (rank-accepted k n r .1)
-      (normalForm-letters (kindOf k) n (product (inverse v) w) middle))
+pub square-le-4096 : (n : ℕ) → n ≤ 64 → n * n ≤ 4096
+square-le-4096 n h = mul-le-mul {n₁ = n} {m₁ = n} {n₂ = 64} {m₂ = 64} h h
 
 -- ---- the call
 
-module _ (k n set : ℕ) (v w : List ℤ) (out : List ℕ) where
-  -- p is what check 16 and those before it found
-  module _ (p : ℕ) (e : p ≡ setRefusal k n set) where
-    pub refused-by-set : (p ≡ 0 → ⊥) → Yields (betweenWindows k n set v w out) (answer.Refused p) out
-    unfolding betweenWindows betweenRefusal
-    refused-by-set f = writes-refused _ _ p _ out refl (e ∙ sym (then-some _ _ (λ z. f (e ∙ z)))) f
+pub refused-by-set : (k n set : ℕ) (v w : List ℤ) (out : List ℕ) (p : ℕ) → p ≡ setRefusal k n set → (p ≡ 0 → ⊥)
+    → Yields (betweenWindows k n set v w out) (answer.Refused p) out
+unfolding betweenWindows betweenRefusal
+refused-by-set k n set v w out p e f = writes-refused _ _ p _ out refl (e ∙ sym (then-some _ _ (λ z. f (e ∙ z)))) f
 
-    -- q is what the checks of the windows found
-    module _ (z : p ≡ 0) (q : ℕ) (g : q ≡ (rankRefusal k n then windowRefusal (kindOf k) n v then windowRefusal (kindOf k) n w)) where
-      rank : Rig k n
-      unfolding setRefusal
-      rank = then-zero (rankRefusal k n) _ (sym e ∙ z) .0
+pub set-accepted : (k n set : ℕ) → setRefusal k n set ≡ 0 → Rig k n
+unfolding setRefusal
+set-accepted k n set z = then-zero (rankRefusal k n) _ z .0
 
-      -- the windows' checks, then 19
-      rest : betweenRefusal k n set v w ≡ (q then check 19 (unreachable (kindOf k) n set v w))
-      unfolding betweenRefusal
-      rest =
-          then-none _ _ (sym e ∙ z)
-          ∙ sym (then-assoc (windowRefusal (kindOf k) n v) (windowRefusal (kindOf k) n w) _)
-          ∙ ap (λ (x : ℕ). x then check 19 (unreachable (kindOf k) n set v w)) (sym (g ∙ then-none _ _ rank))
+-- checks 5, 6 and 16 refuse nothing
+module _ (k n set : ℕ) (v w : List ℤ) (z : setRefusal k n set ≡ 0) where
+  rank : Rig k n
+  rank = set-accepted k n set z
 
-      pub refused-by-windows : (q ≡ 0 → ⊥) → Yields (betweenWindows k n set v w out) (answer.Refused q) out
-      unfolding betweenWindows
-      refused-by-windows f = writes-refused _ _ q _ out refl (sym (rest ∙ then-some q _ f)) f
+  abbrev checks : ℕ
+  checks = rankRefusal k n then windowRefusal (kindOf k) n v then windowRefusal (kindOf k) n w
 
-      -- u is the word between the windows as it was written
-      pub answered : q ≡ 0 → (u : List ℕ) → u ≡ between (kindOf k) n v w → (y : Answer) (after : List ℕ)
-          → Yields (writes (check 19 (not (over (allows set) u))) u out) y after → Yields (betweenWindows k n set v w out) y after
-      unfolding betweenWindows unreachable reachable
-      answered y u m a after d = rw (rest, y, ← m) d
+  abbrev form : List ℕ
+  form = normalForm (kindOf k) n (product (inverse v) w)
+
+  -- the windows' checks, then 19
+  rest : betweenRefusal k n set v w ≡ (checks then check 19 (unreachable (kindOf k) n set v w))
+  unfolding betweenRefusal
+  rest =
+      then-none _ _ z
+      ∙ sym (then-assoc (windowRefusal (kindOf k) n v) (windowRefusal (kindOf k) n w) _)
+      ∙ ap (λ (x : ℕ). x then check 19 (unreachable (kindOf k) n set v w)) (sym (then-none _ _ rank))
+
+  middle : checks ≡ 0 → Accepted (kindOf k) n (product (inverse v) w)
+  middle c =
+      let p = windows-accepted k n v w checks refl c in
+      between-accepted (kindOf k) n v w (accepted-of-refusal (kindOf k) n v (p .1 .0)) (accepted-of-refusal (kindOf k) n w (p .1 .1))
+
+  -- y is what the call on the two windows answered, with room in `before` for every normal form, and `after` what it left there
+  module _ (before after : List ℕ) (y : Answer) (room : n * n ≤ length before)
+      (e : Yields (writes (rankRefusal k n then windowRefusal (kindOf k) n v then windowRefusal (kindOf k) n w)
+      (normalForm (kindOf k) n (product (inverse v) w)) before) y after) where
+    pub refused-by-windows : (s : ℕ) (out : List ℕ) → y ≡ answer.Refused s → Yields (betweenWindows k n set v w out) y out
+    unfolding betweenWindows
+    refused-by-windows s out q = elim (ℕ-discrete checks 0) [ yes c ↦ absurd (never c) | no f ↦ refused f ]
+      where
+        never : checks ≡ 0 → ⊥
+        never c = omega (arith, told-refused checks form before after y c e s q .0, form-le-square (kindOf k) n (product (inverse v) w) (middle c), room)
+
+        refused : (checks ≡ 0 → ⊥) → Yields (betweenWindows k n set v w out) y out
+        refused f =
+            let d = writes-refused (writes checks form before) checks checks form before refl refl f in
+            let a : y ≡ answer.Refused checks = e .0 ∙ sym (d .0) in
+            rw a (writes-refused _ _ checks _ out refl (sym (rest ∙ then-some checks _ f)) f)
+
+    module _ (m : ℕ) (q : y ≡ answer.Length m) where
+      passed : checks ≡ 0
+      passed = elim (ℕ-discrete checks 0) [ yes c ↦ c | no f ↦ absurd (never f) ]
+        where
+          never : (checks ≡ 0 → ⊥) → ⊥
+          never f =
+              let d = writes-refused (writes checks form before) checks checks form before refl refl f in
+              length-is-no-refusal m checks (sym q ∙ e .0 ∙ sym (d .0))
+
+      held : (m ≡ length form) × (m ≤ length before) × (after ≡ written 0 form before)
+      held = told-length checks form before after y passed e m q
+
+      stored : (length after ≡ length before) × (take m after ≡ form)
+      stored = written-front m form before after (sym (held .0)) (held .1) (held .2)
+
+      pub form-room : m ≤ length after
+      form-room = omega (arith, held .1, stored .0)
+
+      pub form-length : m ≡ length (take m after)
+      form-length = sym (length-take-le m after form-room)
+
+      pub form-letters : wrongLetter 64 (take m after) ≡ false
+      form-letters = rw (stored .1) (letters-le n 64 form (rank-accepted k n rank .1) (normalForm-letters (kindOf k) n _ (middle passed)))
+
+      pub answered : (out : List ℕ) (x : Answer) (end : List ℕ)
+          → Yields (writes (check 19 (not (over (allows set) (take m after)))) (take m after) out) x end → Yields (betweenWindows k n set v w out) x end
+      unfolding betweenWindows unreachable reachable between
+      answered out x end d = rw (rest, passed) (rw (stored .1) at d)

@@ -1,25 +1,41 @@
 -- The two words of a split from the windows in work arrays: each window is the front of its array, and any list of allowed steps that strips the
 -- inverse leads to the two words of the definition.
 -- Assumes nothing.
-use mathlib.Core.Path.{_≡_, sym, _∙_}
+use mathlib.Core.Path.{_≡_, refl, sym, _∙_}
+use mathlib.Core.Bool.{Bool, true, false, not}
 use mathlib.Core.List.{List, _++_}
-use Prim.Native.Nat.{ℕ, _≤_}
+use Prim.Native.Nat.{ℕ, _*_, _≤_, _<_}
+use native.Mathlib.Nat.{lt-of-not-le}
+use native.Mathlib.Decide.{decLe}
 use native.Mathlib.Omega.{arith}
+use lib.Dec.{leb}
 use lib.IntN.{ℤ}
 use lib.ListN.{length, take, drop, length-append}
 use lib.Seq.{take-at}
-use Rattle.coxeter.specs.Kinds.{kindOf}
+use borrow.Author.Tests.{le-leb, leb-true, leb-false, not-true, not-false}
+use Rattle.coxeter.specs.declared.Answer.{Answer}
+use Rattle.coxeter.specs.declared.Answer.the-variants as answer
+use Rattle.coxeter.specs.Kinds.{Kind, kindOf, least}
 use Rattle.coxeter.specs.Windows.{window, product, inverse}
-use Rattle.coxeter.specs.Checks.{Rig, WindowOf}
+use Rattle.coxeter.specs.Checks.{_then_, rankRefusal, windowRefusal, Rig, WindowOf}
 use Rattle.coxeter.specs.NormalForm.{normalForm}
-use Rattle.coxeter.proofs.Acceptance.{Ranked, rank-accepted}
-use Rattle.coxeter.proofs.Levels.{accepted-of-refusal, refusal-of-accepted}
+use Rattle.coxeter.specs.Calls.{Yields, writes}
+use Rattle.coxeter.proofs.Acceptance.{rank-accepted}
+use Rattle.coxeter.proofs.Levels.{Accepted, accepted-of-refusal, refusal-of-accepted}
+use Rattle.coxeter.proofs.Inverses.{inverse-accepted}
+use Rattle.coxeter.proofs.Lengths.{length-normalForm}
+use Rattle.coxeter.proofs.Refusals.{then-none}
 use Rattle.coxeter.proofs.Theorems.{window-passes, inverse-passes}
 use Rattle.exchange.specs.declared.Split.{Split}
+use Rattle.exchange.specs.declared.Split.the-variants.{Words, Refused}
 use Rattle.exchange.specs.Allowed.{allows}
 use Rattle.exchange.specs.Split.{firstWord, secondWord}
 use Rattle.exchange.specs.SplitCalls.{parts, SplitYields}
-use Rattle.exchange.proofs.Stripping.{Strips, rest-accepted, taken-accepted, split-by-strips}
+use Rattle.exchange.proofs.Shortest.{windowLength-inverse}
+use Rattle.exchange.proofs.SplitOutcomes.{first-short, second-short, parts-written}
+use Rattle.exchange.proofs.Stripping.{Strips, rest-accepted, split-by-strips}
+use Rattle.descents.proofs.Answers.{told-length, told-refused}
+use Rattle.descents.proofs.work.Windows.{form-le-square}
 
 -- the first m entries of the array r become x
 module _ (m : ℕ) (r x : List ℤ) (e : m ≡ length (take m r)) (f : length x ≡ length (take m r)) where
@@ -32,16 +48,56 @@ module _ (m : ℕ) (r x : List ℤ) (e : m ≡ length (take m r)) (f : length x 
   pub stored-size : m ≡ length (take m (x ++ drop m r))
   stored-size = rw stored-is (e ∙ sym f)
 
--- a and b are the two windows as they were computed
-module _ (k n : ℕ) (w x a b : List ℤ) (p : a ≡ product w x) (q : b ≡ inverse x) where
-  pub forms-asked : Rig k n → WindowOf (kindOf k) n x → WindowOf (kindOf k) n (product w x)
-      → Rig k n × (WindowOf (kindOf k) n a × WindowOf (kindOf k) n b)
-  forms-asked h f g = (h, (rw p g, rw q (inverse-passes (kindOf k) n x f)))
+-- the normal form of an inverse is as long as that of the window
+form-of-inverse : (k : Kind) (n : ℕ) (w : List ℤ) → least k ≤ n → Accepted k n w → length (normalForm k n (inverse w)) ≡ length (normalForm k n w)
+form-of-inverse k n w o a =
+    length-normalForm k n (inverse w) (inverse-accepted k n w a) ∙ windowLength-inverse k n w o a ∙ sym (length-normalForm k n w a)
 
-  pub forms-are : (first second : List ℕ) (r : Split) (y z : List ℕ)
-      → SplitYields (parts 0 (normalForm (kindOf k) n a) (normalForm (kindOf k) n b) first second) r y z
-      → SplitYields (parts 0 (normalForm (kindOf k) n (product w x)) (normalForm (kindOf k) n (inverse x)) first second) r y z
-  forms-are first second r y z s = rw (← p, ← q) s
+module _ (k n : ℕ) (w : List ℤ) (h : Rig k n) (a : WindowOf (kindOf k) n w) where
+  same-length : length (normalForm (kindOf k) n (inverse w)) ≡ length (normalForm (kindOf k) n w)
+  same-length = form-of-inverse (kindOf k) n w (rank-accepted k n h .0) (accepted-of-refusal (kindOf k) n w a)
+
+  pub room-for-all : (room : ℕ) → n * n ≤ room → true ≡ leb (length (normalForm (kindOf k) n (inverse w))) room
+  room-for-all room s =
+      sym (le-leb _ room (omega (arith, same-length, form-le-square (kindOf k) n w (accepted-of-refusal (kindOf k) n w a), s)))
+
+  pub room-measured : (room l : ℕ) → l ≡ length (normalForm (kindOf k) n w) → leb l room ≡ leb (length (normalForm (kindOf k) n (inverse w))) room
+  room-measured room l e = rw (e, same-length)
+
+-- checks 5, 6 and 9 to 11 refuse none of two windows
+pub checks-pass : (k n : ℕ) (u v : List ℤ) → Rig k n → WindowOf (kindOf k) n u → WindowOf (kindOf k) n v
+    → (rankRefusal k n then windowRefusal (kindOf k) n u then windowRefusal (kindOf k) n v) ≡ 0
+checks-pass k n u v h a b = then-none _ _ h ∙ then-none _ _ a ∙ b
+
+-- two words u and v, each to the front of its output: t says whether the second has room
+module _ (u v first second : List ℕ) (t : Bool) (e : t ≡ leb (length v) (length second)) where
+  pub second-lacks : not t ≡ true → SplitYields (parts 0 u v first second) (Refused 14) first second
+  second-lacks f =
+      let l : length second < length v = leb-false (length v) (length second) (sym e ∙ not-true t f) in
+      elim (decLe (length u) (length first)) [
+        | yes g ↦ second-short u v first second (length u) (length v) refl refl g l
+        | no g ↦ first-short u v first second (length u) 0 refl (lt-of-not-le g)
+      ]
+
+  -- a and x are what the call for the first answered and left, b and y what that for the second did
+  module _ (f : not t ≡ false) (r : ℕ) (z : r ≡ 0) (a : Answer) (x : List ℕ) (p : Yields (writes r u first) a x) where
+    fits : length v ≤ length second
+    fits = leb-true (length v) (length second) (sym e ∙ not-false t f)
+
+    pub first-lacks : (s : ℕ) → a ≡ answer.Refused s → SplitYields (parts 0 u v first second) (Refused 14) x second
+    first-lacks s q =
+        let d = told-refused r u first x a z p s q in
+        rw (d .1) (first-short u v first second (length u) 0 refl (d .0))
+
+    module _ (b : Answer) (y : List ℕ) (o : ℕ) (w : o ≡ 0) (g : Yields (writes o v second) b y) where
+      pub second-never : (s : ℕ) → b ≡ answer.Refused s → ⊥
+      second-never s q = omega (arith, told-refused o v second y b w g s q .0, fits)
+
+      pub both-written : (l m : ℕ) → a ≡ answer.Length l → b ≡ answer.Length m → SplitYields (parts 0 u v first second) (Words l m) x y
+      both-written l m i j =
+          let c = told-length r u first x a z p l i in
+          let d = told-length o v second y b w g m j in
+          parts-written u v first second l m (c .0) (d .0) (c .1) x y (d .1) (c .2) (d .2)
 
 -- v is the inverse of w as it was computed, and x what is left of it, as y was stored
 module _ (k n set : ℕ) (w v : List ℤ) (h : Rig k n) (a : WindowOf (kindOf k) n w) (p : v ≡ inverse w) where
@@ -52,20 +108,11 @@ module _ (k n set : ℕ) (w v : List ℤ) (h : Rig k n) (a : WindowOf (kindOf k)
     stripped : Strips (allows set) (kindOf k) n (inverse w) x
     stripped = rw (q, ← p) s
 
-    pub parts-asked : Rig k n
-        × (WindowOf (kindOf k) n w × (WindowOf (kindOf k) n x × WindowOf (kindOf k) n (product w x)))
+    pub parts-asked : Rig k n × (WindowOf (kindOf k) n w × WindowOf (kindOf k) n x)
     parts-asked =
         let o = rank-accepted k n h .0 in
-        let c = accepted-of-refusal (kindOf k) n w a in (
-          h,
-          (
-            a,
-            (
-              refusal-of-accepted (kindOf k) n x (rest-accepted (allows set) (kindOf k) n w x o c stripped),
-              refusal-of-accepted (kindOf k) n (product w x) (taken-accepted (allows set) (kindOf k) n w x o c stripped),
-            ),
-          ),
-        )
+        let c = accepted-of-refusal (kindOf k) n w a in
+        (h, (a, refusal-of-accepted (kindOf k) n x (rest-accepted (allows set) (kindOf k) n w x o c stripped)))
 
     pub parts-are : (first second : List ℕ) (r : Split) (i j : List ℕ)
         → SplitYields (parts 0 (normalForm (kindOf k) n (product w x)) (normalForm (kindOf k) n (inverse x)) first second) r i j

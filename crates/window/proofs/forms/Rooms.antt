@@ -4,7 +4,6 @@ use mathlib.Core.Path.{_≡_, refl, sym, _∙_}
 use mathlib.Core.Bool.{Bool, true, false}
 use mathlib.Core.List.{List}
 use Prim.Native.Nat.{ℕ, _*_, _≤_}
-use native.Mathlib.Nat.{le-refl, mul-add, mul-le-mul-left}
 use native.Mathlib.Omega.{arith}
 use lib.Dec.{ltb}
 use lib.IntN.{ℤ}
@@ -17,20 +16,15 @@ use Rattle.coxeter.proofs.Acceptance.{lanes-le}
 use Rattle.coxeter.proofs.Outcomes.{writes-short, writes-written, writes-passed}
 use Rattle.coxeter.proofs.Lengths.{length-normalForm}
 use Rattle.coxeter.proofs.GreatestLengths.{windowLength-le}
-use Rattle.coxeter.specs.Kinds.{Kind, A, B, D, kindOf, lanes}
-use Rattle.coxeter.specs.Length.{windowLength, greatestLength}
-use Rattle.coxeter.specs.Checks.{Rig, WindowOf}
+use Rattle.coxeter.specs.Kinds.{Kind, kindOf, lanes}
+use Rattle.coxeter.specs.Length.{windowLength}
+use Rattle.coxeter.specs.Checks.{rankRefusal, windowRefusal}
 use Rattle.coxeter.specs.NormalForm.{normalForm}
 use Rattle.coxeter.specs.Calls.{Outcome, Yields, written, writes}
-use Rattle.window.proofs.length.Sums.{square-le}
+use Rattle.window.proofs.Squares.{greatest-le}
 use Rattle.window.proofs.shown.Fronts.{Front}
 
 -- ---- check 14
-
-greatest-le : (k : Kind) (n : ℕ) → greatestLength k n ≤ n * n
-greatest-le A n = omega (arith, square-le n, mul-add n n 1)
-greatest-le B n = le-refl (n * n)
-greatest-le D n = mul-le-mul-left n (omega arith)
 
 -- n × n letters are room for every normal form
 pub square-room : (k : Kind) (n room : ℕ) (w : List ℤ) → WindowOf k n w → n * n ≤ room → false ≡ ltb room (windowLength k w)

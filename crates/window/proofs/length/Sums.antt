@@ -6,7 +6,7 @@ use mathlib.Core.Path.{_≡_, refl, sym, ap, _∙_}
 use mathlib.Core.Bool.{Bool, true, false}
 use mathlib.Core.List.{List, [], _∷_, map}
 use Prim.Native.Nat.{ℕ, zero, suc, _+_, _-_, _*_, _≤_, _<_}
-use native.Mathlib.Nat.{add-zero, suc-mul, mul-le-mul}
+use native.Mathlib.Nat.{add-zero, mul-le-mul}
 use native.Mathlib.Decide.{ℕ-discrete}
 use native.Mathlib.Omega.{arith}
 use lib.Dec.{ltb}
@@ -23,6 +23,7 @@ use Rattle.coxeter.proofs.PairWeights.{weight, weights, pairWeights, signWeight
 use Rattle.coxeter.proofs.PairWeights.{laterThan-add, inversions-add-negativeSumPairs, length-by-weights, negativeSumPairs-of-negatives-zero}
 use Rattle.coxeter.specs.Calls.{countedOf}
 use Rattle.coxeter.specs.declared.Counted.the-variants as counted
+use Rattle.window.proofs.Squares.{square-le}
 
 -- ---- sizes
 
@@ -138,10 +139,6 @@ unfolding bothPairs
 bothPairs-is-pairWeights w h =
     let a = accepted-of-refusal B (length w) w h .level in
     inversions-add-negativeSumPairs (1 + length w) w (a .between) (a .distinct)
-
-pub square-le : (n : ℕ) → n ≤ n * n
-square-le zero = omega arith
-square-le (suc n) = omega (arith, suc-mul n (suc n))
 
 -- a square of at most 64 lanes fits
 pub square-fits : (m : ℕ) → m ≤ 64 → (m * m ≤ 4096) × (m ≤ m * m)

@@ -46,7 +46,7 @@ module _ (k n : ℕ) (h : Rig k n) where
   pub room : (work : List ℤ) → length work ≡ 64 → lanes (kindOf k) n ≤ length work
   room work l = omega (arith, lanes-le k n (lanes (kindOf k) n) h refl)
 
-  front-written : (x work r : List ℤ) → length x ≡ lanes (kindOf k) n → length work ≡ 64 → r ≡ written 0 x work → Front k n x r
+  pub front-written : (x work r : List ℤ) → length x ≡ lanes (kindOf k) n → length work ≡ 64 → r ≡ written 0 x work → Front k n x r
   front-written x work r s l e =
       let c = written-front (lanes (kindOf k) n) x work r s (room work l) e in
       (c .0 ∙ l, c .1)
@@ -69,7 +69,7 @@ module _ (k n m : ℕ) (h : Rig k n) (e : m ≡ lanes (kindOf k) n) where
   pub length-part : (l : List ℤ) → length l ≡ 64 → length (take m l) ≡ m
   length-part l q = length-take-le m l (part-room l q)
 
-  part-is : (x r : List ℤ) → Front k n x r → take m r ≡ x
+  pub part-is : (x r : List ℤ) → Front k n x r → take m r ≡ x
   part-is x r f = ap (λ (a : ℕ). take a r) e ∙ f .1
 
   pub part-passes : (x r : List ℤ) → WindowOf (kindOf k) n x → Front k n x r → WindowOf (kindOf k) n (take m r)

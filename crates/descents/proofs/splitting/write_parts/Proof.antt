@@ -1,70 +1,97 @@
--- `splitting::write_parts` multiplies and inverts in work arrays, and has the normal forms of the two written.
+-- `splitting::write_parts` checks the room for the second word, and has each written by a call on accepted windows.
 -- Assumes nothing.
-use Rattle.descents.proofs.Fallbacks.{part-length, part-is}
-use Rattle.descents.proofs.splitting.Halves.{forms-asked, forms-are}
+use mathlib.Core.Path.{_∙_}
 use borrow.Author.Needs.{needs}
+use Rattle.coxeter.proofs.Refusals.{then-none}
+use Rattle.descents.proofs.splitting.Halves.{checks-pass, second-lacks, first-lacks, second-never, both-written}
 use Rattle.descents.proofs.splitting.write_parts.Statement.{statement}
 use Rattle.descents.proofs.splitting.write_parts.Tie as tie
 
-lanes-requires : tie.Need-lanes-requires
-lanes-requires c κs = search needs
+has-room-requires : tie.Need-has-room-requires
+has-room-requires c κs = search needs
 
-multiplied-requires : tie.Need-multiplied-requires
-multiplied-requires c κs = search needs
+returns : tie.Need-returns
+returns c = second-lacks _ _ _ _ _ (c .before .has-room .ensures) (c .if1 .taken)
 
-inverted-requires : tie.Need-inverted-requires
-inverted-requires c κs = search needs
+normal-form-of-product-requires : tie.Need-normal-form-of-product-requires
+normal-form-of-product-requires c κs = search needs
 
-array-share-prefix-a : tie.Need-array-share-prefix-a
-array-share-prefix-a c = search needs
+enum-known-l : tie.Need-enum-known-l
+enum-known-l c = search needs
 
-slice-aggregate-write-forms : tie.Need-slice-aggregate-write-forms
-slice-aggregate-write-forms c =
-    let b = c .before .before in
-    part-length _ _ _ _ _ (b .multiplied .ensures .1) (b .before .lanes .ensures) (b .multiplied .ensures .0)
-
-array-share-prefix-b : tie.Need-array-share-prefix-b
-array-share-prefix-b c = search needs
-
-slice-aggregate-write-forms-2 : tie.Need-slice-aggregate-write-forms-2
-slice-aggregate-write-forms-2 c =
-    let b = c .before .before in
-    part-length _ _ _ _ _ (b .inverted .ensures .1) (b .before .before .lanes .ensures) (b .inverted .ensures .0)
-
-write-forms-requires : tie.Need-write-forms-requires
-write-forms-requires c κs =
-    let i = c .before .before .before .before in
-    let m = i .before in
-    let l = m .before .lanes .ensures in
-    let p = m .before .before .before .before .pre in
-    forms-asked _ _ _ _ _ _ (part-is _ _ _ _ _ (m .multiplied .ensures .1) l) (part-is _ _ _ _ _ (i .inverted .ensures .1) l) (p .0) (p .1 .1 .0) (p .1 .1 .1)
+enum-told : tie.Need-enum-told
+enum-told c = search needs
 
 same-length : tie.Need-same-length
 same-length c = search needs
 
+returns-2 : tie.Need-returns-2
+returns-2 c =
+    let p = c .before .before .before .before in
+    let r = p .before .before in
+    let h = r .before .before .before .before .pre in
+    first-lacks _ _ _ _ _ (r .before .has-room .ensures) (r .if1 .left) _ (checks-pass _ _ _ _ (h .0) (h .1 .0) (h .1 .1)) _ _
+    (p .normal-form-of-product .ensures) _ (c .enum-told .given .1)
+
+normal-form-of-inverse-requires : tie.Need-normal-form-of-inverse-requires
+normal-form-of-inverse-requires c κs = search needs
+
+enum-known-m : tie.Need-enum-known-m
+enum-known-m c = search needs
+
+enum-told-2 : tie.Need-enum-told-2
+enum-told-2 c = search needs
+
 same-length-2 : tie.Need-same-length-2
 same-length-2 c = search needs
 
-returns : tie.Need-returns
-returns c =
-    let f = c .before .before .before .before in
-    let i = f .before .before .before .before .before in
-    let m = i .before in
-    let l = m .before .lanes .ensures in
-    forms-are _ _ _ _ _ _ (part-is _ _ _ _ _ (m .multiplied .ensures .1) l) (part-is _ _ _ _ _ (i .inverted .ensures .1) l) _ _ _ _ _ (f .write-forms .ensures)
+same-length-3 : tie.Need-same-length-3
+same-length-3 c = search needs
+
+returns-3 : tie.Need-returns-3
+returns-3 c =
+    let i = c .before .before .before .before in
+    let p = i .before .before .before .before .before .before .before in
+    let r = p .before .before in
+    let h = r .before .before .before .before .pre in
+    absurd
+    (second-never _ _ _ _ _ (r .before .has-room .ensures) (r .if1 .left) _ (checks-pass _ _ _ _ (h .0) (h .1 .0) (h .1 .1)) _ _
+    (p .normal-form-of-product .ensures) _ _ _ (then-none _ _ (h .0) ∙ h .1 .1) (i .normal-form-of-inverse .ensures) _ (c .enum-told2 .given .1))
+
+same-length-4 : tie.Need-same-length-4
+same-length-4 c = search needs
+
+same-length-5 : tie.Need-same-length-5
+same-length-5 c = search needs
+
+returns-4 : tie.Need-returns-4
+returns-4 c =
+    let m = c .before in
+    let i = m .before .before .before .before in
+    let l = i .before .before .before in
+    let p = l .before .before .before .before in
+    let r = p .before .before in
+    let h = r .before .before .before .before .pre in
+    both-written _ _ _ _ _ (r .before .has-room .ensures) (r .if1 .left) _ (checks-pass _ _ _ _ (h .0) (h .1 .0) (h .1 .1)) _ _
+    (p .normal-form-of-product .ensures) _ _ _ (then-none _ _ (h .0) ∙ h .1 .1) (i .normal-form-of-inverse .ensures) _ _ (l .l .given .1) (m .m .given .1)
 
 pub write-parts-spec : {M : Type 1} → statement M
 write-parts-spec =
     tie.close
     (tie.spec
-    lanes-requires
-    multiplied-requires
-    inverted-requires
-    array-share-prefix-a
-    slice-aggregate-write-forms
-    array-share-prefix-b
-    slice-aggregate-write-forms-2
-    write-forms-requires
+    has-room-requires
+    returns
+    normal-form-of-product-requires
+    enum-known-l
+    enum-told
     same-length
+    returns-2
+    normal-form-of-inverse-requires
+    enum-known-m
+    enum-told-2
     same-length-2
-    returns)
+    same-length-3
+    returns-3
+    same-length-4
+    same-length-5
+    returns-4)
