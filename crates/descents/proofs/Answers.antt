@@ -1,4 +1,5 @@
--- What the answer of a call that writes tells, where no check before check 14 refused: a length that there was room, a refusal that there was none.
+-- What the answer of a call that writes tells, where no check before check 14 refused: a length that there was room,
+-- a refusal that there was none.
 -- Assumes nothing.
 use mathlib.Core.Path.{_≡_, refl, sym, _∙_}
 use mathlib.Core.List.{List}

@@ -47,7 +47,8 @@ fn write_allowed(allowed: u64, word: &[u8], out: &mut [u8]) -> Answer
     Answer::Length(l)
 }
 
-// The call after checks 5, 6 and 16. The normal form of the window between the two is first written to `form`, which has room for it.
+// The call after checks 5, 6 and 16. The normal form of the window between the two is first written to `form`, which
+// has room for it.
 fn write_between(
     kind: u8,
     rank: u8,

@@ -19,8 +19,9 @@ ghost use Rattle.exchange.specs.Allowed.{allows};
 ghost use Rattle.exchange.specs.Split.{firstWord, secondWord};
 ghost use Rattle.exchange.specs.SplitCalls.{parts, SplitYields};
 
-// Whether `room` letters are enough for the normal form of an accepted window's inverse, which is as long as that of the window. No normal form has more
-// than n × n letters, so that the length is measured only where there is less room.
+// Whether `room` letters are enough for the normal form of an accepted window's inverse, which is as long as that of
+// the window. No normal form has more than n × n letters, so that the length is measured only where there is less
+// room.
 fn has_room(kind: u8, rank: u8, w: &[i8], room: usize) -> bool
     requires { ⌜ Rig kind rank × WindowOf (kindOf kind) rank (now w) ⌝ }
     ensures { λ r. ⌜ r ≡ leb (length (normalForm (kindOf kind) rank (inverse (now (w .entry))))) room ⌝ }
@@ -32,8 +33,8 @@ fn has_room(kind: u8, rank: u8, w: &[i8], room: usize) -> bool
     form_length(kind, rank, w) <= room
 }
 
-// The two words of an accepted window w, `rest` being the inverse of what is left of it: what was taken off is w times `rest`. The second output is
-// checked before the first is written.
+// The two words of an accepted window w, `rest` being the inverse of what is left of it: what was taken off is w
+// times `rest`. The second output is checked before the first is written.
 fn write_parts(
     kind: u8,
     rank: u8,

@@ -2,3 +2,4 @@
 pub mod Sums
 pub mod SizeSets
 pub mod OnePass
+pub mod Behind

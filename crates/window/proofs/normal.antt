@@ -1,3 +1,5 @@
 -- What the proofs of the module `normal` share.
-pub mod Peels
 pub mod Blocks
+pub mod OwnIndices
+pub mod Signs
+pub mod Forms

@@ -1,5 +1,5 @@
-// Normal forms of windows that are made from accepted windows: their product, an inverse, and what leads from one to another. What is made is not
-// checked: it passes because the windows that it is made of do.
+// Normal forms of windows that are made from accepted windows: their product, an inverse, and what leads from one to
+// another. What is made is not checked: it passes because the windows that it is made of do.
 use crate::Answer;
 use crate::entries::lanes;
 use crate::forms::write_checked;
@@ -52,8 +52,9 @@ fn between(kind: u8, rank: u8, u: &[i8], v: &[i8]) -> [i8; 64]
     multiplied(kind, rank, &back[..m], v)
 }
 
-// Writes the normal form of the product of two windows of one kind and rank to the front of `out` and answers its length. Refuses with 5 or 6, then 9
-// to 11 for u, then 9 to 11 for v, then 14 where `out` is shorter than the normal form; `out` is then left as it was.
+// Writes the normal form of the product of two windows of one kind and rank to the front of `out` and answers its
+// length. Refuses with 5 or 6, then 9 to 11 for u, then 9 to 11 for v, then 14 where `out` is shorter than the normal
+// form; `out` is then left as it was.
 pub fn normal_form_of_product(kind: u8, rank: u8, u: &[i8], v: &[i8], out: &mut [u8]) -> Answer
     ensures { λ r. ⌜ Yields (writes (rankRefusal kind rank then windowRefusal (kindOf kind) rank (now (u .entry))
         then windowRefusal (kindOf kind) rank (now (v .entry)))
@@ -63,12 +64,12 @@ pub fn normal_form_of_product(kind: u8, rank: u8, u: &[i8], v: &[i8], out: &mut 
     if refusal != 0 {
         return Answer::Refused(refusal);
     }
-    let mut work = multiplied(kind, rank, u, v);
-    write_checked(kind, rank, &mut work, out)
+    let work = multiplied(kind, rank, u, v);
+    write_checked(kind, rank, &work, out)
 }
 
-// Writes the normal form of a window's inverse to the front of `out` and answers its length. Refuses with 5 or 6, then 9 to 11, then 14 where `out` is
-// shorter than the normal form; `out` is then left as it was.
+// Writes the normal form of a window's inverse to the front of `out` and answers its length. Refuses with 5 or 6,
+// then 9 to 11, then 14 where `out` is shorter than the normal form; `out` is then left as it was.
 pub fn normal_form_of_inverse(kind: u8, rank: u8, w: &[i8], out: &mut [u8]) -> Answer
     ensures { λ r. ⌜ Yields (writes (rankRefusal kind rank then windowRefusal (kindOf kind) rank (now (w .entry)))
         (normalForm (kindOf kind) rank (inverse (now (w .entry)))) (now (out .entry))) r (now (out .exit)) ⌝ }
@@ -77,12 +78,13 @@ pub fn normal_form_of_inverse(kind: u8, rank: u8, w: &[i8], out: &mut [u8]) -> A
     if refusal != 0 {
         return Answer::Refused(refusal);
     }
-    let mut work = inverted(kind, rank, w);
-    write_checked(kind, rank, &mut work, out)
+    let work = inverted(kind, rank, w);
+    write_checked(kind, rank, &work, out)
 }
 
-// Writes the normal form of the window that leads from u to v to the front of `out` and answers its length. Refuses with 5 or 6, then 9 to 11 for u,
-// then 9 to 11 for v, then 14 where `out` is shorter than the normal form; `out` is then left as it was.
+// Writes the normal form of the window that leads from u to v to the front of `out` and answers its length. Refuses
+// with 5 or 6, then 9 to 11 for u, then 9 to 11 for v, then 14 where `out` is shorter than the normal form; `out` is
+// then left as it was.
 pub fn normal_form_between(kind: u8, rank: u8, u: &[i8], v: &[i8], out: &mut [u8]) -> Answer
     ensures { λ r. ⌜ Yields (writes (rankRefusal kind rank then windowRefusal (kindOf kind) rank (now (u .entry))
         then windowRefusal (kindOf kind) rank (now (v .entry)))
@@ -92,6 +94,6 @@ pub fn normal_form_between(kind: u8, rank: u8, u: &[i8], v: &[i8], out: &mut [u8
     if refusal != 0 {
         return Answer::Refused(refusal);
     }
-    let mut work = between(kind, rank, u, v);
-    write_checked(kind, rank, &mut work, out)
+    let work = between(kind, rank, u, v);
+    write_checked(kind, rank, &work, out)
 }

@@ -27,8 +27,8 @@ fn lacks_room(kind: u8, rank: u8, work: &[i8], room: usize) -> bool
     room < length_of_front(kind, rank, work)
 }
 
-// Check 14, then the normal form of the window at the front of `work` to the front of `out`. `work` is used up.
-pub(crate) fn write_checked(kind: u8, rank: u8, work: &mut [i8], out: &mut [u8]) -> Answer
+// Check 14, then the normal form of the window at the front of `work` to the front of `out`.
+pub(crate) fn write_checked(kind: u8, rank: u8, work: &[i8], out: &mut [u8]) -> Answer
     requires { ⌜ Rig kind rank ⌝ }
     requires { ⌜ lanes (kindOf kind) rank ≤ length (now work) ⌝ }
     requires { ⌜ WindowOf (kindOf kind) rank (take (lanes (kindOf kind) rank) (now work)) ⌝ }

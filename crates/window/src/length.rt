@@ -113,7 +113,7 @@ struct Parts {
 }
 
 // How many sizes of a set are s or larger; the size s is bit s - 1. The set has m bits, and few of them are counted faster.
-fn from_size(m: usize, set: u64, s: u8) -> usize
+pub(crate) fn from_size(m: usize, set: u64, s: u8) -> usize
     requires { ⌜ (1 ≤ s) × (s ≤ 64) × (set < 2 ^ m) ⌝ }
     ensures { λ r. ⌜ r ≡ ones (set / 2 ^ (s - 1)) ⌝ }
 {
@@ -125,7 +125,7 @@ fn from_size(m: usize, set: u64, s: u8) -> usize
 }
 
 // A set and the size s.
-fn with_size(set: u64, s: u8) -> u64
+pub(crate) fn with_size(set: u64, s: u8) -> u64
     requires { ⌜ (1 ≤ s) × (s ≤ 64) ⌝ }
     ensures { λ r. ⌜ r ≡ bitOr set (2 ^ (s - 1)) ⌝ }
 {

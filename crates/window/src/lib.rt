@@ -32,7 +32,6 @@ use refusals::presets_refusal;
 use refusals::ranked_window_refusal;
 use refusals::ranked_windows_refusal;
 use refusals::ranked_words_refusal;
-use shown::copied;
 use shown::crossings_of_shown;
 use shown::equal_words;
 use shown::inverse_shown;
@@ -108,8 +107,7 @@ pub fn normal_form_of_window(kind: u8, rank: u8, w: &[i8], out: &mut [u8]) -> An
     if refusal != 0 {
         return Answer::Refused(refusal);
     }
-    let mut work = copied(w);
-    write_checked(kind, rank, &mut work, out)
+    write_checked(kind, rank, w, out)
 }
 
 // Writes the normal form of a word to the front of `out` and answers its length. Refuses with 5 or 6, then 7 or 8, then 14 where `out` is
@@ -121,8 +119,8 @@ pub fn normal_form_of_word(kind: u8, rank: u8, word: &[u8], out: &mut [u8]) -> A
     if refusal != 0 {
         return Answer::Refused(refusal);
     }
-    let mut work = shown(kind, rank, word);
-    write_checked(kind, rank, &mut work, out)
+    let work = shown(kind, rank, word);
+    write_checked(kind, rank, &work, out)
 }
 
 // Writes the normal form of the product of two words of one kind and rank to the front of `out` and answers its length. Refuses with 5 or 6, then
@@ -134,8 +132,8 @@ pub fn product_of_words(kind: u8, rank: u8, u: &[u8], v: &[u8], out: &mut [u8]) 
     if refusal != 0 {
         return Answer::Refused(refusal);
     }
-    let mut work = product_shown(kind, rank, u, v);
-    write_checked(kind, rank, &mut work, out)
+    let work = product_shown(kind, rank, u, v);
+    write_checked(kind, rank, &work, out)
 }
 
 // Writes the normal form of the inverse of a word to the front of `out` and answers its length. Refuses with 5 or 6, then 7 or 8, then 14 where
@@ -147,8 +145,8 @@ pub fn inverse_of_word(kind: u8, rank: u8, word: &[u8], out: &mut [u8]) -> Answe
     if refusal != 0 {
         return Answer::Refused(refusal);
     }
-    let mut work = inverse_shown(kind, rank, word);
-    write_checked(kind, rank, &mut work, out)
+    let work = inverse_shown(kind, rank, word);
+    write_checked(kind, rank, &work, out)
 }
 
 // Answers the length of a window's normal form, from the window alone: nothing is written. Refuses with 5 or 6, then 9 to 11.

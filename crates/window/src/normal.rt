@@ -1,21 +1,22 @@
-// The normal form of an accepted window, written level by level: the blocks of the higher levels first.
-use crate::entries::negated;
+// The normal form of an accepted window: first the indices j of its blocks, in one pass over the entries, then the
+// blocks, level by level, those of the higher levels first.
+use crate::length::from_size;
+use crate::length::with_size;
 use refusals::is_negative;
 use refusals::size;
 ghost use mathlib.Core.Path.{_≡_};
-ghost use mathlib.Core.Bool.{true, false};
-ghost use mathlib.Core.List.{_++_};
+ghost use mathlib.Core.Bool.{_||_};
+ghost use mathlib.Core.List.{List, _++_};
 ghost use Prim.Native.Nat.{ℕ, _+_, _-_, _*_, _<_, _≤_};
-ghost use lib.IntN.{natAbs, pos, negsuc};
+ghost use lib.Dec.{eqb};
+ghost use lib.IntN.{ℤ};
 ghost use lib.ListN.{length, take, drop, getD};
 ghost use lib.Seq.{sets};
-ghost use Rattle.coxeter.specs.Kinds.{pick, kindOf, lanes};
-ghost use Rattle.coxeter.specs.Windows.{placeFrom};
-ghost use Rattle.coxeter.specs.Length.{negative};
-ghost use Rattle.coxeter.specs.Checks.{hasSize, Rig, WindowOf};
+ghost use Rattle.coxeter.specs.Kinds.{B, D, pick, kindOf, least, lanes};
+ghost use Rattle.coxeter.specs.Checks.{Rig, WindowOf};
 ghost use Rattle.coxeter.specs.Calls.{written};
-ghost use Rattle.coxeter.specs.NormalForm.{rise, fall, block, levels, without, indexOf, restOf, normalFrom, normalForm};
-ghost use Rattle.coxeter.proofs.Acceptance.{Ranked};
+ghost use Rattle.coxeter.specs.NormalForm.{rise, fall, block, blocks, levels, normalForm};
+ghost use Rattle.coxeter.proofs.Indices.{indices};
 
 // The letters from a up to b, written from the place `at` on; the answer is the place after them.
 fn write_up(out: &mut [u8], at: usize, a: usize, b: usize) -> usize
@@ -96,96 +97,112 @@ fn write_block(kind: u8, n: usize, i: usize, j: usize, out: &mut [u8], at: usize
     write_turned(kind, n, i, j, out, at)
 }
 
-// The index of the first entry of size i, which is there.
-fn place(w: &[i8], i: usize) -> usize
-    requires { ⌜ hasSize i (now w) ≡ true ⌝ }
-    ensures { λ r. ⌜ (r < length (now (w .entry))) × (natAbs (getD (now (w .entry)) r (pos 0)) ≡ i)
-        × (hasSize i (take r (now (w .entry))) ≡ false) ⌝ }
+// Indices of blocks, with room for every level.
+fn no_indices() -> [u8; 64]
+    ensures { λ r. ⌜ length r ≡ 64 ⌝ }
 {
-    let mut p = 0;
-    while p < w.len() {
-        if size(w[p]) as usize == i {
-            return p;
+    [0u8; 64]
+}
+
+// The index of the block of an entry with so many larger sizes behind it, in a window of kind B with m entries.
+fn own_index(m: usize, minus: bool, larger: usize) -> u8
+    requires { ⌜ (m ≤ 64) × (larger < m) ⌝ }
+    ensures { λ r. ⌜ r ≡ pick minus (m + larger) (m - 1 - larger) ⌝ }
+{
+    if minus {
+        return (m + larger) as u8;
+    }
+    (m - 1 - larger) as u8
+}
+
+// The indices of a window of kind B, written to the front of `out`: one pass from the last entry to the first, with
+// the set of the sizes behind, stores the index of each entry at the entry's size. What is taken out at the levels
+// below is smaller and changes none of them. An accepted window of any kind is one of kind B.
+fn set_indices(w: &[i8], out: &mut [u8])
+    requires { ⌜ (length (now w) ≤ 64) × (length (now w) ≤ length (now out)) ⌝ }
+    requires { ⌜ WindowOf B (length (now w)) (now w) ⌝ }
+    ensures { λ _. ⌜ take (length (now (w .entry))) (now (out .exit)) ≡ indices B (length (now (w .entry))) (length (now (w .entry))) 1 (now (w .entry)) ⌝ }
+{
+    let m = w.len();
+    let mut behind: u64 = 0;
+    let mut i = m;
+    while 0 < i {
+        i -= 1;
+        let e = w[i];
+        let s = size(e);
+        let larger = from_size(m, behind, s);
+        behind = with_size(behind, s);
+        let p = (s as usize) - 1;
+        out[p] = own_index(m, is_negative(e), larger);
+    }
+}
+
+// The index of an entry of kind D from that of kind B: n or n - 1 only if the entry is the last of those that are
+// left, and then by its sign, which is negative if `odd`.
+fn settled_index(n: u8, odd: bool, j: u8) -> u8
+    requires { ⌜ 1 ≤ n ⌝ }
+    ensures { λ r. ⌜ r ≡ pick (eqb j n || eqb j (n - 1)) (pick odd n (n - 1)) j ⌝ }
+{
+    if (j == n) | (j == n - 1) {
+        if odd {
+            return n;
         }
-        p += 1;
+        return n - 1;
     }
-    p
+    j
 }
 
-// The entries before w[p] each move one place on, over w[p]. What is left of the window starts at w[1].
-fn take_out(w: &mut [i8], p: usize)
-    requires { ⌜ p < length (now w) ⌝ }
-    ensures { λ _. ⌜ drop 1 (now (w .exit)) ≡ take p (now (w .entry)) ++ drop (p + 1) (now (w .entry)) ⌝ }
+// The indices of kind D, in place of those of kind B. Each negative entry that is taken out changes the sign of the
+// last entry left, so the last one is negative if an odd number of the entries up to its level are.
+fn settle_signs(n: u8, js: &mut [u8])
+    requires { ⌜ 1 ≤ n ⌝ }
+    ensures { λ _. ⌜ ((w : List ℤ) → WindowOf D n w → now (js .entry) ≡ indices B n (n - 1) 1 w
+        → now (js .exit) ≡ indices D n (n - 1) 1 w) ⌝ }
 {
-    let mut q = p;
-    while 0 < q {
-        let e = w[q - 1];
-        w[q] = e;
-        q -= 1;
+    let mut odd = false;
+    let mut i = 0;
+    while i < js.len() {
+        let j = js[i];
+        odd = odd ^ (n <= j);
+        js[i] = settled_index(n, odd, j);
+        i += 1;
     }
 }
 
-// What is left of a window whose entry -i was taken out: in D the last entry, if there is one, changes its sign. No entry is -128.
-fn turn_last(kind: u8, w: &mut [i8])
-    requires { ⌜ hasSize 128 (now w) ≡ false ⌝ }
-    ensures { λ _. ⌜ now (w .exit) ≡ restOf (kindOf kind) (negsuc 0) (now (w .entry)) ⌝ }
+// The indices of an accepted window, one a level, at the front of a work array.
+fn indices_of(kind: u8, rank: u8, w: &[i8]) -> [u8; 64]
+    requires { ⌜ Rig kind rank ⌝ }
+    requires { ⌜ WindowOf (kindOf kind) rank (now w) ⌝ }
+    ensures { λ r. ⌜ (length r ≡ 64)
+        × (take (levels (kindOf kind) rank) r ≡ indices (kindOf kind) rank (levels (kindOf kind) rank) 1 (now (w .entry))) ⌝ }
 {
+    let mut out = no_indices();
+    set_indices(w, &mut out);
     if kind == 1 {
-        return;
+        return out;
     }
     if kind == 2 {
-        return;
+        return out;
     }
-    if 0 < w.len() {
-        let last = w.len() - 1;
-        w[last] = negated(w[last]);
-    }
+    let t = (rank as usize) - 1;
+    settle_signs(rank, &mut out[..t]);
+    out
 }
 
-// The entry w[p] is taken out, with what that does to the rest, which starts at w[1]. The answer is whether it was negative.
-fn take_entry(kind: u8, w: &mut [i8], p: usize) -> bool
-    requires { ⌜ (p < length (now w)) × (hasSize 128 (take p (now w) ++ drop (p + 1) (now w)) ≡ false) ⌝ }
-    ensures { λ r. ⌜ (r ≡ negative (getD (now (w .entry)) p (pos 0)))
-        × (drop 1 (now (w .exit)) ≡ pick r (restOf (kindOf kind) (negsuc 0) (take p (now (w .entry)) ++ drop (p + 1) (now (w .entry))))
-        (take p (now (w .entry)) ++ drop (p + 1) (now (w .entry)))) ⌝ }
-{
-    let minus = is_negative(w[p]);
-    take_out(w, p);
-    if minus {
-        turn_last(kind, &mut w[1..]);
-    }
-    minus
-}
-
-// The entry of size i is taken out of w, which holds the entries at positions i, i + 1, .. The answer is the j of its block; the rest starts at w[1].
-fn peel(kind: u8, n: usize, i: usize, w: &mut [i8]) -> usize
-    requires { ⌜ (1 ≤ i) × (i + length (now w) ≤ 2 * n + 1) × (n ≤ 64) ⌝ }
-    requires { ⌜ (hasSize i (now w) ≡ true) × (hasSize 128 (now w) ≡ false) ⌝ }
-    ensures { λ r. ⌜ (r ≤ 2 * n) × (r ≡ indexOf n (placeFrom i (now (w .entry)) i))
-        × (drop 1 (now (w .exit)) ≡ restOf (kindOf kind) (placeFrom i (now (w .entry)) i) (without i (now (w .entry)))) ⌝ }
-{
-    let p = place(w, i);
-    if take_entry(kind, w, p) {
-        return 2 * n - (i + p);
-    }
-    i + p - 1
-}
-
-// The normal form of t levels from i on, written to the front of out; the answer is its length. w holds the entries at positions i, i + 1, ..,
-// each of the next t sizes among them, and is used up. The number of levels left falls at each call.
-fn write_from(kind: u8, n: usize, t: usize, i: usize, w: &mut [i8], out: &mut [u8]) -> usize
-    requires { ⌜ Ranked (kindOf kind) n × (1 ≤ i) × (i + length (now w) ≤ n + 2) ⌝ }
-    requires { ⌜ (((j : ℕ) → i ≤ j → j < i + t → hasSize j (now w) ≡ true) × (hasSize 128 (now w) ≡ false)) ⌝ }
-    requires { ⌜ length (normalFrom (kindOf kind) n t i (now w)) ≤ length (now out) ⌝ }
-    ensures { λ r. ⌜ (r ≡ length (normalFrom (kindOf kind) n t i (now (w .entry))))
-        × (now (out .exit) ≡ sets (now (out .entry)) 0 (normalFrom (kindOf kind) n t i (now (w .entry)))) ⌝ }
+// The blocks of t levels from i on, by the indices of all levels, written to the front of out; the answer is how many
+// letters they have. The number of levels left falls at each call.
+fn write_from(kind: u8, n: usize, t: usize, i: usize, js: &[u8], out: &mut [u8]) -> usize
+    requires { ⌜ (least (kindOf kind) ≤ n) × (n ≤ 64) × (1 ≤ i) × (t + i ≡ length (now js) + 1) × (length (now js) ≤ 64) ⌝ }
+    requires { ⌜ ((p : ℕ) → p < length (now js) → getD (now js) p 0 ≤ 2 * n) ⌝ }
+    requires { ⌜ length (blocks (kindOf kind) n i (drop (i - 1) (now js))) ≤ length (now out) ⌝ }
+    ensures { λ r. ⌜ (r ≡ length (blocks (kindOf kind) n i (drop (i - 1) (now (js .entry)))))
+        × (now (out .exit) ≡ sets (now (out .entry)) 0 (blocks (kindOf kind) n i (drop (i - 1) (now (js .entry))))) ⌝ }
 {
     if t == 0 {
         return 0;
     }
-    let j = peel(kind, n, i, w);
-    let at = write_from(kind, n, t - 1, i + 1, &mut w[1..], out);
-    write_block(kind, n, i, j, out, at)
+    let at = write_from(kind, n, t - 1, i + 1, js, out);
+    write_block(kind, n, i, js[i - 1] as usize, out, at)
 }
 
 // The number of levels.
@@ -199,8 +216,9 @@ fn levels_of(kind: u8, n: usize) -> usize
     }
 }
 
-// The normal form of the accepted window at the front of `work`, which is used up, written to the front of `out`; the answer is its length.
-pub(crate) fn write_normal_form(kind: u8, rank: u8, work: &mut [i8], out: &mut [u8]) -> usize
+// The normal form of the accepted window at the front of `work`, written to the front of `out`; the answer is its
+// length.
+pub(crate) fn write_normal_form(kind: u8, rank: u8, work: &[i8], out: &mut [u8]) -> usize
     requires { ⌜ Rig kind rank ⌝ }
     requires { ⌜ lanes (kindOf kind) rank ≤ length (now work) ⌝ }
     requires { ⌜ WindowOf (kindOf kind) rank (take (lanes (kindOf kind) rank) (now work)) ⌝ }
@@ -211,5 +229,6 @@ pub(crate) fn write_normal_form(kind: u8, rank: u8, work: &mut [i8], out: &mut [
     let n = rank as usize;
     let m = crate::entries::lanes(kind, rank);
     let t = levels_of(kind, n);
-    write_from(kind, n, t, 1, &mut work[..m], out)
+    let js = indices_of(kind, rank, &work[..m]);
+    write_from(kind, n, t, 1, &js[..t], out)
 }

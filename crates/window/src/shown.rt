@@ -78,20 +78,6 @@ pub(crate) fn inverse_shown(kind: u8, rank: u8, word: &[u8]) -> [i8; 64]
     out
 }
 
-// A copy of a window.
-pub(crate) fn copied(w: &[i8]) -> [i8; 64]
-    requires { ⌜ length (now w) ≤ 64 ⌝ }
-    ensures { λ r. ⌜ (length r ≡ 64) × (take (length (now (w .entry))) r ≡ now (w .entry)) ⌝ }
-{
-    let mut out = blank();
-    let mut i = 0;
-    while i < w.len() {
-        out[i] = w[i];
-        i += 1;
-    }
-    out
-}
-
 // The length of an accepted word's window.
 pub(crate) fn length_of_shown(kind: u8, rank: u8, word: &[u8]) -> usize
     requires { ⌜ Rig kind rank ⌝ }

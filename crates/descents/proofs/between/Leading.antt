@@ -115,7 +115,8 @@ module _ (k n set : ℕ) (v w : List ℤ) (z : setRefusal k n set ≡ 0) where
       let p = windows-accepted k n v w checks refl c in
       between-accepted (kindOf k) n v w (accepted-of-refusal (kindOf k) n v (p .1 .0)) (accepted-of-refusal (kindOf k) n w (p .1 .1))
 
-  -- y is what the call on the two windows answered, with room in `before` for every normal form, and `after` what it left there
+  -- y is what the call on the two windows answered, with room in `before` for every normal form, and `after` what it
+  -- left there
   module _ (before after : List ℕ) (y : Answer) (room : n * n ≤ length before)
       (e : Yields (writes (rankRefusal k n then windowRefusal (kindOf k) n v then windowRefusal (kindOf k) n w)
       (normalForm (kindOf k) n (product (inverse v) w)) before) y after) where

@@ -1,6 +1,6 @@
 -- The calls that write normal forms: check 14 against the length that the sums give, or against n × n, and what is written from a work window.
 -- Assumes nothing.
-use mathlib.Core.Path.{_≡_, refl, sym, _∙_}
+use mathlib.Core.Path.{_≡_, refl, sym, ap, _∙_}
 use mathlib.Core.Bool.{Bool, true, false}
 use mathlib.Core.List.{List}
 use Prim.Native.Nat.{ℕ, _*_, _≤_}
@@ -8,6 +8,7 @@ use native.Mathlib.Omega.{arith}
 use lib.Dec.{ltb}
 use lib.IntN.{ℤ}
 use lib.ListN.{length, take}
+use lib.Seq.{take-all}
 use borrow.Author.Tests.{ltb-true, ltb-false, le-ltb}
 use Rattle.coxeter.specs.declared.Answer.{Answer}
 use Rattle.coxeter.specs.declared.Answer.the-variants.{Length, Refused}
@@ -18,7 +19,7 @@ use Rattle.coxeter.proofs.Lengths.{length-normalForm}
 use Rattle.coxeter.proofs.GreatestLengths.{windowLength-le}
 use Rattle.coxeter.specs.Kinds.{Kind, kindOf, lanes}
 use Rattle.coxeter.specs.Length.{windowLength}
-use Rattle.coxeter.specs.Checks.{rankRefusal, windowRefusal}
+use Rattle.coxeter.specs.Checks.{windowRefusal, Rig, WindowOf}
 use Rattle.coxeter.specs.NormalForm.{normalForm}
 use Rattle.coxeter.specs.Calls.{Outcome, Yields, written, writes}
 use Rattle.window.proofs.Squares.{greatest-le}
@@ -59,3 +60,16 @@ pub front-written : (o : Outcome ℕ) (k n q r : ℕ) (x work : List ℤ) (out a
     → Yields (writes 0 (normalForm (kindOf k) n (take (lanes (kindOf k) n) work)) out) a after → Yields o a after
 front-written o k n q r x work out after a is e z f d =
     writes-passed o q r (normalForm (kindOf k) n x) out is e a after z (rw (f .1) at d)
+
+-- a window that is lent itself
+module _ (k n : ℕ) (w : List ℤ) (g : WindowOf (kindOf k) n w) where
+  whole : take (lanes (kindOf k) n) w ≡ w
+  whole = take-all (lanes (kindOf k) n) w (omega (arith, accepted-of-refusal (kindOf k) n w g .size))
+
+  pub whole-asks : Rig k n
+      → Rig k n × ((lanes (kindOf k) n ≤ length w) × WindowOf (kindOf k) n (take (lanes (kindOf k) n) w))
+  whole-asks h = (h, (omega (arith, accepted-of-refusal (kindOf k) n w g .size), ap (windowRefusal (kindOf k) n) whole ∙ g))
+
+  pub whole-written : (o : Outcome ℕ) (q r : ℕ) (out after : List ℕ) (a : Answer) → o ≡ writes q (normalForm (kindOf k) n w) out → r ≡ q → r ≡ 0
+      → Yields (writes 0 (normalForm (kindOf k) n (take (lanes (kindOf k) n) w)) out) a after → Yields o a after
+  whole-written o q r out after a is e z d = writes-passed o q r (normalForm (kindOf k) n w) out is e a after z (rw whole at d)

@@ -15,13 +15,13 @@ use lib.IntN.{ℤ, pos, natAbs}
 use lib.ListN.{length, length-map, length-drop, getD, drop, drop-of-length-le}
 use Rattle.coxeter.specs.Kinds.{B, pick}
 use Rattle.coxeter.specs.Length.{negative, one, inversions, negativeSumPairs, negatives}
-use Rattle.coxeter.specs.Checks.{WindowOf}
-use Rattle.coxeter.proofs.Lists.{drop-next}
+use Rattle.coxeter.specs.Checks.{windowRefusal}
 use Rattle.coxeter.proofs.Levels.{Between, Distinct, accepted-of-refusal}
 use Rattle.coxeter.proofs.PairWeights.{weights, pairWeights, negatives-le}
 use Rattle.coxeter.proofs.NegativeSums.{lackOfNegatives, negativeSumPairs-level}
-use Rattle.coxeter.proofs.Places.{between-getD}
-use Rattle.window.proofs.length.SizeSets.{sizeSet, sizeSet-nil, sizeSet-lt, sizeSet-cons, fromSize, fromSize-add-smaller}
+use Rattle.window.proofs.length.Behind as back
+use Rattle.window.proofs.length.Behind.{Behind}
+use Rattle.window.proofs.length.SizeSets.{sizeSet, sizeSet-nil, fromSize, fromSize-add-smaller}
 use Rattle.window.proofs.length.Sums.{smaller, behind, weights-behind, between-drop, distinct-drop, square-fits, bothPairs, bothPairs-is-pairWeights}
 
 -- ---- one entry against those behind it
@@ -124,23 +124,17 @@ module _ (w : List ℤ) (set pairs lack minus j s : ℕ) (h : Gone w set pairs l
   abbrev m : ℕ
   m = length w
 
+  gone : Behind w set j
+  gone = record { inside = h .inside; set-is = h .set-is }
+
   next : drop (j - 1) w ≡ e ∷ drop j w
-  next =
-      let i : j - 1 + 1 ≡ j = omega arith in
-      drop-next w (j - 1) (pos 0) (omega (arith, h .inside)) ∙ ap (λ (x : ℕ). e ∷ drop x w) i
+  next = back.next w set j s gone p g q
 
   pub size-bounds : (1 ≤ s) × (s ≤ m)
-  size-bounds =
-      let b = between-getD 1 (1 + m) w (j - 1) (accepted-of-refusal B m w g .level .between) (omega (arith, h .inside)) in
-      (omega (arith, b .0), omega (arith, b .1))
+  size-bounds = back.size-bounds w set j s gone p g q
 
   pub set-fits : set < 2 ^ m
-  set-fits = rw (h .set-is) (sizeSet-lt m 1 (drop j w))
-
-  sized : sizeSet m 1 (drop (j - 1) w) ≡ bitOr set (2 ^ (s - 1))
-  sized =
-      rw (next, h .set-is)
-      (sizeSet-cons m 1 (s - 1) e (drop j w) (omega (arith, q, size-bounds .0)) (omega (arith, size-bounds)))
+  set-fits = back.set-fits w set j s gone p g q
 
   -- with this entry too no more pairs are taken off or added than there are
   changes : raised m (e ∷ drop j w) + lowered m (e ∷ drop j w) ≤ triangle m
@@ -162,8 +156,7 @@ module _ (w : List ℤ) (set pairs lack minus j s : ℕ) (h : Gone w set pairs l
 
   module _ (l : ℕ) (r : l ≡ ones (set / 2 ^ (s - 1))) where
     from : l ≡ fromSize m (natAbs e) (drop j w)
-    unfolding fromSize
-    from = r ∙ rw (h .set-is, q)
+    from = back.larger-is w set j s gone p g q l r
 
     gone-next : (t : Bool) → negative e ≡ t → (o : ℕ) → o + pick t 0 l ≡ pairs + pick t l 0
         → Gone w (bitOr set (2 ^ (s - 1))) o (lack + pick t (m - s) 0) (minus + pick t 1 0) (j - 1)
@@ -171,7 +164,7 @@ module _ (w : List ℤ) (set pairs lack minus j s : ℕ) (h : Gone w set pairs l
     gone-next t n o c =
         record {
           inside = omega (arith, h .inside);
-          set-is = sym sized;
+          set-is = back.behind-next w set j s gone p g q .set-is;
           pairs-is = rw (next, n, sym from) (omega (arith, h .pairs-is, c));
           lack-is = rw (next, n, sym q) (omega (arith, h .lack-is));
           minus-is = rw (next, n) (omega (arith, h .minus-is));

@@ -6,7 +6,7 @@ use mathlib.Core.Path.{_≡_, refl, sym, ap, _∙_}
 use mathlib.Core.Bool.{Bool, true, false, not, _||_, or-true, or-false}
 use mathlib.Core.List.{List, [], _∷_, map}
 use Prim.Native.Nat.{ℕ, zero, suc, _+_, _-_, _*_, _/_, _%_, _^_, _≤_, _<_, max}
-use native.Mathlib.Nat.{add-zero, pow-zero, pow-suc, div-one}
+use native.Mathlib.Nat.{add-zero, le-refl, pow-zero, pow-suc, div-one}
 use native.Mathlib.Omega.{arith}
 use lib.Bits.{bitOr, or-step, or-zero-r}
 use lib.Count.{ones, ones-step}
@@ -14,11 +14,12 @@ use lib.Dec.{ltb}
 use lib.IntN.{ℤ, natAbs}
 use lib.ListN.{length}
 use lib.Pow.{shr-shr}
-use borrow.Author.Tests.{eq-eqb, ne-eqb, ltb-true, ltb-false}
+use borrow.Author.Tests.{eq-eqb, ne-eqb, ltb-true, ltb-false, le-ltb}
 use Rattle.coxeter.specs.Kinds.{pick}
 use Rattle.coxeter.specs.Length.{one, later, laterThan}
 use Rattle.coxeter.specs.Checks.{hasSize}
 use Rattle.coxeter.proofs.Levels.{Between, Distinct}
+use Rattle.coxeter.proofs.Places.{between-mono}
 use Rattle.coxeter.proofs.PairWeights.{one-le}
 use Rattle.window.proofs.length.Sums.{smaller}
 
@@ -159,13 +160,35 @@ ones-or-smaller d s (e ∷ w) b h = go (ltb (natAbs e) s) refl (ones-or-smaller 
 unfoldable pub fromSize : ℕ → ℕ → List ℤ → ℕ
 fromSize m a w = ones (sizeSet m 1 w / 2 ^ (a - 1))
 
+fromSize-is : (m a : ℕ) (w : List ℤ) → 1 ≤ a → a ≤ m → fromSize m a w ≡ ones (sizeSet (1 + m - a) a w)
+unfolding fromSize
+fromSize-is m a w l h =
+    let all : a - 1 + (1 + m - a) ≡ m = omega arith in
+    let first : 1 + (a - 1) ≡ a = omega arith in
+    ap ones (rw (all, first) at (shifted (a - 1) (1 + m - a) 1 w))
+
 -- each entry has a size of at least a or one below a
 pub fromSize-add-smaller : (m a : ℕ) (w : List ℤ) → 1 ≤ a → a ≤ m → Between 1 (1 + m) w → Distinct w
     → fromSize m a w + smaller a (map natAbs w) ≡ length w
-unfolding fromSize
 fromSize-add-smaller m a w l h b d =
-    let all : a - 1 + (1 + m - a) ≡ m = omega arith in
-    let first : 1 + (a - 1) ≡ a = omega arith in
-    let above = rw (all, first) at (shifted (a - 1) (1 + m - a) 1 w) in
     let upper : a + (1 + m - a) ≡ 1 + m = omega arith in
-    rw above (ones-or-smaller (1 + m - a) a w (rw upper b) d)
+    rw (fromSize-is m a w l h) (ones-or-smaller (1 + m - a) a w (rw upper b) d)
+
+sizeSet-same : (d s : ℕ) (v w : List ℤ) → ((a : ℕ) → s ≤ a → hasSize a v ≡ hasSize a w) → sizeSet d s v ≡ sizeSet d s w
+unfolding sizeSet
+sizeSet-same zero s v w f = refl
+sizeSet-same (suc d) s v w f = rw (sizeSet-same d (suc s) v w (λ a h. f a (omega arith)), f s (le-refl s))
+
+-- lists with the same sizes from a on
+pub fromSize-same : (m a : ℕ) (v w : List ℤ) → 1 ≤ a → a ≤ m → ((s : ℕ) → a ≤ s → hasSize s v ≡ hasSize s w) → fromSize m a v ≡ fromSize m a w
+fromSize-same m a v w l h f = fromSize-is m a v l h ∙ ap ones (sizeSet-same (1 + m - a) a v w f) ∙ sym (fromSize-is m a w l h)
+
+smaller-none : (a c : ℕ) (w : List ℤ) → Between a c w → smaller a (map natAbs w) ≡ 0
+unfolding smaller laterThan later one
+smaller-none a c [] b = refl
+smaller-none a c (e ∷ w) b = rw (le-ltb (natAbs e) a (b .0)) (omega (arith, smaller-none a c w (b .2)))
+
+-- where every size is a or larger, all are counted
+pub fromSize-all : (m a : ℕ) (w : List ℤ) → 1 ≤ a → a ≤ m → Between a (1 + m) w → Distinct w → fromSize m a w ≡ length w
+fromSize-all m a w l h b d =
+    omega (arith, fromSize-add-smaller m a w l h (between-mono a (1 + m) 1 (1 + m) w l (le-refl (1 + m)) b) d, smaller-none a (1 + m) w b)

@@ -35,7 +35,7 @@ same-length c = search needs
 returns-2 : tie.Need-returns-2
 unfolding normalFormOfWord
 returns-2 c =
-    let called = c .before .before .before in
+    let called = c .before .before in
     let held = called .before .before .before in
     let refusal = held .before .before .preset-refusal .ensures in
     front-written _ _ _ _ _ _ _ _ _ _ refl refusal (held .before .if1 .left) (held .shown .ensures) (called .write-checked .ensures)

@@ -37,7 +37,7 @@ same-length c = search needs
 returns-2 : tie.Need-returns-2
 unfolding productOfWords
 returns-2 c =
-    let called = c .before .before .before in
+    let called = c .before .before in
     let held = called .before .before .before in
     let refusal = held .before .before .ranked-words-refusal .ensures in
     front-written _ _ _ (rankRefusal _ _ then wordRefusal _ _ then wordRefusal _ _) _ (product (window _ _ _) (window _ _ _)) _ _ _ _ refl refusal

@@ -1,23 +1,18 @@
 -- Windows at the front of a work window of 64 entries: what the front holds, and that it passes checks 9 to 11.
 --
--- Sections: what words show; a front that is written; a front that is read; a copy.
+-- Sections: what words show; a front that is written; a front that is read.
 -- Assumes nothing.
 use mathlib.Core.Path.{_≡_, refl, sym, ap, _∙_}
 use mathlib.Core.List.{List, _++_}
-use Prim.Native.Nat.{ℕ, _+_, _≤_, _<_}
+use Prim.Native.Nat.{ℕ, _≤_}
 use native.Mathlib.Omega.{arith}
-use lib.IntN.{ℤ, pos}
-use lib.ListN.{length, getD, take, drop, set}
-use lib.Seq.{length-take-le, take-all}
-use lib.Signed.{mag}
-use mir.Syntax.{w8}
-use mir.Val.{toZ, ofZ}
-use Rattle.refusals.proofs.Bytes.{element-back}
+use lib.IntN.{ℤ}
+use lib.ListN.{length, take, drop}
+use lib.Seq.{length-take-le}
 use Rattle.coxeter.proofs.Basics.{length-window}
-use Rattle.coxeter.proofs.Lists.{written-next}
 use Rattle.coxeter.proofs.Products.{length-product, windowFrom-product, window-append}
 use Rattle.coxeter.proofs.Inverses.{length-inverse, inverse-accepted}
-use Rattle.coxeter.proofs.Levels.{window-accepted, accepted-of-refusal, refusal-of-accepted}
+use Rattle.coxeter.proofs.Levels.{window-accepted, refusal-of-accepted}
 use Rattle.coxeter.proofs.Acceptance.{lanes-le}
 use Rattle.coxeter.proofs.Outcomes.{written-part, written-front}
 use Rattle.coxeter.specs.Kinds.{kindOf, lanes, Kind}
@@ -95,18 +90,3 @@ module _ (k n m : ℕ) (h : Rig k n) (e : m ≡ lanes (kindOf k) n) where
 
   pub part-shows : (u : List ℕ) (r : List ℤ) → Front k n (window (kindOf k) n u) r → take m r ≡ window (kindOf k) n u
   part-shows u r f = part-is (window (kindOf k) n u) r f
-
--- ---- a copy
-
-pub copy-next : (i : ℕ) (w out : List ℤ) → i < length w → i < length out → mag (getD w i (pos 0)) < 128 → take i out ≡ take i w
-    → take (i + 1) (set out i (toZ w8 (ofZ w8 (getD w i (pos 0))))) ≡ take (i + 1) w
-copy-next i w out h g f q = written-next i (toZ w8 (ofZ w8 (getD w i (pos 0)))) (pos 0) w out h g (element-back (getD w i (pos 0)) f) q
-
-pub copy-end : (i : ℕ) (w out : List ℤ) → i ≤ length w → length w ≤ i → take i out ≡ take i w → take (length w) out ≡ w
-copy-end i w out a b q =
-    let e : length w ≡ i = omega arith in
-    ap (λ (x : ℕ). take x out) e ∙ q ∙ take-all i w b
-
--- an accepted window's copy
-pub copy-front : (k n : ℕ) (w r : List ℤ) → WindowOf (kindOf k) n w → (length r ≡ 64) × (take (length w) r ≡ w) → Front k n w r
-copy-front k n w r a f = (f .0, ap (λ (m : ℕ). take m r) (sym (accepted-of-refusal (kindOf k) n w a .size)) ∙ f .1)

@@ -1,4 +1,5 @@
--- `between::between_windows` makes checks 5, 6 and 16, and lends a work array with room for every normal form of the rank.
+-- `between::between_windows` makes checks 5, 6 and 16, and lends a work array with room for every normal form of the
+-- rank.
 -- Assumes nothing.
 use mathlib.Core.Path.{sym, _∙_}
 use native.Mathlib.Omega.{arith}

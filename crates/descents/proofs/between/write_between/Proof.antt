@@ -1,4 +1,5 @@
--- `between::write_between` is the call on the two windows, whose answer is passed on if it refuses, and then check 19, check 14 and the copy.
+-- `between::write_between` is the call on the two windows, whose answer is passed on if it refuses, and then check
+-- 19, check 14 and the copy.
 -- Assumes nothing.
 use borrow.Author.Needs.{needs}
 use Rattle.descents.proofs.between.Leading.{refused-by-windows, form-room, form-length, form-letters, answered}

@@ -1,4 +1,5 @@
--- `combined::normal_form_of_product` refuses in document 01's order, or writes the normal form of the product of the windows.
+-- `combined::normal_form_of_product` refuses in document 01's order, or writes the normal form of the product of the
+-- windows.
 -- Assumes nothing.
 use mathlib.Core.Path.{refl}
 use Rattle.coxeter.proofs.Acceptance.{windows-accepted}
@@ -33,7 +34,7 @@ same-length c = search needs
 
 returns-2 : tie.Need-returns-2
 returns-2 c =
-    let called = c .before .before .before in
+    let called = c .before .before in
     let held = called .before .before .before in
     let refusal = held .before .before .ranked-windows-refusal .ensures in
     front-written _ _ _ _ _ _ _ _ _ _ refl refusal (held .before .if1 .left) (held .multiplied .ensures) (called .write-checked .ensures)

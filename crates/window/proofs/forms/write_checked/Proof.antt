@@ -9,33 +9,27 @@ use Rattle.window.proofs.forms.write_checked.Tie as tie
 lacks-room-requires : tie.Need-lacks-room-requires
 lacks-room-requires c κs = search needs
 
-same-length : tie.Need-same-length
-same-length c = search needs
-
 returns : tie.Need-returns
 returns c =
     let measured = c .before in
-    checked-short _ _ _ _ _ (measured .before .before .before .pre .1 .1) (measured .lacks-room .ensures) (c .if1 .taken)
+    checked-short _ _ _ _ _ (measured .before .before .pre .1 .1) (measured .lacks-room .ensures) (c .if1 .taken)
 
 write-normal-form-requires : tie.Need-write-normal-form-requires
 write-normal-form-requires c κs =
-    let fits = c .before .before in
-    let start = fits .before .before .before .before in
+    let fits = c .before in
+    let start = fits .before .before .before in
     let pre = start .pre in
     let room = checked-room _ _ _ (now (start .args .out)) _ (pre .1 .1) (fits .before .lacks-room .ensures) (fits .if1 .left) in
     (pre .0, (pre .1 .0, (pre .1 .1, room)))
 
-same-length-2 : tie.Need-same-length-2
-same-length-2 c = search needs
-
-same-length-3 : tie.Need-same-length-3
-same-length-3 c = search needs
+same-length : tie.Need-same-length
+same-length c = search needs
 
 returns-2 : tie.Need-returns-2
 returns-2 c =
-    let wrote = c .before .before .before in
-    let fits = wrote .before .before .before in
-    let pre = fits .before .before .before .before .pre in
+    let wrote = c .before .before in
+    let fits = wrote .before .before in
+    let pre = fits .before .before .before .pre in
     checked-written _ _ _ _ _ (pre .1 .1) (fits .before .lacks-room .ensures) _ _ (fits .if1 .left)
     (wrote .write-normal-form .ensures .0) (wrote .write-normal-form .ensures .1)
 
@@ -44,9 +38,7 @@ write-checked-spec =
     tie.close
     (tie.spec
     lacks-room-requires
-    same-length
     returns
     write-normal-form-requires
-    same-length-2
-    same-length-3
+    same-length
     returns-2)

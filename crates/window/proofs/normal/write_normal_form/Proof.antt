@@ -1,13 +1,14 @@
--- `normal::write_normal_form` stores the normal form from level 1 on; that the sizes are there is what checks 9 to 11 say.
+-- `normal::write_normal_form` stores the blocks of the window's indices from level 1 on, which are the normal form.
 -- Assumes nothing.
-use mathlib.Core.Path.{sym}
+use mathlib.Core.Path.{sym, ap}
+use Prim.Native.Nat.{ℕ, _+_}
 use native.Mathlib.Omega.{arith}
 use lib.Seq.{length-take-le}
 use borrow.Author.Needs.{needs}
 use Rattle.coxeter.specs.Kinds.{kindOf}
 use Rattle.coxeter.proofs.Acceptance.{rank-accepted}
 use Rattle.coxeter.proofs.KindLaws.{one-le}
-use Rattle.window.proofs.normal.Peels.{first-length, first-sizes, first-room, first-written}
+use Rattle.window.proofs.normal.Forms.{front-passes, first-fits, first-length, first-small, first-indices, first-room, first-written}
 use Rattle.window.proofs.normal.write_normal_form.Statement.{statement}
 use Rattle.window.proofs.normal.write_normal_form.Tie as tie
 
@@ -19,37 +20,57 @@ levels-of-requires c κs =
     let start = c .before .before in
     one-le (kindOf (start .args .kind)) _ (rank-accepted _ _ (start .pre .0) .0)
 
-slice-relend-prefix-write-from : tie.Need-slice-relend-prefix-write-from
-slice-relend-prefix-write-from c = search needs
+slice-aggregate-indices-of : tie.Need-slice-aggregate-indices-of
+slice-aggregate-indices-of c = sym (length-take-le _ _ (search needs))
+
+indices-of-requires : tie.Need-indices-of-requires
+indices-of-requires c κs =
+    let counted = c .before .before in
+    let pre = counted .before .before .pre in
+    (pre .0, front-passes _ _ _ _ (counted .lanes .ensures) (pre .1 .1 .0))
+
+array-share-prefix-js : tie.Need-array-share-prefix-js
+array-share-prefix-js c =
+    let leveled = c .before .before in
+    let counted = leveled .before in
+    let pre = counted .before .before .pre in
+    first-fits _ _ _ _ _ _ (pre .0) (pre .1 .1 .0) (counted .lanes .ensures) (leveled .levels-of .ensures) (c .indices-of .ensures)
 
 slice-aggregate-write-from : tie.Need-slice-aggregate-write-from
-slice-aggregate-write-from c = sym (length-take-le _ _ (search needs))
+slice-aggregate-write-from c =
+    let found = c .before in
+    let leveled = found .before .before in
+    let counted = leveled .before in
+    let pre = counted .before .before .pre in
+    first-length _ _ _ _ _ _ (pre .0) (pre .1 .1 .0) (counted .lanes .ensures) (leveled .levels-of .ensures) (found .indices-of .ensures)
 
 write-from-requires : tie.Need-write-from-requires
 write-from-requires c κs =
-    let leveled = c .before .before in
+    let found = c .before .before in
+    let leveled = found .before .before in
     let counted = leveled .before in
     let pre = counted .before .before .pre in
     let a = rank-accepted _ _ (pre .0) in
     let e = counted .lanes .ensures in
-    let t = leveled .levels-of .ensures in (
-      (a, omega arith, first-length _ _ _ _ _ e t (pre .1 .1 .0)),
-      (first-sizes _ _ _ _ _ e t (a .1) (pre .1 .1 .0), first-room _ _ _ _ _ e t _ (pre .1 .1 .1)),
+    let t = leveled .levels-of .ensures in
+    let js = found .indices-of .ensures in
+    let size = first-length _ _ _ _ _ _ (pre .0) (pre .1 .1 .0) e t js in (
+      (a .0, a .1, omega arith, ap (λ (x : ℕ). x + 1) size, first-small _ _ _ _ _ _ (pre .0) (pre .1 .1 .0) e t js),
+      (first-indices _ _ _ _ _ _ (pre .0) (pre .1 .1 .0) e t js, first-room _ _ _ _ _ _ (pre .0) (pre .1 .1 .0) e t js _ (pre .1 .1 .1)),
     )
 
 same-length : tie.Need-same-length
 same-length c = search needs
 
-same-length-2 : tie.Need-same-length-2
-same-length-2 c = search needs
-
 returns : tie.Need-returns
 returns c =
-    let wrote = c .before .before .before in
-    let leveled = wrote .before .before .before in
+    let wrote = c .before .before in
+    let found = wrote .before .before .before in
+    let leveled = found .before .before in
     let counted = leveled .before in
-    first-written _ _ _ _ _ (counted .lanes .ensures) (leveled .levels-of .ensures) _ _ _ (counted .before .before .pre .1 .1 .1)
-    (wrote .write-from .ensures)
+    let pre = counted .before .before .pre in
+    first-written _ _ _ _ _ _ (pre .0) (pre .1 .1 .0) (counted .lanes .ensures) (leveled .levels-of .ensures) (found .indices-of .ensures) _ _ _
+    (pre .1 .1 .1) (wrote .write-from .ensures)
 
 pub write-normal-form-spec : {M : Type 1} → statement M
 write-normal-form-spec =
@@ -57,9 +78,10 @@ write-normal-form-spec =
     (tie.spec
     lanes-requires
     levels-of-requires
-    slice-relend-prefix-write-from
+    slice-aggregate-indices-of
+    indices-of-requires
+    array-share-prefix-js
     slice-aggregate-write-from
     write-from-requires
     same-length
-    same-length-2
     returns)
