@@ -18,7 +18,9 @@ ghost use Rattle.book_format.specs.Calls.{checkedBook, checkedRecord, checkedPr
 // The most bytes of a book.
 pub(crate) const LARGEST: usize = 65535;
 
-// Check 3, of a book with c presets: o is where the next record has to begin. Nothing behind the trailer's beginning is read as a record.
+// Check 3, of a book with c presets: `due` is where the next record has to begin. Each record is read where its offset
+// says, and a wrong offset is only noted, so that no load waits for the record before it. Nothing behind the trailer's
+// beginning is read as a record.
 fn is_misplaced(edition: Edition, book: &[u8], c: usize) -> bool
     requires { ⌜ length (now book) ≤ 65535 ⌝ }
     requires { ⌜ 2 * c + 2 ≤ length (now book) ⌝ }
@@ -28,25 +30,19 @@ fn is_misplaced(edition: Edition, book: &[u8], c: usize) -> bool
     let trailer = book.len() - (2 * c + 2);
     let place = count_place(edition);
     let head = place + 2;
-    let mut o = 0;
+    let mut wrong = false;
+    let mut due = 0;
     let mut i = 0;
     while i < c {
         let offset = two_at(book, trailer + 2 * i);
-        if offset != o {
+        if trailer < offset + head {
             return true;
         }
-        if trailer < o + head {
-            return true;
-        }
-        let letters = two_at(book, o + place);
-        let end = o + head + letters;
-        if trailer < end {
-            return true;
-        }
-        o = end;
+        wrong = wrong | (offset != due);
+        due = offset + head + two_at(book, offset + place);
         i += 1;
     }
-    o != trailer
+    wrong | (due != trailer)
 }
 
 // Checks 1 to 3, which a book of no bytes passes.

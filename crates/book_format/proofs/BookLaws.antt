@@ -3,7 +3,7 @@
 -- Sections: checks 1 to 3; the walk over the records; accepted books.
 -- Assumes nothing.
 use mathlib.Core.Path.{_≡_, refl, sym, _∙_}
-use mathlib.Core.Bool.{Bool, true, false, not, _||_, true≢false}
+use mathlib.Core.Bool.{Bool, true, false, not, _||_, or-true, or-assoc, true≢false}
 use mathlib.Core.List.{List, [], _∷_}
 use Prim.Native.Nat.{ℕ, zero, suc, _+_, _-_, _*_, _≤_, _<_}
 use native.Mathlib.Decide.{ℕ-discrete}
@@ -12,7 +12,7 @@ use native.Mathlib.Numerals.{add-one}
 use native.Mathlib.Omega.{arith}
 use lib.Dec.{eqb, ltb}
 use lib.ListN.{length}
-use borrow.Author.Tests.{eq-eqb, ne-eqb, lt-ltb, le-ltb, eqb-true, ltb-false, not-false}
+use borrow.Author.Tests.{eq-eqb, ne-eqb, lt-ltb, le-ltb, eqb-true, ltb-true, ltb-false, not-false}
 use Rattle.coxeter.specs.Kinds.{pick}
 use Rattle.coxeter.specs.Checks.{check, _then_}
 use Rattle.coxeter.proofs.Basics.{or-false-left, or-false-right}
@@ -89,36 +89,54 @@ end-read ed b o p l w y = rw (y, w)
 pub end-read-le : (ed : Edition) (b : List ℕ) (o p l : ℕ) → p ≡ countPlace ed → l ≡ twoAt b (o + p) → endAt ed b o ≤ length b → o + (p + 2) + l ≤ length b
 end-read-le ed b o p l w y h = rw (end-read ed b o p l w y) h
 
--- the tests at record i, which has to begin at byte o, in the order of the code: x is its offset, l its letter count, which has the place p in a record
+-- where the next record would have to begin inside the trailer, it is misplaced or the end is
+misplaced-past : (ed : Edition) (b : List ℕ) (j i o : ℕ) → trailer b < o → misplacedFrom ed b j i o ≡ true
+unfolding misplacedFrom
+misplaced-past ed b zero i o l = rw (ne-eqb o (trailer b) (λ e. omega arith))
+misplaced-past ed b (suc j) i o l = rw (lt-ltb (trailer b) (endAt ed b o) (omega arith)) (or-true (not (eqb (offset b i) o)))
+
+-- so that this needs no test of its own
+past-or-misplaced : (ed : Edition) (b : List ℕ) (j i o : ℕ) → (ltb (trailer b) o || misplacedFrom ed b j i o) ≡ misplacedFrom ed b j i o
+past-or-misplaced ed b j i o = go (ltb (trailer b) o) refl
+  where
+    go : (u : Bool) → ltb (trailer b) o ≡ u → (u || misplacedFrom ed b j i o) ≡ misplacedFrom ed b j i o
+    go true q = sym (misplaced-past ed b j i o (ltb-true (trailer b) o q))
+    go false q = refl
+
+-- an offset that is not o settles it; else the record may be read where its offset says
+misplaced-next : (ed : Edition) (b : List ℕ) (j i o : ℕ)
+    → misplacedFrom ed b (suc j) i o ≡ (not (eqb (offset b i) o) || misplacedFrom ed b j (suc i) (endAt ed b (offset b i)))
+unfolding misplacedFrom
+misplaced-next ed b j i o = elim (ℕ-discrete (offset b i) o) [ yes s ↦ right s | no f ↦ rw (ne-eqb (offset b i) o f) ]
+  where
+    right : offset b i ≡ o
+        → (not (eqb (offset b i) o) || (ltb (trailer b) (endAt ed b o) || misplacedFrom ed b j (suc i) (endAt ed b o)))
+        ≡ (not (eqb (offset b i) o) || misplacedFrom ed b j (suc i) (endAt ed b (offset b i)))
+    right s = rw (s, eq-eqb o o refl) (past-or-misplaced ed b j (suc i) (endAt ed b o))
+
+-- record i, which has to begin at byte o, as the code meets it: x is its offset, p the place of the letter count in a
+-- record
 module _ (ed : Edition) (b : List ℕ) (c i o x : ℕ) (e : c ≡ count b) (h : i < c) (q : x ≡ twoAt b (length b - (2 * c + 2) + 2 * i)) (p : ℕ)
     (w : p ≡ countPlace ed) where
-  left-next : c - i ≡ suc (c - (i + 1))
-  left-next = omega arith
+  misplaced-at : misplacedFrom ed b (c - i) i o ≡ (not (eqb x o) || misplacedFrom ed b (c - (i + 1)) (i + 1) (endAt ed b x))
+  misplaced-at =
+      let next : c - i ≡ suc (c - (i + 1)) = omega arith in
+      rw (next, add-one i, ← offset-read b c i x e q) (misplaced-next ed b (c - suc i) i o)
 
-  pub misplaced-offset : (x ≡ o → ⊥) → misplacedFrom ed b (c - i) i o ≡ true
-  unfolding misplacedFrom
-  misplaced-offset f = rw (left-next, offset-read b c i x e q, ne-eqb x o f)
+  -- t says whether an offset before it was wrong
+  module _ (t : Bool) where
+    -- its offset leaves no room for the bytes before its letters
+    pub misplaced-room : length b - (2 * c + 2) < x + (p + 2) → (t || misplacedFrom ed b (c - i) i o) ≡ true
+    misplaced-room l =
+        let z = trailer-read b c e in
+        rw (misplaced-at, misplaced-past ed b (c - (i + 1)) (i + 1) (endAt ed b x) (omega arith), or-true (not (eqb x o))) (or-true t)
 
-  pub misplaced-room : x ≡ o → length b - (2 * c + 2) < o + (p + 2) → misplacedFrom ed b (c - i) i o ≡ true
-  unfolding misplacedFrom
-  misplaced-room s l =
-      let t = trailer-read b c e in
-      rw (left-next, offset-read b c i x e q, eq-eqb x o s, lt-ltb (trailer b) (endAt ed b o) (omega arith))
-
-  pub misplaced-end : (l : ℕ) → x ≡ o → l ≡ twoAt b (o + p) → length b - (2 * c + 2) < o + (p + 2) + l → misplacedFrom ed b (c - i) i o ≡ true
-  unfolding misplacedFrom
-  misplaced-end l s y g =
-      let t = trailer-read b c e in
-      let z = end-read ed b o p l w y in
-      rw (left-next, offset-read b c i x e q, eq-eqb x o s, lt-ltb (trailer b) (endAt ed b o) (omega arith))
-
-  pub misplaced-step : (l : ℕ) → x ≡ o → l ≡ twoAt b (o + p) → o + (p + 2) + l ≤ length b - (2 * c + 2)
-      → misplacedFrom ed b (c - i) i o ≡ misplacedFrom ed b (c - (i + 1)) (i + 1) (o + (p + 2) + l)
-  unfolding misplacedFrom
-  misplaced-step l s y g =
-      let t = trailer-read b c e in
-      let z = end-read ed b o p l w y in
-      rw (left-next, offset-read b c i x e q, eq-eqb x o s, le-ltb (trailer b) (endAt ed b o) (omega arith), add-one i, z)
+    -- its letter count is l
+    pub misplaced-step : (l : ℕ) → l ≡ twoAt b (x + p)
+        → (t || misplacedFrom ed b (c - i) i o) ≡ ((t || not (eqb x o)) || misplacedFrom ed b (c - (i + 1)) (i + 1) (x + (p + 2) + l))
+    misplaced-step l y =
+        rw (misplaced-at, end-read ed b x p l w y)
+        (sym (or-assoc t (not (eqb x o)) (misplacedFrom ed b (c - (i + 1)) (i + 1) (endAt ed b x))))
 
 pub misplaced-start : (ed : Edition) (b : List ℕ) (c : ℕ) → c ≡ count b → misplaced ed b ≡ misplacedFrom ed b (c - 0) 0 0
 unfolding misplaced
