@@ -1,5 +1,6 @@
 //! Rewritings to their end: long words, and the worst that are known, with the number of steps.
-use crate::Random;
+use crate::inputs::Random;
+use crate::timing::{Cell, Side};
 use plain::library_way;
 use std::hint::black_box;
 use std::time::Instant;
@@ -8,6 +9,7 @@ use winnathey::raw as rattle;
 /// Runs of each side; they alternate, and the fastest counts: a run is long, so that other work on the cores shows in most.
 const SAMPLES: usize = 9;
 const LETTERS: usize = 4096;
+pub const CALL: &str = "rewriting to the end";
 
 /// The longest normal form reversed, at rank 64 that over the steps from 10 on, then step n repeated; in kind A the steps
 /// upwards, then stairs over all but the last three, then step n - 1 repeated.
@@ -44,20 +46,31 @@ struct Lists {
     out: Vec<u8>,
 }
 
-pub fn print(random: &mut Random) {
+/// Prints the table, and hands back its times as cells.
+pub fn print(random: &mut Random) -> Vec<Cell> {
+    let mut cells = Vec::new();
     println!(
-        "\n| rewriting to the end, {LETTERS} letters | steps | milliseconds | nanoseconds a step | ratio | only counted, ratio |"
+        "\n| {CALL}, {LETTERS} letters | steps | milliseconds | nanoseconds a step | ratio | only counted, ratio |"
     );
     println!("|---|--:|--:|--:|--:|--:|");
     for (kind, rank, rig) in [(1, 31, "A31"), (2, 32, "B32"), (1, 63, "A63"), (2, 64, "B64"), (3, 64, "D64")] {
         let words = [("random", random.word(rank, LETTERS)), ("worst known", worst(kind, rank))];
         for (name, word) in words {
-            row(kind, rank, &format!("{rig}, {name}"), &word);
+            let [to_end, counted] = row(kind, rank, &format!("{rig}, {name}"), &word);
+            let cell = |column: &str, [rattle, plain]: [f64; 2]| Cell {
+                call: CALL,
+                row: rig.to_string(),
+                column: format!("{name}, {column}"),
+                times: vec![(Side::Rattle, rattle * 1e9), (Side::Rust, plain * 1e9)],
+            };
+            cells.extend([cell("with its lists", to_end), cell("only counted", counted)]);
         }
     }
+    cells
 }
 
-fn row(kind: u32, rank: u32, name: &str, word: &[u8]) {
+/// Prints the row of a word. Seconds of Rattle and of plain Rust, for the rewriting and for its steps only counted.
+fn row(kind: u32, rank: u32, name: &str, word: &[u8]) -> [[f64; 2]; 2] {
     let steps = rattle::rewrite_steps(kind, rank, word) as usize;
     let mut lists =
         Lists { families: vec![0; steps], places: vec![0; steps], lengths: vec![0; steps], out: vec![0; LETTERS] };
@@ -92,4 +105,5 @@ fn row(kind: u32, rank: u32, name: &str, word: &[u8]) {
         rattle / plain,
         counted / plainly
     );
+    [[rattle, plain], [counted, plainly]]
 }
