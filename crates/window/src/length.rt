@@ -1,109 +1,16 @@
-// The length of a window, by one comparison of sizes for each pair of its entries, and its three counts, in one pass over the entries.
+// The length of a window, whole and as its three counts, in one pass over its entries.
 use coxeter::Counted;
 use refusals::is_negative;
 use refusals::size;
 ghost use mathlib.Core.Path.{_≡_};
-ghost use mathlib.Core.List.{map};
 ghost use Prim.Native.Nat.{_+_, _-_, _*_, _/_, _^_, _≤_, _<_};
 ghost use lib.Bits.{bitOr};
 ghost use lib.Count.{ones};
-ghost use lib.IntN.{natAbs, pos};
 ghost use lib.ListN.{length, take};
-ghost use Rattle.coxeter.specs.Kinds.{B, pick, kindOf, lanes};
-ghost use Rattle.coxeter.specs.Length.{laterThan, inversions, negativeSumPairs, negatives, crossings, windowLength};
+ghost use Rattle.coxeter.specs.Kinds.{B, kindOf, lanes};
+ghost use Rattle.coxeter.specs.Length.{inversions, negativeSumPairs, negatives, crossings, windowLength};
 ghost use Rattle.coxeter.specs.Checks.{Rig, WindowOf};
 ghost use Rattle.coxeter.specs.Calls.{countedOf};
-
-fn no_sizes() -> [u8; 64]
-    ensures { λ r. ⌜ length r ≡ 64 ⌝ }
-{
-    [0u8; 64]
-}
-
-// The sizes of a window's entries, written to the front of `out`.
-fn set_sizes(w: &[i8], out: &mut [u8])
-    requires { ⌜ length (now w) ≤ length (now out) ⌝ }
-    ensures { λ _. ⌜ take (length (now (w .entry))) (now (out .exit)) ≡ map natAbs (now (w .entry)) ⌝ }
-{
-    let mut i = 0;
-    while i < w.len() {
-        out[i] = size(w[i]);
-        i += 1;
-    }
-}
-
-// How many of the sizes are smaller than `own`. The number fits a byte, so that many of them are compared at a time.
-fn count_smaller(own: u8, rest: &[u8]) -> usize
-    requires { ⌜ length (now rest) ≤ 64 ⌝ }
-    ensures { λ r. ⌜ (r ≤ length (now (rest .entry))) × (r ≡ laterThan (pos own) (map pos (now (rest .entry)))) ⌝ }
-{
-    let mut sum: u8 = 0;
-    let mut i = 0;
-    while i < rest.len() {
-        if rest[i] < own {
-            sum += 1;
-        }
-        i += 1;
-    }
-    sum as usize
-}
-
-// The pairs of both sorts of an entry with those behind it, by their sizes: one with each smaller one, and with each larger one two if the
-// entry is negative.
-fn pairs_behind(minus: bool, own: u8, rest: &[u8]) -> usize
-    requires { ⌜ length (now rest) ≤ 64 ⌝ }
-    ensures { λ r. ⌜ r ≡ pick minus (2 * length (now (rest .entry)) - laterThan (pos own) (map pos (now (rest .entry))))
-        (laterThan (pos own) (map pos (now (rest .entry)))) ⌝ }
-{
-    let less = count_smaller(own, rest);
-    if minus {
-        return 2 * rest.len() - less;
-    }
-    less
-}
-
-// Both sorts of pairs of a window with these sizes. An accepted window of any kind is one of kind B.
-fn sized_pairs(w: &[i8], sizes: &[u8]) -> usize
-    requires { ⌜ length (now w) ≤ 64 ⌝ }
-    requires { ⌜ WindowOf B (length (now w)) (now w) ⌝ }
-    requires { ⌜ now sizes ≡ map natAbs (now w) ⌝ }
-    ensures { λ r. ⌜ r ≡ inversions (now (w .entry)) + negativeSumPairs (now (w .entry)) ⌝ }
-{
-    let mut sum: usize = 0;
-    let mut i = 0;
-    while i < w.len() {
-        let next = i + 1;
-        sum += pairs_behind(is_negative(w[i]), sizes[i], &sizes[next..]);
-        i = next;
-    }
-    sum
-}
-
-// The same of a window alone.
-fn pairs(w: &[i8]) -> usize
-    requires { ⌜ length (now w) ≤ 64 ⌝ }
-    requires { ⌜ WindowOf B (length (now w)) (now w) ⌝ }
-    ensures { λ r. ⌜ r ≡ inversions (now (w .entry)) + negativeSumPairs (now (w .entry)) ⌝ }
-{
-    let m = w.len();
-    let mut work = no_sizes();
-    set_sizes(w, &mut work);
-    sized_pairs(w, &work[..m])
-}
-
-fn negative_entries(w: &[i8]) -> usize
-    ensures { λ r. ⌜ r ≡ negatives (now (w .entry)) ⌝ }
-{
-    let mut sum: usize = 0;
-    let mut i = 0;
-    while i < w.len() {
-        if is_negative(w[i]) {
-            sum += 1;
-        }
-        i += 1;
-    }
-    sum
-}
 
 // What a length is made of: the pairs of both sorts, the negative sum pairs among them, and the negative entries.
 struct Parts {
@@ -196,11 +103,11 @@ pub(crate) fn length_of(kind: u8, n: usize, w: &[i8]) -> usize
     requires { ⌜ WindowOf (kindOf kind) n (now w) ⌝ }
     ensures { λ r. ⌜ r ≡ windowLength (kindOf kind) (now (w .entry)) ⌝ }
 {
-    let sum = pairs(w);
+    let parts = parts_of(w);
     if kind == 2 {
-        return sum + negative_entries(w);
+        return parts.pairs + parts.negatives;
     }
-    sum
+    parts.pairs
 }
 
 // The length of the accepted window at the front of `work`.

@@ -16,6 +16,7 @@ ghost use Rattle.coxeter.specs.Kinds.{B, D, pick, kindOf, least, lanes};
 ghost use Rattle.coxeter.specs.Checks.{Rig, WindowOf};
 ghost use Rattle.coxeter.specs.Calls.{written};
 ghost use Rattle.coxeter.specs.NormalForm.{rise, fall, block, blocks, levels, normalForm};
+ghost use Rattle.coxeter.proofs.Acceptance.{Ranked};
 ghost use Rattle.coxeter.proofs.Indices.{indices};
 
 // The letters from a up to b, written from the place `at` on; the answer is the place after them.
