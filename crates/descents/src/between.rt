@@ -3,6 +3,7 @@
 use crate::allowed::is_allowed;
 use crate::allowed::set_refusal;
 use crate::work::few_letters;
+use crate::work::more_letters;
 use crate::work::no_letters;
 use window::Answer;
 use window::normal_form_between;
@@ -89,6 +90,10 @@ pub fn between_windows(
     }
     if rank <= 8 {
         let mut form = few_letters();
+        return write_between(kind, rank, allowed, from, to, &mut form, out);
+    }
+    if rank <= 16 {
+        let mut form = more_letters();
         return write_between(kind, rank, allowed, from, to, &mut form, out);
     }
     let mut form = no_letters();

@@ -9,7 +9,7 @@ ghost use lib.ListN.{length};
 ghost use Rattle.coxeter.specs.Kinds as kinds;
 ghost use Rattle.coxeter.specs.Kinds.{kindOf};
 ghost use Rattle.coxeter.specs.Windows.{window, inverse};
-ghost use Rattle.coxeter.specs.Checks.{rankRefusal, wordRefusal, windowRefusal};
+ghost use Rattle.coxeter.specs.Checks.{Rig, WordOf, WindowOf};
 ghost use Rattle.coxeter.specs.NormalForm.{normalForm, wordNormalForm};
 ghost use Rattle.coxeter.proofs.Fronts.{Front};
 
@@ -20,11 +20,17 @@ pub(crate) fn no_letters() -> [u8; 4096]
     [0u8; 4096]
 }
 
-// One with room for every normal form of rank 8 or less, which takes no time to make.
+// One with room for every normal form of rank 8 or less, and one for rank 16 or less: they take less time to make.
 pub(crate) fn few_letters() -> [u8; 64]
     ensures { λ r. ⌜ 64 ≡ length r ⌝ }
 {
     [0u8; 64]
+}
+
+pub(crate) fn more_letters() -> [u8; 256]
+    ensures { λ r. ⌜ 256 ≡ length r ⌝ }
+{
+    [0u8; 256]
 }
 
 // A window with room for every lane count.

@@ -73,9 +73,12 @@ copied u out after e = e ∙ ap (λ (x : List ℕ). x ++ drop (length u) out) (t
 
 -- ---- the window between two windows and its normal form
 
--- what there is room for up to rank 8 and up to rank 64
+-- what there is room for up to rank 8, 16 and 64
 pub square-le-64 : (n : ℕ) → n ≤ 8 → n * n ≤ 64
 square-le-64 n h = mul-le-mul {n₁ = n} {m₁ = n} {n₂ = 8} {m₂ = 8} h h
+
+pub square-le-256 : (n : ℕ) → n ≤ 16 → n * n ≤ 256
+square-le-256 n h = mul-le-mul {n₁ = n} {m₁ = n} {n₂ = 16} {m₂ = 16} h h
 
 pub square-le-4096 : (n : ℕ) → n ≤ 64 → n * n ≤ 4096
 square-le-4096 n h = mul-le-mul {n₁ = n} {m₁ = n} {n₂ = 64} {m₂ = 64} h h

@@ -20,7 +20,7 @@ use Rattle.coxeter.specs.Windows.{window, product, inverse}
 use Rattle.coxeter.specs.Checks.{_then_, rankRefusal, windowRefusal, Rig, WindowOf}
 use Rattle.coxeter.specs.NormalForm.{normalForm}
 use Rattle.coxeter.specs.Calls.{Yields, writes}
-use Rattle.coxeter.proofs.Acceptance.{rank-accepted}
+use Rattle.coxeter.proofs.Acceptance.{Ranked, rank-accepted}
 use Rattle.coxeter.proofs.Levels.{Accepted, accepted-of-refusal, refusal-of-accepted}
 use Rattle.coxeter.proofs.Inverses.{inverse-accepted}
 use Rattle.coxeter.proofs.Lengths.{length-normalForm}

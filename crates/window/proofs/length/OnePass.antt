@@ -15,7 +15,7 @@ use lib.IntN.{ℤ, pos, natAbs}
 use lib.ListN.{length, length-map, length-drop, getD, drop, drop-of-length-le}
 use Rattle.coxeter.specs.Kinds.{B, pick}
 use Rattle.coxeter.specs.Length.{negative, one, inversions, negativeSumPairs, negatives}
-use Rattle.coxeter.specs.Checks.{windowRefusal}
+use Rattle.coxeter.specs.Checks.{WindowOf}
 use Rattle.coxeter.proofs.Levels.{Between, Distinct, accepted-of-refusal}
 use Rattle.coxeter.proofs.PairWeights.{weights, pairWeights, negatives-le}
 use Rattle.coxeter.proofs.NegativeSums.{lackOfNegatives, negativeSumPairs-level}

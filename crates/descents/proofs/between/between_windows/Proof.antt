@@ -5,7 +5,7 @@ use mathlib.Core.Path.{sym, _∙_}
 use native.Mathlib.Omega.{arith}
 use borrow.Author.Needs.{needs}
 use Rattle.coxeter.proofs.Acceptance.{rank-accepted}
-use Rattle.descents.proofs.between.Leading.{square-le-64, square-le-4096, refused-by-set, set-accepted}
+use Rattle.descents.proofs.between.Leading.{square-le-64, square-le-256, square-le-4096, refused-by-set, set-accepted}
 use Rattle.descents.proofs.between.between_windows.Statement.{statement}
 use Rattle.descents.proofs.between.between_windows.Tie as tie
 
@@ -34,8 +34,8 @@ same-length c = search needs
 returns-2 : tie.Need-returns-2
 returns-2 c = search needs
 
-no-letters-requires : tie.Need-no-letters-requires
-no-letters-requires c κs = search needs
+more-letters-requires : tie.Need-more-letters-requires
+more-letters-requires c κs = search needs
 
 slice-aggregate-write-between-2 : tie.Need-slice-aggregate-write-between-2
 slice-aggregate-write-between-2 c = search needs
@@ -43,15 +43,34 @@ slice-aggregate-write-between-2 c = search needs
 write-between-requires-2 : tie.Need-write-between-requires-2
 write-between-requires-2 c κs =
     let f = c .before .before in
-    let passed = f .before .before in
-    let z = sym (passed .before .set-refusal .ensures) ∙ passed .if1 .left in
-    (z, omega (arith, square-le-4096 _ (rank-accepted _ _ (set-accepted _ _ _ z) .1), f .no-letters .ensures))
+    let e = f .before in
+    let passed = e .before .before in
+    (sym (passed .before .set-refusal .ensures) ∙ passed .if1 .left, omega (arith, square-le-256 _ (e .if3 .taken), f .more-letters .ensures))
 
 same-length-2 : tie.Need-same-length-2
 same-length-2 c = search needs
 
 returns-3 : tie.Need-returns-3
 returns-3 c = search needs
+
+no-letters-requires : tie.Need-no-letters-requires
+no-letters-requires c κs = search needs
+
+slice-aggregate-write-between-3 : tie.Need-slice-aggregate-write-between-3
+slice-aggregate-write-between-3 c = search needs
+
+write-between-requires-3 : tie.Need-write-between-requires-3
+write-between-requires-3 c κs =
+    let f = c .before .before in
+    let passed = f .before .before .before in
+    let z = sym (passed .before .set-refusal .ensures) ∙ passed .if1 .left in
+    (z, omega (arith, square-le-4096 _ (rank-accepted _ _ (set-accepted _ _ _ z) .1), f .no-letters .ensures))
+
+same-length-3 : tie.Need-same-length-3
+same-length-3 c = search needs
+
+returns-4 : tie.Need-returns-4
+returns-4 c = search needs
 
 pub between-windows-spec : {M : Type 1} → statement M
 between-windows-spec =
@@ -64,8 +83,13 @@ between-windows-spec =
     write-between-requires
     same-length
     returns-2
-    no-letters-requires
+    more-letters-requires
     slice-aggregate-write-between-2
     write-between-requires-2
     same-length-2
-    returns-3)
+    returns-3
+    no-letters-requires
+    slice-aggregate-write-between-3
+    write-between-requires-3
+    same-length-3
+    returns-4)

@@ -105,7 +105,7 @@ write-from-write-block-requires t c κs =
     let more = at-write .before .before .if1 .left in
     let pre = at-write .before .before .before .before .before .pre .1 in
     let level = blocks-next _ _ _ _ _ more (pre .0 .2) (pre .0 .3) in (
-      (pre .0 .0, pre .0 .1, pre .1 .0 _ (omega arith)),
+      ((pre .0 .0, pre .0 .1), pre .1 .0 _ (omega arith)),
       joined-room-right level (pre .1 .1) (written .ensures .0) (written .kept .1 .1 .1 .1 .1 .0),
     )
 
