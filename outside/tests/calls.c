@@ -20,8 +20,7 @@ static uint16_t sizes[ROOM];
 static uint64_t counts[ROOM];
 
 static int failed;
-/* The last refusal. */
-#define LAST 21
+#define LAST WINNATHEY_LAST_REFUSAL
 
 static int seen[LAST + 1]; /* by the refusal's number; none fits is at 0 */
 static int seen_no_fallback;
@@ -97,6 +96,14 @@ static void told(const char *call, int64_t answer)
         seen[-answer] = 1;
 }
 
+/* A sentence, which is longer than the outputs below. */
+static void sentence(uint32_t refusal)
+{
+    char text[WINNATHEY_MAX_SENTENCE];
+    int64_t length = winnathey_refusal_sentence(refusal, (uint8_t *)text, sizeof text);
+    printf("refusal %" PRIu32 ": %.*s\n", refusal, (int)length, text);
+}
+
 #define CALL(call)           \
     do {                     \
         fill();              \
@@ -124,6 +131,26 @@ static const uint8_t wide[] = {1, 31, 32, 0, 0, 1, 32, 33, 0, 0, 0, 0, 5, 0, 2, 
 static const uint8_t retired[] = {1, 1, 1, 0, 1, 0, 0, 1, 0}, second_retired[] = {1, 1, 2, 1, 0, 1, 0, 0, 1, 0};
 static uint8_t full[65533]; /* one record of 65,525 letters */
 static uint8_t heads[56174]; /* 9,362 records without letters: in the second edition 65,536 bytes */
+
+static void library(void)
+{
+    CALL(winnathey_version());
+    CALL(winnathey_refusal_sentence(5, bytes, ROOM));
+    CALL(winnathey_refusal_sentence(5, bytes, 26));
+    CALL(winnathey_refusal_sentence(5, bytes, 25));
+    CALL(winnathey_refusal_sentence(5, NULL, 0));
+    CALL(winnathey_refusal_sentence(0, bytes, ROOM));
+    CALL(winnathey_refusal_sentence(0, NULL, 0));
+    CALL(winnathey_refusal_sentence(22, bytes, ROOM));
+    CALL(winnathey_refusal_sentence(261, bytes, ROOM));
+    CALL(winnathey_refusal_sentence(UINT32_MAX, bytes, ROOM));
+    for (uint32_t k = 1; k <= WINNATHEY_LAST_REFUSAL; k++)
+        sentence(k);
+    if (winnathey_version() != WINNATHEY_VERSION_NUMBER) {
+        printf("the header is not the library's: %s\n", WINNATHEY_VERSION);
+        failed = 1;
+    }
+}
 
 static void words(void)
 {
@@ -490,6 +517,7 @@ int main(void)
     heads[sizeof heads - 2] = 9362 & 0xff;
     heads[sizeof heads - 1] = 9362 >> 8;
 
+    library();
     words();
     windows();
     tables();

@@ -1,7 +1,7 @@
 -- Kinds and ranks of 32 bits, as the calls below take them: a byte each, and 0 for what is none. Checks 5 and 6 refuse both alike, and a call that
 -- they refuse depends on nothing else of its kind and rank.
 --
--- Sections: kinds and ranks; calls that go by them; the calls; answers.
+-- Sections: kinds and ranks; calls that go by them; the calls; answers; refusals of 32 bits.
 -- Assumes nothing.
 use mathlib.Core.Path.{_≡_, refl, sym, ap, ap₂, _∙_}
 use mathlib.Core.Bool.{Bool, true, false, or-true}
@@ -31,6 +31,8 @@ use Rattle.book_format.specs.Books.{bookRankRefusal, bookRefusal, appendRefusal
 use Rattle.book_format.specs.Calls.{appending}
 use Rattle.book_format.proofs.RankLaws.{bookRankRefusal-refused}
 use Rattle.distribution.specs.Calls.{tableRefusal, tableOf, tables, delayTable}
+use Rattle.sentences.specs.Sentences.{refusalSentence}
+use Rattle.sentences.proofs.Sentences.{unknown-alike}
 use Rattle.c_api.specs.Calls.{numberOf, numbered, rewriteNumbers, rewriting, crossingNumbers, listed, listedBeside}
 use Rattle.c_api.proofs.Lengths.{answered, i64-back, numbers-alike}
 
@@ -264,3 +266,17 @@ crossings-as-bytes f k n l m a list z after e g h s b = rw (← (b ∙ as-bytes 
 pub handed-on : {Y : Type 0} {F : ℕ → ℕ → ℤ × Y} → Refusable F → (k n l m : ℕ) (z : ℤ) (y : Y) → l ≡ byteOf k → m ≡ byteOf n
     → mag z < 9223372036854775808 → (z, y) ≡ F l m → (toZ w64 (ofZ w64 z), y) ≡ F k n
 handed-on r k n l m z y e f h q = rw (i64-back z h) (q ∙ as-bytes r k n l m e f)
+
+-- ---- refusals of 32 bits: a number that is no byte has no sentence, as 0 has none
+
+sentence-as-byte : (k : ℕ) (out : List ℕ) → refusalSentence (byteOf k) out ≡ refusalSentence k out
+sentence-as-byte k out = elim (decLe k 255) [
+  | yes h ↦ ap (λ (j : ℕ). refusalSentence j out) (byteOf-byte k h)
+  | no g ↦ ap (λ (j : ℕ). refusalSentence j out) (byteOf-above k (omega arith)) ∙ sym (unknown-alike k out (omega arith))
+]
+
+pub sentence-yielded : (k l : ℕ) (out : List ℕ) (z : ℤ) (a : Answer) (after : List ℕ) → l ≡ byteOf k → mag z < 9223372036854775808 → z ≡ numberOf a
+    → (a ≡ refusalSentence l out .answer) × (after ≡ refusalSentence l out .bytes) → (toZ w64 (ofZ w64 z), after) ≡ numbered (refusalSentence k out)
+sentence-yielded k l out z a after e h q b =
+    let same : refusalSentence l out ≡ refusalSentence k out = ap (λ (j : ℕ). refusalSentence j out) e ∙ sentence-as-byte k out in
+    numbers-alike z a after (refusalSentence k out) h q (rw same at b)

@@ -53,6 +53,8 @@ use Rattle.book_format.specs.Conversion.{converted, conversionRefusal, converti
 use Rattle.book_format.proofs.BookLaws.{accepted}
 use Rattle.book_format.proofs.WritingLaws.{append-size}
 use Rattle.book_format.proofs.Converting.{conversion-small}
+use Rattle.sentences.specs.Sentences.{sentence, refusalSentence}
+use Rattle.sentences.proofs.Sentences.{length-sentence}
 use Rattle.c_api.specs.Calls.{refused, numberOf, numbered}
 
 -- ---- numbers
@@ -293,3 +295,8 @@ presets-small ed b a c e q = elim (ℕ-discrete (bookRefusal ed b) 0) [
       let y : _≡_ {A = ℕ} 0 1 = cc in
       absurd (omega arith)
 ]
+
+-- a sentence has at most 255 characters
+pub refusalSentence-small : (k : ℕ) (out : List ℕ) → Small (refusalSentence k out .answer)
+unfolding refusalSentence
+refusalSentence-small k out = writes-small 0 (sentence k) out (λ z. le-trans (length-sentence k) (omega arith))

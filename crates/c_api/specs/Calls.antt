@@ -3,7 +3,7 @@
 --
 -- Sections: one number; numbers that go to a list; the calls.
 use mathlib.Core.List.{List, [], _∷_, _++_}
-use Prim.Native.Nat.{ℕ, _+_}
+use Prim.Native.Nat.{ℕ, _+_, _*_}
 use lib.IntN.{ℤ, pos, negℤ}
 use lib.ListN.{length, drop}
 use Rattle.coxeter.specs.declared.Answer.{Answer}
@@ -65,6 +65,10 @@ choiceNumber choices.Neither = pos 0
 unfoldable pub openedNumber : Opened → ℤ
 openedNumber (opened.Presets c) = pos c
 openedNumber (opened.Refused k) = refused k
+
+-- the library's version, 0.9.0
+unfoldable pub version : ℤ
+version = pos (0 * 1000000 + 9 * 1000 + 0)
 
 -- ---- numbers that go to a list: the answer's number first, then what goes to the list, which is nothing where the number is negative
 

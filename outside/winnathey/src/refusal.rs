@@ -68,7 +68,8 @@ impl fmt::Display for Refusal {
 
 impl Error for Refusal {}
 
-/// The numbers and sentences of this file, README.md, the header and the quotations in the specs are held to each other.
+/// The numbers and sentences of this file, README.md, the header, the quotations in the specs, the definition of the sentences and the library itself are
+/// held to each other.
 #[cfg(test)]
 mod tests {
     use super::*;
@@ -144,11 +145,37 @@ mod tests {
         list
     }
 
+    /// The definition that the library is proved against: a text on each line of its list.
+    fn definition() -> List {
+        let specs = text("crates/sentences/specs/Sentences.antt");
+        let (_, list) = specs.split_once("\nsentences =\n").expect("a list of sentences");
+        let sentence = |line: &str| Some(line.trim().strip_prefix('"')?.strip_suffix("\" ∷")?.to_string());
+        (1..).zip(list.lines().map_while(sentence)).collect()
+    }
+
+    /// The library: what it writes for each number that is a refusal.
+    fn library() -> List {
+        unsafe extern "C" {
+            fn winnathey_refusal_sentence(refusal: u32, out: *mut u8, out_len: usize) -> i64;
+        }
+        let sentence = |number: u32| {
+            let mut out = [0; 256];
+            // SAFETY: the pointer and the length are those of one array.
+            let length = unsafe { winnathey_refusal_sentence(number, out.as_mut_ptr(), out.len()) };
+            let words = &out[..usize::try_from(length).expect("room for every sentence")];
+            String::from_utf8(words.to_vec()).expect("a sentence in ASCII")
+        };
+        let list = (0..1000).map(|number| (number as usize, sentence(number)));
+        list.filter(|(_, words)| !words.is_empty()).collect()
+    }
+
     #[test]
     fn the_same_numbers_and_sentences_everywhere() {
         assert_eq!(readme(), here(), "README.md and SENTENCES");
         assert_eq!(header(), here(), "include/winnathey.h and SENTENCES");
         assert_eq!(specs(), here(), "crates/*/specs and SENTENCES");
+        assert_eq!(definition(), here(), "crates/sentences/specs and SENTENCES");
+        assert_eq!(library(), here(), "the library and SENTENCES");
     }
 
     #[test]

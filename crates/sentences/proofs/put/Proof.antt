@@ -1,0 +1,23 @@
+-- `put` is the kit's copy, if there is room.
+-- Assumes nothing.
+use borrow.Author.Needs.{needs}
+use Rattle.sentences.proofs.Sentences.{put-short, put-copied}
+use Rattle.sentences.proofs.put.Statement.{statement}
+use Rattle.sentences.proofs.put.Tie as tie
+
+returns : tie.Need-returns
+returns c = put-short _ _ (c .if1 .taken)
+
+copy-requires : tie.Need-copy-requires
+copy-requires c κs = search needs
+
+same-length : tie.Need-same-length
+same-length c = search needs
+
+returns-2 : tie.Need-returns-2
+returns-2 c =
+    let copied = c .before .before in
+    put-copied _ _ _ _ (copied .before .before .if1 .left) (copied .copy .ensures .0) (copied .copy .ensures .1)
+
+pub put-spec : {M : Type 1} → statement M
+put-spec = tie.close (tie.spec returns copy-requires same-length returns-2)
