@@ -6,12 +6,13 @@
  *     const w = await load('winnathey.wasm');
  *     w.normalFormOfWord('D', 5, [4, 4, 2, 5, 3, 5, 1, 2]);  // [5, 2, 3, 5, 1, 2]
  *
- * Every function takes plain arrays (or typed arrays) and returns new ones; nothing is kept between calls. A call that the
- * library refuses throws a `Refusal` with the refusal's number and sentence. What is no kind, byte, step or place at all
- * never reaches the library: it throws a `TypeError` or a `RangeError` that names the argument.
+ * Every function takes plain arrays (or typed arrays) and returns new ones; nothing is kept between calls. A call
+ * that the library refuses throws a `Refusal` with the refusal's number and sentence. What is no kind, byte, step or
+ * place at all never reaches the library: it throws a `TypeError` or a `RangeError` that names the argument.
  *
- * Only this file knows that the library has a memory of its own and counts in 64 bits. Inputs are copied to it, outputs from
- * it. There is room for every answer, so that refusals 14 and 15, which concern short outputs, come from `exports` alone.
+ * Only this file knows that the library has a memory of its own and counts in 64 bits. Inputs are copied to it,
+ * outputs from it. There is room for every answer, so that refusals 14 and 15, which concern short outputs, come from
+ * `exports` alone.
  * @module winnathey
  */
 
@@ -34,18 +35,19 @@
  * The edition of a book.
  * @typedef {1|2} Edition
  *
- * The length of a normal form by sort of crossing: plain pairs, pairs against a mirrored lane, mirrored lanes, and their sum.
+ * The length of a normal form by sort of crossing: plain pairs, pairs against a mirrored lane, mirrored lanes, and
+ * their sum.
  * @typedef {{inversions: number, negativeSumPairs: number, negatives: number, total: number}} Crossings
  *
- * How many windows have each length, from 0 to the greatest, exactly (some exceed 2^53); the window with the greatest length,
- * and its normal form.
+ * How many windows have each length, from 0 to the greatest, exactly (some exceed 2^53); the window with the greatest
+ * length, and its normal form.
  * @typedef {{counts: bigint[], window: number[], normalForm: number[]}} DelayTable
  *
  * A rule that was used, by family, i and j, and the word afterwards.
  * @typedef {{family: number, i: number, j: number, word: number[]}} Rewrite
  *
- * A rewriting: of each step the rule's family, the place, which counts from 0, and the word's length afterwards; and the final
- * word, which is the normal form.
+ * A rewriting: of each step the rule's family, the place, which counts from 0, and the word's length afterwards; and
+ * the final word, which is the normal form.
  * @typedef {{steps: {family: number, place: number, length: number}[], word: number[]}} Rewriting
  *
  * A preset of a book: its kind and rank, where its letters start in the book and how many they are.
@@ -141,7 +143,7 @@ function stepBits(steps) {
     return bits;
 }
 
-/** A part of the library's memory that is lent for one call: its elements' type, their number, and what they hold before it. */
+/** Memory of the library that is lent for one call: its elements' type, their number, and what they hold before it. */
 class Lent {
     constructor(type, length, elements) {
         this.type = type;
@@ -192,8 +194,8 @@ async function fetched(source) {
 
 /**
  * Loads the library.
- * @param {BufferSource|WebAssembly.Module|URL|string} source the bytes of `winnathey.wasm`, the compiled module, or its URL or
- *     path. In node a string without a scheme is a path, in a browser it is a URL relative to the page.
+ * @param {BufferSource|WebAssembly.Module|URL|string} source the bytes of `winnathey.wasm`, the compiled module, or its
+ *     URL or path. In node a string without a scheme is a path, in a browser it is a URL relative to the page.
  * @returns {Promise<Winnathey>}
  */
 export async function load(source) {
@@ -218,8 +220,9 @@ export class Winnathey {
     }
 
     /**
-     * The module's own exports: `memory`, and the calls as `winnathey.h` has them, with pointers as numbers and lengths as
-     * BigInts. The memory from `__heap_base` on is the caller's between calls of the functions below, which write there.
+     * The module's own exports: `memory`, and the calls as `winnathey.h` has them, with pointers as numbers and
+     * lengths as BigInts. The memory from `__heap_base` on is the caller's between calls of the functions below,
+     * which write there.
      */
     get exports() {
         return this.#exports;
@@ -288,8 +291,8 @@ export class Winnathey {
     }
 
     /**
-     * The normal form of a word: the shortest word with its window, and among those the first in the dictionary. Refusals 5
-     * to 8.
+     * The normal form of a word: the shortest word with its window, and among those the first in the dictionary.
+     * Refusals 5 to 8.
      * @param {Kind} kind @param {number} rank @param {Word} word
      * @returns {number[]}
      */
@@ -351,8 +354,8 @@ export class Winnathey {
     }
 
     /**
-     * Whether two presets look alike: as many lanes and the same window, whatever their kinds and ranks. Refusals 5 to 8, the
-     * first preset's first.
+     * Whether two presets look alike: as many lanes and the same window, whatever their kinds and ranks. Refusals 5
+     * to 8, the first preset's first.
      * @param {Kind} kind1 @param {number} rank1 @param {Word} word1
      * @param {Kind} kind2 @param {number} rank2 @param {Word} word2
      * @returns {boolean}
@@ -364,9 +367,9 @@ export class Winnathey {
     }
 
     /**
-     * The better of two words with one window: the shorter, at equal lengths the one earlier in the dictionary, at equal words
-     * the first. 1 is the first, 2 the second; 0 if the windows differ or a check fails. It never throws a refusal:
-     * `presetsEqual` does.
+     * The better of two words with one window: the shorter, at equal lengths the one earlier in the dictionary, at
+     * equal words the first. 1 is the first, 2 the second; 0 if the windows differ or a check fails. It never throws
+     * a refusal: `presetsEqual` does.
      * @param {Kind} kind @param {number} rank @param {Word} first @param {Word} second
      * @returns {0|1|2}
      */
@@ -389,7 +392,8 @@ export class Winnathey {
     }
 
     /**
-     * The product of two windows: its entry at i is the first's entry at the second's entry at i. Refusals 5, 6, 9 to 11.
+     * The product of two windows: its entry at i is the first's entry at the second's entry at i. Refusals 5, 6, 9 to
+     * 11.
      * @param {Kind} kind @param {number} rank @param {Window} first @param {Window} second
      * @returns {number[]}
      */
@@ -502,8 +506,8 @@ export class Winnathey {
     // ---- shortest words
 
     /**
-     * Whether a simpler window can be had by removing letters from the normal form of the present word: the places of letters
-     * to keep, rising from 0 at the earliest, or null. Refusals 5 to 8, the present word's first.
+     * Whether a simpler window can be had by removing letters from the normal form of the present word: the places of
+     * letters to keep, rising from 0 at the earliest, or null. Refusals 5 to 8, the present word's first.
      * @param {Kind} kind @param {number} rank @param {Word} present @param {Word} simpler
      * @returns {?number[]}
      */
@@ -516,8 +520,8 @@ export class Winnathey {
     }
 
     /**
-     * Splits a word by allowed steps: into a first word over them, and a second whose window has no shortest word that begins
-     * with one of them. Both are normal forms. Refusals 5, 6, 16, 7, 8.
+     * Splits a word by allowed steps: into a first word over them, and a second whose window has no shortest word
+     * that begins with one of them. Both are normal forms. Refusals 5, 6, 16, 7, 8.
      * @param {Kind} kind @param {number} rank @param {Steps} allowed @param {Word} word
      * @returns {{first: number[], second: number[]}}
      */
@@ -532,8 +536,8 @@ export class Winnathey {
     }
 
     /**
-     * The normal form of the word over the allowed steps that leads from one window to another. Refusals 5, 6, 16, 9 to 11,
-     * the first window's first, and 19 if no such word does.
+     * The normal form of the word over the allowed steps that leads from one window to another. Refusals 5, 6, 16, 9
+     * to 11, the first window's first, and 19 if no such word does.
      * @param {Kind} kind @param {number} rank @param {Steps} allowed @param {Window} from @param {Window} to
      * @returns {number[]}
      */
@@ -580,8 +584,8 @@ export class Winnathey {
     }
 
     /**
-     * The presets of a book from number `first` on, at most `most` of them: refused ones with their refusal, 5 to 8 or 17. A
-     * book without presets gives an empty list. Refusals 1 to 3 of the book, and 4 if it has presets but not the first.
+     * The presets of a book from number `first` on, at most `most` of them: refused ones with their refusal, 5 to 8
+     * or 17. With `first` the number of presets, the list is empty; above that it is refused 4. Refusals 1 to 4.
      * @param {Edition} edition @param {Book} book @param {number} [first] @param {number} [most]
      * @returns {ListedPreset[]}
      */
@@ -593,7 +597,7 @@ export class Winnathey {
         const count = this.checkBook(edition, book);
         const room = Math.min(most, Math.max(count - first, 0));
         if (room === 0 && first <= count) return [];
-        // With room for one at least, so that the library says 4 of a first preset that is not there.
+        // With room for one at least, so that it is the library that says 4.
         const fields = output(BigUint64Array, PRESET_FIELDS * Math.max(room, 1));
         const written = this.#call(call, lent, from, fields);
         const numbers = this.#numbers(fields, PRESET_FIELDS * written);
@@ -620,8 +624,8 @@ export class Winnathey {
     }
 
     /**
-     * A book of this edition as one of the other. Refusals 1 to 3; record by record 5 to 8, in the second edition 17 and 18;
-     * then 13.
+     * A book of this edition as one of the other. Refusals 1 to 3; record by record 5 to 8, in the second edition 17
+     * and 18; then 13.
      * @param {Edition} edition @param {Book} book
      * @returns {Uint8Array}
      */

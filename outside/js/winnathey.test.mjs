@@ -1,5 +1,6 @@
-// Tests of winnathey.mjs: every function, every refusal, wrong arguments, and the stored answers of the C test. Run with
-// `node --test outside/js/winnathey.test.mjs`. The library is target/targets/wasm32/winnathey.wasm, or the file that WINNATHEY_WASM names.
+// Tests of winnathey.mjs: every function, every refusal, wrong arguments, and the stored answers of the C test. Run
+// with `node --test outside/js/winnathey.test.mjs`. The library is target/targets/wasm32/winnathey.wasm, or the file
+// that WINNATHEY_WASM names.
 import assert from 'node:assert/strict';
 import { readFileSync } from 'node:fs';
 import { test } from 'node:test';

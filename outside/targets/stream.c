@@ -1,9 +1,10 @@
-/* Random calls of every function of winnathey.h, right and wrong ones, with outputs that are long enough and too short. The calls follow from the seed
-   alone. Every answer and every byte that a call may write goes into one hash, so that two libraries that print the same hashes did the same.
-   Of each call it is also checked that nothing is written behind an output's length, and nothing at all if the answer is negative.
+/* Random calls of every function of winnathey.h, right and wrong ones, with outputs that are long enough and too
+   short. The calls follow from the seed alone. Every answer and every byte that a call may write goes into one hash,
+   so that two libraries that print the same hashes did the same. Of each call it is also checked that nothing is
+   written behind an output's length, and nothing at all if the answer is negative.
 
-   A hosted program prints the hash now and then: stream CALLS SEED [STACK], where STACK is the size in bytes of the stack that the calls get.
-   For WebAssembly it exports stream_start, stream_run, stream_seen and stream_wrong. */
+   A hosted program prints the hash now and then: stream CALLS SEED [STACK], where STACK is the size in bytes of the
+   stack that the calls get. For WebAssembly it exports stream_start, stream_run, stream_seen and stream_wrong. */
 #include <stddef.h>
 #include <stdint.h>
 
@@ -188,7 +189,8 @@ static uint64_t some_steps(uint32_t rank)
     return once_in(4) ? all : next() & all;
 }
 
-/* ---- books: two that grow by what was appended, one of each edition, and changed copies of them; and two large ones */
+/* ---- books: two that grow by what was appended, one of each edition, and changed copies of them; and two large ones
+   */
 
 static uint8_t grown[2][1024], changed[65600];
 static uint32_t grown_length[2];

@@ -1,5 +1,6 @@
-// The random calls of stream.c on the library for WebAssembly, in node: the program is compiled to WebAssembly too and calls winnathey.wasm as it is
-// shipped, in the library's own memory. Prints what the hosted program prints: node stream.mjs WINNATHEY.WASM STREAM.WASM CALLS SEED
+// The random calls of stream.c on the library for WebAssembly, in node: the program is compiled to WebAssembly too
+// and calls winnathey.wasm as it is shipped, in the library's own memory. Prints what the hosted program prints: node
+// stream.mjs WINNATHEY.WASM STREAM.WASM CALLS SEED
 import { readFile } from 'node:fs/promises';
 
 const [library, stream, calls, seed] = process.argv.slice(2);

@@ -1,5 +1,6 @@
-/* The functions of winnathey_checked.h: each with every pair of memory that may not overlap, from each side and by one element, and with memory that just
-   touches. Ends with status 1 and names the line if an overlap is not found, if something is called nevertheless, or if one is found where none is. */
+/* The functions of winnathey_checked.h: each with every pair of memory that may not overlap, from each side and by
+   one element, and with memory that just touches. Ends with status 1 and names the line if an overlap is not found,
+   if something is called nevertheless, or if one is found where none is. */
 #include <inttypes.h>
 #include <stdio.h>
 #include <string.h>
