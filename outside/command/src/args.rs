@@ -6,7 +6,7 @@ use std::collections::VecDeque;
 use std::ffi::{OsStr, OsString};
 use std::os::unix::ffi::OsStrExt;
 use std::path::PathBuf;
-use winnathey::{Edition, Kind};
+use winnathey::lent::{Edition, Kind};
 
 pub struct Args {
     subcommand: &'static str,

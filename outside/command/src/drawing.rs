@@ -1,7 +1,7 @@
 //! A preset as rows of columns of crossings, before it becomes text or a picture.
 use crate::failure::Failure;
 use crate::library;
-use winnathey::Kind;
+use winnathey::lent::Kind;
 
 /// How the steps are laid out.
 #[derive(Clone, Copy)]

@@ -2,7 +2,7 @@
 use std::fmt;
 use std::io::{self, Write};
 use std::process::ExitCode;
-use winnathey::Refusal;
+use winnathey::lent::Refusal;
 
 pub enum Failure {
     /// The library refused the call.

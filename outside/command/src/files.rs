@@ -6,7 +6,7 @@ use std::fs::{self, File, OpenOptions};
 use std::io::{self, ErrorKind, Read, Write};
 use std::os::unix::fs::MetadataExt;
 use std::path::{Path, PathBuf};
-use winnathey::MAX_BOOK;
+use winnathey::lent::MAX_BOOK;
 
 /// The failure of a file.
 fn of(path: &Path) -> impl Fn(io::Error) -> Failure + '_ {

@@ -2,7 +2,7 @@
 use crate::failure::Failure;
 use std::io::{self, BufRead};
 use std::num::IntErrorKind;
-use winnathey::{MAX_LANES, MAX_LETTERS};
+use winnathey::lent::{MAX_LANES, MAX_LETTERS};
 
 /// Where the numbers of a word or of a window stand.
 pub enum Source {

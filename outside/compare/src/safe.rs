@@ -1,6 +1,7 @@
 //! The safe Rust functions with the parameters and the answers of the C interface: the same number, and in the outputs
 //! what the safe function wrote or returned. None where it cannot be called so, as with a kind that is no byte.
-use winnathey::{Crossings, DelayTable, Edition, Kind, Preset, Refusal, Rewrite, Split, raw};
+use winnathey::lent::{Crossings, DelayTable, Edition, Kind, Preset, Refusal, Rewrite, Split};
+use winnathey::raw;
 
 /// A kind and a rank that are bytes.
 fn rig(kind: u32, rank: u32) -> Option<(Kind, u8)> {
@@ -19,39 +20,39 @@ fn coded(answer: Result<usize, Refusal>) -> i64 {
 }
 
 pub fn window_of_word(kind: u32, rank: u32, word: &[u8], out: &mut [i8]) -> Option<i64> {
-    rig(kind, rank).map(|(kind, rank)| coded(winnathey::window_of_word(kind, rank, word, out)))
+    rig(kind, rank).map(|(kind, rank)| coded(winnathey::lent::window_of_word(kind, rank, word, out)))
 }
 
 pub fn normal_form_of_word(kind: u32, rank: u32, word: &[u8], out: &mut [u8]) -> Option<i64> {
-    rig(kind, rank).map(|(kind, rank)| coded(winnathey::normal_form_of_word(kind, rank, word, out)))
+    rig(kind, rank).map(|(kind, rank)| coded(winnathey::lent::normal_form_of_word(kind, rank, word, out)))
 }
 
 pub fn normal_form_of_window(kind: u32, rank: u32, window: &[i8], out: &mut [u8]) -> Option<i64> {
-    rig(kind, rank).map(|(kind, rank)| coded(winnathey::normal_form_of_window(kind, rank, window, out)))
+    rig(kind, rank).map(|(kind, rank)| coded(winnathey::lent::normal_form_of_window(kind, rank, window, out)))
 }
 
 pub fn product_of_words(kind: u32, rank: u32, first: &[u8], second: &[u8], out: &mut [u8]) -> Option<i64> {
-    rig(kind, rank).map(|(kind, rank)| coded(winnathey::product_of_words(kind, rank, first, second, out)))
+    rig(kind, rank).map(|(kind, rank)| coded(winnathey::lent::product_of_words(kind, rank, first, second, out)))
 }
 
 pub fn product_of_windows(kind: u32, rank: u32, first: &[i8], second: &[i8], out: &mut [i8]) -> Option<i64> {
-    rig(kind, rank).map(|(kind, rank)| coded(winnathey::product_of_windows(kind, rank, first, second, out)))
+    rig(kind, rank).map(|(kind, rank)| coded(winnathey::lent::product_of_windows(kind, rank, first, second, out)))
 }
 
 pub fn inverse_of_word(kind: u32, rank: u32, word: &[u8], out: &mut [u8]) -> Option<i64> {
-    rig(kind, rank).map(|(kind, rank)| coded(winnathey::inverse_of_word(kind, rank, word, out)))
+    rig(kind, rank).map(|(kind, rank)| coded(winnathey::lent::inverse_of_word(kind, rank, word, out)))
 }
 
 pub fn inverse_of_window(kind: u32, rank: u32, window: &[i8], out: &mut [i8]) -> Option<i64> {
-    rig(kind, rank).map(|(kind, rank)| coded(winnathey::inverse_of_window(kind, rank, window, out)))
+    rig(kind, rank).map(|(kind, rank)| coded(winnathey::lent::inverse_of_window(kind, rank, window, out)))
 }
 
 pub fn length_of_word(kind: u32, rank: u32, word: &[u8]) -> Option<i64> {
-    rig(kind, rank).map(|(kind, rank)| coded(winnathey::length_of_word(kind, rank, word)))
+    rig(kind, rank).map(|(kind, rank)| coded(winnathey::lent::length_of_word(kind, rank, word)))
 }
 
 pub fn length_of_window(kind: u32, rank: u32, window: &[i8]) -> Option<i64> {
-    rig(kind, rank).map(|(kind, rank)| coded(winnathey::length_of_window(kind, rank, window)))
+    rig(kind, rank).map(|(kind, rank)| coded(winnathey::lent::length_of_window(kind, rank, window)))
 }
 
 /// Writes what a safe function returned to the front of a list, for which it always has room.
@@ -62,20 +63,25 @@ fn listed<const N: usize>(list: &mut [u64], numbers: Option<[usize; N]>) {
 }
 
 fn counted(answer: Result<Crossings, Refusal>, counts: &mut [u64]) -> i64 {
-    listed(counts, answer.ok().map(|Crossings { plain, against, mirrored }| [plain, against, mirrored]));
+    listed(
+        counts,
+        answer
+            .ok()
+            .map(|Crossings { inversions, negative_sum_pairs, negatives }| [inversions, negative_sum_pairs, negatives]),
+    );
     coded(answer.map(|crossings| crossings.total()))
 }
 
 pub fn crossings_of_word(kind: u32, rank: u32, word: &[u8], counts: &mut [u64]) -> Option<i64> {
     let (kind, rank) = rig(kind, rank)?;
     let counts = counts.get_mut(..3)?;
-    Some(counted(winnathey::crossings_of_word(kind, rank, word), counts))
+    Some(counted(winnathey::lent::crossings_of_word(kind, rank, word), counts))
 }
 
 pub fn crossings_of_window(kind: u32, rank: u32, window: &[i8], counts: &mut [u64]) -> Option<i64> {
     let (kind, rank) = rig(kind, rank)?;
     let counts = counts.get_mut(..3)?;
-    Some(counted(winnathey::crossings_of_window(kind, rank, window), counts))
+    Some(counted(winnathey::lent::crossings_of_window(kind, rank, window), counts))
 }
 
 pub fn delay_table(
@@ -88,21 +94,21 @@ pub fn delay_table(
 ) -> Option<i64> {
     let (kind, rank) = rig(kind, rank)?;
     let lengths = lengths.get_mut(..3)?;
-    let answer = winnathey::delay_table(kind, rank, counts, window, form);
+    let answer = winnathey::lent::delay_table(kind, rank, counts, window, form);
     listed(lengths, answer.ok().map(|DelayTable { counts, window, form }| [counts, window, form]));
     Some(coded(answer.map(|table| table.form)))
 }
 
 pub fn same(kind1: u32, rank1: u32, word1: &[u8], kind2: u32, rank2: u32, word2: &[u8]) -> Option<i64> {
     let (first, second) = (a_preset(kind1, rank1, word1)?, a_preset(kind2, rank2, word2)?);
-    Some(coded(winnathey::same(first, second).map(usize::from)))
+    Some(coded(winnathey::lent::same(first, second).map(usize::from)))
 }
 
 /// The number for a slice is the library's own where that stands for this very slice: an empty first word is its own
 /// empty part, so that the slice alone cannot tell 1 from 0.
 pub fn better(kind: u32, rank: u32, first: &[u8], second: &[u8]) -> Option<i64> {
     let (safe_kind, safe_rank) = rig(kind, rank)?;
-    let word = winnathey::better(safe_kind, safe_rank, first, second);
+    let word = winnathey::lent::better(safe_kind, safe_rank, first, second);
     let number = raw::better(kind, rank, first, second);
     let due = [&first[..0], first, second];
     Some(if due.get(number as usize).is_some_and(|&due| std::ptr::eq(word, due)) { number } else { i64::MIN })
@@ -112,7 +118,7 @@ pub fn better(kind: u32, rank: u32, first: &[u8], second: &[u8]) -> Option<i64> 
 pub fn rewrite(kind: u32, rank: u32, word: &[u8], place: usize, out: &mut [u8], rule: &mut [u8]) -> Option<i64> {
     let (kind, rank) = rig(kind, rank)?;
     let rule = rule.get_mut(..3)?;
-    Some(match winnathey::rewrite(kind, rank, word, place, out) {
+    Some(match winnathey::lent::rewrite(kind, rank, word, place, out) {
         Ok(Rewrite::Used { family, i, j, length }) => {
             rule.copy_from_slice(&[family, i, j]);
             length as i64
@@ -123,7 +129,7 @@ pub fn rewrite(kind: u32, rank: u32, word: &[u8], place: usize, out: &mut [u8], 
 }
 
 pub fn rewrite_steps(kind: u32, rank: u32, word: &[u8]) -> Option<i64> {
-    rig(kind, rank).map(|(kind, rank)| coded(winnathey::rewrite_steps(kind, rank, word)))
+    rig(kind, rank).map(|(kind, rank)| coded(winnathey::lent::rewrite_steps(kind, rank, word)))
 }
 
 #[expect(clippy::too_many_arguments, reason = "as the C interface has them")]
@@ -139,14 +145,14 @@ pub fn rewrite_to_end(
 ) -> Option<i64> {
     let (kind, rank) = rig(kind, rank)?;
     let written = written.get_mut(..1)?;
-    let ended = winnathey::rewrite_to_end(kind, rank, word, families, places, lengths, out);
+    let ended = winnathey::lent::rewrite_to_end(kind, rank, word, families, places, lengths, out);
     listed(written, ended.ok().map(|ended| [ended.length]));
     Some(coded(ended.map(|ended| ended.steps)))
 }
 
 pub fn fallback(kind: u32, rank: u32, present: &[u8], simpler: &[u8], places: &mut [u16]) -> Option<i64> {
     let (kind, rank) = rig(kind, rank)?;
-    Some(match winnathey::fallback(kind, rank, present, simpler, places) {
+    Some(match winnathey::lent::fallback(kind, rank, present, simpler, places) {
         Ok(None) => raw::NO_FALLBACK,
         Ok(Some(kept)) => kept as i64,
         Err(refusal) => coded(Err(refusal)),
@@ -164,17 +170,17 @@ pub fn split(
 ) -> Option<i64> {
     let (kind, rank) = rig(kind, rank)?;
     let lengths = lengths.get_mut(..2)?;
-    let answer = winnathey::split(kind, rank, allowed, word, first, second);
+    let answer = winnathey::lent::split(kind, rank, allowed, word, first, second);
     listed(lengths, answer.ok().map(|Split { first, second }| [first, second]));
     Some(coded(answer.map(|split| split.first + split.second)))
 }
 
 pub fn between(kind: u32, rank: u32, allowed: u64, from: &[i8], to: &[i8], out: &mut [u8]) -> Option<i64> {
-    rig(kind, rank).map(|(kind, rank)| coded(winnathey::between(kind, rank, allowed, from, to, out)))
+    rig(kind, rank).map(|(kind, rank)| coded(winnathey::lent::between(kind, rank, allowed, from, to, out)))
 }
 
 fn checked(edition: Edition, book: &[u8]) -> Option<i64> {
-    Some(coded(winnathey::book_check(edition, book)))
+    Some(coded(winnathey::lent::book_check(edition, book)))
 }
 
 /// Where a part of a book begins, which must be the book's own bytes.
@@ -185,7 +191,7 @@ fn place(book: &[u8], part: &[u8]) -> u64 {
 /// The safe function always has room for the fields.
 fn one(edition: Edition, book: &[u8], number: usize, fields: &mut [u64]) -> Option<i64> {
     let fields = fields.get_mut(..4)?;
-    let found = winnathey::preset(edition, book, number).map(|Preset { kind, rank, word }| {
+    let found = winnathey::lent::preset(edition, book, number).map(|Preset { kind, rank, word }| {
         fields.copy_from_slice(&[kind.0.into(), rank.into(), place(book, word), word.len() as u64]);
         fields.len()
     });
@@ -199,7 +205,7 @@ fn run(edition: Edition, book: &[u8], first: usize, fields: &mut [u64]) -> Optio
     if rows.is_empty() {
         return None;
     }
-    let all = match winnathey::presets(edition, book) {
+    let all = match winnathey::lent::presets(edition, book) {
         Ok(all) if first < all.len() => all,
         Ok(_) => return Some(-4),
         Err(refusal) => return Some(coded(Err(refusal))),
@@ -216,7 +222,7 @@ fn run(edition: Edition, book: &[u8], first: usize, fields: &mut [u64]) -> Optio
 }
 
 fn longer(edition: Edition, book: &[u8], kind: u32, rank: u32, word: &[u8], out: &mut [u8]) -> Option<i64> {
-    a_preset(kind, rank, word).map(|added| coded(winnathey::append(edition, book, added, out)))
+    a_preset(kind, rank, word).map(|added| coded(winnathey::lent::append(edition, book, added, out)))
 }
 
 pub fn book_check(book: &[u8]) -> Option<i64> {
@@ -252,9 +258,9 @@ pub fn second_append(book: &[u8], kind: u32, rank: u32, word: &[u8], out: &mut [
 }
 
 pub fn to_second(book: &[u8], out: &mut [u8]) -> Option<i64> {
-    Some(coded(winnathey::convert(Edition::First, book, out)))
+    Some(coded(winnathey::lent::convert(Edition::First, book, out)))
 }
 
 pub fn to_first(book: &[u8], out: &mut [u8]) -> Option<i64> {
-    Some(coded(winnathey::convert(Edition::Second, book, out)))
+    Some(coded(winnathey::lent::convert(Edition::Second, book, out)))
 }

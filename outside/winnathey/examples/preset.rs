@@ -1,25 +1,20 @@
 //! The window and the normal form of some presets, and a refusal.
-use winnathey::{Kind, MAX_LANES, MAX_NORMAL_FORM, Refusal, normal_form_of_window, window_of_word};
+use std::error::Error;
+use winnathey::{Refusal, Rig};
 
 /// Prints what a preset shows and its normal form.
-fn show(kind: Kind, rank: u8, word: &[u8]) -> Result<(), Refusal> {
-    println!("{kind}{rank}, word {word:?}");
-    let mut window = [0; MAX_LANES];
-    let lanes = window_of_word(kind, rank, word, &mut window)?;
-    let window = &window[..lanes];
-    println!("  window {window:?}");
-
-    let mut form = [0; MAX_NORMAL_FORM];
-    let length = normal_form_of_window(kind, rank, window, &mut form)?;
-    println!("  normal form {:?}", &form[..length]);
+fn show(rig: Rig, word: &[u8]) -> Result<(), Refusal> {
+    println!("{rig}, word {word:?}");
+    println!("  window {}", rig.window(word)?);
+    println!("  normal form {}", rig.normal_form(word)?);
     Ok(())
 }
 
-fn main() -> Result<(), Refusal> {
-    show(Kind::B, 2, &[1, 2, 1, 2])?;
-    show(Kind::D, 5, &[4, 4, 2, 5, 3, 5, 1, 2])?;
+fn main() -> Result<(), Box<dyn Error>> {
+    show("B2".parse()?, &[1, 2, 1, 2])?;
+    show("D5".parse()?, &[4, 4, 2, 5, 3, 5, 1, 2])?;
     // Kind B at rank 2 has no step 3.
-    match show(Kind::B, 2, &[1, 2, 3]) {
+    match show("B2".parse()?, &[1, 2, 3]) {
         Ok(()) => unreachable!("the word has a letter above the rank"),
         Err(refusal) => println!("  {refusal}"),
     }

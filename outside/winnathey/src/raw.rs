@@ -1,8 +1,8 @@
 //! The C interface as it is, with slices in the place of pointers and lengths.
 //!
 //! Each function answers 0 or more, or -k for refusal k; [`rewrite`] also answers [`NONE_FITS`], and
-//! [`fallback`] [`NO_FALLBACK`]. The functions of the
-//! crate's root say the same in Rust's words.
+//! [`fallback`] [`NO_FALLBACK`]. The functions of
+//! [`lent`](crate::lent) say the same in Rust's words.
 
 mod c {
     unsafe extern "C" {
@@ -228,6 +228,8 @@ mod c {
         ) -> i64;
         pub fn winnathey_to_second(book: *const u8, book_len: usize, out: *mut u8, out_len: usize) -> i64;
         pub fn winnathey_to_first(book: *const u8, book_len: usize, out: *mut u8, out_len: usize) -> i64;
+        pub fn winnathey_refusal_sentence(refusal: u32, out: *mut u8, out_len: usize) -> i64;
+        pub fn winnathey_version() -> i64;
     }
 }
 
@@ -574,4 +576,16 @@ pub fn to_second(book: &[u8], out: &mut [u8]) -> i64 {
 #[inline]
 pub fn to_first(book: &[u8], out: &mut [u8]) -> i64 {
     unsafe { c::winnathey_to_first(book.as_ptr(), book.len(), out.as_mut_ptr(), out.len()) }
+}
+
+/// The sentence of a refusal, in ASCII: nothing for a number that is none.
+#[inline]
+pub fn refusal_sentence(refusal: u32, out: &mut [u8]) -> i64 {
+    unsafe { c::winnathey_refusal_sentence(refusal, out.as_mut_ptr(), out.len()) }
+}
+
+/// The library's version: 1,000,000 times the major number, 1,000 times the minor one, and the patch.
+#[inline]
+pub fn version() -> i64 {
+    unsafe { c::winnathey_version() }
 }

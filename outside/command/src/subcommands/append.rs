@@ -6,7 +6,7 @@ use crate::files::{self, Books};
 use crate::help::{book, new_book, preset};
 use crate::text;
 use std::io::Write;
-use winnathey::{MAX_BOOK, Preset, append, book_check};
+use winnathey::lent::{MAX_BOOK, Preset, append, book_check};
 
 pub const SUBCOMMAND: Subcommand = Subcommand {
     name: "append",

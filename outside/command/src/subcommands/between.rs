@@ -5,7 +5,7 @@ use crate::failure::Failure;
 use crate::help::{allowed, rig};
 use crate::text;
 use std::io::Write;
-use winnathey::{MAX_NORMAL_FORM, between};
+use winnathey::lent::{MAX_NORMAL_FORM, between};
 
 pub const SUBCOMMAND: Subcommand = Subcommand {
     name: "between",

@@ -6,7 +6,7 @@ use crate::help::book;
 use crate::{files, text};
 use std::io::Write;
 use std::path::Path;
-use winnathey::presets;
+use winnathey::lent::presets;
 
 pub const SUBCOMMAND: Subcommand = Subcommand {
     name: "check",

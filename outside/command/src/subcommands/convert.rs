@@ -6,7 +6,7 @@ use crate::files::{self, Books};
 use crate::help::{book, new_book};
 use crate::text;
 use std::io::Write;
-use winnathey::{Edition, MAX_BOOK, book_check, convert};
+use winnathey::lent::{Edition, MAX_BOOK, book_check, convert};
 
 pub const SUBCOMMAND: Subcommand = Subcommand {
     name: "convert",

@@ -5,7 +5,7 @@ use crate::failure::Failure;
 use crate::help::rig;
 use crate::{files, svg, text};
 use std::io::{self, Write};
-use winnathey::{MAX_COUNTS, MAX_LANES, MAX_NORMAL_FORM, delay_table};
+use winnathey::lent::{MAX_COUNTS, MAX_LANES, MAX_NORMAL_FORM, delay_table};
 
 pub const SUBCOMMAND: Subcommand = Subcommand {
     name: "delays",

@@ -5,7 +5,7 @@ use crate::failure::Failure;
 use crate::help::rig;
 use crate::{library, text};
 use std::io::Write;
-use winnathey::{MAX_NORMAL_FORM, fallback};
+use winnathey::lent::{MAX_NORMAL_FORM, fallback};
 
 pub const SUBCOMMAND: Subcommand = Subcommand {
     name: "fallback",

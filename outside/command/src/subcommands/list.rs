@@ -6,7 +6,7 @@ use crate::help::book;
 use crate::{files, library, text};
 use std::io::Write;
 use std::path::Path;
-use winnathey::{Preset, Refusal, preset, presets};
+use winnathey::lent::{Preset, Refusal, preset, presets};
 
 pub const SUBCOMMAND: Subcommand = Subcommand {
     name: "list",

@@ -4,7 +4,7 @@ use crate::args::Args;
 use crate::failure::Failure;
 use crate::{library, text};
 use std::io::Write;
-use winnathey::{Preset, better, same};
+use winnathey::lent::{Preset, better, same};
 
 pub const SUBCOMMAND: Subcommand = Subcommand {
     name: "same",

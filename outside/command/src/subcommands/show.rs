@@ -5,7 +5,7 @@ use crate::failure::Failure;
 use crate::help::preset;
 use crate::{library, text};
 use std::io::{self, Write};
-use winnathey::{Crossings, Kind, crossings_of_word};
+use winnathey::lent::{Crossings, Kind, crossings_of_word};
 
 pub const SUBCOMMAND: Subcommand = Subcommand {
     name: "show",
@@ -60,9 +60,14 @@ fn side_by_side(rows: &[[String; 3]], out: &mut dyn Write) -> io::Result<()> {
 fn by_sort(kind: Kind, crossings: Crossings, out: &mut dyn Write) -> io::Result<()> {
     let total = crossings.total();
     let sorts = [
-        (crossings.plain, "plain pair", "plain pairs", true),
-        (crossings.against, "pair against a mirrored lane", "pairs against a mirrored lane", kind != Kind::A),
-        (crossings.mirrored, "mirrored lane", "mirrored lanes", kind == Kind::B),
+        (crossings.inversions, "plain pair", "plain pairs", true),
+        (
+            crossings.negative_sum_pairs,
+            "pair against a mirrored lane",
+            "pairs against a mirrored lane",
+            kind != Kind::A,
+        ),
+        (crossings.negatives, "mirrored lane", "mirrored lanes", kind == Kind::B),
     ];
     writeln!(out, "length   {total}, of these")?;
     let width = total.to_string().len();

@@ -5,7 +5,7 @@ use crate::failure::Failure;
 use crate::help::{allowed, preset};
 use crate::{library, text};
 use std::io::Write;
-use winnathey::{MAX_NORMAL_FORM, split};
+use winnathey::lent::{MAX_NORMAL_FORM, split};
 
 pub const SUBCOMMAND: Subcommand = Subcommand {
     name: "split",

@@ -6,7 +6,7 @@ use crate::help::preset;
 use crate::progress::Progress;
 use crate::text;
 use std::io::{self, IsTerminal, Write};
-use winnathey::{Kind, MAX_NORMAL_FORM, Refusal, Rewrite, rewrite, rewrite_steps, rewrite_to_end};
+use winnathey::lent::{Kind, MAX_NORMAL_FORM, Refusal, Rewrite, rewrite, rewrite_steps, rewrite_to_end};
 
 pub const SUBCOMMAND: Subcommand = Subcommand {
     name: "why",

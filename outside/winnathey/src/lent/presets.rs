@@ -1,13 +1,14 @@
 //! All presets of a book at once.
-use crate::{Edition, MAX_BOOK, Preset, Refusal, answered, lent, raw};
-use std::vec;
+use super::{Preset, answered, lent};
+use crate::{Edition, MAX_BOOK, Refusal, raw};
+use alloc::vec;
 
-/// The presets of a book in their order: each as [`preset`](crate::preset) gives it, or its own refusal, 5 to 8 or
+/// The presets of a book in their order: each as [`preset`](super::preset) gives it, or its own refusal, 5 to 8 or
 /// 17. The book is read once, by one call of the library. Refusals 1 to 3, of the book; one without presets gives
 /// none, as does one of no bytes.
 ///
 /// ```
-/// use winnathey::{Edition, Kind, Preset, presets};
+/// use winnathey::lent::{Edition, Kind, Preset, presets};
 ///
 /// // B2 with the word 1 2 1 2, and D5 with the letter 9.
 /// let book = [2, 2, 4, 0, 1, 2, 1, 2, 3, 5, 1, 0, 9, 0, 0, 8, 0, 2, 0];
