@@ -62,6 +62,7 @@ fn link(archive: &Path) {
     let folder = archive.parent().expect("a file has a folder");
     let name = archive.file_name().and_then(|name| name.to_str()).expect("a name in UTF-8");
     println!("cargo::rerun-if-changed={}", archive.display());
+    println!("cargo::metadata=archive={}", archive.display());
     println!("cargo::rustc-link-search=native={}", folder.display());
     println!("cargo::rustc-link-lib=static:+verbatim={name}");
 }

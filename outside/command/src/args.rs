@@ -1,70 +1,101 @@
-//! The arguments of a subcommand, taken apart.
+//! The arguments of a subcommand, taken apart by the table.
 use crate::failure::Failure;
-use crate::numbers::{self, Source};
-use crate::subcommands::Subcommand;
+use crate::library::{self, Edition, Kind, Rig};
+use crate::table::{Opt, Subcommand};
+use crate::typed::{Set, TypedRig, Window, Word};
+use crate::{books, numbers, suggest, text};
 use std::collections::VecDeque;
 use std::ffi::{OsStr, OsString};
 use std::os::unix::ffi::OsStrExt;
-use std::path::PathBuf;
-use winnathey::lent::{Edition, Kind};
+use std::path::{Path, PathBuf};
 
 pub struct Args {
-    subcommand: &'static str,
-    options: Vec<(&'static str, OsString)>,
-    operands: VecDeque<OsString>,
+    pub subcommand: &'static Subcommand,
+    options: Vec<(&'static Opt, OsString)>,
+    operands: VecDeque<Typed>,
+}
+
+/// An operand, and the option that stands between it and the one before.
+struct Typed {
+    text: OsString,
+    behind: Option<String>,
+}
+
+/// A word, or a window that stands for its normal form.
+pub enum Numbers {
+    Word(Word),
+    Window(Window),
 }
 
 impl Args {
     /// `None` where help is asked for. An argument that begins with - and is no number is an option, unless -- came
     /// before; - alone is standard input.
     pub fn parse(subcommand: &'static Subcommand, arguments: Vec<OsString>) -> Result<Option<Args>, Failure> {
-        let mut args = Args { subcommand: subcommand.name, options: Vec::new(), operands: VecDeque::new() };
+        let mut args = Args { subcommand, options: Vec::new(), operands: VecDeque::new() };
         let mut rest = arguments.into_iter();
+        let mut behind = None;
         while let Some(argument) = rest.next() {
             match argument.as_bytes() {
-                b"--" => args.operands.extend(rest.by_ref()),
+                b"--" => {
+                    for text in rest.by_ref() {
+                        args.operands.push_back(Typed { text, behind: behind.take() });
+                    }
+                }
                 b"-h" | b"--help" => return Ok(None),
-                [b'-', b'0'..=b'9', ..] | b"-" => args.operands.push_back(argument),
-                [b'-', ..] => args.take_option(subcommand, &argument, &mut rest)?,
-                _ => args.operands.push_back(argument),
+                [b'-', b'0'..=b'9', ..] | b"-" => args.operand(argument, &mut behind),
+                [b'-', ..] => behind = Some(args.take_option(&argument, &mut rest)?),
+                _ => args.operand(argument, &mut behind),
             }
         }
-        if args.operands.iter().filter(|operand| *operand == "-").count() > 1 {
+        if args.reads_of_standard_input() > 1 {
             return Err(args.usage("standard input can be read once only"));
         }
         Ok(Some(args))
     }
 
+    /// Each - among the operands, and a book of `--book` once for each of its presets.
+    fn reads_of_standard_input(&self) -> usize {
+        let operands = self.operands.iter().filter(|operand| operand.text == "-").count();
+        let book = self.option("--book").is_some_and(|book| book == "-");
+        operands + if book { self.values("--preset").len().max(1) } else { 0 }
+    }
+
+    fn operand(&mut self, text: OsString, behind: &mut Option<String>) {
+        self.operands.push_back(Typed { text, behind: behind.take() });
+    }
+
     /// An option, with the value after = or the next argument where it has one. A value keeps its bytes, which need
-    /// not be text.
-    fn take_option(
-        &mut self,
-        subcommand: &'static Subcommand,
-        argument: &OsStr,
-        rest: &mut impl Iterator<Item = OsString>,
-    ) -> Result<(), Failure> {
+    /// not be text. Gives the option as it was typed.
+    fn take_option(&mut self, argument: &OsStr, rest: &mut impl Iterator<Item = OsString>) -> Result<String, Failure> {
         let (option, joined) = match argument.as_bytes().iter().position(|&byte| byte == b'=') {
             Some(at) => (&argument.as_bytes()[..at], Some(OsStr::from_bytes(&argument.as_bytes()[at + 1..]))),
             None => (argument.as_bytes(), None),
         };
-        let listed = |options: &[&'static str]| options.iter().copied().find(|name| name.as_bytes() == option);
-        let (name, value) = match (listed(subcommand.flags), listed(subcommand.values), joined) {
-            (Some(name), _, None) => (name, OsString::new()),
-            (Some(name), _, Some(_)) => return Err(self.usage(format!("{name} takes no value"))),
-            (None, Some(name), Some(value)) => (name, value.to_os_string()),
-            (None, Some(name), None) => (name, rest.next().ok_or_else(|| self.usage(format!("{name} needs a value")))?),
-            (None, None, _) => return Err(self.usage(format!("no option '{}'", String::from_utf8_lossy(option)))),
+        let option = String::from_utf8_lossy(option);
+        let Some(found) = self.subcommand.all_options().find(|listed| listed.name == option) else {
+            let meant = suggest::question(&option, self.subcommand.all_options().map(|listed| listed.name));
+            return Err(self.usage(format!("no option '{}'{meant}", text::plain(&option))));
         };
-        if self.option(name).is_some() {
-            return Err(self.usage(format!("{name} is given twice")));
+        let name = found.name;
+        let value = match (found.value, joined) {
+            (None, None) => OsString::new(),
+            (None, Some(_)) => return Err(self.usage(format!("{name} takes no value"))),
+            (Some(_), Some(value)) => value.to_os_string(),
+            (Some(value), None) => rest.next().ok_or_else(|| self.usage(format!("{name} needs a value, {value}")))?,
+        };
+        let given = self.values(name).len();
+        if given > usize::from(found.twice) {
+            let times = if found.twice { "three times" } else { "twice" };
+            return Err(self.usage(format!("{name} is given {times}")));
         }
-        self.options.push((name, value));
-        Ok(())
+        let typed = format!("{name} {}", text::plain(&value.to_string_lossy()));
+        self.options.push((found, value));
+        Ok(typed.trim_end().to_string())
     }
 
     /// A failure of this subcommand's usage.
     pub fn usage(&self, problem: impl Into<String>) -> Failure {
-        Failure::usage(problem, Some(self.subcommand))
+        Failure::usage(problem, Some(self.subcommand.name))
     }
 
     pub fn flag(&self, name: &str) -> bool {
@@ -72,41 +103,71 @@ impl Args {
     }
 
     fn option(&self, name: &str) -> Option<&OsString> {
-        self.options.iter().find(|(option, _)| *option == name).map(|(_, value)| value)
+        self.values(name).first().copied()
+    }
+
+    /// All values of an option that may be given twice.
+    fn values(&self, name: &str) -> Vec<&OsString> {
+        self.options.iter().filter(|(option, _)| option.name == name).map(|(_, value)| value).collect()
     }
 
     pub fn path(&self, name: &str) -> Option<PathBuf> {
         self.option(name).map(PathBuf::from)
     }
 
+    /// An option's value as text.
+    pub fn text(&self, name: &str) -> Option<String> {
+        self.option(name).map(|value| value.to_string_lossy().into_owned())
+    }
+
     /// An option's number, not negative. One that no machine could count to is as good as the greatest.
     pub fn count(&self, name: &str) -> Result<Option<usize>, Failure> {
-        let Some(value) = self.option(name) else { return Ok(None) };
+        self.option(name).map(|value| self.number(name, value)).transpose()
+    }
+
+    fn number(&self, name: &str, value: &OsStr) -> Result<usize, Failure> {
         let text = value.to_string_lossy();
         match numbers::integer(&text) {
-            Some(number) if number >= 0 => Ok(Some(usize::try_from(number).unwrap_or(usize::MAX))),
-            _ => Err(self.usage(format!("{name} needs a number, not '{text}'"))),
+            Some(number) if number >= 0 => Ok(usize::try_from(number).unwrap_or(usize::MAX)),
+            _ => Err(self.usage(format!("{name} needs a number from 0, not '{}'", text::plain(&text)))),
         }
+    }
+
+    /// The numbers of `--preset`, in their order.
+    pub fn preset_numbers(&self) -> Result<Vec<usize>, Failure> {
+        self.values("--preset").into_iter().map(|value| self.number("--preset", value)).collect()
     }
 
     /// The edition of the book, which the caller has to name.
-    pub fn edition(&self) -> Result<Edition, Failure> {
+    pub fn edition(&self, book: &Path) -> Result<Edition, Failure> {
         let Some(value) = self.option("--edition") else {
-            return Err(self.usage("name the book's edition, which its bytes do not tell: --edition first|second"));
+            let reads = books::reads_as(book);
+            return Err(
+                self.usage(format!("name the edition that the book was written in: --edition first|second{reads}"))
+            );
         };
         match &*value.to_string_lossy() {
-            "first" => Ok(Edition::First),
-            "second" => Ok(Edition::Second),
-            other => Err(self.usage(format!("no edition '{other}': --edition first|second"))),
+            "first" | "1" => Ok(Edition::First),
+            "second" | "2" => Ok(Edition::Second),
+            other => Err(self.usage(format!("no edition '{}': --edition first|second", text::plain(other)))),
         }
     }
 
-    /// The allowed steps, bit 0 for step 1; all of them where the option is not given.
-    pub fn allowed(&self, rank: u8) -> Result<u64, Failure> {
-        match self.option("--allowed") {
-            None => Ok(numbers::all_steps(rank)),
-            Some(value) => numbers::steps(&value.to_string_lossy(), rank).map_err(|problem| self.usage(problem)),
-        }
+    /// The allowed steps, bit 0 for step 1; all of them where neither option is given. A locked step above the rank
+    /// becomes an allowed one, so that the library refuses it (16).
+    pub fn set(&self, rank: u8) -> Result<Set, Failure> {
+        let all = numbers::all_steps(rank);
+        let read = |name: &'static str| {
+            let value = self.text(name);
+            value.map(|value| numbers::steps(name, &value, rank)).transpose().map_err(|problem| self.usage(problem))
+        };
+        let allowed = match (read("--allowed")?, read("--locked")?) {
+            (Some(_), Some(_)) => return Err(self.usage("either --allowed or --locked")),
+            (Some(allowed), None) => allowed,
+            (None, Some(locked)) => all ^ locked,
+            (None, None) => all,
+        };
+        Ok(Set { allowed, all })
     }
 
     pub fn operands(&self) -> usize {
@@ -115,60 +176,101 @@ impl Args {
 
     /// The next operand, by the name that the help text has for it.
     pub fn next(&mut self, name: &str) -> Result<OsString, Failure> {
-        self.operands.pop_front().ok_or_else(|| self.usage(format!("no {name}")))
+        match self.operands.pop_front() {
+            Some(operand) => Ok(operand.text),
+            None => Err(self.usage(format!("no {}", name.trim_start_matches("the ")))),
+        }
     }
 
-    pub fn kind_and_rank(&mut self) -> Result<(Kind, u8), Failure> {
-        let kind = match &*self.next("KIND")?.to_string_lossy() {
+    /// The next operand as a number from 0.
+    pub fn next_number(&mut self, name: &str) -> Result<usize, Failure> {
+        let operand = self.next(name)?;
+        self.number(name, &operand)
+    }
+
+    /// Whether the next operand begins as a rig does that is typed with a letter.
+    pub fn rig_is_next(&self) -> bool {
+        self.operands
+            .front()
+            .is_some_and(|operand| operand.text.as_bytes().first().is_some_and(u8::is_ascii_alphabetic))
+    }
+
+    /// A rig: `D5`, `D 5`, or by the kind's number `3 5`.
+    pub fn rig(&mut self) -> Result<TypedRig, Failure> {
+        let typed = self.next("RIG (a kind and a rank, as D5)")?.to_string_lossy().into_owned();
+        let digits = typed.trim_start_matches(|character: char| character.is_ascii_alphabetic());
+        let (kind, joined) = typed.split_at(typed.len() - digits.len());
+        let (kind, rank) = if kind.is_empty() || joined.is_empty() {
+            (typed.clone(), self.next("rank (a rig is a kind and a rank, as D5)")?.to_string_lossy().into_owned())
+        } else {
+            (kind.to_string(), joined.to_string())
+        };
+        let Some(rank) = numbers::integer(&rank) else {
+            return Err(self.usage(format!("the rank needs a number, not '{}'", text::plain(&rank))));
+        };
+        let number = match &*kind {
             "A" | "a" => Kind::A,
             "B" | "b" => Kind::B,
             "D" | "d" => Kind::D,
             // No kind: the library refuses it.
-            _ => Kind(0),
+            other => library::kind(numbers::integer(other).map_or(0, |number| number.clamp(0, 255) as u8)),
         };
-        let rank = self.next("RANK")?;
-        let text = rank.to_string_lossy();
         // Beyond 0 to 255 there is no rank, as there is none at either end.
-        let rank = numbers::integer(&text).map(|rank| rank.clamp(0, 255) as u8);
-        rank.map(|rank| (kind, rank)).ok_or_else(|| self.usage(format!("RANK needs a number, not '{text}'")))
+        let rig = Rig { kind: number, rank: rank.clamp(0, 255) as u8 };
+        Ok(TypedRig { rig, kind, rank, edition: None })
     }
 
-    /// All operands that are left as one word.
-    pub fn word(&mut self) -> Result<Vec<u8>, Failure> {
+    /// All operands that are left, which must stand together, as one word or window.
+    pub fn word(&mut self, name: &str) -> Result<Numbers, Failure> {
         if self.operands.is_empty() {
-            return Err(self.usage("no WORD ('' is the empty one)"));
+            return Err(self.usage(format!("no {name} ('' is the empty one)")));
         }
-        let parts: Vec<OsString> = self.operands.drain(..).collect();
-        numbers::letters(&self.source(parts, "WORD")?).map_err(|failure| self.named(failure))
+        if let Some(apart) = self.operands.iter().skip(1).find(|operand| operand.behind.is_some()) {
+            let option = apart.behind.as_deref().unwrap_or_default();
+            let text = text::plain(&apart.text.to_string_lossy());
+            let set = if option.starts_with("--allowed") || option.starts_with("--locked") {
+                "; a set is one argument, as 1-3,5"
+            } else {
+                ""
+            };
+            return Err(self.usage(format!("'{text}' stands behind '{option}', apart from the other steps{set}")));
+        }
+        let parts: Vec<OsString> = self.operands.drain(..).map(|operand| operand.text).collect();
+        self.numbers(parts, name)
     }
 
-    /// The next operand as a word.
-    pub fn next_word(&mut self, name: &str) -> Result<Vec<u8>, Failure> {
+    /// The next operand as a word or window.
+    pub fn next_word(&mut self, name: &str) -> Result<Numbers, Failure> {
         let part = self.next(name)?;
-        numbers::letters(&self.source(vec![part], name)?).map_err(|failure| self.named(failure))
+        self.numbers(vec![part], name)
     }
 
-    /// The next operand as a window.
-    pub fn next_window(&mut self, name: &str) -> Result<Vec<i8>, Failure> {
-        let part = self.next(name)?;
-        numbers::entries(&self.source(vec![part], name)?).map_err(|failure| self.named(failure))
+    /// The next operand as a window, with or without brackets.
+    pub fn next_window(&mut self, name: &str) -> Result<Window, Failure> {
+        Ok(match self.next_word(name)? {
+            Numbers::Window(window) => Window::of(window.typed, name),
+            Numbers::Word(word) => Window::of(word.typed, name),
+        })
     }
 
-    /// A preset: kind, rank and all operands that are left.
-    pub fn preset(&mut self) -> Result<(Kind, u8, Vec<u8>), Failure> {
-        let (kind, rank) = self.kind_and_rank()?;
-        Ok((kind, rank, self.word()?))
-    }
-
-    fn source(&self, parts: Vec<OsString>, name: &str) -> Result<Source, Failure> {
-        if parts.iter().all(|part| part != "-") {
-            let parts = parts.iter().map(|part| part.to_string_lossy().into_owned());
-            return Ok(Source::Typed(parts.collect::<Vec<_>>().join(" ")));
-        }
-        if parts.len() > 1 {
-            return Err(self.usage(format!("{name} is either - or steps, not both")));
-        }
-        Ok(Source::StandardInput)
+    fn numbers(&self, parts: Vec<OsString>, name: &str) -> Result<Numbers, Failure> {
+        let (typed, brackets) = if parts.iter().any(|part| part == "-") {
+            if parts.len() > 1 {
+                return Err(self.usage(format!("{name} is either - or steps, not both")));
+            }
+            numbers::from_standard_input().map_err(|failure| self.named(failure))?
+        } else {
+            let parts: Vec<_> = parts.iter().map(|part| part.to_string_lossy()).collect();
+            let text = parts.join(" ");
+            let inner = text.trim().strip_prefix('[').and_then(|text| text.strip_suffix(']'));
+            let numbers = numbers::typed(inner.unwrap_or(&text)).map_err(|problem| self.usage(problem))?;
+            (numbers, inner.is_some())
+        };
+        Ok(if brackets {
+            Numbers::Window(Window::of(typed, "the window"))
+        } else {
+            Numbers::Word(Word::of(typed, name))
+        })
     }
 
     /// Puts the subcommand's name to a failure of usage.
@@ -181,9 +283,12 @@ impl Args {
 
     /// There must be no operand left.
     pub fn done(&self) -> Result<(), Failure> {
-        match self.operands.front() {
-            None => Ok(()),
-            Some(more) => Err(self.usage(format!("one argument too many: '{}'", more.to_string_lossy()))),
-        }
+        self.done_with("")
+    }
+
+    /// The same where words or windows were read, each of which is one argument.
+    pub fn done_with(&self, hint: &str) -> Result<(), Failure> {
+        let Some(more) = self.operands.front() else { return Ok(()) };
+        Err(self.usage(format!("one argument too many: '{}'{hint}", text::plain(&more.text.to_string_lossy()))))
     }
 }

@@ -1,7 +1,8 @@
 //! A preset as rows of columns of crossings, before it becomes text or a picture.
 use crate::failure::Failure;
-use crate::library;
-use winnathey::lent::Kind;
+use crate::library::{self, Rig};
+use crate::names::Names;
+use std::ops::Range;
 
 /// How the steps are laid out.
 #[derive(Clone, Copy)]
@@ -30,26 +31,29 @@ pub struct Column {
     pub after: Vec<i8>,
 }
 
+/// A part of the word, drawn from left to right.
 pub struct Row {
     /// The window before the first column.
     pub start: Vec<i8>,
     pub columns: Vec<Column>,
+    /// Its letters in the word, counted from 0.
+    pub letters: Range<usize>,
 }
 
 pub struct Drawing {
-    /// Kind and rank.
-    pub rig: String,
+    pub rig: Rig,
     /// What the word is.
-    pub name: &'static str,
+    pub name: String,
     pub word: Vec<u8>,
+    pub names: Names,
     /// One at least.
     pub rows: Vec<Row>,
 }
 
 impl Step {
     /// By what the letter alone does to the straight window.
-    fn of(kind: Kind, rank: u8, letter: u8) -> Result<Step, Failure> {
-        let (straight, shown) = (library::window(kind, rank, &[])?, library::window(kind, rank, &[letter])?);
+    fn of(rig: Rig, letter: u8) -> Result<Step, Failure> {
+        let (straight, shown) = (library::window(rig, &[])?, library::window(rig, &[letter])?);
         let mut touched = (0..straight.len()).filter(|&lane| straight[lane] != shown[lane]);
         let lane = touched.next().unwrap_or(0);
         Ok(Step { letter, lane, crosses: touched.next().is_some(), mirrors: shown[lane] < 0 })
@@ -86,51 +90,65 @@ impl Row {
 }
 
 impl Drawing {
-    pub fn of(kind: Kind, rank: u8, name: &'static str, word: Vec<u8>, layout: &Layout) -> Result<Drawing, Failure> {
-        let mut start = library::window(kind, rank, &[])?;
-        let steps: Result<Vec<Step>, Failure> = word.iter().map(|&letter| Step::of(kind, rank, letter)).collect();
-        let columns = columns(steps?, start.len(), layout.shared);
-        // Column by column the letters are a word with the same window: only steps on different lanes have changed
-        // places. So the library can tell the window after each column.
-        let mut letters = Vec::with_capacity(word.len());
+    pub fn of(rig: Rig, name: &str, word: &[u8], names: &Names, layout: &Layout) -> Result<Drawing, Failure> {
+        let mut start = library::window(rig, &[])?;
+        let steps: Result<Vec<Step>, Failure> = word.iter().map(|&letter| Step::of(rig, letter)).collect();
         let mut rows = Vec::new();
-        for columns in columns.chunks(layout.columns) {
-            let mut row = Row { start, columns: Vec::new() };
+        let mut before = 0;
+        for columns in rows_of_columns(steps?, start.len(), layout) {
+            let count = columns.iter().map(Vec::len).sum::<usize>();
+            // Column by column the letters of a row are a word with the same window: only steps on different lanes have
+            // changed places. So the library can tell the window after each column.
+            let mut letters = word[..before].to_vec();
+            let mut row = Row { start, columns: Vec::new(), letters: before..before + count };
             for steps in columns {
                 letters.extend(steps.iter().map(|step| step.letter));
-                row.columns.push(Column { steps: steps.clone(), after: library::window(kind, rank, &letters)? });
+                row.columns.push(Column { steps, after: library::window(rig, &letters)? });
             }
             start = row.end().to_vec();
+            before += count;
             rows.push(row);
         }
         if rows.is_empty() {
-            rows.push(Row { start: library::window(kind, rank, &[])?, columns: Vec::new() });
+            rows.push(Row { start, columns: Vec::new(), letters: 0..0 });
         }
-        Ok(Drawing { rig: format!("{kind}{rank}"), name, word, rows })
+        Ok(Drawing { rig, name: name.to_string(), word: word.to_vec(), names: names.clone(), rows })
     }
 
     pub fn mirrors(&self) -> bool {
         self.rows.iter().flat_map(|row| &row.columns).flat_map(|column| &column.steps).any(|step| step.mirrors)
     }
+
+    pub fn lanes(&self) -> usize {
+        self.rows[0].start.len()
+    }
 }
 
-/// The steps in columns: each in one of its own, or in the first one behind those that touch its lanes.
-fn columns(steps: Vec<Step>, lanes: usize, shared: bool) -> Vec<Vec<Step>> {
-    if !shared {
-        return steps.into_iter().map(|step| vec![step]).collect();
-    }
-    let mut columns: Vec<Vec<Step>> = Vec::new();
+/// The steps in rows of columns: each step in a column of its own, or in the first one behind those that touch its
+/// lanes. Each row has a part of the word: it ends where a step would need one column too many.
+fn rows_of_columns(steps: Vec<Step>, lanes: usize, layout: &Layout) -> Vec<Vec<Vec<Step>>> {
+    let mut rows: Vec<Vec<Vec<Step>>> = Vec::new();
     let mut free = vec![0; lanes];
     for step in steps {
-        let column = free[step.lane].max(free[step.last()]);
-        if column == columns.len() {
-            columns.push(Vec::new());
+        let mut column = match rows.last() {
+            None => layout.columns,
+            Some(row) if !layout.shared => row.len(),
+            Some(_) => free[step.lane].max(free[step.last()]),
+        };
+        if column >= layout.columns {
+            rows.push(Vec::new());
+            free.fill(0);
+            column = 0;
         }
-        columns[column].push(step);
+        let row = rows.last_mut().expect("one row at least");
+        if column == row.len() {
+            row.push(Vec::new());
+        }
+        row[column].push(step);
         free[step.lane] = column + 1;
         free[step.last()] = column + 1;
     }
-    columns
+    rows
 }
 
 /// The columns that each row takes up, so that all rows end alike.
@@ -141,17 +159,18 @@ pub fn width(drawings: &[Drawing]) -> usize {
 #[cfg(test)]
 mod tests {
     use super::*;
+    use crate::library::Kind;
 
     fn drawn(kind: Kind, rank: u8, word: &[u8], shared: bool) -> Drawing {
         let layout = Layout { columns: 4, shared };
-        Drawing::of(kind, rank, "typed", word.to_vec(), &layout).ok().expect("an accepted word")
+        Drawing::of(Rig { kind, rank }, "typed", word, &Names::default(), &layout).ok().expect("an accepted word")
     }
 
     #[test]
     fn both_layouts_end_with_the_window_of_the_word() {
         for (kind, rank) in [(Kind::A, 1), (Kind::A, 7), (Kind::B, 2), (Kind::B, 8), (Kind::D, 4), (Kind::D, 9)] {
             let word: Vec<u8> = (0..60u8).map(|k| k.wrapping_mul(37) % rank + 1).collect();
-            let window = library::window(kind, rank, &word).unwrap();
+            let window = library::window(Rig { kind, rank }, &word).unwrap();
             for shared in [false, true] {
                 let drawing = drawn(kind, rank, &word, shared);
                 assert_eq!(drawing.rows.last().unwrap().end(), window);
@@ -159,6 +178,21 @@ mod tests {
                 assert_eq!(columns.map(|column| column.steps.len()).sum::<usize>(), word.len());
             }
         }
+    }
+
+    #[test]
+    fn each_row_has_a_part_of_the_word() {
+        let word: Vec<u8> = (0..60u8).map(|k| k.wrapping_mul(37) % 9 + 1).collect();
+        let drawing = drawn(Kind::D, 9, &word, true);
+        assert!(drawing.rows.len() > 2);
+        let mut before = 0;
+        for row in &drawing.rows {
+            assert_eq!(row.letters.start, before);
+            assert!(row.columns.len() <= 4);
+            before = row.letters.end;
+            assert_eq!(row.end(), library::window(drawing.rig, &word[..before]).unwrap());
+        }
+        assert_eq!(before, word.len());
     }
 
     #[test]

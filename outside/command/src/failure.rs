@@ -1,74 +1,170 @@
 //! What ends a run: a refusal of the library, a command that was not understood, a file that failed.
+use crate::json::{Value, object, optional};
+use crate::library::Refusal;
+use crate::style::Style;
+use crate::{system, text};
 use std::fmt;
-use std::io::{self, Write};
+use std::io::{self, IsTerminal, Write};
+use std::path::Path;
 use std::process::ExitCode;
-use winnathey::lent::Refusal;
 
 pub enum Failure {
-    /// The library refused the call.
-    Refused(Refusal),
-    /// Presets of a book by their numbers, each with the refusal of its record.
-    Presets(Vec<(usize, Refusal)>),
+    /// The library refused the call; with the culprit in the user's words, where it is known.
+    Refused(Refusal, Option<String>),
+    /// Presets of a book by their numbers, each with the refusal of its record and the culprit; and what else is to
+    /// say.
+    Presets(Vec<(usize, Refusal, Option<String>)>, Option<String>),
     /// Not understood; with the subcommand, if one was named.
     Usage(String, Option<&'static str>),
     /// A file or stream by its name, and what went wrong.
     File(String, io::Error),
+    /// Something that the command itself will not do, in a sentence.
+    Unwilling(String),
+    /// A file was written, but standard output failed when that was to be said.
+    Unsaid(String, io::Error),
     /// The step of a rewriting where the library's lists and its single rewrite part. It is proved that they do not.
     Replay(usize),
     /// Standard output has no reader any more.
     ClosedPipe,
 }
 
+/// How a run ends for a script.
+pub const REFUSED: u8 = 1;
+pub const NOT_UNDERSTOOD: u8 = 2;
+/// A failure with `--status`, where 1 is a no.
+pub const FAILED_ASKED_FOR_STATUS: u8 = 3;
+
 impl Failure {
     pub fn usage(problem: impl Into<String>, subcommand: Option<&'static str>) -> Failure {
         Failure::Usage(problem.into(), subcommand)
     }
 
-    /// Says what went wrong on standard error, and gives the exit status. A reader that has gone away wanted no more,
-    /// which is no failure.
-    pub fn told(self) -> ExitCode {
-        let status = match self {
-            Failure::ClosedPipe => return ExitCode::SUCCESS,
-            Failure::Usage(..) => 2,
-            _ => 1,
-        };
+    pub fn file(path: &Path, error: io::Error) -> Failure {
+        Failure::File(format!("'{}'", text::file(path)), error)
+    }
+
+    /// The refusal of a call, with what is to say about it.
+    pub fn refused(refusal: Refusal, culprit: impl Into<String>) -> Failure {
+        Failure::Refused(refusal, Some(culprit.into()))
+    }
+
+    /// The same where a file is written already: whoever asked must not think that nothing was done.
+    pub fn unsaid(self, file: &Path) -> Failure {
+        match self {
+            Failure::File(_, error) => Failure::Unsaid(text::file(file), error),
+            other => other,
+        }
+    }
+
+    /// What went wrong, as a part of another sentence.
+    pub fn in_a_line(&self) -> String {
+        self.to_string().trim_start_matches("winnathey: ").trim_end().to_string()
+    }
+
+    /// The exit status. A reader that has gone away wanted no more, which is no failure.
+    pub fn status(&self, asked_for_status: bool) -> u8 {
+        match self {
+            Failure::ClosedPipe => 0,
+            Failure::Usage(..) => NOT_UNDERSTOOD,
+            _ if asked_for_status => FAILED_ASKED_FOR_STATUS,
+            _ => REFUSED,
+        }
+    }
+
+    /// Says what went wrong on standard error, or as JSON on standard output, and gives the exit status.
+    pub fn told(self, json: bool, asked_for_status: bool) -> ExitCode {
+        let status = self.status(asked_for_status);
+        if json && system::was_open(1) && !matches!(self, Failure::ClosedPipe) {
+            let told = self.json(status);
+            let written = writeln!(io::stdout(), "{told}").and_then(|()| io::stdout().flush());
+            if written.is_ok() {
+                return ExitCode::from(status);
+            }
+        }
+        let label = Style::of(io::stderr().is_terminal()).red("winnathey");
         // Where standard error fails too there is nobody left to tell.
-        let _ = write!(io::stderr(), "{self}");
+        let _ = write!(io::stderr(), "{}", self.to_string().replace("winnathey:", &format!("{label}:")));
         ExitCode::from(status)
+    }
+
+    fn json(&self, status: u8) -> Value {
+        let mut fields = vec![("ok", false.into()), ("status", status.into())];
+        match self {
+            Failure::Refused(refusal, culprit) => fields.extend(refused(*refusal, culprit)),
+            Failure::Presets(presets, hint) => {
+                let preset = |(number, refusal, culprit): &(usize, Refusal, Option<String>)| {
+                    let mut fields = vec![("preset", (*number).into())];
+                    fields.extend(refused(*refusal, culprit));
+                    Value::Object(fields)
+                };
+                fields.push(("presets", Value::List(presets.iter().map(preset).collect())));
+                fields.push(("hint", optional(hint.as_ref())));
+            }
+            Failure::Usage(problem, subcommand) => {
+                fields.push(("usage", problem.into()));
+                fields.push(("subcommand", optional(*subcommand)));
+            }
+            Failure::File(name, error) => {
+                fields.push(("file", name.trim_matches('\'').into()));
+                fields.push(("error", error.to_string().into()));
+            }
+            other => fields.push(("error", other.sentence().into())),
+        }
+        Value::Object(fields)
+    }
+
+    fn sentence(&self) -> String {
+        match self {
+            Failure::Unwilling(sentence) => sentence.clone(),
+            Failure::Unsaid(file, error) => {
+                format!("{file} is written, but standard output, which was to say so, failed: {error}")
+            }
+            Failure::Replay(step) => format!("the lists and the single rewrite part at step {step}"),
+            _ => String::new(),
+        }
     }
 }
 
-/// The refusal as the library words it; to kinds, which are typed as letters, their numbers.
-struct Told(Refusal);
+/// A refusal for JSON.
+pub fn refused(refusal: Refusal, culprit: &Option<String>) -> [(&'static str, Value); 1] {
+    let value = object([
+        ("number", refusal.number().into()),
+        ("meaning", refusal.sentence().to_string().into()),
+        ("culprit", optional(culprit.as_ref())),
+    ]);
+    [("refused", value)]
+}
 
-impl fmt::Display for Told {
-    fn fmt(&self, f: &mut fmt::Formatter<'_>) -> fmt::Result {
-        let letters = if self.0.number() == 5 { " (A is 1, B is 2, D is 3)" } else { "" };
-        write!(f, "{}{letters}", self.0)
-    }
+/// A refusal as the library words it, below it the culprit.
+fn write_refusal(f: &mut fmt::Formatter<'_>, about: &str, refusal: Refusal, culprit: &Option<String>) -> fmt::Result {
+    writeln!(f, "winnathey: {about}{refusal}")?;
+    culprit.as_ref().map_or(Ok(()), |culprit| writeln!(f, "  {culprit}"))
 }
 
 impl fmt::Display for Failure {
     fn fmt(&self, f: &mut fmt::Formatter<'_>) -> fmt::Result {
         match self {
-            Failure::Refused(refusal) => writeln!(f, "winnathey: {}", Told(*refusal)),
-            Failure::Presets(presets) => presets
-                .iter()
-                .try_for_each(|(number, refusal)| writeln!(f, "winnathey: preset {number}: {}", Told(*refusal))),
+            Failure::Refused(refusal, culprit) => write_refusal(f, "", *refusal, culprit),
+            Failure::Presets(presets, hint) => {
+                for (number, refusal, culprit) in presets {
+                    write_refusal(f, &format!("preset {number}: "), *refusal, culprit)?;
+                }
+                hint.as_ref().map_or(Ok(()), |hint| writeln!(f, "winnathey: {hint}"))
+            }
             Failure::Usage(problem, subcommand) => {
                 let about = subcommand.map_or(String::new(), |name| format!(" {name}"));
                 writeln!(f, "winnathey{about}: {problem}\nwinnathey{about} --help says more")
             }
             Failure::File(name, error) => writeln!(f, "winnathey: {name}: {error}"),
-            Failure::Replay(step) => writeln!(f, "winnathey: the lists and the single rewrite part at step {step}"),
             Failure::ClosedPipe => Ok(()),
+            other => writeln!(f, "winnathey: {}", other.sentence()),
         }
     }
 }
 
 impl From<Refusal> for Failure {
     fn from(refusal: Refusal) -> Failure {
-        Failure::Refused(refusal)
+        Failure::Refused(refusal, None)
     }
 }
 

@@ -1,85 +1,146 @@
-//! What `winnathey --help` prints, and the lines that the subcommands' help texts share.
+//! What `--help` prints, made from the table.
 use crate::failure::Failure;
+use crate::out::Out;
+use crate::style::Style;
 use crate::subcommands::{self, SUBCOMMANDS};
+use crate::table::{Opt, Subcommand};
+use crate::{suggest, text};
 use std::ffi::OsString;
 use std::io::Write;
 
-/// The operands of a preset.
-macro_rules! preset {
-    () => {
-        "  KIND       A, B or D
-  RANK       n: 1 to 63 for A, 2 to 64 for B, 4 to 64 for D; A has n + 1 lanes, B and D have n
-  WORD       steps from 1 to n with spaces or commas between them, as one argument or several, 4,096 at most;
-             '' is the empty word, - reads it from standard input
-"
-    };
-}
+pub const ABOUT: &str = "Router presets as words in Coxeter groups A, B and D. Every answer is the verified library's.";
 
-/// The operands of a call with several words or windows.
-macro_rules! rig {
-    () => {
-        "  KIND       A, B or D
-  RANK       n: 1 to 63 for A, 2 to 64 for B, 4 to 64 for D; A has n + 1 lanes, B and D have n
-"
-    };
-}
+/// What holds for every subcommand, in paragraphs.
+pub const END: [&str; 2] = [
+    "'winnathey SUBCOMMAND --help' says how to use it, with examples.",
+    "A call that cannot be answered is refused with a number and its meaning on standard error. The exit status is 0 \
+     for an answer, 1 for a refusal or a file that cannot be read or written, 2 if the command was not understood.",
+];
 
-/// A book as an operand, and its edition.
-macro_rules! book {
-    () => {
-        "  BOOK       the book's file; - reads it from standard input
-  --edition  first or second, the edition that BOOK has: it cannot be told from the bytes
-"
-    };
-}
-
-/// Where a new book goes.
-macro_rules! new_book {
-    () => {
-        "  -o FILE    where the new book goes, - for standard output; never BOOK itself
-  --in-place  the new book takes BOOK's place
-  --at-most  N: the new book is refused (14) where it has more than N bytes
-
-A file is written beside its name and gets the name when it is whole. A refused call leaves every file as it was.
-"
-    };
-}
-
-/// The allowed steps.
-macro_rules! allowed {
-    () => {
-        "  --allowed  the steps that may be used, as 1,2,5 or 1-3 5, or all or none; all where it is not given
-"
-    };
-}
-
-pub(crate) use {allowed, book, new_book, preset, rig};
-
-const ABOUT: &str = "usage: winnathey SUBCOMMAND ..
-
-Router presets as words in Coxeter groups A, B and D. Every answer is the verified library's.
-
-";
-
-const END: &str = "
-'winnathey SUBCOMMAND --help' says how to use it, with an example.
-
-A call that cannot be answered is refused with a number and its meaning on standard error. The exit status is 0 for
-an answer, 1 for a refusal or a file that cannot be read or written, 2 where the command was not understood.
-";
+/// Lines are no longer, however wide the terminal is.
+const WIDEST: usize = 80;
+/// Where the words on an operand or option begin.
+const COLUMN: usize = 16;
 
 /// Help on the subcommand that is named first, or on all.
-pub fn write(arguments: Vec<OsString>, out: &mut dyn Write) -> Result<(), Failure> {
-    if let Some(name) = arguments.first() {
-        let name = name.to_string_lossy();
-        let Some(subcommand) = subcommands::named(&name) else {
-            return Err(Failure::usage(format!("no subcommand '{name}'"), None));
-        };
-        return Ok(out.write_all(subcommand.help.as_bytes())?);
-    }
-    write!(out, "{ABOUT}")?;
+pub fn write(arguments: Vec<OsString>, out: &mut Out) -> Result<(), Failure> {
+    let text = match arguments.first() {
+        Some(name) => of(find(&name.to_string_lossy())?, out.width, out.style),
+        None => overview(out.width, out.style),
+    };
+    Ok(out.write_all(text.as_bytes())?)
+}
+
+/// The subcommand of that name, or what may have been meant.
+pub fn find(name: &str) -> Result<&'static Subcommand, Failure> {
+    subcommands::named(name).ok_or_else(|| {
+        let meant = suggest::question(name, SUBCOMMANDS.iter().map(|subcommand| subcommand.name));
+        Failure::usage(format!("no subcommand '{}'{meant}", text::plain(name)), None)
+    })
+}
+
+fn paragraph(text: &str, width: usize) -> String {
+    text::wrapped(text, width).iter().map(|line| format!("{line}\n")).collect()
+}
+
+fn overview(width: usize, style: Style) -> String {
+    let width = width.min(WIDEST);
+    let mut help = format!("usage: winnathey SUBCOMMAND ..\n\n{}\n", paragraph(ABOUT, width));
+    let mut group = "";
     for subcommand in &SUBCOMMANDS {
-        writeln!(out, "  {:<9} {}", subcommand.name, subcommand.about)?;
+        if subcommand.group != group {
+            let gap = if group.is_empty() { "" } else { "\n" };
+            group = subcommand.group;
+            help += &format!("{gap}{group}:\n");
+        }
+        help += &format!("  {} {}\n", style.bold(&format!("{:<11}", subcommand.name)), subcommand.about);
     }
-    Ok(write!(out, "{END}")?)
+    for text in END {
+        help += &format!("\n{}", paragraph(text, width));
+    }
+    help
+}
+
+/// The lines of usage, without the program's and the subcommand's name.
+pub fn usages(subcommand: &Subcommand) -> Vec<String> {
+    let usage = |usage: &&str| format!("{usage} [OPTION ..]").trim_start().to_string();
+    subcommand.usages.iter().map(usage).collect()
+}
+
+/// An option with its value.
+pub fn option(option: &Opt) -> String {
+    option.value.map_or(option.name.to_string(), |value| format!("{} {value}", option.name))
+}
+
+/// The help text of a subcommand.
+pub fn of(subcommand: &Subcommand, width: usize, style: Style) -> String {
+    let width = width.min(WIDEST);
+    let mut help = String::new();
+    for (number, usage) in usages(subcommand).iter().enumerate() {
+        let front = format!("{} winnathey {}", if number == 0 { "usage:" } else { "      " }, subcommand.name);
+        let indent = text::columns(&front) + 1;
+        let lines = text::wrapped(usage, width.saturating_sub(indent).max(20));
+        for (number, line) in lines.iter().enumerate() {
+            let front = if number == 0 { format!("{front} ") } else { " ".repeat(indent) };
+            help += &format!("{front}{line}\n");
+        }
+    }
+    for text in subcommand.text.split("\n\n") {
+        help += &format!("\n{}", paragraph(text, width));
+    }
+    help += "\n";
+    for operand in subcommand.operands {
+        help += &entry(operand.name, operand.about, width, style);
+    }
+    for listed in subcommand.all_options() {
+        help += &entry(&option(listed), listed.about, width, style);
+    }
+    help += if subcommand.examples.len() == 1 { "\nExample:\n" } else { "\nExamples:\n" };
+    for example in subcommand.examples {
+        help += &format!("  {example}\n");
+    }
+    help
+}
+
+/// A name and the words on it, beside it or, if it is long, below it.
+fn entry(name: &str, about: &str, width: usize, style: Style) -> String {
+    let indent = " ".repeat(COLUMN);
+    let mut lines = text::wrapped(about, width - COLUMN).into_iter();
+    let front = if 2 + text::columns(name) + 2 <= COLUMN {
+        let fill = " ".repeat(COLUMN - 2 - text::columns(name));
+        format!("  {}{fill}{}\n", style.bold(name), lines.next().unwrap_or_default())
+    } else {
+        format!("  {}\n", style.bold(name))
+    };
+    lines.fold(front, |help, line| format!("{help}{indent}{line}\n"))
+}
+
+#[cfg(test)]
+mod tests {
+    use super::*;
+    use crate::table::Completes;
+
+    #[test]
+    fn no_line_is_longer_than_80() {
+        let style = Style::of(false);
+        let texts = SUBCOMMANDS.iter().map(|subcommand| of(subcommand, 200, style)).chain([overview(200, style)]);
+        for text in texts {
+            for line in text.lines() {
+                assert!(text::columns(line) <= 80, "{line}");
+            }
+        }
+    }
+
+    #[test]
+    fn every_option_of_a_usage_is_in_the_table() {
+        for subcommand in &SUBCOMMANDS {
+            let words = subcommand.usages.iter().flat_map(|usage| usage.split([' ', '(', ')', '[', ']', '|']));
+            for option in words.filter(|word| word.starts_with('-')) {
+                assert!(subcommand.has(option), "{} {option}", subcommand.name);
+            }
+            for option in subcommand.all_options() {
+                assert!(option.value.is_some() || option.completes == Completes::Nothing, "{}", option.name);
+            }
+        }
+    }
 }

@@ -4,49 +4,98 @@
 //! Every answer is the library's; this program reads arguments and files and puts words around the answers. What goes
 //! wrong is told on standard error, with status 1, or 2 where the command was not understood.
 mod args;
+mod asked;
+mod books;
+mod completions;
+mod culprit;
 mod drawing;
+mod edit;
 mod failure;
 mod files;
 mod help;
+mod json;
 mod library;
+mod manual;
+mod names;
 mod numbers;
+mod out;
+mod pictures;
 mod progress;
+mod sha256;
+mod sheet;
+mod style;
 mod subcommands;
-mod svg;
+mod suggest;
+mod system;
+mod table;
 mod terminal;
 mod text;
+mod typed;
 
-use failure::Failure;
+use args::Args;
+use failure::{FAILED_ASKED_FOR_STATUS, Failure, REFUSED};
+use out::Out;
 use std::ffi::OsString;
-use std::io::{self, BufWriter, Write};
+use std::io::{self, Write};
 use std::process::ExitCode;
+use table::Verdict;
 
 fn main() -> ExitCode {
-    match run(std::env::args_os().skip(1).collect()) {
-        Ok(()) => ExitCode::SUCCESS,
-        Err(failure) => failure.told(),
+    let arguments: Vec<OsString> = std::env::args_os().skip(1).collect();
+    let given =
+        |option: &str| arguments.iter().take_while(|argument| *argument != "--").any(|argument| argument == option);
+    let (json, asked_for_status) = (given("--json"), given("--status"));
+    let mut out = Out::new(json);
+    let answered = if system::was_open(1) {
+        run(arguments, &mut out)
+    } else {
+        let closed = io::Error::new(io::ErrorKind::NotConnected, "it is closed");
+        Err(Failure::File("standard output".to_string(), closed))
+    };
+    let ended = out.end();
+    let verdict = answered.as_ref().ok().copied();
+    match answered.and_then(|verdict| Ok(ended.map(|()| verdict)?)) {
+        Ok(Verdict::No) if asked_for_status => ExitCode::from(REFUSED),
+        Ok(_) => ExitCode::SUCCESS,
+        // A reader that has gone away wanted no more, but whoever asked for the status still wants it.
+        Err(Failure::ClosedPipe) if asked_for_status => ExitCode::from(match verdict {
+            Some(Verdict::Answer) => 0,
+            Some(Verdict::No) => REFUSED,
+            None => FAILED_ASKED_FOR_STATUS,
+        }),
+        Err(failure) => failure.told(json, asked_for_status),
     }
 }
 
-fn run(mut arguments: Vec<OsString>) -> Result<(), Failure> {
+fn run(mut arguments: Vec<OsString>, out: &mut Out) -> Result<Verdict, Failure> {
     if arguments.is_empty() {
         return Err(Failure::usage("no subcommand", None));
     }
     let first = arguments.remove(0);
-    let name = first.to_string_lossy();
-    let mut out = BufWriter::new(io::stdout().lock());
-    match &*name {
-        "-h" | "--help" | "help" => help::write(arguments, &mut out)?,
-        "-V" | "--version" => writeln!(out, "winnathey {}", env!("CARGO_PKG_VERSION"))?,
-        _ => {
-            let Some(subcommand) = subcommands::named(&name) else {
-                return Err(Failure::usage(format!("no subcommand '{name}'"), None));
-            };
-            match args::Args::parse(subcommand, arguments)? {
-                Some(args) => (subcommand.run)(args, &mut out)?,
-                None => out.write_all(subcommand.help.as_bytes())?,
+    match &*first.to_string_lossy() {
+        "-h" | "--help" | "help" => help::write(arguments, out)?,
+        "-V" | "--version" => version(out)?,
+        name => {
+            let subcommand = help::find(name)?;
+            match Args::parse(subcommand, arguments)? {
+                Some(args) => {
+                    out.paged &= subcommand.paged;
+                    return (subcommand.run)(args, out);
+                }
+                None => {
+                    let text = help::of(subcommand, out.width, out.style);
+                    out.write_all(text.as_bytes())?;
+                }
             }
         }
     }
-    Ok(out.flush()?)
+    Ok(Verdict::Answer)
+}
+
+fn version(out: &mut Out) -> Result<(), Failure> {
+    if out.json {
+        let fields = vec![("version", library::VERSION.into()), ("library_sha256", library::ARCHIVE_SHA256.into())];
+        return Ok(out.answer("version", fields)?);
+    }
+    Ok(writeln!(out, "winnathey {}\nlibrary SHA-256 {}", library::VERSION, library::ARCHIVE_SHA256)?)
 }

@@ -1,14 +1,9 @@
 //! Numbers as people type them: words, windows, sets of steps.
 use crate::failure::Failure;
-use std::io::{self, BufRead};
+use crate::library::MAX_LETTERS;
+use crate::{system, text};
+use std::io::{self, BufRead, ErrorKind};
 use std::num::IntErrorKind;
-use winnathey::lent::{MAX_LANES, MAX_LETTERS};
-
-/// Where the numbers of a word or of a window stand.
-pub enum Source {
-    Typed(String),
-    StandardInput,
-}
 
 /// A whole number; one beyond 64 bits as the greatest or the least. A minus may be a hyphen or the sign itself.
 pub fn integer(text: &str) -> Option<i64> {
@@ -26,55 +21,67 @@ fn separates(character: char) -> bool {
     character == ',' || character.is_whitespace()
 }
 
-/// The letters of a word. A number that is no byte becomes 0 or 255, which are no steps either.
-pub fn letters(source: &Source) -> Result<Vec<u8>, Failure> {
-    let numbers = integers(source, MAX_LETTERS)?;
-    Ok(numbers.into_iter().map(|number| number.clamp(0, 255) as u8).collect())
+/// The numbers of a text, in their order. A byte order mark in front does not count.
+pub fn typed(text: &str) -> Result<Vec<i64>, String> {
+    let text = text.strip_prefix('\u{feff}').unwrap_or(text);
+    let parts = text.split(separates).filter(|part| !part.is_empty());
+    parts.map(|part| integer(part).ok_or_else(|| no_number(part))).collect()
 }
 
-/// The entries of a window. A number that is no signed byte becomes -128 or 127, which are no entries either.
-pub fn entries(source: &Source) -> Result<Vec<i8>, Failure> {
-    let numbers = integers(source, MAX_LANES)?;
-    Ok(numbers.into_iter().map(|number| number.clamp(-128, 127) as i8).collect())
+fn no_number(part: &str) -> String {
+    format!("'{}' is no number", text::plain(part))
 }
 
-/// The numbers in their order. Of standard input no more are read than one above the most that are ever accepted.
-fn integers(source: &Source, most: usize) -> Result<Vec<i64>, Failure> {
-    match source {
-        Source::Typed(text) => {
-            let parts = text.split(separates).filter(|part| !part.is_empty());
-            parts.map(|part| integer(part).ok_or_else(|| no_number(part))).collect()
-        }
-        Source::StandardInput => streamed(io::stdin().lock(), most + 1),
+/// What standard input holds: numbers, as many as tell whether they are too many for a word; whether they stand in
+/// brackets.
+pub fn from_standard_input() -> Result<(Vec<i64>, bool), Failure> {
+    let name = || "standard input".to_string();
+    if !system::was_open(0) {
+        return Err(Failure::File(name(), io::Error::new(ErrorKind::NotConnected, "it is closed")));
+    }
+    match streamed(io::stdin().lock(), MAX_LETTERS + 1) {
+        Ok(read) => Ok(read),
+        Err(Streamed::Failed(error)) => Err(Failure::File(name(), error)),
+        Err(Streamed::NoNumber(part)) => Err(Failure::usage(no_number(&part), None)),
     }
 }
 
-fn no_number(text: &str) -> Failure {
-    Failure::usage(format!("'{}' is no number", text.escape_debug()), None)
+enum Streamed {
+    Failed(io::Error),
+    NoNumber(String),
 }
 
 /// More bytes than a number has that anyone would type.
 const LONG: usize = 40;
+const BYTE_ORDER_MARK: &[u8] = b"\xef\xbb\xbf";
 
-fn streamed(bytes: impl BufRead, most: usize) -> Result<Vec<i64>, Failure> {
+fn streamed(bytes: impl BufRead, most: usize) -> Result<(Vec<i64>, bool), Streamed> {
     let mut numbers = Vec::new();
-    let mut part = Vec::new();
+    let mut brackets = false;
+    let mut part: Vec<u8> = Vec::new();
+    let mut first = true;
     for byte in bytes.bytes().chain([Ok(b' ')]) {
-        let byte = byte.map_err(|error| Failure::File("standard input".to_string(), error))?;
-        let separates = byte.is_ascii() && separates(byte.into());
+        let byte = byte.map_err(Streamed::Failed)?;
+        let separates = byte.is_ascii() && (separates(byte.into()) || byte == b'[' || byte == b']');
+        brackets |= byte == b'[';
         if !separates && part.len() < LONG {
             part.push(byte);
+            if first && part == BYTE_ORDER_MARK {
+                part.clear();
+                first = false;
+            }
         } else if !part.is_empty() {
-            let text = String::from_utf8_lossy(&part);
+            let text = String::from_utf8_lossy(&part).into_owned();
             let number = if separates { integer(&text) } else { None };
-            numbers.push(number.ok_or_else(|| no_number(&text))?);
+            numbers.push(number.ok_or(Streamed::NoNumber(text))?);
             part.clear();
+            first = false;
         }
         if numbers.len() == most {
             break;
         }
     }
-    Ok(numbers)
+    Ok((numbers, brackets))
 }
 
 /// The set of all steps of a rank.
@@ -82,21 +89,29 @@ pub fn all_steps(rank: u8) -> u64 {
     u64::MAX.checked_shl(rank.into()).map_or(u64::MAX, |above| !above)
 }
 
-/// A set of steps: `none`, `all`, or steps and runs such as `1-3 5`.
-pub fn steps(text: &str, rank: u8) -> Result<u64, String> {
+/// A set of steps: `none`, `all`, or steps and runs such as `1-3,5`.
+pub fn steps(option: &str, text: &str, rank: u8) -> Result<u64, String> {
     match text.trim() {
         "none" => return Ok(0),
         "all" => return Ok(all_steps(rank)),
+        "" => return Err(format!("{option} needs steps such as 1-3,5, or none for the empty set")),
         _ => {}
     }
-    let step = |part: &str| match integer(part) {
-        Some(step @ 1..=64) => Ok(step),
-        _ => Err(format!("--allowed needs steps from 1 to 64, runs such as 2-5, all or none, not '{part}'")),
-    };
     let mut set = 0;
     for part in text.split(separates).filter(|part| !part.is_empty()) {
+        let step = |text: &str| match integer(text) {
+            Some(step @ 1..=64) => Ok(step),
+            _ => Err(format!(
+                "{option} needs steps from 1 to 64 such as 1-3,5, or all or none, not '{}'",
+                text::plain(part)
+            )),
+        };
         let (first, last) = part.split_once('-').unwrap_or((part, part));
-        for step in step(first)?..=step(last)? {
+        let (first, last) = (step(first)?, step(last)?);
+        if first > last {
+            return Err(format!("{option}: the run {first}-{last} goes backwards: write {last}-{first}"));
+        }
+        for step in first..=last {
             set |= 1 << (step - 1);
         }
     }
@@ -107,42 +122,40 @@ pub fn steps(text: &str, rank: u8) -> Result<u64, String> {
 mod tests {
     use super::*;
 
-    fn typed(text: &str) -> Option<Vec<i64>> {
-        integers(&Source::Typed(text.to_string()), 4).ok()
-    }
-
     #[test]
     fn spaces_and_commas_separate() {
-        assert_eq!(typed("1 2,3, 4\n"), Some(vec![1, 2, 3, 4]));
-        assert_eq!(typed(""), Some(vec![]));
-        assert_eq!(typed("\u{2212}1 -2"), Some(vec![-1, -2]));
-        assert_eq!(typed("99999999999999999999"), Some(vec![i64::MAX]));
-        assert_eq!(typed("1 x"), None);
-        assert_eq!(typed("1.5"), None);
+        assert_eq!(typed("1 2,3, 4\n"), Ok(vec![1, 2, 3, 4]));
+        assert_eq!(typed(""), Ok(vec![]));
+        assert_eq!(typed("\u{2212}1 -2"), Ok(vec![-1, -2]));
+        assert_eq!(typed("99999999999999999999"), Ok(vec![i64::MAX]));
+        assert_eq!(typed("\u{feff}1 2"), Ok(vec![1, 2]));
+        assert!(typed("1 x").is_err() && typed("1.5").is_err() && typed("1 \u{feff}2").is_err());
     }
 
     #[test]
     fn a_stream_is_read_as_what_is_typed_but_no_further_than_needed() {
-        let read = |bytes: &[u8]| streamed(bytes, 5).ok();
-        for text in ["1 2,3, 4\n", "", "\u{2212}1 -2", "1 x", "x", "7"] {
-            assert_eq!(read(text.as_bytes()), typed(text), "{text}");
+        let read = |bytes: &[u8]| streamed(bytes, 5).ok().map(|(numbers, _)| numbers);
+        for text in ["1 2,3, 4\n", "", "\u{2212}1 -2", "1 x", "x", "7", "\u{feff}7 8", "1 \u{feff}2"] {
+            assert_eq!(read(text.as_bytes()), typed(text).ok(), "{text}");
         }
         assert_eq!(read(b"1 1 1 1 1 x"), Some(vec![1; 5]));
         assert_eq!(read(&[0; 100]), None);
         assert_eq!(read(&[b'1'; 100]), None);
         assert_eq!(read(&[0xff]), None);
+        assert!(streamed(&b"[2 -1]"[..], 5).is_ok_and(|read| read == (vec![2, -1], true)));
     }
 
     #[test]
     fn sets_of_steps() {
-        assert_eq!(steps("1-3,5", 5), Ok(0b10111));
-        assert_eq!(steps("none", 5), Ok(0));
-        assert_eq!(steps("", 5), Ok(0));
-        assert_eq!(steps("all", 5), Ok(0b11111));
+        let steps = |text| steps("--allowed", text, 5);
+        assert_eq!(steps("1-3,5"), Ok(0b10111));
+        assert_eq!(steps("1-3 5"), Ok(0b10111));
+        assert_eq!(steps("none"), Ok(0));
+        assert_eq!(steps("all"), Ok(0b11111));
         assert_eq!((all_steps(0), all_steps(64), all_steps(255)), (0, u64::MAX, u64::MAX));
-        assert_eq!(steps("64", 5), Ok(1 << 63));
-        assert!(
-            steps("0", 5).is_err() && steps("65", 5).is_err() && steps("1-", 5).is_err() && steps("-1", 5).is_err()
-        );
+        assert_eq!(steps("64"), Ok(1 << 63));
+        for wrong in ["", "0", "65", "1-", "-1", "5-2", "1-2-3", "x"] {
+            assert!(steps(wrong).is_err(), "{wrong}");
+        }
     }
 }

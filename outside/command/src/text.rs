@@ -1,5 +1,6 @@
-//! Words and numbers as text.
+//! Words, numbers and names as text.
 use std::fmt::Display;
+use std::path::Path;
 
 /// The numbers with spaces between them.
 pub fn spaced<T: Display>(numbers: &[T]) -> String {
@@ -29,6 +30,65 @@ pub fn grouped(number: u64) -> String {
     text
 }
 
+/// `1st`, `2nd`, `11th`.
+pub fn ordinal(number: usize) -> String {
+    let ending = match (number % 10, number % 100) {
+        (1, 11) | (2, 12) | (3, 13) => "th",
+        (1, _) => "st",
+        (2, _) => "nd",
+        (3, _) => "rd",
+        _ => "th",
+    };
+    format!("{}{ending}", grouped(number as u64))
+}
+
+/// A set of steps as `--allowed` takes it: `1-3,5`, or none.
+pub fn set(steps: u64) -> String {
+    let mut runs = Vec::new();
+    let mut step = 1;
+    while step <= 64 {
+        let first = step;
+        while step <= 64 && steps & (1 << (step - 1)) != 0 {
+            step += 1;
+        }
+        match step - first {
+            0 => step += 1,
+            1 => runs.push(first.to_string()),
+            _ => runs.push(format!("{first}-{}", step - 1)),
+        }
+    }
+    if runs.is_empty() { "none".to_string() } else { runs.join(",") }
+}
+
+/// The steps of a set.
+pub fn steps(set: u64) -> Vec<u8> {
+    (1..=64).filter(|step| set & (1 << (step - 1)) != 0).collect()
+}
+
+/// What somebody typed, without characters that a terminal would obey.
+pub fn plain(text: &str) -> String {
+    let mut plain = String::new();
+    for character in text.chars() {
+        if is_unseen(character) {
+            plain.extend(character.escape_debug());
+        } else {
+            plain.push(character);
+        }
+    }
+    plain
+}
+
+/// Characters that show nothing of themselves, or turn the direction of what follows.
+pub fn is_unseen(character: char) -> bool {
+    character.is_control()
+        || matches!(character, '\u{200e}' | '\u{200f}' | '\u{2028}'..='\u{202e}' | '\u{2066}'..='\u{2069}' | '\u{feff}')
+}
+
+/// A file's name, to be shown.
+pub fn file(path: &Path) -> String {
+    plain(&path.to_string_lossy())
+}
+
 /// The text in lines of at most `width` characters, broken at spaces.
 pub fn wrapped(text: &str, width: usize) -> Vec<String> {
     let mut lines = vec![String::new()];
@@ -36,7 +96,7 @@ pub fn wrapped(text: &str, width: usize) -> Vec<String> {
         let line = lines.last_mut().expect("one line at least");
         if line.is_empty() {
             line.push_str(part);
-        } else if line.len() + 1 + part.len() <= width {
+        } else if columns(line) + 1 + columns(part) <= width {
             line.push(' ');
             line.push_str(part);
         } else {
@@ -44,6 +104,16 @@ pub fn wrapped(text: &str, width: usize) -> Vec<String> {
         }
     }
     lines
+}
+
+/// The characters of a text, each of which is taken for one column.
+pub fn columns(text: &str) -> usize {
+    text.chars().count()
+}
+
+/// The text filled with spaces to so many columns.
+pub fn padded(text: &str, width: usize) -> String {
+    format!("{text}{}", " ".repeat(width.saturating_sub(columns(text))))
 }
 
 #[cfg(test)]
@@ -61,5 +131,27 @@ mod tests {
         assert_eq!(wrapped("1 2 3 4", 3), ["1 2", "3 4"]);
         assert_eq!(wrapped("", 3), [""]);
         assert_eq!(wrapped("12345 6", 3), ["12345", "6"]);
+    }
+
+    #[test]
+    fn sets_are_written_as_they_are_read() {
+        assert_eq!(set(0b10111), "1-3,5");
+        assert_eq!(set(0), "none");
+        assert_eq!(set(u64::MAX), "1-64");
+        assert_eq!(set(1 << 63 | 1), "1,64");
+        assert_eq!(steps(0b101), [1, 3]);
+    }
+
+    #[test]
+    fn places_have_their_endings() {
+        assert_eq!(
+            [1, 2, 3, 4, 11, 12, 21, 111, 1002].map(ordinal).join(" "),
+            "1st 2nd 3rd 4th 11th 12th 21st 111th 1,002nd"
+        );
+    }
+
+    #[test]
+    fn nothing_that_a_terminal_obeys_is_shown() {
+        assert_eq!(plain("a\u{1b}[31m\n\u{202e}é"), "a\\u{1b}[31m\\n\\u{202e}é");
     }
 }

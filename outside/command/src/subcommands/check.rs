@@ -1,49 +1,67 @@
 //! `check`: whether a book and all its records are right.
-use super::Subcommand;
 use crate::args::Args;
+use crate::books::{self, Book};
 use crate::failure::Failure;
-use crate::help::book;
+use crate::out::Out;
+use crate::table::{self, Subcommand, Verdict};
 use crate::{files, text};
 use std::io::Write;
 use std::path::Path;
-use winnathey::lent::presets;
 
 pub const SUBCOMMAND: Subcommand = Subcommand {
     name: "check",
+    group: table::BOOKS,
     about: "whether a book and all its records are right",
-    help: concat!(
-        "usage: winnathey check BOOK --edition first|second
-
-Checks a book and each of its records. A refused book, or each refused record, is told on standard error with the
-number and its meaning, and the exit status is then 1.
-
-",
-        book!(),
-        "
-Example:
-  winnathey check presets.book --edition first
-"
-    ),
-    flags: &[],
-    values: &["--edition"],
+    usages: &["BOOK --edition EDITION"],
+    text: "Checks a book and each of its records. A refused book, or each refused record, is told on standard error \
+           with the number and its meaning, and the exit status is then 1. Where the bytes are a right book of the \
+           other edition too, or of that alone, this is said.",
+    operands: &[table::BOOK],
+    options: &[table::EDITION],
+    examples: &["winnathey check presets.book --edition first"],
+    json: &[&[
+        ("book", "the file of the book"),
+        ("edition", "first or second"),
+        ("presets", "how many presets it has"),
+        ("bytes", "how many bytes"),
+        ("right", "true: a book that is not right is a failure"),
+    ]],
+    paged: false,
     run,
 };
 
-fn run(mut args: Args, out: &mut dyn Write) -> Result<(), Failure> {
+fn run(mut args: Args, out: &mut Out) -> Result<Verdict, Failure> {
     let path = args.next("BOOK")?;
     args.done()?;
-    let edition = args.edition()?;
-    let book = files::read_book(Path::new(&path))?;
-    let presets = presets(edition, &book)?;
-    let count = presets.len();
-    let refused: Vec<_> = presets.enumerate().filter_map(|(number, preset)| Some((number, preset.err()?))).collect();
-    write!(out, "{}, {}: ", text::counted(count, "preset"), text::counted(book.len(), "byte"))?;
-    match refused.len() {
-        0 => Ok(writeln!(out, "the book is right")?),
-        wrong => {
-            writeln!(out, "{} refused", text::counted(wrong, "record"))?;
-            out.flush()?;
-            Err(Failure::Presets(refused))
-        }
+    let path = Path::new(&path);
+    let book = Book::new(args.edition(path)?, files::read_book(path)?, path);
+    let presets = book.presets()?;
+    let refused = presets.iter().enumerate().filter_map(|(number, preset)| {
+        let refusal = preset.as_ref().err()?;
+        Some((number, *refusal, book.record(number, *refusal)))
+    });
+    let refused: Vec<_> = refused.collect();
+    book.warn(out);
+    let (count, wrong) = (presets.len(), refused.len());
+    if out.json && refused.is_empty() {
+        let fields = vec![
+            ("book", (&book.file).into()),
+            ("edition", books::name(book.edition).into()),
+            ("presets", count.into()),
+            ("bytes", book.bytes.len().into()),
+            ("right", true.into()),
+        ];
+        out.answer("check", fields)?;
+        return Ok(Verdict::Answer);
     }
+    if !out.json {
+        let (count, bytes) = (text::counted(count, "preset"), text::counted(book.bytes.len(), "byte"));
+        let verdict = match wrong {
+            0 => "the book is right".to_string(),
+            wrong => format!("{} refused", text::counted(wrong, "record")),
+        };
+        writeln!(out, "{}, {} edition, {count}, {bytes}: {verdict}", book.file, books::name(book.edition))?;
+        out.flush()?;
+    }
+    if refused.is_empty() { Ok(Verdict::Answer) } else { Err(Failure::Presets(refused, book.hint())) }
 }

@@ -1,53 +1,68 @@
 //! `convert`: a book in the other edition.
-use super::Subcommand;
 use crate::args::Args;
+use crate::books::{self, Book};
+use crate::edit::{Change, Edit};
 use crate::failure::Failure;
-use crate::files::{self, Books};
-use crate::help::{book, new_book};
+use crate::library::{self, MAX_BOOK, Refusal};
+use crate::out::Out;
+use crate::table::{self, Subcommand, Verdict};
 use crate::text;
-use std::io::Write;
-use winnathey::lent::{Edition, MAX_BOOK, book_check, convert};
 
 pub const SUBCOMMAND: Subcommand = Subcommand {
     name: "convert",
+    group: table::BOOKS,
     about: "a book in the other edition",
-    help: concat!(
-        "usage: winnathey convert BOOK --edition first|second (-o FILE | --in-place) [--at-most N]
-
-Writes the book in the other edition, the order of the presets and their letters kept. A book with a refused record
-is refused whole; so is one that goes back to the first edition with more than 32 lanes in a record (18).
-
-",
-        book!(),
-        new_book!(),
-        "
-Example:
-  winnathey convert presets.book --edition first -o second.book
-"
-    ),
-    flags: &["--in-place"],
-    values: &["--edition", "-o", "--at-most"],
+    usages: &["BOOK --edition EDITION (--in-place | -o FILE)"],
+    text: "Writes the book in the other edition, the order of the presets and their letters kept. A book with a \
+           refused record is refused whole; so is one that goes back to the first edition with more than 32 lanes in \
+           a record (18).\n\nA file is written beside its name, brought to the disk and gets the name when it is \
+           whole; only then is it said. A refused call leaves every file as it was.",
+    operands: &[table::BOOK],
+    options: &[
+        table::EDITION.about("first or second, the edition that BOOK has now: its bytes do not tell"),
+        table::IN_PLACE,
+        table::OUTPUT_BOOK,
+        table::FORCE,
+        table::AT_MOST_BYTES,
+    ],
+    examples: &["winnathey convert presets.book --edition first -o second.book"],
+    json: &[table::WRITTEN],
+    paged: false,
     run,
 };
 
-fn run(mut args: Args, out: &mut dyn Write) -> Result<(), Failure> {
-    let books = Books::named(&mut args)?;
+fn run(mut args: Args, out: &mut Out) -> Result<Verdict, Failure> {
+    let edit = Edit::named(&mut args)?;
     args.done()?;
-    let edition = args.edition()?;
-    let room = args.count("--at-most")?.unwrap_or(MAX_BOOK).min(MAX_BOOK);
-    let book = files::read_book(&books.from)?;
-    let mut new = vec![0; room];
-    let length = convert(edition, &book, &mut new)?;
-    let new = &new[..length];
-    books.write(new, out)?;
-    if let Some(file) = books.file() {
-        let (other, name) = match edition {
-            Edition::First => (Edition::Second, "second"),
-            Edition::Second => (Edition::First, "first"),
-        };
-        let presets = text::counted(book_check(other, new)?, "preset");
-        let bytes = text::counted(length, "byte");
-        writeln!(out, "{}: a book of the {name} edition, {presets}, {bytes}", file.display())?;
+    let change = |book: &Book| {
+        let bytes = library::convert(book.edition, &book.bytes, edit.room).map_err(|refusal| refused(book, refusal))?;
+        let other = books::other(book.edition);
+        let told = format!("converted from the {} edition to the {}", books::name(book.edition), books::name(other));
+        Ok(Change { bytes, edition: other, numbers: None, told, fields: Vec::new() })
+    };
+    edit.run("convert", change, out)
+}
+
+/// Which record is refused, or how long the new book would be.
+fn refused(book: &Book, refusal: Refusal) -> Failure {
+    let Ok(presets) = book.presets() else { return book.refused(refusal) };
+    let wrong = presets.iter().position(|preset| match preset {
+        Err(own) => *own == refusal,
+        Ok(preset) => refusal.number() == 18 && library::lanes(preset.rig).is_ok_and(|lanes| lanes > 32),
+    });
+    match (refusal.number(), wrong) {
+        (14, _) => {
+            let whole = library::convert(book.edition, &book.bytes, MAX_BOOK);
+            let bytes = whole.map(|whole| format!("the new book has {}", text::counted(whole.len(), "byte")));
+            Failure::Refused(refusal, bytes.ok())
+        }
+        (_, Some(number)) => {
+            let culprit = match &presets[number] {
+                Ok(preset) => Some(format!("it is of {}", preset.rig)),
+                Err(_) => book.record(number, refusal),
+            };
+            Failure::Presets(vec![(number, refusal, culprit)], book.hint())
+        }
+        _ => book.refused(refusal),
     }
-    Ok(())
 }

@@ -1,62 +1,78 @@
 //! `delays`: how many windows of a rig have each length.
-use super::Subcommand;
 use crate::args::Args;
+use crate::culprit::Given;
 use crate::failure::Failure;
-use crate::help::rig;
-use crate::{files, svg, text};
+use crate::files::Sort;
+use crate::json::list;
+use crate::out::Out;
+use crate::pictures::{self, bars};
+use crate::table::{self, Subcommand, Verdict};
+use crate::{library, text, typed};
 use std::io::{self, Write};
-use winnathey::lent::{MAX_COUNTS, MAX_LANES, MAX_NORMAL_FORM, delay_table};
 
 pub const SUBCOMMAND: Subcommand = Subcommand {
     name: "delays",
+    group: table::PRESETS,
     about: "how many windows of a rig have each length, and the longest one",
-    help: concat!(
-        "usage: winnathey delays KIND RANK [--svg FILE.svg]
-
-How many windows of the kind and rank have each length, as a table with bars; then the one window with the greatest
-length, and its normal form. There are tables up to rank 19 for A and up to 16 for B and D; other
-ranks are refused (20).
-
-",
-        rig!(),
-        "  --svg      FILE.svg: a picture of the table instead, - for standard output
-
-Example:
-  winnathey delays B 3
-"
-    ),
-    flags: &[],
-    values: &["--svg"],
+    usages: &["RIG"],
+    text: "How many windows of the kind and rank have each length, as a table with bars; then the one window with the \
+           greatest length, and its normal form. There are tables up to rank 19 for A and up to 16 for B and D; other \
+           ranks are refused (20).",
+    operands: &[table::RIG],
+    options: &[table::SVG, table::PNG, table::FORCE],
+    examples: &["winnathey delays B3", "winnathey delays B5 --svg delays.svg"],
+    json: &[
+        &[
+            ("rig", "kind, rank and number of lanes"),
+            ("windows", "how many windows there are"),
+            ("counts", "how many have each length, from 0; they may exceed what fits 53 bits"),
+            ("longest", "the longest window"),
+            ("longest_form", "the letters of its normal form"),
+        ],
+        table::PICTURE,
+    ],
+    paged: true,
     run,
 };
 
-fn run(mut args: Args, out: &mut dyn Write) -> Result<(), Failure> {
-    let (kind, rank) = args.kind_and_rank()?;
+fn run(mut args: Args, out: &mut Out) -> Result<Verdict, Failure> {
+    let rig = args.rig()?;
     args.done()?;
-    let (mut counts, mut window, mut form) = ([0; MAX_COUNTS], [0; MAX_LANES], [0; MAX_NORMAL_FORM]);
-    let lengths = delay_table(kind, rank, &mut counts, &mut window, &mut form)?;
-    let counts = &counts[..lengths.counts];
-    let name = format!("{kind}{rank}");
-    if let Some(file) = args.path("--svg") {
-        return files::write_picture(&file, &svg::bars(&name, counts), out);
+    let given = Given { rig: Some(&rig), ..Given::default() };
+    let target = pictures::Target::named(&args, "--svg")?;
+    let delays = library::delays(rig.rig).map_err(|refusal| given.refused(refusal))?;
+    let name = rig.rig.to_string();
+    let windows: u64 = delays.counts.iter().sum();
+    let mut fields = vec![("rig", typed::rig(rig.rig)), ("windows", windows.into())];
+    if let Some(target) = target {
+        let said = format!("{name}: {} windows", text::grouped(windows));
+        return target.write(&bars::picture(&name, &delays.counts), Sort::Svg, "delays", (said, fields), out);
     }
-    writeln!(out, "{name}: {} windows, of length 0 to {}", text::grouped(counts.iter().sum()), lengths.form)?;
-    chart(counts, out)?;
-    writeln!(out, "the longest shows {}", text::spaced(&window[..lengths.window]))?;
-    writeln!(out, "its normal form is {}", text::spaced(&form[..lengths.form]))?;
-    Ok(())
+    if out.json {
+        fields.push(("counts", list(&delays.counts)));
+        fields.push(("longest", list(&delays.window)));
+        fields.push(("longest_form", list(&delays.form)));
+        out.answer("delays", fields)?;
+        return Ok(Verdict::Answer);
+    }
+    writeln!(out, "{name}: {} windows, of length 0 to {}", text::grouped(windows), delays.form.len())?;
+    chart(&delays.counts, out)?;
+    writeln!(out, "the longest shows {}", text::spaced(&delays.window))?;
+    writeln!(out, "its normal form is {}", text::spaced(&delays.form))?;
+    Ok(Verdict::Answer)
 }
 
-/// The greatest number's bar.
-const BAR: u64 = 50;
+/// The greatest number's bar, at most.
+const BAR: usize = 50;
 
-fn chart(counts: &[u64], out: &mut dyn Write) -> io::Result<()> {
+fn chart(counts: &[u64], out: &mut Out) -> io::Result<()> {
     let most = counts.iter().copied().max().unwrap_or(1);
     let width = text::grouped(most).len().max("windows".len());
+    let longest = out.width.saturating_sub(width + 10).clamp(10, BAR) as u128;
     writeln!(out, "length  {:>width$}", "windows")?;
     for (length, &count) in counts.iter().enumerate() {
         // In 128 bits: 50 times the greatest number does not fit 64. A window leaves a mark, however few they are.
-        let bar = (u128::from(count) * u128::from(BAR)).div_ceil(u128::from(most)) as usize;
+        let bar = (u128::from(count) * longest).div_ceil(u128::from(most)) as usize;
         writeln!(out, "{length:>6}  {:>width$}  {}", text::grouped(count), "#".repeat(bar))?;
     }
     Ok(())

@@ -1,56 +1,92 @@
 //! `draw`: a picture of a preset.
-use super::Subcommand;
 use crate::args::Args;
 use crate::drawing::{Drawing, Layout};
 use crate::failure::Failure;
-use crate::help::preset;
-use crate::{files, library, svg, terminal};
+use crate::files::Sort;
+use crate::json::{Value, list};
+use crate::out::Out;
+use crate::pictures::{Target, strands};
+use crate::table::{self, Subcommand, Verdict};
+use crate::typed::Asked;
+use crate::{asked, library, terminal};
 use std::io::Write;
 
 pub const SUBCOMMAND: Subcommand = Subcommand {
     name: "draw",
+    group: table::PRESETS,
     about: "a picture of a preset: its lanes, and a crossing for each step",
-    help: concat!(
-        "usage: winnathey draw KIND RANK WORD [--both] [-o FILE.svg]
-
-Draws the lanes as lines from left to right and a crossing for each step, with the numbers of the window at the right
-end. A mirrored lane is a double line, a dot (* in the terminal) is a step that mirrors. Without -o the drawing goes
-to the terminal, for up to 16 lanes.
-
-",
-        preset!(),
-        "  --both     the word as typed above its normal form: they end alike
-  -o         FILE.svg: a picture, - for standard output; where the steps of a word are too many for one row, steps
-             that touch different lanes share a column
-
-Example:
-  winnathey draw D 5 4 4 2 5 3 5 1 2 --both -o preset.svg
-"
-    ),
-    flags: &["--both"],
-    values: &["-o"],
+    usages: &["RIG WORD", "--book FILE --edition EDITION --preset N"],
+    text: "Draws the sources as lines from the left to their screens at the right, and a crossing for each step. A \
+           mirrored lane is a double line, a dot (* in the terminal) is a step that mirrors. Without -o or --png the \
+           drawing goes to the terminal, for up to 16 lanes. In a picture a long word goes on in further rows; steps \
+           that touch different lanes then share a column.",
+    operands: &[table::RIG, table::WORD],
+    options: &[
+        table::BOTH,
+        table::OUTPUT_PICTURE,
+        table::PNG,
+        table::FORCE,
+        table::FROM_BOOK,
+        table::EDITION,
+        table::PRESET,
+        table::NAMES,
+    ],
+    examples: &[
+        "winnathey draw D5 4 4 2 5 3 5 1 2 --both -o preset.svg",
+        "winnathey draw --book presets.book --edition first --preset 1 --png preset.png",
+    ],
+    json: &[
+        table::READ,
+        table::SHOWS,
+        table::PICTURE,
+        &[("after_each_step", "without a file, the window after each step")],
+    ],
+    paged: true,
     run,
 };
 
-fn run(mut args: Args, out: &mut dyn Write) -> Result<(), Failure> {
-    let (kind, rank, word) = args.preset()?;
-    let lanes = library::window(kind, rank, &[])?.len();
-    let mut words = vec![("typed", word.clone())];
-    if args.flag("--both") {
-        words.push(("normal form", library::normal_form(kind, rank, &word)?));
+fn run(mut args: Args, out: &mut Out) -> Result<Verdict, Failure> {
+    let asked = asked::preset(&mut args, out)?;
+    let shown = asked.window()?;
+    let form = if args.flag("--both") { Some(asked.form()?) } else { None };
+    if let Some(target) = Target::named(&args, "-o")? {
+        let picture = picture(&asked, form.as_deref())?;
+        let mut fields = asked.fields();
+        fields.push(("shows", list(&shown)));
+        return target.write(&picture, Sort::Svg, "draw", (asked.heading(), fields), out);
     }
-    let file = args.path("-o");
-    let layout = match &file {
-        Some(_) => svg::layout(lanes),
-        None => terminal::layout(lanes)
-            .ok_or_else(|| args.usage(format!("{lanes} lanes are too many for the terminal: -o FILE.svg")))?,
-    };
-    let longest = words.iter().map(|(_, word)| word.len()).max().unwrap_or(0);
-    let layout = Layout { shared: layout.shared && longest > layout.columns, ..layout };
-    let drawings: Result<Vec<Drawing>, Failure> =
-        words.into_iter().map(|(name, word)| Drawing::of(kind, rank, name, word, &layout)).collect();
-    match file {
-        Some(file) => files::write_picture(&file, &svg::picture(&drawings?, &layout), out),
-        None => Ok(terminal::write(&drawings?, &layout, out)?),
+    let lanes = shown.len();
+    let layout = terminal::layout(lanes, out.width);
+    let layout = layout.ok_or_else(|| args.usage(format!("{lanes} lanes are too many for the terminal: -o FILE")))?;
+    let drawings = drawings(&asked, form.as_deref(), &layout)?;
+    if out.json {
+        return in_json(&asked, &shown, &drawings, out);
     }
+    if let Some(source) = asked.source() {
+        writeln!(out, "{source}")?;
+    }
+    terminal::write(&drawings, &layout, out)?;
+    Ok(Verdict::Answer)
+}
+
+/// The picture of a preset, above that of its normal form where that is wanted.
+pub fn picture(asked: &Asked, form: Option<&[u8]>) -> Result<String, Failure> {
+    let longest = asked.letters().len().max(form.map_or(0, <[u8]>::len));
+    let layout = strands::layout(library::lanes(asked.rig())?, longest);
+    Ok(strands::picture(&drawings(asked, form, &layout)?, layout.shared))
+}
+
+fn drawings(asked: &Asked, form: Option<&[u8]>, layout: &Layout) -> Result<Vec<Drawing>, Failure> {
+    let words = [(asked.called(), asked.letters())].into_iter().chain(form.map(|form| ("normal form", form)));
+    words.map(|(name, word)| Drawing::of(asked.rig(), name, word, &asked.names, layout)).collect()
+}
+
+/// The windows after each step.
+fn in_json(asked: &Asked, shown: &[i8], drawings: &[Drawing], out: &mut Out) -> Result<Verdict, Failure> {
+    let columns = drawings[0].rows.iter().flat_map(|row| &row.columns);
+    let mut fields = asked.fields();
+    fields.push(("shows", list(shown)));
+    fields.push(("after_each_step", Value::List(columns.map(|column| list(&column.after)).collect())));
+    out.answer("draw", fields)?;
+    Ok(Verdict::Answer)
 }

@@ -1,58 +1,76 @@
 //! `fallback`: whether a simpler preset is left when steps are pulled out.
-use super::Subcommand;
 use crate::args::Args;
+use crate::asked::{self, SecondRig};
+use crate::culprit::Given;
 use crate::failure::Failure;
-use crate::help::rig;
+use crate::json::{Value, list};
+use crate::out::Out;
+use crate::table::{self, Completes, Operand, Subcommand, Verdict};
 use crate::{library, text};
 use std::io::Write;
-use winnathey::lent::{MAX_NORMAL_FORM, fallback};
+
+const WORDS: Operand = Operand {
+    name: "PRESENT, SIMPLER",
+    about: "words, one argument each: steps from 1 to n with spaces or commas between them, 4,096 at most; '' is the \
+            empty word, - reads one from standard input. A window in brackets stands for its normal form",
+    completes: Completes::Nothing,
+};
 
 pub const SUBCOMMAND: Subcommand = Subcommand {
     name: "fallback",
-    about: "whether a simpler preset is had by pulling steps out of the present one",
-    help: concat!(
-        "usage: winnathey fallback KIND RANK PRESENT SIMPLER
-
-Whether what the simpler preset shows can be had by removing steps from the present one's normal form, and then
-which to keep. Several choices may serve; one is given. A no is an answer: the exit status is 0.
-
-",
-        rig!(),
-        "  PRESENT, SIMPLER
-             words, one argument each: steps from 1 to n with spaces or commas between them, 4,096 at most;
-             '' is the empty word, - reads one from standard input
-
-Example:
-  winnathey fallback A 2 '1 2 1' '1 2'
-"
-    ),
-    flags: &[],
-    values: &[],
+    group: table::PRESETS,
+    about: "whether a simpler preset is had by pulling steps out",
+    usages: &["RIG PRESENT SIMPLER", "--book FILE --edition EDITION --preset N (--preset N | SIMPLER)"],
+    text: "Whether what the simpler preset shows can be had by removing steps from the present one's normal form, and \
+           then which to keep. Several choices may serve; one is given. A no is an answer: the exit status is 0, \
+           unless --status is given.",
+    operands: &[table::RIG, WORDS],
+    options: &[table::STATUS, table::FROM_BOOK, table::EDITION, table::BOTH_PRESETS],
+    examples: &["winnathey fallback A2 '1 2 1' '1 2'"],
+    json: &[
+        &[("present", "the present preset: rig, word"), ("simpler", "the simpler preset, likewise")],
+        table::FORM,
+        &[("fallback", "true or false"), ("places_kept", "the places of the normal form to keep, from 0, or null")],
+    ],
+    paged: false,
     run,
 };
 
-fn run(mut args: Args, out: &mut dyn Write) -> Result<(), Failure> {
-    let (kind, rank) = args.kind_and_rank()?;
-    let present = args.next_word("PRESENT")?;
-    let simpler = args.next_word("SIMPLER")?;
-    args.done()?;
-    let mut places = [0; MAX_NORMAL_FORM];
-    let kept = fallback(kind, rank, &present, &simpler, &mut places)?;
-    let form = library::normal_form(kind, rank, &present)?;
-    let shown = text::spaced(&library::window(kind, rank, &simpler)?);
-    let Some(kept) = kept else {
-        writeln!(out, "no: no part of the normal form {} shows {shown}", text::word(&form))?;
-        return Ok(());
-    };
-    let places = &places[..kept];
-    let letters: Vec<u8> = places.iter().map(|&place| form[usize::from(place)]).collect();
-    writeln!(out, "yes: {} shows {shown}", text::word(&letters))?;
-    writeln!(out, "normal form   {}", marked(&form, places))?;
-    if kept > 0 {
-        writeln!(out, "places kept   {} (in brackets; they count from 0)", text::spaced(places))?;
+fn run(mut args: Args, out: &mut Out) -> Result<Verdict, Failure> {
+    let (present, simpler) = asked::pair(&mut args, ["PRESENT", "SIMPLER"], SecondRig::TheFirsts, out)?;
+    let rig = present.rig();
+    let given = Given { rig: Some(&present.rig), words: &[&present.word, &simpler.word], ..Given::default() };
+    let kept = library::fallback(rig, present.letters(), simpler.letters());
+    let kept = kept.map_err(|refusal| given.refused(refusal))?;
+    let (form, shown) = (present.form()?, simpler.window()?);
+    let verdict = if kept.is_some() { Verdict::Answer } else { Verdict::No };
+    if out.json {
+        let fields = vec![
+            ("present", Value::Object(present.fields())),
+            ("simpler", Value::Object(simpler.fields())),
+            ("form", list(&form)),
+            ("fallback", kept.is_some().into()),
+            ("places_kept", kept.as_ref().map_or(Value::Null, list)),
+        ];
+        out.answer("fallback", fields)?;
+        return Ok(verdict);
     }
-    writeln!(out, "pulled out    {}", text::counted(form.len() - kept, "step"))?;
-    Ok(())
+    writeln!(out, "present  {}\nsimpler  {}", present.heading(), simpler.heading())?;
+    let shown = text::spaced(&shown);
+    let Some(places) = kept else {
+        let no = out.style.red("no:");
+        writeln!(out, "{no} no part of the normal form {} shows {shown}", text::word(&form))?;
+        return Ok(verdict);
+    };
+    let letters: Vec<u8> = places.iter().map(|&place| form[usize::from(place)]).collect();
+    let yes = out.style.green("yes:");
+    writeln!(out, "{yes} {} shows {shown}", text::word(&letters))?;
+    writeln!(out, "normal form   {}", marked(&form, &places))?;
+    if !places.is_empty() {
+        writeln!(out, "places kept   {} (in brackets; they count from 0)", text::spaced(&places))?;
+    }
+    writeln!(out, "pulled out    {}", text::counted(form.len() - places.len(), "step"))?;
+    Ok(verdict)
 }
 
 /// The letters at the places in brackets.

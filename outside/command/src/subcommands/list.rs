@@ -1,63 +1,142 @@
 //! `list`: the presets of a book.
-use super::Subcommand;
 use crate::args::Args;
-use crate::failure::Failure;
-use crate::help::book;
-use crate::{files, library, text};
+use crate::books::{self, Book};
+use crate::failure::{self, Failure};
+use crate::json::{Value, list};
+use crate::library::{self, Preset, Refusal};
+use crate::names::Names;
+use crate::out::Out;
+use crate::table::{self, Subcommand, Verdict};
+use crate::{asked, files, text, typed};
 use std::io::Write;
 use std::path::Path;
-use winnathey::lent::{Preset, Refusal, preset, presets};
 
 pub const SUBCOMMAND: Subcommand = Subcommand {
     name: "list",
-    about: "the presets of a book",
-    help: concat!(
-        "usage: winnathey list BOOK --edition first|second [--preset N]
-
-A line for each preset: number, kind, rank, length, normal form, what it shows. A preset whose record is refused gets
-a line such as '0 refused 8'; 'check' says what the numbers mean.
-
-",
-        book!(),
-        "  --preset   N: the line of that preset alone, refused (4) where the book has none of that number
-
-Example:
-  winnathey list presets.book --edition first
-"
-    ),
-    flags: &[],
-    values: &["--edition", "--preset"],
+    group: table::BOOKS,
+    about: "the presets of a book, stored words beside their normal forms",
+    usages: &["BOOK --edition EDITION"],
+    text: "Each preset with its number, its name if it has one, rig, stored word, normal form and what it shows. A \
+           record that is refused is told with the number and its meaning; the exit status is 0 if the book could be \
+           listed, refused records included.\n\nWith --lines, a line for each preset as the verified listing program \
+           prints it: number, kind, rank, length, normal form, what it shows, or '0 refused 8'.",
+    operands: &[table::BOOK],
+    options: &[table::EDITION, table::ONE_PRESET, table::LINES, table::NAMES],
+    examples: &["winnathey list presets.book --edition first"],
+    json: &[&[
+        ("book", "the file of the book"),
+        ("edition", "first or second"),
+        ("count", "how many presets it has"),
+        ("presets", "of each: number, name if it has one, rig, word, form, shows, or refused"),
+    ]],
+    paged: true,
     run,
 };
 
-fn run(mut args: Args, out: &mut dyn Write) -> Result<(), Failure> {
+fn run(mut args: Args, out: &mut Out) -> Result<Verdict, Failure> {
     let path = args.next("BOOK")?;
     args.done()?;
-    let (edition, number) = (args.edition()?, args.count("--preset")?);
-    let book = files::read_book(Path::new(&path))?;
-    if let Some(number) = number {
-        return line(number, preset(edition, &book, number)?, out);
+    let path = Path::new(&path);
+    let number = args.count("--preset")?;
+    if out.json && args.flag("--lines") {
+        return Err(args.usage("either --lines or --json"));
     }
-    let presets = presets(edition, &book)?;
-    writeln!(out, "presets {}", presets.len())?;
-    for (number, preset) in presets.enumerate() {
+    // The listing program knows no names.
+    let (book, names) = if args.flag("--lines") {
+        (Book::new(args.edition(path)?, files::read_book(path)?, path), Names::default())
+    } else {
+        asked::book(&args, path, out)?
+    };
+    let presets: Vec<_> = match number {
+        Some(number) => vec![(number, Ok(book.preset(number)?))],
+        None => book.presets()?.into_iter().enumerate().collect(),
+    };
+    if args.flag("--lines") {
+        return lines(&presets, number.is_some(), out);
+    }
+    book.warn_always(out);
+    if out.json {
+        return in_json(&book, &presets, &names, out);
+    }
+    let count = text::counted(book.count()?, "preset");
+    writeln!(out, "{}, {} edition: {count}", book.file, books::name(book.edition))?;
+    for (number, preset) in &presets {
         match preset {
-            Ok(preset) => line(number, preset, out)?,
-            Err(refusal) => refused(number, refusal, out)?,
+            Ok(preset) => told(*number, preset, &names, out)?,
+            Err(refusal) => {
+                let culprit = book.record(*number, *refusal).map_or(String::new(), |culprit| format!("; {culprit}"));
+                writeln!(out, "{}: {refusal}{culprit}", headed(*number, &names))?;
+            }
         }
     }
-    Ok(())
+    Ok(Verdict::Answer)
 }
 
-fn line(number: usize, preset: Preset, out: &mut dyn Write) -> Result<(), Failure> {
-    let Preset { kind, rank, word } = preset;
-    let form = library::normal_form(kind, rank, word)?;
-    let window = library::window(kind, rank, word)?;
-    write!(out, "{number} {kind} {rank} {}:", form.len())?;
-    form.iter().try_for_each(|letter| write!(out, " {letter}"))?;
-    Ok(writeln!(out, " | {}", text::spaced(&window))?)
+type Read<'a> = (usize, Result<Preset<'a>, Refusal>);
+
+/// A preset's number and name.
+fn headed(number: usize, names: &Names) -> String {
+    names.preset(number).map_or(number.to_string(), |name| format!("{number} {name}"))
 }
 
-fn refused(number: usize, refusal: Refusal, out: &mut dyn Write) -> Result<(), Failure> {
-    Ok(writeln!(out, "{number} refused {}", refusal.number())?)
+fn told(number: usize, preset: &Preset, names: &Names, out: &mut Out) -> Result<(), Failure> {
+    let Preset { rig, word } = *preset;
+    let (form, window) = (library::normal_form(rig, word)?, library::window(rig, word)?);
+    let head = out.style.bold(&headed(number, names));
+    writeln!(out, "{head}: {rig}")?;
+    let letters = |word: &[u8]| text::counted(word.len(), "letter");
+    if form == word {
+        writeln!(out, "  word         {} ({}, its own normal form)", text::word(word), letters(word))?;
+    } else {
+        writeln!(out, "  word         {} ({})", text::word(word), letters(word))?;
+        writeln!(out, "  normal form  {} ({})", text::word(&form), letters(&form))?;
+    }
+    Ok(writeln!(out, "  shows        {}", text::spaced(&window))?)
+}
+
+/// The lines of the listing program.
+fn lines(presets: &[Read], alone: bool, out: &mut Out) -> Result<Verdict, Failure> {
+    if !alone {
+        writeln!(out, "presets {}", presets.len())?;
+    }
+    for (number, preset) in presets {
+        match preset {
+            Err(refusal) => writeln!(out, "{number} refused {}", refusal.number())?,
+            Ok(preset) => {
+                let Preset { rig, word } = *preset;
+                let form = library::normal_form(rig, word)?;
+                write!(out, "{number} {} {} {}:", rig.kind, rig.rank, form.len())?;
+                form.iter().try_for_each(|letter| write!(out, " {letter}"))?;
+                writeln!(out, " | {}", text::spaced(&library::window(rig, word)?))?;
+            }
+        }
+    }
+    Ok(Verdict::Answer)
+}
+
+fn in_json(book: &Book, presets: &[Read], names: &Names, out: &mut Out) -> Result<Verdict, Failure> {
+    let mut values = Vec::new();
+    for (number, preset) in presets {
+        let mut fields = vec![("number", (*number).into())];
+        fields.extend(names.preset(*number).map(|name| ("name", name.into())));
+        match preset {
+            Err(refusal) => fields.extend(failure::refused(*refusal, &book.record(*number, *refusal))),
+            Ok(preset) => {
+                let Preset { rig, word } = *preset;
+                fields.push(("rig", typed::rig(rig)));
+                fields.push(("word", list(word)));
+                fields.push(("form", list(&library::normal_form(rig, word)?)));
+                fields.push(("shows", list(&library::window(rig, word)?)));
+            }
+        }
+        values.push(Value::Object(fields));
+    }
+    let fields = vec![
+        ("book", (&book.file).into()),
+        ("edition", books::name(book.edition).into()),
+        ("count", book.count()?.into()),
+        ("presets", Value::List(values)),
+    ];
+    out.answer("list", fields)?;
+    Ok(Verdict::Answer)
 }

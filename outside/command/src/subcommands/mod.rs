@@ -2,35 +2,34 @@
 mod append;
 mod between;
 mod check;
+mod completions;
 mod convert;
 mod delays;
+mod descents;
 mod draw;
 mod fallback;
+mod inverse;
 mod list;
+mod man;
+mod move_to;
+mod normal;
+mod product;
+mod remove;
+mod replace;
+mod report;
 mod same;
+mod shortest;
 mod show;
 mod split;
 mod why;
 
-use crate::args::Args;
-use crate::failure::Failure;
-use std::io::Write;
+pub use draw::picture;
+pub use show::{in_words, numbered};
 
-pub struct Subcommand {
-    pub name: &'static str,
-    /// One line on it.
-    pub about: &'static str,
-    /// What `--help` prints.
-    pub help: &'static str,
-    /// The options without a value.
-    pub flags: &'static [&'static str],
-    /// The options with one.
-    pub values: &'static [&'static str],
-    /// Answers on the writer, which is standard output.
-    pub run: fn(Args, &mut dyn Write) -> Result<(), Failure>,
-}
+use crate::table::Subcommand;
 
-pub static SUBCOMMANDS: [Subcommand; 12] = [
+/// In the order of the help text: presets, then windows and words, then books, then the command itself.
+pub static SUBCOMMANDS: [Subcommand; 23] = [
     show::SUBCOMMAND,
     why::SUBCOMMAND,
     draw::SUBCOMMAND,
@@ -39,10 +38,21 @@ pub static SUBCOMMANDS: [Subcommand; 12] = [
     between::SUBCOMMAND,
     fallback::SUBCOMMAND,
     delays::SUBCOMMAND,
+    normal::SUBCOMMAND,
+    product::SUBCOMMAND,
+    inverse::SUBCOMMAND,
+    descents::SUBCOMMAND,
+    shortest::SUBCOMMAND,
     list::SUBCOMMAND,
     check::SUBCOMMAND,
     append::SUBCOMMAND,
+    remove::SUBCOMMAND,
+    replace::SUBCOMMAND,
+    move_to::SUBCOMMAND,
     convert::SUBCOMMAND,
+    report::SUBCOMMAND,
+    completions::SUBCOMMAND,
+    man::SUBCOMMAND,
 ];
 
 pub fn named(name: &str) -> Option<&'static Subcommand> {

@@ -1,61 +1,87 @@
 //! `same`: whether two presets show the same, and which word is the better.
-use super::Subcommand;
 use crate::args::Args;
+use crate::asked::{self, SecondRig};
 use crate::failure::Failure;
-use crate::{library, text};
+use crate::json::{Value, list, optional};
+use crate::library;
+use crate::out::Out;
+use crate::table::{self, Subcommand, Verdict};
+use crate::text;
+use crate::typed::Asked;
 use std::io::Write;
-use winnathey::lent::{Preset, better, same};
 
 pub const SUBCOMMAND: Subcommand = Subcommand {
     name: "same",
+    group: table::PRESETS,
     about: "whether two presets show the same, and the better word",
-    help: "usage: winnathey same KIND RANK WORD [KIND RANK] WORD
-
-Whether two presets show the same: as many lanes, and the same number on each, whatever the kinds. Of two words of
-one kind and rank that do, also the better: the shorter one, at equal lengths the one earlier in the dictionary,
-where the HIGHER step comes first. A no is an answer: the exit status is 0.
-
-  KIND       A, B or D; the second preset has the first one's kind and rank where they are not given
-  RANK       n: 1 to 63 for A, 2 to 64 for B, 4 to 64 for D; A has n + 1 lanes, B and D have n
-  WORD       one argument each: steps from 1 to n with spaces or commas between them, 4,096 at most;
-             '' is the empty word, - reads one from standard input
-
-Examples:
-  winnathey same A 2 '1 2 1' '2 1 2'
-  winnathey same A 3 1,2,1 B 4 1,2,1
-",
-    flags: &[],
-    values: &[],
+    usages: &["RIG WORD [RIG] WORD", "--book FILE --edition EDITION --preset N (--preset N | [RIG] WORD)"],
+    text: "Whether two presets show the same: as many lanes, and the same number on each, whatever the kinds. Of two \
+           words of one kind and rank that do, also the better: the shorter one, at equal lengths the one earlier in \
+           the dictionary, where the HIGHER step comes first. A no is an answer: the exit status is 0, unless --status \
+           is given. The second preset has the first one's rig if it has none of its own.",
+    operands: &[table::RIG, table::ONE_WORD],
+    options: &[table::STATUS, table::FROM_BOOK, table::EDITION, table::BOTH_PRESETS],
+    examples: &[
+        "winnathey same A2 '1 2 1' '2 1 2'",
+        "winnathey same A3 1,2,1 B4 1,2,1",
+        "winnathey same --book presets.book --edition first --preset 0 --preset 1",
+    ],
+    json: &[&[
+        ("first", "the first preset: rig, word, shows, and where it comes from"),
+        ("second", "the second preset, likewise"),
+        ("same", "true or false"),
+        ("better", "first or second, if the words differ and show the same on one rig, or null"),
+    ]],
+    paged: false,
     run,
 };
 
-fn run(mut args: Args, out: &mut dyn Write) -> Result<(), Failure> {
-    let (kind, rank) = args.kind_and_rank()?;
-    let word = args.next_word("WORD")?;
-    let (other_kind, other_rank) = if args.operands() > 1 { args.kind_and_rank()? } else { (kind, rank) };
-    let other_word = args.next_word("second WORD")?;
-    args.done()?;
-    let first = Preset { kind, rank, word: &word };
-    let second = Preset { kind: other_kind, rank: other_rank, word: &other_word };
-    if !same(first, second)? {
-        writeln!(out, "no: {}", shows(first)?)?;
-        writeln!(out, "    {}", shows(second)?)?;
-        return Ok(());
+fn run(mut args: Args, out: &mut Out) -> Result<Verdict, Failure> {
+    let (first, second) = asked::pair(&mut args, ["WORD", "the second WORD"], SecondRig::Own, out)?;
+    let (one, other) = (first.preset(), second.preset());
+    let same = library::same(one, other).map_err(|refusal| culprit(&first, &second, refusal))?;
+    let better = (same && one.rig == other.rig && one.word != other.word)
+        .then(|| library::better(one.rig, one.word, other.word));
+    if out.json {
+        let fields = vec![
+            ("first", preset(&first)?),
+            ("second", preset(&second)?),
+            ("same", same.into()),
+            ("better", optional(better.map(|better| if better == one.word { "first" } else { "second" }))),
+        ];
+        out.answer("same", fields)?;
+    } else {
+        writeln!(out, "{}\n{}", first.heading(), second.heading())?;
+        told(&first, &second, same, better, out)?;
     }
-    writeln!(out, "yes: both show {}", text::spaced(&library::window(kind, rank, &word)?))?;
-    if (kind, rank) == (other_kind, other_rank) {
-        if word == other_word {
-            writeln!(out, "the words are equal")?;
-        } else {
-            let chosen = better(kind, rank, &word, &other_word);
-            let which = if chosen == word { "first" } else { "second" };
-            writeln!(out, "the better word is the {which}: {}", text::word(chosen))?;
-        }
-    }
-    Ok(())
+    Ok(if same { Verdict::Answer } else { Verdict::No })
 }
 
-fn shows(preset: Preset) -> Result<String, Failure> {
-    let Preset { kind, rank, word } = preset;
-    Ok(format!("{kind}{rank} {} shows {}", text::word(word), text::spaced(&library::window(kind, rank, word)?)))
+/// The preset that is refused: the first is checked before the second.
+fn culprit(first: &Asked, second: &Asked, refusal: library::Refusal) -> Failure {
+    let asked = if library::length(first.rig(), first.letters()).is_err() { first } else { second };
+    asked.refused(refusal)
+}
+
+fn preset(asked: &Asked) -> Result<Value, Failure> {
+    let mut fields = asked.fields();
+    fields.push(("shows", list(&asked.window()?)));
+    Ok(Value::Object(fields))
+}
+
+fn told(first: &Asked, second: &Asked, same: bool, better: Option<&[u8]>, out: &mut Out) -> Result<(), Failure> {
+    let (yes, no) = (out.style.green("yes:"), out.style.red("no:"));
+    if !same {
+        writeln!(out, "{no} the first shows  {}", text::spaced(&first.window()?))?;
+        writeln!(out, "    the second shows {}", text::spaced(&second.window()?))?;
+        return Ok(());
+    }
+    writeln!(out, "{yes} both show {}", text::spaced(&first.window()?))?;
+    if let Some(better) = better {
+        let which = if better == first.letters() { "first" } else { "second" };
+        writeln!(out, "the better word is the {which}: {}", text::word(better))?;
+    } else if first.rig() == second.rig() {
+        writeln!(out, "the words are equal")?;
+    }
+    Ok(())
 }

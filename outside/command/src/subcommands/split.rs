@@ -1,50 +1,58 @@
 //! `split`: a preset in two, the first part over allowed steps.
-use super::Subcommand;
 use crate::args::Args;
+use crate::culprit::Given;
 use crate::failure::Failure;
-use crate::help::{allowed, preset};
-use crate::{library, text};
+use crate::json::list;
+use crate::out::Out;
+use crate::table::{self, Subcommand, Verdict};
+use crate::{asked, library, text};
 use std::io::Write;
-use winnathey::lent::{MAX_NORMAL_FORM, split};
 
 pub const SUBCOMMAND: Subcommand = Subcommand {
     name: "split",
+    group: table::PRESETS,
     about: "a preset in two, the first part over allowed steps",
-    help: concat!(
-        "usage: winnathey split KIND RANK WORD [--allowed STEPS]
-
-Splits a preset into a first word over the allowed steps and a second one: no shortest word for what that one shows
-begins with an allowed step. One after the other they show what the preset shows, their lengths add up to its length,
-and there is just one such pair.
-
-",
-        preset!(),
-        allowed!(),
-        "
-Example:
-  winnathey split D 5 5 2 3 5 1 2 --allowed 2-5
-"
-    ),
-    flags: &[],
-    values: &["--allowed"],
+    usages: &["RIG WORD (--allowed STEPS | --locked STEPS)", "--book FILE --edition EDITION --preset N .."],
+    text: "Splits a preset into a first word over the allowed steps and a second one: no shortest word for what that \
+           one shows begins with an allowed step. One after the other they show what the preset shows, their lengths \
+           add up to its length, and there is just one such pair.",
+    operands: &[table::RIG, table::WORD],
+    options: &[table::ALLOWED, table::LOCKED, table::FROM_BOOK, table::EDITION, table::PRESET],
+    examples: &["winnathey split D5 5 2 3 5 1 2 --allowed 1-3,5", "winnathey split D5 5 2 3 5 1 2 --locked 4"],
+    json: &[
+        table::READ,
+        table::ALLOWED_STEPS,
+        &[("first", "the letters of the first word"), ("second", "the letters of the second word")],
+        table::FORM,
+    ],
+    paged: false,
     run,
 };
 
-fn run(mut args: Args, out: &mut dyn Write) -> Result<(), Failure> {
-    let (kind, rank, word) = args.preset()?;
-    let allowed = args.allowed(rank)?;
-    let (mut first, mut second) = ([0; MAX_NORMAL_FORM], [0; MAX_NORMAL_FORM]);
-    let lengths = split(kind, rank, allowed, &word, &mut first, &mut second)?;
-    let form = library::normal_form(kind, rank, &word)?;
+fn run(mut args: Args, out: &mut Out) -> Result<Verdict, Failure> {
+    let asked = asked::preset(&mut args, out)?;
+    let set = args.set(asked.rig().rank)?;
+    let given = Given { rig: Some(&asked.rig), words: &[&asked.word], set: Some(set), ..Given::default() };
+    let split = library::split(asked.rig(), set.allowed, asked.letters());
+    let (first, second) = split.map_err(|refusal| given.refused(refusal))?;
+    let form = asked.form()?;
+    if out.json {
+        let mut fields = asked.fields();
+        fields.push(("allowed", list(text::steps(set.allowed))));
+        fields.extend([("first", list(&first)), ("second", list(&second)), ("form", list(&form))]);
+        out.answer("split", fields)?;
+        return Ok(Verdict::Answer);
+    }
+    writeln!(out, "{}\n{}", asked.heading(), set.told())?;
     let parts = [
-        ("first", &first[..lengths.first], "over the allowed steps"),
-        ("second", &second[..lengths.second], "no shortest word of it begins with an allowed step"),
-        ("whole", &form[..], "the preset's normal form"),
+        ("first", &first, "over the allowed steps"),
+        ("second", &second, "no shortest word of it begins with an allowed step"),
+        ("whole", &form, "the preset's normal form"),
     ];
     for (name, part, what) in parts {
         writeln!(out, "{name:<9}{}", text::word(part))?;
         writeln!(out, "         {}, {what}", text::counted(part.len(), "letter"))?;
-        writeln!(out, "         shows {}", text::spaced(&library::window(kind, rank, part)?))?;
+        writeln!(out, "         shows {}", text::spaced(&library::window(asked.rig(), part)?))?;
     }
-    Ok(())
+    Ok(Verdict::Answer)
 }

@@ -1,147 +1,191 @@
 //! `why`: the rewriting of a word to its normal form, line by line.
-use super::Subcommand;
 use crate::args::Args;
 use crate::failure::Failure;
-use crate::help::preset;
+use crate::json::{Value, list, object};
+use crate::library::{self, Refusal, Rewriting, Rig, Rule};
+use crate::out::Out;
 use crate::progress::Progress;
-use crate::text;
+use crate::table::{self, Subcommand, Verdict};
+use crate::typed::Asked;
+use crate::{asked, culprit, text};
 use std::io::{self, IsTerminal, Write};
-use winnathey::lent::{Kind, MAX_NORMAL_FORM, Refusal, Rewrite, rewrite, rewrite_steps, rewrite_to_end};
 
 pub const SUBCOMMAND: Subcommand = Subcommand {
     name: "why",
+    group: table::PRESETS,
     about: "the rewriting of a word to its normal form, line by line",
-    help: concat!(
-        "usage: winnathey why KIND RANK WORD [--last N] [--at-most N] [--whole]
-       winnathey why KIND RANK WORD --at PLACE
-
-Rewrites a word always at the lowest place where a rule fits, until none fits: what is left is the normal form. Of
-each step the rule is told, the word with the rule's left side in brackets, the word after it and the letters left.
-[i,j] is the block of steps from i to j: i, i + 1, .. going up and, in B and D for a j beyond n, down again. Places
-count from 0.
-
-",
-        preset!(),
-        "  --last     N: the last N steps only
-  --at-most  N: refused (15) where there are more than N steps
-  --whole    words of more than 40 letters whole, not only the letters around the left side
-  --at       PLACE: one rewrite at that place only, refused (12) where the word has no such place
-
-Example:
-  winnathey why B 2 1 1 1 2 1 2
-"
-    ),
-    flags: &["--whole"],
-    values: &["--last", "--at-most", "--at"],
+    usages: &["RIG WORD", "RIG WORD --at PLACE", "--book FILE --edition EDITION --preset N .."],
+    text: "Rewrites a word always at the lowest place where a rule fits, until none fits: what is left is the normal \
+           form. Of each step the rule is told, the word with the rule's left side in brackets, the word after it and \
+           the letters left. [i,j] is the block of steps from i to j: i, i + 1, .. going up and, in B and D for a j \
+           beyond n, down again. Places count from 0.",
+    operands: &[table::RIG, table::WORD],
+    options: &[
+        table::LAST,
+        table::AT_MOST_STEPS,
+        table::WHOLE,
+        table::AT,
+        table::FROM_BOOK,
+        table::EDITION,
+        table::PRESET,
+    ],
+    examples: &["winnathey why B2 1 1 1 2 1 2", "winnathey why D5 4 4 2 5 3 5 1 2 --last 1"],
+    json: &[
+        table::READ,
+        &[
+            ("skipped", "how many steps --last left out"),
+            ("steps", "of each step: place, rule (family, i, j) and letters left"),
+        ],
+        table::FORM,
+        &[
+            ("place", "with --at, the place"),
+            ("rule", "with --at, the rule used (family, i, j), or null if none fits"),
+            ("new", "with --at, the new word, or null"),
+        ],
+    ],
+    paged: true,
     run,
 };
 
-fn run(mut args: Args, out: &mut dyn Write) -> Result<(), Failure> {
+fn run(mut args: Args, out: &mut Out) -> Result<Verdict, Failure> {
     let (last, at_most, at) = (args.count("--last")?, args.count("--at-most")?, args.count("--at")?);
     let whole = args.flag("--whole");
     if at.is_some() && (last.is_some() || at_most.is_some()) {
         return Err(args.usage("--at goes with neither --last nor --at-most"));
     }
-    let (kind, rank, word) = args.preset()?;
-    let mut replay = Replay { kind, rank, word };
+    let asked = asked::preset(&mut args, out)?;
     if let Some(place) = at {
-        return once(replay, place, whole, out);
+        return once(&asked, place, whole, out);
     }
     let mut progress = Progress::start();
-    let rewriting = Rewriting::of(&replay, at_most, &progress)?;
-    writeln!(out, "{kind}{rank}, {}: {}", text::counted(replay.word.len(), "letter"), text::word(&replay.word))?;
-    rewriting.told(&mut replay, last, whole, &mut progress, out)?;
+    let rewriting = rewritten(&asked, at_most, &progress)?;
+    let steps = rewriting.places.len();
+    let skipped = steps - last.unwrap_or(steps).min(steps);
+    let mut replay = Replay { rig: asked.rig(), word: asked.letters().to_vec() };
+    if out.json {
+        in_json(&asked, &rewriting, skipped, &mut replay, &progress, out)?;
+        return Ok(Verdict::Answer);
+    }
+    writeln!(out, "{}", asked.heading())?;
+    told(&rewriting, &mut replay, (skipped, whole), &mut progress, out)?;
     progress.end();
-    let (steps, form) = (rewriting.places.len(), rewriting.form);
+    let form = rewriting.form;
     if steps == 0 {
         writeln!(out, "no rule fits: this is the normal form")?;
     } else {
         let (steps, letters) = (text::counted(steps, "step"), text::counted(form.len(), "letter"));
         writeln!(out, "normal form after {steps}, {letters}: {}", text::word(&form))?;
     }
-    Ok(())
+    Ok(Verdict::Answer)
 }
 
 /// One rewrite at a place.
-fn once(mut replay: Replay, place: usize, whole: bool, out: &mut dyn Write) -> Result<(), Failure> {
-    let before = replay.word.clone();
+fn once(asked: &Asked, place: usize, whole: bool, out: &mut Out) -> Result<Verdict, Failure> {
+    let before = asked.letters();
     // By the whole word first, so that a place which it does not have is refused.
     let mut new = vec![0; before.len()];
-    rewrite(replay.kind, replay.rank, &before, place, &mut new)?;
-    match replay.step(place)? {
-        None => Ok(writeln!(out, "no rule fits at place {place}")?),
+    library::rewrite(asked.rig(), before, place, &mut new).map_err(|refusal| match refusal.number() {
+        12 => Failure::refused(refusal, culprit::place(before.len())),
+        _ => asked.refused(refusal),
+    })?;
+    let mut replay = Replay { rig: asked.rig(), word: before.to_vec() };
+    let used = replay.step(place)?;
+    if out.json {
+        let mut fields = asked.fields();
+        fields.push(("place", place.into()));
+        fields.push(("rule", used.map_or(Value::Null, |used| used.json())));
+        fields.push(("new", used.map_or(Value::Null, |_| list(&replay.word))));
+        out.answer("why", fields)?;
+        return Ok(Verdict::Answer);
+    }
+    writeln!(out, "{}", asked.heading())?;
+    match used {
+        None => writeln!(out, "no rule fits at place {place}")?,
         Some(used) => {
-            writeln!(out, "{}", rule(replay.rank, used))?;
-            Ok(replaced(&before, &replay.word, place, used, whole, out)?)
+            writeln!(out, "at place {place}, {}", rule(asked.rig().rank, used))?;
+            replaced(before, &replay.word, place, used, whole, out)?;
         }
     }
+    Ok(Verdict::Answer)
 }
 
-/// The library's lists: of each step the rule's family, the place and the length left; and the normal form.
-struct Rewriting {
-    families: Vec<u8>,
-    places: Vec<u16>,
-    lengths: Vec<u16>,
-    form: Vec<u8>,
+/// The library's lists. It is lent lists of `at_most` places where that is fewer than the steps, so that it refuses.
+fn rewritten(asked: &Asked, at_most: Option<usize>, progress: &Progress) -> Result<Rewriting, Failure> {
+    let steps = library::rewrite_steps(asked.rig(), asked.letters()).map_err(|refusal| asked.refused(refusal))?;
+    progress.of(steps);
+    let room = at_most.unwrap_or(steps).min(steps);
+    library::rewrite_to_end(asked.rig(), asked.letters(), room).map_err(|refusal| match refusal.number() {
+        15 => Failure::refused(refusal, format!("the rewriting has {}", text::counted(steps, "step"))),
+        _ => asked.refused(refusal),
+    })
 }
 
-impl Rewriting {
-    /// The library is lent lists of `at_most` places where that is fewer than the steps, so that it refuses.
-    fn of(replay: &Replay, at_most: Option<usize>, progress: &Progress) -> Result<Rewriting, Refusal> {
-        let Replay { kind, rank, ref word } = *replay;
-        let steps = rewrite_steps(kind, rank, word)?;
-        progress.of(steps);
-        let room = at_most.unwrap_or(steps).min(steps);
-        let (mut families, mut places, mut lengths) = (vec![0; room], vec![0; room], vec![0; room]);
-        let mut form = vec![0; MAX_NORMAL_FORM];
-        let ended = rewrite_to_end(kind, rank, word, &mut families, &mut places, &mut lengths, &mut form)?;
-        form.truncate(ended.length);
-        Ok(Rewriting { families, places, lengths, form })
+/// Replays the lists and tells the last steps.
+fn told(
+    rewriting: &Rewriting,
+    replay: &mut Replay,
+    (skipped, whole): (usize, bool),
+    progress: &mut Progress,
+    out: &mut Out,
+) -> Result<(), Failure> {
+    for step in 0..skipped {
+        replayed(rewriting, replay, step)?;
+        progress.done(step + 1);
     }
-
-    /// Replays the lists and tells the last steps.
-    fn told(
-        &self,
-        replay: &mut Replay,
-        last: Option<usize>,
-        whole: bool,
-        progress: &mut Progress,
-        out: &mut dyn Write,
-    ) -> Result<(), Failure> {
-        let steps = self.places.len();
-        let skipped = steps - last.unwrap_or(steps).min(steps);
-        for step in 0..skipped {
-            self.replayed(replay, step)?;
-            progress.done(step + 1);
-        }
-        // Two texts on one terminal would run into each other, and the lines show how far it is.
-        if io::stdout().is_terminal() {
-            progress.end();
-        }
-        if skipped > 0 {
-            writeln!(out, "{} not shown", text::counted(skipped, "step"))?;
-        }
-        for step in skipped..steps {
-            let before = replay.word.clone();
-            let (place, used) = self.replayed(replay, step)?;
-            writeln!(out, "step {} at place {place}, {}", text::grouped(step as u64 + 1), rule(replay.rank, used))?;
-            replaced(&before, &replay.word, place, used, whole, out)?;
-            progress.done(step + 1);
-        }
-        Ok(())
+    // Two texts on one terminal would run into each other, and the lines show how far it is.
+    if io::stdout().is_terminal() {
+        progress.end();
     }
+    if skipped > 0 {
+        writeln!(out, "{} not shown", text::counted(skipped, "step"))?;
+    }
+    for step in skipped..rewriting.places.len() {
+        let before = replay.word.clone();
+        let (place, used) = replayed(rewriting, replay, step)?;
+        writeln!(out, "step {} at place {place}, {}", text::grouped(step as u64 + 1), rule(replay.rig.rank, used))?;
+        replaced(&before, &replay.word, place, used, whole, out)?;
+        progress.done(step + 1);
+    }
+    Ok(())
+}
 
-    /// Makes a step by the single rewrite, and holds it to the lists.
-    fn replayed(&self, replay: &mut Replay, step: usize) -> Result<(usize, Used), Failure> {
-        let place = usize::from(self.places[step]);
-        match replay.step(place)? {
-            Some(used)
-                if used.family == self.families[step] && replay.word.len() == usize::from(self.lengths[step]) =>
-            {
-                Ok((place, used))
-            }
-            _ => Err(Failure::Replay(step + 1)),
+/// The same as JSON, written step by step: there may be millions.
+fn in_json(
+    asked: &Asked,
+    rewriting: &Rewriting,
+    skipped: usize,
+    replay: &mut Replay,
+    progress: &Progress,
+    out: &mut Out,
+) -> Result<(), Failure> {
+    let mut fields = vec![("subcommand", "why".into()), ("ok", true.into())];
+    fields.extend(asked.fields());
+    fields.push(("skipped", skipped.into()));
+    fields.extend(out.taken_warnings());
+    let front = Value::Object(fields).to_string();
+    write!(out, "{},\"steps\":[", front.trim_end_matches('}'))?;
+    for step in 0..rewriting.places.len() {
+        let (place, used) = replayed(rewriting, replay, step)?;
+        progress.done(step + 1);
+        if step >= skipped {
+            let rule = used.json();
+            let step_told = object([("place", place.into()), ("rule", rule), ("letters", replay.word.len().into())]);
+            write!(out, "{}{step_told}", if step > skipped { "," } else { "" })?;
         }
+    }
+    Ok(writeln!(out, "],\"form\":{}}}", list(&rewriting.form))?)
+}
+
+/// Makes a step by the single rewrite, and holds it to the lists.
+fn replayed(rewriting: &Rewriting, replay: &mut Replay, step: usize) -> Result<(usize, Used), Failure> {
+    let place = usize::from(rewriting.places[step]);
+    match replay.step(place)? {
+        Some(used)
+            if used.family == rewriting.families[step] && replay.word.len() == usize::from(rewriting.lengths[step]) =>
+        {
+            Ok((place, used))
+        }
+        _ => Err(Failure::Replay(step + 1)),
     }
 }
 
@@ -154,10 +198,15 @@ struct Used {
     left: usize,
 }
 
+impl Used {
+    fn json(self) -> Value {
+        object([("family", self.family.into()), ("i", self.i.into()), ("j", self.j.into())])
+    }
+}
+
 /// A word that is rewritten step by step.
 struct Replay {
-    kind: Kind,
-    rank: u8,
+    rig: Rig,
     word: Vec<u8>,
 }
 
@@ -170,7 +219,7 @@ impl Replay {
         let end = self.word.len().min(place + LONGEST_SIDE);
         let here = &mut self.word[place..end];
         let mut new = [0; LONGEST_SIDE];
-        let Rewrite::Used { family, i, j, length } = rewrite(self.kind, self.rank, here, 0, &mut new)? else {
+        let Some(Rule { family, i, j, length }) = library::rewrite(self.rig, here, 0, &mut new)? else {
             return Ok(None);
         };
         if length < here.len() {

@@ -1,0 +1,59 @@
+# bash completion for winnathey
+_winnathey() {
+    local word=${COMP_WORDS[COMP_CWORD]} before=${COMP_WORDS[COMP_CWORD - 1]}
+    local subcommands='show why draw same split between fallback delays normal product inverse descents shortest list check append remove replace move convert report completions man' options= operands=
+    if ((COMP_CWORD == 1)); then
+        COMPREPLY=($(compgen -W "$subcommands help --help --version" -- "$word"))
+        return
+    fi
+    case ${COMP_WORDS[1]} in
+    help) COMPREPLY=($(compgen -W "$subcommands" -- "$word")); return ;;
+    show) options='--book --edition --preset --names --json --help' operands='A B D' ;;
+    why) options='--last --at-most --whole --at --book --edition --preset --json --help' operands='A B D' ;;
+    draw) options='--both -o --png --force --book --edition --preset --names --json --help' operands='A B D' ;;
+    same) options='--status --book --edition --preset --json --help' operands='A B D' ;;
+    split) options='--allowed --locked --book --edition --preset --json --help' operands='A B D' ;;
+    between) options='--allowed --locked --json --help' operands='A B D' ;;
+    fallback) options='--status --book --edition --preset --json --help' operands='A B D' ;;
+    delays) options='--svg --png --force --json --help' operands='A B D' ;;
+    normal) options='--book --edition --preset --json --help' operands='A B D' ;;
+    product) options='--book --edition --preset --json --help' operands='A B D' ;;
+    inverse) options='--book --edition --preset --json --help' operands='A B D' ;;
+    descents) options='--book --edition --preset --json --help' operands='A B D' ;;
+    shortest) options='--limit --book --edition --preset --json --help' operands='A B D' ;;
+    list) options='--edition --preset --lines --names --json --help' operands='files' ;;
+    check) options='--edition --json --help' operands='files' ;;
+    append) options='--edition --in-place -o --force --new --at-most --book --preset --json --help' operands='files' ;;
+    remove) options='--edition --in-place -o --force --json --help' operands='files' ;;
+    replace) options='--edition --in-place -o --force --book --preset --json --help' operands='files' ;;
+    move) options='--edition --in-place -o --force --json --help' operands='files' ;;
+    convert) options='--edition --in-place -o --force --at-most --json --help' operands='files' ;;
+    report) options='--edition -o --force --date --names --json --help' operands='files' ;;
+    completions) options='--json --help' operands='bash zsh fish' ;;
+    man) options='--markdown --json --help' operands='' ;;
+    esac
+    case $before in
+    --book) COMPREPLY=($(compgen -f -- "$word")); return ;;
+    --edition) COMPREPLY=($(compgen -W 'first second' -- "$word")); return ;;
+    --preset) COMPREPLY=(); return ;;
+    --names) COMPREPLY=($(compgen -f -- "$word")); return ;;
+    --last) COMPREPLY=(); return ;;
+    --at-most) COMPREPLY=(); return ;;
+    --at) COMPREPLY=(); return ;;
+    -o) COMPREPLY=($(compgen -f -- "$word")); return ;;
+    --png) COMPREPLY=($(compgen -f -- "$word")); return ;;
+    --allowed) COMPREPLY=(); return ;;
+    --locked) COMPREPLY=(); return ;;
+    --svg) COMPREPLY=($(compgen -f -- "$word")); return ;;
+    --limit) COMPREPLY=(); return ;;
+    --date) COMPREPLY=(); return ;;
+    esac
+    if [[ $word == -* ]]; then
+        COMPREPLY=($(compgen -W "$options" -- "$word"))
+    elif [[ $operands == files ]]; then
+        COMPREPLY=($(compgen -f -- "$word"))
+    else
+        COMPREPLY=($(compgen -W "$operands" -- "$word"))
+    fi
+}
+complete -o filenames -F _winnathey winnathey

@@ -1,0 +1,217 @@
+//! Books that are changed: where the old one is read, where the new one goes, and what is said about it.
+use crate::args::Args;
+use crate::books::{self, Book};
+use crate::failure::Failure;
+use crate::files::{self, Locked, Sort};
+use crate::json::Value;
+use crate::library::{self, Edition, MAX_BOOK, Rig};
+use crate::names::{self, Names};
+use crate::out::Out;
+use crate::table::Verdict;
+use crate::text;
+use std::fs;
+use std::io::{ErrorKind, Write};
+use std::path::{Path, PathBuf};
+
+/// Where the new book goes.
+enum To {
+    InPlace,
+    New,
+    Output(PathBuf),
+}
+
+pub struct Edit {
+    from: PathBuf,
+    to: To,
+    edition: Edition,
+    force: bool,
+    /// The most bytes of the new book.
+    pub room: usize,
+    /// Whether it can start a book.
+    starts: bool,
+}
+
+/// A change of a book: the new bytes, and the number that each preset has then, where numbers change.
+pub struct Change {
+    pub bytes: Vec<u8>,
+    pub edition: Edition,
+    pub numbers: Option<Renumbering>,
+    /// What the change was, in a line and for JSON.
+    pub told: String,
+    pub fields: Vec<(&'static str, Value)>,
+}
+
+pub type Renumbering = Box<dyn Fn(usize) -> Option<usize>>;
+
+impl Edit {
+    /// By the operand BOOK and the options. Nothing is read or written yet.
+    pub fn named(args: &mut Args) -> Result<Edit, Failure> {
+        let from = PathBuf::from(args.next("BOOK")?);
+        let standard = files::is_standard(&from);
+        let to = match (args.path("-o"), args.flag("--in-place"), args.flag("--new")) {
+            (None, false, false) => {
+                let new = if args.subcommand.has("--new") { "; --new starts a book" } else { "" };
+                return Err(args.usage(format!(
+                    "name the new book's file, -o FILE, or let it take BOOK's place, --in-place{new}"
+                )));
+            }
+            (None, true, false) if standard => return Err(args.usage("standard input has no place to put a book in")),
+            (None, true, false) => To::InPlace,
+            (None, false, true) if standard => return Err(args.usage("--new needs a file")),
+            (None, false, true) => To::New,
+            (Some(to), false, false) if files::is_one_file(&from, &to) => {
+                return Err(args.usage(format!("{} is BOOK itself: use --in-place", text::file(&to))));
+            }
+            (Some(to), false, false) => To::Output(to),
+            _ => return Err(args.usage("either -o or --in-place or --new")),
+        };
+        if args.flag("--json") && matches!(&to, To::Output(to) if files::is_standard(to)) {
+            return Err(args.usage("-o - and --json both want standard output"));
+        }
+        let room = args.count("--at-most")?.unwrap_or(MAX_BOOK).min(MAX_BOOK);
+        let edition = args.edition(&from)?;
+        Ok(Edit { from, to, edition, force: args.flag("--force"), room, starts: args.subcommand.has("--new") })
+    }
+
+    pub fn edition(&self) -> Edition {
+        self.edition
+    }
+
+    /// Reads the book, changes it and writes the new one, under a lock where it takes the old one's place.
+    pub fn run(
+        &self,
+        subcommand: &'static str,
+        change: impl FnOnce(&Book) -> Result<Change, Failure>,
+        out: &mut Out,
+    ) -> Result<Verdict, Failure> {
+        let open = |bytes| Book::new(self.edition, bytes, &self.from);
+        let (change, file) = match &self.to {
+            To::InPlace => {
+                let mut locked = Locked::open(&self.from).map_err(|failure| self.missing(failure))?;
+                let book = open(std::mem::take(&mut locked.bytes));
+                let change = self.changed(&book, change, out)?;
+                locked.bytes = book.bytes;
+                self.replaced(locked, &change, out)?;
+                (change, Some(&self.from))
+            }
+            To::New => {
+                files::may_create(&self.from)?;
+                let change = self.changed(&open(Vec::new()), change, out)?;
+                files::place_new(&self.from, &change.bytes)?;
+                (change, Some(&self.from))
+            }
+            To::Output(to) => {
+                files::may_write(to, Sort::Book, self.force)?;
+                let change = self.changed(&open(files::read_book(&self.from)?), change, out)?;
+                files::write(to, &change.bytes, Sort::Book, self.force, out)?;
+                (change, (!files::is_standard(to)).then_some(to))
+            }
+        };
+        if let Some(file) = file {
+            acknowledged(subcommand, file, &change, out).map_err(|failure| failure.unsaid(file))?;
+        }
+        Ok(Verdict::Answer)
+    }
+
+    /// A book that is not there could be started.
+    fn missing(&self, failure: Failure) -> Failure {
+        match failure {
+            Failure::File(name, error) if error.kind() == ErrorKind::NotFound => {
+                if self.from.is_symlink() {
+                    Failure::Unwilling(format!("{name} is a link that leads to nothing"))
+                } else if self.starts {
+                    Failure::Unwilling(format!("{name} does not exist: --new in place of --in-place starts it"))
+                } else {
+                    Failure::File(name, error)
+                }
+            }
+            other => other,
+        }
+    }
+
+    /// A book that only the other edition reads is left alone: what would be written fits neither.
+    fn changed(
+        &self,
+        book: &Book,
+        change: impl FnOnce(&Book) -> Result<Change, Failure>,
+        out: &mut Out,
+    ) -> Result<Change, Failure> {
+        book.warn(out);
+        if let (Ok(_), Some(hint)) = (book.count(), book.hint()) {
+            return Err(Failure::Unwilling(format!("{}: {hint}; nothing is written", book.file)));
+        }
+        change(book)
+    }
+
+    /// Names whose presets get other numbers are put aside first, so that they never stand beside a book that they do
+    /// not fit.
+    fn replaced(&self, locked: Locked, change: &Change, out: &mut Out) -> Result<(), Failure> {
+        let Some(numbers) = &change.numbers else { return locked.replace(&change.bytes) };
+        let (beside, aside) = (names::beside(&self.from), names::aside(&self.from));
+        if fs::metadata(&beside).is_err_and(|error| error.kind() == ErrorKind::NotFound) {
+            return locked.replace(&change.bytes);
+        }
+        let names: Names = names::read(&beside).map_err(|failure| {
+            let told = failure.in_a_line();
+            Failure::Unwilling(format!("the presets' numbers change, and their names cannot be read: {told}"))
+        })?;
+        let moved = |from: &Path, to: &Path| fs::rename(from, to).map_err(|error| Failure::file(from, error));
+        let replaced = locked.replace_around(&change.bytes, || moved(&beside, &aside));
+        if replaced.is_err() && fs::metadata(&beside).is_err() {
+            let _ = fs::rename(&aside, &beside);
+        }
+        // Held until the names are there: nobody reads or changes the new book without them.
+        let new = replaced?;
+        // The book is written, so that what fails now is no failure of the change.
+        if let Err(failure) = renamed(&beside, &aside, &names.renumbered(numbers)) {
+            let (aside, told) = (text::file(&aside), failure.in_a_line());
+            out.warn(format!("the book is written, but its names are in '{aside}' with the old numbers: {told}"));
+        }
+        new.settle()
+    }
+}
+
+/// Puts the new names beside the book, with the old file's mode, and takes the old ones away.
+fn renamed(beside: &Path, aside: &Path, names: &Names) -> Result<(), Failure> {
+    let failed = |error| Failure::file(aside, error);
+    let mode = fs::metadata(aside).map_err(failed)?.permissions();
+    files::place_new(beside, &names.written())?;
+    fs::set_permissions(beside, mode).and_then(|()| fs::remove_file(aside)).map_err(failed)
+}
+
+/// Says what was written; only now is it acknowledged.
+fn acknowledged(subcommand: &'static str, file: &Path, change: &Change, out: &mut Out) -> Result<(), Failure> {
+    let presets = library::book_check(change.edition, &change.bytes)?;
+    if out.json {
+        let mut fields = vec![
+            ("file", text::file(file).into()),
+            ("edition", books::name(change.edition).into()),
+            ("presets", presets.into()),
+            ("bytes", change.bytes.len().into()),
+        ];
+        fields.extend(change.fields.clone());
+        out.answer(subcommand, fields)?;
+    } else {
+        let (count, bytes) = (text::counted(presets, "preset"), text::counted(change.bytes.len(), "byte"));
+        writeln!(out, "{}", change.told)?;
+        writeln!(out, "{}: {count}, {bytes}", text::file(file))?;
+    }
+    Ok(out.flush()?)
+}
+
+/// A book made anew from presets in their order, each appended by the library, so that every record is the library's.
+pub fn built(edition: Edition, presets: &[(usize, Rig, Vec<u8>)], room: usize) -> Result<Vec<u8>, Failure> {
+    let mut book = Vec::new();
+    for (number, rig, word) in presets {
+        book = library::append(edition, &book, *rig, word, room).map_err(|refusal| match refusal.number() {
+            13 | 14 => Failure::Refused(refusal, None),
+            _ => Failure::Presets(
+                vec![(*number, refusal, None)],
+                Some(
+                    "the new book is made by appending its presets in order, and this one is not appended".to_string(),
+                ),
+            ),
+        })?;
+    }
+    Ok(book)
+}

@@ -1,0 +1,336 @@
+//! A file that is replaced: read and written under one lock, so that no change is lost; whole or not at all, so that
+//! whoever is cut off leaves the old file or the new one.
+use crate::failure::Failure;
+use crate::library::MAX_BOOK;
+use crate::text;
+use std::ffi::OsString;
+use std::fs::{self, File, Metadata, OpenOptions};
+use std::io::{self, ErrorKind, Read, Write};
+use std::os::unix::fs::{MetadataExt, OpenOptionsExt, PermissionsExt, fchown};
+use std::path::{Path, PathBuf};
+
+pub struct Locked {
+    /// As it was named.
+    name: PathBuf,
+    /// The file that the name leads to: a link stays.
+    target: PathBuf,
+    /// Held until this is dropped.
+    file: File,
+    old: Metadata,
+    pub bytes: Vec<u8>,
+}
+
+impl Locked {
+    /// Waits for the lock and reads the file, of a long one the front. The lock is the file's own: whoever replaced it
+    /// meanwhile has left the lock with the old file, and then the new one is locked.
+    pub fn open(path: &Path) -> Result<Locked, Failure> {
+        let failed = |error| Failure::file(path, error);
+        let target = fs::canonicalize(path).map_err(failed)?;
+        loop {
+            may_replace(path, &fs::metadata(&target).map_err(failed)?)?;
+            let mut file = OpenOptions::new().read(true).write(true).open(&target).map_err(failed)?;
+            file.lock().map_err(failed)?;
+            let old = file.metadata().map_err(failed)?;
+            if !fs::metadata(&target).is_ok_and(|now| is_one(&old, &now)) {
+                continue;
+            }
+            may_replace(path, &old)?;
+            let bytes = front(&mut file).map_err(failed)?;
+            return Ok(Locked { name: path.to_path_buf(), target, file, old, bytes });
+        }
+    }
+
+    /// Puts other bytes in the file's place, unless somebody changed it who knows nothing of the lock.
+    pub fn replace(self, bytes: &[u8]) -> Result<(), Failure> {
+        self.replace_around(bytes, || Ok(()))?.settle()
+    }
+
+    /// The same; when all is written and only the new name is missing, something else is done first. The new file was
+    /// locked before it got the name: whoever comes next waits until it is dropped. A failure leaves the old file.
+    pub fn replace_around(self, bytes: &[u8], before: impl FnOnce() -> Result<(), Failure>) -> Result<New, Failure> {
+        let part = hidden(&self.target, "part");
+        let written = self.written(&part, bytes).and_then(|new| self.unchanged().and_then(|()| before()).map(|()| new));
+        let placed = written.and_then(|new| {
+            fs::rename(&part, &self.target).map(|()| new).map_err(|error| Failure::file(&self.name, error))
+        });
+        if placed.is_err() {
+            // The first error is the one to tell.
+            let _ = fs::remove_file(&part);
+        }
+        let file = placed?;
+        point();
+        Ok(New { name: self.name.clone(), target: self.target.clone(), _file: file })
+    }
+
+    /// The new file beside the old one, whole and on the disk, with the old one's mode and owner, and locked.
+    fn written(&self, part: &Path, bytes: &[u8]) -> Result<File, Failure> {
+        let failed = |error| Failure::file(&self.name, error);
+        // Left by a run that was cut off: under the lock nobody else writes it.
+        let _ = fs::remove_file(part);
+        point();
+        // Nobody else reads it before it has the old one's mode.
+        let mut file = OpenOptions::new().write(true).create_new(true).mode(0o600).open(part).map_err(failed)?;
+        point();
+        let (front, rest) = bytes.split_at(bytes.len() / 2);
+        file.write_all(front).map_err(failed)?;
+        point();
+        file.write_all(rest).map_err(failed)?;
+        point();
+        let new = file.metadata().map_err(failed)?;
+        if (new.uid(), new.gid()) != (self.old.uid(), self.old.gid()) {
+            fchown(&file, Some(self.old.uid()), Some(self.old.gid())).map_err(|_| {
+                let name = text::file(&self.name);
+                Failure::Unwilling(format!("'{name}' belongs to somebody else, whom a new file would not: use -o"))
+            })?;
+        }
+        file.set_permissions(self.old.permissions()).map_err(failed)?;
+        point();
+        file.sync_all().and_then(|()| file.lock()).map_err(failed)?;
+        point();
+        Ok(file)
+    }
+
+    /// Looks whether the name still leads to the file with the bytes that were read.
+    fn unchanged(&self) -> Result<(), Failure> {
+        let now = fs::metadata(&self.target).ok();
+        let changed = || -> io::Result<bool> {
+            let now = File::open(&self.target).and_then(|mut file| front(&mut file))?;
+            Ok(now != self.bytes)
+        };
+        if !now.is_some_and(|now| is_one(&self.old, &now) && now.len() == self.old.len()) || changed().unwrap_or(true) {
+            let name = text::file(&self.name);
+            return Err(Failure::Unwilling(format!("'{name}' changed meanwhile: nothing is written; try again")));
+        }
+        Ok(())
+    }
+}
+
+/// A file that has taken another one's place.
+pub struct New {
+    name: PathBuf,
+    target: PathBuf,
+    /// Locked until this is dropped.
+    _file: File,
+}
+
+impl New {
+    /// Brings the change of names to the disk; only then is it to be acknowledged.
+    pub fn settle(self) -> Result<(), Failure> {
+        settled(&self.target).map_err(|error| Failure::file(&self.name, error))?;
+        point();
+        Ok(())
+    }
+}
+
+impl Drop for Locked {
+    fn drop(&mut self) {
+        let _ = self.file.unlock();
+    }
+}
+
+fn is_one(first: &Metadata, second: &Metadata) -> bool {
+    (first.dev(), first.ino()) == (second.dev(), second.ino())
+}
+
+/// Something read together with a file while nobody replaces it. Where a file cannot be locked it is read as it is; a
+/// pipe can be opened only once.
+pub fn read_together<T>(path: &Path, mut read: impl FnMut() -> T) -> T {
+    loop {
+        if !path.is_file() {
+            return read();
+        }
+        let Ok(file) = File::open(path) else { return read() };
+        let locked = file.lock_shared().is_ok();
+        let now = fs::metadata(path);
+        if !locked || file.metadata().is_ok_and(|held| now.is_ok_and(|now| is_one(&held, &now))) {
+            return read();
+        }
+    }
+}
+
+/// As many bytes as tell whether it is a book.
+fn front(file: &mut File) -> io::Result<Vec<u8>> {
+    let mut bytes = Vec::new();
+    file.take(MAX_BOOK as u64 + 1).read_to_end(&mut bytes)?;
+    Ok(bytes)
+}
+
+/// What the owner protected stays, and so do several names of one file, which a new file would part.
+fn may_replace(path: &Path, old: &Metadata) -> Result<(), Failure> {
+    let name = text::file(path);
+    let unwilling = if !old.is_file() {
+        format!("'{name}' is no file that could be replaced")
+    } else if old.permissions().mode() & 0o222 == 0 {
+        format!("'{name}' is write-protected: chmod u+w allows a change, -o writes another file")
+    } else if old.nlink() > 1 {
+        format!("'{name}' has {} names (hard links), which a new file would part: -o writes another file", old.nlink())
+    } else {
+        return Ok(());
+    };
+    Err(Failure::Unwilling(unwilling))
+}
+
+/// A hidden name beside a file.
+fn hidden(target: &Path, ending: &str) -> PathBuf {
+    let mut name = OsString::from(".");
+    name.push(target.file_name().unwrap_or_default());
+    name.push(format!(".{ending}"));
+    target.with_file_name(name)
+}
+
+/// Brings a folder's change to the disk.
+fn settled(target: &Path) -> io::Result<()> {
+    let folder = target.parent().filter(|folder| !folder.as_os_str().is_empty()).unwrap_or(Path::new("."));
+    File::open(folder)?.sync_all()
+}
+
+/// Writes a file that must not exist yet: beside its name first, so that it is whole when it gets the name.
+pub fn place_new(path: &Path, bytes: &[u8]) -> Result<(), Failure> {
+    if path.file_name().is_none() {
+        return Err(Failure::file(path, io::Error::new(ErrorKind::InvalidInput, "this is no name for a file")));
+    }
+    let part = hidden(path, &format!("{}.part", std::process::id()));
+    let placed = (|| {
+        // Left by a run of the same number that was cut off.
+        let _ = fs::remove_file(&part);
+        let mut file = OpenOptions::new().write(true).create_new(true).open(&part)?;
+        point();
+        file.write_all(bytes)?;
+        file.sync_all()?;
+        point();
+        // Unlike a rename this never takes another file's place.
+        fs::hard_link(&part, path)?;
+        point();
+        settled(path)
+    })();
+    let _ = fs::remove_file(&part);
+    placed.map_err(|error| match error.kind() {
+        ErrorKind::AlreadyExists => Failure::Unwilling(format!("'{}' exists: nothing is written", text::file(path))),
+        _ => Failure::file(path, error),
+    })
+}
+
+#[cfg(not(test))]
+fn point() {}
+
+#[cfg(test)]
+use tests::point;
+
+#[cfg(test)]
+mod tests {
+    use super::*;
+    use std::env;
+    use std::process::Command;
+    use std::sync::atomic::{AtomicUsize, Ordering};
+
+    /// At which point a run is cut off.
+    const CUT: &str = "WINNATHEY_TEST_CUT_OFF_AT";
+    const FOLDER: &str = "WINNATHEY_TEST_FOLDER";
+    static POINTS: AtomicUsize = AtomicUsize::new(0);
+
+    /// A point in the writing; the program ends at the one that is named, without a word and with nothing tidied up.
+    pub fn point() {
+        let number = POINTS.fetch_add(1, Ordering::Relaxed) + 1;
+        if env::var(CUT).is_ok_and(|at| at == number.to_string()) {
+            std::process::abort();
+        }
+    }
+
+    fn scratch(name: &str) -> PathBuf {
+        let folder = env::temp_dir().join(format!("winnathey-{name}-{}", std::process::id()));
+        let _ = fs::remove_dir_all(&folder);
+        fs::create_dir(&folder).unwrap();
+        folder
+    }
+
+    /// Runs this program's test again, to be cut off at a point; tells whether it came to its end.
+    fn again(test: &str, folder: &Path, cut: usize) -> bool {
+        let run = Command::new(env::current_exe().unwrap())
+            .args(["--exact", test, "--quiet"])
+            .env(CUT, cut.to_string())
+            .env(FOLDER, folder)
+            .output()
+            .unwrap();
+        run.status.success()
+    }
+
+    #[test]
+    fn cut_off_at_every_write_the_old_or_the_new_file_is_whole() {
+        if let Some(folder) = env::var_os(FOLDER) {
+            let locked = Locked::open(&PathBuf::from(folder).join("book")).ok().unwrap();
+            let longer = [locked.bytes.as_slice(), b"+"].concat();
+            assert!(locked.replace(&longer).is_ok());
+            return;
+        }
+        let folder = scratch("replaced");
+        let book = folder.join("book");
+        fs::write(&book, b"old").unwrap();
+        let mut acknowledged = 0;
+        for cut in 1.. {
+            let before = fs::read(&book).unwrap();
+            let ended =
+                again("files::locked::tests::cut_off_at_every_write_the_old_or_the_new_file_is_whole", &folder, cut);
+            let after = fs::read(&book).unwrap();
+            assert!(after == before || after == [before.as_slice(), b"+"].concat(), "cut off at {cut}");
+            assert!(!ended || after != before, "acknowledged and lost at {cut}");
+            acknowledged += usize::from(ended);
+            if ended {
+                assert!(cut > 8, "only {cut} points");
+                break;
+            }
+        }
+        assert_eq!(acknowledged, 1);
+        fs::remove_dir_all(folder).unwrap();
+    }
+
+    #[test]
+    fn cut_off_at_every_write_a_new_file_is_whole_or_missing() {
+        if let Some(folder) = env::var_os(FOLDER) {
+            assert!(place_new(&PathBuf::from(folder).join("book"), b"whole").is_ok());
+            return;
+        }
+        let folder = scratch("new");
+        let book = folder.join("book");
+        for cut in 1.. {
+            let _ = fs::remove_file(&book);
+            let ended =
+                again("files::locked::tests::cut_off_at_every_write_a_new_file_is_whole_or_missing", &folder, cut);
+            assert!(fs::read(&book).map_or(!ended, |bytes| bytes == b"whole"), "cut off at {cut}");
+            if ended {
+                assert!(cut > 3, "only {cut} points");
+                break;
+            }
+        }
+        fs::remove_dir_all(folder).unwrap();
+    }
+
+    #[test]
+    fn a_file_that_changed_meanwhile_is_not_replaced() {
+        let folder = scratch("changed");
+        let book = folder.join("book");
+        fs::write(&book, b"old").unwrap();
+        for change in [b"new".as_slice(), b"longer"] {
+            let locked = Locked::open(&book).ok().unwrap();
+            fs::write(&book, change).unwrap();
+            assert!(locked.replace(b"mine").is_err());
+            assert_eq!(fs::read(&book).unwrap(), change);
+        }
+        let locked = Locked::open(&book).ok().unwrap();
+        fs::rename(&book, folder.join("away")).unwrap();
+        fs::write(&book, b"longer").unwrap();
+        assert!(locked.replace(b"mine").is_err());
+        assert_eq!(fs::read(&book).unwrap(), b"longer");
+        assert_eq!(fs::read_dir(&folder).unwrap().count(), 2);
+        fs::remove_dir_all(folder).unwrap();
+    }
+
+    #[test]
+    fn a_new_file_takes_no_other_ones_place() {
+        let folder = scratch("exists");
+        let book = folder.join("book");
+        assert!(place_new(&book, b"mine").is_ok() && place_new(&book, b"other").is_err());
+        assert_eq!(fs::read(&book).unwrap(), b"mine");
+        assert_eq!(fs::read_dir(&folder).unwrap().count(), 1);
+        fs::remove_dir_all(folder).unwrap();
+    }
+}

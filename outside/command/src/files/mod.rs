@@ -1,0 +1,101 @@
+//! Books, pictures and sheets on files.
+mod locked;
+mod sort;
+
+pub use locked::{Locked, place_new, read_together};
+pub use sort::Sort;
+
+use crate::failure::Failure;
+use crate::library::MAX_BOOK;
+use crate::{system, text};
+use std::fs::{self, File, OpenOptions};
+use std::io::{self, ErrorKind, Read, Write};
+use std::os::unix::fs::MetadataExt;
+use std::path::Path;
+
+pub fn is_standard(path: &Path) -> bool {
+    path == Path::new("-")
+}
+
+/// The bytes of a book, as many as tell whether it is too long.
+pub fn read_book(path: &Path) -> Result<Vec<u8>, Failure> {
+    let mut book = Vec::new();
+    let limit = MAX_BOOK as u64 + 1;
+    if is_standard(path) {
+        let named = |error| Failure::File("standard input".to_string(), error);
+        if !system::was_open(0) {
+            return Err(named(io::Error::new(ErrorKind::NotConnected, "it is closed")));
+        }
+        io::stdin().lock().take(limit).read_to_end(&mut book).map_err(named)?;
+    } else {
+        let file = File::open(path).map_err(|error| Failure::file(path, error))?;
+        file.take(limit).read_to_end(&mut book).map_err(|error| Failure::file(path, error))?;
+    }
+    Ok(book)
+}
+
+/// Whether both names lead to one file.
+pub fn is_one_file(first: &Path, second: &Path) -> bool {
+    let place = |path: &Path| fs::metadata(path).map(|file| (file.dev(), file.ino())).ok();
+    !is_standard(first) && !is_standard(second) && place(first).is_some_and(|found| place(second) == Some(found))
+}
+
+/// Whether a file may be started, before anything is done.
+pub fn may_create(path: &Path) -> Result<(), Failure> {
+    may_write(path, Sort::Book, false).map_err(|failure| match failure {
+        Failure::Unwilling(_) if fs::metadata(path).is_ok() => {
+            Failure::Unwilling(format!("'{}' exists: --new is for a book that does not", text::file(path)))
+        }
+        other => other,
+    })
+}
+
+/// Whether a file may be written, before anything is done: an existing one is replaced only if it is of the same sort
+/// and that was asked for.
+pub fn may_write(path: &Path, sort: Sort, force: bool) -> Result<(), Failure> {
+    if is_standard(path) {
+        return Ok(());
+    }
+    let name = text::file(path);
+    let old = match fs::symlink_metadata(path) {
+        Err(error) if error.kind() == ErrorKind::NotFound => return Ok(()),
+        found => found.map_err(|error| Failure::file(path, error))?,
+    };
+    if old.is_symlink() && fs::metadata(path).is_err_and(|error| error.kind() == ErrorKind::NotFound) {
+        return Err(Failure::Unwilling(format!("'{name}' is a link that leads to nothing: no file is written there")));
+    }
+    // A device or a pipe has nothing to lose.
+    if !fs::metadata(path).map_err(|error| Failure::file(path, error))?.is_file() {
+        return Ok(());
+    }
+    if !force {
+        return Err(Failure::Unwilling(format!("'{name}' exists: --force replaces it")));
+    }
+    let mut bytes = Vec::new();
+    let read = File::open(path).and_then(|file| file.take(MAX_BOOK as u64 + 1).read_to_end(&mut bytes));
+    read.map_err(|error| Failure::file(path, error))?;
+    if !sort.fits(&bytes) {
+        return Err(Failure::Unwilling(format!(
+            "'{name}' is {}, and is not replaced by {}",
+            Sort::of(&bytes),
+            sort.name()
+        )));
+    }
+    Ok(())
+}
+
+/// Writes a whole file, or standard output for `-`.
+pub fn write(path: &Path, bytes: &[u8], sort: Sort, force: bool, out: &mut dyn Write) -> Result<(), Failure> {
+    if is_standard(path) {
+        return Ok(out.write_all(bytes)?);
+    }
+    may_write(path, sort, force)?;
+    match fs::metadata(path) {
+        Err(_) => place_new(path, bytes),
+        Ok(old) if !old.is_file() => {
+            let written = OpenOptions::new().write(true).open(path).and_then(|mut to| to.write_all(bytes));
+            written.map_err(|error| Failure::file(path, error))
+        }
+        Ok(_) => Locked::open(path)?.replace(bytes),
+    }
+}

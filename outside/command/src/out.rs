@@ -1,0 +1,106 @@
+//! Where an answer goes: standard output, by way of a pager where that is a terminal; as text or as JSON.
+use crate::json::Value;
+use crate::style::Style;
+use crate::system;
+use std::env;
+use std::io::{self, BufWriter, IsTerminal, Write};
+use std::process::{Child, Command, Stdio};
+
+pub struct Out {
+    /// Standard output or the pager; opened at the first byte.
+    writer: Option<BufWriter<Box<dyn Write>>>,
+    pager: Option<Child>,
+    /// Whether a long answer may go to a pager.
+    pub paged: bool,
+    /// The answer is one JSON object.
+    pub json: bool,
+    pub style: Style,
+    /// The columns that a line may take.
+    pub width: usize,
+    warnings: Vec<String>,
+}
+
+/// The width where nothing tells one, and the least that is used.
+const WIDTH: usize = 80;
+const NARROW: usize = 40;
+
+impl Out {
+    pub fn new(json: bool) -> Out {
+        let terminal = io::stdout().is_terminal();
+        let told = env::var("COLUMNS").ok().and_then(|columns| columns.parse().ok());
+        let width = told.or_else(|| system::terminal_columns().filter(|_| terminal)).unwrap_or(WIDTH).max(NARROW);
+        let style = Style::of(terminal && !json);
+        Out { writer: None, pager: None, paged: terminal && !json, json, style, width, warnings: Vec::new() }
+    }
+
+    /// Something to know beside the answer: on standard error, or in the JSON object.
+    pub fn warn(&mut self, warning: String) {
+        if self.json {
+            self.warnings.push(warning);
+            return;
+        }
+        let label = Style::of(io::stderr().is_terminal()).yellow("winnathey: warning:");
+        // Where standard error fails there is nobody to warn.
+        let _ = writeln!(io::stderr(), "{label} {warning}");
+    }
+
+    /// The answer as a JSON object of one line: the subcommand, that it is an answer, its fields, warnings if any.
+    pub fn answer(&mut self, subcommand: &'static str, fields: Vec<(&'static str, Value)>) -> io::Result<()> {
+        let mut all = vec![("subcommand", subcommand.into()), ("ok", true.into())];
+        all.extend(fields);
+        all.extend(self.taken_warnings());
+        writeln!(self, "{}", Value::Object(all))
+    }
+
+    /// The warnings as a field, where there are any.
+    pub fn taken_warnings(&mut self) -> Option<(&'static str, Value)> {
+        let warnings = std::mem::take(&mut self.warnings);
+        (!warnings.is_empty()).then(|| ("warnings", Value::List(warnings.into_iter().map(Value::from).collect())))
+    }
+
+    fn writer(&mut self) -> &mut BufWriter<Box<dyn Write>> {
+        if self.writer.is_none() {
+            self.pager = if self.paged { pager() } else { None };
+            let to: Box<dyn Write> = match self.pager.as_mut().and_then(|pager| pager.stdin.take()) {
+                Some(stdin) => Box::new(stdin),
+                None => Box::new(io::stdout().lock()),
+            };
+            self.writer = Some(BufWriter::new(to));
+        }
+        self.writer.as_mut().expect("just opened")
+    }
+
+    /// Brings everything out, and waits for the reader at a pager.
+    pub fn end(&mut self) -> io::Result<()> {
+        let flushed = self.flush();
+        drop(self.writer.take());
+        if let Some(mut pager) = self.pager.take() {
+            pager.wait()?;
+        }
+        flushed
+    }
+}
+
+impl Write for Out {
+    fn write(&mut self, bytes: &[u8]) -> io::Result<usize> {
+        self.writer().write(bytes)
+    }
+
+    fn flush(&mut self) -> io::Result<()> {
+        self.writer.as_mut().map_or(Ok(()), |writer| writer.flush())
+    }
+}
+
+/// `less`, or what PAGER names, set to show less than a screenful at once. None where PAGER is empty or `cat`, or where
+/// it cannot be started.
+fn pager() -> Option<Child> {
+    let named = env::var("PAGER").unwrap_or_else(|_| "less".to_string());
+    let mut words = named.split_whitespace();
+    let program = words.next().filter(|program| *program != "cat")?;
+    let mut command = Command::new(program);
+    command.args(words).stdin(Stdio::piped());
+    if env::var_os("LESS").is_none() {
+        command.env("LESS", "FRX");
+    }
+    command.spawn().ok()
+}

@@ -1,0 +1,79 @@
+//! `move`: a book with one of its presets at another number.
+use super::remove;
+use crate::args::Args;
+use crate::books::Book;
+use crate::culprit;
+use crate::edit::{self, Change, Edit};
+use crate::failure::Failure;
+use crate::library::{self, Preset};
+use crate::out::Out;
+use crate::table::{self, Completes, Operand, Subcommand, Verdict};
+
+const TO: Operand =
+    Operand { name: "TO", about: "the number that the preset has afterwards", completes: Completes::Nothing };
+
+pub const SUBCOMMAND: Subcommand = Subcommand {
+    name: "move",
+    group: table::BOOKS,
+    about: "a book with one of its presets at another number",
+    usages: &["BOOK N TO --edition EDITION (--in-place | -o FILE)"],
+    text: "Moves preset N to the number TO; those between move up or down by one, also in the names beside the book \
+           with --in-place.\n\nThe new book is written whole, by appending its presets in order, so that every record \
+           is the library's. A book with a record that is not appended, such as one of kind A and rank 1 (21), is \
+           refused.",
+    operands: &[table::BOOK, table::NUMBER, TO],
+    options: &[table::EDITION, table::IN_PLACE, table::OUTPUT_BOOK, table::FORCE],
+    examples: &["winnathey move presets.book 3 0 --edition first --in-place"],
+    json: &[table::WRITTEN, &[("from", "the old number"), ("to", "the new number")]],
+    paged: false,
+    run,
+};
+
+fn run(mut args: Args, out: &mut Out) -> Result<Verdict, Failure> {
+    let edit = Edit::named(&mut args)?;
+    let (from, to) = (args.next_number("N")?, args.next_number("TO")?);
+    args.done()?;
+    let change = |book: &Book| {
+        let mut presets = remove::all(book)?;
+        let Preset { rig, word } = book.preset(from)?;
+        library::preset(book.edition, &book.bytes, to)
+            .map_err(|refusal| Failure::refused(refusal, culprit::number(presets.len())))?;
+        let told = format!("moved preset {from} to {to}: {rig}, {}", remove::lettered(word));
+        let moved = presets.remove(from);
+        presets.insert(to, moved);
+        let bytes = edit::built(book.edition, &presets, edit.room)?;
+        let fields = vec![("from", from.into()), ("to", to.into())];
+        let numbers = Box::new(move |old| Some(renumbered(old, from, to)));
+        Ok(Change { bytes, edition: book.edition, numbers: Some(numbers), told, fields })
+    };
+    edit.run("move", change, out)
+}
+
+/// The number that a preset has when another was moved.
+fn renumbered(old: usize, from: usize, to: usize) -> usize {
+    match old {
+        old if old == from => to,
+        old if from < old && old <= to => old - 1,
+        old if to <= old && old < from => old + 1,
+        old => old,
+    }
+}
+
+#[cfg(test)]
+mod tests {
+    use super::*;
+
+    #[test]
+    fn numbers_follow_the_presets() {
+        for from in 0..5 {
+            for to in 0..5 {
+                let mut presets: Vec<usize> = (0..5).collect();
+                let moved = presets.remove(from);
+                presets.insert(to, moved);
+                for old in 0..5 {
+                    assert_eq!(presets[renumbered(old, from, to)], old, "{from} to {to}");
+                }
+            }
+        }
+    }
+}
