@@ -360,7 +360,7 @@ export class Winnathey {
      * @param {Kind} kind2 @param {number} rank2 @param {Word} word2
      * @returns {boolean}
      */
-    presetsEqual(kind1, rank1, word1, kind2, rank2, word2) {
+    same(kind1, rank1, word1, kind2, rank2, word2) {
         const one = [kindNumber('kind1', kind1), rankNumber('rank1', rank1), bytes('word1', word1)];
         const two = [kindNumber('kind2', kind2), rankNumber('rank2', rank2), bytes('word2', word2)];
         return this.#call('winnathey_same', ...one, ...two) === 1;
@@ -369,11 +369,11 @@ export class Winnathey {
     /**
      * The better of two words with one window: the shorter, at equal lengths the one earlier in the dictionary, at
      * equal words the first. 1 is the first, 2 the second; 0 if the windows differ or a check fails. It never throws
-     * a refusal: `presetsEqual` does.
+     * a refusal: `same` does.
      * @param {Kind} kind @param {number} rank @param {Word} first @param {Word} second
      * @returns {0|1|2}
      */
-    whichBetter(kind, rank, first, second) {
+    better(kind, rank, first, second) {
         const rig = [kindNumber('kind', kind), rankNumber('rank', rank)];
         return this.#call('winnathey_better', ...rig, bytes('first', first), bytes('second', second));
     }
@@ -463,7 +463,7 @@ export class Winnathey {
      * @param {Kind} kind @param {number} rank @param {Word} word @param {number} place
      * @returns {?Rewrite}
      */
-    rewriteAt(kind, rank, word, place) {
+    rewrite(kind, rank, word, place) {
         const rig = [kindNumber('kind', kind), rankNumber('rank', rank)];
         const lent = bytes('word', word);
         const out = output(Uint8Array, lent.length);
@@ -511,7 +511,7 @@ export class Winnathey {
      * @param {Kind} kind @param {number} rank @param {Word} present @param {Word} simpler
      * @returns {?number[]}
      */
-    fallbackPlaces(kind, rank, present, simpler) {
+    fallback(kind, rank, present, simpler) {
         const places = output(Uint16Array, MAX_NORMAL_FORM);
         const rig = [kindNumber('kind', kind), rankNumber('rank', rank)];
         const words = [bytes('present', present), bytes('simpler', simpler)];
@@ -525,7 +525,7 @@ export class Winnathey {
      * @param {Kind} kind @param {number} rank @param {Steps} allowed @param {Word} word
      * @returns {{first: number[], second: number[]}}
      */
-    splitWord(kind, rank, allowed, word) {
+    split(kind, rank, allowed, word) {
         const rig = [kindNumber('kind', kind), rankNumber('rank', rank), stepBits(allowed)];
         const first = output(Uint8Array, MAX_NORMAL_FORM);
         const second = output(Uint8Array, MAX_NORMAL_FORM);
@@ -541,7 +541,7 @@ export class Winnathey {
      * @param {Kind} kind @param {number} rank @param {Steps} allowed @param {Window} from @param {Window} to
      * @returns {number[]}
      */
-    betweenWindows(kind, rank, allowed, from, to) {
+    between(kind, rank, allowed, from, to) {
         const rig = [kindNumber('kind', kind), rankNumber('rank', rank), stepBits(allowed)];
         const out = output(Uint8Array, MAX_NORMAL_FORM);
         const windows = [entries('from', from), entries('to', to)];
@@ -555,7 +555,7 @@ export class Winnathey {
      * @param {Edition} edition @param {Book} book
      * @returns {number}
      */
-    checkBook(edition, book) {
+    bookCheck(edition, book) {
         const call = isFirst(edition) ? 'winnathey_book_check' : 'winnathey_second_book_check';
         return this.#call(call, bytes('book', book));
     }
@@ -565,7 +565,7 @@ export class Winnathey {
      * @param {Edition} edition @param {Book} book @param {number} number
      * @returns {Preset}
      */
-    checkPreset(edition, book, number) {
+    preset(edition, book, number) {
         const call = isFirst(edition) ? 'winnathey_preset' : 'winnathey_second_preset';
         const fields = output(BigUint64Array, 4);
         this.#call(call, bytes('book', book), placeNumber('number', number), fields);
@@ -579,7 +579,7 @@ export class Winnathey {
      * @returns {number[]}
      */
     letters(edition, book, number) {
-        const { start, length } = this.checkPreset(edition, book, number);
+        const { start, length } = this.preset(edition, book, number);
         return Array.from({ length }, (_, k) => book[start + k]);
     }
 
@@ -589,12 +589,12 @@ export class Winnathey {
      * @param {Edition} edition @param {Book} book @param {number} [first] @param {number} [most]
      * @returns {ListedPreset[]}
      */
-    readPresets(edition, book, first = 0, most = MAX_BOOK) {
+    presets(edition, book, first = 0, most = MAX_BOOK) {
         const call = isFirst(edition) ? 'winnathey_presets' : 'winnathey_second_presets';
         const from = placeNumber('first', first);
         integer('most', most, 0, Number.MAX_SAFE_INTEGER);
         const lent = bytes('book', book);
-        const count = this.checkBook(edition, book);
+        const count = this.bookCheck(edition, book);
         const room = Math.min(most, Math.max(count - first, 0));
         if (room === 0 && first <= count) return [];
         // With room for one at least, so that it is the library that says 4.

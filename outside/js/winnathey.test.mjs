@@ -81,13 +81,13 @@ test('words', () => {
     assert.equal(w.lengthOfWord('B', 2, [1, 2, 1, 2]), 4);
     assert.deepEqual(w.crossingsOfWord('D', 5, D5), { inversions: 3, negativeSumPairs: 3, negatives: 0, total: 6 });
     assert.deepEqual(w.crossingsOfWord('B', 2, [1, 2, 1, 2]), { inversions: 1, negativeSumPairs: 1, negatives: 2, total: 4 });
-    assert.equal(w.presetsEqual('A', 2, [1, 2, 1], 'A', 2, [2, 1, 2]), true);
-    assert.equal(w.presetsEqual('A', 2, [1], 'B', 3, [1]), true);
-    assert.equal(w.presetsEqual('A', 2, [1], 'A', 2, [2]), false);
-    assert.equal(w.whichBetter('A', 2, [2, 1, 2], [1, 2, 1]), 1);
-    assert.equal(w.whichBetter('A', 2, [1, 1, 1], [1]), 2);
-    assert.equal(w.whichBetter('A', 2, [1], [2]), 0);
-    assert.equal(w.whichBetter('A', 2, [9], [9]), 0);
+    assert.equal(w.same('A', 2, [1, 2, 1], 'A', 2, [2, 1, 2]), true);
+    assert.equal(w.same('A', 2, [1], 'B', 3, [1]), true);
+    assert.equal(w.same('A', 2, [1], 'A', 2, [2]), false);
+    assert.equal(w.better('A', 2, [2, 1, 2], [1, 2, 1]), 1);
+    assert.equal(w.better('A', 2, [1, 1, 1], [1]), 2);
+    assert.equal(w.better('A', 2, [1], [2]), 0);
+    assert.equal(w.better('A', 2, [9], [9]), 0);
 });
 
 test('windows', () => {
@@ -110,14 +110,14 @@ test('the delay table, with counts above 2^53', () => {
 });
 
 test('rewriting', () => {
-    assert.deepEqual(w.rewriteAt('A', 3, [1, 3, 3], 1), { family: 1, i: 3, j: 0, word: [1] });
-    assert.equal(w.rewriteAt('A', 3, [1, 2], 0), null);
+    assert.deepEqual(w.rewrite('A', 3, [1, 3, 3], 1), { family: 1, i: 3, j: 0, word: [1] });
+    assert.equal(w.rewrite('A', 3, [1, 2], 0), null);
     assert.equal(w.rewriteSteps('A', 3, [1, 3, 3]), 3);
     const { steps, word } = w.rewriteToEnd('A', 3, [1, 3, 3]);
     assert.deepEqual(word, [1]);
     let replayed = [1, 3, 3];
     for (const { family, place, length } of steps) {
-        const step = w.rewriteAt('A', 3, replayed, place);
+        const step = w.rewrite('A', 3, replayed, place);
         assert.deepEqual([step.family, step.word.length], [family, length]);
         replayed = step.word;
     }
@@ -134,24 +134,24 @@ test('a rewriting for which the memory has to grow', () => {
 });
 
 test('shortest words', () => {
-    assert.deepEqual(w.fallbackPlaces('B', 2, [1, 2, 1, 2], [2]).length, 1);
+    assert.deepEqual(w.fallback('B', 2, [1, 2, 1, 2], [2]).length, 1);
     const form = w.normalFormOfWord('A', 2, [1, 2, 1]);
-    const kept = w.fallbackPlaces('A', 2, [1, 2, 1], [1, 2]);
-    assert.equal(w.presetsEqual('A', 2, kept.map(place => form[place]), 'A', 2, [1, 2]), true);
-    assert.equal(w.fallbackPlaces('A', 2, [1], [2]), null);
-    assert.deepEqual(w.splitWord('A', 2, [1], [1, 2, 1]), { first: [1], second: [2, 1] });
-    assert.deepEqual(w.splitWord('B', 64, Array.from({ length: 64 }, (_, i) => i + 1), [64, 1]), { first: [64, 1], second: [] });
-    assert.deepEqual(w.splitWord('A', 2, new Set(), [1, 2]), { first: [], second: [1, 2] });
-    assert.deepEqual(w.betweenWindows('A', 2, [2, 1], [1, 2, 3], [2, 3, 1]), [1, 2]);
-    assert.deepEqual(w.betweenWindows('A', 2, [], [2, 3, 1], [2, 3, 1]), []);
+    const kept = w.fallback('A', 2, [1, 2, 1], [1, 2]);
+    assert.equal(w.same('A', 2, kept.map(place => form[place]), 'A', 2, [1, 2]), true);
+    assert.equal(w.fallback('A', 2, [1], [2]), null);
+    assert.deepEqual(w.split('A', 2, [1], [1, 2, 1]), { first: [1], second: [2, 1] });
+    assert.deepEqual(w.split('B', 64, Array.from({ length: 64 }, (_, i) => i + 1), [64, 1]), { first: [64, 1], second: [] });
+    assert.deepEqual(w.split('A', 2, new Set(), [1, 2]), { first: [], second: [1, 2] });
+    assert.deepEqual(w.between('A', 2, [2, 1], [1, 2, 3], [2, 3, 1]), [1, 2]);
+    assert.deepEqual(w.between('A', 2, [], [2, 3, 1], [2, 3, 1]), []);
 });
 
 test('books', () => {
-    assert.equal(w.checkBook(1, BOOK), 2);
-    assert.equal(w.checkBook(2, SECOND), 2);
-    assert.equal(w.checkBook(1, []), 0);
-    assert.deepEqual(w.checkPreset(1, BOOK, 1), { kind: 'D', rank: 5, start: 12, length: 6 });
-    assert.deepEqual(w.checkPreset(2, SECOND, 0), { kind: 'B', rank: 2, start: 5, length: 4 });
+    assert.equal(w.bookCheck(1, BOOK), 2);
+    assert.equal(w.bookCheck(2, SECOND), 2);
+    assert.equal(w.bookCheck(1, []), 0);
+    assert.deepEqual(w.preset(1, BOOK, 1), { kind: 'D', rank: 5, start: 12, length: 6 });
+    assert.deepEqual(w.preset(2, SECOND, 0), { kind: 'B', rank: 2, start: 5, length: 4 });
     assert.deepEqual(w.letters(1, BOOK, 1), [5, 2, 3, 5, 1, 2]);
     assert.deepEqual(w.letters(2, Uint8Array.from(SECOND), 0), [1, 2, 1, 2]);
     assert.deepEqual(w.append(1, w.append(1, [], 'B', 2, [1, 2, 1, 2]), 'D', 5, [5, 2, 3, 5, 1, 2]), Uint8Array.from(BOOK));
@@ -163,18 +163,18 @@ test('books', () => {
 
 test('lists of presets, refused ones among them', () => {
     const second = { number: 1, refusal: null, kind: 'D', rank: 5, start: 12, length: 6, letters: [5, 2, 3, 5, 1, 2] };
-    const listed = w.readPresets(1, BOOK);
+    const listed = w.presets(1, BOOK);
     assert.equal(listed.length, 2);
     assert.deepEqual(listed[1], second);
-    assert.deepEqual(w.readPresets(1, BOOK, 1), [second]);
-    assert.deepEqual(w.readPresets(1, BOOK, 0, 1), [listed[0]]);
-    assert.deepEqual(w.readPresets(1, BOOK, 2), []);
-    assert.deepEqual(w.readPresets(1, BOOK, 0, 0), []);
-    assert.deepEqual(w.readPresets(2, []), []);
-    assert.equal(refusal(() => w.readPresets(1, BOOK, 3)), 4);
+    assert.deepEqual(w.presets(1, BOOK, 1), [second]);
+    assert.deepEqual(w.presets(1, BOOK, 0, 1), [listed[0]]);
+    assert.deepEqual(w.presets(1, BOOK, 2), []);
+    assert.deepEqual(w.presets(1, BOOK, 0, 0), []);
+    assert.deepEqual(w.presets(2, []), []);
+    assert.equal(refusal(() => w.presets(1, BOOK, 3)), 4);
     const changed = Uint8Array.from(BOOK);
     changed[4] = 3;
-    const [refused, kept] = w.readPresets(1, changed);
+    const [refused, kept] = w.presets(1, changed);
     assert.equal(refused.number, 0);
     assert.ok(refused.refusal instanceof Refusal);
     assert.equal(refused.refusal.number, 8);
@@ -188,10 +188,10 @@ test('every refusal, by its number and sentence', () => {
     full.set([1, 2, 0xf5, 0xff]); // one record of 65,525 letters
     full[65531] = 1;
     const refused = {
-        1: () => w.checkBook(1, [0]),
-        2: () => w.checkBook(1, [1, 0]),
-        3: () => w.checkBook(2, [0, 0, 0]),
-        4: () => w.checkPreset(1, BOOK, 2),
+        1: () => w.bookCheck(1, [0]),
+        2: () => w.bookCheck(1, [1, 0]),
+        3: () => w.bookCheck(2, [0, 0, 0]),
+        4: () => w.preset(1, BOOK, 2),
         5: () => w.windowOfWord(4, 2, []),
         6: () => w.windowOfWord('D', 3, []),
         7: () => w.normalFormOfWord('A', 2, TOO_LONG),
@@ -199,12 +199,12 @@ test('every refusal, by its number and sentence', () => {
         9: () => w.lengthOfWindow('A', 2, [1, 2]),
         10: () => w.inverseOfWindow('B', 2, [1, 1]),
         11: () => w.normalFormOfWindow('D', 4, [-1, 2, 3, 4]),
-        12: () => w.rewriteAt('A', 2, [1], 1),
+        12: () => w.rewrite('A', 2, [1], 1),
         13: () => w.append(1, full, 'A', 2, []),
-        16: () => w.splitWord('A', 2, [3], []),
-        17: () => w.checkPreset(2, [1, 2, 2, 0, 0, 0, 0, 1, 0], 0),
+        16: () => w.split('A', 2, [3], []),
+        17: () => w.preset(2, [1, 2, 2, 0, 0, 0, 0, 1, 0], 0),
         18: () => w.convert(2, w.append(2, [], 'B', 33, [])),
-        19: () => w.betweenWindows('A', 2, [1], [1, 2, 3], [1, 3, 2]),
+        19: () => w.between('A', 2, [1], [1, 2, 3], [1, 3, 2]),
         20: () => w.delayTable('B', 17),
         21: () => w.append(1, BOOK, 'A', 1, []),
     };
@@ -254,13 +254,13 @@ test('what is no kind, rank, byte, step, place or edition is named', () => {
         [() => w.windowOfWord('A', 2), TypeError, /^word is not a list: undefined$/],
         [() => w.windowOfWord('A', 2, '12'), TypeError, /^word is not a list: "12"$/],
         [() => w.lengthOfWindow('A', 2, [1, 2, 128]), RangeError, /^window\[2\] is not an integer from -128 to 127: 128$/],
-        [() => w.rewriteAt('A', 2, [1], -1), RangeError, /^place is not/],
-        [() => w.rewriteAt('A', 2, [1], 2 ** 53), RangeError, /^place is not/],
-        [() => w.splitWord('A', 2, [0], []), RangeError, /^an allowed step is not an integer from 1 to 64: 0$/],
-        [() => w.splitWord('A', 2, [65], []), RangeError, /^an allowed step is not/],
-        [() => w.splitWord('A', 2, 3n, []), TypeError, /^the allowed steps are not a list: 3$/],
-        [() => w.checkBook(3, []), RangeError, /^the edition is not 1 or 2: 3$/],
-        [() => w.checkBook('first', []), RangeError, /^the edition is not 1 or 2: "first"$/],
+        [() => w.rewrite('A', 2, [1], -1), RangeError, /^place is not/],
+        [() => w.rewrite('A', 2, [1], 2 ** 53), RangeError, /^place is not/],
+        [() => w.split('A', 2, [0], []), RangeError, /^an allowed step is not an integer from 1 to 64: 0$/],
+        [() => w.split('A', 2, [65], []), RangeError, /^an allowed step is not/],
+        [() => w.split('A', 2, 3n, []), TypeError, /^the allowed steps are not a list: 3$/],
+        [() => w.bookCheck(3, []), RangeError, /^the edition is not 1 or 2: 3$/],
+        [() => w.bookCheck('first', []), RangeError, /^the edition is not 1 or 2: "first"$/],
     ];
     for (const [call, type, message] of wrong) {
         assert.throws(call, error => error.constructor === type && message.test(error.message), String(call));
