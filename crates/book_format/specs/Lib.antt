@@ -1,4 +1,5 @@
--- What an auditor must believe of the preset book, in the order of document 01.
+-- What an auditor must believe of the preset book (section B of the specification). Definitions and nothing else:
+-- the laws are in proofs/.
 pub mod Books
 pub mod Records
 pub mod Calls

@@ -1,4 +1,5 @@
--- What an auditor must believe of the calls for C beyond the layers below. Definitions and nothing else: the laws are in proofs/.
+-- What an auditor must believe of the calls for C beyond the layers below (section IC of the specification).
+-- Definitions and nothing else: the laws are in proofs/.
 pub mod Calls
 pub mod Shortest
 pub mod Demand3

@@ -1,4 +1,5 @@
--- What an auditor must believe of the window layer, in the order of document 01. Definitions and nothing else: the laws are in proofs/.
+-- What an auditor must believe of the window layer (sections K, W, O, E, L, N, V, C and I of the specification).
+-- Definitions and nothing else: the laws are in proofs/.
 pub mod Kinds
 pub mod Windows
 pub mod Length

@@ -1,5 +1,6 @@
--- The windows of a kind and a rank as a list: of all lists with an entry for each lane those that pass checks 9 to 11. That each window is in it,
--- none twice and nothing else: `windows-exactly` and `windows-once` of proofs/AllWindows.antt.
+-- The windows of a rig as a list (Y2 of the specification): of all lists with an entry for each lane those that
+-- pass checks 9 to 11. That each window is in it, none twice and nothing else: `windows-exactly` and `windows-once`
+-- of proofs/AllWindows.antt.
 use mathlib.Core.Bool.{Bool}
 use mathlib.Core.List.{List, [], _∷_, _++_, map, List·Memᴰ}
 use Prim.Native.Nat.{ℕ, zero, suc}
@@ -8,34 +9,34 @@ use lib.IntN.{ℤ, pos, negsuc}
 use Rattle.coxeter.specs.Kinds.{Kind, pick, lanes, up}
 use Rattle.coxeter.specs.Checks.{windowRefusal}
 
--- x is in the list
+-- no clause of its own: helps Y2. x is in the list.
 abbrev pub In : {X : Type 0} → X → List X → Type 0
 In x l = List·Memᴰ x l
 
--- none is in the list twice
+-- Y2: none is in the list twice
 abbrev pub Once : {X : Type 0} → List X → Type 0
 Once [] = Unit {0}
 Once (x ∷ l) = (In x l → ⊥) × Once l
 
--- those of the list for which the test holds
+-- no clause of its own: helps Y1 and Y2. Those of the list for which the test holds.
 unfoldable pub keep : {X : Type 0} → (X → Bool) → List X → List X
 keep t [] = []
 keep t (x ∷ l) = pick (t x) (x ∷ keep t l) (keep t l)
 
--- each of xs before each of the lists ls
+-- no clause of its own: helps Y2. Each of xs before each of the lists ls.
 unfoldable pub each : {X : Type 0} → List X → List (List X) → List (List X)
 each [] ls = []
 each (x ∷ xs) ls = map (λ l. x ∷ l) ls ++ each xs ls
 
--- all lists of m elements out of xs
+-- no clause of its own: helps Y2. All lists of m elements out of xs.
 unfoldable pub lists : {X : Type 0} → ℕ → List X → List (List X)
 lists zero xs = [] ∷ []
 lists (suc m) xs = each xs (lists m xs)
 
--- the entries 1, .., m and −1, .., −m: `negsuc s` is −(s + 1)
+-- W5: the entries 1, .., m and −1, .., −m; `negsuc s` is −(s + 1)
 unfoldable pub entries : ℕ → List ℤ
 entries m = map pos (up 1 m) ++ map negsuc (up 0 m)
 
--- the windows of a kind and a rank
+-- W5, Y2: the windows of a rig
 unfoldable pub windows : Kind → ℕ → List (List ℤ)
 windows k n = keep (λ w. eqb (windowRefusal k n w) 0) (lists (lanes k n) (entries (lanes k n)))

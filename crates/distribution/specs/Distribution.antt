@@ -1,4 +1,5 @@
--- How many windows have each length (document 02, request 11).
+-- How many windows have each length (Y1 to Y3 of the specification). The delay table is the field's length
+-- distribution.
 use mathlib.Core.List.{List, [], _∷_, map}
 use Prim.Native.Nat.{ℕ, zero, suc, _+_, _*_, _/_, _^_}
 use lib.Dec.{eqb}
@@ -7,24 +8,25 @@ use Rattle.coxeter.specs.Kinds.{Kind, A, B, D, up}
 use Rattle.coxeter.specs.Length.{windowLength, greatestLength}
 use Rattle.distribution.specs.AllWindows.{keep, windows}
 
--- "the exact number of windows whose length is" l
+-- Y1: the number of windows of length l
 unfoldable pub ofLength : Kind → ℕ → ℕ → ℕ
 ofLength k n l = length (keep (λ w. eqb (windowLength k w) l) (windows k n))
 
--- "entry k is the exact number of windows whose length is k, for k from 0 to the greatest length"
+-- Y1: the entries 0 to the greatest length, which is one more than that length
 unfoldable pub distribution : Kind → ℕ → List ℕ
 distribution k n = map (ofLength k n) (up 0 (greatestLength k n + 1))
 
--- the sum of the entries
+-- no clause of its own: helps Y3. The sum of the entries.
 unfoldable pub sum : List ℕ → ℕ
 sum [] = 0
 sum (x ∷ l) = x + sum l
 
+-- no clause of its own: helps Y3. n!
 unfoldable pub factorial : ℕ → ℕ
 factorial zero = 1
 factorial (suc n) = suc n * factorial n
 
--- "(n + 1)! for A, 2 to the n times n! for B, and half of that for D" (in the field's words, the order of the group)
+-- Y3: the number of windows, in the field's words the order of the group
 abbrev pub order : Kind → ℕ → ℕ
 order A n = factorial (n + 1)
 order B n = 2 ^ n * factorial n

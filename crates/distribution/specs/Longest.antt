@@ -1,4 +1,4 @@
--- The longest window (document 02, request 11). First what it is, then a definition of it.
+-- The longest window (Y4 and Y5 of the specification). First what it is, then a definition of it.
 use mathlib.Core.Path.{_≡_}
 use mathlib.Core.List.{List, map}
 use Prim.Native.Nat.{ℕ, _+_, _-_, _<_}
@@ -10,18 +10,22 @@ use Rattle.coxeter.specs.Length.{windowLength, greatestLength}
 use Rattle.coxeter.specs.Checks.{odd, WindowOf}
 use Rattle.coxeter.specs.NormalForm.{down, normalForm}
 
--- "the one window with the greatest length, and its normal form; no other window of the rig has a normal form as long"
+-- Y4: w is the one window of greatest length
 pub record IsLongest (k : Kind) (n : ℕ) (w : List ℤ) : Type 0 where
+  -- W5: it is a window of the rig
   pub passes : WindowOf k n w
+  -- L6
   pub greatest : windowLength k w ≡ greatestLength k n
+  -- L5
   pub form : length (normalForm k n w) ≡ greatestLength k n
+  -- Y4: every other window has a shorter normal form
   pub only : (v : List ℤ) → WindowOf k n v → (v ≡ w → ⊥) → length (normalForm k n v) < length (normalForm k n w)
 
--- −1, −2, .., −n: `negsuc s` is −(s + 1)
+-- Y5: −1, −2, .., −n; `negsuc s` is −(s + 1)
 unfoldable pub allNegative : ℕ → List ℤ
 allNegative n = map negsuc (up 0 n)
 
--- in A n + 1, n, .., 1; in B −1, .., −n; in D the same, but where n is odd the last entry is n
+-- Y5
 unfoldable pub longest : Kind → ℕ → List ℤ
 longest A n = map pos (down (n + 1) (n + 1))
 longest B n = allNegative n

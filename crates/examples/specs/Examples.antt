@@ -1,5 +1,5 @@
--- The examples marked P (document 01, "Examples"): what each sort of entry says, and the one table, in document 01's order. Its proof is `proved`
--- of proofs/Examples.antt.
+-- The examples that are proved (J1 to J9 of the specification): what each sort of entry says, and the one table
+-- (G4). Its proof is `proved` of proofs/Examples.antt.
 use mathlib.Core.Path.{_≡_}
 use mathlib.Core.List.{List, [], _∷_, _++_}
 use Prim.Native.Nat.{ℕ, _≤_}
@@ -15,27 +15,28 @@ use Rattle.rules.specs.declared.Rewrite.the-variants.{Used, NoneFits, Refused}
 use Rattle.rules.specs.Rules.{rules}
 use Rattle.rules.specs.Calls.{Step, step}
 
--- "Kind 1 is A, 2 is B, 3 is D."
+-- K2: the number of a kind
 abbrev pub number : Kind → ℕ
 number A = 1
 number B = 2
 number D = 3
 
--- a negative entry of a window
+-- no clause of its own: helps J4, J5 and J9. A negative entry of a window.
 abbrev pub neg : ℕ → ℤ
 neg e = negℤ (pos e)
 
--- one rewrite of u at place p, with any output that has room, answers with family f, i, j and the new length, and leaves v, also in the output
+-- R16: one rewrite of u at place p, with any output that has room, answers with family f, i, j and the new length,
+-- and leaves v, also in the output
 abbrev pub Gives : Kind → ℕ → List ℕ → ℕ → List ℕ → ℕ → ℕ → ℕ → Type 0
 Gives k n u p v f i j =
     (out : List ℕ) → length v ≤ length out
     → _≡_ {A = Step} (step (number k) n u p out) (record { answer = Used f i j (length v); bytes = v ++ drop (length v) out; word = v })
 
--- one rewrite of u at place p, with any output, answers a; nothing is written and the word stays
+-- R17, CO6: one rewrite of u at place p, with any output, answers a; nothing is written and the word stays
 abbrev pub Stays : Kind → ℕ → List ℕ → ℕ → Rewrite → Type 0
 Stays k n u p a = (out : List ℕ) → _≡_ {A = Step} (step (number k) n u p out) (record { answer = a; bytes = out; word = u })
 
--- the sorts of entry; kind and rank stand first, what is claimed last
+-- J1 to J9: the sorts of entry; kind and rank stand first, what is claimed last
 pub data Example : Type 0 where
   -- a word and its window, its normal form, its length
   wordWindow : Kind → ℕ → List ℕ → List ℤ → Example
@@ -47,7 +48,7 @@ pub data Example : Type 0 where
   -- a word and a place: the new word with the family, i and j of the rule used; or none fits
   gives : Kind → ℕ → List ℕ → ℕ → List ℕ → ℕ → ℕ → ℕ → Example
   noneFits : Kind → ℕ → List ℕ → ℕ → Example
-  -- "any kind", at every rank
+  -- J3: in every kind, at every rank
   squareVanishes emptyStays : Example
   -- the number of rules
   ruleCount : Kind → ℕ → ℕ → Example
@@ -55,7 +56,7 @@ pub data Example : Type 0 where
   refused : Kind → ℕ → List ℤ → ℕ → Example
   accepted : Kind → ℕ → List ℤ → Example
 
--- what an entry says
+-- J1 to J9: what an entry says
 abbrev pub Fact : Example → Type 0
 Fact (wordWindow k n u w) = window k n u ≡ w
 Fact (wordForm k n u v) = wordNormalForm k n u ≡ v
@@ -74,33 +75,34 @@ Fact (ruleCount k n m) = length (rules k n) ≡ m
 Fact (refused k n w r) = windowRefusal k n w ≡ r
 Fact (accepted k n w) = windowRefusal k n w ≡ 0
 
+-- G4: the table
 unfoldable pub table : List Example
 table =
-    -- "A2, word 1 2 1: window 3 2 1, normal form 2 1 2."
+    -- J1
     wordWindow A 2 (1 ∷ 2 ∷ 1 ∷ []) (pos 3 ∷ pos 2 ∷ pos 1 ∷ [])
     ∷ wordForm A 2 (1 ∷ 2 ∷ 1 ∷ []) (2 ∷ 1 ∷ 2 ∷ [])
-    -- "A3, 1 3 becomes 3 1."
+    -- J2
     ∷ gives A 3 (1 ∷ 3 ∷ []) 0 (3 ∷ 1 ∷ []) 2 1 3
     ∷ wordForm A 3 (1 ∷ 3 ∷ []) (3 ∷ 1 ∷ [])
-    -- "any kind, 1 1 becomes the empty word; the empty word stays."
+    -- J3
     ∷ squareVanishes
     ∷ emptyStays
-    -- "B2, 1 2 1 2: window −1 −2, normal form 2 1 2 1, length 4."
+    -- J4
     ∷ wordWindow B 2 (1 ∷ 2 ∷ 1 ∷ 2 ∷ []) (neg 1 ∷ neg 2 ∷ [])
     ∷ wordForm B 2 (1 ∷ 2 ∷ 1 ∷ 2 ∷ []) (2 ∷ 1 ∷ 2 ∷ 1 ∷ [])
     ∷ wordLength B 2 (1 ∷ 2 ∷ 1 ∷ 2 ∷ []) 4
-    -- "D5, window 3 −5 1 4 −2: normal form 5 2 3 5 1 2; it is its own inverse (source document 000, Example 4)."
+    -- J5
     ∷ windowForm D 5 (pos 3 ∷ neg 5 ∷ pos 1 ∷ pos 4 ∷ neg 2 ∷ []) (5 ∷ 2 ∷ 3 ∷ 5 ∷ 1 ∷ 2 ∷ [])
     ∷ ownInverse (pos 3 ∷ neg 5 ∷ pos 1 ∷ pos 4 ∷ neg 2 ∷ [])
-    -- "place 0 of 3 4: D4 gives 4 3 by family 2; B4 none fits."
+    -- J6
     ∷ gives D 4 (3 ∷ 4 ∷ []) 0 (4 ∷ 3 ∷ []) 2 3 4
     ∷ noneFits B 4 (3 ∷ 4 ∷ []) 0
-    -- "place 0 of 2 4: B4 gives 4 2; D4 none fits."
+    -- J7
     ∷ gives B 4 (2 ∷ 4 ∷ []) 0 (4 ∷ 2 ∷ []) 2 2 4
     ∷ noneFits D 4 (2 ∷ 4 ∷ []) 0
-    -- "D4 has 16 rules."
+    -- J8
     ∷ ruleCount D 4 16
-    -- "D4 window −1 2 3 4 is refused 11; −1 −2 3 4 is accepted."
+    -- J9
     ∷ refused D 4 (neg 1 ∷ pos 2 ∷ pos 3 ∷ pos 4 ∷ []) 11
     ∷ accepted D 4 (neg 1 ∷ neg 2 ∷ pos 3 ∷ pos 4 ∷ [])
     ∷ []

@@ -1,2 +1,2 @@
--- What an auditor must believe of the examples: what each says, and the table of those that document 01 marks P.
+-- What an auditor must believe of the examples (J1 to J9 of the specification): what each says, and their table.
 pub mod Examples

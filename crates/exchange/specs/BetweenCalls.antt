@@ -1,4 +1,4 @@
--- What the call from one window to another answers and writes, for every input (document 02, request 10).
+-- What the call from one window to another answers and writes, for every input (I23 and C19 of the specification).
 use mathlib.Core.Bool.{Bool, not}
 use mathlib.Core.List.{List}
 use Prim.Native.Nat.{ℕ}
@@ -9,17 +9,15 @@ use Rattle.coxeter.specs.Calls.{Outcome, writes}
 use Rattle.exchange.specs.Allowed.{allows, setRefusal}
 use Rattle.exchange.specs.Between.{between, reachable}
 
--- "19. No word of any length over the allowed steps leads from the first window to the second.": that the test says this, both ways, is
--- `between-refuses-19` of proofs/BetweenCalls.antt
+-- C19: that the test says so, both ways, is `between-refuses-19` of proofs/BetweenCalls.antt
 unfoldable pub unreachable : Kind → ℕ → ℕ → List ℤ → List ℤ → Bool
 unreachable k n set v w = not (reachable (allows set) k n v w)
 
--- "Checks run kind, rank, refusal 16, then both windows. 19 .. checked after both windows and before refusal 14."; 16 is "16. A bit stands for a step
--- above the rank."
+-- I23, CO2: checks 5, 6 and 16, both windows, then 19; 14 comes last
 unfoldable pub betweenRefusal : ℕ → ℕ → ℕ → List ℤ → List ℤ → ℕ
 betweenRefusal k n set v w =
     setRefusal k n set then windowRefusal (kindOf k) n v then windowRefusal (kindOf k) n w then check 19 (unreachable (kindOf k) n set v w)
 
--- "Give the normal form of the word over those steps that leads from the first window to the second."
+-- I23
 unfoldable pub betweenWindows : ℕ → ℕ → ℕ → List ℤ → List ℤ → List ℕ → Outcome ℕ
 betweenWindows k n set v w out = writes (betweenRefusal k n set v w) (between (kindOf k) n v w) out

@@ -1,4 +1,4 @@
--- One rewrite at a named place (document 01, "Rules" and "Turned-down calls, in checking order"), for every input.
+-- One rewrite at a named place, for every input (R13 to R19 and I19 of the specification).
 use mathlib.Core.Path.{_≡_}
 use mathlib.Core.Bool.{Bool}
 use mathlib.Core.List.{List, _++_}
@@ -12,41 +12,42 @@ use Rattle.rules.specs.declared.Rewrite.{Rewrite}
 use Rattle.rules.specs.declared.Rewrite.the-variants.{Used, NoneFits, Refused}
 use Rattle.rules.specs.Rules.{Rule, rules, firstFitting, rewritten}
 
--- "12. The place is the word's length or more."
+-- C12, R13
 unfoldable pub pastEnd : List ℕ → ℕ → Bool
 pastEnd u p = leb (length u) p
 
--- the answer, the bytes of the output afterwards, and the word that is left
+-- R16, R17, T4: the answer, the bytes of the output afterwards, and the word that is left
 pub record Step : Type 0 where
   pub answer : Rewrite
   pub bytes : List ℕ
   pub word : List ℕ
 
--- the number of a refused call: nothing is written and the word stays
+-- CO6, T4: a refused call, with its number: nothing is written and the word stays
 unfoldable pub refusedStep : ℕ → List ℕ → List ℕ → Step
 refusedStep r u out = record { answer = Refused r; bytes = out; word = u }
 
--- "an accepted call writes only the bytes of its answer": v written to the front of out
+-- CO7, I2: v written to the front of out; what lies behind stays
 abbrev pub atFront : List ℕ → List ℕ → List ℕ
 atFront v out = v ++ drop (length v) out
 
--- the values of a call that uses a rule: "family, i, j, the new length, and the new word in the output"
+-- R16, G17: the values of a call that uses a rule and leaves the word v
 unfoldable pub usedStep : Rule → List ℕ → List ℕ → Step
 usedStep r v out = record { answer = Used (r .family) (r .i) (r .j) (length v); bytes = atFront v out; word = v }
 
--- "None fits, with nothing written"; else check 14, and the left side is replaced
+-- R16, R17, C14: document 01's none fits, or 14 if the output has no room for the new word, or the rule is used.
+-- With none the output's length plays no part.
 unfoldable pub stepBy : Option Rule → List ℕ → ℕ → List ℕ → Step
 stepBy none u p out = record { answer = NoneFits; bytes = out; word = u }
 stepBy (some r) u p out =
     pick (tooShort (length (rewritten r u p)) out) (refusedStep 14 u out) (usedStep r (rewritten r u p) out)
 
--- checks 5 to 8 and 12 in order, then the rule that fits at the place
+-- I19: checks 5 to 8 and 12 in order, then the rule that fits at the place
 unfoldable pub step : ℕ → ℕ → List ℕ → ℕ → List ℕ → Step
 step k n u p out =
     let r = rankRefusal k n then wordRefusal n u then check 12 (pastEnd u p) in
     pick (eqb r 0) (stepBy (firstFitting (rules (kindOf k) n) u p) u p out) (refusedStep r u out)
 
--- one rewrite of the word u at place p: the output before and after it, and its answer
+-- I19, T3: one rewrite of the word u at place p: the output before and after it, and its answer
 pub record Rewrote (k n : ℕ) (u : List ℕ) (p : ℕ) (before after : List ℕ) (a : Rewrite) : Type 0 where
   pub answer : a ≡ step k n u p before .answer
   pub bytes : after ≡ step k n u p before .bytes

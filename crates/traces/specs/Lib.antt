@@ -1,2 +1,2 @@
--- What an auditor must believe of document 02's request 2: the rewriting to its end, step by step.
+-- What an auditor must believe of the rewriting to its end (T19 to T25 of the specification).
 pub mod Traces

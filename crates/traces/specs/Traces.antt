@@ -1,4 +1,5 @@
--- The rewriting to its end, step by step (document 02, request 2), and what its two calls answer, for every input.
+-- The rewriting to its end, step by step, and what its two calls answer, for every input (T19 to T25, I20 and I21
+-- of the specification).
 use mathlib.Core.Path.{_≡_}
 use mathlib.Core.Bool.{Bool, false, _||_}
 use mathlib.Core.List.{List, [], _∷_, map}
@@ -20,33 +21,33 @@ use Rattle.traces.specs.declared.ToEnd.the-variants.{Ended, Refused}
 
 -- ---- the rewriting
 
--- a rule that fits, and its place
+-- T19: a rule that fits, and its place
 pub record Use : Type 0 where
   pub place : ℕ
   pub rule : Rule
 
--- "the lowest place where a rule fits", among the t places from p on
+-- T19: the lowest place where a rule fits, among the t places from p on
 unfoldable pub lowestFrom : Kind → ℕ → List ℕ → ℕ → ℕ → Option Use
 lowestFrom k n u p zero = none
 lowestFrom k n u p (suc t) =
     elim (firstFitting (rules k n) u p) [ none ↦ lowestFrom k n u (suc p) t | some r ↦ some (record { place = p; rule = r }) ]
 
--- among all places of the word
+-- T19: among all places of the word
 unfoldable pub lowestUse : Kind → ℕ → List ℕ → Option Use
 lowestUse k n u = lowestFrom k n u 0 (length u)
 
--- a step of the rewriting: "the rule family, the place and the length left", which is the word's length after the step
+-- T20: one step of the rewriting: family, place, and the word's length after the step
 pub record Line : Type 0 where
   pub family : ℕ
   pub place : ℕ
   pub left : ℕ
 
--- the steps in their order, and "the final word"
+-- T19, T21: the steps in their order, and the final word
 pub record Trace : Type 0 where
   pub lines : List Line
   pub final : List ℕ
 
--- "rewrite always at the lowest place where a rule fits, until none fits", but no more than t times
+-- T19: the rewriting, but no more than t steps of it
 unfoldable pub traceWithin : Kind → ℕ → ℕ → List ℕ → Trace
 traceWithin k n zero u = record { lines = []; final = u }
 traceWithin k n (suc t) u = elim (lowestUse k n u) [
@@ -57,31 +58,35 @@ traceWithin k n (suc t) u = elim (lowestUse k n u) [
       record { lines = record { family = s .rule .family; place = s .place; left = length v } ∷ rest .lines; final = rest .final }
 ]
 
--- That many steps are enough for a word of steps: at the end none fits (`trace-ends`), and a greater number gives the same (`trace-enough`).
+-- T19: that many steps are enough for a word of steps: at the end none fits (`trace-ends`), and a greater number
+-- gives the same (`trace-enough`)
 unfoldable pub trace : Kind → ℕ → List ℕ → Trace
 trace k n u = traceWithin k n ((n + 1) ^ length u) u
 
 -- ---- the calls
 
--- "15. One of the three lists has fewer places than the rewriting has steps."
+-- C15
 unfoldable pub tooFewPlaces : ℕ → List ℕ → List ℕ → List ℕ → Bool
 tooFewPlaces steps families places lengths = tooShort steps families || (tooShort steps places || tooShort steps lengths)
 
--- "Three lent lists of numbers are filled"
+-- T20: the first list
 abbrev pub familiesOf : List Line → List ℕ
 familiesOf ls = map (λ (l : Line). l .family) ls
 
+-- T20: the second list
 abbrev pub placesOf : List Line → List ℕ
 placesOf ls = map (λ (l : Line). l .place) ls
 
+-- T20: the third list
 abbrev pub lengthsOf : List Line → List ℕ
 lengthsOf ls = map (λ (l : Line). l .left) ls
 
--- the number and the values of each case of `ToEnd`: its refusal, or with none "the number of steps and the final word's length"
+-- T22, G17: the number and the values of each case of `ToEnd`: its refusal, or with none the steps and the final
+-- length
 unfoldable pub toEndOf : ℕ → ℕ → ℕ → ToEnd
 toEndOf r s l = pick (eqb r 0) (Ended s l) (Refused r)
 
--- the answer, the numbers in the three lists and the bytes of the output afterwards
+-- I20: the answer, the numbers in the three lists and the bytes of the output afterwards
 pub record Traced : Type 0 where
   pub answer : ToEnd
   pub families : List ℕ
@@ -89,8 +94,8 @@ pub record Traced : Type 0 where
   pub lengths : List ℕ
   pub bytes : List ℕ
 
--- refused with q before check 15, or else 15, "checked just before refusal 14", or else 14, or else the lines and the final word are written; "list
--- places past the steps keep what they held"
+-- T20 to T23, C15, C14: refused with q, or else 15, or else 14, or else lists and output are written; places past
+-- the steps keep what they held
 unfoldable pub tracedBy : ℕ → Trace → List ℕ → List ℕ → List ℕ → List ℕ → Traced
 tracedBy q t families places lengths out =
     let steps = length (t .lines) in
@@ -103,29 +108,30 @@ tracedBy q t families places lengths out =
       bytes = written r (t .final) out;
     }
 
--- checks 5 to 8, then as above
+-- I20: checks 5 to 8, then as above
 unfoldable pub rewritingToEnd : ℕ → ℕ → List ℕ → List ℕ → List ℕ → List ℕ → List ℕ → Traced
 rewritingToEnd k n u families places lengths out =
     tracedBy (rankRefusal k n then wordRefusal n u) (trace (kindOf k) n u) families places lengths out
 
--- a call answers a and leaves these in the lists and the output, as the outcome t says
+-- G1: a call answers a and leaves these in the lists and the output, as the outcome t says
 abbrev pub TraceYields : Traced → ToEnd → List ℕ → List ℕ → List ℕ → List ℕ → Type 0
 TraceYields t a families places lengths out =
     (a ≡ t .answer) × (families ≡ t .families) × (places ≡ t .places) × (lengths ≡ t .lengths) × (out ≡ t .bytes)
 
--- how many places each list must have
+-- I21, T25: how many places each list must have
 unfoldable pub numberOfSteps : ℕ → ℕ → List ℕ → Answer
 numberOfSteps k n u = answerOf (rankRefusal k n then wordRefusal n u) (length (trace (kindOf k) n u .lines))
 
 -- ---- what a reader of the lists sees
 
--- at every place below p the single rewrite answers that none fits, with any output
+-- T19: at every place below p one rewrite answers that none fits, with any output
 abbrev pub NoneFitsBelow : ℕ → ℕ → List ℕ → ℕ → Type 0
 NoneFitsBelow k n u p =
     (q : ℕ) → q < p → (before after : List ℕ) (a : Rewrite) → Rewrote k n u q before after a → a ≡ NoneFits
 
--- "Any reader can replay the lists with 01's single rewrite": from the word u, with any outputs that have room, each rewrite at a line's place uses a
--- rule of its family and leaves a word of its length; no rule fits at a lower place; after the last line none fits anywhere and the word is v
+-- T24: from the word u, with any outputs that have room, each rewrite at a line's place uses a rule of its family
+-- and leaves a word of its length; no rule fits at a lower place; after the last line none fits anywhere and the
+-- word is v
 abbrev pub Replays : ℕ → ℕ → List ℕ → List Line → List ℕ → Type 0
 Replays k n u [] v = NowhereFits k n u × (u ≡ v)
 Replays k n u (l ∷ ls) v =
