@@ -42,7 +42,7 @@ fn converted_size(edition: Edition, size: usize, c: usize) -> usize
     }
 }
 
-// Check 18, of the record at byte o. Going to the second edition no record has too many lanes.
+// C18, of the record at byte o. Going to the second edition no record has too many lanes.
 fn has_too_many_lanes(edition: Edition, book: &[u8], o: usize) -> bool
     requires { ⌜ o + countPlace edition ≤ length (now book) ⌝ }
     ensures { λ r. ⌜ r ≡ tooManyLanes edition (now (book .entry)) o ⌝ }
@@ -53,7 +53,7 @@ fn has_too_many_lanes(edition: Edition, book: &[u8], o: usize) -> bool
     }
 }
 
-// Checks 5 to 8, with 17, and 18, of a record by its number.
+// C5 to C8, C17 and C18, of a record by its number.
 fn record_refusal(edition: Edition, book: &[u8], c: usize, number: usize) -> u8
     requires { ⌜ (bookRefusal edition (now book) ≡ 0) × (c ≡ count (now book)) × (number < c) ⌝ }
     ensures { λ r. ⌜ r ≡ recordConversionRefusal edition (now (book .entry)) (offset (now (book .entry)) number) ⌝ }
@@ -68,7 +68,7 @@ fn record_refusal(edition: Edition, book: &[u8], c: usize, number: usize) -> u8
     refusal
 }
 
-// The first refusal of a record, or 0.
+// CO5: the first refusal of a record, or 0.
 fn records_refusal(edition: Edition, book: &[u8], c: usize) -> u8
     requires { ⌜ (bookRefusal edition (now book) ≡ 0) × (c ≡ count (now book)) ⌝ }
     ensures { λ r. ⌜ r ≡ recordsConversionRefusal edition (now (book .entry)) c 0 ⌝ }
@@ -84,7 +84,7 @@ fn records_refusal(edition: Edition, book: &[u8], c: usize) -> u8
     0
 }
 
-// Checks 1 to 3 of the book, each record's in order, 13.
+// C1 to C3 of the book, each record's checks in order, C13.
 fn conversion_refusal(edition: Edition, book: &[u8]) -> u8
     ensures { λ r. ⌜ r ≡ conversionRefusal edition (now (book .entry)) ⌝ }
 {
@@ -176,8 +176,8 @@ fn write_converted(edition: Edition, book: &[u8], c: usize, out: &mut [u8])
     put_two(out, p + 2 * c, c);
 }
 
-// Converting a book of the edition to the other one: the length of the new book, written to the front of `out`; a book of no bytes stays one. Checks 1
-// to 3 of the book, then record by record its 5 to 8, in the second edition with 17 and then 18, then 13 and 14.
+// I29: writes the book in the other edition to the front of `out` and returns its length; a book of no bytes stays
+// one. Checks 1 to 3 of the book, then record by record 5, 6, 17, 7, 8 and 18, then 13 and 14.
 pub fn convert(edition: Edition, book: &[u8], out: &mut [u8]) -> Answer
     ensures { λ r. ⌜ r ≡ converting edition (now (book .entry)) (now (out .entry)) .answer ⌝ }
     ensures { λ _. ⌜ now (out .exit) ≡ converting edition (now (book .entry)) (now (out .entry)) .bytes ⌝ }

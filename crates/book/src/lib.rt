@@ -1,4 +1,5 @@
-// The preset book in its two editions: checks, reading by number, appending, converting. No public function has a `requires`.
+// The preset book in its two editions (section B of the specification): checks, reading by number, appending,
+// converting. No public function has a `requires`.
 mod converting;
 mod numbers;
 pub mod reader;

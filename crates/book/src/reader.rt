@@ -1,5 +1,6 @@
-// An opened book: it keeps its bytes, its edition and what opening them answered, and serves preset calls by number. Each call hands edition and bytes
-// to the call on edition, slice and number, and is right whatever `opened` holds.
+// An opened book (B14, G16): it keeps its bytes, its edition and what opening them answered, and serves preset
+// calls by number. Each call hands edition and bytes to the call on edition, slice and number, and is right
+// whatever `opened` holds.
 use crate::reading::check_book;
 use crate::reading::check_preset;
 use crate::reading::letters;
@@ -16,7 +17,7 @@ pub struct Reader<'a> {
     pub opened: Opened,
 }
 
-// Opening makes checks 1 to 3.
+// I31: opening makes checks 1 to 3.
 pub fn open<'a>(edition: Edition, bytes: &'a [u8]) -> Reader<'a>
     ensures { λ r. ⌜ (r .bytes ≡ bytes .entry) × (r .edition ≡ edition) × (r .opened ≡ checkedBook edition (now (bytes .entry))) ⌝ }
 {
@@ -28,21 +29,21 @@ pub fn open<'a>(edition: Edition, bytes: &'a [u8]) -> Reader<'a>
     }
 }
 
-// Checks 1 to 3, and the number of presets.
+// I31: what I25 answers on the book's bytes.
 pub fn presets<'a>(r: Reader<'a>) -> Opened
     ensures { λ o. ⌜ o ≡ checkedBook (r .entry .edition) (now (r .entry .bytes)) ⌝ }
 {
     check_book(r.edition, r.bytes)
 }
 
-// Checks 1 to 8, in the second edition also 17, and what the preset is.
+// I31: what I26 answers on the book's bytes.
 pub fn preset<'a>(r: Reader<'a>, number: usize) -> Preset
     ensures { λ p. ⌜ p ≡ checkedPreset (r .entry .edition) (now (r .entry .bytes)) number ⌝ }
 {
     check_preset(r.edition, r.bytes, number)
 }
 
-// The letters of a preset, which outlive the reader: a part of the book itself.
+// I31: what I27 hands out, which outlives the reader: a part of the book itself.
 pub fn preset_letters<'a>(r: Reader<'a>, number: usize) -> &'a [u8]
     ensures { λ s. ⌜ now s ≡ lettersOf (r .entry .edition) (now (r .entry .bytes)) number ⌝ }
     ensures { λ s. ⌜ (s .ptr .0 ≡ r .entry .bytes .ptr .0)

@@ -15,10 +15,10 @@ ghost use lib.ListN.{length};
 ghost use Rattle.book_format.specs.Books.{count, endAt, misplaced, bookRefusal};
 ghost use Rattle.book_format.specs.Calls.{checkedBook, checkedRecord, checkedPreset, lettersOf, lettersStart};
 
-// The most bytes of a book.
+// C1, C13: the most bytes of a book.
 pub(crate) const LARGEST: usize = 65535;
 
-// Check 3, of a book with c presets: `due` is where the next record has to begin. Each record is read where its offset
+// C3, of a book with c presets: `due` is where the next record has to begin. Each record is read where its offset
 // says, and a wrong offset is only noted, so that no load waits for the record before it. Nothing behind the trailer's
 // beginning is read as a record.
 fn is_misplaced(edition: Edition, book: &[u8], c: usize) -> bool
@@ -45,7 +45,7 @@ fn is_misplaced(edition: Edition, book: &[u8], c: usize) -> bool
     wrong | (due != trailer)
 }
 
-// Checks 1 to 3, which a book of no bytes passes.
+// C1, C2, C3, which a book of no bytes passes.
 pub(crate) fn book_refusal(edition: Edition, book: &[u8]) -> u8
     ensures { λ r. ⌜ r ≡ bookRefusal edition (now (book .entry)) ⌝ }
 {
@@ -68,7 +68,7 @@ pub(crate) fn book_refusal(edition: Edition, book: &[u8]) -> u8
     0
 }
 
-// Opening: checks 1 to 3, and the number of presets.
+// I25: the number of presets. Checks 1, 2, 3.
 pub fn check_book(edition: Edition, book: &[u8]) -> Opened
     ensures { λ r. ⌜ r ≡ checkedBook edition (now (book .entry)) ⌝ }
 {
@@ -80,7 +80,7 @@ pub fn check_book(edition: Edition, book: &[u8]) -> Opened
     Opened::Presets(c)
 }
 
-// Checks 5 to 8, and 17, of the record at byte o.
+// C5 to C8 and C17 of the record at byte o.
 pub(crate) fn check_record(edition: Edition, book: &[u8], o: usize) -> Preset
     requires { ⌜ length (now book) ≤ 65535 ⌝ }
     requires { ⌜ endAt edition (now book) o ≤ length (now book) ⌝ }
@@ -122,7 +122,8 @@ pub(crate) fn numbered_preset(edition: Edition, book: &[u8], number: usize) -> P
     check_record(edition, book, o)
 }
 
-// Reading a preset: checks 1 to 8, in the second edition also 17 after 6, its kind and rank, and where its letters are.
+// I26: the kind and the rank of a preset, and where its letters are. Checks 1 to 8, in the second edition also 17
+// after 6.
 pub fn check_preset(edition: Edition, book: &[u8], number: usize) -> Preset
     ensures { λ r. ⌜ r ≡ checkedPreset edition (now (book .entry)) number ⌝ }
 {
@@ -137,7 +138,8 @@ pub fn check_preset(edition: Edition, book: &[u8], number: usize) -> Preset
     numbered_preset(edition, book, number)
 }
 
-// The letters of a preset: the part of the book that holds them. For a refused preset an empty part of the book.
+// I27, G10: the letters of a preset, as the part of the book that holds them. For a refused preset an empty part of
+// the book.
 pub fn letters(edition: Edition, book: &[u8], number: usize) -> &[u8]
     ensures { λ r. ⌜ now r ≡ lettersOf edition (now (book .entry)) number ⌝ }
     ensures { λ r. ⌜ (r .ptr .0 ≡ book .entry .ptr .0) × (r .ptr .1 ≡ book .entry .ptr .1 + lettersStart edition (now (book .entry)) number) ⌝ }

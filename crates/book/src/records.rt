@@ -1,4 +1,5 @@
-// What the editions of a book differ in: the place of a record's letter count and of its letters, its lane count, and the ranges of its ranks.
+// What the editions of a book differ in (B6, B7, B12 and B13 of the specification): the place of a record's letter
+// count and of its letters, its lane count, and the ranges of its ranks.
 use book_format::Edition;
 use refusals::rank_refusal;
 ghost use mathlib.Core.Path.{_≡_};
@@ -26,7 +27,7 @@ pub(crate) fn head_size(edition: Edition) -> usize
     count_place(edition) + 2
 }
 
-// The greatest rank of a record.
+// B12, B13: the greatest rank of a record.
 fn greatest(edition: Edition, kind: u8) -> u8
     ensures { λ r. ⌜ r ≡ greatestInBook edition (kindOf kind) ⌝ }
 {
@@ -46,7 +47,7 @@ fn greatest(edition: Edition, kind: u8) -> u8
     }
 }
 
-// Answers 5 where the kind is not 1, 2 or 3, else 6 where the rank is outside the range of a record, else 0.
+// C5, and C6 by the range of a record: the first refusal, or 0.
 pub(crate) fn book_rank_refusal(edition: Edition, kind: u8, rank: u8) -> u8
     ensures { λ r. ⌜ r ≡ bookRankRefusal edition kind rank ⌝ }
 {
@@ -60,7 +61,7 @@ pub(crate) fn book_rank_refusal(edition: Edition, kind: u8, rank: u8) -> u8
     0
 }
 
-// Check 21.
+// C21.
 pub(crate) fn is_retired(kind: u8, rank: u8) -> bool
     ensures { λ r. ⌜ r ≡ retired kind rank ⌝ }
 {
@@ -81,7 +82,7 @@ fn lanes(kind: u8, rank: u8) -> usize
     n
 }
 
-// Check 17, of the record at byte o. The first edition has no lane count that could be wrong.
+// C17, of the record at byte o. The first edition has no lane count that could be wrong.
 pub(crate) fn has_wrong_lanes(edition: Edition, book: &[u8], o: usize) -> bool
     requires { ⌜ o + countPlace edition ≤ length (now book) ⌝ }
     requires { ⌜ length (now book) ≤ 65535 ⌝ }
@@ -97,7 +98,7 @@ pub(crate) fn has_wrong_lanes(edition: Edition, book: &[u8], o: usize) -> bool
     }
 }
 
-// The lane count of a kind and a rank written at p, where the edition has one.
+// B21: the lane count of a kind and a rank written at p, if the edition has one.
 pub(crate) fn put_lanes(edition: Edition, kind: u8, rank: u8, out: &mut [u8], p: usize)
     requires { ⌜ (rank ≤ 64) × (p < length (now out)) ⌝ }
     ensures { λ _. ⌜ now (out .exit) ≡ sets (now (out .entry)) p (laneByte edition (kinds.lanes (kindOf kind) rank)) ⌝ }

@@ -69,8 +69,9 @@ fn smaller_of(a: usize, b: usize) -> usize
     b
 }
 
-// Reading the presets from number `first` on, as many as there are and have room: for each its refusal or 0, its kind, its rank, where its letters
-// begin and how many they are. Checks 1 to 3, check 4 of the first, and 14 where not one has room. Answers how many presets were written.
+// I30: reads the presets from number `first` on, as many as there are and have room: for each its refusal or 0, its
+// kind, its rank, where its letters begin and how many they are. Returns how many presets were written. Checks 1 to
+// 3, 4 of the first, and 14 if not one has room.
 pub fn read_presets(edition: Edition, book: &[u8], first: usize, fields: &mut [u64]) -> Answer
     ensures { λ r. ⌜ (r ≡ readingPresets edition (now (book .entry)) first (now (fields .entry)) .answer)
         × (now (fields .exit) ≡ readingPresets edition (now (book .entry)) first (now (fields .entry)) .bytes) ⌝ }

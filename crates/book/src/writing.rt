@@ -89,7 +89,7 @@ fn write_appended(edition: Edition, book: &[u8], kind: u8, rank: u8, word: &[u8]
     write_trailer(book, trailer, c, out, trailer + head + word.len());
 }
 
-// Checks 1 to 3 of the book, 5 to 8 of the preset, 21, 13.
+// C1 to C3 of the book, C5 to C8 and C21 of the preset, C13.
 fn append_refusal(edition: Edition, book: &[u8], kind: u8, rank: u8, word: &[u8]) -> u8
     ensures { λ r. ⌜ r ≡ appendRefusal edition (now (book .entry)) kind rank (now (word .entry)) ⌝ }
 {
@@ -115,7 +115,8 @@ fn append_refusal(edition: Edition, book: &[u8], kind: u8, rank: u8, word: &[u8]
     0
 }
 
-// Appending a preset, with check 14: the length of the new book, written to the front of `out`.
+// I28: writes the book with the preset appended to the front of `out` and returns its length. Checks 1 to 3 of the
+// book, 5 to 8 and 21 of the preset, 13, 14.
 pub fn append(
     edition: Edition,
     book: &[u8],

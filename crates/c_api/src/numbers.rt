@@ -10,7 +10,7 @@ ghost use Rattle.coxeter.specs.declared.Answer.the-variants.{Length};
 ghost use Rattle.coxeter.specs.declared.Counted.the-variants.{Crossings};
 ghost use Rattle.c_api.specs.Calls.{refused, numberOf, crossingNumbers, listed};
 
-// A kind or a rank as the calls below take it. What is no byte becomes 0, which is no kind and no rank either.
+// IC5: a kind or a rank as the calls below take it. What is no byte becomes 0, which is no kind and no rank either.
 pub(crate) fn byte(x: u32) -> u8
     ensures { λ r. ⌜ r ≡ pick (ltb 255 x) 0 x ⌝ }
 {
@@ -20,7 +20,7 @@ pub(crate) fn byte(x: u32) -> u8
     x as u8
 }
 
-// The number of a refusal.
+// IC2: the number of a refusal.
 pub(crate) fn refusal_number(k: u8) -> i64
     ensures { λ r. ⌜ r ≡ refused k ⌝ }
 {

@@ -1,4 +1,5 @@
-// Calls on a preset book of the first edition, and on one of the second. What both do is one function over the edition.
+// Calls on a preset book of the first edition, and on one of the second (IC7 of the specification). What both do is
+// one function over the edition.
 use crate::numbers::byte;
 use crate::numbers::number;
 use crate::numbers::refusal_number;
@@ -12,7 +13,7 @@ ghost use Rattle.book_format.specs.Calls.{checkedBook, checkedPreset, readingPr
 ghost use Rattle.book_format.specs.Conversion.{converting};
 ghost use Rattle.c_api.specs.Calls.{numbered, openedNumber, presetNumbers, listed};
 
-// Opening a book. Answers the number of its presets.
+// I25: the number of presets of a book.
 fn check_book(edition: Edition, book: &[u8]) -> i64
     ensures { λ r. ⌜ r ≡ openedNumber (checkedBook edition (now (book .entry))) ⌝ }
 {
@@ -22,8 +23,8 @@ fn check_book(edition: Edition, book: &[u8]) -> i64
     }
 }
 
-// Reading a preset by its number, from 0: its kind, its rank, the offset of its letters in the book and their count go to the first four places
-// of `fields`. Answers 4.
+// I26: kind, rank, the offset of the letters in the book and their count go to the first four places of `fields`.
+// Returns 4.
 fn check_preset(edition: Edition, book: &[u8], number: usize, fields: &mut [u64]) -> i64
     ensures { λ r. ⌜ (r, now (fields .exit)) ≡ listed (presetNumbers (checkedPreset edition (now (book .entry)) number)) (now (fields .entry)) ⌝ }
 {
@@ -47,30 +48,30 @@ fn check_preset(edition: Edition, book: &[u8], number: usize, fields: &mut [u64]
     }
 }
 
-// Reading a run of presets from number `first` on, with one walk over the book: five numbers each, the refusal (5 to 8 or 17, or 0), kind, rank, the
-// offset of the letters in the book and their count, the last four 0 where it is refused; as many as there are and have room. Answers how many.
+// I30: a run of presets from number `first` on, with one walk over the book: five numbers each, the refusal (5 to 8
+// or 17, or 0), kind, rank, the offset of the letters in the book and their count, the last four 0 if it is
+// refused; as many as there are and have room. Returns how many.
 fn read_presets(edition: Edition, book: &[u8], first: usize, fields: &mut [u64]) -> i64
     ensures { λ r. ⌜ (r, now (fields .exit)) ≡ numbered (readingPresets edition (now (book .entry)) first (now (fields .entry))) ⌝ }
 {
     number(book::read_presets(edition, book, first, fields))
 }
 
-// Appending a preset: the whole new book, written to the front of `out`. Answers its length.
+// I28: the whole new book, written to the front of `out`. Returns its length.
 fn append(edition: Edition, book: &[u8], kind: u32, rank: u32, word: &[u8], out: &mut [u8]) -> i64
     ensures { λ r. ⌜ (r, now (out .exit)) ≡ numbered (appending edition (now (book .entry)) kind rank (now (word .entry)) (now (out .entry))) ⌝ }
 {
     number(book::append(edition, book, byte(kind), byte(rank), word, out))
 }
 
-// Converting a book of the edition to the other one: the whole new book, written to the front of `out`. Answers its length.
+// I29: the whole book in the other edition, written to the front of `out`. Returns its length.
 fn convert(edition: Edition, book: &[u8], out: &mut [u8]) -> i64
     ensures { λ r. ⌜ (r, now (out .exit)) ≡ numbered (converting edition (now (book .entry)) (now (out .entry))) ⌝ }
 {
     number(book::convert(edition, book, out))
 }
 
-// The first edition.
-
+// I25, of the first edition.
 #[no_mangle]
 pub extern "C" fn winnathey_book_check(book: &[u8]) -> i64
     ensures { λ r. ⌜ r ≡ openedNumber (checkedBook First (now (book .entry))) ⌝ }
@@ -78,6 +79,7 @@ pub extern "C" fn winnathey_book_check(book: &[u8]) -> i64
     check_book(Edition::First, book)
 }
 
+// I26, of the first edition.
 #[no_mangle]
 pub extern "C" fn winnathey_preset(book: &[u8], number: usize, fields: &mut [u64]) -> i64
     ensures { λ r. ⌜ (r, now (fields .exit)) ≡ listed (presetNumbers (checkedPreset First (now (book .entry)) number)) (now (fields .entry)) ⌝ }
@@ -85,6 +87,7 @@ pub extern "C" fn winnathey_preset(book: &[u8], number: usize, fields: &mut [u64
     check_preset(Edition::First, book, number, fields)
 }
 
+// I30, of the first edition.
 #[no_mangle]
 pub extern "C" fn winnathey_presets(book: &[u8], first: usize, fields: &mut [u64]) -> i64
     ensures { λ r. ⌜ (r, now (fields .exit)) ≡ numbered (readingPresets First (now (book .entry)) first (now (fields .entry))) ⌝ }
@@ -92,6 +95,7 @@ pub extern "C" fn winnathey_presets(book: &[u8], first: usize, fields: &mut [u64
     read_presets(Edition::First, book, first, fields)
 }
 
+// I28, of the first edition.
 #[no_mangle]
 pub extern "C" fn winnathey_append(
     book: &[u8],
@@ -105,8 +109,7 @@ pub extern "C" fn winnathey_append(
     append(Edition::First, book, kind, rank, word, out)
 }
 
-// The second edition.
-
+// I25, of the second edition.
 #[no_mangle]
 pub extern "C" fn winnathey_second_book_check(book: &[u8]) -> i64
     ensures { λ r. ⌜ r ≡ openedNumber (checkedBook Second (now (book .entry))) ⌝ }
@@ -114,6 +117,7 @@ pub extern "C" fn winnathey_second_book_check(book: &[u8]) -> i64
     check_book(Edition::Second, book)
 }
 
+// I26, of the second edition.
 #[no_mangle]
 pub extern "C" fn winnathey_second_preset(book: &[u8], number: usize, fields: &mut [u64]) -> i64
     ensures { λ r. ⌜ (r, now (fields .exit)) ≡ listed (presetNumbers (checkedPreset Second (now (book .entry)) number)) (now (fields .entry)) ⌝ }
@@ -121,6 +125,7 @@ pub extern "C" fn winnathey_second_preset(book: &[u8], number: usize, fields: &m
     check_preset(Edition::Second, book, number, fields)
 }
 
+// I30, of the second edition.
 #[no_mangle]
 pub extern "C" fn winnathey_second_presets(book: &[u8], first: usize, fields: &mut [u64]) -> i64
     ensures { λ r. ⌜ (r, now (fields .exit)) ≡ numbered (readingPresets Second (now (book .entry)) first (now (fields .entry))) ⌝ }
@@ -128,6 +133,7 @@ pub extern "C" fn winnathey_second_presets(book: &[u8], first: usize, fields: &m
     read_presets(Edition::Second, book, first, fields)
 }
 
+// I28, of the second edition.
 #[no_mangle]
 pub extern "C" fn winnathey_second_append(
     book: &[u8],
@@ -141,8 +147,7 @@ pub extern "C" fn winnathey_second_append(
     append(Edition::Second, book, kind, rank, word, out)
 }
 
-// Between the editions.
-
+// I29, of a book of the first edition.
 #[no_mangle]
 pub extern "C" fn winnathey_to_second(book: &[u8], out: &mut [u8]) -> i64
     ensures { λ r. ⌜ (r, now (out .exit)) ≡ numbered (converting First (now (book .entry)) (now (out .entry))) ⌝ }
@@ -150,6 +155,7 @@ pub extern "C" fn winnathey_to_second(book: &[u8], out: &mut [u8]) -> i64
     convert(Edition::First, book, out)
 }
 
+// I29, of a book of the second edition.
 #[no_mangle]
 pub extern "C" fn winnathey_to_first(book: &[u8], out: &mut [u8]) -> i64
     ensures { λ r. ⌜ (r, now (out .exit)) ≡ numbered (converting Second (now (book .entry)) (now (out .entry))) ⌝ }

@@ -24,7 +24,8 @@ fn refused_rule(kind: u8, rank: u8, word: &[u8], place: usize, out: &mut [u8]) -
     }
 }
 
-// One rewrite with its rule, of a kind and a rank that are bytes. Both outputs are checked before either is written.
+// CO9, IC3: one rewrite with its rule, of a kind and a rank that are bytes. Both outputs are checked before either
+// is written.
 fn rewrite(kind: u8, rank: u8, word: &[u8], place: usize, out: &mut [u8], rule: &mut [u8]) -> i64
     ensures { λ r. ⌜ (r, (now (out .exit), now (rule .exit))) ≡ rewriting kind rank (now (word .entry)) place (now (out .entry)) (now (rule .entry)) ⌝ }
 {
@@ -48,8 +49,9 @@ fn rewrite(kind: u8, rank: u8, word: &[u8], place: usize, out: &mut [u8], rule: 
     }
 }
 
-// One rewrite of the word at the place, which counts from 0. The new word goes to the front of `out`, and the rule's family, i and j to the first
-// three bytes of `rule`. Answers the new length, or -100 if none fits. Refusals 5 to 8, 12, and 14, which concerns both outputs.
+// I19, IC4: one rewrite of the word at the place, which counts from 0. The new word goes to the front of `out`, and
+// the rule's family, i and j to the first three bytes of `rule`. Returns the new length, or -100 if none fits.
+// Refusals 5 to 8, 12, and 14, which concerns both outputs.
 #[no_mangle]
 pub extern "C" fn winnathey_rewrite(
     kind: u32,

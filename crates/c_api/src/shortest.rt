@@ -10,8 +10,9 @@ ghost use Rattle.exchange.specs.BetweenCalls.{betweenWindows};
 ghost use Rattle.c_api.specs.Calls.{numbered};
 ghost use Rattle.c_api.specs.Shortest.{FallbackNumbered};
 
-// Whether a simpler word's window can be had by removing letters from the normal form of the present word. The places of letters to keep, which count
-// from 0 and rise, go to the front of `places`. Answers how many are kept, or -101 where the verdict is no. Refusals 5 to 8, and 14 only with a yes.
+// I18, IC4: whether a simpler word's window can be had by removing letters from the normal form of the present
+// word. The places of letters to keep, which count from 0 and rise, go to the front of `places`. Returns how many
+// are kept, or -101 if the verdict is no. Refusals 5 to 8, and 14 only with a yes.
 #[no_mangle]
 pub extern "C" fn winnathey_fallback(
     kind: u32,
@@ -29,8 +30,9 @@ pub extern "C" fn winnathey_fallback(
     }
 }
 
-// The normal form of the word over the allowed steps that leads from one window to another, written to the front of `out`. Bit 0 of `allowed` stands for
-// step 1. Answers its length. Refusals 5 and 6, 16, 9 to 11 for each window, 19 where no word over the allowed steps leads there, 14.
+// I23: the normal form of the word over the allowed steps that leads from one window to another, written to the
+// front of `out`. Bit 0 of `allowed` stands for step 1. Returns its length. Refusals 5 and 6, 16, 9 to 11 for each
+// window, 19 if no word over the allowed steps leads there, 14.
 #[no_mangle]
 pub extern "C" fn winnathey_between(
     kind: u32,

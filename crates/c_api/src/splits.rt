@@ -29,7 +29,8 @@ fn refused_lengths(
     }
 }
 
-// A split with its lengths, of a kind and a rank that are bytes. Every output is checked before any is written.
+// CO9, IC3: a split with its lengths, of a kind and a rank that are bytes. Every output is checked before any is
+// written.
 fn split(
     kind: u8,
     rank: u8,
@@ -58,9 +59,10 @@ fn split(
     }
 }
 
-// A word split by the set of allowed steps, bit 0 for step 1: the first word is over allowed steps, the second's window has no shortest word that
-// begins with one. Each is a normal form, written to the front of its output, and the length of each goes to the first two places of `lengths`.
-// Answers the sum of the two lengths. Refusals 5, 6, 16, 7 and 8, then 14 for any of the three.
+// I22: a word split by the set of allowed steps, bit 0 for step 1: the first word is over allowed steps, the
+// second's window has no shortest word that begins with one. Each is a normal form, written to the front of its
+// output, and the length of each goes to the first two places of `lengths`. Returns the sum of the two lengths.
+// Refusals 5, 6, 16, 7 and 8, then 14 for any of the three.
 #[no_mangle]
 pub extern "C" fn winnathey_split(
     kind: u32,

@@ -35,7 +35,8 @@ fn refused_lengths(
     }
 }
 
-// A table with its lengths, of a kind and a rank that are bytes. Every output is checked before any is written.
+// CO9, IC3: a table with its lengths, of a kind and a rank that are bytes. Every output is checked before any is
+// written.
 fn table(
     kind: u8,
     rank: u8,
@@ -65,9 +66,10 @@ fn table(
     }
 }
 
-// How many windows of a kind and a rank have each length, from 0 to the greatest, written to the front of `counts`; the longest window, written to
-// that of `window`; its normal form, written to that of `form`. The length of each goes to the first three places of `lengths`. Answers the greatest
-// length. Refusals 5, 6 and 20, then 14 for any of the four.
+// I24: how many windows of a kind and a rank have each length, from 0 to the greatest, written to the front of
+// `counts`; the longest window, written to that of `window`; its normal form, written to that of `form`. The length
+// of each goes to the first three places of `lengths`. Returns the greatest length. Refusals 5, 6 and 20, then 14
+// for any of the four.
 #[no_mangle]
 pub extern "C" fn winnathey_delay_table(
     kind: u32,

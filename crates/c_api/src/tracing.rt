@@ -32,8 +32,8 @@ fn counted(answer: Answer) -> i64
     }
 }
 
-// How many steps `winnathey_rewrite_to_end` takes: so many places each of its lists must have. For a word of L letters that is at most L (L - 1) / 2.
-// Refusals 5 to 8.
+// I21: how many steps `winnathey_rewrite_to_end` takes: so many places each of its lists must have. For a word of L
+// letters that is at most L (L - 1) / 2 (T25). Refusals 5 to 8.
 #[no_mangle]
 pub extern "C" fn winnathey_rewrite_steps(kind: u32, rank: u32, word: &[u8]) -> i64
     ensures { λ r. ⌜ r ≡ numberOf (numberOfSteps kind rank (now (word .entry))) ⌝ }
@@ -70,7 +70,8 @@ fn refused_written(
     }
 }
 
-// A rewriting to its end with the final word's length, of a kind and a rank that are bytes. Every output is checked before any is written.
+// CO9, IC3: a rewriting to its end with the final word's length, of a kind and a rank that are bytes. Every output
+// is checked before any is written.
 fn to_end(
     kind: u8,
     rank: u8,
@@ -97,9 +98,10 @@ fn to_end(
     }
 }
 
-// Rewrites the word always at the lowest place where a rule fits, until none fits. The family, the place and the length left of each step go to the
-// fronts of the three lists, the final word, which is the normal form, to that of `out`, and its length to the first place of `written`. Answers the
-// number of steps. Refusals 5 to 8, 15 for a list with too few places, and 14 for `out` or `written`.
+// I20: rewrites the word always at the lowest place where a rule fits, until none fits. The family, the place and
+// the length left of each step go to the fronts of the three lists, the final word, which is the normal form, to
+// that of `out`, and its length to the first place of `written`. Returns the number of steps. Refusals 5 to 8, 15
+// for a list with too few places, and 14 for `out` or `written`.
 #[no_mangle]
 pub extern "C" fn winnathey_rewrite_to_end(
     kind: u32,

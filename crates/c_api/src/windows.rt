@@ -6,7 +6,7 @@ ghost use mathlib.Core.Path.{_≡_};
 ghost use Rattle.coxeter.specs.Calls.{productOfWindows, inverseOfWindow, normalFormOfWindow, lengthOfWindow, crossingsOfWindow};
 ghost use Rattle.c_api.specs.Calls.{numbered, numberOf, crossingNumbers, listed};
 
-// The normal form of a window, written to the front of `out`. Answers its length.
+// I5: the normal form of a window, written to the front of `out`. Returns its length.
 #[no_mangle]
 pub extern "C" fn winnathey_normal_form_of_window(
     kind: u32,
@@ -19,7 +19,7 @@ pub extern "C" fn winnathey_normal_form_of_window(
     number(window::normal_form_of_window(byte(kind), byte(rank), window, out))
 }
 
-// The product of two windows of one kind and rank, written to the front of `out`. Answers its length.
+// I9: the product of two windows of one kind and rank, written to the front of `out`. Returns its length.
 #[no_mangle]
 pub extern "C" fn winnathey_product_of_windows(
     kind: u32,
@@ -33,7 +33,7 @@ pub extern "C" fn winnathey_product_of_windows(
     number(window::product_of_windows(byte(kind), byte(rank), first, second, out))
 }
 
-// The inverse of a window, written to the front of `out`. Answers its length.
+// I10: the inverse of a window, written to the front of `out`. Returns its length.
 #[no_mangle]
 pub extern "C" fn winnathey_inverse_of_window(
     kind: u32,
@@ -46,7 +46,7 @@ pub extern "C" fn winnathey_inverse_of_window(
     number(window::inverse_of_window(byte(kind), byte(rank), window, out))
 }
 
-// The length of a window's normal form.
+// I12: the length of a window's normal form.
 #[no_mangle]
 pub extern "C" fn winnathey_length_of_window(kind: u32, rank: u32, window: &[i8]) -> i64
     ensures { λ r. ⌜ r ≡ numberOf (lengthOfWindow kind rank (now (window .entry))) ⌝ }
@@ -54,8 +54,8 @@ pub extern "C" fn winnathey_length_of_window(kind: u32, rank: u32, window: &[i8]
     number(window::length_of_window(byte(kind), byte(rank), window))
 }
 
-// The length of a window's normal form as its three counts: inversions, negative sum pairs and negative entries go to the first three
-// places of `counts`. Answers their total.
+// I14: the length of a window's normal form as its three counts: inversions, negative sum pairs and negative
+// entries go to the first three places of `counts`. Returns their total.
 #[no_mangle]
 pub extern "C" fn winnathey_crossings_of_window(
     kind: u32,

@@ -10,7 +10,7 @@ ghost use Rattle.coxeter.specs.Dictionary.{shortlex};
 ghost use Rattle.coxeter.specs.Calls.{windowOfWord, normalFormOfWord, productOfWords, inverseOfWord, lengthOfWord, crossingsOfWord, presetsEqual, handsBack, choice};
 ghost use Rattle.c_api.specs.Calls.{numbered, numberOf, verdictNumber, choiceNumber, crossingNumbers, listed};
 
-// The window of a word, written to the front of `out`. Answers the number of its entries.
+// I4: the window of a word, written to the front of `out`. Returns the number of its entries.
 #[no_mangle]
 pub extern "C" fn winnathey_window_of_word(kind: u32, rank: u32, word: &[u8], out: &mut [i8]) -> i64
     ensures { λ r. ⌜ (r, now (out .exit)) ≡ numbered (windowOfWord kind rank (now (word .entry)) (now (out .entry))) ⌝ }
@@ -18,7 +18,7 @@ pub extern "C" fn winnathey_window_of_word(kind: u32, rank: u32, word: &[u8], ou
     number(window::window_of_word(byte(kind), byte(rank), word, out))
 }
 
-// The normal form of a word, written to the front of `out`. Answers its length.
+// I6: the normal form of a word, written to the front of `out`. Returns its length.
 #[no_mangle]
 pub extern "C" fn winnathey_normal_form_of_word(
     kind: u32,
@@ -31,7 +31,8 @@ pub extern "C" fn winnathey_normal_form_of_word(
     number(window::normal_form_of_word(byte(kind), byte(rank), word, out))
 }
 
-// The product of two words of one kind and rank as a normal form, written to the front of `out`. Answers its length.
+// I7: the product of two words of one kind and rank as a normal form, written to the front of `out`. Returns its
+// length.
 #[no_mangle]
 pub extern "C" fn winnathey_product_of_words(
     kind: u32,
@@ -45,7 +46,7 @@ pub extern "C" fn winnathey_product_of_words(
     number(window::product_of_words(byte(kind), byte(rank), first, second, out))
 }
 
-// The inverse of a word as a normal form, written to the front of `out`. Answers its length.
+// I8: the inverse of a word as a normal form, written to the front of `out`. Returns its length.
 #[no_mangle]
 pub extern "C" fn winnathey_inverse_of_word(
     kind: u32,
@@ -58,7 +59,7 @@ pub extern "C" fn winnathey_inverse_of_word(
     number(window::inverse_of_word(byte(kind), byte(rank), word, out))
 }
 
-// The length of a word's normal form.
+// I11: the length of a word's normal form.
 #[no_mangle]
 pub extern "C" fn winnathey_length_of_word(kind: u32, rank: u32, word: &[u8]) -> i64
     ensures { λ r. ⌜ r ≡ numberOf (lengthOfWord kind rank (now (word .entry))) ⌝ }
@@ -66,8 +67,8 @@ pub extern "C" fn winnathey_length_of_word(kind: u32, rank: u32, word: &[u8]) ->
     number(window::length_of_word(byte(kind), byte(rank), word))
 }
 
-// The length of a word's normal form as its three counts: inversions, negative sum pairs and negative entries go to the first three
-// places of `counts`. Answers their total.
+// I13: the length of a word's normal form as its three counts: inversions, negative sum pairs and negative entries
+// go to the first three places of `counts`. Returns their total.
 #[no_mangle]
 pub extern "C" fn winnathey_crossings_of_word(
     kind: u32,
@@ -83,7 +84,7 @@ pub extern "C" fn winnathey_crossings_of_word(
     )
 }
 
-// Whether two presets show the same window, whatever their kinds and ranks: 1 is yes, 0 is no.
+// I15: whether two presets show the same window, whatever their kinds and ranks: 1 is yes, 0 is no.
 #[no_mangle]
 pub extern "C" fn winnathey_same(
     kind1: u32,
@@ -109,7 +110,8 @@ pub extern "C" fn winnathey_same(
     }
 }
 
-// The better of two words of one kind and rank: 1 is the first, 2 the second. 0 where the windows differ or a check refuses.
+// I17: the better of two words of one kind and rank: 1 is the first, 2 the second. 0 if the windows differ or a
+// check refuses.
 #[no_mangle]
 pub extern "C" fn winnathey_better(kind: u32, rank: u32, first: &[u8], second: &[u8]) -> i64
     ensures { λ r. ⌜ r ≡ choiceNumber (choice (handsBack kind rank (now (first .entry)) (now (second .entry))) (shortlex (now (second .entry)) (now (first .entry)))) ⌝ }

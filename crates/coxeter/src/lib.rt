@@ -1,26 +1,26 @@
 // Words and windows of the Coxeter groups of kinds A, B and D: definitions in specs/, laws in proofs/, and the answers of the calls on them. No function.
 
-// The answer of a call that writes, or that measures a length: the length, or the refusal's number.
+// I1: the answer of a call that writes, or that measures a length: the length, or the refusal.
 pub enum Answer {
     Length(usize),
     Refused(u8),
 }
 
-// An equality verdict, or the refusal's number.
+// V1: an equality verdict, or the refusal.
 pub enum Verdict {
     Yes,
     No,
     Refused(u8),
 }
 
-// Which of two words is the better one.
+// I17: which of two words is the better one.
 pub enum Choice {
     First,
     Second,
     Neither,
 }
 
-// A length as its three counts, or the refusal's number.
+// L2, L3, L4: a length as its three counts, or the refusal.
 pub enum Counted {
     Crossings {
         inversions: usize,

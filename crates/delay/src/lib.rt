@@ -15,9 +15,9 @@ use longest::write_form;
 use longest::write_longest;
 ghost use Rattle.distribution.specs.Calls.{TableYields, delayTable};
 
-// Writes to the front of `counts` how many windows have the length 0, 1, .. up to the greatest, to the front of `entries` the longest window, to that
-// of `letters` its normal form, and answers how many numbers, entries and letters that is. Refuses with 5 or 6, then 20 where the rank has no table,
-// then 14 where one of the three is too short; all three are then left as they were.
+// I24: writes how many windows have the length 0, 1, .. up to the greatest to the front of `counts`, the longest
+// window to that of `entries` and its normal form to that of `letters`, and returns how many numbers, entries and
+// letters that is. Checks 5, 6, 20, and 14 of all three before any is written.
 pub fn delay_table(
     kind: u8,
     rank: u8,

@@ -1,4 +1,5 @@
-// Sets of allowed steps in a 64-bit number, one bit a step, bit 0 for step 1: a bit is asked for, and the bits above the rank are checked.
+// Sets of allowed steps in a 64-bit number, one bit a step, bit 0 for step 1 (S1 of the specification): a bit is
+// asked for, and the bits above the rank are checked.
 use refusals::rank_refusal;
 ghost use mathlib.Core.Path.{_≡_};
 ghost use Prim.Native.Nat.{_≤_};
@@ -12,7 +13,7 @@ pub(crate) fn is_allowed(allowed: u64, s: usize) -> bool
     (allowed >> (s - 1)) % 2 == 1
 }
 
-// Checks 5, 6 and 16. Answers the first number that refuses, or 0. At rank 64 every bit is a step, and no shift by 64 is made.
+// C5, C6, C16: the first refusal, or 0. At rank 64 every bit is a step, and no shift by 64 is made.
 pub(crate) fn set_refusal(kind: u8, rank: u8, allowed: u64) -> u8
     ensures { λ r. ⌜ r ≡ setRefusal kind rank allowed ⌝ }
 {

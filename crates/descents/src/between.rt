@@ -70,10 +70,9 @@ fn write_between(
     write_allowed(allowed, &form[..l], out)
 }
 
-// Writes to the front of `out` the normal form of the word over allowed steps that leads from one window to another, and answers its length: of all
-// words over those steps, of any length, that lead there, a shortest, and of those the first in the dictionary. Bit 0 of `allowed` stands for step 1.
-// Refuses with 5 or 6, then 16, then 9 to 11 for `from`, then 9 to 11 for `to`, then 19 where no word over the allowed steps leads there, then 14
-// where `out` is shorter than the word; `out` is then left as it was.
+// I23: writes the normal form of the word over allowed steps that leads from one window to the other, and returns
+// its length; bit 0 of `allowed` stands for step 1. Checks 5, 6 and 16, then 9 to 11 of `from`, then of `to`, 19 if
+// no word over the allowed steps leads there, 14.
 pub fn between_windows(
     kind: u8,
     rank: u8,

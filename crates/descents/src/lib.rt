@@ -1,7 +1,8 @@
-// Calls on shortest words: they go by the steps that make a window shorter, which the field calls its descents.
+// Calls on shortest words (I18, I22 and I23 of the specification): they go by the steps that make a window shorter,
+// which the field calls its descents.
 //
-// No public function has a `requires`: every input is checked in document 01's order, and what a call answers and writes is a definition of
-// exchange/specs for every input, refused ones included.
+// No public function has a `requires`: every input is checked in the order of CO2, and what a call returns and
+// writes is a definition of exchange/specs for every input, refused ones included.
 mod allowed;
 mod between;
 mod splitting;
@@ -48,9 +49,9 @@ fn settle_words(kind: u8, rank: u8, present: &[u8], simpler: &[u8], places: &mut
     settle(kind, rank, &mut form[..l], &mut target[..m], places)
 }
 
-// Whether the simpler word's window can be had by removing letters from the normal form of the present word. With a yes the places of letters to keep
-// are written to the front of `places`, rising, and their number is the length of the simpler window; a no writes nothing. Refuses with 5 or 6, then 7
-// or 8 for the present word, then 7 or 8 for the simpler one, then, only with a yes, 14 where `places` is too short; `places` is then left as it was.
+// I18: whether the simpler word's window can be had by removing letters from the normal form of the present word.
+// With a yes the places of letters to keep are written to the front of `places`, rising; a no writes nothing.
+// Checks 5 and 6, then 7 and 8 of the present word, then of the simpler one, and only with a yes 14.
 pub fn fallback_places(
     kind: u8,
     rank: u8,
@@ -67,7 +68,7 @@ pub fn fallback_places(
     settle_words(kind, rank, present, simpler, places)
 }
 
-// Checks 5, 6 and 16, then 7 and 8. Answers the first number that refuses, or 0.
+// C5, C6, C16, C7, C8, in this order: the first refusal, or 0.
 fn split_refusal(kind: u8, rank: u8, allowed: u64, word: &[u8]) -> u8
     ensures { λ r. ⌜ r ≡ (setRefusal kind rank allowed then wordRefusal rank (now (word .entry))) ⌝ }
 {
@@ -78,10 +79,9 @@ fn split_refusal(kind: u8, rank: u8, allowed: u64, word: &[u8]) -> u8
     preset_refusal(kind, rank, word)
 }
 
-// Splits a word by a set of allowed steps, one bit a step, bit 0 for step 1: the first word is over allowed steps, no shortest word of the second's
-// window begins with one, and their windows' product is the word's window. Writes each, a normal form, to the front of its output, and answers the
-// length of each; the lengths add up to the length of the word's window. Refuses with 5 or 6, then 16 where a bit stands for a step above the rank,
-// then 7 or 8, then 14 where an output is shorter than its word; both outputs are then left as they were.
+// I22: splits a word by the set `allowed`, bit 0 for step 1: a first word over allowed steps, then one whose window
+// has no shortest word that begins with one. Writes each, a normal form, to the front of its output and returns
+// both lengths. Checks 5, 6, 16, 7, 8, and 14 of both outputs before either is written.
 pub fn split_word(
     kind: u8,
     rank: u8,

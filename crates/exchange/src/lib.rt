@@ -1,13 +1,13 @@
 // Shortest words and what steps do to them: definitions in specs/, laws in proofs/, and the answers of the calls on them. No function.
 
-// A fallback verdict: how many places are kept, or no, or the refusal's number.
+// I18: how many places are kept, or no, or the refusal.
 pub enum Fallback {
     Kept(usize),
     No,
     Refused(u8),
 }
 
-// A preset split by allowed steps: the lengths of the two words, or the refusal's number.
+// I22: the lengths of the two words of a split, or the refusal.
 pub enum Split {
     Words { first: usize, second: usize },
     Refused(u8),

@@ -1,4 +1,5 @@
-// The listing of a book (document 01, "Examples"), piece by piece into a lent buffer. No public function has a `requires`.
+// The listing of a book (P3 to P9 and I32 of the specification), piece by piece into a lent buffer. No public
+// function has a `requires`.
 mod lines;
 mod numbers;
 mod pieces;

@@ -50,7 +50,7 @@ pub(crate) fn put_letters(out: &mut [u8], at: usize, word: &[u8]) -> usize
     r
 }
 
-// An entry after one space. No byte is negated before its range is known.
+// An entry after one space. No byte is negated before its range is known (Q10).
 fn put_entry(out: &mut [u8], at: usize, e: i8) -> usize
     requires { ⌜ at + length (text.entry e) ≤ length (now out) ⌝ }
     ensures { λ r. ⌜ Stored (now (out .entry)) at (text.entry e) (now (out .exit)) r ⌝ }

@@ -130,8 +130,9 @@ fn put_nth(
     put_preset(book, i - 1, answer, out)
 }
 
-// The next piece of the listing of a book, from line `first` on: as many lines as fit whole in the buffer, at its front. Line 0 is the first, line
-// i + 1 that of preset i. Answers the line after the piece, where it ends, and how many lines are left. A buffer of 16,896 bytes has room for any line.
+// I32: the next piece of the listing of a book, from line `first` on: as many lines as fit whole in the buffer, at
+// its front. Line 0 is the first, line i + 1 that of preset i. Returns the line after the piece, where it ends, and
+// how many lines are left. A buffer of 16,896 bytes has room for any line.
 pub fn next_piece(edition: Edition, book: &[u8], first: usize, out: &mut [u8]) -> Piece
     ensures { λ r. ⌜ (r ≡ nextPiece edition (now (book .entry)) first (now (out .entry)) .answer)
         × (now (out .exit) ≡ nextPiece edition (now (book .entry)) first (now (out .entry)) .bytes) ⌝ }

@@ -13,7 +13,7 @@ fn print_refused(k: u8) {
     }
 }
 
-// The book in the other edition, or where the conversion is refused only a line with its number.
+// P10, P11: the book in the other edition, or if the conversion is refused only a line with its number.
 fn print_converted(edition: Edition, book: &[u8]) {
     let mut out = io::large_buffer();
     match book::convert(edition, book, &mut out) {
@@ -24,8 +24,9 @@ fn print_converted(edition: Edition, book: &[u8]) {
     }
 }
 
-// Converts the book on standard input, which is of the edition named. Where the conversion is refused, or the input cannot be read to its end, only a
-// line that says so is printed, which no edition takes for a book: the count in its last two bytes is far above its length.
+// P10 to P12: converts the book on standard input, which is of the edition named. If the conversion is refused, or
+// the input cannot be read to its end, only a line that says so is printed, which no edition takes for a book: the
+// count in its last two bytes is far above its length.
 pub fn convert(edition: Edition) {
     let mut bytes = io::large_buffer();
     let n = io::read_full(STDIN_FILENO, &mut bytes);

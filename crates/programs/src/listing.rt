@@ -23,7 +23,8 @@ fn print_book(edition: Edition, book: &[u8]) {
     }
 }
 
-// Lists the book that an open file holds. Where it cannot be read to its end nothing is listed: every listing has a first line.
+// P1, P2, P12: lists the book that an open file holds. If it cannot be read to its end nothing is listed: every
+// listing has a first line.
 pub fn list_from(fd: i32, edition: Edition) {
     let mut bytes = io::large_buffer();
     let n = io::read_full(fd, &mut bytes);
@@ -32,7 +33,7 @@ pub fn list_from(fd: i32, edition: Edition) {
     }
 }
 
-// Lists the book on standard input.
+// P1, P2: lists the book on standard input.
 pub fn list(edition: Edition) {
     list_from(STDIN_FILENO, edition);
 }

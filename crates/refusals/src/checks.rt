@@ -1,4 +1,5 @@
-// The checks of document 01 on a kind, a rank, a word and a window, each made by one function. A refusal is its number; 0 stands for none.
+// The checks on a kind, a rank, a word and a window (C5 to C11 of the specification), each made by one function. A
+// refusal is its number; 0 stands for none.
 use crate::entries::is_negative;
 use crate::entries::size;
 ghost use mathlib.Core.Path.{_≡_};
@@ -11,7 +12,7 @@ ghost use Rattle.coxeter.specs.Checks.{_then_, rankRefusal, wordRefusal, window
 ghost use Rattle.coxeter.specs.Checks.{wrongLetter, wrongEntry, oddNegatives, negativeInA, odd};
 ghost use Rattle.coxeter.specs.Length.{negatives};
 
-// The most letters of a word.
+// C7: the most letters of a word.
 const LONGEST: usize = 4096;
 
 fn least(kind: u8) -> u8
@@ -46,7 +47,7 @@ fn lanes(kind: u8, rank: u8) -> usize
     n
 }
 
-// Checks 5 and 6. Answers 5 where the kind is not 1, 2 or 3, else 6 where the rank is outside its kind's range, else 0.
+// I33: checks 5 and 6 of a kind and a rank.
 pub fn rank_refusal(kind: u8, rank: u8) -> u8
     ensures { λ r. ⌜ r ≡ rankRefusal kind rank ⌝ }
 {
@@ -67,7 +68,7 @@ pub fn rank_refusal(kind: u8, rank: u8) -> u8
     0
 }
 
-// Check 8. Every letter is looked at, without a way out of the loop, so that many letters are tested at a time.
+// C8. Every letter is looked at, without a way out of the loop, so that many letters are tested at a time.
 fn has_wrong_letter(rank: u8, word: &[u8]) -> bool
     ensures { λ r. ⌜ r ≡ wrongLetter rank (now (word .entry)) ⌝ }
 {
@@ -81,7 +82,7 @@ fn has_wrong_letter(rank: u8, word: &[u8]) -> bool
     wrong
 }
 
-// Checks 7 and 8, after 5 and 6: 7 where the word has more than 4,096 letters, else 8 where a letter is 0 or above the rank, else 0.
+// C7, C8: of a word whose kind and rank passed.
 fn word_refusal(rank: u8, word: &[u8]) -> u8
     ensures { λ r. ⌜ r ≡ wordRefusal rank (now (word .entry)) ⌝ }
 {
@@ -94,8 +95,7 @@ fn word_refusal(rank: u8, word: &[u8]) -> u8
     0
 }
 
-// Checks 5 to 8 of one preset: 7 where the word has more than 4,096 letters, else 8 where a letter is 0 or above the rank, each after 5 and 6.
-// Answers the first number that refuses, or 0.
+// I33: checks 5 to 8 of one preset: the first refusal, or 0.
 pub fn preset_refusal(kind: u8, rank: u8, word: &[u8]) -> u8
     ensures { λ r. ⌜ r ≡ (rankRefusal kind rank then wordRefusal rank (now (word .entry))) ⌝ }
 {
@@ -106,7 +106,7 @@ pub fn preset_refusal(kind: u8, rank: u8, word: &[u8]) -> u8
     word_refusal(rank, word)
 }
 
-// Checks 5 to 8 of two presets, all of the first's before the second's. Answers the first number that refuses, or 0.
+// I33, CO4: checks 5 to 8 of two presets, all of the first's before the second's.
 pub fn presets_refusal(kind_a: u8, rank_a: u8, a: &[u8], kind_b: u8, rank_b: u8, b: &[u8]) -> u8
     ensures { λ r. ⌜ r ≡ (rankRefusal «kind_a» «rank_a» then wordRefusal «rank_a» (now (a .entry))
         then rankRefusal «kind_b» «rank_b» then wordRefusal «rank_b» (now (b .entry))) ⌝ }
@@ -118,8 +118,8 @@ pub fn presets_refusal(kind_a: u8, rank_a: u8, a: &[u8], kind_b: u8, rank_b: u8,
     preset_refusal(kind_b, rank_b, b)
 }
 
-// Checks 5 to 8 of two words of one kind and rank: kind and rank once, then the first word, then the second. Answers the first number that
-// refuses, or 0.
+// I33, CO4: checks 5 to 8 of two words of one kind and rank: kind and rank once, then the first word, then the
+// second.
 pub fn ranked_words_refusal(kind: u8, rank: u8, u: &[u8], v: &[u8]) -> u8
     ensures { λ r. ⌜ r ≡ (rankRefusal kind rank then wordRefusal rank (now (u .entry)) then wordRefusal rank (now (v .entry))) ⌝ }
 {
@@ -146,7 +146,7 @@ fn unmarked() -> [bool; 64]
     [false; 64]
 }
 
-// Check 10, from the last entry to the first, with the sizes of the entries behind marked: constant work an entry.
+// C10, from the last entry to the first, with the sizes of the entries behind marked: constant work an entry.
 fn has_wrong_entry(kind: u8, m: usize, w: &[i8]) -> bool
     requires { ⌜ m ≤ 64 ⌝ }
     ensures { λ r. ⌜ r ≡ wrongEntry (kindOf kind) m (now (w .entry)) ⌝ }
@@ -175,7 +175,7 @@ fn has_wrong_entry(kind: u8, m: usize, w: &[i8]) -> bool
     false
 }
 
-// A flag flipped at each negative entry.
+// CP1: a flag flipped at each negative entry.
 fn odd_negatives(w: &[i8]) -> bool
     ensures { λ r. ⌜ r ≡ odd (negatives (now (w .entry))) ⌝ }
 {
@@ -199,7 +199,7 @@ fn has_odd_negatives(kind: u8, w: &[i8]) -> bool
     }
 }
 
-// Checks 9 to 11, where 5 and 6 passed.
+// C9, C10, C11: of a window whose kind and rank passed.
 fn window_refusal(kind: u8, rank: u8, w: &[i8]) -> u8
     requires { ⌜ Rig kind rank ⌝ }
     ensures { λ r. ⌜ r ≡ windowRefusal (kindOf kind) rank (now (w .entry)) ⌝ }
@@ -217,8 +217,7 @@ fn window_refusal(kind: u8, rank: u8, w: &[i8]) -> u8
     0
 }
 
-// Checks 5, 6 and 9 to 11. Answers 9 where the window's length is not the lane count, else 10 where an entry is wrong, else 11 where a window of
-// kind D has an odd number of negative entries, each after 5 and 6, or 0.
+// I33: checks 5, 6 and 9 to 11 of a window.
 pub fn ranked_window_refusal(kind: u8, rank: u8, w: &[i8]) -> u8
     ensures { λ r. ⌜ r ≡ (rankRefusal kind rank then windowRefusal (kindOf kind) rank (now (w .entry))) ⌝ }
 {
@@ -229,8 +228,8 @@ pub fn ranked_window_refusal(kind: u8, rank: u8, w: &[i8]) -> u8
     window_refusal(kind, rank, w)
 }
 
-// Checks 5, 6 and 9 to 11 of two windows of one kind and rank: kind and rank once, then the first window, then the second. Answers the first
-// number that refuses, or 0.
+// I33, CO4: checks 5, 6 and 9 to 11 of two windows of one kind and rank: kind and rank once, then the first window,
+// then the second.
 pub fn ranked_windows_refusal(kind: u8, rank: u8, u: &[i8], v: &[i8]) -> u8
     ensures { λ r. ⌜ r ≡ (rankRefusal kind rank then windowRefusal (kindOf kind) rank (now (u .entry))
         then windowRefusal (kindOf kind) rank (now (v .entry))) ⌝ }

@@ -3,8 +3,8 @@ ghost use mathlib.Core.Path.{_≡_};
 ghost use lib.IntN.{natAbs};
 ghost use Rattle.coxeter.specs.Length.{negative};
 
-// Answers the size of an entry, that is, the number without its sign. Every byte has one: no byte is negated before its range is known, and -128
-// has the size 128.
+// C10: the size of an entry, that is, the number without its sign. Every byte has one: no byte is negated before
+// its range is known (Q10), and -128 has the size 128.
 pub fn size(e: i8) -> u8
     ensures { λ r. ⌜ r ≡ natAbs e ⌝ }
 {
@@ -16,7 +16,7 @@ pub fn size(e: i8) -> u8
     }
 }
 
-// Answers whether an entry is below 0; 0 is not.
+// L4: whether an entry is below 0; 0 is not.
 pub fn is_negative(e: i8) -> bool
     ensures { λ r. ⌜ r ≡ negative e ⌝ }
 {

@@ -1,5 +1,6 @@
-// Checks 5 to 11 of document 01, each made by one function, for the calls of every layer above. A refusal is its number in document 01's list, and
-// 0 stands for none. No public function has a `requires`, and none writes anything.
+// Checks 5 to 11 (section C of the specification), each made by one function, for the calls of every layer above. A
+// refusal is the number of a check, and 0 stands for none. No public function has a `requires`, and none writes
+// anything.
 mod checks;
 mod entries;
 

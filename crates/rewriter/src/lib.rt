@@ -1,4 +1,5 @@
-// The rewriter layer: one rewrite at a named place, and the rewriting to its end. No public function has a `requires`.
+// The rewriter layer: one rewrite at a named place, and the rewriting to its end (I19 to I21 of the specification).
+// No public function has a `requires`.
 use refusals::preset_refusal;
 pub use rules::Rewrite;
 use search::Fitting;
@@ -19,8 +20,8 @@ mod search;
 mod tracing;
 mod writing;
 
-// Replaces the left side of the rule that begins at `place` and lies wholly inside the word; at one place at most one rule does. The new
-// word goes to the front of `out`. Where none fits, or a check refuses the call, nothing is written.
+// I19: replaces the left side of the rule that fits at `place`; at one place at most one does (R15). The new word
+// goes to the front of `out`. If none fits, or a check refuses the call, nothing is written.
 pub fn rewrite_at(kind: u8, rank: u8, word: &[u8], place: usize, out: &mut [u8]) -> Rewrite
     ensures { λ r. ⌜ Rewrote kind rank (now (word .entry)) place (now (out .entry)) (now (out .exit)) r ⌝ }
 {
@@ -47,8 +48,8 @@ pub fn rewrite_at(kind: u8, rank: u8, word: &[u8], place: usize, out: &mut [u8])
     }
 }
 
-// How many steps the rewriting to its end takes: so many places each list of `rewrite_to_end` must have. For a word of L letters that is at most
-// L (L - 1) / 2. Refuses with 5 or 6, then 7 or 8.
+// I21: how many steps the rewriting to its end takes: so many places each list of `rewrite_to_end` must have. For a
+// word of L letters that is at most L (L - 1) / 2 (T25). Checks 5, 6, 7, 8.
 pub fn rewrite_steps(kind: u8, rank: u8, word: &[u8]) -> Answer
     ensures { λ r. ⌜ r ≡ numberOfSteps kind rank (now (word .entry)) ⌝ }
 {
@@ -60,9 +61,9 @@ pub fn rewrite_steps(kind: u8, rank: u8, word: &[u8]) -> Answer
     Answer::Length(counted.steps)
 }
 
-// Rewrites always at the lowest place where a rule fits, until none fits. Writes the family, the place and the length left of each step to the fronts
-// of the three lists and the final word, which is the normal form, to the front of `out`. Refuses with 5 or 6, then 7 or 8, then 15 where a list has
-// fewer places than there are steps, then 14 where `out` is too short; lists and output are then left as they were.
+// I20: rewrites always at the lowest place where a rule fits, until none fits. Writes family, place and length left
+// of each step to the fronts of the three lists and the final word, which is the normal form, to that of `out`.
+// Checks 5, 6, 7, 8, 15, 14, all before anything is written.
 pub fn rewrite_to_end(
     kind: u8,
     rank: u8,

@@ -1,6 +1,6 @@
 // The rules, one rewrite and demand 3: definitions in specs/, laws in proofs/, and the answer of the call. No function.
 
-// One rewrite at a named place: the rule used with the new word's length, or that none fits, or a refusal.
+// I19, G14: the rule used with the new word's length, or that none fits, or the refusal.
 pub enum Rewrite {
     Used {
         family: u8,

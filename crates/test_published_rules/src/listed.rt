@@ -1,11 +1,11 @@
-// The rules of kind D by document 01, "Rules".
+// The rules of kind D (R2, R4, R7 and R9 to R12 of the specification).
 use crate::sides::NONE;
 use crate::sides::Rule;
 use crate::sides::word_rule;
 use std::num::wrapping_sub_u8;
 ghost use Prim.Native.Nat.{_≤_};
 
-// "2 as in A but not for the pair n-2, n; also (n-1) n -> n (n-1)."
+// R4.
 fn is_exchange(n: u8, i: u8, j: u8) -> bool
     requires { ⌜ (i ≤ n) × (n ≤ 64) ⌝ }
 {
@@ -15,7 +15,7 @@ fn is_exchange(n: u8, i: u8, j: u8) -> bool
     i + 2 <= j && j < n
 }
 
-// "3: for i <= n - 3 and i < j <= 2n - i - 2, and for i = n - 2, j = n - 1."
+// R7.
 fn is_braid(n: u8, i: u8, j: u8) -> bool
     requires { ⌜ (i ≤ n) × (n ≤ 64) × (j ≤ 127) ⌝ }
 {

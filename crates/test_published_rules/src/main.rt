@@ -1,5 +1,5 @@
-// Checks the rules that source document 001 publishes for D by the rewriter, and looks for each of document 01's D rules among them. Prints how many
-// rules hold.
+// R20: checks the rules that source document 001 publishes for D by the rewriter, and looks for each rule for D of
+// the specification among them. Prints how many rules hold.
 mod listed;
 mod paper;
 mod sides;
@@ -13,7 +13,8 @@ use sides::side;
 use sides::step;
 ghost use Prim.Native.Nat.{_≤_};
 
-// Whether the answer names document 01's rule of these sides, and the output holds the right side and nothing behind it.
+// Whether the answer names the specification's rule of these sides, and the output holds the right side and nothing
+// behind it.
 fn is_used(answer: Rewrite, n: u8, rule: Rule, out: &[u8]) -> bool
     requires { ⌜ (4 ≤ n) × (n ≤ 64) ⌝ }
 {
@@ -74,7 +75,8 @@ fn is_published(n: u8, rule: Rule) -> bool
     is_at_level(n, m, rule)
 }
 
-// Whether the paper has a rule of this level, type and number and the rewriter uses it; or document 01 one of this i, family and j and the paper has it.
+// Whether the paper has a rule of this level, type and number and the rewriter uses it; or the specification one of
+// this i, family and j and the paper has it.
 fn holds(published: bool, n: u8, a: u8, b: u8, c: u8) -> bool
     requires { ⌜ (4 ≤ n) × (n ≤ 64) × (c ≤ 127) ⌝ }
 {

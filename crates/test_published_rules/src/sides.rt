@@ -1,4 +1,4 @@
-// Rules of kind D and their sides, in document 01's steps.
+// Rules of kind D and their sides, in the specification's steps.
 use std::num::wrapping_add_u8;
 use std::num::wrapping_sub_u8;
 ghost use mathlib.Core.Path.{_≡_};
@@ -50,7 +50,7 @@ pub(crate) fn digit_rule(n: u8, digits: u64) -> Rule {
     rule
 }
 
-// Source document 001's generator k is step n + 1 - k, and the other way round. 0 stands for none.
+// R20: source document 001's generator k is step n + 1 - k, and the other way round. 0 stands for none.
 pub(crate) fn step(n: u8, k: u8) -> u8 {
     if k == 0 {
         return 0;

@@ -102,7 +102,7 @@ pub(crate) fn letter(t: u64, kind: u8, rank: u8, letter: u8, refusal: u8) -> u64
     wrapping_add_u64(t, is_answer(answer, refusal, 1) as u64)
 }
 
-// "4,096 letters accepted, 4,097 refused 7."
+// J11: 4,096 and 4,097 letters.
 pub(crate) fn long_words(t: u64, kind: u8, rank: u8) -> u64 {
     let word = [1; 4097];
     let accepted = window::length_of_word(kind, rank, &word[0..4096]);
@@ -111,13 +111,13 @@ pub(crate) fn long_words(t: u64, kind: u8, rank: u8) -> u64 {
     wrapping_add_u64(t, is_answer(refused, 7, 0) as u64)
 }
 
-// "-128 must be refused 10."
+// Q10: -128 is refused 10.
 pub(crate) fn least_entry(t: u64, kind: u8, rank: u8) -> u64 {
     let answer = window::length_of_window(kind, rank, &[1, 2, 3, -128]);
     wrapping_add_u64(t, is_answer(answer, 10, 0) as u64)
 }
 
-// 1 3 2 is as short as its normal form 3 1 2, but not the first in the dictionary.
+// Q11: 1 3 2 is as short as its normal form 3 1 2, but not the first in the dictionary.
 pub(crate) fn not_first(t: u64, kind: u8, rank: u8) -> u64 {
     let mut out = [0; 16];
     let answer = window::normal_form_of_word(kind, rank, &[1, 3, 2], &mut out);
@@ -125,7 +125,7 @@ pub(crate) fn not_first(t: u64, kind: u8, rank: u8) -> u64 {
     wrapping_add_u64(t, check::same(&out[0..k], &[3, 1, 2]) as u64)
 }
 
-// 2 4 in D4 has no rule.
+// Q9: 2 4 in D₄ has no rule.
 pub(crate) fn none_fits(t: u64) -> u64 {
     let mut out = [0; 2];
     match rewriter::rewrite_at(3, 4, &[2, 4], 0, &mut out) {

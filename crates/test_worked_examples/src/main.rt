@@ -1,5 +1,5 @@
-// Checks the worked examples of source document 000 and those of document 01 that no table proves, and the letters of document 01's book, and prints
-// how many cases of each group hold.
+// Checks the worked examples of source document 000, those of the specification that no table proves (J10 to J12,
+// Q7 to Q11), and the letters of J13's book, and prints how many cases of each group hold.
 mod cases;
 
 use book::Edition;
@@ -49,14 +49,14 @@ fn blocks_of_example_3(t: u64) -> u64 {
     example(t, 2, 4, &[1, 2, 3, 4, 3, 2], &[2, -1, 3, 4])
 }
 
-// Examples 2 to 4. Of Example 4 document 01's blocks, since the paper's product of blocks for D has damaged indices.
+// N11: Examples 2 to 4. Example 4 by the specification's blocks, since the paper's product of blocks for D has
+// damaged indices.
 fn worked() -> u64 {
     let t = blocks_of_example_3(example_3(example_2()));
     example(t, 3, 5, &[5, 2, 3, 5, 1, 2], &[3, -5, 1, 4, -2])
 }
 
-// "A rank 31 accepted, 32 refused 6", moved by request 6 to 63 and 64, and in B and D to 64 and 65. "4,096 letters accepted, 4,097 refused 7. Letter n
-// accepted, n + 1 refused 8."
+// J10, J11, J12, at the greatest rank of each kind.
 fn limits() -> u64 {
     let t = letter(letter(0, 1, 63, 1, 0), 1, 64, 1, 6);
     let t = letter(letter(t, 2, 64, 1, 0), 2, 65, 1, 6);
@@ -67,8 +67,8 @@ fn limits() -> u64 {
     letter(letter(t, 3, 64, 64, 0), 3, 64, 65, 8)
 }
 
-// Document 01, "Mistakes close at hand": values exchanged for positions, the usual order of the integers for the last step alone of B and of D, B's rule
-// for 2 4 in D4, a negated -128, and a shortest word that is not the first in the dictionary.
+// Q7 to Q11: values exchanged for positions, the usual order of the integers for the last step alone of B and of D,
+// B's rule for 2 4 in D₄, a negated -128, and a shortest word that is not the first in the dictionary.
 fn mistakes() -> u64 {
     let t = example(0, 1, 2, &[1, 2], &[2, 3, 1]);
     let t = example(t, 2, 2, &[2], &[1, -2]);
@@ -78,7 +78,8 @@ fn mistakes() -> u64 {
     not_first(not_first(not_first(t, 1, 3), 2, 4), 3, 4)
 }
 
-// Document 01's book in either edition, with the letters 1 2 1 2 of B2 and 5 2 3 5 1 2 of D5. There is no preset 2, so it has no letters.
+// J13: the book in either edition, with the letters 1 2 1 2 of B₂ and 5 2 3 5 1 2 of D₅. There is no preset 2, so
+// it has no letters.
 fn letters(t: u64, edition: Edition, book: &[u8]) -> u64 {
     let t = preset_letters(t, edition, book, 0, &[1, 2, 1, 2]);
     let t = preset_letters(t, edition, book, 1, &[5, 2, 3, 5, 1, 2]);

@@ -44,9 +44,10 @@ fn exchange_negate_at(w: &mut [i8], p: usize, b: i8)
     w[p + 1] = c;
 }
 
-// One step. Below the number of entries a step exchanges, in every kind. Any other is step n of B or D: A has an entry more than steps.
-// The entry at s - 1, which each of them needs, is read before it is known which step it is: read beside its neighbour, the compiler would turn
-// the two as one number of 16 bits, and the next step at a neighbour would wait for half of that number.
+// K7, K8, K9: one step. Below the number of entries a step exchanges, in every kind. Any other is step n of B or D:
+// A has an entry more than steps. The entry at s - 1, which each of them needs, is read before it is known which
+// step it is: read beside its neighbour, the compiler would turn the two as one number of 16 bits, and the next
+// step at a neighbour would wait for half of that number.
 fn act_on(kind: u8, n: usize, s: usize, w: &mut [i8])
     requires { ⌜ (1 ≤ s) × (s ≤ n) ⌝ }
     requires { ⌜ Ranked (kindOf kind) n ⌝ }

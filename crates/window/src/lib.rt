@@ -1,9 +1,10 @@
-// The window layer: what a word of a Coxeter group of kind A, B or D shows, as a signed permutation.
+// The window layer: what a word of a Coxeter group of kind A, B or D shows, as a signed permutation (I4 to I17 of
+// the specification).
 //
-// Kinds and ranks are document 01's numbers, words are bytes, windows signed bytes. No public function has a `requires`: every input is
-// checked in document 01's order, and what a call answers and writes is a definition of coxeter/specs/Calls for every input, refused ones
-// included. The refusals are 5 for the kind, 6 for the rank, 7 and 8 for a word's length and letters, 9 to 11 for a window's length, entries
-// and signs, and 14 for an output that is too short. An accepted call writes to the front of its output and leaves what lies behind.
+// Kinds and ranks are numbers (K2, K4), words bytes, windows signed bytes. No public function has a `requires`:
+// every input is checked in the order of CO2, and what a call returns and writes is a definition of
+// coxeter/specs/Calls for every input, refused ones included. An accepted call writes to the front of its output
+// and leaves what lies behind (I2); a refused one writes nothing (CO6).
 mod action;
 mod combined;
 mod entries;
@@ -47,8 +48,7 @@ ghost use Rattle.coxeter.specs.Calls.{Yields, windowOfWord, productOfWindows, i
 ghost use Rattle.coxeter.specs.Calls.{normalFormOfWindow, normalFormOfWord, productOfWords, inverseOfWord};
 ghost use Rattle.coxeter.specs.Calls.{lengthOfWindow, lengthOfWord, crossingsOfWindow, crossingsOfWord, presetsEqual, handsBack, choice, Better};
 
-// Writes the window of `word` to the front of `out` and answers its length, the number of lanes. Refuses with 5 or 6, then 7 or 8, then 14 where
-// `out` is shorter than the window; `out` is then left as it was.
+// I4: writes the window of `word` and returns its length, the number of lanes. Checks 5, 6, 7, 8, 14.
 pub fn window_of_word(kind: u8, rank: u8, word: &[u8], out: &mut [i8]) -> Answer
     ensures { λ r. ⌜ Yields (windowOfWord kind rank (now (word .entry)) (now (out .entry))) r (now (out .exit)) ⌝ }
 {
@@ -64,8 +64,7 @@ pub fn window_of_word(kind: u8, rank: u8, word: &[u8], out: &mut [i8]) -> Answer
     Answer::Length(m)
 }
 
-// Writes the product of two windows of one kind and rank to the front of `out` and answers its length. Refuses with 5 or 6, then 9 to 11 for u,
-// then 9 to 11 for v, then 14 where `out` is shorter than the product; `out` is then left as it was.
+// I9: writes the product u v and returns its length. Checks 5 and 6, then 9 to 11 of u, then of v, 14.
 pub fn product_of_windows(kind: u8, rank: u8, u: &[i8], v: &[i8], out: &mut [i8]) -> Answer
     ensures { λ r. ⌜ Yields (productOfWindows kind rank (now (u .entry)) (now (v .entry)) (now (out .entry))) r (now (out .exit)) ⌝ }
 {
@@ -81,8 +80,7 @@ pub fn product_of_windows(kind: u8, rank: u8, u: &[i8], v: &[i8], out: &mut [i8]
     Answer::Length(m)
 }
 
-// Writes the inverse of a window to the front of `out` and answers its length. Refuses with 5 or 6, then 9 to 11, then 14 where `out` is shorter
-// than the inverse; `out` is then left as it was.
+// I10: writes the inverse of w and returns its length. Checks 5, 6, 9, 10, 11, 14.
 pub fn inverse_of_window(kind: u8, rank: u8, w: &[i8], out: &mut [i8]) -> Answer
     ensures { λ r. ⌜ Yields (inverseOfWindow kind rank (now (w .entry)) (now (out .entry))) r (now (out .exit)) ⌝ }
 {
@@ -98,8 +96,7 @@ pub fn inverse_of_window(kind: u8, rank: u8, w: &[i8], out: &mut [i8]) -> Answer
     Answer::Length(m)
 }
 
-// Writes the normal form of a window to the front of `out` and answers its length. Refuses with 5 or 6, then 9 to 11, then 14 where `out` is
-// shorter than the normal form; `out` is then left as it was.
+// I5: writes the normal form of w and returns its length. Checks 5, 6, 9, 10, 11, 14.
 pub fn normal_form_of_window(kind: u8, rank: u8, w: &[i8], out: &mut [u8]) -> Answer
     ensures { λ r. ⌜ Yields (normalFormOfWindow kind rank (now (w .entry)) (now (out .entry))) r (now (out .exit)) ⌝ }
 {
@@ -110,8 +107,7 @@ pub fn normal_form_of_window(kind: u8, rank: u8, w: &[i8], out: &mut [u8]) -> An
     write_checked(kind, rank, w, out)
 }
 
-// Writes the normal form of a word to the front of `out` and answers its length. Refuses with 5 or 6, then 7 or 8, then 14 where `out` is
-// shorter than the normal form; `out` is then left as it was.
+// I6: writes the normal form of `word` and returns its length. Checks 5, 6, 7, 8, 14.
 pub fn normal_form_of_word(kind: u8, rank: u8, word: &[u8], out: &mut [u8]) -> Answer
     ensures { λ r. ⌜ Yields (normalFormOfWord kind rank (now (word .entry)) (now (out .entry))) r (now (out .exit)) ⌝ }
 {
@@ -123,8 +119,8 @@ pub fn normal_form_of_word(kind: u8, rank: u8, word: &[u8], out: &mut [u8]) -> A
     write_checked(kind, rank, &work, out)
 }
 
-// Writes the normal form of the product of two words of one kind and rank to the front of `out` and answers its length. Refuses with 5 or 6, then
-// 7 or 8 for u, then 7 or 8 for v, then 14 where `out` is shorter than the normal form; `out` is then left as it was.
+// I7: writes the normal form of u followed by v and returns its length. Checks 5 and 6, then 7 and 8 of u, then of
+// v, 14.
 pub fn product_of_words(kind: u8, rank: u8, u: &[u8], v: &[u8], out: &mut [u8]) -> Answer
     ensures { λ r. ⌜ Yields (productOfWords kind rank (now (u .entry)) (now (v .entry)) (now (out .entry))) r (now (out .exit)) ⌝ }
 {
@@ -136,8 +132,7 @@ pub fn product_of_words(kind: u8, rank: u8, u: &[u8], v: &[u8], out: &mut [u8]) 
     write_checked(kind, rank, &work, out)
 }
 
-// Writes the normal form of the inverse of a word to the front of `out` and answers its length. Refuses with 5 or 6, then 7 or 8, then 14 where
-// `out` is shorter than the normal form; `out` is then left as it was.
+// I8: writes the normal form of the word read backwards and returns its length. Checks 5, 6, 7, 8, 14.
 pub fn inverse_of_word(kind: u8, rank: u8, word: &[u8], out: &mut [u8]) -> Answer
     ensures { λ r. ⌜ Yields (inverseOfWord kind rank (now (word .entry)) (now (out .entry))) r (now (out .exit)) ⌝ }
 {
@@ -149,7 +144,7 @@ pub fn inverse_of_word(kind: u8, rank: u8, word: &[u8], out: &mut [u8]) -> Answe
     write_checked(kind, rank, &work, out)
 }
 
-// Answers the length of a window's normal form, from the window alone: nothing is written. Refuses with 5 or 6, then 9 to 11.
+// I12: the length of w, from its entries alone. Checks 5, 6, 9, 10, 11.
 pub fn length_of_window(kind: u8, rank: u8, w: &[i8]) -> Answer
     ensures { λ r. ⌜ r ≡ lengthOfWindow kind rank (now (w .entry)) ⌝ }
 {
@@ -161,7 +156,7 @@ pub fn length_of_window(kind: u8, rank: u8, w: &[i8]) -> Answer
     Answer::Length(length_of(kind, n, w))
 }
 
-// Answers the length of a word's normal form, which is not written anywhere. Refuses with 5 or 6, then 7 or 8.
+// I11: the length of the word's normal form, which is written nowhere. Checks 5, 6, 7, 8.
 pub fn length_of_word(kind: u8, rank: u8, word: &[u8]) -> Answer
     ensures { λ r. ⌜ r ≡ lengthOfWord kind rank (now (word .entry)) ⌝ }
 {
@@ -172,8 +167,8 @@ pub fn length_of_word(kind: u8, rank: u8, word: &[u8]) -> Answer
     Answer::Length(length_of_shown(kind, rank, word))
 }
 
-// Answers the length of a window's normal form as its three counts: inversions, negative sum pairs and negative entries, as the kind counts
-// them. Nothing is written. Refuses with 5 or 6, then 9 to 11.
+// I14: the length of w as its three counts: inversions, negative sum pairs and negative entries, as the kind counts
+// them. Checks 5, 6, 9, 10, 11.
 pub fn crossings_of_window(kind: u8, rank: u8, w: &[i8]) -> Counted
     ensures { λ r. ⌜ r ≡ crossingsOfWindow kind rank (now (w .entry)) ⌝ }
 {
@@ -185,7 +180,7 @@ pub fn crossings_of_window(kind: u8, rank: u8, w: &[i8]) -> Counted
     crossings_of(kind, n, w)
 }
 
-// Answers the length of a word's normal form as its three counts. Refuses with 5 or 6, then 7 or 8.
+// I13: the length of the word's window as its three counts. Checks 5, 6, 7, 8.
 pub fn crossings_of_word(kind: u8, rank: u8, word: &[u8]) -> Counted
     ensures { λ r. ⌜ r ≡ crossingsOfWord kind rank (now (word .entry)) ⌝ }
 {
@@ -196,8 +191,8 @@ pub fn crossings_of_word(kind: u8, rank: u8, word: &[u8]) -> Counted
     crossings_of_shown(kind, rank, word)
 }
 
-// Answers whether two presets show the same. Refuses with 5 or 6, then 7 or 8 for the first preset, and then the same for the second. Accepted
-// presets are equal where their lane counts and windows agree, whatever their kinds and ranks.
+// I15: whether two presets show the same, whatever their kinds and ranks. Checks 5 to 8 of the first preset, then
+// of the second.
 pub fn presets_equal(kind_a: u8, rank_a: u8, a: &[u8], kind_b: u8, rank_b: u8, b: &[u8]) -> Verdict
     ensures { λ r. ⌜ r ≡ presetsEqual «kind_a» «rank_a» (now (a .entry)) «kind_b» «rank_b» (now (b .entry)) ⌝ }
 {
@@ -211,8 +206,8 @@ pub fn presets_equal(kind_a: u8, rank_a: u8, a: &[u8], kind_b: u8, rank_b: u8, b
     Verdict::No
 }
 
-// Answers which of two words of one kind and rank is the better one: the shorter, at equal lengths the one earlier in the dictionary, and of
-// equal words the first. The answer is neither where the windows differ or a check refuses; `presets_equal` gives the refusal's number.
+// I17: which of two words is the better one (V3), or neither if the windows differ or a check refuses; then
+// `presets_equal` gives the refusal (V5).
 pub fn which_better(kind: u8, rank: u8, u: &[u8], v: &[u8]) -> Choice
     ensures { λ r. ⌜ r ≡ choice (handsBack kind rank (now (u .entry)) (now (v .entry))) (shortlex (now (v .entry)) (now (u .entry))) ⌝ }
 {
@@ -229,7 +224,7 @@ pub fn which_better(kind: u8, rank: u8, u: &[u8], v: &[u8]) -> Choice
     Choice::Neither
 }
 
-// Hands back the better of two words, as `which_better` chooses it: the lent slice itself, whole, and where it chooses neither the empty part at
+// I16, G15: the better word as `which_better` chooses it: the lent slice itself, or with neither the empty part at
 // the start of the first word. Nothing is copied.
 pub fn better_word<'a>(kind: u8, rank: u8, u: &'a [u8], v: &'a [u8]) -> &'a [u8]
     ensures { λ r. ⌜ Better (handsBack kind rank (now (u .entry)) (now (v .entry))) (shortlex (now (v .entry)) (now (u .entry)))

@@ -1,4 +1,4 @@
-// The normal form of an accepted window: first the indices j of its blocks, in one pass over the entries, then the
+// The normal form of an accepted window (N10 of the specification): first the indices j of its blocks, in one pass over the entries, then the
 // blocks, level by level, those of the higher levels first.
 use crate::length::from_size;
 use crate::length::with_size;
@@ -85,7 +85,8 @@ fn write_turned(kind: u8, n: usize, i: usize, j: usize, out: &mut [u8], at: usiz
     write_down(out, next, turn.high, 2 * n - j)
 }
 
-// The block [i,j], written from the place `at` on; the answer is the place after it. Before the turn, and in A always, it goes up only.
+// N4 to N8: the block [i,j], written from the place `at` on; the answer is the place after it. Before the turn, and
+// in A always, it goes up only.
 fn write_block(kind: u8, n: usize, i: usize, j: usize, out: &mut [u8], at: usize) -> usize
     requires { ⌜ Ranked (kindOf kind) n × (j ≤ 2 * n) ⌝ }
     requires { ⌜ at + length (block (kindOf kind) n i j) ≤ length (now out) ⌝ }

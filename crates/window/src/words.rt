@@ -2,7 +2,7 @@
 ghost use mathlib.Core.Path.{_≡_};
 ghost use Rattle.coxeter.specs.Dictionary.{shortlex};
 
-// Shorter, or as long and earlier in the dictionary: at the first difference the higher letter comes first.
+// O1, V3: shorter, or as long and earlier in the dictionary: at the first difference the higher letter comes first.
 pub(crate) fn is_shortlex(u: &[u8], v: &[u8]) -> bool
     ensures { λ r. ⌜ r ≡ shortlex (now (u .entry)) (now (v .entry)) ⌝ }
 {
