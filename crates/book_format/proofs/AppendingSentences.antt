@@ -1,5 +1,5 @@
--- Document 02's sentences on refused appending in plain terms: which preset is refused with which number, and exactly when. A refused call leaves its
--- output as it was lent.
+-- Refused appending in plain terms (I28, B12, B23 and C21 of the specification): which preset is refused with which
+-- number, and exactly when. A refused call leaves its output as it was lent.
 -- Not here: what an accepted call leaves (Sentences).
 -- Assumes nothing.
 use mathlib.Core.Path.{_≡_, refl, sym, ap, _∙_}
@@ -37,7 +37,7 @@ module _ (ed : Edition) (b : List ℕ) (k n : ℕ) (u before after : List ℕ) (
       let q = answerOf-refused s (length (appended ed b k n u)) r in
       (λ e. q .0 (sym (c .0) ∙ e), λ p. c .0 ∙ q .1 p)
 
-  -- the number of the first test that holds, 21 "after refusal 8"
+  -- CO3, I28: the number of the first test that holds, 21 after 8
   pub append-refused : (r : ℕ)
       → (a ≡ Refused r)
       ↔ ((firstOf
@@ -80,7 +80,7 @@ module _ (ed : Edition) (b : List ℕ) (k n : ℕ) (u before after : List ℕ) (
           ap (λ q. q then check 14 (tooShort size before)) (appendRefusal-firstOf ed b k n u)
           ∙ firstOf-then tests 14 (tooShort size before) (none 0, (none 1, (none 2, (none 4, (none 5, (none 6, (none 7, (none 20, (none 12, tt)))))))))
 
-  -- "a refused call changes no lent byte"
+  -- D6, CO6
   pub append-refused-unchanged : (r : ℕ) → a ≡ Refused r → after ≡ before
   append-refused-unchanged r e = c .1 ∙ appending-unchanged ed b k n u before r (sym (c .0) ∙ e)
 
@@ -97,7 +97,7 @@ module _ (ed : Edition) (b : List ℕ) (k n : ℕ) (u before after : List ℕ) (
       let t = then-early own size 21 (check-other 13 21 (tooLarge (length (appended ed b k n u))) (λ z. omega arith) (λ z. omega arith)) (s .1) in
       (p .0, s .0, check-holds 21 (retired k n) (λ z. omega arith) t)
 
-  -- "21 when a preset of kind A and rank 1 is appended, checked after refusal 8": exactly then. Checks 5 and 6 accept this kind and rank
+  -- C21: exactly then. Checks 5 and 6 accept this kind and rank
   pub refused-21-exactly : (a ≡ Refused 21) ↔ ((bookRefusal ed b ≡ 0) × WordOf n u × (k ≡ 1) × (n ≡ 1))
   refused-21-exactly = (
     λ e.
@@ -114,7 +114,7 @@ module _ (ed : Edition) (b : List ℕ) (k n : ℕ) (u before after : List ℕ) (
         append-refusal 21 .1 (rw r, λ z. omega arith),
   )
 
--- "Such presets can no longer be appended.": no book, word or output, in either edition
+-- B23: no book, word or output, in either edition
 pub never-appended : (ed : Edition) (b u before after : List ℕ) (l : ℕ) → Yields (appending ed b 1 1 u before) (Length l) after → ⊥
 unfolding appendRefusal
 never-appended ed b u before after l c =
@@ -128,7 +128,7 @@ never-appended ed b u before after l c =
     let t = check-zero 21 (retired 1 1) refl (then-zero own size (s .1) .0) in
     true≢false (sym (retired-exactly 1 1 .1 (refl, refl)) ∙ t)
 
--- "a record with a higher rank, .. appended, is still refused 6"
+-- B12: a higher rank, appended
 pub above-range-appended : (b : List ℕ) (k n : ℕ) (u before after : List ℕ) (a : Answer) → Yields (appending First b k n u before) a after
     → bookRefusal First b ≡ 0 → (((k ≡ 1) × (31 < n)) ⊎ (((k ≡ 2) ⊎ (k ≡ 3)) × (32 < n))) → (a ≡ Refused 6) × (after ≡ before)
 above-range-appended b k n u before after a c z g =

@@ -1,5 +1,4 @@
--- Document 02's sentences on refused conversions in plain terms: "Each record passes its checks in order, and the first refusal stops the conversion
--- with nothing written."
+-- Refused conversions in plain terms (I29, B25, C13, C17 and C18 of the specification).
 -- Not here: what an accepted conversion leaves (Sentences).
 --
 -- Sections: the records; converting; refusals 17 and 18.
@@ -81,7 +80,8 @@ module _ (ed : Edition) (b : List ℕ) where
 -- ---- converting
 
 module _ (ed : Edition) (b before after : List ℕ) (a : Answer) (c : Yields (converting ed b before) a after) where
-  -- the number of the first test that holds: of the book, of each record in order, of the new book's size, of the output
+  -- CO3, CO5: the number of the first test that holds: of the book, of each record in order, of the new book's
+  -- size, of the output
   pub convert-refused : (r : ℕ)
       → (a ≡ Refused r)
       ↔ ((firstOf
@@ -96,7 +96,7 @@ module _ (ed : Edition) (b before after : List ℕ) (a : Answer) (c : Yields (co
       let e = c .0 ∙ converting-firstOf ed b before in
       (λ s. q .0 (sym e ∙ s), λ p. e ∙ q .1 p)
 
-  -- a length is answered exactly where none of them holds
+  -- CO3: a length is answered exactly if none of them holds
   pub convert-accepted : (l : ℕ)
       → (a ≡ Length l)
       ↔ ((firstOf
@@ -109,7 +109,7 @@ module _ (ed : Edition) (b before after : List ℕ) (a : Answer) (c : Yields (co
       × (l ≤ length before))
   convert-accepted l = rw (← conversionRefusal-firstOf ed b) (convert-answers ed b before after a c l)
 
-  -- "with nothing written"
+  -- B25, D6
   pub convert-refused-unchanged : (r : ℕ) → a ≡ Refused r → after ≡ before
   convert-refused-unchanged r e = c .1 ∙ converting-unchanged ed b before r (sym (c .0) ∙ e)
 
@@ -126,7 +126,7 @@ module _ (ed : Edition) (b before after : List ℕ) (a : Answer) (c : Yields (co
       let q = convert-refusal r .1 (ap (λ x. x then s) e ∙ then-some r s f, f) in
       (q, convert-refused-unchanged r q)
 
-  -- "the first refusal stops the conversion": record j, where the book opens and each record before it passes
+  -- B25, CO5: record j, if the book opens and each record before it passes
   pub convert-stops : (j r : ℕ) → bookRefusal ed b ≡ 0 → j < count b → ((i : ℕ) → i < j → firstOf (recordTests ed b i) ≡ 0)
       → firstOf (recordTests ed b j) ≡ r → (r ≡ 0 → ⊥) → (a ≡ Refused r) × (after ≡ before)
   unfolding conversionRefusal
@@ -136,7 +136,7 @@ module _ (ed : Edition) (b before after : List ℕ) (a : Answer) (c : Yields (co
       let s = records-stop ed b (count b) 0 j r h (passes-tests ed b j p) own f in
       refused-with r (then-none (bookRefusal ed b) (recordsConversionRefusal ed b (count b) 0 then size) z ∙ ap (λ x. x then size) s ∙ then-some r size f) f
 
-  -- "The size limit of refusal 13 holds for the new book."
+  -- C13, of the new book
   pub convert-too-large : bookRefusal ed b ≡ 0 → ((i : ℕ) → i < count b → firstOf (recordTests ed b i) ≡ 0) → 65535 < length (converted ed b)
       → (a ≡ Refused 13) × (after ≡ before)
   convert-too-large z p h = refused-with 13 (conversion-too-large ed b z (records-pass ed b (count b) 0 (passes-tests ed b (count b) p)) h) (λ e. omega arith)
@@ -179,8 +179,8 @@ record-18 ed b o = (
   λ p. rw (p .0, p .1),
 )
 
--- "18 when a second-edition record going back has more than 32 lanes, checked after that record's refusal 8": exactly when the book opens, a record
--- passes its checks 5 to 8 and has more than 32 lanes, and each record before it passes all of its checks
+-- C18: exactly when the book opens, a record passes its checks 5 to 8 and has more than 32 lanes, and each record
+-- before it passes all of its checks
 pub refused-18-exactly : (b before after : List ℕ) (a : Answer) → Yields (converting Second b before) a after
     → (a ≡ Refused 18)
     ↔ ((bookRefusal Second b ≡ 0)
@@ -202,7 +202,7 @@ refused-18-exactly b before after a c = (
       convert-stops Second b before after a c j 18 (p .0) (p .1 .1) (p .1 .2) (sym (recordConversionRefusal-firstOf Second b j) ∙ own) (λ z. omega arith) .0,
 )
 
--- a book of the first edition is never refused 17 or 18
+-- C17, C18: a book of the first edition is never refused 17 or 18
 pub first-edition-converted : (b before after : List ℕ) (a : Answer) → Yields (converting First b before) a after
     → (a ≡ Refused 17 → ⊥) × (a ≡ Refused 18 → ⊥)
 unfolding recordConversionRefusal tooManyLanes

@@ -305,7 +305,7 @@ convert-converted ed b z = elim (ℕ-discrete (length b) 0) [
   | no f ↦ converted-is ed b (convertible ed b f z)
 ]
 
--- "Forward and back gives the first book's bytes again"
+-- B26
 pub convert-back : (ed : Edition) (b : List ℕ) → Bytes b → conversionRefusal ed b ≡ 0 → converted (other ed) (converted ed b) ≡ b
 convert-back ed b v z = elim (ℕ-discrete (length b) 0) [
   | yes n ↦ rw (converted-bytes ed b n) (converted-bytes (other ed) [] refl ∙ sym (no-bytes b n))

@@ -1,4 +1,5 @@
--- A book of no bytes (document 02, request 9) is a book without presets: what each call on a book answers of it, and when check 1 refuses.
+-- A book of no bytes is a book without presets (B10, B22 and B28 of the specification): what each call on a book
+-- answers of it, and when check 1 refuses (C1).
 -- Assumes nothing.
 use mathlib.Core.Path.{_≡_, refl}
 use mathlib.Core.Logic.{_⊎_, inl, inr, ⊎-elim, _↔_}

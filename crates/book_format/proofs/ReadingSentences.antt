@@ -1,5 +1,7 @@
--- Document 02's sentences on reading a book in plain terms: which book and which preset is refused with which number, and exactly when.
--- Not here: appending and converting (AppendingSentences, ConversionSentences), what an accepted call leaves (Sentences).
+-- Reading a book in plain terms (I25 to I27, B12, B13 and B23 of the specification): which book and which preset is
+-- refused with which number, and exactly when.
+-- Not here: appending and converting (AppendingSentences, ConversionSentences), what an accepted call leaves
+-- (Sentences).
 --
 -- Sections: ranges; opening; reading a preset; kind A at rank 1.
 -- Assumes nothing.
@@ -71,16 +73,17 @@ ranges ed k n = (
       (λ p. rw (p .0, le-ltb n 4 (p .1), le-ltb (greatestInBook ed D) n (p .2)))),
 )
 
--- "Books keep the old ranges for now", and "the first stays readable"
+-- B12
 pub first-edition-ranges : (k n : ℕ)
     → (bookRankRefusal First k n ≡ 0) ↔ (((k ≡ 1) × (1 ≤ n) × (n ≤ 31)) ⊎ (((k ≡ 2) × (2 ≤ n) × (n ≤ 32)) ⊎ ((k ≡ 3) × (4 ≤ n) × (n ≤ 32))))
 first-edition-ranges = ranges First
 
--- "The second edition takes the ranges of 6)"
+-- B13
 pub second-edition-ranges : (k n : ℕ)
     → (bookRankRefusal Second k n ≡ 0) ↔ (((k ≡ 1) × (1 ≤ n) × (n ≤ 63)) ⊎ (((k ≡ 2) × (2 ≤ n) × (n ≤ 64)) ⊎ ((k ≡ 3) × (4 ≤ n) × (n ≤ 64))))
 second-edition-ranges = ranges Second
 
+-- B12: above the first edition's ranges
 pub rank-above : (k n : ℕ) → (((k ≡ 1) × (31 < n)) ⊎ (((k ≡ 2) ⊎ (k ≡ 3)) × (32 < n))) → bookRankRefusal First k n ≡ 6
 unfolding bookRankRefusal wrongKind wrongRankInBook kindOf
 rank-above k n =
@@ -89,7 +92,7 @@ rank-above k n =
 
 -- ---- opening
 
--- opening: the number of the first test that holds
+-- CO3, I25: the number of the first test that holds
 pub opening-refused : (ed : Edition) (b : List ℕ) (r : ℕ)
     → (checkedBook ed b ≡ opened.Refused r) ↔ ((firstOf ((1, wrongSize b) ∷ (2, wrongCount b) ∷ (3, misplaced ed b) ∷ []) ≡ r) × (r ≡ 0 → ⊥))
 unfolding checkedBook openedOf
@@ -107,7 +110,7 @@ opening-refused ed b r = (
     never : opened.Presets (count b) ≡ opened.Refused r → ⊥
     never e = let z : _≡_ {A = ℕ} 0 1 = cc in omega arith
 
--- "Refusal 1 remains for a length of 1 and for more than 65,535 bytes.", and comes for nothing else
+-- C1: for these lengths, and for nothing else
 pub refused-1-exactly : (ed : Edition) (b : List ℕ) → (checkedBook ed b ≡ opened.Refused 1) ↔ ((length b ≡ 1) ⊎ (65535 < length b))
 refused-1-exactly ed b = (
   λ e. refusal-1-exactly b .0 (first (wrongSize b) (opening-refused ed b 1 .0 e .0)),
@@ -131,7 +134,7 @@ preset-refusal ed b i r = (
 )
 
 module _ (ed : Edition) (b : List ℕ) (i r : ℕ) where
-  -- reading a preset: the number of the first test that holds, 17 "right after refusal 6"
+  -- CO3, I26: the number of the first test that holds, 17 right after 6
   pub preset-refused : let o = offset b i in
       (checkedPreset ed b i ≡ preset.Refused r)
       ↔ ((firstOf
@@ -149,16 +152,16 @@ module _ (ed : Edition) (b : List ℕ) (i r : ℕ) where
       × (r ≡ 0 → ⊥))
   preset-refused = rw (← presetRefusal-firstOf ed b i) (preset-refusal ed b i r)
 
-  -- "for a refused preset they are an empty part of the book"
+  -- B16
   pub preset-refused-letters : checkedPreset ed b i ≡ preset.Refused r → lettersOf ed b i ≡ []
   preset-refused-letters e = let p = preset-refusal ed b i r .0 e in sym (lettersOf-refused ed b i (λ z. p .1 (sym (p .0) ∙ z)))
 
--- a run of presets that is refused leaves its output as it was lent
+-- D6, I30: a run of presets that is refused leaves its output as it was lent
 pub run-refused-unchanged : (ed : Edition) (b : List ℕ) (i : ℕ) (before after : List ℕ) (r : ℕ) → Yields (readingPresets ed b i before) (Refused r) after
     → after ≡ before
 run-refused-unchanged ed b i before after r c = c .1 ∙ readingPresets-unchanged ed b i before r (sym (c .0))
 
--- "Books keep the old ranges for now: a record with a higher rank, read .., is still refused 6."
+-- B12: a higher rank, read
 pub above-range-read : (b : List ℕ) (i : ℕ) → bookRefusal First b ≡ 0 → i < count b
     → (((kindAt b (offset b i) ≡ 1) × (31 < rankAt b (offset b i)))
     ⊎ (((kindAt b (offset b i) ≡ 2) ⊎ (kindAt b (offset b i) ≡ 3)) × (32 < rankAt b (offset b i))))
@@ -168,11 +171,12 @@ above-range-read b i z h g =
     let o = offset b i in
     preset-refusal First b i 6 .1 (presetRefusal-record First b i z h ∙ rw (rank-above (kindAt b o) (rankAt b o) g), λ e. omega arith)
 
--- "17 when the lane count is not n + 1 for A or n for B and D"
+-- C17, K3: the lane count that it asks for
 pub lane-counts : (n : ℕ) → (lanes (kindOf 1) n ≡ n + 1) × (lanes (kindOf 2) n ≡ n) × (lanes (kindOf 3) n ≡ n)
 unfolding kindOf
 lane-counts n = (refl, refl, refl)
 
+-- C17: of a record
 pub record-17 : (ed : Edition) (b : List ℕ) (o : ℕ) → recordRefusal ed b o ≡ 17
     → (bookRankRefusal ed (kindAt b o) (rankAt b o) ≡ 0) × (wrongLaneCount ed b o ≡ true)
 unfolding recordRefusal
@@ -194,7 +198,7 @@ preset-17 ed b i e =
     let q = then-late four own 17 (check-other 4 17 (noSuchPreset b i) (λ z. omega arith) (λ z. omega arith)) (p .1) in
     (p .0, leb-false (count b) i (check-zero 4 (noSuchPreset b i) refl (q .0)), q .1)
 
--- exactly when checks 1 to 6 accept and the byte after the rank is another
+-- C17: exactly when checks 1 to 6 accept and the byte after the rank is another
 pub refused-17-exactly : (b : List ℕ) (i : ℕ) → let o = offset b i in
     (checkedPreset Second b i ≡ preset.Refused 17)
     ↔ ((bookRefusal Second b ≡ 0)
@@ -215,7 +219,7 @@ refused-17-exactly b i =
           preset-refusal Second b i 17 .1 (presetRefusal-record Second b i (p .0) (p .1) ∙ rw (p .2, w), λ z. omega arith),
     )
 
--- the first edition, which has no such byte, never gives it
+-- C17: the first edition, which has no such byte, never gives it
 pub first-edition-never-17 : (b : List ℕ) (i : ℕ) → checkedPreset First b i ≡ preset.Refused 17 → ⊥
 first-edition-never-17 b i e =
     let p = preset-17 First b i (preset-refusal First b i 17 .0 e .0) in
@@ -223,10 +227,11 @@ first-edition-never-17 b i e =
 
 -- ---- kind A at rank 1
 
--- "Books that hold them are read, .. and converted as before": preset i of a book is of kind A and rank 1, with its lane count, 2, and with letters
--- that pass. It is found, its letters are handed out, and no test of a conversion holds of its record
+-- B23: preset i of a book is of kind A and rank 1, with its lane count, 2, and with letters that pass. It is found,
+-- its letters are handed out, and no test of a conversion holds of its record
 module _ (ed : Edition) (b : List ℕ) (i : ℕ) (z : bookRefusal ed b ≡ 0) (h : i < count b) (k : kindAt b (offset b i) ≡ 1) (n : rankAt b (offset b i) ≡ 1)
     (m : lanesAt ed b (offset b i) ≡ 2) (w : WordOf 1 (lettersAt ed b (offset b i))) where
+  -- B23
   pub rank-1-read : (checkedPreset ed b i ≡ preset.Found 1 1 (offset b i + headSize ed) (letterCountAt ed b (offset b i)))
       × (lettersOf ed b i ≡ lettersAt ed b (offset b i))
   unfolding presetOf
@@ -235,9 +240,10 @@ module _ (ed : Edition) (b : List ℕ) (i : ℕ) (z : bookRefusal ed b ≡ 0) (h
       let r : presetRefusal ed b i ≡ 0 = presetRefusal-record ed b i z h ∙ retired-read ed b o (lettersAt ed b o) k n m refl w in
       (checkedPreset-of ed b i o 1 1 (letterCountAt ed b o) 0 r refl k n refl, lettersOf-of ed b i o 0 (lettersAt ed b o) r refl refl)
 
+  -- B23
   pub rank-1-converted : firstOf (recordTests ed b i) ≡ 0
   rank-1-converted = let o = offset b i in sym (recordConversionRefusal-firstOf ed b i) ∙ retired-converted ed b o (lettersAt ed b o) k n m refl w
 
--- "all calls on plain words and windows still take rank 1": r is the refusal of their other checks
+-- K5: r is the refusal of a call's other checks
 pub rank-1-calls : (r : ℕ) → (rankRefusal 1 1 then r) ≡ r
 rank-1-calls r = rw rank-1-taken

@@ -1,5 +1,6 @@
--- Kind A at rank 1 (document 02, request 13): only appending asks for it. A record of such a preset passes the checks of reading and of converting, in
--- either edition, as any other does; and the calls on words and windows take its rank.
+-- Kind A at rank 1 (K5, B23 and C21 of the specification): only appending asks for it. A record of such a preset
+-- passes the checks of reading and of converting, in either edition, as any other does; and the calls on words and
+-- windows take its rank.
 -- Assumes nothing.
 use mathlib.Core.Path.{_≡_, refl, _∙_}
 use mathlib.Core.Logic.{_↔_}

@@ -1,5 +1,6 @@
--- Vectors: each call on a book at a few inputs, with its answer and the bytes of its output afterwards, worked out by hand from document 01. All by
--- computing the definitions. An output is lent full of 9s. The limits of 65,535 bytes are laws for every book.
+-- Vectors: each call on a book at a few inputs, with its answer and the bytes of its output afterwards, worked out
+-- by hand from the specification. All by computing the definitions. An output is lent full of 9s. The limits of
+-- 65,535 bytes are laws for every book.
 --
 -- Sections: books; opening; presets; runs of presets; letters; appending; converting.
 -- Assumes nothing.
@@ -36,7 +37,7 @@ use Rattle.book_format.specs.Calls.{lettersOf, fieldsOf, presetFields, r
 
 -- ---- books
 
--- document 01's book: B2 with 1 2 1 2, D5 with 5 2 3 5 1 2
+-- J13: B₂ with 1 2 1 2, D₅ with 5 2 3 5 1 2
 abbrev pub book : List ℕ
 book = 2 ∷ 2 ∷ 4 ∷ 0 ∷ 1 ∷ 2 ∷ 1 ∷ 2 ∷ 3 ∷ 5 ∷ 6 ∷ 0 ∷ 5 ∷ 2 ∷ 3 ∷ 5 ∷ 1 ∷ 2 ∷ 0 ∷ 0 ∷ 8 ∷ 0 ∷ 2 ∷ 0 ∷ []
 

@@ -43,7 +43,8 @@ unfolding toEnds refused traceNumbers listedBeside rewritingToEndListed
     written lowestFrom lowestUse traceWithin trace tooFewPlaces toEndOf tracedBy rewritingToEnd
 toEnds-agree = refl
 
--- a split of A2's 1 2 1 with step 1 allowed; a list too short, and an output too short; a bit above the rank, with no list at all
+-- a split of 1 2 1 in A₂ with step 1 allowed; a list too short, and an output too short; a bit above the rank, with
+-- no list at all
 pub splits : List ((ℤ × ((List ℕ × List ℕ) × List ℕ)) × (ℤ × ((List ℕ × List ℕ) × List ℕ)))
 splits =
     (splittingListed 1 2 1 (1 ∷ 2 ∷ 1 ∷ []) (9 ∷ 9 ∷ []) (9 ∷ 9 ∷ []) (8 ∷ 8 ∷ 8 ∷ []), (pos 3, ((1 ∷ 9 ∷ [], 2 ∷ 1 ∷ []), 1 ∷ 2 ∷ 8 ∷ [])))
@@ -61,7 +62,8 @@ unfolding splits refused splitNumbers listedBeside splittingListed
     wrongKind wrongRank tooLong wrongLetter tooShort rankRefusal wordRefusal down rise fall block without indexOf restOf normalFrom normalForm
 splits-agree = refl
 
--- the delay table of A1: its two windows have length 0 and 1; a list too short, and none at all where a rank has no table
+-- the delay table of A₁: its two windows have length 0 and 1; a list too short, and none at all for a rank without
+-- a table
 pub delayTables : List ((ℤ × ((List ℕ × List ℤ × List ℕ) × List ℕ)) × (ℤ × ((List ℕ × List ℤ × List ℕ) × List ℕ)))
 delayTables = (
   delayTableListed 1 1 (9 ∷ 9 ∷ 9 ∷ []) (pos 9 ∷ pos 9 ∷ []) (9 ∷ 9 ∷ []) (8 ∷ 8 ∷ 8 ∷ 8 ∷ []),

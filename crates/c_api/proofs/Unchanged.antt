@@ -1,4 +1,4 @@
--- "A refused call changes no lent byte", for the calls for C that write more than the call below them does: where the number is negative, every output and
+-- D6 for the calls for C that write more than the call below them does: if the number is negative, every output and
 -- the list of numbers are as they were. Each is an instance of the law of Lists.
 -- Assumes nothing.
 use mathlib.Core.Path.{_≡_}

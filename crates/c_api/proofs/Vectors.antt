@@ -110,7 +110,8 @@ pub besides-agree : Agree besides
 unfolding besides refused listedBeside tooShort
 besides-agree = refl
 
--- one rewrite: D4's 3 4, B4's 3 4, which no rule fits, and D4's again with too short a rule, too short an output, and a place past the end
+-- one rewrite: 3 4 in D₄, 3 4 in B₄, which no rule fits, and in D₄ again with too short a rule, too short an
+-- output, and a place past the end
 pub rewritings : List ((ℤ × (List ℕ × List ℕ)) × (ℤ × (List ℕ × List ℕ)))
 rewritings =
     (rewriting 3 4 (3 ∷ 4 ∷ []) 0 (9 ∷ 9 ∷ 9 ∷ []) (8 ∷ 8 ∷ 8 ∷ 8 ∷ []), (pos 2, (4 ∷ 3 ∷ 9 ∷ [], 2 ∷ 3 ∷ 4 ∷ 8 ∷ [])))

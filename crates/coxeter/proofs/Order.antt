@@ -47,7 +47,7 @@ before-higher a b u v h = before-other a b u v (omega arith) ∙ lt-ltb b a h
 pub before-cons : (a : ℕ) (u v : List ℕ) → before (a ∷ u) (a ∷ v) ≡ before u v
 before-cons a u v = before-same a a u v refl
 
--- "a word comes before its continuations"
+-- O2
 pub before-continuation : (u : List ℕ) (a : ℕ) (v : List ℕ) → before u (u ++ (a ∷ v)) ≡ true
 unfolding before
 before-continuation [] a v = refl

@@ -131,7 +131,7 @@ checks-again : (k n : ℕ) (u v : List ℕ)
     → (rankRefusal k n then wordRefusal n u then rankRefusal k n then wordRefusal n v) ≡ (rankRefusal k n then wordRefusal n u then wordRefusal n v)
 checks-again k n u v = elim (ℕ-discrete (rankRefusal k n) 0) [ yes z ↦ rw z | no f ↦ rw (ne-eqb (rankRefusal k n) 0 f) ]
 
--- "the verdict call gives the number": where a check refuses two words of one kind and rank, the verdict on them is that refusal
+-- V5: if a check refuses two words of one kind and rank, the verdict on them is that refusal
 pub verdict-gives-number : (k n : ℕ) (u v : List ℕ) (r : ℕ) → r ≡ (rankRefusal k n then wordRefusal n u then wordRefusal n v) → (r ≡ 0 → ⊥)
     → presetsEqual k n u k n v ≡ verdict.Refused r
 unfolding presetsEqual verdictOf

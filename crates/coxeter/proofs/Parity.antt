@@ -68,7 +68,7 @@ odd-exactly c = (
 
 -- ---- each part of a window
 
--- "for each part of a window from the left .. it is yes exactly when an odd number of the part's entries are negative"
+-- CP2
 pub flag-exactly : (w : List ℤ) (i : ℕ) → (flagAfter (take i w) ≡ true) ↔ Odd (negatives (take i w))
 flag-exactly w i =
     let same = flag-is-odd (take i w) in

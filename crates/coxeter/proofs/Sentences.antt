@@ -1,5 +1,5 @@
--- Requests 1, 3, 5 and 6 of document 02 in plain terms, as far as they concern words and windows: each sentence by itself, for every input of its
--- call, refused ones included. By the laws of the files before.
+-- Verdicts, crossings, parity, ranks and lengths in plain terms (V1, L2 to L5, CP1, CP2, C11, K4 and M1 of the
+-- specification): each law for every input of its call, refused ones included. By the laws of the files before.
 --
 -- Sections: presets that look alike; crossings; parity; sixty-four lanes.
 -- Assumes nothing.
@@ -60,7 +60,7 @@ module _ (k n : ℕ) (u : List ℕ) (l m : ℕ) (v : List ℕ) where
         | no f ↦ refuses r (sym (verdict-refused k n u l m v r refl f))
       ]
 
-  -- "The verdict becomes yes exactly when lane counts and windows agree, whatever the kinds": where the four checks accept
+  -- V1, I15: yes exactly then, if the four checks accept
   pub verdict-yes-exactly : (presetsEqual k n u l m v ≡ verdict.Yes)
       ↔ (Rig k n × WordOf n u × Rig l m × WordOf m v
       × (lanes (kindOf k) n ≡ lanes (kindOf l) m) × (window (kindOf k) n u ≡ window (kindOf l) m v))
@@ -73,7 +73,7 @@ module _ (k n : ℕ) (u : List ℕ) (l m : ℕ) (v : List ℕ) where
     λ a. verdict-exactly k n u l m v (a .0) (a .1) (a .2) (a .3) .1 (a .5),
   )
 
-  -- else no, and no only then: the windows differ; where the lane counts differ the windows do
+  -- V1: else no, and no only then: the windows differ; if the lane counts differ the windows do
   pub verdict-no-exactly : (presetsEqual k n u l m v ≡ verdict.No)
       ↔ (Rig k n × WordOf n u × Rig l m × WordOf m v
       × (window (kindOf k) n u ≡ window (kindOf l) m v → ⊥))
@@ -97,7 +97,7 @@ module _ (k n : ℕ) (u : List ℕ) (l m : ℕ) (v : List ℕ) where
           let z : 0 ≡ (rankRefusal k n then wordRefusal n u then rankRefusal l m then wordRefusal m v) = rw (a .0, a .1, a .2, a .3) in
           sym (verdict-no k n u l m v 0 z false refl e refl)
 
-  -- and a refusal is the first of the checks, the first preset's before the second's
+  -- CO3, CO4: a refusal is the first of the checks, the first preset's before the second's
   pub verdict-refused-exactly : (r : ℕ) → (presetsEqual k n u l m v ≡ verdict.Refused r)
       ↔ ((r ≡ (rankRefusal k n then wordRefusal n u then rankRefusal l m then wordRefusal m v)) × (r ≡ 0 → ⊥))
   verdict-refused-exactly r = (λ h. number (ℕ-discrete q 0) h, λ a. sym (verdict-refused k n u l m v r (a .0) (a .1)))
@@ -139,7 +139,7 @@ counted-refused-exactly q s r = elim (ℕ-discrete q 0) [
 then-both : (q r : ℕ) → q ≡ 0 → r ≡ 0 → (q then r) ≡ 0
 then-both q r h g = rw (h, g)
 
--- "as 01's three sums define them, with 0 for a sum the kind lacks": A has the first sum, B all three, D the first two
+-- L2, with 0 for L3 and L4
 pub counts-in-A : (n : ℕ) (w : List ℤ) (a b c : ℕ)
     → (crossingsOfWindow 1 n w ≡ counted.Crossings a b c)
     ↔ (Rig 1 n × WindowOf A n w × (a ≡ inversions w) × (b ≡ 0) × (c ≡ 0))
@@ -150,6 +150,7 @@ counts-in-A n w a b c =
       λ h. e .1 (then-both (rankRefusal 1 n) (windowRefusal A n w) (h .0) (h .1), h .2, h .3, h .4),
     )
 
+-- L2, L3, L4
 pub counts-in-B : (n : ℕ) (w : List ℤ) (a b c : ℕ)
     → (crossingsOfWindow 2 n w ≡ counted.Crossings a b c)
     ↔ (Rig 2 n × WindowOf B n w × (a ≡ inversions w) × (b ≡ negativeSumPairs w) × (c ≡ negatives w))
@@ -160,6 +161,7 @@ counts-in-B n w a b c =
       λ h. e .1 (then-both (rankRefusal 2 n) (windowRefusal B n w) (h .0) (h .1), h .2, h .3, h .4),
     )
 
+-- L2, L3, with 0 for L4
 pub counts-in-D : (n : ℕ) (w : List ℤ) (a b c : ℕ)
     → (crossingsOfWindow 3 n w ≡ counted.Crossings a b c)
     ↔ (Rig 3 n × WindowOf D n w × (a ≡ inversions w) × (b ≡ negativeSumPairs w) × (c ≡ 0))
@@ -170,23 +172,24 @@ counts-in-D n w a b c =
       λ h. e .1 (then-both (rankRefusal 3 n) (windowRefusal D n w) (h .0) (h .1), h .2, h .3, h .4),
     )
 
--- "from a word or from a window": a word's counts are its window's
+-- I13: a word's counts are its window's
 pub counts-of-word : (k n : ℕ) (u : List ℕ) → WordOf n u → crossingsOfWord k n u ≡ crossingsOfWindow k n (window (kindOf k) n u)
 unfolding crossingsOfWord crossingsOfWindow
 counts-of-word k n u h = rw (h, window-passes (kindOf k) n u)
 
--- a refusal is the first of the checks
+-- CO3, I14: a refusal is the first of the checks
 pub counts-of-window-refused : (k n : ℕ) (w : List ℤ) (r : ℕ) → (crossingsOfWindow k n w ≡ counted.Refused r)
     ↔ ((r ≡ (rankRefusal k n then windowRefusal (kindOf k) n w)) × (r ≡ 0 → ⊥))
 unfolding crossingsOfWindow
 counts-of-window-refused k n w r = counted-refused-exactly (rankRefusal k n then windowRefusal (kindOf k) n w) (crossings (kindOf k) w) r
 
+-- CO3, I13: the same of a word
 pub counts-of-word-refused : (k n : ℕ) (u : List ℕ) (r : ℕ) → (crossingsOfWord k n u ≡ counted.Refused r)
     ↔ ((r ≡ (rankRefusal k n then wordRefusal n u)) × (r ≡ 0 → ⊥))
 unfolding crossingsOfWord
 counts-of-word-refused k n u r = counted-refused-exactly (rankRefusal k n then wordRefusal n u) (crossings (kindOf k) (window (kindOf k) n u)) r
 
--- "the total of the three": the length that a call answers is that of the three counts which the other call answers, and no other
+-- L5: the length that a call answers is that of the three counts which the other call answers, and no other
 total-exactly : (q : ℕ) (s : Crossings) (l : ℕ)
     → (answerOf q (total s) ≡ Length l) ↔ ((a b c : ℕ) × (countedOf q s ≡ counted.Crossings a b c) × (l ≡ a + b + c))
 unfolding answerOf total
@@ -203,11 +206,13 @@ total-exactly q s l = elim (ℕ-discrete q 0) [
   )
 ]
 
+-- L5
 pub total-of-window-exactly : (k n : ℕ) (w : List ℤ) (l : ℕ)
     → (lengthOfWindow k n w ≡ Length l) ↔ ((a b c : ℕ) × (crossingsOfWindow k n w ≡ counted.Crossings a b c) × (l ≡ a + b + c))
 unfolding lengthOfWindow crossingsOfWindow windowLength
 total-of-window-exactly k n w l = total-exactly (rankRefusal k n then windowRefusal (kindOf k) n w) (crossings (kindOf k) w) l
 
+-- L5
 pub total-of-word-exactly : (k n : ℕ) (u : List ℕ) (l : ℕ)
     → (lengthOfWord k n u ≡ Length l) ↔ ((a b c : ℕ) × (crossingsOfWord k n u ≡ counted.Crossings a b c) × (l ≡ a + b + c))
 unfolding lengthOfWord crossingsOfWord windowLength
@@ -215,25 +220,27 @@ total-of-word-exactly k n u l = total-exactly (rankRefusal k n then wordRefusal 
 
 -- ---- parity
 
--- "a yes-no flipped at each negative entry": no before the first, the other after a negative entry, the same after any other
+-- CP1: no before the first entry
 pub flag-at-start : flagAfter [] ≡ false
 unfolding flipped
 flag-at-start = refl
 
+-- CP1: the other after a negative entry
 pub flag-flips : (part : List ℤ) (e : ℤ) → negative e ≡ true → flagAfter (part ++ (e ∷ [])) ≡ not (flagAfter part)
 flag-flips part e h = flipped-snoc false part e ∙ rw h
 
+-- CP1: the same after any other
 pub flag-stays : (part : List ℤ) (e : ℤ) → negative e ≡ false → flagAfter (part ++ (e ∷ [])) ≡ flagAfter part
 flag-stays part e h = flipped-snoc false part e ∙ rw h
 
--- "for each part of a window from the left .. it is yes exactly when an odd number of the part's entries are negative"
+-- CP2
 pub flag-yes-exactly : (w part rest : List ℤ) → w ≡ part ++ rest → (flagAfter part ≡ true) ↔ Odd (negatives part)
 flag-yes-exactly w part rest h =
     let same = flag-is-odd part in
     let o = odd-exactly (negatives part) in
     (λ e. o .0 (sym same ∙ e), λ e. same ∙ o .1 e)
 
--- "Refusal 11 stays exactly as it was": kind D with an odd number of negative entries, where checks 9 and 10 accept
+-- C11: kind D with an odd number of negative entries, if checks 9 and 10 accept
 pub refusal-11-exactly : (k : Kind) (n : ℕ) (w : List ℤ) → (windowRefusal k n w ≡ 11)
     ↔ ((wrongLanes k n w ≡ false) × (wrongEntry k (lanes k n) w ≡ false) × (k ≡ D) × Odd (negatives w))
 unfolding windowRefusal oddNegatives
@@ -257,7 +264,7 @@ refusal-11-exactly k n w =
 
 -- ---- sixty-four lanes
 
--- "Ranks become A 1 to 63, B 2 to 64, D 4 to 64": accepted exactly there, and refused 6 exactly elsewhere; every other kind is refused 5
+-- K4: accepted exactly there, and refused 6 exactly elsewhere; every other kind is refused 5
 range : (a b n : ℕ) → ((check 6 (ltb n a || ltb b n) ≡ 0) ↔ ((a ≤ n) × (n ≤ b))) × ((check 6 (ltb n a || ltb b n) ≡ 6) ↔ ((a ≤ n) × (n ≤ b) → ⊥))
 range a b n = elim (decLe a n) [
   | yes h ↦ elim (decLe n b) [
@@ -269,33 +276,38 @@ range a b n = elim (decLe a n) [
   | no h ↦ rw (lt-ltb n a (lt-of-not-le h)) ((λ e. absurd (omega arith), λ e. absurd (h (e .0))), (λ e x. h (x .0), λ e. refl))
 ]
 
+-- K4, C6
 pub ranks-of-A : (n : ℕ) → ((rankRefusal 1 n ≡ 0) ↔ ((1 ≤ n) × (n ≤ 63))) × ((rankRefusal 1 n ≡ 6) ↔ ((1 ≤ n) × (n ≤ 63) → ⊥))
 unfolding rankRefusal wrongKind wrongRank kindOf
 ranks-of-A n = range 1 63 n
 
+-- K4, C6
 pub ranks-of-B : (n : ℕ) → ((rankRefusal 2 n ≡ 0) ↔ ((2 ≤ n) × (n ≤ 64))) × ((rankRefusal 2 n ≡ 6) ↔ ((2 ≤ n) × (n ≤ 64) → ⊥))
 unfolding rankRefusal wrongKind wrongRank kindOf
 ranks-of-B n = range 2 64 n
 
+-- K4, C6
 pub ranks-of-D : (n : ℕ) → ((rankRefusal 3 n ≡ 0) ↔ ((4 ≤ n) × (n ≤ 64))) × ((rankRefusal 3 n ≡ 6) ↔ ((4 ≤ n) × (n ≤ 64) → ⊥))
 unfolding rankRefusal wrongKind wrongRank kindOf
 ranks-of-D n = range 4 64 n
 
+-- K2, C5
 pub no-other-kind : (k n : ℕ) → (k ≡ 1 → ⊥) → (k ≡ 2 → ⊥) → (k ≡ 3 → ⊥) → rankRefusal k n ≡ 5
 unfolding rankRefusal wrongKind
 no-other-kind k n a b d = rw (ne-eqb k 1 a, ne-eqb k 2 b, ne-eqb k 3 d)
 
--- "The longest normal form, B at 64, has 4,096 letters and still fits": it is accepted as a word, and none of any kind and rank is longer
+-- M1: it is accepted as a word
 pub longest-fits : (w : List ℤ) × WindowOf B 64 w × (length (normalForm B 64 w) ≡ 4096) × WordOf 64 (normalForm B 64 w)
 unfolding kindOf
 longest-fits =
     let g = longest-normalForm in
     (g .0, g .1 .0, g .1 .1, normalForm-fits 2 64 (g .0) (ranks-of-B 64 .0 .1 (omega arith)) (g .1 .0))
 
+-- M1: and none of any kind and rank is longer
 pub none-longer : (k n : ℕ) (w : List ℤ) → Rig k n → WindowOf (kindOf k) n w → length (normalForm (kindOf k) n w) ≤ 4096
 none-longer k n w h g = length-accepted n (normalForm (kindOf k) n w) (normalForm-fits k n w h g)
 
--- what a normal form call wrote is accepted as a word
+-- M1: what a normal form call wrote is accepted as a word
 pub written-form-fits : (k n : ℕ) (w : List ℤ) (before after : List ℕ) (l : ℕ) → Yields (normalFormOfWindow k n w before) (Length l) after
     → (l ≤ 4096) × WordOf n (take l after)
 written-form-fits k n w before after l left =

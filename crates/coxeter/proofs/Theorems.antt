@@ -70,7 +70,7 @@ module _ (k : Kind) (n : ℕ) (w : List ℤ) (h : WindowOf k n w) where
 
   -- ---- normal forms
 
-  -- "the window of the normal form is the window asked for"
+  -- N1, D8: the normal form has the window asked for
   pub window-normalForm : window k n (normalForm k n w) ≡ w
   window-normalForm = forms.window-normalForm k n w passed
 
@@ -79,17 +79,17 @@ module _ (k : Kind) (n : ℕ) (w : List ℤ) (h : WindowOf k n w) where
 
   -- ---- lengths
 
-  -- "The sum is the length of the normal form."
+  -- L5
   pub length-normalForm : length (normalForm k n w) ≡ windowLength k w
   length-normalForm = lengths.length-normalForm k n w passed
 
-  -- "The greatest lengths": no window is longer
+  -- L6: no window is longer
   pub windowLength-le : windowLength k w ≤ greatestLength k n
   windowLength-le = greatest.windowLength-le k n w passed
 
   -- ---- blocks
 
-  -- "Normal forms are exactly the words made of blocks": each is one
+  -- N9: each normal form is a word of blocks
   pub normalForm-is-blocks : (js : List ℕ) × (Indices k n 1 js × (normalForm k n w ≡ blocks k n 1 js))
   normalForm-is-blocks = (indices k n (levels k n) 1 w, (indices-in-range k n w passed, forms.normalForm-is-blocks k n w))
 
@@ -107,7 +107,7 @@ product-passes k n v w h g =
 pub greatest-reached : (k : Kind) (n : ℕ) → least k ≤ n → (w : List ℤ) × (WindowOf k n w × (windowLength k w ≡ greatestLength k n))
 greatest-reached k n h = (window k n (blocks k n 1 (greatest.greatestIndices k n)), (window-passes k n _, laws.greatest-reached k n h))
 
--- "The longest normal form, B at 64, has 4,096 letters and still fits." (document 02, request 6): a normal form is accepted again as a word
+-- M1: a normal form is accepted again as a word
 pub normalForm-fits : (k n : ℕ) (w : List ℤ) → Rig k n → WindowOf (kindOf k) n w → WordOf n (normalForm (kindOf k) n w)
 unfolding wordRefusal tooLong
 normalForm-fits k n w r h =
@@ -121,7 +121,7 @@ longest-normalForm =
     let g = greatest-reached B 64 (omega arith) in
     (g .0, (g .1 .0, length-normalForm B 64 (g .0) (g .1 .0) ∙ g .1 .1))
 
--- of one window there is at most one normal form in the mission's sense
+-- N1, N3: of one window there is at most one normal form
 pub normal-unique : (k : Kind) (n : ℕ) (w : List ℤ) (u v : List ℕ) → IsNormalForm k n w u → IsNormalForm k n w v → u ≡ v
 normal-unique k n w u v f g = elim (shortlex-total u v) [
   | inl e ↦ e
@@ -146,17 +146,17 @@ blocks-injective k n is js h g e =
 
 -- ---- the better word
 
--- "hands back the shorter of the two lent words, whole": the lent slice itself, not an equal copy
+-- V4: the lent slice itself, not an equal copy
 pub better-whole : (second : Bool) (u v r : RefT (List ℕ)) → Better true second u v r → r ≡ pick second v u
 better-whole second u v r b = b .whole refl
 
--- "a part of length 0 of the first word"
+-- V5, V6
 pub better-empty : (second : Bool) (u v r : RefT (List ℕ)) → Better false second u v r → (now r ≡ []) × (r .ptr ≡ u .ptr)
 better-empty second u v r b = b .empty refl
 
 -- ---- the verdict
 
--- "yes exactly when lane counts and windows agree, whatever the kinds": the two windows are the same list
+-- V1: the two windows are the same list
 pub equal-lanes : (k n : ℕ) (u : List ℕ) (l m : ℕ) (v : List ℕ) → window (kindOf k) n u ≡ window (kindOf l) m v
     → lanes (kindOf k) n ≡ lanes (kindOf l) m
 equal-lanes k n u l m v e = sym (length-window (kindOf k) n u) ∙ ap length e ∙ length-window (kindOf l) m v
@@ -182,7 +182,7 @@ verdict-exactly k n u l m v a b c d =
     rw (eq-eqb (rankRefusal k n) 0 a, eq-eqb (wordRefusal n u) 0 b, eq-eqb (rankRefusal l m) 0 c, eq-eqb (wordRefusal m v) 0 d)
     (by-same (samePresets k n u l m v) (same-exactly k n u l m v))
 
--- "the agreement of normal forms and verdict stays a fact about one kind and rank"
+-- V2, T14: of one kind and rank
 pub verdict-normalForm : (k n : ℕ) (u v : List ℕ) → Rig k n → WordOf n u → WordOf n v
     → (presetsEqual k n u k n v ≡ verdict.Yes) ↔ (wordNormalForm (kindOf k) n u ≡ wordNormalForm (kindOf k) n v)
 verdict-normalForm k n u v a b c =

@@ -1,7 +1,9 @@
--- Vectors: each call at a few inputs, with its answer and the bytes of its output afterwards, worked out by hand from document 01. All by computing
--- the definitions. An output is lent full of 9s, mostly longer than the answer.
+-- Vectors: each call at a few inputs, with its answer and the bytes of its output afterwards, worked out by hand
+-- from the specification. All by computing the definitions. An output is lent full of 9s, mostly longer than the
+-- answer.
 --
--- Sections: how a table is read; the calls that write a window; the calls that write a word; lengths; crossings; verdicts; the better word; refusals.
+-- Sections: how a table is read; the calls that write a window; the calls that write a word; lengths; crossings;
+-- verdicts; the better word; refusals.
 -- Assumes nothing.
 use mathlib.Core.Path.{_≡_, refl, ap}
 use mathlib.Core.List.{List, [], _∷_, map}
@@ -85,7 +87,8 @@ writing-windows = refl
 
 pub writingWords : List (Outcome ℕ × Outcome ℕ)
 writingWords =
-    -- the normal form of a window: document 01's D5, a straight window, an odd number of negative entries, the wrong length before a wrong entry
+    -- the normal form of a window: J5, a straight window, an odd number of negative entries, the wrong length
+    -- before a wrong entry
     (normalFormOfWindow 3 5 (pos 3 ∷ neg 5 ∷ pos 1 ∷ pos 4 ∷ neg 2 ∷ []) (lent 7), wrote 6 (5 ∷ 2 ∷ 3 ∷ 5 ∷ 1 ∷ 2 ∷ 9 ∷ []))
     ∷ (normalFormOfWindow 1 2 (pos 1 ∷ pos 2 ∷ pos 3 ∷ []) (lent 1), wrote 0 (lent 1))
     ∷ (normalFormOfWindow 3 4 (neg 1 ∷ pos 2 ∷ pos 3 ∷ pos 4 ∷ []) (lent 1), refused 11 (lent 1))

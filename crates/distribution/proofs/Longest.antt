@@ -203,7 +203,7 @@ weights-longest D n h = omega (arith, pairWeights-turned n (odd n), pairWeights-
 pub windowLength-longest : (k : Kind) (n : ℕ) → least k ≤ n → windowLength k (longest k n) ≡ greatestLength k n
 windowLength-longest k n h = length-by-weights k n (longest k n) (longest-accepted k n h) ∙ weights-longest k n h
 
--- "no other window of the rig has a normal form as long", at every rank
+-- Y4, at every rank
 pub longest-is : (k : Kind) (n : ℕ) → least k ≤ n → IsLongest k n (longest k n)
 longest-is k n h =
     record {

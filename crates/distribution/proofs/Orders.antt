@@ -91,7 +91,7 @@ order-orderOf D (suc m) h =
     let e : suc m - 1 ≡ m = omega arith in
     rw (e, pow-suc 2 m, mul-right-comm (2 ^ m) 2 (factorial (suc m))) (sym (mul-div-cancel (2 ^ m * factorial (suc m)) {n = 2} (omega arith)))
 
--- "The entries sum to (n + 1)! for A, 2 to the n times n! for B, and half of that for D."
+-- Y3
 pub sum-distribution : (k : Kind) (n : ℕ) → least k ≤ n → sum (distribution k n) ≡ order k n
 unfolding distribution
 sum-distribution k n h =

@@ -1,5 +1,5 @@
--- Document 02's request 11 in plain terms, at the answer and the three outputs that the call left. The record `IsLongest` is taken apart: each field
--- is read out as strongly as it is stated.
+-- The delay table in plain terms (Y1 to Y4, I24 and C20 of the specification), at the answer and the three outputs
+-- that the call left. The record `IsLongest` is taken apart: each field is read out as strongly as it is stated.
 --
 -- Sections: what the call wrote; the table; the longest window; refusals.
 -- Assumes nothing.
@@ -78,7 +78,7 @@ module _ (k n : ℕ) (counts : List ℕ) (entries : List ℤ) (letters : List �
   is-longest : IsLongest (kindOf k) n (take e y)
   is-longest = rw (wrote .5) (longest-is (kindOf k) n rank)
 
-  -- how many numbers, entries and letters are written
+  -- I24, Y1: how many numbers, entries and letters are written
   pub written-lengths : (c ≡ greatestLength (kindOf k) n + 1) × (e ≡ lanes (kindOf k) n) × (l ≡ greatestLength (kindOf k) n)
       × (length (take c x) ≡ c) × (length (take e y) ≡ e) × (length (take l z) ≡ l)
   written-lengths = (
@@ -92,12 +92,12 @@ module _ (k n : ℕ) (counts : List ℕ) (entries : List ℤ) (letters : List �
 
   -- ---- the table
 
-  -- "entry k is the exact number of windows whose length is k, for k from 0 to the greatest length"
+  -- Y1
   pub entry-exactly : (i : ℕ) → i ≤ greatestLength (kindOf k) n → getD x i 0 ≡ ofLength (kindOf k) n i
   entry-exactly i g =
       sym (getD-take c i x 0 (omega (arith, written-lengths .0))) ∙ ap (λ (r : List ℕ). getD r i 0) (wrote .4) ∙ entry-of-length (kindOf k) n i g
 
-  -- the same with the windows at hand: a list of all those of that length, none twice, has as many
+  -- Y1, Y2: the same with the windows at hand: a list of all those of that length, none twice, has as many
   pub entry-counts : (i : ℕ) → i ≤ greatestLength (kindOf k) n
       → (ws : List (List ℤ)) × Once ws × ((w : List ℤ) → In w ws ↔ (WindowOf (kindOf k) n w × (windowLength (kindOf k) w ≡ i)))
       × (getD x i 0 ≡ length ws)
@@ -115,32 +115,34 @@ module _ (k n : ℕ) (counts : List ℕ) (entries : List ℤ) (letters : List �
         entry-exactly i g,
       )
 
-  -- "The entries sum to (n + 1)! for A, 2 to the n times n! for B, and half of that for D."
+  -- Y3
   pub entries-sum : sum (take c x) ≡ order (kindOf k) n
   entries-sum = ap sum (wrote .4) ∙ sum-distribution (kindOf k) n rank
 
   -- ---- the longest window
 
-  -- "Give also the one window with the greatest length": it passes checks 9 to 11 and has that length, and every other window is shorter
+  -- Y4: it passes checks 9 to 11 and has the greatest length
   pub longest-passes : WindowOf (kindOf k) n (take e y) × (windowLength (kindOf k) (take e y) ≡ greatestLength (kindOf k) n)
   longest-passes = (is-longest .passes, is-longest .greatest)
 
+  -- Y4: every other window is shorter
   pub others-shorter : (v : List ℤ) → WindowOf (kindOf k) n v → (v ≡ take e y → ⊥)
       → windowLength (kindOf k) v < windowLength (kindOf k) (take e y)
   others-shorter v p f =
       omega (arith, is-longest .only v p f, length-normalForm (kindOf k) n v p, length-normalForm (kindOf k) n (take e y) (is-longest .passes))
 
+  -- Y4: so there is one
   pub one-longest : (v : List ℤ) → WindowOf (kindOf k) n v → windowLength (kindOf k) v ≡ greatestLength (kindOf k) n → v ≡ take e y
   one-longest v p q =
       longest-unique (kindOf k) n v (take e y) rank (accepted-of-refusal (kindOf k) n v p)
       (accepted-of-refusal (kindOf k) n (take e y) (is-longest .passes)) q (is-longest .greatest)
 
-  -- "and its normal form", among words of any length
+  -- Y4, N1: its normal form, among words of any length
   pub longest-form : IsNormalForm (kindOf k) n (take e y) (take l z)
   longest-form =
       rw (wrote .5, wrote .6) (normalForm-least (kindOf k) n (longest (kindOf k) n) rank (longest-is (kindOf k) n rank .passes))
 
-  -- "no other window of the rig has a normal form as long"
+  -- Y4
   pub others-form-shorter : (v : List ℤ) (u : List ℕ) → WindowOf (kindOf k) n v → (v ≡ take e y → ⊥) → IsNormalForm (kindOf k) n v u
       → length u < l
   others-form-shorter v u p f m =
@@ -167,7 +169,7 @@ module _ (k n : ℕ) (counts : List ℕ) (entries : List ℤ) (letters : List �
             (g (λ o. true≢false (sym t ∙ ap (λ (r : List ℕ). shortlex r u) o ∙ shortlex-irrefl u)))
       ]
 
-  -- what is left of each output keeps what it held
+  -- CO7, I2: what is left of each output keeps what it held
   pub table-past : (drop c x ≡ drop c counts) × (drop e y ≡ drop e entries) × (drop l z ≡ drop l letters)
   table-past = rw (h .1, h .2, h .3) (delayTable-past k n counts entries letters c e l (sym (h .0)))
 
@@ -206,7 +208,7 @@ not-B e = let o : _≡_ {A = ℕ} 0 1 = cc in omega arith
 not-D : A ≡ D → ⊥
 not-D e = let o : _≡_ {A = ℕ} 0 1 = cc in omega arith
 
--- "the rank is above 19 for A or above 16 for B or D"
+-- C20
 untabled-exactly : (k : Kind) (n : ℕ) → (untabled k n ≡ true) ↔ (((k ≡ A) × (19 < n)) ⊎ (((k ≡ B) ⊎ (k ≡ D)) × (16 < n)))
 unfolding untabled
 untabled-exactly A n = (
@@ -242,7 +244,7 @@ module _ (k n : ℕ) (counts : List ℕ) (entries : List ℤ) (letters : List �
       let e = tableOf-refused (tableRefusal k n then room) _ _ _ m in
       (λ q. e .0 (sym (h .0) ∙ q), λ q. h .0 ∙ e .1 q)
 
-  -- "20 when the rank is above 19 for A or above 16 for B or D, checked after refusal 6"
+  -- C20: after 6
   pub table-20-exactly : (a ≡ Refused 20)
       ↔ (Rig k n × (((kindOf k ≡ A) × (19 < n)) ⊎ (((kindOf k ≡ B) ⊎ (kindOf k ≡ D)) × (16 < n))))
   unfolding tableRefusal
@@ -280,7 +282,7 @@ module _ (k n : ℕ) (counts : List ℕ) (entries : List ℤ) (letters : List �
         ⊎-elim (λ b. inl (lt-ltb _ _ b)) (⊎-elim (λ b. inr (inl (lt-ltb _ _ b))) (λ b. inr (inr (lt-ltb _ _ b)))),
       )
 
-  -- 14 exactly when those pass and one of the outputs is too short
+  -- C14, CO9: 14 exactly when those pass and one of the outputs is too short
   pub table-14-exactly : (a ≡ Refused 14)
       ↔ (Rig k n × (n ≤ greatestTabled (kindOf k)) × ((length counts < greatestLength (kindOf k) n + 1)
       ⊎ ((length entries < lanes (kindOf k) n) ⊎ (length letters < greatestLength (kindOf k) n))))
@@ -297,7 +299,7 @@ module _ (k n : ℕ) (counts : List ℕ) (entries : List ℤ) (letters : List �
             e .1 (t .1 (inr (r, o .1 (rooms r .1 (p .2))))),
       )
 
-  -- lengths are answered exactly when checks 5, 6 and 20 accept and the three outputs have room
+  -- I24: lengths are answered exactly when checks 5, 6 and 20 accept and the three outputs have room
   pub table-exactly : ((c e l : ℕ) × (a ≡ Written c e l))
       ↔ (Rig k n × (n ≤ greatestTabled (kindOf k)) × (greatestLength (kindOf k) n + 1 ≤ length counts)
       × (lanes (kindOf k) n ≤ length entries) × (greatestLength (kindOf k) n ≤ length letters))
@@ -331,11 +333,11 @@ module _ (k n : ℕ) (counts : List ℕ) (entries : List ℤ) (letters : List �
             (d, w, u, h .0 ∙ tableOf-written (tableRefusal k n then room) d w u d w u .1 (then-none (tableRefusal k n) room q ∙ r, refl, refl, refl)),
       )
 
-  -- and otherwise the first check's number
+  -- CO3: and otherwise the first check's number
   pub table-first-refusal : (r : ℕ) → (r ≡ 0 → ⊥) → tableRefusal k n ≡ r → a ≡ Refused r
   unfolding delayTable tables tableOf roomRefusal
   table-first-refusal r f q = h .0 ∙ rw (then-some (tableRefusal k n) room (λ z. f (sym q ∙ z)), q, ne-eqb r 0 f)
 
-  -- a refused call changes none of the three outputs
+  -- D6, CO9: a refused call changes none of the three outputs
   pub table-unchanged : (r : ℕ) → a ≡ Refused r → (x ≡ counts) × (y ≡ entries) × (z ≡ letters)
   table-unchanged r e = rw (h .1, h .2, h .3) (delayTable-unchanged k n counts entries letters r (sym (h .0) ∙ e))

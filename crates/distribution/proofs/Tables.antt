@@ -24,7 +24,7 @@ getD-map-up f i zero l h = absurd (omega arith)
 getD-map-up f i (suc m) zero h = ap f (sym (add-zero i))
 getD-map-up f i (suc m) (suc l) h = getD-map-up f (suc i) m l (omega arith) ∙ ap f (suc-add i l ∙ sym (add-suc i l))
 
--- "entry k is the exact number of windows whose length is k, for k from 0 to the greatest length"
+-- Y1
 pub entry-of-length : (k : Kind) (n l : ℕ) → l ≤ greatestLength k n → getD (distribution k n) l 0 ≡ ofLength k n l
 unfolding distribution
 entry-of-length k n l h = getD-map-up (ofLength k n) 0 (greatestLength k n + 1) l (omega arith) ∙ ap (ofLength k n) (zero-add l)

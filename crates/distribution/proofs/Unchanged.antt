@@ -38,7 +38,7 @@ module _ (k n : ℕ) (counts : List ℕ) (entries : List ℤ) (letters : List �
         kept-whole s good Refused h not-good u letters,
       )
 
-  -- "the rest of each keeps what it held"
+  -- CO7, I2: the rest of each keeps what it held
   pub delayTable-past : (a b c : ℕ) → delayTable k n counts entries letters .answer ≡ Written a b c
       → (drop a (delayTable k n counts entries letters .counts) ≡ drop a counts)
       × (drop b (delayTable k n counts entries letters .entries) ≡ drop b entries)

@@ -1,5 +1,6 @@
--- Vectors: lists of windows, tables and longest windows of small ranks, and the call at a few inputs, worked out by hand from document 02. All by
--- computing the definitions. An output is lent full of 9s, mostly longer than the answer.
+-- Vectors: lists of windows, tables and longest windows of small ranks, and the call at a few inputs, worked out by
+-- hand from the specification. All by computing the definitions. An output is lent full of 9s, mostly longer than
+-- the answer.
 --
 -- Sections: windows; tables; longest windows; the call.
 -- Assumes nothing.

@@ -1,7 +1,8 @@
--- Wrong routers (document 01, "What contracts have to settle", point c, and "Mistakes close at hand"; and others): a wrong answer for each, and an
--- input at which the call's definition says otherwise. A contract that is an equation with the definition then lets none of them through. The wrong answers
--- are in WrongWindows, WrongRewrites, WrongTraces, WrongShortest, WrongSplits, WrongTables and WrongBooks; that each row is wrong is `ruled-out` of
--- WrongRouters.antt. Not here: those that show only at books too large to compute with, parts handed back and places kept; they too are in that file.
+-- Wrong routers (section Q of the specification, and others): a wrong answer for each, and an input at which the
+-- call's definition says otherwise. A contract that is an equation with the definition then lets none of them
+-- through. The wrong answers are in WrongWindows, WrongRewrites, WrongTraces, WrongShortest, WrongSplits,
+-- WrongTables and WrongBooks; that each row is wrong is `ruled-out` of WrongRouters.antt. Not here: those that show
+-- only at books too large to compute with, parts handed back and places kept; they too are in that file.
 -- Assumes nothing.
 use mathlib.Core.List.{List, [], _∷_}
 use Prim.Native.Nat.{ℕ}
@@ -99,7 +100,7 @@ lent m = replicate m 9
 abbrev lentEntries : ℕ → List ℤ
 lentEntries m = replicate m (pos 9)
 
--- a book of one preset, A1 with the empty word
+-- a book of one preset, A₁ with the empty word
 abbrev one : List ℕ
 one = 1 ∷ 1 ∷ 0 ∷ 0 ∷ 0 ∷ 0 ∷ 1 ∷ 0 ∷ []
 
@@ -155,7 +156,7 @@ table =
     ∷ differ productOfWords wordsJoinedUnshortened (λ f. bytes (f 1 2 (1 ∷ []) (1 ∷ []) (lent 2)))
     ∷ differ inverseOfWord wordAsItsInverse (λ f. bytes (f 1 2 (1 ∷ 2 ∷ []) (lent 2)))
     ∷ differ inverseOfWord reversedUnshortened (λ f. bytes (f 1 2 (1 ∷ 2 ∷ 1 ∷ []) (lent 3)))
-    -- lengths; "the last step alone would get a length above 1"
+    -- lengths; by the usual order the last step alone would get a length above 1 (Q8)
     ∷ differ lengthOfWord letterTotal (λ f. answer (f 1 2 (1 ∷ 1 ∷ [])))
     ∷ differ lengthOfWord usualOrderOfAWord (λ f. answer (f 2 2 (2 ∷ [])))
     ∷ differ lengthOfWord usualOrderOfAWord (λ f. answer (f 3 4 (4 ∷ [])))

@@ -17,7 +17,7 @@ stepWith others k n u p out =
     let r = rankRefusal k n then wordRefusal n u then check 12 (pastEnd u p) in
     pick (eqb r 0) (stepBy (firstFitting (others (kindOf k) n) u p) u p out) (refusedStep r u out)
 
--- "one that says none fits without looking"
+-- Q6
 abbrev pub noneFitsWithoutLooking : ℕ → ℕ → List ℕ → ℕ → List ℕ → Step
 noneFitsWithoutLooking = stepWith (λ k n. [])
 
@@ -28,7 +28,7 @@ noneFitsForWantOfRoom k n u p out = elim (firstFitting (rules (kindOf k) n) u p)
   | some r ↦ pick (tooShort (length (rewritten r u p)) out) (stepBy none u p out) (step k n u p out)
 ]
 
--- "Taking kind B's rule for 2 4 into D4."
+-- Q9
 abbrev pub ruleOfBInD : ℕ → ℕ → List ℕ → ℕ → List ℕ → Step
 ruleOfBInD = stepWith (λ k n. rules k n ++ family2 B n)
 

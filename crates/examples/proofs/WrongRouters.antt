@@ -265,7 +265,7 @@ module _ (k n : ℕ) (present simpler places : List ℕ) where
   pub falling-places-ruled-out : (p q : ℕ) (rest : List ℕ) → q ≤ p → FellBack k n present simpler places (fallbacks.Kept 2) (p ∷ q ∷ rest) → ⊥
   falling-places-ruled-out p q rest l h = let r = h .kept 2 refl .serves .rising .2 .0 in omega arith
 
-  -- "a no writes nothing"
+  -- F5
   pub no-that-writes-ruled-out : (after : List ℕ) → (after ≡ places → ⊥) → FellBack k n present simpler places fallbacks.No after → ⊥
   unfolding keptCount
   no-that-writes-ruled-out after f h = f (h .others)

@@ -61,7 +61,7 @@ noneIsNegative e = false
 
 -- ---- refusals
 
--- "one that turns every preset down"
+-- Q1
 abbrev pub refusesEveryKind : ℕ → ℕ → ℕ
 refusesEveryKind k n = 5
 
@@ -109,15 +109,15 @@ secondWindowUnchecked k n u v = windowChecks k n u
 
 -- ---- the window of a word
 
--- "one that turns every preset down"
+-- Q1
 abbrev pub turnsEveryPresetDown : ℕ → ℕ → List ℕ → List ℤ → Outcome ℤ
 turnsEveryPresetDown k n u out = writes 5 (window (kindOf k) n u) out
 
--- "one that shows the straight window for all words"
+-- Q2
 abbrev pub straightForAllWords : ℕ → ℕ → List ℕ → List ℤ → Outcome ℤ
 straightForAllWords k n u out = writes (wordChecks k n u) (straight (lanes (kindOf k) n)) out
 
--- "Exchanging values where positions are meant": each step i exchanges the sizes i and i + 1
+-- Q7: each step i exchanges the sizes i and i + 1
 abbrev exchangeSizes : ℕ → ℤ → ℤ
 exchangeSizes s e = signed e (pick (eqb (natAbs e) s) (s + 1) (pick (eqb (natAbs e) (s + 1)) s (natAbs e)))
 
@@ -142,18 +142,18 @@ clearsTheOutput k n u out = windowOfWord k n u (map (λ e. pos 0) out)
 
 -- ---- normal forms
 
--- "one that hands the word back unshortened"
+-- Q3
 abbrev pub unshortenedWord : ℕ → ℕ → List ℕ → List ℕ → Outcome ℕ
 unshortenedWord k n u out = writes (wordChecks k n u) u out
 
--- "one that peels block 1 and copies the rest"
+-- Q4
 abbrev pub block1AndACopy : Kind → ℕ → List ℕ → List ℕ
 block1AndACopy k n u = let b = block k n 1 (indexOf n (placeFrom 1 (window k n u) 1)) in take (length u - length b) u ++ b
 
 abbrev pub peelsOnlyBlock1 : ℕ → ℕ → List ℕ → List ℕ → Outcome ℕ
 peelsOnlyBlock1 k n u out = writes (wordChecks k n u) (block1AndACopy (kindOf k) n u) out
 
--- "Stopping at a shortest word that is not the first in the dictionary."
+-- Q11
 abbrev pub stopsAtAShortestWord : ℕ → ℕ → List ℕ → List ℕ → Outcome ℕ
 stopsAtAShortestWord k n u out =
     let shortest = eqb (length u) (windowLength (kindOf k) (window (kindOf k) n u)) in
@@ -238,11 +238,11 @@ reversedUnshortened k n u out = writes (wordChecks k n u) (backwards u []) out
 
 -- ---- lengths
 
--- "one that reports a letter total as the length"
+-- Q5
 abbrev pub letterTotal : ℕ → ℕ → List ℕ → Answer
 letterTotal k n u = answerOf (wordChecks k n u) (length u)
 
--- "Using the usual order of the integers in the sums for B and D"
+-- Q8
 abbrev greater : ℤ → ℤ → Bool
 greater (pos a) (pos b) = ltb b a
 greater (pos a) (negsuc b) = true
@@ -275,7 +275,7 @@ usualOrderOfAWord k n u = answerOf (wordChecks k n u) (usualLength (kindOf k) (w
 abbrev pub negativesNotCounted : ℕ → ℕ → List ℤ → Answer
 negativesNotCounted k n w = answerOf (windowChecks k n w) (inversions w + negativeSumPairs w)
 
--- "Negating a signed byte before its range is known": −128 becomes −128 again, and its size is above nothing
+-- Q10: −128 becomes −128 again, and its size is above nothing
 abbrev pub negatesBeforeItsRange : ℕ → ℕ → List ℤ → Answer
 negatesBeforeItsRange k n w =
     let sizes = check 10 (wrongEntry (kindOf k) (lanes (kindOf k) n) (without 128 w)) in
@@ -287,7 +287,7 @@ negatesBeforeItsRange k n w =
 abbrev pub ranksNotCompared : ℕ → ℕ → List ℕ → ℕ → ℕ → List ℕ → Verdict
 ranksNotCompared k₁ n₁ u₁ k₂ n₂ u₂ = verdictOf (wordChecks k₁ n₁ u₁ then wordChecks k₂ n₂ u₂) (eqb k₁ k₂ && equalWords (kindOf k₁) n₁ u₁ u₂)
 
--- presets of different kind are never equal, as before request 1 of document 02
+-- against V1: presets of different kind are never equal
 abbrev pub kindsCompared : ℕ → ℕ → List ℕ → ℕ → ℕ → List ℕ → Verdict
 kindsCompared k₁ n₁ u₁ k₂ n₂ u₂ = verdictOf (wordChecks k₁ n₁ u₁ then wordChecks k₂ n₂ u₂) (eqb k₁ k₂ && samePresets k₁ n₁ u₁ k₂ n₂ u₂)
 

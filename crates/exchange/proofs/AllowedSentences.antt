@@ -1,7 +1,8 @@
--- Document 02's requests 4 and 10 in plain terms, at the answer and the bytes that the two calls left. The records of specs/ are taken apart: each
--- field is read out as strongly as it is stated, and a record that is a hypothesis is put together from its plain parts.
+-- Splits and ways over allowed steps in plain terms (sections S and A, I22 and I23 of the specification), at the
+-- answer and the bytes that the two calls left. The records of specs/ are taken apart: each field is read out as
+-- strongly as it is stated, and a record that is a hypothesis is put together from its plain parts.
 --
--- Sections: a bit above the rank; request 4, the two words; request 4, refusals; request 10, the word; request 10, refusals.
+-- Sections: a bit above the rank; a split, the two words; a split, refusals; a way, the word; a way, refusals.
 -- Assumes nothing.
 use mathlib.Core.Path.{_≡_, refl, sym, ap, _∙_}
 use mathlib.Core.Bool.{Bool, true, false, true≢false}
@@ -73,7 +74,7 @@ set-refuses k n set q f =
       λ h. r ∙ e .1 (h .0, wrongSet-exactly n set .1 (h .1)),
     )
 
--- ---- request 4, the two words
+-- ---- a split, the two words
 
 take-le : (j : ℕ) (l : List ℕ) → length (take j l) ≤ j
 take-le j l = rw (length-take j l) (min-le-left j (length l))
@@ -82,31 +83,31 @@ module _ (k n set : ℕ) (u first second : List ℕ) (a b : ℕ) (x y : List ℕ
   split : IsSplit (allows set) (kindOf k) n (window (kindOf k) n u) (take a x) (take b y)
   split = rw (h .1, h .2) (splitting-splits k n set u first second a b (sym (h .0)))
 
-  -- "a first word over allowed steps"
+  -- S2
   pub first-over : Over (allows set) (take a x)
   first-over = split .over
 
-  -- "and a second whose window has no shortest word beginning with an allowed step": of all words, of any length
+  -- S3: of all words, of any length
   pub second-none-begins : (s : ℕ) (v : List ℕ) → allows set s ≡ true → wrongLetter n (s ∷ v) ≡ false
       → ((z : List ℕ) → wrongLetter n z ≡ false → window (kindOf k) n z ≡ window (kindOf k) n (s ∷ v) → length (s ∷ v) ≤ length z)
       → window (kindOf k) n (s ∷ v) ≡ window (kindOf k) n (take b y) → ⊥
   second-none-begins s v q letters shortest = split .none-begins s v q (record { steps = letters; none-shorter = shortest })
 
-  -- "Both are normal forms"
+  -- S4
   pub both-normal : IsNormalForm (kindOf k) n (window (kindOf k) n (take a x)) (take a x)
       × IsNormalForm (kindOf k) n (window (kindOf k) n (take b y)) (take b y)
   both-normal = (split .first-normal, split .second-normal)
 
-  -- "the product of their windows is the preset's window"
+  -- S5
   pub windows-join : product (window (kindOf k) n (take a x)) (window (kindOf k) n (take b y)) ≡ window (kindOf k) n u
   windows-join = split .joins
 
-  -- "their lengths add up to that window's length", those of the words written and the numbers answered
+  -- S6: those of the words written and the numbers answered
   pub lengths-add-up : (length (take a x) + length (take b y) ≡ windowLength (kindOf k) (window (kindOf k) n u))
       × (a + b ≡ windowLength (kindOf k) (window (kindOf k) n u))
   lengths-add-up = (split .lengths, splitting-lengths k n set u first second a b (sym (h .0)))
 
-  -- "and there is just one such pair"
+  -- S7
   pub just-one-pair : (v w : List ℕ) → Over (allows set) v
       → ((s : ℕ) (z : List ℕ) → allows set s ≡ true → wrongLetter n (s ∷ z) ≡ false
       → ((t : List ℕ) → wrongLetter n t ≡ false → window (kindOf k) n t ≡ window (kindOf k) n (s ∷ z) → length (s ∷ z) ≤ length t)
@@ -125,16 +126,17 @@ module _ (k n set : ℕ) (u first second : List ℕ) (a b : ℕ) (x y : List ℕ
         lengths = lengths;
       }))
 
-  -- each word written is as long as the answer says, and what lies behind it keeps what it held
+  -- I22: each word written is as long as the answer says
   pub words-long : (length (take a x) ≡ a) × (length (take b y) ≡ b)
   words-long =
       let q = lengths-add-up in
       (omega (arith, q .0, q .1, take-le a x, take-le b y), omega (arith, q .0, q .1, take-le a x, take-le b y))
 
+  -- CO7, I2: what lies behind it keeps what it held
   pub split-past : (drop a x ≡ drop a first) × (drop b y ≡ drop b second)
   split-past = rw (h .1, h .2) (splitting-past k n set u first second a b (sym (h .0)))
 
--- "With no step allowed the first word is empty."
+-- S8
 pub first-empty : (k n : ℕ) (u first second : List ℕ) (a b : ℕ) (x y : List ℕ) → SplitYields (splitting k n 0 u first second) (Words a b) x y
     → (a ≡ 0) × (take a x ≡ [])
 first-empty k n u first second a b x y h =
@@ -145,7 +147,7 @@ first-empty k n u first second a b x y h =
     let e = only .0 ∙ splits-none (kindOf k) n (window (kindOf k) n u) r p in
     (sym (words-long k n 0 u first second a b x y h .0) ∙ ap (λ (z : List ℕ). length z) e, e)
 
--- ---- request 4, refusals
+-- ---- a split, refusals
 
 splitOf-refused : (r a b c : ℕ) → (splitOf r a b ≡ Refused (suc c)) ↔ (r ≡ suc c)
 unfolding splitOf
@@ -190,7 +192,7 @@ module _ (k n set : ℕ) (u first second : List ℕ) (a : Split) (x y : List ℕ
       let e = splitOf-refused ((setRefusal k n set then wordRefusal n u) then room) _ _ c in
       (λ q. e .0 (sym (h .0) ∙ q), λ q. h .0 ∙ e .1 q)
 
-  -- "16 when a bit stands for a step above the rank, checked right after the rank"
+  -- C16: right after the rank
   pub split-16-exactly : (a ≡ Refused 16) ↔ (Rig k n × ((s : ℕ) × (n < s) × (allows set s ≡ true)))
   split-16-exactly =
       let e = refused-exactly 15 in
@@ -199,7 +201,7 @@ module _ (k n set : ℕ) (u first second : List ℕ) (a : Split) (x y : List ℕ
       (then-avoids (wordRefusal n u) room 15 (λ z. omega (arith, wordRefusal-le n u)) (room-avoids first-short second-short)) in
       (λ q. s .0 (sym r ∙ e .0 q), λ q. e .1 (r ∙ s .1 q))
 
-  -- 14 exactly when checks 5 to 8 and 16 accept and one of the outputs is too short for its word
+  -- C14, CO9: 14 exactly when checks 5 to 8 and 16 accept and one of the outputs is too short for its word
   pub split-14-exactly : (a ≡ Refused 14)
       ↔ (Rig k n × ((s : ℕ) → n < s → allows set s ≡ true → ⊥) × WordOf n u
       × ((length first < length (firstWord (allows set) (kindOf k) n (window (kindOf k) n u)))
@@ -221,7 +223,7 @@ module _ (k n set : ℕ) (u first second : List ℕ) (a : Split) (x y : List ℕ
             ))),
       )
 
-  -- words are answered exactly when checks 5 to 8 and 16 accept and both outputs have room
+  -- I22: words are answered exactly when checks 5 to 8 and 16 accept and both outputs have room
   pub split-exactly : ((p q : ℕ) × (a ≡ Words p q))
       ↔ (Rig k n × ((s : ℕ) → n < s → allows set s ≡ true → ⊥) × WordOf n u
       × (length (firstWord (allows set) (kindOf k) n (window (kindOf k) n u)) ≤ length first)
@@ -248,49 +250,50 @@ module _ (k n set : ℕ) (u first second : List ℕ) (a : Split) (x y : List ℕ
             (l, m, h .0 ∙ splitOf-words (q then room) l m l m .1 (then-none q room c ∙ r, refl, refl)),
       )
 
-  -- and otherwise the first check's number
+  -- CO3: and otherwise the first check's number
   pub split-first-refusal : (r : ℕ) → (r ≡ 0 → ⊥) → (setRefusal k n set then wordRefusal n u) ≡ r → a ≡ Refused r
   unfolding splitting parts splitOf
   split-first-refusal r f e =
       let q = setRefusal k n set then wordRefusal n u in
       h .0 ∙ rw (then-some q room (λ z. f (sym e ∙ z)), e, ne-eqb r 0 f)
 
-  -- a refused call changes no byte of either output
+  -- D6, CO9: a refused call changes no byte of either output
   pub split-unchanged : (r : ℕ) → a ≡ Refused r → (x ≡ first) × (y ≡ second)
   split-unchanged r e = rw (h .1, h .2) (splitting-unchanged k n set u first second r (sym (h .0) ∙ e))
 
--- ---- request 10, the word
+-- ---- a way, the word
 
 module _ (k n set : ℕ) (v w : List ℤ) (out : List ℕ) (l : ℕ) (after : List ℕ)
     (h : Yields (betweenWindows k n set v w out) (answer.Length l) after) where
   wrote : IsBetween (allows set) (kindOf k) n v w (take l after) × (length (take l after) ≡ l) × (drop l after ≡ drop l out)
   wrote = rw (h .1) (between-answers k n set v w out l (sym (h .0)))
 
-  -- a "word over those steps that leads from the first window to the second"
+  -- A2, A3
   pub word-leads : (wrongLetter n (take l after) ≡ false) × Over (allows set) (take l after) × (windowFrom (kindOf k) n v (take l after) ≡ w)
   word-leads = let m = wrote .0 .leads in (m .steps, m .over, m .arrives)
 
-  -- "It is a shortest such word, and the first of those in the dictionary": of all words over those steps that lead there, of any length
+  -- A4: of all words over those steps that lead there, of any length
   pub word-first : (z : List ℕ) → wrongLetter n z ≡ false → Over (allows set) z → windowFrom (kindOf k) n v z ≡ w → (z ≡ take l after → ⊥)
       → (l < length z) ⊎ ((l ≡ length z) × (before (take l after) z ≡ true))
   word-first z letters over arrives other =
       let s = shortlex-cases (take l after) z (wrote .0 .least z (record { steps = letters; over = over; arrives = arrives }) other) in
       ⊎-elim (λ p. inl (omega (arith, p, wrote .1))) (λ p. inr (sym (wrote .1) ∙ p .0, p .1)) s
 
-  -- "the normal form of the word over those steps that leads from the first window to the second": of its own window, and of every such word
+  -- A3, N1: it is the normal form of its own window
   pub word-normal : IsNormalForm (kindOf k) n (window (kindOf k) n (take l after)) (take l after)
   word-normal = wrote .0 .normal
 
+  -- A3, N2: and of every such word
   pub word-of-every : (z : List ℕ) → wrongLetter n z ≡ false → Over (allows set) z → windowFrom (kindOf k) n v z ≡ w
       → take l after ≡ wordNormalForm (kindOf k) n z
   word-of-every z letters over arrives =
       rw (h .1) (between-of-word k n set v w out l z (sym (h .0)) (record { steps = letters; over = over; arrives = arrives }))
 
-  -- as many letters as the answer says, and behind them the output keeps what it held
+  -- I23, I2: as many letters as the answer says, and behind them the output keeps what it held
   pub word-written : (length (take l after) ≡ l) × (drop l after ≡ drop l out)
   word-written = (wrote .1, wrote .2)
 
--- ---- request 10, refusals
+-- ---- a way, refusals
 
 answerOf-refused : (r l c : ℕ) → (answerOf r l ≡ answer.Refused (suc c)) ↔ (r ≡ suc c)
 unfolding answerOf
@@ -309,7 +312,7 @@ module _ (k n set : ℕ) (v w : List ℤ) (out : List ℕ) (a : Answer) (after :
       let e = answerOf-refused (betweenRefusal k n set v w then last-check) (length (between (kindOf k) n v w)) c in
       (λ q. e .0 (sym (h .0) ∙ q), λ q. h .0 ∙ e .1 q)
 
-  -- "16 ..": "Checks run kind, rank, refusal 16, then both windows."
+  -- C16: right after the rank, before both windows
   pub between-16-exactly : (a ≡ answer.Refused 16) ↔ (Rig k n × ((s : ℕ) × (n < s) × (allows set s ≡ true)))
   unfolding betweenRefusal
   between-16-exactly =
@@ -324,7 +327,7 @@ module _ (k n set : ℕ) (v w : List ℤ) (out : List ℕ) (a : Answer) (after :
       (check-avoids 14 15 short (λ z. omega arith))) in
       (λ q. s .0 (sym r ∙ e .0 q), λ q. e .1 (r ∙ s .1 q))
 
-  -- where some word leads there, its normal form is answered, or 14 if the output is too short for it
+  -- I23, C14: if some word leads there, its normal form is answered, or 14 if the output is too short for it
   module _ (rank : Rig k n) (bits : (s : ℕ) → n < s → allows set s ≡ true → ⊥) (p : WindowOf (kindOf k) n v)
       (q : WindowOf (kindOf k) n w) (z : List ℕ) (letters : wrongLetter n z ≡ false) (over : Over (allows set) z)
       (arrives : windowFrom (kindOf k) n v z ≡ w) where
@@ -332,15 +335,17 @@ module _ (k n set : ℕ) (v w : List ℤ) (out : List ℕ) (a : Answer) (after :
     leading =
         between-leading k n set v w (set-passes k n set .1 (rank, bits)) p q z out (record { steps = letters; over = over; arrives = arrives })
 
+    -- A3
     pub between-answered : length (wordNormalForm (kindOf k) n z) ≤ length out → a ≡ answer.Length (length (wordNormalForm (kindOf k) n z))
     unfolding writes answerOf tooShort
     between-answered g = h .0 ∙ ap (λ (o : Outcome ℕ). o .answer) leading ∙ rw (le-ltb (length out) (length (wordNormalForm (kindOf k) n z)) g)
 
+    -- C14
     pub between-14 : length out < length (wordNormalForm (kindOf k) n z) → a ≡ answer.Refused 14
     unfolding writes answerOf tooShort
     between-14 g = h .0 ∙ ap (λ (o : Outcome ℕ). o .answer) leading ∙ rw (lt-ltb (length out) (length (wordNormalForm (kindOf k) n z)) g)
 
-  -- "19 when no word of any length over the allowed steps leads there, checked after both windows and before refusal 14"
+  -- A6, C19: after both windows and before 14
   pub between-19-exactly : (a ≡ answer.Refused 19)
       ↔ (Rig k n × ((s : ℕ) → n < s → allows set s ≡ true → ⊥) × WindowOf (kindOf k) n v × WindowOf (kindOf k) n w
       × ((z : List ℕ) → wrongLetter n z ≡ false → Over (allows set) z → windowFrom (kindOf k) n v z ≡ w → ⊥))
@@ -354,11 +359,11 @@ module _ (k n set : ℕ) (v w : List ℤ) (out : List ℕ) (a : Answer) (after :
         λ p. h .0 ∙ e .1 (s .1 (p .0, p .1), p .2, p .3, λ g. p .4 (g .0) (g .1 .steps) (g .1 .over) (g .1 .arrives)),
       )
 
-  -- a refused call changes no byte
+  -- D6: a refused call changes no byte
   pub between-unchanged : (r : ℕ) → a ≡ answer.Refused r → after ≡ out
   between-unchanged r e = h .1 ∙ betweenWindows-unchanged k n set v w out r (sym (h .0) ∙ e)
 
--- "Where the windows agree it is empty": whatever steps are allowed and however short the output
+-- A5: whatever steps are allowed and however short the output
 pub empty-where-equal : (k n set : ℕ) (v : List ℤ) (out : List ℕ) (a : Answer) (after : List ℕ) → Yields (betweenWindows k n set v v out) a after
     → Rig k n → ((s : ℕ) → n < s → allows set s ≡ true → ⊥) → WindowOf (kindOf k) n v → (a ≡ answer.Length 0) × (after ≡ out)
 empty-where-equal k n set v out a after h r f p =

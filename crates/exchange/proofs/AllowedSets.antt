@@ -40,7 +40,7 @@ pow-le-of-bit x t e = cases (leb (2 ^ t) x) refl
 
 -- ---- refusal 16
 
--- "16. A bit stands for a step above the rank."
+-- C16
 pub wrongSet-exactly : (n set : ℕ) → (wrongSet n set ≡ true) ↔ ((s : ℕ) × (n < s) × (allows set s ≡ true))
 unfolding wrongSet allows
 wrongSet-exactly n set = (

@@ -53,7 +53,7 @@ module _ (k : Kind) (n : ℕ) (v w : List ℤ) (a : Accepted k n v) (b : Accepte
 -- ---- the word between them
 
 module _ (allowed : ℕ → Bool) (k : Kind) (n : ℕ) (v w : List ℤ) (h : least k ≤ n) (a : Accepted k n v) (b : Accepted k n w) where
-  -- "the normal form of the word over those steps that leads from the first window to the second"
+  -- A3: it is the normal form of every word that leads there
   pub between-normalForm : (u : List ℕ) → Leads allowed k n v w u → wordNormalForm k n u ≡ between k n v w
   unfolding between
   between-normalForm u l = ap (normalForm k n) (has-window k n v w a b u (l .arrives))
@@ -99,7 +99,7 @@ module _ (allowed : ℕ → Bool) (k : Kind) (n : ℕ) (v w : List ℤ) (h : lea
       over-all allowed n (normalForm k n (product (inverse v) w)) f
       (normalForm-letters k n (product (inverse v) w) (between-accepted k n v w a b))
 
--- "Where the windows agree it is empty", whatever steps are allowed
+-- A5: whatever steps are allowed
 pub between-same : (k : Kind) (n : ℕ) (v : List ℤ) → Accepted k n v → between k n v v ≡ []
 unfolding between
 between-same k n v a = ap (normalForm k n) (inverse-product k n v a) ∙ normalForm-straight k n

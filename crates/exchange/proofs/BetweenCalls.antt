@@ -1,5 +1,6 @@
--- What the call from one window to another answers and writes, over the definitions of specs/ alone: its definition goes by one normal form, and these
--- laws say what that is in document 02's words. `allows set` is the test that the 64-bit set makes.
+-- What the call from one window to another answers and writes, over the definitions of specs/ alone: its definition
+-- goes by one normal form, and these laws say what that is in the terms of section A of the specification. `allows
+-- set` is the test that the 64-bit set makes.
 --
 -- Sections: the word that is written; equal windows, no step and all steps allowed.
 -- Assumes nothing.
@@ -58,8 +59,7 @@ module _ (k n set : ℕ) (v w : List ℤ) (a : setRefusal k n set ≡ 0) (b : Wi
   exactly : (reachable (allows set) (kindOf k) n v w ≡ true) ↔ Reachable (allows set) (kindOf k) n v w
   exactly = laws.reachable-exactly (allows set) (kindOf k) n v w rank first second
 
-  -- the word that document 02 asks for is written, whatever word it is: "the normal form", "a shortest such word, and the first of those in the
-  -- dictionary"
+  -- A3, A4: the word of these clauses is written, whatever word it is
   pub between-writes : (u out : List ℕ) → IsBetween (allows set) (kindOf k) n v w u → betweenWindows k n set v w out ≡ writes 0 u out
   unfolding betweenWindows unreachable
   between-writes u out m =
@@ -85,8 +85,7 @@ module _ (k n set : ℕ) (v w : List ℤ) (a : setRefusal k n set ≡ 0) (b : Wi
 
 -- whatever the input
 module _ (k n set : ℕ) (v w : List ℤ) (out : List ℕ) where
-  -- what an accepted call writes "leads from the first window to the second", is "a shortest such word, and the first of those in the dictionary",
-  -- and a normal form; the rest of the output keeps what it held
+  -- A3, A4: of what an accepted call writes; the rest of the output keeps what it held (I2)
   pub between-answers : (l : ℕ) → betweenWindows k n set v w out .answer ≡ Length l
       → IsBetween (allows set) (kindOf k) n v w (take l (betweenWindows k n set v w out .bytes))
       × (length (take l (betweenWindows k n set v w out .bytes)) ≡ l)
@@ -101,7 +100,7 @@ module _ (k n set : ℕ) (v w : List ℤ) (out : List ℕ) where
       let m = laws.between-is (allows set) (kindOf k) n v w r (first k n set v w (p .0) (p .1) (p .2)) (second k n set v w (p .0) (p .1) (p .2)) t in
       (rw (h .2, f) m, rw (h .2, f) (sym (h .1)), writes-past (betweenRefusal k n set v w) (between (kindOf k) n v w) out l e)
 
-  -- "the normal form of the word over those steps that leads from the first window to the second": of every such word
+  -- A3, N2: the normal form of every word that leads there
   pub between-of-word : (l : ℕ) (u : List ℕ) → betweenWindows k n set v w out .answer ≡ Length l → Leads (allows set) (kindOf k) n v w u
       → take l (betweenWindows k n set v w out .bytes) ≡ wordNormalForm (kindOf k) n u
   unfolding betweenWindows
@@ -113,7 +112,7 @@ module _ (k n set : ℕ) (v w : List ℤ) (out : List ℕ) where
       rw (h .2, f)
       (sym (laws.between-normalForm (allows set) (kindOf k) n v w r (first k n set v w (p .0) (p .1) (p .2)) (second k n set v w (p .0) (p .1) (p .2)) u g))
 
-  -- "19 when no word of any length over the allowed steps leads there, checked after both windows and before refusal 14": just then
+  -- A6, C19: just then
   pub between-refuses-19 : (betweenWindows k n set v w out .answer ≡ Refused 19)
       ↔ ((setRefusal k n set ≡ 0) × WindowOf (kindOf k) n v × WindowOf (kindOf k) n w
       × (Reachable (allows set) (kindOf k) n v w → ⊥))
@@ -138,14 +137,14 @@ module _ (k n set : ℕ) (v w : List ℤ) (out : List ℕ) where
       let m = windowLength-le-4096 (kindOf k) n x a (lanes-le k n (length x) (rank-of-set k n set (p .0)) (a .size)) in
       rw (h .1, length-normalForm (kindOf k) n x a) m
 
-  -- "a refusal .. writes nothing"
+  -- D6, CO6
   pub betweenWindows-unchanged : (r : ℕ) → betweenWindows k n set v w out .answer ≡ Refused r → betweenWindows k n set v w out .bytes ≡ out
   unfolding betweenWindows
   betweenWindows-unchanged = writes-unchanged (betweenRefusal k n set v w) (between (kindOf k) n v w) out
 
 -- ---- equal windows, no step and all steps allowed
 
--- "Where the windows agree it is empty": whatever steps are allowed and whatever the output, even one of no length
+-- A5: whatever steps are allowed and whatever the output, even one of no length
 pub between-equal : (k n set : ℕ) (v : List ℤ) (out : List ℕ) → setRefusal k n set ≡ 0 → WindowOf (kindOf k) n v
     → betweenWindows k n set v v out ≡ record { answer = Length 0; bytes = out }
 unfolding betweenWindows unreachable writes answerOf written tooShort

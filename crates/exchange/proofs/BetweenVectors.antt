@@ -17,8 +17,9 @@ use Rattle.exchange.specs.Allowed.{over, allows, wrongSet, setRefusal}
 use Rattle.exchange.specs.Between.{between, reachable}
 use Rattle.exchange.specs.BetweenCalls.{unreachable, betweenRefusal, betweenWindows}
 
--- A2 with its two steps as bits 0 and 1: from 2 1 3, step 1 leads to 1 2 3 and step 2 to 2 3 1. B2: from 2 −1 steps 2 1 lead to 1 2. Then equal windows
--- with no step allowed, and the refusals in their order: kind, rank, the set, the first window, the second, no word over the allowed steps, room.
+-- A₂ with its two steps as bits 0 and 1: from 2 1 3, step 1 leads to 1 2 3 and step 2 to 2 3 1. B₂: from 2 −1 steps
+-- 2 1 lead to 1 2. Then equal windows with no step allowed, and the refusals in their order: kind, rank, the set,
+-- the first window, the second, no word over the allowed steps, room.
 pub betweens : List (Outcome ℕ × Outcome ℕ)
 betweens =
     (betweenWindows 1 2 1 (pos 2 ∷ pos 1 ∷ pos 3 ∷ []) (pos 1 ∷ pos 2 ∷ pos 3 ∷ []) (9 ∷ 9 ∷ []), record { answer = Length 1; bytes = 1 ∷ 9 ∷ [] })

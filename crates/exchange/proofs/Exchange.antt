@@ -120,7 +120,7 @@ shortest-apart k n u i j s g h e =
     let l = s .none-shorter (dropAt i (dropAt j u)) letters (dropAt-dropAt k n (straight (lanes k n)) i j u g h e) in
     omega arith
 
--- request 14 of a word and a window, from a letter that can be removed where the window is shorter
+-- X2, X3: of a word and a window, from a letter that can be removed if the window is shorter
 oneLetter-of : (k : Kind) (n : ℕ) (u : List ℕ) (w : List ℤ) → least k ≤ n → Shortest k n u
     → (windowLength k w < windowLength k (window k n u) → (i : ℕ) × Removable k n u w i) → OneLetter k n u w
 oneLetter-of k n u w h m f =
@@ -137,7 +137,8 @@ oneLetter-of k n u w h m f =
           omega (arith, below, ap (windowLength k) (p .1), length-dropAt i u (p .0), length-of-shortest k n u h m);
     }
 
--- request 14, for every rank from the kind's least on: a step at the end of a shortest word, and the same for a step at its front
+-- X2, X3: for every rank from the kind's least on, a step at the end of a shortest word, and the same for a step at
+-- its front
 module _ (k : Kind) (n : ℕ) (u : List ℕ) (s : ℕ) (h : least k ≤ n) (m : Shortest k n u) (o : 1 ≤ s) (l : s ≤ n) where
   pub oneLetter : OneLetter k n u (added k n u s)
   oneLetter = oneLetter-of k n u (added k n u s) h m (exchange k n u s h (m .steps) o l)

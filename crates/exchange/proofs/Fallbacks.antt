@@ -1,5 +1,6 @@
--- Request 12's verdict: the same from every shortest word of the present window, reflexive and transitive, with the empty word below all and no
--- window longer than the present one. By carrying the part-lists of a shortest word to every word with its window (Shortest).
+-- The verdict on a fallback (section F of the specification): the same from every shortest word of the present
+-- window, reflexive and transitive, with the empty word below all and no window longer than the present one. By
+-- carrying the part-lists of a shortest word to every word with its window (Shortest).
 --
 -- Sections: fallbacks of a word; the verdict.
 -- Assumes nothing.
@@ -69,16 +70,16 @@ module _ (k : Kind) (n : ℕ) (h : least k ≤ n) where
   normal-window : (u : List ℕ) → window k n (wordNormalForm k n u) ≡ window k n u
   normal-window u = window-normalForm k n (window k n u) (window-accepted k n u)
 
-  -- "The verdict is yes exactly when some part-list of its letters, in order, has the simpler window."
+  -- F2
   pub verdict-exactly : (u v : List ℕ) → (fallsBack k n u v ≡ true) ↔ FallbackOf k n u v
   unfolding fallsBack
   verdict-exactly u v = somePart-exactly k n (wordNormalForm k n u) (window k n v)
 
-  -- "The verdict must be the same from every shortest word of the present window, not only its normal form."
+  -- F6
   pub verdict-same : (u v z : List ℕ) → Shortest k n z → window k n z ≡ window k n u → FallbackOf k n u v ↔ HasPart k n z (window k n v)
   verdict-same u v z s e = fallback-shortest k n (wordNormalForm k n u) z (window k n v) h (normal-shortest u) s (normal-window u ∙ sym e)
 
-  -- "The empty word is a fallback for all presets."
+  -- F7
   pub verdict-empty : (u : List ℕ) → FallbackOf k n u []
   unfolding window windowFrom
   verdict-empty u = fallback-straight k n (wordNormalForm k n u)

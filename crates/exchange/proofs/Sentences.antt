@@ -1,8 +1,10 @@
--- Document 02's requests 14 and 12 in plain terms, the second at the answer and the places that its call left; 4 and 10 are in AllowedSentences. The
--- records of specs/ are taken apart: each field is read out as strongly as it is stated, and a record that is a hypothesis is put together from its
--- plain parts, so that neither a weaker record nor a stronger one would do.
+-- One letter to drop, and fallbacks, in plain terms (sections X and F and I18 of the specification), the second at
+-- the answer and the places that its call left; splits and ways are in AllowedSentences. The records of specs/ are
+-- taken apart: each field is read out as strongly as it is stated, and a record that is a hypothesis is put
+-- together from its plain parts, so that neither a weaker record nor a stronger one would do.
 --
--- Sections: request 14; part-lists by their places; request 12, the answer; request 12, the places kept; request 12, the verdict.
+-- Sections: one letter to drop; part-lists by their places; a fallback, the answer; a fallback, the places kept; a
+-- fallback, the verdict.
 -- Assumes nothing.
 use mathlib.Core.Path.{_≡_, refl, sym, ap, subst, _∙_}
 use mathlib.Core.Bool.{Bool, true, false, _&&_, true≢false}
@@ -35,62 +37,64 @@ use Rattle.exchange.proofs.Verdicts.{then-last, Told, told, told-no, to
 use Rattle.exchange.proofs.Verdicts.{is-told-no, is-told-kept, is-told-short, is-told-refused, no-unchanged, refused-unchanged}
 use Rattle.exchange.proofs.Theorems.{length-added, shortest-exactly, oneLetter-accepted}
 
--- ---- request 14
+-- ---- one letter to drop
 
--- "for every kind and rank", from the kind's least rank on, "and for every shortest word" u, of any length: no word of steps with its window has
--- fewer letters
+-- X1, X2: for every kind, from its least rank on, and for every shortest word u, of any length: no word of steps
+-- with its window has fewer letters
 module _ (k : Kind) (n : ℕ) (u : List ℕ) (rank : least k ≤ n) (letters : wrongLetter n u ≡ false) where
   module _ (shortest : (v : List ℕ) → wrongLetter n v ≡ false → window k n v ≡ window k n u → length u ≤ length v)
       (s : ℕ) (low : 1 ≤ s) (high : s ≤ n) where
     is-shortest : Shortest k n u
     is-shortest = record { steps = letters; none-shorter = shortest }
 
-    -- "if adding a step at the end .. makes the window's length smaller, .. there is .. one place whose letter can be removed so that the rest has
-    -- the window of the word with the step added"
+    -- X2: there is a place
     pub letter-to-drop : windowLength k (window k n (u ++ (s ∷ []))) < windowLength k (window k n u)
         → (i : ℕ) × (i < length u) × (window k n (dropAt i u) ≡ window k n (u ++ (s ∷ [])))
     letter-to-drop g = let i = oneLetter k n u s rank is-shortest low high .some g in (i .0, i .1 .0, i .1 .1)
 
-    -- "exactly one": no two
+    -- X2: no two
     pub no-two-to-drop : (i j : ℕ) → i < length u → window k n (dropAt i u) ≡ window k n (u ++ (s ∷ []))
         → j < length u → window k n (dropAt j u) ≡ window k n (u ++ (s ∷ [])) → i ≡ j
     no-two-to-drop i j a p b q = oneLetter k n u s rank is-shortest low high .only i j (a, p) (b, q)
 
-    -- "If the step makes the length greater, no single removal has that effect."
+    -- X3
     pub none-to-drop : windowLength k (window k n u) < windowLength k (window k n (u ++ (s ∷ [])))
         → (i : ℕ) → i < length u → window k n (dropAt i u) ≡ window k n (u ++ (s ∷ [])) → ⊥
     none-to-drop g i a p = oneLetter k n u s rank is-shortest low high .none g i (a, p)
 
-    -- the step makes the length smaller or greater, never neither
+    -- X2, X3: the step makes the length smaller or greater, never neither
     pub smaller-or-greater : (windowLength k (window k n (u ++ (s ∷ []))) < windowLength k (window k n u))
         ⊎ (windowLength k (window k n u) < windowLength k (window k n (u ++ (s ∷ []))))
     smaller-or-greater = elim (length-added k n s rank low high u) [ inl e ↦ inr (omega (arith, e)) | inr e ↦ inl (omega (arith, e)) ]
 
-    -- the same three for a step at the front
+    -- X2: the same for a step at the front
     pub front-to-drop : windowLength k (window k n (s ∷ u)) < windowLength k (window k n u)
         → (i : ℕ) × (i < length u) × (window k n (dropAt i u) ≡ window k n (s ∷ u))
     front-to-drop g = let i = oneLetter-front k n u s rank is-shortest low high .some g in (i .0, i .1 .0, i .1 .1)
 
+    -- X2: the same for a step at the front
     pub no-two-for-front : (i j : ℕ) → i < length u → window k n (dropAt i u) ≡ window k n (s ∷ u)
         → j < length u → window k n (dropAt j u) ≡ window k n (s ∷ u) → i ≡ j
     no-two-for-front i j a p b q = oneLetter-front k n u s rank is-shortest low high .only i j (a, p) (b, q)
 
+    -- X3: the same for a step at the front
     pub none-for-front : windowLength k (window k n u) < windowLength k (window k n (s ∷ u))
         → (i : ℕ) → i < length u → window k n (dropAt i u) ≡ window k n (s ∷ u) → ⊥
     none-for-front g i a p = oneLetter-front k n u s rank is-shortest low high .none g i (a, p)
 
-  -- the shortest words are those as long as their window's length; a longer one has two letters that can be removed together
+  -- X1, L5: the shortest words are those as long as their window's length
   pub shortest-by-length : ((v : List ℕ) → wrongLetter n v ≡ false → window k n v ≡ window k n u → length u ≤ length v)
       ↔ (length u ≡ windowLength k (window k n u))
   shortest-by-length =
       let e = shortest-exactly k n u rank letters in
       (λ f. e .0 (record { steps = letters; none-shorter = f }), λ q. e .1 q .none-shorter)
 
+  -- X1: a longer one has two letters that can be removed together
   pub two-to-drop : windowLength k (window k n u) < length u
       → (i j : ℕ) × (i < j) × (j < length u) × (window k n (dropAt i (dropAt j u)) ≡ window k n u)
   two-to-drop g = let d = deletion k n u rank letters g in (d .first, d .second, d .below, d .inside, d .shows)
 
--- "we accept": the whole request at the ranks of check 6, the step at the end or at the front
+-- X2, X3: all of it at the ranks of check 6, the step at the end or at the front
 exactly-one : (k : Kind) (n : ℕ) (u : List ℕ) (w : List ℤ) → OneLetter k n u w
     → (windowLength k w < windowLength k (window k n u)
     → (i : ℕ) × (i < length u) × (window k n (dropAt i u) ≡ w) × ((j : ℕ) → j < length u → window k n (dropAt j u) ≡ w → j ≡ i))
@@ -100,6 +104,7 @@ exactly-one k n u w d = (
   λ g i a p. d .none g i (a, p),
 )
 
+-- X2, X3
 pub one-letter-accepted : (k n : ℕ) (u : List ℕ) (s : ℕ) (w : List ℤ) → Rig k n → wrongLetter n u ≡ false
     → ((v : List ℕ) → wrongLetter n v ≡ false → window (kindOf k) n v ≡ window (kindOf k) n u → length u ≤ length v) → 1 ≤ s → s ≤ n
     → (w ≡ window (kindOf k) n (u ++ (s ∷ []))) ⊎ (w ≡ window (kindOf k) n (s ∷ u))
@@ -115,7 +120,7 @@ one-letter-accepted k n u s w r letters shortest low high e =
 
 -- ---- part-lists by their places
 
--- "some part-list of its letters, in order, has the simpler window": places inside the word that rise, and the letters there
+-- F2: places inside the word that rise, and the letters there
 pub part-by-places : (k : Kind) (n : ℕ) (u : List ℕ) (w : List ℤ) → HasPart k n u w
     ↔ ((ps : List ℕ) × ((i : ℕ) → i < length ps → getD ps i 0 < length u)
     × ((i j : ℕ) → i < j → j < length ps → getD ps i 0 < getD ps j 0) × (window k n (lettersAt u ps) ≡ w))
@@ -126,7 +131,7 @@ part-by-places k n u w = (
   λ p. (p .0, record { rising = rising-of (length u) 0 (p .0) (λ i h. (omega arith, p .1 i h)) (p .2); shows = p .3 }),
 )
 
--- ---- request 12, the answer
+-- ---- a fallback, the answer
 
 not-exactly : {P : Type 0} (t : Bool) → (t ≡ true) ↔ P → (t ≡ false) ↔ (P → ⊥)
 not-exactly true h = (λ e p. true≢false e, λ f. absurd (f (h .0 refl)))
@@ -164,7 +169,7 @@ module _ (k n : ℕ) (present simpler places : List ℕ) where
   falls-exactly e = verdict-exactly (kindOf k) n (rank-within k n (all-passed e .0) .0) present simpler
 
   module _ (a : Fallback) (after : List ℕ) (f : FellBack k n present simpler places a after) where
-    -- "The verdict is yes exactly when some part-list of its letters, in order, has the simpler window": no when no check refuses and none has it
+    -- F2: no when no check refuses and no part-list has the simpler window
     pub no-exactly : (a ≡ No)
         ↔ (Rig k n × WordOf n present × WordOf n simpler × (FallbackOf (kindOf k) n present simpler → ⊥))
     no-exactly = (
@@ -177,7 +182,8 @@ module _ (k n : ℕ) (present simpler places : List ℕ) where
           f .answer ∙ is-told-no answer-told z (not-exactly falls (falls-exactly z) .1 (h .3)),
     )
 
-    -- places come exactly when no check refuses, some part-list has the simpler window and the list has room for its length
+    -- F2, F8: places come exactly when no check refuses, some part-list has the simpler window and the list has
+    -- room for its length
     pub kept-exactly : ((l : ℕ) × (a ≡ Kept l))
         ↔ (Rig k n × WordOf n present × WordOf n simpler × FallbackOf (kindOf k) n present simpler
         × (windowLength (kindOf k) (window (kindOf k) n simpler) ≤ length places))
@@ -192,7 +198,7 @@ module _ (k n : ℕ) (present simpler places : List ℕ) where
           (size, f .answer ∙ is-told-kept answer-told z (falls-exactly z .1 (h .3)) (le-ltb (length places) size (h .4))),
     )
 
-    -- 14 exactly when the list has not
+    -- F8, C14: 14 exactly when the list has not
     pub short-exactly : (a ≡ Refused 14)
         ↔ (Rig k n × WordOf n present × WordOf n simpler × FallbackOf (kindOf k) n present simpler
         × (length places < windowLength (kindOf k) (window (kindOf k) n simpler)))
@@ -207,11 +213,11 @@ module _ (k n : ℕ) (present simpler places : List ℕ) where
           f .answer ∙ is-told-short answer-told z (falls-exactly z .1 (h .3)) (lt-ltb (length places) size (h .4)),
     )
 
-    -- "Both words come with one kind and rank, the present one first": the first refusal of theirs is the answer
+    -- F1, CO4: the first refusal of the two words is the answer
     pub first-refusal : (r : ℕ) → (r ≡ 0 → ⊥) → (rankRefusal k n then wordRefusal n present then wordRefusal n simpler) ≡ r → a ≡ Refused r
     first-refusal r g e = f .answer ∙ is-told-refused answer-told (λ z. g (sym e ∙ z)) ∙ ap Refused e
 
-    -- "a no writes nothing", and neither does a refusal
+    -- F5, D6: a no writes nothing, and neither does a refusal
     pub no-or-refused-unchanged : (a ≡ No) ⊎ ((r : ℕ) × (a ≡ Refused r)) → after ≡ places
     no-or-refused-unchanged e = elim e [
       | inl q ↦ no-unchanged k n present simpler places after (subst (λ (b : Fallback). FellBack k n present simpler places b after) q f)
@@ -219,42 +225,42 @@ module _ (k n : ℕ) (present simpler places : List ℕ) where
           refused-unchanged k n present simpler places after (q .0) (subst (λ (b : Fallback). FellBack k n present simpler places b after) (q .1) f)
     ]
 
--- ---- request 12, the places kept
+-- ---- a fallback, the places kept
 
 module _ (k n : ℕ) (present simpler places after : List ℕ) (l : ℕ) (f : FellBack k n present simpler places (Kept l) after) where
   keeps : Keeps (kindOf k) n (wordNormalForm (kindOf k) n present) (window (kindOf k) n simpler) (take l after)
   keeps = f .kept l refl
 
-  -- "With a yes come the places kept, .. as many as the length of the simpler window"
+  -- F3: as many as the length of the simpler window
   pub kept-many : (l ≡ windowLength (kindOf k) (window (kindOf k) n simpler)) × (length (take l after) ≡ l)
   kept-many =
       let e = told-kept l (answer-told k n present simpler places) (sym (f .answer)) .3 in
       (e, keeps .count ∙ sym e)
 
-  -- "its places rise"
+  -- F3: they rise
   pub kept-rise : (i j : ℕ) → i < j → j < l → getD after i 0 < getD after j 0
   kept-rise i j g h =
       let r = rising-apart _ 0 (take l after) (keeps .serves .rising) i j g (omega (arith, kept-many .1)) in
       omega (arith, r, getD-take l i after 0 (omega arith), getD-take l j after 0 h)
 
-  -- "and lie inside the present normal form"
+  -- F3: they lie inside the present normal form
   pub kept-inside : (i : ℕ) → i < l → getD after i 0 < length (wordNormalForm (kindOf k) n present)
   kept-inside i h =
       let r = rising-bounds _ 0 (take l after) (keeps .serves .rising) i (omega (arith, kept-many .1)) .1 in
       omega (arith, r, getD-take l i after 0 h)
 
-  -- "and the letters there have the simpler window"
+  -- F3: the letters there have the simpler window
   pub kept-shows : window (kindOf k) n (lettersAt (wordNormalForm (kindOf k) n present) (take l after)) ≡ window (kindOf k) n simpler
   kept-shows = keeps .serves .shows
 
-  -- every other place of the list keeps what it held
+  -- I2: every other place of the list keeps what it held
   pub kept-past : drop l after ≡ drop l places
   unfolding keptCount
   kept-past = f .others
 
--- ---- request 12, the verdict
+-- ---- a fallback, the verdict
 
--- "The verdict must be the same from every shortest word of the present window, not only its normal form": z is any, of any length
+-- F6: z is any shortest word of the present window, of any length
 module _ (k n : ℕ) (present simpler places : List ℕ) (a : Fallback) (after : List ℕ) (f : FellBack k n present simpler places a after)
     (z : List ℕ) (letters : wrongLetter n z ≡ false)
     (shortest : (v : List ℕ) → wrongLetter n v ≡ false → window (kindOf k) n v ≡ window (kindOf k) n z → length z ≤ length v)
@@ -262,6 +268,7 @@ module _ (k n : ℕ) (present simpler places : List ℕ) (a : Fallback) (after :
   same-verdict : Rig k n → FallbackOf (kindOf k) n present simpler ↔ HasPart (kindOf k) n z (window (kindOf k) n simpler)
   same-verdict r = verdict-same (kindOf k) n (rank-within k n r .0) present simpler z (record { steps = letters; none-shorter = shortest }) same
 
+  -- F6
   pub no-from-every-shortest : (a ≡ No)
       ↔ (Rig k n × WordOf n present × WordOf n simpler
       × (HasPart (kindOf k) n z (window (kindOf k) n simpler) → ⊥))
@@ -271,6 +278,7 @@ module _ (k n : ℕ) (present simpler places : List ℕ) (a : Fallback) (after :
         λ p. e .1 (p .0, p .1, p .2, λ h. p .3 (same-verdict (p .0) .0 h)),
       )
 
+  -- F6
   pub kept-from-every-shortest : ((l : ℕ) × (a ≡ Kept l))
       ↔ (Rig k n × WordOf n present × WordOf n simpler × HasPart (kindOf k) n z (window (kindOf k) n simpler)
       × (windowLength (kindOf k) (window (kindOf k) n simpler) ≤ length places))
@@ -280,7 +288,7 @@ module _ (k n : ℕ) (present simpler places : List ℕ) (a : Fallback) (after :
         λ p. e .1 (p .0, p .1, p .2, same-verdict (p .0) .1 (p .3), p .4),
       )
 
--- as an answer: present words of one window get the same one
+-- F6: present words of one window get the same answer
 pub same-answer : (k n : ℕ) (present other simpler places : List ℕ) (a b : Fallback) (after also : List ℕ)
     → FellBack k n present simpler places a after → FellBack k n other simpler places b also
     → WordOf n present → WordOf n other → window (kindOf k) n present ≡ window (kindOf k) n other → a ≡ b
@@ -289,7 +297,7 @@ same-answer k n present other simpler places a b after also f g p q e =
     let same : fallbackAnswer k n present simpler places ≡ fallbackAnswer k n other simpler places = rw (p, q, e) in
     f .answer ∙ same ∙ sym (g .answer)
 
--- "The empty word is a fallback for all presets."
+-- F7
 pub empty-kept : (k n : ℕ) (present places : List ℕ) (a : Fallback) (after : List ℕ) → FellBack k n present [] places a after
     → Rig k n → WordOf n present → (a ≡ Kept 0) × (after ≡ places)
 unfolding keptCount

@@ -1,5 +1,6 @@
--- What the certificate cites of request 4, over the definitions of specs/ alone: of the two words of any window that passes checks 9 to 11, for every
--- kind and rank and every set of steps, and of the call's answer and outputs.
+-- What the certificate cites of splits (section S of the specification), over the definitions of specs/ alone: of
+-- the two words of any window that passes checks 9 to 11, for every kind and rank and every set of steps, and of
+-- the call's answer and outputs.
 --
 -- Sections: the two words; the call; what a call leaves.
 -- Assumes nothing.
@@ -38,11 +39,11 @@ module _ (k : Kind) (n : ℕ) (w : List ℤ) (h : least k ≤ n) (p : WindowOf k
   pub splits : (allowed : ℕ → Bool) → IsSplit allowed k n w (firstWord allowed k n w) (secondWord allowed k n w)
   splits allowed = split-is allowed k n w h (accepted-of-refusal k n w p)
 
-  -- "there is just one such pair": of all words u and v, of any length
+  -- S7: of all words u and v, of any length
   pub splits-only : (allowed : ℕ → Bool) (u v : List ℕ) → IsSplit allowed k n w u v → (u ≡ firstWord allowed k n w) × (v ≡ secondWord allowed k n w)
   splits-only allowed = split-only allowed k n w h (accepted-of-refusal k n w p)
 
-  -- "With no step allowed the first word is empty."
+  -- S8
   pub splits-none : firstWord (allows 0) k n w ≡ []
   splits-none = split-none (allows 0) k n w h (accepted-of-refusal k n w p) (λ s o l. allows-none s)
 
@@ -109,7 +110,7 @@ module _ (k n set : ℕ) (u first second : List ℕ) where
         → (x ≡ take a (splitting k n set u first second .first)) × (y ≡ take b (splitting k n set u first second .second))
     splitting-only x y s = rw (told .1, told .2) (splits-only (kindOf k) n shown rank (window-passes (kindOf k) n u) (allows set) x y s)
 
-    -- "their lengths add up to that window's length"
+    -- S6
     pub splitting-lengths : a + b ≡ windowLength (kindOf k) (window (kindOf k) n u)
     splitting-lengths =
         ap₂ _+_ (sym (told .3)) (sym (told .4)) ∙ splits (kindOf k) n shown rank (window-passes (kindOf k) n u) (allows set) .lengths

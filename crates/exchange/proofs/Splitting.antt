@@ -117,7 +117,7 @@ halves : (allowed : ℕ → Bool) (k : Kind) (n : ℕ) (w : List ℤ) (u v : Lis
 halves allowed k n w u v h s =
     record { steps = s .first-normal .steps; over = s .over; shortest = shortest-normal k n v h (s .second-normal); none-begins = s .none-begins }
 
--- "there is just one such pair"
+-- S7
 pub split-unique : (allowed : ℕ → Bool) (k : Kind) (n : ℕ) (w : List ℤ) (u v x y : List ℕ) → least k ≤ n → IsSplit allowed k n w u v
     → IsSplit allowed k n w x y → (u ≡ x) × (v ≡ y)
 split-unique allowed k n w u v x y h s t = (same u x first (s .first-normal) (t .first-normal), same v y second (s .second-normal) (t .second-normal))
@@ -136,7 +136,7 @@ split-unique allowed k n w u v x y h s t = (same u x first (s .first-normal) (t 
 
 -- ---- no step and all steps
 
--- "With no step allowed the first word is empty."
+-- S8
 pub none-allowed : (allowed : ℕ → Bool) (k : Kind) (n : ℕ) (w : List ℤ) (u v : List ℕ) → ((s : ℕ) → 1 ≤ s → s ≤ n → allowed s ≡ false)
     → IsSplit allowed k n w u v → u ≡ []
 none-allowed allowed k n w [] v f s = refl

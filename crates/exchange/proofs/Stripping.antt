@@ -1,5 +1,6 @@
--- The split by its definition has the properties that document 02 names: allowed steps that make the inverse of the window shorter are taken until
--- none does, and each lowers the length by one, so that the lengths of the two words add up. Any such list of steps leads to the same two words.
+-- The split by its definition has the properties of S2 to S6: allowed steps that make the inverse of the window
+-- shorter are taken until none does, and each lowers the length by one, so that the lengths of the two words add
+-- up. Any such list of steps leads to the same two words.
 --
 -- Sections: the lowest step; steps taken; the two words; the split.
 -- Assumes nothing.
@@ -232,7 +233,7 @@ module _ (allowed : ℕ → Bool) (k : Kind) (n : ℕ) (w : List ℤ) (h : least
       → (normalForm k n (product w x) ≡ firstWord allowed k n w) × (normalForm k n (inverse x) ≡ secondWord allowed k n w)
   split-by-strips x r = split-only (normalForm k n (product w x)) (normalForm k n (inverse x)) (split-of-strips allowed k n w x h a r)
 
-  -- "With no step allowed the first word is empty."
+  -- S8
   pub split-none : ((s : ℕ) → 1 ≤ s → s ≤ n → allowed s ≡ false) → firstWord allowed k n w ≡ []
   split-none f = none-allowed allowed k n w (firstWord allowed k n w) (secondWord allowed k n w) f split-is
 

@@ -67,7 +67,7 @@ shortest-exactly k n u h e = (length-of-shortest k n u h, λ q. shortest-of-leng
 
 -- ---- one letter
 
--- request 14 "for every kind and rank we accept"
+-- X2, X3: at the ranks of check 6
 pub oneLetter-accepted : (k n : ℕ) (u : List ℕ) (s : ℕ) → Rig k n → Shortest (kindOf k) n u → 1 ≤ s → s ≤ n
     → OneLetter (kindOf k) n u (added (kindOf k) n u s) × OneLetter (kindOf k) n u (window (kindOf k) n (s ∷ u))
 oneLetter-accepted k n u s r m o l =

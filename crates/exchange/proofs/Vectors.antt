@@ -28,7 +28,7 @@ use Rattle.exchange.specs.SplitCalls.{Parted, splitOf, parts, splitting}
 
 -- ---- one letter
 
--- "whose letter can be removed": the rest keeps its order, and past the end nothing is removed
+-- X2: the rest keeps its order, and past the end nothing is removed
 pub dropped : (dropAt 0 (1 ∷ 2 ∷ 1 ∷ []) ≡ 2 ∷ 1 ∷ []) × (dropAt 1 (1 ∷ 2 ∷ 1 ∷ []) ≡ 1 ∷ 1 ∷ []) × (dropAt 3 (1 ∷ 2 ∷ 1 ∷ []) ≡ 1 ∷ 2 ∷ 1 ∷ [])
 unfolding dropAt
 dropped = (refl, refl, refl)
@@ -40,14 +40,14 @@ twice-not-shortest s = let l : 2 ≤ 0 = s .none-shorter [] refl refl in omega a
 
 -- ---- fallbacks
 
--- "the letters there"
+-- F3
 pub letters-there : lettersAt (2 ∷ 1 ∷ 2 ∷ []) (0 ∷ 2 ∷ []) ≡ 2 ∷ 2 ∷ []
 unfolding lettersAt
 letters-there = refl
 
--- A2: the normal form of 1 2 1 is 2 1 2, with the part-list 1 2; B2: 2 1 2 1 has the part-list 1 2 1, and 2 has none with the window of 1. "The empty
--- word is a fallback for all presets"; a step twice shows the same. Refusals in their order: kind, rank, the present word, the simpler one, and 14 only
--- with a yes.
+-- A₂: the normal form of 1 2 1 is 2 1 2, with the part-list 1 2; B₂: 2 1 2 1 has the part-list 1 2 1, and 2 has
+-- none with the window of 1. The empty word is a fallback (F7); a step twice shows the same. Refusals in their
+-- order: kind, rank, the present word, the simpler one, and 14 only with a yes.
 pub fallbacks : List (Fallback × Fallback)
 fallbacks =
     (fallbackAnswer 1 2 (1 ∷ 2 ∷ 1 ∷ []) (1 ∷ 2 ∷ []) (9 ∷ 9 ∷ 9 ∷ []), Kept 2)
@@ -72,9 +72,10 @@ fallbacks-agree = refl
 
 -- ---- splits
 
--- A2, the word 1 2 1, window 3 2 1: of step 1 the first word 1 and the second 2 1; of step 2 the words 2 and 1 2, where the normal form of 1 2 is
--- itself; of none and of both. B2, the word 1 2 1 2 by step 2; D4, the word 4 2 by step 4, the bit 8. Refusals in their order: kind, rank, a bit above the
--- rank, the word, and 14 for either output, with nothing written.
+-- A₂, the word 1 2 1, window 3 2 1: of step 1 the first word 1 and the second 2 1; of step 2 the words 2 and 1 2,
+-- where the normal form of 1 2 is itself; of none and of both. B₂, the word 1 2 1 2 by step 2; D₄, the word 4 2 by
+-- step 4, the bit 8. Refusals in their order: kind, rank, a bit above the rank, the word, and 14 for either output,
+-- with nothing written.
 told : Split → List ℕ → List ℕ → Parted
 told a first second = record { answer = a; first = first; second = second }
 

@@ -200,7 +200,7 @@ fallbackOf-kept r t m l e = cases (eqb r 0) t e
     cases false t e = let o : _≡_ {A = ℕ} 0 1 = cc in absurd (omega arith)
 
 module _ (k n : ℕ) (present simpler places after : List ℕ) where
-  -- "a no writes nothing", and so does a refusal
+  -- F5: a no writes nothing, nor does a refusal
   pub no-unchanged : FellBack k n present simpler places No after → after ≡ places
   unfolding keptCount
   no-unchanged h = h .others

@@ -1,5 +1,5 @@
--- The listing of a book of no bytes, the lines that document 01 prints, some more listings, lines that are no book, and pieces of a listing, from the
--- definitions alone: by computing them.
+-- The listing of a book of no bytes, the listing of J13, some more listings, lines that are no book, and pieces of
+-- a listing, from the definitions alone: by computing them.
 -- Assumes nothing.
 use mathlib.Core.Path.{_≡_, refl}
 use mathlib.Core.List.{List, [], _∷_, _++_, map}
@@ -22,7 +22,7 @@ use Rattle.listing_text.specs.Text.{digits, decimal, spaced, letters, en
 use Rattle.listing_text.specs.Text.{refused, refusedLine, refusedBookLine, countLine, wordLine, lineBy, lineOf, linesFrom, listingBy, listing}
 use Rattle.listing_text.specs.Calls.{lineCountBy, lineCount, firstLine, line, lines, fitting, Piecing, nextPiece}
 
--- "the listing prints `presets 0`" of a book of length 0, "in both editions" (document 02, request 9)
+-- P9
 pub listing-of-no-bytes : (ed : Edition) → listing ed [] ≡ countLine 0
 unfolding twoAt count trailer wrongSize wrongCount misplacedFrom misplaced bookRefusal openedOf checkedBook digits decimal countLine linesFrom listingBy listing
 listing-of-no-bytes ed = refl
@@ -34,11 +34,11 @@ codes (string._∷_ c t) = code c ∷ codes t
 
 pub listings : List (List ℕ × List ℕ)
 listings =
-    -- document 01's book
+    -- J13
     (listing First book, codes "presets 2\n0 B 2 4: 2 1 2 1 | -1 -2\n1 D 5 6: 5 2 3 5 1 2 | 3 -5 1 4 -2\n")
-    -- "With an empty normal form a line reads `0 A 2 0: | 1 2 3`."
+    -- P6
     ∷ (listing First (bookOf (1 ∷ 2 ∷ 0 ∷ 0 ∷ [])), codes "presets 1\n0 A 2 0: | 1 2 3\n")
-    -- "A preset whose record is refused gets the line `0 refused 8`"; "a refused book gives only `book refused 1`"
+    -- P7; P8
     ∷ (listing First (bookOf (1 ∷ 2 ∷ 1 ∷ 0 ∷ 3 ∷ [])), codes "presets 1\n0 refused 8\n")
     ∷ (listing First (0 ∷ []), codes "book refused 1\n")
     ∷ (listing First (7 ∷ 0 ∷ 0 ∷ []), codes "book refused 3\n")
@@ -46,10 +46,10 @@ listings =
     ∷ (listing First emptyBook, codes "presets 0\n")
     ∷ (listing First [], codes "presets 0\n")
     ∷ (listing Second [], codes "presets 0\n")
-    -- "Books that hold them are read, listed and converted as before": presets of kind A and rank 1 (document 02, request 13)
+    -- B23: presets of kind A and rank 1
     ∷ (listing First (bookOf (1 ∷ 1 ∷ 0 ∷ 0 ∷ [])), codes "presets 1\n0 A 1 0: | 1 2\n")
     ∷ (listing Second (bookOf (1 ∷ 1 ∷ 2 ∷ 0 ∷ 0 ∷ [])), codes "presets 1\n0 A 1 0: | 1 2\n")
-    -- "The second edition gets a listing program of its own that prints the same lines."
+    -- P2: the same lines from the second edition
     ∷ (listing Second secondBook, codes "presets 2\n0 B 2 4: 2 1 2 1 | -1 -2\n1 D 5 6: 5 2 3 5 1 2 | 3 -5 1 4 -2\n")
     ∷ (listing Second (bookOf (1 ∷ 2 ∷ 2 ∷ 0 ∷ 0 ∷ [])), codes "presets 1\n0 refused 17\n")
     ∷ []
@@ -73,8 +73,8 @@ pub noBooks-agree : (ed : Edition) → Agree (noBooks ed)
 unfolding noBooks codes up rise twoAt count trailer wrongSize wrongCount bookRefusal digits decimal refused refusedBookLine
 noBooks-agree ed = refl
 
--- pieces of document 01's listing, whose lines have 10, 25 and 35 bytes: a buffer that two lines fill, one byte less, one byte less than the last line,
--- and no line left
+-- pieces of J13's listing, whose lines have 10, 25 and 35 bytes: a buffer that two lines fill, one byte less, one
+-- byte less than the last line, and no line left
 pub piecing : List (Piecing × Piecing)
 piecing =
     (nextPiece First book 0 (lent 35), record { answer = record { next = 2; end = 35; left = 1 }; bytes = codes "presets 2\n0 B 2 4: 2 1 2 1 | -1 -2\n" })

@@ -1,4 +1,5 @@
--- Document 02's sentences on the listing in plain terms, of what a call on a book answered and the bytes that it left.
+-- The listing in plain terms (P3 to P9 of the specification), of what a call on a book answered and the bytes that
+-- it left.
 --
 -- Sections: a book of no bytes; the line of a preset; appending; converting; kind A at rank 1.
 -- Assumes nothing.
@@ -31,12 +32,12 @@ use Rattle.listing_text.proofs.Examples.{listing-of-no-bytes}
 
 -- ---- a book of no bytes
 
--- "the listing prints `presets 0`", and a line feed
+-- P9
 pub no-bytes-listed : (ed : Edition) → listing ed [] ≡ presetsText ++ (48 ∷ 10 ∷ [])
 unfolding countLine decimal digits
 no-bytes-listed ed = listing-of-no-bytes ed
 
--- and one call with room for that line writes it
+-- P9, I32: and one call with room for that line writes it
 line-count : (ed : Edition) → lineCount ed [] ≡ 1
 unfolding lineCount lineCountBy
 line-count ed = ap lineCountBy (opening-no-bytes ed)
@@ -53,12 +54,13 @@ one-line ed out h =
     let one : fitting ed [] 1 0 m ≡ suc (fitting ed [] 0 1 (m - length (line ed [] 0))) = fitting-more ed [] 0 0 m room in
     rw (line-count ed, one) (omega arith)
 
+-- P9, I32
 pub no-bytes-printed : (ed : Edition) (out : List ℕ) → 10 ≤ length out → pieces ed [] 0 (out ∷ []) ≡ presetsText ++ (48 ∷ 10 ∷ [])
 no-bytes-printed ed out h = pieces-whole ed [] (out ∷ []) (one-line ed out h) ∙ no-bytes-listed ed
 
 -- ---- the line of a preset
 
--- by what reading it answers
+-- P4: by what reading it answers
 pub line-found : (ed : Edition) (b : List ℕ) (i k n s m : ℕ) → checkedPreset ed b i ≡ preset.Found k n s m
     → lineOf ed b i ≡ wordLine i (kindOf k) n (lettersOf ed b i)
 unfolding lineOf lineBy
@@ -67,6 +69,7 @@ line-found ed b i k n s m e =
     let w : take m (drop s b) ≡ lettersOf ed b i = rw d at (lettersOf-found ed b i k n s m (found ed b i k n s m (sym e))) in
     ap (lineBy b i) e ∙ ap (wordLine i (kindOf k) n) w
 
+-- P7: by what reading it answers
 pub line-refused : (ed : Edition) (b : List ℕ) (i r : ℕ) → checkedPreset ed b i ≡ preset.Refused r → lineOf ed b i ≡ refusedLine i r
 unfolding lineOf lineBy
 line-refused ed b i r e = ap (lineBy b i) e
@@ -89,7 +92,7 @@ lines-same ed ed′ b d c (suc t) i h p = rw (p i (omega arith), lines-same ed e
 -- ---- appending
 
 module _ (ed : Edition) (b : List ℕ) (k n : ℕ) (u before after : List ℕ) (l : ℕ) (c : Yields (appending ed b k n u before) (Length l) after) where
-  -- the line of each preset before is that of the old book
+  -- B20, P4: the line of each preset before is that of the old book
   pub append-line : (i : ℕ) → i < count b → lineOf ed (take l after) i ≡ lineOf ed b i
   append-line i h =
       let q = append-before ed b k n u before after l c i h in
@@ -102,7 +105,8 @@ module _ (ed : Edition) (b : List ℕ) (k n : ℕ) (u before after : List ℕ) (
           line-found ed (take l after) i x y s m (f ∙ sym e) ∙ ap (wordLine i (kindOf x) y) g ∙ sym (line-found ed b i x y s m (sym e))
       by-answer (preset.Refused r) e f g = line-refused ed (take l after) i r (f ∙ sym e) ∙ sym (line-refused ed b i r (sym e))
 
-  -- the listing of the new book: its count, the lines of the old one, and the line of the preset appended
+  -- B18, B19, P3: the listing of the new book: its count, the lines of the old one, and the line of the preset
+  -- appended
   pub append-listed : listing ed (take l after) ≡ countLine (count b + 1) ++ (linesFrom ed b (count b) 0 ++ wordLine (count b) (kindOf k) n u)
   unfolding listing listingBy
   append-listed =
@@ -118,7 +122,7 @@ module _ (ed : Edition) (b : List ℕ) (k n : ℕ) (u before after : List ℕ) (
 
 -- ---- converting
 
--- "The second edition gets a listing program of its own that prints the same lines.": of the book that converting left, those of the first book
+-- P2, B24: of the book that converting left, the lines are those of the first book
 pub convert-listed : (ed : Edition) (b before after : List ℕ) (l : ℕ) → Yields (converting ed b before) (Length l) after
     → listing (other ed) (take l after) ≡ listing ed b
 unfolding listing listingBy
@@ -138,7 +142,7 @@ convert-listed ed b before after l c =
 
 -- ---- kind A at rank 1
 
--- "Books that hold them are .. listed .. as before": preset i is of kind A and rank 1, with its lane count, 2, and with letters that pass
+-- B23: preset i is of kind A and rank 1, with its lane count, 2, and with letters that pass
 pub rank-1-listed : (ed : Edition) (b : List ℕ) (i : ℕ) → bookRefusal ed b ≡ 0 → i < count b → kindAt b (offset b i) ≡ 1 → rankAt b (offset b i) ≡ 1
     → lanesAt ed b (offset b i) ≡ 2 → WordOf 1 (lettersAt ed b (offset b i)) → lineOf ed b i ≡ wordLine i A 1 (lettersAt ed b (offset b i))
 unfolding kindOf

@@ -1,6 +1,6 @@
--- "Block 1 is peeled off and the rest is a normal form over the higher steps", and so at each level: the normal forms over the steps i to n are
--- exactly the words made of blocks of the levels from i on, and of such a word the block of level i is peeled off at the end. By the laws on words
--- of blocks (BlockWords) and on words that no rule rewrites (Irreducible).
+-- N10, at each level: the normal forms over the steps i to n are exactly the words made of blocks of the levels
+-- from i on, and of such a word the block of level i is peeled off at the end. By the laws on words of blocks
+-- (BlockWords) and on words that no rule rewrites (Irreducible).
 --
 -- Sections: letters; words of blocks; one level; block 1.
 -- Assumes nothing.

@@ -171,11 +171,11 @@ module _ (k : Kind) (n : ℕ) (low : least k ≤ n) (x : Rule) (listed : List·M
   pub family-between : (1 ≤ x .family) × (x .family ≤ 7)
   family-between = between k n entry
 
-  -- "i is the first step of the left side", in every family
+  -- R18: i is the first step of the left side, in every family
   pub left-begins : (rest : List ℕ) × (x .left ≡ x .i ∷ rest)
   left-begins = begun k n entry
 
-  -- "In families 1, 4, 5, 6 and 7, j is 0"
+  -- R18
   pub j-zero : (x .family ≡ 2 → ⊥) → (x .family ≡ 3 → ⊥) → x .j ≡ 0
   j-zero = no-j k n entry
 
@@ -183,34 +183,34 @@ module _ (k : Kind) (n : ℕ) (low : least k ≤ n) (x : Rule) (listed : List·M
   pub right-empty : x .right ≡ [] → x .family ≡ 1
   right-empty = empty-right k n entry
 
-  -- "i i → empty"
+  -- R2
   pub sides-1 : x .family ≡ 1 → (x .left ≡ x .i ∷ x .i ∷ []) × (x .right ≡ [])
   sides-1 = sides k n low entry .0
 
-  -- "i j → j i"
+  -- R3, R4, R19
   pub sides-2 : x .family ≡ 2 → (x .left ≡ x .i ∷ x .j ∷ []) × (x .right ≡ x .j ∷ x .i ∷ []) × Commuting k n (x .i) (x .j)
   sides-2 = sides k n low entry .1
 
-  -- "[i,j] i → (i+1) [i,j]"
+  -- R5, R6, R7, R19
   pub sides-3 : x .family ≡ 3 → (x .left ≡ block k n (x .i) (x .j) ++ (x .i ∷ []))
       × (x .right ≡ (x .i + 1) ∷ block k n (x .i) (x .j)) × (x .i < x .j)
   sides-3 = sides k n low entry .2
 
-  -- "[i,2n−i] (i+1) → (i+1) [i,2n−i]"
+  -- R8, R9
   pub sides-4 : x .family ≡ 4 → (x .left ≡ block k n (x .i) (2 * n - x .i) ++ ((x .i + 1) ∷ []))
       × (x .right ≡ (x .i + 1) ∷ block k n (x .i) (2 * n - x .i))
   sides-4 = sides k n low entry .3
 
-  -- "(n−2) n (n−2) → n (n−2) n"
+  -- R10
   pub sides-5 : x .family ≡ 5 → (k ≡ D) × (x .i ≡ n - 2) × (x .left ≡ (n - 2) ∷ n ∷ (n - 2) ∷ []) × (x .right ≡ n ∷ (n - 2) ∷ n ∷ [])
   sides-5 = sides k n low entry .4
 
-  -- "[n−2,n+2] n → (n−1) [n−2,n+2]"
+  -- R11
   pub sides-6 : x .family ≡ 6 → (k ≡ D) × (x .i ≡ n - 2)
       × (x .left ≡ block D n (n - 2) (n + 2) ++ (n ∷ [])) × (x .right ≡ (n - 1) ∷ block D n (n - 2) (n + 2))
   sides-6 = sides k n low entry .5
 
-  -- "[n−2,n+2] (n−1) → n [n−2,n+2]"
+  -- R12
   pub sides-7 : x .family ≡ 7 → (k ≡ D) × (x .i ≡ n - 2)
       × (x .left ≡ block D n (n - 2) (n + 2) ++ ((n - 1) ∷ [])) × (x .right ≡ n ∷ block D n (n - 2) (n + 2))
   sides-7 = sides k n low entry .6
@@ -227,11 +227,11 @@ left-determines k n x y low p q e =
     fitting-unique k n (x .left ++ []) 0 x y low p q (fits-at x [] [])
     (rw e (fits-at y [] []))
 
--- "(n−1) n → n (n−1)" is in D's list
+-- R4: (n − 1) n is in D's list
 pub last-pair-listed : (n : ℕ) → 4 ≤ n → List·Memᴰ (exchanged (n - 1) n) (rules D n)
 last-pair-listed n low = mem-of-listed D n low (exchange {i = n - 1} {j = n} (omega arith) (omega arith) (inr (inr (omega arith))))
 
--- "for (n−1) n they are n − 1 and n"
+-- R19: for (n − 1) n
 pub last-pair : (n : ℕ) (x : Rule) → 4 ≤ n → List·Memᴰ x (rules D n) → x .left ≡ (n - 1) ∷ n ∷ [] → (x .family ≡ 2) × (x .i ≡ n - 1) × (x .j ≡ n)
 last-pair n x low p e =
     let s : x ≡ exchanged (n - 1) n = left-determines D n x (exchanged (n - 1) n) low p (last-pair-listed n low) e in

@@ -61,6 +61,6 @@ module _ (k : Kind) (n : ℕ) (low : least k ≤ n) (x : Rule) (listed : List·M
 
 -- ---- normal forms
 
--- the normal form of a window is the mission's: the shortest word with that window, and among those the first in the dictionary
+-- N1, N3: the shortest word with that window, and among those the first in the dictionary
 pub normalForm-least : (k : Kind) (n : ℕ) (w : List ℤ) → least k ≤ n → WindowOf k n w → IsNormalForm k n w (normalForm k n w)
 normalForm-least k n w low passed = complete.normalForm-least k n w low (accepted-of-refusal k n w passed)

@@ -1,5 +1,6 @@
--- Vectors: one rewrite at a few inputs, with its answer, the bytes of its output afterwards and the word that is left. Worked out by hand from document
--- 01. By computing the definitions. An output is lent full of 9s, mostly longer than what is written.
+-- Vectors: one rewrite at a few inputs, with its answer, the bytes of its output afterwards and the word that is
+-- left. Worked out by hand from the specification. By computing the definitions. An output is lent full of 9s,
+-- mostly longer than what is written.
 -- Assumes nothing.
 use mathlib.Core.Path.{refl}
 use mathlib.Core.List.{List, [], _∷_}

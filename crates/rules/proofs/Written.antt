@@ -1,6 +1,7 @@
--- What the calls that write a word have left is the mission's normal form: of all words of any length with its window the shortest, and among those
--- the first in the dictionary. From the answer and the bytes alone, as in coxeter's Written, and by `normalForm-least`; and the normal form is the
--- only word of which this can be said, so that no other bytes would do.
+-- What the calls that write a word have left is the normal form of N1: of all words of any length with its window
+-- the shortest, and among those the first in the dictionary. From the answer and the bytes alone, as in coxeter's
+-- Written, and by `normalForm-least`; and the normal form is the only word of which this can be said, so that no
+-- other bytes would do.
 --
 -- Sections: normal forms; products and inverses; no other bytes.
 -- Assumes nothing.
@@ -112,7 +113,7 @@ module _ (k n : ℕ) (u before after : List ℕ) (l : ℕ) (left : Yields (inver
 
 -- ---- no other bytes
 
--- a word that is the mission's normal form of the window asked for is what the call wrote
+-- N1, N3: a word that is the normal form of the window asked for is what the call wrote
 module _ (k n : ℕ) (u before after : List ℕ) (l : ℕ) (left : Yields (normalFormOfWord k n u before) (Length l) after) where
   pub normalFormOfWord-only : (v : List ℕ) → IsNormalForm (kindOf k) n (window (kindOf k) n u) v → v ≡ take l after
   normalFormOfWord-only v m =

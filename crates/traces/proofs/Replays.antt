@@ -184,7 +184,7 @@ replay-goes k n u h s a r =
       counted = ap suc (r .counted);
     }
 
--- "one number, the same for all lists, and no list has more calls that use a rule" (document 01): the rewriting has no more steps
+-- T11: the rewriting has no more steps than that number
 pub trace-at-most : (k n : ℕ) (u : List ℕ) → AcceptedWord k n u → (d : Demand3 k n u) → length (trace (kindOf k) n u .lines) ≤ d .most
 unfolding uses
 trace-at-most k n u h d =

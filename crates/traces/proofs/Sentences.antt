@@ -1,5 +1,5 @@
--- Document 02's request 2 in plain terms, at the answer, the three lists and the bytes that the rewriting to its end left, and at the number that the
--- call for the steps answers.
+-- The rewriting to its end in plain terms (T19 to T25, I20 and I21 of the specification), at the answer, the three
+-- lists and the bytes that it left, and at the number that the call for the steps answers.
 --
 -- Sections: replaying with a list of single rewrites; a rewriting that ended; refusals and the number of steps.
 -- Assumes nothing.
@@ -120,16 +120,17 @@ module _ (k n : ℕ) (u families places lengths out : List ℕ) (s l : ℕ) (fs 
       let z = then-zero (rankRefusal k n) (wordRefusal n u) (w .0) in
       record { rank = z .0; word = z .1 }
 
-  -- the first s entries of the lists are "the rule family, the place and the length left" of s lines, which "any reader can replay .. with 01's
-  -- single rewrite", each at the lowest place where a rule fits, to the word written, where none fits
+  -- T19, T20, T24: the first s entries of the lists are family, place and length left of s lines, which can be
+  -- replayed by single rewrites, each at the lowest place where a rule fits, to the word written, where none fits
   pub lines-replay : (lines : List Line) × (length lines ≡ s) × (take s fs ≡ familiesOf lines) × (take s ps ≡ placesOf lines)
       × (take s ls ≡ lengthsOf lines) × Replays k n u lines (take l after)
   lines-replay =
       let w = toEnd-wrote k n u families places lengths out s l (sym (h .0)) in
       rw (h .1, h .2, h .3, h .4, w .1) (w .3)
 
-  -- the same of every list of single rewrites from the word at the places written, whose outputs have room for the lengths written: at each call no
-  -- rule fits lower down, and it answers the family and the length written; the word that is left is the one written, and none fits in it
+  -- T24: the same of every list of single rewrites from the word at the places written, whose outputs have room for
+  -- the lengths written: at each call no rule fits lower down, and it answers the family and the length written;
+  -- the word that is left is the one written, and none fits in it
   module _ (cs : List Call) (run : Run k n u cs) (at : map (λ (c : Call). c .lent .place) cs ≡ take s ps)
       (room : (i : ℕ) → i < s → getD ls i 0 ≤ length (getD (map (λ (c : Call). c .lent .output) cs) i [])) where
     replay : Seen k n u (take s fs) (take s ls) (take l after) cs
@@ -146,6 +147,7 @@ module _ (k n : ℕ) (u families places lengths out : List ℕ) (s l : ℕ) (fs 
     called = sym (length-map cs (λ (c : Call). c .lent .place)) ∙ ap (λ (y : List ℕ). length y) (at ∙ lines-replay .3)
         ∙ length-map (lines-replay .0) (λ (m : Line). m .place) ∙ lines-replay .1
 
+    -- T24
     pub each-replayed : (front : List Call) (c : Call) (rest : List Call) → cs ≡ front ++ (c ∷ rest)
         → NoneFitsBelow k n (wordLeft u front) (c .lent .place)
         × ((i j : ℕ) × (c .told .answer ≡ Used (getD fs (length front) 0) i j (getD ls (length front) 0)))
@@ -154,10 +156,11 @@ module _ (k n : ℕ) (u families places lengths out : List ℕ) (s l : ℕ) (fs 
         let b : length front < s = omega (arith, called, ap (λ (y : List Call). length y) e, length-append front (c ∷ rest)) in
         rw (getD-take s (length front) fs 0 b, getD-take s (length front) ls 0 b) at r
 
+    -- T24
     pub replayed-to-end : (wordLeft u cs ≡ take l after) × NowhereFits k n (take l after)
     replayed-to-end = (replay .last, subst (NowhereFits k n) (replay .last) (replay .ends))
 
-  -- no other lines can be replayed so
+  -- T19: no other lines can be replayed so
   pub only-lines : (lines : List Line) (v : List ℕ) → Replays k n u lines v
       → (familiesOf lines ≡ take s fs) × (placesOf lines ≡ take s ps) × (lengthsOf lines ≡ take s ls) × (v ≡ take l after)
   only-lines lines v r =
@@ -167,17 +170,17 @@ module _ (k n : ℕ) (u families places lengths out : List ℕ) (s l : ℕ) (fs 
       let e : lines ≡ w .0 = a .0 ∙ sym (b .0) in
       (ap familiesOf e ∙ sym (w .2), ap placesOf e ∙ sym (w .3), ap lengthsOf e ∙ sym (w .4), a .1 ∙ sym (b .1))
 
-  -- "The final word is written too, and it is the normal form", among words of any length; the answer is its length
+  -- T21, T22: the normal form among words of any length; the answer is its length
   pub final-normal : IsNormalForm (kindOf k) n (window (kindOf k) n u) (take l after) × (length (take l after) ≡ l)
   final-normal =
       let w = toEnd-wrote k n u families places lengths out s l (sym (h .0)) in
       rw (h .4, w .1) (normalForm-least (kindOf k) n (window (kindOf k) n u) (accepted-least ended-accepted) (window-passes (kindOf k) n u), w .0)
 
-  -- "list places past the steps keep what they held", and so does the output past the final word
+  -- T23, I2: list places past the steps and the output past the final word keep what they held
   pub lists-past : (drop s fs ≡ drop s families) × (drop s ps ≡ drop s places) × (drop s ls ≡ drop s lengths) × (drop l after ≡ drop l out)
   lists-past = rw (h .1, h .2, h .3, h .4) (toEnd-past k n u families places lengths out s l (sym (h .0)))
 
-  -- the call for the number of steps answers s
+  -- T22, T25: the call for the number of steps answers s
   pub steps-answered : numberOfSteps k n u ≡ answer.Length s
   unfolding numberOfSteps answerOf rewritingToEnd
   steps-answered =
@@ -225,7 +228,8 @@ enough-exactly m fs ps ls = (
   λ e. rw (le-ltb (length fs) m (e .0), le-ltb (length ps) m (e .1), le-ltb (length ls) m (e .2)),
 )
 
--- the number of steps that is answered is that of the lines that can be replayed from the word to its normal form
+-- T25: the number of steps that is answered is that of the lines that can be replayed from the word to its normal
+-- form
 pub steps-exactly : (k n : ℕ) (u : List ℕ) (m : ℕ) → (numberOfSteps k n u ≡ answer.Length m)
     ↔ (Rig k n × WordOf n u
     × ((lines : List Line) × (length lines ≡ m) × Replays k n u lines (wordNormalForm (kindOf k) n u)))
@@ -257,7 +261,7 @@ counted k n u m g =
 
 module _ (k n : ℕ) (u families places lengths out : List ℕ) (a : ToEnd) (fs ps ls after : List ℕ)
     (h : TraceYields (rewritingToEnd k n u families places lengths out) a fs ps ls after) where
-  -- "15 when one of the three lists has fewer places than the rewriting has steps, checked just before refusal 14": m is the number of steps
+  -- C15: just before 14; m is the number of steps
   pub trace-15-exactly : (a ≡ Refused 15)
       ↔ ((m : ℕ) × (numberOfSteps k n u ≡ answer.Length m) × ((length families < m) ⊎ ((length places < m) ⊎ (length lengths < m))))
   unfolding rewritingToEnd tracedBy numberOfSteps answerOf
@@ -280,7 +284,8 @@ module _ (k n : ℕ) (u families places lengths out : List ℕ) (a : ToEnd) (fs 
       let w : AcceptedWord k n u = record { rank = p .0; word = p .1 } in
       ap (λ (v : List ℕ). length v) (trace-normalForm (kindOf k) n (accepted-least w) u (accepted-letters w))
 
-  -- a length is answered exactly when checks 5 to 8 accept, each list has a place for each step and the output has room for the normal form
+  -- I20: a length is answered exactly when checks 5 to 8 accept, each list has a place for each step and the output
+  -- has room for the normal form
   pub ended-exactly : (s l : ℕ) → (a ≡ Ended s l)
       ↔ ((numberOfSteps k n u ≡ answer.Length s) × (s ≤ length families) × (s ≤ length places) × (s ≤ length lengths)
       × (l ≡ length (wordNormalForm (kindOf k) n u)) × (l ≤ length out))
@@ -308,7 +313,7 @@ module _ (k n : ℕ) (u families places lengths out : List ℕ) (a : ToEnd) (fs 
             h .0 ∙ e .1 (then-none q (check 15 few then check 14 short) (p .0) ∙ rw (f, o), m, w ∙ sym (g .4)),
       )
 
-  -- 14 exactly when only the room is missing
+  -- C14: 14 exactly when only the room is missing
   pub trace-14-exactly : (a ≡ Refused 14)
       ↔ ((m : ℕ) × (numberOfSteps k n u ≡ answer.Length m) × (m ≤ length families) × (m ≤ length places) × (m ≤ length lengths)
       × (length out < length (wordNormalForm (kindOf k) n u)))
@@ -340,11 +345,11 @@ module _ (k n : ℕ) (u families places lengths out : List ℕ) (a : ToEnd) (fs 
             h .0 ∙ e .1 (sym regroup ∙ c .1 (inr (then-none q (check 15 few) (p .0) ∙ rw f, check-number 13 short .1 o))),
       )
 
-  -- and before 15 the first check's number
+  -- CO3: and before 15 the first check's number
   pub trace-first-refusal : (r : ℕ) → (r ≡ 0 → ⊥) → (rankRefusal k n then wordRefusal n u) ≡ r → a ≡ Refused r
   unfolding rewritingToEnd tracedBy toEndOf
   trace-first-refusal r f e = h .0 ∙ rw (e, ne-eqb r 0 f) (rw (ne-eqb r 0 f) refl)
 
-  -- a refused call changes no list and no byte
+  -- D6, CO9: a refused call changes no list and no byte
   pub trace-unchanged : (r : ℕ) → a ≡ Refused r → (fs ≡ families) × (ps ≡ places) × (ls ≡ lengths) × (after ≡ out)
   trace-unchanged r e = rw (h .1, h .2, h .3, h .4) (toEnd-refused-unchanged k n u families places lengths out r (sym (h .0) ∙ e))

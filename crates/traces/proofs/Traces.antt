@@ -232,7 +232,7 @@ module _ (k : Kind) (n : ℕ) (h : least k ≤ n) where
   trace-ends =
       trace-induction k n h (λ u t. Irreducible k n (t .final)) (λ u e d. irreducible-of-none k n u h d) (λ u s e a r. r)
 
-  -- "The final word is written too, and it is the normal form."
+  -- T21
   pub trace-normalForm : (u : List ℕ) → wrongLetter n u ≡ false → trace k n u .final ≡ wordNormalForm k n u
   trace-normalForm u e =
       let r = trace-rewrites u e in

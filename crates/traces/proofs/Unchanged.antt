@@ -66,7 +66,7 @@ module _ (k n : ℕ) (u families places lengths out : List ℕ) where
         kept-whole refusal good toEnd.Refused h not-good (t .final) out,
       )
 
-  -- "list places past the steps keep what they held", and so does the output past the final word
+  -- T23, I2: list places past the steps and the output past the final word keep what they held
   pub toEnd-past : (s l : ℕ) → rewritingToEnd k n u families places lengths out .answer ≡ toEnd.Ended s l
       → (drop s (rewritingToEnd k n u families places lengths out .families) ≡ drop s families)
       × (drop s (rewritingToEnd k n u families places lengths out .places) ≡ drop s places)

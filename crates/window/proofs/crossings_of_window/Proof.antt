@@ -1,4 +1,4 @@
--- `crossings_of_window` refuses in document 01's order, or counts the window's pairs and negative entries.
+-- `crossings_of_window` refuses in the order of CO2, or counts the window's pairs and negative entries.
 -- Assumes nothing.
 use mathlib.Core.Path.{refl, _∙_}
 use Rattle.coxeter.proofs.Acceptance.{two-accepted, lanes-le}

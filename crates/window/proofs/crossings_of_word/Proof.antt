@@ -1,4 +1,4 @@
--- `crossings_of_word` refuses in document 01's order, or counts the pairs and negative entries of what the word shows.
+-- `crossings_of_word` refuses in the order of CO2, or counts the pairs and negative entries of what the word shows.
 -- Assumes nothing.
 use mathlib.Core.Path.{_∙_}
 use Rattle.coxeter.proofs.Acceptance.{two-accepted}

@@ -1,4 +1,4 @@
--- `inverse_of_window` refuses in document 01's order, or writes the inverse to the front of its output.
+-- `inverse_of_window` refuses in the order of CO2, or writes the inverse to the front of its output.
 -- Assumes nothing.
 use mathlib.Core.Path.{refl}
 use Rattle.coxeter.proofs.Acceptance.{two-accepted}

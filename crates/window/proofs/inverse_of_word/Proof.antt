@@ -1,4 +1,4 @@
--- `inverse_of_word` refuses in document 01's order, or writes the normal form of the inverse of what the word shows.
+-- `inverse_of_word` refuses in the order of CO2, or writes the normal form of the inverse of what the word shows.
 -- Assumes nothing.
 use mathlib.Core.Path.{refl}
 use Rattle.coxeter.proofs.Acceptance.{two-accepted}

@@ -1,4 +1,4 @@
--- `length_of_window` refuses in document 01's order, or measures the window.
+-- `length_of_window` refuses in the order of CO2, or measures the window.
 -- Assumes nothing.
 use mathlib.Core.Path.{refl}
 use Rattle.coxeter.proofs.Acceptance.{two-accepted, lanes-le}

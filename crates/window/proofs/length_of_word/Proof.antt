@@ -1,4 +1,4 @@
--- `length_of_word` refuses in document 01's order, or measures what the word shows.
+-- `length_of_word` refuses in the order of CO2, or measures what the word shows.
 -- Assumes nothing.
 use Rattle.coxeter.proofs.Outcomes.{answer-refused, answer-length}
 use Rattle.coxeter.specs.Calls.{lengthOfWord}

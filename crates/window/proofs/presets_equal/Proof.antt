@@ -1,4 +1,4 @@
--- `presets_equal` refuses in document 01's order, or compares what the two presets show.
+-- `presets_equal` refuses in the order of CO2, or compares what the two presets show.
 -- Assumes nothing.
 use Rattle.coxeter.proofs.Acceptance.{presets-accepted}
 use Rattle.coxeter.proofs.Outcomes.{verdict-refused, verdict-no, verdict-yes}

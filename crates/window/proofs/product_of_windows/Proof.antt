@@ -1,4 +1,4 @@
--- `product_of_windows` refuses in document 01's order, or writes the product to the front of its output.
+-- `product_of_windows` refuses in the order of CO2, or writes the product to the front of its output.
 -- Assumes nothing.
 use mathlib.Core.Path.{refl}
 use Rattle.coxeter.proofs.Acceptance.{windows-accepted}

@@ -1,4 +1,4 @@
--- `product_of_words` refuses in document 01's order, or writes the normal form of the product of what the words show.
+-- `product_of_words` refuses in the order of CO2, or writes the normal form of the product of what the words show.
 -- Assumes nothing.
 use mathlib.Core.Path.{refl}
 use Rattle.coxeter.proofs.Acceptance.{words-accepted}

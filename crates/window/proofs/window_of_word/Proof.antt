@@ -1,4 +1,4 @@
--- `window_of_word` refuses in document 01's order, or writes the word's window to the front of its output.
+-- `window_of_word` refuses in the order of CO2, or writes the word's window to the front of its output.
 -- Assumes nothing.
 use mathlib.Core.Path.{refl, sym, _∙_}
 use Rattle.coxeter.proofs.Acceptance.{two-accepted}
