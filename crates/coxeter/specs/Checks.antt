@@ -1,5 +1,5 @@
--- The checks of a kind, a rank, a word, a window and an output (section C of the specification). A refusal is the
--- number of a check; 0 stands for none.
+-- The checks of a kind, a rank, a word, a window and an output (section C of the specification). A call that fails
+-- one is refused, which document 01 calls turned down; a refusal is the number of a check, and 0 stands for none.
 use mathlib.Core.Path.{_≡_}
 use mathlib.Core.Bool.{Bool, false, not, _||_}
 use mathlib.Core.List.{List, [], _∷_}

@@ -10,7 +10,7 @@ abbrev pub pick : {X : Type 0} → Bool → X → X → X
 pick true x y = x
 pick false x y = y
 
--- K2, D11: the three kinds; no other can be named.
+-- K2, D11: the three kinds; no other can be named
 pub data Kind : Type 0 where
   A B D : Kind
 

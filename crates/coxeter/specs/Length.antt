@@ -14,7 +14,7 @@ later (pos a) (negsuc b) = false
 later (negsuc a) (pos b) = true
 later (negsuc a) (negsuc b) = ltb a b
 
--- L4: a negative entry is what document 01 calls a mirrored lane
+-- L4: a negative entry, the specification's mirrored lane
 unfoldable pub negative : ℤ → Bool
 negative (pos a) = false
 negative (negsuc a) = true

@@ -31,7 +31,7 @@ block A n i j = rise i j
 block B n i j = pick (leb j n) (rise i j) (rise i n ++ fall (n - 1) (2 * n - j))
 block D n i j = pick (ltb j n) (rise i j) (rise i (n - 2) ++ (n ∷ fall (n - 1) (2 * n - j)))
 
--- N9: the number of levels, 1 to n, in D 1 to n − 1
+-- N9: how many levels there are; they are document 01's i
 abbrev pub levels : Kind → ℕ → ℕ
 levels A n = n
 levels B n = n

@@ -1,5 +1,4 @@
--- The Coxeter relations, which document 01 calls the defining relations, and the words that they link (section E of
--- the specification).
+-- The Coxeter relations and the words that they link (section E of the specification).
 use mathlib.Core.Path.{_≡_}
 use mathlib.Core.Logic.{_⊎_}
 use mathlib.Core.List.{List, [], _∷_, _++_}
@@ -28,7 +27,7 @@ pub data Braid (k : Kind) (n : ℕ) : List ℕ → List ℕ → Type 0 where
   fourfold : {a b : ℕ} → 1 ≤ a → b ≤ n → FourfoldPair k n a b → Braid k n (a ∷ b ∷ a ∷ b ∷ []) (b ∷ a ∷ b ∷ a ∷ [])
   commute : {a b : ℕ} → 1 ≤ a → b ≤ n → Commuting k n a b → Braid k n (a ∷ b ∷ []) (b ∷ a ∷ [])
 
--- E1, and the relations above
+-- E1, and the relations above: document 01's defining relations
 pub data Relation (k : Kind) (n : ℕ) : List ℕ → List ℕ → Type 0 where
   twice : {a : ℕ} → 1 ≤ a → a ≤ n → Relation k n (a ∷ a ∷ []) []
   braid : {l r : List ℕ} → Braid k n l r → Relation k n l r

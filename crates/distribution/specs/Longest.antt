@@ -14,9 +14,9 @@ use Rattle.coxeter.specs.NormalForm.{down, normalForm}
 pub record IsLongest (k : Kind) (n : ℕ) (w : List ℤ) : Type 0 where
   -- W5: it is a window of the rig
   pub passes : WindowOf k n w
-  -- L6
+  -- L6: it has the greatest length
   pub greatest : windowLength k w ≡ greatestLength k n
-  -- L5
+  -- L5: and its normal form as many letters
   pub form : length (normalForm k n w) ≡ greatestLength k n
   -- Y4: every other window has a shorter normal form
   pub only : (v : List ℤ) → WindowOf k n v → (v ≡ w → ⊥) → length (normalForm k n v) < length (normalForm k n w)

@@ -38,21 +38,21 @@ Stays k n u p a = (out : List ℕ) → _≡_ {A = Step} (step (number k) n u p o
 
 -- J1 to J9: the sorts of entry; kind and rank stand first, what is claimed last
 pub data Example : Type 0 where
-  -- a word and its window, its normal form, its length
+  -- J1, J2, J4: a word and its window, its normal form, its length
   wordWindow : Kind → ℕ → List ℕ → List ℤ → Example
   wordForm : Kind → ℕ → List ℕ → List ℕ → Example
   wordLength : Kind → ℕ → List ℕ → ℕ → Example
-  -- a window and its normal form; a window that is its own inverse
+  -- J5: a window and its normal form; a window that is its own inverse
   windowForm : Kind → ℕ → List ℤ → List ℕ → Example
   ownInverse : List ℤ → Example
-  -- a word and a place: the new word with the family, i and j of the rule used; or none fits
+  -- J2, J6, J7: a word and a place: the new word with the family, i and j of the rule used; or none fits
   gives : Kind → ℕ → List ℕ → ℕ → List ℕ → ℕ → ℕ → ℕ → Example
   noneFits : Kind → ℕ → List ℕ → ℕ → Example
   -- J3: in every kind, at every rank
   squareVanishes emptyStays : Example
-  -- the number of rules
+  -- J8: the number of rules
   ruleCount : Kind → ℕ → ℕ → Example
-  -- a window that is refused with a number, or accepted
+  -- J9: a window that is refused with a number, or accepted
   refused : Kind → ℕ → List ℤ → ℕ → Example
   accepted : Kind → ℕ → List ℤ → Example
 

@@ -18,6 +18,6 @@ unfoldable pub betweenRefusal : ℕ → ℕ → ℕ → List ℤ → List ℤ �
 betweenRefusal k n set v w =
     setRefusal k n set then windowRefusal (kindOf k) n v then windowRefusal (kindOf k) n w then check 19 (unreachable (kindOf k) n set v w)
 
--- I23
+-- I23, A1: from the window v to the window w
 unfoldable pub betweenWindows : ℕ → ℕ → ℕ → List ℤ → List ℤ → List ℕ → Outcome ℕ
 betweenWindows k n set v w out = writes (betweenRefusal k n set v w) (between (kindOf k) n v w) out

@@ -40,7 +40,7 @@ keptCount (Refused r) = 0
 pub record FellBack (k n : ℕ) (present simpler places : List ℕ) (a : Fallback) (after : List ℕ) : Type 0 where
   -- F2
   pub answer : a ≡ fallbackAnswer k n present simpler places
-  -- F3, F4: with a yes, what holds of the front of the list; which list it is is left free (G2)
+  -- F3, F4: with a yes, what holds of the front of the list; which list comes is left free (G2)
   pub kept : (l : ℕ) → a ≡ Kept l → Keeps (kindOf k) n (wordNormalForm (kindOf k) n present) (window (kindOf k) n simpler) (take l after)
   -- F5, I2: every other place of the list keeps what it held
   pub others : drop (keptCount a) after ≡ drop (keptCount a) places

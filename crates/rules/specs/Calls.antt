@@ -41,7 +41,7 @@ stepBy none u p out = record { answer = NoneFits; bytes = out; word = u }
 stepBy (some r) u p out =
     pick (tooShort (length (rewritten r u p)) out) (refusedStep 14 u out) (usedStep r (rewritten r u p) out)
 
--- I19: checks 5 to 8 and 12 in order, then the rule that fits at the place
+-- I19: one rewrite, and no step of a word: checks 5 to 8 and 12 in order, then the rule that fits at the place
 unfoldable pub step : ℕ → ℕ → List ℕ → ℕ → List ℕ → Step
 step k n u p out =
     let r = rankRefusal k n then wordRefusal n u then check 12 (pastEnd u p) in

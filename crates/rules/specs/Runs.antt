@@ -41,7 +41,7 @@ wordLeft u (c ∷ cs) = wordLeft (wordAfter u (c .told)) cs
 abbrev pub Meets : ℕ → ℕ → List ℕ → Call → Type 0
 Meets k n u c = Rewrote k n u (c .lent .place) (c .lent .output) (c .told .output) (c .told .answer)
 
--- T2, T3: the calls of a list, each on the word that the last one left
+-- T2, T3: document 01's rewriting: the calls of a list, each on the word that the last one left
 abbrev pub Run : ℕ → ℕ → List ℕ → List Call → Type 0
 Run k n u [] = Unit {0}
 Run k n u (c ∷ cs) = Meets k n u c × Run k n (wordAfter u (c .told)) cs
