@@ -171,24 +171,22 @@ fn settle_signs(n: u8, js: &mut [u8])
     }
 }
 
-// The indices of an accepted window, one a level, at the front of a work array.
-fn indices_of(kind: u8, rank: u8, w: &[i8]) -> [u8; 64]
+// The indices of an accepted window, one a level, written to the front of `out`.
+fn set_levels(kind: u8, rank: u8, w: &[i8], out: &mut [u8])
     requires { ⌜ Rig kind rank ⌝ }
     requires { ⌜ WindowOf (kindOf kind) rank (now w) ⌝ }
-    ensures { λ r. ⌜ (length r ≡ 64)
-        × (take (levels (kindOf kind) rank) r ≡ indices (kindOf kind) rank (levels (kindOf kind) rank) 1 (now (w .entry))) ⌝ }
+    requires { ⌜ length (now out) ≡ 64 ⌝ }
+    ensures { λ _. ⌜ take (levels (kindOf kind) rank) (now (out .exit)) ≡ indices (kindOf kind) rank (levels (kindOf kind) rank) 1 (now (w .entry)) ⌝ }
 {
-    let mut out = no_indices();
-    set_indices(w, &mut out);
+    set_indices(w, out);
     if kind == 1 {
-        return out;
+        return;
     }
     if kind == 2 {
-        return out;
+        return;
     }
     let t = (rank as usize) - 1;
     settle_signs(rank, &mut out[..t]);
-    out
 }
 
 // The blocks of t levels from i on, by the indices of all levels, written to the front of out; the answer is how many
@@ -231,6 +229,7 @@ pub(crate) fn write_normal_form(kind: u8, rank: u8, work: &[i8], out: &mut [u8])
     let n = rank as usize;
     let m = crate::entries::lanes(kind, rank);
     let t = levels_of(kind, n);
-    let js = indices_of(kind, rank, &work[..m]);
+    let mut js = no_indices();
+    set_levels(kind, rank, &work[..m], &mut js);
     write_from(kind, n, t, 1, &js[..t], out)
 }

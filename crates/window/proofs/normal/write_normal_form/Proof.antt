@@ -1,6 +1,6 @@
 -- `normal::write_normal_form` stores the blocks of the window's indices from level 1 on, which are the normal form.
 -- Assumes nothing.
-use mathlib.Core.Path.{sym, ap}
+use mathlib.Core.Path.{sym, ap, _∙_}
 use Prim.Native.Nat.{ℕ, _+_}
 use native.Mathlib.Omega.{arith}
 use lib.Seq.{length-take-le}
@@ -20,43 +20,54 @@ levels-of-requires c κs =
     let start = c .before .before in
     one-le (kindOf (start .args .kind)) _ (rank-accepted _ _ (start .pre .0) .0)
 
-slice-aggregate-indices-of : tie.Need-slice-aggregate-indices-of
-slice-aggregate-indices-of c = sym (length-take-le _ _ (search needs))
+no-indices-requires : tie.Need-no-indices-requires
+no-indices-requires c κs = search needs
 
-indices-of-requires : tie.Need-indices-of-requires
-indices-of-requires c κs =
-    let counted = c .before .before in
+slice-aggregate-set-levels : tie.Need-slice-aggregate-set-levels
+slice-aggregate-set-levels c = sym (length-take-le _ _ (search needs))
+
+slice-aggregate-set-levels-2 : tie.Need-slice-aggregate-set-levels-2
+slice-aggregate-set-levels-2 c = search needs
+
+set-levels-requires : tie.Need-set-levels-requires
+set-levels-requires c κs =
+    let made = c .before .before in
+    let counted = made .before .before in
     let pre = counted .before .before .pre in
-    (pre .0, front-passes _ _ _ _ (counted .lanes .ensures) (pre .1 .1 .0))
+    (pre .0, (front-passes _ _ _ _ (counted .lanes .ensures) (pre .1 .1 .0), made .no-indices .ensures))
 
 array-share-prefix-js : tie.Need-array-share-prefix-js
 array-share-prefix-js c =
-    let leveled = c .before .before in
-    let counted = leveled .before in
+    let found = c .before in
+    let made = found .before .before .before in
+    let counted = made .before .before in
     let pre = counted .before .before .pre in
-    first-fits _ _ _ _ _ _ (pre .0) (pre .1 .1 .0) (counted .lanes .ensures) (leveled .levels-of .ensures) (c .indices-of .ensures)
+    first-fits _ _ _ _ _ _ (pre .0) (pre .1 .1 .0) (counted .lanes .ensures) (made .before .levels-of .ensures)
+    (found .set-levels .kept .1 .1 .1 .0 ∙ made .no-indices .ensures, found .set-levels .ensures)
 
 slice-aggregate-write-from : tie.Need-slice-aggregate-write-from
 slice-aggregate-write-from c =
-    let found = c .before in
-    let leveled = found .before .before in
-    let counted = leveled .before in
+    let found = c .before .before in
+    let made = found .before .before .before in
+    let counted = made .before .before in
     let pre = counted .before .before .pre in
-    first-length _ _ _ _ _ _ (pre .0) (pre .1 .1 .0) (counted .lanes .ensures) (leveled .levels-of .ensures) (found .indices-of .ensures)
+    first-length _ _ _ _ _ _ (pre .0) (pre .1 .1 .0) (counted .lanes .ensures) (made .before .levels-of .ensures)
+    (found .set-levels .kept .1 .1 .1 .0 ∙ made .no-indices .ensures, found .set-levels .ensures)
 
 write-from-requires : tie.Need-write-from-requires
 write-from-requires c κs =
-    let found = c .before .before in
-    let leveled = found .before .before in
-    let counted = leveled .before in
+    let found = c .before .before .before in
+    let made = found .before .before .before in
+    let counted = made .before .before in
     let pre = counted .before .before .pre in
     let a = rank-accepted _ _ (pre .0) in
     let e = counted .lanes .ensures in
-    let t = leveled .levels-of .ensures in
-    let js = found .indices-of .ensures in
-    let size = first-length _ _ _ _ _ _ (pre .0) (pre .1 .1 .0) e t js in (
-      (a .0, a .1, omega arith, ap (λ (x : ℕ). x + 1) size, first-small _ _ _ _ _ _ (pre .0) (pre .1 .1 .0) e t js),
-      (first-indices _ _ _ _ _ _ (pre .0) (pre .1 .1 .0) e t js, first-room _ _ _ _ _ _ (pre .0) (pre .1 .1 .0) e t js _ (pre .1 .1 .1)),
+    let t = made .before .levels-of .ensures in
+    let n = found .set-levels .kept .1 .1 .1 .0 ∙ made .no-indices .ensures in
+    let js = found .set-levels .ensures in
+    let size = first-length _ _ _ _ _ _ (pre .0) (pre .1 .1 .0) e t (n, js) in (
+      (a .0, a .1, omega arith, ap (λ (x : ℕ). x + 1) size, first-small _ _ _ _ _ _ (pre .0) (pre .1 .1 .0) e t (n, js)),
+      (first-indices _ _ _ _ _ _ (pre .0) (pre .1 .1 .0) e t (n, js), first-room _ _ _ _ _ _ (pre .0) (pre .1 .1 .0) e t (n, js) _ (pre .1 .1 .1)),
     )
 
 same-length : tie.Need-same-length
@@ -65,12 +76,12 @@ same-length c = search needs
 returns : tie.Need-returns
 returns c =
     let wrote = c .before .before in
-    let found = wrote .before .before .before in
-    let leveled = found .before .before in
-    let counted = leveled .before in
+    let found = wrote .before .before .before .before in
+    let made = found .before .before .before in
+    let counted = made .before .before in
     let pre = counted .before .before .pre in
-    first-written _ _ _ _ _ _ (pre .0) (pre .1 .1 .0) (counted .lanes .ensures) (leveled .levels-of .ensures) (found .indices-of .ensures) _ _ _
-    (pre .1 .1 .1) (wrote .write-from .ensures)
+    first-written _ _ _ _ _ _ (pre .0) (pre .1 .1 .0) (counted .lanes .ensures) (made .before .levels-of .ensures)
+    (found .set-levels .kept .1 .1 .1 .0 ∙ made .no-indices .ensures, found .set-levels .ensures) _ _ _ (pre .1 .1 .1) (wrote .write-from .ensures)
 
 pub write-normal-form-spec : {M : Type 1} → statement M
 write-normal-form-spec =
@@ -78,8 +89,10 @@ write-normal-form-spec =
     (tie.spec
     lanes-requires
     levels-of-requires
-    slice-aggregate-indices-of
-    indices-of-requires
+    no-indices-requires
+    slice-aggregate-set-levels
+    slice-aggregate-set-levels-2
+    set-levels-requires
     array-share-prefix-js
     slice-aggregate-write-from
     write-from-requires
