@@ -32,7 +32,7 @@ use Rattle.book_format.specs.Calls.{appending}
 use Rattle.book_format.proofs.RankLaws.{bookRankRefusal-refused}
 use Rattle.distribution.specs.Calls.{tableRefusal, tableOf, tables, delayTable}
 use Rattle.sentences.specs.Sentences.{refusalSentence}
-use Rattle.sentences.proofs.Sentences.{unknown-alike}
+use Rattle.sentences.proofs.Texts.{unknown-alike}
 use Rattle.c_api.specs.Calls.{numberOf, numbered, rewriteNumbers, rewriting, crossingNumbers, listed, listedBeside}
 use Rattle.c_api.proofs.Lengths.{answered, i64-back, numbers-alike}
 

@@ -54,7 +54,7 @@ use Rattle.book_format.proofs.BookLaws.{accepted}
 use Rattle.book_format.proofs.WritingLaws.{append-size}
 use Rattle.book_format.proofs.Converting.{conversion-small}
 use Rattle.sentences.specs.Sentences.{sentence, refusalSentence}
-use Rattle.sentences.proofs.Sentences.{length-sentence}
+use Rattle.sentences.proofs.Texts.{length-sentence}
 use Rattle.c_api.specs.Calls.{refused, numberOf, numbered}
 
 -- ---- numbers

@@ -1,2 +1,2 @@
 -- The laws that the proofs of the sentences share.
-pub mod Sentences
+pub mod Texts

@@ -1,5 +1,5 @@
--- The sentences of the refusals, by their numbers, as document 01 and document 02 write them, and the call that writes one. c is the count of presets
--- at the end of a book, n the rank.
+-- The sentences of the refusals, by their numbers (C1 to C21 of the specification), and the call that writes one
+-- (IC9). c is the count of presets at the end of a book, n the rank.
 use mathlib.Core.List.{List, [], _∷_}
 use Prim.Native.Nat.{ℕ, zero, suc, _+_}
 use Prim.Native.Char.{code}
@@ -7,15 +7,16 @@ use Prim.Native.String.{String, len, charAt}
 use lib.ListN.{getD}
 use Rattle.coxeter.specs.Calls.{Outcome, writes}
 
--- the ASCII codes of l characters of a text from place i on, and of all characters
+-- no clause of its own: helps IC9. The ASCII codes of l characters of a text from place i on
 unfoldable pub codesFrom : String → ℕ → ℕ → List ℕ
 codesFrom t zero i = []
 codesFrom t (suc l) i = code (charAt t i) ∷ codesFrom t l (i + 1)
 
+-- no clause of its own: helps IC9. The codes of all characters
 unfoldable pub codes : String → List ℕ
 codes t = codesFrom t (len t) 0
 
--- the sentences of refusals 1, 2, ..
+-- C1 to C21, in their order
 unfoldable pub sentences : List String
 sentences =
     "The book has 1 byte or more than 65,535 bytes." ∷
@@ -41,11 +42,11 @@ sentences =
     "A preset of kind A and rank 1 is appended." ∷
     []
 
--- the sentence of a refusal. A number that is none has no sentence
+-- IC9: the sentence of a refusal. A number that is none has no sentence
 unfoldable pub sentence : ℕ → List ℕ
 sentence zero = []
 sentence (suc k) = codes (getD sentences k "")
 
--- the call: the sentence goes to the output
+-- IC9: the sentence goes to the output
 unfoldable pub refusalSentence : ℕ → List ℕ → Outcome ℕ
 refusalSentence k out = writes 0 (sentence k) out

@@ -19,16 +19,12 @@ struct Parts {
     negatives: usize,
 }
 
-// How many sizes of a set are s or larger; the size s is bit s - 1. The set has m bits, and few of them are counted faster.
-pub(crate) fn from_size(m: usize, set: u64, s: u8) -> usize
-    requires { ⌜ (1 ≤ s) × (s ≤ 64) × (set < 2 ^ m) ⌝ }
+// How many sizes of a set are s or larger; the size s is bit s - 1.
+pub(crate) fn from_size(set: u64, s: u8) -> usize
+    requires { ⌜ (1 ≤ s) × (s ≤ 64) ⌝ }
     ensures { λ r. ⌜ r ≡ ones (set / 2 ^ (s - 1)) ⌝ }
 {
-    let rest = set >> (s - 1);
-    if m <= 8 {
-        return u8::count_ones(rest as u8) as usize;
-    }
-    u64::count_ones(rest) as usize
+    u64::count_ones(set >> (s - 1)) as usize
 }
 
 // A set and the size s.
@@ -58,7 +54,7 @@ fn parts_of(w: &[i8]) -> Parts
         i -= 1;
         let e = w[i];
         let s = size(e);
-        let larger = from_size(m, behind, s);
+        let larger = from_size(behind, s);
         behind = with_size(behind, s);
         if is_negative(e) {
             pairs += larger;

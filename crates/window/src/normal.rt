@@ -7,7 +7,8 @@ use refusals::size;
 ghost use mathlib.Core.Path.{_≡_};
 ghost use mathlib.Core.Bool.{_||_};
 ghost use mathlib.Core.List.{List, _++_};
-ghost use Prim.Native.Nat.{ℕ, _+_, _-_, _*_, _<_, _≤_};
+ghost use Prim.Native.Nat.{ℕ, _+_, _-_, _*_, _/_, _^_, _<_, _≤_};
+ghost use lib.Count.{ones};
 ghost use lib.Dec.{eqb};
 ghost use lib.IntN.{ℤ};
 ghost use lib.ListN.{length, take, drop, getD};
@@ -117,6 +118,18 @@ fn own_index(m: usize, minus: bool, larger: usize) -> u8
     (m - 1 - larger) as u8
 }
 
+// How many sizes of a set are s or larger, as for the length. The set has m bits, and few of them are counted faster.
+fn larger_behind(m: usize, set: u64, s: u8) -> usize
+    requires { ⌜ (1 ≤ s) × (s ≤ 64) × (set < 2 ^ m) ⌝ }
+    ensures { λ r. ⌜ r ≡ ones (set / 2 ^ (s - 1)) ⌝ }
+{
+    if m <= 8 {
+        let rest = set >> (s - 1);
+        return u8::count_ones(rest as u8) as usize;
+    }
+    from_size(set, s)
+}
+
 // The indices of a window of kind B, written to the front of `out`: one pass from the last entry to the first, with
 // the set of the sizes behind, stores the index of each entry at the entry's size. What is taken out at the levels
 // below is smaller and changes none of them. An accepted window of any kind is one of kind B.
@@ -132,7 +145,7 @@ fn set_indices(w: &[i8], out: &mut [u8])
         i -= 1;
         let e = w[i];
         let s = size(e);
-        let larger = from_size(m, behind, s);
+        let larger = larger_behind(m, behind, s);
         behind = with_size(behind, s);
         let p = (s as usize) - 1;
         out[p] = own_index(m, is_negative(e), larger);

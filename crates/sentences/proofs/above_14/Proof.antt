@@ -3,7 +3,7 @@
 use mathlib.Core.Path.{refl}
 use borrow.Author.Needs.{needs}
 use Rattle.sentences.specs.Sentences.{codesFrom, codes, sentences, sentence}
-use Rattle.sentences.proofs.Sentences.{said, past, unsaid}
+use Rattle.sentences.proofs.Texts.{said, past, unsaid}
 use Rattle.sentences.proofs.above_14.Statement.{statement}
 use Rattle.sentences.proofs.above_14.Tie as tie
 

@@ -1,7 +1,7 @@
 -- `put` is the kit's copy, if there is room.
 -- Assumes nothing.
 use borrow.Author.Needs.{needs}
-use Rattle.sentences.proofs.Sentences.{put-short, put-copied}
+use Rattle.sentences.proofs.Texts.{put-short, put-copied}
 use Rattle.sentences.proofs.put.Statement.{statement}
 use Rattle.sentences.proofs.put.Tie as tie
 

@@ -3,7 +3,7 @@
 use mathlib.Core.Path.{refl}
 use borrow.Author.Needs.{needs}
 use Rattle.sentences.specs.Sentences.{codesFrom, codes, sentences, sentence}
-use Rattle.sentences.proofs.Sentences.{said, past, said-zero, above-zero}
+use Rattle.sentences.proofs.Texts.{said, past, said-zero, above-zero}
 use Rattle.sentences.proofs.refusal_sentence.Statement.{statement}
 use Rattle.sentences.proofs.refusal_sentence.Tie as tie
 

@@ -1,4 +1,4 @@
--- `normal_form_of_window` refuses in document 01's order, or writes the normal form of the window.
+-- `normal_form_of_window` refuses in the order of CO2, or writes the normal form of the window.
 -- Assumes nothing.
 use mathlib.Core.Path.{refl}
 use Rattle.coxeter.proofs.Acceptance.{two-accepted}

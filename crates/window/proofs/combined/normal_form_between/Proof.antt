@@ -1,4 +1,4 @@
--- `combined::normal_form_between` refuses in document 01's order, or writes the normal form of the window between the
+-- `combined::normal_form_between` refuses in the order of CO2, or writes the normal form of the window between the
 -- two.
 -- Assumes nothing.
 use mathlib.Core.Path.{refl}

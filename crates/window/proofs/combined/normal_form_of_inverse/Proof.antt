@@ -1,4 +1,4 @@
--- `combined::normal_form_of_inverse` refuses in document 01's order, or writes the normal form of the window's inverse.
+-- `combined::normal_form_of_inverse` refuses in the order of CO2, or writes the normal form of the window's inverse.
 -- Assumes nothing.
 use mathlib.Core.Path.{refl}
 use Rattle.coxeter.proofs.Acceptance.{two-accepted}

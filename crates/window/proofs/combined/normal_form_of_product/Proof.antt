@@ -1,4 +1,4 @@
--- `combined::normal_form_of_product` refuses in document 01's order, or writes the normal form of the product of the
+-- `combined::normal_form_of_product` refuses in the order of CO2, or writes the normal form of the product of the
 -- windows.
 -- Assumes nothing.
 use mathlib.Core.Path.{refl}

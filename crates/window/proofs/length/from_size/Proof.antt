@@ -1,56 +1,31 @@
 -- `length::from_size` shifts the smaller sizes out and counts the set digits that are left.
 -- Assumes nothing.
 use Prim.Native.Nat.{ℕ, _-_, _/_, _^_, _≤_, _<_}
-use native.Mathlib.Nat.{lt-of-le-of-lt, lt-of-lt-of-le}
+use native.Mathlib.Nat.{lt-of-le-of-lt}
 use native.Mathlib.Omega.{arith}
 use lib.Count.{ones, ones-le}
-use lib.Pow.{pow-mono, shr-le}
+use lib.Pow.{shr-le}
 use borrow.Author.Needs.{needs}
 use Rattle.window.proofs.length.from_size.Statement.{statement}
 use Rattle.window.proofs.length.from_size.Tie as tie
 
--- what is left of a set of at most k digits has no more
-left : (k m set p : ℕ) → set < 2 ^ m → m ≤ k → set / 2 ^ p < 2 ^ k
-left k m set p l h = lt-of-lt-of-le (lt-of-le-of-lt (shr-le set p) l) (pow-mono h)
-
 few : (set p : ℕ) → set < 2 ^ 64 → ones (set / 2 ^ p) ≤ 64
 few set p l = ones-le 64 (set / 2 ^ p) (lt-of-le-of-lt (shr-le set p) l)
 
-sub-rest : tie.Need-sub-rest
-sub-rest c = search needs
-
-cast-rest : tie.Need-cast-rest
-cast-rest c = search needs
-
-shr-rest : tie.Need-shr-rest
-shr-rest c = search needs
+sub-result : tie.Need-sub-result
+sub-result c = search needs
 
 cast-result : tie.Need-cast-result
-cast-result c =
-    let a = c .before .args in
-    record { fits = left 8 (a .m) (a .set) (a .s - 1) (c .before .pre .2) (c .if1 .taken) }
+cast-result c = search needs
+
+shr-result : tie.Need-shr-result
+shr-result c = search needs
 
 cast-result-2 : tie.Need-cast-result-2
-cast-result-2 c = record { fits = omega (arith, few (c .before .args .set) (c .before .args .s - 1) (c .before .fits .set .fits)) }
+cast-result-2 c = record { fits = omega (arith, few (c .args .set) (c .args .s - 1) (c .fits .set .fits)) }
 
 returns : tie.Need-returns
 returns c = search needs
 
-cast-result-3 : tie.Need-cast-result-3
-cast-result-3 c = record { fits = omega (arith, few (c .before .args .set) (c .before .args .s - 1) (c .before .fits .set .fits)) }
-
-returns-2 : tie.Need-returns-2
-returns-2 c = search needs
-
 pub from-size-spec : {M : Type 1} → statement M
-from-size-spec =
-    tie.close
-    (tie.spec
-    sub-rest
-    cast-rest
-    shr-rest
-    cast-result
-    cast-result-2
-    returns
-    cast-result-3
-    returns-2)
+from-size-spec = tie.close (tie.spec sub-result cast-result shr-result cast-result-2 returns)

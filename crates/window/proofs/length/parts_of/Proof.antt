@@ -9,7 +9,7 @@ use lib.ListN.{length, getD}
 use borrow.Author.Needs.{needs}
 use Rattle.coxeter.specs.Length.{negative}
 use Rattle.refusals.proofs.Bytes.{element-back}
-use Rattle.window.proofs.length.OnePass.{Gone, gone-none, size-bounds, set-fits, sums-fit, pairs-fit, left, gone-negative, gone-positive, parts}
+use Rattle.window.proofs.length.OnePass.{Gone, gone-none, size-bounds, sums-fit, pairs-fit, left, gone-negative, gone-positive, parts}
 use Rattle.window.proofs.length.Sums.{square-fits}
 use Rattle.window.proofs.length.parts_of.Statement.{statement}
 use Rattle.window.proofs.length.parts_of.Tie as tie
@@ -55,13 +55,7 @@ bounds c =
 
 from-size-requires : tie.Need-from-size-requires Inv-loop μ-loop
 from-size-requires c κs =
-    let turn = c .before .before in
-    let pre = turn .before .before .pre in
-    let b = bounds c in (
-      b .0,
-      omega (arith, b .1, pre .0),
-      set-fits _ _ _ _ _ _ _ (turn .before .loop .inv) (turn .loop-test .taken) (pre .0) (pre .1) (size-of c),
-    )
+    let b = bounds c in (b .0, omega (arith, b .1, c .before .before .before .before .pre .0))
 
 with-size-requires : tie.Need-with-size-requires Inv-loop μ-loop
 with-size-requires c κs =

@@ -49,8 +49,8 @@ bounds c =
     let pre = turn .before .before .before .pre in
     size-bounds _ _ _ _ (turn .before .loop .inv .1 .behind) (turn .loop-test .taken) (pre .1) (size-of c)
 
-from-size-requires : tie.Need-from-size-requires Inv-loop μ-loop
-from-size-requires c κs =
+larger-behind-requires : tie.Need-larger-behind-requires Inv-loop μ-loop
+larger-behind-requires c κs =
     let turn = c .before .before in
     let pre = turn .before .before .before .pre in
     let b = bounds c in (
@@ -89,7 +89,7 @@ own-index-requires c κs =
     let at = got .before in
     let turn = at .before .before in
     let pre = turn .before .before .before .pre in
-    (pre .0 .0, larger-lt _ _ _ _ (turn .before .loop .inv .1 .behind) (turn .loop-test .taken) (pre .1) (size-of at) _ (got .from-size .ensures))
+    (pre .0 .0, larger-lt _ _ _ _ (turn .before .loop .inv .1 .behind) (turn .loop-test .taken) (pre .1) (size-of at) _ (got .larger-behind .ensures))
 
 slice-write-out : tie.Need-slice-write-out Inv-loop μ-loop
 slice-write-out c =
@@ -110,7 +110,7 @@ loop-again c =
     let pre = turn .before .before .before .pre in (
       simp length-set (held .0),
       rw (asked .before .with-size .ensures)
-          (passed-next _ _ _ _ _ _ _ _ _ (held .1) (turn .loop-test .taken) (pre .1) (size-of at) (got .from-size .ensures) (sign-of asked) (c .own-index .ensures)),
+          (passed-next _ _ _ _ _ _ _ _ _ (held .1) (turn .loop-test .taken) (pre .1) (size-of at) (got .larger-behind .ensures) (sign-of asked) (c .own-index .ensures)),
     )
 
 same-length : tie.Need-same-length Inv-loop μ-loop
@@ -131,7 +131,7 @@ set-indices-spec =
     sub-i
     shared-slice-copy-out-e
     size-requires
-    from-size-requires
+    larger-behind-requires
     with-size-requires
     cast-p
     sub-p

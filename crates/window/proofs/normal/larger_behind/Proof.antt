@@ -1,0 +1,48 @@
+-- `normal::larger_behind` counts the digits of a byte, or as `length::from_size`.
+-- Assumes nothing.
+use Prim.Native.Nat.{ℕ, _-_, _/_, _^_, _≤_, _<_}
+use native.Mathlib.Nat.{lt-of-le-of-lt, lt-of-lt-of-le}
+use native.Mathlib.Omega.{arith}
+use lib.Count.{ones, ones-le}
+use lib.Pow.{pow-mono, shr-le}
+use borrow.Author.Needs.{needs}
+use Rattle.window.proofs.normal.larger_behind.Statement.{statement}
+use Rattle.window.proofs.normal.larger_behind.Tie as tie
+
+-- what is left of a set of at most k digits has no more
+left : (k m set p : ℕ) → set < 2 ^ m → m ≤ k → set / 2 ^ p < 2 ^ k
+left k m set p l h = lt-of-lt-of-le (lt-of-le-of-lt (shr-le set p) l) (pow-mono h)
+
+few : (set p : ℕ) → set < 2 ^ 64 → ones (set / 2 ^ p) ≤ 64
+few set p l = ones-le 64 (set / 2 ^ p) (lt-of-le-of-lt (shr-le set p) l)
+
+sub-rest : tie.Need-sub-rest
+sub-rest c = search needs
+
+cast-rest : tie.Need-cast-rest
+cast-rest c = search needs
+
+shr-rest : tie.Need-shr-rest
+shr-rest c = search needs
+
+cast-result : tie.Need-cast-result
+cast-result c =
+    let a = c .before .args in
+    record { fits = left 8 (a .m) (a .set) (a .s - 1) (c .before .pre .2) (c .if1 .taken) }
+
+cast-result-2 : tie.Need-cast-result-2
+cast-result-2 c =
+    let start = c .before in
+    record { fits = omega (arith, few (start .args .set) (start .args .s - 1) (start .fits .set .fits)) }
+
+returns : tie.Need-returns
+returns c = search needs
+
+from-size-requires : tie.Need-from-size-requires
+from-size-requires c κs = search needs
+
+returns-2 : tie.Need-returns-2
+returns-2 c = c .from-size .ensures
+
+pub larger-behind-spec : {M : Type 1} → statement M
+larger-behind-spec = tie.close (tie.spec sub-rest cast-rest shr-rest cast-result cast-result-2 returns from-size-requires returns-2)
