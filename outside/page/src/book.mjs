@@ -1,0 +1,194 @@
+// Books: what a file is as either edition, its presets row by row, and loading, appending, converting and saving.
+import { button, byId, make, refusalLine, setText } from './dom.mjs';
+import { attempt } from './library.mjs';
+import { withName } from './names.mjs';
+import { inRig, nameField } from './rig.mjs';
+import { NEW_BOOK } from './state.mjs';
+import { pictureMarkup } from './strands.mjs';
+import { counted } from './text.mjs';
+
+/** So many presets are shown at a time. */
+const ROWS = 20;
+const EDITIONS = { 1: 'first', 2: 'second' };
+
+export function editionName(edition) {
+    return `${EDITIONS[edition]} edition`;
+}
+
+/** What the library says of the bytes as either edition. */
+export function verdictsOf(library, bytes) {
+    return { 1: attempt(() => library.bookCheck(1, bytes)), 2: attempt(() => library.bookCheck(2, bytes)) };
+}
+
+/** The edition that a file is opened as: the only one that it passes as, or the present one. */
+export function chosenEdition(verdicts, present) {
+    const passing = [1, 2].filter(edition => !verdicts[edition].refusal);
+    return passing.length === 1 ? passing[0] : present;
+}
+
+/** The two sentences about a book: as the edition chosen, and as the other. */
+export function verdictTexts(verdicts, edition) {
+    const other = 3 - edition;
+    const [chosen, others] = [verdicts[edition], verdicts[other]];
+    const head = `As the ${editionName(edition)}: `;
+    const first = chosen.refusal ? `${head}refused. ${chosen.refusal.sentence}` : `${head}${counted(chosen.value, 'preset')}.`;
+    if (others.refusal && chosen.refusal) return [first, `As the ${editionName(other)}: refused. ${others.refusal.sentence}`];
+    if (others.refusal) return [first, `As the ${editionName(other)} the file would be refused.`];
+    const only = chosen.refusal ? 'only' : 'too';
+    return [first, `These bytes pass as the ${editionName(other)} ${only}: ${counted(others.value, 'preset')}.`];
+}
+
+/** The number of the first preset that keeps a book of the second edition from being converted for its lanes. */
+export function tooManyLanes(library, edition, bytes) {
+    const alone = preset => attempt(() => library.convert(edition, library.append(edition, [], preset.kind, preset.rank, preset.letters)));
+    return library.presets(edition, bytes).find(preset => preset.refusal || alone(preset).refusal?.number === 18)?.number ?? -1;
+}
+
+export class BookPanel {
+    constructor(app, root) {
+        this.app = app;
+        this.first = 0;
+        this.culprit = -1;
+        this.note = { state: null, node: null };
+        this.name = make('input', { type: 'text', id: 'book-name', maxlength: 120, spellcheck: 'false', onchange: () => this.#rename() });
+        this.presetName = make('input', { type: 'text', id: 'preset-name', maxlength: 80, placeholder: 'a name, if you like' });
+        this.message = make('div', { id: 'book-message', 'aria-live': 'polite' });
+        this.rows = make('ol', { class: 'presets', id: 'presets' });
+        this.pager = make('div', { class: 'bar' });
+        this.convert = button('', () => this.#convert(), { id: 'convert' });
+        const edition = value => make('label', { class: 'choice' },
+            make('input', { type: 'radio', name: 'edition', value, onchange: () => this.#edition(value) }), editionName(value));
+        root.append(
+            make('div', { class: 'bar' },
+                button('Open a file', () => byId('file').click()), button('New book', () => app.openBook({ ...NEW_BOOK }, null)),
+                make('label', { class: 'field' }, make('span', {}, 'File name'), this.name),
+                make('fieldset', { class: 'inline', id: 'edition' }, make('legend', {}, 'Edition'), edition(1), edition(2))),
+            make('p', { class: 'quiet' }, 'A book, or a book and its .names file, can also be dropped anywhere on this page.'),
+            make('p', { id: 'book-verdict' }), make('p', { id: 'book-other', class: 'quiet' }),
+            make('div', { class: 'bar' }, make('label', { class: 'field' }, make('span', {}, 'Name of the preset'), this.presetName),
+                button('Append the present preset', () => this.append(), { class: 'main', id: 'append' })),
+            make('div', { class: 'bar' }, this.convert, button('Save as a new file', () => app.saveBook(), { id: 'save-book' }),
+                button('Save the names beside it', () => app.saveNames(), { id: 'save-names' })),
+            this.message, this.rows, this.pager);
+    }
+
+    #rename() {
+        const { book } = this.app.state;
+        const name = this.name.value.trim().replace(/[/\\]/g, '-') || book.name;
+        if (name !== book.name) this.app.store.change({ book: { ...book, name } });
+    }
+
+    #edition(edition) {
+        this.culprit = -1;
+        this.app.store.change({ book: { ...this.app.state.book, edition } });
+    }
+
+    /** A sentence that stays until the next change. */
+    #say(node) {
+        this.note = { state: this.app.state, node };
+        this.app.refresh();
+    }
+
+    /** Appends the present preset, and returns whether the library took it. */
+    append() {
+        const { library, state, store } = this.app;
+        const { edition, bytes } = state.book;
+        const { value, refusal } = attempt(() => library.append(edition, bytes, state.kind, state.rank, state.word));
+        if (refusal) return this.#say(refusalLine(refusal, 'The book stays as it was.')) ?? false;
+        const number = library.bookCheck(edition, value) - 1;
+        store.change({ book: { ...state.book, bytes: value }, names: withName(state.names, 'preset', number, this.presetName.value) });
+        this.app.keepPreset(number);
+        this.presetName.value = '';
+        this.first = number - number % ROWS;
+        store.markWordKept();
+        this.#say(make('p', {}, `Appended as preset ${number}. The book is not saved yet.`));
+        return true;
+    }
+
+    #convert() {
+        const { library, state, store } = this.app;
+        const { edition, bytes } = state.book;
+        const { value, refusal } = attempt(() => library.convert(edition, bytes));
+        if (refusal) {
+            this.culprit = refusal.number > 4 && refusal.number !== 13 ? tooManyLanes(library, edition, bytes) : -1;
+            this.first = this.culprit < 0 ? this.first : this.culprit - this.culprit % ROWS;
+            const where = this.culprit < 0 ? '' : `Preset ${this.culprit} is the first that stands in the way. `;
+            return this.#say(refusalLine(refusal, `${where}The book stays as it was.`));
+        }
+        store.change({ book: { ...state.book, edition: 3 - edition, bytes: value } });
+        this.#say(make('p', {}, `Converted to the ${editionName(3 - edition)}. The book is not saved yet.`));
+    }
+
+    #load(preset) {
+        const { library, state, store, ui } = this.app;
+        const { change } = inRig(library, state, preset.kind, preset.rank);
+        ui.selected = -1;
+        store.change({ ...change, word: preset.letters });
+        this.app.keepPreset(preset.number);
+        store.markWordKept();
+    }
+
+    update() {
+        const { library, state } = this.app;
+        const { book } = state;
+        if (this.of !== book.bytes) [this.of, this.culprit] = [book.bytes, -1];
+        this.message.replaceChildren(...(this.note.state === state ? [this.note.node] : []));
+        if (document.activeElement !== this.name) this.name.value = book.name;
+        for (const choice of byId('edition').querySelectorAll('input')) choice.checked = Number(choice.value) === book.edition;
+        const verdicts = verdictsOf(library, book.bytes);
+        const [verdict, other] = verdictTexts(verdicts, book.edition);
+        setText(byId('book-verdict'), verdict);
+        byId('book-verdict').className = verdicts[book.edition].refusal ? 'refusal' : '';
+        setText(byId('book-other'), other);
+        const count = verdicts[book.edition].value ?? 0;
+        this.convert.textContent = `Convert to the ${editionName(3 - book.edition)}`;
+        for (const id of ['append', 'convert', 'save-book']) byId(id).disabled = Boolean(verdicts[book.edition].refusal);
+        this.#drawRows(count);
+    }
+
+    #drawRows(count) {
+        const { library, state } = this.app;
+        this.first = Math.max(Math.min(this.first, count - 1 - (count - 1) % ROWS), 0);
+        const presets = count > 0 ? library.presets(state.book.edition, state.book.bytes, this.first, ROWS) : [];
+        this.rows.replaceChildren(...presets.map(preset => (preset.refusal ? this.#refusedRow(preset) : this.#row(preset))));
+        const page = (text, first) => button(text, () => {
+            this.first = first;
+            this.#drawRows(count);
+        }, { disabled: first < 0 || first >= count });
+        const range = make('span', {}, `Presets ${this.first} to ${Math.min(this.first + ROWS, count) - 1} of ${count}`);
+        const pages = [page('◀ Earlier presets', this.first - ROWS), range, page('Later presets ▶', this.first + ROWS)];
+        this.pager.replaceChildren(...(count > ROWS ? pages : []));
+    }
+
+    #refusedRow({ number, refusal }) {
+        return make('li', { class: number === this.culprit ? 'culprit' : '', 'data-preset': number, 'data-refusal': refusal.number },
+            make('span', { class: 'number' }, String(number)), make('span', { class: 'refusal' }, refusal.sentence));
+    }
+
+    #row(preset) {
+        const { app } = this;
+        const { number, kind, rank, letters } = preset;
+        const window = app.library.window(kind, rank, letters);
+        const field = nameField(app, 'preset', number);
+        field.update();
+        const about = make('span', { class: 'about' }, field,
+            make('span', {}, `${kind}${rank}, ${counted(letters.length, 'letter')}`), make('span', { class: 'quiet' }, showsText(window)));
+        const attributes = { class: number === this.culprit ? 'culprit' : '', 'data-preset': number, 'data-letters': letters.join(' ') };
+        return make('li', attributes, make('span', { class: 'number' }, String(number)), this.#picture(preset, window.length), about,
+            button('Load', () => this.#load(preset), { 'aria-label': `load preset ${number}` }));
+    }
+
+    #picture({ number, kind, rank, letters }, lanes) {
+        const holder = make('span', { class: 'small-picture' });
+        const lane = Math.max(Math.min(12, 120 / lanes), 3);
+        holder.innerHTML = pictureMarkup(this.app.library, { kind, rank, word: letters },
+            { width: 250, lane, column: 14, letters: false, ends: lane > 9, title: `picture of preset ${number}` });
+        return holder;
+    }
+}
+
+/** What the screens show, in words where they are few. */
+function showsText(window) {
+    if (window.length > 20) return counted(window.length, 'screen');
+    return `screens show ${window.map(entry => `${Math.abs(entry)}${entry < 0 ? ' mirrored' : ''}`).join(', ')}`;
+}

@@ -1,0 +1,134 @@
+// Composing: the bar of buttons below the picture, the field with the word, and the normal form beside it.
+import { byId, setText } from './dom.mjs';
+import { attempt } from './library.mjs';
+import { escaped } from './markup.mjs';
+import { rigOf } from './rig.mjs';
+import { counted, grouped, parsedWord, shortened, spaced, wordText } from './text.mjs';
+import { added, culpritOf, moved, removed, sameLetters } from './words.mjs';
+
+/** What a typed word is: its letters, or what is wrong with it and where in the text. */
+export function judged(library, kind, rank, text) {
+    const { letters, spans, strange } = parsedWord(text);
+    if (strange) return { letters: null, fault: { ...strange, sentence: `'${strange.text}' is no number.`, number: null } };
+    const { refusal } = attempt(() => library.window(kind, rank, letters));
+    if (!refusal) return { letters, fault: null };
+    const at = culpritOf(library, kind, rank, letters, refusal);
+    return { letters: null, fault: { ...spans[at], at, sentence: refusal.sentence, number: refusal.number } };
+}
+
+export class Composing {
+    constructor(app) {
+        this.app = app;
+        this.field = byId('word');
+        this.field.addEventListener('input', () => this.#typed());
+        this.field.addEventListener('scroll', () => (byId('word-marks').scrollTop = this.field.scrollTop));
+        byId('take').addEventListener('click', () => app.store.change({ word: app.answers.form }));
+        byId('undo').addEventListener('click', () => app.store.undo());
+        byId('redo').addEventListener('click', () => app.store.redo());
+        byId('clear').addEventListener('click', () => app.store.change({ word: [] }));
+        byId('remove').addEventListener('click', () => this.remove(app.ui.selected));
+        byId('earlier').addEventListener('click', () => this.move(app.ui.selected, app.ui.selected - 1));
+        byId('later').addEventListener('click', () => this.move(app.ui.selected, app.ui.selected + 1));
+        byId('add').addEventListener('keydown', event => event.key === 'Enter' && this.#addTyped());
+        byId('add-button').addEventListener('click', () => this.#addTyped());
+        byId('both').addEventListener('change', () => app.show({ both: byId('both').checked }));
+    }
+
+    /** Adds a step at the end; a refusal is said beside the field and changes nothing. */
+    add(step) {
+        const { library, state, store } = this.app;
+        const word = added(state.word, step);
+        const { refusal } = attempt(() => library.window(state.kind, state.rank, word));
+        if (refusal) return this.#sayAdd(refusal.sentence);
+        this.app.ui.selected = word.length - 1;
+        store.change({ word });
+        return true;
+    }
+
+    #addTyped() {
+        const { letters, strange } = parsedWord(byId('add').value);
+        if (strange || letters.length !== 1) return this.#sayAdd('Type one number of a step.');
+        if (this.add(letters[0])) byId('add').value = '';
+    }
+
+    #sayAdd(text) {
+        byId('add-message').textContent = text;
+        byId('add').setAttribute('aria-invalid', String(text !== ''));
+    }
+
+    remove(at) {
+        const { ui, state, store } = this.app;
+        if (at < 0) return;
+        ui.selected = Math.min(at, state.word.length - 2);
+        store.change({ word: removed(state.word, at) });
+    }
+
+    move(from, to) {
+        const { ui, state, store } = this.app;
+        if (from < 0 || to < 0 || to >= state.word.length || from === to) return;
+        ui.selected = to;
+        store.change({ word: moved(state.word, from, to) });
+    }
+
+    #typed() {
+        const { library, state, store } = this.app;
+        const { letters, fault } = judged(library, state.kind, state.rank, this.field.value);
+        this.fault = fault;
+        // The same letters with other spaces between them are no change.
+        if (letters && !sameLetters(letters, state.word)) store.change({ word: letters });
+        else this.#showFault();
+    }
+
+    /** The wrong letter is marked behind the text, at its place. */
+    #showFault() {
+        const { fault, field } = this;
+        const text = field.value;
+        field.setAttribute('aria-invalid', String(Boolean(fault)));
+        const part = (start, end) => escaped(text.slice(start, end));
+        byId('word-marks').innerHTML = fault ? `${part(0, fault.start)}<mark>${part(fault.start, fault.end)}</mark>${part(fault.end)}` : '';
+        byId('word-marks').scrollTop = field.scrollTop;
+        const place = fault?.at === undefined ? '' : `Letter ${fault.at + 1}: `;
+        setText(byId('word-message'), fault ? `${place}${fault.sentence} The picture stays as it was.` : '');
+    }
+
+    /** The word as text. Text that was refused stays as it was typed until the word changes; another rig may accept it. */
+    #updateField(state) {
+        const { word } = state;
+        const changed = word !== this.of;
+        const refitted = this.fault && this.rig !== rigOf(state);
+        [this.of, this.rig] = [word, rigOf(state)];
+        if (refitted) return void setTimeout(() => this.#typed());
+        if (!changed) return;
+        const { letters, strange } = parsedWord(this.field.value);
+        if (strange || !sameLetters(letters, word)) this.field.value = spaced(word);
+        this.fault = null;
+        this.#showFault();
+    }
+
+    update() {
+        const { state, answers, store, ui } = this.app;
+        this.#updateField(state);
+        this.#sayAdd('');
+        byId('undo').disabled = !store.canUndo;
+        byId('redo').disabled = !store.canRedo;
+        byId('clear').disabled = state.word.length === 0;
+        byId('remove').disabled = ui.selected < 0;
+        byId('earlier').disabled = ui.selected < 1;
+        byId('later').disabled = ui.selected < 0 || ui.selected >= state.word.length - 1;
+        setText(byId('letters'), counted(state.word.length, 'letter'));
+        byId('unkept').hidden = !store.wordUnsaved;
+        this.#updateForm(state, answers);
+    }
+
+    #updateForm(state, { form, same, crossings }) {
+        const taken = sameLetters(form, state.word);
+        setText(byId('form'), form.length > 400 ? shortened(form, 400) : wordText(form));
+        setText(byId('form-letters'), counted(form.length, 'letter'));
+        byId('take').disabled = taken;
+        const shows = same ? 'Shows the same on every screen.' : 'Does NOT show the same.';
+        setText(byId('form-same'), taken ? 'The word is its normal form.' : shows);
+        const { inversions, negativeSumPairs, negatives, total } = crossings;
+        const sorts = `${grouped(inversions)} plain, ${grouped(negativeSumPairs)} against a mirrored lane, ${grouped(negatives)} mirrored`;
+        setText(byId('crossings'), `Length ${grouped(total)}: ${sorts}.`);
+    }
+}

@@ -1,0 +1,59 @@
+// Elements, made and found.
+
+/** An element with attributes and children. An attribute `onclick` is a listener; one that is false or null is left out. */
+export function make(name, attributes = {}, ...children) {
+    const element = document.createElement(name);
+    for (const [key, value] of Object.entries(attributes)) {
+        if (typeof value === 'function') element.addEventListener(key.slice(2), value);
+        else if (value === true) element.setAttribute(key, '');
+        else if (value !== false && value !== null && value !== undefined) element.setAttribute(key, value);
+    }
+    element.append(...children.flat().filter(child => child !== null && child !== false));
+    return element;
+}
+
+export function button(text, onclick, attributes = {}) {
+    return make('button', { type: 'button', onclick, ...attributes }, text);
+}
+
+/** A field with its label in front of it. */
+export function labelledField(text, field) {
+    return make('label', { class: 'field' }, make('span', {}, text), field);
+}
+
+export function byId(id) {
+    return document.getElementById(id);
+}
+
+/** Changes an element's text only where it differs, so that nothing is laid out again for nothing. */
+export function setText(element, text) {
+    if (element.textContent !== text) element.textContent = text;
+}
+
+/** Markup of our own as an element. What users typed in it has been through `escaped`. */
+export function fromMarkup(markup) {
+    const holder = document.createElement('template');
+    holder.innerHTML = markup;
+    return holder.content.firstElementChild;
+}
+
+/** A refusal as the library says it, with a remark of ours in the words of the trade. */
+export function refusalLine(refusal, remark = '') {
+    const line = make('p', { class: 'refusal', role: 'alert', 'data-refusal': refusal.number }, refusal.sentence);
+    if (remark) line.append(' ', make('span', { class: 'remark' }, remark));
+    return line;
+}
+
+/** What an element is called, to find the one that took its place. */
+function keyOf(element) {
+    return element.dataset.key ?? (element.id || element.getAttribute('aria-label') || element.textContent);
+}
+
+/** Makes the content of a panel anew and keeps the focus where it was in it. */
+export function keepFocus(panel, change) {
+    const held = panel.contains(document.activeElement) ? document.activeElement : null;
+    change();
+    if (!held || held.isConnected) return;
+    const next = [...panel.querySelectorAll(held.tagName)].find(element => keyOf(element) === keyOf(held));
+    next?.focus({ preventScroll: true });
+}

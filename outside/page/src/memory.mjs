@@ -1,0 +1,73 @@
+// What the page remembers from one visit to the next: the rig and the names, in the browser's own store. A browser that keeps
+// nothing makes no difference but that.
+import { NO_NAMES, readNames, writeNames } from './names.mjs';
+
+const RIG = 'winnathey rig';
+const NAMES = 'winnathey names';
+
+function kept(key) {
+    try {
+        return localStorage.getItem(key);
+    } catch {
+        return null;
+    }
+}
+
+/** Whether the browser keeps it: it may have no room, or not be allowed to. */
+function keep(key, text) {
+    try {
+        localStorage.setItem(key, text);
+        return true;
+    } catch {
+        return false;
+    }
+}
+
+/** A number for bytes, by which the same book is known again: FNV-1a, with the length. It is no proof against malice. */
+export function printOf(bytes) {
+    const hash = bytes.reduce((print, byte) => Math.imul(print ^ byte, 16777619) >>> 0, 2166136261);
+    return `${bytes.length} ${hash}`;
+}
+
+/** Returns whether the names were kept. */
+export function remember({ kind, rank, names, book }) {
+    const text = new TextDecoder().decode(writeNames(names));
+    keep(RIG, JSON.stringify({ kind, rank }));
+    return keep(`${NAMES} of ${book.name}`, JSON.stringify({ print: printOf(book.bytes), text })) && keep(NAMES, text);
+}
+
+function namesIn(text) {
+    try {
+        return text === null ? null : readNames(new TextEncoder().encode(text));
+    } catch {
+        return null;
+    }
+}
+
+/** The rig and the names of the last visit, as far as the library takes the rig. */
+export function remembered(library) {
+    const parts = {};
+    try {
+        const { kind, rank } = JSON.parse(kept(RIG));
+        if (['A', 'B', 'D'].includes(kind) && library.ranks(kind).includes(rank)) Object.assign(parts, { kind, rank });
+    } catch {
+        // Nothing was kept, or nothing that can be read.
+    }
+    const names = namesIn(kept(NAMES)) ?? NO_NAMES;
+    return { ...parts, names: rigNames(names) };
+}
+
+/** The names that this very book had when it was last open, or null: another of the same file name has other presets. */
+export function rememberedNames({ name, bytes }) {
+    try {
+        const { print, text } = JSON.parse(kept(`${NAMES} of ${name}`));
+        return print === printOf(bytes) ? namesIn(text) : null;
+    } catch {
+        return null;
+    }
+}
+
+/** The names of sources and screens alone: those of presets belong to one book. */
+export function rigNames(names) {
+    return { ...names, lines: names.lines.filter(line => line.keyword !== 'preset') };
+}

@@ -1,0 +1,77 @@
+// A sheet to print for the training record.
+import { button, make } from './dom.mjs';
+import { KINDS } from './rig.mjs';
+import { labelled, nameOf } from './names.mjs';
+import { pictureMarkup } from './strands.mjs';
+import { counted, signed, wordText } from './text.mjs';
+
+/** The lines of the sheet: what it says of a preset. */
+export function sheetLines(state, { form, window, crossings }, about) {
+    const { inversions, negativeSumPairs, negatives, total } = crossings;
+    return [
+        ['Rig', `kind ${KINDS[state.kind]}; rank ${state.rank}; ${counted(window.length, 'lane')}`],
+        ['Word', `${wordText(state.word)} (${counted(state.word.length, 'letter')})`],
+        ['Normal form', `${wordText(form)} (${counted(form.length, 'letter')})`],
+        ['Window', window.map(signed).join(' ')],
+        ['Length', `${total}: ${inversions} plain pairs, ${negativeSumPairs} pairs against a mirrored lane, ${negatives} mirrored lanes`],
+        ['Book', `${state.book.name}, ${state.book.edition === 1 ? 'first' : 'second'} edition`],
+        ['Library', `Winnathey ${about.version}, SHA-256 ${about.hash}`],
+    ];
+}
+
+/** What every screen shows, in names. */
+export function screenLines({ names }, window) {
+    return window.map((entry, at) => [
+        labelled(names, 'screen', at + 1),
+        labelled(names, 'source', Math.abs(entry)),
+        entry < 0 ? 'mirrored' : 'as it is',
+    ]);
+}
+
+/** How far apart lanes are on paper: as many as there are fit on one page. */
+function laneHeight(lanes) {
+    if (lanes > 32) return 13;
+    return lanes > 16 ? 18 : 26;
+}
+
+export class SheetPanel {
+    constructor(app, root) {
+        this.app = app;
+        const field = (id, maxlength) => make('input', { type: 'text', id, maxlength, oninput: () => this.update() });
+        const labelled = (text, input) => make('label', { class: 'field grow' }, make('span', {}, text), input);
+        this.title = field('sheet-title', 80);
+        this.remarks = field('sheet-remarks', 200);
+        this.sheet = make('article', { class: 'sheet', id: 'sheet' });
+        const print = button('Print the sheet', () => window.print(), { class: 'main', id: 'print' });
+        const fields = [labelled('Title', this.title), labelled('Remarks', this.remarks)];
+        root.append(make('div', { class: 'bar no-print' }, fields, print), this.sheet);
+    }
+
+    update() {
+        const { state, answers, about, preset } = this.app;
+        const date = new Date().toLocaleString('en-GB', { dateStyle: 'long', timeStyle: 'short' });
+        const remarks = this.remarks.value ? [['Remarks', this.remarks.value]] : [];
+        const lines = [...sheetLines(state, answers, about), ['Date', date], ...remarks];
+        const name = preset === null ? '' : nameOf(state.names, 'preset', preset);
+        this.sheet.replaceChildren(
+            make('h2', {}, this.title.value || name || 'Router preset'),
+            this.#picture(),
+            table(['Screen', 'shows source', 'which way round'], screenLines(state, answers.window)),
+            make('dl', {}, lines.flatMap(([term, text]) => [make('dt', {}, term), make('dd', {}, text)])));
+    }
+
+    /** A word too long for the paper is drawn in part. */
+    #picture() {
+        const { library, state, answers } = this.app;
+        const column = state.word.length <= 18 ? 32 : 22;
+        const lane = laneHeight(answers.window.length);
+        const holder = make('div', {});
+        holder.innerHTML = pictureMarkup(library, state, { width: 680, column, lane, title: 'the picture of the preset' });
+        return holder;
+    }
+}
+
+function table(heads, rows) {
+    const row = (name, cells) => make('tr', {}, cells.map(text => make(name, name === 'th' ? { scope: 'col' } : {}, text)));
+    return make('table', {}, make('thead', {}, row('th', heads)), make('tbody', {}, rows.map(cells => row('td', cells))));
+}

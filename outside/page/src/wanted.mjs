@@ -1,0 +1,157 @@
+// The wanted picture: sources put on screens and mirrored by hand, and the library's word that leads there.
+import { button, fromMarkup, make, refusalLine } from './dom.mjs';
+import { attempt } from './library.mjs';
+import { labelled } from './names.mjs';
+import { rigOf } from './rig.mjs';
+import { colourOf, viewMarkup } from './strands.mjs';
+import { counted, listed, shortened } from './text.mjs';
+
+/** A source put on a screen, both from 1: what was there goes where the source was, so that every source stays on one screen. */
+export function withSource(window, source, screen) {
+    const from = window.findIndex(entry => Math.abs(entry) === source);
+    const to = screen - 1;
+    const changed = window.slice();
+    [changed[from], changed[to]] = [changed[to], changed[from]];
+    return changed;
+}
+
+export function withMirrored(window, screen) {
+    return window.map((entry, at) => (at === screen - 1 ? -entry : entry));
+}
+
+export function allowedSteps({ rank, locked }) {
+    return Array.from({ length: rank }, (_, at) => at + 1).filter(step => !locked.includes(step));
+}
+
+/** The word over the allowed steps that leads to the wanted window, or the library's refusal. */
+export function wayTo(library, state, wanted) {
+    const { kind, rank, word, wantedFrom } = state;
+    const from = wantedFrom === 'present' ? library.window(kind, rank, word) : library.straight(kind, rank);
+    return attempt(() => library.between(kind, rank, allowedSteps(state), from, wanted));
+}
+
+/** What the refusals of a wanted picture mean for someone at the screens. */
+export function remarkOf({ number }, state) {
+    if (number === 10) return 'Kind A mirrors nothing: turn the marked views back.';
+    if (number === 11) return 'Kind D mirrors two views at a time: mirror one view more, or one fewer.';
+    if (number !== 19) return '';
+    const modules = state.locked.length === 1 ? 'module' : 'modules';
+    return `With ${modules} ${listed(state.locked)} locked, this picture cannot be had.`;
+}
+
+export class WantedPanel {
+    constructor(app, root) {
+        this.app = app;
+        this.root = root;
+    }
+
+    get wanted() {
+        const { state, answers } = this.app;
+        return state.wanted ?? answers.window;
+    }
+
+    /** A change of the wanted picture; one that was meant for another rig, drawn a moment ago, is none. */
+    #change(change) {
+        if (this.rig === rigOf(this.app.state)) this.app.store.change({ wanted: change(this.wanted) });
+    }
+
+    update() {
+        const { app, root } = this;
+        const answer = wayTo(app.library, app.state, this.wanted);
+        this.rig = rigOf(app.state);
+        root.replaceChildren(
+            make('p', {}, 'Drag a source to a screen, or choose it in the list. Click a view to mirror it. ' +
+                'What was on the screen goes where the source was.'),
+            this.#tokens(),
+            this.#cards(answer.refusal),
+            this.#settings(),
+            this.#starts(),
+            make('div', { class: 'answer', 'aria-live': 'polite' }, this.#answer(answer)),
+        );
+    }
+
+    #tokens() {
+        const { library, state } = this.app;
+        const token = source => make('li', { class: `token ${colourOf(source)}`, 'data-source': source, title: 'Drag it to a screen' },
+            labelled(state.names, 'source', source));
+        return make('ul', { class: 'tokens', 'aria-label': 'sources' }, library.straight(state.kind, state.rank).map(token));
+    }
+
+    #cards(refusal) {
+        const { names } = this.app.state;
+        const culprit = entry => (refusal?.number === 10 || refusal?.number === 11) && entry < 0;
+        return make('ol', { class: 'cards' }, this.wanted.map((entry, at) => {
+            const screen = at + 1;
+            const name = labelled(names, 'screen', screen);
+            const mirror = make('button', {
+                type: 'button',
+                class: 'mirror',
+                'data-key': `mirror-${screen}`,
+                'aria-pressed': String(entry < 0),
+                'aria-label': `mirror the view on screen ${name}`,
+                title: 'Click to mirror',
+                onclick: () => this.#change(window => withMirrored(window, screen)),
+            }, fromMarkup(viewMarkup(Math.abs(entry), entry < 0)), make('span', {}, entry < 0 ? 'mirrored' : 'as it is'));
+            return make('li', { class: culprit(entry) ? 'card culprit' : 'card', 'data-screen': screen, 'data-entry': entry },
+                make('span', { class: 'card-name' }, `Screen ${name}`), mirror, this.#choice(screen, entry, name));
+        }));
+    }
+
+    /** With many lanes the lists are filled when they are opened: they have as many lines as there are lanes, squared. */
+    #choice(screen, entry, name) {
+        const { names, kind, rank } = this.app.state;
+        const here = Math.abs(entry);
+        const sources = this.app.library.straight(kind, rank);
+        const option = source => make('option', { value: source, selected: source === here }, labelled(names, 'source', source));
+        const choice = make('select', {
+            'aria-label': `source on screen ${name}`,
+            'data-key': `source-${screen}`,
+            onchange: () => this.#change(window => withSource(window, Number(choice.value), screen)),
+        });
+        const fill = () => choice.options.length < sources.length && choice.replaceChildren(...sources.map(option));
+        choice.append(option(here));
+        if (sources.length <= 16) fill();
+        for (const type of ['pointerdown', 'focus']) choice.addEventListener(type, fill);
+        return choice;
+    }
+
+    #starts() {
+        const { app } = this;
+        const { state } = app;
+        const from = (value, text) => make('label', { class: 'choice' }, make('input', {
+            type: 'radio', name: 'wanted-from', value, checked: state.wantedFrom === value, 'data-key': `from-${value}`,
+            onchange: () => app.store.change({ wantedFrom: value }),
+        }), text);
+        return make('fieldset', { class: 'inline bar' }, make('legend', {}, 'Lead there from'),
+            from('straight', 'the straight picture'), from('present', 'the picture above'));
+    }
+
+    #settings() {
+        const { app } = this;
+        const { library, state } = app;
+        return make('div', { class: 'bar' },
+            button('Set all screens straight', () => this.#change(() => library.straight(state.kind, state.rank))),
+            button('Set all screens as in the picture above', () => this.#change(() => app.answers.window)));
+    }
+
+    /** Takes a word that was the answer to this state, unless the question has changed since. */
+    #take(asked, word) {
+        const { state, store } = this.app;
+        const same = ['kind', 'rank', 'word', 'wanted', 'locked', 'wantedFrom'].every(part => state[part] === asked[part]);
+        if (same) store.change({ word });
+    }
+
+    #answer({ value, refusal }) {
+        const { app } = this;
+        const { state } = app;
+        if (refusal) return refusalLine(refusal, remarkOf(refusal, state));
+        const present = state.wantedFrom === 'present';
+        const start = present ? 'picture above' : 'straight picture';
+        if (value.length === 0) return make('p', {}, `The ${start} is the wanted one: no step is needed.`);
+        const take = present
+            ? button('Add these steps to the word', () => this.#take(state, [...state.word, ...value]), { class: 'main' })
+            : button('Take these steps as the word', () => this.#take(state, value), { class: 'main' });
+        const text = `${counted(value.length, 'step')} lead${value.length === 1 ? 's' : ''} there: `;
+        return make('p', {}, text, make('strong', { class: 'word' }, shortened(value, 200)), ' ', take);
+    }
+}
