@@ -221,9 +221,9 @@ test('every refusal, by its number and sentence', () => {
     assert.deepEqual(seen, Array.from({ length: 21 }, (_, i) => i + 1));
 });
 
-test('the sentences are those of the README', () => {
-    const readme = readFileSync(new URL('README.md', root), 'utf8');
-    const section = readme.split('\n## Refusals\n')[1].split('\n## ')[0];
+test('the sentences are those of CALLS.md', () => {
+    const page = readFileSync(new URL('docs/CALLS.md', root), 'utf8');
+    const section = page.split('\n## Refusals\n')[1].split('\n## ')[0];
     const rows = [...section.matchAll(/^\| (\d+) \| (.*) \|$/gm)];
     assert.equal(rows.length, 21);
     for (const [, number, sentence] of rows) assert.equal(w.refusalSentence(Number(number)), sentence);

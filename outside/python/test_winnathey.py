@@ -12,7 +12,7 @@ import winnathey as w
 
 HEADER = os.path.join(os.path.dirname(os.path.abspath(__file__)), "..", "..", "include", "winnathey.h")
 TYPES = {
-    "uint32_t": "u", "size_t": "z", "uint64_t": "q", "uint8_t *": "b", "int8_t *": "i", "uint16_t *": "h", "uint64_t *": "Q",
+    "uint32_t": "u", "winnathey_size": "z", "uint64_t": "q", "uint8_t *": "b", "int8_t *": "i", "uint16_t *": "h", "uint64_t *": "Q",
 }
 
 # B2 with the word 1 2 1 2, and D5 with the word 5 2 3 5 1 2, in both editions.
@@ -188,7 +188,7 @@ class Header(unittest.TestCase):
         self.assertEqual(declared, w._CALLS)
 
     def test_limits(self):
-        for name, value in (("MAX_LANES", w.MAX_LANES), ("MAX_LETTERS", w.MAX_LETTERS), ("MAX_BOOK", w.MAX_BOOK)):
+        for name, value in (("MAX_LANES", w.MAX_LANES), ("MAX_WORD", w.MAX_LETTERS), ("MAX_BOOK", w.MAX_BOOK)):
             found = re.search(rf"#define WINNATHEY_{name} (\d+)", header())
             self.assertIsNotNone(found, name)
             self.assertEqual(int(found.group(1)), value)

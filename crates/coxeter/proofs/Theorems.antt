@@ -1,4 +1,4 @@
--- What the certificate cites of windows and normal forms, over the definitions of specs/ alone. Each is a corollary of a law of the files before;
+-- What the statements cite of windows and normal forms, over the definitions of specs/ alone. Each is a corollary of a law of the files before;
 -- `WindowOf k n w` says that w passes checks 9 to 11. The ranks need no upper end, and words may have any length.
 --
 -- Sections: windows; inverses; normal forms; lengths; blocks; products; longest and equal normal forms; the better word; the verdict.

@@ -1,4 +1,4 @@
--- What the certificate cites of splits (section S of the specification), over the definitions of specs/ alone: of
+-- What the statements cite of splits (section S of the specification), over the definitions of specs/ alone: of
 -- the two words of any window that passes checks 9 to 11, for every kind and rank and every set of steps, and of
 -- the call's answer and outputs.
 --
