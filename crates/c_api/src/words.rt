@@ -7,7 +7,8 @@ use window::Choice;
 use window::Verdict;
 ghost use mathlib.Core.Path.{_≡_};
 ghost use Rattle.coxeter.specs.Dictionary.{shortlex};
-ghost use Rattle.coxeter.specs.Calls.{windowOfWord, normalFormOfWord, productOfWords, inverseOfWord, lengthOfWord, crossingsOfWord, presetsEqual, handsBack, choice};
+ghost use Rattle.coxeter.specs.Calls.{windowOfWord, normalFormOfWord, productOfWords, inverseOfWord, lengthOfWord, crossingsOfWord};
+ghost use Rattle.coxeter.specs.Calls.{presetsEqual, handsBack, choice};
 ghost use Rattle.c_api.specs.Calls.{numbered, numberOf, verdictNumber, choiceNumber, crossingNumbers, listed};
 
 // I4: the window of a word, written to the front of `out`. Returns the number of its entries.
@@ -114,7 +115,8 @@ pub extern "C" fn winnathey_same(
 // check refuses.
 #[no_mangle]
 pub extern "C" fn winnathey_better(kind: u32, rank: u32, first: &[u8], second: &[u8]) -> i64
-    ensures { λ r. ⌜ r ≡ choiceNumber (choice (handsBack kind rank (now (first .entry)) (now (second .entry))) (shortlex (now (second .entry)) (now (first .entry)))) ⌝ }
+    ensures { λ r. ⌜ r ≡ choiceNumber (choice (handsBack kind rank (now (first .entry)) (now (second .entry)))
+        (shortlex (now (second .entry)) (now (first .entry)))) ⌝ }
 {
     match window::which_better(byte(kind), byte(rank), first, second) {
         Choice::First => 1,

@@ -81,7 +81,8 @@ getD-stored m s (e ∷ w) out c o b l h = go (eqb (natAbs e) s) refl h (λ t. ge
 pub take-stored : (m t : ℕ) (w : List ℤ) (out : List ℕ) → Level 1 w → length w ≤ length out → t ≤ length w
     → take t (storedIndices m w out) ≡ map (λ (s : ℕ). ownIndexOf m s w) (up 1 t)
 take-stored m t w out h l k =
-    ext-getD 0 (take t (storedIndices m w out)) (map own (up 1 t)) (size ∙ sym (length-map (up 1 t) own ∙ length-up 1 t)) (λ p a. entry p (omega (arith, size, a)))
+    ext-getD 0 (take t (storedIndices m w out)) (map own (up 1 t)) (size ∙ sym (length-map (up 1 t) own ∙ length-up 1 t))
+    (λ p a. entry p (omega (arith, size, a)))
   where
     own : ℕ → ℕ
     own s = ownIndexOf m s w
@@ -228,5 +229,6 @@ unfolding indices restOf
 indices-positive n m zero i w h = refl
 indices-positive n m (suc t) i w h =
     let p : placeFrom i w i ≡ pos (natAbs (placeFrom i w i)) = placeFrom-positive i i w h in
-    let head : indexOf m (placeFrom i w i) ≡ indexOf n (placeFrom i w i) = ap (indexOf m) p ∙ indexOf-same n m (natAbs (placeFrom i w i)) ∙ sym (ap (indexOf n) p) in
+    let same = indexOf-same n m (natAbs (placeFrom i w i)) in
+    let head : indexOf m (placeFrom i w i) ≡ indexOf n (placeFrom i w i) = ap (indexOf m) p ∙ same ∙ sym (ap (indexOf n) p) in
     ap₂ (λ (x : ℕ) (xs : List ℕ). x ∷ xs) head (indices-positive n m t (suc i) (without i w) (negatives-without i w h))

@@ -131,7 +131,9 @@ taken odd u e [] h =
       size = natAbs-turned odd e;
       count = refl;
       sign = negative-turned odd e h;
-      rest = restOf-turned x false (u ++ []) ∙ ap (λ (t : Bool). turned t (u ++ [])) (own-sign (negative x) (differ odd (negative e)) (negative-turned odd e h));
+      rest =
+          restOf-turned x false (u ++ [])
+          ∙ ap (λ (t : Bool). turned t (u ++ [])) (own-sign (negative x) (differ odd (negative e)) (negative-turned odd e h));
     }
   where
     own-sign : (s t : Bool) → s ≡ t → differ false s ≡ t

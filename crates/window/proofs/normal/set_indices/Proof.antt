@@ -110,7 +110,8 @@ loop-again c =
     let pre = turn .before .before .before .pre in (
       simp length-set (held .0),
       rw (asked .before .with-size .ensures)
-          (passed-next _ _ _ _ _ _ _ _ _ (held .1) (turn .loop-test .taken) (pre .1) (size-of at) (got .larger-behind .ensures) (sign-of asked) (c .own-index .ensures)),
+          (passed-next _ _ _ _ _ _ _ _ _ (held .1) (turn .loop-test .taken) (pre .1) (size-of at)
+          (got .larger-behind .ensures) (sign-of asked) (c .own-index .ensures)),
     )
 
 same-length : tie.Need-same-length Inv-loop μ-loop
