@@ -88,8 +88,22 @@ class Calls(unittest.TestCase):
         refused = bytes([3, 5, 1, 0, 9, 0, 0, 1, 0])
         self.assertEqual(w.presets(1, refused), [w.Refusal(8)])
 
+    def test_presets_from_a_number_on(self):
+        both = w.presets(1, FIRST)
+        self.assertEqual([w.presets(1, FIRST, first) for first in range(3)], [both, both[1:], []])
+        for first in (3, 2**64 - 1):
+            with self.assertRaises(w.Refusal) as caught:
+                w.presets(1, FIRST, first)
+            self.assertEqual(caught.exception.number, 4)
+
+    def test_books_of_any_layout(self):
+        """The letters are those of the book's bytes, whatever a view takes for its elements."""
+        for book in (bytearray(FIRST), memoryview(FIRST), *(memoryview(FIRST).cast(format) for format in "bcHQ")):
+            self.assertEqual(w.presets(1, book), w.presets(1, FIRST))
+            self.assertEqual(w.preset(1, book, 1), w.preset(1, FIRST, 1))
+
     def test_library(self):
-        self.assertRegex(w.version(), r"^\d+\.\d+\.\d+$")
+        self.assertEqual(w.version(), re.search(r'#define WINNATHEY_VERSION "(.*)"', header()).group(1))
         self.assertEqual(w.refusal_sentence(5), "The kind is not 1, 2 or 3.")
         self.assertEqual(w.refusal_sentence(0), "")
         self.assertEqual(w.refusal_sentence(22), "")
@@ -149,7 +163,30 @@ def full_book():
     return w.append(1, book, "A", 2, [1] * (65535 - len(book) - 6))
 
 
+class Whole:
+    """A number that is no int but stands for one, as NumPy's do."""
+
+    def __init__(self, value):
+        self.value = value
+
+    def __index__(self):
+        return self.value
+
+
 class Arguments(unittest.TestCase):
+    def test_whatever_yields_numbers_is_a_word(self):
+        self.assertEqual(w.better("D", 5, iter(WORD), iter(FORM)), FORM)
+        self.assertEqual(w.better("A", 2, iter([2, 1, 2]), iter([1, 2, 1])), [2, 1, 2])
+        self.assertEqual(w.rewrite_to_end("D", 5, iter(WORD)).word, FORM)
+        self.assertEqual(w.between("D", 5, iter(range(1, 6)), iter([1, 2, 3, 4, 5]), iter(WINDOW)), FORM)
+
+    def test_whatever_stands_for_a_number_is_one(self):
+        word, window = [Whole(letter) for letter in WORD], [Whole(entry) for entry in WINDOW]
+        self.assertEqual(w.window_of_word(Whole(3), Whole(5), word), WINDOW)
+        self.assertEqual(w.normal_form_of_window("D", 5, window), FORM)
+        self.assertEqual(w.split("D", 5, [Whole(1), Whole(2), Whole(3)], WORD), w.split("D", 5, Whole(0b111), WORD))
+        self.assertEqual(w.preset(1, FIRST, Whole(1)), w.preset(1, FIRST, 1))
+
     def test_no_byte_is_taken_for_another(self):
         for call in (
             lambda: w.window_of_word("D", 5, [257]),
@@ -168,9 +205,22 @@ class Arguments(unittest.TestCase):
             self.assertNotIsInstance(caught.exception, w.Refusal)
 
     def test_types(self):
-        for call in (lambda: w.window_of_word("D", 5, [1.0]), lambda: w.book_check(1, "text"), lambda: w.delay_table("B", "2")):
-            with self.assertRaises(TypeError):
+        for call in (
+            lambda: w.window_of_word("D", 5, [1.0]),
+            lambda: w.window_of_word("D", 5, [True]),
+            lambda: w.window_of_word("D", 5, None),
+            lambda: w.window_of_word("D", 5, {1, 2}),
+            lambda: w.window_of_word("D", 5, {1: 2}),
+            lambda: w.window_of_word(True, 5, []),
+            lambda: w.split("D", 5, True, []),
+            lambda: w.split("D", 5, None, []),
+            lambda: w.book_check(1, "text"),
+            lambda: w.delay_table("B", "2"),
+        ):
+            with self.assertRaisesRegex(TypeError, "^the "):
                 call()
+        with self.assertRaises(ValueError):
+            w.book_check(True, FIRST)
 
 
 class Header(unittest.TestCase):

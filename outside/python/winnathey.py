@@ -26,9 +26,10 @@ function may be called from any number of threads.
 """
 
 import ctypes
+import operator
 import os
 from collections import namedtuple
-from ctypes import POINTER, c_int8, c_int64, c_size_t, c_uint8, c_uint16, c_uint32, c_uint64
+from ctypes import POINTER, c_int8, c_int64, c_uint8, c_uint16, c_uint32, c_uint64
 
 __all__ = [
     "Refusal", "Crossings", "DelayTable", "Preset", "Rewrite", "Rewriting", "Split", "Step",
@@ -68,6 +69,8 @@ class Refusal(ValueError):
 
 class Crossings(namedtuple("Crossings", "inversions negative_sum_pairs negatives")):
     """A length as its three counts: plain pairs, pairs against a mirrored lane, mirrored lanes."""
+
+    __slots__ = ()
 
     @property
     def total(self):
@@ -145,7 +148,7 @@ _CALLS = {
     "refusal_sentence": "ub",
     "version": "",
 }
-_NUMBERS = {"u": c_uint32, "z": c_size_t, "q": c_uint64}
+_NUMBERS = {"u": c_uint32, "z": c_uint64, "q": c_uint64}
 _ARRAYS = {"b": c_uint8, "i": c_int8, "h": c_uint16, "Q": c_uint64}
 
 
@@ -155,7 +158,7 @@ def _types(arguments):
             yield _NUMBERS[letter]
         else:
             yield POINTER(_ARRAYS[letter])
-            yield c_size_t
+            yield c_uint64
 
 
 _library = _open()
@@ -190,16 +193,25 @@ def _ask(name, *arguments):
 
 
 def _kind(kind):
-    if kind in ("A", "B", "D"):
-        return "ABD".index(kind) + 1
     if isinstance(kind, str):
-        raise ValueError(f"the kind is {kind!r} and not 'A', 'B' or 'D'")
+        if kind not in ("A", "B", "D"):
+            raise ValueError(f"the kind is {kind!r} and not 'A', 'B' or 'D'")
+        return "ABD".index(kind) + 1
     return _number(kind, 2**32, "the kind")
 
 
+def _whole(value, what):
+    """A whole number of any type that stands for one, such as NumPy's; a truth value is none."""
+    try:
+        if not isinstance(value, bool):
+            return operator.index(value)
+    except TypeError:
+        pass
+    raise TypeError(f"{what} is {value!r} and no whole number")
+
+
 def _number(value, limit, what):
-    if not isinstance(value, int):
-        raise TypeError(f"{what} is {value!r} and no whole number")
+    value = _whole(value, what)
     if not 0 <= value < limit:
         raise ValueError(f"{what} is {value} and not 0 to {limit - 1}")
     return value
@@ -210,25 +222,30 @@ def _rank(rank):
 
 
 def _place(place):
-    return _number(place, 2 ** (8 * ctypes.sizeof(c_size_t)), "the place")
+    return _number(place, 2**64, "the place")
+
+
+def _listed(values, what):
+    """The values as a list. A set or a dictionary has no order that could be meant."""
+    if isinstance(values, (set, frozenset, dict)) or not hasattr(values, "__iter__"):
+        raise TypeError(f"the {what} is {values!r} and no list")
+    return list(values)
 
 
 def _array(entry, values, lowest, highest, what):
-    values = list(values)
     for place, value in enumerate(values):
-        if not isinstance(value, int):
-            raise TypeError(f"{what} at place {place} is {value!r} and no whole number")
+        value = values[place] = _whole(value, f"{what} at place {place}")
         if not lowest <= value <= highest:
             raise ValueError(f"{what} at place {place} is {value} and not {lowest} to {highest}")
     return (entry * len(values))(*values)
 
 
 def _word(word):
-    return _array(c_uint8, word, 0, 255, "the letter")
+    return _array(c_uint8, _listed(word, "word"), 0, 255, "the letter")
 
 
 def _window(window):
-    return _array(c_int8, window, -128, 127, "the entry")
+    return _array(c_int8, _listed(window, "window"), -128, 127, "the entry")
 
 
 def _book(book):
@@ -239,7 +256,7 @@ def _book(book):
 
 
 def _second(edition):
-    if edition not in (1, 2):
+    if isinstance(edition, bool) or edition not in (1, 2):
         raise ValueError(f"the edition is {edition!r} and not 1 or 2")
     return edition == 2
 
@@ -249,11 +266,12 @@ def _of(edition, name):
 
 
 def _allowed(allowed):
-    if isinstance(allowed, int):
+    if not hasattr(allowed, "__iter__"):
         return _number(allowed, 2**64, "the set")
     steps = 0
     for step in allowed:
-        if not 1 <= _number(step, 2**64, "the step") <= 64:
+        step = _whole(step, "the step")
+        if not 1 <= step <= 64:
             raise ValueError(f"the step is {step} and not 1 to 64")
         steps |= 1 << (step - 1)
     return steps
@@ -315,8 +333,9 @@ def better(kind, rank, first, second):
     """The better of two words with one window: the shorter, at equal lengths the one earlier in the dictionary.
 
     None if the windows differ or a check refuses; `same` gives the refusal."""
-    choice = _ask("better", _kind(kind), _rank(rank), _word(first), _word(second))
-    return (None, list(first), list(second))[choice]
+    first, second = _word(first), _word(second)
+    choice = _ask("better", _kind(kind), _rank(rank), first, second)
+    return (None, first[:], second[:])[choice]
 
 
 # ---- windows
@@ -424,26 +443,28 @@ def book_check(edition, book):
 
 def preset(edition, book, number):
     """The preset with this number, from 0. Refusals 1 to 8, in the second edition 17."""
-    fields = (c_uint64 * 4)()
-    _ask(_of(edition, "preset"), _book(book), _place(number), fields)
-    return _lent(book, *fields)
+    lent, fields = _book(book), (c_uint64 * 4)()
+    _ask(_of(edition, "preset"), lent, _place(number), fields)
+    return _lent(lent, *fields)
 
 
-def _lent(book, kind, rank, start, letters):
-    return Preset("ABD"[kind - 1], rank, list(book[start : start + letters]))
+def _lent(lent, kind, rank, start, letters):
+    return Preset("ABD"[kind - 1], rank, lent[start : start + letters])
 
 
-def presets(edition, book):
-    """All presets of a book in their order; in place of one that is refused stands its `Refusal`, which is not
-    raised. Refusals 1 to 3, of the book."""
-    lent = _book(book)
+def presets(edition, book, first=0):
+    """The presets of a book in their order, from the number `first` on; in place of one that is refused stands its
+    `Refusal`, which is not raised. With `first` the number of presets, the list is empty; above that it is refused 4.
+    Refusals 1 to 4, of the book."""
+    lent, first = _book(book), _place(first)
     count = _ask(_of(edition, "book_check"), lent)
-    if count == 0:
+    if first == count:
         return []
-    fields = (c_uint64 * (5 * count))()
-    _ask(_of(edition, "presets"), lent, 0, fields)
-    rows = (fields[at : at + 5] for at in range(0, 5 * count, 5))
-    return [Refusal(refused) if refused else _lent(book, *row) for refused, *row in rows]
+    # With room for one at least, so that it is the library that says 4.
+    fields = (c_uint64 * (5 * max(count - first, 1)))()
+    written = _ask(_of(edition, "presets"), lent, first, fields)
+    rows = (fields[at : at + 5] for at in range(0, 5 * written, 5))
+    return [Refusal(refused) if refused else _lent(lent, *row) for refused, *row in rows]
 
 
 def append(edition, book, kind, rank, word):
