@@ -19,40 +19,62 @@
 /**
  * A kind, by its letter or by its number: 1 is A, 2 is B, 3 is D. The library refuses any other number (5).
  * @typedef {'A'|'B'|'D'|number} Kind
- *
+ */
+
+/**
  * A word: up to 4,096 steps, each from 1 to the rank.
  * @typedef {ArrayLike<number>} Word
- *
+ */
+
+/**
  * A window: for each screen the source it shows, negative if mirrored.
  * @typedef {ArrayLike<number>} Window
- *
+ */
+
+/**
  * A set of allowed steps, as a list of steps from 1 to 64 in any order.
  * @typedef {Iterable<number>} Steps
- *
+ */
+
+/**
  * The bytes of a preset book, at most 65,535. The functions that make a book return a `Uint8Array`.
  * @typedef {ArrayLike<number>} Book
- *
+ */
+
+/**
  * The edition of a book.
  * @typedef {1|2} Edition
- *
+ */
+
+/**
  * The length of a normal form by sort of crossing: plain pairs, pairs against a mirrored lane, mirrored lanes, and
  * their sum.
  * @typedef {{inversions: number, negativeSumPairs: number, negatives: number, total: number}} Crossings
- *
+ */
+
+/**
  * How many windows have each length, from 0 to the greatest, exactly (some exceed 2^53); the window with the greatest
  * length, and its normal form.
  * @typedef {{counts: bigint[], window: number[], normalForm: number[]}} DelayTable
- *
+ */
+
+/**
  * A rule that was used, by family, i and j, and the word afterwards.
  * @typedef {{family: number, i: number, j: number, word: number[]}} Rewrite
- *
+ */
+
+/**
  * A rewriting: of each step the rule's family, the place, which counts from 0, and the word's length afterwards; and
  * the final word, which is the normal form.
  * @typedef {{steps: {family: number, place: number, length: number}[], word: number[]}} Rewriting
- *
+ */
+
+/**
  * A preset of a book: its kind and rank, where its letters start in the book and how many they are.
  * @typedef {{kind: 'A'|'B'|'D', rank: number, start: number, length: number}} Preset
- *
+ */
+
+/**
  * A preset of a list: its number, and either what it is with its letters, or why it is refused.
  * @typedef {{number: number, refusal: null, kind: 'A'|'B'|'D', rank: number, start: number, length: number,
  *     letters: number[]} | {number: number, refusal: Refusal}} ListedPreset
@@ -213,6 +235,7 @@ export class Winnathey {
 
     /** @param {WebAssembly.Exports} exports the exports of an instance of `winnathey.wasm` */
     constructor(exports) {
+        if (exports?.winnathey_version === undefined) throw new TypeError('the module is not winnathey.wasm');
         this.#exports = exports;
         this.#memory = exports.memory;
         this.#base = exports.__heap_base.value;
@@ -639,14 +662,13 @@ export class Winnathey {
     // ---- the library itself
 
     /**
-     * The sentence of a refusal, from the library.
-     * @param {number} number from 1 to 21
+     * The sentence of a refusal, from the library; empty for a number that is no refusal.
+     * @param {number} number
      * @returns {string}
      */
     refusalSentence(number) {
         const out = output(Uint8Array, MAX_SENTENCE);
         const length = this.#run('winnathey_refusal_sentence', [integer('number', number, 0, 0xffffffff), out]);
-        if (length < 1) throw new RangeError(`no refusal has the number ${number}`);
         return String.fromCharCode(...this.#front(out, length));
     }
 

@@ -227,7 +227,8 @@ test('the sentences are those of CALLS.md', () => {
     const rows = [...section.matchAll(/^\| (\d+) \| (.*) \|$/gm)];
     assert.equal(rows.length, 21);
     for (const [, number, sentence] of rows) assert.equal(w.refusalSentence(Number(number)), sentence);
-    for (const number of [0, 22, 261, 0xffffffff]) assert.throws(() => w.refusalSentence(number), RangeError);
+    for (const number of [0, 22, 261, 0xffffffff]) assert.equal(w.refusalSentence(number), '');
+    assert.throws(() => w.refusalSentence(-1), RangeError);
 });
 
 test('a refused call leaves the library as it was', () => {
@@ -384,6 +385,18 @@ test('the calls of tests/calls.c have their stored answers', () => {
         called.add(name);
     }
     assert.deepEqual([...called].sort(), [...parameters.keys()].sort());
+});
+
+test('each type has its own comment', () => {
+    const source = readFileSync(new URL('winnathey.mjs', import.meta.url), 'utf8');
+    const comments = source.match(/\/\*\*[^]*?\*\//g).filter(comment => comment.includes('@typedef'));
+    assert.ok(comments.length >= 12);
+    for (const comment of comments) assert.match(comment, /^\/\*\*\n \* [A-Z][^@]*\n \* @typedef [^@]*\*\/$/);
+});
+
+test('another module is not taken for the library', async () => {
+    const empty = Uint8Array.of(0, 0x61, 0x73, 0x6d, 1, 0, 0, 0);
+    await assert.rejects(load(empty), { name: 'TypeError', message: 'the module is not winnathey.wasm' });
 });
 
 test('an instance can be wrapped by hand', async () => {
