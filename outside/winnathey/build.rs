@@ -1,6 +1,6 @@
-//! Links the proved library. It is looked for at the path in `WINNATHEY_LIB`, by pkg-config, and where
-//! `rt staticlib c_api` writes it in this repository; what was looked at is reported if there is none, and an archive for
-//! another machine is an error here and not in the linker.
+//! Links the proved library. It is looked for at the path in `WINNATHEY_LIB`, where `rt staticlib c_api` writes it in
+//! this repository, and by pkg-config; what was looked at is reported if there is none. What is no archive, or one for
+//! another machine or system, is an error here and not in the linker.
 use std::env;
 use std::fs;
 use std::path::{Path, PathBuf};
@@ -38,10 +38,13 @@ fn installed() -> Option<PathBuf> {
     Path::new(folder.trim()).join("libwinnathey.a").canonicalize().ok()
 }
 
-/// Whether the archive's objects are for the machine that the crate is built for: their number for it follows the name
-/// of the format, `\x7fELF`, at its eighteenth byte.
+/// Whether the archive's objects are for the machine and the system that the crate is built for: the machine's number
+/// stands 18 bytes after the name of the format, `\x7fELF`.
 fn fitting(archive: &Path) -> Result<(), String> {
     let bytes = fs::read(archive).map_err(|error| format!("{}: {error}", archive.display()))?;
+    if !bytes.starts_with(b"!<arch>\n") {
+        return Err(format!("{} is no archive: libwinnathey.a is wanted", archive.display()));
+    }
     let Some(object) = bytes.windows(4).position(|part| part == b"\x7fELF") else {
         return Err(format!("{} holds no object file for Linux", archive.display()));
     };
@@ -52,10 +55,14 @@ fn fitting(archive: &Path) -> Result<(), String> {
         183 => "aarch64",
         _ => "another machine",
     };
-    if name == wanted {
-        return Ok(());
+    if name != wanted {
+        return Err(format!("{} is for {name}, and the crate is built for {wanted}", archive.display()));
     }
-    Err(format!("{} is for {name}, and the crate is built for {wanted}", archive.display()))
+    let system = env::var("CARGO_CFG_TARGET_OS").unwrap_or_default();
+    if matches!(&*system, "windows" | "macos" | "ios") {
+        return Err(format!("{} is for Linux, and the crate is built for {system}", archive.display()));
+    }
+    Ok(())
 }
 
 fn link(archive: &Path) {

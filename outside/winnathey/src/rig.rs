@@ -348,11 +348,15 @@ impl Error for NoRig {}
 impl FromStr for Rig {
     type Err = NoRig;
 
-    /// Reads `D5` or `D 5`.
+    /// Reads `D5` or `D 5`. Any number of digits is a rank, if one that is refused.
     fn from_str(text: &str) -> Result<Rig, NoRig> {
         let kind = text.get(..1).filter(|letter| !letter.starts_with(|c: char| c.is_ascii_digit()));
         let kind = kind.and_then(|letter| letter.parse().ok()).ok_or(NoRig::Form)?;
-        let rank = text[1..].trim_start().parse().map_err(|_| NoRig::Form)?;
-        Rig::new(kind, rank).map_err(NoRig::Refused)
+        let digits = text[1..].trim_start();
+        if digits.is_empty() || !digits.bytes().all(|digit| digit.is_ascii_digit()) {
+            return Err(NoRig::Form);
+        }
+        // What is no byte is above every rank, as the highest byte is.
+        Rig::new(kind, digits.parse().unwrap_or(u8::MAX)).map_err(NoRig::Refused)
     }
 }

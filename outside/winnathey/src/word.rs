@@ -91,9 +91,12 @@ impl Error for NoWord {}
 impl FromStr for Word {
     type Err = NoWord;
 
-    /// Reads numbers with blanks between them.
+    /// Reads numbers with blanks between them. A number has digits alone, and no sign.
     fn from_str(text: &str) -> Result<Word, NoWord> {
-        let letter = |(place, part): (usize, &str)| part.parse().map_err(|_| NoWord { place });
+        let letter = |(place, part): (usize, &str)| {
+            let unsigned = part.parse().ok().filter(|_| !part.starts_with('+'));
+            unsigned.ok_or(NoWord { place })
+        };
         text.split_whitespace().enumerate().map(letter).collect()
     }
 }

@@ -1,5 +1,5 @@
 //! The methods of a rig and of a book give what the calls on lent buffers give.
-use winnathey::{Book, Edition, Kind, MAX_BOOK, MAX_LANES, MAX_NORMAL_FORM, Refusal, Rig, Word, lent};
+use winnathey::{Book, Edition, Kind, MAX_BOOK, MAX_LANES, MAX_NORMAL_FORM, NoRig, NoWord, Refusal, Rig, Word, lent};
 
 /// Numbers that look random, the same in every run.
 struct Numbers(u64);
@@ -136,4 +136,14 @@ fn what_is_read_is_what_is_printed() {
         assert!(text.parse::<Rig>().is_err(), "{text}");
     }
     assert_eq!("d 5".parse::<Rig>(), "D5".parse::<Rig>());
+    for text in ["D0", "D65", "D256", "D300", "D99999999999999999999"] {
+        assert!(matches!(text.parse::<Rig>(), Err(NoRig::Refused(refusal)) if refusal.number() == 6), "{text}");
+    }
+    for text in ["D+5", "D +5", "D-5", "D5 ", " D5", "D5.0", "D٥"] {
+        assert_eq!(text.parse::<Rig>(), Err(NoRig::Form), "{text}");
+    }
+    assert_eq!("4  4\t2".parse::<Word>().unwrap().to_string(), "4 4 2");
+    for text in ["4 +4", "4 -4", "4 4,", "4 256", "4 x"] {
+        assert_eq!(text.parse::<Word>(), Err(NoWord { place: 1 }), "{text}");
+    }
 }
