@@ -8,8 +8,8 @@
 /* Prints what a preset shows and its normal form. Answers 0, or the refusal's number. */
 static int show(uint32_t kind, uint32_t rank, const uint8_t *word, size_t letters)
 {
-    int8_t window[64];  /* the most lanes */
-    uint8_t form[4096]; /* the longest normal form */
+    int8_t window[WINNATHEY_MAX_LANES];
+    uint8_t form[WINNATHEY_MAX_NORMAL_FORM];
 
     printf("kind %" PRIu32 ", rank %" PRIu32 ", word", kind, rank);
     for (size_t i = 0; i < letters; i++)
@@ -26,7 +26,8 @@ static int show(uint32_t kind, uint32_t rank, const uint8_t *word, size_t letter
         printf(" %d", window[i]);
     printf("\n");
 
-    int64_t length = winnathey_normal_form_of_window(kind, rank, window, (size_t)lanes, form, sizeof form);
+    int64_t length = winnathey_normal_form_of_window(kind, rank, window, (winnathey_size)lanes, form,
+                                                     sizeof form);
     if (length < 0) {
         printf("  refused %" PRId64 "\n", -length);
         return (int)-length;
@@ -44,10 +45,10 @@ int main(void)
     const uint8_t crossing[] = {4, 4, 2, 5, 3, 5, 1, 2};
     const uint8_t wrong[] = {1, 2, 3};
 
-    if (show(2, 2, mirrors, sizeof mirrors) != 0)
+    if (show(WINNATHEY_KIND_B, 2, mirrors, sizeof mirrors) != 0)
         return 1;
-    if (show(3, 5, crossing, sizeof crossing) != 0)
+    if (show(WINNATHEY_KIND_D, 5, crossing, sizeof crossing) != 0)
         return 1;
-    /* Kind B at rank 2 has no step 3: refusal 8. */
-    return show(2, 2, wrong, sizeof wrong) == 8 ? 0 : 1;
+    /* Kind B at rank 2 has no step 3. */
+    return show(WINNATHEY_KIND_B, 2, wrong, sizeof wrong) == WINNATHEY_REFUSED_LETTER ? 0 : 1;
 }
