@@ -2,7 +2,7 @@
 //! it was lent, and allocates nothing.
 //!
 //! A refused call changes no byte of an output; an accepted one leaves what lies behind its answer as it was. The types
-//! [`Rig`](crate::Rig) and [`Book`](crate::Book) say the same with vectors.
+//! `Rig` and `Book`, which need the feature `alloc`, say the same with vectors.
 //!
 //! ```
 //! use winnathey::lent::{Kind, normal_form_of_word, window_of_word};
