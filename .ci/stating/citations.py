@@ -3,6 +3,8 @@ import re
 from dataclasses import dataclass, field
 
 SPECIFICATION, CITATIONS = "docs/SPECIFICATION.md", "docs/statements.txt"
+# a clause with these words has a part of its own further down: the next table or code block of its section
+NAMES_BLOCK = re.compile(r"\b(?:table|listing) below\b")
 # what settles a clause; vectors, edits and notes only stand beside it
 SETTLES = ("law", "contract", "definition", "field", "type", "row", "code", "tests", "gate", "file", "checker", "outside")
 
@@ -13,6 +15,7 @@ class Clause:
     text: str
     section: "Section"
     line: int
+    block: list = field(default_factory=list)  # the lines of the table or the code block that it names
 
 
 @dataclass
@@ -52,7 +55,26 @@ def sections_of(source):
             clause.text += " " + plain(text.strip())
         else:
             clause = None
+    for section in sections:
+        for one in section.clauses:
+            if NAMES_BLOCK.search(one.text):
+                one.block = block_behind(source.split("\n"), one.line)
     return [section for section in sections if section.clauses]
+
+
+def block_behind(lines, at):
+    """The first table or code block behind a line, without its links; nothing if the section has none there."""
+    found, fenced = [], False
+    for text in lines[at:]:
+        fence = text.startswith("```")
+        if fenced or fence or text.startswith("|"):
+            found.append(text if fenced or fence else re.sub("-{3,}", "---", re.sub(" +", " ", plain(text))))
+            if fenced and fence:
+                break
+            fenced = fenced or fence
+        elif found or text.startswith("## "):
+            break
+    return found
 
 
 FORMS = (

@@ -5,7 +5,8 @@ from dataclasses import dataclass, field
 from antt import File as AnttFile
 from antt import tokens
 
-ITEM = re.compile(r"(?m)^[ \t]*((?:pub(?:\([a-z]+\))?\s+)?)(?:(?:const|unsafe|extern \"C\")\s+)*(fn|enum|struct)\s+(\w+)")
+# an item may stand behind an attribute or another item on its line
+ITEM = re.compile(r"(?m)(?:^|(?<=[\]};]))[ \t]*((?:pub(?:\([a-z]+\))?\s+)?)((?:(?:const|unsafe|extern \"C\")\s+)*)(fn|enum|struct)\s+(\w+)")
 
 
 @dataclass
@@ -56,7 +57,9 @@ class File:
         self.ghosts = AnttFile(path, ghosts).uses
         self.imports = {path.split("::")[-1]: path for path in re.findall(r"(?m)^\s*(?:pub )?use ([\w:]+);", self.code)}
         for item in ITEM.finditer(self.code):
-            public, kind, name = item.group(1).strip() == "pub", item.group(2), item.group(3)
+            # what C can call is public, whether it says so or not
+            public = item.group(1).strip() == "pub" or "extern" in item.group(2)
+            kind, name = item.group(3), item.group(4)
             start = item.start() + len(item.group()) - len(item.group().lstrip())
             line = source.count("\n", 0, start) + 1
             if kind == "fn":

@@ -2,7 +2,7 @@
 import re
 from dataclasses import dataclass, field
 
-from citations import CITATIONS, SENTENCES, SETTLES, SPECIFICATION, citations_of, sections_of
+from citations import CITATIONS, NAMES_BLOCK, SENTENCES, SETTLES, SPECIFICATION, citations_of, sections_of
 from reading import Reader
 from scope import Fields, Scope, covering
 from specification import wrong_calls, wrong_table
@@ -97,6 +97,8 @@ class Builder:
                 self.model.wrong.append(f"{SPECIFICATION}:{clause.line}: {clause.name} stands twice")
             if not clause.name.startswith(clause.section.name):
                 self.model.wrong.append(f"{SPECIFICATION}:{clause.line}: {clause.name} stands in section {clause.section.name or clause.section.title}")
+            if NAMES_BLOCK.search(clause.text) and not clause.block:
+                self.model.wrong.append(f"{SPECIFICATION}:{clause.line}: {clause.name} names a table or a listing that is not there")
             kinds = [citation.kind for citation in self.model.cited.get(clause.name, [])]
             if not any(kind in SETTLES for kind in kinds):
                 self.model.wrong.append(f"{SPECIFICATION}:{clause.line}: the clause {clause.name} has no statement in {CITATIONS}")

@@ -77,6 +77,9 @@ class Writer:
         for clause in section.clauses:
             page.heading(3, clause.name)
             page.say(f"{page.link([clause.name], page.to(SPECIFICATION, clause.name.lower()))} {clause.text}", "> ")
+            if clause.block:
+                page.lines[-1] = ">"
+                page.add(*(f"> {text}" for text in clause.block), "")
             self._clause(page, clause, shown)
         return page
 
