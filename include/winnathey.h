@@ -112,7 +112,7 @@ extern "C" {
 #define WINNATHEY_MAX_SENTENCE 256      /* bytes of a refusal's sentence */
 #define WINNATHEY_MAX_STACK 16384       /* bytes of stack that a call needs */
 
-#define WINNATHEY_CROSSINGS 3           /* counts of a length by sort of crossing */
+#define WINNATHEY_CROSSINGS 3           /* counts that make up a length */
 #define WINNATHEY_RULE 3                /* bytes of a rule: family, i, j */
 #define WINNATHEY_PRESET_FIELDS 4       /* numbers of a preset */
 #define WINNATHEY_LISTED_FIELDS 5       /* numbers of a preset in a list of presets */
@@ -199,9 +199,9 @@ int64_t winnathey_inverse_of_word(uint32_t kind, uint32_t rank,
 int64_t winnathey_length_of_word(uint32_t kind, uint32_t rank,
                                  const uint8_t *word, winnathey_size word_len);
 
-/* The length of a word's normal form by sort of crossing. Three numbers go to counts: plain pairs,
-   pairs against a mirrored lane, mirrored lanes; 0 for a sort that the kind does not count.
-   Returns their sum, which is the length. */
+/* The crossings of a word: the length of its normal form as three counts. To counts go the plain
+   pairs, the pairs against a mirrored lane and the mirrored lanes; 0 for one that the kind does not
+   count. Returns their sum, which is the length. */
 int64_t winnathey_crossings_of_word(uint32_t kind, uint32_t rank,
                                     const uint8_t *word, winnathey_size word_len,
                                     uint64_t *counts, winnathey_size counts_len);
@@ -241,7 +241,7 @@ int64_t winnathey_inverse_of_window(uint32_t kind, uint32_t rank,
 int64_t winnathey_length_of_window(uint32_t kind, uint32_t rank,
                                    const int8_t *window, winnathey_size window_len);
 
-/* The length of a window's normal form by sort of crossing, as for a word. Returns the sum. */
+/* The crossings of a window, as for a word. Returns their sum, which is the length. */
 int64_t winnathey_crossings_of_window(uint32_t kind, uint32_t rank,
                                       const int8_t *window, winnathey_size window_len,
                                       uint64_t *counts, winnathey_size counts_len);

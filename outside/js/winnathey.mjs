@@ -47,7 +47,7 @@
  */
 
 /**
- * The length of a normal form by sort of crossing: plain pairs, pairs against a mirrored lane, mirrored lanes, and
+ * The length of a normal form as its three counts: plain pairs, pairs against a mirrored lane, mirrored lanes, and
  * their sum.
  * @typedef {{inversions: number, negativeSumPairs: number, negatives: number, total: number}} Crossings
  */
@@ -368,7 +368,7 @@ export class Winnathey {
     }
 
     /**
-     * The length of a word's normal form by sort of crossing. Refusals 5 to 8.
+     * The crossings of a word: the length of its normal form as three counts. Refusals 5 to 8.
      * @param {Kind} kind @param {number} rank @param {Word} word
      * @returns {Crossings}
      */
@@ -449,7 +449,7 @@ export class Winnathey {
     }
 
     /**
-     * The length of a window's normal form by sort of crossing. Refusals 5, 6, 9 to 11.
+     * The crossings of a window, as for a word. Refusals 5, 6, 9 to 11.
      * @param {Kind} kind @param {number} rank @param {Window} window
      * @returns {Crossings}
      */

@@ -26,7 +26,7 @@ pub fn words(bench: &mut Bench, random: &mut Random, kind: u32, rank: u32, rig: 
             normal_form_of_word(kind, rank, word(k), &mut out.bytes));
         cell!(bench, "length of a word", rig, column, [rattle plain straight before], |k, _|
             length_of_word(kind, rank, word(k)));
-        cell!(bench, "length of a word by sort", rig, column, [rattle plain before], |k, out|
+        cell!(bench, "crossings of a word", rig, column, [rattle plain before], |k, out|
             crossings_of_word(kind, rank, word(k), out.counts.room()));
         cell!(bench, "product of two words", rig, column, [rattle plain straight before], |k, out|
             product_of_words(kind, rank, word(k), other(k), &mut out.bytes));
@@ -54,7 +54,7 @@ pub fn windows(bench: &mut Bench, random: &mut Random, kind: u32, rank: u32, rig
             normal_form_of_window(kind, rank, window(k), &mut out.bytes));
         cell!(bench, "length of a window", rig, column, [rattle plain straight before], |k, _|
             length_of_window(kind, rank, window(k)));
-        cell!(bench, "length of a window by sort", rig, column, [rattle plain before], |k, out|
+        cell!(bench, "crossings of a window", rig, column, [rattle plain before], |k, out|
             crossings_of_window(kind, rank, window(k), out.counts.room()));
         cell!(bench, "product of two windows", rig, column, [rattle plain straight before], |k, out|
             product_of_windows(kind, rank, window(k), other(k), &mut out.lanes));

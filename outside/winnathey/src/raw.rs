@@ -321,13 +321,13 @@ pub fn length_of_window(kind: u32, rank: u32, window: &[i8]) -> i64 {
     unsafe { c::winnathey_length_of_window(kind, rank, window.as_ptr(), window.len()) }
 }
 
-/// The length of a word's normal form by sort: plain pairs, pairs against a mirrored lane, mirrored lanes.
+/// The length of a word's normal form as three counts: plain pairs, pairs against a mirrored lane, mirrored lanes.
 #[inline]
 pub fn crossings_of_word(kind: u32, rank: u32, word: &[u8], counts: &mut [u64]) -> i64 {
     unsafe { c::winnathey_crossings_of_word(kind, rank, word.as_ptr(), word.len(), counts.as_mut_ptr(), counts.len()) }
 }
 
-/// The length of a window's normal form by sort.
+/// The same of a window.
 #[inline]
 pub fn crossings_of_window(kind: u32, rank: u32, window: &[i8], counts: &mut [u64]) -> i64 {
     unsafe {
