@@ -28,8 +28,8 @@ class Writer:
         index.heading(1, "Statements")
         index.link(["statements.txt"], index.to("docs/statements.txt"))
         index.say("Clause by clause of [SPECIFICATION.md](SPECIFICATION.md): the text of every contract and law that settles it, with the parameters of the "
-                  "sections around it, and links to the definitions that it speaks of, which are on the pages of [DEFINITIONS.md](DEFINITIONS.md). How to "
-                  "read a statement is said in [CERTIFICATE.md](CERTIFICATE.md).")
+                  "sections around it, and links to the definitions that it speaks of, which are on the pages of [DEFINITIONS.md](DEFINITIONS.md). "
+                  "[CERTIFICATE.md](CERTIFICATE.md) says how to read a statement.")
         index.say(NOTE)
         index.add("| Section | | Clauses | Contracts | Laws |", "|---|---|---|---|---|")
         for section in self.model.sections:
