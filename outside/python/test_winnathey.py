@@ -238,7 +238,7 @@ class Header(unittest.TestCase):
         self.assertEqual(declared, w._CALLS)
 
     def test_limits(self):
-        for name, value in (("MAX_LANES", w.MAX_LANES), ("MAX_WORD", w.MAX_LETTERS), ("MAX_BOOK", w.MAX_BOOK)):
+        for name, value in (("MAX_LANES", w.MAX_LANES), ("MAX_WORD", w.MAX_WORD), ("MAX_BOOK", w.MAX_BOOK)):
             found = re.search(rf"#define WINNATHEY_{name} (\d+)", header())
             self.assertIsNotNone(found, name)
             self.assertEqual(int(found.group(1)), value)

@@ -41,7 +41,7 @@ __all__ = [
 ]
 
 MAX_LANES = 64
-MAX_LETTERS = 4096
+MAX_WORD = 4096
 MAX_COUNTS = 257
 MAX_BOOK = 65535
 
@@ -278,7 +278,7 @@ def _allowed(allowed):
 
 
 def _letters():
-    return (c_uint8 * MAX_LETTERS)()
+    return (c_uint8 * MAX_WORD)()
 
 
 def _entries():
@@ -411,7 +411,7 @@ def rewrite_to_end(kind, rank, word):
 def fallback(kind, rank, present, simpler):
     """The places of the present word's normal form whose letters have the simpler window, or None if that cannot
     be had by removing letters. Refusals 5 to 8, the present word's first."""
-    places = (c_uint16 * MAX_LETTERS)()
+    places = (c_uint16 * MAX_WORD)()
     kept = _call("fallback", _kind(kind), _rank(rank), _word(present), _word(simpler), places)
     if kept == _NO_FALLBACK:
         return None

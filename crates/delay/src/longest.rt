@@ -11,6 +11,7 @@ ghost use Rattle.coxeter.specs.Length.{greatestLength};
 ghost use Rattle.coxeter.specs.Checks.{Rig};
 ghost use Rattle.coxeter.specs.NormalForm.{normalForm};
 ghost use Rattle.coxeter.specs.Calls.{written};
+ghost use Rattle.coxeter.proofs.Acceptance.{Ranked};
 ghost use Rattle.distribution.specs.Longest.{longest};
 
 // The entry at position i, from 0, of the longest window, which has m entries: m, m - 1, .., 1 in kind A, and else -1, -2, .., -m, but in kind D the
@@ -36,7 +37,7 @@ fn longest_entry(kind: u8, n: usize, m: usize, i: usize) -> i8
 }
 
 fn set_longest(kind: u8, n: usize, w: &mut [i8])
-    requires { ⌜ (kinds.least (kindOf kind) ≤ n) × (n ≤ 64) ⌝ }
+    requires { ⌜ Ranked (kindOf kind) n ⌝ }
     requires { ⌜ length (now w) ≡ kinds.lanes (kindOf kind) n ⌝ }
     ensures { λ _. ⌜ now (w .exit) ≡ longest (kindOf kind) n ⌝ }
 {

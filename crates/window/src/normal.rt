@@ -13,7 +13,7 @@ ghost use lib.Dec.{eqb};
 ghost use lib.IntN.{ℤ};
 ghost use lib.ListN.{length, take, drop, getD};
 ghost use lib.Seq.{sets};
-ghost use Rattle.coxeter.specs.Kinds.{B, D, pick, kindOf, least, lanes};
+ghost use Rattle.coxeter.specs.Kinds.{B, D, pick, kindOf, lanes};
 ghost use Rattle.coxeter.specs.Checks.{Rig, WindowOf};
 ghost use Rattle.coxeter.specs.Calls.{written};
 ghost use Rattle.coxeter.specs.NormalForm.{rise, fall, block, blocks, levels, normalForm};
@@ -205,7 +205,7 @@ fn set_levels(kind: u8, rank: u8, w: &[i8], out: &mut [u8])
 // The blocks of t levels from i on, by the indices of all levels, written to the front of out; the answer is how many
 // letters they have. The number of levels left falls at each call.
 fn write_from(kind: u8, n: usize, t: usize, i: usize, js: &[u8], out: &mut [u8]) -> usize
-    requires { ⌜ (least (kindOf kind) ≤ n) × (n ≤ 64) × (1 ≤ i) × (t + i ≡ length (now js) + 1) × (length (now js) ≤ 64) ⌝ }
+    requires { ⌜ Ranked (kindOf kind) n × (1 ≤ i) × (t + i ≡ length (now js) + 1) × (length (now js) ≤ 64) ⌝ }
     requires { ⌜ ((p : ℕ) → p < length (now js) → getD (now js) p 0 ≤ 2 * n) ⌝ }
     requires { ⌜ length (blocks (kindOf kind) n i (drop (i - 1) (now js))) ≤ length (now out) ⌝ }
     ensures { λ r. ⌜ (r ≡ length (blocks (kindOf kind) n i (drop (i - 1) (now (js .entry)))))

@@ -58,7 +58,7 @@ pub use word::{NoWord, Word};
 /// The most lanes of a window: 64.
 pub const MAX_LANES: usize = 64;
 /// The most letters of a word: 4,096.
-pub const MAX_LETTERS: usize = 4096;
+pub const MAX_WORD: usize = 4096;
 /// The most letters of a normal form: 4,096, in kind B at rank 64. An output of this length is never too short for one.
 pub const MAX_NORMAL_FORM: usize = 4096;
 /// The most numbers of a delay table: 257, in kind B at rank 16.

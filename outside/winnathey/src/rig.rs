@@ -1,6 +1,6 @@
 //! Rigs: a kind and a rank, checked once, and the calls on their words and windows.
 use crate::lent::{self, Crossings};
-use crate::{Kind, MAX_COUNTS, MAX_LANES, MAX_LETTERS, MAX_NORMAL_FORM, Refusal, Steps, Window, Word};
+use crate::{Kind, MAX_COUNTS, MAX_LANES, MAX_WORD, MAX_NORMAL_FORM, Refusal, Steps, Window, Word};
 use alloc::vec;
 use alloc::vec::Vec;
 use core::error::Error;
@@ -236,7 +236,7 @@ impl Rig {
     /// ```
     pub fn rewrite(self, word: &[u8], place: usize) -> Result<Option<Rewrite>, Refusal> {
         let mut rule = None;
-        let word = Word::written(word.len().min(MAX_LETTERS), |out| {
+        let word = Word::written(word.len().min(MAX_WORD), |out| {
             Ok(match lent::rewrite(self.kind.into(), self.rank, word, place, out)? {
                 lent::Rewrite::Used { family, i, j, length } => {
                     rule = Some((family, i, j));

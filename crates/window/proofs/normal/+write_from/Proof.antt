@@ -35,7 +35,7 @@ write-from-returns : (t : ℕ) → write-from-lts.Need-returns (
 ) (write-from-at t) write-from.Post
 write-from-returns t c =
     let pre = c .before .before .before .pre .1 in
-    rw (blocks-none _ _ _ _ _ (c .if1 .taken) (pre .0 .3)) (refl, refl)
+    rw (blocks-none _ _ _ _ _ (c .if1 .taken) (pre .0 .2)) (refl, refl)
 
 write-from-sub-write-from : (t : ℕ) → write-from-lts.Need-sub-write-from (
   write-from-below t,
@@ -62,9 +62,9 @@ write-from-write-from-requires : (t : ℕ) → write-from-lts.Need-write-from-re
 write-from-write-from-requires t c κs =
     let more = c .before .if1 .left in
     let pre = c .before .before .before .before .pre .1 in
-    let level = blocks-next _ _ _ _ _ more (pre .0 .2) (pre .0 .3) in (
+    let level = blocks-next _ _ _ _ _ more (pre .0 .1) (pre .0 .2) in (
       omega arith,
-      ((pre .0 .0, pre .0 .1, omega arith, omega arith, pre .0 .4), (pre .1 .0, joined-room-left level _ (pre .1 .1))),
+      ((pre .0 .0, omega arith, omega arith, pre .0 .3), (pre .1 .0, joined-room-left level _ (pre .1 .1))),
     )
 
 write-from-sub-write-block : (t : ℕ) → write-from-lts.Need-sub-write-block (
@@ -104,8 +104,8 @@ write-from-write-block-requires t c κs =
     let written = at-write .write-from in
     let more = at-write .before .before .if1 .left in
     let pre = at-write .before .before .before .before .before .pre .1 in
-    let level = blocks-next _ _ _ _ _ more (pre .0 .2) (pre .0 .3) in (
-      ((pre .0 .0, pre .0 .1), pre .1 .0 _ (omega arith)),
+    let level = blocks-next _ _ _ _ _ more (pre .0 .1) (pre .0 .2) in (
+      (pre .0 .0, pre .1 .0 _ (omega arith)),
       joined-room-right level (pre .1 .1) (written .ensures .0) (written .kept .1 .1 .1 .1 .1 .0),
     )
 
@@ -128,7 +128,7 @@ write-from-returns-2 t c =
     let at-write = at-block .before .before .before .before .before in
     let more = at-write .before .before .if1 .left in
     let pre = at-write .before .before .before .before .before .pre .1 in
-    let level = blocks-next _ _ _ _ _ more (pre .0 .2) (pre .0 .3) in
+    let level = blocks-next _ _ _ _ _ more (pre .0 .1) (pre .0 .2) in
     joined-stored level _ (at-write .write-from .ensures) (at-block .write-block .ensures)
 
 pub +write-from-spec : {M : Type 1} → statement M

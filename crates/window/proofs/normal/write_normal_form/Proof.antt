@@ -66,7 +66,7 @@ write-from-requires c κs =
     let n = found .set-levels .kept .1 .1 .1 .0 ∙ made .no-indices .ensures in
     let js = found .set-levels .ensures in
     let size = first-length _ _ _ _ _ _ (pre .0) (pre .1 .1 .0) e t (n, js) in (
-      (a .0, a .1, omega arith, ap (λ (x : ℕ). x + 1) size, first-small _ _ _ _ _ _ (pre .0) (pre .1 .1 .0) e t (n, js)),
+      (a, omega arith, ap (λ (x : ℕ). x + 1) size, first-small _ _ _ _ _ _ (pre .0) (pre .1 .1 .0) e t (n, js)),
       (first-indices _ _ _ _ _ _ (pre .0) (pre .1 .1 .0) e t (n, js), first-room _ _ _ _ _ _ (pre .0) (pre .1 .1 .0) e t (n, js) _ (pre .1 .1 .1)),
     )
 
