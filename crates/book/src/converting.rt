@@ -1,4 +1,5 @@
-// A book turned into the other edition: the checks of each record, then the records one after the other, their offsets and the count.
+// A book turned into the other edition: the checks of each record, then the records one after the other, their
+// offsets and the count.
 use crate::numbers::count_of;
 use crate::numbers::put_two;
 use crate::numbers::record_start;

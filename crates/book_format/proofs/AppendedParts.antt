@@ -1,5 +1,6 @@
--- A book that appending made, number by number and record by record: its count, its trailer, its offsets, its last record and those before it.
--- Shown by cutting it into its five parts, the records, the new record, the offsets, its offset and the count.
+-- A book that appending made, number by number and record by record: its count, its trailer, its offsets, its last
+-- record and those before it. Shown by cutting it into its five parts, the records, the new record, the offsets,
+-- its offset and the count.
 --
 -- Sections: two-byte numbers in a list; parts of a list; the parts; numbers of the new book; its records.
 -- Assumes nothing.

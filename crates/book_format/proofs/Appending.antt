@@ -1,5 +1,6 @@
--- A book that appending made passes checks 1 to 3, has one preset more, its last preset reads back as the one appended, and those before it read as
--- from the old book. Check 3 walks over the new book as over the old one, and then over one record more.
+-- A book that appending made passes checks 1 to 3, has one preset more, its last preset reads back as the one
+-- appended, and those before it read as from the old book. Check 3 walks over the new book as over the old one, and
+-- then over one record more.
 --
 -- Sections: one record of a walk; checks 1 to 3; the presets before; the last preset; the law.
 -- Assumes nothing.

@@ -1,4 +1,5 @@
--- The checks of a book, one record at a time and one case at a time, in the form in which the code meets them, and what an accepted book is.
+-- The checks of a book, one record at a time and one case at a time, in the form in which the code meets them, and
+-- what an accepted book is.
 --
 -- Sections: checks 1 to 3; the walk over the records; accepted books.
 -- Assumes nothing.

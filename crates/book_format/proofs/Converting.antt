@@ -1,5 +1,6 @@
--- A converted book is a book of the other edition with the same presets, and converting it back gives the bytes of the first. By the records: what
--- they lay out has just these records (LayOuts), and each passes the checks of the other edition too.
+-- A converted book is a book of the other edition with the same presets, and converting it back gives the bytes of
+-- the first. By the records: what they lay out has just these records (LayOuts), and each passes the checks of the
+-- other edition too.
 --
 -- Sections: one record; the records; the converted book; there and back; its size.
 -- Assumes nothing.

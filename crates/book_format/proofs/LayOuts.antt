@@ -1,5 +1,6 @@
--- What a list of records lays out is a book with these records: it passes checks 1 to 3, and its records are those of the list. Shown by appending
--- them one after the other: a list with one record more lays out the book to which that record is appended.
+-- What a list of records lays out is a book with these records: it passes checks 1 to 3, and its records are those
+-- of the list. Shown by appending them one after the other: a list with one record more lays out the book to which
+-- that record is appended.
 --
 -- Sections: parts; numbers; one record more; the law.
 -- Assumes nothing.

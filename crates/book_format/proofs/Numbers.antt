@@ -20,7 +20,8 @@ use Rattle.book_format.specs.Books.{firstOf, wrongRankInBook, bookRankRe
 
 -- ---- two refusals
 
--- the number m comes from the second of two where the first never gives it, and from the first where the second never does
+-- the number m comes from the second of two where the first never gives it, and from the first where the second
+-- never does
 pub then-late : (r s m : ℕ) → (r ≡ m → ⊥) → (r then s) ≡ m → (r ≡ 0) × (s ≡ m)
 then-late r s m f e = elim (ℕ-discrete r 0) [ yes z ↦ (z, sym (then-none r s z) ∙ e) | no g ↦ absurd (f (sym (then-some r s g) ∙ e)) ]
 

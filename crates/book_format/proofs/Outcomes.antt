@@ -1,5 +1,5 @@
--- Every list of bytes, of every length, has its outcome: each refusal is the number of the first test that holds, in checking order, or 0 where none
--- does. Shown by taking the definitions apart into their single tests.
+-- Every list of bytes, of every length, has its outcome: each refusal is the number of the first test that holds,
+-- in checking order, or 0 where none does. Shown by taking the definitions apart into their single tests.
 -- Assumes nothing.
 use mathlib.Core.Path.{_≡_, refl, sym, ap, _∙_}
 use mathlib.Core.Bool.{Bool, true, false, not}

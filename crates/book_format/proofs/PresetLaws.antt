@@ -42,8 +42,9 @@ presetAt-found ed b o r z = rw (eq-eqb r 0 z)
 
 -- ---- records
 
--- the record at byte o: r is the refusal of its kind and rank, t whether its lane count is wrong, l its letter count, which has the place p in a record,
--- s the refusal of its preset by the calls' checks, of which kind and rank have passed theirs
+-- the record at byte o: r is the refusal of its kind and rank, t whether its lane count is wrong, l its letter
+-- count, which has the place p in a record, s the refusal of its preset by the calls' checks, of which kind and
+-- rank have passed theirs
 module _ (ed : Edition) (b : List ℕ) (o r : ℕ) (e : r ≡ bookRankRefusal ed (kindAt b o) (rankAt b o)) where
   pub checkedRecord-rank : (r ≡ 0 → ⊥) → checkedRecord ed b o ≡ preset.Refused r
   unfolding checkedRecord recordRefusal

@@ -1,5 +1,5 @@
--- Checks 5 and 6 of a record beside those of a call: a book's ranges lie inside the calls' ranges, so what the calls refuse is refused with the same
--- number, and what is left to test is the book's own upper end.
+-- Checks 5 and 6 of a record beside those of a call: a book's ranges lie inside the calls' ranges, so what the
+-- calls refuse is refused with the same number, and what is left to test is the book's own upper end.
 -- Assumes nothing.
 use mathlib.Core.Path.{_≡_, refl, sym, _∙_}
 use mathlib.Core.Bool.{Bool, true, false, _||_}

@@ -1,6 +1,7 @@
--- Every book that passes checks 1 to 3, but the one of no bytes, is made of its records: laying them out again gives its bytes. So two books with the
--- same presets in the same order are the same bytes, unless one of them has no bytes. Shown part by part from the end: what a part lays out, followed
--- by the book after it, is the book from its beginning.
+-- Every book that passes checks 1 to 3, but the one of no bytes, is made of its records: laying them out again
+-- gives its bytes. So two books with the same presets in the same order are the same bytes, unless one of them has
+-- no bytes. Shown part by part from the end: what a part lays out, followed by the book after it, is the book from
+-- its beginning.
 --
 -- Sections: numbers; one record; the records; the offsets; the law; appending.
 -- Assumes nothing.

@@ -1,5 +1,5 @@
--- Runs of presets in numbers: the preset of five numbers is what reading it answered, its refusal, kind and rank are bytes, and what reading a run
--- answers and writes, case by case, in the form in which the code meets it.
+-- Runs of presets in numbers: the preset of five numbers is what reading it answered, its refusal, kind and rank
+-- are bytes, and what reading a run answers and writes, case by case, in the form in which the code meets it.
 --
 -- Sections: five numbers; runs; reading a run.
 -- Assumes nothing.

@@ -82,7 +82,8 @@ opening =
     -- a count of 1, and of 256, without room for the offsets
     ∷ (checkedBook First (1 ∷ 0 ∷ []), opened.Refused 2)
     ∷ (checkedBook First (0 ∷ 1 ∷ []), opened.Refused 2)
-    -- with no presets the trailer is not at byte 0; an offset is not 0; a record runs into the trailer; the last record ends before it
+    -- with no presets the trailer is not at byte 0; an offset is not 0; a record runs into the trailer; the last
+    -- record ends before it
     ∷ (checkedBook First (7 ∷ 0 ∷ 0 ∷ []), opened.Refused 3)
     ∷ (checkedBook First (1 ∷ 1 ∷ 0 ∷ 0 ∷ 1 ∷ 0 ∷ 1 ∷ 0 ∷ []), opened.Refused 3)
     ∷ (checkedBook First (bookOf (1 ∷ 1 ∷ 1 ∷ 0 ∷ [])), opened.Refused 3)
@@ -156,7 +157,8 @@ reading-agrees = refl
 
 -- ---- runs of presets
 
--- both presets with room for them and a number more; the second alone; the first where only one has room; a refused record beside an accepted one
+-- both presets with room for them and a number more; the second alone; the first where only one has room; a refused
+-- record beside an accepted one
 pub runs : List (Outcome ℕ × Outcome ℕ)
 runs =
     (readingPresets First book 0 (lent 11), wrote 2 (0 ∷ 2 ∷ 2 ∷ 4 ∷ 4 ∷ 0 ∷ 3 ∷ 5 ∷ 12 ∷ 6 ∷ 9 ∷ []))
@@ -242,8 +244,8 @@ unfolding appendings
     appending
 appendings-agree = refl
 
--- the size limit, for every accepted book and preset: a new book of 65,536 bytes or more is refused before the room is looked at, a smaller one only
--- where there is no room
+-- the size limit, for every accepted book and preset: a new book of 65,536 bytes or more is refused before the room
+-- is looked at, a smaller one only where there is no room
 module _ (ed : Edition) (b : List ℕ) (k n : ℕ) (u out : List ℕ) (e : bookRefusal ed b ≡ 0) (f : bookRankRefusal ed k n ≡ 0) (g : WordOf n u)
     (o : retired k n ≡ false) where
   passes : 0 ≡ (rankRefusal k n then wordRefusal n u)

@@ -1,4 +1,5 @@
-// The preset book: definitions in specs/, laws in proofs/, the editions of a book, and the answers of the calls on it. No function.
+// The preset book: definitions in specs/, laws in proofs/, the editions of a book, and the answers of the calls on
+// it. No function.
 
 // B8: the edition of a book; there is no third.
 pub enum Edition {

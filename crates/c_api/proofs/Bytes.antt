@@ -1,5 +1,5 @@
--- Kinds and ranks of 32 bits, as the calls below take them: a byte each, and 0 for what is none. Checks 5 and 6 refuse both alike, and a call that
--- they refuse depends on nothing else of its kind and rank.
+-- Kinds and ranks of 32 bits, as the calls below take them: a byte each, and 0 for what is none. Checks 5 and 6
+-- refuse both alike, and a call that they refuse depends on nothing else of its kind and rank.
 --
 -- Sections: kinds and ranks; calls that go by them; the calls; answers; refusals of 32 bits.
 -- Assumes nothing.

@@ -1,5 +1,5 @@
--- Calls for C that write numbers to a list beside other outputs, whole: what they answer and leave, computed from the definitions at some inputs, with
--- lists that have room, too little or none.
+-- Calls for C that write numbers to a list beside other outputs, whole: what they answer and leave, computed from
+-- the definitions at some inputs, with lists that have room, too little or none.
 -- Assumes nothing.
 use mathlib.Core.Path.{refl}
 use mathlib.Core.List.{List, [], _∷_}
@@ -25,7 +25,8 @@ use Rattle.distribution.specs.Longest.{allNegative, longest}
 use Rattle.distribution.specs.Calls.{untabled, tableRefusal, tableOf, roomRefusal, tables, delayTable}
 use Rattle.c_api.specs.Calls.{refused, traceNumbers, splitNumbers, tableNumbers, listedBeside, rewritingToEndListed, splittingListed, delayTableListed}
 
--- a rewriting to its end: of 1 1 nothing is left, so that only the list for its length can be too short; 15 comes before that
+-- a rewriting to its end: of 1 1 nothing is left, so that only the list for its length can be too short; 15 comes
+-- before that
 pub toEnds : List ((ℤ × ((List ℕ × List ℕ × List ℕ × List ℕ) × List ℕ)) × (ℤ × ((List ℕ × List ℕ × List ℕ × List ℕ) × List ℕ)))
 toEnds =
     (rewritingToEndListed 1 2 (1 ∷ 1 ∷ []) (9 ∷ []) (9 ∷ []) (9 ∷ []) [] (8 ∷ 8 ∷ []), (pos 1, ((1 ∷ [], 0 ∷ [], 0 ∷ [], []), 0 ∷ 8 ∷ [])))

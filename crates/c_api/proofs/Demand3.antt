@@ -1,5 +1,6 @@
--- Demand 3 for lists of calls of `winnathey_rewrite`. One call: by the cases of the step below it and of the room for the rule. Lists: the calls that used a
--- rule are a list of single rewrites that leaves the same word, since every other call leaves its word, so that `demand3` gives what holds of the word.
+-- Demand 3 for lists of calls of `winnathey_rewrite`. One call: by the cases of the step below it and of the room
+-- for the rule. Lists: the calls that used a rule are a list of single rewrites that leaves the same word, since
+-- every other call leaves its word, so that `demand3` gives what holds of the word.
 --
 -- Sections: one call; lists of calls; the theorem.
 -- Assumes nothing.

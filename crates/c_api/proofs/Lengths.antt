@@ -1,4 +1,5 @@
--- Every length that a call for C answers fits an `i64`: it is at most that of the longest book, by the checks that were made before.
+-- Every length that a call for C answers fits an `i64`: it is at most that of the longest book, by the checks that
+-- were made before.
 --
 -- Sections: numbers; answers; the window layer; the layers above it.
 -- Assumes nothing.
@@ -136,7 +137,8 @@ writes-small r l out h =
 
 -- ---- the window layer
 
--- each call checks kind and rank first; s are its other checks, and w is the window whose entries, normal form or length it answers
+-- each call checks kind and rank first; s are its other checks, and w is the window whose entries, normal form or
+-- length it answers
 module _ (k n : ℕ) where
   module _ (s : ℕ) (w : List ℤ) (a : s ≡ 0 → Accepted (kindOf k) n w) (z : (rankRefusal k n then s) ≡ 0) where
     entries-le : length w ≤ 64

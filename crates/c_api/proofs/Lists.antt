@@ -1,5 +1,6 @@
--- Calls for C that write numbers to a list of their own: what is left where the list has room for them, where it has none, and where no number goes there;
--- and that a call which answers a negative number leaves everything. By the test of check 14, and by what the numbers of each answer are.
+-- Calls for C that write numbers to a list of their own: what is left where the list has room for them, where it
+-- has none, and where no number goes there; and that a call which answers a negative number leaves everything. By
+-- the test of check 14, and by what the numbers of each answer are.
 --
 -- Sections: the numbers of an answer; a list with room; a list without; refusals.
 -- Assumes nothing.

@@ -1,5 +1,5 @@
--- What calls for C write to a list beyond the call below them: the three counts of a length, a preset its fields, one rewrite its rule. By the cases of
--- the layer's answer.
+-- What calls for C write to a list beyond the call below them: the three counts of a length, a preset its fields,
+-- one rewrite its rule. By the cases of the layer's answer.
 --
 -- Sections: counts and fields; one rewrite; a rule without room.
 -- Assumes nothing.

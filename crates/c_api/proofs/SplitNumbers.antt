@@ -1,5 +1,5 @@
--- A split as a call for C makes it: of a kind and a rank that are bytes, or that checks 5 and 6 refuse alike; its number fits, and the two lengths go to a
--- list, which has room for them or not.
+-- A split as a call for C makes it: of a kind and a rank that are bytes, or that checks 5 and 6 refuse alike; its
+-- number fits, and the two lengths go to a list, which has room for them or not.
 --
 -- Sections: the number; kinds and ranks; the lengths; lengths without room.
 -- Assumes nothing.

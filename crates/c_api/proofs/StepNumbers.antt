@@ -1,5 +1,5 @@
--- The calls for C on the rewriting to its end: a number of steps fits an `i64`, a kind and a rank are taken as bytes, and the final word's length goes to a
--- list, which has room for it or not.
+-- The calls for C on the rewriting to its end: a number of steps fits an `i64`, a kind and a rank are taken as
+-- bytes, and the final word's length goes to a list, which has room for it or not.
 --
 -- Sections: numbers of steps; kinds and ranks; the final length; a final length without room.
 -- Assumes nothing.

@@ -1,6 +1,6 @@
--- Numbers that the calls for C answer, and what they leave in their outputs, computed from the definitions at some inputs: a refusal is negative, a
--- length, a verdict and a choice are told apart; fallbacks; the numbers that go to lists, and lists that are too short or empty, which keep every output;
--- kinds and ranks above a byte.
+-- Numbers that the calls for C answer, and what they leave in their outputs, computed from the definitions at some
+-- inputs: a refusal is negative, a length, a verdict and a choice are told apart; fallbacks; the numbers that go to
+-- lists, and lists that are too short or empty, which keep every output; kinds and ranks above a byte.
 -- Assumes nothing.
 use mathlib.Core.Path.{refl}
 use mathlib.Core.List.{List, [], _∷_}

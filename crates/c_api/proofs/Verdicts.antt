@@ -1,4 +1,5 @@
--- Calls on shortest words, as a call for C makes them: of a kind and a rank that are bytes, or that checks 5 and 6 refuse alike.
+-- Calls on shortest words, as a call for C makes them: of a kind and a rank that are bytes, or that checks 5 and 6
+-- refuse alike.
 --
 -- Sections: fallbacks; from one window to another.
 -- Assumes nothing.

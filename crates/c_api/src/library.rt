@@ -5,7 +5,8 @@ ghost use mathlib.Core.Path.{_≡_};
 ghost use Rattle.sentences.specs.Sentences.{refusalSentence};
 ghost use Rattle.c_api.specs.Calls.{numbered, version};
 
-// The version: 1,000,000 for each major version, 1,000 for each minor one and 1 for each patch. The file VERSION has it as text.
+// The version: 1,000,000 for each major version, 1,000 for each minor one and 1 for each patch. The file VERSION
+// has it as text.
 #[no_mangle]
 pub extern "C" fn winnathey_version() -> i64
     ensures { λ r. ⌜ r ≡ version ⌝ }
@@ -13,7 +14,8 @@ pub extern "C" fn winnathey_version() -> i64
     9000
 }
 
-// The sentence of a refusal, written to the front of `out`. Answers its length, which is 0 for a number that is no refusal. Refusal 14.
+// The sentence of a refusal, written to the front of `out`. Answers its length, which is 0 for a number that is no
+// refusal. Refusal 14.
 #[no_mangle]
 pub extern "C" fn winnathey_refusal_sentence(refusal: u32, out: &mut [u8]) -> i64
     ensures { λ r. ⌜ (r, now (out .exit)) ≡ numbered (refusalSentence refusal (now (out .entry))) ⌝ }

@@ -46,7 +46,8 @@ pub(crate) fn number(answer: Answer) -> i64
     }
 }
 
-// Writes the three counts of a length to the front of `counts` and answers their total, which is at most the length of the longest book.
+// Writes the three counts of a length to the front of `counts` and answers their total, which is at most the length
+// of the longest book.
 pub(crate) fn write_crossings(counted: Counted, counts: &mut [u64]) -> i64
     requires { ⌜ ((a b c : ℕ) → counted ≡ Crossings a b c → a + b + c ≤ 65535) ⌝ }
     ensures { λ r. ⌜ (r, now (counts .exit)) ≡ listed (crossingNumbers counted) (now (counts .entry)) ⌝ }

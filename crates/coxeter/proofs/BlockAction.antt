@@ -1,5 +1,6 @@
--- What a block does to a window: it moves the entry i to its place and, past the turn, changes its sign. By runs: going up moves an entry to the
--- right, going down to the left, and at the turn B negates it and D negates it and its neighbour.
+-- What a block does to a window: it moves the entry i to its place and, past the turn, changes its sign. By runs:
+-- going up moves an entry to the right, going down to the left, and at the turn B negates it and D negates it and
+-- its neighbour.
 -- Assumes nothing.
 use mathlib.Core.Path.{_≡_, refl, sym, ap, _∙_}
 use mathlib.Core.Bool.{false, true≢false}

@@ -1,5 +1,5 @@
--- What an exchange and a change of signs do to the sum over the pairs (PairWeights): of all pairs only the one that is exchanged weighs differently
--- afterwards, by one. By cases on the two signs, and by recursion on the position.
+-- What an exchange and a change of signs do to the sum over the pairs (PairWeights): of all pairs only the one that
+-- is exchanged weighs differently afterwards, by one. By cases on the two signs, and by recursion on the position.
 --
 -- Sections: one pair; all pairs; two neighbouring entries; the weights of the pair.
 -- Not here: the steps of the kinds, and the length (Descents).

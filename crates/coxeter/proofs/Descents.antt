@@ -1,5 +1,5 @@
--- What one step does to the length of an accepted window: it changes it by one, and lowers it exactly where the entries that the step acts on are
--- crossed. By the weights of the pair that the step turns round (Crossings).
+-- What one step does to the length of an accepted window: it changes it by one, and lowers it exactly where the
+-- entries that the step acts on are crossed. By the weights of the pair that the step turns round (Crossings).
 --
 -- Sections: the definition; the sorts of steps; one step; the length.
 -- Assumes nothing.
@@ -27,8 +27,8 @@ use Rattle.coxeter.proofs.Crossings.{exchangeNegate-weighs, signWeight-
 
 -- ---- the definition
 
--- the entries that step s acts on are crossed: entry s stands later than entry s + 1; in B for s = n, entry n is negative; in D for s = n,
--- entry n − 1 stands later than minus entry n
+-- the entries that step s acts on are crossed: entry s stands later than entry s + 1; in B for s = n, entry n is
+-- negative; in D for s = n, entry n − 1 stands later than minus entry n
 unfoldable pub crossed : Kind → ℕ → ℕ → List ℤ → Bool
 crossed A n s w = later (at w (pos s)) (at w (pos (suc s)))
 crossed B n s w = pick (eqb s n) (negative (at w (pos n))) (later (at w (pos s)) (at w (pos (suc s))))

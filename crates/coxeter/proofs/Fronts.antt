@@ -1,5 +1,5 @@
--- What a call that writes leaves at the front of an output with room for every answer: it is not refused, and the answer stands there whole. For the
--- crates above, which call the window layer with work arrays of their own.
+-- What a call that writes leaves at the front of an output with room for every answer: it is not refused, and the
+-- answer stands there whole. For the crates above, which call the window layer with work arrays of their own.
 --
 -- Sections: lengths; any call; the normal form and the window of a word.
 -- Assumes nothing.

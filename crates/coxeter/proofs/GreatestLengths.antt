@@ -1,5 +1,5 @@
--- The greatest lengths of the kinds, n (n + 1) / 2 for A, n n for B and n (n − 1) for D: no window is longer, by the bounds of the weights, and the
--- blocks of the greatest indices are as long, level by level.
+-- The greatest lengths of the kinds, n (n + 1) / 2 for A, n n for B and n (n − 1) for D: no window is longer, by
+-- the bounds of the weights, and the blocks of the greatest indices are as long, level by level.
 -- Assumes nothing.
 use mathlib.Core.Path.{_≡_, refl, sym, ap, _∙_}
 use mathlib.Core.Bool.{Bool, true, false}

@@ -1,6 +1,7 @@
--- From call to call: what one call wrote, lent to the next as its word or window. Most laws are equations between outcomes, so that the answer, every
--- byte of the output and refusal 14 are the same; the output of the next call is any. A hypothesis `Yields (call ..) (Length l) after` says that the
--- call was accepted, and `take l after` is what it wrote (Written).
+-- From call to call: what one call wrote, lent to the next as its word or window. Most laws are equations between
+-- outcomes, so that the answer, every byte of the output and refusal 14 are the same; the output of the next call
+-- is any. A hypothesis `Yields (call ..) (Length l) after` says that the call was accepted, and `take l after` is
+-- what it wrote (Written).
 --
 -- Sections: outcomes; from a word's window; from a normal form; products; inverses.
 -- Assumes nothing.
@@ -279,7 +280,8 @@ module _ (k n : ℕ) (u : List ℕ) (before after : List ℤ) (l : ℕ) (left : 
         (form-of-window k n (a .0) (window (kindOf k) n (reverse u)) out (window-passes (kindOf k) n (reverse u))
         ∙ sym (inverse-of-word k n (a .0) u out (a .1)))
 
--- inverse_of_window twice is the window; the product with what it wrote is straight, both ways round; unless the output is too short for it
+-- inverse_of_window twice is the window; the product with what it wrote is straight, both ways round; unless the
+-- output is too short for it
 module _ (k n : ℕ) (w before after : List ℤ) (l : ℕ) (left : Yields (inverseOfWindow k n w before) (Length l) after) where
   pub inverseOfWindow-then-inverse : (out : List ℤ) → inverseOfWindow k n (take l after) out ≡ writes 0 w out
   inverseOfWindow-then-inverse out =

@@ -1,5 +1,5 @@
--- A window is the same thing as its list of indices, one j for each level: the blocks of its indices show the window, and the window of blocks has
--- their indices. By induction on the levels, one block each.
+-- A window is the same thing as its list of indices, one j for each level: the blocks of its indices show the
+-- window, and the window of blocks has their indices. By induction on the levels, one block each.
 -- Assumes nothing.
 use mathlib.Core.Path.{_≡_, refl, sym, ap, ap₂, _∙_, subst}
 use mathlib.Core.Bool.{false}

@@ -1,5 +1,6 @@
--- The inverse of an accepted window: it cancels on both sides, is accepted, is the only one that cancels, and is the window of the reversed word.
--- By the laws on the places of entries (Places) and the associativity of the product (Products).
+-- The inverse of an accepted window: it cancels on both sides, is accepted, is the only one that cancels, and is
+-- the window of the reversed word. By the laws on the places of entries (Places) and the associativity of the
+-- product (Products).
 --
 -- Sections: elements; cancelling; acceptance; uniqueness; reversed words.
 -- Assumes nothing.

@@ -1,5 +1,5 @@
--- The length of a window is the length of its normal form, one level at a time: taking out the entry of the least size lowers the sum of the
--- weights by the length of its block.
+-- The length of a window is the length of its normal form, one level at a time: taking out the entry of the least
+-- size lowers the sum of the weights by the length of its block.
 -- Sections: blocks; taking out an entry; one level; all levels.
 -- Assumes nothing.
 use mathlib.Core.Path.{_≡_, refl, sym, ap, _∙_}

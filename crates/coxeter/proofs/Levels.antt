@@ -1,5 +1,6 @@
--- Windows by the sizes of their entries: what checks 9 to 11 say as facts, and the pigeonhole principle.
--- A level i is a list whose entries have the sizes i, i + 1, .., each once; an accepted window is a level 1 with its kind's signs.
+-- Windows by the sizes of their entries: what checks 9 to 11 say as facts, and the pigeonhole principle. A level i
+-- is a list whose entries have the sizes i, i + 1, .., each once; an accepted window is a level 1 with its kind's
+-- signs.
 -- Assumes nothing.
 use mathlib.Core.Path.{_≡_, refl, sym, ap, _∙_}
 use mathlib.Core.Bool.{Bool, true, false}

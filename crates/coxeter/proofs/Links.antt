@@ -1,4 +1,5 @@
--- The calculus of links over any relation between words, by recursion on the chain; a link keeps whatever each use keeps.
+-- The calculus of links over any relation between words, by recursion on the chain; a link keeps whatever each use
+-- keeps.
 --
 -- Sections: one use; chains of uses.
 -- Not here: what the Coxeter relations keep (Relations).

@@ -1,4 +1,5 @@
--- Lists that code writes: parts, elements stored one by one, runs of stores. Laws that the kit's `lib.Seq` does not have, over no definition of this crate.
+-- Lists that code writes: parts, elements stored one by one, runs of stores. Laws that the kit's `lib.Seq` does not
+-- have, over no definition of this crate.
 -- Assumes nothing.
 use mathlib.Core.Path.{_≡_, refl, sym, ap, _∙_}
 use mathlib.Core.List.{List, [], _∷_, _++_, append-assoc, append-nil}

@@ -1,5 +1,6 @@
--- The negative sum pairs of a window by its negative entries alone. Of two entries the one of the smaller size decides: the pair is a negative sum
--- pair exactly when that one is negative. So a negative entry e has as many of these pairs as there are larger sizes, lanes − |e|.
+-- The negative sum pairs of a window by its negative entries alone. Of two entries the one of the smaller size
+-- decides: the pair is a negative sum pair exactly when that one is negative. So a negative entry e has as many of
+-- these pairs as there are larger sizes, lanes − |e|.
 -- Assumes nothing.
 use mathlib.Core.Path.{_≡_, refl, sym, ap, _∙_}
 use mathlib.Core.Bool.{Bool, true, false, not}

@@ -1,5 +1,5 @@
--- Normal forms: the normal form of a window shows it, its letters are steps, it is the word of blocks that the window's indices give, and a word of
--- blocks is the normal form of its window. By the laws of indices.
+-- Normal forms: the normal form of a window shows it, its letters are steps, it is the word of blocks that the
+-- window's indices give, and a word of blocks is the normal form of its window. By the laws of indices.
 -- Not here: the length of a normal form (Lengths).
 -- Assumes nothing.
 use mathlib.Core.Path.{_≡_, refl, sym, ap, _∙_}

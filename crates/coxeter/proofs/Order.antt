@@ -1,5 +1,5 @@
--- The dictionary's order and the order by length and dictionary are strict and total, and the test of two windows is their equality; by recursion
--- on the words.
+-- The dictionary's order and the order by length and dictionary are strict and total, and the test of two windows
+-- is their equality; by recursion on the words.
 -- Assumes nothing.
 use mathlib.Core.Path.{_≡_, refl, sym, ap, _∙_}
 use mathlib.Core.Logic.{_⊎_, inl, inr}

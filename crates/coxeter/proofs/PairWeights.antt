@@ -1,5 +1,6 @@
--- The length of a window as one sum over its pairs, the way that code counts it: an entry x before an entry y weighs 1 if it is the larger
--- in size, and else 2 if it is negative. By cases on the two signs. And bounds of these sums.
+-- The length of a window as one sum over its pairs, the way that code counts it: an entry x before an entry y
+-- weighs 1 if it is the larger in size, and else 2 if it is negative. By cases on the two signs. And bounds of
+-- these sums.
 -- Assumes nothing.
 use mathlib.Core.Path.{_≡_, refl, _∙_}
 use mathlib.Core.Bool.{Bool, true, false}

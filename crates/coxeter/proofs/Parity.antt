@@ -1,5 +1,6 @@
--- A yes-no that is flipped at each negative entry of a window is, after each part of the window from the left, yes exactly when an odd number of the
--- part's entries are negative. By induction on the part; `odd` of specs/ and 'there is m with 2 m + 1 of them' agree by induction on the number.
+-- A yes-no that is flipped at each negative entry of a window is, after each part of the window from the left, yes
+-- exactly when an odd number of the part's entries are negative. By induction on the part; `odd` of specs/ and
+-- 'there is m with 2 m + 1 of them' agree by induction on the number.
 -- Assumes nothing.
 use mathlib.Core.Path.{_≡_, refl, sym, _∙_}
 use mathlib.Core.Bool.{Bool, true, false, not, Bool·not-not, false≢true}

@@ -1,5 +1,5 @@
--- One level of a window: the entry of size i taken out, what `placeFrom`, `without` and `restOf` then are, and that what is left stands at the next
--- level. By induction on the entries before the one of size i.
+-- One level of a window: the entry of size i taken out, what `placeFrom`, `without` and `restOf` then are, and that
+-- what is left stands at the next level. By induction on the entries before the one of size i.
 -- Assumes nothing.
 use mathlib.Core.Path.{_≡_, refl, sym, ap, _∙_}
 use mathlib.Core.Bool.{Bool, true, false, not, Bool·not-not}

@@ -1,6 +1,6 @@
--- The places of a window's entries: an entry of size i stands at the place of i, the place of an entry's size is that entry's position, and the
--- places have the positions for sizes and as many negatives as the entries. By induction on the list; where `at` looks at the whole window, the
--- entries in front are a parameter.
+-- The places of a window's entries: an entry of size i stands at the place of i, the place of an entry's size is
+-- that entry's position, and the places have the positions for sizes and as many negatives as the entries. By
+-- induction on the list; where `at` looks at the whole window, the entries in front are a parameter.
 --
 -- Sections: entries; places; lists made over a run; signs.
 -- Assumes nothing.

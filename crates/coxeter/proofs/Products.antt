@@ -1,5 +1,5 @@
--- Products of windows: the product composes, the straight window is its unit, and the window of a joined word is the product of the parts'
--- windows, by the law that a step commutes with every map that respects signs.
+-- Products of windows: the product composes, the straight window is its unit, and the window of a joined word is
+-- the product of the parts' windows, by the law that a step commutes with every map that respects signs.
 --
 -- Sections: elements of lists; composing; units; steps and words.
 -- Not here: inverses (Inverses).

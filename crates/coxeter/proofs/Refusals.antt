@@ -1,4 +1,5 @@
--- The first refusal of two, case by case; the greatest number that each group of checks gives; when a check among others gives its number.
+-- The first refusal of two, case by case; the greatest number that each group of checks gives; when a check among
+-- others gives its number.
 -- Assumes nothing.
 use mathlib.Core.Path.{_≡_, refl, sym, _∙_}
 use mathlib.Core.Bool.{Bool, true, false, true≢false}
@@ -87,7 +88,8 @@ pub check-number : (c : ℕ) (t : Bool) → (check (suc c) t ≡ suc c) ↔ (t �
 check-number c true = (λ e. refl, λ e. refl)
 check-number c false = (λ e. absurd (omega arith), λ e. absurd (true≢false (sym e)))
 
--- where neither the checks p before it nor the checks q after it have its number, it comes exactly when those before it pass and its test holds
+-- where neither the checks p before it nor the checks q after it have its number, it comes exactly when those
+-- before it pass and its test holds
 pub check-exactly : (p c : ℕ) (t : Bool) (q : ℕ) → (p ≡ suc c → ⊥) → (q ≡ suc c → ⊥)
     → ((p then check (suc c) t then q) ≡ suc c) ↔ ((p ≡ 0) × (t ≡ true))
 check-exactly p c t q f g = (

@@ -1,5 +1,5 @@
--- Linked words have one window, one length where no step is cancelled, and letters from 1 to n together; each shown for a relation, then for a use,
--- then for a link.
+-- Linked words have one window, one length where no step is cancelled, and letters from 1 to n together; each shown
+-- for a relation, then for a use, then for a link.
 --
 -- Sections: pairs of steps; a relation's sides; windows; lengths; letters.
 -- Not here: links over any relation (Links), what a step is as a map of lists (Steps).

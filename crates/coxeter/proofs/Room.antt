@@ -1,6 +1,6 @@
--- The length calls beside the calls that write a normal form: both are refused alike but for the room of the output, the length that the one answers
--- is the number of letters that the other writes, and the three counts add up to it. For every input and every output. By the ways in which a call
--- that writes can end (Writes).
+-- The length calls beside the calls that write a normal form: both are refused alike but for the room of the
+-- output, the length that the one answers is the number of letters that the other writes, and the three counts add
+-- up to it. For every input and every output. By the ways in which a call that writes can end (Writes).
 --
 -- Sections: a length and what is written; from a word; from a window.
 -- Assumes nothing.

@@ -1,5 +1,5 @@
--- Runs of letters, half open: `span i c` is i, .., c − 1 and `slide c i` is c − 1, .., i; and the blocks of the three kinds in these terms.
--- All list reasoning about blocks goes through the laws of this file.
+-- Runs of letters, half open: `span i c` is i, .., c − 1 and `slide c i` is c − 1, .., i; and the blocks of the
+-- three kinds in these terms. All list reasoning about blocks goes through the laws of this file.
 -- Assumes nothing.
 use mathlib.Core.Path.{_≡_, refl, sym, ap, ap₂, _∙_}
 use mathlib.Core.List.{List, [], _∷_, _++_, append-assoc}

@@ -1,5 +1,5 @@
--- Sizes and signs of entries one by one: what the checks, the steps and a removal say of them, by cases on the first entries.
--- Not here: ranges of sizes, repeated sizes and levels (Levels).
+-- Sizes and signs of entries one by one: what the checks, the steps and a removal say of them, by cases on the
+-- first entries. Not here: ranges of sizes, repeated sizes and levels (Levels).
 -- Assumes nothing.
 use mathlib.Core.Path.{_≡_, refl, sym, ap}
 use mathlib.Core.Bool.{Bool, true, false, not, _||_, true≢false, Bool·not-not}

@@ -1,4 +1,5 @@
--- What the steps are as maps of lists, and what they do to each other, by recursion on the position and by looking at the first three entries.
+-- What the steps are as maps of lists, and what they do to each other, by recursion on the position and by looking
+-- at the first three entries.
 --
 -- Sections: from a position on; the first entries; at any position; the steps.
 -- Not here: the relations between the steps of a kind (Relations).

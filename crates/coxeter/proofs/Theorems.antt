@@ -1,7 +1,9 @@
--- What the statements cite of windows and normal forms, over the definitions of specs/ alone. Each is a corollary of a law of the files before;
--- `WindowOf k n w` says that w passes checks 9 to 11. The ranks need no upper end, and words may have any length.
+-- What the statements cite of windows and normal forms, over the definitions of specs/ alone. Each is a corollary
+-- of a law of the files before; `WindowOf k n w` says that w passes checks 9 to 11. The ranks need no upper end,
+-- and words may have any length.
 --
--- Sections: windows; inverses; normal forms; lengths; blocks; products; longest and equal normal forms; the better word; the verdict.
+-- Sections: windows; inverses; normal forms; lengths; blocks; products; longest and equal normal forms; the better
+-- word; the verdict.
 -- Assumes nothing.
 use mathlib.Core.Path.{_≡_, refl, sym, ap, _∙_}
 use mathlib.Core.Bool.{Bool, true, false, false≢true, true≢false, and-eq-true-iff}

@@ -194,7 +194,8 @@ unfolding verdicts
     sameEntry sameWindow samePresets verdictOf presetsEqual
 equality-verdicts = refl
 
--- two presets that look alike, of kinds B and D at rank 4, both normal forms and different words: what both show is −1 −2 3 4
+-- two presets that look alike, of kinds B and D at rank 4, both normal forms and different words: what both show is
+-- −1 −2 3 4
 pub alike-B-and-D : let u : List ℕ = 2 ∷ 3 ∷ 4 ∷ 3 ∷ 2 ∷ 1 ∷ 2 ∷ 3 ∷ 4 ∷ 3 ∷ 2 ∷ 1 ∷ [] in
     let v : List ℕ = 2 ∷ 4 ∷ 3 ∷ 2 ∷ 1 ∷ 2 ∷ 4 ∷ 3 ∷ 2 ∷ 1 ∷ [] in
     (presetsEqual 2 4 u 3 4 v ≡ verdict.Yes)

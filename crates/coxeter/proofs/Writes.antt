@@ -1,5 +1,6 @@
--- How a call ends that writes, and what its answer says. Where a length is answered no check refused, and the bytes answered stand at the front of the
--- output; where not, the output is as it was lent. By the refusal before check 14 and the room of the output.
+-- How a call ends that writes, and what its answer says. Where a length is answered no check refused, and the bytes
+-- answered stand at the front of the output; where not, the output is as it was lent. By the refusal before check
+-- 14 and the room of the output.
 --
 -- Sections: how a call ends; from the answer; from the refusal.
 -- Assumes nothing.
@@ -19,7 +20,8 @@ use Rattle.coxeter.proofs.Outcomes.{writes-refused, writes-short, write
 
 -- ---- how a call ends
 
--- a call that is to write w, with q the refusal of the checks before 14: one of these refuses, or the output is too short, or w is written
+-- a call that is to write w, with q the refusal of the checks before 14: one of these refuses, or the output is too
+-- short, or w is written
 pub data Ended {X : Type 0} (q : ℕ) (w before : List X) : Type 0 where
   refused : (q ≡ 0 → ⊥) → Yields (writes q w before) (Refused q) before → Ended q w before
   short : q ≡ 0 → length before < length w → Yields (writes q w before) (Refused 14) before → Ended q w before

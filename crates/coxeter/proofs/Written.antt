@@ -1,6 +1,7 @@
--- What each call that writes has left, told from its answer and its output alone: `take l after` are the bytes that a call wrote which answered
--- `Length l` and left `after` of the output `before`. Such an answer says that no check refused, so the laws ask for nothing else. By one law about
--- `writes` (Writes). That what the normal form calls write is the least word with its window is in the crate rules (Written).
+-- What each call that writes has left, told from its answer and its output alone: `take l after` are the bytes that
+-- a call wrote which answered `Length l` and left `after` of the output `before`. Such an answer says that no check
+-- refused, so the laws ask for nothing else. By one law about `writes` (Writes). That what the normal form calls
+-- write is the least word with its window is in the crate rules (Written).
 --
 -- Sections: any call that writes; windows; words.
 -- Not here: the lengths (Room), and what a call left as the next call's input (HandedOn).

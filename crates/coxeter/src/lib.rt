@@ -1,4 +1,5 @@
-// Words and windows of the Coxeter groups of kinds A, B and D: definitions in specs/, laws in proofs/, and the answers of the calls on them. No function.
+// Words and windows of the Coxeter groups of kinds A, B and D: definitions in specs/, laws in proofs/, and the
+// answers of the calls on them. No function.
 
 // I1: the answer of a call that writes, or that measures a length: the length, or the refusal.
 pub enum Answer {

@@ -1,5 +1,6 @@
-// How many windows have each length: the product of one factor a level, multiplied out in place. A factor is one running sum, in kind D with a shifted
-// sum after it. No sum is greater than the number of all windows, so all fit 64 bits.
+// How many windows have each length: the product of one factor a level, multiplied out in place. A factor is one
+// running sum, in kind D with a shifted sum after it. No sum is greater than the number of all windows, so all fit
+// 64 bits.
 use crate::lengths::fewest_of;
 use crate::lengths::greatest_length;
 use crate::lengths::lanes;

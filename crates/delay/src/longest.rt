@@ -14,8 +14,8 @@ ghost use Rattle.coxeter.specs.Calls.{written};
 ghost use Rattle.coxeter.proofs.Acceptance.{Ranked};
 ghost use Rattle.distribution.specs.Longest.{longest};
 
-// The entry at position i, from 0, of the longest window, which has m entries: m, m - 1, .., 1 in kind A, and else -1, -2, .., -m, but in kind D the
-// last one is positive where the rank is odd.
+// The entry at position i, from 0, of the longest window, which has m entries: m, m - 1, .., 1 in kind A, and else
+// -1, -2, .., -m, but in kind D the last one is positive where the rank is odd.
 fn longest_entry(kind: u8, n: usize, m: usize, i: usize) -> i8
     requires { ⌜ (m ≡ kinds.lanes (kindOf kind) n) × (i < m) × (m ≤ 127) ⌝ }
     ensures { λ r. ⌜ r ≡ getD (longest (kindOf kind) n) i (pos 0) ⌝ }

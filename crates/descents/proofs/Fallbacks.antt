@@ -1,4 +1,5 @@
--- The fallback call from its parts: the walk gets the normal form of the present word and the window of the simpler one.
+-- The fallback call from its parts: the walk gets the normal form of the present word and the window of the simpler
+-- one.
 -- Assumes nothing.
 use mathlib.Core.Path.{_≡_, sym}
 use mathlib.Core.List.{List}

@@ -1,5 +1,6 @@
-// From one window to another over allowed steps, with no search: the normal form of the window between the two has an allowed letter at every place
-// exactly when some word over the allowed steps leads there, and is then the least of those words.
+// From one window to another over allowed steps, with no search: the normal form of the window between the two has
+// an allowed letter at every place exactly when some word over the allowed steps leads there, and is then the least
+// of those words.
 use crate::allowed::is_allowed;
 use crate::allowed::set_refusal;
 use crate::work::few_letters;

@@ -1,4 +1,5 @@
-// Steps that make a window shorter (descents), taken in place: one comparison of two entries, and where they are crossed one or two stores.
+// Steps that make a window shorter (descents), taken in place: one comparison of two entries, and where they are
+// crossed one or two stores.
 use refusals::is_negative;
 ghost use mathlib.Core.Path.{_≡_};
 ghost use Prim.Native.Nat.{_+_, _<_, _≤_};
@@ -11,7 +12,8 @@ ghost use Rattle.coxeter.specs.Checks.{WindowOf};
 ghost use Rattle.coxeter.proofs.Acceptance.{Ranked};
 ghost use Rattle.exchange.specs.Descents.{isDescent};
 
-// Whether x stands later than y in the order 1, 2, .., m, -m, .., -2, -1: of one sign, where y is below x, and else where y is not below x.
+// Whether x stands later than y in the order 1, 2, .., m, -m, .., -2, -1: of one sign, where y is below x, and else
+// where y is not below x.
 fn is_later(x: i8, y: i8) -> bool
     ensures { λ r. ⌜ r ≡ later x y ⌝ }
 {
@@ -67,8 +69,8 @@ fn uncross_signs(w: &mut [i8], p: usize) -> bool
     false
 }
 
-// Step s, taken where it makes the window shorter. Answers whether it does. Below the number of entries a step exchanges, in every kind; any other
-// is step n of B or D.
+// Step s, taken where it makes the window shorter. Answers whether it does. Below the number of entries a step
+// exchanges, in every kind; any other is step n of B or D.
 pub(crate) fn take_descent(kind: u8, n: usize, s: usize, w: &mut [i8]) -> bool
     requires { ⌜ (1 ≤ s) × (s ≤ n) ⌝ }
     requires { ⌜ Ranked (kindOf kind) n ⌝ }

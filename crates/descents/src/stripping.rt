@@ -1,5 +1,6 @@
-// Allowed steps that make a window shorter, taken until none does. A step changes nothing for the steps below its neighbours, so the search goes back
-// to the lowest neighbour of a step taken: at most two comparisons for each of them, and three in kind D for step n, beside one for each step.
+// Allowed steps that make a window shorter, taken until none does. A step changes nothing for the steps below its
+// neighbours, so the search goes back to the lowest neighbour of a step taken: at most two comparisons for each of
+// them, and three in kind D for step n, beside one for each step.
 use crate::allowed::is_allowed;
 use crate::steps::take_descent;
 ghost use mathlib.Core.Path.{_≡_};

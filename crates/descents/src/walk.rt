@@ -1,5 +1,5 @@
-// The walk through a word from its last letter to the first. A letter that makes the target shorter is kept, and the target steps back; the word has
-// a part-list with the target's window exactly when the target ends straight.
+// The walk through a word from its last letter to the first. A letter that makes the target shorter is kept, and
+// the target steps back; the word has a part-list with the target's window exactly when the target ends straight.
 use crate::steps::take_descent;
 use exchange::Fallback;
 ghost use mathlib.Core.Path.{_≡_};
@@ -67,7 +67,8 @@ fn write_places(word: &[u8], places: &mut [u16])
     }
 }
 
-// The verdict on an accepted word and an accepted target, both used up, and the places. A yes with too few of them is refused.
+// The verdict on an accepted word and an accepted target, both used up, and the places. A yes with too few of them
+// is refused.
 pub(crate) fn settle(
     kind: u8,
     rank: u8,

@@ -1,4 +1,5 @@
-// Work arrays, with what the window layer writes to them: each has room for every answer, so that no call below is refused.
+// Work arrays, with what the window layer writes to them: each has room for every answer, so that no call below is
+// refused.
 use window::Answer;
 use window::inverse_of_window;
 use window::length_of_window;

@@ -1,5 +1,6 @@
--- The list of windows holds each window that passes checks 9 to 11, none twice and nothing else: an accepted window is a list of entries with sizes
--- from 1 to the lane count, so that it is among all the lists from which the accepted ones are kept.
+-- The list of windows holds each window that passes checks 9 to 11, none twice and nothing else: an accepted window
+-- is a list of entries with sizes from 1 to the lane count, so that it is among all the lists from which the
+-- accepted ones are kept.
 -- Assumes nothing.
 use mathlib.Core.Path.{_≡_, refl, subst}
 use mathlib.Core.Logic.{_↔_}

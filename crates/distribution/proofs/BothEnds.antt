@@ -1,5 +1,5 @@
--- The table is the same from both ends: a list of indices has an opposite one, whose blocks make up what its own lack to the greatest length.
--- (In the field's words, the Poincaré polynomial is palindromic.)
+-- The table is the same from both ends: a list of indices has an opposite one, whose blocks make up what its own
+-- lack to the greatest length. (In the field's words, the Poincaré polynomial is palindromic.)
 -- Sections: opposite indices; opposite lengths; the table.
 -- Assumes nothing.
 use mathlib.Core.Path.{_≡_, refl, sym, ap, ap₂, _∙_}

@@ -1,6 +1,7 @@
--- The numbers of lists of indices, level by level: with a level more they are those before it, shifted by each length of a block of the level and
--- added. The blocks of a level have the lengths 0, .., c in A, 0, .., 2 c + 1 in B, and 0, .., c and c, .., 2 c in D, where c entries have a greater
--- size; so each level is one running sum, and in D one shifted sum more. (In the field's words, the Poincaré polynomial is a product of factors.)
+-- The numbers of lists of indices, level by level: with a level more they are those before it, shifted by each
+-- length of a block of the level and added. The blocks of a level have the lengths 0, .., c in A, 0, .., 2 c + 1 in
+-- B, and 0, .., c and c, .., 2 c in D, where c entries have a greater size; so each level is one running sum, and
+-- in D one shifted sum more. (In the field's words, the Poincaré polynomial is a product of factors.)
 -- Sections: shifted and running sums; each before each; the lengths of a level's blocks; one level more.
 -- Assumes nothing.
 use mathlib.Core.Path.{_≡_, refl, sym, ap, ap₂, _∙_}

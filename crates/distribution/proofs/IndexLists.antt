@@ -1,5 +1,5 @@
--- The windows of a kind and a rank are the lists of indices, one j for each level, and the length of a window is the sum of its blocks' lengths. So
--- the windows of a length are as many as the lists of indices with that sum.
+-- The windows of a kind and a rank are the lists of indices, one j for each level, and the length of a window is
+-- the sum of its blocks' lengths. So the windows of a length are as many as the lists of indices with that sum.
 -- Sections: all lists of indices; as many.
 -- Assumes nothing.
 use mathlib.Core.Path.{_≡_, refl, sym, ap, _∙_, subst}

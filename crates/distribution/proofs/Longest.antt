@@ -1,5 +1,5 @@
--- The longest window: a window has the greatest length only if the index of each level is the last one, so there is at most one; and the window that
--- is defined as the longest has that length, by the weights of its pairs.
+-- The longest window: a window has the greatest length only if the index of each level is the last one, so there is
+-- at most one; and the window that is defined as the longest has that length, by the weights of its pairs.
 -- Sections: at most one; entries that fall; negative entries; the longest window.
 -- Assumes nothing.
 use mathlib.Core.Path.{_≡_, refl, sym, ap, ap₂, _∙_}

@@ -1,5 +1,5 @@
--- Lists in which none stands twice: what is in a list that was kept, mapped or made of parts, and that such a list is no longer than one that holds
--- all of its elements.
+-- Lists in which none stands twice: what is in a list that was kept, mapped or made of parts, and that such a list
+-- is no longer than one that holds all of its elements.
 -- Sections: lengths; kept; mapped; joined; each before each; runs of numbers.
 -- Assumes nothing.
 use mathlib.Core.Path.{_≡_, refl, sym, ap, _∙_}

@@ -1,5 +1,6 @@
--- The entries of a table sum to (n + 1)! for A, 2 to the n times n! for B and half of that for D, since every window has a length up to the greatest
--- and each level of indices multiplies their number by that of its blocks. So at the ranks that have a table each entry fits 64 bits.
+-- The entries of a table sum to (n + 1)! for A, 2 to the n times n! for B and half of that for D, since every
+-- window has a length up to the greatest and each level of indices multiplies their number by that of its blocks.
+-- So at the ranks that have a table each entry fits 64 bits.
 -- Sections: how many lists of indices; the sum of the entries; 64 bits.
 -- Assumes nothing.
 use mathlib.Core.Path.{_≡_, refl, sym, ap, ap₂, _∙_}

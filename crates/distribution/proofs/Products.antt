@@ -1,5 +1,6 @@
--- The numbers of windows by their lengths are the product of one factor a level, the same for every rank with as many levels. Where such a product
--- ends, and that its entries and their sums fit 64 bits at the ranks that have a table.
+-- The numbers of windows by their lengths are the product of one factor a level, the same for every rank with as
+-- many levels. Where such a product ends, and that its entries and their sums fit 64 bits at the ranks that have a
+-- table.
 -- Sections: the product; where it ends; 64 bits.
 -- Assumes nothing.
 use mathlib.Core.Path.{_≡_, refl, sym, ap₂, _∙_}

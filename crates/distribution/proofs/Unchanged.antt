@@ -1,4 +1,5 @@
--- A refused delay table changes no entry of its three outputs, and an accepted one changes each only as far as the length that it answers.
+-- A refused delay table changes no entry of its three outputs, and an accepted one changes each only as far as the
+-- length that it answers.
 -- Assumes nothing.
 use mathlib.Core.Path.{_≡_}
 use mathlib.Core.List.{List, _++_}

@@ -1,5 +1,6 @@
--- Every entry of the table is a fact: a test of one entry, sound for every entry, computes to true over the whole table. The two entries that speak
--- of every rank pass the test unseen; `sound` proves them from the laws of the window and the rewriter layer.
+-- Every entry of the table is a fact: a test of one entry, sound for every entry, computes to true over the whole
+-- table. The two entries that speak of every rank pass the test unseen; `sound` proves them from the laws of the
+-- window and the rewriter layer.
 --
 -- Sections: one rewrite; every kind and rank; the test; the table.
 -- Assumes nothing.

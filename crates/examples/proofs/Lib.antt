@@ -1,4 +1,5 @@
--- The proofs of the two tables; and what the wrong routers answer, with the table of the inputs that tell them from the calls.
+-- The proofs of the two tables; and what the wrong routers answer, with the table of the inputs that tell them from
+-- the calls.
 pub mod Examples
 pub mod WrongWindows
 pub mod WrongRewrites

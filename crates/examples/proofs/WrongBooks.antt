@@ -1,5 +1,5 @@
--- Wrong answers of the calls on books, of converting them, of the lines of a listing and of its pieces, each of the type of its call's definition.
--- WrongAnswers.antt says where each is wrong.
+-- Wrong answers of the calls on books, of converting them, of the lines of a listing and of its pieces, each of the
+-- type of its call's definition. WrongAnswers.antt says where each is wrong.
 -- Assumes nothing.
 use mathlib.Core.Bool.{Bool, false, not, _&&_, _||_}
 use mathlib.Core.List.{List, [], _∷_, _++_, map}

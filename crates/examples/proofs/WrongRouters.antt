@@ -1,6 +1,7 @@
--- No row of the table of wrong routers gets through: a test of a row, sound for every row, computes to true over the whole table. The test compares
--- the numbers of what the call and the wrong router tell. Then the wrong answers that no row can show: at books too large to compute with, by the laws
--- of books; and parts handed back and places kept, which are not values of a definition.
+-- No row of the table of wrong routers gets through: a test of a row, sound for every row, computes to true over
+-- the whole table. The test compares the numbers of what the call and the wrong router tell. Then the wrong answers
+-- that no row can show: at books too large to compute with, by the laws of books; and parts handed back and places
+-- kept, which are not values of a definition.
 --
 -- Sections: the test; the table; the largest book; parts handed back; places kept.
 -- Assumes nothing.
@@ -220,7 +221,8 @@ pub bookOf65536Bytes-ruled-out : (ed : Edition) (b : List ℕ) → length b ≡ 
 bookOf65536Bytes-ruled-out ed b e h =
     opened-late (wrongCount b) (misplaced ed b) (count b) (rw e at (sym h) ∙ too-large-book ed b e)
 
--- and every preset that would make an accepted book larger than 65,535 bytes tells this one, where the output is shorter than the new book
+-- and every preset that would make an accepted book larger than 65,535 bytes tells this one, where the output is
+-- shorter than the new book
 pub roomBeforeTheSizeLimit-ruled-out : (ed : Edition) (b : List ℕ) (k n : ℕ) (u out : List ℕ)
     → bookRefusal ed b ≡ 0 → bookRankRefusal ed k n ≡ 0 → WordOf n u → retired k n ≡ false
     → 65535 < length (appended ed b k n u) → length out < length (appended ed b k n u)
@@ -232,7 +234,8 @@ roomBeforeTheSizeLimit-ruled-out ed b k n u out e f g o large short h =
     let z : _≡_ {A = ℕ} 13 14 = cc (ap (λ (o : Outcome ℕ). o .answer) h) in
     omega arith
 
--- and every accepted book of the first edition that would grow beyond 65,535 bytes tells this one, where the output has room
+-- and every accepted book of the first edition that would grow beyond 65,535 bytes tells this one, where the output
+-- has room
 pub sizeLimitOfTheOldBook-ruled-out : (b out : List ℕ) → bookRefusal First b ≡ 0 → recordsConversionRefusal First b (count b) 0 ≡ 0
     → 65535 < length b + count b → length (converted First b) ≤ length out → converting First b out ≡ sizeLimitOfTheOldBook First b out → ⊥
 unfolding writes answerOf tooShort tooLarge

@@ -1,4 +1,5 @@
--- Wrong answers of the calls on shortest words, each of the type of its call's definition. WrongAnswers.antt says where each is wrong.
+-- Wrong answers of the calls on shortest words, each of the type of its call's definition. WrongAnswers.antt says
+-- where each is wrong.
 -- Assumes nothing.
 use mathlib.Core.Bool.{Bool, not, _&&_}
 use mathlib.Core.List.{List}

@@ -1,4 +1,5 @@
--- Wrong answers of the split by allowed steps, each of the type of `splitting`. WrongAnswers.antt says where each is wrong.
+-- Wrong answers of the split by allowed steps, each of the type of `splitting`. WrongAnswers.antt says where each
+-- is wrong.
 -- Assumes nothing.
 use mathlib.Core.List.{List}
 use Prim.Native.Nat.{ℕ, _+_, _-_, _*_}

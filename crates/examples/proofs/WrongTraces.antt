@@ -1,5 +1,5 @@
--- Wrong answers of the rewriting to its end, each of the type of `rewritingToEnd`, and of the number of its steps. WrongAnswers.antt says where each is
--- wrong.
+-- Wrong answers of the rewriting to its end, each of the type of `rewritingToEnd`, and of the number of its steps.
+-- WrongAnswers.antt says where each is wrong.
 -- Assumes nothing.
 use mathlib.Core.List.{List, [], _∷_}
 use mathlib.Core.Option.{none, some}

@@ -1,4 +1,5 @@
--- Wrong answers of the checks and of the calls on words and windows, each of the type of its call's definition. WrongAnswers.antt says where each is wrong.
+-- Wrong answers of the checks and of the calls on words and windows, each of the type of its call's definition.
+-- WrongAnswers.antt says where each is wrong.
 -- Assumes nothing.
 use mathlib.Core.Bool.{Bool, true, false, _&&_, _||_}
 use mathlib.Core.List.{List, [], _∷_, _++_, map}
@@ -18,7 +19,8 @@ use Rattle.coxeter.specs.Checks.{wordRefusal, windowRefusal}
 use Rattle.coxeter.specs.NormalForm.{rise, fall, block, levels, without, indexOf, restOf, normalFrom, normalForm, wordNormalForm}
 use Rattle.coxeter.specs.Calls.{Outcome, answerOf, verdictOf, written, writes, windowOfWord, equalWords, samePresets, presetsEqual, handsBack, choice}
 
--- the checks of a word and of a window, of two presets, and of two words and two windows of one kind and rank, as they should be
+-- the checks of a word and of a window, of two presets, and of two words and two windows of one kind and rank, as
+-- they should be
 abbrev pub wordChecks : ℕ → ℕ → List ℕ → ℕ
 wordChecks k n u = rankRefusal k n then wordRefusal n u
 

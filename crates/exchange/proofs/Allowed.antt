@@ -1,4 +1,5 @@
--- Words over allowed steps: joined and reversed words, part-lists, and normal forms, since rewriting brings in no new letter.
+-- Words over allowed steps: joined and reversed words, part-lists, and normal forms, since rewriting brings in no
+-- new letter.
 -- Assumes nothing.
 use mathlib.Core.Path.{_≡_, refl}
 use mathlib.Core.Bool.{Bool, true, false, and-eq-true-iff}

@@ -1,5 +1,5 @@
--- Sets of allowed steps as numbers: refusal 16 comes exactly when a bit stands for a step above the rank, 0 allows no step, and all bits of the
--- steps allow each of them.
+-- Sets of allowed steps as numbers: refusal 16 comes exactly when a bit stands for a step above the rank, 0 allows
+-- no step, and all bits of the steps allow each of them.
 --
 -- Sections: bits; refusal 16; no step and all steps.
 -- Assumes nothing.

@@ -1,5 +1,5 @@
--- The normal form of the window that leads from one window to another decides whether a word over allowed steps does, since rewriting brings in no
--- new letter, and is then the least of those words.
+-- The normal form of the window that leads from one window to another decides whether a word over allowed steps
+-- does, since rewriting brings in no new letter, and is then the least of those words.
 --
 -- Sections: the window between two windows; the word between them.
 -- Assumes nothing.

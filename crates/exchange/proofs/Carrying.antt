@@ -1,6 +1,7 @@
--- Part-lists under the relations and the rules: a relation with sides of equal length carries the part-lists of one side to part-lists of the other,
--- with as many letters left out and linked to the first ones, so with the same window. A rule carries those of its right side to its left one.
--- By looking at each part-list of two, three and four letters.
+-- Part-lists under the relations and the rules: a relation with sides of equal length carries the part-lists of one
+-- side to part-lists of the other, with as many letters left out and linked to the first ones, so with the same
+-- window. A rule carries those of its right side to its left one. By looking at each part-list of two, three and
+-- four letters.
 --
 -- Sections: what is carried; one relation; chains of uses; rules.
 -- Assumes nothing.

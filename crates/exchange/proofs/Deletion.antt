@@ -1,6 +1,6 @@
--- The deletion property: a word longer than its window's length has two letters that can both be removed. By the first letter that makes the
--- length of the window smaller, and the letter before it that can be struck out in its place. And so every word has a part-list that is a shortest
--- word with its window.
+-- The deletion property: a word longer than its window's length has two letters that can both be removed. By the
+-- first letter that makes the length of the window smaller, and the letter before it that can be struck out in its
+-- place. And so every word has a part-list that is a shortest word with its window.
 --
 -- Sections: two letters; the first letter that lowers the length; shortest part-lists.
 -- Assumes nothing.

@@ -1,4 +1,5 @@
--- Steps that make an accepted window shorter are those that act on crossed entries (`crossed`), and such a step lowers the length by one.
+-- Steps that make an accepted window shorter are those that act on crossed entries (`crossed`), and such a step
+-- lowers the length by one.
 -- Assumes nothing.
 use mathlib.Core.Path.{_≡_, refl, sym, _∙_}
 use mathlib.Core.Bool.{Bool, true, false}

@@ -1,6 +1,7 @@
--- The exchange property. If a step at an end of a word makes its window's length smaller, a letter of the word can be struck out
--- instead: the step and a shortest word of the shorter window are together a shortest word of the first window, and leaving out the step is carried
--- to the word (Shortest). Of a shortest word there is just one such letter, since two would leave a shorter word with the same window.
+-- The exchange property. If a step at an end of a word makes its window's length smaller, a letter of the word can
+-- be struck out instead: the step and a shortest word of the shorter window are together a shortest word of the
+-- first window, and leaving out the step is carried to the word (Shortest). Of a shortest word there is just one
+-- such letter, since two would leave a shorter word with the same window.
 --
 -- Sections: a step at an end; cancelling; exactly one letter.
 -- Assumes nothing.
@@ -56,7 +57,8 @@ unfolding window windowFrom
 window-twice k n s u = ap (λ (w : List ℤ). windowFrom k n w u) (act-involution k n s (straight (lanes k n)))
 
 module _ (k : Kind) (n : ℕ) (u : List ℕ) (s : ℕ) (h : least k ≤ n) (e : wrongLetter n u ≡ false) (o : 1 ≤ s) (l : s ≤ n) where
-  -- if the step at the end of a word, shortest or not, makes the window's length smaller, one letter of the word can be struck out instead
+  -- if the step at the end of a word, shortest or not, makes the window's length smaller, one letter of the word
+  -- can be struck out instead
   pub exchange : windowLength k (added k n u s) < windowLength k (window k n u) → (i : ℕ) × Removable k n u (added k n u s) i
   exchange g =
       let w : List ℤ = added k n u s in

@@ -1,5 +1,6 @@
--- A step changes nothing for the steps below its neighbours: they make the window shorter after it exactly when they did before. So a search for
--- the lowest such step need go back by one only, from step n of D by two. By the entries that the steps act on.
+-- A step changes nothing for the steps below its neighbours: they make the window shorter after it exactly when
+-- they did before. So a search for the lowest such step need go back by one only, from step n of D by two. By the
+-- entries that the steps act on.
 -- Assumes nothing.
 use mathlib.Core.Path.{_≡_, refl, sym, ap₂, _∙_}
 use mathlib.Core.Bool.{Bool}

@@ -1,5 +1,6 @@
--- The lifting property: whether a word with a step at its end has a part-list with the window w is told by the word without the step, and by w
--- stepped back where the step makes w shorter. By striking out one letter of a part-list (Exchange).
+-- The lifting property: whether a word with a step at its end has a part-list with the window w is told by the word
+-- without the step, and by w stepped back where the step makes w shorter. By striking out one letter of a part-list
+-- (Exchange).
 --
 -- Sections: the target after one letter; a letter less; a step at the end.
 -- Assumes nothing.

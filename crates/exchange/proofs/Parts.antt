@@ -1,5 +1,5 @@
--- Part-lists of a word: what is left of it, in order, when some letters are left out. Joined and split words, lengths, letters, and the part-lists
--- with one letter left out; by recursion on the part-list.
+-- Part-lists of a word: what is left of it, in order, when some letters are left out. Joined and split words,
+-- lengths, letters, and the part-lists with one letter left out; by recursion on the part-list.
 --
 -- Sections: part-lists; one letter left out.
 -- Assumes nothing.

@@ -1,5 +1,5 @@
--- Part-lists by their places: the letters at rising places inside a word are a part-list of it, and every part-list is at such places. By recursion
--- on the places and on the part-list.
+-- Part-lists by their places: the letters at rising places inside a word are a part-list of it, and every part-list
+-- is at such places. By recursion on the places and on the part-list.
 --
 -- Sections: from places to part-lists; from part-lists to places; fallbacks; the test; places one by one.
 -- Assumes nothing.

@@ -1,5 +1,6 @@
--- Shortest words: they are the words as long as their window's length, and every part-list of one is carried to every word with its window; by the
--- rewriting of both words to their normal form. And a window and its inverse have the same length.
+-- Shortest words: they are the words as long as their window's length, and every part-list of one is carried to
+-- every word with its window; by the rewriting of both words to their normal form. And a window and its inverse
+-- have the same length.
 --
 -- Sections: letters; lengths; normal forms; part-lists; inverses.
 -- Assumes nothing.

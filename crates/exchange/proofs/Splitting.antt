@@ -1,5 +1,6 @@
--- There is just one split of a window by allowed steps: of two, the second word of each has a part-list that is a shortest word of the other's second
--- window, since that cannot begin with an allowed step (Deletion). With no step allowed the first word is empty, with all the second.
+-- There is just one split of a window by allowed steps: of two, the second word of each has a part-list that is a
+-- shortest word of the other's second window, since that cannot begin with an allowed step (Deletion). With no step
+-- allowed the first word is empty, with all the second.
 --
 -- Sections: a window that no allowed step begins; two splits; no step and all steps.
 -- Assumes nothing.

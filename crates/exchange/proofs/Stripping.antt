@@ -75,7 +75,8 @@ module _ (allowed : ℕ → Bool) (k : Kind) (n : ℕ) where
 
   -- ---- steps taken
 
-  -- a word over allowed steps leads from x to y, each of its letters lowers the length, and no allowed step makes y shorter
+  -- a word over allowed steps leads from x to y, each of its letters lowers the length, and no allowed step makes y
+  -- shorter
   pub record Strips (x y : List ℤ) : Type 0 where
     pub word : List ℕ
     pub steps : wrongLetter n word ≡ false

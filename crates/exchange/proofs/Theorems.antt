@@ -1,5 +1,6 @@
--- What the statements cite of shortest words, over the definitions of specs/ alone. Each is a corollary of a law of the files before;
--- `WindowOf k n w` says that w passes checks 9 to 11. The ranks need no upper end, and words may have any length.
+-- What the statements cite of shortest words, over the definitions of specs/ alone. Each is a corollary of a law of
+-- the files before; `WindowOf k n w` says that w passes checks 9 to 11. The ranks need no upper end, and words may
+-- have any length.
 --
 -- Sections: one step; shortest words; one letter.
 -- Assumes nothing.

@@ -1,5 +1,5 @@
--- Words with their values: definitions at small ranks, computed, and words that a definition shuts out. What has another value here is another
--- definition.
+-- Words with their values: definitions at small ranks, computed, and words that a definition shuts out. What has
+-- another value here is another definition.
 --
 -- Sections: one letter; fallbacks; splits.
 -- Assumes nothing.

@@ -1,4 +1,5 @@
--- What the fallback call's definition says in each case, in the checking order: from what a walk through an accepted word leaves to the call's outcome.
+-- What the fallback call's definition says in each case, in the checking order: from what a walk through an
+-- accepted word leaves to the call's outcome.
 --
 -- Sections: a word and a target; two words; what an outcome says.
 -- Assumes nothing.

@@ -1,5 +1,5 @@
--- The walk through a word from its last letter to the first decides whether a window is a fallback, and keeps places that serve: by lifting at each
--- letter, and since each kept place lowers the length of the target by one.
+-- The walk through a word from its last letter to the first decides whether a window is a fallback, and keeps
+-- places that serve: by lifting at each letter, and since each kept place lowers the length of the target by one.
 --
 -- Sections: the walk; the target; the places; the verdict.
 -- Assumes nothing.

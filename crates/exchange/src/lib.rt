@@ -1,4 +1,5 @@
-// Shortest words and what steps do to them: definitions in specs/, laws in proofs/, and the answers of the calls on them. No function.
+// Shortest words and what steps do to them: definitions in specs/, laws in proofs/, and the answers of the calls on
+// them. No function.
 
 // I18: how many places are kept, or no, or the refusal.
 pub enum Fallback {

@@ -1,4 +1,5 @@
-// Numbers, letters and entries as text. Each function writes from the place `at` on and answers the place after what it wrote.
+// Numbers, letters and entries as text. Each function writes from the place `at` on and answers the place after
+// what it wrote.
 ghost use Prim.Native.Nat.{_+_, _≤_};
 ghost use lib.ListN.{length};
 ghost use Rattle.coxeter.proofs.Lists.{Stored};

@@ -1,4 +1,5 @@
-// The next piece of a listing. A line is made in a buffer of its own, where every line has room, and copied where it fits whole.
+// The next piece of a listing. A line is made in a buffer of its own, where every line has room, and copied where
+// it fits whole.
 use crate::lines::put_count;
 use crate::lines::put_refused_book;
 use crate::numbers::put_bytes;

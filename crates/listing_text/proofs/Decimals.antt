@@ -1,4 +1,5 @@
--- The decimal digits of a number: all but the last are those of a tenth of it, they stand for the number, and there are few.
+-- The decimal digits of a number: all but the last are those of a tenth of it, they stand for the number, and there
+-- are few.
 -- Assumes nothing.
 use mathlib.Core.Path.{_≡_, refl}
 use mathlib.Core.List.{List, [], _∷_, _++_}

@@ -65,7 +65,8 @@ unfolding listings codes
     wordLine lineBy lineOf linesFrom listingBy listing
 listings-agree = refl
 
--- what a converting program prints in place of a book: that the input was not read, or the number of a refusal. Check 2 refuses each in both editions
+-- what a converting program prints in place of a book: that the input was not read, or the number of a refusal.
+-- Check 2 refuses each in both editions
 pub noBooks : Edition → List (ℕ × ℕ)
 noBooks ed = (bookRefusal ed (codes "book not read\n"), 2) ∷ map (λ r. (bookRefusal ed (refusedBookLine r), 2)) (rise 0 255)
 

@@ -1,5 +1,5 @@
--- The pieces that successive calls write are the listing: joined, with the lines that are left behind them, whatever the buffers; and where no line is
--- left, exactly.
+-- The pieces that successive calls write are the listing: joined, with the lines that are left behind them,
+-- whatever the buffers; and where no line is left, exactly.
 --
 -- Sections: lines; the lines that fit; pieces.
 -- Assumes nothing.

@@ -1,5 +1,5 @@
--- Every line of a listing has at most 16,896 bytes, by the ranges of its fields. So a call with a buffer of that many bytes writes a line where one is
--- left, and as many such calls as there are lines write the listing.
+-- Every line of a listing has at most 16,896 bytes, by the ranges of its fields. So a call with a buffer of that
+-- many bytes writes a line where one is left, and as many such calls as there are lines write the listing.
 --
 -- Sections: letters and entries; lines of presets; every line; progress.
 -- Assumes nothing.

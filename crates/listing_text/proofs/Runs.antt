@@ -1,5 +1,6 @@
--- What the contracts of `listing_lines` name: runs of presets, five numbers for each, as the lines of a listing use them, and the number of a refused
--- preset. The laws about them lie with that code; a contract cannot name a definition of its own crate's proofs/.
+-- What the contracts of `listing_lines` name: runs of presets, five numbers for each, as the lines of a listing use
+-- them, and the number of a refused preset. The laws about them lie with that code; a contract cannot name a
+-- definition of its own crate's proofs/.
 -- Assumes nothing.
 use mathlib.Core.Path.{_≡_}
 use mathlib.Core.List.{List}

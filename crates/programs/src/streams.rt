@@ -5,8 +5,8 @@ ghost use mathlib.Core.Path.{_≡_};
 ghost use mathlib.Core.Bool.{true};
 ghost use lib.ListN.{length};
 
-// Whether the input ended after the n bytes that `io::read_full` put into a buffer, or filled the buffer. That call answers the same where a read
-// fails, so the input is read once more: at its end that gives 0.
+// Whether the input ended after the n bytes that `io::read_full` put into a buffer, or filled the buffer. That call
+// answers the same where a read fails, so the input is read once more: at its end that gives 0.
 pub(crate) fn input_ended(fd: i32, buffer: &[u8], n: usize) -> bool
     ensures { λ r. ⌜ (n ≡ length (now (buffer .entry)) → r ≡ true) ⌝ }
 {

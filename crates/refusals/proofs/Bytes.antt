@@ -1,5 +1,5 @@
--- Signed bytes as integers, from the range of a byte: a byte read back from its bits, its size and sign, which the module `entries` computes, and its
--- negation.
+-- Signed bytes as integers, from the range of a byte: a byte read back from its bits, its size and sign, which the
+-- module `entries` computes, and its negation.
 -- Assumes nothing.
 use mathlib.Core.Path.{_≡_, refl, sym, _∙_}
 use mathlib.Core.Bool.{true, false, false≢true}

@@ -1,5 +1,5 @@
--- What `rewrite_at` answers at each of its returns is what the step of the definitions answers: a refusal, none fits, or the rule that fits, which is
--- known by what the search hands on of it.
+-- What `rewrite_at` answers at each of its returns is what the step of the definitions answers: a refusal, none
+-- fits, or the rule that fits, which is known by what the search hands on of it.
 --
 -- Sections: the rule that the search hands on; refusals; an accepted word and a place in it.
 -- Assumes nothing.

@@ -1,4 +1,5 @@
--- What the two calls on the rewriting to its end answer at each of their returns is what their definitions say, in the checking order.
+-- What the two calls on the rewriting to its end answer at each of their returns is what their definitions say, in
+-- the checking order.
 -- Assumes nothing.
 use mathlib.Core.Path.{_≡_, refl}
 use mathlib.Core.List.{List}

@@ -1,5 +1,6 @@
-// A letter read behind a normal form is carried to the left by rules, in place, and each step is noted in three lists. Letters that exchange are passed
-// one by one; where none does, the rule that ends with the letter carries it past a block, or strikes it out with an equal one.
+// A letter read behind a normal form is carried to the left by rules, in place, and each step is noted in three
+// lists. Letters that exchange are passed one by one; where none does, the rule that ends with the letter carries
+// it past a block, or strikes it out with an equal one.
 use crate::ending::Ending;
 use crate::ending::ending_rule;
 use crate::search::corner_of;
@@ -118,14 +119,16 @@ fn strike(word: &mut [u8], place: usize)
     }
 }
 
-// How many steps were made, how many letters the word has then, and where the letter stands that moves: 0 if it moves no further.
+// How many steps were made, how many letters the word has then, and where the letter stands that moves: 0 if it
+// moves no further.
 struct Moved {
     steps: usize,
     size: usize,
     place: usize,
 }
 
-// The step by the rule that ends with the letter at q, if there is one. That letter does not exchange with the one before it.
+// The step by the rule that ends with the letter at q, if there is one. That letter does not exchange with the one
+// before it.
 fn turn(
     kind: u8,
     n: u8,
@@ -186,7 +189,8 @@ fn turn(
     }
 }
 
-// The last letter of `word` is carried to where no rule ends with it, or struck out; `rest` follows the word, and s steps were made before.
+// The last letter of `word` is carried to where no rule ends with it, or struck out; `rest` follows the word, and s
+// steps were made before.
 pub(crate) fn insert(
     kind: u8,
     n: u8,

@@ -1,5 +1,6 @@
-// The rule whose left side ends with the letter that moves. Its first letter is looked for from that letter back, less than 2n places; what stands from
-// there on is then a block, whose last letter and length tell which, and so the rule.
+// The rule whose left side ends with the letter that moves. Its first letter is looked for from that letter back,
+// less than 2n places; what stands from there on is then a block, whose last letter and length tell which, and so
+// the rule.
 use crate::search::corner_of;
 use crate::search::family_at;
 use crate::search::fork_of;

@@ -1,5 +1,5 @@
-// The search for the rule that fits at a place. The letters are followed along the way of the blocks [i,j] of the first letter i; the letter
-// that leaves the way decides the rule, so at most 2n letters are looked at.
+// The search for the rule that fits at a place. The letters are followed along the way of the blocks [i,j] of the
+// first letter i; the letter that leaves the way decides the rule, so at most 2n letters are looked at.
 ghost use mathlib.Core.Path.{_≡_};
 ghost use mathlib.Core.Option.{none, some};
 ghost use Prim.Native.Nat.{_*_, _<_, _≤_};

@@ -1,4 +1,5 @@
-// The rewriting to its end: the letters are read one by one behind a normal form, in a work array, and each is carried to its place.
+// The rewriting to its end: the letters are read one by one behind a normal form, in a work array, and each is
+// carried to its place.
 use crate::carrying::Count;
 use crate::carrying::insert;
 use crate::writing::copy;
@@ -31,7 +32,8 @@ fn no_families() -> [u8; 1]
     [0u8; 1]
 }
 
-// The rewriting of an accepted word, noted in three equally long lists as far as they go; the final word is left at the front of `work`.
+// The rewriting of an accepted word, noted in three equally long lists as far as they go; the final word is left at
+// the front of `work`.
 fn make(
     kind: u8,
     n: u8,

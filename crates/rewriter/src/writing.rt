@@ -16,7 +16,8 @@ pub(crate) fn copy(part: &[u8], out: &mut [u8], at: usize)
     bytes::copy(part, &mut out[at..]);
 }
 
-// The length of the word that a rule of the family leaves of one of `size` letters: without its left side of `left` letters, with its right side.
+// The length of the word that a rule of the family leaves of one of `size` letters: without its left side of `left`
+// letters, with its right side.
 pub(crate) fn new_length(family: u8, left: usize, size: usize) -> usize
     requires { ⌜ left ≤ size ⌝ }
     ensures { λ r. ⌜ r ≡ size - left + rightLength family left ⌝ }
@@ -55,7 +56,8 @@ pub(crate) fn first_letter(n: u8, family: u8, i: u8, j: u8) -> u8
     n
 }
 
-// The word with `first` put before the `left` letters at the place and the last of them left out, as families 2 to 7 leave it.
+// The word with `first` put before the `left` letters at the place and the last of them left out, as families 2 to
+// 7 leave it.
 fn write_moved(word: &[u8], place: usize, left: usize, first: u8, out: &mut [u8])
     requires { ⌜ (1 ≤ left) × (place + left ≤ length (now word)) ⌝ }
     requires { ⌜ length (now word) ≤ length (now out) ⌝ }
@@ -70,7 +72,8 @@ fn write_moved(word: &[u8], place: usize, left: usize, first: u8, out: &mut [u8]
     copy(&word[place + left..], out, place + left);
 }
 
-// The word that a rule leaves at the place: the rule with this family, i and j and the `left` letters there as its left side.
+// The word that a rule leaves at the place: the rule with this family, i and j and the `left` letters there as its
+// left side.
 pub(crate) fn write_rewritten(
     n: u8,
     family: u8,

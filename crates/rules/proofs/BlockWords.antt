@@ -1,4 +1,5 @@
--- Words of two blocks of neighbouring levels are normal forms, so that no rule fits into them; and the letters and the length of a block.
+-- Words of two blocks of neighbouring levels are normal forms, so that no rule fits into them; and the letters and
+-- the length of a block.
 --
 -- Sections: words of two blocks; letters of a block.
 -- Assumes nothing.

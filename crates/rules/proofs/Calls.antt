@@ -1,8 +1,10 @@
--- One rewrite of an accepted word: it uses the first fitting rule, or none fits, or check 12 or 14 refuses it; its answer and output leave the step's
--- word, which stays or is rewritten by that rule; and none fits anywhere exactly when the word is irreducible. By cases on the checks in their order.
--- A rule is used exactly when one of the list fits and no check refuses. Not here: what lists of calls keep (Demand3).
+-- One rewrite of an accepted word: it uses the first fitting rule, or none fits, or check 12 or 14 refuses it; its
+-- answer and output leave the step's word, which stays or is rewritten by that rule; and none fits anywhere exactly
+-- when the word is irreducible. By cases on the checks in their order. A rule is used exactly when one of the list
+-- fits and no check refuses. Not here: what lists of calls keep (Demand3).
 --
--- Sections: accepted words; what a step does; the word that a step leaves; which calls use a rule; the four answers; where none fits.
+-- Sections: accepted words; what a step does; the word that a step leaves; which calls use a rule; the four
+-- answers; where none fits.
 -- Assumes nothing.
 use mathlib.Core.Path.{_≡_, refl, sym, ap, ap₂, subst, _∙_}
 use mathlib.Core.Bool.{Bool, true, false, true≢false}

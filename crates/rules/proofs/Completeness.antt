@@ -1,7 +1,9 @@
--- The rules are complete: every word of steps rewrites to the normal form of its window, which no rule rewrites and which is the least word with
--- that window. By induction on the measure `value`, since a word that is not a word of blocks rewrites.
+-- The rules are complete: every word of steps rewrites to the normal form of its window, which no rule rewrites and
+-- which is the least word with that window. By induction on the measure `value`, since a word that is not a word of
+-- blocks rewrites.
 --
--- Sections: one rewriting; finitely many rewritings; the normal form is reached; irreducible words; the least word; equal normal forms.
+-- Sections: one rewriting; finitely many rewritings; the normal form is reached; irreducible words; the least word;
+-- equal normal forms.
 -- Assumes nothing.
 use mathlib.Core.Path.{_≡_, refl, sym, ap, subst, _∙_}
 use mathlib.Core.Bool.{Bool, true, false, true≢false}

@@ -1,5 +1,6 @@
--- Demand 3 for every accepted word, by induction over the list of calls: each call leaves an accepted word with the same window that the machine's
--- step leaves too, and lowers the measure if it uses a rule. The measure of the first word bounds the uses.
+-- Demand 3 for every accepted word, by induction over the list of calls: each call leaves an accepted word with the
+-- same window that the machine's step leaves too, and lowers the measure if it uses a rule. The measure of the
+-- first word bounds the uses.
 --
 -- Sections: one call; lists of calls; the record.
 -- Assumes nothing.

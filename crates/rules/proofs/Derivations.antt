@@ -1,5 +1,5 @@
--- Both sides of a rule are linked by the Coxeter relations, and those of every family but 1 by relations of equal length alone:
--- a letter that commutes with a word moves past it, and one or two threefold relations do the rest.
+-- Both sides of a rule are linked by the Coxeter relations, and those of every family but 1 by relations of equal
+-- length alone: a letter that commutes with a word moves past it, and one or two threefold relations do the rest.
 --
 -- Sections: links inside a word; moving past a word; families 3 and 4; families 5 to 7; every rule.
 -- Assumes nothing.

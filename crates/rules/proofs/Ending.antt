@@ -1,5 +1,5 @@
--- Every rule lowers the measure `value` and is earlier by shortlex, in every context, and brings in no new letter: a rule drops a letter
--- twice, or puts a higher letter first and keeps the length.
+-- Every rule lowers the measure `value` and is earlier by shortlex, in every context, and brings in no new letter:
+-- a rule drops a letter twice, or puts a higher letter first and keeps the length.
 --
 -- Sections: what a rule does to its left side; letters; the measure; the dictionary.
 -- Assumes nothing.

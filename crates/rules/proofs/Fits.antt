@@ -1,5 +1,6 @@
--- Where a rule fits: it fits at a place exactly when its left side stands there, and then putting the right side in its place is one use of the
--- rule; the first fitting rule of a list is one of it that fits, and there is none exactly when none fits. By induction over the word and the list.
+-- Where a rule fits: it fits at a place exactly when its left side stands there, and then putting the right side in
+-- its place is one use of the rule; the first fitting rule of a list is one of it that fits, and there is none
+-- exactly when none fits. By induction over the word and the list.
 --
 -- Sections: beginnings of words; a rule at a place; the first fitting rule; rules of a kind.
 -- Assumes nothing.

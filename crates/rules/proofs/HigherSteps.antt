@@ -83,7 +83,8 @@ last-block k n i u (j ∷ js) h o g (level p b c d) q =
     let s = blocks-normal k n (suc i) js h (omega arith) (omega arith) d in
     (j, blocks k n (suc i) js, js, q, b, c, s .0, s .1, refl, d)
 
--- at each level: block i is peeled off a normal form over the steps from i on, and the rest is one over the higher steps
+-- at each level: block i is peeled off a normal form over the steps from i on, and the rest is one over the higher
+-- steps
 pub level-peeled : (k : Kind) (n i : ℕ) (w : List ℤ) (u : List ℕ) → least k ≤ n → 1 ≤ i → i ≤ levels k n → IsNormalForm k n w u
     → ((a : ℕ) → List·Memᴰ a u → i ≤ a)
     → (j : ℕ) × (v js : List ℕ) × (u ≡ v ++ block k n i j) × (i ≤ suc j) × (j ≤ lastIndex k n i)
@@ -93,7 +94,8 @@ level-peeled k n i w u h o g m f =
     let s = normal-blocks k n i w u h o g m f in
     last-block k n i u (s .0) h o g (s .1) (s .2)
 
--- and put back on: below the last level every normal form over the higher steps, with any block of level i behind it, is a normal form
+-- and put back on: below the last level every normal form over the higher steps, with any block of level i behind
+-- it, is a normal form
 pub level-put-back : (k : Kind) (n i j : ℕ) (v : List ℕ) → least k ≤ n → 1 ≤ i → suc i ≤ levels k n → i ≤ suc j → j ≤ lastIndex k n i
     → IsNormalForm k n (window k n v) v → ((a : ℕ) → List·Memᴰ a v → suc i ≤ a)
     → IsNormalForm k n (window k n (v ++ block k n i j)) (v ++ block k n i j)

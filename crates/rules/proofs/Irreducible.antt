@@ -1,4 +1,5 @@
--- A word of steps is a word of blocks, or a rule fits somewhere in it: level by level, each word cut at its first letter i.
+-- A word of steps is a word of blocks, or a rule fits somewhere in it: level by level, each word cut at its first
+-- letter i.
 -- Assumes nothing.
 use mathlib.Core.Path.{_≡_, refl, sym, ap, ap₂, _∙_}
 use mathlib.Core.Bool.{false}
@@ -88,7 +89,8 @@ settled-level k n i p w h (inl s) (inr b) = inr (rw append-nil at (reducible-wit
 settled-level k n i p w h (inr s) (inl b) = inr (reducible-within [] w s)
 settled-level k n i p w h (inr s) (inr b) = inr (reducible-within [] w s)
 
--- t levels after level suc i: the last level starts from the empty block, every other one from the first letter of its own
+-- t levels after level suc i: the last level starts from the empty block, every other one from the first letter of
+-- its own
 settled-from : (k : Kind) (n : ℕ) → least k ≤ n → (t i : ℕ) → suc i + t ≡ levels k n → (u : List ℕ) → Letters (suc i) n u → Settled k n (suc i) u
 unfolding blocks
 settled-from k n h zero i e u l =

@@ -1,6 +1,7 @@
 -- The letters of runs, and how the blocks on the rules' left sides begin and end: each from the laws of runs.
 --
--- Sections: letters of a run; pairs that commute; the blocks of family 3; the blocks of family 4; the block of families 6 and 7; blocks of one letter.
+-- Sections: letters of a run; pairs that commute; the blocks of family 3; the blocks of family 4; the block of
+-- families 6 and 7; blocks of one letter.
 -- Assumes nothing.
 use mathlib.Core.Path.{_≡_, refl, sym, ap, ap₂, _∙_}
 use mathlib.Core.Logic.{_⊎_, inl, inr, ⊎-elim}

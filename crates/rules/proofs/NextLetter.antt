@@ -1,5 +1,6 @@
--- What the next letter x of level i does to the block [i,j], by the numbers alone: it makes the block longer, or a rule fits at its end.
--- Here the kinds are told apart; what each case means for the words (Extending) is then one proof for the three.
+-- What the next letter x of level i does to the block [i,j], by the numbers alone: it makes the block longer, or a
+-- rule fits at its end. Here the kinds are told apart; what each case means for the words (Extending) is then one
+-- proof for the three.
 -- Assumes nothing.
 use mathlib.Core.Path.{_≡_, refl}
 use mathlib.Core.Logic.{_⊎_, inl, inr, ⊎-elim}

@@ -1,7 +1,8 @@
--- The list of rules entry by entry: every entry is one that `Listed` names, with its family, its numbers and its sides, and each of those is in
--- the list. Hence the list and the relation of rules agree.
+-- The list of rules entry by entry: every entry is one that `Listed` names, with its family, its numbers and its
+-- sides, and each of those is in the list. Hence the list and the relation of rules agree.
 --
--- Sections: the entries; lists of entries; the families' lists hold entries; the families' lists hold every entry; the list and the relation.
+-- Sections: the entries; lists of entries; the families' lists hold entries; the families' lists hold every entry;
+-- the list and the relation.
 -- Assumes nothing.
 use mathlib.Core.Path.{_≡_, refl, sym, ap, ap₂, subst, subst⁻¹, _∙_}
 use mathlib.Core.Bool.{Bool, true, false, _&&_, true≢false, and-false}

@@ -1,5 +1,6 @@
--- The search for a rule that begins a word: its letters are followed along the way of the blocks [i,j] of its first letter i, and the letter that
--- leaves the way decides the rule. Shown here, letter by letter: the search follows a block to its end.
+-- The search for a rule that begins a word: its letters are followed along the way of the blocks [i,j] of its first
+-- letter i, and the letter that leaves the way decides the rule. Shown here, letter by letter: the search follows a
+-- block to its end.
 --
 -- Sections: the search; one letter; the letters of a block.
 -- Not here: that the search finds every rule (ScanFamilies), and rules of the list alone (ScanRules).
@@ -25,7 +26,8 @@ use Rattle.rules.proofs.Letters.{block-one}
 
 -- ---- the search
 
--- the index after the letter x on the way of the blocks [i,j], or 0 where x leaves the way; c is the kind's corner and m the last index of level i
+-- the index after the letter x on the way of the blocks [i,j], or 0 where x leaves the way; c is the kind's corner
+-- and m the last index of level i
 unfoldable pub nextIndex : ℕ → ℕ → ℕ → ℕ → ℕ → ℕ
 nextIndex n c m j x =
     pick (ltb j n)
@@ -59,7 +61,8 @@ shownIndex f j x = pick (eqb f 2) x (pick (eqb f 3) j 0)
 unfoldable pub firstLetter : ℕ → ℕ → ℕ → ℕ → ℕ
 firstLetter n f i j = pick (eqb f 2) j (pick (ltb f 5) (i + 1) (pick (eqb f 6) (n - 1) n))
 
--- the rule that shows the family f, i and j and has the left side s: its right side is empty, or a letter and then s without its last
+-- the rule that shows the family f, i and j and has the left side s: its right side is empty, or a letter and then
+-- s without its last
 unfoldable pub shownRule : ℕ → ℕ → ℕ → ℕ → List ℕ → Rule
 shownRule n f i j s = rule f i j s (pick (eqb f 1) [] (firstLetter n f i j ∷ take (length s - 1) s))
 

@@ -1,8 +1,9 @@
--- The family of a letter that leaves the way of a block, and that the search finds every rule: each left side is [i,j] x with a letter x that
--- leaves the way of the blocks of level i, so the search of a word that begins with it ends there.
+-- The family of a letter that leaves the way of a block, and that the search finds every rule: each left side is
+-- [i,j] x with a letter x that leaves the way of the blocks of level i, so the search of a word that begins with it
+-- ends there.
 --
--- Sections: the family of a letter that leaves; the rule of a letter that leaves; every rule ends so; what a rewrite shows of a rule; the search finds
--- every rule.
+-- Sections: the family of a letter that leaves; the rule of a letter that leaves; every rule ends so; what a
+-- rewrite shows of a rule; the search finds every rule.
 -- Assumes nothing.
 use mathlib.Core.Path.{_≡_, refl, sym, ap, _∙_}
 use mathlib.Core.Logic.{inl, inr}

@@ -1,5 +1,6 @@
--- At one place at most one rule fits, and the search finds it: where a letter leaves the way of a block, what the search answers is an entry of
--- the list whose left side begins the word; and of a word that begins with a left side it answers that rule.
+-- At one place at most one rule fits, and the search finds it: where a letter leaves the way of a block, what the
+-- search answers is an entry of the list whose left side begins the word; and of a word that begins with a left
+-- side it answers that rule.
 --
 -- Sections: what the search finds is a rule; at most one rule fits.
 -- Assumes nothing.

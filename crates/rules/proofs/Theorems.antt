@@ -1,5 +1,6 @@
--- What the statements cite of the rules, over the definitions of specs/ alone; demand 3 itself is `demand3` of Demand3.antt. Each is a corollary of
--- a law of the files before. The ranks need no upper end, and words may have any length.
+-- What the statements cite of the rules, over the definitions of specs/ alone; demand 3 itself is `demand3` of
+-- Demand3.antt. Each is a corollary of a law of the files before. The ranks need no upper end, and words may have
+-- any length.
 --
 -- Sections: one rule; one use of a rule; normal forms.
 -- Assumes nothing.

@@ -1,5 +1,6 @@
--- A rewrite that is refused, or that finds that none fits, changes no byte of its output and leaves the word: for every kind, rank, word, place and
--- output, accepted or not. By cases on the refusal, on the rule that fits and on check 14: each step that does not stay uses a rule.
+-- A rewrite that is refused, or that finds that none fits, changes no byte of its output and leaves the word: for
+-- every kind, rank, word, place and output, accepted or not. By cases on the refusal, on the rule that fits and on
+-- check 14: each step that does not stay uses a rule.
 -- Assumes nothing.
 use mathlib.Core.Path.{_≡_, refl}
 use mathlib.Core.Bool.{Bool, true, false}

@@ -1,4 +1,5 @@
--- A text that is written, and which sentence that is: by its number, and by computing its codes. Every sentence has at most 255 characters.
+-- A text that is written, and which sentence that is: by its number, and by computing its codes. Every sentence has
+-- at most 255 characters.
 -- Assumes nothing.
 use mathlib.Core.Path.{_≡_, refl, ap, _∙_}
 use mathlib.Core.Bool.{Bool, true, false, _&&_}

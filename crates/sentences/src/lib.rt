@@ -90,7 +90,8 @@ fn above_7(refusal: u8, out: &mut [u8]) -> Answer
     above_14(refusal, out)
 }
 
-// The sentence of a refusal, written to the front of `out`. A number that is none has no sentence: it gets the length 0. Refusal 14.
+// The sentence of a refusal, written to the front of `out`. A number that is none has no sentence: it gets the
+// length 0. Refusal 14.
 pub fn refusal_sentence(refusal: u8, out: &mut [u8]) -> Answer
     ensures { λ r. ⌜ Yields (refusalSentence refusal (now (out .entry))) r (now (out .exit)) ⌝ }
 {

@@ -86,7 +86,8 @@ fn holds(published: bool, n: u8, a: u8, b: u8, c: u8) -> bool
     is_published(n, listed::rule(n, b, a, c))
 }
 
-// How many rules hold at the ranks from `from` to `to`: x goes through the ranks, and at each through all a and c below 128 and b below 8.
+// How many rules hold at the ranks from `from` to `to`: x goes through the ranks, and at each through all a and c
+// below 128 and b below 8.
 fn count(published: bool, from: usize, to: usize) -> u64
     requires { ⌜ (4 ≤ from) × (from ≤ 64) × (to ≤ 64) ⌝ }
 {

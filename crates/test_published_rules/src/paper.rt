@@ -26,7 +26,8 @@ const CP4: [u64; 16] = [
     0x43123430_34312340,
 ];
 
-// psi_j x_last -> x_first psi_j, with psi_j of level m: down from x_m, as far as x_3, and then up from x_1; but psi_m ends in x_2.
+// psi_j x_last -> x_first psi_j, with psi_j of level m: down from x_m, as far as x_3, and then up from x_1; but
+// psi_m ends in x_2.
 fn psi_rule(n: u8, m: u8, j: u8, last: u8, first: u8) -> Rule
     requires { ⌜ (5 ≤ m) × (m ≤ 64) × (j ≤ 127) ⌝ }
 {
@@ -51,7 +52,8 @@ fn psi_rule(n: u8, m: u8, j: u8, last: u8, first: u8) -> Rule
     )
 }
 
-// Rule k of a type at level m of CP(n). Level 4 is CP(4), as type 0; a higher level is what CP(m) adds to CP(m - 1), of the types I to IV.
+// Rule k of a type at level m of CP(n). Level 4 is CP(4), as type 0; a higher level is what CP(m) adds to CP(m -
+// 1), of the types I to IV.
 pub(crate) fn rule(n: u8, m: u8, class: u8, k: u8) -> Rule
     requires { ⌜ (n ≤ 64) × (k ≤ 127) ⌝ }
 {

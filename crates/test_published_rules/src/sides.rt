@@ -5,8 +5,9 @@ ghost use mathlib.Core.Path.{_≡_};
 ghost use Prim.Native.Nat.{_≤_};
 ghost use lib.ListN.{length};
 
-// W last -> first W, or W last -> empty if `first` is 0, where W goes up from i, `up` steps, and then down from `turn`, `down` steps. If `digits` is
-// not 0, the rule is one of CP(4) at rank n instead, in the paper's generators: eight hexadecimal digits a side, with zeros behind it.
+// W last -> first W, or W last -> empty if `first` is 0, where W goes up from i, `up` steps, and then down from
+// `turn`, `down` steps. If `digits` is not 0, the rule is one of CP(4) at rank n instead, in the paper's
+// generators: eight hexadecimal digits a side, with zeros behind it.
 pub(crate) struct Rule {
     i: u8,
     up: u8,

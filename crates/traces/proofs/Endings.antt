@@ -1,5 +1,6 @@
--- The rule whose left side ends a word. If no rule fits into a word, one that fits when a letter is added ends there, and it fits at the lowest place,
--- whatever follows: a left side that began before it would hold it behind its own first letter, and there none fits (LeftSides).
+-- The rule whose left side ends a word. If no rule fits into a word, one that fits when a letter is added ends
+-- there, and it fits at the lowest place, whatever follows: a left side that began before it would hold it behind
+-- its own first letter, and there none fits (LeftSides).
 --
 -- Sections: a rule in a part of a word; the rule that ends a word; its first letter.
 -- Assumes nothing.
@@ -113,7 +114,8 @@ letter-of-fits r u p t e l =
     let s = begins-split (r .left) (drop p u) e in
     sym (getD-drop p u t 0) ∙ ap (λ (w : List ℕ). getD w t 0) (s .1) ∙ List·getD-append (r .left) (s .0) 0 t l
 
--- a rule that fits and ends at place suc q begins with the lower of the letters at q and suc q, less than 2n places before
+-- a rule that fits and ends at place suc q begins with the lower of the letters at q and suc q, less than 2n places
+-- before
 pub first-of-ending : (k : Kind) (n : ℕ) → least k ≤ n → (r : Rule) → List·Memᴰ r (rules k n) → (u : List ℕ) (p q : ℕ) → fits r u p ≡ true
     → p + length (r .left) ≡ suc (suc q) → (getD u p 0 ≡ lower (getD u q 0) (getD u (suc q) 0)) × (suc (suc q) ≤ p + 2 * n)
 first-of-ending k n h r m u p q f e =

@@ -1,6 +1,7 @@
--- A letter put into a normal form. Where a letter is added at the end of a normal form and rules carry it to the left, what stands in the end, with
--- the letter at the place where no rule carries it on, or with it and an equal letter struck out, is a normal form again. By the exchange property: an
--- earlier word with the same window would have, from the first difference on, a first letter that could be struck out at the other end.
+-- A letter put into a normal form. Where a letter is added at the end of a normal form and rules carry it to the
+-- left, what stands in the end, with the letter at the place where no rule carries it on, or with it and an equal
+-- letter struck out, is a normal form again. By the exchange property: an earlier word with the same window would
+-- have, from the first difference on, a first letter that could be struck out at the other end.
 --
 -- Sections: where a letter stands; a letter that cancels; a letter that stays.
 -- Assumes nothing.
@@ -167,7 +168,8 @@ module _ (k : Kind) (n : ℕ) (h : least k ≤ n) where
   -- a letter x at a place where no rule carries it on, above the letter behind it: the whole is a normal form
   module _ (a : List ℕ) (x : ℕ) (b : List ℕ) (s : ℕ) (m : Normal k n (a ++ b)) (p : Normal k n (a ++ (x ∷ [])))
       (above : Below x b) (o : 1 ≤ s) (l : s ≤ n) (w : window k n (a ++ (x ∷ b)) ≡ window k n ((a ++ b) ++ (s ∷ []))) where
-    -- if the step made the window shorter, a letter of a b could be struck out: none of a, since a x is shortest, and none of b
+    -- if the step made the window shorter, a letter of a b could be struck out: none of a, since a x is shortest,
+    -- and none of b
     shorter : (v : List ℕ) → Normal k n v → window k n v ≡ window k n (a ++ (x ∷ b)) → length v < length (a ++ (x ∷ b)) → ⊥
     shorter v q e g = cases (crossed k n s (window k n (a ++ b))) refl
       where

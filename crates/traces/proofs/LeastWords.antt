@@ -1,5 +1,6 @@
--- Normal forms as least words: words with one window, more letters in front, and fewer in front or behind; parts of normal forms; and the first difference
--- of two words, from which a normal form is told by having no earlier word with its window.
+-- Normal forms as least words: words with one window, more letters in front, and fewer in front or behind; parts of
+-- normal forms; and the first difference of two words, from which a normal form is told by having no earlier word
+-- with its window.
 --
 -- Sections: words with one window; the least word; the first difference.
 -- Assumes nothing.

@@ -1,6 +1,6 @@
--- The shape of a left side: without its first letter it is a letter or a word of two blocks, so that no rule fits into it; the first letter is the lower
--- of the last two; and there are at most 2n letters. And the two sides of a rule: a letter twice and nothing, or a word and its last letter moved to the
--- front and changed.
+-- The shape of a left side: without its first letter it is a letter or a word of two blocks, so that no rule fits
+-- into it; the first letter is the lower of the last two; and there are at most 2n letters. And the two sides of a
+-- rule: a letter twice and nothing, or a word and its last letter moved to the front and changed.
 --
 -- Sections: where a rule fits; the shapes; each left side has one; both sides.
 -- Assumes nothing.
@@ -45,7 +45,8 @@ fits-inside r u p o e = elim (decLe p (length u)) [
 abbrev pub lower : ℕ → ℕ → ℕ
 lower l x = pick (ltb x l) x l
 
--- no rule fits after the first letter, which is the lower of the last two and below those before them, and there are at most 2n letters
+-- no rule fits after the first letter, which is the lower of the last two and below those before them, and there
+-- are at most 2n letters
 pub record Shape (k : Kind) (n : ℕ) (l : List ℕ) : Type 0 where
   pub first : ℕ
   pub tail : List ℕ
@@ -251,7 +252,8 @@ shape-of-rule k n h r m = shape-of-ends k n r h (ends-of-listed k n h (listed-of
 
 -- ---- both sides
 
--- family 1 drops a letter that stands twice; any other family puts a letter before the left side without its last, higher than the first
+-- family 1 drops a letter that stands twice; any other family puts a letter before the left side without its last,
+-- higher than the first
 pub data Sides (r : Rule) : Type 0 where
   drops : (x : ℕ) → r .family ≡ 1 → r .left ≡ x ∷ x ∷ [] → r .right ≡ [] → Sides r
   moves : (x y b : ℕ) (l : List ℕ) → (r .family ≡ 1 → ⊥) → r .left ≡ (b ∷ l) ++ (x ∷ []) → r .right ≡ y ∷ b ∷ l → b < y → Sides r

@@ -1,4 +1,5 @@
--- A part of a normal form that begins with i and has no lower letter is a block [i,j]; j is told by its last letter and its length.
+-- A part of a normal form that begins with i and has no lower letter is a block [i,j]; j is told by its last letter
+-- and its length.
 --
 -- Sections: the block; its last letter and its length; where it stands on its way.
 -- Assumes nothing.

@@ -1,7 +1,8 @@
--- Reading a word letter by letter, rewriting at the lowest place. What has been read is a normal form and one letter that rules carry to the left:
--- the rule that ends with that letter is at the lowest place of the whole word, and after it the letter stands at that place, or is gone with an equal
--- one. Where no rule ends with it, what has been read is a normal form (Inserting), and the next letter is read. So each letter takes at most as many
--- steps as letters stand before it, and no rewriting has more steps than the word has pairs of letters.
+-- Reading a word letter by letter, rewriting at the lowest place. What has been read is a normal form and one
+-- letter that rules carry to the left: the rule that ends with that letter is at the lowest place of the whole
+-- word, and after it the letter stands at that place, or is gone with an equal one. Where no rule ends with it,
+-- what has been read is a normal form (Inserting), and the next letter is read. So each letter takes at most as
+-- many steps as letters stand before it, and no rewriting has more steps than the word has pairs of letters.
 --
 -- Sections: lists; the letter that moves; the rule that it ends; the number of steps.
 -- Assumes nothing.
@@ -52,8 +53,8 @@ nil-irreducible k n h r m p = fits-past r [] p (left-nonempty k n h r m) (omega 
 
 -- ---- the letter that moves
 
--- z has been read, and the letter at place q moves: without it z is a normal form, with it z has the window of that normal form and one more step,
--- and the letter behind it is lower
+-- z has been read, and the letter at place q moves: without it z is a normal form, with it z has the window of that
+-- normal form and one more step, and the letter behind it is lower
 pub record Reading (k : Kind) (n : ℕ) (z : List ℕ) (q : ℕ) : Type 0 where
   pub front : List ℕ
   pub letter : ℕ

@@ -1,5 +1,5 @@
--- One step while a word is read, as it is found and made: the letters by which the rule that ends with the moving letter is found, from that letter back to
--- the first of the left side, and what the word is after it.
+-- One step while a word is read, as it is found and made: the letters by which the rule that ends with the moving
+-- letter is found, from that letter back to the first of the left side, and what the word is after it.
 --
 -- Sections: the search for its first letter; the rule that fits; its place; the word after it.
 -- Assumes nothing.

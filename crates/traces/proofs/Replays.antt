@@ -1,6 +1,7 @@
--- Replaying the lines of a rewriting with single rewrites. Any reader who makes them at the lines' places sees the lines' families and lengths and
--- ends in the final word; only the lines of the rewriting can be replayed so; and there are no more of them than demand 3's number. By induction along
--- the rewriting. A call that ends has written such lines and the normal form.
+-- Replaying the lines of a rewriting with single rewrites. Any reader who makes them at the lines' places sees the
+-- lines' families and lengths and ends in the final word; only the lines of the rewriting can be replayed so; and
+-- there are no more of them than demand 3's number. By induction along the rewriting. A call that ends has written
+-- such lines and the normal form.
 --
 -- Sections: one step of an accepted word; replaying; only one replay; the number of steps; what a call writes.
 -- Assumes nothing.
@@ -218,8 +219,8 @@ written-front {t} {families} {places} {lengths} {out} s l (ended z) e =
       take-at (t .final) (drop (length (t .final)) out) l final,
     )
 
--- the first l bytes of the output are the normal form and the others stay; the first s places of the three lists are the families, places and lengths
--- of lines that any reader can replay from the word to the normal form
+-- the first l bytes of the output are the normal form and the others stay; the first s places of the three lists
+-- are the families, places and lengths of lines that any reader can replay from the word to the normal form
 pub toEnd-wrote : (k n : ℕ) (u families places lengths out : List ℕ) (s l : ℕ)
     → rewritingToEnd k n u families places lengths out .answer ≡ Ended s l
     → let t = rewritingToEnd k n u families places lengths out in

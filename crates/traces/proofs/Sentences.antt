@@ -50,7 +50,8 @@ calledAt cs = map (λ (c : Call). c .lent .place) cs
 abbrev lentTo : List Call → List (List ℕ)
 lentTo cs = map (λ (c : Call). c .lent .output) cs
 
--- what a reader of the lines sees who makes the calls cs: at each none fits lower down, the line's family and length are answered; the last word is v
+-- what a reader of the lines sees who makes the calls cs: at each none fits lower down, the line's family and
+-- length are answered; the last word is v
 record Seen (k n : ℕ) (u : List ℕ) (families lengths v : List ℕ) (cs : List Call) : Type 0 where
   each : (front : List Call) (c : Call) (rest : List Call) → cs ≡ front ++ (c ∷ rest)
       → NoneFitsBelow k n (wordLeft u front) (c .lent .place)

@@ -1,5 +1,6 @@
--- How many steps a rewriting to its end has at most, as the calls tell it: one for each pair of the word's letters. So many places in each list are always
--- enough. By the bound on the trace (Reading) for the words that pass their checks.
+-- How many steps a rewriting to its end has at most, as the calls tell it: one for each pair of the word's letters.
+-- So many places in each list are always enough. By the bound on the trace (Reading) for the words that pass their
+-- checks.
 --
 -- Sections: what is counted; at most; enough places.
 -- Assumes nothing.

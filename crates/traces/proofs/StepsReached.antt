@@ -1,5 +1,6 @@
--- The bound on the number of steps is reached: in every kind, at a rank above 2m, the word 2 4 6 .. of m letters takes one step for each pair of its
--- letters. Each letter read exchanges with all that stand before it, one by one.
+-- The bound on the number of steps is reached: in every kind, at a rank above 2m, the word 2 4 6 .. of m letters
+-- takes one step for each pair of its letters. Each letter read exchanges with all that stand before it, one by
+-- one.
 --
 -- Sections: a letter passes all before it; the word.
 -- Assumes nothing.

@@ -1,6 +1,7 @@
--- The rewriting to its end: at each step the lowest place is found; every step lowers the measure `value`, so that the number of steps allowed for is
--- enough; at the end none fits, and so the final word is the normal form. By induction on the measure. Replaying, and the number of steps, are in
--- Replays.antt; refused calls, and what lies past the steps, in Unchanged.antt.
+-- The rewriting to its end: at each step the lowest place is found; every step lowers the measure `value`, so that
+-- the number of steps allowed for is enough; at the end none fits, and so the final word is the normal form. By
+-- induction on the measure. Replaying, and the number of steps, are in Replays.antt; refused calls, and what lies
+-- past the steps, in Unchanged.antt.
 --
 -- Sections: the lowest place; one step; enough steps; one step of the whole; the end.
 -- Assumes nothing.

@@ -1,6 +1,7 @@
--- What is left of a rewriting to its end while its steps are noted in three lists: how many steps there will be, what the lists will hold and which word
--- will stand, from any word on the way. Each step noted keeps it, and at a normal form nothing is left. The records are what the contracts of `rewriter`
--- name, and a contract cannot name a definition of its own crate's proofs/; the laws about them lie there.
+-- What is left of a rewriting to its end while its steps are noted in three lists: how many steps there will be,
+-- what the lists will hold and which word will stand, from any word on the way. Each step noted keeps it, and at a
+-- normal form nothing is left. The records are what the contracts of `rewriter` name, and a contract cannot name a
+-- definition of its own crate's proofs/; the laws about them lie there.
 --
 -- Sections: what is left; a step; the end; a letter that moves; the whole.
 -- Assumes nothing.
@@ -96,7 +97,8 @@ module _ (s : ℕ) (families places lengths : List ℕ) where
 
 -- ---- a letter that moves
 
--- the letter at place q of `word` moves, the rest follows, and s steps were made before: so many numbers fit, and the three lists are equally long
+-- the letter at place q of `word` moves, the rest follows, and s steps were made before: so many numbers fit, and
+-- the three lists are equally long
 pub record Ready (k : Kind) (n : ℕ) (rest : List ℕ) (s : ℕ) (families places lengths word : List ℕ) (q : ℕ) : Type 0 where
   pub rank : least k ≤ n
   pub high : n ≤ 64
@@ -133,7 +135,8 @@ steps-few k n u h =
     let m : length u * (length u - 1) ≤ 4096 * 4095 = mul-le-mul {n₁ = length u} {m₁ = length u - 1} {n₂ = 4096} {m₂ = 4095} l (omega arith) in
     omega (arith, steps-at-most (kindOf k) n (rank-within k n (h .rank) .0) u (letters-accepted n u (h .word)))
 
--- the whole rewriting of a word was made: it has so many steps, which stand in the lists, and its final word is at the front of `work`
+-- the whole rewriting of a word was made: it has so many steps, which stand in the lists, and its final word is at
+-- the front of `work`
 pub record Made (k : Kind) (n : ℕ) (word families places lengths : List ℕ) (steps : ℕ) (families′ places′ lengths′ work : List ℕ) (size : ℕ) : Type 0 where
   pub inside : size ≤ length work
   pub all : finish k n 0 families places lengths word

@@ -1,5 +1,5 @@
--- A rule whose left side is two letters: which letters exchange, told by two comparisons, and the rule of an exchange and of a letter that stands twice.
--- By the search, which such a word leaves at once.
+-- A rule whose left side is two letters: which letters exchange, told by two comparisons, and the rule of an
+-- exchange and of a letter that stands twice. By the search, which such a word leaves at once.
 --
 -- Sections: letters that exchange; the rule of two letters.
 -- Assumes nothing.

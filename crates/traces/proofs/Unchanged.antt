@@ -1,5 +1,5 @@
--- A rewriting to its end that is refused changes none of its three lists and no byte of its output; past the steps the lists keep what they held. By
--- cases on the refusal.
+-- A rewriting to its end that is refused changes none of its three lists and no byte of its output; past the steps
+-- the lists keep what they held. By cases on the refusal.
 -- Assumes nothing.
 use mathlib.Core.Path.{_≡_, refl, _∙_}
 use mathlib.Core.List.{List, map}

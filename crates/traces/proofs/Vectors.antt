@@ -1,5 +1,6 @@
--- Vectors: rewritings to their end, with the answer, the three lists and the output afterwards, and how many steps they take. Worked out by hand from
--- documents 01 and 02. By computing the definitions. Lists and outputs are lent full of 9s, mostly longer than what is written.
+-- Vectors: rewritings to their end, with the answer, the three lists and the output afterwards, and how many steps
+-- they take. Worked out by hand from documents 01 and 02. By computing the definitions. Lists and outputs are lent
+-- full of 9s, mostly longer than what is written.
 -- Assumes nothing.
 use mathlib.Core.Path.{refl}
 use mathlib.Core.List.{List, [], _∷_}

@@ -1,4 +1,5 @@
--- One step on a window as stores of signed bytes: for the module `action`, and for the crates above that take steps themselves.
+-- One step on a window as stores of signed bytes: for the module `action`, and for the crates above that take steps
+-- themselves.
 --
 -- Sections: stores; entries of an accepted window; one step.
 -- Assumes nothing.

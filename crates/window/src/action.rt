@@ -80,7 +80,8 @@ pub(crate) fn apply(kind: u8, n: usize, word: &[u8], w: &mut [i8])
     }
 }
 
-// 1, 2, 3 and so on, counted in a byte that begins at 1: as i does it would be made from i, and each entry narrowed from 64 bits.
+// 1, 2, 3 and so on, counted in a byte that begins at 1: as i does it would be made from i, and each entry narrowed
+// from 64 bits.
 fn set_straight(w: &mut [i8])
     requires { ⌜ length (now w) ≤ 127 ⌝ }
     ensures { λ _. ⌜ now (w .exit) ≡ straight (length (now (w .entry))) ⌝ }

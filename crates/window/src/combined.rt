@@ -82,9 +82,9 @@ pub fn normal_form_of_inverse(kind: u8, rank: u8, w: &[i8], out: &mut [u8]) -> A
     write_checked(kind, rank, &work, out)
 }
 
-// I34: writes the normal form of the window that leads from u to v to the front of `out` and answers its length. Refuses
-// with 5 or 6, then 9 to 11 for u, then 9 to 11 for v, then 14 where `out` is shorter than the normal form; `out` is
-// then left as it was.
+// I34: writes the normal form of the window that leads from u to v to the front of `out` and answers its length.
+// Refuses with 5 or 6, then 9 to 11 for u, then 9 to 11 for v, then 14 where `out` is shorter than the normal form;
+// `out` is then left as it was.
 pub fn normal_form_between(kind: u8, rank: u8, u: &[i8], v: &[i8], out: &mut [u8]) -> Answer
     ensures { λ r. ⌜ Yields (writes (rankRefusal kind rank then windowRefusal (kindOf kind) rank (now (u .entry))
         then windowRefusal (kindOf kind) rank (now (v .entry)))

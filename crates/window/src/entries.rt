@@ -1,4 +1,5 @@
-// The entries of a window: how many there are, and entries made as signed bytes, from others or from a position and a sign.
+// The entries of a window: how many there are, and entries made as signed bytes, from others or from a position and
+// a sign.
 use refusals::is_negative;
 ghost use mathlib.Core.Path.{_≡_};
 ghost use Prim.Native.Nat.{_<_};

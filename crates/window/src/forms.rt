@@ -12,8 +12,8 @@ ghost use Rattle.coxeter.specs.Checks.{Rig, WindowOf};
 ghost use Rattle.coxeter.specs.NormalForm.{normalForm};
 ghost use Rattle.coxeter.specs.Calls.{Yields, writes};
 
-// Check 14: whether `room` is less than the length of the normal form of the window at the front of `work`. No normal form has more than n × n
-// letters, so that the length is measured only where there is less room.
+// Check 14: whether `room` is less than the length of the normal form of the window at the front of `work`. No
+// normal form has more than n × n letters, so that the length is measured only where there is less room.
 fn lacks_room(kind: u8, rank: u8, work: &[i8], room: usize) -> bool
     requires { ⌜ Rig kind rank ⌝ }
     requires { ⌜ lanes (kindOf kind) rank ≤ length (now work) ⌝ }

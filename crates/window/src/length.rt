@@ -35,9 +35,9 @@ pub(crate) fn with_size(set: u64, s: u8) -> u64
     set | (1u64 << (s - 1))
 }
 
-// One pass from the last entry to the first, with the set of the sizes behind. An entry makes one pair with each entry behind, of one sort or the other,
-// but with a larger one two if it is negative, and none if not. A negative entry has a negative sum pair with each larger size. An accepted
-// window of any kind is one of kind B.
+// One pass from the last entry to the first, with the set of the sizes behind. An entry makes one pair with each
+// entry behind, of one sort or the other, but with a larger one two if it is negative, and none if not. A negative
+// entry has a negative sum pair with each larger size. An accepted window of any kind is one of kind B.
 fn parts_of(w: &[i8]) -> Parts
     requires { ⌜ length (now w) ≤ 64 ⌝ }
     requires { ⌜ WindowOf B (length (now w)) (now w) ⌝ }
@@ -71,7 +71,8 @@ fn parts_of(w: &[i8]) -> Parts
     }
 }
 
-// The length of an accepted window as its three counts. In kind A no entry is negative, so that all pairs are inversions.
+// The length of an accepted window as its three counts. In kind A no entry is negative, so that all pairs are
+// inversions.
 pub(crate) fn crossings_of(kind: u8, n: usize, w: &[i8]) -> Counted
     requires { ⌜ lanes (kindOf kind) n ≤ 64 ⌝ }
     requires { ⌜ WindowOf (kindOf kind) n (now w) ⌝ }

@@ -1,5 +1,5 @@
-// The normal form of an accepted window (N10 of the specification): first the indices j of its blocks, in one pass over the entries, then the
-// blocks, level by level, those of the higher levels first.
+// The normal form of an accepted window (N10 of the specification): first the indices j of its blocks, in one pass
+// over the entries, then the blocks, level by level, those of the higher levels first.
 use crate::length::from_size;
 use crate::length::with_size;
 use refusals::is_negative;

@@ -43,7 +43,8 @@ pub(crate) fn product_into(kind: u8, rank: u8, u: &[i8], v: &[i8], out: &mut [i8
     }
 }
 
-// The inverse of an accepted window in one pass, to the front of `out`: each entry's position is stored at the entry's size, with its sign.
+// The inverse of an accepted window in one pass, to the front of `out`: each entry's position is stored at the
+// entry's size, with its sign.
 pub(crate) fn inverse_into(kind: u8, rank: u8, w: &[i8], out: &mut [i8])
     requires { ⌜ Rig kind rank ⌝ }
     requires { ⌜ WindowOf (kindOf kind) rank (now w) ⌝ }
@@ -59,8 +60,8 @@ pub(crate) fn inverse_into(kind: u8, rank: u8, w: &[i8], out: &mut [i8])
     }
 }
 
-// Whether the windows of m entries at the fronts of two work windows are equal. Every entry is looked at, without a way out of the loop, so that
-// many are compared at a time.
+// Whether the windows of m entries at the fronts of two work windows are equal. Every entry is looked at, without a
+// way out of the loop, so that many are compared at a time.
 pub(crate) fn same_fronts(m: usize, a: &[i8], b: &[i8]) -> bool
     requires { ⌜ (m ≤ length (now a)) × (m ≤ length (now b)) ⌝ }
     ensures { λ r. ⌜ r ≡ sameWindow (take m (now (a .entry))) (take m (now (b .entry))) ⌝ }

@@ -1,6 +1,8 @@
--- A conversion as the code makes it, record by record: the checks, what is left to write of the records and of their offsets, and the answers.
+-- A conversion as the code makes it, record by record: the checks, what is left to write of the records and of
+-- their offsets, and the answers.
 --
--- Sections: records by their number; the checks; what is left to write; the records, one after the other; their offsets; the whole; the answers.
+-- Sections: records by their number; the checks; what is left to write; the records, one after the other; their
+-- offsets; the whole; the answers.
 -- Assumes nothing.
 use mathlib.Core.Path.{_≡_, refl, sym, ap, _∙_}
 use mathlib.Core.Bool.{Bool}
@@ -116,7 +118,8 @@ module _ (ed : Edition) (b : List ℕ) (c i : ℕ) where
   unfolding recordsFrom
   none-left h = let e : c - i ≡ 0 = omega arith in rw e
 
--- the bytes of the records in the other edition, of record i, and of those from record i on; and their offsets, where record i begins at o
+-- the bytes of the records in the other edition, of record i, and of those from record i on; and their offsets,
+-- where record i begins at o
 abbrev pub bytesAt : Edition → List ℕ → ℕ → List ℕ
 bytesAt ed b i = recordOf (other ed) (kindAt b (offset b i)) (rankAt b (offset b i)) (lanesAt ed b (offset b i)) (lettersAt ed b (offset b i))
 

@@ -15,7 +15,8 @@ pub sets-two : (l : List ℕ) (p x : ℕ) → set (set l p (x % 256)) (p + 1) (x
 unfolding two
 sets-two l p x = rw (add-one p)
 
--- a record, with the lane count m: kind and rank, the lane count where there is one, the letter count at its place, and the letters
+-- a record, with the lane count m: kind and rank, the lane count where there is one, the letter count at its place,
+-- and the letters
 pub sets-record : (ed : Edition) (l : List ℕ) (p k n m : ℕ) (u : List ℕ)
     → sets (sets (sets (set (set l p k) (p + 1) n) (p + 2) (laneByte ed m)) (p + countPlace ed) (two (length u))) (p + countPlace ed + 2) u
     ≡ sets l p (recordOf ed k n m u)
@@ -23,7 +24,8 @@ unfolding recordOf two
 sets-record First l p k n m u = simp (add-one, add-two)
 sets-record Second l p k n m u = simp (add-one, add-two, add-three)
 
--- the same step by step: the place c of the letter count and the place h of the letters are read, and each store gives the next list
+-- the same step by step: the place c of the letter count and the place h of the letters are read, and each store
+-- gives the next list
 pub record-stored : (ed : Edition) (l : List ℕ) (p k n m c h : ℕ) (u o₁ o₂ o₃ : List ℕ) → c ≡ countPlace ed → h ≡ headSize ed
     → o₁ ≡ sets (set (set l p k) (p + 1) n) (p + 2) (laneByte ed m) → o₂ ≡ sets o₁ (p + c) (two (length u)) → o₃ ≡ sets o₂ (p + h) u
     → o₃ ≡ sets l p (recordOf ed k n m u)

@@ -1,6 +1,6 @@
--- What the preset calls of an opened book differ in: whether a preset number is passed, the result's type, and what the contract says of the result.
--- The signatures, contracts and code of such a call and of its callee are made of these, and the call of the callee on edition and slice, which `open`
--- makes too.
+-- What the preset calls of an opened book differ in: whether a preset number is passed, the result's type, and what
+-- the contract says of the result. The signatures, contracts and code of such a call and of its callee are made of
+-- these, and the call of the callee on edition and slice, which `open` makes too.
 --
 -- Sections: editions; what differs; the other parameters; the call on the slice.
 -- Assumes nothing.
@@ -207,7 +207,8 @@ module _ {M : Type 1} (𝓤 : URA M) (H : Heap 𝓤) (A : Atoms 𝓤) (W : Given
 
 -- ---- the call on the slice
 
--- what it is at: the result's type and what is said of it, the lifetime, the share of its token, the edition, the slice and the number passed
+-- what it is at: the result's type and what is said of it, the lifetime, the share of its token, the edition, the
+-- slice and the number passed
 pub record Here {M : Type 1} (𝓤 : URA M) (p : Passing) : Type 2 where
   pub s : Slot 1
   pub E : Says 𝓤 p s

@@ -1,5 +1,5 @@
--- A list that is being filled in place, from its start or from its end: before a place its numbers are the values of one function, from there on those
--- of another.
+-- A list that is being filled in place, from its start or from its end: before a place its numbers are the values
+-- of one function, from there on those of another.
 -- Assumes nothing.
 use mathlib.Core.Path.{_≡_, refl, _∙_}
 use mathlib.Core.List.{List}

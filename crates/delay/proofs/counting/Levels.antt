@@ -1,4 +1,5 @@
--- One level more: what the loop of `count` holds before each turn, that a turn's sums fit 64 bits, and what it holds after it.
+-- One level more: what the loop of `count` holds before each turn, that a turn's sums fit 64 bits, and what it
+-- holds after it.
 -- Sections: before a turn; a turn; after the last.
 -- Assumes nothing.
 use mathlib.Core.Path.{_≡_, refl, sym, ap, ap₂, _∙_}

@@ -1,5 +1,6 @@
 -- The entries of the longest window one by one, as code writes them, and its normal form as another call writes it.
--- Sections: entries; the last entry; odd ranks; the longest window, entry by entry, by cases as code has them; the normal form.
+-- Sections: entries; the last entry; odd ranks; the longest window, entry by entry, by cases as code has them; the
+-- normal form.
 -- Assumes nothing.
 use mathlib.Core.Path.{_≡_, refl, sym, ap, _∙_}
 use mathlib.Core.Bool.{Bool, true, false, not}

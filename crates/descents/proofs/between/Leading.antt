@@ -1,4 +1,5 @@
--- The call from one window to another from its parts: letters asked for one by one, work arrays that always have room, and the outcome in each case.
+-- The call from one window to another from its parts: letters asked for one by one, work arrays that always have
+-- room, and the outcome in each case.
 --
 -- Sections: letters; the window between two windows and its normal form; the call.
 -- Assumes nothing.

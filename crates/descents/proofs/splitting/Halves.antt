@@ -1,5 +1,5 @@
--- The two words of a split from the windows in work arrays: each window is the front of its array, and any list of allowed steps that strips the
--- inverse leads to the two words of the definition.
+-- The two words of a split from the windows in work arrays: each window is the front of its array, and any list of
+-- allowed steps that strips the inverse leads to the two words of the definition.
 -- Assumes nothing.
 use mathlib.Core.Path.{_≡_, refl, sym, _∙_}
 use mathlib.Core.Bool.{Bool, true, false, not}

@@ -1,4 +1,5 @@
--- What the module `steps` computes: the order of entries by one comparison and two signs, and a step taken where it makes the window shorter.
+-- What the module `steps` computes: the order of entries by one comparison and two signs, and a step taken where it
+-- makes the window shorter.
 --
 -- Sections: the order of entries; stores; one step.
 -- Assumes nothing.

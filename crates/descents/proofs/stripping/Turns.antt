@@ -1,5 +1,5 @@
--- The turns of the loop of `stripping::strip`: what is left of the window is reached by allowed steps that make it shorter, and no allowed step below
--- the one to be tried does so any more.
+-- The turns of the loop of `stripping::strip`: what is left of the window is reached by allowed steps that make it
+-- shorter, and no allowed step below the one to be tried does so any more.
 --
 -- Sections: how far back; one step; the loop.
 -- Assumes nothing.

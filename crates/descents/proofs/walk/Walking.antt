@@ -1,4 +1,5 @@
--- The turns of the loops of the module `walk`: letters kept or made 0 from the last to the first, the straight window, and the places that are left.
+-- The turns of the loops of the module `walk`: letters kept or made 0 from the last to the first, the straight
+-- window, and the places that are left.
 --
 -- Sections: letters kept; places of letters; the straight window.
 -- Assumes nothing.
@@ -36,7 +37,8 @@ use Rattle.exchange.proofs.Walk.{leftOver, placesKept, marked}
 
 -- ---- letters kept
 
--- the first i letters of u are still to be looked at: f is the word with the letters that were not kept made 0, w what is left of the target
+-- the first i letters of u are still to be looked at: f is the word with the letters that were not kept made 0, w
+-- what is left of the target
 pub record Walking (k : Kind) (n : ℕ) (u : List ℕ) (w₀ : List ℤ) (f : List ℕ) (w : List ℤ) (i kept : ℕ) : Type 0 where
   pub inside : i ≤ length u
   pub size : length f ≡ length u

@@ -1,4 +1,5 @@
--- A piece of a listing, filled line by line: the piece from the first line on is the piece from the next line on, behind what is written already.
+-- A piece of a listing, filled line by line: the piece from the first line on is the piece from the next line on,
+-- behind what is written already.
 --
 -- Sections: lines; what is left of a piece; filling.
 -- Assumes nothing.

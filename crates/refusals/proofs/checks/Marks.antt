@@ -1,4 +1,5 @@
--- Check 10 from the last entry to the first: the sizes of the entries behind are marked, so that a repeated size is seen at once.
+-- Check 10 from the last entry to the first: the sizes of the entries behind are marked, so that a repeated size is
+-- seen at once.
 -- Assumes nothing.
 use mathlib.Core.Path.{_≡_, sym, ap, _∙_, subst}
 use mathlib.Core.Bool.{Bool, true, false, or-true}

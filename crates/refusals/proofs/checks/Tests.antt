@@ -84,7 +84,8 @@ flag-flipped w i flag now minus h e q n = n ∙ sym (flag-next w i h ∙ rw (q, 
 
 -- ---- windows
 
--- checks 9 to 11 of a window of m lanes, in the order of the code: t and o are what the tests of its entries and of its signs gave
+-- checks 9 to 11 of a window of m lanes, in the order of the code: t and o are what the tests of its entries and of
+-- its signs gave
 module _ (k : Kind) (n m : ℕ) (w : List ℤ) where
   pub windowRefusal-lanes : m ≡ lanes k n → (length w ≡ m → ⊥) → 9 ≡ windowRefusal k n w
   unfolding windowRefusal wrongLanes

@@ -1,6 +1,6 @@
--- Steps of a letter that moves, made and noted one after the other (`Ready`, `Carried` and `Inserted` of Tracing, which the contracts of
--- `carrying::pass` and `carrying::insert` name): none at first, one more, those of two stretches together; and the last, after which a normal form
--- stands.
+-- Steps of a letter that moves, made and noted one after the other (`Ready`, `Carried` and `Inserted` of Tracing,
+-- which the contracts of `carrying::pass` and `carrying::insert` name): none at first, one more, those of two
+-- stretches together; and the last, after which a normal form stands.
 -- Assumes nothing.
 use mathlib.Core.Path.{_≡_, refl, sym, ap, subst, _∙_}
 use mathlib.Core.List.{List, _++_}

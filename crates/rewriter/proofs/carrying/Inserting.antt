@@ -1,5 +1,5 @@
--- What `carrying::turn` and `carrying::insert` do: the rule that the search hands on is the step of the rewriting, which is noted and made. Where there
--- is none, or an equal letter is struck out, what stands is a normal form.
+-- What `carrying::turn` and `carrying::insert` do: the rule that the search hands on is the step of the rewriting,
+-- which is noted and made. Where there is none, or an equal letter is struck out, what stands is a normal form.
 --
 -- Sections: the rule that was found; no rule; a letter struck out; a letter carried on; turn after turn.
 -- Assumes nothing.
@@ -96,7 +96,8 @@ module _ {k : Kind} {n : ℕ} {rest : List ℕ} {s : ℕ} {families places lengt
 
 -- ---- turn after turn
 
--- the letter stands at place q of a word that is as long as before, or else q is 0 and a normal form of `size` letters stands
+-- the letter stands at place q of a word that is as long as before, or else q is 0 and a normal form of `size`
+-- letters stands
 abbrev pub Moved : Kind → ℕ → List ℕ → ℕ → List ℕ → List ℕ → List ℕ → List ℕ → ℕ → List ℕ → List ℕ → List ℕ → List ℕ → ℕ → ℕ → Type 0
 Moved k n rest s families places lengths word s′ families′ places′ lengths′ word′ size q =
     (1 ≤ q → (size ≡ length word) × Carried k n rest s families places lengths word s′ families′ places′ lengths′ word′ q)

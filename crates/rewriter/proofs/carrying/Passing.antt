@@ -1,4 +1,5 @@
--- The turns of `carrying::pass`, from what it compares and stores: where a letter passes another, that is a step of the rewriting, and it is noted.
+-- The turns of `carrying::pass`, from what it compares and stores: where a letter passes another, that is a step of
+-- the rewriting, and it is noted.
 --
 -- Sections: letters; a letter that passes another; letters passed one by one.
 -- Assumes nothing.

@@ -1,5 +1,6 @@
--- The block before the letter: where the lower of the last two letters stands, all up to before the letter is a block, whose last letter and length tell which;
--- the rule of that block and the letter is the one that ends with the letter.
+-- The block before the letter: where the lower of the last two letters stands, all up to before the letter is a
+-- block, whose last letter and length tell which; the rule of that block and the letter is the one that ends with
+-- the letter.
 -- Assumes nothing.
 use mathlib.Core.Path.{_≡_, refl, sym, ap, subst, _∙_}
 use mathlib.Core.Bool.{false}

@@ -1,5 +1,5 @@
--- The turns of the module `ending`: its loop goes back over letters above i; what stands from where it stops is a block, and the rule of that block and the
--- letter is the one that ends with the letter.
+-- The turns of the module `ending`: its loop goes back over letters above i; what stands from where it stops is a
+-- block, and the rule of that block and the letter is the one that ends with the letter.
 --
 -- Sections: the search; the rule.
 -- Not here: the block before the letter (BlockEnds).

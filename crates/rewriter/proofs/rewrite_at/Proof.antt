@@ -1,4 +1,5 @@
--- `rewrite_at` answers and writes what the step of the definitions does: its checks are made in their order, and the search hands on the rule.
+-- `rewrite_at` answers and writes what the step of the definitions does: its checks are made in their order, and
+-- the search hands on the rule.
 -- Assumes nothing.
 use native.Mathlib.Omega.{arith}
 use borrow.Author.Needs.{needs}

@@ -1,4 +1,5 @@
--- The turns of the module `search`: its loop keeps the search of the word from the place on, and ends with the rule that fits.
+-- The turns of the module `search`: its loop keeps the search of the word from the place on, and ends with the rule
+-- that fits.
 -- Assumes nothing.
 use mathlib.Core.Path.{_≡_, refl, sym, ap, _∙_}
 use mathlib.Core.Bool.{false}

@@ -1,5 +1,5 @@
--- The turns of `tracing::make`: each letter of the word is read behind a normal form, and in the end nothing is left; and what the lists and the work array
--- then hold.
+-- The turns of `tracing::make`: each letter of the word is read behind a normal form, and in the end nothing is
+-- left; and what the lists and the work array then hold.
 --
 -- Sections: letters read; the end; lists and output.
 -- Assumes nothing.

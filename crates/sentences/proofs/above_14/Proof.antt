@@ -1,4 +1,5 @@
--- `above_14` has the sentences of refusals 15 to 21, and no number above them has one. Each text is the sentence of its number by computing its codes.
+-- `above_14` has the sentences of refusals 15 to 21, and no number above them has one. Each text is the sentence of
+-- its number by computing its codes.
 -- Assumes nothing.
 use mathlib.Core.Path.{refl}
 use borrow.Author.Needs.{needs}

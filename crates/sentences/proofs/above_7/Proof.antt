@@ -1,4 +1,5 @@
--- `above_7` has the sentences of refusals 8 to 14, and `above_14` the others. Each text is the sentence of its number by computing its codes.
+-- `above_7` has the sentences of refusals 8 to 14, and `above_14` the others. Each text is the sentence of its
+-- number by computing its codes.
 -- Assumes nothing.
 use mathlib.Core.Path.{refl}
 use borrow.Author.Needs.{needs}

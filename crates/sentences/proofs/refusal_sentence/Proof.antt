@@ -1,4 +1,5 @@
--- `refusal_sentence` has the sentences of refusals 1 to 7, and `above_7` the others. Each text is the sentence of its number by computing its codes.
+-- `refusal_sentence` has the sentences of refusals 1 to 7, and `above_7` the others. Each text is the sentence of
+-- its number by computing its codes.
 -- Assumes nothing.
 use mathlib.Core.Path.{refl}
 use borrow.Author.Needs.{needs}

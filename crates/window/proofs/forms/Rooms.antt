@@ -1,4 +1,5 @@
--- The calls that write normal forms: check 14 against the length that the sums give, or against n × n, and what is written from a work window.
+-- The calls that write normal forms: check 14 against the length that the sums give, or against n × n, and what is
+-- written from a work window.
 -- Assumes nothing.
 use mathlib.Core.Path.{_≡_, refl, sym, ap, _∙_}
 use mathlib.Core.Bool.{Bool, true, false}

@@ -1,5 +1,5 @@
--- The pass that counts crossings: from the last entry to the first, with the set of the sizes behind and sums over the entries behind, and
--- what keeps the sums small.
+-- The pass that counts crossings: from the last entry to the first, with the set of the sizes behind and sums over
+-- the entries behind, and what keeps the sums small.
 --
 -- Sections: one entry against those behind it; all entries; the pass.
 -- Assumes nothing.
@@ -26,7 +26,8 @@ use Rattle.window.proofs.length.Sums.{smaller, behind, weights-behind, 
 
 -- ---- one entry against those behind it
 
--- an entry makes as many pairs as there are entries behind, and of those that are larger in size as many more if it is negative, and fewer if not
+-- an entry makes as many pairs as there are entries behind, and of those that are larger in size as many more if it
+-- is negative, and fewer if not
 weights-from : (m : ℕ) (x : ℤ) (w : List ℤ) → 1 ≤ natAbs x → natAbs x ≤ m → Between 1 (1 + m) w → Distinct w
     → weights x w + pick (negative x) 0 (fromSize m (natAbs x) w) ≡ length w + pick (negative x) (fromSize m (natAbs x) w) 0
 unfolding behind
@@ -92,7 +93,8 @@ lack-le m (e ∷ w) l = by-sign (negative e) (lack-le m w l)
 
 -- ---- the pass
 
--- the entries from j on were gone through: their sizes as a set, all pairs of entries with what they add and take off, and two sums over them
+-- the entries from j on were gone through: their sizes as a set, all pairs of entries with what they add and take
+-- off, and two sums over them
 pub record Gone (w : List ℤ) (set pairs lack minus j : ℕ) : Type 0 where
   pub inside : j ≤ length w
   pub set-is : set ≡ sizeSet (length w) 1 (drop j w)

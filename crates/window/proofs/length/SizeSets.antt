@@ -1,4 +1,5 @@
--- The sizes of some entries as a set in a number, one binary digit a size. A shift drops the smaller sizes, and the set digits count the others.
+-- The sizes of some entries as a set in a number, one binary digit a size. A shift drops the smaller sizes, and the
+-- set digits count the others.
 --
 -- Sections: the set; one entry more; how many sizes; the sizes from s on.
 -- Assumes nothing.

@@ -1,5 +1,6 @@
--- The inverse in one pass, as code computes it: each entry's position, with the entry's sign, is stored at the entry's size. Shown by the element
--- at each position: it is the place of that size where the size is there, and what stood there before where it is not.
+-- The inverse in one pass, as code computes it: each entry's position, with the entry's sign, is stored at the
+-- entry's size. Shown by the element at each position: it is the place of that size where the size is there, and
+-- what stood there before where it is not.
 -- Assumes nothing.
 use mathlib.Core.Path.{_≡_, refl, sym, ap, _∙_}
 use mathlib.Core.Bool.{Bool, true, false, _||_, true≢false}

@@ -1,4 +1,5 @@
--- `which_better` chooses the word that comes first by length and dictionary where the windows are equal, and else neither.
+-- `which_better` chooses the word that comes first by length and dictionary where the windows are equal, and else
+-- neither.
 -- Assumes nothing.
 use mathlib.Core.Path.{_≡_, sym, _∙_}
 use Rattle.coxeter.proofs.Acceptance.{words-accepted}

@@ -1,4 +1,5 @@
--- `converting::records_refusal` makes the checks of record after record. The invariant: the refusal of all is that of the records from `i` on.
+-- `converting::records_refusal` makes the checks of record after record. The invariant: the refusal of all is that
+-- of the records from `i` on.
 -- Assumes nothing.
 use mathlib.Core.Path.{_≡_, sym, _∙_}
 use Prim.Native.Nat.{_-_}

@@ -1,5 +1,5 @@
--- `converting::write_offsets` writes offset after offset. The invariant: what is left to store are the offsets of the records from `i` on, of which the
--- first begins at `o` in the new book.
+-- `converting::write_offsets` writes offset after offset. The invariant: what is left to store are the offsets of
+-- the records from `i` on, of which the first begins at `o` in the new book.
 -- Assumes nothing.
 use Prim.Native.Nat.{_-_}
 use native.Mathlib.Omega.{arith}

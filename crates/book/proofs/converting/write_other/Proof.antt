@@ -1,4 +1,5 @@
--- `converting::write_other` hands the letters of the record, a part of the book, to `write_record` of the other edition.
+-- `converting::write_other` hands the letters of the record, a part of the book, to `write_record` of the other
+-- edition.
 -- Assumes nothing.
 use native.Mathlib.Omega.{arith}
 use Rattle.book_format.proofs.BookLaws.{counted-some, two-le-countPlace}

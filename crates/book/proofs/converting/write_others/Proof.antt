@@ -1,4 +1,5 @@
--- `converting::write_others` writes record after record. The invariant: what is left to store are the records from `i` on.
+-- `converting::write_others` writes record after record. The invariant: what is left to store are the records from
+-- `i` on.
 -- Assumes nothing.
 use Prim.Native.Nat.{_-_}
 use native.Mathlib.Omega.{arith}

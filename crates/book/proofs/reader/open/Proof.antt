@@ -1,5 +1,6 @@
--- `reader::open` calls `check_book` and makes the struct of the slice and the edition passed and of the answer: a walk of its MIR, by hand.
--- A `&[u8]` is Copy, so what it owns is had three times: for the callee, for the parameter at exit, and inside the result. An edition owns nothing.
+-- `reader::open` calls `check_book` and makes the struct of the slice and the edition passed and of the answer: a
+-- walk of its MIR, by hand. A `&[u8]` is Copy, so what it owns is had three times: for the callee, for the
+-- parameter at exit, and inside the result. An edition owns nothing.
 -- Assumes nothing.
 use mathlib.Core.Path.{_≡_, refl, ap}
 use Prim.Native.Nat.{ℕ}

@@ -1,4 +1,5 @@
--- `reader::preset` hands the edition, the bytes and the number to `check_preset`: the shared walk, at that callee and its answer.
+-- `reader::preset` hands the edition, the bytes and the number to `check_preset`: the shared walk, at that callee
+-- and its answer.
 -- Assumes nothing.
 use contract.Running.{givenOf}
 use denote.Enum.Laws as EL

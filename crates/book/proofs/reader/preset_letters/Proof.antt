@@ -1,4 +1,5 @@
--- `reader::preset_letters` hands the edition, the bytes and the number to `letters`: the shared walk, at that callee and the part that it hands out.
+-- `reader::preset_letters` hands the edition, the bytes and the number to `letters`: the shared walk, at that
+-- callee and the part that it hands out.
 -- Assumes nothing.
 use contract.Running.{givenOf}
 use mir.Syntax.{named}

@@ -1,5 +1,5 @@
--- `reading::is_misplaced` makes check 3. The invariant: an offset was wrong, or what is left to test are the records from
--- `i` on, the next of them due at byte `due`, in any edition that has its letter counts at `place`.
+-- `reading::is_misplaced` makes check 3. The invariant: an offset was wrong, or what is left to test are the
+-- records from `i` on, the next of them due at byte `due`, in any edition that has its letter counts at `place`.
 -- Assumes nothing.
 use mathlib.Core.Path.{_≡_, sym, ap, _∙_}
 use mathlib.Core.Bool.{_||_}

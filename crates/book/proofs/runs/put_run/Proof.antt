@@ -1,4 +1,5 @@
--- `runs::put_run` writes preset after preset. The invariant: what is left to store are the numbers of the presets from `i` on.
+-- `runs::put_run` writes preset after preset. The invariant: what is left to store are the numbers of the presets
+-- from `i` on.
 -- Assumes nothing.
 use mathlib.Core.Path.{_≡_, refl, sym, _∙_}
 use Prim.Native.Nat.{_+_, _-_, _*_, _≤_}

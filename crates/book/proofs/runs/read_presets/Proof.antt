@@ -1,4 +1,5 @@
--- `runs::read_presets` makes checks 1 to 4 and 14 in this order, and then writes as many presets as there are and have room.
+-- `runs::read_presets` makes checks 1 to 4 and 14 in this order, and then writes as many presets as there are and
+-- have room.
 -- Assumes nothing.
 use mathlib.Core.Path.{sym, _∙_}
 use native.Mathlib.Omega.{arith}

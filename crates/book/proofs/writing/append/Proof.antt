@@ -1,4 +1,5 @@
--- `writing::append` answers the refusal of its checks, with the output as it was, or the length of the new book, written to the front.
+-- `writing::append` answers the refusal of its checks, with the output as it was, or the length of the new book,
+-- written to the front.
 -- Assumes nothing.
 use mathlib.Core.Path.{sym, _∙_}
 use native.Mathlib.Omega.{arith}

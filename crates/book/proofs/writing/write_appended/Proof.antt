@@ -1,4 +1,5 @@
--- `writing::write_appended` writes the records and the new one, and then the trailer with one offset more: an accepted book has both.
+-- `writing::write_appended` writes the records and the new one, and then the trailer with one offset more: an
+-- accepted book has both.
 -- Assumes nothing.
 use denote.Ref.{now}
 use Prim.Native.Nat.{_+_, _*_, _≤_}

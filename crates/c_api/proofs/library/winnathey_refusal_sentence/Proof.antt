@@ -1,4 +1,5 @@
--- `library::winnathey_refusal_sentence` answers the number of the call below it, which fits: a sentence has at most 255 characters.
+-- `library::winnathey_refusal_sentence` answers the number of the call below it, which fits: a sentence has at most
+-- 255 characters.
 -- Assumes nothing.
 use mathlib.Core.Path.{sym, _∙_}
 use borrow.Author.Needs.{needs}

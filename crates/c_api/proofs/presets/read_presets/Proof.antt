@@ -1,4 +1,5 @@
--- `presets::read_presets` answers the number of the call below it, which fits: a book of at most 65,535 bytes has fewer presets.
+-- `presets::read_presets` answers the number of the call below it, which fits: a book of at most 65,535 bytes has
+-- fewer presets.
 -- Assumes nothing.
 use mathlib.Core.Path.{sym, _∙_}
 use borrow.Author.Needs.{needs}

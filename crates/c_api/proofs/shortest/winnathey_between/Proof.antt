@@ -1,4 +1,5 @@
--- `shortest::winnathey_between` answers the number of the call below it, which fits: a normal form has at most 4,096 letters.
+-- `shortest::winnathey_between` answers the number of the call below it, which fits: a normal form has at most
+-- 4,096 letters.
 -- Assumes nothing.
 use mathlib.Core.Path.{sym, _∙_}
 use borrow.Author.Needs.{needs}

@@ -1,4 +1,5 @@
--- `windows::winnathey_crossings_of_window` writes what the call below it counted; the total fits, since a normal form has at most 4,096 letters.
+-- `windows::winnathey_crossings_of_window` writes what the call below it counted; the total fits, since a normal
+-- form has at most 4,096 letters.
 -- Assumes nothing.
 use mathlib.Core.Path.{sym, _∙_}
 use Rattle.c_api.proofs.Lengths.{crossingsOfWindow-small}

@@ -1,4 +1,5 @@
--- `windows::winnathey_inverse_of_window` answers the number of the call below it, which fits: a window has at most 64 entries.
+-- `windows::winnathey_inverse_of_window` answers the number of the call below it, which fits: a window has at most
+-- 64 entries.
 -- Assumes nothing.
 use mathlib.Core.Path.{sym, _∙_}
 use borrow.Author.Needs.{needs}

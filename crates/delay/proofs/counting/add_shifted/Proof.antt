@@ -1,4 +1,5 @@
--- `counting::add_shifted` adds to each number the one b places before it. The invariant: the numbers from l on are done.
+-- `counting::add_shifted` adds to each number the one b places before it. The invariant: the numbers from l on are
+-- done.
 -- Assumes nothing.
 use Prim.Native.Nat.{_≤_}
 use native.Mathlib.Omega.{arith}

@@ -1,4 +1,5 @@
--- `counting::count` multiplies one level after another. The invariant: the levels with less than c greater sizes are counted.
+-- `counting::count` multiplies one level after another. The invariant: the levels with less than c greater sizes
+-- are counted.
 -- Assumes nothing.
 use mathlib.Core.Path.{sym, _∙_}
 use Prim.Native.Nat.{_-_}

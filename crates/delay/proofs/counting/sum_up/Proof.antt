@@ -1,4 +1,5 @@
--- `counting::sum_up` makes each number the sum of those up to it. The invariant: the numbers before l are such sums, and `sum` is the last one.
+-- `counting::sum_up` makes each number the sum of those up to it. The invariant: the numbers before l are such
+-- sums, and `sum` is the last one.
 -- Assumes nothing.
 use mathlib.Core.Path.{_≡_, refl}
 use Prim.Native.Nat.{_-_, _≤_}

@@ -1,4 +1,5 @@
--- `lengths::greatest_length` is the greatest length of its kind and rank, by cases on the kind; its products stay below 64 times 65.
+-- `lengths::greatest_length` is the greatest length of its kind and rank, by cases on the kind; its products stay
+-- below 64 times 65.
 -- Assumes nothing.
 use Prim.Native.Nat.{ℕ, _+_, _-_, _*_, _≤_}
 use native.Mathlib.Omega.{arith}

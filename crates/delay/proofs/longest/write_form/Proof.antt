@@ -1,4 +1,5 @@
--- `longest::write_form` has the normal form of the longest window written by the call on windows, which no check refuses.
+-- `longest::write_form` has the normal form of the longest window written by the call on windows, which no check
+-- refuses.
 -- Assumes nothing.
 use mathlib.Core.Path.{sym, ap, _∙_}
 use Prim.Native.Nat.{ℕ}

@@ -1,4 +1,5 @@
--- `steps::take_descent` takes a step where it makes the window shorter: below the number of lanes an exchange, and else step n of B or D.
+-- `steps::take_descent` takes a step where it makes the window shorter: below the number of lanes an exchange, and
+-- else step n of B or D.
 -- Assumes nothing.
 use native.Mathlib.Omega.{arith}
 use Rattle.window.proofs.ByteSteps.{negate-at-requires-of-last, four-le-of-last, exchange-negate-at-requires-of-last}

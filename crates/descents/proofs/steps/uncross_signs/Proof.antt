@@ -1,4 +1,5 @@
--- `steps::uncross_signs` exchanges two neighbours with their signs changed, where the first stands later than minus the second.
+-- `steps::uncross_signs` exchanges two neighbours with their signs changed, where the first stands later than minus
+-- the second.
 -- Assumes nothing.
 use mathlib.Core.Path.{refl}
 use Prim.Native.Nat.{_+_}

@@ -1,5 +1,5 @@
--- `stripping::strip` tries the steps from 1 on, and goes back to the lowest neighbour of each step that it takes. The length falls with each of them,
--- and else the steps to be tried do.
+-- `stripping::strip` tries the steps from 1 on, and goes back to the lowest neighbour of each step that it takes.
+-- The length falls with each of them, and else the steps to be tried do.
 -- Assumes nothing.
 use mathlib.Core.Path.{_≡_, refl, _∙_}
 use Prim.Native.Nat.{_+_, _-_, _*_}

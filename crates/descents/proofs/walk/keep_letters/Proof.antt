@@ -1,4 +1,5 @@
--- `walk::keep_letters` goes from the last letter to the first: the target steps back at a letter that is kept, and any other letter becomes 0.
+-- `walk::keep_letters` goes from the last letter to the first: the target steps back at a letter that is kept, and
+-- any other letter becomes 0.
 -- Assumes nothing.
 use mathlib.Core.Path.{_≡_, refl, _∙_}
 use Prim.Native.Nat.{_-_}

@@ -1,4 +1,5 @@
--- `walk::settle` decides by what is left of the target: straight, and then the places are written where there is room, or not.
+-- `walk::settle` decides by what is left of the target: straight, and then the places are written where there is
+-- room, or not.
 -- Assumes nothing.
 use native.Mathlib.Omega.{arith}
 use borrow.Author.Needs.{needs}

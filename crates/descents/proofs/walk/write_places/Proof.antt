@@ -1,4 +1,5 @@
--- `walk::write_places` stores the places of the letters that are not 0, one after the other; those from letter i on are left.
+-- `walk::write_places` stores the places of the letters that are not 0, one after the other; those from letter i on
+-- are left.
 -- Assumes nothing.
 use mathlib.Core.Logic.{⊎-elim}
 use Prim.Native.Nat.{_≤_, _-_}

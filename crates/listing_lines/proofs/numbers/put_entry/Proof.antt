@@ -1,4 +1,5 @@
--- `numbers::put_entry` stores the space and the sign, and then the size: −1 − e is one less than the size of a negative entry e.
+-- `numbers::put_entry` stores the space and the sign, and then the size: −1 − e is one less than the size of a
+-- negative entry e.
 -- Assumes nothing.
 use mathlib.Core.Path.{_≡_, ap, _∙_}
 use denote.Ref.{now}

@@ -1,4 +1,5 @@
--- `pieces::next_piece` makes a line a turn and copies it where it fits. What is left of the piece begins at the next line; the measure is the lines left.
+-- `pieces::next_piece` makes a line a turn and copies it where it fits. What is left of the piece begins at the
+-- next line; the measure is the lines left.
 -- Assumes nothing.
 use denote.Ref.{now}
 use mathlib.Core.Path.{_≡_, sym, _∙_}

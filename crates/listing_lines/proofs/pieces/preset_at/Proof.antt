@@ -1,4 +1,5 @@
--- `pieces::preset_at` goes by the refusal, the first of the five numbers, and cuts nothing: the numbers that it casts are bytes.
+-- `pieces::preset_at` goes by the refusal, the first of the five numbers, and cuts nothing: the numbers that it
+-- casts are bytes.
 -- Assumes nothing.
 use borrow.Author.Needs.{needs}
 use borrow.Author.Tests.{eq-eqb, ne-eqb}

@@ -1,4 +1,5 @@
--- `pieces::run_with` keeps the run in hand where it has the line, and reads the next one from there on otherwise, which is not refused.
+-- `pieces::run_with` keeps the run in hand where it has the line, and reads the next one from there on otherwise,
+-- which is not refused.
 -- Assumes nothing.
 use native.Mathlib.Omega.{arith}
 use borrow.Author.Needs.{needs}

@@ -1,4 +1,5 @@
--- `presets::put_word` puts the line from the normal form and the window, which are written whole: neither call is refused.
+-- `presets::put_word` puts the line from the normal form and the window, which are written whole: neither call is
+-- refused.
 -- Assumes nothing.
 use mathlib.Core.Path.{sym}
 use denote.Ref.{now}

@@ -1,4 +1,5 @@
--- `checks::has_wrong_entry` goes from the last entry to the first. The invariant: the entries behind passed, and their sizes are marked.
+-- `checks::has_wrong_entry` goes from the last entry to the first. The invariant: the entries behind passed, and
+-- their sizes are marked.
 -- Assumes nothing.
 use mathlib.Core.Path.{_≡_, sym, ap, _∙_}
 use Prim.Native.Nat.{_-_}

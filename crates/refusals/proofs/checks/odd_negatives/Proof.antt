@@ -1,4 +1,5 @@
--- `checks::odd_negatives` flips its flag at each negative entry: before entry `i` it is `flagAfter` of the first `i` entries.
+-- `checks::odd_negatives` flips its flag at each negative entry: before entry `i` it is `flagAfter` of the first
+-- `i` entries.
 -- Assumes nothing.
 use mathlib.Core.Path.{_≡_, refl, sym, ap, _∙_}
 use Prim.Native.Nat.{_≤_, _-_}

@@ -1,5 +1,5 @@
--- `carrying::insert` carries the last letter of a word to its place, turn after turn: by letters that exchange, then by the rule that ends with it.
--- The measure is the letter's place.
+-- `carrying::insert` carries the last letter of a word to its place, turn after turn: by letters that exchange,
+-- then by the rule that ends with it. The measure is the letter's place.
 -- Assumes nothing.
 use mathlib.Core.Path.{_≡_, refl}
 use native.Mathlib.Omega.{arith}

@@ -1,4 +1,5 @@
--- `carrying::turn` looks for the rule that ends with the letter, notes it and makes the step; the laws of Inserting say what each way out leaves.
+-- `carrying::turn` looks for the rule that ends with the letter, notes it and makes the step; the laws of Inserting
+-- say what each way out leaves.
 -- Assumes nothing.
 use native.Mathlib.Omega.{arith}
 use Rattle.rewriter.proofs.carrying.Passing.{ready-inside}
@@ -7,7 +8,8 @@ use borrow.Author.Needs.{needs}
 use Rattle.rewriter.proofs.carrying.turn.Statement.{statement}
 use Rattle.rewriter.proofs.carrying.turn.Tie as tie
 
--- stages on the way: where the call began, where a rule was looked for, where it was found to be of family 1 and where of another
+-- stages on the way: where the call began, where a rule was looked for, where it was found to be of family 1 and
+-- where of another
 abbrev start : tie.After-ending-rule → tie.Start
 start c = c .before .before .before .before .before .before .before
 

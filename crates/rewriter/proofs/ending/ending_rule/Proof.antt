@@ -1,5 +1,5 @@
--- `ending::ending_rule` tells equal letters at once; else the lower of the last two letters must stand where the search stopped, and then the block there and
--- the letter tell the rule.
+-- `ending::ending_rule` tells equal letters at once; else the lower of the last two letters must stand where the
+-- search stopped, and then the block there and the letter tell the rule.
 -- Assumes nothing.
 use mathlib.Core.Path.{sym, _∙_}
 use native.Mathlib.Omega.{arith}

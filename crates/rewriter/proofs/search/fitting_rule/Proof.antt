@@ -1,4 +1,5 @@
--- `search::fitting_rule` is the rule that fits. Its loop keeps the search of the word from the place on; the measure is what is left of the word.
+-- `search::fitting_rule` is the rule that fits. Its loop keeps the search of the word from the place on; the
+-- measure is what is left of the word.
 -- Assumes nothing.
 use mathlib.Core.Path.{_≡_, sym, _∙_}
 use Prim.Native.Nat.{_+_, _-_}

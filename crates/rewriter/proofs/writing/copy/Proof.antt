@@ -1,4 +1,5 @@
--- `writing::copy` writes a part into the output: the kit's `bytes::copy` writes it to the front of what the output has from the place on.
+-- `writing::copy` writes a part into the output: the kit's `bytes::copy` writes it to the front of what the output
+-- has from the place on.
 -- Assumes nothing.
 use borrow.Author.Needs.{needs}
 use Rattle.rewriter.proofs.writing.Words.{copied}

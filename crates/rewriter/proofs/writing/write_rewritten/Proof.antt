@@ -1,4 +1,5 @@
--- `writing::write_rewritten` writes the word that a rule leaves, by `write_without` for family 1 and `write_moved` for the others.
+-- `writing::write_rewritten` writes the word that a rule leaves, by `write_without` for family 1 and `write_moved`
+-- for the others.
 -- Assumes nothing.
 use borrow.Author.Tests.{eq-eqb, ne-eqb}
 use native.Mathlib.Omega.{arith}

@@ -1,4 +1,5 @@
--- `action::act_on` is one step: below the number of lanes an exchange, and else step n of B or D, since kind A has one lane more than steps.
+-- `action::act_on` is one step: below the number of lanes an exchange, and else step n of B or D, since kind A has
+-- one lane more than steps.
 -- Assumes nothing.
 use mathlib.Core.Path.{_∙_}
 use native.Mathlib.Omega.{arith}

@@ -1,5 +1,5 @@
--- `action::apply` is the window after a word. The invariant: what is left of the word leads from the window so far, which is accepted, to the same
--- window.
+-- `action::apply` is the window after a word. The invariant: what is left of the word leads from the window so far,
+-- which is accepted, to the same window.
 -- Assumes nothing.
 use mathlib.Core.Path.{_≡_, refl, sym, _∙_}
 use mathlib.Core.Bool.{false}

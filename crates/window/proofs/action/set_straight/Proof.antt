@@ -1,4 +1,5 @@
--- `action::set_straight` writes the straight window. The invariant: the entries before i are 1, .., i, and the byte is i + 1.
+-- `action::set_straight` writes the straight window. The invariant: the entries before i are 1, .., i, and the byte
+-- is i + 1.
 -- Assumes nothing.
 use mathlib.Core.Path.{_≡_, refl, ap}
 use Prim.Native.Nat.{ℕ, _+_, _≤_, _-_}

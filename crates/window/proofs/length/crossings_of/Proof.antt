@@ -1,4 +1,5 @@
--- `length::crossings_of` takes the negative sum pairs from the pairs of both sorts, and gives the negative entries in kind B only.
+-- `length::crossings_of` takes the negative sum pairs from the pairs of both sorts, and gives the negative entries
+-- in kind B only.
 -- Assumes nothing.
 use borrow.Author.Needs.{needs}
 use Rattle.window.proofs.length.Sums.{refusal-B, length-le-of-lanes, counted-two, counted-else}

@@ -1,4 +1,5 @@
--- `normal::write_down` stores the letters from b down to a. The invariant: what is left to store is the letters below `above`.
+-- `normal::write_down` stores the letters from b down to a. The invariant: what is left to store is the letters
+-- below `above`.
 -- Assumes nothing.
 use Prim.Native.Nat.{_+_, _≤_}
 use borrow.Author.Needs.{needs}

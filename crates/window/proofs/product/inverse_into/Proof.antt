@@ -1,4 +1,5 @@
--- `product::inverse_into` stores the position of each entry at its size: what is left to store are the entries from `i` on.
+-- `product::inverse_into` stores the position of each entry at its size: what is left to store are the entries from
+-- `i` on.
 -- Assumes nothing.
 use mathlib.Core.Path.{_≡_, sym, _∙_, ap}
 use Prim.Native.Nat.{_+_, _≤_, _-_}

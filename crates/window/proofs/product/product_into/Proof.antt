@@ -1,4 +1,5 @@
--- `product::product_into` stores the product's entries one by one: what is left to store is the product with the part of v from `i` on.
+-- `product::product_into` stores the product's entries one by one: what is left to store is the product with the
+-- part of v from `i` on.
 -- Assumes nothing.
 use mathlib.Core.Path.{_≡_, sym, _∙_}
 use Prim.Native.Nat.{_≤_, _-_}

@@ -1,4 +1,5 @@
--- `shown::same_presets` compares the lane counts, then shows each word at the front of a blank window and compares the fronts.
+-- `shown::same_presets` compares the lane counts, then shows each word at the front of a blank window and compares
+-- the fronts.
 -- Assumes nothing.
 use mathlib.Core.Path.{sym, ap₂, _∙_}
 use Rattle.coxeter.specs.Kinds.{kindOf}

@@ -1,5 +1,5 @@
--- `words::is_shortlex` compares lengths, and at equal lengths goes from letter to letter as long as they are equal: what is left to compare are
--- the parts from `i` on.
+-- `words::is_shortlex` compares lengths, and at equal lengths goes from letter to letter as long as they are equal:
+-- what is left to compare are the parts from `i` on.
 -- Assumes nothing.
 use mathlib.Core.Path.{_≡_, refl, sym, _∙_}
 use Prim.Native.Nat.{_≤_, _-_, zero-le}
