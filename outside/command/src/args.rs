@@ -262,8 +262,9 @@ impl Args {
         } else {
             let parts: Vec<_> = parts.iter().map(|part| part.to_string_lossy()).collect();
             let text = parts.join(" ");
-            let inner = text.trim().strip_prefix('[').and_then(|text| text.strip_suffix(']'));
-            let numbers = numbers::typed(inner.unwrap_or(&text)).map_err(|problem| self.usage(problem))?;
+            let text = text.strip_prefix('\u{feff}').unwrap_or(&text).trim();
+            let inner = text.strip_prefix('[').and_then(|text| text.strip_suffix(']'));
+            let numbers = numbers::typed(inner.unwrap_or(text)).map_err(|problem| self.usage(problem))?;
             (numbers, inner.is_some())
         };
         Ok(if brackets {

@@ -29,7 +29,9 @@ pub fn typed(text: &str) -> Result<Vec<i64>, String> {
 }
 
 fn no_number(part: &str) -> String {
-    format!("'{}' is no number", text::plain(part))
+    let bracket = part.starts_with(['[', ']']) || part.ends_with(['[', ']']);
+    let brackets = if bracket { "; brackets stand around one whole window" } else { "" };
+    format!("'{}' is no number{brackets}", text::plain(part))
 }
 
 /// What standard input holds: numbers, as many as tell whether they are too many for a word; whether they stand in
@@ -55,15 +57,34 @@ enum Streamed {
 const LONG: usize = 40;
 const BYTE_ORDER_MARK: &[u8] = b"\xef\xbb\xbf";
 
+/// The brackets of a window, as far as they were read.
+#[derive(Clone, Copy, PartialEq, Eq)]
+enum Brackets {
+    Missing,
+    Open,
+    Closed,
+}
+
+impl Brackets {
+    /// With the next one, where it may stand: [ in front of all numbers, ] behind them.
+    fn with(self, bracket: u8, in_front: bool) -> Result<Brackets, Streamed> {
+        match (self, bracket) {
+            (Brackets::Missing, b'[') if in_front => Ok(Brackets::Open),
+            (Brackets::Open, b']') => Ok(Brackets::Closed),
+            _ => Err(Streamed::NoNumber(char::from(bracket).to_string())),
+        }
+    }
+}
+
 fn streamed(bytes: impl BufRead, most: usize) -> Result<(Vec<i64>, bool), Streamed> {
     let mut numbers = Vec::new();
-    let mut brackets = false;
+    let mut brackets = Brackets::Missing;
     let mut part: Vec<u8> = Vec::new();
     let mut first = true;
     for byte in bytes.bytes().chain([Ok(b' ')]) {
         let byte = byte.map_err(Streamed::Failed)?;
-        let separates = byte.is_ascii() && (separates(byte.into()) || byte == b'[' || byte == b']');
-        brackets |= byte == b'[';
+        let bracket = byte == b'[' || byte == b']';
+        let separates = bracket || byte.is_ascii() && separates(byte.into());
         if !separates && part.len() < LONG {
             part.push(byte);
             if first && part == BYTE_ORDER_MARK {
@@ -72,16 +93,25 @@ fn streamed(bytes: impl BufRead, most: usize) -> Result<(Vec<i64>, bool), Stream
             }
         } else if !part.is_empty() {
             let text = String::from_utf8_lossy(&part).into_owned();
+            if brackets == Brackets::Closed {
+                return Err(Streamed::NoNumber(format!("]{text}")));
+            }
             let number = if separates { integer(&text) } else { None };
             numbers.push(number.ok_or(Streamed::NoNumber(text))?);
             part.clear();
             first = false;
         }
         if numbers.len() == most {
-            break;
+            return Ok((numbers, brackets != Brackets::Missing));
+        }
+        if bracket {
+            brackets = brackets.with(byte, numbers.is_empty())?;
         }
     }
-    Ok((numbers, brackets))
+    match brackets {
+        Brackets::Open => Err(Streamed::NoNumber("[".to_string())),
+        _ => Ok((numbers, brackets == Brackets::Closed)),
+    }
 }
 
 /// The set of all steps of a rank.
@@ -94,11 +124,14 @@ pub fn steps(option: &str, text: &str, rank: u8) -> Result<u64, String> {
     match text.trim() {
         "none" => return Ok(0),
         "all" => return Ok(all_steps(rank)),
-        "" => return Err(format!("{option} needs steps such as 1-3,5, or none for the empty set")),
         _ => {}
     }
+    let parts: Vec<&str> = text.split(separates).filter(|part| !part.is_empty()).collect();
+    if parts.is_empty() {
+        return Err(format!("{option} needs steps such as 1-3,5, or none for the empty set"));
+    }
     let mut set = 0;
-    for part in text.split(separates).filter(|part| !part.is_empty()) {
+    for part in parts {
         let step = |text: &str| match integer(text) {
             Some(step @ 1..=64) => Ok(step),
             _ => Err(format!(
@@ -143,6 +176,10 @@ mod tests {
         assert_eq!(read(&[b'1'; 100]), None);
         assert_eq!(read(&[0xff]), None);
         assert!(streamed(&b"[2 -1]"[..], 5).is_ok_and(|read| read == (vec![2, -1], true)));
+        assert!(streamed(&b"\xef\xbb\xbf [2,-1] \n"[..], 5).is_ok_and(|read| read == (vec![2, -1], true)));
+        for wrong in ["[1 2", "1 2]", "1[2", "]1[", "[1][2]", "[[1 2]]", "[1 2] 3", "1 [2]"] {
+            assert_eq!(read(wrong.as_bytes()), None, "{wrong}");
+        }
     }
 
     #[test]
@@ -154,7 +191,7 @@ mod tests {
         assert_eq!(steps("all"), Ok(0b11111));
         assert_eq!((all_steps(0), all_steps(64), all_steps(255)), (0, u64::MAX, u64::MAX));
         assert_eq!(steps("64"), Ok(1 << 63));
-        for wrong in ["", "0", "65", "1-", "-1", "5-2", "1-2-3", "x"] {
+        for wrong in ["", ",", " , ", "0", "65", "1-", "-1", "5-2", "1-2-3", "x"] {
             assert!(steps(wrong).is_err(), "{wrong}");
         }
     }
