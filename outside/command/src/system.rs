@@ -1,14 +1,21 @@
-//! What only the system can tell: whether a stream was closed when the program began, and how wide the terminal is.
-use std::ffi::{c_int, c_ulong};
+//! What only the system can do: tell whether a stream was closed when the program began and how wide the terminal is,
+//! and give a file a name that no other has.
+use std::ffi::{CString, c_char, c_int, c_uint, c_ulong};
+use std::io;
+use std::os::unix::ffi::OsStrExt;
+use std::path::Path;
 use std::sync::atomic::{AtomicU8, Ordering};
 
 unsafe extern "C" {
     fn fcntl(fd: c_int, command: c_int, ...) -> c_int;
     fn ioctl(fd: c_int, request: c_ulong, ...) -> c_int;
+    fn renameat2(folder: c_int, from: *const c_char, to_folder: c_int, to: *const c_char, flags: c_uint) -> c_int;
 }
 
 const F_GETFD: c_int = 1;
 const TIOCGWINSZ: c_ulong = 0x5413;
+const AT_FDCWD: c_int = -100;
+const RENAME_NOREPLACE: c_uint = 1;
 
 /// Bit k for the stream k, where it is open.
 static OPEN: AtomicU8 = AtomicU8::new(0);
@@ -39,4 +46,13 @@ pub fn terminal_columns() -> Option<usize> {
     // SAFETY: TIOCGWINSZ writes four 16-bit numbers: rows, columns and two sizes in pixels.
     let answer = unsafe { ioctl(1, TIOCGWINSZ, size.as_mut_ptr()) };
     (answer == 0 && size[1] > 0).then_some(size[1].into())
+}
+
+/// Renames a file to a name that no other has; one that exists stays. Not every file system can do it.
+pub fn rename_to_new(from: &Path, to: &Path) -> io::Result<()> {
+    let from = CString::new(from.as_os_str().as_bytes())?;
+    let to = CString::new(to.as_os_str().as_bytes())?;
+    // SAFETY: both are strings with a zero at their end, which outlive the call.
+    let answer = unsafe { renameat2(AT_FDCWD, from.as_ptr(), AT_FDCWD, to.as_ptr(), RENAME_NOREPLACE) };
+    if answer == 0 { Ok(()) } else { Err(io::Error::last_os_error()) }
 }

@@ -2,7 +2,7 @@
 //! whoever is cut off leaves the old file or the new one.
 use crate::failure::Failure;
 use crate::library::MAX_BOOK;
-use crate::text;
+use crate::{system, text};
 use std::ffi::OsString;
 use std::fs::{self, File, Metadata, OpenOptions};
 use std::io::{self, ErrorKind, Read, Write};
@@ -198,8 +198,7 @@ pub fn place_new(path: &Path, bytes: &[u8]) -> Result<(), Failure> {
         file.write_all(bytes)?;
         file.sync_all()?;
         point();
-        // Unlike a rename this never takes another file's place.
-        fs::hard_link(&part, path)?;
+        named(&part, path)?;
         point();
         settled(path)
     })();
@@ -208,6 +207,17 @@ pub fn place_new(path: &Path, bytes: &[u8]) -> Result<(), Failure> {
         ErrorKind::AlreadyExists => Failure::Unwilling(format!("'{}' exists: nothing is written", text::file(path))),
         _ => Failure::file(path, error),
     })
+}
+
+/// Gives a finished file its name, unless another has it. Where the file system has no such rename, a second name does
+/// it: cut off before the first is gone, the file has two.
+fn named(part: &Path, path: &Path) -> io::Result<()> {
+    match system::rename_to_new(part, path) {
+        Err(error) if matches!(error.kind(), ErrorKind::InvalidInput | ErrorKind::Unsupported) => {
+            fs::hard_link(part, path)
+        }
+        done => done,
+    }
 }
 
 #[cfg(not(test))]
