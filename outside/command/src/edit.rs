@@ -2,7 +2,7 @@
 use crate::args::Args;
 use crate::books::{self, Book};
 use crate::failure::Failure;
-use crate::files::{self, Locked, Sort};
+use crate::files::{self, Locked, Ready, Sort};
 use crate::json::Value;
 use crate::library::{self, Edition, MAX_BOOK, Rig};
 use crate::names::{self, Names};
@@ -148,22 +148,24 @@ impl Edit {
     fn replaced(&self, locked: Locked, change: &Change, out: &mut Out) -> Result<(), Failure> {
         let Some(numbers) = &change.numbers else { return locked.replace(&change.bytes) };
         let (beside, aside) = (names::beside(&self.from), names::aside(&self.from));
-        if fs::metadata(&beside).is_err_and(|error| error.kind() == ErrorKind::NotFound) {
-            return locked.replace(&change.bytes);
+        if fs::symlink_metadata(&aside).is_ok() {
+            let name = text::file(&aside);
+            return Err(Failure::Unwilling(format!(
+                "'{name}' was left by an editor or by a change that was cut off, and the presets' numbers change: \
+                 rename or remove it first"
+            )));
         }
-        let names: Names = names::read(&beside).map_err(|failure| {
-            let told = failure.in_a_line();
-            Failure::Unwilling(format!("the presets' numbers change, and their names cannot be read: {told}"))
-        })?;
-        let moved = |from: &Path, to: &Path| fs::rename(from, to).map_err(|error| Failure::file(from, error));
-        let replaced = locked.replace_around(&change.bytes, || moved(&beside, &aside));
-        if replaced.is_err() && fs::metadata(&beside).is_err() {
+        let Some(names) = names_with_numbers(&beside)? else { return locked.replace(&change.bytes) };
+        let ready = Ready::beside(&beside, &names.renumbered(numbers).written())?;
+        let replaced = locked.replace_around(&change.bytes, || put_aside(&beside, &aside, &names));
+        if replaced.is_err() && fs::symlink_metadata(&beside).is_err() {
             let _ = fs::rename(&aside, &beside);
         }
         // Held until the names are there: nobody reads or changes the new book without them.
         let new = replaced?;
         // The book is written, so that what fails now is no failure of the change.
-        if let Err(failure) = renamed(&beside, &aside, &names.renumbered(numbers)) {
+        let removed = || fs::remove_file(&aside).map_err(|error| Failure::file(&aside, error));
+        if let Err(failure) = ready.place().and_then(|()| removed()) {
             let (aside, told) = (text::file(&aside), failure.in_a_line());
             out.warn(format!("the book is written, but its names are in '{aside}' with the old numbers: {told}"));
         }
@@ -171,12 +173,25 @@ impl Edit {
     }
 }
 
-/// Puts the new names beside the book, with the old file's mode, and takes the old ones away.
-fn renamed(beside: &Path, aside: &Path, names: &Names) -> Result<(), Failure> {
-    let failed = |error| Failure::file(aside, error);
-    let mode = fs::metadata(aside).map_err(failed)?.permissions();
-    files::place_new(beside, &names.written())?;
-    fs::set_permissions(beside, mode).and_then(|()| fs::remove_file(aside)).map_err(failed)
+/// The names beside a book, if there are any that depend on its presets' numbers.
+fn names_with_numbers(beside: &Path) -> Result<Option<Names>, Failure> {
+    if fs::metadata(beside).is_err_and(|error| error.kind() == ErrorKind::NotFound) {
+        return Ok(None);
+    }
+    let names = names::read(beside).map_err(|failure| {
+        let told = failure.in_a_line();
+        Failure::Unwilling(format!("the presets' numbers change, and their names cannot be read: {told}"))
+    })?;
+    Ok(names.any_preset().then_some(names))
+}
+
+/// Puts the names aside, unless somebody changed them after they were read.
+fn put_aside(beside: &Path, aside: &Path, read: &Names) -> Result<(), Failure> {
+    fs::rename(beside, aside).map_err(|error| Failure::file(beside, error))?;
+    if names::read(aside).is_ok_and(|now| now == *read) {
+        return Ok(());
+    }
+    Err(Failure::Unwilling(format!("'{}' changed meanwhile: nothing is written; try again", text::file(beside))))
 }
 
 /// Says what was written; only now is it acknowledged.

@@ -55,6 +55,11 @@ impl Names {
         self.find(Keyword::Preset, number)
     }
 
+    /// Whether a preset has a name.
+    pub fn any_preset(&self) -> bool {
+        self.lines.iter().any(|line| matches!(line, Line::Name(Keyword::Preset, ..)))
+    }
+
     /// Whether a source or a screen of so many lanes has a name.
     pub fn any(&self, lanes: usize) -> bool {
         (1..=lanes).any(|lane| self.source(lane).is_some() || self.screen(lane).is_some())
@@ -145,7 +150,7 @@ fn parsed(line: &str) -> Result<Line, String> {
     Ok(Line::Name(keyword, number, name.to_string()))
 }
 
-/// Where a book's names are.
+/// Where a book's names are: of a link, beside the book that it leads to, whichever way that is changed.
 pub fn beside(book: &Path) -> PathBuf {
     with(book, ".names")
 }
@@ -156,7 +161,8 @@ pub fn aside(book: &Path) -> PathBuf {
 }
 
 fn with(book: &Path, ending: &str) -> PathBuf {
-    let mut name = OsString::from(book);
+    let target = if book.is_symlink() { fs::canonicalize(book).ok() } else { None };
+    let mut name = OsString::from(target.as_deref().unwrap_or(book));
     name.push(ending);
     PathBuf::from(name)
 }

@@ -49,9 +49,14 @@ impl Locked {
     /// locked before it got the name: whoever comes next waits until it is dropped. A failure leaves the old file.
     pub fn replace_around(self, bytes: &[u8], before: impl FnOnce() -> Result<(), Failure>) -> Result<New, Failure> {
         let part = hidden(&self.target, "part");
-        let written = self.written(&part, bytes).and_then(|new| self.unchanged().and_then(|()| before()).map(|()| new));
-        let placed = written.and_then(|new| {
-            fs::rename(&part, &self.target).map(|()| new).map_err(|error| Failure::file(&self.name, error))
+        let failed = |error| Failure::file(&self.name, error);
+        let placed = written(&part, bytes, &self.old, &self.name).and_then(|new| {
+            new.lock().map_err(failed)?;
+            point();
+            self.unchanged()?;
+            before()?;
+            fs::rename(&part, &self.target).map_err(failed)?;
+            Ok(new)
         });
         if placed.is_err() {
             // The first error is the one to tell.
@@ -60,34 +65,6 @@ impl Locked {
         let file = placed?;
         point();
         Ok(New { name: self.name.clone(), target: self.target.clone(), _file: file })
-    }
-
-    /// The new file beside the old one, whole and on the disk, with the old one's mode and owner, and locked.
-    fn written(&self, part: &Path, bytes: &[u8]) -> Result<File, Failure> {
-        let failed = |error| Failure::file(&self.name, error);
-        // Left by a run that was cut off: under the lock nobody else writes it.
-        let _ = fs::remove_file(part);
-        point();
-        // Nobody else reads it before it has the old one's mode.
-        let mut file = OpenOptions::new().write(true).create_new(true).mode(0o600).open(part).map_err(failed)?;
-        point();
-        let (front, rest) = bytes.split_at(bytes.len() / 2);
-        file.write_all(front).map_err(failed)?;
-        point();
-        file.write_all(rest).map_err(failed)?;
-        point();
-        let new = file.metadata().map_err(failed)?;
-        if (new.uid(), new.gid()) != (self.old.uid(), self.old.gid()) {
-            fchown(&file, Some(self.old.uid()), Some(self.old.gid())).map_err(|_| {
-                let name = text::file(&self.name);
-                Failure::Unwilling(format!("'{name}' belongs to somebody else, whom a new file would not: use -o"))
-            })?;
-        }
-        file.set_permissions(self.old.permissions()).map_err(failed)?;
-        point();
-        file.sync_all().and_then(|()| file.lock()).map_err(failed)?;
-        point();
-        Ok(file)
     }
 
     /// Looks whether the name still leads to the file with the bytes that were read.
@@ -102,6 +79,66 @@ impl Locked {
             return Err(Failure::Unwilling(format!("'{name}' changed meanwhile: nothing is written; try again")));
         }
         Ok(())
+    }
+}
+
+/// A new file beside the old one, whole and on the disk, with the old one's mode and owner.
+fn written(part: &Path, bytes: &[u8], old: &Metadata, name: &Path) -> Result<File, Failure> {
+    let failed = |error| Failure::file(name, error);
+    // Left by a run that was cut off: under the lock nobody else writes it.
+    let _ = fs::remove_file(part);
+    point();
+    // Nobody else reads it before it has the old one's mode.
+    let mut file = OpenOptions::new().write(true).create_new(true).mode(0o600).open(part).map_err(failed)?;
+    point();
+    let (front, rest) = bytes.split_at(bytes.len() / 2);
+    file.write_all(front).map_err(failed)?;
+    point();
+    file.write_all(rest).map_err(failed)?;
+    point();
+    let new = file.metadata().map_err(failed)?;
+    if (new.uid(), new.gid()) != (old.uid(), old.gid()) {
+        fchown(&file, Some(old.uid()), Some(old.gid())).map_err(|_| {
+            let name = text::file(name);
+            Failure::Unwilling(format!("'{name}' belongs to somebody else, whom a new file would not: use -o"))
+        })?;
+    }
+    file.set_permissions(old.permissions()).map_err(failed)?;
+    point();
+    file.sync_all().map_err(failed)?;
+    point();
+    Ok(file)
+}
+
+/// A file beside the one whose place it takes later, under the lock of the book that both belong to.
+pub struct Ready {
+    path: PathBuf,
+    part: PathBuf,
+}
+
+impl Ready {
+    /// A link stays, and so does what its owner protected.
+    pub fn beside(path: &Path, bytes: &[u8]) -> Result<Ready, Failure> {
+        let old = fs::symlink_metadata(path).map_err(|error| Failure::file(path, error))?;
+        if old.is_symlink() {
+            let name = text::file(path);
+            return Err(Failure::Unwilling(format!("'{name}' is a link, which a new file would not be: use -o")));
+        }
+        may_replace(path, &old)?;
+        let ready = Ready { path: path.to_path_buf(), part: hidden(path, "part") };
+        written(&ready.part, bytes, &old, path)?;
+        Ok(ready)
+    }
+
+    /// Gives it the name, which nobody has any more.
+    pub fn place(self) -> Result<(), Failure> {
+        named(&self.part, &self.path).map_err(|error| Failure::file(&self.path, error))
+    }
+}
+
+impl Drop for Ready {
+    fn drop(&mut self) {
+        let _ = fs::remove_file(&self.part);
     }
 }
 

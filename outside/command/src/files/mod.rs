@@ -2,7 +2,7 @@
 mod locked;
 mod sort;
 
-pub use locked::{Locked, place_new, read_together};
+pub use locked::{Locked, Ready, place_new, read_together};
 pub use sort::Sort;
 
 use crate::failure::Failure;
