@@ -71,11 +71,12 @@ impl Failure {
         }
     }
 
-    /// Says what went wrong on standard error, or as JSON on standard output, and gives the exit status.
-    pub fn told(self, json: bool, asked_for_status: bool) -> ExitCode {
+    /// Says what went wrong on standard error, or as JSON on standard output with the warnings that came before, and
+    /// gives the exit status.
+    pub fn told(self, json: bool, asked_for_status: bool, warnings: Option<(&'static str, Value)>) -> ExitCode {
         let status = self.status(asked_for_status);
         if json && system::was_open(1) && !matches!(self, Failure::ClosedPipe) {
-            let told = self.json(status);
+            let told = Value::Object(self.fields(status).into_iter().chain(warnings).collect());
             let written = writeln!(io::stdout(), "{told}").and_then(|()| io::stdout().flush());
             if written.is_ok() {
                 return ExitCode::from(status);
@@ -87,7 +88,8 @@ impl Failure {
         ExitCode::from(status)
     }
 
-    fn json(&self, status: u8) -> Value {
+    /// For JSON.
+    fn fields(&self, status: u8) -> Vec<(&'static str, Value)> {
         let mut fields = vec![("ok", false.into()), ("status", status.into())];
         match self {
             Failure::Refused(refusal, culprit) => fields.extend(refused(*refusal, culprit)),
@@ -110,7 +112,7 @@ impl Failure {
             }
             other => fields.push(("error", other.sentence().into())),
         }
-        Value::Object(fields)
+        fields
     }
 
     fn sentence(&self) -> String {

@@ -24,9 +24,13 @@ const COLUMN: usize = 16;
 
 /// Help on the subcommand that is named first, or on all.
 pub fn write(arguments: Vec<OsString>, out: &mut Out) -> Result<(), Failure> {
-    let text = match arguments.first() {
-        Some(name) => of(find(&name.to_string_lossy())?, out.width, out.style),
-        None => overview(out.width, out.style),
+    let text = match &arguments[..] {
+        [] => overview(out.width, out.style),
+        [name] => of(find(&name.to_string_lossy())?, out.width, out.style),
+        [_, more, ..] => {
+            let more = text::plain(&more.to_string_lossy());
+            return Err(Failure::usage(format!("help is on one subcommand, and '{more}' is too many"), None));
+        }
     };
     Ok(out.write_all(text.as_bytes())?)
 }

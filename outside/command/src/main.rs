@@ -63,7 +63,7 @@ fn main() -> ExitCode {
             Some(Verdict::No) => REFUSED,
             None => FAILED_ASKED_FOR_STATUS,
         }),
-        Err(failure) => failure.told(json, asked_for_status),
+        Err(failure) => failure.told(json, asked_for_status, out.taken_warnings()),
     }
 }
 
@@ -74,7 +74,7 @@ fn run(mut arguments: Vec<OsString>, out: &mut Out) -> Result<Verdict, Failure> 
     let first = arguments.remove(0);
     match &*first.to_string_lossy() {
         "-h" | "--help" | "help" => help::write(arguments, out)?,
-        "-V" | "--version" => version(out)?,
+        "-V" | "--version" => version(arguments, out)?,
         name => {
             let subcommand = help::find(name)?;
             match Args::parse(subcommand, arguments)? {
@@ -92,7 +92,10 @@ fn run(mut arguments: Vec<OsString>, out: &mut Out) -> Result<Verdict, Failure> 
     Ok(Verdict::Answer)
 }
 
-fn version(out: &mut Out) -> Result<(), Failure> {
+fn version(arguments: Vec<OsString>, out: &mut Out) -> Result<(), Failure> {
+    if let Some(more) = arguments.iter().find(|argument| *argument != "--json") {
+        return Err(Failure::usage(format!("one argument too many: '{}'", text::plain(&more.to_string_lossy())), None));
+    }
     if out.json {
         let fields = vec![("version", library::VERSION.into()), ("library_sha256", library::ARCHIVE_SHA256.into())];
         return Ok(out.answer("version", fields)?);
