@@ -70,7 +70,16 @@ fn signed(entry: i8) -> String {
 
 /// About how many pixels a text takes.
 fn length(text: &str, size: usize) -> usize {
-    text::columns(text) * size * 3 / 5
+    text.chars().map(fifths).sum::<usize>() * size / 5
+}
+
+/// About how wide a character is, in fifths of the text's size: capitals are wider, and ideographs are square.
+fn fifths(character: char) -> usize {
+    match character {
+        'M' | 'W' | '\u{2e80}'.. => 5,
+        capital if capital.is_uppercase() => 4,
+        _ => 3,
+    }
 }
 
 /// The file that a picture goes to.
