@@ -3,12 +3,13 @@
 use crate::failure::Failure;
 use crate::out::Out;
 use crate::text;
+use std::collections::HashSet;
 use std::ffi::OsString;
 use std::fs::{self, File};
 use std::io::{ErrorKind, Read};
 use std::path::{Path, PathBuf};
 
-#[derive(Clone, Copy, PartialEq, Eq, Debug)]
+#[derive(Clone, Copy, PartialEq, Eq, Hash, Debug)]
 pub enum Keyword {
     Source,
     Screen,
@@ -76,10 +77,11 @@ impl Names {
             lines: Vec::new(),
             returns: text.lines().count() > 0 && text.split('\n').next().is_some_and(|line| line.ends_with('\r')),
         };
+        let mut named = HashSet::new();
         for (number, line) in text.lines().enumerate() {
             let line = parsed(line).map_err(|problem| (number + 1, problem))?;
             if let Line::Name(keyword, of, _) = &line
-                && names.find(*keyword, *of).is_some()
+                && !named.insert((*keyword, *of))
             {
                 return Err((number + 1, format!("{} {of} is named twice", keyword.word())));
             }
