@@ -25,7 +25,7 @@ impl Given<'_> {
             5 => Some(kind(rig)),
             6 => rank(rig),
             7 => self.word(rig, refusal).map(|word| match word.typed.len() {
-                letters if letters > library::MAX_LETTERS + 1 => {
+                letters if letters > library::MAX_WORD + 1 => {
                     format!("{} has {}", word.name, text::counted(letters, "letter"))
                 }
                 _ => format!("{} has more than 4,096 letters", word.name),

@@ -1,6 +1,6 @@
 //! The library's calls, with outputs that are always long enough. No other module knows the crate.
 use std::fmt;
-pub use winnathey::lent::{Edition, Kind, MAX_BOOK, MAX_LANES, MAX_LETTERS, Refusal};
+pub use winnathey::lent::{Edition, Kind, MAX_BOOK, MAX_LANES, MAX_WORD, Refusal};
 use winnathey::lent::{MAX_COUNTS, MAX_NORMAL_FORM, Rewrite};
 
 /// The version of the library's crate, and the hash of the archive that this program is linked with.

@@ -1,6 +1,6 @@
 //! Numbers as people type them: words, windows, sets of steps.
 use crate::failure::Failure;
-use crate::library::MAX_LETTERS;
+use crate::library::MAX_WORD;
 use crate::{system, text};
 use std::io::{self, BufRead, ErrorKind};
 use std::num::IntErrorKind;
@@ -41,7 +41,7 @@ pub fn from_standard_input() -> Result<(Vec<i64>, bool), Failure> {
     if !system::was_open(0) {
         return Err(Failure::File(name(), io::Error::new(ErrorKind::NotConnected, "it is closed")));
     }
-    match streamed(io::stdin().lock(), MAX_LETTERS + 1) {
+    match streamed(io::stdin().lock(), MAX_WORD + 1) {
         Ok(read) => Ok(read),
         Err(Streamed::Failed(error)) => Err(Failure::File(name(), error)),
         Err(Streamed::NoNumber(part)) => Err(Failure::usage(no_number(&part), None)),

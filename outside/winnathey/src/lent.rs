@@ -21,7 +21,7 @@
 #[cfg(feature = "alloc")]
 mod presets;
 
-pub use crate::{Edition, MAX_BOOK, MAX_COUNTS, MAX_LANES, MAX_WORD, MAX_NORMAL_FORM, Refusal};
+pub use crate::{Edition, MAX_BOOK, MAX_COUNTS, MAX_LANES, MAX_NORMAL_FORM, MAX_WORD, Refusal};
 #[cfg(feature = "alloc")]
 pub use presets::{Presets, presets};
 

@@ -1,6 +1,6 @@
 //! Rigs: a kind and a rank, checked once, and the calls on their words and windows.
 use crate::lent::{self, Crossings};
-use crate::{Kind, MAX_COUNTS, MAX_LANES, MAX_WORD, MAX_NORMAL_FORM, Refusal, Steps, Window, Word};
+use crate::{Kind, MAX_COUNTS, MAX_LANES, MAX_NORMAL_FORM, MAX_WORD, Refusal, Steps, Window, Word};
 use alloc::vec;
 use alloc::vec::Vec;
 use core::error::Error;
