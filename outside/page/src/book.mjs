@@ -3,7 +3,7 @@ import { button, byId, make, refusalLine, setText } from './dom.mjs';
 import { attempt } from './library.mjs';
 import { withName } from './names.mjs';
 import { inRig, nameField } from './rig.mjs';
-import { NEW_BOOK } from './state.mjs';
+import { NEW_BOOK, presetOf, samePreset } from './state.mjs';
 import { pictureMarkup } from './strands.mjs';
 import { counted } from './text.mjs';
 
@@ -42,6 +42,13 @@ export function verdictTexts(verdicts, edition) {
 export function tooManyLanes(library, edition, bytes) {
     const alone = preset => attempt(() => library.convert(edition, library.append(edition, [], preset.kind, preset.rank, preset.letters)));
     return library.presets(edition, bytes).find(preset => preset.refusal || alone(preset).refusal?.number === 18)?.number ?? -1;
+}
+
+/** The preset of a book that a state composes, or null; a book that is refused has none. */
+export function presetIn(library, { edition, bytes }, state) {
+    const listed = attempt(() => library.presets(edition, bytes)).value ?? [];
+    const found = listed.find(({ refusal, kind, rank, letters }) => !refusal && samePreset(state, { kind, rank, word: letters }));
+    return found ? presetOf(state, found.number) : null;
 }
 
 export class BookPanel {
@@ -97,10 +104,9 @@ export class BookPanel {
         if (refusal) return this.#say(refusalLine(refusal, 'The book stays as it was.')) ?? false;
         const number = library.bookCheck(edition, value) - 1;
         store.change({ book: { ...state.book, bytes: value }, names: withName(state.names, 'preset', number, this.presetName.value) });
-        this.app.keepPreset(number);
         this.presetName.value = '';
         this.first = number - number % ROWS;
-        store.markWordKept();
+        store.markWordKept(number);
         this.#say(make('p', {}, `Appended as preset ${number}. The book is not saved yet.`));
         return true;
     }
@@ -122,10 +128,13 @@ export class BookPanel {
     #load(preset) {
         const { library, state, store, ui } = this.app;
         const { change } = inRig(library, state, preset.kind, preset.rank);
+        const lost = store.wordUnsaved;
         ui.selected = -1;
+        // A title and remarks were written for the sheet of one preset.
+        if (!samePreset(state, { ...preset, word: preset.letters })) this.app.panels.sheet.clear();
         store.change({ ...change, word: preset.letters });
-        this.app.keepPreset(preset.number);
-        store.markWordKept();
+        store.markWordKept(preset.number);
+        if (lost) this.#say(make('p', {}, 'The word before was in no book. Undo brings it back.'));
     }
 
     update() {

@@ -23,8 +23,8 @@ export class Composing {
         this.field.addEventListener('input', () => this.#typed());
         this.field.addEventListener('scroll', () => (byId('word-marks').scrollTop = this.field.scrollTop));
         byId('take').addEventListener('click', () => app.store.change({ word: app.answers.form }));
-        byId('undo').addEventListener('click', () => app.store.undo());
-        byId('redo').addEventListener('click', () => app.store.redo());
+        byId('undo').addEventListener('click', () => app.goBack());
+        byId('redo').addEventListener('click', () => app.goBack(true));
         byId('clear').addEventListener('click', () => app.store.change({ word: [] }));
         byId('remove').addEventListener('click', () => this.remove(app.ui.selected));
         byId('earlier').addEventListener('click', () => this.move(app.ui.selected, app.ui.selected - 1));
@@ -79,11 +79,21 @@ export class Composing {
         else this.#showFault();
     }
 
+    /** Takes refused text out of the field, which then has the word again; returns whether there was any. */
+    takeBack() {
+        if (!this.fault) return false;
+        this.fault = null;
+        this.field.value = spaced(this.app.state.word);
+        this.#showFault();
+        return true;
+    }
+
     /** The wrong letter is marked behind the text, at its place. */
     #showFault() {
         const { fault, field } = this;
         const text = field.value;
         field.setAttribute('aria-invalid', String(Boolean(fault)));
+        byId('undo').disabled = !this.app.store.canUndo && !fault;
         const part = (start, end) => escaped(text.slice(start, end));
         byId('word-marks').innerHTML = fault ? `${part(0, fault.start)}<mark>${part(fault.start, fault.end)}</mark>${part(fault.end)}` : '';
         byId('word-marks').scrollTop = field.scrollTop;
@@ -109,7 +119,7 @@ export class Composing {
         const { state, answers, store, ui } = this.app;
         this.#updateField(state);
         this.#sayAdd('');
-        byId('undo').disabled = !store.canUndo;
+        byId('undo').disabled = !store.canUndo && !this.fault;
         byId('redo').disabled = !store.canRedo;
         byId('clear').disabled = state.word.length === 0;
         byId('remove').disabled = ui.selected < 0;

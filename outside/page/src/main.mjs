@@ -1,6 +1,6 @@
 // The page as a whole: the library is loaded, the parts are put together, and every change goes through them in one order.
 import { load } from '../../js/winnathey.mjs';
-import { BookPanel, chosenEdition, editionName, verdictsOf } from './book.mjs';
+import { BookPanel, chosenEdition, editionName, presetIn, verdictsOf } from './book.mjs';
 import { Composing } from './composing.mjs';
 import { DelaysPanel } from './delays.mjs';
 import { button, byId, keepFocus, make, setText } from './dom.mjs';
@@ -17,6 +17,7 @@ import { RigFields } from './rig.mjs';
 import { SheetPanel } from './sheet.mjs';
 import { FIRST_STATE, NEW_BOOK, Store } from './state.mjs';
 import { Tabs } from './tabs.mjs';
+import { counted } from './text.mjs';
 import { WantedPanel, withSource } from './wanted.mjs';
 import { WhyPanel } from './why.mjs';
 
@@ -32,7 +33,6 @@ class App {
     #pressed = false;
     #waiting = 0;
     #namesLost = false;
-    #preset = null;
     #savedNames = null;
 
     constructor(library, about) {
@@ -152,7 +152,7 @@ class App {
         addEventListener('keydown', event => this.#key(event));
         addEventListener('beforeprint', () => this.panels.sheet.update());
         addEventListener('beforeunload', event => {
-            if (this.store.unsaved || this.#namesLost) event.preventDefault();
+            if (this.store.unsaved || this.composing.fault || this.#namesLost) event.preventDefault();
         });
     }
 
@@ -164,14 +164,27 @@ class App {
         if (command && !own && 'zy'.includes(event.key.toLowerCase())) {
             const redo = event.shiftKey || event.key.toLowerCase() === 'y';
             event.preventDefault();
-            redo ? this.store.redo() : this.store.undo();
+            this.goBack(redo);
         } else if (command && event.key.toLowerCase() === 's') {
             // The browser would save the page instead.
             event.preventDefault();
+            // A name that is still being typed counts.
+            field?.dispatchEvent(new Event('change'));
             this.saveBook();
         } else if (!field && !command && !event.altKey && /^[0-9]$/.test(event.key)) {
             byId('add').focus();
         }
+    }
+
+    /** Undo, or redo. One that changes the book says so: someone who looks at the picture would not see it. */
+    goBack(redo = false) {
+        if (!redo && this.composing.takeBack()) return;
+        const before = this.state.book;
+        redo ? this.store.redo() : this.store.undo();
+        const { book } = this.state;
+        if (book.bytes === before.bytes && book.name === before.name) return;
+        const { value } = verdictsOf(this.library, book.bytes)[book.edition];
+        this.notice(`${redo ? 'Redo' : 'Undo'} changed the book: it is ${book.name} with ${counted(value ?? 0, 'preset')} now.`);
     }
 
     /** A source put on a screen of the wanted picture; on one of the picture itself, which is then the one that is changed. */
@@ -182,23 +195,14 @@ class App {
         this.store.change({ wanted: withSource(before, source, screen) });
     }
 
-    /** The preset of the book that is composed here now is this one. */
-    keepPreset(number) {
-        const { kind, rank, word, book } = this.state;
-        this.#preset = { number, kind, rank, word, book: book.name };
-    }
-
-    /** Its number, as long as nothing of it was changed, or null. */
-    get preset() {
-        const { kind, rank, word, book } = this.state;
-        const kept = this.#preset;
-        const same = kept && kept.kind === kind && kept.rank === rank && kept.word === word && kept.book === book.name;
-        return same ? kept.number : null;
-    }
-
-    /** Saves the book; a word that is not in it is asked about, as it would not be in the file. */
+    /**
+     * Saves the book; a word that is not in it is asked about, as it would not be in the file. What the library refuses is no book:
+     * of a file that is too long only the front was read, and saving that would replace the whole.
+     */
     saveBook(asked = false) {
         const { book } = this.state;
+        const { refusal } = verdictsOf(this.library, book.bytes)[book.edition];
+        if (refusal) return this.notice(`${book.name} is not saved: ${refusal.sentence} The file on the disk stays as it is.`);
         if (this.store.wordUnsaved && !asked) {
             return this.notice('The present word is not in the book yet.',
                 button('Append it and save', () => this.#appendAndSave()), button('Save without it', () => this.saveBook(true)));
@@ -243,10 +247,10 @@ class App {
         }
         this.notice(wrong ?? '');
         const edition = chosenEdition(verdictsOf(this.library, book.bytes), book.edition ?? state.book.edition);
-        this.#preset = null;
         this.panels.book.first = 0;
-        const { name, bytes } = book;
-        store.change({ book: { name, edition, bytes }, names: names ?? rememberedNames(book) ?? rigNames(state.names) });
+        const opened = { name: book.name, edition, bytes: book.bytes };
+        const kept = presetIn(this.library, opened, state);
+        store.change({ book: opened, kept, names: names ?? rememberedNames(book) ?? rigNames(state.names) });
         store.markBookSaved();
         this.#savedNames = names;
         this.tabs.choose('book');
@@ -267,4 +271,8 @@ async function start() {
     document.body.dataset.ready = 'yes';
 }
 
-start();
+start().catch(error => {
+    byId('notice').textContent = `This browser cannot run the page: ${error.message}`;
+    byId('notice').hidden = false;
+    throw error;
+});

@@ -47,8 +47,13 @@ export class SheetPanel {
         root.append(make('div', { class: 'bar no-print' }, fields, print), this.sheet);
     }
 
+    clear() {
+        this.title.value = this.remarks.value = '';
+    }
+
     update() {
-        const { state, answers, about, preset } = this.app;
+        const { state, answers, about, store } = this.app;
+        const { preset } = store;
         const date = new Date().toLocaleString('en-GB', { dateStyle: 'long', timeStyle: 'short' });
         const remarks = this.remarks.value ? [['Remarks', this.remarks.value]] : [];
         const lines = [...sheetLines(state, answers, about), ['Date', date], ...remarks];

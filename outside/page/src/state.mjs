@@ -17,6 +17,8 @@ export const FIRST_STATE = Object.freeze({
     /** The wanted window, or null where none was asked for yet. */
     wanted: null,
     wantedFrom: 'straight',
+    /** The preset of this book that the word was loaded from or appended as, or null. */
+    kept: null,
     /** The word of the simpler preset of a fallback. */
     simpler: Object.freeze([]),
     book: NEW_BOOK,
@@ -26,18 +28,26 @@ function sameList(one, two) {
     return one === two || (one.length === two.length && one.every((element, at) => element === two[at]));
 }
 
+/** What a state composes, as the preset of a book. */
+export function presetOf({ kind, rank, word }, number) {
+    return { number, kind, rank, word };
+}
+
+/** The same word of the same rig. */
+export function samePreset(one, two) {
+    return one.kind === two.kind && one.rank === two.rank && sameList(one.word, two.word);
+}
+
 /** The states and the marks of what is saved. */
 export class Store {
     #states;
     #at = 0;
     #listeners = [];
     #savedBook;
-    #savedWord;
 
     constructor(first = FIRST_STATE) {
         this.#states = [first];
         this.#savedBook = first.book.bytes;
-        this.#savedWord = first.word;
     }
 
     get state() {
@@ -90,20 +100,30 @@ export class Store {
         this.#tell(this.state);
     }
 
-    /** The word as it is now is in the book. */
-    markWordKept() {
-        this.#savedWord = this.state.word;
-        this.#tell(this.state);
+    /** The word as it is now is in the book, as the preset of this number; in the states before this one it is not. */
+    markWordKept(number = null) {
+        const old = this.state;
+        this.#states[this.#at] = { ...old, kept: presetOf(old, number) };
+        this.#tell(old);
     }
 
     get bookUnsaved() {
         return !sameList(this.state.book.bytes, this.#savedBook);
     }
 
+    get #kept() {
+        const { kept } = this.state;
+        return kept && samePreset(this.state, kept) ? kept : null;
+    }
+
+    /** The number of the preset of the book that is composed here now, as long as nothing of it was changed, or null. */
+    get preset() {
+        return this.#kept?.number ?? null;
+    }
+
     /** Whether there is a word that was neither loaded from the book nor appended to it. */
     get wordUnsaved() {
-        const { word } = this.state;
-        return word.length > 0 && !sameList(word, this.#savedWord);
+        return this.state.word.length > 0 && this.#kept === null;
     }
 
     /** Whether leaving would lose something. */

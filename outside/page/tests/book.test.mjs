@@ -2,7 +2,7 @@
 import assert from 'node:assert/strict';
 import { readFileSync, readdirSync } from 'node:fs';
 import { test } from 'node:test';
-import { chosenEdition, tooManyLanes, verdictTexts, verdictsOf } from '../src/book.mjs';
+import { chosenEdition, presetIn, tooManyLanes, verdictTexts, verdictsOf } from '../src/book.mjs';
 import { isNamesFile } from '../src/files.mjs';
 import { manyBooks } from './books.mjs';
 import { library, root } from './library.mjs';
@@ -41,6 +41,13 @@ test('the preset that stands in the way of a conversion is found', () => {
     assert.equal(tooManyLanes(library, 2, book), 1);
     const damaged = readFileSync(`${root}outside/tests/books/refused/8-letter.first`);
     assert.ok(tooManyLanes(library, 1, damaged) >= 0);
+});
+
+test('a preset is found in a book by its rig and its letters', () => {
+    const bytes = library.append(2, library.append(2, [], 'D', 5, [1]), 'D', 5, [5, 2]);
+    const number = (kind, rank, word) => presetIn(library, { edition: 2, bytes }, { kind, rank, word })?.number ?? null;
+    assert.deepEqual([number('D', 5, [5, 2]), number('D', 6, [5, 2]), number('B', 5, [5, 2]), number('D', 5, [5])], [1, null, null, null]);
+    assert.equal(presetIn(library, { edition: 2, bytes: [1] }, { kind: 'D', rank: 5, word: [] }), null);
 });
 
 test('names files are known by their name', () => {

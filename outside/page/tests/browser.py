@@ -267,6 +267,19 @@ class TenPoints(PageTest):
         self.assertEqual(self.text("add-message"), self.library("sentence", 8))
         self.assertEqual(self.letters(), [4, 4, 2])
 
+    def test_03_undo_takes_refused_text_back_first(self):
+        field = self.labelled("Word")
+        field.send_keys("9 4 4")
+        self.assertTrue(self.asks_before_leaving())
+        self.press("Undo")
+        self.assertEqual((field.get_attribute("value"), self.text("word-message")), ("", ""))
+        self.assertFalse(self.labelled("Undo").is_enabled())
+        field.send_keys("4 2 9")
+        field.send_keys(Keys.CONTROL, "z")
+        self.assertEqual((field.get_attribute("value"), self.letters()), ("4 2", [4, 2]))
+        field.send_keys(Keys.CONTROL, "z")
+        self.assertEqual(self.letters(), [4])
+
     def test_03_steps_are_moved_and_thrown_away(self):
         self.word("1 2 3 4 5")
         chip = lambda at: self.js("return document.querySelector(`.chip[data-at='${arguments[0]}']`)", at)
@@ -514,6 +527,58 @@ class Books(PageTest):
         self.press("Save without it")
         self.assertEqual(len(self.saved("new.book")), 12)
         self.assertTrue(self.asks_before_leaving())
+
+    def keys(self, key):
+        ActionChains(self.driver).key_down(Keys.CONTROL).send_keys(key).key_up(Keys.CONTROL).perform()
+        self.settle()
+
+    def test_07_what_is_refused_is_not_saved_by_a_key(self):
+        """Of a file that is too long only the front was read."""
+        for name, content in [("large.book", bytes(70000)), ("damaged.book", bytes([9] * 50))]:
+            self.drop((name, content))
+            self.keys("s")
+            self.assertIn(f"{name} is not saved", self.text("notice"))
+            time.sleep(0.3)
+            self.assertEqual(list(Path(self.downloads).iterdir()), [])
+
+    def test_07_a_name_being_typed_counts_when_saving(self):
+        self.press("Book")
+        field = self.labelled("File name")
+        field.send_keys(Keys.CONTROL, "a")
+        field.send_keys("lesson.book")
+        self.keys("s")
+        self.assertEqual(self.saved("lesson.book"), b"")
+
+    def test_07_undo_knows_what_the_book_has(self):
+        self.word("1 2 5")
+        self.press("Book")
+        self.press("Append the present preset")
+        self.assertEqual(self.js("return app.store.preset"), 0)
+        self.press("Undo")
+        self.assertIn("Undo changed the book: it is new.book with 0 presets now.", self.text("notice"))
+        self.assertEqual(self.letters(), [1, 2, 5])
+        self.assertTrue(self.asks_before_leaving())
+        self.press("Redo")
+        self.press("New book")
+        self.press("Open new.book all the same")
+        self.assertTrue(self.asks_before_leaving())
+        self.press("Undo")
+        self.assertEqual(self.js("return [app.store.preset, app.store.wordUnsaved]"), [0, False])
+
+    def test_07_another_rig_or_book_has_another_preset(self):
+        self.drop(("cabin.book", self.BOOK))
+        self.press("load preset 1")
+        self.assertFalse(self.asks_before_leaving())
+        self.drop(("copy.book", self.BOOK))
+        self.assertEqual(self.js("return app.store.preset"), 1)
+        self.assertFalse(self.asks_before_leaving())
+        self.rig("D", 6)
+        self.assertEqual(self.letters(), [5, 2, 3, 5, 1, 2])
+        self.assertTrue(self.asks_before_leaving())
+        self.press("load preset 0")
+        self.assertIn("Undo brings it back", self.text("book-message"))
+        self.press("Undo")
+        self.assertEqual(self.letters(), [5, 2, 3, 5, 1, 2])
 
     def test_07_refused_calls_change_nothing(self):
         self.drop(("old.book", self.BOOK))

@@ -58,6 +58,20 @@ test('a word goes along to another rig if that takes it', () => {
     assert.deepEqual([change.word, change.locked, change.simpler, refusal.number], [[], [2], [], 8]);
 });
 
+test('a word is kept as the preset of one rig, and not before it was', () => {
+    const store = new Store();
+    store.change({ word: [1, 2] });
+    store.change({ locked: [1] });
+    store.markWordKept(7);
+    assert.deepEqual([store.preset, store.wordUnsaved], [7, false]);
+    store.change({ rank: 6 });
+    assert.deepEqual([store.preset, store.wordUnsaved], [null, true]);
+    store.undo();
+    assert.equal(store.preset, 7);
+    store.undo();
+    assert.deepEqual([store.preset, store.wordUnsaved], [null, true]);
+});
+
 test('every change can be undone and redone, and what is not saved is known', () => {
     const store = new Store();
     assert.ok(!store.canUndo && !store.unsaved);
