@@ -6,15 +6,17 @@ import { pictureMarkup } from './strands.mjs';
 import { counted, signed, wordText } from './text.mjs';
 
 /** The lines of the sheet: what it says of a preset. */
-export function sheetLines(state, { form, window, crossings }, about) {
+export function sheetLines(state, { form, window, crossings }, about, preset = null) {
     const { inversions, negativeSumPairs, negatives, total } = crossings;
+    const [plain, against] = [counted(inversions, 'plain pair'), counted(negativeSumPairs, 'pair')];
+    const book = `${state.book.name}, ${state.book.edition === 1 ? 'first' : 'second'} edition`;
     return [
         ['Rig', `kind ${KINDS[state.kind]}; rank ${state.rank}; ${counted(window.length, 'lane')}`],
         ['Word', `${wordText(state.word)} (${counted(state.word.length, 'letter')})`],
         ['Normal form', `${wordText(form)} (${counted(form.length, 'letter')})`],
-        ['Window', window.map(signed).join(' ')],
-        ['Length', `${total}: ${inversions} plain pairs, ${negativeSumPairs} pairs against a mirrored lane, ${negatives} mirrored lanes`],
-        ['Book', `${state.book.name}, ${state.book.edition === 1 ? 'first' : 'second'} edition`],
+        ['Window', `${window.map(signed).join(' ')} (the source on each screen in turn${window.some(entry => entry < 0) ? ', − where mirrored' : ''})`],
+        ['Length', `${total}: ${plain}, ${against} against a mirrored lane, ${counted(negatives, 'mirrored lane')}`],
+        ['Book', preset === null ? 'this preset is in no book yet' : `${book}, preset ${preset}`],
         ['Library', `Winnathey ${about.version}, SHA-256 ${about.hash}`],
     ];
 }
@@ -56,7 +58,7 @@ export class SheetPanel {
         const { preset } = store;
         const date = new Date().toLocaleString('en-GB', { dateStyle: 'long', timeStyle: 'short' });
         const remarks = this.remarks.value ? [['Remarks', this.remarks.value]] : [];
-        const lines = [...sheetLines(state, answers, about), ['Date', date], ...remarks];
+        const lines = [...sheetLines(state, answers, about, preset), ['Date', date], ...remarks];
         const name = preset === null ? '' : nameOf(state.names, 'preset', preset);
         this.sheet.replaceChildren(
             make('h2', {}, this.title.value || name || 'Router preset'),

@@ -447,6 +447,25 @@ class TenPoints(PageTest):
             pages = len(re.findall(rb"/Type\s*/Page\b", pdf))
             self.assertLessEqual(pages, 1 if rank <= 5 else 4)
 
+    def test_09_sheet_belongs_to_its_preset(self):
+        self.word("1 2 5")
+        self.press("Sheet")
+        self.assertIn("this preset is in no book yet", self.text("sheet"))
+        self.write("Title", "Reversing")
+        self.press("Book")
+        self.press("Append the present preset")
+        self.word("3")
+        self.press("Append the present preset")
+        self.press("Sheet")
+        self.assertIn("new.book, second edition, preset 1", self.text("sheet"))
+        self.assertIn("Reversing", self.text("sheet"))
+        self.press("Book")
+        self.press("load preset 0")
+        self.press("Sheet")
+        self.assertNotIn("Reversing", self.text("sheet"))
+        self.assertIn("new.book, second edition, preset 0", self.text("sheet"))
+        self.assertIn("− where mirrored", self.text("sheet"))
+
     def test_10_proved(self):
         self.press("What is proved")
         self.assertEqual(len(self.panel().find_elements(By.TAG_NAME, "li")), 5)

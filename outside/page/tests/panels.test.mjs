@@ -114,7 +114,7 @@ test('the sheet says what the record needs', () => {
     const state = { ...FIRST_STATE, word: [4, 4, 2, 5, 3, 5, 1, 2], names: withName(withName(NO_NAMES, 'source', 5, 'rear view'), 'screen', 2, 'left mirror') };
     const answers = { form: library.normalForm('D', 5, state.word), window: library.window('D', 5, state.word), crossings: library.crossings('D', 5, state.word) };
     const text = sheetLines(state, answers, { version: '1.2.3', hash: 'abc' }).map(line => line.join(': ')).join('\n');
-    for (const part of ['5 lanes', '4 4 2 5 3 5 1 2 (8 letters)', '5 2 3 5 1 2 (6 letters)', '3 −5 1 4 −2', '6: 3 plain pairs, 3 pairs against a mirrored lane, 0 mirrored lanes', '1.2.3', 'abc']) {
+    for (const part of ['5 lanes', '4 4 2 5 3 5 1 2 (8 letters)', '5 2 3 5 1 2 (6 letters)', '3 −5 1 4 −2', '6: 3 plain pairs, 3 pairs against a mirrored lane, 0 mirrored lanes', '1.2.3', 'abc', 'in no book yet']) {
         assert.ok(text.includes(part), part);
     }
     assert.deepEqual(screenLines(state, answers.window)[1], ['2 left mirror', '5 rear view', 'mirrored']);
