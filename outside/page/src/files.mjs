@@ -12,18 +12,21 @@ async function bytesOf(file, most) {
     return new Uint8Array(await file.slice(0, most).arrayBuffer());
 }
 
-/** The book and the names among the files that were opened together; a wrong names file is told, and none of its names used. */
+/**
+ * The book and the names among the files that were opened together; a wrong names file is told, and none of its names used. Of
+ * several books, or where a file cannot be read, as a folder cannot, nothing is opened.
+ */
 export async function readFiles(files) {
-    const read = { book: null, names: null, wrong: null };
+    const none = wrong => ({ book: null, names: null, wrong });
+    const read = none(null);
+    const books = files.filter(file => !isNamesFile(file.name));
+    if (books.length > 1) return none(`These are ${books.length} books. One can be open at a time: open them one by one.`);
     for (const file of files) {
-        if (!isNamesFile(file.name)) {
-            read.book = { name: file.name, bytes: await bytesOf(file, MOST_READ) };
-            continue;
-        }
         try {
-            read.names = readNames(await bytesOf(file, 1048577));
+            if (isNamesFile(file.name)) read.names = readNames(await bytesOf(file, 1048577));
+            else read.book = { name: file.name, bytes: await bytesOf(file, MOST_READ) };
         } catch (error) {
-            if (!(error instanceof WrongNames)) throw error;
+            if (!(error instanceof WrongNames)) return none(`${file.name} cannot be read. Is it a file?`);
             read.wrong = `${file.name}, ${error.message}. None of its names is used.`;
         }
     }

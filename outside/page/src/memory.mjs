@@ -4,6 +4,8 @@ import { NO_NAMES, readNames, writeNames } from './names.mjs';
 
 const RIG = 'winnathey rig';
 const NAMES = 'winnathey names';
+/** So many states of one book have their names remembered: one that was changed and not saved is opened again as it was before. */
+const STATES = 8;
 
 function kept(key) {
     try {
@@ -33,7 +35,20 @@ export function printOf(bytes) {
 export function remember({ kind, rank, names, book }) {
     const text = new TextDecoder().decode(writeNames(names));
     keep(RIG, JSON.stringify({ kind, rank }));
-    return keep(`${NAMES} of ${book.name}`, JSON.stringify({ print: printOf(book.bytes), text })) && keep(NAMES, text);
+    const print = printOf(book.bytes);
+    const others = statesOf(book.name).filter(state => state.print !== print);
+    const states = [{ print, text }, ...others].slice(0, STATES);
+    return keep(`${NAMES} of ${book.name}`, JSON.stringify(states)) && keep(NAMES, text);
+}
+
+/** What is remembered of the books of a name, the last one first. */
+function statesOf(name) {
+    try {
+        const states = JSON.parse(kept(`${NAMES} of ${name}`));
+        return [states ?? []].flat();
+    } catch {
+        return [];
+    }
 }
 
 function namesIn(text) {
@@ -59,12 +74,8 @@ export function remembered(library) {
 
 /** The names that this very book had when it was last open, or null: another of the same file name has other presets. */
 export function rememberedNames({ name, bytes }) {
-    try {
-        const { print, text } = JSON.parse(kept(`${NAMES} of ${name}`));
-        return print === printOf(bytes) ? namesIn(text) : null;
-    } catch {
-        return null;
-    }
+    const print = printOf(bytes);
+    return namesIn(statesOf(name).find(state => state.print === print)?.text ?? null);
 }
 
 /** The names of sources and screens alone: those of presets belong to one book. */

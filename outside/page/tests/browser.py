@@ -599,6 +599,27 @@ class Books(PageTest):
         self.press("Undo")
         self.assertEqual(self.letters(), [5, 2, 3, 5, 1, 2])
 
+    def test_07_names_of_a_book_outlive_changes_that_were_not_saved(self):
+        self.drop(("cabin.book", self.BOOK))
+        self.write("name of preset 1", "Yard")
+        self.press("Append the present preset")
+        self.js("app.store.markBookSaved()")
+        self.load()
+        self.drop(("cabin.book", self.BOOK))
+        self.assertEqual(self.labelled("name of preset 1").get_attribute("value"), "Yard")
+
+    def test_07_two_books_and_what_is_no_file_are_told(self):
+        self.drop(("one.book", self.BOOK), ("two.book", b""))
+        self.assertIn("These are 2 books", self.text("notice"))
+        self.driver.execute_async_script(
+            """const done = arguments[0], data = new DataTransfer();
+            data.items.add(new File([], 'folder'));
+            File.prototype.slice = () => ({ arrayBuffer: async () => { throw new DOMException('no file', 'NotFoundError'); } });
+            document.body.dispatchEvent(new DragEvent('drop', { dataTransfer: data, bubbles: true, cancelable: true }));
+            setTimeout(done, 80);""")
+        self.assertIn("folder cannot be read", self.text("notice"))
+        self.assertIn("new.book", self.text("book-title"))
+
     def test_07_refused_calls_change_nothing(self):
         self.drop(("old.book", self.BOOK))
         self.rig("D", 64)
