@@ -1,10 +1,11 @@
 // Modules: steps that are locked, the split of the preset over the others, and a fallback by pulling steps out.
 import { button, make, refusalLine } from './dom.mjs';
 import { judged } from './composing.mjs';
+import { attempt } from './library.mjs';
 import { rigOf } from './rig.mjs';
 import { pictureMarkup } from './strands.mjs';
 import { actionText, counted, shortened, spaced } from './text.mjs';
-import { allowedSteps } from './wanted.mjs';
+import { allowedSteps, remarkOf } from './wanted.mjs';
 
 /** The places of the present normal form whose steps are kept for the simpler preset, or null where there is no fallback. */
 export function fallbackOf(library, { kind, rank, word }, simpler) {
@@ -47,22 +48,31 @@ export class ModulesPanel {
 
     #takeWanted() {
         const { library, state, answers, store } = this.app;
-        try {
-            store.change({ simpler: library.formOfWindow(state.kind, state.rank, state.wanted ?? answers.window) });
-        } catch (error) {
-            if (error.name !== 'Refusal') throw error;
-            this.fallback.replaceChildren(refusalLine(error));
-        }
+        const { value, refusal } = attempt(() => library.formOfWindow(state.kind, state.rank, state.wanted ?? answers.window));
+        if (!refusal) return store.change({ simpler: value });
+        this.#refuse(refusalLine(refusal, remarkOf(refusal, state)));
+    }
+
+    /** A refusal stays, with the text as it was typed, until the simpler word, the wanted picture or the rig changes. */
+    #refuse(line) {
+        const { kind, rank, simpler, wanted } = this.app.state;
+        this.refused = { kind, rank, simpler, wanted };
+        this.fallback.replaceChildren(line);
+    }
+
+    get #stays() {
+        const { app, refused } = this;
+        return refused !== null && Object.keys(refused).every(part => refused[part] === app.state[part]);
     }
 
     #typed() {
         const { library, state, store } = this.app;
         const { letters, fault } = judged(library, state.kind, state.rank, this.field.value);
         this.field.setAttribute('aria-invalid', String(Boolean(fault)));
-        this.refused = fault ? state.simpler : null;
+        this.refused = null;
         if (letters) return store.change({ simpler: letters });
         const place = fault.at === undefined ? '' : `Letter ${fault.at + 1} (${this.field.value.slice(fault.start, fault.end)}): `;
-        this.fallback.replaceChildren(make('p', { class: 'refusal', role: 'alert' }, place + fault.sentence));
+        this.#refuse(make('p', { class: 'refusal', role: 'alert' }, place + fault.sentence));
     }
 
     update() {
@@ -83,9 +93,10 @@ export class ModulesPanel {
                 type: 'checkbox',
                 checked: !locked.includes(step),
                 'aria-label': `module ${step} may be used: ${actionText(actions[step])}`,
-                onchange: () => set(toggled(locked, step)),
+                // Two presses may come faster than the boxes are drawn anew.
+                onchange: () => set(toggled(app.state.locked, step)),
             }), make('span', {}, String(step)))),
-            button('All', () => set([])), button('None', () => set(all)));
+            button('Use all', () => set([])), button('Lock all', () => set(all)));
     }
 
     #updateSplit() {
@@ -99,8 +110,7 @@ export class ModulesPanel {
 
     #updateFallback() {
         const { library, state, answers } = this.app;
-        // Text that was refused stays as it was typed, with what is wrong in it, until the simpler word changes.
-        if (this.refused === state.simpler) return;
+        if (this.#stays) return;
         this.refused = null;
         if (document.activeElement !== this.field) this.field.value = spaced(state.simpler);
         this.field.setAttribute('aria-invalid', 'false');

@@ -385,6 +385,24 @@ class TenPoints(PageTest):
         self.assertIn(self.library("sentence", 19), line)
         self.assertIn("module 2 locked", line)
 
+    def test_05_quick_locks_and_refusals_that_stay(self):
+        self.rig("D", 64)
+        self.press("Modules")
+        self.js("const [one, two] = document.querySelectorAll('.lock input'); one.click(); two.click()")
+        self.settle()
+        self.assertEqual(self.js("return app.state.locked"), [1, 2])
+        self.rig("D", 5)
+        self.write("Word of the simpler preset", "9")
+        self.assertIn(self.library("sentence", 8), self.panel().text)
+        self.rig("D", 10)
+        self.assertTrue(self.text("fallback-answer").startswith("Yes"))
+        self.press("Wanted picture")
+        self.press("mirror the view on screen 1")
+        self.press("Modules")
+        self.press("Take the wanted picture")
+        self.assertIn(self.library("sentence", 11), self.panel().text)
+        self.assertIn("mirror one view more", self.panel().text)
+
     def test_06_why(self):
         self.word("4 4 2 5 3 5 1 2")
         self.press("Why")
