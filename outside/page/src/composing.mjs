@@ -21,6 +21,7 @@ export class Composing {
         this.app = app;
         this.field = byId('word');
         this.field.addEventListener('input', () => this.#typed());
+        byId('skip').addEventListener('click', () => this.field.focus());
         this.field.addEventListener('scroll', () => (byId('word-marks').scrollTop = this.field.scrollTop));
         byId('take').addEventListener('click', () => app.store.change({ word: app.answers.form }));
         byId('undo').addEventListener('click', () => app.goBack());

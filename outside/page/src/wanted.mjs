@@ -42,7 +42,10 @@ export function remarkOf({ number }, state) {
 export class WantedPanel {
     constructor(app, root) {
         this.app = app;
-        this.root = root;
+        this.fields = make('div', {});
+        // What reads the screen aloud hears changes only of an element that stays.
+        this.answer = make('div', { class: 'answer', 'aria-live': 'polite' });
+        root.append(this.fields, this.answer);
     }
 
     get wanted() {
@@ -56,18 +59,18 @@ export class WantedPanel {
     }
 
     update() {
-        const { app, root } = this;
+        const { app } = this;
         const answer = wayTo(app.library, app.state, this.wanted);
         this.rig = rigOf(app.state);
-        root.replaceChildren(
+        this.fields.replaceChildren(
             make('p', {}, 'Drag a source to a screen, or choose it in the list. Click a view to mirror it. ' +
                 'What was on the screen goes where the source was.'),
             this.#tokens(),
             this.#cards(answer.refusal),
             this.#settings(),
             this.#starts(),
-            make('div', { class: 'answer', 'aria-live': 'polite' }, this.#answer(answer)),
         );
+        this.answer.replaceChildren(this.#answer(answer));
     }
 
     #tokens() {

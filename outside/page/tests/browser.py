@@ -758,6 +758,15 @@ class Feel(PageTest):
                     wide = self.js("return document.documentElement.scrollWidth")
                     self.assertLessEqual(wide, width, f"{kind}{rank}, {tab}")
 
+    def test_answers_are_told_by_elements_that_stay(self):
+        live = "return document.querySelector('#panel-wanted [aria-live]')"
+        before = self.js(live)
+        self.press("mirror the view on screen 1")
+        self.assertEqual(self.js(live), before)
+        self.assertIn("mirror one view more", before.text)
+        for id in ["letters", "form-letters", "form-same"]:
+            self.assertTrue(self.js("return document.getElementById(arguments[0]).closest('[role=status]') !== null", id))
+
     def test_every_control_has_a_label_and_can_be_reached(self):
         self.word("4 4 2 5 3 5 1 2")
         for tab in TABS:
@@ -777,8 +786,12 @@ class Feel(PageTest):
                 return [e.id || e.getAttribute('aria-label') || e.textContent.trim().slice(0, 20), style.outlineStyle !== 'none' && parseFloat(style.outlineWidth) >= 2]""")
             self.assertTrue(here[1] or here[0] == "kind", here)
             seen.add(here[0])
-        for id in ["kind", "rank", "open", "save", "add", "undo", "word", "take", "both", "tab-proved"]:
+        for id in ["kind", "rank", "open", "save", "skip", "add", "undo", "word", "take", "both", "tab-proved"]:
             self.assertIn(id, seen)
+        self.rig("D", 64)
+        self.js("document.getElementById('skip').focus()")
+        ActionChains(self.driver).send_keys(Keys.ENTER).perform()
+        self.assertEqual(self.js("return document.activeElement.id"), "word")
 
     def test_contrast_in_light_and_dark(self):
         for scheme in ["light", "dark"]:
