@@ -13,7 +13,8 @@ const NARROWEST = 28;
 
 /** How far apart lanes and steps are, by the number of lanes and the width that there is. */
 export function spacing(lanes, width) {
-    const narrow = width < 560;
+    // As narrow as the style's narrowest layout, less what is around the picture.
+    const narrow = width < 690;
     if (lanes > 16) return { lane: 26, column: narrow ? 30 : 32, fold: narrow ? 18 : 56, size: 'dense' };
     return { lane: narrow ? 66 : 56, column: narrow ? 28 : 44, fold: narrow ? 18 : 56, size: 'wide' };
 }

@@ -758,6 +758,32 @@ class Feel(PageTest):
                     wide = self.js("return document.documentElement.scrollWidth")
                     self.assertLessEqual(wide, width, f"{kind}{rank}, {tab}")
 
+    def test_eight_steps_are_seen_at_every_width(self):
+        """640 px is a screen of 1280 px at 200 %."""
+        self.press("Why")
+        self.word("4 4 2 5 3 5 1 2")
+        for width in [480, 521, 640, 720, 721, 768, 841, 1000, 1001, 1024, 1181, 1280]:
+            self.size(width, 800)
+            self.settle()
+            self.assertEqual(self.js("return document.querySelectorAll('.chip').length"), 8, width)
+
+    def test_every_screen_tells_its_source_at_every_width(self):
+        for kind, rank in RIGS:
+            for width in [360, 640, 1024]:
+                self.size(width, 800)
+                self.rig(kind, rank)
+                self.word(self.long_word(rank, 40))
+                cut = self.js(
+                    """const range = document.createRange();
+                    return [...document.querySelectorAll('#screens li')].filter(e => {
+                        const text = e.querySelector('.source');
+                        range.setStart(text.firstChild, 0);
+                        range.setEnd(text.firstChild, String(Math.abs(e.dataset.entry)).length);
+                        const [number, box] = [range.getBoundingClientRect(), text.getBoundingClientRect()];
+                        return number.width === 0 || number.right > box.right + 1 || number.right > innerWidth;
+                    }).length""")
+                self.assertEqual(cut, 0, f"{kind}{rank} at {width}")
+
     def test_answers_are_told_by_elements_that_stay(self):
         live = "return document.querySelector('#panel-wanted [aria-live]')"
         before = self.js(live)
