@@ -758,6 +758,17 @@ class Feel(PageTest):
                     wide = self.js("return document.documentElement.scrollWidth")
                     self.assertLessEqual(wide, width, f"{kind}{rank}, {tab}")
 
+    def test_no_name_is_too_long_for_the_page(self):
+        for control in ["name of source 1", "name of screen 1"]:
+            self.write(control, "W" * 80)
+        self.press("Sheet")
+        self.write("Title", "W" * 80)
+        for width in [360, 640, 1024, 1280]:
+            self.size(width, 800)
+            for tab in TABS:
+                self.press(tab)
+                self.assertLessEqual(self.js("return document.documentElement.scrollWidth"), width, tab)
+
     def test_eight_steps_are_seen_at_every_width(self):
         """640 px is a screen of 1280 px at 200 %."""
         self.press("Why")
