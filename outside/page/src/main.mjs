@@ -168,8 +168,8 @@ class App {
         } else if (command && event.key.toLowerCase() === 's') {
             // The browser would save the page instead.
             event.preventDefault();
-            // A name that is still being typed counts.
-            field?.dispatchEvent(new Event('change'));
+            // A name that is still being typed counts; a box or a list has told its change already.
+            if (field?.type === 'text') field.dispatchEvent(new Event('change'));
             this.saveBook();
         } else if (!field && !command && !event.altKey && /^[0-9]$/.test(event.key)) {
             byId('add').focus();

@@ -585,6 +585,17 @@ class Books(PageTest):
         field.send_keys("lesson.book")
         self.keys("s")
         self.assertEqual(self.saved("lesson.book"), b"")
+        self.press("Wanted picture")
+        self.press("mirror the view on screen 1")
+        self.labelled("Rig").send_keys("")
+        self.keys("s")
+        self.saved("lesson.book")
+        self.assertEqual(self.js("return app.state.wanted[0]"), -1)
+        self.press("Modules")
+        self.press("module 2 may be used: exchanges lanes 2 and 3")
+        self.keys("s")
+        self.saved("lesson.book")
+        self.assertEqual(self.js("return app.state.locked"), [2])
 
     def test_07_undo_knows_what_the_book_has(self):
         self.word("1 2 5")
