@@ -33,6 +33,8 @@ class App {
     #pressed = false;
     #waiting = 0;
     #namesLost = false;
+    /** Whether the sentence at the top is about the last undo, and goes with the next change. */
+    #passing = false;
     #savedNames = null;
 
     constructor(library, about) {
@@ -77,6 +79,7 @@ class App {
     }
 
     #changed(state, old) {
+        if (this.#passing) this.notice('');
         const start = performance.now();
         if (state.word !== old.word || state.kind !== old.kind || state.rank !== old.rank) this.#answer();
         this.times.calls = performance.now() - start;
@@ -185,6 +188,7 @@ class App {
         if (book.bytes === before.bytes && book.name === before.name) return;
         const { value } = verdictsOf(this.library, book.bytes)[book.edition];
         this.notice(`${redo ? 'Redo' : 'Undo'} changed the book: it is ${book.name} with ${counted(value ?? 0, 'preset')} now.`);
+        this.#passing = true;
     }
 
     /** A source put on a screen of the wanted picture; on one of the picture itself, which is then the one that is changed. */
@@ -258,6 +262,7 @@ class App {
 
     /** A sentence at the top of the page, with what can be done about it. */
     notice(text, ...buttons) {
+        this.#passing = false;
         byId('notice').replaceChildren(...(text ? [make('span', {}, text), ...buttons] : []));
         byId('notice').hidden = text === '';
     }
