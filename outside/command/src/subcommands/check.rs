@@ -13,9 +13,9 @@ pub const SUBCOMMAND: Subcommand = Subcommand {
     group: table::BOOKS,
     about: "whether a book and all its records are right",
     usages: &["BOOK --edition EDITION"],
-    text: "Checks a book and each of its records. A refused book, or each refused record, is told on standard error \
+    text: "Checks a book and each of its records. A refused book, or each refused record, is reported on standard error \
            with the number and its meaning, and the exit status is then 1. Where the bytes are a right book of the \
-           other edition too, or of that alone, this is said.",
+           other edition too, or of that alone, the command says so.",
     operands: &[table::BOOK],
     options: &[table::EDITION],
     examples: &["winnathey check presets.book --edition first"],

@@ -17,7 +17,7 @@ pub const SUBCOMMAND: Subcommand = Subcommand {
     about: "the presets of a book, stored words beside their normal forms",
     usages: &["BOOK --edition EDITION"],
     text: "Each preset with its number, its name if it has one, rig, stored word, normal form and what it shows. A \
-           record that is refused is told with the number and its meaning; the exit status is 0 if the book could be \
+           record that is refused is reported with its number and meaning; the exit status is 0 if the book could be \
            listed, refused records included.\n\nWith --lines, a line for each preset as the verified listing program \
            prints it: number, kind, rank, length, normal form, what it shows, or '0 refused 8'.",
     operands: &[table::BOOK],

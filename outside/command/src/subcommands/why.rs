@@ -16,7 +16,7 @@ pub const SUBCOMMAND: Subcommand = Subcommand {
     about: "the rewriting of a word to its normal form, line by line",
     usages: &["RIG WORD", "RIG WORD --at PLACE", "--book FILE --edition EDITION --preset N .."],
     text: "Rewrites a word always at the lowest place where a rule fits, until none fits: what is left is the normal \
-           form. Of each step the rule is told, the word with the rule's left side in brackets, the word after it and \
+           form. Each step shows the rule, the word with the rule's left side in brackets, the word after it and \
            the letters left. [i,j] is the block of steps from i to j: i, i + 1, .. going up and, in B and D for a j \
            beyond n, down again. Places count from 0.",
     operands: &[table::RIG, table::WORD],
