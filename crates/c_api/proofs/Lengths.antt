@@ -5,7 +5,7 @@
 -- Assumes nothing.
 use mathlib.Core.Path.{_≡_, refl, sym, ap, subst, _∙_}
 use mathlib.Core.List.{List, _++_}
-use Prim.Native.Nat.{ℕ, zero, suc, _+_, _-_, _/_, _≤_, _<_, min}
+use Prim.Native.Nat.{ℕ, zero, suc, _-_, _/_, _≤_, _<_, min}
 use native.Mathlib.Decide.{ℕ-discrete}
 use native.Mathlib.Nat.{le-trans}
 use native.Mathlib.Omega.{arith}
@@ -18,15 +18,13 @@ use mir.ValLaws.{toZ-ofZ, toZ-pos}
 use borrow.Author.Tests.{eq-eqb, ne-eqb}
 use Rattle.coxeter.specs.declared.Answer.{Answer}
 use Rattle.coxeter.specs.declared.Answer.the-variants as answer
-use Rattle.coxeter.specs.declared.Counted.{Counted}
-use Rattle.coxeter.specs.declared.Counted.the-variants as counted
 use Rattle.coxeter.specs.Kinds.{kindOf}
 use Rattle.coxeter.specs.Windows.{window, product, inverse}
-use Rattle.coxeter.specs.Length.{Crossings, crossings, total, windowLength}
+use Rattle.coxeter.specs.Length.{windowLength}
 use Rattle.coxeter.specs.NormalForm.{normalForm}
 use Rattle.coxeter.specs.Checks.{check, _then_, tooShort, rankRefusal, wordRefusal, windowRefusal}
 use Rattle.coxeter.specs.Calls.{Outcome, answerOf, writes, windowOfWord, productOfWindows, inverseOfWindow, normalFormOfWindow, normalFormOfWord}
-use Rattle.coxeter.specs.Calls.{productOfWords, inverseOfWord, lengthOfWindow, lengthOfWord, countedOf, crossingsOfWindow, crossingsOfWord}
+use Rattle.coxeter.specs.Calls.{productOfWords, inverseOfWord, lengthOfWindow, lengthOfWord}
 use Rattle.coxeter.proofs.Refusals.{then-zero}
 use Rattle.coxeter.proofs.Acceptance.{lanes-le, length-accepted}
 use Rattle.coxeter.proofs.Levels.{Accepted, accepted-of-refusal, window-accepted}
@@ -110,25 +108,6 @@ answerOf-small r m h l e = elim (ℕ-discrete r 0) [
       absurd (omega arith)
 ]
 
--- and so are three counts together
-abbrev pub SmallTotal : Counted → Type 0
-SmallTotal x = (a b c : ℕ) → x ≡ counted.Crossings a b c → a + b + c ≤ 65535
-
-countedOf-small : (r : ℕ) (s : Crossings) → (r ≡ 0 → total s ≤ 65535) → SmallTotal (countedOf r s)
-unfolding countedOf total
-countedOf-small r s h a b c e = elim (ℕ-discrete r 0) [
-  | yes z ↦
-      let q : counted.Crossings (s .inversions) (s .negativeSumPairs) (s .negatives) ≡ counted.Crossings a b c = rw (eq-eqb r 0 z) at e in
-      let inversions : s .inversions ≡ a = cc in
-      let negativeSumPairs : s .negativeSumPairs ≡ b = cc in
-      let negatives : s .negatives ≡ c = cc in
-      omega (arith, h z)
-  | no f ↦
-      let q : counted.Refused r ≡ counted.Crossings a b c = rw (ne-eqb r 0 f) at e in
-      let y : _≡_ {A = ℕ} 0 1 = cc in
-      absurd (omega arith)
-]
-
 writes-small : {X : Type 0} (r : ℕ) (l out : List X) → (r ≡ 0 → length l ≤ 65535) → Small (writes r l out .answer)
 unfolding writes
 writes-small r l out h =
@@ -159,10 +138,6 @@ module _ (k n : ℕ) where
 
     measured-small : Small (answerOf (rankRefusal k n then s) (windowLength (kindOf k) w))
     measured-small = answerOf-small (rankRefusal k n then s) (windowLength (kindOf k) w) (windowLength-small s w a)
-
-    crossings-small : SmallTotal (countedOf (rankRefusal k n then s) (crossings (kindOf k) w))
-    unfolding windowLength
-    crossings-small = countedOf-small (rankRefusal k n then s) (crossings (kindOf k) w) (windowLength-small s w a)
 
   shown : (u : List ℕ) → Accepted (kindOf k) n (window (kindOf k) n u)
   shown u = window-accepted (kindOf k) n u
@@ -209,14 +184,6 @@ module _ (k n : ℕ) where
   pub lengthOfWord-small : (u : List ℕ) → Small (lengthOfWord k n u)
   unfolding lengthOfWord
   lengthOfWord-small u = measured-small (wordRefusal n u) (window (kindOf k) n u) (λ z. shown u)
-
-  pub crossingsOfWindow-small : (w : List ℤ) → SmallTotal (crossingsOfWindow k n w)
-  unfolding crossingsOfWindow
-  crossingsOfWindow-small w = crossings-small (windowRefusal (kindOf k) n w) w (accepted-of-refusal (kindOf k) n w)
-
-  pub crossingsOfWord-small : (u : List ℕ) → SmallTotal (crossingsOfWord k n u)
-  unfolding crossingsOfWord
-  crossingsOfWord-small u = crossings-small (wordRefusal n u) (window (kindOf k) n u) (λ z. shown u)
 
 -- ---- the layers above it
 

@@ -28,6 +28,7 @@ pub mod Descents
 pub mod GreatestLengths
 pub mod FormLaws
 pub mod Outcomes
+pub mod Totals
 pub mod Fronts
 pub mod Unchanged
 pub mod Vectors

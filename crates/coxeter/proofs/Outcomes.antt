@@ -7,7 +7,7 @@ use Prim.Native.Nat.{ℕ, _≤_, _<_}
 use native.Mathlib.Nat.{zero-add}
 use native.Mathlib.Omega.{arith}
 use lib.ListN.{length, take, drop}
-use lib.Seq.{sets, sets-eq}
+use lib.Seq.{sets, sets-eq, drop-append-seam}
 use borrow.Author.Tests.{eq-eqb, ne-eqb, lt-ltb, le-ltb}
 use Rattle.coxeter.specs.declared.Answer.the-variants.{Length, Refused}
 use Rattle.coxeter.proofs.Lists.{front-stored}
@@ -61,6 +61,11 @@ pub written-front : {X : Type 0} (m : ℕ) (l out v : List X) → length l ≡ m
     → (length v ≡ length out) × (take m v ≡ l)
 unfolding written
 written-front m l out v g h w = rw (w, g) (front-stored m out l l h g refl)
+
+-- written over what was written before, with as many elements
+pub written-again : {X : Type 0} (l o out : List X) → length l ≡ length o → written 0 l (written 0 o out) ≡ written 0 l out
+unfolding written
+written-again l o out e = rw (e, drop-append-seam o (drop (length o) out))
 
 -- ---- lengths
 

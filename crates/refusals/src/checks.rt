@@ -146,7 +146,8 @@ fn unmarked() -> [bool; 64]
     [false; 64]
 }
 
-// C10, from the last entry to the first, with the sizes of the entries behind marked: constant work an entry.
+// C10, from the last entry to the first, with the sizes of the entries behind marked: constant work an entry. The
+// sign comes first, so that in kind A, where none is left, the size is the entry itself.
 fn has_wrong_entry(kind: u8, m: usize, w: &[i8]) -> bool
     requires { ⌜ m ≤ 64 ⌝ }
     ensures { λ r. ⌜ r ≡ wrongEntry (kindOf kind) m (now (w .entry)) ⌝ }
@@ -156,6 +157,9 @@ fn has_wrong_entry(kind: u8, m: usize, w: &[i8]) -> bool
     while 0 < i {
         i -= 1;
         let e = w[i];
+        if negative_in_a(kind, e) {
+            return true;
+        }
         let s = size(e) as usize;
         if s == 0 {
             return true;
@@ -167,24 +171,19 @@ fn has_wrong_entry(kind: u8, m: usize, w: &[i8]) -> bool
         if marks[p] {
             return true;
         }
-        if negative_in_a(kind, e) {
-            return true;
-        }
         marks[p] = true;
     }
     false
 }
 
-// CP1: a flag flipped at each negative entry.
+// CP1: a flag flipped at each negative entry, without a branch, so that many entries are looked at together.
 fn odd_negatives(w: &[i8]) -> bool
     ensures { λ r. ⌜ r ≡ odd (negatives (now (w .entry))) ⌝ }
 {
     let mut flag = false;
     let mut i = 0;
     while i < w.len() {
-        if is_negative(w[i]) {
-            flag = !flag;
-        }
+        flag = flag ^ is_negative(w[i]);
         i += 1;
     }
     flag

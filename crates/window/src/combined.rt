@@ -9,47 +9,26 @@ use crate::shown::blank;
 use refusals::ranked_window_refusal;
 use refusals::ranked_windows_refusal;
 ghost use mathlib.Core.Path.{_≡_};
-ghost use lib.ListN.{length, take};
-ghost use Rattle.coxeter.specs.Kinds as kinds;
+ghost use Prim.Native.Nat.{_≤_};
+ghost use lib.ListN.{length};
 ghost use Rattle.coxeter.specs.Kinds.{kindOf};
 ghost use Rattle.coxeter.specs.Windows.{product, inverse};
 ghost use Rattle.coxeter.specs.Checks.{_then_, rankRefusal, windowRefusal, Rig, WindowOf};
 ghost use Rattle.coxeter.specs.NormalForm.{normalForm};
-ghost use Rattle.coxeter.specs.Calls.{Yields, writes};
+ghost use Rattle.coxeter.specs.Calls.{Yields, written, writes};
 
-// The product of two accepted windows, at the front of a work window.
-fn multiplied(kind: u8, rank: u8, u: &[i8], v: &[i8]) -> [i8; 64]
+// The window that leads from one accepted window to another, written to the front of `out`.
+fn between_into(kind: u8, rank: u8, u: &[i8], v: &[i8], out: &mut [i8])
     requires { ⌜ Rig kind rank ⌝ }
     requires { ⌜ WindowOf (kindOf kind) rank (now u) ⌝ }
     requires { ⌜ WindowOf (kindOf kind) rank (now v) ⌝ }
-    ensures { λ r. ⌜ (length r ≡ 64) × (take (kinds.lanes (kindOf kind) rank) r ≡ product (now (u .entry)) (now (v .entry))) ⌝ }
-{
-    let mut work = blank();
-    product_into(kind, rank, u, v, &mut work);
-    work
-}
-
-// The inverse of an accepted window.
-fn inverted(kind: u8, rank: u8, w: &[i8]) -> [i8; 64]
-    requires { ⌜ Rig kind rank ⌝ }
-    requires { ⌜ WindowOf (kindOf kind) rank (now w) ⌝ }
-    ensures { λ r. ⌜ (length r ≡ 64) × (take (kinds.lanes (kindOf kind) rank) r ≡ inverse (now (w .entry))) ⌝ }
-{
-    let mut work = blank();
-    inverse_into(kind, rank, w, &mut work);
-    work
-}
-
-// The window that leads from one accepted window to another.
-fn between(kind: u8, rank: u8, u: &[i8], v: &[i8]) -> [i8; 64]
-    requires { ⌜ Rig kind rank ⌝ }
-    requires { ⌜ WindowOf (kindOf kind) rank (now u) ⌝ }
-    requires { ⌜ WindowOf (kindOf kind) rank (now v) ⌝ }
-    ensures { λ r. ⌜ (length r ≡ 64) × (take (kinds.lanes (kindOf kind) rank) r ≡ product (inverse (now (u .entry))) (now (v .entry))) ⌝ }
+    requires { ⌜ length (now v) ≤ length (now out) ⌝ }
+    ensures { λ _. ⌜ now (out .exit) ≡ written 0 (product (inverse (now (u .entry))) (now (v .entry))) (now (out .entry)) ⌝ }
 {
     let m = lanes(kind, rank);
-    let back = inverted(kind, rank, u);
-    multiplied(kind, rank, &back[..m], v)
+    let mut back = blank();
+    inverse_into(kind, rank, u, &mut back);
+    product_into(kind, rank, &back[..m], v, out);
 }
 
 // I34: writes the normal form of the product of two windows of one kind and rank to the front of `out` and answers its
@@ -64,7 +43,8 @@ pub fn normal_form_of_product(kind: u8, rank: u8, u: &[i8], v: &[i8], out: &mut 
     if refusal != 0 {
         return Answer::Refused(refusal);
     }
-    let work = multiplied(kind, rank, u, v);
+    let mut work = blank();
+    product_into(kind, rank, u, v, &mut work);
     write_checked(kind, rank, &work, out)
 }
 
@@ -78,7 +58,8 @@ pub fn normal_form_of_inverse(kind: u8, rank: u8, w: &[i8], out: &mut [u8]) -> A
     if refusal != 0 {
         return Answer::Refused(refusal);
     }
-    let work = inverted(kind, rank, w);
+    let mut work = blank();
+    inverse_into(kind, rank, w, &mut work);
     write_checked(kind, rank, &work, out)
 }
 
@@ -94,6 +75,7 @@ pub fn normal_form_between(kind: u8, rank: u8, u: &[i8], v: &[i8], out: &mut [u8
     if refusal != 0 {
         return Answer::Refused(refusal);
     }
-    let work = between(kind, rank, u, v);
+    let mut work = blank();
+    between_into(kind, rank, u, v, &mut work);
     write_checked(kind, rank, &work, out)
 }

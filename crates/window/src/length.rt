@@ -19,12 +19,16 @@ struct Parts {
     negatives: usize,
 }
 
-// How many sizes of a set are s or larger; the size s is bit s - 1.
-pub(crate) fn from_size(set: u64, s: u8) -> usize
-    requires { ⌜ (1 ≤ s) × (s ≤ 64) ⌝ }
+// How many sizes of a set are s or larger; the size s is bit s - 1. The set has m bits, and few are counted faster.
+pub(crate) fn larger_behind(m: usize, set: u64, s: u8) -> usize
+    requires { ⌜ (1 ≤ s) × (s ≤ 64) × (set < 2 ^ m) ⌝ }
     ensures { λ r. ⌜ r ≡ ones (set / 2 ^ (s - 1)) ⌝ }
 {
-    u64::count_ones(set >> (s - 1)) as usize
+    let rest = set >> (s - 1);
+    if m <= 8 {
+        return u8::count_ones(rest as u8) as usize;
+    }
+    u64::count_ones(rest) as usize
 }
 
 // A set and the size s.
@@ -54,7 +58,7 @@ fn parts_of(w: &[i8]) -> Parts
         i -= 1;
         let e = w[i];
         let s = size(e);
-        let larger = from_size(behind, s);
+        let larger = larger_behind(m, behind, s);
         behind = with_size(behind, s);
         if is_negative(e) {
             pairs += larger;

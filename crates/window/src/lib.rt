@@ -25,7 +25,6 @@ pub use coxeter::Verdict;
 use entries::lanes;
 use forms::write_checked;
 use length::crossings_of;
-use length::length_of;
 use product::inverse_into;
 use product::product_into;
 use refusals::preset_refusal;
@@ -33,20 +32,20 @@ use refusals::presets_refusal;
 use refusals::ranked_window_refusal;
 use refusals::ranked_windows_refusal;
 use refusals::ranked_words_refusal;
+use shown::blank;
 use shown::crossings_of_shown;
 use shown::equal_words;
-use shown::inverse_shown;
-use shown::length_of_shown;
-use shown::product_shown;
 use shown::same_presets;
 use shown::show_front;
-use shown::shown;
+use shown::show_inverse;
+use shown::show_product;
 use words::is_shortlex;
 ghost use mathlib.Core.Path.{_≡_};
 ghost use Rattle.coxeter.specs.Dictionary.{shortlex};
 ghost use Rattle.coxeter.specs.Calls.{Yields, windowOfWord, productOfWindows, inverseOfWindow};
 ghost use Rattle.coxeter.specs.Calls.{normalFormOfWindow, normalFormOfWord, productOfWords, inverseOfWord};
 ghost use Rattle.coxeter.specs.Calls.{lengthOfWindow, lengthOfWord, crossingsOfWindow, crossingsOfWord, presetsEqual, handsBack, choice, Better};
+ghost use Rattle.coxeter.proofs.Totals.{totalled, SmallTotal};
 
 // I4: writes the window of `word` and returns its length, the number of lanes. Checks 5, 6, 7, 8, 14.
 pub fn window_of_word(kind: u8, rank: u8, word: &[u8], out: &mut [i8]) -> Answer
@@ -104,7 +103,8 @@ pub fn normal_form_of_window(kind: u8, rank: u8, w: &[i8], out: &mut [u8]) -> An
     if refusal != 0 {
         return Answer::Refused(refusal);
     }
-    write_checked(kind, rank, w, out)
+    let m = w.len();
+    write_checked(kind, rank, &w[..m], out)
 }
 
 // I6: writes the normal form of `word` and returns its length. Checks 5, 6, 7, 8, 14.
@@ -115,7 +115,8 @@ pub fn normal_form_of_word(kind: u8, rank: u8, word: &[u8], out: &mut [u8]) -> A
     if refusal != 0 {
         return Answer::Refused(refusal);
     }
-    let work = shown(kind, rank, word);
+    let mut work = blank();
+    show_front(kind, rank, word, &mut work);
     write_checked(kind, rank, &work, out)
 }
 
@@ -128,7 +129,8 @@ pub fn product_of_words(kind: u8, rank: u8, u: &[u8], v: &[u8], out: &mut [u8]) 
     if refusal != 0 {
         return Answer::Refused(refusal);
     }
-    let work = product_shown(kind, rank, u, v);
+    let mut work = blank();
+    show_product(kind, rank, u, v, &mut work);
     write_checked(kind, rank, &work, out)
 }
 
@@ -140,31 +142,38 @@ pub fn inverse_of_word(kind: u8, rank: u8, word: &[u8], out: &mut [u8]) -> Answe
     if refusal != 0 {
         return Answer::Refused(refusal);
     }
-    let work = inverse_shown(kind, rank, word);
+    let mut work = blank();
+    show_inverse(kind, rank, word, &mut work);
     write_checked(kind, rank, &work, out)
+}
+
+// The answer of a call for a length, from that of the call for its three counts: their total, or the same refusal.
+fn total_of(counted: Counted) -> Answer
+    requires { ⌜ SmallTotal counted ⌝ }
+    ensures { λ r. ⌜ r ≡ totalled counted ⌝ }
+{
+    match counted {
+        Counted::Crossings {
+            inversions,
+            negative_sum_pairs,
+            negatives,
+        } => Answer::Length(inversions + negative_sum_pairs + negatives),
+        Counted::Refused(refusal) => Answer::Refused(refusal),
+    }
 }
 
 // I12: the length of w, from its entries alone. Checks 5, 6, 9, 10, 11.
 pub fn length_of_window(kind: u8, rank: u8, w: &[i8]) -> Answer
     ensures { λ r. ⌜ r ≡ lengthOfWindow kind rank (now (w .entry)) ⌝ }
 {
-    let refusal = ranked_window_refusal(kind, rank, w);
-    if refusal != 0 {
-        return Answer::Refused(refusal);
-    }
-    let n = rank as usize;
-    Answer::Length(length_of(kind, n, w))
+    total_of(crossings_of_window(kind, rank, w))
 }
 
 // I11: the length of the word's normal form, which is written nowhere. Checks 5, 6, 7, 8.
 pub fn length_of_word(kind: u8, rank: u8, word: &[u8]) -> Answer
     ensures { λ r. ⌜ r ≡ lengthOfWord kind rank (now (word .entry)) ⌝ }
 {
-    let refusal = preset_refusal(kind, rank, word);
-    if refusal != 0 {
-        return Answer::Refused(refusal);
-    }
-    Answer::Length(length_of_shown(kind, rank, word))
+    total_of(crossings_of_word(kind, rank, word))
 }
 
 // I14: the length of w as its three counts: inversions, negative sum pairs and negative entries, as the kind counts

@@ -1,17 +1,16 @@
 // The normal form of an accepted window (N10 of the specification): first the indices j of its blocks, in one pass
 // over the entries, then the blocks, level by level, those of the higher levels first.
-use crate::length::from_size;
+use crate::length::larger_behind;
 use crate::length::with_size;
 use refusals::is_negative;
 use refusals::size;
 ghost use mathlib.Core.Path.{_≡_};
 ghost use mathlib.Core.Bool.{_||_};
 ghost use mathlib.Core.List.{List, _++_};
-ghost use Prim.Native.Nat.{ℕ, _+_, _-_, _*_, _/_, _^_, _<_, _≤_};
-ghost use lib.Count.{ones};
+ghost use Prim.Native.Nat.{ℕ, _+_, _-_, _*_, _<_, _≤_};
 ghost use lib.Dec.{eqb};
 ghost use lib.IntN.{ℤ};
-ghost use lib.ListN.{length, take, drop, getD};
+ghost use lib.ListN.{length, take, getD};
 ghost use lib.Seq.{sets};
 ghost use Rattle.coxeter.specs.Kinds.{B, D, pick, kindOf, lanes};
 ghost use Rattle.coxeter.specs.Checks.{Rig, WindowOf};
@@ -118,18 +117,6 @@ fn own_index(m: usize, minus: bool, larger: usize) -> u8
     (m - 1 - larger) as u8
 }
 
-// How many sizes of a set are s or larger, as for the length. The set has m bits, and few of them are counted faster.
-fn larger_behind(m: usize, set: u64, s: u8) -> usize
-    requires { ⌜ (1 ≤ s) × (s ≤ 64) × (set < 2 ^ m) ⌝ }
-    ensures { λ r. ⌜ r ≡ ones (set / 2 ^ (s - 1)) ⌝ }
-{
-    if m <= 8 {
-        let rest = set >> (s - 1);
-        return u8::count_ones(rest as u8) as usize;
-    }
-    from_size(set, s)
-}
-
 // The indices of a window of kind B, written to the front of `out`: one pass from the last entry to the first, with
 // the set of the sizes behind, stores the index of each entry at the entry's size. What is taken out at the levels
 // below is smaller and changes none of them. An accepted window of any kind is one of kind B.
@@ -192,30 +179,30 @@ fn set_levels(kind: u8, rank: u8, w: &[i8], out: &mut [u8])
     ensures { λ _. ⌜ take (levels (kindOf kind) rank) (now (out .exit)) ≡ indices (kindOf kind) rank (levels (kindOf kind) rank) 1 (now (w .entry)) ⌝ }
 {
     set_indices(w, out);
-    if kind == 1 {
-        return;
+    match kind {
+        1 | 2 => {}
+        _ => {
+            let t = (rank as usize) - 1;
+            settle_signs(rank, &mut out[..t]);
+        }
     }
-    if kind == 2 {
-        return;
-    }
-    let t = (rank as usize) - 1;
-    settle_signs(rank, &mut out[..t]);
 }
 
-// The blocks of t levels from i on, by the indices of all levels, written to the front of out; the answer is how many
-// letters they have. The number of levels left falls at each call.
-fn write_from(kind: u8, n: usize, t: usize, i: usize, js: &[u8], out: &mut [u8]) -> usize
-    requires { ⌜ Ranked (kindOf kind) n × (1 ≤ i) × (t + i ≡ length (now js) + 1) × (length (now js) ≤ 64) ⌝ }
+// The blocks of the levels from i on, whose indices are `js`, written to the front of out; the answer is how many
+// letters they have. The number of levels left falls at each call. The indices left are lent as a part: lent as they
+// are, the pair of pointer and length would be copied as one number that was just stored as two.
+fn write_from(kind: u8, n: usize, i: usize, js: &[u8], out: &mut [u8]) -> usize
+    requires { ⌜ Ranked (kindOf kind) n × (i + length (now js) ≤ 65) ⌝ }
     requires { ⌜ ((p : ℕ) → p < length (now js) → getD (now js) p 0 ≤ 2 * n) ⌝ }
-    requires { ⌜ length (blocks (kindOf kind) n i (drop (i - 1) (now js))) ≤ length (now out) ⌝ }
-    ensures { λ r. ⌜ (r ≡ length (blocks (kindOf kind) n i (drop (i - 1) (now (js .entry)))))
-        × (now (out .exit) ≡ sets (now (out .entry)) 0 (blocks (kindOf kind) n i (drop (i - 1) (now (js .entry))))) ⌝ }
+    requires { ⌜ length (blocks (kindOf kind) n i (now js)) ≤ length (now out) ⌝ }
+    ensures { λ r. ⌜ (r ≡ length (blocks (kindOf kind) n i (now (js .entry))))
+        × (now (out .exit) ≡ sets (now (out .entry)) 0 (blocks (kindOf kind) n i (now (js .entry)))) ⌝ }
 {
-    if t == 0 {
+    if js.len() == 0 {
         return 0;
     }
-    let at = write_from(kind, n, t - 1, i + 1, js, out);
-    write_block(kind, n, i, js[i - 1] as usize, out, at)
+    let at = write_from(kind, n, i + 1, &js[1..], out);
+    write_block(kind, n, i, js[0] as usize, out, at)
 }
 
 // The number of levels.
@@ -244,5 +231,5 @@ pub(crate) fn write_normal_form(kind: u8, rank: u8, work: &[i8], out: &mut [u8])
     let t = levels_of(kind, n);
     let mut js = no_indices();
     set_levels(kind, rank, &work[..m], &mut js);
-    write_from(kind, n, t, 1, &js[..t], out)
+    write_from(kind, n, 1, &js[..t], out)
 }

@@ -4,21 +4,26 @@ use crate::entries::with_sign;
 use refusals::is_negative;
 use refusals::size;
 ghost use mathlib.Core.Path.{_≡_};
+ghost use mathlib.Core.Bool.{false};
 ghost use Prim.Native.Nat.{_≤_, _<_};
 ghost use lib.IntN.{natAbs};
 ghost use lib.ListN.{length, take};
 ghost use Rattle.coxeter.specs.Kinds.{kindOf};
 ghost use Rattle.coxeter.specs.Windows.{at, product, inverse};
-ghost use Rattle.coxeter.specs.Checks.{Rig, WindowOf};
+ghost use Rattle.coxeter.specs.Checks.{Rig, WindowOf, negativeInA};
 ghost use Rattle.coxeter.specs.Calls.{written, sameWindow};
 
-// u(e).
-fn image(u: &[i8], e: i8) -> i8
+// u(e). In kind A no entry is negative.
+fn image(kind: u8, u: &[i8], e: i8) -> i8
+    requires { ⌜ negativeInA (kindOf kind) e ≡ false ⌝ }
     requires { ⌜ 1 ≤ natAbs e ⌝ }
     requires { ⌜ natAbs e ≤ length (now u) ⌝ }
     requires { ⌜ natAbs (at (now u) e) < 128 ⌝ }
     ensures { λ r. ⌜ r ≡ at (now (u .entry)) e ⌝ }
 {
+    if kind == 1 {
+        return u[(e as usize) - 1];
+    }
     let s = size(e);
     let p = (s as usize) - 1;
     let x = u[p];
@@ -38,7 +43,7 @@ pub(crate) fn product_into(kind: u8, rank: u8, u: &[i8], v: &[i8], out: &mut [i8
 {
     let mut i = 0;
     while i < v.len() {
-        out[i] = image(u, v[i]);
+        out[i] = image(kind, u, v[i]);
         i += 1;
     }
 }

@@ -1,19 +1,19 @@
-// What words show, written to the front of an output or of a work window of this module's own.
+// What words show, written to the front of an output or of a work window. Work windows are lent and not handed back
+// by value: a copy of sixteen bytes at a time waits until the bytes that were just stored one by one are in memory.
 use crate::action::apply;
 use crate::action::show;
 use crate::entries::lanes;
 use crate::length::crossings_of_front;
-use crate::length::length_of_front;
 use crate::product::inverse_into;
 use crate::product::same_fronts;
 use coxeter::Counted;
 ghost use mathlib.Core.Path.{_≡_};
 ghost use Prim.Native.Nat.{_≤_};
-ghost use lib.ListN.{length, take};
+ghost use lib.ListN.{length};
 ghost use Rattle.coxeter.specs.Kinds as kinds;
 ghost use Rattle.coxeter.specs.Kinds.{kindOf};
 ghost use Rattle.coxeter.specs.Windows.{window, product, inverse};
-ghost use Rattle.coxeter.specs.Length.{crossings, windowLength};
+ghost use Rattle.coxeter.specs.Length.{crossings};
 ghost use Rattle.coxeter.specs.Checks.{Rig, WordOf};
 ghost use Rattle.coxeter.specs.Calls.{written, countedOf, equalWords, samePresets};
 
@@ -36,57 +36,32 @@ pub(crate) fn show_front(kind: u8, rank: u8, word: &[u8], out: &mut [i8])
     show(kind, n, word, &mut out[..m]);
 }
 
-// The window of an accepted word, at the front of a work window.
-pub(crate) fn shown(kind: u8, rank: u8, word: &[u8]) -> [i8; 64]
-    requires { ⌜ Rig kind rank ⌝ }
-    requires { ⌜ WordOf rank (now word) ⌝ }
-    ensures { λ r. ⌜ (length r ≡ 64)
-        × (take (kinds.lanes (kindOf kind) rank) r ≡ window (kindOf kind) rank (now (word .entry))) ⌝ }
-{
-    let mut work = blank();
-    show_front(kind, rank, word, &mut work);
-    work
-}
-
-// The product of two accepted words' windows.
-pub(crate) fn product_shown(kind: u8, rank: u8, u: &[u8], v: &[u8]) -> [i8; 64]
+// The product of two accepted words' windows, written to the front of `out`.
+pub(crate) fn show_product(kind: u8, rank: u8, u: &[u8], v: &[u8], out: &mut [i8])
     requires { ⌜ Rig kind rank ⌝ }
     requires { ⌜ WordOf rank (now u) ⌝ }
     requires { ⌜ WordOf rank (now v) ⌝ }
-    ensures { λ r. ⌜ (length r ≡ 64)
-        × (take (kinds.lanes (kindOf kind) rank) r
-        ≡ product (window (kindOf kind) rank (now (u .entry))) (window (kindOf kind) rank (now (v .entry)))) ⌝ }
+    requires { ⌜ kinds.lanes (kindOf kind) rank ≤ length (now out) ⌝ }
+    ensures { λ _. ⌜ now (out .exit)
+        ≡ written 0 (product (window (kindOf kind) rank (now (u .entry))) (window (kindOf kind) rank (now (v .entry)))) (now (out .entry)) ⌝ }
 {
     let n = rank as usize;
     let m = lanes(kind, rank);
-    let mut work = shown(kind, rank, u);
-    apply(kind, n, v, &mut work[..m]);
-    work
+    show_front(kind, rank, u, out);
+    apply(kind, n, v, &mut out[..m]);
 }
 
-// The inverse of an accepted word's window.
-pub(crate) fn inverse_shown(kind: u8, rank: u8, word: &[u8]) -> [i8; 64]
+// The inverse of an accepted word's window, written to the front of `out`.
+pub(crate) fn show_inverse(kind: u8, rank: u8, word: &[u8], out: &mut [i8])
     requires { ⌜ Rig kind rank ⌝ }
     requires { ⌜ WordOf rank (now word) ⌝ }
-    ensures { λ r. ⌜ (length r ≡ 64)
-        × (take (kinds.lanes (kindOf kind) rank) r ≡ inverse (window (kindOf kind) rank (now (word .entry)))) ⌝ }
+    requires { ⌜ kinds.lanes (kindOf kind) rank ≤ length (now out) ⌝ }
+    ensures { λ _. ⌜ now (out .exit) ≡ written 0 (inverse (window (kindOf kind) rank (now (word .entry)))) (now (out .entry)) ⌝ }
 {
     let m = lanes(kind, rank);
-    let work = shown(kind, rank, word);
-    let mut out = blank();
-    inverse_into(kind, rank, &work[..m], &mut out);
-    out
-}
-
-// The length of an accepted word's window.
-pub(crate) fn length_of_shown(kind: u8, rank: u8, word: &[u8]) -> usize
-    requires { ⌜ Rig kind rank ⌝ }
-    requires { ⌜ WordOf rank (now word) ⌝ }
-    ensures { λ r. ⌜ r ≡ windowLength (kindOf kind) (window (kindOf kind) rank (now (word .entry))) ⌝ }
-{
     let mut work = blank();
     show_front(kind, rank, word, &mut work);
-    length_of_front(kind, rank, &work)
+    inverse_into(kind, rank, &work[..m], out);
 }
 
 // The length of an accepted word's window as its three counts.

@@ -15,7 +15,7 @@ use borrow.Author.Tests.{eq-eqb, ne-eqb}
 use Rattle.coxeter.specs.Kinds.{Kind}
 use Rattle.coxeter.specs.Checks.{wrongAt, wrongEntry, hasSize, negativeInA}
 use Rattle.coxeter.proofs.Lists.{drop-next}
-use Rattle.refusals.proofs.checks.Tests.{wrongAt-zero, wrongAt-above, wrongAt-repeats, wrongAt-else}
+use Rattle.refusals.proofs.checks.Tests.{wrongAt-negative, wrongAt-zero, wrongAt-above, wrongAt-repeats, wrongAt-else}
 
 -- an entry that is wrong behind is wrong in the whole
 wrongEntry-drop : (k : Kind) (m : ℕ) (w : List ℤ) (i : ℕ) → wrongEntry k m (drop i w) ≡ true → wrongEntry k m w ≡ true
@@ -45,9 +45,8 @@ passed-none k m w marks h =
 pub whole-passed : (k : Kind) (m : ℕ) (w : List ℤ) (marks : List Bool) (j : ℕ) → Passed k m w marks j → j ≡ 0 → wrongEntry k m w ≡ false
 whole-passed k m w marks j h z = subst (λ (x : ℕ). wrongEntry k m (drop x w) ≡ false) z (h .right)
 
--- one entry further to the front: the entry at j - 1, of size s
-module _ (k : Kind) (m : ℕ) (w : List ℤ) (marks : List Bool) (j s : ℕ) (h : Passed k m w marks j) (l : 0 < j)
-    (q : s ≡ natAbs (getD w (j - 1) (pos 0))) where
+-- one entry further to the front: the entry at j - 1
+module _ (k : Kind) (m : ℕ) (w : List ℤ) (marks : List Bool) (j : ℕ) (h : Passed k m w marks j) (l : 0 < j) where
   abbrev e : ℤ
   e = getD w (j - 1) (pos 0)
 
@@ -60,43 +59,40 @@ module _ (k : Kind) (m : ℕ) (w : List ℤ) (marks : List Bool) (j s : ℕ) (h 
   unfolding wrongEntry
   wrong t = sym (wrongEntry-drop k m w (j - 1) (rw (next, t)))
 
-  pub zero-wrong : s ≡ 0 → true ≡ wrongEntry k m w
-  zero-wrong z = wrong (wrongAt-zero k m s e (drop j w) q z)
+  pub negative-wrong : negativeInA k e ≡ true → true ≡ wrongEntry k m w
+  negative-wrong n = wrong (wrongAt-negative k m e (drop j w) n)
 
-  module _ (f : s ≡ 0 → ⊥) where
-    pub above-wrong : m < s → true ≡ wrongEntry k m w
-    above-wrong g = wrong (wrongAt-above k m s e (drop j w) q f g)
+  -- it is not negative in kind A, and has the size s
+  module _ (n : negativeInA k e ≡ false) (s : ℕ) (q : s ≡ natAbs e) where
+    pub zero-wrong : s ≡ 0 → true ≡ wrongEntry k m w
+    zero-wrong z = wrong (wrongAt-zero k m s e (drop j w) q z)
 
-    module _ (g : s ≤ m) (c : m ≤ 64) where
-      mark : getD marks (s - 1) false ≡ hasSize s (drop j w)
-      mark =
-          let i : suc (s - 1) ≡ s = omega arith in
-          subst (λ (x : ℕ). getD marks (s - 1) false ≡ hasSize x (drop j w)) i (h .marked (s - 1) (omega arith))
+    module _ (f : s ≡ 0 → ⊥) where
+      pub above-wrong : m < s → true ≡ wrongEntry k m w
+      above-wrong g = wrong (wrongAt-above k m s e (drop j w) q f g)
 
-      pub repeated-wrong : getD marks (s - 1) false ≡ true → true ≡ wrongEntry k m w
-      repeated-wrong t = wrong (wrongAt-repeats k m s e (drop j w) q f g (sym mark ∙ t))
+      module _ (g : s ≤ m) (c : m ≤ 64) where
+        mark : getD marks (s - 1) false ≡ hasSize s (drop j w)
+        mark =
+            let i : suc (s - 1) ≡ s = omega arith in
+            subst (λ (x : ℕ). getD marks (s - 1) false ≡ hasSize x (drop j w)) i (h .marked (s - 1) (omega arith))
 
-      module _ (t : getD marks (s - 1) false ≡ false) where
-        else : wrongAt k m e (drop j w) ≡ negativeInA k e
-        else = wrongAt-else k m s e (drop j w) q f g (sym mark ∙ t)
+        pub repeated-wrong : getD marks (s - 1) false ≡ true → true ≡ wrongEntry k m w
+        repeated-wrong t = wrong (wrongAt-repeats k m s e (drop j w) q f g (sym mark ∙ t))
 
-        pub negative-wrong : negativeInA k e ≡ true → true ≡ wrongEntry k m w
-        negative-wrong n = wrong (else ∙ n)
-
-        pub passed-next : negativeInA k e ≡ false → Passed k m w (set marks (s - 1) true) (j - 1)
+        pub passed-next : getD marks (s - 1) false ≡ false → Passed k m w (set marks (s - 1) true) (j - 1)
         unfolding hasSize wrongEntry
-        passed-next n =
+        passed-next t =
             record {
               inside = omega (arith, h .inside);
               room = length-set marks (s - 1) true ∙ h .room;
-              marked = λ p l. rw next (sized p l);
-              right = rw (next, else ∙ n) (h .right);
+              marked = λ p b. rw next (sized p b);
+              right = rw (next, wrongAt-else k m s e (drop j w) q f g (sym mark ∙ t) ∙ n) (h .right);
             }
           where
             sized : (p : ℕ) → p < 64 → getD (set marks (s - 1) true) p false ≡ hasSize (suc p) (e ∷ drop j w)
-            sized p l =
+            sized p b =
                 elim (ℕ-discrete p (s - 1)) [
-                  | yes a ↦ let b : natAbs e ≡ suc p = sym q ∙ omega arith in
-                      rw (a, getD-set-same marks (s - 1) true false (omega (arith, h .room)), eq-eqb (natAbs e) (suc (s - 1)) (sym q ∙ omega arith))
-                  | no d ↦ rw (getD-set-other marks (s - 1) p true false d, ne-eqb (natAbs e) (suc p) (λ b. d (omega (arith, b, q)))) (h .marked p l)
+                  | yes a ↦ rw (a, getD-set-same marks (s - 1) true false (omega (arith, h .room)), eq-eqb (natAbs e) (suc (s - 1)) (sym q ∙ omega arith))
+                  | no d ↦ rw (getD-set-other marks (s - 1) p true false d, ne-eqb (natAbs e) (suc p) (λ x. d (omega (arith, x, q)))) (h .marked p b)
                 ]

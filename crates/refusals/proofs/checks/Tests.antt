@@ -3,7 +3,7 @@
 -- Sections: kinds and ranks; letters; entries; signs; windows; two after one another.
 -- Assumes nothing.
 use mathlib.Core.Path.{_≡_, refl, sym, _∙_}
-use mathlib.Core.Bool.{Bool, true, false, not, _||_, or-false}
+use mathlib.Core.Bool.{Bool, true, false, not, _||_, or-true, or-false, Bool·beq}
 use mathlib.Core.List.{List}
 use Prim.Native.Nat.{ℕ, _+_, _≤_, _<_}
 use native.Mathlib.Decide.{ℕ-discrete}
@@ -57,7 +57,12 @@ wrongLetter-end n u i t h = rw (drop-of-length-le u h) (or-false t)
 
 -- ---- entries
 
--- the tests of check 10 at the entry e of size s, in the order of the code
+-- the tests of check 10 at the entry e, in the order of the code: its sign, and then its size s
+pub wrongAt-negative : (k : Kind) (m : ℕ) (e : ℤ) (w : List ℤ) → negativeInA k e ≡ true → wrongAt k m e w ≡ true
+unfolding wrongAt
+wrongAt-negative k m e w n =
+    rw (n, or-true (hasSize (natAbs e) w), or-true (ltb m (natAbs e)), or-true (eqb (natAbs e) 0))
+
 pub wrongAt-zero : (k : Kind) (m s : ℕ) (e : ℤ) (w : List ℤ) → s ≡ natAbs e → s ≡ 0 → wrongAt k m e w ≡ true
 unfolding wrongAt
 wrongAt-zero k m s e w q z = rw (← q, eq-eqb s 0 z)
@@ -78,9 +83,15 @@ wrongAt-else k m s e w q f h t = rw (← q, ne-eqb s 0 f, le-ltb m s h, t)
 -- ---- signs
 
 -- the flag after one entry more, of which `minus` says whether it is negative
-pub flag-flipped : (w : List ℤ) (i : ℕ) (flag now minus : Bool) → i < length w → flag ≡ flagAfter (take i w) → negative (getD w i (pos 0)) ≡ minus
-    → now ≡ pick minus (not flag) flag → now ≡ flagAfter (take (i + 1) w)
-flag-flipped w i flag now minus h e q n = n ∙ sym (flag-next w i h ∙ rw (q, ← e))
+pub flag-flipped : (w : List ℤ) (i : ℕ) (flag minus : Bool) → i < length w → flag ≡ flagAfter (take i w) → negative (getD w i (pos 0)) ≡ minus
+    → not (Bool·beq flag minus) ≡ flagAfter (take (i + 1) w)
+flag-flipped w i flag minus h e q = flips flag minus ∙ sym (flag-next w i h ∙ rw (q, ← e))
+  where
+    flips : (t s : Bool) → not (Bool·beq t s) ≡ pick s (not t) t
+    flips true true = refl
+    flips true false = refl
+    flips false true = refl
+    flips false false = refl
 
 -- ---- windows
 

@@ -1,11 +1,15 @@
--- `inverse_of_word` refuses in the order of CO2, or writes the normal form of the inverse of what the word shows.
+-- `inverse_of_word` refuses in the order of CO2, or writes the normal form of the inverse of what the word shows, which
+-- is that of the word read backwards.
 -- Assumes nothing.
 use mathlib.Core.Path.{refl}
-use Rattle.coxeter.proofs.Acceptance.{two-accepted}
-use Rattle.window.proofs.forms.Rooms.{front-written}
-use Rattle.window.proofs.shown.Fronts.{front-asks, inverse-passes}
-use Rattle.coxeter.proofs.Outcomes.{writes-refused}
+use Rattle.coxeter.specs.Kinds.{kindOf}
+use Rattle.coxeter.specs.Windows.{window, inverse}
 use Rattle.coxeter.specs.Calls.{inverseOfWord}
+use Rattle.coxeter.proofs.Acceptance.{two-accepted}
+use Rattle.coxeter.proofs.Outcomes.{writes-refused}
+use Rattle.window.proofs.combined.Made.{made-inverse}
+use Rattle.window.proofs.forms.Rooms.{front-written}
+use Rattle.window.proofs.shown.Fronts.{Front, room, front-asks, window-passes, inverse-passes}
 use borrow.Author.Needs.{needs}
 use Rattle.window.proofs.inverse_of_word.Statement.{statement}
 use Rattle.window.proofs.inverse_of_word.Tie as tie
@@ -17,17 +21,37 @@ returns : tie.Need-returns
 unfolding inverseOfWord
 returns c = writes-refused _ _ _ _ _ refl (c .before .preset-refusal .ensures) (c .if1 .taken)
 
-inverse-shown-requires : tie.Need-inverse-shown-requires
-inverse-shown-requires c κs = two-accepted _ _ _ (c .before .preset-refusal .ensures) (c .if1 .left)
+blank-requires : tie.Need-blank-requires
+blank-requires c κs = search needs
+
+slice-aggregate-show-inverse : tie.Need-slice-aggregate-show-inverse
+slice-aggregate-show-inverse c = search needs
+
+show-inverse-requires : tie.Need-show-inverse-requires
+show-inverse-requires c κs =
+    let work = c .before .blank in
+    let passed = two-accepted _ _ _ (c .before .before .before .preset-refusal .ensures) (c .before .before .if1 .left) in
+    (passed .0, (passed .1, room _ _ (passed .0) (work .result) (work .ensures)))
+
+-- what the work window holds after the call
+held : (c : tie.After-show-inverse)
+    → let a = c .before .before .before .before .before .before .before .args in
+    Front (a .kind) (a .rank) (inverse (window (kindOf (a .kind)) (a .rank) (a .word .now))) (c .show-inverse .last .1 .1 .1 .0)
+held c =
+    let asked = c .before in
+    let work = asked .before .blank in
+    let passed = two-accepted _ _ _ (asked .before .before .before .preset-refusal .ensures) (asked .before .before .if1 .left) in
+    made-inverse _ _ (passed .0) _ _ _ (window-passes _ _ _) (work .ensures) (c .show-inverse .ensures)
 
 slice-aggregate-write-checked : tie.Need-slice-aggregate-write-checked
 slice-aggregate-write-checked c = search needs
 
 write-checked-requires : tie.Need-write-checked-requires
 write-checked-requires c κs =
-    let held = c .before .before in
-    let passed = two-accepted _ _ _ (held .before .before .preset-refusal .ensures) (held .before .if1 .left) in
-    front-asks _ _ (passed .0) _ _ (inverse-passes _ _ _) (held .inverse-shown .ensures)
+    let made = c .before .before .before in
+    let first = made .before .before .before in
+    let passed = two-accepted _ _ _ (first .before .preset-refusal .ensures) (first .if1 .left) in
+    front-asks _ _ (passed .0) _ _ (inverse-passes _ _ _) (held made)
 
 same-length : tie.Need-same-length
 same-length c = search needs
@@ -36,9 +60,9 @@ returns-2 : tie.Need-returns-2
 unfolding inverseOfWord
 returns-2 c =
     let called = c .before .before in
-    let held = called .before .before .before in
-    let refusal = held .before .before .preset-refusal .ensures in
-    front-written _ _ _ _ _ _ _ _ _ _ refl refusal (held .before .if1 .left) (held .inverse-shown .ensures) (called .write-checked .ensures)
+    let made = called .before .before .before .before in
+    let first = made .before .before .before in
+    front-written _ _ _ _ _ _ _ _ _ _ refl (first .before .preset-refusal .ensures) (first .if1 .left) (held made) (called .write-checked .ensures)
 
 pub inverse-of-word-spec : {M : Type 1} → statement M
 inverse-of-word-spec =
@@ -46,7 +70,9 @@ inverse-of-word-spec =
     (tie.spec
     preset-refusal-requires
     returns
-    inverse-shown-requires
+    blank-requires
+    slice-aggregate-show-inverse
+    show-inverse-requires
     slice-aggregate-write-checked
     write-checked-requires
     same-length

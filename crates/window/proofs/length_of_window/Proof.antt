@@ -1,29 +1,19 @@
--- `length_of_window` refuses in the order of CO2, or measures the window.
+-- `length_of_window` is the total of what `crossings_of_window` counts, or the same refusal.
 -- Assumes nothing.
-use mathlib.Core.Path.{refl}
-use Rattle.coxeter.proofs.Acceptance.{two-accepted, lanes-le}
-use Rattle.coxeter.proofs.Outcomes.{answer-refused, answer-length}
-use Rattle.coxeter.specs.Calls.{lengthOfWindow}
+use mathlib.Core.Path.{sym, ap, _∙_}
 use borrow.Author.Needs.{needs}
+use Rattle.coxeter.proofs.Totals.{totalled, totalled-window, crossingsOfWindow-small}
 use Rattle.window.proofs.length_of_window.Statement.{statement}
 use Rattle.window.proofs.length_of_window.Tie as tie
 
-ranked-window-refusal-requires : tie.Need-ranked-window-refusal-requires
-ranked-window-refusal-requires c κs = search needs
+crossings-of-window-requires : tie.Need-crossings-of-window-requires
+crossings-of-window-requires c κs = search needs
+
+total-of-requires : tie.Need-total-of-requires
+total-of-requires c κs x y z e = crossingsOfWindow-small _ _ _ x y z (sym (c .crossings-of-window .ensures) ∙ e)
 
 returns : tie.Need-returns
-unfolding lengthOfWindow
-returns c = answer-refused _ _ _ (c .before .ranked-window-refusal .ensures) (c .if1 .taken)
-
-length-of-requires : tie.Need-length-of-requires
-length-of-requires c κs =
-    let a = two-accepted _ _ _ (c .before .ranked-window-refusal .ensures) (c .if1 .left) in
-    (lanes-le _ _ _ (a .0) refl, a .1)
-
-returns-2 : tie.Need-returns-2
-unfolding lengthOfWindow
-returns-2 c = answer-length _ _ _ _ (c .before .before .ranked-window-refusal .ensures) (c .before .if1 .left) (c .length-of .ensures)
+returns c = c .total-of .ensures ∙ ap totalled (c .before .crossings-of-window .ensures) ∙ totalled-window _ _ _
 
 pub length-of-window-spec : {M : Type 1} → statement M
-length-of-window-spec =
-    tie.close (tie.spec ranked-window-refusal-requires returns length-of-requires returns-2)
+length-of-window-spec = tie.close (tie.spec crossings-of-window-requires total-of-requires returns)

@@ -1,26 +1,19 @@
--- `length_of_word` refuses in the order of CO2, or measures what the word shows.
+-- `length_of_word` is the total of what `crossings_of_word` counts, or the same refusal.
 -- Assumes nothing.
-use Rattle.coxeter.proofs.Outcomes.{answer-refused, answer-length}
-use Rattle.coxeter.specs.Calls.{lengthOfWord}
-use Rattle.coxeter.proofs.Acceptance.{two-accepted}
+use mathlib.Core.Path.{sym, ap, _∙_}
 use borrow.Author.Needs.{needs}
+use Rattle.coxeter.proofs.Totals.{totalled, totalled-word, crossingsOfWord-small}
 use Rattle.window.proofs.length_of_word.Statement.{statement}
 use Rattle.window.proofs.length_of_word.Tie as tie
 
-preset-refusal-requires : tie.Need-preset-refusal-requires
-preset-refusal-requires c κs = search needs
+crossings-of-word-requires : tie.Need-crossings-of-word-requires
+crossings-of-word-requires c κs = search needs
+
+total-of-requires : tie.Need-total-of-requires
+total-of-requires c κs x y z e = crossingsOfWord-small _ _ _ x y z (sym (c .crossings-of-word .ensures) ∙ e)
 
 returns : tie.Need-returns
-unfolding lengthOfWord
-returns c = answer-refused _ _ _ (c .before .preset-refusal .ensures) (c .if1 .taken)
-
-length-of-shown-requires : tie.Need-length-of-shown-requires
-length-of-shown-requires c κs = two-accepted _ _ _ (c .before .preset-refusal .ensures) (c .if1 .left)
-
-returns-2 : tie.Need-returns-2
-unfolding lengthOfWord
-returns-2 c = answer-length _ _ _ _ (c .before .before .preset-refusal .ensures) (c .before .if1 .left) (c .length-of-shown .ensures)
+returns c = c .total-of .ensures ∙ ap totalled (c .before .crossings-of-word .ensures) ∙ totalled-word _ _ _
 
 pub length-of-word-spec : {M : Type 1} → statement M
-length-of-word-spec =
-    tie.close (tie.spec preset-refusal-requires returns length-of-shown-requires returns-2)
+length-of-word-spec = tie.close (tie.spec crossings-of-word-requires total-of-requires returns)

@@ -5,7 +5,8 @@
 -- Assumes nothing.
 use mathlib.Core.Path.{_≡_, refl, sym, ap, _∙_}
 use mathlib.Core.Bool.{Bool}
-use mathlib.Core.List.{List, [], _++_}
+use mathlib.Core.List.{List, [], _∷_, _++_}
+use mathlib.Core.Logic.{_⊎_, ⊎-elim}
 use Prim.Native.Nat.{ℕ, zero, suc, _+_, _-_, _*_, _/_, _^_, _≤_, _<_}
 use native.Mathlib.Nat.{zero-add}
 use native.Mathlib.Numerals.{add-one}
@@ -14,7 +15,7 @@ use lib.Bits.{bitOr}
 use lib.Count.{ones}
 use lib.IntN.{ℤ, pos, natAbs}
 use lib.ListN.{length, length-append, length-drop, getD, take, drop, drop-of-length-le, set}
-use lib.Seq.{sets, take-at, take-take, length-take-le}
+use lib.Seq.{sets, take-at, take-take, take-all, length-take-le, getD-drop}
 use Rattle.coxeter.specs.Kinds.{Kind, A, B, D, kindOf, lanes}
 use Rattle.coxeter.specs.Length.{negative}
 use Rattle.coxeter.specs.Checks.{Rig, WindowOf}
@@ -22,7 +23,6 @@ use Rattle.coxeter.specs.Calls.{written}
 use Rattle.coxeter.specs.NormalForm.{block, blocks, levels, lastIndex, Indices, none, level, normalForm}
 use Rattle.coxeter.proofs.Acceptance.{lanes-le}
 use Rattle.coxeter.proofs.Indices.{indices, indices-in-range}
-use Rattle.coxeter.proofs.KindLaws.{kindOf-one, kindOf-two, kindOf-three}
 use Rattle.coxeter.proofs.Levels.{Accepted, accepted-of-refusal}
 use Rattle.coxeter.proofs.Lists.{Stored, stored-append, drop-next}
 use Rattle.coxeter.proofs.NormalForms.{normalForm-is-blocks}
@@ -97,21 +97,14 @@ module _ (n : ℕ) (w : List ℤ) (r : List ℕ) (e : take (length w) r ≡ indi
 
 -- the same by the number of the kind
 module _ (k n : ℕ) (w : List ℤ) (r : List ℕ) (g : WindowOf (kindOf k) n w) (e : take (length w) r ≡ indices B (length w) (length w) 1 w) where
-  pub indices-one : k ≡ 1 → take (levels (kindOf k) n) r ≡ indices (kindOf k) n (levels (kindOf k) n) 1 w
-  indices-one q = rw (kindOf-one k q) (indices-A n w r e (rw (kindOf-one k q) at g))
-
-  pub indices-two : k ≡ 2 → take (levels (kindOf k) n) r ≡ indices (kindOf k) n (levels (kindOf k) n) 1 w
-  indices-two q = rw (kindOf-two k q) (indices-B n w r e (rw (kindOf-two k q) at g))
+  pub indices-plain : (kindOf k ≡ A) ⊎ (kindOf k ≡ B) → take (levels (kindOf k) n) r ≡ indices (kindOf k) n (levels (kindOf k) n) 1 w
+  indices-plain = ⊎-elim (λ q. rw q (indices-A n w r e (rw q at g))) (λ q. rw q (indices-B n w r e (rw q at g)))
 
   -- the first t indices became v
-  pub indices-three : (k ≡ 1 → ⊥) → (k ≡ 2 → ⊥) → (t : ℕ) → t ≡ n - 1 → t ≤ length r → (v : List ℕ)
+  pub indices-settled : kindOf k ≡ D → (t : ℕ) → t ≡ n - 1 → t ≤ length r → (v : List ℕ)
       → ((x : List ℤ) → WindowOf D n x → take t r ≡ indices B n (n - 1) 1 x → v ≡ indices D n (n - 1) 1 x)
-      → length v ≡ length (take t r)
-      → (length (v ++ drop t r) ≡ length r) × (take (levels (kindOf k) n) (v ++ drop t r) ≡ indices (kindOf k) n (levels (kindOf k) n) 1 w)
-  indices-three a b t q l v f s = (
-    length-append v (drop t r) ∙ omega (arith, s, length-take-le t r l, length-drop t r),
-    rw (kindOf-three k a b) (indices-D n w r e (rw (kindOf-three k a b) at g) t q l v f s),
-  )
+      → length v ≡ length (take t r) → take (levels (kindOf k) n) (v ++ drop t r) ≡ indices (kindOf k) n (levels (kindOf k) n) 1 w
+  indices-settled d t q l v f s = rw d (indices-D n w r e (rw d at g) t q l v f s)
 
 lastIndex-le : (k : Kind) (n i : ℕ) → lastIndex k n i ≤ 2 * n
 lastIndex-le A n i = omega arith
@@ -125,21 +118,30 @@ index-le k n (level a b c d) (suc p) h = index-le k n d p (omega arith)
 
 -- ---- the levels that are left
 
-pub blocks-none : (k : Kind) (n t i : ℕ) (js : List ℕ) → t ≡ 0 → t + i ≡ length js + 1 → blocks k n i (drop (i - 1) js) ≡ []
+pub blocks-none : (k : Kind) (n i : ℕ) (js : List ℕ) → length js ≡ 0 → blocks k n i js ≡ []
 unfolding blocks
-blocks-none k n t i js z l = rw (drop-of-length-le js {i = i - 1} (omega arith))
+blocks-none k n i [] z = refl
+blocks-none k n i (j ∷ js) z = absurd (omega arith)
 
 -- the word of a level is that of the next levels and then its block
 pub record Joined (word u v : List ℕ) : Type 0 where
   pub whole : word ≡ u ++ v
 
-pub blocks-next : (k : Kind) (n t i : ℕ) (js : List ℕ) → (t ≡ 0 → ⊥) → 1 ≤ i → t + i ≡ length js + 1
-    → Joined (blocks k n i (drop (i - 1) js)) (blocks k n (i + 1) (drop (i + 1 - 1) js)) (block k n i (getD js (i - 1) 0))
-unfolding blocks
-blocks-next k n t i js f o l =
-    let e : i + 1 - 1 ≡ i = omega arith in
-    let d : i - 1 + 1 ≡ i = omega arith in
-    record { whole = rw (drop-next js (i - 1) 0 (omega arith), e, d, add-one) }
+-- the indices behind the first one, as the code lends them
+module _ (js : List ℕ) (f : length js ≡ 0 → ⊥) where
+  rest-is : take (length js - 1) (drop 1 js) ≡ drop 1 js
+  rest-is = take-all (length js - 1) (drop 1 js) (omega (arith, length-drop 1 js))
+
+  pub rest-length : length (take (length js - 1) (drop 1 js)) + 1 ≡ length js
+  rest-length = rw rest-is (omega (arith, length-drop 1 js))
+
+  pub rest-le : (b : ℕ) → ((p : ℕ) → p < length js → getD js p 0 ≤ b) → (p : ℕ) → p < length (take (length js - 1) (drop 1 js))
+      → getD (take (length js - 1) (drop 1 js)) p 0 ≤ b
+  rest-le b h p l = rw (rest-is, getD-drop 1 js p 0) (h (1 + p) (omega (arith, rest-length)))
+
+  pub blocks-next : (k : Kind) (n i : ℕ) → Joined (blocks k n i js) (blocks k n (i + 1) (take (length js - 1) (drop 1 js))) (block k n i (getD js 0 0))
+  unfolding blocks
+  blocks-next k n i = record { whole = ap (blocks k n i) (drop-next js 0 0 (omega arith)) ∙ rw (rest-is, add-one) }
 
 module _ {word u v : List ℕ} (j : Joined word u v) where
   pub joined-room-left : (m : ℕ) → length word ≤ m → length u ≤ m
@@ -184,15 +186,15 @@ module _ (k n m t : ℕ) (work : List ℤ) (r : List ℕ) (h : Rig k n) (g : Win
   pub first-indices : (p : ℕ) → p < length (take t r) → getD (take t r) p 0 ≤ 2 * n
   first-indices = rw js (index-le (kindOf k) n (indices-in-range (kindOf k) n window (accepted-of-refusal (kindOf k) n window g)))
 
-  first : blocks (kindOf k) n 1 (drop (1 - 1) (take t r)) ≡ form
+  first : blocks (kindOf k) n 1 (take t r) ≡ form
   first = ap (λ (l : List ℕ). blocks (kindOf k) n 1 l) js ∙ sym (normalForm-is-blocks (kindOf k) n window)
 
   pub first-room : (l : ℕ) → length (normalForm (kindOf k) n (take (lanes (kindOf k) n) work)) ≤ l
-      → length (blocks (kindOf k) n 1 (drop (1 - 1) (take t r))) ≤ l
+      → length (blocks (kindOf k) n 1 (take t r)) ≤ l
   first-room l a = rw first a
 
   pub first-written : (o out : List ℕ) (b : ℕ) → length (normalForm (kindOf k) n (take (lanes (kindOf k) n) work)) ≤ length o
-      → (b ≡ length (blocks (kindOf k) n 1 (drop (1 - 1) (take t r)))) × (out ≡ sets o 0 (blocks (kindOf k) n 1 (drop (1 - 1) (take t r))))
+      → (b ≡ length (blocks (kindOf k) n 1 (take t r))) × (out ≡ sets o 0 (blocks (kindOf k) n 1 (take t r)))
       → (b ≡ length (normalForm (kindOf k) n (take (lanes (kindOf k) n) work)))
       × (out ≡ written 0 (normalForm (kindOf k) n (take (lanes (kindOf k) n) work)) o)
   first-written o out b l a = (a .0 ∙ ap length first, a .1 ∙ ap (sets o 0) first ∙ written-sets form o l)

@@ -1,12 +1,14 @@
 -- `normal_form_of_window` refuses in the order of CO2, or writes the normal form of the window.
 -- Assumes nothing.
-use mathlib.Core.Path.{refl}
-use Rattle.coxeter.proofs.Acceptance.{two-accepted}
-use Rattle.window.proofs.forms.Rooms.{whole-asks, whole-written}
-use Rattle.coxeter.proofs.Outcomes.{writes-refused}
+use mathlib.Core.Path.{refl, sym, ap}
+use lib.ListN.{length}
+use lib.Seq.{take-length}
+use borrow.Author.Needs.{needs}
 use Rattle.coxeter.specs.Checks.{rankRefusal, windowRefusal}
 use Rattle.coxeter.specs.Calls.{normalFormOfWindow}
-use borrow.Author.Needs.{needs}
+use Rattle.coxeter.proofs.Acceptance.{two-accepted}
+use Rattle.coxeter.proofs.Outcomes.{writes-refused}
+use Rattle.window.proofs.forms.Rooms.{whole-asks, whole-written}
 use Rattle.window.proofs.normal_form_of_window.Statement.{statement}
 use Rattle.window.proofs.normal_form_of_window.Tie as tie
 
@@ -17,11 +19,14 @@ returns : tie.Need-returns
 unfolding normalFormOfWindow
 returns c = writes-refused _ _ _ _ _ refl (c .before .ranked-window-refusal .ensures) (c .if1 .taken)
 
+slice-aggregate-write-checked : tie.Need-slice-aggregate-write-checked
+slice-aggregate-write-checked c = sym (ap length (take-length (c .before .before .before .before .args .w .now)))
+
 write-checked-requires : tie.Need-write-checked-requires
 write-checked-requires c κs =
-    let held = c .before in
+    let held = c .before .before in
     let passed = two-accepted _ _ _ (held .before .ranked-window-refusal .ensures) (held .if1 .left) in
-    whole-asks _ _ _ (passed .1) (passed .0)
+    rw (take-length (held .before .before .before .args .w .now)) (whole-asks _ _ _ (passed .1) (passed .0))
 
 same-length : tie.Need-same-length
 same-length c = search needs
@@ -30,10 +35,11 @@ returns-2 : tie.Need-returns-2
 unfolding normalFormOfWindow
 returns-2 c =
     let called = c .before .before in
-    let held = called .before .before in
+    let held = called .before .before .before in
     let refusal = held .before .ranked-window-refusal .ensures in
     let passed = two-accepted (rankRefusal _ _) (windowRefusal _ _ _) _ refusal (held .if1 .left) in
-    whole-written _ _ _ (passed .1) _ _ _ _ _ _ refl refusal (held .if1 .left) (called .write-checked .ensures)
+    whole-written _ _ _ (passed .1) _ _ _ _ _ _ refl refusal (held .if1 .left)
+    (rw (take-length (held .before .before .before .args .w .now)) at (called .write-checked .ensures))
 
 pub normal-form-of-window-spec : {M : Type 1} → statement M
 normal-form-of-window-spec =
@@ -41,6 +47,7 @@ normal-form-of-window-spec =
     (tie.spec
     ranked-window-refusal-requires
     returns
+    slice-aggregate-write-checked
     write-checked-requires
     same-length
     returns-2)

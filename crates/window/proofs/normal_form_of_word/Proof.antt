@@ -1,11 +1,13 @@
 -- `normal_form_of_word` refuses in the order of CO2, or writes the normal form of what the word shows.
 -- Assumes nothing.
 use mathlib.Core.Path.{refl}
-use Rattle.coxeter.proofs.Acceptance.{two-accepted}
-use Rattle.window.proofs.forms.Rooms.{front-written}
-use Rattle.window.proofs.shown.Fronts.{front-asks, window-passes}
-use Rattle.coxeter.proofs.Outcomes.{writes-refused}
+use Rattle.coxeter.specs.Kinds.{kindOf}
+use Rattle.coxeter.specs.Windows.{window}
 use Rattle.coxeter.specs.Calls.{normalFormOfWord}
+use Rattle.coxeter.proofs.Acceptance.{two-accepted}
+use Rattle.coxeter.proofs.Outcomes.{writes-refused}
+use Rattle.window.proofs.forms.Rooms.{front-written}
+use Rattle.window.proofs.shown.Fronts.{Front, room, front-window, front-asks, window-passes}
 use borrow.Author.Needs.{needs}
 use Rattle.window.proofs.normal_form_of_word.Statement.{statement}
 use Rattle.window.proofs.normal_form_of_word.Tie as tie
@@ -17,17 +19,37 @@ returns : tie.Need-returns
 unfolding normalFormOfWord
 returns c = writes-refused _ _ _ _ _ refl (c .before .preset-refusal .ensures) (c .if1 .taken)
 
-shown-requires : tie.Need-shown-requires
-shown-requires c κs = two-accepted _ _ _ (c .before .preset-refusal .ensures) (c .if1 .left)
+blank-requires : tie.Need-blank-requires
+blank-requires c κs = search needs
+
+slice-aggregate-show-front : tie.Need-slice-aggregate-show-front
+slice-aggregate-show-front c = search needs
+
+show-front-requires : tie.Need-show-front-requires
+show-front-requires c κs =
+    let work = c .before .blank in
+    let passed = two-accepted _ _ _ (c .before .before .before .preset-refusal .ensures) (c .before .before .if1 .left) in
+    (passed .0, (passed .1, room _ _ (passed .0) (work .result) (work .ensures)))
+
+-- what the work window holds after the call
+held : (c : tie.After-show-front)
+    → let a = c .before .before .before .before .before .before .before .args in
+    Front (a .kind) (a .rank) (window (kindOf (a .kind)) (a .rank) (a .word .now)) (c .show-front .last .1 .1 .1 .0)
+held c =
+    let asked = c .before in
+    let work = asked .before .blank in
+    let passed = two-accepted _ _ _ (asked .before .before .before .preset-refusal .ensures) (asked .before .before .if1 .left) in
+    front-window _ _ (passed .0) _ _ _ (work .ensures) (c .show-front .ensures)
 
 slice-aggregate-write-checked : tie.Need-slice-aggregate-write-checked
 slice-aggregate-write-checked c = search needs
 
 write-checked-requires : tie.Need-write-checked-requires
 write-checked-requires c κs =
-    let held = c .before .before in
-    let passed = two-accepted _ _ _ (held .before .before .preset-refusal .ensures) (held .before .if1 .left) in
-    front-asks _ _ (passed .0) _ _ (window-passes _ _ _) (held .shown .ensures)
+    let made = c .before .before .before in
+    let first = made .before .before .before in
+    let passed = two-accepted _ _ _ (first .before .preset-refusal .ensures) (first .if1 .left) in
+    front-asks _ _ (passed .0) _ _ (window-passes _ _ _) (held made)
 
 same-length : tie.Need-same-length
 same-length c = search needs
@@ -36,9 +58,9 @@ returns-2 : tie.Need-returns-2
 unfolding normalFormOfWord
 returns-2 c =
     let called = c .before .before in
-    let held = called .before .before .before in
-    let refusal = held .before .before .preset-refusal .ensures in
-    front-written _ _ _ _ _ _ _ _ _ _ refl refusal (held .before .if1 .left) (held .shown .ensures) (called .write-checked .ensures)
+    let made = called .before .before .before .before in
+    let first = made .before .before .before in
+    front-written _ _ _ _ _ _ _ _ _ _ refl (first .before .preset-refusal .ensures) (first .if1 .left) (held made) (called .write-checked .ensures)
 
 pub normal-form-of-word-spec : {M : Type 1} → statement M
 normal-form-of-word-spec =
@@ -46,7 +68,9 @@ normal-form-of-word-spec =
     (tie.spec
     preset-refusal-requires
     returns
-    shown-requires
+    blank-requires
+    slice-aggregate-show-front
+    show-front-requires
     slice-aggregate-write-checked
     write-checked-requires
     same-length

@@ -4,32 +4,34 @@
 -- Assumes nothing.
 use mathlib.Core.Path.{_≡_, refl, sym, ap, _∙_}
 use mathlib.Core.Bool.{Bool, true, false, _&&_, and-false, and-true}
-use mathlib.Core.List.{List}
+use mathlib.Core.List.{List, [], _∷_}
 use Prim.Native.Nat.{ℕ, zero, suc, _+_, _-_, _≤_, _<_}
 use native.Mathlib.Numerals.{add-one, sub-one}
 use native.Mathlib.Omega.{arith}
 use lib.IntN.{ℤ, pos, negsuc, negℤ, natAbs}
-use lib.Signed.{mag}
+use lib.Dec.{T}
+use lib.Signed.{mag, ltZ, nonNeg}
 use lib.ListN.{length, getD, take, drop, set, drop-of-length-le}
 use lib.Seq.{sets, length-take-le, getD-take}
-use mir.Syntax.{w8}
-use mir.Val.{toZ, ofZ}
+use mir.Syntax.{w8, w64}
+use mir.Val.{Fits, SFits, toZ, ofZ}
 use borrow.Author.Tests.{ne-eqb}
-use Rattle.coxeter.specs.Kinds.{Kind, pick}
+use Rattle.coxeter.specs.Kinds.{Kind, A, B, D, pick, kindOf}
 use Rattle.coxeter.specs.Windows.{at, product, signed, inverse}
 use Rattle.coxeter.specs.Length.{negative}
-use Rattle.coxeter.specs.Checks.{WindowOf}
+use Rattle.coxeter.specs.Checks.{WindowOf, negativeInA}
 use Rattle.coxeter.specs.Calls.{written, sameEntry, sameWindow}
 use Rattle.coxeter.proofs.Lists.{drop-next}
 use Rattle.coxeter.proofs.Outcomes.{written-part, written-sets}
 use Rattle.coxeter.proofs.Products.{length-product}
 use Rattle.coxeter.proofs.Inverses.{length-inverse}
-use Rattle.coxeter.proofs.Sizes.{natAbs-negℤ}
+use Rattle.coxeter.proofs.KindLaws.{kindOf-one}
+use Rattle.coxeter.proofs.Sizes.{natAbs-negℤ, PositiveInA, positiveInA-head, positiveInA-tail}
 use Rattle.coxeter.proofs.Levels.{accepted-of-refusal}
 use Rattle.coxeter.proofs.Places.{between-getD}
 use Rattle.window.proofs.length.Sums.{length-le-of-refusal}
 use Rattle.window.proofs.product.Scatter.{scatter, scatter-inverse}
-use Rattle.refusals.proofs.Bytes.{held, element-back}
+use Rattle.refusals.proofs.Bytes.{held, byte-back, element-back, negative-is-test, size-of-positive}
 use Rattle.coxeter.proofs.Order.{sameEntry-refl}
 
 -- ---- entries by size and sign
@@ -65,7 +67,28 @@ entry-bounds k n w i h l =
     let b = between-getD 1 (1 + length w) w i (accepted-of-refusal k n w h .level .between) l in
     (b .0, omega arith)
 
+-- in kind A it is not negative
+positive-at : (k : Kind) (w : List ℤ) (i : ℕ) → PositiveInA k w → i < length w → negativeInA k (getD w i (pos 0)) ≡ false
+positive-at k [] i p l = absurd (omega arith)
+positive-at k (e ∷ w) zero p l = positiveInA-head k e w p
+positive-at k (e ∷ w) (suc i) p l = positive-at k w i (positiveInA-tail k e w p) (omega arith)
+
+sign-at : (k : Kind) (n : ℕ) (w : List ℤ) (i : ℕ) → WindowOf k n w → i < length w → negativeInA k (getD w i (pos 0)) ≡ false
+unfolding negativeInA
+sign-at A n w i g l = positive-at A w i (accepted-of-refusal A n w g .signs) l
+sign-at B n w i g l = refl
+sign-at D n w i g l = refl
+
 -- ---- the product
+
+-- an entry of kind A as an index
+pub positive-index : (k : ℕ) (e : ℤ) → k ≡ 1 → negativeInA (kindOf k) e ≡ false → SFits w8 e
+    → (negative e ≡ false) × T (nonNeg (held e)) × Fits w64 (natAbs (held e))
+unfolding negativeInA
+positive-index k e q n f =
+    let s : negative e ≡ false = rw (kindOf-one k q) at n in
+    let p = size-of-positive e f (ap (λ (z : ℤ). ltZ z (pos 0)) (byte-back e f) ∙ negative-is-test e ∙ s) in
+    (s, p .0, record { fits = omega (arith, p .1 .fits) })
 
 pub image-small : (u : List ℤ) (e : ℤ) (s : ℕ) → s ≡ natAbs e → 1 ≤ natAbs e → natAbs (at u e) < 128 → mag (getD u (s - 1) (pos 0)) < 128
     → natAbs (held (getD u (s - 1) (pos 0))) < 128
@@ -89,7 +112,8 @@ same-length-of-refusals k n u v h g = accepted-of-refusal k n v g .size ∙ sym 
 -- what `image` asks at position i of v
 pub image-asks : (k : Kind) (n : ℕ) (u v : List ℤ) (i : ℕ) → n ≤ 64 → WindowOf k n u → WindowOf k n v → i < length v
     → mag (getD v i (pos 0)) < 128
-    → (1 ≤ natAbs (held (getD v i (pos 0)))) × ((natAbs (held (getD v i (pos 0))) ≤ length u) × (natAbs (at u (held (getD v i (pos 0)))) < 128))
+    → (negativeInA k (held (getD v i (pos 0))) ≡ false) × ((1 ≤ natAbs (held (getD v i (pos 0))))
+    × ((natAbs (held (getD v i (pos 0))) ≤ length u) × (natAbs (at u (held (getD v i (pos 0)))) < 128)))
 image-asks k n u v i l h g m f =
     let e : ℤ = getD v i (pos 0) in
     let b = entry-bounds k n v i g m in
@@ -97,8 +121,8 @@ image-asks k n u v i l h g m f =
     let p : natAbs e - 1 < length u = omega arith in
     let a = entry-bounds k n u (natAbs e - 1) h p in
     rw (element-back (getD v i (pos 0)) f) (
-      b .0,
-      (omega arith, rw (natAbs-at-by-size u e (b .0)) (omega (arith, length-le-of-refusal k n u l h))),
+      sign-at k n v i g m,
+      (b .0, (omega arith, rw (natAbs-at-by-size u e (b .0)) (omega (arith, length-le-of-refusal k n u l h)))),
     )
 
 pub product-step : (u v out : List ℤ) (i : ℕ) (r : ℤ) → i < length v → mag (getD v i (pos 0)) < 128 → mag r < 128

@@ -1,13 +1,14 @@
 -- `product_of_words` refuses in the order of CO2, or writes the normal form of the product of what the words show.
 -- Assumes nothing.
 use mathlib.Core.Path.{refl}
-use Rattle.coxeter.proofs.Acceptance.{words-accepted}
-use Rattle.window.proofs.forms.Rooms.{front-written}
-use Rattle.window.proofs.shown.Fronts.{front-asks, product-passes}
-use Rattle.coxeter.proofs.Outcomes.{writes-refused}
+use Rattle.coxeter.specs.Kinds.{kindOf}
 use Rattle.coxeter.specs.Windows.{window, product}
-use Rattle.coxeter.specs.Checks.{_then_, rankRefusal, wordRefusal}
 use Rattle.coxeter.specs.Calls.{productOfWords}
+use Rattle.coxeter.proofs.Acceptance.{words-accepted}
+use Rattle.coxeter.proofs.Outcomes.{writes-refused}
+use Rattle.window.proofs.combined.Made.{made-product}
+use Rattle.window.proofs.forms.Rooms.{front-written}
+use Rattle.window.proofs.shown.Fronts.{Front, room, front-asks, window-passes, product-passes}
 use borrow.Author.Needs.{needs}
 use Rattle.window.proofs.product_of_words.Statement.{statement}
 use Rattle.window.proofs.product_of_words.Tie as tie
@@ -19,17 +20,38 @@ returns : tie.Need-returns
 unfolding productOfWords
 returns c = writes-refused _ _ _ _ _ refl (c .before .ranked-words-refusal .ensures) (c .if1 .taken)
 
-product-shown-requires : tie.Need-product-shown-requires
-product-shown-requires c κs = words-accepted _ _ _ _ _ (c .before .ranked-words-refusal .ensures) (c .if1 .left)
+blank-requires : tie.Need-blank-requires
+blank-requires c κs = search needs
+
+slice-aggregate-show-product : tie.Need-slice-aggregate-show-product
+slice-aggregate-show-product c = search needs
+
+show-product-requires : tie.Need-show-product-requires
+show-product-requires c κs =
+    let work = c .before .blank in
+    let passed = words-accepted _ _ _ _ _ (c .before .before .before .ranked-words-refusal .ensures) (c .before .before .if1 .left) in
+    (passed .0, (passed .1 .0, (passed .1 .1, room _ _ (passed .0) (work .result) (work .ensures))))
+
+-- what the work window holds after the call
+held : (c : tie.After-show-product)
+    → let a = c .before .before .before .before .before .before .before .before .args in
+    let shows = window (kindOf (a .kind)) (a .rank) in
+    Front (a .kind) (a .rank) (product (shows (a .u .now)) (shows (a .v .now))) (c .show-product .last .1 .1 .1 .1 .0)
+held c =
+    let asked = c .before in
+    let work = asked .before .blank in
+    let passed = words-accepted _ _ _ _ _ (asked .before .before .before .ranked-words-refusal .ensures) (asked .before .before .if1 .left) in
+    made-product _ _ (passed .0) _ _ _ _ (window-passes _ _ _) (work .ensures) (c .show-product .ensures)
 
 slice-aggregate-write-checked : tie.Need-slice-aggregate-write-checked
 slice-aggregate-write-checked c = search needs
 
 write-checked-requires : tie.Need-write-checked-requires
 write-checked-requires c κs =
-    let held = c .before .before in
-    let passed = words-accepted _ _ _ _ _ (held .before .before .ranked-words-refusal .ensures) (held .before .if1 .left) in
-    front-asks _ _ (passed .0) _ _ (product-passes _ _ _ _) (held .product-shown .ensures)
+    let made = c .before .before .before in
+    let first = made .before .before .before in
+    let passed = words-accepted _ _ _ _ _ (first .before .ranked-words-refusal .ensures) (first .if1 .left) in
+    front-asks _ _ (passed .0) _ _ (product-passes _ _ _ _) (held made)
 
 same-length : tie.Need-same-length
 same-length c = search needs
@@ -38,10 +60,9 @@ returns-2 : tie.Need-returns-2
 unfolding productOfWords
 returns-2 c =
     let called = c .before .before in
-    let held = called .before .before .before in
-    let refusal = held .before .before .ranked-words-refusal .ensures in
-    front-written _ _ _ (rankRefusal _ _ then wordRefusal _ _ then wordRefusal _ _) _ (product (window _ _ _) (window _ _ _)) _ _ _ _ refl refusal
-    (held .before .if1 .left) (held .product-shown .ensures) (called .write-checked .ensures)
+    let made = called .before .before .before .before in
+    let first = made .before .before .before in
+    front-written _ _ _ _ _ _ _ _ _ _ refl (first .before .ranked-words-refusal .ensures) (first .if1 .left) (held made) (called .write-checked .ensures)
 
 pub product-of-words-spec : {M : Type 1} → statement M
 product-of-words-spec =
@@ -49,7 +70,9 @@ product-of-words-spec =
     (tie.spec
     ranked-words-refusal-requires
     returns
-    product-shown-requires
+    blank-requires
+    slice-aggregate-show-product
+    show-product-requires
     slice-aggregate-write-checked
     write-checked-requires
     same-length

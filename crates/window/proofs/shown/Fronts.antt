@@ -11,10 +11,10 @@ use lib.ListN.{length, take, drop}
 use lib.Seq.{length-take-le}
 use Rattle.coxeter.proofs.Basics.{length-window}
 use Rattle.coxeter.proofs.Products.{length-product, windowFrom-product, window-append}
-use Rattle.coxeter.proofs.Inverses.{length-inverse, inverse-accepted}
+use Rattle.coxeter.proofs.Inverses.{inverse-accepted}
 use Rattle.coxeter.proofs.Levels.{window-accepted, refusal-of-accepted}
 use Rattle.coxeter.proofs.Acceptance.{lanes-le}
-use Rattle.coxeter.proofs.Outcomes.{written-part, written-front}
+use Rattle.coxeter.proofs.Outcomes.{written-part, written-front, written-again}
 use Rattle.coxeter.specs.Kinds.{kindOf, lanes, Kind}
 use Rattle.coxeter.specs.Windows.{window, windowFrom, product, inverse}
 use Rattle.coxeter.specs.Checks.{windowRefusal, Rig, WindowOf}
@@ -70,23 +70,20 @@ module _ (k n m : ℕ) (h : Rig k n) (e : m ≡ lanes (kindOf k) n) where
   pub part-passes : (x r : List ℤ) → WindowOf (kindOf k) n x → Front k n x r → WindowOf (kindOf k) n (take m r)
   part-passes x r a f = ap (windowRefusal (kindOf k) n) (part-is x r f) ∙ a
 
-  -- the part replaced by the product with the window of z
-  pub front-product : (u z : List ℕ) (r v : List ℤ) → Front k n (window (kindOf k) n u) r → v ≡ windowFrom (kindOf k) n (take m r) z
-      → Front k n (product (window (kindOf k) n u) (window (kindOf k) n z)) (v ++ drop m r)
-  front-product u z r v f w =
-      let x = product (window (kindOf k) n u) (window (kindOf k) n z) in
-      let s : length x ≡ lanes (kindOf k) n = length-product (window (kindOf k) n u) (window (kindOf k) n z) ∙ length-window (kindOf k) n z in
-      let p : v ≡ x =
-      w ∙ ap (λ (y : List ℤ). windowFrom (kindOf k) n y z) (part-is (window (kindOf k) n u) r f)
-      ∙ windowFrom-product (kindOf k) n (window (kindOf k) n u) z (length-window (kindOf k) n u) in
-      front-written k n h x r (v ++ drop m r) s (f .0) (written-part m x v r (s ∙ sym e) p)
+  -- the window of u was written to the front of `out`
+  module _ (u : List ℕ) (out r : List ℤ) (l : lanes (kindOf k) n ≤ length out) (q : r ≡ written 0 (window (kindOf k) n u) out) where
+    pub part-window : take m r ≡ window (kindOf k) n u
+    part-window = written-front m (window (kindOf k) n u) out r (length-window (kindOf k) n u ∙ sym e) (omega arith) q .1
 
-  -- the inverse of the part, in another work window
-  pub front-inverse : (u : List ℕ) (r work v : List ℤ) → Front k n (window (kindOf k) n u) r → length work ≡ 64
-      → v ≡ written 0 (inverse (take m r)) work → Front k n (inverse (window (kindOf k) n u)) v
-  front-inverse u r work v f l w =
-      front-written k n h (inverse (window (kindOf k) n u)) work v (length-inverse (window (kindOf k) n u) ∙ length-window (kindOf k) n u) l
-      (w ∙ ap (λ (x : List ℤ). written 0 (inverse x) work) (part-is (window (kindOf k) n u) r f))
+    -- and then the part replaced by the product with the window of z
+    pub part-product : (z : List ℕ) (v : List ℤ) → v ≡ windowFrom (kindOf k) n (take m r) z
+        → v ++ drop m r ≡ written 0 (product (window (kindOf k) n u) (window (kindOf k) n z)) out
+    part-product z v w =
+        let y = window (kindOf k) n u in
+        let x = product y (window (kindOf k) n z) in
+        let s : length x ≡ lanes (kindOf k) n = length-product y (window (kindOf k) n z) ∙ length-window (kindOf k) n z in
+        let p : v ≡ x = w ∙ ap (λ (d : List ℤ). windowFrom (kindOf k) n d z) part-window ∙ windowFrom-product (kindOf k) n y z (length-window (kindOf k) n u) in
+        written-part m x v r (s ∙ sym e) p ∙ ap (written 0 x) q ∙ written-again x y out (s ∙ sym (length-window (kindOf k) n u))
 
   pub part-shows : (u : List ℕ) (r : List ℤ) → Front k n (window (kindOf k) n u) r → take m r ≡ window (kindOf k) n u
   part-shows u r f = part-is (window (kindOf k) n u) r f

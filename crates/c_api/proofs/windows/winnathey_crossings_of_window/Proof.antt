@@ -2,7 +2,7 @@
 -- form has at most 4,096 letters.
 -- Assumes nothing.
 use mathlib.Core.Path.{sym, _∙_}
-use Rattle.c_api.proofs.Lengths.{crossingsOfWindow-small}
+use Rattle.coxeter.proofs.Totals.{crossingsOfWindow-small}
 use Rattle.c_api.proofs.Bytes.{crossingsOfWindow-refusable, crossings-as-bytes}
 use borrow.Author.Needs.{needs}
 use Rattle.c_api.proofs.windows.winnathey_crossings_of_window.Statement.{statement}

@@ -2,7 +2,7 @@
 -- has at most 4,096 letters.
 -- Assumes nothing.
 use mathlib.Core.Path.{sym, _∙_}
-use Rattle.c_api.proofs.Lengths.{crossingsOfWord-small}
+use Rattle.coxeter.proofs.Totals.{crossingsOfWord-small}
 use Rattle.c_api.proofs.Bytes.{crossingsOfWord-refusable, crossings-as-bytes}
 use borrow.Author.Needs.{needs}
 use Rattle.c_api.proofs.words.winnathey_crossings_of_word.Statement.{statement}

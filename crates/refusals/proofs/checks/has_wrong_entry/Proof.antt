@@ -12,7 +12,7 @@ use Rattle.coxeter.specs.Kinds.{kindOf}
 use Rattle.coxeter.specs.Checks.{negativeInA}
 use Rattle.refusals.proofs.Bytes.{element-back}
 use Rattle.refusals.proofs.checks.Marks.{Passed, passed-none, passed-next, whole-passed}
-use Rattle.refusals.proofs.checks.Marks.{zero-wrong, above-wrong, repeated-wrong, negative-wrong}
+use Rattle.refusals.proofs.checks.Marks.{negative-wrong, zero-wrong, above-wrong, repeated-wrong}
 use Rattle.refusals.proofs.checks.has_wrong_entry.Statement.{statement}
 use Rattle.refusals.proofs.checks.has_wrong_entry.Tie as tie
 
@@ -34,68 +34,69 @@ sub-i c = search needs
 shared-slice-copy-out-e : tie.Need-shared-slice-copy-out-e Inv-loop μ-loop
 shared-slice-copy-out-e c = search needs
 
+negative-in-a-requires : tie.Need-negative-in-a-requires Inv-loop μ-loop
+negative-in-a-requires c κs = search needs
+
+-- the sign that is tested is that of the entry before the place reached
+sign-of : (c : tie.After-negative-in-a Inv-loop μ-loop)
+    → let turn = c .before .before .before in
+    let a = turn .before .before .args in
+    negativeInA (kindOf (a .kind)) (getD (now (a .w)) (turn .loop .i - 1) (pos 0)) ≡ c .negative-in-a .result
+sign-of c =
+    let turn = c .before .before .before in
+    let a = turn .before .before .args in
+    let e : ℤ = getD (now (a .w)) (turn .loop .i - 1) (pos 0) in
+    sym (c .negative-in-a .ensures ∙ ap (negativeInA (kindOf (a .kind))) (element-back e (c .before .e .given)))
+
+returns : tie.Need-returns Inv-loop μ-loop
+returns c =
+    let turn = c .before .before .before in
+    negative-wrong _ _ _ _ _ (turn .before .loop .inv) (turn .loop-test .taken) (sign-of (c .before) ∙ c .if1 .taken)
+
 size-requires : tie.Need-size-requires Inv-loop μ-loop
 size-requires c κs = search needs
 
 cast-s : tie.Need-cast-s Inv-loop μ-loop
 cast-s c = search needs
 
--- the size that is tested is that of the entry before the place reached
+-- the size that is tested is that of the same entry
 size-of : (c : tie.After-size Inv-loop μ-loop)
-    → c .size .result ≡ natAbs (getD (now (c .before .before .before .before .before .args .w)) (c .before .before .before .loop .i - 1) (pos 0))
+    → let turn = c .before .before .before .before .before in
+    c .size .result ≡ natAbs (getD (now (turn .before .before .args .w)) (turn .loop .i - 1) (pos 0))
 size-of c =
-    let turn = c .before .before .before in
-    let e : ℤ = getD (now (turn .before .before .args .w)) (turn .loop .i - 1) (pos 0) in
-    c .size .ensures ∙ ap natAbs (element-back e (c .before .e .given))
-
-returns : tie.Need-returns Inv-loop μ-loop
-returns c =
-    let at = c .before in
-    let turn = at .before .before in
-    zero-wrong _ _ _ _ _ _ (turn .before .loop .inv) (turn .loop-test .taken) (size-of at) (c .if1 .taken)
-
--- the sign that is tested is that of the same entry
-sign-of : (c : tie.After-negative-in-a Inv-loop μ-loop)
-    → let turn = c .before .before .before .before .before .before .before in
-    let a = turn .before .before .args in
-    c .negative-in-a .result ≡ negativeInA (kindOf (a .kind)) (getD (now (a .w)) (turn .loop .i - 1) (pos 0))
-sign-of c =
-    let read = c .before .before .before .before .before in
+    let read = c .before .before .before in
     let turn = read .before .before in
-    let a = turn .before .before .args in
-    let e : ℤ = getD (now (a .w)) (turn .loop .i - 1) (pos 0) in
-    c .negative-in-a .ensures ∙ ap (negativeInA (kindOf (a .kind))) (element-back e (read .e .given))
+    let e : ℤ = getD (now (turn .before .before .args .w)) (turn .loop .i - 1) (pos 0) in
+    c .size .ensures ∙ ap natAbs (element-back e (read .e .given))
 
 returns-2 : tie.Need-returns-2 Inv-loop μ-loop
 returns-2 c =
+    let at = c .before in
+    let signed = at .before .before in
+    let turn = signed .before .before in
+    zero-wrong _ _ _ _ _ (turn .before .loop .inv) (turn .loop-test .taken) (sign-of signed ∙ at .before .if1 .left) _ (size-of at) (c .if2 .taken)
+
+returns-3 : tie.Need-returns-3 Inv-loop μ-loop
+returns-3 c =
     let at = c .before .before in
-    let turn = at .before .before in
-    above-wrong _ _ _ _ _ _ (turn .before .loop .inv) (turn .loop-test .taken) (size-of at) (c .before .if1 .left) (c .if2 .taken)
+    let signed = at .before .before in
+    let turn = signed .before .before in
+    above-wrong _ _ _ _ _ (turn .before .loop .inv) (turn .loop-test .taken) (sign-of signed ∙ at .before .if1 .left) _ (size-of at) (c .before .if2 .left)
+    (c .if3 .taken)
 
 sub-p : tie.Need-sub-p Inv-loop μ-loop
 sub-p c = search needs
 
-array-read-if3 : tie.Need-array-read-if3 Inv-loop μ-loop
-array-read-if3 c = search needs
-
-returns-3 : tie.Need-returns-3 Inv-loop μ-loop
-returns-3 c =
-    let at = c .before .before .before in
-    let turn = at .before .before in
-    repeated-wrong _ _ _ _ _ _ (turn .before .loop .inv) (turn .loop-test .taken) (size-of at) (c .before .before .if1 .left) (c .before .if2 .left)
-    (turn .before .before .before .pre) (c .if3 .taken)
-
-negative-in-a-requires : tie.Need-negative-in-a-requires Inv-loop μ-loop
-negative-in-a-requires c κs = search needs
+array-read-if4 : tie.Need-array-read-if4 Inv-loop μ-loop
+array-read-if4 c = search needs
 
 returns-4 : tie.Need-returns-4 Inv-loop μ-loop
 returns-4 c =
-    let at = c .before .before .before .before .before in
-    let turn = at .before .before in
-    let third = c .before .before in
-    let second = third .before in
-    negative-wrong _ _ _ _ _ _ (turn .before .loop .inv) (turn .loop-test .taken) (size-of at) (second .before .if1 .left) (second .if2 .left)
-    (turn .before .before .before .pre) (third .if3 .left) (sym (sign-of (c .before)) ∙ c .if4 .taken)
+    let at = c .before .before .before in
+    let signed = at .before .before in
+    let turn = signed .before .before in
+    repeated-wrong _ _ _ _ _ (turn .before .loop .inv) (turn .loop-test .taken) (sign-of signed ∙ at .before .if1 .left) _ (size-of at)
+    (c .before .before .if2 .left) (c .before .if3 .left) (turn .before .before .before .pre) (c .if4 .taken)
 
 array-write-marks : tie.Need-array-write-marks Inv-loop μ-loop
 array-write-marks c = search needs
@@ -105,12 +106,11 @@ loop-less c = search needs
 
 loop-again : tie.Need-loop-again Inv-loop μ-loop
 loop-again c =
-    let at = c .before .before .before .before .before in
-    let turn = at .before .before in
-    let third = c .before .before in
-    let second = third .before in
-    passed-next _ _ _ _ _ _ (turn .before .loop .inv) (turn .loop-test .taken) (size-of at) (second .before .if1 .left) (second .if2 .left)
-    (turn .before .before .before .pre) (third .if3 .left) (sym (sign-of (c .before)) ∙ c .if4 .left)
+    let at = c .before .before .before in
+    let signed = at .before .before in
+    let turn = signed .before .before in
+    passed-next _ _ _ _ _ (turn .before .loop .inv) (turn .loop-test .taken) (sign-of signed ∙ at .before .if1 .left) _ (size-of at)
+    (c .before .before .if2 .left) (c .before .if3 .left) (turn .before .before .before .pre) (c .if4 .left)
 
 returns-5 : tie.Need-returns-5 Inv-loop μ-loop
 returns-5 c =
@@ -127,14 +127,14 @@ has-wrong-entry-spec =
     loop-holds
     sub-i
     shared-slice-copy-out-e
+    negative-in-a-requires
+    returns
     size-requires
     cast-s
-    returns
     returns-2
-    sub-p
-    array-read-if3
     returns-3
-    negative-in-a-requires
+    sub-p
+    array-read-if4
     returns-4
     array-write-marks
     loop-less

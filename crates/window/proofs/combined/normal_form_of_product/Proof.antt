@@ -2,11 +2,13 @@
 -- windows.
 -- Assumes nothing.
 use mathlib.Core.Path.{refl}
+use Rattle.coxeter.specs.Windows.{product}
 use Rattle.coxeter.proofs.Acceptance.{windows-accepted}
-use Rattle.coxeter.proofs.Theorems.{product-passes}
 use Rattle.coxeter.proofs.Outcomes.{writes-refused}
+use Rattle.coxeter.proofs.Theorems.{product-passes}
+use Rattle.window.proofs.combined.Made.{made-room, made-product}
 use Rattle.window.proofs.forms.Rooms.{front-written}
-use Rattle.window.proofs.shown.Fronts.{front-asks}
+use Rattle.window.proofs.shown.Fronts.{Front, front-asks}
 use borrow.Author.Needs.{needs}
 use Rattle.window.proofs.combined.normal_form_of_product.Statement.{statement}
 use Rattle.window.proofs.combined.normal_form_of_product.Tie as tie
@@ -17,17 +19,37 @@ ranked-windows-refusal-requires c κs = search needs
 returns : tie.Need-returns
 returns c = writes-refused _ _ _ _ _ refl (c .before .ranked-windows-refusal .ensures) (c .if1 .taken)
 
-multiplied-requires : tie.Need-multiplied-requires
-multiplied-requires c κs = windows-accepted _ _ _ _ _ (c .before .ranked-windows-refusal .ensures) (c .if1 .left)
+blank-requires : tie.Need-blank-requires
+blank-requires c κs = search needs
+
+slice-aggregate-product-into : tie.Need-slice-aggregate-product-into
+slice-aggregate-product-into c = search needs
+
+product-into-requires : tie.Need-product-into-requires
+product-into-requires c κs =
+    let work = c .before .blank in
+    let passed = windows-accepted _ _ _ _ _ (c .before .before .before .ranked-windows-refusal .ensures) (c .before .before .if1 .left) in
+    (passed .0, (passed .1 .0, (passed .1 .1, made-room _ _ (passed .0) _ (work .result) (passed .1 .1) (work .ensures))))
+
+-- what the work window holds after the call
+held : (c : tie.After-product-into)
+    → let a = c .before .before .before .before .before .before .args in
+    Front (a .kind) (a .rank) (product (a .u .now) (a .v .now)) (c .product-into .last .1 .1 .1 .1 .0)
+held c =
+    let asked = c .before in
+    let work = asked .before .blank in
+    let passed = windows-accepted _ _ _ _ _ (asked .before .before .before .ranked-windows-refusal .ensures) (asked .before .before .if1 .left) in
+    made-product _ _ (passed .0) _ _ _ _ (passed .1 .1) (work .ensures) (c .product-into .ensures)
 
 slice-aggregate-write-checked : tie.Need-slice-aggregate-write-checked
 slice-aggregate-write-checked c = search needs
 
 write-checked-requires : tie.Need-write-checked-requires
 write-checked-requires c κs =
-    let held = c .before .before in
-    let passed = windows-accepted _ _ _ _ _ (held .before .before .ranked-windows-refusal .ensures) (held .before .if1 .left) in
-    front-asks _ _ (passed .0) _ _ (product-passes _ _ _ _ (passed .1 .0) (passed .1 .1)) (held .multiplied .ensures)
+    let made = c .before .before .before in
+    let first = made .before .before .before in
+    let passed = windows-accepted _ _ _ _ _ (first .before .ranked-windows-refusal .ensures) (first .if1 .left) in
+    front-asks _ _ (passed .0) _ _ (product-passes _ _ _ _ (passed .1 .0) (passed .1 .1)) (held made)
 
 same-length : tie.Need-same-length
 same-length c = search needs
@@ -35,9 +57,9 @@ same-length c = search needs
 returns-2 : tie.Need-returns-2
 returns-2 c =
     let called = c .before .before in
-    let held = called .before .before .before in
-    let refusal = held .before .before .ranked-windows-refusal .ensures in
-    front-written _ _ _ _ _ _ _ _ _ _ refl refusal (held .before .if1 .left) (held .multiplied .ensures) (called .write-checked .ensures)
+    let made = called .before .before .before .before in
+    let first = made .before .before .before in
+    front-written _ _ _ _ _ _ _ _ _ _ refl (first .before .ranked-windows-refusal .ensures) (first .if1 .left) (held made) (called .write-checked .ensures)
 
 pub normal-form-of-product-spec : {M : Type 1} → statement M
 normal-form-of-product-spec =
@@ -45,7 +67,9 @@ normal-form-of-product-spec =
     (tie.spec
     ranked-windows-refusal-requires
     returns
-    multiplied-requires
+    blank-requires
+    slice-aggregate-product-into
+    product-into-requires
     slice-aggregate-write-checked
     write-checked-requires
     same-length

@@ -9,7 +9,7 @@ use lib.ListN.{length, getD}
 use borrow.Author.Needs.{needs}
 use Rattle.coxeter.specs.Length.{negative}
 use Rattle.refusals.proofs.Bytes.{element-back}
-use Rattle.window.proofs.length.OnePass.{Gone, gone-none, size-bounds, sums-fit, pairs-fit, left, gone-negative, gone-positive, parts}
+use Rattle.window.proofs.length.OnePass.{Gone, gone-none, size-bounds, set-fits, sums-fit, pairs-fit, left, gone-negative, gone-positive, parts}
 use Rattle.window.proofs.length.Sums.{square-fits}
 use Rattle.window.proofs.length.parts_of.Statement.{statement}
 use Rattle.window.proofs.length.parts_of.Tie as tie
@@ -53,9 +53,15 @@ bounds c =
     let pre = turn .before .before .pre in
     size-bounds _ _ _ _ _ _ _ (turn .before .loop .inv) (turn .loop-test .taken) (pre .0) (pre .1) (size-of c)
 
-from-size-requires : tie.Need-from-size-requires Inv-loop μ-loop
-from-size-requires c κs =
-    let b = bounds c in (b .0, omega (arith, b .1, c .before .before .before .before .pre .0))
+larger-behind-requires : tie.Need-larger-behind-requires Inv-loop μ-loop
+larger-behind-requires c κs =
+    let turn = c .before .before in
+    let pre = turn .before .before .pre in
+    let b = bounds c in (
+      b .0,
+      omega (arith, b .1, pre .0),
+      set-fits _ _ _ _ _ _ _ (turn .before .loop .inv) (turn .loop-test .taken) (pre .0) (pre .1) (size-of c),
+    )
 
 with-size-requires : tie.Need-with-size-requires Inv-loop μ-loop
 with-size-requires c κs =
@@ -89,7 +95,7 @@ add-pairs c =
     let at = got .before in
     let turn = at .before .before in
     let pre = turn .before .before .pre in
-    let fits = pairs-fit _ _ _ _ _ _ _ (turn .before .loop .inv) (turn .loop-test .taken) (pre .0) (pre .1) (size-of at) _ (got .from-size .ensures) _
+    let fits = pairs-fit _ _ _ _ _ _ _ (turn .before .loop .inv) (turn .loop-test .taken) (pre .0) (pre .1) (size-of at) _ (got .larger-behind .ensures) _
     (sign-of asked) (c .if1 .taken) in
     record { fits = omega (arith, fits) }
 
@@ -118,7 +124,7 @@ loop-again c =
     let turn = at .before .before in
     let pre = turn .before .before .pre in
     rw (asked .before .with-size .ensures)
-    (gone-negative _ _ _ _ _ _ _ (turn .before .loop .inv) (turn .loop-test .taken) (pre .0) (pre .1) (size-of at) _ (got .from-size .ensures) _
+    (gone-negative _ _ _ _ _ _ _ (turn .before .loop .inv) (turn .loop-test .taken) (pre .0) (pre .1) (size-of at) _ (got .larger-behind .ensures) _
     (sign-of asked) (c .if1 .taken))
 
 sub-pairs-2 : tie.Need-sub-pairs-2 Inv-loop μ-loop
@@ -128,7 +134,7 @@ sub-pairs-2 c =
     let at = got .before in
     let turn = at .before .before in
     let pre = turn .before .before .pre in
-    left _ _ _ _ _ _ _ (turn .before .loop .inv) (turn .loop-test .taken) (pre .0) (pre .1) (size-of at) _ (got .from-size .ensures) _
+    left _ _ _ _ _ _ _ (turn .before .loop .inv) (turn .loop-test .taken) (pre .0) (pre .1) (size-of at) _ (got .larger-behind .ensures) _
     (sign-of asked) (c .if1 .left)
 
 loop-less-2 : tie.Need-loop-less-2 Inv-loop μ-loop
@@ -142,7 +148,7 @@ loop-again-2 c =
     let turn = at .before .before in
     let pre = turn .before .before .pre in
     rw (asked .before .with-size .ensures)
-    (gone-positive _ _ _ _ _ _ _ (turn .before .loop .inv) (turn .loop-test .taken) (pre .0) (pre .1) (size-of at) _ (got .from-size .ensures) _
+    (gone-positive _ _ _ _ _ _ _ (turn .before .loop .inv) (turn .loop-test .taken) (pre .0) (pre .1) (size-of at) _ (got .larger-behind .ensures) _
     (sign-of asked) (c .if1 .left))
 
 returns : tie.Need-returns Inv-loop μ-loop
@@ -162,7 +168,7 @@ parts-of-spec =
     sub-i
     shared-slice-copy-out-e
     size-requires
-    from-size-requires
+    larger-behind-requires
     with-size-requires
     is-negative-requires
     add-pairs

@@ -1,7 +1,6 @@
 -- `normal::write_normal_form` stores the blocks of the window's indices from level 1 on, which are the normal form.
 -- Assumes nothing.
-use mathlib.Core.Path.{sym, ap, _∙_}
-use Prim.Native.Nat.{ℕ, _+_}
+use mathlib.Core.Path.{sym, _∙_}
 use native.Mathlib.Omega.{arith}
 use lib.Seq.{length-take-le}
 use borrow.Author.Needs.{needs}
@@ -64,9 +63,8 @@ write-from-requires c κs =
     let e = counted .lanes .ensures in
     let t = made .before .levels-of .ensures in
     let n = found .set-levels .kept .1 .1 .1 .0 ∙ made .no-indices .ensures in
-    let js = found .set-levels .ensures in
-    let size = first-length _ _ _ _ _ _ (pre .0) (pre .1 .1 .0) e t (n, js) in (
-      (a, omega arith, ap (λ (x : ℕ). x + 1) size, first-small _ _ _ _ _ _ (pre .0) (pre .1 .1 .0) e t (n, js)),
+    let js = found .set-levels .ensures in (
+      (a, omega (arith, first-small _ _ _ _ _ _ (pre .0) (pre .1 .1 .0) e t (n, js))),
       (first-indices _ _ _ _ _ _ (pre .0) (pre .1 .1 .0) e t (n, js), first-room _ _ _ _ _ _ (pre .0) (pre .1 .1 .0) e t (n, js) _ (pre .1 .1 .1)),
     )
 

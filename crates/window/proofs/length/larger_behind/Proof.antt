@@ -1,4 +1,5 @@
--- `normal::larger_behind` counts the digits of a byte, or as `length::from_size`.
+-- `length::larger_behind` shifts the smaller sizes out and counts the set digits that are left, of a byte if there are
+-- few.
 -- Assumes nothing.
 use Prim.Native.Nat.{ℕ, _-_, _/_, _^_, _≤_, _<_}
 use native.Mathlib.Nat.{lt-of-le-of-lt, lt-of-lt-of-le}
@@ -6,8 +7,8 @@ use native.Mathlib.Omega.{arith}
 use lib.Count.{ones, ones-le}
 use lib.Pow.{pow-mono, shr-le}
 use borrow.Author.Needs.{needs}
-use Rattle.window.proofs.normal.larger_behind.Statement.{statement}
-use Rattle.window.proofs.normal.larger_behind.Tie as tie
+use Rattle.window.proofs.length.larger_behind.Statement.{statement}
+use Rattle.window.proofs.length.larger_behind.Tie as tie
 
 -- what is left of a set of at most k digits has no more
 left : (k m set p : ℕ) → set < 2 ^ m → m ≤ k → set / 2 ^ p < 2 ^ k
@@ -38,11 +39,23 @@ cast-result-2 c =
 returns : tie.Need-returns
 returns c = search needs
 
-from-size-requires : tie.Need-from-size-requires
-from-size-requires c κs = search needs
+cast-result-3 : tie.Need-cast-result-3
+cast-result-3 c =
+    let start = c .before in
+    record { fits = omega (arith, few (start .args .set) (start .args .s - 1) (start .fits .set .fits)) }
 
 returns-2 : tie.Need-returns-2
-returns-2 c = c .from-size .ensures
+returns-2 c = search needs
 
 pub larger-behind-spec : {M : Type 1} → statement M
-larger-behind-spec = tie.close (tie.spec sub-rest cast-rest shr-rest cast-result cast-result-2 returns from-size-requires returns-2)
+larger-behind-spec =
+    tie.close
+    (tie.spec
+    sub-rest
+    cast-rest
+    shr-rest
+    cast-result
+    cast-result-2
+    returns
+    cast-result-3
+    returns-2)

@@ -1,0 +1,50 @@
+-- `shown::show_product` applies the second word to what the first shows.
+-- Assumes nothing.
+use mathlib.Core.Path.{sym}
+use lib.Seq.{length-take-le}
+use borrow.Author.Needs.{needs}
+use Rattle.coxeter.proofs.Acceptance.{rank-accepted}
+use Rattle.window.proofs.shown.Fronts.{part-window, part-product, window-passes}
+use Rattle.window.proofs.shown.show_product.Statement.{statement}
+use Rattle.window.proofs.shown.show_product.Tie as tie
+
+lanes-requires : tie.Need-lanes-requires
+lanes-requires c κs = search needs
+
+show-front-requires : tie.Need-show-front-requires
+show-front-requires c κs = search needs
+
+slice-relend-prefix-apply : tie.Need-slice-relend-prefix-apply
+slice-relend-prefix-apply c = search needs
+
+slice-aggregate-apply : tie.Need-slice-aggregate-apply
+slice-aggregate-apply c = sym (length-take-le _ _ (search needs))
+
+apply-requires : tie.Need-apply-requires
+apply-requires c κs =
+    let counted = c .before .before .before .before in
+    let pre = counted .before .before .before .pre in
+    let part = part-window _ _ _ (pre .0) (counted .lanes .ensures) _ _ _ (pre .1 .1 .1) (c .before .before .show-front .ensures) in
+    (rank-accepted _ _ (pre .0), (pre .1 .1 .0, rw part (window-passes _ _ _)))
+
+same-length : tie.Need-same-length
+same-length c = search needs
+
+returns : tie.Need-returns
+returns c =
+    let shown = c .before .before .before .before in
+    let counted = shown .before .before in
+    let pre = counted .before .before .before .pre in
+    part-product _ _ _ (pre .0) (counted .lanes .ensures) _ _ _ (pre .1 .1 .1) (shown .show-front .ensures) _ _ (c .before .apply .ensures)
+
+pub show-product-spec : {M : Type 1} → statement M
+show-product-spec =
+    tie.close
+    (tie.spec
+    lanes-requires
+    show-front-requires
+    slice-relend-prefix-apply
+    slice-aggregate-apply
+    apply-requires
+    same-length
+    returns)
