@@ -1,16 +1,17 @@
--- A text that is written, and which sentence that is: by its number, and by computing its codes. Every sentence has
--- at most 255 characters.
+-- A text that is written, the numbers that have no sentence, the sentences' lengths, at most 255 each, and where each
+-- sentence stands in a table of texts: by induction over the texts.
 -- Assumes nothing.
 use mathlib.Core.Path.{_≡_, refl, ap, _∙_}
 use mathlib.Core.Bool.{Bool, true, false, _&&_}
-use mathlib.Core.List.{List, [], _∷_, _++_}
-use Prim.Native.Nat.{ℕ, zero, suc, _+_, _≤_, _<_, zero-le}
+use mathlib.Core.List.{List, [], _∷_, _++_, append-assoc}
+use Prim.Native.Nat.{ℕ, zero, suc, _+_, _-_, _≤_, _<_, zero-le}
 use Prim.Native.String.{String, len}
 use native.Mathlib.Nat.{le-refl}
+use native.Mathlib.Numerals.{add-one}
 use native.Mathlib.Omega.{arith}
 use lib.Dec.{T, leb, leb→le}
-use lib.ListN.{length, getD, take, drop, List·getD-eq-default}
-use lib.Seq.{take-all}
+use lib.ListN.{length, getD, take, drop, length-append, List·getD-eq-default}
+use lib.Seq.{take-all, take-at, drop-at}
 use borrow.Author.Tests.{lt-ltb, le-ltb}
 use Rattle.coxeter.specs.declared.Answer.{Answer}
 use Rattle.coxeter.specs.declared.Answer.the-variants.{Length, Refused}
@@ -30,13 +31,7 @@ module _ (l out : List ℕ) where
   unfolding writes answerOf written tooShort
   put-copied after r h e v = rw (e, v, take-all (length l) l (le-refl (length l)), le-ltb (length out) (length l) h) (refl, refl)
 
--- ---- sentences by their numbers
-
--- the sentence of refusal k is s, and s was written
-pub said : (k : ℕ) (s out after : List ℕ) (refusal : ℕ) (a : Answer) → refusal ≡ k → sentence k ≡ s → Yields (writes 0 s out) a after
-    → Yields (refusalSentence refusal out) a after
-unfolding refusalSentence
-said k s out after refusal a e q y = rw (e, q) y
+-- ---- numbers that have no sentence
 
 -- a number above the last refusal has no sentence, as 0 has none
 sentence-unknown : (k : ℕ) → 21 < k → sentence k ≡ sentence 0
@@ -55,14 +50,6 @@ said-zero k out z = rw (z, le-ltb (length out) 0 (omega arith)) (refl, refl)
 
 pub unsaid : (k : ℕ) (out : List ℕ) → 21 < k → Yields (refusalSentence k out) (Length 0) out
 unsaid k out h = rw (unknown-alike k out h) (said-zero 0 out refl)
-
--- ---- numbers that were tested one after the other
-
-pub above-zero : (k : ℕ) → (k ≡ 0 → ⊥) → 0 < k
-above-zero k f = omega arith
-
-pub past : (n k : ℕ) → n < k → (k ≡ suc n → ⊥) → suc n < k
-past n k h f = omega arith
 
 -- ---- lengths
 
@@ -90,3 +77,62 @@ pub length-sentence : (k : ℕ) → length (sentence k) ≤ 255
 unfolding sentence codes sentences short
 length-sentence zero = omega arith
 length-sentence (suc k) = rw (length-codesFrom (getD sentences k "") (len (getD sentences k "")) 0) (len-short 255 sentences tt k)
+
+-- ---- texts in a table
+
+-- texts one after the other
+unfoldable pub joined : List String → List ℕ
+joined [] = []
+joined (t ∷ l) = codes t ++ joined l
+
+-- where each of them ends, if the first begins at a
+unfoldable pub ends : ℕ → List String → List ℕ
+ends a [] = []
+ends a (t ∷ l) = (a + len t) ∷ ends (a + len t) l
+
+-- a text stands among bytes, from place a up to e
+pub record Stands (text bytes : List ℕ) (a e : ℕ) : Type 0 where
+  before : List ℕ
+  after : List ℕ
+  whole : bytes ≡ before ++ (text ++ after)
+  start : length before ≡ a
+  end : a + length text ≡ e
+
+-- then it is that part of the bytes
+module _ {text bytes : List ℕ} {a e : ℕ} (s : Stands text bytes a e) where
+  pub stands-rises : a ≤ e
+  stands-rises = omega arith
+
+  pub stands-within : e ≤ length bytes
+  stands-within =
+      let l : length bytes ≡ length (s .before) + (length text + length (s .after)) = ap length (s .whole) ∙ simp length-append in
+      omega arith
+
+  pub stands-part : take (e - a) (drop a bytes) ≡ text
+  stands-part =
+      let n : e - a ≡ length text = omega arith in
+      rw (n, s .whole, ← s .start, drop-at, take-at)
+
+-- each of the texts stands from one end to the next
+joined-stands : (l : List String) (k a : ℕ) (before : List ℕ) → length before ≡ a → k < length l
+    → Stands (codes (getD l k "")) (before ++ joined l) (getD (a ∷ ends a l) k 0) (getD (ends a l) k 0)
+unfolding joined ends codes
+joined-stands [] k a before e h = absurd (omega arith)
+joined-stands (t ∷ l) zero a before e h =
+    record { before = before; after = joined l; whole = refl; start = e; end = ap (λ (m : ℕ). a + m) (length-codesFrom t (len t) 0) }
+joined-stands (t ∷ l) (suc k) a before e h =
+    let e' : length (before ++ codes t) ≡ a + len t = simp (length-append, length-codesFrom t (len t) 0, e) in
+    rw (← append-assoc) (joined-stands l k (a + len t) (before ++ codes t) e' (omega arith))
+
+-- ---- sentences in a table, the empty one of 0 too
+
+pub sentence-stands : (k : ℕ) → k ≤ 21
+    → Stands (sentence k) (joined sentences) (getD (0 ∷ 0 ∷ ends 0 sentences) k 0) (getD (0 ∷ 0 ∷ ends 0 sentences) (k + 1) 0)
+unfolding sentence sentences joined ends
+sentence-stands zero h = record { before = []; after = joined sentences; whole = refl; start = refl; end = refl }
+sentence-stands (suc k) h = rw (add-one (suc k)) (joined-stands sentences k 0 [] refl (omega arith))
+
+pub said : (k : ℕ) (s out after : List ℕ) (a : Answer) → s ≡ sentence k → Yields (writes 0 s out) a after
+    → Yields (refusalSentence k out) a after
+unfolding refusalSentence
+said k s out after a e y = rw (← e) y

@@ -1,15 +1,41 @@
--- `refusal_sentence` has the sentences of refusals 1 to 7, and `above_7` the others. Each text is the sentence of
--- its number by computing its codes.
+-- `refusal_sentence` puts the part of the texts where the sentence stands. That the code's two tables are the sentences
+-- one after the other and the places where they end is computed; `sentence-stands` has the rest.
 -- Assumes nothing.
-use mathlib.Core.Path.{refl}
 use borrow.Author.Needs.{needs}
-use Rattle.sentences.specs.Sentences.{codesFrom, codes, sentences, sentence}
-use Rattle.sentences.proofs.Texts.{said, past, said-zero, above-zero}
+use Rattle.sentences.specs.Sentences.{codesFrom, codes, sentences}
+use Rattle.sentences.proofs.Texts.{unsaid, said, joined, ends, stands-rises, stands-within, stands-part, sentence-stands}
 use Rattle.sentences.proofs.refusal_sentence.Statement.{statement}
 use Rattle.sentences.proofs.refusal_sentence.Tie as tie
 
-slice-aggregate-put : tie.Need-slice-aggregate-put
-slice-aggregate-put c = search needs
+returns : tie.Need-returns
+returns c = unsaid _ _ (c .if1 .taken)
+
+mul-start : tie.Need-mul-start
+mul-start c = search needs
+
+array-read-start : tie.Need-array-read-start
+array-read-start c = search needs
+
+add-end : tie.Need-add-end
+add-end c = search needs
+
+mul-end : tie.Need-mul-end
+mul-end c = search needs
+
+array-read-end : tie.Need-array-read-end
+array-read-end c = search needs
+
+sub-put : tie.Need-sub-put
+unfolding sentences ends
+sub-put c = stands-rises (sentence-stands _ (c .if1 .left))
+
+part-put-start : tie.Need-part-put-start
+unfolding sentences ends
+part-put-start c = stands-rises (sentence-stands _ (c .before .if1 .left))
+
+part-put-end : tie.Need-part-put-end
+unfolding sentences ends joined codes codesFrom
+part-put-end c = stands-within (sentence-stands _ (c .before .if1 .left))
 
 put-requires : tie.Need-put-requires
 put-requires c κs = search needs
@@ -17,163 +43,25 @@ put-requires c κs = search needs
 same-length : tie.Need-same-length
 same-length c = search needs
 
-returns : tie.Need-returns
-unfolding sentence sentences codes codesFrom
-returns c =
-    let put = c .before .before in
-    said 1 _ _ _ _ _ (put .before .before .before .if1 .taken) refl (put .put .ensures)
-
-slice-aggregate-put-2 : tie.Need-slice-aggregate-put-2
-slice-aggregate-put-2 c = search needs
-
-put-requires-2 : tie.Need-put-requires-2
-put-requires-2 c κs = search needs
-
-same-length-2 : tie.Need-same-length-2
-same-length-2 c = search needs
-
 returns-2 : tie.Need-returns-2
-unfolding sentence sentences codes codesFrom
+unfolding sentences ends joined codes codesFrom
 returns-2 c =
     let put = c .before .before in
-    said 2 _ _ _ _ _ (put .before .before .before .if2 .taken) refl (put .put2 .ensures)
-
-slice-aggregate-put-3 : tie.Need-slice-aggregate-put-3
-slice-aggregate-put-3 c = search needs
-
-put-requires-3 : tie.Need-put-requires-3
-put-requires-3 c κs = search needs
-
-same-length-3 : tie.Need-same-length-3
-same-length-3 c = search needs
-
-returns-3 : tie.Need-returns-3
-unfolding sentence sentences codes codesFrom
-returns-3 c =
-    let put = c .before .before in
-    said 3 _ _ _ _ _ (put .before .before .before .if3 .taken) refl (put .put3 .ensures)
-
-slice-aggregate-put-4 : tie.Need-slice-aggregate-put-4
-slice-aggregate-put-4 c = search needs
-
-put-requires-4 : tie.Need-put-requires-4
-put-requires-4 c κs = search needs
-
-same-length-4 : tie.Need-same-length-4
-same-length-4 c = search needs
-
-returns-4 : tie.Need-returns-4
-unfolding sentence sentences codes codesFrom
-returns-4 c =
-    let put = c .before .before in
-    said 4 _ _ _ _ _ (put .before .before .before .if4 .taken) refl (put .put4 .ensures)
-
-slice-aggregate-put-5 : tie.Need-slice-aggregate-put-5
-slice-aggregate-put-5 c = search needs
-
-put-requires-5 : tie.Need-put-requires-5
-put-requires-5 c κs = search needs
-
-same-length-5 : tie.Need-same-length-5
-same-length-5 c = search needs
-
-returns-5 : tie.Need-returns-5
-unfolding sentence sentences codes codesFrom
-returns-5 c =
-    let put = c .before .before in
-    said 5 _ _ _ _ _ (put .before .before .before .if5 .taken) refl (put .put5 .ensures)
-
-slice-aggregate-put-6 : tie.Need-slice-aggregate-put-6
-slice-aggregate-put-6 c = search needs
-
-put-requires-6 : tie.Need-put-requires-6
-put-requires-6 c κs = search needs
-
-same-length-6 : tie.Need-same-length-6
-same-length-6 c = search needs
-
-returns-6 : tie.Need-returns-6
-unfolding sentence sentences codes codesFrom
-returns-6 c =
-    let put = c .before .before in
-    said 6 _ _ _ _ _ (put .before .before .before .if6 .taken) refl (put .put6 .ensures)
-
-slice-aggregate-put-7 : tie.Need-slice-aggregate-put-7
-slice-aggregate-put-7 c = search needs
-
-put-requires-7 : tie.Need-put-requires-7
-put-requires-7 c κs = search needs
-
-same-length-7 : tie.Need-same-length-7
-same-length-7 c = search needs
-
-returns-7 : tie.Need-returns-7
-unfolding sentence sentences codes codesFrom
-returns-7 c =
-    let put = c .before .before in
-    said 7 _ _ _ _ _ (put .before .before .before .if7 .taken) refl (put .put7 .ensures)
-
-returns-8 : tie.Need-returns-8
-returns-8 c = said-zero _ _ (c .if8 .taken)
-
-above-7-requires : tie.Need-above-7-requires
-above-7-requires c κs =
-    let e8 = c .before in
-    let e7 = e8 .before in
-    let e6 = e7 .before in
-    let e5 = e6 .before in
-    let e4 = e5 .before in
-    let e3 = e4 .before in
-    let e2 = e3 .before in
-    let e1 = e2 .before in
-    let above1 = past 0 _ (above-zero _ (e8 .if8 .left)) (e1 .if1 .left) in
-    let above2 = past 1 _ (above1) (e2 .if2 .left) in
-    let above3 = past 2 _ (above2) (e3 .if3 .left) in
-    let above4 = past 3 _ (above3) (e4 .if4 .left) in
-    let above5 = past 4 _ (above4) (e5 .if5 .left) in
-    let above6 = past 5 _ (above5) (e6 .if6 .left) in
-    let above7 = past 6 _ (above6) (e7 .if7 .left) in
-    above7
-
-same-length-8 : tie.Need-same-length-8
-same-length-8 c = search needs
-
-returns-9 : tie.Need-returns-9
-returns-9 c = c .before .before .above-7 .ensures
+    said _ _ _ _ _ (stands-part (sentence-stands _ (put .before .before .before .before .if1 .left))) (put .put .ensures)
 
 pub refusal-sentence-spec : {M : Type 1} → statement M
 refusal-sentence-spec =
     tie.close
     (tie.spec
-    slice-aggregate-put
+    returns
+    mul-start
+    array-read-start
+    add-end
+    mul-end
+    array-read-end
+    sub-put
+    part-put-start
+    part-put-end
     put-requires
     same-length
-    returns
-    slice-aggregate-put-2
-    put-requires-2
-    same-length-2
-    returns-2
-    slice-aggregate-put-3
-    put-requires-3
-    same-length-3
-    returns-3
-    slice-aggregate-put-4
-    put-requires-4
-    same-length-4
-    returns-4
-    slice-aggregate-put-5
-    put-requires-5
-    same-length-5
-    returns-5
-    slice-aggregate-put-6
-    put-requires-6
-    same-length-6
-    returns-6
-    slice-aggregate-put-7
-    put-requires-7
-    same-length-7
-    returns-7
-    returns-8
-    above-7-requires
-    same-length-8
-    returns-9)
+    returns-2)
