@@ -6,11 +6,12 @@ use crate::numbers::put_entries;
 use crate::numbers::put_letters;
 use crate::numbers::put_spaced;
 ghost use mathlib.Core.Path.{_≡_};
+ghost use mathlib.Core.List.{[], _∷_, _++_};
 ghost use Prim.Native.Nat.{_+_, _≤_};
 ghost use lib.ListN.{length};
 ghost use Rattle.coxeter.specs.Kinds.{kindOf};
 ghost use Rattle.coxeter.proofs.Lists.{Stored};
-ghost use Rattle.listing_text.specs.Text.{kindLetter, head, tail, presetLine, refused, refusedLine, refusedBookLine, countLine};
+ghost use Rattle.listing_text.specs.Text.{decimal, kindLetter, head, tail, presetLine, refusedLine};
 
 fn kind_letter(kind: u8) -> u8
     ensures { λ r. ⌜ r ≡ kindLetter (kindOf kind) ⌝ }
@@ -24,13 +25,13 @@ fn kind_letter(kind: u8) -> u8
     b'D'
 }
 
-// ` refused 8`, with the line feed.
-fn put_refusal(refusal: u8, out: &mut [u8], at: usize) -> usize
-    requires { ⌜ at + length (refused refusal) ≤ length (now out) ⌝ }
-    ensures { λ r. ⌜ Stored (now (out .entry)) at (refused refusal) (now (out .exit)) r ⌝ }
+// A label, a number and the line feed.
+pub(crate) fn put_labelled(out: &mut [u8], at: usize, label: &[u8], x: usize) -> usize
+    requires { ⌜ at + length (now label ++ decimal x ++ (10 ∷ [])) ≤ length (now out) ⌝ }
+    ensures { λ r. ⌜ Stored (now (out .entry)) at (now (label .entry) ++ decimal x ++ (10 ∷ [])) (now (out .exit)) r ⌝ }
 {
-    let a = put_bytes(out, at, b" refused ");
-    let b = put_decimal(out, a, refusal as usize);
+    let a = put_bytes(out, at, label);
+    let b = put_decimal(out, a, x);
     put_bytes(out, b, b"\n")
 }
 
@@ -40,7 +41,7 @@ pub(crate) fn put_refused(number: usize, refusal: u8, out: &mut [u8]) -> usize
     ensures { λ r. ⌜ Stored (now (out .entry)) 0 (refusedLine number refusal) (now (out .exit)) r ⌝ }
 {
     let a = put_decimal(out, 0, number);
-    put_refusal(refusal, out, a)
+    put_labelled(out, a, b" refused ", refusal as usize)
 }
 
 // `0 B 2 4:`
@@ -80,23 +81,4 @@ pub(crate) fn put_line(
 {
     let a = put_head(number, kind, rank, word.len(), out);
     put_tail(word, window, out, a)
-}
-
-// `presets 2`
-pub(crate) fn put_count(count: usize, out: &mut [u8]) -> usize
-    requires { ⌜ length (countLine count) ≤ length (now out) ⌝ }
-    ensures { λ r. ⌜ Stored (now (out .entry)) 0 (countLine count) (now (out .exit)) r ⌝ }
-{
-    let a = put_bytes(out, 0, b"presets ");
-    let b = put_decimal(out, a, count);
-    put_bytes(out, b, b"\n")
-}
-
-// `book refused 1`
-pub(crate) fn put_refused_book(refusal: u8, out: &mut [u8]) -> usize
-    requires { ⌜ length (refusedBookLine refusal) ≤ length (now out) ⌝ }
-    ensures { λ r. ⌜ Stored (now (out .entry)) 0 (refusedBookLine refusal) (now (out .exit)) r ⌝ }
-{
-    let a = put_bytes(out, 0, b"book");
-    put_refusal(refusal, out, a)
 }

@@ -1,7 +1,6 @@
 // The next piece of a listing. A line is made in a buffer of its own, where every line has room, and copied where
 // it fits whole.
-use crate::lines::put_count;
-use crate::lines::put_refused_book;
+use crate::lines::put_labelled;
 use crate::numbers::put_bytes;
 use crate::presets::put_preset;
 use book::Edition;
@@ -72,14 +71,14 @@ fn lines_from(edition: Edition, book: &[u8], first: usize) -> usize
     count - first
 }
 
-// Line 0.
+// Line 0: `presets 2` or `book refused 1`.
 fn put_first(edition: Edition, book: &[u8], out: &mut [u8]) -> usize
     requires { ⌜ length (firstLine (checkedBook edition (now book))) ≤ length (now out) ⌝ }
     ensures { λ r. ⌜ Stored (now (out .entry)) 0 (firstLine (checkedBook edition (now (book .entry)))) (now (out .exit)) r ⌝ }
 {
     match check_book(edition, book) {
-        Opened::Presets(count) => put_count(count, out),
-        Opened::Refused(refusal) => put_refused_book(refusal, out),
+        Opened::Presets(count) => put_labelled(out, 0, b"presets ", count),
+        Opened::Refused(refusal) => put_labelled(out, 0, b"book refused ", refusal as usize),
     }
 }
 

@@ -10,25 +10,16 @@ use Rattle.coxeter.specs.Kinds.{kindOf}
 use Rattle.coxeter.proofs.Lists.{Stored, stored-append}
 use Rattle.coxeter.proofs.KindLaws.{kindOf-one, kindOf-two, kindOf-three}
 use Rattle.listing_text.specs.Text.{decimal, spaced, letters, entries, kindLetter, head, tail, presetLine}
-use Rattle.listing_text.specs.Text.{refusedText, bookText, presetsText, refused, refusedLine, refusedBookLine, countLine}
+use Rattle.listing_text.specs.Text.{refusedText, refused, refusedLine}
 
 -- ---- lengths
 
-pub length-refused : (r : ℕ) → length (refused r) ≡ 9 + length (decimal r) + 1
-unfolding refused
-length-refused r = simp length-append (omega arith)
+pub length-labelled : (u : List ℕ) (x : ℕ) → length (u ++ decimal x ++ (10 ∷ [])) ≡ length u + length (decimal x) + 1
+length-labelled u x = simp length-append (omega arith)
 
-pub length-refusedLine : (i r : ℕ) → length (refusedLine i r) ≡ length (decimal i) + length (refused r)
-unfolding refusedLine
+pub length-refusedLine : (i r : ℕ) → length (refusedLine i r) ≡ length (decimal i) + length (refusedText ++ decimal r ++ (10 ∷ []))
+unfolding refusedLine refused
 length-refusedLine i r = length-append (decimal i) (refused r)
-
-pub length-refusedBookLine : (r : ℕ) → length (refusedBookLine r) ≡ 4 + length (refused r)
-unfolding refusedBookLine
-length-refusedBookLine r = length-append bookText (refused r)
-
-pub length-countLine : (c : ℕ) → length (countLine c) ≡ 8 + length (decimal c) + 1
-unfolding countLine
-length-countLine c = simp length-append (omega arith)
 
 pub length-head : (i k n l : ℕ) → length (head i (kindOf k) n l) ≡ length (decimal i) + 2 + length (spaced n) + length (spaced l) + 1
 unfolding head
@@ -58,13 +49,10 @@ unfolding kindLetter
 kindLetter-three k e f = rw (kindOf-three k e f)
 
 module _ (o : List ℕ) (at : ℕ) (o₁ : List ℕ) (a : ℕ) (o₂ : List ℕ) (b : ℕ) where
-  pub refusedLine-put : (i r : ℕ) → Stored o at (decimal i) o₁ a → Stored o₁ a (refused r) o₂ b → Stored o at (refusedLine i r) o₂ b
-  unfolding refusedLine
+  pub refusedLine-put : (i r : ℕ) → Stored o at (decimal i) o₁ a → Stored o₁ a (refusedText ++ decimal r ++ (10 ∷ [])) o₂ b
+      → Stored o at (refusedLine i r) o₂ b
+  unfolding refusedLine refused
   refusedLine-put i r h₁ h₂ = stored-append o at (decimal i) o₁ a (refused r) o₂ b h₁ h₂
-
-  pub refusedBookLine-put : (r : ℕ) → Stored o at bookText o₁ a → Stored o₁ a (refused r) o₂ b → Stored o at (refusedBookLine r) o₂ b
-  unfolding refusedBookLine
-  refusedBookLine-put r h₁ h₂ = stored-append o at bookText o₁ a (refused r) o₂ b h₁ h₂
 
   pub presetLine-put : (i k n : ℕ) (u : List ℕ) (w : List ℤ) → Stored o at (head i (kindOf k) n (length u)) o₁ a → Stored o₁ a (tail u w) o₂ b
       → Stored o at (presetLine i (kindOf k) n u w) o₂ b
@@ -72,16 +60,9 @@ module _ (o : List ℕ) (at : ℕ) (o₁ : List ℕ) (a : ℕ) (o₂ : List ℕ)
   presetLine-put i k n u w h₁ h₂ = stored-append o at (head i (kindOf k) n (length u)) o₁ a (tail u w) o₂ b h₁ h₂
 
   module _ (o₃ : List ℕ) (c : ℕ) where
-    put-three : (u v w : List ℕ) → Stored o at u o₁ a → Stored o₁ a v o₂ b → Stored o₂ b w o₃ c → Stored o at (u ++ (v ++ w)) o₃ c
-    put-three u v w h₁ h₂ h₃ = stored-append o at u o₁ a (v ++ w) o₃ c h₁ (stored-append o₁ a v o₂ b w o₃ c h₂ h₃)
-
-    pub refused-put : (r : ℕ) → Stored o at refusedText o₁ a → Stored o₁ a (decimal r) o₂ b → Stored o₂ b (10 ∷ []) o₃ c → Stored o at (refused r) o₃ c
-    unfolding refused
-    refused-put r h₁ h₂ h₃ = put-three refusedText (decimal r) (10 ∷ []) h₁ h₂ h₃
-
-    pub countLine-put : (x : ℕ) → Stored o at presetsText o₁ a → Stored o₁ a (decimal x) o₂ b → Stored o₂ b (10 ∷ []) o₃ c → Stored o at (countLine x) o₃ c
-    unfolding countLine
-    countLine-put x h₁ h₂ h₃ = put-three presetsText (decimal x) (10 ∷ []) h₁ h₂ h₃
+    pub labelled-put : (u : List ℕ) (x : ℕ) → Stored o at u o₁ a → Stored o₁ a (decimal x) o₂ b → Stored o₂ b (10 ∷ []) o₃ c
+        → Stored o at (u ++ decimal x ++ (10 ∷ [])) o₃ c
+    labelled-put u x h₁ h₂ h₃ = stored-append o at (u ++ decimal x) o₂ b (10 ∷ []) o₃ c (stored-append o at u o₁ a (decimal x) o₂ b h₁ h₂) h₃
 
     module _ (o₄ : List ℕ) (d : ℕ) where
       pub tail-put : (u : List ℕ) (w : List ℤ) → Stored o at (letters u) o₁ a → Stored o₁ a (32 ∷ 124 ∷ []) o₂ b → Stored o₂ b (entries w) o₃ c

@@ -4,7 +4,7 @@
 -- Sections: lines; what is left of a piece; filling.
 -- Assumes nothing.
 use mathlib.Core.Path.{_≡_, refl, sym, ap, _∙_}
-use mathlib.Core.List.{List, [], _++_}
+use mathlib.Core.List.{List, [], _∷_, _++_}
 use Prim.Native.Nat.{ℕ, zero, suc, _+_, _-_, _≤_, _<_}
 use native.Mathlib.Numerals.{add-one}
 use native.Mathlib.Omega.{arith}
@@ -16,7 +16,7 @@ use Rattle.book_format.specs.declared.Opened.{Opened}
 use Rattle.book_format.specs.declared.Opened.the-variants as opened
 use Rattle.book_format.specs.declared.Preset.{Preset}
 use Rattle.book_format.specs.Calls.{checkedBook, checkedPreset}
-use Rattle.listing_text.specs.Text.{countLine, refusedBookLine, lineBy, lineOf}
+use Rattle.listing_text.specs.Text.{decimal, refusedText, bookText, presetsText, refused, countLine, refusedBookLine, lineBy, lineOf}
 use Rattle.listing_text.specs.Calls.{lineCountBy, lineCount, firstLine, line, lines, fitting, Piecing, nextPiece}
 use Rattle.listing_text.proofs.Pieces.{fitting-more, fitting-none, length-fitting-le}
 use Rattle.listing_text.proofs.Room.{longest, length-line-le}
@@ -33,12 +33,12 @@ module _ (ed : Edition) (b : List ℕ) (a : Opened) (e : a ≡ checkedBook ed b)
   unfolding lineCount lineCountBy
   lineCount-refused r q = rw (← e, q)
 
-  pub firstLine-presets : (c : ℕ) → a ≡ opened.Presets c → firstLine (checkedBook ed b) ≡ countLine c
-  unfolding firstLine
+  pub firstLine-presets : (c : ℕ) → a ≡ opened.Presets c → firstLine (checkedBook ed b) ≡ presetsText ++ decimal c ++ (10 ∷ [])
+  unfolding firstLine countLine
   firstLine-presets c q = rw (← e, q)
 
-  pub firstLine-refused : (r : ℕ) → a ≡ opened.Refused r → firstLine (checkedBook ed b) ≡ refusedBookLine r
-  unfolding firstLine
+  pub firstLine-refused : (r : ℕ) → a ≡ opened.Refused r → firstLine (checkedBook ed b) ≡ (bookText ++ refusedText) ++ decimal r ++ (10 ∷ [])
+  unfolding firstLine refusedBookLine refused
   firstLine-refused r q = rw (← e, q)
 
 pub line-first : (ed : Edition) (b : List ℕ) (i : ℕ) → i ≡ 0 → line ed b i ≡ firstLine (checkedBook ed b)

@@ -9,8 +9,13 @@ use Rattle.listing_lines.proofs.lines.put_refused.Tie as tie
 put-decimal-requires : tie.Need-put-decimal-requires
 put-decimal-requires c κs = let a = c .before .before .args in omega (arith, length-refusedLine (a .number) (a .refusal))
 
-put-refusal-requires : tie.Need-put-refusal-requires
-put-refusal-requires c κs = let a = c .before .before .before .before .before .before .args in omega (arith, length-refusedLine (a .number) (a .refusal))
+slice-aggregate-put-labelled : tie.Need-slice-aggregate-put-labelled
+slice-aggregate-put-labelled c = search needs
+
+put-labelled-requires : tie.Need-put-labelled-requires
+put-labelled-requires c κs =
+    let a = c .before .before .before .before .before .before .before .args in
+    omega (arith, length-refusedLine (a .number) (a .refusal))
 
 same-length : tie.Need-same-length
 same-length c = search needs
@@ -18,14 +23,15 @@ same-length c = search needs
 returns : tie.Need-returns
 returns c =
     let second = c .before .before in
-    let first = second .before .before .before .before in
-    refusedLine-put _ _ _ _ _ _ _ _ (first .put-decimal .ensures) (second .put-refusal .ensures)
+    let first = second .before .before .before .before .before in
+    refusedLine-put _ _ _ _ _ _ _ _ (first .put-decimal .ensures) (second .put-labelled .ensures)
 
 pub put-refused-spec : {M : Type 1} → statement M
 put-refused-spec =
     tie.close
     (tie.spec
     put-decimal-requires
-    put-refusal-requires
+    slice-aggregate-put-labelled
+    put-labelled-requires
     same-length
     returns)
