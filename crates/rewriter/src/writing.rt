@@ -3,6 +3,7 @@ ghost use mathlib.Core.Path.{_≡_};
 ghost use mathlib.Core.List.{_∷_, _++_};
 ghost use Prim.Native.Nat.{_+_, _-_, _<_, _≤_};
 ghost use lib.ListN.{length, take, drop};
+ghost use lib.Seq.{sets};
 ghost use Rattle.rules.specs.Rules.{rewritten};
 ghost use Rattle.rules.specs.Calls.{atFront};
 ghost use Rattle.rules.proofs.Scan.{firstLetter, shownRule, rightLength};
@@ -10,8 +11,7 @@ ghost use Rattle.rules.proofs.Scan.{firstLetter, shownRule, rightLength};
 // `part` written to `out` from `at` on.
 pub(crate) fn copy(part: &[u8], out: &mut [u8], at: usize)
     requires { ⌜ at + length (now part) ≤ length (now out) ⌝ }
-    ensures { λ _. ⌜ now (out .exit) ≡
-        take at (now (out .entry)) ++ (now (part .entry) ++ drop (at + length (now (part .entry))) (now (out .entry))) ⌝ }
+    ensures { λ _. ⌜ now (out .exit) ≡ sets (now (out .entry)) at (now (part .entry)) ⌝ }
 {
     bytes::copy(part, &mut out[at..]);
 }

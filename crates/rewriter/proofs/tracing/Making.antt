@@ -171,10 +171,10 @@ module _ (k : Kind) (n : ℕ) (word families places lengths : List ℕ) (steps :
   pub copy-room : (most : ℕ) → length (trace k n word .final) ≤ most → 0 + length (take size work) ≤ most
   copy-room most h = rw (made-final, zero-add) h
 
-  pub out-written : (out out′ : List ℕ) → out′ ≡ take 0 out ++ (take size work ++ drop (0 + length (take size work)) out)
+  pub out-written : (out out′ : List ℕ) → length (trace k n word .final) ≤ length out → out′ ≡ sets out 0 (take size work)
       → out′ ≡ written 0 (trace k n word .final) out
   unfolding written
-  out-written out out′ e = e ∙ rw (made-final, zero-add)
+  out-written out out′ h e = e ∙ rw made-final (sets-front (whole .final) out _ h refl)
 
   made-families : families′ ≡ sets families 0 (familiesOf (trace k n word .lines))
   unfolding finishWith

@@ -78,7 +78,7 @@ returns c =
     let s = k .before .before .before .before .before .before .before .before .before .before .before in
     let p = s .pre .1 in
     let l = lists-written _ _ _ _ _ _ _ _ _ _ _ _ _ (k .make .ensures) (p .0) (p .1 .0 .0) (p .1 .0 .1) (p .1 .0 .2) in
-    (l .0, l .1, l .2, out-written _ _ _ _ _ _ _ _ _ _ _ _ (k .make .ensures) _ _ (o .copy .ensures))
+    (l .0, l .1, l .2, out-written _ _ _ _ _ _ _ _ _ _ _ _ (k .make .ensures) _ _ (p .1 .1) (o .copy .ensures))
 
 pub write-trace-spec : {M : Type 1} → statement M
 write-trace-spec =

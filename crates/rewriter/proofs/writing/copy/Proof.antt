@@ -1,8 +1,8 @@
--- `writing::copy` writes a part into the output: the kit's `bytes::copy` writes it to the front of what the output
--- has from the place on.
+-- `writing::copy` is the kit's copy into the rest of the output from the place on.
 -- Assumes nothing.
+use denote.Ref.{now}
 use borrow.Author.Needs.{needs}
-use Rattle.rewriter.proofs.writing.Words.{copied}
+use Rattle.coxeter.proofs.Lists.{sets-copied}
 use Rattle.rewriter.proofs.writing.copy.Statement.{statement}
 use Rattle.rewriter.proofs.writing.copy.Tie as tie
 
@@ -23,8 +23,8 @@ same-length c = search needs
 
 returns : tie.Need-returns
 returns c =
-    let s = c .before .before .before .before .before .before in
-    copied _ _ (s .args .part .now) _ (s .pre) (c .before .before .copy .ensures .1)
+    let start = c .before .before .before .before .before .before in
+    sets-copied (now (start .args .out)) (now (start .args .part)) _ (start .args .at) (start .pre) (c .before .before .copy .ensures .1)
 
 pub copy-spec : {M : Type 1} → statement M
 copy-spec =

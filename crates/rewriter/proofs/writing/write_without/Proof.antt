@@ -36,7 +36,7 @@ same-length c = search needs
 returns : tie.Need-returns
 returns c =
     let s = c .before .before .before .before .before .before .before .before .before .before .before .before in
-    written-without _ _ _ _ _ _ (s .pre .0)
+    written-without _ _ _ _ _ _ (s .pre .0) (s .pre .1)
     (c .before .before .before .before .before .before .before .copy .ensures)
     (c .before .before .copy2 .ensures)
 
