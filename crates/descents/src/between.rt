@@ -50,7 +50,8 @@ fn write_allowed(allowed: u64, word: &[u8], out: &mut [u8]) -> Answer
 }
 
 // The call after checks 5, 6 and 16. The normal form of the window between the two is first written to `form`, which
-// has room for it.
+// has room for it. The windows are lent on as parts of full length, so that their pointers and lengths are stored anew
+// and not copied in pairs that were just stored.
 fn write_between(
     kind: u8,
     rank: u8,
@@ -64,7 +65,9 @@ fn write_between(
     requires { ⌜ rank * rank ≤ length (now form) ⌝ }
     ensures { λ r. ⌜ Yields (betweenWindows kind rank allowed (now (from .entry)) (now (to .entry)) (now (out .entry))) r (now (out .exit)) ⌝ }
 {
-    let answer = normal_form_between(kind, rank, from, to, form);
+    let a = from.len();
+    let b = to.len();
+    let answer = normal_form_between(kind, rank, &from[..a], &to[..b], form);
     let Answer::Length(l) = answer else {
         return answer;
     };

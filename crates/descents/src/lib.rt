@@ -20,9 +20,10 @@ use refusals::ranked_words_refusal;
 use splitting::split_accepted;
 use walk::settle;
 pub use window::Answer;
+use work::blank;
 use work::lanes;
 use work::no_letters;
-use work::shown;
+use work::show;
 use work::write_form;
 ghost use mathlib.Core.Path.{_≡_};
 ghost use Rattle.coxeter.specs.Kinds.{kindOf};
@@ -43,7 +44,8 @@ fn settle_words(kind: u8, rank: u8, present: &[u8], simpler: &[u8], places: &mut
         (window (kindOf kind) rank (now (simpler .entry))) (now (places .entry)) r (now (places .exit)) ⌝ }
 {
     let m = lanes(kind, rank);
-    let mut target = shown(kind, rank, simpler);
+    let mut target = blank();
+    show(kind, rank, simpler, &mut target);
     let mut form = no_letters();
     let l = write_form(kind, rank, present, &mut form);
     settle(kind, rank, &mut form[..l], &mut target[..m], places)

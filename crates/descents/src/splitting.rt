@@ -1,9 +1,10 @@
 // The two words of a split, from the window of the preset.
 use crate::stripping::strip;
+use crate::work::blank;
 use crate::work::form_length;
-use crate::work::inverted;
+use crate::work::invert;
 use crate::work::lanes;
-use crate::work::shown;
+use crate::work::show;
 use exchange::Split;
 use window::Answer;
 use window::normal_form_of_inverse;
@@ -80,7 +81,8 @@ fn split_window(
         r (now (first .exit)) (now (second .exit)) ⌝ }
 {
     let m = lanes(kind, rank);
-    let mut rest = inverted(kind, rank, w);
+    let mut rest = blank();
+    invert(kind, rank, w, &mut rest);
     strip(kind, rank as usize, allowed, &mut rest[..m]);
     write_parts(kind, rank, w, &rest[..m], first, second)
 }
@@ -100,6 +102,7 @@ pub(crate) fn split_accepted(
         (now (first .entry)) (now (second .entry))) r (now (first .exit)) (now (second .exit)) ⌝ }
 {
     let m = lanes(kind, rank);
-    let w = shown(kind, rank, word);
+    let mut w = blank();
+    show(kind, rank, word, &mut w);
     split_window(kind, rank, allowed, &w[..m], first, second)
 }

@@ -35,7 +35,7 @@ pub(crate) fn more_letters() -> [u8; 256]
 }
 
 // A window with room for every lane count.
-fn blank() -> [i8; 64]
+pub(crate) fn blank() -> [i8; 64]
     ensures { λ r. ⌜ 64 ≡ length r ⌝ }
 {
     [0i8; 64]
@@ -52,14 +52,13 @@ pub(crate) fn lanes(kind: u8, rank: u8) -> usize
     n
 }
 
-// The window of an accepted word.
-pub(crate) fn shown(kind: u8, rank: u8, word: &[u8]) -> [i8; 64]
-    requires { ⌜ Rig kind rank × WordOf rank (now word) ⌝ }
-    ensures { λ r. ⌜ (64 ≡ length r) × Front 64 (window (kindOf kind) rank (now (word .entry))) r (kinds.lanes (kindOf kind) rank) ⌝ }
+// The window of an accepted word, at the front of `work`.
+pub(crate) fn show(kind: u8, rank: u8, word: &[u8], work: &mut [i8])
+    requires { ⌜ Rig kind rank × WordOf rank (now word) × (64 ≡ length (now work)) ⌝ }
+    ensures { λ _. ⌜ (64 ≡ length (now (work .exit)))
+        × Front 64 (window (kindOf kind) rank (now (word .entry))) (now (work .exit)) (kinds.lanes (kindOf kind) rank) ⌝ }
 {
-    let mut work = blank();
-    window_of_word(kind, rank, word, &mut work);
-    work
+    window_of_word(kind, rank, word, work);
 }
 
 // The normal form of an accepted word, at the front of `form`. Answers its length.
@@ -73,14 +72,13 @@ pub(crate) fn write_form(kind: u8, rank: u8, word: &[u8], form: &mut [u8]) -> us
     l
 }
 
-// The inverse of an accepted window.
-pub(crate) fn inverted(kind: u8, rank: u8, w: &[i8]) -> [i8; 64]
-    requires { ⌜ Rig kind rank × WindowOf (kindOf kind) rank (now w) ⌝ }
-    ensures { λ r. ⌜ (64 ≡ length r) × Front 64 (inverse (now (w .entry))) r (kinds.lanes (kindOf kind) rank) ⌝ }
+// The inverse of an accepted window, at the front of `work`.
+pub(crate) fn invert(kind: u8, rank: u8, w: &[i8], work: &mut [i8])
+    requires { ⌜ Rig kind rank × WindowOf (kindOf kind) rank (now w) × (64 ≡ length (now work)) ⌝ }
+    ensures { λ _. ⌜ (64 ≡ length (now (work .exit)))
+        × Front 64 (inverse (now (w .entry))) (now (work .exit)) (kinds.lanes (kindOf kind) rank) ⌝ }
 {
-    let mut work = blank();
-    inverse_of_window(kind, rank, w, &mut work);
-    work
+    inverse_of_window(kind, rank, w, work);
 }
 
 // The length of the normal form of an accepted window.

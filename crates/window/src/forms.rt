@@ -1,6 +1,6 @@
 // The normal form of an accepted window, where the output has room for it.
 use crate::Answer;
-use crate::length::length_of_front;
+use crate::length::length_of;
 use crate::normal::write_normal_form;
 ghost use mathlib.Core.Path.{_≡_};
 ghost use Prim.Native.Nat.{_≤_};
@@ -24,7 +24,8 @@ fn lacks_room(kind: u8, rank: u8, work: &[i8], room: usize) -> bool
     if n * n <= room {
         return false;
     }
-    room < length_of_front(kind, rank, work)
+    let m = crate::entries::lanes(kind, rank);
+    room < length_of(kind, n, &work[..m])
 }
 
 // Check 14, then the normal form of the window at the front of `work` to the front of `out`.

@@ -111,17 +111,6 @@ pub(crate) fn length_of(kind: u8, n: usize, w: &[i8]) -> usize
     parts.pairs
 }
 
-// The length of the accepted window at the front of `work`.
-pub(crate) fn length_of_front(kind: u8, rank: u8, work: &[i8]) -> usize
-    requires { ⌜ Rig kind rank ⌝ }
-    requires { ⌜ lanes (kindOf kind) rank ≤ length (now work) ⌝ }
-    requires { ⌜ WindowOf (kindOf kind) rank (take (lanes (kindOf kind) rank) (now work)) ⌝ }
-    ensures { λ r. ⌜ r ≡ windowLength (kindOf kind) (take (lanes (kindOf kind) rank) (now (work .entry))) ⌝ }
-{
-    let m = crate::entries::lanes(kind, rank);
-    length_of(kind, rank as usize, &work[..m])
-}
-
 // The three counts of the length of the accepted window at the front of `work`.
 pub(crate) fn crossings_of_front(kind: u8, rank: u8, work: &[i8]) -> Counted
     requires { ⌜ Rig kind rank ⌝ }

@@ -189,8 +189,9 @@ fn set_levels(kind: u8, rank: u8, w: &[i8], out: &mut [u8])
 }
 
 // The blocks of the levels from i on, whose indices are `js`, written to the front of out; the answer is how many
-// letters they have. The number of levels left falls at each call. The indices left are lent as a part: lent as they
-// are, the pair of pointer and length would be copied as one number that was just stored as two.
+// letters they have. The number of levels left falls at each call. The indices left are lent as a part, whose pointer
+// and length are stored anew: a slice that is lent on as it is would be copied as one number that was just stored as
+// two, and the copy waits for them.
 fn write_from(kind: u8, n: usize, i: usize, js: &[u8], out: &mut [u8]) -> usize
     requires { ⌜ Ranked (kindOf kind) n × (i + length (now js) ≤ 65) ⌝ }
     requires { ⌜ ((p : ℕ) → p < length (now js) → getD (now js) p 0 ≤ 2 * n) ⌝ }

@@ -9,8 +9,14 @@ use Rattle.descents.proofs.settle_words.Tie as tie
 lanes-requires : tie.Need-lanes-requires
 lanes-requires c κs = search needs
 
-shown-requires : tie.Need-shown-requires
-shown-requires c κs = search needs
+blank-requires : tie.Need-blank-requires
+blank-requires c κs = search needs
+
+slice-aggregate-show : tie.Need-slice-aggregate-show
+slice-aggregate-show c = search needs
+
+show-requires : tie.Need-show-requires
+show-requires c κs = search needs
 
 no-letters-requires : tie.Need-no-letters-requires
 no-letters-requires c κs = search needs
@@ -34,15 +40,15 @@ array-borrow-prefix-target c = search needs
 
 slice-aggregate-settle-2 : tie.Need-slice-aggregate-settle-2
 slice-aggregate-settle-2 c =
-    let b = c .before .before .before .before .before .before in
-    part-length _ _ _ _ _ (b .shown .ensures .1) (b .before .lanes .ensures) (b .shown .ensures .0)
+    let b = c .before .before .before .before .before .before .before in
+    part-length _ _ _ _ _ (b .show .ensures .1) (b .before .before .before .lanes .ensures) (b .show .ensures .0)
 
 settle-requires : tie.Need-settle-requires
 settle-requires c κs =
     let f = c .before .before .before .before in
-    let b = f .before .before .before in
-    words-settle-requires _ _ _ _ _ _ (part-is _ _ _ _ _ (f .write-form .ensures) refl) (part-is _ _ _ _ _ (b .shown .ensures .1) (b .before .lanes .ensures))
-    (b .before .before .before .before .before .pre .0)
+    let b = f .before .before .before .before in
+    words-settle-requires _ _ _ _ _ _ (part-is _ _ _ _ _ (f .write-form .ensures) refl) (part-is _ _ _ _ _ (b .show .ensures .1) (b .before .before .before .lanes .ensures))
+    (b .before .before .before .before .before .before .before .pre .0)
 
 same-length : tie.Need-same-length
 same-length c = search needs
@@ -50,8 +56,8 @@ same-length c = search needs
 returns : tie.Need-returns
 returns c =
     let f = c .before .before .before .before .before .before .before .before .before in
-    let b = f .before .before .before in
-    words-settled _ _ _ _ _ _ (part-is _ _ _ _ _ (f .write-form .ensures) refl) (part-is _ _ _ _ _ (b .shown .ensures .1) (b .before .lanes .ensures))
+    let b = f .before .before .before .before in
+    words-settled _ _ _ _ _ _ (part-is _ _ _ _ _ (f .write-form .ensures) refl) (part-is _ _ _ _ _ (b .show .ensures .1) (b .before .before .before .lanes .ensures))
     _ _ _ (c .before .before .before .before .settle .ensures)
 
 pub settle-words-spec : {M : Type 1} → statement M
@@ -59,7 +65,9 @@ settle-words-spec =
     tie.close
     (tie.spec
     lanes-requires
-    shown-requires
+    blank-requires
+    slice-aggregate-show
+    show-requires
     no-letters-requires
     slice-aggregate-write-form
     write-form-requires

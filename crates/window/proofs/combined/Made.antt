@@ -9,27 +9,14 @@ use lib.ListN.{length, take}
 use Rattle.coxeter.specs.Kinds.{kindOf, lanes}
 use Rattle.coxeter.specs.Windows.{product, inverse}
 use Rattle.coxeter.specs.Checks.{windowRefusal, Rig, WindowOf}
-use Rattle.coxeter.specs.Calls.{written}
-use Rattle.coxeter.proofs.Levels.{accepted-of-refusal}
-use Rattle.coxeter.proofs.Products.{length-product}
-use Rattle.coxeter.proofs.Inverses.{length-inverse}
 use Rattle.coxeter.proofs.Theorems.{product-passes, inverse-passes}
 use Rattle.window.proofs.forms.Rooms.{window-fits}
-use Rattle.window.proofs.shown.Fronts.{Front, front-written, part-is}
+use Rattle.window.proofs.shown.Fronts.{Front, part-is}
 
 module _ (k n : ℕ) (h : Rig k n) where
   -- a work window has room for an accepted one
   pub made-room : (w work : List ℤ) → WindowOf (kindOf k) n w → length work ≡ 64 → length w ≤ length work
   made-room w work a l = omega (arith, window-fits k n w h a)
-
-  pub made-product : (u v work r : List ℤ) → WindowOf (kindOf k) n v → length work ≡ 64 → r ≡ written 0 (product u v) work
-      → Front k n (product u v) r
-  made-product u v work r a =
-      front-written k n h (product u v) work r (length-product u v ∙ accepted-of-refusal (kindOf k) n v a .size)
-
-  pub made-inverse : (w work r : List ℤ) → WindowOf (kindOf k) n w → length work ≡ 64 → r ≡ written 0 (inverse w) work
-      → Front k n (inverse w) r
-  made-inverse w work r a = front-written k n h (inverse w) work r (length-inverse w ∙ accepted-of-refusal (kindOf k) n w a .size)
 
   -- the first m entries of a work window hold the inverse of w
   module _ (m : ℕ) (e : m ≡ lanes (kindOf k) n) (w r : List ℤ) (a : WindowOf (kindOf k) n w) (f : Front k n (inverse w) r) where

@@ -24,7 +24,7 @@ use Rattle.coxeter.specs.Checks.{windowRefusal, Rig, WindowOf}
 use Rattle.coxeter.specs.NormalForm.{normalForm}
 use Rattle.coxeter.specs.Calls.{Outcome, Yields, written, writes}
 use Rattle.window.proofs.Squares.{greatest-le}
-use Rattle.window.proofs.shown.Fronts.{Front}
+use Rattle.window.proofs.shown.Fronts.{Front, front-written, front-asks}
 
 -- ---- check 14
 
@@ -32,6 +32,11 @@ use Rattle.window.proofs.shown.Fronts.{Front}
 pub square-room : (k : Kind) (n room : ℕ) (w : List ℤ) → WindowOf k n w → n * n ≤ room → false ≡ ltb room (windowLength k w)
 square-room k n room w g s =
     sym (le-ltb room (windowLength k w) (omega (arith, s, greatest-le k n, windowLength-le k n w (accepted-of-refusal k n w g))))
+
+-- otherwise the length is that of the first m entries
+pub measured-room : (k n m room l : ℕ) (work : List ℤ) → m ≡ lanes (kindOf k) n → l ≡ windowLength (kindOf k) (take m work)
+    → ltb room l ≡ ltb room (windowLength (kindOf k) (take (lanes (kindOf k) n) work))
+measured-room k n m room l work e q = rw (q, e)
 
 -- t says whether there is too little room
 module _ (k : Kind) (n : ℕ) (w : List ℤ) (out : List ℕ) (t : Bool) (g : WindowOf k n w) (e : t ≡ ltb (length out) (windowLength k w)) where
@@ -55,12 +60,18 @@ module _ (k : Kind) (n : ℕ) (w : List ℤ) (out : List ℕ) (t : Bool) (g : Wi
 pub window-fits : (k n : ℕ) (w : List ℤ) → Rig k n → WindowOf (kindOf k) n w → length w ≤ 64
 window-fits k n w h g = lanes-le k n (length w) h (accepted-of-refusal (kindOf k) n w g .size)
 
--- no check refused before check 14, and the normal form was written from a work window that holds x
-pub front-written : (o : Outcome ℕ) (k n q r : ℕ) (x work : List ℤ) (out after : List ℕ) (a : Answer)
-    → o ≡ writes q (normalForm (kindOf k) n x) out → r ≡ q → r ≡ 0 → Front k n x work
-    → Yields (writes 0 (normalForm (kindOf k) n (take (lanes (kindOf k) n) work)) out) a after → Yields o a after
-front-written o k n q r x work out after a is e z f d =
-    writes-passed o q r (normalForm (kindOf k) n x) out is e a after z (rw (f .1) at d)
+-- an accepted window x was written to the work window that became r: what `write_checked` asks of r, and what a call
+-- answers with it where no check refused before
+module _ (k n : ℕ) (h : Rig k n) (x work r : List ℤ) (g : WindowOf (kindOf k) n x) (l : length work ≡ 64) (e : r ≡ written 0 x work) where
+  front : Front k n x r
+  front = front-written k n h x work r g l e
+
+  pub made-asks : Rig k n × ((lanes (kindOf k) n ≤ length r) × WindowOf (kindOf k) n (take (lanes (kindOf k) n) r))
+  made-asks = front-asks k n h x r g front
+
+  pub made-written : (o : Outcome ℕ) (q s : ℕ) (out after : List ℕ) (a : Answer) → o ≡ writes q (normalForm (kindOf k) n x) out → s ≡ q → s ≡ 0
+      → Yields (writes 0 (normalForm (kindOf k) n (take (lanes (kindOf k) n) r)) out) a after → Yields o a after
+  made-written o q s out after a is p z d = writes-passed o q s (normalForm (kindOf k) n x) out is p a after z (rw (front .1) at d)
 
 -- a window that is lent itself
 module _ (k n : ℕ) (w : List ℤ) (g : WindowOf (kindOf k) n w) where

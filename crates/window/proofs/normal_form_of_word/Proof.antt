@@ -1,13 +1,11 @@
 -- `normal_form_of_word` refuses in the order of CO2, or writes the normal form of what the word shows.
 -- Assumes nothing.
 use mathlib.Core.Path.{refl}
-use Rattle.coxeter.specs.Kinds.{kindOf}
-use Rattle.coxeter.specs.Windows.{window}
 use Rattle.coxeter.specs.Calls.{normalFormOfWord}
 use Rattle.coxeter.proofs.Acceptance.{two-accepted}
 use Rattle.coxeter.proofs.Outcomes.{writes-refused}
-use Rattle.window.proofs.forms.Rooms.{front-written}
-use Rattle.window.proofs.shown.Fronts.{Front, room, front-window, front-asks, window-passes}
+use Rattle.window.proofs.forms.Rooms.{made-asks, made-written}
+use Rattle.window.proofs.shown.Fronts.{room, window-passes}
 use borrow.Author.Needs.{needs}
 use Rattle.window.proofs.normal_form_of_word.Statement.{statement}
 use Rattle.window.proofs.normal_form_of_word.Tie as tie
@@ -31,16 +29,6 @@ show-front-requires c κs =
     let passed = two-accepted _ _ _ (c .before .before .before .preset-refusal .ensures) (c .before .before .if1 .left) in
     (passed .0, (passed .1, room _ _ (passed .0) (work .result) (work .ensures)))
 
--- what the work window holds after the call
-held : (c : tie.After-show-front)
-    → let a = c .before .before .before .before .before .before .before .args in
-    Front (a .kind) (a .rank) (window (kindOf (a .kind)) (a .rank) (a .word .now)) (c .show-front .last .1 .1 .1 .0)
-held c =
-    let asked = c .before in
-    let work = asked .before .blank in
-    let passed = two-accepted _ _ _ (asked .before .before .before .preset-refusal .ensures) (asked .before .before .if1 .left) in
-    front-window _ _ (passed .0) _ _ _ (work .ensures) (c .show-front .ensures)
-
 slice-aggregate-write-checked : tie.Need-slice-aggregate-write-checked
 slice-aggregate-write-checked c = search needs
 
@@ -49,7 +37,7 @@ write-checked-requires c κs =
     let made = c .before .before .before in
     let first = made .before .before .before in
     let passed = two-accepted _ _ _ (first .before .preset-refusal .ensures) (first .if1 .left) in
-    front-asks _ _ (passed .0) _ _ (window-passes _ _ _) (held made)
+    made-asks _ _ (passed .0) _ _ _ (window-passes _ _ _) (made .before .before .blank .ensures) (made .show-front .ensures)
 
 same-length : tie.Need-same-length
 same-length c = search needs
@@ -60,7 +48,10 @@ returns-2 c =
     let called = c .before .before in
     let made = called .before .before .before .before in
     let first = made .before .before .before in
-    front-written _ _ _ _ _ _ _ _ _ _ refl (first .before .preset-refusal .ensures) (first .if1 .left) (held made) (called .write-checked .ensures)
+    let refusal = first .before .preset-refusal .ensures in
+    let passed = two-accepted _ _ _ refusal (first .if1 .left) in
+    made-written _ _ (passed .0) _ _ _ (window-passes _ _ _) (made .before .before .blank .ensures) (made .show-front .ensures) _ _ _ _ _ _ refl refusal (first .if1 .left)
+    (called .write-checked .ensures)
 
 pub normal-form-of-word-spec : {M : Type 1} → statement M
 normal-form-of-word-spec =

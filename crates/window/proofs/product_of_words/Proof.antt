@@ -1,14 +1,11 @@
 -- `product_of_words` refuses in the order of CO2, or writes the normal form of the product of what the words show.
 -- Assumes nothing.
 use mathlib.Core.Path.{refl}
-use Rattle.coxeter.specs.Kinds.{kindOf}
-use Rattle.coxeter.specs.Windows.{window, product}
 use Rattle.coxeter.specs.Calls.{productOfWords}
 use Rattle.coxeter.proofs.Acceptance.{words-accepted}
 use Rattle.coxeter.proofs.Outcomes.{writes-refused}
-use Rattle.window.proofs.combined.Made.{made-product}
-use Rattle.window.proofs.forms.Rooms.{front-written}
-use Rattle.window.proofs.shown.Fronts.{Front, room, front-asks, window-passes, product-passes}
+use Rattle.window.proofs.forms.Rooms.{made-asks, made-written}
+use Rattle.window.proofs.shown.Fronts.{room, product-passes}
 use borrow.Author.Needs.{needs}
 use Rattle.window.proofs.product_of_words.Statement.{statement}
 use Rattle.window.proofs.product_of_words.Tie as tie
@@ -32,17 +29,6 @@ show-product-requires c κs =
     let passed = words-accepted _ _ _ _ _ (c .before .before .before .ranked-words-refusal .ensures) (c .before .before .if1 .left) in
     (passed .0, (passed .1 .0, (passed .1 .1, room _ _ (passed .0) (work .result) (work .ensures))))
 
--- what the work window holds after the call
-held : (c : tie.After-show-product)
-    → let a = c .before .before .before .before .before .before .before .before .args in
-    let shows = window (kindOf (a .kind)) (a .rank) in
-    Front (a .kind) (a .rank) (product (shows (a .u .now)) (shows (a .v .now))) (c .show-product .last .1 .1 .1 .1 .0)
-held c =
-    let asked = c .before in
-    let work = asked .before .blank in
-    let passed = words-accepted _ _ _ _ _ (asked .before .before .before .ranked-words-refusal .ensures) (asked .before .before .if1 .left) in
-    made-product _ _ (passed .0) _ _ _ _ (window-passes _ _ _) (work .ensures) (c .show-product .ensures)
-
 slice-aggregate-write-checked : tie.Need-slice-aggregate-write-checked
 slice-aggregate-write-checked c = search needs
 
@@ -51,7 +37,7 @@ write-checked-requires c κs =
     let made = c .before .before .before in
     let first = made .before .before .before in
     let passed = words-accepted _ _ _ _ _ (first .before .ranked-words-refusal .ensures) (first .if1 .left) in
-    front-asks _ _ (passed .0) _ _ (product-passes _ _ _ _) (held made)
+    made-asks _ _ (passed .0) _ _ _ (product-passes _ _ _ _) (made .before .before .blank .ensures) (made .show-product .ensures)
 
 same-length : tie.Need-same-length
 same-length c = search needs
@@ -62,7 +48,10 @@ returns-2 c =
     let called = c .before .before in
     let made = called .before .before .before .before in
     let first = made .before .before .before in
-    front-written _ _ _ _ _ _ _ _ _ _ refl (first .before .ranked-words-refusal .ensures) (first .if1 .left) (held made) (called .write-checked .ensures)
+    let refusal = first .before .ranked-words-refusal .ensures in
+    let passed = words-accepted _ _ _ _ _ refusal (first .if1 .left) in
+    made-written _ _ (passed .0) _ _ _ (product-passes _ _ _ _) (made .before .before .blank .ensures) (made .show-product .ensures) _ _ _ _ _ _ refl refusal (first .if1 .left)
+    (called .write-checked .ensures)
 
 pub product-of-words-spec : {M : Type 1} → statement M
 product-of-words-spec =

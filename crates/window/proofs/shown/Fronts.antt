@@ -12,7 +12,7 @@ use lib.Seq.{length-take-le}
 use Rattle.coxeter.proofs.Basics.{length-window}
 use Rattle.coxeter.proofs.Products.{length-product, windowFrom-product, window-append}
 use Rattle.coxeter.proofs.Inverses.{inverse-accepted}
-use Rattle.coxeter.proofs.Levels.{window-accepted, refusal-of-accepted}
+use Rattle.coxeter.proofs.Levels.{accepted-of-refusal, window-accepted, refusal-of-accepted}
 use Rattle.coxeter.proofs.Acceptance.{lanes-le}
 use Rattle.coxeter.proofs.Outcomes.{written-part, written-front, written-again}
 use Rattle.coxeter.specs.Kinds.{kindOf, lanes, Kind}
@@ -41,14 +41,11 @@ module _ (k n : ℕ) (h : Rig k n) where
   pub room : (work : List ℤ) → length work ≡ 64 → lanes (kindOf k) n ≤ length work
   room work l = omega (arith, lanes-le k n (lanes (kindOf k) n) h refl)
 
-  pub front-written : (x work r : List ℤ) → length x ≡ lanes (kindOf k) n → length work ≡ 64 → r ≡ written 0 x work → Front k n x r
-  front-written x work r s l e =
-      let c = written-front (lanes (kindOf k) n) x work r s (room work l) e in
+  -- an accepted window x was written to a work window
+  pub front-written : (x work r : List ℤ) → WindowOf (kindOf k) n x → length work ≡ 64 → r ≡ written 0 x work → Front k n x r
+  front-written x work r a l e =
+      let c = written-front (lanes (kindOf k) n) x work r (accepted-of-refusal (kindOf k) n x a .size) (room work l) e in
       (c .0 ∙ l, c .1)
-
-  pub front-window : (u : List ℕ) (work r : List ℤ) → length work ≡ 64 → r ≡ written 0 (window (kindOf k) n u) work
-      → Front k n (window (kindOf k) n u) r
-  front-window u work r = front-written (window (kindOf k) n u) work r (length-window (kindOf k) n u)
 
   -- what the functions on a front ask: the front is an accepted window x
   pub front-asks : (x r : List ℤ) → WindowOf (kindOf k) n x → Front k n x r

@@ -1,10 +1,19 @@
 -- `between::write_between` is the call on the two windows, whose answer is passed on if it refuses, and then check
 -- 19, check 14 and the copy.
 -- Assumes nothing.
+use mathlib.Core.Path.{sym, ap}
+use lib.ListN.{length}
+use lib.Seq.{take-length}
 use borrow.Author.Needs.{needs}
 use Rattle.descents.proofs.between.Leading.{refused-by-windows, form-room, form-length, form-letters, answered}
 use Rattle.descents.proofs.between.write_between.Statement.{statement}
 use Rattle.descents.proofs.between.write_between.Tie as tie
+
+slice-aggregate-normal-form-between : tie.Need-slice-aggregate-normal-form-between
+slice-aggregate-normal-form-between c = sym (ap length (take-length (c .before .before .before .args .from .now)))
+
+slice-aggregate-normal-form-between-2 : tie.Need-slice-aggregate-normal-form-between-2
+slice-aggregate-normal-form-between-2 c = sym (ap length (take-length (c .before .before .before .before .args .to .now)))
 
 normal-form-between-requires : tie.Need-normal-form-between-requires
 normal-form-between-requires c κs = search needs
@@ -21,29 +30,33 @@ same-length c = search needs
 returns : tie.Need-returns
 returns c =
     let f = c .before .before .before .before in
-    let s = f .before .before .before .before in
-    refused-by-windows _ _ _ _ _ (s .pre .0) _ _ _ (s .pre .1) (f .normal-form-between .ensures) _ _ (c .enum-told .given .1)
+    let s = f .before .before .before .before .before .before in
+    let told = rw (take-length (s .args .from .now), take-length (s .args .to .now)) at (f .normal-form-between .ensures) in
+    refused-by-windows _ _ _ _ _ (s .pre .0) _ _ _ (s .pre .1) told _ _ (c .enum-told .given .1)
 
 slice-reshare-prefix-write-allowed : tie.Need-slice-reshare-prefix-write-allowed
 slice-reshare-prefix-write-allowed c =
     let a = c .before in
     let f = a .before .before .before .before in
-    let s = f .before .before .before .before in
-    form-room _ _ _ _ _ (s .pre .0) _ _ _ (s .pre .1) (f .normal-form-between .ensures) _ (a .answer .given .1)
+    let s = f .before .before .before .before .before .before in
+    let told = rw (take-length (s .args .from .now), take-length (s .args .to .now)) at (f .normal-form-between .ensures) in
+    form-room _ _ _ _ _ (s .pre .0) _ _ _ (s .pre .1) told _ (a .answer .given .1)
 
 slice-aggregate-write-allowed : tie.Need-slice-aggregate-write-allowed
 slice-aggregate-write-allowed c =
     let a = c .before .before in
     let f = a .before .before .before .before in
-    let s = f .before .before .before .before in
-    form-length _ _ _ _ _ (s .pre .0) _ _ _ (s .pre .1) (f .normal-form-between .ensures) _ (a .answer .given .1)
+    let s = f .before .before .before .before .before .before in
+    let told = rw (take-length (s .args .from .now), take-length (s .args .to .now)) at (f .normal-form-between .ensures) in
+    form-length _ _ _ _ _ (s .pre .0) _ _ _ (s .pre .1) told _ (a .answer .given .1)
 
 write-allowed-requires : tie.Need-write-allowed-requires
 write-allowed-requires c κs =
     let a = c .before .before .before in
     let f = a .before .before .before .before in
-    let s = f .before .before .before .before in
-    form-letters _ _ _ _ _ (s .pre .0) _ _ _ (s .pre .1) (f .normal-form-between .ensures) _ (a .answer .given .1)
+    let s = f .before .before .before .before .before .before in
+    let told = rw (take-length (s .args .from .now), take-length (s .args .to .now)) at (f .normal-form-between .ensures) in
+    form-letters _ _ _ _ _ (s .pre .0) _ _ _ (s .pre .1) told _ (a .answer .given .1)
 
 same-length-2 : tie.Need-same-length-2
 same-length-2 c = search needs
@@ -56,13 +69,16 @@ returns-2 c =
     let w = c .before .before in
     let a = w .before .before .before .before in
     let f = a .before .before .before .before in
-    let s = f .before .before .before .before in
-    answered _ _ _ _ _ (s .pre .0) _ _ _ (s .pre .1) (f .normal-form-between .ensures) _ (a .answer .given .1) _ _ _ (w .write-allowed .ensures)
+    let s = f .before .before .before .before .before .before in
+    let told = rw (take-length (s .args .from .now), take-length (s .args .to .now)) at (f .normal-form-between .ensures) in
+    answered _ _ _ _ _ (s .pre .0) _ _ _ (s .pre .1) told _ (a .answer .given .1) _ _ _ (w .write-allowed .ensures)
 
 pub write-between-spec : {M : Type 1} → statement M
 write-between-spec =
     tie.close
     (tie.spec
+    slice-aggregate-normal-form-between
+    slice-aggregate-normal-form-between-2
     normal-form-between-requires
     enum-known-answer
     enum-told

@@ -9,43 +9,49 @@ use Rattle.descents.proofs.splitting.split_window.Tie as tie
 lanes-requires : tie.Need-lanes-requires
 lanes-requires c κs = search needs
 
-inverted-requires : tie.Need-inverted-requires
-inverted-requires c κs = search needs
+blank-requires : tie.Need-blank-requires
+blank-requires c κs = search needs
+
+slice-aggregate-invert : tie.Need-slice-aggregate-invert
+slice-aggregate-invert c = search needs
+
+invert-requires : tie.Need-invert-requires
+invert-requires c κs = search needs
 
 array-borrow-prefix-rest : tie.Need-array-borrow-prefix-rest
 array-borrow-prefix-rest c = search needs
 
 slice-aggregate-strip : tie.Need-slice-aggregate-strip
 slice-aggregate-strip c =
-    let b = c .before in
-    part-length _ _ _ _ _ (b .inverted .ensures .1) (b .before .lanes .ensures) (b .inverted .ensures .0)
+    let b = c .before .before in
+    part-length _ _ _ _ _ (b .invert .ensures .1) (b .before .before .before .lanes .ensures) (b .invert .ensures .0)
 
 strip-requires : tie.Need-strip-requires
 strip-requires c κs =
-    let b = c .before in
-    let p = b .before .before .before .before .pre in
-    strip-asked _ _ 0 _ _ (p .0) (p .1) (part-is _ _ _ _ _ (b .inverted .ensures .1) (b .before .lanes .ensures))
+    let b = c .before .before in
+    let p = b .before .before .before .before .before .before .pre in
+    strip-asked _ _ 0 _ _ (p .0) (p .1) (part-is _ _ _ _ _ (b .invert .ensures .1) (b .before .before .before .lanes .ensures))
 
 array-share-prefix-rest : tie.Need-array-share-prefix-rest
 array-share-prefix-rest c =
-    let b = c .before .before .before in
-    let size = part-length _ _ _ _ _ (b .inverted .ensures .1) (b .before .lanes .ensures) (b .inverted .ensures .0) in
+    let b = c .before .before .before .before in
+    let size = part-length _ _ _ _ _ (b .invert .ensures .1) (b .before .before .before .lanes .ensures) (b .invert .ensures .0) in
     stored-room _ _ (c .before .strip .last .1 .1 .1 .0) size (c .before .strip .kept .1 .1 .1 .0)
 
 slice-aggregate-write-parts : tie.Need-slice-aggregate-write-parts
 slice-aggregate-write-parts c =
-    let b = c .before .before .before .before in
-    let size = part-length _ _ _ _ _ (b .inverted .ensures .1) (b .before .lanes .ensures) (b .inverted .ensures .0) in
+    let b = c .before .before .before .before .before in
+    let size = part-length _ _ _ _ _ (b .invert .ensures .1) (b .before .before .before .lanes .ensures) (b .invert .ensures .0) in
     stored-size _ _ (c .before .before .strip .last .1 .1 .1 .0) size (c .before .before .strip .kept .1 .1 .1 .0)
 
 write-parts-requires : tie.Need-write-parts-requires
 write-parts-requires c κs =
     let s = c .before .before .before .before in
-    let b = s .before .before in
-    let l = b .before .lanes .ensures in
-    let p = b .before .before .before .before .pre in
-    let size = part-length _ _ _ _ _ (b .inverted .ensures .1) l (b .inverted .ensures .0) in
-    parts-asked _ _ _ _ _ (p .0) (p .1) (part-is _ _ _ _ _ (b .inverted .ensures .1) l) _ _ (stored-is _ _ _ size (s .strip .kept .1 .1 .1 .0))
+    let b = s .before .before .before in
+    let l = b .before .before .before .lanes .ensures in
+    let p = b .before .before .before .before .before .before .pre in
+    let size = part-length _ _ _ _ _ (b .invert .ensures .1) l (b .invert .ensures .0) in
+    parts-asked _ _ _ _ _ (p .0) (p .1) (part-is _ _ _ _ _ (b .invert .ensures .1) l) _ _ (stored-is _ _ _ size (s .strip .kept .1 .1 .1 .0))
     (s .strip .ensures)
 
 same-length : tie.Need-same-length
@@ -58,11 +64,11 @@ returns : tie.Need-returns
 returns c =
     let f = c .before .before .before .before in
     let s = f .before .before .before .before .before in
-    let b = s .before .before in
-    let l = b .before .lanes .ensures in
-    let p = b .before .before .before .before .pre in
-    let size = part-length _ _ _ _ _ (b .inverted .ensures .1) l (b .inverted .ensures .0) in
-    parts-are _ _ _ _ _ (p .0) (p .1) (part-is _ _ _ _ _ (b .inverted .ensures .1) l) _ _ (stored-is _ _ _ size (s .strip .kept .1 .1 .1 .0))
+    let b = s .before .before .before in
+    let l = b .before .before .before .lanes .ensures in
+    let p = b .before .before .before .before .before .before .pre in
+    let size = part-length _ _ _ _ _ (b .invert .ensures .1) l (b .invert .ensures .0) in
+    parts-are _ _ _ _ _ (p .0) (p .1) (part-is _ _ _ _ _ (b .invert .ensures .1) l) _ _ (stored-is _ _ _ size (s .strip .kept .1 .1 .1 .0))
     (s .strip .ensures) _ _ _ _ _ (f .write-parts .ensures)
 
 pub split-window-spec : {M : Type 1} → statement M
@@ -70,7 +76,9 @@ split-window-spec =
     tie.close
     (tie.spec
     lanes-requires
-    inverted-requires
+    blank-requires
+    slice-aggregate-invert
+    invert-requires
     array-borrow-prefix-rest
     slice-aggregate-strip
     strip-requires

@@ -3,8 +3,9 @@
 use mathlib.Core.Path.{sym}
 use borrow.Author.Needs.{needs}
 use Rattle.coxeter.specs.Windows.{inverse}
-use Rattle.window.proofs.shown.Fronts.{Front, part-room, length-part}
-use Rattle.window.proofs.combined.Made.{made-room, made-inverse, back-is, back-passes}
+use Rattle.coxeter.proofs.Theorems.{inverse-passes}
+use Rattle.window.proofs.shown.Fronts.{Front, front-written, part-room, length-part}
+use Rattle.window.proofs.combined.Made.{made-room, back-is, back-passes}
 use Rattle.window.proofs.combined.between_into.Statement.{statement}
 use Rattle.window.proofs.combined.between_into.Tie as tie
 
@@ -30,7 +31,7 @@ held : (c : tie.After-inverse-into)
 held c =
     let made = c .before .before in
     let pre = made .before .before .pre in
-    made-inverse _ _ (pre .0) _ _ _ (pre .1 .0) (made .blank .ensures) (c .inverse-into .ensures)
+    front-written _ _ (pre .0) _ _ _ (inverse-passes _ _ _ (pre .1 .0)) (made .blank .ensures) (c .inverse-into .ensures)
 
 array-share-prefix-back : tie.Need-array-share-prefix-back
 array-share-prefix-back c =

@@ -2,13 +2,11 @@
 -- windows.
 -- Assumes nothing.
 use mathlib.Core.Path.{refl}
-use Rattle.coxeter.specs.Windows.{product}
 use Rattle.coxeter.proofs.Acceptance.{windows-accepted}
-use Rattle.coxeter.proofs.Outcomes.{writes-refused}
 use Rattle.coxeter.proofs.Theorems.{product-passes}
-use Rattle.window.proofs.combined.Made.{made-room, made-product}
-use Rattle.window.proofs.forms.Rooms.{front-written}
-use Rattle.window.proofs.shown.Fronts.{Front, front-asks}
+use Rattle.coxeter.proofs.Outcomes.{writes-refused}
+use Rattle.window.proofs.forms.Rooms.{made-asks, made-written}
+use Rattle.window.proofs.combined.Made.{made-room}
 use borrow.Author.Needs.{needs}
 use Rattle.window.proofs.combined.normal_form_of_product.Statement.{statement}
 use Rattle.window.proofs.combined.normal_form_of_product.Tie as tie
@@ -31,16 +29,6 @@ product-into-requires c κs =
     let passed = windows-accepted _ _ _ _ _ (c .before .before .before .ranked-windows-refusal .ensures) (c .before .before .if1 .left) in
     (passed .0, (passed .1 .0, (passed .1 .1, made-room _ _ (passed .0) _ (work .result) (passed .1 .1) (work .ensures))))
 
--- what the work window holds after the call
-held : (c : tie.After-product-into)
-    → let a = c .before .before .before .before .before .before .args in
-    Front (a .kind) (a .rank) (product (a .u .now) (a .v .now)) (c .product-into .last .1 .1 .1 .1 .0)
-held c =
-    let asked = c .before in
-    let work = asked .before .blank in
-    let passed = windows-accepted _ _ _ _ _ (asked .before .before .before .ranked-windows-refusal .ensures) (asked .before .before .if1 .left) in
-    made-product _ _ (passed .0) _ _ _ _ (passed .1 .1) (work .ensures) (c .product-into .ensures)
-
 slice-aggregate-write-checked : tie.Need-slice-aggregate-write-checked
 slice-aggregate-write-checked c = search needs
 
@@ -49,7 +37,7 @@ write-checked-requires c κs =
     let made = c .before .before .before in
     let first = made .before .before .before in
     let passed = windows-accepted _ _ _ _ _ (first .before .ranked-windows-refusal .ensures) (first .if1 .left) in
-    front-asks _ _ (passed .0) _ _ (product-passes _ _ _ _ (passed .1 .0) (passed .1 .1)) (held made)
+    made-asks _ _ (passed .0) _ _ _ (product-passes _ _ _ _ (passed .1 .0) (passed .1 .1)) (made .before .before .blank .ensures) (made .product-into .ensures)
 
 same-length : tie.Need-same-length
 same-length c = search needs
@@ -59,7 +47,10 @@ returns-2 c =
     let called = c .before .before in
     let made = called .before .before .before .before in
     let first = made .before .before .before in
-    front-written _ _ _ _ _ _ _ _ _ _ refl (first .before .ranked-windows-refusal .ensures) (first .if1 .left) (held made) (called .write-checked .ensures)
+    let refusal = first .before .ranked-windows-refusal .ensures in
+    let passed = windows-accepted _ _ _ _ _ refusal (first .if1 .left) in
+    made-written _ _ (passed .0) _ _ _ (product-passes _ _ _ _ (passed .1 .0) (passed .1 .1)) (made .before .before .blank .ensures) (made .product-into .ensures) _ _ _ _ _ _ refl refusal (first .if1 .left)
+    (called .write-checked .ensures)
 
 pub normal-form-of-product-spec : {M : Type 1} → statement M
 normal-form-of-product-spec =

@@ -1,11 +1,11 @@
 -- `forms::lacks_room` compares the room with n × n, and where that is more with the length.
 -- Assumes nothing.
-use mathlib.Core.Path.{ap}
+use mathlib.Core.Path.{refl, sym}
 use native.Mathlib.Omega.{arith}
-use lib.Dec.{ltb}
+use lib.Seq.{length-take-le}
 use borrow.Author.Needs.{needs}
-use Rattle.coxeter.proofs.Acceptance.{rank-accepted}
-use Rattle.window.proofs.forms.Rooms.{square-room}
+use Rattle.coxeter.proofs.Acceptance.{rank-accepted, lanes-le}
+use Rattle.window.proofs.forms.Rooms.{square-room, measured-room}
 use Rattle.window.proofs.length.Sums.{square-fits}
 use Rattle.window.proofs.forms.lacks_room.Statement.{statement}
 use Rattle.window.proofs.forms.lacks_room.Tie as tie
@@ -16,11 +16,28 @@ mul-if1 c = record { fits = omega (arith, square-fits (c .args .rank) (rank-acce
 returns : tie.Need-returns
 returns c = square-room _ _ _ _ (c .before .pre .1 .1) (c .if1 .taken)
 
-length-of-front-requires : tie.Need-length-of-front-requires
-length-of-front-requires c κs = search needs
+lanes-requires : tie.Need-lanes-requires
+lanes-requires c κs = search needs
+
+slice-aggregate-length-of : tie.Need-slice-aggregate-length-of
+slice-aggregate-length-of c = sym (length-take-le _ _ (search needs))
+
+length-of-requires : tie.Need-length-of-requires
+length-of-requires c κs =
+    let counted = c .before in
+    let pre = counted .before .before .pre in
+    (lanes-le _ _ _ (pre .0) refl, rw (counted .lanes .ensures) (pre .1 .1))
 
 returns-2 : tie.Need-returns-2
-returns-2 c = ap (ltb _) (c .length-of-front .ensures)
+returns-2 c = measured-room _ _ _ _ _ _ (c .before .before .lanes .ensures) (c .length-of .ensures)
 
 pub lacks-room-spec : {M : Type 1} → statement M
-lacks-room-spec = tie.close (tie.spec mul-if1 returns length-of-front-requires returns-2)
+lacks-room-spec =
+    tie.close
+    (tie.spec
+    mul-if1
+    returns
+    lanes-requires
+    slice-aggregate-length-of
+    length-of-requires
+    returns-2)

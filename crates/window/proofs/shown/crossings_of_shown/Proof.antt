@@ -5,7 +5,7 @@ use Rattle.coxeter.specs.Kinds.{kindOf}
 use Rattle.coxeter.specs.Calls.{countedOf}
 use Rattle.coxeter.specs.Length.{crossings}
 use Rattle.coxeter.specs.Windows.{window}
-use Rattle.window.proofs.shown.Fronts.{Front, room, front-window, front-asks, window-passes}
+use Rattle.window.proofs.shown.Fronts.{Front, room, front-written, front-asks, window-passes}
 use borrow.Author.Needs.{needs}
 use Rattle.window.proofs.shown.crossings_of_shown.Statement.{statement}
 use Rattle.window.proofs.shown.crossings_of_shown.Tie as tie
@@ -28,7 +28,7 @@ held : (c : tie.After-show-front)
     Front (a .kind) (a .rank) (window (kindOf (a .kind)) (a .rank) (a .word .now)) (c .show-front .last .1 .1 .1 .0)
 held c =
     let made = c .before .before in
-    front-window _ _ (made .before .before .pre .0) _ _ _ (made .blank .ensures) (c .show-front .ensures)
+    front-written _ _ (made .before .before .pre .0) _ _ _ (window-passes _ _ _) (made .blank .ensures) (c .show-front .ensures)
 
 slice-aggregate-crossings-of-front : tie.Need-slice-aggregate-crossings-of-front
 slice-aggregate-crossings-of-front c = search needs

@@ -6,7 +6,7 @@ use Rattle.coxeter.specs.Kinds.{kindOf}
 use Rattle.coxeter.specs.Windows.{window}
 use Rattle.coxeter.specs.Calls.{sameWindow}
 use Rattle.coxeter.proofs.Outcomes.{lanes-differ, same-lanes}
-use Rattle.window.proofs.shown.Fronts.{Front, room, front-window, part-room, part-shows}
+use Rattle.window.proofs.shown.Fronts.{Front, room, window-passes, front-written, part-room, part-shows}
 use borrow.Author.Needs.{needs}
 use Rattle.window.proofs.shown.same_presets.Statement.{statement}
 use Rattle.window.proofs.shown.same_presets.Tie as tie
@@ -42,7 +42,7 @@ first : (c : tie.After-show-front)
     Front (a .kind-a) (a .rank-a) (window (kindOf (a .kind-a)) (a .rank-a) (a .a .now)) (c .show-front .last .1 .1 .1 .0)
 first c =
     let made = c .before .before in
-    front-window _ _ (made .before .before .before .before .before .before .pre .0) _ _ _ (made .blank .ensures) (c .show-front .ensures)
+    front-written _ _ (made .before .before .before .before .before .before .pre .0) _ _ _ (window-passes _ _ _) (made .blank .ensures) (c .show-front .ensures)
 
 slice-aggregate-show-front-2 : tie.Need-slice-aggregate-show-front-2
 slice-aggregate-show-front-2 c = search needs
@@ -58,7 +58,7 @@ second : (c : tie.After-show-front2)
     Front (a .kind-b) (a .rank-b) (window (kindOf (a .kind-b)) (a .rank-b) (a .b .now)) (c .show-front2 .last .1 .1 .1 .0)
 second c =
     let made = c .before .before in
-    front-window _ _ (made .before .before .before .before .before .before .before .before .before .before .pre .1 .1 .0) _ _ _ (made .blank2 .ensures)
+    front-written _ _ (made .before .before .before .before .before .before .before .before .before .before .pre .1 .1 .0) _ _ _ (window-passes _ _ _) (made .blank2 .ensures)
     (c .show-front2 .ensures)
 
 slice-aggregate-same-fronts : tie.Need-slice-aggregate-same-fronts

@@ -4,7 +4,7 @@ use mathlib.Core.Path.{sym}
 use borrow.Author.Needs.{needs}
 use Rattle.coxeter.specs.Kinds.{kindOf}
 use Rattle.coxeter.specs.Windows.{window}
-use Rattle.window.proofs.shown.Fronts.{Front, room, front-window, part-room, length-part, part-is, part-passes, window-passes}
+use Rattle.window.proofs.shown.Fronts.{Front, room, front-written, part-room, length-part, part-is, part-passes, window-passes}
 use Rattle.window.proofs.shown.show_inverse.Statement.{statement}
 use Rattle.window.proofs.shown.show_inverse.Tie as tie
 
@@ -29,7 +29,7 @@ held : (c : tie.After-show-front)
     Front (a .kind) (a .rank) (window (kindOf (a .kind)) (a .rank) (a .word .now)) (c .show-front .last .1 .1 .1 .0)
 held c =
     let made = c .before .before in
-    front-window _ _ (made .before .before .before .pre .0) _ _ _ (made .blank .ensures) (c .show-front .ensures)
+    front-written _ _ (made .before .before .before .pre .0) _ _ _ (window-passes _ _ _) (made .blank .ensures) (c .show-front .ensures)
 
 array-share-prefix-work : tie.Need-array-share-prefix-work
 array-share-prefix-work c =

@@ -1,0 +1,23 @@
+-- `work::show` is the window of a word, at the front of an array with room for it.
+-- Assumes nothing.
+use mathlib.Core.Path.{sym, _∙_}
+use borrow.Author.Needs.{needs}
+use Rattle.coxeter.proofs.Fronts.{window-shown}
+use Rattle.descents.proofs.work.show.Statement.{statement}
+use Rattle.descents.proofs.work.show.Tie as tie
+
+window-of-word-requires : tie.Need-window-of-word-requires
+window-of-word-requires c κs = search needs
+
+same-length : tie.Need-same-length
+same-length c = search needs
+
+returns : tie.Need-returns
+returns c =
+    let b = c .before in
+    let s = b .before .before .before in
+    let room = s .pre .2 in
+    (room ∙ sym (b .window-of-word .kept .1 .1 .1 .0), window-shown _ _ _ (s .pre .0) (s .pre .1) _ _ room (b .window-of-word .ensures .1))
+
+pub show-spec : {M : Type 1} → statement M
+show-spec = tie.close (tie.spec window-of-word-requires same-length returns)
