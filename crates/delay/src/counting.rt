@@ -14,9 +14,14 @@ ghost use Rattle.coxeter.specs.Calls.{written};
 ghost use Rattle.distribution.specs.Distribution.{distribution};
 ghost use Rattle.distribution.specs.Calls.{tableRefusal};
 ghost use Rattle.distribution.proofs.Sums.{below};
-ghost use Rattle.distribution.proofs.Factors.{shifted, plusShifted, lessShifted, sumTo, running, factor};
+ghost use Rattle.distribution.proofs.Factors.{combined, withShifted, sumTo, running, factor};
 ghost use Rattle.distribution.proofs.Products.{fewest, product};
-ghost use Rattle.distribution.proofs.Values.{values, valueAt, AtMost, Fit};
+ghost use Rattle.distribution.proofs.Values.{values, valueAt, Fit, CombinedFits, WithShiftedFit};
+
+// Whether a number is taken off another or added to it.
+const LESS: bool = true;
+
+const PLUS: bool = false;
 
 // 1, 0, 0, ..: before the first level.
 fn set_one(kind: u8, counts: &mut [u64])
@@ -45,33 +50,27 @@ fn sum_up(counts: &mut [u64])
     }
 }
 
-// Each number less the one b places before it, from the last to the first.
-fn take_shifted(counts: &mut [u64], b: usize)
-    requires { ⌜ 1 ≤ b ⌝ }
-    requires { ⌜ AtMost (shifted b (valueAt (now counts))) (valueAt (now counts)) (length (now counts)) ⌝ }
-    ensures { λ _. ⌜ now (counts .exit) ≡ values (lessShifted b (valueAt (now (counts .entry)))) (length (now (counts .entry))) ⌝ }
+// A number less another, or both together.
+fn combine(own: u64, back: u64, less: bool) -> u64
+    requires { ⌜ CombinedFits less own back ⌝ }
+    ensures { λ r. ⌜ r ≡ combined less own back ⌝ }
 {
-    let mut l = counts.len();
-    while b < l {
-        l -= 1;
-        let back = counts[l - b];
-        let own = counts[l];
-        counts[l] = own - back;
+    if less {
+        return own - back;
     }
+    own + back
 }
 
-// Each number and the one b places before it, from the last to the first.
-fn add_shifted(counts: &mut [u64], b: usize)
+// Each number less the one b places before it, or both together, from the last to the first.
+fn combine_shifted(counts: &mut [u64], b: usize, less: bool)
     requires { ⌜ 1 ≤ b ⌝ }
-    requires { ⌜ Fit (plusShifted b (valueAt (now counts))) (length (now counts)) ⌝ }
-    ensures { λ _. ⌜ now (counts .exit) ≡ values (plusShifted b (valueAt (now (counts .entry)))) (length (now (counts .entry))) ⌝ }
+    requires { ⌜ WithShiftedFit less b (valueAt (now counts)) (length (now counts)) ⌝ }
+    ensures { λ _. ⌜ now (counts .exit) ≡ values (withShifted less b (valueAt (now (counts .entry)))) (length (now (counts .entry))) ⌝ }
 {
     let mut l = counts.len();
     while b < l {
         l -= 1;
-        let back = counts[l - b];
-        let own = counts[l];
-        counts[l] = own + back;
+        counts[l] = combine(counts[l], counts[l - b], less);
     }
 }
 
@@ -82,7 +81,7 @@ fn run(counts: &mut [u64], c: usize)
     ensures { λ _. ⌜ now (counts .exit) ≡ values (running c (valueAt (now (counts .entry)))) (length (now (counts .entry))) ⌝ }
 {
     sum_up(counts);
-    take_shifted(counts, c + 1);
+    combine_shifted(counts, c + 1, LESS);
 }
 
 // The factor of a level with c greater sizes.
@@ -100,7 +99,7 @@ fn multiply(kind: u8, c: usize, counts: &mut [u64])
     if kind == 1 {
         return;
     }
-    add_shifted(counts, c);
+    combine_shifted(counts, c, PLUS);
 }
 
 // The numbers of windows of each length, one level after another from the last; those of fewer levels end earlier.

@@ -30,12 +30,14 @@ use Rattle.distribution.proofs.Sums.{below, sum-append, up-snoc, timesO
 unfoldable pub shifted : ℕ → (ℕ → ℕ) → ℕ → ℕ
 shifted b f l = pick (ltb l b) 0 (f (l - b))
 
--- f with itself shifted by b places added, or taken off
-abbrev pub plusShifted : ℕ → (ℕ → ℕ) → ℕ → ℕ
-plusShifted b f l = f l + shifted b f l
+-- y taken off x, or added to it
+abbrev pub combined : Bool → ℕ → ℕ → ℕ
+combined true x y = x - y
+combined false x y = x + y
 
-abbrev pub lessShifted : ℕ → (ℕ → ℕ) → ℕ → ℕ
-lessShifted b f l = f l - shifted b f l
+-- f with itself shifted by b places taken off, or added
+abbrev pub withShifted : Bool → ℕ → (ℕ → ℕ) → ℕ → ℕ
+withShifted less b f l = combined less (f l) (shifted b f l)
 
 -- f shifted by each of bs, added
 unfoldable pub spread : List ℕ → (ℕ → ℕ) → ℕ → ℕ
@@ -253,7 +255,7 @@ level-lengths D n i c o h e =
 abbrev pub factor : Kind → ℕ → (ℕ → ℕ) → ℕ → ℕ
 factor A c f l = running c f l
 factor B c f l = running (2 * c + 1) f l
-factor D c f l = plusShifted c (running c f) l
+factor D c f l = running c f l + shifted c (running c f) l
 
 spread-lengthsOf : (k : Kind) (c : ℕ) (f : ℕ → ℕ) (l : ℕ) → spread (lengthsOf k c) f l ≡ factor k c f l
 unfolding running

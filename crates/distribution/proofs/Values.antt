@@ -2,6 +2,7 @@
 -- Sections: values; parts.
 -- Assumes nothing.
 use mathlib.Core.Path.{_≡_, sym, ap, _∙_}
+use mathlib.Core.Bool.{Bool, true, false}
 use mathlib.Core.List.{List, _++_, map}
 use Prim.Native.Nat.{ℕ, _+_, _-_, _^_, _≤_, _<_}
 use native.Mathlib.Omega.{arith}
@@ -11,6 +12,7 @@ use lib.ListN.{length, getD, take, drop, length-map, length-append, length-drop,
 use lib.Seq.{ext-getD, length-take-le, getD-take, getD-drop, getD-append-add}
 use Rattle.coxeter.specs.Kinds.{up}
 use Rattle.coxeter.proofs.Basics.{length-up}
+use Rattle.distribution.proofs.Factors.{shifted}
 use Rattle.distribution.proofs.Tables.{getD-map-up}
 
 -- ---- values
@@ -23,13 +25,18 @@ values f m = map f (up 0 m)
 abbrev pub valueAt : List ℕ → ℕ → ℕ
 valueAt l i = getD l i 0
 
--- the first m values of f are at most those of g
-abbrev pub AtMost : (ℕ → ℕ) → (ℕ → ℕ) → ℕ → Type 0
-AtMost f g m = (l : ℕ) → l < m → f l ≤ g l
-
 -- the first m values fit 64 bits
 abbrev pub Fit : (ℕ → ℕ) → ℕ → Type 0
 Fit f m = (l : ℕ) → l < m → f l < 2 ^ 64
+
+-- y taken off x is not below 0, or added to it fits 64 bits
+abbrev pub CombinedFits : Bool → ℕ → ℕ → Type 0
+CombinedFits true x y = y ≤ x
+CombinedFits false x y = x + y < 2 ^ 64
+
+-- the same of each of the first m values and the one b places before it
+abbrev pub WithShiftedFit : Bool → ℕ → (ℕ → ℕ) → ℕ → Type 0
+WithShiftedFit less b f m = (l : ℕ) → l < m → CombinedFits less (f l) (shifted b f l)
 
 pub length-values : (f : ℕ → ℕ) (m : ℕ) → length (values f m) ≡ m
 unfolding values

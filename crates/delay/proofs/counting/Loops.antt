@@ -2,10 +2,11 @@
 -- Sections: sums from the start; shifted sums from the end; 1, 0, 0, ...
 -- Assumes nothing.
 use mathlib.Core.Path.{_≡_, refl, sym, ap, ap₂, _∙_}
+use mathlib.Core.Bool.{Bool, true, false}
 use mathlib.Core.List.{List}
 use Prim.Native.Nat.{ℕ, _+_, _-_, _^_, _≤_, _<_}
 use native.Mathlib.Omega.{arith}
-use native.Mathlib.Nat.{lt-of-not-le}
+use native.Mathlib.Nat.{add-zero, sub-zero, lt-of-not-le}
 use native.Mathlib.Decide.{decLt}
 use native.Mathlib.Numerals.{add-one}
 use borrow.Author.Tests.{ne-eqb}
@@ -13,9 +14,9 @@ use lib.ListN.{getD, set}
 use Rattle.coxeter.specs.Kinds.{Kind}
 use Rattle.coxeter.specs.Length.{one}
 use Rattle.distribution.proofs.Sums.{below, below-le}
-use Rattle.distribution.proofs.Factors.{shifted, shifted-lt, shifted-le, plusShifted, lessShifted, sumTo}
+use Rattle.distribution.proofs.Factors.{shifted, shifted-lt, shifted-le, combined, withShifted, sumTo}
 use Rattle.distribution.proofs.Products.{product}
-use Rattle.distribution.proofs.Values.{values, AtMost, Fit, values-eq}
+use Rattle.distribution.proofs.Values.{values, CombinedFits, WithShiftedFit, values-eq}
 use Rattle.delay.proofs.counting.Filling.{Filled, filled-next, filled-back, filled-start}
 
 -- ---- sums from the start
@@ -33,33 +34,27 @@ module _ {f : ℕ → ℕ} {m : ℕ} {w : List ℕ} {l sum : ℕ} (h : Filled l 
 
 -- ---- shifted sums from the end
 
-module _ {f g : ℕ → ℕ} {m : ℕ} {w : List ℕ} {l : ℕ} (b : ℕ) (h : Filled l f g m w) (p : 1 ≤ b) (q : b < l) (o : l ≤ m) where
-  -- what is read: the number b places before the last one that is not filled, and that one
-  pub read-back : getD w (l - 1 - b) 0 ≡ shifted b f (l - 1)
-  read-back = h .front (l - 1 - b) (omega arith) (omega arith) ∙ sym (shifted-le b f (l - 1) (omega arith))
+combined-zero : (less : Bool) (x : ℕ) → combined less x 0 ≡ x
+combined-zero true x = sub-zero x
+combined-zero false x = add-zero x
 
-  pub read-own : getD w (l - 1) 0 ≡ f (l - 1)
-  read-own = h .front (l - 1) (omega arith) (omega arith)
+module _ (less : Bool) {f : ℕ → ℕ} {m : ℕ} {w : List ℕ} {l b : ℕ} (h : Filled l f (withShifted less b f) m w) (p : 1 ≤ b) (o : l ≤ m) where
+  -- what is read: the last number that is not filled, and the one b places before it
+  read-own : b < l → getD w (l - 1) 0 ≡ f (l - 1)
+  read-own q = h .front (l - 1) (omega arith) (omega arith)
 
-module _ {f : ℕ → ℕ} {m : ℕ} {w : List ℕ} {l b : ℕ} (h : Filled l f (lessShifted b f) m w) (p : 1 ≤ b) (o : l ≤ m) where
-  pub less-fits : b < l → AtMost (shifted b f) f m → getD w (l - 1 - b) 0 ≤ getD w (l - 1) 0
-  less-fits q a = omega (arith, read-back b h p q o, read-own b h p q o, a (l - 1) (omega arith))
+  read-back : b < l → getD w (l - 1 - b) 0 ≡ shifted b f (l - 1)
+  read-back q = h .front (l - 1 - b) (omega arith) (omega arith) ∙ sym (shifted-le b f (l - 1) (omega arith))
 
-  pub less-filled : b < l → Filled (l - 1) f (lessShifted b f) m (set w (l - 1) (getD w (l - 1) 0 - getD w (l - 1 - b) 0))
-  less-filled q = filled-back h (omega arith) (omega arith) (ap₂ (λ (x y : ℕ). x - y) (read-own b h p q o) (read-back b h p q o))
+  pub combined-fits : b < l → WithShiftedFit less b f m → CombinedFits less (getD w (l - 1) 0) (getD w (l - 1 - b) 0)
+  combined-fits q a = rw (read-own q, read-back q) (a (l - 1) (omega arith))
 
-  pub less-end : l ≤ b → w ≡ values (lessShifted b f) m
-  less-end q = filled-start h (λ i t. omega (arith, shifted-lt b f i (omega arith)))
+  pub combined-filled : {v : ℕ} → b < l → v ≡ combined less (getD w (l - 1) 0) (getD w (l - 1 - b) 0)
+      → Filled (l - 1) f (withShifted less b f) m (set w (l - 1) v)
+  combined-filled q e = filled-back h (omega arith) (omega arith) (e ∙ ap₂ (combined less) (read-own q) (read-back q))
 
-module _ {f : ℕ → ℕ} {m : ℕ} {w : List ℕ} {l b : ℕ} (h : Filled l f (plusShifted b f) m w) (p : 1 ≤ b) (o : l ≤ m) where
-  pub plus-fits : b < l → Fit (plusShifted b f) m → getD w (l - 1) 0 + getD w (l - 1 - b) 0 < 2 ^ 64
-  plus-fits q a = omega (arith, read-back b h p q o, read-own b h p q o, a (l - 1) (omega arith))
-
-  pub plus-filled : b < l → Filled (l - 1) f (plusShifted b f) m (set w (l - 1) (getD w (l - 1) 0 + getD w (l - 1 - b) 0))
-  plus-filled q = filled-back h (omega arith) (omega arith) (ap₂ (λ (x y : ℕ). x + y) (read-own b h p q o) (read-back b h p q o))
-
-  pub plus-end : l ≤ b → w ≡ values (plusShifted b f) m
-  plus-end q = filled-start h (λ i t. omega (arith, shifted-lt b f i (omega arith)))
+  pub combined-end : l ≤ b → w ≡ values (withShifted less b f) m
+  combined-end q = filled-start h (λ i t. rw (shifted-lt b f i (omega arith)) (sym (combined-zero less (f i))))
 
 -- ---- 1, 0, 0, ..
 

@@ -1,8 +1,9 @@
 -- `counting::multiply` makes the factor of a level: running sums, in kind D with a shifted sum after them.
 -- Assumes nothing.
+use mathlib.Core.Bool.{false}
 use borrow.Author.Needs.{needs}
 use Rattle.coxeter.proofs.KindLaws.{kindOf-one, kindOf-two, kindOf-three}
-use Rattle.delay.proofs.counting.Factors.{plus-fit, plus-sums}
+use Rattle.delay.proofs.counting.Factors.{with-fit, with-values}
 use Rattle.delay.proofs.counting.multiply.Statement.{statement}
 use Rattle.delay.proofs.counting.multiply.Tie as tie
 
@@ -30,11 +31,11 @@ same-length-2 c = search needs
 returns-2 : tie.Need-returns-2
 returns-2 c = rw (kindOf-one _ (c .if2 .taken)) (c .before .before .before .run2 .ensures)
 
-add-shifted-requires : tie.Need-add-shifted-requires
-add-shifted-requires c κs =
+combine-shifted-requires : tie.Need-combine-shifted-requires
+combine-shifted-requires c κs =
     let start = c .before .before .before .before .before .before .before .before in
     let d = kindOf-three _ (c .before .if2 .left) (c .before .before .before .before .before .before .if1 .left) in
-    (rw d at (start .pre .0 .0), plus-fit _ _ _ _ (c .before .before .before .before .run2 .ensures) (rw d at (start .pre .1 .1)))
+    (rw d at (start .pre .0 .0), with-fit false _ _ _ _ (c .before .before .before .before .run2 .ensures) (rw d at (start .pre .1 .1)))
 
 same-length-3 : tie.Need-same-length-3
 same-length-3 c = search needs
@@ -44,7 +45,7 @@ returns-3 c =
     let added = c .before .before in
     let other = added .before .before in
     rw (kindOf-three _ (other .if2 .left) (c .before .before .before .before .before .before .before .before .before .if1 .left))
-    (plus-sums _ _ _ _ (c .before .before .before .before .before .before .before .run2 .ensures) _ (added .add-shifted .ensures))
+    (with-values false _ _ _ _ (c .before .before .before .before .before .before .before .run2 .ensures) _ (added .combine-shifted .ensures))
 
 pub multiply-spec : {M : Type 1} → statement M
 multiply-spec =
@@ -58,6 +59,6 @@ multiply-spec =
     run-requires-2
     same-length-2
     returns-2
-    add-shifted-requires
+    combine-shifted-requires
     same-length-3
     returns-3)
