@@ -1,7 +1,7 @@
 -- A list that is being filled in place, from its start or from its end: before a place its numbers are the values
 -- of one function, from there on those of another.
 -- Assumes nothing.
-use mathlib.Core.Path.{_≡_, refl, _∙_}
+use mathlib.Core.Path.{_≡_, refl, ap, _∙_}
 use mathlib.Core.List.{List}
 use Prim.Native.Nat.{ℕ, _+_, _≤_, _<_}
 use native.Mathlib.Omega.{arith}
@@ -25,32 +25,27 @@ pub filled-none-back : {g : ℕ → ℕ} {w : List ℕ} → Filled (length w) (v
 filled-none-back = record { size = refl; front = λ i o h. refl; rest = λ i o h. absurd (omega arith) }
 
 module _ {l : ℕ} {f g : ℕ → ℕ} {m : ℕ} {w : List ℕ} (h : Filled l f g m w) where
-  set-here : (j v : ℕ) → j < m → valueAt (set w j v) j ≡ v
-  set-here j v o = getD-set-same w j v 0 (omega (arith, h .size))
+  -- one number more is done: every other one stays on its side of the place
+  filled-set : {k j v : ℕ} → j < m → ((i : ℕ) → (i ≡ j → ⊥) → (i < k → i < l) × (k ≤ i → l ≤ i)) → (j < k → v ≡ f j) → (k ≤ j → v ≡ g j)
+      → Filled k f g m (set w j v)
+  filled-set {k} {j} {v} o sides before behind =
+      record {
+        size = length-set w j v ∙ h .size;
+        front = λ i p q. at i (f i) (λ e. rw e (before (rw e at q))) (λ s. h .front i p (sides i s .0 q)) (ℕ-discrete i j);
+        rest = λ i p q. at i (g i) (λ e. rw e (behind (rw e at q))) (λ s. h .rest i p (sides i s .1 q)) (ℕ-discrete i j);
+      }
+    where
+      at : (i x : ℕ) → (i ≡ j → v ≡ x) → ((i ≡ j → ⊥) → valueAt w i ≡ x) → Dec (i ≡ j) → valueAt (set w j v) i ≡ x
+      at i x here other (yes e) = ap (valueAt (set w j v)) e ∙ getD-set-same w j v 0 (omega (arith, h .size)) ∙ here e
+      at i x here other (no s) = getD-set-other w j i v 0 s ∙ other s
 
   -- the next number
   pub filled-next : {v : ℕ} → l < m → v ≡ f l → Filled (l + 1) f g m (set w l v)
-  filled-next {v} o e =
-      record { size = length-set w l v ∙ h .size; front = λ i p q. go i p q (ℕ-discrete i l); rest = rest }
-    where
-      go : (i : ℕ) → i < m → i < l + 1 → Dec (i ≡ l) → valueAt (set w l v) i ≡ f i
-      go i p q (yes s) = rw s (set-here l v o ∙ e)
-      go i p q (no s) = getD-set-other w l i v 0 s ∙ h .front i p (omega arith)
-
-      rest : (i : ℕ) → i < m → l + 1 ≤ i → valueAt (set w l v) i ≡ g i
-      rest i p q = getD-set-other w l i v 0 (λ s. omega arith) ∙ h .rest i p (omega arith)
+  filled-next o e = filled-set o (λ i s. (λ q. omega arith, λ q. omega arith)) (λ q. e) (λ q. absurd (omega arith))
 
   -- the number before it, from the end
   pub filled-back : {j v : ℕ} → j + 1 ≡ l → j < m → v ≡ g j → Filled j f g m (set w j v)
-  filled-back {j} {v} s o e =
-      record { size = length-set w j v ∙ h .size; front = front; rest = λ i p q. go i p q (ℕ-discrete i j) }
-    where
-      front : (i : ℕ) → i < m → i < j → valueAt (set w j v) i ≡ f i
-      front i p q = getD-set-other w j i v 0 (λ t. omega arith) ∙ h .front i p (omega arith)
-
-      go : (i : ℕ) → i < m → j ≤ i → Dec (i ≡ j) → valueAt (set w j v) i ≡ g i
-      go i p q (yes t) = rw t (set-here j v o ∙ e)
-      go i p q (no t) = getD-set-other w j i v 0 t ∙ h .rest i p (omega arith)
+  filled-back t o e = filled-set o (λ i s. (λ q. omega arith, λ q. omega arith)) (λ q. absurd (omega arith)) (λ q. e)
 
   -- all numbers are f's
   pub filled-end : m ≤ l → w ≡ values f m
