@@ -9,17 +9,17 @@ use crate::work::no_letters;
 use window::Answer;
 use window::normal_form_between;
 ghost use mathlib.Core.Path.{_≡_};
-ghost use mathlib.Core.Bool.{false, not};
+ghost use mathlib.Core.Bool.{not};
 ghost use Prim.Native.Nat.{_*_, _≤_};
 ghost use lib.ListN.{length};
-ghost use Rattle.coxeter.specs.Checks.{check, wrongLetter};
+ghost use Rattle.coxeter.specs.Checks.{check, WordOf};
 ghost use Rattle.coxeter.specs.Calls.{Yields, writes};
 ghost use Rattle.exchange.specs.Allowed.{over, allows, setRefusal};
 ghost use Rattle.exchange.specs.BetweenCalls.{betweenWindows};
 
 // Whether every letter of a word of steps is allowed.
 fn are_allowed(allowed: u64, word: &[u8]) -> bool
-    requires { ⌜ wrongLetter 64 (now word) ≡ false ⌝ }
+    requires { ⌜ WordOf 64 (now word) ⌝ }
     ensures { λ r. ⌜ r ≡ over (allows allowed) (now (word .entry)) ⌝ }
 {
     let mut i = 0;
@@ -34,7 +34,7 @@ fn are_allowed(allowed: u64, word: &[u8]) -> bool
 
 // Writes a word of steps to the front of `out`, or refuses with 19 where a letter is not allowed, then 14.
 fn write_allowed(allowed: u64, word: &[u8], out: &mut [u8]) -> Answer
-    requires { ⌜ wrongLetter 64 (now word) ≡ false ⌝ }
+    requires { ⌜ WordOf 64 (now word) ⌝ }
     ensures { λ r. ⌜ Yields (writes (check 19 (not (over (allows allowed) (now (word .entry))))) (now (word .entry)) (now (out .entry)))
         r (now (out .exit)) ⌝ }
 {

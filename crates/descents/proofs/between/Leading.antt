@@ -18,14 +18,14 @@ use Rattle.coxeter.specs.declared.Answer.{Answer}
 use Rattle.coxeter.specs.declared.Answer.the-variants as answer
 use Rattle.coxeter.specs.Kinds.{kindOf}
 use Rattle.coxeter.specs.Windows.{product, inverse}
-use Rattle.coxeter.specs.Checks.{check, _then_, rankRefusal, windowRefusal, wrongLetter, Rig, WindowOf}
+use Rattle.coxeter.specs.Checks.{check, _then_, tooLong, wrongLetter, rankRefusal, wordRefusal, windowRefusal, Rig, WordOf, WindowOf}
 use Rattle.coxeter.specs.NormalForm.{normalForm}
 use Rattle.coxeter.specs.Calls.{Yields, written, writes}
-use Rattle.coxeter.proofs.Acceptance.{rank-accepted, windows-accepted}
-use Rattle.coxeter.proofs.Levels.{Accepted, accepted-of-refusal}
+use Rattle.coxeter.proofs.Acceptance.{rank-accepted, letters-accepted, length-accepted, windows-accepted}
+use Rattle.coxeter.proofs.Levels.{Accepted, accepted-of-refusal, refusal-of-accepted}
 use Rattle.coxeter.proofs.Lists.{drop-next}
 use Rattle.coxeter.proofs.LetterLaws.{letter-within-cons}
-use Rattle.coxeter.proofs.NormalForms.{normalForm-letters}
+use Rattle.coxeter.proofs.Theorems.{normalForm-fits}
 use Rattle.coxeter.proofs.Refusals.{then-zero, then-none, then-some, then-assoc}
 use Rattle.coxeter.proofs.Outcomes.{writes-refused, written-front}
 use Rattle.exchange.specs.Allowed.{over, allows, setRefusal}
@@ -52,13 +52,17 @@ module _ (allowed : ℕ → Bool) (u : List ℕ) (i : ℕ) (s : over allowed u �
   unfolding over
   over-end h = sym (s ∙ rw (drop-of-length-le u h))
 
--- the letters of a smaller rank are those of a greater one
-pub letters-le : (n m : ℕ) (u : List ℕ) → n ≤ m → wrongLetter n u ≡ false → wrongLetter m u ≡ false
+-- a word of a smaller rank is one of a greater one
+letters-le : (n m : ℕ) (u : List ℕ) → n ≤ m → wrongLetter n u ≡ false → wrongLetter m u ≡ false
 unfolding wrongLetter
 letters-le n m [] l e = refl
 letters-le n m (s ∷ u) l e =
     let a = letter-within-cons n s u e in
     rw (ne-eqb s 0 (omega (arith, a .0)), le-ltb m s (omega (arith, a .1))) (letters-le n m u l (a .2))
+
+word-le : (n m : ℕ) (u : List ℕ) → n ≤ m → WordOf n u → WordOf m u
+unfolding wordRefusal tooLong
+word-le n m u l h = rw (le-ltb 4096 (length u) (length-accepted n u h), letters-le n m u l (letters-accepted n u h))
 
 -- a word is refused with 19 where t, whether it is over the allowed steps, is not so
 pub not-over : (t u : Bool) → t ≡ u → not t ≡ true → 19 ≡ check 19 (not u)
@@ -158,8 +162,10 @@ module _ (k n set : ℕ) (v w : List ℤ) (z : setRefusal k n set ≡ 0) where
       pub form-length : m ≡ length (take m after)
       form-length = sym (length-take-le m after form-room)
 
-      pub form-letters : wrongLetter 64 (take m after) ≡ false
-      form-letters = rw (stored .1) (letters-le n 64 form (rank-accepted k n rank .1) (normalForm-letters (kindOf k) n _ (middle passed)))
+      pub form-word : WordOf 64 (take m after)
+      form-word =
+          let fits = normalForm-fits k n _ rank (refusal-of-accepted (kindOf k) n _ (middle passed)) in
+          rw (stored .1) (word-le n 64 form (rank-accepted k n rank .1) fits)
 
       pub answered : (out : List ℕ) (x : Answer) (end : List ℕ)
           → Yields (writes (check 19 (not (over (allows set) (take m after)))) (take m after) out) x end → Yields (betweenWindows k n set v w out) x end

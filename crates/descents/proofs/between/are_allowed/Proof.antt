@@ -5,6 +5,7 @@ use Prim.Native.Nat.{_≤_, _-_}
 use native.Mathlib.Omega.{arith}
 use lib.ListN.{length, drop}
 use borrow.Author.Needs.{needs}
+use Rattle.coxeter.proofs.Acceptance.{letters-accepted}
 use Rattle.coxeter.proofs.LetterLaws.{letter-within}
 use Rattle.rules.proofs.ScanRules.{wrongLetter-drop}
 use Rattle.exchange.specs.Allowed.{over, allows}
@@ -31,7 +32,8 @@ is-allowed-requires : tie.Need-is-allowed-requires Inv-loop μ-loop
 is-allowed-requires c κs =
     let at = c .before .before .loop in
     let s = c .before .before .before .before in
-    letter-within 64 (s .args .word .now) (at .i) (c .before .loop-test .taken) (wrongLetter-drop 64 (at .i) (s .args .word .now) (s .pre))
+    let u = s .args .word .now in
+    letter-within 64 u (at .i) (c .before .loop-test .taken) (wrongLetter-drop 64 (at .i) u (letters-accepted 64 u (s .pre)))
 
 returns : tie.Need-returns Inv-loop μ-loop
 returns c =

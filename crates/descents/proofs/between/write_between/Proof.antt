@@ -5,7 +5,7 @@ use mathlib.Core.Path.{sym, ap}
 use lib.ListN.{length}
 use lib.Seq.{take-length}
 use borrow.Author.Needs.{needs}
-use Rattle.descents.proofs.between.Leading.{refused-by-windows, form-room, form-length, form-letters, answered}
+use Rattle.descents.proofs.between.Leading.{refused-by-windows, form-room, form-length, form-word, answered}
 use Rattle.descents.proofs.between.write_between.Statement.{statement}
 use Rattle.descents.proofs.between.write_between.Tie as tie
 
@@ -56,7 +56,7 @@ write-allowed-requires c κs =
     let f = a .before .before .before .before in
     let s = f .before .before .before .before .before .before in
     let told = rw (take-length (s .args .from .now), take-length (s .args .to .now)) at (f .normal-form-between .ensures) in
-    form-letters _ _ _ _ _ (s .pre .0) _ _ _ (s .pre .1) told _ (a .answer .given .1)
+    form-word _ _ _ _ _ (s .pre .0) _ _ _ (s .pre .1) told _ (a .answer .given .1)
 
 same-length-2 : tie.Need-same-length-2
 same-length-2 c = search needs
