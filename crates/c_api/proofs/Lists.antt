@@ -10,6 +10,7 @@ use mathlib.Core.List.{List, [], _∷_, _++_}
 use Prim.Native.Nat.{ℕ, suc, _+_, _≤_, _<_}
 use native.Mathlib.Decide.{ℕ-discrete}
 use native.Mathlib.Omega.{arith}
+use lib.Dec.{eqb}
 use lib.IntN.{ℤ, pos}
 use lib.ListN.{length, drop}
 use lib.Seq.{sets, sets-eq}
@@ -102,6 +103,14 @@ listed-short z l list h = rw (lt-ltb (length list) (length l) h)
 unfoldable pub roomless : ℤ × List ℕ → ℤ
 roomless (z, []) = z
 roomless (z, x ∷ l) = refused 14
+
+pub roomless-refused : {X : Type 0} (numbers : X → ℤ × List ℕ) (good : X) (bad : ℕ → X) (r : ℕ) → roomless (numbers good) ≡ refused 14
+    → roomless (numbers (bad r)) ≡ refused r → roomless (numbers (pick (eqb r 0) good (bad r))) ≡ refused (r then 14)
+roomless-refused numbers good bad r e f = cases (eqb r 0)
+  where
+    cases : (t : Bool) → roomless (numbers (pick t good (bad r))) ≡ refused (pick t 14 r)
+    cases true = e
+    cases false = f
 
 pub beside-roomless : {Outputs : Type 0} {m : ℕ} {x : ℤ × List ℕ} → Numbers m x → (new old : Outputs) (list : List ℕ) → 0 < m → length list < m
     → (x .1 ≡ [] → new ≡ old) → listedBeside x new old list ≡ (roomless x, (old, list))

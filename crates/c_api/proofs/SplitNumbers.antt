@@ -4,16 +4,14 @@
 -- Sections: the number; kinds and ranks; the lengths; lengths without room.
 -- Assumes nothing.
 use mathlib.Core.Path.{_≡_, refl, sym, ap, _∙_}
-use mathlib.Core.Bool.{Bool, true, false}
 use mathlib.Core.List.{List, [], _∷_}
 use Prim.Native.Nat.{ℕ, _+_, _≤_, _<_}
 use native.Mathlib.Omega.{arith}
-use lib.Dec.{eqb}
 use lib.IntN.{ℤ, pos}
 use lib.ListN.{length}
 use lib.Seq.{sets}
 use borrow.Author.Tests.{ne-eqb}
-use Rattle.coxeter.specs.Kinds.{pick, kindOf}
+use Rattle.coxeter.specs.Kinds.{kindOf}
 use Rattle.coxeter.specs.Windows.{window}
 use Rattle.coxeter.specs.Checks.{check, _then_, tooShort, rankRefusal, wordRefusal}
 use Rattle.coxeter.specs.Calls.{written}
@@ -28,7 +26,7 @@ use Rattle.exchange.specs.SplitCalls.{Parted, splitOf, parts, splitting, SplitY
 use Rattle.exchange.proofs.Splits.{splitting-accepted, splitting-lengths, splitting-unchanged}
 use Rattle.c_api.specs.Calls.{refused, splitNumbers, listedBeside, splittingListed}
 use Rattle.c_api.proofs.Bytes.{Refusable}
-use Rattle.c_api.proofs.Lists.{split-numbers, roomless, beside-stored, beside-alone, beside-roomless, room-then, room-last, room-more}
+use Rattle.c_api.proofs.Lists.{split-numbers, roomless, roomless-refused, beside-stored, beside-alone, beside-roomless, room-then, room-last, room-more}
 
 -- ---- the number
 
@@ -93,11 +91,7 @@ splitting-still k n set u first second = cases (splitting k n set u first second
 
 number-without : (r l m : ℕ) → roomless (splitNumbers (splitOf r l m)) ≡ refused (r then 14)
 unfolding splitOf splitNumbers roomless
-number-without r l m = go (eqb r 0)
-  where
-    go : (t : Bool) → roomless (splitNumbers (pick t (Words l m) (Refused r))) ≡ refused (pick t 14 r)
-    go true = refl
-    go false = refl
+number-without r l m = roomless-refused splitNumbers (Words l m) Refused r refl refl
 
 -- the number does not depend on the outputs
 roomless-splitting : (k n set : ℕ) (u first second : List ℕ)
@@ -109,22 +103,12 @@ roomless-splitting k n set u first second =
     let t = tooShort (length (secondWord (allows set) (kindOf k) n (window (kindOf k) n u))) second in
     number-without _ _ _ ∙ ap refused (room-then q (check 14 s then check 14 t) (room-more s (check 14 t) (room-last t)))
 
-splittingListed-without : (k n set : ℕ) (u first second lengths : List ℕ) → length lengths < 2
-    → splittingListed k n set u first second lengths ≡ (refused ((setRefusal k n set then wordRefusal n u) then 14), ((first, second), lengths))
+pub splittingListed-roomless : (k n set : ℕ) (u first second lengths : List ℕ) (r : ℕ) (z : ℤ) → length lengths < 2
+    → r ≡ (setRefusal k n set then wordRefusal n u) → z ≡ refused (r then 14)
+    → (z, ((first, second), lengths)) ≡ splittingListed k n set u first second lengths
 unfolding splittingListed
-splittingListed-without k n set u first second lengths h =
+splittingListed-roomless k n set u first second lengths r z h e f =
     let p = splitting k n set u first second in
-    beside-roomless (split-numbers (p .answer)) (p .first, p .second) (first, second) lengths (omega arith) h (splitting-still k n set u first second)
-    ∙ ap (λ (z : ℤ). (z, ((first, second), lengths))) (roomless-splitting k n set u first second)
-
--- the number that empty outputs give
-pub splittingListed-narrow : (k n set : ℕ) (u : List ℕ) (a : Split) (v w : List ℕ) → SplitYields (splitting k n set u [] []) a v w
-    → roomless (splitNumbers a) ≡ splittingListed k n set u [] [] [] .0
-splittingListed-narrow k n set u a v w y =
-    ap (λ (b : Split). roomless (splitNumbers b)) (y .0) ∙ roomless-splitting k n set u [] []
-    ∙ sym (ap (λ (o : ℤ × ((List ℕ × List ℕ) × List ℕ)). o .0) (splittingListed-without k n set u [] [] [] (omega arith)))
-
-pub splittingListed-roomless : (k n set : ℕ) (u first second lengths : List ℕ) (z : ℤ) (v w : List ℕ) → length lengths < 2
-    → z ≡ splittingListed k n set u [] [] [] .0 → v ≡ first → w ≡ second → (z, ((v, w), lengths)) ≡ splittingListed k n set u first second lengths
-splittingListed-roomless k n set u first second lengths z v w h e f g =
-    rw (e, f, g, splittingListed-without k n set u first second lengths h, splittingListed-without k n set u [] [] [] (omega arith))
+    rw (f, e, ← roomless-splitting k n set u first second)
+    (sym (beside-roomless (split-numbers (p .answer)) (p .first, p .second) (first, second) lengths (omega arith) h
+    (splitting-still k n set u first second)))

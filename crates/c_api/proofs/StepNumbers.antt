@@ -4,12 +4,11 @@
 -- Sections: numbers of steps; kinds and ranks; the final length; a final length without room.
 -- Assumes nothing.
 use mathlib.Core.Path.{_≡_, refl, sym, ap, _∙_}
-use mathlib.Core.Bool.{Bool, true, false}
+use mathlib.Core.Bool.{true, false}
 use mathlib.Core.List.{List, [], _∷_}
 use Prim.Native.Nat.{ℕ, _≤_, _<_}
 use native.Mathlib.Decide.{ℕ-discrete}
 use native.Mathlib.Omega.{arith}
-use lib.Dec.{eqb}
 use lib.IntN.{ℤ, pos}
 use lib.ListN.{length}
 use lib.Seq.{sets}
@@ -19,7 +18,7 @@ use mir.ValLaws.{toZ-pos}
 use borrow.Author.Tests.{eq-eqb, ne-eqb, lt-ltb, le-ltb}
 use Rattle.coxeter.specs.declared.Answer.{Answer}
 use Rattle.coxeter.specs.declared.Answer.the-variants as answer
-use Rattle.coxeter.specs.Kinds.{pick, kindOf}
+use Rattle.coxeter.specs.Kinds.{kindOf}
 use Rattle.coxeter.specs.Checks.{check, _then_, tooShort, rankRefusal, wordRefusal}
 use Rattle.coxeter.specs.Calls.{answerOf, written}
 use Rattle.coxeter.proofs.Refusals.{then-some, then-assoc}
@@ -31,7 +30,7 @@ use Rattle.traces.proofs.Tracing.{steps-few}
 use Rattle.traces.proofs.StepBounds.{counted-steps, ended-steps}
 use Rattle.c_api.specs.Calls.{refused, traceNumbers, listedBeside, rewritingToEndListed}
 use Rattle.c_api.proofs.Bytes.{Refusable}
-use Rattle.c_api.proofs.Lists.{trace-numbers, roomless, beside-stored, beside-alone, beside-roomless, room-then, room-last}
+use Rattle.c_api.proofs.Lists.{trace-numbers, roomless, roomless-refused, beside-stored, beside-alone, beside-roomless, room-then, room-last}
 
 -- ---- numbers of steps
 
@@ -117,11 +116,7 @@ rewritingToEnd-still k n u families places lengths out = cases (rewritingToEnd k
 
 number-without : (r s l : ℕ) → roomless (traceNumbers (toEndOf r s l)) ≡ refused (r then 14)
 unfolding toEndOf traceNumbers roomless
-number-without r s l = go (eqb r 0)
-  where
-    go : (t : Bool) → roomless (traceNumbers (pick t (toEnd.Ended s l) (toEnd.Refused r))) ≡ refused (pick t 14 r)
-    go true = refl
-    go false = refl
+number-without r s l = roomless-refused traceNumbers (toEnd.Ended s l) toEnd.Refused r refl refl
 
 -- checks 5 to 8, 15, then 14
 without : ℕ → ℕ → List ℕ → List ℕ → List ℕ → List ℕ → ℤ

@@ -3,15 +3,13 @@
 -- Sections: the lengths; lengths without room.
 -- Assumes nothing.
 use mathlib.Core.Path.{_≡_, refl, sym, ap, _∙_}
-use mathlib.Core.Bool.{Bool, true, false}
 use mathlib.Core.List.{List, [], _∷_}
 use Prim.Native.Nat.{ℕ, _≤_, _<_}
 use native.Mathlib.Omega.{arith}
-use lib.Dec.{eqb}
 use lib.IntN.{ℤ, pos}
 use lib.ListN.{length}
 use lib.Seq.{sets}
-use Rattle.coxeter.specs.Kinds.{pick, kindOf}
+use Rattle.coxeter.specs.Kinds.{kindOf}
 use Rattle.coxeter.specs.NormalForm.{normalForm}
 use Rattle.coxeter.specs.Checks.{check, _then_, tooShort}
 use Rattle.distribution.specs.declared.Table.{Table}
@@ -22,7 +20,7 @@ use Rattle.distribution.specs.Calls.{Tabled, tableRefusal, tableOf, roomRefusal
 use Rattle.distribution.proofs.Unchanged.{delayTable-unchanged}
 use Rattle.c_api.specs.Calls.{refused, tableNumbers, listedBeside, delayTableListed}
 use Rattle.c_api.proofs.Bytes.{Refusable, delayTable-refusable}
-use Rattle.c_api.proofs.Lists.{table-numbers, roomless, beside-stored, beside-alone, beside-roomless, room-then, room-last, room-more}
+use Rattle.c_api.proofs.Lists.{table-numbers, roomless, roomless-refused, beside-stored, beside-alone, beside-roomless, room-then, room-last, room-more}
 
 pub delayTableListed-refusable : (counts : List ℕ) (entries : List ℤ) (letters lengths : List ℕ)
     → Refusable (λ k n. delayTableListed k n counts entries letters lengths)
@@ -62,11 +60,7 @@ delayTable-still k n counts entries letters = cases (delayTable k n counts entri
 
 number-without : (r i j l : ℕ) → roomless (tableNumbers (tableOf r i j l)) ≡ refused (r then 14)
 unfolding tableOf tableNumbers roomless
-number-without r i j l = go (eqb r 0)
-  where
-    go : (t : Bool) → roomless (tableNumbers (pick t (Written i j l) (Refused r))) ≡ refused (pick t 14 r)
-    go true = refl
-    go false = refl
+number-without r i j l = roomless-refused tableNumbers (Written i j l) Refused r refl refl
 
 -- the number does not depend on the outputs
 roomless-table : (k n : ℕ) (counts : List ℕ) (entries : List ℤ) (letters : List ℕ)
@@ -81,24 +75,11 @@ roomless-table k n counts entries letters =
     ∙ ap refused (room-then (tableRefusal k n) (check 14 r then check 14 s then check 14 t)
     (room-more r (check 14 s then check 14 t) (room-more s (check 14 t) (room-last t))))
 
-delayTableListed-without : (k n : ℕ) (counts : List ℕ) (entries : List ℤ) (letters lengths : List ℕ) → length lengths < 3
-    → delayTableListed k n counts entries letters lengths ≡ (refused (tableRefusal k n then 14), ((counts, entries, letters), lengths))
+pub delayTableListed-roomless : (k n : ℕ) (counts : List ℕ) (entries : List ℤ) (letters lengths : List ℕ) (r : ℕ) (z : ℤ) → length lengths < 3
+    → r ≡ tableRefusal k n → z ≡ refused (r then 14) → (z, ((counts, entries, letters), lengths)) ≡ delayTableListed k n counts entries letters lengths
 unfolding delayTableListed
-delayTableListed-without k n counts entries letters lengths h =
+delayTableListed-roomless k n counts entries letters lengths r z h e f =
     let t = delayTable k n counts entries letters in
-    beside-roomless (table-numbers (t .answer)) (t .counts, t .entries, t .letters) (counts, entries, letters) lengths (omega arith) h
-    (delayTable-still k n counts entries letters)
-    ∙ ap (λ (z : ℤ). (z, ((counts, entries, letters), lengths))) (roomless-table k n counts entries letters)
-
--- the number that empty outputs give
-pub delayTableListed-narrow : (k n : ℕ) (a : Table) (d : List ℕ) (w : List ℤ) (u : List ℕ) → TableYields (delayTable k n [] [] []) a d w u
-    → roomless (tableNumbers a) ≡ delayTableListed k n [] [] [] [] .0
-delayTableListed-narrow k n a d w u y =
-    ap (λ (b : Table). roomless (tableNumbers b)) (y .0) ∙ roomless-table k n [] [] []
-    ∙ sym (ap (λ (o : ℤ × ((List ℕ × List ℤ × List ℕ) × List ℕ)). o .0) (delayTableListed-without k n [] [] [] [] (omega arith)))
-
-pub delayTableListed-roomless : (k n : ℕ) (counts : List ℕ) (entries : List ℤ) (letters lengths : List ℕ) (z : ℤ) (d : List ℕ) (w : List ℤ) (u : List ℕ)
-    → length lengths < 3 → z ≡ delayTableListed k n [] [] [] [] .0 → d ≡ counts → w ≡ entries → u ≡ letters
-    → (z, ((d, w, u), lengths)) ≡ delayTableListed k n counts entries letters lengths
-delayTableListed-roomless k n counts entries letters lengths z d w u h e f g i =
-    rw (e, f, g, i, delayTableListed-without k n counts entries letters lengths h, delayTableListed-without k n [] [] [] [] (omega arith))
+    rw (f, e, ← roomless-table k n counts entries letters)
+    (sym (beside-roomless (table-numbers (t .answer)) (t .counts, t .entries, t .letters) (counts, entries, letters) lengths (omega arith) h
+    (delayTable-still k n counts entries letters)))

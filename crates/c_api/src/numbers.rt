@@ -6,6 +6,7 @@ ghost use Prim.Native.Nat.{ℕ, _+_, _≤_};
 ghost use lib.Dec.{ltb};
 ghost use lib.IntN.{pos};
 ghost use Rattle.coxeter.specs.Kinds.{pick};
+ghost use Rattle.coxeter.specs.Checks.{_then_};
 ghost use Rattle.coxeter.specs.declared.Answer.the-variants.{Length};
 ghost use Rattle.coxeter.specs.declared.Counted.the-variants.{Crossings};
 ghost use Rattle.c_api.specs.Calls.{refused, numberOf, crossingNumbers, listed};
@@ -25,6 +26,16 @@ pub(crate) fn refusal_number(k: u8) -> i64
     ensures { λ r. ⌜ r ≡ refused k ⌝ }
 {
     -(k as i64)
+}
+
+// The number where the lengths of a call have no room, by the refusal of its checks before 14.
+pub(crate) fn unlisted(refusal: u8) -> i64
+    ensures { λ r. ⌜ r ≡ refused (refusal then 14) ⌝ }
+{
+    if refusal != 0 {
+        return refusal_number(refusal);
+    }
+    -14
 }
 
 // A length, of which each is at most that of the longest book.

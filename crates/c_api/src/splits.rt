@@ -2,32 +2,12 @@
 use crate::numbers::byte;
 use crate::numbers::refusal_number;
 use crate::numbers::size;
+use crate::numbers::unlisted;
 use descents::Split;
+use descents::split_refusal;
 use descents::split_word;
 ghost use mathlib.Core.Path.{_≡_};
-ghost use mathlib.Core.List.{[]};
 ghost use Rattle.c_api.specs.Calls.{splittingListed};
-
-// The number where the lengths have no room: nothing can be written, so the split gets empty parts of its outputs.
-fn refused_lengths(
-    kind: u8,
-    rank: u8,
-    allowed: u64,
-    word: &[u8],
-    first: &mut [u8],
-    second: &mut [u8],
-) -> i64
-    ensures { λ r. ⌜ (r ≡ splittingListed kind rank allowed (now (word .entry)) [] [] [] .0)
-        × (now (first .exit) ≡ now (first .entry)) × (now (second .exit) ≡ now (second .entry)) ⌝ }
-{
-    match split_word(kind, rank, allowed, word, &mut first[..0], &mut second[..0]) {
-        Split::Words {
-            first: _,
-            second: _,
-        } => -14,
-        Split::Refused(refusal) => refusal_number(refusal),
-    }
-}
 
 // CO9, IC3: a split with its lengths, of a kind and a rank that are bytes. Every output is checked before any is
 // written.
@@ -44,7 +24,7 @@ fn split(
         ≡ splittingListed kind rank allowed (now (word .entry)) (now (first .entry)) (now (second .entry)) (now (lengths .entry)) ⌝ }
 {
     if lengths.len() < 2 {
-        return refused_lengths(kind, rank, allowed, word, first, second);
+        return unlisted(split_refusal(kind, rank, allowed, word));
     }
     match split_word(kind, rank, allowed, word, first, second) {
         Split::Words {

@@ -2,38 +2,12 @@
 use crate::numbers::byte;
 use crate::numbers::refusal_number;
 use crate::numbers::size;
+use crate::numbers::unlisted;
 use delay::Table;
 use delay::delay_table;
+use delay::table_refusal;
 ghost use mathlib.Core.Path.{_≡_};
-ghost use mathlib.Core.List.{[]};
 ghost use Rattle.c_api.specs.Calls.{delayTableListed};
-
-// The number where the lengths have no room: nothing can be written, so the table gets empty parts of its outputs.
-fn refused_lengths(
-    kind: u8,
-    rank: u8,
-    counts: &mut [u64],
-    window: &mut [i8],
-    form: &mut [u8],
-) -> i64
-    ensures { λ r. ⌜ (r ≡ delayTableListed kind rank [] [] [] [] .0)
-        × (now (counts .exit) ≡ now (counts .entry)) × (now (window .exit) ≡ now (window .entry)) × (now (form .exit) ≡ now (form .entry)) ⌝ }
-{
-    match delay_table(
-        kind,
-        rank,
-        &mut counts[..0],
-        &mut window[..0],
-        &mut form[..0],
-    ) {
-        Table::Written {
-            counts: _,
-            entries: _,
-            letters: _,
-        } => -14,
-        Table::Refused(refusal) => refusal_number(refusal),
-    }
-}
 
 // CO9, IC3: a table with its lengths, of a kind and a rank that are bytes. Every output is checked before any is
 // written.
@@ -49,7 +23,7 @@ fn table(
         ≡ delayTableListed kind rank (now (counts .entry)) (now (window .entry)) (now (form .entry)) (now (lengths .entry)) ⌝ }
 {
     if lengths.len() < 3 {
-        return refused_lengths(kind, rank, counts, window, form);
+        return unlisted(table_refusal(kind, rank));
     }
     match delay_table(kind, rank, counts, window, form) {
         Table::Written {

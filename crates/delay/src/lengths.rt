@@ -17,8 +17,8 @@ fn greatest_tabled(kind: u8) -> u8
     16
 }
 
-// Checks 5, 6 and 20.
-pub(crate) fn table_refusal(kind: u8, rank: u8) -> u8
+// C5, C6, C20, in this order: the first refusal, or 0.
+pub fn table_refusal(kind: u8, rank: u8) -> u8
     ensures { λ r. ⌜ r ≡ tableRefusal kind rank ⌝ }
 {
     let refusal = rank_refusal(kind, rank);

@@ -10,7 +10,7 @@ use counting::write_counts;
 pub use distribution::Table;
 use lengths::greatest_length;
 use lengths::lanes;
-use lengths::table_refusal;
+pub use lengths::table_refusal;
 use longest::write_form;
 use longest::write_longest;
 ghost use Rattle.distribution.specs.Calls.{TableYields, delayTable};

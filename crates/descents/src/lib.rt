@@ -71,7 +71,7 @@ pub fn fallback_places(
 }
 
 // C5, C6, C16, C7, C8, in this order: the first refusal, or 0.
-fn split_refusal(kind: u8, rank: u8, allowed: u64, word: &[u8]) -> u8
+pub fn split_refusal(kind: u8, rank: u8, allowed: u64, word: &[u8]) -> u8
     ensures { λ r. ⌜ r ≡ (setRefusal kind rank allowed then wordRefusal rank (now (word .entry))) ⌝ }
 {
     let refusal = set_refusal(kind, rank, allowed);

@@ -18,7 +18,7 @@ use Rattle.coxeter.specs.declared.Answer.{Answer}
 use Rattle.coxeter.specs.declared.Answer.the-variants as answer
 use Rattle.coxeter.specs.Kinds.{kindOf}
 use Rattle.coxeter.specs.Windows.{product, inverse}
-use Rattle.coxeter.specs.Checks.{check, _then_, tooLong, wrongLetter, rankRefusal, wordRefusal, windowRefusal, Rig, WordOf, WindowOf}
+use Rattle.coxeter.specs.Checks.{check, _then_, tooLong, wrongLetter, rankRefusal, wordRefusal, windowRefusal, Rig, WordOf}
 use Rattle.coxeter.specs.NormalForm.{normalForm}
 use Rattle.coxeter.specs.Calls.{Yields, written, writes}
 use Rattle.coxeter.proofs.Acceptance.{rank-accepted, letters-accepted, length-accepted, windows-accepted}

@@ -15,21 +15,17 @@ small c =
     let w = c .before .before .before .before .before .before .before in
     splitting-small _ _ _ _ _ _ _ _ (sym (w .split-word .ensures .0) ∙ c .before .a .given .1)
 
-refused-lengths-requires : tie.Need-refused-lengths-requires
-refused-lengths-requires c κs = search needs
+split-refusal-requires : tie.Need-split-refusal-requires
+split-refusal-requires c κs = search needs
 
-same-length : tie.Need-same-length
-same-length c = search needs
-
-same-length-2 : tie.Need-same-length-2
-same-length-2 c = search needs
+unlisted-requires : tie.Need-unlisted-requires
+unlisted-requires c κs = search needs
 
 returns : tie.Need-returns
 returns c =
-    let w = c .before .before .before .before in
-    let r = w .refused-lengths in
-    splittingListed-roomless _ _ _ _ _ _ _ _ _ _ (w .before .before .before .if1 .taken)
-    (i64-back _ (r .ok) ∙ r .ensures .0) (r .ensures .1) (r .ensures .2)
+    let refused = c .before in
+    splittingListed-roomless _ _ _ _ _ _ _ _ _ (refused .before .if1 .taken) (refused .split-refusal .ensures)
+    (i64-back _ (c .unlisted .ok) ∙ c .unlisted .ensures)
 
 split-word-requires : tie.Need-split-word-requires
 split-word-requires c κs = search needs
@@ -55,14 +51,14 @@ enum-known-refusal c = search needs
 refusal-number-requires : tie.Need-refusal-number-requires
 refusal-number-requires c κs = search needs
 
+same-length : tie.Need-same-length
+same-length c = search needs
+
+same-length-2 : tie.Need-same-length-2
+same-length-2 c = search needs
+
 same-length-3 : tie.Need-same-length-3
 same-length-3 c = search needs
-
-same-length-4 : tie.Need-same-length-4
-same-length-4 c = search needs
-
-same-length-5 : tie.Need-same-length-5
-same-length-5 c = search needs
 
 returns-2 : tie.Need-returns-2
 returns-2 c =
@@ -71,11 +67,11 @@ returns-2 c =
     splittingListed-stored _ _ _ _ _ _ _ _ _ _ (w .split-word .ensures) _ _ _ (told .a .given .1) (w .before .before .before .if1 .left)
     (i64-back _ (c .size .ok) ∙ c .size .ensures)
 
-same-length-6 : tie.Need-same-length-6
-same-length-6 c = search needs
+same-length-4 : tie.Need-same-length-4
+same-length-4 c = search needs
 
-same-length-7 : tie.Need-same-length-7
-same-length-7 c = search needs
+same-length-5 : tie.Need-same-length-5
+same-length-5 c = search needs
 
 returns-3 : tie.Need-returns-3
 returns-3 c =
@@ -88,9 +84,8 @@ pub split-spec : {M : Type 1} → statement M
 split-spec =
     tie.close
     (tie.spec
-    refused-lengths-requires
-    same-length
-    same-length-2
+    split-refusal-requires
+    unlisted-requires
     returns
     split-word-requires
     enum-known-a
@@ -100,10 +95,10 @@ split-spec =
     size-requires
     enum-known-refusal
     refusal-number-requires
+    same-length
+    same-length-2
     same-length-3
+    returns-2
     same-length-4
     same-length-5
-    returns-2
-    same-length-6
-    same-length-7
     returns-3)

@@ -9,24 +9,17 @@ use borrow.Author.Needs.{needs}
 use Rattle.c_api.proofs.tables.table.Statement.{statement}
 use Rattle.c_api.proofs.tables.table.Tie as tie
 
-refused-lengths-requires : tie.Need-refused-lengths-requires
-refused-lengths-requires c κs = search needs
+table-refusal-requires : tie.Need-table-refusal-requires
+table-refusal-requires c κs = search needs
 
-same-length : tie.Need-same-length
-same-length c = search needs
-
-same-length-2 : tie.Need-same-length-2
-same-length-2 c = search needs
-
-same-length-3 : tie.Need-same-length-3
-same-length-3 c = search needs
+unlisted-requires : tie.Need-unlisted-requires
+unlisted-requires c κs = search needs
 
 returns : tie.Need-returns
 returns c =
-    let w = c .before .before .before .before .before in
-    let r = w .refused-lengths in
-    delayTableListed-roomless _ _ _ _ _ _ _ _ _ _ (w .before .before .before .before .if1 .taken)
-    (i64-back _ (r .ok) ∙ r .ensures .0) (r .ensures .1) (r .ensures .2) (r .ensures .3)
+    let refused = c .before in
+    delayTableListed-roomless _ _ _ _ _ _ _ _ (refused .before .if1 .taken) (refused .table-refusal .ensures)
+    (i64-back _ (c .unlisted .ok) ∙ c .unlisted .ensures)
 
 delay-table-requires : tie.Need-delay-table-requires
 delay-table-requires c κs = search needs
@@ -54,8 +47,24 @@ enum-known-refusal c = search needs
 refusal-number-requires : tie.Need-refusal-number-requires
 refusal-number-requires c κs = search needs
 
+same-length : tie.Need-same-length
+same-length c = search needs
+
+same-length-2 : tie.Need-same-length-2
+same-length-2 c = search needs
+
+same-length-3 : tie.Need-same-length-3
+same-length-3 c = search needs
+
 same-length-4 : tie.Need-same-length-4
 same-length-4 c = search needs
+
+returns-2 : tie.Need-returns-2
+returns-2 c =
+    let told = c .before .before in
+    let w = told .before .before .before .before .before .before .before in
+    delayTableListed-stored _ _ _ _ _ _ _ _ _ _ (w .delay-table .ensures) _ _ _ _ (told .c .given .1) (w .before .before .before .before .if1 .left)
+    (i64-back _ (c .size .ok) ∙ c .size .ensures)
 
 same-length-5 : tie.Need-same-length-5
 same-length-5 c = search needs
@@ -65,22 +74,6 @@ same-length-6 c = search needs
 
 same-length-7 : tie.Need-same-length-7
 same-length-7 c = search needs
-
-returns-2 : tie.Need-returns-2
-returns-2 c =
-    let told = c .before .before in
-    let w = told .before .before .before .before .before .before .before in
-    delayTableListed-stored _ _ _ _ _ _ _ _ _ _ (w .delay-table .ensures) _ _ _ _ (told .c .given .1) (w .before .before .before .before .if1 .left)
-    (i64-back _ (c .size .ok) ∙ c .size .ensures)
-
-same-length-8 : tie.Need-same-length-8
-same-length-8 c = search needs
-
-same-length-9 : tie.Need-same-length-9
-same-length-9 c = search needs
-
-same-length-10 : tie.Need-same-length-10
-same-length-10 c = search needs
 
 returns-3 : tie.Need-returns-3
 returns-3 c =
@@ -93,10 +86,8 @@ pub table-spec : {M : Type 1} → statement M
 table-spec =
     tie.close
     (tie.spec
-    refused-lengths-requires
-    same-length
-    same-length-2
-    same-length-3
+    table-refusal-requires
+    unlisted-requires
     returns
     delay-table-requires
     enum-known-c
@@ -106,12 +97,12 @@ table-spec =
     size-requires
     enum-known-refusal
     refusal-number-requires
+    same-length
+    same-length-2
+    same-length-3
     same-length-4
+    returns-2
     same-length-5
     same-length-6
     same-length-7
-    returns-2
-    same-length-8
-    same-length-9
-    same-length-10
     returns-3)
