@@ -5,14 +5,14 @@
 -- Assumes nothing.
 use mathlib.Core.Path.{_≡_, refl, sym, _∙_}
 use mathlib.Core.Bool.{Bool, true, false, not, _||_, or-true, or-assoc, true≢false}
-use mathlib.Core.List.{List, [], _∷_}
+use mathlib.Core.List.{List, []}
 use Prim.Native.Nat.{ℕ, zero, suc, _+_, _-_, _*_, _≤_, _<_}
 use native.Mathlib.Decide.{ℕ-discrete}
-use native.Mathlib.Nat.{add-zero, add-suc, suc-add, zero-add, le-trans}
+use native.Mathlib.Nat.{add-zero, add-suc, suc-add, zero-add, le-trans, le-of-eq}
 use native.Mathlib.Numerals.{add-one}
 use native.Mathlib.Omega.{arith}
 use lib.Dec.{eqb, ltb}
-use lib.ListN.{length}
+use lib.ListN.{length, drop-of-length-le}
 use borrow.Author.Tests.{eq-eqb, ne-eqb, lt-ltb, le-ltb, eqb-true, ltb-true, ltb-false, not-false}
 use Rattle.coxeter.specs.Kinds.{pick}
 use Rattle.coxeter.specs.Checks.{check, _then_}
@@ -30,8 +30,7 @@ count-read b c e = e
 
 -- a book of no bytes: its count and its trailer
 pub no-bytes : (b : List ℕ) → length b ≡ 0 → b ≡ []
-no-bytes [] h = refl
-no-bytes (x ∷ b) h = absurd (omega arith)
+no-bytes b h = drop-of-length-le b (le-of-eq h)
 
 pub count-bytes : (b : List ℕ) → length b ≡ 0 → count b ≡ 0
 unfolding count twoAt

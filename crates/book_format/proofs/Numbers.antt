@@ -9,12 +9,11 @@ use mathlib.Core.List.{List, [], _∷_, _++_}
 use Prim.Native.Nat.{ℕ, _<_}
 use native.Mathlib.Decide.{ℕ-discrete}
 use native.Mathlib.Omega.{arith}
-use borrow.Author.Tests.{eq-eqb, ne-eqb}
 use Rattle.coxeter.specs.declared.Answer.the-variants.{Length, Refused}
 use Rattle.coxeter.specs.Kinds.{kindOf}
 use Rattle.coxeter.specs.Checks.{check, _then_, wrongKind, tooLong, wrongLetter, wordRefusal}
 use Rattle.coxeter.specs.Calls.{answerOf}
-use Rattle.coxeter.proofs.Refusals.{then-none, then-some}
+use Rattle.coxeter.proofs.Refusals.{then-none, then-some, refused-exactly}
 use Rattle.book_format.specs.declared.Edition.{Edition}
 use Rattle.book_format.specs.Books.{firstOf, wrongRankInBook, bookRankRefusal}
 
@@ -63,16 +62,7 @@ firstOf-then ((x, false) ∷ fs) m t n = firstOf-then fs m t (n .1)
 -- what an answer says of its refusal
 pub answerOf-refused : (s l r : ℕ) → (answerOf s l ≡ Refused r) ↔ ((s ≡ r) × (r ≡ 0 → ⊥))
 unfolding answerOf
-answerOf-refused s l r = (
-  λ e. elim (ℕ-discrete s 0) [
-    | yes z ↦ absurd (never (rw (eq-eqb s 0 z) at e))
-    | no f ↦ let q : Refused s ≡ Refused r = rw (ne-eqb s 0 f) at e in let same : s ≡ r = cc in (same, λ z. f (same ∙ z))
-  ],
-  λ p. rw (p .0, ne-eqb r 0 (p .1)),
-)
-  where
-    never : Length l ≡ Refused r → ⊥
-    never e = let z : _≡_ {A = ℕ} 0 1 = cc in omega arith
+answerOf-refused s l r = refused-exactly Refused (Length l) s r (λ e. cc) (λ e. let z : _≡_ {A = ℕ} 0 1 = cc in omega arith)
 
 -- ---- checks 5 to 8
 

@@ -7,6 +7,7 @@ use mathlib.Core.Bool.{Bool, true, false}
 use mathlib.Core.List.{List}
 use Prim.Native.Nat.{ℕ, _+_, _*_, _≤_, _<_}
 use native.Mathlib.Omega.{arith}
+use lib.Dec.{ltb}
 use lib.ListN.{length, drop, length-append, length-drop}
 use lib.Seq.{sets, length-take-le}
 use borrow.Author.Tests.{eq-eqb, ne-eqb, lt-ltb, le-ltb, ltb-false}
@@ -83,37 +84,17 @@ module _ (ed : Edition) (b : List ℕ) (k n : ℕ) (u : List ℕ) (r : ℕ) (e :
         appendRefusal-retired w = rw (← e, eq-eqb r 0 z, ← d, eq-eqb s 0 y, ← word, eq-eqb t 0 x, ← v, w)
 
         module _ (w : o ≡ false) where
-          pub appendRefusal-large : 65535 < bookSize b + added ed u → appendRefusal ed b k n u ≡ 13
+          -- only the size is left
+          size : appendRefusal ed b k n u ≡ check 13 (ltb 65535 (bookSize b + added ed u))
           unfolding appendRefusal tooLarge
-          appendRefusal-large h =
-              rw (
-                ← e,
-                eq-eqb r 0 z,
-                ← d,
-                eq-eqb s 0 y,
-                ← word,
-                eq-eqb t 0 x,
-                ← v,
-                w,
-                length-appended ed b k n u (accepted-read ed b r e z),
-                lt-ltb 65535 (bookSize b + added ed u) h,
-              )
+          size =
+              rw (← e, eq-eqb r 0 z, ← d, eq-eqb s 0 y, ← word, eq-eqb t 0 x, ← v, w, length-appended ed b k n u (accepted-read ed b r e z))
+
+          pub appendRefusal-large : 65535 < bookSize b + added ed u → appendRefusal ed b k n u ≡ 13
+          appendRefusal-large h = size ∙ rw (lt-ltb 65535 (bookSize b + added ed u) h)
 
           pub appendRefusal-none : bookSize b + added ed u ≤ 65535 → appendRefusal ed b k n u ≡ 0
-          unfolding appendRefusal tooLarge
-          appendRefusal-none h =
-              rw (
-                ← e,
-                eq-eqb r 0 z,
-                ← d,
-                eq-eqb s 0 y,
-                ← word,
-                eq-eqb t 0 x,
-                ← v,
-                w,
-                length-appended ed b k n u (accepted-read ed b r e z),
-                le-ltb 65535 (bookSize b + added ed u) h,
-              )
+          appendRefusal-none h = size ∙ rw (le-ltb 65535 (bookSize b + added ed u) h)
 
 -- where appending is not refused, none of its checks refuses
 append-parts : (ed : Edition) (b : List ℕ) (k n : ℕ) (u : List ℕ) → appendRefusal ed b k n u ≡ 0

@@ -31,7 +31,7 @@ use Rattle.rules.proofs.Fits.{firstFitting-some, firstFitting-none, fits-past, 
 use Rattle.rules.proofs.ScanRules.{fitting-unique}
 use Rattle.rules.proofs.Completeness.{irreducible-iff}
 use Rattle.rules.proofs.Calls as calls
-use Rattle.rules.proofs.Calls.{Stepped, stepped, step-used, usable-replaced, fits-inside, accepted-least, accepted-letters}
+use Rattle.rules.proofs.Calls.{Stepped, stepped, step-used, usable-replaced, told-apart, fits-inside, accepted-least, accepted-letters}
 use Rattle.rules.proofs.Demand3.{wordLeft-accepted}
 use Rattle.c_api.specs.Calls.{refused, rewriteNumbers, listedBeside, rewriting}
 use Rattle.c_api.specs.Demand3.{Lent, Told, Call, wordAfter, wordLeft, Meets, Run, uses, tells, Outcome, machine, NowhereFits}
@@ -102,10 +102,6 @@ told-tells k n v c r i = record { number = r i .0; output = r i .1 .0; rule = r 
 
 call-cased : (k n : ℕ) (v : List ℕ) (c : Call) → AcceptedWord k n v → Meets k n v c → Cased k n v (c .lent) (c .told)
 call-cased k n v c h r = subst⁻¹ (Cased k n v (c .lent)) (told-tells k n v c r) (cased k n v (c .lent) h)
-
--- two different numbers are not equal
-told-apart : {X : Type 0} → _≡_ {A = ℕ} 0 1 → X
-told-apart e = absurd (omega arith)
 
 module _ {k n : ℕ} {v : List ℕ} (l : Lent) (a : AcceptedWord k n v) where
   unique : (y x : Rule) → List·Memᴰ y (rules (kindOf k) n) → List·Memᴰ x (rules (kindOf k) n)

@@ -1,7 +1,7 @@
 -- The first refusal of two, case by case; the greatest number that each group of checks gives; when a check among
--- others gives its number.
+-- others gives its number; when an answer does.
 -- Assumes nothing.
-use mathlib.Core.Path.{_≡_, refl, sym, _∙_}
+use mathlib.Core.Path.{_≡_, refl, sym, ap, _∙_}
 use mathlib.Core.Bool.{Bool, true, false, true≢false}
 use mathlib.Core.List.{List}
 use mathlib.Core.Logic.{_⊎_, inl, inr, ⊎-elim, _↔_}
@@ -11,7 +11,7 @@ use native.Mathlib.Omega.{arith}
 use lib.Dec.{eqb, eqb·suc-zero}
 use lib.IntN.{ℤ}
 use borrow.Author.Tests.{eq-eqb, ne-eqb}
-use Rattle.coxeter.specs.Kinds.{Kind, kindOf, lanes}
+use Rattle.coxeter.specs.Kinds.{Kind, pick, kindOf, lanes}
 use Rattle.coxeter.specs.Checks.{check, _then_, wrongKind, wrongRank, tooLong, wrongLetter}
 use Rattle.coxeter.specs.Checks.{wrongLanes, wrongEntry, oddNegatives, rankRefusal, wordRefusal, windowRefusal}
 
@@ -99,3 +99,20 @@ check-exactly p c t q f g = (
   where
     own : (p ≡ 0) × ((check (suc c) t then q) ≡ suc c) → t ≡ true
     own x = ⊎-elim (check-number c t .0) (λ y. absurd (g (y .1))) (then-exactly (check (suc c) t) q c .0 (x .1))
+
+-- ---- an answer
+
+-- an answer that is good, or names the refusal r if that is not 0
+module _ {X : Type 0} (refused : ℕ → X) (good : X) (r c : ℕ) (same : refused r ≡ refused c → r ≡ c) (apart : good ≡ refused c → ⊥) where
+  pub refused-exactly : (pick (eqb r 0) good (refused r) ≡ refused c) ↔ ((r ≡ c) × (c ≡ 0 → ⊥))
+  refused-exactly = elim (ℕ-discrete r 0) [
+    | yes z ↦ rw (eq-eqb r 0 z) (λ e. absurd (apart e), λ p. absurd (p .1 (sym (p .0) ∙ z)))
+    | no f ↦ rw (ne-eqb r 0 f) (λ e. (same e, λ z. f (same e ∙ z)), λ p. ap refused (p .0))
+  ]
+
+-- a number from 1 on
+pub refused-number : {X : Type 0} (refused : ℕ → X) (good : X) (r c : ℕ) → (refused r ≡ refused (suc c) → r ≡ suc c) → (good ≡ refused (suc c) → ⊥)
+    → (pick (eqb r 0) good (refused r) ≡ refused (suc c)) ↔ (r ≡ suc c)
+refused-number refused good r c same apart =
+    let e = refused-exactly refused good r (suc c) same apart in
+    (λ p. e .0 p .0, λ p. e .1 (p, λ z. omega arith))

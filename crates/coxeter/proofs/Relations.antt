@@ -174,7 +174,10 @@ unfolding wrongLetter
 wrongLetter-append n [] v = refl
 wrongLetter-append n (s ∷ u) v = rw (wrongLetter-append n u v) (sym (or-assoc (eqb s 0 || ltb n s) (wrongLetter n u) (wrongLetter n v)))
 
-wrongLetter-nil : (n : ℕ) → wrongLetter n [] ≡ false
+pub letters-append : (n : ℕ) (u v : List ℕ) → wrongLetter n u ≡ false → wrongLetter n v ≡ false → wrongLetter n (u ++ v) ≡ false
+letters-append n u v e f = rw (wrongLetter-append, e, f)
+
+pub wrongLetter-nil : (n : ℕ) → wrongLetter n [] ≡ false
 unfolding wrongLetter
 wrongLetter-nil n = refl
 

@@ -10,7 +10,7 @@ use lib.IntN.{ℤ}
 use lib.ListN.{length}
 use Rattle.coxeter.specs.Kinds.{kindOf, lanes, least}
 use Rattle.coxeter.specs.Length.{greatestLength}
-use Rattle.coxeter.specs.Checks.{check, tooShort, rankRefusal, Rig}
+use Rattle.coxeter.specs.Checks.{check, _then_, tooShort, rankRefusal, Rig}
 use Rattle.coxeter.specs.NormalForm.{normalForm}
 use Rattle.coxeter.specs.Calls.{written}
 use Rattle.coxeter.proofs.KindLaws.{one-le}
@@ -82,35 +82,22 @@ module _ (k n : ℕ) (counts : List ℕ) (entries : List ℤ) (letters : List �
       entries-short h =
           rw (← e, eq-eqb r 0 z, counts-length, le-ltb (length counts) (l + 1) c, entries-length, lt-ltb (length entries) m h) (refl, refl, refl, refl)
 
+      -- only the room for the letters is left
+      room : m ≤ length entries
+          → (tableRefusal k n
+          then roomRefusal (distribution (kindOf k) n) (longest (kindOf k) n) (normalForm (kindOf k) n (longest (kindOf k) n)) counts entries letters)
+          ≡ check 14 (ltb (length letters) l)
+      unfolding roomRefusal tooShort
+      room s =
+          rw (← e, eq-eqb r 0 z, counts-length, le-ltb (length counts) (l + 1) c, entries-length, le-ltb (length entries) m s, form-length)
+
       pub letters-short : m ≤ length entries → length letters < l → Unchanged 14
-      unfolding delayTable tables tableOf roomRefusal written tooShort
-      letters-short s h =
-          rw (
-            ← e,
-            eq-eqb r 0 z,
-            counts-length,
-            le-ltb (length counts) (l + 1) c,
-            entries-length,
-            le-ltb (length entries) m s,
-            form-length,
-            lt-ltb (length letters) l h,
-          )
-          (refl, refl, refl, refl)
+      unfolding delayTable tables tableOf written
+      letters-short s h = rw (room s, lt-ltb (length letters) l h) (refl, refl, refl, refl)
 
       pub table-written : (x : List ℕ) (y : List ℤ) (v : List ℕ) → m ≤ length entries → l ≤ length letters
           → x ≡ written 0 (distribution (kindOf k) n) counts → y ≡ written 0 (longest (kindOf k) n) entries
           → v ≡ written 0 (normalForm (kindOf k) n (longest (kindOf k) n)) letters
           → TableYields (delayTable k n counts entries letters) (Written (l + 1) m l) x y v
-      unfolding delayTable tables tableOf roomRefusal tooShort
-      table-written x y v s h i j o =
-          rw (
-            ← e,
-            eq-eqb r 0 z,
-            counts-length,
-            le-ltb (length counts) (l + 1) c,
-            entries-length,
-            le-ltb (length entries) m s,
-            form-length,
-            le-ltb (length letters) l h,
-          )
-          (refl, i, j, o)
+      unfolding delayTable tables tableOf
+      table-written x y v s h i j o = rw (room s, le-ltb (length letters) l h, counts-length, entries-length, form-length) (refl, i, j, o)

@@ -23,7 +23,7 @@ use Rattle.coxeter.specs.NormalForm.{normalForm, IsNormalForm}
 use Rattle.coxeter.specs.Calls.{written}
 use Rattle.coxeter.proofs.Lists.{getD-take}
 use Rattle.coxeter.proofs.Refusals.{then-zero, then-none, then-some, then-assoc, check-zero, rankRefusal-le, then-exactly, then-avoids}
-use Rattle.coxeter.proofs.Refusals.{check-avoids, check-number, check-exactly}
+use Rattle.coxeter.proofs.Refusals.{check-avoids, check-number, check-exactly, refused-number}
 use Rattle.coxeter.proofs.Levels.{accepted-of-refusal}
 use Rattle.coxeter.proofs.Order.{shortlex-cases, shortlex-total, shortlex-irrefl}
 use Rattle.coxeter.proofs.Theorems.{length-normalForm}
@@ -177,10 +177,7 @@ module _ (k n : ℕ) (counts : List ℕ) (entries : List ℤ) (letters : List �
 
 tableOf-refused : (r c e l m : ℕ) → (tableOf r c e l ≡ Refused (suc m)) ↔ (r ≡ suc m)
 unfolding tableOf
-tableOf-refused r c e l m = elim (ℕ-discrete r 0) [
-  | yes z ↦ rw (eq-eqb r 0 z) (λ q. let o : _≡_ {A = ℕ} 0 1 = cc in absurd (omega arith), λ q. absurd (omega arith))
-  | no f ↦ rw (ne-eqb r 0 f) (λ q. cc, λ q. ap Refused q)
-]
+tableOf-refused r c e l m = refused-number Refused (Written c e l) r m (λ q. cc) (λ q. let o : _≡_ {A = ℕ} 0 1 = cc in omega arith)
 
 tableOf-written : (r a b m c e l : ℕ) → (tableOf r a b m ≡ Written c e l) ↔ ((r ≡ 0) × (a ≡ c) × (b ≡ e) × (m ≡ l))
 unfolding tableOf

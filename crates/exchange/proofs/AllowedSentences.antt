@@ -25,7 +25,7 @@ use Rattle.coxeter.specs.Checks.{check, _then_, tooShort, wrongLetter, rankRefu
 use Rattle.coxeter.specs.NormalForm.{wordNormalForm, IsNormalForm}
 use Rattle.coxeter.specs.Calls.{Outcome, Yields, answerOf, writes}
 use Rattle.coxeter.proofs.Refusals.{then-zero, then-none, then-some, then-assoc, check-zero, rankRefusal-le, wordRefusal-le}
-use Rattle.coxeter.proofs.Refusals.{windowRefusal-le, then-exactly, then-avoids, check-avoids, check-number, check-exactly}
+use Rattle.coxeter.proofs.Refusals.{windowRefusal-le, then-exactly, then-avoids, check-avoids, check-number, check-exactly, refused-number}
 use Rattle.coxeter.proofs.Acceptance.{rank-within}
 use Rattle.coxeter.proofs.Order.{shortlex-cases}
 use Rattle.coxeter.proofs.Theorems.{window-passes}
@@ -151,10 +151,7 @@ first-empty k n u first second a b x y h =
 
 splitOf-refused : (r a b c : ℕ) → (splitOf r a b ≡ Refused (suc c)) ↔ (r ≡ suc c)
 unfolding splitOf
-splitOf-refused r a b c = elim (ℕ-discrete r 0) [
-  | yes z ↦ rw (eq-eqb r 0 z) (λ e. let o : _≡_ {A = ℕ} 0 1 = cc in absurd (omega arith), λ e. absurd (omega arith))
-  | no f ↦ rw (ne-eqb r 0 f) (λ e. cc, λ e. ap Refused e)
-]
+splitOf-refused r a b c = refused-number Refused (Words a b) r c (λ e. cc) (λ e. let o : _≡_ {A = ℕ} 0 1 = cc in omega arith)
 
 splitOf-words : (r a b p q : ℕ) → (splitOf r a b ≡ Words p q) ↔ ((r ≡ 0) × (a ≡ p) × (b ≡ q))
 unfolding splitOf
@@ -297,10 +294,7 @@ module _ (k n set : ℕ) (v w : List ℤ) (out : List ℕ) (l : ℕ) (after : Li
 
 answerOf-refused : (r l c : ℕ) → (answerOf r l ≡ answer.Refused (suc c)) ↔ (r ≡ suc c)
 unfolding answerOf
-answerOf-refused r l c = elim (ℕ-discrete r 0) [
-  | yes z ↦ rw (eq-eqb r 0 z) (λ e. let o : _≡_ {A = ℕ} 0 1 = cc in absurd (omega arith), λ e. absurd (omega arith))
-  | no f ↦ rw (ne-eqb r 0 f) (λ e. cc, λ e. ap answer.Refused e)
-]
+answerOf-refused r l c = refused-number answer.Refused (answer.Length l) r c (λ e. cc) (λ e. let o : _≡_ {A = ℕ} 0 1 = cc in omega arith)
 
 module _ (k n set : ℕ) (v w : List ℤ) (out : List ℕ) (a : Answer) (after : List ℕ) (h : Yields (betweenWindows k n set v w out) a after) where
   abbrev last-check : ℕ

@@ -38,7 +38,7 @@ use Rattle.exchange.proofs.BetweenChecks.{last, all-passed, all-passed-
 -- ---- the word that is written
 
 -- kind and rank of a set that passes
-rank-of-set : (k n set : ℕ) → setRefusal k n set ≡ 0 → Rig k n
+pub rank-of-set : (k n set : ℕ) → setRefusal k n set ≡ 0 → Rig k n
 unfolding setRefusal
 rank-of-set k n set e = then-zero (rankRefusal k n) _ e .0
 

@@ -18,7 +18,7 @@ use Rattle.coxeter.specs.Checks.{wrongLetter}
 use Rattle.coxeter.specs.NormalForm.{normalForm, IsNormalForm}
 use Rattle.coxeter.proofs.Basics.{length-window, windowFrom-append}
 use Rattle.coxeter.proofs.LetterLaws.{letter-within-cons}
-use Rattle.coxeter.proofs.Relations.{wrongLetter-append}
+use Rattle.coxeter.proofs.Relations.{letters-append}
 use Rattle.coxeter.proofs.Products.{windowFrom-product, window-append}
 use Rattle.coxeter.proofs.Inverses.{windowFrom-reverse}
 use Rattle.exchange.specs.OneLetter.{Shortest}
@@ -74,9 +74,6 @@ reversed-front k n u v x y q =
     back : windowFrom k n start (reverse x ++ x) ≡ start
     back =
         ap (λ (l : List ℕ). windowFrom k n start (reverse x ++ l)) (sym (reverse-reverse x)) ∙ windowFrom-reverse k n start (reverse x)
-
-pub letters-append : (n : ℕ) (u v : List ℕ) → wrongLetter n u ≡ false → wrongLetter n v ≡ false → wrongLetter n (u ++ v) ≡ false
-letters-append n u v e f = rw (wrongLetter-append, e, f)
 
 -- a first word over allowed steps and a second that is shortest and that no allowed step begins
 pub record Halves (allowed : ℕ → Bool) (k : Kind) (n : ℕ) (u v : List ℕ) : Type 0 where

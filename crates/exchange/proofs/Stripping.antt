@@ -20,7 +20,7 @@ use Rattle.coxeter.specs.Checks.{wrongLetter}
 use Rattle.coxeter.specs.NormalForm.{normalForm}
 use Rattle.coxeter.proofs.Levels.{Accepted, act-accepted, window-accepted, windowFrom-accepted}
 use Rattle.coxeter.proofs.LetterLaws.{letter-within-cons}
-use Rattle.coxeter.proofs.Relations.{wrongLetter-cons}
+use Rattle.coxeter.proofs.Relations.{letters-append, wrongLetter-cons}
 use Rattle.coxeter.proofs.Steps.{act-involution}
 use Rattle.coxeter.proofs.Products.{product-assoc, product-straight, straight-product, windowFrom-product, window-append}
 use Rattle.coxeter.proofs.Inverses.{inverse-accepted, accepted-between, product-inverse, inverse-inverse, window-reverse}
@@ -34,7 +34,7 @@ use Rattle.exchange.proofs.Shortest.{letters-reverse, windowLength-le, 
 use Rattle.exchange.proofs.Exchange.{window-snoc}
 use Rattle.exchange.proofs.Descents.{descent-of-shorter, not-descent, length-of-descent}
 use Rattle.exchange.proofs.Allowed.{over-cons, over-normalForm}
-use Rattle.exchange.proofs.Splitting.{letters-append, split-unique, none-allowed, all-allowed}
+use Rattle.exchange.proofs.Splitting.{split-unique, none-allowed, all-allowed}
 
 module _ (allowed : ℕ → Bool) (k : Kind) (n : ℕ) where
   -- ---- the lowest step

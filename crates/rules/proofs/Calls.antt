@@ -180,7 +180,7 @@ used-length k n u p before after f i j l h w =
 -- ---- the four answers
 
 -- two different answers are not equal
-told-apart : {X : Type 0} → _≡_ {A = ℕ} 0 1 → X
+pub told-apart : {X : Type 0} → _≡_ {A = ℕ} 0 1 → X
 told-apart e = absurd (omega arith)
 
 module _ {k n : ℕ} {v : List ℕ} (l : Lent) (a : AcceptedWord k n v) where

@@ -2,12 +2,12 @@
 -- from i on, and of such a word the block of level i is peeled off at the end. By the laws on words of blocks
 -- (BlockWords) and on words that no rule rewrites (Irreducible).
 --
--- Sections: letters; words of blocks; one level; block 1.
+-- Sections: words of blocks; one level; block 1.
 -- Assumes nothing.
 use mathlib.Core.Path.{_≡_, refl, sym, ap, subst, _∙_}
 use mathlib.Core.Bool.{false}
 use mathlib.Core.Logic.{⊎-elim}
-use mathlib.Core.List.{List, [], _∷_, _++_, List·Memᴰ, List·Memᴰ·head, List·Memᴰ·tail, List·Memᴰ·not-nil, List·Memᴰ·cases-cons, List·Memᴰ·append-cases}
+use mathlib.Core.List.{List, [], _∷_, _++_, List·Memᴰ, List·Memᴰ·head, List·Memᴰ·not-nil, List·Memᴰ·append-cases}
 use Prim.Native.Nat.{ℕ, zero, suc, _≤_}
 use native.Mathlib.Decide.{decLe}
 use native.Mathlib.Omega.{arith}
@@ -19,25 +19,12 @@ use Rattle.coxeter.specs.NormalForm.{block, blocks, Indices, none, level, level
 use Rattle.coxeter.proofs.LetterLaws.{letter-within-cons}
 use Rattle.coxeter.proofs.NormalForms.{normalForm-blocks}
 use Rattle.rules.proofs.Rewriting.{Rewrites}
+use Rattle.rules.proofs.Ending.{letters-of-accepted}
 use Rattle.rules.proofs.NextLetter.{one-le-levels}
-use Rattle.rules.proofs.Irreducible.{Letters, blocks-from-or-rewrites}
+use Rattle.rules.proofs.Irreducible.{letters-from, blocks-from-or-rewrites}
 use Rattle.rules.proofs.Completeness.{normalForm-irreducible, normalForm-least-window, normalForm-only}
 use Rattle.rules.proofs.Theorems.{normalForm-least}
 use Rattle.rules.proofs.BlockWords.{lowered, block-at-least}
-
--- ---- letters
-
-letter-le : (n : ℕ) (u : List ℕ) → wrongLetter n u ≡ false → (a : ℕ) → List·Memᴰ a u → a ≤ n
-letter-le n [] e a m = absurd (List·Memᴰ·not-nil m)
-letter-le n (s ∷ u) e a m =
-    let h = letter-within-cons n s u e in
-    ⊎-elim (λ q. omega (arith, h .1)) (λ t. letter-le n u (h .2) a t) (List·Memᴰ·cases-cons m)
-
-letters-from : (i n : ℕ) (u : List ℕ) → wrongLetter n u ≡ false → ((a : ℕ) → List·Memᴰ a u → i ≤ a) → Letters i n u
-letters-from i n [] e f = tt
-letters-from i n (s ∷ u) e f =
-    let h = letter-within-cons n s u e in
-    (f s (List·Memᴰ·head refl), h .1, letters-from i n u (h .2) (λ a m. f a (List·Memᴰ·tail m)))
 
 -- ---- words of blocks
 
@@ -58,7 +45,7 @@ blocks-normal k n (suc i) js h o g x =
     subst (λ (u : List ℕ). IsNormalForm k n (window k n u) u) (r .2)
     (subst (λ (u : List ℕ). IsNormalForm k n (window k n (blocks k n 1 (r .0))) u) (normalForm-blocks k n (r .0) (r .1))
     (normalForm-least-window k n (blocks k n 1 (r .0)) h)) in
-    (f, λ a m. (blocks-at-least k n h o x a m, letter-le n (blocks k n (suc i) js) (f .steps) a m))
+    (f, λ a m. (blocks-at-least k n h o x a m, letters-of-accepted n (blocks k n (suc i) js) (f .steps) a m .1))
 
 -- and each normal form over the steps i to n is one
 pub normal-blocks : (k : Kind) (n i : ℕ) (w : List ℤ) (u : List ℕ) → least k ≤ n → 1 ≤ i → i ≤ levels k n → IsNormalForm k n w u
@@ -107,12 +94,6 @@ level-put-back k n i j v h o g b c m f =
 
 -- ---- block 1
 
-letter-ge : (n : ℕ) (u : List ℕ) → wrongLetter n u ≡ false → (a : ℕ) → List·Memᴰ a u → 1 ≤ a
-letter-ge n [] e a m = absurd (List·Memᴰ·not-nil m)
-letter-ge n (s ∷ u) e a m =
-    let h = letter-within-cons n s u e in
-    ⊎-elim (λ q. omega (arith, h .0)) (λ t. letter-ge n u (h .2) a t) (List·Memᴰ·cases-cons m)
-
 -- the normal form of an accepted window is a normal form over the steps from 2 on, and then a block of level 1
 pub block-1-peeled : (k : Kind) (n : ℕ) (w : List ℤ) → least k ≤ n → WindowOf k n w
     → (j : ℕ) × (v js : List ℕ) × (normalForm k n w ≡ v ++ block k n 1 j) × (j ≤ lastIndex k n 1)
@@ -120,7 +101,7 @@ pub block-1-peeled : (k : Kind) (n : ℕ) (w : List ℤ) → least k ≤ n → W
     × (v ≡ blocks k n 2 js) × Indices k n 2 js
 block-1-peeled k n w h p =
     let m = normalForm-least k n w h p in
-    let s = level-peeled k n 1 w (normalForm k n w) h (omega arith) (one-le-levels k n h) m (letter-ge n (normalForm k n w) (m .steps)) in
+    let s = level-peeled k n 1 w (normalForm k n w) h (omega arith) (one-le-levels k n h) m (λ a i. letters-of-accepted n (normalForm k n w) (m .steps) a i .0) in
     (s .0, s .1, s .2, s .3, s .5, s .6, normalForm-only k n (window k n (s .1)) (s .1) h (s .6), s .7, s .8, s .9)
 
 -- the rank 1 of A is the only one with one level

@@ -4,7 +4,7 @@
 use mathlib.Core.Path.{_≡_, refl, sym, ap, ap₂, _∙_}
 use mathlib.Core.Bool.{false}
 use mathlib.Core.Logic.{_⊎_, inl, inr}
-use mathlib.Core.List.{List, [], _∷_, _++_, append-assoc, append-nil}
+use mathlib.Core.List.{List, [], _∷_, _++_, append-assoc, append-nil, List·Memᴰ, List·Memᴰ·head, List·Memᴰ·tail}
 use Prim.Native.Nat.{ℕ, zero, suc, _+_, _-_, _≤_, _<_}
 use native.Mathlib.Omega.{arith}
 use Rattle.coxeter.specs.Kinds.{Kind, least}
@@ -12,6 +12,7 @@ use Rattle.coxeter.specs.Checks.{wrongLetter}
 use Rattle.coxeter.specs.NormalForm.{block, blocks, Indices, none, level, levels, lastIndex}
 use Rattle.coxeter.proofs.Runs.{span-nil, Corner, block-up, corner-le}
 use Rattle.rules.proofs.Rewriting.{Rewrites}
+use Rattle.rules.proofs.Ending.{letters-of-accepted}
 use Rattle.rules.proofs.NextLetter.{corner-levels, one-le-levels, le-lastIndex}
 use Rattle.rules.proofs.Extending.{Reducible, reducible-within, extended-letter}
 use Rattle.coxeter.proofs.Order.{less, same, more, compared}
@@ -25,9 +26,14 @@ abbrev pub Letters : ℕ → ℕ → List ℕ → Type 0
 Letters i n [] = Unit {0}
 Letters i n (x ∷ u) = (i ≤ x) × (x ≤ n) × Letters i n u
 
+pub letters-from : (i n : ℕ) (u : List ℕ) → wrongLetter n u ≡ false → ((a : ℕ) → List·Memᴰ a u → i ≤ a) → Letters i n u
+letters-from i n [] e f = tt
+letters-from i n (s ∷ u) e f =
+    let h = letter-within-cons n s u e in
+    (f s (List·Memᴰ·head refl), h .1, letters-from i n u (h .2) (λ a m. f a (List·Memᴰ·tail m)))
+
 letters-of-steps : (n : ℕ) (u : List ℕ) → wrongLetter n u ≡ false → Letters 1 n u
-letters-of-steps n [] h = tt
-letters-of-steps n (x ∷ u) h = let a = letter-within-cons n x u h in (a .0, a .1, letters-of-steps n u (a .2))
+letters-of-steps n u e = letters-from 1 n u e (λ a m. letters-of-accepted n u e a m .0)
 
 -- u is a word over the letters above i, or such a word, then i, then the rest
 data Cut (i n : ℕ) (u : List ℕ) : Type 0 where

@@ -20,7 +20,7 @@ use Rattle.coxeter.specs.Length.{windowLength}
 use Rattle.coxeter.specs.Checks.{wrongLetter}
 use Rattle.coxeter.proofs.LetterLaws.{letter-within-cons}
 use Rattle.coxeter.proofs.Levels.{window-accepted}
-use Rattle.coxeter.proofs.Relations.{wrongLetter-cons}
+use Rattle.coxeter.proofs.Relations.{letters-append, wrongLetter-cons}
 use Rattle.coxeter.proofs.Order.{same}
 use Rattle.coxeter.proofs.Descents.{crossed, length-of-crossed, length-of-uncrossed}
 use Rattle.exchange.specs.OneLetter.{dropAt, Removable, added}
@@ -28,7 +28,7 @@ use Rattle.exchange.proofs.Parts.{length-dropAt, part-of-dropAt, part-letters}
 use Rattle.exchange.proofs.Shortest.{letters-snoc, windowLength-le, length-of-shortest}
 use Rattle.exchange.proofs.Exchange.{window-snoc, exchange, exchange-front}
 use Rattle.exchange.proofs.Deletion.{dropAt-append, dropAt-seam}
-use Rattle.traces.proofs.LeastWords.{cancel-back, cancel-front, across, undo, letters-left, letters-append, letters-right, Normal}
+use Rattle.traces.proofs.LeastWords.{cancel-back, cancel-front, across, undo, letters-left, letters-right, Normal}
 use Rattle.traces.proofs.LeastWords.{normal-shortest, normal-back, not-earlier, Earlier, normal-if}
 
 -- ---- where a letter stands

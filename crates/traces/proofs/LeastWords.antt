@@ -71,9 +71,6 @@ module _ (k : Kind) (n : ℕ) where
 pub letters-left : (n : ℕ) (u v : List ℕ) → wrongLetter n (u ++ v) ≡ false → wrongLetter n u ≡ false
 letters-left n u v e = or-false-left (wrongLetter n u) (wrongLetter n v) (sym (wrongLetter-append n u v) ∙ e)
 
-pub letters-append : (n : ℕ) (u v : List ℕ) → wrongLetter n u ≡ false → wrongLetter n v ≡ false → wrongLetter n (u ++ v) ≡ false
-letters-append n u v e f = rw (wrongLetter-append, e, f)
-
 pub letters-right : (n : ℕ) (u v : List ℕ) → wrongLetter n (u ++ v) ≡ false → wrongLetter n v ≡ false
 letters-right n u v e = or-false-right (wrongLetter n u) (wrongLetter n v) (sym (wrongLetter-append n u v) ∙ e)
 

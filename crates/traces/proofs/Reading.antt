@@ -14,7 +14,7 @@ use Prim.Native.Nat.{ℕ, zero, suc, _+_, _-_, _*_, _/_, _≤_, _<_}
 use native.Mathlib.Nat.{zero-add, mul-zero, suc-mul, mul-suc, mul-le-mul-left}
 use native.Mathlib.Decide.{ℕ-discrete}
 use native.Mathlib.Omega.{arith}
-use lib.ListN.{length, getD, take, drop, length-append}
+use lib.ListN.{length, getD, take, drop, drop-of-length-le, length-append}
 use lib.Seq.{append-snoc, take-at}
 use Rattle.coxeter.specs.Kinds.{Kind, least}
 use Rattle.coxeter.specs.Windows.{window}
@@ -44,9 +44,8 @@ snoc-same (x ∷ u) (y ∷ v) a b e =
     let z : x ≡ y = ap (λ (w : List ℕ). getD w 0 0) e in
     (cc, r .1)
 
-length-nil : (u : List ℕ) → length u ≡ 0 → u ≡ []
-length-nil [] e = refl
-length-nil (x ∷ u) e = let z : suc (length u) ≡ 0 = e in absurd (omega arith)
+length-nil : (u : List ℕ) → length u ≤ 0 → u ≡ []
+length-nil u = drop-of-length-le u
 
 pub nil-irreducible : (k : Kind) (n : ℕ) → least k ≤ n → Irreducible k n []
 nil-irreducible k n h r m p = fits-past r [] p (left-nonempty k n h r m) (omega arith)

@@ -20,7 +20,7 @@ use Rattle.coxeter.specs.Checks.{check, _then_, tooShort, rankRefusal, wordRefu
 use Rattle.coxeter.specs.NormalForm.{wordNormalForm, IsNormalForm}
 use Rattle.coxeter.specs.Calls.{answerOf}
 use Rattle.coxeter.proofs.Refusals.{then-zero, then-none, then-assoc, check-zero, rankRefusal-le, wordRefusal-le, then-exactly, then-avoids}
-use Rattle.coxeter.proofs.Refusals.{check-avoids, check-number, check-exactly}
+use Rattle.coxeter.proofs.Refusals.{check-avoids, check-number, check-exactly, refused-number}
 use Rattle.coxeter.proofs.Basics.{or-false-left, or-false-right}
 use Rattle.coxeter.proofs.Lists.{getD-take}
 use Rattle.coxeter.proofs.Theorems.{window-passes}
@@ -192,10 +192,7 @@ module _ (k n : ℕ) (u families places lengths out : List ℕ) (s l : ℕ) (fs 
 
 toEndOf-refused : (r s l c : ℕ) → (toEndOf r s l ≡ Refused (suc c)) ↔ (r ≡ suc c)
 unfolding toEndOf
-toEndOf-refused r s l c = elim (ℕ-discrete r 0) [
-  | yes z ↦ rw (eq-eqb r 0 z) (λ e. let o : _≡_ {A = ℕ} 0 1 = cc in absurd (omega arith), λ e. absurd (omega arith))
-  | no f ↦ rw (ne-eqb r 0 f) (λ e. cc, λ e. ap Refused e)
-]
+toEndOf-refused r s l c = refused-number Refused (Ended s l) r c (λ e. cc) (λ e. let o : _≡_ {A = ℕ} 0 1 = cc in omega arith)
 
 toEndOf-ended : (r a b s l : ℕ) → (toEndOf r a b ≡ Ended s l) ↔ ((r ≡ 0) × (a ≡ s) × (b ≡ l))
 unfolding toEndOf

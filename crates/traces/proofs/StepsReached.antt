@@ -18,22 +18,18 @@ use Rattle.coxeter.specs.Kinds.{Kind, least}
 use Rattle.coxeter.specs.Checks.{wrongLetter}
 use Rattle.coxeter.specs.NormalForm.{levels}
 use Rattle.coxeter.proofs.LetterLaws.{letter-within-cons}
+use Rattle.coxeter.proofs.Relations.{letters-append, wrongLetter-nil, wrongLetter-cons}
 use Rattle.rules.specs.Rules.{exchanged, rewritten}
 use Rattle.rules.proofs.Fits.{rewritten-split}
-use Rattle.exchange.proofs.Shortest.{letters-snoc}
 use Rattle.traces.specs.Traces.{Use, lowestUse, Trace, trace}
 use Rattle.traces.proofs.Traces.{after, none-of-irreducible, trace-none}
 use Rattle.traces.proofs.TwoLetters.{exchanging}
-use Rattle.traces.proofs.LeastWords.{letters-left, letters-right, letters-append, Normal}
+use Rattle.traces.proofs.LeastWords.{letters-left, letters-right, Normal}
 use Rattle.traces.proofs.Reading.{nil-irreducible, Reading, reading-next, reading-ends, reading-lower, reading-moved, pairs-suc, steps, steps-step}
 use Rattle.traces.proofs.ReadingSteps.{exchange-use}
 
-nil-letters : (n : ℕ) → wrongLetter n [] ≡ false
-unfolding wrongLetter
-nil-letters n = refl
-
 letters-cons : (n x : ℕ) (b : List ℕ) → 1 ≤ x → x ≤ n → wrongLetter n b ≡ false → wrongLetter n (x ∷ b) ≡ false
-letters-cons n x b o l e = letters-append n (x ∷ []) b (letters-snoc n [] x (nil-letters n) o l) e
+letters-cons n x b o l e = wrongLetter-cons n x b o l ∙ e
 
 exchanging-far : (n c l x : ℕ) → l + 1 < x → x < n → exchanging n c l x ≡ true
 unfolding exchanging
@@ -118,7 +114,7 @@ rising-length (suc r) c = ap suc (rising-length r (c + 2))
 
 rising-letters : (n r c : ℕ) → c + 2 * r < n → wrongLetter n (rising c r) ≡ false
 unfolding rising
-rising-letters n zero c g = nil-letters n
+rising-letters n zero c g = wrongLetter-nil n
 rising-letters n (suc r) c g = letters-cons n (c + 2) (rising (c + 2) r) (omega arith) (omega arith) (rising-letters n r (c + 2) (omega arith))
 
 module _ (k : Kind) (n : ℕ) (h : least k ≤ n) where
@@ -133,7 +129,7 @@ module _ (k : Kind) (n : ℕ) (h : least k ≤ n) where
       let e : w ++ (x ∷ rest) ≡ (w ++ (x ∷ [])) ++ rest = sym (append-snoc w x rest) in
       let a : wrongLetter n ((w ++ (x ∷ [])) ++ rest) ≡ false =
       ap (wrongLetter n) (sym e) ∙ letters-append n w (x ∷ rest) (m .letters) (rising-letters n (suc r) c g) in
-      let v = passes k n h c (length w) w [] rest (omega arith) refl l (nil-letters x) (reading-next k n w x m (omega arith) (omega arith)) a in
+      let v = passes k n h c (length w) w [] rest (omega arith) refl l (wrongLetter-nil x) (reading-next k n w x m (omega arith) (omega arith)) a in
       let s : length (v .word) ≡ suc (length w) = v .size ∙ length-append w (x ∷ []) ∙ omega arith in
       let t : steps k n h (v .word ++ rest) ≡ r * suc (length w) + r * (r - 1) / 2 =
       steps-rising r x (v .word) (omega arith) (v .normal) (v .letters) ∙ rw s in
@@ -146,6 +142,6 @@ steps-reached k n m h g = (
   rising 0 m,
   rising-length m 0,
   rising-letters n m 0 (omega arith),
-  steps-rising k n h m 0 [] (omega arith) (record { letters = nil-letters n; irreducible = nil-irreducible k n h }) (nil-letters 0)
+  steps-rising k n h m 0 [] (omega arith) (record { letters = wrongLetter-nil n; irreducible = nil-irreducible k n h }) (wrongLetter-nil 0)
       ∙ omega (arith, mul-zero m),
 )

@@ -18,10 +18,11 @@ use lib.Seq.{sets}
 use Rattle.coxeter.specs.Kinds.{Kind, kindOf, least}
 use Rattle.coxeter.specs.Checks.{wrongLetter}
 use Rattle.coxeter.proofs.Acceptance.{rank-within, letters-accepted, length-accepted}
+use Rattle.coxeter.proofs.Relations.{letters-append}
 use Rattle.rules.specs.Runs.{AcceptedWord}
 use Rattle.traces.specs.Traces.{Use, lowestUse, Line, Trace, trace, familiesOf, placesOf, lengthsOf}
 use Rattle.traces.proofs.Traces.{after, lineOf, lowest-is, none-of-irreducible, trace-none, trace-some}
-use Rattle.traces.proofs.LeastWords.{letters-append, Normal}
+use Rattle.traces.proofs.LeastWords.{Normal}
 use Rattle.traces.proofs.Reading.{Reading, reading-lowest, after-rest, steps-at-most}
 
 -- ---- what is left

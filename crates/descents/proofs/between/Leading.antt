@@ -26,12 +26,13 @@ use Rattle.coxeter.proofs.Levels.{Accepted, accepted-of-refusal, refusal-of-acc
 use Rattle.coxeter.proofs.Lists.{drop-next}
 use Rattle.coxeter.proofs.LetterLaws.{letter-within-cons}
 use Rattle.coxeter.proofs.Theorems.{normalForm-fits}
-use Rattle.coxeter.proofs.Refusals.{then-zero, then-none, then-some, then-assoc}
+use Rattle.coxeter.proofs.Refusals.{then-none, then-some, then-assoc}
 use Rattle.coxeter.proofs.Outcomes.{writes-refused, written-front}
 use Rattle.exchange.specs.Allowed.{over, allows, setRefusal}
 use Rattle.exchange.specs.Between.{between, reachable}
 use Rattle.exchange.specs.BetweenCalls.{unreachable, betweenRefusal, betweenWindows}
 use Rattle.exchange.proofs.Between.{between-accepted}
+use Rattle.exchange.proofs.BetweenCalls.{rank-of-set}
 use Rattle.descents.proofs.Answers.{length-is-no-refusal, told-length, told-refused}
 use Rattle.descents.proofs.work.Windows.{form-le-square}
 
@@ -95,14 +96,10 @@ pub refused-by-set : (k n set : ℕ) (v w : List ℤ) (out : List ℕ) (p : ℕ)
 unfolding betweenWindows betweenRefusal
 refused-by-set k n set v w out p e f = writes-refused _ _ p _ out refl (e ∙ sym (then-some _ _ (λ z. f (e ∙ z)))) f
 
-pub set-accepted : (k n set : ℕ) → setRefusal k n set ≡ 0 → Rig k n
-unfolding setRefusal
-set-accepted k n set z = then-zero (rankRefusal k n) _ z .0
-
 -- checks 5, 6 and 16 refuse nothing
 module _ (k n set : ℕ) (v w : List ℤ) (z : setRefusal k n set ≡ 0) where
   rank : Rig k n
-  rank = set-accepted k n set z
+  rank = rank-of-set k n set z
 
   abbrev checks : ℕ
   checks = rankRefusal k n then windowRefusal (kindOf k) n v then windowRefusal (kindOf k) n w

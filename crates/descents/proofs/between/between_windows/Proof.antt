@@ -5,7 +5,8 @@ use mathlib.Core.Path.{sym, _∙_}
 use native.Mathlib.Omega.{arith}
 use borrow.Author.Needs.{needs}
 use Rattle.coxeter.proofs.Acceptance.{rank-accepted}
-use Rattle.descents.proofs.between.Leading.{square-le-64, square-le-256, square-le-4096, refused-by-set, set-accepted}
+use Rattle.exchange.proofs.BetweenCalls.{rank-of-set}
+use Rattle.descents.proofs.between.Leading.{square-le-64, square-le-256, square-le-4096, refused-by-set}
 use Rattle.descents.proofs.between.between_windows.Statement.{statement}
 use Rattle.descents.proofs.between.between_windows.Tie as tie
 
@@ -64,7 +65,7 @@ write-between-requires-3 c κs =
     let f = c .before .before in
     let passed = f .before .before .before in
     let z = sym (passed .before .set-refusal .ensures) ∙ passed .if1 .left in
-    (z, omega (arith, square-le-4096 _ (rank-accepted _ _ (set-accepted _ _ _ z) .1), f .no-letters .ensures))
+    (z, omega (arith, square-le-4096 _ (rank-accepted _ _ (rank-of-set _ _ _ z) .1), f .no-letters .ensures))
 
 same-length-3 : tie.Need-same-length-3
 same-length-3 c = search needs
