@@ -101,7 +101,8 @@ pub block-1-peeled : (k : Kind) (n : ℕ) (w : List ℤ) → least k ≤ n → W
     × (v ≡ blocks k n 2 js) × Indices k n 2 js
 block-1-peeled k n w h p =
     let m = normalForm-least k n w h p in
-    let s = level-peeled k n 1 w (normalForm k n w) h (omega arith) (one-le-levels k n h) m (λ a i. letters-of-accepted n (normalForm k n w) (m .steps) a i .0) in
+    let f = normalForm k n w in
+    let s = level-peeled k n 1 w f h (omega arith) (one-le-levels k n h) m (λ a i. letters-of-accepted n f (m .steps) a i .0) in
     (s .0, s .1, s .2, s .3, s .5, s .6, normalForm-only k n (window k n (s .1)) (s .1) h (s .6), s .7, s .8, s .9)
 
 -- the rank 1 of A is the only one with one level

@@ -47,8 +47,9 @@ settle-requires : tie.Need-settle-requires
 settle-requires c κs =
     let f = c .before .before .before .before in
     let b = f .before .before .before .before in
-    words-settle-requires _ _ _ _ _ _ (part-is _ _ _ _ _ (f .write-form .ensures) refl) (part-is _ _ _ _ _ (b .show .ensures .1) (b .before .before .before .lanes .ensures))
-    (b .before .before .before .before .before .before .before .pre .0)
+    let counted = b .before .before .before in
+    words-settle-requires _ _ _ _ _ _ (part-is _ _ _ _ _ (f .write-form .ensures) refl) (part-is _ _ _ _ _ (b .show .ensures .1) (counted .lanes .ensures))
+    (counted .before .before .before .before .pre .0)
 
 same-length : tie.Need-same-length
 same-length c = search needs
@@ -57,7 +58,8 @@ returns : tie.Need-returns
 returns c =
     let f = c .before .before .before .before .before .before .before .before .before in
     let b = f .before .before .before .before in
-    words-settled _ _ _ _ _ _ (part-is _ _ _ _ _ (f .write-form .ensures) refl) (part-is _ _ _ _ _ (b .show .ensures .1) (b .before .before .before .lanes .ensures))
+    let lanes = b .before .before .before .lanes .ensures in
+    words-settled _ _ _ _ _ _ (part-is _ _ _ _ _ (f .write-form .ensures) refl) (part-is _ _ _ _ _ (b .show .ensures .1) lanes)
     _ _ _ (c .before .before .before .before .settle .ensures)
 
 pub settle-words-spec : {M : Type 1} → statement M

@@ -51,7 +51,8 @@ returns-2 c =
     let first = made .before .before .before in
     let refusal = first .before .preset-refusal .ensures in
     let passed = two-accepted _ _ _ refusal (first .if1 .left) in
-    made-written _ _ (passed .0) _ _ _ (inverse-passes _ _ _) (made .before .before .blank .ensures) (made .show-inverse .ensures) _ _ _ _ _ _ refl refusal (first .if1 .left)
+    let work = made .before .before .blank .ensures in
+    made-written _ _ (passed .0) _ _ _ (inverse-passes _ _ _) work (made .show-inverse .ensures) _ _ _ _ _ _ refl refusal (first .if1 .left)
     (called .write-checked .ensures)
 
 pub inverse-of-word-spec : {M : Type 1} → statement M

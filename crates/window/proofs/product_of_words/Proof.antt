@@ -50,7 +50,8 @@ returns-2 c =
     let first = made .before .before .before in
     let refusal = first .before .ranked-words-refusal .ensures in
     let passed = words-accepted _ _ _ _ _ refusal (first .if1 .left) in
-    made-written _ _ (passed .0) _ _ _ (product-passes _ _ _ _) (made .before .before .blank .ensures) (made .show-product .ensures) _ _ _ _ _ _ refl refusal (first .if1 .left)
+    let work = made .before .before .blank .ensures in
+    made-written _ _ (passed .0) _ _ _ (product-passes _ _ _ _) work (made .show-product .ensures) _ _ _ _ _ _ refl refusal (first .if1 .left)
     (called .write-checked .ensures)
 
 pub product-of-words-spec : {M : Type 1} → statement M

@@ -29,7 +29,8 @@ slice-aggregate-split-window c =
 split-window-requires : tie.Need-split-window-requires
 split-window-requires c κs =
     let b = c .before .before .before .before in
-    window-asked _ _ 0 _ _ (part-is _ _ _ _ _ (b .show .ensures .1) (b .before .before .before .lanes .ensures)) (b .before .before .before .before .before .before .before .pre .0)
+    let counted = b .before .before .before in
+    window-asked _ _ 0 _ _ (part-is _ _ _ _ _ (b .show .ensures .1) (counted .lanes .ensures)) (counted .before .before .before .before .pre .0)
 
 same-length : tie.Need-same-length
 same-length c = search needs

@@ -48,7 +48,8 @@ returns-2 c =
     let first = made .before .before .before in
     let refusal = first .before .ranked-window-refusal .ensures in
     let passed = two-accepted _ _ _ refusal (first .if1 .left) in
-    made-written _ _ (passed .0) _ _ _ (inverse-passes _ _ _ (passed .1)) (made .before .before .blank .ensures) (made .inverse-into .ensures) _ _ _ _ _ _ refl refusal (first .if1 .left)
+    let work = made .before .before .blank .ensures in
+    made-written _ _ (passed .0) _ _ _ (inverse-passes _ _ _ (passed .1)) work (made .inverse-into .ensures) _ _ _ _ _ _ refl refusal (first .if1 .left)
     (called .write-checked .ensures)
 
 pub normal-form-of-inverse-spec : {M : Type 1} → statement M

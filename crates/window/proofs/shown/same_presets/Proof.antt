@@ -58,8 +58,8 @@ second : (c : tie.After-show-front2)
     Front (a .kind-b) (a .rank-b) (window (kindOf (a .kind-b)) (a .rank-b) (a .b .now)) (c .show-front2 .last .1 .1 .1 .0)
 second c =
     let made = c .before .before in
-    front-written _ _ (made .before .before .before .before .before .before .before .before .before .before .pre .1 .1 .0) _ _ _ (window-passes _ _ _) (made .blank2 .ensures)
-    (c .show-front2 .ensures)
+    let pre = made .before .before .before .before .before .before .before .before .before .before .pre in
+    front-written _ _ (pre .1 .1 .0) _ _ _ (window-passes _ _ _) (made .blank2 .ensures) (c .show-front2 .ensures)
 
 slice-aggregate-same-fronts : tie.Need-slice-aggregate-same-fronts
 slice-aggregate-same-fronts c = search needs
