@@ -4,7 +4,7 @@ use crate::entries::is_negative;
 use crate::entries::size;
 ghost use mathlib.Core.Path.{_≡_};
 ghost use mathlib.Core.Bool.{false};
-ghost use Prim.Native.Nat.{ℕ, _<_, _≤_};
+ghost use Prim.Native.Nat.{ℕ, _+_, _<_, _≤_, max};
 ghost use lib.ListN.{length, getD};
 ghost use Rattle.coxeter.specs.Kinds as kinds;
 ghost use Rattle.coxeter.specs.Kinds.{kindOf};
@@ -68,18 +68,37 @@ pub fn rank_refusal(kind: u8, rank: u8) -> u8
     0
 }
 
-// C8. Every letter is looked at, without a way out of the loop, so that many letters are tested at a time.
+// A letter less one, where 0 becomes 255: a letter is wrong if that is not below the rank.
+fn less_one(s: u8) -> u8
+    ensures { λ r. ⌜ (s ≡ 0 → r ≡ 255) × (1 ≤ s → s ≡ r + 1) ⌝ }
+{
+    if s == 0 {
+        return 255;
+    }
+    s - 1
+}
+
+fn greater_of(a: u8, b: u8) -> u8
+    ensures { λ r. ⌜ r ≡ max a b ⌝ }
+{
+    if a < b {
+        return b;
+    }
+    a
+}
+
+// C8. Every letter is looked at, without a way out of the loop, so that many letters are taken at a time; the rank
+// is compared once, with the greatest.
 fn has_wrong_letter(rank: u8, word: &[u8]) -> bool
     ensures { λ r. ⌜ r ≡ wrongLetter rank (now (word .entry)) ⌝ }
 {
-    let mut wrong = false;
+    let mut highest = 0;
     let mut i = 0;
     while i < word.len() {
-        let s = word[i];
-        wrong = wrong | (s == 0) | (rank < s);
+        highest = greater_of(highest, less_one(word[i]));
         i += 1;
     }
-    wrong
+    (0 < word.len()) & (rank <= highest)
 }
 
 // C7, C8: of a word whose kind and rank passed.

@@ -3,15 +3,15 @@
 -- Sections: kinds and ranks; letters; entries; signs; windows; two after one another.
 -- Assumes nothing.
 use mathlib.Core.Path.{_≡_, refl, sym, _∙_}
-use mathlib.Core.Bool.{Bool, true, false, not, _||_, or-true, or-false, Bool·beq}
-use mathlib.Core.List.{List}
-use Prim.Native.Nat.{ℕ, _+_, _≤_, _<_}
-use native.Mathlib.Decide.{ℕ-discrete}
+use mathlib.Core.Bool.{Bool, true, false, not, _||_, _&&_, or-true, or-false, Bool·beq}
+use mathlib.Core.List.{List, [], _∷_}
+use Prim.Native.Nat.{ℕ, _+_, _≤_, _<_, max}
+use native.Mathlib.Decide.{ℕ-discrete, decLe}
 use native.Mathlib.Omega.{arith}
-use lib.Dec.{eqb, ltb}
+use lib.Dec.{eqb, ltb, leb}
 use lib.IntN.{ℤ, pos, natAbs}
 use lib.ListN.{length, getD, take, drop, drop-of-length-le}
-use borrow.Author.Tests.{eq-eqb, ne-eqb, lt-ltb, le-ltb}
+use borrow.Author.Tests.{eq-eqb, ne-eqb, lt-ltb, le-ltb, le-leb, lt-leb}
 use Rattle.coxeter.specs.Kinds.{Kind, pick, lanes}
 use Rattle.coxeter.specs.Length.{negative}
 use Rattle.coxeter.specs.Checks.{_then_, wrongKind, wrongLetter, wrongAt, wrongEntry, hasSize, negativeInA}
@@ -40,20 +40,47 @@ wrongKind-within k f h = elim (ℕ-discrete k 1) [ yes e ↦ rw (eq-eqb k 1 e) |
 
 -- ---- letters
 
-or-next : (t a b c : Bool) → (t || ((a || b) || c)) ≡ (((t || a) || b) || c)
-or-next true a b c = refl
-or-next false true b c = refl
-or-next false false b c = refl
+-- a letter s less one is r, or 255 for 0: it is wrong if the rank n is not above r
+wrong-reaches : (n h s r : ℕ) → n ≤ 255 → h < n → (s ≡ 0 → r ≡ 255) → (1 ≤ s → s ≡ r + 1) → leb n (max h r) ≡ (eqb s 0 || ltb n s)
+wrong-reaches n h s r b g z p = elim (ℕ-discrete s 0) [
+  | yes e ↦ let q : r ≡ 255 = z e in rw (eq-eqb s 0 e, le-leb n (max h r) (omega arith))
+  | no f ↦ rw (ne-eqb s 0 f) (let q : s ≡ r + 1 = p (omega arith) in above q)
+]
+  where
+    above : s ≡ r + 1 → leb n (max h r) ≡ ltb n s
+    above q = elim (decLe n r) [
+      | yes l ↦ rw (le-leb n (max h r) (omega arith), lt-ltb n s (omega arith))
+      | no l ↦ rw (lt-leb n (max h r) (omega arith), le-ltb n s (omega arith))
+    ]
 
--- a letter was wrong before the place i, or one from there on is
-pub wrongLetter-next : (n : ℕ) (u : List ℕ) (i : ℕ) (t : Bool) → i < length u
-    → (t || wrongLetter n (drop i u)) ≡ (((t || eqb (getD u i 0) 0) || ltb n (getD u i 0)) || wrongLetter n (drop (i + 1) u))
-unfolding wrongLetter
-wrongLetter-next n u i t h = rw (drop-next u i 0 h) (or-next t (eqb (getD u i 0) 0) (ltb n (getD u i 0)) (wrongLetter n (drop (i + 1) u)))
+-- the rank is not above the greatest so far, h, or the letter s is wrong
+greater-reaches : (n h s r : ℕ) → n ≤ 255 → (s ≡ 0 → r ≡ 255) → (1 ≤ s → s ≡ r + 1) → (w : Bool)
+    → (leb n h || ((eqb s 0 || ltb n s) || w)) ≡ (leb n (max h r) || w)
+greater-reaches n h s r b z p w = elim (decLe n h) [
+  | yes l ↦ rw (le-leb n h l, le-leb n (max h r) (omega arith))
+  | no g ↦ rw (lt-leb n h (omega arith), wrong-reaches n h s r b (omega arith) z p)
+]
 
-pub wrongLetter-end : (n : ℕ) (u : List ℕ) (i : ℕ) (t : Bool) → length u ≤ i → (t || wrongLetter n (drop i u)) ≡ t
+-- h is the greatest of the letters before the place i, each less one
+pub wrongLetter-next : (n : ℕ) (u : List ℕ) (i h r : ℕ) → n ≤ 255 → i < length u → (getD u i 0 ≡ 0 → r ≡ 255) → (1 ≤ getD u i 0 → getD u i 0 ≡ r + 1)
+    → (leb n h || wrongLetter n (drop i u)) ≡ (leb n (max h r) || wrongLetter n (drop (i + 1) u))
 unfolding wrongLetter
-wrongLetter-end n u i t h = rw (drop-of-length-le u h) (or-false t)
+wrongLetter-next n u i h r b l z p = rw (drop-next u i 0 l) (greater-reaches n h (getD u i 0) r b z p (wrongLetter n (drop (i + 1) u)))
+
+-- at rank 0 every letter is wrong
+reaches-none : (n s : ℕ) (u : List ℕ) → (leb n 0 || wrongLetter n (s ∷ u)) ≡ wrongLetter n (s ∷ u)
+unfolding wrongLetter
+reaches-none n s u = elim (ℕ-discrete n 0) [
+  | no f ↦ rw (lt-leb n 0 (omega arith))
+  | yes e ↦ rw (le-leb n 0 (omega arith)) (elim (ℕ-discrete s 0) [ yes z ↦ rw (eq-eqb s 0 z) | no f ↦ rw (ne-eqb s 0 f, lt-ltb n s (omega arith)) ])
+]
+
+pub wrongLetter-end : (n : ℕ) (u : List ℕ) (i h : ℕ) → length u ≤ i → (leb n 0 || wrongLetter n u) ≡ (leb n h || wrongLetter n (drop i u))
+    → (ltb 0 (length u) && leb n h) ≡ wrongLetter n u
+unfolding wrongLetter
+wrongLetter-end n [] i h l e = refl
+wrongLetter-end n (s ∷ u) i h l e =
+    rw (lt-ltb 0 (length (s ∷ u)) (omega arith)) (sym (or-false (leb n h)) ∙ sym (rw (drop-of-length-le (s ∷ u) l) at e) ∙ reaches-none n s u)
 
 -- ---- entries
 

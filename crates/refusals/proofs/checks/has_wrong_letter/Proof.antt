@@ -1,8 +1,10 @@
--- `checks::has_wrong_letter` goes from letter to letter: a letter was wrong, or one of the part from `i` on is.
+-- `checks::has_wrong_letter` goes from letter to letter: the rank is not above the greatest so far, each less one, or a
+-- letter of the part from `i` on is wrong.
 -- Assumes nothing.
-use mathlib.Core.Path.{_≡_, refl, sym, _∙_}
+use mathlib.Core.Path.{_≡_, refl, _∙_}
 use mathlib.Core.Bool.{_||_}
 use Prim.Native.Nat.{_≤_, _-_}
+use lib.Dec.{leb}
 use lib.ListN.{length, drop}
 use Rattle.refusals.proofs.checks.Tests.{wrongLetter-next, wrongLetter-end}
 use Rattle.coxeter.specs.Checks.{wrongLetter}
@@ -12,16 +14,23 @@ use Rattle.refusals.proofs.checks.has_wrong_letter.Statement.{statement
 use Rattle.refusals.proofs.checks.has_wrong_letter.Tie as tie
 
 abbrev Inv-loop : tie.InvT-loop
-Inv-loop rank word wrong₀ i₀ wrong i = (i ≤ length word) × (wrongLetter rank word ≡ (wrong || wrongLetter rank (drop i word)))
+Inv-loop rank word highest₀ i₀ highest i =
+    (i ≤ length word) × ((leb rank 0 || wrongLetter rank word) ≡ (leb rank highest || wrongLetter rank (drop i word)))
 
 abbrev μ-loop : tie.MeasureT-loop
-μ-loop rank word wrong₀ i₀ wrong i = length word - i
+μ-loop rank word highest₀ i₀ highest i = length word - i
 
 loop-holds : tie.Need-loop-holds Inv-loop μ-loop
 loop-holds c = (omega arith, refl)
 
-shared-slice-read-s : tie.Need-shared-slice-read-s Inv-loop μ-loop
-shared-slice-read-s c = search needs
+shared-slice-read-less-one : tie.Need-shared-slice-read-less-one Inv-loop μ-loop
+shared-slice-read-less-one c = search needs
+
+less-one-requires : tie.Need-less-one-requires Inv-loop μ-loop
+less-one-requires c κs = search needs
+
+greater-of-requires : tie.Need-greater-of-requires Inv-loop μ-loop
+greater-of-requires c κs = search needs
 
 add-i : tie.Need-add-i Inv-loop μ-loop
 add-i c = search needs
@@ -31,17 +40,33 @@ loop-less c = search needs
 
 loop-again : tie.Need-loop-again Inv-loop μ-loop
 loop-again c =
-    let at = c .before .before .loop in
-    let a = c .before .before .before .args in
-    (omega arith, at .inv .1 ∙ wrongLetter-next (a .rank) (a .word .now) (at .i) (at .wrong) (c .before .loop-test .taken))
+    let read = c .before .before .before in
+    let at = read .before .loop in
+    let a = read .before .before .before .args in
+    let known = c .before .less-one .ensures in (
+      omega arith,
+      at .inv .1
+          ∙ wrongLetter-next (a .rank) (a .word .now) (at .i) (at .highest) _ (omega arith) (read .loop-test .taken) (known .0) (known .1)
+          ∙ rw (← c .greater-of .ensures),
+    )
 
 returns : tie.Need-returns Inv-loop μ-loop
 returns c =
     let at = c .before .loop in
-    let a = c .before .before .args in
-    sym (at .inv .1 ∙ wrongLetter-end (a .rank) (a .word .now) (at .i) (at .wrong) (c .loop-test .left))
+    let a = c .before .before .before .args in
+    wrongLetter-end (a .rank) (a .word .now) (at .i) (at .highest) (c .loop-test .left) (at .inv .1)
 
 pub has-wrong-letter-spec : {M : Type 1} → statement M
 has-wrong-letter-spec =
     tie.close
-    (tie.spec Inv-loop μ-loop loop-holds shared-slice-read-s add-i loop-less loop-again returns)
+    (tie.spec
+    Inv-loop
+    μ-loop
+    loop-holds
+    shared-slice-read-less-one
+    less-one-requires
+    greater-of-requires
+    add-i
+    loop-less
+    loop-again
+    returns)
