@@ -1,4 +1,5 @@
-// Writing the word that a rule leaves: what stands before, the right side and what stands after, each byte once.
+// Writing the word that a rule leaves: by family 1 what stands before and what stands after, by the others the whole
+// word and then the right side over it.
 ghost use mathlib.Core.Path.{_≡_};
 ghost use mathlib.Core.List.{_∷_, _++_};
 ghost use Prim.Native.Nat.{_+_, _-_, _<_, _≤_};
@@ -66,10 +67,9 @@ fn write_moved(word: &[u8], place: usize, left: usize, first: u8, out: &mut [u8]
         (take place (now (word .entry)) ++ ((first ∷ take (left - 1) (drop place (now (word .entry)))) ++ drop (place + left) (now (word .entry))))
         (now (out .entry)) ⌝ }
 {
-    copy(&word[..place], out, 0);
+    copy(word, out, 0);
     out[place] = first;
     copy(&word[place..place + left - 1], out, place + 1);
-    copy(&word[place + left..], out, place + left);
 }
 
 // The word that a rule leaves at the place: the rule with this family, i and j and the `left` letters there as its

@@ -2,12 +2,13 @@
 --
 -- Sections: the two writings; the word that a rule leaves.
 -- Assumes nothing.
-use mathlib.Core.Path.{_≡_, refl, ap, _∙_}
-use mathlib.Core.List.{List, [], _∷_, _++_, append-assoc}
+use mathlib.Core.Path.{_≡_, refl, _∙_}
+use mathlib.Core.List.{List, _∷_, _++_, append-assoc}
 use Prim.Native.Nat.{ℕ, _+_, _-_, _≤_}
+use native.Mathlib.Numerals.{add-one}
 use native.Mathlib.Omega.{arith}
 use lib.ListN.{length, take, drop, set, length-append, length-take, length-drop}
-use lib.Seq.{take-take, sets}
+use lib.Seq.{take-take, length-take-le, take-append-le, drop-append-le, sets, sets-eq}
 use borrow.Author.Tests.{eq-eqb, ne-eqb}
 use Rattle.coxeter.proofs.Lists.{take-rest, sets-next, sets-front}
 use Rattle.rules.specs.Rules.{rewritten}
@@ -25,23 +26,22 @@ written-without u d p l o o′ h m e g =
     let room : length (take p u ++ drop (p + l) u) ≤ length d = simp (length-append, length-take, length-drop) (omega arith) in
     rw (g, e, take-rest (p + l) u, sets-next d 0 p (take p u) (drop (p + l) u) t) (sets-front (take p u ++ drop (p + l) u) d _ room refl)
 
--- what stands before, the new letter, the left side without its last letter and what stands after
-pub written-moved : (u d : List ℕ) (p l x : ℕ) (o o′ o″ : List ℕ) → 1 ≤ l → p + l ≤ length u → length u ≤ length d → o ≡ sets d 0 (take p u)
+-- the whole word, and over it from the place on the new letter and the left side without its last letter
+pub written-moved : (u d : List ℕ) (p l x : ℕ) (o o′ : List ℕ) → 1 ≤ l → p + l ≤ length u → length u ≤ length d → o ≡ sets d 0 u
     → o′ ≡ sets (set o p x) (p + 1) (take (p + l - 1 - p) (drop p u))
-    → o″ ≡ sets o′ (p + l) (take (length u - (p + l)) (drop (p + l) u))
-    → o″ ≡ atFront (take p u ++ ((x ∷ take (l - 1) (drop p u)) ++ drop (p + l) u)) d
-written-moved u d p l x o o′ o″ h g m e f q =
+    → o′ ≡ atFront (take p u ++ ((x ∷ take (l - 1) (drop p u)) ++ drop (p + l) u)) d
+written-moved u d p l x o o′ h g m e f =
     let s : List ℕ = take (l - 1) (drop p u) in
-    let v : List ℕ = take p u ++ (x ∷ []) in
-    let w : List ℕ = (v ++ s) ++ drop (p + l) u in
+    let r : List ℕ = drop (length u) d in
     let i : p + l - 1 - p ≡ l - 1 = omega arith in
-    let j : p + l ≡ 0 + length (v ++ s) = simp (length-append, length-take, length-drop) (omega arith) in
-    let room : length w ≤ length d = rw (length-append (v ++ s) (drop (p + l) u), length-drop) (omega arith) in
-    let a : set o p x ≡ sets d 0 v = rw e (sets-next d 0 p (take p u) (x ∷ []) (simp length-take (omega arith))) in
-    let b : o′ ≡ sets d 0 (v ++ s) = rw (f, a, i) (sets-next d 0 (p + 1) v s (simp (length-append, length-take) (omega arith))) in
-    let c : o″ ≡ sets d 0 w = rw (q, b, take-rest (p + l) u) (sets-next d 0 (p + l) (v ++ s) (drop (p + l) u) j) in
-    let z : w ≡ take p u ++ ((x ∷ s) ++ drop (p + l) u) = simp append-assoc in
-    c ∙ sets-front w d _ room refl ∙ ap (λ (y : List ℕ). atFront y d) z
+    let k : p + length (x ∷ s) ≡ p + l = simp (length-take, length-drop) (omega arith) in
+    let w : o ≡ u ++ r = e ∙ sets-front u d _ m refl in
+    let room : p + length (x ∷ s) ≤ length o = rw w (simp length-append (omega (arith, k))) in
+    let a : o′ ≡ sets o p (x ∷ s) = rw (f, i, add-one) in
+    let n : length (take p u ++ ((x ∷ s) ++ drop (p + l) u)) ≡ length u =
+    rw (length-append (take p u) ((x ∷ s) ++ drop (p + l) u), length-append (x ∷ s) (drop (p + l) u), length-take-le p u (omega arith), length-drop (p + l) u)
+    (omega (arith, k)) in
+    a ∙ sets-eq (x ∷ s) o p room ∙ rw (k, w, take-append-le p u r (omega arith), drop-append-le (p + l) u r g, n) (simp append-assoc)
 
 -- ---- the word that a rule leaves
 
