@@ -5,14 +5,15 @@ use crate::ending::Ending;
 use crate::ending::ending_rule;
 use crate::search::corner_of;
 ghost use mathlib.Core.Path.{_≡_};
-ghost use mathlib.Core.Bool.{false};
+ghost use mathlib.Core.Bool.{true, false};
 ghost use mathlib.Core.List.{_∷_, _++_};
-ghost use Prim.Native.Nat.{suc, _+_, _-_, _≤_, _<_};
+ghost use Prim.Native.Nat.{ℕ, suc, _+_, _-_, _≤_, _<_, min};
 ghost use lib.ListN.{length, getD, take, drop, set};
 ghost use Rattle.coxeter.specs.Kinds.{kindOf};
 ghost use Rattle.coxeter.specs.NormalForm.{levels};
+ghost use Rattle.coxeter.specs.Checks.{wrongLetter};
 ghost use Rattle.traces.proofs.TwoLetters.{exchanging};
-ghost use Rattle.traces.proofs.Tracing.{Ready, Carried, Inserted};
+ghost use Rattle.traces.proofs.Tracing.{stores, Ready, Carried, Inserted};
 
 // How many steps were made, and how many letters the word has then.
 pub(crate) struct Count {
@@ -57,6 +58,69 @@ fn note(
     }
 }
 
+// How many of m entries from s on a list of that size has room for.
+fn room_for(size: usize, s: usize, m: usize) -> usize
+    ensures { λ r. ⌜ r ≡ min m (size - s) ⌝ }
+{
+    if size <= s {
+        return 0;
+    }
+    if size - s < m {
+        return size - s;
+    }
+    m
+}
+
+// The steps by which a letter passed m others, from place q on, noted from step s on.
+fn note_passed(
+    families: &mut [u8],
+    places: &mut [u16],
+    lengths: &mut [u16],
+    s: usize,
+    m: usize,
+    q: usize,
+    left: usize,
+)
+    requires { ⌜ (length (now places) ≡ length (now families)) × (length (now lengths) ≡ length (now families)) ⌝ }
+    requires { ⌜ (m ≤ q) × (q ≤ 4096) × (left ≤ 4096) ⌝ }
+    ensures { λ _. ⌜ (now (families .exit) ≡ stores (λ i. 2) (now (families .entry)) s m)
+        × (now (places .exit) ≡ stores (λ i. q - suc i) (now (places .entry)) s m)
+        × (now (lengths .exit) ≡ stores (λ i. left) (now (lengths .entry)) s m) ⌝ }
+{
+    let end = room_for(families.len(), s, m);
+    let mut i = 0;
+    while i < end {
+        families[s + i] = 2;
+        places[s + i] = (q - 1 - i) as u16;
+        lengths[s + i] = left as u16;
+        i += 1;
+    }
+}
+
+// The letter at q put before those that it exchanges with, as far as it goes. Answers where it stands then.
+fn shift(n: u8, corner: u8, word: &mut [u8], q: usize) -> usize
+    requires { ⌜ (n ≤ 64) × (wrongLetter n (now word) ≡ false) × (q < length (now word)) ⌝ }
+    ensures { λ r. ⌜ (r ≤ q) × (now (word .exit) ≡ take r (now (word .entry))
+        ++ ((getD (now (word .entry)) q 0 ∷ take (q - r) (drop r (now (word .entry)))) ++ drop (suc q) (now (word .entry))))
+        × ((j : ℕ) → r ≤ j → j < q → exchanging n corner (getD (now (word .entry)) j 0) (getD (now (word .entry)) q 0) ≡ true)
+        × (1 ≤ r → exchanging n corner (getD (now (word .entry)) (r - 1) 0) (getD (now (word .entry)) q 0) ≡ false) ⌝ }
+{
+    let x = word[q];
+    let mut t = q;
+    while 0 < t {
+        let l = word[t - 1];
+        if exchanges(n, corner, l, x) {
+            word[t] = l;
+            t -= 1;
+        } else {
+            word[t] = x;
+            return t;
+        }
+    }
+    word[t] = x;
+    t
+}
+
 // The letter at q passes letters by family 2, one step each, as far as it goes. Answers where it stands then.
 fn pass(
     kind: u8,
@@ -76,19 +140,8 @@ fn pass(
 {
     let corner = corner_of(kind, n);
     let left = word.len() + rest.len();
-    let x = word[q];
-    let mut t = q;
-    while 0 < t {
-        let l = word[t - 1];
-        if exchanges(n, corner, l, x) {
-            word[t] = l;
-            word[t - 1] = x;
-            note(families, places, lengths, s + (q - t), 2, t - 1, left);
-            t -= 1;
-        } else {
-            return t;
-        }
-    }
+    let t = shift(n, corner, word, q);
+    note_passed(families, places, lengths, s, q - t, q, left);
     t
 }
 

@@ -9,7 +9,7 @@ use mathlib.Core.Path.{_≡_, sym, ap, _∙_}
 use mathlib.Core.Bool.{false}
 use mathlib.Core.List.{List, _∷_, _++_}
 use mathlib.Core.Option.{some}
-use Prim.Native.Nat.{ℕ, suc, _+_, _-_, _*_, _≤_}
+use Prim.Native.Nat.{ℕ, zero, suc, _+_, _-_, _*_, _≤_}
 use native.Mathlib.Nat.{add-zero, add-suc, suc-add, mul-le-mul}
 use native.Mathlib.Numerals.{add-one}
 use native.Mathlib.Omega.{arith}
@@ -97,6 +97,11 @@ module _ (s : ℕ) (families places lengths : List ℕ) where
     })
 
 -- ---- a letter that moves
+
+-- f 0, f 1 and so on stored in a list from place s on, m of them; past its end none is
+unfoldable pub stores : (ℕ → ℕ) → List ℕ → ℕ → ℕ → List ℕ
+stores f l s zero = l
+stores f l s (suc m) = set (stores f l s m) (s + m) (f m)
 
 -- the letter at place q of `word` moves, the rest follows, and s steps were made before: so many numbers fit, and
 -- the three lists are equally long

@@ -1,12 +1,11 @@
--- The turns of `carrying::pass`, from what it compares and stores: where a letter passes another, that is a step of
--- the rewriting, and it is noted.
+-- What `carrying::pass` does: where a letter passes another, that is a step of the rewriting, and it is noted.
 --
 -- Sections: letters; a letter that passes another; letters passed one by one.
 -- Assumes nothing.
-use mathlib.Core.Path.{_≡_, refl, sym, ap, ap₂, subst, _∙_}
-use mathlib.Core.Bool.{Bool, true, false}
+use mathlib.Core.Path.{_≡_, refl, sym, ap₂, subst, _∙_}
+use mathlib.Core.Bool.{true, false}
 use mathlib.Core.List.{List, _∷_, _++_}
-use Prim.Native.Nat.{ℕ, suc, _+_, _-_, _≤_, _<_}
+use Prim.Native.Nat.{ℕ, zero, suc, _+_, _-_, _≤_, _<_}
 use native.Mathlib.Omega.{arith}
 use lib.ListN.{length, getD, drop, set, length-set}
 use lib.Seq.{set-split, drop-cons, take-set-le, drop-set-lt, getD-set-same}
@@ -18,7 +17,9 @@ use Rattle.rules.proofs.ScanRules.{wrongLetter-drop}
 use Rattle.traces.proofs.TwoLetters.{exchanging}
 use Rattle.traces.proofs.Reading.{reading-inside}
 use Rattle.traces.proofs.ReadingSteps.{exchange-use}
-use Rattle.traces.proofs.Tracing.{Ready, Carried}
+use Rattle.traces.proofs.Tracing.{stores, Ready, Carried}
+use Rattle.rewriter.proofs.carrying.Noting.{stores-start, stores-suc}
+use Rattle.rewriter.proofs.carrying.Shifting.{put, put-none, put-read, put-exchanged, Exchanging}
 use Rattle.rewriter.proofs.carrying.CarriedSteps.{carried-start, carried-ready, carried-trans, carried-step}
 
 -- ---- letters
@@ -55,49 +56,80 @@ module _ {k : Kind} {n : ℕ} {rest : List ℕ} {s : ℕ} {families places lengt
       carried-step a _ (exchange-use k n (a .rank) word p (a .reading) (l .1) t) s′ families′ places′ lengths′ _
       (omega arith) i f g m (sym (exchanged-set word p (getD word p 0) (getD word (suc p) 0) (ready-inside a)))
 
-  -- t is the letter's place and p the one before; `done` is what comparing the two letters answered
-  pub pass-step : (t p : ℕ) → t ≡ suc p → Ready k n rest s families places lengths word t
-      → (c x left s′ : ℕ) (families′ places′ lengths′ : List ℕ) (done : Bool)
-      → c ≡ levels k n → getD word t 0 ≡ x → done ≡ exchanging n c (getD word p 0) x → done ≡ true → s′ ≡ s + 1 → families′ ≡ set families s 2
+  -- the letter x, at the place behind p
+  pass-step : (p x left s′ : ℕ) (families′ places′ lengths′ : List ℕ) → Ready k n rest s families places lengths word (suc p)
+      → getD word (suc p) 0 ≡ x → exchanging n (levels k n) (getD word p 0) x ≡ true → s′ ≡ s + 1 → families′ ≡ set families s 2
       → places′ ≡ set places s p → left ≡ length word + length rest → lengths′ ≡ set lengths s left
-      → Carried k n rest s families places lengths word s′ families′ places′ lengths′ (set (set word t (getD word p 0)) p x) p
-      × (getD (set (set word t (getD word p 0)) p x) p 0 ≡ x)
-  pass-step t p e a c x left s′ families′ places′ lengths′ done q y d z i f g b m =
-      let a′ : Ready k n rest s families places lengths word (suc p) = subst (Ready k n rest s families places lengths word) e a in
-      let y′ : x ≡ getD word (suc p) 0 = sym y ∙ ap (λ (j : ℕ). getD word j 0) e in
-      let w : exchanging n (levels k n) (getD word p 0) (getD word (suc p) 0) ≡ true = rw (← q, ← y′) (sym d ∙ z) in (
-        rw (e, y′) (exchange-step p a′ s′ families′ places′ lengths′ w i f g (rw (← b) m)),
-        getD-set-same (set word t (getD word p 0)) p x 0 (rw length-set (omega (arith, ready-inside a))),
-      )
+      → Carried k n rest s families places lengths word s′ families′ places′ lengths′ (set (set word (suc p) (getD word p 0)) p x) p
+      × (getD (set (set word (suc p) (getD word p 0)) p x) p 0 ≡ x)
+  pass-step p x left s′ families′ places′ lengths′ a y z i f g b m = (
+    rw (← y) (exchange-step p a s′ families′ places′ lengths′ (rw y z) i f g (rw (← b) m)),
+    getD-set-same (set word (suc p) (getD word p 0)) p x 0 (rw length-set (omega (arith, ready-inside a))),
+  )
 
 -- ---- letters passed one by one
 
 -- the letter x has come from place q to t, with a step for each letter that it passed
-abbrev pub Passed : Kind → ℕ → List ℕ → ℕ → List ℕ → List ℕ → List ℕ → List ℕ → ℕ → List ℕ → List ℕ → List ℕ → List ℕ → ℕ → ℕ → Type 0
+abbrev Passed : Kind → ℕ → List ℕ → ℕ → List ℕ → List ℕ → List ℕ → List ℕ → ℕ → List ℕ → List ℕ → List ℕ → List ℕ → ℕ → ℕ → Type 0
 Passed k n rest s families places lengths word q families′ places′ lengths′ word′ t x =
     (t ≤ q) × (getD word′ t 0 ≡ x) × Carried k n rest s families places lengths word (s + (q - t)) families′ places′ lengths′ word′ t
 
-module _ {k : Kind} {n : ℕ} {rest : List ℕ} {s : ℕ} {families places lengths word : List ℕ} {q : ℕ} where
-  pub pass-start : Ready k n rest s families places lengths word q
-      → Passed k n rest s families places lengths word q families places lengths word q (getD word q 0)
-  pass-start a = let e : s + (q - q) ≡ s = omega arith in (omega arith, refl, rw e (carried-start a))
+module _ {k : Kind} {n : ℕ} {rest : List ℕ} {s : ℕ} {families places lengths word : List ℕ} {q : ℕ}
+    (a : Ready k n rest s families places lengths word q) where
+  pass-start : Passed k n rest s families places lengths word q families places lengths word q (getD word q 0)
+  pass-start = let e : s + (q - q) ≡ s = omega arith in (omega arith, refl, rw e (carried-start a))
 
-  module _ {families′ places′ lengths′ word′ : List ℕ} {t x : ℕ}
-      (b : Passed k n rest s families places lengths word q families′ places′ lengths′ word′ t x) where
-    pub pass-again : {c left : ℕ} {families″ places″ lengths″ : List ℕ} {done : Bool} → Ready k n rest s families places lengths word q → 0 < t
-        → c ≡ levels k n → done ≡ exchanging n c (getD word′ (t - 1) 0) x → done ≡ true → left ≡ length word + length rest
-        → families″ ≡ set families′ (s + (q - t)) 2 → places″ ≡ set places′ (s + (q - t)) (t - 1) → lengths″ ≡ set lengths′ (s + (q - t)) left
-        → Passed k n rest s families places lengths word q families″ places″ lengths″ (set (set word′ t (getD word′ (t - 1) 0)) (t - 1) x) (t - 1) x
-    pass-again {c} {left} {families″} {places″} {lengths″} {done} a o d e z l f g m =
-        let p = pass-step t (t - 1) (omega arith) (carried-ready (b .2) a) c x left (s + (q - (t - 1))) families″ places″ lengths″ done d (b .1) e z
+  module _ (left : ℕ) (l : left ≡ length word + length rest) where
+    pass-again : {families′ places′ lengths′ word′ : List ℕ} {p x : ℕ} {families″ places″ lengths″ word″ : List ℕ}
+        → Passed k n rest s families places lengths word q families′ places′ lengths′ word′ (suc p) x
+        → exchanging n (levels k n) (getD word′ p 0) x ≡ true → families″ ≡ set families′ (s + (q - suc p)) 2
+        → places″ ≡ set places′ (s + (q - suc p)) p → lengths″ ≡ set lengths′ (s + (q - suc p)) left
+        → set (set word′ (suc p) (getD word′ p 0)) p x ≡ word″
+        → Passed k n rest s families places lengths word q families″ places″ lengths″ word″ p x
+    pass-again {p = p} {x = x} {families″ = families″} {places″ = places″} {lengths″ = lengths″} b z f g m w =
+        let c = pass-step p x left (s + (q - p)) families″ places″ lengths″ (carried-ready (b .2) a) (b .1) z
         (omega (arith, b .0)) f g (omega (arith, b .2 .size)) m in
-        (omega (arith, b .0), p .1, carried-trans (b .2) (p .0))
+        rw (← w) (omega (arith, b .0), c .1, carried-trans (b .2) (c .0))
 
-    pub pass-stopped : {c : ℕ} {done : Bool} → c ≡ levels k n → done ≡ exchanging n c (getD word′ (t - 1) 0) x → done ≡ false
-        → (t ≤ q) × Carried k n rest s families places lengths word (s + (q - t)) families′ places′ lengths′ word′ t
-        × (1 ≤ t → exchanging n (levels k n) (getD word′ (t - 1) 0) (getD word′ t 0) ≡ false)
-    pass-stopped d e z = (b .0, b .2, λ o. rw (← d, b .1) (sym e ∙ z))
+    -- the letter at q has passed m others and come to t, and the steps are noted
+    abbrev Letters : ℕ → ℕ → Type 0
+    Letters m t =
+        Passed k n rest s families places lengths word q (stores (λ i. 2) families s m) (stores (λ i. q - suc i) places s m)
+        (stores (λ i. left) lengths s m) (put word t q (getD word q 0)) t (getD word q 0)
 
-    pub pass-ended : t ≤ 0 → (t ≤ q) × Carried k n rest s families places lengths word (s + (q - t)) families′ places′ lengths′ word′ t
-        × (1 ≤ t → exchanging n (levels k n) (getD word′ (t - 1) 0) (getD word′ t 0) ≡ false)
-    pass-ended h = (b .0, b .2, λ o. absurd (omega arith))
+    letters-none : Letters 0 q
+    letters-none =
+        rw (
+          ← put-none word q (ready-inside a),
+          ← stores-start (λ i. 2) families s,
+          ← stores-start (λ i. q - suc i) places s,
+          ← stores-start (λ i. left) lengths s,
+        ) pass-start
+
+    letters-next : (m p : ℕ) → p + suc m ≡ q → exchanging n (levels k n) (getD word p 0) (getD word q 0) ≡ true → Letters m (suc p) → Letters (suc m) p
+    letters-next m p e z b =
+        let x : ℕ = getD word q 0 in
+        let i : q - suc p ≡ m = omega arith in
+        let j : suc p - 1 ≡ p = omega arith in
+        let read = rw j at (put-read word (put word (suc p) q x) q (ready-inside a) (suc p) x (omega arith) (omega arith) refl) in
+        pass-again b (rw read z)
+        (stores-suc (λ i. 2) families s m (q - suc p) 2 i refl)
+        (stores-suc (λ i. q - suc i) places s m (q - suc p) p i (omega arith))
+        (stores-suc (λ i. left) lengths s m (q - suc p) left i refl)
+        (put-exchanged word q p x (ready-inside a) (omega arith))
+
+    letters : (m t : ℕ) → t + m ≡ q → Exchanging n (levels k n) word q (getD word q 0) t → Letters m t
+    letters zero t e w = let z : q ≡ t = omega arith in subst (Letters 0) z letters-none
+    letters (suc m) t e w = letters-next m t e (w t (omega arith) (omega arith)) (letters m (suc t) (omega arith) (λ j h. w j (omega arith)))
+
+    -- the letter has come to place r, where it stops
+    pub passed : {c r : ℕ} {families′ places′ lengths′ word′ : List ℕ} → c ≡ levels k n → r ≤ q → word′ ≡ put word r q (getD word q 0)
+        → Exchanging n c word q (getD word q 0) r → (1 ≤ r → exchanging n c (getD word (r - 1) 0) (getD word q 0) ≡ false)
+        → families′ ≡ stores (λ i. 2) families s (q - r) → places′ ≡ stores (λ i. q - suc i) places s (q - r)
+        → lengths′ ≡ stores (λ i. left) lengths s (q - r)
+        → (r ≤ q) × Carried k n rest s families places lengths word (s + (q - r)) families′ places′ lengths′ word′ r
+        × (1 ≤ r → exchanging n (levels k n) (getD word′ (r - 1) 0) (getD word′ r 0) ≡ false)
+    passed {c} {r} {word′ = word′} d h e w o f g m =
+        let b = letters (q - r) r (omega arith) (rw (← d) w) in
+        let stop : getD word′ r 0 ≡ getD word q 0 = rw e (b .1) in
+        (h, rw (e, f, g, m) (b .2), λ u. rw (put-read word word′ q (ready-inside a) r (getD word q 0) u h e, stop, ← d) (o u))

@@ -1,13 +1,16 @@
 -- The turns of the loops of the module `carrying` that move letters of the word by one or by two places.
 --
--- Sections: by one to the right; by two to the left.
+-- Sections: by one to the right; past letters that exchange; by two to the left.
 -- Assumes nothing.
 use mathlib.Core.Path.{_≡_, refl, sym, ap, ap₂, _∙_}
+use mathlib.Core.Bool.{Bool, true}
 use mathlib.Core.List.{List, [], _∷_, _++_, append-assoc, append-nil}
 use Prim.Native.Nat.{ℕ, zero, suc, _+_, _-_, _≤_, _<_}
+use native.Mathlib.Decide.{ℕ-discrete}
 use native.Mathlib.Omega.{arith}
 use lib.ListN.{length, getD, take, drop, set, length-set, length-drop, List·getD-append}
-use lib.Seq.{length-take-le, take-suc, take-all, drop-cons, append-snoc, split-at, set-at, getD-take, getD-drop, take-suc-set, drop-set-lt}
+use lib.Seq.{length-take-le, take-suc, take-all, drop-cons, append-snoc, split-at, set-at, set-set, getD-take, getD-drop, take-suc-set, drop-set-lt}
+use Rattle.traces.proofs.TwoLetters.{exchanging}
 
 -- ---- by one to the right
 
@@ -19,8 +22,15 @@ pub put-none : (w : List ℕ) (q : ℕ) → q < length w → w ≡ put w q q (ge
 put-none w q h = let e : q - q ≡ 0 = omega arith in rw e (split-at w q 0 h)
 
 module _ (w word : List ℕ) (q : ℕ) (h : q < length w) where
-  put-set : (t y : ℕ) → t ≤ q → word ≡ put w t q (getD w t 0) → set word t y ≡ put w t q y
+  pub put-set : (t y : ℕ) → t ≤ q → word ≡ put w t q (getD w t 0) → set word t y ≡ put w t q y
   put-set t y l e = ap (λ (v : List ℕ). set v t y) e ∙ set-at (take t w) (getD w t 0) _ y t (length-take-le t w (omega arith))
+
+  -- the letter before
+  pub put-read : (t y : ℕ) → 0 < t → t ≤ q → word ≡ put w t q y → getD word (t - 1) 0 ≡ getD w (t - 1) 0
+  put-read t y o l e =
+      ap (λ (v : List ℕ). getD v (t - 1) 0) e
+      ∙ List·getD-append (take t w) _ 0 (t - 1) (rw (length-take-le t w (omega arith)) (omega arith))
+      ∙ getD-take t w (t - 1) 0 (omega arith)
 
   pub put-next : (t : ℕ) → 0 < t → t ≤ q → word ≡ put w t q (getD w t 0) → set word t (getD word (t - 1) 0) ≡ put w (t - 1) q (getD w (t - 1) 0)
   put-next zero o l e = absurd (omega arith)
@@ -28,10 +38,7 @@ module _ (w word : List ℕ) (q : ℕ) (h : q < length w) where
       let z : suc t - 1 ≡ t = omega arith in
       let b : ℕ = getD w t 0 in
       let m : List ℕ = take (q - suc t) (drop (suc t) w) in
-      let read : getD word t 0 ≡ b =
-      ap (λ (v : List ℕ). getD v t 0) e
-      ∙ List·getD-append (take (suc t) w) _ 0 t (rw (length-take-le (suc t) w (omega arith)) (omega arith))
-      ∙ getD-take (suc t) w t 0 (omega arith) in
+      let read : getD word t 0 ≡ b = rw z at (put-read (suc t) _ o l e) in
       let s : q - t ≡ suc (q - suc t) = omega arith in
       let inner : take (q - t) (drop t w) ≡ b ∷ m = ap₂ take s (drop-cons w t 0 (omega arith)) in
       rw (z, read)
@@ -41,6 +48,30 @@ module _ (w word : List ℕ) (q : ℕ) (h : q < length w) where
 
   pub put-end : (t place first : ℕ) → place ≤ t → t ≤ place → place ≤ q → word ≡ put w t q (getD w t 0) → set word place first ≡ put w place q first
   put-end t place first a b l e = let z : t ≡ place = omega arith in put-set place first l (rw z at e)
+
+-- ---- past letters that exchange
+
+-- y exchanged with the letter before it
+pub put-exchanged : (w : List ℕ) (q p y : ℕ) → q < length w → suc p ≤ q
+    → set (set (put w (suc p) q y) (suc p) (getD (put w (suc p) q y) p 0)) p y ≡ put w p q y
+put-exchanged w q p y h l =
+    let z : suc p - 1 ≡ p = omega arith in
+    let v : List ℕ = put w (suc p) q (getD w (suc p) 0) in
+    let here = rw z at (put-read w (put w (suc p) q y) q h (suc p) y (omega arith) l refl) in
+    let there = rw z at (put-read w v q h (suc p) _ (omega arith) l refl) in
+    rw (here ∙ sym there, ← put-set w v q h (suc p) y l refl, set-set v (suc p) y (getD v p 0))
+    (put-set w _ q h p y (omega arith) (rw z at (put-next w v q h (suc p) (omega arith) l refl)))
+
+-- the letter x exchanges with each letter from place t up to before q
+module _ (n c : ℕ) (w : List ℕ) (q x : ℕ) where
+  abbrev pub Exchanging : ℕ → Type 0
+  Exchanging t = (j : ℕ) → t ≤ j → j < q → exchanging n c (getD w j 0) x ≡ true
+
+  pub exchanging-next : (t l : ℕ) (done : Bool) → l ≡ getD w (t - 1) 0 → done ≡ exchanging n c l x → done ≡ true → Exchanging t → Exchanging (t - 1)
+  exchanging-next t l done e d z f j a b = elim (ℕ-discrete j (t - 1)) [
+    | yes g ↦ rw (g, ← e, ← d) z
+    | no g ↦ f j (omega arith) b
+  ]
 
 -- ---- by two to the left
 

@@ -1,0 +1,122 @@
+-- `carrying::note_passed` notes step after step, as far as the lists go.
+-- Assumes nothing.
+use mathlib.Core.Path.{_≡_, refl, sym}
+use Prim.Native.Nat.{suc, _-_, _≤_}
+use native.Mathlib.Omega.{arith}
+use Rattle.traces.proofs.Tracing.{stores}
+use Rattle.rewriter.proofs.carrying.Noting.{stores-start, stores-size, stores-next, stores-end}
+use borrow.Author.Needs.{needs}
+use Rattle.rewriter.proofs.carrying.note_passed.Statement.{statement}
+use Rattle.rewriter.proofs.carrying.note_passed.Tie as tie
+
+abbrev Inv-loop : tie.InvT-loop
+Inv-loop families₀ places₀ lengths₀ s m q left end i₀ families places lengths i =
+    (i ≤ end) × (families ≡ stores (λ j. 2) families₀ s i) × (places ≡ stores (λ j. q - suc j) places₀ s i)
+    × (lengths ≡ stores (λ j. left) lengths₀ s i)
+
+abbrev μ-loop : tie.MeasureT-loop
+μ-loop families₀ places₀ lengths₀ s m q left end i₀ families places lengths i = end - i
+
+room-for-requires : tie.Need-room-for-requires Inv-loop μ-loop
+room-for-requires c κs = search needs
+
+loop-holds : tie.Need-loop-holds Inv-loop μ-loop
+loop-holds c = (omega arith, stores-start _ _ _, stores-start _ _ _, stores-start _ _ _)
+
+add-families : tie.Need-add-families Inv-loop μ-loop
+add-families c = omega arith
+
+slice-write-families : tie.Need-slice-write-families Inv-loop μ-loop
+slice-write-families c = omega (arith, stores-size _ _ _ _ _ (c .before .loop .inv .1))
+
+sub-places : tie.Need-sub-places Inv-loop μ-loop
+sub-places c = search needs
+
+sub-places-2 : tie.Need-sub-places-2 Inv-loop μ-loop
+sub-places-2 c = search needs
+
+cast-places : tie.Need-cast-places Inv-loop μ-loop
+cast-places c = search needs
+
+add-places : tie.Need-add-places Inv-loop μ-loop
+add-places c = omega arith
+
+mul-places : tie.Need-mul-places Inv-loop μ-loop
+mul-places c = search needs
+
+slice-write-places : tie.Need-slice-write-places Inv-loop μ-loop
+slice-write-places c = omega (arith, stores-size _ _ _ _ _ (c .before .loop .inv .2))
+
+cast-lengths : tie.Need-cast-lengths Inv-loop μ-loop
+cast-lengths c = search needs
+
+add-lengths : tie.Need-add-lengths Inv-loop μ-loop
+add-lengths c = omega arith
+
+mul-lengths : tie.Need-mul-lengths Inv-loop μ-loop
+mul-lengths c = search needs
+
+slice-write-lengths : tie.Need-slice-write-lengths Inv-loop μ-loop
+slice-write-lengths c = omega (arith, stores-size _ _ _ _ _ (c .before .loop .inv .3))
+
+add-i : tie.Need-add-i Inv-loop μ-loop
+add-i c = omega arith
+
+loop-less : tie.Need-loop-less Inv-loop μ-loop
+loop-less c = search needs
+
+loop-again : tie.Need-loop-again Inv-loop μ-loop
+loop-again c =
+    let i = c .before .loop .inv in (
+      omega arith,
+      stores-next _ _ _ _ _ (i .1) _ refl,
+      stores-next _ _ _ _ _ (i .2) _ (omega arith),
+      stores-next _ _ _ _ _ (i .3) _ refl,
+    )
+
+same-length : tie.Need-same-length Inv-loop μ-loop
+same-length c = stores-size _ _ _ _ _ (c .before .loop .inv .1)
+
+same-length-2 : tie.Need-same-length-2 Inv-loop μ-loop
+same-length-2 c = stores-size _ _ _ _ _ (c .before .loop .inv .2)
+
+same-length-3 : tie.Need-same-length-3 Inv-loop μ-loop
+same-length-3 c = stores-size _ _ _ _ _ (c .before .loop .inv .3)
+
+returns : tie.Need-returns Inv-loop μ-loop
+returns c =
+    let i = c .before .loop .inv in
+    let room = c .before .before .room-for .ensures in
+    let s = c .before .before .before .before .before .before in (
+      stores-end _ _ _ _ _ (i .1) _ _ _ refl room (i .0) (c .loop-test .left),
+      stores-end _ _ _ _ _ (i .2) _ _ _ (sym (s .pre .0 .0)) room (i .0) (c .loop-test .left),
+      stores-end _ _ _ _ _ (i .3) _ _ _ (sym (s .pre .0 .1)) room (i .0) (c .loop-test .left),
+    )
+
+pub note-passed-spec : {M : Type 1} → statement M
+note-passed-spec =
+    tie.close
+    (tie.spec
+    Inv-loop
+    μ-loop
+    room-for-requires
+    loop-holds
+    add-families
+    slice-write-families
+    sub-places
+    sub-places-2
+    cast-places
+    add-places
+    mul-places
+    slice-write-places
+    cast-lengths
+    add-lengths
+    mul-lengths
+    slice-write-lengths
+    add-i
+    loop-less
+    loop-again
+    same-length
+    same-length-2
+    same-length-3
+    returns)

@@ -1,0 +1,126 @@
+-- `carrying::shift` moves letters on by one place, from the last to the first, as long as they exchange with the letter
+-- that moves, and stores that letter before them.
+-- Assumes nothing.
+use mathlib.Core.Path.{_≡_, refl, sym, _∙_}
+use Prim.Native.Nat.{_-_, _≤_}
+use native.Mathlib.Omega.{arith}
+use lib.ListN.{length, getD, length-set}
+use Rattle.coxeter.proofs.LetterLaws.{letter-within}
+use Rattle.rules.proofs.ScanRules.{wrongLetter-drop}
+use Rattle.rewriter.proofs.carrying.Shifting.{put, put-none, put-set, put-read, put-next, Exchanging, exchanging-next}
+use borrow.Author.Needs.{needs}
+use Rattle.rewriter.proofs.carrying.shift.Statement.{statement}
+use Rattle.rewriter.proofs.carrying.shift.Tie as tie
+
+abbrev Inv-loop : tie.InvT-loop
+Inv-loop n corner word₀ q x t₀ word t =
+    (t ≤ q) × (length word ≡ length word₀) × (word ≡ put word₀ t q (getD word₀ t 0)) × Exchanging n corner word₀ q x t
+
+abbrev μ-loop : tie.MeasureT-loop
+μ-loop n corner word₀ q x t₀ word t = t
+
+slice-read-x : tie.Need-slice-read-x Inv-loop μ-loop
+slice-read-x c = c .before .before .pre .2
+
+loop-holds : tie.Need-loop-holds Inv-loop μ-loop
+loop-holds c =
+    let s = c .before .before in
+    (omega arith, refl, put-none _ _ (s .pre .2), λ j a b. absurd (omega arith))
+
+sub-l : tie.Need-sub-l Inv-loop μ-loop
+sub-l c = search needs
+
+slice-read-l : tie.Need-slice-read-l Inv-loop μ-loop
+slice-read-l c =
+    let l = c .before .before in
+    omega (arith, l .loop .inv .1, l .before .before .before .pre .2)
+
+exchanges-requires : tie.Need-exchanges-requires Inv-loop μ-loop
+exchanges-requires c κs =
+    let l = c .before .before in
+    let i = l .loop .inv in
+    let s = l .before .before .before in
+    let w = s .args .word .now in
+    let p = l .loop .t - 1 in
+    rw (put-read w _ _ (s .pre .2) _ _ (omega arith) (i .0) (i .2))
+    (omega (arith, letter-within _ w p (omega (arith, s .pre .2)) (wrongLetter-drop _ p w (s .pre .1)) .1, s .pre .0))
+
+slice-write-word : tie.Need-slice-write-word Inv-loop μ-loop
+slice-write-word c =
+    let l = c .before .before .before .before in
+    omega (arith, l .loop .inv .1, l .before .before .before .pre .2)
+
+sub-t : tie.Need-sub-t Inv-loop μ-loop
+sub-t c = search needs
+
+loop-less : tie.Need-loop-less Inv-loop μ-loop
+loop-less c = search needs
+
+loop-again : tie.Need-loop-again Inv-loop μ-loop
+loop-again c =
+    let e = c .before in
+    let l = e .before .before .before in
+    let i = l .loop .inv in
+    let s = l .before .before .before in
+    let read = put-read _ (l .loop .word) _ (s .pre .2) (l .loop .t) _ (omega arith) (i .0) (i .2) in (
+      omega arith,
+      simp length-set (i .1),
+      put-next _ _ _ (s .pre .2) _ (omega arith) (i .0) (i .2),
+      exchanging-next _ _ (s .args .word .now) _ _ (l .loop .t) _ _ read (e .exchanges .ensures) (c .if1 .taken) (i .3),
+    )
+
+slice-write-word-2 : tie.Need-slice-write-word-2 Inv-loop μ-loop
+slice-write-word-2 c =
+    let l = c .before .before .before .before in
+    omega (arith, l .loop .inv .1, l .before .before .before .pre .2)
+
+same-length : tie.Need-same-length Inv-loop μ-loop
+same-length c = simp length-set (c .before .before .before .before .loop .inv .1)
+
+returns : tie.Need-returns Inv-loop μ-loop
+returns c =
+    let e = c .before in
+    let l = e .before .before .before in
+    let i = l .loop .inv in
+    let s = l .before .before .before in (
+      i .0,
+      put-set _ _ _ (s .pre .2) _ _ (i .0) (i .2),
+      i .3,
+      λ o. rw (← put-read _ _ _ (s .pre .2) _ _ (omega arith) (i .0) (i .2)) (sym (e .exchanges .ensures) ∙ c .if1 .left),
+    )
+
+slice-write-word-3 : tie.Need-slice-write-word-3 Inv-loop μ-loop
+slice-write-word-3 c =
+    let l = c .before in
+    omega (arith, l .loop .inv .1, l .before .before .before .pre .2)
+
+same-length-2 : tie.Need-same-length-2 Inv-loop μ-loop
+same-length-2 c = simp length-set (c .before .loop .inv .1)
+
+returns-2 : tie.Need-returns-2 Inv-loop μ-loop
+returns-2 c =
+    let i = c .before .loop .inv in
+    let s = c .before .before .before .before in
+    (i .0, put-set _ _ _ (s .pre .2) _ _ (i .0) (i .2), i .3, λ o. absurd (omega arith))
+
+pub shift-spec : {M : Type 1} → statement M
+shift-spec =
+    tie.close
+    (tie.spec
+    Inv-loop
+    μ-loop
+    slice-read-x
+    loop-holds
+    sub-l
+    slice-read-l
+    exchanges-requires
+    slice-write-word
+    sub-t
+    loop-less
+    loop-again
+    slice-write-word-2
+    same-length
+    returns
+    slice-write-word-3
+    same-length-2
+    returns-2)
