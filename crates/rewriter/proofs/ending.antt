@@ -1,3 +1,4 @@
 -- What the proofs of the module `ending` share.
 pub mod Ends
 pub mod BlockEnds
+pub mod Rising

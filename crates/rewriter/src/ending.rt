@@ -68,10 +68,12 @@ fn lower_of(l: u8, x: u8) -> u8
     l
 }
 
-// Where a rule of families 3 to 7 that ends at q begins, if there is one: at the lower of the last two letters.
-fn place_of(n: u8, word: &[u8], q: usize) -> usize
-    requires { ⌜ n ≤ 64 ⌝ }
-    requires { ⌜ (1 ≤ q) × (q < length (now word)) × (q ≤ 4096) ⌝ }
+// Where a rule of families 3 to 7 that ends at q begins, if there is one: at the lower of the last two letters. In
+// kinds A and B the letters of a block that has not turned rise by ones, so the place is tried that follows from the
+// two letters before any search.
+fn place_of(kind: u8, n: u8, word: &[u8], q: usize) -> usize
+    requires { ⌜ Ranked (kindOf kind) n ⌝ }
+    requires { ⌜ Reading (kindOf kind) n (now word) q × (1 ≤ q) × (q < length (now word)) × (q ≤ 4096) ⌝ }
     ensures { λ r. ⌜ (r ≤ q)
         × (getD (now (word .entry)) (q - 1) 0 < getD (now (word .entry)) q 0
         → Stopped (now (word .entry)) (suc q - 2 * n) (q - 1) (getD (now (word .entry)) (q - 1) 0) r)
@@ -83,6 +85,16 @@ fn place_of(n: u8, word: &[u8], q: usize) -> usize
     let floor = floor_of(n, q);
     if l < x {
         return start_of(word, floor, q - 1, l);
+    }
+    let corner = corner_of(kind, n);
+    let back = (l - x) as usize;
+    if corner == n {
+        if back < q {
+            let p = q - 1 - back;
+            if word[p] == x {
+                return p;
+            }
+        }
     }
     start_of(word, floor, q, x)
 }
@@ -157,7 +169,7 @@ pub(crate) fn ending_rule(kind: u8, n: u8, word: &[u8], q: usize) -> Ending
             first: 0,
         };
     }
-    let place = place_of(n, word, q);
+    let place = place_of(kind, n, word, q);
     let low = lower_of(l, x);
     if word[place] != low {
         return Ending::Nothing;

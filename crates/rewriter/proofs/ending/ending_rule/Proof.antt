@@ -41,7 +41,7 @@ place-of-requires : tie.Need-place-of-requires
 place-of-requires c κs =
     let o = c .before .before .before in
     let s = o .before .before in
-    (s .pre .0 .1, (one (o .if1 .left), reading-inside _ _ (s .pre .0 .0) _ _ (s .pre .1 .0 .0), s .pre .1 .0 .1))
+    (s .pre .0, (s .pre .1 .0 .0, one (o .if1 .left), reading-inside _ _ (s .pre .0 .0) _ _ (s .pre .1 .0 .0), s .pre .1 .0 .1))
 
 lower-of-requires : tie.Need-lower-of-requires
 lower-of-requires c κs = search needs

@@ -1,7 +1,10 @@
--- `ending::place_of` goes back from the letter before the lower of the last two.
+-- `ending::place_of` goes back from the letter before the lower of the last two, or finds it where the letters rise.
 -- Assumes nothing.
-use mathlib.Core.Path.{refl}
-use Rattle.rewriter.proofs.ending.Ends.{begun-rising, begun-falling}
+use mathlib.Core.Path.{refl, sym, _∙_}
+use Prim.Native.Nat.{_-_}
+use native.Mathlib.Omega.{arith}
+use Rattle.rewriter.proofs.ending.Ends.{within, begun-rising, begun-falling}
+use Rattle.rewriter.proofs.ending.Rising.{stopped-rising}
 use borrow.Author.Needs.{needs}
 use Rattle.rewriter.proofs.ending.place_of.Statement.{statement}
 use Rattle.rewriter.proofs.ending.place_of.Tie as tie
@@ -27,11 +30,39 @@ start-of-requires c κs = search needs
 returns : tie.Need-returns
 returns c = begun-rising _ _ _ _ _ _ _ (c .before .before .floor-of .ensures) refl refl (c .before .if1 .taken) (c .start-of .ensures)
 
+corner-of-requires : tie.Need-corner-of-requires
+corner-of-requires c κs = search needs
+
+cast-back : tie.Need-cast-back
+cast-back c =
+    let s = c .before .before .before .before .before .before in
+    omega (arith, within _ _ (s .pre .0 .0) _ _ (s .pre .1 .0) (s .pre .1 .1) (s .args .q - 1) (omega arith))
+
+sub-p : tie.Need-sub-p
+sub-p c = search needs
+
+sub-p-2 : tie.Need-sub-p-2
+sub-p-2 c = search needs
+
+shared-slice-read-if4 : tie.Need-shared-slice-read-if4
+shared-slice-read-if4 c = search needs
+
+returns-2 : tie.Need-returns-2
+returns-2 c =
+    let t = c .before .before .before in
+    let e = t .before in
+    let s = e .before .before .before .before .before .before in
+    begun-falling _ _ _ _ _ _ _ (e .before .before .floor-of .ensures) refl refl (e .before .if1 .left)
+    (stopped-rising _ _ (s .pre .0 .0) _ _ (s .pre .1 .0) (sym (e .corner-of .ensures) ∙ t .if2 .taken) _ _ (e .before .if1 .left) (omega arith)
+    (c .if4 .taken))
+
 start-of-requires-2 : tie.Need-start-of-requires-2
 start-of-requires-2 c κs = search needs
 
-returns-2 : tie.Need-returns-2
-returns-2 c = begun-falling _ _ _ _ _ _ _ (c .before .before .floor-of .ensures) refl refl (c .before .if1 .left) (c .start-of2 .ensures)
+returns-3 : tie.Need-returns-3
+returns-3 c =
+    let e = c .before .before in
+    begun-falling _ _ _ _ _ _ _ (e .before .before .floor-of .ensures) refl refl (e .before .if1 .left) (c .start-of2 .ensures)
 
 pub place-of-spec : {M : Type 1} → statement M
 place-of-spec =
@@ -44,5 +75,11 @@ place-of-spec =
     sub-start-of
     start-of-requires
     returns
+    corner-of-requires
+    cast-back
+    sub-p
+    sub-p-2
+    shared-slice-read-if4
+    returns-2
     start-of-requires-2
-    returns-2)
+    returns-3)
