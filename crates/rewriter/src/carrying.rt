@@ -87,6 +87,9 @@ fn note_passed(
         × (now (places .exit) ≡ stores (λ i. q - suc i) (now (places .entry)) s m)
         × (now (lengths .exit) ≡ stores (λ i. left) (now (lengths .entry)) s m) ⌝ }
 {
+    if m == 0 {
+        return;
+    }
     let end = room_for(families.len(), s, m);
     let mut i = 0;
     while i < end {

@@ -68,9 +68,9 @@ fn lower_of(l: u8, x: u8) -> u8
     l
 }
 
-// Where a rule of families 3 to 7 that ends at q begins, if there is one: at the lower of the last two letters. In
-// kinds A and B the letters of a block that has not turned rise by ones, so the place is tried that follows from the
-// two letters before any search.
+// Where a rule of families 3 to 7 that ends at q begins, if there is one: where the lower of its last two letters
+// stood before. In kinds A and B the letters between rise by ones, most often, so that x stood as many places before l
+// as it is lower; that place is tried before the search.
 fn place_of(kind: u8, n: u8, word: &[u8], q: usize) -> usize
     requires { ⌜ Ranked (kindOf kind) n ⌝ }
     requires { ⌜ Reading (kindOf kind) n (now word) q × (1 ≤ q) × (q < length (now word)) × (q ≤ 4096) ⌝ }

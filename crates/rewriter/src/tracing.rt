@@ -19,6 +19,13 @@ fn no_letters() -> [u8; 4096]
     [0u8; 4096]
 }
 
+// Room for a word of at most 128 letters, which takes less time to make.
+fn few_letters() -> [u8; 128]
+    ensures { λ r. ⌜ 128 ≡ length r ⌝ }
+{
+    [0u8; 128]
+}
+
 // A list of numbers of which none is used.
 fn no_numbers() -> [u16; 1]
     ensures { λ r. ⌜ 1 ≡ length r ⌝ }
@@ -45,7 +52,7 @@ fn make(
 ) -> Count
     requires { ⌜ AcceptedWord kind n (now word) ⌝ }
     requires { ⌜ (length (now places) ≡ length (now families)) × (length (now lengths) ≡ length (now families)) ⌝ }
-    requires { ⌜ 4096 ≡ length (now work) ⌝ }
+    requires { ⌜ length (now word) ≤ length (now work) ⌝ }
     ensures { λ r. ⌜ Made (kindOf kind) n (now (word .entry)) (now (families .entry)) (now (places .entry)) (now (lengths .entry))
         (r .steps) (now (families .exit)) (now (places .exit)) (now (lengths .exit)) (now (work .exit)) (r .size) ⌝ }
 {
@@ -71,16 +78,16 @@ fn make(
     Count { steps, size }
 }
 
-// How many steps the rewriting of an accepted word has, and how many letters its final word.
-pub(crate) fn count(kind: u8, n: u8, word: &[u8]) -> Count
+// How many steps the rewriting of an accepted word has, and how many letters its final word, by a work array.
+fn count_in(kind: u8, n: u8, word: &[u8], work: &mut [u8]) -> Count
     requires { ⌜ AcceptedWord kind n (now word) ⌝ }
+    requires { ⌜ length (now word) ≤ length (now work) ⌝ }
     ensures { λ r. ⌜ (r .steps ≡ length (trace (kindOf kind) n (now (word .entry)) .lines))
         × (r .size ≡ length (trace (kindOf kind) n (now (word .entry)) .final)) ⌝ }
 {
     let mut families = no_families();
     let mut places = no_numbers();
     let mut lengths = no_numbers();
-    let mut work = no_letters();
     make(
         kind,
         n,
@@ -88,11 +95,61 @@ pub(crate) fn count(kind: u8, n: u8, word: &[u8]) -> Count
         &mut families[..0],
         &mut places[..0],
         &mut lengths[..0],
-        &mut work,
+        work,
     )
 }
 
-// The rewriting of an accepted word, which has `steps` steps, written to lists and an output with room for it.
+// The same, with a work array of its own.
+pub(crate) fn count(kind: u8, n: u8, word: &[u8]) -> Count
+    requires { ⌜ AcceptedWord kind n (now word) ⌝ }
+    ensures { λ r. ⌜ (r .steps ≡ length (trace (kindOf kind) n (now (word .entry)) .lines))
+        × (r .size ≡ length (trace (kindOf kind) n (now (word .entry)) .final)) ⌝ }
+{
+    if word.len() <= 128 {
+        let mut work = few_letters();
+        return count_in(kind, n, word, &mut work);
+    }
+    let mut work = no_letters();
+    count_in(kind, n, word, &mut work)
+}
+
+// The rewriting of an accepted word, which has `steps` steps, written to lists and an output with room for it, by a
+// work array.
+fn write_in(
+    kind: u8,
+    n: u8,
+    word: &[u8],
+    steps: usize,
+    families: &mut [u8],
+    places: &mut [u16],
+    lengths: &mut [u16],
+    out: &mut [u8],
+    work: &mut [u8],
+)
+    requires { ⌜ AcceptedWord kind n (now word) ⌝ }
+    requires { ⌜ steps ≡ length (trace (kindOf kind) n (now word) .lines) ⌝ }
+    requires { ⌜ (steps ≤ length (now families)) × (steps ≤ length (now places)) × (steps ≤ length (now lengths)) ⌝ }
+    requires { ⌜ length (trace (kindOf kind) n (now word) .final) ≤ length (now out) ⌝ }
+    requires { ⌜ length (now word) ≤ length (now work) ⌝ }
+    ensures { λ _. ⌜ (now (families .exit) ≡ written 0 (familiesOf (trace (kindOf kind) n (now (word .entry)) .lines)) (now (families .entry)))
+        × (now (places .exit) ≡ written 0 (placesOf (trace (kindOf kind) n (now (word .entry)) .lines)) (now (places .entry)))
+        × (now (lengths .exit) ≡ written 0 (lengthsOf (trace (kindOf kind) n (now (word .entry)) .lines)) (now (lengths .entry)))
+        × (now (out .exit) ≡ written 0 (trace (kindOf kind) n (now (word .entry)) .final) (now (out .entry))) ⌝ }
+{
+    let made = make(
+        kind,
+        n,
+        word,
+        &mut families[..steps],
+        &mut places[..steps],
+        &mut lengths[..steps],
+        work,
+    );
+    let size = made.size;
+    copy(&work[..size], out, 0);
+}
+
+// The same, with a work array of its own.
 pub(crate) fn write_trace(
     kind: u8,
     n: u8,
@@ -112,16 +169,31 @@ pub(crate) fn write_trace(
         × (now (lengths .exit) ≡ written 0 (lengthsOf (trace (kindOf kind) n (now (word .entry)) .lines)) (now (lengths .entry)))
         × (now (out .exit) ≡ written 0 (trace (kindOf kind) n (now (word .entry)) .final) (now (out .entry))) ⌝ }
 {
+    if word.len() <= 128 {
+        let mut work = few_letters();
+        write_in(
+            kind,
+            n,
+            word,
+            steps,
+            families,
+            places,
+            lengths,
+            out,
+            &mut work,
+        );
+        return;
+    }
     let mut work = no_letters();
-    let made = make(
+    write_in(
         kind,
         n,
         word,
-        &mut families[..steps],
-        &mut places[..steps],
-        &mut lengths[..steps],
+        steps,
+        families,
+        places,
+        lengths,
+        out,
         &mut work,
     );
-    let size = made.size;
-    copy(&work[..size], out, 0);
 }

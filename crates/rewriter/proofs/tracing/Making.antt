@@ -62,15 +62,15 @@ module _ (k n : ℕ) (word families places lengths work₀ : List ℕ) (h : Acce
     abbrev form : List ℕ
     form = take size work
 
-    module _ (g : i < length word) (f : 4096 ≡ length work₀) where
+    module _ (g : i < length word) (f : length word ≤ length work₀) where
       abbrev letter : ℕ
       letter = getD word i 0
 
       size-form : length form ≡ size
-      size-form = length-take-le size work (omega (arith, m .short, m .work-size, length-accepted n word (h .word)))
+      size-form = length-take-le size work (omega (arith, m .short, m .work-size))
 
       pub making-room : (size < length work) × (size + 1 ≤ length work)
-      making-room = omega (arith, m .short, m .work-size, length-accepted n word (h .word))
+      making-room = omega (arith, m .short, m .work-size)
 
       letter-in : (1 ≤ letter) × (letter ≤ n)
       letter-in = letter-within n word i g (wrongLetter-drop n i word (letters-accepted n word (h .word)))
@@ -141,9 +141,9 @@ module _ (k n : ℕ) (word families places lengths work₀ : List ℕ) (h : Acce
 
     -- ---- the end
 
-    pub making-end : length word ≤ i → 4096 ≡ length work₀ → Made (kindOf k) n word families places lengths s families′ places′ lengths′ work size
+    pub making-end : length word ≤ i → length word ≤ length work₀ → Made (kindOf k) n word families places lengths s families′ places′ lengths′ work size
     making-end g f = record {
-      inside = omega (arith, m .short, m .inside, m .work-size, length-accepted n word (h .word));
+      inside = omega (arith, m .short, m .inside, m .work-size);
       all =
           m .same ∙ ap (finish kind n s families′ places′ lengths′) (ap (λ (w : List ℕ). form ++ w) (drop-of-length-le word g) ∙ append-nil form)
           ∙ finish-end s families′ places′ lengths′ kind n (rank .0) form (m .normal);

@@ -17,6 +17,9 @@ Inv-loop families₀ places₀ lengths₀ s m q left end i₀ families places le
 abbrev μ-loop : tie.MeasureT-loop
 μ-loop families₀ places₀ lengths₀ s m q left end i₀ families places lengths i = end - i
 
+returns : tie.Need-returns Inv-loop μ-loop
+returns c = rw (c .if1 .taken) (stores-start _ _ _, stores-start _ _ _, stores-start _ _ _)
+
 room-for-requires : tie.Need-room-for-requires Inv-loop μ-loop
 room-for-requires c κs = search needs
 
@@ -83,11 +86,11 @@ same-length-2 c = stores-size _ _ _ _ _ (c .before .loop .inv .2)
 same-length-3 : tie.Need-same-length-3 Inv-loop μ-loop
 same-length-3 c = stores-size _ _ _ _ _ (c .before .loop .inv .3)
 
-returns : tie.Need-returns Inv-loop μ-loop
-returns c =
+returns-2 : tie.Need-returns-2 Inv-loop μ-loop
+returns-2 c =
     let i = c .before .loop .inv in
     let room = c .before .before .room-for .ensures in
-    let s = c .before .before .before .before .before .before in (
+    let s = c .before .before .before .before .before .before .before in (
       stores-end _ _ _ _ _ (i .1) _ _ _ refl room (i .0) (c .loop-test .left),
       stores-end _ _ _ _ _ (i .2) _ _ _ (sym (s .pre .0 .0)) room (i .0) (c .loop-test .left),
       stores-end _ _ _ _ _ (i .3) _ _ _ (sym (s .pre .0 .1)) room (i .0) (c .loop-test .left),
@@ -99,6 +102,7 @@ note-passed-spec =
     (tie.spec
     Inv-loop
     μ-loop
+    returns
     room-for-requires
     loop-holds
     add-families
@@ -119,4 +123,4 @@ note-passed-spec =
     same-length
     same-length-2
     same-length-3
-    returns)
+    returns-2)

@@ -1,65 +1,46 @@
--- `tracing::count` makes the rewriting with lists of no places, which are left as they were.
+-- `tracing::count` lends a work array with room for the word.
 -- Assumes nothing.
-use Rattle.rewriter.proofs.tracing.Making.{made-steps, made-size}
+use native.Mathlib.Omega.{arith}
 use borrow.Author.Needs.{needs}
+use Rattle.coxeter.proofs.Acceptance.{length-accepted}
 use Rattle.rewriter.proofs.tracing.count.Statement.{statement}
 use Rattle.rewriter.proofs.tracing.count.Tie as tie
 
-no-families-requires : tie.Need-no-families-requires
-no-families-requires c κs = search needs
+few-letters-requires : tie.Need-few-letters-requires
+few-letters-requires c κs = search needs
 
-no-numbers-requires : tie.Need-no-numbers-requires
-no-numbers-requires c κs = search needs
+slice-aggregate-count-in : tie.Need-slice-aggregate-count-in
+slice-aggregate-count-in c = search needs
 
-no-numbers-requires-2 : tie.Need-no-numbers-requires-2
-no-numbers-requires-2 c κs = search needs
+count-in-requires : tie.Need-count-in-requires
+count-in-requires c κs = search needs
+
+returns : tie.Need-returns
+returns c = search needs
 
 no-letters-requires : tie.Need-no-letters-requires
 no-letters-requires c κs = search needs
 
-array-borrow-prefix-families : tie.Need-array-borrow-prefix-families
-array-borrow-prefix-families c = search needs
+slice-aggregate-count-in-2 : tie.Need-slice-aggregate-count-in-2
+slice-aggregate-count-in-2 c = search needs
 
-slice-aggregate-make : tie.Need-slice-aggregate-make
-slice-aggregate-make c = search needs
+count-in-requires-2 : tie.Need-count-in-requires-2
+count-in-requires-2 c κs =
+    let p = c .before .before .before .before .pre in
+    (p, omega (arith, length-accepted _ _ (p .word), c .before .no-letters .ensures))
 
-array-borrow-prefix-places : tie.Need-array-borrow-prefix-places
-array-borrow-prefix-places c = search needs
-
-slice-aggregate-make-2 : tie.Need-slice-aggregate-make-2
-slice-aggregate-make-2 c = search needs
-
-array-borrow-prefix-lengths : tie.Need-array-borrow-prefix-lengths
-array-borrow-prefix-lengths c = search needs
-
-slice-aggregate-make-3 : tie.Need-slice-aggregate-make-3
-slice-aggregate-make-3 c = search needs
-
-slice-aggregate-make-4 : tie.Need-slice-aggregate-make-4
-slice-aggregate-make-4 c = search needs
-
-make-requires : tie.Need-make-requires
-make-requires c κs = search needs
-
-returns : tie.Need-returns
-returns c =
-    let m = c .before .before .before .before .make .ensures in
-    (made-steps _ _ _ _ _ _ _ _ _ _ _ _ m, made-size _ _ _ _ _ _ _ _ _ _ _ _ m)
+returns-2 : tie.Need-returns-2
+returns-2 c = search needs
 
 pub count-spec : {M : Type 1} → statement M
 count-spec =
     tie.close
     (tie.spec
-    no-families-requires
-    no-numbers-requires
-    no-numbers-requires-2
+    few-letters-requires
+    slice-aggregate-count-in
+    count-in-requires
+    returns
     no-letters-requires
-    array-borrow-prefix-families
-    slice-aggregate-make
-    array-borrow-prefix-places
-    slice-aggregate-make-2
-    array-borrow-prefix-lengths
-    slice-aggregate-make-3
-    slice-aggregate-make-4
-    make-requires
-    returns)
+    slice-aggregate-count-in-2
+    count-in-requires-2
+    returns-2)

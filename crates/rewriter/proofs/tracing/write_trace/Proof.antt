@@ -1,63 +1,19 @@
--- `tracing::write_trace` makes the rewriting in the fronts of the lists, and copies the final word.
+-- `tracing::write_trace` lends a work array with room for the word.
 -- Assumes nothing.
-use mathlib.Core.Path.{sym, _∙_}
-use lib.Seq.{length-take-le}
-use Rattle.rewriter.proofs.tracing.Making.{lists-written, copy-room, out-written}
+use native.Mathlib.Omega.{arith}
 use borrow.Author.Needs.{needs}
+use Rattle.coxeter.proofs.Acceptance.{length-accepted}
 use Rattle.rewriter.proofs.tracing.write_trace.Statement.{statement}
 use Rattle.rewriter.proofs.tracing.write_trace.Tie as tie
 
-no-letters-requires : tie.Need-no-letters-requires
-no-letters-requires c κs = search needs
+few-letters-requires : tie.Need-few-letters-requires
+few-letters-requires c κs = search needs
 
-slice-relend-prefix-make : tie.Need-slice-relend-prefix-make
-slice-relend-prefix-make c = search needs
+slice-aggregate-write-in : tie.Need-slice-aggregate-write-in
+slice-aggregate-write-in c = search needs
 
-slice-aggregate-make : tie.Need-slice-aggregate-make
-slice-aggregate-make c =
-    let s = c .before .before .before .before .before .before .before in
-    sym (length-take-le _ _ (s .pre .1 .1 .0 .0))
-
-slice-relend-prefix-make-2 : tie.Need-slice-relend-prefix-make-2
-slice-relend-prefix-make-2 c = search needs
-
-slice-aggregate-make-2 : tie.Need-slice-aggregate-make-2
-slice-aggregate-make-2 c =
-    let s = c .before .before .before .before .before .before .before .before in
-    sym (length-take-le _ _ (s .pre .1 .1 .0 .1))
-
-slice-relend-prefix-make-3 : tie.Need-slice-relend-prefix-make-3
-slice-relend-prefix-make-3 c = search needs
-
-slice-aggregate-make-3 : tie.Need-slice-aggregate-make-3
-slice-aggregate-make-3 c =
-    let s = c .before .before .before .before .before .before .before .before .before in
-    sym (length-take-le _ _ (s .pre .1 .1 .0 .2))
-
-slice-aggregate-make-4 : tie.Need-slice-aggregate-make-4
-slice-aggregate-make-4 c = search needs
-
-make-requires : tie.Need-make-requires
-make-requires c κs =
-    let n = c .before .before .before .before in
-    let s = n .before .before .before .before .before .before in
-    let r = s .pre .1 .1 .0 in
-    let f = sym (length-take-le _ _ (r .0)) in
-    (s .pre .0, ((length-take-le _ _ (r .1) ∙ f, length-take-le _ _ (r .2) ∙ f), n .no-letters .ensures))
-
-array-share-prefix-work : tie.Need-array-share-prefix-work
-array-share-prefix-work c = search needs
-
-slice-aggregate-copy : tie.Need-slice-aggregate-copy
-slice-aggregate-copy c =
-    let k = c .before .before .before .before .before .before .before .before in
-    sym (length-take-le _ _ (k .make .ensures .inside))
-
-copy-requires : tie.Need-copy-requires
-copy-requires c κs =
-    let k = c .before .before .before .before .before .before .before .before .before in
-    let s = k .before .before .before .before .before .before .before .before .before .before .before in
-    copy-room _ _ _ _ _ _ _ _ _ _ _ _ (k .make .ensures) _ (s .pre .1 .1 .1)
+write-in-requires : tie.Need-write-in-requires
+write-in-requires c κs = search needs
 
 same-length : tie.Need-same-length
 same-length c = search needs
@@ -72,32 +28,52 @@ same-length-4 : tie.Need-same-length-4
 same-length-4 c = search needs
 
 returns : tie.Need-returns
-returns c =
-    let o = c .before .before in
-    let k = o .before .before .before .before .before .before .before .before .before .before in
-    let s = k .before .before .before .before .before .before .before .before .before .before .before in
-    let p = s .pre .1 in
-    let l = lists-written _ _ _ _ _ _ _ _ _ _ _ _ _ (k .make .ensures) (p .0) (p .1 .0 .0) (p .1 .0 .1) (p .1 .0 .2) in
-    (l .0, l .1, l .2, out-written _ _ _ _ _ _ _ _ _ _ _ _ (k .make .ensures) _ _ (p .1 .1) (o .copy .ensures))
+returns c = search needs
+
+no-letters-requires : tie.Need-no-letters-requires
+no-letters-requires c κs = search needs
+
+slice-aggregate-write-in-2 : tie.Need-slice-aggregate-write-in-2
+slice-aggregate-write-in-2 c = search needs
+
+write-in-requires-2 : tie.Need-write-in-requires-2
+write-in-requires-2 c κs =
+    let p = c .before .before .before .before .before .before .before .before .before .before .before .before .pre in
+    let letters = c .before .before .before .before .before .no-letters .ensures in
+    (p .0, (p .1 .0, (p .1 .1 .0, (p .1 .1 .1, omega (arith, length-accepted _ _ (p .0 .word), letters)))))
+
+same-length-5 : tie.Need-same-length-5
+same-length-5 c = search needs
+
+same-length-6 : tie.Need-same-length-6
+same-length-6 c = search needs
+
+same-length-7 : tie.Need-same-length-7
+same-length-7 c = search needs
+
+same-length-8 : tie.Need-same-length-8
+same-length-8 c = search needs
+
+returns-2 : tie.Need-returns-2
+returns-2 c = search needs
 
 pub write-trace-spec : {M : Type 1} → statement M
 write-trace-spec =
     tie.close
     (tie.spec
-    no-letters-requires
-    slice-relend-prefix-make
-    slice-aggregate-make
-    slice-relend-prefix-make-2
-    slice-aggregate-make-2
-    slice-relend-prefix-make-3
-    slice-aggregate-make-3
-    slice-aggregate-make-4
-    make-requires
-    array-share-prefix-work
-    slice-aggregate-copy
-    copy-requires
+    few-letters-requires
+    slice-aggregate-write-in
+    write-in-requires
     same-length
     same-length-2
     same-length-3
     same-length-4
-    returns)
+    returns
+    no-letters-requires
+    slice-aggregate-write-in-2
+    write-in-requires-2
+    same-length-5
+    same-length-6
+    same-length-7
+    same-length-8
+    returns-2)
