@@ -28,6 +28,7 @@ fn main() {
             presets::words(&mut bench, &mut random, kind, rank, &rig);
             presets::windows(&mut bench, &mut random, kind, rank, &rig);
             presets::rewrites(&mut bench, &mut random, kind, rank, &rig);
+            presets::endings(&mut bench, &mut random, kind, rank, &rig);
             presets::fallbacks(&mut bench, &mut random, kind, rank, &rig);
             presets::splits(&mut bench, &mut random, kind, rank, &rig);
         }

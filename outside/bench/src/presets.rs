@@ -94,6 +94,20 @@ pub fn rewrites(bench: &mut Bench, random: &mut Random, kind: u32, rank: u32, ri
     cell("4096 letters, start, longest left side".to_string(), &words, 0);
 }
 
+/// Rewritings of short words to their end, with their lists and only counted; `traces` has long ones.
+pub fn endings(bench: &mut Bench, random: &mut Random, kind: u32, rank: u32, rig: &str) {
+    for letters in [16, 256] {
+        let words = random.words(rank, letters);
+        let word = |k: usize| black_box(&words[k][..]);
+        let column = format!("{letters} letters");
+        cell!(bench, "rewriting to the end, short words", rig, column, [rattle library_way before], |k, out| rewrite_to_end(
+            kind, rank, word(k), &mut out.families, &mut out.at, &mut out.left, &mut out.bytes, out.counts.room()));
+        let column = format!("{letters} letters, only counted");
+        cell!(bench, "rewriting to the end, short words", rig, column, [rattle library_way before], |k, _|
+            rewrite_steps(kind, rank, word(k)));
+    }
+}
+
 /// The plain version finds fallbacks by another way, all part-lists or the lengths of windows, and not as fast as it could.
 pub fn fallbacks(bench: &mut Bench, random: &mut Random, kind: u32, rank: u32, rig: &str) {
     for letters in LETTERS {

@@ -20,6 +20,10 @@ pub struct Outputs {
     pub counts: Counts,
     /// The places of a fallback, which is free to choose them.
     pub places: Vec<u16>,
+    /// A rewriting to its end: the family, the place and the length left of each step.
+    pub families: Vec<u8>,
+    pub at: Vec<u16>,
+    pub left: Vec<u16>,
 }
 
 impl Outputs {
@@ -32,6 +36,9 @@ impl Outputs {
             fields: vec![0; 5 * 10_922],
             counts: Counts { list: [0; 3], pair: [0; 2], triple: [0; 3] },
             places: vec![0; 4096],
+            families: vec![0; 65535],
+            at: vec![0; 65535],
+            left: vec![0; 65535],
         }
     }
 
@@ -42,6 +49,9 @@ impl Outputs {
             && self.second == other.second
             && self.rule == other.rule
             && self.fields == other.fields
+            && self.families == other.families
+            && self.at == other.at
+            && self.left == other.left
             && (side == Side::Before || self.counts.list == other.counts.list)
     }
 }
@@ -61,6 +71,12 @@ pub trait Room<T: ?Sized> {
 impl Room<[u64]> for Counts {
     fn room(&mut self) -> &mut [u64] {
         &mut self.list
+    }
+}
+
+impl Room<usize> for Counts {
+    fn room(&mut self) -> &mut usize {
+        &mut self.pair[0]
     }
 }
 
