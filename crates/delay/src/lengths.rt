@@ -17,7 +17,7 @@ fn greatest_tabled(kind: u8) -> u8
     16
 }
 
-// C5, C6, C20, in this order: the first refusal, or 0.
+// I33: checks 5, 6, 20 of a delay table, in this order: the first refusal, or 0.
 pub fn table_refusal(kind: u8, rank: u8) -> u8
     ensures { λ r. ⌜ r ≡ tableRefusal kind rank ⌝ }
 {

@@ -70,7 +70,7 @@ pub fn fallback_places(
     settle_words(kind, rank, present, simpler, places)
 }
 
-// C5, C6, C16, C7, C8, in this order: the first refusal, or 0.
+// I33: checks 5, 6, 16, 7, 8 of a split, in this order: the first refusal, or 0.
 pub fn split_refusal(kind: u8, rank: u8, allowed: u64, word: &[u8]) -> u8
     ensures { λ r. ⌜ r ≡ (setRefusal kind rank allowed then wordRefusal rank (now (word .entry))) ⌝ }
 {

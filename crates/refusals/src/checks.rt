@@ -166,7 +166,7 @@ fn unmarked() -> [bool; 64]
 }
 
 // C10, from the last entry to the first, with the sizes of the entries behind marked: constant work an entry. The
-// sign comes first, so that in kind A, where none is left, the size is the entry itself.
+// sign is looked at first: in kind A an entry that passes is not negative, and its size is the entry itself.
 fn has_wrong_entry(kind: u8, m: usize, w: &[i8]) -> bool
     requires { ⌜ m ≤ 64 ⌝ }
     ensures { λ r. ⌜ r ≡ wrongEntry (kindOf kind) m (now (w .entry)) ⌝ }

@@ -19,7 +19,8 @@ struct Parts {
     negatives: usize,
 }
 
-// How many sizes of a set are s or larger; the size s is bit s - 1. The set has m bits, and few are counted faster.
+// How many sizes of a set are s or larger; the size s is bit s - 1. The set has m bits; 8 are
+// counted as a byte, in fewer steps.
 pub(crate) fn larger_behind(m: usize, set: u64, s: u8) -> usize
     requires { ⌜ (1 ≤ s) × (s ≤ 64) × (set < 2 ^ m) ⌝ }
     ensures { λ r. ⌜ r ≡ ones (set / 2 ^ (s - 1)) ⌝ }

@@ -95,8 +95,7 @@ pub fn inverse_of_window(kind: u8, rank: u8, w: &[i8], out: &mut [i8]) -> Answer
     Answer::Length(m)
 }
 
-// I5: writes the normal form of w and returns its length. Checks 5, 6, 9, 10, 11, 14. The window is lent on as a part
-// of full length, for the same reason as the indices in `normal::write_from`.
+// I5: writes the normal form of w and returns its length. Checks 5, 6, 9, 10, 11, 14.
 pub fn normal_form_of_window(kind: u8, rank: u8, w: &[i8], out: &mut [u8]) -> Answer
     ensures { λ r. ⌜ Yields (normalFormOfWindow kind rank (now (w .entry)) (now (out .entry))) r (now (out .exit)) ⌝ }
 {
@@ -104,6 +103,7 @@ pub fn normal_form_of_window(kind: u8, rank: u8, w: &[i8], out: &mut [u8]) -> An
     if refusal != 0 {
         return Answer::Refused(refusal);
     }
+    // All of w as a part of it, as the indices in `normal::write_from`.
     let m = w.len();
     write_checked(kind, rank, &w[..m], out)
 }

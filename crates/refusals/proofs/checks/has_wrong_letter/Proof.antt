@@ -1,5 +1,5 @@
--- `checks::has_wrong_letter` goes from letter to letter: the rank is not above the greatest so far, each less one, or a
--- letter of the part from `i` on is wrong.
+-- `checks::has_wrong_letter` goes from letter to letter and keeps the greatest of them, each less one: a letter is wrong if the
+-- rank is not above that number, or if one from `i` on is wrong.
 -- Assumes nothing.
 use mathlib.Core.Path.{_≡_, refl, _∙_}
 use mathlib.Core.Bool.{_||_}

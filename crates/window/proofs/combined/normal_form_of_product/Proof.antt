@@ -50,8 +50,8 @@ returns-2 c =
     let refusal = first .before .ranked-windows-refusal .ensures in
     let passed = windows-accepted _ _ _ _ _ refusal (first .if1 .left) in
     let work = made .before .before .blank .ensures in
-    made-written _ _ (passed .0) _ _ _ (product-passes _ _ _ _ (passed .1 .0) (passed .1 .1)) work (made .product-into .ensures) _ _ _ _ _ _ refl refusal (first .if1 .left)
-    (called .write-checked .ensures)
+    made-written _ _ (passed .0) _ _ _ (product-passes _ _ _ _ (passed .1 .0) (passed .1 .1)) work
+    (made .product-into .ensures) _ _ _ _ _ _ refl refusal (first .if1 .left) (called .write-checked .ensures)
 
 pub normal-form-of-product-spec : {M : Type 1} → statement M
 normal-form-of-product-spec =
