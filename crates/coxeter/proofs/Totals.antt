@@ -1,4 +1,4 @@
--- A length from its three counts: the total, or the same refusal. The total is at most the length of the longest book.
+-- A length from its three counts: the total, or the same refusal. The total is at most 65,535.
 --
 -- Sections: the answer; what bounds the total.
 -- Assumes nothing.

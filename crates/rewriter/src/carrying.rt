@@ -11,7 +11,7 @@ ghost use Prim.Native.Nat.{ℕ, suc, _+_, _-_, _≤_, _<_, min};
 ghost use lib.ListN.{length, getD, take, drop, set};
 ghost use Rattle.coxeter.specs.Kinds.{kindOf};
 ghost use Rattle.coxeter.specs.NormalForm.{levels};
-ghost use Rattle.coxeter.specs.Checks.{wrongLetter};
+ghost use Rattle.coxeter.specs.Checks.{WordOf};
 ghost use Rattle.traces.proofs.TwoLetters.{exchanging};
 ghost use Rattle.traces.proofs.Tracing.{stores, Ready, Carried, Inserted};
 
@@ -102,7 +102,7 @@ fn note_passed(
 
 // The letter at q put before those that it exchanges with, as far as it goes. Answers where it stands then.
 fn shift(n: u8, corner: u8, word: &mut [u8], q: usize) -> usize
-    requires { ⌜ (n ≤ 64) × (wrongLetter n (now word) ≡ false) × (q < length (now word)) ⌝ }
+    requires { ⌜ (n ≤ 64) × WordOf n (now word) × (q < length (now word)) ⌝ }
     ensures { λ r. ⌜ (r ≤ q) × (now (word .exit) ≡ take r (now (word .entry))
         ++ ((getD (now (word .entry)) q 0 ∷ take (q - r) (drop r (now (word .entry)))) ++ drop (suc q) (now (word .entry))))
         × ((j : ℕ) → r ≤ j → j < q → exchanging n corner (getD (now (word .entry)) j 0) (getD (now (word .entry)) q 0) ≡ true)

@@ -9,7 +9,9 @@ use Prim.Native.Nat.{ℕ, zero, suc, _+_, _-_, _≤_, _<_}
 use native.Mathlib.Omega.{arith}
 use lib.ListN.{length, getD, drop, set, length-set}
 use lib.Seq.{set-split, drop-cons, take-set-le, drop-set-lt, getD-set-same}
+use borrow.Author.Tests.{le-ltb}
 use Rattle.coxeter.specs.Kinds.{Kind}
+use Rattle.coxeter.specs.Checks.{tooLong, wordRefusal, WordOf}
 use Rattle.coxeter.specs.NormalForm.{levels}
 use Rattle.coxeter.proofs.LetterLaws.{letter-within}
 use Rattle.rules.specs.Rules.{rewritten, exchanged}
@@ -28,6 +30,10 @@ module _ {k : Kind} {n : ℕ} {rest : List ℕ} {s : ℕ} {families places lengt
     (a : Ready k n rest s families places lengths word q) where
   pub ready-inside : q < length word
   ready-inside = reading-inside k n (a .rank) word q (a .reading)
+
+  pub ready-word : WordOf n word
+  unfolding wordRefusal tooLong
+  ready-word = rw (le-ltb 4096 (length word) (omega (arith, a .short)), a .reading .letters)
 
   pub ready-letter : (t : ℕ) → t < length word → (1 ≤ getD word t 0) × (getD word t 0 ≤ n)
   ready-letter t h = letter-within n word t h (wrongLetter-drop n t word (a .reading .letters))

@@ -2,7 +2,7 @@
 -- Assumes nothing.
 use mathlib.Core.Path.{refl}
 use native.Mathlib.Omega.{arith}
-use Rattle.rewriter.proofs.carrying.Passing.{ready-inside, passed}
+use Rattle.rewriter.proofs.carrying.Passing.{ready-inside, ready-word, passed}
 use borrow.Author.Needs.{needs}
 use Rattle.rewriter.proofs.carrying.pass.Statement.{statement}
 use Rattle.rewriter.proofs.carrying.pass.Tie as tie
@@ -16,7 +16,7 @@ add-left c = search needs
 shift-requires : tie.Need-shift-requires
 shift-requires c κs =
     let s = c .before .before .before .before .before .before .before in
-    (s .pre .high, s .pre .reading .letters, ready-inside (s .pre))
+    (s .pre .high, ready-word (s .pre), ready-inside (s .pre))
 
 sub-note-passed : tie.Need-sub-note-passed
 sub-note-passed c = search needs

@@ -5,6 +5,7 @@ use mathlib.Core.Path.{_≡_, refl, sym, _∙_}
 use Prim.Native.Nat.{_-_, _≤_}
 use native.Mathlib.Omega.{arith}
 use lib.ListN.{length, getD, length-set}
+use Rattle.coxeter.proofs.Acceptance.{letters-accepted}
 use Rattle.coxeter.proofs.LetterLaws.{letter-within}
 use Rattle.rules.proofs.ScanRules.{wrongLetter-drop}
 use Rattle.rewriter.proofs.carrying.Shifting.{put, put-none, put-set, put-read, put-next, Exchanging, exchanging-next}
@@ -43,7 +44,7 @@ exchanges-requires c κs =
     let w = s .args .word .now in
     let p = l .loop .t - 1 in
     rw (put-read w _ _ (s .pre .2) _ _ (omega arith) (i .0) (i .2))
-    (omega (arith, letter-within _ w p (omega (arith, s .pre .2)) (wrongLetter-drop _ p w (s .pre .1)) .1, s .pre .0))
+    (omega (arith, letter-within _ w p (omega (arith, s .pre .2)) (wrongLetter-drop _ p w (letters-accepted _ w (s .pre .1))) .1, s .pre .0))
 
 slice-write-word : tie.Need-slice-write-word Inv-loop μ-loop
 slice-write-word c =
