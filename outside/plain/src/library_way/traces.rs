@@ -5,6 +5,9 @@
 use crate::checks::check_preset;
 use crate::{A, D, MAX_LETTERS, Refusal, coded, front, listed};
 
+/// Words of so few letters have a work array of their own size, which takes less time to clear.
+const FEW_LETTERS: usize = 128;
+
 /// A rule whose left side ends with a letter: its family, the place where it begins, the letter that its right side puts
 /// first.
 struct Ending {
@@ -56,11 +59,11 @@ fn ending(kind: u32, n: u8, word: &[u8], q: usize) -> Option<Ending> {
 
 /// Rewrites a checked word to its end, in `work`, and tells each step: its family, its place and the length left. Hands
 /// back the length of the final word, which is at the front of `work`.
-fn rewrite(
+fn rewrite<const N: usize>(
     kind: u32,
     n: u8,
     word: &[u8],
-    work: &mut [u8; MAX_LETTERS],
+    work: &mut [u8; N],
     mut step: impl FnMut(u8, usize, usize),
 ) -> usize {
     let mut size = 0;
@@ -93,7 +96,12 @@ fn rewrite(
 /// The number of steps and the length of the final word.
 fn count(kind: u32, n: u8, word: &[u8]) -> (usize, usize) {
     let mut steps = 0;
-    let size = rewrite(kind, n, word, &mut [0; MAX_LETTERS], |_, _, _| steps += 1);
+    let step = |_, _, _| steps += 1;
+    let size = if word.len() <= FEW_LETTERS {
+        rewrite(kind, n, word, &mut [0; FEW_LETTERS], step)
+    } else {
+        rewrite(kind, n, word, &mut [0; MAX_LETTERS], step)
+    };
     (steps, size)
 }
 
@@ -123,15 +131,22 @@ pub fn rewrite_to_end(
         let lengths = lengths.get_mut(..steps).ok_or(15)?;
         let out = front(out, size)?;
         listed([size], written)?;
-        let mut work = [0; MAX_LETTERS];
         let mut at = 0;
-        rewrite(kind, rank, word, &mut work, |family, place, left| {
+        let step = |family, place, left| {
             families[at] = family;
             places[at] = place as u16;
             lengths[at] = left as u16;
             at += 1;
-        });
-        out.copy_from_slice(&work[..size]);
+        };
+        if word.len() <= FEW_LETTERS {
+            let mut work = [0; FEW_LETTERS];
+            rewrite(kind, rank, word, &mut work, step);
+            out.copy_from_slice(&work[..size]);
+        } else {
+            let mut work = [0; MAX_LETTERS];
+            rewrite(kind, rank, word, &mut work, step);
+            out.copy_from_slice(&work[..size]);
+        }
         Ok(steps)
     })())
 }
