@@ -12,12 +12,12 @@ use lib.ListN.{length}
 use Rattle.coxeter.specs.declared.Answer.{Answer}
 use Rattle.coxeter.specs.declared.Answer.the-variants.{Length, Refused}
 use Rattle.coxeter.specs.Kinds.{kindOf}
-use Rattle.coxeter.specs.Checks.{check, _then_, wrongKind, tooLong, wrongLetter, tooShort, rankRefusal, wordRefusal, WordOf}
+use Rattle.coxeter.specs.Checks.{firstOf, check, _then_, wrongKind, tooLong, wrongLetter, tooShort, rankRefusal, wordRefusal, WordOf}
 use Rattle.coxeter.specs.Calls.{Yields, writes}
 use Rattle.coxeter.proofs.Refusals.{then-zero, then-none, check-zero}
 use Rattle.book_format.specs.declared.Edition.{Edition}
 use Rattle.book_format.specs.declared.Edition.the-variants.{First}
-use Rattle.book_format.specs.Books.{firstOf, wrongSize, wrongCount, misplaced, wrongRankInBook, tooLarge}
+use Rattle.book_format.specs.Books.{wrongSize, wrongCount, misplaced, wrongRankInBook, tooLarge}
 use Rattle.book_format.specs.Books.{retired, bookRankRefusal, bookRefusal, appended, appendRefusal}
 use Rattle.book_format.specs.Calls.{appending}
 use Rattle.book_format.proofs.RankLaws.{bookRank-accepted}

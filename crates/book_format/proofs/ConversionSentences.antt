@@ -15,12 +15,12 @@ use lib.ListN.{length, getD}
 use borrow.Author.Tests.{lt-ltb, ltb-true}
 use Rattle.coxeter.specs.declared.Answer.{Answer}
 use Rattle.coxeter.specs.declared.Answer.the-variants.{Length, Refused}
-use Rattle.coxeter.specs.Checks.{check, _then_, tooShort, wordRefusal}
+use Rattle.coxeter.specs.Checks.{firstOf, check, _then_, tooShort, wordRefusal}
 use Rattle.coxeter.specs.Calls.{Yields, writes}
 use Rattle.coxeter.proofs.Refusals.{then-none, then-some}
 use Rattle.book_format.specs.declared.Edition.{Edition}
 use Rattle.book_format.specs.declared.Edition.the-variants.{First, Second}
-use Rattle.book_format.specs.Books.{firstOf, count, offset, kindAt, rankAt, lettersAt, wrongSize}
+use Rattle.book_format.specs.Books.{count, offset, kindAt, rankAt, lettersAt, wrongSize}
 use Rattle.book_format.specs.Books.{wrongCount, misplaced, wrongLaneCount, tooLarge, bookRankRefusal, bookRefusal, recordRefusal}
 use Rattle.book_format.specs.Conversion.{converted, tooManyLanes, recordConversionRefusal, recordsConversionRefusal}
 use Rattle.book_format.specs.Conversion.{conversionRefusal, converting, recordTests, recordsTests}

@@ -11,11 +11,11 @@ use native.Mathlib.Decide.{ℕ-discrete}
 use native.Mathlib.Omega.{arith}
 use Rattle.coxeter.specs.declared.Answer.the-variants.{Length, Refused}
 use Rattle.coxeter.specs.Kinds.{kindOf}
-use Rattle.coxeter.specs.Checks.{check, _then_, wrongKind, tooLong, wrongLetter, wordRefusal}
+use Rattle.coxeter.specs.Checks.{firstOf, check, _then_, wrongKind, tooLong, wrongLetter, wordRefusal}
 use Rattle.coxeter.specs.Calls.{answerOf}
 use Rattle.coxeter.proofs.Refusals.{then-none, then-some, refused-exactly}
 use Rattle.book_format.specs.declared.Edition.{Edition}
-use Rattle.book_format.specs.Books.{firstOf, wrongRankInBook, bookRankRefusal}
+use Rattle.book_format.specs.Books.{wrongRankInBook, bookRankRefusal}
 
 -- ---- two refusals
 

@@ -11,11 +11,11 @@ use lib.Dec.{eqb}
 use lib.ListN.{length, getD}
 use borrow.Author.Tests.{eq-eqb}
 use Rattle.coxeter.specs.Kinds.{pick, kindOf, lanes}
-use Rattle.coxeter.specs.Checks.{check, _then_, wrongKind, tooLong, wrongLetter, tooShort, wordRefusal}
+use Rattle.coxeter.specs.Checks.{firstOf, check, _then_, wrongKind, tooLong, wrongLetter, tooShort, wordRefusal}
 use Rattle.coxeter.specs.Calls.{answerOf, writes}
 use Rattle.book_format.specs.declared.Edition.{Edition}
 use Rattle.book_format.specs.declared.Edition.the-variants.{First, Second}
-use Rattle.book_format.specs.Books.{firstOf, count, wrongSize, wrongCount, misplaced, noSuchPreset, tooLarge}
+use Rattle.book_format.specs.Books.{count, wrongSize, wrongCount, misplaced, noSuchPreset, tooLarge}
 use Rattle.book_format.specs.Books.{retired, offset, kindAt, rankAt, lettersAt, wrongRankInBook, wrongLaneCount}
 use Rattle.book_format.specs.Books.{bookRankRefusal, bookRefusal, recordRefusal, presetRefusal, appended, appendRefusal}
 use Rattle.book_format.specs.Conversion.{converted, tooManyLanes, recordConversionRefusal, recordsConversionRefusal}

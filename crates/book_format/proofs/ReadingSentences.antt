@@ -17,14 +17,14 @@ use lib.ListN.{length, getD}
 use borrow.Author.Tests.{eq-eqb, ne-eqb, lt-ltb, le-ltb, leb-false}
 use Rattle.coxeter.specs.declared.Answer.the-variants.{Refused}
 use Rattle.coxeter.specs.Kinds.{A, B, D, pick, kindOf, lanes}
-use Rattle.coxeter.specs.Checks.{check, _then_, wrongKind, tooLong, wrongLetter, rankRefusal, wordRefusal, WordOf}
+use Rattle.coxeter.specs.Checks.{firstOf, check, _then_, wrongKind, tooLong, wrongLetter, rankRefusal, wordRefusal, WordOf}
 use Rattle.coxeter.specs.Calls.{Yields}
 use Rattle.coxeter.proofs.Refusals.{then-zero, check-zero}
 use Rattle.book_format.specs.declared.Edition.{Edition}
 use Rattle.book_format.specs.declared.Edition.the-variants.{First, Second}
 use Rattle.book_format.specs.declared.Opened.the-variants as opened
 use Rattle.book_format.specs.declared.Preset.the-variants as preset
-use Rattle.book_format.specs.Books.{firstOf, count, offset, headSize, kindAt, rankAt, lanesAt}
+use Rattle.book_format.specs.Books.{count, offset, headSize, kindAt, rankAt, lanesAt}
 use Rattle.book_format.specs.Books.{letterCountAt, lettersAt, wrongSize, wrongCount, misplaced, noSuchPreset, greatestInBook}
 use Rattle.book_format.specs.Books.{wrongRankInBook, wrongLaneCount, bookRankRefusal, bookRefusal, recordRefusal, presetRefusal}
 use Rattle.book_format.specs.Calls.{openedOf, presetOf, checkedBook, presetAt, checkedPreset, lettersOf, readingPresets}

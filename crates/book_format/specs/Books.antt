@@ -152,8 +152,3 @@ retired k n = eqb k 1 && eqb n 1
 unfoldable pub appendRefusal : Edition → List ℕ → ℕ → ℕ → List ℕ → ℕ
 appendRefusal ed b k n u =
     bookRefusal ed b then bookRankRefusal ed k n then wordRefusal n u then check 21 (retired k n) then check 13 (tooLarge (length (appended ed b k n u)))
-
--- CO3: the number of the first test of a list that holds, 0 if none does
-abbrev pub firstOf : List (ℕ × Bool) → ℕ
-firstOf [] = 0
-firstOf (f ∷ fs) = pick (f .1) (f .0) (firstOf fs)

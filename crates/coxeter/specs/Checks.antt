@@ -19,6 +19,11 @@ infixr 5 _then_
 abbrev pub _then_ : ℕ → ℕ → ℕ
 r then s = pick (eqb r 0) s r
 
+-- CO3: the number of the first check whose test holds, in the order of the list, or 0
+abbrev pub firstOf : List (ℕ × Bool) → ℕ
+firstOf [] = 0
+firstOf (f ∷ fs) = pick (f .1) (f .0) (firstOf fs)
+
 -- C5
 unfoldable pub wrongKind : ℕ → Bool
 wrongKind k = not (eqb k 1 || (eqb k 2 || eqb k 3))
