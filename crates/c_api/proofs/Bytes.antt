@@ -25,7 +25,7 @@ use Rattle.coxeter.specs.Calls.{countedOf, crossingsOfWindow, crossingsOfWord, 
 use Rattle.coxeter.specs.Calls.{Outcome, answerOf, written, writes, windowOfWord, productOfWindows, inverseOfWindow}
 use Rattle.coxeter.specs.Calls.{normalFormOfWindow, normalFormOfWord, productOfWords, inverseOfWord, lengthOfWindow, lengthOfWord}
 use Rattle.coxeter.proofs.Refusals.{then-assoc}
-use Rattle.rules.specs.Calls.{Step, step}
+use Rattle.rules.specs.Calls.{rewriteAt}
 use Rattle.book_format.specs.declared.Edition.{Edition}
 use Rattle.book_format.specs.Books.{bookRankRefusal, bookRefusal, appendRefusal}
 use Rattle.book_format.specs.Calls.{appending}
@@ -33,7 +33,7 @@ use Rattle.book_format.proofs.RankLaws.{bookRankRefusal-refused}
 use Rattle.distribution.specs.Calls.{tableRefusal, tableOf, tables, delayTable}
 use Rattle.sentences.specs.Sentences.{refusalSentence}
 use Rattle.sentences.proofs.Texts.{unknown-alike}
-use Rattle.c_api.specs.Calls.{numberOf, numbered, rewriteNumbers, rewriting, crossingNumbers, listed, listedBeside}
+use Rattle.c_api.specs.Calls.{numberOf, numbered, rewriting, crossingNumbers, listed}
 use Rattle.c_api.proofs.Lengths.{answered, i64-back, numbers-alike}
 
 -- ---- kinds and ranks
@@ -235,15 +235,9 @@ pub choice-as-bytes : (k n : ℕ) (u v : List ℕ) (second : Bool) (l m : ℕ) �
     → choice (handsBack l m u v) second ≡ choice (handsBack k n u v) second
 choice-as-bytes k n u v second l m a b = ap (λ (hands : Bool). choice hands second) (as-bytes (better-refusable u v) k n l m a b)
 
-step-refusable : (u : List ℕ) (p : ℕ) (out : List ℕ) → Refusable (λ k n. step k n u p out)
-unfolding step
-step-refusable u p out = record { alike = λ k n l m e f. rw (e, ne-eqb (rankRefusal k n) 0 f) (rw (ne-eqb (rankRefusal k n) 0 f) refl) }
-
 pub rewriting-refusable : (u : List ℕ) (p : ℕ) (out rule : List ℕ) → Refusable (λ k n. rewriting k n u p out rule)
-unfolding rewriting
-rewriting-refusable u p out rule = record {
-  alike = λ k n l m e f. ap (λ (s : Step). listedBeside (rewriteNumbers (s .answer)) (s .bytes) out rule) (step-refusable u p out .alike k n l m e f);
-}
+unfolding rewriting rewriteAt
+rewriting-refusable u p out rule = record { alike = λ k n l m e f. rw (e, ne-eqb (rankRefusal k n) 0 f) (rw (ne-eqb (rankRefusal k n) 0 f) refl) }
 
 -- ---- answers
 

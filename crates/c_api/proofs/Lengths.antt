@@ -34,7 +34,7 @@ use Rattle.coxeter.proofs.PairWeights.{windowLength-le-4096}
 use Rattle.coxeter.proofs.Lengths.{length-normalForm}
 use Rattle.rules.specs.declared.Rewrite.{Rewrite}
 use Rattle.rules.specs.declared.Rewrite.the-variants.{Used, Refused}
-use Rattle.rules.specs.Calls.{pastEnd, refusedStep, step, Rewrote}
+use Rattle.rules.specs.Calls.{pastEnd, rewriteAt, Rewrote, single}
 use Rattle.rules.specs.Runs.{AcceptedWord}
 use Rattle.rules.proofs.Calls.{used-length}
 use Rattle.distribution.specs.declared.Table.the-variants as table
@@ -188,9 +188,9 @@ module _ (k n : ℕ) where
 -- ---- the layers above it
 
 -- a rewritten word is no longer than the word, and so has at most 4,096 letters
-pub rewrote-small : (k n : ℕ) (u : List ℕ) (p : ℕ) (before after : List ℕ) (a : Rewrite) → Rewrote k n u p before after a
+pub rewrote-small : (k n : ℕ) (u : List ℕ) (p : ℕ) (before after : List ℕ) (a : Rewrite) → Rewrote single k n u p before after a
     → (f i j l : ℕ) → a ≡ Used f i j l → l ≤ 65535
-unfolding step refusedStep
+unfolding rewriteAt
 rewrote-small k n u p before after a w f i j l e =
     let r = rankRefusal k n then wordRefusal n u then check 12 (pastEnd u p) in
     elim (ℕ-discrete r 0) [
@@ -206,7 +206,7 @@ rewrote-small k n u p before after a w f i j l e =
   where
     by-rule : AcceptedWord k n u → l ≤ 65535
     by-rule h =
-        let t = used-length k n u p before after f i j l h (subst (Rewrote k n u p before after) e w) in
+        let t = used-length k n u p before after f i j l h (subst (Rewrote single k n u p before after) e w) in
         omega (arith, length-accepted n u (h .word))
 
 -- the longest normal form at a rank with a table has at most 4,096 letters

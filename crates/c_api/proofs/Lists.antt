@@ -29,7 +29,7 @@ use Rattle.distribution.specs.declared.Table.{Table}
 use Rattle.distribution.specs.declared.Table.the-variants as table
 use Rattle.book_format.specs.declared.Preset.{Preset}
 use Rattle.book_format.specs.declared.Preset.the-variants as preset
-use Rattle.c_api.specs.Calls.{refused, crossingNumbers, rewriteNumbers, traceNumbers, splitNumbers, tableNumbers, presetNumbers, listed, listedBeside}
+use Rattle.c_api.specs.Calls.{refused, crossingNumbers, traceNumbers, splitNumbers, tableNumbers, presetNumbers, listed, listedBeside}
 
 -- ---- the numbers of an answer
 
@@ -42,6 +42,12 @@ pub crossing-numbers : (a : Counted) → Numbers 3 (crossingNumbers a)
 unfolding crossingNumbers
 crossing-numbers (counted.Crossings a b c) = more (a + b + c) (a ∷ b ∷ c ∷ []) refl
 crossing-numbers (counted.Refused k) = alone k
+
+-- I19, IC4: a single rewrite's answer as such numbers: the new length with family, i and j; −100 is none fits
+unfoldable pub rewriteNumbers : Rewrite → ℤ × List ℕ
+rewriteNumbers (rewrite.Used f i j l) = (pos l, f ∷ i ∷ j ∷ [])
+rewriteNumbers rewrite.NoneFits = (refused 100, [])
+rewriteNumbers (rewrite.Refused k) = (refused k, [])
 
 pub rewrite-numbers : (a : Rewrite) → Numbers 3 (rewriteNumbers a)
 unfolding rewriteNumbers

@@ -3,16 +3,19 @@
 --
 -- Sections: counts and fields; one rewrite; a rule without room.
 -- Assumes nothing.
-use mathlib.Core.Path.{_≡_, refl}
+use mathlib.Core.Path.{_≡_, refl, _∙_}
 use mathlib.Core.Bool.{Bool, true, false}
 use mathlib.Core.List.{List, [], _∷_, _++_}
 use mathlib.Core.Option.{Option, none, some}
 use Prim.Native.Nat.{ℕ, _+_, _≤_, _<_}
+use native.Mathlib.Nat.{lt-of-not-le}
+use native.Mathlib.Decide.{decLe}
 use native.Mathlib.Omega.{arith}
-use lib.Dec.{eqb}
+use lib.Dec.{eqb, leb}
 use lib.IntN.{ℤ, pos}
 use lib.ListN.{length}
 use lib.Seq.{sets}
+use borrow.Author.Tests.{lt-ltb, le-ltb, lt-leb, le-leb}
 use Rattle.coxeter.specs.declared.Counted.{Counted}
 use Rattle.coxeter.specs.declared.Counted.the-variants as counted
 use Rattle.coxeter.specs.Kinds.{pick, kindOf}
@@ -20,12 +23,12 @@ use Rattle.coxeter.specs.Checks.{check, _then_, tooShort, rankRefusal, wordRefu
 use Rattle.rules.specs.declared.Rewrite.{Rewrite}
 use Rattle.rules.specs.declared.Rewrite.the-variants.{Used, NoneFits, Refused}
 use Rattle.rules.specs.Rules.{Rule, rules, firstFitting, rewritten}
-use Rattle.rules.specs.Calls.{pastEnd, refusedStep, usedStep, stepBy, step, Rewrote}
-use Rattle.rules.proofs.Unchanged.{step-refused-unchanged, step-noneFits-unchanged}
+use Rattle.rules.specs.Calls.{pastEnd, changed, unchanged, rewriteBy, rewriteAt, Rewrote, single}
+use Rattle.rules.proofs.Unchanged.{rewrite-refused-unchanged, rewrite-noneFits-unchanged}
 use Rattle.book_format.specs.declared.Preset.{Preset}
 use Rattle.book_format.specs.declared.Preset.the-variants as preset
-use Rattle.c_api.specs.Calls.{refused, crossingNumbers, rewriteNumbers, presetNumbers, listed, rewriting}
-use Rattle.c_api.proofs.Lists.{roomless, rewrite-numbers, listed-stored, listed-alone, listed-short, beside-stored, beside-alone, beside-roomless}
+use Rattle.c_api.specs.Calls.{refused, crossingNumbers, presetNumbers, listed, listedBeside, forC, rewriting}
+use Rattle.c_api.proofs.Lists.{roomless, rewriteNumbers, rewrite-numbers, listed-stored, listed-alone, listed-short, beside-stored, beside-alone, beside-roomless}
 
 -- ---- counts and fields
 
@@ -60,72 +63,96 @@ module _ (a d : Preset) (list : List ℕ) (e : a ≡ d) where
 
 -- ---- one rewrite
 
-module _ (k n : ℕ) (u : List ℕ) (p : ℕ) (out after rule : List ℕ) (a : Rewrite) (w : Rewrote k n u p out after a) (z : ℤ) where
-  pub rewriting-used : (f i j l : ℕ) → a ≡ Used f i j l → 3 ≤ length rule → z ≡ pos l
-      → (z, (after, sets rule 0 (f ∷ i ∷ j ∷ []))) ≡ rewriting k n u p out rule
-  unfolding rewriting rewriteNumbers
-  rewriting-used f i j l q h e = rw (← w .answer, ← w .bytes, q, ← e) (beside-stored z (f ∷ i ∷ j ∷ []) rule after out h)
-
-  pub rewriting-fitless : a ≡ NoneFits → z ≡ refused 100 → (z, (after, rule)) ≡ rewriting k n u p out rule
-  unfolding rewriting rewriteNumbers
-  rewriting-fitless q e = rw (← w .answer, ← w .bytes, q, ← e) (beside-alone z after out rule)
-
-  pub rewriting-refused : (r : ℕ) → a ≡ Refused r → z ≡ refused r → (z, (after, rule)) ≡ rewriting k n u p out rule
-  unfolding rewriting rewriteNumbers
-  rewriting-refused r q e = rw (← w .answer, ← w .bytes, q, ← e) (beside-alone z after out rule)
-
--- where nothing goes to the rule, nothing is written
-pub step-still : (k n : ℕ) (u : List ℕ) (p : ℕ) (out : List ℕ) → rewriteNumbers (step k n u p out .answer) .1 ≡ [] → step k n u p out .bytes ≡ out
-unfolding rewriteNumbers
-step-still k n u p out = cases (step k n u p out .answer) refl
-  where
-    cases : (a : Rewrite) → step k n u p out .answer ≡ a → rewriteNumbers a .1 ≡ [] → step k n u p out .bytes ≡ out
-    cases (Used f i j l) e h = let z : _≡_ {A = ℕ} 0 1 = cc in absurd (omega arith)
-    cases NoneFits e h = step-noneFits-unchanged k n u p out e .0
-    cases (Refused r) e h = step-refused-unchanged k n u p out r e .0
-
--- ---- a rule without room
-
--- the number does not depend on the outputs
-roomless-step : (k n : ℕ) (u : List ℕ) (p : ℕ) (out : List ℕ)
-    → roomless (rewriteNumbers (step k n u p out .answer)) ≡ roomless (rewriteNumbers (step k n u p [] .answer))
-unfolding step stepBy usedStep refusedStep roomless rewriteNumbers
-roomless-step k n u p out = go (eqb r 0)
+-- the call for C writes what the library's own call does, with the rule where it has room for it
+pub rewriting-listed : (k n : ℕ) (u : List ℕ) (p : ℕ) (out rule : List ℕ) → let t = rewriteAt single k n u p out in
+    rewriting k n u p out rule ≡ listedBeside (rewriteNumbers (t .answer)) (t .outputs) out rule
+unfolding rewriting rewriteAt rewriteBy rewriteNumbers listedBeside tooShort
+rewriting-listed k n u p out rule = go (eqb r 0) (firstFitting (rules (kindOf k) n) u p)
   where
     r : ℕ
     r = rankRefusal k n then wordRefusal n u then check 12 (pastEnd u p)
 
-    same : (o : Option Rule) → roomless (rewriteNumbers (stepBy o u p out .answer)) ≡ roomless (rewriteNumbers (stepBy o u p [] .answer))
+    go : (b : Bool) (o : Option Rule)
+        → let t = pick b (rewriteBy forC o u p (out, rule)) (unchanged forC (refused r) u (out, rule)) in
+        let s = pick b (rewriteBy single o u p out) (unchanged single (Refused r) u out) in
+        (t .answer, t .outputs) ≡ listedBeside (rewriteNumbers (s .answer)) (s .outputs) out rule
+    go false o = rw (le-ltb (length rule) 0 (omega arith))
+    go true none = rw (le-ltb (length rule) 0 (omega arith))
+    go true (some x) = elim (decLe (length (rewritten x u p)) (length out)) [
+      | yes h ↦ elim (decLe 3 (length rule)) [
+        | yes g ↦ rw (le-leb (length (rewritten x u p)) (length out) h, le-leb 3 (length rule) g, le-ltb (length rule) 3 g)
+        | no g ↦ rw (le-leb (length (rewritten x u p)) (length out) h, lt-leb 3 (length rule) (lt-of-not-le g), lt-ltb (length rule) 3 (lt-of-not-le g))
+      ]
+      | no h ↦ rw (lt-leb (length (rewritten x u p)) (length out) (lt-of-not-le h), le-ltb (length rule) 0 (omega arith))
+    ]
+
+module _ (k n : ℕ) (u : List ℕ) (p : ℕ) (out after rule : List ℕ) (a : Rewrite) (w : Rewrote single k n u p out after a) (z : ℤ) where
+  pub rewriting-used : (f i j l : ℕ) → a ≡ Used f i j l → 3 ≤ length rule → z ≡ pos l
+      → (z, (after, sets rule 0 (f ∷ i ∷ j ∷ []))) ≡ rewriting k n u p out rule
+  unfolding rewriteNumbers
+  rewriting-used f i j l q h e =
+      rw (rewriting-listed k n u p out rule, ← w .answer, ← w .outputs, q, ← e) (beside-stored z (f ∷ i ∷ j ∷ []) rule after out h)
+
+  pub rewriting-fitless : a ≡ NoneFits → z ≡ refused 100 → (z, (after, rule)) ≡ rewriting k n u p out rule
+  unfolding rewriteNumbers
+  rewriting-fitless q e = rw (rewriting-listed k n u p out rule, ← w .answer, ← w .outputs, q, ← e) (beside-alone z after out rule)
+
+  pub rewriting-refused : (r : ℕ) → a ≡ Refused r → z ≡ refused r → (z, (after, rule)) ≡ rewriting k n u p out rule
+  unfolding rewriteNumbers
+  rewriting-refused r q e = rw (rewriting-listed k n u p out rule, ← w .answer, ← w .outputs, q, ← e) (beside-alone z after out rule)
+
+-- where nothing goes to the rule, nothing is written
+pub rewrite-still : (k n : ℕ) (u : List ℕ) (p : ℕ) (out : List ℕ) → rewriteNumbers (rewriteAt single k n u p out .answer) .1 ≡ [] → rewriteAt single k n u p out .outputs ≡ out
+unfolding rewriteNumbers
+rewrite-still k n u p out = cases (rewriteAt single k n u p out .answer) refl
+  where
+    cases : (a : Rewrite) → rewriteAt single k n u p out .answer ≡ a → rewriteNumbers a .1 ≡ [] → rewriteAt single k n u p out .outputs ≡ out
+    cases (Used f i j l) e h = let z : _≡_ {A = ℕ} 0 1 = cc in absurd (omega arith)
+    cases NoneFits e h = rewrite-noneFits-unchanged k n u p out e .0
+    cases (Refused r) e h = rewrite-refused-unchanged k n u p out r e .0
+
+-- ---- a rule without room
+
+-- the number does not depend on the outputs
+roomless-rewrite : (k n : ℕ) (u : List ℕ) (p : ℕ) (out : List ℕ)
+    → roomless (rewriteNumbers (rewriteAt single k n u p out .answer)) ≡ roomless (rewriteNumbers (rewriteAt single k n u p [] .answer))
+unfolding rewriteAt rewriteBy roomless rewriteNumbers
+roomless-rewrite k n u p out = go (eqb r 0)
+  where
+    r : ℕ
+    r = rankRefusal k n then wordRefusal n u then check 12 (pastEnd u p)
+
+    same : (o : Option Rule) → roomless (rewriteNumbers (rewriteBy single o u p out .answer)) ≡ roomless (rewriteNumbers (rewriteBy single o u p [] .answer))
     same none = refl
-    same (some x) = both (tooShort (length (rewritten x u p)) out) (tooShort (length (rewritten x u p)) [])
+    same (some x) = both (leb (length (rewritten x u p)) (length out)) (leb (length (rewritten x u p)) 0)
       where
-        both : (s t : Bool) → roomless (rewriteNumbers (pick s (refusedStep 14 u out) (usedStep x (rewritten x u p) out) .answer))
-            ≡ roomless (rewriteNumbers (pick t (refusedStep 14 u []) (usedStep x (rewritten x u p) []) .answer))
+        both : (s t : Bool) → roomless (rewriteNumbers (pick s (changed single x (rewritten x u p) out) (unchanged single (Refused 14) u out) .answer))
+            ≡ roomless (rewriteNumbers (pick t (changed single x (rewritten x u p) []) (unchanged single (Refused 14) u []) .answer))
         both true true = refl
         both true false = refl
         both false true = refl
         both false false = refl
 
-    go : (t : Bool) → roomless (rewriteNumbers (pick t (stepBy (firstFitting (rules (kindOf k) n) u p) u p out) (refusedStep r u out) .answer))
-        ≡ roomless (rewriteNumbers (pick t (stepBy (firstFitting (rules (kindOf k) n) u p) u p []) (refusedStep r u []) .answer))
+    go : (t : Bool) → roomless (rewriteNumbers (pick t (rewriteBy single (firstFitting (rules (kindOf k) n) u p) u p out) (unchanged single (Refused r) u out) .answer))
+        ≡ roomless (rewriteNumbers (pick t (rewriteBy single (firstFitting (rules (kindOf k) n) u p) u p []) (unchanged single (Refused r) u []) .answer))
     go true = same (firstFitting (rules (kindOf k) n) u p)
     go false = refl
 
 rewriting-without : (k n : ℕ) (u : List ℕ) (p : ℕ) (out rule : List ℕ) → length rule < 3
-    → rewriting k n u p out rule ≡ (roomless (rewriteNumbers (step k n u p out .answer)), (out, rule))
-unfolding rewriting
+    → rewriting k n u p out rule ≡ (roomless (rewriteNumbers (rewriteAt single k n u p out .answer)), (out, rule))
 rewriting-without k n u p out rule h =
-    beside-roomless (rewrite-numbers (step k n u p out .answer)) (step k n u p out .bytes) out rule (omega arith) h (step-still k n u p out)
+    rewriting-listed k n u p out rule
+    ∙ beside-roomless (rewrite-numbers (rewriteAt single k n u p out .answer)) (rewriteAt single k n u p out .outputs) out rule (omega arith) h (rewrite-still k n u p out)
 
 -- the number that an empty output gives
-pub rewriting-narrow : (k n : ℕ) (u : List ℕ) (p : ℕ) (after : List ℕ) (a : Rewrite) → Rewrote k n u p [] after a
+pub rewriting-narrow : (k n : ℕ) (u : List ℕ) (p : ℕ) (after : List ℕ) (a : Rewrite) → Rewrote single k n u p [] after a
     → roomless (rewriteNumbers a) ≡ rewriting k n u p [] [] .0
 rewriting-narrow k n u p after a w = rw (rewriting-without k n u p [] [] (omega arith), ← w .answer)
 
 pub rewriting-roomless : (k n : ℕ) (u : List ℕ) (p : ℕ) (out rule : List ℕ) (z : ℤ) (after : List ℕ) → length rule < 3
     → z ≡ rewriting k n u p [] [] .0 → after ≡ out → (z, (after, rule)) ≡ rewriting k n u p out rule
 rewriting-roomless k n u p out rule z after h e f =
-    rw (e, f, rewriting-without k n u p out rule h, rewriting-without k n u p [] [] (omega arith), roomless-step k n u p out)
+    rw (e, f, rewriting-without k n u p out rule h, rewriting-without k n u p [] [] (omega arith), roomless-rewrite k n u p out)
 
 -- an empty part holds nothing
 pub nothing-before : {X : Type 0} (after out : List X) → length after ≡ 0 → after ++ out ≡ out

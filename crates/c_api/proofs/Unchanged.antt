@@ -1,12 +1,12 @@
 -- D6 for the calls for C that write more than the call below them does: if the number is negative, every output and
 -- the list of numbers are as they were. Each is an instance of the law of Lists.
 -- Assumes nothing.
-use mathlib.Core.Path.{_≡_}
+use mathlib.Core.Path.{_≡_, sym, ap, _∙_}
 use mathlib.Core.List.{List}
 use Prim.Native.Nat.{ℕ, suc}
 use lib.IntN.{ℤ}
 use Rattle.coxeter.specs.declared.Counted.{Counted}
-use Rattle.rules.specs.Calls.{step}
+use Rattle.rules.specs.Calls.{rewriteAt, single}
 use Rattle.exchange.specs.SplitCalls.{splitting}
 use Rattle.traces.specs.Traces.{rewritingToEnd}
 use Rattle.distribution.specs.Calls.{delayTable}
@@ -14,7 +14,7 @@ use Rattle.book_format.specs.declared.Preset.{Preset}
 use Rattle.c_api.specs.Calls.{refused, crossingNumbers, presetNumbers, listed, rewriting, rewritingToEndListed, splittingListed, delayTableListed}
 use Rattle.c_api.proofs.Lists.{crossing-numbers, rewrite-numbers, trace-numbers, split-numbers, table-numbers, preset-numbers}
 use Rattle.c_api.proofs.Lists.{listed-unchanged, beside-unchanged}
-use Rattle.c_api.proofs.Outcomes.{step-still}
+use Rattle.c_api.proofs.Outcomes.{rewriting-listed, rewrite-still}
 use Rattle.c_api.proofs.SplitNumbers.{splitting-still}
 use Rattle.c_api.proofs.StepNumbers.{rewritingToEnd-still}
 use Rattle.c_api.proofs.TableNumbers.{delayTable-still}
@@ -30,10 +30,12 @@ preset-unchanged a fields r h = listed-unchanged (preset-numbers a) fields r h
 -- that none fits is a negative number too, and writes nothing either
 pub rewriting-unchanged : (k n : ℕ) (u : List ℕ) (p : ℕ) (out rule : List ℕ) (r : ℕ) → rewriting k n u p out rule .0 ≡ refused (suc r)
     → rewriting k n u p out rule .1 ≡ (out, rule)
-unfolding rewriting
 rewriting-unchanged k n u p out rule r h =
-    let s = step k n u p out in
-    beside-unchanged (rewrite-numbers (s .answer)) (s .bytes) out rule r (step-still k n u p out) h
+    let t = rewriteAt single k n u p out in
+    let e = rewriting-listed k n u p out rule in
+    ap (λ (x : ℤ × (List ℕ × List ℕ)). x .1) e
+    ∙ beside-unchanged (rewrite-numbers (t .answer)) (t .outputs) out rule r (rewrite-still k n u p out)
+    (sym (ap (λ (x : ℤ × (List ℕ × List ℕ)). x .0) e) ∙ h)
 
 -- the three lists of the steps, the output and the list for the final length
 pub rewritingToEndListed-unchanged : (k n : ℕ) (u families places lengths out written : List ℕ) (r : ℕ)

@@ -15,7 +15,7 @@ use Rattle.coxeter.specs.Checks.{wrongKind, wrongRank, tooLong, wrongLetter, to
 use Rattle.coxeter.specs.NormalForm.{down, rise, fall, block}
 use Rattle.coxeter.proofs.Vectors.{Agree}
 use Rattle.rules.specs.Rules.{each, family1, family2, family3, family4, families5to7, rules, begins, fits, firstFitting, rewritten}
-use Rattle.rules.specs.Calls.{pastEnd, refusedStep, usedStep, stepBy, step}
+use Rattle.rules.specs.Calls.{pastEnd, rewriteBy, rewriteAt}
 use Rattle.rules.specs.declared.Rewrite.the-variants as rewrite
 use Rattle.exchange.specs.declared.Fallback.the-variants as fallback
 use Rattle.exchange.specs.declared.Split.the-variants as split
@@ -24,7 +24,7 @@ use Rattle.distribution.specs.declared.Table.the-variants as table
 use Rattle.book_format.specs.declared.Opened.the-variants as opened
 use Rattle.book_format.specs.declared.Preset.the-variants as preset
 use Rattle.c_api.specs.Calls.{refused, numberOf, verdictNumber, choiceNumber, openedNumber}
-use Rattle.c_api.specs.Calls.{crossingNumbers, rewriteNumbers, traceNumbers, splitNumbers, tableNumbers, presetNumbers, listed, listedBeside, rewriting}
+use Rattle.c_api.specs.Calls.{crossingNumbers, traceNumbers, splitNumbers, tableNumbers, presetNumbers, listed, listedBeside, rewriting}
 use Rattle.c_api.specs.Shortest.{fallbackNumber}
 
 -- the numbers, each beside what it is
@@ -65,9 +65,6 @@ pub listings : List ((ℤ × List ℕ) × (ℤ × List ℕ))
 listings =
     (crossingNumbers (counted.Crossings 1 2 4), (pos 7, 1 ∷ 2 ∷ 4 ∷ []))
     ∷ (crossingNumbers (counted.Refused 8), (negsuc 7, []))
-    ∷ (rewriteNumbers (rewrite.Used 3 1 2 5), (pos 5, 3 ∷ 1 ∷ 2 ∷ []))
-    ∷ (rewriteNumbers rewrite.NoneFits, (negsuc 99, []))
-    ∷ (rewriteNumbers (rewrite.Refused 12), (negsuc 11, []))
     ∷ (traceNumbers (toEnd.Ended 3 1), (pos 3, 1 ∷ []))
     ∷ (traceNumbers (toEnd.Ended 0 2), (pos 0, 2 ∷ []))
     ∷ (traceNumbers (toEnd.Refused 15), (negsuc 14, []))
@@ -80,7 +77,7 @@ listings =
     ∷ []
 
 pub listings-agree : Agree listings
-unfolding listings refused crossingNumbers rewriteNumbers traceNumbers splitNumbers tableNumbers presetNumbers
+unfolding listings refused crossingNumbers traceNumbers splitNumbers tableNumbers presetNumbers
 listings-agree = refl
 
 -- lists with room, with just enough, with too little and with none; a negative number needs no room
@@ -124,7 +121,7 @@ rewritings =
     ∷ []
 
 pub rewritings-agree : Agree rewritings
-unfolding rewritings refused rewriteNumbers listedBeside rewriting
+unfolding rewritings refused rewriting
     kindOf wrongKind wrongRank tooLong wrongLetter tooShort rankRefusal wordRefusal up down rise fall block
-    each family1 family2 family3 family4 families5to7 rules begins fits firstFitting rewritten pastEnd refusedStep usedStep stepBy step
+    each family1 family2 family3 family4 families5to7 rules begins fits firstFitting rewritten pastEnd rewriteBy rewriteAt
 rewritings-agree = refl

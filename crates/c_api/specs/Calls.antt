@@ -1,10 +1,13 @@
 -- What a call for C answers and writes, from what the layers' calls do (section IC of the specification).
 --
 -- Sections: one number; numbers that go to a list; the calls.
+use mathlib.Core.Bool.{_&&_}
 use mathlib.Core.List.{List, [], _∷_, _++_}
+use mathlib.Core.Option.{Option, none, some}
 use Prim.Native.Nat.{ℕ, _+_, _*_}
-use lib.IntN.{ℤ, pos, negℤ}
-use lib.ListN.{length, drop}
+use lib.Dec.{leb}
+use lib.IntN.{ℤ, pos, negsuc, negℤ}
+use lib.ListN.{length, take, drop}
 use Rattle.coxeter.specs.declared.Answer.{Answer}
 use Rattle.coxeter.specs.declared.Answer.the-variants as answer
 use Rattle.coxeter.specs.declared.Verdict.{Verdict}
@@ -16,9 +19,7 @@ use Rattle.coxeter.specs.declared.Counted.the-variants as counted
 use Rattle.coxeter.specs.Kinds.{pick}
 use Rattle.coxeter.specs.Checks.{tooShort}
 use Rattle.coxeter.specs.Calls.{Outcome}
-use Rattle.rules.specs.declared.Rewrite.{Rewrite}
-use Rattle.rules.specs.declared.Rewrite.the-variants as rewrite
-use Rattle.rules.specs.Calls.{step}
+use Rattle.rules.specs.Calls.{atFront, Interface, rewriteAt}
 use Rattle.exchange.specs.declared.Split.{Split}
 use Rattle.exchange.specs.declared.Split.the-variants as split
 use Rattle.exchange.specs.SplitCalls.{splitting}
@@ -77,12 +78,6 @@ unfoldable pub crossingNumbers : Counted → ℤ × List ℕ
 crossingNumbers (counted.Crossings a b c) = (pos (a + b + c), a ∷ b ∷ c ∷ [])
 crossingNumbers (counted.Refused k) = (refused k, [])
 
--- I19, IC4: family, i and j go to the list, the number is the new length; −100 is none fits
-unfoldable pub rewriteNumbers : Rewrite → ℤ × List ℕ
-rewriteNumbers (rewrite.Used f i j l) = (pos l, f ∷ i ∷ j ∷ [])
-rewriteNumbers rewrite.NoneFits = (refused 100, [])
-rewriteNumbers (rewrite.Refused k) = (refused k, [])
-
 -- I20, T22: the number of steps, and the final word's length goes to the list
 unfoldable pub traceNumbers : ToEnd → ℤ × List ℕ
 traceNumbers (toEnd.Ended s l) = (pos s, l ∷ [])
@@ -116,9 +111,28 @@ listedBeside x new old list =
 
 -- ---- the calls: the number, the other outputs and the list afterwards
 
--- IC1, I19: the new word's bytes, and the rule
+-- T4: the new word stands at the front of the first output if the number is 0 or more
+unfoldable pub newWordIn : ℤ → List ℕ × List ℕ → Option (List ℕ)
+newWordIn (pos l) o = some (take l (o .0))
+newWordIn (negsuc r) o = none
+
+-- IC1, IC4, I19, G17: one rewrite for C: the number is the new length, and −100 is none fits; one output is for the
+-- new word, the other for the rule's family, i and j, and check 14 concerns both (IC3)
+abbrev pub forC : Interface
+forC = record {
+  Answer = ℤ;
+  Outputs = List ℕ × List ℕ;
+  noneFits = refused 100;
+  refused = refused;
+  used = λ x l. pos l;
+  written = λ x w o. (atFront w (o .0), atFront (x .family ∷ x .i ∷ x .j ∷ []) (o .1));
+  room = λ o l. leb l (length (o .0)) && leb 3 (length (o .1));
+  newWord = newWordIn;
+}
+
+-- IC1, I19: the number, and both outputs afterwards
 unfoldable pub rewriting : ℕ → ℕ → List ℕ → ℕ → List ℕ → List ℕ → ℤ × (List ℕ × List ℕ)
-rewriting k n u p out rule = listedBeside (rewriteNumbers (step k n u p out .answer)) (step k n u p out .bytes) out rule
+rewriting k n u p out rule = let t = rewriteAt forC k n u p (out, rule) in (t .answer, t .outputs)
 
 -- IC1, I20: the three lists of its steps and the final word, and the length of that
 unfoldable pub rewritingToEndListed : ℕ → ℕ → List ℕ → List ℕ → List ℕ → List ℕ → List ℕ → List ℕ → ℤ × ((List ℕ × List ℕ × List ℕ × List ℕ) × List ℕ)

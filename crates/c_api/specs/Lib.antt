@@ -2,4 +2,3 @@
 -- Definitions and nothing else: the laws are in proofs/.
 pub mod Calls
 pub mod Shortest
-pub mod Demand3

@@ -13,7 +13,7 @@ use Prim.Native.Nat.{ℕ, suc, _-_, _≤_}
 use native.Mathlib.Omega.{arith}
 use lib.Dec.{eqb, leb·zero}
 use lib.ListN.{length}
-use borrow.Author.Tests.{eqb-true, not-true, le-ltb}
+use borrow.Author.Tests.{eqb-true, not-true, le-ltb, le-leb}
 use Rattle.coxeter.specs.Kinds.{Kind, A, B, D, kindOf, least, greatest, up}
 use Rattle.coxeter.specs.Windows.{from, exchange, negateFirst, act, windowFrom, straight, window, signed, placeFrom, inverse}
 use Rattle.coxeter.specs.Length.{later, negative, one, laterThan, inversions, negativeSumPairs, negatives, crossings, total, windowLength}
@@ -27,9 +27,9 @@ use Rattle.coxeter.proofs.Relations.{linked-window}
 use Rattle.coxeter.proofs.NormalForms.{normalForm-straight}
 use Rattle.coxeter.proofs.KindLaws.{one-le}
 use Rattle.rules.specs.Rules.{Rule, rule, each, family1, family2, family3, family4, families5to7, rules, begins, fits, firstFitting, rewritten}
-use Rattle.rules.specs.Calls.{pastEnd, refusedStep, usedStep, stepBy}
+use Rattle.rules.specs.Calls.{pastEnd, rewriteBy, single}
 use Rattle.rules.specs.Runs.{AcceptedWord}
-use Rattle.rules.proofs.Calls.{step-accepted}
+use Rattle.rules.proofs.Calls.{rewriteAt-accepted}
 use Rattle.rules.specs.declared.Rewrite.the-variants.{NoneFits, Refused}
 use Rattle.examples.specs.Examples.{Example, wordWindow, wordForm, wordLength, windowForm, ownInverse, gives, noneFits}
 use Rattle.examples.specs.Examples.{squareVanishes, emptyStays, ruleCount, refused, accepted, number, Gives, Stays, Fact, table}
@@ -49,13 +49,13 @@ record Reaches (k : Kind) (n : ℕ) (u : List ℕ) (p : ℕ) : Type 0 where
 
 module _ (k : Kind) (n : ℕ) (u : List ℕ) (p : ℕ) (h : Reaches k n u p) where
   gives-of-some : (v : List ℕ) (r : Rule) → firstFitting (rules k n) u p ≡ some r → rewritten r u p ≡ v → Gives k n u p v (r .family) (r .i) (r .j)
-  unfolding stepBy tooShort usedStep
+  unfolding rewriteBy
   gives-of-some v r e w out l =
-      step-accepted (number k) n u p out (h .word) ∙ rw (h .place, kindOf-number k, e, w, le-ltb (length out) (length v) l)
+      rewriteAt-accepted single (number k) n u p out (h .word) ∙ rw (h .place, kindOf-number k, e, w, le-leb (length v) (length out) l)
 
   stays-of-none : firstFitting (rules k n) u p ≡ none → Stays k n u p NoneFits
-  unfolding stepBy
-  stays-of-none e out = step-accepted (number k) n u p out (h .word) ∙ rw (h .place, kindOf-number k, e)
+  unfolding rewriteBy
+  stays-of-none e out = rewriteAt-accepted single (number k) n u p out (h .word) ∙ rw (h .place, kindOf-number k, e)
 
 -- ---- every kind and rank
 
@@ -88,9 +88,9 @@ module _ (k : Kind) (n : ℕ) (low : least k ≤ n) (high : n ≤ greatest k) wh
       gives-of-some k n (1 ∷ 1 ∷ []) 0 (record { word = w; place = refl }) [] (rule 1 1 0 (1 ∷ 1 ∷ []) []) square-fits refl
 
   empty-stays : (p : ℕ) → Stays k n [] p (Refused 12)
-  unfolding wordRefusal tooLong wrongLetter pastEnd refusedStep
+  unfolding wordRefusal tooLong wrongLetter pastEnd
   empty-stays p out =
-      step-accepted (number k) n [] p out (record { rank = rank-passes k n low high; word = refl }) ∙ rw (leb·zero p)
+      rewriteAt-accepted single (number k) n [] p out (record { rank = rank-passes k n low high; word = refl }) ∙ rw (leb·zero p)
 
 -- ---- the test
 

@@ -16,7 +16,7 @@ use Rattle.coxeter.specs.Length.{negative}
 use Rattle.coxeter.specs.Checks.{rankRefusal}
 use Rattle.coxeter.specs.Calls.{Outcome, windowOfWord, productOfWindows, inverseOfWindow, normalFormOfWindow, normalFormOfWord}
 use Rattle.coxeter.specs.Calls.{productOfWords, inverseOfWord, lengthOfWindow, lengthOfWord, presetsEqual}
-use Rattle.rules.specs.Calls.{Step, step}
+use Rattle.rules.specs.Calls.{Transition, single}
 use Rattle.exchange.specs.declared.Fallback.{Fallback}
 use Rattle.exchange.specs.Calls.{fallbackAnswer}
 use Rattle.exchange.specs.SplitCalls.{Parted, splitting}
@@ -46,7 +46,7 @@ use Rattle.examples.proofs.WrongWindows.{wordsJoinedTheOtherWay, wordsJ
 use Rattle.examples.proofs.WrongWindows.{letterTotal, usualOrderOfAWindow, usualOrderOfAWord, negativesNotCounted, negatesBeforeItsRange}
 use Rattle.examples.proofs.WrongWindows.{ranksNotCompared, kindsCompared, kindOfTheFirstForBoth, secondPresetRefusedFirst, better}
 use Rattle.examples.proofs.WrongWindows.{laterWordHandedBack, windowsNotCompared, secondOfEqualWords}
-use Rattle.examples.proofs.WrongRewrites.{noneFitsWithoutLooking, noneFitsForWantOfRoom, ruleOfBInD, family3OneTooFarInB}
+use Rattle.examples.proofs.WrongRewrites.{rewriteSingle, noneFitsWithoutLooking, noneFitsForWantOfRoom, ruleOfBInD, family3OneTooFarInB}
 use Rattle.examples.proofs.WrongRewrites.{family4AsFamily3, replacedOnePlaceToTheLeft, placeAtTheEndAccepted}
 use Rattle.examples.proofs.WrongRewrites.{roomCheckedBeforeTheRule, wordCopiedFirst}
 use Rattle.examples.proofs.WrongTraces.{searchBehindTheLastPlace, outputBeforeTheLists, lettersCounted, shorteningStepsCounted}
@@ -69,7 +69,7 @@ use Rattle.examples.proofs.WrongBooks.{minusLeftOut, noPresetLine, last
 pub data Told : Type 0 where
   entries : Outcome ℤ → Told
   bytes : Outcome ℕ → Told
-  rewrite : Step → Told
+  rewrite : Transition single → Told
   traced : Traced → Told
   tabled : Tabled → Told
   parted : Parted → Told
@@ -173,15 +173,15 @@ table =
     ∷ differ better windowsNotCompared (λ f. choice (f 1 2 (1 ∷ []) (2 ∷ [])))
     ∷ differ better secondOfEqualWords (λ f. choice (f 1 2 (1 ∷ []) (1 ∷ [])))
     -- one rewrite
-    ∷ differ step noneFitsWithoutLooking (λ f. rewrite (f 1 2 (1 ∷ 1 ∷ []) 0 (lent 2)))
-    ∷ differ step noneFitsForWantOfRoom (λ f. rewrite (f 1 3 (1 ∷ 3 ∷ []) 0 []))
-    ∷ differ step ruleOfBInD (λ f. rewrite (f 3 4 (2 ∷ 4 ∷ []) 0 (lent 2)))
-    ∷ differ step family3OneTooFarInB (λ f. rewrite (f 2 2 (1 ∷ 2 ∷ 1 ∷ []) 0 (lent 3)))
-    ∷ differ step family4AsFamily3 (λ f. rewrite (f 2 2 (1 ∷ 2 ∷ 1 ∷ 2 ∷ []) 0 (lent 4)))
-    ∷ differ step replacedOnePlaceToTheLeft (λ f. rewrite (f 1 2 (2 ∷ 1 ∷ 1 ∷ []) 1 (lent 3)))
-    ∷ differ step placeAtTheEndAccepted (λ f. rewrite (f 1 2 (1 ∷ []) 1 (lent 1)))
-    ∷ differ step roomCheckedBeforeTheRule (λ f. rewrite (f 2 4 (3 ∷ 4 ∷ []) 0 []))
-    ∷ differ step wordCopiedFirst (λ f. rewrite (f 1 2 (1 ∷ []) 1 (lent 1)))
+    ∷ differ rewriteSingle noneFitsWithoutLooking (λ f. rewrite (f 1 2 (1 ∷ 1 ∷ []) 0 (lent 2)))
+    ∷ differ rewriteSingle noneFitsForWantOfRoom (λ f. rewrite (f 1 3 (1 ∷ 3 ∷ []) 0 []))
+    ∷ differ rewriteSingle ruleOfBInD (λ f. rewrite (f 3 4 (2 ∷ 4 ∷ []) 0 (lent 2)))
+    ∷ differ rewriteSingle family3OneTooFarInB (λ f. rewrite (f 2 2 (1 ∷ 2 ∷ 1 ∷ []) 0 (lent 3)))
+    ∷ differ rewriteSingle family4AsFamily3 (λ f. rewrite (f 2 2 (1 ∷ 2 ∷ 1 ∷ 2 ∷ []) 0 (lent 4)))
+    ∷ differ rewriteSingle replacedOnePlaceToTheLeft (λ f. rewrite (f 1 2 (2 ∷ 1 ∷ 1 ∷ []) 1 (lent 3)))
+    ∷ differ rewriteSingle placeAtTheEndAccepted (λ f. rewrite (f 1 2 (1 ∷ []) 1 (lent 1)))
+    ∷ differ rewriteSingle roomCheckedBeforeTheRule (λ f. rewrite (f 2 4 (3 ∷ 4 ∷ []) 0 []))
+    ∷ differ rewriteSingle wordCopiedFirst (λ f. rewrite (f 1 2 (1 ∷ []) 1 (lent 1)))
     -- the rewriting to its end
     ∷ differ rewritingToEnd searchBehindTheLastPlace (λ f. traced (f 1 3 (1 ∷ 3 ∷ 3 ∷ []) (lent 3) (lent 3) (lent 3) (lent 3)))
     ∷ differ rewritingToEnd outputBeforeTheLists (λ f. traced (f 1 2 (1 ∷ 2 ∷ 1 ∷ []) [] [] [] []))

@@ -1,4 +1,4 @@
--- Wrong answers of one rewrite, each of the type of `step`. WrongAnswers.antt says where each is wrong.
+-- Wrong answers of one rewrite, each of the type of `rewriteAt single`. WrongAnswers.antt says where each is wrong.
 -- Assumes nothing.
 use mathlib.Core.List.{List, [], _∷_, _++_, map}
 use mathlib.Core.Option.{none, some}
@@ -8,52 +8,57 @@ use lib.ListN.{length, drop}
 use Rattle.coxeter.specs.Kinds.{Kind, B, pick, kindOf}
 use Rattle.coxeter.specs.Checks.{check, _then_, tooShort, rankRefusal, wordRefusal}
 use Rattle.coxeter.specs.NormalForm.{rise}
+use Rattle.rules.specs.declared.Rewrite.the-variants.{Refused}
 use Rattle.rules.specs.Rules.{Rule, rule, each, family2, carried, rules, firstFitting, rewritten}
-use Rattle.rules.specs.Calls.{pastEnd, Step, refusedStep, usedStep, stepBy, step}
+use Rattle.rules.specs.Calls.{pastEnd, Transition, changed, unchanged, rewriteBy, rewriteAt, single}
+
+-- the right answer: one rewrite by the library's own call
+abbrev pub rewriteSingle : ℕ → ℕ → List ℕ → ℕ → List ℕ → Transition single
+rewriteSingle = rewriteAt single
 
 -- one rewrite by other rules
-abbrev pub stepWith : (Kind → ℕ → List Rule) → ℕ → ℕ → List ℕ → ℕ → List ℕ → Step
-stepWith others k n u p out =
+abbrev pub rewriteWith : (Kind → ℕ → List Rule) → ℕ → ℕ → List ℕ → ℕ → List ℕ → Transition single
+rewriteWith others k n u p out =
     let r = rankRefusal k n then wordRefusal n u then check 12 (pastEnd u p) in
-    pick (eqb r 0) (stepBy (firstFitting (others (kindOf k) n) u p) u p out) (refusedStep r u out)
+    pick (eqb r 0) (rewriteBy single (firstFitting (others (kindOf k) n) u p) u p out) (unchanged single (Refused r) u out)
 
 -- Q6
-abbrev pub noneFitsWithoutLooking : ℕ → ℕ → List ℕ → ℕ → List ℕ → Step
-noneFitsWithoutLooking = stepWith (λ k n. [])
+abbrev pub noneFitsWithoutLooking : ℕ → ℕ → List ℕ → ℕ → List ℕ → Transition single
+noneFitsWithoutLooking = rewriteWith (λ k n. [])
 
 -- none fits for want of room: where the new word has none, instead of refusal 14
-abbrev pub noneFitsForWantOfRoom : ℕ → ℕ → List ℕ → ℕ → List ℕ → Step
+abbrev pub noneFitsForWantOfRoom : ℕ → ℕ → List ℕ → ℕ → List ℕ → Transition single
 noneFitsForWantOfRoom k n u p out = elim (firstFitting (rules (kindOf k) n) u p) [
-  | none ↦ step k n u p out
-  | some r ↦ pick (tooShort (length (rewritten r u p)) out) (stepBy none u p out) (step k n u p out)
+  | none ↦ rewriteAt single k n u p out
+  | some r ↦ pick (tooShort (length (rewritten r u p)) out) (rewriteBy single none u p out) (rewriteAt single k n u p out)
 ]
 
 -- Q9
-abbrev pub ruleOfBInD : ℕ → ℕ → List ℕ → ℕ → List ℕ → Step
-ruleOfBInD = stepWith (λ k n. rules k n ++ family2 B n)
+abbrev pub ruleOfBInD : ℕ → ℕ → List ℕ → ℕ → List ℕ → Transition single
+ruleOfBInD = rewriteWith (λ k n. rules k n ++ family2 B n)
 
 -- family 3 also for j = 2n − i − 1
-abbrev pub family3OneTooFarInB : ℕ → ℕ → List ℕ → ℕ → List ℕ → Step
-family3OneTooFarInB = stepWith (λ k n. rules k n ++ each (λ i. carried k n i (2 * n - i - 1) ∷ []) (rise 1 (n - 1)))
+abbrev pub family3OneTooFarInB : ℕ → ℕ → List ℕ → ℕ → List ℕ → Transition single
+family3OneTooFarInB = rewriteWith (λ k n. rules k n ++ each (λ i. carried k n i (2 * n - i - 1) ∷ []) (rise 1 (n - 1)))
 
-abbrev pub family4AsFamily3 : ℕ → ℕ → List ℕ → ℕ → List ℕ → Step
-family4AsFamily3 = stepWith (λ k n. map (λ r. rule (pick (eqb (r .family) 4) 3 (r .family)) (r .i) (r .j) (r .left) (r .right)) (rules k n))
+abbrev pub family4AsFamily3 : ℕ → ℕ → List ℕ → ℕ → List ℕ → Transition single
+family4AsFamily3 = rewriteWith (λ k n. map (λ r. rule (pick (eqb (r .family) 4) 3 (r .family)) (r .i) (r .j) (r .left) (r .right)) (rules k n))
 
 -- the right side one place to the left of the left side's place
-abbrev pub replacedOnePlaceToTheLeft : ℕ → ℕ → List ℕ → ℕ → List ℕ → Step
+abbrev pub replacedOnePlaceToTheLeft : ℕ → ℕ → List ℕ → ℕ → List ℕ → Transition single
 replacedOnePlaceToTheLeft k n u p out = elim (firstFitting (rules (kindOf k) n) u p) [
-  | none ↦ step k n u p out
-  | some r ↦ usedStep r (rewritten r u (p - 1)) out
+  | none ↦ rewriteAt single k n u p out
+  | some r ↦ changed single r (rewritten r u (p - 1)) out
 ]
 
-abbrev pub placeAtTheEndAccepted : ℕ → ℕ → List ℕ → ℕ → List ℕ → Step
+abbrev pub placeAtTheEndAccepted : ℕ → ℕ → List ℕ → ℕ → List ℕ → Transition single
 placeAtTheEndAccepted k n u p out =
     let r = rankRefusal k n then wordRefusal n u then check 12 (ltb (length u) p) in
-    pick (eqb r 0) (stepBy (firstFitting (rules (kindOf k) n) u p) u p out) (refusedStep r u out)
+    pick (eqb r 0) (rewriteBy single (firstFitting (rules (kindOf k) n) u p) u p out) (unchanged single (Refused r) u out)
 
-abbrev pub roomCheckedBeforeTheRule : ℕ → ℕ → List ℕ → ℕ → List ℕ → Step
-roomCheckedBeforeTheRule k n u p out = pick (tooShort (length u) out) (refusedStep 14 u out) (step k n u p out)
+abbrev pub roomCheckedBeforeTheRule : ℕ → ℕ → List ℕ → ℕ → List ℕ → Transition single
+roomCheckedBeforeTheRule k n u p out = pick (tooShort (length u) out) (unchanged single (Refused 14) u out) (rewriteAt single k n u p out)
 
 -- the output gets the word before a rule is looked for
-abbrev pub wordCopiedFirst : ℕ → ℕ → List ℕ → ℕ → List ℕ → Step
-wordCopiedFirst k n u p out = step k n u p (u ++ drop (length u) out)
+abbrev pub wordCopiedFirst : ℕ → ℕ → List ℕ → ℕ → List ℕ → Transition single
+wordCopiedFirst k n u p out = rewriteAt single k n u p (u ++ drop (length u) out)

@@ -50,7 +50,7 @@ use Rattle.coxeter.specs.Calls.{normalFormOfWord, productOfWords, inverseOfWord
 use Rattle.coxeter.specs.Calls.{equalWords, samePresets, presetsEqual, handsBack, choice, Outcome, Better}
 use Rattle.coxeter.proofs.Order.{sameWindow-of-eq}
 use Rattle.rules.specs.Rules.{each, family1, family2, family3, family4, families5to7, rules, begins, fits, firstFitting, rewritten}
-use Rattle.rules.specs.Calls.{pastEnd, refusedStep, usedStep, stepBy, step}
+use Rattle.rules.specs.Calls.{pastEnd, rewriteBy, rewriteAt}
 use Rattle.exchange.specs.Fallback.{somePart, fallsBack}
 use Rattle.exchange.specs.Descents.{isDescent}
 use Rattle.exchange.specs.Allowed.{allows, wrongSet, setRefusal}
@@ -137,7 +137,7 @@ ofPiece p = pos (p .next) ∷ pos (p .end) ∷ pos (p .left) ∷ []
 numbers : Told → List ℤ
 numbers (told.entries o) = ofAnswer (o .answer) ++ o .bytes
 numbers (told.bytes o) = ofAnswer (o .answer) ++ map pos (o .bytes)
-numbers (told.rewrite s) = ofRewrite (s .answer) ++ map pos (s .bytes ++ s .word)
+numbers (told.rewrite s) = ofRewrite (s .answer) ++ map pos (s .outputs ++ s .word)
 numbers (told.traced t) = ofEnd (t .answer) ++ map pos ((t .families ++ t .places) ++ (t .lengths ++ t .bytes))
 numbers (told.tabled t) = (ofTable (t .answer) ++ map pos (t .counts)) ++ (t .entries ++ map pos (t .letters))
 numbers (told.parted p) = ofSplit (p .answer) ++ map pos (p .first ++ p .second)
@@ -177,7 +177,7 @@ unfolding table allDiffer differs numbers ofAnswer ofVerdict ofChoice ofRewrite 
     down rise fall block without indexOf restOf normalFrom normalForm
     answerOf verdictOf written writes windowOfWord productOfWindows inverseOfWindow normalFormOfWindow normalFormOfWord productOfWords inverseOfWord
     lengthOfWindow lengthOfWord sameEntry sameWindow equalWords samePresets presetsEqual handsBack choice
-    each family1 family2 family3 family4 families5to7 rules begins fits firstFitting rewritten pastEnd refusedStep usedStep stepBy step
+    each family1 family2 family3 family4 families5to7 rules begins fits firstFitting rewritten pastEnd rewriteBy rewriteAt
     lowestFrom lowestUse traceWithin trace tooFewPlaces toEndOf tracedBy rewritingToEnd numberOfSteps behindLast ones
     somePart fallsBack fallbackOf fallbackAnswer
     isDescent allows wrongSet setRefusal lowest stripped restInverse firstWord secondWord splitOf parts splitting

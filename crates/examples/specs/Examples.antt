@@ -13,7 +13,7 @@ use Rattle.coxeter.specs.NormalForm.{normalForm, wordNormalForm}
 use Rattle.rules.specs.declared.Rewrite.{Rewrite}
 use Rattle.rules.specs.declared.Rewrite.the-variants.{Used, NoneFits, Refused}
 use Rattle.rules.specs.Rules.{rules}
-use Rattle.rules.specs.Calls.{Step, step}
+use Rattle.rules.specs.Calls.{Transition, rewriteAt, single}
 
 -- K2: the number of a kind
 abbrev pub number : Kind → ℕ
@@ -30,11 +30,11 @@ neg e = negℤ (pos e)
 abbrev pub Gives : Kind → ℕ → List ℕ → ℕ → List ℕ → ℕ → ℕ → ℕ → Type 0
 Gives k n u p v f i j =
     (out : List ℕ) → length v ≤ length out
-    → _≡_ {A = Step} (step (number k) n u p out) (record { answer = Used f i j (length v); bytes = v ++ drop (length v) out; word = v })
+    → _≡_ {A = Transition single} (rewriteAt single (number k) n u p out) (record { answer = Used f i j (length v); outputs = v ++ drop (length v) out; word = v })
 
 -- R17, CO6: one rewrite of u at place p, with any output, answers a; nothing is written and the word stays
 abbrev pub Stays : Kind → ℕ → List ℕ → ℕ → Rewrite → Type 0
-Stays k n u p a = (out : List ℕ) → _≡_ {A = Step} (step (number k) n u p out) (record { answer = a; bytes = out; word = u })
+Stays k n u p a = (out : List ℕ) → _≡_ {A = Transition single} (rewriteAt single (number k) n u p out) (record { answer = a; outputs = out; word = u })
 
 -- J1 to J9: the sorts of entry; kind and rank stand first, what is claimed last
 pub data Example : Type 0 where

@@ -18,11 +18,11 @@ use Rattle.rules.specs.declared.Rewrite.the-variants.{Used, NoneFits, Refused}
 use Rattle.rewriter.specs.declared.search.Fitting.{Fitting}
 use Rattle.rewriter.specs.declared.search.Fitting.the-variants.{Rule as Shown, Nothing}
 use Rattle.rules.specs.Rules.{Rule, rules, begins, fits, firstFitting, rewritten}
-use Rattle.rules.specs.Calls.{pastEnd, Step, atFront, refusedStep, usedStep, stepBy, step, Rewrote}
+use Rattle.rules.specs.Calls.{pastEnd, Transition, atFront, changed, unchanged, rewriteBy, rewriteAt, Rewrote, single}
 use Rattle.rules.specs.Runs.{AcceptedWord}
 use Rattle.rules.proofs.RuleList.{Listed, listed-of-mem}
 use Rattle.rules.proofs.Fits.{begins-split, firstFitting-some, left-nonempty}
-use Rattle.rules.proofs.Calls.{step-accepted}
+use Rattle.rules.proofs.Calls.{rewriteAt-accepted}
 use Rattle.rules.proofs.Scan.{shownRule, rightLength, ruleAt}
 use Rattle.rules.proofs.ScanFamilies.{ends-of-listed, shown-of-listed}
 use Rattle.rewriter.proofs.search.Searches.{fittingOf, along-le}
@@ -73,25 +73,24 @@ fitted k n u p f i j l q h g e t = go (firstFitting (rules k n) u p) refl (sym e
 
 -- ---- refusals
 
-rewrote-by : (k n : ℕ) (u : List ℕ) (p : ℕ) (out : List ℕ) {s : Step} → step k n u p out ≡ s → Rewrote k n u p out (s .bytes) (s .answer)
-rewrote-by k n u p out e = record { answer = sym (ap (λ (s : Step). s .answer) e); bytes = sym (ap (λ (s : Step). s .bytes) e) }
+rewrote-by : (k n : ℕ) (u : List ℕ) (p : ℕ) (out : List ℕ) {t : Transition single} → rewriteAt single k n u p out ≡ t → Rewrote single k n u p out (t .outputs) (t .answer)
+rewrote-by k n u p out e = record { answer = sym (ap (λ (t : Transition single). t .answer) e); outputs = sym (ap (λ (t : Transition single). t .outputs) e) }
 
-rewrote-refused : (k n : ℕ) (u : List ℕ) (p : ℕ) (out : List ℕ) (r : ℕ) → step k n u p out ≡ refusedStep r u out → Rewrote k n u p out out (Refused r)
-unfolding refusedStep
+rewrote-refused : (k n : ℕ) (u : List ℕ) (p : ℕ) (out : List ℕ) (r : ℕ) → rewriteAt single k n u p out ≡ unchanged single (Refused r) u out → Rewrote single k n u p out out (Refused r)
 rewrote-refused k n u p out r e = rewrote-by k n u p out e
 
 pub rewrote-preset : (k n : ℕ) (u : List ℕ) (p : ℕ) (out : List ℕ) (r : ℕ) → r ≡ (rankRefusal k n then wordRefusal n u) → (r ≡ 0 → ⊥)
-    → Rewrote k n u p out out (Refused r)
-unfolding step
+    → Rewrote single k n u p out out (Refused r)
+unfolding rewriteAt
 rewrote-preset k n u p out r e f =
     let twelfth = check 12 (pastEnd u p) in
     let q : (rankRefusal k n then wordRefusal n u then twelfth) ≡ r =
     sym (then-assoc (rankRefusal k n) (wordRefusal n u) twelfth) ∙ sym (then-refused (rankRefusal k n then wordRefusal n u) r twelfth e f) in
     rewrote-refused k n u p out r (rw (q, ne-eqb r 0 f))
 
-pub rewrote-place : (k n : ℕ) (u : List ℕ) (p : ℕ) (out : List ℕ) → AcceptedWord k n u → length u ≤ p → Rewrote k n u p out out (Refused 12)
+pub rewrote-place : (k n : ℕ) (u : List ℕ) (p : ℕ) (out : List ℕ) → AcceptedWord k n u → length u ≤ p → Rewrote single k n u p out out (Refused 12)
 unfolding pastEnd
-rewrote-place k n u p out h l = rewrote-refused k n u p out 12 (step-accepted k n u p out h ∙ rw (le-leb (length u) p l))
+rewrote-place k n u p out h l = rewrote-refused k n u p out 12 (rewriteAt-accepted single k n u p out h ∙ rw (le-leb (length u) p l))
 
 -- ---- an accepted word and a place in it
 
@@ -104,16 +103,16 @@ pub rank-between : {k n : ℕ} {u : List ℕ} → AcceptedWord k n u → (1 ≤ 
 rank-between {k} {n} h = omega (arith, least-positive (kindOf k), rank-accepted k n (h .rank))
 
 module _ (k n : ℕ) (u : List ℕ) (p : ℕ) (out : List ℕ) (h : AcceptedWord k n u) (g : p < length u) where
-  step-placed : step k n u p out ≡ stepBy (firstFitting (rules (kindOf k) n) u p) u p out
+  rewriteAt-placed : rewriteAt single k n u p out ≡ rewriteBy single (firstFitting (rules (kindOf k) n) u p) u p out
   unfolding pastEnd
-  step-placed = step-accepted k n u p out h ∙ rw (lt-leb (length u) p g)
+  rewriteAt-placed = rewriteAt-accepted single k n u p out h ∙ rw (lt-leb (length u) p g)
 
-  pub rewrote-none : (q : Fitting) → q ≡ fittingOf (firstFitting (rules (kindOf k) n) u p) → q ≡ Nothing → Rewrote k n u p out out NoneFits
-  unfolding stepBy
+  pub rewrote-none : (q : Fitting) → q ≡ fittingOf (firstFitting (rules (kindOf k) n) u p) → q ≡ Nothing → Rewrote single k n u p out out NoneFits
+  unfolding rewriteBy
   rewrote-none q e t = go (firstFitting (rules (kindOf k) n) u p) refl (sym e ∙ t)
     where
-      go : (o : Option Rule) → firstFitting (rules (kindOf k) n) u p ≡ o → fittingOf o ≡ Nothing → Rewrote k n u p out out NoneFits
-      go none c d = rewrote-by k n u p out {s = stepBy none u p out} (step-placed ∙ ap (λ (o : Option Rule). stepBy o u p out) c)
+      go : (o : Option Rule) → firstFitting (rules (kindOf k) n) u p ≡ o → fittingOf o ≡ Nothing → Rewrote single k n u p out out NoneFits
+      go none c d = rewrote-by k n u p out {t = rewriteBy single none u p out} (rewriteAt-placed ∙ ap (λ (o : Option Rule). rewriteBy single o u p out) c)
       go (some x) c d = let z : _≡_ {A = ℕ} 0 1 = cc in absurd (omega arith)
 
   module _ (f i j l m : ℕ) (w : Fitted (kindOf k) n u p f i j l) (e : m ≡ length u - l + rightLength f l) where
@@ -124,14 +123,14 @@ module _ (k n : ℕ) (u : List ℕ) (p : ℕ) (out : List ℕ) (h : AcceptedWord
     length-rewritten = length-new n f i j u p l (w .inside) (w .nonempty) ∙ sym e
 
     -- check 14
-    pub rewrote-short : length out < m → Rewrote k n u p out out (Refused 14)
-    unfolding stepBy tooShort
+    pub rewrote-short : length out < m → Rewrote single k n u p out out (Refused 14)
+    unfolding rewriteBy
     rewrote-short t =
-        rewrote-refused k n u p out 14 (step-placed ∙ rw (w .fitting, length-rewritten, lt-ltb (length out) m t))
+        rewrote-refused k n u p out 14 (rewriteAt-placed ∙ rw (w .fitting, length-rewritten, lt-leb m (length out) t))
 
-    pub rewrote-used : (after : List ℕ) → m ≤ length out → after ≡ atFront (rewritten rule u p) out → Rewrote k n u p out after (Used f i j m)
-    unfolding stepBy tooShort usedStep shownRule
+    pub rewrote-used : (after : List ℕ) → m ≤ length out → after ≡ atFront (rewritten rule u p) out → Rewrote single k n u p out after (Used f i j m)
+    unfolding rewriteBy shownRule
     rewrote-used after s q =
         rw (← q, length-rewritten) at
-        (rewrote-by k n u p out {s = usedStep rule (rewritten rule u p) out}
-        (step-placed ∙ rw (w .fitting, length-rewritten, le-ltb (length out) m s)))
+        (rewrote-by k n u p out {t = changed single rule (rewritten rule u p) out}
+        (rewriteAt-placed ∙ rw (w .fitting, length-rewritten, le-leb m (length out) s)))

@@ -11,7 +11,7 @@ pub use window::Answer;
 use writing::new_length;
 use writing::write_rewritten;
 ghost use mathlib.Core.Path.{_≡_};
-ghost use Rattle.rules.specs.Calls.{Rewrote};
+ghost use Rattle.rules.specs.Calls.{Rewrote, single};
 ghost use Rattle.traces.specs.Traces.{TraceYields, rewritingToEnd, numberOfSteps};
 
 mod carrying;
@@ -23,7 +23,7 @@ mod writing;
 // I19: replaces the left side of the rule that fits at `place`; at one place at most one does (R15). The new word
 // goes to the front of `out`. If none fits, or a check refuses the call, nothing is written.
 pub fn rewrite_at(kind: u8, rank: u8, word: &[u8], place: usize, out: &mut [u8]) -> Rewrite
-    ensures { λ r. ⌜ Rewrote kind rank (now (word .entry)) place (now (out .entry)) (now (out .exit)) r ⌝ }
+    ensures { λ r. ⌜ Rewrote single kind rank (now (word .entry)) place (now (out .entry)) (now (out .exit)) r ⌝ }
 {
     let refusal = preset_refusal(kind, rank, word);
     if refusal != 0 {

@@ -15,6 +15,8 @@ pub mod ScanFamilies
 pub mod ScanRules
 pub mod RuleFields
 pub mod Calls
+pub mod Occurrences
+pub mod CallLists
 pub mod Unchanged
 pub mod Vectors
 pub mod Demand3

@@ -1,6 +1,6 @@
 -- A rewrite that is refused, or that finds that none fits, changes no byte of its output and leaves the word: for
 -- every kind, rank, word, place and output, accepted or not. By cases on the refusal, on the rule that fits and on
--- check 14: each step that does not stay uses a rule.
+-- check 14: each transition that does not stay uses a rule.
 -- Assumes nothing.
 use mathlib.Core.Path.{_≡_, refl}
 use mathlib.Core.Bool.{Bool, true, false}
@@ -8,54 +8,51 @@ use mathlib.Core.List.{List}
 use mathlib.Core.Option.{Option, none, some}
 use Prim.Native.Nat.{ℕ}
 use native.Mathlib.Omega.{arith}
-use lib.Dec.{eqb}
+use lib.Dec.{eqb, leb}
 use lib.ListN.{length}
 use Rattle.coxeter.specs.Kinds.{pick, kindOf}
-use Rattle.coxeter.specs.Checks.{check, _then_, tooShort, rankRefusal, wordRefusal}
+use Rattle.coxeter.specs.Checks.{check, _then_, rankRefusal, wordRefusal}
 use Rattle.rules.specs.declared.Rewrite.the-variants.{Used, NoneFits, Refused}
 use Rattle.rules.specs.Rules.{Rule, rules, firstFitting, rewritten}
-use Rattle.rules.specs.Calls.{pastEnd, Step, refusedStep, usedStep, stepBy, step}
+use Rattle.rules.specs.Calls.{pastEnd, Transition, changed, unchanged, rewriteBy, rewriteAt, single}
 
 -- the output and the word are as they were, or a rule is used
-data Kept (u out : List ℕ) : Step → Type 0 where
-  stays : {s : Step} → s .bytes ≡ out → s .word ≡ u → Kept u out s
-  used : {s : Step} (f i j l : ℕ) → s .answer ≡ Used f i j l → Kept u out s
+data Kept (u out : List ℕ) : Transition single → Type 0 where
+  stays : {t : Transition single} → t .outputs ≡ out → t .word ≡ u → Kept u out t
+  used : {t : Transition single} (f i j l : ℕ) → t .answer ≡ Used f i j l → Kept u out t
 
-pick-kept : (t : Bool) (u out : List ℕ) (x y : Step) → Kept u out x → Kept u out y → Kept u out (pick t x y)
+pick-kept : (b : Bool) (u out : List ℕ) (x y : Transition single) → Kept u out x → Kept u out y → Kept u out (pick b x y)
 pick-kept true u out x y h g = h
 pick-kept false u out x y h g = g
 
-refused-kept : (r : ℕ) (u out : List ℕ) → Kept u out (refusedStep r u out)
-unfolding refusedStep
-refused-kept r u out = stays refl refl
+rewriteBy-kept : (o : Option Rule) (u : List ℕ) (p : ℕ) (out : List ℕ) → Kept u out (rewriteBy single o u p out)
+unfolding rewriteBy
+rewriteBy-kept none u p out = stays refl refl
+rewriteBy-kept (some x) u p out =
+    let w = rewritten x u p in
+    pick-kept (leb (length w) (length out)) u out (changed single x w out) (unchanged single (Refused 14) u out)
+    (used (x .family) (x .i) (x .j) (length w) refl) (stays refl refl)
 
-used-kept : (x : Rule) (v u out : List ℕ) → Kept u out (usedStep x v out)
-unfolding usedStep
-used-kept x v u out = used (x .family) (x .i) (x .j) (length v) refl
-
-stepBy-kept : (o : Option Rule) (u : List ℕ) (p : ℕ) (out : List ℕ) → Kept u out (stepBy o u p out)
-unfolding stepBy
-stepBy-kept none u p out = stays refl refl
-stepBy-kept (some x) u p out =
-    pick-kept (tooShort (length (rewritten x u p)) out) u out _ _ (refused-kept 14 u out) (used-kept x (rewritten x u p) u out)
-
-step-kept : (k n : ℕ) (u : List ℕ) (p : ℕ) (out : List ℕ) → Kept u out (step k n u p out)
-unfolding step
-step-kept k n u p out =
+rewriteAt-kept : (k n : ℕ) (u : List ℕ) (p : ℕ) (out : List ℕ) → Kept u out (rewriteAt single k n u p out)
+unfolding rewriteAt
+rewriteAt-kept k n u p out =
     let r = rankRefusal k n then wordRefusal n u then check 12 (pastEnd u p) in
-    pick-kept (eqb r 0) u out _ _ (stepBy-kept (firstFitting (rules (kindOf k) n) u p) u p out) (refused-kept r u out)
+    pick-kept (eqb r 0) u out (rewriteBy single (firstFitting (rules (kindOf k) n) u p) u p out) (unchanged single (Refused r) u out)
+    (rewriteBy-kept (firstFitting (rules (kindOf k) n) u p) u p out) (stays refl refl)
 
-refused-stays : {u out : List ℕ} {s : Step} (r : ℕ) → Kept u out s → s .answer ≡ Refused r → (s .bytes ≡ out) × (s .word ≡ u)
+refused-stays : {u out : List ℕ} {t : Transition single} (r : ℕ) → Kept u out t → t .answer ≡ Refused r → (t .outputs ≡ out) × (t .word ≡ u)
 refused-stays r (stays b w) h = (b, w)
 refused-stays r (used f i j l e) h = let z : _≡_ {A = ℕ} 0 1 = cc in absurd (omega arith)
 
-noneFits-stays : {u out : List ℕ} {s : Step} → Kept u out s → s .answer ≡ NoneFits → (s .bytes ≡ out) × (s .word ≡ u)
+noneFits-stays : {u out : List ℕ} {t : Transition single} → Kept u out t → t .answer ≡ NoneFits → (t .outputs ≡ out) × (t .word ≡ u)
 noneFits-stays (stays b w) h = (b, w)
 noneFits-stays (used f i j l e) h = let z : _≡_ {A = ℕ} 0 1 = cc in absurd (omega arith)
 
 module _ (k n : ℕ) (u : List ℕ) (p : ℕ) (out : List ℕ) where
-  pub step-refused-unchanged : (r : ℕ) → step k n u p out .answer ≡ Refused r → (step k n u p out .bytes ≡ out) × (step k n u p out .word ≡ u)
-  step-refused-unchanged r = refused-stays r (step-kept k n u p out)
+  pub rewrite-refused-unchanged : (r : ℕ) → rewriteAt single k n u p out .answer ≡ Refused r
+      → (rewriteAt single k n u p out .outputs ≡ out) × (rewriteAt single k n u p out .word ≡ u)
+  rewrite-refused-unchanged r = refused-stays r (rewriteAt-kept k n u p out)
 
-  pub step-noneFits-unchanged : step k n u p out .answer ≡ NoneFits → (step k n u p out .bytes ≡ out) × (step k n u p out .word ≡ u)
-  step-noneFits-unchanged = noneFits-stays (step-kept k n u p out)
+  pub rewrite-noneFits-unchanged : rewriteAt single k n u p out .answer ≡ NoneFits
+      → (rewriteAt single k n u p out .outputs ≡ out) × (rewriteAt single k n u p out .word ≡ u)
+  rewrite-noneFits-unchanged = noneFits-stays (rewriteAt-kept k n u p out)

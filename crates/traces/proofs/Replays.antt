@@ -13,7 +13,7 @@ use Prim.Native.Nat.{ℕ, suc, _+_, _≤_}
 use native.Mathlib.Omega.{arith}
 use lib.ListN.{length, take, drop, replicate, length-replicate, length-map}
 use lib.Seq.{take-append-seam, take-at}
-use borrow.Author.Tests.{le-ltb, lt-leb}
+use borrow.Author.Tests.{le-ltb, ltb-false, le-leb, lt-leb}
 use Rattle.coxeter.specs.Kinds.{kindOf}
 use Rattle.coxeter.specs.Checks.{tooShort, rankRefusal, wordRefusal}
 use Rattle.coxeter.specs.NormalForm.{wordNormalForm}
@@ -22,12 +22,13 @@ use Rattle.coxeter.proofs.Order.{less, same, more, compared}
 use Rattle.rules.specs.declared.Rewrite.{Rewrite}
 use Rattle.rules.specs.declared.Rewrite.the-variants.{Used}
 use Rattle.rules.specs.Rules.{rules, firstFitting}
-use Rattle.rules.specs.Calls.{pastEnd, Step, atFront, usedStep, step, Rewrote}
-use Rattle.rules.specs.Runs.{AcceptedWord, Call, wordAfter, Run, uses}
-use Rattle.rules.specs.Demand3.{IsUsed, Demand3}
+use Rattle.rules.specs.Calls.{pastEnd, Transition, atFront, changed, rewriteAt, Rewrote, newWordIn, single}
+use Rattle.rules.specs.Runs.{AcceptedWord, Arguments, Call, wordAfter, Run, uses}
+use Rattle.rules.specs.Demand3.{Demand3}
 use Rattle.rules.proofs.Fits.{firstFitting-some, firstFitting-none, none-firstFitting}
 use Rattle.rules.proofs.Completeness.{rewrites-letters, rewrites-length}
-use Rattle.rules.proofs.Calls.{accepted-least, accepted-letters, accepted-of-shorter, stepped, answer-of-none, step-used, usable-of-used, nowhereFits-iff}
+use Rattle.rules.proofs.Calls.{accepted-least, accepted-letters, accepted-of-shorter, stepped, answer-of-none, usable-changed, stepped-used, single-lawful, nowhereFits-iff}
+use Rattle.rules.proofs.CallLists.{new-word-exactly}
 use Rattle.traces.specs.declared.ToEnd.the-variants.{Ended}
 use Rattle.traces.specs.Traces.{Use, lowestUse, Line, Trace, trace, familiesOf, placesOf, lengthsOf, Traced, rewritingToEnd, NoneFitsBelow, Replays}
 use Rattle.traces.proofs.Traces.{Lowest, irreducible-of-none, after, lineOf, continued, lowest-rewrites, trace-induction, trace-normalForm}
@@ -47,22 +48,21 @@ module _ (k n : ℕ) (u : List ℕ) (h : AcceptedWord k n u) (s : Use) (a : Lowe
   -- below the place none fits
   none-below : NoneFitsBelow k n u (s .place)
   none-below q l before out x w =
-      w .answer ∙ answer-of-none (stepped k n u q before h) (omega (arith, a .inside)) (a .below q l)
+      w .answer ∙ answer-of-none (stepped single k n u q before h) (omega (arith, a .inside)) (a .below q l)
 
   -- at the place, with room, the rule is used
-  step-at : (before : List ℕ) → tooShort (length (after u s)) before ≡ false → step k n u (s .place) before ≡ usedStep (s .rule) (after u s) before
-  unfolding pastEnd
+  step-at : (before : List ℕ) → tooShort (length (after u s)) before ≡ false → rewriteAt single k n u (s .place) before ≡ changed single (s .rule) (after u s) before
+  unfolding pastEnd tooShort
   step-at before r =
       let f = firstFitting-some (rules (kindOf k) n) u (s .place) (s .rule) (a .fitting) in
-      step-used k n u (record { place = s .place; output = before }) (s .rule)
-      (record { listed = f .0; fitting = f .1; accepted = h; inside = lt-leb (length u) (s .place) (a .inside); room = r })
+      usable-changed single k n u (record { place = s .place; outputs = before }) (s .rule)
+      (record { listed = f .0; fitting = f .1; accepted = h; inside = lt-leb (length u) (s .place) (a .inside); room = le-leb (length (after u s)) (length before) (ltb-false (length before) (length (after u s)) r) })
 
-  used-at : (before out : List ℕ) (x : Rewrite) → Rewrote k n u (s .place) before out x → tooShort (length (after u s)) before ≡ false
+  used-at : (before out : List ℕ) (x : Rewrite) → Rewrote single k n u (s .place) before out x → tooShort (length (after u s)) before ≡ false
       → (x ≡ Used (s .rule .family) (s .rule .i) (s .rule .j) (length (after u s))) × (take (length (after u s)) out ≡ after u s)
-  unfolding usedStep
   used-at before out x w r = (
-    w .answer ∙ ap (λ (t : Step). t .answer) (step-at before r),
-    ap (take (length (after u s))) (w .bytes ∙ ap (λ (t : Step). t .bytes) (step-at before r))
+    w .answer ∙ ap (λ (t : Transition single). t .answer) (step-at before r),
+    ap (take (length (after u s))) (w .outputs ∙ ap (λ (t : Transition single). t .outputs) (step-at before r))
         ∙ take-append-seam (after u s) (drop (length (after u s)) before),
   )
 
@@ -73,7 +73,7 @@ pub trace-replays : (k n : ℕ) (u : List ℕ) → AcceptedWord k n u → Replay
 trace-replays k n u h =
     trace-induction (kindOf k) n (accepted-least h)
     (λ u t. AcceptedWord k n u → Replays k n u (t .lines) (t .final))
-    (λ u e d g. (nowhereFits-iff k n u g .0 (irreducible-of-none (kindOf k) n u (accepted-least h) d), refl))
+    (λ u e d g. (nowhereFits-iff single-lawful k n u g .0 (irreducible-of-none (kindOf k) n u (accepted-least h) d), refl))
     (λ u s e a ih g. (
       none-below k n u g s a,
       λ before out x w r.
@@ -97,10 +97,11 @@ has-room m out l = le-ltb (length out) m l
 
 -- where a rule is used, one fits
 fits-of-used : (k n : ℕ) (u : List ℕ) (p : ℕ) (before : List ℕ) (f i j l : ℕ) → AcceptedWord k n u
-    → step k n u p before .answer ≡ Used f i j l → firstFitting (rules (kindOf k) n) u p ≡ none → ⊥
+    → rewriteAt single k n u p before .answer ≡ Used f i j l → firstFitting (rules (kindOf k) n) u p ≡ none → ⊥
 fits-of-used k n u p before f i j l h e d =
-    let b = usable-of-used k n u (record { place = p; output = before }) h (subst IsUsed (sym e) tt) in
-    true≢false (sym (b .1 .fitting) ∙ firstFitting-none (rules (kindOf k) n) u p d (b .0) (b .1 .listed))
+    let a : Arguments single = record { place = p; outputs = before } in
+    let t = stepped-used single-lawful a h (stepped single k n u p before h) .exactly .0 (_, new-word-exactly _ (rewriteAt single k n u p before .outputs) _ .1 (f, i, j, l, e, refl)) in
+    true≢false (sym (t .1 .fitting) ∙ firstFitting-none (rules (kindOf k) n) u p d (t .0) (t .1 .listed))
 
 same-line : (l m : Line) → l .family ≡ m .family → l .place ≡ m .place → l .left ≡ m .left → l ≡ m
 same-line l m f p e i = record { family = f i; place = p i; left = e i }
@@ -114,17 +115,17 @@ module _ (k n : ℕ) (u : List ℕ) (h : AcceptedWord k n u) where
   only-ends d [] v r = (refl, sym (r .1))
   only-ends d (l ∷ ls) v r =
       let o = room (l .left) in
-      let q = r .1 (o .0) _ _ (record { answer = refl; bytes = refl }) (has-room (l .left) (o .0) (omega (arith, o .1))) .0 in
+      let q = r .1 (o .0) _ _ (record { answer = refl; outputs = refl }) (has-room (l .left) (o .0) (omega (arith, o .1))) .0 in
       absurd (fits-of-used k n u (l .place) (o .0) (l .family) (q .0) (q .1) (l .left) h (q .2) (none-firstFitting (rules (kindOf k) n) u (l .place)
       (λ x m. irreducible-of-none (kindOf k) n u (accepted-least h) d x m (l .place))))
 
   module _ (s : Use) (a : Lowest (kindOf k) n u s) where
     used-with : (m : ℕ) → (o : List ℕ) × (m ≤ length o)
-        × (step k n u (s .place) o .answer ≡ Used (s .rule .family) (s .rule .i) (s .rule .j) (length (after u s)))
-        × (take (length (after u s)) (step k n u (s .place) o .bytes) ≡ after u s)
+        × (rewriteAt single k n u (s .place) o .answer ≡ Used (s .rule .family) (s .rule .i) (s .rule .j) (length (after u s)))
+        × (take (length (after u s)) (rewriteAt single k n u (s .place) o .outputs) ≡ after u s)
     used-with m =
         let o = room (m + length u) in
-        let q = used-at k n u h s a (o .0) _ _ (record { answer = refl; bytes = refl })
+        let q = used-at k n u h s a (o .0) _ _ (record { answer = refl; outputs = refl })
         (has-room (length (after u s)) (o .0) (omega (arith, o .1, next-shorter k n u h s a))) in
         (o .0, omega (arith, o .1), q .0, q .1)
 
@@ -132,22 +133,22 @@ module _ (k n : ℕ) (u : List ℕ) (h : AcceptedWord k n u) where
         → (ls ≡ lineOf u s ∷ trace (kindOf k) n (after u s) .lines) × (v ≡ trace (kindOf k) n (after u s) .final)
     only-goes ih [] v r =
         let o = used-with 0 in
-        let n = r .0 (s .place) (a .inside) (o .0) _ _ (record { answer = refl; bytes = refl }) in
+        let n = r .0 (s .place) (a .inside) (o .0) _ _ (record { answer = refl; outputs = refl }) in
         let z : _≡_ {A = ℕ} 0 1 = cc in absurd (omega arith)
     only-goes ih (l ∷ ls) v r =
         let o = used-with (l .left) in
-        let q = r .1 (o .0) _ _ (record { answer = refl; bytes = refl }) (has-room (l .left) (o .0) (o .1)) in
+        let q = r .1 (o .0) _ _ (record { answer = refl; outputs = refl }) (has-room (l .left) (o .0) (o .1)) in
         elim (compared (l .place) (s .place)) [
           | less g ↦ absurd (fits-of-used k n u (l .place) (o .0) (l .family) (q .0 .0) (q .0 .1) (l .left) h (q .0 .2) (a .below (l .place) g))
           | same g ↦
               let f : l .family ≡ s .rule .family = cc in
               let e : l .left ≡ length (after u s) = cc in
-              let w : take (l .left) (step k n u (l .place) (o .0) .bytes) ≡ after u s =
-              ap₂ (λ (m p : ℕ). take m (step k n u p (o .0) .bytes)) e g ∙ o .3 in
+              let w : take (l .left) (rewriteAt single k n u (l .place) (o .0) .outputs) ≡ after u s =
+              ap₂ (λ (m p : ℕ). take m (rewriteAt single k n u p (o .0) .outputs)) e g ∙ o .3 in
               let i = ih (next-accepted k n u h s a) ls v (subst (λ (y : List ℕ). Replays k n y ls v) w (q .1)) in
               (ap₂ (λ (y : Line) (ys : List Line). y ∷ ys) (same-line l (lineOf u s) f g e) (i .0), i .1)
           | more g ↦
-              let n = r .0 (s .place) g (o .0) _ _ (record { answer = refl; bytes = refl }) in
+              let n = r .0 (s .place) g (o .0) _ _ (record { answer = refl; outputs = refl }) in
               let z : _≡_ {A = ℕ} 0 1 = cc in absurd (omega arith)
         ]
 
@@ -162,31 +163,31 @@ replays-only k n u h =
 
 -- the calls at the lines' places, each with its word's length as room
 record Replay (k n : ℕ) (u : List ℕ) (t : Trace) : Type 0 where
-  calls : List Call
-  run : Run k n u calls
-  counted : uses calls ≡ length (t .lines)
+  calls : List (Call single)
+  run : Run single k n u calls
+  counted : uses single calls ≡ length (t .lines)
 
 replay-goes : (k n : ℕ) (u : List ℕ) (h : AcceptedWord k n u) (s : Use) → Lowest (kindOf k) n u s
     → Replay k n (after u s) (trace (kindOf k) n (after u s))
     → Replay k n u (continued u s (trace (kindOf k) n (after u s)))
-unfolding wordAfter uses usedStep
+unfolding wordAfter uses newWordIn
 replay-goes k n u h s a r =
     let v = after u s in
     let e = step-at k n u h s a u (has-room (length v) u (next-shorter k n u h s a)) in
     record {
       calls = record {
-        lent = record { place = s .place; output = u };
-        told = record { answer = Used (s .rule .family) (s .rule .i) (s .rule .j) (length v); output = atFront v u };
+        arguments = record { place = s .place; outputs = u };
+        result = record { answer = Used (s .rule .family) (s .rule .i) (s .rule .j) (length v); outputs = atFront v u };
       } ∷ r .calls;
       run = (
-        record { answer = sym (ap (λ (t : Step). t .answer) e); bytes = sym (ap (λ (t : Step). t .bytes) e) },
-        subst (λ (w : List ℕ). Run k n w (r .calls)) (sym (take-append-seam v (drop (length v) u))) (r .run),
+        record { answer = sym (ap (λ (t : Transition single). t .answer) e); outputs = sym (ap (λ (t : Transition single). t .outputs) e) },
+        subst (λ (w : List ℕ). Run single k n w (r .calls)) (sym (take-append-seam v (drop (length v) u))) (r .run),
       );
       counted = ap suc (r .counted);
     }
 
 -- T11: the rewriting has no more steps than that number
-pub trace-at-most : (k n : ℕ) (u : List ℕ) → AcceptedWord k n u → (d : Demand3 k n u) → length (trace (kindOf k) n u .lines) ≤ d .most
+pub trace-at-most : (k n : ℕ) (u : List ℕ) → AcceptedWord k n u → (d : Demand3 single k n u) → length (trace (kindOf k) n u .lines) ≤ d .most
 unfolding uses
 trace-at-most k n u h d =
     let r =

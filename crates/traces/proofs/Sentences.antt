@@ -25,7 +25,8 @@ use Rattle.coxeter.proofs.Basics.{or-false-left, or-false-right}
 use Rattle.coxeter.proofs.Lists.{getD-take}
 use Rattle.coxeter.proofs.Theorems.{window-passes}
 use Rattle.rules.specs.declared.Rewrite.the-variants.{Used}
-use Rattle.rules.specs.Runs.{AcceptedWord, Told, Call, wordAfter, wordLeft, Meets, Run}
+use Rattle.rules.specs.Calls.{newWordIn, single}
+use Rattle.rules.specs.Runs.{AcceptedWord, Result, Call, wordAfter, wordLeft, Meets, Run}
 use Rattle.rules.specs.Demand3.{NowhereFits}
 use Rattle.rules.proofs.Calls.{accepted-least, accepted-letters}
 use Rattle.rules.proofs.Theorems.{normalForm-least}
@@ -39,64 +40,64 @@ use Rattle.traces.proofs.Replays.{trace-replays, replays-only, written-
 
 -- ---- replaying with a list of single rewrites
 
-after-used : (u : List ℕ) (t : Told) (f i j l : ℕ) → t .answer ≡ Used f i j l → wordAfter u t ≡ take l (t .output)
-unfolding wordAfter
-after-used u t f i j l e = rw e
+after-used : (u : List ℕ) (t : Result single) (f i j l : ℕ) → t .answer ≡ Used f i j l → wordAfter single u t ≡ take l (t .outputs)
+unfolding wordAfter newWordIn
+after-used u t f i j l e = rw (e, wordAfter, newWordIn)
 
 -- the places that a list of calls is made at, and the outputs that it is lent
-abbrev calledAt : List Call → List ℕ
-calledAt cs = map (λ (c : Call). c .lent .place) cs
+abbrev calledAt : List (Call single) → List ℕ
+calledAt cs = map (λ (c : Call single). c .arguments .place) cs
 
-abbrev lentTo : List Call → List (List ℕ)
-lentTo cs = map (λ (c : Call). c .lent .output) cs
+abbrev lentTo : List (Call single) → List (List ℕ)
+lentTo cs = map (λ (c : Call single). c .arguments .outputs) cs
 
 -- what a reader of the lines sees who makes the calls cs: at each none fits lower down, the line's family and
 -- length are answered; the last word is v
-record Seen (k n : ℕ) (u : List ℕ) (families lengths v : List ℕ) (cs : List Call) : Type 0 where
-  each : (front : List Call) (c : Call) (rest : List Call) → cs ≡ front ++ (c ∷ rest)
-      → NoneFitsBelow k n (wordLeft u front) (c .lent .place)
-      × ((i j : ℕ) × (c .told .answer ≡ Used (getD families (length front) 0) i j (getD lengths (length front) 0)))
-  last : wordLeft u cs ≡ v
-  ends : NowhereFits k n (wordLeft u cs)
+record Seen (k n : ℕ) (u : List ℕ) (families lengths v : List ℕ) (cs : List (Call single)) : Type 0 where
+  each : (front : List (Call single)) (c : Call single) (rest : List (Call single)) → cs ≡ front ++ (c ∷ rest)
+      → NoneFitsBelow k n (wordLeft single u front) (c .arguments .place)
+      × ((i j : ℕ) × (c .result .answer ≡ Used (getD families (length front) 0) i j (getD lengths (length front) 0)))
+  last : wordLeft single u cs ≡ v
+  ends : NowhereFits single k n (wordLeft single u cs)
 
-module _ (k n : ℕ) (u : List ℕ) (l : Line) (ls : List Line) (v : List ℕ) (r : Replays k n u (l ∷ ls) v) (c : Call) (cs : List Call)
-    (m : Meets k n u c) (e : calledAt (c ∷ cs) ≡ placesOf (l ∷ ls)) (room : l .left ≤ length (c .lent .output)) where
-  place : c .lent .place ≡ l .place
+module _ (k n : ℕ) (u : List ℕ) (l : Line) (ls : List Line) (v : List ℕ) (r : Replays k n u (l ∷ ls) v) (c : Call single) (cs : List (Call single))
+    (m : Meets single k n u c) (e : calledAt (c ∷ cs) ≡ placesOf (l ∷ ls)) (room : l .left ≤ length (c .arguments .outputs)) where
+  place : c .arguments .place ≡ l .place
   place = cc
 
-  used : ((i j : ℕ) × (c .told .answer ≡ Used (l .family) i j (l .left))) × Replays k n (take (l .left) (c .told .output)) ls v
+  used : ((i j : ℕ) × (c .result .answer ≡ Used (l .family) i j (l .left))) × Replays k n (take (l .left) (c .result .outputs)) ls v
   unfolding tooShort
-  used = r .1 (c .lent .output) (c .told .output) (c .told .answer) (rw (← place) m) (le-ltb (length (c .lent .output)) (l .left) room)
+  used = r .1 (c .arguments .outputs) (c .result .outputs) (c .result .answer) (rw (← place) m) (le-ltb (length (c .arguments .outputs)) (l .left) room)
 
   -- the rest of the lines, from the word that the call left
-  replays-next : Replays k n (wordAfter u (c .told)) ls v
+  replays-next : Replays k n (wordAfter single u (c .result)) ls v
   replays-next =
-      let next = after-used u (c .told) (l .family) (used .0 .0) (used .0 .1) (l .left) (used .0 .2) in
+      let next = after-used u (c .result) (l .family) (used .0 .0) (used .0 .1) (l .left) (used .0 .2) in
       subst (λ (w : List ℕ). Replays k n w ls v) (sym next) (used .1)
 
-  seen-next : Seen k n (wordAfter u (c .told)) (familiesOf ls) (lengthsOf ls) v cs → Seen k n u (familiesOf (l ∷ ls)) (lengthsOf (l ∷ ls)) v (c ∷ cs)
+  seen-next : Seen k n (wordAfter single u (c .result)) (familiesOf ls) (lengthsOf ls) v cs → Seen k n u (familiesOf (l ∷ ls)) (lengthsOf (l ∷ ls)) v (c ∷ cs)
   unfolding wordLeft
   seen-next rest = record { each = each; last = rest .last; ends = rest .ends }
     where
-      each : (front : List Call) (d : Call) (more : List Call) → c ∷ cs ≡ front ++ (d ∷ more)
-          → NoneFitsBelow k n (wordLeft u front) (d .lent .place)
-          × ((i j : ℕ) × (d .told .answer ≡ Used (getD (familiesOf (l ∷ ls)) (length front) 0) i j (getD (lengthsOf (l ∷ ls)) (length front) 0)))
+      each : (front : List (Call single)) (d : Call single) (more : List (Call single)) → c ∷ cs ≡ front ++ (d ∷ more)
+          → NoneFitsBelow k n (wordLeft single u front) (d .arguments .place)
+          × ((i j : ℕ) × (d .result .answer ≡ Used (getD (familiesOf (l ∷ ls)) (length front) 0) i j (getD (lengthsOf (l ∷ ls)) (length front) 0)))
       each [] d more q =
           let g : c ≡ d = cc in
-          subst (λ (x : Call). NoneFitsBelow k n u (x .lent .place) × ((i j : ℕ) × (x .told .answer ≡ Used (l .family) i j (l .left)))) g
+          subst (λ (x : Call single). NoneFitsBelow k n u (x .arguments .place) × ((i j : ℕ) × (x .result .answer ≡ Used (l .family) i j (l .left)))) g
           (rw place (r .0), used .0)
       each (f ∷ front) d more q =
           let g : c ≡ f = cc in
           let t : cs ≡ front ++ (d ∷ more) = cc in
-          subst (λ (x : Call). NoneFitsBelow k n (wordLeft (wordAfter u (x .told)) front) (d .lent .place)
-          × ((i j : ℕ) × (d .told .answer ≡ Used (getD (familiesOf ls) (length front) 0) i j (getD (lengthsOf ls) (length front) 0)))) g
+          subst (λ (x : Call single). NoneFitsBelow k n (wordLeft single (wordAfter single u (x .result)) front) (d .arguments .place)
+          × ((i j : ℕ) × (d .result .answer ≡ Used (getD (familiesOf ls) (length front) 0) i j (getD (lengthsOf ls) (length front) 0)))) g
           (rest .each front d more t)
 
-no-call : (front : List Call) (c : Call) (rest : List Call) → [] ≡ front ++ (c ∷ rest) → ⊥
+no-call : (front : List (Call single)) (c : Call single) (rest : List (Call single)) → [] ≡ front ++ (c ∷ rest) → ⊥
 no-call [] c rest q = let z : _≡_ {A = ℕ} 0 1 = cc in omega arith
 no-call (d ∷ front) c rest q = let z : _≡_ {A = ℕ} 0 1 = cc in omega arith
 
-seen : (k n : ℕ) (u : List ℕ) (ls : List Line) (v : List ℕ) → Replays k n u ls v → (cs : List Call) → Run k n u cs → calledAt cs ≡ placesOf ls
+seen : (k n : ℕ) (u : List ℕ) (ls : List Line) (v : List ℕ) → Replays k n u ls v → (cs : List (Call single)) → Run single k n u cs → calledAt cs ≡ placesOf ls
     → ((i : ℕ) → i < length ls → getD (lengthsOf ls) i 0 ≤ length (getD (lentTo cs) i []))
     → Seen k n u (familiesOf ls) (lengthsOf ls) v cs
 unfolding wordLeft
@@ -104,11 +105,11 @@ seen k n u [] v r [] m e o = record { each = λ front c rest q. absurd (no-call 
 seen k n u [] v r (c ∷ cs) m e o = let z : _≡_ {A = ℕ} 0 1 = cc in absurd (omega arith)
 seen k n u (l ∷ ls) v r [] m e o = let z : _≡_ {A = ℕ} 0 1 = cc in absurd (omega arith)
 seen k n u (l ∷ ls) v r (c ∷ cs) m e o =
-    let room : l .left ≤ length (c .lent .output) = o 0 (omega arith) in
+    let room : l .left ≤ length (c .arguments .outputs) = o 0 (omega arith) in
     let places : calledAt cs ≡ placesOf ls = cc in
     let rooms : (i : ℕ) → i < length ls → getD (lengthsOf ls) i 0 ≤ length (getD (lentTo cs) i []) = λ i h. o (suc i) (omega arith) in
     seen-next k n u l ls v r c cs (m .0) e room
-    (seen k n (wordAfter u (c .told)) ls v (replays-next k n u l ls v r c cs (m .0) e room) cs (m .1) places rooms)
+    (seen k n (wordAfter single u (c .result)) ls v (replays-next k n u l ls v r c cs (m .0) e room) cs (m .1) places rooms)
 
 -- ---- a rewriting that ended
 
@@ -132,8 +133,8 @@ module _ (k n : ℕ) (u families places lengths out : List ℕ) (s l : ℕ) (fs 
   -- T24: the same of every list of single rewrites from the word at the places written, whose outputs have room for
   -- the lengths written: at each call no rule fits lower down, and it answers the family and the length written;
   -- the word that is left is the one written, and none fits in it
-  module _ (cs : List Call) (run : Run k n u cs) (at : map (λ (c : Call). c .lent .place) cs ≡ take s ps)
-      (room : (i : ℕ) → i < s → getD ls i 0 ≤ length (getD (map (λ (c : Call). c .lent .output) cs) i [])) where
+  module _ (cs : List (Call single)) (run : Run single k n u cs) (at : map (λ (c : Call single). c .arguments .place) cs ≡ take s ps)
+      (room : (i : ℕ) → i < s → getD ls i 0 ≤ length (getD (map (λ (c : Call single). c .arguments .outputs) cs) i [])) where
     replay : Seen k n u (take s fs) (take s ls) (take l after) cs
     replay =
         let w = lines-replay in
@@ -145,21 +146,21 @@ module _ (k n : ℕ) (u families places lengths out : List ℕ) (s l : ℕ) (fs 
 
     -- as many calls as steps
     called : length cs ≡ s
-    called = sym (length-map cs (λ (c : Call). c .lent .place)) ∙ ap (λ (y : List ℕ). length y) (at ∙ lines-replay .3)
+    called = sym (length-map cs (λ (c : Call single). c .arguments .place)) ∙ ap (λ (y : List ℕ). length y) (at ∙ lines-replay .3)
         ∙ length-map (lines-replay .0) (λ (m : Line). m .place) ∙ lines-replay .1
 
     -- T24
-    pub each-replayed : (front : List Call) (c : Call) (rest : List Call) → cs ≡ front ++ (c ∷ rest)
-        → NoneFitsBelow k n (wordLeft u front) (c .lent .place)
-        × ((i j : ℕ) × (c .told .answer ≡ Used (getD fs (length front) 0) i j (getD ls (length front) 0)))
+    pub each-replayed : (front : List (Call single)) (c : Call single) (rest : List (Call single)) → cs ≡ front ++ (c ∷ rest)
+        → NoneFitsBelow k n (wordLeft single u front) (c .arguments .place)
+        × ((i j : ℕ) × (c .result .answer ≡ Used (getD fs (length front) 0) i j (getD ls (length front) 0)))
     each-replayed front c rest e =
         let r = replay .each front c rest e in
-        let b : length front < s = omega (arith, called, ap (λ (y : List Call). length y) e, length-append front (c ∷ rest)) in
+        let b : length front < s = omega (arith, called, ap (λ (y : List (Call single)). length y) e, length-append front (c ∷ rest)) in
         rw (getD-take s (length front) fs 0 b, getD-take s (length front) ls 0 b) at r
 
     -- T24
-    pub replayed-to-end : (wordLeft u cs ≡ take l after) × NowhereFits k n (take l after)
-    replayed-to-end = (replay .last, subst (NowhereFits k n) (replay .last) (replay .ends))
+    pub replayed-to-end : (wordLeft single u cs ≡ take l after) × NowhereFits single k n (take l after)
+    replayed-to-end = (replay .last, subst (NowhereFits single k n) (replay .last) (replay .ends))
 
   -- T19: no other lines can be replayed so
   pub only-lines : (lines : List Line) (v : List ℕ) → Replays k n u lines v

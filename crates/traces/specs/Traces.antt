@@ -14,7 +14,7 @@ use Rattle.coxeter.specs.Calls.{answerOf, written}
 use Rattle.rules.specs.declared.Rewrite.{Rewrite}
 use Rattle.rules.specs.declared.Rewrite.the-variants.{Used, NoneFits}
 use Rattle.rules.specs.Rules.{Rule, rules, firstFitting, rewritten}
-use Rattle.rules.specs.Calls.{Rewrote}
+use Rattle.rules.specs.Calls.{Rewrote, single}
 use Rattle.rules.specs.Demand3.{NowhereFits}
 use Rattle.traces.specs.declared.ToEnd.{ToEnd}
 use Rattle.traces.specs.declared.ToEnd.the-variants.{Ended, Refused}
@@ -127,14 +127,14 @@ numberOfSteps k n u = answerOf (rankRefusal k n then wordRefusal n u) (length (t
 -- T19: at every place below p one rewrite answers that none fits, with any output
 abbrev pub NoneFitsBelow : ℕ → ℕ → List ℕ → ℕ → Type 0
 NoneFitsBelow k n u p =
-    (q : ℕ) → q < p → (before after : List ℕ) (a : Rewrite) → Rewrote k n u q before after a → a ≡ NoneFits
+    (q : ℕ) → q < p → (before after : List ℕ) (a : Rewrite) → Rewrote single k n u q before after a → a ≡ NoneFits
 
 -- T24: from the word u, with any outputs that have room, each rewrite at a line's place uses a rule of its family
 -- and leaves a word of its length; no rule fits at a lower place; after the last line none fits anywhere and the
 -- word is v
 abbrev pub Replays : ℕ → ℕ → List ℕ → List Line → List ℕ → Type 0
-Replays k n u [] v = NowhereFits k n u × (u ≡ v)
+Replays k n u [] v = NowhereFits single k n u × (u ≡ v)
 Replays k n u (l ∷ ls) v =
     NoneFitsBelow k n u (l .place)
-    × ((before after : List ℕ) (a : Rewrite) → Rewrote k n u (l .place) before after a → tooShort (l .left) before ≡ false
+    × ((before after : List ℕ) (a : Rewrite) → Rewrote single k n u (l .place) before after a → tooShort (l .left) before ≡ false
     → ((i j : ℕ) × (a ≡ Used (l .family) i j (l .left))) × Replays k n (take (l .left) after) ls v)

@@ -4,9 +4,9 @@ use mathlib.Core.Path.{_≡_, _∙_}
 use mathlib.Core.List.{[], _++_}
 use denote.Ref.{now}
 use borrow.Author.Needs.{needs}
-use Rattle.c_api.specs.Calls.{refused, rewriteNumbers, rewriting}
+use Rattle.c_api.specs.Calls.{refused, rewriting}
 use Rattle.c_api.proofs.Lengths.{i64-back}
-use Rattle.c_api.proofs.Lists.{roomless}
+use Rattle.c_api.proofs.Lists.{roomless, rewriteNumbers}
 use Rattle.c_api.proofs.Outcomes.{rewriting-narrow, nothing-before}
 use Rattle.c_api.proofs.rewriting.refused_rule.Statement.{statement}
 use Rattle.c_api.proofs.rewriting.refused_rule.Tie as tie
