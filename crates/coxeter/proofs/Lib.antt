@@ -3,7 +3,10 @@ pub mod Lists
 pub mod Parity
 pub mod KindLaws
 pub mod Basics
+pub mod TestLaws
 pub mod Refusals
+pub mod FirstFailing
+pub mod FirstRefusals
 pub mod LetterLaws
 pub mod Acceptance
 pub mod Sizes
@@ -15,6 +18,7 @@ pub mod Products
 pub mod Places
 pub mod Inverses
 pub mod Order
+pub mod Orders
 pub mod PairWeights
 pub mod NegativeSums
 pub mod Runs
@@ -38,3 +42,6 @@ pub mod Written
 pub mod Room
 pub mod HandedOn
 pub mod Sentences
+pub mod AnswersExactly
+pub mod ChecksExactly
+pub mod WindowsExactly

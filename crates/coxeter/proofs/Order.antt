@@ -54,7 +54,7 @@ before-continuation [] a v = refl
 before-continuation (b ∷ u) a v = before-cons b u (u ++ (a ∷ v)) ∙ before-continuation u a v
 
 -- what an earlier word is: a higher first letter, or the same and an earlier rest
-before-cases : (a b : ℕ) (u v : List ℕ) → before (a ∷ u) (b ∷ v) ≡ true → (b < a) ⊎ ((a ≡ b) × (before u v ≡ true))
+pub before-cases : (a b : ℕ) (u v : List ℕ) → before (a ∷ u) (b ∷ v) ≡ true → (b < a) ⊎ ((a ≡ b) × (before u v ≡ true))
 before-cases a b u v h =
     elim (compared a b) [
       | less l ↦ absurd (false≢true (sym (before-other a b u v (omega arith) ∙ le-ltb b a (omega arith)) ∙ h))

@@ -1,0 +1,75 @@
+-- What an answer says of the checks behind it (G17 of the specification): the number of the one that failed, or with
+-- none the value. One law for each sort of answer, for every refusal and value.
+-- Assumes nothing.
+use mathlib.Core.Path.{_≡_, refl, ap}
+use mathlib.Core.Bool.{Bool, true, false}
+use mathlib.Core.Logic.{_↔_, Iff·rfl, Iff·trans, Iff·and}
+use Prim.Native.Nat.{ℕ}
+use native.Mathlib.Decide.{ℕ-discrete}
+use lib.Dec.{eqb}
+use borrow.Author.Tests.{eq-eqb, ne-eqb}
+use Rattle.coxeter.specs.declared.Answer.the-variants.{Length, Refused}
+use Rattle.coxeter.specs.declared.Verdict.{Verdict}
+use Rattle.coxeter.specs.declared.Verdict.the-variants as verdict
+use Rattle.coxeter.specs.declared.Counted.the-variants as counted
+use Rattle.coxeter.specs.Kinds.{pick}
+use Rattle.coxeter.specs.Length.{Crossings}
+use Rattle.coxeter.specs.Calls.{answerOf, verdictOf, countedOf}
+use Rattle.coxeter.proofs.TestLaws.{zero-not-one}
+use Rattle.coxeter.proofs.Refusals.{refused-exactly}
+
+-- the answer a, which is not the refusal r, is given exactly when r is 0 and a is the good one; that a refusal is
+-- given exactly when it is r and r is not 0 is `refused-exactly`
+pub good-exactly : {X : Type 0} (refused : ℕ → X) (good : X) (r : ℕ) (a : X) → (refused r ≡ a → ⊥)
+    → (pick (eqb r 0) good (refused r) ≡ a) ↔ ((r ≡ 0) × (good ≡ a))
+good-exactly refused good r a apart = elim (ℕ-discrete r 0) [
+  | yes z ↦ rw (eq-eqb r 0 z) (λ e. (z, e), λ p. p .1)
+  | no f ↦ rw (ne-eqb r 0 f) (λ e. absurd (apart e), λ p. absurd (f (p .0)))
+]
+
+-- G17, I1, CO3: an answer is a refusal q exactly when q is the number that the checks gave and not 0, and a length m
+-- exactly when they gave 0 and m is the length
+pub answerOf-exactly : (r l : ℕ) → ((q : ℕ) → (answerOf r l ≡ Refused q) ↔ ((r ≡ q) × (q ≡ 0 → ⊥)))
+    × ((m : ℕ) → (answerOf r l ≡ Length m) ↔ ((r ≡ 0) × (l ≡ m)))
+unfolding answerOf
+answerOf-exactly r l = (
+  λ q. refused-exactly Refused (Length l) r q (λ e. cc) (λ e. zero-not-one (cc)),
+  λ m. Iff·trans (good-exactly Refused (Length l) r (Length m) (λ e. zero-not-one (cc))) (Iff·and Iff·rfl (λ e. cc, ap Length)),
+)
+
+-- G17, V1, CO3: a verdict is a refusal q exactly when q is the number that the checks gave and not 0, and yes or no
+-- exactly when they gave 0 and the test says so
+pub verdictOf-exactly : (r : ℕ) (t : Bool) → ((q : ℕ) → (verdictOf r t ≡ verdict.Refused q) ↔ ((r ≡ q) × (q ≡ 0 → ⊥)))
+    × ((verdictOf r t ≡ verdict.Yes) ↔ ((r ≡ 0) × (t ≡ true))) × ((verdictOf r t ≡ verdict.No) ↔ ((r ≡ 0) × (t ≡ false)))
+unfolding verdictOf
+verdictOf-exactly r t = (
+  λ q. refused-exactly verdict.Refused (pick t verdict.Yes verdict.No) r q (λ e. cc) (number t q),
+  Iff·trans (good verdict.Yes (λ e. zero-not-one (cc))) (Iff·and Iff·rfl (said t .0)),
+  Iff·trans (good verdict.No (λ e. zero-not-one (cc))) (Iff·and Iff·rfl (said t .1)),
+)
+  where
+    number : (t : Bool) (q : ℕ) → pick t verdict.Yes verdict.No ≡ verdict.Refused q → ⊥
+    number true q e = zero-not-one (cc)
+    number false q e = zero-not-one (cc)
+
+    good : (a : Verdict) → (verdict.Refused r ≡ a → ⊥) → (pick (eqb r 0) (pick t verdict.Yes verdict.No) (verdict.Refused r) ≡ a)
+        ↔ ((r ≡ 0) × (pick t verdict.Yes verdict.No ≡ a))
+    good = good-exactly verdict.Refused (pick t verdict.Yes verdict.No) r
+
+    said : (t : Bool)
+        → ((pick t verdict.Yes verdict.No ≡ verdict.Yes) ↔ (t ≡ true)) × ((pick t verdict.Yes verdict.No ≡ verdict.No) ↔ (t ≡ false))
+    said true = ((λ e. refl, λ e. refl), (λ e. cc, λ e. cc))
+    said false = ((λ e. cc, λ e. cc), (λ e. refl, λ e. refl))
+
+-- G17, L2, L3, L4, CO3: an answer with counts is a refusal q exactly when q is the number that the checks gave and not
+-- 0, and the counts a, b and c exactly when they gave 0 and these are the three counts
+pub countedOf-exactly : (r : ℕ) (s : Crossings) → ((q : ℕ) → (countedOf r s ≡ counted.Refused q) ↔ ((r ≡ q) × (q ≡ 0 → ⊥)))
+    × ((a b c : ℕ) → (countedOf r s ≡ counted.Crossings a b c)
+    ↔ ((r ≡ 0) × (s .inversions ≡ a) × (s .negativeSumPairs ≡ b) × (s .negatives ≡ c)))
+unfolding countedOf
+countedOf-exactly r s =
+    let all = counted.Crossings (s .inversions) (s .negativeSumPairs) (s .negatives) in (
+      λ q. refused-exactly counted.Refused all r q (λ e. cc) (λ e. zero-not-one (cc)),
+      λ a b c. let good = good-exactly counted.Refused all r (counted.Crossings a b c) (λ e. zero-not-one (cc)) in
+          (λ h. let g = good .0 h in let e = g .1 in (g .0, cc, cc, cc), λ p. good .1 (p .0, rw (p .1, p .2, p .3))),
+    )
