@@ -17,11 +17,15 @@ pub mod Relations
 pub mod Products
 pub mod Places
 pub mod Inverses
+pub mod WindowEntries
+pub mod RelationSides
+pub mod RelationWindows
 pub mod Order
 pub mod Orders
 pub mod PairWeights
 pub mod NegativeSums
 pub mod Runs
+pub mod BlockEntries
 pub mod Peeling
 pub mod BlockAction
 pub mod Indices
