@@ -32,6 +32,7 @@ pub mod Indices
 pub mod NormalForms
 pub mod Lengths
 pub mod Crossings
+pub mod CountedPairs
 pub mod Descents
 pub mod GreatestLengths
 pub mod FormLaws

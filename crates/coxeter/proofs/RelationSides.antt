@@ -4,27 +4,22 @@
 -- Sections: uses and links; the relations of each kind; the sides of a relation.
 -- Not here: which pairs of steps have which relation, by windows (RelationWindows).
 -- Assumes nothing.
-use mathlib.Core.Path.{_≡_, refl, sym, ap, _∙_}
+use mathlib.Core.Path.{_≡_, refl, ap}
 use mathlib.Core.Logic.{_↔_, _⊎_, inl, inr}
 use mathlib.Core.List.{List, [], _∷_, _++_}
 use Prim.Native.Nat.{ℕ, zero, suc, _+_, _≤_, _<_}
-use native.Mathlib.Decide.{ℕ-discrete, decLe}
 use native.Mathlib.Nat.{suc-add}
-use native.Mathlib.Numerals.{add-one}
 use native.Mathlib.Omega.{arith}
-use lib.IntN.{ℤ, pos, negsuc, negℤ}
 use lib.ListN.{length, getD}
-use Rattle.coxeter.specs.Kinds.{Kind, A, B, D, lanes}
-use Rattle.coxeter.specs.Windows.{act, windowFrom, straight, window}
+use Rattle.coxeter.specs.Kinds.{Kind, A, B, D}
 use Rattle.coxeter.specs.Relations.{Neighbours, FourfoldPair, Commuting, Braid, threefold, fourfold, commute}
 use Rattle.coxeter.specs.Relations.{Relation, twice, braid, Use, forth, back, Linked, alone, next}
-use Rattle.coxeter.proofs.Basics.{length-act, length-straight}
 use Rattle.coxeter.proofs.Links.{linked-one, linked-of-equal}
 use Rattle.coxeter.proofs.Relations.{neighbours-lt, fourfoldPair-lt, Apart, commuting-apart, apart-commuting, linked-length-braid}
 
 -- ---- uses and links
 
--- E6: one use puts one side of a relation in place of the other, either way round, between any two parts of a word
+-- E6: one use puts one side of a relation in place of the other, in either direction, anywhere inside a word
 pub use-exactly : (R : List ℕ → List ℕ → Type 0) (u v : List ℕ) → Use R u v
     ↔ ((x y l r : List ℕ) × (R l r ⊎ R r l) × (u ≡ x ++ (l ++ y)) × (v ≡ x ++ (r ++ y)))
 use-exactly R u v = (parts, whole)
@@ -60,8 +55,8 @@ linked-of-chain u v [] (e, f) = linked-of-equal e
 linked-of-chain u v (w ∷ ws) (e, f) =
     next (f 0 (omega arith)) (linked-of-chain w v ws (e, λ i h. rw (suc-add i 1) at (f (suc i) (omega arith))))
 
--- E7, E8: two words are linked if a finite list of words leads from the first to the second, each next word by one
--- use from the word before it; the list may be the first word alone
+-- E7, E8: two words are linked exactly if a finite list of words, perhaps of one word, leads from the first to the
+-- second, in which each next word comes from the one before by one use
 pub linked-exactly : (R : List ℕ → List ℕ → Type 0) (u v : List ℕ) → Linked R u v
     ↔ ((ws : List (List ℕ)) × (getD (u ∷ ws) (length ws) [] ≡ v)
     × ((i : ℕ) → i < length ws → Use R (getD (u ∷ ws) i []) (getD (u ∷ ws) (i + 1) [])))
@@ -92,8 +87,8 @@ of-sides a b o h (inr (inl (c, p, q))) = rw (p, q) (braid (threefold o h c))
 of-sides a b o h (inr (inr (inl (c, p, q)))) = rw (p, q) (braid (fourfold o h c))
 of-sides a b o h (inr (inr (inr (c, p, q)))) = rw (p, q) (braid (commute o h c))
 
--- E1, E2, E3: in kind A a step twice is the empty word, steps that differ by 1 satisfy a b a = b a b, steps that
--- differ by more a b = b a, and there is no other relation
+-- E1, E2, E3: in kind A the relations are exactly that a step twice equals the empty word, that steps that differ by
+-- 1 satisfy a b a = b a b, and that steps that differ by more satisfy a b = b a
 pub relations-in-A : (n : ℕ) (l r : List ℕ) → Relation A n l r
     ↔ ((a b : ℕ) × (1 ≤ a) × (b ≤ n)
     × (((a ≡ b) × (l ≡ a ∷ a ∷ []) × (r ≡ []))
@@ -123,7 +118,7 @@ relations-in-A n l r = (
       ]),
 )
 
--- E1 to E4: in kind B the same, but n − 1 and n satisfy a b a b = b a b a instead
+-- E1, E2, E3, E4: in kind B they are the same, but for n − 1 and n, which satisfy a b a b = b a b a instead
 pub relations-in-B : (n : ℕ) (l r : List ℕ) → Relation B n l r
     ↔ ((a b : ℕ) × (1 ≤ a) × (b ≤ n)
     × (((a ≡ b) × (l ≡ a ∷ a ∷ []) × (r ≡ []))
@@ -155,7 +150,8 @@ relations-in-B n l r = (
       ]),
 )
 
--- E1, E2, E3, E5: in kind D the same as in A, but n is a neighbour of n − 2 and not of n − 1, with which it commutes
+-- E1, E2, E3, E5: in kind D they are those of kind A, but for step n, which satisfies a b a = b a b with n − 2 alone
+-- and a b = b a with all others, n − 1 among them
 pub relations-in-D : (n : ℕ) (l r : List ℕ) → Relation D n l r
     ↔ ((a b : ℕ) × (1 ≤ a) × (b ≤ n)
     × (((a ≡ b) × (l ≡ a ∷ a ∷ []) × (r ≡ []))
@@ -196,8 +192,8 @@ relations-in-D n l r = (
 
 -- ---- the sides of a relation
 
--- E1 to E5: a relation has a step twice and the empty word for its sides, or two steps in turn, each of them first,
--- two, three or four letters long
+-- E1, E2, E3, E4, E5: the sides of a relation are a step twice and the empty word, or two different steps by turns,
+-- once beginning with the one and once with the other, of two, three or four letters
 pub relation-sides : (k : Kind) (n : ℕ) (l r : List ℕ) → Relation k n l r
     → ((a : ℕ) × (1 ≤ a) × (a ≤ n) × (l ≡ a ∷ a ∷ []) × (r ≡ []))
     ⊎ ((a b : ℕ) × (1 ≤ a) × (a < b) × (b ≤ n)
@@ -222,7 +218,7 @@ twice-exactly k n a = (λ c. within c refl refl, λ h. twice (h .0) (h .1))
     within (twice {a = s} o h) e f = let q : s ≡ a = cc in (omega arith, omega arith)
     within (braid c) e f = absurd (omega (arith, linked-length-braid (linked-one c), ap length e, ap length f))
 
--- E2, E3, E4: the relations with sides of equal length are all but those of a step twice
+-- E2, E3, E4: the relations of `Braid` are exactly the relations whose two sides have equally many letters
 pub braid-exactly : (k : Kind) (n : ℕ) (l r : List ℕ) → Braid k n l r ↔ (Relation k n l r × (length l ≡ length r))
 braid-exactly k n l r = (λ c. (braid c, linked-length-braid (linked-one c)), λ (c, e). equal c e)
   where

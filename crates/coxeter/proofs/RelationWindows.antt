@@ -1,5 +1,6 @@
--- The relations by windows (E2 to E5 of the specification): of two steps, the two words that take them in turn, each
--- of them first, are the sides of a relation exactly if they have one window and no shorter two have.
+-- The relations by windows (E2 to E5 of the specification): two words that take two steps by turns, one beginning with
+-- the one step and one with the other, are the sides of a relation exactly if they have one window and no shorter two
+-- of that form have.
 --
 -- Sections: entries that tell two windows apart; pairs of steps; the relations.
 -- Not here: the relations outright, by the numbers of their steps (RelationSides).
@@ -8,7 +9,7 @@ use mathlib.Core.Path.{_≡_, refl, sym, ap, _∙_}
 use mathlib.Core.Logic.{_↔_, _⊎_, inl, inr}
 use mathlib.Core.List.{List, [], _∷_}
 use Prim.Native.Nat.{ℕ, zero, suc, _+_, _-_, _≤_, _<_}
-use native.Mathlib.Decide.{ℕ-discrete, decLe}
+use native.Mathlib.Decide.{ℕ-discrete}
 use native.Mathlib.Omega.{arith}
 use lib.IntN.{ℤ, pos, negsuc, negℤ}
 use lib.ListN.{length, getD}
@@ -18,7 +19,7 @@ use Rattle.coxeter.specs.Relations.{Neighbours, FourfoldPair, Commuting,
 use Rattle.coxeter.proofs.Basics.{length-act, length-straight}
 use Rattle.coxeter.proofs.Products.{getD-straight}
 use Rattle.coxeter.proofs.Links.{linked-one}
-use Rattle.coxeter.proofs.Relations.{neighbours-lt, fourfoldPair-lt, linked-window}
+use Rattle.coxeter.proofs.Relations.{linked-window}
 use Rattle.coxeter.proofs.WindowEntries.{step-exchanges, last-step-in-B, last-step-in-D}
 
 -- ---- entries that tell two windows apart
@@ -196,7 +197,7 @@ module _ (k : Kind) (n a b : ℕ) (o : 1 ≤ a) (h : a < b) (l : b ≤ n) where
     ],
   )
 
-  -- E2, E5: a b a and b a b are, exactly if they have one window and a b and b a have not
+  -- E2, E5: a b a and b a b are the sides of a relation exactly if they have one window and a b and b a have not
   pub threefold-exactly : Relation k n (a ∷ b ∷ a ∷ []) (b ∷ a ∷ b ∷ [])
       ↔ ((window k n (a ∷ b ∷ a ∷ []) ≡ window k n (b ∷ a ∷ b ∷ [])) × (window k n (a ∷ b ∷ []) ≡ window k n (b ∷ a ∷ []) → ⊥))
   threefold-exactly = (
@@ -208,7 +209,8 @@ module _ (k : Kind) (n a b : ℕ) (o : 1 ≤ a) (h : a < b) (l : b ≤ n) where
     ],
   )
 
-  -- E4: a b a b and b a b a are, exactly if they have one window and the shorter ones have not
+  -- E4: a b a b and b a b a are the sides of a relation exactly if they have one window, a b and b a have not, and
+  -- a b a and b a b have not
   pub fourfold-exactly : Relation k n (a ∷ b ∷ a ∷ b ∷ []) (b ∷ a ∷ b ∷ a ∷ [])
       ↔ ((window k n (a ∷ b ∷ a ∷ b ∷ []) ≡ window k n (b ∷ a ∷ b ∷ a ∷ []))
       × (window k n (a ∷ b ∷ []) ≡ window k n (b ∷ a ∷ []) → ⊥)

@@ -1,6 +1,6 @@
--- Windows by their entries (K7 to K9, W1, W3, W4, W6, W7, W9 and L1 of the specification): which entries a step changes
--- and how, the straight window, the window of a word letter by letter, products, inverses, and the order of the
--- entries. Positions count from 1 in the specification and from 0 here, so that step s works on positions s − 1 and s.
+-- Windows by their entries (K7 to K9, W1, W3, W4, W6, W7, W9, A2 and L1 of the specification): which entries a step
+-- changes and how, the straight window, the window of a word letter by letter, products, inverses, and the order of
+-- the entries. Positions count from 1 in the specification and from 0 here, so that position i there is i − 1 here.
 --
 -- Sections: steps; words; products; inverses; the order of the entries.
 -- Assumes nothing.
@@ -9,7 +9,6 @@ use mathlib.Core.Logic.{_↔_}
 use mathlib.Core.List.{List, [], _∷_, _++_, map}
 use Prim.Native.Nat.{ℕ, zero, suc, _+_, _-_, _*_, _≤_, _<_}
 use native.Mathlib.Decide.{decLe}
-use native.Mathlib.Nat.{lt-of-not-le}
 use native.Mathlib.Numerals.{add-one}
 use native.Mathlib.Omega.{arith}
 use lib.Dec.{ltb}
@@ -17,7 +16,7 @@ use lib.IntN.{ℤ, pos, negsuc, negℤ, natAbs}
 use lib.ListN.{length, getD, set, length-set, length-map, List·getD-eq-default}
 use lib.Seq.{getD-set-same, getD-set-other}
 use borrow.Author.Tests.{lt-ltb, le-ltb}
-use Rattle.coxeter.specs.Kinds.{Kind, A, B, D, pick, lanes, up}
+use Rattle.coxeter.specs.Kinds.{Kind, B, D, pick, lanes, up}
 use Rattle.coxeter.specs.Windows.{from, exchange, negateFirst, exchangeNegate, act, windowFrom, straight, window, at, product, inverse}
 use Rattle.coxeter.specs.Length.{later}
 use Rattle.coxeter.specs.Checks.{WindowOf}
@@ -30,7 +29,7 @@ use Rattle.coxeter.proofs.Inverses as inverses
 
 -- ---- steps
 
--- the list whose entries at positions p and p + 1 are x and y
+-- a list after x was stored at position p and y at position p + 1
 pair-set : (p : ℕ) (x y : ℤ) (w v : List ℤ) → suc p < length w → v ≡ set (set w p x) (suc p) y
     → (getD v p (pos 0) ≡ x) × (getD v (suc p) (pos 0) ≡ y) × ((i : ℕ) → (i ≡ p → ⊥) → (i ≡ suc p → ⊥) → getD v i (pos 0) ≡ getD w i (pos 0))
 pair-set p x y w v h e =
@@ -64,8 +63,8 @@ exchangeNegate-set zero (x ∷ y ∷ w) h = refl
 exchangeNegate-set (suc p) [] h = absurd (omega arith)
 exchangeNegate-set (suc p) (x ∷ w) h = ap (λ (l : List ℤ). x ∷ l) (exchangeNegate-set p w (omega arith))
 
--- K7: step s exchanges the entries at positions s and s + 1 and changes no other: in kind A every step, in B and D
--- every step below n
+-- K7: step s, in kind A every step and in B and D every step below n, exchanges the entries at positions s and s + 1
+-- and changes no other
 pub step-exchanges : (k : Kind) (n s : ℕ) (w : List ℤ) → 1 ≤ s → s < lanes k n → s < length w
     → (getD (act k n s w) (s - 1) (pos 0) ≡ getD w s (pos 0))
     × (getD (act k n s w) s (pos 0) ≡ getD w (s - 1) (pos 0))
@@ -75,14 +74,15 @@ step-exchanges k n (suc p) w o l h =
     let e : suc p - 1 ≡ p = omega arith in
     rw e (pair-set p _ _ w (act k n (suc p) w) h (ap (λ f. f w) (act-exchange k n p l) ∙ exchange-set p w h))
 
--- K8: in kind B step n changes the sign of the entry at position n and no other entry
+-- K8: in kind B step n changes the sign of the entry at position n and changes no other
 pub last-step-in-B : (n : ℕ) (w : List ℤ) → 1 ≤ n → n ≤ length w
     → (getD (act B n n w) (n - 1) (pos 0) ≡ negℤ (getD w (n - 1) (pos 0)))
     × ((i : ℕ) → (i ≡ n - 1 → ⊥) → getD (act B n n w) i (pos 0) ≡ getD w i (pos 0))
 last-step-in-B zero w o h = absurd (omega arith)
 last-step-in-B (suc p) w o h =
     let e : suc p - 1 ≡ p = omega arith in
-    let s : act B (suc p) (suc p) w ≡ set w p (negℤ (getD w p (pos 0))) = ap (λ f. f w) (act-B-last (suc p) p (omega arith)) ∙ negateFirst-set p w h in
+    let s : act B (suc p) (suc p) w ≡ set w p (negℤ (getD w p (pos 0))) =
+    ap (λ f. f w) (act-B-last (suc p) p (omega arith)) ∙ negateFirst-set p w h in
     rw (e, s) (getD-set-same w p _ (pos 0) h, λ i f. getD-set-other w p i _ (pos 0) f)
 
 -- K9: in kind D step n exchanges the entries at positions n − 1 and n, changes the sign of both, and changes no other
@@ -101,17 +101,18 @@ last-step-in-D (suc (suc p)) w o h =
 
 -- ---- words
 
--- W3: the straight window of m lanes has m entries, and the one on lane i is i
+-- W3: the straight window of m lanes has m entries, and its entry on lane i is i
 pub straight-entries : (m : ℕ) → (length (straight m) ≡ m) × ((i : ℕ) → i < m → getD (straight m) i (pos 0) ≡ pos (i + 1))
 straight-entries m = (length-straight m, λ i h. rw add-one (getD-straight m i h))
 
--- W1, A2: from any window on, a word's steps are taken one by one from the left
+-- W1, A2: from any window on, the empty word changes nothing, and one letter more at the end is one step more
 pub windowFrom-letter-by-letter : (k : Kind) (n : ℕ) (w : List ℤ) → (windowFrom k n w [] ≡ w)
     × ((u : List ℕ) (s : ℕ) → windowFrom k n w (u ++ (s ∷ [])) ≡ act k n s (windowFrom k n w u))
 unfolding windowFrom
 windowFrom-letter-by-letter k n w = (refl, λ u s. windowFrom-append k n w u (s ∷ []))
 
--- W4, W6: the empty word has the straight window, and one letter more is one step more, however long the word is
+-- W4, W6: the empty word has the straight window, and one letter more at the end is one step more, however long the
+-- word is
 pub window-letter-by-letter : (k : Kind) (n : ℕ) → (window k n [] ≡ straight (lanes k n))
     × ((u : List ℕ) (s : ℕ) → window k n (u ++ (s ∷ [])) ≡ act k n s (window k n u))
 unfolding window
@@ -131,20 +132,25 @@ product-entries u v = (length-product u v, getD-product u v)
 
 -- ---- inverses
 
--- what w sends to a number above 0 has a size of at most the number of entries
+-- where w(x) is a number above 0, x has at most the number of entries for its size
 at-inside : (w : List ℤ) (x : ℤ) (i : ℕ) → at w x ≡ pos (suc i) → natAbs x ≤ length w
 unfolding at
 at-inside w (pos zero) i e = omega arith
 at-inside w (pos (suc p)) i e =
     elim (decLe (suc p) (length w)) [
       | yes h ↦ h
-      | no h ↦ let z : pos 0 ≡ pos (suc i) = sym (List·getD-eq-default w (pos 0) (omega arith)) ∙ e in absurd (let q : 0 ≡ suc i = cc in omega arith)
+      | no h ↦
+          let z : pos 0 ≡ pos (suc i) = sym (List·getD-eq-default w (pos 0) (omega arith)) ∙ e in
+          let q : 0 ≡ suc i = cc in
+          absurd (omega arith)
     ]
 at-inside w (negsuc p) i e =
     elim (decLe (suc p) (length w)) [
       | yes h ↦ h
       | no h ↦
-        let z : pos 0 ≡ pos (suc i) = sym (ap negℤ (List·getD-eq-default w (pos 0) (omega arith))) ∙ e in absurd (let q : 0 ≡ suc i = cc in omega arith)
+          let z : pos 0 ≡ pos (suc i) = sym (ap negℤ (List·getD-eq-default w (pos 0) (omega arith))) ∙ e in
+          let q : 0 ≡ suc i = cc in
+          absurd (omega arith)
     ]
 
 between-entries : (m : ℕ) (v : List ℤ) → ((i : ℕ) → i < length v → natAbs (getD v i (pos 0)) ≤ m) → Between 0 (suc m) v
@@ -155,7 +161,7 @@ module _ (k : Kind) (n : ℕ) (w : List ℤ) (h : WindowOf k n w) (v : List ℤ)
   passed : Accepted k n w
   passed = accepted-of-refusal k n w h
 
-  -- W9: of all lists the inverse is the one by which the window gives the straight window as their product
+  -- W9: of all lists v, the inverse of the window w is the only one whose product w v is the straight window
   pub right-inverse-exactly : (v ≡ inverse w) ↔ (product w v ≡ straight (lanes k n))
   right-inverse-exactly = (λ e. ap (product w) e ∙ inverses.product-inverse k n w passed, only)
     where
@@ -175,7 +181,7 @@ module _ (k : Kind) (n : ℕ) (w : List ℤ) (h : WindowOf k n w) (v : List ℤ)
           ∙ ap (λ (c : ℕ). product (inverse w) (straight c)) (sym (inverses.length-inverse w ∙ passed .size))
           ∙ product-straight (inverse w)
 
-  -- W9: the other way round it is the only one with an entry for each lane
+  -- W9: of all lists v with an entry for each lane, it is the only one whose product v w is the straight window
   pub left-inverse-exactly : (v ≡ inverse w) ↔ ((length v ≡ lanes k n) × (product v w ≡ straight (lanes k n)))
   left-inverse-exactly = (
     λ e. rw e (inverses.length-inverse w ∙ passed .size, inverses.inverse-product k n w passed),
@@ -198,36 +204,36 @@ ltb-alike a b c d f g =
     ]
 
 -- the entry at place i of 1, 2, .., m, −m, .., −2, −1
-inOrder : ℕ → ℕ → ℤ
-inOrder m i = pick (ltb i m) (pos (i + 1)) (negsuc (2 * m - 1 - i))
+placed : ℕ → ℕ → ℤ
+placed m i = pick (ltb i m) (pos (i + 1)) (negsuc (2 * m - 1 - i))
 
-order : ℕ → List ℤ
-order m = map (inOrder m) (up 0 (2 * m))
+allPlaced : ℕ → List ℤ
+allPlaced m = map (placed m) (up 0 (2 * m))
 
-order-at : (m i : ℕ) → i < 2 * m → getD (order m) i (pos 0) ≡ inOrder m i
-unfolding order
-order-at m i h =
-    getD-map (inOrder m) (up 0 (2 * m)) i (pos 0) 0 (rw length-up h) ∙ ap (inOrder m) (getD-up 0 (2 * m) i 0 h ∙ omega arith)
+placed-at : (m i : ℕ) → i < 2 * m → getD (allPlaced m) i (pos 0) ≡ placed m i
+unfolding allPlaced
+placed-at m i h =
+    getD-map (placed m) (up 0 (2 * m)) i (pos 0) 0 (rw length-up h) ∙ ap (placed m) (getD-up 0 (2 * m) i 0 h ∙ omega arith)
 
-order-low : (m i : ℕ) → i < m → inOrder m i ≡ pos (i + 1)
-unfolding inOrder
-order-low m i h = rw (lt-ltb i m h)
+placed-low : (m i : ℕ) → i < m → placed m i ≡ pos (i + 1)
+unfolding placed
+placed-low m i h = rw (lt-ltb i m h)
 
-order-high : (m i : ℕ) → m ≤ i → inOrder m i ≡ negsuc (2 * m - 1 - i)
-unfolding inOrder
-order-high m i h = rw (le-ltb i m h)
+placed-high : (m i : ℕ) → m ≤ i → placed m i ≡ negsuc (2 * m - 1 - i)
+unfolding placed
+placed-high m i h = rw (le-ltb i m h)
 
-order-later : (m i j : ℕ) → i < 2 * m → j < 2 * m → later (inOrder m i) (inOrder m j) ≡ ltb j i
+placed-later : (m i j : ℕ) → i < 2 * m → j < 2 * m → later (placed m i) (placed m j) ≡ ltb j i
 unfolding later
-order-later m i j h g =
+placed-later m i j h g =
     elim (decLe m i) [
       | yes a ↦ elim (decLe m j) [
-        | yes b ↦ rw (order-high m i a, order-high m j b) (ltb-alike (2 * m - 1 - i) (2 * m - 1 - j) j i (λ c. omega arith) (λ c. omega arith))
-        | no b ↦ rw (order-high m i a, order-low m j (omega arith)) (sym (lt-ltb j i (omega arith)))
+        | yes b ↦ rw (placed-high m i a, placed-high m j b) (ltb-alike (2 * m - 1 - i) (2 * m - 1 - j) j i (λ c. omega arith) (λ c. omega arith))
+        | no b ↦ rw (placed-high m i a, placed-low m j (omega arith)) (sym (lt-ltb j i (omega arith)))
       ]
       | no a ↦ elim (decLe m j) [
-        | yes b ↦ rw (order-low m i (omega arith), order-high m j b) (sym (le-ltb j i (omega arith)))
-        | no b ↦ rw (order-low m i (omega arith), order-low m j (omega arith)) (ltb-alike (j + 1) (i + 1) j i (λ c. omega arith) (λ c. omega arith))
+        | yes b ↦ rw (placed-low m i (omega arith), placed-high m j b) (sym (le-ltb j i (omega arith)))
+        | no b ↦ rw (placed-low m i (omega arith), placed-low m j (omega arith)) (ltb-alike (j + 1) (i + 1) j i (λ c. omega arith) (λ c. omega arith))
       ]
     ]
 
@@ -237,9 +243,9 @@ pub later-by-place : (m : ℕ) → (order : List ℤ) × (length order ≡ 2 * m
     × ((i : ℕ) → i < m → getD order (2 * m - 1 - i) (pos 0) ≡ negℤ (pos (i + 1)))
     × ((i j : ℕ) → i < 2 * m → j < 2 * m → later (getD order i (pos 0)) (getD order j (pos 0)) ≡ ltb j i)
 later-by-place m = (
-  order m,
-  unfold order in length-map (up 0 (2 * m)) (inOrder m) ∙ length-up 0 (2 * m),
-  λ i h. order-at m i (omega arith) ∙ order-low m i h,
-  λ i h. order-at m (2 * m - 1 - i) (omega arith) ∙ order-high m (2 * m - 1 - i) (omega arith) ∙ rw add-one (ap negsuc (omega arith)),
-  λ i j h g. rw (order-at m i h, order-at m j g) (order-later m i j h g),
+  allPlaced m,
+  unfold allPlaced in length-map (up 0 (2 * m)) (placed m) ∙ length-up 0 (2 * m),
+  λ i h. placed-at m i (omega arith) ∙ placed-low m i h,
+  λ i h. placed-at m (2 * m - 1 - i) (omega arith) ∙ placed-high m (2 * m - 1 - i) (omega arith) ∙ rw add-one (ap negsuc (omega arith)),
+  λ i j h g. rw (placed-at m i h, placed-at m j g) (placed-later m i j h g),
 )
