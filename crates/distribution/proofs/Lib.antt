@@ -1,10 +1,12 @@
 -- The laws of the windows of a kind and a rank and of their lengths, in the order in which they rest on each other.
+pub mod ByPlaces
 pub mod Members
 pub mod AllWindows
 pub mod Sums
 pub mod IndexLists
 pub mod Factors
 pub mod Orders
+pub mod Counted
 pub mod BothEnds
 pub mod Longest
 pub mod Tables
@@ -12,5 +14,7 @@ pub mod Products
 pub mod Values
 pub mod Outcomes
 pub mod Unchanged
+pub mod Firsts
 pub mod Sentences
+pub mod LongestEntries
 pub mod Vectors

@@ -8,9 +8,8 @@ use mathlib.Core.Bool.{Bool, true, false, true≢false}
 use mathlib.Core.Logic.{_⊎_, inl, inr, ⊎-elim, _↔_}
 use mathlib.Core.List.{List, _++_}
 use Prim.Native.Nat.{ℕ, suc, _+_, _≤_, _<_}
-use native.Mathlib.Decide.{ℕ-discrete}
 use native.Mathlib.Omega.{arith}
-use borrow.Author.Tests.{eq-eqb, ne-eqb, eqb-true, ltb-true, ltb-false, lt-ltb, le-ltb}
+use borrow.Author.Tests.{ne-eqb, eqb-true, ltb-true, ltb-false, lt-ltb, le-ltb}
 use lib.Dec.{eqb}
 use lib.IntN.{ℤ}
 use lib.ListN.{length, getD, take, drop}
@@ -23,23 +22,23 @@ use Rattle.coxeter.specs.NormalForm.{normalForm, IsNormalForm}
 use Rattle.coxeter.specs.Calls.{written}
 use Rattle.coxeter.proofs.Lists.{getD-take}
 use Rattle.coxeter.proofs.Refusals.{then-zero, then-none, then-some, then-assoc, check-zero, rankRefusal-le, then-exactly, then-avoids}
-use Rattle.coxeter.proofs.Refusals.{check-avoids, check-number, check-exactly, refused-number}
+use Rattle.coxeter.proofs.Refusals.{check-avoids, check-number, check-exactly}
 use Rattle.coxeter.proofs.Levels.{accepted-of-refusal}
 use Rattle.coxeter.proofs.Order.{shortlex-cases, shortlex-total, shortlex-irrefl}
 use Rattle.coxeter.proofs.Theorems.{length-normalForm}
 use Rattle.rules.proofs.Theorems.{normalForm-least}
 use Rattle.distribution.specs.declared.Table.{Table}
 use Rattle.distribution.specs.declared.Table.the-variants.{Written, Refused}
-use Rattle.distribution.specs.AllWindows.{In, Once, keep, windows}
+use Rattle.distribution.specs.AllWindows.{In, Once}
 use Rattle.distribution.specs.Distribution.{ofLength, distribution, sum, order}
 use Rattle.distribution.specs.Longest.{IsLongest, longest}
 use Rattle.distribution.specs.Calls.{greatestTabled, untabled, tableRefusal, TableYields, tableOf, roomRefusal, tables, delayTable}
-use Rattle.distribution.proofs.Members.{in-keep, of-keep, once-keep}
-use Rattle.distribution.proofs.AllWindows.{windows-exactly, windows-once}
+use Rattle.distribution.proofs.Counted.{ofLength-exactly}
 use Rattle.distribution.proofs.Orders.{sum-distribution}
 use Rattle.distribution.proofs.Longest.{longest-is, longest-unique}
 use Rattle.distribution.proofs.Tables.{length-distribution, entry-of-length, length-longest}
 use Rattle.distribution.proofs.Outcomes.{table-rank}
+use Rattle.distribution.proofs.Firsts.{tableOf-exactly}
 use Rattle.distribution.proofs.Unchanged.{delayTable-unchanged, delayTable-past}
 
 -- ---- what the call wrote
@@ -101,19 +100,9 @@ module _ (k n : ℕ) (counts : List ℕ) (entries : List ℤ) (letters : List �
   pub entry-counts : (i : ℕ) → i ≤ greatestLength (kindOf k) n
       → (ws : List (List ℤ)) × Once ws × ((w : List ℤ) → In w ws ↔ (WindowOf (kindOf k) n w × (windowLength (kindOf k) w ≡ i)))
       × (getD x i 0 ≡ length ws)
-  unfolding ofLength
   entry-counts i g =
-      let t : List ℤ → Bool = λ w. eqb (windowLength (kindOf k) w) i in (
-        keep t (windows (kindOf k) n),
-        once-keep t (windows (kindOf k) n) (windows-once (kindOf k) n),
-        λ w. (
-          λ m.
-              let p = of-keep t w (windows (kindOf k) n) m in
-              (windows-exactly (kindOf k) n w .0 (p .0), eqb-true (windowLength (kindOf k) w) i (p .1)),
-          λ p. in-keep t w (windows (kindOf k) n) (eq-eqb (windowLength (kindOf k) w) i (p .1)) (windows-exactly (kindOf k) n w .1 (p .0)),
-        ),
-        entry-exactly i g,
-      )
+      let p = ofLength-exactly (kindOf k) n i (ofLength (kindOf k) n i) .0 refl in
+      (p .0, p .1, p .2, entry-exactly i g ∙ sym (p .3))
 
   -- Y3
   pub entries-sum : sum (take c x) ≡ order (kindOf k) n
@@ -175,17 +164,6 @@ module _ (k n : ℕ) (counts : List ℕ) (entries : List ℤ) (letters : List �
 
 -- ---- refusals
 
-tableOf-refused : (r c e l m : ℕ) → (tableOf r c e l ≡ Refused (suc m)) ↔ (r ≡ suc m)
-unfolding tableOf
-tableOf-refused r c e l m = refused-number Refused (Written c e l) r m (λ q. cc) (λ q. let o : _≡_ {A = ℕ} 0 1 = cc in omega arith)
-
-tableOf-written : (r a b m c e l : ℕ) → (tableOf r a b m ≡ Written c e l) ↔ ((r ≡ 0) × (a ≡ c) × (b ≡ e) × (m ≡ l))
-unfolding tableOf
-tableOf-written r a b m c e l = elim (ℕ-discrete r 0) [
-  | yes z ↦ rw (eq-eqb r 0 z) (λ q. (z, cc, cc, cc), λ q. rw (q .1, q .2, q .3))
-  | no f ↦ rw (ne-eqb r 0 f) (λ q. let o : _≡_ {A = ℕ} 0 1 = cc in absurd (omega arith), λ q. absurd (f (q .0)))
-]
-
 false-true : {X : Type 0} → false ≡ true → X
 false-true e = absurd (true≢false (sym e))
 
@@ -205,8 +183,8 @@ not-B e = let o : _≡_ {A = ℕ} 0 1 = cc in omega arith
 not-D : A ≡ D → ⊥
 not-D e = let o : _≡_ {A = ℕ} 0 1 = cc in omega arith
 
--- C20
-untabled-exactly : (k : Kind) (n : ℕ) → (untabled k n ≡ true) ↔ (((k ≡ A) × (19 < n)) ⊎ (((k ≡ B) ⊎ (k ≡ D)) × (16 < n)))
+-- C20: a rank has no table exactly when it is above 19 in kind A or above 16 in kind B or D
+pub untabled-exactly : (k : Kind) (n : ℕ) → (untabled k n ≡ true) ↔ (((k ≡ A) × (19 < n)) ⊎ (((k ≡ B) ⊎ (k ≡ D)) × (16 < n)))
 unfolding untabled
 untabled-exactly A n = (
   λ e. inl (refl, ltb-true 19 n e),
@@ -238,8 +216,8 @@ module _ (k n : ℕ) (counts : List ℕ) (entries : List ℤ) (letters : List �
   refused-exactly : (m : ℕ) → (a ≡ Refused (suc m)) ↔ ((tableRefusal k n then room) ≡ suc m)
   unfolding delayTable tables roomRefusal
   refused-exactly m =
-      let e = tableOf-refused (tableRefusal k n then room) _ _ _ m in
-      (λ q. e .0 (sym (h .0) ∙ q), λ q. h .0 ∙ e .1 q)
+      let e = tableOf-exactly (tableRefusal k n then room) _ _ _ .0 (suc m) in
+      (λ q. e .0 (sym (h .0) ∙ q) .0, λ q. h .0 ∙ e .1 (q, λ o. omega arith))
 
   -- C20: after 6
   pub table-20-exactly : (a ≡ Refused 20)
@@ -309,7 +287,7 @@ module _ (k n : ℕ) (counts : List ℕ) (entries : List ℤ) (letters : List �
       λ q. let low = table-rank k n q .0 in
       (length-distribution (kindOf k) n, length-longest (kindOf k) n low, longest-is (kindOf k) n low .form) in (
         λ p.
-            let q = then-zero (tableRefusal k n) room (tableOf-written (tableRefusal k n then room) d w u (p .0) (p .1) (p .2) .0 (sym (h .0) ∙ p .3) .0) in
+            let q = then-zero (tableRefusal k n) room (tableOf-exactly (tableRefusal k n then room) d w u .1 (p .0) (p .1) (p .2) .0 (sym (h .0) ∙ p .3) .0) in
             let one = then-zero (check 14 short-counts) (check 14 short-entries then check 14 short-letters) (q .1) in
             let two = then-zero (check 14 short-entries) (check 14 short-letters) (one .1) in
             let s = sizes (q .0) in (
@@ -327,7 +305,7 @@ module _ (k n : ℕ) (counts : List ℕ) (entries : List ℤ) (letters : List �
               le-ltb (length entries) w (omega (arith, s .1, p .3)),
               le-ltb (length letters) u (omega (arith, s .2, p .4)),
             ) in
-            (d, w, u, h .0 ∙ tableOf-written (tableRefusal k n then room) d w u d w u .1 (then-none (tableRefusal k n) room q ∙ r, refl, refl, refl)),
+            (d, w, u, h .0 ∙ tableOf-exactly (tableRefusal k n then room) d w u .1 d w u .1 (then-none (tableRefusal k n) room q ∙ r, refl, refl, refl)),
       )
 
   -- CO3: and otherwise the first check's number

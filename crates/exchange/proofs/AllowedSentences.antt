@@ -9,10 +9,9 @@ use mathlib.Core.Bool.{Bool, true, false, true≢false}
 use mathlib.Core.Logic.{_⊎_, inl, inr, ⊎-elim, _↔_}
 use mathlib.Core.List.{List, [], _∷_}
 use Prim.Native.Nat.{ℕ, suc, _+_, _≤_, _<_}
-use native.Mathlib.Decide.{ℕ-discrete}
 use native.Mathlib.Nat.{min-le-left}
 use native.Mathlib.Omega.{arith}
-use borrow.Author.Tests.{eq-eqb, ne-eqb, ltb-true, ltb-false, lt-ltb, le-ltb}
+use borrow.Author.Tests.{ne-eqb, ltb-true, ltb-false, lt-ltb, le-ltb}
 use lib.IntN.{ℤ}
 use lib.ListN.{length, take, drop, length-take}
 use Rattle.coxeter.specs.declared.Answer.{Answer}
@@ -39,12 +38,13 @@ use Rattle.exchange.specs.BetweenCalls.{unreachable, betweenRefusal, bet
 use Rattle.exchange.proofs.AllowedSets.{wrongSet-exactly}
 use Rattle.exchange.proofs.Splits.{splitting-accepted, splitting-splits, splitting-only, splitting-lengths}
 use Rattle.exchange.proofs.Splits.{splitting-past, splitting-unchanged, splits-none, splits-only}
+use Rattle.exchange.proofs.Firsts.{splitOf-exactly}
 use Rattle.exchange.proofs.BetweenCalls.{between-leading, between-answers, between-of-word, between-refuses-19, between-equal, betweenWindows-unchanged}
 
 -- ---- a bit above the rank
 
--- a set passes exactly when the rank does and no bit stands for a step above it
-set-passes : (k n set : ℕ) → (setRefusal k n set ≡ 0) ↔ (Rig k n × ((s : ℕ) → n < s → allows set s ≡ true → ⊥))
+-- I33, C16: a set passes checks 5, 6 and 16 exactly when the rank passes its own and no bit stands for a step above it
+pub set-passes : (k n set : ℕ) → (setRefusal k n set ≡ 0) ↔ (Rig k n × ((s : ℕ) → n < s → allows set s ≡ true → ⊥))
 unfolding setRefusal
 set-passes k n set = (
   λ e.
@@ -149,17 +149,6 @@ first-empty k n u first second a b x y h =
 
 -- ---- a split, refusals
 
-splitOf-refused : (r a b c : ℕ) → (splitOf r a b ≡ Refused (suc c)) ↔ (r ≡ suc c)
-unfolding splitOf
-splitOf-refused r a b c = refused-number Refused (Words a b) r c (λ e. cc) (λ e. let o : _≡_ {A = ℕ} 0 1 = cc in omega arith)
-
-splitOf-words : (r a b p q : ℕ) → (splitOf r a b ≡ Words p q) ↔ ((r ≡ 0) × (a ≡ p) × (b ≡ q))
-unfolding splitOf
-splitOf-words r a b p q = elim (ℕ-discrete r 0) [
-  | yes z ↦ rw (eq-eqb r 0 z) (λ e. (z, cc, cc), λ e. rw (e .1, e .2))
-  | no f ↦ rw (ne-eqb r 0 f) (λ e. let o : _≡_ {A = ℕ} 0 1 = cc in absurd (omega arith), λ e. absurd (f (e .0)))
-]
-
 room-exactly : (s t : Bool) → ((check 14 s then check 14 t) ≡ 14) ↔ ((s ≡ true) ⊎ (t ≡ true))
 room-exactly true t = (λ e. inl refl, λ e. refl)
 room-exactly false true = (λ e. inr refl, λ e. refl)
@@ -186,8 +175,8 @@ module _ (k n set : ℕ) (u first second : List ℕ) (a : Split) (x y : List ℕ
   refused-exactly : (c : ℕ) → (a ≡ Refused (suc c)) ↔ (((setRefusal k n set then wordRefusal n u) then room) ≡ suc c)
   unfolding splitting parts
   refused-exactly c =
-      let e = splitOf-refused ((setRefusal k n set then wordRefusal n u) then room) _ _ c in
-      (λ q. e .0 (sym (h .0) ∙ q), λ q. h .0 ∙ e .1 q)
+      let e = splitOf-exactly ((setRefusal k n set then wordRefusal n u) then room) _ _ .0 (suc c) in
+      (λ q. e .0 (sym (h .0) ∙ q) .0, λ q. h .0 ∙ e .1 (q, λ z. omega arith))
 
   -- C16: right after the rank
   pub split-16-exactly : (a ≡ Refused 16) ↔ (Rig k n × ((s : ℕ) × (n < s) × (allows set s ≡ true)))
@@ -231,7 +220,7 @@ module _ (k n set : ℕ) (u first second : List ℕ) (a : Split) (x y : List ℕ
       let l = length (firstWord (allows set) (kindOf k) n (window (kindOf k) n u)) in
       let m = length (secondWord (allows set) (kindOf k) n (window (kindOf k) n u)) in (
         λ w.
-            let z = then-zero q room (splitOf-words (q then room) l m (w .0) (w .1) .0 (sym (h .0) ∙ w .2) .0) in
+            let z = then-zero q room (splitOf-exactly (q then room) l m .1 (w .0) (w .1) .0 (sym (h .0) ∙ w .2) .0) in
             let c = then-zero (setRefusal k n set) (wordRefusal n u) (z .0) in
             let s = set-passes k n set .0 (c .0) in
             let r = then-zero (check 14 first-short) (check 14 second-short) (z .1) in (
@@ -244,7 +233,7 @@ module _ (k n set : ℕ) (u first second : List ℕ) (a : Split) (x y : List ℕ
         λ w.
             let c = then-none (setRefusal k n set) (wordRefusal n u) (set-passes k n set .1 (w .0, w .1)) ∙ w .2 in
             let r : room ≡ 0 = rw (le-ltb (length first) l (w .3), le-ltb (length second) m (w .4)) in
-            (l, m, h .0 ∙ splitOf-words (q then room) l m l m .1 (then-none q room c ∙ r, refl, refl)),
+            (l, m, h .0 ∙ splitOf-exactly (q then room) l m .1 l m .1 (then-none q room c ∙ r, refl, refl)),
       )
 
   -- CO3: and otherwise the first check's number

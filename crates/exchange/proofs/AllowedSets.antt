@@ -1,15 +1,15 @@
--- Sets of allowed steps as numbers: refusal 16 comes exactly when a bit stands for a step above the rank, 0 allows
--- no step, and all bits of the steps allow each of them.
+-- Sets of allowed steps as numbers: a step is allowed exactly when its bit is 1, refusal 16 comes exactly when a bit
+-- stands for a step above the rank, 0 allows no step, and all bits of the steps allow each of them.
 --
 -- Sections: bits; refusal 16; no step and all steps.
 -- Assumes nothing.
 use mathlib.Core.Path.{_≡_, refl, sym, ap, _∙_}
 use mathlib.Core.Bool.{Bool, true, false}
 use mathlib.Core.Logic.{_↔_}
-use Prim.Native.Nat.{ℕ, zero, suc, _+_, _-_, _/_, _%_, _^_, _≤_, _<_}
-use native.Mathlib.Nat.{div-eq-of-lt, le-div-iff-mul-le, le-trans, lt-of-lt-of-le}
+use Prim.Native.Nat.{ℕ, zero, suc, _+_, _-_, _*_, _/_, _%_, _^_, _≤_, _<_}
+use native.Mathlib.Nat.{div-eq-of-lt, le-div-iff-mul-le, le-trans, lt-of-lt-of-le, mod-lt}
 use native.Mathlib.Omega.{arith}
-use lib.Pow.{pow-pos, pow-mono, shr-shr, ones-split, ones-lt, high, low}
+use lib.Pow.{pow-pos, pow-mono, shr-shr, ones-split, ones-lt, split, high, low}
 use lib.Dec.{leb}
 use borrow.Author.Tests.{leb-true, leb-false, le-leb, lt-leb, eqb-true, eq-eqb, ne-eqb}
 use Rattle.exchange.specs.Allowed.{allows, wrongSet}
@@ -37,6 +37,21 @@ pow-le-of-bit x t e = cases (leb (2 ^ t) x) refl
     cases : (b : Bool) → leb (2 ^ t) x ≡ b → 2 ^ t ≤ x
     cases true h = leb-true (2 ^ t) x h
     cases false h = absurd (omega (arith, e, div-eq-of-lt (leb-false (2 ^ t) x h)))
+
+-- S1: step s is allowed exactly when bit s − 1 is 1, with any bits above it and any below it
+pub allows-exactly : (set s : ℕ) → (allows set s ≡ true)
+    ↔ ((high low : ℕ) × (low < 2 ^ (s - 1)) × (set ≡ (2 * high + 1) * 2 ^ (s - 1) + low))
+unfolding allows
+allows-exactly set s =
+    let p = 2 ^ (s - 1) in
+    let h = set / p in (
+      λ e.
+          let o : h ≡ 2 * (h / 2) + 1 = omega (arith, eqb-true (h % 2) 1 e) in
+          (h / 2, set % p, mod-lt set (pow-pos (s - 1)), sym (split set (s - 1)) ∙ ap (λ (x : ℕ). x * p + set % p) o),
+      λ b.
+          let o : h ≡ 2 * b .0 + 1 = ap (λ (x : ℕ). x / p) (b .3) ∙ high (2 * b .0 + 1) (s - 1) (b .2) in
+          eq-eqb (h % 2) 1 (omega (arith, o)),
+    )
 
 -- ---- refusal 16
 

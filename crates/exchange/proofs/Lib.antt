@@ -1,5 +1,6 @@
 -- The laws of shortest words, of letters struck out, of fallbacks and of allowed steps, in the order in which they
 -- rest on each other.
+pub mod CheckOrder
 pub mod Parts
 pub mod Carrying
 pub mod Shortest
@@ -13,6 +14,7 @@ pub mod Fallbacks
 pub mod Verdicts
 pub mod Allowed
 pub mod AllowedSets
+pub mod LetterByLetter
 pub mod Splitting
 pub mod Stripping
 pub mod SplitOutcomes
@@ -22,7 +24,11 @@ pub mod Between
 pub mod BetweenChecks
 pub mod BetweenCalls
 pub mod Theorems
+pub mod Firsts
 pub mod Sentences
+pub mod FreePlaces
 pub mod AllowedSentences
+pub mod SplitSentences
+pub mod BetweenSentences
 pub mod Vectors
 pub mod BetweenVectors

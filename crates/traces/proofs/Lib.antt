@@ -2,6 +2,7 @@
 pub mod Traces
 pub mod Unchanged
 pub mod Replays
+pub mod Firsts
 pub mod Sentences
 pub mod TwoLetters
 pub mod PartBlocks
