@@ -9,8 +9,8 @@ ghost use lib.ListN.{length, getD};
 ghost use Rattle.coxeter.specs.Kinds as kinds;
 ghost use Rattle.coxeter.specs.Kinds.{kindOf};
 ghost use Rattle.coxeter.specs.Checks.{_then_, rankRefusal, wordRefusal, windowRefusal, Rig};
-ghost use Rattle.coxeter.specs.Checks.{wrongLetter, wrongEntry, oddNegatives, negativeInA, odd};
-ghost use Rattle.coxeter.specs.Length.{negatives};
+ghost use Rattle.coxeter.specs.Checks.{wrongLetter, wrongEntry, oddNegatives, negativeInA};
+ghost use Rattle.coxeter.specs.Parity.{flagAfter};
 
 // C7: the most letters of a word.
 const LONGEST: usize = 4096;
@@ -195,9 +195,10 @@ fn has_wrong_entry(kind: u8, m: usize, w: &[i8]) -> bool
     false
 }
 
-// CP1: a flag flipped at each negative entry, without a branch, so that many entries are looked at together.
-fn odd_negatives(w: &[i8]) -> bool
-    ensures { λ r. ⌜ r ≡ odd (negatives (now (w .entry))) ⌝ }
+// CP1, CP2: a flag flipped at each negative entry, of any entries, such as a part of a window. There is no branch, so
+// that many entries are looked at together.
+pub fn odd_negatives(w: &[i8]) -> bool
+    ensures { λ r. ⌜ r ≡ flagAfter (now (w .entry)) ⌝ }
 {
     let mut flag = false;
     let mut i = 0;

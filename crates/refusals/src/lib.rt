@@ -4,6 +4,7 @@
 mod checks;
 mod entries;
 
+pub use checks::odd_negatives;
 pub use checks::preset_refusal;
 pub use checks::presets_refusal;
 pub use checks::rank_refusal;

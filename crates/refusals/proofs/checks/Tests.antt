@@ -3,7 +3,7 @@
 -- Sections: kinds and ranks; letters; entries; signs; windows; two after one another.
 -- Assumes nothing.
 use mathlib.Core.Path.{_≡_, refl, sym, _∙_}
-use mathlib.Core.Bool.{Bool, true, false, not, _||_, _&&_, or-true, or-false, Bool·beq}
+use mathlib.Core.Bool.{Bool, true, false, not, _||_, _&&_, or-true, or-false}
 use mathlib.Core.List.{List, [], _∷_}
 use Prim.Native.Nat.{ℕ, _+_, _≤_, _<_, max}
 use native.Mathlib.Decide.{ℕ-discrete, decLe}
@@ -109,16 +109,20 @@ wrongAt-else k m s e w q f h t = rw (← q, ne-eqb s 0 f, le-ltb m s h, t)
 
 -- ---- signs
 
--- the flag after one entry more, of which `minus` says whether it is negative
-pub flag-flipped : (w : List ℤ) (i : ℕ) (flag minus : Bool) → i < length w → flag ≡ flagAfter (take i w) → negative (getD w i (pos 0)) ≡ minus
-    → not (Bool·beq flag minus) ≡ flagAfter (take (i + 1) w)
-flag-flipped w i flag minus h e q = flips flag minus ∙ sym (flag-next w i h ∙ rw (q, ← e))
+-- `next` is the flag after one entry more if it is right in the four cases of the flag and of `minus`, which says
+-- whether the entry is negative
+pub flag-flipped : (w : List ℤ) (i : ℕ) (flag minus next : Bool) → i < length w
+    → flag ≡ flagAfter (take i w) → negative (getD w i (pos 0)) ≡ minus
+    → (flag ≡ true → minus ≡ true → next ≡ false) → (flag ≡ true → minus ≡ false → next ≡ true)
+    → (flag ≡ false → minus ≡ true → next ≡ true) → (flag ≡ false → minus ≡ false → next ≡ false)
+    → next ≡ flagAfter (take (i + 1) w)
+flag-flipped w i flag minus next h e q yes-flips yes-stays no-flips no-stays = by-case flag minus refl refl ∙ sym (flag-next w i h ∙ rw (q, ← e))
   where
-    flips : (t s : Bool) → not (Bool·beq t s) ≡ pick s (not t) t
-    flips true true = refl
-    flips true false = refl
-    flips false true = refl
-    flips false false = refl
+    by-case : (t s : Bool) → flag ≡ t → minus ≡ s → next ≡ pick s (not t) t
+    by-case true true = yes-flips
+    by-case true false = yes-stays
+    by-case false true = no-flips
+    by-case false false = no-stays
 
 -- ---- windows
 

@@ -1,7 +1,9 @@
--- `checks::has_odd_negatives`, by cases on the kind.
+-- `checks::has_odd_negatives`, by cases on the kind; in kind D the flag says whether the negatives are odd in number.
 -- Assumes nothing.
+use mathlib.Core.Path.{_∙_}
 use mathlib.Core.Logic.{⊎-elim}
 use Rattle.coxeter.proofs.KindLaws.{kindOf-one-or-two, kindOf-below, kindOf-above}
+use Rattle.coxeter.proofs.Parity.{flag-is-odd}
 use Rattle.coxeter.specs.Checks.{oddNegatives}
 use borrow.Author.Needs.{needs}
 use Rattle.refusals.proofs.checks.has_odd_negatives.Statement.{statement}
@@ -18,7 +20,7 @@ returns-2 : tie.Need-returns-2
 unfolding oddNegatives
 returns-2 c =
     let d = ⊎-elim (λ w. kindOf-below _ (w .taken)) (λ w. kindOf-above _ (w .1 .left)) (c .before .if1 .came) in
-    rw d (c .odd-negatives .ensures)
+    rw d (c .odd-negatives .ensures ∙ flag-is-odd _)
 
 pub has-odd-negatives-spec : {M : Type 1} → statement M
 has-odd-negatives-spec = tie.close (tie.spec odd-negatives-requires returns returns-2)

@@ -9,7 +9,6 @@ use lib.Seq.{take-all}
 use borrow.Author.Needs.{needs}
 use Rattle.coxeter.specs.Length.{negative}
 use Rattle.coxeter.specs.Parity.{flipped, flagAfter}
-use Rattle.coxeter.proofs.Parity.{flag-is-odd}
 use Rattle.refusals.proofs.Bytes.{element-back}
 use Rattle.refusals.proofs.checks.Tests.{flag-flipped}
 use Rattle.refusals.proofs.checks.odd_negatives.Statement.{statement}
@@ -37,18 +36,20 @@ add-i c = search needs
 loop-less : tie.Need-loop-less Inv-loop μ-loop
 loop-less c = search needs
 
+-- by the four cases of the flag and of the entry's sign, whatever the code makes of the two
 loop-again : tie.Need-loop-again Inv-loop μ-loop
 loop-again c =
     let read = c .before in
     let turn = read .before in
     let held = turn .before .loop .inv in (
       omega arith,
-      flag-flipped _ _ _ _ (turn .loop-test .taken) (held .1)
-          (sym (c .is-negative .ensures ∙ ap negative (element-back _ (read .is-negative-arg .given)))),
+      flag-flipped _ _ _ _ _ (turn .loop-test .taken) (held .1)
+          (sym (c .is-negative .ensures ∙ ap negative (element-back _ (read .is-negative-arg .given))))
+          (λ e f. simp (e, f)) (λ e f. simp (e, f)) (λ e f. simp (e, f)) (λ e f. simp (e, f)),
     )
 
 returns : tie.Need-returns Inv-loop μ-loop
-returns c = c .before .loop .inv .1 ∙ ap flagAfter (take-all _ _ (c .loop-test .left)) ∙ flag-is-odd _
+returns c = c .before .loop .inv .1 ∙ ap flagAfter (take-all _ _ (c .loop-test .left))
 
 pub odd-negatives-spec : {M : Type 1} → statement M
 odd-negatives-spec =
