@@ -203,18 +203,6 @@ negativeSumPairs-counted w =
     (λ x. positions (λ y. later x (negℤ y)) (λ v. laterThan x (map negℤ v)) refl (λ y v. refl)) negativeSumPairs refl (λ x v. refl) w in
     (l .list, l .once, λ i j. l .exactly (i, j), l .size)
 
--- L4: an entry is negative exactly if it is minus a number above 0
-pub negative-exactly : (e : ℤ) → (negative e ≡ true) ↔ ((s : ℕ) × (e ≡ negℤ (pos (s + 1))))
-unfolding negative
-negative-exactly (pos a) = (
-  λ h. absurd (false≢true h),
-  λ (s, q).
-      let z : pos a ≡ negsuc s = q ∙ rw add-one in
-      let f : _≡_ {A = ℕ} 0 1 = cc in
-      absurd (omega arith),
-)
-negative-exactly (negsuc a) = (λ h. (a, rw add-one), λ h. refl)
-
 -- L4: the number of mirrored lanes is the number of positions with a negative entry
 pub negatives-counted : (w : List ℤ) → (is : List ℕ)
     × ((a b : ℕ) → a < b → b < length is → getD is a 0 ≡ getD is b 0 → ⊥)

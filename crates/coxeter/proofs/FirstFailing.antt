@@ -4,18 +4,20 @@
 -- Sections: the first check that fails; checks one after another.
 -- Not here: the calls' own lists of checks (FirstRefusals).
 -- Assumes nothing.
-use mathlib.Core.Path.{_≡_, refl, sym, ap}
-use mathlib.Core.Bool.{Bool, true, false, false≢true, true≢false}
+use mathlib.Core.Path.{_≡_, refl, sym, ap, _∙_}
+use mathlib.Core.Bool.{Bool, true, false, _||_, false≢true, true≢false}
 use mathlib.Core.Logic.{_↔_}
 use mathlib.Core.List.{List, [], _∷_}
 use Prim.Native.Nat.{ℕ, zero, suc, _<_}
 use native.Mathlib.Omega.{arith}
-use lib.Dec.{eqb·suc-zero}
+use lib.Dec.{eqb, eqb·suc-zero}
 use lib.IntN.{ℤ}
 use lib.ListN.{length, getD}
+use borrow.Author.Tests.{eq-eqb}
 use Rattle.coxeter.specs.Kinds.{Kind, pick, kindOf, lanes}
 use Rattle.coxeter.specs.Checks.{check, _then_, firstOf, wrongKind, wrongRank, tooLong, wrongLetter, wrongLanes, wrongEntry}
 use Rattle.coxeter.specs.Checks.{oddNegatives, rankRefusal, wordRefusal, windowRefusal}
+use Rattle.coxeter.proofs.Basics.{or-false-left, or-false-right}
 use Rattle.coxeter.proofs.Refusals.{then-assoc}
 
 -- ---- the first check that fails
@@ -61,6 +63,17 @@ none-failing ((m, true) ∷ fs) n = (λ e. absurd (n 0 (omega arith) e), λ h. a
 none-failing ((m, false) ∷ fs) n =
     let ih = none-failing fs (λ i h. n (suc i) (omega arith)) in
     (λ e. passed-cons m fs (length fs) (ih .0 e), λ h. ih .1 (λ i l. h (suc i) (omega arith)))
+
+-- a check of the list has this number
+abbrev pub named : ℕ → List (ℕ × Bool) → Bool
+named c [] = false
+named c (f ∷ fs) = eqb (f .0) c || named c fs
+
+-- only such a number can come
+pub firstOf-named : (c : ℕ) (fs : List (ℕ × Bool)) → named (suc c) fs ≡ false → firstOf fs ≡ suc c → ⊥
+firstOf-named c [] h e = omega arith
+firstOf-named c ((r, true) ∷ fs) h e = true≢false (sym (eq-eqb r (suc c) e) ∙ or-false-left (eqb r (suc c)) (named (suc c) fs) h)
+firstOf-named c ((r, false) ∷ fs) h e = firstOf-named c fs (or-false-right (eqb r (suc c)) (named (suc c) fs) h) e
 
 -- ---- checks one after another
 

@@ -3,7 +3,6 @@
 -- none does; what an answer made of a number is comes first.
 -- Assumes nothing.
 use mathlib.Core.Path.{_≡_, refl, ap, _∙_}
-use mathlib.Core.Bool.{Bool, true, false}
 use mathlib.Core.Logic.{_↔_}
 use mathlib.Core.List.{List, [], _∷_}
 use Prim.Native.Nat.{ℕ, _+_}
@@ -13,8 +12,9 @@ use borrow.Author.Tests.{eq-eqb, ne-eqb}
 use lib.IntN.{ℤ}
 use Rattle.coxeter.specs.Kinds.{kindOf, lanes}
 use Rattle.coxeter.specs.Length.{greatestLength}
-use Rattle.coxeter.specs.Checks.{check, _then_, firstOf, wrongKind, wrongRank, tooShort, rankRefusal}
-use Rattle.coxeter.proofs.Refusals.{refused-exactly}
+use Rattle.coxeter.specs.Checks.{check, _then_, firstOf, wrongKind, wrongRank, tooShort}
+use Rattle.coxeter.proofs.Refusals.{refused-exactly, then-assoc}
+use Rattle.coxeter.proofs.FirstFailing.{check-then, rank-then}
 use Rattle.distribution.specs.declared.Table.the-variants.{Written, Refused}
 use Rattle.distribution.specs.Calls.{untabled, tableRefusal, tableOf, roomRefusal, tables, delayTable}
 use Rattle.distribution.proofs.Tables.{length-distribution, length-longest, length-longest-form}
@@ -33,25 +33,10 @@ tableOf-exactly r a b c = (
   ],
 )
 
-rank-shape : (p q r : Bool) → ((check 5 p then check 6 q) then check 20 r) ≡ firstOf ((5, p) ∷ (6, q) ∷ (20, r) ∷ [])
-rank-shape true q r = refl
-rank-shape false true r = refl
-rank-shape false false r = refl
-
-table-shape : (p q r s t u : Bool)
-    → (((check 5 p then check 6 q) then check 20 r) then (check 14 s then check 14 t then check 14 u))
-    ≡ firstOf ((5, p) ∷ (6, q) ∷ (20, r) ∷ (14, s) ∷ (14, t) ∷ (14, u) ∷ [])
-table-shape true q r s t u = refl
-table-shape false true r s t u = refl
-table-shape false false true s t u = refl
-table-shape false false false true t u = refl
-table-shape false false false false true u = refl
-table-shape false false false false false u = refl
-
 -- I33, C20, CO2: before 14 a delay table makes checks 5, 6 and 20, in this order
 pub tableRefusal-firstOf : (k n : ℕ) → tableRefusal k n ≡ firstOf ((5, wrongKind k) ∷ (6, wrongRank (kindOf k) n) ∷ (20, untabled (kindOf k) n) ∷ [])
-unfolding tableRefusal rankRefusal
-tableRefusal-firstOf k n = rank-shape (wrongKind k) (wrongRank (kindOf k) n) (untabled (kindOf k) n)
+unfolding tableRefusal
+tableRefusal-firstOf k n = rank-then k n refl
 
 -- the lengths that are written are these, and where a check before 14 refuses they are not looked at
 by-lengths : (k n : ℕ) (counts : List ℕ) (entries : List ℤ) (letters : List ℕ)
@@ -83,10 +68,10 @@ pub delayTable-firstOf : (k n : ℕ) (counts : List ℕ) (entries : List ℤ) (l
     (l + 1)
     m
     l
-unfolding tableRefusal rankRefusal
+unfolding tableRefusal
 delayTable-firstOf k n counts entries letters =
     let l = greatestLength (kindOf k) n in
     let m = lanes (kindOf k) n in
     by-lengths k n counts entries letters
     ∙ ap (λ r. tableOf r (l + 1) m l)
-    (table-shape (wrongKind k) (wrongRank (kindOf k) n) (untabled (kindOf k) n) (tooShort (l + 1) counts) (tooShort m entries) (tooShort l letters))
+    (rw then-assoc (rank-then k n (check-then 19 (untabled (kindOf k) n) (check-then 13 (tooShort (l + 1) counts) (check-then 13 (tooShort m entries) refl)))))

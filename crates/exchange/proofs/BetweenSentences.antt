@@ -4,24 +4,25 @@
 use mathlib.Core.Path.{_≡_, refl, sym, _∙_}
 use mathlib.Core.Bool.{true}
 use mathlib.Core.Logic.{_↔_}
-use mathlib.Core.List.{List}
+use mathlib.Core.List.{List, [], _∷_}
 use Prim.Native.Nat.{ℕ, _≤_, _<_}
 use borrow.Author.Tests.{not-false}
 use lib.IntN.{ℤ}
 use lib.ListN.{length}
 use Rattle.coxeter.specs.declared.Answer.{Answer}
 use Rattle.coxeter.specs.declared.Answer.the-variants.{Length, Refused}
-use Rattle.coxeter.specs.Kinds.{kindOf}
-use Rattle.coxeter.specs.Checks.{Rig, WindowOf}
+use Rattle.coxeter.specs.Kinds.{kindOf, lanes}
+use Rattle.coxeter.specs.Checks.{Rig, WindowOf, wrongKind, wrongRank, wrongLanes, wrongEntry, oddNegatives}
 use Rattle.coxeter.specs.Calls.{Yields, writes}
 use Rattle.coxeter.proofs.Acceptance.{rank-within}
 use Rattle.coxeter.proofs.Levels.{accepted-of-refusal}
 use Rattle.coxeter.proofs.Refusals.{check-zero}
+use Rattle.coxeter.proofs.FirstFailing.{firstOf-named, window-then}
 use Rattle.coxeter.proofs.Writes.{refused, short, made, ended, length-or-refused, answers-exactly, answers-short}
-use Rattle.exchange.specs.Allowed.{allows}
+use Rattle.exchange.specs.Allowed.{allows, wrongSet}
 use Rattle.exchange.specs.Between.{IsBetween, between, reachable}
 use Rattle.exchange.specs.BetweenCalls.{unreachable, betweenRefusal, betweenWindows}
-use Rattle.exchange.proofs.CheckOrder.{single, next, avoided, window-checks, set-checks}
+use Rattle.exchange.proofs.Firsts.{set-then}
 use Rattle.exchange.proofs.Between.{between-is}
 use Rattle.exchange.proofs.BetweenChecks.{all-passed}
 use Rattle.exchange.proofs.BetweenCalls.{between-writes}
@@ -49,9 +50,13 @@ module _ (k n set : ℕ) (v w : List ℤ) where
 
   avoids-14 : betweenRefusal k n set v w ≡ 14 → ⊥
   unfolding betweenRefusal
-  avoids-14 =
-      let windows = next (window-checks (kindOf k) n v) (next (window-checks (kindOf k) n w) (single 18 (unreachable (kindOf k) n set v w))) in
-      avoided (next (set-checks k n set) windows) 13 refl
+  avoids-14 e =
+      let t = set-then k n set (window-then (kindOf k) n v (window-then (kindOf k) n w refl)) in
+      firstOf-named 13
+      ((5, wrongKind k) ∷ (6, wrongRank (kindOf k) n) ∷ (16, wrongSet n set)
+      ∷ (9, wrongLanes (kindOf k) n v) ∷ (10, wrongEntry (kindOf k) (lanes (kindOf k) n) v) ∷ (11, oddNegatives (kindOf k) v)
+      ∷ (9, wrongLanes (kindOf k) n w) ∷ (10, wrongEntry (kindOf k) (lanes (kindOf k) n) w) ∷ (11, oddNegatives (kindOf k) w)
+      ∷ (19, unreachable (kindOf k) n set v w) ∷ []) refl (sym t ∙ e)
 
   module _ (out : List ℕ) (a : Answer) (after : List ℕ) (h : Yields (betweenWindows k n set v w out) a after) where
     yields : (z : List ℕ) → Passes z → Yields (writes 0 z out) a after

@@ -9,18 +9,18 @@ use mathlib.Core.Bool.{Bool, true, false, _&&_, true≢false}
 use mathlib.Core.Logic.{_↔_}
 use mathlib.Core.List.{List, [], _∷_}
 use Prim.Native.Nat.{ℕ}
-use native.Mathlib.Decide.{ℕ-discrete}
-use native.Mathlib.Omega.{arith}
-use borrow.Author.Tests.{eq-eqb, ne-eqb}
 use lib.IntN.{ℤ}
 use lib.ListN.{length}
-use lib.Dec.{eqb}
 use Rattle.coxeter.specs.Kinds.{pick, kindOf, lanes}
 use Rattle.coxeter.specs.Windows.{window}
 use Rattle.coxeter.specs.Length.{windowLength}
 use Rattle.coxeter.specs.Checks.{_then_, firstOf, wrongKind, wrongRank, tooLong, wrongLetter, wrongLanes, wrongEntry, oddNegatives, tooShort, wordRefusal}
 use Rattle.coxeter.specs.Calls.{answerOf, writes}
-use Rattle.coxeter.proofs.Refusals.{refused-exactly}
+use Rattle.coxeter.proofs.Refusals.{refused-exactly, then-assoc}
+use Rattle.coxeter.proofs.TestLaws.{zero-not-one}
+use Rattle.coxeter.proofs.AnswersExactly.{good-exactly}
+use Rattle.coxeter.proofs.FirstFailing.{check-then, rank-then, word-then, window-then}
+use Rattle.coxeter.proofs.FirstRefusals.{word-alone}
 use Rattle.exchange.specs.declared.Fallback.the-variants as fallback
 use Rattle.exchange.specs.declared.Split.the-variants as split
 use Rattle.exchange.specs.Allowed.{allows, wrongSet, setRefusal}
@@ -30,17 +30,8 @@ use Rattle.exchange.specs.Split.{firstWord, secondWord}
 use Rattle.exchange.specs.SplitCalls.{splitOf, parts, splitting}
 use Rattle.exchange.specs.Between.{between}
 use Rattle.exchange.specs.BetweenCalls.{unreachable, betweenRefusal, betweenWindows}
-use Rattle.exchange.proofs.CheckOrder.{single, next, rank-checks, word-checks, window-checks, set-checks}
 
 -- ---- answers
-
--- an answer that is good, or names the refusal r if that is not 0
-pub good-exactly : {X : Type 0} (refused : ℕ → X) (good y : X) (r : ℕ) → (refused r ≡ y → ⊥)
-    → (pick (eqb r 0) good (refused r) ≡ y) ↔ ((r ≡ 0) × (good ≡ y))
-good-exactly refused good y r apart = elim (ℕ-discrete r 0) [
-  | yes z ↦ rw (eq-eqb r 0 z) (λ e. (z, e), λ p. p .1)
-  | no f ↦ rw (ne-eqb r 0 f) (λ e. absurd (apart e), λ p. absurd (f (p .0)))
-]
 
 -- G17, CO3: an answer on fallbacks names the refusal if that is not 0; else it says no, or how many places are kept
 pub fallbackOf-exactly : (r : ℕ) (t : Bool) (l : ℕ)
@@ -49,20 +40,20 @@ pub fallbackOf-exactly : (r : ℕ) (t : Bool) (l : ℕ)
     × ((m : ℕ) → (fallbackOf r t l ≡ fallback.Kept m) ↔ ((r ≡ 0) × (t ≡ true) × (l ≡ m)))
 unfolding fallbackOf
 fallbackOf-exactly r true l = (
-  λ c. refused-exactly fallback.Refused (fallback.Kept l) r c (λ e. cc) (λ e. let o : _≡_ {A = ℕ} 0 1 = cc in omega arith),
-  let e = good-exactly fallback.Refused (fallback.Kept l) fallback.No r (λ e. let o : _≡_ {A = ℕ} 0 1 = cc in omega arith) in
-      (λ q. let p = e .0 q in (p .0, let o : _≡_ {A = ℕ} 0 1 = cc (p .1) in absurd (omega arith)), λ p. absurd (true≢false (p .1))),
+  λ c. refused-exactly fallback.Refused (fallback.Kept l) r c (λ e. cc) (λ e. zero-not-one (cc)),
+  let e = good-exactly fallback.Refused (fallback.Kept l) r fallback.No (λ e. zero-not-one (cc)) in
+      (λ q. let p = e .0 q in (p .0, absurd (zero-not-one (cc (p .1)))), λ p. absurd (true≢false (p .1))),
   λ m.
-      let e = good-exactly fallback.Refused (fallback.Kept l) (fallback.Kept m) r (λ e. let o : _≡_ {A = ℕ} 0 1 = cc in omega arith) in
+      let e = good-exactly fallback.Refused (fallback.Kept l) r (fallback.Kept m) (λ e. zero-not-one (cc)) in
       (λ q. let p = e .0 q in (p .0, refl, cc (p .1)), λ p. e .1 (p .0, ap fallback.Kept (p .2))),
 )
 fallbackOf-exactly r false l = (
-  λ c. refused-exactly fallback.Refused fallback.No r c (λ e. cc) (λ e. let o : _≡_ {A = ℕ} 0 1 = cc in omega arith),
-  let e = good-exactly fallback.Refused fallback.No fallback.No r (λ e. let o : _≡_ {A = ℕ} 0 1 = cc in omega arith) in
+  λ c. refused-exactly fallback.Refused fallback.No r c (λ e. cc) (λ e. zero-not-one (cc)),
+  let e = good-exactly fallback.Refused fallback.No r fallback.No (λ e. zero-not-one (cc)) in
       (λ q. (e .0 q .0, refl), λ p. e .1 (p .0, refl)),
   λ m.
-      let e = good-exactly fallback.Refused fallback.No (fallback.Kept m) r (λ e. let o : _≡_ {A = ℕ} 0 1 = cc in omega arith) in
-      (λ q. let o : _≡_ {A = ℕ} 0 1 = cc (e .0 q .1) in absurd (omega arith), λ p. absurd (true≢false (sym (p .1)))),
+      let e = good-exactly fallback.Refused fallback.No r (fallback.Kept m) (λ e. zero-not-one (cc)) in
+      (λ q. absurd (zero-not-one (cc (e .0 q .1))), λ p. absurd (true≢false (sym (p .1)))),
 )
 
 -- G17, CO3: an answer on splits names the refusal if that is not 0; else it says the two lengths
@@ -71,13 +62,19 @@ pub splitOf-exactly : (r a b : ℕ)
     × ((p q : ℕ) → (splitOf r a b ≡ split.Words p q) ↔ ((r ≡ 0) × (a ≡ p) × (b ≡ q)))
 unfolding splitOf
 splitOf-exactly r a b = (
-  λ c. refused-exactly split.Refused (split.Words a b) r c (λ e. cc) (λ e. let o : _≡_ {A = ℕ} 0 1 = cc in omega arith),
+  λ c. refused-exactly split.Refused (split.Words a b) r c (λ e. cc) (λ e. zero-not-one (cc)),
   λ p q.
-      let e = good-exactly split.Refused (split.Words a b) (split.Words p q) r (λ e. let o : _≡_ {A = ℕ} 0 1 = cc in omega arith) in
+      let e = good-exactly split.Refused (split.Words a b) r (split.Words p q) (λ e. zero-not-one (cc)) in
       (λ h. let g = e .0 h in (g .0, cc (g .1), cc (g .1)), λ h. e .1 (h .0, rw (h .1, h .2))),
 )
 
 -- ---- the three calls
+
+-- C5, C6, C16: a kind, a rank and a set of steps, followed by other checks
+pub set-then : (k n set : ℕ) {s t : ℕ} → s ≡ t
+    → (setRefusal k n set then s) ≡ pick (wrongKind k) 5 (pick (wrongRank (kindOf k) n) 6 (pick (wrongSet n set) 16 t))
+unfolding setRefusal
+set-then k n set e = rw then-assoc (rank-then k n (check-then 15 (wrongSet n set) e))
 
 -- I18, F1, F8, CO4: the call on fallbacks makes checks 5, 6, 7 and 8 of the present word, then 7 and 8 of the simpler
 -- one, and last 14, which refuses only with a yes
@@ -101,13 +98,13 @@ fallback-firstOf k n present simpler places =
     let falls = fallsBack (kindOf k) n present simpler in
     let l = windowLength (kindOf k) (window (kindOf k) n simpler) in
     ap (λ r. fallbackOf r falls l)
-    (next (rank-checks k n) (next (word-checks n present) (next (word-checks n simpler) (single 13 (falls && tooShort l places)))) .first)
+    (rank-then k n (word-then n present (word-then n simpler refl)))
 
 -- I33, C16, CO2: before 14 a split makes checks 5, 6, 16, 7 and 8, in this order
 pub splitRefusal-firstOf : (k n set : ℕ) (u : List ℕ)
     → (setRefusal k n set then wordRefusal n u)
     ≡ firstOf ((5, wrongKind k) ∷ (6, wrongRank (kindOf k) n) ∷ (16, wrongSet n set) ∷ (7, tooLong u) ∷ (8, wrongLetter n u) ∷ [])
-splitRefusal-firstOf k n set u = next (set-checks k n set) (word-checks n u) .first
+splitRefusal-firstOf k n set u = set-then k n set (word-alone n u)
 
 -- I22, C16, CO2, CO9: a split makes checks 5, 6, 16, 7 and 8, then 14 of the first output and 14 of the second
 pub splitting-firstOf : (k n set : ℕ) (u first second : List ℕ)
@@ -133,7 +130,7 @@ splitting-firstOf k n set u first second =
     let a = length (firstWord (allows set) (kindOf k) n w) in
     let b = length (secondWord (allows set) (kindOf k) n w) in
     ap (λ r. splitOf r a b)
-    (next (next (set-checks k n set) (word-checks n u)) (next (single 13 (tooShort a first)) (single 13 (tooShort b second))) .first)
+    (rw then-assoc (set-then k n set (word-then n u (check-then 13 (tooShort a first) refl))))
 
 -- I23, A1, C19, CO2, CO4: a way makes checks 5, 6 and 16, then 9, 10 and 11 of the first window, 9, 10 and 11 of the
 -- second, 19, and last 14
@@ -158,5 +155,5 @@ pub between-firstOf : (k n set : ℕ) (v w : List ℤ) (out : List ℕ)
 unfolding betweenWindows betweenRefusal writes
 between-firstOf k n set v w out =
     let l = length (between (kindOf k) n v w) in
-    let windows = next (window-checks (kindOf k) n v) (next (window-checks (kindOf k) n w) (single 18 (unreachable (kindOf k) n set v w))) in
-    ap (λ r. answerOf r l) (next (next (set-checks k n set) windows) (single 13 (tooShort l out)) .first)
+    ap (λ r. answerOf r l)
+    (simp then-assoc (set-then k n set (window-then (kindOf k) n v (window-then (kindOf k) n w (check-then 18 (unreachable (kindOf k) n set v w) refl)))))

@@ -1,6 +1,5 @@
 -- The laws of shortest words, of letters struck out, of fallbacks and of allowed steps, in the order in which they
 -- rest on each other.
-pub mod CheckOrder
 pub mod Parts
 pub mod Carrying
 pub mod Shortest

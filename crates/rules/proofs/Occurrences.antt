@@ -19,6 +19,8 @@ use borrow.Author.Tests.{eq-eqb, ne-eqb}
 use Rattle.coxeter.specs.Kinds.{pick, kindOf}
 use Rattle.coxeter.specs.Checks.{check, _then_, firstOf, wrongKind, wrongRank, tooLong, wrongLetter, rankRefusal, wordRefusal}
 use Rattle.coxeter.proofs.Refusals.{then-zero}
+use Rattle.coxeter.proofs.FirstFailing.{rank-then, word-then}
+use Rattle.coxeter.proofs.FirstRefusals.{word-checks}
 use Rattle.rules.specs.declared.Rewrite.{Rewrite}
 use Rattle.rules.specs.declared.Rewrite.the-variants.{Used, NoneFits, Refused}
 use Rattle.rules.specs.Rules.{Rule, rules, fits, firstFitting, rewritten}
@@ -49,35 +51,16 @@ rewritten-exactly = rewritten-split
 -- the checks of a call on a word at a place, as one list
 place-checks : (k n : ℕ) (u : List ℕ) (p : ℕ) → (rankRefusal k n then wordRefusal n u then check 12 (pastEnd u p))
     ≡ firstOf ((5, wrongKind k) ∷ (6, wrongRank (kindOf k) n) ∷ (7, tooLong u) ∷ (8, wrongLetter n u) ∷ (12, pastEnd u p) ∷ [])
-unfolding rankRefusal wordRefusal
-place-checks k n u p = go (wrongKind k) (wrongRank (kindOf k) n) (tooLong u) (wrongLetter n u) (pastEnd u p)
-  where
-    go : (a b c d e : Bool) → ((check 5 a then check 6 b) then ((check 7 c then check 8 d) then check 12 e))
-        ≡ firstOf ((5, a) ∷ (6, b) ∷ (7, c) ∷ (8, d) ∷ (12, e) ∷ [])
-    go true b c d e = refl
-    go false true c d e = refl
-    go false false true d e = refl
-    go false false false true e = refl
-    go false false false false true = refl
-    go false false false false false = refl
+place-checks k n u p = rank-then k n (word-then n u refl)
 
 -- T1: a word is accepted exactly if it passes checks 5 to 8
 pub accepted-exactly : (k n : ℕ) (u : List ℕ) → AcceptedWord k n u
     ↔ (firstOf ((5, wrongKind k) ∷ (6, wrongRank (kindOf k) n) ∷ (7, tooLong u) ∷ (8, wrongLetter n u) ∷ []) ≡ 0)
-unfolding rankRefusal wordRefusal
-accepted-exactly k n u = (
-  λ h. sym (go (wrongKind k) (wrongRank (kindOf k) n) (tooLong u) (wrongLetter n u)) ∙ rw (h .rank, h .word),
-  λ e.
-      let z = then-zero (rankRefusal k n) (wordRefusal n u) (go (wrongKind k) (wrongRank (kindOf k) n) (tooLong u) (wrongLetter n u) ∙ e) in
-      record { rank = z .0; word = z .1 },
-)
-  where
-    go : (a b c d : Bool) → ((check 5 a then check 6 b) then (check 7 c then check 8 d)) ≡ firstOf ((5, a) ∷ (6, b) ∷ (7, c) ∷ (8, d) ∷ [])
-    go true b c d = refl
-    go false true c d = refl
-    go false false true d = refl
-    go false false false true = refl
-    go false false false false = refl
+accepted-exactly k n u =
+    let e = word-checks k n u in (
+      λ h. sym e ∙ rw (h .rank, h .word),
+      λ z. let p = then-zero (rankRefusal k n) (wordRefusal n u) (e ∙ z) in record { rank = p .0; word = p .1 },
+    )
 
 -- I19, CO3, CO6: if one of checks 5, 6, 7, 8 and 12 fails, the first of them refuses the call, whatever the word and
 -- the outputs; nothing is written, and the word stays

@@ -2,18 +2,19 @@
 -- order in which the call makes them (I20, I21 and CO2 of the specification). The answer is made of the number of the
 -- first check in the list that fails, or of 0 if none does; what an answer made of a number is comes first.
 -- Assumes nothing.
-use mathlib.Core.Path.{_≡_, ap}
+use mathlib.Core.Path.{_≡_, refl, ap}
 use mathlib.Core.Logic.{_↔_}
 use mathlib.Core.List.{List, [], _∷_}
 use Prim.Native.Nat.{ℕ}
-use native.Mathlib.Omega.{arith}
 use lib.ListN.{length}
 use Rattle.coxeter.specs.Kinds.{kindOf}
 use Rattle.coxeter.specs.Checks.{firstOf, wrongKind, wrongRank, tooLong, wrongLetter, tooShort}
 use Rattle.coxeter.specs.Calls.{answerOf}
-use Rattle.coxeter.proofs.Refusals.{refused-exactly}
-use Rattle.exchange.proofs.CheckOrder.{single, next, rank-checks, word-checks}
-use Rattle.exchange.proofs.Firsts.{good-exactly}
+use Rattle.coxeter.proofs.Refusals.{refused-exactly, then-assoc}
+use Rattle.coxeter.proofs.TestLaws.{zero-not-one}
+use Rattle.coxeter.proofs.AnswersExactly.{good-exactly}
+use Rattle.coxeter.proofs.FirstFailing.{check-then, rank-then, word-then}
+use Rattle.coxeter.proofs.FirstRefusals.{word-checks}
 use Rattle.traces.specs.declared.ToEnd.the-variants.{Ended, Refused}
 use Rattle.traces.specs.Traces.{trace, tooFewPlaces, toEndOf, tracedBy, rewritingToEnd, numberOfSteps}
 
@@ -23,9 +24,9 @@ pub toEndOf-exactly : (r s l : ℕ)
     × ((p q : ℕ) → (toEndOf r s l ≡ Ended p q) ↔ ((r ≡ 0) × (s ≡ p) × (l ≡ q)))
 unfolding toEndOf
 toEndOf-exactly r s l = (
-  λ c. refused-exactly Refused (Ended s l) r c (λ e. cc) (λ e. let o : _≡_ {A = ℕ} 0 1 = cc in omega arith),
+  λ c. refused-exactly Refused (Ended s l) r c (λ e. cc) (λ e. zero-not-one (cc)),
   λ p q.
-      let e = good-exactly Refused (Ended s l) (Ended p q) r (λ e. let o : _≡_ {A = ℕ} 0 1 = cc in omega arith) in
+      let e = good-exactly Refused (Ended s l) r (Ended p q) (λ e. zero-not-one (cc)) in
       (λ h. let g = e .0 h in (g .0, cc (g .1), cc (g .1)), λ h. e .1 (h .0, rw (h .1, h .2))),
 )
 
@@ -36,7 +37,7 @@ pub numberOfSteps-firstOf : (k n : ℕ) (u : List ℕ)
     (firstOf ((5, wrongKind k) ∷ (6, wrongRank (kindOf k) n) ∷ (7, tooLong u) ∷ (8, wrongLetter n u) ∷ []))
     (length (trace (kindOf k) n u .lines))
 unfolding numberOfSteps
-numberOfSteps-firstOf k n u = ap (λ r. answerOf r (length (trace (kindOf k) n u .lines))) (next (rank-checks k n) (word-checks n u) .first)
+numberOfSteps-firstOf k n u = ap (λ r. answerOf r (length (trace (kindOf k) n u .lines))) (word-checks k n u)
 
 -- I20, C15, CO2: the rewriting to its end makes checks 5, 6, 7 and 8, then 15, by the number of steps, and last 14, by
 -- the length of the final word
@@ -58,5 +59,4 @@ unfolding rewritingToEnd tracedBy
 rewritingToEnd-firstOf k n u families places lengths out =
     let s = length (trace (kindOf k) n u .lines) in
     let l = length (trace (kindOf k) n u .final) in
-    let lists = single 14 (tooFewPlaces s families places lengths) in
-    ap (λ r. toEndOf r s l) (next (next (rank-checks k n) (word-checks n u)) (next lists (single 13 (tooShort l out))) .first)
+    ap (λ r. toEndOf r s l) (rw then-assoc (rank-then k n (word-then n u (check-then 14 (tooFewPlaces s families places lengths) refl))))
