@@ -32,7 +32,7 @@ use Rattle.book_format.proofs.AppendedParts.{lanesAt-appended-last, let
 
 -- ---- one record of a walk
 
-walk-one : (ed : Edition) (m : List ℕ) (j i o e : ℕ) → offset m i ≡ o → endAt ed m o ≡ e → e ≤ trailer m
+pub walk-one : (ed : Edition) (m : List ℕ) (j i o e : ℕ) → offset m i ≡ o → endAt ed m o ≡ e → e ≤ trailer m
     → misplacedFrom ed m (suc j) i o ≡ misplacedFrom ed m j (suc i) e
 unfolding misplacedFrom
 walk-one ed m j i o e p q h = rw (eq-eqb (offset m i) o p, q, le-ltb (trailer m) e h)
@@ -41,14 +41,14 @@ pub walk-end : (ed : Edition) (m : List ℕ) (i o : ℕ) → misplacedFrom ed m 
 unfolding misplacedFrom
 walk-end ed m i o e = eqb-true o (trailer m) (not-false (eqb o (trailer m)) e)
 
-walk-ended : (ed : Edition) (m : List ℕ) (i o : ℕ) → o ≡ trailer m → misplacedFrom ed m zero i o ≡ false
+pub walk-ended : (ed : Edition) (m : List ℕ) (i o : ℕ) → o ≡ trailer m → misplacedFrom ed m zero i o ≡ false
 unfolding misplacedFrom
 walk-ended ed m i o e = rw (eq-eqb o (trailer m) e)
 
 -- ---- checks 1 to 3
 
 -- checks 1 to 3 from their tests
-bookRefusal-none : (ed : Edition) (m : List ℕ) → 2 ≤ length m → length m ≤ 65535 → 2 * count m + 2 ≤ length m → misplaced ed m ≡ false → bookRefusal ed m ≡ 0
+pub bookRefusal-none : (ed : Edition) (m : List ℕ) → 2 ≤ length m → length m ≤ 65535 → 2 * count m + 2 ≤ length m → misplaced ed m ≡ false → bookRefusal ed m ≡ 0
 unfolding count
 bookRefusal-none ed m h g f e = bookRefusal-walk ed m (count m) (misplaced ed m) h g refl f refl ∙ ap (check 3) e
 

@@ -40,7 +40,7 @@ pub trailer-bytes : (b : List ℕ) → length b ≡ 0 → trailer b ≡ 0
 unfolding trailer
 trailer-bytes b h = rw (count-bytes b h, h)
 
-placed-bytes : (ed : Edition) (b : List ℕ) → length b ≡ 0 → misplaced ed b ≡ false
+pub placed-bytes : (ed : Edition) (b : List ℕ) → length b ≡ 0 → misplaced ed b ≡ false
 unfolding misplaced misplacedFrom
 placed-bytes ed b h = rw (count-bytes b h, trailer-bytes b h)
 

@@ -11,9 +11,8 @@ use Prim.Native.Nat.{ℕ, zero, suc, _+_, _-_, _*_, _≤_, _<_}
 use native.Mathlib.Decide.{ℕ-discrete}
 use native.Mathlib.Nat.{add-zero, zero-add, add-suc, suc-add}
 use native.Mathlib.Omega.{arith}
-use lib.Dec.{eqb}
 use lib.ListN.{length, length-append}
-use borrow.Author.Tests.{ne-eqb, lt-ltb, le-ltb, eqb-true, ltb-false, not-false}
+use borrow.Author.Tests.{ne-eqb, lt-ltb, le-ltb, ltb-false}
 use Rattle.coxeter.specs.Kinds.{Kind, A, B, D, kindOf, lanes}
 use Rattle.coxeter.specs.declared.Answer.the-variants as answer
 use Rattle.coxeter.specs.Checks.{check, _then_, wordRefusal, WordOf}
@@ -23,19 +22,19 @@ use Rattle.book_format.specs.declared.Edition.{Edition}
 use Rattle.book_format.specs.declared.Edition.the-variants.{First, Second}
 use Rattle.book_format.specs.Books.{count, trailer, offset, headSize, kindAt, rankAt}
 use Rattle.book_format.specs.Books.{lanesAt, letterCountAt, lettersAt, endAt, misplacedFrom, tooLarge}
-use Rattle.book_format.specs.Books.{greatestInBook, wrongLaneCount, bookRankRefusal, bookRefusal, recordRefusal, presetRefusal}
+use Rattle.book_format.specs.Books.{greatestInBook, bookRankRefusal, bookRefusal, recordRefusal, presetRefusal}
 use Rattle.book_format.specs.Records.{Record, recordBytes, layOut, recordAt, recordsFrom, recordsOf, Bytes}
 use Rattle.book_format.specs.Calls.{presetOf}
 use Rattle.book_format.specs.Conversion.{other, converted, tooManyLanes, recordConversionRefusal, recordsConversionRefusal}
 use Rattle.book_format.specs.Conversion.{conversionRefusal, converting, SamePreset, Converted}
 use Rattle.book_format.proofs.RankLaws.{bookRank-accepted, bookRankRefusal-none, bookRank-within}
 use Rattle.book_format.proofs.BookLaws.{Accepted, accepted, bookSize-some, bookRefusal-bytes, no-bytes, count-bytes, first, trailer-le, endAt-offset-le}
-use Rattle.book_format.proofs.PresetLaws.{presetRefusal-record}
+use Rattle.book_format.proofs.PresetLaws.{presetRefusal-record, record-tests}
 use Rattle.book_format.proofs.WritingLaws.{length-recordOf}
 use Rattle.coxeter.proofs.Writes.{wrote}
 use Rattle.book_format.proofs.Appending.{walk-end, recordRefusal-of, checkedPreset-of, lettersOf-of}
 use Rattle.book_format.proofs.RecordLaws.{layOut-recordsOf, length-recordsFrom, length-lettersAt, placed-from}
-use Rattle.book_format.proofs.LayOuts.{length-layOut, LanesRight, AllRight, LaidOut, laidOut}
+use Rattle.book_format.proofs.LayOuts.{length-layOut, LanesRight, AllRight, laid-opens, laid-records}
 
 pub other-other : (ed : Edition) → other (other ed) ≡ ed
 other-other First = refl
@@ -51,21 +50,11 @@ pub record Passing (ed : Edition) (b : List ℕ) (o : ℕ) : Type 0 where
   pub few : tooManyLanes ed b o ≡ false
 
 pub passing : (ed : Edition) (b : List ℕ) (o : ℕ) → recordConversionRefusal ed b o ≡ 0 → Passing ed b o
-unfolding recordConversionRefusal recordRefusal wrongLaneCount
+unfolding recordConversionRefusal
 passing ed b o z =
-    let own = bookRankRefusal ed (kindAt b o) (rankAt b o) in
-    let word = wordRefusal (rankAt b o) (lettersAt ed b o) in
     let a = then-zero (recordRefusal ed b o) (check 18 (tooManyLanes ed b o)) z in
-    let c = then-zero own (check 17 (wrongLaneCount ed b o) then word) (a .0) in
-    let d = then-zero (check 17 (wrongLaneCount ed b o)) word (c .1) in
-    record {
-      rank = c .0;
-      lanes-right =
-          eqb-true (lanesAt ed b o) (lanes (kindOf (kindAt b o)) (rankAt b o))
-          (not-false (eqb (lanesAt ed b o) (lanes (kindOf (kindAt b o)) (rankAt b o))) (check-zero 17 (wrongLaneCount ed b o) refl (d .0)));
-      word = d .1;
-      few = check-zero 18 (tooManyLanes ed b o) refl (a .1);
-    }
+    let t = record-tests ed b o (a .0) in
+    record { rank = t .0; lanes-right = t .1; word = t .2; few = check-zero 18 (tooManyLanes ed b o) refl (a .1) }
 
 -- a rank of the first edition has at most 32 lanes, and one with so few is a rank of the first
 few-lanes : (k : Kind) (n : ℕ) → n ≤ greatestInBook First k → lanes k n ≤ 32
@@ -110,12 +99,12 @@ module _ (ed : Edition) (b : List ℕ) where
       rw (add-suc i j, ← suc-add i j)
       (record-passes t (suc i) j (then-zero (recordConversionRefusal ed b (offset b i)) (recordsConversionRefusal ed b t (suc i)) z .1) (omega arith))
 
-  lanes-all-right : (t i : ℕ) → recordsConversionRefusal ed b t i ≡ 0 → AllRight (recordsFrom ed b t i)
+  lanes-all-right : (t i : ℕ) → recordsConversionRefusal ed b t i ≡ 0 → AllRight (other ed) (recordsFrom ed b t i)
   unfolding recordsConversionRefusal recordsFrom
   lanes-all-right zero i z = tt
   lanes-all-right (suc t) i z =
       let a = then-zero (recordConversionRefusal ed b (offset b i)) (recordsConversionRefusal ed b t (suc i)) z in
-      (passing ed b (offset b i) (a .0) .lanes-right, lanes-all-right t (suc i) (a .1))
+      (λ e. passing ed b (offset b i) (a .0) .lanes-right, lanes-all-right t (suc i) (a .1))
 
 -- books with the same records have them place by place
 record-same : (ed ed′ : Edition) (b d : List ℕ) (t i j : ℕ) → recordsFrom ed b t i ≡ recordsFrom ed′ d t i → j < t
@@ -174,16 +163,18 @@ pub passing-at : (ed : Edition) (b : List ℕ) (i : ℕ) → Convertible ed b �
 passing-at ed b i w h = rw (zero-add i) at (record-passes ed b (count b) 0 i (w .passes) h)
 
 module _ (ed : Edition) (b : List ℕ) (w : Convertible ed b) where
-  laid : LaidOut (other ed) (recordsOf ed b)
-  unfolding recordsOf
-  laid = laidOut (other ed) (recordsOf ed b) (lanes-all-right ed b (count b) 0 (w .passes)) (rw (converted-some ed b (w .some)) at (w .small))
+  small-enough : length (layOut (other ed) (recordsOf ed b)) ≤ 65535
+  small-enough = rw (converted-some ed b (w .some)) at (w .small)
 
   pub converted-opens : bookRefusal (other ed) (converted ed b) ≡ 0
-  converted-opens = rw (converted-some ed b (w .some)) (laid .opens)
+  converted-opens = rw (converted-some ed b (w .some)) (laid-opens (other ed) (recordsOf ed b) small-enough)
 
   -- the records of both, with their lane counts
   pub recordsOf-converted : recordsOf (other ed) (converted ed b) ≡ recordsOf ed b
-  recordsOf-converted = rw (converted-some ed b (w .some)) (laid .records)
+  unfolding recordsOf
+  recordsOf-converted =
+      rw (converted-some ed b (w .some))
+      (laid-records (other ed) (recordsOf ed b) (lanes-all-right ed b (count b) 0 (w .passes)) small-enough)
 
   pub count-converted : count (converted ed b) ≡ count b
   unfolding recordsOf

@@ -1,34 +1,72 @@
--- What a list of records lays out is a book with these records: it passes checks 1 to 3, and its records are those
--- of the list. Shown by appending them one after the other: a list with one record more lays out the book to which
--- that record is appended.
+-- What a list of records lays out is a book with these records: it passes checks 1 to 3, has as many presets, and
+-- its records are those of the list. Shown record by record: each begins where the bytes of those before it end.
 --
--- Sections: parts; numbers; one record more; the law.
+-- Sections: parts; numbers; one record; the records.
 -- Assumes nothing.
 use mathlib.Core.Path.{_≡_, refl, sym, ap, _∙_}
+use mathlib.Core.Bool.{false}
 use mathlib.Core.List.{List, [], _∷_, _++_, append-assoc, append-nil}
-use Prim.Native.Nat.{ℕ, _+_, _-_, _*_, _≤_}
+use Prim.Native.Nat.{ℕ, suc, _+_, _-_, _*_, _/_, _%_, _≤_, _<_}
 use native.Mathlib.Nat.{add-zero, zero-add}
+use native.Mathlib.Numerals.{add-one}
 use native.Mathlib.Omega.{arith}
 use lib.ListN.{length, length-append}
-use lib.Seq.{take-at, drop-at}
+use lib.Seq.{take-at}
 use Rattle.coxeter.specs.Kinds.{kindOf, lanes}
 use Rattle.book_format.specs.declared.Edition.{Edition}
-use Rattle.book_format.specs.Books.{twoAt, two, count, trailer, misplacedFrom, misplaced}
-use Rattle.book_format.specs.Books.{wrongSize, wrongCount, bookRefusal, recordOf, appended, headSize}
-use Rattle.book_format.specs.Records.{Record, recordBytes, offsetBytes, layOut, recordsFrom, recordsOf}
-use Rattle.book_format.proofs.BookLaws.{accepted, trailer-read}
-use Rattle.book_format.proofs.WritingLaws.{length-two, length-recordOf, length-appended}
+use Rattle.book_format.specs.declared.Edition.the-variants.{First, Second}
+use Rattle.book_format.specs.Books.{two, count, trailer, offset, kindAt, rankAt, lanesAt, letterCountAt, lettersAt, endAt}
+use Rattle.book_format.specs.Books.{misplacedFrom, misplaced, bookRefusal, laneByte, recordOf, headSize}
+use Rattle.book_format.specs.Records.{Record, recordBytes, offsetBytes, layOut, recordAt, recordsFrom, recordsOf}
+use Rattle.book_format.proofs.BookLaws.{trailer-read}
+use Rattle.book_format.proofs.WritingLaws.{length-two, length-recordOf}
 use Rattle.book_format.proofs.AppendedParts.{twoAt-written}
-use Rattle.book_format.proofs.Appending.{bookRefusal-appended}
-use Rattle.book_format.proofs.RecordLaws.{recordsOf-appended}
+use Rattle.book_format.proofs.Appending.{walk-one, walk-ended, bookRefusal-none}
+use Rattle.book_format.proofs.BookBytes.{record-in-first, record-in-second}
 
 -- the lane count of a record is the one that its kind and rank make
 abbrev pub LanesRight : Record → Type 0
 LanesRight r = r .lanes ≡ lanes (kindOf (r .kind)) (r .rank)
 
-abbrev pub AllRight : List Record → Type 0
-AllRight [] = Unit {0}
-AllRight (r ∷ rs) = LanesRight r × AllRight rs
+-- it has to be in the first edition, which has no byte for it
+abbrev pub AllRight : Edition → List Record → Type 0
+AllRight ed [] = Unit {0}
+AllRight ed (r ∷ rs) = (ed ≡ First → LanesRight r) × AllRight ed rs
+
+-- what the record at byte o of a book says
+pub record RecordIn (ed : Edition) (b : List ℕ) (o : ℕ) (r : Record) : Type 0 where
+  pub kind : kindAt b o ≡ r .kind
+  pub rank : rankAt b o ≡ r .rank
+  pub lane : laneByte ed (lanesAt ed b o) ≡ laneByte ed (r .lanes)
+  pub size : letterCountAt ed b o ≡ length (r .letters)
+  pub word : lettersAt ed b o ≡ r .letters
+
+record-in : (ed : Edition) (x y : List ℕ) (r : Record) → length (r .letters) < 65536
+    → RecordIn ed (x ++ (recordOf ed (r .kind) (r .rank) (r .lanes) (r .letters) ++ y)) (length x) r
+unfolding recordOf two
+record-in First x y r h =
+    let l = length (r .letters) in
+    let n : l % 256 + 256 * (l / 256 % 256) ≡ l = omega arith in
+    let f = record-in-first x (r .letters ++ y) (r .kind) (r .rank) (l % 256) (l / 256 % 256) in
+    record { kind = f .0; rank = f .1; lane = refl; size = f .3 ∙ n; word = f .4 ∙ rw n (take-at (r .letters) y l refl) }
+record-in Second x y r h =
+    let l = length (r .letters) in
+    let n : l % 256 + 256 * (l / 256 % 256) ≡ l = omega arith in
+    let f = record-in-second x (r .letters ++ y) (r .kind) (r .rank) (r .lanes) (l % 256) (l / 256 % 256) in
+    record {
+      kind = f .0;
+      rank = f .1;
+      lane = ap (λ m. m ∷ []) (f .2);
+      size = f .3 ∙ n;
+      word = f .4 ∙ rw n (take-at (r .letters) y l refl);
+    }
+
+recordAt-in : (ed : Edition) (b : List ℕ) (o : ℕ) (r : Record) → RecordIn ed b o r → (ed ≡ First → LanesRight r) → recordAt ed b o ≡ r
+recordAt-in First b o r i h = rw (i .word, i .kind, i .rank, ← h refl)
+recordAt-in Second b o r i h =
+    let e = i .lane in
+    let m : lanesAt Second b o ≡ r .lanes = cc in
+    rw (i .word, i .kind, i .rank, m)
 
 module _ (ed : Edition) where
   -- ---- parts
@@ -46,6 +84,9 @@ module _ (ed : Edition) where
   length-record : (r : Record) (rs : List Record) → length (recordBytes ed (r ∷ rs)) ≡ headSize ed + length (r .letters) + length (recordBytes ed rs)
   unfolding recordBytes
   length-record r rs = simp (length-append, length-recordOf)
+
+  length-recordBytes : (rs ss : List Record) → length (recordBytes ed (rs ++ ss)) ≡ length (recordBytes ed rs) + length (recordBytes ed ss)
+  length-recordBytes rs ss = ap length (recordBytes-append rs ss) ∙ length-append (recordBytes ed rs) (recordBytes ed ss)
 
   offsetBytes-append : (rs ss : List Record) (o : ℕ) → offsetBytes ed o (rs ++ ss) ≡ offsetBytes ed o rs ++ offsetBytes ed (o + length (recordBytes ed rs)) ss
   unfolding offsetBytes
@@ -68,98 +109,119 @@ module _ (ed : Edition) where
 
   -- ---- numbers
 
-  before-count : (rs : List Record) → layOut ed rs ≡ (recordBytes ed rs ++ offsetBytes ed 0 rs) ++ (two (length rs) ++ [])
-  unfolding layOut
-  before-count rs = simp (append-assoc, append-nil)
+  -- the book b is what the records rs lay out
+  module _ (b : List ℕ) (small : length b ≤ 65535) (rs : List Record) (e : b ≡ layOut ed rs) where
+    before-count : b ≡ (recordBytes ed rs ++ offsetBytes ed 0 rs) ++ (two (length rs) ++ [])
+    unfolding layOut
+    before-count = e ∙ simp (append-assoc, append-nil)
 
-  module _ (rs : List Record) (small : length (layOut ed rs) ≤ 65535) where
-    count-layOut : count (layOut ed rs) ≡ length rs
+    laid-length : length b ≡ length (recordBytes ed rs) + 2 * length rs + 2
+    laid-length = ap length e ∙ length-layOut rs
+
+    pub laid-count : count b ≡ length rs
     unfolding count
-    count-layOut =
-        let l = length-layOut rs in
+    laid-count =
+        let l = laid-length in
         let front = recordBytes ed rs ++ offsetBytes ed 0 rs in
         let f : length front ≡ length (recordBytes ed rs) + 2 * length rs =
         length-append (recordBytes ed rs) (offsetBytes ed 0 rs) ∙ rw (length-offsetBytes 0 rs) in
-        twoAt-written (layOut ed rs) front [] (length (layOut ed rs) - 2) (length rs) (before-count rs) (omega arith) (omega arith)
+        twoAt-written b front [] (length b - 2) (length rs) before-count (omega arith) (omega arith)
 
-    trailer-layOut : trailer (layOut ed rs) ≡ length (recordBytes ed rs)
-    trailer-layOut =
-        let l = length-layOut rs in
-        let r = trailer-read (layOut ed rs) (length rs) (sym count-layOut) in
+    laid-trailer : trailer b ≡ length (recordBytes ed rs)
+    laid-trailer =
+        let l = laid-length in
+        let r = trailer-read b (length rs) (sym laid-count) in
         omega arith
 
-  -- ---- one record more
+  -- ---- one record
 
-  length-snoc : (rs : List Record) (r : Record) → length (rs ++ (r ∷ [])) ≡ length rs + 1
-  length-snoc rs r = length-append rs (r ∷ [])
+  length-around : (qs : List Record) (r : Record) (rs : List Record)
+      → length (recordBytes ed (qs ++ (r ∷ rs))) ≡ length (recordBytes ed qs) + headSize ed + length (r .letters) + length (recordBytes ed rs)
+  length-around qs r rs = omega (arith, length-recordBytes qs (r ∷ rs), length-record r rs)
 
-  -- the bytes of both: the records, the new record, the offsets, its offset, the count
-  abbrev joined : List Record → Record → List ℕ
-  joined rs r =
-      recordBytes ed rs
-      ++ (recordOf ed (r .kind) (r .rank) (lanes (kindOf (r .kind)) (r .rank)) (r .letters)
-      ++ (offsetBytes ed 0 rs ++ (two (length (recordBytes ed rs)) ++ two (length rs + 1))))
+  -- of the book b the record r comes after the records qs and before the records rs
+  module _ (b : List ℕ) (small : length b ≤ 65535) (qs : List Record) (r : Record) (rs : List Record) (e : b ≡ layOut ed (qs ++ (r ∷ rs))) where
+    pub laid-offset : offset b (length qs) ≡ length (recordBytes ed qs)
+    unfolding offset layOut offsetBytes
+    laid-offset =
+        let all = qs ++ (r ∷ rs) in
+        let o = length (recordBytes ed qs) in
+        let front = recordBytes ed all ++ offsetBytes ed 0 qs in
+        let back = offsetBytes ed (o + headSize ed + length (r .letters)) rs ++ two (length all) in
+        let split : b ≡ front ++ (two o ++ back) = e ∙ rw (offsetBytes-append qs (r ∷ rs) 0, zero-add o) (simp append-assoc) in
+        let place : trailer b + 2 * length qs ≡ length front =
+        rw (laid-trailer b small all e, length-append (recordBytes ed all) (offsetBytes ed 0 qs), length-offsetBytes 0 qs) in
+        let l = laid-length b small all e in
+        let s = length-around qs r rs in
+        twoAt-written b front back (trailer b + 2 * length qs) o split place (omega arith)
 
-  layOut-joined : (rs : List Record) (r : Record) → LanesRight r → layOut ed (rs ++ (r ∷ [])) ≡ joined rs r
-  unfolding layOut recordBytes offsetBytes
-  layOut-joined rs r h =
-      rw (recordBytes-append rs (r ∷ []), offsetBytes-append rs (r ∷ []) 0, length-snoc rs r, h, zero-add (length (recordBytes ed rs)))
-      (simp (append-assoc, append-nil))
+    pub laid-record : RecordIn ed b (length (recordBytes ed qs)) r
+    unfolding layOut recordBytes
+    laid-record =
+        let all = qs ++ (r ∷ rs) in
+        let back = recordBytes ed rs ++ (offsetBytes ed 0 all ++ two (length all)) in
+        let split : b ≡ recordBytes ed qs ++ (recordOf ed (r .kind) (r .rank) (r .lanes) (r .letters) ++ back) =
+        e ∙ rw (recordBytes-append qs (r ∷ rs)) (simp append-assoc) in
+        let l = laid-length b small all e in
+        let s = length-around qs r rs in
+        rw split (record-in ed (recordBytes ed qs) back r (omega arith))
 
-  appended-joined : (rs : List Record) (r : Record) → length (layOut ed rs) ≤ 65535
-      → appended ed (layOut ed rs) (r .kind) (r .rank) (r .letters) ≡ joined rs r
-  unfolding appended layOut
-  appended-joined rs r small =
-      let start = length (recordBytes ed rs) in
-      let tail = offsetBytes ed 0 rs ++ two (length rs) in
-      rw (
-        trailer-layOut rs small,
-        count-layOut rs small,
-        take-at (recordBytes ed rs) tail start refl,
-        drop-at (recordBytes ed rs) tail start refl,
-        take-at (offsetBytes ed 0 rs) (two (length rs)) (2 * length rs) (length-offsetBytes 0 rs),
-      )
+    laid-end : endAt ed b (length (recordBytes ed qs)) ≡ length (recordBytes ed (qs ++ (r ∷ [])))
+    laid-end =
+        let s = length-around qs r [] in
+        let n = length-none in
+        rw (laid-record .size) (omega arith)
 
-  layOut-snoc : (rs : List Record) (r : Record) → LanesRight r → length (layOut ed rs) ≤ 65535
-      → layOut ed (rs ++ (r ∷ [])) ≡ appended ed (layOut ed rs) (r .kind) (r .rank) (r .letters)
-  layOut-snoc rs r h small = layOut-joined rs r h ∙ sym (appended-joined rs r small)
+    laid-room : length (recordBytes ed (qs ++ (r ∷ []))) ≤ trailer b
+    laid-room =
+        let t = laid-trailer b small (qs ++ (r ∷ rs)) e in
+        let s = length-around qs r rs in
+        let f = length-around qs r [] in
+        let n = length-none in
+        omega arith
 
-  -- ---- the law
+    laid-next : b ≡ layOut ed ((qs ++ (r ∷ [])) ++ rs)
+    laid-next = e ∙ ap (layOut ed) (sym (append-assoc qs (r ∷ []) rs))
 
-  pub record LaidOut (rs : List Record) : Type 0 where
-    pub opens : bookRefusal ed (layOut ed rs) ≡ 0
-    pub records : recordsOf ed (layOut ed rs) ≡ rs
+  -- ---- the records
 
-  laidOut-none : LaidOut []
-  unfolding layOut recordBytes offsetBytes two bookRefusal wrongSize wrongCount misplaced misplacedFrom trailer count twoAt recordsOf recordsFrom
-  laidOut-none = record { opens = refl; records = refl }
+  length-snoc : (qs : List Record) (r : Record) → length (qs ++ (r ∷ [])) ≡ suc (length qs)
+  length-snoc qs r = length-append qs (r ∷ []) ∙ add-one (length qs)
 
-  length-layOut-le : (rs ss : List Record) → length (layOut ed rs) ≤ length (layOut ed (rs ++ ss))
-  length-layOut-le rs ss =
-      let a = length-layOut rs in
-      let b = length-layOut (rs ++ ss) in
-      let c : length (recordBytes ed (rs ++ ss)) ≡ length (recordBytes ed rs) + length (recordBytes ed ss) =
-      ap length (recordBytes-append rs ss) ∙ length-append (recordBytes ed rs) (recordBytes ed ss) in
-      let d = length-append rs ss in
-      omega arith
+  -- of the book b the records qs have been read, and the records rs are left
+  module _ (b : List ℕ) (small : length b ≤ 65535) where
+    laid-walk : (rs qs : List Record) → b ≡ layOut ed (qs ++ rs) → misplacedFrom ed b (length rs) (length qs) (length (recordBytes ed qs)) ≡ false
+    laid-walk [] qs e =
+        walk-ended ed b (length qs) (length (recordBytes ed qs)) (sym (laid-trailer b small qs (e ∙ ap (layOut ed) (append-nil qs))))
+    laid-walk (r ∷ rs) qs e =
+        walk-one ed b (length rs) (length qs) (length (recordBytes ed qs)) (length (recordBytes ed (qs ++ (r ∷ [])))) (laid-offset b small qs r rs e)
+        (laid-end b small qs r rs e)
+        (laid-room b small qs r rs e)
+        ∙ rw (← length-snoc qs r) (laid-walk rs (qs ++ (r ∷ [])) (laid-next b small qs r rs e))
 
-  laidOut-one : (rs : List Record) (r : Record) → LaidOut rs → LanesRight r → length (layOut ed (rs ++ (r ∷ []))) ≤ 65535 → LaidOut (rs ++ (r ∷ []))
-  laidOut-one rs r l h small =
-      let e = layOut-snoc rs r h (omega (arith, length-layOut-le rs (r ∷ []))) in
-      let a = accepted ed (layOut ed rs) (l .opens) in
-      let s : length (appended ed (layOut ed rs) (r .kind) (r .rank) (r .letters)) ≤ 65535 = rw (← e) small in
-      let m = length-appended ed (layOut ed rs) (r .kind) (r .rank) (r .letters) a in
-      record {
-        opens = ap (bookRefusal ed) e ∙ bookRefusal-appended ed (layOut ed rs) (r .kind) (r .rank) (r .letters) a (omega arith);
-        records = ap (recordsOf ed) e ∙ recordsOf-appended ed (layOut ed rs) (r .kind) (r .rank) (r .letters) (l .opens) s ∙ rw (l .records, ← h);
-      }
+    laid-from : (rs qs : List Record) → b ≡ layOut ed (qs ++ rs) → AllRight ed rs → recordsFrom ed b (length rs) (length qs) ≡ rs
+    unfolding recordsFrom
+    laid-from [] qs e h = refl
+    laid-from (r ∷ rs) qs e h =
+        rw (
+          laid-offset b small qs r rs e,
+          recordAt-in ed b (length (recordBytes ed qs)) r (laid-record b small qs r rs e) (h .0),
+          ← length-snoc qs r,
+          laid-from rs (qs ++ (r ∷ [])) (laid-next b small qs r rs e) (h .1),
+        )
 
-  laidOut-more : (rs ss : List Record) → LaidOut rs → AllRight ss → length (layOut ed (rs ++ ss)) ≤ 65535 → LaidOut (rs ++ ss)
-  laidOut-more rs [] l h small = rw (append-nil rs) l
-  laidOut-more rs (r ∷ ss) l h small =
-      let e : (rs ++ (r ∷ [])) ++ ss ≡ rs ++ (r ∷ ss) = append-assoc rs (r ∷ []) ss in
-      let g : length (layOut ed ((rs ++ (r ∷ [])) ++ ss)) ≤ 65535 = rw e small in
-      rw (← e) (laidOut-more (rs ++ (r ∷ [])) ss (laidOut-one rs r l (h .0) (omega (arith, length-layOut-le (rs ++ (r ∷ [])) ss))) (h .1) g)
+  -- it passes checks 1 to 3
+  pub laid-opens : (rs : List Record) → length (layOut ed rs) ≤ 65535 → bookRefusal ed (layOut ed rs) ≡ 0
+  unfolding misplaced recordBytes
+  laid-opens rs small =
+      let b = layOut ed rs in
+      let c = laid-count b small rs refl in
+      let l = laid-length b small rs refl in
+      bookRefusal-none ed b (omega arith) small (omega arith) (rw c (laid-walk b small rs [] refl))
 
-  pub laidOut : (rs : List Record) → AllRight rs → length (layOut ed rs) ≤ 65535 → LaidOut rs
-  laidOut rs h small = laidOut-more [] rs laidOut-none h small
+  -- its records are those of the list
+  pub laid-records : (rs : List Record) → AllRight ed rs → length (layOut ed rs) ≤ 65535 → recordsOf ed (layOut ed rs) ≡ rs
+  unfolding recordsOf
+  laid-records rs h small =
+      let b = layOut ed rs in
+      rw (laid-count b small rs refl) (laid-from b small rs [] refl h)

@@ -8,6 +8,7 @@ pub mod Appending
 pub mod Outcomes
 pub mod Unchanged
 pub mod Numbers
+pub mod BookBytes
 pub mod RecordLaws
 pub mod LayOuts
 pub mod Converting
@@ -17,5 +18,8 @@ pub mod Vectors
 pub mod RunLaws
 pub mod Sentences
 pub mod ReadingSentences
+pub mod OpenedExactly
+pub mod FoundExactly
+pub mod RunsOfPresets
 pub mod AppendingSentences
 pub mod ConversionSentences

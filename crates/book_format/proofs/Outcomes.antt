@@ -23,7 +23,7 @@ use Rattle.book_format.specs.Conversion.{conversionRefusal, converting, 
 use Rattle.coxeter.proofs.Basics.{by-pick}
 use Rattle.coxeter.proofs.Refusals.{then-none, then-some, then-assoc}
 
-check-then : (m : ℕ) (t : Bool) (r : ℕ) → 0 < m → (check m t then r) ≡ pick t m r
+pub check-then : (m : ℕ) (t : Bool) (r : ℕ) → 0 < m → (check m t then r) ≡ pick t m r
 check-then m true r h = then-some m r (omega arith)
 check-then m false r h = then-none 0 r refl
 
@@ -38,7 +38,7 @@ bookRefusal-firstOf ed b =
     )
 
 -- checks 1 to 3, and then others
-bookRefusal-then : (ed : Edition) (b : List ℕ) (r : ℕ) → (bookRefusal ed b then r) ≡ pick (wrongSize b) 1 (pick (wrongCount b) 2 (pick (misplaced ed b) 3 r))
+pub bookRefusal-then : (ed : Edition) (b : List ℕ) (r : ℕ) → (bookRefusal ed b then r) ≡ pick (wrongSize b) 1 (pick (wrongCount b) 2 (pick (misplaced ed b) 3 r))
 unfolding bookRefusal
 bookRefusal-then ed b r =
     then-assoc (check 1 (wrongSize b)) (check 2 (wrongCount b) then check 3 (misplaced ed b)) r

@@ -3,18 +3,20 @@
 -- Sections: answers; records; presets by their number; letters.
 -- Assumes nothing.
 use mathlib.Core.Path.{_≡_, refl, sym, _∙_}
-use mathlib.Core.Bool.{Bool, true, false}
+use mathlib.Core.Bool.{Bool, true, false, not}
 use mathlib.Core.List.{List, []}
 use Prim.Native.Nat.{ℕ, _+_, _-_, _≤_, _<_}
 use native.Mathlib.Decide.{ℕ-discrete}
 use native.Mathlib.Omega.{arith}
+use lib.Dec.{eqb}
 use lib.ListN.{length, take, drop}
-use borrow.Author.Tests.{eq-eqb, ne-eqb, lt-leb, le-leb, leb-false}
+use borrow.Author.Tests.{eq-eqb, ne-eqb, lt-leb, le-leb, leb-false, eqb-true, not-false}
+use Rattle.coxeter.specs.Kinds.{kindOf, lanes}
 use Rattle.coxeter.specs.Checks.{check, _then_, rankRefusal, wordRefusal, Rig, WordOf}
 use Rattle.book_format.specs.declared.Edition.{Edition}
 use Rattle.book_format.specs.declared.Opened.the-variants as opened
 use Rattle.book_format.specs.declared.Preset.the-variants as preset
-use Rattle.book_format.specs.Books.{twoAt, count, offset, countPlace, headSize, kindAt, rankAt, letterCountAt, lettersAt, wrongLaneCount}
+use Rattle.book_format.specs.Books.{twoAt, count, offset, countPlace, headSize, kindAt, rankAt, lanesAt, letterCountAt, lettersAt, wrongLaneCount}
 use Rattle.book_format.specs.Books.{noSuchPreset, bookRankRefusal, bookRefusal, recordRefusal, presetRefusal}
 use Rattle.book_format.specs.Calls.{openedOf, presetOf, checkedBook, presetAt, checkedRecord, checkedPreset, lettersStart, lettersOf}
 use Rattle.book_format.proofs.RankLaws.{bookRank-accepted}
@@ -31,11 +33,24 @@ pub checkedBook-presets : (ed : Edition) (b : List ℕ) (r c : ℕ) → r ≡ bo
 unfolding checkedBook openedOf
 checkedBook-presets ed b r c e z q = rw (← e, eq-eqb r 0 z, q)
 
+-- what opening a book answered
+pub presets-opened : (ed : Edition) (b : List ℕ) (c : ℕ) → opened.Presets c ≡ checkedBook ed b → (bookRefusal ed b ≡ 0) × (c ≡ count b)
+unfolding checkedBook openedOf
+presets-opened ed b c e = elim (ℕ-discrete (bookRefusal ed b) 0) [
+  | yes z ↦
+      let q : opened.Presets c ≡ opened.Presets (count b) = e ∙ rw (eq-eqb (bookRefusal ed b) 0 z) in
+      (z, cc)
+  | no f ↦
+      let q : opened.Presets c ≡ opened.Refused (bookRefusal ed b) = e ∙ rw (ne-eqb (bookRefusal ed b) 0 f) in
+      let y : _≡_ {A = ℕ} 0 1 = cc in
+      absurd (omega arith)
+]
+
 presetAt-refused : (ed : Edition) (b : List ℕ) (o r : ℕ) → (r ≡ 0 → ⊥) → presetAt ed r b o ≡ preset.Refused r
 unfolding presetAt presetOf
 presetAt-refused ed b o r f = rw (ne-eqb r 0 f)
 
-presetAt-found : (ed : Edition) (b : List ℕ) (o r : ℕ) → r ≡ 0
+pub presetAt-found : (ed : Edition) (b : List ℕ) (o r : ℕ) → r ≡ 0
     → presetAt ed r b o ≡ preset.Found (kindAt b o) (rankAt b o) (o + headSize ed) (letterCountAt ed b o)
 unfolding presetAt presetOf
 presetAt-found ed b o r z = rw (eq-eqb r 0 z)
@@ -183,14 +198,18 @@ preset-record ed b i z =
     let a = then-zero (bookRefusal ed b) (check 4 (noSuchPreset b i) then recordRefusal ed b (offset b i)) z in
     then-zero (check 4 (noSuchPreset b i)) (recordRefusal ed b (offset b i)) (a .1) .1
 
--- it passes checks 5 to 8
-record-tests : (ed : Edition) (b : List ℕ) (o : ℕ) → recordRefusal ed b o ≡ 0
-    → (bookRankRefusal ed (kindAt b o) (rankAt b o) ≡ 0) × WordOf (rankAt b o) (lettersAt ed b o)
-unfolding recordRefusal
+-- it passes checks 5 to 8, with 17
+pub record-tests : (ed : Edition) (b : List ℕ) (o : ℕ) → recordRefusal ed b o ≡ 0
+    → (bookRankRefusal ed (kindAt b o) (rankAt b o) ≡ 0)
+    × (lanesAt ed b o ≡ lanes (kindOf (kindAt b o)) (rankAt b o))
+    × WordOf (rankAt b o) (lettersAt ed b o)
+unfolding recordRefusal wrongLaneCount
 record-tests ed b o z =
     let word = wordRefusal (rankAt b o) (lettersAt ed b o) in
-    let a = then-zero (bookRankRefusal ed (kindAt b o) (rankAt b o)) (check 17 (wrongLaneCount ed b o) then word) z in
-    (a .0, then-zero (check 17 (wrongLaneCount ed b o)) word (a .1) .1)
+    let same = eqb (lanesAt ed b o) (lanes (kindOf (kindAt b o)) (rankAt b o)) in
+    let a = then-zero (bookRankRefusal ed (kindAt b o) (rankAt b o)) (check 17 (not same) then word) z in
+    let c = then-zero (check 17 (not same)) word (a .1) in
+    (a .0, eqb-true _ _ (not-false same (check-zero 17 (not same) refl (c .0))), c .1)
 
 pub found-rank : (ed : Edition) (b : List ℕ) (i k n s l : ℕ) → Found ed b i k n s l → Rig k n
 found-rank ed b i k n s l f =
@@ -199,7 +218,7 @@ found-rank ed b i k n s l f =
 pub found-word : (ed : Edition) (b : List ℕ) (i k n s l : ℕ) → Found ed b i k n s l → WordOf n (take (s + l - s) (drop s b))
 found-word ed b i k n s l f =
     let d : s + l - s ≡ l = omega arith in
-    rw (d, f .rank, f .begins, f .counts) (record-tests ed b (offset b i) (preset-record ed b i (f .unrefused)) .1)
+    rw (d, f .rank, f .begins, f .counts) (record-tests ed b (offset b i) (preset-record ed b i (f .unrefused)) .2)
 
 -- its letters lie inside the book
 pub found-inside : (ed : Edition) (b : List ℕ) (i k n s l : ℕ) → Found ed b i k n s l → s + l ≤ length b

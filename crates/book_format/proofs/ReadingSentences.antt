@@ -126,7 +126,7 @@ refused-1-exactly ed b = (
 
 -- ---- reading a preset
 
-preset-refusal : (ed : Edition) (b : List ℕ) (i r : ℕ) → (checkedPreset ed b i ≡ preset.Refused r) ↔ ((presetRefusal ed b i ≡ r) × (r ≡ 0 → ⊥))
+pub preset-refusal : (ed : Edition) (b : List ℕ) (i r : ℕ) → (checkedPreset ed b i ≡ preset.Refused r) ↔ ((presetRefusal ed b i ≡ r) × (r ≡ 0 → ⊥))
 unfolding checkedPreset presetAt presetOf
 preset-refusal ed b i r = (
   λ e. let q = refused-is ed b i r (sym e) in (sym q, λ z. refused ed b i r (sym e) (sym q ∙ z)),

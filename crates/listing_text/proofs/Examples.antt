@@ -5,7 +5,7 @@ use mathlib.Core.Path.{_≡_, refl}
 use mathlib.Core.List.{List, [], _∷_, _++_, map}
 use Prim.Native.Nat.{ℕ}
 use Prim.Native.Char.{code}
-use Prim.Native.String.{String}
+use Prim.Native.String.{String, len, charAt}
 use Prim.Native.String as string
 use Rattle.coxeter.specs.Kinds.{kindOf, up}
 use Rattle.coxeter.specs.Windows.{from, exchange, negateFirst, exchangeNegate, act, windowFrom, straight, window, placeFrom, signed}
@@ -64,6 +64,19 @@ unfolding listings codes
     digits decimal spaced letters entry entries kindLetter head tail presetLine refused refusedLine refusedBookLine countLine
     wordLine lineBy lineOf linesFrom listingBy listing
 listings-agree = refl
+
+-- J13: the listing of this book is these three lines, character by character
+pub worked-listing : let text : String → List ℕ = λ t. map (λ i. code (charAt t i)) (up 0 (len t)) in
+    listing First (2 ∷ 2 ∷ 4 ∷ 0 ∷ 1 ∷ 2 ∷ 1 ∷ 2 ∷ 3 ∷ 5 ∷ 6 ∷ 0 ∷ 5 ∷ 2 ∷ 3 ∷ 5 ∷ 1 ∷ 2 ∷ 0 ∷ 0 ∷ 8 ∷ 0 ∷ 2 ∷ 0 ∷ [])
+    ≡ text "presets 2\n" ++ (text "0 B 2 4: 2 1 2 1 | -1 -2\n" ++ text "1 D 5 6: 5 2 3 5 1 2 | 3 -5 1 4 -2\n")
+unfolding kindOf up from exchange negateFirst exchangeNegate act windowFrom straight window placeFrom signed
+    wrongKind tooLong wrongLetter wordRefusal down rise fall block without indexOf restOf normalFrom normalForm
+    twoAt count trailer offset wrongSize wrongCount misplacedFrom misplaced noSuchPreset
+    wrongRankInBook wrongLaneCount bookRankRefusal bookRefusal recordRefusal presetRefusal
+    openedOf presetOf checkedBook presetAt checkedPreset
+    digits decimal spaced letters entry entries kindLetter head tail presetLine refused refusedLine refusedBookLine countLine
+    wordLine lineBy lineOf linesFrom listingBy listing
+worked-listing = refl
 
 -- what a converting program prints in place of a book: that the input was not read, or the number of a refusal.
 -- Check 2 refuses each in both editions

@@ -5,3 +5,5 @@ pub mod Room
 pub mod Runs
 pub mod Examples
 pub mod Sentences
+pub mod TextExactly
+pub mod PiecesExactly

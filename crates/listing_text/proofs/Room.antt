@@ -30,7 +30,7 @@ use Rattle.book_format.specs.Books.{count, bookRefusal}
 use Rattle.book_format.specs.Calls.{openedOf, checkedBook, checkedPreset}
 use Rattle.book_format.proofs.BookLaws.{accepted}
 use Rattle.book_format.proofs.Outcomes.{bookRefusal-le, presetRefusal-le}
-use Rattle.book_format.proofs.PresetLaws.{found, found-rank, refused-is}
+use Rattle.book_format.proofs.PresetLaws.{presets-opened, found, found-rank, refused-is}
 use Rattle.listing_text.specs.Text.{spaced, letters, entry, entries, head, tail, presetLine, refused}
 use Rattle.listing_text.specs.Text.{refusedLine, refusedBookLine, countLine, wordLine, lineBy, lineOf, listing}
 use Rattle.listing_text.specs.Calls.{lineCountBy, lineCount, firstLine, line, nextPiece, reached, pieces}
@@ -87,18 +87,6 @@ length-wordLine-le i k n u h g =
 -- ---- every line
 
 -- what opening a book answered
-presets-opened : (ed : Edition) (b : List ℕ) (c : ℕ) → opened.Presets c ≡ checkedBook ed b → (bookRefusal ed b ≡ 0) × (c ≡ count b)
-unfolding checkedBook openedOf
-presets-opened ed b c e = elim (ℕ-discrete (bookRefusal ed b) 0) [
-  | yes z ↦
-      let q : opened.Presets c ≡ opened.Presets (count b) = e ∙ rw (eq-eqb (bookRefusal ed b) 0 z) in
-      (z, cc)
-  | no f ↦
-      let q : opened.Presets c ≡ opened.Refused (bookRefusal ed b) = e ∙ rw (ne-eqb (bookRefusal ed b) 0 f) in
-      let y : _≡_ {A = ℕ} 0 1 = cc in
-      absurd (omega arith)
-]
-
 refused-opened : (ed : Edition) (b : List ℕ) (r : ℕ) → opened.Refused r ≡ checkedBook ed b → r ≤ 3
 unfolding checkedBook openedOf
 refused-opened ed b r e = elim (ℕ-discrete (bookRefusal ed b) 0) [
