@@ -126,6 +126,7 @@ refused-1-exactly ed b = (
 
 -- ---- reading a preset
 
+-- I26: reading a preset is refused exactly with the number of its refusal
 pub preset-refusal : (ed : Edition) (b : List ℕ) (i r : ℕ) → (checkedPreset ed b i ≡ preset.Refused r) ↔ ((presetRefusal ed b i ≡ r) × (r ≡ 0 → ⊥))
 unfolding checkedPreset presetAt presetOf
 preset-refusal ed b i r = (

@@ -74,6 +74,7 @@ pub line-refused : (ed : Edition) (b : List ℕ) (i r : ℕ) → checkedPreset e
 unfolding lineOf lineBy
 line-refused ed b i r e = ap (lineBy b i) e
 
+-- P4: one preset more is one line more behind the others
 pub lines-snoc : (ed : Edition) (b : List ℕ) (t i : ℕ) → linesFrom ed b (suc t) i ≡ linesFrom ed b t i ++ lineOf ed b (i + t)
 unfolding linesFrom
 lines-snoc ed b zero i = rw (add-zero i) (append-nil (lineOf ed b i))
