@@ -9,6 +9,7 @@ pub mod StepNumbers
 pub mod TableNumbers
 pub mod Unchanged
 pub mod Demand3
+pub mod NumbersExactly
 pub mod Sentences
 pub mod Vectors
 pub mod CallVectors
