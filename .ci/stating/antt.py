@@ -31,6 +31,16 @@ def tokens(source, start=0, end=None, line=1):
     return found
 
 
+def result_of(signature):
+    """The first word of a signature's result: behind the last arrow outside all brackets."""
+    depth, first = 0, ""
+    for n, word in enumerate(signature):
+        depth += (word.text in "({") - (word.text in ")}")
+        if depth == 0 and word.text in (":", "→") and n + 1 < len(signature):
+            first = signature[n + 1].text
+    return first
+
+
 @dataclass
 class Use:
     module: str

@@ -5,7 +5,9 @@ from dataclasses import dataclass, field
 SPECIFICATION, CITATIONS = "docs/SPECIFICATION.md", "docs/statements.txt"
 # a clause with these words has a part of its own further down: the next table or code block of its section
 NAMES_BLOCK = re.compile(r"\b(?:table|listing) below\b")
-# what settles a clause; vectors, edits and notes only stand beside it
+# a clause that a sentence names is the second part; what stands between backticks is none
+NAMED = re.compile(r"(`[^`]*`)|\b([A-Z]{1,2}[0-9]+)\b")
+# what settles a clause; vectors, edits and notes only stand beside it, and an excuse says why no law does
 SETTLES = ("law", "contract", "definition", "field", "type", "row", "code", "tests", "gate", "file", "checker", "outside")
 
 
@@ -86,7 +88,8 @@ FORMS = (
     ("code", r"code (\w+/src/[\w/]+): (.+)"),
     ("type", r"types (\w+): (.+)"),
 )
-PLAIN, OF_FILES = ("note", "checker", "outside"), ("tests", "gate", "file")
+EXCUSES = ("primitive", "program")
+PLAIN, OF_FILES = ("note", "checker", "outside") + EXCUSES, ("tests", "gate", "file")
 SENTENCES = PLAIN + OF_FILES
 
 

@@ -1,10 +1,13 @@
 """Makes docs/DEFINITIONS.md with a page for each crate, and links to what stands there."""
 import re
+from itertools import groupby
 
-from pages import NOTE, Page
+from citations import CITATIONS
+from pages import Page
+from pinning import PINS, READ
 from statements import with_comment
 
-DEFINITIONS = "docs/DEFINITIONS.md"
+DEFINITIONS, BELIEVED = "docs/DEFINITIONS.md", "docs/BELIEVED.md"
 
 
 def full(declared):
@@ -15,6 +18,7 @@ def full(declared):
 class Definitions:
     def __init__(self, model):
         self.model, self.world = model, model.world
+        self.clauses = {clause.name: clause for clause in model.clauses}
         self.anchors = {}  # of definitions and of types of Rattle: (page, anchor)
 
     def pages(self):
@@ -25,16 +29,20 @@ class Definitions:
         for page in pages.values():
             self._uses(page)
         index.heading(1, "Definitions")
-        index.link(["statements.txt"], index.to("docs/statements.txt"))
-        index.say("What has to be believed beside the kit: every definition of `specs/`, and the enums and structs of Rattle that definitions, laws and "
-                  "contracts speak of. Laws rest on nothing else of this repository.")
-        index.say(NOTE)
-        index.add("| Crate | Definitions | Lines of specs/ |", "|---|---|---|")
-        counts = self.spec_lines()
-        for crate in crates:
-            number = sum(key[0] == crate for key in self.model.definitions)
-            index.add(f"| [{crate}](definitions/{crate}.md) | {number} | {counts.get(crate, 0):,} |")
-        index.add("", f"{len(self.model.definitions):,} definitions in {sum(counts.values()):,} lines.")
+        index.say("Every definition of `specs/`, and the enums and structs of Rattle that definitions, laws and contracts speak of. Laws rest on nothing else "
+                  "of this repository. Most definitions are *pinned*: laws that are proved of them say what they have to be. The others have to be read, and "
+                  f"stand together on [one page]({index.to(BELIEVED)}): the *primitive* ones, and each *text*, a fixed text or a table that is to be compared "
+                  "with the specification.")
+        index.note(CITATIONS, PINS)
+        sorts = [sort for sort in (*READ, "pinned") if sort != "theorem" or any(pin.sort == sort for pin in self.model.pins.values())]
+        index.add(f"| Crate | Definitions | Lines | {' | '.join(sorts)} |", "|---" * (len(sorts) + 3) + "|")
+        for crate in [*crates, ""]:
+            pins = [pin for key, pin in self.model.pins.items() if key[0] == crate or not crate]
+            lines = [sum(pin.lines for pin in pins if pin.sort == sort) for sort in sorts]
+            name = f"[{crate}](definitions/{crate}.md)" if crate else "together"
+            index.add(f"| {name} | {len(pins)} | {sum(lines):,} | " + " | ".join(f"{number:,}" for number in lines) + " |")
+        index.add("")
+        index.say("A line is one of a signature or an equation; comments are not counted.")
         self._kit(index)
         return {**pages, DEFINITIONS: index}
 
@@ -43,12 +51,13 @@ class Definitions:
         listed = [line.split(":")[0].strip() for line in self.world.read("crates.txt").split("\n") if ":" in line and not line.startswith("#")]
         return [crate for crate in listed if crate in self.world.crates]
 
-    def spec_lines(self):
-        counts = {}
-        for path in self.world.glob("crates/*/specs/**/*.antt"):
-            crate = path.split("/")[1]
-            counts[crate] = counts.get(crate, 0) + self.world.read(path).count("\n")
-        return counts
+    def keys(self):
+        """All definitions in the order of their reading: by the crates, by the files of each, and from top to bottom."""
+        return [key for crate in self.order() for key in self._keys(crate)]
+
+    def _keys(self, crate):
+        order = self._file_order(crate)
+        return sorted((key for key in self.model.definitions if key[0] == crate), key=lambda key: order(key[1]))
 
     def _types(self, crate):
         """The types of Rattle of a crate that statements speak of."""
@@ -60,8 +69,8 @@ class Definitions:
         page = Page(f"docs/definitions/{crate}.md")
         page.heading(1, f"Definitions of {crate}")
         page.entries = []
-        keys = [key for key in self.model.definitions if key[0] == crate]
-        files = sorted({key[1] for key in keys}, key=self._file_order(crate))
+        keys = self._keys(crate)
+        files = list(dict.fromkeys(key[1] for key in keys))
         contents = page.lines
         page.lines = []
         for file in files:
@@ -72,8 +81,8 @@ class Definitions:
                 if key[1] == file:
                     declared, terms = self.model.definitions[key]
                     self.anchors[key] = (page.path, page.heading(3, f"`{declared.name}`"))
-                    fixity = [text for name, _, text in self.world.antt(path).fixities if name == declared.name]
-                    page.fence("agda", "\n".join([full(declared), *fixity]))
+                    page.fence("agda", self.text(key))
+                    page.say(self.mark(page, key))
                     page.entries.append((len(page.lines), path, declared.line, terms, key))
                     page.add("", "")
         types = self._types(crate)
@@ -91,6 +100,22 @@ class Definitions:
         page.lines += body
         page.entries = [(at + shift, *rest) for at, *rest in page.entries]
         return page
+
+    def text(self, key):
+        """A definition as the pages show it, with its fixity."""
+        declared = self.model.definitions[key][0]
+        fixity = [text for name, _, text in self.world.antt(f"crates/{key[0]}/specs/{key[1]}.antt").fixities if name == declared.name]
+        return "\n".join([full(declared), *fixity])
+
+    def mark(self, page, key):
+        """Why a definition has to be read, or the laws that pin it, with a clause that cites them, and rather one that cites the definition too."""
+        pin = self.model.pins[key]
+        if pin.sort in READ:
+            return f"**{pin.sort.capitalize()}**: {page.reason(pin.why, self.clauses)}"
+        about = self.model.citing.get(("definition", f"{key[0]}/specs/{key[1]}", key[2]), [])
+        stands = {law: min(self.model.citing[law], key=lambda clause: clause not in about) for law in pin.laws}
+        groups = [(clause, [name for _, _, name in laws]) for clause, laws in groupby(pin.laws, key=lambda law: stands[law])]
+        return "**Pinned** by " + ", ".join(", ".join(f"`{name}`" for name in names) + f" ({page.clause(clause)})" for clause, names in groups) + "."
 
     def _file_order(self, crate):
         """In the order that specs/Lib.antt declares them."""

@@ -3,7 +3,9 @@ import re
 import textwrap
 from itertools import groupby
 
-NOTE = "Written by `.ci/statements --write` from the sources and from [statements.txt]: do not edit. The gate fails where it differs from them."
+from citations import NAMED, SPECIFICATION
+
+NOTE = "Written by `.ci/statements --write` from the sources and from {}: do not edit. The gate fails where it differs from them."
 WIDTH = 112
 SIGNS = ("→", "×", "⊎", "↔", "|", "∷", "++")
 
@@ -51,6 +53,17 @@ class Page:
         lines = textwrap.wrap(kept, WIDTH, initial_indent=begin, subsequent_indent=begin, break_long_words=False, break_on_hyphens=False)
         self.add(*(line.replace("\0", " ") for line in lines), "")
 
+    def item(self, text):
+        """An item of a list, as a paragraph."""
+        first = len(self.lines)
+        self.say(text, "  ")
+        self.lines[first] = "- " + self.lines[first][2:]
+        self.lines.pop()
+
+    def note(self, *lists):
+        """That the page is written from the sources and from these lists."""
+        self.say(NOTE.format(" and ".join(self.link([path.split("/")[-1]], self.to(path)) for path in lists)))
+
     def heading(self, level, title):
         """A heading, and the anchor that code hosts give it."""
         if self.lines and self.lines[-1]:
@@ -76,6 +89,15 @@ class Page:
             if self.links.setdefault(name.casefold(), (name, target))[1] == target:
                 return f"[{self.links[name.casefold()][0]}]"
         return f"[{names[-1]}]({target})"
+
+    def clause(self, clause):
+        """A link to the clause: on a page of statements to the specification, elsewhere to the page with its statements."""
+        there = SPECIFICATION if self.path.startswith("docs/statements/") else f"docs/statements/{clause.section.name}.md"
+        return self.link([clause.name], self.to(there, clause.name.lower()))
+
+    def reason(self, text, clauses):
+        """A sentence whose clauses are links. `clauses` has them by name."""
+        return NAMED.sub(lambda found: self.clause(clauses[found.group(2)]) if found.group(2) in clauses else found.group(), text)
 
     def source(self, name, path, line):
         """A link by its name to something that stands in a file."""

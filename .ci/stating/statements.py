@@ -1,8 +1,11 @@
 """Finds each cited statement in the sources and reads its words."""
 import re
 from dataclasses import dataclass, field
+from functools import cached_property
 
+from antt import result_of
 from citations import CITATIONS, NAMES_BLOCK, SENTENCES, SETTLES, SPECIFICATION, citations_of, sections_of
+from pinning import Pinning, key_of
 from reading import Reader
 from scope import Fields, Scope, covering
 from specification import wrong_calls, wrong_table
@@ -41,10 +44,21 @@ class Model:
     definitions: dict = field(default_factory=dict)  # (crate, file, name) -> (declaration, terms)
     types: dict = field(default_factory=dict)  # (crate, name) -> type of Rattle
     rows: list = field(default_factory=list)
+    pins: dict = field(default_factory=dict)  # (crate, file, name) -> what pins the definition, or why it is read
+    marks: dict = field(default_factory=dict)  # the name of a clause -> whether it is pinned, and by which laws
 
     @property
     def clauses(self):
         return [clause for section in self.sections for clause in section.clauses]
+
+    @cached_property
+    def citing(self):
+        """Of each statement, and of each definition, the clauses that cite it."""
+        found = {}
+        for clause in self.clauses:
+            for key in (key_of(one, name) for one in self.cited.get(clause.name, []) for name in one.names):
+                found.setdefault(key, []).append(clause)
+        return found
 
     def terms(self):
         return [term for statement in self.statements.values() for term in statement.terms] + [
@@ -86,6 +100,7 @@ class Builder:
                         self.model.wrong += [f"{CITATIONS}:{citation.line}: {clause}: {what}" for what in self._cite(citation, name)]
         self._functions()
         self._edits()
+        Pinning(self.model).run()
         return self.model
 
     # -- clauses
@@ -216,19 +231,9 @@ class Builder:
         if found is None or not found.public:
             yield f"{path} has no public table or law {name}"
             return
-        if self._result(found.signature) == "List" and path != TABLE:
+        if result_of(found.signature) == "List" and path != TABLE:
             if not any({"Agree", name} <= {word.name for word in one.signature} for one in file.declarations):
                 yield f"no law of {path} says that the inputs of {name} agree"
-
-    @staticmethod
-    def _result(signature):
-        """The first word of a signature's result: behind the last arrow outside all brackets."""
-        depth, first = 0, ""
-        for n, word in enumerate(signature):
-            depth += (word.text in "({") - (word.text in ")}")
-            if depth == 0 and word.text in (":", "→") and n + 1 < len(signature):
-                first = signature[n + 1].text
-        return first
 
     def _contract(self, citation, name):
         found = [(file, one) for file, one in self.world.function(citation.where, name) if one.public] if citation.where in self.world.crates else []

@@ -2,13 +2,16 @@
 import re
 from itertools import groupby
 
-from citations import SENTENCES, SPECIFICATION
+from believing import BELIEVED, CLAUSES, DEFINITIONS, Believed, tally
+from citations import CITATIONS, EXCUSES, SENTENCES, SPECIFICATION
 from defining import Definitions, full
-from pages import NOTE, Page
+from pages import Page
+from pinning import PINS, key_of
 from statements import RULED_OUT, TABLE, WRONG_ROUTERS
 
 STATEMENTS, ROUTERS, CERTIFICATE = "docs/STATEMENTS.md", "docs/statements/wrong-routers.md", "docs/CERTIFICATE.md"
 OPENED, CLOSED = "<!-- counted by .ci/statements -->", "<!-- end of the count -->"
+NAMED_AT_MOST, NAMED_IN_A_ROW = 6, 3  # the laws that pin a clause are named on its page, or in its row, if they are no more than these
 
 
 class Writer:
@@ -18,6 +21,7 @@ class Writer:
 
     def pages(self):
         pages = {**self.definitions.pages(), **self._statement_pages()}
+        pages[BELIEVED] = Believed(self.model, self.definitions).page()
         return {path: page.text() for path, page in pages.items()}
 
     # -- statements
@@ -26,23 +30,29 @@ class Writer:
         pages = {f"docs/statements/{section.name}.md": self._section_page(section) for section in self.model.sections}
         index = Page(STATEMENTS)
         index.heading(1, "Statements")
-        index.link(["statements.txt"], index.to("docs/statements.txt"))
         index.say("Clause by clause of [SPECIFICATION.md](SPECIFICATION.md): the text of every contract and law that settles it, with the parameters of the "
                   "sections around it, and links to the definitions that it speaks of, which are on the pages of [DEFINITIONS.md](DEFINITIONS.md). "
                   "[CERTIFICATE.md](CERTIFICATE.md) says how to read a statement.")
-        index.say(NOTE)
-        index.add("| Section | | Clauses | Contracts | Laws |", "|---|---|---|---|---|")
+        index.say("Each clause is marked. A *pinned* one is settled by laws, which are proved. A *primitive* one says what a definition or a type says, which has "
+                  "to be read. A *program* one is about code, tests or the way of working, of which no law can speak. [BELIEVED.md](BELIEVED.md) has the "
+                  "definitions that have to be read.")
+        index.note(CITATIONS, PINS)
+        index.add("| Section | | Clauses | pinned | primitive | program | Contracts | Laws |", "|---|---|---|---|---|---|---|---|")
         for section in self.model.sections:
             kinds = [one.kind for one in self._statements(section)]
-            index.add(f"| [{section.name}](statements/{section.name}.md) | {section.title} | {len(section.clauses)} | {kinds.count('contract')} "
-                      f"| {kinds.count('law') + kinds.count('field')} |")
+            marks = [self.model.marks[clause.name].sort for clause in section.clauses]
+            index.add(f"| [{section.name}](statements/{section.name}.md) | {section.title} | {len(section.clauses)} | "
+                      + " | ".join(str(marks.count(sort)) for sort in CLAUSES) + f" | {kinds.count('contract')} | {kinds.count('law') + kinds.count('field')} |")
         count = self.counts()
         index.add("")
         index.say(f"{count['clauses']:,} clauses, {count['contracts']:,} contracts, {count['laws']:,} laws and {count['fields']:,} fields of records, each counted "
                   "once. A law cited for several clauses of a page stands at the first.")
         index.heading(2, "Every clause")
         for section in self.model.sections:
-            index.say(f"{section.title}: " + " ".join(self._clause_link(index, clause) for clause in section.clauses))
+            index.heading(3, f"{section.name} {section.title}")
+            index.add("| Clause | | By which law, or why by none |", "|---|---|---|")
+            for clause in section.clauses:
+                index.add(f"| {index.clause(clause)} | {self.model.marks[clause.name].sort} | {self._row(index, clause)} |")
         index.heading(2, "Where each public function is stated")
         index.add("| Function | Clauses |", "|---|---|")
         stated = {}
@@ -50,24 +60,22 @@ class Writer:
             for key in {(one.where, name) for one in self.model.cited[clause.name] if one.kind == "contract" for name in one.names}:
                 stated.setdefault(key, []).append(clause)
         for (crate, name), clauses in sorted(stated.items()):
-            index.add(f"| `{crate}: {name}` | " + " ".join(self._clause_link(index, clause) for clause in clauses) + " |")
+            index.add(f"| `{crate}: {name}` | " + " ".join(index.clause(clause) for clause in clauses) + " |")
         index.heading(2, "Wrong routers")
         index.say(f"The table of the wrong routers that the contracts rule out is on [a page of its own]({index.to(ROUTERS)}).")
         return {**pages, STATEMENTS: index, ROUTERS: self._wrong_routers()}
 
-    @staticmethod
-    def _clause_link(page, clause):
-        return page.link([clause.name], page.to(f"docs/statements/{clause.section.name}.md", clause.name.lower()))
+    def _row(self, page, clause):
+        """The laws that pin a clause by their names, the first few of them, or why none does."""
+        mark = self.model.marks[clause.name]
+        names = [f"`{key[2]}`" for key in mark.laws]
+        shown = names[:NAMED_IN_A_ROW] + ([f"and {len(names) - NAMED_IN_A_ROW} more"] if len(names) > NAMED_IN_A_ROW else [])
+        return (", ".join(shown) or page.reason(mark.why, self.definitions.clauses)).replace("|", "\\|")
 
     def _statements(self, section):
         """The statements of a section, each once."""
-        keys = {self._key(one, name) for clause in section.clauses for one in self.model.cited.get(clause.name, []) for name in one.names}
+        keys = {key_of(one, name) for clause in section.clauses for one in self.model.cited.get(clause.name, []) for name in one.names}
         return [self.model.statements[key] for key in sorted(keys) if key in self.model.statements]
-
-    @staticmethod
-    def _key(citation, name):
-        kind = "field" if citation.kind == "definition" and "." in name else citation.kind
-        return kind, citation.where, name
 
     def _section_page(self, section):
         page = Page(f"docs/statements/{section.name}.md")
@@ -87,8 +95,17 @@ class Writer:
     def _slug(section):
         return re.sub(r"[^\w\- ]", "", f"{section.name} {section.title}".lower()).replace(" ", "-")
 
+    def _mark(self, page, mark):
+        if mark.sort != "pinned":
+            return f"**{mark.sort.capitalize()}**: {page.reason(mark.why, self.definitions.clauses)}"
+        if len(mark.laws) > NAMED_AT_MOST:
+            return f"**Pinned** by {len(mark.laws)} laws."
+        laws = [self.model.statements[key] for key in mark.laws]
+        return "**Pinned** by " + ", ".join(page.source(law.name, law.path, law.line) for law in laws) + "."
+
     def _clause(self, page, clause, shown):
         cited = self.model.cited.get(clause.name, [])
+        page.say(self._mark(page, self.model.marks[clause.name]))
         definitions = [(one.where, name) for one in cited if one.kind == "definition" for name in one.names if "." not in name]
         if definitions:
             page.say(f"Defined by {self.definitions.links(page, definitions)}.")
@@ -96,9 +113,9 @@ class Writer:
         if types:
             page.say(f"Types of Rattle: {', '.join(self.definitions.type_link(page, *one) for one in types)}.")
         for one in cited:
-            if one.kind in SENTENCES:
+            if one.kind in SENTENCES and one.kind not in EXCUSES:
                 page.say(self._sentence(page, one))
-        keys = [self._key(one, name) for one in cited for name in one.names]
+        keys = [key_of(one, name) for one in cited for name in one.names]
         again = []
         for (path, before), group in groupby((key for key in keys if key in self.model.statements), key=self._block):
             group = list(dict.fromkeys(group))
@@ -168,7 +185,7 @@ class Writer:
         page.heading(1, "Wrong routers")
         page.add("[All sections](../STATEMENTS.md)", "")
         page.say(f"Each of the {len(self.model.rows)} rows of the table is an input at which a call's definition says otherwise than a wrong router in its place. "
-                 f"That all of them are ruled out is one law, `ruled-out`, under {self._clause_link(page, self._clause_of('ruled-out'))}.")
+                 f"That all of them are ruled out is one law, `ruled-out`, under {self._ruling(page)}.")
         page.add("| Definition | Wrong routers |", "|---|---|")
         for call in dict.fromkeys(row.call for row in self.model.rows):
             page.add(f"| `{call}` | " + ", ".join(page.source(row.name, TABLE, row.line) for row in self.model.rows if row.call == call) + " |")
@@ -185,9 +202,10 @@ class Writer:
                 page.fence("agda", "\n\n".join(full(one) for one in defined))
         return page
 
-    def _clause_of(self, law):
-        """The first clause that cites a law of this name."""
-        return next(clause for clause in self.model.clauses if any(one.kind == "law" and law in one.names for one in self.model.cited[clause.name]))
+    def _ruling(self, page):
+        """The clause where the law stands that rules them all out."""
+        clause = next(clauses[0] for key, clauses in self.model.citing.items() if key[0] == "law" and key[2] == "ruled-out")
+        return page.link([clause.name], page.to(f"docs/statements/{clause.section.name}.md", clause.name.lower()))
 
     # -- the count
 
@@ -199,11 +217,10 @@ class Writer:
 
     def certificate(self, text):
         """The introduction with its count made anew."""
-        lines, count = self.definitions.spec_lines(), self.counts()
+        count, marks = self.counts(), [mark.sort for mark in self.model.marks.values()]
         table = ["| Counted in the sources | |", "|---|---|",
-                 f"| lines of `specs/`, to be believed | {sum(lines.values()):,}: " + ", ".join(f"{crate} {lines[crate]}" for crate in self.definitions.order() if crate in lines) + " |",
-                 f"| definitions in them | {count['definitions']:,} |",
-                 f"| clauses of the specification, each settled by a statement | {count['clauses']:,} |",
+                 *(f"| {said} | {number:,} in {lines:,} lines |" for said, number, lines in tally(self.model, BELIEVED.split("/")[-1], DEFINITIONS.split("/")[-1])),
+                 *(f"| {said} | {marks.count(sort):,} |" for sort, said in CLAUSES.items()),
                  f"| contracts of public functions | {count['contracts']:,} |",
                  f"| laws cited, and fields of records cited one by one | {count['laws']:,} and {count['fields']:,} |",
                  f"| wrong routers in the table, all ruled out by one proof | {count['rows']:,} |",
