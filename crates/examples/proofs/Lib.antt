@@ -1,5 +1,5 @@
--- The proofs of the two tables; and what the wrong routers answer, with the table of the inputs that tell them from
--- the calls.
+-- The proofs of the two tables; what the wrong routers answer, with the table of the inputs that tell them from the
+-- calls; and wrong definitions, with the laws that rule them out.
 pub mod Examples
 pub mod WrongWindows
 pub mod WrongRewrites
@@ -10,3 +10,5 @@ pub mod WrongShortest
 pub mod WrongSplits
 pub mod WrongAnswers
 pub mod WrongRouters
+pub mod WrongDefinitions
+pub mod WrongDefinitionsAbove
