@@ -4,18 +4,41 @@
 -- Sections: numbers; the end of a book; records.
 -- Assumes nothing.
 use mathlib.Core.Path.{_≡_, refl, _∙_}
-use mathlib.Core.List.{List, [], _∷_, _++_, append-assoc}
-use Prim.Native.Nat.{ℕ, _+_, _-_, _*_, _/_, _%_, _<_}
+use mathlib.Core.Logic.{_↔_, _⊎_, ⊎-elim}
+use mathlib.Core.List.{List, [], _∷_, _++_, append-assoc, List·Memᴰ, List·Memᴰ·not-nil, List·Memᴰ·cases-cons}
+use Prim.Native.Nat.{ℕ, suc, _+_, _-_, _*_, _/_, _%_, _≤_, _<_}
+use native.Mathlib.Decide.{decLe}
 use native.Mathlib.Omega.{arith}
-use lib.ListN.{length, getD, take, length-append}
+use lib.ListN.{length, getD, take, length-append, List·getD-eq-default}
 use lib.Seq.{drop-append-add, getD-append-seam, getD-append-add}
 use Rattle.coxeter.specs.Kinds.{kindOf, lanes}
+use Rattle.coxeter.proofs.CountedPairs.{mem-getD}
 use Rattle.book_format.specs.declared.Edition.the-variants.{First, Second}
 use Rattle.book_format.specs.Books.{twoAt, two, count, trailer, offset, kindAt, rankAt, lanesAt, letterCountAt, lettersAt, endAt}
-use Rattle.book_format.specs.Records.{recordAt}
+use Rattle.book_format.specs.Records.{recordAt, Empties, Bytes}
 use Rattle.book_format.proofs.AppendedParts.{twoAt-append-right, twoAt-append-left}
 
 -- ---- numbers
+
+bytes-all : (b : List ℕ) → Bytes b → (x : ℕ) → List·Memᴰ x b → x ≤ 255
+bytes-all [] h x m = absurd (List·Memᴰ·not-nil m)
+bytes-all (y ∷ b) h x m = ⊎-elim (λ e. omega (arith, h 0)) (bytes-all b (λ i. h (suc i)) x) (List·Memᴰ·cases-cons m)
+
+-- B1: the numbers of a list are bytes exactly when each of them is at most 255
+pub bytes-exactly : (b : List ℕ) → Bytes b ↔ ((x : ℕ) → List·Memᴰ x b → x ≤ 255)
+bytes-exactly b = (
+  bytes-all b,
+  λ f i. elim (decLe (length b) i) [
+    | yes h ↦ rw (List·getD-eq-default b 0 h) (omega arith)
+    | no h ↦ let l = f (getD b i 0) (mem-getD b i 0 (omega arith)) in omega arith
+  ],
+)
+
+-- B10, B11: two books differ without a difference of their presets exactly when one has no bytes and the other is the two
+-- bytes 00 00
+pub empties-exactly : (b d : List ℕ) → Empties b d ↔ (((b ≡ []) × (d ≡ 0 ∷ 0 ∷ [])) ⊎ ((b ≡ 0 ∷ 0 ∷ []) × (d ≡ [])))
+unfolding two
+empties-exactly b d = (λ e. e, λ e. e)
 
 -- the two bytes after x
 twoAt-after : (b x y : List ℕ) (low high p : ℕ) → b ≡ x ++ (low ∷ high ∷ y) → p ≡ length x → twoAt b p ≡ low + 256 * high

@@ -22,6 +22,8 @@ use Rattle.book_format.specs.declared.Edition.{Edition}
 use Rattle.book_format.specs.declared.Edition.the-variants.{First, Second}
 use Rattle.book_format.specs.Books.{count, offset, kindAt, rankAt, lettersAt, wrongSize}
 use Rattle.book_format.specs.Books.{wrongCount, misplaced, wrongLaneCount, tooLarge, bookRankRefusal, bookRefusal, recordRefusal}
+use Rattle.book_format.specs.declared.Preset.the-variants as preset
+use Rattle.book_format.specs.Calls.{checkedPreset}
 use Rattle.book_format.specs.Conversion.{converted, tooManyLanes, recordConversionRefusal, recordsConversionRefusal}
 use Rattle.book_format.specs.Conversion.{conversionRefusal, converting, recordTests, recordsTests}
 use Rattle.book_format.proofs.Numbers.{then-late, then-early, check-other, check-holds, answerOf-refused, rank-other, word-other}
@@ -29,7 +31,8 @@ use Rattle.book_format.proofs.Outcomes.{recordConversionRefusal-firstOf
 use Rattle.book_format.proofs.Unchanged.{converting-unchanged}
 use Rattle.book_format.proofs.Converting.{conversion-too-large}
 use Rattle.book_format.proofs.Sentences.{convert-answers}
-use Rattle.book_format.proofs.ReadingSentences.{record-17}
+use Rattle.book_format.proofs.PresetLaws.{presetRefusal-record}
+use Rattle.book_format.proofs.ReadingSentences.{record-17, preset-refusal}
 
 -- ---- the records
 
@@ -135,6 +138,17 @@ module _ (ed : Edition) (b before after : List ℕ) (a : Answer) (c : Yields (co
       let own : at-record ed b (0 + j) ≡ r = rw (zero-add j) (recordConversionRefusal-firstOf ed b j ∙ e) in
       let s = records-stop ed b (count b) 0 j r h (passes-tests ed b j p) own f in
       refused-with r (then-none (bookRefusal ed b) (recordsConversionRefusal ed b (count b) 0 then size) z ∙ ap (λ x. x then size) s ∙ then-some r size f) f
+
+  -- B25, CO5, I29: a record that reading refuses stops the conversion with the same number
+  pub convert-as-read : (j r : ℕ) → bookRefusal ed b ≡ 0 → j < count b → ((i : ℕ) → i < j → firstOf (recordTests ed b i) ≡ 0)
+      → checkedPreset ed b j ≡ preset.Refused r → a ≡ Refused r
+  unfolding recordConversionRefusal
+  convert-as-read j r z h p e =
+      let q = preset-refusal ed b j r .0 e in
+      let own : recordRefusal ed b (offset b j) ≡ r = sym (presetRefusal-record ed b j z h) ∙ q .0 in
+      let t : recordConversionRefusal ed b (offset b j) ≡ r =
+      ap (λ x. x then check 18 (tooManyLanes ed b (offset b j))) own ∙ then-some r (check 18 (tooManyLanes ed b (offset b j))) (q .1) in
+      convert-stops j r z h p (sym (recordConversionRefusal-firstOf ed b j) ∙ t) (q .1) .0
 
   -- C13, of the new book
   pub convert-too-large : bookRefusal ed b ≡ 0 → ((i : ℕ) → i < count b → firstOf (recordTests ed b i) ≡ 0) → 65535 < length (converted ed b)

@@ -26,9 +26,9 @@ use Rattle.coxeter.specs.Calls.{Yields, normalFormOfWord}
 use Rattle.coxeter.proofs.Order.{shortlex-cases}
 use Rattle.rules.specs.declared.Rewrite.the-variants.{Used}
 use Rattle.rules.specs.Rules.{Rule, rules, fits, rewritten}
-use Rattle.rules.specs.Calls.{Interface, single}
+use Rattle.rules.specs.Calls.{Interface, Rewrote, single}
 use Rattle.rules.specs.Runs.{AcceptedWord, Call, Machine, Run, IsUsed, machine, uses, wordLeft}
-use Rattle.rules.specs.Demand3.{normalFormOf, NowhereFits, NowhereFitsOnce, Usable, UsedExactly, FourAnswers, Demand3, Demand3Holds}
+use Rattle.rules.specs.Demand3.{normalFormOf, NowhereFits, Usable, UsedExactly, FourAnswers, Demand3, Demand3Holds}
 use Rattle.rules.proofs.Demand3.{demand3}
 
 module _ (s : Interface) (holds : Demand3Holds s) (k n : ℕ) (u : List ℕ) (h : AcceptedWord k n u) where
@@ -63,7 +63,8 @@ module _ (s : Interface) (holds : Demand3Holds s) (k n : ℕ) (u : List ℕ) (h 
   ends-normal cs r = d .follows cs r .normal-exactly .1
 
   -- T10: one such answer at each place is enough, with whatever outputs
-  pub ends-normal-once : (cs : List (Call s)) → Run s k n u cs → NowhereFitsOnce s k n (wordLeft s u cs) → wordLeft s u cs ≡ normalFormOf k n u
+  pub ends-normal-once : (cs : List (Call s)) → Run s k n u cs → let v = wordLeft s u cs in
+      ((p : ℕ) → p < length v → (before after : s .Outputs) × Rewrote s k n v p before after (s .noneFits)) → v ≡ normalFormOf k n u
   ends-normal-once cs r = d .follows cs r .normal-once
 
   -- T10

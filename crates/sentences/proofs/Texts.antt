@@ -3,9 +3,10 @@
 -- Assumes nothing.
 use mathlib.Core.Path.{_≡_, refl, ap, _∙_}
 use mathlib.Core.Bool.{Bool, true, false, _&&_}
-use mathlib.Core.List.{List, [], _∷_, _++_, append-assoc}
+use mathlib.Core.List.{List, [], _∷_, _++_, append-assoc, map}
 use Prim.Native.Nat.{ℕ, zero, suc, _+_, _-_, _≤_, _<_, zero-le}
-use Prim.Native.String.{String, len}
+use Prim.Native.Char.{code}
+use Prim.Native.String.{String, len, charAt}
 use native.Mathlib.Nat.{le-refl}
 use native.Mathlib.Numerals.{add-one}
 use native.Mathlib.Omega.{arith}
@@ -15,6 +16,7 @@ use lib.Seq.{take-all, take-at, drop-at}
 use borrow.Author.Tests.{lt-ltb, le-ltb}
 use Rattle.coxeter.specs.declared.Answer.{Answer}
 use Rattle.coxeter.specs.declared.Answer.the-variants.{Length, Refused}
+use Rattle.coxeter.specs.Kinds.{up}
 use Rattle.coxeter.specs.Checks.{tooShort}
 use Rattle.coxeter.specs.Calls.{Yields, answerOf, written, writes}
 use Rattle.sentences.specs.Sentences.{codesFrom, codes, sentences, sentence, refusalSentence}
@@ -30,6 +32,18 @@ module _ (l out : List ℕ) where
       → Yields (writes 0 l out) (Length r) after
   unfolding writes answerOf written tooShort
   put-copied after r h e v = rw (e, v, take-all (length l) l (le-refl (length l)), le-ltb (length out) (length l) h) (refl, refl)
+
+-- ---- sentences
+
+codesFrom-map : (t : String) (l i : ℕ) → codesFrom t l i ≡ map (λ (j : ℕ). code (charAt t j)) (up i l)
+unfolding codesFrom up
+codesFrom-map t zero i = refl
+codesFrom-map t (suc l) i = ap (λ (w : List ℕ). code (charAt t i) ∷ w) (rw add-one (codesFrom-map t l (suc i)))
+
+-- IC9: the sentence of refusal k + 1 is the codes of all characters of text k of the list
+pub sentence-codes : (k : ℕ) → let t = getD sentences k "" in sentence (k + 1) ≡ map (λ (i : ℕ). code (charAt t i)) (up 0 (len t))
+unfolding sentence codes
+sentence-codes k = rw (add-one k) (codesFrom-map (getD sentences k "") (len (getD sentences k "")) 0)
 
 -- ---- numbers that have no sentence
 
