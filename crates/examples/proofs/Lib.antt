@@ -12,3 +12,4 @@ pub mod WrongAnswers
 pub mod WrongRouters
 pub mod WrongDefinitions
 pub mod WrongDefinitionsAbove
+pub mod WrongDefinitionsFurther
