@@ -1,7 +1,7 @@
 -- Refused conversions in plain terms (I29, B25, C13, C17 and C18 of the specification).
 -- Not here: what an accepted conversion leaves (Sentences).
 --
--- Sections: the records; converting; refusals 17 and 18.
+-- Sections: the limits; the records; converting; refusals 17 and 18.
 -- Assumes nothing.
 use mathlib.Core.Path.{_≡_, refl, sym, ap, _∙_}
 use mathlib.Core.Bool.{true, true≢false}
@@ -18,9 +18,10 @@ use Rattle.coxeter.specs.declared.Answer.the-variants.{Length, Refused}
 use Rattle.coxeter.specs.Checks.{firstOf, check, _then_, tooShort, wordRefusal}
 use Rattle.coxeter.specs.Calls.{Yields, writes}
 use Rattle.coxeter.proofs.Refusals.{then-none, then-some}
+use Rattle.coxeter.proofs.TestLaws.{zero-not-one}
 use Rattle.book_format.specs.declared.Edition.{Edition}
 use Rattle.book_format.specs.declared.Edition.the-variants.{First, Second}
-use Rattle.book_format.specs.Books.{count, offset, kindAt, rankAt, lettersAt, wrongSize}
+use Rattle.book_format.specs.Books.{count, offset, kindAt, rankAt, lanesAt, lettersAt, wrongSize}
 use Rattle.book_format.specs.Books.{wrongCount, misplaced, wrongLaneCount, tooLarge, bookRankRefusal, bookRefusal, recordRefusal}
 use Rattle.book_format.specs.declared.Preset.the-variants as preset
 use Rattle.book_format.specs.Calls.{checkedPreset}
@@ -33,6 +34,19 @@ use Rattle.book_format.proofs.Converting.{conversion-too-large}
 use Rattle.book_format.proofs.Sentences.{convert-answers}
 use Rattle.book_format.proofs.PresetLaws.{presetRefusal-record}
 use Rattle.book_format.proofs.ReadingSentences.{record-17, preset-refusal}
+
+-- ---- the limits
+
+-- C13: a new book is too large exactly if it has more than 65,535 bytes
+pub too-large-exactly : (l : ℕ) → (tooLarge l ≡ true) ↔ (65535 < l)
+unfolding tooLarge
+too-large-exactly l = (ltb-true 65535 l, lt-ltb 65535 l)
+
+-- C18: a record has too many lanes to go back exactly if it is one of the second edition with more than 32
+pub many-lanes-exactly : (ed : Edition) (b : List ℕ) (o : ℕ) → (tooManyLanes ed b o ≡ true) ↔ ((ed ≡ Second) × (32 < lanesAt ed b o))
+unfolding tooManyLanes
+many-lanes-exactly First b o = (λ e. absurd (true≢false (sym e)), λ t. let e = t .0 in absurd (zero-not-one (cc)))
+many-lanes-exactly Second b o = (λ e. (refl, ltb-true 32 (lanesAt Second b o) e), λ t. lt-ltb 32 (lanesAt Second b o) (t .1))
 
 -- ---- the records
 
