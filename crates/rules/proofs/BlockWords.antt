@@ -17,7 +17,7 @@ use Rattle.coxeter.specs.NormalForm.{block, blocks, Indices, none, level, level
 use Rattle.coxeter.proofs.Runs.{span, block-up, block-turn, corner-le}
 use Rattle.coxeter.proofs.NormalForms.{normalForm-blocks}
 use Rattle.coxeter.proofs.Lengths.{blockLength, length-block}
-use Rattle.rules.specs.Rules.{Irreducible}
+use Rattle.rules.specs.Rules.{rules, Irreducible}
 use Rattle.rules.proofs.NextLetter.{corner-levels, le-lastIndex, lastIndex-le, level-le-last}
 use Rattle.rules.proofs.Irreducible.{block-empty}
 use Rattle.rules.proofs.Letters.{mem-span, mem-slide, block-one}
@@ -38,7 +38,7 @@ lowered k n h (suc i) js g x =
 
 -- no rule fits into a word of blocks
 blocks-irreducible : (k : Kind) (n : ℕ) → least k ≤ n → (i : ℕ) (js : List ℕ) → i ≤ levels k n → Indices k n (suc i) js
-    → Irreducible k n (blocks k n (suc i) js)
+    → Irreducible (rules k n) (blocks k n (suc i) js)
 blocks-irreducible k n h i js g x =
     let r = lowered k n h i js g x in
     let e : blocks k n (suc i) js ≡ _ = sym (r .2) ∙ sym (normalForm-blocks k n (r .0) (r .1)) in
@@ -57,14 +57,14 @@ empty-above k n h (suc t) i e =
 
 -- a block of the level after i, then one of level i
 pub two-blocks : (k : Kind) (n i j m : ℕ) → least k ≤ n → 1 ≤ i → i < levels k n → i ≤ j → j ≤ lastIndex k n (suc i) → i ≤ suc m → m ≤ lastIndex k n i
-    → Irreducible k n (block k n (suc i) j ++ block k n i m)
+    → Irreducible (rules k n) (block k n (suc i) j ++ block k n i m)
 unfolding blocks
 two-blocks k n zero j m h o g a b c d = absurd (omega arith)
 two-blocks k n (suc i) j m h o g a b c d =
     let r = empty-above k n h (levels k n - suc (suc i)) (suc (suc i)) (omega arith) in
     let x : Indices k n (suc (suc i)) (j ∷ r .0) = level {i = suc (suc i)} {j = j} (omega arith) (omega arith) b (r .1) in
     let y : Indices k n (suc i) (m ∷ j ∷ r .0) = level {i = suc i} {j = m} (omega arith) c d x in
-    subst (λ (w : List ℕ). Irreducible k n ((w ++ block k n (suc (suc i)) j) ++ block k n (suc i) m)) (r .2)
+    subst (λ (w : List ℕ). Irreducible (rules k n) ((w ++ block k n (suc (suc i)) j) ++ block k n (suc i) m)) (r .2)
     (blocks-irreducible k n h i (m ∷ j ∷ r .0) (omega arith) y)
 
 -- ---- letters of a block

@@ -297,7 +297,7 @@ module _ {s : Interface} (law : Lawful s) where
   none-of-answer (short x e h q) z = absurd (law .none-not-14 (sym z))
 
   -- one answer that none fits, with whatever outputs, is enough
-  pub irreducible-of-once : (k n : ℕ) (u : List ℕ) → AcceptedWord k n u → NowhereFitsOnce s k n u → Irreducible (kindOf k) n u
+  pub irreducible-of-once : (k n : ℕ) (u : List ℕ) → AcceptedWord k n u → NowhereFitsOnce s k n u → Irreducible (rules (kindOf k) n) u
   irreducible-of-once k n u h f x m p = elim (decLe (length u) p) [
     | yes l ↦ fits-past x u p (left-nonempty (kindOf k) n (accepted-least h) x m) l
     | no l ↦
@@ -314,7 +314,7 @@ answer-of-none (short x e h q) l a = absurd (Option·none-ne-some x (sym a ∙ e
 
 module _ {s : Interface} (law : Lawful s) where
   -- an accepted word is irreducible exactly when every call at each of its places answers that none fits
-  pub nowhereFits-iff : (k n : ℕ) (u : List ℕ) → AcceptedWord k n u → Irreducible (kindOf k) n u ↔ NowhereFits s k n u
+  pub nowhereFits-iff : (k n : ℕ) (u : List ℕ) → AcceptedWord k n u → Irreducible (rules (kindOf k) n) u ↔ NowhereFits s k n u
   nowhereFits-iff k n u h = (
     λ f p l before after a w.
         w .answer ∙ answer-of-none (stepped s k n u p before h) l (none-firstFitting (rules (kindOf k) n) u p (λ x m. f x m p)),

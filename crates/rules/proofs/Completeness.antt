@@ -26,7 +26,7 @@ use Rattle.coxeter.proofs.Relations.{linked-window}
 use Rattle.coxeter.proofs.Order.{shortlex-trans, shortlex-cases}
 use Rattle.coxeter.proofs.NormalForms.{normalForm-blocks, window-normalForm, normalForm-letters}
 use Rattle.coxeter.proofs.Theorems.{normal-unique}
-use Rattle.rules.specs.Rules.{fits, Irreducible}
+use Rattle.rules.specs.Rules.{rules, fits, Irreducible}
 use Rattle.rules.proofs.Rewriting.{Rewrites, within}
 use Rattle.rules.proofs.Derivations.{rule-linked}
 use Rattle.rules.proofs.Ending.{rule-letters, accepted-rewritten, value, rule-lowers, rule-shortlex}
@@ -127,7 +127,7 @@ pub normalForm-irreducible : (k : Kind) (n : ℕ) (u : List ℕ) {v : List ℕ} 
 normalForm-irreducible k n u h r = normalForm-not-rewritten k n (window k n u) h (window-accepted k n u) r
 
 -- no rule of the list fits exactly when no rule rewrites the word
-pub irreducible-of-not-rewritten : (k : Kind) (n : ℕ) (u : List ℕ) → least k ≤ n → ((v : List ℕ) → Rewrites k n u v → ⊥) → Irreducible k n u
+pub irreducible-of-not-rewritten : (k : Kind) (n : ℕ) (u : List ℕ) → least k ≤ n → ((v : List ℕ) → Rewrites k n u v → ⊥) → Irreducible (rules k n) u
 irreducible-of-not-rewritten k n u h f r m p = elim (decLe p (length u)) [
   | yes l ↦ go (fits r u p) refl l
   | no l ↦ fits-past r u p (left-nonempty k n h r m) (omega arith)
@@ -137,13 +137,13 @@ irreducible-of-not-rewritten k n u h f r m p = elim (decLe p (length u)) [
     go true e l = absurd (f _ (rewrites-of-fits k n h r m u p l e))
     go false e l = e
 
-pub not-rewritten-of-irreducible : (k : Kind) (n : ℕ) (u : List ℕ) → least k ≤ n → Irreducible k n u → (v : List ℕ) → Rewrites k n u v → ⊥
+pub not-rewritten-of-irreducible : (k : Kind) (n : ℕ) (u : List ℕ) → least k ≤ n → Irreducible (rules k n) u → (v : List ℕ) → Rewrites k n u v → ⊥
 not-rewritten-of-irreducible k n u h f v r =
     let s = fits-of-rewrites k n h r in
     true≢false (sym (s .4) ∙ f (s .0) (s .2) (s .1))
 
 -- an irreducible word is the normal form of its window
-pub irreducible-iff : (k : Kind) (n : ℕ) (u : List ℕ) → least k ≤ n → wrongLetter n u ≡ false → Irreducible k n u ↔ (u ≡ normalForm k n (window k n u))
+pub irreducible-iff : (k : Kind) (n : ℕ) (u : List ℕ) → least k ≤ n → wrongLetter n u ≡ false → Irreducible (rules k n) u ↔ (u ≡ normalForm k n (window k n u))
 irreducible-iff k n u h e = (
   λ f. rewritesTo-same (rewritesTo-normalForm k n u h e) (not-rewritten-of-irreducible k n u h f),
   λ q. irreducible-of-not-rewritten k n u h (λ v r. normalForm-irreducible k n u h (subst (λ (x : List ℕ). Rewrites k n x v) q r)),

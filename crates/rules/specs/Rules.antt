@@ -98,6 +98,6 @@ firstFitting (r ∷ rs) u p = pick (fits r u p) (some r) (firstFitting rs u p)
 unfoldable pub rewritten : Rule → List ℕ → ℕ → List ℕ
 rewritten r u p = take p u ++ (r .right ++ drop (p + length (r .left)) u)
 
--- T10: none fits, in document 01's words, at any place
-abbrev pub Irreducible : Kind → ℕ → List ℕ → Type 0
-Irreducible k n u = (r : Rule) → List·Memᴰ r (rules k n) → (p : ℕ) → fits r u p ≡ false
+-- T10: of the rules of a list none fits, in document 01's words, at any place
+abbrev pub Irreducible : List Rule → List ℕ → Type 0
+Irreducible rs u = (r : Rule) → List·Memᴰ r rs → (p : ℕ) → fits r u p ≡ false

@@ -65,7 +65,7 @@ not-true false f = refl
 
 -- ---- the rule that ends a word
 
-module _ (k : Kind) (n : ℕ) (h : least k ≤ n) (a : List ℕ) (x : ℕ) (none-in : Irreducible k n a) where
+module _ (k : Kind) (n : ℕ) (h : least k ≤ n) (a : List ℕ) (x : ℕ) (none-in : Irreducible (rules k n) a) where
   module _ (r : Rule) (m : List·Memᴰ r (rules k n)) (p : ℕ) (f : fits r (a ++ (x ∷ [])) p ≡ true) where
     pub ends-there : p + length (r .left) ≡ suc (length a)
     ends-there =

@@ -25,7 +25,7 @@ use Rattle.coxeter.proofs.Relations.{wrongLetter-append}
 use Rattle.coxeter.proofs.Products.{window-append}
 use Rattle.coxeter.proofs.Inverses.{windowFrom-reverse}
 use Rattle.coxeter.proofs.Order.{before-higher, shortlex-before, shortlex-cases, shortlex-irrefl, shortlex-asymm}
-use Rattle.rules.specs.Rules.{Irreducible}
+use Rattle.rules.specs.Rules.{rules, Irreducible}
 use Rattle.rules.proofs.Ending.{before-append}
 use Rattle.rules.proofs.Extending.{rewrites-within}
 use Rattle.rules.proofs.Completeness.{RewritesTo, rewritesTo-normalForm, rewritesTo-shortlex, rewritesTo-letters, rewritesTo-window}
@@ -77,7 +77,7 @@ letters-right n u v e = or-false-right (wrongLetter n u) (wrongLetter n v) (sym 
 -- a word of steps into which no rule fits
 pub record Normal (k : Kind) (n : ℕ) (u : List ℕ) : Type 0 where
   pub letters : wrongLetter n u ≡ false
-  pub irreducible : Irreducible k n u
+  pub irreducible : Irreducible (rules k n) u
 
 module _ (k : Kind) (n : ℕ) (h : least k ≤ n) where
   pub normal-least : (u : List ℕ) → Normal k n u → IsNormalForm k n (window k n u) u

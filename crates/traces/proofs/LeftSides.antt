@@ -51,7 +51,7 @@ pub record Shape (k : Kind) (n : ℕ) (l : List ℕ) : Type 0 where
   pub first : ℕ
   pub tail : List ℕ
   pub is : l ≡ first ∷ tail
-  pub irreducible : Irreducible k n tail
+  pub irreducible : Irreducible (rules k n) tail
   pub long : 1 ≤ length tail
   pub short : suc (length tail) ≤ 2 * n
   pub lowest : (t : ℕ) → suc t ≡ length tail → first ≡ lower (getD l t 0) (getD l (suc t) 0)
@@ -64,7 +64,7 @@ left-two k n h r m =
     rw (left-of k n r (e .i) (e .j) (e .x) (e .f) (e .shape)) (simp length-append (omega (arith, along-nonempty k n (e .i) (e .j) h (e .along))))
 
 -- no rule fits into one letter
-one-irreducible : (k : Kind) (n : ℕ) → least k ≤ n → (x : ℕ) → Irreducible k n (x ∷ [])
+one-irreducible : (k : Kind) (n : ℕ) → least k ≤ n → (x : ℕ) → Irreducible (rules k n) (x ∷ [])
 one-irreducible k n h x r m p = not-fitting (fits r (x ∷ []) p) refl
   where
     not-fitting : (t : Bool) → fits r (x ∷ []) p ≡ t → t ≡ false

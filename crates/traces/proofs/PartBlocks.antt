@@ -21,7 +21,7 @@ use Rattle.coxeter.specs.NormalForm.{block, rise, levels, lastIndex}
 use Rattle.coxeter.proofs.LetterLaws.{letter-within-cons}
 use Rattle.coxeter.proofs.Lengths.{blockLength, length-block}
 use Rattle.coxeter.proofs.Runs.{corner-le}
-use Rattle.rules.specs.Rules.{Irreducible}
+use Rattle.rules.specs.Rules.{rules, Irreducible}
 use Rattle.rules.proofs.NextLetter.{Last, rising, falling, corner-levels, lastIndex-le}
 use Rattle.rules.proofs.Extending.{Reducible, block-last}
 use Rattle.rules.proofs.Irreducible.{Letters, one-block}
@@ -115,7 +115,7 @@ along-of k n i j h o g a b e = elim (ℕ-discrete j i) [ yes t ↦ start o (omeg
 
 -- a part of a normal form
 pub part-block : (k : Kind) (n i : ℕ) (u : List ℕ) → least k ≤ n → 1 ≤ i → i < n → wrongLetter n u ≡ false → ((t : ℕ) → t < length u → i ≤ getD u t 0)
-    → Irreducible k n (i ∷ u)
+    → Irreducible (rules k n) (i ∷ u)
     → (j : ℕ) × Along k n i j × (i ∷ u ≡ block k n i j) × ((m l : ℕ) → suc m ≡ length (i ∷ u) → l ≡ getD (i ∷ u) m 0 → j ≡ indexBy k n i (suc m) l)
 part-block k n i u h o g w f r = go (one-block k n i u h o low (letters-from i n u w f))
   where

@@ -47,7 +47,7 @@ snoc-same (x ∷ u) (y ∷ v) a b e =
 length-nil : (u : List ℕ) → length u ≤ 0 → u ≡ []
 length-nil u = drop-of-length-le u
 
-pub nil-irreducible : (k : Kind) (n : ℕ) → least k ≤ n → Irreducible k n []
+pub nil-irreducible : (k : Kind) (n : ℕ) → least k ≤ n → Irreducible (rules k n) []
 nil-irreducible k n h r m p = fits-past r [] p (left-nonempty k n h r m) (omega arith)
 
 -- ---- the letter that moves
@@ -96,9 +96,9 @@ module _ (k : Kind) (n : ℕ) (h : least k ≤ n) (z : List ℕ) (q : ℕ) (r : 
   reading-inside = omega (arith, r .place, simp length-append at (ap length (r .is)))
 
   -- no rule fits before the letter
-  pub reading-before : Irreducible k n (take q z)
+  pub reading-before : Irreducible (rules k n) (take q z)
   reading-before =
-      subst (Irreducible k n) (sym (ap (take q) (r .is) ∙ take-at (r .front) (r .letter ∷ r .back) q (r .place)))
+      subst (Irreducible (rules k n)) (sym (ap (take q) (r .is) ∙ take-at (r .front) (r .letter ∷ r .back) q (r .place)))
       (normal-front k n h (r .front) (r .back) (r .normal) .irreducible)
 
   -- where no rule ends with the letter, z is a normal form
@@ -120,7 +120,7 @@ module _ (k : Kind) (n : ℕ) (h : least k ≤ n) (z : List ℕ) (q : ℕ) (r : 
     pub fitting : List·Memᴰ (s .rule) (rules k n) × (fits (s .rule) (r .front ++ (r .letter ∷ [])) (s .place) ≡ true)
     fitting = firstFitting-some (rules k n) _ (s .place) (s .rule) (lowest-some k n _ s (ap (lowestUse k n) (sym upto) ∙ e) .fitting)
 
-    pub none-before : Irreducible k n (r .front)
+    pub none-before : Irreducible (rules k n) (r .front)
     none-before = normal-front k n h (r .front) (r .back) (r .normal) .irreducible
 
     pub reading-length : s .place + length (s .rule .left) ≡ suc q

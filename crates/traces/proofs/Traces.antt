@@ -101,13 +101,13 @@ module _ (k : Kind) (n : ℕ) (u : List ℕ) where
       go none e = absurd (Option·none-ne-some (s .rule) (sym (lowest-none e (s .place) (a .inside)) ∙ a .fitting))
       go (some t) e = ap some (lowest-only t s (lowest-some t e) a)
 
-  pub irreducible-of-none : least k ≤ n → lowestUse k n u ≡ none → Irreducible k n u
+  pub irreducible-of-none : least k ≤ n → lowestUse k n u ≡ none → Irreducible (rules k n) u
   irreducible-of-none h e x m p = elim (decLe (length u) p) [
     | yes l ↦ fits-past x u p (left-nonempty k n h x m) l
     | no l ↦ firstFitting-none (rules k n) u p (lowest-none e p (lt-of-not-le l)) x m
   ]
 
-  pub none-of-irreducible : Irreducible k n u → lowestUse k n u ≡ none
+  pub none-of-irreducible : Irreducible (rules k n) u → lowestUse k n u ≡ none
   none-of-irreducible f = go (lowestUse k n u) refl
     where
       go : (o : Option Use) → lowestUse k n u ≡ o → o ≡ none
@@ -229,9 +229,9 @@ module _ (k : Kind) (n : ℕ) (h : least k ≤ n) where
       trace-induction k n h (λ u t. RewritesTo k n u (t .final)) (λ u e d. stays) (λ u s e a r. step (lowest-rewrites h a) r)
 
   -- at the end no rule fits
-  pub trace-ends : (u : List ℕ) → wrongLetter n u ≡ false → Irreducible k n (trace k n u .final)
+  pub trace-ends : (u : List ℕ) → wrongLetter n u ≡ false → Irreducible (rules k n) (trace k n u .final)
   trace-ends =
-      trace-induction k n h (λ u t. Irreducible k n (t .final)) (λ u e d. irreducible-of-none k n u h d) (λ u s e a r. r)
+      trace-induction k n h (λ u t. Irreducible (rules k n) (t .final)) (λ u e d. irreducible-of-none k n u h d) (λ u s e a r. r)
 
   -- T21
   pub trace-normalForm : (u : List ℕ) → wrongLetter n u ≡ false → trace k n u .final ≡ wordNormalForm k n u

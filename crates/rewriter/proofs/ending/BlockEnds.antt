@@ -18,7 +18,7 @@ use Rattle.coxeter.specs.Kinds.{Kind, pick, least}
 use Rattle.coxeter.specs.Checks.{wrongLetter}
 use Rattle.coxeter.specs.NormalForm.{block, levels, lastIndex}
 use Rattle.coxeter.proofs.LetterLaws.{letter-within, letter-within-cons}
-use Rattle.rules.specs.Rules.{Rule, Irreducible}
+use Rattle.rules.specs.Rules.{Rule, rules, Irreducible}
 use Rattle.rules.proofs.Letters.{block-one}
 use Rattle.rules.proofs.BlockWords.{block-short}
 use Rattle.rules.proofs.ScanRules.{wrongLetter-drop}
@@ -120,7 +120,7 @@ module _ (k : Kind) (n : ℕ) (h : least k ≤ n) (w : List ℕ) (q : ℕ) (r : 
         (λ t l.
         let v : suc p + t < q = omega (arith, length-drop (suc p) (take q w), length-take-le q w (omega (arith, inside))) in
         rw (getD-drop (suc p) (take q w) t 0, getD-take q w (suc p + t) 0 v) (low .at-least (suc p + t) (omega arith) v))
-        (subst (Irreducible k n) part-cons (normal-part .irreducible))
+        (subst (Irreducible (rules k n)) part-cons (normal-part .irreducible))
 
     index-there : there .0 ≡ indexBy k n (lower (getD w (q - 1) 0) (getD w q 0)) (q - p) (getD w (q - 1) 0)
     index-there =
