@@ -120,13 +120,13 @@ valueFrom n acc (s ∷ u) = valueFrom n (acc * (n + 1) + (n + 1 - s)) u
 unfoldable pub value : ℕ → List ℕ → ℕ
 value n u = valueFrom n 0 u
 
-valueFrom-append : (n acc : ℕ) (x u : List ℕ) → valueFrom n acc (x ++ u) ≡ valueFrom n (valueFrom n acc x) u
+pub valueFrom-append : (n acc : ℕ) (x u : List ℕ) → valueFrom n acc (x ++ u) ≡ valueFrom n (valueFrom n acc x) u
 unfolding valueFrom
 valueFrom-append n acc [] u = refl
 valueFrom-append n acc (s ∷ x) u = valueFrom-append n (acc * (n + 1) + (n + 1 - s)) x u
 
 -- a smaller start counts for more than the digits after it
-valueFrom-lt : (n a b : ℕ) (t s : List ℕ) → length s ≡ length t → ((x : ℕ) → List·Memᴰ x t → 1 ≤ x) → a < b → valueFrom n a t < valueFrom n b s
+pub valueFrom-lt : (n a b : ℕ) (t s : List ℕ) → length s ≡ length t → ((x : ℕ) → List·Memᴰ x t → 1 ≤ x) → a < b → valueFrom n a t < valueFrom n b s
 unfolding valueFrom
 valueFrom-lt n a b [] [] e h l = l
 valueFrom-lt n a b [] (y ∷ s) e h l = absurd (let z : suc (length s) ≡ 0 = e in omega arith)

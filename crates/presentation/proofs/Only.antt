@@ -1,0 +1,236 @@
+-- There is one complete normalized presentation of a rig, Métivier's uniqueness: by any of them a word is irreducible
+-- exactly if it is the normal form of its window, so that all have the same irreducible words; then each left side of
+-- one holds a left side of another, and that one a left side of the first, which can only be the same one.
+--
+-- Sections: reducible or not; links and descendants; irreducible words; two presentations.
+-- Assumes nothing.
+use mathlib.Core.Path.{_≡_, refl, sym, ap, ap₂, subst, subst₂, _∙_}
+use mathlib.Core.Bool.{true, false, true≢false}
+use mathlib.Core.Logic.{_↔_, _⊎_, inl, inr, ⊎-elim}
+use mathlib.Core.List.{List, [], _∷_, _++_, append-assoc, append-nil, map, List·Memᴰ, List·Memᴰ·head, List·Memᴰ·tail, List·Memᴰ·cases-cons}
+use mathlib.Core.List.{List·Memᴰ·append-cases, Memᴰ·cast, Memᴰ·map, Memᴰ·append-left, Memᴰ·append-right}
+use mathlib.Core.Option.{Option, none, some}
+use Prim.Native.Nat.{ℕ, zero, suc, _+_, _≤_, _<_}
+use native.Mathlib.Nat.{le-antisymm}
+use native.Mathlib.Decide.{ℕ-discrete}
+use native.Mathlib.Omega.{arith}
+use lib.ListN.{length, length-append, length-map, drop-of-length-le}
+use Rattle.coxeter.specs.Kinds.{Kind, least}
+use Rattle.coxeter.specs.Windows.{window}
+use Rattle.coxeter.specs.Checks.{wrongLetter}
+use Rattle.coxeter.specs.Dictionary.{shortlex}
+use Rattle.coxeter.specs.Relations.{Relation, Use, forth, back, Linked, alone, next}
+use Rattle.coxeter.specs.NormalForm.{normalForm, wordNormalForm}
+use Rattle.coxeter.proofs.Links.{linked-use, linked-sym, linked-one}
+use Rattle.coxeter.proofs.Order.{shortlex-trans, shortlex-irrefl, shortlex-asymm}
+use Rattle.coxeter.proofs.Relations.{linked-window, linked-letters}
+use Rattle.rules.specs.Rules.{Rule, fits, firstFitting, Irreducible}
+use Rattle.rules.proofs.Fits.{fits-at, firstFitting-some, firstFitting-none}
+use Rattle.rules.proofs.Completeness.{normalForm-linked, normalForm-least-window}
+use Rattle.distribution.specs.AllWindows.{In, Once}
+use Rattle.distribution.proofs.Members.{length-le-of-map}
+use Rattle.presentation.specs.Reductions.{Pair, pair, Reduces, within, Reductions, stays, step, ReducesTo}
+use Rattle.presentation.specs.Presentations.{CompletePresentation}
+use Rattle.presentation.proofs.Reducing.{reduces-exactly, reduces-of-fits, irreducible-exactly, reducesTo-one, reducesTo-trans, reducesTo-same, reduces-linked, reducesTo-linked}
+use Rattle.presentation.proofs.Reducing.{shortlex-within}
+use Rattle.presentation.proofs.Entries.{entry-of, or-others, once-of-others}
+
+-- ---- reducible or not
+
+-- a word is irreducible, or some reduction leads on from it
+pub reducible-or : (rs : List Rule) (u : List ℕ) → Irreducible rs u ⊎ ((v : List ℕ) × Reduces rs u v)
+reducible-or rs u = elim (search (suc (length u)) (omega arith)) [
+  | inl f ↦ inl (irreducible-exactly rs u .1 (λ v r. stuck f r))
+  | inr r ↦ inr r
+]
+  where
+    search : (t : ℕ) → t ≤ suc (length u) → ((p : ℕ) → p < t → (x : Rule) → List·Memᴰ x rs → fits x u p ≡ false) ⊎ ((v : List ℕ) × Reduces rs u v)
+    search zero h = inl (λ p l. absurd (omega arith))
+    search (suc t) h = elim (search t (omega arith)) [
+      | inl f ↦ go f (firstFitting rs u t) refl
+      | inr r ↦ inr r
+    ]
+      where
+        go : ((p : ℕ) → p < t → (x : Rule) → List·Memᴰ x rs → fits x u p ≡ false) → (o : Option Rule) → firstFitting rs u t ≡ o
+            → ((p : ℕ) → p < suc t → (x : Rule) → List·Memᴰ x rs → fits x u p ≡ false) ⊎ ((v : List ℕ) × Reduces rs u v)
+        go f none e = inl (λ p l x m. elim (ℕ-discrete p t) [
+          | yes q ↦ rw q (firstFitting-none rs u t e x m)
+          | no q ↦ f p (omega arith) x m
+        ])
+        go f (some x) e = let (m, q) = firstFitting-some rs u t x e in inr (_, reduces-of-fits rs x m u t (omega arith) q)
+
+    stuck : {u v : List ℕ} → ((p : ℕ) → p < suc (length u) → (x : Rule) → List·Memᴰ x rs → fits x u p ≡ false) → Reduces rs u v → ⊥
+    stuck f (within b a x m) =
+        true≢false (sym (fits-at x b a) ∙ f (length b) (omega (arith, length-append b (x .left ++ a))) x m)
+
+-- ---- links and descendants
+
+-- no word with its window comes before a normal form
+not-earlier : (k : Kind) (n : ℕ) → least k ≤ n → (u v : List ℕ) → wrongLetter n v ≡ false → window k n v ≡ window k n u
+    → shortlex v (wordNormalForm k n u) ≡ true → ⊥
+not-earlier k n low u v e q t =
+    let f = wordNormalForm k n u in
+    let other : v ≡ f → ⊥ = λ d. true≢false (sym t ∙ ap (λ (w : List ℕ). shortlex w f) d ∙ shortlex-irrefl f) in
+    true≢false (sym (normalForm-least-window k n u low .least v e q other) ∙ shortlex-asymm v f t)
+
+-- what holds by any complete presentation
+module _ (k : Kind) (n : ℕ) (low : least k ≤ n) (rs : List Rule) (c : CompletePresentation k n rs) where
+  -- what the rules link has one window, and steps with steps alone
+  pair-window : (u v : List ℕ) → Linked (Pair rs) u v → window k n u ≡ window k n v
+  pair-window u v q = linked-window k n (c .presenting u v .0 q)
+
+  pair-letters : (u v : List ℕ) → Linked (Pair rs) u v → wrongLetter n u ≡ false → wrongLetter n v ≡ false
+  pair-letters u v q = linked-letters k n (c .presenting u v .0 q)
+
+  -- a reduction leads to an earlier word
+  reduces-earlier : {u v : List ℕ} → Reduces rs u v → shortlex v u ≡ true
+  reduces-earlier (within b a x m) = shortlex-within b (x .right) (x .left) a (c .descending x m)
+
+  -- the last word is the first or earlier
+  reductions-earlier : {t : ℕ} {u v : List ℕ} → Reductions rs t u v → (u ≡ v) ⊎ (shortlex v u ≡ true)
+  reductions-earlier stays = inl refl
+  reductions-earlier (step {u = u} {v = v} {w = w} r p) =
+      inr (⊎-elim (λ e. subst (λ (x : List ℕ). shortlex x u ≡ true) e (reduces-earlier r)) (λ l. shortlex-trans w v u l (reduces-earlier r))
+      (reductions-earlier p))
+
+  -- linked words have a descendant in common
+  church-rosser : {u v : List ℕ} → Linked (Pair rs) u v → wrongLetter n u ≡ false → (z : List ℕ) × ReducesTo rs u z × ReducesTo rs v z
+  church-rosser alone e = (_, (0, stays), (0, stays))
+  church-rosser (next (forth b a (pair x m)) q) e =
+      let r = within b a x m in
+      let (z, p, s) = church-rosser q (pair-letters _ _ (reduces-linked r) e) in
+      (z, reducesTo-trans (reducesTo-one r) p, s)
+  church-rosser (next (back b a (pair x m)) q) e =
+      let r = within b a x m in
+      let f = pair-letters _ _ (linked-sym (reduces-linked r)) e in
+      let (z, p, s) = church-rosser q f in
+      let (w, d, g) = c .confluent _ _ z f (reducesTo-one r) p in
+      (w, d, reducesTo-trans s g)
+
+  -- ---- irreducible words
+
+  normal-of-irreducible : (u : List ℕ) → wrongLetter n u ≡ false → Irreducible rs u → u ≡ wordNormalForm k n u
+  normal-of-irreducible u e i =
+      let f = wordNormalForm k n u in
+      let (z, p, q) = church-rosser (c .presenting u f .1 (normalForm-linked k n u low e)) e in
+      let s : u ≡ z = reducesTo-same i p in
+      elim (reductions-earlier (q .1)) [
+        | inl t ↦ s ∙ sym t
+        | inr t ↦ absurd (not-earlier k n low u u e refl (subst (λ (w : List ℕ). shortlex w f ≡ true) (sym s) t))
+      ]
+
+  irreducible-of-normal : (u : List ℕ) → wrongLetter n u ≡ false → u ≡ wordNormalForm k n u → Irreducible rs u
+  irreducible-of-normal u e q = irreducible-exactly rs u .1 (λ v r.
+      let p = reduces-linked r in
+      not-earlier k n low u v (pair-letters u v p e) (sym (pair-window u v p)) (subst (λ (w : List ℕ). shortlex v w ≡ true) q (reduces-earlier r)))
+
+  -- U7: by any complete normalized presentation the irreducible words of steps are the normal forms
+  pub complete-irreducible : (u : List ℕ) → wrongLetter n u ≡ false → Irreducible rs u ↔ (u ≡ wordNormalForm k n u)
+  complete-irreducible u e = (normal-of-irreducible u e, irreducible-of-normal u e)
+
+  -- U7: of the descendants of a word just its normal form is irreducible
+  pub complete-normal-form : (u v : List ℕ) → wrongLetter n u ≡ false → (ReducesTo rs u v × Irreducible rs v) ↔ (v ≡ wordNormalForm k n u)
+  complete-normal-form u v e = (
+    λ (p, i).
+        let q = reducesTo-linked p in
+        normal-of-irreducible v (pair-letters u v q e) i ∙ ap (normalForm k n) (sym (pair-window u v q)),
+    λ q. rw q (
+      let (z, p, s) = church-rosser (c .presenting u f .1 (normalForm-linked k n u low e)) e in
+      subst (ReducesTo rs u) (sym (reducesTo-same irreducible s)) p,
+      irreducible,
+    ),
+  )
+    where
+      f : List ℕ
+      f = wordNormalForm k n u
+
+      irreducible : Irreducible rs f
+      irreducible =
+          let least = normalForm-least-window k n u low in
+          irreducible-of-normal f (least .steps) (ap (normalForm k n) (sym (least .shows)))
+
+  -- ---- entries
+
+  -- an entry whose left side stands in that of another is the same entry
+  same-entry : (x y : Rule) → List·Memᴰ x rs → List·Memᴰ y rs → (b a : List ℕ) → x .left ≡ b ++ (y .left ++ a) → y ≡ x
+  same-entry x y m q b a e =
+      let (front, rest, s) = entry-of m in
+      elim (or-others front x y rest (subst (In y) s q)) [
+        | inl t ↦ t
+        | inr t ↦ absurd (true≢false (sym (fits-at y b a) ∙ ap (λ (w : List ℕ). fits y w (length b)) (sym e) ∙ c .left-irreducible front x rest s y t (length b)))
+      ]
+
+  -- nothing stands twice
+  complete-once : Once rs
+  complete-once = once-of-others rs (λ front x rest e m.
+      true≢false (sym (rw append-nil at (fits-at x [] [])) ∙ c .left-irreducible front x rest e x m 0))
+
+  -- the right side of a rule is the normal form of its left side
+  right-normal : (x : Rule) → List·Memᴰ x rs → x .right ≡ wordNormalForm k n (x .left)
+  right-normal x m =
+      normal-of-irreducible (x .right) (c .steps x m .1) (c .right-irreducible x m)
+      ∙ ap (normalForm k n) (sym (pair-window (x .left) (x .right) (linked-one (pair x m))))
+
+-- ---- two presentations
+
+module _ (k : Kind) (n : ℕ) (low : least k ≤ n) (rs qs : List Rule) (c : CompletePresentation k n rs) (d : CompletePresentation k n qs) where
+  -- a left side of one list holds a left side of the other
+  holds-left : (x : Rule) → List·Memᴰ x rs → (y : Rule) × List·Memᴰ y qs × ((b a : List ℕ) × (x .left ≡ b ++ (y .left ++ a)))
+  holds-left x m = elim (reducible-or qs (x .left)) [
+    | inl i ↦
+        let e = c .steps x m .0 in
+        let j = complete-irreducible k n low rs c (x .left) e .1 (complete-irreducible k n low qs d (x .left) e .0 i) in
+        absurd (true≢false (sym (rw append-nil at (fits-at x [] [])) ∙ j x m 0))
+    | inr (v, r) ↦ let (b, a, y, q, e, f) = reduces-exactly qs (x .left) v .0 r in (y, q, (b, a, e))
+  ]
+
+-- a word inside another that is no longer is that word
+same-word : (u v b a : List ℕ) → u ≡ b ++ (v ++ a) → length u ≤ length v → u ≡ v
+same-word u v b a e h =
+    let l : length u ≡ length b + (length v + length a) = simp length-append at (ap length e) in
+    e ∙ rw (drop-of-length-le b {i = 0} (omega arith), drop-of-length-le a {i = 0} (omega arith)) (append-nil v)
+
+module _ (k : Kind) (n : ℕ) (low : least k ≤ n) (rs qs : List Rule) (c : CompletePresentation k n rs) (d : CompletePresentation k n qs) where
+  -- each rule of one list is in the other, but for what it shows
+  pub same-sides : (x : Rule) → List·Memᴰ x rs → (y : Rule) × List·Memᴰ y qs × (x .left ≡ y .left) × (x .right ≡ y .right)
+  same-sides x m = (y, q, l, right-normal k n low rs c x m ∙ ap (wordNormalForm k n) l ∙ sym (right-normal k n low qs d y q))
+    where
+      other : (y : Rule) × List·Memᴰ y qs × ((b a : List ℕ) × (x .left ≡ b ++ (y .left ++ a)))
+      other = holds-left k n low rs qs c d x m
+
+      y : Rule
+      y = other .0
+
+      q : List·Memᴰ y qs
+      q = other .1
+
+      again : (z : Rule) × List·Memᴰ z rs × ((b a : List ℕ) × (y .left ≡ b ++ (z .left ++ a)))
+      again = holds-left k n low qs rs d c y q
+
+      l : x .left ≡ y .left
+      l =
+          let (b, a, e) = other .2 in
+          let (z, p, (g, h, f)) = again in
+          let i : x .left ≡ (b ++ g) ++ (z .left ++ (h ++ a)) = e ∙ ap (λ (w : List ℕ). b ++ (w ++ a)) f ∙ simp append-assoc in
+          let s : z ≡ x = same-entry k n low rs c x z m p (b ++ g) (h ++ a) i in
+          same-word (x .left) (y .left) b a e
+          (omega (arith, simp length-append at (ap length f), ap (λ (w : Rule). length (w .left)) s))
+
+  pairs-within : (l r : List ℕ) → Pair rs l r → Pair qs l r
+  pairs-within l r (pair x m) = let (y, q, e, f) = same-sides x m in subst₂ (Pair qs) (sym e) (sym f) (pair y q)
+
+  -- one list is no longer than the other: no two of its rules have one left side
+  length-le : length rs ≤ length qs
+  length-le =
+      omega (arith, length-map qs (λ x. x .left),
+      length-le-of-map (λ x. x .left) rs (map (λ x. x .left) qs) (complete-once k n low rs c)
+      (λ x y m q e. sym (same-entry k n low rs c x y m q [] [] (e ∙ sym (append-nil (y .left)))))
+      (λ x m. let (y, q, e, f) = same-sides x m in Memᴰ·cast e (Memᴰ·map (λ (z : Rule). z .left) q)))
+
+-- U10: two complete normalized presentations of a rig have the same sides, and as many rules
+pub presentations-same : (k : Kind) (n : ℕ) → least k ≤ n → (rs qs : List Rule) → CompletePresentation k n rs → CompletePresentation k n qs
+    → ((l r : List ℕ) → Pair rs l r ↔ Pair qs l r) × (length rs ≡ length qs)
+presentations-same k n low rs qs c d = (
+  λ l r. (pairs-within k n low rs qs c d l r, pairs-within k n low qs rs d c l r),
+  le-antisymm (length-le k n low rs qs c d) (length-le k n low qs rs d c),
+)

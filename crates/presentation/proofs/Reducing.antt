@@ -1,0 +1,144 @@
+-- Reductions by any list of rules: one reduction in plain terms, the words that have none, and what one reduction and
+-- a chain of them keep.
+--
+-- Sections: one reduction; irreducible words; chains; links; the order.
+-- Not here: chains of the rules of a rig (Confluence).
+-- Assumes nothing.
+use mathlib.Core.Path.{_≡_, refl, sym, ap, ap₂, subst, subst₂, _∙_}
+use mathlib.Core.Bool.{Bool, true, false, true≢false}
+use mathlib.Core.Logic.{_↔_, _⊎_, inl, inr, ⊎-elim}
+use mathlib.Core.List.{List, [], _∷_, _++_, append-assoc, List·Memᴰ}
+use Prim.Native.Nat.{ℕ, zero, suc, _≤_}
+use native.Mathlib.Decide.{decLe}
+use native.Mathlib.Omega.{arith}
+use lib.ListN.{length, length-append}
+use Rattle.coxeter.specs.Dictionary.{before, shortlex}
+use Rattle.coxeter.specs.Relations.{Use, forth, back, Linked, alone, next}
+use Rattle.coxeter.proofs.Links.{linked-trans, linked-sym, linked-context, linked-use}
+use Rattle.coxeter.proofs.Order.{shortlex-shorter, shortlex-before, shortlex-cases, shortlex-trans}
+use Rattle.coxeter.proofs.Orders.{before-exactly}
+use Rattle.coxeter.proofs.TestLaws.{not-true-false}
+use Rattle.rules.specs.Rules.{Rule, fits, rewritten, Irreducible}
+use Rattle.rules.proofs.Ending.{before-append}
+use Rattle.rules.proofs.Fits.{fits-split, fits-at, fits-past, rewritten-split}
+use Rattle.presentation.specs.Reductions.{Pair, pair, Reduces, within, Reductions, stays, step, ReducesTo}
+
+-- ---- one reduction
+
+-- U1: one reduction replaces the left side of a rule of the list, wherever it stands, by its right side
+pub reduces-exactly : (rs : List Rule) (u v : List ℕ) → Reduces rs u v
+    ↔ ((front rest : List ℕ) × (x : Rule) × List·Memᴰ x rs × (u ≡ front ++ (x .left ++ rest)) × (v ≡ front ++ (x .right ++ rest)))
+reduces-exactly rs u v = (parts, λ (b, a, x, m, p, q). rw (p, q) (within b a x m))
+  where
+    parts : {u v : List ℕ} → Reduces rs u v
+        → (front rest : List ℕ) × (x : Rule) × List·Memᴰ x rs × (u ≡ front ++ (x .left ++ rest)) × (v ≡ front ++ (x .right ++ rest))
+    parts (within b a x m) = (b, a, x, m, refl, refl)
+
+-- a rule that fits reduces the word
+pub reduces-of-fits : (rs : List Rule) (x : Rule) → List·Memᴰ x rs → (u : List ℕ) (p : ℕ) → p ≤ length u → fits x u p ≡ true → Reduces rs u (rewritten x u p)
+reduces-of-fits rs x m u p l f =
+    let s = fits-split x u p l f in
+    subst₂ (Reduces rs) (sym (s .3))
+    (sym (rewritten-split x (s .0) (s .1)) ∙ ap₂ (rewritten x) (sym (s .3)) (s .2))
+    (within (s .0) (s .1) x m)
+
+regroup : (x b l a y : List ℕ) → (x ++ b) ++ (l ++ (a ++ y)) ≡ x ++ ((b ++ (l ++ a)) ++ y)
+regroup x b l a y = simp append-assoc
+
+-- a reduction inside a longer word
+pub reduces-context : {rs : List Rule} {u v : List ℕ} (x y : List ℕ) → Reduces rs u v → Reduces rs (x ++ (u ++ y)) (x ++ (v ++ y))
+reduces-context {rs} x y (within b a z m) =
+    subst₂ (Reduces rs) (regroup x b (z .left) a y) (regroup x b (z .right) a y) (within (x ++ b) (a ++ y) z m)
+
+-- ---- irreducible words
+
+-- a rule with an empty left side fits everywhere, and reduces every word
+irreducible-of-no-reduction : (rs : List Rule) (u : List ℕ) → ((v : List ℕ) → Reduces rs u v → ⊥) → Irreducible rs u
+irreducible-of-no-reduction rs u f x m p = elim (decLe p (length u)) [
+  | yes l ↦ not-true-false (fits x u p) (λ e. f _ (reduces-of-fits rs x m u p l e))
+  | no l ↦ past (omega arith) (x .left) refl
+]
+  where
+    past : length u ≤ p → (l : List ℕ) → x .left ≡ l → fits x u p ≡ false
+    past h [] e = absurd (f _ (subst (λ (w : List ℕ). Reduces rs w (x .right ++ u)) (ap (λ (l : List ℕ). l ++ u) e) (within [] u x m)))
+    past h (a ∷ l) e = fits-past x u p (rw e (omega arith)) h
+
+-- U1, T10: a word is irreducible exactly if no reduction leads on from it
+pub irreducible-exactly : (rs : List Rule) (u : List ℕ) → Irreducible rs u ↔ ((v : List ℕ) → Reduces rs u v → ⊥)
+irreducible-exactly rs u = (λ i v r. stuck i r, irreducible-of-no-reduction rs u)
+  where
+    stuck : {u v : List ℕ} → Irreducible rs u → Reduces rs u v → ⊥
+    stuck i (within b a x m) = true≢false (sym (fits-at x b a) ∙ i x m (length b))
+
+-- a part of an irreducible word
+pub irreducible-part : (rs : List Rule) (x u y : List ℕ) → Irreducible rs (x ++ (u ++ y)) → Irreducible rs u
+irreducible-part rs x u y i =
+    irreducible-of-no-reduction rs u (λ v r. irreducible-exactly rs (x ++ (u ++ y)) .0 i (x ++ (v ++ y)) (reduces-context x y r))
+
+-- a letter before an irreducible word
+pub irreducible-cons : (rs : List Rule) (a : ℕ) (u : List ℕ) → Irreducible rs u → ((x : Rule) → List·Memᴰ x rs → fits x (a ∷ u) 0 ≡ false) → Irreducible rs (a ∷ u)
+unfolding fits
+irreducible-cons rs a u i f x m zero = f x m
+irreducible-cons rs a u i f x m (suc p) = i x m p
+
+-- ---- chains
+
+pub reducesTo-one : {rs : List Rule} {u v : List ℕ} → Reduces rs u v → ReducesTo rs u v
+reducesTo-one r = (1, step r stays)
+
+pub reducesTo-trans : {rs : List Rule} {u v w : List ℕ} → ReducesTo rs u v → ReducesTo rs v w → ReducesTo rs u w
+reducesTo-trans {rs} (t, p) q = go p q
+  where
+    go : {t : ℕ} {u v w : List ℕ} → Reductions rs t u v → ReducesTo rs v w → ReducesTo rs u w
+    go stays q = q
+    go (step r p) q = let z = go p q in (suc (z .0), step r (z .1))
+
+-- an irreducible word has no descendant but itself
+pub reducesTo-same : {rs : List Rule} {u v : List ℕ} → Irreducible rs u → ReducesTo rs u v → u ≡ v
+reducesTo-same {rs} i (t, p) = go i p
+  where
+    go : {t : ℕ} {u v : List ℕ} → Irreducible rs u → Reductions rs t u v → u ≡ v
+    go i stays = refl
+    go {u = u} i (step {v = v} r p) = absurd (irreducible-exactly rs u .0 i v r)
+
+-- ---- links
+
+pub reduces-linked : {rs : List Rule} {u v : List ℕ} → Reduces rs u v → Linked (Pair rs) u v
+reduces-linked (within b a x m) = linked-use (forth b a (pair x m))
+
+pub reducesTo-linked : {rs : List Rule} {u v : List ℕ} → ReducesTo rs u v → Linked (Pair rs) u v
+reducesTo-linked {rs} (t, p) = go p
+  where
+    go : {t : ℕ} {u v : List ℕ} → Reductions rs t u v → Linked (Pair rs) u v
+    go stays = alone
+    go (step r p) = linked-trans (reduces-linked r) (go p)
+
+-- words with a descendant in common are linked
+pub joined-linked : {rs : List Rule} {u v z : List ℕ} → ReducesTo rs u z → ReducesTo rs v z → Linked (Pair rs) u v
+joined-linked p q = linked-trans (reducesTo-linked p) (linked-sym (reducesTo-linked q))
+
+-- what links the two sides of each pair of R links all that R links
+pub linked-flat : {R S : List ℕ → List ℕ → Type 0} {u v : List ℕ} → ((l r : List ℕ) → R l r → Linked S l r) → Linked R u v → Linked S u v
+linked-flat f alone = alone
+linked-flat f (next (forth x y {l} {r} h) q) = linked-trans (linked-context x y (f l r h)) (linked-flat f q)
+linked-flat f (next (back x y {l} {r} h) q) = linked-trans (linked-context x y (linked-sym (f l r h))) (linked-flat f q)
+
+-- ---- the order
+
+-- what comes before another word of its length does so with anything behind both
+before-behind : (u v y : List ℕ) → length u ≡ length v → before u v ≡ true → before (u ++ y) (v ++ y) ≡ true
+before-behind u v y e h = elim (before-exactly u v .0 h) [
+  | inl (x, s, t, a, b, l, p, q) ↦
+      rw (p, q) (before-exactly ((x ++ (a ∷ s)) ++ y) ((x ++ (b ∷ t)) ++ y) .1
+      (inl (x, s ++ y, t ++ y, a, b, l, append-assoc x (a ∷ s) y, append-assoc x (b ∷ t) y)))
+  | inr (a, z, q) ↦ absurd (omega (arith, simp length-append at (ap length q)))
+]
+
+-- the order by length and dictionary inside longer words
+pub shortlex-within : (x u v y : List ℕ) → shortlex u v ≡ true → shortlex (x ++ (u ++ y)) (x ++ (v ++ y)) ≡ true
+shortlex-within x u v y h = elim (shortlex-cases u v h) [
+  | inl l ↦ shortlex-shorter (x ++ (u ++ y)) (x ++ (v ++ y)) (simp length-append (omega arith))
+  | inr (e, b) ↦
+      shortlex-before (x ++ (u ++ y)) (x ++ (v ++ y)) (simp length-append (omega arith))
+      (before-append x (u ++ y) (v ++ y) ∙ before-behind u v y e b)
+]
