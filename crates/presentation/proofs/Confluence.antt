@@ -3,29 +3,24 @@
 --
 -- Sections: reductions and rewritings; the normal form; what is presented.
 -- Assumes nothing.
-use mathlib.Core.Path.{_≡_, refl, sym, ap, subst, subst₂, _∙_}
+use mathlib.Core.Path.{_≡_, sym, ap, subst, subst₂}
 use mathlib.Core.Bool.{false}
 use mathlib.Core.Logic.{_↔_}
-use mathlib.Core.List.{List, [], _∷_, _++_, List·Memᴰ}
-use Prim.Native.Nat.{ℕ, zero, suc, _+_, _≤_, _<_}
-use native.Mathlib.Omega.{arith}
-use lib.IntN.{ℤ}
+use mathlib.Core.List.{List, _++_}
+use Prim.Native.Nat.{ℕ, suc, _≤_}
 use Rattle.coxeter.specs.Kinds.{Kind, least}
-use Rattle.coxeter.specs.Windows.{window}
 use Rattle.coxeter.specs.Checks.{wrongLetter}
-use Rattle.coxeter.specs.Dictionary.{shortlex}
 use Rattle.coxeter.specs.Relations.{Relation, Linked}
 use Rattle.coxeter.specs.NormalForm.{normalForm, wordNormalForm}
 use Rattle.coxeter.proofs.Links.{linked-one}
 use Rattle.coxeter.proofs.Relations.{linked-window, relation-letters}
-use Rattle.rules.specs.Rules.{Rule, rules, Irreducible}
+use Rattle.rules.specs.Rules.{rules, Irreducible}
 use Rattle.rules.proofs.Rewriting as rewriting
 use Rattle.rules.proofs.Completeness as complete
-use Rattle.rules.proofs.Ending.{value}
 use Rattle.rules.proofs.RuleList.{rule-of-list, list-of-rule}
 use Rattle.rules.proofs.Theorems.{rule-linked}
 use Rattle.presentation.specs.Reductions.{Pair, pair, Reduces, within, Reductions, stays, step, ReducesTo}
-use Rattle.presentation.proofs.Reducing.{reducesTo-same, joined-linked, linked-flat}
+use Rattle.presentation.proofs.Reducing.{joined-linked, linked-flat}
 
 module _ (k : Kind) (n : ℕ) (low : least k ≤ n) where
   -- ---- reductions and rewritings
@@ -70,21 +65,6 @@ module _ (k : Kind) (n : ℕ) (low : least k ≤ n) where
   -- U7: the irreducible words of steps are the normal forms
   pub irreducible-normal : (u : List ℕ) → wrongLetter n u ≡ false → Irreducible (rules k n) u ↔ (u ≡ wordNormalForm k n u)
   irreducible-normal u e = complete.irreducible-iff k n u low e
-
-  -- no rule fits into a normal form
-  pub normalForm-irreducible : (u : List ℕ) → Irreducible (rules k n) (wordNormalForm k n u)
-  normalForm-irreducible u = complete.irreducible-of-not-rewritten k n _ low (λ v r. complete.normalForm-irreducible k n u low r)
-
-  -- U7: of the descendants of a word just its normal form is irreducible
-  pub rules-normal-form : (u v : List ℕ) → wrongLetter n u ≡ false
-      → (ReducesTo (rules k n) u v × Irreducible (rules k n) v) ↔ (v ≡ wordNormalForm k n u)
-  rules-normal-form u v e = (
-    λ (p, i). irreducible-normal v (reducesTo-letters p e) .0 i ∙ sym (reducesTo-normalForm p),
-    λ q. (
-      subst (ReducesTo (rules k n) u) (sym q) (reducesTo-wordNormalForm u e),
-      subst (Irreducible (rules k n)) (sym q) (normalForm-irreducible u),
-    ),
-  )
 
   -- ---- what is presented
 

@@ -3,9 +3,9 @@
 -- Sections: sums; the families; the list.
 -- Assumes nothing.
 use mathlib.Core.Path.{_≡_, refl, sym, ap, ap₂, _∙_}
-use mathlib.Core.Bool.{Bool, true, false, _&&_}
-use mathlib.Core.List.{List, [], _∷_, _++_}
-use Prim.Native.Nat.{ℕ, zero, suc, _+_, _-_, _*_, _≤_, _<_}
+use mathlib.Core.Bool.{_&&_}
+use mathlib.Core.List.{List, [], _∷_}
+use Prim.Native.Nat.{ℕ, zero, suc, _+_, _-_, _*_, _≤_}
 use native.Mathlib.Nat.{suc-mul, mul-suc}
 use native.Mathlib.Decide.{ℕ-discrete}
 use native.Mathlib.Omega.{arith}
@@ -14,7 +14,6 @@ use lib.ListN.{length, length-append}
 use borrow.Author.Tests.{eq-eqb, ne-eqb}
 use Rattle.coxeter.specs.Kinds.{Kind, A, B, D, pick, least, up}
 use Rattle.coxeter.specs.NormalForm.{rise}
-use Rattle.coxeter.proofs.Basics.{length-up}
 use Rattle.rules.specs.Rules.{Rule, rule, each, exchanged, carried, turned, family1, family2, family3, family4, families5to7, rules}
 use Rattle.presentation.specs.Presentations.{ruleCount}
 
@@ -120,7 +119,8 @@ length-family3-A : (n : ℕ) → 2 * length (family3 A n) + n ≡ n * n
 unfolding family3
 length-family3-A n =
     let terms : suc n - 1 ≡ n = omega arith in
-    omega (arith, length-table (carried A n) (λ i. i + 1) (λ i. n) 1 n ∙ ap (total (λ i. suc n - (i + 1)) 1) terms, total-up n 1 n (omega arith))
+    let q = length-table (carried A n) (λ i. i + 1) (λ i. n) 1 n ∙ ap (total (λ i. suc n - (i + 1)) 1) terms in
+    omega (arith, total-up n 1 n (omega arith))
 
 module _ (n d : ℕ) (e : suc d ≡ n) where
   terms : suc n - 1 ≡ suc d
@@ -130,11 +130,19 @@ module _ (n d : ℕ) (e : suc d ≡ n) where
   length-family2 : (k : Kind) → least k ≤ n → 2 * length (family2 k n) + 3 * n ≡ n * n + 2
   unfolding family2 rise
   length-family2 A l =
-      omega (arith, length-table exchanged (λ i. i + 2) (λ i. n) 1 n ∙ ap (total (λ i. suc n - (i + 2)) 1) terms,
-      total-apart n 1 d (omega arith), square-of d n e)
+      omega (
+        arith,
+        length-table exchanged (λ i. i + 2) (λ i. n) 1 n ∙ ap (total (λ i. suc n - (i + 2)) 1) terms,
+        total-apart n 1 d (omega arith),
+        square-of d n e,
+      )
   length-family2 B l =
-      omega (arith, length-table exchanged (λ i. i + 2) (λ i. n) 1 n ∙ ap (total (λ i. suc n - (i + 2)) 1) terms,
-      total-apart n 1 d (omega arith), square-of d n e)
+      omega (
+        arith,
+        length-table exchanged (λ i. i + 2) (λ i. n) 1 n ∙ ap (total (λ i. suc n - (i + 2)) 1) terms,
+        total-apart n 1 d (omega arith),
+        square-of d n e,
+      )
   length-family2 D l =
       let q = length-each (pairs n) (without n) (length-pairs n) 1 (suc n - 1) ∙ ap (total (without n) 1) terms in
       simp length-append (omega (arith, q, total-without n 1 d (omega arith) (omega arith), square-of d n e))
@@ -142,22 +150,34 @@ module _ (n d : ℕ) (e : suc d ≡ n) where
   length-family3-B : length (family3 B n) + 3 * n ≡ n * n + 2
   unfolding family3
   length-family3-B =
-      omega (arith, length-table (carried B n) (λ i. i + 1) (λ i. 2 * n - i - 2) 1 n
-      ∙ ap (total (λ i. suc (2 * n - i - 2) - (i + 1)) 1) terms, total-turned n 1 d (omega arith), square-of d n e)
+      omega (
+        arith,
+        length-table (carried B n) (λ i. i + 1) (λ i. 2 * n - i - 2) 1 n
+            ∙ ap (total (λ i. suc (2 * n - i - 2) - (i + 1)) 1) terms,
+        total-turned n 1 d (omega arith),
+        square-of d n e,
+      )
 
 length-family3-D : (n c : ℕ) → c + 3 ≡ n → length (family3 D n) + 3 * n ≡ n * n + 1
 unfolding family3
 length-family3-D n c e =
     let terms : suc (n - 3) - 1 ≡ c = omega arith in
     simp length-append
-    (omega (arith, length-table (carried D n) (λ i. i + 1) (λ i. 2 * n - i - 2) 1 (n - 3)
-    ∙ ap (total (λ i. suc (2 * n - i - 2) - (i + 1)) 1) terms, total-forked n 1 c (omega arith),
-    square-of c (suc c) refl, square-of (suc c) (suc (suc c)) refl, square-of (suc (suc c)) n (omega arith)))
+    (omega (
+      arith,
+      length-table (carried D n) (λ i. i + 1) (λ i. 2 * n - i - 2) 1 (n - 3)
+          ∙ ap (total (λ i. suc (2 * n - i - 2) - (i + 1)) 1) terms,
+      total-forked n 1 c (omega arith),
+      square-of c (suc c) refl,
+      square-of (suc c) (suc (suc c)) refl,
+      square-of (suc (suc c)) n (omega arith),
+    ))
 
 -- ---- the list
 
 length-rules : (k : Kind) (n : ℕ)
-    → length (rules k n) ≡ length (family1 n) + (length (family2 k n) + (length (family3 k n) + (length (family4 k n) + length (families5to7 k n))))
+    → length (rules k n)
+    ≡ length (family1 n) + (length (family2 k n) + (length (family3 k n) + (length (family4 k n) + length (families5to7 k n))))
 unfolding rules
 length-rules k n = simp length-append
 
@@ -169,9 +189,21 @@ rules-count A n l =
     omega (arith, length-rules A n, length-family1 n, length-family2 n (n - 1) e A l, length-family3-A n)
 rules-count B n l =
     let e : suc (n - 1) ≡ n = omega arith in
-    omega (arith, length-rules B n, length-family1 n, length-family2 n (n - 1) e B l, length-family3-B n (n - 1) e,
-    length-row (turned B n) 1 (n - 1))
+    omega (
+      arith,
+      length-rules B n,
+      length-family1 n,
+      length-family2 n (n - 1) e B l,
+      length-family3-B n (n - 1) e,
+      length-row (turned B n) 1 (n - 1),
+    )
 rules-count D n l =
     let e : suc (n - 1) ≡ n = omega arith in
-    omega (arith, length-rules D n, length-family1 n, length-family2 n (n - 1) e D l, length-family3-D n (n - 3) (omega arith),
-    length-row (turned D n) 1 (n - 3))
+    omega (
+      arith,
+      length-rules D n,
+      length-family1 n,
+      length-family2 n (n - 1) e D l,
+      length-family3-D n (n - 3) (omega arith),
+      length-row (turned D n) 1 (n - 3),
+    )

@@ -5,14 +5,15 @@
 use mathlib.Core.Path.{_≡_, refl, sym, ap, subst, _∙_}
 use mathlib.Core.Bool.{Bool, true, false, _&&_}
 use mathlib.Core.Logic.{⊎-elim}
-use mathlib.Core.List.{List, [], _∷_, _++_, List·Memᴰ, List·Memᴰ·head, List·Memᴰ·tail, List·Memᴰ·not-nil}
-use mathlib.Core.List.{List·Memᴰ·cases-cons, List·Memᴰ·append-cases, List·Memᴰ·eq-of-singleton, Memᴰ·cast, Memᴰ·append-left, Memᴰ·append-right}
+use mathlib.Core.List.{List, [], _∷_, _++_, List·Memᴰ·head, List·Memᴰ·tail, List·Memᴰ·not-nil}
+use mathlib.Core.List.{List·Memᴰ·append-cases, List·Memᴰ·eq-of-singleton, Memᴰ·cast, Memᴰ·append-right}
 use Prim.Native.Nat.{ℕ, suc, _+_, _-_, _*_, _≤_, _<_}
 use native.Mathlib.Omega.{arith}
 use lib.Dec.{eqb}
 use Rattle.coxeter.specs.Kinds.{Kind, A, B, D, pick, least}
 use Rattle.coxeter.specs.NormalForm.{rise}
-use Rattle.rules.specs.Rules.{Rule, rule, each, exchanged, carried, turned, family1, family2, family3, family4, families5to7, rules, fits, Irreducible}
+use Rattle.rules.specs.Rules.{Rule, rule, each, exchanged, carried, turned, fits, Irreducible}
+use Rattle.rules.specs.Rules.{family1, family2, family3, family4, families5to7, rules}
 use Rattle.coxeter.proofs.TestLaws.{not-true-false}
 use Rattle.rules.proofs.Letters.{mem-rise}
 use Rattle.distribution.specs.AllWindows.{In, Once}
@@ -33,8 +34,8 @@ of-each f (i ∷ is) x m =
     (List·Memᴰ·append-cases (f i) m)
 
 -- a number that the rules of each part show is that of the part
-once-each : (f : ℕ → List Rule) (label : Rule → ℕ) (is : List ℕ) → Once is → ((i : ℕ) → Once (f i)) → ((i : ℕ) (x : Rule) → In x (f i) → label x ≡ i)
-    → Once (each f is)
+once-each : (f : ℕ → List Rule) (label : Rule → ℕ) (is : List ℕ) → Once is → ((i : ℕ) → Once (f i))
+    → ((i : ℕ) (x : Rule) → In x (f i) → label x ≡ i) → Once (each f is)
 unfolding each
 once-each f label [] o p q = tt
 once-each f label (i ∷ is) o p q =
@@ -69,10 +70,15 @@ part-one : (y : Rule) → Part (y .family) (y .family) (y ∷ [])
 part-one y = (once-one y, λ x m. let e = ap (λ (z : Rule). z .family) (List·Memᴰ·eq-of-singleton m) in (omega arith, omega arith))
 
 -- two parts without a rule in common
-part-append : (a b c d : ℕ) (rs qs : List Rule) → Part a b rs → Part c d qs → a ≤ c → b ≤ d → ((x : Rule) → In x rs → In x qs → ⊥) → Part a d (rs ++ qs)
+part-append : (a b c d : ℕ) (rs qs : List Rule) → Part a b rs → Part c d qs → a ≤ c → b ≤ d → ((x : Rule) → In x rs → In x qs → ⊥)
+    → Part a d (rs ++ qs)
 part-append a b c d rs qs p q h g f = (
   once-append rs qs (p .0) (q .0) f,
-  λ x m. ⊎-elim (λ s. let t = p .1 x s in (omega arith, omega arith)) (λ s. let t = q .1 x s in (omega arith, omega arith)) (List·Memᴰ·append-cases rs m),
+  λ x m.
+      ⊎-elim
+      (λ s. let t = p .1 x s in (omega arith, omega arith))
+      (λ s. let t = q .1 x s in (omega arith, omega arith))
+      (List·Memᴰ·append-cases rs m),
 )
 
 -- parts of different families
@@ -199,8 +205,8 @@ rules-once k n l =
 -- ---- left sides
 
 -- U6: none of the other entries fits into a left side
-pub rules-left-irreducible : (k : Kind) (n : ℕ) → least k ≤ n → (front : List Rule) (x : Rule) (rest : List Rule) → rules k n ≡ front ++ (x ∷ rest)
-    → Irreducible (front ++ rest) (x .left)
+pub rules-left-irreducible : (k : Kind) (n : ℕ) → least k ≤ n
+    → (front : List Rule) (x : Rule) (rest : List Rule) → rules k n ≡ front ++ (x ∷ rest) → Irreducible (front ++ rest) (x .left)
 rules-left-irreducible k n low front x rest e y m p = not-true-false (fits y (x .left) p) (λ f.
     let member : (z : Rule) → In z (front ++ (x ∷ rest)) → In z (rules k n) = λ z. subst (In z) (sym e) in
     let q = left-fits k n low x y (member x (Memᴰ·append-right front (List·Memᴰ·head refl))) (member y (of-others front x y rest m)) p f in

@@ -1,6 +1,6 @@
 -- An entry of a list and the other entries: what stands before it and behind it.
 -- Assumes nothing.
-use mathlib.Core.Path.{_≡_, refl, sym, ap, _∙_}
+use mathlib.Core.Path.{_≡_, refl, sym, ap}
 use mathlib.Core.Logic.{_⊎_, inl, inr, ⊎-elim}
 use mathlib.Core.List.{List, [], _∷_, _++_, List·Memᴰ·head, List·Memᴰ·tail, List·Memᴰ·cases-cons}
 use mathlib.Core.List.{List·Memᴰ·append-cases, Memᴰ·cast, Memᴰ·append-left, Memᴰ·append-right}
@@ -17,7 +17,8 @@ module _ {X : Type 0} where
 
   -- the others are in the list
   pub of-others : (front : List X) (x y : X) (rest : List X) → In y (front ++ rest) → In y (front ++ (x ∷ rest))
-  of-others front x y rest m = ⊎-elim (Memᴰ·append-left (x ∷ rest)) (λ s. Memᴰ·append-right front (List·Memᴰ·tail s)) (List·Memᴰ·append-cases front m)
+  of-others front x y rest m =
+      ⊎-elim (Memᴰ·append-left (x ∷ rest)) (λ s. Memᴰ·append-right front (List·Memᴰ·tail s)) (List·Memᴰ·append-cases front m)
 
   -- what is in the list is the entry or one of the others
   pub or-others : (front : List X) (x y : X) (rest : List X) → In y (front ++ (x ∷ rest)) → (y ≡ x) ⊎ In y (front ++ rest)

@@ -7,5 +7,10 @@ pub mod Normalized
 pub mod Sides
 pub mod Distinct
 pub mod Counting
+pub mod Complete
 pub mod Only
+pub mod Exactly
 pub mod Presentations
+pub mod OneRewrite
+pub mod Sentences
+pub mod WrongLists

@@ -8,14 +8,13 @@ use mathlib.Core.Path.{_≡_, refl, sym, ap, subst, _∙_}
 use mathlib.Core.Bool.{Bool, true, false, true≢false}
 use mathlib.Core.List.{List, [], _∷_, _++_, append-assoc, append-nil, List·Memᴰ}
 use Prim.Native.Nat.{ℕ, zero, suc, _+_, _-_, _≤_, _<_}
-use native.Mathlib.Decide.{decLe}
 use native.Mathlib.Omega.{arith}
 use lib.Dec.{ltb}
 use lib.ListN.{length, getD, drop, length-append, List·getD-append}
 use borrow.Author.Tests.{ltb-true, ltb-false}
 use Rattle.coxeter.specs.Kinds.{Kind, least}
 use Rattle.coxeter.proofs.TestLaws.{not-true-false}
-use Rattle.rules.specs.Rules.{Rule, rules, begins, fits, Irreducible}
+use Rattle.rules.specs.Rules.{Rule, rules, fits, Irreducible}
 use Rattle.rules.proofs.Fits.{begins-append, begins-split}
 use Rattle.rules.proofs.ScanRules.{fitting-unique}
 use Rattle.traces.proofs.LeftSides.{lower, Shape, shape-of-rule, left-two, drops, moves, sides-of-rule}
@@ -70,7 +69,8 @@ module _ (k : Kind) (n : ℕ) (low : least k ≤ n) where
       fitting-unique k n (x .left) 0 y x low q m (rw e (begins-append (y .left) u)) (rw append-nil at (begins-append (x .left) []))
 
   -- a left side without its last letter
-  front-irreducible : (x : Rule) → List·Memᴰ x (rules k n) → (b z : ℕ) (l : List ℕ) → x .left ≡ (b ∷ l) ++ (z ∷ []) → Irreducible (rules k n) (b ∷ l)
+  front-irreducible : (x : Rule) → List·Memᴰ x (rules k n) → (b z : ℕ) (l : List ℕ) → x .left ≡ (b ∷ l) ++ (z ∷ [])
+      → Irreducible (rules k n) (b ∷ l)
   unfolding fits
   front-irreducible x m b z l p = irreducible-cons (rules k n) b l inner (λ y q. not-true-false _ (first y q))
     where

@@ -2,66 +2,35 @@
 -- exactly if it is the normal form of its window, so that all have the same irreducible words; then each left side of
 -- one holds a left side of another, and that one a left side of the first, which can only be the same one.
 --
--- Sections: reducible or not; links and descendants; irreducible words; two presentations.
+-- Sections: links and descendants; irreducible words; entries; two presentations.
 -- Assumes nothing.
-use mathlib.Core.Path.{_≡_, refl, sym, ap, ap₂, subst, subst₂, _∙_}
+use mathlib.Core.Path.{_≡_, refl, sym, ap, subst, subst₂, _∙_}
 use mathlib.Core.Bool.{true, false, true≢false}
 use mathlib.Core.Logic.{_↔_, _⊎_, inl, inr, ⊎-elim}
-use mathlib.Core.List.{List, [], _∷_, _++_, append-assoc, append-nil, map, List·Memᴰ, List·Memᴰ·head, List·Memᴰ·tail, List·Memᴰ·cases-cons}
-use mathlib.Core.List.{List·Memᴰ·append-cases, Memᴰ·cast, Memᴰ·map, Memᴰ·append-left, Memᴰ·append-right}
-use mathlib.Core.Option.{Option, none, some}
-use Prim.Native.Nat.{ℕ, zero, suc, _+_, _≤_, _<_}
+use mathlib.Core.List.{List, [], _++_, append-assoc, append-nil, map, List·Memᴰ}
+use mathlib.Core.List.{Memᴰ·cast, Memᴰ·map}
+use Prim.Native.Nat.{ℕ, _+_, _≤_}
 use native.Mathlib.Nat.{le-antisymm}
-use native.Mathlib.Decide.{ℕ-discrete}
 use native.Mathlib.Omega.{arith}
 use lib.ListN.{length, length-append, length-map, drop-of-length-le}
 use Rattle.coxeter.specs.Kinds.{Kind, least}
 use Rattle.coxeter.specs.Windows.{window}
 use Rattle.coxeter.specs.Checks.{wrongLetter}
 use Rattle.coxeter.specs.Dictionary.{shortlex}
-use Rattle.coxeter.specs.Relations.{Relation, Use, forth, back, Linked, alone, next}
+use Rattle.coxeter.specs.Relations.{forth, back, Linked, alone, next}
 use Rattle.coxeter.specs.NormalForm.{normalForm, wordNormalForm}
-use Rattle.coxeter.proofs.Links.{linked-use, linked-sym, linked-one}
+use Rattle.coxeter.proofs.Links.{linked-sym, linked-one}
 use Rattle.coxeter.proofs.Order.{shortlex-trans, shortlex-irrefl, shortlex-asymm}
 use Rattle.coxeter.proofs.Relations.{linked-window, linked-letters}
-use Rattle.rules.specs.Rules.{Rule, fits, firstFitting, Irreducible}
-use Rattle.rules.proofs.Fits.{fits-at, firstFitting-some, firstFitting-none}
+use Rattle.rules.specs.Rules.{Rule, Irreducible}
 use Rattle.rules.proofs.Completeness.{normalForm-linked, normalForm-least-window}
 use Rattle.distribution.specs.AllWindows.{In, Once}
 use Rattle.distribution.proofs.Members.{length-le-of-map}
 use Rattle.presentation.specs.Reductions.{Pair, pair, Reduces, within, Reductions, stays, step, ReducesTo}
 use Rattle.presentation.specs.Presentations.{CompletePresentation}
-use Rattle.presentation.proofs.Reducing.{reduces-exactly, reduces-of-fits, irreducible-exactly, reducesTo-one, reducesTo-trans, reducesTo-same, reduces-linked, reducesTo-linked}
-use Rattle.presentation.proofs.Reducing.{shortlex-within}
+use Rattle.presentation.proofs.Reducing.{reduces-exactly, irreducible-exactly, irreducible-stops, reducible-or, reducesTo-one}
+use Rattle.presentation.proofs.Reducing.{reducesTo-trans, reducesTo-same, reduces-linked, reducesTo-linked, shortlex-within}
 use Rattle.presentation.proofs.Entries.{entry-of, or-others, once-of-others}
-
--- ---- reducible or not
-
--- a word is irreducible, or some reduction leads on from it
-pub reducible-or : (rs : List Rule) (u : List ℕ) → Irreducible rs u ⊎ ((v : List ℕ) × Reduces rs u v)
-reducible-or rs u = elim (search (suc (length u)) (omega arith)) [
-  | inl f ↦ inl (irreducible-exactly rs u .1 (λ v r. stuck f r))
-  | inr r ↦ inr r
-]
-  where
-    search : (t : ℕ) → t ≤ suc (length u) → ((p : ℕ) → p < t → (x : Rule) → List·Memᴰ x rs → fits x u p ≡ false) ⊎ ((v : List ℕ) × Reduces rs u v)
-    search zero h = inl (λ p l. absurd (omega arith))
-    search (suc t) h = elim (search t (omega arith)) [
-      | inl f ↦ go f (firstFitting rs u t) refl
-      | inr r ↦ inr r
-    ]
-      where
-        go : ((p : ℕ) → p < t → (x : Rule) → List·Memᴰ x rs → fits x u p ≡ false) → (o : Option Rule) → firstFitting rs u t ≡ o
-            → ((p : ℕ) → p < suc t → (x : Rule) → List·Memᴰ x rs → fits x u p ≡ false) ⊎ ((v : List ℕ) × Reduces rs u v)
-        go f none e = inl (λ p l x m. elim (ℕ-discrete p t) [
-          | yes q ↦ rw q (firstFitting-none rs u t e x m)
-          | no q ↦ f p (omega arith) x m
-        ])
-        go f (some x) e = let (m, q) = firstFitting-some rs u t x e in inr (_, reduces-of-fits rs x m u t (omega arith) q)
-
-    stuck : {u v : List ℕ} → ((p : ℕ) → p < suc (length u) → (x : Rule) → List·Memᴰ x rs → fits x u p ≡ false) → Reduces rs u v → ⊥
-    stuck f (within b a x m) =
-        true≢false (sym (fits-at x b a) ∙ f (length b) (omega (arith, length-append b (x .left ++ a))) x m)
 
 -- ---- links and descendants
 
@@ -120,9 +89,10 @@ module _ (k : Kind) (n : ℕ) (low : least k ≤ n) (rs : List Rule) (c : Comple
       ]
 
   irreducible-of-normal : (u : List ℕ) → wrongLetter n u ≡ false → u ≡ wordNormalForm k n u → Irreducible rs u
-  irreducible-of-normal u e q = irreducible-exactly rs u .1 (λ v r.
+  irreducible-of-normal u e q = irreducible-stops rs u .1 (λ v r.
       let p = reduces-linked r in
-      not-earlier k n low u v (pair-letters u v p e) (sym (pair-window u v p)) (subst (λ (w : List ℕ). shortlex v w ≡ true) q (reduces-earlier r)))
+      not-earlier k n low u v (pair-letters u v p e) (sym (pair-window u v p))
+      (subst (λ (w : List ℕ). shortlex v w ≡ true) q (reduces-earlier r)))
 
   -- U7: by any complete normalized presentation the irreducible words of steps are the normal forms
   pub complete-irreducible : (u : List ℕ) → wrongLetter n u ≡ false → Irreducible rs u ↔ (u ≡ wordNormalForm k n u)
@@ -136,7 +106,7 @@ module _ (k : Kind) (n : ℕ) (low : least k ≤ n) (rs : List Rule) (c : Comple
         normal-of-irreducible v (pair-letters u v q e) i ∙ ap (normalForm k n) (sym (pair-window u v q)),
     λ q. rw q (
       let (z, p, s) = church-rosser (c .presenting u f .1 (normalForm-linked k n u low e)) e in
-      subst (ReducesTo rs u) (sym (reducesTo-same irreducible s)) p,
+          subst (ReducesTo rs u) (sym (reducesTo-same irreducible s)) p,
       irreducible,
     ),
   )
@@ -152,18 +122,18 @@ module _ (k : Kind) (n : ℕ) (low : least k ≤ n) (rs : List Rule) (c : Comple
   -- ---- entries
 
   -- an entry whose left side stands in that of another is the same entry
-  same-entry : (x y : Rule) → List·Memᴰ x rs → List·Memᴰ y rs → (b a : List ℕ) → x .left ≡ b ++ (y .left ++ a) → y ≡ x
+  pub same-entry : (x y : Rule) → List·Memᴰ x rs → List·Memᴰ y rs → (b a : List ℕ) → x .left ≡ b ++ (y .left ++ a) → y ≡ x
   same-entry x y m q b a e =
       let (front, rest, s) = entry-of m in
       elim (or-others front x y rest (subst (In y) s q)) [
         | inl t ↦ t
-        | inr t ↦ absurd (true≢false (sym (fits-at y b a) ∙ ap (λ (w : List ℕ). fits y w (length b)) (sym e) ∙ c .left-irreducible front x rest s y t (length b)))
+        | inr t ↦ absurd (irreducible-exactly (front ++ rest) (x .left) .0 (c .left-irreducible front x rest s) y t b a e)
       ]
 
   -- nothing stands twice
-  complete-once : Once rs
+  pub complete-once : Once rs
   complete-once = once-of-others rs (λ front x rest e m.
-      true≢false (sym (rw append-nil at (fits-at x [] [])) ∙ c .left-irreducible front x rest e x m 0))
+      irreducible-exactly (front ++ rest) (x .left) .0 (c .left-irreducible front x rest e) x m [] [] (sym (append-nil (x .left))))
 
   -- the right side of a rule is the normal form of its left side
   right-normal : (x : Rule) → List·Memᴰ x rs → x .right ≡ wordNormalForm k n (x .left)
@@ -180,7 +150,7 @@ module _ (k : Kind) (n : ℕ) (low : least k ≤ n) (rs qs : List Rule) (c : Com
     | inl i ↦
         let e = c .steps x m .0 in
         let j = complete-irreducible k n low rs c (x .left) e .1 (complete-irreducible k n low qs d (x .left) e .0 i) in
-        absurd (true≢false (sym (rw append-nil at (fits-at x [] [])) ∙ j x m 0))
+        absurd (irreducible-exactly rs (x .left) .0 j x m [] [] (sym (append-nil (x .left))))
     | inr (v, r) ↦ let (b, a, y, q, e, f) = reduces-exactly qs (x .left) v .0 r in (y, q, (b, a, e))
   ]
 
@@ -222,10 +192,13 @@ module _ (k : Kind) (n : ℕ) (low : least k ≤ n) (rs qs : List Rule) (c : Com
   -- one list is no longer than the other: no two of its rules have one left side
   length-le : length rs ≤ length qs
   length-le =
-      omega (arith, length-map qs (λ x. x .left),
-      length-le-of-map (λ x. x .left) rs (map (λ x. x .left) qs) (complete-once k n low rs c)
-      (λ x y m q e. sym (same-entry k n low rs c x y m q [] [] (e ∙ sym (append-nil (y .left)))))
-      (λ x m. let (y, q, e, f) = same-sides x m in Memᴰ·cast e (Memᴰ·map (λ (z : Rule). z .left) q)))
+      omega (
+        arith,
+        length-map qs (λ x. x .left),
+        length-le-of-map (λ x. x .left) rs (map (λ x. x .left) qs) (complete-once k n low rs c)
+            (λ x y m q e. sym (same-entry k n low rs c x y m q [] [] (e ∙ sym (append-nil (y .left)))))
+            (λ x m. let (y, q, e, f) = same-sides x m in Memᴰ·cast e (Memᴰ·map (λ (z : Rule). z .left) q)),
+      )
 
 -- U10: two complete normalized presentations of a rig have the same sides, and as many rules
 pub presentations-same : (k : Kind) (n : ℕ) → least k ≤ n → (rs qs : List Rule) → CompletePresentation k n rs → CompletePresentation k n qs

@@ -26,15 +26,13 @@ use Rattle.distribution.proofs.Members.{once-map}
 use Rattle.distribution.proofs.Counted.{order-exactly}
 use Rattle.distribution.specs.Distribution.{order}
 use Rattle.presentation.specs.Reductions.{Reduces}
-use Rattle.presentation.specs.Presentations.{CompletePresentation, IrreducibleWords, RulesPresent, RulesPresentHolds}
-use Rattle.presentation.proofs.Reducing.{irreducible-exactly, reduces-of-fits}
-use Rattle.presentation.proofs.Ending.{descending-bounded, descending-terminating}
-use Rattle.presentation.proofs.Confluence.{rewrites-of-reduces, reduces-of-rewrites, rules-confluent, irreducible-normal, rules-presenting}
-use Rattle.presentation.proofs.Normalized.{rules-right-irreducible}
-use Rattle.presentation.proofs.Sides.{rule-steps, rule-descending}
-use Rattle.presentation.proofs.Distinct.{rules-left-irreducible}
+use Rattle.presentation.specs.Presentations.{IrreducibleWords, RulesPresentHolds}
+use Rattle.presentation.proofs.Reducing.{irreducible-stops, reduces-of-fits}
+use Rattle.presentation.proofs.Confluence.{rewrites-of-reduces, reduces-of-rewrites, irreducible-normal}
 use Rattle.presentation.proofs.Counting.{rules-count}
-use Rattle.presentation.proofs.Only.{complete-normal-form, presentations-same}
+use Rattle.presentation.proofs.Only.{complete-normal-form}
+use Rattle.presentation.proofs.Complete.{rules-complete}
+use Rattle.presentation.proofs.Exactly.{presentation-exactly}
 
 module _ (k : Kind) (n : ℕ) (low : least k ≤ n) where
   -- ---- irreducible words
@@ -44,9 +42,11 @@ module _ (k : Kind) (n : ℕ) (low : least k ≤ n) where
   rules-block-words u e = (
     λ i. elim (blocks-or-rewrites k n low u e) [
       | inl b ↦ b
-      | inr (v, r) ↦ absurd (irreducible-exactly (rules k n) u .0 i v (reduces-of-rewrites k n low r))
+      | inr (v, r) ↦ absurd (irreducible-stops (rules k n) u .0 i v (reduces-of-rewrites k n low r))
     ],
-    λ (js, x, q). irreducible-normal k n low u e .1 (q ∙ sym (normalForm-blocks k n js x) ∙ ap (λ (w : List ℕ). normalForm k n (window k n w)) (sym q)),
+    λ (js, x, q).
+        irreducible-normal k n low u e .1
+        (q ∙ sym (normalForm-blocks k n js x) ∙ ap (λ (w : List ℕ). normalForm k n (window k n w)) (sym q)),
   )
 
   normal-irreducible : (w : List ℤ) → WindowOf k n w → (wrongLetter n (normalForm k n w) ≡ false) × Irreducible (rules k n) (normalForm k n w)
@@ -66,7 +66,8 @@ module _ (k : Kind) (n : ℕ) (low : least k ≤ n) where
           λ m.
               let (w, p, e) = Memᴰ·of-map (normalForm k n) ws m in
               subst (λ (u : List ℕ). (wrongLetter n u ≡ false) × Irreducible (rules k n) u) e (normal-irreducible w (exactly w .0 p)),
-          λ (e, i). Memᴰ·cast (irreducible-normal k n low u e .0 i) (Memᴰ·map (normalForm k n) (exactly (window k n u) .1 (window-passes k n u))),
+          λ (e, i).
+              Memᴰ·cast (irreducible-normal k n low u e .0 i) (Memᴰ·map (normalForm k n) (exactly (window k n u) .1 (window-passes k n u))),
         );
         number = length-map ws (normalForm k n) ∙ number;
       }
@@ -85,25 +86,13 @@ module _ (k : Kind) (n : ℕ) (low : least k ≤ n) where
         rw (← e) (reduces-of-fits (rules k n) x m u p (omega arith) g),
   )
 
-  -- ---- the theorem
-
-  rules-complete : CompletePresentation k n (rules k n)
-  rules-complete = record {
-    steps = rule-steps k n low;
-    descending = rule-descending k n low;
-    presenting = rules-presenting k n low;
-    terminating = descending-terminating n (rules k n) (λ x m. rule-steps k n low x m .1) (rule-descending k n low);
-    bounded = descending-bounded n (rules k n) (λ x m. rule-steps k n low x m .1) (rule-descending k n low);
-    confluent = rules-confluent k n low;
-    right-irreducible = rules-right-irreducible k n low;
-    left-irreducible = rules-left-irreducible k n low;
-  }
+-- ---- the theorem
 
 -- U2 to U12: of every kind and every rank from its lowest on
 pub rules-present : RulesPresentHolds
 rules-present k n low = record {
   complete = rules-complete k n low;
-  only = λ rs c. presentations-same k n low rs (rules k n) c (rules-complete k n low);
+  only = presentation-exactly k n low;
   normal-form = complete-normal-form k n low (rules k n) (rules-complete k n low);
   block-words = rules-block-words k n low;
   irreducible-words = rules-irreducible-words k n low;

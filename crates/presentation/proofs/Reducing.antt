@@ -4,23 +4,24 @@
 -- Sections: one reduction; irreducible words; chains; links; the order.
 -- Not here: chains of the rules of a rig (Confluence).
 -- Assumes nothing.
-use mathlib.Core.Path.{_≡_, refl, sym, ap, ap₂, subst, subst₂, _∙_}
-use mathlib.Core.Bool.{Bool, true, false, true≢false}
-use mathlib.Core.Logic.{_↔_, _⊎_, inl, inr, ⊎-elim}
+use mathlib.Core.Path.{_≡_, refl, sym, ap, ap₂, subst₂, _∙_}
+use mathlib.Core.Bool.{true, false, true≢false}
+use mathlib.Core.Logic.{_↔_, _⊎_, inl, inr}
 use mathlib.Core.List.{List, [], _∷_, _++_, append-assoc, List·Memᴰ}
-use Prim.Native.Nat.{ℕ, zero, suc, _≤_}
-use native.Mathlib.Decide.{decLe}
+use mathlib.Core.Option.{Option, none, some}
+use Prim.Native.Nat.{ℕ, zero, suc, _≤_, _<_}
+use native.Mathlib.Decide.{decLe, ℕ-discrete}
 use native.Mathlib.Omega.{arith}
 use lib.ListN.{length, length-append}
 use Rattle.coxeter.specs.Dictionary.{before, shortlex}
-use Rattle.coxeter.specs.Relations.{Use, forth, back, Linked, alone, next}
+use Rattle.coxeter.specs.Relations.{forth, back, Linked, alone, next}
 use Rattle.coxeter.proofs.Links.{linked-trans, linked-sym, linked-context, linked-use}
-use Rattle.coxeter.proofs.Order.{shortlex-shorter, shortlex-before, shortlex-cases, shortlex-trans}
+use Rattle.coxeter.proofs.Order.{shortlex-shorter, shortlex-before, shortlex-cases}
 use Rattle.coxeter.proofs.Orders.{before-exactly}
 use Rattle.coxeter.proofs.TestLaws.{not-true-false}
-use Rattle.rules.specs.Rules.{Rule, fits, rewritten, Irreducible}
+use Rattle.rules.specs.Rules.{Rule, fits, firstFitting, rewritten, Irreducible}
 use Rattle.rules.proofs.Ending.{before-append}
-use Rattle.rules.proofs.Fits.{fits-split, fits-at, fits-past, rewritten-split}
+use Rattle.rules.proofs.Fits.{fits-split, fits-at, fits-past, rewritten-split, firstFitting-some, firstFitting-none}
 use Rattle.presentation.specs.Reductions.{Pair, pair, Reduces, within, Reductions, stays, step, ReducesTo}
 
 -- ---- one reduction
@@ -34,8 +35,22 @@ reduces-exactly rs u v = (parts, λ (b, a, x, m, p, q). rw (p, q) (within b a x 
         → (front rest : List ℕ) × (x : Rule) × List·Memᴰ x rs × (u ≡ front ++ (x .left ++ rest)) × (v ≡ front ++ (x .right ++ rest))
     parts (within b a x m) = (b, a, x, m, refl, refl)
 
+-- U4, R1: the pairs of a list are the two sides of each of its rules
+pub pair-exactly : (rs : List Rule) (l r : List ℕ) → Pair rs l r ↔ ((x : Rule) × List·Memᴰ x rs × (x .left ≡ l) × (x .right ≡ r))
+pair-exactly rs l r = (parts, λ (x, m, p, q). subst₂ (Pair rs) p q (pair x m))
+  where
+    parts : {l r : List ℕ} → Pair rs l r → (x : Rule) × List·Memᴰ x rs × (x .left ≡ l) × (x .right ≡ r)
+    parts (pair x m) = (x, m, refl, refl)
+
+-- what has the sides of another list reduces as that one does
+pub reduces-map : {rs qs : List Rule} {u v : List ℕ} → ((l r : List ℕ) → Pair rs l r → Pair qs l r) → Reduces rs u v → Reduces qs u v
+reduces-map {qs = qs} f (within b a x m) =
+    let (y, q, e, g) = pair-exactly qs (x .left) (x .right) .0 (f (x .left) (x .right) (pair x m)) in
+    subst₂ (λ (l r : List ℕ). Reduces qs (b ++ (l ++ a)) (b ++ (r ++ a))) e g (within b a y q)
+
 -- a rule that fits reduces the word
-pub reduces-of-fits : (rs : List Rule) (x : Rule) → List·Memᴰ x rs → (u : List ℕ) (p : ℕ) → p ≤ length u → fits x u p ≡ true → Reduces rs u (rewritten x u p)
+pub reduces-of-fits : (rs : List Rule) (x : Rule) → List·Memᴰ x rs → (u : List ℕ) (p : ℕ) → p ≤ length u → fits x u p ≡ true
+    → Reduces rs u (rewritten x u p)
 reduces-of-fits rs x m u p l f =
     let s = fits-split x u p l f in
     subst₂ (Reduces rs) (sym (s .3))
@@ -52,31 +67,63 @@ reduces-context {rs} x y (within b a z m) =
 
 -- ---- irreducible words
 
--- a rule with an empty left side fits everywhere, and reduces every word
-irreducible-of-no-reduction : (rs : List Rule) (u : List ℕ) → ((v : List ℕ) → Reduces rs u v → ⊥) → Irreducible rs u
-irreducible-of-no-reduction rs u f x m p = elim (decLe p (length u)) [
-  | yes l ↦ not-true-false (fits x u p) (λ e. f _ (reduces-of-fits rs x m u p l e))
-  | no l ↦ past (omega arith) (x .left) refl
+-- U1, T10: a word is irreducible exactly if no left side stands in it
+pub irreducible-exactly : (rs : List Rule) (u : List ℕ) → Irreducible rs u
+    ↔ ((x : Rule) → List·Memᴰ x rs → (front rest : List ℕ) → u ≡ front ++ (x .left ++ rest) → ⊥)
+irreducible-exactly rs u = (
+  λ i x m b a e. true≢false (sym (fits-at x b a) ∙ ap (λ (w : List ℕ). fits x w (length b)) (sym e) ∙ i x m (length b)),
+  λ f x m p. elim (decLe p (length u)) [
+    | yes l ↦ not-true-false (fits x u p) (λ e. let (b, a, q, d) = fits-split x u p l e in f x m b a d)
+    | no l ↦ past f x m (omega arith) (x .left) refl
+  ],
+)
+  where
+    -- an empty left side stands everywhere
+    past : ((x : Rule) → List·Memᴰ x rs → (front rest : List ℕ) → u ≡ front ++ (x .left ++ rest) → ⊥) → (x : Rule) → List·Memᴰ x rs
+        → {p : ℕ} → length u ≤ p → (l : List ℕ) → x .left ≡ l → fits x u p ≡ false
+    past f x m h [] e = absurd (f x m [] u (ap (λ (l : List ℕ). l ++ u) (sym e)))
+    past f x m {p} h (a ∷ l) e = fits-past x u p (rw e (omega arith)) h
+
+-- U1: and exactly if no reduction leads on from it
+pub irreducible-stops : (rs : List Rule) (u : List ℕ) → Irreducible rs u ↔ ((v : List ℕ) → Reduces rs u v → ⊥)
+irreducible-stops rs u = (
+  λ i v r. let (b, a, x, m, e, f) = reduces-exactly rs u v .0 r in irreducible-exactly rs u .0 i x m b a e,
+  λ f. irreducible-exactly rs u .1 (λ x m b a e. f _ (reduces-exactly rs u (b ++ (x .right ++ a)) .1 (b, a, x, m, e, refl))),
+)
+
+-- a word is irreducible, or some reduction leads on from it
+pub reducible-or : (rs : List Rule) (u : List ℕ) → Irreducible rs u ⊎ ((v : List ℕ) × Reduces rs u v)
+reducible-or rs u = elim (search (suc (length u)) (omega arith)) [
+  | inl f ↦ inl (irreducible-exactly rs u .1 (λ x m b a e.
+      true≢false (sym (fits-at x b a) ∙ ap (λ (w : List ℕ). fits x w (length b)) (sym e)
+      ∙ f (length b) (omega (arith, ap length e, length-append b (x .left ++ a))) x m)))
+  | inr r ↦ inr r
 ]
   where
-    past : length u ≤ p → (l : List ℕ) → x .left ≡ l → fits x u p ≡ false
-    past h [] e = absurd (f _ (subst (λ (w : List ℕ). Reduces rs w (x .right ++ u)) (ap (λ (l : List ℕ). l ++ u) e) (within [] u x m)))
-    past h (a ∷ l) e = fits-past x u p (rw e (omega arith)) h
-
--- U1, T10: a word is irreducible exactly if no reduction leads on from it
-pub irreducible-exactly : (rs : List Rule) (u : List ℕ) → Irreducible rs u ↔ ((v : List ℕ) → Reduces rs u v → ⊥)
-irreducible-exactly rs u = (λ i v r. stuck i r, irreducible-of-no-reduction rs u)
-  where
-    stuck : {u v : List ℕ} → Irreducible rs u → Reduces rs u v → ⊥
-    stuck i (within b a x m) = true≢false (sym (fits-at x b a) ∙ i x m (length b))
+    search : (t : ℕ) → t ≤ suc (length u)
+        → ((p : ℕ) → p < t → (x : Rule) → List·Memᴰ x rs → fits x u p ≡ false) ⊎ ((v : List ℕ) × Reduces rs u v)
+    search zero h = inl (λ p l. absurd (omega arith))
+    search (suc t) h = elim (search t (omega arith)) [
+      | inl f ↦ go f (firstFitting rs u t) refl
+      | inr r ↦ inr r
+    ]
+      where
+        go : ((p : ℕ) → p < t → (x : Rule) → List·Memᴰ x rs → fits x u p ≡ false) → (o : Option Rule) → firstFitting rs u t ≡ o
+            → ((p : ℕ) → p < suc t → (x : Rule) → List·Memᴰ x rs → fits x u p ≡ false) ⊎ ((v : List ℕ) × Reduces rs u v)
+        go f none e = inl (λ p l x m. elim (ℕ-discrete p t) [
+          | yes q ↦ rw q (firstFitting-none rs u t e x m)
+          | no q ↦ f p (omega arith) x m
+        ])
+        go f (some x) e = let (m, q) = firstFitting-some rs u t x e in inr (_, reduces-of-fits rs x m u t (omega arith) q)
 
 -- a part of an irreducible word
 pub irreducible-part : (rs : List Rule) (x u y : List ℕ) → Irreducible rs (x ++ (u ++ y)) → Irreducible rs u
 irreducible-part rs x u y i =
-    irreducible-of-no-reduction rs u (λ v r. irreducible-exactly rs (x ++ (u ++ y)) .0 i (x ++ (v ++ y)) (reduces-context x y r))
+    irreducible-stops rs u .1 (λ v r. irreducible-stops rs (x ++ (u ++ y)) .0 i (x ++ (v ++ y)) (reduces-context x y r))
 
 -- a letter before an irreducible word
-pub irreducible-cons : (rs : List Rule) (a : ℕ) (u : List ℕ) → Irreducible rs u → ((x : Rule) → List·Memᴰ x rs → fits x (a ∷ u) 0 ≡ false) → Irreducible rs (a ∷ u)
+pub irreducible-cons : (rs : List Rule) (a : ℕ) (u : List ℕ) → Irreducible rs u → ((x : Rule) → List·Memᴰ x rs → fits x (a ∷ u) 0 ≡ false)
+    → Irreducible rs (a ∷ u)
 unfolding fits
 irreducible-cons rs a u i f x m zero = f x m
 irreducible-cons rs a u i f x m (suc p) = i x m p
@@ -93,13 +140,20 @@ reducesTo-trans {rs} (t, p) q = go p q
     go stays q = q
     go (step r p) q = let z = go p q in (suc (z .0), step r (z .1))
 
+pub reducesTo-map : {rs qs : List Rule} {u v : List ℕ} → ((l r : List ℕ) → Pair rs l r → Pair qs l r) → ReducesTo rs u v → ReducesTo qs u v
+reducesTo-map {rs} {qs} f (t, p) = (t, go p)
+  where
+    go : {t : ℕ} {u v : List ℕ} → Reductions rs t u v → Reductions qs t u v
+    go stays = stays
+    go (step r p) = step (reduces-map f r) (go p)
+
 -- an irreducible word has no descendant but itself
 pub reducesTo-same : {rs : List Rule} {u v : List ℕ} → Irreducible rs u → ReducesTo rs u v → u ≡ v
 reducesTo-same {rs} i (t, p) = go i p
   where
     go : {t : ℕ} {u v : List ℕ} → Irreducible rs u → Reductions rs t u v → u ≡ v
     go i stays = refl
-    go {u = u} i (step {v = v} r p) = absurd (irreducible-exactly rs u .0 i v r)
+    go {u = u} i (step {v = v} r p) = absurd (irreducible-stops rs u .0 i v r)
 
 -- ---- links
 

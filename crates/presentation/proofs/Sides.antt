@@ -1,7 +1,7 @@
 -- The sides of a rule of a rig: both are made of steps, and the right side comes before the left one in the order by
 -- length and dictionary.
 -- Assumes nothing.
-use mathlib.Core.Path.{_≡_, refl, sym, ap, subst, subst₂, _∙_}
+use mathlib.Core.Path.{_≡_, sym, ap, subst, subst₂, _∙_}
 use mathlib.Core.Bool.{true, false}
 use mathlib.Core.List.{List, [], _∷_, _++_, append-nil, List·Memᴰ}
 use Prim.Native.Nat.{ℕ, suc, _-_, _≤_}

@@ -58,9 +58,10 @@ ruleCount D n = (3 * (n * n) - 5 * n + 4) / 2
 pub record RulesPresent (k : Kind) (n : ℕ) : Type 0 where
   -- U2 to U6
   pub complete : CompletePresentation k n (rules k n)
-  -- U10: every such list has just the sides of these rules, and as many rules
+  -- U10: the only one, whatever the order and the numbers that its rules show: a list is a complete normalized
+  -- presentation exactly if it has the sides of these rules, and as many rules
   pub only : (rs : List Rule) → CompletePresentation k n rs
-      → ((l r : List ℕ) → Pair rs l r ↔ Pair (rules k n) l r) × (length rs ≡ length (rules k n))
+      ↔ (((l r : List ℕ) → Pair rs l r ↔ Pair (rules k n) l r) × (length rs ≡ length (rules k n)))
   -- U7: of the descendants of a word just its normal form is irreducible
   pub normal-form : (u v : List ℕ) → wrongLetter n u ≡ false
       → (ReducesTo (rules k n) u v × Irreducible (rules k n) v) ↔ (v ≡ wordNormalForm k n u)
