@@ -4,15 +4,16 @@
 -- Sections: one reduction; irreducible words; chains; links; the order.
 -- Not here: chains of the rules of a rig (Confluence).
 -- Assumes nothing.
-use mathlib.Core.Path.{_≡_, refl, sym, ap, ap₂, subst₂, _∙_}
+use mathlib.Core.Path.{_≡_, refl, sym, ap, ap₂, subst, subst₂, _∙_}
 use mathlib.Core.Bool.{true, false, true≢false}
 use mathlib.Core.Logic.{_↔_, _⊎_, inl, inr}
 use mathlib.Core.List.{List, [], _∷_, _++_, append-assoc, List·Memᴰ}
 use mathlib.Core.Option.{Option, none, some}
-use Prim.Native.Nat.{ℕ, zero, suc, _≤_, _<_}
+use Prim.Native.Nat.{ℕ, zero, suc, _+_, _≤_, _<_}
+use native.Mathlib.Nat.{suc-add}
 use native.Mathlib.Decide.{decLe, ℕ-discrete}
 use native.Mathlib.Omega.{arith}
-use lib.ListN.{length, length-append}
+use lib.ListN.{length, getD, length-append}
 use Rattle.coxeter.specs.Dictionary.{before, shortlex}
 use Rattle.coxeter.specs.Relations.{forth, back, Linked, alone, next}
 use Rattle.coxeter.proofs.Links.{linked-trans, linked-sym, linked-context, linked-use}
@@ -129,6 +130,34 @@ irreducible-cons rs a u i f x m zero = f x m
 irreducible-cons rs a u i f x m (suc p) = i x m p
 
 -- ---- chains
+
+-- a list of words that begins with u and ends with v, each next word by one reduction from the word before it
+abbrev Chain : List Rule → List ℕ → List ℕ → List (List ℕ) → Type 0
+Chain rs u v ws =
+    (getD (u ∷ ws) (length ws) [] ≡ v) × ((i : ℕ) → i < length ws → Reduces rs (getD (u ∷ ws) i []) (getD (u ∷ ws) (i + 1) []))
+
+chain-of : {rs : List Rule} {t : ℕ} {u v : List ℕ} → Reductions rs t u v → (ws : List (List ℕ)) × (length ws ≡ t) × Chain rs u v ws
+chain-of stays = ([], refl, (refl, λ i h. absurd (omega arith)))
+chain-of {rs} (step {t = t} {u = u} {v = v} {w = w} r p) = let (ws, l, (e, f)) = chain-of p in (v ∷ ws, ap suc l, (e, longer ws f))
+  where
+    longer : (ws : List (List ℕ)) → ((i : ℕ) → i < length ws → Reduces rs (getD (v ∷ ws) i []) (getD (v ∷ ws) (i + 1) []))
+        → (i : ℕ) → i < suc (length ws) → Reduces rs (getD (u ∷ v ∷ ws) i []) (getD (u ∷ v ∷ ws) (i + 1) [])
+    longer ws f zero h = r
+    longer ws f (suc i) h = rw (suc-add i 1) (f i (omega arith))
+
+of-chain : {rs : List Rule} (u v : List ℕ) (ws : List (List ℕ)) → Chain rs u v ws → Reductions rs (length ws) u v
+of-chain {rs} u v [] (e, f) = subst (Reductions rs 0 u) e stays
+of-chain u v (w ∷ ws) (e, f) = step (f 0 (omega arith)) (of-chain w v ws (e, λ i h. rw (suc-add i 1) at (f (suc i) (omega arith))))
+
+-- U1: t reductions lead from one word to another exactly if a list of t more words goes from the first to the other, each
+-- by one reduction from the word before it
+pub reductions-exactly : (rs : List Rule) (t : ℕ) (u v : List ℕ) → Reductions rs t u v
+    ↔ ((ws : List (List ℕ)) × (length ws ≡ t) × (getD (u ∷ ws) (length ws) [] ≡ v)
+    × ((i : ℕ) → i < length ws → Reduces rs (getD (u ∷ ws) i []) (getD (u ∷ ws) (i + 1) [])))
+reductions-exactly rs t u v = (
+  λ p. let (ws, l, (e, f)) = chain-of p in (ws, l, e, f),
+  λ (ws, l, e, f). subst (λ (s : ℕ). Reductions rs s u v) l (of-chain u v ws (e, f)),
+)
 
 pub reducesTo-one : {rs : List Rule} {u v : List ℕ} → Reduces rs u v → ReducesTo rs u v
 reducesTo-one r = (1, step r stays)

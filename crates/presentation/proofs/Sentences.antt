@@ -62,7 +62,7 @@ module _ (holds : RulesPresentHolds) (k : Kind) (n : ℕ) (low : least k ≤ n) 
   pub one-number : (u : List ℕ) → wrongLetter n u ≡ false → (most : ℕ) × ((t : ℕ) (v : List ℕ) → Reductions (rules k n) t u v → t ≤ most)
   one-number = complete .bounded
 
-  -- U3: from two words to which a word was reduced some word can be reached from both
+  -- U3: if a word of steps can be reduced to two words, both can be reduced to one
   pub common-descendant : (u v w : List ℕ) → wrongLetter n u ≡ false → ReducesTo (rules k n) u v → ReducesTo (rules k n) u w
       → (z : List ℕ) × ReducesTo (rules k n) v z × ReducesTo (rules k n) w z
   common-descendant = complete .confluent

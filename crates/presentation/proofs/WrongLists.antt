@@ -30,19 +30,19 @@ module _ (k : Kind) (n : ℕ) (low : least k ≤ n) where
   as-many : (rs : List Rule) → CompletePresentation k n rs → length rs ≡ length (rules k n)
   as-many rs c = rules-present k n low .only rs .0 c .1
 
-  -- U10: no rule can be left out
+  -- U10: the rules of a rig without one of them are no complete normalized presentation
   pub rule-left-out : (front : List Rule) (x : Rule) (rest : List Rule) → rules k n ≡ front ++ (x ∷ rest)
       → CompletePresentation k n (front ++ rest) → ⊥
   rule-left-out front x rest e c =
       omega (arith, as-many (front ++ rest) c, ap length e, length-append front rest, length-append front (x ∷ rest))
 
-  -- U6, U10: none can be added, neither a new one nor one that is there already
+  -- U6, U10: the rules of a rig with one more, new or already there, are no complete normalized presentation
   pub rule-added : (front : List Rule) (x : Rule) (rest : List Rule) → rules k n ≡ front ++ rest
       → CompletePresentation k n (front ++ (x ∷ rest)) → ⊥
   rule-added front x rest e c =
       omega (arith, as-many (front ++ (x ∷ rest)) c, ap length e, length-append front rest, length-append front (x ∷ rest))
 
-  -- U6: no list in which a rule stands twice will do
+  -- U6: no list in which a rule stands twice is a complete normalized presentation
   pub rule-twice : (front : List Rule) (x : Rule) (middle rest : List Rule)
       → CompletePresentation k n (front ++ (x ∷ (middle ++ (x ∷ rest)))) → ⊥
   rule-twice front x middle rest c =
@@ -52,60 +52,62 @@ module _ (k : Kind) (n : ℕ) (low : least k ≤ n) where
   -- ---- a rule that does not belong there
 
   module _ (rs : List Rule) (c : CompletePresentation k n rs) (x : Rule) (m : List·Memᴰ x rs) where
-    -- U6: a left side that holds another, as 1 1 1 → 1 beside 1 1 → empty
-    pub holds-another-left : (y : Rule) → List·Memᴰ y rs → (front rest : List ℕ) → x .left ≡ front ++ (y .left ++ rest) → (y ≡ x → ⊥) → ⊥
-    holds-another-left y q front rest e f = f (same-entry k n low rs c x y m q front rest e)
+    -- U6: in a complete normalized presentation the left side of a rule stands in no other left side
+    pub left-in-own-alone : (y : Rule) → List·Memᴰ y rs → (front rest : List ℕ) → y .left ≡ front ++ (x .left ++ rest) → x ≡ y
+    left-in-own-alone y q = same-entry k n low rs c y x q m
 
-    -- U5: a rule that leads to a later word, as 3 1 → 1 3 does, which puts the lower step first
-    pub leads-later : shortlex (x .left) (x .right) ≡ true → ⊥
-    leads-later e = true≢false (sym (c .descending x m) ∙ shortlex-asymm (x .left) (x .right) e)
+    -- U5: no rule of one leads to a later word
+    pub never-later : shortlex (x .left) (x .right) ≡ true → ⊥
+    never-later e = true≢false (sym (c .descending x m) ∙ shortlex-asymm (x .left) (x .right) e)
 
-    -- U10: another right side for a left side
-    pub other-right-side : (y : Rule) → List·Memᴰ y (rules k n) → y .left ≡ x .left → (y .right ≡ x .right → ⊥) → ⊥
-    other-right-side y q e f =
+    -- U4: both sides of a rule of one have the same window
+    pub sides-alike : window k n (x .left) ≡ window k n (x .right)
+    sides-alike = linked-window k n (c .presenting (x .left) (x .right) .0 (linked-one (pair x m)))
+
+    -- U10: a rule of one that has the left side of a rule of the rig has its right side too
+    pub right-side-given : (y : Rule) → List·Memᴰ y (rules k n) → y .left ≡ x .left → y .right ≡ x .right
+    right-side-given y q e =
         let (z, p, l, r) = no-other-rule rules-present k n low rs c x m in
-        f (ap (λ (w : Rule). w .right) (left-determines k n y z low q p (e ∙ sym l)) ∙ r)
-
-    -- U4: sides with different windows
-    pub other-window : (window k n (x .left) ≡ window k n (x .right) → ⊥) → ⊥
-    other-window f = f (linked-window k n (c .presenting (x .left) (x .right) .0 (linked-one (pair x m))))
+        ap (λ (w : Rule). w .right) (left-determines k n y z low q p (e ∙ sym l)) ∙ r
 
 -- ---- lists of small rigs
 
--- U4, Q9: the rule 2 4 → 4 2 of kind B in a list for D₄
+-- U4, Q9: no complete normalized presentation of D₄ has the rule 2 4 → 4 2, which is kind B's
 pub pair-of-B-in-D : (rs : List Rule) (x : Rule) → List·Memᴰ x rs → x .left ≡ 2 ∷ 4 ∷ [] → x .right ≡ 4 ∷ 2 ∷ []
     → CompletePresentation D 4 rs → ⊥
 unfolding window windowFrom straight up act from exchange exchangeNegate
 pair-of-B-in-D rs x m e f c =
-    other-window D 4 (omega arith) rs c x m (λ q.
-    let w : window D 4 (2 ∷ 4 ∷ []) ≡ window D 4 (4 ∷ 2 ∷ []) = sym (ap (window D 4) e) ∙ q ∙ ap (window D 4) f in
+    let w : window D 4 (2 ∷ 4 ∷ []) ≡ window D 4 (4 ∷ 2 ∷ []) =
+    sym (ap (window D 4) e) ∙ sides-alike D 4 (omega arith) rs c x m ∙ ap (window D 4) f in
     let z : _≡_ {A = ℕ} 0 1 = cc in
-    omega arith)
+    omega arith
 
--- U4, Q9: the rule 3 4 → 4 3 of kind D in a list for B₄
+-- U4, Q9: no complete normalized presentation of B₄ has the rule 3 4 → 4 3, which is kind D's
 pub pair-of-D-in-B : (rs : List Rule) (x : Rule) → List·Memᴰ x rs → x .left ≡ 3 ∷ 4 ∷ [] → x .right ≡ 4 ∷ 3 ∷ []
     → CompletePresentation B 4 rs → ⊥
 unfolding window windowFrom straight up act from exchange negateFirst
 pair-of-D-in-B rs x m e f c =
-    other-window B 4 (omega arith) rs c x m (λ q.
-    let w : window B 4 (3 ∷ 4 ∷ []) ≡ window B 4 (4 ∷ 3 ∷ []) = sym (ap (window B 4) e) ∙ q ∙ ap (window B 4) f in
+    let w : window B 4 (3 ∷ 4 ∷ []) ≡ window B 4 (4 ∷ 3 ∷ []) =
+    sym (ap (window B 4) e) ∙ sides-alike B 4 (omega arith) rs c x m ∙ ap (window B 4) f in
     let z : _≡_ {A = ℕ} 0 1 = cc in
-    omega arith)
+    omega arith
 
--- U5, Q8: for A₂ the presentation that belongs to the usual order of a dictionary, with the lower step first
+-- U5, Q8: the list for A₂ that belongs to the usual dictionary, with the lower step first, is no complete normalized
+-- presentation for the order that has the higher step first
 pub usual-order : CompletePresentation A 2
     (rule 1 1 0 (1 ∷ 1 ∷ []) [] ∷ rule 1 2 0 (2 ∷ 2 ∷ []) [] ∷ rule 3 1 2 (2 ∷ 1 ∷ 2 ∷ []) (1 ∷ 2 ∷ 1 ∷ []) ∷ []) → ⊥
 unfolding shortlex before
-usual-order c = leads-later A 2 (omega arith) _ c _ (List·Memᴰ·tail (List·Memᴰ·tail (List·Memᴰ·head refl))) refl
+usual-order c = never-later A 2 (omega arith) _ c _ (List·Memᴰ·tail (List·Memᴰ·tail (List·Memᴰ·head refl))) refl
 
--- U3, U10: for A₃ the relations alone, each from its later side to the earlier one: 1 2 3 1 → 2 1 2 3 is missing
+-- U3, U10: the relations of A₃ alone, each from its later side to its earlier one, are no complete normalized
+-- presentation, since 1 2 3 1 → 2 1 2 3 is missing
 pub relations-alone : CompletePresentation A 3
     (rule 1 1 0 (1 ∷ 1 ∷ []) [] ∷ rule 1 2 0 (2 ∷ 2 ∷ []) [] ∷ rule 1 3 0 (3 ∷ 3 ∷ []) []
     ∷ rule 2 1 3 (1 ∷ 3 ∷ []) (3 ∷ 1 ∷ [])
     ∷ rule 3 1 2 (1 ∷ 2 ∷ 1 ∷ []) (2 ∷ 1 ∷ 2 ∷ []) ∷ rule 3 2 3 (2 ∷ 3 ∷ 2 ∷ []) (3 ∷ 2 ∷ 3 ∷ []) ∷ []) → ⊥
 relations-alone c = omega (arith, as-many A 3 (omega arith) _ c, rules-present A 3 (omega arith) .count)
 
--- U9, U10: for D₄ its rules without the longest, 1 2 4 3 2 1 2 → 2 1 2 4 3 2 1
+-- U9, U10: the rules of D₄ without the longest, 1 2 4 3 2 1 2 → 2 1 2 4 3 2 1, are no complete normalized presentation
 pub longest-left-out : CompletePresentation D 4
     (rule 1 1 0 (1 ∷ 1 ∷ []) [] ∷ rule 1 2 0 (2 ∷ 2 ∷ []) [] ∷ rule 1 3 0 (3 ∷ 3 ∷ []) [] ∷ rule 1 4 0 (4 ∷ 4 ∷ []) []
     ∷ rule 2 1 3 (1 ∷ 3 ∷ []) (3 ∷ 1 ∷ []) ∷ rule 2 1 4 (1 ∷ 4 ∷ []) (4 ∷ 1 ∷ []) ∷ rule 2 3 4 (3 ∷ 4 ∷ []) (4 ∷ 3 ∷ [])
@@ -115,9 +117,9 @@ pub longest-left-out : CompletePresentation D 4
     ∷ rule 6 2 0 (2 ∷ 4 ∷ 3 ∷ 2 ∷ 4 ∷ []) (3 ∷ 2 ∷ 4 ∷ 3 ∷ 2 ∷ []) ∷ rule 7 2 0 (2 ∷ 4 ∷ 3 ∷ 2 ∷ 3 ∷ []) (4 ∷ 2 ∷ 4 ∷ 3 ∷ 2 ∷ []) ∷ []) → ⊥
 longest-left-out c = omega (arith, as-many D 4 (omega arith) _ c, rules-present D 4 (omega arith) .count)
 
--- U6: in any kind and rank the rule 1 1 1 → 1 beside 1 1 → empty
+-- U6: in no kind and rank does a complete normalized presentation have a rule for 1 1 1 beside one for 1 1
 pub cube-added : (k : Kind) (n : ℕ) → least k ≤ n → (rs : List Rule) (x y : Rule) → List·Memᴰ x rs → x .left ≡ 1 ∷ 1 ∷ 1 ∷ []
     → List·Memᴰ y rs → y .left ≡ 1 ∷ 1 ∷ [] → CompletePresentation k n rs → ⊥
 cube-added k n low rs x y m e q f c =
-    holds-another-left k n low rs c x m y q [] (1 ∷ []) (e ∙ ap (λ (w : List ℕ). w ++ (1 ∷ [])) (sym f)) (λ d.
-    omega (arith, ap length e, ap length f, ap (λ (w : Rule). length (w .left)) d))
+    let d = left-in-own-alone k n low rs c y q x m [] (1 ∷ []) (e ∙ ap (λ (w : List ℕ). w ++ (1 ∷ [])) (sym f)) in
+    omega (arith, ap length e, ap length f, ap (λ (w : Rule). length (w .left)) d)
