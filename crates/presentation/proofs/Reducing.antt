@@ -85,7 +85,7 @@ irreducible-exactly rs u = (
     past f x m h [] e = absurd (f x m [] u (ap (λ (l : List ℕ). l ++ u) (sym e)))
     past f x m {p} h (a ∷ l) e = fits-past x u p (rw e (omega arith)) h
 
--- U1: and exactly if no reduction leads on from it
+-- U1: a word is irreducible exactly if no reduction leads on from it
 pub irreducible-stops : (rs : List Rule) (u : List ℕ) → Irreducible rs u ↔ ((v : List ℕ) → Reduces rs u v → ⊥)
 irreducible-stops rs u = (
   λ i v r. let (b, a, x, m, e, f) = reduces-exactly rs u v .0 r in irreducible-exactly rs u .0 i x m b a e,

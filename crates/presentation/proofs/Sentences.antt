@@ -2,7 +2,7 @@
 -- claim `RulesPresentHolds` holds, each by that claim alone: every field is used here as strongly as it is stated, so
 -- that a weaker record would not do.
 --
--- Sections: complete; normalized; normal forms; how many rules; no other list; rewrites.
+-- Sections: complete; normalized; normal forms; no other list; rewrites; how many rules.
 -- Assumes nothing.
 use mathlib.Core.Path.{_≡_, refl, sym, _∙_}
 use mathlib.Core.Bool.{true, false}
@@ -89,7 +89,7 @@ module _ (holds : RulesPresentHolds) (k : Kind) (n : ℕ) (low : least k ≤ n) 
     pub no-left-in-right : (y : Rule) → List·Memᴰ y (rules k n) → (front rest : List ℕ) → x .right ≡ front ++ (y .left ++ rest) → ⊥
     no-left-in-right = irreducible-exactly (rules k n) (x .right) .0 (complete .right-irreducible x listed)
 
-  -- U6: nor does the left side of any other entry stand in a left side
+  -- U6: in a left side stands the left side of no other entry of the list
   pub no-other-left-in-left : (before : List Rule) (x : Rule) (after : List Rule) → rules k n ≡ before ++ (x ∷ after)
       → (y : Rule) → List·Memᴰ y (before ++ after) → (front rest : List ℕ) → x .left ≡ front ++ (y .left ++ rest) → ⊥
   no-other-left-in-left before x after e = irreducible-exactly (before ++ after) (x .left) .0 (complete .left-irreducible before x after e)
@@ -126,12 +126,12 @@ module _ (holds : RulesPresentHolds) (k : Kind) (n : ℕ) (low : least k ≤ n) 
       → (y : Rule) × List·Memᴰ y (rules k n) × (y .left ≡ x .left) × (y .right ≡ x .right)
   no-other-rule rs c x m = pair-exactly (rules k n) (x .left) (x .right) .0 (claim .only rs .0 c .0 (x .left) (x .right) .0 (pair x m))
 
-  -- U10: and none of them is missing
+  -- U10: every one of these rules has its sides in each complete normalized presentation
   pub no-rule-missing : (rs : List Rule) → CompletePresentation k n rs → (x : Rule) → List·Memᴰ x (rules k n)
       → (y : Rule) × List·Memᴰ y rs × (y .left ≡ x .left) × (y .right ≡ x .right)
   no-rule-missing rs c x m = pair-exactly rs (x .left) (x .right) .0 (claim .only rs .0 c .0 (x .left) (x .right) .1 (pair x m))
 
-  -- U10: a list with the same sides and as many rules is one too, in whatever order
+  -- U10: a list with the same sides and as many rules is a complete normalized presentation, in whatever order
   pub any-order : (rs : List Rule) → ((l r : List ℕ) → Pair rs l r ↔ Pair (rules k n) l r) → length rs ≡ length (rules k n)
       → CompletePresentation k n rs
   any-order rs same size = claim .only rs .1 (same, size)
@@ -146,15 +146,15 @@ module _ (holds : RulesPresentHolds) (k : Kind) (n : ℕ) (low : least k ≤ n) 
 -- ---- how many rules
 
 module _ (holds : RulesPresentHolds) (n : ℕ) where
-  -- U9: n² − n + 1 in kind A
+  -- U9: kind A has n² − n + 1 rules
   pub rules-of-A : 1 ≤ n → length (rules A n) + n ≡ n * n + 1
   rules-of-A h = omega (arith, holds A n h .count, mul-le-mul-right n h)
 
-  -- U9: (3n² − 5n + 4) / 2 in kind B
+  -- U9: kind B has (3n² − 5n + 4) / 2 rules
   pub rules-of-B : 2 ≤ n → 2 * length (rules B n) + 5 * n ≡ 3 * (n * n) + 4
   rules-of-B h = whole n (length (rules B n)) h (holds B n h .count)
 
-  -- U9: and in kind D
+  -- U9: kind D has (3n² − 5n + 4) / 2 rules
   pub rules-of-D : 4 ≤ n → 2 * length (rules D n) + 5 * n ≡ 3 * (n * n) + 4
   rules-of-D h = whole n (length (rules D n)) (omega arith) (holds D n h .count)
 

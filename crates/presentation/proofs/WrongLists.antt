@@ -56,15 +56,16 @@ module _ (k : Kind) (n : ℕ) (low : least k ≤ n) where
     pub left-in-own-alone : (y : Rule) → List·Memᴰ y rs → (front rest : List ℕ) → y .left ≡ front ++ (x .left ++ rest) → x ≡ y
     left-in-own-alone y q = same-entry k n low rs c y x q m
 
-    -- U5: no rule of one leads to a later word
+    -- U5: no rule of a complete normalized presentation leads to a later word
     pub never-later : shortlex (x .left) (x .right) ≡ true → ⊥
     never-later e = true≢false (sym (c .descending x m) ∙ shortlex-asymm (x .left) (x .right) e)
 
-    -- U4: both sides of a rule of one have the same window
+    -- U4: both sides of a rule of a complete normalized presentation have the same window
     pub sides-alike : window k n (x .left) ≡ window k n (x .right)
     sides-alike = linked-window k n (c .presenting (x .left) (x .right) .0 (linked-one (pair x m)))
 
-    -- U10: a rule of one that has the left side of a rule of the rig has its right side too
+    -- U10: if a rule of a complete normalized presentation has the left side of a rule of the rig, it has its right side
+    -- too
     pub right-side-given : (y : Rule) → List·Memᴰ y (rules k n) → y .left ≡ x .left → y .right ≡ x .right
     right-side-given y q e =
         let (z, p, l, r) = no-other-rule rules-present k n low rs c x m in

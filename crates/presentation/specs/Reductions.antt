@@ -17,6 +17,6 @@ pub data Reductions (rs : List Rule) : ℕ → List ℕ → List ℕ → Type 0 
   stays : {u : List ℕ} → Reductions rs 0 u u
   step : {t : ℕ} {u v w : List ℕ} → Reduces rs u v → Reductions rs t v w → Reductions rs (suc t) u w
 
--- U1: so many reductions as one likes, perhaps none: the second word is a descendant of the first
+-- U1: as many reductions as one likes, perhaps none: the second word is a descendant of the first
 abbrev pub ReducesTo : List Rule → List ℕ → List ℕ → Type 0
 ReducesTo rs u v = (t : ℕ) × Reductions rs t u v
