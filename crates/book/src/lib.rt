@@ -16,4 +16,5 @@ pub use reading::check_book;
 pub use reading::check_preset;
 pub use reading::letters;
 pub use runs::read_presets;
+pub use runs::read_run;
 pub use writing::append;

@@ -112,12 +112,18 @@ pub(crate) fn check_record(edition: Edition, book: &[u8], o: usize) -> Preset
     }
 }
 
-// A preset of a book that passes checks 1 to 3, with a number that passes check 4: the record at its offset.
-pub(crate) fn numbered_preset(edition: Edition, book: &[u8], number: usize) -> Preset
-    requires { ⌜ (bookRefusal edition (now book) ≡ 0) × (number < count (now book)) ⌝ }
+// The preset with this number, by what checks 1 to 3 answered of the book: check 4, and then those of its record.
+pub(crate) fn numbered_preset(edition: Edition, book: &[u8], refusal: u8, number: usize) -> Preset
+    requires { ⌜ refusal ≡ bookRefusal edition (now book) ⌝ }
     ensures { λ r. ⌜ r ≡ checkedPreset edition (now (book .entry)) number ⌝ }
 {
+    if refusal != 0 {
+        return Preset::Refused(refusal);
+    }
     let c = count_of(book);
+    if c <= number {
+        return Preset::Refused(4);
+    }
     let o = record_start(book, c, number);
     check_record(edition, book, o)
 }
@@ -128,14 +134,7 @@ pub fn check_preset(edition: Edition, book: &[u8], number: usize) -> Preset
     ensures { λ r. ⌜ r ≡ checkedPreset edition (now (book .entry)) number ⌝ }
 {
     let refusal = book_refusal(edition, book);
-    if refusal != 0 {
-        return Preset::Refused(refusal);
-    }
-    let c = count_of(book);
-    if c <= number {
-        return Preset::Refused(4);
-    }
-    numbered_preset(edition, book, number)
+    numbered_preset(edition, book, refusal, number)
 }
 
 // I27, G10: the letters of a preset, as the part of the book that holds them. For a refused preset an empty part of

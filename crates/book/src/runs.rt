@@ -1,17 +1,19 @@
-// A run of presets, read with one walk over the book: five numbers for each.
+// A run of presets, read with one walk over the book: an array of them, or five numbers for each.
 use crate::numbers::count_of;
+use crate::reading::LARGEST;
 use crate::reading::book_refusal;
 use crate::reading::numbered_preset;
 use book_format::Edition;
 use book_format::Preset;
 use window::Answer;
 ghost use mathlib.Core.Path.{_≡_};
-ghost use mathlib.Core.List.{[], _∷_};
+ghost use mathlib.Core.List.{[], _∷_, map};
 ghost use Prim.Native.Nat.{_+_, _*_, _≤_, min};
 ghost use lib.ListN.{length};
 ghost use lib.Seq.{sets};
+ghost use Rattle.coxeter.specs.Kinds.{up};
 ghost use Rattle.book_format.specs.Books.{count, bookRefusal};
-ghost use Rattle.book_format.specs.Calls.{fieldsOf, presetFields, readingPresets};
+ghost use Rattle.book_format.specs.Calls.{checkedPreset, fieldsOf, presetFields, readingPresets};
 
 fn put_five(fields: &mut [u64], p: usize, a: u64, b: u64, c: u64, d: u64, e: u64)
     requires { ⌜ p + 5 ≤ length (now fields) ⌝ }
@@ -55,7 +57,7 @@ fn put_run(edition: Edition, book: &[u8], first: usize, n: usize, fields: &mut [
 {
     let mut i = 0;
     while i < n {
-        put_preset(numbered_preset(edition, book, first + i), fields, 5 * i);
+        put_preset(numbered_preset(edition, book, 0, first + i), fields, 5 * i);
         i += 1;
     }
 }
@@ -67,6 +69,30 @@ fn smaller_of(a: usize, b: usize) -> usize
         return a;
     }
     b
+}
+
+// Room for 128 presets.
+fn blank_run() -> [Preset; 128]
+    ensures { λ r. ⌜ 128 ≡ length r ⌝ }
+{
+    let blank = Preset::Refused(0);
+    [blank; 128]
+}
+
+// I35: the 128 presets from number `first` on, each as `check_preset` answers it: refused 4 past the last one. Checks
+// 1 to 3 are made once. No book has the preset 65,535, so that larger numbers need not be told apart.
+pub fn read_run(edition: Edition, book: &[u8], first: usize) -> [Preset; 128]
+    ensures { λ r. ⌜ r ≡ map (checkedPreset edition (now (book .entry))) (up first 128) ⌝ }
+{
+    let refusal = book_refusal(edition, book);
+    let start = smaller_of(first, LARGEST);
+    let mut run = blank_run();
+    let mut i = 0;
+    while i < 128 {
+        run[i] = numbered_preset(edition, book, refusal, start + i);
+        i += 1;
+    }
+    run
 }
 
 // I30: reads the presets from number `first` on, as many as there are and have room: for each its refusal or 0, its

@@ -1,23 +1,27 @@
--- Reading a run of presets in plain terms (I30 of the specification): which run is refused with which number, how
--- many presets an accepted one reads, and the five numbers that it writes for each.
+-- Reading a run of presets in plain terms (I30 and I35 of the specification): which preset stands where in a run, which
+-- run in numbers is refused with which number, how many presets an accepted one reads, and the five numbers that it
+-- writes for each.
 -- Assumes nothing.
 use mathlib.Core.Path.{_≡_, refl, sym, ap, _∙_}
 use mathlib.Core.Logic.{_↔_}
-use mathlib.Core.List.{List, [], _∷_, _++_, append-assoc}
+use mathlib.Core.List.{List, [], _∷_, _++_, map, append-assoc}
 use Prim.Native.Nat.{ℕ, zero, suc, _+_, _-_, _*_, _/_, _≤_, _<_, min}
 use native.Mathlib.Nat.{add-zero, add-suc, suc-add}
 use native.Mathlib.Omega.{arith}
-use lib.ListN.{length, take, drop}
+use lib.ListN.{length, take, drop, getD, length-map}
 use lib.Seq.{take-at, drop-at, drop-drop}
 use borrow.Author.Tests.{eq-eqb, le-ltb, lt-leb, leb-false, ltb-false}
 use Rattle.coxeter.specs.declared.Answer.{Answer}
 use Rattle.coxeter.specs.declared.Answer.the-variants as answer
-use Rattle.coxeter.specs.Kinds.{pick}
+use Rattle.coxeter.specs.Kinds.{pick, up}
 use Rattle.coxeter.specs.Checks.{firstOf, check, _then_, tooShort}
 use Rattle.coxeter.specs.Calls.{Yields, written}
+use Rattle.coxeter.proofs.Basics.{length-up}
+use Rattle.coxeter.proofs.Products.{getD-up, getD-map}
 use Rattle.coxeter.proofs.Refusals.{then-zero, check-zero}
 use Rattle.book_format.specs.declared.Edition.{Edition}
 use Rattle.book_format.specs.declared.Opened.the-variants as opened
+use Rattle.book_format.specs.declared.Preset.{Preset}
 use Rattle.book_format.specs.declared.Preset.the-variants as preset
 use Rattle.book_format.specs.Books.{count, wrongSize, wrongCount, misplaced, noSuchPreset, bookRefusal}
 use Rattle.book_format.specs.Calls.{checkedBook, checkedPreset, fieldsOf, presetFields, runLength, readingPresets}
@@ -25,6 +29,15 @@ use Rattle.book_format.proofs.PresetLaws.{checkedBook-presets, presets-
 use Rattle.book_format.proofs.Numbers.{answerOf-refused, answerOf-length}
 use Rattle.book_format.proofs.Outcomes.{bookRefusal-then, check-then}
 use Rattle.book_format.proofs.RunLaws.{length-fieldsOf, length-presetFields}
+
+-- I35: a run has 128 presets, and the one at place j is what reading the preset with the number i + j answers
+pub presets-at : (ed : Edition) (b : List ℕ) (i : ℕ) (run : List Preset) → run ≡ map (checkedPreset ed b) (up i 128)
+    → (length run ≡ 128) × ((j : ℕ) (d : Preset) → j < 128 → getD run j d ≡ checkedPreset ed b (i + j))
+presets-at ed b i run e =
+    let s = length-up i 128 in (
+      rw e (length-map (up i 128) (checkedPreset ed b) ∙ s),
+      λ j d h. rw (e, getD-map (checkedPreset ed b) (up i 128) j d 0 (omega arith), getD-up i 128 j 0 h),
+    )
 
 -- the numbers of preset j of a run, with others behind the run
 fields-at : (ed : Edition) (b : List ℕ) (t i j : ℕ) (l : List ℕ) → j < t

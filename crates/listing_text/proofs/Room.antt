@@ -101,20 +101,11 @@ refused-opened ed b r e = elim (ℕ-discrete (bookRefusal ed b) 0) [
 ]
 
 -- at most so many presets, since each has two bytes in the trailer
-pub presets-le : (ed : Edition) (b : List ℕ) (c : ℕ) → opened.Presets c ≡ checkedBook ed b → c ≤ 32767
+presets-le : (ed : Edition) (b : List ℕ) (c : ℕ) → opened.Presets c ≡ checkedBook ed b → c ≤ 32767
 presets-le ed b c e =
     let p = presets-opened ed b c e in
     let a = accepted ed b (p .0) in
     omega (arith, p .1)
-
--- a line after the first is that of a preset of an accepted book
-pub lineCount-preset : (ed : Edition) (b : List ℕ) (i : ℕ) → 1 ≤ i → i < lineCount ed b → (bookRefusal ed b ≡ 0) × (i - 1 < count b)
-unfolding lineCount lineCountBy
-lineCount-preset ed b i h g = by-answer (checkedBook ed b) refl g
-  where
-    by-answer : (o : Opened) → o ≡ checkedBook ed b → i < lineCountBy o → (bookRefusal ed b ≡ 0) × (i - 1 < count b)
-    by-answer (opened.Presets c) e l = let p = presets-opened ed b c e in (p .0, omega (arith, p .1))
-    by-answer (opened.Refused r) e l = absurd (omega arith)
 
 pub lineCount-le : (ed : Edition) (b : List ℕ) → lineCount ed b ≤ 32768
 unfolding lineCount lineCountBy
@@ -124,7 +115,7 @@ lineCount-le ed b = by-answer (checkedBook ed b) refl
     by-answer (opened.Presets c) e = omega (arith, presets-le ed b c e)
     by-answer (opened.Refused r) e = omega arith
 
-pub length-firstLine-le : (ed : Edition) (b : List ℕ) → length (firstLine (checkedBook ed b)) ≤ 29
+length-firstLine-le : (ed : Edition) (b : List ℕ) → length (firstLine (checkedBook ed b)) ≤ 29
 unfolding firstLine countLine refusedBookLine refused
 length-firstLine-le ed b = by-answer (checkedBook ed b) refl
   where

@@ -1,27 +1,19 @@
--- What the contracts of `listing_lines` name: runs of presets, five numbers for each, as the lines of a listing use
--- them, and the number of a refused preset. The laws about them lie with that code; a contract cannot name a
--- definition of its own crate's proofs/.
+-- What the contracts of `listing_lines` name: a line by what opening the book and reading its preset answered, and the
+-- number of a refused preset. The laws about them lie with that code; a contract cannot name a definition of its own
+-- crate's proofs/.
 -- Assumes nothing.
-use mathlib.Core.Path.{_≡_}
 use mathlib.Core.List.{List}
-use Prim.Native.Nat.{ℕ, _-_, _*_, _≤_, _<_}
-use lib.ListN.{length, take}
-use Rattle.book_format.specs.declared.Edition.{Edition}
+use Prim.Native.Nat.{ℕ, zero, suc}
+use Rattle.book_format.specs.declared.Opened.{Opened}
 use Rattle.book_format.specs.declared.Preset.{Preset}
 use Rattle.book_format.specs.declared.Preset.the-variants as preset
-use Rattle.book_format.specs.Calls.{presetFields}
+use Rattle.listing_text.specs.Text.{lineBy}
+use Rattle.listing_text.specs.Calls.{firstLine}
 
--- l begins with the numbers of the presets of the lines from `first` to before `end`
-pub record Held (ed : Edition) (b : List ℕ) (first end : ℕ) (l : List ℕ) : Type 0 where
-  pub begins : first ≤ end
-  pub numbered : first < end → 1 ≤ first
-  pub room : 5 * (end - first) ≤ length l
-  pub numbers : take (5 * (end - first)) l ≡ presetFields ed b (end - first) (first - 1)
-
--- line i is the first, or its preset is one of those
-pub record Ready (i first end : ℕ) : Type 0 where
-  pub begins : first ≤ i
-  pub has : 1 ≤ i → (1 ≤ first) × (i < end)
+-- line i: of the book that opening answered o, and of the preset that reading answered a
+unfoldable pub lineFrom : List ℕ → Opened → ℕ → Preset → List ℕ
+lineFrom b o zero a = firstLine o
+lineFrom b o (suc i) a = lineBy b i a
 
 -- the number of a refused preset, 0 of one that was found
 unfoldable pub refusalOf : Preset → ℕ

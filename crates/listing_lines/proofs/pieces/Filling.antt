@@ -19,37 +19,48 @@ use Rattle.book_format.specs.Calls.{checkedBook, checkedPreset}
 use Rattle.listing_text.specs.Text.{decimal, refusedText, bookText, presetsText, refused, countLine, refusedBookLine, lineBy, lineOf}
 use Rattle.listing_text.specs.Calls.{lineCountBy, lineCount, firstLine, line, lines, fitting, Piecing, nextPiece}
 use Rattle.listing_text.proofs.Pieces.{fitting-more, fitting-none, length-fitting-le}
+use Rattle.listing_text.proofs.Runs.{lineFrom}
 use Rattle.listing_text.proofs.Room.{longest, length-line-le}
 
 -- ---- lines
 
 -- by what opening the book answered
-module _ (ed : Edition) (b : List ℕ) (a : Opened) (e : a ≡ checkedBook ed b) where
-  pub lineCount-presets : (c : ℕ) → a ≡ opened.Presets c → c + 1 ≡ lineCount ed b
-  unfolding lineCount lineCountBy
-  lineCount-presets c q = rw (← e, q) (add-one c)
+module _ (a : Opened) where
+  pub lineCount-presets : (c : ℕ) → a ≡ opened.Presets c → c + 1 ≡ lineCountBy a
+  unfolding lineCountBy
+  lineCount-presets c q = rw q (add-one c)
 
-  pub lineCount-refused : (r : ℕ) → a ≡ opened.Refused r → 1 ≡ lineCount ed b
-  unfolding lineCount lineCountBy
-  lineCount-refused r q = rw (← e, q)
+  pub lineCount-refused : (r : ℕ) → a ≡ opened.Refused r → 1 ≡ lineCountBy a
+  unfolding lineCountBy
+  lineCount-refused r q = rw q
 
-  pub firstLine-presets : (c : ℕ) → a ≡ opened.Presets c → firstLine (checkedBook ed b) ≡ presetsText ++ decimal c ++ (10 ∷ [])
+  pub firstLine-presets : (c : ℕ) → a ≡ opened.Presets c → firstLine a ≡ presetsText ++ decimal c ++ (10 ∷ [])
   unfolding firstLine countLine
-  firstLine-presets c q = rw (← e, q)
+  firstLine-presets c q = rw q
 
-  pub firstLine-refused : (r : ℕ) → a ≡ opened.Refused r → firstLine (checkedBook ed b) ≡ (bookText ++ refusedText) ++ decimal r ++ (10 ∷ [])
+  pub firstLine-refused : (r : ℕ) → a ≡ opened.Refused r → firstLine a ≡ (bookText ++ refusedText) ++ decimal r ++ (10 ∷ [])
   unfolding firstLine refusedBookLine refused
-  firstLine-refused r q = rw (← e, q)
+  firstLine-refused r q = rw q
 
-pub line-first : (ed : Edition) (b : List ℕ) (i : ℕ) → i ≡ 0 → line ed b i ≡ firstLine (checkedBook ed b)
-unfolding line
-line-first ed b i e = rw e
+pub lineCount-by : (ed : Edition) (b : List ℕ) (a : Opened) → a ≡ checkedBook ed b → lineCountBy a ≡ lineCount ed b
+unfolding lineCount
+lineCount-by ed b a e = rw e
 
--- a is what reading the preset of the line answered
-pub line-preset : (ed : Edition) (b : List ℕ) (i : ℕ) (a : Preset) → 1 ≤ i → a ≡ checkedPreset ed b (i - 1) → line ed b i ≡ lineBy b (i - 1) a
-unfolding line lineOf
-line-preset ed b zero a h q = absurd (omega arith)
-line-preset ed b (suc i) a h q = let e : suc i - 1 ≡ i = omega arith in rw (q, e)
+pub lineFrom-first : (b : List ℕ) (o : Opened) (i : ℕ) (a : Preset) → i ≡ 0 → lineFrom b o i a ≡ firstLine o
+unfolding lineFrom
+lineFrom-first b o i a e = rw e
+
+pub lineFrom-preset : (b : List ℕ) (o : Opened) (i : ℕ) (a : Preset) → (i ≡ 0 → ⊥) → lineFrom b o i a ≡ lineBy b (i - 1) a
+unfolding lineFrom
+lineFrom-preset b o zero a f = absurd (f refl)
+lineFrom-preset b o (suc i) a f = let e : suc i - 1 ≡ i = omega arith in rw e
+
+-- o is what opening the book answered, a what reading the preset of the line did
+pub line-from : (ed : Edition) (b : List ℕ) (i : ℕ) (o : Opened) (a : Preset) → o ≡ checkedBook ed b → a ≡ checkedPreset ed b (i - 1)
+    → lineFrom b o i a ≡ line ed b i
+unfolding lineFrom line lineOf
+line-from ed b zero o a p q = rw p
+line-from ed b (suc i) o a p q = let e : suc i - 1 ≡ i = omega arith in rw (q, e)
 
 -- a line at the front of a buffer
 pub line-front : (ed : Edition) (b : List ℕ) (i : ℕ) (o v : List ℕ) (m : ℕ) → i < lineCount ed b → longest ≤ length o → Stored o 0 (line ed b i) v m

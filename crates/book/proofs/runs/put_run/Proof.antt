@@ -29,7 +29,7 @@ add-numbered-preset c =
     omega (arith, accepted _ _ (pre .0) .inside, accepted _ _ (pre .0) .longer, accepted _ _ (pre .0) .most, pre .1)
 
 numbered-preset-requires : tie.Need-numbered-preset-requires Inv-loop μ-loop
-numbered-preset-requires c κs = let pre = c .before .before .before .before .pre in (pre .0, omega (arith, pre .1))
+numbered-preset-requires c κs = sym (c .before .before .before .before .pre .0)
 
 mul-put-preset : tie.Need-mul-put-preset Inv-loop μ-loop
 mul-put-preset c = let pre = c .before .before .before .before .before .before .pre in omega (arith, pre .2)

@@ -3,90 +3,156 @@
 -- Assumes nothing.
 use denote.Ref.{now}
 use mathlib.Core.Path.{_≡_, sym, _∙_}
-use Prim.Native.Nat.{_≤_, _<_}
+use mathlib.Core.Logic.{⊎-elim}
+use Prim.Native.Nat.{_+_, _-_, _≤_, _<_}
 use native.Mathlib.Omega.{arith}
-use lib.ListN.{length, take}
+use lib.ListN.{length, take, getD}
 use lib.Seq.{length-take-le}
 use borrow.Author.Needs.{needs}
+use Rattle.book_format.specs.declared.Preset.{Preset}
+use Rattle.book_format.specs.Calls.{checkedPreset}
 use Rattle.listing_text.specs.Calls.{lineCount, line}
+use Rattle.listing_text.proofs.Runs.{lineFrom}
 use Rattle.listing_text.proofs.Room.{lineCount-le, length-line-le}
-use Rattle.listing_text.proofs.Runs.{Held}
-use Rattle.listing_lines.proofs.pieces.HeldRuns.{held-none}
-use Rattle.listing_lines.proofs.pieces.Filling.{Filling, line-front, filling-none, filling-next, filling-full, filling-done}
+use Rattle.listing_lines.proofs.pieces.HeldRuns.{Held, held-read, held-kept, held-preset}
+use Rattle.listing_lines.proofs.pieces.Filling.{Filling, lineCount-by, line-from, line-front, filling-none, filling-next, filling-full, filling-done}
 use Rattle.listing_lines.proofs.pieces.next_piece.Statement.{statement}
 use Rattle.listing_lines.proofs.pieces.next_piece.Tie as tie
 
 abbrev Inv-loop : tie.InvT-loop
-Inv-loop edition book first out₀ line₀ fields₀ run₀ read₀ next₀ end₀ left₀ out line fields run read next end left =
-    Filling edition book first out₀ out next end left × Held edition book run read fields × (run ≤ next) × (640 ≡ length fields) × (65536 ≡ length line)
+Inv-loop edition book first out₀ line₀ opened held₀ run₀ next₀ end₀ left₀ out line held run next end left =
+    Filling edition book first out₀ out next end left × Held edition book held next run × (65536 ≡ length line)
 
 abbrev μ-loop : tie.MeasureT-loop
-μ-loop edition book first out₀ line₀ fields₀ run₀ read₀ next₀ end₀ left₀ out line fields run read next end left = left
+μ-loop edition book first out₀ line₀ opened held₀ run₀ next₀ end₀ left₀ out line held run next end left = left
+
+-- stages on the way: where the call began, where the book is open, where a turn began, where its run is in hand, and
+-- where its line is made
+abbrev start : tie.In-loop Inv-loop μ-loop → tie.Start Inv-loop μ-loop
+start c = c .before .before .before .before .before .before .before .before .before
+
+abbrev opened : tie.In-loop Inv-loop μ-loop → tie.After-check-book Inv-loop μ-loop
+opened c = c .before .before .before .before .before
+
+abbrev turn : tie.Joined1 Inv-loop μ-loop → tie.In-loop Inv-loop μ-loop
+turn c = c .before .before
+
+abbrev joined : tie.After-put-nth Inv-loop μ-loop → tie.Joined1 Inv-loop μ-loop
+joined c = c .before .before .before .before
+
+abbrev made : tie.After-put-bytes Inv-loop μ-loop → tie.After-put-nth Inv-loop μ-loop
+made c = c .before .before .before .before .before
 
 -- the line of this turn is one of the listing
-below : (c : tie.In-loop Inv-loop μ-loop)
-    → let a = c .before .before .before .before .before .before .before .args in c .before .loop .next < lineCount (a .edition) (now (a .book))
+below : (c : tie.In-loop Inv-loop μ-loop) → c .before .loop .next < lineCount (start c .args .edition) (now (start c .args .book))
 below c = omega (arith, c .before .loop .inv .0 .rest, c .loop-test .taken)
+
+-- its preset is in the run in hand
+in-hand : (c : tie.Joined1 Inv-loop μ-loop)
+    → let t = turn c in
+    let a = start t .args in
+    Held (a .edition) (now (a .book)) (c .if1 .held) (t .before .loop .next) (c .if1 .run) × (c .before .number-of2 .result < c .if1 .held + 128)
+in-hand c =
+    let e = c .before .number-of2 .ensures in
+    ⊎-elim (λ w. held-read _ _ _ _ e _ _ _ (w .2) (w .3) (w .1 .ensures))
+    (λ w. held-kept _ _ _ _ e _ _ _ _ (turn c .before .loop .inv .1) (w .0 .left) (w .1) (w .2)) (c .if1 .came)
+
+-- the line by what was answered is that of the listing
+answered : (c : tie.Joined1 Inv-loop μ-loop) (d : Preset)
+    → let t = turn c in
+    let a = start t .args in
+    let p = getD (c .if1 .run) (c .before .number-of2 .result - c .if1 .held) d in
+    (p ≡ checkedPreset (a .edition) (now (a .book)) (t .before .loop .next - 1))
+    × (lineFrom (now (a .book)) (opened t .check-book .result) (t .before .loop .next) p ≡ line (a .edition) (now (a .book)) (t .before .loop .next))
+answered c d =
+    let t = turn c in
+    let read = held-preset _ _ _ _ (c .before .number-of2 .ensures) _ _ d (in-hand c .0) (in-hand c .1) in
+    (read, line-from _ _ _ _ _ (opened t .check-book .ensures) read)
 
 -- it stands at the front of its buffer
 front : (c : tie.After-put-nth Inv-loop μ-loop)
-    → let turn = c .before .before .before .before .before .before .before in
-    let a = turn .before .before .before .before .before .before .args in
-    let text = line (a .edition) (now (a .book)) (turn .loop .next) in
-    (c .put-nth .result ≡ length text) × (take (c .put-nth .result) (c .put-nth .last .1 .1 .1 .1 .1 .1 .0) ≡ text)
+    → let t = turn (joined c) in
+    let a = start t .args in
+    let text = line (a .edition) (now (a .book)) (t .before .loop .next) in
+    (c .put-nth .result ≡ length text) × (take (c .put-nth .result) (c .put-nth .last .1 .1 .1 .1 .0) ≡ text)
 front c =
-    let turn = c .before .before .before .before .before .before in
-    line-front _ _ _ _ _ _ (below turn) (omega (arith, turn .before .loop .inv .4)) (c .put-nth .ensures)
+    let t = turn (joined c) in
+    line-front _ _ _ _ _ _ (below t) (omega (arith, t .before .loop .inv .2)) (rw (answered (joined c) _ .1) at (c .put-nth .ensures))
 
-inside : (c : tie.After-put-nth Inv-loop μ-loop) → c .put-nth .result ≤ length (c .put-nth .last .1 .1 .1 .1 .1 .1 .0)
+inside : (c : tie.After-put-nth Inv-loop μ-loop) → c .put-nth .result ≤ length (c .put-nth .last .1 .1 .1 .1 .0)
 inside c =
-    let turn = c .before .before .before .before .before .before in
-    omega (arith, front c .0, length-line-le _ _ _ (below turn), turn .before .loop .inv .4, c .put-nth .kept .1 .1 .1 .1 .1 .1 .0)
+    let t = turn (joined c) in
+    omega (arith, front c .0, length-line-le _ _ _ (below t), t .before .loop .inv .2, c .put-nth .kept .1 .1 .1 .1 .0)
 
 large-buffer-requires : tie.Need-large-buffer-requires Inv-loop μ-loop
 large-buffer-requires c κs = search needs
 
-blank-run-requires : tie.Need-blank-run-requires Inv-loop μ-loop
-blank-run-requires c κs = search needs
+check-book-requires : tie.Need-check-book-requires Inv-loop μ-loop
+check-book-requires c κs = search needs
+
+number-of-requires : tie.Need-number-of-requires Inv-loop μ-loop
+number-of-requires c κs = search needs
+
+read-run-requires : tie.Need-read-run-requires Inv-loop μ-loop
+read-run-requires c κs = search needs
 
 lines-from-requires : tie.Need-lines-from-requires Inv-loop μ-loop
-lines-from-requires c κs = search needs
+lines-from-requires c κs =
+    let o = c .before .before in
+    let a = o .before .before .before .before .args in
+    omega (arith, lineCount-by _ _ _ (o .check-book .ensures), lineCount-le (a .edition) (now (a .book)))
 
 loop-holds : tie.Need-loop-holds Inv-loop μ-loop
 loop-holds c =
-    (filling-none _ _ _ _ _ (c .lines-from .ensures), held-none _ _ _ _, omega arith, c .before .blank-run .ensures, c .before .before .large-buffer .ensures)
+    let o = c .before .before .before in
+    let e = lineCount-by _ _ _ (o .check-book .ensures) in (
+      filling-none _ _ _ _ _ (rw e at (c .lines-from .ensures)),
+      record { begins = omega (arith, c .before .before .number-of .ensures); presets = c .before .read-run .ensures },
+      o .before .large-buffer .ensures,
+    )
 
-slice-aggregate-run-with : tie.Need-slice-aggregate-run-with Inv-loop μ-loop
-slice-aggregate-run-with c = c .before .before .loop .inv .3
+number-of-requires-2 : tie.Need-number-of-requires-2 Inv-loop μ-loop
+number-of-requires-2 c κs = search needs
 
-run-with-requires : tie.Need-run-with-requires Inv-loop μ-loop
-run-with-requires c κs =
-    let inv = c .before .before .loop .inv in
-    (below (c .before), inv .2, omega (arith, inv .3), inv .1)
+add-if1 : tie.Need-add-if1 Inv-loop μ-loop
+add-if1 c =
+    let t = c .before in
+    let a = start t .args in
+    omega (arith, t .before .loop .inv .1 .begins, below t, lineCount-le (a .edition) (now (a .book)))
+
+read-run-requires-2 : tie.Need-read-run-requires-2 Inv-loop μ-loop
+read-run-requires-2 c κs = search needs
+
+sub-answer : tie.Need-sub-answer Inv-loop μ-loop
+sub-answer c = omega (arith, in-hand (c .before) .0 .begins, c .before .before .number-of2 .ensures)
+
+mul-answer : tie.Need-mul-answer Inv-loop μ-loop
+mul-answer c = omega (arith, in-hand (c .before) .1)
+
+array-copy-out-answer : tie.Need-array-copy-out-answer Inv-loop μ-loop
+array-copy-out-answer c = omega (arith, in-hand (c .before) .1)
 
 slice-aggregate-put-nth : tie.Need-slice-aggregate-put-nth Inv-loop μ-loop
-slice-aggregate-put-nth c = c .before .before .before .before .before .loop .inv .3 ∙ sym (c .before .before .run-with .kept .1 .1 .1 .1 .1 .0)
-
-slice-aggregate-put-nth-2 : tie.Need-slice-aggregate-put-nth-2 Inv-loop μ-loop
-slice-aggregate-put-nth-2 c = c .before .before .before .before .before .before .loop .inv .4
+slice-aggregate-put-nth c = turn (c .before .before .before) .before .loop .inv .2
 
 put-nth-requires : tie.Need-put-nth-requires Inv-loop μ-loop
 put-nth-requires c κs =
-    let got = c .before .before .before in
-    let turn = got .before .before in
-    (below turn, got .run-with .ensures .0, got .run-with .ensures .1, omega (arith, turn .before .loop .inv .4))
+    let j = c .before .before .before in
+    let t = turn j in
+    let p = answered j _ in
+    (start t .args .edition, (p .0, rw (p .1) (omega (arith, length-line-le _ _ _ (below t), t .before .loop .inv .2))))
 
-sub-if1 : tie.Need-sub-if1 Inv-loop μ-loop
-sub-if1 c = c .before .before .before .before .before .before .before .before .loop .inv .0 .inside
+sub-if2 : tie.Need-sub-if2 Inv-loop μ-loop
+sub-if2 c = turn (joined (c .before)) .before .loop .inv .0 .inside
 
 same-length : tie.Need-same-length Inv-loop μ-loop
-same-length c = c .before .before .before .before .before .before .before .before .before .loop .inv .0 .size
+same-length c = turn (joined (c .before .before)) .before .loop .inv .0 .size
 
 returns : tie.Need-returns Inv-loop μ-loop
 returns c =
-    let made = c .before .before in
-    let turn = made .before .before .before .before .before .before in
-    filling-full _ _ _ _ _ _ _ _ (turn .before .loop .inv .0) _ (turn .loop-test .taken) (front made .0) (c .if1 .taken)
+    let m = c .before .before in
+    let t = turn (joined m) in
+    filling-full _ _ _ _ _ _ _ _ (t .before .loop .inv .0) _ (t .loop-test .taken) (front m .0) (c .if2 .taken)
 
 array-share-prefix-line : tie.Need-array-share-prefix-line Inv-loop μ-loop
 array-share-prefix-line c = inside (c .before .before .before)
@@ -96,36 +162,32 @@ slice-aggregate-put-bytes c = sym (length-take-le _ _ (inside (c .before .before
 
 put-bytes-requires : tie.Need-put-bytes-requires Inv-loop μ-loop
 put-bytes-requires c κs =
-    let made = c .before .before .before .before in
-    let turn = made .before .before .before .before .before .before in
-    rw (length-take-le _ _ (inside made)) (omega (arith, c .before .before .if1 .left, turn .before .loop .inv .0 .inside))
+    let m = c .before .before .before .before in
+    rw (length-take-le _ _ (inside m)) (omega (arith, c .before .before .if2 .left, turn (joined m) .before .loop .inv .0 .inside))
 
 add-next : tie.Need-add-next Inv-loop μ-loop
 add-next c =
-    let turn = c .before .before .before .before .before .before .before .before .before .before .before .before .before in
-    let a = turn .before .before .before .before .before .before .before .args in
-    omega (arith, below turn, lineCount-le (a .edition) (now (a .book)))
+    let t = turn (joined (made (c .before .before))) in
+    let a = start t .args in
+    omega (arith, below t, lineCount-le (a .edition) (now (a .book)))
 
 sub-left : tie.Need-sub-left Inv-loop μ-loop
-sub-left c = c .before .before .before .before .before .before .before .before .before .before .before .before .before .loop-test .taken
+sub-left c = turn (joined (made (c .before .before))) .loop-test .taken
 
 loop-less : tie.Need-loop-less Inv-loop μ-loop
-loop-less c =
-    let taken = c .before .before .before .before .before .before .before .before .before .before .before .before .before .loop-test .taken in
-    omega arith
+loop-less c = let taken = turn (joined (made (c .before .before))) .loop-test .taken in omega arith
 
 loop-again : tie.Need-loop-again Inv-loop μ-loop
 loop-again c =
-    let other = c .before .before .before .before .before in
-    let made = other .before .before in
-    let got = made .before .before .before .before in
-    let turn = got .before .before in
-    let inv = turn .before .loop .inv in (
-      filling-next _ _ _ _ _ _ _ _ (inv .0) _ _ _ _ (turn .loop-test .taken) (front made) (other .if1 .left) (c .before .before .put-bytes .ensures),
-      got .run-with .ensures .0,
-      omega (arith, got .run-with .ensures .1 .begins),
-      inv .3 ∙ sym (got .run-with .kept .1 .1 .1 .1 .1 .0),
-      inv .4 ∙ sym (made .put-nth .kept .1 .1 .1 .1 .1 .1 .0),
+    let put = c .before .before in
+    let m = made put in
+    let j = joined m in
+    let t = turn j in
+    let inv = t .before .loop .inv in
+    let h = in-hand j .0 in (
+      filling-next _ _ _ _ _ _ _ _ (inv .0) _ _ _ _ (t .loop-test .taken) (front m) (put .before .before .before .if2 .left) (put .put-bytes .ensures),
+      record { begins = omega (arith, h .begins); presets = h .presets },
+      inv .2 ∙ sym (m .put-nth .kept .1 .1 .1 .1 .0),
     )
 
 same-length-2 : tie.Need-same-length-2 Inv-loop μ-loop
@@ -141,15 +203,20 @@ next-piece-spec =
     Inv-loop
     μ-loop
     large-buffer-requires
-    blank-run-requires
+    check-book-requires
+    number-of-requires
+    read-run-requires
     lines-from-requires
     loop-holds
-    slice-aggregate-run-with
-    run-with-requires
+    number-of-requires-2
+    add-if1
+    read-run-requires-2
+    sub-answer
+    mul-answer
+    array-copy-out-answer
     slice-aggregate-put-nth
-    slice-aggregate-put-nth-2
     put-nth-requires
-    sub-if1
+    sub-if2
     same-length
     returns
     array-share-prefix-line

@@ -1,0 +1,77 @@
+-- `runs::read_run` stores preset after preset. The invariant: the presets before `i` are stored.
+-- Assumes nothing.
+use mathlib.Core.Path.{_∙_}
+use Prim.Native.Nat.{_-_}
+use native.Mathlib.Nat.{min-le-right}
+use native.Mathlib.Omega.{arith}
+use borrow.Author.Needs.{needs}
+use Rattle.book_format.specs.Calls.{checkedPreset}
+use Rattle.book.proofs.runs.Runs.{Begun, begun-none, begun-next, begun-whole, preset-from}
+use Rattle.book.proofs.runs.read_run.Statement.{statement}
+use Rattle.book.proofs.runs.read_run.Tie as tie
+
+abbrev Inv-loop : tie.InvT-loop
+Inv-loop edition book first refusal start run₀ i₀ run i = Begun (checkedPreset edition book) first 128 i run
+
+abbrev μ-loop : tie.MeasureT-loop
+μ-loop edition book first refusal start run₀ i₀ run i = 128 - i
+
+book-refusal-requires : tie.Need-book-refusal-requires Inv-loop μ-loop
+book-refusal-requires c κs = search needs
+
+smaller-of-requires : tie.Need-smaller-of-requires Inv-loop μ-loop
+smaller-of-requires c κs = search needs
+
+blank-run-requires : tie.Need-blank-run-requires Inv-loop μ-loop
+blank-run-requires c κs = search needs
+
+loop-holds : tie.Need-loop-holds Inv-loop μ-loop
+loop-holds c = begun-none _ _ _ _ (c .blank-run .ensures)
+
+add-numbered-preset : tie.Need-add-numbered-preset Inv-loop μ-loop
+add-numbered-preset c =
+    let sized = c .before .before .before in
+    omega (arith, sized .smaller-of .ensures, min-le-right (sized .before .before .before .args .first) 65535)
+
+numbered-preset-requires : tie.Need-numbered-preset-requires Inv-loop μ-loop
+numbered-preset-requires c κs = search needs
+
+mul-run : tie.Need-mul-run Inv-loop μ-loop
+mul-run c = search needs
+
+array-set-from-run : tie.Need-array-set-from-run Inv-loop μ-loop
+array-set-from-run c = search needs
+
+add-i : tie.Need-add-i Inv-loop μ-loop
+add-i c = search needs
+
+loop-less : tie.Need-loop-less Inv-loop μ-loop
+loop-less c = omega arith
+
+loop-again : tie.Need-loop-again Inv-loop μ-loop
+loop-again c =
+    let turn = c .before in
+    let read = c .numbered-preset .ensures ∙ preset-from _ _ _ _ _ (turn .before .before .before .smaller-of .ensures) in
+    begun-next _ _ _ _ _ _ (turn .before .loop .inv) (turn .loop-test .taken) read
+
+returns : tie.Need-returns Inv-loop μ-loop
+returns c = begun-whole _ _ _ _ _ (c .before .loop .inv) (c .loop-test .left)
+
+pub read-run-spec : {M : Type 1} → statement M
+read-run-spec =
+    tie.close
+    (tie.spec
+    Inv-loop
+    μ-loop
+    book-refusal-requires
+    smaller-of-requires
+    blank-run-requires
+    loop-holds
+    add-numbered-preset
+    numbered-preset-requires
+    mul-run
+    array-set-from-run
+    add-i
+    loop-less
+    loop-again
+    returns)
