@@ -30,6 +30,7 @@ pub mod Peeling
 pub mod BlockAction
 pub mod Indices
 pub mod NormalForms
+pub mod PeelingByPlaces
 pub mod Lengths
 pub mod Crossings
 pub mod CountedPairs

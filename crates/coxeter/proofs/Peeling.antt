@@ -32,7 +32,7 @@ pub record Peeled (i : ℕ) (w : List ℤ) : Type 0 where
   pub size : natAbs entry ≡ i
   pub new : hasSize i left ≡ false
 
-peeled-of-hasSize : (i : ℕ) (w : List ℤ) → hasSize i w ≡ true → Peeled i w
+pub peeled-of-hasSize : (i : ℕ) (w : List ℤ) → hasSize i w ≡ true → Peeled i w
 unfolding hasSize
 peeled-of-hasSize i [] h = let z : false ≡ true = h in absurd (let q : _≡_ {A = ℕ} 0 1 = cc in omega arith)
 peeled-of-hasSize i (e ∷ w) h = go (eqb (natAbs e) i) refl (peeled-of-hasSize i w)

@@ -1,5 +1,9 @@
 -- What the proofs of the module `normal` share.
 pub mod Blocks
-pub mod OwnIndices
+pub mod StoredPlaces
+pub mod OneLevel
+pub mod OneCall
+pub mod LeftPositions
 pub mod Signs
-pub mod Forms
+pub mod PeeledForms
+pub mod FirstLevel

@@ -19,8 +19,8 @@ struct Parts {
     negatives: usize,
 }
 
-// How many sizes of a set are s or larger; the size s is bit s - 1. The set has m bits; 8 are
-// counted as a byte, in fewer steps.
+// How many sizes, or positions, of a set are s or larger; s is bit s - 1. The set has m bits; 8 are counted as a byte,
+// in fewer steps.
 pub(crate) fn larger_behind(m: usize, set: u64, s: u8) -> usize
     requires { ⌜ (1 ≤ s) × (s ≤ 64) × (set < 2 ^ m) ⌝ }
     ensures { λ r. ⌜ r ≡ ones (set / 2 ^ (s - 1)) ⌝ }
@@ -33,7 +33,7 @@ pub(crate) fn larger_behind(m: usize, set: u64, s: u8) -> usize
 }
 
 // A set and the size s.
-pub(crate) fn with_size(set: u64, s: u8) -> u64
+fn with_size(set: u64, s: u8) -> u64
     requires { ⌜ (1 ≤ s) × (s ≤ 64) ⌝ }
     ensures { λ r. ⌜ r ≡ bitOr set (2 ^ (s - 1)) ⌝ }
 {

@@ -103,7 +103,8 @@ pub fn normal_form_of_window(kind: u8, rank: u8, w: &[i8], out: &mut [u8]) -> An
     if refusal != 0 {
         return Answer::Refused(refusal);
     }
-    // All of w as a part of it, as the indices in `normal::write_from`.
+    // All of w as a part of it, whose pointer and length are stored anew: a slice that is lent on as it is would be
+    // copied as one number that was just stored as two, and the copy waits for them.
     let m = w.len();
     write_checked(kind, rank, &w[..m], out)
 }

@@ -1,23 +1,22 @@
-// The normal form of an accepted window (N10 of the specification): first the indices j of its blocks, in one pass
-// over the entries, then the blocks, level by level, those of the higher levels first.
+// The normal form of an accepted window (N10 of the specification), peeled off level by level: the index of the block of
+// level i is read off the place of i among the positions left, the rest is a normal form of the levels above, and the
+// block is written behind it.
 use crate::length::larger_behind;
-use crate::length::with_size;
 use refusals::is_negative;
 use refusals::size;
 ghost use mathlib.Core.Path.{_≡_};
-ghost use mathlib.Core.Bool.{_||_};
-ghost use mathlib.Core.List.{List, _++_};
-ghost use Prim.Native.Nat.{ℕ, _+_, _-_, _*_, _<_, _≤_};
-ghost use lib.Dec.{eqb};
-ghost use lib.IntN.{ℤ};
+ghost use mathlib.Core.List.{_++_};
+ghost use Prim.Native.Nat.{ℕ, suc, _+_, _-_, _*_, _^_, _<_, _≤_};
+ghost use lib.IntN.{pos, natAbs};
 ghost use lib.ListN.{length, take, getD};
 ghost use lib.Seq.{sets};
-ghost use Rattle.coxeter.specs.Kinds.{B, D, pick, kindOf, lanes};
+ghost use Rattle.coxeter.specs.Kinds.{kindOf, lanes};
 ghost use Rattle.coxeter.specs.Checks.{Rig, WindowOf};
 ghost use Rattle.coxeter.specs.Calls.{written};
-ghost use Rattle.coxeter.specs.NormalForm.{rise, fall, block, blocks, levels, normalForm};
+ghost use Rattle.coxeter.specs.NormalForm.{rise, fall, block, normalForm};
 ghost use Rattle.coxeter.proofs.Acceptance.{Ranked};
-ghost use Rattle.coxeter.proofs.Indices.{indices};
+ghost use Rattle.coxeter.proofs.PeelingByPlaces.{placeOf, PlacesOf, Place, lastLevel, withoutPosition, signChanged};
+ghost use Rattle.coxeter.proofs.PeelingByPlaces.{indexAt, leftAt, oddAt, peeledWord};
 
 // The letters from a up to b, written from the place `at` on; the answer is the place after them.
 fn write_up(out: &mut [u8], at: usize, a: usize, b: usize) -> usize
@@ -34,16 +33,18 @@ fn write_up(out: &mut [u8], at: usize, a: usize, b: usize) -> usize
     r
 }
 
-// The letters from b down to a, written from the place `at` on; the answer is the place after them.
+// The letters from b down to a, written from the place `at` on; the answer is the place after them. The letters are
+// counted in a byte, so that many are made at a time.
 fn write_down(out: &mut [u8], at: usize, b: usize, a: usize) -> usize
-    requires { ⌜ (b < 256) × (at + length (fall b a) ≤ length (now out)) ⌝ }
+    requires { ⌜ (b < 255) × (a < 256) × (at + length (fall b a) ≤ length (now out)) ⌝ }
     ensures { λ r. ⌜ (r ≡ at + length (fall b a)) × (now (out .exit) ≡ sets (now (out .entry)) at (fall b a)) ⌝ }
 {
     let mut r = at;
-    let mut above = b + 1;
-    while a < above {
+    let least = a as u8;
+    let mut above = (b + 1) as u8;
+    while least < above {
         above -= 1;
-        out[r] = above as u8;
+        out[r] = above;
         r += 1;
     }
     r
@@ -58,7 +59,7 @@ struct Turn {
 // The turn of the blocks of B and D. In D the way down starts with n.
 fn turn_of(kind: u8, n: usize) -> Turn
     requires { ⌜ Ranked (kindOf kind) n × (kind ≡ 1 → ⊥) ⌝ }
-    ensures { λ r. ⌜ (r .top < 256) × (r .high < 256)
+    ensures { λ r. ⌜ (r .top < 256) × (r .high < 255)
         × ((i j : ℕ) → n ≤ j → block (kindOf kind) n i j ≡ rise i (r .top) ++ fall (r .high) (2 * n - j)) ⌝ }
 {
     if kind == 2 {
@@ -85,136 +86,165 @@ fn write_turned(kind: u8, n: usize, i: usize, j: usize, out: &mut [u8], at: usiz
     write_down(out, next, turn.high, 2 * n - j)
 }
 
-// N4 to N8: the block [i,j], written from the place `at` on; the answer is the place after it. Before the turn, and
-// in A always, it goes up only.
-fn write_block(kind: u8, n: usize, i: usize, j: usize, out: &mut [u8], at: usize) -> usize
-    requires { ⌜ Ranked (kindOf kind) n × (j ≤ 2 * n) ⌝ }
-    requires { ⌜ at + length (block (kindOf kind) n i j) ≤ length (now out) ⌝ }
-    ensures { λ r. ⌜ (r ≡ at + length (block (kindOf kind) n i j))
-        × (now (out .exit) ≡ sets (now (out .entry)) at (block (kindOf kind) n i j)) ⌝ }
+// N4 to N8: the block [i,j], written from the place `at` on; the answer is the place after it. Before the turn it goes
+// up only. The windows have m entries: in B and D that is the rank, and in A every j is below it.
+fn write_block(kind: u8, m: usize, i: usize, j: usize, out: &mut [u8], at: usize) -> usize
+    requires { ⌜ Ranked (kindOf kind) m × (j ≤ 2 * m) × (kind ≡ 1 → j < m) ⌝ }
+    requires { ⌜ at + length (block (kindOf kind) m i j) ≤ length (now out) ⌝ }
+    ensures { λ r. ⌜ (r ≡ at + length (block (kindOf kind) m i j))
+        × (now (out .exit) ≡ sets (now (out .entry)) at (block (kindOf kind) m i j)) ⌝ }
 {
-    if kind == 1 || j < n {
+    if j < m {
         return write_up(out, at, i, j);
     }
-    write_turned(kind, n, i, j, out, at)
+    write_turned(kind, m, i, j, out, at)
 }
 
-// Indices of blocks, with room for every level.
-fn no_indices() -> [u8; 64]
+// Places of entries, with room for every size.
+fn no_places() -> [u8; 64]
     ensures { λ r. ⌜ length r ≡ 64 ⌝ }
 {
     [0u8; 64]
 }
 
-// The index of the block of an entry with so many larger sizes behind it, in a window of kind B with m entries.
-fn own_index(m: usize, minus: bool, larger: usize) -> u8
-    requires { ⌜ (m ≤ 64) × (larger < m) ⌝ }
-    ensures { λ r. ⌜ r ≡ pick minus (m + larger) (m - 1 - larger) ⌝ }
+// The place of an entry: its position p, and 128 more if it is negative.
+fn place_of(e: i8, p: u8) -> u8
+    requires { ⌜ p < 128 ⌝ }
+    ensures { λ r. ⌜ r ≡ placeOf e p ⌝ }
 {
-    if minus {
-        return (m + larger) as u8;
+    if is_negative(e) {
+        return p + 128;
     }
-    (m - 1 - larger) as u8
+    p
 }
 
-// The indices of a window of kind B, written to the front of `out`: one pass from the last entry to the first, with
-// the set of the sizes behind, stores the index of each entry at the entry's size. What is taken out at the levels
-// below is smaller and changes none of them. An accepted window of any kind is one of kind B.
-fn set_indices(w: &[i8], out: &mut [u8])
-    requires { ⌜ (length (now w) ≤ 64) × (length (now w) ≤ length (now out)) ⌝ }
-    requires { ⌜ WindowOf B (length (now w)) (now w) ⌝ }
-    ensures { λ _. ⌜ take (length (now (w .entry))) (now (out .exit)) ≡ indices B (length (now (w .entry))) (length (now (w .entry))) 1 (now (w .entry)) ⌝ }
-{
-    let m = w.len();
-    let mut behind: u64 = 0;
-    let mut i = m;
-    while 0 < i {
-        i -= 1;
-        let e = w[i];
-        let s = size(e);
-        let larger = larger_behind(m, behind, s);
-        behind = with_size(behind, s);
-        let p = (s as usize) - 1;
-        out[p] = own_index(m, is_negative(e), larger);
-    }
-}
-
-// The index of an entry of kind D from that of kind B: n or n - 1 only if the entry is the last of those that are
-// left, and then by its sign, which is negative if `odd`.
-fn settled_index(n: u8, odd: bool, j: u8) -> u8
-    requires { ⌜ 1 ≤ n ⌝ }
-    ensures { λ r. ⌜ r ≡ pick (eqb j n || eqb j (n - 1)) (pick odd n (n - 1)) j ⌝ }
-{
-    if (j == n) | (j == n - 1) {
-        if odd {
-            return n;
-        }
-        return n - 1;
-    }
-    j
-}
-
-// The indices of kind D, in place of those of kind B. Each negative entry that is taken out changes the sign of the
-// last entry left, so the last one is negative if an odd number of the entries up to its level are.
-fn settle_signs(n: u8, js: &mut [u8])
-    requires { ⌜ 1 ≤ n ⌝ }
-    ensures { λ _. ⌜ ((w : List ℤ) → WindowOf D n w → now (js .entry) ≡ indices B n (n - 1) 1 w
-        → now (js .exit) ≡ indices D n (n - 1) 1 w) ⌝ }
-{
-    let mut odd = false;
-    let mut i = 0;
-    while i < js.len() {
-        let j = js[i];
-        odd = odd ^ (n <= j);
-        js[i] = settled_index(n, odd, j);
-        i += 1;
-    }
-}
-
-// The indices of an accepted window, one a level, written to the front of `out`.
-fn set_levels(kind: u8, rank: u8, w: &[i8], out: &mut [u8])
+// The places of the entries of an accepted window, each stored at the entry's size.
+fn set_places(kind: u8, rank: u8, w: &[i8], places: &mut [u8; 64])
     requires { ⌜ Rig kind rank ⌝ }
     requires { ⌜ WindowOf (kindOf kind) rank (now w) ⌝ }
-    requires { ⌜ length (now out) ≡ 64 ⌝ }
-    ensures { λ _. ⌜ take (levels (kindOf kind) rank) (now (out .exit)) ≡ indices (kindOf kind) rank (levels (kindOf kind) rank) 1 (now (w .entry)) ⌝ }
+    requires { ⌜ length (now places) ≡ 64 ⌝ }
+    ensures { λ _. ⌜ PlacesOf (now (w .entry)) (now (places .exit)) ⌝ }
 {
-    set_indices(w, out);
+    let mut i = 0;
+    while i < w.len() {
+        let e = w[i];
+        let s = (size(e) as usize) - 1;
+        i += 1;
+        places[s] = place_of(e, i as u8);
+    }
+}
+
+// One level: the index of its block, the set of the positions left, and whether an odd number of negative entries were
+// taken out.
+struct Level {
+    index: usize,
+    left: u64,
+    odd: bool,
+}
+
+// A set of positions without position p, which is bit p - 1.
+fn without(left: u64, p: u8) -> u64
+    requires { ⌜ (1 ≤ p) × (p ≤ 64) ⌝ }
+    ensures { λ r. ⌜ r ≡ withoutPosition p left ⌝ }
+{
+    left ^ (1u64 << (p - 1))
+}
+
+// Whether the entry of a level has changed its sign: in D each negative entry that is taken out changes the sign of the
+// last entry left, which has none behind it.
+fn has_changed_sign(kind: u8, behind: usize, odd: bool) -> bool
+    ensures { λ r. ⌜ r ≡ signChanged (kindOf kind) behind odd ⌝ }
+{
     match kind {
-        1 | 2 => {}
-        _ => {
-            let t = (rank as usize) - 1;
-            settle_signs(rank, &mut out[..t]);
+        1 | 2 => false,
+        _ => odd & (behind == 0),
+    }
+}
+
+// N10: the level whose entry stands at `place`, in windows of m entries. The lower entries stand still in front, so the
+// entry is at position m - behind of what is left, and its index is one less, or m + behind if it is negative there.
+// `behind` counts the positions left from p + 1 on, which are those from p on of the set that is moved down by one.
+fn level_of(kind: u8, m: usize, place: u8, left: u64, odd: bool) -> Level
+    requires { ⌜ (m ≤ 64) × (left < 2 ^ m) × Place (kindOf kind) m place ⌝ }
+    ensures { λ r. ⌜ (r .index ≡ indexAt (kindOf kind) m place left odd) × (r .left ≡ leftAt place left) × (r .odd ≡ oddAt place odd) ⌝ }
+{
+    if 128 <= place {
+        let p = place - 128;
+        let rest = without(left, p);
+        let behind = larger_behind(m, left >> 1, p);
+        if has_changed_sign(kind, behind, odd) {
+            return Level {
+                index: m - 1,
+                left: rest,
+                odd: false,
+            };
         }
+        return Level {
+            index: m + behind,
+            left: rest,
+            odd: !odd,
+        };
+    }
+    let rest = without(left, place);
+    let behind = larger_behind(m, left >> 1, place);
+    if has_changed_sign(kind, behind, odd) {
+        return Level {
+            index: m,
+            left: rest,
+            odd: true,
+        };
+    }
+    Level {
+        index: m - 1 - behind,
+        left: rest,
+        odd: odd,
     }
 }
 
-// The blocks of the levels from i on, whose indices are `js`, written to the front of out; the answer is how many
-// letters they have. The number of levels left falls at each call. The indices left are lent as a part, whose pointer
-// and length are stored anew: a slice that is lent on as it is would be copied as one number that was just stored as
-// two, and the copy waits for them.
-fn write_from(kind: u8, n: usize, i: usize, js: &[u8], out: &mut [u8]) -> usize
-    requires { ⌜ Ranked (kindOf kind) n × (i + length (now js) ≤ 65) ⌝ }
-    requires { ⌜ ((p : ℕ) → p < length (now js) → getD (now js) p 0 ≤ 2 * n) ⌝ }
-    requires { ⌜ length (blocks (kindOf kind) n i (now js)) ≤ length (now out) ⌝ }
-    ensures { λ r. ⌜ (r ≡ length (blocks (kindOf kind) n i (now (js .entry))))
-        × (now (out .exit) ≡ sets (now (out .entry)) 0 (blocks (kindOf kind) n i (now (js .entry)))) ⌝ }
+// The last level of windows of m entries.
+fn last_level(kind: u8, m: usize) -> usize
+    requires { ⌜ 1 ≤ m ⌝ }
+    ensures { λ r. ⌜ r ≡ lastLevel (kindOf kind) m ⌝ }
 {
-    if js.len() == 0 {
-        return 0;
+    if kind == 2 {
+        return m;
     }
-    let at = write_from(kind, n, i + 1, &js[1..], out);
-    write_block(kind, n, i, js[0] as usize, out, at)
+    m - 1
 }
 
-// The number of levels.
-fn levels_of(kind: u8, n: usize) -> usize
-    requires { ⌜ 1 ≤ n ⌝ }
-    ensures { λ r. ⌜ r ≡ levels (kindOf kind) n ⌝ }
+// The levels from i on, written to the front of `out`: the block of level i is peeled off, the rest is a normal form of
+// the levels above, and the block is written behind it. The answer is how many letters there are. `left` is the set of
+// the positions left, and `odd` says whether an odd number of negative entries were taken out. The number of levels left
+// falls at each call.
+fn peel(
+    kind: u8,
+    m: usize,
+    i: usize,
+    places: &[u8; 64],
+    left: u64,
+    odd: bool,
+    out: &mut [u8],
+) -> usize
+    requires { ⌜ Ranked (kindOf kind) m × (1 ≤ i) × (i ≤ lastLevel (kindOf kind) m) × (left < 2 ^ m) ⌝ }
+    requires { ⌜ ((s : ℕ) → s < m → Place (kindOf kind) m (getD (now places) s 0)) ⌝ }
+    requires { ⌜ length (peeledWord (kindOf kind) m (now places) i left odd) ≤ length (now out) ⌝ }
+    ensures { λ r. ⌜ (r ≡ length (peeledWord (kindOf kind) m (now (places .entry)) i left odd))
+        × (now (out .exit) ≡ sets (now (out .entry)) 0 (peeledWord (kindOf kind) m (now (places .entry)) i left odd)) ⌝ }
 {
-    match kind {
-        1 | 2 => n,
-        _ => n - 1,
+    let level = level_of(kind, m, places[i - 1], left, odd);
+    let mut at = 0;
+    if i < last_level(kind, m) {
+        at = peel(kind, m, i + 1, places, level.left, level.odd, out);
     }
+    write_block(kind, m, i, level.index, out, at)
+}
+
+// The set of all positions of m entries.
+fn all_positions(m: usize) -> u64
+    requires { ⌜ (1 ≤ m) × (m ≤ 64) ⌝ }
+    ensures { λ r. ⌜ r ≡ 2 ^ m - 1 ⌝ }
+{
+    18446744073709551615u64 >> (64 - m)
 }
 
 // The normal form of the accepted window at the front of `work`, written to the front of `out`; the answer is its
@@ -227,10 +257,8 @@ pub(crate) fn write_normal_form(kind: u8, rank: u8, work: &[i8], out: &mut [u8])
     ensures { λ r. ⌜ (r ≡ length (normalForm (kindOf kind) rank (take (lanes (kindOf kind) rank) (now (work .entry)))))
         × (now (out .exit) ≡ written 0 (normalForm (kindOf kind) rank (take (lanes (kindOf kind) rank) (now (work .entry)))) (now (out .entry))) ⌝ }
 {
-    let n = rank as usize;
     let m = crate::entries::lanes(kind, rank);
-    let t = levels_of(kind, n);
-    let mut js = no_indices();
-    set_levels(kind, rank, &work[..m], &mut js);
-    write_from(kind, n, 1, &js[..t], out)
+    let mut places = no_places();
+    set_places(kind, rank, &work[..m], &mut places);
+    peel(kind, m, 1, &places, all_positions(m), false, out)
 }

@@ -4,27 +4,22 @@
 use mathlib.Core.Path.{_≡_, sym, ap, _∙_}
 use mathlib.Core.List.{List, _∷_}
 use Prim.Native.Nat.{ℕ, _+_, _-_, _/_, _^_, _≤_, _<_}
-use native.Mathlib.Nat.{le-refl}
 use native.Mathlib.Omega.{arith}
 use lib.Bits.{bitOr}
 use lib.Count.{ones}
 use lib.IntN.{ℤ, pos, natAbs}
-use lib.ListN.{length, length-drop, getD, drop, drop-of-length-le}
+use lib.ListN.{length, getD, drop}
 use Rattle.coxeter.specs.Kinds.{B}
 use Rattle.coxeter.specs.Checks.{WindowOf}
 use Rattle.coxeter.proofs.Lists.{drop-next}
 use Rattle.coxeter.proofs.Levels.{Level, accepted-of-refusal}
 use Rattle.coxeter.proofs.Places.{between-getD}
-use Rattle.window.proofs.length.SizeSets.{sizeSet, sizeSet-nil, sizeSet-lt, sizeSet-cons, fromSize, fromSize-add-smaller}
-use Rattle.window.proofs.length.Sums.{between-drop, distinct-drop}
+use Rattle.window.proofs.length.SizeSets.{sizeSet, sizeSet-lt, sizeSet-cons, fromSize}
 
 -- the entries from j on were gone through
 pub record Behind (w : List ℤ) (set j : ℕ) : Type 0 where
   pub inside : j ≤ length w
   pub set-is : set ≡ sizeSet (length w) 1 (drop j w)
-
-pub behind-none : (w : List ℤ) → Behind w 0 (length w)
-behind-none w = record { inside = le-refl (length w); set-is = rw (drop-of-length-le w (le-refl (length w))) (sym (sizeSet-nil (length w) 1)) }
 
 -- one entry further to the front: the entry at j - 1, of size s
 module _ (w : List ℤ) (set j s : ℕ) (h : Behind w set j) (p : 0 < j) (g : WindowOf B (length w) w)
@@ -63,11 +58,3 @@ module _ (w : List ℤ) (set j s : ℕ) (h : Behind w set j) (p : 0 < j) (g : Wi
     pub larger-is : l ≡ fromSize m (natAbs e) (drop j w)
     unfolding fromSize
     larger-is = r ∙ rw (h .set-is, q)
-
-    -- there are fewer entries behind than in all
-    pub larger-lt : l < m
-    larger-lt =
-        let b = size-bounds in
-        let few = fromSize-add-smaller m (natAbs e) (drop j w) (omega (arith, q, b .0)) (omega (arith, q, b .1))
-        (between-drop 1 (1 + m) j w (own .between)) (distinct-drop j w (own .distinct)) in
-        omega (arith, larger-is, few, length-drop j w, h .inside)

@@ -7,7 +7,7 @@ use mathlib.Core.Path.{_≡_, refl, sym, ap, _∙_}
 use mathlib.Core.Bool.{Bool, true, false, not, _||_, or-true, or-false}
 use mathlib.Core.List.{List, [], _∷_, map}
 use Prim.Native.Nat.{ℕ, zero, suc, _+_, _-_, _*_, _/_, _%_, _^_, _≤_, _<_, max}
-use native.Mathlib.Nat.{add-zero, le-refl, pow-zero, pow-suc, div-one}
+use native.Mathlib.Nat.{add-zero, pow-zero, pow-suc, div-one}
 use native.Mathlib.Omega.{arith}
 use lib.Bits.{bitOr, or-step, or-zero-r}
 use lib.Count.{ones, ones-step}
@@ -15,12 +15,11 @@ use lib.Dec.{ltb}
 use lib.IntN.{ℤ, natAbs}
 use lib.ListN.{length}
 use lib.Pow.{shr-shr}
-use borrow.Author.Tests.{eq-eqb, ne-eqb, ltb-true, ltb-false, le-ltb}
+use borrow.Author.Tests.{eq-eqb, ne-eqb, ltb-true, ltb-false}
 use Rattle.coxeter.specs.Kinds.{pick}
 use Rattle.coxeter.specs.Length.{one, later, laterThan}
 use Rattle.coxeter.specs.Checks.{hasSize}
 use Rattle.coxeter.proofs.Levels.{Between, Distinct}
-use Rattle.coxeter.proofs.Places.{between-mono}
 use Rattle.coxeter.proofs.PairWeights.{one-le}
 use Rattle.window.proofs.length.Sums.{smaller}
 
@@ -41,12 +40,12 @@ unfolding sizeSet
 sizeSet-lt zero s w = omega arith
 sizeSet-lt (suc d) s w = omega (arith, sizeSet-lt d (suc s) w, one-le (hasSize s w), pow-suc 2 d)
 
-digit-half : (t : Bool) (x : ℕ) → (2 * x + one t) / 2 ≡ x
+pub digit-half : (t : Bool) (x : ℕ) → (2 * x + one t) / 2 ≡ x
 unfolding one
 digit-half true x = omega arith
 digit-half false x = omega arith
 
-digit-odd : (t : Bool) (x : ℕ) → (2 * x + one t) % 2 ≡ one t
+pub digit-odd : (t : Bool) (x : ℕ) → (2 * x + one t) % 2 ≡ one t
 unfolding one
 digit-odd true x = omega arith
 digit-odd false x = omega arith
@@ -105,7 +104,7 @@ sizeSet-cons (suc d) s (suc p) e w q l =
 
 -- ---- how many sizes
 
-ones-digit : (t : Bool) (x : ℕ) → ones (2 * x + one t) ≡ one t + ones x
+pub ones-digit : (t : Bool) (x : ℕ) → ones (2 * x + one t) ≡ one t + ones x
 ones-digit t x = ones-step (2 * x + one t) ∙ rw (digit-odd t x, digit-half t x)
 
 one-more : (t : Bool) (y : ℕ) → one true + y ≡ one (not t) + (one t + y)
@@ -174,22 +173,3 @@ pub fromSize-add-smaller : (m a : ℕ) (w : List ℤ) → 1 ≤ a → a ≤ m �
 fromSize-add-smaller m a w l h b d =
     let upper : a + (1 + m - a) ≡ 1 + m = omega arith in
     rw (fromSize-is m a w l h) (ones-or-smaller (1 + m - a) a w (rw upper b) d)
-
-sizeSet-same : (d s : ℕ) (v w : List ℤ) → ((a : ℕ) → s ≤ a → hasSize a v ≡ hasSize a w) → sizeSet d s v ≡ sizeSet d s w
-unfolding sizeSet
-sizeSet-same zero s v w f = refl
-sizeSet-same (suc d) s v w f = rw (sizeSet-same d (suc s) v w (λ a h. f a (omega arith)), f s (le-refl s))
-
--- lists with the same sizes from a on
-pub fromSize-same : (m a : ℕ) (v w : List ℤ) → 1 ≤ a → a ≤ m → ((s : ℕ) → a ≤ s → hasSize s v ≡ hasSize s w) → fromSize m a v ≡ fromSize m a w
-fromSize-same m a v w l h f = fromSize-is m a v l h ∙ ap ones (sizeSet-same (1 + m - a) a v w f) ∙ sym (fromSize-is m a w l h)
-
-smaller-none : (a c : ℕ) (w : List ℤ) → Between a c w → smaller a (map natAbs w) ≡ 0
-unfolding smaller laterThan later one
-smaller-none a c [] b = refl
-smaller-none a c (e ∷ w) b = rw (le-ltb (natAbs e) a (b .0)) (omega (arith, smaller-none a c w (b .2)))
-
--- where every size is a or larger, all are counted
-pub fromSize-all : (m a : ℕ) (w : List ℤ) → 1 ≤ a → a ≤ m → Between a (1 + m) w → Distinct w → fromSize m a w ≡ length w
-fromSize-all m a w l h b d =
-    omega (arith, fromSize-add-smaller m a w l h (between-mono a (1 + m) 1 (1 + m) w l (le-refl (1 + m)) b) d, smaller-none a (1 + m) w b)

@@ -11,9 +11,9 @@ use native.Mathlib.Decide.{decLe}
 use native.Mathlib.Numerals.{add-one}
 use native.Mathlib.Omega.{arith}
 use borrow.Author.Tests.{le-leb, lt-leb, le-ltb}
-use Rattle.coxeter.specs.Kinds.{Kind, A, B, D, least}
+use Rattle.coxeter.specs.Kinds.{Kind, B, D, least}
 use Rattle.coxeter.specs.NormalForm.{rise, fall, block}
-use Rattle.coxeter.proofs.Runs.{slide, rise-span, fall-slide, span-cons, span-nil, slide-cons, slide-nil, block-up}
+use Rattle.coxeter.proofs.Runs.{slide, rise-span, fall-slide, span-cons, span-nil, slide-cons, slide-nil}
 use Rattle.coxeter.proofs.Lists.{Stored, Storing, stored-of-storing, storing-all}
 
 -- ---- letters up and down
@@ -37,10 +37,6 @@ pub storing-fall : (o : List ℕ) (at b a : ℕ) → Storing o at (fall b a) o a
 storing-fall o at b a = rw (fall-slide, add-one) storing-all
 
 -- ---- blocks as runs
-
-pub block-straight : (k : Kind) (n i j : ℕ) → (k ≡ A) ⊎ (j < n) → block k n i j ≡ rise i j
-unfolding block
-block-straight k n i j h = ⊎-elim (λ e. rw e) (λ l. block-up k n i j l ∙ sym (rise-span i j)) h
 
 pub two-le : (k : Kind) (n : ℕ) → (k ≡ B) ⊎ (k ≡ D) → least k ≤ n → 2 ≤ n
 two-le k n h l = ⊎-elim (λ e. let m : least B ≤ n = rw e at l in m) (λ e. let m : least D ≤ n = rw e at l in omega arith) h

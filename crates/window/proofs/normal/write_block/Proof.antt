@@ -1,20 +1,18 @@
 -- `normal::write_block` stores a block that goes up only as one run, and leaves one that turns to `write_turned`.
 -- Assumes nothing.
-use mathlib.Core.Path.{_≡_}
-use mathlib.Core.Logic.{_⊎_, inl, inr, ⊎-elim}
+use mathlib.Core.Path.{_≡_, sym, _∙_}
+use native.Mathlib.Omega.{arith}
 use borrow.Author.Needs.{needs}
-use borrow.Author.Tests.{ltb-true}
 use Rattle.coxeter.specs.NormalForm.{rise, block}
 use Rattle.coxeter.specs.Kinds.{kindOf}
-use Rattle.coxeter.proofs.KindLaws.{kindOf-one}
-use Rattle.window.proofs.normal.Blocks.{block-straight}
+use Rattle.coxeter.proofs.Runs.{rise-span, block-up}
 use Rattle.window.proofs.normal.write_block.Statement.{statement}
 use Rattle.window.proofs.normal.write_block.Tie as tie
 
-straight : (c : tie.Joined1)
+straight : (c : tie.Then1)
     → let a = c .before .before .args in
-    block (kindOf (a .kind)) (a .n) (a .i) (a .j) ≡ rise (a .i) (a .j)
-straight c = block-straight _ _ _ _ (⊎-elim (λ x. inl (kindOf-one _ (x .taken))) (λ x. inr (ltb-true _ _ (x .1 .taken))) (c .if1 .came))
+    block (kindOf (a .kind)) (a .m) (a .i) (a .j) ≡ rise (a .i) (a .j)
+straight c = block-up _ _ _ _ (c .if1 .taken) ∙ sym (rise-span _ _)
 
 write-up-requires : tie.Need-write-up-requires
 write-up-requires c κs = (search needs, rw (straight (c .before)) at (c .before .before .before .pre .1))
@@ -28,7 +26,10 @@ returns c =
     rw (straight (up .before .before)) (up .write-up .ensures)
 
 write-turned-requires : tie.Need-write-turned-requires
-write-turned-requires c κs = search needs
+write-turned-requires c κs =
+    let high = c .before .if1 .left in
+    let pre = c .before .before .before .pre in
+    ((pre .0 .0, (λ e. omega (arith, pre .0 .2 e)), high, pre .0 .1), pre .1)
 
 same-length-2 : tie.Need-same-length-2
 same-length-2 c = search needs

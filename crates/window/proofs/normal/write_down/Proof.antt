@@ -1,7 +1,6 @@
 -- `normal::write_down` stores the letters from b down to a. The invariant: what is left to store is the letters
 -- below `above`.
 -- Assumes nothing.
-use Prim.Native.Nat.{_+_, _≤_}
 use borrow.Author.Needs.{needs}
 use Rattle.coxeter.specs.NormalForm.{fall}
 use Rattle.coxeter.proofs.Runs.{slide}
@@ -11,25 +10,28 @@ use Rattle.window.proofs.normal.write_down.Statement.{statement}
 use Rattle.window.proofs.normal.write_down.Tie as tie
 
 abbrev Inv-loop : tie.InvT-loop
-Inv-loop out₀ at b a r₀ above₀ out r above = (above ≤ b + 1) × Storing out₀ at (fall b a) out r (slide above a)
+Inv-loop out₀ at b a r₀ least above₀ out r above = Storing out₀ at (fall b a) out r (slide above a)
 
 abbrev μ-loop : tie.MeasureT-loop
-μ-loop out₀ at b a r₀ above₀ out r above = above
+μ-loop out₀ at b a r₀ least above₀ out r above = above
+
+cast-least : tie.Need-cast-least Inv-loop μ-loop
+cast-least c = search needs
 
 add-above : tie.Need-add-above Inv-loop μ-loop
 add-above c = search needs
 
+cast-above : tie.Need-cast-above Inv-loop μ-loop
+cast-above c = search needs
+
 loop-holds : tie.Need-loop-holds Inv-loop μ-loop
-loop-holds c = (search needs, storing-fall _ _ _ _)
+loop-holds c = storing-fall _ _ _ _
 
 sub-above : tie.Need-sub-above Inv-loop μ-loop
 sub-above c = search needs
 
-cast-out : tie.Need-cast-out Inv-loop μ-loop
-cast-out c = search needs
-
 slice-write-out : tie.Need-slice-write-out Inv-loop μ-loop
-slice-write-out c = storing-room (c .before .before .pre .1) (storing-down (c .loop-test .taken) (c .before .loop .inv .1))
+slice-write-out c = storing-room (c .before .before .pre .2) (storing-down (c .loop-test .taken) (c .before .loop .inv))
 
 add-r : tie.Need-add-r Inv-loop μ-loop
 add-r c = search needs
@@ -38,13 +40,13 @@ loop-less : tie.Need-loop-less Inv-loop μ-loop
 loop-less c = search needs
 
 loop-again : tie.Need-loop-again Inv-loop μ-loop
-loop-again c = (search needs, storing-next (storing-down (c .loop-test .taken) (c .before .loop .inv .1)))
+loop-again c = storing-next (storing-down (c .loop-test .taken) (c .before .loop .inv))
 
 same-length : tie.Need-same-length Inv-loop μ-loop
 same-length c = search needs
 
 returns : tie.Need-returns Inv-loop μ-loop
-returns c = stored-down (c .loop-test .left) (c .before .loop .inv .1)
+returns c = stored-down (c .loop-test .left) (c .before .loop .inv)
 
 pub write-down-spec : {M : Type 1} → statement M
 write-down-spec =
@@ -52,10 +54,11 @@ write-down-spec =
     (tie.spec
     Inv-loop
     μ-loop
+    cast-least
     add-above
+    cast-above
     loop-holds
     sub-above
-    cast-out
     slice-write-out
     add-r
     loop-less

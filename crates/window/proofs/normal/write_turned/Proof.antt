@@ -36,7 +36,7 @@ write-down-requires c κs =
     let rose = c .before .before .before in
     let cut = rose .before .before in
     let room = rw (runs cut) at (cut .before .before .pre .1) in
-    (cut .turn-of .ensures .1, room-right _ (rise _ _) (fall _ _) _ _ _ room (rose .write-up .ensures .0) (rose .write-up .kept .0))
+    (cut .turn-of .ensures .1, search needs, room-right _ (rise _ _) (fall _ _) _ _ _ room (rose .write-up .ensures .0) (rose .write-up .kept .0))
 
 same-length : tie.Need-same-length
 same-length c = search needs

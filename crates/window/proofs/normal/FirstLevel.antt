@@ -1,0 +1,87 @@
+-- The first call of the recursion, with the places of the entries of a window at the front of a work window and all
+-- positions left: what it is asked, and that the word that it writes is the normal form.
+-- Assumes nothing.
+use mathlib.Core.Path.{_≡_, refl, ap, _∙_}
+use mathlib.Core.Bool.{false}
+use mathlib.Core.List.{List}
+use Prim.Native.Nat.{ℕ, suc, _-_, _^_, _≤_, _<_}
+use native.Mathlib.Omega.{arith}
+use lib.IntN.{ℤ}
+use lib.ListN.{length, getD, take}
+use lib.Pow.{pow-pos}
+use lib.Seq.{sets}
+use Rattle.coxeter.specs.Kinds.{Kind, A, B, D, kindOf, lanes, least}
+use Rattle.coxeter.specs.Checks.{Rig, WindowOf}
+use Rattle.coxeter.specs.Calls.{written}
+use Rattle.coxeter.specs.NormalForm.{levels, normalForm}
+use Rattle.coxeter.proofs.Acceptance.{Ranked, rank-within, lanes-le}
+use Rattle.coxeter.proofs.Levels.{Accepted, accepted-of-refusal}
+use Rattle.coxeter.proofs.Outcomes.{written-sets}
+use Rattle.coxeter.proofs.PeelingByPlaces.{PlacesOf, Place, lastLevel, peeledWord}
+use Rattle.window.proofs.normal.PeeledForms.{Found, found, place-is, peeled-first}
+
+pub front-passes : (k n m : ℕ) (work : List ℤ) → m ≡ lanes (kindOf k) n → WindowOf (kindOf k) n (take (lanes (kindOf k) n) work)
+    → WindowOf (kindOf k) n (take m work)
+front-passes k n m work e g = rw e g
+
+-- the number of levels is the last level, and there is one
+last-is : (k : Kind) (n : ℕ) → lastLevel k (lanes k n) ≡ levels k n
+last-is A n = omega arith
+last-is B n = refl
+last-is D n = refl
+
+one-level : (k : Kind) (n : ℕ) → least k ≤ n → 1 ≤ levels k n
+one-level A n h = h
+one-level B n h = omega arith
+one-level D n h = omega arith
+
+more-lanes : (k : Kind) (n : ℕ) → n ≤ lanes k n
+more-lanes A n = omega arith
+more-lanes B n = omega arith
+more-lanes D n = omega arith
+
+pub first-left : (m left : ℕ) → left ≡ 2 ^ m - 1 → left < 2 ^ m
+first-left m left s = omega (arith, s, pow-pos m)
+
+module _ (k n m : ℕ) (h : Rig k n) (e : m ≡ lanes (kindOf k) n) where
+  pub first-rank : Ranked (kindOf k) m
+  first-rank = (omega (arith, e, rank-within k n h .0, more-lanes (kindOf k) n), lanes-le k n m h e)
+
+  last : lastLevel (kindOf k) m ≡ levels (kindOf k) n
+  last = ap (lastLevel (kindOf k)) e ∙ last-is (kindOf k) n
+
+  pub first-level : 1 ≤ lastLevel (kindOf k) m
+  first-level = omega (arith, last, one-level (kindOf k) n (rank-within k n h .0))
+
+  module _ (work : List ℤ) (places : List ℕ) (left : ℕ) (g : WindowOf (kindOf k) n (take (lanes (kindOf k) n) work)) (p : PlacesOf (take m work) places)
+      (s : left ≡ 2 ^ m - 1) where
+    abbrev front : List ℤ
+    front = take (lanes (kindOf k) n) work
+
+    own : Accepted (kindOf k) n front
+    own = accepted-of-refusal (kindOf k) n front g
+
+    stored : PlacesOf front places
+    stored = rw e at p
+
+    pub first-places : (i : ℕ) → i < m → Place (kindOf k) m (getD places i 0)
+    first-places i l =
+        let f : Found (kindOf k) m places (suc i) front = found (kindOf k) n m front places (suc i) e own stored (omega arith) l in
+        let d : suc i - 1 ≡ i = omega arith in
+        rw d at (place-is (kindOf k) m places (suc i) (f .left) (f .entry) (f .right) (first-rank .1) (f .there))
+
+    first-word : peeledWord (kindOf k) m places 1 left false ≡ normalForm (kindOf k) n front
+    unfolding normalForm
+    first-word =
+        let t : suc (lastLevel (kindOf k) m) - 1 ≡ levels (kindOf k) n = omega (arith, last) in
+        rw (t, s) (peeled-first (kindOf k) n m places (first-rank .1) e front own stored)
+
+    pub first-room : (l : ℕ) → length (normalForm (kindOf k) n (take (lanes (kindOf k) n) work)) ≤ l
+        → length (peeledWord (kindOf k) m places 1 left false) ≤ l
+    first-room l a = rw first-word a
+
+    pub first-written : (o : List ℕ) {out : List ℕ} {r : ℕ} → length (normalForm (kindOf k) n (take (lanes (kindOf k) n) work)) ≤ length o
+        → (r ≡ length (peeledWord (kindOf k) m places 1 left false)) × (out ≡ sets o 0 (peeledWord (kindOf k) m places 1 left false))
+        → (r ≡ length (normalForm (kindOf k) n (take (lanes (kindOf k) n) work)))
+        × (out ≡ written 0 (normalForm (kindOf k) n (take (lanes (kindOf k) n) work)) o)
+    first-written o l a = (a .0 ∙ ap length first-word, a .1 ∙ ap (sets o 0) first-word ∙ written-sets (normalForm (kindOf k) n front) o l)
