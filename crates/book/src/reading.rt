@@ -8,7 +8,7 @@ use crate::records::has_wrong_lanes;
 use book_format::Edition;
 use book_format::Opened;
 use book_format::Preset;
-use refusals::preset_refusal;
+use window::preset_refusal;
 ghost use mathlib.Core.Path.{_≡_};
 ghost use Prim.Native.Nat.{_+_, _*_, _≤_, _<_};
 ghost use lib.ListN.{length};

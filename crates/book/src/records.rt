@@ -1,7 +1,7 @@
 // What the editions of a book differ in (B6, B7, B12 and B13 of the specification): the place of a record's letter
 // count and of its letters, its lane count, and the ranges of its ranks.
 use book_format::Edition;
-use refusals::rank_refusal;
+use window::rank_refusal;
 ghost use mathlib.Core.Path.{_≡_};
 ghost use Prim.Native.Nat.{_+_, _≤_, _<_};
 ghost use lib.ListN.{length};

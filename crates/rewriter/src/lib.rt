@@ -1,6 +1,5 @@
 // The rewriter layer: one rewrite at a named place, and the rewriting to its end (I19 to I21 of the specification).
 // No public function has a `requires`.
-use refusals::preset_refusal;
 pub use rules::Rewrite;
 use search::Fitting;
 use search::fitting_rule;
@@ -8,6 +7,7 @@ pub use traces::ToEnd;
 use tracing::count;
 use tracing::write_trace;
 pub use window::Answer;
+use window::preset_refusal;
 use writing::new_length;
 use writing::write_rewritten;
 ghost use mathlib.Core.Path.{_≡_};
