@@ -81,7 +81,9 @@ class File:
         opening = self.code.index("(", at)
         behind = closing(self.code, opening)
         parameters = re.findall(r"(?:^|,)\s*(?:mut )?(\w+)\s*:", self.code[opening + 1: behind - 1])
-        clauses, place, end = [], behind, behind
+        # an array that is the result has a semicolon of its own
+        array = re.compile(r"\s*->\s*(?=\[)").match(self.code, behind)
+        clauses, place, end = [], closing(self.code, array.end()) if array else behind, behind
         while True:
             brace = re.compile(r"\b(requires|ensures|measure|decreases)\s*\{|[{;]").search(self.code, place)
             if brace is None:

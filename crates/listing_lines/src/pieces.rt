@@ -16,7 +16,7 @@ ghost use Rattle.coxeter.proofs.Lists.{Stored};
 ghost use Rattle.book_format.specs.declared.Edition.{Edition};
 ghost use Rattle.book_format.specs.Calls.{checkedPreset};
 ghost use Rattle.listing_text.specs.Calls.{lineCountBy, firstLine, nextPiece};
-ghost use Rattle.listing_text.proofs.Runs.{lineFrom};
+ghost use Rattle.listing_text.proofs.Answered.{lineFrom};
 
 // How many lines the listing has, by what opening the book answered.
 fn line_count(opened: Opened) -> usize

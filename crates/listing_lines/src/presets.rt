@@ -14,7 +14,7 @@ ghost use Rattle.coxeter.proofs.Lists.{Stored};
 ghost use Rattle.book_format.specs.declared.Edition.{Edition};
 ghost use Rattle.book_format.specs.Calls.{checkedPreset};
 ghost use Rattle.listing_text.specs.Text.{wordLine, lineBy};
-ghost use Rattle.listing_text.proofs.Runs.{refusalOf};
+ghost use Rattle.listing_text.proofs.Answered.{refusalOf};
 
 // A window with room for every lane count.
 fn blank() -> [i8; 64]

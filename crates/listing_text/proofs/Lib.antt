@@ -2,7 +2,7 @@
 pub mod Decimals
 pub mod Pieces
 pub mod Room
-pub mod Runs
+pub mod Answered
 pub mod Examples
 pub mod Sentences
 pub mod TextExactly

@@ -1,6 +1,8 @@
 // Checks the worked examples of source document 000, those of the specification that no table proves (J10 to J12,
-// Q7 to Q11), and the letters of J13's book, and prints how many cases of each group hold.
+// Q7 to Q11), and J13's book, its letters and what it answers when it is opened, and prints how many cases of each
+// group hold.
 mod cases;
+mod opened;
 
 use book::Edition;
 use cases::example;
@@ -86,12 +88,19 @@ fn letters(t: u64, edition: Edition, book: &[u8]) -> u64 {
     preset_letters(t, edition, book, 2, &book[0..0])
 }
 
-fn books() -> u64 {
-    let first =
-        b"\x02\x02\x04\x00\x01\x02\x01\x02\x03\x05\x06\x00\x05\x02\x03\x05\x01\x02\x00\x00\x08\x00\x02\x00";
-    let second =
-        b"\x02\x02\x02\x04\x00\x01\x02\x01\x02\x03\x05\x05\x06\x00\x05\x02\x03\x05\x01\x02\x00\x00\x09\x00\x02\x00";
-    letters(letters(0, Edition::First, first), Edition::Second, second)
+// The same book opened: its letters begin at bytes s and e.
+fn opened_book(t: u64, edition: Edition, book: &[u8], s: usize, e: usize) -> u64 {
+    let t = opened::found(t, edition, book, s, e);
+    let t = opened::refused(t, edition, book, 0, 2, 3, 4);
+    let t = opened::letters(t, edition, book, 0, &[1, 2, 1, 2]);
+    let t = opened::letters(t, edition, book, 1, &[5, 2, 3, 5, 1, 2]);
+    opened::letters(t, edition, book, 2, &book[0..0])
+}
+
+// Opened in the other edition it is refused 3, and so is each of its presets.
+fn other_edition(t: u64, edition: Edition, book: &[u8]) -> u64 {
+    let t = opened::refused(t, edition, book, 3, 0, 1, 3);
+    opened::letters(t, edition, book, 0, &book[0..0])
 }
 
 fn report(name: &[u8], held: u64) {
@@ -100,9 +109,21 @@ fn report(name: &[u8], held: u64) {
     io::write_all(STDOUT_FILENO, b" cases hold\n");
 }
 
+fn books() {
+    let first =
+        b"\x02\x02\x04\x00\x01\x02\x01\x02\x03\x05\x06\x00\x05\x02\x03\x05\x01\x02\x00\x00\x08\x00\x02\x00";
+    let second =
+        b"\x02\x02\x02\x04\x00\x01\x02\x01\x02\x03\x05\x05\x06\x00\x05\x02\x03\x05\x01\x02\x00\x00\x09\x00\x02\x00";
+    let t = letters(letters(0, Edition::First, first), Edition::Second, second);
+    report(b"Letters in books: ", t);
+    let t = opened_book(0, Edition::First, first, 4, 12);
+    let t = opened_book(t, Edition::Second, second, 5, 14);
+    report(b"Opened books: ", other_edition(t, Edition::Second, first));
+}
+
 fn main() {
     report(b"Examples 2 to 4: ", worked());
     report(b"Limits: ", limits());
     report(b"Mistakes close at hand: ", mistakes());
-    report(b"Letters in books: ", books());
+    books();
 }

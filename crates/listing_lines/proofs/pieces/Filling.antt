@@ -19,7 +19,7 @@ use Rattle.book_format.specs.Calls.{checkedBook, checkedPreset}
 use Rattle.listing_text.specs.Text.{decimal, refusedText, bookText, presetsText, refused, countLine, refusedBookLine, lineBy, lineOf}
 use Rattle.listing_text.specs.Calls.{lineCountBy, lineCount, firstLine, line, lines, fitting, Piecing, nextPiece}
 use Rattle.listing_text.proofs.Pieces.{fitting-more, fitting-none, length-fitting-le}
-use Rattle.listing_text.proofs.Runs.{lineFrom}
+use Rattle.listing_text.proofs.Answered.{lineFrom}
 use Rattle.listing_text.proofs.Room.{longest, length-line-le}
 
 -- ---- lines

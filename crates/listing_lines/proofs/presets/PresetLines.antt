@@ -15,7 +15,7 @@ use Rattle.coxeter.proofs.Lists.{Stored}
 use Rattle.book_format.specs.declared.Preset.{Preset}
 use Rattle.book_format.specs.declared.Preset.the-variants as preset
 use Rattle.listing_text.specs.Text.{presetLine, refusedLine, wordLine, lineBy}
-use Rattle.listing_text.proofs.Runs.{refusalOf}
+use Rattle.listing_text.proofs.Answered.{refusalOf}
 
 -- ---- normal form and window
 

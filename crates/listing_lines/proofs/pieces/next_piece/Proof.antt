@@ -12,7 +12,7 @@ use borrow.Author.Needs.{needs}
 use Rattle.book_format.specs.declared.Preset.{Preset}
 use Rattle.book_format.specs.Calls.{checkedPreset}
 use Rattle.listing_text.specs.Calls.{lineCount, line}
-use Rattle.listing_text.proofs.Runs.{lineFrom}
+use Rattle.listing_text.proofs.Answered.{lineFrom}
 use Rattle.listing_text.proofs.Room.{lineCount-le, length-line-le}
 use Rattle.listing_lines.proofs.pieces.HeldRuns.{Held, held-read, held-kept, held-preset}
 use Rattle.listing_lines.proofs.pieces.Filling.{Filling, lineCount-by, line-from, line-front, filling-none, filling-next, filling-full, filling-done}

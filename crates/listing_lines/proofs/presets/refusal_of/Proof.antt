@@ -1,7 +1,7 @@
 -- `presets::refusal_of` goes by the cases of the answer.
 -- Assumes nothing.
 use borrow.Author.Needs.{needs}
-use Rattle.listing_text.proofs.Runs.{refusalOf}
+use Rattle.listing_text.proofs.Answered.{refusalOf}
 use Rattle.listing_lines.proofs.presets.refusal_of.Statement.{statement}
 use Rattle.listing_lines.proofs.presets.refusal_of.Tie as tie
 

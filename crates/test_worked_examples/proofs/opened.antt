@@ -1,0 +1,2 @@
+-- What the proofs of the module `opened` share.
+pub mod Asking
