@@ -1,6 +1,7 @@
 //! Compiles `src/straight.cpp` with the C++ compiler, `c++` or what `CXX` names, at -O2. If `WINNATHEY_BEFORE` names a
 //! clone of the repository at an earlier commit in which `rt staticlib c_api` was run, its archive is linked as well, under
-//! names that begin with `before_`, with its own Rust interface.
+//! names that begin with `before_`, with its own Rust interface. If `WINNATHEY_ORDER` is a number, all functions are laid
+//! out in the order that the linker, lld, makes of that number.
 use std::env;
 use std::fs;
 use std::path::{Path, PathBuf};
@@ -16,6 +17,7 @@ fn main() {
     println!("cargo::rerun-if-changed=src/straight.cpp");
     println!("cargo::rerun-if-env-changed=CXX");
     println!("cargo::rerun-if-env-changed=WINNATHEY_BEFORE");
+    println!("cargo::rerun-if-env-changed=WINNATHEY_ORDER");
     let folder = PathBuf::from(env::var_os("OUT_DIR").expect("cargo sets it"));
     println!("cargo::rustc-link-search=native={}", folder.display());
     compile(&folder);
@@ -23,12 +25,17 @@ fn main() {
         Some(clone) => link_before(&PathBuf::from(clone), &folder),
         None => println!("cargo::rustc-env=WINNATHEY_COMMIT_BEFORE="),
     }
+    if let Ok(order) = env::var("WINNATHEY_ORDER") {
+        println!("cargo::rustc-link-arg-bins=-Wl,--shuffle-sections=.text*={order}");
+    }
 }
 
 fn compile(folder: &Path) {
     let (object, archive) = (folder.join("straight.o"), folder.join("libstraight.a"));
     let compiler = env::var_os("CXX").unwrap_or("c++".into());
-    run(Command::new(compiler).args(["-std=c++11", "-O2", "-fPIC", "-c", "src/straight.cpp", "-o"]).arg(&object));
+    run(Command::new(compiler)
+        .args(["-std=c++11", "-O2", "-fPIC", "-ffunction-sections", "-c", "src/straight.cpp", "-o"])
+        .arg(&object));
     run(Command::new("ar").arg("crs").arg(&archive).arg(&object));
     println!("cargo::rustc-link-lib=static=straight");
     println!("cargo::rustc-link-lib=dylib=stdc++");

@@ -5,21 +5,39 @@
 //! of `plain::library_way`, which has the library's method; for what one would write by hand those of `straight.cpp`; and
 //! the archive's of an earlier commit, where the build was told of one (`build.rs`). Outputs are not cleared in between.
 //! `bench WORD` times only the calls whose names have that word.
+//!
+//! Where a function lies in memory moves a time by some hundredths. So `bench/run` links the program in several orders,
+//! has each of these programs time the calls with `bench --times WORD`, and hands what they print to
+//! `bench --tables FILE..`, which takes the medians over them.
 mod before;
 mod books;
 mod inputs;
 mod presets;
 mod report;
+mod runs;
 mod straight;
 mod timing;
 mod traces;
 
 use inputs::Random;
-use timing::Bench;
+use timing::{Bench, Cell};
 
 fn main() {
-    let filter = std::env::args().nth(1).unwrap_or_default();
-    let mut bench = Bench::new(filter);
+    let arguments: Vec<String> = std::env::args().skip(1).collect();
+    match &arguments[..] {
+        [option, files @ ..] if option == "--tables" => print(&runs::medians(files)),
+        [option, rest @ ..] if option == "--times" => runs::print(&times(rest.first())),
+        words => print(&times(words.first())),
+    }
+}
+
+fn print(cells: &[Cell]) {
+    report::tables(cells);
+    report::goals(cells);
+}
+
+fn times(word: Option<&String>) -> Vec<Cell> {
+    let mut bench = Bench::new(word.cloned().unwrap_or_default());
     let mut random = Random(2026);
     for rank in [4, 16, 32, 64] {
         for (kind, name, most) in [(plain::A, "A", 63), (plain::B, "B", 64), (plain::D, "D", 64)] {
@@ -36,9 +54,8 @@ fn main() {
     presets::tables(&mut bench);
     books::books(&mut bench, &mut random);
     books::editions(&mut bench, &mut random);
-    report::tables(&bench.cells);
     if traces::CALL.contains(&bench.filter) {
-        bench.cells.extend(traces::print(&mut random));
+        bench.cells.extend(traces::cells(&mut random));
     }
-    report::goals(&bench.cells);
+    bench.cells
 }

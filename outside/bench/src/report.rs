@@ -1,6 +1,7 @@
 //! The cells as Markdown: a summary, a table for each call, and the cells that miss a goal.
 use crate::books;
 use crate::timing::{Cell, Side};
+use crate::traces;
 
 const OTHERS: [Side; 3] = [Side::Rust, Side::Cpp, Side::Before];
 
@@ -38,15 +39,18 @@ fn names(sides: &[Side], between: &str) -> String {
 
 /// The cells by their calls.
 fn by_call(cells: &[Cell]) -> Vec<(&str, Vec<&Cell>)> {
-    let calls = distinct(cells.iter().map(|cell| cell.call));
+    let calls = distinct(cells.iter().map(|cell| cell.call.as_str()));
     calls.into_iter().map(|call| (call, cells.iter().filter(|cell| cell.call == call).collect())).collect()
 }
 
 pub fn tables(cells: &[Cell]) {
-    let calls = by_call(cells);
+    let (long, calls): (Vec<_>, Vec<_>) = by_call(cells).into_iter().partition(|(call, _)| *call == traces::CALL);
     summary(&calls, &timed(&cells.iter().collect::<Vec<_>>()));
     for (call, cells) in &calls {
         table(call, cells);
+    }
+    for (_, cells) in &long {
+        traces::print(cells);
     }
 }
 

@@ -5,7 +5,7 @@ use std::time::{Duration, Instant};
 /// Inputs for one cell: a run goes through all of them, so that the processor cannot learn a single one by heart.
 pub const INPUTS: usize = 64;
 /// Runs of each side; they alternate, and the median counts.
-const SAMPLES: usize = 41;
+const SAMPLES: usize = 17;
 /// The least time of one run.
 const RUN: Duration = Duration::from_micros(400);
 
@@ -123,11 +123,13 @@ pub enum Side {
     Before,
 }
 
-/// The time of one call in nanoseconds, by its table, row and column.
+/// The time of one call in nanoseconds, by its table, row and column; `steps` is the number of steps of a long rewriting.
+#[derive(Clone)]
 pub struct Cell {
-    pub call: &'static str,
+    pub call: String,
     pub row: String,
     pub column: String,
+    pub steps: usize,
     pub times: Vec<(Side, f64)>,
 }
 
@@ -180,7 +182,7 @@ impl Bench {
             }
         }
         let times = medians(&mut sides, outputs);
-        self.cells.push(Cell { call, row, column, times });
+        self.cells.push(Cell { call: call.to_string(), row, column, steps: 0, times });
     }
 }
 
@@ -201,11 +203,13 @@ fn medians(sides: &mut [(Side, Box<dyn Timed + '_>)], outputs: &mut Outputs) -> 
             times.push(call.run(*rounds, outputs));
         }
     }
-    let median = |mut times: Vec<f64>| {
-        times.sort_by(f64::total_cmp);
-        times[times.len() / 2]
-    };
     sides.iter().zip(times).map(|((side, _), times)| (*side, median(times))).collect()
+}
+
+/// The middle of the times, or the mean of the two in the middle.
+pub fn median(mut times: Vec<f64>) -> f64 {
+    times.sort_by(f64::total_cmp);
+    (times[(times.len() - 1) / 2] + times[times.len() / 2]) / 2.0
 }
 
 /// A cell whose sides are calls of one name and the same arguments, in modules of the names in brackets.

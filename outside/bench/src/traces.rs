@@ -46,32 +46,52 @@ struct Lists {
     out: Vec<u8>,
 }
 
-/// Prints the table, and hands back its times as cells.
-pub fn print(random: &mut Random) -> Vec<Cell> {
+/// What the two columns of a word are called in its cells.
+const LISTED: &str = "with its lists";
+const COUNTED: &str = "only counted";
+
+pub fn cells(random: &mut Random) -> Vec<Cell> {
     let mut cells = Vec::new();
-    println!(
-        "\n| {CALL}, {LETTERS} letters | steps | milliseconds | nanoseconds a step | ratio | only counted, ratio |"
-    );
-    println!("|---|--:|--:|--:|--:|--:|");
     for (kind, rank, rig) in [(1, 31, "A31"), (2, 32, "B32"), (1, 63, "A63"), (2, 64, "B64"), (3, 64, "D64")] {
         let words = [("random", random.word(rank, LETTERS)), ("worst known", worst(kind, rank))];
         for (name, word) in words {
-            let [to_end, counted] = row(kind, rank, &format!("{rig}, {name}"), &word);
+            let steps = rattle::rewrite_steps(kind, rank, &word) as usize;
+            let [to_end, counted] = times(kind, rank, &word, steps);
             let cell = |column: &str, [rattle, plain]: [f64; 2]| Cell {
-                call: CALL,
-                row: rig.to_string(),
-                column: format!("{name}, {column}"),
+                call: CALL.to_string(),
+                row: format!("{rig}, {name}"),
+                column: column.to_string(),
+                steps,
                 times: vec![(Side::Rattle, rattle * 1e9), (Side::Rust, plain * 1e9)],
             };
-            cells.extend([cell("with its lists", to_end), cell("only counted", counted)]);
+            cells.extend([cell(LISTED, to_end), cell(COUNTED, counted)]);
         }
     }
     cells
 }
 
-/// Prints the row of a word. Seconds of Rattle and of plain Rust, for the rewriting and for its steps only counted.
-fn row(kind: u32, rank: u32, name: &str, word: &[u8]) -> [[f64; 2]; 2] {
-    let steps = rattle::rewrite_steps(kind, rank, word) as usize;
+/// Prints the table of the cells, which come in pairs.
+pub fn print(cells: &[&Cell]) {
+    println!(
+        "\n| {CALL}, {LETTERS} letters | steps | milliseconds | nanoseconds a step | ratio | {COUNTED}, ratio |\n\
+         |---|--:|--:|--:|--:|--:|"
+    );
+    for pair in cells.chunks_exact(2) {
+        let ratio = |cell: &Cell| cell.ratio(Side::Rust).unwrap_or_default();
+        let time = pair[0].time(Side::Rattle).unwrap_or_default();
+        let (row, steps) = (&pair[0].row, pair[0].steps);
+        let a_step = time / steps as f64;
+        println!(
+            "| {row} | {steps} | {:.2} | {a_step:.2} | {:.2} | {:.2} |",
+            time / 1e6,
+            ratio(pair[0]),
+            ratio(pair[1])
+        );
+    }
+}
+
+/// Seconds of Rattle and of plain Rust, for the rewriting and for its steps only counted.
+fn times(kind: u32, rank: u32, word: &[u8], steps: usize) -> [[f64; 2]; 2] {
     let mut lists =
         Lists { families: vec![0; steps], places: vec![0; steps], lengths: vec![0; steps], out: vec![0; LETTERS] };
     macro_rules! run {
@@ -98,12 +118,5 @@ fn row(kind: u32, rank: u32, name: &str, word: &[u8]) -> [[f64; 2]; 2] {
         }
     }
     let [rattle, plain, counted, plainly] = times.map(|times| times.into_iter().fold(f64::INFINITY, f64::min));
-    println!(
-        "| {name} | {steps} | {:.2} | {:.2} | {:.2} | {:.2} |",
-        rattle * 1e3,
-        rattle * 1e9 / steps as f64,
-        rattle / plain,
-        counted / plainly
-    );
     [[rattle, plain], [counted, plainly]]
 }
