@@ -12,7 +12,7 @@ use lib.Dec.{eqb}
 use lib.ListN.{length, take, drop}
 use borrow.Author.Tests.{eq-eqb, ne-eqb, lt-leb, le-leb, leb-false, eqb-true, not-false}
 use Rattle.coxeter.specs.Kinds.{kindOf, lanes}
-use Rattle.coxeter.specs.Checks.{check, _then_, rankRefusal, wordRefusal, Rig, WordOf}
+use Rattle.coxeter.specs.Checks.{check, _then_, rankRefusal, wordRefusal, RankOf, WordOf}
 use Rattle.book_format.specs.declared.Edition.{Edition}
 use Rattle.book_format.specs.declared.Opened.the-variants as opened
 use Rattle.book_format.specs.declared.Preset.the-variants as preset
@@ -211,7 +211,7 @@ record-tests ed b o z =
     let c = then-zero (check 17 (not same)) word (a .1) in
     (a .0, eqb-true _ _ (not-false same (check-zero 17 (not same) refl (c .0))), c .1)
 
-pub found-rank : (ed : Edition) (b : List ℕ) (i k n s l : ℕ) → Found ed b i k n s l → Rig k n
+pub found-rank : (ed : Edition) (b : List ℕ) (i k n s l : ℕ) → Found ed b i k n s l → RankOf k n
 found-rank ed b i k n s l f =
     bookRank-accepted ed k n (rw (f .kind, f .rank) (record-tests ed b (offset b i) (preset-record ed b i (f .unrefused)) .0))
 

@@ -9,7 +9,7 @@ use native.Mathlib.Omega.{arith}
 use lib.Dec.{ltb}
 use borrow.Author.Tests.{lt-ltb, le-ltb, ltb-true, ltb-false}
 use Rattle.coxeter.specs.Kinds.{Kind, A, B, D, kindOf, least, greatest}
-use Rattle.coxeter.specs.Checks.{check, _then_, wrongKind, wrongRank, rankRefusal, Rig}
+use Rattle.coxeter.specs.Checks.{check, _then_, wrongKind, wrongRank, rankRefusal, RankOf}
 use Rattle.coxeter.proofs.Acceptance.{rank-within}
 use Rattle.coxeter.proofs.Basics.{or-false-left, or-false-right}
 use Rattle.coxeter.proofs.Refusals.{then-zero, check-zero}
@@ -60,7 +60,7 @@ module _ (ed : Edition) (k n r : ℕ) (e : r ≡ rankRefusal k n) where
     bookRankRefusal-none h = rw (rightKind, le-ltb (greatestInBook ed (kindOf k)) n h, le-ltb n (least (kindOf k)) (rank-within k n (sym e ∙ z) .0))
 
 -- a kind and a rank that a record may have, every call takes
-pub bookRank-accepted : (ed : Edition) (k n : ℕ) → bookRankRefusal ed k n ≡ 0 → Rig k n
+pub bookRank-accepted : (ed : Edition) (k n : ℕ) → bookRankRefusal ed k n ≡ 0 → RankOf k n
 bookRank-accepted ed k n h =
     elim (ℕ-discrete (rankRefusal k n) 0) [ yes z ↦ z | no f ↦ absurd (f (sym (bookRankRefusal-refused ed k n (rankRefusal k n) refl f) ∙ h)) ]
 

@@ -10,7 +10,7 @@ use Prim.Native.Nat.{ℕ}
 use lib.Dec.{eqb}
 use borrow.Author.Tests.{eq-eqb, eqb-true}
 use Rattle.coxeter.specs.Kinds.{kindOf}
-use Rattle.coxeter.specs.Checks.{wrongKind, wrongRank, rankRefusal, Rig, WordOf}
+use Rattle.coxeter.specs.Checks.{wrongKind, wrongRank, rankRefusal, RankOf, WordOf}
 use Rattle.book_format.specs.declared.Edition.{Edition}
 use Rattle.book_format.specs.declared.Edition.the-variants.{First, Second}
 use Rattle.book_format.specs.Books.{kindAt, rankAt, lanesAt, lettersAt, wrongRankInBook, bookRankRefusal, recordRefusal, retired}
@@ -24,7 +24,7 @@ retired-exactly k n =
     (λ h. let t = and-eq-true-iff (eqb k 1) (eqb n 1) .0 h in (eqb-true k 1 (t .0), eqb-true n 1 (t .1)), λ p. rw (eq-eqb k 1 (p .0), eq-eqb n 1 (p .1)))
 
 -- the calls on words and windows, and the records of a book
-pub rank-1-taken : Rig 1 1
+pub rank-1-taken : RankOf 1 1
 unfolding rankRefusal wrongKind wrongRank kindOf
 rank-1-taken = refl
 

@@ -12,7 +12,7 @@ use borrow.Author.Tests.{lt-ltb, le-ltb}
 use Rattle.coxeter.specs.Kinds.{kindOf}
 use Rattle.coxeter.specs.Windows.{window}
 use Rattle.coxeter.specs.Length.{windowLength}
-use Rattle.coxeter.specs.Checks.{Rig, WordOf, wrongKind, wrongRank, tooLong, wrongLetter, tooShort}
+use Rattle.coxeter.specs.Checks.{RankOf, WordOf, wrongKind, wrongRank, tooLong, wrongLetter, tooShort}
 use Rattle.coxeter.proofs.FirstFailing.{firstOf-named}
 use Rattle.coxeter.proofs.TestLaws.{zero-not-one}
 use Rattle.exchange.specs.declared.Fallback.{Fallback}
@@ -65,7 +65,7 @@ never-101 k n present simpler places e =
 -- window
 pub fallback-101-exactly : (k n : ℕ) (present simpler places : List ℕ) (z : ℤ) (after : List ℕ)
     → FallbackNumbered k n present simpler places z after
-    → (z ≡ refused 101) ↔ (Rig k n × WordOf n present × WordOf n simpler × (FallbackOf (kindOf k) n present simpler → ⊥))
+    → (z ≡ refused 101) ↔ (RankOf k n × WordOf n present × WordOf n simpler × (FallbackOf (kindOf k) n present simpler → ⊥))
 unfolding fallbackNumber
 fallback-101-exactly k n present simpler places z after h =
     let a = fallbackAnswer k n present simpler places in

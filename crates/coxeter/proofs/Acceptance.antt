@@ -13,11 +13,11 @@ use Rattle.coxeter.proofs.Basics.{or-false-left, or-false-right}
 use Rattle.coxeter.proofs.Refusals.{then-zero, check-zero}
 use Rattle.coxeter.specs.Kinds.{Kind, A, B, D, kindOf, lanes, least, greatest}
 use Rattle.coxeter.specs.Checks.{check, _then_, wrongKind, wrongRank, tooLong, wrongLetter}
-use Rattle.coxeter.specs.Checks.{rankRefusal, wordRefusal, windowRefusal, Rig, WordOf, WindowOf}
+use Rattle.coxeter.specs.Checks.{rankRefusal, wordRefusal, windowRefusal, RankOf, WordOf, WindowOf}
 
 -- ---- what passed checks say
 
-pub rank-within : (k n : ℕ) → Rig k n → (least (kindOf k) ≤ n) × (n ≤ greatest (kindOf k))
+pub rank-within : (k n : ℕ) → RankOf k n → (least (kindOf k) ≤ n) × (n ≤ greatest (kindOf k))
 unfolding rankRefusal wrongRank
 rank-within k n h =
     let six : check 6 (wrongRank (kindOf k) n) ≡ 0 = then-zero (check 5 (wrongKind k)) (check 6 (wrongRank (kindOf k) n)) h .1 in
@@ -28,7 +28,7 @@ rank-within k n h =
 abbrev pub Ranked : Kind → ℕ → Type 0
 Ranked k n = (least k ≤ n) × (n ≤ 64)
 
-pub rank-accepted : (k n : ℕ) → Rig k n → Ranked (kindOf k) n
+pub rank-accepted : (k n : ℕ) → RankOf k n → Ranked (kindOf k) n
 rank-accepted k n h = (rank-within k n h .0, bounded (kindOf k) (rank-within k n h .1))
   where
     bounded : (k : Kind) → n ≤ greatest k → n ≤ 64
@@ -45,7 +45,7 @@ unfolding wordRefusal tooLong
 length-accepted n u h = ltb-false 4096 (length u) (check-zero 7 (tooLong u) refl (then-zero (check 7 (tooLong u)) (check 8 (wrongLetter n u)) h .0))
 
 -- a kind and a rank that pass checks 5 and 6 have at most 64 lanes
-pub lanes-le : (k n m : ℕ) → Rig k n → m ≡ lanes (kindOf k) n → m ≤ 64
+pub lanes-le : (k n m : ℕ) → RankOf k n → m ≡ lanes (kindOf k) n → m ≤ 64
 lanes-le k n m h e = rw e (fits (kindOf k) (rank-within k n h .1))
   where
     fits : (k : Kind) → n ≤ greatest k → lanes k n ≤ 64
@@ -65,17 +65,17 @@ three-accepted p q s r e z =
     (a .0, then-zero q s (a .1))
 
 pub words-accepted : (k n : ℕ) (u v : List ℕ) (r : ℕ) → r ≡ (rankRefusal k n then wordRefusal n u then wordRefusal n v) → r ≡ 0
-    → Rig k n × (WordOf n u × WordOf n v)
+    → RankOf k n × (WordOf n u × WordOf n v)
 words-accepted k n u v = three-accepted (rankRefusal k n) (wordRefusal n u) (wordRefusal n v)
 
 pub windows-accepted : (k n : ℕ) (u v : List ℤ) (r : ℕ)
     → r ≡ (rankRefusal k n then windowRefusal (kindOf k) n u then windowRefusal (kindOf k) n v) → r ≡ 0
-    → Rig k n × (WindowOf (kindOf k) n u × WindowOf (kindOf k) n v)
+    → RankOf k n × (WindowOf (kindOf k) n u × WindowOf (kindOf k) n v)
 windows-accepted k n u v = three-accepted (rankRefusal k n) (windowRefusal (kindOf k) n u) (windowRefusal (kindOf k) n v)
 
 pub presets-accepted : (k n : ℕ) (u : List ℕ) (l m : ℕ) (v : List ℕ) (r : ℕ)
     → r ≡ (rankRefusal k n then wordRefusal n u then rankRefusal l m then wordRefusal m v) → r ≡ 0
-    → Rig k n × (WordOf n u × (Rig l m × WordOf m v))
+    → RankOf k n × (WordOf n u × (RankOf l m × WordOf m v))
 presets-accepted k n u l m v r e z =
     let a = three-accepted (rankRefusal k n) (wordRefusal n u) (rankRefusal l m then wordRefusal m v) r e z in
     let b = then-zero (rankRefusal l m) (wordRefusal m v) (a .1 .1) in

@@ -21,21 +21,21 @@ use Rattle.coxeter.proofs.GreatestLengths.{greatestIndices, indices-gre
 use Rattle.coxeter.specs.Kinds.{Kind, kindOf, least}
 use Rattle.coxeter.specs.Windows.{window, product, inverse}
 use Rattle.coxeter.specs.Length.{Crossings, total, windowLength, greatestLength}
-use Rattle.coxeter.specs.Checks.{rankRefusal, wordRefusal, windowRefusal, Rig, WordOf, WindowOf}
+use Rattle.coxeter.specs.Checks.{rankRefusal, wordRefusal, windowRefusal, RankOf, WordOf, WindowOf}
 use Rattle.coxeter.specs.NormalForm.{block, blocks, Indices, none, level, levels, normalForm, wordNormalForm}
 use Rattle.coxeter.specs.Calls.{answerOf, countedOf, lengthOfWindow, lengthOfWord, crossingsOfWindow, crossingsOfWord}
 
 -- ---- lengths
 
 -- the length calls answer the normal form's length
-pub lengthOfWindow-normalForm : (k n : ℕ) (w : List ℤ) → Rig k n → WindowOf (kindOf k) n w
+pub lengthOfWindow-normalForm : (k n : ℕ) (w : List ℤ) → RankOf k n → WindowOf (kindOf k) n w
     → lengthOfWindow k n w ≡ Length (length (normalForm (kindOf k) n w))
 unfolding lengthOfWindow answerOf
 lengthOfWindow-normalForm k n w h g =
     rw (eq-eqb (rankRefusal k n) 0 h, eq-eqb (windowRefusal (kindOf k) n w) 0 g)
     (ap Length (sym (length-normalForm (kindOf k) n w (accepted-of-refusal (kindOf k) n w g))))
 
-pub lengthOfWord-normalForm : (k n : ℕ) (u : List ℕ) → Rig k n → WordOf n u
+pub lengthOfWord-normalForm : (k n : ℕ) (u : List ℕ) → RankOf k n → WordOf n u
     → lengthOfWord k n u ≡ Length (length (wordNormalForm (kindOf k) n u))
 unfolding lengthOfWord answerOf
 lengthOfWord-normalForm k n u h g =

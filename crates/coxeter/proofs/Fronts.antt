@@ -14,7 +14,7 @@ use Rattle.coxeter.specs.declared.Answer.{Answer}
 use Rattle.coxeter.specs.declared.Answer.the-variants as answer
 use Rattle.coxeter.specs.Kinds.{kindOf, lanes}
 use Rattle.coxeter.specs.Windows.{window}
-use Rattle.coxeter.specs.Checks.{_then_, rankRefusal, wordRefusal, Rig, WordOf}
+use Rattle.coxeter.specs.Checks.{_then_, rankRefusal, wordRefusal, RankOf, WordOf}
 use Rattle.coxeter.specs.NormalForm.{wordNormalForm}
 use Rattle.coxeter.specs.Calls.{Yields, writes, normalFormOfWord, windowOfWord}
 use Rattle.coxeter.proofs.Refusals.{then-none}
@@ -26,10 +26,10 @@ use Rattle.coxeter.proofs.Outcomes.{writes-done}
 
 -- ---- lengths
 
-pub length-window-le : (k n : ℕ) (u : List ℕ) → Rig k n → length (window (kindOf k) n u) ≤ 64
+pub length-window-le : (k n : ℕ) (u : List ℕ) → RankOf k n → length (window (kindOf k) n u) ≤ 64
 length-window-le k n u h = lanes-le k n (length (window (kindOf k) n u)) h (window-accepted (kindOf k) n u .size)
 
-pub length-form-le : (k n : ℕ) (u : List ℕ) → Rig k n → length (wordNormalForm (kindOf k) n u) ≤ 4096
+pub length-form-le : (k n : ℕ) (u : List ℕ) → RankOf k n → length (wordNormalForm (kindOf k) n u) ≤ 4096
 length-form-le k n u h =
     let w = window (kindOf k) n u in
     let a = window-accepted (kindOf k) n u in
@@ -67,7 +67,7 @@ module _ {X : Type 0} (most r : ℕ) (l out v : List X) (z : r ≡ 0) (h : lengt
 
 -- ---- the normal form and the window of a word
 
-module _ (k n : ℕ) (u : List ℕ) (h : Rig k n) (g : WordOf n u) where
+module _ (k n : ℕ) (u : List ℕ) (h : RankOf k n) (g : WordOf n u) where
   abbrev checks : ℕ
   checks = rankRefusal k n then wordRefusal n u
 

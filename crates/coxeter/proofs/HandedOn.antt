@@ -17,7 +17,7 @@ use borrow.Author.Tests.{le-ltb}
 use Rattle.coxeter.specs.declared.Answer.the-variants.{Length, Refused}
 use Rattle.coxeter.specs.Kinds.{kindOf, lanes}
 use Rattle.coxeter.specs.Windows.{straight, window, product, inverse}
-use Rattle.coxeter.specs.Checks.{check, _then_, tooLong, wrongLetter, wordRefusal, Rig, WordOf, WindowOf}
+use Rattle.coxeter.specs.Checks.{check, _then_, tooLong, wrongLetter, wordRefusal, RankOf, WordOf, WindowOf}
 use Rattle.coxeter.specs.NormalForm.{normalForm, wordNormalForm}
 use Rattle.coxeter.specs.Calls.{Yields, writes, windowOfWord, productOfWindows, inverseOfWindow, normalFormOfWindow, normalFormOfWord}
 use Rattle.coxeter.specs.Calls.{productOfWords, inverseOfWord, lengthOfWindow, lengthOfWord, crossingsOfWindow, crossingsOfWord}
@@ -37,7 +37,7 @@ use Rattle.coxeter.proofs.Written.{inverseOfWord-wrote}
 -- ---- outcomes
 
 -- the calls where no check before check 14 refuses
-module _ (k n : ℕ) (rank : Rig k n) where
+module _ (k n : ℕ) (rank : RankOf k n) where
   window-of : (u : List ℕ) (out : List ℤ) → WordOf n u → windowOfWord k n u out ≡ writes 0 (window (kindOf k) n u) out
   unfolding windowOfWord
   window-of u out h = rw (rank, h)
@@ -101,7 +101,7 @@ module _ (k n : ℕ) (u : List ℕ) (before after : List ℤ) (l : ℕ) (left : 
 -- ---- from a normal form
 
 -- a normal form is accepted as a word
-form-fits : (k n : ℕ) (u : List ℕ) → Rig k n → WordOf n (wordNormalForm (kindOf k) n u)
+form-fits : (k n : ℕ) (u : List ℕ) → RankOf k n → WordOf n (wordNormalForm (kindOf k) n u)
 form-fits k n u h = normalForm-fits k n (window (kindOf k) n u) h (window-passes (kindOf k) n u)
 
 form-window : (k n : ℕ) (u : List ℕ) → window (kindOf k) n (wordNormalForm (kindOf k) n u) ≡ window (kindOf k) n u

@@ -17,7 +17,7 @@ use Rattle.coxeter.specs.declared.Choice.the-variants as choices
 use Rattle.coxeter.specs.Kinds.{kindOf, lanes}
 use Rattle.coxeter.specs.Windows.{window}
 use Rattle.coxeter.specs.Dictionary.{before, shortlex}
-use Rattle.coxeter.specs.Checks.{_then_, rankRefusal, wordRefusal, Rig, WordOf}
+use Rattle.coxeter.specs.Checks.{_then_, rankRefusal, wordRefusal, RankOf, WordOf}
 use Rattle.coxeter.specs.Calls.{sameWindow, equalWords, samePresets, handsBack, choice, Better}
 use Rattle.coxeter.proofs.TestLaws.{not-true-false}
 use Rattle.coxeter.proofs.Order.{before-higher, before-cons, before-cases, before-continuation}
@@ -77,7 +77,7 @@ same-presets-exactly k n u l m v =
 
 -- V3, V5, I16, I17: one of two words is handed back exactly when no check refuses and they have one window
 pub hands-back-exactly : (k n : ℕ) (u v : List ℕ) → (handsBack k n u v ≡ true)
-    ↔ (Rig k n × WordOf n u × WordOf n v × (window (kindOf k) n u ≡ window (kindOf k) n v))
+    ↔ (RankOf k n × WordOf n u × WordOf n v × (window (kindOf k) n u ≡ window (kindOf k) n v))
 unfolding handsBack equalWords
 hands-back-exactly k n u v =
     let r = rankRefusal k n then wordRefusal n u then wordRefusal n v in
@@ -103,7 +103,7 @@ choice-exactly false second = ((λ e. refl, λ e. refl), (λ e. (cc, cc), λ p. 
 module _ (k n : ℕ) (u v : List ℕ) where
   -- V5, I17: the better word is neither exactly when a check refuses or the windows differ
   pub neither-better : (choice (handsBack k n u v) (shortlex v u) ≡ choices.Neither)
-      ↔ (Rig k n × WordOf n u × WordOf n v × (window (kindOf k) n u ≡ window (kindOf k) n v) → ⊥)
+      ↔ (RankOf k n × WordOf n u × WordOf n v × (window (kindOf k) n u ≡ window (kindOf k) n v) → ⊥)
   neither-better =
       let c = choice-exactly (handsBack k n u v) (shortlex v u) .0 in
       let h = hands-back-exactly k n u v in
@@ -112,7 +112,7 @@ module _ (k n : ℕ) (u v : List ℕ) where
   -- V3, I17: it is the second exactly when no check refuses, the windows are equal and the second is shorter, or as long
   -- and earlier in the dictionary
   pub second-better : (choice (handsBack k n u v) (shortlex v u) ≡ choices.Second)
-      ↔ (Rig k n × WordOf n u × WordOf n v × (window (kindOf k) n u ≡ window (kindOf k) n v)
+      ↔ (RankOf k n × WordOf n u × WordOf n v × (window (kindOf k) n u ≡ window (kindOf k) n v)
       × ((length v < length u) ⊎ ((length v ≡ length u) × (before v u ≡ true))))
   second-better =
       let c = choice-exactly (handsBack k n u v) (shortlex v u) .1 in
@@ -125,7 +125,7 @@ module _ (k n : ℕ) (u v : List ℕ) where
   -- V3, I17: it is the first exactly when no check refuses, the windows are equal and the first is shorter, or as long
   -- and earlier in the dictionary or the same word
   pub first-better : (choice (handsBack k n u v) (shortlex v u) ≡ choices.First)
-      ↔ (Rig k n × WordOf n u × WordOf n v × (window (kindOf k) n u ≡ window (kindOf k) n v)
+      ↔ (RankOf k n × WordOf n u × WordOf n v × (window (kindOf k) n u ≡ window (kindOf k) n v)
       × ((length u < length v) ⊎ ((length u ≡ length v) × ((before u v ≡ true) ⊎ (u ≡ v)))))
   first-better =
       let c = choice-exactly (handsBack k n u v) (shortlex v u) .2 in

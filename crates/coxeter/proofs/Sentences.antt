@@ -24,7 +24,7 @@ use Rattle.coxeter.specs.Kinds.{Kind, A, B, D, kindOf, lanes}
 use Rattle.coxeter.specs.Windows.{window}
 use Rattle.coxeter.specs.Length.{negative, inversions, negativeSumPairs, negatives, Crossings, crossings, total, windowLength}
 use Rattle.coxeter.specs.Checks.{check, _then_, wrongKind, wrongRank, wrongLanes, wrongEntry, oddNegatives}
-use Rattle.coxeter.specs.Checks.{rankRefusal, wordRefusal, windowRefusal, Rig, WordOf, WindowOf}
+use Rattle.coxeter.specs.Checks.{rankRefusal, wordRefusal, windowRefusal, RankOf, WordOf, WindowOf}
 use Rattle.coxeter.specs.Parity.{flipped, flagAfter, Odd}
 use Rattle.coxeter.specs.NormalForm.{normalForm}
 use Rattle.coxeter.specs.Calls.{Yields, answerOf, countedOf, samePresets, presetsEqual}
@@ -51,7 +51,7 @@ no-or-refused p q = let n : _≡_ {A = ℕ} 0 1 = cc in omega arith
 module _ (k n : ℕ) (u : List ℕ) (l m : ℕ) (v : List ℕ) where
   -- what the checks say where the verdict is no number
   accepted-or : {P : Type 0}
-      → (Rig k n × (WordOf n u × (Rig l m × WordOf m v)) → P)
+      → (RankOf k n × (WordOf n u × (RankOf l m × WordOf m v)) → P)
       → ((r : ℕ) → presetsEqual k n u l m v ≡ verdict.Refused r → P) → P
   accepted-or given refuses =
       let r = rankRefusal k n then wordRefusal n u then rankRefusal l m then wordRefusal m v in
@@ -62,7 +62,7 @@ module _ (k n : ℕ) (u : List ℕ) (l m : ℕ) (v : List ℕ) where
 
   -- V1, I15: yes exactly then, if the four checks accept
   pub verdict-yes-exactly : (presetsEqual k n u l m v ≡ verdict.Yes)
-      ↔ (Rig k n × WordOf n u × Rig l m × WordOf m v
+      ↔ (RankOf k n × WordOf n u × RankOf l m × WordOf m v
       × (lanes (kindOf k) n ≡ lanes (kindOf l) m) × (window (kindOf k) n u ≡ window (kindOf l) m v))
   verdict-yes-exactly = (
     λ h. accepted-or
@@ -75,7 +75,7 @@ module _ (k n : ℕ) (u : List ℕ) (l m : ℕ) (v : List ℕ) where
 
   -- V1: else no, and no only then: the windows differ; if the lane counts differ the windows do
   pub verdict-no-exactly : (presetsEqual k n u l m v ≡ verdict.No)
-      ↔ (Rig k n × WordOf n u × Rig l m × WordOf m v
+      ↔ (RankOf k n × WordOf n u × RankOf l m × WordOf m v
       × (window (kindOf k) n u ≡ window (kindOf l) m v → ⊥))
   verdict-no-exactly = (
     λ h. accepted-or
@@ -87,7 +87,7 @@ module _ (k n : ℕ) (u : List ℕ) (l m : ℕ) (v : List ℕ) where
   )
     where
       differ : (t : Bool) → t ≡ samePresets k n u l m v
-          → (Rig k n × WordOf n u × Rig l m × WordOf m v
+          → (RankOf k n × WordOf n u × RankOf l m × WordOf m v
           × (window (kindOf k) n u ≡ window (kindOf l) m v → ⊥))
           → presetsEqual k n u l m v ≡ verdict.No
       differ true e a =
@@ -142,7 +142,7 @@ then-both q r h g = rw (h, g)
 -- L2, with 0 for L3 and L4
 pub counts-in-A : (n : ℕ) (w : List ℤ) (a b c : ℕ)
     → (crossingsOfWindow 1 n w ≡ counted.Crossings a b c)
-    ↔ (Rig 1 n × WindowOf A n w × (a ≡ inversions w) × (b ≡ 0) × (c ≡ 0))
+    ↔ (RankOf 1 n × WindowOf A n w × (a ≡ inversions w) × (b ≡ 0) × (c ≡ 0))
 unfolding crossingsOfWindow crossings kindOf
 counts-in-A n w a b c =
     let e = counted-exactly (rankRefusal 1 n then windowRefusal A n w) (crossings A w) a b c in (
@@ -153,7 +153,7 @@ counts-in-A n w a b c =
 -- L2, L3, L4
 pub counts-in-B : (n : ℕ) (w : List ℤ) (a b c : ℕ)
     → (crossingsOfWindow 2 n w ≡ counted.Crossings a b c)
-    ↔ (Rig 2 n × WindowOf B n w × (a ≡ inversions w) × (b ≡ negativeSumPairs w) × (c ≡ negatives w))
+    ↔ (RankOf 2 n × WindowOf B n w × (a ≡ inversions w) × (b ≡ negativeSumPairs w) × (c ≡ negatives w))
 unfolding crossingsOfWindow crossings kindOf
 counts-in-B n w a b c =
     let e = counted-exactly (rankRefusal 2 n then windowRefusal B n w) (crossings B w) a b c in (
@@ -164,7 +164,7 @@ counts-in-B n w a b c =
 -- L2, L3, with 0 for L4
 pub counts-in-D : (n : ℕ) (w : List ℤ) (a b c : ℕ)
     → (crossingsOfWindow 3 n w ≡ counted.Crossings a b c)
-    ↔ (Rig 3 n × WindowOf D n w × (a ≡ inversions w) × (b ≡ negativeSumPairs w) × (c ≡ 0))
+    ↔ (RankOf 3 n × WindowOf D n w × (a ≡ inversions w) × (b ≡ negativeSumPairs w) × (c ≡ 0))
 unfolding crossingsOfWindow crossings kindOf
 counts-in-D n w a b c =
     let e = counted-exactly (rankRefusal 3 n then windowRefusal D n w) (crossings D w) a b c in (
@@ -304,7 +304,7 @@ longest-fits =
     (g .0, g .1 .0, g .1 .1, normalForm-fits 2 64 (g .0) (ranks-of-B 64 .0 .1 (omega arith)) (g .1 .0))
 
 -- M1: and none of any kind and rank is longer
-pub none-longer : (k n : ℕ) (w : List ℤ) → Rig k n → WindowOf (kindOf k) n w → length (normalForm (kindOf k) n w) ≤ 4096
+pub none-longer : (k n : ℕ) (w : List ℤ) → RankOf k n → WindowOf (kindOf k) n w → length (normalForm (kindOf k) n w) ≤ 4096
 none-longer k n w h g = length-accepted n (normalForm (kindOf k) n w) (normalForm-fits k n w h g)
 
 -- M1: what a normal form call wrote is accepted as a word

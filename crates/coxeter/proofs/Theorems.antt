@@ -21,7 +21,7 @@ use Rattle.coxeter.specs.Kinds.{Kind, B, pick, kindOf, lanes, least}
 use Rattle.coxeter.specs.Windows.{act, straight, window, product, inverse}
 use Rattle.coxeter.specs.Length.{windowLength, greatestLength}
 use Rattle.coxeter.specs.Dictionary.{shortlex}
-use Rattle.coxeter.specs.Checks.{tooLong, wrongLetter, rankRefusal, wordRefusal, Rig, WordOf, WindowOf}
+use Rattle.coxeter.specs.Checks.{tooLong, wrongLetter, rankRefusal, wordRefusal, RankOf, WordOf, WindowOf}
 use Rattle.coxeter.specs.NormalForm.{levels, blocks, Indices, normalForm, wordNormalForm, IsNormalForm}
 use Rattle.coxeter.specs.Calls.{verdictOf, sameWindow, samePresets, presetsEqual, Better}
 use Rattle.coxeter.proofs.Levels.{Accepted, accepted-of-refusal, refusal-of-accepted, act-accepted, window-accepted}
@@ -110,7 +110,7 @@ pub greatest-reached : (k : Kind) (n : ℕ) → least k ≤ n → (w : List ℤ)
 greatest-reached k n h = (window k n (blocks k n 1 (greatest.greatestIndices k n)), (window-passes k n _, laws.greatest-reached k n h))
 
 -- M1: a normal form is accepted again as a word
-pub normalForm-fits : (k n : ℕ) (w : List ℤ) → Rig k n → WindowOf (kindOf k) n w → WordOf n (normalForm (kindOf k) n w)
+pub normalForm-fits : (k n : ℕ) (w : List ℤ) → RankOf k n → WindowOf (kindOf k) n w → WordOf n (normalForm (kindOf k) n w)
 unfolding wordRefusal tooLong
 normalForm-fits k n w r h =
     let a = passed (kindOf k) n w h in
@@ -177,7 +177,7 @@ same-exactly k n u l m v =
       λ e. both .1 (eq-eqb (lanes (kindOf k) n) (lanes (kindOf l) m) (equal-lanes k n u l m v e), sameWindow-of-eq a b e),
     )
 
-pub verdict-exactly : (k n : ℕ) (u : List ℕ) (l m : ℕ) (v : List ℕ) → Rig k n → WordOf n u → Rig l m → WordOf m v
+pub verdict-exactly : (k n : ℕ) (u : List ℕ) (l m : ℕ) (v : List ℕ) → RankOf k n → WordOf n u → RankOf l m → WordOf m v
     → (presetsEqual k n u l m v ≡ verdict.Yes) ↔ (window (kindOf k) n u ≡ window (kindOf l) m v)
 unfolding presetsEqual verdictOf
 verdict-exactly k n u l m v a b c d =
@@ -185,7 +185,7 @@ verdict-exactly k n u l m v a b c d =
     (by-same (samePresets k n u l m v) (same-exactly k n u l m v))
 
 -- V2, T14: of one kind and rank
-pub verdict-normalForm : (k n : ℕ) (u v : List ℕ) → Rig k n → WordOf n u → WordOf n v
+pub verdict-normalForm : (k n : ℕ) (u v : List ℕ) → RankOf k n → WordOf n u → WordOf n v
     → (presetsEqual k n u k n v ≡ verdict.Yes) ↔ (wordNormalForm (kindOf k) n u ≡ wordNormalForm (kindOf k) n v)
 verdict-normalForm k n u v a b c =
     let w = verdict-exactly k n u k n v a b a c in

@@ -14,7 +14,7 @@ use lib.ListN.{length, take, drop}
 use Rattle.coxeter.specs.declared.Answer.the-variants.{Length}
 use Rattle.coxeter.specs.Kinds.{kindOf, lanes}
 use Rattle.coxeter.specs.Windows.{straight, window, product, inverse}
-use Rattle.coxeter.specs.Checks.{rankRefusal, wordRefusal, windowRefusal, Rig, WordOf, WindowOf}
+use Rattle.coxeter.specs.Checks.{rankRefusal, wordRefusal, windowRefusal, RankOf, WordOf, WindowOf}
 use Rattle.coxeter.specs.NormalForm.{normalForm, wordNormalForm}
 use Rattle.coxeter.specs.Calls.{Yields, writes, windowOfWord, productOfWindows, inverseOfWindow}
 use Rattle.coxeter.specs.Calls.{normalFormOfWindow, normalFormOfWord, productOfWords, inverseOfWord}
@@ -39,7 +39,7 @@ module _ {X : Type 0} (q : ℕ) (w before after : List X) (l : ℕ) (left : Yiel
 
 -- window_of_word
 module _ (k n : ℕ) (u : List ℕ) (before after : List ℤ) (l : ℕ) (left : Yields (windowOfWord k n u before) (Length l) after) where
-  pub windowOfWord-accepted : Rig k n × WordOf n u
+  pub windowOfWord-accepted : RankOf k n × WordOf n u
   unfolding windowOfWord
   windowOfWord-accepted = then-zero (rankRefusal k n) (wordRefusal n u) (writes-accepted _ _ before after l left)
 
@@ -57,7 +57,7 @@ module _ (k n : ℕ) (u : List ℕ) (before after : List ℤ) (l : ℕ) (left : 
 
 -- product_of_windows
 module _ (k n : ℕ) (v w before after : List ℤ) (l : ℕ) (left : Yields (productOfWindows k n v w before) (Length l) after) where
-  pub productOfWindows-accepted : Rig k n × WindowOf (kindOf k) n v × WindowOf (kindOf k) n w
+  pub productOfWindows-accepted : RankOf k n × WindowOf (kindOf k) n v × WindowOf (kindOf k) n w
   unfolding productOfWindows
   productOfWindows-accepted =
       let a = windows-accepted k n v w _ refl (writes-accepted _ _ before after l left) in
@@ -77,7 +77,7 @@ module _ (k n : ℕ) (v w before after : List ℤ) (l : ℕ) (left : Yields (pro
 
 -- inverse_of_window
 module _ (k n : ℕ) (w before after : List ℤ) (l : ℕ) (left : Yields (inverseOfWindow k n w before) (Length l) after) where
-  pub inverseOfWindow-accepted : Rig k n × WindowOf (kindOf k) n w
+  pub inverseOfWindow-accepted : RankOf k n × WindowOf (kindOf k) n w
   unfolding inverseOfWindow
   inverseOfWindow-accepted = then-zero (rankRefusal k n) (windowRefusal (kindOf k) n w) (writes-accepted _ _ before after l left)
 
@@ -102,7 +102,7 @@ module _ (k n : ℕ) (w before after : List ℤ) (l : ℕ) (left : Yields (inver
 
 -- normal_form_of_word
 module _ (k n : ℕ) (u before after : List ℕ) (l : ℕ) (left : Yields (normalFormOfWord k n u before) (Length l) after) where
-  pub normalFormOfWord-accepted : Rig k n × WordOf n u
+  pub normalFormOfWord-accepted : RankOf k n × WordOf n u
   unfolding normalFormOfWord
   normalFormOfWord-accepted = then-zero (rankRefusal k n) (wordRefusal n u) (writes-accepted _ _ before after l left)
 
@@ -112,7 +112,7 @@ module _ (k n : ℕ) (u before after : List ℕ) (l : ℕ) (left : Yields (norma
 
 -- normal_form_of_window
 module _ (k n : ℕ) (w : List ℤ) (before after : List ℕ) (l : ℕ) (left : Yields (normalFormOfWindow k n w before) (Length l) after) where
-  pub normalFormOfWindow-accepted : Rig k n × WindowOf (kindOf k) n w
+  pub normalFormOfWindow-accepted : RankOf k n × WindowOf (kindOf k) n w
   unfolding normalFormOfWindow
   normalFormOfWindow-accepted = then-zero (rankRefusal k n) (windowRefusal (kindOf k) n w) (writes-accepted _ _ before after l left)
 
@@ -122,7 +122,7 @@ module _ (k n : ℕ) (w : List ℤ) (before after : List ℕ) (l : ℕ) (left : 
 
 -- product_of_words
 module _ (k n : ℕ) (u v before after : List ℕ) (l : ℕ) (left : Yields (productOfWords k n u v before) (Length l) after) where
-  pub productOfWords-accepted : Rig k n × WordOf n u × WordOf n v
+  pub productOfWords-accepted : RankOf k n × WordOf n u × WordOf n v
   unfolding productOfWords
   productOfWords-accepted =
       let a = words-accepted k n u v _ refl (writes-accepted _ _ before after l left) in
@@ -137,7 +137,7 @@ module _ (k n : ℕ) (u v before after : List ℕ) (l : ℕ) (left : Yields (pro
 
 -- inverse_of_word
 module _ (k n : ℕ) (u before after : List ℕ) (l : ℕ) (left : Yields (inverseOfWord k n u before) (Length l) after) where
-  pub inverseOfWord-accepted : Rig k n × WordOf n u
+  pub inverseOfWord-accepted : RankOf k n × WordOf n u
   unfolding inverseOfWord
   inverseOfWord-accepted = then-zero (rankRefusal k n) (wordRefusal n u) (writes-accepted _ _ before after l left)
 

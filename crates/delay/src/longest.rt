@@ -8,7 +8,7 @@ ghost use lib.ListN.{length, getD, take};
 ghost use Rattle.coxeter.specs.Kinds as kinds;
 ghost use Rattle.coxeter.specs.Kinds.{kindOf};
 ghost use Rattle.coxeter.specs.Length.{greatestLength};
-ghost use Rattle.coxeter.specs.Checks.{Rig};
+ghost use Rattle.coxeter.specs.Checks.{RankOf};
 ghost use Rattle.coxeter.specs.NormalForm.{normalForm};
 ghost use Rattle.coxeter.specs.Calls.{written};
 ghost use Rattle.coxeter.proofs.Acceptance.{Ranked};
@@ -50,7 +50,7 @@ fn set_longest(kind: u8, n: usize, w: &mut [i8])
 
 // The longest window, to the front of `entries`.
 pub(crate) fn write_longest(kind: u8, rank: u8, entries: &mut [i8])
-    requires { ⌜ Rig kind rank ⌝ }
+    requires { ⌜ RankOf kind rank ⌝ }
     requires { ⌜ kinds.lanes (kindOf kind) rank ≤ length (now entries) ⌝ }
     ensures { λ _. ⌜ now (entries .exit) ≡ written 0 (longest (kindOf kind) rank) (now (entries .entry)) ⌝ }
 {
@@ -61,7 +61,7 @@ pub(crate) fn write_longest(kind: u8, rank: u8, entries: &mut [i8])
 
 // The normal form of the longest window, which is at the front of `entries`, to the front of `letters`.
 pub(crate) fn write_form(kind: u8, rank: u8, entries: &[i8], letters: &mut [u8])
-    requires { ⌜ Rig kind rank ⌝ }
+    requires { ⌜ RankOf kind rank ⌝ }
     requires { ⌜ kinds.lanes (kindOf kind) rank ≤ length (now entries) ⌝ }
     requires { ⌜ take (kinds.lanes (kindOf kind) rank) (now entries) ≡ longest (kindOf kind) rank ⌝ }
     requires { ⌜ greatestLength (kindOf kind) rank ≤ length (now letters) ⌝ }

@@ -9,7 +9,7 @@ use lib.ListN.{length, take}
 use lib.Seq.{length-take-le}
 use Rattle.coxeter.specs.Kinds.{kindOf}
 use Rattle.coxeter.specs.Windows.{window}
-use Rattle.coxeter.specs.Checks.{Rig}
+use Rattle.coxeter.specs.Checks.{RankOf}
 use Rattle.coxeter.specs.NormalForm.{wordNormalForm}
 use Rattle.coxeter.proofs.Fronts.{Front}
 use Rattle.coxeter.proofs.Theorems.{window-passes, normalForm-fits}
@@ -26,7 +26,7 @@ module _ {X : Type 0} (most : ℕ) (l v : List X) (i m : ℕ) (f : Front most l 
   part-is = rw e (f .part)
 
 module _ (k n : ℕ) (present simpler u : List ℕ) (w : List ℤ) (p : u ≡ wordNormalForm (kindOf k) n present) (q : w ≡ window (kindOf k) n simpler) where
-  pub words-settle-requires : Rig k n → SettleRequires k n u w
+  pub words-settle-requires : RankOf k n → SettleRequires k n u w
   words-settle-requires h =
       rw (p, q) (h, (normalForm-fits k n (window (kindOf k) n present) h (window-passes (kindOf k) n present), window-passes (kindOf k) n simpler))
 

@@ -28,7 +28,7 @@ use work::write_form;
 ghost use mathlib.Core.Path.{_≡_};
 ghost use Rattle.coxeter.specs.Kinds.{kindOf};
 ghost use Rattle.coxeter.specs.Windows.{window};
-ghost use Rattle.coxeter.specs.Checks.{_then_, wordRefusal, Rig, WordOf};
+ghost use Rattle.coxeter.specs.Checks.{_then_, wordRefusal, RankOf, WordOf};
 ghost use Rattle.coxeter.specs.NormalForm.{wordNormalForm};
 ghost use Rattle.exchange.specs.Allowed.{setRefusal};
 ghost use Rattle.exchange.specs.Calls.{FellBack};
@@ -37,7 +37,7 @@ ghost use Rattle.exchange.proofs.Verdicts.{Settled};
 
 // The verdict on two accepted words of one kind and rank, by the normal form of the first and the window of the second.
 fn settle_words(kind: u8, rank: u8, present: &[u8], simpler: &[u8], places: &mut [u16]) -> Fallback
-    requires { ⌜ Rig kind rank ⌝ }
+    requires { ⌜ RankOf kind rank ⌝ }
     requires { ⌜ WordOf rank (now present) ⌝ }
     requires { ⌜ WordOf rank (now simpler) ⌝ }
     ensures { λ r. ⌜ Settled (kindOf kind) rank (wordNormalForm (kindOf kind) rank (now (present .entry)))

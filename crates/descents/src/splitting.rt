@@ -14,7 +14,7 @@ ghost use lib.Dec.{leb};
 ghost use lib.ListN.{length};
 ghost use Rattle.coxeter.specs.Kinds.{kindOf};
 ghost use Rattle.coxeter.specs.Windows.{window, product, inverse};
-ghost use Rattle.coxeter.specs.Checks.{Rig, WordOf, WindowOf};
+ghost use Rattle.coxeter.specs.Checks.{RankOf, WordOf, WindowOf};
 ghost use Rattle.coxeter.specs.NormalForm.{normalForm};
 ghost use Rattle.exchange.specs.Allowed.{allows};
 ghost use Rattle.exchange.specs.Split.{firstWord, secondWord};
@@ -24,7 +24,7 @@ ghost use Rattle.exchange.specs.SplitCalls.{parts, SplitYields};
 // the window. No normal form has more than n × n letters, so that the length is measured only where there is less
 // room.
 fn has_room(kind: u8, rank: u8, w: &[i8], room: usize) -> bool
-    requires { ⌜ Rig kind rank × WindowOf (kindOf kind) rank (now w) ⌝ }
+    requires { ⌜ RankOf kind rank × WindowOf (kindOf kind) rank (now w) ⌝ }
     ensures { λ r. ⌜ r ≡ leb (length (normalForm (kindOf kind) rank (inverse (now (w .entry))))) room ⌝ }
 {
     let n = rank as usize;
@@ -44,7 +44,7 @@ fn write_parts(
     first: &mut [u8],
     second: &mut [u8],
 ) -> Split
-    requires { ⌜ Rig kind rank ⌝ }
+    requires { ⌜ RankOf kind rank ⌝ }
     requires { ⌜ WindowOf (kindOf kind) rank (now w) ⌝ }
     requires { ⌜ WindowOf (kindOf kind) rank (now rest) ⌝ }
     ensures { λ r. ⌜ SplitYields (parts 0 (normalForm (kindOf kind) rank (product (now (w .entry)) (now (rest .entry))))
@@ -75,7 +75,7 @@ fn split_window(
     first: &mut [u8],
     second: &mut [u8],
 ) -> Split
-    requires { ⌜ Rig kind rank × WindowOf (kindOf kind) rank (now w) ⌝ }
+    requires { ⌜ RankOf kind rank × WindowOf (kindOf kind) rank (now w) ⌝ }
     ensures { λ r. ⌜ SplitYields (parts 0 (firstWord (allows allowed) (kindOf kind) rank (now (w .entry)))
         (secondWord (allows allowed) (kindOf kind) rank (now (w .entry))) (now (first .entry)) (now (second .entry)))
         r (now (first .exit)) (now (second .exit)) ⌝ }
@@ -96,7 +96,7 @@ pub(crate) fn split_accepted(
     first: &mut [u8],
     second: &mut [u8],
 ) -> Split
-    requires { ⌜ Rig kind rank × WordOf rank (now word) ⌝ }
+    requires { ⌜ RankOf kind rank × WordOf rank (now word) ⌝ }
     ensures { λ r. ⌜ SplitYields (parts 0 (firstWord (allows allowed) (kindOf kind) rank (window (kindOf kind) rank (now (word .entry))))
         (secondWord (allows allowed) (kindOf kind) rank (window (kindOf kind) rank (now (word .entry))))
         (now (first .entry)) (now (second .entry))) r (now (first .exit)) (now (second .exit)) ⌝ }

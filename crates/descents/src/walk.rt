@@ -8,7 +8,7 @@ ghost use Prim.Native.Nat.{_≤_};
 ghost use lib.ListN.{length};
 ghost use Rattle.coxeter.specs.Kinds.{kindOf};
 ghost use Rattle.coxeter.specs.Windows.{straight};
-ghost use Rattle.coxeter.specs.Checks.{Rig, WordOf, WindowOf};
+ghost use Rattle.coxeter.specs.Checks.{RankOf, WordOf, WindowOf};
 ghost use Rattle.coxeter.specs.Calls.{written, sameWindow};
 ghost use Rattle.coxeter.proofs.Acceptance.{Ranked};
 ghost use Rattle.exchange.proofs.Walk.{leftOver, placesKept, marked};
@@ -76,7 +76,7 @@ pub(crate) fn settle(
     w: &mut [i8],
     places: &mut [u16],
 ) -> Fallback
-    requires { ⌜ Rig kind rank ⌝ }
+    requires { ⌜ RankOf kind rank ⌝ }
     requires { ⌜ WordOf rank (now word) ⌝ }
     requires { ⌜ WindowOf (kindOf kind) rank (now w) ⌝ }
     ensures { λ r. ⌜ Settled (kindOf kind) rank (now (word .entry)) (now (w .entry)) (now (places .entry)) r (now (places .exit)) ⌝ }

@@ -10,7 +10,7 @@ ghost use lib.ListN.{length};
 ghost use Rattle.coxeter.specs.Kinds as kinds;
 ghost use Rattle.coxeter.specs.Kinds.{kindOf};
 ghost use Rattle.coxeter.specs.Windows.{window, inverse};
-ghost use Rattle.coxeter.specs.Checks.{Rig, WordOf, WindowOf};
+ghost use Rattle.coxeter.specs.Checks.{RankOf, WordOf, WindowOf};
 ghost use Rattle.coxeter.specs.NormalForm.{normalForm, wordNormalForm};
 ghost use Rattle.coxeter.proofs.Fronts.{Front};
 
@@ -54,7 +54,7 @@ pub(crate) fn lanes(kind: u8, rank: u8) -> usize
 
 // The window of an accepted word, at the front of `work`.
 pub(crate) fn show(kind: u8, rank: u8, word: &[u8], work: &mut [i8])
-    requires { ⌜ Rig kind rank × WordOf rank (now word) × (64 ≡ length (now work)) ⌝ }
+    requires { ⌜ RankOf kind rank × WordOf rank (now word) × (64 ≡ length (now work)) ⌝ }
     ensures { λ _. ⌜ (64 ≡ length (now (work .exit)))
         × Front 64 (window (kindOf kind) rank (now (word .entry))) (now (work .exit)) (kinds.lanes (kindOf kind) rank) ⌝ }
 {
@@ -63,7 +63,7 @@ pub(crate) fn show(kind: u8, rank: u8, word: &[u8], work: &mut [i8])
 
 // The normal form of an accepted word, at the front of `form`. Answers its length.
 pub(crate) fn write_form(kind: u8, rank: u8, word: &[u8], form: &mut [u8]) -> usize
-    requires { ⌜ Rig kind rank × WordOf rank (now word) × (4096 ≡ length (now form)) ⌝ }
+    requires { ⌜ RankOf kind rank × WordOf rank (now word) × (4096 ≡ length (now form)) ⌝ }
     ensures { λ r. ⌜ Front 4096 (wordNormalForm (kindOf kind) rank (now (word .entry))) (now (form .exit)) r ⌝ }
 {
     let Answer::Length(l) = normal_form_of_word(kind, rank, word, form) else {
@@ -74,7 +74,7 @@ pub(crate) fn write_form(kind: u8, rank: u8, word: &[u8], form: &mut [u8]) -> us
 
 // The inverse of an accepted window, at the front of `work`.
 pub(crate) fn invert(kind: u8, rank: u8, w: &[i8], work: &mut [i8])
-    requires { ⌜ Rig kind rank × WindowOf (kindOf kind) rank (now w) × (64 ≡ length (now work)) ⌝ }
+    requires { ⌜ RankOf kind rank × WindowOf (kindOf kind) rank (now w) × (64 ≡ length (now work)) ⌝ }
     ensures { λ _. ⌜ (64 ≡ length (now (work .exit)))
         × Front 64 (inverse (now (w .entry))) (now (work .exit)) (kinds.lanes (kindOf kind) rank) ⌝ }
 {
@@ -83,7 +83,7 @@ pub(crate) fn invert(kind: u8, rank: u8, w: &[i8], work: &mut [i8])
 
 // The length of the normal form of an accepted window.
 pub(crate) fn form_length(kind: u8, rank: u8, w: &[i8]) -> usize
-    requires { ⌜ Rig kind rank × WindowOf (kindOf kind) rank (now w) ⌝ }
+    requires { ⌜ RankOf kind rank × WindowOf (kindOf kind) rank (now w) ⌝ }
     ensures { λ r. ⌜ r ≡ length (normalForm (kindOf kind) rank (now (w .entry))) ⌝ }
 {
     let Answer::Length(l) = length_of_window(kind, rank, w) else {

@@ -10,7 +10,7 @@ use lib.IntN.{ℤ}
 use lib.ListN.{length}
 use Rattle.coxeter.specs.Kinds.{kindOf, lanes, least}
 use Rattle.coxeter.specs.Length.{greatestLength}
-use Rattle.coxeter.specs.Checks.{check, _then_, tooShort, rankRefusal, Rig}
+use Rattle.coxeter.specs.Checks.{check, _then_, tooShort, rankRefusal, RankOf}
 use Rattle.coxeter.specs.NormalForm.{normalForm}
 use Rattle.coxeter.specs.Calls.{written}
 use Rattle.coxeter.proofs.KindLaws.{one-le}
@@ -24,15 +24,15 @@ use Rattle.distribution.proofs.Tables.{length-distribution, length-long
 
 -- ---- kinds and ranks
 
-pub rank-small : (k n : ℕ) → Rig k n → (1 ≤ n) × (n ≤ 64)
+pub rank-small : (k n : ℕ) → RankOf k n → (1 ≤ n) × (n ≤ 64)
 rank-small k n h = let r = rank-accepted k n h in (one-le (kindOf k) n (r .0), r .1)
 
 module _ (k n : ℕ) (h : tableRefusal k n ≡ 0) where
-  passed : Rig k n × (check 20 (untabled (kindOf k) n) ≡ 0)
+  passed : RankOf k n × (check 20 (untabled (kindOf k) n) ≡ 0)
   unfolding tableRefusal
   passed = then-zero (rankRefusal k n) (check 20 (untabled (kindOf k) n)) h
 
-  pub table-accepted : Rig k n
+  pub table-accepted : RankOf k n
   table-accepted = passed .0
 
   pub table-rank : (least (kindOf k) ≤ n) × (n ≤ greatestTabled (kindOf k))

@@ -17,7 +17,7 @@ use lib.Seq.{take-at}
 use Rattle.coxeter.specs.Kinds.{Kind, A, B, D, pick, kindOf, lanes, least}
 use Rattle.coxeter.specs.Dictionary.{shortlex}
 use Rattle.coxeter.specs.Length.{windowLength, greatestLength}
-use Rattle.coxeter.specs.Checks.{check, _then_, tooShort, rankRefusal, Rig, WindowOf}
+use Rattle.coxeter.specs.Checks.{check, _then_, tooShort, rankRefusal, RankOf, WindowOf}
 use Rattle.coxeter.specs.NormalForm.{normalForm, IsNormalForm}
 use Rattle.coxeter.specs.Calls.{written}
 use Rattle.coxeter.proofs.Lists.{getD-take}
@@ -221,7 +221,7 @@ module _ (k n : ℕ) (counts : List ℕ) (entries : List ℤ) (letters : List �
 
   -- C20: after 6
   pub table-20-exactly : (a ≡ Refused 20)
-      ↔ (Rig k n × (((kindOf k ≡ A) × (19 < n)) ⊎ (((kindOf k ≡ B) ⊎ (kindOf k ≡ D)) × (16 < n))))
+      ↔ (RankOf k n × (((kindOf k ≡ A) × (19 < n)) ⊎ (((kindOf k ≡ B) ⊎ (kindOf k ≡ D)) × (16 < n))))
   unfolding tableRefusal
   table-20-exactly =
       let e = refused-exactly 19 in
@@ -239,11 +239,11 @@ module _ (k n : ℕ) (counts : List ℕ) (entries : List ℤ) (letters : List �
       then-avoids (rankRefusal k n) (check 20 (untabled (kindOf k) n)) 13 (λ q. omega (arith, rankRefusal-le k n))
       (check-avoids 20 13 (untabled (kindOf k) n) (λ q. omega arith))
 
-  accepted : tableRefusal k n ≡ 0 → Rig k n
+  accepted : tableRefusal k n ≡ 0 → RankOf k n
   unfolding tableRefusal
   accepted q = then-zero (rankRefusal k n) _ q .0
 
-  passes : Rig k n → n ≤ greatestTabled (kindOf k) → tableRefusal k n ≡ 0
+  passes : RankOf k n → n ≤ greatestTabled (kindOf k) → tableRefusal k n ≡ 0
   unfolding tableRefusal untabled
   passes q g = then-none (rankRefusal k n) _ q ∙ rw (le-ltb (greatestTabled (kindOf k)) n g)
 
@@ -259,7 +259,7 @@ module _ (k n : ℕ) (counts : List ℕ) (entries : List ℤ) (letters : List �
 
   -- C14, CO9: 14 exactly when those pass and one of the outputs is too short
   pub table-14-exactly : (a ≡ Refused 14)
-      ↔ (Rig k n × (n ≤ greatestTabled (kindOf k)) × ((length counts < greatestLength (kindOf k) n + 1)
+      ↔ (RankOf k n × (n ≤ greatestTabled (kindOf k)) × ((length counts < greatestLength (kindOf k) n + 1)
       ⊎ ((length entries < lanes (kindOf k) n) ⊎ (length letters < greatestLength (kindOf k) n))))
   table-14-exactly =
       let e = refused-exactly 13 in
@@ -276,7 +276,7 @@ module _ (k n : ℕ) (counts : List ℕ) (entries : List ℤ) (letters : List �
 
   -- I24: lengths are answered exactly when checks 5, 6 and 20 accept and the three outputs have room
   pub table-exactly : ((c e l : ℕ) × (a ≡ Written c e l))
-      ↔ (Rig k n × (n ≤ greatestTabled (kindOf k)) × (greatestLength (kindOf k) n + 1 ≤ length counts)
+      ↔ (RankOf k n × (n ≤ greatestTabled (kindOf k)) × (greatestLength (kindOf k) n + 1 ≤ length counts)
       × (lanes (kindOf k) n ≤ length entries) × (greatestLength (kindOf k) n ≤ length letters))
   unfolding delayTable tables roomRefusal tooShort
   table-exactly =

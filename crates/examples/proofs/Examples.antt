@@ -19,7 +19,7 @@ use Rattle.coxeter.specs.Windows.{from, exchange, negateFirst, act, windowFrom,
 use Rattle.coxeter.specs.Length.{later, negative, one, laterThan, inversions, negativeSumPairs, negatives, crossings, total, windowLength}
 use Rattle.coxeter.specs.Relations.{twice, forth, alone, next}
 use Rattle.coxeter.specs.Checks.{wrongKind, wrongRank, tooLong, wrongLetter, wrongLanes, hasSize, negativeInA, wrongAt, wrongEntry, odd}
-use Rattle.coxeter.specs.Checks.{oddNegatives, tooShort, rankRefusal, wordRefusal, windowRefusal, Rig}
+use Rattle.coxeter.specs.Checks.{oddNegatives, tooShort, rankRefusal, wordRefusal, windowRefusal, RankOf}
 use Rattle.coxeter.specs.NormalForm.{down, rise, fall, block, without, indexOf, restOf, normalFrom, normalForm, wordNormalForm}
 use Rattle.coxeter.specs.Calls.{sameEntry, sameWindow}
 use Rattle.coxeter.proofs.Order.{sameWindow-true}
@@ -59,7 +59,7 @@ module _ (k : Kind) (n : ℕ) (u : List ℕ) (p : ℕ) (h : Reaches k n u p) whe
 
 -- ---- every kind and rank
 
-rank-passes : (k : Kind) (n : ℕ) → least k ≤ n → n ≤ greatest k → Rig (number k) n
+rank-passes : (k : Kind) (n : ℕ) → least k ≤ n → n ≤ greatest k → RankOf (number k) n
 unfolding rankRefusal wrongKind wrongRank kindOf
 rank-passes A n low high = rw (le-ltb n 1 low, le-ltb 63 n high)
 rank-passes B n low high = rw (le-ltb n 2 low, le-ltb 64 n high)

@@ -21,7 +21,7 @@ use Rattle.coxeter.specs.Length.{later, one, negative, negatives, laterThan, in
 use Rattle.coxeter.specs.Relations.{Relation}
 use Rattle.coxeter.specs.NormalForm.{rise, block}
 use Rattle.coxeter.specs.Checks.{_then_, firstOf, wrongKind, wrongRank, wrongLanes, hasSize, negativeInA, wrongAt, wrongEntry, odd}
-use Rattle.coxeter.specs.Checks.{oddNegatives, tooShort, rankRefusal, wordRefusal, windowRefusal, Rig, WordOf}
+use Rattle.coxeter.specs.Checks.{oddNegatives, tooShort, rankRefusal, wordRefusal, windowRefusal, RankOf, WordOf}
 use Rattle.coxeter.specs.Calls.{Outcome, answerOf, writes, productOfWindows, sameEntry, sameWindow, equalWords, handsBack}
 use Rattle.coxeter.proofs.ChecksExactly.{word-exactly}
 use Rattle.coxeter.proofs.FirstRefusals.{productOfWindows-firstOf}
@@ -47,7 +47,7 @@ handsBackUpTo4000 k n u v = eqb (rankRefusal k n then wordRefusal n u then wordR
 abbrev pub HandsBackExactly : (ℕ → ℕ → List ℕ → List ℕ → Bool) → Type 0
 HandsBackExactly hands =
     (k n : ℕ) (u v : List ℕ)
-    → (hands k n u v ≡ true) ↔ (Rig k n × WordOf n u × WordOf n v × (window (kindOf k) n u ≡ window (kindOf k) n v))
+    → (hands k n u v ≡ true) ↔ (RankOf k n × WordOf n u × WordOf n v × (window (kindOf k) n u ≡ window (kindOf k) n v))
 
 -- Q12, V3: the law rules out that words of more than 4,000 letters are never equal, by one of 4,001 letters and
 -- itself

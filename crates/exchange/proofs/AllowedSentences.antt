@@ -20,7 +20,7 @@ use Rattle.coxeter.specs.Kinds.{kindOf}
 use Rattle.coxeter.specs.Windows.{windowFrom, window, product}
 use Rattle.coxeter.specs.Length.{windowLength}
 use Rattle.coxeter.specs.Dictionary.{before}
-use Rattle.coxeter.specs.Checks.{check, _then_, tooShort, wrongLetter, rankRefusal, wordRefusal, windowRefusal, Rig, WordOf, WindowOf}
+use Rattle.coxeter.specs.Checks.{check, _then_, tooShort, wrongLetter, rankRefusal, wordRefusal, windowRefusal, RankOf, WordOf, WindowOf}
 use Rattle.coxeter.specs.NormalForm.{wordNormalForm, IsNormalForm}
 use Rattle.coxeter.specs.Calls.{Outcome, Yields, answerOf, writes}
 use Rattle.coxeter.proofs.Refusals.{then-zero, then-none, then-some, then-assoc, check-zero, rankRefusal-le, wordRefusal-le}
@@ -44,7 +44,7 @@ use Rattle.exchange.proofs.BetweenCalls.{between-leading, between-answe
 -- ---- a bit above the rank
 
 -- I33, C16: a set passes checks 5, 6 and 16 exactly when the rank passes its own and no bit stands for a step above it
-pub set-passes : (k n set : ℕ) → (setRefusal k n set ≡ 0) ↔ (Rig k n × ((s : ℕ) → n < s → allows set s ≡ true → ⊥))
+pub set-passes : (k n set : ℕ) → (setRefusal k n set ≡ 0) ↔ (RankOf k n × ((s : ℕ) → n < s → allows set s ≡ true → ⊥))
 unfolding setRefusal
 set-passes k n set = (
   λ e.
@@ -65,7 +65,7 @@ set-avoids k n set c l f =
 
 -- 16 in front of the checks q, none of which has its number
 set-refuses : (k n set q : ℕ) → (q ≡ 16 → ⊥)
-    → ((setRefusal k n set then q) ≡ 16) ↔ (Rig k n × ((s : ℕ) × (n < s) × (allows set s ≡ true)))
+    → ((setRefusal k n set then q) ≡ 16) ↔ (RankOf k n × ((s : ℕ) × (n < s) × (allows set s ≡ true)))
 unfolding setRefusal
 set-refuses k n set q f =
     let e = check-exactly (rankRefusal k n) 15 (wrongSet n set) q (λ z. omega (arith, rankRefusal-le k n)) f in
@@ -179,7 +179,7 @@ module _ (k n set : ℕ) (u first second : List ℕ) (a : Split) (x y : List ℕ
       (λ q. e .0 (sym (h .0) ∙ q) .0, λ q. h .0 ∙ e .1 (q, λ z. omega arith))
 
   -- C16: right after the rank
-  pub split-16-exactly : (a ≡ Refused 16) ↔ (Rig k n × ((s : ℕ) × (n < s) × (allows set s ≡ true)))
+  pub split-16-exactly : (a ≡ Refused 16) ↔ (RankOf k n × ((s : ℕ) × (n < s) × (allows set s ≡ true)))
   split-16-exactly =
       let e = refused-exactly 15 in
       let r = then-assoc (setRefusal k n set) (wordRefusal n u) room in
@@ -189,7 +189,7 @@ module _ (k n set : ℕ) (u first second : List ℕ) (a : Split) (x y : List ℕ
 
   -- C14, CO9: 14 exactly when checks 5 to 8 and 16 accept and one of the outputs is too short for its word
   pub split-14-exactly : (a ≡ Refused 14)
-      ↔ (Rig k n × ((s : ℕ) → n < s → allows set s ≡ true → ⊥) × WordOf n u
+      ↔ (RankOf k n × ((s : ℕ) → n < s → allows set s ≡ true → ⊥) × WordOf n u
       × ((length first < length (firstWord (allows set) (kindOf k) n (window (kindOf k) n u)))
       ⊎ (length second < length (secondWord (allows set) (kindOf k) n (window (kindOf k) n u)))))
   unfolding tooShort
@@ -211,7 +211,7 @@ module _ (k n set : ℕ) (u first second : List ℕ) (a : Split) (x y : List ℕ
 
   -- I22: words are answered exactly when checks 5 to 8 and 16 accept and both outputs have room
   pub split-exactly : ((p q : ℕ) × (a ≡ Words p q))
-      ↔ (Rig k n × ((s : ℕ) → n < s → allows set s ≡ true → ⊥) × WordOf n u
+      ↔ (RankOf k n × ((s : ℕ) → n < s → allows set s ≡ true → ⊥) × WordOf n u
       × (length (firstWord (allows set) (kindOf k) n (window (kindOf k) n u)) ≤ length first)
       × (length (secondWord (allows set) (kindOf k) n (window (kindOf k) n u)) ≤ length second))
   unfolding splitting parts tooShort
@@ -296,7 +296,7 @@ module _ (k n set : ℕ) (v w : List ℤ) (out : List ℕ) (a : Answer) (after :
       (λ q. e .0 (sym (h .0) ∙ q), λ q. h .0 ∙ e .1 q)
 
   -- C16: right after the rank, before both windows
-  pub between-16-exactly : (a ≡ answer.Refused 16) ↔ (Rig k n × ((s : ℕ) × (n < s) × (allows set s ≡ true)))
+  pub between-16-exactly : (a ≡ answer.Refused 16) ↔ (RankOf k n × ((s : ℕ) × (n < s) × (allows set s ≡ true)))
   unfolding betweenRefusal
   between-16-exactly =
       let e = between-refused 15 in
@@ -311,7 +311,7 @@ module _ (k n set : ℕ) (v w : List ℤ) (out : List ℕ) (a : Answer) (after :
       (λ q. s .0 (sym r ∙ e .0 q), λ q. e .1 (r ∙ s .1 q))
 
   -- I23, C14: if some word leads there, its normal form is answered, or 14 if the output is too short for it
-  module _ (rank : Rig k n) (bits : (s : ℕ) → n < s → allows set s ≡ true → ⊥) (p : WindowOf (kindOf k) n v)
+  module _ (rank : RankOf k n) (bits : (s : ℕ) → n < s → allows set s ≡ true → ⊥) (p : WindowOf (kindOf k) n v)
       (q : WindowOf (kindOf k) n w) (z : List ℕ) (letters : wrongLetter n z ≡ false) (over : Over (allows set) z)
       (arrives : windowFrom (kindOf k) n v z ≡ w) where
     leading : betweenWindows k n set v w out ≡ writes 0 (wordNormalForm (kindOf k) n z) out
@@ -330,7 +330,7 @@ module _ (k n set : ℕ) (v w : List ℤ) (out : List ℕ) (a : Answer) (after :
 
   -- A6, C19: after both windows and before 14
   pub between-19-exactly : (a ≡ answer.Refused 19)
-      ↔ (Rig k n × ((s : ℕ) → n < s → allows set s ≡ true → ⊥) × WindowOf (kindOf k) n v × WindowOf (kindOf k) n w
+      ↔ (RankOf k n × ((s : ℕ) → n < s → allows set s ≡ true → ⊥) × WindowOf (kindOf k) n v × WindowOf (kindOf k) n w
       × ((z : List ℕ) → wrongLetter n z ≡ false → Over (allows set) z → windowFrom (kindOf k) n v z ≡ w → ⊥))
   between-19-exactly =
       let e = between-refuses-19 k n set v w out in
@@ -348,7 +348,7 @@ module _ (k n set : ℕ) (v w : List ℤ) (out : List ℕ) (a : Answer) (after :
 
 -- A5: whatever steps are allowed and however short the output
 pub empty-where-equal : (k n set : ℕ) (v : List ℤ) (out : List ℕ) (a : Answer) (after : List ℕ) → Yields (betweenWindows k n set v v out) a after
-    → Rig k n → ((s : ℕ) → n < s → allows set s ≡ true → ⊥) → WindowOf (kindOf k) n v → (a ≡ answer.Length 0) × (after ≡ out)
+    → RankOf k n → ((s : ℕ) → n < s → allows set s ≡ true → ⊥) → WindowOf (kindOf k) n v → (a ≡ answer.Length 0) × (after ≡ out)
 empty-where-equal k n set v out a after h r f p =
     let e = between-equal k n set v out (set-passes k n set .1 (r, f)) p in
     (h .0 ∙ ap (λ (o : Outcome ℕ). o .answer) e, h .1 ∙ ap (λ (o : Outcome ℕ). o .bytes) e)

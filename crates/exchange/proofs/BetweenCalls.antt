@@ -18,7 +18,7 @@ use borrow.Author.Tests.{le-ltb, lt-leb}
 use Rattle.coxeter.specs.declared.Answer.the-variants.{Length, Refused}
 use Rattle.coxeter.specs.Kinds.{Kind, kindOf, least}
 use Rattle.coxeter.specs.Windows.{windowFrom, product, inverse}
-use Rattle.coxeter.specs.Checks.{check, tooShort, rankRefusal, wrongLetter, Rig, WindowOf}
+use Rattle.coxeter.specs.Checks.{check, tooShort, rankRefusal, wrongLetter, RankOf, WindowOf}
 use Rattle.coxeter.specs.NormalForm.{wordNormalForm}
 use Rattle.coxeter.specs.Calls.{Outcome, answerOf, written, writes}
 use Rattle.coxeter.proofs.Acceptance.{rank-within, lanes-le}
@@ -38,7 +38,7 @@ use Rattle.exchange.proofs.BetweenChecks.{last, all-passed, all-passed-
 -- ---- the word that is written
 
 -- kind and rank of a set that passes
-pub rank-of-set : (k n set : ℕ) → setRefusal k n set ≡ 0 → Rig k n
+pub rank-of-set : (k n set : ℕ) → setRefusal k n set ≡ 0 → RankOf k n
 unfolding setRefusal
 rank-of-set k n set e = then-zero (rankRefusal k n) _ e .0
 
@@ -158,7 +158,7 @@ between-equal k n set v out a b =
     )
 
 -- the set of no step passes check 16
-pub set-of-none-passes : (k n : ℕ) → Rig k n → setRefusal k n 0 ≡ 0
+pub set-of-none-passes : (k n : ℕ) → RankOf k n → setRefusal k n 0 ≡ 0
 unfolding setRefusal wrongSet
 set-of-none-passes k n r = then-none (rankRefusal k n) _ r ∙ rw (lt-leb (2 ^ n) 0 (pow-pos n))
 
@@ -173,7 +173,7 @@ none-leads k n v w [] l = l .arrives
 none-leads k n v w (s ∷ u) l = absurd (true≢false (sym (over-head (allows 0) s u (l .over)) ∙ allows-none s))
 
 -- with no step allowed only the window itself is reached
-pub between-none-allowed : (k n : ℕ) (v w : List ℤ) (out : List ℕ) → Rig k n → WindowOf (kindOf k) n v → WindowOf (kindOf k) n w
+pub between-none-allowed : (k n : ℕ) (v w : List ℤ) (out : List ℕ) → RankOf k n → WindowOf (kindOf k) n v → WindowOf (kindOf k) n w
     → (betweenWindows k n 0 v w out .answer ≡ Refused 19) ↔ (v ≡ w → ⊥)
 between-none-allowed k n v w out r b c =
     let refused = between-refuses-19 k n 0 v w out in (

@@ -12,7 +12,7 @@ use lib.ListN.{length}
 use Rattle.coxeter.specs.declared.Answer.{Answer}
 use Rattle.coxeter.specs.declared.Answer.the-variants.{Length, Refused}
 use Rattle.coxeter.specs.Kinds.{kindOf, lanes}
-use Rattle.coxeter.specs.Checks.{Rig, WindowOf, wrongKind, wrongRank, wrongLanes, wrongEntry, oddNegatives}
+use Rattle.coxeter.specs.Checks.{RankOf, WindowOf, wrongKind, wrongRank, wrongLanes, wrongEntry, oddNegatives}
 use Rattle.coxeter.specs.Calls.{Yields, writes}
 use Rattle.coxeter.proofs.Acceptance.{rank-within}
 use Rattle.coxeter.proofs.Levels.{accepted-of-refusal}
@@ -32,7 +32,7 @@ module _ (k n set : ℕ) (v w : List ℤ) where
   -- all checks before 14 pass, and z is the word of A3 and A4
   abbrev Passes : List ℕ → Type 0
   Passes z =
-      Rig k n × ((s : ℕ) → n < s → allows set s ≡ true → ⊥) × WindowOf (kindOf k) n v × WindowOf (kindOf k) n w
+      RankOf k n × ((s : ℕ) → n < s → allows set s ≡ true → ⊥) × WindowOf (kindOf k) n v × WindowOf (kindOf k) n w
       × IsBetween (allows set) (kindOf k) n v w z
 
   passes : betweenRefusal k n set v w ≡ 0 → Passes (between (kindOf k) n v w)
@@ -65,7 +65,7 @@ module _ (k n set : ℕ) (v w : List ℤ) where
     -- A1, A3, A4, I23: a length is answered exactly when checks 5, 6, 16 and 9 to 11 accept and there is a word of A3
     -- and A4 that has this length and for which the output has room
     pub between-exactly : (l : ℕ) → (a ≡ Length l)
-        ↔ (Rig k n × ((s : ℕ) → n < s → allows set s ≡ true → ⊥) × WindowOf (kindOf k) n v × WindowOf (kindOf k) n w
+        ↔ (RankOf k n × ((s : ℕ) → n < s → allows set s ≡ true → ⊥) × WindowOf (kindOf k) n v × WindowOf (kindOf k) n w
         × ((z : List ℕ) × IsBetween (allows set) (kindOf k) n v w z × (l ≡ length z) × (l ≤ length out)))
     unfolding betweenWindows
     between-exactly l =
@@ -79,7 +79,7 @@ module _ (k n set : ℕ) (v w : List ℤ) where
 
     -- C14, I23: 14 is answered exactly when those checks accept and there is such a word for which it has none
     pub between-14-exactly : (a ≡ Refused 14)
-        ↔ (Rig k n × ((s : ℕ) → n < s → allows set s ≡ true → ⊥) × WindowOf (kindOf k) n v × WindowOf (kindOf k) n w
+        ↔ (RankOf k n × ((s : ℕ) → n < s → allows set s ≡ true → ⊥) × WindowOf (kindOf k) n v × WindowOf (kindOf k) n w
         × ((z : List ℕ) × IsBetween (allows set) (kindOf k) n v w z × (length out < length z)))
     unfolding betweenWindows
     between-14-exactly = (

@@ -16,7 +16,7 @@ use lib.Seq.{take-append-seam, drop-append-seam}
 use Rattle.coxeter.specs.Kinds.{Kind, B, kindOf, up}
 use Rattle.coxeter.specs.Windows.{from, exchange, negateFirst, act, windowFrom, straight, window, signed, placeFrom}
 use Rattle.coxeter.specs.Length.{later, negative, one, laterThan, inversions, negativeSumPairs, negatives, crossings, total, windowLength}
-use Rattle.coxeter.specs.Checks.{wrongKind, wrongRank, tooLong, wrongLetter, tooShort, rankRefusal, wordRefusal, Rig, WordOf}
+use Rattle.coxeter.specs.Checks.{wrongKind, wrongRank, tooLong, wrongLetter, tooShort, rankRefusal, wordRefusal, RankOf, WordOf}
 use Rattle.coxeter.specs.NormalForm.{down, rise, fall, block, without, indexOf, restOf, normalFrom, normalForm, wordNormalForm}
 use Rattle.coxeter.specs.Calls.{sameEntry, sameWindow}
 use Rattle.coxeter.proofs.Acceptance.{rank-within}
@@ -84,7 +84,7 @@ module _ (k n : ℕ) (present simpler places : List ℕ) where
   -- F4, G2: every list of places with the properties of F3 is one that the contract lets the call write
   pub every-list-may-come : (ps : List ℕ)
       → let u = wordNormalForm (kindOf k) n present in let w = window (kindOf k) n simpler in
-      Rig k n → WordOf n present → WordOf n simpler → length ps ≤ length places
+      RankOf k n → WordOf n present → WordOf n simpler → length ps ≤ length places
       → length ps ≡ windowLength (kindOf k) w
       → ((i : ℕ) → i < length ps → getD ps i 0 < length u)
       → ((i j : ℕ) → i < j → j < length ps → getD ps i 0 < getD ps j 0)

@@ -18,7 +18,7 @@ use lib.ListN.{length, getD, take, drop}
 use Rattle.coxeter.specs.Kinds.{Kind, kindOf, least}
 use Rattle.coxeter.specs.Windows.{window}
 use Rattle.coxeter.specs.Length.{windowLength}
-use Rattle.coxeter.specs.Checks.{check, _then_, tooShort, tooLong, wrongLetter, rankRefusal, wordRefusal, Rig, WordOf}
+use Rattle.coxeter.specs.Checks.{check, _then_, tooShort, tooLong, wrongLetter, rankRefusal, wordRefusal, RankOf, WordOf}
 use Rattle.coxeter.specs.NormalForm.{wordNormalForm}
 use Rattle.coxeter.proofs.Lists.{getD-take}
 use Rattle.coxeter.proofs.Refusals.{then-none, rankRefusal-le, wordRefusal-le, then-avoids}
@@ -105,7 +105,7 @@ exactly-one k n u w d = (
 )
 
 -- X2, X3
-pub one-letter-accepted : (k n : ℕ) (u : List ℕ) (s : ℕ) (w : List ℤ) → Rig k n → wrongLetter n u ≡ false
+pub one-letter-accepted : (k n : ℕ) (u : List ℕ) (s : ℕ) (w : List ℤ) → RankOf k n → wrongLetter n u ≡ false
     → ((v : List ℕ) → wrongLetter n v ≡ false → window (kindOf k) n v ≡ window (kindOf k) n u → length u ≤ length v) → 1 ≤ s → s ≤ n
     → (w ≡ window (kindOf k) n (u ++ (s ∷ []))) ⊎ (w ≡ window (kindOf k) n (s ∷ u))
     → (windowLength (kindOf k) w < windowLength (kindOf k) (window (kindOf k) n u)
@@ -153,10 +153,10 @@ module _ (k n : ℕ) (present simpler places : List ℕ) where
       rw (then-last (rankRefusal k n) (wordRefusal n present) (wordRefusal n simpler) (check 14 (falls && tooShort size places)))
       (told checks falls (tooShort size places) size)
 
-  passed : Rig k n × WordOf n present × WordOf n simpler → checks ≡ 0
+  passed : RankOf k n × WordOf n present × WordOf n simpler → checks ≡ 0
   passed h = then-none _ _ (h .0) ∙ then-none _ _ (h .1) ∙ h .2
 
-  all-passed : checks ≡ 0 → Rig k n × WordOf n present × WordOf n simpler
+  all-passed : checks ≡ 0 → RankOf k n × WordOf n present × WordOf n simpler
   all-passed e = let p = words-accepted k n present simpler checks refl e in (p .0, p .1 .0, p .1 .1)
 
   checks-14 : checks ≡ 14 → ⊥
@@ -171,7 +171,7 @@ module _ (k n : ℕ) (present simpler places : List ℕ) where
   module _ (a : Fallback) (after : List ℕ) (f : FellBack k n present simpler places a after) where
     -- F2: no when no check refuses and no part-list has the simpler window
     pub no-exactly : (a ≡ No)
-        ↔ (Rig k n × WordOf n present × WordOf n simpler × (FallbackOf (kindOf k) n present simpler → ⊥))
+        ↔ (RankOf k n × WordOf n present × WordOf n simpler × (FallbackOf (kindOf k) n present simpler → ⊥))
     no-exactly = (
       λ e.
           let t = told-no answer-told (sym (f .answer) ∙ e) in
@@ -185,7 +185,7 @@ module _ (k n : ℕ) (present simpler places : List ℕ) where
     -- F2, F8: places come exactly when no check refuses, some part-list has the simpler window and the list has
     -- room for its length
     pub kept-exactly : ((l : ℕ) × (a ≡ Kept l))
-        ↔ (Rig k n × WordOf n present × WordOf n simpler × FallbackOf (kindOf k) n present simpler
+        ↔ (RankOf k n × WordOf n present × WordOf n simpler × FallbackOf (kindOf k) n present simpler
         × (windowLength (kindOf k) (window (kindOf k) n simpler) ≤ length places))
     unfolding tooShort
     kept-exactly = (
@@ -200,7 +200,7 @@ module _ (k n : ℕ) (present simpler places : List ℕ) where
 
     -- F8, C14: 14 exactly when the list has not
     pub short-exactly : (a ≡ Refused 14)
-        ↔ (Rig k n × WordOf n present × WordOf n simpler × FallbackOf (kindOf k) n present simpler
+        ↔ (RankOf k n × WordOf n present × WordOf n simpler × FallbackOf (kindOf k) n present simpler
         × (length places < windowLength (kindOf k) (window (kindOf k) n simpler)))
     unfolding tooShort
     short-exactly = (
@@ -265,12 +265,12 @@ module _ (k n : ℕ) (present simpler places : List ℕ) (a : Fallback) (after :
     (z : List ℕ) (letters : wrongLetter n z ≡ false)
     (shortest : (v : List ℕ) → wrongLetter n v ≡ false → window (kindOf k) n v ≡ window (kindOf k) n z → length z ≤ length v)
     (same : window (kindOf k) n z ≡ window (kindOf k) n present) where
-  same-verdict : Rig k n → FallbackOf (kindOf k) n present simpler ↔ HasPart (kindOf k) n z (window (kindOf k) n simpler)
+  same-verdict : RankOf k n → FallbackOf (kindOf k) n present simpler ↔ HasPart (kindOf k) n z (window (kindOf k) n simpler)
   same-verdict r = verdict-same (kindOf k) n (rank-within k n r .0) present simpler z (record { steps = letters; none-shorter = shortest }) same
 
   -- F6
   pub no-from-every-shortest : (a ≡ No)
-      ↔ (Rig k n × WordOf n present × WordOf n simpler
+      ↔ (RankOf k n × WordOf n present × WordOf n simpler
       × (HasPart (kindOf k) n z (window (kindOf k) n simpler) → ⊥))
   no-from-every-shortest =
       let e = no-exactly k n present simpler places a after f in (
@@ -280,7 +280,7 @@ module _ (k n : ℕ) (present simpler places : List ℕ) (a : Fallback) (after :
 
   -- F6
   pub kept-from-every-shortest : ((l : ℕ) × (a ≡ Kept l))
-      ↔ (Rig k n × WordOf n present × WordOf n simpler × HasPart (kindOf k) n z (window (kindOf k) n simpler)
+      ↔ (RankOf k n × WordOf n present × WordOf n simpler × HasPart (kindOf k) n z (window (kindOf k) n simpler)
       × (windowLength (kindOf k) (window (kindOf k) n simpler) ≤ length places))
   kept-from-every-shortest =
       let e = kept-exactly k n present simpler places a after f in (
@@ -299,7 +299,7 @@ same-answer k n present other simpler places a b after also f g p q e =
 
 -- F7
 pub empty-kept : (k n : ℕ) (present places : List ℕ) (a : Fallback) (after : List ℕ) → FellBack k n present [] places a after
-    → Rig k n → WordOf n present → (a ≡ Kept 0) × (after ≡ places)
+    → RankOf k n → WordOf n present → (a ≡ Kept 0) × (after ≡ places)
 unfolding keptCount
 empty-kept k n present places a after f r p =
     let low = rank-within k n r .0 in

@@ -9,7 +9,7 @@ use borrow.Author.Tests.{ne-eqb, lt-ltb, le-ltb}
 use lib.ListN.{length}
 use Rattle.coxeter.specs.Kinds.{kindOf}
 use Rattle.coxeter.specs.Windows.{window}
-use Rattle.coxeter.specs.Checks.{_then_, tooShort, rankRefusal, wordRefusal, Rig, WordOf}
+use Rattle.coxeter.specs.Checks.{_then_, tooShort, rankRefusal, wordRefusal, RankOf, WordOf}
 use Rattle.coxeter.specs.Calls.{written}
 use Rattle.coxeter.proofs.Refusals.{then-zero}
 use Rattle.coxeter.proofs.Acceptance.{two-accepted}
@@ -41,7 +41,7 @@ module _ (u v first second : List ℕ) (a b : ℕ) (e : a ≡ length u) where
 
 -- r is the refusal that was computed before check 14
 module _ (k n set : ℕ) (u : List ℕ) (r : ℕ) (e : r ≡ (setRefusal k n set then wordRefusal n u)) where
-  pub split-accepted : r ≡ 0 → Rig k n × WordOf n u
+  pub split-accepted : r ≡ 0 → RankOf k n × WordOf n u
   unfolding setRefusal
   split-accepted z = let p = two-accepted _ _ r e z in (then-zero (rankRefusal k n) _ (p .0) .0, p .1)
 

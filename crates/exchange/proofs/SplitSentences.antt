@@ -10,7 +10,7 @@ use Prim.Native.Nat.{ℕ, _≤_, _<_}
 use lib.ListN.{length}
 use Rattle.coxeter.specs.Kinds.{kindOf}
 use Rattle.coxeter.specs.Windows.{window}
-use Rattle.coxeter.specs.Checks.{Rig, WordOf}
+use Rattle.coxeter.specs.Checks.{RankOf, WordOf}
 use Rattle.coxeter.proofs.Acceptance.{rank-within}
 use Rattle.coxeter.proofs.Theorems.{window-passes}
 use Rattle.exchange.specs.declared.Split.{Split}
@@ -29,10 +29,10 @@ module _ (k n set : ℕ) (u first second : List ℕ) (a : Split) (x y : List ℕ
   abbrev word₂ : List ℕ
   word₂ = secondWord (allows set) (kindOf k) n (window (kindOf k) n u)
 
-  are : Rig k n → IsSplit (allows set) (kindOf k) n (window (kindOf k) n u) word₁ word₂
+  are : RankOf k n → IsSplit (allows set) (kindOf k) n (window (kindOf k) n u) word₁ word₂
   are r = splits (kindOf k) n (window (kindOf k) n u) (rank-within k n r .0) (window-passes (kindOf k) n u) (allows set)
 
-  only : Rig k n → {v w : List ℕ} → IsSplit (allows set) (kindOf k) n (window (kindOf k) n u) v w → (v ≡ word₁) × (w ≡ word₂)
+  only : RankOf k n → {v w : List ℕ} → IsSplit (allows set) (kindOf k) n (window (kindOf k) n u) v w → (v ≡ word₁) × (w ≡ word₂)
   only r {v} {w} = splits-only (kindOf k) n (window (kindOf k) n u) (rank-within k n r .0) (window-passes (kindOf k) n u) (allows set) v w
 
   sizes : (p q : ℕ) → a ≡ Words p q → (length word₁ ≡ p) × (length word₂ ≡ q)
@@ -43,7 +43,7 @@ module _ (k n set : ℕ) (u first second : List ℕ) (a : Split) (x y : List ℕ
   -- I22, S2 to S6: two lengths are answered exactly when checks 5 to 8 and 16 accept and there are words of a split
   -- that have these lengths and for which the outputs have room
   pub split-words-exactly : (p q : ℕ) → (a ≡ Words p q)
-      ↔ (Rig k n × ((s : ℕ) → n < s → allows set s ≡ true → ⊥) × WordOf n u
+      ↔ (RankOf k n × ((s : ℕ) → n < s → allows set s ≡ true → ⊥) × WordOf n u
       × ((v w : List ℕ) × IsSplit (allows set) (kindOf k) n (window (kindOf k) n u) v w
       × (p ≡ length v) × (q ≡ length w) × (p ≤ length first) × (q ≤ length second)))
   split-words-exactly p q =
@@ -64,7 +64,7 @@ module _ (k n set : ℕ) (u first second : List ℕ) (a : Split) (x y : List ℕ
   -- I22, C14, CO9: 14 is answered exactly when those checks accept and there are words of a split for one of which its
   -- output has no room
   pub split-room-exactly : (a ≡ Refused 14)
-      ↔ (Rig k n × ((s : ℕ) → n < s → allows set s ≡ true → ⊥) × WordOf n u
+      ↔ (RankOf k n × ((s : ℕ) → n < s → allows set s ≡ true → ⊥) × WordOf n u
       × ((v w : List ℕ) × IsSplit (allows set) (kindOf k) n (window (kindOf k) n u) v w
       × ((length first < length v) ⊎ (length second < length w))))
   split-room-exactly =

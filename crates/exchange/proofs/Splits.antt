@@ -17,7 +17,7 @@ use borrow.Author.Tests.{eqb-true}
 use Rattle.coxeter.specs.Kinds.{Kind, pick, kindOf, least}
 use Rattle.coxeter.specs.Windows.{window}
 use Rattle.coxeter.specs.Length.{windowLength}
-use Rattle.coxeter.specs.Checks.{check, _then_, tooShort, wordRefusal, Rig, WindowOf}
+use Rattle.coxeter.specs.Checks.{check, _then_, tooShort, wordRefusal, RankOf, WindowOf}
 use Rattle.coxeter.specs.Calls.{written}
 use Rattle.coxeter.proofs.Refusals.{then-zero}
 use Rattle.coxeter.proofs.Unchanged.{kept-whole, kept-past}
@@ -95,7 +95,7 @@ module _ (k n set : ℕ) (u first second : List ℕ) where
     told = pick-told taken left first second (eqb refusal 0) refusal a b h
 
     -- such an answer comes only where checks 5 and 6 pass
-    pub splitting-accepted : Rig k n
+    pub splitting-accepted : RankOf k n
     splitting-accepted = split-accepted k n set u checks refl (then-zero checks _ (eqb-true refusal 0 (told .0)) .0) .0
 
     rank : least (kindOf k) ≤ n

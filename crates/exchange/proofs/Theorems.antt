@@ -15,7 +15,7 @@ use lib.ListN.{length}
 use Rattle.coxeter.specs.Kinds.{Kind, kindOf, least}
 use Rattle.coxeter.specs.Windows.{act, window}
 use Rattle.coxeter.specs.Length.{windowLength}
-use Rattle.coxeter.specs.Checks.{wrongLetter, Rig, WindowOf}
+use Rattle.coxeter.specs.Checks.{wrongLetter, RankOf, WindowOf}
 use Rattle.coxeter.proofs.Acceptance.{rank-within}
 use Rattle.coxeter.proofs.Levels.{accepted-of-refusal, window-accepted}
 use Rattle.coxeter.proofs.Theorems.{window-passes}
@@ -69,7 +69,7 @@ shortest-exactly k n u h e = (length-of-shortest k n u h, λ q. shortest-of-leng
 -- ---- one letter
 
 -- X2, X3: at the ranks of check 6
-pub oneLetter-accepted : (k n : ℕ) (u : List ℕ) (s : ℕ) → Rig k n → Shortest (kindOf k) n u → 1 ≤ s → s ≤ n
+pub oneLetter-accepted : (k n : ℕ) (u : List ℕ) (s : ℕ) → RankOf k n → Shortest (kindOf k) n u → 1 ≤ s → s ≤ n
     → OneLetter (kindOf k) n u (added (kindOf k) n u s) × OneLetter (kindOf k) n u (window (kindOf k) n (s ∷ u))
 oneLetter-accepted k n u s r m o l =
     let h = rank-within k n r .0 in

@@ -9,7 +9,7 @@ ghost use mathlib.Core.Path.{_≡_};
 ghost use Prim.Native.Nat.{_≤_};
 ghost use lib.ListN.{length};
 ghost use Rattle.coxeter.specs.Kinds.{kindOf};
-ghost use Rattle.coxeter.specs.Checks.{Rig, WordOf};
+ghost use Rattle.coxeter.specs.Checks.{RankOf, WordOf};
 ghost use Rattle.coxeter.proofs.Lists.{Stored};
 ghost use Rattle.book_format.specs.declared.Edition.{Edition};
 ghost use Rattle.book_format.specs.Calls.{checkedPreset};
@@ -40,7 +40,7 @@ fn refusal_of(answer: Preset) -> u8
 
 // The line of an accepted word: its normal form and its window are computed here, where each has room.
 fn put_word(number: usize, kind: u8, rank: u8, word: &[u8], out: &mut [u8]) -> usize
-    requires { ⌜ Rig kind rank × WordOf rank (now word)
+    requires { ⌜ RankOf kind rank × WordOf rank (now word)
         × (length (wordLine number (kindOf kind) rank (now word)) ≤ length (now out)) ⌝ }
     ensures { λ r. ⌜ Stored (now (out .entry)) 0 (wordLine number (kindOf kind) rank (now (word .entry))) (now (out .exit)) r ⌝ }
 {

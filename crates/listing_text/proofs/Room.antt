@@ -14,7 +14,7 @@ use lib.ListN.{length, take, drop, length-append}
 use borrow.Author.Tests.{eq-eqb, ne-eqb}
 use Rattle.coxeter.specs.Kinds.{Kind, kindOf}
 use Rattle.coxeter.specs.Windows.{window}
-use Rattle.coxeter.specs.Checks.{wrongLetter, Rig}
+use Rattle.coxeter.specs.Checks.{wrongLetter, RankOf}
 use Rattle.coxeter.specs.NormalForm.{wordNormalForm}
 use Rattle.coxeter.proofs.Acceptance.{rank-accepted}
 use Rattle.coxeter.proofs.Fronts.{length-window-le, length-form-le}
@@ -70,7 +70,7 @@ unfolding head spaced
 length-head-le i k n l h g f =
     simp length-append (omega (arith, length-decimal-word i h, length-decimal-byte n g, length-decimal-word l f))
 
-length-wordLine-le : (i k n : ℕ) (u : List ℕ) → i < 2 ^ 64 → Rig k n → length (wordLine i (kindOf k) n u) ≤ longest
+length-wordLine-le : (i k n : ℕ) (u : List ℕ) → i < 2 ^ 64 → RankOf k n → length (wordLine i (kindOf k) n u) ≤ longest
 unfolding wordLine presetLine tail
 length-wordLine-le i k n u h g =
     let w = window (kindOf k) n u in

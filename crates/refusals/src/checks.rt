@@ -8,7 +8,7 @@ ghost use Prim.Native.Nat.{ℕ, _+_, _<_, _≤_, max};
 ghost use lib.ListN.{length, getD};
 ghost use Rattle.coxeter.specs.Kinds as kinds;
 ghost use Rattle.coxeter.specs.Kinds.{kindOf};
-ghost use Rattle.coxeter.specs.Checks.{_then_, rankRefusal, wordRefusal, windowRefusal, Rig};
+ghost use Rattle.coxeter.specs.Checks.{_then_, rankRefusal, wordRefusal, windowRefusal, RankOf};
 ghost use Rattle.coxeter.specs.Checks.{wrongLetter, wrongEntry, oddNegatives, negativeInA};
 ghost use Rattle.coxeter.specs.Parity.{flagAfter};
 
@@ -220,7 +220,7 @@ fn has_odd_negatives(kind: u8, w: &[i8]) -> bool
 
 // C9, C10, C11: of a window whose kind and rank passed.
 fn window_refusal(kind: u8, rank: u8, w: &[i8]) -> u8
-    requires { ⌜ Rig kind rank ⌝ }
+    requires { ⌜ RankOf kind rank ⌝ }
     ensures { λ r. ⌜ r ≡ windowRefusal (kindOf kind) rank (now (w .entry)) ⌝ }
 {
     let m = lanes(kind, rank);

@@ -16,7 +16,7 @@ use Rattle.coxeter.specs.declared.Answer.the-variants.{Length}
 use Rattle.coxeter.specs.Kinds.{kindOf}
 use Rattle.coxeter.specs.Windows.{windowFrom, window, product, inverse}
 use Rattle.coxeter.specs.Dictionary.{shortlex}
-use Rattle.coxeter.specs.Checks.{wrongLetter, Rig, WordOf}
+use Rattle.coxeter.specs.Checks.{wrongLetter, RankOf, WordOf}
 use Rattle.coxeter.specs.NormalForm.{wordNormalForm, IsNormalForm}
 use Rattle.coxeter.specs.Calls.{Yields, writes, normalFormOfWindow, normalFormOfWord, productOfWords, inverseOfWord}
 use Rattle.coxeter.proofs.Acceptance.{rank-within}
@@ -33,7 +33,7 @@ use Rattle.rules.proofs.Theorems.{normalForm-least}
 -- ---- normal forms
 
 -- the normal form of a word, at a rank that passes checks 5 and 6
-form-least : (k n : ℕ) (u : List ℕ) → Rig k n → IsNormalForm (kindOf k) n (window (kindOf k) n u) (wordNormalForm (kindOf k) n u)
+form-least : (k n : ℕ) (u : List ℕ) → RankOf k n → IsNormalForm (kindOf k) n (window (kindOf k) n u) (wordNormalForm (kindOf k) n u)
 form-least k n u h = normalForm-least (kindOf k) n (window (kindOf k) n u) (rank-within k n h .0) (window-passes (kindOf k) n u)
 
 -- normal_form_of_word: as long as was answered, and the rest of the output as it was lent
@@ -79,7 +79,7 @@ module _ (k n : ℕ) (u before after : List ℕ) (l : ℕ) (left : Yields (inver
       (rw (← window-reverse (kindOf k) n u) inverseOfWord-reversed-normal, b .1, b .2)
 
 -- the empty word is a normal form
-empty-form : (k n : ℕ) → Rig k n → wordNormalForm (kindOf k) n [] ≡ []
+empty-form : (k n : ℕ) → RankOf k n → wordNormalForm (kindOf k) n [] ≡ []
 unfolding wrongLetter
 empty-form k n h =
     sym (normalForm-only (kindOf k) n (window (kindOf k) n []) [] (rank-within k n h .0)

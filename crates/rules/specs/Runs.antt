@@ -4,12 +4,12 @@ use mathlib.Core.Path.{_≡_}
 use mathlib.Core.List.{List, [], _∷_}
 use mathlib.Core.Option.{none, some}
 use Prim.Native.Nat.{ℕ, suc}
-use Rattle.coxeter.specs.Checks.{Rig, WordOf}
+use Rattle.coxeter.specs.Checks.{RankOf, WordOf}
 use Rattle.rules.specs.Calls.{Interface, Rewrote, rewriteAt}
 
 -- T1: document 01's accepted word, with its kind and rank
 pub record AcceptedWord (k n : ℕ) (u : List ℕ) : Type 0 where
-  pub rank : Rig k n
+  pub rank : RankOf k n
   pub word : WordOf n u
 
 -- T2: what a call of the list is given; kind and rank are the same for all, and the word is what the call before

@@ -16,7 +16,7 @@ use lib.ListN.{length, getD, take, drop, length-map, length-append}
 use Rattle.coxeter.specs.declared.Answer.the-variants as answer
 use Rattle.coxeter.specs.Kinds.{kindOf}
 use Rattle.coxeter.specs.Windows.{window}
-use Rattle.coxeter.specs.Checks.{check, _then_, tooShort, rankRefusal, wordRefusal, Rig, WordOf}
+use Rattle.coxeter.specs.Checks.{check, _then_, tooShort, rankRefusal, wordRefusal, RankOf, WordOf}
 use Rattle.coxeter.specs.NormalForm.{wordNormalForm, IsNormalForm}
 use Rattle.coxeter.specs.Calls.{answerOf}
 use Rattle.coxeter.proofs.Refusals.{then-zero, then-none, then-assoc, check-zero, rankRefusal-le, wordRefusal-le, then-exactly, then-avoids}
@@ -230,7 +230,7 @@ enough-exactly m fs ps ls = (
 -- T25: the number of steps that is answered is that of the lines that can be replayed from the word to its normal
 -- form
 pub steps-exactly : (k n : ℕ) (u : List ℕ) (m : ℕ) → (numberOfSteps k n u ≡ answer.Length m)
-    ↔ (Rig k n × WordOf n u
+    ↔ (RankOf k n × WordOf n u
     × ((lines : List Line) × (length lines ≡ m) × Replays k n u lines (wordNormalForm (kindOf k) n u)))
 unfolding numberOfSteps answerOf
 steps-exactly k n u m = elim (ℕ-discrete (rankRefusal k n then wordRefusal n u) 0) [

@@ -13,13 +13,13 @@ ghost use Prim.Native.Nat.{_≤_};
 ghost use lib.ListN.{length};
 ghost use Rattle.coxeter.specs.Kinds.{kindOf};
 ghost use Rattle.coxeter.specs.Windows.{product, inverse};
-ghost use Rattle.coxeter.specs.Checks.{_then_, rankRefusal, windowRefusal, Rig, WindowOf};
+ghost use Rattle.coxeter.specs.Checks.{_then_, rankRefusal, windowRefusal, RankOf, WindowOf};
 ghost use Rattle.coxeter.specs.NormalForm.{normalForm};
 ghost use Rattle.coxeter.specs.Calls.{Yields, written, writes};
 
 // The window that leads from one accepted window to another, written to the front of `out`.
 fn between_into(kind: u8, rank: u8, u: &[i8], v: &[i8], out: &mut [i8])
-    requires { ⌜ Rig kind rank ⌝ }
+    requires { ⌜ RankOf kind rank ⌝ }
     requires { ⌜ WindowOf (kindOf kind) rank (now u) ⌝ }
     requires { ⌜ WindowOf (kindOf kind) rank (now v) ⌝ }
     requires { ⌜ length (now v) ≤ length (now out) ⌝ }

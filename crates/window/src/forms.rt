@@ -8,14 +8,14 @@ ghost use lib.Dec.{ltb};
 ghost use lib.ListN.{length, take};
 ghost use Rattle.coxeter.specs.Kinds.{kindOf, lanes};
 ghost use Rattle.coxeter.specs.Length.{windowLength};
-ghost use Rattle.coxeter.specs.Checks.{Rig, WindowOf};
+ghost use Rattle.coxeter.specs.Checks.{RankOf, WindowOf};
 ghost use Rattle.coxeter.specs.NormalForm.{normalForm};
 ghost use Rattle.coxeter.specs.Calls.{Yields, writes};
 
 // Check 14: whether `room` is less than the length of the normal form of the window at the front of `work`. No
 // normal form has more than n × n letters, so that the length is measured only where there is less room.
 fn lacks_room(kind: u8, rank: u8, work: &[i8], room: usize) -> bool
-    requires { ⌜ Rig kind rank ⌝ }
+    requires { ⌜ RankOf kind rank ⌝ }
     requires { ⌜ lanes (kindOf kind) rank ≤ length (now work) ⌝ }
     requires { ⌜ WindowOf (kindOf kind) rank (take (lanes (kindOf kind) rank) (now work)) ⌝ }
     ensures { λ r. ⌜ r ≡ ltb room (windowLength (kindOf kind) (take (lanes (kindOf kind) rank) (now (work .entry)))) ⌝ }
@@ -30,7 +30,7 @@ fn lacks_room(kind: u8, rank: u8, work: &[i8], room: usize) -> bool
 
 // Check 14, then the normal form of the window at the front of `work` to the front of `out`.
 pub(crate) fn write_checked(kind: u8, rank: u8, work: &[i8], out: &mut [u8]) -> Answer
-    requires { ⌜ Rig kind rank ⌝ }
+    requires { ⌜ RankOf kind rank ⌝ }
     requires { ⌜ lanes (kindOf kind) rank ≤ length (now work) ⌝ }
     requires { ⌜ WindowOf (kindOf kind) rank (take (lanes (kindOf kind) rank) (now work)) ⌝ }
     ensures { λ r. ⌜ Yields (writes 0 (normalForm (kindOf kind) rank (take (lanes (kindOf kind) rank) (now (work .entry)))) (now (out .entry)))

@@ -9,7 +9,7 @@ ghost use lib.Count.{ones};
 ghost use lib.ListN.{length, take};
 ghost use Rattle.coxeter.specs.Kinds.{B, kindOf, lanes};
 ghost use Rattle.coxeter.specs.Length.{inversions, negativeSumPairs, negatives, crossings, windowLength};
-ghost use Rattle.coxeter.specs.Checks.{Rig, WindowOf};
+ghost use Rattle.coxeter.specs.Checks.{RankOf, WindowOf};
 ghost use Rattle.coxeter.specs.Calls.{countedOf};
 
 // What a length is made of: the pairs of both sorts, the negative sum pairs among them, and the negative entries.
@@ -114,7 +114,7 @@ pub(crate) fn length_of(kind: u8, n: usize, w: &[i8]) -> usize
 
 // The three counts of the length of the accepted window at the front of `work`.
 pub(crate) fn crossings_of_front(kind: u8, rank: u8, work: &[i8]) -> Counted
-    requires { ⌜ Rig kind rank ⌝ }
+    requires { ⌜ RankOf kind rank ⌝ }
     requires { ⌜ lanes (kindOf kind) rank ≤ length (now work) ⌝ }
     requires { ⌜ WindowOf (kindOf kind) rank (take (lanes (kindOf kind) rank) (now work)) ⌝ }
     ensures { λ r. ⌜ r ≡ countedOf 0 (crossings (kindOf kind) (take (lanes (kindOf kind) rank) (now (work .entry)))) ⌝ }

@@ -11,7 +11,7 @@ ghost use lib.IntN.{pos, natAbs};
 ghost use lib.ListN.{length, take, getD};
 ghost use lib.Seq.{sets};
 ghost use Rattle.coxeter.specs.Kinds.{kindOf, lanes};
-ghost use Rattle.coxeter.specs.Checks.{Rig, WindowOf};
+ghost use Rattle.coxeter.specs.Checks.{RankOf, WindowOf};
 ghost use Rattle.coxeter.specs.Calls.{written};
 ghost use Rattle.coxeter.specs.NormalForm.{rise, fall, block, normalForm};
 ghost use Rattle.coxeter.proofs.Acceptance.{Ranked};
@@ -120,7 +120,7 @@ fn place_of(e: i8, p: u8) -> u8
 
 // The places of the entries of an accepted window, each stored at the entry's size.
 fn set_places(kind: u8, rank: u8, w: &[i8], places: &mut [u8; 64])
-    requires { ⌜ Rig kind rank ⌝ }
+    requires { ⌜ RankOf kind rank ⌝ }
     requires { ⌜ WindowOf (kindOf kind) rank (now w) ⌝ }
     requires { ⌜ length (now places) ≡ 64 ⌝ }
     ensures { λ _. ⌜ PlacesOf (now (w .entry)) (now (places .exit)) ⌝ }
@@ -250,7 +250,7 @@ fn all_positions(m: usize) -> u64
 // The normal form of the accepted window at the front of `work`, written to the front of `out`; the answer is its
 // length.
 pub(crate) fn write_normal_form(kind: u8, rank: u8, work: &[i8], out: &mut [u8]) -> usize
-    requires { ⌜ Rig kind rank ⌝ }
+    requires { ⌜ RankOf kind rank ⌝ }
     requires { ⌜ lanes (kindOf kind) rank ≤ length (now work) ⌝ }
     requires { ⌜ WindowOf (kindOf kind) rank (take (lanes (kindOf kind) rank) (now work)) ⌝ }
     requires { ⌜ length (normalForm (kindOf kind) rank (take (lanes (kindOf kind) rank) (now work))) ≤ length (now out) ⌝ }

@@ -10,7 +10,7 @@ ghost use lib.IntN.{natAbs};
 ghost use lib.ListN.{length, take};
 ghost use Rattle.coxeter.specs.Kinds.{kindOf};
 ghost use Rattle.coxeter.specs.Windows.{at, product, inverse};
-ghost use Rattle.coxeter.specs.Checks.{Rig, WindowOf, negativeInA};
+ghost use Rattle.coxeter.specs.Checks.{RankOf, WindowOf, negativeInA};
 ghost use Rattle.coxeter.specs.Calls.{written, sameWindow};
 
 // u(e). In kind A no entry is negative.
@@ -35,7 +35,7 @@ fn image(kind: u8, u: &[i8], e: i8) -> i8
 
 // The product of two accepted windows of one kind and rank, written to the front of `out`.
 pub(crate) fn product_into(kind: u8, rank: u8, u: &[i8], v: &[i8], out: &mut [i8])
-    requires { ⌜ Rig kind rank ⌝ }
+    requires { ⌜ RankOf kind rank ⌝ }
     requires { ⌜ WindowOf (kindOf kind) rank (now u) ⌝ }
     requires { ⌜ WindowOf (kindOf kind) rank (now v) ⌝ }
     requires { ⌜ length (now v) ≤ length (now out) ⌝ }
@@ -51,7 +51,7 @@ pub(crate) fn product_into(kind: u8, rank: u8, u: &[i8], v: &[i8], out: &mut [i8
 // The inverse of an accepted window in one pass, to the front of `out`: each entry's position is stored at the
 // entry's size, with its sign.
 pub(crate) fn inverse_into(kind: u8, rank: u8, w: &[i8], out: &mut [i8])
-    requires { ⌜ Rig kind rank ⌝ }
+    requires { ⌜ RankOf kind rank ⌝ }
     requires { ⌜ WindowOf (kindOf kind) rank (now w) ⌝ }
     requires { ⌜ length (now w) ≤ length (now out) ⌝ }
     ensures { λ _. ⌜ now (out .exit) ≡ written 0 (inverse (now (w .entry))) (now (out .entry)) ⌝ }

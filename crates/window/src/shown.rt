@@ -14,7 +14,7 @@ ghost use Rattle.coxeter.specs.Kinds as kinds;
 ghost use Rattle.coxeter.specs.Kinds.{kindOf};
 ghost use Rattle.coxeter.specs.Windows.{window, product, inverse};
 ghost use Rattle.coxeter.specs.Length.{crossings};
-ghost use Rattle.coxeter.specs.Checks.{Rig, WordOf};
+ghost use Rattle.coxeter.specs.Checks.{RankOf, WordOf};
 ghost use Rattle.coxeter.specs.Calls.{written, countedOf, equalWords, samePresets};
 
 // A window with room for every lane count.
@@ -26,7 +26,7 @@ pub(crate) fn blank() -> [i8; 64]
 
 // The window of an accepted word, written to the front of `out`.
 pub(crate) fn show_front(kind: u8, rank: u8, word: &[u8], out: &mut [i8])
-    requires { ⌜ Rig kind rank ⌝ }
+    requires { ⌜ RankOf kind rank ⌝ }
     requires { ⌜ WordOf rank (now word) ⌝ }
     requires { ⌜ kinds.lanes (kindOf kind) rank ≤ length (now out) ⌝ }
     ensures { λ _. ⌜ now (out .exit) ≡ written 0 (window (kindOf kind) rank (now (word .entry))) (now (out .entry)) ⌝ }
@@ -38,7 +38,7 @@ pub(crate) fn show_front(kind: u8, rank: u8, word: &[u8], out: &mut [i8])
 
 // The product of two accepted words' windows, written to the front of `out`.
 pub(crate) fn show_product(kind: u8, rank: u8, u: &[u8], v: &[u8], out: &mut [i8])
-    requires { ⌜ Rig kind rank ⌝ }
+    requires { ⌜ RankOf kind rank ⌝ }
     requires { ⌜ WordOf rank (now u) ⌝ }
     requires { ⌜ WordOf rank (now v) ⌝ }
     requires { ⌜ kinds.lanes (kindOf kind) rank ≤ length (now out) ⌝ }
@@ -53,7 +53,7 @@ pub(crate) fn show_product(kind: u8, rank: u8, u: &[u8], v: &[u8], out: &mut [i8
 
 // The inverse of an accepted word's window, written to the front of `out`.
 pub(crate) fn show_inverse(kind: u8, rank: u8, word: &[u8], out: &mut [i8])
-    requires { ⌜ Rig kind rank ⌝ }
+    requires { ⌜ RankOf kind rank ⌝ }
     requires { ⌜ WordOf rank (now word) ⌝ }
     requires { ⌜ kinds.lanes (kindOf kind) rank ≤ length (now out) ⌝ }
     ensures { λ _. ⌜ now (out .exit) ≡ written 0 (inverse (window (kindOf kind) rank (now (word .entry)))) (now (out .entry)) ⌝ }
@@ -66,7 +66,7 @@ pub(crate) fn show_inverse(kind: u8, rank: u8, word: &[u8], out: &mut [i8])
 
 // The length of an accepted word's window as its three counts.
 pub(crate) fn crossings_of_shown(kind: u8, rank: u8, word: &[u8]) -> Counted
-    requires { ⌜ Rig kind rank ⌝ }
+    requires { ⌜ RankOf kind rank ⌝ }
     requires { ⌜ WordOf rank (now word) ⌝ }
     ensures { λ r. ⌜ r ≡ countedOf 0 (crossings (kindOf kind) (window (kindOf kind) rank (now (word .entry)))) ⌝ }
 {
@@ -84,9 +84,9 @@ pub(crate) fn same_presets(
     rank_b: u8,
     b: &[u8],
 ) -> bool
-    requires { ⌜ Rig «kind_a» «rank_a» ⌝ }
+    requires { ⌜ RankOf «kind_a» «rank_a» ⌝ }
     requires { ⌜ WordOf «rank_a» (now a) ⌝ }
-    requires { ⌜ Rig «kind_b» «rank_b» ⌝ }
+    requires { ⌜ RankOf «kind_b» «rank_b» ⌝ }
     requires { ⌜ WordOf «rank_b» (now b) ⌝ }
     ensures { λ r. ⌜ r ≡ samePresets «kind_a» «rank_a» (now (a .entry)) «kind_b» «rank_b» (now (b .entry)) ⌝ }
 {
@@ -103,7 +103,7 @@ pub(crate) fn same_presets(
 
 // Whether two accepted words of one kind and rank have one window.
 pub(crate) fn equal_words(kind: u8, rank: u8, u: &[u8], v: &[u8]) -> bool
-    requires { ⌜ Rig kind rank ⌝ }
+    requires { ⌜ RankOf kind rank ⌝ }
     requires { ⌜ WordOf rank (now u) ⌝ }
     requires { ⌜ WordOf rank (now v) ⌝ }
     ensures { λ r. ⌜ r ≡ equalWords (kindOf kind) rank (now (u .entry)) (now (v .entry)) ⌝ }

@@ -18,7 +18,7 @@ use Rattle.coxeter.specs.declared.Answer.{Answer}
 use Rattle.coxeter.specs.declared.Answer.the-variants as answer
 use Rattle.coxeter.specs.Kinds.{kindOf}
 use Rattle.coxeter.specs.Windows.{product, inverse}
-use Rattle.coxeter.specs.Checks.{check, _then_, tooLong, wrongLetter, rankRefusal, wordRefusal, windowRefusal, Rig, WordOf}
+use Rattle.coxeter.specs.Checks.{check, _then_, tooLong, wrongLetter, rankRefusal, wordRefusal, windowRefusal, RankOf, WordOf}
 use Rattle.coxeter.specs.NormalForm.{normalForm}
 use Rattle.coxeter.specs.Calls.{Yields, written, writes}
 use Rattle.coxeter.proofs.Acceptance.{rank-accepted, letters-accepted, length-accepted, windows-accepted}
@@ -98,7 +98,7 @@ refused-by-set k n set v w out p e f = writes-refused _ _ p _ out refl (e ∙ sy
 
 -- checks 5, 6 and 16 refuse nothing
 module _ (k n set : ℕ) (v w : List ℤ) (z : setRefusal k n set ≡ 0) where
-  rank : Rig k n
+  rank : RankOf k n
   rank = rank-of-set k n set z
 
   abbrev checks : ℕ

@@ -17,7 +17,7 @@ use Rattle.coxeter.specs.declared.Answer.{Answer}
 use Rattle.coxeter.specs.declared.Answer.the-variants as answer
 use Rattle.coxeter.specs.Kinds.{Kind, kindOf, least}
 use Rattle.coxeter.specs.Windows.{window, product, inverse}
-use Rattle.coxeter.specs.Checks.{_then_, rankRefusal, windowRefusal, Rig, WindowOf}
+use Rattle.coxeter.specs.Checks.{_then_, rankRefusal, windowRefusal, RankOf, WindowOf}
 use Rattle.coxeter.specs.NormalForm.{normalForm}
 use Rattle.coxeter.specs.Calls.{Yields, writes}
 use Rattle.coxeter.proofs.Acceptance.{Ranked, rank-accepted}
@@ -53,7 +53,7 @@ form-of-inverse : (k : Kind) (n : ℕ) (w : List ℤ) → least k ≤ n → Acce
 form-of-inverse k n w o a =
     length-normalForm k n (inverse w) (inverse-accepted k n w a) ∙ windowLength-inverse k n w o a ∙ sym (length-normalForm k n w a)
 
-module _ (k n : ℕ) (w : List ℤ) (h : Rig k n) (a : WindowOf (kindOf k) n w) where
+module _ (k n : ℕ) (w : List ℤ) (h : RankOf k n) (a : WindowOf (kindOf k) n w) where
   same-length : length (normalForm (kindOf k) n (inverse w)) ≡ length (normalForm (kindOf k) n w)
   same-length = form-of-inverse (kindOf k) n w (rank-accepted k n h .0) (accepted-of-refusal (kindOf k) n w a)
 
@@ -65,7 +65,7 @@ module _ (k n : ℕ) (w : List ℤ) (h : Rig k n) (a : WindowOf (kindOf k) n w) 
   room-measured room l e = rw (e, same-length)
 
 -- checks 5, 6 and 9 to 11 refuse none of two windows
-pub checks-pass : (k n : ℕ) (u v : List ℤ) → Rig k n → WindowOf (kindOf k) n u → WindowOf (kindOf k) n v
+pub checks-pass : (k n : ℕ) (u v : List ℤ) → RankOf k n → WindowOf (kindOf k) n u → WindowOf (kindOf k) n v
     → (rankRefusal k n then windowRefusal (kindOf k) n u then windowRefusal (kindOf k) n v) ≡ 0
 checks-pass k n u v h a b = then-none _ _ h ∙ then-none _ _ a ∙ b
 
@@ -100,7 +100,7 @@ module _ (u v first second : List ℕ) (t : Bool) (e : t ≡ leb (length v) (len
           parts-written u v first second l m (c .0) (d .0) (c .1) x y (d .1) (c .2) (d .2)
 
 -- v is the inverse of w as it was computed, and x what is left of it, as y was stored
-module _ (k n set : ℕ) (w v : List ℤ) (h : Rig k n) (a : WindowOf (kindOf k) n w) (p : v ≡ inverse w) where
+module _ (k n set : ℕ) (w v : List ℤ) (h : RankOf k n) (a : WindowOf (kindOf k) n w) (p : v ≡ inverse w) where
   pub strip-asked : Ranked (kindOf k) n × WindowOf (kindOf k) n v
   strip-asked = (rank-accepted k n h, rw p (inverse-passes (kindOf k) n w a))
 
@@ -108,7 +108,7 @@ module _ (k n set : ℕ) (w v : List ℤ) (h : Rig k n) (a : WindowOf (kindOf k)
     stripped : Strips (allows set) (kindOf k) n (inverse w) x
     stripped = rw (q, ← p) s
 
-    pub parts-asked : Rig k n × (WindowOf (kindOf k) n w × WindowOf (kindOf k) n x)
+    pub parts-asked : RankOf k n × (WindowOf (kindOf k) n w × WindowOf (kindOf k) n x)
     parts-asked =
         let o = rank-accepted k n h .0 in
         let c = accepted-of-refusal (kindOf k) n w a in
@@ -123,7 +123,7 @@ module _ (k n set : ℕ) (w v : List ℤ) (h : Rig k n) (a : WindowOf (kindOf k)
 
 -- w is the window of a word as it was computed
 module _ (k n set : ℕ) (u : List ℕ) (w : List ℤ) (p : w ≡ window (kindOf k) n u) where
-  pub window-asked : Rig k n → Rig k n × WindowOf (kindOf k) n w
+  pub window-asked : RankOf k n → RankOf k n × WindowOf (kindOf k) n w
   window-asked h = (h, rw p (window-passes (kindOf k) n u))
 
   pub words-are : (first second : List ℕ) (r : Split) (y z : List ℕ)

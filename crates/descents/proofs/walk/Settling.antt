@@ -9,7 +9,7 @@ use lib.IntN.{ℤ}
 use lib.ListN.{length}
 use Rattle.coxeter.specs.Kinds.{kindOf, lanes}
 use Rattle.coxeter.specs.Windows.{straight}
-use Rattle.coxeter.specs.Checks.{wrongLetter, Rig, WordOf, WindowOf}
+use Rattle.coxeter.specs.Checks.{wrongLetter, RankOf, WordOf, WindowOf}
 use Rattle.coxeter.specs.Calls.{written, sameWindow}
 use Rattle.coxeter.proofs.Acceptance.{Ranked, rank-accepted, letters-accepted, lanes-le}
 use Rattle.coxeter.proofs.Levels.{Accepted, accepted-of-refusal}
@@ -19,7 +19,7 @@ use Rattle.exchange.proofs.Verdicts.{Settled, settled-no, settled-short, settle
 
 -- what `settle` requires
 abbrev pub SettleRequires : ℕ → ℕ → List ℕ → List ℤ → Type 0
-SettleRequires k n u w = Rig k n × (WordOf n u × WindowOf (kindOf k) n w)
+SettleRequires k n u w = RankOf k n × (WordOf n u × WindowOf (kindOf k) n w)
 
 -- and what `keep_letters` ensures
 abbrev pub LettersKept : ℕ → ℕ → List ℕ → List ℤ → List ℕ → List ℤ → ℕ → Type 0

@@ -10,7 +10,7 @@ use Rattle.coxeter.specs.declared.Answer.{Answer}
 use Rattle.coxeter.specs.declared.Answer.the-variants as answer
 use Rattle.coxeter.specs.Kinds.{Kind, kindOf, lanes}
 use Rattle.coxeter.specs.Windows.{inverse}
-use Rattle.coxeter.specs.Checks.{Rig, WindowOf}
+use Rattle.coxeter.specs.Checks.{RankOf, WindowOf}
 use Rattle.coxeter.specs.NormalForm.{normalForm}
 use Rattle.coxeter.specs.Calls.{inverseOfWindow, lengthOfWindow}
 use Rattle.coxeter.proofs.Acceptance.{lanes-le}
@@ -27,7 +27,7 @@ use Rattle.coxeter.proofs.Fronts.{Front, front-of-bytes}
 pub form-le-square : (k : Kind) (n : ℕ) (w : List ℤ) → Accepted k n w → length (normalForm k n w) ≤ n * n
 form-le-square k n w a = omega (arith, length-normalForm k n w a, windowLength-le k n w a, greatest-le k n)
 
-module _ (k n : ℕ) (h : Rig k n) where
+module _ (k n : ℕ) (h : RankOf k n) where
   -- the length of an accepted window
   size : (w : List ℤ) → WindowOf (kindOf k) n w → length w ≡ lanes (kindOf k) n
   size w a = accepted-of-refusal (kindOf k) n w a .size

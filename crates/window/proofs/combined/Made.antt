@@ -8,12 +8,12 @@ use lib.IntN.{ℤ}
 use lib.ListN.{length, take}
 use Rattle.coxeter.specs.Kinds.{kindOf, lanes}
 use Rattle.coxeter.specs.Windows.{product, inverse}
-use Rattle.coxeter.specs.Checks.{windowRefusal, Rig, WindowOf}
+use Rattle.coxeter.specs.Checks.{windowRefusal, RankOf, WindowOf}
 use Rattle.coxeter.proofs.Theorems.{product-passes, inverse-passes}
 use Rattle.window.proofs.forms.Rooms.{window-fits}
 use Rattle.window.proofs.shown.Fronts.{Front, part-is}
 
-module _ (k n : ℕ) (h : Rig k n) where
+module _ (k n : ℕ) (h : RankOf k n) where
   -- a work window has room for an accepted one
   pub made-room : (w work : List ℤ) → WindowOf (kindOf k) n w → length work ≡ 64 → length w ≤ length work
   made-room w work a l = omega (arith, window-fits k n w h a)

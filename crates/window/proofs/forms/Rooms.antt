@@ -20,7 +20,7 @@ use Rattle.coxeter.proofs.Lengths.{length-normalForm}
 use Rattle.coxeter.proofs.GreatestLengths.{windowLength-le}
 use Rattle.coxeter.specs.Kinds.{Kind, kindOf, lanes}
 use Rattle.coxeter.specs.Length.{windowLength}
-use Rattle.coxeter.specs.Checks.{windowRefusal, Rig, WindowOf}
+use Rattle.coxeter.specs.Checks.{windowRefusal, RankOf, WindowOf}
 use Rattle.coxeter.specs.NormalForm.{normalForm}
 use Rattle.coxeter.specs.Calls.{Outcome, Yields, written, writes}
 use Rattle.window.proofs.Squares.{greatest-le}
@@ -57,16 +57,16 @@ module _ (k : Kind) (n : ℕ) (w : List ℤ) (out : List ℕ) (t : Bool) (g : Wi
 
 -- ---- what the calls answer
 
-pub window-fits : (k n : ℕ) (w : List ℤ) → Rig k n → WindowOf (kindOf k) n w → length w ≤ 64
+pub window-fits : (k n : ℕ) (w : List ℤ) → RankOf k n → WindowOf (kindOf k) n w → length w ≤ 64
 window-fits k n w h g = lanes-le k n (length w) h (accepted-of-refusal (kindOf k) n w g .size)
 
 -- an accepted window x was written to the work window that became r: what `write_checked` asks of r, and what a call
 -- answers with it where no check refused before
-module _ (k n : ℕ) (h : Rig k n) (x work r : List ℤ) (g : WindowOf (kindOf k) n x) (l : length work ≡ 64) (e : r ≡ written 0 x work) where
+module _ (k n : ℕ) (h : RankOf k n) (x work r : List ℤ) (g : WindowOf (kindOf k) n x) (l : length work ≡ 64) (e : r ≡ written 0 x work) where
   front : Front k n x r
   front = front-written k n h x work r g l e
 
-  pub made-asks : Rig k n × ((lanes (kindOf k) n ≤ length r) × WindowOf (kindOf k) n (take (lanes (kindOf k) n) r))
+  pub made-asks : RankOf k n × ((lanes (kindOf k) n ≤ length r) × WindowOf (kindOf k) n (take (lanes (kindOf k) n) r))
   made-asks = front-asks k n h x r g front
 
   pub made-written : (o : Outcome ℕ) (q s : ℕ) (out after : List ℕ) (a : Answer) → o ≡ writes q (normalForm (kindOf k) n x) out → s ≡ q → s ≡ 0
@@ -78,8 +78,8 @@ module _ (k n : ℕ) (w : List ℤ) (g : WindowOf (kindOf k) n w) where
   whole : take (lanes (kindOf k) n) w ≡ w
   whole = take-all (lanes (kindOf k) n) w (omega (arith, accepted-of-refusal (kindOf k) n w g .size))
 
-  pub whole-asks : Rig k n
-      → Rig k n × ((lanes (kindOf k) n ≤ length w) × WindowOf (kindOf k) n (take (lanes (kindOf k) n) w))
+  pub whole-asks : RankOf k n
+      → RankOf k n × ((lanes (kindOf k) n ≤ length w) × WindowOf (kindOf k) n (take (lanes (kindOf k) n) w))
   whole-asks h = (h, (omega (arith, accepted-of-refusal (kindOf k) n w g .size), ap (windowRefusal (kindOf k) n) whole ∙ g))
 
   pub whole-written : (o : Outcome ℕ) (q r : ℕ) (out after : List ℕ) (a : Answer) → o ≡ writes q (normalForm (kindOf k) n w) out → r ≡ q → r ≡ 0

@@ -11,7 +11,7 @@ use lib.ListN.{length, getD, take}
 use lib.Pow.{pow-pos}
 use lib.Seq.{sets}
 use Rattle.coxeter.specs.Kinds.{Kind, A, B, D, kindOf, lanes, least}
-use Rattle.coxeter.specs.Checks.{Rig, WindowOf}
+use Rattle.coxeter.specs.Checks.{RankOf, WindowOf}
 use Rattle.coxeter.specs.Calls.{written}
 use Rattle.coxeter.specs.NormalForm.{levels, normalForm}
 use Rattle.coxeter.proofs.Acceptance.{Ranked, rank-within, lanes-le}
@@ -43,7 +43,7 @@ more-lanes D n = omega arith
 pub first-left : (m left : ℕ) → left ≡ 2 ^ m - 1 → left < 2 ^ m
 first-left m left s = omega (arith, s, pow-pos m)
 
-module _ (k n m : ℕ) (h : Rig k n) (e : m ≡ lanes (kindOf k) n) where
+module _ (k n m : ℕ) (h : RankOf k n) (e : m ≡ lanes (kindOf k) n) where
   pub first-rank : Ranked (kindOf k) m
   first-rank = (omega (arith, e, rank-within k n h .0, more-lanes (kindOf k) n), lanes-le k n m h e)
 

@@ -17,7 +17,7 @@ use Rattle.coxeter.proofs.Acceptance.{lanes-le}
 use Rattle.coxeter.proofs.Outcomes.{written-part, written-front, written-again}
 use Rattle.coxeter.specs.Kinds.{kindOf, lanes, Kind}
 use Rattle.coxeter.specs.Windows.{window, windowFrom, product, inverse}
-use Rattle.coxeter.specs.Checks.{windowRefusal, Rig, WindowOf}
+use Rattle.coxeter.specs.Checks.{windowRefusal, RankOf, WindowOf}
 use Rattle.coxeter.specs.Calls.{written}
 
 -- ---- what words show
@@ -37,7 +37,7 @@ inverse-passes k n u = refusal-of-accepted k n (inverse (window k n u)) (inverse
 abbrev pub Front : ℕ → ℕ → List ℤ → List ℤ → Type 0
 Front k n x r = (length r ≡ 64) × (take (lanes (kindOf k) n) r ≡ x)
 
-module _ (k n : ℕ) (h : Rig k n) where
+module _ (k n : ℕ) (h : RankOf k n) where
   pub room : (work : List ℤ) → length work ≡ 64 → lanes (kindOf k) n ≤ length work
   room work l = omega (arith, lanes-le k n (lanes (kindOf k) n) h refl)
 
@@ -49,12 +49,12 @@ module _ (k n : ℕ) (h : Rig k n) where
 
   -- what the functions on a front ask: the front is an accepted window x
   pub front-asks : (x r : List ℤ) → WindowOf (kindOf k) n x → Front k n x r
-      → Rig k n × ((lanes (kindOf k) n ≤ length r) × WindowOf (kindOf k) n (take (lanes (kindOf k) n) r))
+      → RankOf k n × ((lanes (kindOf k) n ≤ length r) × WindowOf (kindOf k) n (take (lanes (kindOf k) n) r))
   front-asks x r a f = (h, (room r (f .0), ap (windowRefusal (kindOf k) n) (f .1) ∙ a))
 
 -- ---- a front that is read, as a part of m entries
 
-module _ (k n m : ℕ) (h : Rig k n) (e : m ≡ lanes (kindOf k) n) where
+module _ (k n m : ℕ) (h : RankOf k n) (e : m ≡ lanes (kindOf k) n) where
   pub part-room : (l : List ℤ) → length l ≡ 64 → m ≤ length l
   part-room l q = let b : m ≤ 64 = lanes-le k n m h e in omega arith
 
