@@ -14,10 +14,10 @@ use Rattle.coxeter.specs.NormalForm.{down, rise, fall, block, without, indexOf,
 use Rattle.coxeter.specs.Calls.{written}
 use Rattle.coxeter.proofs.Vectors.{Agree}
 use Rattle.rules.specs.Rules.{each, family1, family2, family3, family4, families5to7, rules, begins, fits, firstFitting, rewritten}
-use Rattle.exchange.specs.Descents.{isDescent}
-use Rattle.exchange.specs.Allowed.{allows, wrongSet, setRefusal}
-use Rattle.exchange.specs.Split.{lowest, stripped, restInverse, firstWord, secondWord}
-use Rattle.exchange.specs.SplitCalls.{splitOf, parts, splitting}
+use Rattle.shortest_words.specs.Descents.{isDescent}
+use Rattle.shortest_words.specs.Allowed.{allows, wrongSet, setRefusal}
+use Rattle.shortest_words.specs.Split.{lowest, stripped, restInverse, firstWord, secondWord}
+use Rattle.shortest_words.specs.SplitCalls.{splitOf, parts, splitting}
 use Rattle.traces.specs.Traces.{lowestFrom, lowestUse, traceWithin, trace, tooFewPlaces, toEndOf, tracedBy, rewritingToEnd}
 use Rattle.distribution.specs.AllWindows as allWindows
 use Rattle.distribution.specs.Distribution.{ofLength, distribution}

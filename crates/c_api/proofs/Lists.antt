@@ -21,8 +21,8 @@ use Rattle.coxeter.specs.Kinds.{pick}
 use Rattle.coxeter.specs.Checks.{check, _then_, tooShort}
 use Rattle.rules.specs.declared.Rewrite.{Rewrite}
 use Rattle.rules.specs.declared.Rewrite.the-variants as rewrite
-use Rattle.exchange.specs.declared.Split.{Split}
-use Rattle.exchange.specs.declared.Split.the-variants as split
+use Rattle.shortest_words.specs.declared.Split.{Split}
+use Rattle.shortest_words.specs.declared.Split.the-variants as split
 use Rattle.traces.specs.declared.ToEnd.{ToEnd}
 use Rattle.traces.specs.declared.ToEnd.the-variants as toEnd
 use Rattle.distribution.specs.declared.Table.{Table}

@@ -15,12 +15,12 @@ use Rattle.coxeter.specs.Length.{windowLength}
 use Rattle.coxeter.specs.Checks.{RankOf, WordOf, wrongKind, wrongRank, tooLong, wrongLetter, tooShort}
 use Rattle.coxeter.proofs.FirstFailing.{firstOf-named}
 use Rattle.coxeter.proofs.TestLaws.{zero-not-one}
-use Rattle.exchange.specs.declared.Fallback.{Fallback}
-use Rattle.exchange.specs.declared.Fallback.the-variants.{Kept, No, Refused}
-use Rattle.exchange.specs.Fallback.{FallbackOf, fallsBack}
-use Rattle.exchange.specs.Calls.{fallbackAnswer}
-use Rattle.exchange.proofs.Firsts.{fallback-firstOf, fallbackOf-exactly}
-use Rattle.exchange.proofs.Sentences.{no-exactly}
+use Rattle.shortest_words.specs.declared.Fallback.{Fallback}
+use Rattle.shortest_words.specs.declared.Fallback.the-variants.{Kept, No, Refused}
+use Rattle.shortest_words.specs.Fallback.{FallbackOf, fallsBack}
+use Rattle.shortest_words.specs.Calls.{fallbackAnswer}
+use Rattle.shortest_words.proofs.Firsts.{fallback-firstOf, fallbackOf-exactly}
+use Rattle.shortest_words.proofs.Sentences.{no-exactly}
 use Rattle.c_api.specs.Calls.{refused, listed, listedBeside}
 use Rattle.c_api.specs.Shortest.{fallbackNumber, FallbackNumbered}
 

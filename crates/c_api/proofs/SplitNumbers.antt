@@ -18,12 +18,12 @@ use Rattle.coxeter.specs.Calls.{written}
 use Rattle.coxeter.proofs.Levels.{window-accepted}
 use Rattle.coxeter.proofs.PairWeights.{windowLength-le-4096}
 use Rattle.coxeter.proofs.Fronts.{length-window-le}
-use Rattle.exchange.specs.declared.Split.{Split}
-use Rattle.exchange.specs.declared.Split.the-variants.{Words, Refused}
-use Rattle.exchange.specs.Allowed.{allows, setRefusal}
-use Rattle.exchange.specs.Split.{firstWord, secondWord}
-use Rattle.exchange.specs.SplitCalls.{Parted, splitOf, parts, splitting, SplitYields}
-use Rattle.exchange.proofs.Splits.{splitting-accepted, splitting-lengths, splitting-unchanged}
+use Rattle.shortest_words.specs.declared.Split.{Split}
+use Rattle.shortest_words.specs.declared.Split.the-variants.{Words, Refused}
+use Rattle.shortest_words.specs.Allowed.{allows, setRefusal}
+use Rattle.shortest_words.specs.Split.{firstWord, secondWord}
+use Rattle.shortest_words.specs.SplitCalls.{Parted, splitOf, parts, splitting, SplitYields}
+use Rattle.shortest_words.proofs.Splits.{splitting-accepted, splitting-lengths, splitting-unchanged}
 use Rattle.c_api.specs.Calls.{refused, splitNumbers, listedBeside, splittingListed}
 use Rattle.c_api.proofs.Bytes.{Refusable}
 use Rattle.c_api.proofs.Lists.{split-numbers, roomless, roomless-refused, beside-stored, beside-alone, beside-roomless, room-then, room-last, room-more}

@@ -7,7 +7,7 @@ use Prim.Native.Nat.{ℕ, suc}
 use lib.IntN.{ℤ}
 use Rattle.coxeter.specs.declared.Counted.{Counted}
 use Rattle.rules.specs.Calls.{rewriteAt, single}
-use Rattle.exchange.specs.SplitCalls.{splitting}
+use Rattle.shortest_words.specs.SplitCalls.{splitting}
 use Rattle.traces.specs.Traces.{rewritingToEnd}
 use Rattle.distribution.specs.Calls.{delayTable}
 use Rattle.book_format.specs.declared.Preset.{Preset}

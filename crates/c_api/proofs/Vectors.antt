@@ -17,8 +17,8 @@ use Rattle.coxeter.proofs.Vectors.{Agree}
 use Rattle.rules.specs.Rules.{each, family1, family2, family3, family4, families5to7, rules, begins, fits, firstFitting, rewritten}
 use Rattle.rules.specs.Calls.{pastEnd, rewriteBy, rewriteAt}
 use Rattle.rules.specs.declared.Rewrite.the-variants as rewrite
-use Rattle.exchange.specs.declared.Fallback.the-variants as fallback
-use Rattle.exchange.specs.declared.Split.the-variants as split
+use Rattle.shortest_words.specs.declared.Fallback.the-variants as fallback
+use Rattle.shortest_words.specs.declared.Split.the-variants as split
 use Rattle.traces.specs.declared.ToEnd.the-variants as toEnd
 use Rattle.distribution.specs.declared.Table.the-variants as table
 use Rattle.book_format.specs.declared.Opened.the-variants as opened

@@ -9,13 +9,13 @@ use mathlib.Core.List.{List}
 use Prim.Native.Nat.{ℕ, _≤_}
 use native.Mathlib.Omega.{arith}
 use lib.IntN.{ℤ}
-use Rattle.exchange.specs.declared.Fallback.{Fallback}
-use Rattle.exchange.specs.declared.Fallback.the-variants.{Kept}
-use Rattle.exchange.specs.Calls.{FellBack}
-use Rattle.exchange.specs.BetweenCalls.{betweenWindows}
-use Rattle.exchange.proofs.Verdicts.{kept-le, fellBack-alike}
-use Rattle.exchange.proofs.BetweenChecks.{between-alike}
-use Rattle.exchange.proofs.BetweenCalls.{between-fits}
+use Rattle.shortest_words.specs.declared.Fallback.{Fallback}
+use Rattle.shortest_words.specs.declared.Fallback.the-variants.{Kept}
+use Rattle.shortest_words.specs.Calls.{FellBack}
+use Rattle.shortest_words.specs.BetweenCalls.{betweenWindows}
+use Rattle.shortest_words.proofs.Verdicts.{kept-le, fellBack-alike}
+use Rattle.shortest_words.proofs.BetweenChecks.{between-alike}
+use Rattle.shortest_words.proofs.BetweenCalls.{between-fits}
 use Rattle.c_api.specs.Shortest.{fallbackNumber, FallbackNumbered}
 use Rattle.c_api.proofs.Lengths.{Small}
 use Rattle.c_api.proofs.Bytes.{byteOf, bytes-or-refused, Refusable}

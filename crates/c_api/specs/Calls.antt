@@ -20,9 +20,9 @@ use Rattle.coxeter.specs.Kinds.{pick}
 use Rattle.coxeter.specs.Checks.{tooShort}
 use Rattle.coxeter.specs.Calls.{Outcome}
 use Rattle.rules.specs.Calls.{atFront, Interface, rewriteAt}
-use Rattle.exchange.specs.declared.Split.{Split}
-use Rattle.exchange.specs.declared.Split.the-variants as split
-use Rattle.exchange.specs.SplitCalls.{splitting}
+use Rattle.shortest_words.specs.declared.Split.{Split}
+use Rattle.shortest_words.specs.declared.Split.the-variants as split
+use Rattle.shortest_words.specs.SplitCalls.{splitting}
 use Rattle.traces.specs.declared.ToEnd.{ToEnd}
 use Rattle.traces.specs.declared.ToEnd.the-variants as toEnd
 use Rattle.traces.specs.Traces.{rewritingToEnd}

@@ -4,9 +4,9 @@ use mathlib.Core.Path.{_≡_}
 use mathlib.Core.List.{List}
 use Prim.Native.Nat.{ℕ}
 use lib.IntN.{ℤ, pos}
-use Rattle.exchange.specs.declared.Fallback.{Fallback}
-use Rattle.exchange.specs.declared.Fallback.the-variants as fallback
-use Rattle.exchange.specs.Calls.{fallbackAnswer, FellBack}
+use Rattle.shortest_words.specs.declared.Fallback.{Fallback}
+use Rattle.shortest_words.specs.declared.Fallback.the-variants as fallback
+use Rattle.shortest_words.specs.Calls.{fallbackAnswer, FellBack}
 use Rattle.c_api.specs.Calls.{refused}
 
 -- IC4, I18: the number of places kept; −101 is no

@@ -6,7 +6,7 @@ use crate::numbers::size;
 use descents::Fallback;
 use descents::fallback_places;
 ghost use mathlib.Core.Path.{_≡_};
-ghost use Rattle.exchange.specs.BetweenCalls.{betweenWindows};
+ghost use Rattle.shortest_words.specs.BetweenCalls.{betweenWindows};
 ghost use Rattle.c_api.specs.Calls.{numbered};
 ghost use Rattle.c_api.specs.Shortest.{FallbackNumbered};
 

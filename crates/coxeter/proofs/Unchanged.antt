@@ -2,7 +2,7 @@
 -- number, and past the length that is answered it holds that too. By two laws about calls of every sort; those of
 -- the other crates are instances of the same two.
 -- Not here: one rewrite (in the crate rules), the rewriting to its end (in traces), fallbacks, splits and ways (in
--- exchange), the delay table (in distribution), calls on books (in book_format).
+-- shortest_words), the delay table (in distribution), calls on books (in book_format).
 --
 -- Sections: what every call keeps; what a call with one output keeps; the calls.
 -- Assumes nothing.

@@ -13,8 +13,8 @@ use Rattle.coxeter.specs.Checks.{RankOf}
 use Rattle.coxeter.specs.NormalForm.{wordNormalForm}
 use Rattle.coxeter.proofs.Fronts.{Front}
 use Rattle.coxeter.proofs.Theorems.{window-passes, normalForm-fits}
-use Rattle.exchange.specs.declared.Fallback.{Fallback}
-use Rattle.exchange.proofs.Verdicts.{Settled}
+use Rattle.shortest_words.specs.declared.Fallback.{Fallback}
+use Rattle.shortest_words.proofs.Verdicts.{Settled}
 use Rattle.descents.proofs.walk.Settling.{SettleRequires}
 
 -- the first i entries of an array v hold an answer l: m is i as it was computed

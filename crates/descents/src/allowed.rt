@@ -3,7 +3,7 @@
 use refusals::rank_refusal;
 ghost use mathlib.Core.Path.{_≡_};
 ghost use Prim.Native.Nat.{_≤_};
-ghost use Rattle.exchange.specs.Allowed.{allows, setRefusal};
+ghost use Rattle.shortest_words.specs.Allowed.{allows, setRefusal};
 
 // Whether step s is allowed.
 pub(crate) fn is_allowed(allowed: u64, s: usize) -> bool

@@ -14,8 +14,8 @@ ghost use Prim.Native.Nat.{_*_, _≤_};
 ghost use lib.ListN.{length};
 ghost use Rattle.coxeter.specs.Checks.{check, WordOf};
 ghost use Rattle.coxeter.specs.Calls.{Yields, writes};
-ghost use Rattle.exchange.specs.Allowed.{over, allows, setRefusal};
-ghost use Rattle.exchange.specs.BetweenCalls.{betweenWindows};
+ghost use Rattle.shortest_words.specs.Allowed.{over, allows, setRefusal};
+ghost use Rattle.shortest_words.specs.BetweenCalls.{betweenWindows};
 
 // Whether every letter of a word of steps is allowed.
 fn are_allowed(allowed: u64, word: &[u8]) -> bool

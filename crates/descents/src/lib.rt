@@ -2,7 +2,7 @@
 // which the field calls its descents.
 //
 // No public function has a `requires`: every input is checked in the order of CO2, and what a call returns and
-// writes is a definition of exchange/specs for every input, refused ones included.
+// writes is a definition of shortest_words/specs for every input, refused ones included.
 mod allowed;
 mod between;
 mod splitting;
@@ -13,10 +13,10 @@ mod work;
 
 use allowed::set_refusal;
 pub use between::between_windows;
-pub use exchange::Fallback;
-pub use exchange::Split;
 use refusals::preset_refusal;
 use refusals::ranked_words_refusal;
+pub use shortest_words::Fallback;
+pub use shortest_words::Split;
 use splitting::split_accepted;
 use walk::settle;
 pub use window::Answer;
@@ -30,10 +30,10 @@ ghost use Rattle.coxeter.specs.Kinds.{kindOf};
 ghost use Rattle.coxeter.specs.Windows.{window};
 ghost use Rattle.coxeter.specs.Checks.{_then_, wordRefusal, RankOf, WordOf};
 ghost use Rattle.coxeter.specs.NormalForm.{wordNormalForm};
-ghost use Rattle.exchange.specs.Allowed.{setRefusal};
-ghost use Rattle.exchange.specs.Calls.{FellBack};
-ghost use Rattle.exchange.specs.SplitCalls.{splitting, SplitYields};
-ghost use Rattle.exchange.proofs.Verdicts.{Settled};
+ghost use Rattle.shortest_words.specs.Allowed.{setRefusal};
+ghost use Rattle.shortest_words.specs.Calls.{FellBack};
+ghost use Rattle.shortest_words.specs.SplitCalls.{splitting, SplitYields};
+ghost use Rattle.shortest_words.proofs.Verdicts.{Settled};
 
 // The verdict on two accepted words of one kind and rank, by the normal form of the first and the window of the second.
 fn settle_words(kind: u8, rank: u8, present: &[u8], simpler: &[u8], places: &mut [u16]) -> Fallback

@@ -5,7 +5,7 @@ use crate::work::form_length;
 use crate::work::invert;
 use crate::work::lanes;
 use crate::work::show;
-use exchange::Split;
+use shortest_words::Split;
 use window::Answer;
 use window::normal_form_of_inverse;
 use window::normal_form_of_product;
@@ -16,9 +16,9 @@ ghost use Rattle.coxeter.specs.Kinds.{kindOf};
 ghost use Rattle.coxeter.specs.Windows.{window, product, inverse};
 ghost use Rattle.coxeter.specs.Checks.{RankOf, WordOf, WindowOf};
 ghost use Rattle.coxeter.specs.NormalForm.{normalForm};
-ghost use Rattle.exchange.specs.Allowed.{allows};
-ghost use Rattle.exchange.specs.Split.{firstWord, secondWord};
-ghost use Rattle.exchange.specs.SplitCalls.{parts, SplitYields};
+ghost use Rattle.shortest_words.specs.Allowed.{allows};
+ghost use Rattle.shortest_words.specs.Split.{firstWord, secondWord};
+ghost use Rattle.shortest_words.specs.SplitCalls.{parts, SplitYields};
 
 // Whether `room` letters are enough for the normal form of an accepted window's inverse, which is as long as that of
 // the window. No normal form has more than n × n letters, so that the length is measured only where there is less

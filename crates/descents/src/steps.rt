@@ -10,7 +10,7 @@ ghost use Rattle.coxeter.specs.Windows.{from, exchange, negateFirst, exchangeNe
 ghost use Rattle.coxeter.specs.Length.{later, negative};
 ghost use Rattle.coxeter.specs.Checks.{WindowOf};
 ghost use Rattle.coxeter.proofs.Acceptance.{Ranked};
-ghost use Rattle.exchange.specs.Descents.{isDescent};
+ghost use Rattle.shortest_words.specs.Descents.{isDescent};
 
 // Whether x stands later than y in the order 1, 2, .., m, -m, .., -2, -1: of one sign, where y is below x, and else
 // where y is not below x.

@@ -10,10 +10,10 @@ ghost use Rattle.coxeter.specs.Kinds.{kindOf, pick};
 ghost use Rattle.coxeter.specs.Windows.{act};
 ghost use Rattle.coxeter.specs.Checks.{WindowOf};
 ghost use Rattle.coxeter.proofs.Acceptance.{Ranked};
-ghost use Rattle.exchange.specs.Descents.{isDescent};
-ghost use Rattle.exchange.specs.Allowed.{allows};
-ghost use Rattle.exchange.proofs.Stripping.{Strips};
-ghost use Rattle.exchange.proofs.FarSteps.{Far};
+ghost use Rattle.shortest_words.specs.Descents.{isDescent};
+ghost use Rattle.shortest_words.specs.Allowed.{allows};
+ghost use Rattle.shortest_words.proofs.Stripping.{Strips};
+ghost use Rattle.shortest_words.proofs.FarSteps.{Far};
 
 // The lowest neighbour of step s; step 1, which has no lower one, for itself.
 fn back(kind: u8, n: usize, s: usize) -> usize

@@ -1,7 +1,7 @@
 // The walk through a word from its last letter to the first. A letter that makes the target shorter is kept, and
 // the target steps back; the word has a part-list with the target's window exactly when the target ends straight.
 use crate::steps::take_descent;
-use exchange::Fallback;
+use shortest_words::Fallback;
 ghost use mathlib.Core.Path.{_≡_};
 ghost use mathlib.Core.List.{[]};
 ghost use Prim.Native.Nat.{_≤_};
@@ -11,8 +11,8 @@ ghost use Rattle.coxeter.specs.Windows.{straight};
 ghost use Rattle.coxeter.specs.Checks.{RankOf, WordOf, WindowOf};
 ghost use Rattle.coxeter.specs.Calls.{written, sameWindow};
 ghost use Rattle.coxeter.proofs.Acceptance.{Ranked};
-ghost use Rattle.exchange.proofs.Walk.{leftOver, placesKept, marked};
-ghost use Rattle.exchange.proofs.Verdicts.{Settled};
+ghost use Rattle.shortest_words.proofs.Walk.{leftOver, placesKept, marked};
+ghost use Rattle.shortest_words.proofs.Verdicts.{Settled};
 
 // A letter that is not kept becomes 0. Answers how many are kept; `w` becomes what is left of the target.
 fn keep_letters(kind: u8, n: usize, word: &mut [u8], w: &mut [i8]) -> usize

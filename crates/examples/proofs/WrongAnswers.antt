@@ -17,10 +17,10 @@ use Rattle.coxeter.specs.Checks.{rankRefusal}
 use Rattle.coxeter.specs.Calls.{Outcome, windowOfWord, productOfWindows, inverseOfWindow, normalFormOfWindow, normalFormOfWord}
 use Rattle.coxeter.specs.Calls.{productOfWords, inverseOfWord, lengthOfWindow, lengthOfWord, presetsEqual}
 use Rattle.rules.specs.Calls.{Transition, single}
-use Rattle.exchange.specs.declared.Fallback.{Fallback}
-use Rattle.exchange.specs.Calls.{fallbackAnswer}
-use Rattle.exchange.specs.SplitCalls.{Parted, splitting}
-use Rattle.exchange.specs.BetweenCalls.{betweenWindows}
+use Rattle.shortest_words.specs.declared.Fallback.{Fallback}
+use Rattle.shortest_words.specs.Calls.{fallbackAnswer}
+use Rattle.shortest_words.specs.SplitCalls.{Parted, splitting}
+use Rattle.shortest_words.specs.BetweenCalls.{betweenWindows}
 use Rattle.traces.specs.Traces.{Traced, rewritingToEnd, numberOfSteps}
 use Rattle.distribution.specs.Calls.{Tabled, delayTable}
 use Rattle.book_format.specs.declared.Edition.the-variants.{First, Second}

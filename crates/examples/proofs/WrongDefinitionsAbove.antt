@@ -22,8 +22,8 @@ use Rattle.rules.specs.Runs.{AcceptedWord, Arguments, Call, Meets, Run, IsUsed,
 use Rattle.rules.proofs.Calls.{told-apart}
 use Rattle.rules.proofs.CallLists.{every-list-runs, uses-exactly, new-word-exactly}
 use Rattle.rules.proofs.Occurrences.{accepted-exactly}
-use Rattle.exchange.specs.Allowed.{over, allows}
-use Rattle.exchange.proofs.AllowedSets.{allows-exactly}
+use Rattle.shortest_words.specs.Allowed.{over, allows}
+use Rattle.shortest_words.proofs.AllowedSets.{allows-exactly}
 use Rattle.book_format.specs.declared.Edition.{Edition}
 use Rattle.book_format.specs.declared.Edition.the-variants.{First}
 use Rattle.book_format.specs.declared.Preset.{Preset}

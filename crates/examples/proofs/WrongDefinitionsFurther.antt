@@ -33,8 +33,8 @@ use Rattle.rules.proofs.Sentences.{as-the-machine}
 use Rattle.traces.specs.Traces as traces
 use Rattle.traces.specs.Traces.{Trace, lowestUse, traceWithin, trace}
 use Rattle.traces.proofs.StepsReached.{steps-reached}
-use Rattle.exchange.specs.Fallback.{lettersAt, Serves}
-use Rattle.exchange.proofs.FreePlaces.{serves-exactly}
+use Rattle.shortest_words.specs.Fallback.{lettersAt, Serves}
+use Rattle.shortest_words.proofs.FreePlaces.{serves-exactly}
 use Rattle.distribution.specs.AllWindows.{In, Once}
 use Rattle.distribution.specs.Distribution.{ofLength}
 use Rattle.distribution.specs.Longest.{longest}

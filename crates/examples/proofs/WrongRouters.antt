@@ -23,10 +23,10 @@ use Rattle.coxeter.specs.declared.Choice.{Choice}
 use Rattle.coxeter.specs.declared.Choice.the-variants as choices
 use Rattle.rules.specs.declared.Rewrite.{Rewrite}
 use Rattle.rules.specs.declared.Rewrite.the-variants as rewrites
-use Rattle.exchange.specs.declared.Fallback.{Fallback}
-use Rattle.exchange.specs.declared.Fallback.the-variants as fallbacks
-use Rattle.exchange.specs.declared.Split.{Split}
-use Rattle.exchange.specs.declared.Split.the-variants as splits
+use Rattle.shortest_words.specs.declared.Fallback.{Fallback}
+use Rattle.shortest_words.specs.declared.Fallback.the-variants as fallbacks
+use Rattle.shortest_words.specs.declared.Split.{Split}
+use Rattle.shortest_words.specs.declared.Split.the-variants as splits
 use Rattle.traces.specs.declared.ToEnd.{ToEnd}
 use Rattle.traces.specs.declared.ToEnd.the-variants as ends
 use Rattle.distribution.specs.declared.Table.{Table}
@@ -51,15 +51,15 @@ use Rattle.coxeter.specs.Calls.{equalWords, samePresets, presetsEqual, handsBac
 use Rattle.coxeter.proofs.Order.{sameWindow-of-eq}
 use Rattle.rules.specs.Rules.{each, family1, family2, family3, family4, families5to7, rules, begins, fits, firstFitting, rewritten}
 use Rattle.rules.specs.Calls.{pastEnd, rewriteBy, rewriteAt}
-use Rattle.exchange.specs.Fallback.{somePart, fallsBack}
-use Rattle.exchange.specs.Descents.{isDescent}
-use Rattle.exchange.specs.Allowed.{allows, wrongSet, setRefusal}
-use Rattle.exchange.specs.Split.{lowest, stripped, restInverse, firstWord, secondWord}
-use Rattle.exchange.specs.SplitCalls.{splitOf, parts, splitting}
-use Rattle.exchange.specs.Calls.{fallbackOf, fallbackAnswer, keptCount, FellBack}
-use Rattle.exchange.specs.Allowed.{over, allows, wrongSet, setRefusal}
-use Rattle.exchange.specs.Between.{between, reachable}
-use Rattle.exchange.specs.BetweenCalls.{unreachable, betweenRefusal, betweenWindows}
+use Rattle.shortest_words.specs.Fallback.{somePart, fallsBack}
+use Rattle.shortest_words.specs.Descents.{isDescent}
+use Rattle.shortest_words.specs.Allowed.{allows, wrongSet, setRefusal}
+use Rattle.shortest_words.specs.Split.{lowest, stripped, restInverse, firstWord, secondWord}
+use Rattle.shortest_words.specs.SplitCalls.{splitOf, parts, splitting}
+use Rattle.shortest_words.specs.Calls.{fallbackOf, fallbackAnswer, keptCount, FellBack}
+use Rattle.shortest_words.specs.Allowed.{over, allows, wrongSet, setRefusal}
+use Rattle.shortest_words.specs.Between.{between, reachable}
+use Rattle.shortest_words.specs.BetweenCalls.{unreachable, betweenRefusal, betweenWindows}
 use Rattle.traces.specs.Traces.{lowestFrom, lowestUse, traceWithin, trace, tooFewPlaces, toEndOf, tracedBy, rewritingToEnd, numberOfSteps}
 use Rattle.distribution.specs.AllWindows.{keep, lists}
 use Rattle.distribution.specs.AllWindows as all

@@ -11,12 +11,12 @@ use Rattle.coxeter.specs.Kinds.{kindOf, lanes}
 use Rattle.coxeter.specs.Windows.{straight, window}
 use Rattle.coxeter.specs.Checks.{check, _then_, tooShort, rankRefusal, wordRefusal, windowRefusal}
 use Rattle.coxeter.specs.Calls.{Outcome, writes}
-use Rattle.exchange.specs.declared.Fallback.{Fallback}
-use Rattle.exchange.specs.Fallback.{somePart, fallsBack}
-use Rattle.exchange.specs.Calls.{fallbackOf, simplerLength}
-use Rattle.exchange.specs.Allowed.{allows, wrongSet, setRefusal}
-use Rattle.exchange.specs.Between.{between, reachable}
-use Rattle.exchange.specs.BetweenCalls.{unreachable, betweenRefusal}
+use Rattle.shortest_words.specs.declared.Fallback.{Fallback}
+use Rattle.shortest_words.specs.Fallback.{somePart, fallsBack}
+use Rattle.shortest_words.specs.Calls.{fallbackOf, simplerLength}
+use Rattle.shortest_words.specs.Allowed.{allows, wrongSet, setRefusal}
+use Rattle.shortest_words.specs.Between.{between, reachable}
+use Rattle.shortest_words.specs.BetweenCalls.{unreachable, betweenRefusal}
 
 -- ---- fallbacks
 

@@ -11,9 +11,9 @@ use Rattle.coxeter.specs.Length.{windowLength}
 use Rattle.coxeter.specs.Checks.{check, _then_, tooShort, rankRefusal, wordRefusal}
 use Rattle.coxeter.specs.NormalForm.{normalForm}
 use Rattle.coxeter.specs.Calls.{written}
-use Rattle.exchange.specs.Allowed.{allows, wrongSet, setRefusal}
-use Rattle.exchange.specs.Split.{stripped, firstWord, secondWord}
-use Rattle.exchange.specs.SplitCalls.{Parted, parts, splitting}
+use Rattle.shortest_words.specs.Allowed.{allows, wrongSet, setRefusal}
+use Rattle.shortest_words.specs.Split.{stripped, firstWord, secondWord}
+use Rattle.shortest_words.specs.SplitCalls.{Parted, parts, splitting}
 
 -- the split with other checks before 14, or with other words
 abbrev checkedBy : (ℕ → ℕ → ℕ → List ℕ → ℕ) → ℕ → ℕ → ℕ → List ℕ → List ℕ → List ℕ → Parted

@@ -23,11 +23,11 @@ use Rattle.coxeter.proofs.Levels.{window-accepted}
 use Rattle.coxeter.proofs.Relations.{letters-append, wrongLetter-cons}
 use Rattle.coxeter.proofs.Order.{same}
 use Rattle.coxeter.proofs.Descents.{crossed, length-of-crossed, length-of-uncrossed}
-use Rattle.exchange.specs.OneLetter.{dropAt, Removable, added}
-use Rattle.exchange.proofs.Parts.{length-dropAt, part-of-dropAt, part-letters}
-use Rattle.exchange.proofs.Shortest.{letters-snoc, windowLength-le, length-of-shortest}
-use Rattle.exchange.proofs.Exchange.{window-snoc, exchange, exchange-front}
-use Rattle.exchange.proofs.Deletion.{dropAt-append, dropAt-seam}
+use Rattle.shortest_words.specs.OneLetter.{dropAt, Removable, added}
+use Rattle.shortest_words.proofs.Parts.{length-dropAt, part-of-dropAt, part-letters}
+use Rattle.shortest_words.proofs.Shortest.{letters-snoc, windowLength-le, length-of-shortest}
+use Rattle.shortest_words.proofs.Exchange.{window-snoc, exchange, exchange-front}
+use Rattle.shortest_words.proofs.Deletion.{dropAt-append, dropAt-seam}
 use Rattle.traces.proofs.LeastWords.{cancel-back, cancel-front, across, undo, letters-left, letters-right, Normal}
 use Rattle.traces.proofs.LeastWords.{normal-shortest, normal-back, not-earlier, Earlier, normal-if}
 

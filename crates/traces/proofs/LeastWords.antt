@@ -30,10 +30,10 @@ use Rattle.rules.proofs.Ending.{before-append}
 use Rattle.rules.proofs.Extending.{rewrites-within}
 use Rattle.rules.proofs.Completeness.{RewritesTo, rewritesTo-normalForm, rewritesTo-shortlex, rewritesTo-letters, rewritesTo-window}
 use Rattle.rules.proofs.Completeness.{irreducible-iff, irreducible-of-not-rewritten, not-rewritten-of-irreducible, normalForm-least-window}
-use Rattle.exchange.specs.OneLetter.{Shortest}
-use Rattle.exchange.proofs.Shortest.{shortest-normal}
-use Rattle.exchange.proofs.Exchange.{window-snoc, window-twice, windowFrom-injective}
-use Rattle.exchange.proofs.Deletion.{window-from}
+use Rattle.shortest_words.specs.OneLetter.{Shortest}
+use Rattle.shortest_words.proofs.Shortest.{shortest-normal}
+use Rattle.shortest_words.proofs.Exchange.{window-snoc, window-twice, windowFrom-injective}
+use Rattle.shortest_words.proofs.Deletion.{window-from}
 
 -- ---- words with one window
 

@@ -24,7 +24,7 @@ use Rattle.rules.specs.Rules.{rules, fits, rewritten, Irreducible}
 use Rattle.rules.proofs.Rewriting.{Rewrites}
 use Rattle.rules.proofs.Fits.{fits-split, rewritten-split, fits-past, firstFitting-some, left-nonempty}
 use Rattle.rules.proofs.Completeness.{rewrites-letters, rewrites-window, rewrites-length}
-use Rattle.exchange.proofs.Shortest.{letters-snoc}
+use Rattle.shortest_words.proofs.Shortest.{letters-snoc}
 use Rattle.traces.specs.Traces.{Use, lowestUse, Trace, trace}
 use Rattle.traces.proofs.LeftSides.{left-two, Sides, drops, moves, sides-of-rule}
 use Rattle.traces.proofs.Traces.{Lowest, after, lowest-some, lowest-is, irreducible-of-none, none-of-irreducible, lowest-rewrites}

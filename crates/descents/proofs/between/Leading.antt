@@ -28,11 +28,11 @@ use Rattle.coxeter.proofs.LetterLaws.{letter-within-cons}
 use Rattle.coxeter.proofs.Theorems.{normalForm-fits}
 use Rattle.coxeter.proofs.Refusals.{then-none, then-some, then-assoc}
 use Rattle.coxeter.proofs.Outcomes.{writes-refused, written-front}
-use Rattle.exchange.specs.Allowed.{over, allows, setRefusal}
-use Rattle.exchange.specs.Between.{between, reachable}
-use Rattle.exchange.specs.BetweenCalls.{unreachable, betweenRefusal, betweenWindows}
-use Rattle.exchange.proofs.Between.{between-accepted}
-use Rattle.exchange.proofs.BetweenCalls.{rank-of-set}
+use Rattle.shortest_words.specs.Allowed.{over, allows, setRefusal}
+use Rattle.shortest_words.specs.Between.{between, reachable}
+use Rattle.shortest_words.specs.BetweenCalls.{unreachable, betweenRefusal, betweenWindows}
+use Rattle.shortest_words.proofs.Between.{between-accepted}
+use Rattle.shortest_words.proofs.BetweenCalls.{rank-of-set}
 use Rattle.descents.proofs.Answers.{length-is-no-refusal, told-length, told-refused}
 use Rattle.descents.proofs.work.Windows.{form-le-square}
 

@@ -1,7 +1,7 @@
 -- `fallback_places` goes by its checks in their order, and then by the verdict on the two words.
 -- Assumes nothing.
 use Rattle.coxeter.proofs.Acceptance.{words-accepted}
-use Rattle.exchange.proofs.Verdicts.{fellBack-refused, fellBack-settled}
+use Rattle.shortest_words.proofs.Verdicts.{fellBack-refused, fellBack-settled}
 use borrow.Author.Needs.{needs}
 use Rattle.descents.proofs.fallback_places.Statement.{statement}
 use Rattle.descents.proofs.fallback_places.Tie as tie

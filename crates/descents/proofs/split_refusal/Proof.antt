@@ -6,7 +6,7 @@ use Prim.Native.Nat.{ℕ}
 use borrow.Author.Needs.{needs}
 use Rattle.coxeter.specs.Checks.{check, _then_, rankRefusal, wordRefusal}
 use Rattle.coxeter.proofs.Refusals.{then-zero, then-none, then-refused, then-next}
-use Rattle.exchange.specs.Allowed.{wrongSet, setRefusal}
+use Rattle.shortest_words.specs.Allowed.{wrongSet, setRefusal}
 use Rattle.descents.proofs.split_refusal.Statement.{statement}
 use Rattle.descents.proofs.split_refusal.Tie as tie
 

@@ -1,6 +1,6 @@
 -- `split_word` refuses in the order of its checks, or splits the word.
 -- Assumes nothing.
-use Rattle.exchange.proofs.SplitOutcomes.{split-refused, split-accepted, split-passed}
+use Rattle.shortest_words.proofs.SplitOutcomes.{split-refused, split-accepted, split-passed}
 use borrow.Author.Needs.{needs}
 use Rattle.descents.proofs.split_word.Statement.{statement}
 use Rattle.descents.proofs.split_word.Tie as tie

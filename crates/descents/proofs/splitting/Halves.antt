@@ -26,14 +26,14 @@ use Rattle.coxeter.proofs.Inverses.{inverse-accepted}
 use Rattle.coxeter.proofs.Lengths.{length-normalForm}
 use Rattle.coxeter.proofs.Refusals.{then-none}
 use Rattle.coxeter.proofs.Theorems.{window-passes, inverse-passes}
-use Rattle.exchange.specs.declared.Split.{Split}
-use Rattle.exchange.specs.declared.Split.the-variants.{Words, Refused}
-use Rattle.exchange.specs.Allowed.{allows}
-use Rattle.exchange.specs.Split.{firstWord, secondWord}
-use Rattle.exchange.specs.SplitCalls.{parts, SplitYields}
-use Rattle.exchange.proofs.Shortest.{windowLength-inverse}
-use Rattle.exchange.proofs.SplitOutcomes.{first-short, second-short, parts-written}
-use Rattle.exchange.proofs.Stripping.{Strips, rest-accepted, split-by-strips}
+use Rattle.shortest_words.specs.declared.Split.{Split}
+use Rattle.shortest_words.specs.declared.Split.the-variants.{Words, Refused}
+use Rattle.shortest_words.specs.Allowed.{allows}
+use Rattle.shortest_words.specs.Split.{firstWord, secondWord}
+use Rattle.shortest_words.specs.SplitCalls.{parts, SplitYields}
+use Rattle.shortest_words.proofs.Shortest.{windowLength-inverse}
+use Rattle.shortest_words.proofs.SplitOutcomes.{first-short, second-short, parts-written}
+use Rattle.shortest_words.proofs.Stripping.{Strips, rest-accepted, split-by-strips}
 use Rattle.descents.proofs.Answers.{told-length, told-refused}
 use Rattle.descents.proofs.work.Windows.{form-le-square}
 

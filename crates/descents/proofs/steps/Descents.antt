@@ -22,8 +22,8 @@ use Rattle.coxeter.proofs.Descents.{crossed, crossed-exchange, crossed-B-last, 
 use Rattle.refusals.proofs.Bytes.{held, byte-back, element-back, minus-is-negate, minus-fits, minus-back}
 use Rattle.window.proofs.ByteSteps.{ActRequires, Negated, set-eq-negateFirst, set-eq-exchangeNegate, length-of-refusal}
 use Rattle.window.proofs.ByteSteps.{exchange-eq-act, negateFirst-eq-act, exchangeNegate-eq-act, four-le-of-last, last-step, last-kind}
-use Rattle.exchange.specs.Descents.{isDescent}
-use Rattle.exchange.proofs.Descents.{descent-crossed}
+use Rattle.shortest_words.specs.Descents.{isDescent}
+use Rattle.shortest_words.proofs.Descents.{descent-crossed}
 
 -- ---- the order of entries
 

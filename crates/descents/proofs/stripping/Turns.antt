@@ -18,11 +18,11 @@ use Rattle.coxeter.specs.Length.{windowLength}
 use Rattle.coxeter.specs.Checks.{WindowOf}
 use Rattle.coxeter.proofs.Levels.{Accepted, accepted-of-refusal}
 use Rattle.coxeter.proofs.Theorems.{act-passes}
-use Rattle.exchange.specs.Descents.{isDescent}
-use Rattle.exchange.specs.Allowed.{allows}
-use Rattle.exchange.proofs.Descents.{length-of-descent}
-use Rattle.exchange.proofs.Stripping.{Ended, Strips, strips-nothing, strips-first}
-use Rattle.exchange.proofs.FarSteps.{Far, ended-far}
+use Rattle.shortest_words.specs.Descents.{isDescent}
+use Rattle.shortest_words.specs.Allowed.{allows}
+use Rattle.shortest_words.proofs.Descents.{length-of-descent}
+use Rattle.shortest_words.proofs.Stripping.{Ended, Strips, strips-nothing, strips-first}
+use Rattle.shortest_words.proofs.FarSteps.{Far, ended-far}
 
 -- ---- how far back
 

@@ -13,9 +13,9 @@ use Rattle.coxeter.specs.Checks.{wrongLetter, RankOf, WordOf, WindowOf}
 use Rattle.coxeter.specs.Calls.{written, sameWindow}
 use Rattle.coxeter.proofs.Acceptance.{Ranked, rank-accepted, letters-accepted, lanes-le}
 use Rattle.coxeter.proofs.Levels.{Accepted, accepted-of-refusal}
-use Rattle.exchange.specs.declared.Fallback.the-variants.{Kept, No, Refused}
-use Rattle.exchange.proofs.Walk.{leftOver, placesKept, marked}
-use Rattle.exchange.proofs.Verdicts.{Settled, settled-no, settled-short, settled-kept}
+use Rattle.shortest_words.specs.declared.Fallback.the-variants.{Kept, No, Refused}
+use Rattle.shortest_words.proofs.Walk.{leftOver, placesKept, marked}
+use Rattle.shortest_words.proofs.Verdicts.{Settled, settled-no, settled-short, settled-kept}
 
 -- what `settle` requires
 abbrev pub SettleRequires : ℕ → ℕ → List ℕ → List ℤ → Type 0

@@ -31,9 +31,9 @@ use Rattle.coxeter.proofs.Outcomes.{written-sets}
 use Rattle.coxeter.proofs.LetterLaws.{letter-within}
 use Rattle.coxeter.proofs.Theorems.{act-passes}
 use Rattle.rules.proofs.ScanRules.{wrongLetter-drop}
-use Rattle.exchange.specs.Descents.{isDescent}
-use Rattle.exchange.proofs.Lifting.{descended}
-use Rattle.exchange.proofs.Walk.{leftOver, placesKept, marked}
+use Rattle.shortest_words.specs.Descents.{isDescent}
+use Rattle.shortest_words.proofs.Lifting.{descended}
+use Rattle.shortest_words.proofs.Walk.{leftOver, placesKept, marked}
 
 -- ---- letters kept
 

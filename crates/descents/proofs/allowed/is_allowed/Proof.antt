@@ -2,7 +2,7 @@
 -- Assumes nothing.
 use mathlib.Core.Path.{refl}
 use borrow.Author.Needs.{needs}
-use Rattle.exchange.specs.Allowed.{allows}
+use Rattle.shortest_words.specs.Allowed.{allows}
 use Rattle.descents.proofs.allowed.is_allowed.Statement.{statement}
 use Rattle.descents.proofs.allowed.is_allowed.Tie as tie
 

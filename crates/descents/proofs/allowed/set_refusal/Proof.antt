@@ -2,8 +2,8 @@
 -- Assumes nothing.
 use borrow.Author.Needs.{needs}
 use Rattle.coxeter.proofs.Refusals.{then-refused, then-next}
-use Rattle.exchange.specs.Allowed.{setRefusal}
-use Rattle.exchange.proofs.AllowedSets.{wrongSet-shifted, rightSet-shifted, rightSet-full}
+use Rattle.shortest_words.specs.Allowed.{setRefusal}
+use Rattle.shortest_words.proofs.AllowedSets.{wrongSet-shifted, rightSet-shifted, rightSet-full}
 use Rattle.descents.proofs.allowed.set_refusal.Statement.{statement}
 use Rattle.descents.proofs.allowed.set_refusal.Tie as tie
 

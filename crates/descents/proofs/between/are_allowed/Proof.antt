@@ -8,7 +8,7 @@ use borrow.Author.Needs.{needs}
 use Rattle.coxeter.proofs.Acceptance.{letters-accepted}
 use Rattle.coxeter.proofs.LetterLaws.{letter-within}
 use Rattle.rules.proofs.ScanRules.{wrongLetter-drop}
-use Rattle.exchange.specs.Allowed.{over, allows}
+use Rattle.shortest_words.specs.Allowed.{over, allows}
 use Rattle.descents.proofs.between.Leading.{over-stop, over-next, over-end}
 use Rattle.descents.proofs.between.are_allowed.Statement.{statement}
 use Rattle.descents.proofs.between.are_allowed.Tie as tie

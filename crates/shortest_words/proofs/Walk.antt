@@ -1,0 +1,145 @@
+-- The walk through a word from its last letter to the first decides whether a window is a fallback, and keeps
+-- places that serve: by lifting at each letter, and since each kept place lowers the length of the target by one.
+--
+-- Sections: the walk; the target; the places; the verdict.
+-- Assumes nothing.
+use mathlib.Core.Path.{_≡_, refl, sym, ap, _∙_}
+use mathlib.Core.Bool.{Bool, true, false}
+use mathlib.Core.Logic.{_↔_, Iff·trans}
+use mathlib.Core.List.{List, [], _∷_}
+use Prim.Native.Nat.{ℕ, zero, suc, _+_, _≤_, _<_}
+use native.Mathlib.Omega.{arith}
+use lib.Dec.{eqb}
+use lib.IntN.{ℤ}
+use lib.ListN.{length, getD, take}
+use lib.Seq.{take-suc, take-length}
+use Rattle.coxeter.specs.Kinds.{Kind, pick, least, lanes}
+use Rattle.coxeter.specs.Windows.{act, windowFrom, straight, window}
+use Rattle.coxeter.specs.Length.{windowLength}
+use Rattle.coxeter.specs.Checks.{wrongLetter}
+use Rattle.coxeter.proofs.Levels.{Accepted}
+use Rattle.coxeter.proofs.Steps.{act-involution}
+use Rattle.coxeter.proofs.LetterLaws.{letter-within}
+use Rattle.rules.proofs.ScanRules.{wrongLetter-drop}
+use Rattle.shortest_words.specs.Descents.{isDescent}
+use Rattle.shortest_words.specs.Fallback.{Rising, lettersAt, HasPart, Keeps}
+use Rattle.shortest_words.proofs.Parts.{Part, none, keep, part-letters}
+use Rattle.shortest_words.proofs.Shortest.{windowLength-le}
+use Rattle.shortest_words.proofs.Places.{part-nothing, rising-from, part-of-fallback, fallback-of-part}
+use Rattle.shortest_words.proofs.Descents.{length-of-descent}
+use Rattle.shortest_words.proofs.Lifting.{descended, descended-step, descended-same, descended-accepted, lifting}
+
+-- ---- the walk
+
+-- what is left of the target w after the first i letters of u, from the last of them to the first
+unfoldable pub leftOver : Kind → ℕ → List ℕ → ℕ → List ℤ → List ℤ
+leftOver k n u zero w = w
+leftOver k n u (suc i) w = leftOver k n u i (descended k n (getD u i 0) w)
+
+-- the places kept on the way, before the places ps that were kept already
+unfoldable pub placesKept : Kind → ℕ → List ℕ → ℕ → List ℤ → List ℕ → List ℕ
+placesKept k n u zero w ps = ps
+placesKept k n u (suc i) w ps =
+    placesKept k n u i (descended k n (getD u i 0) w) (pick (isDescent k n (getD u i 0) w) (i ∷ ps) ps)
+
+-- the places, counted from i, of the letters of u that are not 0: a letter that is not kept is made 0
+unfoldable pub marked : ℕ → List ℕ → List ℕ
+marked i [] = []
+marked i (s ∷ u) = pick (eqb s 0) (marked (suc i) u) (i ∷ marked (suc i) u)
+
+-- ---- the target
+
+part-take : (i : ℕ) (u : List ℕ) → Part u (take i u)
+part-take zero u = part-nothing u
+part-take (suc i) [] = none
+part-take (suc i) (a ∷ u) = keep (part-take i u)
+
+module _ (k : Kind) (n : ℕ) (u : List ℕ) (h : least k ≤ n) (e : wrongLetter n u ≡ false) where
+  letter : (i : ℕ) → i < length u → (1 ≤ getD u i 0) × (getD u i 0 ≤ n)
+  letter i l = letter-within n u i l (wrongLetter-drop n i u e)
+
+  -- the empty word has one part-list
+  empty-exactly : (w : List ℤ) → HasPart k n [] w ↔ (w ≡ straight (lanes k n))
+  unfolding window windowFrom
+  empty-exactly w = (
+    λ f. let p = part-of-fallback k n [] w f in only (p .part) (p .shows),
+    λ q. fallback-of-part k n [] [] w none (sym q),
+  )
+    where
+      only : {v : List ℕ} → Part [] v → window k n v ≡ w → w ≡ straight (lanes k n)
+      only none g = sym g
+
+  -- the first i letters have a part-list with the window w exactly when the target ends straight
+  walk-exactly : (i : ℕ) (w : List ℤ) → i ≤ length u → Accepted k n w → HasPart k n (take i u) w ↔ (leftOver k n u i w ≡ straight (lanes k n))
+  unfolding leftOver
+  walk-exactly zero w l a = empty-exactly w
+  walk-exactly (suc i) w l a =
+      let s : ℕ = getD u i 0 in
+      let front = part-letters n (part-take i u) e in
+      rw (take-suc u i 0 l)
+      (Iff·trans (lifting k n (take i u) s h front (letter i l .0) (letter i l .1) w a)
+      (walk-exactly i (descended k n s w) (omega arith) (descended-accepted k n s w a)))
+
+  -- ---- the places
+
+  -- the places kept rise
+  kept-rising : (i : ℕ) (w : List ℤ) (ps : List ℕ) → i ≤ length u → Rising (length u) i ps → Rising (length u) 0 (placesKept k n u i w ps)
+  unfolding placesKept
+  kept-rising zero w ps l r = r
+  kept-rising (suc i) w ps l r = kept-rising i (descended k n (getD u i 0) w) _ (omega arith) (cases (isDescent k n (getD u i 0) w))
+    where
+      cases : (t : Bool) → Rising (length u) i (pick t (i ∷ ps) ps)
+      cases true = (omega arith, l, r)
+      cases false = rising-from (length u) (suc i) i ps (omega arith) r
+
+  -- their letters lead from what is left of the target to the target
+  kept-leads : (i : ℕ) (w : List ℤ) (ps : List ℕ)
+      → windowFrom k n (leftOver k n u i w) (lettersAt u (placesKept k n u i w ps)) ≡ windowFrom k n w (lettersAt u ps)
+  unfolding leftOver placesKept lettersAt windowFrom descended
+  kept-leads zero w ps = refl
+  kept-leads (suc i) w ps = kept-leads i _ _ ∙ cases (isDescent k n (getD u i 0) w)
+    where
+      cases : (t : Bool)
+          → windowFrom k n (pick t (act k n (getD u i 0) w) w) (lettersAt u (pick t (i ∷ ps) ps)) ≡ windowFrom k n w (lettersAt u ps)
+      cases true = ap (λ (x : List ℤ). windowFrom k n x (lettersAt u ps)) (act-involution k n (getD u i 0) w)
+      cases false = refl
+
+  -- there are as many of them as the target has become shorter
+  kept-count : (i : ℕ) (w : List ℤ) (ps : List ℕ) → i ≤ length u → Accepted k n w
+      → length (placesKept k n u i w ps) + windowLength k (leftOver k n u i w) ≡ length ps + windowLength k w
+  unfolding leftOver placesKept
+  kept-count zero w ps l a = refl
+  kept-count (suc i) w ps l a =
+      kept-count i (descended k n (getD u i 0) w) (pick (isDescent k n (getD u i 0) w) (i ∷ ps) ps) (omega arith)
+      (descended-accepted k n (getD u i 0) w a)
+      ∙ cases (isDescent k n (getD u i 0) w) refl
+    where
+      cases : (t : Bool) → isDescent k n (getD u i 0) w ≡ t
+          → length (pick t (i ∷ ps) ps) + windowLength k (descended k n (getD u i 0) w) ≡ length ps + windowLength k w
+      cases true t =
+          rw (descended-step k n (getD u i 0) w t)
+          (omega (arith, length-of-descent k n (getD u i 0) w h (letter i l .0) (letter i l .1) a t))
+      cases false t = rw (descended-same k n (getD u i 0) w t)
+
+  -- ---- the verdict
+
+  straight-length : windowLength k (straight (lanes k n)) ≡ 0
+  unfolding window windowFrom wrongLetter
+  straight-length = let l = windowLength-le k n [] h refl in omega arith
+
+  -- some part-list of u has the window w exactly when the target ends straight
+  pub walk-decides : (w : List ℤ) → Accepted k n w → HasPart k n u w ↔ (leftOver k n u (length u) w ≡ straight (lanes k n))
+  walk-decides w a = rw (take-length u) at (walk-exactly (length u) w (omega arith) a)
+
+  -- and then the places kept serve, and are as many as the length of w
+  pub walk-keeps : (w : List ℤ) → Accepted k n w → leftOver k n u (length u) w ≡ straight (lanes k n)
+      → Keeps k n u w (placesKept k n u (length u) w [])
+  unfolding window windowFrom lettersAt
+  walk-keeps w a ends =
+      record {
+        serves = record {
+          rising = kept-rising (length u) w [] (omega arith) tt;
+          shows = rw (← ends) (kept-leads (length u) w []);
+        };
+        count = omega (arith, kept-count (length u) w [] (omega arith) a, straight-length, ap (windowLength k) ends);
+      }
