@@ -18,7 +18,7 @@ use Rattle.shortest_words.specs.Descents.{isDescent}
 use Rattle.shortest_words.specs.Allowed.{allows, wrongSet, setRefusal}
 use Rattle.shortest_words.specs.Split.{lowest, stripped, restInverse, firstWord, secondWord}
 use Rattle.shortest_words.specs.SplitCalls.{splitOf, parts, splitting}
-use Rattle.traces.specs.Traces.{lowestFrom, lowestUse, traceWithin, trace, tooFewPlaces, toEndOf, tracedBy, rewritingToEnd}
+use Rattle.traces.specs.Traces.{lowestFrom, lowestRedex, traceWithin, trace, tooFewPlaces, toEndOf, tracedBy, rewritingToEnd}
 use Rattle.distribution.specs.AllWindows as allWindows
 use Rattle.distribution.specs.Distribution.{ofLength, distribution}
 use Rattle.distribution.specs.Longest.{allNegative, longest}
@@ -41,7 +41,7 @@ pub toEnds-agree : Agree toEnds
 unfolding toEnds refused traceNumbers listedBeside rewritingToEndListed
     kindOf wrongKind wrongRank tooLong wrongLetter tooShort rankRefusal wordRefusal up down rise fall block
     each family1 family2 family3 family4 families5to7 rules begins fits firstFitting rewritten
-    written lowestFrom lowestUse traceWithin trace tooFewPlaces toEndOf tracedBy rewritingToEnd
+    written lowestFrom lowestRedex traceWithin trace tooFewPlaces toEndOf tracedBy rewritingToEnd
 toEnds-agree = refl
 
 -- a split of 1 2 1 in A₂ with step 1 allowed; a list too short, and an output too short; a bit above the rank, with

@@ -12,7 +12,7 @@ pub mod Acceptance
 pub mod Sizes
 pub mod Levels
 pub mod Steps
-pub mod Links
+pub mod Congruence
 pub mod Relations
 pub mod Products
 pub mod Places

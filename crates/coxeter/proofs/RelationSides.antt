@@ -1,7 +1,7 @@
--- The relations, one use of them and the words that they link, each exactly (E1 to E8 of the specification): the
+-- The relations, one application of them and their congruence, each exactly (E1 to E8 of the specification): the
 -- relations outright, kind by kind, by the numbers of their steps.
 --
--- Sections: uses and links; the relations of each kind; the sides of a relation.
+-- Sections: applications and the congruence; the relations of each kind; the sides of a relation.
 -- Not here: which pairs of steps have which relation, by windows (RelationWindows).
 -- Assumes nothing.
 use mathlib.Core.Path.{_≡_, refl, ap}
@@ -13,55 +13,55 @@ use native.Mathlib.Omega.{arith}
 use lib.ListN.{length, getD}
 use Rattle.coxeter.specs.Kinds.{Kind, A, B, D}
 use Rattle.coxeter.specs.Relations.{Neighbours, FourfoldPair, Commuting, Braid, threefold, fourfold, commute}
-use Rattle.coxeter.specs.Relations.{Relation, twice, braid, Use, forth, back, Linked, alone, next}
-use Rattle.coxeter.proofs.Links.{linked-one, linked-of-equal}
-use Rattle.coxeter.proofs.Relations.{neighbours-lt, fourfoldPair-lt, Apart, commuting-apart, apart-commuting, linked-length-braid}
+use Rattle.coxeter.specs.Relations.{Relation, twice, braid, Application, forth, back, Congruent, alone, next}
+use Rattle.coxeter.proofs.Congruence.{congruent-one, congruent-of-equal}
+use Rattle.coxeter.proofs.Relations.{neighbours-lt, fourfoldPair-lt, Apart, commuting-apart, apart-commuting, congruent-length-braid}
 
--- ---- uses and links
+-- ---- applications and the congruence
 
--- E6: one use puts one side of a relation in place of the other, in either direction, anywhere inside a word
-pub use-exactly : (R : List ℕ → List ℕ → Type 0) (u v : List ℕ) → Use R u v
+-- E6: one application puts one side of a relation in place of the other, in either direction, anywhere inside a word
+pub application-exactly : (R : List ℕ → List ℕ → Type 0) (u v : List ℕ) → Application R u v
     ↔ ((x y l r : List ℕ) × (R l r ⊎ R r l) × (u ≡ x ++ (l ++ y)) × (v ≡ x ++ (r ++ y)))
-use-exactly R u v = (parts, whole)
+application-exactly R u v = (parts, whole)
   where
-    parts : {u v : List ℕ} → Use R u v → (x y l r : List ℕ) × (R l r ⊎ R r l) × (u ≡ x ++ (l ++ y)) × (v ≡ x ++ (r ++ y))
+    parts : {u v : List ℕ} → Application R u v → (x y l r : List ℕ) × (R l r ⊎ R r l) × (u ≡ x ++ (l ++ y)) × (v ≡ x ++ (r ++ y))
     parts (forth x y {l} {r} c) = (x, y, l, r, inl c, refl, refl)
     parts (back x y {l} {r} c) = (x, y, r, l, inr c, refl, refl)
 
-    whole : (x y l r : List ℕ) × (R l r ⊎ R r l) × (u ≡ x ++ (l ++ y)) × (v ≡ x ++ (r ++ y)) → Use R u v
+    whole : (x y l r : List ℕ) × (R l r ⊎ R r l) × (u ≡ x ++ (l ++ y)) × (v ≡ x ++ (r ++ y)) → Application R u v
     whole (x, y, l, r, inl c, p, q) = rw (p, q) (forth x y c)
     whole (x, y, l, r, inr c, p, q) = rw (p, q) (back x y c)
 
--- a list of words that begins with u and ends with v, each next word by one use from the word before it
+-- a list of words that begins with u and ends with v, each next word by one application from the word before it
 Chain : (List ℕ → List ℕ → Type 0) → List ℕ → List ℕ → List (List ℕ) → Type 0
 Chain R u v ws =
-    (getD (u ∷ ws) (length ws) [] ≡ v) × ((i : ℕ) → i < length ws → Use R (getD (u ∷ ws) i []) (getD (u ∷ ws) (i + 1) []))
+    (getD (u ∷ ws) (length ws) [] ≡ v) × ((i : ℕ) → i < length ws → Application R (getD (u ∷ ws) i []) (getD (u ∷ ws) (i + 1) []))
 
-chain-of-linked : {R : List ℕ → List ℕ → Type 0} {u v : List ℕ} → Linked R u v → (ws : List (List ℕ)) × Chain R u v ws
+chain-of-congruent : {R : List ℕ → List ℕ → Type 0} {u v : List ℕ} → Congruent R u v → (ws : List (List ℕ)) × Chain R u v ws
 unfolding Chain
-chain-of-linked alone = ([], (refl, λ i h. absurd (omega arith)))
-chain-of-linked {R} (next {u} {v} {w} s t) = longer (chain-of-linked t)
+chain-of-congruent alone = ([], (refl, λ i h. absurd (omega arith)))
+chain-of-congruent {R} (next {u} {v} {w} s t) = longer (chain-of-congruent t)
   where
     longer : (ws : List (List ℕ)) × Chain R v w ws → (ws : List (List ℕ)) × Chain R u w ws
     longer (ws, (e, f)) = (v ∷ ws, (e, uses))
       where
-        uses : (i : ℕ) → i < suc (length ws) → Use R (getD (u ∷ v ∷ ws) i []) (getD (u ∷ v ∷ ws) (i + 1) [])
+        uses : (i : ℕ) → i < suc (length ws) → Application R (getD (u ∷ v ∷ ws) i []) (getD (u ∷ v ∷ ws) (i + 1) [])
         uses zero h = s
         uses (suc i) h = rw (suc-add i 1) (f i (omega arith))
 
-linked-of-chain : {R : List ℕ → List ℕ → Type 0} (u v : List ℕ) (ws : List (List ℕ)) → Chain R u v ws → Linked R u v
+congruent-of-chain : {R : List ℕ → List ℕ → Type 0} (u v : List ℕ) (ws : List (List ℕ)) → Chain R u v ws → Congruent R u v
 unfolding Chain
-linked-of-chain u v [] (e, f) = linked-of-equal e
-linked-of-chain u v (w ∷ ws) (e, f) =
-    next (f 0 (omega arith)) (linked-of-chain w v ws (e, λ i h. rw (suc-add i 1) at (f (suc i) (omega arith))))
+congruent-of-chain u v [] (e, f) = congruent-of-equal e
+congruent-of-chain u v (w ∷ ws) (e, f) =
+    next (f 0 (omega arith)) (congruent-of-chain w v ws (e, λ i h. rw (suc-add i 1) at (f (suc i) (omega arith))))
 
--- E7, E8: two words are linked exactly if a finite list of words, perhaps of one word, leads from the first to the
--- second, in which each next word comes from the one before by one use
-pub linked-exactly : (R : List ℕ → List ℕ → Type 0) (u v : List ℕ) → Linked R u v
+-- E7, E8: two words are congruent exactly if a finite list of words, perhaps of one word, leads from the first to the
+-- second, in which each next word comes from the one before by one application
+pub congruent-exactly : (R : List ℕ → List ℕ → Type 0) (u v : List ℕ) → Congruent R u v
     ↔ ((ws : List (List ℕ)) × (getD (u ∷ ws) (length ws) [] ≡ v)
-    × ((i : ℕ) → i < length ws → Use R (getD (u ∷ ws) i []) (getD (u ∷ ws) (i + 1) [])))
+    × ((i : ℕ) → i < length ws → Application R (getD (u ∷ ws) i []) (getD (u ∷ ws) (i + 1) [])))
 unfolding Chain
-linked-exactly R u v = (λ c. let d = chain-of-linked c in (d .0, d .1 .0, d .1 .1), λ d. linked-of-chain u v (d .0) (d .1, d .2))
+congruent-exactly R u v = (λ c. let d = chain-of-congruent c in (d .0, d .1 .0, d .1 .1), λ d. congruent-of-chain u v (d .0) (d .1, d .2))
 
 -- ---- the relations of each kind
 
@@ -216,11 +216,11 @@ twice-exactly k n a = (λ c. within c refl refl, λ h. twice (h .0) (h .1))
   where
     within : {l r : List ℕ} → Relation k n l r → l ≡ a ∷ a ∷ [] → r ≡ [] → (1 ≤ a) × (a ≤ n)
     within (twice {a = s} o h) e f = let q : s ≡ a = cc in (omega arith, omega arith)
-    within (braid c) e f = absurd (omega (arith, linked-length-braid (linked-one c), ap length e, ap length f))
+    within (braid c) e f = absurd (omega (arith, congruent-length-braid (congruent-one c), ap length e, ap length f))
 
 -- E2, E3, E4: the relations of `Braid` are exactly the relations whose two sides have equally many letters
 pub braid-exactly : (k : Kind) (n : ℕ) (l r : List ℕ) → Braid k n l r ↔ (Relation k n l r × (length l ≡ length r))
-braid-exactly k n l r = (λ c. (braid c, linked-length-braid (linked-one c)), λ (c, e). equal c e)
+braid-exactly k n l r = (λ c. (braid c, congruent-length-braid (congruent-one c)), λ (c, e). equal c e)
   where
     equal : {l r : List ℕ} → Relation k n l r → length l ≡ length r → Braid k n l r
     equal (twice o h) e = absurd (omega arith)

@@ -18,8 +18,8 @@ use Rattle.coxeter.specs.Windows.{act, windowFrom, straight, window}
 use Rattle.coxeter.specs.Relations.{Neighbours, FourfoldPair, Commuting, threefold, fourfold, commute, Relation, twice, braid}
 use Rattle.coxeter.proofs.Basics.{length-act, length-straight}
 use Rattle.coxeter.proofs.Products.{getD-straight}
-use Rattle.coxeter.proofs.Links.{linked-one}
-use Rattle.coxeter.proofs.Relations.{linked-window}
+use Rattle.coxeter.proofs.Congruence.{congruent-one}
+use Rattle.coxeter.proofs.Relations.{congruent-window}
 use Rattle.coxeter.proofs.WindowEntries.{step-exchanges, last-step-in-B, last-step-in-D}
 
 -- ---- entries that tell two windows apart
@@ -183,7 +183,7 @@ fourfoldPair-of a b (braid (commute o h c)) e = absurd (omega (arith, ap length 
 -- ---- the relations
 
 relation-window : (k : Kind) (n : ℕ) (l r : List ℕ) → Relation k n l r → window k n l ≡ window k n r
-relation-window k n l r c = linked-window k n (linked-one c)
+relation-window k n l r c = congruent-window k n (congruent-one c)
 
 module _ (k : Kind) (n a b : ℕ) (o : 1 ≤ a) (h : a < b) (l : b ≤ n) where
   -- E3, E5: a b and b a are the sides of a relation exactly if they have one window

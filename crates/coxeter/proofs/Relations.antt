@@ -1,8 +1,8 @@
--- Linked words have one window, one length where no step is cancelled, and letters from 1 to n together; each shown
--- for a relation, then for a use, then for a link.
+-- Congruent words have one window, one length where no step is cancelled, and letters from 1 to n together; each shown
+-- for a relation, then for an application, then for a list of them.
 --
 -- Sections: pairs of steps; a relation's sides; windows; lengths; letters.
--- Not here: links over any relation (Links), what a step is as a map of lists (Steps).
+-- Not here: the congruence of any relation (Congruence), what a step is as a map of lists (Steps).
 -- Assumes nothing.
 use mathlib.Core.Path.{_≡_, refl, sym, ap, _∙_}
 use mathlib.Core.Bool.{false, _||_, or-assoc}
@@ -18,10 +18,10 @@ use borrow.Author.Tests.{le-ltb, ne-eqb}
 use Rattle.coxeter.specs.Kinds.{Kind, A, B, D, lanes}
 use Rattle.coxeter.specs.Windows.{exchange, negateFirst, exchangeNegate, act, windowFrom, straight, window}
 use Rattle.coxeter.specs.Relations.{Neighbours, FourfoldPair, Commuting, Braid, threefold, fourfold, commute}
-use Rattle.coxeter.specs.Relations.{Relation, twice, braid, Use, forth, back, Linked}
+use Rattle.coxeter.specs.Relations.{Relation, twice, braid, Application, forth, back, Congruent}
 use Rattle.coxeter.specs.Checks.{wrongLetter}
 use Rattle.coxeter.proofs.Basics.{windowFrom-append, length-windowFrom, length-straight}
-use Rattle.coxeter.proofs.Links.{linked-keeps}
+use Rattle.coxeter.proofs.Congruence.{congruent-keeps}
 use Rattle.coxeter.proofs.Steps.{from-commute, from-exchange-exchangeNegate, from-exchange-threefold}
 use Rattle.coxeter.proofs.Steps.{from-exchangeNegate-threefold, from-negateFirst-fourfold, act-exchange}
 use Rattle.coxeter.proofs.Steps.{act-B-last, act-D-last, act-involution}
@@ -134,21 +134,21 @@ context-acts : (k : Kind) (n : ℕ) (w : List ℤ) (x y l r : List ℕ) → wind
     → windowFrom k n w (x ++ (l ++ y)) ≡ windowFrom k n w (x ++ (r ++ y))
 context-acts k n w x y l r e = simp windowFrom-append (ap (λ v. windowFrom k n v y) e)
 
-pub use-window : (k : Kind) (n : ℕ) {u v : List ℕ} → Use (Relation k n) u v → (w : List ℤ) → length w ≡ lanes k n
+pub application-window : (k : Kind) (n : ℕ) {u v : List ℕ} → Application (Relation k n) u v → (w : List ℤ) → length w ≡ lanes k n
     → windowFrom k n w u ≡ windowFrom k n w v
-use-window k n (forth x y {l} {r} c) w e =
+application-window k n (forth x y {l} {r} c) w e =
     context-acts k n w x y l r (relation-acts k n c (windowFrom k n w x) (length-windowFrom k n w x ∙ e))
-use-window k n (back x y {l} {r} c) w e =
+application-window k n (back x y {l} {r} c) w e =
     sym (context-acts k n w x y l r (relation-acts k n c (windowFrom k n w x) (length-windowFrom k n w x ∙ e)))
 
-pub linked-windowFrom : (k : Kind) (n : ℕ) {u v : List ℕ} → Linked (Relation k n) u v → (w : List ℤ) → length w ≡ lanes k n
+pub congruent-windowFrom : (k : Kind) (n : ℕ) {u v : List ℕ} → Congruent (Relation k n) u v → (w : List ℤ) → length w ≡ lanes k n
     → windowFrom k n w u ≡ windowFrom k n w v
-linked-windowFrom k n c w e = linked-keeps (windowFrom k n w) (λ u v s. use-window k n s w e) c
+congruent-windowFrom k n c w e = congruent-keeps (windowFrom k n w) (λ u v s. application-window k n s w e) c
 
--- linked words have one window
-pub linked-window : (k : Kind) (n : ℕ) {u v : List ℕ} → Linked (Relation k n) u v → window k n u ≡ window k n v
+-- congruent words have one window
+pub congruent-window : (k : Kind) (n : ℕ) {u v : List ℕ} → Congruent (Relation k n) u v → window k n u ≡ window k n v
 unfolding window
-linked-window k n c = linked-windowFrom k n c (straight (lanes k n)) (length-straight (lanes k n))
+congruent-window k n c = congruent-windowFrom k n c (straight (lanes k n)) (length-straight (lanes k n))
 
 -- ---- lengths
 
@@ -160,12 +160,12 @@ braid-length (commute o l c) = refl
 context-length : (x y l r : List ℕ) → length l ≡ length r → length (x ++ (l ++ y)) ≡ length (x ++ (r ++ y))
 context-length x y l r e = simp (length-append, e)
 
-pub use-length-braid : {k : Kind} {n : ℕ} {u v : List ℕ} → Use (Braid k n) u v → length u ≡ length v
-use-length-braid (forth x y {l} {r} c) = context-length x y l r (braid-length c)
-use-length-braid (back x y {l} {r} c) = context-length x y r l (sym (braid-length c))
+pub application-length-braid : {k : Kind} {n : ℕ} {u v : List ℕ} → Application (Braid k n) u v → length u ≡ length v
+application-length-braid (forth x y {l} {r} c) = context-length x y l r (braid-length c)
+application-length-braid (back x y {l} {r} c) = context-length x y r l (sym (braid-length c))
 
-pub linked-length-braid : {k : Kind} {n : ℕ} {u v : List ℕ} → Linked (Braid k n) u v → length u ≡ length v
-linked-length-braid c = linked-keeps length (λ u v s. use-length-braid s) c
+pub congruent-length-braid : {k : Kind} {n : ℕ} {u v : List ℕ} → Congruent (Braid k n) u v → length u ≡ length v
+congruent-length-braid c = congruent-keeps length (λ u v s. application-length-braid s) c
 
 -- ---- letters
 
@@ -207,12 +207,12 @@ pub relation-letters : {k : Kind} {n : ℕ} {l r : List ℕ} → Relation k n l 
 relation-letters (twice o l) = (simp (wrongLetter-cons, wrongLetter-nil), wrongLetter-nil _)
 relation-letters (braid c) = braid-letters c
 
-use-wrongLetter : {k : Kind} {n : ℕ} {u v : List ℕ} → Use (Relation k n) u v → wrongLetter n u ≡ wrongLetter n v
-use-wrongLetter (forth x y c) = simp (wrongLetter-append, relation-letters c .0, relation-letters c .1)
-use-wrongLetter (back x y c) = simp (wrongLetter-append, relation-letters c .0, relation-letters c .1)
+application-wrongLetter : {k : Kind} {n : ℕ} {u v : List ℕ} → Application (Relation k n) u v → wrongLetter n u ≡ wrongLetter n v
+application-wrongLetter (forth x y c) = simp (wrongLetter-append, relation-letters c .0, relation-letters c .1)
+application-wrongLetter (back x y c) = simp (wrongLetter-append, relation-letters c .0, relation-letters c .1)
 
-pub linked-wrongLetter : (k : Kind) (n : ℕ) {u v : List ℕ} → Linked (Relation k n) u v → wrongLetter n u ≡ wrongLetter n v
-linked-wrongLetter k n c = linked-keeps (wrongLetter n) (λ u v s. use-wrongLetter s) c
+pub congruent-wrongLetter : (k : Kind) (n : ℕ) {u v : List ℕ} → Congruent (Relation k n) u v → wrongLetter n u ≡ wrongLetter n v
+congruent-wrongLetter k n c = congruent-keeps (wrongLetter n) (λ u v s. application-wrongLetter s) c
 
-pub linked-letters : (k : Kind) (n : ℕ) {u v : List ℕ} → Linked (Relation k n) u v → wrongLetter n u ≡ false → wrongLetter n v ≡ false
-linked-letters k n c e = sym (linked-wrongLetter k n c) ∙ e
+pub congruent-letters : (k : Kind) (n : ℕ) {u v : List ℕ} → Congruent (Relation k n) u v → wrongLetter n u ≡ false → wrongLetter n v ≡ false
+congruent-letters k n c e = sym (congruent-wrongLetter k n c) ∙ e

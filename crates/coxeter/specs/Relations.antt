@@ -1,4 +1,4 @@
--- The Coxeter relations and the words that they link (section E of the specification).
+-- The Coxeter relations and the congruence that they generate (section E of the specification).
 use mathlib.Core.Path.{_≡_}
 use mathlib.Core.Logic.{_⊎_}
 use mathlib.Core.List.{List, [], _∷_, _++_}
@@ -32,12 +32,12 @@ pub data Relation (k : Kind) (n : ℕ) : List ℕ → List ℕ → Type 0 where
   twice : {a : ℕ} → 1 ≤ a → a ≤ n → Relation k n (a ∷ a ∷ []) []
   braid : {l r : List ℕ} → Braid k n l r → Relation k n l r
 
--- E6: one use of a relation, in either direction; x and y may be empty
-pub data Use (R : List ℕ → List ℕ → Type 0) : List ℕ → List ℕ → Type 0 where
-  forth : (x y : List ℕ) {l r : List ℕ} → R l r → Use R (x ++ (l ++ y)) (x ++ (r ++ y))
-  back : (x y : List ℕ) {l r : List ℕ} → R l r → Use R (x ++ (r ++ y)) (x ++ (l ++ y))
+-- E6: one application of a relation, in either direction; x and y may be empty
+pub data Application (R : List ℕ → List ℕ → Type 0) : List ℕ → List ℕ → Type 0 where
+  forth : (x y : List ℕ) {l r : List ℕ} → R l r → Application R (x ++ (l ++ y)) (x ++ (r ++ y))
+  back : (x y : List ℕ) {l r : List ℕ} → R l r → Application R (x ++ (r ++ y)) (x ++ (l ++ y))
 
--- E7, E8: R turns one word into the other, by a list of uses that may be empty
-pub data Linked (R : List ℕ → List ℕ → Type 0) : List ℕ → List ℕ → Type 0 where
-  alone : {u : List ℕ} → Linked R u u
-  next : {u v w : List ℕ} → Use R u v → Linked R v w → Linked R u w
+-- E7, E8: R turns one word into the other, by a list of applications that may be empty
+pub data Congruent (R : List ℕ → List ℕ → Type 0) : List ℕ → List ℕ → Type 0 where
+  alone : {u : List ℕ} → Congruent R u u
+  next : {u v w : List ℕ} → Application R u v → Congruent R v w → Congruent R u w

@@ -23,7 +23,7 @@ use Rattle.coxeter.specs.Checks.{oddNegatives, tooShort, rankRefusal, wordRefus
 use Rattle.coxeter.specs.NormalForm.{down, rise, fall, block, without, indexOf, restOf, normalFrom, normalForm, wordNormalForm}
 use Rattle.coxeter.specs.Calls.{sameEntry, sameWindow}
 use Rattle.coxeter.proofs.Order.{sameWindow-true}
-use Rattle.coxeter.proofs.Relations.{linked-window}
+use Rattle.coxeter.proofs.Relations.{congruent-window}
 use Rattle.coxeter.proofs.NormalForms.{normalForm-straight}
 use Rattle.coxeter.proofs.KindLaws.{one-le}
 use Rattle.rules.specs.Rules.{Rule, rule, each, family1, family2, family3, family4, families5to7, rules, begins, fits, firstFitting, rewritten}
@@ -71,7 +71,7 @@ module _ (k : Kind) (n : ℕ) (low : least k ≤ n) (high : n ≤ greatest k) wh
   empty-form = normalForm-straight k n
 
   square-form : wordNormalForm k n (1 ∷ 1 ∷ []) ≡ []
-  square-form = ap (normalForm k n) (linked-window k n (next (forth [] [] (twice (omega arith) (one-le k n low))) alone)) ∙ empty-form
+  square-form = ap (normalForm k n) (congruent-window k n (next (forth [] [] (twice (omega arith) (one-le k n low))) alone)) ∙ empty-form
 
   -- the rule 1 1 → empty is the first of the list
   square-fits : firstFitting (rules k n) (1 ∷ 1 ∷ []) 0 ≡ some (rule 1 1 0 (1 ∷ 1 ∷ []) [])

@@ -18,10 +18,10 @@ use borrow.Author.Tests.{lt-ltb}
 use Rattle.coxeter.specs.Kinds.{Kind, A, B, pick, kindOf, least}
 use Rattle.coxeter.specs.Windows.{window}
 use Rattle.coxeter.specs.Length.{negative, windowLength, greatestLength}
-use Rattle.coxeter.specs.Relations.{Use}
+use Rattle.coxeter.specs.Relations.{Application}
 use Rattle.coxeter.specs.Checks.{wrongKind, wrongRank, tooLong, wrongLetter, rankRefusal, wordRefusal, negativeInA, wrongEntry, WindowOf}
 use Rattle.coxeter.proofs.WindowsExactly.{wrong-entry-exactly}
-use Rattle.coxeter.proofs.RelationSides.{use-exactly}
+use Rattle.coxeter.proofs.RelationSides.{application-exactly}
 use Rattle.rules.specs.Rules.{Rule, rule, fits, rewritten}
 use Rattle.rules.specs.Calls.{Interface, pastEnd, rewriteAt, newWordIn, single}
 use Rattle.rules.specs.Runs.{AcceptedWord, Arguments, Call, Run, Machine, machine, wordLeft}
@@ -31,7 +31,7 @@ use Rattle.rules.proofs.CallLists.{every-list-runs}
 use Rattle.rules.proofs.Demand3.{demand3}
 use Rattle.rules.proofs.Sentences.{as-the-machine}
 use Rattle.traces.specs.Traces as traces
-use Rattle.traces.specs.Traces.{Trace, lowestUse, traceWithin, trace}
+use Rattle.traces.specs.Traces.{Trace, lowestRedex, traceWithin, trace}
 use Rattle.traces.proofs.StepsReached.{steps-reached}
 use Rattle.shortest_words.specs.Fallback.{lettersAt, Serves}
 use Rattle.shortest_words.proofs.FreePlaces.{serves-exactly}
@@ -78,19 +78,19 @@ repeatedNextOnly-ruled-out = (
 )
 
 -- a relation is used from its left side to its right side only
-abbrev pub UseForth : (List ℕ → List ℕ → Type 0) → List ℕ → List ℕ → Type 0
-UseForth R u v = (x y l r : List ℕ) × R l r × (u ≡ x ++ (l ++ y)) × (v ≡ x ++ (r ++ y))
+abbrev pub ApplicationForth : (List ℕ → List ℕ → Type 0) → List ℕ → List ℕ → Type 0
+ApplicationForth R u v = (x y l r : List ℕ) × R l r × (u ≡ x ++ (l ++ y)) × (v ≡ x ++ (r ++ y))
 
--- E6: the law `use-exactly`
-abbrev pub UseExactly : ((List ℕ → List ℕ → Type 0) → List ℕ → List ℕ → Type 0) → Type 1
-UseExactly once =
+-- E6: the law `application-exactly`
+abbrev pub ApplicationExactly : ((List ℕ → List ℕ → Type 0) → List ℕ → List ℕ → Type 0) → Type 1
+ApplicationExactly once =
     (R : List ℕ → List ℕ → Type 0) (u v : List ℕ) → once R u v
     ↔ ((x y l r : List ℕ) × (R l r ⊎ R r l) × (u ≡ x ++ (l ++ y)) × (v ≡ x ++ (r ++ y)))
 
 -- Q12, E6: the law rules out that a relation is used in one direction, by one that takes a letter 1 away
-pub UseForth-ruled-out : TellsApart UseExactly Use UseForth
-UseForth-ruled-out = (
-  use-exactly,
+pub ApplicationForth-ruled-out : TellsApart ApplicationExactly Application ApplicationForth
+ApplicationForth-ruled-out = (
+  application-exactly,
   λ law.
       let (x, y, l, r, c, e, f) = law (λ l r. (l ≡ 1 ∷ []) × (r ≡ [])) [] (1 ∷ []) .1 ([], [], [], 1 ∷ [], inr (refl, refl), refl, refl) in
       let left = ap length (c .0) in
@@ -173,9 +173,9 @@ StepsReached traced =
 within : (t : ℕ) (k : Kind) (n : ℕ) (u : List ℕ) → length (traceWithin k n t u .lines) ≤ t
 unfolding traceWithin
 within zero k n u = omega arith
-within (suc t) k n u = go (lowestUse k n u) refl (λ x. within t k n (rewritten (x .rule) u (x .place)))
+within (suc t) k n u = go (lowestRedex k n u) refl (λ x. within t k n (rewritten (x .rule) u (x .place)))
   where
-    go : (o : Option traces.Use) → lowestUse k n u ≡ o → ((x : traces.Use) → length (traceWithin k n t (rewritten (x .rule) u (x .place)) .lines) ≤ t)
+    go : (o : Option traces.Redex) → lowestRedex k n u ≡ o → ((x : traces.Redex) → length (traceWithin k n t (rewritten (x .rule) u (x .place)) .lines) ≤ t)
         → length (traceWithin k n (suc t) u .lines) ≤ suc t
     go none e f = rw (e, traceWithin) (omega arith)
     go (some x) e f = rw (e, traceWithin) (omega (arith, f x))

@@ -60,7 +60,7 @@ use Rattle.shortest_words.specs.Calls.{fallbackOf, fallbackAnswer, keptCount, F
 use Rattle.shortest_words.specs.Allowed.{over, allows, wrongSet, setRefusal}
 use Rattle.shortest_words.specs.Between.{between, reachable}
 use Rattle.shortest_words.specs.BetweenCalls.{unreachable, betweenRefusal, betweenWindows}
-use Rattle.traces.specs.Traces.{lowestFrom, lowestUse, traceWithin, trace, tooFewPlaces, toEndOf, tracedBy, rewritingToEnd, numberOfSteps}
+use Rattle.traces.specs.Traces.{lowestFrom, lowestRedex, traceWithin, trace, tooFewPlaces, toEndOf, tracedBy, rewritingToEnd, numberOfSteps}
 use Rattle.distribution.specs.AllWindows.{keep, lists}
 use Rattle.distribution.specs.AllWindows as all
 use Rattle.distribution.specs.Distribution.{ofLength, distribution, sum}
@@ -178,7 +178,7 @@ unfolding table allDiffer differs numbers ofAnswer ofVerdict ofChoice ofRewrite 
     answerOf verdictOf written writes windowOfWord productOfWindows inverseOfWindow normalFormOfWindow normalFormOfWord productOfWords inverseOfWord
     lengthOfWindow lengthOfWord sameEntry sameWindow equalWords samePresets presetsEqual handsBack choice
     each family1 family2 family3 family4 families5to7 rules begins fits firstFitting rewritten pastEnd rewriteBy rewriteAt
-    lowestFrom lowestUse traceWithin trace tooFewPlaces toEndOf tracedBy rewritingToEnd numberOfSteps behindLast ones
+    lowestFrom lowestRedex traceWithin trace tooFewPlaces toEndOf tracedBy rewritingToEnd numberOfSteps behindLast ones
     somePart fallsBack fallbackOf fallbackAnswer
     isDescent allows wrongSet setRefusal lowest stripped restInverse firstWord secondWord splitOf parts splitting
     over between reachable unreachable betweenRefusal betweenWindows

@@ -10,17 +10,17 @@ use mathlib.Core.List.{List, _++_}
 use Prim.Native.Nat.{ℕ, suc, _≤_}
 use Rattle.coxeter.specs.Kinds.{Kind, least}
 use Rattle.coxeter.specs.Checks.{wrongLetter}
-use Rattle.coxeter.specs.Relations.{Relation, Linked}
+use Rattle.coxeter.specs.Relations.{Relation, Congruent}
 use Rattle.coxeter.specs.NormalForm.{normalForm, wordNormalForm}
-use Rattle.coxeter.proofs.Links.{linked-one}
-use Rattle.coxeter.proofs.Relations.{linked-window, relation-letters}
+use Rattle.coxeter.proofs.Congruence.{congruent-one}
+use Rattle.coxeter.proofs.Relations.{congruent-window, relation-letters}
 use Rattle.rules.specs.Rules.{rules, Irreducible}
 use Rattle.rules.proofs.Rewriting as rewriting
 use Rattle.rules.proofs.Completeness as complete
 use Rattle.rules.proofs.RuleList.{rule-of-list, list-of-rule}
-use Rattle.rules.proofs.Theorems.{rule-linked}
+use Rattle.rules.proofs.Theorems.{rule-congruent}
 use Rattle.presentation.specs.Reductions.{Pair, pair, Reduces, within, Reductions, stays, step, ReducesTo}
-use Rattle.presentation.proofs.Reducing.{joined-linked, linked-flat}
+use Rattle.presentation.proofs.Reducing.{joined-congruent, congruent-flat}
 
 module _ (k : Kind) (n : ℕ) (low : least k ≤ n) where
   -- ---- reductions and rewritings
@@ -69,15 +69,15 @@ module _ (k : Kind) (n : ℕ) (low : least k ≤ n) where
   -- ---- what is presented
 
   -- both sides of a relation reduce to one normal form
-  relation-linked : (l r : List ℕ) → Relation k n l r → Linked (Pair (rules k n)) l r
-  relation-linked l r h =
+  relation-congruent : (l r : List ℕ) → Relation k n l r → Congruent (Pair (rules k n)) l r
+  relation-congruent l r h =
       let (e, f) = relation-letters h in
-      let q : wordNormalForm k n r ≡ wordNormalForm k n l = ap (normalForm k n) (sym (linked-window k n (linked-one h))) in
-      joined-linked (reducesTo-wordNormalForm l e) (subst (ReducesTo (rules k n) r) q (reducesTo-wordNormalForm r f))
+      let q : wordNormalForm k n r ≡ wordNormalForm k n l = ap (normalForm k n) (sym (congruent-window k n (congruent-one h))) in
+      joined-congruent (reducesTo-wordNormalForm l e) (subst (ReducesTo (rules k n) r) q (reducesTo-wordNormalForm r f))
 
-  pair-linked : (l r : List ℕ) → Pair (rules k n) l r → Linked (Relation k n) l r
-  pair-linked l r (pair x m) = rule-linked k n low x m
+  pair-congruent : (l r : List ℕ) → Pair (rules k n) l r → Congruent (Relation k n) l r
+  pair-congruent l r (pair x m) = rule-congruent k n low x m
 
   -- U4: used in either direction, the rules turn a word into just those into which the relations turn it
-  pub rules-presenting : (u v : List ℕ) → Linked (Pair (rules k n)) u v ↔ Linked (Relation k n) u v
-  rules-presenting u v = (linked-flat pair-linked, linked-flat relation-linked)
+  pub rules-presenting : (u v : List ℕ) → Congruent (Pair (rules k n)) u v ↔ Congruent (Relation k n) u v
+  rules-presenting u v = (congruent-flat pair-congruent, congruent-flat relation-congruent)

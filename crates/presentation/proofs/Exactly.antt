@@ -11,7 +11,7 @@ use lib.ListN.{length, drop, length-append, length-map}
 use Rattle.coxeter.specs.Kinds.{Kind, least}
 use Rattle.coxeter.specs.Checks.{wrongLetter}
 use Rattle.coxeter.specs.Dictionary.{shortlex}
-use Rattle.coxeter.proofs.Links.{linked-map}
+use Rattle.coxeter.proofs.Congruence.{congruent-map}
 use Rattle.coxeter.proofs.TestLaws.{not-true-false}
 use Rattle.rules.specs.Rules.{Rule, rules, begins, fits, Irreducible}
 use Rattle.rules.proofs.RuleFields.{left-determines}
@@ -90,8 +90,8 @@ module _ (k : Kind) (n : ℕ) (low : least k ≤ n) (rs : List Rule) (same : (l 
     steps = steps;
     descending = descending;
     presenting = λ u v. (
-      λ c. of-rules .presenting u v .0 (linked-map forth c),
-      λ c. linked-map back (of-rules .presenting u v .1 c),
+      λ c. of-rules .presenting u v .0 (congruent-map forth c),
+      λ c. congruent-map back (of-rules .presenting u v .1 c),
     );
     terminating = descending-terminating n rs (λ x m. steps x m .1) descending;
     bounded = descending-bounded n rs (λ x m. steps x m .1) descending;

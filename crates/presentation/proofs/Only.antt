@@ -2,7 +2,7 @@
 -- exactly if it is the normal form of its window, so that all have the same irreducible words; then each left side of
 -- one holds a left side of another, and that one a left side of the first, which can only be the same one.
 --
--- Sections: links and descendants; irreducible words; entries; two presentations.
+-- Sections: congruent words and descendants; irreducible words; entries; two presentations.
 -- Assumes nothing.
 use mathlib.Core.Path.{_≡_, refl, sym, ap, subst, subst₂, _∙_}
 use mathlib.Core.Bool.{true, false, true≢false}
@@ -17,22 +17,22 @@ use Rattle.coxeter.specs.Kinds.{Kind, least}
 use Rattle.coxeter.specs.Windows.{window}
 use Rattle.coxeter.specs.Checks.{wrongLetter}
 use Rattle.coxeter.specs.Dictionary.{shortlex}
-use Rattle.coxeter.specs.Relations.{forth, back, Linked, alone, next}
+use Rattle.coxeter.specs.Relations.{forth, back, Congruent, alone, next}
 use Rattle.coxeter.specs.NormalForm.{normalForm, wordNormalForm}
-use Rattle.coxeter.proofs.Links.{linked-sym, linked-one}
+use Rattle.coxeter.proofs.Congruence.{congruent-sym, congruent-one}
 use Rattle.coxeter.proofs.Order.{shortlex-trans, shortlex-irrefl, shortlex-asymm}
-use Rattle.coxeter.proofs.Relations.{linked-window, linked-letters}
+use Rattle.coxeter.proofs.Relations.{congruent-window, congruent-letters}
 use Rattle.rules.specs.Rules.{Rule, Irreducible}
-use Rattle.rules.proofs.Completeness.{normalForm-linked, normalForm-least-window}
+use Rattle.rules.proofs.Completeness.{normalForm-congruent, normalForm-least-window}
 use Rattle.distribution.specs.AllWindows.{In, Once}
 use Rattle.distribution.proofs.Members.{length-le-of-map}
 use Rattle.presentation.specs.Reductions.{Pair, pair, Reduces, within, Reductions, stays, step, ReducesTo}
 use Rattle.presentation.specs.Presentations.{CompletePresentation}
 use Rattle.presentation.proofs.Reducing.{reduces-exactly, irreducible-exactly, irreducible-stops, reducible-or, reducesTo-one}
-use Rattle.presentation.proofs.Reducing.{reducesTo-trans, reducesTo-same, reduces-linked, reducesTo-linked, shortlex-within}
+use Rattle.presentation.proofs.Reducing.{reducesTo-trans, reducesTo-same, reduces-congruent, reducesTo-congruent, shortlex-within}
 use Rattle.presentation.proofs.Entries.{entry-of, or-others, once-of-others}
 
--- ---- links and descendants
+-- ---- congruent words and descendants
 
 -- no word with its window comes before a normal form
 not-earlier : (k : Kind) (n : ℕ) → least k ≤ n → (u v : List ℕ) → wrongLetter n v ≡ false → window k n v ≡ window k n u
@@ -44,12 +44,12 @@ not-earlier k n low u v e q t =
 
 -- what holds by any complete presentation
 module _ (k : Kind) (n : ℕ) (low : least k ≤ n) (rs : List Rule) (c : CompletePresentation k n rs) where
-  -- what the rules link has one window, and steps with steps alone
-  pair-window : (u v : List ℕ) → Linked (Pair rs) u v → window k n u ≡ window k n v
-  pair-window u v q = linked-window k n (c .presenting u v .0 q)
+  -- words congruent under the rules have one window, and steps with steps alone
+  pair-window : (u v : List ℕ) → Congruent (Pair rs) u v → window k n u ≡ window k n v
+  pair-window u v q = congruent-window k n (c .presenting u v .0 q)
 
-  pair-letters : (u v : List ℕ) → Linked (Pair rs) u v → wrongLetter n u ≡ false → wrongLetter n v ≡ false
-  pair-letters u v q = linked-letters k n (c .presenting u v .0 q)
+  pair-letters : (u v : List ℕ) → Congruent (Pair rs) u v → wrongLetter n u ≡ false → wrongLetter n v ≡ false
+  pair-letters u v q = congruent-letters k n (c .presenting u v .0 q)
 
   -- a reduction leads to an earlier word
   reduces-earlier : {u v : List ℕ} → Reduces rs u v → shortlex v u ≡ true
@@ -62,16 +62,16 @@ module _ (k : Kind) (n : ℕ) (low : least k ≤ n) (rs : List Rule) (c : Comple
       inr (⊎-elim (λ e. subst (λ (x : List ℕ). shortlex x u ≡ true) e (reduces-earlier r)) (λ l. shortlex-trans w v u l (reduces-earlier r))
       (reductions-earlier p))
 
-  -- linked words have a descendant in common
-  church-rosser : {u v : List ℕ} → Linked (Pair rs) u v → wrongLetter n u ≡ false → (z : List ℕ) × ReducesTo rs u z × ReducesTo rs v z
+  -- congruent words have a descendant in common
+  church-rosser : {u v : List ℕ} → Congruent (Pair rs) u v → wrongLetter n u ≡ false → (z : List ℕ) × ReducesTo rs u z × ReducesTo rs v z
   church-rosser alone e = (_, (0, stays), (0, stays))
   church-rosser (next (forth b a (pair x m)) q) e =
       let r = within b a x m in
-      let (z, p, s) = church-rosser q (pair-letters _ _ (reduces-linked r) e) in
+      let (z, p, s) = church-rosser q (pair-letters _ _ (reduces-congruent r) e) in
       (z, reducesTo-trans (reducesTo-one r) p, s)
   church-rosser (next (back b a (pair x m)) q) e =
       let r = within b a x m in
-      let f = pair-letters _ _ (linked-sym (reduces-linked r)) e in
+      let f = pair-letters _ _ (congruent-sym (reduces-congruent r)) e in
       let (z, p, s) = church-rosser q f in
       let (w, d, g) = c .confluent _ _ z f (reducesTo-one r) p in
       (w, d, reducesTo-trans s g)
@@ -81,7 +81,7 @@ module _ (k : Kind) (n : ℕ) (low : least k ≤ n) (rs : List Rule) (c : Comple
   normal-of-irreducible : (u : List ℕ) → wrongLetter n u ≡ false → Irreducible rs u → u ≡ wordNormalForm k n u
   normal-of-irreducible u e i =
       let f = wordNormalForm k n u in
-      let (z, p, q) = church-rosser (c .presenting u f .1 (normalForm-linked k n u low e)) e in
+      let (z, p, q) = church-rosser (c .presenting u f .1 (normalForm-congruent k n u low e)) e in
       let s : u ≡ z = reducesTo-same i p in
       elim (reductions-earlier (q .1)) [
         | inl t ↦ s ∙ sym t
@@ -90,7 +90,7 @@ module _ (k : Kind) (n : ℕ) (low : least k ≤ n) (rs : List Rule) (c : Comple
 
   irreducible-of-normal : (u : List ℕ) → wrongLetter n u ≡ false → u ≡ wordNormalForm k n u → Irreducible rs u
   irreducible-of-normal u e q = irreducible-stops rs u .1 (λ v r.
-      let p = reduces-linked r in
+      let p = reduces-congruent r in
       not-earlier k n low u v (pair-letters u v p e) (sym (pair-window u v p))
       (subst (λ (w : List ℕ). shortlex v w ≡ true) q (reduces-earlier r)))
 
@@ -102,10 +102,10 @@ module _ (k : Kind) (n : ℕ) (low : least k ≤ n) (rs : List Rule) (c : Comple
   pub complete-normal-form : (u v : List ℕ) → wrongLetter n u ≡ false → (ReducesTo rs u v × Irreducible rs v) ↔ (v ≡ wordNormalForm k n u)
   complete-normal-form u v e = (
     λ (p, i).
-        let q = reducesTo-linked p in
+        let q = reducesTo-congruent p in
         normal-of-irreducible v (pair-letters u v q e) i ∙ ap (normalForm k n) (sym (pair-window u v q)),
     λ q. rw q (
-      let (z, p, s) = church-rosser (c .presenting u f .1 (normalForm-linked k n u low e)) e in
+      let (z, p, s) = church-rosser (c .presenting u f .1 (normalForm-congruent k n u low e)) e in
           subst (ReducesTo rs u) (sym (reducesTo-same irreducible s)) p,
       irreducible,
     ),
@@ -139,7 +139,7 @@ module _ (k : Kind) (n : ℕ) (low : least k ≤ n) (rs : List Rule) (c : Comple
   right-normal : (x : Rule) → List·Memᴰ x rs → x .right ≡ wordNormalForm k n (x .left)
   right-normal x m =
       normal-of-irreducible (x .right) (c .steps x m .1) (c .right-irreducible x m)
-      ∙ ap (normalForm k n) (sym (pair-window (x .left) (x .right) (linked-one (pair x m))))
+      ∙ ap (normalForm k n) (sym (pair-window (x .left) (x .right) (congruent-one (pair x m))))
 
 -- ---- two presentations
 

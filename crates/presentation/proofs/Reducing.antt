@@ -1,7 +1,7 @@
 -- Reductions by any list of rules: one reduction in plain terms, the words that have none, and what one reduction and
 -- a chain of them keep.
 --
--- Sections: one reduction; irreducible words; chains; links; the order.
+-- Sections: one reduction; irreducible words; chains; the congruence; the order.
 -- Not here: chains of the rules of a rig (Confluence).
 -- Assumes nothing.
 use mathlib.Core.Path.{_≡_, refl, sym, ap, ap₂, subst, subst₂, _∙_}
@@ -15,8 +15,8 @@ use native.Mathlib.Decide.{decLe, ℕ-discrete}
 use native.Mathlib.Omega.{arith}
 use lib.ListN.{length, getD, length-append}
 use Rattle.coxeter.specs.Dictionary.{before, shortlex}
-use Rattle.coxeter.specs.Relations.{forth, back, Linked, alone, next}
-use Rattle.coxeter.proofs.Links.{linked-trans, linked-sym, linked-context, linked-use}
+use Rattle.coxeter.specs.Relations.{forth, back, Congruent, alone, next}
+use Rattle.coxeter.proofs.Congruence.{congruent-trans, congruent-sym, congruent-context, congruent-application}
 use Rattle.coxeter.proofs.Order.{shortlex-shorter, shortlex-before, shortlex-cases}
 use Rattle.coxeter.proofs.Orders.{before-exactly}
 use Rattle.coxeter.proofs.TestLaws.{not-true-false}
@@ -184,27 +184,27 @@ reducesTo-same {rs} i (t, p) = go i p
     go i stays = refl
     go {u = u} i (step {v = v} r p) = absurd (irreducible-stops rs u .0 i v r)
 
--- ---- links
+-- ---- the congruence
 
-pub reduces-linked : {rs : List Rule} {u v : List ℕ} → Reduces rs u v → Linked (Pair rs) u v
-reduces-linked (within b a x m) = linked-use (forth b a (pair x m))
+pub reduces-congruent : {rs : List Rule} {u v : List ℕ} → Reduces rs u v → Congruent (Pair rs) u v
+reduces-congruent (within b a x m) = congruent-application (forth b a (pair x m))
 
-pub reducesTo-linked : {rs : List Rule} {u v : List ℕ} → ReducesTo rs u v → Linked (Pair rs) u v
-reducesTo-linked {rs} (t, p) = go p
+pub reducesTo-congruent : {rs : List Rule} {u v : List ℕ} → ReducesTo rs u v → Congruent (Pair rs) u v
+reducesTo-congruent {rs} (t, p) = go p
   where
-    go : {t : ℕ} {u v : List ℕ} → Reductions rs t u v → Linked (Pair rs) u v
+    go : {t : ℕ} {u v : List ℕ} → Reductions rs t u v → Congruent (Pair rs) u v
     go stays = alone
-    go (step r p) = linked-trans (reduces-linked r) (go p)
+    go (step r p) = congruent-trans (reduces-congruent r) (go p)
 
--- words with a descendant in common are linked
-pub joined-linked : {rs : List Rule} {u v z : List ℕ} → ReducesTo rs u z → ReducesTo rs v z → Linked (Pair rs) u v
-joined-linked p q = linked-trans (reducesTo-linked p) (linked-sym (reducesTo-linked q))
+-- words with a descendant in common are congruent
+pub joined-congruent : {rs : List Rule} {u v z : List ℕ} → ReducesTo rs u z → ReducesTo rs v z → Congruent (Pair rs) u v
+joined-congruent p q = congruent-trans (reducesTo-congruent p) (congruent-sym (reducesTo-congruent q))
 
--- what links the two sides of each pair of R links all that R links
-pub linked-flat : {R S : List ℕ → List ℕ → Type 0} {u v : List ℕ} → ((l r : List ℕ) → R l r → Linked S l r) → Linked R u v → Linked S u v
-linked-flat f alone = alone
-linked-flat f (next (forth x y {l} {r} h) q) = linked-trans (linked-context x y (f l r h)) (linked-flat f q)
-linked-flat f (next (back x y {l} {r} h) q) = linked-trans (linked-context x y (linked-sym (f l r h))) (linked-flat f q)
+-- a relation under which the two sides of each pair of R are congruent has the congruence of R
+pub congruent-flat : {R S : List ℕ → List ℕ → Type 0} {u v : List ℕ} → ((l r : List ℕ) → R l r → Congruent S l r) → Congruent R u v → Congruent S u v
+congruent-flat f alone = alone
+congruent-flat f (next (forth x y {l} {r} h) q) = congruent-trans (congruent-context x y (f l r h)) (congruent-flat f q)
+congruent-flat f (next (back x y {l} {r} h) q) = congruent-trans (congruent-context x y (congruent-sym (f l r h))) (congruent-flat f q)
 
 -- ---- the order
 

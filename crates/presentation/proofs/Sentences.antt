@@ -16,7 +16,7 @@ use lib.ListN.{length}
 use Rattle.coxeter.specs.Kinds.{Kind, A, B, D, least}
 use Rattle.coxeter.specs.Checks.{wrongLetter}
 use Rattle.coxeter.specs.Dictionary.{before}
-use Rattle.coxeter.specs.Relations.{Relation, Linked}
+use Rattle.coxeter.specs.Relations.{Relation, Congruent}
 use Rattle.coxeter.specs.NormalForm.{blocks, Indices, wordNormalForm}
 use Rattle.coxeter.proofs.Orders.{shortlex-exactly}
 use Rattle.rules.specs.Rules.{Rule, rules, firstFitting, rewritten, Irreducible}
@@ -68,8 +68,8 @@ module _ (holds : RulesPresentHolds) (k : Kind) (n : ℕ) (low : least k ≤ n) 
   common-descendant = complete .confluent
 
   -- U4: the rules turn one word into another, each used in either direction, exactly if the relations do
-  pub linked-as-relations : (u v : List ℕ) → Linked (Pair (rules k n)) u v ↔ Linked (Relation k n) u v
-  linked-as-relations = complete .presenting
+  pub congruent-as-relations : (u v : List ℕ) → Congruent (Pair (rules k n)) u v ↔ Congruent (Relation k n) u v
+  congruent-as-relations = complete .presenting
 
   -- ---- normalized
 

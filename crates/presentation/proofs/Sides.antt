@@ -13,7 +13,7 @@ use Rattle.coxeter.specs.Checks.{wrongLetter}
 use Rattle.coxeter.specs.Dictionary.{shortlex}
 use Rattle.coxeter.specs.NormalForm.{block}
 use Rattle.coxeter.proofs.NormalForms.{wrongLetter-block}
-use Rattle.coxeter.proofs.Relations.{wrongLetter-nil, wrongLetter-cons, letters-append, linked-letters}
+use Rattle.coxeter.proofs.Relations.{wrongLetter-nil, wrongLetter-cons, letters-append, congruent-letters}
 use Rattle.rules.specs.Rules.{Rule, rules}
 use Rattle.rules.proofs.BlockWords.{mem-getD, along-nonempty}
 use Rattle.rules.proofs.Ending.{letters-of-accepted, rule-shortlex}
@@ -21,7 +21,7 @@ use Rattle.rules.proofs.Letters.{block-one}
 use Rattle.rules.proofs.RuleList.{rule-of-list, listed-of-mem}
 use Rattle.rules.proofs.Scan.{Along, start, further}
 use Rattle.rules.proofs.ScanFamilies.{Ends, ends-of-listed, left-of}
-use Rattle.rules.proofs.Theorems.{rule-linked}
+use Rattle.rules.proofs.Theorems.{rule-congruent}
 use Rattle.traces.proofs.LeftSides.{Shape, shape-of-rule}
 use Rattle.presentation.proofs.Normalized.{lower-le-right}
 
@@ -54,7 +54,7 @@ module _ (k : Kind) (n : ℕ) (low : least k ≤ n) (x : Rule) (m : List·Memᴰ
   pub rule-steps : (wrongLetter n (x .left) ≡ false) × (wrongLetter n (x .right) ≡ false)
   rule-steps =
       let f = left-letters k n low x (ends-of-listed k n low (listed-of-mem k n low x m)) (shape-of-rule k n low x m) in
-      (f, linked-letters k n (rule-linked k n low x m) f)
+      (f, congruent-letters k n (rule-congruent k n low x m) f)
 
   -- U5: the right side comes before the left one
   pub rule-descending : shortlex (x .right) (x .left) ≡ true

@@ -12,9 +12,9 @@ use lib.ListN.{length, length-append}
 use Rattle.coxeter.specs.Kinds.{Kind, A, B, D, least, up}
 use Rattle.coxeter.specs.Windows.{from, exchange, negateFirst, exchangeNegate, act, windowFrom, straight, window}
 use Rattle.coxeter.specs.Dictionary.{before, shortlex}
-use Rattle.coxeter.proofs.Links.{linked-one}
+use Rattle.coxeter.proofs.Congruence.{congruent-one}
 use Rattle.coxeter.proofs.Order.{shortlex-asymm}
-use Rattle.coxeter.proofs.Relations.{linked-window}
+use Rattle.coxeter.proofs.Relations.{congruent-window}
 use Rattle.rules.specs.Rules.{Rule, rule, rules}
 use Rattle.rules.proofs.RuleFields.{left-determines}
 use Rattle.presentation.specs.Reductions.{pair}
@@ -62,7 +62,7 @@ module _ (k : Kind) (n : ℕ) (low : least k ≤ n) where
 
     -- U4: both sides of a rule of a complete normalized presentation have the same window
     pub sides-alike : window k n (x .left) ≡ window k n (x .right)
-    sides-alike = linked-window k n (c .presenting (x .left) (x .right) .0 (linked-one (pair x m)))
+    sides-alike = congruent-window k n (c .presenting (x .left) (x .right) .0 (congruent-one (pair x m)))
 
     -- U10: if a rule of a complete normalized presentation has the left side of a rule of the rig, it has its right side
     -- too

@@ -11,7 +11,7 @@ use lib.ListN.{length}
 use Rattle.coxeter.specs.Kinds.{Kind, A, B, D, least}
 use Rattle.coxeter.specs.Checks.{wrongLetter}
 use Rattle.coxeter.specs.Dictionary.{shortlex}
-use Rattle.coxeter.specs.Relations.{Relation, Linked}
+use Rattle.coxeter.specs.Relations.{Relation, Congruent}
 use Rattle.coxeter.specs.NormalForm.{blocks, Indices, wordNormalForm}
 use Rattle.rules.specs.Rules.{Rule, rules, firstFitting, rewritten, Irreducible}
 use Rattle.distribution.specs.AllWindows.{In, Once}
@@ -25,7 +25,7 @@ pub record CompletePresentation (k : Kind) (n : ℕ) (rs : List Rule) : Type 0 w
   -- U5: each right side is shorter than its left side, or as long and earlier in the dictionary
   pub descending : (x : Rule) → List·Memᴰ x rs → shortlex (x .right) (x .left) ≡ true
   -- U4: used in either direction, the rules turn a word into just those into which the relations turn it
-  pub presenting : (u v : List ℕ) → Linked (Pair rs) u v ↔ Linked (Relation k n) u v
+  pub presenting : (u v : List ℕ) → Congruent (Pair rs) u v ↔ Congruent (Relation k n) u v
   -- U2: no chain of reductions of a word of steps goes on for ever
   pub terminating : (f : ℕ → List ℕ) → wrongLetter n (f 0) ≡ false → ((t : ℕ) → Reduces rs (f t) (f (suc t))) → ⊥
   -- U2: one number for each word, which no chain of its reductions exceeds

@@ -18,7 +18,7 @@ ghost use Rattle.coxeter.specs.Kinds.{pick, kindOf};
 ghost use Rattle.coxeter.specs.NormalForm.{levels, lastIndex};
 ghost use Rattle.coxeter.proofs.Acceptance.{Ranked};
 ghost use Rattle.rules.proofs.Scan.{nextIndex, fork, familyAt, shownIndex, firstLetter};
-ghost use Rattle.traces.specs.Traces.{lowestUse};
+ghost use Rattle.traces.specs.Traces.{lowestRedex};
 ghost use Rattle.traces.proofs.LeftSides.{lower};
 ghost use Rattle.traces.proofs.PartBlocks.{indexBy};
 ghost use Rattle.traces.proofs.TwoLetters.{exchanging};
@@ -152,7 +152,7 @@ pub(crate) fn ending_rule(kind: u8, n: u8, word: &[u8], q: usize) -> Ending
     requires { ⌜ Ranked (kindOf kind) n ⌝ }
     requires { ⌜ Reading (kindOf kind) n (now word) q × (q ≤ 4096) ⌝ }
     requires { ⌜ (1 ≤ q → exchanging n (levels (kindOf kind) n) (getD (now word) (q - 1) 0) (getD (now word) q 0) ≡ false) ⌝ }
-    ensures { λ r. ⌜ r ≡ elim (lowestUse (kindOf kind) n (take (suc q) (now (word .entry)))) [
+    ensures { λ r. ⌜ r ≡ elim (lowestRedex (kindOf kind) n (take (suc q) (now (word .entry)))) [
       | none ↦ Ending.Nothing
       | some s ↦ Ending.Rule (s .rule .family) (s .place) (getD (s .rule .right) 0 0)
     ] ⌝ }

@@ -18,28 +18,28 @@ use Rattle.coxeter.specs.Kinds.{Kind, least}
 use Rattle.coxeter.specs.Windows.{window}
 use Rattle.coxeter.specs.Checks.{wrongLetter}
 use Rattle.coxeter.specs.Dictionary.{shortlex}
-use Rattle.coxeter.specs.Relations.{Relation, Linked, alone}
+use Rattle.coxeter.specs.Relations.{Relation, Congruent, alone}
 use Rattle.coxeter.specs.NormalForm.{normalForm, IsNormalForm}
 use Rattle.coxeter.proofs.Levels.{Accepted, window-accepted}
-use Rattle.coxeter.proofs.Links.{linked-trans, linked-sym, linked-context, linked-of-equal}
-use Rattle.coxeter.proofs.Relations.{linked-window}
+use Rattle.coxeter.proofs.Congruence.{congruent-trans, congruent-sym, congruent-context, congruent-of-equal}
+use Rattle.coxeter.proofs.Relations.{congruent-window}
 use Rattle.coxeter.proofs.Order.{shortlex-trans, shortlex-cases}
 use Rattle.coxeter.proofs.NormalForms.{normalForm-blocks, window-normalForm, normalForm-letters}
 use Rattle.coxeter.proofs.Theorems.{normal-unique}
 use Rattle.rules.specs.Rules.{rules, fits, Irreducible}
 use Rattle.rules.proofs.Rewriting.{Rewrites, within}
-use Rattle.rules.proofs.Derivations.{rule-linked}
+use Rattle.rules.proofs.Derivations.{rule-congruent}
 use Rattle.rules.proofs.Ending.{rule-letters, accepted-rewritten, value, rule-lowers, rule-shortlex}
 use Rattle.rules.proofs.Irreducible.{blocks-or-rewrites}
 use Rattle.rules.proofs.Fits.{left-nonempty, fits-past, rewrites-of-fits, fits-of-rewrites}
 
 -- ---- one rewriting
 
-pub rewrites-linked : (k : Kind) (n : ℕ) {u v : List ℕ} → least k ≤ n → Rewrites k n u v → Linked (Relation k n) u v
-rewrites-linked k n h (within x y q) = linked-context x y (rule-linked k n h q)
+pub rewrites-congruent : (k : Kind) (n : ℕ) {u v : List ℕ} → least k ≤ n → Rewrites k n u v → Congruent (Relation k n) u v
+rewrites-congruent k n h (within x y q) = congruent-context x y (rule-congruent k n h q)
 
 pub rewrites-window : (k : Kind) (n : ℕ) {u v : List ℕ} → least k ≤ n → Rewrites k n u v → window k n u ≡ window k n v
-rewrites-window k n h r = linked-window k n (rewrites-linked k n h r)
+rewrites-window k n h r = congruent-window k n (rewrites-congruent k n h r)
 
 pub rewrites-letters : {k : Kind} {n : ℕ} {u v : List ℕ} → Rewrites k n u v → wrongLetter n u ≡ false → wrongLetter n v ≡ false
 rewrites-letters (within x y q) e = accepted-rewritten q x y e
@@ -63,12 +63,12 @@ pub data RewritesTo (k : Kind) (n : ℕ) : List ℕ → List ℕ → Type 0 wher
   stays : {u : List ℕ} → RewritesTo k n u u
   step : {u v w : List ℕ} → Rewrites k n u v → RewritesTo k n v w → RewritesTo k n u w
 
-pub rewritesTo-linked : (k : Kind) (n : ℕ) {u v : List ℕ} → least k ≤ n → RewritesTo k n u v → Linked (Relation k n) u v
-rewritesTo-linked k n h stays = alone
-rewritesTo-linked k n h (step r s) = linked-trans (rewrites-linked k n h r) (rewritesTo-linked k n h s)
+pub rewritesTo-congruent : (k : Kind) (n : ℕ) {u v : List ℕ} → least k ≤ n → RewritesTo k n u v → Congruent (Relation k n) u v
+rewritesTo-congruent k n h stays = alone
+rewritesTo-congruent k n h (step r s) = congruent-trans (rewrites-congruent k n h r) (rewritesTo-congruent k n h s)
 
 pub rewritesTo-window : (k : Kind) (n : ℕ) {u v : List ℕ} → least k ≤ n → RewritesTo k n u v → window k n u ≡ window k n v
-rewritesTo-window k n h r = linked-window k n (rewritesTo-linked k n h r)
+rewritesTo-window k n h r = congruent-window k n (rewritesTo-congruent k n h r)
 
 pub rewritesTo-letters : {k : Kind} {n : ℕ} {u v : List ℕ} → RewritesTo k n u v → wrongLetter n u ≡ false → wrongLetter n v ≡ false
 rewritesTo-letters stays e = e
@@ -171,12 +171,12 @@ normalForm-only k n w u h m =
 
 -- ---- equal normal forms
 
-pub normalForm-linked : (k : Kind) (n : ℕ) (u : List ℕ) → least k ≤ n → wrongLetter n u ≡ false → Linked (Relation k n) u (normalForm k n (window k n u))
-normalForm-linked k n u h e = rewritesTo-linked k n h (rewritesTo-normalForm k n u h e)
+pub normalForm-congruent : (k : Kind) (n : ℕ) (u : List ℕ) → least k ≤ n → wrongLetter n u ≡ false → Congruent (Relation k n) u (normalForm k n (window k n u))
+normalForm-congruent k n u h e = rewritesTo-congruent k n h (rewritesTo-normalForm k n u h e)
 
-pub same-normalForm-linked : (k : Kind) (n : ℕ) (u v : List ℕ) → least k ≤ n → wrongLetter n u ≡ false → wrongLetter n v ≡ false
-    → (normalForm k n (window k n u) ≡ normalForm k n (window k n v)) ↔ Linked (Relation k n) u v
-same-normalForm-linked k n u v h e f = (
-  λ q. linked-trans (normalForm-linked k n u h e) (linked-trans (linked-of-equal q) (linked-sym (normalForm-linked k n v h f))),
-  λ s. ap (normalForm k n) (linked-window k n s),
+pub same-normalForm-congruent : (k : Kind) (n : ℕ) (u v : List ℕ) → least k ≤ n → wrongLetter n u ≡ false → wrongLetter n v ≡ false
+    → (normalForm k n (window k n u) ≡ normalForm k n (window k n v)) ↔ Congruent (Relation k n) u v
+same-normalForm-congruent k n u v h e f = (
+  λ q. congruent-trans (normalForm-congruent k n u h e) (congruent-trans (congruent-of-equal q) (congruent-sym (normalForm-congruent k n v h f))),
+  λ s. ap (normalForm k n) (congruent-window k n s),
 )

@@ -22,7 +22,7 @@ use Rattle.rules.specs.Runs.{AcceptedWord, Result, Call, wordAfter, word
 use Rattle.rules.specs.Demand3.{normalFormOf, NowhereFits, NowhereFitsOnce, UsedExactly, FourAnswers, NormalFormWritten, Demand3Holds}
 use Rattle.rules.proofs.Ending.{value}
 use Rattle.rules.proofs.Completeness.{rewrites-window, rewrites-letters, rewrites-lowers, rewrites-length}
-use Rattle.rules.proofs.Completeness.{irreducible-iff, normalForm-least-window, same-normalForm-linked}
+use Rattle.rules.proofs.Completeness.{irreducible-iff, normalForm-least-window, same-normalForm-congruent}
 use Rattle.rules.proofs.Calls.{accepted-least, accepted-letters, accepted-of-shorter, Lawful, single-lawful, stepped}
 use Rattle.rules.proofs.Calls.{Moves, rewrote, stays, stepped-moves, wordAfter-moves, resultOf, stepped-used, stepped-answers}
 use Rattle.rules.proofs.Calls.{irreducible-of-once, nowhereFits-iff}
@@ -188,7 +188,7 @@ demand3-of {s} law k n u h = record {
       };
   agree = λ v g. record {
     by-window = wordNormalForm-eq-iff (kindOf k) n u v;
-    by-relations = same-normalForm-linked (kindOf k) n u v (accepted-least h) (accepted-letters h) (accepted-letters g);
+    by-relations = same-normalForm-congruent (kindOf k) n u v (accepted-least h) (accepted-letters h) (accepted-letters g);
   };
   least = normalForm-least-window (kindOf k) n u (accepted-least h);
   normal-form-call = λ before after a y. normal-form-written k n u before after a h y;

@@ -21,7 +21,7 @@ use Rattle.coxeter.specs.Kinds.{kindOf}
 use Rattle.coxeter.specs.Windows.{window}
 use Rattle.coxeter.specs.Checks.{wrongLetter}
 use Rattle.coxeter.specs.Dictionary.{before}
-use Rattle.coxeter.specs.Relations.{Relation, Linked}
+use Rattle.coxeter.specs.Relations.{Relation, Congruent}
 use Rattle.coxeter.specs.Calls.{Yields, normalFormOfWord}
 use Rattle.coxeter.proofs.Order.{shortlex-cases}
 use Rattle.rules.specs.declared.Rewrite.the-variants.{Used}
@@ -135,12 +135,12 @@ module _ (s : Interface) (holds : Demand3Holds s) (k n : ℕ) (u : List ℕ) (h 
   normal-form-iff-window v a = d .agree v a .by-window
 
   -- T15
-  pub normal-form-iff-linked : (v : List ℕ) → AcceptedWord k n v → (normalFormOf k n u ≡ normalFormOf k n v) ↔ Linked (Relation (kindOf k) n) u v
-  normal-form-iff-linked v a = d .agree v a .by-relations
+  pub normal-form-iff-congruent : (v : List ℕ) → AcceptedWord k n v → (normalFormOf k n u ≡ normalFormOf k n v) ↔ Congruent (Relation (kindOf k) n) u v
+  normal-form-iff-congruent v a = d .agree v a .by-relations
 
   -- T14, T15
-  pub window-iff-linked : (v : List ℕ) → AcceptedWord k n v → (window (kindOf k) n u ≡ window (kindOf k) n v) ↔ Linked (Relation (kindOf k) n) u v
-  window-iff-linked v a =
+  pub window-iff-congruent : (v : List ℕ) → AcceptedWord k n v → (window (kindOf k) n u ≡ window (kindOf k) n v) ↔ Congruent (Relation (kindOf k) n) u v
+  window-iff-congruent v a =
       let g = d .agree v a in
       (λ e. g .by-relations .0 (g .by-window .1 e), λ l. g .by-window .0 (g .by-relations .1 l))
 

@@ -17,7 +17,7 @@ use mathlib.Core.Path.{sym, _∙_}
 use Rattle.coxeter.specs.Kinds.{Kind, least}
 use Rattle.coxeter.specs.Windows.{window}
 use Rattle.coxeter.specs.Dictionary.{shortlex}
-use Rattle.coxeter.specs.Relations.{Braid, Relation, Linked}
+use Rattle.coxeter.specs.Relations.{Braid, Relation, Congruent}
 use Rattle.coxeter.specs.Checks.{WindowOf}
 use Rattle.coxeter.specs.NormalForm.{normalForm, IsNormalForm}
 use Rattle.coxeter.proofs.Levels.{accepted-of-refusal}
@@ -32,12 +32,12 @@ use Rattle.rules.proofs.Completeness as complete
 module _ (k : Kind) (n : ℕ) (low : least k ≤ n) (x : Rule) (listed : List·Memᴰ x (rules k n)) where
   -- ---- one rule
 
-  -- both sides are linked by the relations
-  pub rule-linked : Linked (Relation k n) (x .left) (x .right)
-  rule-linked = derivations.rule-linked k n low (rule-of-list k n low x listed)
+  -- both sides are congruent under the relations
+  pub rule-congruent : Congruent (Relation k n) (x .left) (x .right)
+  rule-congruent = derivations.rule-congruent k n low (rule-of-list k n low x listed)
 
   -- and, but for family 1, by relations of equal length alone
-  pub rule-braid : (x .family ≡ 1 → ⊥) → Linked (Braid k n) (x .left) (x .right)
+  pub rule-braid : (x .family ≡ 1 → ⊥) → Congruent (Braid k n) (x .left) (x .right)
   rule-braid f = derivations.rule-braid k n low (rule-of-list k n low x listed) (λ e. f (right-empty k n low x listed e))
 
   -- ---- one use of a rule

@@ -10,7 +10,7 @@ use Rattle.coxeter.specs.declared.Answer.{Answer}
 use Rattle.coxeter.specs.declared.Answer.the-variants as answer
 use Rattle.coxeter.specs.Kinds.{kindOf}
 use Rattle.coxeter.specs.Windows.{window}
-use Rattle.coxeter.specs.Relations.{Relation, Linked}
+use Rattle.coxeter.specs.Relations.{Relation, Congruent}
 use Rattle.coxeter.specs.NormalForm.{wordNormalForm, IsNormalForm}
 use Rattle.coxeter.specs.Calls.{Yields, normalFormOfWord}
 use Rattle.rules.specs.Rules.{Rule, rules, fits, rewritten}
@@ -110,7 +110,7 @@ pub record Agree (k n : ℕ) (u v : List ℕ) : Type 0 where
   -- T14
   pub by-window : (normalFormOf k n u ≡ normalFormOf k n v) ↔ (window (kindOf k) n u ≡ window (kindOf k) n v)
   -- T15
-  pub by-relations : (normalFormOf k n u ≡ normalFormOf k n v) ↔ Linked (Relation (kindOf k) n) u v
+  pub by-relations : (normalFormOf k n u ≡ normalFormOf k n v) ↔ Congruent (Relation (kindOf k) n) u v
 
 -- T17: a call for the normal form of the word u with the output `before`, which it left as `after`, answered a. Only
 -- check 14 can refuse it.

@@ -20,7 +20,7 @@ use Rattle.coxeter.specs.NormalForm.{normalForm}
 use Rattle.coxeter.proofs.Basics.{windowFrom-append}
 use Rattle.coxeter.proofs.Levels.{Accepted, window-accepted}
 use Rattle.coxeter.proofs.Steps.{act-involution}
-use Rattle.coxeter.proofs.Relations.{linked-window, wrongLetter-cons}
+use Rattle.coxeter.proofs.Relations.{congruent-window, wrongLetter-cons}
 use Rattle.coxeter.proofs.Products.{window-append}
 use Rattle.coxeter.proofs.Order.{less, same, more, compared}
 use Rattle.coxeter.proofs.NormalForms.{window-normalForm, normalForm-letters}
@@ -37,7 +37,7 @@ pub removable-of-carried : (k : Kind) (n : ℕ) (z u v : List ℕ) → Carried k
     → (i : ℕ) × Removable k n u (window k n v) i
 removable-of-carried k n z u v c l =
     let d = dropAt-of-part (c .is) (omega (arith, c .count)) in
-    (d .0, (d .1, sym (linked-window k n (c .link) ∙ ap (window k n) (d .2))))
+    (d .0, (d .1, sym (congruent-window k n (c .link) ∙ ap (window k n) (d .2))))
 
 -- z has the window of u, and is the normal form of a shorter window with one letter more
 struck : (k : Kind) (n : ℕ) (u z : List ℕ) (w : List ℤ) → least k ≤ n → wrongLetter n u ≡ false → Accepted k n w

@@ -18,7 +18,7 @@ use Rattle.coxeter.specs.Length.{windowLength}
 use Rattle.coxeter.specs.Checks.{wrongLetter}
 use Rattle.coxeter.specs.NormalForm.{wordNormalForm}
 use Rattle.coxeter.proofs.Levels.{window-accepted}
-use Rattle.coxeter.proofs.Relations.{linked-window}
+use Rattle.coxeter.proofs.Relations.{congruent-window}
 use Rattle.coxeter.proofs.NormalForms.{window-normalForm}
 use Rattle.coxeter.proofs.Lengths.{length-normalForm}
 use Rattle.shortest_words.specs.OneLetter.{Shortest}
@@ -51,7 +51,7 @@ fallback-through k n u z w h e s f g =
     let p = part-of-fallback k n u (window k n z) f in
     let q = part-of-fallback k n z w g in
     let c = shortest-carries k n z (p .word) h s (part-letters n (p .part) e) (sym (p .shows)) (q .word) (q .part) in
-    fallback-of-part k n u (c .part) w (part-trans (p .part) (c .is)) (sym (linked-window k n (c .link)) ∙ q .shows)
+    fallback-of-part k n u (c .part) w (part-trans (p .part) (c .is)) (sym (congruent-window k n (c .link)) ∙ q .shows)
 
 -- two shortest words of one window have the same fallbacks
 pub fallback-shortest : (k : Kind) (n : ℕ) (u v : List ℕ) (w : List ℤ) → least k ≤ n → Shortest k n u → Shortest k n v → window k n u ≡ window k n v

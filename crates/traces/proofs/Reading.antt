@@ -25,7 +25,7 @@ use Rattle.rules.proofs.Rewriting.{Rewrites}
 use Rattle.rules.proofs.Fits.{fits-split, rewritten-split, fits-past, firstFitting-some, left-nonempty}
 use Rattle.rules.proofs.Completeness.{rewrites-letters, rewrites-window, rewrites-length}
 use Rattle.shortest_words.proofs.Shortest.{letters-snoc}
-use Rattle.traces.specs.Traces.{Use, lowestUse, Trace, trace}
+use Rattle.traces.specs.Traces.{Redex, lowestRedex, Trace, trace}
 use Rattle.traces.proofs.LeftSides.{left-two, Sides, drops, moves, sides-of-rule}
 use Rattle.traces.proofs.Traces.{Lowest, after, lowest-some, lowest-is, irreducible-of-none, none-of-irreducible, lowest-rewrites}
 use Rattle.traces.proofs.Traces.{trace-none, trace-some}
@@ -102,12 +102,12 @@ module _ (k : Kind) (n : ℕ) (h : least k ≤ n) (z : List ℕ) (q : ℕ) (r : 
       (normal-front k n h (r .front) (r .back) (r .normal) .irreducible)
 
   -- where no rule ends with the letter, z is a normal form
-  pub reading-ends : lowestUse k n (take (suc q) z) ≡ none → Normal k n z
+  pub reading-ends : lowestRedex k n (take (suc q) z) ≡ none → Normal k n z
   reading-ends e =
       let p : Normal k n (r .front ++ (r .letter ∷ [])) = record {
         letters = letters-left n (r .front ++ (r .letter ∷ [])) (r .back)
             (ap (wrongLetter n) (append-snoc (r .front) (r .letter) (r .back) ∙ sym (r .is)) ∙ r .letters);
-        irreducible = irreducible-of-none k n _ h (ap (lowestUse k n) (sym upto) ∙ e);
+        irreducible = irreducible-of-none k n _ h (ap (lowestRedex k n) (sym upto) ∙ e);
       } in
       subst (Normal k n) (sym (r .is))
       (normal-with k n h (r .front) (r .letter) (r .back) (r .step) (r .normal) p (r .above) (r .low) (r .high)
@@ -115,10 +115,10 @@ module _ (k : Kind) (n : ℕ) (h : least k ≤ n) (z : List ℕ) (q : ℕ) (r : 
 
   -- ---- the rule that it ends
 
-  module _ (s : Use) (e : lowestUse k n (take (suc q) z) ≡ some s) where
+  module _ (s : Redex) (e : lowestRedex k n (take (suc q) z) ≡ some s) where
     -- the rule is of the list, and fits there
     pub fitting : List·Memᴰ (s .rule) (rules k n) × (fits (s .rule) (r .front ++ (r .letter ∷ [])) (s .place) ≡ true)
-    fitting = firstFitting-some (rules k n) _ (s .place) (s .rule) (lowest-some k n _ s (ap (lowestUse k n) (sym upto) ∙ e) .fitting)
+    fitting = firstFitting-some (rules k n) _ (s .place) (s .rule) (lowest-some k n _ s (ap (lowestRedex k n) (sym upto) ∙ e) .fitting)
 
     pub none-before : Irreducible (rules k n) (r .front)
     none-before = normal-front k n h (r .front) (r .back) (r .normal) .irreducible
@@ -223,7 +223,7 @@ module _ (k : Kind) (n : ℕ) (h : least k ≤ n) where
   steps u = length (trace k n u .lines)
 
   -- the step of the whole word
-  pub steps-step : (z : List ℕ) (q : ℕ) (rest : List ℕ) (r : Reading k n z q) (s : Use) → lowestUse k n (take (suc q) z) ≡ some s
+  pub steps-step : (z : List ℕ) (q : ℕ) (rest : List ℕ) (r : Reading k n z q) (s : Redex) → lowestRedex k n (take (suc q) z) ≡ some s
       → wrongLetter n (z ++ rest) ≡ false
       → (steps (z ++ rest) ≡ suc (steps (after z s ++ rest))) × (wrongLetter n (after z s ++ rest) ≡ false) × (length (after z s) ≤ length z)
   steps-step z q rest r s e l =
@@ -239,9 +239,9 @@ module _ (k : Kind) (n : ℕ) (h : least k ≤ n) where
       → ((w : List ℕ) → Normal k n w → length w ≤ length z → wrongLetter n (w ++ rest) ≡ false → steps (w ++ rest) ≤ m) → steps (z ++ rest) ≤ q + m
   steps-reading zero z q rest m g r l f = absurd (omega arith)
   steps-reading (suc t) z q rest m g r l f =
-      go (lowestUse k n (take (suc q) z)) refl (λ v p. steps-reading t v p rest m)
+      go (lowestRedex k n (take (suc q) z)) refl (λ v p. steps-reading t v p rest m)
     where
-      go : (o : Option Use) → lowestUse k n (take (suc q) z) ≡ o
+      go : (o : Option Redex) → lowestRedex k n (take (suc q) z) ≡ o
           → ((v : List ℕ) (p : ℕ) → p < t → Reading k n v p → wrongLetter n (v ++ rest) ≡ false
           → ((w : List ℕ) → Normal k n w → length w ≤ length v → wrongLetter n (w ++ rest) ≡ false → steps (w ++ rest) ≤ m) → steps (v ++ rest) ≤ p + m)
           → steps (z ++ rest) ≤ q + m

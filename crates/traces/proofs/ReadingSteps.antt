@@ -20,7 +20,7 @@ use Rattle.coxeter.specs.NormalForm.{levels}
 use Rattle.coxeter.proofs.Order.{less, same, more, compared}
 use Rattle.rules.specs.Rules.{Rule, rules, rule, fits, firstFitting, rewritten, exchanged}
 use Rattle.rules.proofs.Fits.{firstFitting-some}
-use Rattle.traces.specs.Traces.{Use, lowestUse}
+use Rattle.traces.specs.Traces.{Redex, lowestRedex}
 use Rattle.traces.proofs.LeftSides.{lower, Sides, drops, moves, sides-of-rule}
 use Rattle.traces.proofs.Traces.{after, lowest-some, lowest-is}
 use Rattle.traces.proofs.Endings.{lowest-of-ending, first-of-ending, between-of-ending}
@@ -49,12 +49,12 @@ stopped-at w floor from i p t s g l e f = elim (compared t p) [
 
 module _ (k : Kind) (n : ℕ) (h : least k ≤ n) (z : List ℕ) (q : ℕ) (r : Reading k n z q) where
   -- a rule that fits in what has been read up to the letter is at the lowest place
-  pub use-of-fitting : (p : ℕ) (x : Rule) → firstFitting (rules k n) (take (suc q) z) p ≡ some x
-      → lowestUse k n (take (suc q) z) ≡ some (record { place = p; rule = x })
-  use-of-fitting p x e =
+  pub redex-of-fitting : (p : ℕ) (x : Rule) → firstFitting (rules k n) (take (suc q) z) p ≡ some x
+      → lowestRedex k n (take (suc q) z) ≡ some (record { place = p; rule = x })
+  redex-of-fitting p x e =
       let u = upto k n h z q r in
       let f = firstFitting-some (rules k n) (r .front ++ (r .letter ∷ [])) p x (ap (λ (w : List ℕ). firstFitting (rules k n) w p) (sym u) ∙ e) in
-      ap (lowestUse k n) u
+      ap (lowestRedex k n) u
       ∙ lowest-is k n (r .front ++ (r .letter ∷ [])) (record { place = p; rule = x })
       (lowest-of-ending k n h (r .front) (r .letter) (normal-front k n h (r .front) (r .back) (r .normal) .irreducible) x (f .0) p (f .1) [])
 
@@ -78,23 +78,23 @@ module _ (k : Kind) (n : ℕ) (h : least k ≤ n) (z : List ℕ) (q : ℕ) (r : 
       ap (drop q) e ∙ drop-at (take q z) (before ∷ letter ∷ []) q (length-take-le q z (omega arith))
 
   -- family 2
-  pub exchange-use : letter ≤ n → exchanging n (levels k n) before letter ≡ true
-      → lowestUse k n (take (suc (suc q)) z) ≡ some (record { place = q; rule = exchanged before letter })
-  exchange-use l t =
-      use-of-fitting k n h z (suc q) r q (exchanged before letter)
+  pub exchange-redex : letter ≤ n → exchanging n (levels k n) before letter ≡ true
+      → lowestRedex k n (take (suc (suc q)) z) ≡ some (record { place = q; rule = exchanged before letter })
+  exchange-redex l t =
+      redex-of-fitting k n h z (suc q) r q (exchanged before letter)
       (exchange-fits k n h (take (suc (suc q)) z) q before letter (read-letters k n h z (suc q) r) last-two l t)
 
   -- family 1
-  pub square-use : letter ≡ before → before ≤ n
-      → lowestUse k n (take (suc (suc q)) z) ≡ some (record { place = q; rule = rule 1 before 0 (before ∷ before ∷ []) [] })
-  square-use e l =
-      use-of-fitting k n h z (suc q) r q (rule 1 before 0 (before ∷ before ∷ []) [])
+  pub square-redex : letter ≡ before → before ≤ n
+      → lowestRedex k n (take (suc (suc q)) z) ≡ some (record { place = q; rule = rule 1 before 0 (before ∷ before ∷ []) [] })
+  square-redex e l =
+      redex-of-fitting k n h z (suc q) r q (rule 1 before 0 (before ∷ before ∷ []) [])
       (square-fits k n h (take (suc (suc q)) z) q before letter (read-letters k n h z (suc q) r) last-two e l)
 
   -- ---- its place
 
   -- the rule begins less than 2n places before, with the lower of the two letters; those between are higher
-  module _ (s : Use) (e : lowestUse k n (take (suc (suc q)) z) ≡ some s) where
+  module _ (s : Redex) (e : lowestRedex k n (take (suc (suc q)) z) ≡ some s) where
     in-z : (t : ℕ) → t < suc (suc q) → getD (take (suc (suc q)) z) t 0 ≡ getD z t 0
     in-z t l = getD-take (suc (suc q)) z t 0 l
 
@@ -139,7 +139,7 @@ module _ (k : Kind) (n : ℕ) (h : least k ≤ n) (z : List ℕ) (q : ℕ) (r : 
 
 -- ---- the word after it
 
-module _ (k : Kind) (n : ℕ) (h : least k ≤ n) (z : List ℕ) (q : ℕ) (r : Reading k n z q) (s : Use) (e : lowestUse k n (take (suc q) z) ≡ some s) where
+module _ (k : Kind) (n : ℕ) (h : least k ≤ n) (z : List ℕ) (q : ℕ) (r : Reading k n z q) (s : Redex) (e : lowestRedex k n (take (suc q) z) ≡ some s) where
   sides : Sides (s .rule)
   sides = sides-of-rule k n h (s .rule) (fitting k n h z q r s e .0)
 

@@ -30,13 +30,13 @@ use Rattle.rules.proofs.Completeness.{rewrites-letters, rewrites-length}
 use Rattle.rules.proofs.Calls.{accepted-least, accepted-letters, accepted-of-shorter, stepped, answer-of-none, usable-changed, stepped-used, single-lawful, nowhereFits-iff}
 use Rattle.rules.proofs.CallLists.{new-word-exactly}
 use Rattle.traces.specs.declared.ToEnd.the-variants.{Ended}
-use Rattle.traces.specs.Traces.{Use, lowestUse, Line, Trace, trace, familiesOf, placesOf, lengthsOf, Traced, rewritingToEnd, NoneFitsBelow, Replays}
+use Rattle.traces.specs.Traces.{Redex, lowestRedex, Line, Trace, trace, familiesOf, placesOf, lengthsOf, Traced, rewritingToEnd, NoneFitsBelow, Replays}
 use Rattle.traces.proofs.Traces.{Lowest, irreducible-of-none, after, lineOf, continued, lowest-rewrites, trace-induction, trace-normalForm}
 use Rattle.traces.proofs.Unchanged.{Written, refused, ended, tracedBy-written, toEnd-past}
 
 -- ---- one step of an accepted word
 
-module _ (k n : ℕ) (u : List ℕ) (h : AcceptedWord k n u) (s : Use) (a : Lowest (kindOf k) n u s) where
+module _ (k n : ℕ) (u : List ℕ) (h : AcceptedWord k n u) (s : Redex) (a : Lowest (kindOf k) n u s) where
   next-shorter : length (after u s) ≤ length u
   next-shorter = rewrites-length (lowest-rewrites (accepted-least h) a)
 
@@ -111,7 +111,7 @@ Only k n u t = AcceptedWord k n u → (ls : List Line) (v : List ℕ) → Replay
 
 module _ (k n : ℕ) (u : List ℕ) (h : AcceptedWord k n u) where
   -- no line can be replayed where none fits
-  only-ends : lowestUse (kindOf k) n u ≡ none → (ls : List Line) (v : List ℕ) → Replays k n u ls v → (ls ≡ []) × (v ≡ u)
+  only-ends : lowestRedex (kindOf k) n u ≡ none → (ls : List Line) (v : List ℕ) → Replays k n u ls v → (ls ≡ []) × (v ≡ u)
   only-ends d [] v r = (refl, sym (r .1))
   only-ends d (l ∷ ls) v r =
       let o = room (l .left) in
@@ -119,7 +119,7 @@ module _ (k n : ℕ) (u : List ℕ) (h : AcceptedWord k n u) where
       absurd (fits-of-used k n u (l .place) (o .0) (l .family) (q .0) (q .1) (l .left) h (q .2) (none-firstFitting (rules (kindOf k) n) u (l .place)
       (λ x m. irreducible-of-none (kindOf k) n u (accepted-least h) d x m (l .place))))
 
-  module _ (s : Use) (a : Lowest (kindOf k) n u s) where
+  module _ (s : Redex) (a : Lowest (kindOf k) n u s) where
     used-with : (m : ℕ) → (o : List ℕ) × (m ≤ length o)
         × (rewriteAt single k n u (s .place) o .answer ≡ Used (s .rule .family) (s .rule .i) (s .rule .j) (length (after u s)))
         × (take (length (after u s)) (rewriteAt single k n u (s .place) o .outputs) ≡ after u s)
@@ -167,7 +167,7 @@ record Replay (k n : ℕ) (u : List ℕ) (t : Trace) : Type 0 where
   run : Run single k n u calls
   counted : uses single calls ≡ length (t .lines)
 
-replay-goes : (k n : ℕ) (u : List ℕ) (h : AcceptedWord k n u) (s : Use) → Lowest (kindOf k) n u s
+replay-goes : (k n : ℕ) (u : List ℕ) (h : AcceptedWord k n u) (s : Redex) → Lowest (kindOf k) n u s
     → Replay k n (after u s) (trace (kindOf k) n (after u s))
     → Replay k n u (continued u s (trace (kindOf k) n (after u s)))
 unfolding wordAfter uses newWordIn

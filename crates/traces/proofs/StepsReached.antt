@@ -21,12 +21,12 @@ use Rattle.coxeter.proofs.LetterLaws.{letter-within-cons}
 use Rattle.coxeter.proofs.Relations.{letters-append, wrongLetter-nil, wrongLetter-cons}
 use Rattle.rules.specs.Rules.{exchanged, rewritten}
 use Rattle.rules.proofs.Fits.{rewritten-split}
-use Rattle.traces.specs.Traces.{Use, lowestUse, Trace, trace}
+use Rattle.traces.specs.Traces.{Redex, lowestRedex, Trace, trace}
 use Rattle.traces.proofs.Traces.{after, none-of-irreducible, trace-none}
 use Rattle.traces.proofs.TwoLetters.{exchanging}
 use Rattle.traces.proofs.LeastWords.{letters-left, letters-right, Normal}
 use Rattle.traces.proofs.Reading.{nil-irreducible, Reading, reading-next, reading-ends, reading-lower, reading-moved, pairs-suc, steps, steps-step}
-use Rattle.traces.proofs.ReadingSteps.{exchange-use}
+use Rattle.traces.proofs.ReadingSteps.{exchange-redex}
 
 letters-cons : (n x : ℕ) (b : List ℕ) → 1 ≤ x → x ≤ n → wrongLetter n b ≡ false → wrongLetter n (x ∷ b) ≡ false
 letters-cons n x b o l e = wrongLetter-cons n x b o l ∙ e
@@ -50,10 +50,10 @@ module _ (k : Kind) (n : ℕ) (h : least k ≤ n) where
       let second : getD z (suc q) 0 ≡ x =
       ap (λ (w : List ℕ). getD w (suc q) 0) (sym (append-snoc a y (x ∷ b)))
       ∙ getD-at (a ++ (y ∷ [])) x b 0 (suc q) (length-append a (y ∷ []) ∙ omega (arith, e)) in
-      let s : Use = record { place = q; rule = exchanged y x } in
+      let s : Redex = record { place = q; rule = exchanged y x } in
       let far : exchanging n (levels k n) (getD z q 0) (getD z (suc q) 0) ≡ true = rw (first, second) (exchanging-far n (levels k n) y x (omega arith) g) in
-      let u : lowestUse k n (take (suc (suc q)) z) ≡ some s =
-      exchange-use k n h z q r (omega (arith, second)) far ∙ ap₂ (λ (i j : ℕ). some (record { place = q; rule = exchanged i j })) first second in
+      let u : lowestRedex k n (take (suc (suc q)) z) ≡ some s =
+      exchange-redex k n h z q r (omega (arith, second)) far ∙ ap₂ (λ (i j : ℕ). some (record { place = q; rule = exchanged i j })) first second in
       let d : after z s ≡ a ++ (x ∷ y ∷ b) = ap (rewritten (exchanged y x) z) (sym e) ∙ rewritten-split (exchanged y x) a b in
       let t = steps-step k n h z (suc q) rest r s u l in
       (rw d at (t .0), rw d at (reading-moved k n h z (suc q) r s u (λ f. omega arith)), rw d at (t .1))
@@ -71,13 +71,13 @@ module _ (k : Kind) (n : ℕ) (h : least k ≤ n) where
   passes c zero (y ∷ a) b rest g e i j r l = let z : suc (length a) ≡ 0 = e in absurd (omega arith)
   passes c zero [] b rest g e i j r l = record {
     word = (c + 2) ∷ b;
-    normal = reading-ends k n h _ 0 r (stands (lowestUse k n (take 1 ((c + 2) ∷ b))) refl);
+    normal = reading-ends k n h _ 0 r (stands (lowestRedex k n (take 1 ((c + 2) ∷ b))) refl);
     size = refl;
     letters = letters-cons (c + 2) (c + 2) b (omega arith) (omega arith) j;
     counted = omega arith;
   }
     where
-      stands : (o : Option Use) → lowestUse k n (take 1 ((c + 2) ∷ b)) ≡ o → o ≡ none
+      stands : (o : Option Redex) → lowestRedex k n (take 1 ((c + 2) ∷ b)) ≡ o → o ≡ none
       stands none e = refl
       stands (some s) e = absurd (omega (arith, reading-lower k n h ((c + 2) ∷ b) 0 r s e))
   passes c (suc q) a b rest g e i j r l =

@@ -25,12 +25,12 @@ use Rattle.rules.proofs.Ending.{valueFrom, value}
 use Rattle.rules.proofs.Rewriting.{Rewrites}
 use Rattle.rules.proofs.Fits.{fits-past, firstFitting-some, firstFitting-none, none-firstFitting, left-nonempty, rewrites-of-fits}
 use Rattle.rules.proofs.Completeness.{rewrites-letters, rewrites-lowers, RewritesTo, stays, step, rewritesTo-letters, rewritesTo-window, irreducible-iff}
-use Rattle.traces.specs.Traces.{Use, lowestFrom, lowestUse, Line, Trace, traceWithin, trace}
+use Rattle.traces.specs.Traces.{Redex, lowestFrom, lowestRedex, Line, Trace, traceWithin, trace}
 
 -- ---- the lowest place
 
 -- the rule fits at the place, which lies in the word, and none fits at a lower place
-pub record Lowest (k : Kind) (n : ℕ) (u : List ℕ) (s : Use) : Type 0 where
+pub record Lowest (k : Kind) (n : ℕ) (u : List ℕ) (s : Redex) : Type 0 where
   pub inside : s .place < length u
   pub fitting : firstFitting (rules k n) u (s .place) ≡ some (s .rule)
   pub below : (q : ℕ) → q < s .place → firstFitting (rules k n) u q ≡ none
@@ -40,16 +40,16 @@ abbrev NoneFrom : Kind → ℕ → List ℕ → ℕ → ℕ → Type 0
 NoneFrom k n u p t = (q : ℕ) → p ≤ q → q < p + t → firstFitting (rules k n) u q ≡ none
 
 -- what the search for the lowest place finds
-data Found (k : Kind) (n : ℕ) (u : List ℕ) (p t : ℕ) : Option Use → Type 0 where
+data Found (k : Kind) (n : ℕ) (u : List ℕ) (p t : ℕ) : Option Redex → Type 0 where
   nowhere : NoneFrom k n u p t → Found k n u p t none
-  somewhere : (s : Use) → p ≤ s .place → s .place < p + t → firstFitting (rules k n) u (s .place) ≡ some (s .rule)
+  somewhere : (s : Redex) → p ≤ s .place → s .place < p + t → firstFitting (rules k n) u (s .place) ≡ some (s .rule)
       → ((q : ℕ) → p ≤ q → q < s .place → firstFitting (rules k n) u q ≡ none) → Found k n u p t (some s)
 
 -- the place p itself, or one after it
 at-or-after : (p q : ℕ) → p ≤ q → (q ≡ p) ⊎ (suc p ≤ q)
 at-or-after p q h = elim (decLe q p) [ yes l ↦ inl (omega arith) | no l ↦ inr (lt-of-not-le l) ]
 
-found-later : (k : Kind) (n : ℕ) (u : List ℕ) (p t : ℕ) {o : Option Use} → firstFitting (rules k n) u p ≡ none → Found k n u (suc p) t o
+found-later : (k : Kind) (n : ℕ) (u : List ℕ) (p t : ℕ) {o : Option Redex} → firstFitting (rules k n) u p ≡ none → Found k n u (suc p) t o
     → Found k n u p (suc t) o
 found-later k n u p t e (nowhere f) =
     nowhere (λ q h g. ⊎-elim (λ a. ap (firstFitting (rules k n) u) a ∙ e) (λ a. f q a (omega arith)) (at-or-after p q h))
@@ -67,23 +67,23 @@ found k n u p (suc t) = go (firstFitting (rules k n) u p) refl (found k n u (suc
     go none e f = found-later k n u p t e f
     go (some r) e f = somewhere (record { place = p; rule = r }) (omega arith) (omega arith) e (λ q h g. absurd (omega arith))
 
-lowest-of-found : {k : Kind} {n : ℕ} {u : List ℕ} {s : Use} → Found k n u 0 (length u) (some s) → Lowest k n u s
+lowest-of-found : {k : Kind} {n : ℕ} {u : List ℕ} {s : Redex} → Found k n u 0 (length u) (some s) → Lowest k n u s
 lowest-of-found (somewhere s h g f b) = record { inside = omega arith; fitting = f; below = λ q. b q (omega arith) }
 
 module _ (k : Kind) (n : ℕ) (u : List ℕ) where
-  pub lowest-some : (s : Use) → lowestUse k n u ≡ some s → Lowest k n u s
-  unfolding lowestUse
+  pub lowest-some : (s : Redex) → lowestRedex k n u ≡ some s → Lowest k n u s
+  unfolding lowestRedex
   lowest-some s e = lowest-of-found (subst (Found k n u 0 (length u)) e (found k n u 0 (length u)))
 
-  lowest-none : lowestUse k n u ≡ none → (q : ℕ) → q < length u → firstFitting (rules k n) u q ≡ none
-  unfolding lowestUse
+  lowest-none : lowestRedex k n u ≡ none → (q : ℕ) → q < length u → firstFitting (rules k n) u q ≡ none
+  unfolding lowestRedex
   lowest-none e = go (subst (Found k n u 0 (length u)) e (found k n u 0 (length u)))
     where
       go : Found k n u 0 (length u) none → (q : ℕ) → q < length u → firstFitting (rules k n) u q ≡ none
       go (nowhere f) q h = f q (omega arith) (omega arith)
 
   -- there is only one lowest place, and one rule at it
-  pub lowest-only : (s t : Use) → Lowest k n u s → Lowest k n u t → s ≡ t
+  pub lowest-only : (s t : Redex) → Lowest k n u s → Lowest k n u t → s ≡ t
   lowest-only s t a b =
       elim (compared (s .place) (t .place)) [
         | less h ↦ absurd (Option·none-ne-some (s .rule) (sym (b .below (s .place) h) ∙ a .fitting))
@@ -94,23 +94,23 @@ module _ (k : Kind) (n : ℕ) (u : List ℕ) where
         | more h ↦ absurd (Option·none-ne-some (t .rule) (sym (a .below (t .place) h) ∙ b .fitting))
       ]
 
-  pub lowest-is : (s : Use) → Lowest k n u s → lowestUse k n u ≡ some s
-  lowest-is s a = go (lowestUse k n u) refl
+  pub lowest-is : (s : Redex) → Lowest k n u s → lowestRedex k n u ≡ some s
+  lowest-is s a = go (lowestRedex k n u) refl
     where
-      go : (o : Option Use) → lowestUse k n u ≡ o → o ≡ some s
+      go : (o : Option Redex) → lowestRedex k n u ≡ o → o ≡ some s
       go none e = absurd (Option·none-ne-some (s .rule) (sym (lowest-none e (s .place) (a .inside)) ∙ a .fitting))
       go (some t) e = ap some (lowest-only t s (lowest-some t e) a)
 
-  pub irreducible-of-none : least k ≤ n → lowestUse k n u ≡ none → Irreducible (rules k n) u
+  pub irreducible-of-none : least k ≤ n → lowestRedex k n u ≡ none → Irreducible (rules k n) u
   irreducible-of-none h e x m p = elim (decLe (length u) p) [
     | yes l ↦ fits-past x u p (left-nonempty k n h x m) l
     | no l ↦ firstFitting-none (rules k n) u p (lowest-none e p (lt-of-not-le l)) x m
   ]
 
-  pub none-of-irreducible : Irreducible (rules k n) u → lowestUse k n u ≡ none
-  none-of-irreducible f = go (lowestUse k n u) refl
+  pub none-of-irreducible : Irreducible (rules k n) u → lowestRedex k n u ≡ none
+  none-of-irreducible f = go (lowestRedex k n u) refl
     where
-      go : (o : Option Use) → lowestUse k n u ≡ o → o ≡ none
+      go : (o : Option Redex) → lowestRedex k n u ≡ o → o ≡ none
       go none e = refl
       go (some s) e =
           absurd (Option·none-ne-some (s .rule)
@@ -119,48 +119,48 @@ module _ (k : Kind) (n : ℕ) (u : List ℕ) where
 -- ---- one step
 
 -- the word after the step
-abbrev pub after : List ℕ → Use → List ℕ
+abbrev pub after : List ℕ → Redex → List ℕ
 after u s = rewritten (s .rule) u (s .place)
 
-abbrev pub lineOf : List ℕ → Use → Line
+abbrev pub lineOf : List ℕ → Redex → Line
 lineOf u s = record { family = s .rule .family; place = s .place; left = length (after u s) }
 
-pub lowest-rewrites : {k : Kind} {n : ℕ} {u : List ℕ} {s : Use} → least k ≤ n → Lowest k n u s → Rewrites k n u (after u s)
+pub lowest-rewrites : {k : Kind} {n : ℕ} {u : List ℕ} {s : Redex} → least k ≤ n → Lowest k n u s → Rewrites k n u (after u s)
 lowest-rewrites {k} {n} {u} {s} h a =
     let f = firstFitting-some (rules k n) u (s .place) (s .rule) (a .fitting) in
     rewrites-of-fits k n h (s .rule) (f .0) u (s .place) (omega (arith, a .inside)) (f .1)
 
 -- the trace of a step and what follows it
-abbrev pub continued : List ℕ → Use → Trace → Trace
+abbrev pub continued : List ℕ → Redex → Trace → Trace
 continued u s t = record { lines = lineOf u s ∷ t .lines; final = t .final }
 
 -- ---- enough steps
 
 module _ (k : Kind) (n : ℕ) (h : least k ≤ n) where
-  within-none : (t : ℕ) (u : List ℕ) → lowestUse k n u ≡ none → traceWithin k n t u ≡ record { lines = []; final = u }
+  within-none : (t : ℕ) (u : List ℕ) → lowestRedex k n u ≡ none → traceWithin k n t u ≡ record { lines = []; final = u }
   unfolding traceWithin
   within-none zero u e = refl
   within-none (suc t) u e = rw (e, traceWithin)
 
-  within-some : (t : ℕ) (u : List ℕ) (s : Use) → lowestUse k n u ≡ some s
+  within-some : (t : ℕ) (u : List ℕ) (s : Redex) → lowestRedex k n u ≡ some s
       → traceWithin k n (suc t) u ≡ continued u s (traceWithin k n t (after u s))
   unfolding traceWithin
   within-some t u s e = rw (e, traceWithin)
 
-  lowers : (u : List ℕ) (s : Use) → wrongLetter n u ≡ false → lowestUse k n u ≡ some s
+  lowers : (u : List ℕ) (s : Redex) → wrongLetter n u ≡ false → lowestRedex k n u ≡ some s
       → (wrongLetter n (after u s) ≡ false) × (value n (after u s) < value n u)
   lowers u s e d = let r = lowest-rewrites h (lowest-some k n u s d) in (rewrites-letters r e, rewrites-lowers r e)
 
   -- as many steps as the measure are enough
   within-enough : (t r : ℕ) (u : List ℕ) → wrongLetter n u ≡ false → value n u ≤ t → value n u ≤ r → traceWithin k n t u ≡ traceWithin k n r u
-  within-enough zero r u e f g = go (lowestUse k n u) refl
+  within-enough zero r u e f g = go (lowestRedex k n u) refl
     where
-      go : (o : Option Use) → lowestUse k n u ≡ o → traceWithin k n 0 u ≡ traceWithin k n r u
+      go : (o : Option Redex) → lowestRedex k n u ≡ o → traceWithin k n 0 u ≡ traceWithin k n r u
       go none d = within-none 0 u d ∙ sym (within-none r u d)
       go (some s) d = absurd (omega (arith, lowers u s e d .1))
-  within-enough (suc t) r u e f g = go (lowestUse k n u) refl r g (λ r v. within-enough t r v)
+  within-enough (suc t) r u e f g = go (lowestRedex k n u) refl r g (λ r v. within-enough t r v)
     where
-      go : (o : Option Use) → lowestUse k n u ≡ o → (r : ℕ) → value n u ≤ r
+      go : (o : Option Redex) → lowestRedex k n u ≡ o → (r : ℕ) → value n u ≤ r
           → ((r : ℕ) (v : List ℕ) → wrongLetter n v ≡ false → value n v ≤ t → value n v ≤ r → traceWithin k n t v ≡ traceWithin k n r v)
           → traceWithin k n (suc t) u ≡ traceWithin k n r u
       go none d r g ih = within-none (suc t) u d ∙ sym (within-none r u d)
@@ -191,11 +191,11 @@ module _ (k : Kind) (n : ℕ) (h : least k ≤ n) where
   unfolding trace
   trace-enough u e t g = within-enough k n h t ((n + 1) ^ length u) u e (omega (arith, value-enough n u e)) (value-enough n u e)
 
-  pub trace-none : (u : List ℕ) → lowestUse k n u ≡ none → trace k n u ≡ record { lines = []; final = u }
+  pub trace-none : (u : List ℕ) → lowestRedex k n u ≡ none → trace k n u ≡ record { lines = []; final = u }
   unfolding trace
   trace-none u d = within-none k n h ((n + 1) ^ length u) u d
 
-  pub trace-some : (u : List ℕ) (s : Use) → wrongLetter n u ≡ false → lowestUse k n u ≡ some s → trace k n u ≡ continued u s (trace k n (after u s))
+  pub trace-some : (u : List ℕ) (s : Redex) → wrongLetter n u ≡ false → lowestRedex k n u ≡ some s → trace k n u ≡ continued u s (trace k n (after u s))
   trace-some u s e d =
       let v = after u s in
       let t : ℕ = (n + 1) ^ length u + (n + 1) ^ length v in
@@ -205,14 +205,14 @@ module _ (k : Kind) (n : ℕ) (h : least k ≤ n) where
 
   -- what holds where none fits, and of a word if it holds after its step, holds of every word of steps
   module _ (P : List ℕ → Trace → Type 0)
-      (ends : (u : List ℕ) → wrongLetter n u ≡ false → lowestUse k n u ≡ none → P u (record { lines = []; final = u }))
-      (goes : (u : List ℕ) (s : Use) → wrongLetter n u ≡ false → Lowest k n u s → P (after u s) (trace k n (after u s))
+      (ends : (u : List ℕ) → wrongLetter n u ≡ false → lowestRedex k n u ≡ none → P u (record { lines = []; final = u }))
+      (goes : (u : List ℕ) (s : Redex) → wrongLetter n u ≡ false → Lowest k n u s → P (after u s) (trace k n (after u s))
       → P u (continued u s (trace k n (after u s)))) where
     below : (t : ℕ) (u : List ℕ) → wrongLetter n u ≡ false → value n u < t → P u (trace k n u)
     below zero u e g = absurd (omega arith)
-    below (suc t) u e g = go (lowestUse k n u) refl (λ v. below t v)
+    below (suc t) u e g = go (lowestRedex k n u) refl (λ v. below t v)
       where
-        go : (o : Option Use) → lowestUse k n u ≡ o → ((v : List ℕ) → wrongLetter n v ≡ false → value n v < t → P v (trace k n v)) → P u (trace k n u)
+        go : (o : Option Redex) → lowestRedex k n u ≡ o → ((v : List ℕ) → wrongLetter n v ≡ false → value n v < t → P v (trace k n v)) → P u (trace k n u)
         go none d ih = subst (P u) (sym (trace-none u d)) (ends u e d)
         go (some s) d ih =
             let l = lowers k n h u s e d in

@@ -20,7 +20,7 @@ use Rattle.coxeter.specs.Checks.{wrongLetter}
 use Rattle.coxeter.proofs.Acceptance.{rank-within, letters-accepted, length-accepted}
 use Rattle.coxeter.proofs.Relations.{letters-append}
 use Rattle.rules.specs.Runs.{AcceptedWord}
-use Rattle.traces.specs.Traces.{Use, lowestUse, Line, Trace, trace, familiesOf, placesOf, lengthsOf}
+use Rattle.traces.specs.Traces.{Redex, lowestRedex, Line, Trace, trace, familiesOf, placesOf, lengthsOf}
 use Rattle.traces.proofs.Traces.{after, lineOf, lowest-is, none-of-irreducible, trace-none, trace-some}
 use Rattle.traces.proofs.LeastWords.{Normal}
 use Rattle.traces.proofs.Reading.{Reading, reading-lowest, after-rest, steps-at-most}
@@ -71,8 +71,8 @@ module _ (s : ℕ) (families places lengths : List ℕ) where
   })
 
   module _ (k : Kind) (n : ℕ) (h : least k ≤ n) where
-    pub finish-step : (z : List ℕ) (q : ℕ) (rest : List ℕ) → Reading k n z q → wrongLetter n rest ≡ false → (u : Use)
-        → lowestUse k n (take (suc q) z) ≡ some u
+    pub finish-step : (z : List ℕ) (q : ℕ) (rest : List ℕ) → Reading k n z q → wrongLetter n rest ≡ false → (u : Redex)
+        → lowestRedex k n (take (suc q) z) ≡ some u
         → finish k n s families places lengths (z ++ rest)
         ≡ finish k n (s + 1) (set families s (u .rule .family)) (set places s (u .place)) (set lengths s (length (after z u) + length rest)) (after z u ++ rest)
     finish-step z q rest r l u e =

@@ -16,7 +16,7 @@ use Rattle.coxeter.proofs.Vectors.{Agree, lent}
 use Rattle.rules.specs.Rules.{each, family1, family2, family3, family4, families5to7, rules, begins, fits, firstFitting, rewritten}
 use Rattle.traces.specs.declared.ToEnd.{ToEnd}
 use Rattle.traces.specs.declared.ToEnd.the-variants as toEnd
-use Rattle.traces.specs.Traces.{lowestFrom, lowestUse, traceWithin, trace, tooFewPlaces, toEndOf, Traced, tracedBy, rewritingToEnd, numberOfSteps}
+use Rattle.traces.specs.Traces.{lowestFrom, lowestRedex, traceWithin, trace, tooFewPlaces, toEndOf, Traced, tracedBy, rewritingToEnd, numberOfSteps}
 
 -- the answer, then the three lists and the output afterwards
 abbrev traced : ToEnd → List ℕ → List ℕ → List ℕ → List ℕ → Traced
@@ -68,7 +68,7 @@ pub toEnds-agree : Agree toEnds
 unfolding toEnds
     kindOf up wrongKind wrongRank tooLong wrongLetter tooShort rankRefusal wordRefusal down rise fall block
     each family1 family2 family3 family4 families5to7 rules begins fits firstFitting rewritten
-    written lowestFrom lowestUse traceWithin trace tooFewPlaces toEndOf tracedBy rewritingToEnd
+    written lowestFrom lowestRedex traceWithin trace tooFewPlaces toEndOf tracedBy rewritingToEnd
 toEnds-agree = refl
 
 pub stepNumbers : List (Answer × Answer)
@@ -83,5 +83,5 @@ pub stepNumbers-agree : Agree stepNumbers
 unfolding stepNumbers
     kindOf up wrongKind wrongRank tooLong wrongLetter rankRefusal wordRefusal down rise fall block
     each family1 family2 family3 family4 families5to7 rules begins fits firstFitting rewritten
-    answerOf lowestFrom lowestUse traceWithin trace numberOfSteps
+    answerOf lowestFrom lowestRedex traceWithin trace numberOfSteps
 stepNumbers-agree = refl

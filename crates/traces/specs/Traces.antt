@@ -21,20 +21,20 @@ use Rattle.traces.specs.declared.ToEnd.the-variants.{Ended, Refused}
 
 -- ---- the rewriting
 
--- T19: a rule that fits, and its place
-pub record Use : Type 0 where
+-- T19: a rule with the place where it fits
+pub record Redex : Type 0 where
   pub place : ℕ
   pub rule : Rule
 
 -- T19: the lowest place where a rule fits, among the t places from p on
-unfoldable pub lowestFrom : Kind → ℕ → List ℕ → ℕ → ℕ → Option Use
+unfoldable pub lowestFrom : Kind → ℕ → List ℕ → ℕ → ℕ → Option Redex
 lowestFrom k n u p zero = none
 lowestFrom k n u p (suc t) =
     elim (firstFitting (rules k n) u p) [ none ↦ lowestFrom k n u (suc p) t | some r ↦ some (record { place = p; rule = r }) ]
 
 -- T19: among all places of the word
-unfoldable pub lowestUse : Kind → ℕ → List ℕ → Option Use
-lowestUse k n u = lowestFrom k n u 0 (length u)
+unfoldable pub lowestRedex : Kind → ℕ → List ℕ → Option Redex
+lowestRedex k n u = lowestFrom k n u 0 (length u)
 
 -- T20: one step of the rewriting: family, place, and the word's length after the step
 pub record Line : Type 0 where
@@ -50,7 +50,7 @@ pub record Trace : Type 0 where
 -- T19: the rewriting, but no more than t steps of it
 unfoldable pub traceWithin : Kind → ℕ → ℕ → List ℕ → Trace
 traceWithin k n zero u = record { lines = []; final = u }
-traceWithin k n (suc t) u = elim (lowestUse k n u) [
+traceWithin k n (suc t) u = elim (lowestRedex k n u) [
   | none ↦ record { lines = []; final = u }
   | some s ↦
       let v = rewritten (s .rule) u (s .place) in

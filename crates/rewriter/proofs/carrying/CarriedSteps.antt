@@ -10,7 +10,7 @@ use native.Mathlib.Omega.{arith}
 use lib.ListN.{length, take, set, length-set}
 use lib.Seq.{take-length}
 use Rattle.coxeter.specs.Kinds.{Kind}
-use Rattle.traces.specs.Traces.{Use, lowestUse}
+use Rattle.traces.specs.Traces.{Redex, lowestRedex}
 use Rattle.traces.proofs.Traces.{after}
 use Rattle.traces.proofs.LeastWords.{Normal}
 use Rattle.traces.proofs.Reading.{Reading, reading-ends, reading-dropped, reading-moved}
@@ -48,7 +48,7 @@ module _ {k : Kind} {n : ℕ} {rest : List ℕ} {s : ℕ} {families places lengt
       lengths-size = c .lengths-size ∙ b .lengths-size;
     }
 
-  module _ {q : ℕ} (a : Ready k n rest s families places lengths word q) (u : Use) (e : lowestUse k n (take (suc q) word) ≡ some u) where
+  module _ {q : ℕ} (a : Ready k n rest s families places lengths word q) (u : Redex) (e : lowestRedex k n (take (suc q) word) ≡ some u) where
     -- a step that is noted, of any family but 1
     pub carried-step : (s′ : ℕ) (families′ places′ lengths′ word′ : List ℕ) → (u .rule .family ≡ 1 → ⊥) → s′ ≡ s + 1
         → families′ ≡ set families s (u .rule .family) → places′ ≡ set places s (u .place)
@@ -84,7 +84,7 @@ module _ {k : Kind} {n : ℕ} {rest : List ℕ} {s : ℕ} {families places lengt
         }
 
   -- no rule ends with the letter
-  pub inserted-end : {q : ℕ} → Ready k n rest s families places lengths word q → lowestUse k n (take (suc q) word) ≡ none → (size : ℕ) → size ≡ length word
+  pub inserted-end : {q : ℕ} → Ready k n rest s families places lengths word q → lowestRedex k n (take (suc q) word) ≡ none → (size : ℕ) → size ≡ length word
       → Inserted k n rest s families places lengths word s families places lengths word size
   inserted-end {q} a e size l =
       let w : take size word ≡ word = rw l (take-length word) in

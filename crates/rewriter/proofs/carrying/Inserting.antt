@@ -10,7 +10,7 @@ use Prim.Native.Nat.{ℕ, suc, _+_, _-_, _≤_, _<_}
 use native.Mathlib.Omega.{arith}
 use lib.ListN.{length, getD, take, drop, set}
 use Rattle.coxeter.specs.Kinds.{Kind}
-use Rattle.traces.specs.Traces.{Use, lowestUse}
+use Rattle.traces.specs.Traces.{Redex, lowestRedex}
 use Rattle.traces.proofs.Reading.{reading-lower}
 use Rattle.traces.proofs.ReadingSteps.{after-moved, after-dropped}
 use Rattle.traces.proofs.Tracing.{Ready, Carried, Inserted}
@@ -24,18 +24,18 @@ use Rattle.rewriter.proofs.ending.Ends.{endingOf}
 -- ---- the rule that was found
 
 -- the step at the lowest place has the family f, the place p and y first on its right side
-record Found (o : Option Use) (f p y : ℕ) : Type 0 where
-  pub step : Use
+record Found (o : Option Redex) (f p y : ℕ) : Type 0 where
+  pub step : Redex
   pub is : o ≡ some step
   pub family : step .rule .family ≡ f
   pub place : step .place ≡ p
   pub first : getD (step .rule .right) 0 0 ≡ y
 
-found : (o : Option Use) (a : Ending) (f p y : ℕ) → a ≡ endingOf o → a ≡ Rule f p y → Found o f p y
+found : (o : Option Redex) (a : Ending) (f p y : ℕ) → a ≡ endingOf o → a ≡ Rule f p y → Found o f p y
 found none a f p y e z = let c : _≡_ {A = ℕ} 0 1 = cc in absurd (omega arith)
 found (some s) a f p y e z = record { step = s; is = refl; family = (cc); place = (cc); first = (cc) }
 
-not-found : (o : Option Use) (a : Ending) → a ≡ endingOf o → a ≡ Nothing → o ≡ none
+not-found : (o : Option Redex) (a : Ending) → a ≡ endingOf o → a ≡ Nothing → o ≡ none
 not-found none a e z = refl
 not-found (some s) a e z = let c : _≡_ {A = ℕ} 0 1 = cc in absurd (omega arith)
 
@@ -44,20 +44,20 @@ module _ {k : Kind} {n : ℕ} {rest : List ℕ} {s : ℕ} {families places lengt
     (a : Ready k n rest s families places lengths word q) where
   -- ---- no rule
 
-  pub turn-none : (m : Ending) → m ≡ endingOf (lowestUse k n (take (suc q) word)) → m ≡ Nothing
+  pub turn-none : (m : Ending) → m ≡ endingOf (lowestRedex k n (take (suc q) word)) → m ≡ Nothing
       → Inserted k n rest s families places lengths word s families places lengths word (length word)
   turn-none m e z = inserted-end a (not-found _ m e z) (length word) refl
 
   -- the letter stands at the word's front
   turn-front : q ≤ 0 → Inserted k n rest s families places lengths word s families places lengths word (length word)
-  turn-front l = inserted-end a (nowhere (lowestUse k n (take (suc q) word)) refl) (length word) refl
+  turn-front l = inserted-end a (nowhere (lowestRedex k n (take (suc q) word)) refl) (length word) refl
     where
-      nowhere : (o : Option Use) → lowestUse k n (take (suc q) word) ≡ o → o ≡ none
+      nowhere : (o : Option Redex) → lowestRedex k n (take (suc q) word) ≡ o → o ≡ none
       nowhere none e = refl
       nowhere (some u) e = absurd (omega (arith, reading-lower k n (a .rank) word q (a .reading) u e))
 
-  module _ (f p y : ℕ) (m : Ending) (e : m ≡ endingOf (lowestUse k n (take (suc q) word))) (z : m ≡ Rule f p y) where
-    have : Found (lowestUse k n (take (suc q) word)) f p y
+  module _ (f p y : ℕ) (m : Ending) (e : m ≡ endingOf (lowestRedex k n (take (suc q) word))) (z : m ≡ Rule f p y) where
+    have : Found (lowestRedex k n (take (suc q) word)) f p y
     have = found _ m f p y e z
 
     pub turn-place : p < q

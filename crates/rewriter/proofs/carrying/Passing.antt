@@ -18,7 +18,7 @@ use Rattle.rules.specs.Rules.{rewritten, exchanged}
 use Rattle.rules.proofs.ScanRules.{wrongLetter-drop}
 use Rattle.traces.proofs.TwoLetters.{exchanging}
 use Rattle.traces.proofs.Reading.{reading-inside}
-use Rattle.traces.proofs.ReadingSteps.{exchange-use}
+use Rattle.traces.proofs.ReadingSteps.{exchange-redex}
 use Rattle.traces.proofs.Tracing.{stores, Ready, Carried}
 use Rattle.rewriter.proofs.carrying.Noting.{stores-start, stores-suc}
 use Rattle.rewriter.proofs.carrying.Shifting.{put, put-none, put-read, put-exchanged, Exchanging}
@@ -59,7 +59,7 @@ module _ {k : Kind} {n : ℕ} {rest : List ℕ} {s : ℕ} {families places lengt
       → Carried k n rest s families places lengths word s′ families′ places′ lengths′ (set (set word (suc p) (getD word p 0)) p (getD word (suc p) 0)) p
   exchange-step p a s′ families′ places′ lengths′ t i f g m =
       let l = ready-letter a (suc p) (ready-inside a) in
-      carried-step a _ (exchange-use k n (a .rank) word p (a .reading) (l .1) t) s′ families′ places′ lengths′ _
+      carried-step a _ (exchange-redex k n (a .rank) word p (a .reading) (l .1) t) s′ families′ places′ lengths′ _
       (omega arith) i f g m (sym (exchanged-set word p (getD word p 0) (getD word (suc p) 0) (ready-inside a)))
 
   -- the letter x, at the place behind p

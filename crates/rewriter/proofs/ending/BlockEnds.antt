@@ -23,7 +23,7 @@ use Rattle.rules.proofs.Letters.{block-one}
 use Rattle.rules.proofs.BlockWords.{block-short}
 use Rattle.rules.proofs.ScanRules.{wrongLetter-drop}
 use Rattle.rules.proofs.Scan.{nextIndex, fork, familyAt, shownIndex, firstLetter, walk, scan, Along, start, further, scan-block}
-use Rattle.traces.specs.Traces.{lowestUse}
+use Rattle.traces.specs.Traces.{lowestRedex}
 use Rattle.traces.proofs.PartBlocks.{indexBy, part-block}
 use Rattle.traces.proofs.LeftSides.{lower}
 use Rattle.traces.proofs.TwoLetters.{exchanging}
@@ -190,17 +190,17 @@ module _ (k : Kind) (n : ℕ) (h : least k ≤ n) (w : List ℕ) (q : ℕ) (r : 
     told s f = pick (eqb s 0) (pick (eqb f 0) ending.Nothing (ending.Rule f p (firstLetter n f i (shownIndex f (there .0) letter)))) ending.Nothing
 
     by-numbers : (s f : ℕ) → s ≡ nextIndex n (levels k n) (lastIndex k n i) (there .0) letter → f ≡ familyAt n (fork k n) i (there .0) letter
-        → told s f ≡ endingOf (lowestUse k n (take (suc q) w))
+        → told s f ≡ endingOf (lowestRedex k n (take (suc q) w))
     by-numbers s f x y = elim (ℕ-discrete s 0) [ yes z ↦ leaves z | no z ↦ stays z ]
       where
-        stays : (s ≡ 0 → ⊥) → told s f ≡ endingOf (lowestUse k n (take (suc q) w))
+        stays : (s ≡ 0 → ⊥) → told s f ≡ endingOf (lowestRedex k n (take (suc q) w))
         stays z =
             let v = searching-next k n (take (q + 1) w) searchable (levels k n) (lastIndex k n i) p i (there .0) q s refl refl searching long-enough
             (rw last-letter x) z in
             let u = searching-end k n (take (q + 1) w) searchable p i s (q + 1) v (rw (upto-one q w, length-take-le (suc q) w inside) (omega arith)) in
             rw (ne-eqb s 0 z) (ending-none k n h w q r o p b d t _ refl (sym u))
 
-        leaves : s ≡ 0 → told s f ≡ endingOf (lowestUse k n (take (suc q) w))
+        leaves : s ≡ 0 → told s f ≡ endingOf (lowestRedex k n (take (suc q) w))
         leaves z =
             let v =
             rw last-letter at
@@ -214,5 +214,5 @@ module _ (k : Kind) (n : ℕ) (h : least k ≤ n) (w : List ℕ) (q : ℕ) (r : 
             ]
 
     pub ending-block : (v j : ℕ) (a : Ending) → v ≡ lower (getD w (q - 1) 0) (getD w q 0) → j ≡ indexBy k n v (q - p) (getD w (q - 1) 0)
-        → a ≡ blockEnding k n p v j (getD w q 0) → a ≡ endingOf (lowestUse k n (take (suc q) w))
+        → a ≡ blockEnding k n p v j (getD w q 0) → a ≡ endingOf (lowestRedex k n (take (suc q) w))
     ending-block v j a u f g = (rw (index-is v j u f, u) at g) ∙ by-numbers _ _ refl refl

@@ -22,12 +22,12 @@ use Rattle.coxeter.proofs.LetterLaws.{letter-within}
 use Rattle.rules.specs.Rules.{Rule, rules, firstFitting}
 use Rattle.rules.proofs.ScanRules.{wrongLetter-drop}
 use Rattle.rules.proofs.Scan.{nextIndex, fork, familyAt, shownIndex, firstLetter, shownRule}
-use Rattle.traces.specs.Traces.{Use, lowestUse}
+use Rattle.traces.specs.Traces.{Redex, lowestRedex}
 use Rattle.traces.proofs.LeftSides.{lower}
 use Rattle.traces.proofs.Traces.{lowest-some}
 use Rattle.traces.proofs.TwoLetters.{exchanging}
 use Rattle.traces.proofs.Reading.{Reading, reading-inside, reading-lower}
-use Rattle.traces.proofs.ReadingSteps.{Stopped, use-of-fitting, square-use, first-letter, place-rising, place-falling, after-dropped, letters-dropped}
+use Rattle.traces.proofs.ReadingSteps.{Stopped, redex-of-fitting, square-redex, first-letter, place-rising, place-falling, after-dropped, letters-dropped}
 use Rattle.rewriter.specs.declared.search.Fitting.{Fitting}
 use Rattle.rewriter.specs.declared.search.Fitting.the-variants as found
 use Rattle.rewriter.specs.declared.ending.Ending.{Ending}
@@ -104,7 +104,7 @@ module _ (k : Kind) (n p i j x c m s : ℕ) (a : c ≡ levels k n) (b : m ≡ la
     block-has-rule v y o q r = rw (goes-to, eq-eqb s 0 z, family-is, ne-eqb f 0 o, r, q)
 
 -- the rule at the lowest place, as the search hands it on
-abbrev pub endingOf : Option Use → Ending
+abbrev pub endingOf : Option Redex → Ending
 endingOf o = elim o [ none ↦ ending.Nothing | some s ↦ ending.Rule (s .rule .family) (s .place) (getD (s .rule .right) 0 0) ]
 
 -- the letter is not the first
@@ -117,10 +117,10 @@ upto-one q w = let e : q + 1 ≡ suc q = omega arith in rw e
 
 -- none ends with the first letter
 pub ending-front : (k : Kind) (n : ℕ) → least k ≤ n → (w : List ℕ) (q : ℕ) → Reading k n w q → q ≡ 0
-    → ending.Nothing ≡ endingOf (lowestUse k n (take (suc q) w))
-ending-front k n h w q r e = go (lowestUse k n (take (suc q) w)) refl
+    → ending.Nothing ≡ endingOf (lowestRedex k n (take (suc q) w))
+ending-front k n h w q r e = go (lowestRedex k n (take (suc q) w)) refl
   where
-    go : (o : Option Use) → lowestUse k n (take (suc q) w) ≡ o → ending.Nothing ≡ endingOf o
+    go : (o : Option Redex) → lowestRedex k n (take (suc q) w) ≡ o → ending.Nothing ≡ endingOf o
     go none t = refl
     go (some s) t = absurd (omega (arith, reading-lower k n h w q r s t))
 
@@ -143,16 +143,16 @@ module _ (k : Kind) (n : ℕ) (h : least k ≤ n) (w : List ℕ) (q : ℕ) (r : 
   pub inside : q < length w
   inside = reading-inside k n h w q r
 
-  pub ending-square : before ≡ letter → ending.Rule 1 (q - 1) 0 ≡ endingOf (lowestUse k n (take (suc q) w))
+  pub ending-square : before ≡ letter → ending.Rule 1 (q - 1) 0 ≡ endingOf (lowestRedex k n (take (suc q) w))
   ending-square e =
-      let u = square-use k n h w (q - 1) reading (ap (λ (t : ℕ). getD w t 0) (sym back) ∙ sym e) (within (q - 1) (omega (arith, inside))) in
-      sym (ap endingOf (ap (λ (t : ℕ). lowestUse k n (take (suc t) w)) back ∙ u))
+      let u = square-redex k n h w (q - 1) reading (ap (λ (t : ℕ). getD w t 0) (sym back) ∙ sym e) (within (q - 1) (omega (arith, inside))) in
+      sym (ap endingOf (ap (λ (t : ℕ). lowestRedex k n (take (suc t) w)) back ∙ u))
 
   module _ (p : ℕ) (b : Begun w n q p) (d : before ≡ letter → ⊥) (t : exchanging n (levels k n) before letter ≡ false) where
     -- a rule that ends with the letter begins there
-    place-is : (s : Use) → lowestUse k n (take (suc q) w) ≡ some s → s .place ≡ p
+    place-is : (s : Redex) → lowestRedex k n (take (suc q) w) ≡ some s → s .place ≡ p
     place-is s e =
-        let e′ : lowestUse k n (take (suc (suc (q - 1))) w) ≡ some s = ap (λ (i : ℕ). lowestUse k n (take (suc i) w)) (sym back) ∙ e in
+        let e′ : lowestRedex k n (take (suc (suc (q - 1))) w) ≡ some s = ap (λ (i : ℕ). lowestRedex k n (take (suc i) w)) (sym back) ∙ e in
         let x : getD w (suc (q - 1)) 0 ≡ letter = ap (λ (i : ℕ). getD w i 0) (sym back) in
         let f : suc q - 2 * n ≡ suc (suc (q - 1)) - 2 * n = ap (λ (i : ℕ). suc i - 2 * n) back in
         elim (decLe letter before) [
@@ -165,26 +165,26 @@ module _ (k : Kind) (n : ℕ) (h : least k ≤ n) (w : List ℕ) (q : ℕ) (r : 
         ]
 
     -- the letter there is not the lower of the last two
-    pub ending-other : (getD w p 0 ≡ lower before letter → ⊥) → ending.Nothing ≡ endingOf (lowestUse k n (take (suc q) w))
-    ending-other f = go (lowestUse k n (take (suc q) w)) refl
+    pub ending-other : (getD w p 0 ≡ lower before letter → ⊥) → ending.Nothing ≡ endingOf (lowestRedex k n (take (suc q) w))
+    ending-other f = go (lowestRedex k n (take (suc q) w)) refl
       where
-        go : (y : Option Use) → lowestUse k n (take (suc q) w) ≡ y → ending.Nothing ≡ endingOf y
+        go : (y : Option Redex) → lowestRedex k n (take (suc q) w) ≡ y → ending.Nothing ≡ endingOf y
         go none j = refl
         go (some s) j =
-            let e : lowestUse k n (take (suc (suc (q - 1))) w) ≡ some s = ap (λ (i : ℕ). lowestUse k n (take (suc i) w)) (sym back) ∙ j in
+            let e : lowestRedex k n (take (suc (suc (q - 1))) w) ≡ some s = ap (λ (i : ℕ). lowestRedex k n (take (suc i) w)) (sym back) ∙ j in
             let x : getD w (suc (q - 1)) 0 ≡ letter = ap (λ (i : ℕ). getD w i 0) (sym back) in
             absurd (f (ap (λ (i : ℕ). getD w i 0) (sym (place-is s j)) ∙ first-letter k n h w (q - 1) reading s e .0 ∙ ap (lower before) x))
 
     -- a is what the search of one rewrite answers
     module _ (a : Fitting) (e : a ≡ fittingOf (firstFitting (rules k n) (take (q + 1) w) p)) where
-      pub ending-none : a ≡ found.Nothing → ending.Nothing ≡ endingOf (lowestUse k n (take (suc q) w))
-      ending-none z = go (lowestUse k n (take (suc q) w)) refl
+      pub ending-none : a ≡ found.Nothing → ending.Nothing ≡ endingOf (lowestRedex k n (take (suc q) w))
+      ending-none z = go (lowestRedex k n (take (suc q) w)) refl
         where
           nothing : (y : Option Rule) → fittingOf y ≡ found.Nothing → y ≡ none
           nothing none j = refl
           nothing (some x) j = let c : _≡_ {A = ℕ} 0 1 = cc in absurd (omega arith)
 
-          go : (y : Option Use) → lowestUse k n (take (suc q) w) ≡ y → ending.Nothing ≡ endingOf y
+          go : (y : Option Redex) → lowestRedex k n (take (suc q) w) ≡ y → ending.Nothing ≡ endingOf y
           go none j = refl
           go (some s) j =
               absurd (Option·none-ne-some (s .rule)
@@ -195,18 +195,18 @@ module _ (k : Kind) (n : ℕ) (h : least k ≤ n) (w : List ℕ) (q : ℕ) (r : 
         handed : Fitted k n (take (q + 1) w) p f i j l
         handed = fitted k n (take (q + 1) w) p f i j l a h (rw (upto-one q w) (simp length-take (omega (arith, inside, b .0)))) e z
 
-        found-use : lowestUse k n (take (suc q) w) ≡ some (record { place = p; rule = shownRule n f i j (take l (drop p (take (q + 1) w))) })
-        found-use =
-            use-of-fitting k n h w q r p (shownRule n f i j (take l (drop p (take (q + 1) w))))
+        found-redex : lowestRedex k n (take (suc q) w) ≡ some (record { place = p; rule = shownRule n f i j (take l (drop p (take (q + 1) w))) })
+        found-redex =
+            redex-of-fitting k n h w q r p (shownRule n f i j (take l (drop p (take (q + 1) w))))
             (ap (λ (c : List ℕ). firstFitting (rules k n) c p) (sym (upto-one q w)) ∙ handed .fitting)
 
         -- equal letters were told before
         not-square : f ≡ 1 → ⊥
         unfolding shownRule
         not-square c =
-            let g = after-dropped k n h w q r _ found-use c in
-            d (ap (λ (m : ℕ). getD w m 0) (omega (arith, g .0)) ∙ letters-dropped k n h w q r _ found-use c ∙ ap (λ (m : ℕ). getD w m 0) (g .0))
+            let g = after-dropped k n h w q r _ found-redex c in
+            d (ap (λ (m : ℕ). getD w m 0) (omega (arith, g .0)) ∙ letters-dropped k n h w q r _ found-redex c ∙ ap (λ (m : ℕ). getD w m 0) (g .0))
 
-        pub ending-found : (y : ℕ) → y ≡ firstLetter n f i j → ending.Rule f p y ≡ endingOf (lowestUse k n (take (suc q) w))
+        pub ending-found : (y : ℕ) → y ≡ firstLetter n f i j → ending.Rule f p y ≡ endingOf (lowestRedex k n (take (suc q) w))
         unfolding shownRule
-        ending-found y c = sym (ap endingOf found-use ∙ rw (ne-eqb f 1 not-square, c))
+        ending-found y c = sym (ap endingOf found-redex ∙ rw (ne-eqb f 1 not-square, c))
