@@ -12,7 +12,7 @@ use lib.Dec.{eqb}
 use lib.IntN.{ℤ, pos}
 use lib.ListN.{length, length-map}
 use Rattle.coxeter.specs.Kinds.{Kind, A, B, D, pick, lanes, up}
-use Rattle.coxeter.specs.Windows.{from, exchange, negateFirst, exchangeNegate, act, windowFrom, straight, window}
+use Rattle.coxeter.specs.Windows.{from, exchange, negateFirst, exchangeNegate, act, windowFrom, identity, window}
 
 -- ---- tests and cases
 
@@ -88,14 +88,14 @@ unfolding windowFrom
 length-windowFrom k n w [] = refl
 length-windowFrom k n w (s ∷ u) = length-windowFrom k n (act k n s w) u ∙ length-act k n s w
 
-pub length-straight : (m : ℕ) → length (straight m) ≡ m
-unfolding straight
-length-straight m = length-map (up 1 m) pos ∙ length-up 1 m
+pub length-identity : (m : ℕ) → length (identity m) ≡ m
+unfolding identity
+length-identity m = length-map (up 1 m) pos ∙ length-up 1 m
 
 -- a word's window has an entry for each lane
 pub length-window : (k : Kind) (n : ℕ) (u : List ℕ) → length (window k n u) ≡ lanes k n
 unfolding window
-length-window k n u = length-windowFrom k n (straight (lanes k n)) u ∙ length-straight (lanes k n)
+length-window k n u = length-windowFrom k n (identity (lanes k n)) u ∙ length-identity (lanes k n)
 
 -- ---- words
 

@@ -110,11 +110,11 @@ windowFrom-turn D n i c x u w e h q l a =
 -- ---- blocks
 
 -- a block that does not turn
-block-straight : (k : Kind) (n i j : ℕ) → j < lanes k n → block k n i j ≡ span i (suc j)
+block-identity : (k : Kind) (n i j : ℕ) → j < lanes k n → block k n i j ≡ span i (suc j)
 unfolding block
-block-straight A n i j h = rise-span i j
-block-straight B n i j h = block-up B n i j h
-block-straight D n i j h = block-up D n i j h
+block-identity A n i j h = rise-span i j
+block-identity B n i j h = block-up B n i j h
+block-identity D n i j h = block-up D n i j h
 
 pub corner : (k : Kind) (n i : ℕ) → i ≤ levels k n → 1 ≤ i → (c : ℕ) × Corner k n c × (i ≤ c)
 corner A n i l o = (n, refl, l)
@@ -125,7 +125,7 @@ block-positive : (k : Kind) (n i : ℕ) (u v z : List ℤ) → i ≡ suc (length
     → windowFrom k n (u ++ (pos i ∷ (v ++ z))) (block k n i (i + length v - 1)) ≡ u ++ (v ++ (pos i ∷ z))
 block-positive k n i u v z h q =
     let e : suc (i + length v - 1) ≡ i + length v = omega arith in
-    rw (block-straight k n i (i + length v - 1) (omega arith), e) (windowFrom-span k n i (i + length v) u (pos i) v z h refl (omega arith))
+    rw (block-identity k n i (i + length v - 1) (omega arith), e) (windowFrom-span k n i (i + length v) u (pos i) v z h refl (omega arith))
 
 -- no block of A turns
 pub turning : (k : Kind) (n i x : ℕ) → negativeInA k (negsuc x) ≡ false → (lanes k n ≡ n) × (lastIndex k n i ≡ 2 * n - i)

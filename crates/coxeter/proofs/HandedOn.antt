@@ -16,7 +16,7 @@ use lib.ListN.{length, take, drop, length-append, length-reverse}
 use borrow.Author.Tests.{le-ltb}
 use Rattle.coxeter.specs.declared.Answer.the-variants.{Length, Refused}
 use Rattle.coxeter.specs.Kinds.{kindOf, lanes}
-use Rattle.coxeter.specs.Windows.{straight, window, product, inverse}
+use Rattle.coxeter.specs.Windows.{identity, window, product, inverse}
 use Rattle.coxeter.specs.Checks.{check, _then_, tooLong, wrongLetter, wordRefusal, RankOf, WordOf, WindowOf}
 use Rattle.coxeter.specs.NormalForm.{normalForm, wordNormalForm}
 use Rattle.coxeter.specs.Calls.{Yields, writes, windowOfWord, productOfWindows, inverseOfWindow, normalFormOfWindow, normalFormOfWord}
@@ -290,8 +290,8 @@ module _ (k n : ℕ) (w before after : List ℤ) (l : ℕ) (left : Yields (inver
       (inverse-of-window k n (a .0) (inverse w) out (inverse-passes (kindOf k) n w (a .1)) ∙ rw (inverse-inverse (kindOf k) n w (a .1)))
 
   pub inverseOfWindow-then-product : (out : List ℤ)
-      → (productOfWindows k n w (take l after) out ≡ writes 0 (straight (lanes (kindOf k) n)) out)
-      × (productOfWindows k n (take l after) w out ≡ writes 0 (straight (lanes (kindOf k) n)) out)
+      → (productOfWindows k n w (take l after) out ≡ writes 0 (identity (lanes (kindOf k) n)) out)
+      × (productOfWindows k n (take l after) w out ≡ writes 0 (identity (lanes (kindOf k) n)) out)
   inverseOfWindow-then-product out =
       let a = inverseOfWindow-accepted k n w before after l left in
       let b = inverse-passes (kindOf k) n w (a .1) in

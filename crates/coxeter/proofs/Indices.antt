@@ -12,12 +12,12 @@ use lib.IntN.{ℤ, pos, negsuc, natAbs}
 use lib.ListN.{length, take, drop, length-append, length-map, take-append-drop}
 use lib.Seq.{length-take-le}
 use Rattle.coxeter.specs.Kinds.{Kind, A, B, D, lanes, up}
-use Rattle.coxeter.specs.Windows.{windowFrom, straight, window, signed, placeFrom}
+use Rattle.coxeter.specs.Windows.{windowFrom, identity, window, signed, placeFrom}
 use Rattle.coxeter.specs.Length.{negative}
 use Rattle.coxeter.specs.Checks.{hasSize, negativeInA}
 use Rattle.coxeter.specs.NormalForm.{block, levels, lastIndex, blocks, Indices, none, level, without, indexOf, restOf}
 use Rattle.coxeter.proofs.Basics.{length-up, up-append, windowFrom-append}
-use Rattle.coxeter.proofs.Levels.{Accepted, hasSize-below, windowFrom-accepted, straight-accepted}
+use Rattle.coxeter.proofs.Levels.{Accepted, hasSize-below, windowFrom-accepted, identity-accepted}
 use Rattle.coxeter.proofs.Peeling.{Peeled, placeFrom-peeled, restOf-positive, indexOf-positive, indexOf-negative, restOf-peeled}
 use Rattle.coxeter.proofs.Peeling.{length-restOf, restOf-restOf, between-restOf, AtLevel, atLevel-of-accepted, peeled}
 use Rattle.coxeter.proofs.Peeling.{atLevel-rest, atLevel-negativeInA, atLevel-last, levels-le-lanes}
@@ -42,16 +42,16 @@ indices-of-peeled k n t i w c o = ap (indices k n (suc t) i) (c .whole) ∙ indi
 
 -- ---- entries that stand still
 
-straight-cut : (m p q : ℕ) → p + q ≡ m → straight m ≡ map pos (up 1 p) ++ map pos (up (suc p) q)
-unfolding straight
-straight-cut m p q h =
+identity-cut : (m p q : ℕ) → p + q ≡ m → identity m ≡ map pos (up 1 p) ++ map pos (up (suc p) q)
+unfolding identity
+identity-cut m p q h =
     let e : 1 + p ≡ suc p = omega arith in
     rw (← h, up-append 1 p q, e) (map-append pos (up 1 p) (up (suc p) q))
 
 -- one entry more stands still
 still-snoc : (p : ℕ) (w : List ℤ) → map pos (up 1 (suc p)) ++ w ≡ map pos (up 1 p) ++ (pos (suc p) ∷ w)
-unfolding straight up
-still-snoc p w = ap (λ (l : List ℤ). l ++ w) (straight-cut (suc p) p 1 (omega arith)) ∙ append-assoc (map pos (up 1 p)) (pos (suc p) ∷ []) w
+unfolding identity up
+still-snoc p w = ap (λ (l : List ℤ). l ++ w) (identity-cut (suc p) p 1 (omega arith)) ∙ append-assoc (map pos (up 1 p)) (pos (suc p) ∷ []) w
 
 -- what stands behind the entries i, .., j − 1 is at level j
 atLevel-still : (k : Kind) (n i q j : ℕ) (w : List ℤ) → 1 ≤ i → j ≡ i + q → j ≤ suc (levels k n) → AtLevel k n i (map pos (up i q) ++ w) → AtLevel k n j w
@@ -67,30 +67,30 @@ atLevel-still k n i (suc q) j w o e l h =
 -- one block more, of the entry e at the level p + 1
 windowFrom-step : (k : Kind) (n p : ℕ) (js : List ℕ) (u : List ℤ) (e : ℤ) (v : List ℤ) → suc p ≤ levels k n
     → length (u ++ (e ∷ v)) + suc p ≡ suc (lanes k n) → natAbs e ≡ suc p → negativeInA k e ≡ false
-    → windowFrom k n (straight (lanes k n)) (blocks k n (suc (suc p)) js) ≡ map pos (up 1 (suc p)) ++ restOf k e (u ++ v)
-    → windowFrom k n (straight (lanes k n)) (blocks k n (suc p) (indexOf n (signed e (suc p + length u)) ∷ js)) ≡ map pos (up 1 p) ++ (u ++ (e ∷ v))
+    → windowFrom k n (identity (lanes k n)) (blocks k n (suc (suc p)) js) ≡ map pos (up 1 (suc p)) ++ restOf k e (u ++ v)
+    → windowFrom k n (identity (lanes k n)) (blocks k n (suc p) (indexOf n (signed e (suc p + length u)) ∷ js)) ≡ map pos (up 1 p) ++ (u ++ (e ∷ v))
 unfolding blocks
 windowFrom-step k n p js u e v l q s a h =
     let b : List ℕ = block k n (suc p) (indexOf n (signed e (suc p + length u))) in
-    windowFrom-append k n (straight (lanes k n)) (blocks k n (suc (suc p)) js) b
+    windowFrom-append k n (identity (lanes k n)) (blocks k n (suc (suc p)) js) b
     ∙ ap (λ (w : List ℤ). windowFrom k n w b) (h ∙ still-snoc p (restOf k e (u ++ v)))
     ∙ windowFrom-block k n (suc p) (map pos (up 1 p)) u e v (omega (arith, length-map (up 1 p) pos, length-up 1 p)) l q s a
 
 windowFrom-indices : (k : Kind) (n t p : ℕ) (w : List ℤ) → t + suc p ≡ suc (levels k n) → AtLevel k n (suc p) w
-    → windowFrom k n (straight (lanes k n)) (blocks k n (suc p) (indices k n t (suc p) w)) ≡ map pos (up 1 p) ++ w
+    → windowFrom k n (identity (lanes k n)) (blocks k n (suc p) (indices k n t (suc p) w)) ≡ map pos (up 1 p) ++ w
 unfolding indices blocks windowFrom
 windowFrom-indices k n zero p w l h =
-    straight-cut (lanes k n) p (length w) (omega (arith, h .size))
+    identity-cut (lanes k n) p (length w) (omega (arith, h .size))
     ∙ ap (λ (v : List ℤ). map pos (up 1 p) ++ v) (sym (atLevel-last k n (suc p) w (omega arith) h))
 windowFrom-indices k n (suc t) p w l h = go (peeled k n (suc p) w (omega arith) h) (windowFrom-indices k n t (suc p))
   where
     go : Peeled (suc p) w
         → ((v : List ℤ) → t + suc (suc p) ≡ suc (levels k n) → AtLevel k n (suc (suc p)) v
-        → windowFrom k n (straight (lanes k n)) (blocks k n (suc (suc p)) (indices k n t (suc (suc p)) v)) ≡ map pos (up 1 (suc p)) ++ v)
-        → windowFrom k n (straight (lanes k n)) (blocks k n (suc p) (indices k n (suc t) (suc p) w)) ≡ map pos (up 1 p) ++ w
+        → windowFrom k n (identity (lanes k n)) (blocks k n (suc (suc p)) (indices k n t (suc (suc p)) v)) ≡ map pos (up 1 (suc p)) ++ v)
+        → windowFrom k n (identity (lanes k n)) (blocks k n (suc p) (indices k n (suc t) (suc p) w)) ≡ map pos (up 1 p) ++ w
     go c ih =
         let g : AtLevel k n (suc p) (c .left ++ (c .entry ∷ c .right)) = subst (AtLevel k n (suc p)) (c .whole) h in
-        ap (λ (js : List ℕ). windowFrom k n (straight (lanes k n)) (blocks k n (suc p) js)) (indices-of-peeled k n t (suc p) w c (omega arith))
+        ap (λ (js : List ℕ). windowFrom k n (identity (lanes k n)) (blocks k n (suc p) js)) (indices-of-peeled k n t (suc p) w c (omega arith))
         ∙ windowFrom-step k n p (indices k n t (suc (suc p)) (restOf k (c .entry) (c .left ++ c .right))) (c .left) (c .entry) (c .right)
         (omega arith) (g .size) (c .size)
         (atLevel-negativeInA k n (suc p) (c .left) (c .entry) (c .right) g)
@@ -202,7 +202,7 @@ chosen k n p j w a b q =
 -- the blocks of the levels p + 1, .. leave 1, .., p standing still, and peeling gives back their js
 record Shown (k : Kind) (n p : ℕ) (js : List ℕ) : Type 0 where
   entries : List ℤ
-  shows : windowFrom k n (straight (lanes k n)) (blocks k n (suc p) js) ≡ map pos (up 1 p) ++ entries
+  shows : windowFrom k n (identity (lanes k n)) (blocks k n (suc p) js) ≡ map pos (up 1 p) ++ entries
   again : indices k n (length js) (suc p) entries ≡ js
 
 hasSize-left : (s : ℕ) (u v : List ℤ) → hasSize s (u ++ v) ≡ false → hasSize s u ≡ false
@@ -225,7 +225,7 @@ shown-step k n p j js l h a c =
     record {
       entries = u ++ (e ∷ v);
       shows =
-          ap (λ (x : ℕ). windowFrom k n (straight (lanes k n)) (blocks k n (suc p) (x ∷ js))) (sym (c .index))
+          ap (λ (x : ℕ). windowFrom k n (identity (lanes k n)) (blocks k n (suc p) (x ∷ js))) (sym (c .index))
           ∙ windowFrom-step k n p js u e v l size (c .size) (c .sign) (h .shows ∙ ap (λ (w : List ℤ). map pos (up 1 (suc p)) ++ w) (sym (c .rest)));
       again =
           indices-peeled k n (length js) (suc p) u e v (omega arith) (c .size)
@@ -238,7 +238,7 @@ unfolding windowFrom blocks indices
 shown-none k n p h =
     record {
       entries = map pos (up (suc p) (lanes k n - p));
-      shows = straight-cut (lanes k n) p (lanes k n - p) (omega (arith, levels-le-lanes k n));
+      shows = identity-cut (lanes k n) p (lanes k n - p) (omega (arith, levels-le-lanes k n));
       again = refl;
     }
 
@@ -246,7 +246,7 @@ shown-atLevel : (k : Kind) (n p : ℕ) (js : List ℕ) → p ≤ levels k n → 
 shown-atLevel k n p js l h =
     atLevel-still k n 1 p (suc p) (h .entries) (omega arith) (omega arith) (omega arith)
     (atLevel-of-accepted k n (map pos (up 1 p) ++ h .entries)
-    (subst (Accepted k n) (h .shows) (windowFrom-accepted k n (straight (lanes k n)) (blocks k n (suc p) js) (straight-accepted k n))))
+    (subst (Accepted k n) (h .shows) (windowFrom-accepted k n (identity (lanes k n)) (blocks k n (suc p) js) (identity-accepted k n))))
 
 shown : (k : Kind) (n p : ℕ) {js : List ℕ} → Indices k n (suc p) js → Shown k n p js
 shown k n p (none q) = shown-none k n p (omega arith)

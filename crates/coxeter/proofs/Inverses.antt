@@ -13,16 +13,16 @@ use lib.IntN.{ℤ, pos, negsuc, negℤ, natAbs, negℤ-negℤ}
 use lib.ListN.{length, getD, length-map}
 use lib.Seq.{ext-getD}
 use Rattle.coxeter.specs.Kinds.{Kind, A, B, D, lanes, up}
-use Rattle.coxeter.specs.Windows.{act, windowFrom, straight, window, at, product, signed, placeFrom, inverse}
+use Rattle.coxeter.specs.Windows.{act, windowFrom, identity, window, at, product, signed, placeFrom, inverse}
 use Rattle.coxeter.specs.Length.{negatives}
 use Rattle.coxeter.specs.Checks.{hasSize, odd}
-use Rattle.coxeter.proofs.Basics.{length-up, length-straight, windowFrom-append}
+use Rattle.coxeter.proofs.Basics.{length-up, length-identity, windowFrom-append}
 use Rattle.coxeter.proofs.Levels.{Between, Level, Signs, Accepted, level-hasSize, window-accepted}
 use Rattle.coxeter.proofs.Steps.{act-involution}
 use Rattle.coxeter.proofs.Places.{between-mono, between-getD, natAbs-at, at-placeFrom, placeFrom-getD}
 use Rattle.coxeter.proofs.Places.{natAbs-placeFrom, between-map-up, distinct-map-up, negatives-placeFrom}
-use Rattle.coxeter.proofs.Products.{getD-up, getD-map, map-up, getD-straight, length-product}
-use Rattle.coxeter.proofs.Products.{getD-product, product-assoc, product-straight, straight-product, window-append}
+use Rattle.coxeter.proofs.Products.{getD-up, getD-map, map-up, getD-identity, length-product}
+use Rattle.coxeter.proofs.Products.{getD-product, product-assoc, product-identity, identity-product, window-append}
 
 -- ---- elements
 
@@ -38,8 +38,8 @@ getD-inverse w p h =
 
 -- ---- cancelling
 
-pub product-inverse : (k : Kind) (n : ℕ) (w : List ℤ) → Accepted k n w → product w (inverse w) ≡ straight (lanes k n)
-unfolding product inverse straight
+pub product-inverse : (k : Kind) (n : ℕ) (w : List ℤ) → Accepted k n w → product w (inverse w) ≡ identity (lanes k n)
+unfolding product inverse identity
 product-inverse k n w h =
     rw (← h .size)
     (map-map (at w) (placeFrom 1 w) (up 1 (length w))
@@ -51,20 +51,20 @@ at-inverse w (pos zero) j a b h = absurd (omega arith)
 at-inverse w (pos (suc p)) j a b h = getD-inverse w p b ∙ h
 at-inverse w (negsuc p) j a b h = ap negℤ (getD-inverse w p b ∙ h) ∙ negℤ-negℤ (pos j)
 
-inverse-product-level : (w : List ℤ) → Level 1 w → product (inverse w) w ≡ straight (length w)
+inverse-product-level : (w : List ℤ) → Level 1 w → product (inverse w) w ≡ identity (length w)
 inverse-product-level w h =
-    ext-getD (pos 0) (product (inverse w) w) (straight (length w)) (length-product (inverse w) w ∙ sym (length-straight (length w)))
+    ext-getD (pos 0) (product (inverse w) w) (identity (length w)) (length-product (inverse w) w ∙ sym (length-identity (length w)))
     (λ p l. entry p (rw length-product at l))
   where
-    entry : (p : ℕ) → p < length w → getD (product (inverse w) w) p (pos 0) ≡ getD (straight (length w)) p (pos 0)
+    entry : (p : ℕ) → p < length w → getD (product (inverse w) w) p (pos 0) ≡ getD (identity (length w)) p (pos 0)
     entry p l =
         let b : (1 ≤ natAbs (getD w p (pos 0))) × (natAbs (getD w p (pos 0)) < 1 + length w) = between-getD 1 (1 + length w) w p (h .between) l in
         getD-product (inverse w) w p
         ∙ at-inverse w (getD w p (pos 0)) (suc p) (b .0) (omega arith)
         (placeFrom-getD 1 w p (h .distinct) l ∙ ap (signed (getD w p (pos 0))) (omega arith))
-        ∙ sym (getD-straight (length w) p l)
+        ∙ sym (getD-identity (length w) p l)
 
-pub inverse-product : (k : Kind) (n : ℕ) (w : List ℤ) → Accepted k n w → product (inverse w) w ≡ straight (lanes k n)
+pub inverse-product : (k : Kind) (n : ℕ) (w : List ℤ) → Accepted k n w → product (inverse w) w ≡ identity (lanes k n)
 inverse-product k n w h = rw (← h .size) (inverse-product-level w (h .level))
 
 -- ---- acceptance
@@ -106,14 +106,14 @@ accepted-between k n w h =
     let e : length w ≡ lanes k n = h .size in
     between-mono 1 (1 + length w) 0 (suc (lanes k n)) w (omega arith) (omega arith) (h .level .between)
 
-pub inverse-unique : (k : Kind) (n : ℕ) (w v : List ℤ) → Accepted k n w → Accepted k n v → product w v ≡ straight (lanes k n) → v ≡ inverse w
+pub inverse-unique : (k : Kind) (n : ℕ) (w v : List ℤ) → Accepted k n w → Accepted k n v → product w v ≡ identity (lanes k n) → v ≡ inverse w
 inverse-unique k n w v h g e =
-    sym (straight-product (lanes k n) v (accepted-between k n v g))
+    sym (identity-product (lanes k n) v (accepted-between k n v g))
     ∙ ap (λ (l : List ℤ). product l v) (sym (inverse-product k n w h))
     ∙ product-assoc (inverse w) w v
     ∙ ap (product (inverse w)) e
-    ∙ ap (λ (m : ℕ). product (inverse w) (straight m)) (sym (length-inverse w ∙ h .size))
-    ∙ product-straight (inverse w)
+    ∙ ap (λ (m : ℕ). product (inverse w) (identity m)) (sym (length-inverse w ∙ h .size))
+    ∙ product-identity (inverse w)
 
 pub inverse-inverse : (k : Kind) (n : ℕ) (w : List ℤ) → Accepted k n w → inverse (inverse w) ≡ w
 inverse-inverse k n w h = sym (inverse-unique k n (inverse w) w (inverse-accepted k n w h) h (inverse-product k n w h))
@@ -133,4 +133,4 @@ windowFrom-reverse k n w (s ∷ u) =
 pub window-reverse : (k : Kind) (n : ℕ) (u : List ℕ) → window k n (reverse u) ≡ inverse (window k n u)
 window-reverse k n u =
     inverse-unique k n (window k n u) (window k n (reverse u)) (window-accepted k n u) (window-accepted k n (reverse u))
-    (sym (window-append k n u (reverse u)) ∙ unfold window in windowFrom-reverse k n (straight (lanes k n)) u)
+    (sym (window-append k n u (reverse u)) ∙ unfold window in windowFrom-reverse k n (identity (lanes k n)) u)

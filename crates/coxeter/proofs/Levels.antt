@@ -12,11 +12,11 @@ use lib.IntN.{ℤ, pos, negℤ, natAbs}
 use lib.ListN.{length}
 use borrow.Author.Tests.{eqb-true, eqb-false, eq-eqb, ne-eqb, ltb-false, le-ltb, not-false}
 use Rattle.coxeter.specs.Kinds.{Kind, A, B, D, pick, lanes, up}
-use Rattle.coxeter.specs.Windows.{from, exchange, negateFirst, exchangeNegate, act, windowFrom, straight, window}
+use Rattle.coxeter.specs.Windows.{from, exchange, negateFirst, exchangeNegate, act, windowFrom, identity, window}
 use Rattle.coxeter.specs.Length.{negatives}
 use Rattle.coxeter.specs.Checks.{check, _then_, hasSize, wrongLanes, wrongAt, wrongEntry, odd, oddNegatives, windowRefusal, WindowOf}
 use Rattle.coxeter.specs.NormalForm.{without}
-use Rattle.coxeter.proofs.Basics.{length-straight, by-pick}
+use Rattle.coxeter.proofs.Basics.{length-identity, by-pick}
 use Rattle.coxeter.proofs.Sizes.{or-left-comm, hasSize-without, length-le-without, wrongEntry-cons, hasSize-head}
 use Rattle.coxeter.proofs.Sizes.{hasSize-tail, PositiveInA, positiveInA-nil, positiveInA-cons, positiveInA-head}
 use Rattle.coxeter.proofs.Sizes.{positiveInA-tail, natAbs-negℤ, negatives-from-exchange, odd-from-exchangeNegate, negatives-map-pos}
@@ -262,14 +262,14 @@ signs-of-negatives A w h = h
 signs-of-negatives B w h = tt
 signs-of-negatives D w h = rw h
 
-pub straight-accepted : (k : Kind) (n : ℕ) → Accepted k n (straight (lanes k n))
-unfolding straight
-straight-accepted k n =
+pub identity-accepted : (k : Kind) (n : ℕ) → Accepted k n (identity (lanes k n))
+unfolding identity
+identity-accepted k n =
     let m : ℕ = lanes k n in
     record {
-      size = length-straight m;
-      level = record { between = between-up 1 1 m (1 + length (straight m)) (omega arith) (omega (arith, length-straight m)); distinct = distinct-up 1 m };
-      signs = signs-of-negatives k (straight m) (negatives-map-pos (up 1 m));
+      size = length-identity m;
+      level = record { between = between-up 1 1 m (1 + length (identity m)) (omega arith) (omega (arith, length-identity m)); distinct = distinct-up 1 m };
+      signs = signs-of-negatives k (identity m) (negatives-map-pos (up 1 m));
     }
 
 signs-act : (k : Kind) (n s c : ℕ) (w : List ℤ) → Between 1 c w → Signs k w → Signs k (act k n s w)
@@ -297,4 +297,4 @@ windowFrom-accepted k n w (s ∷ u) h = windowFrom-accepted k n (act k n s w) u 
 -- a word's window passes checks 9 to 11
 pub window-accepted : (k : Kind) (n : ℕ) (u : List ℕ) → Accepted k n (window k n u)
 unfolding window
-window-accepted k n u = windowFrom-accepted k n (straight (lanes k n)) u (straight-accepted k n)
+window-accepted k n u = windowFrom-accepted k n (identity (lanes k n)) u (identity-accepted k n)

@@ -12,7 +12,7 @@ use native.Mathlib.Omega.{arith}
 use lib.IntN.{ℤ, pos}
 use borrow.Author.Tests.{eq-eqb}
 use Rattle.coxeter.specs.Kinds.{Kind, A, B, D, lanes, up}
-use Rattle.coxeter.specs.Windows.{straight, window, placeFrom, signed}
+use Rattle.coxeter.specs.Windows.{identity, window, placeFrom, signed}
 use Rattle.coxeter.specs.Checks.{wrongLetter}
 use Rattle.coxeter.specs.NormalForm.{down, block, levels, lastIndex, blocks, Indices, none, level, without, indexOf, restOf, normalFrom, normalForm}
 use Rattle.coxeter.proofs.Relations.{wrongLetter-append, wrongLetter-cons}
@@ -106,17 +106,17 @@ normalForm-letters k n w h = rw normalForm-is-blocks (wrongLetter-blocks k n (om
 
 -- ---- the straight window
 
-normalFrom-straight : (k : Kind) (n t i c : ℕ) → 1 ≤ i → t ≤ c → t + i ≤ suc n → normalFrom k n t i (map pos (up i c)) ≡ []
+normalFrom-identity : (k : Kind) (n t i c : ℕ) → 1 ≤ i → t ≤ c → t + i ≤ suc n → normalFrom k n t i (map pos (up i c)) ≡ []
 unfolding normalFrom up placeFrom without signed indexOf
-normalFrom-straight k n zero i c o l h = refl
-normalFrom-straight k n (suc t) i zero o l h = absurd (omega arith)
-normalFrom-straight k n (suc t) i (suc c) o l h =
+normalFrom-identity k n zero i c o l h = refl
+normalFrom-identity k n (suc t) i zero o l h = absurd (omega arith)
+normalFrom-identity k n (suc t) i (suc c) o l h =
     let b : block k n i (i - 1) ≡ [] = block-up k n i (i - 1) (omega arith) ∙ span-nil i (suc (i - 1)) (omega arith) in
-    rw (eq-eqb i i refl, restOf-positive k i (map pos (up (suc i) c)), b, normalFrom-straight k n t (suc i) c (omega arith) (omega arith) (omega arith))
+    rw (eq-eqb i i refl, restOf-positive k i (map pos (up (suc i) c)), b, normalFrom-identity k n t (suc i) c (omega arith) (omega arith) (omega arith))
 
-pub normalForm-straight : (k : Kind) (n : ℕ) → normalForm k n (straight (lanes k n)) ≡ []
-unfolding normalForm straight
-normalForm-straight k n = normalFrom-straight k n (levels k n) 1 (lanes k n) (omega arith) (levels-le-lanes k n) (within k)
+pub normalForm-identity : (k : Kind) (n : ℕ) → normalForm k n (identity (lanes k n)) ≡ []
+unfolding normalForm identity
+normalForm-identity k n = normalFrom-identity k n (levels k n) 1 (lanes k n) (omega arith) (levels-le-lanes k n) (within k)
   where
     within : (k : Kind) → levels k n + 1 ≤ suc n
     within A = omega arith

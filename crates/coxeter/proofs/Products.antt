@@ -14,8 +14,8 @@ use lib.IntN.{ℤ, pos, negsuc, negℤ, natAbs, negℤ-negℤ}
 use lib.ListN.{length, getD, length-map, List·getD-map}
 use lib.Seq.{ext-getD}
 use Rattle.coxeter.specs.Kinds.{Kind, A, B, D, lanes, up}
-use Rattle.coxeter.specs.Windows.{from, exchange, negateFirst, exchangeNegate, act, windowFrom, straight, window, at, product}
-use Rattle.coxeter.proofs.Basics.{length-straight, length-window, windowFrom-append, by-pick}
+use Rattle.coxeter.specs.Windows.{from, exchange, negateFirst, exchangeNegate, act, windowFrom, identity, window, at, product}
+use Rattle.coxeter.proofs.Basics.{length-identity, length-window, windowFrom-append, by-pick}
 use Rattle.coxeter.proofs.Levels.{Between}
 
 -- ---- elements of lists
@@ -37,9 +37,9 @@ unfolding up
 map-up f g i zero h = refl
 map-up f g i (suc k) h = ap₂ _∷_ (h i (omega arith) (omega arith)) (map-up f g (suc i) k (λ j a b. h j (omega arith) (omega arith)))
 
-pub getD-straight : (m p : ℕ) → p < m → getD (straight m) p (pos 0) ≡ pos (suc p)
-unfolding straight
-getD-straight m p h = List·getD-map pos (up 1 m) p 0 ∙ ap pos (getD-up 1 m p 0 h ∙ omega arith)
+pub getD-identity : (m p : ℕ) → p < m → getD (identity m) p (pos 0) ≡ pos (suc p)
+unfolding identity
+getD-identity m p h = List·getD-map pos (up 1 m) p 0 ∙ ap pos (getD-up 1 m p 0 h ∙ omega arith)
 
 pub length-product : (u v : List ℤ) → length (product u v) ≡ length v
 unfolding product
@@ -70,23 +70,23 @@ product-assoc u v (x ∷ w) = ap₂ _∷_ (at-product u v x) (product-assoc u v 
 
 -- ---- units
 
-pub product-straight : (w : List ℤ) → product w (straight (length w)) ≡ w
+pub product-identity : (w : List ℤ) → product w (identity (length w)) ≡ w
 unfolding at
-product-straight w =
-    ext-getD (pos 0) (product w (straight (length w))) w (length-product w (straight (length w)) ∙ length-straight (length w))
-    (λ p h. getD-product w (straight (length w)) p ∙ ap (at w) (getD-straight (length w) p (rw (length-product, length-straight) at h)))
+product-identity w =
+    ext-getD (pos 0) (product w (identity (length w))) w (length-product w (identity (length w)) ∙ length-identity (length w))
+    (λ p h. getD-product w (identity (length w)) p ∙ ap (at w) (getD-identity (length w) p (rw (length-product, length-identity) at h)))
 
-at-straight : (m : ℕ) (x : ℤ) → natAbs x ≤ m → at (straight m) x ≡ x
+at-identity : (m : ℕ) (x : ℤ) → natAbs x ≤ m → at (identity m) x ≡ x
 unfolding at
-at-straight m (pos zero) h = refl
-at-straight m (pos (suc p)) h = getD-straight m p h
-at-straight m (negsuc p) h = ap negℤ (getD-straight m p h)
+at-identity m (pos zero) h = refl
+at-identity m (pos (suc p)) h = getD-identity m p h
+at-identity m (negsuc p) h = ap negℤ (getD-identity m p h)
 
 -- entries of size at most m stay
-pub straight-product : (m : ℕ) (w : List ℤ) → Between 0 (suc m) w → product (straight m) w ≡ w
+pub identity-product : (m : ℕ) (w : List ℤ) → Between 0 (suc m) w → product (identity m) w ≡ w
 unfolding product
-straight-product m [] h = refl
-straight-product m (e ∷ w) h = ap₂ _∷_ (at-straight m e (omega arith)) (straight-product m w (h .2))
+identity-product m [] h = refl
+identity-product m (e ∷ w) h = ap₂ _∷_ (at-identity m e (omega arith)) (identity-product m w (h .2))
 
 -- ---- steps and words
 
@@ -138,10 +138,10 @@ product-windowFrom k n w x (s ∷ u) = product-windowFrom k n w (act k n s x) u 
 pub windowFrom-product : (k : Kind) (n : ℕ) (w : List ℤ) (u : List ℕ) → length w ≡ lanes k n → windowFrom k n w u ≡ product w (window k n u)
 unfolding window
 windowFrom-product k n w u h =
-    sym (product-windowFrom k n w (straight (lanes k n)) u
-    ∙ ap (λ (l : List ℤ). windowFrom k n l u) (ap (λ (m : ℕ). product w (straight m)) (sym h) ∙ product-straight w))
+    sym (product-windowFrom k n w (identity (lanes k n)) u
+    ∙ ap (λ (l : List ℤ). windowFrom k n l u) (ap (λ (m : ℕ). product w (identity m)) (sym h) ∙ product-identity w))
 
 -- the window of a joined word is the product of the parts' windows
 pub window-append : (k : Kind) (n : ℕ) (u v : List ℕ) → window k n (u ++ v) ≡ product (window k n u) (window k n v)
 unfolding window
-window-append k n u v = windowFrom-append k n (straight (lanes k n)) u v ∙ windowFrom-product k n (window k n u) v (length-window k n u)
+window-append k n u v = windowFrom-append k n (identity (lanes k n)) u v ∙ windowFrom-product k n (window k n u) v (length-window k n u)

@@ -14,10 +14,10 @@ use native.Mathlib.Omega.{arith}
 use lib.IntN.{ℤ, pos, negsuc, negℤ}
 use lib.ListN.{length, getD}
 use Rattle.coxeter.specs.Kinds.{Kind, A, B, D, lanes}
-use Rattle.coxeter.specs.Windows.{act, windowFrom, straight, window}
+use Rattle.coxeter.specs.Windows.{act, windowFrom, identity, window}
 use Rattle.coxeter.specs.Relations.{Neighbours, FourfoldPair, Commuting, threefold, fourfold, commute, Relation, twice, braid}
-use Rattle.coxeter.proofs.Basics.{length-act, length-straight}
-use Rattle.coxeter.proofs.Products.{getD-straight}
+use Rattle.coxeter.proofs.Basics.{length-act, length-identity}
+use Rattle.coxeter.proofs.Products.{getD-identity}
 use Rattle.coxeter.proofs.Congruence.{congruent-one}
 use Rattle.coxeter.proofs.Relations.{congruent-window}
 use Rattle.coxeter.proofs.WindowEntries.{step-exchanges, last-step-in-B, last-step-in-D}
@@ -37,12 +37,12 @@ module _ (k : Kind) (n p b : ℕ) (h : suc p < lanes k n)
     (low : (w : List ℤ) → length w ≡ lanes k n → getD (act k n b w) p (pos 0) ≡ getD w p (pos 0)) where
   -- if they commute, b leaves position p + 1 of the straight window alone too
   two-alike : window k n (suc p ∷ b ∷ []) ≡ window k n (b ∷ suc p ∷ [])
-      → pos (suc (suc p)) ≡ getD (act k n b (straight (lanes k n))) (suc p) (pos 0)
+      → pos (suc (suc p)) ≡ getD (act k n b (identity (lanes k n))) (suc p) (pos 0)
   unfolding window windowFrom
   two-alike e =
-      let s = straight (lanes k n) in
-      let g = length-straight (lanes k n) in
-      sym (low (act k n (suc p) s) (length-act k n (suc p) s ∙ g) ∙ exchanged k n p s h g .0 ∙ getD-straight (lanes k n) (suc p) h)
+      let s = identity (lanes k n) in
+      let g = length-identity (lanes k n) in
+      sym (low (act k n (suc p) s) (length-act k n (suc p) s ∙ g) ∙ exchanged k n p s h g .0 ∙ getD-identity (lanes k n) (suc p) h)
       ∙ ap (λ (w : List ℤ). getD w p (pos 0)) e
       ∙ exchanged k n p (act k n b s) h (length-act k n b s ∙ g) .0
 
@@ -52,8 +52,8 @@ differ-exchanges : (k : Kind) (n p : ℕ) → suc (suc p) < lanes k n
 differ-exchanges k n p h e =
     let z : pos (suc (suc p)) ≡ pos (suc (suc (suc p))) =
     two-alike k n p (suc (suc p)) (omega arith) (λ w g. exchanged k n (suc p) w h g .2 p (λ q. omega arith) (λ q. omega arith)) e
-    ∙ exchanged k n (suc p) (straight (lanes k n)) h (length-straight (lanes k n)) .0
-    ∙ getD-straight (lanes k n) (suc (suc p)) h in
+    ∙ exchanged k n (suc p) (identity (lanes k n)) h (length-identity (lanes k n)) .0
+    ∙ getD-identity (lanes k n) (suc (suc p)) h in
     let q : suc (suc p) ≡ suc (suc (suc p)) = cc in
     omega arith
 
@@ -71,8 +71,8 @@ differ-last-D p e =
     let n : ℕ = suc (suc (suc p)) in
     let z : pos (suc (suc p)) ≡ negsuc (suc (suc p)) =
     two-alike D n p n (omega arith) (λ w g. lastD p w g .1) e
-    ∙ lastD p (straight n) (length-straight n) .0
-    ∙ ap negℤ (getD-straight n (suc (suc p)) (omega arith)) in
+    ∙ lastD p (identity n) (length-identity n) .0
+    ∙ ap negℤ (getD-identity n (suc (suc p)) (omega arith)) in
     let q : _≡_ {A = ℕ} 0 1 = cc in
     omega arith
 
@@ -89,8 +89,8 @@ differ-last-B p e =
     let n : ℕ = suc (suc p) in
     let z : pos (suc (suc p)) ≡ negsuc (suc p) =
     two-alike B n p n (omega arith) (λ w g. lastB p w g .1) e
-    ∙ lastB p (straight n) (length-straight n) .0
-    ∙ ap negℤ (getD-straight n (suc p) (omega arith)) in
+    ∙ lastB p (identity n) (length-identity n) .0
+    ∙ ap negℤ (getD-identity n (suc p) (omega arith)) in
     let q : _≡_ {A = ℕ} 0 1 = cc in
     omega arith
 
@@ -98,8 +98,8 @@ differ-three-B : (p : ℕ) → let n : ℕ = suc (suc p) in window B n (suc p �
 unfolding window windowFrom
 differ-three-B p e =
     let n : ℕ = suc (suc p) in
-    let s = straight n in
-    let g = length-straight n in
+    let s = identity n in
+    let g = length-identity n in
     let sa : List ℤ = act B n (suc p) s in
     let sb : List ℤ = act B n n s in
     let ga : length sa ≡ n = length-act B n (suc p) s ∙ g in
@@ -107,12 +107,12 @@ differ-three-B p e =
     let first : getD (act B n (suc p) (act B n n sa)) p (pos 0) ≡ negsuc p =
     exchanged B n p (act B n n sa) (omega arith) (length-act B n n sa ∙ ga) .0
     ∙ lastB p sa ga .0
-    ∙ ap negℤ (exchanged B n p s (omega arith) g .1 ∙ getD-straight n p (omega arith)) in
+    ∙ ap negℤ (exchanged B n p s (omega arith) g .1 ∙ getD-identity n p (omega arith)) in
     let second : getD (act B n n (act B n (suc p) sb)) p (pos 0) ≡ negsuc (suc p) =
     lastB p (act B n (suc p) sb) (length-act B n (suc p) sb ∙ gb) .1
     ∙ exchanged B n p sb (omega arith) gb .0
     ∙ lastB p s g .0
-    ∙ ap negℤ (getD-straight n (suc p) (omega arith)) in
+    ∙ ap negℤ (getD-identity n (suc p) (omega arith)) in
     let z : negsuc p ≡ negsuc (suc p) = sym first ∙ ap (λ (w : List ℤ). getD w p (pos 0)) e ∙ second in
     let q : p ≡ suc p = cc in
     omega arith

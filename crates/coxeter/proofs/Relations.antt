@@ -16,11 +16,11 @@ use lib.IntN.{ℤ}
 use lib.ListN.{length, length-append}
 use borrow.Author.Tests.{le-ltb, ne-eqb}
 use Rattle.coxeter.specs.Kinds.{Kind, A, B, D, lanes}
-use Rattle.coxeter.specs.Windows.{exchange, negateFirst, exchangeNegate, act, windowFrom, straight, window}
+use Rattle.coxeter.specs.Windows.{exchange, negateFirst, exchangeNegate, act, windowFrom, identity, window}
 use Rattle.coxeter.specs.Relations.{Neighbours, FourfoldPair, Commuting, Braid, threefold, fourfold, commute}
 use Rattle.coxeter.specs.Relations.{Relation, twice, braid, Application, forth, back, Congruent}
 use Rattle.coxeter.specs.Checks.{wrongLetter}
-use Rattle.coxeter.proofs.Basics.{windowFrom-append, length-windowFrom, length-straight}
+use Rattle.coxeter.proofs.Basics.{windowFrom-append, length-windowFrom, length-identity}
 use Rattle.coxeter.proofs.Congruence.{congruent-keeps}
 use Rattle.coxeter.proofs.Steps.{from-commute, from-exchange-exchangeNegate, from-exchange-threefold}
 use Rattle.coxeter.proofs.Steps.{from-exchangeNegate-threefold, from-negateFirst-fourfold, act-exchange}
@@ -148,7 +148,7 @@ congruent-windowFrom k n c w e = congruent-keeps (windowFrom k n w) (λ u v s. a
 -- congruent words have one window
 pub congruent-window : (k : Kind) (n : ℕ) {u v : List ℕ} → Congruent (Relation k n) u v → window k n u ≡ window k n v
 unfolding window
-congruent-window k n c = congruent-windowFrom k n c (straight (lanes k n)) (length-straight (lanes k n))
+congruent-window k n c = congruent-windowFrom k n c (identity (lanes k n)) (length-identity (lanes k n))
 
 -- ---- lengths
 

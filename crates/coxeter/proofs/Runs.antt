@@ -132,10 +132,10 @@ block-turn A n i j c d e h g l q o =
     let a : suc j ≡ suc c = omega arith in
     let b : slide (suc n) d ≡ c ∷ [] = onlyTop n c d (omega arith) (omega arith) in
     rise-span i j ∙ ap (span i) a ∙ span-snoc i c h ∙ sym (ap (λ (l : List ℕ). span i c ++ l) b)
-block-turn B n i j c d e h g l q o = elim (decLe j n) [ yes t ↦ straight t | no t ↦ turned (lt-of-not-le t) ]
+block-turn B n i j c d e h g l q o = elim (decLe j n) [ yes t ↦ identity t | no t ↦ turned (lt-of-not-le t) ]
   where
-    straight : j ≤ n → pick (leb j n) (rise i j) (rise i n ++ fall (n - 1) (2 * n - j)) ≡ span i c ++ slide (suc n) d
-    straight t =
+    identity : j ≤ n → pick (leb j n) (rise i j) (rise i n ++ fall (n - 1) (2 * n - j)) ≡ span i c ++ slide (suc n) d
+    identity t =
         let a : suc j ≡ suc c = omega arith in
         rw (le-leb j n t)
         (rise-span i j ∙ ap (span i) a ∙ span-snoc i c h

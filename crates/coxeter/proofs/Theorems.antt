@@ -18,7 +18,7 @@ use lib.ListN.{length}
 use borrow.Author.Tests.{eq-eqb, le-ltb}
 use Rattle.coxeter.specs.declared.Verdict.the-variants as verdict
 use Rattle.coxeter.specs.Kinds.{Kind, B, pick, kindOf, lanes, least}
-use Rattle.coxeter.specs.Windows.{act, straight, window, product, inverse}
+use Rattle.coxeter.specs.Windows.{act, identity, window, product, inverse}
 use Rattle.coxeter.specs.Length.{windowLength, greatestLength}
 use Rattle.coxeter.specs.Dictionary.{shortlex}
 use Rattle.coxeter.specs.Checks.{tooLong, wrongLetter, rankRefusal, wordRefusal, RankOf, WordOf, WindowOf}
@@ -27,7 +27,7 @@ use Rattle.coxeter.specs.Calls.{verdictOf, sameWindow, samePresets, pres
 use Rattle.coxeter.proofs.Levels.{Accepted, accepted-of-refusal, refusal-of-accepted, act-accepted, window-accepted}
 use Rattle.coxeter.proofs.Basics.{length-window}
 use Rattle.coxeter.proofs.Order.{shortlex-irrefl, shortlex-total, shortlex-asymm, sameWindow-true, sameWindow-of-eq}
-use Rattle.coxeter.proofs.Products.{product-straight, straight-product, window-append}
+use Rattle.coxeter.proofs.Products.{product-identity, identity-product, window-append}
 use Rattle.coxeter.proofs.Inverses as inverses
 use Rattle.coxeter.proofs.Indices.{indices, indices-in-range, indices-window}
 use Rattle.coxeter.proofs.NormalForms as forms
@@ -50,18 +50,18 @@ module _ (k : Kind) (n : ℕ) (w : List ℤ) (h : WindowOf k n w) where
   passed : Accepted k n w
   passed = accepted-of-refusal k n w h
 
-  pub product-unit : product w (straight (lanes k n)) ≡ w
-  product-unit = ap (λ (m : ℕ). product w (straight m)) (sym (passed .size)) ∙ product-straight w
+  pub product-unit : product w (identity (lanes k n)) ≡ w
+  product-unit = ap (λ (m : ℕ). product w (identity m)) (sym (passed .size)) ∙ product-identity w
 
-  pub unit-product : product (straight (lanes k n)) w ≡ w
-  unit-product = straight-product (lanes k n) w (inverses.accepted-between k n w passed)
+  pub unit-product : product (identity (lanes k n)) w ≡ w
+  unit-product = identity-product (lanes k n) w (inverses.accepted-between k n w passed)
 
   -- ---- inverses
 
-  pub product-inverse : product w (inverse w) ≡ straight (lanes k n)
+  pub product-inverse : product w (inverse w) ≡ identity (lanes k n)
   product-inverse = inverses.product-inverse k n w passed
 
-  pub inverse-product : product (inverse w) w ≡ straight (lanes k n)
+  pub inverse-product : product (inverse w) w ≡ identity (lanes k n)
   inverse-product = inverses.inverse-product k n w passed
 
   pub inverse-inverse : inverse (inverse w) ≡ w

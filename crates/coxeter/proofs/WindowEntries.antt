@@ -17,14 +17,14 @@ use lib.ListN.{length, getD, set, length-set, length-map, List·getD-eq-default}
 use lib.Seq.{getD-set-same, getD-set-other}
 use borrow.Author.Tests.{lt-ltb, le-ltb}
 use Rattle.coxeter.specs.Kinds.{Kind, B, D, pick, lanes, up}
-use Rattle.coxeter.specs.Windows.{from, exchange, negateFirst, exchangeNegate, act, windowFrom, straight, window, at, product, inverse}
+use Rattle.coxeter.specs.Windows.{from, exchange, negateFirst, exchangeNegate, act, windowFrom, identity, window, at, product, inverse}
 use Rattle.coxeter.specs.Length.{later}
 use Rattle.coxeter.specs.Checks.{WindowOf}
-use Rattle.coxeter.proofs.Basics.{length-up, length-straight, windowFrom-append}
+use Rattle.coxeter.proofs.Basics.{length-up, length-identity, windowFrom-append}
 use Rattle.coxeter.proofs.Levels.{Between, Accepted, accepted-of-refusal}
 use Rattle.coxeter.proofs.Steps.{act-exchange, act-B-last, act-D-last}
-use Rattle.coxeter.proofs.Products.{getD-up, getD-map, getD-straight, length-product, getD-product, at-negate, product-assoc}
-use Rattle.coxeter.proofs.Products.{product-straight, straight-product}
+use Rattle.coxeter.proofs.Products.{getD-up, getD-map, getD-identity, length-product, getD-product, at-negate, product-assoc}
+use Rattle.coxeter.proofs.Products.{product-identity, identity-product}
 use Rattle.coxeter.proofs.Inverses as inverses
 
 -- ---- steps
@@ -102,8 +102,8 @@ last-step-in-D (suc (suc p)) w o h =
 -- ---- words
 
 -- W3: the straight window of m lanes has m entries, and its entry on lane i is i
-pub straight-entries : (m : ℕ) → (length (straight m) ≡ m) × ((i : ℕ) → i < m → getD (straight m) i (pos 0) ≡ pos (i + 1))
-straight-entries m = (length-straight m, λ i h. rw add-one (getD-straight m i h))
+pub identity-entries : (m : ℕ) → (length (identity m) ≡ m) × ((i : ℕ) → i < m → getD (identity m) i (pos 0) ≡ pos (i + 1))
+identity-entries m = (length-identity m, λ i h. rw add-one (getD-identity m i h))
 
 -- W1, A2: from any window on, the empty word changes nothing, and one letter more at the end is one step more
 pub windowFrom-letter-by-letter : (k : Kind) (n : ℕ) (w : List ℤ) → (windowFrom k n w [] ≡ w)
@@ -113,10 +113,10 @@ windowFrom-letter-by-letter k n w = (refl, λ u s. windowFrom-append k n w u (s 
 
 -- W4, W6: the empty word has the straight window, and one letter more at the end is one step more, however long the
 -- word is
-pub window-letter-by-letter : (k : Kind) (n : ℕ) → (window k n [] ≡ straight (lanes k n))
+pub window-letter-by-letter : (k : Kind) (n : ℕ) → (window k n [] ≡ identity (lanes k n))
     × ((u : List ℕ) (s : ℕ) → window k n (u ++ (s ∷ [])) ≡ act k n s (window k n u))
 unfolding window
-window-letter-by-letter k n = windowFrom-letter-by-letter k n (straight (lanes k n))
+window-letter-by-letter k n = windowFrom-letter-by-letter k n (identity (lanes k n))
 
 -- ---- products
 
@@ -162,36 +162,36 @@ module _ (k : Kind) (n : ℕ) (w : List ℤ) (h : WindowOf k n w) (v : List ℤ)
   passed = accepted-of-refusal k n w h
 
   -- W9: of all lists v, the inverse of the window w is the only one whose product w v is the straight window
-  pub right-inverse-exactly : (v ≡ inverse w) ↔ (product w v ≡ straight (lanes k n))
+  pub right-inverse-exactly : (v ≡ inverse w) ↔ (product w v ≡ identity (lanes k n))
   right-inverse-exactly = (λ e. ap (product w) e ∙ inverses.product-inverse k n w passed, only)
     where
-      inside : product w v ≡ straight (lanes k n) → (i : ℕ) → i < length v → natAbs (getD v i (pos 0)) ≤ lanes k n
+      inside : product w v ≡ identity (lanes k n) → (i : ℕ) → i < length v → natAbs (getD v i (pos 0)) ≤ lanes k n
       inside e i l =
-          let s : length v ≡ lanes k n = sym (length-product w v) ∙ ap length e ∙ length-straight (lanes k n) in
+          let s : length v ≡ lanes k n = sym (length-product w v) ∙ ap length e ∙ length-identity (lanes k n) in
           rw (← passed .size)
           (at-inside w (getD v i (pos 0)) i
-          (sym (getD-product w v i) ∙ ap (λ (x : List ℤ). getD x i (pos 0)) e ∙ getD-straight (lanes k n) i (omega arith)))
+          (sym (getD-product w v i) ∙ ap (λ (x : List ℤ). getD x i (pos 0)) e ∙ getD-identity (lanes k n) i (omega arith)))
 
-      only : product w v ≡ straight (lanes k n) → v ≡ inverse w
+      only : product w v ≡ identity (lanes k n) → v ≡ inverse w
       only e =
-          sym (straight-product (lanes k n) v (between-entries (lanes k n) v (inside e)))
+          sym (identity-product (lanes k n) v (between-entries (lanes k n) v (inside e)))
           ∙ ap (λ (l : List ℤ). product l v) (sym (inverses.inverse-product k n w passed))
           ∙ product-assoc (inverse w) w v
           ∙ ap (product (inverse w)) e
-          ∙ ap (λ (c : ℕ). product (inverse w) (straight c)) (sym (inverses.length-inverse w ∙ passed .size))
-          ∙ product-straight (inverse w)
+          ∙ ap (λ (c : ℕ). product (inverse w) (identity c)) (sym (inverses.length-inverse w ∙ passed .size))
+          ∙ product-identity (inverse w)
 
   -- W9: of all lists v with an entry for each lane, it is the only one whose product v w is the straight window
-  pub left-inverse-exactly : (v ≡ inverse w) ↔ ((length v ≡ lanes k n) × (product v w ≡ straight (lanes k n)))
+  pub left-inverse-exactly : (v ≡ inverse w) ↔ ((length v ≡ lanes k n) × (product v w ≡ identity (lanes k n)))
   left-inverse-exactly = (
     λ e. rw e (inverses.length-inverse w ∙ passed .size, inverses.inverse-product k n w passed),
     λ a.
-        sym (product-straight v)
-        ∙ ap (λ (c : ℕ). product v (straight c)) (a .0)
+        sym (product-identity v)
+        ∙ ap (λ (c : ℕ). product v (identity c)) (a .0)
         ∙ ap (product v) (sym (inverses.product-inverse k n w passed))
         ∙ sym (product-assoc v w (inverse w))
         ∙ ap (λ (l : List ℤ). product l (inverse w)) (a .1)
-        ∙ straight-product (lanes k n) (inverse w) (inverses.accepted-between k n (inverse w) (inverses.inverse-accepted k n w passed)),
+        ∙ identity-product (lanes k n) (inverse w) (inverses.accepted-between k n (inverse w) (inverses.inverse-accepted k n w passed)),
   )
 
 -- ---- the order of the entries

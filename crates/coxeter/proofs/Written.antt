@@ -13,7 +13,7 @@ use lib.IntN.{ℤ}
 use lib.ListN.{length, take, drop}
 use Rattle.coxeter.specs.declared.Answer.the-variants.{Length}
 use Rattle.coxeter.specs.Kinds.{kindOf, lanes}
-use Rattle.coxeter.specs.Windows.{straight, window, product, inverse}
+use Rattle.coxeter.specs.Windows.{identity, window, product, inverse}
 use Rattle.coxeter.specs.Checks.{rankRefusal, wordRefusal, windowRefusal, RankOf, WordOf, WindowOf}
 use Rattle.coxeter.specs.NormalForm.{normalForm, wordNormalForm}
 use Rattle.coxeter.specs.Calls.{Yields, writes, windowOfWord, productOfWindows, inverseOfWindow}
@@ -93,7 +93,7 @@ module _ (k n : ℕ) (w before after : List ℤ) (l : ℕ) (left : Yields (inver
 
   -- the product with what was written is straight, both ways round
   pub inverseOfWindow-cancels :
-      (product w (take l after) ≡ straight (lanes (kindOf k) n)) × (product (take l after) w ≡ straight (lanes (kindOf k) n))
+      (product w (take l after) ≡ identity (lanes (kindOf k) n)) × (product (take l after) w ≡ identity (lanes (kindOf k) n))
   inverseOfWindow-cancels =
       let a = inverseOfWindow-accepted .1 in
       rw (inverseOfWindow-wrote .0) (product-inverse (kindOf k) n w a, inverse-product (kindOf k) n w a)

@@ -41,13 +41,13 @@ unfoldable pub windowFrom : Kind → ℕ → List ℤ → List ℕ → List ℤ
 windowFrom k n w [] = w
 windowFrom k n w (s ∷ u) = windowFrom k n (act k n s w) u
 
--- W3: document 01's straight window
-unfoldable pub straight : ℕ → List ℤ
-straight m = map pos (up 1 m)
+-- W3: the identity of m lanes, 1, .., m: document 01's straight window
+unfoldable pub identity : ℕ → List ℤ
+identity m = map pos (up 1 m)
 
 -- W4, W6: the window of a word, which may have any length
 unfoldable pub window : Kind → ℕ → List ℕ → List ℤ
-window k n u = windowFrom k n (straight (lanes k n)) u
+window k n u = windowFrom k n (identity (lanes k n)) u
 
 -- W7: u(i), also for a negative i; u(0) is 0 and never asked for
 unfoldable pub at : List ℤ → ℤ → ℤ

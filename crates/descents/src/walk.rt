@@ -7,7 +7,7 @@ ghost use mathlib.Core.List.{[]};
 ghost use Prim.Native.Nat.{_≤_};
 ghost use lib.ListN.{length};
 ghost use Rattle.coxeter.specs.Kinds.{kindOf};
-ghost use Rattle.coxeter.specs.Windows.{straight};
+ghost use Rattle.coxeter.specs.Windows.{identity};
 ghost use Rattle.coxeter.specs.Checks.{RankOf, WordOf, WindowOf};
 ghost use Rattle.coxeter.specs.Calls.{written, sameWindow};
 ghost use Rattle.coxeter.proofs.Acceptance.{Ranked};
@@ -36,9 +36,9 @@ fn keep_letters(kind: u8, n: usize, word: &mut [u8], w: &mut [i8]) -> usize
     kept
 }
 
-fn is_straight(w: &[i8]) -> bool
+fn is_identity(w: &[i8]) -> bool
     requires { ⌜ length (now w) ≤ 127 ⌝ }
-    ensures { λ r. ⌜ r ≡ sameWindow (now (w .entry)) (straight (length (now (w .entry)))) ⌝ }
+    ensures { λ r. ⌜ r ≡ sameWindow (now (w .entry)) (identity (length (now (w .entry)))) ⌝ }
 {
     let mut i = 0;
     while i < w.len() {
@@ -82,7 +82,7 @@ pub(crate) fn settle(
     ensures { λ r. ⌜ Settled (kindOf kind) rank (now (word .entry)) (now (w .entry)) (now (places .entry)) r (now (places .exit)) ⌝ }
 {
     let kept = keep_letters(kind, rank as usize, word, w);
-    if is_straight(w) {
+    if is_identity(w) {
         if places.len() < kept {
             return Fallback::Refused(14);
         }

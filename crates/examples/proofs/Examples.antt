@@ -15,7 +15,7 @@ use lib.Dec.{eqb, leb·zero}
 use lib.ListN.{length}
 use borrow.Author.Tests.{eqb-true, not-true, le-ltb, le-leb}
 use Rattle.coxeter.specs.Kinds.{Kind, A, B, D, kindOf, least, greatest, up}
-use Rattle.coxeter.specs.Windows.{from, exchange, negateFirst, act, windowFrom, straight, window, signed, placeFrom, inverse}
+use Rattle.coxeter.specs.Windows.{from, exchange, negateFirst, act, windowFrom, identity, window, signed, placeFrom, inverse}
 use Rattle.coxeter.specs.Length.{later, negative, one, laterThan, inversions, negativeSumPairs, negatives, crossings, total, windowLength}
 use Rattle.coxeter.specs.Relations.{twice, forth, alone, next}
 use Rattle.coxeter.specs.Checks.{wrongKind, wrongRank, tooLong, wrongLetter, wrongLanes, hasSize, negativeInA, wrongAt, wrongEntry, odd}
@@ -24,7 +24,7 @@ use Rattle.coxeter.specs.NormalForm.{down, rise, fall, block, without, indexOf,
 use Rattle.coxeter.specs.Calls.{sameEntry, sameWindow}
 use Rattle.coxeter.proofs.Order.{sameWindow-true}
 use Rattle.coxeter.proofs.Relations.{congruent-window}
-use Rattle.coxeter.proofs.NormalForms.{normalForm-straight}
+use Rattle.coxeter.proofs.NormalForms.{normalForm-identity}
 use Rattle.coxeter.proofs.KindLaws.{one-le}
 use Rattle.rules.specs.Rules.{Rule, rule, each, family1, family2, family3, family4, families5to7, rules, begins, fits, firstFitting, rewritten}
 use Rattle.rules.specs.Calls.{pastEnd, rewriteBy, single}
@@ -68,7 +68,7 @@ rank-passes D n low high = rw (le-ltb n 4 low, le-ltb 64 n high)
 module _ (k : Kind) (n : ℕ) (low : least k ≤ n) (high : n ≤ greatest k) where
   empty-form : wordNormalForm k n [] ≡ []
   unfolding window windowFrom
-  empty-form = normalForm-straight k n
+  empty-form = normalForm-identity k n
 
   square-form : wordNormalForm k n (1 ∷ 1 ∷ []) ≡ []
   square-form = ap (normalForm k n) (congruent-window k n (next (forth [] [] (twice (omega arith) (one-le k n low))) alone)) ∙ empty-form
@@ -194,7 +194,7 @@ allHold (e ∷ es) = holds e && allHold es
 -- the one computed fact, with the definitions that the entries pass through, layer by layer
 pub all-hold : allHold table ≡ true
 unfolding table allHold holds sameWord reaches usesRule isNone
-    up from exchange negateFirst act windowFrom straight window signed placeFrom inverse
+    up from exchange negateFirst act windowFrom identity window signed placeFrom inverse
     later negative one laterThan inversions negativeSumPairs negatives crossings total windowLength
     kindOf wrongKind wrongRank tooLong wrongLetter wrongLanes hasSize negativeInA wrongAt wrongEntry odd oddNegatives rankRefusal wordRefusal windowRefusal
     down rise fall block without indexOf restOf normalFrom normalForm sameEntry sameWindow

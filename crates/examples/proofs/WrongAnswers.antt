@@ -37,7 +37,7 @@ use Rattle.examples.proofs.WrongWindows.{wordChecks, lettersBeforeTheRa
 use Rattle.examples.proofs.WrongWindows.{bothRanksFirst, wordsChecks, secondWordFirst, secondWordUnchecked}
 use Rattle.examples.proofs.WrongWindows.{windowChecks, windowBeforeTheRank, oddNegativesRefusedInB, windowsChecks, secondWindowFirst}
 use Rattle.examples.proofs.WrongWindows.{secondWindowUnchecked}
-use Rattle.examples.proofs.WrongWindows.{turnsEveryPresetDown, straightForAllWords, exchangesValues, stepOfBInD, refusedCallWrites, clearsTheOutput}
+use Rattle.examples.proofs.WrongWindows.{turnsEveryPresetDown, identityForAllWords, exchangesValues, stepOfBInD, refusedCallWrites, clearsTheOutput}
 use Rattle.examples.proofs.WrongWindows.{unshortenedWord, peelsOnlyBlock1, stopsAtAShortestWord, roomForTheRankOnly}
 use Rattle.examples.proofs.WrongWindows.{block1Alone, entriesBeforeLanes, oddNegativesAccepted, blockTurnsEarlyInB}
 use Rattle.examples.proofs.WrongWindows.{indexOneOffOnTheWayDown, lastEntryKeptInD}
@@ -53,7 +53,7 @@ use Rattle.examples.proofs.WrongTraces.{searchBehindTheLastPlace, outpu
 use Rattle.examples.proofs.WrongShortest.{verdictByLengthAlone, presentWordUnshortened, roomAskedForANo}
 use Rattle.examples.proofs.WrongSplits.{wordsExchanged, bit0ForStep2, oneStepLeft, setCheckedAfterTheWord, oneBitTooMany, firstWordWrittenFirst}
 use Rattle.examples.proofs.WrongShortest.{wayBack, lettersNotAsked, roomBeforeTheWay, windowsBeforeTheSet, bitsOneOff}
-use Rattle.examples.proofs.WrongTables.{rank20InA, factorLeftOut, runningTotals, straightAsLongest, roomOfTheListOnly, listWrittenFirst}
+use Rattle.examples.proofs.WrongTables.{rank20InA, factorLeftOut, runningTotals, identityAsLongest, roomOfTheListOnly, listWrittenFirst}
 use Rattle.examples.proofs.WrongBooks.{noBytesRefused, oneByteAccepted, noPresetsRefused3, retiredNotRead, retiredAppended}
 use Rattle.examples.proofs.WrongBooks.{retiredBeforeLetters, retiredInEveryKind}
 use Rattle.examples.proofs.WrongBooks.{countHighByteFirst, offsetAgainstTheTrailer, lastRecordMayStopEarly, opensOtherBytes}
@@ -130,7 +130,7 @@ table =
     ∷ differ windowsChecks secondWindowUnchecked (λ f. number (f 2 2 (pos 1 ∷ pos 2 ∷ []) (pos 1 ∷ [])))
     -- the window of a word
     ∷ differ windowOfWord turnsEveryPresetDown (λ f. entries (f 1 2 (1 ∷ 2 ∷ []) (lentEntries 3)))
-    ∷ differ windowOfWord straightForAllWords (λ f. entries (f 1 2 (1 ∷ 2 ∷ []) (lentEntries 3)))
+    ∷ differ windowOfWord identityForAllWords (λ f. entries (f 1 2 (1 ∷ 2 ∷ []) (lentEntries 3)))
     ∷ differ windowOfWord exchangesValues (λ f. entries (f 1 2 (1 ∷ 2 ∷ []) (lentEntries 3)))
     ∷ differ windowOfWord stepOfBInD (λ f. entries (f 3 4 (4 ∷ []) (lentEntries 4)))
     ∷ differ windowOfWord refusedCallWrites (λ f. entries (f 1 2 (3 ∷ []) (lentEntries 3)))
@@ -208,7 +208,7 @@ table =
     ∷ differ delayTable rank20InA (λ f. tabled (f 1 20 [] [] []))
     ∷ differ delayTable factorLeftOut (λ f. tabled (f 1 1 (lent 2) (lentEntries 2) (lent 1)))
     ∷ differ delayTable runningTotals (λ f. tabled (f 1 1 (lent 2) (lentEntries 2) (lent 1)))
-    ∷ differ delayTable straightAsLongest (λ f. tabled (f 1 1 (lent 2) (lentEntries 2) (lent 1)))
+    ∷ differ delayTable identityAsLongest (λ f. tabled (f 1 1 (lent 2) (lentEntries 2) (lent 1)))
     ∷ differ delayTable roomOfTheListOnly (λ f. tabled (f 1 1 (lent 2) (lentEntries 1) (lent 1)))
     ∷ differ delayTable listWrittenFirst (λ f. tabled (f 1 1 (lent 2) (lentEntries 2) []))
     -- opening a book

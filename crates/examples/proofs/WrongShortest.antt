@@ -8,7 +8,7 @@ use lib.Dec.{leb}
 use lib.IntN.{ℤ}
 use lib.ListN.{length}
 use Rattle.coxeter.specs.Kinds.{kindOf, lanes}
-use Rattle.coxeter.specs.Windows.{straight, window}
+use Rattle.coxeter.specs.Windows.{identity, window}
 use Rattle.coxeter.specs.Checks.{check, _then_, tooShort, rankRefusal, wordRefusal, windowRefusal}
 use Rattle.coxeter.specs.Calls.{Outcome, writes}
 use Rattle.shortest_words.specs.declared.Fallback.{Fallback}
@@ -33,7 +33,7 @@ verdictByLengthAlone k n u v places = fallbackBy (leb (simplerLength k n v) (sim
 -- steps removed from the present word as it came, and not from its normal form
 abbrev pub presentWordUnshortened : ℕ → ℕ → List ℕ → List ℕ → List ℕ → Fallback
 presentWordUnshortened k n u v places =
-    fallbackBy (somePart (kindOf k) n (straight (lanes (kindOf k) n)) u (window (kindOf k) n v)) k n u v places
+    fallbackBy (somePart (kindOf k) n (identity (lanes (kindOf k) n)) u (window (kindOf k) n v)) k n u v places
 
 -- check 14 also with a no
 abbrev pub roomAskedForANo : ℕ → ℕ → List ℕ → List ℕ → List ℕ → Fallback

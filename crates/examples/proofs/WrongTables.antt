@@ -6,7 +6,7 @@ use lib.Dec.{ltb}
 use lib.IntN.{ℤ}
 use lib.ListN.{length, take, replicate}
 use Rattle.coxeter.specs.Kinds.{Kind, kindOf, lanes, up}
-use Rattle.coxeter.specs.Windows.{straight}
+use Rattle.coxeter.specs.Windows.{identity}
 use Rattle.coxeter.specs.Length.{greatestLength}
 use Rattle.coxeter.specs.Checks.{check, _then_, tooShort, rankRefusal}
 use Rattle.coxeter.specs.NormalForm.{normalForm}
@@ -36,8 +36,8 @@ abbrev pub runningTotals : ℕ → ℕ → List ℕ → List ℤ → List ℕ �
 runningTotals = tableWith (λ k n. map (λ l. sum (take (suc l) (distribution k n))) (up 0 (greatestLength k n + 1))) longest
 
 -- the straight window as the longest
-abbrev pub straightAsLongest : ℕ → ℕ → List ℕ → List ℤ → List ℕ → Tabled
-straightAsLongest = tableWith distribution (λ k n. straight (lanes k n))
+abbrev pub identityAsLongest : ℕ → ℕ → List ℕ → List ℤ → List ℕ → Tabled
+identityAsLongest = tableWith distribution (λ k n. identity (lanes k n))
 
 -- check 14 of the list alone
 abbrev pub roomOfTheListOnly : ℕ → ℕ → List ℕ → List ℤ → List ℕ → Tabled

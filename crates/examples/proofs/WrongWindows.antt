@@ -11,7 +11,7 @@ use Rattle.coxeter.specs.declared.Answer.{Answer}
 use Rattle.coxeter.specs.declared.Verdict.{Verdict}
 use Rattle.coxeter.specs.declared.Choice.{Choice}
 use Rattle.coxeter.specs.Kinds.{Kind, A, B, D, pick, kindOf, lanes, least}
-use Rattle.coxeter.specs.Windows.{straight, window, product, signed, placeFrom, inverse}
+use Rattle.coxeter.specs.Windows.{identity, window, product, signed, placeFrom, inverse}
 use Rattle.coxeter.specs.Length.{one, negatives, inversions, negativeSumPairs, windowLength}
 use Rattle.coxeter.specs.Dictionary.{shortlex}
 use Rattle.coxeter.specs.Checks.{check, _then_, wrongKind, tooLong, wrongLetter, wrongLanes, wrongEntry, odd, oddNegatives, rankRefusal}
@@ -116,8 +116,8 @@ abbrev pub turnsEveryPresetDown : ℕ → ℕ → List ℕ → List ℤ → Outc
 turnsEveryPresetDown k n u out = writes 5 (window (kindOf k) n u) out
 
 -- Q2
-abbrev pub straightForAllWords : ℕ → ℕ → List ℕ → List ℤ → Outcome ℤ
-straightForAllWords k n u out = writes (wordChecks k n u) (straight (lanes (kindOf k) n)) out
+abbrev pub identityForAllWords : ℕ → ℕ → List ℕ → List ℤ → Outcome ℤ
+identityForAllWords k n u out = writes (wordChecks k n u) (identity (lanes (kindOf k) n)) out
 
 -- Q7: each step i exchanges the sizes i and i + 1
 abbrev exchangeSizes : ℕ → ℤ → ℤ
@@ -128,7 +128,7 @@ byValues [] w = w
 byValues (s ∷ u) w = byValues u (map (exchangeSizes s) w)
 
 abbrev pub exchangesValues : ℕ → ℕ → List ℕ → List ℤ → Outcome ℤ
-exchangesValues k n u out = writes (wordChecks k n u) (byValues u (straight (lanes (kindOf k) n))) out
+exchangesValues k n u out = writes (wordChecks k n u) (byValues u (identity (lanes (kindOf k) n))) out
 
 -- step n of kind D changes one sign, as in B
 abbrev pub stepOfBInD : ℕ → ℕ → List ℕ → List ℤ → Outcome ℤ

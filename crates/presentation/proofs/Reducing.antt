@@ -200,7 +200,7 @@ reducesTo-congruent {rs} (t, p) = go p
 pub joined-congruent : {rs : List Rule} {u v z : List ℕ} → ReducesTo rs u z → ReducesTo rs v z → Congruent (Pair rs) u v
 joined-congruent p q = congruent-trans (reducesTo-congruent p) (congruent-sym (reducesTo-congruent q))
 
--- a relation under which the two sides of each pair of R are congruent has the congruence of R
+-- if the two sides of each pair of R are congruent under S, so are all words that are congruent under R
 pub congruent-flat : {R S : List ℕ → List ℕ → Type 0} {u v : List ℕ} → ((l r : List ℕ) → R l r → Congruent S l r) → Congruent R u v → Congruent S u v
 congruent-flat f alone = alone
 congruent-flat f (next (forth x y {l} {r} h) q) = congruent-trans (congruent-context x y (f l r h)) (congruent-flat f q)

@@ -13,9 +13,9 @@ use Rattle.coxeter.specs.Kinds.{Kind, least, lanes}
 use Rattle.coxeter.specs.Windows.{windowFrom, window, product, inverse}
 use Rattle.coxeter.specs.NormalForm.{normalForm, wordNormalForm, IsNormalForm}
 use Rattle.coxeter.proofs.Levels.{Accepted, window-accepted}
-use Rattle.coxeter.proofs.Products.{product-assoc, straight-product, windowFrom-product, window-append}
+use Rattle.coxeter.proofs.Products.{product-assoc, identity-product, windowFrom-product, window-append}
 use Rattle.coxeter.proofs.Inverses.{inverse-accepted, accepted-between, inverse-product, product-inverse}
-use Rattle.coxeter.proofs.NormalForms.{window-normalForm, normalForm-letters, normalForm-straight}
+use Rattle.coxeter.proofs.NormalForms.{window-normalForm, normalForm-letters, normalForm-identity}
 use Rattle.rules.proofs.Completeness.{normalForm-least}
 use Rattle.shortest_words.specs.Allowed.{over}
 use Rattle.shortest_words.specs.Between.{Leads, Reachable, IsBetween, between, reachable}
@@ -41,11 +41,11 @@ module _ (k : Kind) (n : ℕ) (v w : List ℤ) (a : Accepted k n v) (b : Accepte
       ∙ ap (product v) e
       ∙ sym (product-assoc v (inverse v) w)
       ∙ ap (λ (x : List ℤ). product x w) (product-inverse k n v a)
-      ∙ straight-product (lanes k n) w (accepted-between k n w b)
+      ∙ identity-product (lanes k n) w (accepted-between k n w b)
 
   has-window : (u : List ℕ) → windowFrom k n v u ≡ w → window k n u ≡ product (inverse v) w
   has-window u e =
-      sym (straight-product (lanes k n) (window k n u) (accepted-between k n (window k n u) (window-accepted k n u)))
+      sym (identity-product (lanes k n) (window k n u) (accepted-between k n (window k n u) (window-accepted k n u)))
       ∙ ap (λ (x : List ℤ). product x (window k n u)) (sym (inverse-product k n v a))
       ∙ product-assoc (inverse v) v (window k n u)
       ∙ ap (product (inverse v)) (sym (windowFrom-product k n v u (a .size)) ∙ e)
@@ -102,7 +102,7 @@ module _ (allowed : ℕ → Bool) (k : Kind) (n : ℕ) (v w : List ℤ) (h : lea
 -- A5: whatever steps are allowed
 pub between-same : (k : Kind) (n : ℕ) (v : List ℤ) → Accepted k n v → between k n v v ≡ []
 unfolding between
-between-same k n v a = ap (normalForm k n) (inverse-product k n v a) ∙ normalForm-straight k n
+between-same k n v a = ap (normalForm k n) (inverse-product k n v a) ∙ normalForm-identity k n
 
 pub reachable-same : (allowed : ℕ → Bool) (k : Kind) (n : ℕ) (v : List ℤ) → Accepted k n v → reachable allowed k n v v ≡ true
 unfolding reachable over

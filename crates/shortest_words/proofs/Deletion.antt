@@ -15,7 +15,7 @@ use lib.IntN.{ℤ}
 use lib.ListN.{length, length-append}
 use lib.Seq.{append-snoc}
 use Rattle.coxeter.specs.Kinds.{Kind, least, lanes}
-use Rattle.coxeter.specs.Windows.{windowFrom, straight, window}
+use Rattle.coxeter.specs.Windows.{windowFrom, identity, window}
 use Rattle.coxeter.specs.Length.{windowLength}
 use Rattle.coxeter.specs.Checks.{wrongLetter}
 use Rattle.coxeter.proofs.Basics.{windowFrom-append, or-false-left, or-false-right}
@@ -51,7 +51,7 @@ dropAt-seam (a ∷ x) s y = ap (λ (l : List ℕ). a ∷ l) (dropAt-seam x s y)
 
 pub window-from : (k : Kind) (n : ℕ) (u v : List ℕ) → window k n (u ++ v) ≡ windowFrom k n (window k n u) v
 unfolding window
-window-from k n u v = windowFrom-append k n (straight (lanes k n)) u v
+window-from k n u v = windowFrom-append k n (identity (lanes k n)) u v
 
 -- a letter removed in place of a step, with more letters behind
 exchange-within : (k : Kind) (n : ℕ) (x : List ℕ) (s : ℕ) (y : List ℕ) → (i : ℕ) × Removable k n x (added k n x s) i → TwoLetters k n (x ++ (s ∷ y))

@@ -13,7 +13,7 @@ use native.Mathlib.Omega.{arith}
 use lib.IntN.{ℤ}
 use lib.ListN.{length, length-append}
 use Rattle.coxeter.specs.Kinds.{Kind, least, lanes}
-use Rattle.coxeter.specs.Windows.{act, windowFrom, straight, window, product}
+use Rattle.coxeter.specs.Windows.{act, windowFrom, identity, window, product}
 use Rattle.coxeter.specs.Length.{windowLength}
 use Rattle.coxeter.specs.Checks.{wrongLetter}
 use Rattle.coxeter.specs.NormalForm.{normalForm}
@@ -50,11 +50,11 @@ struck k n u z w h e a g f q p l =
 
 pub window-snoc : (k : Kind) (n : ℕ) (u : List ℕ) (s : ℕ) → window k n (u ++ (s ∷ [])) ≡ act k n s (window k n u)
 unfolding window windowFrom
-window-snoc k n u s = windowFrom-append k n (straight (lanes k n)) u (s ∷ [])
+window-snoc k n u s = windowFrom-append k n (identity (lanes k n)) u (s ∷ [])
 
 pub window-twice : (k : Kind) (n s : ℕ) (u : List ℕ) → window k n (s ∷ s ∷ u) ≡ window k n u
 unfolding window windowFrom
-window-twice k n s u = ap (λ (w : List ℤ). windowFrom k n w u) (act-involution k n s (straight (lanes k n)))
+window-twice k n s u = ap (λ (w : List ℤ). windowFrom k n w u) (act-involution k n s (identity (lanes k n)))
 
 module _ (k : Kind) (n : ℕ) (u : List ℕ) (s : ℕ) (h : least k ≤ n) (e : wrongLetter n u ≡ false) (o : 1 ≤ s) (l : s ≤ n) where
   -- if the step at the end of a word, shortest or not, makes the window's length smaller, one letter of the word
@@ -119,7 +119,7 @@ shortest-apart k n u i j s g h e =
     let one = length-dropAt j u h in
     let two = length-dropAt i (dropAt j u) (omega arith) in
     let letters = part-letters n (part-of-dropAt i (dropAt j u)) (part-letters n (part-of-dropAt j u) (s .steps)) in
-    let l = s .none-shorter (dropAt i (dropAt j u)) letters (dropAt-dropAt k n (straight (lanes k n)) i j u g h e) in
+    let l = s .none-shorter (dropAt i (dropAt j u)) letters (dropAt-dropAt k n (identity (lanes k n)) i j u g h e) in
     omega arith
 
 -- X2, X3: of a word and a window, from a letter that can be removed if the window is shorter

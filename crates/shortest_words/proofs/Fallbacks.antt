@@ -13,7 +13,7 @@ use native.Mathlib.Omega.{arith}
 use lib.IntN.{ℤ}
 use lib.ListN.{length}
 use Rattle.coxeter.specs.Kinds.{Kind, least, lanes}
-use Rattle.coxeter.specs.Windows.{windowFrom, straight, window}
+use Rattle.coxeter.specs.Windows.{windowFrom, identity, window}
 use Rattle.coxeter.specs.Length.{windowLength}
 use Rattle.coxeter.specs.Checks.{wrongLetter}
 use Rattle.coxeter.specs.NormalForm.{wordNormalForm}
@@ -30,9 +30,9 @@ use Rattle.shortest_words.proofs.Places.{part-nothing, part-of-fallback
 -- ---- fallbacks of a word
 
 -- the straight window is a fallback of every word, and so is its own window
-pub fallback-straight : (k : Kind) (n : ℕ) (u : List ℕ) → HasPart k n u (straight (lanes k n))
+pub fallback-identity : (k : Kind) (n : ℕ) (u : List ℕ) → HasPart k n u (identity (lanes k n))
 unfolding window windowFrom
-fallback-straight k n u = fallback-of-part k n u [] (straight (lanes k n)) (part-nothing u) refl
+fallback-identity k n u = fallback-of-part k n u [] (identity (lanes k n)) (part-nothing u) refl
 
 pub fallback-whole : (k : Kind) (n : ℕ) (u : List ℕ) → HasPart k n u (window k n u)
 fallback-whole k n u = fallback-of-part k n u u (window k n u) (part-whole u) refl
@@ -82,7 +82,7 @@ module _ (k : Kind) (n : ℕ) (h : least k ≤ n) where
   -- F7
   pub verdict-empty : (u : List ℕ) → FallbackOf k n u []
   unfolding window windowFrom
-  verdict-empty u = fallback-straight k n (wordNormalForm k n u)
+  verdict-empty u = fallback-identity k n (wordNormalForm k n u)
 
   -- every word is one for itself
   pub verdict-refl : (u : List ℕ) → FallbackOf k n u u

@@ -13,7 +13,7 @@ use lib.IntN.{ℤ}
 use lib.ListN.{length, getD, drop}
 use lib.Seq.{drop-cons, drop-drop}
 use Rattle.coxeter.specs.Kinds.{Kind, lanes}
-use Rattle.coxeter.specs.Windows.{act, windowFrom, straight, window}
+use Rattle.coxeter.specs.Windows.{act, windowFrom, identity, window}
 use Rattle.coxeter.proofs.Order.{sameWindow-true, sameWindow-of-eq}
 use Rattle.shortest_words.specs.Fallback.{Rising, lettersAt, HasPart, somePart}
 use Rattle.shortest_words.proofs.Parts.{Part, none, keep, leave}
@@ -106,11 +106,11 @@ part-of-some k n v (s ∷ u) w t =
     (either (somePart k n (act k n s v) u w) (somePart k n v u w) t)
 
 -- the test is yes exactly when some part-list has the window
-pub somePart-exactly : (k : Kind) (n : ℕ) (u : List ℕ) (w : List ℤ) → (somePart k n (straight (lanes k n)) u w ≡ true) ↔ HasPart k n u w
+pub somePart-exactly : (k : Kind) (n : ℕ) (u : List ℕ) (w : List ℤ) → (somePart k n (identity (lanes k n)) u w ≡ true) ↔ HasPart k n u w
 unfolding window
 somePart-exactly k n u w = (
-  λ t. let p = part-of-some k n (straight (lanes k n)) u w t in fallback-of-part k n u (p .word) w (p .part) (p .leads),
-  λ f. let p = part-of-fallback k n u w f in some-of-part k n (straight (lanes k n)) w (p .part) (p .shows),
+  λ t. let p = part-of-some k n (identity (lanes k n)) u w t in fallback-of-part k n u (p .word) w (p .part) (p .leads),
+  λ f. let p = part-of-fallback k n u w f in some-of-part k n (identity (lanes k n)) w (p .part) (p .shows),
 )
 
 -- ---- places one by one

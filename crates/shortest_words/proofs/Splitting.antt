@@ -12,7 +12,7 @@ use native.Mathlib.Omega.{arith}
 use lib.IntN.{ℤ}
 use lib.ListN.{length}
 use Rattle.coxeter.specs.Kinds.{Kind, least, lanes}
-use Rattle.coxeter.specs.Windows.{windowFrom, straight, window, product}
+use Rattle.coxeter.specs.Windows.{windowFrom, identity, window, product}
 use Rattle.coxeter.specs.Length.{windowLength}
 use Rattle.coxeter.specs.Checks.{wrongLetter}
 use Rattle.coxeter.specs.NormalForm.{normalForm, IsNormalForm}
@@ -69,7 +69,7 @@ reversed-front k n u v x y q =
     ∙ ap (λ (w : List ℤ). windowFrom k n w y) back
   where
     start : List ℤ
-    start = straight (lanes k n)
+    start = identity (lanes k n)
 
     back : windowFrom k n start (reverse x ++ x) ≡ start
     back =

@@ -14,7 +14,7 @@ use native.Mathlib.Omega.{arith}
 use lib.IntN.{ℤ}
 use lib.ListN.{length, length-append, length-reverse}
 use Rattle.coxeter.specs.Kinds.{Kind, pick, least, lanes}
-use Rattle.coxeter.specs.Windows.{act, windowFrom, straight, window, product, inverse}
+use Rattle.coxeter.specs.Windows.{act, windowFrom, identity, window, product, inverse}
 use Rattle.coxeter.specs.Length.{windowLength}
 use Rattle.coxeter.specs.Checks.{wrongLetter}
 use Rattle.coxeter.specs.NormalForm.{normalForm}
@@ -22,7 +22,7 @@ use Rattle.coxeter.proofs.Levels.{Accepted, act-accepted, window-accepted, wind
 use Rattle.coxeter.proofs.LetterLaws.{letter-within-cons}
 use Rattle.coxeter.proofs.Relations.{letters-append, wrongLetter-cons}
 use Rattle.coxeter.proofs.Steps.{act-involution}
-use Rattle.coxeter.proofs.Products.{product-assoc, product-straight, straight-product, windowFrom-product, window-append}
+use Rattle.coxeter.proofs.Products.{product-assoc, product-identity, identity-product, windowFrom-product, window-append}
 use Rattle.coxeter.proofs.Inverses.{inverse-accepted, accepted-between, product-inverse, inverse-inverse, window-reverse}
 use Rattle.coxeter.proofs.NormalForms.{window-normalForm, normalForm-letters}
 use Rattle.coxeter.proofs.Lengths.{length-normalForm}
@@ -151,7 +151,7 @@ module _ (allowed : ℕ → Bool) (k : Kind) (n : ℕ) (w x : List ℤ) (h : lea
       ap (product w) (sym (r .leads) ∙ windowFrom-product k n (inverse w) (r .word) (inverse-accepted k n w a .size))
       ∙ sym (product-assoc w (inverse w) (window k n (r .word)))
       ∙ ap (λ (v : List ℤ). product v (window k n (r .word))) (product-inverse k n w a)
-      ∙ straight-product (lanes k n) (window k n (r .word)) (accepted-between k n (window k n (r .word)) (window-accepted k n (r .word)))
+      ∙ identity-product (lanes k n) (window k n (r .word)) (accepted-between k n (window k n (r .word)) (window-accepted k n (r .word)))
 
   pub taken-accepted : Accepted k n (product w x)
   taken-accepted = rw taken (window-accepted k n (r .word))
@@ -172,8 +172,8 @@ module _ (allowed : ℕ → Bool) (k : Kind) (n : ℕ) (w x : List ℤ) (h : lea
   joined =
       ap₂ product first-window second-window
       ∙ product-assoc w x (inverse x)
-      ∙ ap (product w) (product-inverse k n x rest-accepted ∙ ap straight (sym (a .size)))
-      ∙ product-straight w
+      ∙ ap (product w) (product-inverse k n x rest-accepted ∙ ap identity (sym (a .size)))
+      ∙ product-identity w
 
   second-length : length second ≡ windowLength k x
   second-length = length-normalForm k n (inverse x) (inverse-accepted k n x rest-accepted) ∙ windowLength-inverse k n x h rest-accepted

@@ -16,7 +16,7 @@ use lib.ListN.{length, take, drop}
 use lib.Seq.{take-at, drop-at}
 use borrow.Author.Tests.{eq-eqb, ne-eqb, lt-ltb, le-ltb}
 use Rattle.coxeter.specs.Kinds.{Kind, pick, kindOf, least, lanes}
-use Rattle.coxeter.specs.Windows.{straight, window}
+use Rattle.coxeter.specs.Windows.{identity, window}
 use Rattle.coxeter.specs.Length.{windowLength}
 use Rattle.coxeter.specs.Checks.{check, _then_, tooShort, rankRefusal, wordRefusal, wrongLetter}
 use Rattle.coxeter.specs.NormalForm.{wordNormalForm}
@@ -37,7 +37,7 @@ use Rattle.shortest_words.proofs.Walk.{leftOver, placesKept, walk-decid
 
 -- the verdict on a word u and a target w, and the list of places before and after
 pub record Settled (k : Kind) (n : ℕ) (u : List ℕ) (w : List ℤ) (places : List ℕ) (a : Fallback) (after : List ℕ) : Type 0 where
-  pub answer : a ≡ pick (somePart k n (straight (lanes k n)) u w)
+  pub answer : a ≡ pick (somePart k n (identity (lanes k n)) u w)
       (pick (tooShort (windowLength k w) places) (Refused 14) (Kept (windowLength k w))) No
   pub kept : (l : ℕ) → a ≡ Kept l → Keeps k n u w (take l after)
   pub others : drop (keptCount a) after ≡ drop (keptCount a) places
@@ -49,12 +49,12 @@ same-test false false f g = refl
 
 module _ (k : Kind) (n : ℕ) (u : List ℕ) (w : List ℤ) (places : List ℕ) (h : least k ≤ n) (e : wrongLetter n u ≡ false) (a : Accepted k n w) where
   -- x is what the walk leaves of the target, and t whether it is straight
-  module _ (x : List ℤ) (t : Bool) (q : x ≡ leftOver k n u (length u) w) (s : t ≡ sameWindow x (straight (lanes k n))) where
-    decided : somePart k n (straight (lanes k n)) u w ≡ t
+  module _ (x : List ℤ) (t : Bool) (q : x ≡ leftOver k n u (length u) w) (s : t ≡ sameWindow x (identity (lanes k n))) where
+    decided : somePart k n (identity (lanes k n)) u w ≡ t
     decided =
         let walk = walk-decides k n u h e w a in
         same-test _ t (somePart-exactly k n u w)
-        (λ y. walk .1 (sym q ∙ sameWindow-true x (straight (lanes k n)) (sym s ∙ y)), λ f. s ∙ sameWindow-of-eq x (straight (lanes k n)) (q ∙ walk .0 f))
+        (λ y. walk .1 (sym q ∙ sameWindow-true x (identity (lanes k n)) (sym s ∙ y)), λ f. s ∙ sameWindow-of-eq x (identity (lanes k n)) (q ∙ walk .0 f))
 
     pub settled-no : t ≡ false → Settled k n u w places No places
     unfolding keptCount
@@ -67,7 +67,7 @@ module _ (k : Kind) (n : ℕ) (u : List ℕ) (w : List ℤ) (places : List ℕ) 
     -- the places kept are ps, m of them
     module _ (z : t ≡ true) (ps : List ℕ) (m : ℕ) (g : ps ≡ placesKept k n u (length u) w []) (c : m ≡ length ps) where
       keeps : Keeps k n u w ps
-      keeps = rw g (walk-keeps k n u h e w a (sym q ∙ sameWindow-true x (straight (lanes k n)) (sym s ∙ z)))
+      keeps = rw g (walk-keeps k n u h e w a (sym q ∙ sameWindow-true x (identity (lanes k n)) (sym s ∙ z)))
 
       count : windowLength k w ≡ m
       count = sym (c ∙ keeps .count)

@@ -14,7 +14,7 @@ use lib.IntN.{ℤ}
 use lib.ListN.{length, getD, take}
 use lib.Seq.{take-suc, take-length}
 use Rattle.coxeter.specs.Kinds.{Kind, pick, least, lanes}
-use Rattle.coxeter.specs.Windows.{act, windowFrom, straight, window}
+use Rattle.coxeter.specs.Windows.{act, windowFrom, identity, window}
 use Rattle.coxeter.specs.Length.{windowLength}
 use Rattle.coxeter.specs.Checks.{wrongLetter}
 use Rattle.coxeter.proofs.Levels.{Accepted}
@@ -59,18 +59,18 @@ module _ (k : Kind) (n : ℕ) (u : List ℕ) (h : least k ≤ n) (e : wrongLette
   letter i l = letter-within n u i l (wrongLetter-drop n i u e)
 
   -- the empty word has one part-list
-  empty-exactly : (w : List ℤ) → HasPart k n [] w ↔ (w ≡ straight (lanes k n))
+  empty-exactly : (w : List ℤ) → HasPart k n [] w ↔ (w ≡ identity (lanes k n))
   unfolding window windowFrom
   empty-exactly w = (
     λ f. let p = part-of-fallback k n [] w f in only (p .part) (p .shows),
     λ q. fallback-of-part k n [] [] w none (sym q),
   )
     where
-      only : {v : List ℕ} → Part [] v → window k n v ≡ w → w ≡ straight (lanes k n)
+      only : {v : List ℕ} → Part [] v → window k n v ≡ w → w ≡ identity (lanes k n)
       only none g = sym g
 
   -- the first i letters have a part-list with the window w exactly when the target ends straight
-  walk-exactly : (i : ℕ) (w : List ℤ) → i ≤ length u → Accepted k n w → HasPart k n (take i u) w ↔ (leftOver k n u i w ≡ straight (lanes k n))
+  walk-exactly : (i : ℕ) (w : List ℤ) → i ≤ length u → Accepted k n w → HasPart k n (take i u) w ↔ (leftOver k n u i w ≡ identity (lanes k n))
   unfolding leftOver
   walk-exactly zero w l a = empty-exactly w
   walk-exactly (suc i) w l a =
@@ -123,16 +123,16 @@ module _ (k : Kind) (n : ℕ) (u : List ℕ) (h : least k ≤ n) (e : wrongLette
 
   -- ---- the verdict
 
-  straight-length : windowLength k (straight (lanes k n)) ≡ 0
+  identity-length : windowLength k (identity (lanes k n)) ≡ 0
   unfolding window windowFrom wrongLetter
-  straight-length = let l = windowLength-le k n [] h refl in omega arith
+  identity-length = let l = windowLength-le k n [] h refl in omega arith
 
   -- some part-list of u has the window w exactly when the target ends straight
-  pub walk-decides : (w : List ℤ) → Accepted k n w → HasPart k n u w ↔ (leftOver k n u (length u) w ≡ straight (lanes k n))
+  pub walk-decides : (w : List ℤ) → Accepted k n w → HasPart k n u w ↔ (leftOver k n u (length u) w ≡ identity (lanes k n))
   walk-decides w a = rw (take-length u) at (walk-exactly (length u) w (omega arith) a)
 
   -- and then the places kept serve, and are as many as the length of w
-  pub walk-keeps : (w : List ℤ) → Accepted k n w → leftOver k n u (length u) w ≡ straight (lanes k n)
+  pub walk-keeps : (w : List ℤ) → Accepted k n w → leftOver k n u (length u) w ≡ identity (lanes k n)
       → Keeps k n u w (placesKept k n u (length u) w [])
   unfolding window windowFrom lettersAt
   walk-keeps w a ends =
@@ -141,5 +141,5 @@ module _ (k : Kind) (n : ℕ) (u : List ℕ) (h : least k ≤ n) (e : wrongLette
           rising = kept-rising (length u) w [] (omega arith) tt;
           shows = rw (← ends) (kept-leads (length u) w []);
         };
-        count = omega (arith, kept-count (length u) w [] (omega arith) a, straight-length, ap (windowLength k) ends);
+        count = omega (arith, kept-count (length u) w [] (omega arith) a, identity-length, ap (windowLength k) ends);
       }

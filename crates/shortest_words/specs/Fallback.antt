@@ -7,7 +7,7 @@ use Prim.Native.Nat.{ℕ, suc, _≤_, _<_}
 use lib.IntN.{ℤ}
 use lib.ListN.{length, getD}
 use Rattle.coxeter.specs.Kinds.{Kind, lanes}
-use Rattle.coxeter.specs.Windows.{act, straight, window}
+use Rattle.coxeter.specs.Windows.{act, identity, window}
 use Rattle.coxeter.specs.Length.{windowLength}
 use Rattle.coxeter.specs.NormalForm.{wordNormalForm}
 use Rattle.coxeter.specs.Calls.{sameWindow}
@@ -51,4 +51,4 @@ somePart k n v (s ∷ u) w = somePart k n (act k n s v) u w || somePart k n v u 
 
 -- F2
 unfoldable pub fallsBack : Kind → ℕ → List ℕ → List ℕ → Bool
-fallsBack k n present simpler = somePart k n (straight (lanes k n)) (wordNormalForm k n present) (window k n simpler)
+fallsBack k n present simpler = somePart k n (identity (lanes k n)) (wordNormalForm k n present) (window k n simpler)

@@ -15,7 +15,7 @@ use lib.IntN.{ℤ}
 use lib.ListN.{length, length-append}
 use borrow.Author.Tests.{eq-eqb, ne-eqb, ltb-true}
 use Rattle.coxeter.specs.Kinds.{Kind, least, lanes}
-use Rattle.coxeter.specs.Windows.{act, windowFrom, straight, window, product}
+use Rattle.coxeter.specs.Windows.{act, windowFrom, identity, window, product}
 use Rattle.coxeter.specs.Checks.{wrongLetter}
 use Rattle.coxeter.specs.Dictionary.{before, shortlex}
 use Rattle.coxeter.specs.NormalForm.{normalForm, wordNormalForm, IsNormalForm}
@@ -48,11 +48,11 @@ module _ (k : Kind) (n : ℕ) where
   there-and-back : (x u : List ℕ) → window k n (reverse x ++ (x ++ u)) ≡ window k n u
   unfolding window
   there-and-back x u =
-      ap (windowFrom k n (straight (lanes k n))) (sym (append-assoc (reverse x) x u))
-      ∙ windowFrom-append k n (straight (lanes k n)) (reverse x ++ x) u
+      ap (windowFrom k n (identity (lanes k n))) (sym (append-assoc (reverse x) x u))
+      ∙ windowFrom-append k n (identity (lanes k n)) (reverse x ++ x) u
       ∙ ap (λ (w : List ℤ). windowFrom k n w u)
-      (ap (λ (l : List ℕ). windowFrom k n (straight (lanes k n)) (reverse x ++ l)) (sym (reverse-reverse x))
-      ∙ windowFrom-reverse k n (straight (lanes k n)) (reverse x))
+      (ap (λ (l : List ℕ). windowFrom k n (identity (lanes k n)) (reverse x ++ l)) (sym (reverse-reverse x))
+      ∙ windowFrom-reverse k n (identity (lanes k n)) (reverse x))
 
   pub cancel-front : (x u v : List ℕ) → window k n (x ++ u) ≡ window k n (x ++ v) → window k n u ≡ window k n v
   cancel-front x u v e =

@@ -4,7 +4,7 @@ ghost use Prim.Native.Nat.{_+_, _<_, _≤_};
 ghost use lib.IntN.{natAbs, pos};
 ghost use lib.ListN.{length, getD};
 ghost use Rattle.coxeter.specs.Kinds.{kindOf, lanes};
-ghost use Rattle.coxeter.specs.Windows.{from, exchange, negateFirst, exchangeNegate, act, windowFrom, straight, window};
+ghost use Rattle.coxeter.specs.Windows.{from, exchange, negateFirst, exchangeNegate, act, windowFrom, identity, window};
 ghost use Rattle.coxeter.specs.Checks.{WordOf, WindowOf};
 ghost use Rattle.coxeter.proofs.Acceptance.{Ranked};
 use super::entries::negated;
@@ -82,9 +82,9 @@ pub(crate) fn apply(kind: u8, n: usize, word: &[u8], w: &mut [i8])
 
 // 1, 2, 3 and so on, counted in a byte that begins at 1: as i does it would be made from i, and each entry narrowed
 // from 64 bits.
-fn set_straight(w: &mut [i8])
+fn set_identity(w: &mut [i8])
     requires { ⌜ length (now w) ≤ 127 ⌝ }
-    ensures { λ _. ⌜ now (w .exit) ≡ straight (length (now (w .entry))) ⌝ }
+    ensures { λ _. ⌜ now (w .exit) ≡ identity (length (now (w .entry))) ⌝ }
 {
     let mut i = 0;
     let mut e: u8 = 1;
@@ -102,6 +102,6 @@ pub(crate) fn show(kind: u8, n: usize, word: &[u8], w: &mut [i8])
     requires { ⌜ WordOf n (now word) ⌝ }
     ensures { λ _. ⌜ now (w .exit) ≡ window (kindOf kind) n (now (word .entry)) ⌝ }
 {
-    set_straight(w);
+    set_identity(w);
     apply(kind, n, word, w);
 }

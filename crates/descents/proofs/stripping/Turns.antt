@@ -42,8 +42,8 @@ A≢D e = let z : _≡_ {A = ℕ} 0 1 = cc in omega arith
 B≢D : B ≡ D → ⊥
 B≢D e = let z : _≡_ {A = ℕ} 0 1 = cc in omega arith
 
-pub back-straight : (k : Kind) (n s : ℕ) → 2 ≤ s → (k ≡ A) ⊎ (k ≡ B) → Back k n s (s - 1)
-back-straight k n s o = ⊎-elim (λ e. rw e (back-one A n s o (λ d f. A≢D d))) (λ e. rw e (back-one B n s o (λ d f. B≢D d)))
+pub back-identity : (k : Kind) (n s : ℕ) → 2 ≤ s → (k ≡ A) ⊎ (k ≡ B) → Back k n s (s - 1)
+back-identity k n s o = ⊎-elim (λ e. rw e (back-one A n s o (λ d f. A≢D d))) (λ e. rw e (back-one B n s o (λ d f. B≢D d)))
 
 pub back-fork : (k : Kind) (n s : ℕ) → k ≡ D → least k ≤ n → n ≤ s → s ≤ n → Back k n s (s - 2)
 back-fork k n s f h l m =

@@ -8,7 +8,7 @@ use native.Mathlib.Omega.{arith}
 use lib.IntN.{ℤ}
 use lib.ListN.{length}
 use Rattle.coxeter.specs.Kinds.{kindOf, lanes}
-use Rattle.coxeter.specs.Windows.{straight}
+use Rattle.coxeter.specs.Windows.{identity}
 use Rattle.coxeter.specs.Checks.{wrongLetter, RankOf, WordOf, WindowOf}
 use Rattle.coxeter.specs.Calls.{written, sameWindow}
 use Rattle.coxeter.proofs.Acceptance.{Ranked, rank-accepted, letters-accepted, lanes-le}
@@ -43,9 +43,9 @@ module _ (k n : ℕ) (u : List ℕ) (w : List ℤ) (h : SettleRequires k n u w) 
 
   -- f and x are the word and the target afterwards, m how many letters are kept, t whether the target is straight
   module _ (f : List ℕ) (x : List ℤ) (m : ℕ) (g : LettersKept k n u w f x m) (e : length x ≡ length w) (t : Bool)
-      (s : t ≡ sameWindow x (straight (length x))) (places : List ℕ) where
-    ends : t ≡ sameWindow x (straight (lanes (kindOf k) n))
-    ends = s ∙ ap (λ (l : ℕ). sameWindow x (straight l)) (e ∙ accepted .size)
+      (s : t ≡ sameWindow x (identity (length x))) (places : List ℕ) where
+    ends : t ≡ sameWindow x (identity (lanes (kindOf k) n))
+    ends = s ∙ ap (λ (l : ℕ). sameWindow x (identity l)) (e ∙ accepted .size)
 
     pub settle-no : t ≡ false → Settled (kindOf k) n u w places No places
     settle-no z = settled-no (kindOf k) n u w places (rank-accepted k n (h .0) .0) letters accepted x t (g .2) ends z

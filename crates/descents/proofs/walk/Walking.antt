@@ -19,12 +19,12 @@ use mir.Syntax.{w8}
 use mir.Val.{toZ, ofZ}
 use borrow.Author.Tests.{eq-eqb, ne-eqb}
 use Rattle.coxeter.specs.Kinds.{Kind, pick}
-use Rattle.coxeter.specs.Windows.{act, straight}
+use Rattle.coxeter.specs.Windows.{act, identity}
 use Rattle.coxeter.specs.Checks.{wrongLetter, WindowOf}
 use Rattle.coxeter.specs.Calls.{written, sameWindow}
-use Rattle.coxeter.proofs.Basics.{by-pick, length-straight}
+use Rattle.coxeter.proofs.Basics.{by-pick, length-identity}
 use Rattle.coxeter.proofs.Order.{sameWindow-true, sameWindow-of-eq}
-use Rattle.coxeter.proofs.Products.{getD-straight}
+use Rattle.coxeter.proofs.Products.{getD-identity}
 use Rattle.refusals.proofs.Bytes.{element-back, cast-back}
 use Rattle.coxeter.proofs.Lists.{Storing, storing-next, storing-room, stored-of-storing}
 use Rattle.coxeter.proofs.Outcomes.{written-sets}
@@ -163,26 +163,26 @@ writing-end u o out at i h l s =
 
 -- ---- the straight window
 module _ (w : List ℤ) (i : ℕ) (h : i < length w) where
-  entry-straight : getD (straight (length w)) i (pos 0) ≡ pos (i + 1)
-  entry-straight = rw (add-one i) (getD-straight (length w) i h)
+  entry-identity : getD (identity (length w)) i (pos 0) ≡ pos (i + 1)
+  entry-identity = rw (add-one i) (getD-identity (length w) i h)
 
-  pub straight-next : length w ≤ 127 → mag (getD w i (pos 0)) < 128 → ofZ w8 (getD w i (pos 0)) ≡ i + 1
-      → take i w ≡ take i (straight (length w)) → take (i + 1) w ≡ take (i + 1) (straight (length w))
-  straight-next l b e t =
+  pub identity-next : length w ≤ 127 → mag (getD w i (pos 0)) < 128 → ofZ w8 (getD w i (pos 0)) ≡ i + 1
+      → take i w ≡ take i (identity (length w)) → take (i + 1) w ≡ take (i + 1) (identity (length w))
+  identity-next l b e t =
       let entry : getD w i (pos 0) ≡ pos (i + 1) = sym (element-back (getD w i (pos 0)) b) ∙ ap (toZ w8) e ∙ cast-back (i + 1) (omega arith) in
-      let inside : i < length (straight (length w)) = rw length-straight h in
-      rw (add-one i, take-suc w i (pos 0) h, take-suc (straight (length w)) i (pos 0) inside, t, entry, entry-straight)
+      let inside : i < length (identity (length w)) = rw length-identity h in
+      rw (add-one i, take-suc w i (pos 0) h, take-suc (identity (length w)) i (pos 0) inside, t, entry, entry-identity)
 
-  pub straight-differs : (ofZ w8 (getD w i (pos 0)) ≡ i + 1 → ⊥) → false ≡ sameWindow w (straight (length w))
-  straight-differs f = cases (sameWindow w (straight (length w))) refl
+  pub identity-differs : (ofZ w8 (getD w i (pos 0)) ≡ i + 1 → ⊥) → false ≡ sameWindow w (identity (length w))
+  identity-differs f = cases (sameWindow w (identity (length w))) refl
     where
-      cases : (t : Bool) → sameWindow w (straight (length w)) ≡ t → false ≡ t
+      cases : (t : Bool) → sameWindow w (identity (length w)) ≡ t → false ≡ t
       cases true e =
-          let q = sameWindow-true w (straight (length w)) e in
-          absurd (f (ap (λ (x : ℤ). ofZ w8 x) (ap (λ (l : List ℤ). getD l i (pos 0)) q ∙ entry-straight)))
+          let q = sameWindow-true w (identity (length w)) e in
+          absurd (f (ap (λ (x : ℤ). ofZ w8 x) (ap (λ (l : List ℤ). getD l i (pos 0)) q ∙ entry-identity)))
       cases false e = refl
 
-pub straight-end : (w : List ℤ) (i : ℕ) → length w ≤ i → take i w ≡ take i (straight (length w)) → true ≡ sameWindow w (straight (length w))
-straight-end w i l t =
-    let whole : length (straight (length w)) ≤ i = rw length-straight l in
-    sym (sameWindow-of-eq w (straight (length w)) (sym (take-all i w l) ∙ t ∙ take-all i (straight (length w)) whole))
+pub identity-end : (w : List ℤ) (i : ℕ) → length w ≤ i → take i w ≡ take i (identity (length w)) → true ≡ sameWindow w (identity (length w))
+identity-end w i l t =
+    let whole : length (identity (length w)) ≤ i = rw length-identity l in
+    sym (sameWindow-of-eq w (identity (length w)) (sym (take-all i w l) ∙ t ∙ take-all i (identity (length w)) whole))

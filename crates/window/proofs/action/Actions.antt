@@ -13,13 +13,13 @@ use lib.Seq.{take-suc-set, take-all}
 use mir.Syntax.{w8}
 use mir.Val.{toZ}
 use Rattle.coxeter.specs.Kinds.{Kind, lanes, up}
-use Rattle.coxeter.specs.Windows.{act, windowFrom, straight, window}
+use Rattle.coxeter.specs.Windows.{act, windowFrom, identity, window}
 use Rattle.coxeter.specs.Checks.{WindowOf}
 use Rattle.coxeter.proofs.Basics.{up-append}
 use Rattle.coxeter.proofs.KindLaws.{lanes-le-add-one}
 use Rattle.refusals.proofs.Bytes.{cast-back}
 use Rattle.coxeter.proofs.Lists.{drop-next}
-use Rattle.coxeter.proofs.Levels.{accepted-of-refusal, refusal-of-accepted, act-accepted, straight-accepted}
+use Rattle.coxeter.proofs.Levels.{accepted-of-refusal, refusal-of-accepted, act-accepted, identity-accepted}
 
 -- ---- the letters of a word
 
@@ -37,25 +37,25 @@ windowFrom-end k n u i w h = rw (drop-of-length-le u h)
 
 -- ---- the straight window
 
-straight-next : (i : ℕ) → straight (i + 1) ≡ straight i ++ (pos (i + 1) ∷ [])
-unfolding straight up
-straight-next i = let e : 1 + i ≡ i + 1 = omega arith in rw (up-append 1 i 1, map-append) (rw e)
+identity-next : (i : ℕ) → identity (i + 1) ≡ identity i ++ (pos (i + 1) ∷ [])
+unfolding identity up
+identity-next i = let e : 1 + i ≡ i + 1 = omega arith in rw (up-append 1 i 1, map-append) (rw e)
 
-pub take-straight-next : (i e : ℕ) (w : List ℤ) → i < length w → length w ≤ 127 → take i w ≡ straight i → e ≡ i + 1
-    → take (i + 1) (set w i (toZ w8 e)) ≡ straight (i + 1)
-take-straight-next i e w h l t q =
-    rw (q, cast-back (i + 1) (omega arith), straight-next i, ← t) (rw (add-one i) (take-suc-set w i (pos (suc i)) h))
+pub take-identity-next : (i e : ℕ) (w : List ℤ) → i < length w → length w ≤ 127 → take i w ≡ identity i → e ≡ i + 1
+    → take (i + 1) (set w i (toZ w8 e)) ≡ identity (i + 1)
+take-identity-next i e w h l t q =
+    rw (q, cast-back (i + 1) (omega arith), identity-next i, ← t) (rw (add-one i) (take-suc-set w i (pos (suc i)) h))
 
-pub take-straight-end : (i m : ℕ) (w : List ℤ) → length w ≤ i → i ≤ length w → length w ≡ m → take i w ≡ straight i → w ≡ straight m
-take-straight-end i m w h l e t = sym (take-all i w h) ∙ t ∙ ap straight (omega arith)
+pub take-identity-end : (i m : ℕ) (w : List ℤ) → length w ≤ i → i ≤ length w → length w ≡ m → take i w ≡ identity i → w ≡ identity m
+take-identity-end i m w h l e t = sym (take-all i w h) ∙ t ∙ ap identity (omega arith)
 
 -- here m is the length of the slice that the straight window goes to
 pub le-of-lanes : (k : Kind) (n m : ℕ) → n ≤ 64 → m ≡ lanes k n → m ≤ 127
 le-of-lanes k n m h e = omega (arith, lanes-le-add-one k n)
 
-pub refusal-straight : (k : Kind) (n m : ℕ) (w : List ℤ) → m ≡ lanes k n → w ≡ straight m → WindowOf k n w
-refusal-straight k n m w h e = rw (e, h) (refusal-of-accepted k n (straight (lanes k n)) (straight-accepted k n))
+pub refusal-identity : (k : Kind) (n m : ℕ) (w : List ℤ) → m ≡ lanes k n → w ≡ identity m → WindowOf k n w
+refusal-identity k n m w h e = rw (e, h) (refusal-of-accepted k n (identity (lanes k n)) (identity-accepted k n))
 
-pub windowFrom-straight : (k : Kind) (n m : ℕ) (w : List ℤ) (u : List ℕ) → m ≡ lanes k n → w ≡ straight m → windowFrom k n w u ≡ window k n u
+pub windowFrom-identity : (k : Kind) (n m : ℕ) (w : List ℤ) (u : List ℕ) → m ≡ lanes k n → w ≡ identity m → windowFrom k n w u ≡ window k n u
 unfolding window
-windowFrom-straight k n m w u h e = rw (e, h)
+windowFrom-identity k n m w u h e = rw (e, h)

@@ -43,13 +43,13 @@ two-le k n h l = ⊎-elim (λ e. let m : least B ≤ n = rw e at l in m) (λ e. 
 
 pub block-two : (k : Kind) (n i j : ℕ) → k ≡ B → least k ≤ n → n ≤ j → block k n i j ≡ rise i n ++ fall (n - 1) (2 * n - j)
 unfolding block
-block-two k n i j e l h = rw e (elim (decLe j n) [ yes t ↦ rw (le-leb j n t) (straight t) | no t ↦ rw (lt-leb j n (lt-of-not-le t)) ])
+block-two k n i j e l h = rw e (elim (decLe j n) [ yes t ↦ rw (le-leb j n t) (identity t) | no t ↦ rw (lt-leb j n (lt-of-not-le t)) ])
   where
     o : 2 ≤ n
     o = rw e at l
 
-    straight : j ≤ n → rise i j ≡ rise i n ++ fall (n - 1) (2 * n - j)
-    straight t =
+    identity : j ≤ n → rise i j ≡ rise i n ++ fall (n - 1) (2 * n - j)
+    identity t =
         let q : j ≡ n = omega arith in
         let z : fall (n - 1) (2 * n - j) ≡ [] = fall-slide (n - 1) (2 * n - j) ∙ slide-nil (suc (n - 1)) (2 * n - j) (omega (arith, o)) in
         ap (rise i) q ∙ sym (ap (λ (u : List ℕ). rise i n ++ u) z ∙ append-nil (rise i n))

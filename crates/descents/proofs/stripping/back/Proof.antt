@@ -4,7 +4,7 @@ use mathlib.Core.Logic.{⊎-elim}
 use native.Mathlib.Omega.{arith}
 use borrow.Author.Needs.{needs}
 use Rattle.coxeter.proofs.KindLaws.{kindOf-one-or-two, kindOf-below, kindOf-above}
-use Rattle.descents.proofs.stripping.Turns.{back-below, back-straight, back-fork}
+use Rattle.descents.proofs.stripping.Turns.{back-below, back-identity, back-fork}
 use Rattle.descents.proofs.stripping.back.Statement.{statement}
 use Rattle.descents.proofs.stripping.back.Tie as tie
 
@@ -24,7 +24,7 @@ sub-result-3 : tie.Need-sub-result-3
 sub-result-3 c = search needs
 
 returns-3 : tie.Need-returns-3
-returns-3 c = back-straight _ _ _ (omega arith) (kindOf-one-or-two _ (c .before .if3 .left) (c .if4 .taken))
+returns-3 c = back-identity _ _ _ (omega arith) (kindOf-one-or-two _ (c .before .if3 .left) (c .if4 .taken))
 
 returns-4 : tie.Need-returns-4
 returns-4 c =

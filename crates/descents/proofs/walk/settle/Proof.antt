@@ -11,8 +11,8 @@ use Rattle.descents.proofs.walk.settle.Tie as tie
 keep-letters-requires : tie.Need-keep-letters-requires
 keep-letters-requires c κs = keep-requires _ _ _ _ (c .before .before .before .before .pre)
 
-is-straight-requires : tie.Need-is-straight-requires
-is-straight-requires c κs =
+is-identity-requires : tie.Need-is-identity-requires
+is-identity-requires c κs =
     let b = c .before .before .before .before in
     left-length _ _ _ _ (b .before .before .before .before .before .pre) _ (b .keep-letters .kept .1 .1 .1 .0)
 
@@ -26,7 +26,7 @@ returns : tie.Need-returns
 returns c =
     let b = c .before .before .before .before .before .before .before in
     settle-short _ _ _ _ (b .before .before .before .before .before .pre) _ _ _ (b .keep-letters .ensures) (b .keep-letters .kept .1 .1 .1 .0) _
-    (c .before .before .is-straight .ensures) _ (c .before .if1 .taken) (c .if2 .taken)
+    (c .before .before .is-identity .ensures) _ (c .before .if1 .taken) (c .if2 .taken)
 
 write-places-requires : tie.Need-write-places-requires
 write-places-requires c κs =
@@ -48,7 +48,7 @@ returns-2 c =
     let d = c .before .before .before .before .before .before in
     let b = d .before .before .before .before .before .before in
     settle-kept _ _ _ _ (b .before .before .before .before .before .pre) _ _ _ (b .keep-letters .ensures) (b .keep-letters .kept .1 .1 .1 .0) _
-    (d .before .is-straight .ensures) _ _ (d .if1 .taken) (c .before .before .before .before .before .if2 .left) (c .before .before .write-places .ensures)
+    (d .before .is-identity .ensures) _ _ (d .if1 .taken) (c .before .before .before .before .before .if2 .left) (c .before .before .write-places .ensures)
 
 same-length-6 : tie.Need-same-length-6
 same-length-6 c = search needs
@@ -60,14 +60,14 @@ returns-3 : tie.Need-returns-3
 returns-3 c =
     let b = c .before .before .before .before .before .before in
     settle-no _ _ _ _ (b .before .before .before .before .before .pre) _ _ _ (b .keep-letters .ensures) (b .keep-letters .kept .1 .1 .1 .0) _
-    (c .before .is-straight .ensures) _ (c .if1 .left)
+    (c .before .is-identity .ensures) _ (c .if1 .left)
 
 pub settle-spec : {M : Type 1} → statement M
 settle-spec =
     tie.close
     (tie.spec
     keep-letters-requires
-    is-straight-requires
+    is-identity-requires
     same-length
     same-length-2
     returns

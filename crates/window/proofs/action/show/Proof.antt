@@ -1,21 +1,21 @@
--- `action::show` is the window of a word, by `set_straight` and `apply`; the straight window is accepted.
+-- `action::show` is the window of a word, by `set_identity` and `apply`; the straight window is accepted.
 -- Assumes nothing.
 use mathlib.Core.Path.{_∙_}
 use borrow.Author.Needs.{needs}
 use Rattle.coxeter.specs.Kinds.{kindOf}
-use Rattle.window.proofs.action.Actions.{le-of-lanes, refusal-straight, windowFrom-straight}
+use Rattle.window.proofs.action.Actions.{le-of-lanes, refusal-identity, windowFrom-identity}
 use Rattle.window.proofs.action.show.Statement.{statement}
 use Rattle.window.proofs.action.show.Tie as tie
 
-set-straight-requires : tie.Need-set-straight-requires
-set-straight-requires c κs =
+set-identity-requires : tie.Need-set-identity-requires
+set-identity-requires c κs =
     let b = c .before .before in
     le-of-lanes (kindOf (b .args .kind)) _ _ (b .pre .0 .1) (b .pre .1 .0)
 
 apply-requires : tie.Need-apply-requires
 apply-requires c κs =
     let p = c .before .before .before .before .before .pre in
-    (p .0, (p .1 .1, refusal-straight _ _ _ _ (p .1 .0) (c .before .before .set-straight .ensures)))
+    (p .0, (p .1 .1, refusal-identity _ _ _ _ (p .1 .0) (c .before .before .set-identity .ensures)))
 
 same-length : tie.Need-same-length
 same-length c = search needs
@@ -23,7 +23,7 @@ same-length c = search needs
 returns : tie.Need-returns
 returns c =
     let b = c .before .before .before .before in
-    c .before .apply .ensures ∙ windowFrom-straight _ _ _ _ _ (b .before .before .before .pre .1 .0) (b .set-straight .ensures)
+    c .before .apply .ensures ∙ windowFrom-identity _ _ _ _ _ (b .before .before .before .pre .1 .0) (b .set-identity .ensures)
 
 pub show-spec : {M : Type 1} → statement M
-show-spec = tie.close (tie.spec set-straight-requires apply-requires same-length returns)
+show-spec = tie.close (tie.spec set-identity-requires apply-requires same-length returns)

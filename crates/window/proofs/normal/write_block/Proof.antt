@@ -9,13 +9,13 @@ use Rattle.coxeter.proofs.Runs.{rise-span, block-up}
 use Rattle.window.proofs.normal.write_block.Statement.{statement}
 use Rattle.window.proofs.normal.write_block.Tie as tie
 
-straight : (c : tie.Then1)
+identity : (c : tie.Then1)
     → let a = c .before .before .args in
     block (kindOf (a .kind)) (a .m) (a .i) (a .j) ≡ rise (a .i) (a .j)
-straight c = block-up _ _ _ _ (c .if1 .taken) ∙ sym (rise-span _ _)
+identity c = block-up _ _ _ _ (c .if1 .taken) ∙ sym (rise-span _ _)
 
 write-up-requires : tie.Need-write-up-requires
-write-up-requires c κs = (search needs, rw (straight (c .before)) at (c .before .before .before .pre .1))
+write-up-requires c κs = (search needs, rw (identity (c .before)) at (c .before .before .before .pre .1))
 
 same-length : tie.Need-same-length
 same-length c = search needs
@@ -23,7 +23,7 @@ same-length c = search needs
 returns : tie.Need-returns
 returns c =
     let up = c .before .before in
-    rw (straight (up .before .before)) (up .write-up .ensures)
+    rw (identity (up .before .before)) (up .write-up .ensures)
 
 write-turned-requires : tie.Need-write-turned-requires
 write-turned-requires c κs =

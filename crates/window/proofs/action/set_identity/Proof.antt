@@ -1,4 +1,4 @@
--- `action::set_straight` writes the straight window. The invariant: the entries before i are 1, .., i, and the byte
+-- `action::set_identity` writes the straight window. The invariant: the entries before i are 1, .., i, and the byte
 -- is i + 1.
 -- Assumes nothing.
 use mathlib.Core.Path.{_≡_, refl, ap}
@@ -6,19 +6,19 @@ use Prim.Native.Nat.{ℕ, _+_, _≤_, _-_}
 use native.Mathlib.Omega.{arith}
 use lib.ListN.{length, length-set, take}
 use Rattle.coxeter.specs.Kinds.{up}
-use Rattle.coxeter.specs.Windows.{straight}
-use Rattle.window.proofs.action.Actions.{take-straight-next, take-straight-end}
-use Rattle.window.proofs.action.set_straight.Statement.{statement}
-use Rattle.window.proofs.action.set_straight.Tie as tie
+use Rattle.coxeter.specs.Windows.{identity}
+use Rattle.window.proofs.action.Actions.{take-identity-next, take-identity-end}
+use Rattle.window.proofs.action.set_identity.Statement.{statement}
+use Rattle.window.proofs.action.set_identity.Tie as tie
 
 abbrev Inv-loop : tie.InvT-loop
-Inv-loop w₀ i₀ e₀ w i e = (i ≤ length w) × (length w ≡ length w₀) × (take i w ≡ straight i) × (e ≡ i + 1)
+Inv-loop w₀ i₀ e₀ w i e = (i ≤ length w) × (length w ≡ length w₀) × (take i w ≡ identity i) × (e ≡ i + 1)
 
 abbrev μ-loop : tie.MeasureT-loop
 μ-loop w₀ i₀ e₀ w i e = length w₀ - i
 
 loop-holds : tie.Need-loop-holds Inv-loop μ-loop
-unfolding straight up
+unfolding identity up
 loop-holds c = (omega arith, refl, refl, refl)
 
 cast-w : tie.Need-cast-w Inv-loop μ-loop
@@ -39,17 +39,17 @@ loop-less c = omega arith
 loop-again : tie.Need-loop-again Inv-loop μ-loop
 loop-again c =
     let i = c .before .loop .inv in
-    let t = take-straight-next _ _ _ (c .loop-test .taken) (omega arith) (i .2) (i .3) in
+    let t = take-identity-next _ _ _ (c .loop-test .taken) (omega arith) (i .2) (i .3) in
     (simp length-set (omega arith), simp length-set (i .1), t, ap (λ (p : ℕ). p + 1) (i .3))
 
 same-length : tie.Need-same-length Inv-loop μ-loop
 same-length c = c .before .loop .inv .1
 
 returns : tie.Need-returns Inv-loop μ-loop
-returns c = let i = c .before .loop .inv in take-straight-end _ _ _ (c .loop-test .left) (i .0) (i .1) (i .2)
+returns c = let i = c .before .loop .inv in take-identity-end _ _ _ (c .loop-test .left) (i .0) (i .1) (i .2)
 
-pub set-straight-spec : {M : Type 1} → statement M
-set-straight-spec =
+pub set-identity-spec : {M : Type 1} → statement M
+set-identity-spec =
     tie.close
     (tie.spec
     Inv-loop
