@@ -6,7 +6,7 @@ use mathlib.Core.List.{List, [], _∷_}
 use Prim.Native.Nat.{ℕ}
 use lib.IntN.{ℤ, pos, negsuc}
 use Rattle.coxeter.specs.Kinds.{kindOf, up}
-use Rattle.coxeter.specs.Windows.{from, exchange, negateFirst, exchangeNegate, act, windowFrom, identity, window, at, product, signed, placeFrom, inverse}
+use Rattle.coxeter.specs.Windows.{from, swap, negateFirst, swapNegate, act, windowFrom, identity, window, at, product, signed, placeFrom, inverse}
 use Rattle.coxeter.specs.Length.{later, negative, one, laterThan, inversions, negativeSumPairs, negatives, crossings, total, windowLength}
 use Rattle.coxeter.specs.Checks.{wrongKind, wrongRank, tooLong, wrongLetter, tooShort, rankRefusal, wordRefusal}
 use Rattle.coxeter.specs.Checks.{wrongLanes, hasSize, negativeInA, wrongAt, wrongEntry, odd, oddNegatives, windowRefusal}
@@ -58,7 +58,7 @@ splits =
 pub splits-agree : Agree splits
 unfolding splits refused splitNumbers listedBeside splittingListed
     splitting parts splitOf written firstWord secondWord restInverse stripped lowest isDescent allows wrongSet setRefusal kindOf up
-    from exchange negateFirst exchangeNegate act windowFrom identity window at product signed placeFrom inverse
+    from swap negateFirst swapNegate act windowFrom identity window at product signed placeFrom inverse
     later negative one laterThan inversions negativeSumPairs negatives crossings total windowLength
     wrongKind wrongRank tooLong wrongLetter tooShort rankRefusal wordRefusal down rise fall block without indexOf restOf normalFrom normalForm
 splits-agree = refl

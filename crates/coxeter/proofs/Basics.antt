@@ -12,7 +12,7 @@ use lib.Dec.{eqb}
 use lib.IntN.{ℤ, pos}
 use lib.ListN.{length, length-map}
 use Rattle.coxeter.specs.Kinds.{Kind, A, B, D, pick, lanes, up}
-use Rattle.coxeter.specs.Windows.{from, exchange, negateFirst, exchangeNegate, act, windowFrom, identity, window}
+use Rattle.coxeter.specs.Windows.{from, swap, negateFirst, swapNegate, act, windowFrom, identity, window}
 
 -- ---- tests and cases
 
@@ -53,35 +53,35 @@ length-from f h zero w = h w
 length-from f h (suc p) [] = refl
 length-from f h (suc p) (x ∷ w) = ap suc (length-from f h p w)
 
-pub length-exchange : (w : List ℤ) → length (exchange w) ≡ length w
-unfolding exchange
-length-exchange [] = refl
-length-exchange (x ∷ []) = refl
-length-exchange (x ∷ y ∷ w) = refl
+pub length-swap : (w : List ℤ) → length (swap w) ≡ length w
+unfolding swap
+length-swap [] = refl
+length-swap (x ∷ []) = refl
+length-swap (x ∷ y ∷ w) = refl
 
 pub length-negateFirst : (w : List ℤ) → length (negateFirst w) ≡ length w
 unfolding negateFirst
 length-negateFirst [] = refl
 length-negateFirst (x ∷ w) = refl
 
-pub length-exchangeNegate : (w : List ℤ) → length (exchangeNegate w) ≡ length w
-unfolding exchangeNegate
-length-exchangeNegate [] = refl
-length-exchangeNegate (x ∷ []) = refl
-length-exchangeNegate (x ∷ y ∷ w) = refl
+pub length-swapNegate : (w : List ℤ) → length (swapNegate w) ≡ length w
+unfolding swapNegate
+length-swapNegate [] = refl
+length-swapNegate (x ∷ []) = refl
+length-swapNegate (x ∷ y ∷ w) = refl
 
 -- a step changes no length
 pub length-act : (k : Kind) (n s : ℕ) (w : List ℤ) → length (act k n s w) ≡ length w
 unfolding act
-length-act A n s w = length-from exchange length-exchange (s - 1) w
+length-act A n s w = length-from swap length-swap (s - 1) w
 length-act B n s w =
-    by-pick (λ f. length (f w) ≡ length w) (eqb s n) (from (n - 1) negateFirst) (from (s - 1) exchange)
+    by-pick (λ f. length (f w) ≡ length w) (eqb s n) (from (n - 1) negateFirst) (from (s - 1) swap)
     (length-from negateFirst length-negateFirst (n - 1) w)
-    (length-from exchange length-exchange (s - 1) w)
+    (length-from swap length-swap (s - 1) w)
 length-act D n s w =
-    by-pick (λ f. length (f w) ≡ length w) (eqb s n) (from (n - 2) exchangeNegate) (from (s - 1) exchange)
-    (length-from exchangeNegate length-exchangeNegate (n - 2) w)
-    (length-from exchange length-exchange (s - 1) w)
+    by-pick (λ f. length (f w) ≡ length w) (eqb s n) (from (n - 2) swapNegate) (from (s - 1) swap)
+    (length-from swapNegate length-swapNegate (n - 2) w)
+    (length-from swap length-swap (s - 1) w)
 
 pub length-windowFrom : (k : Kind) (n : ℕ) (w : List ℤ) (u : List ℕ) → length (windowFrom k n w u) ≡ length w
 unfolding windowFrom

@@ -10,12 +10,12 @@ use native.Mathlib.Omega.{arith}
 use lib.IntN.{ℤ, pos, negsuc, negℤ, natAbs, negℤ-negℤ}
 use lib.ListN.{length, length-append}
 use Rattle.coxeter.specs.Kinds.{Kind, A, B, D, lanes}
-use Rattle.coxeter.specs.Windows.{from, exchange, negateFirst, exchangeNegate, act, windowFrom, signed}
+use Rattle.coxeter.specs.Windows.{from, swap, negateFirst, swapNegate, act, windowFrom, signed}
 use Rattle.coxeter.specs.Length.{negative}
 use Rattle.coxeter.specs.Checks.{negativeInA}
 use Rattle.coxeter.specs.NormalForm.{block, levels, lastIndex, indexOf, restOf}
 use Rattle.coxeter.proofs.Basics.{windowFrom-append}
-use Rattle.coxeter.proofs.Steps.{act-exchange, act-B-last, act-D-last}
+use Rattle.coxeter.proofs.Steps.{act-swap, act-B-last, act-D-last}
 use Rattle.coxeter.proofs.Runs.{span, slide, span-nil, span-cons, slide-nil, slide-cons, slide-snoc, rise-span, Corner, block-up, block-turn}
 use Rattle.coxeter.proofs.Peeling.{restOf-positive, indexOf-positive, indexOf-negative}
 
@@ -28,18 +28,18 @@ from-append zero f (x ∷ u) v h = absurd (omega arith)
 from-append (suc p) f [] v h = absurd (omega arith)
 from-append (suc p) f (x ∷ u) v h = ap (λ (l : List ℤ). x ∷ l) (from-append p f u v (omega arith))
 
-act-exchange-append : (k : Kind) (n s : ℕ) (u : List ℤ) (x y : ℤ) (v : List ℤ) → s ≡ suc (length u) → s < lanes k n
+act-swap-append : (k : Kind) (n s : ℕ) (u : List ℤ) (x y : ℤ) (v : List ℤ) → s ≡ suc (length u) → s < lanes k n
     → act k n s (u ++ (x ∷ y ∷ v)) ≡ u ++ (y ∷ x ∷ v)
-unfolding exchange
-act-exchange-append k n s u x y v h l = rw (h, act-exchange k n (length u) (omega arith)) (from-append (length u) exchange u (x ∷ y ∷ v) refl)
+unfolding swap
+act-swap-append k n s u x y v h l = rw (h, act-swap k n (length u) (omega arith)) (from-append (length u) swap u (x ∷ y ∷ v) refl)
 
 act-negate-append : (n : ℕ) (u : List ℤ) (x : ℤ) → length u + 1 ≡ n → act B n n (u ++ (x ∷ [])) ≡ u ++ (negℤ x ∷ [])
 unfolding negateFirst
 act-negate-append n u x h = rw (act-B-last n (length u) h) (from-append (length u) negateFirst u (x ∷ []) refl)
 
-act-exchangeNegate-append : (n : ℕ) (u : List ℤ) (x y : ℤ) → length u + 2 ≡ n → act D n n (u ++ (x ∷ y ∷ [])) ≡ u ++ (negℤ y ∷ negℤ x ∷ [])
-unfolding exchangeNegate
-act-exchangeNegate-append n u x y h = rw (act-D-last n (length u) h) (from-append (length u) exchangeNegate u (x ∷ y ∷ []) refl)
+act-swapNegate-append : (n : ℕ) (u : List ℤ) (x y : ℤ) → length u + 2 ≡ n → act D n n (u ++ (x ∷ y ∷ [])) ≡ u ++ (negℤ y ∷ negℤ x ∷ [])
+unfolding swapNegate
+act-swapNegate-append n u x y h = rw (act-D-last n (length u) h) (from-append (length u) swapNegate u (x ∷ y ∷ []) refl)
 
 -- ---- runs
 
@@ -50,7 +50,7 @@ unfolding windowFrom
 windowFrom-span k n s c u x [] z h q l = rw (span-nil s c (omega arith))
 windowFrom-span k n s c u x (y ∷ v) z h q l =
     rw (span-cons s c (omega arith))
-    (ap (λ (w : List ℤ). windowFrom k n w (span (suc s) c)) (act-exchange-append k n s u x y (v ++ z) h (omega arith))
+    (ap (λ (w : List ℤ). windowFrom k n w (span (suc s) c)) (act-swap-append k n s u x y (v ++ z) h (omega arith))
     ∙ (simp append-assoc at (windowFrom-span k n (suc s) c (u ++ (y ∷ [])) x v z (omega (arith, length-append u (y ∷ []))) (omega arith) l)))
 
 -- going down, it moves back
@@ -62,7 +62,7 @@ windowFrom-slide k n s c u (y ∷ v) x z h q l =
     let r : windowFrom k n (u ++ (y ∷ (v ++ (x ∷ z)))) (slide c (suc s)) ≡ u ++ (y ∷ (x ∷ (v ++ z))) =
     simp append-assoc at (windowFrom-slide k n (suc s) c (u ++ (y ∷ [])) v x z (omega (arith, length-append u (y ∷ []))) (omega arith) l) in
     rw (slide-snoc c s (omega arith), windowFrom-append k n (u ++ (y ∷ (v ++ (x ∷ z)))) (slide c (suc s)) (s ∷ []))
-    (ap (act k n s) r ∙ act-exchange-append k n s u y x (v ++ z) h (omega arith))
+    (ap (act k n s) r ∙ act-swap-append k n s u y x (v ++ z) h (omega arith))
 
 -- ---- the turn
 
@@ -90,7 +90,7 @@ turn-D n i c x u m y e h q =
     let r : windowFrom D n (u ++ (pos i ∷ (m ++ (negℤ y ∷ [])))) (span i c) ≡ (u ++ m) ++ (pos i ∷ negℤ y ∷ []) =
     simp append-assoc (windowFrom-span D n i c u (pos i) m (negℤ y ∷ []) h (omega arith) (omega arith)) in
     rw (restOf-ending x m y, windowFrom-append D n (u ++ (pos i ∷ (m ++ (negℤ y ∷ [])))) (span i c) (n ∷ []))
-    (ap (act D n n) r ∙ act-exchangeNegate-append n (u ++ m) (pos i) (negℤ y) (omega (arith, length-append u m)) ∙ rw negℤ-negℤ (simp append-assoc))
+    (ap (act D n n) r ∙ act-swapNegate-append n (u ++ m) (pos i) (negℤ y) (omega (arith, length-append u m)) ∙ rw negℤ-negℤ (simp append-assoc))
 
 -- at the turn the entry i gets to the end with its sign changed, and in D the last entry its sign back
 windowFrom-turn : (k : Kind) (n i c x : ℕ) (u w : List ℤ) → Corner k n c → i ≡ suc (length u) → length w + i ≡ n → i ≤ levels k n

@@ -1,5 +1,5 @@
--- What an exchange and a change of signs do to the sum over the pairs (PairWeights): of all pairs only the one that
--- is exchanged weighs differently afterwards, by one. By cases on the two signs, and by recursion on the position.
+-- What a swap and a change of signs do to the sum over the pairs (PairWeights): of all pairs only the one that
+-- is swapped weighs differently afterwards, by one. By cases on the two signs, and by recursion on the position.
 --
 -- Sections: one pair; all pairs; two neighbouring entries; the weights of the pair.
 -- Not here: the steps of the kinds, and the length (Descents).
@@ -15,10 +15,10 @@ use lib.ListN.{length, getD, drop}
 use lib.Seq.{drop-cons}
 use borrow.Author.Tests.{ne-eqb, eqb-false, ltb-true, ltb-false, lt-ltb, le-ltb}
 use Rattle.coxeter.specs.Kinds.{Kind, A, B, D}
-use Rattle.coxeter.specs.Windows.{from, exchange, negateFirst, exchangeNegate}
+use Rattle.coxeter.specs.Windows.{from, swap, negateFirst, swapNegate}
 use Rattle.coxeter.specs.Length.{later, negative, one, laterThan, negatives}
 use Rattle.coxeter.specs.Checks.{hasSize}
-use Rattle.coxeter.proofs.Sizes.{natAbs-negℤ, hasSize-head, negatives-from-exchange}
+use Rattle.coxeter.proofs.Sizes.{natAbs-negℤ, hasSize-head, negatives-from-swap}
 use Rattle.coxeter.proofs.Levels.{Distinct, Level}
 use Rattle.coxeter.proofs.Places.{between-getD}
 use Rattle.coxeter.proofs.PairWeights.{weight, weights, pairWeights, signWeight, laterThan-add}
@@ -64,17 +64,17 @@ weight-later x y h d =
     let sums = laterThan-add x (y ∷ []) (rw (ne-eqb (natAbs y) 0 (omega arith))) (rw (ne-eqb (natAbs y) (natAbs x) d)) in
     omega arith
 
--- the pair exchanged
-weight-exchange : (x y : ℤ) → 1 ≤ natAbs x → 1 ≤ natAbs y → (natAbs y ≡ natAbs x → ⊥)
+-- the pair swapped
+weight-swap : (x y : ℤ) → 1 ≤ natAbs x → 1 ≤ natAbs y → (natAbs y ≡ natAbs x → ⊥)
     → weight y x + one (later x y) ≡ weight x y + one (later y x)
-weight-exchange x y a b d =
+weight-swap x y a b d =
     let same = ap one (later-negate x y a b) in
     omega (arith, weight-later x y b d, weight-later y x a (λ e. d (sym e)))
 
--- the pair exchanged, and both signs changed
-weight-exchangeNegate : (x y : ℤ) → 1 ≤ natAbs x → 1 ≤ natAbs y → (natAbs y ≡ natAbs x → ⊥)
+-- the pair swapped, and both signs changed
+weight-swapNegate : (x y : ℤ) → 1 ≤ natAbs x → 1 ≤ natAbs y → (natAbs y ≡ natAbs x → ⊥)
     → weight (negℤ y) (negℤ x) + one (later x (negℤ y)) ≡ weight x y + one (later (negℤ y) x)
-weight-exchangeNegate x y a b d =
+weight-swapNegate x y a b d =
     let same : later (negℤ y) (negℤ x) ≡ later x y = later-negate (negℤ y) x (rw natAbs-negℤ b) a ∙ ap (later x) (negℤ-negℤ y) in
     let flipped = weight-later (negℤ y) (negℤ x) (rw natAbs-negℤ a) (rw (natAbs-negℤ x, natAbs-negℤ y) (λ e. d (sym e))) in
     let counts = ap one same in
@@ -98,17 +98,17 @@ module _ (f : List ℤ → List ℤ) (same : (x : ℤ) (v : List ℤ) → weight
   pairWeights-from a b (suc p) [] l h = absurd (omega arith)
   pairWeights-from a b (suc p) (x ∷ w) l h = omega (arith, weights-from x p w, pairWeights-from a b p w (omega arith) h)
 
-weights-exchange : (x : ℤ) (v : List ℤ) → weights x (exchange v) ≡ weights x v
-unfolding exchange weights
-weights-exchange x [] = refl
-weights-exchange x (y ∷ []) = refl
-weights-exchange x (y ∷ z ∷ v) = omega arith
+weights-swap : (x : ℤ) (v : List ℤ) → weights x (swap v) ≡ weights x v
+unfolding swap weights
+weights-swap x [] = refl
+weights-swap x (y ∷ []) = refl
+weights-swap x (y ∷ z ∷ v) = omega arith
 
-weights-exchangeNegate : (x : ℤ) (v : List ℤ) → weights x (exchangeNegate v) ≡ weights x v
-unfolding exchangeNegate weights weight
-weights-exchangeNegate x [] = refl
-weights-exchangeNegate x (y ∷ []) = refl
-weights-exchangeNegate x (y ∷ z ∷ v) = rw (natAbs-negℤ y, natAbs-negℤ z) (omega arith)
+weights-swapNegate : (x : ℤ) (v : List ℤ) → weights x (swapNegate v) ≡ weights x v
+unfolding swapNegate weights weight
+weights-swapNegate x [] = refl
+weights-swapNegate x (y ∷ []) = refl
+weights-swapNegate x (y ∷ z ∷ v) = rw (natAbs-negℤ y, natAbs-negℤ z) (omega arith)
 
 -- the entry at position p alone
 pub negatives-from-negateFirst : (p : ℕ) (w : List ℤ) → p < length w
@@ -145,22 +145,22 @@ pair p w l h =
 -- ---- the weights of the pair
 
 -- before and after, with what the pair counts after and before
-pub exchange-weighs : (p : ℕ) (w : List ℤ) (x y : ℤ) (v : List ℤ) → p ≤ length w → Pair p w x y v
-    → pairWeights (from p exchange w) + one (later x y) ≡ pairWeights w + one (later y x)
-unfolding exchange pairWeights weights
-exchange-weighs p w x y v h q =
-    let turn = weight-exchange x y (q .first) (q .second) (q .apart) in
-    pairWeights-from exchange weights-exchange (one (later x y)) (one (later y x)) p w h (rw (q .rest) (omega arith))
+pub swap-weighs : (p : ℕ) (w : List ℤ) (x y : ℤ) (v : List ℤ) → p ≤ length w → Pair p w x y v
+    → pairWeights (from p swap w) + one (later x y) ≡ pairWeights w + one (later y x)
+unfolding swap pairWeights weights
+swap-weighs p w x y v h q =
+    let turn = weight-swap x y (q .first) (q .second) (q .apart) in
+    pairWeights-from swap weights-swap (one (later x y)) (one (later y x)) p w h (rw (q .rest) (omega arith))
 
-pub exchangeNegate-weighs : (p : ℕ) (w : List ℤ) (x y : ℤ) → p ≤ length w → Pair p w x y []
-    → pairWeights (from p exchangeNegate w) + one (later x (negℤ y)) ≡ pairWeights w + one (later (negℤ y) x)
-unfolding exchangeNegate pairWeights weights
-exchangeNegate-weighs p w x y h q =
-    let turn = weight-exchangeNegate x y (q .first) (q .second) (q .apart) in
-    pairWeights-from exchangeNegate weights-exchangeNegate (one (later x (negℤ y))) (one (later (negℤ y) x)) p w h (rw (q .rest) (omega arith))
+pub swapNegate-weighs : (p : ℕ) (w : List ℤ) (x y : ℤ) → p ≤ length w → Pair p w x y []
+    → pairWeights (from p swapNegate w) + one (later x (negℤ y)) ≡ pairWeights w + one (later (negℤ y) x)
+unfolding swapNegate pairWeights weights
+swapNegate-weighs p w x y h q =
+    let turn = weight-swapNegate x y (q .first) (q .second) (q .apart) in
+    pairWeights-from swapNegate weights-swapNegate (one (later x (negℤ y))) (one (later (negℤ y) x)) p w h (rw (q .rest) (omega arith))
 
-pub signWeight-exchange : (k : Kind) (p : ℕ) (w : List ℤ) → signWeight k (from p exchange w) ≡ signWeight k w
+pub signWeight-swap : (k : Kind) (p : ℕ) (w : List ℤ) → signWeight k (from p swap w) ≡ signWeight k w
 unfolding signWeight
-signWeight-exchange A p w = refl
-signWeight-exchange B p w = negatives-from-exchange p w
-signWeight-exchange D p w = refl
+signWeight-swap A p w = refl
+signWeight-swap B p w = negatives-from-swap p w
+signWeight-swap D p w = refl

@@ -14,16 +14,16 @@ use lib.IntN.{ℤ, pos, negℤ}
 use lib.ListN.{length, getD, drop, drop-of-length-le}
 use borrow.Author.Tests.{eq-eqb, ne-eqb}
 use Rattle.coxeter.specs.Kinds.{Kind, A, B, D, pick, lanes, least}
-use Rattle.coxeter.specs.Windows.{from, exchange, negateFirst, exchangeNegate, act, at}
+use Rattle.coxeter.specs.Windows.{from, swap, negateFirst, swapNegate, act, at}
 use Rattle.coxeter.specs.Length.{later, negative, one, windowLength}
 use Rattle.coxeter.proofs.Sizes.{natAbs-negℤ}
 use Rattle.coxeter.proofs.Levels.{Accepted, act-accepted}
-use Rattle.coxeter.proofs.Steps.{act-exchange, act-B-last, act-D-last}
+use Rattle.coxeter.proofs.Steps.{act-swap, act-B-last, act-D-last}
 use Rattle.coxeter.proofs.Places.{between-getD}
 use Rattle.coxeter.proofs.PairWeights.{pairWeights, signWeight, length-by-weights}
 use Rattle.coxeter.proofs.Lengths.{pairWeights-negateLast}
-use Rattle.coxeter.proofs.Crossings.{later-flip, negative-flip, pair, exchange-weighs}
-use Rattle.coxeter.proofs.Crossings.{exchangeNegate-weighs, signWeight-exchange, negatives-from-negateFirst}
+use Rattle.coxeter.proofs.Crossings.{later-flip, negative-flip, pair, swap-weighs}
+use Rattle.coxeter.proofs.Crossings.{swapNegate-weighs, signWeight-swap, negatives-from-negateFirst}
 
 -- ---- the definition
 
@@ -36,27 +36,27 @@ crossed D n s w = pick (eqb s n) (later (at w (pos (n - 1))) (negℤ (at w (pos 
 
 -- ---- the sorts of steps
 
--- step p + 1 exchanges the entries at positions p and p + 1, counted from 0, or is the last step of B or of D
+-- step p + 1 swaps the entries at positions p and p + 1, counted from 0, or is the last step of B or of D
 pub data Sort : Kind → ℕ → ℕ → Type 0 where
-  exchanges : (k : Kind) (n p : ℕ) → suc p < lanes k n → Sort k n (suc p)
+  swaps : (k : Kind) (n p : ℕ) → suc p < lanes k n → Sort k n (suc p)
   negates : (p : ℕ) → Sort B (suc p) (suc p)
-  exchangesNegates : (p : ℕ) → Sort D (suc (suc p)) (suc (suc p))
+  swapsNegates : (p : ℕ) → Sort D (suc (suc p)) (suc (suc p))
 
 pub sortOf : (k : Kind) (n s : ℕ) → least k ≤ n → 1 ≤ s → s ≤ n → Sort k n s
 sortOf k n zero r o l = absurd (omega arith)
-sortOf A n (suc p) r o l = exchanges A n p (omega arith)
-sortOf B n (suc p) r o l = elim (ℕ-discrete (suc p) n) [ yes e ↦ rw (← e) (negates p) | no e ↦ exchanges B n p (omega arith) ]
-sortOf D n (suc zero) r o l = exchanges D n 0 (omega arith)
+sortOf A n (suc p) r o l = swaps A n p (omega arith)
+sortOf B n (suc p) r o l = elim (ℕ-discrete (suc p) n) [ yes e ↦ rw (← e) (negates p) | no e ↦ swaps B n p (omega arith) ]
+sortOf D n (suc zero) r o l = swaps D n 0 (omega arith)
 sortOf D n (suc (suc p)) r o l =
-    elim (ℕ-discrete (suc (suc p)) n) [ yes e ↦ rw (← e) (exchangesNegates p) | no e ↦ exchanges D n (suc p) (omega arith) ]
+    elim (ℕ-discrete (suc (suc p)) n) [ yes e ↦ rw (← e) (swapsNegates p) | no e ↦ swaps D n (suc p) (omega arith) ]
 
 -- what each sort compares, with positions from 0
-pub crossed-exchange : (k : Kind) (n p : ℕ) (w : List ℤ) → suc p < lanes k n
+pub crossed-swap : (k : Kind) (n p : ℕ) (w : List ℤ) → suc p < lanes k n
     → crossed k n (suc p) w ≡ later (getD w p (pos 0)) (getD w (suc p) (pos 0))
 unfolding crossed at
-crossed-exchange A n p w h = refl
-crossed-exchange B n p w h = rw (ne-eqb (suc p) n (omega arith))
-crossed-exchange D n p w h = rw (ne-eqb (suc p) n (omega arith))
+crossed-swap A n p w h = refl
+crossed-swap B n p w h = rw (ne-eqb (suc p) n (omega arith))
+crossed-swap D n p w h = rw (ne-eqb (suc p) n (omega arith))
 
 pub crossed-B-last : (p : ℕ) (w : List ℤ) → crossed B (suc p) (suc p) w ≡ negative (getD w p (pos 0))
 unfolding crossed at
@@ -79,18 +79,18 @@ record Turned (k : Kind) (n s : ℕ) (w : List ℤ) : Type 0 where
   flips : after ≡ not before
   weighs : pairWeights result + signWeight k result + one before ≡ pairWeights w + signWeight k w + one after
 
-turned-exchange : (k : Kind) (n p : ℕ) (w : List ℤ) → suc p < lanes k n → Accepted k n w → Turned k n (suc p) w
-turned-exchange k n p w h c =
+turned-swap : (k : Kind) (n p : ℕ) (w : List ℤ) → suc p < lanes k n → Accepted k n w → Turned k n (suc p) w
+turned-swap k n p w h c =
     let e = c .size in
     let q = pair p w (c .level) (omega arith) in
     record {
-      result = from p exchange w;
+      result = from p swap w;
       before = later (getD w p (pos 0)) (getD w (suc p) (pos 0));
       after = later (getD w (suc p) (pos 0)) (getD w p (pos 0));
-      acts = ap (λ f. f w) (act-exchange k n p h);
-      was = crossed-exchange k n p w h;
+      acts = ap (λ f. f w) (act-swap k n p h);
+      was = crossed-swap k n p w h;
       flips = later-flip _ _ (q .apart);
-      weighs = omega (arith, exchange-weighs p w _ _ _ (omega arith) q, signWeight-exchange k p w);
+      weighs = omega (arith, swap-weighs p w _ _ _ (omega arith) q, signWeight-swap k p w);
     }
 
 turned-negate : (p : ℕ) (w : List ℤ) → Accepted B (suc p) w → Turned B (suc p) (suc p) w
@@ -108,26 +108,26 @@ turned-negate p w c =
       weighs = omega (arith, negatives-from-negateFirst p w (omega arith), rw last at (pairWeights-negateLast w));
     }
 
-turned-exchangeNegate : (p : ℕ) (w : List ℤ) → Accepted D (suc (suc p)) w → Turned D (suc (suc p)) (suc (suc p)) w
+turned-swapNegate : (p : ℕ) (w : List ℤ) → Accepted D (suc (suc p)) w → Turned D (suc (suc p)) (suc (suc p)) w
 unfolding signWeight
-turned-exchangeNegate p w c =
+turned-swapNegate p w c =
     let e = c .size in
     let none : drop (suc (suc p)) w ≡ [] = drop-of-length-le w {i = suc (suc p)} (omega arith) in
     let q = rw none at (pair p w (c .level) (omega arith)) in
     record {
-      result = from p exchangeNegate w;
+      result = from p swapNegate w;
       before = later (getD w p (pos 0)) (negℤ (getD w (suc p) (pos 0)));
       after = later (negℤ (getD w (suc p) (pos 0))) (getD w p (pos 0));
       acts = ap (λ f. f w) (act-D-last (suc (suc p)) p (omega arith));
       was = crossed-D-last p w;
       flips = later-flip _ _ (rw natAbs-negℤ (q .apart));
-      weighs = omega (arith, exchangeNegate-weighs p w _ _ (omega arith) q);
+      weighs = omega (arith, swapNegate-weighs p w _ _ (omega arith) q);
     }
 
 turned : {k : Kind} {n s : ℕ} (w : List ℤ) → Sort k n s → Accepted k n w → Turned k n s w
-turned w (exchanges k n p h) c = turned-exchange k n p w h c
+turned w (swaps k n p h) c = turned-swap k n p w h c
 turned w (negates p) c = turned-negate p w c
-turned w (exchangesNegates p) c = turned-exchangeNegate p w c
+turned w (swapsNegates p) c = turned-swapNegate p w c
 
 -- ---- the length
 

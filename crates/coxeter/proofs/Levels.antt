@@ -12,14 +12,14 @@ use lib.IntN.{ℤ, pos, negℤ, natAbs}
 use lib.ListN.{length}
 use borrow.Author.Tests.{eqb-true, eqb-false, eq-eqb, ne-eqb, ltb-false, le-ltb, not-false}
 use Rattle.coxeter.specs.Kinds.{Kind, A, B, D, pick, lanes, up}
-use Rattle.coxeter.specs.Windows.{from, exchange, negateFirst, exchangeNegate, act, windowFrom, identity, window}
+use Rattle.coxeter.specs.Windows.{from, swap, negateFirst, swapNegate, act, windowFrom, identity, window}
 use Rattle.coxeter.specs.Length.{negatives}
 use Rattle.coxeter.specs.Checks.{check, _then_, hasSize, wrongLanes, wrongAt, wrongEntry, odd, oddNegatives, windowRefusal, WindowOf}
 use Rattle.coxeter.specs.NormalForm.{without}
 use Rattle.coxeter.proofs.Basics.{length-identity, by-pick}
 use Rattle.coxeter.proofs.Sizes.{or-left-comm, hasSize-without, length-le-without, wrongEntry-cons, hasSize-head}
 use Rattle.coxeter.proofs.Sizes.{hasSize-tail, PositiveInA, positiveInA-nil, positiveInA-cons, positiveInA-head}
-use Rattle.coxeter.proofs.Sizes.{positiveInA-tail, natAbs-negℤ, negatives-from-exchange, odd-from-exchangeNegate, negatives-map-pos}
+use Rattle.coxeter.proofs.Sizes.{positiveInA-tail, natAbs-negℤ, negatives-from-swap, odd-from-swapNegate, negatives-map-pos}
 use Rattle.coxeter.proofs.Refusals.{then-zero, check-zero}
 
 -- every size is at least i and below c
@@ -182,9 +182,9 @@ sameSizes-cons y x v w q h =
       distinct = λ d. rw q (h .sizes (natAbs x) ∙ d .0, h .distinct (d .1));
     }
 
-sameSizes-swap : (x y x′ y′ : ℤ) (w : List ℤ) → natAbs x′ ≡ natAbs x → natAbs y′ ≡ natAbs y → SameSizes (y′ ∷ x′ ∷ w) (x ∷ y ∷ w)
+sameSizes-pair : (x y x′ y′ : ℤ) (w : List ℤ) → natAbs x′ ≡ natAbs x → natAbs y′ ≡ natAbs y → SameSizes (y′ ∷ x′ ∷ w) (x ∷ y ∷ w)
 unfolding hasSize
-sameSizes-swap x y x′ y′ w p q =
+sameSizes-pair x y x′ y′ w p q =
     record {
       count = refl;
       sizes = λ s. rw (p, q) (or-left-comm (eqb (natAbs y) s) (eqb (natAbs x) s) (hasSize s w));
@@ -200,22 +200,22 @@ sameSizes-swap x y x′ y′ w p q =
         eqb-false (natAbs y) (natAbs x) (hasSize-head (natAbs x) y w (d .0)) in
         ne-eqb (natAbs x) (natAbs y) (λ e. ne (sym e))
 
-sameSizes-exchange : (w : List ℤ) → SameSizes (exchange w) w
-unfolding exchange
-sameSizes-exchange [] = sameSizes-refl []
-sameSizes-exchange (x ∷ []) = sameSizes-refl (x ∷ [])
-sameSizes-exchange (x ∷ y ∷ w) = sameSizes-swap x y x y w refl refl
+sameSizes-swap : (w : List ℤ) → SameSizes (swap w) w
+unfolding swap
+sameSizes-swap [] = sameSizes-refl []
+sameSizes-swap (x ∷ []) = sameSizes-refl (x ∷ [])
+sameSizes-swap (x ∷ y ∷ w) = sameSizes-pair x y x y w refl refl
 
 pub sameSizes-negateFirst : (w : List ℤ) → SameSizes (negateFirst w) w
 unfolding negateFirst
 sameSizes-negateFirst [] = sameSizes-refl []
 sameSizes-negateFirst (x ∷ w) = sameSizes-cons (negℤ x) x w w (natAbs-negℤ x) (sameSizes-refl w)
 
-sameSizes-exchangeNegate : (w : List ℤ) → SameSizes (exchangeNegate w) w
-unfolding exchangeNegate
-sameSizes-exchangeNegate [] = sameSizes-refl []
-sameSizes-exchangeNegate (x ∷ []) = sameSizes-refl (x ∷ [])
-sameSizes-exchangeNegate (x ∷ y ∷ w) = sameSizes-swap x y (negℤ x) (negℤ y) w (natAbs-negℤ x) (natAbs-negℤ y)
+sameSizes-swapNegate : (w : List ℤ) → SameSizes (swapNegate w) w
+unfolding swapNegate
+sameSizes-swapNegate [] = sameSizes-refl []
+sameSizes-swapNegate (x ∷ []) = sameSizes-refl (x ∷ [])
+sameSizes-swapNegate (x ∷ y ∷ w) = sameSizes-pair x y (negℤ x) (negℤ y) w (natAbs-negℤ x) (natAbs-negℤ y)
 
 pub sameSizes-from : (f : List ℤ → List ℤ) → ((w : List ℤ) → SameSizes (f w) w) → (p : ℕ) (w : List ℤ) → SameSizes (from p f w) w
 unfolding from
@@ -225,15 +225,15 @@ sameSizes-from f h (suc p) (x ∷ w) = sameSizes-cons x x (from p f w) w refl (s
 
 pub sameSizes-act : (k : Kind) (n s : ℕ) (w : List ℤ) → SameSizes (act k n s w) w
 unfolding act
-sameSizes-act A n s w = sameSizes-from exchange sameSizes-exchange (s - 1) w
+sameSizes-act A n s w = sameSizes-from swap sameSizes-swap (s - 1) w
 sameSizes-act B n s w =
-    by-pick (λ f. SameSizes (f w) w) (eqb s n) (from (n - 1) negateFirst) (from (s - 1) exchange)
+    by-pick (λ f. SameSizes (f w) w) (eqb s n) (from (n - 1) negateFirst) (from (s - 1) swap)
     (sameSizes-from negateFirst sameSizes-negateFirst (n - 1) w)
-    (sameSizes-from exchange sameSizes-exchange (s - 1) w)
+    (sameSizes-from swap sameSizes-swap (s - 1) w)
 sameSizes-act D n s w =
-    by-pick (λ f. SameSizes (f w) w) (eqb s n) (from (n - 2) exchangeNegate) (from (s - 1) exchange)
-    (sameSizes-from exchangeNegate sameSizes-exchangeNegate (n - 2) w)
-    (sameSizes-from exchange sameSizes-exchange (s - 1) w)
+    by-pick (λ f. SameSizes (f w) w) (eqb s n) (from (n - 2) swapNegate) (from (s - 1) swap)
+    (sameSizes-from swapNegate sameSizes-swapNegate (n - 2) w)
+    (sameSizes-from swap sameSizes-swap (s - 1) w)
 
 -- ---- the windows of words
 
@@ -274,12 +274,12 @@ identity-accepted k n =
 
 signs-act : (k : Kind) (n s c : ℕ) (w : List ℤ) → Between 1 c w → Signs k w → Signs k (act k n s w)
 unfolding act
-signs-act A n s c w b h = negatives-from-exchange (s - 1) w ∙ h
+signs-act A n s c w b h = negatives-from-swap (s - 1) w ∙ h
 signs-act B n s c w b h = tt
 signs-act D n s c w b h =
-    by-pick (λ f. odd (negatives (f w)) ≡ false) (eqb s n) (from (n - 2) exchangeNegate) (from (s - 1) exchange)
-    (odd-from-exchangeNegate (n - 2) w (hasSize-below 1 c 0 w (omega arith) b) ∙ h)
-    (rw negatives-from-exchange h)
+    by-pick (λ f. odd (negatives (f w)) ≡ false) (eqb s n) (from (n - 2) swapNegate) (from (s - 1) swap)
+    (odd-from-swapNegate (n - 2) w (hasSize-below 1 c 0 w (omega arith) b) ∙ h)
+    (rw negatives-from-swap h)
 
 pub act-accepted : (k : Kind) (n s : ℕ) (w : List ℤ) → Accepted k n w → Accepted k n (act k n s w)
 act-accepted k n s w h =

@@ -14,7 +14,7 @@ use lib.IntN.{ℤ, pos, negsuc, negℤ, natAbs, negℤ-negℤ}
 use lib.ListN.{length, getD, length-map, List·getD-map}
 use lib.Seq.{ext-getD}
 use Rattle.coxeter.specs.Kinds.{Kind, A, B, D, lanes, up}
-use Rattle.coxeter.specs.Windows.{from, exchange, negateFirst, exchangeNegate, act, windowFrom, identity, window, at, product}
+use Rattle.coxeter.specs.Windows.{from, swap, negateFirst, swapNegate, act, windowFrom, identity, window, at, product}
 use Rattle.coxeter.proofs.Basics.{length-identity, length-window, windowFrom-append, by-pick}
 use Rattle.coxeter.proofs.Levels.{Between}
 
@@ -96,35 +96,35 @@ map-from f g h zero w = h w
 map-from f g h (suc p) [] = refl
 map-from f g h (suc p) (x ∷ w) = ap (λ (l : List ℤ). f x ∷ l) (map-from f g h p w)
 
-map-exchange : (f : ℤ → ℤ) (w : List ℤ) → map f (exchange w) ≡ exchange (map f w)
-unfolding exchange
-map-exchange f [] = refl
-map-exchange f (x ∷ []) = refl
-map-exchange f (x ∷ y ∷ w) = refl
+map-swap : (f : ℤ → ℤ) (w : List ℤ) → map f (swap w) ≡ swap (map f w)
+unfolding swap
+map-swap f [] = refl
+map-swap f (x ∷ []) = refl
+map-swap f (x ∷ y ∷ w) = refl
 
 map-negateFirst : (f : ℤ → ℤ) → ((x : ℤ) → f (negℤ x) ≡ negℤ (f x)) → (w : List ℤ) → map f (negateFirst w) ≡ negateFirst (map f w)
 unfolding negateFirst
 map-negateFirst f h [] = refl
 map-negateFirst f h (x ∷ w) = rw h
 
-map-exchangeNegate : (f : ℤ → ℤ) → ((x : ℤ) → f (negℤ x) ≡ negℤ (f x)) → (w : List ℤ) → map f (exchangeNegate w) ≡ exchangeNegate (map f w)
-unfolding exchangeNegate
-map-exchangeNegate f h [] = refl
-map-exchangeNegate f h (x ∷ []) = refl
-map-exchangeNegate f h (x ∷ y ∷ w) = rw (h x, h y)
+map-swapNegate : (f : ℤ → ℤ) → ((x : ℤ) → f (negℤ x) ≡ negℤ (f x)) → (w : List ℤ) → map f (swapNegate w) ≡ swapNegate (map f w)
+unfolding swapNegate
+map-swapNegate f h [] = refl
+map-swapNegate f h (x ∷ []) = refl
+map-swapNegate f h (x ∷ y ∷ w) = rw (h x, h y)
 
 -- a step commutes with every map that respects signs
 pub map-act : (f : ℤ → ℤ) → ((x : ℤ) → f (negℤ x) ≡ negℤ (f x)) → (k : Kind) (n s : ℕ) (w : List ℤ) → map f (act k n s w) ≡ act k n s (map f w)
 unfolding act
-map-act f h A n s w = map-from f exchange (map-exchange f) (s - 1) w
+map-act f h A n s w = map-from f swap (map-swap f) (s - 1) w
 map-act f h B n s w =
-    by-pick (λ g. map f (g w) ≡ g (map f w)) (eqb s n) (from (n - 1) negateFirst) (from (s - 1) exchange)
+    by-pick (λ g. map f (g w) ≡ g (map f w)) (eqb s n) (from (n - 1) negateFirst) (from (s - 1) swap)
     (map-from f negateFirst (map-negateFirst f h) (n - 1) w)
-    (map-from f exchange (map-exchange f) (s - 1) w)
+    (map-from f swap (map-swap f) (s - 1) w)
 map-act f h D n s w =
-    by-pick (λ g. map f (g w) ≡ g (map f w)) (eqb s n) (from (n - 2) exchangeNegate) (from (s - 1) exchange)
-    (map-from f exchangeNegate (map-exchangeNegate f h) (n - 2) w)
-    (map-from f exchange (map-exchange f) (s - 1) w)
+    by-pick (λ g. map f (g w) ≡ g (map f w)) (eqb s n) (from (n - 2) swapNegate) (from (s - 1) swap)
+    (map-from f swapNegate (map-swapNegate f h) (n - 2) w)
+    (map-from f swap (map-swap f) (s - 1) w)
 
 pub product-act : (k : Kind) (n s : ℕ) (w x : List ℤ) → product w (act k n s x) ≡ act k n s (product w x)
 unfolding product

@@ -20,17 +20,17 @@ use Rattle.coxeter.proofs.Basics.{length-act, length-identity}
 use Rattle.coxeter.proofs.Products.{getD-identity}
 use Rattle.coxeter.proofs.Congruence.{congruent-one}
 use Rattle.coxeter.proofs.Relations.{congruent-window}
-use Rattle.coxeter.proofs.WindowEntries.{step-exchanges, last-step-in-B, last-step-in-D}
+use Rattle.coxeter.proofs.WindowEntries.{step-swaps, last-step-in-B, last-step-in-D}
 
 -- ---- entries that tell two windows apart
 
--- step p + 1 as an exchange of the entries at positions p and p + 1, counted from 0
-exchanged : (k : Kind) (n p : ℕ) (w : List ℤ) → suc p < lanes k n → length w ≡ lanes k n
+-- step p + 1 as a swap of the entries at positions p and p + 1, counted from 0
+swapped : (k : Kind) (n p : ℕ) (w : List ℤ) → suc p < lanes k n → length w ≡ lanes k n
     → (getD (act k n (suc p) w) p (pos 0) ≡ getD w (suc p) (pos 0)) × (getD (act k n (suc p) w) (suc p) (pos 0) ≡ getD w p (pos 0))
     × ((i : ℕ) → (i ≡ p → ⊥) → (i ≡ suc p → ⊥) → getD (act k n (suc p) w) i (pos 0) ≡ getD w i (pos 0))
-exchanged k n p w h e =
+swapped k n p w h e =
     let q : suc p - 1 ≡ p = omega arith in
-    rw q at (step-exchanges k n (suc p) w (omega arith) h (omega arith))
+    rw q at (step-swaps k n (suc p) w (omega arith) h (omega arith))
 
 -- steps p + 1 and b, where b leaves position p alone
 module _ (k : Kind) (n p b : ℕ) (h : suc p < lanes k n)
@@ -42,17 +42,17 @@ module _ (k : Kind) (n p b : ℕ) (h : suc p < lanes k n)
   two-alike e =
       let s = identity (lanes k n) in
       let g = length-identity (lanes k n) in
-      sym (low (act k n (suc p) s) (length-act k n (suc p) s ∙ g) ∙ exchanged k n p s h g .0 ∙ getD-identity (lanes k n) (suc p) h)
+      sym (low (act k n (suc p) s) (length-act k n (suc p) s ∙ g) ∙ swapped k n p s h g .0 ∙ getD-identity (lanes k n) (suc p) h)
       ∙ ap (λ (w : List ℤ). getD w p (pos 0)) e
-      ∙ exchanged k n p (act k n b s) h (length-act k n b s ∙ g) .0
+      ∙ swapped k n p (act k n b s) h (length-act k n b s ∙ g) .0
 
--- a b and b a where both steps are exchanges
-differ-exchanges : (k : Kind) (n p : ℕ) → suc (suc p) < lanes k n
+-- a b and b a where both steps are swaps
+differ-swaps : (k : Kind) (n p : ℕ) → suc (suc p) < lanes k n
     → window k n (suc p ∷ suc (suc p) ∷ []) ≡ window k n (suc (suc p) ∷ suc p ∷ []) → ⊥
-differ-exchanges k n p h e =
+differ-swaps k n p h e =
     let z : pos (suc (suc p)) ≡ pos (suc (suc (suc p))) =
-    two-alike k n p (suc (suc p)) (omega arith) (λ w g. exchanged k n (suc p) w h g .2 p (λ q. omega arith) (λ q. omega arith)) e
-    ∙ exchanged k n (suc p) (identity (lanes k n)) h (length-identity (lanes k n)) .0
+    two-alike k n p (suc (suc p)) (omega arith) (λ w g. swapped k n (suc p) w h g .2 p (λ q. omega arith) (λ q. omega arith)) e
+    ∙ swapped k n (suc p) (identity (lanes k n)) h (length-identity (lanes k n)) .0
     ∙ getD-identity (lanes k n) (suc (suc p)) h in
     let q : suc (suc p) ≡ suc (suc (suc p)) = cc in
     omega arith
@@ -105,12 +105,12 @@ differ-three-B p e =
     let ga : length sa ≡ n = length-act B n (suc p) s ∙ g in
     let gb : length sb ≡ n = length-act B n n s ∙ g in
     let first : getD (act B n (suc p) (act B n n sa)) p (pos 0) ≡ negsuc p =
-    exchanged B n p (act B n n sa) (omega arith) (length-act B n n sa ∙ ga) .0
+    swapped B n p (act B n n sa) (omega arith) (length-act B n n sa ∙ ga) .0
     ∙ lastB p sa ga .0
-    ∙ ap negℤ (exchanged B n p s (omega arith) g .1 ∙ getD-identity n p (omega arith)) in
+    ∙ ap negℤ (swapped B n p s (omega arith) g .1 ∙ getD-identity n p (omega arith)) in
     let second : getD (act B n n (act B n (suc p) sb)) p (pos 0) ≡ negsuc (suc p) =
     lastB p (act B n (suc p) sb) (length-act B n (suc p) sb ∙ gb) .1
-    ∙ exchanged B n p sb (omega arith) gb .0
+    ∙ swapped B n p sb (omega arith) gb .0
     ∙ lastB p s g .0
     ∙ ap negℤ (getD-identity n (suc p) (omega arith)) in
     let z : negsuc p ≡ negsuc (suc p) = sym first ∙ ap (λ (w : List ℤ). getD w p (pos 0)) e ∙ second in
@@ -142,9 +142,9 @@ sorted D n a b h l =
 -- neighbours do not commute
 neighbours-differ : (k : Kind) (n a b : ℕ) → 1 ≤ a → b ≤ n → Neighbours k n a b → window k n (a ∷ b ∷ []) ≡ window k n (b ∷ a ∷ []) → ⊥
 neighbours-differ k n zero b o l h e = absurd (omega arith)
-neighbours-differ A n (suc p) b o l h e = let q : b ≡ suc (suc p) = omega arith in differ-exchanges A n p (omega arith) (rw q at e)
-neighbours-differ B n (suc p) b o l h e = let q : b ≡ suc (suc p) = omega arith in differ-exchanges B n p (omega arith) (rw q at e)
-neighbours-differ D n (suc p) b o l (inl h) e = let q : b ≡ suc (suc p) = omega arith in differ-exchanges D n p (omega arith) (rw q at e)
+neighbours-differ A n (suc p) b o l h e = let q : b ≡ suc (suc p) = omega arith in differ-swaps A n p (omega arith) (rw q at e)
+neighbours-differ B n (suc p) b o l h e = let q : b ≡ suc (suc p) = omega arith in differ-swaps B n p (omega arith) (rw q at e)
+neighbours-differ D n (suc p) b o l (inl h) e = let q : b ≡ suc (suc p) = omega arith in differ-swaps D n p (omega arith) (rw q at e)
 neighbours-differ D n (suc p) b o l (inr h) e =
     let q : b ≡ suc (suc (suc p)) = omega arith in
     let r : n ≡ suc (suc (suc p)) = omega arith in

@@ -16,14 +16,14 @@ use lib.IntN.{ℤ}
 use lib.ListN.{length, length-append}
 use borrow.Author.Tests.{le-ltb, ne-eqb}
 use Rattle.coxeter.specs.Kinds.{Kind, A, B, D, lanes}
-use Rattle.coxeter.specs.Windows.{exchange, negateFirst, exchangeNegate, act, windowFrom, identity, window}
+use Rattle.coxeter.specs.Windows.{swap, negateFirst, swapNegate, act, windowFrom, identity, window}
 use Rattle.coxeter.specs.Relations.{Neighbours, FourfoldPair, Commuting, Braid, threefold, fourfold, commute}
 use Rattle.coxeter.specs.Relations.{Relation, twice, braid, Application, forth, back, Congruent}
 use Rattle.coxeter.specs.Checks.{wrongLetter}
 use Rattle.coxeter.proofs.Basics.{windowFrom-append, length-windowFrom, length-identity}
 use Rattle.coxeter.proofs.Congruence.{congruent-keeps}
-use Rattle.coxeter.proofs.Steps.{from-commute, from-exchange-exchangeNegate, from-exchange-threefold}
-use Rattle.coxeter.proofs.Steps.{from-exchangeNegate-threefold, from-negateFirst-fourfold, act-exchange}
+use Rattle.coxeter.proofs.Steps.{from-commute, from-swap-swapNegate, from-swap-threefold}
+use Rattle.coxeter.proofs.Steps.{from-swapNegate-threefold, from-negateFirst-fourfold, act-swap}
 use Rattle.coxeter.proofs.Steps.{act-B-last, act-D-last, act-involution}
 
 -- ---- pairs of steps
@@ -70,46 +70,46 @@ apart-commuting D n a b (inr (inr h)) = (omega arith, elim [ inl nb ↦ omega ar
 
 -- ---- a relation's sides (steps a = p + 1 and b = q + 1)
 
-threefold-exchange : (k : Kind) (n p q : ℕ) → p + 1 ≡ q → suc q < lanes k n → (w : List ℤ) → length w ≡ lanes k n
+threefold-swap : (k : Kind) (n p q : ℕ) → p + 1 ≡ q → suc q < lanes k n → (w : List ℤ) → length w ≡ lanes k n
     → act k n (suc p) (act k n (suc q) (act k n (suc p) w)) ≡ act k n (suc q) (act k n (suc p) (act k n (suc q) w))
-threefold-exchange k n p q f h w e =
-    rw (← f, act-exchange k n p (omega arith), act-exchange k n (p + 1) (omega arith)) (from-exchange-threefold p w (omega arith))
+threefold-swap k n p q f h w e =
+    rw (← f, act-swap k n p (omega arith), act-swap k n (p + 1) (omega arith)) (from-swap-threefold p w (omega arith))
 
 threefold-acts : (k : Kind) (n p q : ℕ) → suc q ≤ n → Neighbours k n (suc p) (suc q) → (w : List ℤ) → length w ≡ lanes k n
     → act k n (suc p) (act k n (suc q) (act k n (suc p) w)) ≡ act k n (suc q) (act k n (suc p) (act k n (suc q) w))
-threefold-acts A n p q l h w e = threefold-exchange A n p q (omega arith) (omega arith) w e
-threefold-acts B n p q l h w e = threefold-exchange B n p q (omega arith) (omega arith) w e
-threefold-acts D n p q l (inl h) w e = threefold-exchange D n p q (omega arith) (omega arith) w e
+threefold-acts A n p q l h w e = threefold-swap A n p q (omega arith) (omega arith) w e
+threefold-acts B n p q l h w e = threefold-swap B n p q (omega arith) (omega arith) w e
+threefold-acts D n p q l (inl h) w e = threefold-swap D n p q (omega arith) (omega arith) w e
 threefold-acts D n p q l (inr h) w e =
-    rw (h .1, act-exchange D n p (omega arith), act-D-last n (p + 1) (omega arith)) (from-exchangeNegate-threefold p w (omega arith))
+    rw (h .1, act-swap D n p (omega arith), act-D-last n (p + 1) (omega arith)) (from-swapNegate-threefold p w (omega arith))
 
 fourfold-acts : (k : Kind) (n p q : ℕ) → FourfoldPair k n (suc p) (suc q) → (w : List ℤ) → length w ≡ lanes k n
     → act k n (suc q) (act k n (suc p) (act k n (suc q) (act k n (suc p) w)))
     ≡ act k n (suc p) (act k n (suc q) (act k n (suc p) (act k n (suc q) w)))
 fourfold-acts A n p q h w e = absurd h
 fourfold-acts B n p q h w e =
-    rw (h .1, act-exchange B n p (omega arith), act-B-last n (p + 1) (omega arith)) (from-negateFirst-fourfold p w (omega arith))
+    rw (h .1, act-swap B n p (omega arith), act-B-last n (p + 1) (omega arith)) (from-negateFirst-fourfold p w (omega arith))
 fourfold-acts D n p q h w e = absurd h
 
-apart-exchange : (k : Kind) (n p q : ℕ) → p + 2 ≤ q → suc q < lanes k n → (w : List ℤ)
+apart-swap : (k : Kind) (n p q : ℕ) → p + 2 ≤ q → suc q < lanes k n → (w : List ℤ)
     → act k n (suc q) (act k n (suc p) w) ≡ act k n (suc p) (act k n (suc q) w)
-apart-exchange k n p q h l w =
-    rw (act-exchange k n p (omega arith), act-exchange k n q l) (sym (from-commute exchange p q h w))
+apart-swap k n p q h l w =
+    rw (act-swap k n p (omega arith), act-swap k n q l) (sym (from-commute swap p q h w))
 
 apart-acts : (k : Kind) (n p q : ℕ) → suc q ≤ n → Apart k n (suc p) (suc q) → (w : List ℤ)
     → act k n (suc q) (act k n (suc p) w) ≡ act k n (suc p) (act k n (suc q) w)
-apart-acts A n p q l h w = apart-exchange A n p q (omega arith) (omega arith) w
+apart-acts A n p q l h w = apart-swap A n p q (omega arith) (omega arith) w
 apart-acts B n p q l h w =
     elim (ℕ-discrete (suc q) n) [
-      | yes e ↦ rw (e, act-exchange B n p (omega arith), act-B-last n q (omega arith)) (sym (from-commute negateFirst p q (omega arith) w))
-      | no e ↦ apart-exchange B n p q (omega arith) (omega arith) w
+      | yes e ↦ rw (e, act-swap B n p (omega arith), act-B-last n q (omega arith)) (sym (from-commute negateFirst p q (omega arith) w))
+      | no e ↦ apart-swap B n p q (omega arith) (omega arith) w
     ]
-apart-acts D n p q l (inl h) w = apart-exchange D n p q (omega arith) (omega arith) w
+apart-acts D n p q l (inl h) w = apart-swap D n p q (omega arith) (omega arith) w
 apart-acts D n p zero l (inr (inl h)) w = absurd (omega arith)
 apart-acts D n p (suc q) l (inr (inl h)) w =
-    rw (h .1, act-exchange D n p (omega arith), act-D-last n q (omega arith)) (sym (from-commute exchangeNegate p q (omega arith) w))
+    rw (h .1, act-swap D n p (omega arith), act-D-last n q (omega arith)) (sym (from-commute swapNegate p q (omega arith) w))
 apart-acts D n p q l (inr (inr h)) w =
-    rw (h .1, act-exchange D n p (omega arith), act-D-last n p (omega arith)) (sym (from-exchange-exchangeNegate p w))
+    rw (h .1, act-swap D n p (omega arith), act-D-last n p (omega arith)) (sym (from-swap-swapNegate p w))
 
 braid-acts : (k : Kind) (n : ℕ) {l r : List ℕ} → Braid k n l r → (w : List ℤ) → length w ≡ lanes k n
     → windowFrom k n w l ≡ windowFrom k n w r

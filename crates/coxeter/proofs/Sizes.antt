@@ -13,7 +13,7 @@ use lib.IntN.{ℤ, pos, negsuc, negℤ, natAbs}
 use lib.ListN.{length}
 use borrow.Author.Tests.{eqb-false}
 use Rattle.coxeter.specs.Kinds.{Kind, A, B, D, pick}
-use Rattle.coxeter.specs.Windows.{from, exchange, exchangeNegate}
+use Rattle.coxeter.specs.Windows.{from, swap, swapNegate}
 use Rattle.coxeter.specs.Length.{negative, negatives, one}
 use Rattle.coxeter.specs.Checks.{hasSize, wrongAt, wrongEntry, negativeInA, odd}
 use Rattle.coxeter.specs.NormalForm.{without}
@@ -117,17 +117,17 @@ negative-negℤ (pos zero) h = absurd (h refl)
 negative-negℤ (pos (suc x)) h = refl
 negative-negℤ (negsuc x) h = refl
 
-negatives-exchange : (w : List ℤ) → negatives (exchange w) ≡ negatives w
-unfolding exchange negatives
-negatives-exchange [] = refl
-negatives-exchange (x ∷ []) = refl
-negatives-exchange (x ∷ y ∷ w) = omega arith
+negatives-swap : (w : List ℤ) → negatives (swap w) ≡ negatives w
+unfolding swap negatives
+negatives-swap [] = refl
+negatives-swap (x ∷ []) = refl
+negatives-swap (x ∷ y ∷ w) = omega arith
 
-pub negatives-from-exchange : (p : ℕ) (w : List ℤ) → negatives (from p exchange w) ≡ negatives w
+pub negatives-from-swap : (p : ℕ) (w : List ℤ) → negatives (from p swap w) ≡ negatives w
 unfolding from negatives
-negatives-from-exchange zero w = negatives-exchange w
-negatives-from-exchange (suc p) [] = refl
-negatives-from-exchange (suc p) (x ∷ w) = ap (λ (m : ℕ). one (negative x) + m) (negatives-from-exchange p w)
+negatives-from-swap zero w = negatives-swap w
+negatives-from-swap (suc p) [] = refl
+negatives-from-swap (suc p) (x ∷ w) = ap (λ (m : ℕ). one (negative x) + m) (negatives-from-swap p w)
 
 pub odd-one-add : (t : Bool) (m : ℕ) → odd (one t + m) ≡ pick t (not (odd m)) (odd m)
 unfolding odd one
@@ -148,19 +148,19 @@ odd-negate-both a b m = simp odd-one-add (go a b)
 nonzero : (e : ℤ) (w : List ℤ) → hasSize 0 (e ∷ w) ≡ false → natAbs e ≡ 0 → ⊥
 nonzero e w h = eqb-false (natAbs e) 0 (hasSize-head 0 e w h)
 
-odd-exchangeNegate : (w : List ℤ) → hasSize 0 w ≡ false → odd (negatives (exchangeNegate w)) ≡ odd (negatives w)
-unfolding exchangeNegate negatives
-odd-exchangeNegate [] h = refl
-odd-exchangeNegate (x ∷ []) h = refl
-odd-exchangeNegate (x ∷ y ∷ w) h =
+odd-swapNegate : (w : List ℤ) → hasSize 0 w ≡ false → odd (negatives (swapNegate w)) ≡ odd (negatives w)
+unfolding swapNegate negatives
+odd-swapNegate [] h = refl
+odd-swapNegate (x ∷ []) h = refl
+odd-swapNegate (x ∷ y ∷ w) h =
     rw (negative-negℤ x (nonzero x (y ∷ w) h), negative-negℤ y (nonzero y w (hasSize-tail 0 x (y ∷ w) h)))
     (odd-negate-both (negative x) (negative y) (negatives w))
 
-pub odd-from-exchangeNegate : (p : ℕ) (w : List ℤ) → hasSize 0 w ≡ false → odd (negatives (from p exchangeNegate w)) ≡ odd (negatives w)
+pub odd-from-swapNegate : (p : ℕ) (w : List ℤ) → hasSize 0 w ≡ false → odd (negatives (from p swapNegate w)) ≡ odd (negatives w)
 unfolding from negatives
-odd-from-exchangeNegate zero w h = odd-exchangeNegate w h
-odd-from-exchangeNegate (suc p) [] h = refl
-odd-from-exchangeNegate (suc p) (x ∷ w) h = simp odd-one-add (rw (odd-from-exchangeNegate p w (hasSize-tail 0 x w h)))
+odd-from-swapNegate zero w h = odd-swapNegate w h
+odd-from-swapNegate (suc p) [] h = refl
+odd-from-swapNegate (suc p) (x ∷ w) h = simp odd-one-add (rw (odd-from-swapNegate p w (hasSize-tail 0 x w h)))
 
 pub negatives-map-pos : (l : List ℕ) → negatives (map pos l) ≡ 0
 unfolding negatives negative one

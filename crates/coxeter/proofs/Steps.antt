@@ -14,7 +14,7 @@ use lib.IntN.{ℤ, negℤ-negℤ}
 use lib.ListN.{length}
 use borrow.Author.Tests.{eq-eqb, ne-eqb}
 use Rattle.coxeter.specs.Kinds.{Kind, A, B, D, lanes}
-use Rattle.coxeter.specs.Windows.{from, exchange, negateFirst, exchangeNegate, act}
+use Rattle.coxeter.specs.Windows.{from, swap, negateFirst, swapNegate, act}
 use Rattle.coxeter.proofs.Basics.{by-pick}
 
 -- ---- from a position on
@@ -50,127 +50,127 @@ from-involution f e p w = from-from p f f w ∙ from-fixed (λ v. f (f v)) e p w
 
 -- ---- the first entries
 
-pub exchange-involution : (w : List ℤ) → exchange (exchange w) ≡ w
-unfolding exchange
-exchange-involution [] = refl
-exchange-involution (x ∷ []) = refl
-exchange-involution (x ∷ y ∷ w) = refl
+pub swap-involution : (w : List ℤ) → swap (swap w) ≡ w
+unfolding swap
+swap-involution [] = refl
+swap-involution (x ∷ []) = refl
+swap-involution (x ∷ y ∷ w) = refl
 
 pub negateFirst-involution : (w : List ℤ) → negateFirst (negateFirst w) ≡ w
 unfolding negateFirst
 negateFirst-involution [] = refl
 negateFirst-involution (x ∷ w) = rw negℤ-negℤ
 
-pub exchangeNegate-involution : (w : List ℤ) → exchangeNegate (exchangeNegate w) ≡ w
-unfolding exchangeNegate
-exchangeNegate-involution [] = refl
-exchangeNegate-involution (x ∷ []) = refl
-exchangeNegate-involution (x ∷ y ∷ w) = rw (negℤ-negℤ x, negℤ-negℤ y)
+pub swapNegate-involution : (w : List ℤ) → swapNegate (swapNegate w) ≡ w
+unfolding swapNegate
+swapNegate-involution [] = refl
+swapNegate-involution (x ∷ []) = refl
+swapNegate-involution (x ∷ y ∷ w) = rw (negℤ-negℤ x, negℤ-negℤ y)
 
-pub exchange-exchangeNegate : (w : List ℤ) → exchange (exchangeNegate w) ≡ exchangeNegate (exchange w)
-unfolding exchange exchangeNegate
-exchange-exchangeNegate [] = refl
-exchange-exchangeNegate (x ∷ []) = refl
-exchange-exchangeNegate (x ∷ y ∷ w) = refl
+pub swap-swapNegate : (w : List ℤ) → swap (swapNegate w) ≡ swapNegate (swap w)
+unfolding swap swapNegate
+swap-swapNegate [] = refl
+swap-swapNegate (x ∷ []) = refl
+swap-swapNegate (x ∷ y ∷ w) = refl
 
--- an exchange and whatever happens behind it
-pub exchange-from : (g : List ℤ → List ℤ) (w : List ℤ) → exchange (from 2 g w) ≡ from 2 g (exchange w)
-unfolding exchange from
-exchange-from g [] = refl
-exchange-from g (x ∷ []) = refl
-exchange-from g (x ∷ y ∷ w) = refl
+-- a swap and whatever happens behind it
+pub swap-from : (g : List ℤ → List ℤ) (w : List ℤ) → swap (from 2 g w) ≡ from 2 g (swap w)
+unfolding swap from
+swap-from g [] = refl
+swap-from g (x ∷ []) = refl
+swap-from g (x ∷ y ∷ w) = refl
 
-exchange-threefold : (w : List ℤ) → 3 ≤ length w
-    → exchange (from 1 exchange (exchange w)) ≡ from 1 exchange (exchange (from 1 exchange w))
-unfolding exchange from
-exchange-threefold [] h = absurd (omega arith)
-exchange-threefold (x ∷ []) h = absurd (omega arith)
-exchange-threefold (x ∷ y ∷ []) h = absurd (omega arith)
-exchange-threefold (x ∷ y ∷ z ∷ w) h = refl
+swap-threefold : (w : List ℤ) → 3 ≤ length w
+    → swap (from 1 swap (swap w)) ≡ from 1 swap (swap (from 1 swap w))
+unfolding swap from
+swap-threefold [] h = absurd (omega arith)
+swap-threefold (x ∷ []) h = absurd (omega arith)
+swap-threefold (x ∷ y ∷ []) h = absurd (omega arith)
+swap-threefold (x ∷ y ∷ z ∷ w) h = refl
 
-exchangeNegate-threefold : (w : List ℤ) → 3 ≤ length w
-    → exchange (from 1 exchangeNegate (exchange w)) ≡ from 1 exchangeNegate (exchange (from 1 exchangeNegate w))
-unfolding exchange exchangeNegate from
-exchangeNegate-threefold [] h = absurd (omega arith)
-exchangeNegate-threefold (x ∷ []) h = absurd (omega arith)
-exchangeNegate-threefold (x ∷ y ∷ []) h = absurd (omega arith)
-exchangeNegate-threefold (x ∷ y ∷ z ∷ w) h = rw (negℤ-negℤ y)
+swapNegate-threefold : (w : List ℤ) → 3 ≤ length w
+    → swap (from 1 swapNegate (swap w)) ≡ from 1 swapNegate (swap (from 1 swapNegate w))
+unfolding swap swapNegate from
+swapNegate-threefold [] h = absurd (omega arith)
+swapNegate-threefold (x ∷ []) h = absurd (omega arith)
+swapNegate-threefold (x ∷ y ∷ []) h = absurd (omega arith)
+swapNegate-threefold (x ∷ y ∷ z ∷ w) h = rw (negℤ-negℤ y)
 
 negateFirst-fourfold : (w : List ℤ) → 2 ≤ length w
-    → from 1 negateFirst (exchange (from 1 negateFirst (exchange w))) ≡ exchange (from 1 negateFirst (exchange (from 1 negateFirst w)))
-unfolding exchange negateFirst from
+    → from 1 negateFirst (swap (from 1 negateFirst (swap w))) ≡ swap (from 1 negateFirst (swap (from 1 negateFirst w)))
+unfolding swap negateFirst from
 negateFirst-fourfold [] h = absurd (omega arith)
 negateFirst-fourfold (x ∷ []) h = absurd (omega arith)
 negateFirst-fourfold (x ∷ y ∷ w) h = refl
 
 -- ---- at any position
 
--- an exchange and whatever happens two positions further on or more
-pub from-commute : (g : List ℤ → List ℤ) (p q : ℕ) → p + 2 ≤ q → (w : List ℤ) → from p exchange (from q g w) ≡ from q g (from p exchange w)
+-- a swap and whatever happens two positions further on or more
+pub from-commute : (g : List ℤ → List ℤ) (p q : ℕ) → p + 2 ≤ q → (w : List ℤ) → from p swap (from q g w) ≡ from q g (from p swap w)
 from-commute g p q h w =
     let r : ℕ = q - (p + 2) in
     let e : q ≡ p + (2 + r) = omega arith in
-    rw e (simp (from-add, from-from) (ap (λ f. from p f w) (fun-ext (exchange-from (from r g)))))
+    rw e (simp (from-add, from-from) (ap (λ f. from p f w) (fun-ext (swap-from (from r g)))))
 
-pub from-exchange-exchangeNegate : (p : ℕ) (w : List ℤ) → from p exchange (from p exchangeNegate w) ≡ from p exchangeNegate (from p exchange w)
-from-exchange-exchangeNegate p w = simp from-from (ap (λ f. from p f w) (fun-ext exchange-exchangeNegate))
+pub from-swap-swapNegate : (p : ℕ) (w : List ℤ) → from p swap (from p swapNegate w) ≡ from p swapNegate (from p swap w)
+from-swap-swapNegate p w = simp from-from (ap (λ f. from p f w) (fun-ext swap-swapNegate))
 
 from-threefold : (g : List ℤ → List ℤ)
-    → ((v : List ℤ) → 3 ≤ length v → exchange (from 1 g (exchange v)) ≡ from 1 g (exchange (from 1 g v)))
+    → ((v : List ℤ) → 3 ≤ length v → swap (from 1 g (swap v)) ≡ from 1 g (swap (from 1 g v)))
     → (p : ℕ) (w : List ℤ) → p + 3 ≤ length w
-    → from p exchange (from (p + 1) g (from p exchange w)) ≡ from (p + 1) g (from p exchange (from (p + 1) g w))
+    → from p swap (from (p + 1) g (from p swap w)) ≡ from (p + 1) g (from p swap (from (p + 1) g w))
 from-threefold g e p w h = simp (from-add, from-from) (from-congr 3 e p w h)
 
-pub from-exchange-threefold : (p : ℕ) (w : List ℤ) → p + 3 ≤ length w
-    → from p exchange (from (p + 1) exchange (from p exchange w)) ≡ from (p + 1) exchange (from p exchange (from (p + 1) exchange w))
-from-exchange-threefold = from-threefold exchange exchange-threefold
+pub from-swap-threefold : (p : ℕ) (w : List ℤ) → p + 3 ≤ length w
+    → from p swap (from (p + 1) swap (from p swap w)) ≡ from (p + 1) swap (from p swap (from (p + 1) swap w))
+from-swap-threefold = from-threefold swap swap-threefold
 
-pub from-exchangeNegate-threefold : (p : ℕ) (w : List ℤ) → p + 3 ≤ length w
-    → from p exchange (from (p + 1) exchangeNegate (from p exchange w)) ≡ from (p + 1) exchangeNegate (from p exchange (from (p + 1) exchangeNegate w))
-from-exchangeNegate-threefold = from-threefold exchangeNegate exchangeNegate-threefold
+pub from-swapNegate-threefold : (p : ℕ) (w : List ℤ) → p + 3 ≤ length w
+    → from p swap (from (p + 1) swapNegate (from p swap w)) ≡ from (p + 1) swapNegate (from p swap (from (p + 1) swapNegate w))
+from-swapNegate-threefold = from-threefold swapNegate swapNegate-threefold
 
 pub from-negateFirst-fourfold : (p : ℕ) (w : List ℤ) → p + 2 ≤ length w
-    → from (p + 1) negateFirst (from p exchange (from (p + 1) negateFirst (from p exchange w)))
-    ≡ from p exchange (from (p + 1) negateFirst (from p exchange (from (p + 1) negateFirst w)))
+    → from (p + 1) negateFirst (from p swap (from (p + 1) negateFirst (from p swap w)))
+    ≡ from p swap (from (p + 1) negateFirst (from p swap (from (p + 1) negateFirst w)))
 from-negateFirst-fourfold p w h = simp (from-add, from-from) (from-congr 2 negateFirst-fourfold p w h)
 
 -- ---- the steps (step p + 1 works from position p on)
 
--- in A every step exchanges
-pub act-A : (n p : ℕ) → act A n (suc p) ≡ from p exchange
+-- in A every step swaps
+pub act-A : (n p : ℕ) → act A n (suc p) ≡ from p swap
 unfolding act
 act-A n p = let e : suc p - 1 ≡ p = omega arith in rw e
 
 -- in each kind every step but the last
-pub act-ne : (k : Kind) (n p : ℕ) → (suc p ≡ n → ⊥) → act k n (suc p) ≡ from p exchange
+pub act-ne : (k : Kind) (n p : ℕ) → (suc p ≡ n → ⊥) → act k n (suc p) ≡ from p swap
 unfolding act
 act-ne A n p h = act-A n p
 act-ne B n p h = let e : suc p - 1 ≡ p = omega arith in rw (ne-eqb (suc p) n h, e)
 act-ne D n p h = let e : suc p - 1 ≡ p = omega arith in rw (ne-eqb (suc p) n h, e)
 
 -- both at once: every step that has a lane behind its own
-pub act-exchange : (k : Kind) (n p : ℕ) → suc p < lanes k n → act k n (suc p) ≡ from p exchange
-act-exchange A n p h = act-A n p
-act-exchange B n p h = act-ne B n p (omega arith)
-act-exchange D n p h = act-ne D n p (omega arith)
+pub act-swap : (k : Kind) (n p : ℕ) → suc p < lanes k n → act k n (suc p) ≡ from p swap
+act-swap A n p h = act-A n p
+act-swap B n p h = act-ne B n p (omega arith)
+act-swap D n p h = act-ne D n p (omega arith)
 
 pub act-B-last : (n p : ℕ) → p + 1 ≡ n → act B n n ≡ from p negateFirst
 unfolding act
 act-B-last n p h = let e : n - 1 ≡ p = omega arith in rw (eq-eqb n n refl, e)
 
-pub act-D-last : (n p : ℕ) → p + 2 ≡ n → act D n n ≡ from p exchangeNegate
+pub act-D-last : (n p : ℕ) → p + 2 ≡ n → act D n n ≡ from p swapNegate
 unfolding act
 act-D-last n p h = let e : n - 2 ≡ p = omega arith in rw (eq-eqb n n refl, e)
 
 -- a step undoes itself
 pub act-involution : (k : Kind) (n s : ℕ) (w : List ℤ) → act k n s (act k n s w) ≡ w
 unfolding act
-act-involution A n s w = from-involution exchange exchange-involution (s - 1) w
+act-involution A n s w = from-involution swap swap-involution (s - 1) w
 act-involution B n s w =
-    by-pick (λ f. f (f w) ≡ w) (eqb s n) (from (n - 1) negateFirst) (from (s - 1) exchange)
+    by-pick (λ f. f (f w) ≡ w) (eqb s n) (from (n - 1) negateFirst) (from (s - 1) swap)
     (from-involution negateFirst negateFirst-involution (n - 1) w)
-    (from-involution exchange exchange-involution (s - 1) w)
+    (from-involution swap swap-involution (s - 1) w)
 act-involution D n s w =
-    by-pick (λ f. f (f w) ≡ w) (eqb s n) (from (n - 2) exchangeNegate) (from (s - 1) exchange)
-    (from-involution exchangeNegate exchangeNegate-involution (n - 2) w)
-    (from-involution exchange exchange-involution (s - 1) w)
+    by-pick (λ f. f (f w) ≡ w) (eqb s n) (from (n - 2) swapNegate) (from (s - 1) swap)
+    (from-involution swapNegate swapNegate-involution (n - 2) w)
+    (from-involution swap swap-involution (s - 1) w)

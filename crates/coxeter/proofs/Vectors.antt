@@ -20,7 +20,7 @@ use Rattle.coxeter.specs.declared.Choice.the-variants as choices
 use Rattle.coxeter.specs.declared.Counted.{Counted}
 use Rattle.coxeter.specs.declared.Counted.the-variants as counted
 use Rattle.coxeter.specs.Kinds.{A, B, D, kindOf, up}
-use Rattle.coxeter.specs.Windows.{from, exchange, negateFirst, exchangeNegate, act, windowFrom, identity, window, at, product, signed, placeFrom, inverse}
+use Rattle.coxeter.specs.Windows.{from, swap, negateFirst, swapNegate, act, windowFrom, identity, window, at, product, signed, placeFrom, inverse}
 use Rattle.coxeter.specs.Length.{later, negative, one, laterThan, inversions, negativeSumPairs, negatives, crossings, total, windowLength}
 use Rattle.coxeter.specs.Dictionary.{before, shortlex}
 use Rattle.coxeter.specs.Checks.{wrongKind, wrongRank, tooLong, wrongLetter, wrongLanes, hasSize, negativeInA, wrongAt}
@@ -77,7 +77,7 @@ writingWindows =
 
 pub writing-windows : Agree writingWindows
 unfolding writingWindows
-    kindOf up from exchange negateFirst exchangeNegate act windowFrom identity window at product signed placeFrom inverse negative one negatives
+    kindOf up from swap negateFirst swapNegate act windowFrom identity window at product signed placeFrom inverse negative one negatives
     wrongKind wrongRank tooLong wrongLetter wrongLanes hasSize negativeInA wrongAt wrongEntry odd oddNegatives tooShort
     rankRefusal wordRefusal windowRefusal
     answerOf written writes windowOfWord productOfWindows inverseOfWindow
@@ -112,7 +112,7 @@ writingWords =
 
 pub writing-words : Agree writingWords
 unfolding writingWords
-    kindOf up from exchange negateFirst exchangeNegate act windowFrom identity window at product signed placeFrom inverse negative one negatives
+    kindOf up from swap negateFirst swapNegate act windowFrom identity window at product signed placeFrom inverse negative one negatives
     wrongKind wrongRank tooLong wrongLetter wrongLanes hasSize negativeInA wrongAt wrongEntry odd oddNegatives tooShort
     rankRefusal wordRefusal windowRefusal
     down rise fall block without indexOf restOf normalFrom normalForm
@@ -138,7 +138,7 @@ measuring =
 
 pub measuring-lengths : Agree measuring
 unfolding measuring
-    kindOf up from exchange negateFirst act windowFrom identity window
+    kindOf up from swap negateFirst act windowFrom identity window
     later negative one laterThan inversions negativeSumPairs negatives crossings total windowLength
     wrongKind wrongRank tooLong wrongLetter wrongLanes hasSize negativeInA wrongAt wrongEntry odd oddNegatives rankRefusal wordRefusal windowRefusal
     answerOf lengthOfWindow lengthOfWord
@@ -165,7 +165,7 @@ counting =
 
 pub counting-crossings : Agree counting
 unfolding counting
-    kindOf up from exchange negateFirst exchangeNegate act windowFrom identity window
+    kindOf up from swap negateFirst swapNegate act windowFrom identity window
     later negative one laterThan inversions negativeSumPairs negatives crossings
     wrongKind wrongRank tooLong wrongLetter wrongLanes hasSize negativeInA wrongAt wrongEntry odd oddNegatives rankRefusal wordRefusal windowRefusal
     countedOf crossingsOfWindow crossingsOfWord
@@ -190,7 +190,7 @@ verdicts =
 
 pub equality-verdicts : Agree verdicts
 unfolding verdicts
-    kindOf up from exchange negateFirst exchangeNegate act windowFrom identity window wrongKind wrongRank tooLong wrongLetter rankRefusal wordRefusal
+    kindOf up from swap negateFirst swapNegate act windowFrom identity window wrongKind wrongRank tooLong wrongLetter rankRefusal wordRefusal
     sameEntry sameWindow samePresets verdictOf presetsEqual
 equality-verdicts = refl
 
@@ -201,14 +201,14 @@ pub alike-B-and-D : let u : List ℕ = 2 ∷ 3 ∷ 4 ∷ 3 ∷ 2 ∷ 1 ∷ 2 ∷
     (presetsEqual 2 4 u 3 4 v ≡ verdict.Yes)
     × (window B 4 u ≡ negℤ (pos 1) ∷ negℤ (pos 2) ∷ pos 3 ∷ pos 4 ∷ [])
     × (wordNormalForm B 4 u ≡ u) × (wordNormalForm D 4 v ≡ v) × (u ≡ v → ⊥)
-unfolding kindOf up from exchange negateFirst exchangeNegate act windowFrom identity window signed placeFrom
+unfolding kindOf up from swap negateFirst swapNegate act windowFrom identity window signed placeFrom
     down rise fall block without indexOf restOf normalFrom normalForm
     wrongKind wrongRank tooLong wrongLetter rankRefusal wordRefusal sameEntry sameWindow samePresets verdictOf presetsEqual
 alike-B-and-D = (refl, refl, refl, refl, λ e. let l : _≡_ {A = ℕ} 12 10 = ap length e in omega (arith, l))
 
 -- and of kinds A, with three steps, and B, with four: four lanes each
 pub alike-A-and-B : presetsEqual 1 3 (1 ∷ 2 ∷ []) 2 4 (1 ∷ 2 ∷ []) ≡ verdict.Yes
-unfolding kindOf up from exchange act windowFrom identity window wrongKind wrongRank tooLong wrongLetter rankRefusal wordRefusal
+unfolding kindOf up from swap act windowFrom identity window wrongKind wrongRank tooLong wrongLetter rankRefusal wordRefusal
     sameEntry sameWindow samePresets verdictOf presetsEqual
 alike-A-and-B = refl
 
@@ -232,7 +232,7 @@ choosing =
 
 pub better-words : Agree choosing
 unfolding choosing
-    kindOf up from exchange act windowFrom identity window wrongKind wrongRank tooLong wrongLetter rankRefusal wordRefusal
+    kindOf up from swap act windowFrom identity window wrongKind wrongRank tooLong wrongLetter rankRefusal wordRefusal
     before shortlex sameEntry sameWindow equalWords handsBack choice
 better-words = refl
 

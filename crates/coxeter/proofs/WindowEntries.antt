@@ -17,12 +17,12 @@ use lib.ListN.{length, getD, set, length-set, length-map, List·getD-eq-default}
 use lib.Seq.{getD-set-same, getD-set-other}
 use borrow.Author.Tests.{lt-ltb, le-ltb}
 use Rattle.coxeter.specs.Kinds.{Kind, B, D, pick, lanes, up}
-use Rattle.coxeter.specs.Windows.{from, exchange, negateFirst, exchangeNegate, act, windowFrom, identity, window, at, product, inverse}
+use Rattle.coxeter.specs.Windows.{from, swap, negateFirst, swapNegate, act, windowFrom, identity, window, at, product, inverse}
 use Rattle.coxeter.specs.Length.{later}
 use Rattle.coxeter.specs.Checks.{WindowOf}
 use Rattle.coxeter.proofs.Basics.{length-up, length-identity, windowFrom-append}
 use Rattle.coxeter.proofs.Levels.{Between, Accepted, accepted-of-refusal}
-use Rattle.coxeter.proofs.Steps.{act-exchange, act-B-last, act-D-last}
+use Rattle.coxeter.proofs.Steps.{act-swap, act-B-last, act-D-last}
 use Rattle.coxeter.proofs.Products.{getD-up, getD-map, getD-identity, length-product, getD-product, at-negate, product-assoc}
 use Rattle.coxeter.proofs.Products.{product-identity, identity-product}
 use Rattle.coxeter.proofs.Inverses as inverses
@@ -39,13 +39,13 @@ pair-set p x y w v h e =
       λ i f g. getD-set-other (set w p x) (suc p) i y (pos 0) g ∙ getD-set-other w p i x (pos 0) f,
     )
 
-exchange-set : (p : ℕ) (w : List ℤ) → suc p < length w → from p exchange w ≡ set (set w p (getD w (suc p) (pos 0))) (suc p) (getD w p (pos 0))
-unfolding from exchange
-exchange-set zero [] h = absurd (omega arith)
-exchange-set zero (x ∷ []) h = absurd (omega arith)
-exchange-set zero (x ∷ y ∷ w) h = refl
-exchange-set (suc p) [] h = absurd (omega arith)
-exchange-set (suc p) (x ∷ w) h = ap (λ (l : List ℤ). x ∷ l) (exchange-set p w (omega arith))
+swap-set : (p : ℕ) (w : List ℤ) → suc p < length w → from p swap w ≡ set (set w p (getD w (suc p) (pos 0))) (suc p) (getD w p (pos 0))
+unfolding from swap
+swap-set zero [] h = absurd (omega arith)
+swap-set zero (x ∷ []) h = absurd (omega arith)
+swap-set zero (x ∷ y ∷ w) h = refl
+swap-set (suc p) [] h = absurd (omega arith)
+swap-set (suc p) (x ∷ w) h = ap (λ (l : List ℤ). x ∷ l) (swap-set p w (omega arith))
 
 negateFirst-set : (p : ℕ) (w : List ℤ) → p < length w → from p negateFirst w ≡ set w p (negℤ (getD w p (pos 0)))
 unfolding from negateFirst
@@ -54,25 +54,25 @@ negateFirst-set zero (x ∷ w) h = refl
 negateFirst-set (suc p) [] h = absurd (omega arith)
 negateFirst-set (suc p) (x ∷ w) h = ap (λ (l : List ℤ). x ∷ l) (negateFirst-set p w (omega arith))
 
-exchangeNegate-set : (p : ℕ) (w : List ℤ) → suc p < length w
-    → from p exchangeNegate w ≡ set (set w p (negℤ (getD w (suc p) (pos 0)))) (suc p) (negℤ (getD w p (pos 0)))
-unfolding from exchangeNegate
-exchangeNegate-set zero [] h = absurd (omega arith)
-exchangeNegate-set zero (x ∷ []) h = absurd (omega arith)
-exchangeNegate-set zero (x ∷ y ∷ w) h = refl
-exchangeNegate-set (suc p) [] h = absurd (omega arith)
-exchangeNegate-set (suc p) (x ∷ w) h = ap (λ (l : List ℤ). x ∷ l) (exchangeNegate-set p w (omega arith))
+swapNegate-set : (p : ℕ) (w : List ℤ) → suc p < length w
+    → from p swapNegate w ≡ set (set w p (negℤ (getD w (suc p) (pos 0)))) (suc p) (negℤ (getD w p (pos 0)))
+unfolding from swapNegate
+swapNegate-set zero [] h = absurd (omega arith)
+swapNegate-set zero (x ∷ []) h = absurd (omega arith)
+swapNegate-set zero (x ∷ y ∷ w) h = refl
+swapNegate-set (suc p) [] h = absurd (omega arith)
+swapNegate-set (suc p) (x ∷ w) h = ap (λ (l : List ℤ). x ∷ l) (swapNegate-set p w (omega arith))
 
--- K7: step s, in kind A every step and in B and D every step below n, exchanges the entries at positions s and s + 1
+-- K7: step s, in kind A every step and in B and D every step below n, swaps the entries at positions s and s + 1
 -- and changes no other
-pub step-exchanges : (k : Kind) (n s : ℕ) (w : List ℤ) → 1 ≤ s → s < lanes k n → s < length w
+pub step-swaps : (k : Kind) (n s : ℕ) (w : List ℤ) → 1 ≤ s → s < lanes k n → s < length w
     → (getD (act k n s w) (s - 1) (pos 0) ≡ getD w s (pos 0))
     × (getD (act k n s w) s (pos 0) ≡ getD w (s - 1) (pos 0))
     × ((i : ℕ) → (i ≡ s - 1 → ⊥) → (i ≡ s → ⊥) → getD (act k n s w) i (pos 0) ≡ getD w i (pos 0))
-step-exchanges k n zero w o l h = absurd (omega arith)
-step-exchanges k n (suc p) w o l h =
+step-swaps k n zero w o l h = absurd (omega arith)
+step-swaps k n (suc p) w o l h =
     let e : suc p - 1 ≡ p = omega arith in
-    rw e (pair-set p _ _ w (act k n (suc p) w) h (ap (λ f. f w) (act-exchange k n p l) ∙ exchange-set p w h))
+    rw e (pair-set p _ _ w (act k n (suc p) w) h (ap (λ f. f w) (act-swap k n p l) ∙ swap-set p w h))
 
 -- K8: in kind B step n changes the sign of the entry at position n and changes no other
 pub last-step-in-B : (n : ℕ) (w : List ℤ) → 1 ≤ n → n ≤ length w
@@ -85,7 +85,7 @@ last-step-in-B (suc p) w o h =
     ap (λ f. f w) (act-B-last (suc p) p (omega arith)) ∙ negateFirst-set p w h in
     rw (e, s) (getD-set-same w p _ (pos 0) h, λ i f. getD-set-other w p i _ (pos 0) f)
 
--- K9: in kind D step n exchanges the entries at positions n − 1 and n, changes the sign of both, and changes no other
+-- K9: in kind D step n swaps the entries at positions n − 1 and n, changes the sign of both, and changes no other
 pub last-step-in-D : (n : ℕ) (w : List ℤ) → 2 ≤ n → n ≤ length w
     → (getD (act D n n w) (n - 2) (pos 0) ≡ negℤ (getD w (n - 1) (pos 0)))
     × (getD (act D n n w) (n - 1) (pos 0) ≡ negℤ (getD w (n - 2) (pos 0)))
@@ -97,7 +97,7 @@ last-step-in-D (suc (suc p)) w o h =
     let f : suc (suc p) - 1 ≡ suc p = omega arith in
     rw (e, f)
     (pair-set p _ _ w (act D (suc (suc p)) (suc (suc p)) w) h
-    (ap (λ g. g w) (act-D-last (suc (suc p)) p (omega arith)) ∙ exchangeNegate-set p w h))
+    (ap (λ g. g w) (act-D-last (suc (suc p)) p (omega arith)) ∙ swapNegate-set p w h))
 
 -- ---- words
 

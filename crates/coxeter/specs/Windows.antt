@@ -13,28 +13,28 @@ from zero f w = f w
 from (suc p) f [] = []
 from (suc p) f (x ∷ w) = x ∷ from p f w
 
--- K7: the first two entries exchanged
-unfoldable pub exchange : List ℤ → List ℤ
-exchange [] = []
-exchange (x ∷ []) = x ∷ []
-exchange (x ∷ y ∷ w) = y ∷ x ∷ w
+-- K7: the first two entries swapped; document 01 calls it an exchange
+unfoldable pub swap : List ℤ → List ℤ
+swap [] = []
+swap (x ∷ []) = x ∷ []
+swap (x ∷ y ∷ w) = y ∷ x ∷ w
 
 -- K8: the first entry with its sign changed
 unfoldable pub negateFirst : List ℤ → List ℤ
 negateFirst [] = []
 negateFirst (x ∷ w) = negℤ x ∷ w
 
--- K9: the first two entries exchanged, both with their signs changed
-unfoldable pub exchangeNegate : List ℤ → List ℤ
-exchangeNegate [] = []
-exchangeNegate (x ∷ []) = x ∷ []
-exchangeNegate (x ∷ y ∷ w) = negℤ y ∷ negℤ x ∷ w
+-- K9: the first two entries swapped, both with their signs changed
+unfoldable pub swapNegate : List ℤ → List ℤ
+swapNegate [] = []
+swapNegate (x ∷ []) = x ∷ []
+swapNegate (x ∷ y ∷ w) = negℤ y ∷ negℤ x ∷ w
 
 -- K7, K8, K9: step s on a window, by positions and not by values (Q7). It is document 01's step.
 unfoldable pub act : Kind → ℕ → ℕ → List ℤ → List ℤ
-act A n s = from (s - 1) exchange
-act B n s = pick (eqb s n) (from (n - 1) negateFirst) (from (s - 1) exchange)
-act D n s = pick (eqb s n) (from (n - 2) exchangeNegate) (from (s - 1) exchange)
+act A n s = from (s - 1) swap
+act B n s = pick (eqb s n) (from (n - 1) negateFirst) (from (s - 1) swap)
+act D n s = pick (eqb s n) (from (n - 2) swapNegate) (from (s - 1) swap)
 
 -- W1, A2: the steps of a word, from the left, from any window on
 unfoldable pub windowFrom : Kind → ℕ → List ℤ → List ℕ → List ℤ

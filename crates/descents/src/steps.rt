@@ -6,7 +6,7 @@ ghost use Prim.Native.Nat.{_+_, _<_, _≤_};
 ghost use lib.IntN.{natAbs, pos, negℤ};
 ghost use lib.ListN.{length, getD};
 ghost use Rattle.coxeter.specs.Kinds.{kindOf, pick};
-ghost use Rattle.coxeter.specs.Windows.{from, exchange, negateFirst, exchangeNegate, act};
+ghost use Rattle.coxeter.specs.Windows.{from, swap, negateFirst, swapNegate, act};
 ghost use Rattle.coxeter.specs.Length.{later, negative};
 ghost use Rattle.coxeter.specs.Checks.{WindowOf};
 ghost use Rattle.coxeter.proofs.Acceptance.{Ranked};
@@ -20,11 +20,11 @@ fn is_later(x: i8, y: i8) -> bool
     (y < x) ^ is_negative(x) ^ is_negative(y)
 }
 
-// Where w[p] stands later than w[p + 1] the two are exchanged. Answers whether they were.
+// Where w[p] stands later than w[p + 1] the two are swapped. Answers whether they were.
 fn uncross_pair(w: &mut [i8], p: usize) -> bool
     requires { ⌜ p + 1 < length (now w) ⌝ }
     ensures { λ r. ⌜ (r ≡ later (getD (now (w .entry)) p (pos 0)) (getD (now (w .entry)) (p + 1) (pos 0)))
-        × (now (w .exit) ≡ pick r (from p exchange (now (w .entry))) (now (w .entry))) ⌝ }
+        × (now (w .exit) ≡ pick r (from p swap (now (w .entry))) (now (w .entry))) ⌝ }
 {
     let a = w[p];
     let b = w[p + 1];
@@ -50,13 +50,13 @@ fn uncross_sign(w: &mut [i8], p: usize) -> bool
     false
 }
 
-// Where w[p] stands later than minus w[p + 1] the two are exchanged and both change sign. Answers whether they were.
+// Where w[p] stands later than minus w[p + 1] the two are swapped and both change sign. Answers whether they were.
 fn uncross_signs(w: &mut [i8], p: usize) -> bool
     requires { ⌜ p + 1 < length (now w) ⌝ }
     requires { ⌜ natAbs (getD (now w) p (pos 0)) < 128 ⌝ }
     requires { ⌜ natAbs (getD (now w) (p + 1) (pos 0)) < 128 ⌝ }
     ensures { λ r. ⌜ (r ≡ later (getD (now (w .entry)) p (pos 0)) (negℤ (getD (now (w .entry)) (p + 1) (pos 0))))
-        × (now (w .exit) ≡ pick r (from p exchangeNegate (now (w .entry))) (now (w .entry))) ⌝ }
+        × (now (w .exit) ≡ pick r (from p swapNegate (now (w .entry))) (now (w .entry))) ⌝ }
 {
     let a = w[p];
     let b = w[p + 1];
@@ -70,7 +70,7 @@ fn uncross_signs(w: &mut [i8], p: usize) -> bool
 }
 
 // Step s, taken where it makes the window shorter. Answers whether it does. Below the number of entries a step
-// exchanges, in every kind; any other is step n of B or D.
+// swaps, in every kind; any other is step n of B or D.
 pub(crate) fn take_descent(kind: u8, n: usize, s: usize, w: &mut [i8]) -> bool
     requires { ⌜ (1 ≤ s) × (s ≤ n) ⌝ }
     requires { ⌜ Ranked (kindOf kind) n ⌝ }

@@ -15,7 +15,7 @@ use lib.Dec.{eqb, leb·zero}
 use lib.ListN.{length}
 use borrow.Author.Tests.{eqb-true, not-true, le-ltb, le-leb}
 use Rattle.coxeter.specs.Kinds.{Kind, A, B, D, kindOf, least, greatest, up}
-use Rattle.coxeter.specs.Windows.{from, exchange, negateFirst, act, windowFrom, identity, window, signed, placeFrom, inverse}
+use Rattle.coxeter.specs.Windows.{from, swap, negateFirst, act, windowFrom, identity, window, signed, placeFrom, inverse}
 use Rattle.coxeter.specs.Length.{later, negative, one, laterThan, inversions, negativeSumPairs, negatives, crossings, total, windowLength}
 use Rattle.coxeter.specs.Relations.{twice, forth, alone, next}
 use Rattle.coxeter.specs.Checks.{wrongKind, wrongRank, tooLong, wrongLetter, wrongLanes, hasSize, negativeInA, wrongAt, wrongEntry, odd}
@@ -194,7 +194,7 @@ allHold (e ∷ es) = holds e && allHold es
 -- the one computed fact, with the definitions that the entries pass through, layer by layer
 pub all-hold : allHold table ≡ true
 unfolding table allHold holds sameWord reaches usesRule isNone
-    up from exchange negateFirst act windowFrom identity window signed placeFrom inverse
+    up from swap negateFirst act windowFrom identity window signed placeFrom inverse
     later negative one laterThan inversions negativeSumPairs negatives crossings total windowLength
     kindOf wrongKind wrongRank tooLong wrongLetter wrongLanes hasSize negativeInA wrongAt wrongEntry odd oddNegatives rankRefusal wordRefusal windowRefusal
     down rise fall block without indexOf restOf normalFrom normalForm sameEntry sameWindow

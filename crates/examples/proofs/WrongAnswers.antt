@@ -37,7 +37,7 @@ use Rattle.examples.proofs.WrongWindows.{wordChecks, lettersBeforeTheRa
 use Rattle.examples.proofs.WrongWindows.{bothRanksFirst, wordsChecks, secondWordFirst, secondWordUnchecked}
 use Rattle.examples.proofs.WrongWindows.{windowChecks, windowBeforeTheRank, oddNegativesRefusedInB, windowsChecks, secondWindowFirst}
 use Rattle.examples.proofs.WrongWindows.{secondWindowUnchecked}
-use Rattle.examples.proofs.WrongWindows.{turnsEveryPresetDown, identityForAllWords, exchangesValues, stepOfBInD, refusedCallWrites, clearsTheOutput}
+use Rattle.examples.proofs.WrongWindows.{turnsEveryPresetDown, identityForAllWords, swapsValues, stepOfBInD, refusedCallWrites, clearsTheOutput}
 use Rattle.examples.proofs.WrongWindows.{unshortenedWord, peelsOnlyBlock1, stopsAtAShortestWord, roomForTheRankOnly}
 use Rattle.examples.proofs.WrongWindows.{block1Alone, entriesBeforeLanes, oddNegativesAccepted, blockTurnsEarlyInB}
 use Rattle.examples.proofs.WrongWindows.{indexOneOffOnTheWayDown, lastEntryKeptInD}
@@ -51,7 +51,7 @@ use Rattle.examples.proofs.WrongRewrites.{family4AsFamily3, replacedOne
 use Rattle.examples.proofs.WrongRewrites.{roomCheckedBeforeTheRule, wordCopiedFirst}
 use Rattle.examples.proofs.WrongTraces.{searchBehindTheLastPlace, outputBeforeTheLists, lettersCounted, shorteningStepsCounted}
 use Rattle.examples.proofs.WrongShortest.{verdictByLengthAlone, presentWordUnshortened, roomAskedForANo}
-use Rattle.examples.proofs.WrongSplits.{wordsExchanged, bit0ForStep2, oneStepLeft, setCheckedAfterTheWord, oneBitTooMany, firstWordWrittenFirst}
+use Rattle.examples.proofs.WrongSplits.{wordsSwapped, bit0ForStep2, oneStepLeft, setCheckedAfterTheWord, oneBitTooMany, firstWordWrittenFirst}
 use Rattle.examples.proofs.WrongShortest.{wayBack, lettersNotAsked, roomBeforeTheWay, windowsBeforeTheSet, bitsOneOff}
 use Rattle.examples.proofs.WrongTables.{rank20InA, factorLeftOut, runningTotals, identityAsLongest, roomOfTheListOnly, listWrittenFirst}
 use Rattle.examples.proofs.WrongBooks.{noBytesRefused, oneByteAccepted, noPresetsRefused3, retiredNotRead, retiredAppended}
@@ -60,7 +60,7 @@ use Rattle.examples.proofs.WrongBooks.{countHighByteFirst, offsetAgains
 use Rattle.examples.proofs.WrongBooks.{onePresetTooMany, preset0ForEveryNumber}
 use Rattle.examples.proofs.WrongBooks.{laneCountBeforeRank, laneCountIsTheRank, rangesOfTheFirst, rangesOfTheSecond}
 use Rattle.examples.proofs.WrongBooks.{lettersOneByteEarly, laneCountLeftOut}
-use Rattle.examples.proofs.WrongBooks.{handedOut, lettersFromTheRecord, refusedPresetHandsOutLetters, lastOffsetDropped, kindAndRankExchanged}
+use Rattle.examples.proofs.WrongBooks.{handedOut, lettersFromTheRecord, refusedPresetHandsOutLetters, lastOffsetDropped, kindAndRankSwapped}
 use Rattle.examples.proofs.WrongBooks.{lastRecordDropped, laneLimitFirst, laterRecordsUnchecked}
 use Rattle.examples.proofs.WrongBooks.{countWithoutLineFeed, bookRefusalAlways1, presetRefusalAlways1, lengthBeforeRank}
 use Rattle.examples.proofs.WrongBooks.{minusLeftOut, noPresetLine, lastLineLeftOut, lineCutOff, lastByteUnused}
@@ -131,7 +131,7 @@ table =
     -- the window of a word
     ∷ differ windowOfWord turnsEveryPresetDown (λ f. entries (f 1 2 (1 ∷ 2 ∷ []) (lentEntries 3)))
     ∷ differ windowOfWord identityForAllWords (λ f. entries (f 1 2 (1 ∷ 2 ∷ []) (lentEntries 3)))
-    ∷ differ windowOfWord exchangesValues (λ f. entries (f 1 2 (1 ∷ 2 ∷ []) (lentEntries 3)))
+    ∷ differ windowOfWord swapsValues (λ f. entries (f 1 2 (1 ∷ 2 ∷ []) (lentEntries 3)))
     ∷ differ windowOfWord stepOfBInD (λ f. entries (f 3 4 (4 ∷ []) (lentEntries 4)))
     ∷ differ windowOfWord refusedCallWrites (λ f. entries (f 1 2 (3 ∷ []) (lentEntries 3)))
     ∷ differ windowOfWord clearsTheOutput (λ f. entries (f 1 2 (1 ∷ []) (lentEntries 4)))
@@ -192,7 +192,7 @@ table =
     ∷ differ fallbackAnswer presentWordUnshortened (λ f. fallback (f 1 2 (1 ∷ 1 ∷ []) (1 ∷ []) (lent 1)))
     ∷ differ fallbackAnswer roomAskedForANo (λ f. fallback (f 1 2 (1 ∷ []) (2 ∷ []) []))
     -- splits
-    ∷ differ splitting wordsExchanged (λ f. parted (f 1 2 1 (1 ∷ 2 ∷ []) (lent 2) (lent 2)))
+    ∷ differ splitting wordsSwapped (λ f. parted (f 1 2 1 (1 ∷ 2 ∷ []) (lent 2) (lent 2)))
     ∷ differ splitting bit0ForStep2 (λ f. parted (f 1 2 1 (1 ∷ 2 ∷ []) (lent 2) (lent 2)))
     ∷ differ splitting oneStepLeft (λ f. parted (f 1 2 1 (1 ∷ []) (lent 1) (lent 1)))
     ∷ differ splitting setCheckedAfterTheWord (λ f. parted (f 1 2 4 (9 ∷ []) (lent 1) (lent 1)))
@@ -233,7 +233,7 @@ table =
     -- appending
     ∷ differ appending laneCountLeftOut (λ f. bytes (f Second (0 ∷ 0 ∷ []) 1 2 [] (lent 9)))
     ∷ differ appending lastOffsetDropped (λ f. bytes (f First (0 ∷ 0 ∷ []) 1 2 [] (lent 8)))
-    ∷ differ appending kindAndRankExchanged (λ f. bytes (f First (0 ∷ 0 ∷ []) 1 2 [] (lent 8)))
+    ∷ differ appending kindAndRankSwapped (λ f. bytes (f First (0 ∷ 0 ∷ []) 1 2 [] (lent 8)))
     ∷ differ appending retiredAppended (λ f. bytes (f First (0 ∷ 0 ∷ []) 1 1 [] (lent 8)))
     ∷ differ appending retiredBeforeLetters (λ f. bytes (f Second (0 ∷ 0 ∷ []) 1 1 (2 ∷ []) (lent 10)))
     ∷ differ appending retiredInEveryKind (λ f. bytes (f First (0 ∷ 0 ∷ []) 2 1 [] (lent 8)))

@@ -138,8 +138,8 @@ lastOffsetDropped ed b k n u out =
     writes (appendRefusal ed b k n u)
     (take (trailer b) b ++ (recordOf ed k n (lanes (kindOf k) n) u ++ (take (2 * count b) (drop (trailer b) b) ++ two (count b + 1)))) out
 
-abbrev pub kindAndRankExchanged : Edition → List ℕ → ℕ → ℕ → List ℕ → List ℕ → Outcome ℕ
-kindAndRankExchanged ed b k n u out = writes (appendRefusal ed b k n u) (appended ed b n k u) out
+abbrev pub kindAndRankSwapped : Edition → List ℕ → ℕ → ℕ → List ℕ → List ℕ → Outcome ℕ
+kindAndRankSwapped ed b k n u out = writes (appendRefusal ed b k n u) (appended ed b n k u) out
 
 -- check 14 before the others
 abbrev pub roomBeforeTheSizeLimit : Edition → List ℕ → ℕ → ℕ → List ℕ → List ℕ → Outcome ℕ

@@ -184,11 +184,11 @@ RelatedOrAlike-ruled-out = (
 
 -- ---- blocks
 
--- in B₅ the blocks [1,4] and [1,5] exchanged
-abbrev pub twoBlocksExchanged : Kind → ℕ → ℕ → ℕ → List ℕ
-twoBlocksExchanged A n i j = block A n i j
-twoBlocksExchanged B n i j = block B n i (pick (eqb n 5 && eqb i 1) (pick (eqb j 4) 5 (pick (eqb j 5) 4 j)) j)
-twoBlocksExchanged D n i j = block D n i j
+-- in B₅ the blocks [1,4] and [1,5] swapped
+abbrev pub twoBlocksSwapped : Kind → ℕ → ℕ → ℕ → List ℕ
+twoBlocksSwapped A n i j = block A n i j
+twoBlocksSwapped B n i j = block B n i (pick (eqb n 5 && eqb i 1) (pick (eqb j 4) 5 (pick (eqb j 5) 4 j)) j)
+twoBlocksSwapped D n i j = block D n i j
 
 -- N5, N7: the law `block-rises`
 abbrev pub BlockRises : (Kind → ℕ → ℕ → ℕ → List ℕ) → Type 0
@@ -196,7 +196,7 @@ BlockRises made =
     (k : Kind) (n i j : ℕ) → i ≤ j → j ≤ n → (k ≡ D → j < n)
     → (length (made k n i j) ≡ j + 1 - i) × ((p : ℕ) → p < j + 1 - i → getD (made k n i j) p 0 ≡ i + p)
 
--- Q12, N5: the law rules out that two blocks of B₅ are exchanged, since [1,4] has four letters
-pub twoBlocksExchanged-ruled-out : TellsApart BlockRises block twoBlocksExchanged
+-- Q12, N5: the law rules out that two blocks of B₅ are swapped, since [1,4] has four letters
+pub twoBlocksSwapped-ruled-out : TellsApart BlockRises block twoBlocksSwapped
 unfolding block rise up
-twoBlocksExchanged-ruled-out = (block-rises, λ law. let e = law B 5 1 4 (omega arith) (omega arith) (λ d. omega arith) .0 in omega arith)
+twoBlocksSwapped-ruled-out = (block-rises, λ law. let e = law B 5 1 4 (omega arith) (omega arith) (λ d. omega arith) .0 in omega arith)

@@ -123,9 +123,9 @@ allowsByGrayCode-ruled-out = (allows-exactly, λ law. let (high, low, h, e) = la
 
 -- ---- books
 
--- from preset 100 on the kind and the rank are exchanged
-abbrev pub exchangedFromPreset100 : Edition → List ℕ → ℕ → Preset
-exchangedFromPreset100 ed b i =
+-- from preset 100 on the kind and the rank are swapped
+abbrev pub swappedFromPreset100 : Edition → List ℕ → ℕ → Preset
+swappedFromPreset100 ed b i =
     let o = offset b i in
     let k = pick (leb 100 i) (rankAt b o) (kindAt b o) in
     let n = pick (leb 100 i) (kindAt b o) (rankAt b o) in
@@ -138,15 +138,15 @@ FoundExactly read =
     (read ed b i ≡ preset.Found k n s l)
     ↔ ((presetRefusal ed b i ≡ 0) × (k ≡ kindAt b o) × (n ≡ rankAt b o) × (s ≡ o + headSize ed) × (l ≡ letterCountAt ed b o))
 
--- Q12, I26: the law rules out that kind and rank are exchanged from preset 100 on, by a book of 101 presets
-pub exchangedFromPreset100-ruled-out : TellsApart FoundExactly checkedPreset exchangedFromPreset100
+-- Q12, I26: the law rules out that kind and rank are swapped from preset 100 on, by a book of 101 presets
+pub swappedFromPreset100-ruled-out : TellsApart FoundExactly checkedPreset swappedFromPreset100
 unfolding bookRankRefusal wrongKind wrongRankInBook kindOf wordRefusal tooLong wrongLetter layOut recordBytes recordOf two offsetBytes presetOf
-exchangedFromPreset100-ruled-out = (
+swappedFromPreset100-ruled-out = (
   found-exactly,
   λ law.
       let found = preset-of-record First (replicate 100 r) r [] (omega arith) 2 3 404 0 .1 (refl, λ e. refl, refl, refl, refl, refl, refl) in
       let fields = found-exactly First (layOut First (replicate 101 r)) 100 2 3 404 0 .0 found in
-      let exchanged = rw (fields .0) at (law First (layOut First (replicate 101 r)) 100 2 3 404 0 .1 fields) in
+      let swapped = rw (fields .0) at (law First (layOut First (replicate 101 r)) 100 2 3 404 0 .1 fields) in
       let z : _≡_ {A = ℕ} 2 3 = cc in
       omega arith,
 )

@@ -39,7 +39,7 @@ use Rattle.book_format.specs.declared.Preset.{Preset}
 use Rattle.book_format.specs.declared.Preset.the-variants as presets
 use Rattle.listing_text.specs.declared.Piece.{Piece}
 use Rattle.coxeter.specs.Kinds.{pick, kindOf, up}
-use Rattle.coxeter.specs.Windows.{from, exchange, negateFirst, exchangeNegate, act, windowFrom, identity, window, at, product, signed, placeFrom, inverse}
+use Rattle.coxeter.specs.Windows.{from, swap, negateFirst, swapNegate, act, windowFrom, identity, window, at, product, signed, placeFrom, inverse}
 use Rattle.coxeter.specs.Length.{later, negative, one, laterThan, inversions, negativeSumPairs, negatives, crossings, total, windowLength}
 use Rattle.coxeter.specs.Dictionary.{before, shortlex}
 use Rattle.coxeter.specs.Checks.{check, _then_, wrongKind, wrongRank, tooLong, wrongLetter, wrongLanes, hasSize, negativeInA, wrongAt}
@@ -170,7 +170,7 @@ allDiffer (r ∷ rs) = differs r && allDiffer rs
 -- the one computed fact, with the definitions that the rows pass through, layer by layer
 all-differ : allDiffer table ≡ true
 unfolding table allDiffer differs numbers ofAnswer ofVerdict ofChoice ofRewrite ofEnd ofFallback ofSplit ofTable ofOpened ofPreset ofPiece
-    kindOf up from exchange negateFirst exchangeNegate act windowFrom identity window at product signed placeFrom inverse
+    kindOf up from swap negateFirst swapNegate act windowFrom identity window at product signed placeFrom inverse
     later negative one laterThan inversions negativeSumPairs negatives crossings total windowLength before shortlex
     wrongKind wrongRank tooLong wrongLetter wrongLanes hasSize negativeInA wrongAt wrongEntry odd oddNegatives tooShort
     rankRefusal wordRefusal windowRefusal

@@ -26,9 +26,9 @@ wordsBy words k n set u =
     let p = words set (kindOf k) n (window (kindOf k) n u) in
     parts (setRefusal k n set then wordRefusal n u) (p .0) (p .1)
 
--- the two words exchanged
-abbrev pub wordsExchanged : ℕ → ℕ → ℕ → List ℕ → List ℕ → List ℕ → Parted
-wordsExchanged = wordsBy (λ set k n w. (secondWord (allows set) k n w, firstWord (allows set) k n w))
+-- the two words swapped
+abbrev pub wordsSwapped : ℕ → ℕ → ℕ → List ℕ → List ℕ → List ℕ → Parted
+wordsSwapped = wordsBy (λ set k n w. (secondWord (allows set) k n w, firstWord (allows set) k n w))
 
 -- bit 0 taken for step 2
 abbrev pub bit0ForStep2 : ℕ → ℕ → ℕ → List ℕ → List ℕ → List ℕ → Parted

@@ -119,16 +119,16 @@ turnsEveryPresetDown k n u out = writes 5 (window (kindOf k) n u) out
 abbrev pub identityForAllWords : ℕ → ℕ → List ℕ → List ℤ → Outcome ℤ
 identityForAllWords k n u out = writes (wordChecks k n u) (identity (lanes (kindOf k) n)) out
 
--- Q7: each step i exchanges the sizes i and i + 1
-abbrev exchangeSizes : ℕ → ℤ → ℤ
-exchangeSizes s e = signed e (pick (eqb (natAbs e) s) (s + 1) (pick (eqb (natAbs e) (s + 1)) s (natAbs e)))
+-- Q7: each step i swaps the sizes i and i + 1
+abbrev swapSizes : ℕ → ℤ → ℤ
+swapSizes s e = signed e (pick (eqb (natAbs e) s) (s + 1) (pick (eqb (natAbs e) (s + 1)) s (natAbs e)))
 
 abbrev pub byValues : List ℕ → List ℤ → List ℤ
 byValues [] w = w
-byValues (s ∷ u) w = byValues u (map (exchangeSizes s) w)
+byValues (s ∷ u) w = byValues u (map (swapSizes s) w)
 
-abbrev pub exchangesValues : ℕ → ℕ → List ℕ → List ℤ → Outcome ℤ
-exchangesValues k n u out = writes (wordChecks k n u) (byValues u (identity (lanes (kindOf k) n))) out
+abbrev pub swapsValues : ℕ → ℕ → List ℕ → List ℤ → Outcome ℤ
+swapsValues k n u out = writes (wordChecks k n u) (byValues u (identity (lanes (kindOf k) n))) out
 
 -- step n of kind D changes one sign, as in B
 abbrev pub stepOfBInD : ℕ → ℕ → List ℕ → List ℤ → Outcome ℤ

@@ -8,7 +8,7 @@ use Prim.Native.Char.{code}
 use Prim.Native.String.{String, len, charAt}
 use Prim.Native.String as string
 use Rattle.coxeter.specs.Kinds.{kindOf, up}
-use Rattle.coxeter.specs.Windows.{from, exchange, negateFirst, exchangeNegate, act, windowFrom, identity, window, placeFrom, signed}
+use Rattle.coxeter.specs.Windows.{from, swap, negateFirst, swapNegate, act, windowFrom, identity, window, placeFrom, signed}
 use Rattle.coxeter.specs.Checks.{wrongKind, tooLong, wrongLetter, wordRefusal}
 use Rattle.coxeter.specs.NormalForm.{down, rise, fall, block, without, indexOf, restOf, normalFrom, normalForm}
 use Rattle.coxeter.proofs.Vectors.{Agree, lent}
@@ -56,7 +56,7 @@ listings =
 
 pub listings-agree : Agree listings
 unfolding listings codes
-    kindOf up from exchange negateFirst exchangeNegate act windowFrom identity window placeFrom signed
+    kindOf up from swap negateFirst swapNegate act windowFrom identity window placeFrom signed
     wrongKind tooLong wrongLetter wordRefusal down rise fall block without indexOf restOf normalFrom normalForm
     twoAt count trailer offset wrongSize wrongCount misplacedFrom misplaced noSuchPreset
     wrongRankInBook wrongLaneCount bookRankRefusal bookRefusal recordRefusal presetRefusal
@@ -69,7 +69,7 @@ listings-agree = refl
 pub worked-listing : let text : String → List ℕ = λ t. map (λ i. code (charAt t i)) (up 0 (len t)) in
     listing First (2 ∷ 2 ∷ 4 ∷ 0 ∷ 1 ∷ 2 ∷ 1 ∷ 2 ∷ 3 ∷ 5 ∷ 6 ∷ 0 ∷ 5 ∷ 2 ∷ 3 ∷ 5 ∷ 1 ∷ 2 ∷ 0 ∷ 0 ∷ 8 ∷ 0 ∷ 2 ∷ 0 ∷ [])
     ≡ text "presets 2\n" ++ (text "0 B 2 4: 2 1 2 1 | -1 -2\n" ++ text "1 D 5 6: 5 2 3 5 1 2 | 3 -5 1 4 -2\n")
-unfolding kindOf up from exchange negateFirst exchangeNegate act windowFrom identity window placeFrom signed
+unfolding kindOf up from swap negateFirst swapNegate act windowFrom identity window placeFrom signed
     wrongKind tooLong wrongLetter wordRefusal down rise fall block without indexOf restOf normalFrom normalForm
     twoAt count trailer offset wrongSize wrongCount misplacedFrom misplaced noSuchPreset
     wrongRankInBook wrongLaneCount bookRankRefusal bookRefusal recordRefusal presetRefusal
@@ -99,7 +99,7 @@ piecing =
 
 pub piecing-agrees : Agree piecing
 unfolding piecing codes
-    kindOf up from exchange negateFirst exchangeNegate act windowFrom identity window placeFrom signed
+    kindOf up from swap negateFirst swapNegate act windowFrom identity window placeFrom signed
     wrongKind tooLong wrongLetter wordRefusal down rise fall block without indexOf restOf normalFrom normalForm
     twoAt count trailer offset wrongSize wrongCount misplacedFrom misplaced noSuchPreset
     wrongRankInBook wrongLaneCount bookRankRefusal bookRefusal recordRefusal presetRefusal

@@ -14,7 +14,7 @@ use lib.ListN.{length, length-append}
 use borrow.Author.Tests.{eq-eqb, ne-eqb}
 use Rattle.coxeter.specs.Kinds.{Kind, A, B, D, pick, least, up}
 use Rattle.coxeter.specs.NormalForm.{rise}
-use Rattle.rules.specs.Rules.{Rule, rule, each, exchanged, carried, turned, family1, family2, family3, family4, families5to7, rules}
+use Rattle.rules.specs.Rules.{Rule, rule, each, commuted, carried, turned, family1, family2, family3, family4, families5to7, rules}
 use Rattle.presentation.specs.Presentations.{ruleCount}
 
 -- ---- sums
@@ -100,7 +100,7 @@ module _ (n : ℕ) where
 
 -- the rules of D's family 2 for one i, without the last rule
 abbrev pairs : ℕ → ℕ → List Rule
-pairs n i = each (λ j. pick (eqb (i + 2) n && eqb j n) [] (exchanged i j ∷ [])) (rise (i + 2) n)
+pairs n i = each (λ j. pick (eqb (i + 2) n && eqb j n) [] (commuted i j ∷ [])) (rise (i + 2) n)
 
 length-pairs : (n i : ℕ) → length (pairs n i) ≡ without n i
 unfolding rise each up
@@ -108,7 +108,7 @@ length-pairs n i = elim (ℕ-discrete (i + 2) n) [
   | yes e ↦
       let one : suc n - n ≡ 1 = omega arith in
       rw (eq-eqb (i + 2) n e, e, one, eq-eqb n n refl)
-  | no f ↦ rw (ne-eqb (i + 2) n f) (length-row (exchanged i) (i + 2) n)
+  | no f ↦ rw (ne-eqb (i + 2) n f) (length-row (commuted i) (i + 2) n)
 ]
 
 length-family1 : (n : ℕ) → length (family1 n) ≡ n
@@ -132,14 +132,14 @@ module _ (n d : ℕ) (e : suc d ≡ n) where
   length-family2 A l =
       omega (
         arith,
-        length-table exchanged (λ i. i + 2) (λ i. n) 1 n ∙ ap (total (λ i. suc n - (i + 2)) 1) terms,
+        length-table commuted (λ i. i + 2) (λ i. n) 1 n ∙ ap (total (λ i. suc n - (i + 2)) 1) terms,
         total-apart n 1 d (omega arith),
         square-of d n e,
       )
   length-family2 B l =
       omega (
         arith,
-        length-table exchanged (λ i. i + 2) (λ i. n) 1 n ∙ ap (total (λ i. suc n - (i + 2)) 1) terms,
+        length-table commuted (λ i. i + 2) (λ i. n) 1 n ∙ ap (total (λ i. suc n - (i + 2)) 1) terms,
         total-apart n 1 d (omega arith),
         square-of d n e,
       )

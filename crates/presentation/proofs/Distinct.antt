@@ -12,7 +12,7 @@ use native.Mathlib.Omega.{arith}
 use lib.Dec.{eqb}
 use Rattle.coxeter.specs.Kinds.{Kind, A, B, D, pick, least}
 use Rattle.coxeter.specs.NormalForm.{rise}
-use Rattle.rules.specs.Rules.{Rule, rule, each, exchanged, carried, turned, fits, Irreducible}
+use Rattle.rules.specs.Rules.{Rule, rule, each, commuted, carried, turned, fits, Irreducible}
 use Rattle.rules.specs.Rules.{family1, family2, family3, family4, families5to7, rules}
 use Rattle.coxeter.proofs.TestLaws.{not-true-false}
 use Rattle.rules.proofs.Letters.{mem-rise}
@@ -125,13 +125,13 @@ family1-part n = part-row (λ i. rule 1 i 0 (i ∷ i ∷ []) []) 1 n 1 (λ i. (r
 -- family 2, but for the pairs that a test leaves out
 module _ (n : ℕ) (t : ℕ → ℕ → Bool) where
   abbrev pairs : ℕ → ℕ → List Rule
-  pairs i j = pick (t i j) [] (exchanged i j ∷ [])
+  pairs i j = pick (t i j) [] (commuted i j ∷ [])
 
   pairs-shown : (i j : ℕ) (x : Rule) → In x (pairs i j) → Shows 2 i j x
-  pairs-shown i j x m = rw (of-pick (t i j) x (exchanged i j) m) (refl, refl, refl)
+  pairs-shown i j x m = rw (of-pick (t i j) x (commuted i j) m) (refl, refl, refl)
 
   pairs-part : Part 2 2 (each (λ i. each (pairs i) (rise (i + 2) n)) (rise 1 n))
-  pairs-part = part-table pairs (λ i. i + 2) (λ i. n) 1 n 2 pairs-shown (λ i j. once-pick (t i j) (exchanged i j))
+  pairs-part = part-table pairs (λ i. i + 2) (λ i. n) 1 n 2 pairs-shown (λ i j. once-pick (t i j) (commuted i j))
 
   -- they lie two apart or more
   pairs-apart : (x : Rule) → In x (each (λ i. each (pairs i) (rise (i + 2) n)) (rise 1 n)) → x .i + 2 ≤ x .j
@@ -143,7 +143,7 @@ family2-part A n l = pairs-part n (λ i j. false)
 family2-part B n l = pairs-part n (λ i j. false)
 family2-part D n l =
     let t : ℕ → ℕ → Bool = λ i j. eqb (i + 2) n && eqb j n in
-    let y = exchanged (n - 1) n in
+    let y = commuted (n - 1) n in
     part-append 2 2 2 2 _ (y ∷ []) (pairs-part n t) (part-one y) (omega arith) (omega arith)
     (λ x p q.
     let e = List·Memᴰ·eq-of-singleton q in

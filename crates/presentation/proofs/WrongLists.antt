@@ -10,7 +10,7 @@ use Prim.Native.Nat.{ℕ, _≤_}
 use native.Mathlib.Omega.{arith}
 use lib.ListN.{length, length-append}
 use Rattle.coxeter.specs.Kinds.{Kind, A, B, D, least, up}
-use Rattle.coxeter.specs.Windows.{from, exchange, negateFirst, exchangeNegate, act, windowFrom, identity, window}
+use Rattle.coxeter.specs.Windows.{from, swap, negateFirst, swapNegate, act, windowFrom, identity, window}
 use Rattle.coxeter.specs.Dictionary.{before, shortlex}
 use Rattle.coxeter.proofs.Congruence.{congruent-one}
 use Rattle.coxeter.proofs.Order.{shortlex-asymm}
@@ -76,7 +76,7 @@ module _ (k : Kind) (n : ℕ) (low : least k ≤ n) where
 -- U4, Q9: no complete normalized presentation of D₄ has the rule 2 4 → 4 2, which is kind B's
 pub pair-of-B-in-D : (rs : List Rule) (x : Rule) → List·Memᴰ x rs → x .left ≡ 2 ∷ 4 ∷ [] → x .right ≡ 4 ∷ 2 ∷ []
     → CompletePresentation D 4 rs → ⊥
-unfolding window windowFrom identity up act from exchange exchangeNegate
+unfolding window windowFrom identity up act from swap swapNegate
 pair-of-B-in-D rs x m e f c =
     let w : window D 4 (2 ∷ 4 ∷ []) ≡ window D 4 (4 ∷ 2 ∷ []) =
     sym (ap (window D 4) e) ∙ sides-alike D 4 (omega arith) rs c x m ∙ ap (window D 4) f in
@@ -86,7 +86,7 @@ pair-of-B-in-D rs x m e f c =
 -- U4, Q9: no complete normalized presentation of B₄ has the rule 3 4 → 4 3, which is kind D's
 pub pair-of-D-in-B : (rs : List Rule) (x : Rule) → List·Memᴰ x rs → x .left ≡ 3 ∷ 4 ∷ [] → x .right ≡ 4 ∷ 3 ∷ []
     → CompletePresentation B 4 rs → ⊥
-unfolding window windowFrom identity up act from exchange negateFirst
+unfolding window windowFrom identity up act from swap negateFirst
 pair-of-D-in-B rs x m e f c =
     let w : window B 4 (3 ∷ 4 ∷ []) ≡ window B 4 (4 ∷ 3 ∷ []) =
     sym (ap (window B 4) e) ∙ sides-alike B 4 (omega arith) rs c x m ∙ ap (window B 4) f in

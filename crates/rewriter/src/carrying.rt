@@ -1,5 +1,5 @@
 // A letter read behind a normal form is carried to the left by rules, in place, and each step is noted in three
-// lists. Letters that exchange are passed one by one; where none does, the rule that ends with the letter carries
+// lists. Letters that commute are passed one by one; where none does, the rule that ends with the letter carries
 // it past a block, or strikes it out with an equal one.
 use crate::ending::Ending;
 use crate::ending::ending_rule;
@@ -12,7 +12,7 @@ ghost use lib.ListN.{length, getD, take, drop, set};
 ghost use Rattle.coxeter.specs.Kinds.{kindOf};
 ghost use Rattle.coxeter.specs.NormalForm.{levels};
 ghost use Rattle.coxeter.specs.Checks.{WordOf};
-ghost use Rattle.traces.proofs.TwoLetters.{exchanging};
+ghost use Rattle.traces.proofs.TwoLetters.{commuting};
 ghost use Rattle.traces.proofs.Tracing.{stores, Ready, Carried, Inserted};
 
 // How many steps were made, and how many letters the word has then.
@@ -21,10 +21,10 @@ pub(crate) struct Count {
     pub(crate) size: usize,
 }
 
-// Whether family 2 exchanges l x; `corner` is the step at which the way of a block turns.
-fn exchanges(n: u8, corner: u8, l: u8, x: u8) -> bool
+// Whether l x is a left side of family 2: l < x, and the two commute. `corner` is the step at which the way of a block turns.
+fn commutes(n: u8, corner: u8, l: u8, x: u8) -> bool
     requires { ⌜ l < 255 ⌝ }
-    ensures { λ r. ⌜ r ≡ exchanging n corner l x ⌝ }
+    ensures { λ r. ⌜ r ≡ commuting n corner l x ⌝ }
 {
     if x == n {
         if l + 1 == corner {
@@ -100,19 +100,19 @@ fn note_passed(
     }
 }
 
-// The letter at q put before those that it exchanges with, as far as it goes. Answers where it stands then.
+// The letter at q put before those that it commutes with, as far as it goes. Answers where it stands then.
 fn shift(n: u8, corner: u8, word: &mut [u8], q: usize) -> usize
     requires { ⌜ (n ≤ 64) × WordOf n (now word) × (q < length (now word)) ⌝ }
     ensures { λ r. ⌜ (r ≤ q) × (now (word .exit) ≡ take r (now (word .entry))
         ++ ((getD (now (word .entry)) q 0 ∷ take (q - r) (drop r (now (word .entry)))) ++ drop (suc q) (now (word .entry))))
-        × ((j : ℕ) → r ≤ j → j < q → exchanging n corner (getD (now (word .entry)) j 0) (getD (now (word .entry)) q 0) ≡ true)
-        × (1 ≤ r → exchanging n corner (getD (now (word .entry)) (r - 1) 0) (getD (now (word .entry)) q 0) ≡ false) ⌝ }
+        × ((j : ℕ) → r ≤ j → j < q → commuting n corner (getD (now (word .entry)) j 0) (getD (now (word .entry)) q 0) ≡ true)
+        × (1 ≤ r → commuting n corner (getD (now (word .entry)) (r - 1) 0) (getD (now (word .entry)) q 0) ≡ false) ⌝ }
 {
     let x = word[q];
     let mut t = q;
     while 0 < t {
         let l = word[t - 1];
-        if exchanges(n, corner, l, x) {
+        if commutes(n, corner, l, x) {
             word[t] = l;
             t -= 1;
         } else {
@@ -139,7 +139,7 @@ fn pass(
     requires { ⌜ Ready (kindOf kind) n (now rest) s (now families) (now places) (now lengths) (now word) q ⌝ }
     ensures { λ r. ⌜ (r ≤ q) × Carried (kindOf kind) n (now (rest .entry)) s (now (families .entry)) (now (places .entry)) (now (lengths .entry))
         (now (word .entry)) (s + (q - r)) (now (families .exit)) (now (places .exit)) (now (lengths .exit)) (now (word .exit)) r
-        × (1 ≤ r → exchanging n (levels (kindOf kind) n) (getD (now (word .exit)) (r - 1) 0) (getD (now (word .exit)) r 0) ≡ false) ⌝ }
+        × (1 ≤ r → commuting n (levels (kindOf kind) n) (getD (now (word .exit)) (r - 1) 0) (getD (now (word .exit)) r 0) ≡ false) ⌝ }
 {
     let corner = corner_of(kind, n);
     let left = word.len() + rest.len();
@@ -183,7 +183,7 @@ struct Moved {
     place: usize,
 }
 
-// The step by the rule that ends with the letter at q, if there is one. That letter does not exchange with the one
+// The step by the rule that ends with the letter at q, if there is one. That letter does not commute with the one
 // before it.
 fn turn(
     kind: u8,
@@ -197,7 +197,7 @@ fn turn(
     q: usize,
 ) -> Moved
     requires { ⌜ Ready (kindOf kind) n (now rest) s (now families) (now places) (now lengths) (now word) q ⌝ }
-    requires { ⌜ (1 ≤ q → exchanging n (levels (kindOf kind) n) (getD (now word) (q - 1) 0) (getD (now word) q 0) ≡ false) ⌝ }
+    requires { ⌜ (1 ≤ q → commuting n (levels (kindOf kind) n) (getD (now word) (q - 1) 0) (getD (now word) q 0) ≡ false) ⌝ }
     ensures { λ r. ⌜ r .place ≤ q - 1 ⌝ }
     ensures { λ r. ⌜ (1 ≤ r .place → (r .size ≡ length (now (word .entry)))
         × Carried (kindOf kind) n (now (rest .entry)) s (now (families .entry)) (now (places .entry)) (now (lengths .entry)) (now (word .entry))

@@ -21,7 +21,7 @@ ghost use Rattle.rules.proofs.Scan.{nextIndex, fork, familyAt, shownIndex, firs
 ghost use Rattle.traces.specs.Traces.{lowestRedex};
 ghost use Rattle.traces.proofs.LeftSides.{lower};
 ghost use Rattle.traces.proofs.PartBlocks.{indexBy};
-ghost use Rattle.traces.proofs.TwoLetters.{exchanging};
+ghost use Rattle.traces.proofs.TwoLetters.{commuting};
 ghost use Rattle.traces.proofs.Reading.{Reading};
 ghost use Rattle.traces.proofs.ReadingSteps.{Stopped};
 
@@ -147,11 +147,11 @@ fn block_rule(kind: u8, n: u8, i: u8, j: u8, x: u8, place: usize) -> Ending
     }
 }
 
-// The rule that ends with the letter at q, which does not exchange with the one before it.
+// The rule that ends with the letter at q, which does not commute with the one before it.
 pub(crate) fn ending_rule(kind: u8, n: u8, word: &[u8], q: usize) -> Ending
     requires { ⌜ Ranked (kindOf kind) n ⌝ }
     requires { ⌜ Reading (kindOf kind) n (now word) q × (q ≤ 4096) ⌝ }
-    requires { ⌜ (1 ≤ q → exchanging n (levels (kindOf kind) n) (getD (now word) (q - 1) 0) (getD (now word) q 0) ≡ false) ⌝ }
+    requires { ⌜ (1 ≤ q → commuting n (levels (kindOf kind) n) (getD (now word) (q - 1) 0) (getD (now word) q 0) ≡ false) ⌝ }
     ensures { λ r. ⌜ r ≡ elim (lowestRedex (kindOf kind) n (take (suc q) (now (word .entry)))) [
       | none ↦ Ending.Nothing
       | some s ↦ Ending.Rule (s .rule .family) (s .place) (getD (s .rule .right) 0 0)

@@ -12,7 +12,7 @@ use Rattle.coxeter.specs.Kinds.{Kind, A, B, D, least}
 use Rattle.coxeter.specs.NormalForm.{block}
 use Rattle.coxeter.specs.Relations.{Neighbours, Braid, threefold, fourfold, commute, Relation, twice, braid, Congruent, alone}
 use Rattle.coxeter.proofs.Congruence.{congruent-trans, congruent-sym, congruent-context, congruent-one, congruent-map}
-use Rattle.rules.proofs.Families.{Carries, IsD, RuleOf, square, exchange, carry, turn, five, six, seven}
+use Rattle.rules.proofs.Families.{Carries, IsD, RuleOf, square, commutation, carry, turn, five, six, seven}
 use Rattle.rules.proofs.Letters.{Clear, Carried, carries-carried, Turned, wide, narrow, turns-turned}
 use Rattle.coxeter.proofs.Relations.{apart-commuting}
 
@@ -108,7 +108,7 @@ seven-congruent {n} {a} f = congruent-trans (backwards (a ∷ n ∷ []) [] (f .a
 -- the rules of every family but 1 follow from the relations of equal length
 pub rule-braid : (k : Kind) (n : ℕ) {l r : List ℕ} → least k ≤ n → RuleOf k n l r → (r ≡ [] → ⊥) → Congruent (Braid k n) l r
 rule-braid k n h (square o l) f = absurd (f refl)
-rule-braid k n h (exchange {i} {j} o l g) f = congruent-one (commute o l (apart-commuting k n i j g))
+rule-braid k n h (commutation {i} {j} o l g) f = congruent-one (commute o l (apart-commuting k n i j g))
 rule-braid k n h (carry {i} {j} o l g) f =
     let s = carries-neighbours k n i j o l g in
     carried-congruent k n i j o (s .0) (s .1) (carries-carried k n i j o l g)

@@ -17,7 +17,7 @@ use Rattle.coxeter.specs.Kinds.{Kind}
 use Rattle.coxeter.specs.NormalForm.{block}
 use Rattle.coxeter.specs.Checks.{wrongLetter}
 use Rattle.coxeter.specs.Dictionary.{before, shortlex}
-use Rattle.rules.proofs.Families.{RuleOf, square, exchange, carry, turn, five, six, seven}
+use Rattle.rules.proofs.Families.{RuleOf, square, commutation, carry, turn, five, six, seven}
 use Rattle.rules.proofs.Letters.{carries-carried, Turned, wide, narrow, turns-turned}
 use Rattle.coxeter.proofs.Relations.{apart-commuting, wrongLetter-cons}
 use Rattle.coxeter.proofs.Order.{before-higher, before-cons, shortlex-shorter, shortlex-before}
@@ -40,7 +40,7 @@ turned-first (narrow e h l) = (_, e)
 
 pub rule-lowered : {k : Kind} {n : ℕ} {l r : List ℕ} → RuleOf k n l r → Lowered l r
 rule-lowered (square o l) = dropped
-rule-lowered {k} {n} (exchange {i} {j} o l g) = raised refl (apart-commuting k n i j g .0)
+rule-lowered {k} {n} (commutation {i} {j} o l g) = raised refl (apart-commuting k n i j g .0)
 rule-lowered {k} {n} (carry {i} {j} o l g) = block-lowered i i (i + 1) _ (block k n i j) (carries-carried k n i j o l g .shape) (omega arith)
 rule-lowered {k} {n} (turn {i} o g) =
     let s = turned-first (turns-turned k n i o g) in
@@ -72,7 +72,7 @@ third = List·Memᴰ·tail second
 
 rule-within : (k : Kind) (n : ℕ) {l r : List ℕ} → RuleOf k n l r → Within r l
 rule-within k n (square o l) = within-nil _
-rule-within k n (exchange o l g) = within-cons _ _ _ second (within-cons _ _ _ first (within-nil _))
+rule-within k n (commutation o l g) = within-cons _ _ _ second (within-cons _ _ _ first (within-nil _))
 rule-within k n (carry {i} {j} o l g) =
     within-cons _ _ _ (Memᴰ·append-left {s = block k n i j} _ (rw (carries-carried k n i j o l g .shape) second)) (λ a m. Memᴰ·append-left _ m)
 rule-within k n (turn {i} o g) = within-cons _ _ _ (Memᴰ·append-right (block k n i (2 * n - i)) first) (λ a m. Memᴰ·append-left _ m)

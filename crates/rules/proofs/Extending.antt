@@ -11,10 +11,10 @@ use native.Mathlib.Omega.{arith}
 use Rattle.coxeter.specs.Kinds.{Kind}
 use Rattle.coxeter.specs.NormalForm.{block, lastIndex}
 use Rattle.coxeter.proofs.Runs.{span, span-cut, span-snoc, slide, slide-snoc, Corner, block-up, block-turn, slide-one, corner-le}
-use Rattle.rules.proofs.Families.{RuleOf, square, exchange, carry, turn, five, six, seven, IsD}
+use Rattle.rules.proofs.Families.{RuleOf, square, commutation, carry, turn, five, six, seven, IsD}
 use Rattle.rules.proofs.Rewriting.{Rewrites, within}
 use Rattle.rules.proofs.NextLetter.{Last, rising, falling, Next, climbs, tops, falls, repeats}
-use Rattle.rules.proofs.NextLetter.{exchanges, carries, turns, fives, sixes, sevens, le-corner, corner-D}
+use Rattle.rules.proofs.NextLetter.{commutes, carries, turns, fives, sixes, sevens, le-corner, corner-D}
 use Rattle.rules.proofs.NextLetter.{le-lastIndex, le-lastIndex-of, level-le-last, lastIndex-le, next-rising, next-falling}
 use Rattle.rules.proofs.Letters.{slide-three}
 
@@ -131,9 +131,9 @@ extended-next k n c i j x e o h g m a b (falls q r t) =
 extended-next k n c i j x e o h g m a b (repeats t) =
     let z = block-last k n c i j x e o h m t in
     inr (reducible-end (z .0) (x ∷ []) x (z .1) (square (omega arith) b))
-extended-next k n c i j x e o h g m a b (exchanges {l} t w) =
+extended-next k n c i j x e o h g m a b (commutes {l} t w) =
     let z = block-last k n c i j l e o h m t in
-    inr (reducible-end (z .0) (l ∷ []) x (z .1) (exchange (omega (arith, level-le k n c i j l e h m t)) b w))
+    inr (reducible-end (z .0) (l ∷ []) x (z .1) (commutation (omega (arith, level-le k n c i j l e h m t)) b w))
 extended-next k n c i j x e o h g m a b (carries q r t w) =
     let f : x ≤ c = omega (arith, le-corner k n c e) in
     inr (reducible-end (span i x) (block k n x j) x (block-cut k n c i x j e o a f (omega arith) t) (carry (omega arith) q w))

@@ -9,8 +9,8 @@ use Rattle.coxeter.specs.NormalForm.{block}
 use Rattle.coxeter.proofs.Relations.{Apart}
 
 -- family 2, for pairs that commute: i j → j i
-abbrev pub Exchanges : Kind → ℕ → ℕ → ℕ → Type 0
-Exchanges k n i j = Apart k n i j
+abbrev pub Commutes : Kind → ℕ → ℕ → ℕ → Type 0
+Commutes k n i j = Apart k n i j
 
 -- family 3: [i,j] i → (i+1) [i,j]
 abbrev pub Carries : Kind → ℕ → ℕ → ℕ → Type 0
@@ -32,7 +32,7 @@ IsD D = Unit {0}
 
 pub data RuleOf (k : Kind) (n : ℕ) : List ℕ → List ℕ → Type 0 where
   square : {i : ℕ} → 1 ≤ i → i ≤ n → RuleOf k n (i ∷ i ∷ []) []
-  exchange : {i j : ℕ} → 1 ≤ i → j ≤ n → Exchanges k n i j → RuleOf k n (i ∷ j ∷ []) (j ∷ i ∷ [])
+  commutation : {i j : ℕ} → 1 ≤ i → j ≤ n → Commutes k n i j → RuleOf k n (i ∷ j ∷ []) (j ∷ i ∷ [])
   carry : {i j : ℕ} → 1 ≤ i → i < j → Carries k n i j → RuleOf k n (block k n i j ++ (i ∷ [])) ((i + 1) ∷ block k n i j)
   turn : {i : ℕ} → 1 ≤ i → Turns k n i → RuleOf k n (block k n i (2 * n - i) ++ ((i + 1) ∷ [])) ((i + 1) ∷ block k n i (2 * n - i))
   five : {a : ℕ} → IsD k → a + 2 ≡ n → RuleOf k n (a ∷ n ∷ a ∷ []) (n ∷ a ∷ n ∷ [])

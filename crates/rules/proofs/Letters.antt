@@ -18,7 +18,7 @@ use Rattle.coxeter.specs.NormalForm.{down, rise, block, lastIndex}
 use Rattle.coxeter.specs.Relations.{Neighbours, FourfoldPair}
 use Rattle.coxeter.proofs.Runs.{span, slide, span-nil, span-cons, slide-nil, slide-snoc, rise-span}
 use Rattle.coxeter.proofs.Runs.{Corner, block-up, block-turn, span-one, slide-one, fall-slide, corner-le}
-use Rattle.rules.proofs.Families.{Exchanges, Carries, Turns}
+use Rattle.rules.proofs.Families.{Commutes, Carries, Turns}
 
 -- ---- letters of a run
 
@@ -78,29 +78,29 @@ slide-three n a e =
 -- ---- pairs that commute
 
 -- two steps apart below the last step
-pub exchanges-below : (k : Kind) (n a b : ℕ) → a + 2 ≤ b → b < n → Exchanges k n a b
-exchanges-below A n a b h g = h
-exchanges-below B n a b h g = h
-exchanges-below D n a b h g = inl (h, g)
+pub commutes-below : (k : Kind) (n a b : ℕ) → a + 2 ≤ b → b < n → Commutes k n a b
+commutes-below A n a b h g = h
+commutes-below B n a b h g = h
+commutes-below D n a b h g = inl (h, g)
 
 -- two steps apart where the lower one is two below the corner
-exchanges-corner : (k : Kind) (n c a b : ℕ) → Corner k n c → a + 2 ≤ c → a + 2 ≤ b → b ≤ n → Exchanges k n a b
-exchanges-corner A n c a b q f h g = h
-exchanges-corner B n c a b q f h g = h
-exchanges-corner D n c a b q f h g = elim (decLe n b) [
+commutes-corner : (k : Kind) (n c a b : ℕ) → Corner k n c → a + 2 ≤ c → a + 2 ≤ b → b ≤ n → Commutes k n a b
+commutes-corner A n c a b q f h g = h
+commutes-corner B n c a b q f h g = h
+commutes-corner D n c a b q f h g = elim (decLe n b) [
   | yes t ↦ inr (inl (omega arith))
   | no t ↦ inl (h, lt-of-not-le t)
 ]
 
 -- every letter of u is a higher step that commutes with a
 abbrev pub Clear : Kind → ℕ → ℕ → List ℕ → Type 0
-Clear k n a u = (b : ℕ) → List·Memᴰ b u → (b ≤ n) × Exchanges k n a b
+Clear k n a u = (b : ℕ) → List·Memᴰ b u → (b ≤ n) × Commutes k n a b
 
 corner-clear : (k : Kind) (n c d a : ℕ) → Corner k n c → a + 2 ≤ c → c ≤ n → a + 2 ≤ d → Clear k n a (span (a + 2) c ++ slide (suc n) d)
 corner-clear k n c d a q f l h b m =
     ⊎-elim
-    (λ s. (omega arith, exchanges-corner k n c a b q f (s .0) (omega arith)))
-    (λ s. (omega arith, exchanges-corner k n c a b q f (omega arith) (omega arith)))
+    (λ s. (omega arith, commutes-corner k n c a b q f (s .0) (omega arith)))
+    (λ s. (omega arith, commutes-corner k n c a b q f (omega arith) (omega arith)))
     (mem-hill b (a + 2) c (suc n) d m)
 
 -- ---- the blocks of family 3
@@ -115,7 +115,7 @@ carried-up : (k : Kind) (n i j : ℕ) → i < j → j < n → Carried k n i j
 carried-up k n i j h g = record {
   rest = span (i + 2) (suc j);
   shape = block-up k n i j g ∙ span-two i (suc j) (omega arith);
-  clear = λ b m. let s = mem-span b (i + 2) (suc j) m in (omega arith, exchanges-below k n i b (s .0) (omega arith));
+  clear = λ b m. let s = mem-span b (i + 2) (suc j) m in (omega arith, commutes-below k n i b (s .0) (omega arith));
 }
 
 carried-turn : (k : Kind) (n i j c d : ℕ) → Corner k n c → i + 2 ≤ c → n ≤ j → j ≤ lastIndex k n i → d + j ≡ 2 * n → i + 2 ≤ d → 1 ≤ i → Carried k n i j

@@ -10,9 +10,9 @@ use native.Mathlib.Omega.{arith}
 use Rattle.coxeter.specs.Kinds.{Kind, A, B, D, least}
 use Rattle.coxeter.specs.NormalForm.{levels, lastIndex}
 use Rattle.coxeter.proofs.Runs.{Corner}
-use Rattle.rules.proofs.Families.{Exchanges, Carries, Turns, IsD}
+use Rattle.rules.proofs.Families.{Commutes, Carries, Turns, IsD}
 use Rattle.coxeter.proofs.Order.{less, same, more, compared}
-use Rattle.rules.proofs.Letters.{exchanges-below}
+use Rattle.rules.proofs.Letters.{commutes-below}
 
 -- ---- the cases
 
@@ -27,7 +27,7 @@ pub data Next (k : Kind) (n c i j x : ℕ) : Type 0 where
   tops : suc j ≡ c → x ≡ n → Next k n c i j x
   falls : n ≤ j → suc (x + j) ≡ 2 * n → suc j ≤ lastIndex k n i → Next k n c i j x
   repeats : Last n i j x → Next k n c i j x
-  exchanges : {l : ℕ} → Last n i j l → Exchanges k n l x → Next k n c i j x
+  commutes : {l : ℕ} → Last n i j l → Commutes k n l x → Next k n c i j x
   carries : x < j → x < n → j ≤ lastIndex k n x → Carries k n x j → Next k n c i j x
   turns : {d : ℕ} → n ≤ j → d + j ≡ 2 * n → d < n → d + 1 ≡ x → Turns k n d → Next k n c i j x
   fives : IsD k → j ≡ n → x + 2 ≡ n → Next k n c i j x
@@ -81,10 +81,10 @@ level-le-last D n i j d h g e = omega arith
 
 -- ---- on the way up
 
-pub exchanges-top : (k : Kind) (n c i : ℕ) → Corner k n c → i < n → (suc i ≡ c → ⊥) → Exchanges k n i n
-exchanges-top A n c i e h f = omega arith
-exchanges-top B n c i e h f = omega arith
-exchanges-top D n c i e h f =
+pub commutes-top : (k : Kind) (n c i : ℕ) → Corner k n c → i < n → (suc i ≡ c → ⊥) → Commutes k n i n
+commutes-top A n c i e h f = omega arith
+commutes-top B n c i e h f = omega arith
+commutes-top D n c i e h f =
     elim (decLe (i + 3) n) [ yes g ↦ inr (inl (g, refl)) | no g ↦ inr (inr (omega arith, refl)) ]
 
 carries-rising : (k : Kind) (n x j : ℕ) → x < j → j < n → Carries k n x j
@@ -101,20 +101,20 @@ next-rising k n c i j x e s h g l =
       | more t ↦ elim (compared x n) [ less r ↦ below r t | same r ↦ top r | more r ↦ absurd (omega arith) ]
     ]
   where
-    exchanged : (suc j ≡ c → ⊥) → Exchanges k n j x → Next k n c i j x
-    exchanged f w = exchanges {l = j} (rising refl (⊎-elim (λ a. a) (λ b. absurd (f b)) s) h) w
+    commuted : (suc j ≡ c → ⊥) → Commutes k n j x → Next k n c i j x
+    commuted f w = commutes {l = j} (rising refl (⊎-elim (λ a. a) (λ b. absurd (f b)) s) h) w
 
     below : x < n → j < x → Next k n c i j x
     below r t =
         elim (compared x (suc j)) [
           | less q ↦ absurd (omega arith)
           | same q ↦ climbs q r
-          | more q ↦ exchanged (λ b. omega (arith, le-corner k n c e)) (exchanges-below k n j x (omega arith) r)
+          | more q ↦ commuted (λ b. omega (arith, le-corner k n c e)) (commutes-below k n j x (omega arith) r)
         ]
 
     top : x ≡ n → Next k n c i j x
     top r =
-        elim (ℕ-discrete (suc j) c) [ yes q ↦ tops q r | no q ↦ exchanged q (rw r (exchanges-top k n c j e h q)) ]
+        elim (ℕ-discrete (suc j) c) [ yes q ↦ tops q r | no q ↦ commuted q (rw r (commutes-top k n c j e h q)) ]
 
 -- ---- after the turn
 
@@ -142,7 +142,7 @@ next-higher : (k : Kind) (n c i j d x : ℕ) → n ≤ j → j ≤ lastIndex k n
 next-higher A n c i j d x h g e t l = absurd (omega arith)
 next-higher B n c i j d x h g e t l =
     elim (compared (d + 1) x) [
-      | less q ↦ exchanges {l = d} (falling h e) (omega arith)
+      | less q ↦ commutes {l = d} (falling h e) (omega arith)
       | same q ↦ turns {d = d} h e (omega arith) q (omega arith)
       | more q ↦ absurd (omega arith)
     ]
@@ -150,7 +150,7 @@ next-higher D n c i j d x h g e t l =
     elim (compared (d + 2) n) [
       | less r ↦
           elim (compared (d + 1) x) [
-            | less q ↦ exchanges {l = d} (falling h e)
+            | less q ↦ commutes {l = d} (falling h e)
                 (elim (compared x n) [ less p ↦ inl (omega arith, p) | same p ↦ inr (inl (omega arith, p)) | more p ↦ absurd (omega arith) ])
             | same q ↦ turns {d = d} h e (omega arith) q (omega arith)
             | more q ↦ absurd (omega arith)
@@ -161,7 +161,7 @@ next-higher D n c i j d x h g e t l =
             | same q ↦ sixes d tt r (omega arith) q
             | more q ↦ absurd (omega arith)
           ]
-      | more r ↦ exchanges {l = d} (falling h e) (inr (inr (omega arith, omega arith)))
+      | more r ↦ commutes {l = d} (falling h e) (inr (inr (omega arith, omega arith)))
     ]
 
 pub next-falling : (k : Kind) (n c i j x : ℕ) → n ≤ j → j ≤ lastIndex k n i → 1 ≤ i → i ≤ n → i ≤ x → x ≤ n → Next k n c i j x

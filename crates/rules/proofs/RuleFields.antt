@@ -12,10 +12,10 @@ use Rattle.coxeter.specs.Kinds.{Kind, A, B, D, least}
 use Rattle.coxeter.specs.Relations.{Commuting}
 use Rattle.coxeter.specs.NormalForm.{block}
 use Rattle.coxeter.proofs.Relations.{apart-commuting, commuting-apart}
-use Rattle.rules.specs.Rules.{Rule, exchanged, rules}
+use Rattle.rules.specs.Rules.{Rule, commuted, rules}
 use Rattle.rules.proofs.Families.{IsD}
 use Rattle.rules.proofs.Letters.{carries-carried, turns-turned, wide, narrow, block-fork}
-use Rattle.rules.proofs.RuleList.{Listed, square, exchange, carry, turn, five, six, seven, listed-of-mem, mem-of-listed}
+use Rattle.rules.proofs.RuleList.{Listed, square, commutation, carry, turn, five, six, seven, listed-of-mem, mem-of-listed}
 use Rattle.rules.proofs.Fits.{fits-at}
 use Rattle.rules.proofs.ScanRules.{fitting-unique}
 
@@ -38,7 +38,7 @@ fork D n a low d e =
 -- the left side begins with i
 begun : (k : Kind) (n : ℕ) {x : Rule} → Listed k n x → (rest : List ℕ) × (x .left ≡ x .i ∷ rest)
 begun k n (square {i} o l) = (i ∷ [], refl)
-begun k n (exchange {i} {j} o l g) = (j ∷ [], refl)
+begun k n (commutation {i} {j} o l g) = (j ∷ [], refl)
 begun k n (carry {i} {j} o l g) =
     let c = carries-carried k n i j o l g in
     ((i + 1) ∷ (c .rest ++ (i ∷ [])), ap (λ (u : List ℕ). u ++ (i ∷ [])) (c .shape))
@@ -52,7 +52,7 @@ begun k n (seven {a} d e) = (n ∷ (a + 1) ∷ a ∷ (a + 1) ∷ [], refl)
 
 between : (k : Kind) (n : ℕ) {x : Rule} → Listed k n x → (1 ≤ x .family) × (x .family ≤ 7)
 between k n (square o l) = omega arith
-between k n (exchange o l g) = omega arith
+between k n (commutation o l g) = omega arith
 between k n (carry {i} {j} o l g) = omega arith
 between k n (turn {i} o g) = omega arith
 between k n (five d e) = omega arith
@@ -61,7 +61,7 @@ between k n (seven d e) = omega arith
 
 no-j : (k : Kind) (n : ℕ) {x : Rule} → Listed k n x → (x .family ≡ 2 → ⊥) → (x .family ≡ 3 → ⊥) → x .j ≡ 0
 no-j k n (square o l) p q = refl
-no-j k n (exchange o l g) p q = absurd (p refl)
+no-j k n (commutation o l g) p q = absurd (p refl)
 no-j k n (carry {i} {j} o l g) p q = absurd (q refl)
 no-j k n (turn {i} o g) p q = refl
 no-j k n (five d e) p q = refl
@@ -71,7 +71,7 @@ no-j k n (seven d e) p q = refl
 -- only family 1 has an empty right side
 empty-right : (k : Kind) (n : ℕ) {x : Rule} → Listed k n x → x .right ≡ [] → x .family ≡ 1
 empty-right k n (square o l) q = refl
-empty-right k n (exchange {i} {j} o l g) q = absurd (cons-ne-nil j (i ∷ []) q)
+empty-right k n (commutation {i} {j} o l g) q = absurd (cons-ne-nil j (i ∷ []) q)
 empty-right k n (carry {i} {j} o l g) q = absurd (cons-ne-nil (i + 1) (block k n i j) q)
 empty-right k n (turn {i} o g) q = absurd (cons-ne-nil (i + 1) (block k n i (2 * n - i)) q)
 empty-right k n (five {a} d e) q = absurd (cons-ne-nil n (a ∷ n ∷ []) q)
@@ -103,7 +103,7 @@ sides k n low (square {i} o l) = (
   λ t. absurd (omega arith),
   λ t. absurd (omega arith),
 )
-sides k n low (exchange {i} {j} o l g) = (
+sides k n low (commutation {i} {j} o l g) = (
   λ t. absurd (omega arith),
   λ t. (refl, refl, apart-commuting k n i j g),
   λ t. absurd (omega arith),
@@ -216,8 +216,8 @@ module _ (k : Kind) (n : ℕ) (low : least k ≤ n) (x : Rule) (listed : List·M
   sides-7 = sides k n low entry .6
 
 -- each pair of steps that commute has its rule of family 2
-pub commuting-listed : (k : Kind) (n i j : ℕ) → least k ≤ n → 1 ≤ i → j ≤ n → Commuting k n i j → List·Memᴰ (exchanged i j) (rules k n)
-commuting-listed k n i j low o l c = mem-of-listed k n low (exchange o l (commuting-apart k n i j l c))
+pub commuting-listed : (k : Kind) (n i j : ℕ) → least k ≤ n → 1 ≤ i → j ≤ n → Commuting k n i j → List·Memᴰ (commuted i j) (rules k n)
+commuting-listed k n i j low o l c = mem-of-listed k n low (commutation o l (commuting-apart k n i j l c))
 
 -- ---- equal left sides
 
@@ -228,11 +228,11 @@ left-determines k n x y low p q e =
     (rw e (fits-at y [] []))
 
 -- R4: (n − 1) n is in D's list
-pub last-pair-listed : (n : ℕ) → 4 ≤ n → List·Memᴰ (exchanged (n - 1) n) (rules D n)
-last-pair-listed n low = mem-of-listed D n low (exchange {i = n - 1} {j = n} (omega arith) (omega arith) (inr (inr (omega arith))))
+pub last-pair-listed : (n : ℕ) → 4 ≤ n → List·Memᴰ (commuted (n - 1) n) (rules D n)
+last-pair-listed n low = mem-of-listed D n low (commutation {i = n - 1} {j = n} (omega arith) (omega arith) (inr (inr (omega arith))))
 
 -- R19: for (n − 1) n
 pub last-pair : (n : ℕ) (x : Rule) → 4 ≤ n → List·Memᴰ x (rules D n) → x .left ≡ (n - 1) ∷ n ∷ [] → (x .family ≡ 2) × (x .i ≡ n - 1) × (x .j ≡ n)
 last-pair n x low p e =
-    let s : x ≡ exchanged (n - 1) n = left-determines D n x (exchanged (n - 1) n) low p (last-pair-listed n low) e in
+    let s : x ≡ commuted (n - 1) n = left-determines D n x (commuted (n - 1) n) low p (last-pair-listed n low) e in
     rw s (refl, refl, refl)

@@ -17,8 +17,8 @@ use lib.Dec.{eqb}
 use borrow.Author.Tests.{eq-eqb, ne-eqb}
 use Rattle.coxeter.specs.Kinds.{Kind, A, B, D, pick, least}
 use Rattle.coxeter.specs.NormalForm.{rise}
-use Rattle.rules.specs.Rules.{Rule, rule, each, family1, exchanged, family2, carried, family3, turned, family4, families5to7, rules}
-use Rattle.rules.proofs.Families.{Exchanges, Carries, Turns, IsD, RuleOf}
+use Rattle.rules.specs.Rules.{Rule, rule, each, family1, commuted, family2, carried, family3, turned, family4, families5to7, rules}
+use Rattle.rules.proofs.Families.{Commutes, Carries, Turns, IsD, RuleOf}
 use Rattle.rules.proofs.Letters.{mem-rise, rise-mem, block-fork}
 
 -- ---- the entries
@@ -26,7 +26,7 @@ use Rattle.rules.proofs.Letters.{mem-rise, rise-mem, block-fork}
 -- one constructor a family, with the side conditions of the relation
 pub data Listed (k : Kind) (n : ℕ) : Rule → Type 0 where
   square : {i : ℕ} → 1 ≤ i → i ≤ n → Listed k n (rule 1 i 0 (i ∷ i ∷ []) [])
-  exchange : {i j : ℕ} → 1 ≤ i → j ≤ n → Exchanges k n i j → Listed k n (exchanged i j)
+  commutation : {i j : ℕ} → 1 ≤ i → j ≤ n → Commutes k n i j → Listed k n (commuted i j)
   carry : {i j : ℕ} → 1 ≤ i → i < j → Carries k n i j → Listed k n (carried k n i j)
   turn : {i : ℕ} → 1 ≤ i → Turns k n i → Listed k n (turned k n i)
   five : {a : ℕ} → IsD k → a + 2 ≡ n → Listed k n (rule 5 a 0 (a ∷ n ∷ a ∷ []) (n ∷ a ∷ n ∷ []))
@@ -67,8 +67,8 @@ sound-range f a b h = sound-each f (rise a b) (λ i m. let s = mem-rise i a b m 
 not-both : (i j n : ℕ) → (eqb (i + 2) n && eqb j n) ≡ false → j ≡ n → i + 2 ≡ n → ⊥
 not-both i j n t e f = let z : true ≡ false = sym (ap₂ _&&_ (eq-eqb (i + 2) n f) (eq-eqb j n e)) ∙ t in true≢false z
 
-pair-exchanges : (n i j : ℕ) → i + 2 ≤ j → j ≤ n → (eqb (i + 2) n && eqb j n) ≡ false → Exchanges D n i j
-pair-exchanges n i j h g t = elim (ℕ-discrete j n) [
+pair-commutes : (n i j : ℕ) → i + 2 ≤ j → j ≤ n → (eqb (i + 2) n && eqb j n) ≡ false → Commutes D n i j
+pair-commutes n i j h g t = elim (ℕ-discrete j n) [
   | yes e ↦ let f : i + 2 ≡ n → ⊥ = not-both i j n t e in inr (inl (omega arith, e))
   | no e ↦ inl (h, omega arith)
 ]
@@ -79,13 +79,13 @@ family1-sound k n = sound-range _ 1 n (λ i h g. sound-one (square h g))
 
 family2-sound : (k : Kind) (n : ℕ) → least k ≤ n → Sound k n (family2 k n)
 unfolding family2
-family2-sound A n l = sound-range _ 1 n (λ i h g. sound-range _ (i + 2) n (λ j p q. sound-one (exchange h q p)))
-family2-sound B n l = sound-range _ 1 n (λ i h g. sound-range _ (i + 2) n (λ j p q. sound-one (exchange h q p)))
+family2-sound A n l = sound-range _ 1 n (λ i h g. sound-range _ (i + 2) n (λ j p q. sound-one (commutation h q p)))
+family2-sound B n l = sound-range _ 1 n (λ i h g. sound-range _ (i + 2) n (λ j p q. sound-one (commutation h q p)))
 family2-sound D n l =
     sound-append _ _
     (sound-range _ 1 n (λ i h g. sound-range _ (i + 2) n (λ j p q.
-    sound-pick (eqb (i + 2) n && eqb j n) _ (λ t. sound-one (exchange h q (pair-exchanges n i j p q t))))))
-    (sound-one (exchange {i = n - 1} {j = n} (omega arith) (omega arith) (inr (inr (omega arith)))))
+    sound-pick (eqb (i + 2) n && eqb j n) _ (λ t. sound-one (commutation h q (pair-commutes n i j p q t))))))
+    (sound-one (commutation {i = n - 1} {j = n} (omega arith) (omega arith) (inr (inr (omega arith)))))
 
 family3-sound : (k : Kind) (n : ℕ) → least k ≤ n → Sound k n (family3 k n)
 unfolding family3
@@ -151,7 +151,7 @@ both-false i j n h = elim (ℕ-discrete (i + 2) n) [
   | no e ↦ ap (λ (t : Bool). t && eqb j n) (ne-eqb (i + 2) n e)
 ]
 
-family2-mem : (k : Kind) (n i j : ℕ) → 1 ≤ i → j ≤ n → Exchanges k n i j → List·Memᴰ (exchanged i j) (family2 k n)
+family2-mem : (k : Kind) (n i j : ℕ) → 1 ≤ i → j ≤ n → Commutes k n i j → List·Memᴰ (commuted i j) (family2 k n)
 unfolding family2
 family2-mem A n i j o l h = mem-range _ 1 n i o (omega arith) (mem-range _ (i + 2) n j h l (mem-one refl))
 family2-mem B n i j o l h = mem-range _ 1 n i o (omega arith) (mem-range _ (i + 2) n j h l (mem-one refl))
@@ -207,7 +207,7 @@ families5to7-eq D n a l d e =
 pub mem-of-listed : (k : Kind) (n : ℕ) {x : Rule} → least k ≤ n → Listed k n x → List·Memᴰ x (rules k n)
 unfolding rules family1
 mem-of-listed k n h (square {i} o l) = Memᴰ·append-left _ (mem-range _ 1 n i o l (mem-one refl))
-mem-of-listed k n h (exchange {i} {j} o l g) = Memᴰ·append-right (family1 n) (Memᴰ·append-left _ (family2-mem k n i j o l g))
+mem-of-listed k n h (commutation {i} {j} o l g) = Memᴰ·append-right (family1 n) (Memᴰ·append-left _ (family2-mem k n i j o l g))
 mem-of-listed k n h (carry {i} {j} o l g) = Memᴰ·append-right (family1 n) (Memᴰ·append-right (family2 k n) (Memᴰ·append-left _ (family3-mem k n i j o l g)))
 mem-of-listed k n h (turn {i} o g) =
     Memᴰ·append-right (family1 n) (Memᴰ·append-right (family2 k n) (Memᴰ·append-right (family3 k n) (Memᴰ·append-left _ (family4-mem k n i o g))))
@@ -223,7 +223,7 @@ rule-of-list k n l x m = sides (listed-of-mem k n l x m)
   where
     sides : {x : Rule} → Listed k n x → RuleOf k n (x .left) (x .right)
     sides (square o h) = RuleOf.square o h
-    sides (exchange o h g) = RuleOf.exchange o h g
+    sides (commutation o h g) = RuleOf.commutation o h g
     sides (carry {i} {j} o h g) = RuleOf.carry {i = i} {j = j} o h g
     sides (turn {i} o g) = RuleOf.turn {i = i} o g
     sides (five d e) = RuleOf.five d e
@@ -233,7 +233,7 @@ rule-of-list k n l x m = sides (listed-of-mem k n l x m)
 -- a rule of the relation is in the list
 pub list-of-rule : (k : Kind) (n : ℕ) {l r : List ℕ} → least k ≤ n → RuleOf k n l r → (x : Rule) × List·Memᴰ x (rules k n) × (x .left ≡ l) × (x .right ≡ r)
 list-of-rule k n h (RuleOf.square o l) = (_, mem-of-listed k n h (square o l), refl, refl)
-list-of-rule k n h (RuleOf.exchange o l g) = (_, mem-of-listed k n h (exchange o l g), refl, refl)
+list-of-rule k n h (RuleOf.commutation o l g) = (_, mem-of-listed k n h (commutation o l g), refl, refl)
 list-of-rule k n h (RuleOf.carry {i} {j} o l g) = (_, mem-of-listed k n h (carry {i = i} {j = j} o l g), refl, refl)
 list-of-rule k n h (RuleOf.turn {i} o g) = (_, mem-of-listed k n h (turn {i = i} o g), refl, refl)
 list-of-rule k n h (RuleOf.five d e) = (_, mem-of-listed k n h (five d e), refl, refl)

@@ -17,11 +17,11 @@ use lib.Seq.{take-append-seam}
 use borrow.Author.Tests.{eq-eqb, ne-eqb, lt-ltb, le-ltb}
 use Rattle.coxeter.specs.Kinds.{Kind, A, B, D, least}
 use Rattle.coxeter.specs.NormalForm.{block, levels, lastIndex}
-use Rattle.rules.specs.Rules.{Rule, rule, exchanged, carried, turned}
-use Rattle.rules.proofs.Families.{Exchanges, Carries, Turns, IsD}
+use Rattle.rules.specs.Rules.{Rule, rule, commuted, carried, turned}
+use Rattle.rules.proofs.Families.{Commutes, Carries, Turns, IsD}
 use Rattle.rules.proofs.Letters.{block-fork, block-one}
 use Rattle.rules.proofs.Extending.{block-top}
-use Rattle.rules.proofs.RuleList.{Listed, square, exchange, carry, turn, five, six, seven}
+use Rattle.rules.proofs.RuleList.{Listed, square, commutation, carry, turn, five, six, seven}
 use Rattle.rules.proofs.Scan.{fork, familyAtEnd, familyAt, shownIndex, firstLetter, shownRule, rightLength, ruleAt, found}
 use Rattle.rules.proofs.Scan.{walk, scan, Leaving, nextIndex-leave, Along, start, further, lastIndex-top, scan-block}
 
@@ -32,9 +32,9 @@ module _ (n f i j x : ℕ) where
   unfolding familyAt
   familyAt-square e g = rw (eq-eqb j i e, eq-eqb x i g)
 
-  pub familyAt-exchange : j ≡ i → i < x → familyAt n f i j x ≡ 2
+  pub familyAt-commute : j ≡ i → i < x → familyAt n f i j x ≡ 2
   unfolding familyAt
-  familyAt-exchange e g = rw (eq-eqb j i e, ne-eqb x i (omega arith), lt-ltb i x g)
+  familyAt-commute e g = rw (eq-eqb j i e, ne-eqb x i (omega arith), lt-ltb i x g)
 
   pub familyAt-below : j ≡ i → x < i → familyAt n f i j x ≡ 0
   unfolding familyAt
@@ -82,9 +82,9 @@ pub ruleAt-square : (k : Kind) (n i : ℕ) → least k ≤ n → i ≤ n → rul
 unfolding ruleAt shownIndex
 ruleAt-square k n i h l = rw (block-one k n i h l)
 
-pub ruleAt-exchange : (k : Kind) (n i x : ℕ) → least k ≤ n → i ≤ n → ruleAt k n i i x 2 ≡ exchanged i x
+pub ruleAt-commute : (k : Kind) (n i x : ℕ) → least k ≤ n → i ≤ n → ruleAt k n i i x 2 ≡ commuted i x
 unfolding ruleAt shownIndex firstLetter
-ruleAt-exchange k n i x h l = rw (block-one k n i h l)
+ruleAt-commute k n i x h l = rw (block-one k n i h l)
 
 pub ruleAt-carry : (k : Kind) (n i j : ℕ) → ruleAt k n i j i 3 ≡ carried k n i j
 unfolding ruleAt shownIndex firstLetter
@@ -133,13 +133,13 @@ pub record Ends (k : Kind) (n : ℕ) (r : Rule) : Type 0 where
   pub nonzero : f ≡ 0 → ⊥
   pub shape : r ≡ ruleAt k n i j x f
 
-exchanges-numbers : (k : Kind) (n i j : ℕ) → j ≤ n → Exchanges k n i j
+commutes-numbers : (k : Kind) (n i j : ℕ) → j ≤ n → Commutes k n i j
     → (i < j) × (j < n → j ≡ suc i → ⊥) × (j ≡ n → suc i ≡ levels k n → ⊥)
-exchanges-numbers A n i j l g = omega arith
-exchanges-numbers B n i j l g = omega arith
-exchanges-numbers D n i j l (inl g) = omega arith
-exchanges-numbers D n i j l (inr (inl g)) = omega arith
-exchanges-numbers D n i j l (inr (inr g)) = omega arith
+commutes-numbers A n i j l g = omega arith
+commutes-numbers B n i j l g = omega arith
+commutes-numbers D n i j l (inl g) = omega arith
+commutes-numbers D n i j l (inr (inl g)) = omega arith
+commutes-numbers D n i j l (inr (inr g)) = omega arith
 
 carries-numbers : (k : Kind) (n i j : ℕ) → 1 ≤ i → i < j → Carries k n i j
     → (i < levels k n) × (j ≤ lastIndex k n i) × (i + j < 2 * n) × (n ≤ j → j < lastIndex k n i → suc (i + j) ≡ 2 * n → ⊥) × (i ≡ fork k n → j ≡ n → ⊥)
@@ -172,8 +172,8 @@ ends-of-listed k n h (square {i} o l) = record {
   nonzero = omega arith;
   shape = sym (ruleAt-square k n i h l);
 }
-ends-of-listed k n h (exchange {i} {j} o l g) =
-    let q = exchanges-numbers k n i j l g in
+ends-of-listed k n h (commutation {i} {j} o l g) =
+    let q = commutes-numbers k n i j l g in
     record {
       i = i;
       j = i;
@@ -182,9 +182,9 @@ ends-of-listed k n h (exchange {i} {j} o l g) =
       along = start o (omega arith) refl;
       letter = l;
       leaving = record { not-up = λ a b. q .1 b; not-top = λ a b. q .2 b; not-down = λ a. omega arith };
-      family = familyAt-exchange n (fork k n) i i j refl (q .0);
+      family = familyAt-commute n (fork k n) i i j refl (q .0);
       nonzero = omega arith;
-      shape = sym (ruleAt-exchange k n i j h (omega arith));
+      shape = sym (ruleAt-commute k n i j h (omega arith));
     }
 ends-of-listed k n h (carry {i} {j} o l g) =
     let q = carries-numbers k n i j o l g in

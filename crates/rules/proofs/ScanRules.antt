@@ -19,27 +19,27 @@ use Rattle.coxeter.specs.Kinds.{Kind, A, B, D, pick, least}
 use Rattle.coxeter.specs.Checks.{wrongLetter}
 use Rattle.coxeter.specs.NormalForm.{block, levels, lastIndex}
 use Rattle.rules.specs.Rules.{Rule, rules, fits, firstFitting}
-use Rattle.rules.proofs.Families.{Exchanges, Carries, Turns, IsD}
-use Rattle.rules.proofs.NextLetter.{corner-levels, exchanges-top}
-use Rattle.rules.proofs.RuleList.{Listed, square, exchange, carry, turn, five, six, seven, listed-of-mem, mem-of-listed}
+use Rattle.rules.proofs.Families.{Commutes, Carries, Turns, IsD}
+use Rattle.rules.proofs.NextLetter.{corner-levels, commutes-top}
+use Rattle.rules.proofs.RuleList.{Listed, square, commutation, carry, turn, five, six, seven, listed-of-mem, mem-of-listed}
 use Rattle.rules.proofs.Fits.{begins-append, begins-split, firstFitting-some, firstFitting-none}
-use Rattle.rules.proofs.ScanFamilies.{familyAt-square, familyAt-exchange, familyAt-below, familyAt-carry, familyAt-five}
+use Rattle.rules.proofs.ScanFamilies.{familyAt-square, familyAt-commute, familyAt-below, familyAt-carry, familyAt-five}
 use Rattle.rules.proofs.ScanFamilies.{familyAt-inside, familyAt-turn, familyAt-six, familyAt-seven, familyAt-after}
-use Rattle.rules.proofs.ScanFamilies.{ruleAt-square, ruleAt-exchange, ruleAt-carry, ruleAt-turn, ruleAt-five}
+use Rattle.rules.proofs.ScanFamilies.{ruleAt-square, ruleAt-commute, ruleAt-carry, ruleAt-turn, ruleAt-five}
 use Rattle.rules.proofs.ScanFamilies.{ruleAt-six, ruleAt-seven, left-of, scan-left}
 use Rattle.rules.proofs.Scan.{fork, familyAt, ruleAt, found, walk, scan, nextIndex, Leaving, Going}
 use Rattle.rules.proofs.Scan.{climbs, tops, falls, leaves, going, Along, start, further, along-next}
-use Rattle.rules.proofs.Letters.{exchanges-below, block-one}
+use Rattle.rules.proofs.Letters.{commutes-below, block-one}
 use Rattle.coxeter.proofs.Order.{less, same, more, compared}
 use Rattle.coxeter.proofs.LetterLaws.{letter-within-cons}
 
 -- ---- what the search finds is a rule
 
 -- in the terms of the rules' side conditions: the letters beside the first, the end of a way, and a letter on it
-exchanges-of-leaving : (k : Kind) (n i j x : ℕ) → least k ≤ n → j ≡ i → i < x → x ≤ n → Leaving n (levels k n) (lastIndex k n i) j x → Exchanges k n i x
-exchanges-of-leaving k n i j x h e t l w = elim (ℕ-discrete x n) [
-  | yes g ↦ rw g (exchanges-top k n (levels k n) i (corner-levels k n h) (omega arith) (λ z. w .not-top (omega arith) g (omega arith)))
-  | no g ↦ let z : x ≡ suc j → ⊥ = w .not-up (omega arith) (omega arith) in exchanges-below k n i x (omega arith) (omega arith)
+commutes-of-leaving : (k : Kind) (n i j x : ℕ) → least k ≤ n → j ≡ i → i < x → x ≤ n → Leaving n (levels k n) (lastIndex k n i) j x → Commutes k n i x
+commutes-of-leaving k n i j x h e t l w = elim (ℕ-discrete x n) [
+  | yes g ↦ rw g (commutes-top k n (levels k n) i (corner-levels k n h) (omega arith) (λ z. w .not-top (omega arith) g (omega arith)))
+  | no g ↦ let z : x ≡ suc j → ⊥ = w .not-up (omega arith) (omega arith) in commutes-below k n i x (omega arith) (omega arith)
 ]
 
 turns-of-end : (k : Kind) (n i j : ℕ) → i < j → i < levels k n → j ≤ lastIndex k n i → i + j ≡ 2 * n → (i ≡ fork k n → ⊥) → Turns k n i
@@ -73,8 +73,8 @@ leaving-listed k n i j x h (start p q e) o l w =
     elim (compared x i) [
       | less t ↦ inl (familyAt-below n (fork k n) i j x e t)
       | same t ↦ inr (rw (familyAt-square n (fork k n) i j x e t, e, t) (rw (ruleAt-square k n i h q) (square p q)))
-      | more t ↦ inr (rw (familyAt-exchange n (fork k n) i j x e t, e)
-          (rw (ruleAt-exchange k n i x h q) (exchange p l (exchanges-of-leaving k n i j x h e t l w))))
+      | more t ↦ inr (rw (familyAt-commute n (fork k n) i j x e t, e)
+          (rw (ruleAt-commute k n i x h q) (commutation p l (commutes-of-leaving k n i j x h e t l w))))
     ]
 leaving-listed k n i j x h (further p q e m) o l w = elim (ℕ-discrete (i + j) (2 * n)) [ yes t ↦ after t | no t ↦ inside t ]
   where

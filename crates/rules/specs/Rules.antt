@@ -31,16 +31,16 @@ unfoldable pub family1 : ℕ → List Rule
 family1 n = each (λ i. rule 1 i 0 (i ∷ i ∷ []) [] ∷ []) (rise 1 n)
 
 -- R3, R4: i j → j i
-abbrev pub exchanged : ℕ → ℕ → Rule
-exchanged i j = rule 2 i j (i ∷ j ∷ []) (j ∷ i ∷ [])
+abbrev pub commuted : ℕ → ℕ → Rule
+commuted i j = rule 2 i j (i ∷ j ∷ []) (j ∷ i ∷ [])
 
 -- R3 for A and B, R4 for D
 unfoldable pub family2 : Kind → ℕ → List Rule
-family2 A n = each (λ i. each (λ j. exchanged i j ∷ []) (rise (i + 2) n)) (rise 1 n)
-family2 B n = each (λ i. each (λ j. exchanged i j ∷ []) (rise (i + 2) n)) (rise 1 n)
+family2 A n = each (λ i. each (λ j. commuted i j ∷ []) (rise (i + 2) n)) (rise 1 n)
+family2 B n = each (λ i. each (λ j. commuted i j ∷ []) (rise (i + 2) n)) (rise 1 n)
 family2 D n =
-    each (λ i. each (λ j. pick (eqb (i + 2) n && eqb j n) [] (exchanged i j ∷ [])) (rise (i + 2) n)) (rise 1 n)
-    ++ (exchanged (n - 1) n ∷ [])
+    each (λ i. each (λ j. pick (eqb (i + 2) n && eqb j n) [] (commuted i j ∷ [])) (rise (i + 2) n)) (rise 1 n)
+    ++ (commuted (n - 1) n ∷ [])
 
 -- R5, R6, R7: [i,j] i → (i + 1) [i,j]
 abbrev pub carried : Kind → ℕ → ℕ → ℕ → Rule

@@ -10,11 +10,11 @@ use native.Mathlib.Omega.{arith}
 use lib.IntN.{ℤ, pos}
 use lib.ListN.{getD}
 use Rattle.coxeter.specs.Kinds.{Kind, A, B, D, least, lanes}
-use Rattle.coxeter.specs.Windows.{from, exchange, negateFirst, exchangeNegate, act}
+use Rattle.coxeter.specs.Windows.{from, swap, negateFirst, swapNegate, act}
 use Rattle.coxeter.specs.Length.{later}
 use Rattle.coxeter.proofs.Levels.{Accepted, act-accepted}
-use Rattle.coxeter.proofs.Steps.{act-exchange, act-B-last, act-D-last}
-use Rattle.coxeter.proofs.Descents.{Sort, exchanges, negates, exchangesNegates, sortOf, crossed, crossed-exchange}
+use Rattle.coxeter.proofs.Steps.{act-swap, act-B-last, act-D-last}
+use Rattle.coxeter.proofs.Descents.{Sort, swaps, negates, swapsNegates, sortOf, crossed, crossed-swap}
 use Rattle.shortest_words.specs.Descents.{isDescent}
 use Rattle.shortest_words.proofs.Descents.{descent-crossed}
 use Rattle.shortest_words.proofs.Stripping.{Ended}
@@ -32,10 +32,10 @@ Far k n j s = (j + 1 < s) × (k ≡ D → s ≡ n → j + 2 < s)
 
 -- the entries before those that step s acts on; step n of D acts on one more
 act-before : {k : Kind} {n s : ℕ} (q : ℕ) (w : List ℤ) → Sort k n s → Far k n q s → getD (act k n s w) q (pos 0) ≡ getD w q (pos 0)
-act-before q w (exchanges k n p l) h = rw (act-exchange k n p l) (getD-before exchange p q w (omega (arith, h .0)))
+act-before q w (swaps k n p l) h = rw (act-swap k n p l) (getD-before swap p q w (omega (arith, h .0)))
 act-before q w (negates p) h = rw (act-B-last (suc p) p (omega arith)) (getD-before negateFirst p q w (omega (arith, h .0)))
-act-before q w (exchangesNegates p) h =
-    rw (act-D-last (suc (suc p)) p (omega arith)) (getD-before exchangeNegate p q w (omega (arith, h .1 refl refl)))
+act-before q w (swapsNegates p) h =
+    rw (act-D-last (suc (suc p)) p (omega arith)) (getD-before swapNegate p q w (omega (arith, h .1 refl refl)))
 
 far-below : (k : Kind) (n i j s : ℕ) → i ≤ j → Far k n j s → Far k n i s
 far-below k n i j s l h = (omega (arith, h .0), λ d e. omega (arith, h .1 d e))
@@ -51,9 +51,9 @@ module _ (k : Kind) (n s : ℕ) (w : List ℤ) (h : least k ≤ n) (o : 1 ≤ s)
   crossed-far (suc j) i g =
       let inside = below-lanes k n j (omega (arith, g .0)) in
       let sort = sortOf k n s h o l in
-      crossed-exchange k n j (act k n s w) inside
+      crossed-swap k n j (act k n s w) inside
       ∙ ap₂ later (act-before j w sort (far-below k n j (suc j) s (omega arith) g)) (act-before (suc j) w sort g)
-      ∙ sym (crossed-exchange k n j w inside)
+      ∙ sym (crossed-swap k n j w inside)
 
   pub descent-far : (j : ℕ) → 1 ≤ j → Far k n j s → isDescent k n j (act k n s w) ≡ isDescent k n j w
   descent-far j i g =

@@ -14,7 +14,7 @@ use lib.IntN.{ℤ}
 use lib.ListN.{length, getD, take, drop}
 use lib.Seq.{take-append-seam, drop-append-seam}
 use Rattle.coxeter.specs.Kinds.{Kind, B, kindOf, up}
-use Rattle.coxeter.specs.Windows.{from, exchange, negateFirst, act, windowFrom, identity, window, signed, placeFrom}
+use Rattle.coxeter.specs.Windows.{from, swap, negateFirst, act, windowFrom, identity, window, signed, placeFrom}
 use Rattle.coxeter.specs.Length.{later, negative, one, laterThan, inversions, negativeSumPairs, negatives, crossings, total, windowLength}
 use Rattle.coxeter.specs.Checks.{wrongKind, wrongRank, tooLong, wrongLetter, tooShort, rankRefusal, wordRefusal, RankOf, WordOf}
 use Rattle.coxeter.specs.NormalForm.{down, rise, fall, block, without, indexOf, restOf, normalFrom, normalForm, wordNormalForm}
@@ -109,7 +109,7 @@ pub two-lists-serve : (p : ℕ)
     → FellBack 2 3 (1 ∷ 2 ∷ 3 ∷ 2 ∷ 1 ∷ []) (2 ∷ []) (p ∷ []) (Kept 1) (1 ∷ [])
     × FellBack 2 3 (1 ∷ 2 ∷ 3 ∷ 2 ∷ 1 ∷ []) (2 ∷ []) (p ∷ []) (Kept 1) (3 ∷ [])
 unfolding fallbackAnswer fallbackOf fallsBack somePart sameWindow sameEntry lettersAt keptCount kindOf up
-    from exchange negateFirst act windowFrom identity window signed placeFrom
+    from swap negateFirst act windowFrom identity window signed placeFrom
     later negative one laterThan inversions negativeSumPairs negatives crossings total windowLength
     wrongKind wrongRank tooLong wrongLetter tooShort rankRefusal wordRefusal down rise fall block without indexOf restOf normalFrom normalForm
 two-lists-serve p = (kept-at 1 (omega arith) refl, kept-at 3 (omega arith) refl)

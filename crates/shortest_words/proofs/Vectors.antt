@@ -8,7 +8,7 @@ use mathlib.Core.List.{List, [], _∷_}
 use Prim.Native.Nat.{ℕ, _≤_}
 use native.Mathlib.Omega.{arith}
 use Rattle.coxeter.specs.Kinds.{A, kindOf, up}
-use Rattle.coxeter.specs.Windows.{from, exchange, negateFirst, exchangeNegate, act, windowFrom, identity, window, at, product, signed, placeFrom, inverse}
+use Rattle.coxeter.specs.Windows.{from, swap, negateFirst, swapNegate, act, windowFrom, identity, window, at, product, signed, placeFrom, inverse}
 use Rattle.coxeter.specs.Length.{later, negative, one, laterThan, inversions, negativeSumPairs, negatives, crossings, total, windowLength}
 use Rattle.coxeter.specs.Checks.{wrongKind, wrongRank, tooLong, wrongLetter, tooShort, rankRefusal, wordRefusal}
 use Rattle.coxeter.specs.NormalForm.{down, rise, fall, block, without, indexOf, restOf, normalFrom, normalForm}
@@ -35,7 +35,7 @@ dropped = (refl, refl, refl)
 
 -- a step twice is no shortest word
 pub twice-not-shortest : Shortest A 2 (1 ∷ 1 ∷ []) → ⊥
-unfolding wrongLetter window windowFrom identity up act from exchange
+unfolding wrongLetter window windowFrom identity up act from swap
 twice-not-shortest s = let l : 2 ≤ 0 = s .none-shorter [] refl refl in omega arith
 
 -- ---- fallbacks
@@ -65,7 +65,7 @@ fallbacks =
 
 pub fallbacks-agree : Agree fallbacks
 unfolding fallbacks fallbackAnswer fallbackOf fallsBack somePart sameWindow sameEntry kindOf up
-    from exchange negateFirst exchangeNegate act windowFrom identity window signed placeFrom
+    from swap negateFirst swapNegate act windowFrom identity window signed placeFrom
     later negative one laterThan inversions negativeSumPairs negatives crossings total windowLength
     wrongKind wrongRank tooLong wrongLetter tooShort rankRefusal wordRefusal down rise fall block without indexOf restOf normalFrom normalForm
 fallbacks-agree = refl
@@ -97,7 +97,7 @@ splits =
 
 pub splits-agree : Agree splits
 unfolding splits told splitting parts splitOf written firstWord secondWord restInverse stripped lowest isDescent allows wrongSet setRefusal kindOf up
-    from exchange negateFirst exchangeNegate act windowFrom identity window at product signed placeFrom inverse
+    from swap negateFirst swapNegate act windowFrom identity window at product signed placeFrom inverse
     later negative one laterThan inversions negativeSumPairs negatives crossings total windowLength
     wrongKind wrongRank tooLong wrongLetter tooShort rankRefusal wordRefusal down rise fall block without indexOf restOf normalFrom normalForm
 splits-agree = refl

@@ -6,7 +6,7 @@ use std::num::wrapping_sub_u8;
 ghost use Prim.Native.Nat.{_≤_};
 
 // R4.
-fn is_exchange(n: u8, i: u8, j: u8) -> bool
+fn is_commuting(n: u8, i: u8, j: u8) -> bool
     requires { ⌜ (i ≤ n) × (n ≤ 64) ⌝ }
 {
     if j == n {
@@ -45,7 +45,7 @@ pub(crate) fn rule(n: u8, family: u8, i: u8, j: u8) -> Rule
     if 127 < j {
         return NONE;
     }
-    if family == 2 && is_exchange(n, i, j) {
+    if family == 2 && is_commuting(n, i, j) {
         return word_rule(i, 1, 0, 0, j, j);
     }
     if family == 3 && is_braid(n, i, j) {

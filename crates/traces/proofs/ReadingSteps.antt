@@ -18,13 +18,13 @@ use Rattle.coxeter.specs.Kinds.{Kind, least}
 use Rattle.coxeter.specs.Checks.{wrongLetter}
 use Rattle.coxeter.specs.NormalForm.{levels}
 use Rattle.coxeter.proofs.Order.{less, same, more, compared}
-use Rattle.rules.specs.Rules.{Rule, rules, rule, fits, firstFitting, rewritten, exchanged}
+use Rattle.rules.specs.Rules.{Rule, rules, rule, fits, firstFitting, rewritten, commuted}
 use Rattle.rules.proofs.Fits.{firstFitting-some}
 use Rattle.traces.specs.Traces.{Redex, lowestRedex}
 use Rattle.traces.proofs.LeftSides.{lower, Sides, drops, moves, sides-of-rule}
 use Rattle.traces.proofs.Traces.{after, lowest-some, lowest-is}
 use Rattle.traces.proofs.Endings.{lowest-of-ending, first-of-ending, between-of-ending}
-use Rattle.traces.proofs.TwoLetters.{exchanging, exchange-fits, no-exchange-none, square-fits}
+use Rattle.traces.proofs.TwoLetters.{commuting, commute-fits, no-commute-none, square-fits}
 use Rattle.traces.proofs.LeastWords.{normal-front, letters-left}
 use Rattle.traces.proofs.Reading.{Reading, upto, reading-inside, fitting, reading-length, reading-lower, split, z-split, after-is}
 
@@ -78,11 +78,11 @@ module _ (k : Kind) (n : ℕ) (h : least k ≤ n) (z : List ℕ) (q : ℕ) (r : 
       ap (drop q) e ∙ drop-at (take q z) (before ∷ letter ∷ []) q (length-take-le q z (omega arith))
 
   -- family 2
-  pub exchange-redex : letter ≤ n → exchanging n (levels k n) before letter ≡ true
-      → lowestRedex k n (take (suc (suc q)) z) ≡ some (record { place = q; rule = exchanged before letter })
-  exchange-redex l t =
-      redex-of-fitting k n h z (suc q) r q (exchanged before letter)
-      (exchange-fits k n h (take (suc (suc q)) z) q before letter (read-letters k n h z (suc q) r) last-two l t)
+  pub commute-redex : letter ≤ n → commuting n (levels k n) before letter ≡ true
+      → lowestRedex k n (take (suc (suc q)) z) ≡ some (record { place = q; rule = commuted before letter })
+  commute-redex l t =
+      redex-of-fitting k n h z (suc q) r q (commuted before letter)
+      (commute-fits k n h (take (suc (suc q)) z) q before letter (read-letters k n h z (suc q) r) last-two l t)
 
   -- family 1
   pub square-redex : letter ≡ before → before ≤ n
@@ -114,8 +114,8 @@ module _ (k : Kind) (n : ℕ) (h : least k ≤ n) (z : List ℕ) (q : ℕ) (r : 
         rw (← in-z (s .place) (omega (arith, low)), ← in-z t (omega arith))
         (between-of-ending k n h (s .rule) (fits-there .0) (take (suc (suc q)) z) (s .place) q (fits-there .1) (reading-length k n h z (suc q) r s e) t a b)
 
-    -- two rising letters that do not exchange
-    pub place-rising : (floor p : ℕ) → before < letter → letter ≤ n → exchanging n (levels k n) before letter ≡ false → floor ≡ suc (suc q) - 2 * n
+    -- two rising letters that do not commute
+    pub place-rising : (floor p : ℕ) → before < letter → letter ≤ n → commuting n (levels k n) before letter ≡ false → floor ≡ suc (suc q) - 2 * n
         → Stopped z floor q before p → s .place ≡ p
     place-rising floor p l o t f d =
         let c : getD z (s .place) 0 ≡ before = first-letter .0 ∙ rw (le-ltb letter before (omega arith)) in
@@ -125,7 +125,7 @@ module _ (k : Kind) (n : ℕ) (h : least k ≤ n) (z : List ℕ) (q : ℕ) (r : 
         less-q = elim (ℕ-discrete (s .place) q) [
           | yes y ↦
               absurd (Option·none-ne-some (s .rule)
-              (sym (no-exchange-none k n h (take (suc (suc q)) z) q before letter (read-letters k n h z (suc q) r) last-two l o t)
+              (sym (no-commute-none k n h (take (suc (suc q)) z) q before letter (read-letters k n h z (suc q) r) last-two l o t)
               ∙ ap (firstFitting (rules k n) (take (suc (suc q)) z)) (sym y) ∙ lowest-some k n _ s e .fitting))
           | no y ↦ omega (arith, low)
         ]

@@ -1,5 +1,5 @@
 -- The bound on the number of steps is reached: in every kind, at a rank above 2m, the word 2 4 6 .. of m letters
--- takes one step for each pair of its letters. Each letter read exchanges with all that stand before it, one by
+-- takes one step for each pair of its letters. Each letter read commutes with all that stand before it, one by
 -- one.
 --
 -- Sections: a letter passes all before it; the word.
@@ -19,21 +19,21 @@ use Rattle.coxeter.specs.Checks.{wrongLetter}
 use Rattle.coxeter.specs.NormalForm.{levels}
 use Rattle.coxeter.proofs.LetterLaws.{letter-within-cons}
 use Rattle.coxeter.proofs.Relations.{letters-append, wrongLetter-nil, wrongLetter-cons}
-use Rattle.rules.specs.Rules.{exchanged, rewritten}
+use Rattle.rules.specs.Rules.{commuted, rewritten}
 use Rattle.rules.proofs.Fits.{rewritten-split}
 use Rattle.traces.specs.Traces.{Redex, lowestRedex, Trace, trace}
 use Rattle.traces.proofs.Traces.{after, none-of-irreducible, trace-none}
-use Rattle.traces.proofs.TwoLetters.{exchanging}
+use Rattle.traces.proofs.TwoLetters.{commuting}
 use Rattle.traces.proofs.LeastWords.{letters-left, letters-right, Normal}
 use Rattle.traces.proofs.Reading.{nil-irreducible, Reading, reading-next, reading-ends, reading-lower, reading-moved, pairs-suc, steps, steps-step}
-use Rattle.traces.proofs.ReadingSteps.{exchange-redex}
+use Rattle.traces.proofs.ReadingSteps.{commute-redex}
 
 letters-cons : (n x : ℕ) (b : List ℕ) → 1 ≤ x → x ≤ n → wrongLetter n b ≡ false → wrongLetter n (x ∷ b) ≡ false
 letters-cons n x b o l e = wrongLetter-cons n x b o l ∙ e
 
-exchanging-far : (n c l x : ℕ) → l + 1 < x → x < n → exchanging n c l x ≡ true
-unfolding exchanging
-exchanging-far n c l x g h = rw (ne-eqb x n (λ e. omega arith), lt-ltb (l + 1) x g)
+commuting-far : (n c l x : ℕ) → l + 1 < x → x < n → commuting n c l x ≡ true
+unfolding commuting
+commuting-far n c l x g h = rw (ne-eqb x n (λ e. omega arith), lt-ltb (l + 1) x g)
 
 -- ---- a letter passes all before it
 
@@ -50,11 +50,11 @@ module _ (k : Kind) (n : ℕ) (h : least k ≤ n) where
       let second : getD z (suc q) 0 ≡ x =
       ap (λ (w : List ℕ). getD w (suc q) 0) (sym (append-snoc a y (x ∷ b)))
       ∙ getD-at (a ++ (y ∷ [])) x b 0 (suc q) (length-append a (y ∷ []) ∙ omega (arith, e)) in
-      let s : Redex = record { place = q; rule = exchanged y x } in
-      let far : exchanging n (levels k n) (getD z q 0) (getD z (suc q) 0) ≡ true = rw (first, second) (exchanging-far n (levels k n) y x (omega arith) g) in
+      let s : Redex = record { place = q; rule = commuted y x } in
+      let far : commuting n (levels k n) (getD z q 0) (getD z (suc q) 0) ≡ true = rw (first, second) (commuting-far n (levels k n) y x (omega arith) g) in
       let u : lowestRedex k n (take (suc (suc q)) z) ≡ some s =
-      exchange-redex k n h z q r (omega (arith, second)) far ∙ ap₂ (λ (i j : ℕ). some (record { place = q; rule = exchanged i j })) first second in
-      let d : after z s ≡ a ++ (x ∷ y ∷ b) = ap (rewritten (exchanged y x) z) (sym e) ∙ rewritten-split (exchanged y x) a b in
+      commute-redex k n h z q r (omega (arith, second)) far ∙ ap₂ (λ (i j : ℕ). some (record { place = q; rule = commuted i j })) first second in
+      let d : after z s ≡ a ++ (x ∷ y ∷ b) = ap (rewritten (commuted y x) z) (sym e) ∙ rewritten-split (commuted y x) a b in
       let t = steps-step k n h z (suc q) rest r s u l in
       (rw d at (t .0), rw d at (reading-moved k n h z (suc q) r s u (λ f. omega arith)), rw d at (t .1))
 

@@ -1,7 +1,7 @@
--- A rule whose left side is two letters: which letters exchange, told by two comparisons, and the rule of an
--- exchange and of a letter that stands twice. By the search, which such a word leaves at once.
+-- A rule whose left side is two letters: which letters commute, told by two comparisons, and the rule of two
+-- such letters and of a letter that stands twice. By the search, which such a word leaves at once.
 --
--- Sections: letters that exchange; the rule of two letters.
+-- Sections: letters that commute; the rule of two letters.
 -- Assumes nothing.
 use mathlib.Core.Path.{_≡_, refl, sym, ap, _∙_}
 use mathlib.Core.Bool.{Bool, true, false, true≢false}
@@ -16,20 +16,20 @@ use borrow.Author.Tests.{eq-eqb, ne-eqb, lt-ltb, ltb-true}
 use Rattle.coxeter.specs.Kinds.{Kind, pick, least}
 use Rattle.coxeter.specs.Checks.{wrongLetter}
 use Rattle.coxeter.specs.NormalForm.{levels, lastIndex}
-use Rattle.rules.specs.Rules.{rules, rule, exchanged, firstFitting}
+use Rattle.rules.specs.Rules.{rules, rule, commuted, firstFitting}
 use Rattle.rules.proofs.Scan.{nextIndex, fork, familyAt, found, walk, scan, Leaving, nextIndex-leave, lastIndex-top}
-use Rattle.rules.proofs.ScanFamilies.{familyAt-square, familyAt-exchange, ruleAt-square, ruleAt-exchange}
+use Rattle.rules.proofs.ScanFamilies.{familyAt-square, familyAt-commute, ruleAt-square, ruleAt-commute}
 use Rattle.rules.proofs.ScanRules.{scan-is-firstFitting}
 
--- ---- letters that exchange
+-- ---- letters that commute
 
 -- whether l x is the left side of a rule of family 2; c is the kind's corner
-unfoldable pub exchanging : ℕ → ℕ → ℕ → ℕ → Bool
-exchanging n c l x = pick (eqb x n) (pick (eqb (l + 1) c) false (ltb l x)) (ltb (l + 1) x)
+unfoldable pub commuting : ℕ → ℕ → ℕ → ℕ → Bool
+commuting n c l x = pick (eqb x n) (pick (eqb (l + 1) c) false (ltb l x)) (ltb (l + 1) x)
 
-pub exchanging-leaves : (n c m l x : ℕ) → x ≤ n → exchanging n c l x ≡ true → (l < x) × (nextIndex n c m l x ≡ 0)
-unfolding exchanging nextIndex
-exchanging-leaves n c m l x h e = elim (ℕ-discrete x n) [ yes t ↦ top t | no t ↦ below t ]
+pub commuting-leaves : (n c m l x : ℕ) → x ≤ n → commuting n c l x ≡ true → (l < x) × (nextIndex n c m l x ≡ 0)
+unfolding commuting nextIndex
+commuting-leaves n c m l x h e = elim (ℕ-discrete x n) [ yes t ↦ top t | no t ↦ below t ]
   where
     top : x ≡ n → (l < x) × (nextIndex n c m l x ≡ 0)
     top t =
@@ -45,11 +45,11 @@ exchanging-leaves n c m l x h e = elim (ℕ-discrete x n) [ yes t ↦ top t | no
         let g : l + 1 < x = ltb-true (l + 1) x (rw (ne-eqb x n t) at e) in
         (omega arith, rw (lt-ltb l n (omega arith), ne-eqb x n t, ne-eqb x (l + 1) (omega arith)))
 
-pub leaves-exchanging : (n c m l x : ℕ) → x ≤ n → l < x → nextIndex n c m l x ≡ 0 → exchanging n c l x ≡ true
-unfolding exchanging nextIndex
-leaves-exchanging n c m l x h g e = elim (ℕ-discrete x n) [ yes t ↦ top t | no t ↦ below t ]
+pub leaves-commuting : (n c m l x : ℕ) → x ≤ n → l < x → nextIndex n c m l x ≡ 0 → commuting n c l x ≡ true
+unfolding commuting nextIndex
+leaves-commuting n c m l x h g e = elim (ℕ-discrete x n) [ yes t ↦ top t | no t ↦ below t ]
   where
-    top : x ≡ n → exchanging n c l x ≡ true
+    top : x ≡ n → commuting n c l x ≡ true
     top t =
         elim (ℕ-discrete (l + 1) c) [
           | yes q ↦
@@ -58,7 +58,7 @@ leaves-exchanging n c m l x h g e = elim (ℕ-discrete x n) [ yes t ↦ top t | 
           | no q ↦ rw (eq-eqb x n t, ne-eqb (l + 1) c q, lt-ltb l x g)
         ]
 
-    below : (x ≡ n → ⊥) → exchanging n c l x ≡ true
+    below : (x ≡ n → ⊥) → commuting n c l x ≡ true
     below t =
         elim (ℕ-discrete x (l + 1)) [
           | yes q ↦
@@ -79,17 +79,17 @@ module _ (k : Kind) (n : ℕ) (h : least k ≤ n) (u : List ℕ) (q l x : ℕ) (
   unfolding walk
   two-leave z = searched ∙ rw z
 
-  pub exchange-fits : x ≤ n → exchanging n (levels k n) l x ≡ true → firstFitting (rules k n) u q ≡ some (exchanged l x)
+  pub commute-fits : x ≤ n → commuting n (levels k n) l x ≡ true → firstFitting (rules k n) u q ≡ some (commuted l x)
   unfolding found
-  exchange-fits g t =
-      let s = exchanging-leaves n (levels k n) (lastIndex k n l) l x g t in
-      two-leave (s .1) ∙ rw (familyAt-exchange n (fork k n) l l x refl (s .0)) (ap some (ruleAt-exchange k n l x h (omega arith)))
+  commute-fits g t =
+      let s = commuting-leaves n (levels k n) (lastIndex k n l) l x g t in
+      two-leave (s .1) ∙ rw (familyAt-commute n (fork k n) l l x refl (s .0)) (ap some (ruleAt-commute k n l x h (omega arith)))
 
-  -- of two rising letters that do not exchange no rule fits
-  pub no-exchange-none : l < x → x ≤ n → exchanging n (levels k n) l x ≡ false → firstFitting (rules k n) u q ≡ none
+  -- of two rising letters that do not commute no rule fits
+  pub no-commute-none : l < x → x ≤ n → commuting n (levels k n) l x ≡ false → firstFitting (rules k n) u q ≡ none
   unfolding walk
-  no-exchange-none g o t = elim (ℕ-discrete (nextIndex n (levels k n) (lastIndex k n l) l x) 0) [
-    | yes z ↦ absurd (true≢false (sym (leaves-exchanging n (levels k n) (lastIndex k n l) l x o g z) ∙ t))
+  no-commute-none g o t = elim (ℕ-discrete (nextIndex n (levels k n) (lastIndex k n l) l x) 0) [
+    | yes z ↦ absurd (true≢false (sym (leaves-commuting n (levels k n) (lastIndex k n l) l x o g z) ∙ t))
     | no z ↦ searched ∙ rw (ne-eqb (nextIndex n (levels k n) (lastIndex k n l) l x) 0 z)
   ]
 

@@ -15,12 +15,12 @@ use lib.Signed.{mag}
 use mir.Syntax.{w8}
 use mir.Val.{toZ, ofZ}
 use Rattle.coxeter.specs.Kinds.{Kind, A, B, D, kindOf, lanes}
-use Rattle.coxeter.specs.Windows.{from, exchange, negateFirst, exchangeNegate, act}
+use Rattle.coxeter.specs.Windows.{from, swap, negateFirst, swapNegate, act}
 use Rattle.coxeter.specs.Checks.{WindowOf}
 use Rattle.coxeter.proofs.KindLaws.{lanes-le-add-one, kindOf-one, kindOf-two, kindOf-three}
 use Rattle.coxeter.proofs.Acceptance.{Ranked}
 use Rattle.coxeter.proofs.Levels.{Between, accepted-of-refusal}
-use Rattle.coxeter.proofs.Steps.{act-exchange, act-B-last, act-D-last}
+use Rattle.coxeter.proofs.Steps.{act-swap, act-B-last, act-D-last}
 use Rattle.refusals.proofs.Bytes.{held, element-back}
 
 -- ---- stores
@@ -43,12 +43,12 @@ set-set-eq-from f zero (x ∷ y ∷ w) a b h e = sym (e w)
 set-set-eq-from f (suc p) (x ∷ w) a b h e =
     rw suc-add (ap (λ (l : List ℤ). x ∷ l) (set-set-eq-from f p w a b (omega arith) (rw suc-add at e)))
 
-pub set-eq-exchange : (p : ℕ) (w : List ℤ) → p + 1 < length w → mag (getD w p (pos 0)) < 128 → mag (getD w (p + 1) (pos 0)) < 128
-    → set (set w p (toZ w8 (ofZ w8 (getD w (p + 1) (pos 0))))) (p + 1) (toZ w8 (ofZ w8 (getD w p (pos 0)))) ≡ from p exchange w
-unfolding exchange
-set-eq-exchange p w h d e =
+pub set-eq-swap : (p : ℕ) (w : List ℤ) → p + 1 < length w → mag (getD w p (pos 0)) < 128 → mag (getD w (p + 1) (pos 0)) < 128
+    → set (set w p (toZ w8 (ofZ w8 (getD w (p + 1) (pos 0))))) (p + 1) (toZ w8 (ofZ w8 (getD w p (pos 0)))) ≡ from p swap w
+unfolding swap
+set-eq-swap p w h d e =
     rw (element-back (getD w p (pos 0)) d, element-back (getD w (p + 1) (pos 0)) e)
-    (set-set-eq-from exchange p w (getD w (p + 1) (pos 0)) (getD w p (pos 0)) h (λ v. refl))
+    (set-set-eq-from swap p w (getD w (p + 1) (pos 0)) (getD w p (pos 0)) h (λ v. refl))
 
 -- r is the negation of the entry e, both as signed bytes
 pub record Negated (e r : ℤ) : Type 0 where
@@ -65,12 +65,12 @@ unfolding negateFirst
 set-eq-negateFirst p w r h e =
     rw (negated-back (getD w p (pos 0)) r e) (set-eq-from negateFirst p w (negℤ (getD w p (pos 0))) h (λ v. refl))
 
-pub set-eq-exchangeNegate : (p : ℕ) (w : List ℤ) (r s : ℤ) → p + 1 < length w → Negated (getD w p (pos 0)) r → Negated (getD w (p + 1) (pos 0)) s
-    → set (set w p (toZ w8 (ofZ w8 s))) (p + 1) (toZ w8 (ofZ w8 r)) ≡ from p exchangeNegate w
-unfolding exchangeNegate
-set-eq-exchangeNegate p w r s h d e =
+pub set-eq-swapNegate : (p : ℕ) (w : List ℤ) (r s : ℤ) → p + 1 < length w → Negated (getD w p (pos 0)) r → Negated (getD w (p + 1) (pos 0)) s
+    → set (set w p (toZ w8 (ofZ w8 s))) (p + 1) (toZ w8 (ofZ w8 r)) ≡ from p swapNegate w
+unfolding swapNegate
+set-eq-swapNegate p w r s h d e =
     rw (negated-back (getD w p (pos 0)) r d, negated-back (getD w (p + 1) (pos 0)) s e)
-    (set-set-eq-from exchangeNegate p w (negℤ (getD w (p + 1) (pos 0))) (negℤ (getD w p (pos 0))) h (λ v. refl))
+    (set-set-eq-from swapNegate p w (negℤ (getD w (p + 1) (pos 0))) (negℤ (getD w p (pos 0))) h (λ v. refl))
 
 -- ---- entries of an accepted window
 
@@ -104,13 +104,13 @@ place-lt D n s w h l r = omega (arith, length-of-refusal D n w r)
 pub place-lt-of-requires : (k n s : ℕ) (w : List ℤ) → ActRequires k n s w → s - 1 < length w
 place-lt-of-requires k n s w h = place-lt (kindOf k) n s w (h .0 .0) (h .0 .1) (h .1 .1)
 
-exchange-eq-act-suc : (k : Kind) (n p : ℕ) (w : List ℤ) → suc p < lanes k n → from (suc p - 1) exchange w ≡ act k n (suc p) w
-exchange-eq-act-suc k n p w h = let e : suc p - 1 ≡ p = omega arith in rw (e, act-exchange k n p h)
+swap-eq-act-suc : (k : Kind) (n p : ℕ) (w : List ℤ) → suc p < lanes k n → from (suc p - 1) swap w ≡ act k n (suc p) w
+swap-eq-act-suc k n p w h = let e : suc p - 1 ≡ p = omega arith in rw (e, act-swap k n p h)
 
--- a step below the number of lanes exchanges two entries
-pub exchange-eq-act : (k n s : ℕ) (w : List ℤ) → ActRequires k n s w → s < length w → from (s - 1) exchange w ≡ act (kindOf k) n s w
-exchange-eq-act k n zero w h l = let z : ⊥ = omega (arith, h .0 .0) in absurd z
-exchange-eq-act k n (suc p) w h l = exchange-eq-act-suc (kindOf k) n p w (rw (length-of-refusal (kindOf k) n w (h .1 .1)) at l)
+-- a step below the number of lanes swaps two entries
+pub swap-eq-act : (k n s : ℕ) (w : List ℤ) → ActRequires k n s w → s < length w → from (s - 1) swap w ≡ act (kindOf k) n s w
+swap-eq-act k n zero w h l = let z : ⊥ = omega (arith, h .0 .0) in absurd z
+swap-eq-act k n (suc p) w h l = swap-eq-act-suc (kindOf k) n p w (rw (length-of-refusal (kindOf k) n w (h .1 .1)) at l)
 
 -- any other step is step n, and the kind is B or D
 pub last-step : (k : Kind) (n s : ℕ) (w : List ℤ) → s ≤ n → length w ≤ s → WindowOf k n w → (s ≡ n) × (length w ≡ n)
@@ -147,12 +147,12 @@ module _ (k n s : ℕ) (w : List ℤ) (h : ActRequires k n s w) (l : length w �
   pub four-le-of-last : (k ≡ 2 → ⊥) → 4 ≤ n
   four-le-of-last f = rw (last-kind k n s w h l f) at (h .1 .0 .0)
 
-  pub exchange-negate-at-requires-of-last : (k ≡ 2 → ⊥)
+  pub swap-negate-at-requires-of-last : (k ≡ 2 → ⊥)
       → (n - 2 + 1 < length w) × ((natAbs (getD w (n - 2) (pos 0)) < 128) × (natAbs (getD w (n - 2 + 1) (pos 0)) < 128))
-  exchange-negate-at-requires-of-last f = (omega (arith, last, four-le-of-last f), (small (n - 2), small (n - 2 + 1)))
+  swap-negate-at-requires-of-last f = (omega (arith, last, four-le-of-last f), (small (n - 2), small (n - 2 + 1)))
 
   pub held-eq-last-of-D : (k ≡ 2 → ⊥) → mag (getD w (s - 1) (pos 0)) < 128 → held (getD w (s - 1) (pos 0)) ≡ getD w (n - 2 + 1) (pos 0)
   held-eq-last-of-D f = held-eq-getD (n - 2 + 1) (omega (arith, last, four-le-of-last f))
 
-  pub exchangeNegate-eq-act : (k ≡ 2 → ⊥) → from (n - 2) exchangeNegate w ≡ act (kindOf k) n s w
-  exchangeNegate-eq-act f = rw (last-kind k n s w h l f, last .0, act-D-last n (n - 2) (omega (arith, four-le-of-last f)))
+  pub swapNegate-eq-act : (k ≡ 2 → ⊥) → from (n - 2) swapNegate w ≡ act (kindOf k) n s w
+  swapNegate-eq-act f = rw (last-kind k n s w h l f, last .0, act-D-last n (n - 2) (omega (arith, four-le-of-last f)))

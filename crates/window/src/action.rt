@@ -4,16 +4,16 @@ ghost use Prim.Native.Nat.{_+_, _<_, _≤_};
 ghost use lib.IntN.{natAbs, pos};
 ghost use lib.ListN.{length, getD};
 ghost use Rattle.coxeter.specs.Kinds.{kindOf, lanes};
-ghost use Rattle.coxeter.specs.Windows.{from, exchange, negateFirst, exchangeNegate, act, windowFrom, identity, window};
+ghost use Rattle.coxeter.specs.Windows.{from, swap, negateFirst, swapNegate, act, windowFrom, identity, window};
 ghost use Rattle.coxeter.specs.Checks.{WordOf, WindowOf};
 ghost use Rattle.coxeter.proofs.Acceptance.{Ranked};
 use super::entries::negated;
 
-// w[p] and w[p + 1] exchanged, where w[p] is a.
-fn exchange_at(w: &mut [i8], p: usize, a: i8)
+// w[p] and w[p + 1] swapped, where w[p] is a.
+fn swap_at(w: &mut [i8], p: usize, a: i8)
     requires { ⌜ p + 1 < length (now w) ⌝ }
     requires { ⌜ a ≡ getD (now w) p (pos 0) ⌝ }
-    ensures { λ _. ⌜ now (w .exit) ≡ from p exchange (now (w .entry)) ⌝ }
+    ensures { λ _. ⌜ now (w .exit) ≡ from p swap (now (w .entry)) ⌝ }
 {
     let b = w[p + 1];
     w[p] = b;
@@ -29,13 +29,13 @@ fn negate_at(w: &mut [i8], p: usize, a: i8)
     w[p] = negated(a);
 }
 
-// w[p] and w[p + 1], which is b, exchanged, both with their signs changed.
-fn exchange_negate_at(w: &mut [i8], p: usize, b: i8)
+// w[p] and w[p + 1], which is b, swapped, both with their signs changed.
+fn swap_negate_at(w: &mut [i8], p: usize, b: i8)
     requires { ⌜ p + 1 < length (now w) ⌝ }
     requires { ⌜ natAbs (getD (now w) p (pos 0)) < 128 ⌝ }
     requires { ⌜ natAbs (getD (now w) (p + 1) (pos 0)) < 128 ⌝ }
     requires { ⌜ b ≡ getD (now w) (p + 1) (pos 0) ⌝ }
-    ensures { λ _. ⌜ now (w .exit) ≡ from p exchangeNegate (now (w .entry)) ⌝ }
+    ensures { λ _. ⌜ now (w .exit) ≡ from p swapNegate (now (w .entry)) ⌝ }
 {
     let a = w[p];
     let c = negated(a);
@@ -44,7 +44,7 @@ fn exchange_negate_at(w: &mut [i8], p: usize, b: i8)
     w[p + 1] = c;
 }
 
-// K7, K8, K9: one step. Below the number of entries a step exchanges, in every kind. Any other is step n of B or D:
+// K7, K8, K9: one step. Below the number of entries a step swaps, in every kind. Any other is step n of B or D:
 // A has an entry more than steps. The entry at s - 1, which each of them needs, is read before it is known which
 // step it is: read beside its neighbour, the compiler would turn the two as one number of 16 bits, and the next
 // step at a neighbour would wait for half of that number.
@@ -56,14 +56,14 @@ fn act_on(kind: u8, n: usize, s: usize, w: &mut [i8])
 {
     let a = w[s - 1];
     if s < w.len() {
-        exchange_at(w, s - 1, a);
+        swap_at(w, s - 1, a);
         return;
     }
     if kind == 2 {
         negate_at(w, n - 1, a);
         return;
     }
-    exchange_negate_at(w, n - 2, a);
+    swap_negate_at(w, n - 2, a);
 }
 
 // The steps of a word from the left.

@@ -14,14 +14,14 @@ use lib.Signed.{mag, ltZ}
 use mir.Syntax.{w8}
 use mir.Val.{SFits}
 use Rattle.coxeter.specs.Kinds.{pick, kindOf, lanes}
-use Rattle.coxeter.specs.Windows.{from, exchange, negateFirst, exchangeNegate, act}
+use Rattle.coxeter.specs.Windows.{from, swap, negateFirst, swapNegate, act}
 use Rattle.coxeter.specs.Length.{later, negative}
 use Rattle.coxeter.proofs.KindLaws.{kindOf-two}
 use Rattle.coxeter.proofs.Levels.{accepted-of-refusal}
-use Rattle.coxeter.proofs.Descents.{crossed, crossed-exchange, crossed-B-last, crossed-D-last}
+use Rattle.coxeter.proofs.Descents.{crossed, crossed-swap, crossed-B-last, crossed-D-last}
 use Rattle.refusals.proofs.Bytes.{held, byte-back, element-back, minus-is-negate, minus-fits, minus-back}
-use Rattle.window.proofs.ByteSteps.{ActRequires, Negated, set-eq-negateFirst, set-eq-exchangeNegate, length-of-refusal}
-use Rattle.window.proofs.ByteSteps.{exchange-eq-act, negateFirst-eq-act, exchangeNegate-eq-act, four-le-of-last, last-step, last-kind}
+use Rattle.window.proofs.ByteSteps.{ActRequires, Negated, set-eq-negateFirst, set-eq-swapNegate, length-of-refusal}
+use Rattle.window.proofs.ByteSteps.{swap-eq-act, negateFirst-eq-act, swapNegate-eq-act, four-le-of-last, last-step, last-kind}
 use Rattle.shortest_words.specs.Descents.{isDescent}
 use Rattle.shortest_words.proofs.Descents.{descent-crossed}
 
@@ -76,11 +76,11 @@ pub set-eq-negated : (p : ℕ) (w : List ℤ) → p < length w → mag (getD w p
     → set w p (held (pos 0 -ℤ held (getD w p (pos 0)))) ≡ from p negateFirst w
 set-eq-negated p w h f g = set-eq-negateFirst p w (pos 0 -ℤ held (getD w p (pos 0))) h (negated-entry (getD w p (pos 0)) f g)
 
-pub set-eq-exchanged : (p : ℕ) (w : List ℤ) → p + 1 < length w → mag (getD w p (pos 0)) < 128 → natAbs (getD w p (pos 0)) < 128
+pub set-eq-swapped : (p : ℕ) (w : List ℤ) → p + 1 < length w → mag (getD w p (pos 0)) < 128 → natAbs (getD w p (pos 0)) < 128
     → mag (getD w (p + 1) (pos 0)) < 128 → natAbs (getD w (p + 1) (pos 0)) < 128
-    → set (set w p (held (pos 0 -ℤ held (getD w (p + 1) (pos 0))))) (p + 1) (held (pos 0 -ℤ held (getD w p (pos 0)))) ≡ from p exchangeNegate w
-set-eq-exchanged p w h f g d e =
-    set-eq-exchangeNegate p w (pos 0 -ℤ held (getD w p (pos 0))) (pos 0 -ℤ held (getD w (p + 1) (pos 0))) h
+    → set (set w p (held (pos 0 -ℤ held (getD w (p + 1) (pos 0))))) (p + 1) (held (pos 0 -ℤ held (getD w p (pos 0)))) ≡ from p swapNegate w
+set-eq-swapped p w h f g d e =
+    set-eq-swapNegate p w (pos 0 -ℤ held (getD w p (pos 0))) (pos 0 -ℤ held (getD w (p + 1) (pos 0))) h
     (negated-entry (getD w p (pos 0)) f g) (negated-entry (getD w (p + 1) (pos 0)) d e)
 
 -- ---- one step
@@ -96,14 +96,14 @@ module _ (k n s : ℕ) (w v : List ℤ) (r : Bool) (h : ActRequires k n s w) whe
       let a = accepted-of-refusal (kindOf k) n w (h .1 .1) in
       (t ∙ sym (descent-crossed (kindOf k) n s w (h .1 .0 .0) (h .0 .0) (h .0 .1) a), q ∙ ap (λ (y : List ℤ). pick r y w) e)
 
-  pub taken-pair : s < length w → r ≡ later (getD w (s - 1) (pos 0)) (getD w (s - 1 + 1) (pos 0)) → v ≡ pick r (from (s - 1) exchange w) w
+  pub taken-pair : s < length w → r ≡ later (getD w (s - 1) (pos 0)) (getD w (s - 1 + 1) (pos 0)) → v ≡ pick r (from (s - 1) swap w) w
       → TakenDescent k n s w r v
   taken-pair l t q =
       let e : suc (s - 1) ≡ s = omega (arith, h .0 .0) in
       let f : s - 1 + 1 ≡ s = omega (arith, h .0 .0) in
       let inside : suc (s - 1) < lanes (kindOf k) n = rw (e, ← length-of-refusal (kindOf k) n w (h .1 .1)) l in
-      let test = rw e at (crossed-exchange (kindOf k) n (s - 1) w inside) in
-      taken-descent (from (s - 1) exchange w) (t ∙ rw f (sym test)) (exchange-eq-act k n s w h l) q
+      let test = rw e at (crossed-swap (kindOf k) n (s - 1) w inside) in
+      taken-descent (from (s - 1) swap w) (t ∙ rw f (sym test)) (swap-eq-act k n s w h l) q
 
   module _ (l : length w ≤ s) where
     last : (s ≡ n) × (length w ≡ n)
@@ -116,9 +116,9 @@ module _ (k n s : ℕ) (w v : List ℤ) (r : Bool) (h : ActRequires k n s w) whe
         taken-descent (from (n - 1) negateFirst w) (t ∙ rw (kindOf-two k b, last .0) (sym test)) (negateFirst-eq-act k n s w h l b) q
 
     pub taken-signs : (k ≡ 2 → ⊥) → r ≡ later (getD w (n - 2) (pos 0)) (negℤ (getD w (n - 2 + 1) (pos 0)))
-        → v ≡ pick r (from (n - 2) exchangeNegate w) w → TakenDescent k n s w r v
+        → v ≡ pick r (from (n - 2) swapNegate w) w → TakenDescent k n s w r v
     taken-signs b t q =
         let e : suc (suc (n - 2)) ≡ n = omega (arith, four-le-of-last k n s w h l b) in
         let f : n - 2 + 1 ≡ suc (n - 2) = omega arith in
         let test = rw e at (crossed-D-last (n - 2) w) in
-        taken-descent (from (n - 2) exchangeNegate w) (t ∙ rw (f, last-kind k n s w h l b, last .0) (sym test)) (exchangeNegate-eq-act k n s w h l b) q
+        taken-descent (from (n - 2) swapNegate w) (t ∙ rw (f, last-kind k n s w h l b, last .0) (sym test)) (swapNegate-eq-act k n s w h l b) q

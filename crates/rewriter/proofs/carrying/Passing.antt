@@ -14,14 +14,14 @@ use Rattle.coxeter.specs.Kinds.{Kind}
 use Rattle.coxeter.specs.Checks.{tooLong, wordRefusal, WordOf}
 use Rattle.coxeter.specs.NormalForm.{levels}
 use Rattle.coxeter.proofs.LetterLaws.{letter-within}
-use Rattle.rules.specs.Rules.{rewritten, exchanged}
+use Rattle.rules.specs.Rules.{rewritten, commuted}
 use Rattle.rules.proofs.ScanRules.{wrongLetter-drop}
-use Rattle.traces.proofs.TwoLetters.{exchanging}
+use Rattle.traces.proofs.TwoLetters.{commuting}
 use Rattle.traces.proofs.Reading.{reading-inside}
-use Rattle.traces.proofs.ReadingSteps.{exchange-redex}
+use Rattle.traces.proofs.ReadingSteps.{commute-redex}
 use Rattle.traces.proofs.Tracing.{stores, Ready, Carried}
 use Rattle.rewriter.proofs.carrying.Noting.{stores-start, stores-suc}
-use Rattle.rewriter.proofs.carrying.Shifting.{put, put-none, put-read, put-exchanged, Exchanging}
+use Rattle.rewriter.proofs.carrying.Shifting.{put, put-none, put-read, put-commuted, CommutesFrom}
 use Rattle.rewriter.proofs.carrying.CarriedSteps.{carried-start, carried-ready, carried-trans, carried-step}
 
 -- ---- letters
@@ -40,9 +40,9 @@ module _ {k : Kind} {n : ℕ} {rest : List ℕ} {s : ℕ} {families places lengt
 
 -- ---- a letter that passes another
 
-exchanged-set : (w : List ℕ) (p l x : ℕ) → suc p < length w → rewritten (exchanged l x) w p ≡ set (set w (suc p) l) p x
+commuted-set : (w : List ℕ) (p l x : ℕ) → suc p < length w → rewritten (commuted l x) w p ≡ set (set w (suc p) l) p x
 unfolding rewritten
-exchanged-set w p l x h =
+commuted-set w p l x h =
     let e : p + 2 ≡ suc (suc p) = omega arith in
     let f : suc p ≡ suc p + 0 = omega arith in
     let g : drop (suc p) (set w (suc p) l) ≡ l ∷ drop (suc (suc p)) w =
@@ -53,23 +53,23 @@ exchanged-set w p l x h =
     ∙ ap₂ (λ (u v : List ℕ). u ++ (x ∷ v)) (take-set-le p w (suc p) l (omega arith)) g))
 
 module _ {k : Kind} {n : ℕ} {rest : List ℕ} {s : ℕ} {families places lengths word : List ℕ} where
-  exchange-step : (p : ℕ) → Ready k n rest s families places lengths word (suc p) → (s′ : ℕ) (families′ places′ lengths′ : List ℕ)
-      → exchanging n (levels k n) (getD word p 0) (getD word (suc p) 0) ≡ true → s′ ≡ s + 1 → families′ ≡ set families s 2 → places′ ≡ set places s p
+  commute-step : (p : ℕ) → Ready k n rest s families places lengths word (suc p) → (s′ : ℕ) (families′ places′ lengths′ : List ℕ)
+      → commuting n (levels k n) (getD word p 0) (getD word (suc p) 0) ≡ true → s′ ≡ s + 1 → families′ ≡ set families s 2 → places′ ≡ set places s p
       → lengths′ ≡ set lengths s (length word + length rest)
       → Carried k n rest s families places lengths word s′ families′ places′ lengths′ (set (set word (suc p) (getD word p 0)) p (getD word (suc p) 0)) p
-  exchange-step p a s′ families′ places′ lengths′ t i f g m =
+  commute-step p a s′ families′ places′ lengths′ t i f g m =
       let l = ready-letter a (suc p) (ready-inside a) in
-      carried-step a _ (exchange-redex k n (a .rank) word p (a .reading) (l .1) t) s′ families′ places′ lengths′ _
-      (omega arith) i f g m (sym (exchanged-set word p (getD word p 0) (getD word (suc p) 0) (ready-inside a)))
+      carried-step a _ (commute-redex k n (a .rank) word p (a .reading) (l .1) t) s′ families′ places′ lengths′ _
+      (omega arith) i f g m (sym (commuted-set word p (getD word p 0) (getD word (suc p) 0) (ready-inside a)))
 
   -- the letter x, at the place behind p
   pass-step : (p x left s′ : ℕ) (families′ places′ lengths′ : List ℕ) → Ready k n rest s families places lengths word (suc p)
-      → getD word (suc p) 0 ≡ x → exchanging n (levels k n) (getD word p 0) x ≡ true → s′ ≡ s + 1 → families′ ≡ set families s 2
+      → getD word (suc p) 0 ≡ x → commuting n (levels k n) (getD word p 0) x ≡ true → s′ ≡ s + 1 → families′ ≡ set families s 2
       → places′ ≡ set places s p → left ≡ length word + length rest → lengths′ ≡ set lengths s left
       → Carried k n rest s families places lengths word s′ families′ places′ lengths′ (set (set word (suc p) (getD word p 0)) p x) p
       × (getD (set (set word (suc p) (getD word p 0)) p x) p 0 ≡ x)
   pass-step p x left s′ families′ places′ lengths′ a y z i f g b m = (
-    rw (← y) (exchange-step p a s′ families′ places′ lengths′ (rw y z) i f g (rw (← b) m)),
+    rw (← y) (commute-step p a s′ families′ places′ lengths′ (rw y z) i f g (rw (← b) m)),
     getD-set-same (set word (suc p) (getD word p 0)) p x 0 (rw length-set (omega (arith, ready-inside a))),
   )
 
@@ -88,7 +88,7 @@ module _ {k : Kind} {n : ℕ} {rest : List ℕ} {s : ℕ} {families places lengt
   module _ (left : ℕ) (l : left ≡ length word + length rest) where
     pass-again : {families′ places′ lengths′ word′ : List ℕ} {p x : ℕ} {families″ places″ lengths″ word″ : List ℕ}
         → Passed k n rest s families places lengths word q families′ places′ lengths′ word′ (suc p) x
-        → exchanging n (levels k n) (getD word′ p 0) x ≡ true → families″ ≡ set families′ (s + (q - suc p)) 2
+        → commuting n (levels k n) (getD word′ p 0) x ≡ true → families″ ≡ set families′ (s + (q - suc p)) 2
         → places″ ≡ set places′ (s + (q - suc p)) p → lengths″ ≡ set lengths′ (s + (q - suc p)) left
         → set (set word′ (suc p) (getD word′ p 0)) p x ≡ word″
         → Passed k n rest s families places lengths word q families″ places″ lengths″ word″ p x
@@ -112,7 +112,7 @@ module _ {k : Kind} {n : ℕ} {rest : List ℕ} {s : ℕ} {families places lengt
           ← stores-start (λ i. left) lengths s,
         ) pass-start
 
-    letters-next : (m p : ℕ) → p + suc m ≡ q → exchanging n (levels k n) (getD word p 0) (getD word q 0) ≡ true → Letters m (suc p) → Letters (suc m) p
+    letters-next : (m p : ℕ) → p + suc m ≡ q → commuting n (levels k n) (getD word p 0) (getD word q 0) ≡ true → Letters m (suc p) → Letters (suc m) p
     letters-next m p e z b =
         let x : ℕ = getD word q 0 in
         let i : q - suc p ≡ m = omega arith in
@@ -122,19 +122,19 @@ module _ {k : Kind} {n : ℕ} {rest : List ℕ} {s : ℕ} {families places lengt
         (stores-suc (λ i. 2) families s m (q - suc p) 2 i refl)
         (stores-suc (λ i. q - suc i) places s m (q - suc p) p i (omega arith))
         (stores-suc (λ i. left) lengths s m (q - suc p) left i refl)
-        (put-exchanged word q p x (ready-inside a) (omega arith))
+        (put-commuted word q p x (ready-inside a) (omega arith))
 
-    letters : (m t : ℕ) → t + m ≡ q → Exchanging n (levels k n) word q (getD word q 0) t → Letters m t
+    letters : (m t : ℕ) → t + m ≡ q → CommutesFrom n (levels k n) word q (getD word q 0) t → Letters m t
     letters zero t e w = let z : q ≡ t = omega arith in subst (Letters 0) z letters-none
     letters (suc m) t e w = letters-next m t e (w t (omega arith) (omega arith)) (letters m (suc t) (omega arith) (λ j h. w j (omega arith)))
 
     -- the letter has come to place r, where it stops
     pub passed : {c r : ℕ} {families′ places′ lengths′ word′ : List ℕ} → c ≡ levels k n → r ≤ q → word′ ≡ put word r q (getD word q 0)
-        → Exchanging n c word q (getD word q 0) r → (1 ≤ r → exchanging n c (getD word (r - 1) 0) (getD word q 0) ≡ false)
+        → CommutesFrom n c word q (getD word q 0) r → (1 ≤ r → commuting n c (getD word (r - 1) 0) (getD word q 0) ≡ false)
         → families′ ≡ stores (λ i. 2) families s (q - r) → places′ ≡ stores (λ i. q - suc i) places s (q - r)
         → lengths′ ≡ stores (λ i. left) lengths s (q - r)
         → (r ≤ q) × Carried k n rest s families places lengths word (s + (q - r)) families′ places′ lengths′ word′ r
-        × (1 ≤ r → exchanging n (levels k n) (getD word′ (r - 1) 0) (getD word′ r 0) ≡ false)
+        × (1 ≤ r → commuting n (levels k n) (getD word′ (r - 1) 0) (getD word′ r 0) ≡ false)
     passed {c} {r} {word′ = word′} d h e w o f g m =
         let b = letters (q - r) r (omega arith) (rw (← d) w) in
         let stop : getD word′ r 0 ≡ getD word q 0 = rw e (b .1) in

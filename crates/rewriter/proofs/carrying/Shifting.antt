@@ -1,6 +1,6 @@
 -- The turns of the loops of the module `carrying` that move letters of the word by one or by two places.
 --
--- Sections: by one to the right; past letters that exchange; by two to the left.
+-- Sections: by one to the right; past letters that commute; by two to the left.
 -- Assumes nothing.
 use mathlib.Core.Path.{_≡_, refl, sym, ap, ap₂, _∙_}
 use mathlib.Core.Bool.{Bool, true}
@@ -10,7 +10,7 @@ use native.Mathlib.Decide.{ℕ-discrete}
 use native.Mathlib.Omega.{arith}
 use lib.ListN.{length, getD, take, drop, set, length-set, length-drop, List·getD-append}
 use lib.Seq.{length-take-le, take-suc, take-all, drop-cons, append-snoc, split-at, set-at, set-set, getD-take, getD-drop, take-suc-set, drop-set-lt}
-use Rattle.traces.proofs.TwoLetters.{exchanging}
+use Rattle.traces.proofs.TwoLetters.{commuting}
 
 -- ---- by one to the right
 
@@ -49,12 +49,12 @@ module _ (w word : List ℕ) (q : ℕ) (h : q < length w) where
   pub put-end : (t place first : ℕ) → place ≤ t → t ≤ place → place ≤ q → word ≡ put w t q (getD w t 0) → set word place first ≡ put w place q first
   put-end t place first a b l e = let z : t ≡ place = omega arith in put-set place first l (rw z at e)
 
--- ---- past letters that exchange
+-- ---- past letters that commute
 
--- y exchanged with the letter before it
-pub put-exchanged : (w : List ℕ) (q p y : ℕ) → q < length w → suc p ≤ q
+-- y swapped with the letter before it
+pub put-commuted : (w : List ℕ) (q p y : ℕ) → q < length w → suc p ≤ q
     → set (set (put w (suc p) q y) (suc p) (getD (put w (suc p) q y) p 0)) p y ≡ put w p q y
-put-exchanged w q p y h l =
+put-commuted w q p y h l =
     let z : suc p - 1 ≡ p = omega arith in
     let v : List ℕ = put w (suc p) q (getD w (suc p) 0) in
     let here = rw z at (put-read w (put w (suc p) q y) q h (suc p) y (omega arith) l refl) in
@@ -62,13 +62,13 @@ put-exchanged w q p y h l =
     rw (here ∙ sym there, ← put-set w v q h (suc p) y l refl, set-set v (suc p) y (getD v p 0))
     (put-set w _ q h p y (omega arith) (rw z at (put-next w v q h (suc p) (omega arith) l refl)))
 
--- the letter x exchanges with each letter from place t up to before q
+-- the letter x commutes with each letter from place t up to before q
 module _ (n c : ℕ) (w : List ℕ) (q x : ℕ) where
-  abbrev pub Exchanging : ℕ → Type 0
-  Exchanging t = (j : ℕ) → t ≤ j → j < q → exchanging n c (getD w j 0) x ≡ true
+  abbrev pub CommutesFrom : ℕ → Type 0
+  CommutesFrom t = (j : ℕ) → t ≤ j → j < q → commuting n c (getD w j 0) x ≡ true
 
-  pub exchanging-next : (t l : ℕ) (done : Bool) → l ≡ getD w (t - 1) 0 → done ≡ exchanging n c l x → done ≡ true → Exchanging t → Exchanging (t - 1)
-  exchanging-next t l done e d z f j a b = elim (ℕ-discrete j (t - 1)) [
+  pub commutesFrom-next : (t l : ℕ) (done : Bool) → l ≡ getD w (t - 1) 0 → done ≡ commuting n c l x → done ≡ true → CommutesFrom t → CommutesFrom (t - 1)
+  commutesFrom-next t l done e d z f j a b = elim (ℕ-discrete j (t - 1)) [
     | yes g ↦ rw (g, ← e, ← d) z
     | no g ↦ f j (omega arith) b
   ]

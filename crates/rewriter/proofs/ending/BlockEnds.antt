@@ -26,7 +26,7 @@ use Rattle.rules.proofs.Scan.{nextIndex, fork, familyAt, shownIndex, firstLette
 use Rattle.traces.specs.Traces.{lowestRedex}
 use Rattle.traces.proofs.PartBlocks.{indexBy, part-block}
 use Rattle.traces.proofs.LeftSides.{lower}
-use Rattle.traces.proofs.TwoLetters.{exchanging}
+use Rattle.traces.proofs.TwoLetters.{commuting}
 use Rattle.traces.proofs.LeastWords.{letters-left, Normal, normal-back}
 use Rattle.traces.proofs.Reading.{Reading, reading-inside, reading-before}
 use Rattle.rewriter.specs.declared.ending.Ending.{Ending}
@@ -35,7 +35,7 @@ use Rattle.rewriter.proofs.search.Searches.{Searching, Searchable, alon
 use Rattle.rewriter.proofs.ending.Ends.{Begun, blockEnding, endingOf, upto-one, ending-none, ending-found}
 
 module _ (k : Kind) (n : ℕ) (h : least k ≤ n) (w : List ℕ) (q : ℕ) (r : Reading k n w q) (o : 1 ≤ q) (p : ℕ) (b : Begun w n q p)
-    (d : getD w (q - 1) 0 ≡ getD w q 0 → ⊥) (t : exchanging n (levels k n) (getD w (q - 1) 0) (getD w q 0) ≡ false) where
+    (d : getD w (q - 1) 0 ≡ getD w q 0 → ⊥) (t : commuting n (levels k n) (getD w (q - 1) 0) (getD w q 0) ≡ false) where
   inside : q < length w
   inside = reading-inside k n h w q r
 

@@ -25,7 +25,7 @@ use Rattle.rules.proofs.Scan.{nextIndex, fork, familyAt, shownIndex, firstLette
 use Rattle.traces.specs.Traces.{Redex, lowestRedex}
 use Rattle.traces.proofs.LeftSides.{lower}
 use Rattle.traces.proofs.Traces.{lowest-some}
-use Rattle.traces.proofs.TwoLetters.{exchanging}
+use Rattle.traces.proofs.TwoLetters.{commuting}
 use Rattle.traces.proofs.Reading.{Reading, reading-inside, reading-lower}
 use Rattle.traces.proofs.ReadingSteps.{Stopped, redex-of-fitting, square-redex, first-letter, place-rising, place-falling, after-dropped, letters-dropped}
 use Rattle.rewriter.specs.declared.search.Fitting.{Fitting}
@@ -148,7 +148,7 @@ module _ (k : Kind) (n : ℕ) (h : least k ≤ n) (w : List ℕ) (q : ℕ) (r : 
       let u = square-redex k n h w (q - 1) reading (ap (λ (t : ℕ). getD w t 0) (sym back) ∙ sym e) (within (q - 1) (omega (arith, inside))) in
       sym (ap endingOf (ap (λ (t : ℕ). lowestRedex k n (take (suc t) w)) back ∙ u))
 
-  module _ (p : ℕ) (b : Begun w n q p) (d : before ≡ letter → ⊥) (t : exchanging n (levels k n) before letter ≡ false) where
+  module _ (p : ℕ) (b : Begun w n q p) (d : before ≡ letter → ⊥) (t : commuting n (levels k n) before letter ≡ false) where
     -- a rule that ends with the letter begins there
     place-is : (s : Redex) → lowestRedex k n (take (suc q) w) ≡ some s → s .place ≡ p
     place-is s e =

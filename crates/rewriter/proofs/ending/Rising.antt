@@ -20,13 +20,13 @@ use Rattle.rules.specs.Rules.{rules}
 use Rattle.rules.proofs.Fits.{firstFitting-some}
 use Rattle.rules.proofs.ScanRules.{wrongLetter-drop}
 use Rattle.traces.proofs.LeastWords.{Normal, normal-front, letters-left}
-use Rattle.traces.proofs.TwoLetters.{exchanging, exchange-fits}
+use Rattle.traces.proofs.TwoLetters.{commuting, commute-fits}
 use Rattle.traces.proofs.Reading.{Reading, reading-inside, reading-before}
 use Rattle.traces.proofs.ReadingSteps.{Stopped}
 
--- letters that do not exchange, where the corner is n
-rise-of-none : (n l x : ℕ) → exchanging n n l x ≡ false → x ≤ l + 1
-unfolding exchanging
+-- letters that do not commute, where the corner is n
+rise-of-none : (n l x : ℕ) → commuting n n l x ≡ false → x ≤ l + 1
+unfolding commuting
 rise-of-none n l x e = elim (ℕ-discrete x n) [
   | no t ↦ ltb-false (l + 1) x (rw (ne-eqb x n t) at e)
   | yes t ↦ elim (ℕ-discrete (l + 1) n) [
@@ -45,8 +45,8 @@ module _ (k : Kind) (n : ℕ) (h : least k ≤ n) (z : List ℕ) (q : ℕ) (r : 
       subst (Normal k n) (take-take t q z l)
       (normal-front k n h (take t (take q z)) (drop t (take q z)) (subst (Normal k n) (sym (take-append-drop t (take q z))) m))
 
-  none-exchange : (t : ℕ) → suc (suc t) ≤ q → exchanging n (levels k n) (getD z t 0) (getD z (suc t) 0) ≡ false
-  none-exchange t l = go (exchanging n (levels k n) (getD z t 0) (getD z (suc t) 0)) refl
+  none-commute : (t : ℕ) → suc (suc t) ≤ q → commuting n (levels k n) (getD z t 0) (getD z (suc t) 0) ≡ false
+  none-commute t l = go (commuting n (levels k n) (getD z t 0) (getD z (suc t) 0)) refl
     where
       i : q < length z
       i = reading-inside k n h z q r
@@ -61,18 +61,18 @@ module _ (k : Kind) (n : ℕ) (h : least k ≤ n) (z : List ℕ) (q : ℕ) (r : 
           ∙ append-assoc (take t z) (getD z t 0 ∷ []) (getD z (suc t) 0 ∷ []))
           ∙ drop-at (take t z) two t (length-take-le t z (omega (arith, i)))
 
-      go : (b : Bool) → exchanging n (levels k n) (getD z t 0) (getD z (suc t) 0) ≡ b → b ≡ false
+      go : (b : Bool) → commuting n (levels k n) (getD z t 0) (getD z (suc t) 0) ≡ b → b ≡ false
       go false e = refl
       go true e =
           let m = normal-upto (suc (suc t)) l in
           let x = letter-within n z (suc t) (omega (arith, i)) (wrongLetter-drop n (suc t) z (r .letters)) .1 in
           let f = firstFitting-some (rules k n) (take (suc (suc t)) z) t _
-          (exchange-fits k n h (take (suc (suc t)) z) t (getD z t 0) (getD z (suc t) 0) (m .letters) ends x e) in
+          (commute-fits k n h (take (suc (suc t)) z) t (getD z t 0) (getD z (suc t) 0) (m .letters) ends x e) in
           absurd (true≢false (sym (f .1) ∙ m .irreducible _ (f .0) t))
 
   module _ (c : levels k n ≡ n) where
     rise : (t : ℕ) → suc (suc t) ≤ q → getD z (suc t) 0 ≤ getD z t 0 + 1
-    rise t l = rise-of-none n (getD z t 0) (getD z (suc t) 0) (rw c at (none-exchange t l))
+    rise t l = rise-of-none n (getD z t 0) (getD z (suc t) 0) (rw c at (none-commute t l))
 
     rises : (d v : ℕ) → suc (v + d) ≤ q → getD z (v + d) 0 ≤ getD z v 0 + d
     rises zero v l = let e : v + 0 ≡ v = omega arith in rw e (omega arith)

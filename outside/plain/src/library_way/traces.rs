@@ -17,7 +17,7 @@ struct Ending {
 }
 
 /// Whether family 2 has the pair l x.
-fn exchanges(kind: u32, n: u8, l: u8, x: u8) -> bool {
+fn commutes(kind: u32, n: u8, l: u8, x: u8) -> bool {
     if kind == D && x == n { l + 2 < n || l + 1 == n } else { l + 2 <= x }
 }
 
@@ -72,7 +72,7 @@ fn rewrite<const N: usize>(
         let (mut q, mut x) = (size, letter);
         size += 1;
         loop {
-            while q > 0 && exchanges(kind, n, work[q - 1], x) {
+            while q > 0 && commutes(kind, n, work[q - 1], x) {
                 work[q] = work[q - 1];
                 q -= 1;
                 step(2, q, size + left);

@@ -1,8 +1,8 @@
--- `steps::take_descent` takes a step where it makes the window shorter: below the number of lanes an exchange, and
+-- `steps::take_descent` takes a step where it makes the window shorter: below the number of lanes a swap, and
 -- else step n of B or D.
 -- Assumes nothing.
 use native.Mathlib.Omega.{arith}
-use Rattle.window.proofs.ByteSteps.{negate-at-requires-of-last, four-le-of-last, exchange-negate-at-requires-of-last}
+use Rattle.window.proofs.ByteSteps.{negate-at-requires-of-last, four-le-of-last, swap-negate-at-requires-of-last}
 use Rattle.descents.proofs.steps.Descents.{taken-pair, taken-sign, taken-signs}
 use borrow.Author.Needs.{needs}
 use Rattle.descents.proofs.steps.take_descent.Statement.{statement}
@@ -45,7 +45,7 @@ sub-uncross-signs c =
 
 uncross-signs-requires : tie.Need-uncross-signs-requires
 uncross-signs-requires c κs =
-    exchange-negate-at-requires-of-last _ _ _ _ (c .before .before .before .pre) (c .before .before .if1 .left) (c .before .if2 .left)
+    swap-negate-at-requires-of-last _ _ _ _ (c .before .before .before .pre) (c .before .before .if1 .left) (c .before .if2 .left)
 
 same-length-3 : tie.Need-same-length-3
 same-length-3 c = search needs

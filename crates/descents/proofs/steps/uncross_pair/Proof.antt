@@ -1,7 +1,7 @@
--- `steps::uncross_pair` exchanges two neighbours where they are crossed.
+-- `steps::uncross_pair` swaps two neighbours where they are crossed.
 -- Assumes nothing.
 use mathlib.Core.Path.{refl}
-use Rattle.window.proofs.ByteSteps.{set-eq-exchange}
+use Rattle.window.proofs.ByteSteps.{set-eq-swap}
 use Rattle.descents.proofs.steps.Descents.{later-told}
 use borrow.Author.Needs.{needs}
 use Rattle.descents.proofs.steps.uncross_pair.Statement.{statement}
@@ -35,7 +35,7 @@ returns : tie.Need-returns
 returns c =
     let b = c .before in (
       later-told _ _ _ _ (b .before .before .a .given) (b .before .b .given) (b .is-later .ensures) (c .if1 .taken),
-      set-eq-exchange _ _ (b .before .before .before .pre) (b .before .before .a .given) (b .before .b .given),
+      set-eq-swap _ _ (b .before .before .before .pre) (b .before .before .a .given) (b .before .b .given),
     )
 
 returns-2 : tie.Need-returns-2

@@ -1,4 +1,4 @@
--- `steps::uncross_signs` exchanges two neighbours with their signs changed, where the first stands later than minus
+-- `steps::uncross_signs` swaps two neighbours with their signs changed, where the first stands later than minus
 -- the second.
 -- Assumes nothing.
 use mathlib.Core.Path.{refl}
@@ -6,7 +6,7 @@ use Prim.Native.Nat.{_+_}
 use denote.Ref.{now}
 use lib.IntN.{pos}
 use lib.ListN.{getD}
-use Rattle.descents.proofs.steps.Descents.{later-negated-told, negated-fits, set-eq-exchanged}
+use Rattle.descents.proofs.steps.Descents.{later-negated-told, negated-fits, set-eq-swapped}
 use borrow.Author.Needs.{needs}
 use Rattle.descents.proofs.steps.uncross_signs.Statement.{statement}
 use Rattle.descents.proofs.steps.uncross_signs.Tie as tie
@@ -51,7 +51,7 @@ returns c =
     let d = b .before .before .before in
     let y = getD (now (d .args .w)) (d .args .p + 1) (pos 0) in (
       later-negated-told _ y _ _ (b .before .before .a .given) (b .before .b .given) (d .pre .1 .1) (b .is-later .ensures) (c .if1 .taken),
-      set-eq-exchanged _ _ (d .pre .0) (b .before .before .a .given) (d .pre .1 .0) (b .before .b .given) (d .pre .1 .1),
+      set-eq-swapped _ _ (d .pre .0) (b .before .before .a .given) (d .pre .1 .0) (b .before .b .given) (d .pre .1 .1),
     )
 
 returns-2 : tie.Need-returns-2

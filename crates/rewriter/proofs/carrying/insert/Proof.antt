@@ -1,4 +1,4 @@
--- `carrying::insert` carries the last letter of a word to its place, turn after turn: by letters that exchange,
+-- `carrying::insert` carries the last letter of a word to its place, turn after turn: by letters that commute,
 -- then by the rule that ends with it. The measure is the letter's place.
 -- Assumes nothing.
 use mathlib.Core.Path.{_≡_, refl}

@@ -1,4 +1,4 @@
--- `carrying::shift` moves letters on by one place, from the last to the first, as long as they exchange with the letter
+-- `carrying::shift` moves letters on by one place, from the last to the first, as long as they commute with the letter
 -- that moves, and stores that letter before them.
 -- Assumes nothing.
 use mathlib.Core.Path.{_≡_, refl, sym, _∙_}
@@ -8,14 +8,14 @@ use lib.ListN.{length, getD, length-set}
 use Rattle.coxeter.proofs.Acceptance.{letters-accepted}
 use Rattle.coxeter.proofs.LetterLaws.{letter-within}
 use Rattle.rules.proofs.ScanRules.{wrongLetter-drop}
-use Rattle.rewriter.proofs.carrying.Shifting.{put, put-none, put-set, put-read, put-next, Exchanging, exchanging-next}
+use Rattle.rewriter.proofs.carrying.Shifting.{put, put-none, put-set, put-read, put-next, CommutesFrom, commutesFrom-next}
 use borrow.Author.Needs.{needs}
 use Rattle.rewriter.proofs.carrying.shift.Statement.{statement}
 use Rattle.rewriter.proofs.carrying.shift.Tie as tie
 
 abbrev Inv-loop : tie.InvT-loop
 Inv-loop n corner word₀ q x t₀ word t =
-    (t ≤ q) × (length word ≡ length word₀) × (word ≡ put word₀ t q (getD word₀ t 0)) × Exchanging n corner word₀ q x t
+    (t ≤ q) × (length word ≡ length word₀) × (word ≡ put word₀ t q (getD word₀ t 0)) × CommutesFrom n corner word₀ q x t
 
 abbrev μ-loop : tie.MeasureT-loop
 μ-loop n corner word₀ q x t₀ word t = t
@@ -36,8 +36,8 @@ slice-read-l c =
     let l = c .before .before in
     omega (arith, l .loop .inv .1, l .before .before .before .pre .2)
 
-exchanges-requires : tie.Need-exchanges-requires Inv-loop μ-loop
-exchanges-requires c κs =
+commutes-requires : tie.Need-commutes-requires Inv-loop μ-loop
+commutes-requires c κs =
     let l = c .before .before in
     let i = l .loop .inv in
     let s = l .before .before .before in
@@ -67,7 +67,7 @@ loop-again c =
       omega arith,
       simp length-set (i .1),
       put-next _ _ _ (s .pre .2) _ (omega arith) (i .0) (i .2),
-      exchanging-next _ _ (s .args .word .now) _ _ (l .loop .t) _ _ read (e .exchanges .ensures) (c .if1 .taken) (i .3),
+      commutesFrom-next _ _ (s .args .word .now) _ _ (l .loop .t) _ _ read (e .commutes .ensures) (c .if1 .taken) (i .3),
     )
 
 slice-write-word-2 : tie.Need-slice-write-word-2 Inv-loop μ-loop
@@ -87,7 +87,7 @@ returns c =
       i .0,
       put-set _ _ _ (s .pre .2) _ _ (i .0) (i .2),
       i .3,
-      λ o. rw (← put-read _ _ _ (s .pre .2) _ _ (omega arith) (i .0) (i .2)) (sym (e .exchanges .ensures) ∙ c .if1 .left),
+      λ o. rw (← put-read _ _ _ (s .pre .2) _ _ (omega arith) (i .0) (i .2)) (sym (e .commutes .ensures) ∙ c .if1 .left),
     )
 
 slice-write-word-3 : tie.Need-slice-write-word-3 Inv-loop μ-loop
@@ -114,7 +114,7 @@ shift-spec =
     loop-holds
     sub-l
     slice-read-l
-    exchanges-requires
+    commutes-requires
     slice-write-word
     sub-t
     loop-less

@@ -1,12 +1,12 @@
--- `action::act_on` is one step: below the number of lanes an exchange, and else step n of B or D, since kind A has
+-- `action::act_on` is one step: below the number of lanes a swap, and else step n of B or D, since kind A has
 -- one lane more than steps.
 -- Assumes nothing.
 use mathlib.Core.Path.{_∙_}
 use native.Mathlib.Omega.{arith}
 use borrow.Author.Needs.{needs}
 use Rattle.refusals.proofs.Bytes.{element-back}
-use Rattle.window.proofs.ByteSteps.{place-lt-of-requires, exchange-eq-act, negate-at-requires-of-last, held-eq-last, negateFirst-eq-act}
-use Rattle.window.proofs.ByteSteps.{four-le-of-last, exchange-negate-at-requires-of-last, held-eq-last-of-D, exchangeNegate-eq-act}
+use Rattle.window.proofs.ByteSteps.{place-lt-of-requires, swap-eq-act, negate-at-requires-of-last, held-eq-last, negateFirst-eq-act}
+use Rattle.window.proofs.ByteSteps.{four-le-of-last, swap-negate-at-requires-of-last, held-eq-last-of-D, swapNegate-eq-act}
 use Rattle.window.proofs.action.act_on.Statement.{statement}
 use Rattle.window.proofs.action.act_on.Tie as tie
 
@@ -16,11 +16,11 @@ sub-a c = search needs
 slice-copy-out-a : tie.Need-slice-copy-out-a
 slice-copy-out-a c = place-lt-of-requires _ _ _ _ (c .pre)
 
-sub-exchange-at : tie.Need-sub-exchange-at
-sub-exchange-at c = search needs
+sub-swap-at : tie.Need-sub-swap-at
+sub-swap-at c = search needs
 
-exchange-at-requires : tie.Need-exchange-at-requires
-exchange-at-requires c κs = (search needs, element-back _ (c .before .before .a .given))
+swap-at-requires : tie.Need-swap-at-requires
+swap-at-requires c κs = (search needs, element-back _ (c .before .before .a .given))
 
 same-length : tie.Need-same-length
 same-length c = search needs
@@ -28,7 +28,7 @@ same-length c = search needs
 returns : tie.Need-returns
 returns c =
     let b = c .before .before .before in
-    c .before .exchange-at .ensures ∙ exchange-eq-act _ _ _ _ (b .before .before .pre) (b .if1 .taken)
+    c .before .swap-at .ensures ∙ swap-eq-act _ _ _ _ (b .before .before .pre) (b .if1 .taken)
 
 sub-negate-at : tie.Need-sub-negate-at
 sub-negate-at c = search needs
@@ -47,16 +47,16 @@ returns-2 c =
     let b = c .before .before .before in
     c .before .negate-at .ensures ∙ negateFirst-eq-act _ _ _ _ (b .before .before .before .pre) (b .before .if1 .left) (b .if2 .taken)
 
-sub-exchange-negate-at : tie.Need-sub-exchange-negate-at
-sub-exchange-negate-at c =
+sub-swap-negate-at : tie.Need-sub-swap-negate-at
+sub-swap-negate-at c =
     let third = c .before in
     omega (arith, four-le-of-last _ _ _ _ (third .before .before .before .pre) (third .before .if1 .left) (third .if2 .left))
 
-exchange-negate-at-requires : tie.Need-exchange-negate-at-requires
-exchange-negate-at-requires c κs =
+swap-negate-at-requires : tie.Need-swap-negate-at-requires
+swap-negate-at-requires c κs =
     let d = c .before .before in
     let p = d .before .before .pre in
-    let q = exchange-negate-at-requires-of-last _ _ _ _ p (d .if1 .left) (c .before .if2 .left) in
+    let q = swap-negate-at-requires-of-last _ _ _ _ p (d .if1 .left) (c .before .if2 .left) in
     (q .0, (q .1 .0, (q .1 .1, held-eq-last-of-D _ _ _ _ p (d .if1 .left) (c .before .if2 .left) (d .before .a .given))))
 
 same-length-3 : tie.Need-same-length-3
@@ -65,7 +65,7 @@ same-length-3 c = search needs
 returns-3 : tie.Need-returns-3
 returns-3 c =
     let b = c .before .before .before in
-    c .before .exchange-negate-at .ensures ∙ exchangeNegate-eq-act _ _ _ _ (b .before .before .before .pre) (b .before .if1 .left) (b .if2 .left)
+    c .before .swap-negate-at .ensures ∙ swapNegate-eq-act _ _ _ _ (b .before .before .before .pre) (b .before .if1 .left) (b .if2 .left)
 
 pub act-on-spec : {M : Type 1} → statement M
 act-on-spec =
@@ -73,15 +73,15 @@ act-on-spec =
     (tie.spec
     sub-a
     slice-copy-out-a
-    sub-exchange-at
-    exchange-at-requires
+    sub-swap-at
+    swap-at-requires
     same-length
     returns
     sub-negate-at
     negate-at-requires
     same-length-2
     returns-2
-    sub-exchange-negate-at
-    exchange-negate-at-requires
+    sub-swap-negate-at
+    swap-negate-at-requires
     same-length-3
     returns-3)

@@ -1,10 +1,10 @@
--- `action::exchange_negate_at` exchanges two neighbours with their signs changed: two stores of the negations.
+-- `action::swap_negate_at` swaps two neighbours with their signs changed: two stores of the negations.
 -- Assumes nothing.
 use borrow.Author.Needs.{needs}
 use Rattle.refusals.proofs.Bytes.{element-back}
-use Rattle.window.proofs.ByteSteps.{set-eq-exchangeNegate}
-use Rattle.window.proofs.action.exchange_negate_at.Statement.{statement}
-use Rattle.window.proofs.action.exchange_negate_at.Tie as tie
+use Rattle.window.proofs.ByteSteps.{set-eq-swapNegate}
+use Rattle.window.proofs.action.swap_negate_at.Statement.{statement}
+use Rattle.window.proofs.action.swap_negate_at.Tie as tie
 
 slice-copy-out-a : tie.Need-slice-copy-out-a
 slice-copy-out-a c = search needs
@@ -31,13 +31,13 @@ returns : tie.Need-returns
 returns c =
     let start = c .before .before .before in
     let e = start .pre .1 .1 .1 in
-    set-eq-exchangeNegate _ _ _ _
+    set-eq-swapNegate _ _ _ _
     (start .pre .0)
     (record { entry = c .before .before .a .given; result = c .before .negated .ok; negation = c .before .negated .ensures })
     (record { entry = rw e at (start .fits .b .sfits); result = c .negated2 .ok; negation = rw e at (c .negated2 .ensures) })
 
-pub exchange-negate-at-spec : {M : Type 1} → statement M
-exchange-negate-at-spec =
+pub swap-negate-at-spec : {M : Type 1} → statement M
+swap-negate-at-spec =
     tie.close
     (tie.spec
     slice-copy-out-a

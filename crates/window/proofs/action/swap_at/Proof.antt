@@ -1,9 +1,9 @@
--- `action::exchange_at` exchanges two neighbours: two stores, of the one that it reads and of the one that it is given.
+-- `action::swap_at` swaps two neighbours: two stores, of the one that it reads and of the one that it is given.
 -- Assumes nothing.
 use borrow.Author.Needs.{needs}
-use Rattle.window.proofs.ByteSteps.{set-eq-exchange}
-use Rattle.window.proofs.action.exchange_at.Statement.{statement}
-use Rattle.window.proofs.action.exchange_at.Tie as tie
+use Rattle.window.proofs.ByteSteps.{set-eq-swap}
+use Rattle.window.proofs.action.swap_at.Statement.{statement}
+use Rattle.window.proofs.action.swap_at.Tie as tie
 
 add-b : tie.Need-add-b
 add-b c = search needs
@@ -26,10 +26,10 @@ same-length c = search needs
 returns : tie.Need-returns
 returns c =
     let e = c .before .pre .1 in
-    rw e (set-eq-exchange _ _ (c .before .pre .0) (rw e at (c .before .fits .a .sfits)) (c .b .given))
+    rw e (set-eq-swap _ _ (c .before .pre .0) (rw e at (c .before .fits .a .sfits)) (c .b .given))
 
-pub exchange-at-spec : {M : Type 1} → statement M
-exchange-at-spec =
+pub swap-at-spec : {M : Type 1} → statement M
+swap-at-spec =
     tie.close
     (tie.spec
     add-b
