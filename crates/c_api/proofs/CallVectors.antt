@@ -17,7 +17,7 @@ use Rattle.rules.specs.Rules.{each, family1, family2, family3, family4, familie
 use Rattle.shortest_words.specs.Descents.{isDescent}
 use Rattle.shortest_words.specs.Allowed.{allows, wrongSet, setRefusal}
 use Rattle.shortest_words.specs.Split.{lowest, stripped, restInverse, firstWord, secondWord}
-use Rattle.shortest_words.specs.SplitCalls.{splitOf, parts, splitting}
+use Rattle.shortest_words.specs.SplitCalls.{splitOf, splitOutcome, splitting}
 use Rattle.traces.specs.Traces.{lowestFrom, lowestRedex, traceWithin, trace, tooFewPlaces, toEndOf, tracedBy, rewritingToEnd}
 use Rattle.distribution.specs.AllWindows as allWindows
 use Rattle.distribution.specs.Distribution.{ofLength, distribution}
@@ -57,7 +57,7 @@ splits =
 
 pub splits-agree : Agree splits
 unfolding splits refused splitNumbers listedBeside splittingListed
-    splitting parts splitOf written firstWord secondWord restInverse stripped lowest isDescent allows wrongSet setRefusal kindOf up
+    splitting splitOutcome splitOf written firstWord secondWord restInverse stripped lowest isDescent allows wrongSet setRefusal kindOf up
     from swap negateFirst swapNegate act windowFrom identity window at product signed placeFrom inverse
     later negative one laterThan inversions negativeSumPairs negatives crossings total windowLength
     wrongKind wrongRank tooLong wrongLetter tooShort rankRefusal wordRefusal down rise fall block without indexOf restOf normalFrom normalForm

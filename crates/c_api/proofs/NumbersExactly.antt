@@ -17,7 +17,7 @@ use Rattle.coxeter.proofs.FirstFailing.{firstOf-named}
 use Rattle.coxeter.proofs.TestLaws.{zero-not-one}
 use Rattle.shortest_words.specs.declared.Fallback.{Fallback}
 use Rattle.shortest_words.specs.declared.Fallback.the-variants.{Kept, No, Refused}
-use Rattle.shortest_words.specs.Fallback.{FallbackOf, fallsBack}
+use Rattle.shortest_words.specs.Fallback.{FallbackOf, isFallback}
 use Rattle.shortest_words.specs.Calls.{fallbackAnswer}
 use Rattle.shortest_words.proofs.Firsts.{fallback-firstOf, fallbackOf-exactly}
 use Rattle.shortest_words.proofs.Sentences.{no-exactly}
@@ -54,7 +54,7 @@ no-of-101 (Refused (suc r)) f e = let q : r ≡ 100 = cc in absurd (f (ap (λ (c
 -- no check has the number 101
 never-101 : (k n : ℕ) (present simpler places : List ℕ) → fallbackAnswer k n present simpler places ≡ Refused 101 → ⊥
 never-101 k n present simpler places e =
-    let falls = fallsBack (kindOf k) n present simpler in
+    let falls = isFallback (kindOf k) n present simpler in
     let l = windowLength (kindOf k) (window (kindOf k) n simpler) in
     firstOf-named 100
     ((5, wrongKind k) ∷ (6, wrongRank (kindOf k) n) ∷ (7, tooLong present) ∷ (8, wrongLetter n present)

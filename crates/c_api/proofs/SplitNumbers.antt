@@ -22,7 +22,7 @@ use Rattle.shortest_words.specs.declared.Split.{Split}
 use Rattle.shortest_words.specs.declared.Split.the-variants.{Words, Refused}
 use Rattle.shortest_words.specs.Allowed.{allows, setRefusal}
 use Rattle.shortest_words.specs.Split.{firstWord, secondWord}
-use Rattle.shortest_words.specs.SplitCalls.{Parted, splitOf, parts, splitting, SplitYields}
+use Rattle.shortest_words.specs.SplitCalls.{SplitOutcome, splitOf, splitOutcome, splitting, SplitYields}
 use Rattle.shortest_words.proofs.Splits.{splitting-accepted, splitting-lengths, splitting-unchanged}
 use Rattle.c_api.specs.Calls.{refused, splitNumbers, listedBeside, splittingListed}
 use Rattle.c_api.proofs.Bytes.{Refusable}
@@ -40,9 +40,9 @@ splitting-small k n set u first second a b h =
 
 -- ---- kinds and ranks
 
-parts-alike : (r q : ℕ) (u v u′ v′ first second : List ℕ) → q ≡ r → (r ≡ 0 → ⊥) → parts q u v first second ≡ parts r u′ v′ first second
-unfolding parts splitOf written
-parts-alike r q u v u′ v′ first second e f = rw (e, ne-eqb r 0 f) (rw (ne-eqb r 0 f) refl)
+splitOutcome-alike : (r q : ℕ) (u v u′ v′ first second : List ℕ) → q ≡ r → (r ≡ 0 → ⊥) → splitOutcome q u v first second ≡ splitOutcome r u′ v′ first second
+unfolding splitOutcome splitOf written
+splitOutcome-alike r q u v u′ v′ first second e f = rw (e, ne-eqb r 0 f) (rw (ne-eqb r 0 f) refl)
 
 alike : (r q s t s′ t′ : ℕ) → q ≡ r → (r ≡ 0 → ⊥) → (((q then s) then t) ≡ ((r then s′) then t′)) × (((r then s′) then t′) ≡ 0 → ⊥)
 alike r q s t s′ t′ e f = rw (e, ne-eqb r 0 f) (rw (ne-eqb r 0 f) (refl, f))
@@ -52,13 +52,13 @@ splitting-alike : (set : ℕ) (u first second : List ℕ) (k n l m : ℕ) → ra
 unfolding splitting setRefusal
 splitting-alike set u first second k n l m e f =
     let a = alike (rankRefusal k n) (rankRefusal l m) _ _ _ _ e f in
-    parts-alike _ _ _ _ _ _ first second (a .0) (a .1)
+    splitOutcome-alike _ _ _ _ _ _ first second (a .0) (a .1)
 
 pub splittingListed-refusable : (set : ℕ) (u first second lengths : List ℕ) → Refusable (λ k n. splittingListed k n set u first second lengths)
 unfolding splittingListed
 splittingListed-refusable set u first second lengths = record {
   alike = λ k n l m e f.
-      ap (λ (p : Parted). listedBeside (splitNumbers (p .answer)) (p .first, p .second) (first, second) lengths)
+      ap (λ (p : SplitOutcome). listedBeside (splitNumbers (p .answer)) (p .first, p .second) (first, second) lengths)
       (splitting-alike set u first second k n l m e f);
 }
 
@@ -96,7 +96,7 @@ number-without r l m = roomless-refused splitNumbers (Words l m) Refused r refl 
 -- the number does not depend on the outputs
 roomless-splitting : (k n set : ℕ) (u first second : List ℕ)
     → roomless (splitNumbers (splitting k n set u first second .answer)) ≡ refused ((setRefusal k n set then wordRefusal n u) then 14)
-unfolding splitting parts
+unfolding splitting splitOutcome
 roomless-splitting k n set u first second =
     let q = setRefusal k n set then wordRefusal n u in
     let s = tooShort (length (firstWord (allows set) (kindOf k) n (window (kindOf k) n u))) first in

@@ -14,8 +14,8 @@ use Rattle.coxeter.specs.NormalForm.{wordNormalForm}
 use Rattle.coxeter.proofs.Fronts.{Front}
 use Rattle.coxeter.proofs.Theorems.{window-passes, normalForm-fits}
 use Rattle.shortest_words.specs.declared.Fallback.{Fallback}
-use Rattle.shortest_words.proofs.Verdicts.{Settled}
-use Rattle.descents.proofs.walk.Settling.{SettleRequires}
+use Rattle.shortest_words.proofs.Verdicts.{Decided}
+use Rattle.descents.proofs.walk.Deciding.{DecideRequires}
 
 -- the first i entries of an array v hold an answer l: m is i as it was computed
 module _ {X : Type 0} (most : ℕ) (l v : List X) (i m : ℕ) (f : Front most l v i) (e : m ≡ i) where
@@ -26,10 +26,10 @@ module _ {X : Type 0} (most : ℕ) (l v : List X) (i m : ℕ) (f : Front most l 
   part-is = rw e (f .part)
 
 module _ (k n : ℕ) (present simpler u : List ℕ) (w : List ℤ) (p : u ≡ wordNormalForm (kindOf k) n present) (q : w ≡ window (kindOf k) n simpler) where
-  pub words-settle-requires : RankOf k n → SettleRequires k n u w
-  words-settle-requires h =
+  pub words-decide-requires : RankOf k n → DecideRequires k n u w
+  words-decide-requires h =
       rw (p, q) (h, (normalForm-fits k n (window (kindOf k) n present) h (window-passes (kindOf k) n present), window-passes (kindOf k) n simpler))
 
-  pub words-settled : (places : List ℕ) (a : Fallback) (after : List ℕ) → Settled (kindOf k) n u w places a after
-      → Settled (kindOf k) n (wordNormalForm (kindOf k) n present) (window (kindOf k) n simpler) places a after
-  words-settled places a after s = rw (← p, ← q) s
+  pub words-decided : (places : List ℕ) (a : Fallback) (after : List ℕ) → Decided (kindOf k) n u w places a after
+      → Decided (kindOf k) n (wordNormalForm (kindOf k) n present) (window (kindOf k) n simpler) places a after
+  words-decided places a after s = rw (← p, ← q) s

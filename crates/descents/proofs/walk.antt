@@ -1,3 +1,3 @@
 -- What the proofs of the module `walk` share.
 pub mod Walking
-pub mod Settling
+pub mod Deciding

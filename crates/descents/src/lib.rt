@@ -18,7 +18,7 @@ use refusals::ranked_words_refusal;
 pub use shortest_words::Fallback;
 pub use shortest_words::Split;
 use splitting::split_accepted;
-use walk::settle;
+use walk::decide;
 pub use window::Answer;
 use work::blank;
 use work::lanes;
@@ -33,14 +33,14 @@ ghost use Rattle.coxeter.specs.NormalForm.{wordNormalForm};
 ghost use Rattle.shortest_words.specs.Allowed.{setRefusal};
 ghost use Rattle.shortest_words.specs.Calls.{FellBack};
 ghost use Rattle.shortest_words.specs.SplitCalls.{splitting, SplitYields};
-ghost use Rattle.shortest_words.proofs.Verdicts.{Settled};
+ghost use Rattle.shortest_words.proofs.Verdicts.{Decided};
 
 // The verdict on two accepted words of one kind and rank, by the normal form of the first and the window of the second.
-fn settle_words(kind: u8, rank: u8, present: &[u8], simpler: &[u8], places: &mut [u16]) -> Fallback
+fn decide_words(kind: u8, rank: u8, present: &[u8], simpler: &[u8], places: &mut [u16]) -> Fallback
     requires { ⌜ RankOf kind rank ⌝ }
     requires { ⌜ WordOf rank (now present) ⌝ }
     requires { ⌜ WordOf rank (now simpler) ⌝ }
-    ensures { λ r. ⌜ Settled (kindOf kind) rank (wordNormalForm (kindOf kind) rank (now (present .entry)))
+    ensures { λ r. ⌜ Decided (kindOf kind) rank (wordNormalForm (kindOf kind) rank (now (present .entry)))
         (window (kindOf kind) rank (now (simpler .entry))) (now (places .entry)) r (now (places .exit)) ⌝ }
 {
     let m = lanes(kind, rank);
@@ -48,7 +48,7 @@ fn settle_words(kind: u8, rank: u8, present: &[u8], simpler: &[u8], places: &mut
     show(kind, rank, simpler, &mut target);
     let mut form = no_letters();
     let l = write_form(kind, rank, present, &mut form);
-    settle(kind, rank, &mut form[..l], &mut target[..m], places)
+    decide(kind, rank, &mut form[..l], &mut target[..m], places)
 }
 
 // I18: whether the simpler word's window can be had by removing letters from the normal form of the present word.
@@ -67,7 +67,7 @@ pub fn fallback_places(
     if refusal != 0 {
         return Fallback::Refused(refusal);
     }
-    settle_words(kind, rank, present, simpler, places)
+    decide_words(kind, rank, present, simpler, places)
 }
 
 // I33: checks 5, 6, 16, 7, 8 of a split, in this order: the first refusal, or 0.

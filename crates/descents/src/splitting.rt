@@ -18,7 +18,7 @@ ghost use Rattle.coxeter.specs.Checks.{RankOf, WordOf, WindowOf};
 ghost use Rattle.coxeter.specs.NormalForm.{normalForm};
 ghost use Rattle.shortest_words.specs.Allowed.{allows};
 ghost use Rattle.shortest_words.specs.Split.{firstWord, secondWord};
-ghost use Rattle.shortest_words.specs.SplitCalls.{parts, SplitYields};
+ghost use Rattle.shortest_words.specs.SplitCalls.{splitOutcome, SplitYields};
 
 // Whether `room` letters are enough for the normal form of an accepted window's inverse, which is as long as that of
 // the window. No normal form has more than n × n letters, so that the length is measured only where there is less
@@ -47,7 +47,7 @@ fn write_parts(
     requires { ⌜ RankOf kind rank ⌝ }
     requires { ⌜ WindowOf (kindOf kind) rank (now w) ⌝ }
     requires { ⌜ WindowOf (kindOf kind) rank (now rest) ⌝ }
-    ensures { λ r. ⌜ SplitYields (parts 0 (normalForm (kindOf kind) rank (product (now (w .entry)) (now (rest .entry))))
+    ensures { λ r. ⌜ SplitYields (splitOutcome 0 (normalForm (kindOf kind) rank (product (now (w .entry)) (now (rest .entry))))
         (normalForm (kindOf kind) rank (inverse (now (rest .entry)))) (now (first .entry)) (now (second .entry)))
         r (now (first .exit)) (now (second .exit)) ⌝ }
 {
@@ -76,7 +76,7 @@ fn split_window(
     second: &mut [u8],
 ) -> Split
     requires { ⌜ RankOf kind rank × WindowOf (kindOf kind) rank (now w) ⌝ }
-    ensures { λ r. ⌜ SplitYields (parts 0 (firstWord (allows allowed) (kindOf kind) rank (now (w .entry)))
+    ensures { λ r. ⌜ SplitYields (splitOutcome 0 (firstWord (allows allowed) (kindOf kind) rank (now (w .entry)))
         (secondWord (allows allowed) (kindOf kind) rank (now (w .entry))) (now (first .entry)) (now (second .entry)))
         r (now (first .exit)) (now (second .exit)) ⌝ }
 {
@@ -97,7 +97,7 @@ pub(crate) fn split_accepted(
     second: &mut [u8],
 ) -> Split
     requires { ⌜ RankOf kind rank × WordOf rank (now word) ⌝ }
-    ensures { λ r. ⌜ SplitYields (parts 0 (firstWord (allows allowed) (kindOf kind) rank (window (kindOf kind) rank (now (word .entry))))
+    ensures { λ r. ⌜ SplitYields (splitOutcome 0 (firstWord (allows allowed) (kindOf kind) rank (window (kindOf kind) rank (now (word .entry))))
         (secondWord (allows allowed) (kindOf kind) rank (window (kindOf kind) rank (now (word .entry))))
         (now (first .entry)) (now (second .entry))) r (now (first .exit)) (now (second .exit)) ⌝ }
 {

@@ -21,7 +21,7 @@ fn is_later(x: i8, y: i8) -> bool
 }
 
 // Where w[p] stands later than w[p + 1] the two are swapped. Answers whether they were.
-fn uncross_pair(w: &mut [i8], p: usize) -> bool
+fn take_swap_descent(w: &mut [i8], p: usize) -> bool
     requires { ⌜ p + 1 < length (now w) ⌝ }
     ensures { λ r. ⌜ (r ≡ later (getD (now (w .entry)) p (pos 0)) (getD (now (w .entry)) (p + 1) (pos 0)))
         × (now (w .exit) ≡ pick r (from p swap (now (w .entry))) (now (w .entry))) ⌝ }
@@ -37,7 +37,7 @@ fn uncross_pair(w: &mut [i8], p: usize) -> bool
 }
 
 // Where w[p] is negative its sign is changed. Answers whether it was.
-fn uncross_sign(w: &mut [i8], p: usize) -> bool
+fn take_negate_descent(w: &mut [i8], p: usize) -> bool
     requires { ⌜ (p < length (now w)) × (natAbs (getD (now w) p (pos 0)) < 128) ⌝ }
     ensures { λ r. ⌜ (r ≡ negative (getD (now (w .entry)) p (pos 0)))
         × (now (w .exit) ≡ pick r (from p negateFirst (now (w .entry))) (now (w .entry))) ⌝ }
@@ -51,7 +51,7 @@ fn uncross_sign(w: &mut [i8], p: usize) -> bool
 }
 
 // Where w[p] stands later than minus w[p + 1] the two are swapped and both change sign. Answers whether they were.
-fn uncross_signs(w: &mut [i8], p: usize) -> bool
+fn take_swap_negate_descent(w: &mut [i8], p: usize) -> bool
     requires { ⌜ p + 1 < length (now w) ⌝ }
     requires { ⌜ natAbs (getD (now w) p (pos 0)) < 128 ⌝ }
     requires { ⌜ natAbs (getD (now w) (p + 1) (pos 0)) < 128 ⌝ }
@@ -79,10 +79,10 @@ pub(crate) fn take_descent(kind: u8, n: usize, s: usize, w: &mut [i8]) -> bool
         × (now (w .exit) ≡ pick r (act (kindOf kind) n s (now (w .entry))) (now (w .entry))) ⌝ }
 {
     if s < w.len() {
-        return uncross_pair(w, s - 1);
+        return take_swap_descent(w, s - 1);
     }
     if kind == 2 {
-        return uncross_sign(w, n - 1);
+        return take_negate_descent(w, n - 1);
     }
-    uncross_signs(w, n - 2)
+    take_swap_negate_descent(w, n - 2)
 }

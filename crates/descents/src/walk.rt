@@ -12,7 +12,7 @@ ghost use Rattle.coxeter.specs.Checks.{RankOf, WordOf, WindowOf};
 ghost use Rattle.coxeter.specs.Calls.{written, sameWindow};
 ghost use Rattle.coxeter.proofs.Acceptance.{Ranked};
 ghost use Rattle.shortest_words.proofs.Walk.{leftOver, placesKept, marked};
-ghost use Rattle.shortest_words.proofs.Verdicts.{Settled};
+ghost use Rattle.shortest_words.proofs.Verdicts.{Decided};
 
 // A letter that is not kept becomes 0. Answers how many are kept; `w` becomes what is left of the target.
 fn keep_letters(kind: u8, n: usize, word: &mut [u8], w: &mut [i8]) -> usize
@@ -69,7 +69,7 @@ fn write_places(word: &[u8], places: &mut [u16])
 
 // The verdict on an accepted word and an accepted target, both used up, and the places. A yes with too few of them
 // is refused.
-pub(crate) fn settle(
+pub(crate) fn decide(
     kind: u8,
     rank: u8,
     word: &mut [u8],
@@ -79,7 +79,7 @@ pub(crate) fn settle(
     requires { ⌜ RankOf kind rank ⌝ }
     requires { ⌜ WordOf rank (now word) ⌝ }
     requires { ⌜ WindowOf (kindOf kind) rank (now w) ⌝ }
-    ensures { λ r. ⌜ Settled (kindOf kind) rank (now (word .entry)) (now (w .entry)) (now (places .entry)) r (now (places .exit)) ⌝ }
+    ensures { λ r. ⌜ Decided (kindOf kind) rank (now (word .entry)) (now (w .entry)) (now (places .entry)) r (now (places .exit)) ⌝ }
 {
     let kept = keep_letters(kind, rank as usize, word, w);
     if is_identity(w) {

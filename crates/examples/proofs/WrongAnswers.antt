@@ -19,7 +19,7 @@ use Rattle.coxeter.specs.Calls.{productOfWords, inverseOfWord, lengthOfWindow, 
 use Rattle.rules.specs.Calls.{Transition, single}
 use Rattle.shortest_words.specs.declared.Fallback.{Fallback}
 use Rattle.shortest_words.specs.Calls.{fallbackAnswer}
-use Rattle.shortest_words.specs.SplitCalls.{Parted, splitting}
+use Rattle.shortest_words.specs.SplitCalls.{SplitOutcome, splitting}
 use Rattle.shortest_words.specs.BetweenCalls.{betweenWindows}
 use Rattle.traces.specs.Traces.{Traced, rewritingToEnd, numberOfSteps}
 use Rattle.distribution.specs.Calls.{Tabled, delayTable}
@@ -72,7 +72,7 @@ pub data Told : Type 0 where
   rewrite : Transition single → Told
   traced : Traced → Told
   tabled : Tabled → Told
-  parted : Parted → Told
+  split : SplitOutcome → Told
   piece : Piecing → Told
   answer : Answer → Told
   verdict : Verdict → Told
@@ -192,12 +192,12 @@ table =
     ∷ differ fallbackAnswer presentWordUnshortened (λ f. fallback (f 1 2 (1 ∷ 1 ∷ []) (1 ∷ []) (lent 1)))
     ∷ differ fallbackAnswer roomAskedForANo (λ f. fallback (f 1 2 (1 ∷ []) (2 ∷ []) []))
     -- splits
-    ∷ differ splitting wordsSwapped (λ f. parted (f 1 2 1 (1 ∷ 2 ∷ []) (lent 2) (lent 2)))
-    ∷ differ splitting bit0ForStep2 (λ f. parted (f 1 2 1 (1 ∷ 2 ∷ []) (lent 2) (lent 2)))
-    ∷ differ splitting oneStepLeft (λ f. parted (f 1 2 1 (1 ∷ []) (lent 1) (lent 1)))
-    ∷ differ splitting setCheckedAfterTheWord (λ f. parted (f 1 2 4 (9 ∷ []) (lent 1) (lent 1)))
-    ∷ differ splitting oneBitTooMany (λ f. parted (f 1 2 4 [] [] []))
-    ∷ differ splitting firstWordWrittenFirst (λ f. parted (f 1 2 1 (1 ∷ 2 ∷ []) (lent 1) []))
+    ∷ differ splitting wordsSwapped (λ f. split (f 1 2 1 (1 ∷ 2 ∷ []) (lent 2) (lent 2)))
+    ∷ differ splitting bit0ForStep2 (λ f. split (f 1 2 1 (1 ∷ 2 ∷ []) (lent 2) (lent 2)))
+    ∷ differ splitting oneStepLeft (λ f. split (f 1 2 1 (1 ∷ []) (lent 1) (lent 1)))
+    ∷ differ splitting setCheckedAfterTheWord (λ f. split (f 1 2 4 (9 ∷ []) (lent 1) (lent 1)))
+    ∷ differ splitting oneBitTooMany (λ f. split (f 1 2 4 [] [] []))
+    ∷ differ splitting firstWordWrittenFirst (λ f. split (f 1 2 1 (1 ∷ 2 ∷ []) (lent 1) []))
     -- from one window to another
     ∷ differ betweenWindows wayBack (λ f. bytes (f 1 2 3 (pos 1 ∷ pos 2 ∷ pos 3 ∷ []) (pos 2 ∷ pos 3 ∷ pos 1 ∷ []) (lent 2)))
     ∷ differ betweenWindows lettersNotAsked (λ f. bytes (f 1 2 2 (pos 1 ∷ pos 2 ∷ pos 3 ∷ []) (pos 2 ∷ pos 1 ∷ pos 3 ∷ []) (lent 1)))

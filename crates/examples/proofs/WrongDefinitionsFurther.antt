@@ -33,8 +33,8 @@ use Rattle.rules.proofs.Sentences.{as-the-machine}
 use Rattle.traces.specs.Traces as traces
 use Rattle.traces.specs.Traces.{Trace, lowestRedex, traceWithin, trace}
 use Rattle.traces.proofs.StepsReached.{steps-reached}
-use Rattle.shortest_words.specs.Fallback.{lettersAt, Serves}
-use Rattle.shortest_words.proofs.FreePlaces.{serves-exactly}
+use Rattle.shortest_words.specs.Fallback.{lettersAt, SubwordPlaces}
+use Rattle.shortest_words.proofs.FreePlaces.{subword-places-exactly}
 use Rattle.distribution.specs.AllWindows.{In, Once}
 use Rattle.distribution.specs.Distribution.{ofLength}
 use Rattle.distribution.specs.Longest.{longest}
@@ -194,20 +194,20 @@ abbrev pub NotFalling : ℕ → ℕ → List ℕ → Type 0
 NotFalling m low [] = Unit {0}
 NotFalling m low (p ∷ ps) = (low ≤ p) × (p < m) × NotFalling m p ps
 
-abbrev pub ServesTwice : Kind → ℕ → List ℕ → List ℤ → List ℕ → Type 0
-ServesTwice k n u w ps = NotFalling (length u) 0 ps × (window k n (lettersAt u ps) ≡ w)
+abbrev pub SubwordPlacesTwice : Kind → ℕ → List ℕ → List ℤ → List ℕ → Type 0
+SubwordPlacesTwice k n u w ps = NotFalling (length u) 0 ps × (window k n (lettersAt u ps) ≡ w)
 
--- F2, F3: the law `serves-exactly`
-abbrev pub ServesExactly : (Kind → ℕ → List ℕ → List ℤ → List ℕ → Type 0) → Type 0
-ServesExactly serve =
+-- F2, F3: the law `subword-places-exactly`
+abbrev pub SubwordPlacesExactly : (Kind → ℕ → List ℕ → List ℤ → List ℕ → Type 0) → Type 0
+SubwordPlacesExactly serve =
     (k : Kind) (n : ℕ) (u : List ℕ) (w : List ℤ) (ps : List ℕ) → serve k n u w ps
     ↔ (((i : ℕ) → i < length ps → getD ps i 0 < length u)
     × ((i j : ℕ) → i < j → j < length ps → getD ps i 0 < getD ps j 0) × (window k n (lettersAt u ps) ≡ w))
 
 -- Q12, F3: the law rules out that a place is kept twice, by place 0 of the word 1
-pub ServesTwice-ruled-out : TellsApart ServesExactly Serves ServesTwice
-ServesTwice-ruled-out = (
-  serves-exactly,
+pub SubwordPlacesTwice-ruled-out : TellsApart SubwordPlacesExactly SubwordPlaces SubwordPlacesTwice
+SubwordPlacesTwice-ruled-out = (
+  subword-places-exactly,
   λ law.
       let ps : List ℕ = 0 ∷ 0 ∷ [] in
       let rise = law A 1 (1 ∷ []) (window A 1 (lettersAt (1 ∷ []) ps)) ps .0 ((omega arith, omega arith, (omega arith, omega arith, tt)), refl) .1 in

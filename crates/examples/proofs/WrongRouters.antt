@@ -51,11 +51,11 @@ use Rattle.coxeter.specs.Calls.{equalWords, samePresets, presetsEqual, handsBac
 use Rattle.coxeter.proofs.Order.{sameWindow-of-eq}
 use Rattle.rules.specs.Rules.{each, family1, family2, family3, family4, families5to7, rules, begins, fits, firstFitting, rewritten}
 use Rattle.rules.specs.Calls.{pastEnd, rewriteBy, rewriteAt}
-use Rattle.shortest_words.specs.Fallback.{somePart, fallsBack}
+use Rattle.shortest_words.specs.Fallback.{someSubword, isFallback}
 use Rattle.shortest_words.specs.Descents.{isDescent}
 use Rattle.shortest_words.specs.Allowed.{allows, wrongSet, setRefusal}
 use Rattle.shortest_words.specs.Split.{lowest, stripped, restInverse, firstWord, secondWord}
-use Rattle.shortest_words.specs.SplitCalls.{splitOf, parts, splitting}
+use Rattle.shortest_words.specs.SplitCalls.{splitOf, splitOutcome, splitting}
 use Rattle.shortest_words.specs.Calls.{fallbackOf, fallbackAnswer, keptCount, FellBack}
 use Rattle.shortest_words.specs.Allowed.{over, allows, wrongSet, setRefusal}
 use Rattle.shortest_words.specs.Between.{between, reachable}
@@ -140,7 +140,7 @@ numbers (told.bytes o) = ofAnswer (o .answer) ++ map pos (o .bytes)
 numbers (told.rewrite s) = ofRewrite (s .answer) ++ map pos (s .outputs ++ s .word)
 numbers (told.traced t) = ofEnd (t .answer) ++ map pos ((t .families ++ t .places) ++ (t .lengths ++ t .bytes))
 numbers (told.tabled t) = (ofTable (t .answer) ++ map pos (t .counts)) ++ (t .entries ++ map pos (t .letters))
-numbers (told.parted p) = ofSplit (p .answer) ++ map pos (p .first ++ p .second)
+numbers (told.split p) = ofSplit (p .answer) ++ map pos (p .first ++ p .second)
 numbers (told.piece p) = ofPiece (p .answer) ++ map pos (p .bytes)
 numbers (told.answer a) = ofAnswer a
 numbers (told.verdict v) = ofVerdict v
@@ -179,8 +179,8 @@ unfolding table allDiffer differs numbers ofAnswer ofVerdict ofChoice ofRewrite 
     lengthOfWindow lengthOfWord sameEntry sameWindow equalWords samePresets presetsEqual handsBack choice
     each family1 family2 family3 family4 families5to7 rules begins fits firstFitting rewritten pastEnd rewriteBy rewriteAt
     lowestFrom lowestRedex traceWithin trace tooFewPlaces toEndOf tracedBy rewritingToEnd numberOfSteps behindLast ones
-    somePart fallsBack fallbackOf fallbackAnswer
-    isDescent allows wrongSet setRefusal lowest stripped restInverse firstWord secondWord splitOf parts splitting
+    someSubword isFallback fallbackOf fallbackAnswer
+    isDescent allows wrongSet setRefusal lowest stripped restInverse firstWord secondWord splitOf splitOutcome splitting
     over between reachable unreachable betweenRefusal betweenWindows
     keep all.each lists all.entries all.windows ofLength distribution sum allNegative longest
     untabled tableRefusal tableOf roomRefusal tabling.tables delayTable
@@ -266,7 +266,7 @@ part-of-the-second-ruled-out second u v r f e b = f (sym (b .empty refl .1) ∙ 
 module _ (k n : ℕ) (present simpler places : List ℕ) where
   -- the places kept rise
   pub falling-places-ruled-out : (p q : ℕ) (rest : List ℕ) → q ≤ p → FellBack k n present simpler places (fallbacks.Kept 2) (p ∷ q ∷ rest) → ⊥
-  falling-places-ruled-out p q rest l h = let r = h .kept 2 refl .serves .rising .2 .0 in omega arith
+  falling-places-ruled-out p q rest l h = let r = h .kept 2 refl .subword .rising .2 .0 in omega arith
 
   -- F5
   pub no-that-writes-ruled-out : (after : List ℕ) → (after ≡ places → ⊥) → FellBack k n present simpler places fallbacks.No after → ⊥

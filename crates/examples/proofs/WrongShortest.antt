@@ -12,7 +12,7 @@ use Rattle.coxeter.specs.Windows.{identity, window}
 use Rattle.coxeter.specs.Checks.{check, _then_, tooShort, rankRefusal, wordRefusal, windowRefusal}
 use Rattle.coxeter.specs.Calls.{Outcome, writes}
 use Rattle.shortest_words.specs.declared.Fallback.{Fallback}
-use Rattle.shortest_words.specs.Fallback.{somePart, fallsBack}
+use Rattle.shortest_words.specs.Fallback.{someSubword, isFallback}
 use Rattle.shortest_words.specs.Calls.{fallbackOf, simplerLength}
 use Rattle.shortest_words.specs.Allowed.{allows, wrongSet, setRefusal}
 use Rattle.shortest_words.specs.Between.{between, reachable}
@@ -33,13 +33,13 @@ verdictByLengthAlone k n u v places = fallbackBy (leb (simplerLength k n v) (sim
 -- steps removed from the present word as it came, and not from its normal form
 abbrev pub presentWordUnshortened : ℕ → ℕ → List ℕ → List ℕ → List ℕ → Fallback
 presentWordUnshortened k n u v places =
-    fallbackBy (somePart (kindOf k) n (identity (lanes (kindOf k) n)) u (window (kindOf k) n v)) k n u v places
+    fallbackBy (someSubword (kindOf k) n (identity (lanes (kindOf k) n)) u (window (kindOf k) n v)) k n u v places
 
 -- check 14 also with a no
 abbrev pub roomAskedForANo : ℕ → ℕ → List ℕ → List ℕ → List ℕ → Fallback
 roomAskedForANo k n u v places =
     let l = simplerLength k n v in
-    fallbackOf (rankRefusal k n then wordRefusal n u then wordRefusal n v then check 14 (tooShort l places)) (fallsBack (kindOf k) n u v) l
+    fallbackOf (rankRefusal k n then wordRefusal n u then wordRefusal n v then check 14 (tooShort l places)) (isFallback (kindOf k) n u v) l
 
 -- ---- from one window to another
 

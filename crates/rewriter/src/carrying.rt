@@ -1,6 +1,6 @@
 // A letter read behind a normal form is carried to the left by rules, in place, and each step is noted in three
 // lists. Letters that commute are passed one by one; where none does, the rule that ends with the letter carries
-// it past a block, or strikes it out with an equal one.
+// it past a block, or deletes it with an equal one.
 use crate::ending::Ending;
 use crate::ending::ending_rule;
 use crate::search::corner_of;
@@ -163,7 +163,7 @@ fn carry(word: &mut [u8], place: usize, q: usize, first: u8)
 }
 
 // The letters behind the two at `place` moved there.
-fn strike(word: &mut [u8], place: usize)
+fn delete(word: &mut [u8], place: usize)
     requires { ⌜ place + 2 ≤ length (now word) ⌝ }
     ensures { λ _. ⌜ take (length (now (word .entry)) - 2) (now (word .exit))
         ≡ take place (now (word .entry)) ++ drop (place + 2) (now (word .entry)) ⌝ }
@@ -221,7 +221,7 @@ fn turn(
     if family == 1 {
         let left = size - 2;
         note(families, places, lengths, s, 1, place, left + rest.len());
-        strike(word, place);
+        delete(word, place);
         return Moved {
             steps: s + 1,
             size: left,
@@ -245,7 +245,7 @@ fn turn(
     }
 }
 
-// The last letter of `word` is carried to where no rule ends with it, or struck out; `rest` follows the word, and s
+// The last letter of `word` is carried to where no rule ends with it, or deleted; `rest` follows the word, and s
 // steps were made before.
 pub(crate) fn insert(
     kind: u8,

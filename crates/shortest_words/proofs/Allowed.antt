@@ -11,7 +11,7 @@ use Rattle.coxeter.specs.NormalForm.{wordNormalForm}
 use Rattle.coxeter.proofs.LetterLaws.{letter-within-cons}
 use Rattle.rules.proofs.Completeness.{RewritesTo, stays, step, no-new-letter, rewritesTo-normalForm}
 use Rattle.shortest_words.specs.Allowed.{over, Over}
-use Rattle.shortest_words.proofs.Parts.{Part, none, keep, leave}
+use Rattle.shortest_words.proofs.Subwords.{Subword, none, keep, leave}
 
 module _ (allowed : ℕ → Bool) where
   pub over-cons : (s : ℕ) (u : List ℕ) → allowed s ≡ true → Over allowed u → Over allowed (s ∷ u)
@@ -35,10 +35,10 @@ module _ (allowed : ℕ → Bool) where
   over-reverse (s ∷ u) e =
       rw reverse-cons (over-append (reverse u) (s ∷ []) (over-reverse u (over-tail s u e)) (over-cons s [] (over-head s u e) (unfold over in refl)))
 
-  pub over-part : {u v : List ℕ} → Part u v → Over allowed u → Over allowed v
-  over-part none e = e
-  over-part (keep {a} {u} {v} p) e = over-cons a v (over-head a u e) (over-part p (over-tail a u e))
-  over-part (leave {a} {u} p) e = over-part p (over-tail a u e)
+  pub over-subword : {u v : List ℕ} → Subword u v → Over allowed u → Over allowed v
+  over-subword none e = e
+  over-subword (keep {a} {u} {v} p) e = over-cons a v (over-head a u e) (over-subword p (over-tail a u e))
+  over-subword (leave {a} {u} p) e = over-subword p (over-tail a u e)
 
   -- where all steps are allowed every word of steps is over them
   pub over-all : (n : ℕ) (u : List ℕ) → ((s : ℕ) → 1 ≤ s → s ≤ n → allowed s ≡ true) → wrongLetter n u ≡ false → Over allowed u

@@ -32,7 +32,7 @@ use Rattle.shortest_words.specs.declared.Split.{Split}
 use Rattle.shortest_words.specs.declared.Split.the-variants.{Words, Refused}
 use Rattle.shortest_words.specs.Allowed.{Over, allows, wrongSet, setRefusal}
 use Rattle.shortest_words.specs.Split.{IsSplit, firstWord, secondWord}
-use Rattle.shortest_words.specs.SplitCalls.{splitOf, parts, splitting, SplitYields}
+use Rattle.shortest_words.specs.SplitCalls.{splitOf, splitOutcome, splitting, SplitYields}
 use Rattle.shortest_words.specs.Between.{IsBetween, between}
 use Rattle.shortest_words.specs.BetweenCalls.{unreachable, betweenRefusal, betweenWindows}
 use Rattle.shortest_words.proofs.AllowedSets.{wrongSet-exactly}
@@ -173,7 +173,7 @@ module _ (k n set : ℕ) (u first second : List ℕ) (a : Split) (x y : List ℕ
       (λ z. omega (arith, wordRefusal-le n u))
 
   refused-exactly : (c : ℕ) → (a ≡ Refused (suc c)) ↔ (((setRefusal k n set then wordRefusal n u) then room) ≡ suc c)
-  unfolding splitting parts
+  unfolding splitting splitOutcome
   refused-exactly c =
       let e = splitOf-exactly ((setRefusal k n set then wordRefusal n u) then room) _ _ .0 (suc c) in
       (λ q. e .0 (sym (h .0) ∙ q) .0, λ q. h .0 ∙ e .1 (q, λ z. omega arith))
@@ -214,7 +214,7 @@ module _ (k n set : ℕ) (u first second : List ℕ) (a : Split) (x y : List ℕ
       ↔ (RankOf k n × ((s : ℕ) → n < s → allows set s ≡ true → ⊥) × WordOf n u
       × (length (firstWord (allows set) (kindOf k) n (window (kindOf k) n u)) ≤ length first)
       × (length (secondWord (allows set) (kindOf k) n (window (kindOf k) n u)) ≤ length second))
-  unfolding splitting parts tooShort
+  unfolding splitting splitOutcome tooShort
   split-exactly =
       let q = setRefusal k n set then wordRefusal n u in
       let l = length (firstWord (allows set) (kindOf k) n (window (kindOf k) n u)) in
@@ -238,7 +238,7 @@ module _ (k n set : ℕ) (u first second : List ℕ) (a : Split) (x y : List ℕ
 
   -- CO3: and otherwise the first check's number
   pub split-first-refusal : (r : ℕ) → (r ≡ 0 → ⊥) → (setRefusal k n set then wordRefusal n u) ≡ r → a ≡ Refused r
-  unfolding splitting parts splitOf
+  unfolding splitting splitOutcome splitOf
   split-first-refusal r f e =
       let q = setRefusal k n set then wordRefusal n u in
       h .0 ∙ rw (then-some q room (λ z. f (sym e ∙ z)), e, ne-eqb r 0 f)

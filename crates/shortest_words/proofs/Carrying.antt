@@ -18,65 +18,65 @@ use Rattle.rules.proofs.Families.{RuleOf, square}
 use Rattle.rules.proofs.Rewriting.{Rewrites, within}
 use Rattle.rules.proofs.Derivations.{rule-braid}
 use Rattle.rules.proofs.Completeness.{RewritesTo, stays, step, rewrites-length}
-use Rattle.shortest_words.proofs.Parts.{Part, none, keep, leave, part-append, Split, both, part-split}
+use Rattle.shortest_words.proofs.Subwords.{Subword, none, keep, leave, subword-append, Split, both, subword-split}
 
 -- ---- what is carried
 
 -- a part-list of x that stands for the part-list v of u: as many letters are left out, and it is congruent to v
 pub record Carried (k : Kind) (n : ℕ) (u x v : List ℕ) : Type 0 where
-  pub part : List ℕ
-  pub is : Part x part
-  pub count : length part + length u ≡ length v + length x
-  pub link : Congruent (Relation k n) v part
+  pub subword : List ℕ
+  pub is : Subword x subword
+  pub count : length subword + length u ≡ length v + length x
+  pub link : Congruent (Relation k n) v subword
 
 -- every part-list of u is carried to one of x
 abbrev pub Carries : Kind → ℕ → List ℕ → List ℕ → Type 0
-Carries k n u x = (v : List ℕ) → Part u v → Carried k n u x v
+Carries k n u x = (v : List ℕ) → Subword u v → Carried k n u x v
 
 pub carries-refl : (k : Kind) (n : ℕ) (u : List ℕ) → Carries k n u u
-carries-refl k n u v p = record { part = v; is = p; count = refl; link = alone }
+carries-refl k n u v p = record { subword = v; is = p; count = refl; link = alone }
 
 pub carries-trans : (k : Kind) (n : ℕ) (u x y : List ℕ) → Carries k n u x → Carries k n x y → Carries k n u y
 carries-trans k n u x y f g v p =
     let c = f v p in
-    let d = g (c .part) (c .is) in
-    record { part = d .part; is = d .is; count = omega (arith, c .count, d .count); link = congruent-trans (c .link) (d .link) }
+    let d = g (c .subword) (c .is) in
+    record { subword = d .subword; is = d .is; count = omega (arith, c .count, d .count); link = congruent-trans (c .link) (d .link) }
 
 -- inside a longer word
 pub carries-context : (k : Kind) (n : ℕ) (x y : List ℕ) {l r : List ℕ} → Carries k n l r → Carries k n (x ++ (l ++ y)) (x ++ (r ++ y))
-carries-context k n x y {l} {r} f v p = outer (part-split x p)
+carries-context k n x y {l} {r} f v p = outer (subword-split x p)
   where
-    inner : {a v : List ℕ} → Part x a → Split l y v → Carried k n (x ++ (l ++ y)) (x ++ (r ++ y)) (a ++ v)
+    inner : {a v : List ℕ} → Subword x a → Split l y v → Carried k n (x ++ (l ++ y)) (x ++ (r ++ y)) (a ++ v)
     inner {a} q (both {v = b} {y = c} s t) =
         let d = f b s in
         record {
-          part = a ++ (d .part ++ c);
-          is = part-append q (part-append (d .is) t);
+          subword = a ++ (d .subword ++ c);
+          is = subword-append q (subword-append (d .is) t);
           count = simp length-append (omega (arith, d .count));
           link = congruent-context a c (d .link);
         }
 
     outer : {v : List ℕ} → Split x (l ++ y) v → Carried k n (x ++ (l ++ y)) (x ++ (r ++ y)) v
-    outer (both q r) = inner q (part-split l r)
+    outer (both q r) = inner q (subword-split l r)
 
 -- ---- one relation
 
 -- the same part-list
-same : {k : Kind} {n : ℕ} {u x v : List ℕ} → length u ≡ length x → Part x v → Carried k n u x v
-same {v} e p = record { part = v; is = p; count = omega arith; link = alone }
+same : {k : Kind} {n : ℕ} {u x v : List ℕ} → length u ≡ length x → Subword x v → Carried k n u x v
+same {v} e p = record { subword = v; is = p; count = omega arith; link = alone }
 
 module _ (k : Kind) (n a b : ℕ) (α : Congruent (Relation k n) (a ∷ a ∷ []) []) (β : Congruent (Relation k n) (b ∷ b ∷ []) []) where
   two-carries : Congruent (Relation k n) (a ∷ b ∷ []) (b ∷ a ∷ []) → Carries k n (a ∷ b ∷ []) (b ∷ a ∷ [])
-  two-carries e v (keep (keep none)) = record { part = b ∷ a ∷ []; is = keep (keep none); count = refl; link = e }
+  two-carries e v (keep (keep none)) = record { subword = b ∷ a ∷ []; is = keep (keep none); count = refl; link = e }
   two-carries e v (keep (leave none)) = same refl (leave (keep none))
   two-carries e v (leave (keep none)) = same refl (keep (leave none))
   two-carries e v (leave (leave none)) = same refl (leave (leave none))
 
   three-carries : Congruent (Relation k n) (a ∷ b ∷ a ∷ []) (b ∷ a ∷ b ∷ []) → Carries k n (a ∷ b ∷ a ∷ []) (b ∷ a ∷ b ∷ [])
-  three-carries e v (keep (keep (keep none))) = record { part = b ∷ a ∷ b ∷ []; is = keep (keep (keep none)); count = refl; link = e }
+  three-carries e v (keep (keep (keep none))) = record { subword = b ∷ a ∷ b ∷ []; is = keep (keep (keep none)); count = refl; link = e }
   three-carries e v (keep (keep (leave none))) = same refl (leave (keep (keep none)))
   three-carries e v (keep (leave (keep none))) =
-      record { part = b ∷ b ∷ []; is = keep (leave (keep none)); count = refl; link = congruent-trans α (congruent-sym β) }
+      record { subword = b ∷ b ∷ []; is = keep (leave (keep none)); count = refl; link = congruent-trans α (congruent-sym β) }
   three-carries e v (leave (keep (keep none))) = same refl (keep (keep (leave none)))
   three-carries e v (keep (leave (leave none))) = same refl (leave (keep (leave none)))
   three-carries e v (leave (keep (leave none))) = same refl (keep (leave (leave none)))
@@ -92,12 +92,12 @@ module _ (k : Kind) (n a b : ℕ) (α : Congruent (Relation k n) (a ∷ a ∷ []
 
   four-carries : Congruent (Relation k n) (a ∷ b ∷ a ∷ b ∷ []) (b ∷ a ∷ b ∷ a ∷ []) → Carries k n (a ∷ b ∷ a ∷ b ∷ []) (b ∷ a ∷ b ∷ a ∷ [])
   four-carries e v (keep (keep (keep (keep none)))) =
-      record { part = b ∷ a ∷ b ∷ a ∷ []; is = keep (keep (keep (keep none))); count = refl; link = e }
+      record { subword = b ∷ a ∷ b ∷ a ∷ []; is = keep (keep (keep (keep none))); count = refl; link = e }
   four-carries e v (keep (keep (keep (leave none)))) = same refl (leave (keep (keep (keep none))))
   four-carries e v (keep (keep (leave (keep none)))) =
-      record { part = b ∷ b ∷ a ∷ []; is = keep (leave (keep (keep none))); count = refl; link = end-link }
+      record { subword = b ∷ b ∷ a ∷ []; is = keep (leave (keep (keep none))); count = refl; link = end-link }
   four-carries e v (keep (leave (keep (keep none)))) =
-      record { part = b ∷ a ∷ a ∷ []; is = keep (keep (leave (keep none))); count = refl; link = start-link }
+      record { subword = b ∷ a ∷ a ∷ []; is = keep (keep (leave (keep none))); count = refl; link = start-link }
   four-carries e v (leave (keep (keep (keep none)))) = same refl (keep (keep (keep (leave none))))
   four-carries e v (keep (keep (leave (leave none)))) = same refl (leave (keep (keep (leave none))))
   four-carries e v (keep (leave (keep (leave none)))) = same refl (leave (keep (leave (keep none))))
@@ -116,7 +116,7 @@ cancels k n a o l = congruent-one (twice o l)
 
 -- the empty word has one part-list
 twice-carries : (k : Kind) (n a : ℕ) → 1 ≤ a → a ≤ n → Carries k n [] (a ∷ a ∷ [])
-twice-carries k n a o l v none = record { part = a ∷ a ∷ []; is = keep (keep none); count = refl; link = congruent-sym (cancels k n a o l) }
+twice-carries k n a o l v none = record { subword = a ∷ a ∷ []; is = keep (keep none); count = refl; link = congruent-sym (cancels k n a o l) }
 
 -- a relation with sides of equal length carries either way
 braid-carries : (k : Kind) (n : ℕ) {l r : List ℕ} → Braid k n l r → Carries k n l r × Carries k n r l

@@ -1,5 +1,5 @@
 -- The deletion property: a word longer than its window's length has two letters that can both be removed. By the
--- first letter that makes the length of the window smaller, and the letter before it that can be struck out in its
+-- first letter that makes the length of the window smaller, and the letter before it that can be deleted in its
 -- place. And so every word has a part-list that is a shortest word with its window.
 --
 -- Sections: two letters; the first letter that lowers the length; shortest part-lists.
@@ -24,7 +24,7 @@ use Rattle.coxeter.proofs.Levels.{window-accepted}
 use Rattle.coxeter.proofs.Relations.{wrongLetter-append}
 use Rattle.coxeter.proofs.Descents.{crossed, length-of-crossed, length-of-uncrossed}
 use Rattle.shortest_words.specs.OneLetter.{Shortest, dropAt, Removable, added}
-use Rattle.shortest_words.proofs.Parts.{Part, part-whole, part-trans, part-letters, part-of-dropAt, length-dropAt}
+use Rattle.shortest_words.proofs.Subwords.{Subword, subword-whole, subword-trans, subword-letters, subword-of-dropAt, length-dropAt}
 use Rattle.shortest_words.proofs.Shortest.{windowLength-le, shortest-of-length}
 use Rattle.shortest_words.proofs.Exchange.{window-snoc, exchange}
 
@@ -110,7 +110,7 @@ deletion k n u h e g = deletion-from k n [] u h e (let l = windowLength-le k n [
 -- a part-list of u that is a shortest word with the window of u
 pub record Shortened (k : Kind) (n : ℕ) (u : List ℕ) : Type 0 where
   pub word : List ℕ
-  pub part : Part u word
+  pub subword : Subword u word
   pub shortest : Shortest k n word
   pub shows : window k n word ≡ window k n u
 
@@ -119,14 +119,14 @@ shortened-below : (k : Kind) (n t : ℕ) (u : List ℕ) → least k ≤ n → wr
 shortened-below k n zero u h e l = absurd (omega arith)
 shortened-below k n (suc t) u h e l =
     elim (decLe (length u) (windowLength k (window k n u))) [
-      | yes g ↦ record { word = u; part = part-whole u; shortest = shortest-of-length k n u h e g; shows = refl }
+      | yes g ↦ record { word = u; subword = subword-whole u; shortest = shortest-of-length k n u h e g; shows = refl }
       | no g ↦
           let d = deletion k n u h e (lt-of-not-le g) in
-          let p = part-trans (part-of-dropAt (d .second) u) (part-of-dropAt (d .first) (dropAt (d .second) u)) in
+          let p = subword-trans (subword-of-dropAt (d .second) u) (subword-of-dropAt (d .first) (dropAt (d .second) u)) in
           let one = length-dropAt (d .second) u (d .inside) in
           let two = length-dropAt (d .first) (dropAt (d .second) u) (omega (arith, d .below, d .inside)) in
-          let r = shortened-below k n t (dropAt (d .first) (dropAt (d .second) u)) h (part-letters n p e) (omega arith) in
-          record { word = r .word; part = part-trans p (r .part); shortest = r .shortest; shows = r .shows ∙ d .shows }
+          let r = shortened-below k n t (dropAt (d .first) (dropAt (d .second) u)) h (subword-letters n p e) (omega arith) in
+          record { word = r .word; subword = subword-trans p (r .subword); shortest = r .shortest; shows = r .shows ∙ d .shows }
     ]
 
 pub shortened : (k : Kind) (n : ℕ) (u : List ℕ) → least k ≤ n → wrongLetter n u ≡ false → Shortened k n u

@@ -1,5 +1,5 @@
 -- The exchange property. If a step at an end of a word makes its window's length smaller, a letter of the word can
--- be struck out instead: the step and a shortest word of the shorter window are together a shortest word of the
+-- be deleted instead: the step and a shortest word of the shorter window are together a shortest word of the
 -- first window, and leaving out the step is carried to the word (Shortest). Of a shortest word there is just one
 -- such letter, since two would leave a shorter word with the same window.
 --
@@ -26,7 +26,7 @@ use Rattle.coxeter.proofs.Order.{less, same, more, compared}
 use Rattle.coxeter.proofs.NormalForms.{window-normalForm, normalForm-letters}
 use Rattle.coxeter.proofs.Lengths.{length-normalForm}
 use Rattle.shortest_words.specs.OneLetter.{Shortest, dropAt, Removable, added, OneLetter}
-use Rattle.shortest_words.proofs.Parts.{Part, leave, part-whole, part-append, none, part-letters, part-of-dropAt, length-dropAt, dropAt-of-part}
+use Rattle.shortest_words.proofs.Subwords.{Subword, leave, subword-whole, subword-append, none, subword-letters, subword-of-dropAt, length-dropAt, dropAt-of-subword}
 use Rattle.shortest_words.proofs.Carrying.{Carried}
 use Rattle.shortest_words.proofs.Shortest.{letters-snoc, windowLength-le, length-of-shortest, shortest-of-length, shortest-carries}
 
@@ -36,14 +36,14 @@ use Rattle.shortest_words.proofs.Shortest.{letters-snoc, windowLength-l
 pub removable-of-carried : (k : Kind) (n : ℕ) (z u v : List ℕ) → Carried k n z u v → length z ≡ suc (length v)
     → (i : ℕ) × Removable k n u (window k n v) i
 removable-of-carried k n z u v c l =
-    let d = dropAt-of-part (c .is) (omega (arith, c .count)) in
+    let d = dropAt-of-subword (c .is) (omega (arith, c .count)) in
     (d .0, (d .1, sym (congruent-window k n (c .link) ∙ ap (window k n) (d .2))))
 
 -- z has the window of u, and is the normal form of a shorter window with one letter more
-struck : (k : Kind) (n : ℕ) (u z : List ℕ) (w : List ℤ) → least k ≤ n → wrongLetter n u ≡ false → Accepted k n w
+deleted : (k : Kind) (n : ℕ) (u z : List ℕ) (w : List ℤ) → least k ≤ n → wrongLetter n u ≡ false → Accepted k n w
     → windowLength k w < windowLength k (window k n u) → wrongLetter n z ≡ false → window k n z ≡ window k n u
-    → Part z (normalForm k n w) → length z ≡ suc (length (normalForm k n w)) → (i : ℕ) × Removable k n u w i
-struck k n u z w h e a g f q p l =
+    → Subword z (normalForm k n w) → length z ≡ suc (length (normalForm k n w)) → (i : ℕ) × Removable k n u w i
+deleted k n u z w h e a g f q p l =
     let short : length z ≤ windowLength k (window k n z) = omega (arith, length-normalForm k n w a, ap (windowLength k) q) in
     let c = shortest-carries k n z u h (shortest-of-length k n z h f short) e q (normalForm k n w) p in
     subst (λ (x : List ℤ). (i : ℕ) × Removable k n u x i) (window-normalForm k n w a) (removable-of-carried k n z u (normalForm k n w) c l)
@@ -58,7 +58,7 @@ window-twice k n s u = ap (λ (w : List ℤ). windowFrom k n w u) (act-involutio
 
 module _ (k : Kind) (n : ℕ) (u : List ℕ) (s : ℕ) (h : least k ≤ n) (e : wrongLetter n u ≡ false) (o : 1 ≤ s) (l : s ≤ n) where
   -- if the step at the end of a word, shortest or not, makes the window's length smaller, one letter of the word
-  -- can be struck out instead
+  -- can be deleted instead
   pub exchange : windowLength k (added k n u s) < windowLength k (window k n u) → (i : ℕ) × Removable k n u (added k n u s) i
   exchange g =
       let w : List ℤ = added k n u s in
@@ -66,8 +66,8 @@ module _ (k : Kind) (n : ℕ) (u : List ℕ) (s : ℕ) (h : least k ≤ n) (e : 
       let v : List ℕ = normalForm k n w in
       let shows : window k n (v ++ (s ∷ [])) ≡ window k n u =
       window-snoc k n v s ∙ ap (act k n s) (window-normalForm k n w a ∙ window-snoc k n u s) ∙ act-involution k n s (window k n u) in
-      struck k n u (v ++ (s ∷ [])) w h e a g (letters-snoc n v s (normalForm-letters k n w a) o l) shows
-      (rw append-nil at (part-append (part-whole v) (leave {a = s} none))) (simp length-append (omega arith))
+      deleted k n u (v ++ (s ∷ [])) w h e a g (letters-snoc n v s (normalForm-letters k n w a) o l) shows
+      (rw append-nil at (subword-append (subword-whole v) (leave {a = s} none))) (simp length-append (omega arith))
 
   -- the same for a step at the front
   pub exchange-front : windowLength k (window k n (s ∷ u)) < windowLength k (window k n u) → (i : ℕ) × Removable k n u (window k n (s ∷ u)) i
@@ -78,7 +78,7 @@ module _ (k : Kind) (n : ℕ) (u : List ℕ) (s : ℕ) (h : least k ≤ n) (e : 
       let shows : window k n (s ∷ v) ≡ window k n u =
       window-append k n (s ∷ []) v ∙ ap (product (window k n (s ∷ []))) (window-normalForm k n w a)
       ∙ sym (window-append k n (s ∷ []) (s ∷ u)) ∙ window-twice k n s u in
-      struck k n u (s ∷ v) w h e a g (wrongLetter-cons n s v o l ∙ normalForm-letters k n w a) shows (leave (part-whole v)) refl
+      deleted k n u (s ∷ v) w h e a g (wrongLetter-cons n s v o l ∙ normalForm-letters k n w a) shows (leave (subword-whole v)) refl
 
 -- ---- cancelling
 
@@ -118,7 +118,7 @@ unfolding window
 shortest-apart k n u i j s g h e =
     let one = length-dropAt j u h in
     let two = length-dropAt i (dropAt j u) (omega arith) in
-    let letters = part-letters n (part-of-dropAt i (dropAt j u)) (part-letters n (part-of-dropAt j u) (s .steps)) in
+    let letters = subword-letters n (subword-of-dropAt i (dropAt j u)) (subword-letters n (subword-of-dropAt j u) (s .steps)) in
     let l = s .none-shorter (dropAt i (dropAt j u)) letters (dropAt-dropAt k n (identity (lanes k n)) i j u g h e) in
     omega arith
 
@@ -135,7 +135,7 @@ oneLetter-of k n u w h m f =
             | more g ↦ absurd (shortest-apart k n u j i m g (p .0) (q .1 ∙ sym (p .1)))
           ];
       none = λ g i p.
-          let below = windowLength-le k n (dropAt i u) h (part-letters n (part-of-dropAt i u) (m .steps)) in
+          let below = windowLength-le k n (dropAt i u) h (subword-letters n (subword-of-dropAt i u) (m .steps)) in
           omega (arith, below, ap (windowLength k) (p .1), length-dropAt i u (p .0), length-of-shortest k n u h m);
     }
 

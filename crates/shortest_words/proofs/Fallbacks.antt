@@ -22,40 +22,40 @@ use Rattle.coxeter.proofs.Relations.{congruent-window}
 use Rattle.coxeter.proofs.NormalForms.{window-normalForm}
 use Rattle.coxeter.proofs.Lengths.{length-normalForm}
 use Rattle.shortest_words.specs.OneLetter.{Shortest}
-use Rattle.shortest_words.specs.Fallback.{HasPart, FallbackOf, fallsBack}
-use Rattle.shortest_words.proofs.Parts.{part-whole, part-trans, part-length, part-letters}
+use Rattle.shortest_words.specs.Fallback.{HasSubword, FallbackOf, isFallback}
+use Rattle.shortest_words.proofs.Subwords.{subword-whole, subword-trans, subword-length, subword-letters}
 use Rattle.shortest_words.proofs.Shortest.{windowLength-le, shortest-normalForm, shortest-carries}
-use Rattle.shortest_words.proofs.Places.{part-nothing, part-of-fallback, fallback-of-part, somePart-exactly}
+use Rattle.shortest_words.proofs.Places.{subword-nothing, subword-of-fallback, fallback-of-subword, someSubword-exactly}
 
 -- ---- fallbacks of a word
 
 -- the straight window is a fallback of every word, and so is its own window
-pub fallback-identity : (k : Kind) (n : ℕ) (u : List ℕ) → HasPart k n u (identity (lanes k n))
+pub fallback-identity : (k : Kind) (n : ℕ) (u : List ℕ) → HasSubword k n u (identity (lanes k n))
 unfolding window windowFrom
-fallback-identity k n u = fallback-of-part k n u [] (identity (lanes k n)) (part-nothing u) refl
+fallback-identity k n u = fallback-of-subword k n u [] (identity (lanes k n)) (subword-nothing u) refl
 
-pub fallback-whole : (k : Kind) (n : ℕ) (u : List ℕ) → HasPart k n u (window k n u)
-fallback-whole k n u = fallback-of-part k n u u (window k n u) (part-whole u) refl
+pub fallback-whole : (k : Kind) (n : ℕ) (u : List ℕ) → HasSubword k n u (window k n u)
+fallback-whole k n u = fallback-of-subword k n u u (window k n u) (subword-whole u) refl
 
 -- no fallback is longer than the word
-pub fallback-length : (k : Kind) (n : ℕ) (u : List ℕ) (w : List ℤ) → least k ≤ n → wrongLetter n u ≡ false → HasPart k n u w
+pub fallback-length : (k : Kind) (n : ℕ) (u : List ℕ) (w : List ℤ) → least k ≤ n → wrongLetter n u ≡ false → HasSubword k n u w
     → windowLength k w ≤ length u
 fallback-length k n u w h e f =
-    let p = part-of-fallback k n u w f in
-    rw (← p .shows) (omega (arith, windowLength-le k n (p .word) h (part-letters n (p .part) e), part-length (p .part)))
+    let p = subword-of-fallback k n u w f in
+    rw (← p .shows) (omega (arith, windowLength-le k n (p .word) h (subword-letters n (p .subword) e), subword-length (p .subword)))
 
 -- the fallbacks of a shortest word are fallbacks of every word that has its window as one
 pub fallback-through : (k : Kind) (n : ℕ) (u z : List ℕ) (w : List ℤ) → least k ≤ n → wrongLetter n u ≡ false → Shortest k n z
-    → HasPart k n u (window k n z) → HasPart k n z w → HasPart k n u w
+    → HasSubword k n u (window k n z) → HasSubword k n z w → HasSubword k n u w
 fallback-through k n u z w h e s f g =
-    let p = part-of-fallback k n u (window k n z) f in
-    let q = part-of-fallback k n z w g in
-    let c = shortest-carries k n z (p .word) h s (part-letters n (p .part) e) (sym (p .shows)) (q .word) (q .part) in
-    fallback-of-part k n u (c .part) w (part-trans (p .part) (c .is)) (sym (congruent-window k n (c .link)) ∙ q .shows)
+    let p = subword-of-fallback k n u (window k n z) f in
+    let q = subword-of-fallback k n z w g in
+    let c = shortest-carries k n z (p .word) h s (subword-letters n (p .subword) e) (sym (p .shows)) (q .word) (q .subword) in
+    fallback-of-subword k n u (c .subword) w (subword-trans (p .subword) (c .is)) (sym (congruent-window k n (c .link)) ∙ q .shows)
 
 -- two shortest words of one window have the same fallbacks
 pub fallback-shortest : (k : Kind) (n : ℕ) (u v : List ℕ) (w : List ℤ) → least k ≤ n → Shortest k n u → Shortest k n v → window k n u ≡ window k n v
-    → HasPart k n u w ↔ HasPart k n v w
+    → HasSubword k n u w ↔ HasSubword k n v w
 fallback-shortest k n u v w h s t e = (
   fallback-through k n v u w h (t .steps) s (rw e (fallback-whole k n v)),
   fallback-through k n u v w h (s .steps) t (rw (← e) (fallback-whole k n u)),
@@ -71,12 +71,12 @@ module _ (k : Kind) (n : ℕ) (h : least k ≤ n) where
   normal-window u = window-normalForm k n (window k n u) (window-accepted k n u)
 
   -- F2
-  pub verdict-exactly : (u v : List ℕ) → (fallsBack k n u v ≡ true) ↔ FallbackOf k n u v
-  unfolding fallsBack
-  verdict-exactly u v = somePart-exactly k n (wordNormalForm k n u) (window k n v)
+  pub verdict-exactly : (u v : List ℕ) → (isFallback k n u v ≡ true) ↔ FallbackOf k n u v
+  unfolding isFallback
+  verdict-exactly u v = someSubword-exactly k n (wordNormalForm k n u) (window k n v)
 
   -- F6
-  pub verdict-same : (u v z : List ℕ) → Shortest k n z → window k n z ≡ window k n u → FallbackOf k n u v ↔ HasPart k n z (window k n v)
+  pub verdict-same : (u v z : List ℕ) → Shortest k n z → window k n z ≡ window k n u → FallbackOf k n u v ↔ HasSubword k n z (window k n v)
   verdict-same u v z s e = fallback-shortest k n (wordNormalForm k n u) z (window k n v) h (normal-shortest u) s (normal-window u ∙ sym e)
 
   -- F7
@@ -86,7 +86,7 @@ module _ (k : Kind) (n : ℕ) (h : least k ≤ n) where
 
   -- every word is one for itself
   pub verdict-refl : (u : List ℕ) → FallbackOf k n u u
-  verdict-refl u = subst (HasPart k n (wordNormalForm k n u)) (normal-window u) (fallback-whole k n (wordNormalForm k n u))
+  verdict-refl u = subst (HasSubword k n (wordNormalForm k n u)) (normal-window u) (fallback-whole k n (wordNormalForm k n u))
 
   -- a fallback of a fallback is a fallback
   pub verdict-trans : (z y x : List ℕ) → FallbackOf k n z y → FallbackOf k n y x → FallbackOf k n z x

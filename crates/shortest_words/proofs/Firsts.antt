@@ -24,10 +24,10 @@ use Rattle.coxeter.proofs.FirstRefusals.{word-alone}
 use Rattle.shortest_words.specs.declared.Fallback.the-variants as fallback
 use Rattle.shortest_words.specs.declared.Split.the-variants as split
 use Rattle.shortest_words.specs.Allowed.{allows, wrongSet, setRefusal}
-use Rattle.shortest_words.specs.Fallback.{fallsBack}
+use Rattle.shortest_words.specs.Fallback.{isFallback}
 use Rattle.shortest_words.specs.Calls.{fallbackOf, fallbackAnswer}
 use Rattle.shortest_words.specs.Split.{firstWord, secondWord}
-use Rattle.shortest_words.specs.SplitCalls.{splitOf, parts, splitting}
+use Rattle.shortest_words.specs.SplitCalls.{splitOf, splitOutcome, splitting}
 use Rattle.shortest_words.specs.Between.{between}
 use Rattle.shortest_words.specs.BetweenCalls.{unreachable, betweenRefusal, betweenWindows}
 
@@ -79,7 +79,7 @@ set-then k n set e = rw then-assoc (rank-then k n (check-then 15 (wrongSet n set
 -- I18, F1, F8, CO4: the call on fallbacks makes checks 5, 6, 7 and 8 of the present word, then 7 and 8 of the simpler
 -- one, and last 14, which refuses only with a yes
 pub fallback-firstOf : (k n : ℕ) (present simpler places : List ℕ)
-    → let falls = fallsBack (kindOf k) n present simpler in let l = windowLength (kindOf k) (window (kindOf k) n simpler) in
+    → let falls = isFallback (kindOf k) n present simpler in let l = windowLength (kindOf k) (window (kindOf k) n simpler) in
     fallbackAnswer k n present simpler places
     ≡ fallbackOf
     (firstOf
@@ -95,7 +95,7 @@ pub fallback-firstOf : (k n : ℕ) (present simpler places : List ℕ)
     l
 unfolding fallbackAnswer
 fallback-firstOf k n present simpler places =
-    let falls = fallsBack (kindOf k) n present simpler in
+    let falls = isFallback (kindOf k) n present simpler in
     let l = windowLength (kindOf k) (window (kindOf k) n simpler) in
     ap (λ r. fallbackOf r falls l)
     (rank-then k n (word-then n present (word-then n simpler refl)))
@@ -124,7 +124,7 @@ pub splitting-firstOf : (k n set : ℕ) (u first second : List ℕ)
     ∷ []))
     a
     b
-unfolding splitting parts
+unfolding splitting splitOutcome
 splitting-firstOf k n set u first second =
     let w = window (kindOf k) n u in
     let a = length (firstWord (allows set) (kindOf k) n w) in

@@ -22,7 +22,7 @@ use Rattle.coxeter.specs.Calls.{sameEntry, sameWindow}
 use Rattle.coxeter.proofs.Acceptance.{rank-within}
 use Rattle.shortest_words.specs.declared.Fallback.{Fallback}
 use Rattle.shortest_words.specs.declared.Fallback.the-variants.{Kept, No, Refused}
-use Rattle.shortest_words.specs.Fallback.{lettersAt, Serves, somePart, fallsBack}
+use Rattle.shortest_words.specs.Fallback.{lettersAt, SubwordPlaces, someSubword, isFallback}
 use Rattle.shortest_words.specs.Calls.{fallbackOf, fallbackAnswer, keptCount, FellBack}
 use Rattle.shortest_words.proofs.Places.{rising-bounds, rising-apart, rising-of}
 use Rattle.shortest_words.proofs.Fallbacks.{verdict-exactly}
@@ -31,10 +31,10 @@ use Rattle.shortest_words.proofs.Sentences.{no-or-refused-unchanged}
 -- ---- places that serve
 
 -- F2, F3: places serve exactly when they lie inside the word, rise, and the letters there have the window
-pub serves-exactly : (k : Kind) (n : ℕ) (u : List ℕ) (w : List ℤ) (ps : List ℕ) → Serves k n u w ps
+pub subword-places-exactly : (k : Kind) (n : ℕ) (u : List ℕ) (w : List ℤ) (ps : List ℕ) → SubwordPlaces k n u w ps
     ↔ (((i : ℕ) → i < length ps → getD ps i 0 < length u)
     × ((i j : ℕ) → i < j → j < length ps → getD ps i 0 < getD ps j 0) × (window k n (lettersAt u ps) ≡ w))
-serves-exactly k n u w ps = (
+subword-places-exactly k n u w ps = (
   λ s. (λ i h. rising-bounds (length u) 0 ps (s .rising) i h .1, rising-apart (length u) 0 ps (s .rising), s .shows),
   λ p. record { rising = rising-of (length u) 0 ps (λ i h. (omega arith, p .0 i h)) (p .1); shows = p .2 },
 )
@@ -70,13 +70,13 @@ module _ (k n : ℕ) (present simpler places : List ℕ) where
       f .answer,
       λ l e.
           let s = f .kept l e in
-          let p = serves-exactly (kindOf k) n _ _ (take l after) .0 (s .serves) in
+          let p = subword-places-exactly (kindOf k) n _ _ (take l after) .0 (s .subword) in
           (s .count, p .0, p .1, p .2, rw e at (f .others)),
       no-or-refused-unchanged k n present simpler places a after f,
     ),
     λ h. record {
       answer = h .0;
-      kept = λ l e. let p = h .1 l e in record { serves = serves-exactly (kindOf k) n _ _ _ .1 (p .1, p .2, p .3); count = p .0 };
+      kept = λ l e. let p = h .1 l e in record { subword = subword-places-exactly (kindOf k) n _ _ _ .1 (p .1, p .2, p .3); count = p .0 };
       others = others-of a after (λ l e. h .1 l e .4) (h .2);
     },
   )
@@ -93,12 +93,12 @@ module _ (k n : ℕ) (present simpler places : List ℕ) where
   unfolding fallbackAnswer fallbackOf tooShort keptCount
   every-list-may-come ps rank p q room many inside rises shows =
       let u = wordNormalForm (kindOf k) n present in
-      let s = serves-exactly (kindOf k) n u (window (kindOf k) n simpler) ps .1 (inside, rises, shows) in
+      let s = subword-places-exactly (kindOf k) n u (window (kindOf k) n simpler) ps .1 (inside, rises, shows) in
       let t = verdict-exactly (kindOf k) n (rank-within k n rank .0) present simpler .1 (ps, s) in
       let l = length ps in
       record {
         answer = rw (rank, p, q, t, ← many, le-ltb (length places) l room);
-        kept = λ m e. let o : l ≡ m = cc in rw (← o, take-append-seam ps (drop l places)) (record { serves = s; count = many });
+        kept = λ m e. let o : l ≡ m = cc in rw (← o, take-append-seam ps (drop l places)) (record { subword = s; count = many });
         others = drop-append-seam ps (drop l places);
       }
 
@@ -108,7 +108,7 @@ module _ (k n : ℕ) (present simpler places : List ℕ) where
 pub two-lists-serve : (p : ℕ)
     → FellBack 2 3 (1 ∷ 2 ∷ 3 ∷ 2 ∷ 1 ∷ []) (2 ∷ []) (p ∷ []) (Kept 1) (1 ∷ [])
     × FellBack 2 3 (1 ∷ 2 ∷ 3 ∷ 2 ∷ 1 ∷ []) (2 ∷ []) (p ∷ []) (Kept 1) (3 ∷ [])
-unfolding fallbackAnswer fallbackOf fallsBack somePart sameWindow sameEntry lettersAt keptCount kindOf up
+unfolding fallbackAnswer fallbackOf isFallback someSubword sameWindow sameEntry lettersAt keptCount kindOf up
     from swap negateFirst act windowFrom identity window signed placeFrom
     later negative one laterThan inversions negativeSumPairs negatives crossings total windowLength
     wrongKind wrongRank tooLong wrongLetter tooShort rankRefusal wordRefusal down rise fall block without indexOf restOf normalFrom normalForm
@@ -121,7 +121,7 @@ two-lists-serve p = (kept-at 1 (omega arith) refl, kept-at 3 (omega arith) refl)
       kept = λ l q.
           let o : _≡_ {A = ℕ} 1 l = cc in
           rw (← o) (record {
-            serves = record { rising = (omega arith, h, tt); shows = ap (λ (x : ℕ). window B 3 (x ∷ [])) e };
+            subword = record { rising = (omega arith, h, tt); shows = ap (λ (x : ℕ). window B 3 (x ∷ [])) e };
             count = refl;
           });
       others = refl;

@@ -1,6 +1,6 @@
--- The laws of shortest words, of letters struck out, of fallbacks and of allowed steps, in the order in which they
+-- The laws of shortest words, of letters deleted, of fallbacks and of allowed steps, in the order in which they
 -- rest on each other.
-pub mod Parts
+pub mod Subwords
 pub mod Carrying
 pub mod Shortest
 pub mod Exchange

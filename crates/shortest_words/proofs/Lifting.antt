@@ -1,5 +1,5 @@
 -- The lifting property: whether a word with a step at its end has a part-list with the window w is told by the word
--- without the step, and by w stepped back where the step makes w shorter. By striking out one letter of a part-list
+-- without the step, and by w stepped back where the step makes w shorter. By deleting one letter of a part-list
 -- (Exchange).
 --
 -- Sections: the target after one letter; a letter less; a step at the end.
@@ -20,10 +20,10 @@ use Rattle.coxeter.proofs.Levels.{Accepted, act-accepted}
 use Rattle.coxeter.proofs.Steps.{act-involution}
 use Rattle.shortest_words.specs.OneLetter.{dropAt, added}
 use Rattle.shortest_words.specs.Descents.{isDescent}
-use Rattle.shortest_words.specs.Fallback.{HasPart}
-use Rattle.shortest_words.proofs.Parts.{Part, none, keep, leave, part-trans, part-append, part-letters, part-of-dropAt, Split, both, part-split}
+use Rattle.shortest_words.specs.Fallback.{HasSubword}
+use Rattle.shortest_words.proofs.Subwords.{Subword, none, keep, leave, subword-trans, subword-append, subword-letters, subword-of-dropAt, Split, both, subword-split}
 use Rattle.shortest_words.proofs.Exchange.{window-snoc, exchange}
-use Rattle.shortest_words.proofs.Places.{PartWith, part-of-fallback, fallback-of-part}
+use Rattle.shortest_words.proofs.Places.{SubwordWith, subword-of-fallback, fallback-of-subword}
 use Rattle.shortest_words.proofs.Descents.{length-of-descent, length-of-ascent}
 
 -- ---- the target after one letter
@@ -48,71 +48,71 @@ module _ (k : Kind) (n : ℕ) (u : List ℕ) (s : ℕ) (h : least k ≤ n) (e : 
   -- ---- a letter less
 
   -- a step that makes the window of a part-list shorter: a letter of the part-list can be left out for it
-  stepped-back : (w : List ℤ) → windowLength k (act k n s w) < windowLength k w → PartWith k n u w → HasPart k n u (act k n s w)
+  stepped-back : (w : List ℤ) → windowLength k (act k n s w) < windowLength k w → SubwordWith k n u w → HasSubword k n u (act k n s w)
   stepped-back w g p =
       let v : List ℕ = p .word in
       let steps : added k n v s ≡ act k n s w = window-snoc k n v s ∙ ap (act k n s) (p .shows) in
       let shorter : windowLength k (added k n v s) < windowLength k (window k n v) = rw (steps, p .shows) g in
-      let (i, r) = exchange k n v s h (part-letters n (p .part) e) o l shorter in
-      fallback-of-part k n u (dropAt i v) (act k n s w) (part-trans (p .part) (part-of-dropAt i v)) (r .1 ∙ steps)
+      let (i, r) = exchange k n v s h (subword-letters n (p .subword) e) o l shorter in
+      fallback-of-subword k n u (dropAt i v) (act k n s w) (subword-trans (p .subword) (subword-of-dropAt i v)) (r .1 ∙ steps)
 
   -- ---- a step at the end
 
-  with-step : (w : List ℤ) → PartWith k n u (act k n s w) → HasPart k n (u ++ (s ∷ [])) w
+  with-step : (w : List ℤ) → SubwordWith k n u (act k n s w) → HasSubword k n (u ++ (s ∷ [])) w
   with-step w p =
-      fallback-of-part k n (u ++ (s ∷ [])) (p .word ++ (s ∷ [])) w (part-append (p .part) (keep none))
+      fallback-of-subword k n (u ++ (s ∷ [])) (p .word ++ (s ∷ [])) w (subword-append (p .subword) (keep none))
       (window-snoc k n (p .word) s ∙ ap (act k n s) (p .shows) ∙ act-involution k n s w)
 
-  without-step : (w : List ℤ) → PartWith k n u w → HasPart k n (u ++ (s ∷ [])) w
+  without-step : (w : List ℤ) → SubwordWith k n u w → HasSubword k n (u ++ (s ∷ [])) w
   without-step w p =
-      fallback-of-part k n (u ++ (s ∷ [])) (p .word) w
-      (subst (Part (u ++ (s ∷ []))) (append-nil (p .word)) (part-append (p .part) (leave none))) (p .shows)
+      fallback-of-subword k n (u ++ (s ∷ [])) (p .word) w
+      (subst (Subword (u ++ (s ∷ []))) (append-nil (p .word)) (subword-append (p .subword) (leave none))) (p .shows)
 
   -- the part-list keeps the step at the end, or not
   data Ends (w : List ℤ) : Type 0 where
-    kept : PartWith k n u (act k n s w) → Ends w
-    left : PartWith k n u w → Ends w
+    kept : SubwordWith k n u (act k n s w) → Ends w
+    left : SubwordWith k n u w → Ends w
 
-  ends : (w : List ℤ) → HasPart k n (u ++ (s ∷ [])) w → Ends w
-  ends w f = cases (part-split u (p .part)) refl
+  ends : (w : List ℤ) → HasSubword k n (u ++ (s ∷ [])) w → Ends w
+  ends w f = cases (subword-split u (p .subword)) refl
     where
-      p : PartWith k n (u ++ (s ∷ [])) w
-      p = part-of-fallback k n (u ++ (s ∷ [])) w f
+      p : SubwordWith k n (u ++ (s ∷ [])) w
+      p = subword-of-fallback k n (u ++ (s ∷ [])) w f
 
-      last : {v y : List ℕ} → Part u v → Part (s ∷ []) y → window k n (v ++ y) ≡ w → Ends w
+      last : {v y : List ℕ} → Subword u v → Subword (s ∷ []) y → window k n (v ++ y) ≡ w → Ends w
       last {v} q (keep none) g =
-          kept (record { word = v; part = q; shows = sym (act-involution k n s (window k n v)) ∙ ap (act k n s) (sym (window-snoc k n v s) ∙ g) })
-      last {v} q (leave none) g = left (record { word = v; part = q; shows = ap (window k n) (sym (append-nil v)) ∙ g })
+          kept (record { word = v; subword = q; shows = sym (act-involution k n s (window k n v)) ∙ ap (act k n s) (sym (window-snoc k n v s) ∙ g) })
+      last {v} q (leave none) g = left (record { word = v; subword = q; shows = ap (window k n) (sym (append-nil v)) ∙ g })
 
       cases : {x : List ℕ} → Split u (s ∷ []) x → x ≡ p .word → Ends w
       cases (both q r) g = last q r (ap (window k n) g ∙ p .shows)
 
   -- w is a fallback of u with the step added exactly when w stepped back is one of u
-  pub lifting-shorter : (w : List ℤ) → Accepted k n w → isDescent k n s w ≡ true → HasPart k n (u ++ (s ∷ [])) w ↔ HasPart k n u (act k n s w)
-  lifting-shorter w a t = (forth, λ f. with-step w (part-of-fallback k n u (act k n s w) f))
+  pub lifting-shorter : (w : List ℤ) → Accepted k n w → isDescent k n s w ≡ true → HasSubword k n (u ++ (s ∷ [])) w ↔ HasSubword k n u (act k n s w)
+  lifting-shorter w a t = (forth, λ f. with-step w (subword-of-fallback k n u (act k n s w) f))
     where
-      forth : HasPart k n (u ++ (s ∷ [])) w → HasPart k n u (act k n s w)
+      forth : HasSubword k n (u ++ (s ∷ [])) w → HasSubword k n u (act k n s w)
       forth f = elim (ends w f) [
-        | kept p ↦ fallback-of-part k n u (p .word) (act k n s w) (p .part) (p .shows)
+        | kept p ↦ fallback-of-subword k n u (p .word) (act k n s w) (p .subword) (p .shows)
         | left p ↦ stepped-back w (omega (arith, length-of-descent k n s w h o l a t)) p
       ]
 
   -- exactly when w itself is one of u
-  pub lifting-longer : (w : List ℤ) → Accepted k n w → isDescent k n s w ≡ false → HasPart k n (u ++ (s ∷ [])) w ↔ HasPart k n u w
-  lifting-longer w a t = (forth, λ f. without-step w (part-of-fallback k n u w f))
+  pub lifting-longer : (w : List ℤ) → Accepted k n w → isDescent k n s w ≡ false → HasSubword k n (u ++ (s ∷ [])) w ↔ HasSubword k n u w
+  lifting-longer w a t = (forth, λ f. without-step w (subword-of-fallback k n u w f))
     where
-      forth : HasPart k n (u ++ (s ∷ [])) w → HasPart k n u w
+      forth : HasSubword k n (u ++ (s ∷ [])) w → HasSubword k n u w
       forth f = elim (ends w f) [
         | kept p ↦
-            subst (HasPart k n u) (act-involution k n s w)
+            subst (HasSubword k n u) (act-involution k n s w)
             (stepped-back (act k n s w) (rw act-involution (omega (arith, length-of-ascent k n s w h o l a t))) p)
-        | left p ↦ fallback-of-part k n u (p .word) w (p .part) (p .shows)
+        | left p ↦ fallback-of-subword k n u (p .word) w (p .subword) (p .shows)
       ]
 
   -- both at once: exactly when the target after the letter s is one of u
-  pub lifting : (w : List ℤ) → Accepted k n w → HasPart k n (u ++ (s ∷ [])) w ↔ HasPart k n u (descended k n s w)
+  pub lifting : (w : List ℤ) → Accepted k n w → HasSubword k n (u ++ (s ∷ [])) w ↔ HasSubword k n u (descended k n s w)
   lifting w a = cases (isDescent k n s w) refl
     where
-      cases : (t : Bool) → isDescent k n s w ≡ t → HasPart k n (u ++ (s ∷ [])) w ↔ HasPart k n u (descended k n s w)
+      cases : (t : Bool) → isDescent k n s w ≡ t → HasSubword k n (u ++ (s ∷ [])) w ↔ HasSubword k n u (descended k n s w)
       cases true t = rw (descended-step k n s w t) (lifting-shorter w a t)
       cases false t = rw (descended-same k n s w t) (lifting-longer w a t)

@@ -15,27 +15,27 @@ use lib.Seq.{drop-cons, drop-drop}
 use Rattle.coxeter.specs.Kinds.{Kind, lanes}
 use Rattle.coxeter.specs.Windows.{act, windowFrom, identity, window}
 use Rattle.coxeter.proofs.Order.{sameWindow-true, sameWindow-of-eq}
-use Rattle.shortest_words.specs.Fallback.{Rising, lettersAt, HasPart, somePart}
-use Rattle.shortest_words.proofs.Parts.{Part, none, keep, leave}
+use Rattle.shortest_words.specs.Fallback.{Rising, lettersAt, HasSubword, someSubword}
+use Rattle.shortest_words.proofs.Subwords.{Subword, none, keep, leave}
 
 -- ---- from places to part-lists
 
-pub part-nothing : (u : List ℕ) → Part u []
-part-nothing [] = none
-part-nothing (a ∷ u) = leave (part-nothing u)
+pub subword-nothing : (u : List ℕ) → Subword u []
+subword-nothing [] = none
+subword-nothing (a ∷ u) = leave (subword-nothing u)
 
-part-past : (d : ℕ) (u : List ℕ) {v : List ℕ} → Part (drop d u) v → Part u v
-part-past zero u p = p
-part-past (suc d) [] p = p
-part-past (suc d) (a ∷ u) p = leave (part-past d u p)
+subword-past : (d : ℕ) (u : List ℕ) {v : List ℕ} → Subword (drop d u) v → Subword u v
+subword-past zero u p = p
+subword-past (suc d) [] p = p
+subword-past (suc d) (a ∷ u) p = leave (subword-past d u p)
 
 -- the letters at rising places from `low` on
-letters-part : (u : List ℕ) (low : ℕ) (ps : List ℕ) → Rising (length u) low ps → Part (drop low u) (lettersAt u ps)
+letters-subword : (u : List ℕ) (low : ℕ) (ps : List ℕ) → Rising (length u) low ps → Subword (drop low u) (lettersAt u ps)
 unfolding lettersAt
-letters-part u low [] h = part-nothing (drop low u)
-letters-part u low (p ∷ ps) (l, g, h) =
+letters-subword u low [] h = subword-nothing (drop low u)
+letters-subword u low (p ∷ ps) (l, g, h) =
     let e : low + (p - low) ≡ p = omega arith in
-    part-past (p - low) (drop low u) (rw (drop-drop, e, drop-cons u p 0 g) (keep (letters-part u (suc p) ps h)))
+    subword-past (p - low) (drop low u) (rw (drop-drop, e, drop-cons u p 0 g) (keep (letters-subword u (suc p) ps h)))
 
 -- ---- from part-lists to places
 
@@ -52,65 +52,65 @@ unfolding lettersAt
 letters-suc a u [] = refl
 letters-suc a u (p ∷ ps) = ap (λ (l : List ℕ). getD u p 0 ∷ l) (letters-suc a u ps)
 
-part-letters-at : {u v : List ℕ} → Part u v → (ps : List ℕ) × Rising (length u) 0 ps × (lettersAt u ps ≡ v)
+subword-letters-at : {u v : List ℕ} → Subword u v → (ps : List ℕ) × Rising (length u) 0 ps × (lettersAt u ps ≡ v)
 unfolding lettersAt
-part-letters-at none = ([], tt, refl)
-part-letters-at (keep {a} {u} p) =
-    let (ps, h, e) = part-letters-at p in
+subword-letters-at none = ([], tt, refl)
+subword-letters-at (keep {a} {u} p) =
+    let (ps, h, e) = subword-letters-at p in
     (0 ∷ map suc ps, (omega arith, omega arith, rising-suc (length u) 0 ps h), ap (λ (l : List ℕ). a ∷ l) (letters-suc a u ps ∙ e))
-part-letters-at (leave {a} {u} p) =
-    let (ps, h, e) = part-letters-at p in
+subword-letters-at (leave {a} {u} p) =
+    let (ps, h, e) = subword-letters-at p in
     (map suc ps, rising-from (suc (length u)) 1 0 (map suc ps) (omega arith) (rising-suc (length u) 0 ps h), letters-suc a u ps ∙ e)
 
 -- ---- fallbacks
 
 -- a part-list of u with the window w
-pub record PartWith (k : Kind) (n : ℕ) (u : List ℕ) (w : List ℤ) : Type 0 where
+pub record SubwordWith (k : Kind) (n : ℕ) (u : List ℕ) (w : List ℤ) : Type 0 where
   pub word : List ℕ
-  pub part : Part u word
+  pub subword : Subword u word
   pub shows : window k n word ≡ w
 
-pub part-of-fallback : (k : Kind) (n : ℕ) (u : List ℕ) (w : List ℤ) → HasPart k n u w → PartWith k n u w
-part-of-fallback k n u w (ps, s) = record { word = lettersAt u ps; part = letters-part u 0 ps (s .rising); shows = s .shows }
+pub subword-of-fallback : (k : Kind) (n : ℕ) (u : List ℕ) (w : List ℤ) → HasSubword k n u w → SubwordWith k n u w
+subword-of-fallback k n u w (ps, s) = record { word = lettersAt u ps; subword = letters-subword u 0 ps (s .rising); shows = s .shows }
 
-pub fallback-of-part : (k : Kind) (n : ℕ) (u v : List ℕ) (w : List ℤ) → Part u v → window k n v ≡ w → HasPart k n u w
-fallback-of-part k n u v w p e =
-    let (ps, h, q) = part-letters-at p in
+pub fallback-of-subword : (k : Kind) (n : ℕ) (u v : List ℕ) (w : List ℤ) → Subword u v → window k n v ≡ w → HasSubword k n u w
+fallback-of-subword k n u v w p e =
+    let (ps, h, q) = subword-letters-at p in
     (ps, record { rising = h; shows = ap (window k n) q ∙ e })
 
 -- ---- the test
 
-some-of-part : (k : Kind) (n : ℕ) (v w : List ℤ) {u x : List ℕ} → Part u x → windowFrom k n v x ≡ w → somePart k n v u w ≡ true
-unfolding somePart windowFrom
-some-of-part k n v w none e = sameWindow-of-eq v w e
-some-of-part k n v w (keep {a} p) e = rw (some-of-part k n (act k n a v) w p e)
-some-of-part k n v w (leave {a} {u} p) e = rw (some-of-part k n v w p e) (or-true (somePart k n (act k n a v) u w))
+some-of-subword : (k : Kind) (n : ℕ) (v w : List ℤ) {u x : List ℕ} → Subword u x → windowFrom k n v x ≡ w → someSubword k n v u w ≡ true
+unfolding someSubword windowFrom
+some-of-subword k n v w none e = sameWindow-of-eq v w e
+some-of-subword k n v w (keep {a} p) e = rw (some-of-subword k n (act k n a v) w p e)
+some-of-subword k n v w (leave {a} {u} p) e = rw (some-of-subword k n v w p e) (or-true (someSubword k n (act k n a v) u w))
 
 either : (s t : Bool) → (s || t) ≡ true → (s ≡ true) ⊎ (t ≡ true)
 either true t e = inl refl
 either false t e = inr e
 
 -- a part-list of u that leads from v to w
-record PartFrom (k : Kind) (n : ℕ) (v : List ℤ) (u : List ℕ) (w : List ℤ) : Type 0 where
+record SubwordFrom (k : Kind) (n : ℕ) (v : List ℤ) (u : List ℕ) (w : List ℤ) : Type 0 where
   word : List ℕ
-  part : Part u word
+  subword : Subword u word
   leads : windowFrom k n v word ≡ w
 
-part-of-some : (k : Kind) (n : ℕ) (v : List ℤ) (u : List ℕ) (w : List ℤ) → somePart k n v u w ≡ true → PartFrom k n v u w
-unfolding somePart windowFrom
-part-of-some k n v [] w t = record { word = []; part = none; leads = sameWindow-true v w t }
-part-of-some k n v (s ∷ u) w t =
+subword-of-some : (k : Kind) (n : ℕ) (v : List ℤ) (u : List ℕ) (w : List ℤ) → someSubword k n v u w ≡ true → SubwordFrom k n v u w
+unfolding someSubword windowFrom
+subword-of-some k n v [] w t = record { word = []; subword = none; leads = sameWindow-true v w t }
+subword-of-some k n v (s ∷ u) w t =
     ⊎-elim
-    (λ h. let p = part-of-some k n (act k n s v) u w h in record { word = s ∷ p .word; part = keep (p .part); leads = p .leads })
-    (λ h. let p = part-of-some k n v u w h in record { word = p .word; part = leave (p .part); leads = p .leads })
-    (either (somePart k n (act k n s v) u w) (somePart k n v u w) t)
+    (λ h. let p = subword-of-some k n (act k n s v) u w h in record { word = s ∷ p .word; subword = keep (p .subword); leads = p .leads })
+    (λ h. let p = subword-of-some k n v u w h in record { word = p .word; subword = leave (p .subword); leads = p .leads })
+    (either (someSubword k n (act k n s v) u w) (someSubword k n v u w) t)
 
 -- the test is yes exactly when some part-list has the window
-pub somePart-exactly : (k : Kind) (n : ℕ) (u : List ℕ) (w : List ℤ) → (somePart k n (identity (lanes k n)) u w ≡ true) ↔ HasPart k n u w
+pub someSubword-exactly : (k : Kind) (n : ℕ) (u : List ℕ) (w : List ℤ) → (someSubword k n (identity (lanes k n)) u w ≡ true) ↔ HasSubword k n u w
 unfolding window
-somePart-exactly k n u w = (
-  λ t. let p = part-of-some k n (identity (lanes k n)) u w t in fallback-of-part k n u (p .word) w (p .part) (p .leads),
-  λ f. let p = part-of-fallback k n u w f in some-of-part k n (identity (lanes k n)) w (p .part) (p .shows),
+someSubword-exactly k n u w = (
+  λ t. let p = subword-of-some k n (identity (lanes k n)) u w t in fallback-of-subword k n u (p .word) w (p .subword) (p .leads),
+  λ f. let p = subword-of-fallback k n u w f in some-of-subword k n (identity (lanes k n)) w (p .subword) (p .shows),
 )
 
 -- ---- places one by one

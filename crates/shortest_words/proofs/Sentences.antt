@@ -26,7 +26,7 @@ use Rattle.coxeter.proofs.Acceptance.{rank-within, words-accepted}
 use Rattle.shortest_words.specs.declared.Fallback.{Fallback}
 use Rattle.shortest_words.specs.declared.Fallback.the-variants.{Kept, No, Refused}
 use Rattle.shortest_words.specs.OneLetter.{Shortest, dropAt, OneLetter}
-use Rattle.shortest_words.specs.Fallback.{lettersAt, HasPart, FallbackOf, fallsBack, Keeps}
+use Rattle.shortest_words.specs.Fallback.{lettersAt, HasSubword, FallbackOf, isFallback, ShortestSubwordPlaces}
 use Rattle.shortest_words.specs.Calls.{fallbackAnswer, keptCount, FellBack}
 use Rattle.shortest_words.proofs.Shortest.{windowLength-le}
 use Rattle.shortest_words.proofs.Exchange.{oneLetter, oneLetter-front}
@@ -121,10 +121,10 @@ one-letter-accepted k n u s w r letters shortest low high e =
 -- ---- part-lists by their places
 
 -- F2: places inside the word that rise, and the letters there
-pub part-by-places : (k : Kind) (n : ℕ) (u : List ℕ) (w : List ℤ) → HasPart k n u w
+pub subword-by-places : (k : Kind) (n : ℕ) (u : List ℕ) (w : List ℤ) → HasSubword k n u w
     ↔ ((ps : List ℕ) × ((i : ℕ) → i < length ps → getD ps i 0 < length u)
     × ((i j : ℕ) → i < j → j < length ps → getD ps i 0 < getD ps j 0) × (window k n (lettersAt u ps) ≡ w))
-part-by-places k n u w = (
+subword-by-places k n u w = (
   λ p.
       let r = p .1 .rising in
       (p .0, λ i h. rising-bounds (length u) 0 (p .0) r i h .1, rising-apart (length u) 0 (p .0) r, p .1 .shows),
@@ -142,7 +142,7 @@ module _ (k n : ℕ) (present simpler places : List ℕ) where
   checks = rankRefusal k n then wordRefusal n present then wordRefusal n simpler
 
   abbrev falls : Bool
-  falls = fallsBack (kindOf k) n present simpler
+  falls = isFallback (kindOf k) n present simpler
 
   abbrev size : ℕ
   size = windowLength (kindOf k) (window (kindOf k) n simpler)
@@ -228,30 +228,30 @@ module _ (k n : ℕ) (present simpler places : List ℕ) where
 -- ---- a fallback, the places kept
 
 module _ (k n : ℕ) (present simpler places after : List ℕ) (l : ℕ) (f : FellBack k n present simpler places (Kept l) after) where
-  keeps : Keeps (kindOf k) n (wordNormalForm (kindOf k) n present) (window (kindOf k) n simpler) (take l after)
-  keeps = f .kept l refl
+  kept-subword : ShortestSubwordPlaces (kindOf k) n (wordNormalForm (kindOf k) n present) (window (kindOf k) n simpler) (take l after)
+  kept-subword = f .kept l refl
 
   -- F3: as many as the length of the simpler window
   pub kept-many : (l ≡ windowLength (kindOf k) (window (kindOf k) n simpler)) × (length (take l after) ≡ l)
   kept-many =
       let e = told-kept l (answer-told k n present simpler places) (sym (f .answer)) .3 in
-      (e, keeps .count ∙ sym e)
+      (e, kept-subword .count ∙ sym e)
 
   -- F3: they rise
   pub kept-rise : (i j : ℕ) → i < j → j < l → getD after i 0 < getD after j 0
   kept-rise i j g h =
-      let r = rising-apart _ 0 (take l after) (keeps .serves .rising) i j g (omega (arith, kept-many .1)) in
+      let r = rising-apart _ 0 (take l after) (kept-subword .subword .rising) i j g (omega (arith, kept-many .1)) in
       omega (arith, r, getD-take l i after 0 (omega arith), getD-take l j after 0 h)
 
   -- F3: they lie inside the present normal form
   pub kept-inside : (i : ℕ) → i < l → getD after i 0 < length (wordNormalForm (kindOf k) n present)
   kept-inside i h =
-      let r = rising-bounds _ 0 (take l after) (keeps .serves .rising) i (omega (arith, kept-many .1)) .1 in
+      let r = rising-bounds _ 0 (take l after) (kept-subword .subword .rising) i (omega (arith, kept-many .1)) .1 in
       omega (arith, r, getD-take l i after 0 h)
 
   -- F3: the letters there have the simpler window
   pub kept-shows : window (kindOf k) n (lettersAt (wordNormalForm (kindOf k) n present) (take l after)) ≡ window (kindOf k) n simpler
-  kept-shows = keeps .serves .shows
+  kept-shows = kept-subword .subword .shows
 
   -- I2: every other place of the list keeps what it held
   pub kept-past : drop l after ≡ drop l places
@@ -265,13 +265,13 @@ module _ (k n : ℕ) (present simpler places : List ℕ) (a : Fallback) (after :
     (z : List ℕ) (letters : wrongLetter n z ≡ false)
     (shortest : (v : List ℕ) → wrongLetter n v ≡ false → window (kindOf k) n v ≡ window (kindOf k) n z → length z ≤ length v)
     (same : window (kindOf k) n z ≡ window (kindOf k) n present) where
-  same-verdict : RankOf k n → FallbackOf (kindOf k) n present simpler ↔ HasPart (kindOf k) n z (window (kindOf k) n simpler)
+  same-verdict : RankOf k n → FallbackOf (kindOf k) n present simpler ↔ HasSubword (kindOf k) n z (window (kindOf k) n simpler)
   same-verdict r = verdict-same (kindOf k) n (rank-within k n r .0) present simpler z (record { steps = letters; none-shorter = shortest }) same
 
   -- F6
   pub no-from-every-shortest : (a ≡ No)
       ↔ (RankOf k n × WordOf n present × WordOf n simpler
-      × (HasPart (kindOf k) n z (window (kindOf k) n simpler) → ⊥))
+      × (HasSubword (kindOf k) n z (window (kindOf k) n simpler) → ⊥))
   no-from-every-shortest =
       let e = no-exactly k n present simpler places a after f in (
         λ q. let p = e .0 q in (p .0, p .1, p .2, λ h. p .3 (same-verdict (p .0) .1 h)),
@@ -280,7 +280,7 @@ module _ (k n : ℕ) (present simpler places : List ℕ) (a : Fallback) (after :
 
   -- F6
   pub kept-from-every-shortest : ((l : ℕ) × (a ≡ Kept l))
-      ↔ (RankOf k n × WordOf n present × WordOf n simpler × HasPart (kindOf k) n z (window (kindOf k) n simpler)
+      ↔ (RankOf k n × WordOf n present × WordOf n simpler × HasSubword (kindOf k) n z (window (kindOf k) n simpler)
       × (windowLength (kindOf k) (window (kindOf k) n simpler) ≤ length places))
   kept-from-every-shortest =
       let e = kept-exactly k n present simpler places a after f in (
@@ -292,7 +292,7 @@ module _ (k n : ℕ) (present simpler places : List ℕ) (a : Fallback) (after :
 pub same-answer : (k n : ℕ) (present other simpler places : List ℕ) (a b : Fallback) (after also : List ℕ)
     → FellBack k n present simpler places a after → FellBack k n other simpler places b also
     → WordOf n present → WordOf n other → window (kindOf k) n present ≡ window (kindOf k) n other → a ≡ b
-unfolding fallbackAnswer fallsBack
+unfolding fallbackAnswer isFallback
 same-answer k n present other simpler places a b after also f g p q e =
     let same : fallbackAnswer k n present simpler places ≡ fallbackAnswer k n other simpler places = rw (p, q, e) in
     f .answer ∙ same ∙ sym (g .answer)

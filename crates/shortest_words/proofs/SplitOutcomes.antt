@@ -17,24 +17,24 @@ use Rattle.shortest_words.specs.declared.Split.{Split}
 use Rattle.shortest_words.specs.declared.Split.the-variants.{Words, Refused}
 use Rattle.shortest_words.specs.Allowed.{allows, setRefusal}
 use Rattle.shortest_words.specs.Split.{firstWord, secondWord}
-use Rattle.shortest_words.specs.SplitCalls.{splitOf, parts, splitting, SplitYields}
+use Rattle.shortest_words.specs.SplitCalls.{splitOf, splitOutcome, splitting, SplitYields}
 
 -- ---- what writes two words
 
 -- a and b are the lengths of u and v as they were computed
 module _ (u v first second : List ℕ) (a b : ℕ) (e : a ≡ length u) where
-  pub first-short : length first < a → SplitYields (parts 0 u v first second) (Refused 14) first second
-  unfolding parts splitOf written tooShort
+  pub first-short : length first < a → SplitYields (splitOutcome 0 u v first second) (Refused 14) first second
+  unfolding splitOutcome splitOf written tooShort
   first-short h = rw (← e, lt-ltb (length first) a h) (refl, refl, refl)
 
   module _ (f : b ≡ length v) (g : a ≤ length first) where
-    pub second-short : length second < b → SplitYields (parts 0 u v first second) (Refused 14) first second
-    unfolding parts splitOf written tooShort
+    pub second-short : length second < b → SplitYields (splitOutcome 0 u v first second) (Refused 14) first second
+    unfolding splitOutcome splitOf written tooShort
     second-short h = rw (← e, ← f, le-ltb (length first) a g, lt-ltb (length second) b h) (refl, refl, refl)
 
     pub parts-written : (x y : List ℕ) → b ≤ length second → x ≡ written 0 u first → y ≡ written 0 v second
-        → SplitYields (parts 0 u v first second) (Words a b) x y
-    unfolding parts splitOf tooShort
+        → SplitYields (splitOutcome 0 u v first second) (Words a b) x y
+    unfolding splitOutcome splitOf tooShort
     parts-written x y h p q = rw (← e, ← f, le-ltb (length first) a g, le-ltb (length second) b h) (refl, p, q)
 
 -- ---- the call
@@ -47,11 +47,11 @@ module _ (k n set : ℕ) (u : List ℕ) (r : ℕ) (e : r ≡ (setRefusal k n set
 
   module _ (first second : List ℕ) where
     pub split-refused : (r ≡ 0 → ⊥) → SplitYields (splitting k n set u first second) (Refused r) first second
-    unfolding splitting parts splitOf written
+    unfolding splitting splitOutcome splitOf written
     split-refused f = rw (← e, ne-eqb r 0 f) (rw (ne-eqb r 0 f) (refl, refl, refl))
 
     pub split-passed : r ≡ 0 → (a : Split) (x y : List ℕ)
-        → SplitYields (parts 0 (firstWord (allows set) (kindOf k) n (window (kindOf k) n u))
+        → SplitYields (splitOutcome 0 (firstWord (allows set) (kindOf k) n (window (kindOf k) n u))
         (secondWord (allows set) (kindOf k) n (window (kindOf k) n u)) first second)
         a x y
         → SplitYields (splitting k n set u first second) a x y

@@ -27,7 +27,7 @@ use Rattle.coxeter.proofs.Theorems.{window-passes}
 use Rattle.shortest_words.specs.declared.Split.the-variants.{Words, Refused}
 use Rattle.shortest_words.specs.Allowed.{allows, setRefusal}
 use Rattle.shortest_words.specs.Split.{IsSplit, firstWord, secondWord}
-use Rattle.shortest_words.specs.SplitCalls.{splitOf, parts, splitting}
+use Rattle.shortest_words.specs.SplitCalls.{splitOf, splitOutcome, splitting}
 use Rattle.shortest_words.proofs.AllowedSets.{allows-none, allows-all}
 use Rattle.shortest_words.proofs.Stripping.{split-is, split-only, split-none, split-all}
 use Rattle.shortest_words.proofs.SplitOutcomes.{split-accepted}
@@ -91,7 +91,7 @@ module _ (k n set : ℕ) (u first second : List ℕ) where
         × (take b (splitting k n set u first second .second) ≡ left)
         × (length taken ≡ a)
         × (length left ≡ b)
-    unfolding splitting parts splitOf written
+    unfolding splitting splitOutcome splitOf written
     told = pick-told taken left first second (eqb refusal 0) refusal a b h
 
     -- such an answer comes only where checks 5 and 6 pass
@@ -120,7 +120,7 @@ module _ (k n set : ℕ) (u first second : List ℕ) where
     -- what lies behind the two words keeps what it held
     pub splitting-past : (drop a (splitting k n set u first second .first) ≡ drop a first)
         × (drop b (splitting k n set u first second .second) ≡ drop b second)
-    unfolding splitting parts splitOf
+    unfolding splitting splitOutcome splitOf
     splitting-past =
         let good = Words (length taken) (length left) in
         (kept-past refusal good Refused h taken first a (λ e. cc), kept-past refusal good Refused h left second b (λ e. cc))
@@ -128,7 +128,7 @@ module _ (k n set : ℕ) (u first second : List ℕ) where
   -- a refused call changes no byte of either output
   pub splitting-unchanged : (r : ℕ) → splitting k n set u first second .answer ≡ Refused r
       → (splitting k n set u first second .first ≡ first) × (splitting k n set u first second .second ≡ second)
-  unfolding splitting parts splitOf
+  unfolding splitting splitOutcome splitOf
   splitting-unchanged r h =
       let good = Words (length taken) (length left) in
       let not-good = words-not-refused (length taken) (length left) r in

@@ -24,32 +24,32 @@ use Rattle.coxeter.proofs.Inverses.{windowFrom-reverse}
 use Rattle.shortest_words.specs.OneLetter.{Shortest}
 use Rattle.shortest_words.specs.Allowed.{Over}
 use Rattle.shortest_words.specs.Split.{NoneBegins, IsSplit}
-use Rattle.shortest_words.proofs.Parts.{Part, part-same, part-length, Split, both, part-split}
+use Rattle.shortest_words.proofs.Subwords.{Subword, subword-same, subword-length, Split, both, subword-split}
 use Rattle.shortest_words.proofs.Shortest.{letters-reverse, length-of-shortest, normal-is, shortest-normal}
 use Rattle.shortest_words.proofs.Exchange.{windowFrom-injective}
 use Rattle.shortest_words.proofs.Deletion.{Shortened, shortened}
-use Rattle.shortest_words.proofs.Allowed.{over-head, over-append, over-reverse, over-part}
+use Rattle.shortest_words.proofs.Allowed.{over-head, over-append, over-reverse, over-subword}
 
 -- ---- a window that no allowed step begins
 
 -- where allowed steps and then v lead to such a window, a part-list of v is a shortest word of it
 record Left (k : Kind) (n : ℕ) (v : List ℕ) (w : List ℤ) : Type 0 where
   word : List ℕ
-  part : Part v word
+  subword : Subword v word
   shortest : Shortest k n word
   shows : window k n word ≡ w
 
 left : (allowed : ℕ → Bool) (k : Kind) (n : ℕ) (u v : List ℕ) (w : List ℤ) → least k ≤ n → wrongLetter n (u ++ v) ≡ false → Over allowed u
     → NoneBegins allowed k n w → window k n (u ++ v) ≡ w → Left k n v w
-left allowed k n u v w h e o b q = cases (part-split u (r .part)) refl
+left allowed k n u v w h e o b q = cases (subword-split u (r .subword)) refl
   where
     r : Shortened k n (u ++ v)
     r = shortened k n (u ++ v) h e
 
-    ends : (x y : List ℕ) → Part u x → Part v y → x ++ y ≡ r .word → Left k n v w
-    ends [] y s t g = record { word = y; part = t; shortest = rw g (r .shortest); shows = ap (window k n) g ∙ r .shows ∙ q }
+    ends : (x y : List ℕ) → Subword u x → Subword v y → x ++ y ≡ r .word → Left k n v w
+    ends [] y s t g = record { word = y; subword = t; shortest = rw g (r .shortest); shows = ap (window k n) g ∙ r .shows ∙ q }
     ends (a ∷ x) y s t g =
-        absurd (b a (x ++ y) (over-head allowed a x (over-part allowed s o)) (rw g (r .shortest)) (ap (window k n) g ∙ r .shows ∙ q))
+        absurd (b a (x ++ y) (over-head allowed a x (over-subword allowed s o)) (rw g (r .shortest)) (ap (window k n) g ∙ r .shows ∙ q))
 
     cases : {x : List ℕ} → Split u v x → x ≡ r .word → Left k n v w
     cases (both {v = x} {y} s t) g = ends x y s t g
@@ -101,7 +101,7 @@ second-same allowed k n u v x y h a b q =
     let r = across allowed k n x y u v h b a (sym q) in
     let short = left-length k n v y h (b .shortest) l in
     let long = left-length k n y v h (a .shortest) r in
-    let whole = part-same (l .part) (omega (arith, short, long, part-length (l .part), part-length (r .part))) in
+    let whole = subword-same (l .subword) (omega (arith, short, long, subword-length (l .subword), subword-length (r .subword))) in
     ap (window k n) (sym whole) ∙ l .shows
 
 pub first-same : (k : Kind) (n : ℕ) (u v x y : List ℕ) → window k n (u ++ v) ≡ window k n (x ++ y) → window k n v ≡ window k n y

@@ -20,11 +20,11 @@ use Rattle.shortest_words.specs.declared.Split.{Split}
 use Rattle.shortest_words.specs.declared.Split.the-variants as split
 use Rattle.shortest_words.specs.OneLetter.{Shortest, dropAt}
 use Rattle.shortest_words.specs.Descents.{isDescent}
-use Rattle.shortest_words.specs.Fallback.{lettersAt, somePart, fallsBack}
+use Rattle.shortest_words.specs.Fallback.{lettersAt, someSubword, isFallback}
 use Rattle.shortest_words.specs.Allowed.{allows, wrongSet, setRefusal}
 use Rattle.shortest_words.specs.Split.{lowest, stripped, restInverse, firstWord, secondWord}
 use Rattle.shortest_words.specs.Calls.{fallbackOf, fallbackAnswer}
-use Rattle.shortest_words.specs.SplitCalls.{Parted, splitOf, parts, splitting}
+use Rattle.shortest_words.specs.SplitCalls.{SplitOutcome, splitOf, splitOutcome, splitting}
 
 -- ---- one letter
 
@@ -64,7 +64,7 @@ fallbacks =
     ∷ []
 
 pub fallbacks-agree : Agree fallbacks
-unfolding fallbacks fallbackAnswer fallbackOf fallsBack somePart sameWindow sameEntry kindOf up
+unfolding fallbacks fallbackAnswer fallbackOf isFallback someSubword sameWindow sameEntry kindOf up
     from swap negateFirst swapNegate act windowFrom identity window signed placeFrom
     later negative one laterThan inversions negativeSumPairs negatives crossings total windowLength
     wrongKind wrongRank tooLong wrongLetter tooShort rankRefusal wordRefusal down rise fall block without indexOf restOf normalFrom normalForm
@@ -76,10 +76,10 @@ fallbacks-agree = refl
 -- where the normal form of 1 2 is itself; of none and of both. B₂, the word 1 2 1 2 by step 2; D₄, the word 4 2 by
 -- step 4, the bit 8. Refusals in their order: kind, rank, a bit above the rank, the word, and 14 for either output,
 -- with nothing written.
-told : Split → List ℕ → List ℕ → Parted
+told : Split → List ℕ → List ℕ → SplitOutcome
 told a first second = record { answer = a; first = first; second = second }
 
-pub splits : List (Parted × Parted)
+pub splits : List (SplitOutcome × SplitOutcome)
 splits =
     (splitting 1 2 1 (1 ∷ 2 ∷ 1 ∷ []) (9 ∷ 9 ∷ []) (9 ∷ 9 ∷ 9 ∷ []), told (split.Words 1 2) (1 ∷ 9 ∷ []) (2 ∷ 1 ∷ 9 ∷ []))
     ∷ (splitting 1 2 2 (1 ∷ 2 ∷ 1 ∷ []) (9 ∷ 9 ∷ []) (9 ∷ 9 ∷ 9 ∷ []), told (split.Words 1 2) (2 ∷ 9 ∷ []) (1 ∷ 2 ∷ 9 ∷ []))
@@ -96,7 +96,7 @@ splits =
     ∷ []
 
 pub splits-agree : Agree splits
-unfolding splits told splitting parts splitOf written firstWord secondWord restInverse stripped lowest isDescent allows wrongSet setRefusal kindOf up
+unfolding splits told splitting splitOutcome splitOf written firstWord secondWord restInverse stripped lowest isDescent allows wrongSet setRefusal kindOf up
     from swap negateFirst swapNegate act windowFrom identity window at product signed placeFrom inverse
     later negative one laterThan inversions negativeSumPairs negatives crossings total windowLength
     wrongKind wrongRank tooLong wrongLetter tooShort rankRefusal wordRefusal down rise fall block without indexOf restOf normalFrom normalForm

@@ -28,18 +28,18 @@ use Rattle.coxeter.proofs.Refusals.{then-assoc}
 use Rattle.coxeter.proofs.Order.{sameWindow-true, sameWindow-of-eq}
 use Rattle.shortest_words.specs.declared.Fallback.{Fallback}
 use Rattle.shortest_words.specs.declared.Fallback.the-variants.{Kept, No, Refused}
-use Rattle.shortest_words.specs.Fallback.{Keeps, somePart, fallsBack}
+use Rattle.shortest_words.specs.Fallback.{ShortestSubwordPlaces, someSubword, isFallback}
 use Rattle.shortest_words.specs.Calls.{fallbackOf, simplerLength, fallbackAnswer, keptCount, FellBack}
-use Rattle.shortest_words.proofs.Places.{somePart-exactly}
-use Rattle.shortest_words.proofs.Walk.{leftOver, placesKept, walk-decides, walk-keeps}
+use Rattle.shortest_words.proofs.Places.{someSubword-exactly}
+use Rattle.shortest_words.proofs.Walk.{leftOver, placesKept, walk-decides, walk-shortest-subword}
 
 -- ---- a word and a target
 
 -- the verdict on a word u and a target w, and the list of places before and after
-pub record Settled (k : Kind) (n : ℕ) (u : List ℕ) (w : List ℤ) (places : List ℕ) (a : Fallback) (after : List ℕ) : Type 0 where
-  pub answer : a ≡ pick (somePart k n (identity (lanes k n)) u w)
+pub record Decided (k : Kind) (n : ℕ) (u : List ℕ) (w : List ℤ) (places : List ℕ) (a : Fallback) (after : List ℕ) : Type 0 where
+  pub answer : a ≡ pick (someSubword k n (identity (lanes k n)) u w)
       (pick (tooShort (windowLength k w) places) (Refused 14) (Kept (windowLength k w))) No
-  pub kept : (l : ℕ) → a ≡ Kept l → Keeps k n u w (take l after)
+  pub kept : (l : ℕ) → a ≡ Kept l → ShortestSubwordPlaces k n u w (take l after)
   pub others : drop (keptCount a) after ≡ drop (keptCount a) places
 
 same-test : {P : Type 0} (s t : Bool) → (s ≡ true) ↔ P → (t ≡ true) ↔ P → s ≡ t
@@ -50,15 +50,15 @@ same-test false false f g = refl
 module _ (k : Kind) (n : ℕ) (u : List ℕ) (w : List ℤ) (places : List ℕ) (h : least k ≤ n) (e : wrongLetter n u ≡ false) (a : Accepted k n w) where
   -- x is what the walk leaves of the target, and t whether it is straight
   module _ (x : List ℤ) (t : Bool) (q : x ≡ leftOver k n u (length u) w) (s : t ≡ sameWindow x (identity (lanes k n))) where
-    decided : somePart k n (identity (lanes k n)) u w ≡ t
+    decided : someSubword k n (identity (lanes k n)) u w ≡ t
     decided =
         let walk = walk-decides k n u h e w a in
-        same-test _ t (somePart-exactly k n u w)
+        same-test _ t (someSubword-exactly k n u w)
         (λ y. walk .1 (sym q ∙ sameWindow-true x (identity (lanes k n)) (sym s ∙ y)), λ f. s ∙ sameWindow-of-eq x (identity (lanes k n)) (q ∙ walk .0 f))
 
-    pub settled-no : t ≡ false → Settled k n u w places No places
+    pub decided-no : t ≡ false → Decided k n u w places No places
     unfolding keptCount
-    settled-no z = record {
+    decided-no z = record {
       answer = rw (decided ∙ z);
       kept = λ l y. let o : _≡_ {A = ℕ} 0 1 = cc in absurd (omega arith);
       others = refl;
@@ -66,25 +66,25 @@ module _ (k : Kind) (n : ℕ) (u : List ℕ) (w : List ℤ) (places : List ℕ) 
 
     -- the places kept are ps, m of them
     module _ (z : t ≡ true) (ps : List ℕ) (m : ℕ) (g : ps ≡ placesKept k n u (length u) w []) (c : m ≡ length ps) where
-      keeps : Keeps k n u w ps
-      keeps = rw g (walk-keeps k n u h e w a (sym q ∙ sameWindow-true x (identity (lanes k n)) (sym s ∙ z)))
+      kept-subword : ShortestSubwordPlaces k n u w ps
+      kept-subword = rw g (walk-shortest-subword k n u h e w a (sym q ∙ sameWindow-true x (identity (lanes k n)) (sym s ∙ z)))
 
       count : windowLength k w ≡ m
-      count = sym (c ∙ keeps .count)
+      count = sym (c ∙ kept-subword .count)
 
-      pub settled-short : length places < m → Settled k n u w places (Refused 14) places
+      pub decided-short : length places < m → Decided k n u w places (Refused 14) places
       unfolding tooShort keptCount
-      settled-short l = record {
+      decided-short l = record {
         answer = rw (decided ∙ z, count, lt-ltb (length places) m l);
         kept = λ i y. let o : _≡_ {A = ℕ} 0 1 = cc in absurd (omega arith);
         others = refl;
       }
 
-      pub settled-kept : (after : List ℕ) → m ≤ length places → after ≡ written 0 ps places → Settled k n u w places (Kept m) after
+      pub decided-kept : (after : List ℕ) → m ≤ length places → after ≡ written 0 ps places → Decided k n u w places (Kept m) after
       unfolding tooShort keptCount written
-      settled-kept after l f = record {
+      decided-kept after l f = record {
         answer = rw (decided ∙ z, count, le-ltb (length places) m l);
-        kept = λ i y. let o : m ≡ i = cc in rw (f, ← o, take-at ps (drop (length ps) places) m (sym c)) keeps;
+        kept = λ i y. let o : m ≡ i = cc in rw (f, ← o, take-at ps (drop (length ps) places) m (sym c)) kept-subword;
         others = rw (f, c) (drop-at ps (drop (length ps) places) (length ps) refl);
       }
 
@@ -112,11 +112,11 @@ module _ (k n : ℕ) (present simpler places : List ℕ) (r : ℕ) (e : r ≡ (r
     others = refl;
   }
 
-  pub fellBack-settled : (a : Fallback) (after : List ℕ) → r ≡ 0
-      → Settled (kindOf k) n (wordNormalForm (kindOf k) n present) (window (kindOf k) n simpler) places a after → FellBack k n present simpler places a after
-  unfolding fallbackAnswer fallsBack
-  fellBack-settled a after z s = let l = simplerLength k n simpler in record {
-    answer = s .answer ∙ rw (last, z) (by-verdict (fallsBack (kindOf k) n present simpler) (tooShort l places) l);
+  pub fellBack-decided : (a : Fallback) (after : List ℕ) → r ≡ 0
+      → Decided (kindOf k) n (wordNormalForm (kindOf k) n present) (window (kindOf k) n simpler) places a after → FellBack k n present simpler places a after
+  unfolding fallbackAnswer isFallback
+  fellBack-decided a after z s = let l = simplerLength k n simpler in record {
+    answer = s .answer ∙ rw (last, z) (by-verdict (isFallback (kindOf k) n present simpler) (tooShort l places) l);
     kept = s .kept;
     others = s .others;
   }

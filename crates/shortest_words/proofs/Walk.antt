@@ -22,10 +22,10 @@ use Rattle.coxeter.proofs.Steps.{act-involution}
 use Rattle.coxeter.proofs.LetterLaws.{letter-within}
 use Rattle.rules.proofs.ScanRules.{wrongLetter-drop}
 use Rattle.shortest_words.specs.Descents.{isDescent}
-use Rattle.shortest_words.specs.Fallback.{Rising, lettersAt, HasPart, Keeps}
-use Rattle.shortest_words.proofs.Parts.{Part, none, keep, part-letters}
+use Rattle.shortest_words.specs.Fallback.{Rising, lettersAt, HasSubword, ShortestSubwordPlaces}
+use Rattle.shortest_words.proofs.Subwords.{Subword, none, keep, subword-letters}
 use Rattle.shortest_words.proofs.Shortest.{windowLength-le}
-use Rattle.shortest_words.proofs.Places.{part-nothing, rising-from, part-of-fallback, fallback-of-part}
+use Rattle.shortest_words.proofs.Places.{subword-nothing, rising-from, subword-of-fallback, fallback-of-subword}
 use Rattle.shortest_words.proofs.Descents.{length-of-descent}
 use Rattle.shortest_words.proofs.Lifting.{descended, descended-step, descended-same, descended-accepted, lifting}
 
@@ -49,33 +49,33 @@ marked i (s ∷ u) = pick (eqb s 0) (marked (suc i) u) (i ∷ marked (suc i) u)
 
 -- ---- the target
 
-part-take : (i : ℕ) (u : List ℕ) → Part u (take i u)
-part-take zero u = part-nothing u
-part-take (suc i) [] = none
-part-take (suc i) (a ∷ u) = keep (part-take i u)
+subword-take : (i : ℕ) (u : List ℕ) → Subword u (take i u)
+subword-take zero u = subword-nothing u
+subword-take (suc i) [] = none
+subword-take (suc i) (a ∷ u) = keep (subword-take i u)
 
 module _ (k : Kind) (n : ℕ) (u : List ℕ) (h : least k ≤ n) (e : wrongLetter n u ≡ false) where
   letter : (i : ℕ) → i < length u → (1 ≤ getD u i 0) × (getD u i 0 ≤ n)
   letter i l = letter-within n u i l (wrongLetter-drop n i u e)
 
   -- the empty word has one part-list
-  empty-exactly : (w : List ℤ) → HasPart k n [] w ↔ (w ≡ identity (lanes k n))
+  empty-exactly : (w : List ℤ) → HasSubword k n [] w ↔ (w ≡ identity (lanes k n))
   unfolding window windowFrom
   empty-exactly w = (
-    λ f. let p = part-of-fallback k n [] w f in only (p .part) (p .shows),
-    λ q. fallback-of-part k n [] [] w none (sym q),
+    λ f. let p = subword-of-fallback k n [] w f in only (p .subword) (p .shows),
+    λ q. fallback-of-subword k n [] [] w none (sym q),
   )
     where
-      only : {v : List ℕ} → Part [] v → window k n v ≡ w → w ≡ identity (lanes k n)
+      only : {v : List ℕ} → Subword [] v → window k n v ≡ w → w ≡ identity (lanes k n)
       only none g = sym g
 
   -- the first i letters have a part-list with the window w exactly when the target ends straight
-  walk-exactly : (i : ℕ) (w : List ℤ) → i ≤ length u → Accepted k n w → HasPart k n (take i u) w ↔ (leftOver k n u i w ≡ identity (lanes k n))
+  walk-exactly : (i : ℕ) (w : List ℤ) → i ≤ length u → Accepted k n w → HasSubword k n (take i u) w ↔ (leftOver k n u i w ≡ identity (lanes k n))
   unfolding leftOver
   walk-exactly zero w l a = empty-exactly w
   walk-exactly (suc i) w l a =
       let s : ℕ = getD u i 0 in
-      let front = part-letters n (part-take i u) e in
+      let front = subword-letters n (subword-take i u) e in
       rw (take-suc u i 0 l)
       (Iff·trans (lifting k n (take i u) s h front (letter i l .0) (letter i l .1) w a)
       (walk-exactly i (descended k n s w) (omega arith) (descended-accepted k n s w a)))
@@ -128,16 +128,16 @@ module _ (k : Kind) (n : ℕ) (u : List ℕ) (h : least k ≤ n) (e : wrongLette
   identity-length = let l = windowLength-le k n [] h refl in omega arith
 
   -- some part-list of u has the window w exactly when the target ends straight
-  pub walk-decides : (w : List ℤ) → Accepted k n w → HasPart k n u w ↔ (leftOver k n u (length u) w ≡ identity (lanes k n))
+  pub walk-decides : (w : List ℤ) → Accepted k n w → HasSubword k n u w ↔ (leftOver k n u (length u) w ≡ identity (lanes k n))
   walk-decides w a = rw (take-length u) at (walk-exactly (length u) w (omega arith) a)
 
   -- and then the places kept serve, and are as many as the length of w
-  pub walk-keeps : (w : List ℤ) → Accepted k n w → leftOver k n u (length u) w ≡ identity (lanes k n)
-      → Keeps k n u w (placesKept k n u (length u) w [])
+  pub walk-shortest-subword : (w : List ℤ) → Accepted k n w → leftOver k n u (length u) w ≡ identity (lanes k n)
+      → ShortestSubwordPlaces k n u w (placesKept k n u (length u) w [])
   unfolding window windowFrom lettersAt
-  walk-keeps w a ends =
+  walk-shortest-subword w a ends =
       record {
-        serves = record {
+        subword = record {
           rising = kept-rising (length u) w [] (omega arith) tt;
           shows = rw (← ends) (kept-leads (length u) w []);
         };

@@ -12,7 +12,7 @@ use Rattle.coxeter.specs.Checks.{check, _then_, tooShort, rankRefusal, wordRefu
 use Rattle.coxeter.specs.NormalForm.{wordNormalForm}
 use Rattle.shortest_words.specs.declared.Fallback.{Fallback}
 use Rattle.shortest_words.specs.declared.Fallback.the-variants.{Kept, No, Refused}
-use Rattle.shortest_words.specs.Fallback.{Keeps, fallsBack}
+use Rattle.shortest_words.specs.Fallback.{ShortestSubwordPlaces, isFallback}
 
 -- I18, G17: the number and the values of each case of `Fallback`: its refusal, or with none the number of places
 -- kept, or no
@@ -26,7 +26,7 @@ simplerLength k n simpler = windowLength (kindOf k) (window (kindOf k) n simpler
 -- I18, F8: 14 comes only with a yes
 unfoldable pub fallbackAnswer : ℕ → ℕ → List ℕ → List ℕ → List ℕ → Fallback
 fallbackAnswer k n present simpler places =
-    let falls = fallsBack (kindOf k) n present simpler in
+    let falls = isFallback (kindOf k) n present simpler in
     let l = simplerLength k n simpler in
     fallbackOf (rankRefusal k n then wordRefusal n present then wordRefusal n simpler then check 14 (falls && tooShort l places)) falls l
 
@@ -41,6 +41,6 @@ pub record FellBack (k n : ℕ) (present simpler places : List ℕ) (a : Fallbac
   -- F2
   pub answer : a ≡ fallbackAnswer k n present simpler places
   -- F3, F4: with a yes, what holds of the front of the list; which list comes is left free (G2)
-  pub kept : (l : ℕ) → a ≡ Kept l → Keeps (kindOf k) n (wordNormalForm (kindOf k) n present) (window (kindOf k) n simpler) (take l after)
+  pub kept : (l : ℕ) → a ≡ Kept l → ShortestSubwordPlaces (kindOf k) n (wordNormalForm (kindOf k) n present) (window (kindOf k) n simpler) (take l after)
   -- F5, I2: every other place of the list keeps what it held
   pub others : drop (keptCount a) after ≡ drop (keptCount a) places

@@ -1,7 +1,7 @@
 -- A letter put into a normal form. Where a letter is added at the end of a normal form and rules carry it to the
 -- left, what stands in the end, with the letter at the place where no rule carries it on, or with it and an equal
--- letter struck out, is a normal form again. By the exchange property: an earlier word with the same window would
--- have, from the first difference on, a first letter that could be struck out at the other end.
+-- letter deleted, is a normal form again. By the exchange property: an earlier word with the same window would
+-- have, from the first difference on, a first letter that could be deleted at the other end.
 --
 -- Sections: where a letter stands; a letter that cancels; a letter that stays.
 -- Assumes nothing.
@@ -24,7 +24,7 @@ use Rattle.coxeter.proofs.Relations.{letters-append, wrongLetter-cons}
 use Rattle.coxeter.proofs.Order.{same}
 use Rattle.coxeter.proofs.Descents.{crossed, length-of-crossed, length-of-uncrossed}
 use Rattle.shortest_words.specs.OneLetter.{dropAt, Removable, added}
-use Rattle.shortest_words.proofs.Parts.{length-dropAt, part-of-dropAt, part-letters}
+use Rattle.shortest_words.proofs.Subwords.{length-dropAt, subword-of-dropAt, subword-letters}
 use Rattle.shortest_words.proofs.Shortest.{letters-snoc, windowLength-le, length-of-shortest}
 use Rattle.shortest_words.proofs.Exchange.{window-snoc, exchange, exchange-front}
 use Rattle.shortest_words.proofs.Deletion.{dropAt-append, dropAt-seam}
@@ -54,7 +54,7 @@ where-is (x ∷ a) b (y ∷ c) e d q = go (where-is a b c e d (ap (drop 1) q))
 -- ---- a letter that cancels
 
 module _ (k : Kind) (n : ℕ) (h : least k ≤ n) where
-  -- a step s at the end of a normal form strikes out the letter x
+  -- a step s at the end of a normal form deletes the letter x
   pub normal-without : (a : List ℕ) (x : ℕ) (b : List ℕ) (s : ℕ) → Normal k n (a ++ (x ∷ b)) → 1 ≤ s → s ≤ n
       → window k n (a ++ b) ≡ window k n ((a ++ (x ∷ b)) ++ (s ∷ [])) → Normal k n (a ++ b)
   normal-without a x b s m o l w = normal-if k n h (a ++ b) letters shorter earlier
@@ -122,7 +122,7 @@ module _ (k : Kind) (n : ℕ) (h : least k ≤ n) where
       (w : window k n (q ++ (x ∷ b)) ≡ window k n ((q ++ b) ++ (s ∷ []))) where
     -- no shortest word with the window begins with a letter above those of q b and q x
     blocked : (r : ℕ) (v : List ℕ) → Normal k n (r ∷ v) → window k n (r ∷ v) ≡ window k n (q ++ (x ∷ b)) → Below r (q ++ b) → Below r (q ++ (x ∷ [])) → ⊥
-    blocked r v a e f g = struck (exchange-front k n u r h (letters-snoc n (q ++ b) s (m .letters) o l) (r-in .0) (r-in .1) lower)
+    blocked r v a e f g = deleted (exchange-front k n u r h (letters-snoc n (q ++ b) s (m .letters) o l) (r-in .0) (r-in .1) lower)
       where
         u : List ℕ
         u = (q ++ b) ++ (s ∷ [])
@@ -143,15 +143,15 @@ module _ (k : Kind) (n : ℕ) (h : least k ≤ n) where
               length-of-shortest k n (r ∷ v) h (normal-shortest k n h (r ∷ v) a),
             )
 
-        struck : (i : ℕ) × Removable k n u (window k n (r ∷ u)) i → ⊥
-        struck (i, t) = elim (decLe (length (q ++ b)) i) [ yes c ↦ last c | no c ↦ inner (lt-of-not-le c) ]
+        deleted : (i : ℕ) × Removable k n u (window k n (r ∷ u)) i → ⊥
+        deleted (i, t) = elim (decLe (length (q ++ b)) i) [ yes c ↦ last c | no c ↦ inner (lt-of-not-le c) ]
           where
             inner : i < length (q ++ b) → ⊥
             inner c =
                 let d = cancel-back k n (dropAt i (q ++ b)) (r ∷ (q ++ b)) (s ∷ [])
                 (ap (window k n) (sym (dropAt-append i (q ++ b) (s ∷ []) c)) ∙ t .1) in
                 first-highest (q ++ b) m r (dropAt i (q ++ b)) f
-                (wrongLetter-cons n r _ (r-in .0) (r-in .1) ∙ part-letters n (part-of-dropAt i (q ++ b)) (m .letters))
+                (wrongLetter-cons n r _ (r-in .0) (r-in .1) ∙ subword-letters n (subword-of-dropAt i (q ++ b)) (m .letters))
                 (across k n r (dropAt i (q ++ b)) (q ++ b) d) (length-dropAt i (q ++ b) c)
 
             last : length (q ++ b) ≤ i → ⊥
@@ -168,7 +168,7 @@ module _ (k : Kind) (n : ℕ) (h : least k ≤ n) where
   -- a letter x at a place where no rule carries it on, above the letter behind it: the whole is a normal form
   module _ (a : List ℕ) (x : ℕ) (b : List ℕ) (s : ℕ) (m : Normal k n (a ++ b)) (p : Normal k n (a ++ (x ∷ [])))
       (above : Below x b) (o : 1 ≤ s) (l : s ≤ n) (w : window k n (a ++ (x ∷ b)) ≡ window k n ((a ++ b) ++ (s ∷ []))) where
-    -- if the step made the window shorter, a letter of a b could be struck out: none of a, since a x is shortest,
+    -- if the step made the window shorter, a letter of a b could be deleted: none of a, since a x is shortest,
     -- and none of b
     shorter : (v : List ℕ) → Normal k n v → window k n v ≡ window k n (a ++ (x ∷ b)) → length v < length (a ++ (x ∷ b)) → ⊥
     shorter v q e g = cases (crossed k n s (window k n (a ++ b))) refl
@@ -176,15 +176,15 @@ module _ (k : Kind) (n : ℕ) (h : least k ≤ n) where
         u : List ℕ
         u = a ++ b
 
-        struck : (i : ℕ) × Removable k n u (added k n u s) i → ⊥
-        struck (i, t) = elim (decLe (length a) i) [ yes c ↦ behind-a c | no c ↦ in-a (lt-of-not-le c) ]
+        deleted : (i : ℕ) × Removable k n u (added k n u s) i → ⊥
+        deleted (i, t) = elim (decLe (length a) i) [ yes c ↦ behind-a c | no c ↦ in-a (lt-of-not-le c) ]
           where
             in-a : i < length a → ⊥
             in-a c =
                 let d = cancel-back k n (dropAt i a) (a ++ (x ∷ [])) b
                 (ap (window k n) (sym (dropAt-append i a b c)) ∙ t .1 ∙ sym w ∙ ap (window k n) (sym (append-snoc a x b))) in
                 let y = normal-shortest k n h (a ++ (x ∷ [])) p .none-shorter (dropAt i a)
-                (part-letters n (part-of-dropAt i a) (letters-left n a b (m .letters))) d in
+                (subword-letters n (subword-of-dropAt i a) (letters-left n a b (m .letters))) d in
                 omega (arith, length-append a (x ∷ []), length-dropAt i a c)
 
             behind-a : length a ≤ i → ⊥
@@ -194,7 +194,7 @@ module _ (k : Kind) (n : ℕ) (h : least k ≤ n) where
                 let d = cancel-front k n a (dropAt j b) (x ∷ b) (ap (window k n) (sym (dropAt-behind a b i c)) ∙ t .1 ∙ sym w) in
                 let z = letter-within-cons n x [] (letters-right n a (x ∷ []) (p .letters)) in
                 first-highest b (normal-back k n h a b m) x (dropAt j b) above
-                (wrongLetter-cons n x _ (z .0) (z .1) ∙ part-letters n (part-of-dropAt j b) (letters-right n a b (m .letters)))
+                (wrongLetter-cons n x _ (z .0) (z .1) ∙ subword-letters n (subword-of-dropAt j b) (letters-right n a b (m .letters)))
                 (across k n x (dropAt j b) b d) (length-dropAt j b f)
 
         long : windowLength k (window k n u) ≡ length u
@@ -206,7 +206,7 @@ module _ (k : Kind) (n : ℕ) (h : least k ≤ n) where
         cases : (t : Bool) → crossed k n s (window k n u) ≡ t → ⊥
         cases true d =
             let y = length-of-crossed k n s (window k n u) h o l (window-accepted k n u) d in
-            struck (exchange k n u s h (m .letters) o l (omega (arith, ap (windowLength k) (window-snoc k n u s))))
+            deleted (exchange k n u s h (m .letters) o l (omega (arith, ap (windowLength k) (window-snoc k n u s))))
         cases false d =
             let y = length-of-uncrossed k n s (window k n u) h o l (window-accepted k n u) d in
             omega (arith, ap (windowLength k) (window-snoc k n u s), long, short, length-append a (x ∷ b), length-append a b)

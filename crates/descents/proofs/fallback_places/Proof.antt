@@ -1,7 +1,7 @@
 -- `fallback_places` goes by its checks in their order, and then by the verdict on the two words.
 -- Assumes nothing.
 use Rattle.coxeter.proofs.Acceptance.{words-accepted}
-use Rattle.shortest_words.proofs.Verdicts.{fellBack-refused, fellBack-settled}
+use Rattle.shortest_words.proofs.Verdicts.{fellBack-refused, fellBack-decided}
 use borrow.Author.Needs.{needs}
 use Rattle.descents.proofs.fallback_places.Statement.{statement}
 use Rattle.descents.proofs.fallback_places.Tie as tie
@@ -14,8 +14,8 @@ returns c =
     let b = c .before in
     fellBack-refused _ _ _ _ _ _ (b .ranked-words-refusal .ensures) (c .if1 .taken)
 
-settle-words-requires : tie.Need-settle-words-requires
-settle-words-requires c κs =
+decide-words-requires : tie.Need-decide-words-requires
+decide-words-requires c κs =
     let b = c .before .before in
     words-accepted _ _ _ _ _ (b .ranked-words-refusal .ensures) (c .before .if1 .left)
 
@@ -25,10 +25,10 @@ same-length c = search needs
 returns-2 : tie.Need-returns-2
 returns-2 c =
     let b = c .before .before .before .before .before in
-    fellBack-settled _ _ _ _ _ _ (b .ranked-words-refusal .ensures) _ _ (c .before .before .before .before .if1 .left)
-    (c .before .before .settle-words .ensures)
+    fellBack-decided _ _ _ _ _ _ (b .ranked-words-refusal .ensures) _ _ (c .before .before .before .before .if1 .left)
+    (c .before .before .decide-words .ensures)
 
 pub fallback-places-spec : {M : Type 1} → statement M
 fallback-places-spec =
     tie.close
-    (tie.spec ranked-words-refusal-requires returns settle-words-requires same-length returns-2)
+    (tie.spec ranked-words-refusal-requires returns decide-words-requires same-length returns-2)

@@ -30,7 +30,7 @@ use Rattle.shortest_words.specs.declared.Split.{Split}
 use Rattle.shortest_words.specs.declared.Split.the-variants.{Words, Refused}
 use Rattle.shortest_words.specs.Allowed.{allows}
 use Rattle.shortest_words.specs.Split.{firstWord, secondWord}
-use Rattle.shortest_words.specs.SplitCalls.{parts, SplitYields}
+use Rattle.shortest_words.specs.SplitCalls.{splitOutcome, SplitYields}
 use Rattle.shortest_words.proofs.Shortest.{windowLength-inverse}
 use Rattle.shortest_words.proofs.SplitOutcomes.{first-short, second-short, parts-written}
 use Rattle.shortest_words.proofs.Stripping.{Strips, rest-accepted, split-by-strips}
@@ -71,7 +71,7 @@ checks-pass k n u v h a b = then-none _ _ h ∙ then-none _ _ a ∙ b
 
 -- two words u and v, each to the front of its output: t says whether the second has room
 module _ (u v first second : List ℕ) (t : Bool) (e : t ≡ leb (length v) (length second)) where
-  pub second-lacks : not t ≡ true → SplitYields (parts 0 u v first second) (Refused 14) first second
+  pub second-lacks : not t ≡ true → SplitYields (splitOutcome 0 u v first second) (Refused 14) first second
   second-lacks f =
       let l : length second < length v = leb-false (length v) (length second) (sym e ∙ not-true t f) in
       elim (decLe (length u) (length first)) [
@@ -84,7 +84,7 @@ module _ (u v first second : List ℕ) (t : Bool) (e : t ≡ leb (length v) (len
     fits : length v ≤ length second
     fits = leb-true (length v) (length second) (sym e ∙ not-false t f)
 
-    pub first-lacks : (s : ℕ) → a ≡ answer.Refused s → SplitYields (parts 0 u v first second) (Refused 14) x second
+    pub first-lacks : (s : ℕ) → a ≡ answer.Refused s → SplitYields (splitOutcome 0 u v first second) (Refused 14) x second
     first-lacks s q =
         let d = told-refused r u first x a z p s q in
         rw (d .1) (first-short u v first second (length u) 0 refl (d .0))
@@ -93,7 +93,7 @@ module _ (u v first second : List ℕ) (t : Bool) (e : t ≡ leb (length v) (len
       pub second-never : (s : ℕ) → b ≡ answer.Refused s → ⊥
       second-never s q = omega (arith, told-refused o v second y b w g s q .0, fits)
 
-      pub both-written : (l m : ℕ) → a ≡ answer.Length l → b ≡ answer.Length m → SplitYields (parts 0 u v first second) (Words l m) x y
+      pub both-written : (l m : ℕ) → a ≡ answer.Length l → b ≡ answer.Length m → SplitYields (splitOutcome 0 u v first second) (Words l m) x y
       both-written l m i j =
           let c = told-length r u first x a z p l i in
           let d = told-length o v second y b w g m j in
@@ -115,8 +115,8 @@ module _ (k n set : ℕ) (w v : List ℤ) (h : RankOf k n) (a : WindowOf (kindOf
         (h, (a, refusal-of-accepted (kindOf k) n x (rest-accepted (allows set) (kindOf k) n w x o c stripped)))
 
     pub parts-are : (first second : List ℕ) (r : Split) (i j : List ℕ)
-        → SplitYields (parts 0 (normalForm (kindOf k) n (product w x)) (normalForm (kindOf k) n (inverse x)) first second) r i j
-        → SplitYields (parts 0 (firstWord (allows set) (kindOf k) n w) (secondWord (allows set) (kindOf k) n w) first second) r i j
+        → SplitYields (splitOutcome 0 (normalForm (kindOf k) n (product w x)) (normalForm (kindOf k) n (inverse x)) first second) r i j
+        → SplitYields (splitOutcome 0 (firstWord (allows set) (kindOf k) n w) (secondWord (allows set) (kindOf k) n w) first second) r i j
     parts-are first second r i j t =
         let e = split-by-strips (allows set) (kindOf k) n w (rank-accepted k n h .0) (accepted-of-refusal (kindOf k) n w a) x stripped in
         rw (← e .0, ← e .1) t
@@ -127,8 +127,8 @@ module _ (k n set : ℕ) (u : List ℕ) (w : List ℤ) (p : w ≡ window (kindOf
   window-asked h = (h, rw p (window-passes (kindOf k) n u))
 
   pub words-are : (first second : List ℕ) (r : Split) (y z : List ℕ)
-      → SplitYields (parts 0 (firstWord (allows set) (kindOf k) n w) (secondWord (allows set) (kindOf k) n w) first second) r y z
-      → SplitYields (parts 0 (firstWord (allows set) (kindOf k) n (window (kindOf k) n u))
+      → SplitYields (splitOutcome 0 (firstWord (allows set) (kindOf k) n w) (secondWord (allows set) (kindOf k) n w) first second) r y z
+      → SplitYields (splitOutcome 0 (firstWord (allows set) (kindOf k) n (window (kindOf k) n u))
       (secondWord (allows set) (kindOf k) n (window (kindOf k) n u)) first second)
       r y z
   words-are first second r y z s = rw (← p) s

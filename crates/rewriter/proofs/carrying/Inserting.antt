@@ -1,7 +1,7 @@
 -- What `carrying::turn` and `carrying::insert` do: the rule that the search hands on is the step of the rewriting,
--- which is noted and made. Where there is none, or an equal letter is struck out, what stands is a normal form.
+-- which is noted and made. Where there is none, or an equal letter is deleted, what stands is a normal form.
 --
--- Sections: the rule that was found; no rule; a letter struck out; a letter carried on; turn after turn.
+-- Sections: the rule that was found; no rule; a letter deleted; a letter carried on; turn after turn.
 -- Assumes nothing.
 use mathlib.Core.Path.{_≡_, refl, sym, ap, subst, _∙_}
 use mathlib.Core.List.{List, _++_}
@@ -63,17 +63,17 @@ module _ {k : Kind} {n : ℕ} {rest : List ℕ} {s : ℕ} {families places lengt
     pub turn-place : p < q
     turn-place = omega (arith, reading-lower k n (a .rank) word q (a .reading) (have .step) (have .is), have .place)
 
-    -- ---- a letter struck out
+    -- ---- a letter deleted
 
     pub turn-pair : f ≡ 1 → p + 2 ≤ length word
     turn-pair c =
         let d = after-dropped k n (a .rank) word q (a .reading) (have .step) (have .is) (have .family ∙ c) in
         omega (arith, d .0, have .place, ready-inside a)
 
-    pub turn-struck : (families′ places′ lengths′ word′ : List ℕ) → f ≡ 1 → families′ ≡ set families s 1 → places′ ≡ set places s p
+    pub turn-deleted : (families′ places′ lengths′ word′ : List ℕ) → f ≡ 1 → families′ ≡ set families s 1 → places′ ≡ set places s p
         → lengths′ ≡ set lengths s (length word - 2 + length rest) → take (length word - 2) word′ ≡ take p word ++ drop (p + 2) word
         → Inserted k n rest s families places lengths word (s + 1) families′ places′ lengths′ word′ (length word - 2)
-    turn-struck families′ places′ lengths′ word′ c i j l w =
+    turn-deleted families′ places′ lengths′ word′ c i j l w =
         let d = after-dropped k n (a .rank) word q (a .reading) (have .step) (have .is) (have .family ∙ c) in
         let g : p + 2 ≡ suc q = omega (arith, d .0, have .place) in
         let v : take (length word - 2) word′ ≡ take (have .step .place) word ++ drop (suc q) word = rw (have .place, ← g) w in

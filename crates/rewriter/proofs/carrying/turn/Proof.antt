@@ -3,7 +3,7 @@
 -- Assumes nothing.
 use native.Mathlib.Omega.{arith}
 use Rattle.rewriter.proofs.carrying.Passing.{ready-inside}
-use Rattle.rewriter.proofs.carrying.Inserting.{turn-none, turn-place, turn-pair, turn-struck, turn-carried, moved-ended, moved-carried}
+use Rattle.rewriter.proofs.carrying.Inserting.{turn-none, turn-place, turn-pair, turn-deleted, turn-carried, moved-ended, moved-carried}
 use borrow.Author.Needs.{needs}
 use Rattle.rewriter.proofs.carrying.turn.Statement.{statement}
 use Rattle.rewriter.proofs.carrying.turn.Tie as tie
@@ -59,8 +59,8 @@ note-requires c κs =
     let p = turn-place a _ _ _ _ (r .ending-rule .ensures) (f .family .given .1) in
     ((a .as-places, a .as-lengths), (omega (arith, p, ready-inside a, a .short), omega (arith, a .short)))
 
-strike-requires : tie.Need-strike-requires
-strike-requires c κs =
+delete-requires : tie.Need-delete-requires
+delete-requires c κs =
     let i = is-pair (c .before .before .before .before .before .before .before) in
     let f = i .before .before in
     let r = searched f in
@@ -88,8 +88,8 @@ returns-2 c =
     let i = is-pair n in
     let f = i .before .before in
     let r = searched f in
-    let d = turn-struck (start r .pre .0) _ _ _ _ (r .ending-rule .ensures) (f .family .given .1) _ _ _ _ (i .if1 .taken)
-    (n .note .ensures .0) (n .note .ensures .1) (n .note .ensures .2) (t .strike .ensures) in
+    let d = turn-deleted (start r .pre .0) _ _ _ _ (r .ending-rule .ensures) (f .family .given .1) _ _ _ _ (i .if1 .taken)
+    (n .note .ensures .0) (n .note .ensures .1) (n .note .ensures .2) (t .delete .ensures) in
     (omega arith, moved-ended d)
 
 add-note-2 : tie.Need-add-note-2
@@ -149,7 +149,7 @@ turn-spec =
     sub-left
     add-note
     note-requires
-    strike-requires
+    delete-requires
     add-t27
     same-length-2
     same-length-3

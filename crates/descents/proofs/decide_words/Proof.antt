@@ -1,10 +1,10 @@
--- `settle_words` walks through the normal form of the present word towards the simpler window.
+-- `decide_words` walks through the normal form of the present word towards the simpler window.
 -- Assumes nothing.
 use mathlib.Core.Path.{refl, sym, _∙_}
-use Rattle.descents.proofs.Fallbacks.{part-length, part-is, words-settle-requires, words-settled}
+use Rattle.descents.proofs.Fallbacks.{part-length, part-is, words-decide-requires, words-decided}
 use borrow.Author.Needs.{needs}
-use Rattle.descents.proofs.settle_words.Statement.{statement}
-use Rattle.descents.proofs.settle_words.Tie as tie
+use Rattle.descents.proofs.decide_words.Statement.{statement}
+use Rattle.descents.proofs.decide_words.Tie as tie
 
 lanes-requires : tie.Need-lanes-requires
 lanes-requires c κs = search needs
@@ -30,25 +30,25 @@ write-form-requires c κs = search needs
 array-borrow-prefix-form : tie.Need-array-borrow-prefix-form
 array-borrow-prefix-form c = search needs
 
-slice-aggregate-settle : tie.Need-slice-aggregate-settle
-slice-aggregate-settle c =
+slice-aggregate-decide : tie.Need-slice-aggregate-decide
+slice-aggregate-decide c =
     let b = c .before .before in
     part-length _ _ _ _ _ (b .write-form .ensures) refl (b .before .before .no-letters .ensures ∙ sym (b .write-form .kept .1 .1 .1 .0))
 
 array-borrow-prefix-target : tie.Need-array-borrow-prefix-target
 array-borrow-prefix-target c = search needs
 
-slice-aggregate-settle-2 : tie.Need-slice-aggregate-settle-2
-slice-aggregate-settle-2 c =
+slice-aggregate-decide-2 : tie.Need-slice-aggregate-decide-2
+slice-aggregate-decide-2 c =
     let b = c .before .before .before .before .before .before .before in
     part-length _ _ _ _ _ (b .show .ensures .1) (b .before .before .before .lanes .ensures) (b .show .ensures .0)
 
-settle-requires : tie.Need-settle-requires
-settle-requires c κs =
+decide-requires : tie.Need-decide-requires
+decide-requires c κs =
     let f = c .before .before .before .before in
     let b = f .before .before .before .before in
     let counted = b .before .before .before in
-    words-settle-requires _ _ _ _ _ _ (part-is _ _ _ _ _ (f .write-form .ensures) refl) (part-is _ _ _ _ _ (b .show .ensures .1) (counted .lanes .ensures))
+    words-decide-requires _ _ _ _ _ _ (part-is _ _ _ _ _ (f .write-form .ensures) refl) (part-is _ _ _ _ _ (b .show .ensures .1) (counted .lanes .ensures))
     (counted .before .before .before .before .pre .0)
 
 same-length : tie.Need-same-length
@@ -59,11 +59,11 @@ returns c =
     let f = c .before .before .before .before .before .before .before .before .before in
     let b = f .before .before .before .before in
     let lanes = b .before .before .before .lanes .ensures in
-    words-settled _ _ _ _ _ _ (part-is _ _ _ _ _ (f .write-form .ensures) refl) (part-is _ _ _ _ _ (b .show .ensures .1) lanes)
-    _ _ _ (c .before .before .before .before .settle .ensures)
+    words-decided _ _ _ _ _ _ (part-is _ _ _ _ _ (f .write-form .ensures) refl) (part-is _ _ _ _ _ (b .show .ensures .1) lanes)
+    _ _ _ (c .before .before .before .before .decide .ensures)
 
-pub settle-words-spec : {M : Type 1} → statement M
-settle-words-spec =
+pub decide-words-spec : {M : Type 1} → statement M
+decide-words-spec =
     tie.close
     (tie.spec
     lanes-requires
@@ -74,9 +74,9 @@ settle-words-spec =
     slice-aggregate-write-form
     write-form-requires
     array-borrow-prefix-form
-    slice-aggregate-settle
+    slice-aggregate-decide
     array-borrow-prefix-target
-    slice-aggregate-settle-2
-    settle-requires
+    slice-aggregate-decide-2
+    decide-requires
     same-length
     returns)

@@ -1,4 +1,4 @@
--- `steps::uncross_signs` swaps two neighbours with their signs changed, where the first stands later than minus
+-- `steps::take_swap_negate_descent` swaps two neighbours with their signs changed, where the first stands later than minus
 -- the second.
 -- Assumes nothing.
 use mathlib.Core.Path.{refl}
@@ -8,8 +8,8 @@ use lib.IntN.{pos}
 use lib.ListN.{getD}
 use Rattle.descents.proofs.steps.Descents.{later-negated-told, negated-fits, set-eq-swapped}
 use borrow.Author.Needs.{needs}
-use Rattle.descents.proofs.steps.uncross_signs.Statement.{statement}
-use Rattle.descents.proofs.steps.uncross_signs.Tie as tie
+use Rattle.descents.proofs.steps.take_swap_negate_descent.Statement.{statement}
+use Rattle.descents.proofs.steps.take_swap_negate_descent.Tie as tie
 
 slice-copy-out-a : tie.Need-slice-copy-out-a
 slice-copy-out-a c = search needs
@@ -61,8 +61,8 @@ returns-2 c =
     let y = getD (now (d .args .w)) (d .args .p + 1) (pos 0) in
     (later-negated-told _ y _ _ (b .before .before .a .given) (b .before .b .given) (d .pre .1 .1) (b .is-later .ensures) (c .if1 .left), refl)
 
-pub uncross-signs-spec : {M : Type 1} → statement M
-uncross-signs-spec =
+pub take-swap-negate-descent-spec : {M : Type 1} → statement M
+take-swap-negate-descent-spec =
     tie.close
     (tie.spec
     slice-copy-out-a

@@ -1,4 +1,4 @@
--- The verdict that `walk::settle` reaches, from what keeping letters left of the word and of the target.
+-- The verdict that `walk::decide` reaches, from what keeping letters left of the word and of the target.
 -- Assumes nothing.
 use mathlib.Core.Path.{_≡_, ap, _∙_}
 use mathlib.Core.Bool.{Bool, true, false}
@@ -15,11 +15,11 @@ use Rattle.coxeter.proofs.Acceptance.{Ranked, rank-accepted, letters-accepted, 
 use Rattle.coxeter.proofs.Levels.{Accepted, accepted-of-refusal}
 use Rattle.shortest_words.specs.declared.Fallback.the-variants.{Kept, No, Refused}
 use Rattle.shortest_words.proofs.Walk.{leftOver, placesKept, marked}
-use Rattle.shortest_words.proofs.Verdicts.{Settled, settled-no, settled-short, settled-kept}
+use Rattle.shortest_words.proofs.Verdicts.{Decided, decided-no, decided-short, decided-kept}
 
--- what `settle` requires
-abbrev pub SettleRequires : ℕ → ℕ → List ℕ → List ℤ → Type 0
-SettleRequires k n u w = RankOf k n × (WordOf n u × WindowOf (kindOf k) n w)
+-- what `decide` requires
+abbrev pub DecideRequires : ℕ → ℕ → List ℕ → List ℤ → Type 0
+DecideRequires k n u w = RankOf k n × (WordOf n u × WindowOf (kindOf k) n w)
 
 -- and what `keep_letters` ensures
 abbrev pub LettersKept : ℕ → ℕ → List ℕ → List ℤ → List ℕ → List ℤ → ℕ → Type 0
@@ -28,7 +28,7 @@ LettersKept k n u w f x m =
     × (marked 0 f ≡ placesKept (kindOf k) n u (length u) w [])
     × (x ≡ leftOver (kindOf k) n u (length u) w)
 
-module _ (k n : ℕ) (u : List ℕ) (w : List ℤ) (h : SettleRequires k n u w) where
+module _ (k n : ℕ) (u : List ℕ) (w : List ℤ) (h : DecideRequires k n u w) where
   pub keep-requires : Ranked (kindOf k) n × (WordOf n u × WindowOf (kindOf k) n w)
   keep-requires = (rank-accepted k n (h .0), h .1)
 
@@ -47,14 +47,14 @@ module _ (k n : ℕ) (u : List ℕ) (w : List ℤ) (h : SettleRequires k n u w) 
     ends : t ≡ sameWindow x (identity (lanes (kindOf k) n))
     ends = s ∙ ap (λ (l : ℕ). sameWindow x (identity l)) (e ∙ accepted .size)
 
-    pub settle-no : t ≡ false → Settled (kindOf k) n u w places No places
-    settle-no z = settled-no (kindOf k) n u w places (rank-accepted k n (h .0) .0) letters accepted x t (g .2) ends z
+    pub decide-no : t ≡ false → Decided (kindOf k) n u w places No places
+    decide-no z = decided-no (kindOf k) n u w places (rank-accepted k n (h .0) .0) letters accepted x t (g .2) ends z
 
-    pub settle-short : t ≡ true → length places < m → Settled (kindOf k) n u w places (Refused 14) places
-    settle-short z =
-        settled-short (kindOf k) n u w places (rank-accepted k n (h .0) .0) letters accepted x t (g .2) ends z (marked 0 f) m (g .1) (g .0)
+    pub decide-short : t ≡ true → length places < m → Decided (kindOf k) n u w places (Refused 14) places
+    decide-short z =
+        decided-short (kindOf k) n u w places (rank-accepted k n (h .0) .0) letters accepted x t (g .2) ends z (marked 0 f) m (g .1) (g .0)
 
-    pub settle-kept : (after : List ℕ) → t ≡ true → m ≤ length places → after ≡ written 0 (marked 0 f) places
-        → Settled (kindOf k) n u w places (Kept m) after
-    settle-kept after z =
-        settled-kept (kindOf k) n u w places (rank-accepted k n (h .0) .0) letters accepted x t (g .2) ends z (marked 0 f) m (g .1) (g .0) after
+    pub decide-kept : (after : List ℕ) → t ≡ true → m ≤ length places → after ≡ written 0 (marked 0 f) places
+        → Decided (kindOf k) n u w places (Kept m) after
+    decide-kept after z =
+        decided-kept (kindOf k) n u w places (rank-accepted k n (h .0) .0) letters accepted x t (g .2) ends z (marked 0 f) m (g .1) (g .0) after

@@ -1,4 +1,4 @@
--- `steps::uncross_sign` changes the sign of an entry where it is negative.
+-- `steps::take_negate_descent` changes the sign of an entry where it is negative.
 -- Assumes nothing.
 use mathlib.Core.Path.{refl}
 use denote.Ref.{now}
@@ -6,8 +6,8 @@ use lib.IntN.{pos}
 use lib.ListN.{getD}
 use Rattle.descents.proofs.steps.Descents.{negative-told, negated-fits, set-eq-negated}
 use borrow.Author.Needs.{needs}
-use Rattle.descents.proofs.steps.uncross_sign.Statement.{statement}
-use Rattle.descents.proofs.steps.uncross_sign.Tie as tie
+use Rattle.descents.proofs.steps.take_negate_descent.Statement.{statement}
+use Rattle.descents.proofs.steps.take_negate_descent.Tie as tie
 
 slice-copy-out-a : tie.Need-slice-copy-out-a
 slice-copy-out-a c = search needs
@@ -36,8 +36,8 @@ returns c =
 returns-2 : tie.Need-returns-2
 returns-2 c = (negative-told _ _ _ (c .before .before .a .given) (c .before .is-negative .ensures) (c .if1 .left), refl)
 
-pub uncross-sign-spec : {M : Type 1} → statement M
-uncross-sign-spec =
+pub take-negate-descent-spec : {M : Type 1} → statement M
+take-negate-descent-spec =
     tie.close
     (tie.spec
     slice-copy-out-a

@@ -1,11 +1,11 @@
--- `steps::uncross_pair` swaps two neighbours where they are crossed.
+-- `steps::take_swap_descent` swaps two neighbours where they are crossed.
 -- Assumes nothing.
 use mathlib.Core.Path.{refl}
 use Rattle.window.proofs.ByteSteps.{set-eq-swap}
 use Rattle.descents.proofs.steps.Descents.{later-told}
 use borrow.Author.Needs.{needs}
-use Rattle.descents.proofs.steps.uncross_pair.Statement.{statement}
-use Rattle.descents.proofs.steps.uncross_pair.Tie as tie
+use Rattle.descents.proofs.steps.take_swap_descent.Statement.{statement}
+use Rattle.descents.proofs.steps.take_swap_descent.Tie as tie
 
 slice-copy-out-a : tie.Need-slice-copy-out-a
 slice-copy-out-a c = search needs
@@ -43,8 +43,8 @@ returns-2 c =
     let b = c .before in
     (later-told _ _ _ _ (b .before .before .a .given) (b .before .b .given) (b .is-later .ensures) (c .if1 .left), refl)
 
-pub uncross-pair-spec : {M : Type 1} → statement M
-uncross-pair-spec =
+pub take-swap-descent-spec : {M : Type 1} → statement M
+take-swap-descent-spec =
     tie.close
     (tie.spec
     slice-copy-out-a

@@ -1,12 +1,12 @@
--- `walk::settle` decides by what is left of the target: straight, and then the places are written where there is
+-- `walk::decide` decides by what is left of the target: straight, and then the places are written where there is
 -- room, or not.
 -- Assumes nothing.
 use native.Mathlib.Omega.{arith}
 use borrow.Author.Needs.{needs}
 use Rattle.coxeter.proofs.Acceptance.{length-accepted}
-use Rattle.descents.proofs.walk.Settling.{keep-requires, left-length, settle-no, settle-short, settle-kept}
-use Rattle.descents.proofs.walk.settle.Statement.{statement}
-use Rattle.descents.proofs.walk.settle.Tie as tie
+use Rattle.descents.proofs.walk.Deciding.{keep-requires, left-length, decide-no, decide-short, decide-kept}
+use Rattle.descents.proofs.walk.decide.Statement.{statement}
+use Rattle.descents.proofs.walk.decide.Tie as tie
 
 keep-letters-requires : tie.Need-keep-letters-requires
 keep-letters-requires c κs = keep-requires _ _ _ _ (c .before .before .before .before .pre)
@@ -25,7 +25,7 @@ same-length-2 c = search needs
 returns : tie.Need-returns
 returns c =
     let b = c .before .before .before .before .before .before .before in
-    settle-short _ _ _ _ (b .before .before .before .before .before .pre) _ _ _ (b .keep-letters .ensures) (b .keep-letters .kept .1 .1 .1 .0) _
+    decide-short _ _ _ _ (b .before .before .before .before .before .pre) _ _ _ (b .keep-letters .ensures) (b .keep-letters .kept .1 .1 .1 .0) _
     (c .before .before .is-identity .ensures) _ (c .before .if1 .taken) (c .if2 .taken)
 
 write-places-requires : tie.Need-write-places-requires
@@ -47,7 +47,7 @@ returns-2 : tie.Need-returns-2
 returns-2 c =
     let d = c .before .before .before .before .before .before in
     let b = d .before .before .before .before .before .before in
-    settle-kept _ _ _ _ (b .before .before .before .before .before .pre) _ _ _ (b .keep-letters .ensures) (b .keep-letters .kept .1 .1 .1 .0) _
+    decide-kept _ _ _ _ (b .before .before .before .before .before .pre) _ _ _ (b .keep-letters .ensures) (b .keep-letters .kept .1 .1 .1 .0) _
     (d .before .is-identity .ensures) _ _ (d .if1 .taken) (c .before .before .before .before .before .if2 .left) (c .before .before .write-places .ensures)
 
 same-length-6 : tie.Need-same-length-6
@@ -59,11 +59,11 @@ same-length-7 c = search needs
 returns-3 : tie.Need-returns-3
 returns-3 c =
     let b = c .before .before .before .before .before .before in
-    settle-no _ _ _ _ (b .before .before .before .before .before .pre) _ _ _ (b .keep-letters .ensures) (b .keep-letters .kept .1 .1 .1 .0) _
+    decide-no _ _ _ _ (b .before .before .before .before .before .pre) _ _ _ (b .keep-letters .ensures) (b .keep-letters .kept .1 .1 .1 .0) _
     (c .before .is-identity .ensures) _ (c .if1 .left)
 
-pub settle-spec : {M : Type 1} → statement M
-settle-spec =
+pub decide-spec : {M : Type 1} → statement M
+decide-spec =
     tie.close
     (tie.spec
     keep-letters-requires

@@ -1,15 +1,15 @@
--- `carrying::strike` moves the letters behind two by two places, from the first to the last.
+-- `carrying::delete` moves the letters behind two by two places, from the first to the last.
 -- Assumes nothing.
 use Prim.Native.Nat.{_-_}
 use native.Mathlib.Omega.{arith}
 use lib.ListN.{length, length-set}
-use Rattle.rewriter.proofs.carrying.Shifting.{Struck, struck-start, struck-next, struck-end}
+use Rattle.rewriter.proofs.carrying.Shifting.{Deleted, deleted-start, deleted-next, deleted-end}
 use borrow.Author.Needs.{needs}
-use Rattle.rewriter.proofs.carrying.strike.Statement.{statement}
-use Rattle.rewriter.proofs.carrying.strike.Tie as tie
+use Rattle.rewriter.proofs.carrying.delete.Statement.{statement}
+use Rattle.rewriter.proofs.carrying.delete.Tie as tie
 
 abbrev Inv-loop : tie.InvT-loop
-Inv-loop word₀ place t₀ word t = Struck word₀ place word t
+Inv-loop word₀ place t₀ word t = Deleted word₀ place word t
 
 abbrev μ-loop : tie.MeasureT-loop
 μ-loop word₀ place t₀ word t = length word - t
@@ -18,7 +18,7 @@ add-t : tie.Need-add-t Inv-loop μ-loop
 add-t c = search needs
 
 loop-holds : tie.Need-loop-holds Inv-loop μ-loop
-loop-holds c = struck-start _ _ (c .pre)
+loop-holds c = deleted-start _ _ (c .pre)
 
 slice-read-word : tie.Need-slice-read-word Inv-loop μ-loop
 slice-read-word c = search needs
@@ -40,16 +40,16 @@ loop-less c =
 loop-again : tie.Need-loop-again Inv-loop μ-loop
 loop-again c =
     let b = c .before in
-    struck-next _ _ _ _ (b .before .loop .inv) (b .loop-test .taken)
+    deleted-next _ _ _ _ (b .before .loop .inv) (b .loop-test .taken)
 
 same-length : tie.Need-same-length Inv-loop μ-loop
 same-length c = c .before .loop .inv .size
 
 returns : tie.Need-returns Inv-loop μ-loop
-returns c = struck-end _ _ _ _ (c .before .loop .inv) (c .loop-test .left)
+returns c = deleted-end _ _ _ _ (c .before .loop .inv) (c .loop-test .left)
 
-pub strike-spec : {M : Type 1} → statement M
-strike-spec =
+pub delete-spec : {M : Type 1} → statement M
+delete-spec =
     tie.close
     (tie.spec
     Inv-loop
