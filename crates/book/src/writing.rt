@@ -19,7 +19,7 @@ ghost use Prim.Native.Nat.{_+_, _*_, _≤_};
 ghost use lib.ListN.{length, take, drop};
 ghost use lib.Seq.{sets};
 ghost use Rattle.coxeter.specs.Kinds.{kindOf, lanes};
-ghost use Rattle.book_format.specs.Books.{two, headSize, bookRefusal, recordOf, added, appended, appendRefusal};
+ghost use Rattle.book_format.specs.Books.{two, headSize, bookRefusal, recordOf, addedSize, appended, appendRefusal};
 ghost use Rattle.book_format.specs.Calls.{appending};
 ghost use Rattle.book_format.proofs.BookLaws.{bookSize};
 
@@ -79,7 +79,7 @@ fn write_trailer(book: &[u8], trailer: usize, c: usize, out: &mut [u8], p: usize
 // The new book written to the front of `out`.
 fn write_appended(edition: Edition, book: &[u8], kind: u8, rank: u8, word: &[u8], out: &mut [u8])
     requires { ⌜ (bookRefusal edition (now book) ≡ 0) × (rank ≤ 64) ⌝ }
-    requires { ⌜ bookSize (now book) + added edition (now word) ≤ length (now out) ⌝ }
+    requires { ⌜ bookSize (now book) + addedSize edition (now word) ≤ length (now out) ⌝ }
     ensures { λ _. ⌜ now (out .exit) ≡ sets (now (out .entry)) 0 (appended edition (now (book .entry)) kind rank (now (word .entry))) ⌝ }
 {
     let c = count_of(book);

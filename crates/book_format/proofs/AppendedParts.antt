@@ -15,7 +15,7 @@ use Rattle.book_format.specs.declared.Edition.{Edition}
 use Rattle.book_format.specs.declared.Edition.the-variants.{First, Second}
 use Rattle.coxeter.specs.Kinds.{kindOf, lanes}
 use Rattle.book_format.specs.Books.{twoAt, two, count, trailer, offset, kindAt, rankAt, lanesAt, letterCountAt, lettersAt, endAt}
-use Rattle.book_format.specs.Books.{laneByte, recordOf, appended, countPlace, headSize, added}
+use Rattle.book_format.specs.Books.{laneByte, recordOf, appended, countPlace, headSize, addedSize}
 use Rattle.book_format.proofs.BookLaws.{Accepted, bookSize, trailer-le, trailer-read, two-le-countPlace}
 use Rattle.book_format.proofs.WritingLaws.{length-two, length-laneByte, length-recordOf, length-appended}
 
@@ -107,7 +107,7 @@ lanesAt-of : (ed : Edition) (m x y : List ℕ) (o k n : ℕ) → m ≡ x ++ (k �
 lanesAt-of First m x y o k n e f p q = rw (p, q)
 lanesAt-of Second m x y o k n e f p q = rw e (getD-past x (k ∷ n ∷ (lane Second k n ++ y)) o 2 f)
 
-module _ (ed : Edition) (b : List ℕ) (k n : ℕ) (u : List ℕ) (a : Accepted ed b) (small : bookSize b + added ed u ≤ 65535) where
+module _ (ed : Edition) (b : List ℕ) (k n : ℕ) (u : List ℕ) (a : Accepted ed b) (small : bookSize b + addedSize ed u ≤ 65535) where
   -- ---- numbers of the new book
 
   pub count-appended : count (appended ed b k n u) ≡ count b + 1

@@ -20,7 +20,7 @@ use Rattle.book_format.specs.declared.Edition.{Edition}
 use Rattle.book_format.specs.declared.Preset.the-variants as preset
 use Rattle.book_format.specs.Books.{count, trailer, offset, kindAt, rankAt, lanesAt, letterCountAt}
 use Rattle.book_format.specs.Books.{lettersAt, endAt, misplacedFrom, misplaced, wrongLaneCount, bookRankRefusal, bookRefusal}
-use Rattle.book_format.specs.Books.{recordRefusal, presetRefusal, appended, appendRefusal, headSize, added}
+use Rattle.book_format.specs.Books.{recordRefusal, presetRefusal, appended, appendRefusal, headSize, addedSize}
 use Rattle.book_format.specs.Calls.{presetOf, presetAt, checkedPreset, lettersOf, Grown}
 use Rattle.book_format.proofs.BookLaws.{Accepted, accepted, bookSize, first, bookRefusal-walk, endAt-offset-le}
 use Rattle.book_format.proofs.PresetLaws.{presetRefusal-record}
@@ -52,7 +52,7 @@ pub bookRefusal-none : (ed : Edition) (m : List ℕ) → 2 ≤ length m → leng
 unfolding count
 bookRefusal-none ed m h g f e = bookRefusal-walk ed m (count m) (misplaced ed m) h g refl f refl ∙ ap (check 3) e
 
-module _ (ed : Edition) (b : List ℕ) (k n : ℕ) (u : List ℕ) (a : Accepted ed b) (small : bookSize b + added ed u ≤ 65535) where
+module _ (ed : Edition) (b : List ℕ) (k n : ℕ) (u : List ℕ) (a : Accepted ed b) (small : bookSize b + addedSize ed u ≤ 65535) where
   walk-appended : (j i o : ℕ) → i + j ≡ count b → misplacedFrom ed b j i o ≡ false → misplacedFrom ed (appended ed b k n u) (suc j) i o ≡ false
   walk-appended zero i o s e =
       let z : o ≡ trailer b = walk-end ed b i o e in
@@ -97,7 +97,7 @@ lettersOf-same : (ed : Edition) (l m : List ℕ) (i o : ℕ) → presetRefusal e
 unfolding lettersOf
 lettersOf-same ed l m i o e f g p = rw (e, f, g, p)
 
-module _ (ed : Edition) (b : List ℕ) (k n : ℕ) (u : List ℕ) (z : bookRefusal ed b ≡ 0) (small : bookSize b + added ed u ≤ 65535) (i : ℕ) (h : i < count b) where
+module _ (ed : Edition) (b : List ℕ) (k n : ℕ) (u : List ℕ) (z : bookRefusal ed b ≡ 0) (small : bookSize b + addedSize ed u ≤ 65535) (i : ℕ) (h : i < count b) where
   presetRefusal-appended : presetRefusal ed (appended ed b k n u) i ≡ presetRefusal ed b i
   presetRefusal-appended =
       let a = accepted ed b z in
@@ -145,7 +145,7 @@ pub lettersOf-of : (ed : Edition) (m : List ℕ) (i o r : ℕ) (u : List ℕ) �
 unfolding lettersOf
 lettersOf-of ed m i o r u e f p = rw (e, f, p)
 
-module _ (ed : Edition) (b : List ℕ) (k n : ℕ) (u : List ℕ) (a : Accepted ed b) (small : bookSize b + added ed u ≤ 65535) where
+module _ (ed : Edition) (b : List ℕ) (k n : ℕ) (u : List ℕ) (a : Accepted ed b) (small : bookSize b + addedSize ed u ≤ 65535) where
   presetRefusal-appended-last : presetRefusal ed (appended ed b k n u) (count b) ≡ (bookRankRefusal ed k n then wordRefusal n u)
   presetRefusal-appended-last =
       let c = count-appended ed b k n u a small in
@@ -174,7 +174,7 @@ pub appended-grown : (ed : Edition) (b : List ℕ) (k n : ℕ) (u : List ℕ) �
 appended-grown ed b k n u z h =
     let a = accepted ed b z in
     let l = length-appended ed b k n u a in
-    let small : bookSize b + added ed u ≤ 65535 = omega arith in
+    let small : bookSize b + addedSize ed u ≤ 65535 = omega arith in
     record {
       unrefused = bookRefusal-appended ed b k n u a small;
       onePresetMore = count-appended ed b k n u a small;

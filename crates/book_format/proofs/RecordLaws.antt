@@ -20,7 +20,7 @@ use Rattle.coxeter.specs.Kinds.{kindOf, lanes}
 use Rattle.book_format.specs.declared.Edition.{Edition}
 use Rattle.book_format.specs.declared.Edition.the-variants.{First, Second}
 use Rattle.book_format.specs.Books.{twoAt, two, count, trailer, offset, kindAt, rankAt, lanesAt, letterCountAt, lettersAt, endAt}
-use Rattle.book_format.specs.Books.{misplacedFrom, misplaced, bookRefusal, laneByte, recordOf, appended, countPlace, headSize, added}
+use Rattle.book_format.specs.Books.{misplacedFrom, misplaced, bookRefusal, laneByte, recordOf, appended, countPlace, headSize, addedSize}
 use Rattle.book_format.specs.Records.{recordBytes, offsetBytes, layOut, recordAt, recordsFrom, recordsOf, Empties, Bytes}
 use Rattle.book_format.proofs.BookLaws.{Accepted, accepted, bookSize, bookSize-some, no-bytes, count-bytes, first, trailer-le}
 use Rattle.book_format.proofs.WritingLaws.{length-appended}
@@ -204,7 +204,7 @@ recordAt-of : (ed : Edition) (m : List ℕ) (o k n c : ℕ) (u : List ℕ) → k
     → recordAt ed m o ≡ record { kind = k; rank = n; lanes = c; letters = u }
 recordAt-of ed m o k n c u p q s r = rw (s, p, q, r)
 
-module _ (ed : Edition) (b : List ℕ) (k n : ℕ) (u : List ℕ) (a : Accepted ed b) (small : bookSize b + added ed u ≤ 65535) where
+module _ (ed : Edition) (b : List ℕ) (k n : ℕ) (u : List ℕ) (a : Accepted ed b) (small : bookSize b + addedSize ed u ≤ 65535) where
   recordsFrom-appended : (j i o : ℕ) → i + j ≡ count b → misplacedFrom ed b j i o ≡ false
       → recordsFrom ed (appended ed b k n u) (suc j) i ≡ recordsFrom ed b j i ++ (record { kind = k; rank = n; lanes = lanes (kindOf k) n; letters = u } ∷ [])
   unfolding recordsFrom
@@ -230,5 +230,5 @@ unfolding recordsOf
 recordsOf-appended ed b k n u z h =
     let a = accepted ed b z in
     let l = length-appended ed b k n u a in
-    let small : bookSize b + added ed u ≤ 65535 = omega arith in
+    let small : bookSize b + addedSize ed u ≤ 65535 = omega arith in
     rw (count-appended ed b k n u a small, add-one (count b)) (recordsFrom-appended ed b k n u a small (count b) 0 0 (omega arith) (placed-from ed b a))

@@ -27,7 +27,7 @@ use Rattle.book_format.specs.declared.Edition.{Edition}
 use Rattle.book_format.specs.declared.Edition.the-variants.{First, Second}
 use Rattle.book_format.specs.declared.Opened.the-variants as opened
 use Rattle.book_format.specs.declared.Preset.the-variants as preset
-use Rattle.book_format.specs.Books.{count, trailer, offset, headSize, added, retired, bookRankRefusal, bookRefusal, appended, appendRefusal}
+use Rattle.book_format.specs.Books.{count, trailer, offset, headSize, addedSize, retired, bookRankRefusal, bookRefusal, appended, appendRefusal}
 use Rattle.book_format.specs.Records.{recordsFrom, recordsOf, Bytes}
 use Rattle.book_format.specs.Calls.{presetOf, checkedBook, checkedPreset, lettersOf, lettersStart, readingPresets, appending, Grown}
 use Rattle.book_format.specs.Conversion.{other, converted, conversionRefusal, converting, SamePreset, Converted}
@@ -119,7 +119,7 @@ append-lane-byte b k n u before after l c =
     let a = accepted Second b z in
     let s = append-size Second b k n u (w .unrefused) in
     let m = length-appended Second b k n u a in
-    let small : bookSize b + added Second u ≤ 65535 = omega arith in
+    let small : bookSize b + addedSize Second u ≤ 65535 = omega arith in
     rw (w .front, offset-appended-last Second b k n u a small) (lanesAt-appended-last Second b k n u a small)
 
 -- ---- a book in the other edition
@@ -281,7 +281,7 @@ module _ (ed : Edition) where
         let opens = bookRefusal-bytes ed [] refl in
         let none = bookSize-none [] refl in
         let size : length (appended ed [] k n u) ≡ headSize ed + length u + 4 = length-appended ed [] k n u (accepted ed [] opens) ∙ rw none (omega arith) in
-        let small : bookSize [] + added ed u ≤ 65535 = rw (bookSize-none [] refl) (omega (arith, length-accepted n u word, headSize-le ed)) in
+        let small : bookSize [] + addedSize ed u ≤ 65535 = rw (bookSize-none [] refl) (omega (arith, length-accepted n u word, headSize-le ed)) in
         let r =
         appendRefusal-none ed [] k n u 0 (sym opens) 0 refl (sym rank) 0 refl
         (sym (then-none (rankRefusal k n) _ (bookRank-accepted ed k n rank) ∙ word)) refl false (sym (not-retired k n f)) refl small in

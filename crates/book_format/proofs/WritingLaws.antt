@@ -16,7 +16,7 @@ use Rattle.book_format.specs.declared.Edition.the-variants.{First, Secon
 use Rattle.coxeter.specs.declared.Answer.the-variants as answer
 use Rattle.coxeter.specs.Checks.{check, _then_, rankRefusal, wordRefusal, WordOf}
 use Rattle.book_format.specs.Books.{two, count, trailer, tooLarge, retired, bookRankRefusal, bookRefusal}
-use Rattle.book_format.specs.Books.{laneByte, recordOf, appended, appendRefusal, countPlace, headSize, added}
+use Rattle.book_format.specs.Books.{laneByte, recordOf, appended, appendRefusal, countPlace, headSize, addedSize}
 use Rattle.book_format.specs.Calls.{appending}
 use Rattle.book_format.proofs.RankLaws.{bookRank-accepted}
 use Rattle.book_format.proofs.BookLaws.{Accepted, accepted, accepted-read, bookSize, trailer-le}
@@ -39,7 +39,7 @@ pub length-recordOf : (ed : Edition) (k n m : ℕ) (u : List ℕ) → length (re
 unfolding recordOf
 length-recordOf ed k n m u = let l = length-laneByte ed m in simp (length-append, length-two) (omega arith)
 
-pub length-appended : (ed : Edition) (b : List ℕ) (k n : ℕ) (u : List ℕ) → Accepted ed b → length (appended ed b k n u) ≡ bookSize b + added ed u
+pub length-appended : (ed : Edition) (b : List ℕ) (k n : ℕ) (u : List ℕ) → Accepted ed b → length (appended ed b k n u) ≡ bookSize b + addedSize ed u
 unfolding appended
 length-appended ed b k n u a =
     let h = a .inside in
@@ -53,7 +53,7 @@ length-appended ed b k n u a =
     ) (omega arith)
 
 -- its length, as the code computes it: s is the size of the old book with its count, m that of a record's head
-pub size-read : (ed : Edition) (b u : List ℕ) (s m : ℕ) → s ≡ bookSize b → m ≡ headSize ed → s + (m + length u + 2) ≡ bookSize b + added ed u
+pub size-read : (ed : Edition) (b u : List ℕ) (s m : ℕ) → s ≡ bookSize b → m ≡ headSize ed → s + (m + length u + 2) ≡ bookSize b + addedSize ed u
 size-read ed b u s m q e = rw (q, e)
 
 -- ---- appending
@@ -85,16 +85,16 @@ module _ (ed : Edition) (b : List ℕ) (k n : ℕ) (u : List ℕ) (r : ℕ) (e :
 
         module _ (w : o ≡ false) where
           -- only the size is left
-          size : appendRefusal ed b k n u ≡ check 13 (ltb 65535 (bookSize b + added ed u))
+          size : appendRefusal ed b k n u ≡ check 13 (ltb 65535 (bookSize b + addedSize ed u))
           unfolding appendRefusal tooLarge
           size =
               rw (← e, eq-eqb r 0 z, ← d, eq-eqb s 0 y, ← word, eq-eqb t 0 x, ← v, w, length-appended ed b k n u (accepted-read ed b r e z))
 
-          pub appendRefusal-large : 65535 < bookSize b + added ed u → appendRefusal ed b k n u ≡ 13
-          appendRefusal-large h = size ∙ rw (lt-ltb 65535 (bookSize b + added ed u) h)
+          pub appendRefusal-large : 65535 < bookSize b + addedSize ed u → appendRefusal ed b k n u ≡ 13
+          appendRefusal-large h = size ∙ rw (lt-ltb 65535 (bookSize b + addedSize ed u) h)
 
-          pub appendRefusal-none : bookSize b + added ed u ≤ 65535 → appendRefusal ed b k n u ≡ 0
-          appendRefusal-none h = size ∙ rw (le-ltb 65535 (bookSize b + added ed u) h)
+          pub appendRefusal-none : bookSize b + addedSize ed u ≤ 65535 → appendRefusal ed b k n u ≡ 0
+          appendRefusal-none h = size ∙ rw (le-ltb 65535 (bookSize b + addedSize ed u) h)
 
 -- where appending is not refused, none of its checks refuses
 append-parts : (ed : Edition) (b : List ℕ) (k n : ℕ) (u : List ℕ) → appendRefusal ed b k n u ≡ 0
@@ -133,14 +133,14 @@ module _ (ed : Edition) (b : List ℕ) (k n : ℕ) (u out : List ℕ) (r : ℕ) 
   unfolding appending
   appending-refused f = writes-refused (appending ed b k n u out) (appendRefusal ed b k n u) r (appended ed b k n u) out refl e f
 
-  pub appending-short : (s : ℕ) → s ≡ bookSize b + added ed u → r ≡ 0 → length out < s
+  pub appending-short : (s : ℕ) → s ≡ bookSize b + addedSize ed u → r ≡ 0 → length out < s
       → (answer.Refused 14 ≡ appending ed b k n u out .answer) × (out ≡ appending ed b k n u out .bytes)
   unfolding appending
   appending-short s f z h =
       writes-short (appending ed b k n u out) (appendRefusal ed b k n u) r (appended ed b k n u) out refl e s z
       (length-appended ed b k n u (append-accepted ed b k n u (sym e ∙ z)) ∙ sym f) h
 
-  pub appending-written : (s : ℕ) → s ≡ bookSize b + added ed u → (o : List ℕ) → r ≡ 0 → s ≤ length out → o ≡ sets out 0 (appended ed b k n u)
+  pub appending-written : (s : ℕ) → s ≡ bookSize b + addedSize ed u → (o : List ℕ) → r ≡ 0 → s ≤ length out → o ≡ sets out 0 (appended ed b k n u)
       → (answer.Length s ≡ appending ed b k n u out .answer) × (o ≡ appending ed b k n u out .bytes)
   unfolding appending
   appending-written s f o z h p =

@@ -134,8 +134,8 @@ unfoldable pub recordOf : Edition → ℕ → ℕ → ℕ → List ℕ → List 
 recordOf ed k n m u = k ∷ n ∷ (laneByte ed m ++ (two (length u) ++ u))
 
 -- B18: what a preset adds to a book: its record and an offset
-abbrev pub added : Edition → List ℕ → ℕ
-added ed u = headSize ed + length u + 2
+abbrev pub addedSize : Edition → List ℕ → ℕ
+addedSize ed u = headSize ed + length u + 2
 
 -- B18, B21, B22: the records, the new record with the lane count of its kind and rank, the offsets, its offset, the
 -- count

@@ -13,7 +13,7 @@ use Rattle.coxeter.specs.Checks.{wrongLanes, hasSize, negativeInA, wrongAt, wro
 use Rattle.coxeter.specs.NormalForm.{down, rise, fall, block, without, indexOf, restOf, normalFrom, normalForm}
 use Rattle.coxeter.specs.Calls.{written}
 use Rattle.coxeter.proofs.Vectors.{Agree}
-use Rattle.rules.specs.Rules.{each, family1, family2, family3, family4, families5to7, rules, begins, fits, firstFitting, rewritten}
+use Rattle.rules.specs.Rules.{concatMap, family1, family2, family3, family4, families5to7, rules, begins, fits, firstFitting, rewritten}
 use Rattle.shortest_words.specs.Descents.{isDescent}
 use Rattle.shortest_words.specs.Allowed.{allows, wrongSet, setRefusal}
 use Rattle.shortest_words.specs.Split.{lowest, stripped, restInverse, firstWord, secondWord}
@@ -40,7 +40,7 @@ toEnds =
 pub toEnds-agree : Agree toEnds
 unfolding toEnds refused traceNumbers listedBeside rewritingToEndListed
     kindOf wrongKind wrongRank tooLong wrongLetter tooShort rankRefusal wordRefusal up down rise fall block
-    each family1 family2 family3 family4 families5to7 rules begins fits firstFitting rewritten
+    concatMap family1 family2 family3 family4 families5to7 rules begins fits firstFitting rewritten
     written lowestFrom lowestRedex traceWithin trace tooFewPlaces toEndOf tracedBy rewritingToEnd
 toEnds-agree = refl
 
@@ -82,6 +82,6 @@ unfolding delayTables refused tableNumbers listedBeside delayTableListed
     kindOf up from negateFirst signed placeFrom later negative one laterThan inversions negativeSumPairs negatives crossings total windowLength
     wrongKind wrongRank wrongLanes hasSize negativeInA wrongAt wrongEntry odd oddNegatives tooShort rankRefusal windowRefusal
     down rise fall block without indexOf restOf normalFrom normalForm written
-    allWindows.keep allWindows.each allWindows.lists allWindows.entries allWindows.windows ofLength distribution allNegative longest
+    allWindows.keep allWindows.consAll allWindows.lists allWindows.possibleEntries allWindows.windows ofLength distribution allNegative longest
     untabled tableRefusal tableOf roomRefusal tables delayTable
 delayTables-agree = refl

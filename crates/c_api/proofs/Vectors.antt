@@ -14,7 +14,7 @@ use Rattle.coxeter.specs.Kinds.{up, kindOf}
 use Rattle.coxeter.specs.Checks.{wrongKind, wrongRank, tooLong, wrongLetter, tooShort, rankRefusal, wordRefusal}
 use Rattle.coxeter.specs.NormalForm.{down, rise, fall, block}
 use Rattle.coxeter.proofs.Vectors.{Agree}
-use Rattle.rules.specs.Rules.{each, family1, family2, family3, family4, families5to7, rules, begins, fits, firstFitting, rewritten}
+use Rattle.rules.specs.Rules.{concatMap, family1, family2, family3, family4, families5to7, rules, begins, fits, firstFitting, rewritten}
 use Rattle.rules.specs.Calls.{pastEnd, rewriteBy, rewriteAt}
 use Rattle.rules.specs.declared.Rewrite.the-variants as rewrite
 use Rattle.shortest_words.specs.declared.Fallback.the-variants as fallback
@@ -123,5 +123,5 @@ rewritings =
 pub rewritings-agree : Agree rewritings
 unfolding rewritings refused rewriting
     kindOf wrongKind wrongRank tooLong wrongLetter tooShort rankRefusal wordRefusal up down rise fall block
-    each family1 family2 family3 family4 families5to7 rules begins fits firstFitting rewritten pastEnd rewriteBy rewriteAt
+    concatMap family1 family2 family3 family4 families5to7 rules begins fits firstFitting rewritten pastEnd rewriteBy rewriteAt
 rewritings-agree = refl

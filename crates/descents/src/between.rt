@@ -3,9 +3,9 @@
 // of those words.
 use crate::allowed::is_allowed;
 use crate::allowed::set_refusal;
-use crate::work::few_letters;
-use crate::work::more_letters;
-use crate::work::no_letters;
+use crate::work::letters_64;
+use crate::work::letters_256;
+use crate::work::letters_4096;
 use window::Answer;
 use window::normal_form_between;
 ghost use mathlib.Core.Path.{_≡_};
@@ -92,13 +92,13 @@ pub fn between_windows(
         return Answer::Refused(refusal);
     }
     if rank <= 8 {
-        let mut form = few_letters();
+        let mut form = letters_64();
         return write_between(kind, rank, allowed, from, to, &mut form, out);
     }
     if rank <= 16 {
-        let mut form = more_letters();
+        let mut form = letters_256();
         return write_between(kind, rank, allowed, from, to, &mut form, out);
     }
-    let mut form = no_letters();
+    let mut form = letters_4096();
     write_between(kind, rank, allowed, from, to, &mut form, out)
 }

@@ -20,9 +20,9 @@ pub use shortest_words::Split;
 use splitting::split_accepted;
 use walk::decide;
 pub use window::Answer;
-use work::blank;
+use work::entries_64;
 use work::lanes;
-use work::no_letters;
+use work::letters_4096;
 use work::show;
 use work::write_form;
 ghost use mathlib.Core.Path.{_≡_};
@@ -44,9 +44,9 @@ fn decide_words(kind: u8, rank: u8, present: &[u8], simpler: &[u8], places: &mut
         (window (kindOf kind) rank (now (simpler .entry))) (now (places .entry)) r (now (places .exit)) ⌝ }
 {
     let m = lanes(kind, rank);
-    let mut target = blank();
+    let mut target = entries_64();
     show(kind, rank, simpler, &mut target);
-    let mut form = no_letters();
+    let mut form = letters_4096();
     let l = write_form(kind, rank, present, &mut form);
     decide(kind, rank, &mut form[..l], &mut target[..m], places)
 }

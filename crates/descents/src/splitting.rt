@@ -1,6 +1,6 @@
 // The two words of a split, from the window of the preset.
 use crate::stripping::strip;
-use crate::work::blank;
+use crate::work::entries_64;
 use crate::work::form_length;
 use crate::work::invert;
 use crate::work::lanes;
@@ -81,7 +81,7 @@ fn split_window(
         r (now (first .exit)) (now (second .exit)) ⌝ }
 {
     let m = lanes(kind, rank);
-    let mut rest = blank();
+    let mut rest = entries_64();
     invert(kind, rank, w, &mut rest);
     strip(kind, rank as usize, allowed, &mut rest[..m]);
     write_parts(kind, rank, w, &rest[..m], first, second)
@@ -102,7 +102,7 @@ pub(crate) fn split_accepted(
         (now (first .entry)) (now (second .entry))) r (now (first .exit)) (now (second .exit)) ⌝ }
 {
     let m = lanes(kind, rank);
-    let mut w = blank();
+    let mut w = entries_64();
     show(kind, rank, word, &mut w);
     split_window(kind, rank, allowed, &w[..m], first, second)
 }

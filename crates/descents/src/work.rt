@@ -15,27 +15,27 @@ ghost use Rattle.coxeter.specs.NormalForm.{normalForm, wordNormalForm};
 ghost use Rattle.coxeter.proofs.Fronts.{Front};
 
 // A word with room for every normal form.
-pub(crate) fn no_letters() -> [u8; 4096]
+pub(crate) fn letters_4096() -> [u8; 4096]
     ensures { λ r. ⌜ 4096 ≡ length r ⌝ }
 {
     [0u8; 4096]
 }
 
 // One with room for every normal form of rank 8 or less, and one for rank 16 or less: they take less time to make.
-pub(crate) fn few_letters() -> [u8; 64]
+pub(crate) fn letters_64() -> [u8; 64]
     ensures { λ r. ⌜ 64 ≡ length r ⌝ }
 {
     [0u8; 64]
 }
 
-pub(crate) fn more_letters() -> [u8; 256]
+pub(crate) fn letters_256() -> [u8; 256]
     ensures { λ r. ⌜ 256 ≡ length r ⌝ }
 {
     [0u8; 256]
 }
 
 // A window with room for every lane count.
-pub(crate) fn blank() -> [i8; 64]
+pub(crate) fn entries_64() -> [i8; 64]
     ensures { λ r. ⌜ 64 ≡ length r ⌝ }
 {
     [0i8; 64]

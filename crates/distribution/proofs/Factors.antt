@@ -19,7 +19,7 @@ use Rattle.coxeter.specs.Length.{one}
 use Rattle.coxeter.proofs.Basics.{pick-same, up-append}
 use Rattle.coxeter.proofs.Lengths.{blockLength}
 use Rattle.coxeter.proofs.FormLaws.{blockLengths}
-use Rattle.distribution.specs.AllWindows.{keep, each}
+use Rattle.distribution.specs.AllWindows.{keep, consAll}
 use Rattle.distribution.specs.Distribution.{sum}
 use Rattle.distribution.proofs.IndexLists.{levelIndices, indexLists, countIndices}
 use Rattle.distribution.proofs.Sums.{below, sum-append, up-snoc, timesOf, timesOf-cons}
@@ -165,14 +165,14 @@ length-keep-map t f (x ∷ l) = cases (t (f x)) (length-keep-map t f l)
     cases true e = ap suc e
     cases false e = e
 
-length-keep-each : {X : Type 0} (t : List X → Bool) (xs : List X) (ls : List (List X))
-    → length (keep t (each xs ls)) ≡ sum (map (λ x. length (keep (λ l. t (x ∷ l)) ls)) xs)
-unfolding each sum
-length-keep-each t [] ls = unfold keep in refl
-length-keep-each t (x ∷ xs) ls =
-    ap length (keep-append t (map (λ l. x ∷ l) ls) (each xs ls))
-    ∙ length-append (keep t (map (λ l. x ∷ l) ls)) (keep t (each xs ls))
-    ∙ ap₂ (λ (a b : ℕ). a + b) (length-keep-map t (λ l. x ∷ l) ls) (length-keep-each t xs ls)
+length-keep-consAll : {X : Type 0} (t : List X → Bool) (xs : List X) (ls : List (List X))
+    → length (keep t (consAll xs ls)) ≡ sum (map (λ x. length (keep (λ l. t (x ∷ l)) ls)) xs)
+unfolding consAll sum
+length-keep-consAll t [] ls = unfold keep in refl
+length-keep-consAll t (x ∷ xs) ls =
+    ap length (keep-append t (map (λ l. x ∷ l) ls) (consAll xs ls))
+    ∙ length-append (keep t (map (λ l. x ∷ l) ls)) (keep t (consAll xs ls))
+    ∙ ap₂ (λ (a b : ℕ). a + b) (length-keep-map t (λ l. x ∷ l) ls) (length-keep-consAll t xs ls)
 
 -- the numbers of a measure with b added
 one-shifted : (c b l : ℕ) → one (eqb (c + b) l) ≡ shifted b (λ i. one (eqb c i)) l
@@ -214,7 +214,7 @@ count-spread : (k : Kind) (n t i l : ℕ)
     → countIndices k n (suc t) i l ≡ spread (map (blockLength k n i) (levelIndices k n i)) (countIndices k n t (suc i)) l
 unfolding indexLists spread timesOf
 count-spread k n t i l =
-    length-keep-each (λ js. eqb (blockLengths k n i js) l) (levelIndices k n i) (indexLists k n t (suc i))
+    length-keep-consAll (λ js. eqb (blockLengths k n i js) l) (levelIndices k n i) (indexLists k n t (suc i))
     ∙ sum-map-same _ _ (levelIndices k n i) (count-block k n t i l)
     ∙ ap sum (sym (map-map (λ b. shifted b (countIndices k n t (suc i)) l) (blockLength k n i) (levelIndices k n i)))
 

@@ -20,9 +20,9 @@ use Rattle.coxeter.proofs.Levels.{Accepted, accepted-of-refusal, window-accepte
 use Rattle.coxeter.proofs.Theorems.{window-passes}
 use Rattle.coxeter.proofs.Indices.{indices, window-indices, indices-window, indices-in-range}
 use Rattle.coxeter.proofs.FormLaws.{blockLengths, windowLength-blocks}
-use Rattle.distribution.specs.AllWindows.{In, Once, keep, each, windows}
+use Rattle.distribution.specs.AllWindows.{In, Once, keep, consAll, windows}
 use Rattle.distribution.specs.Distribution.{ofLength}
-use Rattle.distribution.proofs.Members.{length-le-of-map, in-keep, of-keep, once-keep, in-each, of-each, once-each, in-up, of-up, once-up}
+use Rattle.distribution.proofs.Members.{length-le-of-map, in-keep, of-keep, once-keep, in-consAll, of-consAll, once-consAll, in-up, of-up, once-up}
 use Rattle.distribution.proofs.AllWindows.{windows-exactly, windows-once}
 use Rattle.distribution.proofs.Sums.{timesOf}
 
@@ -35,13 +35,13 @@ levelIndices k n i = up (i - 1) (lastIndex k n i + 2 - i)
 -- the lists of js of t levels from i on
 unfoldable pub indexLists : Kind → ℕ → ℕ → ℕ → List (List ℕ)
 indexLists k n zero i = [] ∷ []
-indexLists k n (suc t) i = each (levelIndices k n i) (indexLists k n t (suc i))
+indexLists k n (suc t) i = consAll (levelIndices k n i) (indexLists k n t (suc i))
 
 pub once-indexLists : (k : Kind) (n t i : ℕ) → Once (indexLists k n t i)
 unfolding indexLists levelIndices
 once-indexLists k n zero i = (λ m. elim m [ ], tt)
 once-indexLists k n (suc t) i =
-    once-each (levelIndices k n i) (indexLists k n t (suc i)) (once-up (i - 1) (lastIndex k n i + 2 - i)) (once-indexLists k n t (suc i))
+    once-consAll (levelIndices k n i) (indexLists k n t (suc i)) (once-up (i - 1) (lastIndex k n i + 2 - i)) (once-indexLists k n t (suc i))
 
 pub in-indexLists : (k : Kind) (n t : ℕ) {i : ℕ} {js : List ℕ} → 1 ≤ i → t + i ≡ suc (levels k n) → Indices k n i js → In js (indexLists k n t i)
 unfolding indexLists levelIndices
@@ -49,14 +49,14 @@ in-indexLists k n zero o e (none q) = List·Memᴰ·head refl
 in-indexLists k n zero o e (level a b c d) = absurd (omega arith)
 in-indexLists k n (suc t) o e (none q) = absurd (omega arith)
 in-indexLists k n (suc t) {i} o e (level {j = j} {js = js} a b c d) =
-    in-each j js (levelIndices k n i) (indexLists k n t (suc i)) (in-up j (i - 1) (lastIndex k n i + 2 - i) (omega arith) (omega arith))
+    in-consAll j js (levelIndices k n i) (indexLists k n t (suc i)) (in-up j (i - 1) (lastIndex k n i + 2 - i) (omega arith) (omega arith))
     (in-indexLists k n t (omega arith) (omega arith) d)
 
 pub of-indexLists : (k : Kind) (n t i : ℕ) (js : List ℕ) → 1 ≤ i → t + i ≡ suc (levels k n) → In js (indexLists k n t i) → Indices k n i js
 unfolding indexLists levelIndices
 of-indexLists k n zero i js o e m = subst (Indices k n i) (sym (List·Memᴰ·eq-of-singleton m)) (none {i = i} (omega arith))
 of-indexLists k n (suc t) i js o e m =
-    let b = of-each js (levelIndices k n i) (indexLists k n t (suc i)) m in
+    let b = of-consAll js (levelIndices k n i) (indexLists k n t (suc i)) m in
     let r = of-up (b .first) (i - 1) (lastIndex k n i + 2 - i) (b .first-in) in
     subst (Indices k n i) (b .whole)
     (level {i = i} {j = b .first} {js = b .rest} (omega arith) (omega arith) (omega arith)

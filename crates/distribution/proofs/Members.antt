@@ -12,7 +12,7 @@ use native.Mathlib.Nat.{suc-mul, zero-mul, eq-or-lt-of-le}
 use native.Mathlib.Omega.{arith}
 use lib.ListN.{length, length-map, length-append}
 use Rattle.coxeter.specs.Kinds.{pick, up}
-use Rattle.distribution.specs.AllWindows.{In, Once, keep, each, lists}
+use Rattle.distribution.specs.AllWindows.{In, Once, keep, consAll, lists}
 
 -- ---- lengths
 
@@ -119,10 +119,10 @@ once-append (x ∷ a) b p q h = (
 
 -- ---- each before each
 
-pub in-each : {X : Type 0} (x : X) (l : List X) (xs : List X) (ls : List (List X)) → In x xs → In l ls → In (x ∷ l) (each xs ls)
-unfolding each
-in-each x l (y ∷ xs) ls (List·Memᴰ·head e) m = Memᴰ·append-left (each xs ls) (Memᴰ·cast (ap (λ z. z ∷ l) e) (Memᴰ·map (λ w. y ∷ w) m))
-in-each x l (y ∷ xs) ls (List·Memᴰ·tail i) m = Memᴰ·append-right (map (λ w. y ∷ w) ls) (in-each x l xs ls i m)
+pub in-consAll : {X : Type 0} (x : X) (l : List X) (xs : List X) (ls : List (List X)) → In x xs → In l ls → In (x ∷ l) (consAll xs ls)
+unfolding consAll
+in-consAll x l (y ∷ xs) ls (List·Memᴰ·head e) m = Memᴰ·append-left (consAll xs ls) (Memᴰ·cast (ap (λ z. z ∷ l) e) (Memᴰ·map (λ w. y ∷ w) m))
+in-consAll x l (y ∷ xs) ls (List·Memᴰ·tail i) m = Memᴰ·append-right (map (λ w. y ∷ w) ls) (in-consAll x l xs ls i m)
 
 -- a list that begins with one of xs and goes on with one of ls
 pub record Begins {X : Type 0} (w : List X) (xs : List X) (ls : List (List X)) : Type 0 where
@@ -132,10 +132,10 @@ pub record Begins {X : Type 0} (w : List X) (xs : List X) (ls : List (List X)) :
   pub first-in : In first xs
   pub rest-in : In rest ls
 
-pub of-each : {X : Type 0} (w : List X) (xs : List X) (ls : List (List X)) → In w (each xs ls) → Begins w xs ls
-unfolding each
-of-each w [] ls m = elim m [ ]
-of-each w (y ∷ xs) ls m = ⊎-elim here (λ i. later (of-each w xs ls i)) (List·Memᴰ·append-cases (map (λ l. y ∷ l) ls) m)
+pub of-consAll : {X : Type 0} (w : List X) (xs : List X) (ls : List (List X)) → In w (consAll xs ls) → Begins w xs ls
+unfolding consAll
+of-consAll w [] ls m = elim m [ ]
+of-consAll w (y ∷ xs) ls m = ⊎-elim here (λ i. later (of-consAll w xs ls i)) (List·Memᴰ·append-cases (map (λ l. y ∷ l) ls) m)
   where
     here : In w (map (λ l. y ∷ l) ls) → Begins w (y ∷ xs) ls
     here i =
@@ -145,26 +145,26 @@ of-each w (y ∷ xs) ls m = ⊎-elim here (λ i. later (of-each w xs ls i)) (Lis
     later : Begins w xs ls → Begins w (y ∷ xs) ls
     later b = record { first = b .first; rest = b .rest; whole = b .whole; first-in = List·Memᴰ·tail (b .first-in); rest-in = b .rest-in }
 
-pub once-each : {X : Type 0} (xs : List X) (ls : List (List X)) → Once xs → Once ls → Once (each xs ls)
-unfolding each
-once-each [] ls p q = tt
-once-each {X} (x ∷ xs) ls p q =
-    once-append (map (λ l. x ∷ l) ls) (each xs ls) (once-map (λ l. x ∷ l) ls (λ a b i j e. cc) q) (once-each xs ls (p .1) q)
-    (λ w i j. let m = Memᴰ·of-map (λ l. x ∷ l) ls i in apart w (m .0) (m .2) (of-each w xs ls j))
+pub once-consAll : {X : Type 0} (xs : List X) (ls : List (List X)) → Once xs → Once ls → Once (consAll xs ls)
+unfolding consAll
+once-consAll [] ls p q = tt
+once-consAll {X} (x ∷ xs) ls p q =
+    once-append (map (λ l. x ∷ l) ls) (consAll xs ls) (once-map (λ l. x ∷ l) ls (λ a b i j e. cc) q) (once-consAll xs ls (p .1) q)
+    (λ w i j. let m = Memᴰ·of-map (λ l. x ∷ l) ls i in apart w (m .0) (m .2) (of-consAll w xs ls j))
   where
     apart : (w l : List X) → x ∷ l ≡ w → Begins w xs ls → ⊥
     apart w l e b = let s : x ≡ b .first = cc (b .whole) in p .0 (Memᴰ·cast s (b .first-in))
 
-pub length-each : {X : Type 0} (xs : List X) (ls : List (List X)) → length (each xs ls) ≡ length xs * length ls
-unfolding each
-length-each [] ls = sym (zero-mul (length ls))
-length-each (x ∷ xs) ls =
-    omega (arith, length-append (map (λ l. x ∷ l) ls) (each xs ls), length-map ls (λ l. x ∷ l), length-each xs ls, suc-mul (length xs) (length ls))
+pub length-consAll : {X : Type 0} (xs : List X) (ls : List (List X)) → length (consAll xs ls) ≡ length xs * length ls
+unfolding consAll
+length-consAll [] ls = sym (zero-mul (length ls))
+length-consAll (x ∷ xs) ls =
+    omega (arith, length-append (map (λ l. x ∷ l) ls) (consAll xs ls), length-map ls (λ l. x ∷ l), length-consAll xs ls, suc-mul (length xs) (length ls))
 
 pub once-lists : {X : Type 0} (m : ℕ) (xs : List X) → Once xs → Once (lists m xs)
 unfolding lists
 once-lists zero xs o = (λ i. elim i [ ], tt)
-once-lists (suc m) xs o = once-each xs (lists m xs) o (once-lists m xs o)
+once-lists (suc m) xs o = once-consAll xs (lists m xs) o (once-lists m xs o)
 
 -- ---- runs of numbers
 

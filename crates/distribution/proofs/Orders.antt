@@ -23,7 +23,7 @@ use Rattle.coxeter.proofs.FormLaws.{blockLengths}
 use Rattle.distribution.specs.AllWindows.{In}
 use Rattle.distribution.specs.Distribution.{ofLength, distribution, sum, factorial, order}
 use Rattle.distribution.specs.Calls.{greatestTabled}
-use Rattle.distribution.proofs.Members.{length-each}
+use Rattle.distribution.proofs.Members.{length-consAll}
 use Rattle.distribution.proofs.Sums.{below, sum-below, below-same, le-below, below-timesOf, below-timesOf-le}
 use Rattle.distribution.proofs.IndexLists.{levelIndices, indexLists, countIndices, shown, of-all, windowLength-shown, ofLength-indices}
 use Rattle.distribution.proofs.Factors.{lengthsOf, level-lengths}
@@ -72,7 +72,7 @@ length-indexLists k n (suc t) i o e =
     let h : i ≤ levels k n = omega arith in
     let c : ℕ = lanes k n - i in
     let q : i + c ≡ lanes k n = le-lanes k n i h in
-    length-each (levelIndices k n i) (indexLists k n t (suc i))
+    length-consAll (levelIndices k n i) (indexLists k n t (suc i))
     ∙ ap₂ (λ (x y : ℕ). x * y)
     (sym (length-map (levelIndices k n i) (blockLength k n i)) ∙ ap length (level-lengths k n i c o h q))
     (length-indexLists k n t (suc i) (omega arith) (omega arith))

@@ -18,7 +18,7 @@ use Rattle.coxeter.specs.NormalForm.{down, rise, fall, block, without, indexOf,
 use Rattle.coxeter.specs.Calls.{written}
 use Rattle.coxeter.proofs.Vectors.{Agree, lent}
 use Rattle.distribution.specs.declared.Table.the-variants.{Written, Refused}
-use Rattle.distribution.specs.AllWindows.{keep, each, lists, entries, windows}
+use Rattle.distribution.specs.AllWindows.{keep, consAll, lists, possibleEntries, windows}
 use Rattle.distribution.specs.Distribution.{ofLength, distribution}
 use Rattle.distribution.specs.Longest.{allNegative, longest}
 use Rattle.distribution.specs.Calls.{untabled, tableRefusal, Tabled, tableOf, roomRefusal, tables, delayTable}
@@ -44,7 +44,7 @@ listing =
 
 pub listing-windows : Agree listing
 unfolding listing
-    up negative one negatives wrongLanes hasSize negativeInA wrongAt wrongEntry odd oddNegatives windowRefusal keep each lists entries windows
+    up negative one negatives wrongLanes hasSize negativeInA wrongAt wrongEntry odd oddNegatives windowRefusal keep consAll lists possibleEntries windows
 listing-windows = refl
 
 -- ---- tables
@@ -58,7 +58,7 @@ pub tabling : (distribution A 1 ≡ 1 ∷ 1 ∷ [])
 unfolding
     up later negative one laterThan inversions negativeSumPairs negatives crossings total windowLength
     wrongLanes hasSize negativeInA wrongAt wrongEntry odd oddNegatives windowRefusal
-    keep each lists entries windows ofLength distribution
+    keep consAll lists possibleEntries windows ofLength distribution
 tabling = (refl, refl, refl, refl, refl, refl)
 
 -- ---- longest windows
@@ -118,7 +118,7 @@ unfolding calling
     kindOf up from negateFirst signed placeFrom later negative one laterThan inversions negativeSumPairs negatives crossings total windowLength
     wrongKind wrongRank wrongLanes hasSize negativeInA wrongAt wrongEntry odd oddNegatives tooShort rankRefusal windowRefusal
     down rise fall block without indexOf restOf normalFrom normalForm written
-    keep each lists entries windows ofLength distribution allNegative longest
+    keep consAll lists possibleEntries windows ofLength distribution allNegative longest
     untabled tableRefusal tableOf roomRefusal tables delayTable
 calling-tables = refl
 

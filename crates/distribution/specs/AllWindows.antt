@@ -24,19 +24,19 @@ keep t [] = []
 keep t (x ∷ l) = pick (t x) (x ∷ keep t l) (keep t l)
 
 -- no clause of its own: helps Y2. Each of xs before each of the lists ls.
-unfoldable pub each : {X : Type 0} → List X → List (List X) → List (List X)
-each [] ls = []
-each (x ∷ xs) ls = map (λ l. x ∷ l) ls ++ each xs ls
+unfoldable pub consAll : {X : Type 0} → List X → List (List X) → List (List X)
+consAll [] ls = []
+consAll (x ∷ xs) ls = map (λ l. x ∷ l) ls ++ consAll xs ls
 
 -- no clause of its own: helps Y2. All lists of m elements out of xs.
 unfoldable pub lists : {X : Type 0} → ℕ → List X → List (List X)
 lists zero xs = [] ∷ []
-lists (suc m) xs = each xs (lists m xs)
+lists (suc m) xs = consAll xs (lists m xs)
 
 -- W5: the entries 1, .., m and −1, .., −m; `negsuc s` is −(s + 1)
-unfoldable pub entries : ℕ → List ℤ
-entries m = map pos (up 1 m) ++ map negsuc (up 0 m)
+unfoldable pub possibleEntries : ℕ → List ℤ
+possibleEntries m = map pos (up 1 m) ++ map negsuc (up 0 m)
 
 -- W5, Y2: the windows of a rig
 unfoldable pub windows : Kind → ℕ → List (List ℤ)
-windows k n = keep (λ w. eqb (windowRefusal k n w) 0) (lists (lanes k n) (entries (lanes k n)))
+windows k n = keep (λ w. eqb (windowRefusal k n w) 0) (lists (lanes k n) (possibleEntries (lanes k n)))

@@ -26,7 +26,7 @@ use Rattle.coxeter.proofs.Order.{sameWindow-true}
 use Rattle.coxeter.proofs.Relations.{congruent-window}
 use Rattle.coxeter.proofs.NormalForms.{normalForm-identity}
 use Rattle.coxeter.proofs.KindLaws.{one-le}
-use Rattle.rules.specs.Rules.{Rule, rule, each, family1, family2, family3, family4, families5to7, rules, begins, fits, firstFitting, rewritten}
+use Rattle.rules.specs.Rules.{Rule, rule, concatMap, family1, family2, family3, family4, families5to7, rules, begins, fits, firstFitting, rewritten}
 use Rattle.rules.specs.Calls.{pastEnd, rewriteBy, single}
 use Rattle.rules.specs.Runs.{AcceptedWord}
 use Rattle.rules.proofs.Calls.{rewriteAt-accepted}
@@ -75,7 +75,7 @@ module _ (k : Kind) (n : ℕ) (low : least k ≤ n) (high : n ≤ greatest k) wh
 
   -- the rule 1 1 → empty is the first of the list
   square-fits : firstFitting (rules k n) (1 ∷ 1 ∷ []) 0 ≡ some (rule 1 1 0 (1 ∷ 1 ∷ []) [])
-  unfolding rules family1 each rise up firstFitting fits begins
+  unfolding rules family1 concatMap rise up firstFitting fits begins
   square-fits =
       let o = one-le k n low in
       let e : suc n - 1 ≡ suc (n - 1) = omega arith in
@@ -198,7 +198,7 @@ unfolding table allHold holds sameWord reaches usesRule isNone
     later negative one laterThan inversions negativeSumPairs negatives crossings total windowLength
     kindOf wrongKind wrongRank tooLong wrongLetter wrongLanes hasSize negativeInA wrongAt wrongEntry odd oddNegatives rankRefusal wordRefusal windowRefusal
     down rise fall block without indexOf restOf normalFrom normalForm sameEntry sameWindow
-    each family1 family2 family3 family4 families5to7 rules begins fits firstFitting rewritten pastEnd
+    concatMap family1 family2 family3 family4 families5to7 rules begins fits firstFitting rewritten pastEnd
 all-hold = refl
 
 all-sound : (es : List Example) → allHold es ≡ true → (e : Example) → List·Memᴰ e es → Fact e

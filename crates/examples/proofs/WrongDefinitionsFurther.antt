@@ -33,7 +33,7 @@ use Rattle.rules.proofs.Sentences.{as-the-machine}
 use Rattle.traces.specs.Traces as traces
 use Rattle.traces.specs.Traces.{Trace, lowestRedex, traceWithin, trace}
 use Rattle.traces.proofs.StepsReached.{steps-reached}
-use Rattle.shortest_words.specs.Fallback.{lettersAt, SubwordPlaces}
+use Rattle.shortest_words.specs.Fallback.{subwordAt, SubwordPlaces}
 use Rattle.shortest_words.proofs.FreePlaces.{subword-places-exactly}
 use Rattle.distribution.specs.AllWindows.{In, Once}
 use Rattle.distribution.specs.Distribution.{ofLength}
@@ -195,14 +195,14 @@ NotFalling m low [] = Unit {0}
 NotFalling m low (p ∷ ps) = (low ≤ p) × (p < m) × NotFalling m p ps
 
 abbrev pub SubwordPlacesTwice : Kind → ℕ → List ℕ → List ℤ → List ℕ → Type 0
-SubwordPlacesTwice k n u w ps = NotFalling (length u) 0 ps × (window k n (lettersAt u ps) ≡ w)
+SubwordPlacesTwice k n u w ps = NotFalling (length u) 0 ps × (window k n (subwordAt u ps) ≡ w)
 
 -- F2, F3: the law `subword-places-exactly`
 abbrev pub SubwordPlacesExactly : (Kind → ℕ → List ℕ → List ℤ → List ℕ → Type 0) → Type 0
 SubwordPlacesExactly serve =
     (k : Kind) (n : ℕ) (u : List ℕ) (w : List ℤ) (ps : List ℕ) → serve k n u w ps
     ↔ (((i : ℕ) → i < length ps → getD ps i 0 < length u)
-    × ((i j : ℕ) → i < j → j < length ps → getD ps i 0 < getD ps j 0) × (window k n (lettersAt u ps) ≡ w))
+    × ((i j : ℕ) → i < j → j < length ps → getD ps i 0 < getD ps j 0) × (window k n (subwordAt u ps) ≡ w))
 
 -- Q12, F3: the law rules out that a place is kept twice, by place 0 of the word 1
 pub SubwordPlacesTwice-ruled-out : TellsApart SubwordPlacesExactly SubwordPlaces SubwordPlacesTwice
@@ -210,7 +210,7 @@ SubwordPlacesTwice-ruled-out = (
   subword-places-exactly,
   λ law.
       let ps : List ℕ = 0 ∷ 0 ∷ [] in
-      let rise = law A 1 (1 ∷ []) (window A 1 (lettersAt (1 ∷ []) ps)) ps .0 ((omega arith, omega arith, (omega arith, omega arith, tt)), refl) .1 in
+      let rise = law A 1 (1 ∷ []) (window A 1 (subwordAt (1 ∷ []) ps)) ps .0 ((omega arith, omega arith, (omega arith, omega arith, tt)), refl) .1 in
       let z = rise 0 1 (omega arith) (omega arith) in
       omega arith,
 )

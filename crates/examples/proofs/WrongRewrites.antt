@@ -9,7 +9,7 @@ use Rattle.coxeter.specs.Kinds.{Kind, B, pick, kindOf}
 use Rattle.coxeter.specs.Checks.{check, _then_, tooShort, rankRefusal, wordRefusal}
 use Rattle.coxeter.specs.NormalForm.{rise}
 use Rattle.rules.specs.declared.Rewrite.the-variants.{Refused}
-use Rattle.rules.specs.Rules.{Rule, rule, each, family2, carried, rules, firstFitting, rewritten}
+use Rattle.rules.specs.Rules.{Rule, rule, concatMap, family2, carried, rules, firstFitting, rewritten}
 use Rattle.rules.specs.Calls.{pastEnd, Transition, changed, unchanged, rewriteBy, rewriteAt, single}
 
 -- the right answer: one rewrite by the library's own call
@@ -39,7 +39,7 @@ ruleOfBInD = rewriteWith (λ k n. rules k n ++ family2 B n)
 
 -- family 3 also for j = 2n − i − 1
 abbrev pub family3OneTooFarInB : ℕ → ℕ → List ℕ → ℕ → List ℕ → Transition single
-family3OneTooFarInB = rewriteWith (λ k n. rules k n ++ each (λ i. carried k n i (2 * n - i - 1) ∷ []) (rise 1 (n - 1)))
+family3OneTooFarInB = rewriteWith (λ k n. rules k n ++ concatMap (λ i. carried k n i (2 * n - i - 1) ∷ []) (rise 1 (n - 1)))
 
 abbrev pub family4AsFamily3 : ℕ → ℕ → List ℕ → ℕ → List ℕ → Transition single
 family4AsFamily3 = rewriteWith (λ k n. map (λ r. rule (pick (eqb (r .family) 4) 3 (r .family)) (r .i) (r .j) (r .left) (r .right)) (rules k n))

@@ -49,7 +49,7 @@ use Rattle.coxeter.specs.Calls.{answerOf, verdictOf, written, writes, windowOfW
 use Rattle.coxeter.specs.Calls.{normalFormOfWord, productOfWords, inverseOfWord, lengthOfWindow, lengthOfWord, sameEntry, sameWindow}
 use Rattle.coxeter.specs.Calls.{equalWords, samePresets, presetsEqual, handsBack, choice, Outcome, Better}
 use Rattle.coxeter.proofs.Order.{sameWindow-of-eq}
-use Rattle.rules.specs.Rules.{each, family1, family2, family3, family4, families5to7, rules, begins, fits, firstFitting, rewritten}
+use Rattle.rules.specs.Rules.{concatMap, family1, family2, family3, family4, families5to7, rules, begins, fits, firstFitting, rewritten}
 use Rattle.rules.specs.Calls.{pastEnd, rewriteBy, rewriteAt}
 use Rattle.shortest_words.specs.Fallback.{someSubword, isFallback}
 use Rattle.shortest_words.specs.Descents.{isDescent}
@@ -177,12 +177,12 @@ unfolding table allDiffer differs numbers ofAnswer ofVerdict ofChoice ofRewrite 
     down rise fall block without indexOf restOf normalFrom normalForm
     answerOf verdictOf written writes windowOfWord productOfWindows inverseOfWindow normalFormOfWindow normalFormOfWord productOfWords inverseOfWord
     lengthOfWindow lengthOfWord sameEntry sameWindow equalWords samePresets presetsEqual handsBack choice
-    each family1 family2 family3 family4 families5to7 rules begins fits firstFitting rewritten pastEnd rewriteBy rewriteAt
+    concatMap family1 family2 family3 family4 families5to7 rules begins fits firstFitting rewritten pastEnd rewriteBy rewriteAt
     lowestFrom lowestRedex traceWithin trace tooFewPlaces toEndOf tracedBy rewritingToEnd numberOfSteps behindLast ones
     someSubword isFallback fallbackOf fallbackAnswer
     isDescent allows wrongSet setRefusal lowest stripped restInverse firstWord secondWord splitOf splitOutcome splitting
     over between reachable unreachable betweenRefusal betweenWindows
-    keep all.each lists all.entries all.windows ofLength distribution sum allNegative longest
+    keep all.consAll lists all.possibleEntries all.windows ofLength distribution sum allNegative longest
     untabled tableRefusal tableOf roomRefusal tabling.tables delayTable
     twoAt two count trailer offset wrongSize wrongCount misplacedFrom misplaced noSuchPreset tooLarge retired wrongRankInBook wrongLaneCount bookRankRefusal
     bookRefusal recordRefusal presetRefusal recordOf appended appendRefusal openedOf presetOf

@@ -17,7 +17,7 @@ ghost use Rattle.listing_text.specs.Text.{wordLine, lineBy};
 ghost use Rattle.listing_text.proofs.Answered.{refusalOf};
 
 // A window with room for every lane count.
-fn blank() -> [i8; 64]
+fn entries_64() -> [i8; 64]
     ensures { λ r. ⌜ 64 ≡ length r ⌝ }
 {
     [0i8; 64]
@@ -48,7 +48,7 @@ fn put_word(number: usize, kind: u8, rank: u8, word: &[u8], out: &mut [u8]) -> u
     let Answer::Length(l) = normal_form_of_word(kind, rank, word, &mut form) else {
         return 0;
     };
-    let mut shown = blank();
+    let mut shown = entries_64();
     let Answer::Length(m) = window_of_word(kind, rank, word, &mut shown) else {
         return 0;
     };

@@ -14,7 +14,7 @@ use lib.ListN.{length, length-append}
 use borrow.Author.Tests.{eq-eqb, ne-eqb}
 use Rattle.coxeter.specs.Kinds.{Kind, A, B, D, pick, least, up}
 use Rattle.coxeter.specs.NormalForm.{rise}
-use Rattle.rules.specs.Rules.{Rule, rule, each, commuted, carried, turned, family1, family2, family3, family4, families5to7, rules}
+use Rattle.rules.specs.Rules.{Rule, rule, concatMap, commuted, carried, turned, family1, family2, family3, family4, families5to7, rules}
 use Rattle.presentation.specs.Presentations.{ruleCount}
 
 -- ---- sums
@@ -30,15 +30,15 @@ total : (ℕ → ℕ) → ℕ → ℕ → ℕ
 total f a zero = 0
 total f a (suc c) = f a + total f (suc a) c
 
-length-each : (g : ℕ → List Rule) (f : ℕ → ℕ) → ((i : ℕ) → length (g i) ≡ f i) → (a c : ℕ) → length (each g (up a c)) ≡ total f a c
-unfolding total each up
-length-each g f h a zero = refl
-length-each g f h a (suc c) = length-append (g a) (each g (up (suc a) c)) ∙ ap₂ (λ (x y : ℕ). x + y) (h a) (length-each g f h (suc a) c)
+length-concatMap : (g : ℕ → List Rule) (f : ℕ → ℕ) → ((i : ℕ) → length (g i) ≡ f i) → (a c : ℕ) → length (concatMap g (up a c)) ≡ total f a c
+unfolding total concatMap up
+length-concatMap g f h a zero = refl
+length-concatMap g f h a (suc c) = length-append (g a) (concatMap g (up (suc a) c)) ∙ ap₂ (λ (x y : ℕ). x + y) (h a) (length-concatMap g f h (suc a) c)
 
 -- a rule for each number from a to b
-length-row : (g : ℕ → Rule) (a b : ℕ) → length (each (λ i. g i ∷ []) (rise a b)) ≡ suc b - a
+length-row : (g : ℕ → Rule) (a b : ℕ) → length (concatMap (λ i. g i ∷ []) (rise a b)) ≡ suc b - a
 unfolding rise total
-length-row g a b = length-each (λ i. g i ∷ []) (λ i. 1) (λ i. refl) a (suc b - a) ∙ ones a (suc b - a)
+length-row g a b = length-concatMap (λ i. g i ∷ []) (λ i. 1) (λ i. refl) a (suc b - a) ∙ ones a (suc b - a)
   where
     ones : (a c : ℕ) → total (λ i. 1) a c ≡ c
     ones a zero = refl
@@ -46,9 +46,9 @@ length-row g a b = length-each (λ i. g i ∷ []) (λ i. 1) (λ i. refl) a (suc 
 
 -- a rule for each number from a to b and each from `lo i` to `hi i`
 length-table : (g : ℕ → ℕ → Rule) (lo hi : ℕ → ℕ) (a b : ℕ)
-    → length (each (λ i. each (λ j. g i j ∷ []) (rise (lo i) (hi i))) (rise a b)) ≡ total (λ i. suc (hi i) - lo i) a (suc b - a)
+    → length (concatMap (λ i. concatMap (λ j. g i j ∷ []) (rise (lo i) (hi i))) (rise a b)) ≡ total (λ i. suc (hi i) - lo i) a (suc b - a)
 unfolding rise
-length-table g lo hi a b = length-each _ _ (λ i. length-row (g i) (lo i) (hi i)) a (suc b - a)
+length-table g lo hi a b = length-concatMap _ _ (λ i. length-row (g i) (lo i) (hi i)) a (suc b - a)
 
 -- ---- the sums of families 2 and 3
 
@@ -100,10 +100,10 @@ module _ (n : ℕ) where
 
 -- the rules of D's family 2 for one i, without the last rule
 abbrev pairs : ℕ → ℕ → List Rule
-pairs n i = each (λ j. pick (eqb (i + 2) n && eqb j n) [] (commuted i j ∷ [])) (rise (i + 2) n)
+pairs n i = concatMap (λ j. pick (eqb (i + 2) n && eqb j n) [] (commuted i j ∷ [])) (rise (i + 2) n)
 
 length-pairs : (n i : ℕ) → length (pairs n i) ≡ without n i
-unfolding rise each up
+unfolding rise concatMap up
 length-pairs n i = elim (ℕ-discrete (i + 2) n) [
   | yes e ↦
       let one : suc n - n ≡ 1 = omega arith in
@@ -144,7 +144,7 @@ module _ (n d : ℕ) (e : suc d ≡ n) where
         square-of d n e,
       )
   length-family2 D l =
-      let q = length-each (pairs n) (without n) (length-pairs n) 1 (suc n - 1) ∙ ap (total (without n) 1) terms in
+      let q = length-concatMap (pairs n) (without n) (length-pairs n) 1 (suc n - 1) ∙ ap (total (without n) 1) terms in
       simp length-append (omega (arith, q, total-without n 1 d (omega arith) (omega arith), square-of d n e))
 
   length-family3-B : length (family3 B n) + 3 * n ≡ n * n + 2

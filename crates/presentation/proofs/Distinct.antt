@@ -12,7 +12,7 @@ use native.Mathlib.Omega.{arith}
 use lib.Dec.{eqb}
 use Rattle.coxeter.specs.Kinds.{Kind, A, B, D, pick, least}
 use Rattle.coxeter.specs.NormalForm.{rise}
-use Rattle.rules.specs.Rules.{Rule, rule, each, commuted, carried, turned, fits, Irreducible}
+use Rattle.rules.specs.Rules.{Rule, rule, concatMap, commuted, carried, turned, fits, Irreducible}
 use Rattle.rules.specs.Rules.{family1, family2, family3, family4, families5to7, rules}
 use Rattle.coxeter.proofs.TestLaws.{not-true-false}
 use Rattle.rules.proofs.Letters.{mem-rise}
@@ -24,29 +24,29 @@ use Rattle.presentation.proofs.Normalized.{left-fits}
 -- ---- lists made of parts
 
 -- what is in such a list is in one of its parts
-of-each : (f : ℕ → List Rule) (is : List ℕ) (x : Rule) → In x (each f is) → (i : ℕ) × In i is × In x (f i)
-unfolding each
-of-each f [] x m = absurd (List·Memᴰ·not-nil m)
-of-each f (i ∷ is) x m =
+of-concatMap : (f : ℕ → List Rule) (is : List ℕ) (x : Rule) → In x (concatMap f is) → (i : ℕ) × In i is × In x (f i)
+unfolding concatMap
+of-concatMap f [] x m = absurd (List·Memᴰ·not-nil m)
+of-concatMap f (i ∷ is) x m =
     ⊎-elim
     (λ s. (i, List·Memᴰ·head refl, s))
-    (λ s. let (j, q, t) = of-each f is x s in (j, List·Memᴰ·tail q, t))
+    (λ s. let (j, q, t) = of-concatMap f is x s in (j, List·Memᴰ·tail q, t))
     (List·Memᴰ·append-cases (f i) m)
 
 -- a number that the rules of each part show is that of the part
-once-each : (f : ℕ → List Rule) (label : Rule → ℕ) (is : List ℕ) → Once is → ((i : ℕ) → Once (f i))
-    → ((i : ℕ) (x : Rule) → In x (f i) → label x ≡ i) → Once (each f is)
-unfolding each
-once-each f label [] o p q = tt
-once-each f label (i ∷ is) o p q =
-    once-append (f i) (each f is) (p i) (once-each f label is (o .1) p q) (λ x s t.
-    let (j, m, r) = of-each f is x t in
+once-concatMap : (f : ℕ → List Rule) (label : Rule → ℕ) (is : List ℕ) → Once is → ((i : ℕ) → Once (f i))
+    → ((i : ℕ) (x : Rule) → In x (f i) → label x ≡ i) → Once (concatMap f is)
+unfolding concatMap
+once-concatMap f label [] o p q = tt
+once-concatMap f label (i ∷ is) o p q =
+    once-append (f i) (concatMap f is) (p i) (once-concatMap f label is (o .1) p q) (λ x s t.
+    let (j, m, r) = of-concatMap f is x t in
     o .0 (Memᴰ·cast (sym (q i x s) ∙ q j x r) m))
 
 once-range : (f : ℕ → List Rule) (label : Rule → ℕ) (a b : ℕ) → ((i : ℕ) → Once (f i)) → ((i : ℕ) (x : Rule) → In x (f i) → label x ≡ i)
-    → Once (each f (rise a b))
+    → Once (concatMap f (rise a b))
 unfolding rise
-once-range f label a b = once-each f label (rise a b) (once-up a (suc b - a))
+once-range f label a b = once-concatMap f label (rise a b) (once-up a (suc b - a))
 
 once-one : (x : Rule) → Once (x ∷ [])
 once-one x = (List·Memᴰ·not-nil, tt)
@@ -91,10 +91,10 @@ abbrev Shows : ℕ → ℕ → ℕ → Rule → Type 0
 Shows c i j x = (x .family ≡ c) × (x .i ≡ i) × (x .j ≡ j)
 
 -- for each i from a to b the rule g i
-part-row : (g : ℕ → Rule) (a b c : ℕ) → ((i : ℕ) → Shows c i 0 (g i)) → Part c c (each (λ i. g i ∷ []) (rise a b))
+part-row : (g : ℕ → Rule) (a b c : ℕ) → ((i : ℕ) → Shows c i 0 (g i)) → Part c c (concatMap (λ i. g i ∷ []) (rise a b))
 part-row g a b c h = (
   once-range (λ i. g i ∷ []) (λ x. x .i) a b (λ i. once-one (g i)) (λ i x m. shown i x m .1),
-  λ x m. let (i, q, r) = of-each (λ i. g i ∷ []) (rise a b) x m in omega (arith, shown i x r .0),
+  λ x m. let (i, q, r) = of-concatMap (λ i. g i ∷ []) (rise a b) x m in omega (arith, shown i x r .0),
 )
   where
     shown : (i : ℕ) (x : Rule) → In x (g i ∷ []) → Shows c i 0 x
@@ -102,17 +102,17 @@ part-row g a b c h = (
 
 -- for each i from a to b and each j from `lo i` to `hi i` the rules g i j
 module _ (g : ℕ → ℕ → List Rule) (lo hi : ℕ → ℕ) (a b c : ℕ) (shown : (i j : ℕ) (x : Rule) → In x (g i j) → Shows c i j x) where
-  of-table : (x : Rule) → In x (each (λ i. each (g i) (rise (lo i) (hi i))) (rise a b)) → (i j : ℕ) × Shows c i j x × (i ≤ b) × (lo i ≤ j)
+  of-table : (x : Rule) → In x (concatMap (λ i. concatMap (g i) (rise (lo i) (hi i))) (rise a b)) → (i j : ℕ) × Shows c i j x × (i ≤ b) × (lo i ≤ j)
   of-table x m =
-      let (i, q, r) = of-each (λ i. each (g i) (rise (lo i) (hi i))) (rise a b) x m in
-      let (j, s, t) = of-each (g i) (rise (lo i) (hi i)) x r in
+      let (i, q, r) = of-concatMap (λ i. concatMap (g i) (rise (lo i) (hi i))) (rise a b) x m in
+      let (j, s, t) = of-concatMap (g i) (rise (lo i) (hi i)) x r in
       (i, j, shown i j x t, mem-rise i a b q .1, mem-rise j (lo i) (hi i) s .0)
 
-  part-table : ((i j : ℕ) → Once (g i j)) → Part c c (each (λ i. each (g i) (rise (lo i) (hi i))) (rise a b))
+  part-table : ((i j : ℕ) → Once (g i j)) → Part c c (concatMap (λ i. concatMap (g i) (rise (lo i) (hi i))) (rise a b))
   part-table o = (
-    once-range (λ i. each (g i) (rise (lo i) (hi i))) (λ x. x .i) a b
+    once-range (λ i. concatMap (g i) (rise (lo i) (hi i))) (λ x. x .i) a b
         (λ i. once-range (g i) (λ x. x .j) (lo i) (hi i) (o i) (λ j x m. shown i j x m .2))
-        (λ i x m. let (j, s, t) = of-each (g i) (rise (lo i) (hi i)) x m in shown i j x t .1),
+        (λ i x m. let (j, s, t) = of-concatMap (g i) (rise (lo i) (hi i)) x m in shown i j x t .1),
     λ x m. let (i, j, s, p, q) = of-table x m in omega (arith, s .0),
   )
 
@@ -130,11 +130,11 @@ module _ (n : ℕ) (t : ℕ → ℕ → Bool) where
   pairs-shown : (i j : ℕ) (x : Rule) → In x (pairs i j) → Shows 2 i j x
   pairs-shown i j x m = rw (of-pick (t i j) x (commuted i j) m) (refl, refl, refl)
 
-  pairs-part : Part 2 2 (each (λ i. each (pairs i) (rise (i + 2) n)) (rise 1 n))
+  pairs-part : Part 2 2 (concatMap (λ i. concatMap (pairs i) (rise (i + 2) n)) (rise 1 n))
   pairs-part = part-table pairs (λ i. i + 2) (λ i. n) 1 n 2 pairs-shown (λ i j. once-pick (t i j) (commuted i j))
 
   -- they lie two apart or more
-  pairs-apart : (x : Rule) → In x (each (λ i. each (pairs i) (rise (i + 2) n)) (rise 1 n)) → x .i + 2 ≤ x .j
+  pairs-apart : (x : Rule) → In x (concatMap (λ i. concatMap (pairs i) (rise (i + 2) n)) (rise 1 n)) → x .i + 2 ≤ x .j
   pairs-apart x m = let (i, j, s, p, q) = of-table pairs (λ i. i + 2) (λ i. n) 1 n 2 pairs-shown x m in omega (arith, s .1, s .2)
 
 family2-part : (k : Kind) (n : ℕ) → least k ≤ n → Part 2 2 (family2 k n)
@@ -154,10 +154,10 @@ module _ (k : Kind) (n : ℕ) (hi : ℕ → ℕ) (b : ℕ) where
   carried-shown : (i j : ℕ) (x : Rule) → In x (carried k n i j ∷ []) → Shows 3 i j x
   carried-shown i j x m = rw (List·Memᴰ·eq-of-singleton m) (refl, refl, refl)
 
-  carried-part : Part 3 3 (each (λ i. each (λ j. carried k n i j ∷ []) (rise (i + 1) (hi i))) (rise 1 b))
+  carried-part : Part 3 3 (concatMap (λ i. concatMap (λ j. carried k n i j ∷ []) (rise (i + 1) (hi i))) (rise 1 b))
   carried-part = part-table (λ i j. carried k n i j ∷ []) (λ i. i + 1) hi 1 b 3 carried-shown (λ i j. once-one (carried k n i j))
 
-  carried-up-to : (x : Rule) → In x (each (λ i. each (λ j. carried k n i j ∷ []) (rise (i + 1) (hi i))) (rise 1 b)) → x .i ≤ b
+  carried-up-to : (x : Rule) → In x (concatMap (λ i. concatMap (λ j. carried k n i j ∷ []) (rise (i + 1) (hi i))) (rise 1 b)) → x .i ≤ b
   carried-up-to x m =
       let (i, j, s, p, q) = of-table (λ i j. carried k n i j ∷ []) (λ i. i + 1) hi 1 b 3 carried-shown x m in
       omega (arith, s .1)

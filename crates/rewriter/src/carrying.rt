@@ -3,7 +3,7 @@
 // it past a block, or deletes it with an equal one.
 use crate::ending::Ending;
 use crate::ending::ending_rule;
-use crate::search::corner_of;
+use crate::search::levels_of;
 ghost use mathlib.Core.Path.{_≡_};
 ghost use mathlib.Core.Bool.{true, false};
 ghost use mathlib.Core.List.{_∷_, _++_};
@@ -141,7 +141,7 @@ fn pass(
         (now (word .entry)) (s + (q - r)) (now (families .exit)) (now (places .exit)) (now (lengths .exit)) (now (word .exit)) r
         × (1 ≤ r → commuting n (levels (kindOf kind) n) (getD (now (word .exit)) (r - 1) 0) (getD (now (word .exit)) r 0) ≡ false) ⌝ }
 {
-    let corner = corner_of(kind, n);
+    let corner = levels_of(kind, n);
     let left = word.len() + rest.len();
     let t = shift(n, corner, word, q);
     note_passed(families, places, lengths, s, q - t, q, left);

@@ -1,10 +1,10 @@
 // The rule whose left side ends with the letter that moves. Its first letter is looked for from that letter back,
 // less than 2n places; what stands from there on is then a block, whose last letter and length tell which, and so
 // the rule.
-use crate::search::corner_of;
 use crate::search::family_at;
 use crate::search::fork_of;
 use crate::search::last_index_of;
+use crate::search::levels_of;
 use crate::search::next_index;
 use crate::search::shown_index;
 use crate::writing::first_letter;
@@ -86,7 +86,7 @@ fn place_of(kind: u8, n: u8, word: &[u8], q: usize) -> usize
     if l < x {
         return start_of(word, floor, q - 1, l);
     }
-    let corner = corner_of(kind, n);
+    let corner = levels_of(kind, n);
     let back = (l - x) as usize;
     if corner == n {
         if back < q {
@@ -127,7 +127,7 @@ fn block_rule(kind: u8, n: u8, i: u8, j: u8, x: u8, place: usize) -> Ending
         (firstLetter n (familyAt n (fork (kindOf kind) n) i j x) i (shownIndex (familyAt n (fork (kindOf kind) n) i j x) j x))))
         Ending.Nothing ⌝ }
 {
-    let corner = corner_of(kind, n);
+    let corner = levels_of(kind, n);
     let last = last_index_of(kind, n, i);
     let next = next_index(n, corner, last, j, x);
     if next != 0 {

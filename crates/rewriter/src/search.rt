@@ -23,8 +23,8 @@ pub(crate) enum Fitting {
     Nothing,
 }
 
-// The step at which the way of a block turns.
-pub(crate) fn corner_of(kind: u8, n: u8) -> u8
+// The number of levels, which is also the step at which the way of a block turns.
+pub(crate) fn levels_of(kind: u8, n: u8) -> u8
     requires { ⌜ Ranked (kindOf kind) n ⌝ }
     ensures { λ r. ⌜ r ≡ levels (kindOf kind) n ⌝ }
 {
@@ -155,7 +155,7 @@ pub(crate) fn fitting_rule(kind: u8, n: u8, word: &[u8], place: usize) -> Fittin
     ] ⌝ }
 {
     let i = word[place];
-    let corner = corner_of(kind, n);
+    let corner = levels_of(kind, n);
     let last = last_index_of(kind, n, i);
     let fork = fork_of(kind, n);
     let mut j = i;

@@ -13,14 +13,14 @@ ghost use Rattle.traces.specs.Traces.{trace, familiesOf, placesOf, lengthsOf};
 ghost use Rattle.traces.proofs.Tracing.{Made};
 
 // Room for every word.
-fn no_letters() -> [u8; 4096]
+fn letters_4096() -> [u8; 4096]
     ensures { λ r. ⌜ 4096 ≡ length r ⌝ }
 {
     [0u8; 4096]
 }
 
 // Room for a word of at most 128 letters, which takes less time to make.
-fn few_letters() -> [u8; 128]
+fn letters_128() -> [u8; 128]
     ensures { λ r. ⌜ 128 ≡ length r ⌝ }
 {
     [0u8; 128]
@@ -106,10 +106,10 @@ pub(crate) fn count(kind: u8, n: u8, word: &[u8]) -> Count
         × (r .size ≡ length (trace (kindOf kind) n (now (word .entry)) .final)) ⌝ }
 {
     if word.len() <= 128 {
-        let mut work = few_letters();
+        let mut work = letters_128();
         return count_in(kind, n, word, &mut work);
     }
-    let mut work = no_letters();
+    let mut work = letters_4096();
     count_in(kind, n, word, &mut work)
 }
 
@@ -170,7 +170,7 @@ pub(crate) fn write_trace(
         × (now (out .exit) ≡ written 0 (trace (kindOf kind) n (now (word .entry)) .final) (now (out .entry))) ⌝ }
 {
     if word.len() <= 128 {
-        let mut work = few_letters();
+        let mut work = letters_128();
         write_in(
             kind,
             n,
@@ -184,7 +184,7 @@ pub(crate) fn write_trace(
         );
         return;
     }
-    let mut work = no_letters();
+    let mut work = letters_4096();
     write_in(
         kind,
         n,

@@ -17,7 +17,7 @@ use lib.Dec.{eqb}
 use borrow.Author.Tests.{eq-eqb, ne-eqb}
 use Rattle.coxeter.specs.Kinds.{Kind, A, B, D, pick, least}
 use Rattle.coxeter.specs.NormalForm.{rise}
-use Rattle.rules.specs.Rules.{Rule, rule, each, family1, commuted, family2, carried, family3, turned, family4, families5to7, rules}
+use Rattle.rules.specs.Rules.{Rule, rule, concatMap, family1, commuted, family2, carried, family3, turned, family4, families5to7, rules}
 use Rattle.rules.proofs.Families.{Commutes, Carries, Turns, IsD, RuleOf}
 use Rattle.rules.proofs.Letters.{mem-rise, rise-mem, block-fork}
 
@@ -48,18 +48,18 @@ sound-one {k} {n} h y m = subst⁻¹ (Listed k n) (List·Memᴰ·eq-of-singleton
 sound-append : {k : Kind} {n : ℕ} (rs qs : List Rule) → Sound k n rs → Sound k n qs → Sound k n (rs ++ qs)
 sound-append rs qs h g x m = ⊎-elim (h x) (g x) (List·Memᴰ·append-cases rs m)
 
-sound-each : {k : Kind} {n : ℕ} (f : ℕ → List Rule) (is : List ℕ) → ((i : ℕ) → List·Memᴰ i is → Sound k n (f i)) → Sound k n (each f is)
-unfolding each
-sound-each f [] h = sound-nil
-sound-each f (i ∷ is) h = sound-append (f i) (each f is) (h i (List·Memᴰ·head refl)) (sound-each f is (λ j m. h j (List·Memᴰ·tail m)))
+sound-concatMap : {k : Kind} {n : ℕ} (f : ℕ → List Rule) (is : List ℕ) → ((i : ℕ) → List·Memᴰ i is → Sound k n (f i)) → Sound k n (concatMap f is)
+unfolding concatMap
+sound-concatMap f [] h = sound-nil
+sound-concatMap f (i ∷ is) h = sound-append (f i) (concatMap f is) (h i (List·Memᴰ·head refl)) (sound-concatMap f is (λ j m. h j (List·Memᴰ·tail m)))
 
 sound-pick : {k : Kind} {n : ℕ} (t : Bool) (rs : List Rule) → (t ≡ false → Sound k n rs) → Sound k n (pick t [] rs)
 sound-pick true rs h = sound-nil
 sound-pick false rs h = h refl
 
 -- one list for each number from a to b
-sound-range : {k : Kind} {n : ℕ} (f : ℕ → List Rule) (a b : ℕ) → ((i : ℕ) → a ≤ i → i ≤ b → Sound k n (f i)) → Sound k n (each f (rise a b))
-sound-range f a b h = sound-each f (rise a b) (λ i m. let s = mem-rise i a b m in h i (s .0) (s .1))
+sound-range : {k : Kind} {n : ℕ} (f : ℕ → List Rule) (a b : ℕ) → ((i : ℕ) → a ≤ i → i ≤ b → Sound k n (f i)) → Sound k n (concatMap f (rise a b))
+sound-range f a b h = sound-concatMap f (rise a b) (λ i m. let s = mem-rise i a b m in h i (s .0) (s .1))
 
 -- ---- the families' lists hold entries
 
@@ -129,17 +129,17 @@ listed-of-mem k n l =
 mem-one : {x y : Rule} → x ≡ y → List·Memᴰ x (y ∷ [])
 mem-one e = List·Memᴰ·head e
 
-mem-each : (f : ℕ → List Rule) (is : List ℕ) (i : ℕ) {x : Rule} → List·Memᴰ i is → List·Memᴰ x (f i) → List·Memᴰ x (each f is)
-unfolding each
-mem-each f [] i m h = absurd (List·Memᴰ·not-nil m)
-mem-each f (a ∷ is) i {x} m h =
+mem-concatMap : (f : ℕ → List Rule) (is : List ℕ) (i : ℕ) {x : Rule} → List·Memᴰ i is → List·Memᴰ x (f i) → List·Memᴰ x (concatMap f is)
+unfolding concatMap
+mem-concatMap f [] i m h = absurd (List·Memᴰ·not-nil m)
+mem-concatMap f (a ∷ is) i {x} m h =
     ⊎-elim
-    (λ e. Memᴰ·append-left (each f is) (subst (λ (b : ℕ). List·Memᴰ x (f b)) e h))
-    (λ t. Memᴰ·append-right (f a) (mem-each f is i t h))
+    (λ e. Memᴰ·append-left (concatMap f is) (subst (λ (b : ℕ). List·Memᴰ x (f b)) e h))
+    (λ t. Memᴰ·append-right (f a) (mem-concatMap f is i t h))
     (List·Memᴰ·cases-cons m)
 
-mem-range : (f : ℕ → List Rule) (a b i : ℕ) {x : Rule} → a ≤ i → i ≤ b → List·Memᴰ x (f i) → List·Memᴰ x (each f (rise a b))
-mem-range f a b i p q h = mem-each f (rise a b) i (rise-mem i a b p q) h
+mem-range : (f : ℕ → List Rule) (a b i : ℕ) {x : Rule} → a ≤ i → i ≤ b → List·Memᴰ x (f i) → List·Memᴰ x (concatMap f (rise a b))
+mem-range f a b i p q h = mem-concatMap f (rise a b) i (rise-mem i a b p q) h
 
 mem-pick : (t : Bool) {rs : List Rule} {x : Rule} → t ≡ false → List·Memᴰ x rs → List·Memᴰ x (pick t [] rs)
 mem-pick true e h = absurd (true≢false e)
@@ -163,7 +163,7 @@ family2-mem D n i j o l (inr (inl h)) =
     (mem-pick _ (both-false i j n (λ e f. omega arith)) (mem-one refl))))
 family2-mem D n i j o l (inr (inr h)) =
     let e : n - 1 ≡ i = omega arith in
-    Memᴰ·append-right (each _ _) (mem-one (rw (e, h .1)))
+    Memᴰ·append-right (concatMap _ _) (mem-one (rw (e, h .1)))
 
 family3-mem : (k : Kind) (n i j : ℕ) → 1 ≤ i → i < j → Carries k n i j → List·Memᴰ (carried k n i j) (family3 k n)
 unfolding family3
@@ -174,7 +174,7 @@ family3-mem D n i j o l (inl h) =
 family3-mem D n i j o l (inr h) =
     let e : n - 2 ≡ i = omega arith in
     let f : n - 1 ≡ j = omega arith in
-    Memᴰ·append-right (each _ _) (mem-one (rw (e, f)))
+    Memᴰ·append-right (concatMap _ _) (mem-one (rw (e, f)))
 
 family4-mem : (k : Kind) (n i : ℕ) → 1 ≤ i → Turns k n i → List·Memᴰ (turned k n i) (family4 k n)
 unfolding family4

@@ -12,7 +12,7 @@ use Rattle.coxeter.specs.NormalForm.{down, rise, fall, block}
 use Rattle.coxeter.proofs.Vectors.{Agree, lent}
 use Rattle.rules.specs.declared.Rewrite.{Rewrite}
 use Rattle.rules.specs.declared.Rewrite.the-variants.{Used, NoneFits, Refused}
-use Rattle.rules.specs.Rules.{each, family1, family2, family3, family4, families5to7, rules, begins, fits, firstFitting, rewritten}
+use Rattle.rules.specs.Rules.{concatMap, family1, family2, family3, family4, families5to7, rules, begins, fits, firstFitting, rewritten}
 use Rattle.rules.specs.Calls.{pastEnd, Transition, rewriteBy, rewriteAt, single}
 
 -- the answer, the bytes afterwards, the word that is left
@@ -48,11 +48,11 @@ rewriting =
 pub rewriting-agrees : Agree rewriting
 unfolding rewriting
     kindOf up wrongKind wrongRank tooLong wrongLetter rankRefusal wordRefusal down rise fall block
-    each family1 family2 family3 family4 families5to7 rules begins fits firstFitting rewritten
+    concatMap family1 family2 family3 family4 families5to7 rules begins fits firstFitting rewritten
     pastEnd rewriteBy rewriteAt
 rewriting-agrees = refl
 
 -- the numbers of rules
 pub rule-counts : Agree ((length (rules A 3), 7) ∷ (length (rules B 3), 8) ∷ (length (rules D 4), 16) ∷ [])
-unfolding up down rise fall block each family1 family2 family3 family4 families5to7 rules
+unfolding up down rise fall block concatMap family1 family2 family3 family4 families5to7 rules
 rule-counts = refl

@@ -22,13 +22,13 @@ abbrev pub rule : ℕ → ℕ → ℕ → List ℕ → List ℕ → Rule
 rule f i j l r = record { family = f; i = i; j = j; left = l; right = r }
 
 -- no clause of its own: helps R2 to R9. The rules that `f` gives for each number of a list, in order.
-unfoldable pub each : (ℕ → List Rule) → List ℕ → List Rule
-each f [] = []
-each f (i ∷ is) = f i ++ each f is
+unfoldable pub concatMap : (ℕ → List Rule) → List ℕ → List Rule
+concatMap f [] = []
+concatMap f (i ∷ is) = f i ++ concatMap f is
 
 -- R2
 unfoldable pub family1 : ℕ → List Rule
-family1 n = each (λ i. rule 1 i 0 (i ∷ i ∷ []) [] ∷ []) (rise 1 n)
+family1 n = concatMap (λ i. rule 1 i 0 (i ∷ i ∷ []) [] ∷ []) (rise 1 n)
 
 -- R3, R4: i j → j i
 abbrev pub commuted : ℕ → ℕ → Rule
@@ -36,10 +36,10 @@ commuted i j = rule 2 i j (i ∷ j ∷ []) (j ∷ i ∷ [])
 
 -- R3 for A and B, R4 for D
 unfoldable pub family2 : Kind → ℕ → List Rule
-family2 A n = each (λ i. each (λ j. commuted i j ∷ []) (rise (i + 2) n)) (rise 1 n)
-family2 B n = each (λ i. each (λ j. commuted i j ∷ []) (rise (i + 2) n)) (rise 1 n)
+family2 A n = concatMap (λ i. concatMap (λ j. commuted i j ∷ []) (rise (i + 2) n)) (rise 1 n)
+family2 B n = concatMap (λ i. concatMap (λ j. commuted i j ∷ []) (rise (i + 2) n)) (rise 1 n)
 family2 D n =
-    each (λ i. each (λ j. pick (eqb (i + 2) n && eqb j n) [] (commuted i j ∷ [])) (rise (i + 2) n)) (rise 1 n)
+    concatMap (λ i. concatMap (λ j. pick (eqb (i + 2) n && eqb j n) [] (commuted i j ∷ [])) (rise (i + 2) n)) (rise 1 n)
     ++ (commuted (n - 1) n ∷ [])
 
 -- R5, R6, R7: [i,j] i → (i + 1) [i,j]
@@ -48,10 +48,10 @@ carried k n i j = rule 3 i j (block k n i j ++ (i ∷ [])) ((i + 1) ∷ block k 
 
 -- R5 for A, R6 for B, R7 for D
 unfoldable pub family3 : Kind → ℕ → List Rule
-family3 A n = each (λ i. each (λ j. carried A n i j ∷ []) (rise (i + 1) n)) (rise 1 n)
-family3 B n = each (λ i. each (λ j. carried B n i j ∷ []) (rise (i + 1) (2 * n - i - 2))) (rise 1 n)
+family3 A n = concatMap (λ i. concatMap (λ j. carried A n i j ∷ []) (rise (i + 1) n)) (rise 1 n)
+family3 B n = concatMap (λ i. concatMap (λ j. carried B n i j ∷ []) (rise (i + 1) (2 * n - i - 2))) (rise 1 n)
 family3 D n =
-    each (λ i. each (λ j. carried D n i j ∷ []) (rise (i + 1) (2 * n - i - 2))) (rise 1 (n - 3))
+    concatMap (λ i. concatMap (λ j. carried D n i j ∷ []) (rise (i + 1) (2 * n - i - 2))) (rise 1 (n - 3))
     ++ (carried D n (n - 2) (n - 1) ∷ [])
 
 -- R8, R9: [i,2n−i] (i + 1) → (i + 1) [i,2n−i]
@@ -61,8 +61,8 @@ turned k n i = rule 4 i 0 (block k n i (2 * n - i) ++ ((i + 1) ∷ [])) ((i + 1)
 -- R8 for B, R9 for D
 unfoldable pub family4 : Kind → ℕ → List Rule
 family4 A n = []
-family4 B n = each (λ i. turned B n i ∷ []) (rise 1 (n - 1))
-family4 D n = each (λ i. turned D n i ∷ []) (rise 1 (n - 3))
+family4 B n = concatMap (λ i. turned B n i ∷ []) (rise 1 (n - 1))
+family4 D n = concatMap (λ i. turned D n i ∷ []) (rise 1 (n - 3))
 
 -- R10, R11, R12, in this order
 unfoldable pub families5to7 : Kind → ℕ → List Rule

@@ -22,7 +22,7 @@ use Rattle.coxeter.specs.Calls.{sameEntry, sameWindow}
 use Rattle.coxeter.proofs.Acceptance.{rank-within}
 use Rattle.shortest_words.specs.declared.Fallback.{Fallback}
 use Rattle.shortest_words.specs.declared.Fallback.the-variants.{Kept, No, Refused}
-use Rattle.shortest_words.specs.Fallback.{lettersAt, SubwordPlaces, someSubword, isFallback}
+use Rattle.shortest_words.specs.Fallback.{subwordAt, SubwordPlaces, someSubword, isFallback}
 use Rattle.shortest_words.specs.Calls.{fallbackOf, fallbackAnswer, keptCount, FellBack}
 use Rattle.shortest_words.proofs.Places.{rising-bounds, rising-apart, rising-of}
 use Rattle.shortest_words.proofs.Fallbacks.{verdict-exactly}
@@ -33,7 +33,7 @@ use Rattle.shortest_words.proofs.Sentences.{no-or-refused-unchanged}
 -- F2, F3: places serve exactly when they lie inside the word, rise, and the letters there have the window
 pub subword-places-exactly : (k : Kind) (n : ℕ) (u : List ℕ) (w : List ℤ) (ps : List ℕ) → SubwordPlaces k n u w ps
     ↔ (((i : ℕ) → i < length ps → getD ps i 0 < length u)
-    × ((i j : ℕ) → i < j → j < length ps → getD ps i 0 < getD ps j 0) × (window k n (lettersAt u ps) ≡ w))
+    × ((i j : ℕ) → i < j → j < length ps → getD ps i 0 < getD ps j 0) × (window k n (subwordAt u ps) ≡ w))
 subword-places-exactly k n u w ps = (
   λ s. (λ i h. rising-bounds (length u) 0 ps (s .rising) i h .1, rising-apart (length u) 0 ps (s .rising), s .shows),
   λ p. record { rising = rising-of (length u) 0 ps (λ i h. (omega arith, p .0 i h)) (p .1); shows = p .2 },
@@ -61,7 +61,7 @@ module _ (k n : ℕ) (present simpler places : List ℕ) where
       (length ps ≡ windowLength (kindOf k) w)
       × ((i : ℕ) → i < length ps → getD ps i 0 < length u)
       × ((i j : ℕ) → i < j → j < length ps → getD ps i 0 < getD ps j 0)
-      × (window (kindOf k) n (lettersAt u ps) ≡ w)
+      × (window (kindOf k) n (subwordAt u ps) ≡ w)
       × (drop l after ≡ drop l places))
       × ((a ≡ No) ⊎ ((r : ℕ) × (a ≡ Refused r)) → after ≡ places))
   unfolding keptCount
@@ -88,7 +88,7 @@ module _ (k n : ℕ) (present simpler places : List ℕ) where
       → length ps ≡ windowLength (kindOf k) w
       → ((i : ℕ) → i < length ps → getD ps i 0 < length u)
       → ((i j : ℕ) → i < j → j < length ps → getD ps i 0 < getD ps j 0)
-      → window (kindOf k) n (lettersAt u ps) ≡ w
+      → window (kindOf k) n (subwordAt u ps) ≡ w
       → FellBack k n present simpler places (Kept (length ps)) (ps ++ drop (length ps) places)
   unfolding fallbackAnswer fallbackOf tooShort keptCount
   every-list-may-come ps rank p q room many inside rises shows =
@@ -108,7 +108,7 @@ module _ (k n : ℕ) (present simpler places : List ℕ) where
 pub two-lists-serve : (p : ℕ)
     → FellBack 2 3 (1 ∷ 2 ∷ 3 ∷ 2 ∷ 1 ∷ []) (2 ∷ []) (p ∷ []) (Kept 1) (1 ∷ [])
     × FellBack 2 3 (1 ∷ 2 ∷ 3 ∷ 2 ∷ 1 ∷ []) (2 ∷ []) (p ∷ []) (Kept 1) (3 ∷ [])
-unfolding fallbackAnswer fallbackOf isFallback someSubword sameWindow sameEntry lettersAt keptCount kindOf up
+unfolding fallbackAnswer fallbackOf isFallback someSubword sameWindow sameEntry subwordAt keptCount kindOf up
     from swap negateFirst act windowFrom identity window signed placeFrom
     later negative one laterThan inversions negativeSumPairs negatives crossings total windowLength
     wrongKind wrongRank tooLong wrongLetter tooShort rankRefusal wordRefusal down rise fall block without indexOf restOf normalFrom normalForm

@@ -9,7 +9,7 @@ use Prim.Native.Nat.{ℕ, zero, suc, _≤_, _<_}
 use native.Mathlib.Omega.{arith}
 use lib.ListN.{length, getD}
 use Rattle.shortest_words.specs.Allowed.{over, Over}
-use Rattle.shortest_words.specs.Fallback.{lettersAt}
+use Rattle.shortest_words.specs.Fallback.{subwordAt}
 use Rattle.shortest_words.specs.OneLetter.{dropAt}
 use Rattle.shortest_words.proofs.Allowed.{over-cons, over-head, over-tail}
 
@@ -27,16 +27,16 @@ over-exactly allowed u = (there u, back u)
     back (s ∷ u) f = over-cons allowed s u (f 0 (omega arith)) (back u (λ i h. f (suc i) (omega arith)))
 
 -- F3: there is one letter for each place, and letter i of them is the word's letter at place i of the list
-pub letters-at-exactly : (u ps : List ℕ) → (length (lettersAt u ps) ≡ length ps)
-    × ((i : ℕ) → i < length ps → getD (lettersAt u ps) i 0 ≡ getD u (getD ps i 0) 0)
-unfolding lettersAt
-letters-at-exactly u ps = (many ps, each ps)
+pub subwordAt-exactly : (u ps : List ℕ) → (length (subwordAt u ps) ≡ length ps)
+    × ((i : ℕ) → i < length ps → getD (subwordAt u ps) i 0 ≡ getD u (getD ps i 0) 0)
+unfolding subwordAt
+subwordAt-exactly u ps = (many ps, each ps)
   where
-    many : (ps : List ℕ) → length (lettersAt u ps) ≡ length ps
+    many : (ps : List ℕ) → length (subwordAt u ps) ≡ length ps
     many [] = refl
     many (p ∷ ps) = ap suc (many ps)
 
-    each : (ps : List ℕ) (i : ℕ) → i < length ps → getD (lettersAt u ps) i 0 ≡ getD u (getD ps i 0) 0
+    each : (ps : List ℕ) (i : ℕ) → i < length ps → getD (subwordAt u ps) i 0 ≡ getD u (getD ps i 0) 0
     each [] i h = absurd (omega arith)
     each (p ∷ ps) zero h = refl
     each (p ∷ ps) (suc i) h = each ps i (omega arith)

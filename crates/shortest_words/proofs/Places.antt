@@ -15,7 +15,7 @@ use lib.Seq.{drop-cons, drop-drop}
 use Rattle.coxeter.specs.Kinds.{Kind, lanes}
 use Rattle.coxeter.specs.Windows.{act, windowFrom, identity, window}
 use Rattle.coxeter.proofs.Order.{sameWindow-true, sameWindow-of-eq}
-use Rattle.shortest_words.specs.Fallback.{Rising, lettersAt, HasSubword, someSubword}
+use Rattle.shortest_words.specs.Fallback.{Rising, subwordAt, HasSubword, someSubword}
 use Rattle.shortest_words.proofs.Subwords.{Subword, none, keep, leave}
 
 -- ---- from places to part-lists
@@ -30,8 +30,8 @@ subword-past (suc d) [] p = p
 subword-past (suc d) (a ∷ u) p = leave (subword-past d u p)
 
 -- the letters at rising places from `low` on
-letters-subword : (u : List ℕ) (low : ℕ) (ps : List ℕ) → Rising (length u) low ps → Subword (drop low u) (lettersAt u ps)
-unfolding lettersAt
+letters-subword : (u : List ℕ) (low : ℕ) (ps : List ℕ) → Rising (length u) low ps → Subword (drop low u) (subwordAt u ps)
+unfolding subwordAt
 letters-subword u low [] h = subword-nothing (drop low u)
 letters-subword u low (p ∷ ps) (l, g, h) =
     let e : low + (p - low) ≡ p = omega arith in
@@ -47,19 +47,19 @@ pub rising-from : (m low start : ℕ) (ps : List ℕ) → start ≤ low → Risi
 rising-from m low start [] l h = tt
 rising-from m low start (p ∷ ps) l (o, g, h) = (omega arith, g, h)
 
-letters-suc : (a : ℕ) (u ps : List ℕ) → lettersAt (a ∷ u) (map suc ps) ≡ lettersAt u ps
-unfolding lettersAt
+letters-suc : (a : ℕ) (u ps : List ℕ) → subwordAt (a ∷ u) (map suc ps) ≡ subwordAt u ps
+unfolding subwordAt
 letters-suc a u [] = refl
 letters-suc a u (p ∷ ps) = ap (λ (l : List ℕ). getD u p 0 ∷ l) (letters-suc a u ps)
 
-subword-letters-at : {u v : List ℕ} → Subword u v → (ps : List ℕ) × Rising (length u) 0 ps × (lettersAt u ps ≡ v)
-unfolding lettersAt
-subword-letters-at none = ([], tt, refl)
-subword-letters-at (keep {a} {u} p) =
-    let (ps, h, e) = subword-letters-at p in
+subwordAt-is-subword : {u v : List ℕ} → Subword u v → (ps : List ℕ) × Rising (length u) 0 ps × (subwordAt u ps ≡ v)
+unfolding subwordAt
+subwordAt-is-subword none = ([], tt, refl)
+subwordAt-is-subword (keep {a} {u} p) =
+    let (ps, h, e) = subwordAt-is-subword p in
     (0 ∷ map suc ps, (omega arith, omega arith, rising-suc (length u) 0 ps h), ap (λ (l : List ℕ). a ∷ l) (letters-suc a u ps ∙ e))
-subword-letters-at (leave {a} {u} p) =
-    let (ps, h, e) = subword-letters-at p in
+subwordAt-is-subword (leave {a} {u} p) =
+    let (ps, h, e) = subwordAt-is-subword p in
     (map suc ps, rising-from (suc (length u)) 1 0 (map suc ps) (omega arith) (rising-suc (length u) 0 ps h), letters-suc a u ps ∙ e)
 
 -- ---- fallbacks
@@ -71,11 +71,11 @@ pub record SubwordWith (k : Kind) (n : ℕ) (u : List ℕ) (w : List ℤ) : Type
   pub shows : window k n word ≡ w
 
 pub subword-of-fallback : (k : Kind) (n : ℕ) (u : List ℕ) (w : List ℤ) → HasSubword k n u w → SubwordWith k n u w
-subword-of-fallback k n u w (ps, s) = record { word = lettersAt u ps; subword = letters-subword u 0 ps (s .rising); shows = s .shows }
+subword-of-fallback k n u w (ps, s) = record { word = subwordAt u ps; subword = letters-subword u 0 ps (s .rising); shows = s .shows }
 
 pub fallback-of-subword : (k : Kind) (n : ℕ) (u v : List ℕ) (w : List ℤ) → Subword u v → window k n v ≡ w → HasSubword k n u w
 fallback-of-subword k n u v w p e =
-    let (ps, h, q) = subword-letters-at p in
+    let (ps, h, q) = subwordAt-is-subword p in
     (ps, record { rising = h; shows = ap (window k n) q ∙ e })
 
 -- ---- the test

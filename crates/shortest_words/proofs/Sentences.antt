@@ -26,7 +26,7 @@ use Rattle.coxeter.proofs.Acceptance.{rank-within, words-accepted}
 use Rattle.shortest_words.specs.declared.Fallback.{Fallback}
 use Rattle.shortest_words.specs.declared.Fallback.the-variants.{Kept, No, Refused}
 use Rattle.shortest_words.specs.OneLetter.{Shortest, dropAt, OneLetter}
-use Rattle.shortest_words.specs.Fallback.{lettersAt, HasSubword, FallbackOf, isFallback, ShortestSubwordPlaces}
+use Rattle.shortest_words.specs.Fallback.{subwordAt, HasSubword, FallbackOf, isFallback, ShortestSubwordPlaces}
 use Rattle.shortest_words.specs.Calls.{fallbackAnswer, keptCount, FellBack}
 use Rattle.shortest_words.proofs.Shortest.{windowLength-le}
 use Rattle.shortest_words.proofs.Exchange.{oneLetter, oneLetter-front}
@@ -123,7 +123,7 @@ one-letter-accepted k n u s w r letters shortest low high e =
 -- F2: places inside the word that rise, and the letters there
 pub subword-by-places : (k : Kind) (n : ℕ) (u : List ℕ) (w : List ℤ) → HasSubword k n u w
     ↔ ((ps : List ℕ) × ((i : ℕ) → i < length ps → getD ps i 0 < length u)
-    × ((i j : ℕ) → i < j → j < length ps → getD ps i 0 < getD ps j 0) × (window k n (lettersAt u ps) ≡ w))
+    × ((i j : ℕ) → i < j → j < length ps → getD ps i 0 < getD ps j 0) × (window k n (subwordAt u ps) ≡ w))
 subword-by-places k n u w = (
   λ p.
       let r = p .1 .rising in
@@ -250,7 +250,7 @@ module _ (k n : ℕ) (present simpler places after : List ℕ) (l : ℕ) (f : Fe
       omega (arith, r, getD-take l i after 0 h)
 
   -- F3: the letters there have the simpler window
-  pub kept-shows : window (kindOf k) n (lettersAt (wordNormalForm (kindOf k) n present) (take l after)) ≡ window (kindOf k) n simpler
+  pub kept-shows : window (kindOf k) n (subwordAt (wordNormalForm (kindOf k) n present) (take l after)) ≡ window (kindOf k) n simpler
   kept-shows = kept-subword .subword .shows
 
   -- I2: every other place of the list keeps what it held

@@ -20,7 +20,7 @@ use Rattle.shortest_words.specs.declared.Split.{Split}
 use Rattle.shortest_words.specs.declared.Split.the-variants as split
 use Rattle.shortest_words.specs.OneLetter.{Shortest, dropAt}
 use Rattle.shortest_words.specs.Descents.{isDescent}
-use Rattle.shortest_words.specs.Fallback.{lettersAt, someSubword, isFallback}
+use Rattle.shortest_words.specs.Fallback.{subwordAt, someSubword, isFallback}
 use Rattle.shortest_words.specs.Allowed.{allows, wrongSet, setRefusal}
 use Rattle.shortest_words.specs.Split.{lowest, stripped, restInverse, firstWord, secondWord}
 use Rattle.shortest_words.specs.Calls.{fallbackOf, fallbackAnswer}
@@ -41,8 +41,8 @@ twice-not-shortest s = let l : 2 ≤ 0 = s .none-shorter [] refl refl in omega a
 -- ---- fallbacks
 
 -- F3
-pub letters-there : lettersAt (2 ∷ 1 ∷ 2 ∷ []) (0 ∷ 2 ∷ []) ≡ 2 ∷ 2 ∷ []
-unfolding lettersAt
+pub letters-there : subwordAt (2 ∷ 1 ∷ 2 ∷ []) (0 ∷ 2 ∷ []) ≡ 2 ∷ 2 ∷ []
+unfolding subwordAt
 letters-there = refl
 
 -- A₂: the normal form of 1 2 1 is 2 1 2, with the part-list 1 2; B₂: 2 1 2 1 has the part-list 1 2 1, and 2 has

@@ -22,7 +22,7 @@ use Rattle.coxeter.proofs.Steps.{act-involution}
 use Rattle.coxeter.proofs.LetterLaws.{letter-within}
 use Rattle.rules.proofs.ScanRules.{wrongLetter-drop}
 use Rattle.shortest_words.specs.Descents.{isDescent}
-use Rattle.shortest_words.specs.Fallback.{Rising, lettersAt, HasSubword, ShortestSubwordPlaces}
+use Rattle.shortest_words.specs.Fallback.{Rising, subwordAt, HasSubword, ShortestSubwordPlaces}
 use Rattle.shortest_words.proofs.Subwords.{Subword, none, keep, subword-letters}
 use Rattle.shortest_words.proofs.Shortest.{windowLength-le}
 use Rattle.shortest_words.proofs.Places.{subword-nothing, rising-from, subword-of-fallback, fallback-of-subword}
@@ -94,14 +94,14 @@ module _ (k : Kind) (n : ℕ) (u : List ℕ) (h : least k ≤ n) (e : wrongLette
 
   -- their letters lead from what is left of the target to the target
   kept-leads : (i : ℕ) (w : List ℤ) (ps : List ℕ)
-      → windowFrom k n (leftOver k n u i w) (lettersAt u (placesKept k n u i w ps)) ≡ windowFrom k n w (lettersAt u ps)
-  unfolding leftOver placesKept lettersAt windowFrom descended
+      → windowFrom k n (leftOver k n u i w) (subwordAt u (placesKept k n u i w ps)) ≡ windowFrom k n w (subwordAt u ps)
+  unfolding leftOver placesKept subwordAt windowFrom descended
   kept-leads zero w ps = refl
   kept-leads (suc i) w ps = kept-leads i _ _ ∙ cases (isDescent k n (getD u i 0) w)
     where
       cases : (t : Bool)
-          → windowFrom k n (pick t (act k n (getD u i 0) w) w) (lettersAt u (pick t (i ∷ ps) ps)) ≡ windowFrom k n w (lettersAt u ps)
-      cases true = ap (λ (x : List ℤ). windowFrom k n x (lettersAt u ps)) (act-involution k n (getD u i 0) w)
+          → windowFrom k n (pick t (act k n (getD u i 0) w) w) (subwordAt u (pick t (i ∷ ps) ps)) ≡ windowFrom k n w (subwordAt u ps)
+      cases true = ap (λ (x : List ℤ). windowFrom k n x (subwordAt u ps)) (act-involution k n (getD u i 0) w)
       cases false = refl
 
   -- there are as many of them as the target has become shorter
@@ -134,7 +134,7 @@ module _ (k : Kind) (n : ℕ) (u : List ℕ) (h : least k ≤ n) (e : wrongLette
   -- and then the places kept serve, and are as many as the length of w
   pub walk-shortest-subword : (w : List ℤ) → Accepted k n w → leftOver k n u (length u) w ≡ identity (lanes k n)
       → ShortestSubwordPlaces k n u w (placesKept k n u (length u) w [])
-  unfolding window windowFrom lettersAt
+  unfolding window windowFrom subwordAt
   walk-shortest-subword w a ends =
       record {
         subword = record {

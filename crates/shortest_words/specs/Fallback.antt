@@ -18,14 +18,14 @@ Rising m low [] = Unit {0}
 Rising m low (p ∷ ps) = (low ≤ p) × (p < m) × Rising m (suc p) ps
 
 -- F3: the letters at these places
-unfoldable pub lettersAt : List ℕ → List ℕ → List ℕ
-lettersAt u [] = []
-lettersAt u (p ∷ ps) = getD u p 0 ∷ lettersAt u ps
+unfoldable pub subwordAt : List ℕ → List ℕ → List ℕ
+subwordAt u [] = []
+subwordAt u (p ∷ ps) = getD u p 0 ∷ subwordAt u ps
 
 -- F2: the places ps name a part-list of the letters of u, in their order, that has the window w
 pub record SubwordPlaces (k : Kind) (n : ℕ) (u : List ℕ) (w : List ℤ) (ps : List ℕ) : Type 0 where
   pub rising : Rising (length u) 0 ps
-  pub shows : window k n (lettersAt u ps) ≡ w
+  pub shows : window k n (subwordAt u ps) ≡ w
 
 -- F2: some part-list of u has the window w
 abbrev pub HasSubword : Kind → ℕ → List ℕ → List ℤ → Type 0

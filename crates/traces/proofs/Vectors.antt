@@ -13,7 +13,7 @@ use Rattle.coxeter.specs.Checks.{wrongKind, wrongRank, tooLong, wrongLetter, to
 use Rattle.coxeter.specs.NormalForm.{down, rise, fall, block}
 use Rattle.coxeter.specs.Calls.{answerOf, written}
 use Rattle.coxeter.proofs.Vectors.{Agree, lent}
-use Rattle.rules.specs.Rules.{each, family1, family2, family3, family4, families5to7, rules, begins, fits, firstFitting, rewritten}
+use Rattle.rules.specs.Rules.{concatMap, family1, family2, family3, family4, families5to7, rules, begins, fits, firstFitting, rewritten}
 use Rattle.traces.specs.declared.ToEnd.{ToEnd}
 use Rattle.traces.specs.declared.ToEnd.the-variants as toEnd
 use Rattle.traces.specs.Traces.{lowestFrom, lowestRedex, traceWithin, trace, tooFewPlaces, toEndOf, Traced, tracedBy, rewritingToEnd, numberOfSteps}
@@ -67,7 +67,7 @@ toEnds =
 pub toEnds-agree : Agree toEnds
 unfolding toEnds
     kindOf up wrongKind wrongRank tooLong wrongLetter tooShort rankRefusal wordRefusal down rise fall block
-    each family1 family2 family3 family4 families5to7 rules begins fits firstFitting rewritten
+    concatMap family1 family2 family3 family4 families5to7 rules begins fits firstFitting rewritten
     written lowestFrom lowestRedex traceWithin trace tooFewPlaces toEndOf tracedBy rewritingToEnd
 toEnds-agree = refl
 
@@ -82,6 +82,6 @@ stepNumbers =
 pub stepNumbers-agree : Agree stepNumbers
 unfolding stepNumbers
     kindOf up wrongKind wrongRank tooLong wrongLetter rankRefusal wordRefusal down rise fall block
-    each family1 family2 family3 family4 families5to7 rules begins fits firstFitting rewritten
+    concatMap family1 family2 family3 family4 families5to7 rules begins fits firstFitting rewritten
     answerOf lowestFrom lowestRedex traceWithin trace numberOfSteps
 stepNumbers-agree = refl

@@ -5,7 +5,7 @@ use crate::entries::lanes;
 use crate::forms::write_checked;
 use crate::product::inverse_into;
 use crate::product::product_into;
-use crate::shown::blank;
+use crate::shown::entries_64;
 use refusals::ranked_window_refusal;
 use refusals::ranked_windows_refusal;
 ghost use mathlib.Core.Path.{_≡_};
@@ -26,7 +26,7 @@ fn between_into(kind: u8, rank: u8, u: &[i8], v: &[i8], out: &mut [i8])
     ensures { λ _. ⌜ now (out .exit) ≡ written 0 (product (inverse (now (u .entry))) (now (v .entry))) (now (out .entry)) ⌝ }
 {
     let m = lanes(kind, rank);
-    let mut back = blank();
+    let mut back = entries_64();
     inverse_into(kind, rank, u, &mut back);
     product_into(kind, rank, &back[..m], v, out);
 }
@@ -43,7 +43,7 @@ pub fn normal_form_of_product(kind: u8, rank: u8, u: &[i8], v: &[i8], out: &mut 
     if refusal != 0 {
         return Answer::Refused(refusal);
     }
-    let mut work = blank();
+    let mut work = entries_64();
     product_into(kind, rank, u, v, &mut work);
     write_checked(kind, rank, &work, out)
 }
@@ -58,7 +58,7 @@ pub fn normal_form_of_inverse(kind: u8, rank: u8, w: &[i8], out: &mut [u8]) -> A
     if refusal != 0 {
         return Answer::Refused(refusal);
     }
-    let mut work = blank();
+    let mut work = entries_64();
     inverse_into(kind, rank, w, &mut work);
     write_checked(kind, rank, &work, out)
 }
@@ -75,7 +75,7 @@ pub fn normal_form_between(kind: u8, rank: u8, u: &[i8], v: &[i8], out: &mut [u8
     if refusal != 0 {
         return Answer::Refused(refusal);
     }
-    let mut work = blank();
+    let mut work = entries_64();
     between_into(kind, rank, u, v, &mut work);
     write_checked(kind, rank, &work, out)
 }

@@ -33,8 +33,8 @@ pub use refusals::rank_refusal;
 use refusals::ranked_window_refusal;
 use refusals::ranked_windows_refusal;
 use refusals::ranked_words_refusal;
-use shown::blank;
 use shown::crossings_of_shown;
+use shown::entries_64;
 use shown::equal_words;
 use shown::same_presets;
 use shown::show_front;
@@ -118,7 +118,7 @@ pub fn normal_form_of_word(kind: u8, rank: u8, word: &[u8], out: &mut [u8]) -> A
     if refusal != 0 {
         return Answer::Refused(refusal);
     }
-    let mut work = blank();
+    let mut work = entries_64();
     show_front(kind, rank, word, &mut work);
     write_checked(kind, rank, &work, out)
 }
@@ -132,7 +132,7 @@ pub fn product_of_words(kind: u8, rank: u8, u: &[u8], v: &[u8], out: &mut [u8]) 
     if refusal != 0 {
         return Answer::Refused(refusal);
     }
-    let mut work = blank();
+    let mut work = entries_64();
     show_product(kind, rank, u, v, &mut work);
     write_checked(kind, rank, &work, out)
 }
@@ -145,7 +145,7 @@ pub fn inverse_of_word(kind: u8, rank: u8, word: &[u8], out: &mut [u8]) -> Answe
     if refusal != 0 {
         return Answer::Refused(refusal);
     }
-    let mut work = blank();
+    let mut work = entries_64();
     show_inverse(kind, rank, word, &mut work);
     write_checked(kind, rank, &work, out)
 }

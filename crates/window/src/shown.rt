@@ -18,7 +18,7 @@ ghost use Rattle.coxeter.specs.Checks.{RankOf, WordOf};
 ghost use Rattle.coxeter.specs.Calls.{written, countedOf, equalWords, samePresets};
 
 // A window with room for every lane count.
-pub(crate) fn blank() -> [i8; 64]
+pub(crate) fn entries_64() -> [i8; 64]
     ensures { λ r. ⌜ length r ≡ 64 ⌝ }
 {
     [0i8; 64]
@@ -59,7 +59,7 @@ pub(crate) fn show_inverse(kind: u8, rank: u8, word: &[u8], out: &mut [i8])
     ensures { λ _. ⌜ now (out .exit) ≡ written 0 (inverse (window (kindOf kind) rank (now (word .entry)))) (now (out .entry)) ⌝ }
 {
     let m = lanes(kind, rank);
-    let mut work = blank();
+    let mut work = entries_64();
     show_front(kind, rank, word, &mut work);
     inverse_into(kind, rank, &work[..m], out);
 }
@@ -70,7 +70,7 @@ pub(crate) fn crossings_of_shown(kind: u8, rank: u8, word: &[u8]) -> Counted
     requires { ⌜ WordOf rank (now word) ⌝ }
     ensures { λ r. ⌜ r ≡ countedOf 0 (crossings (kindOf kind) (window (kindOf kind) rank (now (word .entry)))) ⌝ }
 {
-    let mut work = blank();
+    let mut work = entries_64();
     show_front(kind, rank, word, &mut work);
     crossings_of_front(kind, rank, &work)
 }
@@ -94,9 +94,9 @@ pub(crate) fn same_presets(
     if m != lanes(kind_b, rank_b) {
         return false;
     }
-    let mut first = blank();
+    let mut first = entries_64();
     show_front(kind_a, rank_a, a, &mut first);
-    let mut second = blank();
+    let mut second = entries_64();
     show_front(kind_b, rank_b, b, &mut second);
     same_fronts(m, &first, &second)
 }

@@ -9,8 +9,8 @@ use Rattle.descents.proofs.decide_words.Tie as tie
 lanes-requires : tie.Need-lanes-requires
 lanes-requires c κs = search needs
 
-blank-requires : tie.Need-blank-requires
-blank-requires c κs = search needs
+entries-64-requires : tie.Need-entries-64-requires
+entries-64-requires c κs = search needs
 
 slice-aggregate-show : tie.Need-slice-aggregate-show
 slice-aggregate-show c = search needs
@@ -18,8 +18,8 @@ slice-aggregate-show c = search needs
 show-requires : tie.Need-show-requires
 show-requires c κs = search needs
 
-no-letters-requires : tie.Need-no-letters-requires
-no-letters-requires c κs = search needs
+letters-4096-requires : tie.Need-letters-4096-requires
+letters-4096-requires c κs = search needs
 
 slice-aggregate-write-form : tie.Need-slice-aggregate-write-form
 slice-aggregate-write-form c = search needs
@@ -33,7 +33,7 @@ array-borrow-prefix-form c = search needs
 slice-aggregate-decide : tie.Need-slice-aggregate-decide
 slice-aggregate-decide c =
     let b = c .before .before in
-    part-length _ _ _ _ _ (b .write-form .ensures) refl (b .before .before .no-letters .ensures ∙ sym (b .write-form .kept .1 .1 .1 .0))
+    part-length _ _ _ _ _ (b .write-form .ensures) refl (b .before .before .letters-4096 .ensures ∙ sym (b .write-form .kept .1 .1 .1 .0))
 
 array-borrow-prefix-target : tie.Need-array-borrow-prefix-target
 array-borrow-prefix-target c = search needs
@@ -67,10 +67,10 @@ decide-words-spec =
     tie.close
     (tie.spec
     lanes-requires
-    blank-requires
+    entries-64-requires
     slice-aggregate-show
     show-requires
-    no-letters-requires
+    letters-4096-requires
     slice-aggregate-write-form
     write-form-requires
     array-borrow-prefix-form

@@ -18,15 +18,15 @@ returns : tie.Need-returns
 unfolding inverseOfWord
 returns c = writes-refused _ _ _ _ _ refl (c .before .preset-refusal .ensures) (c .if1 .taken)
 
-blank-requires : tie.Need-blank-requires
-blank-requires c κs = search needs
+entries-64-requires : tie.Need-entries-64-requires
+entries-64-requires c κs = search needs
 
 slice-aggregate-show-inverse : tie.Need-slice-aggregate-show-inverse
 slice-aggregate-show-inverse c = search needs
 
 show-inverse-requires : tie.Need-show-inverse-requires
 show-inverse-requires c κs =
-    let work = c .before .blank in
+    let work = c .before .entries-64 in
     let passed = two-accepted _ _ _ (c .before .before .before .preset-refusal .ensures) (c .before .before .if1 .left) in
     (passed .0, (passed .1, room _ _ (passed .0) (work .result) (work .ensures)))
 
@@ -38,7 +38,7 @@ write-checked-requires c κs =
     let made = c .before .before .before in
     let first = made .before .before .before in
     let passed = two-accepted _ _ _ (first .before .preset-refusal .ensures) (first .if1 .left) in
-    made-asks _ _ (passed .0) _ _ _ (inverse-passes _ _ _) (made .before .before .blank .ensures) (made .show-inverse .ensures)
+    made-asks _ _ (passed .0) _ _ _ (inverse-passes _ _ _) (made .before .before .entries-64 .ensures) (made .show-inverse .ensures)
 
 same-length : tie.Need-same-length
 same-length c = search needs
@@ -51,7 +51,7 @@ returns-2 c =
     let first = made .before .before .before in
     let refusal = first .before .preset-refusal .ensures in
     let passed = two-accepted _ _ _ refusal (first .if1 .left) in
-    let work = made .before .before .blank .ensures in
+    let work = made .before .before .entries-64 .ensures in
     made-written _ _ (passed .0) _ _ _ (inverse-passes _ _ _) work (made .show-inverse .ensures) _ _ _ _ _ _ refl refusal (first .if1 .left)
     (called .write-checked .ensures)
 
@@ -61,7 +61,7 @@ inverse-of-word-spec =
     (tie.spec
     preset-refusal-requires
     returns
-    blank-requires
+    entries-64-requires
     slice-aggregate-show-inverse
     show-inverse-requires
     slice-aggregate-write-checked

@@ -17,15 +17,15 @@ returns : tie.Need-returns
 unfolding normalFormOfWord
 returns c = writes-refused _ _ _ _ _ refl (c .before .preset-refusal .ensures) (c .if1 .taken)
 
-blank-requires : tie.Need-blank-requires
-blank-requires c κs = search needs
+entries-64-requires : tie.Need-entries-64-requires
+entries-64-requires c κs = search needs
 
 slice-aggregate-show-front : tie.Need-slice-aggregate-show-front
 slice-aggregate-show-front c = search needs
 
 show-front-requires : tie.Need-show-front-requires
 show-front-requires c κs =
-    let work = c .before .blank in
+    let work = c .before .entries-64 in
     let passed = two-accepted _ _ _ (c .before .before .before .preset-refusal .ensures) (c .before .before .if1 .left) in
     (passed .0, (passed .1, room _ _ (passed .0) (work .result) (work .ensures)))
 
@@ -37,7 +37,7 @@ write-checked-requires c κs =
     let made = c .before .before .before in
     let first = made .before .before .before in
     let passed = two-accepted _ _ _ (first .before .preset-refusal .ensures) (first .if1 .left) in
-    made-asks _ _ (passed .0) _ _ _ (window-passes _ _ _) (made .before .before .blank .ensures) (made .show-front .ensures)
+    made-asks _ _ (passed .0) _ _ _ (window-passes _ _ _) (made .before .before .entries-64 .ensures) (made .show-front .ensures)
 
 same-length : tie.Need-same-length
 same-length c = search needs
@@ -50,7 +50,7 @@ returns-2 c =
     let first = made .before .before .before in
     let refusal = first .before .preset-refusal .ensures in
     let passed = two-accepted _ _ _ refusal (first .if1 .left) in
-    let work = made .before .before .blank .ensures in
+    let work = made .before .before .entries-64 .ensures in
     made-written _ _ (passed .0) _ _ _ (window-passes _ _ _) work (made .show-front .ensures) _ _ _ _ _ _ refl refusal (first .if1 .left)
     (called .write-checked .ensures)
 
@@ -60,7 +60,7 @@ normal-form-of-word-spec =
     (tie.spec
     preset-refusal-requires
     returns
-    blank-requires
+    entries-64-requires
     slice-aggregate-show-front
     show-front-requires
     slice-aggregate-write-checked

@@ -17,15 +17,15 @@ returns : tie.Need-returns
 unfolding productOfWords
 returns c = writes-refused _ _ _ _ _ refl (c .before .ranked-words-refusal .ensures) (c .if1 .taken)
 
-blank-requires : tie.Need-blank-requires
-blank-requires c κs = search needs
+entries-64-requires : tie.Need-entries-64-requires
+entries-64-requires c κs = search needs
 
 slice-aggregate-show-product : tie.Need-slice-aggregate-show-product
 slice-aggregate-show-product c = search needs
 
 show-product-requires : tie.Need-show-product-requires
 show-product-requires c κs =
-    let work = c .before .blank in
+    let work = c .before .entries-64 in
     let passed = words-accepted _ _ _ _ _ (c .before .before .before .ranked-words-refusal .ensures) (c .before .before .if1 .left) in
     (passed .0, (passed .1 .0, (passed .1 .1, room _ _ (passed .0) (work .result) (work .ensures))))
 
@@ -37,7 +37,7 @@ write-checked-requires c κs =
     let made = c .before .before .before in
     let first = made .before .before .before in
     let passed = words-accepted _ _ _ _ _ (first .before .ranked-words-refusal .ensures) (first .if1 .left) in
-    made-asks _ _ (passed .0) _ _ _ (product-passes _ _ _ _) (made .before .before .blank .ensures) (made .show-product .ensures)
+    made-asks _ _ (passed .0) _ _ _ (product-passes _ _ _ _) (made .before .before .entries-64 .ensures) (made .show-product .ensures)
 
 same-length : tie.Need-same-length
 same-length c = search needs
@@ -50,7 +50,7 @@ returns-2 c =
     let first = made .before .before .before in
     let refusal = first .before .ranked-words-refusal .ensures in
     let passed = words-accepted _ _ _ _ _ refusal (first .if1 .left) in
-    let work = made .before .before .blank .ensures in
+    let work = made .before .before .entries-64 .ensures in
     made-written _ _ (passed .0) _ _ _ (product-passes _ _ _ _) work (made .show-product .ensures) _ _ _ _ _ _ refl refusal (first .if1 .left)
     (called .write-checked .ensures)
 
@@ -60,7 +60,7 @@ product-of-words-spec =
     (tie.spec
     ranked-words-refusal-requires
     returns
-    blank-requires
+    entries-64-requires
     slice-aggregate-show-product
     show-product-requires
     slice-aggregate-write-checked

@@ -16,8 +16,8 @@ set-refusal-requires c κs = search needs
 returns : tie.Need-returns
 returns c = refused-by-set _ _ _ _ _ _ _ (c .before .set-refusal .ensures) (c .if1 .taken)
 
-few-letters-requires : tie.Need-few-letters-requires
-few-letters-requires c κs = search needs
+letters-64-requires : tie.Need-letters-64-requires
+letters-64-requires c κs = search needs
 
 slice-aggregate-write-between : tie.Need-slice-aggregate-write-between
 slice-aggregate-write-between c = search needs
@@ -27,7 +27,7 @@ write-between-requires c κs =
     let f = c .before .before in
     let e = f .before in
     let passed = e .before in
-    (sym (passed .before .set-refusal .ensures) ∙ passed .if1 .left, omega (arith, square-le-64 _ (e .if2 .taken), f .few-letters .ensures))
+    (sym (passed .before .set-refusal .ensures) ∙ passed .if1 .left, omega (arith, square-le-64 _ (e .if2 .taken), f .letters-64 .ensures))
 
 same-length : tie.Need-same-length
 same-length c = search needs
@@ -35,8 +35,8 @@ same-length c = search needs
 returns-2 : tie.Need-returns-2
 returns-2 c = search needs
 
-more-letters-requires : tie.Need-more-letters-requires
-more-letters-requires c κs = search needs
+letters-256-requires : tie.Need-letters-256-requires
+letters-256-requires c κs = search needs
 
 slice-aggregate-write-between-2 : tie.Need-slice-aggregate-write-between-2
 slice-aggregate-write-between-2 c = search needs
@@ -46,7 +46,7 @@ write-between-requires-2 c κs =
     let f = c .before .before in
     let e = f .before in
     let passed = e .before .before in
-    (sym (passed .before .set-refusal .ensures) ∙ passed .if1 .left, omega (arith, square-le-256 _ (e .if3 .taken), f .more-letters .ensures))
+    (sym (passed .before .set-refusal .ensures) ∙ passed .if1 .left, omega (arith, square-le-256 _ (e .if3 .taken), f .letters-256 .ensures))
 
 same-length-2 : tie.Need-same-length-2
 same-length-2 c = search needs
@@ -54,8 +54,8 @@ same-length-2 c = search needs
 returns-3 : tie.Need-returns-3
 returns-3 c = search needs
 
-no-letters-requires : tie.Need-no-letters-requires
-no-letters-requires c κs = search needs
+letters-4096-requires : tie.Need-letters-4096-requires
+letters-4096-requires c κs = search needs
 
 slice-aggregate-write-between-3 : tie.Need-slice-aggregate-write-between-3
 slice-aggregate-write-between-3 c = search needs
@@ -65,7 +65,7 @@ write-between-requires-3 c κs =
     let f = c .before .before in
     let passed = f .before .before .before in
     let z = sym (passed .before .set-refusal .ensures) ∙ passed .if1 .left in
-    (z, omega (arith, square-le-4096 _ (rank-accepted _ _ (rank-of-set _ _ _ z) .1), f .no-letters .ensures))
+    (z, omega (arith, square-le-4096 _ (rank-accepted _ _ (rank-of-set _ _ _ z) .1), f .letters-4096 .ensures))
 
 same-length-3 : tie.Need-same-length-3
 same-length-3 c = search needs
@@ -79,17 +79,17 @@ between-windows-spec =
     (tie.spec
     set-refusal-requires
     returns
-    few-letters-requires
+    letters-64-requires
     slice-aggregate-write-between
     write-between-requires
     same-length
     returns-2
-    more-letters-requires
+    letters-256-requires
     slice-aggregate-write-between-2
     write-between-requires-2
     same-length-2
     returns-3
-    no-letters-requires
+    letters-4096-requires
     slice-aggregate-write-between-3
     write-between-requires-3
     same-length-3

@@ -9,8 +9,8 @@ use Rattle.descents.proofs.splitting.split_accepted.Tie as tie
 lanes-requires : tie.Need-lanes-requires
 lanes-requires c κs = search needs
 
-blank-requires : tie.Need-blank-requires
-blank-requires c κs = search needs
+entries-64-requires : tie.Need-entries-64-requires
+entries-64-requires c κs = search needs
 
 slice-aggregate-show : tie.Need-slice-aggregate-show
 slice-aggregate-show c = search needs
@@ -49,7 +49,7 @@ split-accepted-spec =
     tie.close
     (tie.spec
     lanes-requires
-    blank-requires
+    entries-64-requires
     slice-aggregate-show
     show-requires
     array-share-prefix-w

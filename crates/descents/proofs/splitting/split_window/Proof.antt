@@ -9,8 +9,8 @@ use Rattle.descents.proofs.splitting.split_window.Tie as tie
 lanes-requires : tie.Need-lanes-requires
 lanes-requires c κs = search needs
 
-blank-requires : tie.Need-blank-requires
-blank-requires c κs = search needs
+entries-64-requires : tie.Need-entries-64-requires
+entries-64-requires c κs = search needs
 
 slice-aggregate-invert : tie.Need-slice-aggregate-invert
 slice-aggregate-invert c = search needs
@@ -76,7 +76,7 @@ split-window-spec =
     tie.close
     (tie.spec
     lanes-requires
-    blank-requires
+    entries-64-requires
     slice-aggregate-invert
     invert-requires
     array-borrow-prefix-rest

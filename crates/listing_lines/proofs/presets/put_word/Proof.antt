@@ -38,7 +38,7 @@ shown : (c : tie.After-m) → let w = c .before .before .before in
 shown c =
     let w = c .before .before .before in
     let pre = start (formed w .before .before .before) .pre in
-    window-front _ _ _ (pre .0) (pre .1) _ _ (w .before .before .blank .ensures) _ (w .window-of-word .ensures) _ (c .m .given .1)
+    window-front _ _ _ (pre .0) (pre .1) _ _ (w .before .before .entries-64 .ensures) _ (w .window-of-word .ensures) _ (c .m .given .1)
 
 inside-form : (c : tie.After-l) → c .l .given .0 .0 ≤ length (c .before .before .before .normal-form-of-word .last .1 .1 .1 .0)
 inside-form c =
@@ -48,7 +48,7 @@ inside-form c =
 inside-shown : (c : tie.After-m) → c .m .given .0 .0 ≤ length (c .before .before .before .window-of-word .last .1 .1 .1 .0)
 inside-shown c =
     let w = c .before .before .before in
-    omega (arith, shown c .bound, w .before .before .blank .ensures, w .window-of-word .kept .1 .1 .1 .0)
+    omega (arith, shown c .bound, w .before .before .entries-64 .ensures, w .window-of-word .kept .1 .1 .1 .0)
 
 buffer-requires : tie.Need-buffer-requires
 buffer-requires c κs = search needs
@@ -72,8 +72,8 @@ returns c =
     absurd
     (form-never _ _ _ (pre .0) (pre .1) _ _ _ (n .before .before .buffer .ensures) (n .normal-form-of-word .ensures) _ (c .enum-told .given .1))
 
-blank-requires : tie.Need-blank-requires
-blank-requires c κs = search needs
+entries-64-requires : tie.Need-entries-64-requires
+entries-64-requires c κs = search needs
 
 slice-aggregate-window-of-word : tie.Need-slice-aggregate-window-of-word
 slice-aggregate-window-of-word c = search needs
@@ -92,7 +92,7 @@ returns-2 c =
     let w = c .before .before .before in
     let pre = start (formed w .before .before .before) .pre in
     absurd
-    (window-never _ _ _ (pre .0) (pre .1) _ _ (w .before .before .blank .ensures) _ (w .window-of-word .ensures) _ (c .enum-told2 .given .1))
+    (window-never _ _ _ (pre .0) (pre .1) _ _ (w .before .before .entries-64 .ensures) _ (w .window-of-word .ensures) _ (c .enum-told2 .given .1))
 
 array-share-prefix-form : tie.Need-array-share-prefix-form
 array-share-prefix-form c = inside-form (c .before .before .before .before .before .before .before .before)
@@ -131,7 +131,7 @@ put-word-spec =
     enum-known-l
     enum-told
     returns
-    blank-requires
+    entries-64-requires
     slice-aggregate-window-of-word
     window-of-word-requires
     enum-known-m

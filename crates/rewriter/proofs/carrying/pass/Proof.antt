@@ -7,8 +7,8 @@ use borrow.Author.Needs.{needs}
 use Rattle.rewriter.proofs.carrying.pass.Statement.{statement}
 use Rattle.rewriter.proofs.carrying.pass.Tie as tie
 
-corner-of-requires : tie.Need-corner-of-requires
-corner-of-requires c κs = search needs
+levels-of-requires : tie.Need-levels-of-requires
+levels-of-requires c κs = search needs
 
 add-left : tie.Need-add-left
 add-left c = search needs
@@ -45,14 +45,14 @@ returns c =
     let moved = noted .before .before .before .before .before .before in
     let s = moved .before .before .before .before .before .before .before .before in
     let turned = moved .before .before in
-    passed (s .pre) _ refl (turned .corner-of .ensures) (moved .shift .ensures .0) (moved .shift .ensures .1) (moved .shift .ensures .2)
+    passed (s .pre) _ refl (turned .levels-of .ensures) (moved .shift .ensures .0) (moved .shift .ensures .1) (moved .shift .ensures .2)
     (moved .shift .ensures .3) (noted .note-passed .ensures .0) (noted .note-passed .ensures .1) (noted .note-passed .ensures .2)
 
 pub pass-spec : {M : Type 1} → statement M
 pass-spec =
     tie.close
     (tie.spec
-    corner-of-requires
+    levels-of-requires
     add-left
     shift-requires
     sub-note-passed

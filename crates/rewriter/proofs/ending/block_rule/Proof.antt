@@ -8,8 +8,8 @@ use borrow.Author.Needs.{needs}
 use Rattle.rewriter.proofs.ending.block_rule.Statement.{statement}
 use Rattle.rewriter.proofs.ending.block_rule.Tie as tie
 
-corner-of-requires : tie.Need-corner-of-requires
-corner-of-requires c κs = search needs
+levels-of-requires : tie.Need-levels-of-requires
+levels-of-requires c κs = search needs
 
 last-index-of-requires : tie.Need-last-index-of-requires
 last-index-of-requires c κs = search needs
@@ -26,7 +26,7 @@ returns c =
     let k = m .before in
     let s = k .before in
     block-goes-on (kindOf (s .args .kind)) (s .args .n) (s .args .place) (s .args .i) (s .args .j) (s .args .x) _ _ _
-    (k .corner-of .ensures) (m .last-index-of .ensures) (g .next-index .ensures) (c .if1 .taken)
+    (k .levels-of .ensures) (m .last-index-of .ensures) (g .next-index .ensures) (c .if1 .taken)
 
 fork-of-requires : tie.Need-fork-of-requires
 fork-of-requires c κs = search needs
@@ -44,7 +44,7 @@ returns-2 c =
     let k = m .before in
     let s = k .before in
     block-no-rule (kindOf (s .args .kind)) (s .args .n) (s .args .place) (s .args .i) (s .args .j) (s .args .x) _ _ _
-    (k .corner-of .ensures) (m .last-index-of .ensures) (g .next-index .ensures)
+    (k .levels-of .ensures) (m .last-index-of .ensures) (g .next-index .ensures)
     _ _ (a .if1 .left) (d .fork-of .ensures) (f .family-at .ensures) (c .if2 .taken)
 
 shown-index-requires : tie.Need-shown-index-requires
@@ -67,14 +67,14 @@ returns-3 c =
     let k = m .before in
     let s = k .before in
     block-has-rule (kindOf (s .args .kind)) (s .args .n) (s .args .place) (s .args .i) (s .args .j) (s .args .x) _ _ _
-    (k .corner-of .ensures) (m .last-index-of .ensures) (g .next-index .ensures)
+    (k .levels-of .ensures) (m .last-index-of .ensures) (g .next-index .ensures)
     _ _ (a .if1 .left) (d .fork-of .ensures) (f .family-at .ensures) _ _ (b .if2 .left) (v .shown-index .ensures) (c .first-letter .ensures)
 
 pub block-rule-spec : {M : Type 1} → statement M
 block-rule-spec =
     tie.close
     (tie.spec
-    corner-of-requires
+    levels-of-requires
     last-index-of-requires
     next-index-requires
     returns

@@ -30,8 +30,8 @@ start-of-requires c κs = search needs
 returns : tie.Need-returns
 returns c = begun-rising _ _ _ _ _ _ _ (c .before .before .floor-of .ensures) refl refl (c .before .if1 .taken) (c .start-of .ensures)
 
-corner-of-requires : tie.Need-corner-of-requires
-corner-of-requires c κs = search needs
+levels-of-requires : tie.Need-levels-of-requires
+levels-of-requires c κs = search needs
 
 cast-back : tie.Need-cast-back
 cast-back c =
@@ -53,7 +53,7 @@ returns-2 c =
     let e = t .before in
     let s = e .before .before .before .before .before .before in
     begun-falling _ _ _ _ _ _ _ (e .before .before .floor-of .ensures) refl refl (e .before .if1 .left)
-    (stopped-rising _ _ (s .pre .0 .0) _ _ (s .pre .1 .0) (sym (e .corner-of .ensures) ∙ t .if2 .taken) _ _ (e .before .if1 .left) (omega arith)
+    (stopped-rising _ _ (s .pre .0 .0) _ _ (s .pre .1 .0) (sym (e .levels-of .ensures) ∙ t .if2 .taken) _ _ (e .before .if1 .left) (omega arith)
     (c .if4 .taken))
 
 start-of-requires-2 : tie.Need-start-of-requires-2
@@ -75,7 +75,7 @@ place-of-spec =
     sub-start-of
     start-of-requires
     returns
-    corner-of-requires
+    levels-of-requires
     cast-back
     sub-p
     sub-p-2

@@ -29,8 +29,8 @@ searchable s = record { rank = s .pre .0 .0; letters = letters-accepted _ _ (s .
 shared-slice-read-i : tie.Need-shared-slice-read-i Inv-loop μ-loop
 shared-slice-read-i c = search needs
 
-corner-of-requires : tie.Need-corner-of-requires Inv-loop μ-loop
-corner-of-requires c κs = search needs
+levels-of-requires : tie.Need-levels-of-requires Inv-loop μ-loop
+levels-of-requires c κs = search needs
 
 last-index-of-requires : tie.Need-last-index-of-requires Inv-loop μ-loop
 last-index-of-requires c κs =
@@ -80,7 +80,7 @@ answered t =
     let l = t .before .before .before .before .before in
     let f = l .before in
     searching-found _ _ _ (searchable (f .before .before .before .before .before)) _ _ _ _ _ _ _ _ _
-    (f .before .before .corner-of .ensures)
+    (f .before .before .levels-of .ensures)
     (f .before .last-index-of .ensures)
     (f .fork-of .ensures)
     (l .loop .inv)
@@ -116,7 +116,7 @@ loop-again c =
     let f = l .before in
     let s = f .before .before .before .before .before in
     searching-next _ _ _ (searchable s) _ _ _ _ _ _ _
-    (f .before .before .corner-of .ensures)
+    (f .before .before .levels-of .ensures)
     (f .before .last-index-of .ensures)
     (l .loop .inv)
     (c .before .before .before .loop-test .taken)
@@ -135,7 +135,7 @@ fitting-rule-spec =
     Inv-loop
     μ-loop
     shared-slice-read-i
-    corner-of-requires
+    levels-of-requires
     last-index-of-requires
     fork-of-requires
     add-at

@@ -6,8 +6,8 @@ use Rattle.coxeter.proofs.Acceptance.{length-accepted}
 use Rattle.rewriter.proofs.tracing.write_trace.Statement.{statement}
 use Rattle.rewriter.proofs.tracing.write_trace.Tie as tie
 
-few-letters-requires : tie.Need-few-letters-requires
-few-letters-requires c κs = search needs
+letters-128-requires : tie.Need-letters-128-requires
+letters-128-requires c κs = search needs
 
 slice-aggregate-write-in : tie.Need-slice-aggregate-write-in
 slice-aggregate-write-in c = search needs
@@ -30,8 +30,8 @@ same-length-4 c = search needs
 returns : tie.Need-returns
 returns c = search needs
 
-no-letters-requires : tie.Need-no-letters-requires
-no-letters-requires c κs = search needs
+letters-4096-requires : tie.Need-letters-4096-requires
+letters-4096-requires c κs = search needs
 
 slice-aggregate-write-in-2 : tie.Need-slice-aggregate-write-in-2
 slice-aggregate-write-in-2 c = search needs
@@ -39,7 +39,7 @@ slice-aggregate-write-in-2 c = search needs
 write-in-requires-2 : tie.Need-write-in-requires-2
 write-in-requires-2 c κs =
     let p = c .before .before .before .before .before .before .before .before .before .before .before .before .pre in
-    let letters = c .before .before .before .before .before .no-letters .ensures in
+    let letters = c .before .before .before .before .before .letters-4096 .ensures in
     (p .0, (p .1 .0, (p .1 .1 .0, (p .1 .1 .1, omega (arith, length-accepted _ _ (p .0 .word), letters)))))
 
 same-length-5 : tie.Need-same-length-5
@@ -61,7 +61,7 @@ pub write-trace-spec : {M : Type 1} → statement M
 write-trace-spec =
     tie.close
     (tie.spec
-    few-letters-requires
+    letters-128-requires
     slice-aggregate-write-in
     write-in-requires
     same-length
@@ -69,7 +69,7 @@ write-trace-spec =
     same-length-3
     same-length-4
     returns
-    no-letters-requires
+    letters-4096-requires
     slice-aggregate-write-in-2
     write-in-requires-2
     same-length-5

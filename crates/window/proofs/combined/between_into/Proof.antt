@@ -12,8 +12,8 @@ use Rattle.window.proofs.combined.between_into.Tie as tie
 lanes-requires : tie.Need-lanes-requires
 lanes-requires c κs = search needs
 
-blank-requires : tie.Need-blank-requires
-blank-requires c κs = search needs
+entries-64-requires : tie.Need-entries-64-requires
+entries-64-requires c κs = search needs
 
 slice-aggregate-inverse-into : tie.Need-slice-aggregate-inverse-into
 slice-aggregate-inverse-into c = search needs
@@ -22,7 +22,7 @@ inverse-into-requires : tie.Need-inverse-into-requires
 inverse-into-requires c κs =
     let made = c .before in
     let pre = made .before .before .pre in
-    (pre .0, (pre .1 .0, made-room _ _ (pre .0) _ (made .blank .result) (pre .1 .0) (made .blank .ensures)))
+    (pre .0, (pre .1 .0, made-room _ _ (pre .0) _ (made .entries-64 .result) (pre .1 .0) (made .entries-64 .ensures)))
 
 -- what the work window holds after the call
 held : (c : tie.After-inverse-into)
@@ -31,7 +31,7 @@ held : (c : tie.After-inverse-into)
 held c =
     let made = c .before .before in
     let pre = made .before .before .pre in
-    front-written _ _ (pre .0) _ _ _ (inverse-passes _ _ _ (pre .1 .0)) (made .blank .ensures) (c .inverse-into .ensures)
+    front-written _ _ (pre .0) _ _ _ (inverse-passes _ _ _ (pre .1 .0)) (made .entries-64 .ensures) (c .inverse-into .ensures)
 
 array-share-prefix-back : tie.Need-array-share-prefix-back
 array-share-prefix-back c =
@@ -69,7 +69,7 @@ between-into-spec =
     tie.close
     (tie.spec
     lanes-requires
-    blank-requires
+    entries-64-requires
     slice-aggregate-inverse-into
     inverse-into-requires
     array-share-prefix-back

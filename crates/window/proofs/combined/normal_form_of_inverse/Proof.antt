@@ -16,15 +16,15 @@ ranked-window-refusal-requires c κs = search needs
 returns : tie.Need-returns
 returns c = writes-refused _ _ _ _ _ refl (c .before .ranked-window-refusal .ensures) (c .if1 .taken)
 
-blank-requires : tie.Need-blank-requires
-blank-requires c κs = search needs
+entries-64-requires : tie.Need-entries-64-requires
+entries-64-requires c κs = search needs
 
 slice-aggregate-inverse-into : tie.Need-slice-aggregate-inverse-into
 slice-aggregate-inverse-into c = search needs
 
 inverse-into-requires : tie.Need-inverse-into-requires
 inverse-into-requires c κs =
-    let work = c .before .blank in
+    let work = c .before .entries-64 in
     let passed = two-accepted _ _ _ (c .before .before .before .ranked-window-refusal .ensures) (c .before .before .if1 .left) in
     (passed .0, (passed .1, made-room _ _ (passed .0) _ (work .result) (passed .1) (work .ensures)))
 
@@ -36,7 +36,7 @@ write-checked-requires c κs =
     let made = c .before .before .before in
     let first = made .before .before .before in
     let passed = two-accepted _ _ _ (first .before .ranked-window-refusal .ensures) (first .if1 .left) in
-    made-asks _ _ (passed .0) _ _ _ (inverse-passes _ _ _ (passed .1)) (made .before .before .blank .ensures) (made .inverse-into .ensures)
+    made-asks _ _ (passed .0) _ _ _ (inverse-passes _ _ _ (passed .1)) (made .before .before .entries-64 .ensures) (made .inverse-into .ensures)
 
 same-length : tie.Need-same-length
 same-length c = search needs
@@ -48,7 +48,7 @@ returns-2 c =
     let first = made .before .before .before in
     let refusal = first .before .ranked-window-refusal .ensures in
     let passed = two-accepted _ _ _ refusal (first .if1 .left) in
-    let work = made .before .before .blank .ensures in
+    let work = made .before .before .entries-64 .ensures in
     made-written _ _ (passed .0) _ _ _ (inverse-passes _ _ _ (passed .1)) work (made .inverse-into .ensures) _ _ _ _ _ _ refl refusal (first .if1 .left)
     (called .write-checked .ensures)
 
@@ -58,7 +58,7 @@ normal-form-of-inverse-spec =
     (tie.spec
     ranked-window-refusal-requires
     returns
-    blank-requires
+    entries-64-requires
     slice-aggregate-inverse-into
     inverse-into-requires
     slice-aggregate-write-checked

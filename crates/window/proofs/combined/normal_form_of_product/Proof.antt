@@ -17,15 +17,15 @@ ranked-windows-refusal-requires c κs = search needs
 returns : tie.Need-returns
 returns c = writes-refused _ _ _ _ _ refl (c .before .ranked-windows-refusal .ensures) (c .if1 .taken)
 
-blank-requires : tie.Need-blank-requires
-blank-requires c κs = search needs
+entries-64-requires : tie.Need-entries-64-requires
+entries-64-requires c κs = search needs
 
 slice-aggregate-product-into : tie.Need-slice-aggregate-product-into
 slice-aggregate-product-into c = search needs
 
 product-into-requires : tie.Need-product-into-requires
 product-into-requires c κs =
-    let work = c .before .blank in
+    let work = c .before .entries-64 in
     let passed = windows-accepted _ _ _ _ _ (c .before .before .before .ranked-windows-refusal .ensures) (c .before .before .if1 .left) in
     (passed .0, (passed .1 .0, (passed .1 .1, made-room _ _ (passed .0) _ (work .result) (passed .1 .1) (work .ensures))))
 
@@ -37,7 +37,7 @@ write-checked-requires c κs =
     let made = c .before .before .before in
     let first = made .before .before .before in
     let passed = windows-accepted _ _ _ _ _ (first .before .ranked-windows-refusal .ensures) (first .if1 .left) in
-    made-asks _ _ (passed .0) _ _ _ (product-passes _ _ _ _ (passed .1 .0) (passed .1 .1)) (made .before .before .blank .ensures) (made .product-into .ensures)
+    made-asks _ _ (passed .0) _ _ _ (product-passes _ _ _ _ (passed .1 .0) (passed .1 .1)) (made .before .before .entries-64 .ensures) (made .product-into .ensures)
 
 same-length : tie.Need-same-length
 same-length c = search needs
@@ -49,7 +49,7 @@ returns-2 c =
     let first = made .before .before .before in
     let refusal = first .before .ranked-windows-refusal .ensures in
     let passed = windows-accepted _ _ _ _ _ refusal (first .if1 .left) in
-    let work = made .before .before .blank .ensures in
+    let work = made .before .before .entries-64 .ensures in
     made-written _ _ (passed .0) _ _ _ (product-passes _ _ _ _ (passed .1 .0) (passed .1 .1)) work
     (made .product-into .ensures) _ _ _ _ _ _ refl refusal (first .if1 .left) (called .write-checked .ensures)
 
@@ -59,7 +59,7 @@ normal-form-of-product-spec =
     (tie.spec
     ranked-windows-refusal-requires
     returns
-    blank-requires
+    entries-64-requires
     slice-aggregate-product-into
     product-into-requires
     slice-aggregate-write-checked

@@ -10,8 +10,8 @@ use borrow.Author.Needs.{needs}
 use Rattle.window.proofs.shown.crossings_of_shown.Statement.{statement}
 use Rattle.window.proofs.shown.crossings_of_shown.Tie as tie
 
-blank-requires : tie.Need-blank-requires
-blank-requires c κs = search needs
+entries-64-requires : tie.Need-entries-64-requires
+entries-64-requires c κs = search needs
 
 slice-aggregate-show-front : tie.Need-slice-aggregate-show-front
 slice-aggregate-show-front c = search needs
@@ -20,7 +20,7 @@ show-front-requires : tie.Need-show-front-requires
 show-front-requires c κs =
     let made = c .before in
     let pre = made .before .before .pre in
-    (pre .0, (pre .1, room _ _ (pre .0) (made .blank .result) (made .blank .ensures)))
+    (pre .0, (pre .1, room _ _ (pre .0) (made .entries-64 .result) (made .entries-64 .ensures)))
 
 -- what the work window holds after the call
 held : (c : tie.After-show-front)
@@ -28,7 +28,7 @@ held : (c : tie.After-show-front)
     Front (a .kind) (a .rank) (window (kindOf (a .kind)) (a .rank) (a .word .now)) (c .show-front .last .1 .1 .1 .0)
 held c =
     let made = c .before .before in
-    front-written _ _ (made .before .before .pre .0) _ _ _ (window-passes _ _ _) (made .blank .ensures) (c .show-front .ensures)
+    front-written _ _ (made .before .before .pre .0) _ _ _ (window-passes _ _ _) (made .entries-64 .ensures) (c .show-front .ensures)
 
 slice-aggregate-crossings-of-front : tie.Need-slice-aggregate-crossings-of-front
 slice-aggregate-crossings-of-front c = search needs
@@ -45,7 +45,7 @@ pub crossings-of-shown-spec : {M : Type 1} → statement M
 crossings-of-shown-spec =
     tie.close
     (tie.spec
-    blank-requires
+    entries-64-requires
     slice-aggregate-show-front
     show-front-requires
     slice-aggregate-crossings-of-front

@@ -22,8 +22,8 @@ returns c =
     let counted = c .before in
     lanes-differ _ _ _ _ _ _ _ _ (counted .before .lanes .ensures) (counted .lanes2 .ensures) (c .if1 .taken)
 
-blank-requires : tie.Need-blank-requires
-blank-requires c κs = search needs
+entries-64-requires : tie.Need-entries-64-requires
+entries-64-requires c κs = search needs
 
 slice-aggregate-show-front : tie.Need-slice-aggregate-show-front
 slice-aggregate-show-front c = search needs
@@ -31,10 +31,10 @@ slice-aggregate-show-front c = search needs
 show-front-requires : tie.Need-show-front-requires
 show-front-requires c κs =
     let pre = c .before .before .before .before .before .before .before .pre in
-    (pre .0, (pre .1 .0, room _ _ (pre .0) (c .before .blank .result) (c .before .blank .ensures)))
+    (pre .0, (pre .1 .0, room _ _ (pre .0) (c .before .entries-64 .result) (c .before .entries-64 .ensures)))
 
-blank-requires-2 : tie.Need-blank-requires-2
-blank-requires-2 c κs = search needs
+entries-64-requires-2 : tie.Need-entries-64-requires-2
+entries-64-requires-2 c κs = search needs
 
 -- what the first work window holds
 first : (c : tie.After-show-front)
@@ -42,7 +42,7 @@ first : (c : tie.After-show-front)
     Front (a .kind-a) (a .rank-a) (window (kindOf (a .kind-a)) (a .rank-a) (a .a .now)) (c .show-front .last .1 .1 .1 .0)
 first c =
     let made = c .before .before in
-    front-written _ _ (made .before .before .before .before .before .before .pre .0) _ _ _ (window-passes _ _ _) (made .blank .ensures) (c .show-front .ensures)
+    front-written _ _ (made .before .before .before .before .before .before .pre .0) _ _ _ (window-passes _ _ _) (made .entries-64 .ensures) (c .show-front .ensures)
 
 slice-aggregate-show-front-2 : tie.Need-slice-aggregate-show-front-2
 slice-aggregate-show-front-2 c = search needs
@@ -50,7 +50,7 @@ slice-aggregate-show-front-2 c = search needs
 show-front-requires-2 : tie.Need-show-front-requires-2
 show-front-requires-2 c κs =
     let pre = c .before .before .before .before .before .before .before .before .before .before .before .pre in
-    (pre .1 .1 .0, (pre .1 .1 .1, room _ _ (pre .1 .1 .0) (c .before .blank2 .result) (c .before .blank2 .ensures)))
+    (pre .1 .1 .0, (pre .1 .1 .1, room _ _ (pre .1 .1 .0) (c .before .entries-642 .result) (c .before .entries-642 .ensures)))
 
 -- and the second
 second : (c : tie.After-show-front2)
@@ -59,7 +59,7 @@ second : (c : tie.After-show-front2)
 second c =
     let made = c .before .before in
     let pre = made .before .before .before .before .before .before .before .before .before .before .pre in
-    front-written _ _ (pre .1 .1 .0) _ _ _ (window-passes _ _ _) (made .blank2 .ensures) (c .show-front2 .ensures)
+    front-written _ _ (pre .1 .1 .0) _ _ _ (window-passes _ _ _) (made .entries-642 .ensures) (c .show-front2 .ensures)
 
 slice-aggregate-same-fronts : tie.Need-slice-aggregate-same-fronts
 slice-aggregate-same-fronts c = search needs
@@ -95,10 +95,10 @@ same-presets-spec =
     lanes-requires
     lanes-requires-2
     returns
-    blank-requires
+    entries-64-requires
     slice-aggregate-show-front
     show-front-requires
-    blank-requires-2
+    entries-64-requires-2
     slice-aggregate-show-front-2
     show-front-requires-2
     slice-aggregate-same-fronts

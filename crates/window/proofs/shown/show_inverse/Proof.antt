@@ -11,8 +11,8 @@ use Rattle.window.proofs.shown.show_inverse.Tie as tie
 lanes-requires : tie.Need-lanes-requires
 lanes-requires c κs = search needs
 
-blank-requires : tie.Need-blank-requires
-blank-requires c κs = search needs
+entries-64-requires : tie.Need-entries-64-requires
+entries-64-requires c κs = search needs
 
 slice-aggregate-show-front : tie.Need-slice-aggregate-show-front
 slice-aggregate-show-front c = search needs
@@ -21,7 +21,7 @@ show-front-requires : tie.Need-show-front-requires
 show-front-requires c κs =
     let made = c .before in
     let pre = made .before .before .before .pre in
-    (pre .0, (pre .1 .0, room _ _ (pre .0) (made .blank .result) (made .blank .ensures)))
+    (pre .0, (pre .1 .0, room _ _ (pre .0) (made .entries-64 .result) (made .entries-64 .ensures)))
 
 -- what the work window holds after the call
 held : (c : tie.After-show-front)
@@ -29,7 +29,7 @@ held : (c : tie.After-show-front)
     Front (a .kind) (a .rank) (window (kindOf (a .kind)) (a .rank) (a .word .now)) (c .show-front .last .1 .1 .1 .0)
 held c =
     let made = c .before .before in
-    front-written _ _ (made .before .before .before .pre .0) _ _ _ (window-passes _ _ _) (made .blank .ensures) (c .show-front .ensures)
+    front-written _ _ (made .before .before .before .pre .0) _ _ _ (window-passes _ _ _) (made .entries-64 .ensures) (c .show-front .ensures)
 
 array-share-prefix-work : tie.Need-array-share-prefix-work
 array-share-prefix-work c =
@@ -69,7 +69,7 @@ show-inverse-spec =
     tie.close
     (tie.spec
     lanes-requires
-    blank-requires
+    entries-64-requires
     slice-aggregate-show-front
     show-front-requires
     array-share-prefix-work
