@@ -1,15 +1,15 @@
 -- Refused conversions in plain terms (I29, B25, C13, C17 and C18 of the specification).
 -- Not here: what an accepted conversion leaves (Sentences).
 --
--- Sections: the limits; the records; converting; refusals 17 and 18.
+-- Sections: the limits; converting; refusals 17 and 18; refusals 13 and 14.
 -- Assumes nothing.
 use mathlib.Core.Path.{_≡_, refl, sym, ap, _∙_}
 use mathlib.Core.Bool.{true, true≢false}
 use mathlib.Core.Logic.{_↔_}
 use mathlib.Core.List.{List, [], _∷_, _++_}
-use Prim.Native.Nat.{ℕ, zero, suc, _+_, _≤_, _<_}
+use Prim.Native.Nat.{ℕ, _+_, _-_, _≤_, _<_}
 use native.Mathlib.Decide.{ℕ-discrete}
-use native.Mathlib.Nat.{add-zero, zero-add, add-suc, suc-add}
+use native.Mathlib.Nat.{zero-add}
 use native.Mathlib.Omega.{arith}
 use lib.ListN.{length, getD}
 use borrow.Author.Tests.{lt-ltb, ltb-true}
@@ -18,6 +18,7 @@ use Rattle.coxeter.specs.declared.Answer.the-variants.{Length, Refused}
 use Rattle.coxeter.specs.Checks.{firstOf, check, _then_, tooShort, wordRefusal}
 use Rattle.coxeter.specs.Calls.{Yields, writes}
 use Rattle.coxeter.proofs.Refusals.{then-none, then-some}
+use Rattle.coxeter.proofs.Writes.{length-or-refused}
 use Rattle.coxeter.proofs.TestLaws.{zero-not-one}
 use Rattle.book_format.specs.declared.Edition.{Edition}
 use Rattle.book_format.specs.declared.Edition.the-variants.{First, Second}
@@ -27,10 +28,12 @@ use Rattle.book_format.specs.declared.Preset.the-variants as preset
 use Rattle.book_format.specs.Calls.{checkedPreset}
 use Rattle.book_format.specs.Conversion.{converted, tooManyLanes, recordConversionRefusal, recordsConversionRefusal}
 use Rattle.book_format.specs.Conversion.{conversionRefusal, converting, recordTests, recordsTests}
+use Rattle.book_format.proofs.BookLaws.{accepted}
 use Rattle.book_format.proofs.Numbers.{then-late, then-early, check-other, check-holds, answerOf-refused, rank-other, word-other}
 use Rattle.book_format.proofs.Outcomes.{recordConversionRefusal-firstOf, conversionRefusal-firstOf, converting-firstOf, bookRefusal-le, first-lane-count}
 use Rattle.book_format.proofs.Unchanged.{converting-unchanged}
-use Rattle.book_format.proofs.Converting.{conversion-too-large}
+use Rattle.book_format.proofs.ConversionRecords.{at-record, records-stop, records-pass, records-refused, records-each, passes-tests}
+use Rattle.book_format.proofs.Converting.{conversion-too-large, conversion-small, length-converted}
 use Rattle.book_format.proofs.Sentences.{convert-answers}
 use Rattle.book_format.proofs.PresetLaws.{presetRefusal-record}
 use Rattle.book_format.proofs.ReadingSentences.{record-17, preset-refusal}
@@ -47,52 +50,6 @@ pub many-lanes-exactly : (ed : Edition) (b : List ℕ) (o : ℕ) → (tooManyLan
 unfolding tooManyLanes
 many-lanes-exactly First b o = (λ e. absurd (true≢false (sym e)), λ t. let e = t .0 in absurd (zero-not-one (cc)))
 many-lanes-exactly Second b o = (λ e. (refl, ltb-true 32 (lanesAt Second b o) e), λ t. lt-ltb 32 (lanesAt Second b o) (t .1))
-
--- ---- the records
-
-module _ (ed : Edition) (b : List ℕ) where
-  -- the refusal of record i
-  abbrev at-record : ℕ → ℕ
-  at-record i = recordConversionRefusal ed b (offset b i)
-
-  passes-next : (i j : ℕ) → ((x : ℕ) → x < suc j → at-record (i + x) ≡ 0) → (x : ℕ) → x < j → at-record (suc i + x) ≡ 0
-  passes-next i j p x h = rw (suc-add i x, ← add-suc i x) (p (suc x) (omega arith))
-
-  passes-all : (i j : ℕ) → at-record i ≡ 0 → ((x : ℕ) → x < j → at-record (suc i + x) ≡ 0) → (x : ℕ) → x < suc j → at-record (i + x) ≡ 0
-  passes-all i j z p zero h = rw (add-zero i) z
-  passes-all i j z p (suc x) h = rw (add-suc i x, ← suc-add i x) (p x (omega arith))
-
-  -- the first record that is refused stops the walk, and where none is it ends
-  records-stop : (t i j r : ℕ) → j < t → ((x : ℕ) → x < j → at-record (i + x) ≡ 0) → at-record (i + j) ≡ r → (r ≡ 0 → ⊥)
-      → recordsConversionRefusal ed b t i ≡ r
-  unfolding recordsConversionRefusal
-  records-stop zero i j r h p e f = absurd (omega arith)
-  records-stop (suc t) i zero r h p e f =
-      ap (λ q. q then recordsConversionRefusal ed b t (suc i)) (rw (add-zero i) at e) ∙ then-some r (recordsConversionRefusal ed b t (suc i)) f
-  records-stop (suc t) i (suc j) r h p e f =
-      then-none (at-record i) (recordsConversionRefusal ed b t (suc i)) (rw (add-zero i) at (p 0 (omega arith)))
-      ∙ records-stop t (suc i) j r (omega arith) (passes-next i j p) (rw (add-suc i j, ← suc-add i j) at e) f
-
-  records-pass : (t i : ℕ) → ((x : ℕ) → x < t → at-record (i + x) ≡ 0) → recordsConversionRefusal ed b t i ≡ 0
-  unfolding recordsConversionRefusal
-  records-pass zero i p = refl
-  records-pass (suc t) i p =
-      then-none (at-record i) (recordsConversionRefusal ed b t (suc i)) (rw (add-zero i) at (p 0 (omega arith))) ∙ records-pass t (suc i) (passes-next i t p)
-
-  -- a refusal is that of a record whose predecessors pass
-  records-refused : (t i r : ℕ) → recordsConversionRefusal ed b t i ≡ r → (r ≡ 0 → ⊥)
-      → (j : ℕ) × (j < t) × ((x : ℕ) → x < j → at-record (i + x) ≡ 0) × (at-record (i + j) ≡ r)
-  unfolding recordsConversionRefusal
-  records-refused zero i r e f = absurd (f (sym e))
-  records-refused (suc t) i r e f = elim (ℕ-discrete (at-record i) 0) [
-    | yes z ↦
-        let q = records-refused t (suc i) r (sym (then-none (at-record i) (recordsConversionRefusal ed b t (suc i)) z) ∙ e) f in
-        (suc (q .0), omega (arith, q .1), passes-all i (q .0) z (q .2), rw (add-suc i (q .0), ← suc-add i (q .0)) (q .3))
-    | no g ↦ (zero, omega arith, λ x h. absurd (omega arith), rw (add-zero i) (sym (then-some (at-record i) (recordsConversionRefusal ed b t (suc i)) g) ∙ e))
-  ]
-
-  passes-tests : (j : ℕ) → ((i : ℕ) → i < j → firstOf (recordTests ed b i) ≡ 0) → (x : ℕ) → x < j → at-record (0 + x) ≡ 0
-  passes-tests j p x h = rw (zero-add x) (recordConversionRefusal-firstOf ed b x ∙ p x h)
 
 -- ---- converting
 
@@ -187,22 +144,23 @@ module _ (ed : Edition) (b before after : List ℕ) (a : Answer) (c : Yields (co
 
 -- ---- refusals 17 and 18
 
-record-other : (ed : Edition) (b : List ℕ) (o : ℕ) → recordRefusal ed b o ≡ 18 → ⊥
+-- a record is refused with 17 or a number up to 8
+record-other : (ed : Edition) (b : List ℕ) (o r : ℕ) → 8 < r → (17 ≡ r → ⊥) → recordRefusal ed b o ≡ r → ⊥
 unfolding recordRefusal
-record-other ed b o e =
+record-other ed b o r h f e =
     let rank = bookRankRefusal ed (kindAt b o) (rankAt b o) in
     let lane = check 17 (wrongLaneCount ed b o) in
     let word = wordRefusal (rankAt b o) (lettersAt ed b o) in
-    let p = then-late rank (lane then word) 18 (rank-other ed (kindAt b o) (rankAt b o) 18 (omega arith)) e in
-    let q = then-late lane word 18 (check-other 17 18 (wrongLaneCount ed b o) (λ z. omega arith) (λ z. omega arith)) (p .1) in
-    word-other (rankAt b o) (lettersAt ed b o) 18 (omega arith) (q .1)
+    let p = then-late rank (lane then word) r (rank-other ed (kindAt b o) (rankAt b o) r (omega arith)) e in
+    let q = then-late lane word r (check-other 17 r (wrongLaneCount ed b o) f (λ z. omega arith)) (p .1) in
+    word-other (rankAt b o) (lettersAt ed b o) r h (q .1)
 
 -- the record at byte o is refused 18
 record-18 : (ed : Edition) (b : List ℕ) (o : ℕ) → (recordConversionRefusal ed b o ≡ 18) ↔ ((recordRefusal ed b o ≡ 0) × (tooManyLanes ed b o ≡ true))
 unfolding recordConversionRefusal
 record-18 ed b o = (
   λ e.
-      let p = then-late (recordRefusal ed b o) (check 18 (tooManyLanes ed b o)) 18 (record-other ed b o) e in
+      let p = then-late (recordRefusal ed b o) (check 18 (tooManyLanes ed b o)) 18 (record-other ed b o 18 (omega arith) (λ z. omega arith)) e in
       (p .0, check-holds 18 (tooManyLanes ed b o) (λ z. omega arith) (p .1)),
   λ p. rw (p .0, p .1),
 )
@@ -246,3 +204,67 @@ first-edition-converted b before after a c = (
       let q = record-18 First b (offset b (p .1 .0)) .0 (p .1 .3) in
       true≢false (sym (q .1)),
 )
+
+-- ---- refusals 13 and 14
+
+records-other : (ed : Edition) (b : List ℕ) (r : ℕ) → 8 < r → r < 17 → recordsConversionRefusal ed b (count b) 0 ≡ r → ⊥
+unfolding recordConversionRefusal
+records-other ed b r h g e =
+    let q = records-refused ed b (count b) 0 r e (λ z. omega arith) in
+    let o = offset b (0 + q .0) in
+    let few = check-other 18 r (tooManyLanes ed b o) (λ z. omega arith) (λ z. omega arith) in
+    record-other ed b o r h (λ z. omega arith) (then-early (recordRefusal ed b o) (check 18 (tooManyLanes ed b o)) r few (q .3))
+
+-- the book opens, its records pass, and only the length of the new book is left
+size-left : (ed : Edition) (b before after : List ℕ) (a : Answer) → Yields (converting ed b before) a after → a ≡ Refused 13
+    → (bookRefusal ed b ≡ 0) × ((i : ℕ) → i < count b → firstOf (recordTests ed b i) ≡ 0) × (65535 < length (converted ed b))
+unfolding conversionRefusal
+size-left ed b before after a c e =
+    let l = length (converted ed b) in
+    let records = recordsConversionRefusal ed b (count b) 0 in
+    let size = check 13 (tooLarge l) in
+    let fourteen = check-other 14 13 (tooShort l before) (λ z. omega arith) (λ z. omega arith) in
+    let whole = then-early (conversionRefusal ed b) (check 14 (tooShort l before)) 13 fourteen (convert-refusal ed b before after a c 13 .0 e .0) in
+    let p = then-late (bookRefusal ed b) (records then size) 13 (λ z. omega (arith, bookRefusal-le ed b)) whole in
+    let q = then-late records size 13 (records-other ed b 13 (omega arith) (omega arith)) (p .1) in
+    let each : (i : ℕ) → i < count b → firstOf (recordTests ed b i) ≡ 0 =
+    λ i h. sym (recordConversionRefusal-firstOf ed b i) ∙ rw (zero-add i) at (records-each ed b (count b) 0 (q .0) i h) in
+    (p .0, each, too-large-exactly l .0 (check-holds 13 (tooLarge l) (λ z. omega arith) (q .1)))
+
+-- C13, I29: a book of the first edition is refused 13 exactly when it opens, each of its records passes its checks, and
+-- one byte more for each record makes it longer than 65,535 bytes
+pub convert-13-exactly : (b before after : List ℕ) (a : Answer) → Yields (converting First b before) a after
+    → (a ≡ Refused 13)
+    ↔ ((bookRefusal First b ≡ 0) × ((i : ℕ) → i < count b → firstOf (recordTests First b i) ≡ 0) × (65535 < length b + count b))
+convert-13-exactly b before after a c = (
+  λ e.
+      let p = size-left First b before after a c e in
+      (p .0, p .1, rw (length-converted First b (accepted First b (p .0))) at (p .2)),
+  λ p. convert-too-large First b before after a c (p .0) (p .1) (rw (length-converted First b (accepted First b (p .0))) (p .2)) .0,
+)
+
+-- C13, I29: a book of the second edition is never refused 13, since it has one byte less for each record in the first
+pub convert-never-13 : (b before after : List ℕ) (a : Answer) → Yields (converting Second b before) a after → a ≡ Refused 13 → ⊥
+convert-never-13 b before after a c e =
+    let p = size-left Second b before after a c e in
+    let w = accepted Second b (p .0) in
+    let h : 65535 < length b - count b = rw (length-converted Second b w) at (p .2) in
+    omega arith
+
+-- M2, C14: 65,535 bytes are room for every converted book
+pub convert-room : (ed : Edition) (b before after : List ℕ) (a : Answer) → Yields (converting ed b before) a after
+    → 65535 ≤ length before → a ≡ Refused 14 → ⊥
+unfolding conversionRefusal
+convert-room ed b before after a c h e =
+    let l = length (converted ed b) in
+    let r = conversionRefusal ed b in
+    let records = recordsConversionRefusal ed b (count b) 0 in
+    let size = check 13 (tooLarge l) in
+    elim (ℕ-discrete r 0) [
+      | yes z ↦ let m = conversion-small ed b z in length-or-refused (convert-answers ed b before after a c l .1 (z, refl, omega arith)) e
+      | no f ↦
+          let w = sym (then-some r (check 14 (tooShort l before)) f) ∙ convert-refusal ed b before after a c 14 .0 e .0 in
+          let p = then-late (bookRefusal ed b) (records then size) 14 (λ z. omega (arith, bookRefusal-le ed b)) w in
+          let q = then-late records size 14 (records-other ed b 14 (omega arith) (omega arith)) (p .1) in
+          check-other 13 14 (tooLarge l) (λ z. omega arith) (λ z. omega arith) (q .1)
+    ]

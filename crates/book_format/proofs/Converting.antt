@@ -118,11 +118,12 @@ record-same ed ed′ b d (suc t) i (suc j) e h =
 
 -- ---- the converted book
 
--- the converted book, of no bytes and of some
+-- B24, B28: the converted book of no bytes has none
 pub converted-bytes : (ed : Edition) (b : List ℕ) → length b ≡ 0 → converted ed b ≡ []
 unfolding converted
 converted-bytes ed b z = rw z
 
+-- B24: of a book with bytes it is the same records, laid out in the other edition
 pub converted-some : (ed : Edition) (b : List ℕ) → (length b ≡ 0 → ⊥) → converted ed b ≡ layOut (other ed) (recordsOf ed b)
 unfolding converted
 converted-some ed b f = rw (ne-eqb (length b) 0 f)
@@ -152,6 +153,7 @@ conversion-parts ed b z =
 pub conversion-opens : (ed : Edition) (b : List ℕ) → conversionRefusal ed b ≡ 0 → bookRefusal ed b ≡ 0
 conversion-opens ed b z = conversion-parts ed b z .0
 
+-- M2, C13: a book that is not refused has at most 65,535 bytes in the other edition
 pub conversion-small : (ed : Edition) (b : List ℕ) → conversionRefusal ed b ≡ 0 → length (converted ed b) ≤ 65535
 conversion-small ed b z = conversion-parts ed b z .2
 
@@ -330,7 +332,7 @@ length-second (r ∷ rs) =
     simp length-append (omega arith)
 
 -- the records of a book end at its trailer
-length-records : (ed : Edition) (b : List ℕ) (t i o : ℕ) → misplacedFrom ed b t i o ≡ false → o + length (recordBytes ed (recordsFrom ed b t i)) ≡ trailer b
+pub length-records : (ed : Edition) (b : List ℕ) (t i o : ℕ) → misplacedFrom ed b t i o ≡ false → o + length (recordBytes ed (recordsFrom ed b t i)) ≡ trailer b
 unfolding recordBytes recordsFrom
 length-records ed b zero i o e = add-zero o ∙ walk-end ed b i o e
 length-records ed b (suc t) i o e =

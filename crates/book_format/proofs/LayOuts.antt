@@ -71,13 +71,13 @@ recordAt-in Second b o r i h =
 module _ (ed : Edition) where
   -- ---- parts
 
-  recordBytes-append : (rs ss : List Record) → recordBytes ed (rs ++ ss) ≡ recordBytes ed rs ++ recordBytes ed ss
+  pub recordBytes-append : (rs ss : List Record) → recordBytes ed (rs ++ ss) ≡ recordBytes ed rs ++ recordBytes ed ss
   unfolding recordBytes
   recordBytes-append [] ss = refl
   recordBytes-append (r ∷ rs) ss =
       rw (recordBytes-append rs ss, append-assoc (recordOf ed (r .kind) (r .rank) (r .lanes) (r .letters)) (recordBytes ed rs) (recordBytes ed ss))
 
-  length-none : length (recordBytes ed []) ≡ 0
+  pub length-none : length (recordBytes ed []) ≡ 0
   unfolding recordBytes
   length-none = refl
 
@@ -88,7 +88,7 @@ module _ (ed : Edition) where
   length-recordBytes : (rs ss : List Record) → length (recordBytes ed (rs ++ ss)) ≡ length (recordBytes ed rs) + length (recordBytes ed ss)
   length-recordBytes rs ss = ap length (recordBytes-append rs ss) ∙ length-append (recordBytes ed rs) (recordBytes ed ss)
 
-  offsetBytes-append : (rs ss : List Record) (o : ℕ) → offsetBytes ed o (rs ++ ss) ≡ offsetBytes ed o rs ++ offsetBytes ed (o + length (recordBytes ed rs)) ss
+  pub offsetBytes-append : (rs ss : List Record) (o : ℕ) → offsetBytes ed o (rs ++ ss) ≡ offsetBytes ed o rs ++ offsetBytes ed (o + length (recordBytes ed rs)) ss
   unfolding offsetBytes
   offsetBytes-append [] ss o = rw (length-none, add-zero o)
   offsetBytes-append (r ∷ rs) ss o =
@@ -135,7 +135,7 @@ module _ (ed : Edition) where
 
   -- ---- one record
 
-  length-around : (qs : List Record) (r : Record) (rs : List Record)
+  pub length-around : (qs : List Record) (r : Record) (rs : List Record)
       → length (recordBytes ed (qs ++ (r ∷ rs))) ≡ length (recordBytes ed qs) + headSize ed + length (r .letters) + length (recordBytes ed rs)
   length-around qs r rs = omega (arith, length-recordBytes qs (r ∷ rs), length-record r rs)
 
@@ -185,7 +185,7 @@ module _ (ed : Edition) where
 
   -- ---- the records
 
-  length-snoc : (qs : List Record) (r : Record) → length (qs ++ (r ∷ [])) ≡ suc (length qs)
+  pub length-snoc : (qs : List Record) (r : Record) → length (qs ++ (r ∷ [])) ≡ suc (length qs)
   length-snoc qs r = length-append qs (r ∷ []) ∙ add-one (length qs)
 
   -- of the book b the records qs have been read, and the records rs are left

@@ -12,6 +12,7 @@ pub mod BookBytes
 pub mod RecordLaws
 pub mod LayOuts
 pub mod Converting
+pub mod AppendedBytes
 pub mod NoBytes
 pub mod Retired
 pub mod Vectors
@@ -21,5 +22,6 @@ pub mod ReadingSentences
 pub mod OpenedExactly
 pub mod FoundExactly
 pub mod RunsOfPresets
-pub mod AppendingSentences
+pub mod ConversionRecords
 pub mod ConversionSentences
+pub mod AppendingSentences

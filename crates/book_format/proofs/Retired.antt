@@ -4,7 +4,7 @@
 -- Assumes nothing.
 use mathlib.Core.Path.{_≡_, refl, _∙_}
 use mathlib.Core.Logic.{_↔_}
-use mathlib.Core.Bool.{true, false, and-eq-true-iff}
+use mathlib.Core.Bool.{Bool, true, false, and-eq-true-iff}
 use mathlib.Core.List.{List}
 use Prim.Native.Nat.{ℕ}
 use lib.Dec.{eqb}
@@ -22,6 +22,14 @@ pub retired-exactly : (k n : ℕ) → (retired k n ≡ true) ↔ ((k ≡ 1) × (
 unfolding retired
 retired-exactly k n =
     (λ h. let t = and-eq-true-iff (eqb k 1) (eqb n 1) .0 h in (eqb-true k 1 (t .0), eqb-true n 1 (t .1)), λ p. rw (eq-eqb k 1 (p .0), eq-eqb n 1 (p .1)))
+
+-- and no other is
+pub not-retired : (k n : ℕ) → ((k ≡ 1) × (n ≡ 1) → ⊥) → retired k n ≡ false
+not-retired k n f = cases (retired k n) refl
+  where
+    cases : (t : Bool) → retired k n ≡ t → retired k n ≡ false
+    cases true e = absurd (f (retired-exactly k n .0 e))
+    cases false e = e
 
 -- the calls on words and windows, and the records of a book
 pub rank-1-taken : RankOf 1 1

@@ -8,7 +8,7 @@
 -- no bytes.
 -- Assumes nothing.
 use mathlib.Core.Path.{_≡_, refl, sym, ap, _∙_}
-use mathlib.Core.Bool.{Bool, true, false}
+use mathlib.Core.Bool.{false}
 use mathlib.Core.Logic.{_↔_}
 use mathlib.Core.List.{List, [], _∷_, _++_}
 use Prim.Native.Nat.{ℕ, _+_, _-_, _≤_, _<_}
@@ -27,7 +27,7 @@ use Rattle.book_format.specs.declared.Edition.{Edition}
 use Rattle.book_format.specs.declared.Edition.the-variants.{First, Second}
 use Rattle.book_format.specs.declared.Opened.the-variants as opened
 use Rattle.book_format.specs.declared.Preset.the-variants as preset
-use Rattle.book_format.specs.Books.{count, trailer, offset, headSize, addedSize, retired, bookRankRefusal, bookRefusal, appended, appendRefusal}
+use Rattle.book_format.specs.Books.{count, trailer, offset, headSize, addedSize, bookRankRefusal, bookRefusal, appended, appendRefusal}
 use Rattle.book_format.specs.Records.{recordsFrom, recordsOf, Bytes}
 use Rattle.book_format.specs.Calls.{presetOf, checkedBook, checkedPreset, lettersOf, lettersStart, readingPresets, appending, Grown}
 use Rattle.book_format.specs.Conversion.{other, converted, conversionRefusal, converting, SamePreset, Converted}
@@ -44,7 +44,7 @@ use Rattle.book_format.proofs.Converting.{convertible, recordsOf-conver
 use Rattle.book_format.proofs.Converting.{convert-converted, convert-back, convert-back-accepted, length-converted}
 use Rattle.book_format.proofs.NoBytes.{opening-no-bytes, preset-of-no-bytes, letters-of-no-bytes}
 use Rattle.book_format.proofs.NoBytes.{run-of-no-bytes, append-to-no-bytes, converting-no-bytes}
-use Rattle.book_format.proofs.Retired.{retired-exactly}
+use Rattle.book_format.proofs.Retired.{not-retired}
 
 -- ---- a book grown by a preset
 
@@ -237,13 +237,6 @@ convert-length-second b before after l c =
 headSize-le : (ed : Edition) → headSize ed ≤ 5
 headSize-le First = omega arith
 headSize-le Second = omega arith
-
-not-retired : (k n : ℕ) → ((k ≡ 1) × (n ≡ 1) → ⊥) → retired k n ≡ false
-not-retired k n f = cases (retired k n) refl
-  where
-    cases : (t : Bool) → retired k n ≡ t → retired k n ≡ false
-    cases true e = absurd (f (retired-exactly k n .0 e))
-    cases false e = e
 
 module _ (ed : Edition) where
   -- B10

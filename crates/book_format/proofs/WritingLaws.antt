@@ -115,6 +115,7 @@ append-book ed b k n u e = append-parts ed b k n u e .0
 pub append-preset : (ed : Edition) (b : List ℕ) (k n : ℕ) (u : List ℕ) → appendRefusal ed b k n u ≡ 0 → (bookRankRefusal ed k n then wordRefusal n u) ≡ 0
 append-preset ed b k n u e = let p = append-parts ed b k n u e in then-none (bookRankRefusal ed k n) (wordRefusal n u) (p .1) ∙ p .2
 
+-- M2, C13: an appended book that is not refused has at most 65,535 bytes
 pub append-size : (ed : Edition) (b : List ℕ) (k n : ℕ) (u : List ℕ) → appendRefusal ed b k n u ≡ 0 → length (appended ed b k n u) ≤ 65535
 unfolding tooLarge
 append-size ed b k n u e =

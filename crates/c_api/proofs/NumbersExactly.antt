@@ -1,4 +1,4 @@
--- Numbers of calls for C: what is left of a list of numbers and of the outputs beside it, exactly, and when the number
+-- Numbers of calls for C: which number an answer has, what is left of a list of numbers and of the outputs beside it, exactly, and when the number
 -- says that there is no fallback (IC3 and IC4 of the specification).
 -- Assumes nothing.
 use mathlib.Core.Path.{_≡_, refl, sym, ap, _∙_}
@@ -15,14 +15,35 @@ use Rattle.coxeter.specs.Length.{windowLength}
 use Rattle.coxeter.specs.Checks.{RankOf, WordOf, wrongKind, wrongRank, tooLong, wrongLetter, tooShort}
 use Rattle.coxeter.proofs.FirstFailing.{firstOf-named}
 use Rattle.coxeter.proofs.TestLaws.{zero-not-one}
+use Rattle.coxeter.specs.declared.Answer.the-variants as answer
+use Rattle.rules.specs.Rules.{Rule}
 use Rattle.shortest_words.specs.declared.Fallback.{Fallback}
 use Rattle.shortest_words.specs.declared.Fallback.the-variants.{Kept, No, Refused}
 use Rattle.shortest_words.specs.Fallback.{FallbackOf, isFallback}
 use Rattle.shortest_words.specs.Calls.{fallbackAnswer}
 use Rattle.shortest_words.proofs.Firsts.{fallback-firstOf, fallbackOf-exactly}
 use Rattle.shortest_words.proofs.Sentences.{no-exactly}
-use Rattle.c_api.specs.Calls.{refused, listed, listedBeside}
+use Rattle.c_api.specs.Calls.{refused, numberOf, listed, listedBeside, forC, rewriting}
 use Rattle.c_api.specs.Shortest.{fallbackNumber, FallbackNumbered}
+use Rattle.c_api.proofs.Unchanged.{rewriting-unchanged}
+
+-- ---- one number
+
+-- IC2: a length is its number, and refusal k is −k
+pub answers-numbered : ((l : ℕ) → numberOf (answer.Length l) ≡ pos l) × ((r : ℕ) → numberOf (answer.Refused (suc r)) ≡ negsuc r)
+unfolding numberOf refused
+answers-numbered = (λ l. refl, λ r. refl)
+
+-- IC2, IC4: a rewrite's number is the new length, −100 if none fits, and −k if it is refused with k
+pub rewrites-numbered : ((x : Rule) (l : ℕ) → forC .used x l ≡ pos l) × (forC .noneFits ≡ negsuc 99) × ((r : ℕ) → forC .refused (suc r) ≡ negsuc r)
+unfolding refused
+rewrites-numbered = (λ x l. refl, refl, λ r. refl)
+
+-- IC4: if none fits, nothing is written
+pub none-fits-unwritten : (k n : ℕ) (u : List ℕ) (p : ℕ) (out rule : List ℕ) → rewriting k n u p out rule .0 ≡ negsuc 99
+    → rewriting k n u p out rule .1 ≡ (out, rule)
+unfolding refused
+none-fits-unwritten k n u p out rule e = rewriting-unchanged k n u p out rule 99 e
 
 -- ---- numbers that go to a list
 

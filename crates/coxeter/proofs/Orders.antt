@@ -14,7 +14,7 @@ use lib.Dec.{eqb}
 use lib.ListN.{length}
 use borrow.Author.Tests.{eqb-true, eq-eqb}
 use Rattle.coxeter.specs.declared.Choice.the-variants as choices
-use Rattle.coxeter.specs.Kinds.{kindOf, lanes}
+use Rattle.coxeter.specs.Kinds.{pick, kindOf, lanes}
 use Rattle.coxeter.specs.Windows.{window}
 use Rattle.coxeter.specs.Dictionary.{before, shortlex}
 use Rattle.coxeter.specs.Checks.{_then_, rankRefusal, wordRefusal, RankOf, WordOf}
@@ -146,15 +146,22 @@ module _ (k n : ℕ) (u v : List ℕ) where
       back (inr (e, inl b)) = shortlex-asymm u v (shortlex-before u v e b)
       back (inr (e, inr q)) = rw q (shortlex-irrefl v)
 
--- V3, V4, V5, V6, I16: what is handed back is the lent word that the choice names, or with neither an empty part at the
--- start of the first
-pub better-as-chosen : (hands second : Bool) (u v r : RefT (List ℕ)) → Better hands second u v r
-    → (choice hands second ≡ choices.First → r ≡ u)
+-- V3 to V6, I16: what is handed back is exactly what I17 answers: the first word itself, or the second, or an empty part
+-- at the start of the first
+pub better-exactly : (hands second : Bool) (u v r : RefT (List ℕ)) → Better hands second u v r
+    ↔ ((choice hands second ≡ choices.First → r ≡ u)
     × (choice hands second ≡ choices.Second → r ≡ v)
-    × (choice hands second ≡ choices.Neither → (now r ≡ []) × (r .ptr ≡ u .ptr))
-better-as-chosen hands second u v r b =
-    let c = choice-exactly hands second in (
-      λ e. let p = c .2 .0 e in b .whole (p .0) ∙ rw (p .1),
-      λ e. let p = c .1 .0 e in b .whole (p .0) ∙ rw (p .1),
-      λ e. b .empty (c .0 .0 e),
-    )
+    × (choice hands second ≡ choices.Neither → (now r ≡ []) × (r .ptr ≡ u .ptr)))
+better-exactly hands second u v r = (
+  λ b.
+      let c = choice-exactly hands second in (
+        λ e. let p = c .2 .0 e in b .whole (p .0) ∙ rw (p .1),
+        λ e. let p = c .1 .0 e in b .whole (p .0) ∙ rw (p .1),
+        λ e. b .empty (c .0 .0 e),
+      ),
+  λ t. record { whole = whole second (t .0) (t .1); empty = λ h. t .2 (choice-exactly hands second .0 .1 h) },
+)
+  where
+    whole : (which : Bool) → (choice hands which ≡ choices.First → r ≡ u) → (choice hands which ≡ choices.Second → r ≡ v) → hands ≡ true → r ≡ pick which v u
+    whole true f g h = g (choice-exactly hands true .1 .1 (h, refl))
+    whole false f g h = f (choice-exactly hands false .2 .1 (h, refl))

@@ -14,6 +14,7 @@ pub mod Scan
 pub mod ScanFamilies
 pub mod ScanRules
 pub mod RuleFields
+pub mod RuleRanges
 pub mod Calls
 pub mod Occurrences
 pub mod CallLists

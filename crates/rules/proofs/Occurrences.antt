@@ -70,6 +70,12 @@ pub rewrite-refused : (s : Interface) (k n : ℕ) (u : List ℕ) (p : ℕ) (o : 
 unfolding rewriteAt
 rewrite-refused s k n u p o f = rw (place-checks k n u p, ne-eqb _ 0 f)
 
+-- I19, T3: a call meets its contract exactly if its answer and its outputs afterwards are those of one rewrite, for every
+-- input
+pub rewrote-exactly : (s : Interface) (k n : ℕ) (u : List ℕ) (p : ℕ) (before after : s .Outputs) (a : s .Answer) → Rewrote s k n u p before after a
+    ↔ ((a ≡ rewriteAt s k n u p before .answer) × (after ≡ rewriteAt s k n u p before .outputs))
+rewrote-exactly s k n u p before after a = (λ w. (w .answer, w .outputs), λ w. record { answer = w .0; outputs = w .1 })
+
 -- I19, CO3: the library's own call is refused, other than by 14, exactly with the number of the first of these
 -- checks that fails; T8 says when it is refused 14
 pub rewrite-refused-exactly : (k n : ℕ) (u : List ℕ) (p : ℕ) (before after : List ℕ) (a : Rewrite) → Rewrote single k n u p before after a

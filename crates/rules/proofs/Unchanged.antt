@@ -2,7 +2,7 @@
 -- every kind, rank, word, place and output, accepted or not. By cases on the refusal, on the rule that fits and on
 -- check 14: each transition that does not stay uses a rule.
 -- Assumes nothing.
-use mathlib.Core.Path.{_≡_, refl}
+use mathlib.Core.Path.{_≡_, refl, sym, _∙_}
 use mathlib.Core.Bool.{Bool, true, false}
 use mathlib.Core.List.{List}
 use mathlib.Core.Option.{Option, none, some}
@@ -13,8 +13,9 @@ use lib.ListN.{length}
 use Rattle.coxeter.specs.Kinds.{pick, kindOf}
 use Rattle.coxeter.specs.Checks.{check, _then_, rankRefusal, wordRefusal}
 use Rattle.rules.specs.declared.Rewrite.the-variants.{Used, NoneFits, Refused}
+use Rattle.rules.specs.declared.Rewrite.{Rewrite}
 use Rattle.rules.specs.Rules.{Rule, rules, firstFitting, rewritten}
-use Rattle.rules.specs.Calls.{pastEnd, Transition, changed, unchanged, rewriteBy, rewriteAt, single}
+use Rattle.rules.specs.Calls.{pastEnd, Transition, changed, unchanged, rewriteBy, rewriteAt, Rewrote, single}
 
 -- the output and the word are as they were, or a rule is used
 data Kept (u out : List ℕ) : Transition single → Type 0 where
@@ -56,3 +57,8 @@ module _ (k n : ℕ) (u : List ℕ) (p : ℕ) (out : List ℕ) where
   pub rewrite-noneFits-unchanged : rewriteAt single k n u p out .answer ≡ NoneFits
       → (rewriteAt single k n u p out .outputs ≡ out) × (rewriteAt single k n u p out .word ≡ u)
   rewrite-noneFits-unchanged = noneFits-stays (rewriteAt-kept k n u p out)
+
+-- D6, I19: a call that is refused leaves its output as it was lent, whatever it was given
+pub refused-rewrite-unchanged : (k n : ℕ) (u : List ℕ) (p : ℕ) (before after : List ℕ) (a : Rewrite) → Rewrote single k n u p before after a
+    → (r : ℕ) → a ≡ Refused r → after ≡ before
+refused-rewrite-unchanged k n u p before after a w r e = w .outputs ∙ rewrite-refused-unchanged k n u p before r (sym (w .answer) ∙ e) .0
