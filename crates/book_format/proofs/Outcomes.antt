@@ -69,6 +69,25 @@ none-last s = elim (ℕ-discrete s 0) [ yes z ↦ then-none s 0 z ∙ sym z | no
 
 -- ---- a preset by its number, and appending
 
+-- I26, CO2: a record, wherever it stands, is refused by the first that fails of checks 5, 6, 17, 7 and 8
+pub recordRefusal-firstOf : (ed : Edition) (b : List ℕ) (o : ℕ) → recordRefusal ed b o
+    ≡ firstOf
+    ((5, wrongKind (kindAt b o))
+    ∷ (6, wrongRankInBook ed (kindOf (kindAt b o)) (rankAt b o))
+    ∷ (17, wrongLaneCount ed b o)
+    ∷ (7, tooLong (lettersAt ed b o))
+    ∷ (8, wrongLetter (rankAt b o) (lettersAt ed b o))
+    ∷ [])
+unfolding recordRefusal
+recordRefusal-firstOf ed b o =
+    let k = kindAt b o in
+    let n = rankAt b o in
+    let u = lettersAt ed b o in
+    rank-then ed k n (check 17 (wrongLaneCount ed b o) then wordRefusal n u)
+    ∙ ap (λ r. pick (wrongKind k) 5 (pick (wrongRankInBook ed (kindOf k) n) 6 r))
+    (check-then 17 (wrongLaneCount ed b o) _ (omega arith)
+    ∙ ap (pick (wrongLaneCount ed b o) 17) (sym (none-last (wordRefusal n u)) ∙ word-then n u 0))
+
 pub presetRefusal-firstOf : (ed : Edition) (b : List ℕ) (i : ℕ) → let o = offset b i in
     presetRefusal ed b i
     ≡ firstOf
@@ -82,20 +101,12 @@ pub presetRefusal-firstOf : (ed : Edition) (b : List ℕ) (i : ℕ) → let o = 
     ∷ (7, tooLong (lettersAt ed b o))
     ∷ (8, wrongLetter (rankAt b o) (lettersAt ed b o))
     ∷ [])
-unfolding presetRefusal recordRefusal
+unfolding presetRefusal
 presetRefusal-firstOf ed b i =
     let o = offset b i in
-    let k = kindAt b o in
-    let n = rankAt b o in
-    let u = lettersAt ed b o in
-    bookRefusal-then ed b (check 4 (noSuchPreset b i) then bookRankRefusal ed k n then check 17 (wrongLaneCount ed b o) then wordRefusal n u)
+    bookRefusal-then ed b (check 4 (noSuchPreset b i) then recordRefusal ed b o)
     ∙ ap (λ r. pick (wrongSize b) 1 (pick (wrongCount b) 2 (pick (misplaced ed b) 3 r)))
-    (check-then 4 (noSuchPreset b i) _ (omega arith)
-    ∙ ap (pick (noSuchPreset b i) 4)
-    (rank-then ed k n (check 17 (wrongLaneCount ed b o) then wordRefusal n u)
-    ∙ ap (λ r. pick (wrongKind k) 5 (pick (wrongRankInBook ed (kindOf k) n) 6 r))
-    (check-then 17 (wrongLaneCount ed b o) _ (omega arith)
-    ∙ ap (pick (wrongLaneCount ed b o) 17) (sym (none-last (wordRefusal n u)) ∙ word-then n u 0))))
+    (check-then 4 (noSuchPreset b i) _ (omega arith) ∙ ap (pick (noSuchPreset b i) 4) (recordRefusal-firstOf ed b o))
 
 pub appendRefusal-firstOf : (ed : Edition) (b : List ℕ) (k n : ℕ) (u : List ℕ)
     → appendRefusal ed b k n u

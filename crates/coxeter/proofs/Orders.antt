@@ -14,7 +14,7 @@ use lib.Dec.{eqb}
 use lib.ListN.{length}
 use borrow.Author.Tests.{eqb-true, eq-eqb}
 use Rattle.coxeter.specs.declared.Choice.the-variants as choices
-use Rattle.coxeter.specs.Kinds.{pick, kindOf, lanes}
+use Rattle.coxeter.specs.Kinds.{Kind, pick, kindOf, lanes}
 use Rattle.coxeter.specs.Windows.{window}
 use Rattle.coxeter.specs.Dictionary.{before, shortlex}
 use Rattle.coxeter.specs.Checks.{_then_, rankRefusal, wordRefusal, RankOf, WordOf}
@@ -74,6 +74,11 @@ same-presets-exactly k n u l m v =
       λ h. (eqb-true _ _ (both .0 h .0), sameWindow-true a b (both .0 h .1)),
       λ p. both .1 (eq-eqb _ _ (p .0), sameWindow-of-eq a b (p .1)),
     )
+
+-- V3: two words are equal exactly if they have one window, whatever they are
+pub equal-words-exactly : (k : Kind) (n : ℕ) (u v : List ℕ) → (equalWords k n u v ≡ true) ↔ (window k n u ≡ window k n v)
+unfolding equalWords
+equal-words-exactly k n u v = (sameWindow-true (window k n u) (window k n v), sameWindow-of-eq (window k n u) (window k n v))
 
 -- V3, V5, I16, I17: one of two words is handed back exactly when no check refuses and they have one window
 pub hands-back-exactly : (k n : ℕ) (u v : List ℕ) → (handsBack k n u v ≡ true)

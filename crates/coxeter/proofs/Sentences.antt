@@ -240,13 +240,20 @@ flag-yes-exactly w part rest h =
     let o = odd-exactly (negatives part) in
     (λ e. o .0 (sym same ∙ e), λ e. same ∙ o .1 e)
 
+-- C11: the test holds exactly in kind D with an odd number of negative entries, whatever the other checks say
+pub odd-negatives-exactly : (k : Kind) (w : List ℤ) → (oddNegatives k w ≡ true) ↔ ((k ≡ D) × Odd (negatives w))
+unfolding oddNegatives
+odd-negatives-exactly A w = (λ h. absurd (false≢true h), λ h. let q = h .0 in let z : _≡_ {A = ℕ} 0 1 = cc in absurd (omega arith))
+odd-negatives-exactly B w = (λ h. absurd (false≢true h), λ h. let q = h .0 in let z : _≡_ {A = ℕ} 0 1 = cc in absurd (omega arith))
+odd-negatives-exactly D w = (λ h. (refl, odd-exactly (negatives w) .0 h), λ h. odd-exactly (negatives w) .1 (h .1))
+
 -- C11: kind D with an odd number of negative entries, if checks 9 and 10 accept
 pub refusal-11-exactly : (k : Kind) (n : ℕ) (w : List ℤ) → (windowRefusal k n w ≡ 11)
     ↔ ((wrongLanes k n w ≡ false) × (wrongEntry k (lanes k n) w ≡ false) × (k ≡ D) × Odd (negatives w))
-unfolding windowRefusal oddNegatives
+unfolding windowRefusal
 refusal-11-exactly k n w =
     let e = last (wrongLanes k n w) (wrongEntry k (lanes k n) w) (oddNegatives k w) in
-    let f = in-D k in (
+    let f = odd-negatives-exactly k w in (
       λ h. let s = e .0 h in let t = f .0 (s .2) in (s .0, s .1, t .0, t .1),
       λ h. e .1 (h .0, h .1, f .1 (h .2, h .3)),
     )
@@ -256,11 +263,6 @@ refusal-11-exactly k n w =
     last false true r = (λ h. absurd (omega arith), λ h. absurd (true≢false (h .1)))
     last false false true = (λ h. (refl, refl, refl), λ h. refl)
     last false false false = (λ h. absurd (omega arith), λ h. absurd (false≢true (h .2)))
-
-    in-D : (k : Kind) → (oddNegatives k w ≡ true) ↔ ((k ≡ D) × Odd (negatives w))
-    in-D A = (λ h. absurd (false≢true h), λ h. let q = h .0 in let z : _≡_ {A = ℕ} 0 1 = cc in absurd (omega arith))
-    in-D B = (λ h. absurd (false≢true h), λ h. let q = h .0 in let z : _≡_ {A = ℕ} 0 1 = cc in absurd (omega arith))
-    in-D D = (λ h. (refl, odd-exactly (negatives w) .0 h), λ h. odd-exactly (negatives w) .1 (h .1))
 
 -- ---- sixty-four lanes
 

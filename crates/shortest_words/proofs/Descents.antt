@@ -15,10 +15,12 @@ use Rattle.coxeter.proofs.Levels.{Accepted}
 use Rattle.coxeter.proofs.Descents.{crossed, length-of-crossed, length-of-uncrossed}
 use Rattle.shortest_words.specs.Descents.{isDescent}
 
+-- X2: a step that makes the window shorter is a descent
 pub descent-of-shorter : (k : Kind) (n s : ℕ) (w : List ℤ) → windowLength k (act k n s w) < windowLength k w → isDescent k n s w ≡ true
 unfolding isDescent
 descent-of-shorter k n s w g = lt-ltb (windowLength k (act k n s w)) (windowLength k w) g
 
+-- X2: and no other step is
 pub not-descent : (k : Kind) (n s : ℕ) (w : List ℤ) → windowLength k w ≤ windowLength k (act k n s w) → isDescent k n s w ≡ false
 unfolding isDescent
 not-descent k n s w g = le-ltb (windowLength k (act k n s w)) (windowLength k w) g
