@@ -1,0 +1,405 @@
+// Tests of winnathey.mjs: every function, every refusal, wrong arguments, and the stored answers of the C test. Run
+// with `node --test bindings/javascript/winnathey.test.mjs`. The library is target/targets/wasm32/winnathey.wasm, or the file
+// that WINNATHEY_WASM names.
+import assert from 'node:assert/strict';
+import { readFileSync } from 'node:fs';
+import { test } from 'node:test';
+import { fileURLToPath } from 'node:url';
+
+import { KINDS, MAX_BOOK, MAX_LANES, MAX_NORMAL_FORM, MAX_WORD, Refusal, Winnathey, load } from './winnathey.mjs';
+
+const root = new URL('../../', import.meta.url);
+const wasm = process.env.WINNATHEY_WASM ?? fileURLToPath(new URL('target/targets/wasm32/winnathey.wasm', root));
+const w = await load(wasm);
+
+/** The number of the refusal that a call throws. */
+function refusal(call) {
+    try {
+        call();
+    } catch (error) {
+        assert.ok(error instanceof Refusal, String(error));
+        assert.equal(error.name, 'Refusal');
+        assert.equal(error.sentence, w.refusalSentence(error.number));
+        assert.equal(error.message, `refused ${error.number}: ${error.sentence}`);
+        return error.number;
+    }
+    return 0;
+}
+
+const D5 = [4, 4, 2, 5, 3, 5, 1, 2];
+const BOOK = [2, 2, 4, 0, 1, 2, 1, 2, 3, 5, 6, 0, 5, 2, 3, 5, 1, 2, 0, 0, 8, 0, 2, 0];
+const SECOND = [2, 2, 2, 4, 0, 1, 2, 1, 2, 3, 5, 5, 6, 0, 5, 2, 3, 5, 1, 2, 0, 0, 9, 0, 2, 0];
+const TOO_LONG = new Uint8Array(MAX_WORD + 1).fill(1);
+
+// ---- loading
+
+test('loads from a path, a URL, bytes and a module', async () => {
+    const url = new URL(`file://${wasm}`);
+    const bytes = readFileSync(wasm);
+    const view = new Uint8Array(bytes);
+    for (const source of [wasm, url, url.href, bytes, view, view.buffer, await WebAssembly.compile(bytes)]) {
+        assert.equal((await load(source)).lengthOfWord('A', 2, [1, 2, 1]), 3);
+    }
+    const data = `data:application/wasm;base64,${bytes.toString('base64')}`;
+    assert.equal((await load(data)).lengthOfWord('A', 2, [1, 2, 1]), 3);
+    await assert.rejects(load(`${wasm}.none`), { code: 'ENOENT' });
+});
+
+test('the module imports nothing, and exports the functions of the header, its memory and where that is free', async () => {
+    const module = await WebAssembly.compile(readFileSync(wasm));
+    const header = readFileSync(new URL('include/winnathey.h', root), 'utf8');
+    const declared = [...header.matchAll(/^int64_t (winnathey_\w+)\(/gm)].map(([, name]) => name);
+    assert.ok(declared.length >= 32);
+    assert.deepEqual(WebAssembly.Module.imports(module), []);
+    const exported = WebAssembly.Module.exports(module).map(({ name }) => name);
+    assert.deepEqual(exported.sort(), ['__heap_base', 'memory', ...declared].sort());
+});
+
+test('the version is that of the file VERSION', () => {
+    assert.equal(w.version(), readFileSync(new URL('VERSION', root), 'utf8').trim());
+});
+
+test('the constants are those of the header', () => {
+    const header = readFileSync(new URL('include/winnathey.h', root), 'utf8');
+    const defined = name => Number(header.match(new RegExp(`#define WINNATHEY_${name} (\\d+)`))[1]);
+    assert.deepEqual(
+        [MAX_LANES, MAX_WORD, MAX_NORMAL_FORM, MAX_BOOK],
+        ['MAX_LANES', 'MAX_WORD', 'MAX_NORMAL_FORM', 'MAX_BOOK'].map(defined),
+    );
+    assert.deepEqual(['A', 'B', 'D'].map(kind => KINDS[defined(`KIND_${kind}`)]), ['A', 'B', 'D']);
+});
+
+// ---- every function
+
+test('words', () => {
+    assert.deepEqual(w.windowOfWord('D', 5, D5), [3, -5, 1, 4, -2]);
+    assert.deepEqual(w.windowOfWord(3, 5, Uint8Array.from(D5)), [3, -5, 1, 4, -2]);
+    assert.deepEqual(w.normalFormOfWord('D', 5, D5), [5, 2, 3, 5, 1, 2]);
+    assert.deepEqual(w.normalFormOfWord('B', 2, [1, 2, 1, 2]), [2, 1, 2, 1]);
+    assert.deepEqual(w.productOfWords('A', 2, [1, 2], [1]), [2, 1, 2]);
+    assert.deepEqual(w.inverseOfWord('A', 2, [1, 2]), [2, 1]);
+    assert.equal(w.lengthOfWord('B', 2, [1, 2, 1, 2]), 4);
+    assert.deepEqual(w.crossingsOfWord('D', 5, D5), { inversions: 3, negativeSumPairs: 3, negatives: 0, total: 6 });
+    assert.deepEqual(w.crossingsOfWord('B', 2, [1, 2, 1, 2]), { inversions: 1, negativeSumPairs: 1, negatives: 2, total: 4 });
+    assert.equal(w.same('A', 2, [1, 2, 1], 'A', 2, [2, 1, 2]), true);
+    assert.equal(w.same('A', 2, [1], 'B', 3, [1]), true);
+    assert.equal(w.same('A', 2, [1], 'A', 2, [2]), false);
+    assert.equal(w.better('A', 2, [2, 1, 2], [1, 2, 1]), 1);
+    assert.equal(w.better('A', 2, [1, 1, 1], [1]), 2);
+    assert.equal(w.better('A', 2, [1], [2]), 0);
+    assert.equal(w.better('A', 2, [9], [9]), 0);
+});
+
+test('windows', () => {
+    assert.deepEqual(w.normalFormOfWindow('D', 5, [3, -5, 1, 4, -2]), [5, 2, 3, 5, 1, 2]);
+    assert.deepEqual(w.productOfWindows('A', 2, [2, 3, 1], [2, 3, 1]), [3, 1, 2]);
+    assert.deepEqual(w.inverseOfWindow('A', 2, [2, 3, 1]), [3, 1, 2]);
+    assert.equal(w.lengthOfWindow('B', 2, [-1, -2]), 4);
+    assert.deepEqual(w.crossingsOfWindow('B', 2, Int8Array.of(-1, -2)), { inversions: 1, negativeSumPairs: 1, negatives: 2, total: 4 });
+});
+
+test('the delay table, with counts above 2^53', () => {
+    assert.deepEqual(w.delayTable('A', 2), { counts: [1n, 2n, 2n, 1n], window: [3, 2, 1], normalForm: [2, 1, 2] });
+    const { counts, window, normalForm } = w.delayTable('A', 19);
+    assert.equal(counts.length, 191);
+    assert.equal(counts.reduce((a, b) => a + b), 2432902008176640000n); // 20!
+    assert.deepEqual(window, Array.from({ length: 20 }, (_, i) => 20 - i));
+    assert.equal(normalForm.length, 190);
+    const largest = w.delayTable('B', 16);
+    assert.deepEqual([largest.counts.length, largest.window.length, largest.normalForm.length], [257, 16, 256]);
+});
+
+test('rewriting', () => {
+    assert.deepEqual(w.rewrite('A', 3, [1, 3, 3], 1), { family: 1, i: 3, j: 0, word: [1] });
+    assert.equal(w.rewrite('A', 3, [1, 2], 0), null);
+    assert.equal(w.rewriteSteps('A', 3, [1, 3, 3]), 3);
+    const { steps, word } = w.rewriteToEnd('A', 3, [1, 3, 3]);
+    assert.deepEqual(word, [1]);
+    let replayed = [1, 3, 3];
+    for (const { family, place, length } of steps) {
+        const step = w.rewrite('A', 3, replayed, place);
+        assert.deepEqual([step.family, step.word.length], [family, length]);
+        replayed = step.word;
+    }
+    assert.deepEqual(replayed, word);
+});
+
+test('a rewriting for which the memory has to grow', () => {
+    const long = Array.from({ length: 1500 }, (_, i) => 1 + (i * 37) % 64);
+    const { steps, word } = w.rewriteToEnd('D', 64, long);
+    assert.equal(steps.length, w.rewriteSteps('D', 64, long));
+    assert.ok(steps.length > 100000);
+    assert.deepEqual(word, w.normalFormOfWord('D', 64, long));
+    assert.equal(steps.at(-1).length, word.length);
+});
+
+test('shortest words', () => {
+    assert.deepEqual(w.fallback('B', 2, [1, 2, 1, 2], [2]).length, 1);
+    const form = w.normalFormOfWord('A', 2, [1, 2, 1]);
+    const kept = w.fallback('A', 2, [1, 2, 1], [1, 2]);
+    assert.equal(w.same('A', 2, kept.map(place => form[place]), 'A', 2, [1, 2]), true);
+    assert.equal(w.fallback('A', 2, [1], [2]), null);
+    assert.deepEqual(w.split('A', 2, [1], [1, 2, 1]), { first: [1], second: [2, 1] });
+    assert.deepEqual(w.split('B', 64, Array.from({ length: 64 }, (_, i) => i + 1), [64, 1]), { first: [64, 1], second: [] });
+    assert.deepEqual(w.split('A', 2, new Set(), [1, 2]), { first: [], second: [1, 2] });
+    assert.deepEqual(w.between('A', 2, [2, 1], [1, 2, 3], [2, 3, 1]), [1, 2]);
+    assert.deepEqual(w.between('A', 2, [], [2, 3, 1], [2, 3, 1]), []);
+});
+
+test('books', () => {
+    assert.equal(w.bookCheck(1, BOOK), 2);
+    assert.equal(w.bookCheck(2, SECOND), 2);
+    assert.equal(w.bookCheck(1, []), 0);
+    assert.deepEqual(w.preset(1, BOOK, 1), { kind: 'D', rank: 5, start: 12, length: 6 });
+    assert.deepEqual(w.preset(2, SECOND, 0), { kind: 'B', rank: 2, start: 5, length: 4 });
+    assert.deepEqual(w.letters(1, BOOK, 1), [5, 2, 3, 5, 1, 2]);
+    assert.deepEqual(w.letters(2, Uint8Array.from(SECOND), 0), [1, 2, 1, 2]);
+    assert.deepEqual(w.append(1, w.append(1, [], 'B', 2, [1, 2, 1, 2]), 'D', 5, [5, 2, 3, 5, 1, 2]), Uint8Array.from(BOOK));
+    assert.deepEqual(w.append(2, w.append(2, [], 2, 2, [1, 2, 1, 2]), 3, 5, [5, 2, 3, 5, 1, 2]), Uint8Array.from(SECOND));
+    assert.deepEqual(w.convert(1, BOOK), Uint8Array.from(SECOND));
+    assert.deepEqual(w.convert(2, SECOND), Uint8Array.from(BOOK));
+    assert.deepEqual(w.convert(1, []), new Uint8Array(0));
+});
+
+test('lists of presets, refused ones among them', () => {
+    const second = { number: 1, refusal: null, kind: 'D', rank: 5, start: 12, length: 6, letters: [5, 2, 3, 5, 1, 2] };
+    const listed = w.presets(1, BOOK);
+    assert.equal(listed.length, 2);
+    assert.deepEqual(listed[1], second);
+    assert.deepEqual(w.presets(1, BOOK, 1), [second]);
+    assert.deepEqual(w.presets(1, BOOK, 0, 1), [listed[0]]);
+    assert.deepEqual(w.presets(1, BOOK, 2), []);
+    assert.deepEqual(w.presets(1, BOOK, 0, 0), []);
+    assert.deepEqual(w.presets(2, []), []);
+    assert.equal(refusal(() => w.presets(1, BOOK, 3)), 4);
+    const changed = Uint8Array.from(BOOK);
+    changed[4] = 3;
+    const [refused, kept] = w.presets(1, changed);
+    assert.equal(refused.number, 0);
+    assert.ok(refused.refusal instanceof Refusal);
+    assert.equal(refused.refusal.number, 8);
+    assert.deepEqual(kept, second);
+});
+
+// ---- every refusal
+
+test('every refusal, by its number and sentence', () => {
+    const full = new Uint8Array(65533);
+    full.set([1, 2, 0xf5, 0xff]); // one record of 65,525 letters
+    full[65531] = 1;
+    const refused = {
+        1: () => w.bookCheck(1, [0]),
+        2: () => w.bookCheck(1, [1, 0]),
+        3: () => w.bookCheck(2, [0, 0, 0]),
+        4: () => w.preset(1, BOOK, 2),
+        5: () => w.windowOfWord(4, 2, []),
+        6: () => w.windowOfWord('D', 3, []),
+        7: () => w.normalFormOfWord('A', 2, TOO_LONG),
+        8: () => w.lengthOfWord('A', 2, [3]),
+        9: () => w.lengthOfWindow('A', 2, [1, 2]),
+        10: () => w.inverseOfWindow('B', 2, [1, 1]),
+        11: () => w.normalFormOfWindow('D', 4, [-1, 2, 3, 4]),
+        12: () => w.rewrite('A', 2, [1], 1),
+        13: () => w.append(1, full, 'A', 2, []),
+        16: () => w.split('A', 2, [3], []),
+        17: () => w.preset(2, [1, 2, 2, 0, 0, 0, 0, 1, 0], 0),
+        18: () => w.convert(2, w.append(2, [], 'B', 33, [])),
+        19: () => w.between('A', 2, [1], [1, 2, 3], [1, 3, 2]),
+        20: () => w.delayTable('B', 17),
+        21: () => w.append(1, BOOK, 'A', 1, []),
+    };
+    for (const [number, call] of Object.entries(refused)) assert.equal(refusal(call), Number(number));
+
+    // The two that concern short outputs, for which the functions above always have room.
+    const { memory, __heap_base, winnathey_window_of_word, winnathey_rewrite_to_end } = w.exports;
+    const at = __heap_base.value;
+    new Uint8Array(memory.buffer, at, 2).set([1, 1]);
+    assert.equal(winnathey_window_of_word(1, 2, at, 2n, at + 8, 2n), -14n);
+    assert.equal(winnathey_rewrite_to_end(1, 2, at, 2n, 0, 0n, 0, 0n, 0, 0n, at + 8, 2n, at + 16, 1n), -15n);
+
+    const seen = [...Object.keys(refused).map(Number), 14, 15].sort((a, b) => a - b);
+    assert.deepEqual(seen, Array.from({ length: 21 }, (_, i) => i + 1));
+});
+
+test('the sentences are those of CALLS.md', () => {
+    const page = readFileSync(new URL('docs/CALLS.md', root), 'utf8');
+    const section = page.split('\n## Refusals\n')[1].split('\n## ')[0];
+    const rows = [...section.matchAll(/^\| (\d+) \| (.*) \|$/gm)];
+    assert.equal(rows.length, 21);
+    for (const [, number, sentence] of rows) assert.equal(w.refusalSentence(Number(number)), sentence);
+    for (const number of [0, 22, 261, 0xffffffff]) assert.equal(w.refusalSentence(number), '');
+    assert.throws(() => w.refusalSentence(-1), RangeError);
+});
+
+test('a refused call leaves the library as it was', () => {
+    for (let i = 0; i < 3; i++) {
+        assert.equal(refusal(() => w.normalFormOfWord('D', 5, [6])), 8);
+        assert.deepEqual(w.normalFormOfWord('D', 5, D5), [5, 2, 3, 5, 1, 2]);
+    }
+});
+
+// ---- what never reaches the library
+
+test('what is no kind, rank, byte, step, place or edition is named', () => {
+    const wrong = [
+        [() => w.windowOfWord('C', 2, []), RangeError, /^kind is not 'A', 'B' or 'D': "C"$/],
+        [() => w.windowOfWord(null, 2, []), TypeError, /^kind is not a number: null$/],
+        [() => w.windowOfWord('A', -1, []), RangeError, /^rank is not an integer from 0 to 4294967295: -1$/],
+        [() => w.windowOfWord('A', '2', []), TypeError, /^rank is not a number: "2"$/],
+        [() => w.windowOfWord('A', 2, [1, 256]), RangeError, /^word\[1\] is not an integer from 0 to 255: 256$/],
+        [() => w.windowOfWord('A', 2, [1.5]), RangeError, /^word\[0\] is not/],
+        [() => w.windowOfWord('A', 2, [NaN]), RangeError, /^word\[0\] is not/],
+        [() => w.windowOfWord('A', 2, ['1']), TypeError, /^word\[0\] is not a number: "1"$/],
+        [() => w.windowOfWord('A', 2, [1n]), TypeError, /^word\[0\] is not a number: 1$/],
+        [() => w.windowOfWord('A', 2, [, 1]), TypeError, /^word\[0\] is not a number: undefined$/],
+        [() => w.windowOfWord('A', 2), TypeError, /^word is not a list: undefined$/],
+        [() => w.windowOfWord('A', 2, '12'), TypeError, /^word is not a list: "12"$/],
+        [() => w.lengthOfWindow('A', 2, [1, 2, 128]), RangeError, /^window\[2\] is not an integer from -128 to 127: 128$/],
+        [() => w.rewrite('A', 2, [1], -1), RangeError, /^place is not/],
+        [() => w.rewrite('A', 2, [1], 2 ** 53), RangeError, /^place is not/],
+        [() => w.split('A', 2, [0], []), RangeError, /^an allowed step is not an integer from 1 to 64: 0$/],
+        [() => w.split('A', 2, [65], []), RangeError, /^an allowed step is not/],
+        [() => w.split('A', 2, 3n, []), TypeError, /^the allowed steps are not a list: 3$/],
+        [() => w.bookCheck(3, []), RangeError, /^the edition is not 1 or 2: 3$/],
+        [() => w.bookCheck('first', []), RangeError, /^the edition is not 1 or 2: "first"$/],
+    ];
+    for (const [call, type, message] of wrong) {
+        assert.throws(call, error => error.constructor === type && message.test(error.message), String(call));
+    }
+    // Numbers that could be kinds, ranks or letters are the library's to refuse.
+    assert.equal(refusal(() => w.windowOfWord(0xffffffff, 2, [])), 5);
+    assert.equal(refusal(() => w.windowOfWord('A', 0xffffffff, [])), 6);
+    assert.equal(refusal(() => w.windowOfWord('A', 2, [0])), 8);
+    assert.equal(refusal(() => w.lengthOfWindow('B', 2, [-128, 1])), 10);
+});
+
+// ---- random words, beside the definition of a window in plain JavaScript
+
+test('20,000 random words show what the steps do one by one', () => {
+    let state = 1;
+    const below = n => (state = (Math.imul(state, 1664525) + 1013904223) >>> 0) % n;
+    for (let round = 0; round < 20000; round++) {
+        const kind = 'ABD'[below(3)];
+        const least = { A: 1, B: 2, D: 4 }[kind];
+        const rank = least + below(below(8) === 0 ? 60 : 8);
+        const lanes = kind === 'A' ? rank + 1 : rank;
+        const word = Array.from({ length: below(60) }, () => 1 + below(rank));
+        const window = Array.from({ length: lanes }, (_, i) => i + 1);
+        for (const step of word) {
+            const [a, b] = [window[step - 1], window[step]];
+            if (kind === 'A' || step < rank) [window[step - 1], window[step]] = [b, a];
+            else if (kind === 'B') window[rank - 1] = -window[rank - 1];
+            else [window[rank - 2], window[rank - 1]] = [-window[rank - 1], -window[rank - 2]];
+        }
+        assert.deepEqual(w.windowOfWord(kind, rank, word), window);
+        const form = w.normalFormOfWord(kind, rank, word);
+        assert.deepEqual(w.normalFormOfWindow(kind, rank, window), form);
+        assert.deepEqual(w.windowOfWord(kind, rank, form), window);
+        assert.equal(w.lengthOfWindow(kind, rank, window), form.length);
+    }
+});
+
+// ---- the stored answers of the C test, by the module's own calls
+
+test('the calls of tests/calls.c have their stored answers', () => {
+    const source = readFileSync(new URL('tests/calls.c', root), 'utf8');
+    const header = readFileSync(new URL('include/winnathey.h', root), 'utf8');
+    const stored = readFileSync(new URL('tests/calls.stdout', root), 'utf8').trimEnd().split('\n');
+
+    // What each call takes: i32 for numbers of 32 bits and pointers, i64 for the rest.
+    const parameters = new Map([...header.matchAll(/^int64_t (winnathey_\w+)\(([^;]*)\);/gm)].map(([, name, list]) =>
+        [name, list === 'void' ? [] : list.split(',').map(p => /\*/.test(p) || /uint32_t/.test(p) ? Number : BigInt)]));
+
+    // The inputs: the constants of the file, and the two large books that its main makes.
+    const inputs = new Map([...source.matchAll(/\b(\w+)\[\d*\] = \{([^}]*)\}/g)].map(([, name, list]) =>
+        [name, list.split(',').map(Number)]));
+    inputs.set('too_long', new Array(4097).fill(0));
+    const full = new Array(65533).fill(0);
+    [full[0], full[1], full[2], full[3], full[65531]] = [1, 1, 0xf5, 0xff, 1];
+    inputs.set('full', full);
+    const heads = new Array(56174).fill(0);
+    for (let k = 0; k < 9362; k++) {
+        heads[4 * k] = heads[4 * k + 1] = 2;
+        heads[4 * 9362 + 2 * k] = (4 * k) & 0xff;
+        heads[4 * 9362 + 2 * k + 1] = (4 * k) >> 8;
+    }
+    heads[56172] = 9362 & 0xff;
+    heads[56173] = 9362 >> 8;
+    inputs.set('heads', heads);
+    const outputs = {
+        lanes: Int8Array,
+        bytes: Uint8Array,
+        rule: Uint8Array,
+        fields: BigUint64Array,
+        counts: BigUint64Array,
+        places: Uint16Array,
+        sizes: Uint16Array,
+    };
+    const ROOM = 40;
+
+    const { memory, __heap_base, ...calls } = w.exports;
+    const at = new Map();
+    let end = __heap_base.value;
+    const place = (name, size) => {
+        at.set(name, end = (end + 7) & ~7);
+        end += size;
+    };
+    for (const name of Object.keys(outputs)) place(name, 8 * ROOM);
+    for (const [name, list] of inputs) place(name, list.length);
+    memory.grow(Math.max(0, Math.ceil((end - memory.buffer.byteLength) / 65536)));
+    for (const [name, list] of inputs) new Uint8Array(memory.buffer).set(list.map(x => x & 0xff), at.get(name));
+
+    const value = text => {
+        if (at.has(text)) return BigInt(at.get(text));
+        if (text === 'NULL') return 0n;
+        if (text === 'ROOM') return BigInt(ROOM);
+        if (text === 'UINT32_MAX') return 0xffffffffn;
+        if (text === 'UINT64_MAX' || text === 'SIZE_MAX') return 0xffffffffffffffffn;
+        if (text === 'UINT64_C(1) << 63') return 1n << 63n;
+        if (text.startsWith('sizeof ')) return BigInt(inputs.get(text.slice(7)).length);
+        return BigInt(text);
+    };
+    const called = new Set();
+    for (const line of stored) {
+        const sentence = line.match(/^refusal (\d+): (.*)$/);
+        if (sentence) {
+            assert.equal(w.refusalSentence(Number(sentence[1])), sentence[2]);
+            continue; // it is written where the outputs lie, which are filled anew below
+        }
+        const [, text, name, list] = line.match(/^((\w+)\((.*)\)) = /);
+        for (const output of Object.keys(outputs)) {
+            const type = outputs[output];
+            new Uint8Array(memory.buffer, at.get(output), ROOM * type.BYTES_PER_ELEMENT).fill(0x5a);
+        }
+        const types = parameters.get(name);
+        const passed = (list === '' ? [] : list.split(', ')).map((text, i) => types[i](value(text)));
+        const answer = Number(calls[name](...passed));
+        let shown = `${text} = ${answer === -100 ? 'none fits' : answer === -101 ? 'no fallback' : answer}`;
+        for (const [output, type] of Object.entries(outputs)) {
+            const held = Array.from(new type(memory.buffer, at.get(output), ROOM));
+            let written = ROOM;
+            while (written > 0 && BigInt.asUintN(8, BigInt(held[written - 1])) === 0x5an) written--;
+            if (written > 0) shown += `, ${output} ${held.slice(0, written).join(' ')}`;
+        }
+        assert.equal(shown, line);
+        called.add(name);
+    }
+    assert.deepEqual([...called].sort(), [...parameters.keys()].sort());
+});
+
+test('each type has its own comment', () => {
+    const source = readFileSync(new URL('winnathey.mjs', import.meta.url), 'utf8');
+    const comments = source.match(/\/\*\*[^]*?\*\//g).filter(comment => comment.includes('@typedef'));
+    assert.ok(comments.length >= 12);
+    for (const comment of comments) assert.match(comment, /^\/\*\*\n \* [A-Z][^@]*\n \* @typedef [^@]*\*\/$/);
+});
+
+test('another module is not taken for the library', async () => {
+    const empty = Uint8Array.of(0, 0x61, 0x73, 0x6d, 1, 0, 0, 0);
+    await assert.rejects(load(empty), { name: 'TypeError', message: 'the module is not winnathey.wasm' });
+});
+
+test('an instance can be wrapped by hand', async () => {
+    const { instance } = await WebAssembly.instantiate(readFileSync(wasm));
+    assert.deepEqual(new Winnathey(instance.exports).windowOfWord('A', 1, [1]), [2, 1]);
+});

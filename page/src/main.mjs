@@ -1,0 +1,283 @@
+// The page as a whole: the library is loaded, the parts are put together, and every change goes through them in one order.
+import { load } from '../../bindings/javascript/winnathey.mjs';
+import { BookPanel, chosenEdition, editionName, presetIn, verdictsOf } from './book.mjs';
+import { Composing } from './composing.mjs';
+import { DelaysPanel } from './delays.mjs';
+import { button, byId, keepFocus, make, setText } from './dom.mjs';
+import { readFiles, saveFile, takeFiles } from './files.mjs';
+import { grabSource } from './grabbing.mjs';
+import { callsOf } from './library.mjs';
+import { remember, remembered, rememberedNames, rigNames } from './memory.mjs';
+import { writeNames } from './names.mjs';
+import { ModulesPanel } from './modules.mjs';
+import { OtherTabs } from './others.mjs';
+import { Picture } from './picture.mjs';
+import { showProved } from './proved.mjs';
+import { RigFields } from './rig.mjs';
+import { SheetPanel } from './sheet.mjs';
+import { FIRST_STATE, NEW_BOOK, Store } from './state.mjs';
+import { Tabs } from './tabs.mjs';
+import { counted } from './text.mjs';
+import { WantedPanel, withSource } from './wanted.mjs';
+import { WhyPanel } from './why.mjs';
+
+/** Milliseconds that a change may take without being felt, and that someone pauses between two keys. */
+const [FRAME, PAUSE] = [16, 120];
+
+class App {
+    ui = { tab: 'wanted', first: 0, selected: -1, both: false };
+    /** How long the last change took, in milliseconds: the library's calls, what is drawn at once, and the panel after it. */
+    times = { calls: 0, drawing: 0, panel: 0 };
+    /** Whether the panel below is older than the state, whether something is pressed, and what waits to bring the panel up. */
+    #stale = false;
+    #pressed = false;
+    #waiting = 0;
+    #namesLost = false;
+    /** Whether the sentence at the top is about the last undo, and goes with the next change. */
+    #passing = false;
+    #savedNames = null;
+
+    constructor(library, about) {
+        [this.library, this.about] = [library, about];
+        this.store = new Store({ ...FIRST_STATE, ...remembered(library) });
+        this.#answer();
+        this.rig = new RigFields(this);
+        this.composing = new Composing(this);
+        this.picture = new Picture(this);
+        const panel = name => byId(`panel-${name}`);
+        this.panels = {
+            why: new WhyPanel(this, panel('why')),
+            wanted: new WantedPanel(this, panel('wanted')),
+            modules: new ModulesPanel(this, panel('modules')),
+            book: new BookPanel(this, panel('book')),
+            delays: new DelaysPanel(this, panel('delays')),
+            sheet: new SheetPanel(this, panel('sheet')),
+        };
+        showProved(panel('proved'), about);
+        this.tabs = new Tabs(tab => this.show({ tab }));
+        this.others = new OtherTabs(also => (byId('other-tab').hidden = !also));
+        this.store.listen((state, old) => this.#changed(state, old));
+        this.#listen();
+        this.tabs.choose(this.ui.tab);
+    }
+
+    get state() {
+        return this.store.state;
+    }
+
+    /** The answers that are always on the page. */
+    #answer() {
+        const { kind, rank, word } = this.state;
+        const { library } = this;
+        const form = library.normalForm(kind, rank, word);
+        this.answers = {
+            window: library.window(kind, rank, word),
+            form,
+            crossings: library.crossings(kind, rank, word),
+            same: library.same(kind, rank, word, form),
+        };
+    }
+
+    #changed(state, old) {
+        if (this.#passing) this.notice('');
+        const start = performance.now();
+        if (state.word !== old.word || state.kind !== old.kind || state.rank !== old.rank) this.#answer();
+        this.times.calls = performance.now() - start;
+        if (this.ui.selected >= state.word.length) this.ui.selected = -1;
+        this.picture.follow(old.word, state.word);
+        this.refresh();
+        this.times.drawing = performance.now() - start - this.times.calls;
+        const kept = ['kind', 'rank', 'names', 'book'].every(part => state[part] === old[part]);
+        if (!kept) this.#namesLost = !remember(state) && state.names.lines.length > 0;
+    }
+
+    refresh() {
+        this.rig.update();
+        this.picture.update();
+        this.composing.update();
+        this.#updateHeader();
+        this.#stale = true;
+        this.#updatePanelSoon();
+    }
+
+    /** While something is pressed the panel has to stay: a button made anew under the pointer would never be clicked. */
+    #press(down) {
+        this.#pressed = down;
+        if (!down && this.#stale) this.#updatePanelSoon();
+    }
+
+    /** After what was typed or pressed is seen, and once for many changes in a row: later where it takes longer than a frame. */
+    #updatePanelSoon() {
+        clearTimeout(this.#waiting);
+        this.#waiting = setTimeout(() => this.updatePanel(), this.times.panel > FRAME ? PAUSE : 0);
+    }
+
+    updatePanel() {
+        clearTimeout(this.#waiting);
+        if (this.#pressed) return;
+        this.#stale = false;
+        const start = performance.now();
+        keepFocus(byId(`panel-${this.ui.tab}`), () => this.panels[this.ui.tab]?.update());
+        this.times.panel = performance.now() - start;
+    }
+
+    /** Changes what is looked at, and nothing that is worked on. */
+    show(parts) {
+        Object.assign(this.ui, parts);
+        this.refresh();
+    }
+
+    #updateHeader() {
+        const { book } = this.state;
+        const unsaved = this.store.bookUnsaved;
+        setText(byId('book-title'), `${book.name} (${editionName(book.edition)})${unsaved ? ' *' : ''}`);
+        byId('book-title').title = unsaved ? 'not saved yet' : '';
+        document.title = `${unsaved ? '* ' : ''}${book.name} – Winnathey`;
+        byId('save').disabled = verdictsOf(this.library, book.bytes)[book.edition].refusal !== null;
+        this.others.open(book.bytes.length === 0 && book.name === NEW_BOOK.name ? '' : book.name);
+    }
+
+    #listen() {
+        byId('open').addEventListener('click', () => byId('file').click());
+        byId('save').addEventListener('click', () => this.saveBook());
+        takeFiles(byId('file'), files => this.#opened(files));
+        grabSource(this);
+        // A list that opens keeps the pointer's end to itself, and is no button.
+        addEventListener('pointerdown', event => this.#press(event.target.closest('button, label') !== null), true);
+        for (const type of ['pointerup', 'pointercancel']) addEventListener(type, () => this.#press(false), true);
+        addEventListener('blur', () => this.#press(false));
+        // A keyboard on the screen changes the height alone: what is typed in has to stay then.
+        let width = innerWidth;
+        addEventListener('resize', () => {
+            if (innerWidth !== width) this.refresh();
+            width = innerWidth;
+        });
+        addEventListener('keydown', event => this.#key(event));
+        addEventListener('beforeprint', () => this.panels.sheet.update());
+        addEventListener('beforeunload', event => {
+            if (this.store.unsaved || this.composing.fault || this.#namesLost) event.preventDefault();
+        });
+    }
+
+    /** Undo and redo everywhere but in small fields, which have their own; a digit goes to the field that adds a step. */
+    #key(event) {
+        const field = event.target.closest('input, select, textarea');
+        const command = event.ctrlKey || event.metaKey;
+        const own = field && field.id !== 'word' && field.type !== 'radio' && field.type !== 'checkbox' && field.type !== 'range';
+        if (command && !own && 'zy'.includes(event.key.toLowerCase())) {
+            const redo = event.shiftKey || event.key.toLowerCase() === 'y';
+            event.preventDefault();
+            this.goBack(redo);
+        } else if (command && event.key.toLowerCase() === 's') {
+            // The browser would save the page instead.
+            event.preventDefault();
+            // A name that is still being typed counts; a box or a list has told its change already.
+            if (field?.type === 'text') field.dispatchEvent(new Event('change'));
+            this.saveBook();
+        } else if (!field && !command && !event.altKey && /^[0-9]$/.test(event.key)) {
+            byId('add').focus();
+        }
+    }
+
+    /** Undo, or redo. One that changes the book says so: someone who looks at the picture would not see it. */
+    goBack(redo = false) {
+        if (!redo && this.composing.takeBack()) return;
+        const before = this.state.book;
+        redo ? this.store.redo() : this.store.undo();
+        const { book } = this.state;
+        if (book.bytes === before.bytes && book.name === before.name) return;
+        const { value } = verdictsOf(this.library, book.bytes)[book.edition];
+        this.notice(`${redo ? 'Redo' : 'Undo'} changed the book: it is ${book.name} with ${counted(value ?? 0, 'preset')} now.`);
+        this.#passing = true;
+    }
+
+    /** A source put on a screen of the wanted picture; on one of the picture itself, which is then the one that is changed. */
+    putOnScreen(source, screen, inPicture) {
+        const { window } = this.answers;
+        const before = inPicture ? window : this.state.wanted ?? window;
+        this.tabs.choose('wanted');
+        this.store.change({ wanted: withSource(before, source, screen) });
+    }
+
+    /**
+     * Saves the book; a word that is not in it is asked about, as it would not be in the file. What the library refuses is no book:
+     * of a file that is too long only the front was read, and saving that would replace the whole.
+     */
+    saveBook(asked = false) {
+        const { book } = this.state;
+        const { refusal } = verdictsOf(this.library, book.bytes)[book.edition];
+        if (refusal) return this.notice(`${book.name} is not saved: ${refusal.sentence} The file on the disk stays as it is.`);
+        if (this.store.wordUnsaved && !asked) {
+            return this.notice('The present word is not in the book yet.',
+                button('Append it and save', () => this.#appendAndSave()), button('Save without it', () => this.saveBook(true)));
+        }
+        saveFile(book.name, book.bytes);
+        this.store.markBookSaved();
+        const named = this.state.names !== this.#savedNames && this.state.names.lines.length > 0;
+        this.notice(named ? `${book.name} is handed to the browser. Its names go into a file of their own.` : '',
+            button('Save the names too', () => this.saveNames()));
+    }
+
+    saveNames() {
+        const { book, names } = this.state;
+        saveFile(`${book.name}.names`, writeNames(names));
+        this.#savedNames = names;
+        this.notice('');
+    }
+
+    #appendAndSave() {
+        this.notice('');
+        this.tabs.choose('book');
+        if (this.panels.book.append()) this.saveBook();
+    }
+
+    async #opened(files) {
+        const { book, names, wrong } = await readFiles(files);
+        this.notice(wrong ?? '');
+        if (book) this.openBook(book, names, wrong);
+        else if (names) {
+            this.#savedNames = names;
+            this.store.change({ names });
+        }
+    }
+
+    /** Opens a book in place of the present one, which is asked about if it is not saved. */
+    openBook(book, names, wrong = null, asked = false) {
+        const { state, store } = this;
+        if (store.bookUnsaved && !asked) {
+            return this.notice(`${state.book.name} is not saved.`,
+                button(`Open ${book.name} all the same`, () => this.openBook(book, names, wrong, true)),
+                button(`Keep ${state.book.name}`, () => this.notice('')));
+        }
+        this.notice(wrong ?? '');
+        const edition = chosenEdition(verdictsOf(this.library, book.bytes), book.edition ?? state.book.edition);
+        this.panels.book.first = 0;
+        const opened = { name: book.name, edition, bytes: book.bytes };
+        const kept = presetIn(this.library, opened, state);
+        store.change({ book: opened, kept, names: names ?? rememberedNames(book) ?? rigNames(state.names) });
+        store.markBookSaved();
+        this.#savedNames = names;
+        this.tabs.choose('book');
+    }
+
+    /** A sentence at the top of the page, with what can be done about it. */
+    notice(text, ...buttons) {
+        this.#passing = false;
+        byId('notice').replaceChildren(...(text ? [make('span', {}, text), ...buttons] : []));
+        byId('notice').hidden = text === '';
+    }
+}
+
+async function start() {
+    const holder = byId('library');
+    const bytes = Uint8Array.from(atob(holder.textContent.trim()), character => character.charCodeAt(0));
+    const library = callsOf(await load(bytes));
+    window.app = new App(library, { version: library.version(), hash: holder.dataset.hash });
+    document.body.dataset.ready = 'yes';
+}
+
+start().catch(error => {
+    byId('notice').textContent = `This browser cannot run the page: ${error.message}`;
+    byId('notice').hidden = false;
+    throw error;
+});
