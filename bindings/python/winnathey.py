@@ -207,7 +207,7 @@ def _whole(value, what):
             return operator.index(value)
     except TypeError:
         pass
-    raise TypeError(f"{what} is {value!r} and no whole number")
+    raise TypeError(f"{what} must be an integer, got {value!r}")
 
 
 def _number(value, limit, what):

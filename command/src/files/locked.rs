@@ -100,7 +100,7 @@ fn written(part: &Path, bytes: &[u8], old: &Metadata, name: &Path) -> Result<Fil
     if (new.uid(), new.gid()) != (old.uid(), old.gid()) {
         fchown(&file, Some(old.uid()), Some(old.gid())).map_err(|_| {
             let name = text::file(name);
-            Failure::Unwilling(format!("'{name}' belongs to somebody else, whom a new file would not: use -o"))
+            Failure::Unwilling(format!("'{name}' is owned by another user, and ownership cannot be kept: use -o"))
         })?;
     }
     file.set_permissions(old.permissions()).map_err(failed)?;

@@ -19,7 +19,7 @@ const WORDS: Operand = Operand {
 pub const SUBCOMMAND: Subcommand = Subcommand {
     name: "fallback",
     group: table::PRESETS,
-    about: "whether a simpler preset is had by pulling steps out",
+    about: "whether a simpler preset can be reached by removing steps",
     usages: &["RIG PRESENT SIMPLER", "--book FILE --edition EDITION --preset N (--preset N | SIMPLER)"],
     text: "Whether what the simpler preset shows can be had by removing steps from the present one's normal form, and \
            then which to keep. Several choices may serve; one is given. A no is an answer: the exit status is 0, \

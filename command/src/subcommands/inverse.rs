@@ -1,4 +1,4 @@
-//! `inverse`: the preset that takes another one back.
+//! `inverse`: the preset that undoes another.
 use super::product;
 use crate::args::Args;
 use crate::failure::Failure;
@@ -11,7 +11,7 @@ use std::io::Write;
 pub const SUBCOMMAND: Subcommand = Subcommand {
     name: "inverse",
     group: table::WORDS,
-    about: "the preset that takes another one back, of a word or window",
+    about: "the preset that undoes another, of a word or window",
     usages: &["RIG WORD", "RIG '[WINDOW]'", "--book FILE --edition EDITION --preset N"],
     text: "The normal form of the word that, after the given one, leads back to the straight window, and what it shows \
            alone.",

@@ -137,7 +137,7 @@ fn write_other(edition: Edition, book: &[u8], c: usize, number: usize, out: &mut
     );
 }
 
-// The records, written from byte 0 on. Answers where they end.
+// The records, written from byte 0 on. Returns where they end.
 fn write_others(edition: Edition, book: &[u8], c: usize, out: &mut [u8]) -> usize
     requires { ⌜ (Convertible edition (now book)) × (c ≡ count (now book)) × (length (converted edition (now book)) ≤ length (now out)) ⌝ }
     ensures { λ r. ⌜ (now (out .exit) ≡ sets (now (out .entry)) 0 (recordBytes (conversion.other edition) (recordsFrom edition (now (book .entry)) c 0)))

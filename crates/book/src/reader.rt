@@ -1,4 +1,4 @@
-// An opened book (B14, G16): it keeps its bytes, its edition and what opening them answered, and serves preset
+// An opened book (B14, G16): it keeps its bytes, its edition and what opening them returned, and serves preset
 // calls by number. Each call hands edition and bytes to the call on edition, slice and number, and is right
 // whatever `opened` holds.
 use crate::reading::check_book;
@@ -29,14 +29,14 @@ pub fn open<'a>(edition: Edition, bytes: &'a [u8]) -> Reader<'a>
     }
 }
 
-// I31: what I25 answers on the book's bytes.
+// I31: what I25 returns on the book's bytes.
 pub fn presets<'a>(r: Reader<'a>) -> Opened
     ensures { λ o. ⌜ o ≡ checkedBook (r .entry .edition) (now (r .entry .bytes)) ⌝ }
 {
     check_book(r.edition, r.bytes)
 }
 
-// I31: what I26 answers on the book's bytes.
+// I31: what I26 returns on the book's bytes.
 pub fn preset<'a>(r: Reader<'a>, number: usize) -> Preset
     ensures { λ p. ⌜ p ≡ checkedPreset (r .entry .edition) (now (r .entry .bytes)) number ⌝ }
 {

@@ -112,7 +112,7 @@ pub(crate) fn check_record(edition: Edition, book: &[u8], o: usize) -> Preset
     }
 }
 
-// The preset with this number, by what checks 1 to 3 answered of the book: check 4, and then those of its record.
+// The preset with this number, by what checks 1 to 3 returned for the book: check 4, and then those of its record.
 pub(crate) fn numbered_preset(edition: Edition, book: &[u8], refusal: u8, number: usize) -> Preset
     requires { ⌜ refusal ≡ bookRefusal edition (now book) ⌝ }
     ensures { λ r. ⌜ r ≡ checkedPreset edition (now (book .entry)) number ⌝ }

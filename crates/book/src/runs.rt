@@ -79,7 +79,7 @@ fn blank_run() -> [Preset; 128]
     [blank; 128]
 }
 
-// I35: the 128 presets from number `first` on, each as `check_preset` answers it: refused 4 past the last one. Checks
+// I35: the 128 presets from number `first` on, each as `check_preset` returns it: refused 4 past the last one. Checks
 // 1 to 3 are made once. No book has the preset 65,535, so that larger numbers need not be told apart.
 pub fn read_run(edition: Edition, book: &[u8], first: usize) -> [Preset; 128]
     ensures { λ r. ⌜ r ≡ map (checkedPreset edition (now (book .entry))) (up first 128) ⌝ }

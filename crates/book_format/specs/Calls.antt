@@ -1,4 +1,4 @@
--- What each call on a book answers and writes, for every input (I25 to I28 and I30 of the specification);
+-- What each call on a book returns and writes, for every input (I25 to I28 and I30 of the specification);
 -- conversion is in Conversion.
 use mathlib.Core.Path.{_≡_}
 use mathlib.Core.List.{List, [], _∷_, _++_}

@@ -1,5 +1,5 @@
 -- Books between editions (B24 to B28 and I29 of the specification): the book in the other edition, the checks of a
--- conversion, what the call answers and writes for every input, and what holds of a converted book.
+-- conversion, what the call returns and writes for every input, and what holds of a converted book.
 use mathlib.Core.Path.{_≡_}
 use mathlib.Core.Bool.{Bool, false}
 use mathlib.Core.List.{List, [], _∷_, _++_}

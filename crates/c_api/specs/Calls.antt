@@ -1,4 +1,4 @@
--- What a call for C answers and writes, from what the layers' calls do (section IC of the specification).
+-- What a call for C returns and writes, from what the layers' calls do (section IC of the specification).
 --
 -- Sections: one number; numbers that go to a list; the calls.
 use mathlib.Core.Bool.{_&&_}

@@ -1,4 +1,4 @@
--- What the call for C on fallbacks answers and writes, from what the layer's call does (IC4 and I18 of the
+-- What the call for C on fallbacks returns and writes, from what the layer's call does (IC4 and I18 of the
 -- specification).
 use mathlib.Core.Path.{_≡_}
 use mathlib.Core.List.{List}

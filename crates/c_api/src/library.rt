@@ -14,7 +14,7 @@ pub extern "C" fn winnathey_version() -> i64
     9000
 }
 
-// The sentence of a refusal, written to the front of `out`. Answers its length, which is 0 for a number that is no
+// The sentence of a refusal, written to the front of `out`. Returns its length, which is 0 for a number that is no
 // refusal. Refusal 14.
 #[no_mangle]
 pub extern "C" fn winnathey_refusal_sentence(refusal: u32, out: &mut [u8]) -> i64

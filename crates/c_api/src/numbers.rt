@@ -1,4 +1,4 @@
-// The numbers that the calls for C answer.
+// The numbers that the calls for C return.
 use window::Answer;
 use window::Counted;
 ghost use mathlib.Core.Path.{_≡_};
@@ -11,7 +11,7 @@ ghost use Rattle.coxeter.specs.declared.Answer.the-variants.{Length};
 ghost use Rattle.coxeter.specs.declared.Counted.the-variants.{Crossings};
 ghost use Rattle.c_api.specs.Calls.{refused, numberOf, crossingNumbers, listed};
 
-// IC5: a kind or a rank as the calls below take it. What is no byte becomes 0, which is no kind and no rank either.
+// IC5: a kind or a rank as the calls below take it. Values above 255 become 0, which every call refuses.
 pub(crate) fn byte(x: u32) -> u8
     ensures { λ r. ⌜ r ≡ pick (ltb 255 x) 0 x ⌝ }
 {
@@ -38,7 +38,7 @@ pub(crate) fn unlisted(refusal: u8) -> i64
     -14
 }
 
-// A length, of which each is at most that of the longest book.
+// A length, at most 65,535.
 pub(crate) fn size(l: usize) -> i64
     requires { ⌜ l ≤ 65535 ⌝ }
     ensures { λ r. ⌜ r ≡ pos l ⌝ }
@@ -46,7 +46,7 @@ pub(crate) fn size(l: usize) -> i64
     l as i64
 }
 
-// The number of an answer whose length, if it is one, is at most that of the longest book.
+// The number of an answer whose length, if it has one, is at most 65,535.
 pub(crate) fn number(answer: Answer) -> i64
     requires { ⌜ ((l : ℕ) → answer ≡ Length l → l ≤ 65535) ⌝ }
     ensures { λ r. ⌜ r ≡ numberOf answer ⌝ }
@@ -57,8 +57,7 @@ pub(crate) fn number(answer: Answer) -> i64
     }
 }
 
-// Writes the three counts of a length to the front of `counts` and answers their total, which is at most the length
-// of the longest book.
+// Writes the three counts of a length to the front of `counts` and returns their total, which is at most 65,535.
 pub(crate) fn write_crossings(counted: Counted, counts: &mut [u64]) -> i64
     requires { ⌜ ((a b c : ℕ) → counted ≡ Crossings a b c → a + b + c ≤ 65535) ⌝ }
     ensures { λ r. ⌜ (r, now (counts .exit)) ≡ listed (crossingNumbers counted) (now (counts .entry)) ⌝ }

@@ -10,9 +10,9 @@ ghost use Rattle.shortest_words.specs.BetweenCalls.{betweenWindows};
 ghost use Rattle.c_api.specs.Calls.{numbered};
 ghost use Rattle.c_api.specs.Shortest.{FallbackNumbered};
 
-// I18, IC4: whether a simpler word's window can be had by removing letters from the normal form of the present
+// I18, IC4: whether a simpler word's window can be reached by removing letters from the normal form of the present
 // word. The places of letters to keep, which count from 0 and rise, go to the front of `places`. Returns how many
-// are kept, or -101 if the verdict is no. Refusals 5 to 8, and 14 only with a yes.
+// are kept, or -101 if the verdict is no. Refusals 5 to 8, and 14 only if there is a fallback.
 #[no_mangle]
 pub extern "C" fn winnathey_fallback(
     kind: u32,

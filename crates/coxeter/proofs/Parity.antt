@@ -1,4 +1,4 @@
--- A yes-no that is flipped at each negative entry of a window is, after each part of the window from the left, yes
+-- A flag that is flipped at each negative entry of a window is set, after each part of the window from the left,
 -- exactly when an odd number of the part's entries are negative. By induction on the part; `odd` of specs/ and
 -- 'there is m with 2 m + 1 of them' agree by induction on the number.
 -- Assumes nothing.

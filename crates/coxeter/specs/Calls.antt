@@ -1,4 +1,4 @@
--- What each call on words and windows answers and writes, for every input (section I of the specification, I4 to
+-- What each call on words and windows returns and writes, for every input (section I of the specification, I4 to
 -- I17). The order of the checks is that of CO2 and CO4.
 use mathlib.Core.Path.{_≡_}
 use mathlib.Core.Bool.{Bool, true, false, _&&_}
@@ -43,7 +43,7 @@ pub record Outcome (X : Type 0) : Type 0 where
   pub answer : Answer
   pub bytes : List X
 
--- G1: a call answers a and leaves `after` in its output, as the outcome o says
+-- G1: a call returns a and leaves `after` in its output, as the outcome o says
 abbrev pub Yields : {X : Type 0} → Outcome X → Answer → List X → Type 0
 Yields o a after = (a ≡ o .answer) × (after ≡ o .bytes)
 
@@ -103,7 +103,7 @@ unfoldable pub crossingsOfWord : ℕ → ℕ → List ℕ → Counted
 crossingsOfWord k n u =
     countedOf (rankRefusal k n then wordRefusal n u) (crossings (kindOf k) (window (kindOf k) n u))
 
--- no clause of its own: helps V1. Two entries are equal.
+-- Helper of V1: two entries are equal.
 unfoldable pub sameEntry : ℤ → ℤ → Bool
 sameEntry (pos a) (pos b) = eqb a b
 sameEntry (pos a) (negsuc b) = false

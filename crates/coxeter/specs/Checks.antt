@@ -65,7 +65,7 @@ unfoldable pub wrongEntry : Kind → ℕ → List ℤ → Bool
 wrongEntry k m [] = false
 wrongEntry k m (e ∷ w) = wrongAt k m e w || wrongEntry k m w
 
--- no clause of its own: helps C11 and Y5. The number is odd.
+-- Helper of C11 and Y5: the number is odd.
 unfoldable pub odd : ℕ → Bool
 odd zero = false
 odd (suc n) = not (odd n)

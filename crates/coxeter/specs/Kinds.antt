@@ -5,7 +5,7 @@ use mathlib.Core.List.{List, [], _∷_}
 use Prim.Native.Nat.{ℕ, zero, suc, _+_}
 use lib.Dec.{eqb}
 
--- no clause of its own: helps every test. The first if the test holds, else the second.
+-- Helper of every test: the first if the test holds, else the second.
 abbrev pub pick : {X : Type 0} → Bool → X → X → X
 pick true x y = x
 pick false x y = y
@@ -36,7 +36,7 @@ greatest A = 63
 greatest B = 64
 greatest D = 64
 
--- no clause of its own: helps W3 and N5. The k numbers from i on: i, i + 1, ..
+-- Helper of W3 and N5: the k numbers from i on: i, i + 1, ..
 unfoldable pub up : ℕ → ℕ → List ℕ
 up i zero = []
 up i (suc k) = i ∷ up (suc i) k

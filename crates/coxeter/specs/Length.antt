@@ -19,7 +19,7 @@ unfoldable pub negative : ℤ → Bool
 negative (pos a) = false
 negative (negsuc a) = true
 
--- no clause of its own: helps L2 to L4. 1 if the test holds, else 0.
+-- Helper of L2 to L4: 1 if the test holds, else 0.
 unfoldable pub one : Bool → ℕ
 one t = pick t 1 0
 

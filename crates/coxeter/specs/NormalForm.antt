@@ -12,7 +12,7 @@ use Rattle.coxeter.specs.Windows.{from, negateFirst, window, placeFrom}
 use Rattle.coxeter.specs.Dictionary.{shortlex}
 use Rattle.coxeter.specs.Checks.{wrongLetter}
 
--- no clause of its own: helps N6 and N8. The k numbers from i down: i, i − 1, ..
+-- Helper of N6 and N8: the k numbers from i down: i, i − 1, ..
 unfoldable pub down : ℕ → ℕ → List ℕ
 down i zero = []
 down i (suc k) = i ∷ down (i - 1) k
@@ -54,7 +54,7 @@ pub data Indices (k : Kind) (n : ℕ) : ℕ → List ℕ → Type 0 where
   none : {i : ℕ} → i ≡ suc (levels k n) → Indices k n i []
   level : {i j : ℕ} {js : List ℕ} → i ≤ levels k n → i ≤ suc j → j ≤ lastIndex k n i → Indices k n (suc i) js → Indices k n i (j ∷ js)
 
--- no clause of its own: helps N10. w without its first entry of size i.
+-- Helper of N10: w without its first entry of size i.
 unfoldable pub without : ℕ → List ℤ → List ℤ
 without i [] = []
 without i (e ∷ w) = pick (eqb (natAbs e) i) w (e ∷ without i w)

@@ -8,12 +8,12 @@ use lib.IntN.{ℤ}
 use Rattle.coxeter.specs.Kinds.{pick}
 use Rattle.coxeter.specs.Length.{negative}
 
--- CP1: the yes-no after the entries of a list, if it was t before them
+-- CP1: the parity flag after reading a list of entries, if it was t before
 unfoldable pub flipped : Bool → List ℤ → Bool
 flipped t [] = t
 flipped t (e ∷ w) = flipped (pick (negative e) (not t) t) w
 
--- CP2: the yes-no after a part of a window from the left; it is no before the first entry
+-- CP2: the parity flag after reading a part of a window from the left; false before the first entry
 abbrev pub flagAfter : List ℤ → Bool
 flagAfter part = flipped false part
 

@@ -7,7 +7,7 @@ use lib.IntN.{ℤ, pos, negsuc, negℤ, natAbs}
 use lib.ListN.{length, getD}
 use Rattle.coxeter.specs.Kinds.{Kind, A, B, D, pick, lanes, up}
 
--- no clause of its own: helps K7 to K9. f applied to what stands from position p on.
+-- Helper of K7 to K9: f applied to what stands from position p on.
 unfoldable pub from : ℕ → (List ℤ → List ℤ) → List ℤ → List ℤ
 from zero f w = f w
 from (suc p) f [] = []
@@ -59,7 +59,7 @@ at u (negsuc p) = negℤ (getD u p (pos 0))
 unfoldable pub product : List ℤ → List ℤ → List ℤ
 product u v = map (at u) v
 
--- no clause of its own: helps W9. k with the sign of e.
+-- Helper of W9: k with the sign of e.
 unfoldable pub signed : ℤ → ℕ → ℤ
 signed (pos e) k = pos k
 signed (negsuc e) k = negℤ (pos k)

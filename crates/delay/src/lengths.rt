@@ -57,7 +57,7 @@ pub(crate) fn greatest_length(kind: u8, rank: u8) -> usize
     n * (n - 1)
 }
 
-// How many greater sizes the last level has.
+// Larger sizes at the last level.
 pub(crate) fn fewest_of(kind: u8) -> usize
     ensures { λ r. ⌜ r ≡ fewest (kindOf kind) ⌝ }
 {

@@ -1,6 +1,6 @@
 // The delay table of a kind and a rank: how many windows have each length, the longest window and its normal form.
 //
-// No public function has a `requires`: every input is checked, and what the call answers and writes is a definition
+// No public function has a `requires`: every input is checked, and what the call returns and writes is a definition
 // of distribution/specs/Calls for every input, refused ones included.
 mod counting;
 mod lengths;

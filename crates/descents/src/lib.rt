@@ -1,5 +1,5 @@
-// Calls on shortest words (I18, I22 and I23 of the specification): they go by the steps that make a window shorter,
-// which the field calls its descents.
+// Calls on shortest words (I18, I22 and I23 of the specification), implemented with descents: the generators that
+// make a window shorter.
 //
 // No public function has a `requires`: every input is checked in the order of CO2, and what a call returns and
 // writes is a definition of shortest_words/specs for every input, refused ones included.
@@ -51,9 +51,9 @@ fn decide_words(kind: u8, rank: u8, present: &[u8], simpler: &[u8], places: &mut
     decide(kind, rank, &mut form[..l], &mut target[..m], places)
 }
 
-// I18: whether the simpler word's window can be had by removing letters from the normal form of the present word.
-// With a yes the places of letters to keep are written to the front of `places`, rising; a no writes nothing.
-// Checks 5 and 6, then 7 and 8 of the present word, then of the simpler one, and only with a yes 14.
+// I18: whether the simpler word's window can be reached by removing letters from the normal form of the present word.
+// If it can, the places of letters to keep are written to the front of `places`, rising; if not, nothing is written.
+// Checks 5 and 6, then 7 and 8 of the present word, then of the simpler one, and 14 only if there is a fallback.
 pub fn fallback_places(
     kind: u8,
     rank: u8,

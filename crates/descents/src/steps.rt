@@ -20,7 +20,7 @@ fn is_later(x: i8, y: i8) -> bool
     (y < x) ^ is_negative(x) ^ is_negative(y)
 }
 
-// Where w[p] stands later than w[p + 1] the two are swapped. Answers whether they were.
+// If w[p] stands later than w[p + 1], the two are swapped. Returns whether they were.
 fn take_swap_descent(w: &mut [i8], p: usize) -> bool
     requires { ⌜ p + 1 < length (now w) ⌝ }
     ensures { λ r. ⌜ (r ≡ later (getD (now (w .entry)) p (pos 0)) (getD (now (w .entry)) (p + 1) (pos 0)))
@@ -36,7 +36,7 @@ fn take_swap_descent(w: &mut [i8], p: usize) -> bool
     false
 }
 
-// Where w[p] is negative its sign is changed. Answers whether it was.
+// If w[p] is negative, its sign is changed. Returns whether it was.
 fn take_negate_descent(w: &mut [i8], p: usize) -> bool
     requires { ⌜ (p < length (now w)) × (natAbs (getD (now w) p (pos 0)) < 128) ⌝ }
     ensures { λ r. ⌜ (r ≡ negative (getD (now (w .entry)) p (pos 0)))
@@ -50,7 +50,7 @@ fn take_negate_descent(w: &mut [i8], p: usize) -> bool
     false
 }
 
-// Where w[p] stands later than minus w[p + 1] the two are swapped and both change sign. Answers whether they were.
+// If w[p] stands later than minus w[p + 1], the two are swapped and both change sign. Returns whether they were.
 fn take_swap_negate_descent(w: &mut [i8], p: usize) -> bool
     requires { ⌜ p + 1 < length (now w) ⌝ }
     requires { ⌜ natAbs (getD (now w) p (pos 0)) < 128 ⌝ }
@@ -69,7 +69,7 @@ fn take_swap_negate_descent(w: &mut [i8], p: usize) -> bool
     false
 }
 
-// Step s, taken where it makes the window shorter. Answers whether it does. Below the number of entries a step
+// Step s, taken where it makes the window shorter. Returns whether it does. Below the number of entries a step
 // swaps, in every kind; any other is step n of B or D.
 pub(crate) fn take_descent(kind: u8, n: usize, s: usize, w: &mut [i8]) -> bool
     requires { ⌜ (1 ≤ s) × (s ≤ n) ⌝ }

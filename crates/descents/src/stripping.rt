@@ -33,7 +33,7 @@ fn back(kind: u8, n: usize, s: usize) -> usize
     }
 }
 
-// Step s, taken where it is allowed and makes the window shorter. Answers whether it was.
+// Step s, taken where it is allowed and makes the window shorter. Returns whether it was.
 fn take_allowed_descent(kind: u8, n: usize, allowed: u64, s: usize, w: &mut [i8]) -> bool
     requires { ⌜ (1 ≤ s) × (s ≤ n) ⌝ }
     requires { ⌜ Ranked (kindOf kind) n ⌝ }

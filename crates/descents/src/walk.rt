@@ -14,7 +14,7 @@ ghost use Rattle.coxeter.proofs.Acceptance.{Ranked};
 ghost use Rattle.shortest_words.proofs.Walk.{leftOver, placesKept, marked};
 ghost use Rattle.shortest_words.proofs.Verdicts.{Decided};
 
-// A letter that is not kept becomes 0. Answers how many are kept; `w` becomes what is left of the target.
+// A letter that is not kept becomes 0. Returns how many are kept; `w` becomes what is left of the target.
 fn keep_letters(kind: u8, n: usize, word: &mut [u8], w: &mut [i8]) -> usize
     requires { ⌜ Ranked (kindOf kind) n ⌝ }
     requires { ⌜ WordOf n (now word) ⌝ }

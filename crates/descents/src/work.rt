@@ -61,7 +61,7 @@ pub(crate) fn show(kind: u8, rank: u8, word: &[u8], work: &mut [i8])
     window_of_word(kind, rank, word, work);
 }
 
-// The normal form of an accepted word, at the front of `form`. Answers its length.
+// The normal form of an accepted word, at the front of `form`. Returns its length.
 pub(crate) fn write_form(kind: u8, rank: u8, word: &[u8], form: &mut [u8]) -> usize
     requires { ⌜ RankOf kind rank × WordOf rank (now word) × (4096 ≡ length (now form)) ⌝ }
     ensures { λ r. ⌜ Front 4096 (wordNormalForm (kindOf kind) rank (now (word .entry))) (now (form .exit)) r ⌝ }

@@ -9,7 +9,7 @@ use lib.IntN.{ℤ, pos, negsuc}
 use Rattle.coxeter.specs.Kinds.{Kind, pick, lanes, up}
 use Rattle.coxeter.specs.Checks.{windowRefusal}
 
--- no clause of its own: helps Y2. x is in the list.
+-- Helper of Y2: x is in the list.
 abbrev pub In : {X : Type 0} → X → List X → Type 0
 In x l = List·Memᴰ x l
 
@@ -18,17 +18,17 @@ abbrev pub Once : {X : Type 0} → List X → Type 0
 Once [] = Unit {0}
 Once (x ∷ l) = (In x l → ⊥) × Once l
 
--- no clause of its own: helps Y1 and Y2. Those of the list for which the test holds.
+-- Helper of Y1 and Y2: those of the list for which the test holds.
 unfoldable pub keep : {X : Type 0} → (X → Bool) → List X → List X
 keep t [] = []
 keep t (x ∷ l) = pick (t x) (x ∷ keep t l) (keep t l)
 
--- no clause of its own: helps Y2. Each of xs before each of the lists ls.
+-- Helper of Y2: each of xs before each of the lists ls.
 unfoldable pub consAll : {X : Type 0} → List X → List (List X) → List (List X)
 consAll [] ls = []
 consAll (x ∷ xs) ls = map (λ l. x ∷ l) ls ++ consAll xs ls
 
--- no clause of its own: helps Y2. All lists of m elements out of xs.
+-- Helper of Y2: all lists of m elements out of xs.
 unfoldable pub lists : {X : Type 0} → ℕ → List X → List (List X)
 lists zero xs = [] ∷ []
 lists (suc m) xs = consAll xs (lists m xs)

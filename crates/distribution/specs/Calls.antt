@@ -62,6 +62,6 @@ unfoldable pub delayTable : ℕ → ℕ → List ℕ → List ℤ → List ℕ �
 delayTable k n =
     tables (tableRefusal k n) (distribution (kindOf k) n) (longest (kindOf k) n) (normalForm (kindOf k) n (longest (kindOf k) n))
 
--- G1: a call answers a and leaves these three in its outputs, as the outcome t says
+-- G1: a call returns a and leaves these three in its outputs, as the outcome t says
 abbrev pub TableYields : Tabled → Table → List ℕ → List ℤ → List ℕ → Type 0
 TableYields t a counts entries letters = (a ≡ t .answer) × (counts ≡ t .counts) × (entries ≡ t .entries) × (letters ≡ t .letters)

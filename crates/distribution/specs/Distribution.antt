@@ -16,12 +16,12 @@ ofLength k n l = length (keep (λ w. eqb (windowLength k w) l) (windows k n))
 unfoldable pub distribution : Kind → ℕ → List ℕ
 distribution k n = map (ofLength k n) (up 0 (greatestLength k n + 1))
 
--- no clause of its own: helps Y3. The sum of the entries.
+-- Helper of Y3: the sum of the entries.
 unfoldable pub sum : List ℕ → ℕ
 sum [] = 0
 sum (x ∷ l) = x + sum l
 
--- no clause of its own: helps Y3. n!
+-- Helper of Y3: n!
 unfoldable pub factorial : ℕ → ℕ
 factorial zero = 1
 factorial (suc n) = suc n * factorial n

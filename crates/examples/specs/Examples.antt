@@ -21,18 +21,18 @@ number A = 1
 number B = 2
 number D = 3
 
--- no clause of its own: helps J4, J5 and J9. A negative entry of a window.
+-- Helper of J4, J5 and J9: a negative entry of a window.
 abbrev pub neg : ℕ → ℤ
 neg e = negℤ (pos e)
 
--- R16: one rewrite of u at place p, with any output that has room, answers with family f, i, j and the new length,
+-- R16: one rewrite of u at place p, with any output that has room, returns family f, i, j and the new length,
 -- and leaves v, also in the output
 abbrev pub Gives : Kind → ℕ → List ℕ → ℕ → List ℕ → ℕ → ℕ → ℕ → Type 0
 Gives k n u p v f i j =
     (out : List ℕ) → length v ≤ length out
     → _≡_ {A = Transition single} (rewriteAt single (number k) n u p out) (record { answer = Used f i j (length v); outputs = v ++ drop (length v) out; word = v })
 
--- R17, CO6: one rewrite of u at place p, with any output, answers a; nothing is written and the word stays
+-- R17, CO6: one rewrite of u at place p, with any output, returns a; nothing is written and the word stays
 abbrev pub Stays : Kind → ℕ → List ℕ → ℕ → Rewrite → Type 0
 Stays k n u p a = (out : List ℕ) → _≡_ {A = Transition single} (rewriteAt single (number k) n u p out) (record { answer = a; outputs = out; word = u })
 

@@ -1,4 +1,4 @@
-// The lines of the listing, from their fields: each at the front of a buffer with room for it. Answers how many
+// The lines of the listing, from their fields: each at the front of a buffer with room for it. Returns how many
 // bytes it has.
 use crate::numbers::put_bytes;
 use crate::numbers::put_decimal;

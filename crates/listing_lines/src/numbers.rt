@@ -1,4 +1,4 @@
-// Numbers, letters and entries as text. Each function writes from the place `at` on and answers the place after
+// Numbers, letters and entries as text. Each function writes from the place `at` on and returns the place after
 // what it wrote.
 ghost use Prim.Native.Nat.{_+_, _≤_};
 ghost use lib.ListN.{length};

@@ -1,5 +1,5 @@
 // The next piece of a listing. The book is opened once, and once more for each run of its presets. A line is made in a
-// buffer of its own, where every line has room, and copied where it fits whole.
+// buffer of its own, where every line has room, and copied if it fits whole.
 use crate::lines::put_labelled;
 use crate::numbers::put_bytes;
 use crate::presets::put_preset;
@@ -18,7 +18,7 @@ ghost use Rattle.book_format.specs.Calls.{checkedPreset};
 ghost use Rattle.listing_text.specs.Calls.{lineCountBy, firstLine, nextPiece};
 ghost use Rattle.listing_text.proofs.Answered.{lineFrom};
 
-// How many lines the listing has, by what opening the book answered.
+// How many lines the listing has, by what opening the book returned.
 fn line_count(opened: Opened) -> usize
     requires { ⌜ lineCountBy opened ≤ 65536 ⌝ }
     ensures { λ r. ⌜ r ≡ lineCountBy opened ⌝ }
@@ -62,7 +62,7 @@ fn number_of(i: usize) -> usize
     i - 1
 }
 
-// Line i, by what opening the book and reading the preset of the line answered, in whichever edition.
+// Line i, by what opening the book and reading the preset of the line returned, in whichever edition.
 fn put_nth(book: &[u8], opened: Opened, i: usize, answer: Preset, out: &mut [u8]) -> usize
     requires { ⌜ ((ed : Edition) × ((answer ≡ checkedPreset ed (now book) (i - 1)) × (length (lineFrom (now book) opened i answer) ≤ length (now out)))) ⌝ }
     ensures { λ r. ⌜ Stored (now (out .entry)) 0 (lineFrom (now (book .entry)) opened i answer) (now (out .exit)) r ⌝ }

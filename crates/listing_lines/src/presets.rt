@@ -55,7 +55,7 @@ fn put_word(number: usize, kind: u8, rank: u8, word: &[u8], out: &mut [u8]) -> u
     put_line(number, kind, rank, &form[..l], &shown[..m], out)
 }
 
-// P4, P7, G11: the line of a preset, by its number and what reading it answered, in whichever edition.
+// P4, P7, G11: the line of a preset, by its number and what reading it returned, in whichever edition.
 pub(crate) fn put_preset(book: &[u8], number: usize, answer: Preset, out: &mut [u8]) -> usize
     requires { ⌜ ((ed : Edition) × ((answer ≡ checkedPreset ed (now book) number) × (length (lineBy (now book) number answer) ≤ length (now out)))) ⌝ }
     ensures { λ r. ⌜ Stored (now (out .entry)) 0 (lineBy (now (book .entry)) number answer) (now (out .exit)) r ⌝ }

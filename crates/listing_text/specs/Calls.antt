@@ -1,4 +1,4 @@
--- The listing line by line, and what the call that writes the next piece of it answers and writes, for every input
+-- The listing line by line, and what the call that writes the next piece of it returns and writes, for every input
 -- (I32 of the specification).
 use mathlib.Core.List.{List, [], _∷_, _++_}
 use Prim.Native.Nat.{ℕ, zero, suc, _+_, _-_}

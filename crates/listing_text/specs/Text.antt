@@ -92,7 +92,7 @@ countLine c = presetsText ++ decimal c ++ (10 ∷ [])
 unfoldable pub wordLine : ℕ → Kind → ℕ → List ℕ → List ℕ
 wordLine i k n u = presetLine i k n (wordNormalForm k n u) (window k n u)
 
--- P4, P7: the line of preset i of the book b, by what reading it answers
+-- P4, P7: the line of preset i of the book b, by what reading it returns
 unfoldable pub lineBy : List ℕ → ℕ → Preset → List ℕ
 lineBy b i (preset.Found k n s l) = wordLine i (kindOf k) n (take l (drop s b))
 lineBy b i (preset.Refused r) = refusedLine i r
@@ -106,7 +106,7 @@ unfoldable pub linesFrom : Edition → List ℕ → ℕ → ℕ → List ℕ
 linesFrom ed b zero i = []
 linesFrom ed b (suc t) i = lineOf ed b i ++ linesFrom ed b t (suc i)
 
--- P3, P8: the whole listing, by what opening the book answers
+-- P3, P8: the whole listing, by what opening the book returns
 unfoldable pub listingBy : Edition → List ℕ → Opened → List ℕ
 listingBy ed b (opened.Presets c) = countLine c ++ linesFrom ed b c 0
 listingBy ed b (opened.Refused r) = refusedBookLine r

@@ -100,7 +100,7 @@ fn note_passed(
     }
 }
 
-// The letter at q put before those that it commutes with, as far as it goes. Answers where it stands then.
+// The letter at q put before those that it commutes with, as far as it goes. Returns where it stands then.
 fn shift(n: u8, corner: u8, word: &mut [u8], q: usize) -> usize
     requires { ⌜ (n ≤ 64) × WordOf n (now word) × (q < length (now word)) ⌝ }
     ensures { λ r. ⌜ (r ≤ q) × (now (word .exit) ≡ take r (now (word .entry))
@@ -124,7 +124,7 @@ fn shift(n: u8, corner: u8, word: &mut [u8], q: usize) -> usize
     t
 }
 
-// The letter at q passes letters by family 2, one step each, as far as it goes. Answers where it stands then.
+// The letter at q passes letters by family 2, one step each, as far as it goes. Returns where it stands then.
 fn pass(
     kind: u8,
     n: u8,
@@ -183,8 +183,7 @@ struct Moved {
     place: usize,
 }
 
-// The step by the rule that ends with the letter at q, if there is one. That letter does not commute with the one
-// before it.
+// Applies the rule that ends at q, if there is one. The letter at q does not commute with the one before it.
 fn turn(
     kind: u8,
     n: u8,

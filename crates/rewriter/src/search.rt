@@ -12,7 +12,7 @@ ghost use Rattle.rules.specs.Rules.{rules, firstFitting};
 ghost use Rattle.rules.proofs.Scan as scan;
 ghost use Rattle.rules.proofs.Scan.{nextIndex, familyAtEnd, familyAt, shownIndex};
 
-// A rule that fits, as a rewrite answers it, with the length of its left side.
+// A rule that fits, as a rewrite returns it, with the length of its left side.
 pub(crate) enum Fitting {
     Rule {
         family: u8,

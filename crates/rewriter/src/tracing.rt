@@ -26,7 +26,7 @@ fn letters_128() -> [u8; 128]
     [0u8; 128]
 }
 
-// A list of numbers of which none is used.
+// Placeholder, never indexed.
 fn no_numbers() -> [u16; 1]
     ensures { λ r. ⌜ 1 ≡ length r ⌝ }
 {
@@ -99,7 +99,7 @@ fn count_in(kind: u8, n: u8, word: &[u8], work: &mut [u8]) -> Count
     )
 }
 
-// The same, with a work array of its own.
+// `count_in` with a local buffer.
 pub(crate) fn count(kind: u8, n: u8, word: &[u8]) -> Count
     requires { ⌜ AcceptedWord kind n (now word) ⌝ }
     ensures { λ r. ⌜ (r .steps ≡ length (trace (kindOf kind) n (now (word .entry)) .lines))
@@ -149,7 +149,7 @@ fn write_in(
     copy(&work[..size], out, 0);
 }
 
-// The same, with a work array of its own.
+// `write_in` with a local buffer.
 pub(crate) fn write_trace(
     kind: u8,
     n: u8,

@@ -38,7 +38,7 @@ pub record Interface : Type 1 where
   -- T4: the new word, read off the answer and the outputs afterwards, if the answer says that a rule was used
   pub newWord : Answer → Outputs → Option (List ℕ)
 
--- I19, T12: what one rewrite answers, what its outputs hold afterwards, and the word that is left
+-- I19, T12: what one rewrite returns, what its outputs hold afterwards, and the word that is left
 pub record Transition (s : Interface) : Type 0 where
   pub answer : s .Answer
   pub outputs : s .Outputs

@@ -21,7 +21,7 @@ use Rattle.rules.specs.Runs.{AcceptedWord, Arguments, Call, Run, IsUsed,
 abbrev pub normalFormOf : ℕ → ℕ → List ℕ → List ℕ
 normalFormOf k n u = wordNormalForm (kindOf k) n u
 
--- T10: one rewrite at each place answers that none fits, with whatever outputs
+-- T10: one rewrite at each place returns that none fits, with whatever outputs
 abbrev pub NowhereFits : (s : Interface) → ℕ → ℕ → List ℕ → Type 0
 NowhereFits s k n v =
     (p : ℕ) → p < length v → (before after : s .Outputs) (a : s .Answer) → Rewrote s k n v p before after a → a ≡ s .noneFits

@@ -9,7 +9,7 @@ use lib.ListN.{length, take, drop}
 use Rattle.coxeter.specs.Kinds.{Kind, A, B, D, pick}
 use Rattle.coxeter.specs.NormalForm.{rise, block}
 
--- R1, R18, R19: family, i and j as one rewrite answers them, and the two sides
+-- R1, R18, R19: family, i and j as one rewrite returns them, and the two sides
 pub record Rule : Type 0 where
   pub family : ℕ
   pub i : ℕ
@@ -17,11 +17,11 @@ pub record Rule : Type 0 where
   pub left : List ℕ
   pub right : List ℕ
 
--- no clause of its own: helps R2 to R12. A rule from its five fields.
+-- Helper of R2 to R12: a rule from its five fields.
 abbrev pub rule : ℕ → ℕ → ℕ → List ℕ → List ℕ → Rule
 rule f i j l r = record { family = f; i = i; j = j; left = l; right = r }
 
--- no clause of its own: helps R2 to R9. The rules that `f` gives for each number of a list, in order.
+-- Helper of R2 to R9: the rules that `f` gives for each number of a list, in order.
 unfoldable pub concatMap : (ℕ → List Rule) → List ℕ → List Rule
 concatMap f [] = []
 concatMap f (i ∷ is) = f i ++ concatMap f is

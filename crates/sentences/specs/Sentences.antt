@@ -7,12 +7,12 @@ use Prim.Native.String.{String, len, charAt}
 use lib.ListN.{getD}
 use Rattle.coxeter.specs.Calls.{Outcome, writes}
 
--- no clause of its own: helps IC9. The ASCII codes of l characters of a text from place i on
+-- Helper of IC9: the ASCII codes of l characters of a text from place i on
 unfoldable pub codesFrom : String → ℕ → ℕ → List ℕ
 codesFrom t zero i = []
 codesFrom t (suc l) i = code (charAt t i) ∷ codesFrom t l (i + 1)
 
--- no clause of its own: helps IC9. The codes of all characters
+-- Helper of IC9: the codes of all characters
 unfoldable pub codes : String → List ℕ
 codes t = codesFrom t (len t) 0
 

@@ -77,7 +77,7 @@ unfolding setRefusal
 set-then k n set e = rw then-assoc (rank-then k n (check-then 15 (wrongSet n set) e))
 
 -- I18, F1, F8, CO4: the call on fallbacks makes checks 5, 6, 7 and 8 of the present word, then 7 and 8 of the simpler
--- one, and last 14, which refuses only with a yes
+-- one, and last 14, which refuses only if there is a fallback
 pub fallback-firstOf : (k n : ℕ) (present simpler places : List ℕ)
     → let falls = isFallback (kindOf k) n present simpler in let l = windowLength (kindOf k) (window (kindOf k) n simpler) in
     fallbackAnswer k n present simpler places

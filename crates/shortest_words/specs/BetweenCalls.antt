@@ -1,4 +1,4 @@
--- What the call from one window to another answers and writes, for every input (I23 and C19 of the specification).
+-- What the call from one window to another returns and writes, for every input (I23 and C19 of the specification).
 use mathlib.Core.Bool.{Bool, not}
 use mathlib.Core.List.{List}
 use Prim.Native.Nat.{ℕ}

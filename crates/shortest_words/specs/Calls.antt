@@ -1,4 +1,4 @@
--- What the call on fallbacks answers and writes, for every input (I18 of the specification).
+-- What the call on fallbacks returns and writes, for every input (I18 of the specification).
 use mathlib.Core.Path.{_≡_}
 use mathlib.Core.Bool.{Bool, _&&_}
 use mathlib.Core.List.{List}
@@ -23,7 +23,7 @@ fallbackOf r t l = pick (eqb r 0) (pick t (Kept l) No) (Refused r)
 abbrev pub simplerLength : ℕ → ℕ → List ℕ → ℕ
 simplerLength k n simpler = windowLength (kindOf k) (window (kindOf k) n simpler)
 
--- I18, F8: 14 comes only with a yes
+-- I18, F8: 14 comes only if there is a fallback
 unfoldable pub fallbackAnswer : ℕ → ℕ → List ℕ → List ℕ → List ℕ → Fallback
 fallbackAnswer k n present simpler places =
     let falls = isFallback (kindOf k) n present simpler in

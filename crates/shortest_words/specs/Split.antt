@@ -35,13 +35,13 @@ pub record IsSplit (allowed : ℕ → Bool) (k : Kind) (n : ℕ) (w : List ℤ) 
   -- S6
   pub lengths : length first + length second ≡ windowLength k w
 
--- no clause of its own: helps S7. The lowest of the t steps from s on that is allowed and makes the window x
+-- Helper of S7: the lowest of the t steps from s on that is allowed and makes the window x
 -- shorter.
 unfoldable pub lowest : (ℕ → Bool) → Kind → ℕ → ℕ → ℕ → List ℤ → Option ℕ
 lowest allowed k n zero s x = none
 lowest allowed k n (suc t) s x = pick (allowed s && isDescent k n s x) (some s) (lowest allowed k n t (suc s) x)
 
--- no clause of its own: helps S7. x after the lowest allowed step that makes it shorter, again and again, at most t
+-- Helper of S7: x after the lowest allowed step that makes it shorter, again and again, at most t
 -- times.
 unfoldable pub stripped : (ℕ → Bool) → Kind → ℕ → ℕ → List ℤ → List ℤ
 stripped allowed k n zero x = x

@@ -36,6 +36,6 @@ splitting k n set u =
     splitOutcome (setRefusal k n set then wordRefusal n u)
     (firstWord (allows set) (kindOf k) n (window (kindOf k) n u)) (secondWord (allows set) (kindOf k) n (window (kindOf k) n u))
 
--- G1: a call answers a and leaves these two in its outputs, as the outcome p says
+-- G1: a call returns a and leaves these two in its outputs, as the outcome p says
 abbrev pub SplitYields : SplitOutcome → Split → List ℕ → List ℕ → Type 0
 SplitYields p a first second = (a ≡ p .answer) × (first ≡ p .first) × (second ≡ p .second)

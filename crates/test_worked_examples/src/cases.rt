@@ -1,4 +1,4 @@
-// Cases: each function makes a call or a few, and answers the count t plus the number of its cases that hold.
+// Cases: each function makes a call or a few, and returns the count t plus the number of its cases that hold.
 use book::Edition;
 use rewriter::Rewrite;
 use std::num::wrapping_add_u64;

@@ -1,4 +1,4 @@
-// Cases of opened books (B14): each function asks a book through the reader, and answers the count t plus the number of
+// Cases of opened books (B14): each function asks a book through the reader, and returns the count t plus the number of
 // its cases that hold. A function with a local that holds an opened book is proved by a walk by hand; the two that have
 // one do nothing else.
 use book::Edition;

@@ -113,7 +113,7 @@ unfoldable pub rewritingToEnd : ℕ → ℕ → List ℕ → List ℕ → List �
 rewritingToEnd k n u families places lengths out =
     tracedBy (rankRefusal k n then wordRefusal n u) (trace (kindOf k) n u) families places lengths out
 
--- G1: a call answers a and leaves these in the lists and the output, as the outcome t says
+-- G1: a call returns a and leaves these in the lists and the output, as the outcome t says
 abbrev pub TraceYields : Traced → ToEnd → List ℕ → List ℕ → List ℕ → List ℕ → Type 0
 TraceYields t a families places lengths out =
     (a ≡ t .answer) × (families ≡ t .families) × (places ≡ t .places) × (lengths ≡ t .lengths) × (out ≡ t .bytes)
@@ -124,7 +124,7 @@ numberOfSteps k n u = answerOf (rankRefusal k n then wordRefusal n u) (length (t
 
 -- ---- what a reader of the lists sees
 
--- T19: at every place below p one rewrite answers that none fits, with any output
+-- T19: at every place below p one rewrite returns that none fits, with any output
 abbrev pub NoneFitsBelow : ℕ → ℕ → List ℕ → ℕ → Type 0
 NoneFitsBelow k n u p =
     (q : ℕ) → q < p → (before after : List ℕ) (a : Rewrite) → Rewrote single k n u q before after a → a ≡ NoneFits

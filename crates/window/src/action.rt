@@ -46,8 +46,8 @@ fn swap_negate_at(w: &mut [i8], p: usize, b: i8)
 
 // K7, K8, K9: one step. Below the number of entries a step swaps, in every kind. Any other is step n of B or D:
 // A has an entry more than steps. The entry at s - 1, which each of them needs, is read before it is known which
-// step it is: read beside its neighbour, the compiler would turn the two as one number of 16 bits, and the next
-// step at a neighbour would wait for half of that number.
+// step it is. Read beside its neighbour, the compiler would swap both with one 16-bit rotate, and the next load would
+// stall.
 fn act_on(kind: u8, n: usize, s: usize, w: &mut [i8])
     requires { ⌜ (1 ≤ s) × (s ≤ n) ⌝ }
     requires { ⌜ Ranked (kindOf kind) n ⌝ }

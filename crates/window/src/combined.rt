@@ -31,7 +31,7 @@ fn between_into(kind: u8, rank: u8, u: &[i8], v: &[i8], out: &mut [i8])
     product_into(kind, rank, &back[..m], v, out);
 }
 
-// I34: writes the normal form of the product of two windows of one kind and rank to the front of `out` and answers its
+// I34: writes the normal form of the product of two windows of one kind and rank to the front of `out` and returns its
 // length. Refuses with 5 or 6, then 9 to 11 for u, then 9 to 11 for v, then 14 where `out` is shorter than the normal
 // form; `out` is then left as it was.
 pub fn normal_form_of_product(kind: u8, rank: u8, u: &[i8], v: &[i8], out: &mut [u8]) -> Answer
@@ -48,7 +48,7 @@ pub fn normal_form_of_product(kind: u8, rank: u8, u: &[i8], v: &[i8], out: &mut 
     write_checked(kind, rank, &work, out)
 }
 
-// I34: writes the normal form of a window's inverse to the front of `out` and answers its length. Refuses with 5 or 6,
+// I34: writes the normal form of a window's inverse to the front of `out` and returns its length. Refuses with 5 or 6,
 // then 9 to 11, then 14 where `out` is shorter than the normal form; `out` is then left as it was.
 pub fn normal_form_of_inverse(kind: u8, rank: u8, w: &[i8], out: &mut [u8]) -> Answer
     ensures { λ r. ⌜ Yields (writes (rankRefusal kind rank then windowRefusal (kindOf kind) rank (now (w .entry)))
@@ -63,7 +63,7 @@ pub fn normal_form_of_inverse(kind: u8, rank: u8, w: &[i8], out: &mut [u8]) -> A
     write_checked(kind, rank, &work, out)
 }
 
-// I34: writes the normal form of the window that leads from u to v to the front of `out` and answers its length.
+// I34: writes the normal form of the window that leads from u to v to the front of `out` and returns its length.
 // Refuses with 5 or 6, then 9 to 11 for u, then 9 to 11 for v, then 14 where `out` is shorter than the normal form;
 // `out` is then left as it was.
 pub fn normal_form_between(kind: u8, rank: u8, u: &[i8], v: &[i8], out: &mut [u8]) -> Answer

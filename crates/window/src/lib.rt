@@ -104,8 +104,8 @@ pub fn normal_form_of_window(kind: u8, rank: u8, w: &[i8], out: &mut [u8]) -> An
     if refusal != 0 {
         return Answer::Refused(refusal);
     }
-    // All of w as a part of it, whose pointer and length are stored anew: a slice that is lent on as it is would be
-    // copied as one number that was just stored as two, and the copy waits for them.
+    // All of w as a part of it, so that pointer and length are stored anew. Lent on unchanged, the slice would be
+    // copied by one load of what two stores have just written, which defeats store forwarding.
     let m = w.len();
     write_checked(kind, rank, &w[..m], out)
 }
