@@ -12,7 +12,7 @@ use lib.ListN.{length}
 use borrow.Author.Tests.{eq-eqb, ne-eqb, lt-ltb, le-ltb, le-leb, ltb-true}
 use Rattle.coxeter.specs.Checks.{tooShort}
 use Rattle.coxeter.specs.declared.Answer.the-variants as answer
-use Rattle.coxeter.specs.Calls.{answerOf, written, writes}
+use Rattle.coxeter.specs.Calls.{answerOf, front, written, writes}
 use Rattle.book_format.specs.declared.Edition.{Edition}
 use Rattle.book_format.specs.declared.Opened.the-variants as opened
 use Rattle.book_format.specs.declared.Preset.the-variants as preset
@@ -58,7 +58,7 @@ module _ (ed : Edition) where
   append-to-no-bytes k n u out = rw (appended-same k n u, bookRefusal-bytes ed [] refl, two-zeros)
 
   pub converting-no-bytes : (out : List ℕ) → (converting ed [] out .answer ≡ answer.Length 0) × (converting ed [] out .bytes ≡ out)
-  unfolding converting writes answerOf written tooShort
+  unfolding converting writes answerOf written front tooShort
   converting-no-bytes out = rw (conversion-bytes ed [] refl, converted-bytes ed [] refl, le-ltb (length out) 0 (omega arith)) (refl, refl)
 
 -- check 1 refuses a length of 1 and more than 65,535 bytes, and nothing else

@@ -7,13 +7,13 @@ use mathlib.Core.List.{List, _++_}
 use Prim.Native.Nat.{ℕ, zero, suc, _-_, _*_, _/_, _≤_, _<_, min}
 use native.Mathlib.Nat.{min-le-right}
 use native.Mathlib.Omega.{arith}
-use lib.ListN.{length, drop, length-append}
+use lib.ListN.{length, length-append}
 use lib.Seq.{sets}
 use borrow.Author.Tests.{eq-eqb, ne-eqb, lt-ltb, le-ltb, lt-leb, le-leb}
 use Rattle.coxeter.specs.declared.Answer.the-variants as answer
 use Rattle.coxeter.specs.Checks.{tooShort}
-use Rattle.coxeter.specs.Calls.{answerOf, written}
-use Rattle.coxeter.proofs.Lists.{sets-front}
+use Rattle.coxeter.specs.Calls.{answerOf, front, written}
+use Rattle.coxeter.proofs.FrontLaws.{sets-front}
 use Rattle.book_format.specs.declared.Edition.{Edition}
 use Rattle.book_format.specs.declared.Preset.{Preset}
 use Rattle.book_format.specs.declared.Preset.the-variants as preset
@@ -59,5 +59,5 @@ module _ (ed : Edition) (b : List ℕ) (i : ℕ) (out : List ℕ) (r : ℕ) (e :
         let numbers = presetFields ed b t i in
         let l = length-presetFields ed b t i in
         let m = min-le-right (c - i) (length out / 5) in
-        let w : o ≡ numbers ++ drop (length numbers) out = p ∙ sets-front numbers out (length numbers) (omega arith) refl in
+        let w : o ≡ front numbers out = p ∙ sets-front numbers out (omega arith) in
         rw (← e, eq-eqb r 0 z, ← q, lt-leb c i h, le-ltb (length out) 5 g, ← y) (refl, w)

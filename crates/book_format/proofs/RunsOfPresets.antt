@@ -15,10 +15,11 @@ use Rattle.coxeter.specs.declared.Answer.{Answer}
 use Rattle.coxeter.specs.declared.Answer.the-variants as answer
 use Rattle.coxeter.specs.Kinds.{pick, up}
 use Rattle.coxeter.specs.Checks.{firstOf, check, _then_, tooShort}
-use Rattle.coxeter.specs.Calls.{Yields, written}
+use Rattle.coxeter.specs.Calls.{Yields, front, written}
 use Rattle.coxeter.proofs.Basics.{length-up}
 use Rattle.coxeter.proofs.Products.{getD-up, getD-map}
 use Rattle.coxeter.proofs.Refusals.{then-zero, check-zero}
+use Rattle.coxeter.proofs.FrontLaws.{drop-front, front-parts}
 use Rattle.book_format.specs.declared.Edition.{Edition}
 use Rattle.book_format.specs.declared.Opened.the-variants as opened
 use Rattle.book_format.specs.declared.Preset.{Preset}
@@ -125,10 +126,10 @@ module _ (ed : Edition) (b : List ℕ) (i : ℕ) (before after : List ℕ) (a : 
       let q = answerOf-length (refusal ed b i before) (runLength b i before) t .0 (sym (h .0) ∙ e) in
       let numbers = presetFields ed b t i in
       let l = length-presetFields ed b t i in
-      let w : after ≡ numbers ++ drop (5 * t) before = rw (← l, q .1) (rw (eq-eqb (refusal ed b i before) 0 (q .0)) at (h .1)) in
+      let w : after ≡ front numbers before = rw (q .1) (rw (eq-eqb (refusal ed b i before) 0 (q .0)) at (h .1)) in
       let at : (j : ℕ) → j < t → take 5 (drop (5 * j) after) ≡ fieldsOf (checkedPreset ed b (i + j)) =
-      λ j g. rw w (fields-at ed b t i j (drop (5 * t) before) g) in (
-        rw w (drop-at numbers (drop (5 * t) before) (5 * t) l),
+      λ j g. rw (w, ← front-parts numbers before (5 * t) numbers l refl) (fields-at ed b t i j (drop (5 * t) before) g) in (
+        rw w (drop-front numbers before (5 * t) l),
         λ j k n s m g f. at j g ∙ ap fieldsOf f,
         λ j r g f. at j g ∙ ap fieldsOf f,
       )

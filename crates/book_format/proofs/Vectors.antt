@@ -14,7 +14,7 @@ use lib.ListN.{length, replicate}
 use borrow.Author.Tests.{ltb-true, lt-ltb}
 use Rattle.coxeter.specs.Kinds.{kindOf}
 use Rattle.coxeter.specs.Checks.{_then_, wrongKind, tooLong, wrongLetter, tooShort, rankRefusal, wordRefusal, WordOf}
-use Rattle.coxeter.specs.Calls.{answerOf, written, Outcome, writes}
+use Rattle.coxeter.specs.Calls.{answerOf, front, written, Outcome, writes}
 use Rattle.coxeter.proofs.Refusals.{then-next}
 use Rattle.coxeter.proofs.Vectors.{Agree, lent, wrote, refused}
 use Rattle.book_format.specs.declared.Edition.{Edition}
@@ -178,7 +178,7 @@ runs =
 
 pub runs-agree : Agree runs
 unfolding runs
-    kindOf wrongKind wrongRankInBook wrongLaneCount tooLong wrongLetter tooShort bookRankRefusal wordRefusal answerOf written
+    kindOf wrongKind wrongRankInBook wrongLaneCount tooLong wrongLetter tooShort bookRankRefusal wordRefusal answerOf front written
     twoAt count trailer offset wrongSize wrongCount misplacedFrom misplaced noSuchPreset bookRefusal recordRefusal presetRefusal
     presetOf presetAt checkedPreset fieldsOf presetFields runLength readingPresets
 runs-agree = refl
@@ -239,7 +239,7 @@ appendings =
 
 pub appendings-agree : Agree appendings
 unfolding appendings
-    kindOf wrongKind wrongRankInBook wrongLaneCount tooLong wrongLetter tooShort bookRankRefusal wordRefusal answerOf written writes
+    kindOf wrongKind wrongRankInBook wrongLaneCount tooLong wrongLetter tooShort bookRankRefusal wordRefusal answerOf front written writes
     twoAt two count trailer offset wrongSize wrongCount misplacedFrom misplaced tooLarge retired bookRefusal recordOf appended appendRefusal
     appending
 appendings-agree = refl
@@ -298,7 +298,7 @@ unfolding conversions
     kindOf wrongKind wrongRankInBook wrongLaneCount tooLong wrongLetter bookRankRefusal wordRefusal
     twoAt two count trailer offset wrongSize wrongCount misplacedFrom misplaced bookRefusal recordRefusal recordOf tooLarge tooShort
     recordBytes offsetBytes layOut recordsFrom recordsOf
-    converted tooManyLanes recordConversionRefusal recordsConversionRefusal conversionRefusal converting answerOf written writes
+    converted tooManyLanes recordConversionRefusal recordsConversionRefusal conversionRefusal converting answerOf front written writes
 conversions-agree = refl
 
 -- the size limit is the new book's: a book of the first edition with c presets grows by c bytes

@@ -21,9 +21,9 @@ use Rattle.book_format.specs.Calls.{appending}
 use Rattle.book_format.proofs.RankLaws.{bookRank-accepted}
 use Rattle.book_format.proofs.BookLaws.{Accepted, accepted, accepted-read, bookSize, trailer-le}
 use Rattle.coxeter.proofs.Acceptance.{rank-accepted}
-use Rattle.coxeter.proofs.Lists.{sets-front}
-use Rattle.coxeter.proofs.Outcomes.{writes-refused, writes-short, writes-done}
+use Rattle.coxeter.proofs.Outcomes.{writes-refused, writes-short, writes-written}
 use Rattle.coxeter.proofs.Refusals.{then-zero, check-zero, then-none}
+use Rattle.coxeter.proofs.FrontLaws.{sets-front}
 
 -- ---- the appended book
 
@@ -147,5 +147,4 @@ module _ (ed : Edition) (b : List ℕ) (k n : ℕ) (u out : List ℕ) (r : ℕ) 
   appending-written s f o z h p =
       let l = length-appended ed b k n u (append-accepted ed b k n u (sym e ∙ z)) ∙ sym f in
       let new = appended ed b k n u in
-      let d = writes-done (appending ed b k n u out) (appendRefusal ed b k n u) r new out refl e s new z l h refl in
-      (d .0, p ∙ sets-front new out s (rw l h) (sym l) ∙ d .1)
+      writes-written (appending ed b k n u out) (appendRefusal ed b k n u) r new out refl e s o z l h (p ∙ sets-front new out (rw l h))

@@ -4,17 +4,17 @@
 use mathlib.Core.Path.{_≡_, refl, ap}
 use mathlib.Core.List.{List, [], _∷_}
 use mathlib.Core.Option.{some}
-use lib.ListN.{length, drop}
-use lib.Seq.{take-append-seam}
+use lib.ListN.{length}
 use Rattle.rules.specs.Demand3.{Demand3Holds}
 use Rattle.rules.proofs.Calls.{told-apart, Lawful}
 use Rattle.rules.proofs.Demand3.{demand3-of}
 use Rattle.c_api.specs.Calls.{refused, newWordIn, forC}
+use Rattle.coxeter.proofs.FrontLaws.{take-front}
 
 pub forC-lawful : Lawful forC
 unfolding refused newWordIn
 forC-lawful = record {
-  used-read = λ x w o. ap some (take-append-seam w (drop (length w) (o .0)));
+  used-read = λ x w o. ap some (take-front w (o .0) (length w) refl);
   none-unused = λ o. refl;
   refused-unused = λ r o. refl;
   none-not-12 = λ e. told-apart (cc);

@@ -4,21 +4,23 @@
 --
 -- Sections: the numbers of an answer; a list with room; a list without; refusals.
 -- Assumes nothing.
-use mathlib.Core.Path.{_≡_, refl, ap, _∙_}
+use mathlib.Core.Path.{_≡_, refl}
 use mathlib.Core.Bool.{Bool, true, false}
-use mathlib.Core.List.{List, [], _∷_, _++_}
+use mathlib.Core.List.{List, [], _∷_}
 use Prim.Native.Nat.{ℕ, suc, _+_, _≤_, _<_}
 use native.Mathlib.Decide.{ℕ-discrete}
 use native.Mathlib.Omega.{arith}
 use lib.Dec.{eqb}
 use lib.IntN.{ℤ, pos}
-use lib.ListN.{length, drop}
-use lib.Seq.{sets, sets-eq}
+use lib.ListN.{length}
+use lib.Seq.{sets}
 use borrow.Author.Tests.{ne-eqb, lt-ltb, le-ltb}
 use Rattle.coxeter.specs.declared.Counted.{Counted}
 use Rattle.coxeter.specs.declared.Counted.the-variants as counted
 use Rattle.coxeter.specs.Kinds.{pick}
 use Rattle.coxeter.specs.Checks.{check, _then_, tooShort}
+use Rattle.coxeter.specs.Calls.{front}
+use Rattle.coxeter.proofs.FrontLaws.{sets-front}
 use Rattle.rules.specs.declared.Rewrite.{Rewrite}
 use Rattle.rules.specs.declared.Rewrite.the-variants as rewrite
 use Rattle.shortest_words.specs.declared.Split.{Split}
@@ -77,20 +79,14 @@ preset-numbers (preset.Refused k) = alone k
 
 -- ---- a list with room
 
--- numbers stored one after the other
-front-sets : (l list : List ℕ) → length l ≤ length list → sets list 0 l ≡ l ++ drop (length l) list
-front-sets l list h =
-    let e : 0 + length l ≡ length l = omega arith in
-    sets-eq l list 0 (omega arith) ∙ ap (λ (k : ℕ). l ++ drop k list) e
-
 module _ (z : ℤ) (l list : List ℕ) where
   pub listed-stored : length l ≤ length list → (z, sets list 0 l) ≡ listed (z, l) list
   unfolding listed tooShort
-  listed-stored h = rw (le-ltb (length list) (length l) h, front-sets l list h)
+  listed-stored h = rw (le-ltb (length list) (length l) h, sets-front l list h)
 
   pub beside-stored : {Outputs : Type 0} (new old : Outputs) → length l ≤ length list → (z, (new, sets list 0 l)) ≡ listedBeside (z, l) new old list
   unfolding listedBeside tooShort
-  beside-stored new old h = rw (le-ltb (length list) (length l) h, front-sets l list h)
+  beside-stored new old h = rw (le-ltb (length list) (length l) h, sets-front l list h)
 
 -- and where no number goes there
 pub listed-alone : (z : ℤ) (list : List ℕ) → (z, list) ≡ listed (z, []) list
@@ -144,7 +140,7 @@ unfolding listed tooShort refused
 listed-unchanged (alone k) list r h = rw (le-ltb (length list) 0 (omega arith))
 listed-unchanged (more p l e) list r h = cases (tooShort (length l) list) h
   where
-    cases : (t : Bool) → let o = pick {X = ℤ × List ℕ} t (refused 14, list) (pos p, l ++ drop (length l) list) in
+    cases : (t : Bool) → let o = pick {X = ℤ × List ℕ} t (refused 14, list) (pos p, front l list) in
         o .0 ≡ refused (suc r) → o .1 ≡ list
     cases true h = refl
     cases false h = let z : _≡_ {A = ℕ} 0 1 = cc in absurd (omega arith)
@@ -155,7 +151,7 @@ unfolding listedBeside tooShort refused
 beside-unchanged {Outputs} (alone k) new old list r same h = rw (le-ltb (length list) 0 (omega arith), same refl)
 beside-unchanged {Outputs} (more p l e) new old list r same h = cases (tooShort (length l) list) h
   where
-    cases : (t : Bool) → let o = pick {X = ℤ × (Outputs × List ℕ)} t (refused 14, (old, list)) (pos p, (new, l ++ drop (length l) list)) in
+    cases : (t : Bool) → let o = pick {X = ℤ × (Outputs × List ℕ)} t (refused 14, (old, list)) (pos p, (new, front l list)) in
         o .0 ≡ refused (suc r) → o .1 ≡ (old, list)
     cases true h = refl
     cases false h = let z : _≡_ {A = ℕ} 0 1 = cc in absurd (omega arith)

@@ -15,6 +15,7 @@ use Rattle.coxeter.specs.Length.{windowLength}
 use Rattle.coxeter.specs.Checks.{RankOf, WordOf, wrongKind, wrongRank, tooLong, wrongLetter, tooShort}
 use Rattle.coxeter.proofs.FirstFailing.{firstOf-named}
 use Rattle.coxeter.proofs.TestLaws.{zero-not-one}
+use Rattle.coxeter.proofs.FrontLaws.{front-parts}
 use Rattle.coxeter.specs.declared.Answer.the-variants as answer
 use Rattle.rules.specs.Rules.{Rule}
 use Rattle.shortest_words.specs.declared.Fallback.{Fallback}
@@ -52,7 +53,7 @@ pub listed-exactly : (z : ℤ) (l list : List ℕ)
     → (length l ≤ length list → listed (z, l) list ≡ (z, l ++ drop (length l) list))
     × (length list < length l → listed (z, l) list ≡ (refused 14, list))
 unfolding listed tooShort
-listed-exactly z l list = (λ h. rw (le-ltb (length list) (length l) h), λ h. rw (lt-ltb (length list) (length l) h))
+listed-exactly z l list = (λ h. rw (le-ltb (length list) (length l) h, front-parts l list (length l) l refl refl), λ h. rw (lt-ltb (length list) (length l) h))
 
 -- IC3, CO9, C14: the same of a call that would leave `new` in its other outputs, which were `old`: a list without room
 -- leaves them as they were
@@ -60,7 +61,7 @@ pub beside-exactly : {Outputs : Type 0} (z : ℤ) (l : List ℕ) (new old : Outp
     → (length l ≤ length list → listedBeside (z, l) new old list ≡ (z, (new, l ++ drop (length l) list)))
     × (length list < length l → listedBeside (z, l) new old list ≡ (refused 14, (old, list)))
 unfolding listedBeside tooShort
-beside-exactly z l new old list = (λ h. rw (le-ltb (length list) (length l) h), λ h. rw (lt-ltb (length list) (length l) h))
+beside-exactly z l new old list = (λ h. rw (le-ltb (length list) (length l) h, front-parts l list (length l) l refl refl), λ h. rw (lt-ltb (length list) (length l) h))
 
 -- ---- no fallback
 

@@ -13,7 +13,7 @@ use lib.IntN.{ℤ, pos, negsuc}
 use lib.ListN.{length, take, drop}
 use borrow.Author.Tests.{leb-true, le-leb}
 use Rattle.rules.specs.Rules.{Rule}
-use Rattle.rules.specs.Calls.{atFront, single}
+use Rattle.rules.specs.Calls.{single}
 use Rattle.rules.specs.Runs.{AcceptedWord, Call, Run, wordLeft, uses}
 use Rattle.rules.specs.Demand3.{Usable}
 use Rattle.rules.proofs.Calls.{told-apart, single-lawful}
@@ -21,6 +21,7 @@ use Rattle.rules.proofs.Demand3.{one-number-of}
 use Rattle.rules.proofs.Sentences.{used-written}
 use Rattle.c_api.specs.Calls.{newWordIn, forC}
 use Rattle.c_api.proofs.Demand3.{forC-lawful, demand3-calls}
+use Rattle.coxeter.specs.Calls.{front}
 
 -- C14, IC3: there is room exactly if the new word fits the one output and three numbers the other
 pub room-exactly : (out rule : List ℕ) (l : ℕ) → (forC .room (out, rule) l ≡ true) ↔ ((l ≤ length out) × (3 ≤ length rule))
@@ -40,12 +41,13 @@ new-word-exactly (negsuc r) out rule w = (λ e. absurd (Option·none-ne-some w e
 module _ (k n : ℕ) (u : List ℕ) (h : AcceptedWord k n u) where
   -- R16, IC3: the number is the new length, the new word stands at the front of the output and the rule at the front
   -- of `rule`, and the rest stays
-  pub used-numbers : (front : List (Call forC)) (c : Call forC) (rest : List (Call forC)) → Run forC k n u (front ++ (c ∷ rest))
-      → (x : Rule) → Usable forC k n (wordLeft forC u front) (c .arguments) x → let w = wordLeft forC u (front ++ (c ∷ [])) in
+  pub used-numbers : (earlier : List (Call forC)) (c : Call forC) (rest : List (Call forC)) → Run forC k n u (earlier ++ (c ∷ rest))
+      → (x : Rule) → Usable forC k n (wordLeft forC u earlier) (c .arguments) x → let w = wordLeft forC u (earlier ++ (c ∷ [])) in
       (c .result .answer ≡ pos (length w))
       × (c .result .outputs
-      ≡ (atFront w (c .arguments .outputs .0), x .family ∷ x .i ∷ x .j ∷ drop 3 (c .arguments .outputs .1)))
-  used-numbers front c rest r x b = used-written forC demand3-calls k n u h front c rest r x b
+      ≡ (front w (c .arguments .outputs .0), x .family ∷ x .i ∷ x .j ∷ drop 3 (c .arguments .outputs .1)))
+  unfolding front
+  used-numbers earlier c rest r x b = used-written forC demand3-calls k n u h earlier c rest r x b
 
   -- T11: one number bounds the uses of a rule by calls for C and by single rewrites
   pub one-number : (most : ℕ) × ((cs : List (Call forC)) → Run forC k n u cs → uses forC cs ≤ most)

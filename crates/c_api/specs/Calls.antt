@@ -2,12 +2,12 @@
 --
 -- Sections: one number; numbers that go to a list; the calls.
 use mathlib.Core.Bool.{_&&_}
-use mathlib.Core.List.{List, [], _∷_, _++_}
+use mathlib.Core.List.{List, [], _∷_}
 use mathlib.Core.Option.{Option, none, some}
 use Prim.Native.Nat.{ℕ, _+_, _*_}
 use lib.Dec.{leb}
 use lib.IntN.{ℤ, pos, negsuc, negℤ}
-use lib.ListN.{length, take, drop}
+use lib.ListN.{length, take}
 use Rattle.coxeter.specs.declared.Answer.{Answer}
 use Rattle.coxeter.specs.declared.Answer.the-variants as answer
 use Rattle.coxeter.specs.declared.Verdict.{Verdict}
@@ -18,8 +18,8 @@ use Rattle.coxeter.specs.declared.Counted.{Counted}
 use Rattle.coxeter.specs.declared.Counted.the-variants as counted
 use Rattle.coxeter.specs.Kinds.{pick}
 use Rattle.coxeter.specs.Checks.{tooShort}
-use Rattle.coxeter.specs.Calls.{Outcome}
-use Rattle.rules.specs.Calls.{atFront, Interface, rewriteAt}
+use Rattle.coxeter.specs.Calls.{front, Outcome}
+use Rattle.rules.specs.Calls.{Interface, rewriteAt}
 use Rattle.shortest_words.specs.declared.Split.{Split}
 use Rattle.shortest_words.specs.declared.Split.the-variants as split
 use Rattle.shortest_words.specs.SplitCalls.{splitting}
@@ -101,13 +101,13 @@ presetNumbers (preset.Refused r) = (refused r, [])
 
 -- IC3, C14: the number x .0, with x .1 written to the front of the list
 unfoldable pub listed : ℤ × List ℕ → List ℕ → ℤ × List ℕ
-listed x list = pick (tooShort (length (x .1)) list) (refused 14, list) (x .0, x .1 ++ drop (length (x .1)) list)
+listed x list = pick (tooShort (length (x .1)) list) (refused 14, list) (x .0, front (x .1) list)
 
 -- IC3, CO9: the same for a call that leaves `new` in other outputs, which were `old`: a list that is too short
 -- leaves them as they were
 unfoldable pub listedBeside : {Outputs : Type 0} → ℤ × List ℕ → Outputs → Outputs → List ℕ → ℤ × (Outputs × List ℕ)
 listedBeside x new old list =
-    pick (tooShort (length (x .1)) list) (refused 14, (old, list)) (x .0, (new, x .1 ++ drop (length (x .1)) list))
+    pick (tooShort (length (x .1)) list) (refused 14, (old, list)) (x .0, (new, front (x .1) list))
 
 -- ---- the calls: the number, the other outputs and the list afterwards
 
@@ -125,7 +125,7 @@ forC = record {
   noneFits = refused 100;
   refused = refused;
   used = λ x l. pos l;
-  written = λ x w o. (atFront w (o .0), atFront (x .family ∷ x .i ∷ x .j ∷ []) (o .1));
+  written = λ x w o. (front w (o .0), front (x .family ∷ x .i ∷ x .j ∷ []) (o .1));
   room = λ o l. leb l (length (o .0)) && leb 3 (length (o .1));
   newWord = newWordIn;
 }

@@ -4,25 +4,25 @@
 -- Sections: lengths; any call; the normal form and the window of a word.
 -- Assumes nothing.
 use mathlib.Core.Path.{_≡_, refl, sym, _∙_}
-use mathlib.Core.List.{List, _++_}
+use mathlib.Core.List.{List}
 use Prim.Native.Nat.{ℕ, _≤_}
 use native.Mathlib.Omega.{arith}
 use lib.IntN.{ℤ}
-use lib.ListN.{length, take, drop}
-use lib.Seq.{take-at}
+use lib.ListN.{length, take}
 use Rattle.coxeter.specs.declared.Answer.{Answer}
 use Rattle.coxeter.specs.declared.Answer.the-variants as answer
 use Rattle.coxeter.specs.Kinds.{kindOf, lanes}
 use Rattle.coxeter.specs.Windows.{window}
 use Rattle.coxeter.specs.Checks.{_then_, rankRefusal, wordRefusal, RankOf, WordOf}
 use Rattle.coxeter.specs.NormalForm.{wordNormalForm}
-use Rattle.coxeter.specs.Calls.{Yields, writes, normalFormOfWord, windowOfWord}
+use Rattle.coxeter.specs.Calls.{front, Yields, writes, normalFormOfWord, windowOfWord}
 use Rattle.coxeter.proofs.Refusals.{then-none}
 use Rattle.coxeter.proofs.Acceptance.{lanes-le}
 use Rattle.coxeter.proofs.Levels.{window-accepted}
 use Rattle.coxeter.proofs.PairWeights.{windowLength-le-4096}
 use Rattle.coxeter.proofs.Lengths.{length-normalForm}
-use Rattle.coxeter.proofs.Outcomes.{writes-done}
+use Rattle.coxeter.proofs.FrontLaws.{take-front}
+use Rattle.coxeter.proofs.Outcomes.{writes-written}
 
 -- ---- lengths
 
@@ -45,11 +45,11 @@ pub record Front {X : Type 0} (most : ℕ) (l v : List X) (m : ℕ) : Type 0 whe
 
 -- a call that writes l, where nothing refused and there was room; v is the output afterwards
 module _ {X : Type 0} (most r : ℕ) (l out v : List X) (z : r ≡ 0) (h : length l ≤ most) (f : most ≡ length out) where
-  done : Yields (writes r l out) (answer.Length (length l)) (l ++ drop (length l) out)
-  done = writes-done (writes r l out) r r l out refl refl (length l) l z refl (omega arith) refl
+  done : Yields (writes r l out) (answer.Length (length l)) (front l out)
+  done = writes-written (writes r l out) r r l out refl refl (length l) (front l out) z refl (omega arith) refl
 
   pub front-of-bytes : (m : ℕ) → m ≡ length l → v ≡ writes r l out .bytes → Front most l v m
-  front-of-bytes m s e = record { bound = omega arith; size = s; part = rw (e ∙ sym (done .1)) (take-at l (drop (length l) out) m (sym s)) }
+  front-of-bytes m s e = record { bound = omega arith; size = s; part = rw (e ∙ sym (done .1)) (take-front l out m (sym s)) }
 
   -- a is what it answered
   module _ (a : Answer) (e : Yields (writes r l out) a v) where

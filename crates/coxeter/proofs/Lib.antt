@@ -1,5 +1,6 @@
 -- The laws of words, windows, lengths, relations and normal forms, in the order in which they rest on each other.
 pub mod Lists
+pub mod FrontLaws
 pub mod Parity
 pub mod KindLaws
 pub mod Basics

@@ -23,26 +23,17 @@ getD-take (suc j) i [] d h = refl
 getD-take (suc j) zero (x ∷ l) d h = refl
 getD-take (suc j) (suc i) (x ∷ l) d h = getD-take j i l d (omega arith)
 
--- ---- lists written element by element, and at a front
+-- ---- lists written element by element
 
 pub written-next : {X : Type 0} (i : ℕ) (x d : X) (l out : List X) → i < length l → i < length out → x ≡ getD l i d → take i out ≡ take i l
     → take (i + 1) (set out i x) ≡ take (i + 1) l
 written-next i x d l out h g e q = rw (add-one, take-suc-set out i x g, take-suc l i d h, e, q)
-
-pub front-stored : {X : Type 0} (m : ℕ) (out v l : List X) → m ≤ length out → length l ≡ m → v ≡ l
-    → (length (v ++ drop m out) ≡ length out) × (take m (v ++ drop m out) ≡ l)
-front-stored m out v l h s w =
-    let c : length v ≡ m = ap length w ∙ s in
-    (length-append v (drop m out) ∙ omega (arith, length-drop m out), take-at v (drop m out) m c ∙ w)
 
 -- ---- runs of stores
 
 pub sets-append : (o : List ℕ) (r : ℕ) (u v : List ℕ) → sets (sets o r u) (r + length u) v ≡ sets o r (u ++ v)
 sets-append o r [] v = rw add-zero
 sets-append o r (x ∷ u) v = rw (add-suc, ← suc-add) (sets-append (set o r x) (suc r) u v)
-
-pub sets-front : (u o : List ℕ) (r : ℕ) → length u ≤ length o → r ≡ length u → sets o 0 u ≡ u ++ drop r o
-sets-front u o r h e = sets-eq u o 0 (omega arith) ∙ ap (λ (m : ℕ). u ++ drop m o) (zero-add (length u) ∙ sym e)
 
 -- `out` and r are the list and the place after u was stored in o from `at` on
 abbrev pub Stored : List ℕ → ℕ → List ℕ → List ℕ → ℕ → Type 0

@@ -4,18 +4,15 @@ use mathlib.Core.Path.{_≡_, refl, sym, _∙_, ap}
 use mathlib.Core.Bool.{false, Bool, true}
 use mathlib.Core.List.{List, _++_}
 use Prim.Native.Nat.{ℕ, _≤_, _<_}
-use native.Mathlib.Nat.{zero-add}
-use native.Mathlib.Omega.{arith}
-use lib.ListN.{length, take, drop}
-use lib.Seq.{sets, sets-eq, drop-append-seam}
+use lib.ListN.{length, drop}
 use borrow.Author.Tests.{eq-eqb, ne-eqb, lt-ltb, le-ltb}
 use Rattle.coxeter.specs.declared.Answer.the-variants.{Length, Refused}
-use Rattle.coxeter.proofs.Lists.{front-stored}
+use Rattle.coxeter.proofs.FrontLaws.{front-parts}
 use Rattle.coxeter.specs.Kinds.{kindOf, lanes}
 use Rattle.coxeter.specs.Windows.{window}
 use Rattle.coxeter.specs.Checks.{_then_, tooShort, rankRefusal, wordRefusal}
 use Rattle.coxeter.specs.Length.{Crossings}
-use Rattle.coxeter.specs.Calls.{Outcome, Yields, answerOf, written, writes, verdictOf}
+use Rattle.coxeter.specs.Calls.{front, Outcome, Yields, answerOf, written, writes, verdictOf}
 use Rattle.coxeter.specs.Calls.{countedOf, sameWindow, equalWords, samePresets, presetsEqual, handsBack}
 use native.Mathlib.Decide.{ℕ-discrete}
 use Rattle.coxeter.specs.declared.Answer.{Answer}
@@ -33,39 +30,17 @@ module _ {X : Type 0} (o : Outcome X) (q r : ℕ) (l out : List X) (is : o ≡ w
   unfolding writes answerOf written tooShort
   writes-short m z g h = rw (is, ← e, eq-eqb r 0 z, g, lt-ltb (length out) m h) (refl, refl)
 
-  pub writes-done : (m : ℕ) (w : List X) → r ≡ 0 → length l ≡ m → m ≤ length out → w ≡ l → Yields o (Length m) (w ++ drop m out)
-  unfolding writes answerOf written tooShort
-  writes-done m w z g h v = rw (is, ← e, eq-eqb r 0 z, g, le-ltb (length out) m h, v) (refl, refl)
-
   -- `after` is what a call that is not refused leaves
-  pub writes-written : (m : ℕ) (after : List X) → r ≡ 0 → length l ≡ m → m ≤ length out → after ≡ written 0 l out → Yields o (Length m) after
-  unfolding written
-  writes-written m after z g h v = let d = writes-done m l z g h refl in (d .0, v ∙ rw g (d .1))
+  pub writes-written : (m : ℕ) (after : List X) → r ≡ 0 → length l ≡ m → m ≤ length out → after ≡ front l out → Yields o (Length m) after
+  unfolding writes answerOf written tooShort
+  writes-written m after z g h v = rw (is, ← e, eq-eqb r 0 z, g, le-ltb (length out) m h, v) (refl, refl)
+
+  pub writes-done : (m : ℕ) (w : List X) → r ≡ 0 → length l ≡ m → m ≤ length out → w ≡ l → Yields o (Length m) (w ++ drop m out)
+  writes-done m w z g h v = writes-written m (w ++ drop m out) z g h (front-parts l out m w g v)
 
   -- no check before check 14 refused
   pub writes-passed : (a : Answer) (after : List X) → r ≡ 0 → Yields (writes 0 l out) a after → Yields o a after
   writes-passed a after z d = rw (is, ← e, z) d
-
--- ---- what a call that is not refused leaves
-
-pub written-part : {X : Type 0} (m : ℕ) (l v out : List X) → length l ≡ m → v ≡ l → v ++ drop m out ≡ written 0 l out
-unfolding written
-written-part m l v out g w = rw (w, ← g)
-
-pub written-sets : {X : Type 0} (l out : List X) → length l ≤ length out → sets out 0 l ≡ written 0 l out
-unfolding written
-written-sets l out h = sets-eq l out 0 (omega arith) ∙ ap (λ (m : ℕ). l ++ drop m out) (zero-add (length l))
-
--- the front is what was written
-pub written-front : {X : Type 0} (m : ℕ) (l out v : List X) → length l ≡ m → m ≤ length out → v ≡ written 0 l out
-    → (length v ≡ length out) × (take m v ≡ l)
-unfolding written
-written-front m l out v g h w = rw (w, g) (front-stored m out l l h g refl)
-
--- written over what was written before, with as many elements
-pub written-again : {X : Type 0} (l o out : List X) → length l ≡ length o → written 0 l (written 0 o out) ≡ written 0 l out
-unfolding written
-written-again l o out e = rw (e, drop-append-seam o (drop (length o) out))
 
 -- ---- lengths
 

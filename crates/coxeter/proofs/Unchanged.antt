@@ -8,18 +8,18 @@
 -- Assumes nothing.
 use mathlib.Core.Path.{_≡_, refl}
 use mathlib.Core.Bool.{Bool, true, false}
-use mathlib.Core.List.{List, _++_}
+use mathlib.Core.List.{List}
 use Prim.Native.Nat.{ℕ}
 use native.Mathlib.Omega.{arith}
 use lib.Dec.{eqb}
 use lib.IntN.{ℤ}
 use lib.ListN.{length, drop}
-use lib.Seq.{drop-append-seam}
 use Rattle.coxeter.specs.declared.Answer.the-variants.{Length, Refused}
 use Rattle.coxeter.specs.Kinds.{pick}
 use Rattle.coxeter.specs.Checks.{check, _then_, tooShort}
-use Rattle.coxeter.specs.Calls.{answerOf, written, writes, windowOfWord, productOfWindows}
+use Rattle.coxeter.specs.Calls.{front, answerOf, written, writes, windowOfWord, productOfWindows}
 use Rattle.coxeter.specs.Calls.{inverseOfWindow, normalFormOfWindow, normalFormOfWord, productOfWords, inverseOfWord}
+use Rattle.coxeter.proofs.FrontLaws.{drop-front}
 
 -- ---- what every call keeps
 
@@ -28,8 +28,8 @@ by-test true good bad a h f new old = absurd (f h)
 by-test false good bad a h f new old = refl
 
 by-test-past : {A X : Type 0} (t : Bool) (good bad a : A) → pick t good bad ≡ a → (l out : List X) (m : ℕ) → (good ≡ a → length l ≡ m)
-    → drop m (pick t (l ++ drop (length l) out) out) ≡ drop m out
-by-test-past true good bad a h l out m f = rw (← f h) (drop-append-seam l (drop (length l) out))
+    → drop m (pick t (front l out) out) ≡ drop m out
+by-test-past true good bad a h l out m f = drop-front l out m (f h)
 by-test-past false good bad a h l out m f = refl
 
 -- a call with the refusal s, 0 for none, and answers of any sort, of which `good` is the one with no refusal
@@ -37,7 +37,7 @@ module _ {A : Type 0} (s : ℕ) (good : A) (refuse : ℕ → A) where
   -- any other answer leaves an output as it was lent
   pub kept-whole : {a : A} → pick (eqb s 0) good (refuse s) ≡ a → (good ≡ a → ⊥) → {X : Type 0} (l out : List X) → written s l out ≡ out
   unfolding written
-  kept-whole {a} h f l out = by-test (eqb s 0) good (refuse s) a h f (l ++ drop (length l) out) out
+  kept-whole {a} h f l out = by-test (eqb s 0) good (refuse s) a h f (front l out) out
 
   -- and so does every answer from the place m on, if the good one says that m entries are written
   pub kept-past : {a : A} → pick (eqb s 0) good (refuse s) ≡ a → {X : Type 0} (l out : List X) (m : ℕ) → (good ≡ a → length l ≡ m)

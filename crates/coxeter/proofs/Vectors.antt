@@ -26,7 +26,7 @@ use Rattle.coxeter.specs.Dictionary.{before, shortlex}
 use Rattle.coxeter.specs.Checks.{wrongKind, wrongRank, tooLong, wrongLetter, wrongLanes, hasSize, negativeInA, wrongAt}
 use Rattle.coxeter.specs.Checks.{wrongEntry, odd, oddNegatives, tooShort, rankRefusal, wordRefusal, windowRefusal}
 use Rattle.coxeter.specs.NormalForm.{down, rise, fall, block, without, indexOf, restOf, normalFrom, normalForm, wordNormalForm}
-use Rattle.coxeter.specs.Calls.{answerOf, verdictOf, countedOf, written, Outcome, writes}
+use Rattle.coxeter.specs.Calls.{answerOf, verdictOf, countedOf, front, written, Outcome, writes}
 use Rattle.coxeter.specs.Calls.{windowOfWord, productOfWindows, inverseOfWindow, normalFormOfWindow, normalFormOfWord, productOfWords}
 use Rattle.coxeter.specs.Calls.{inverseOfWord, lengthOfWindow, lengthOfWord, crossingsOfWindow, crossingsOfWord, sameEntry}
 use Rattle.coxeter.specs.Calls.{sameWindow, equalWords, samePresets, presetsEqual, handsBack, choice}
@@ -80,7 +80,7 @@ unfolding writingWindows
     kindOf up from swap negateFirst swapNegate act windowFrom identity window at product signed placeFrom inverse negative one negatives
     wrongKind wrongRank tooLong wrongLetter wrongLanes hasSize negativeInA wrongAt wrongEntry odd oddNegatives tooShort
     rankRefusal wordRefusal windowRefusal
-    answerOf written writes windowOfWord productOfWindows inverseOfWindow
+    answerOf front written writes windowOfWord productOfWindows inverseOfWindow
 writing-windows = refl
 
 -- ---- the calls that write a word
@@ -116,7 +116,7 @@ unfolding writingWords
     wrongKind wrongRank tooLong wrongLetter wrongLanes hasSize negativeInA wrongAt wrongEntry odd oddNegatives tooShort
     rankRefusal wordRefusal windowRefusal
     down rise fall block without indexOf restOf normalFrom normalForm
-    answerOf written writes normalFormOfWindow normalFormOfWord productOfWords inverseOfWord
+    answerOf front written writes normalFormOfWindow normalFormOfWord productOfWords inverseOfWord
 writing-words = refl
 
 -- ---- lengths

@@ -6,17 +6,17 @@
 -- Assumes nothing.
 use mathlib.Core.Path.{_≡_, refl, sym, ap, _∙_}
 use mathlib.Core.Logic.{_↔_}
-use mathlib.Core.List.{List, _++_}
+use mathlib.Core.List.{List}
 use Prim.Native.Nat.{ℕ, _≤_, _<_}
 use native.Mathlib.Nat.{lt-of-not-le}
 use native.Mathlib.Decide.{ℕ-discrete, decLe}
 use native.Mathlib.Omega.{arith}
 use lib.ListN.{length, take, drop}
-use lib.Seq.{take-at, drop-at}
 use Rattle.coxeter.specs.declared.Answer.{Answer}
 use Rattle.coxeter.specs.declared.Answer.the-variants.{Length, Refused}
-use Rattle.coxeter.specs.Calls.{Yields, writes}
-use Rattle.coxeter.proofs.Outcomes.{writes-refused, writes-short, writes-done}
+use Rattle.coxeter.specs.Calls.{front, Yields, writes}
+use Rattle.coxeter.proofs.FrontLaws.{take-front, drop-front}
+use Rattle.coxeter.proofs.Outcomes.{writes-refused, writes-short, writes-written}
 
 -- ---- how a call ends
 
@@ -25,12 +25,12 @@ use Rattle.coxeter.proofs.Outcomes.{writes-refused, writes-short, write
 pub data Ended {X : Type 0} (q : ℕ) (w before : List X) : Type 0 where
   refused : (q ≡ 0 → ⊥) → Yields (writes q w before) (Refused q) before → Ended q w before
   short : q ≡ 0 → length before < length w → Yields (writes q w before) (Refused 14) before → Ended q w before
-  made : q ≡ 0 → length w ≤ length before → Yields (writes q w before) (Length (length w)) (w ++ drop (length w) before) → Ended q w before
+  made : q ≡ 0 → length w ≤ length before → Yields (writes q w before) (Length (length w)) (front w before) → Ended q w before
 
 pub ended : {X : Type 0} (q : ℕ) (w before : List X) → Ended q w before
 ended q w before = elim (ℕ-discrete q 0) [
   | yes z ↦ elim (decLe (length w) (length before)) [
-    | yes g ↦ made z g (writes-done (writes q w before) q q w before refl refl (length w) w z refl g refl)
+    | yes g ↦ made z g (writes-written (writes q w before) q q w before refl refl (length w) (front w before) z refl g refl)
     | no g ↦ short z (lt-of-not-le g) (writes-short (writes q w before) q q w before refl refl (length w) z refl (lt-of-not-le g))
   ]
   | no f ↦ refused f (writes-refused (writes q w before) q q w before refl refl f)
@@ -58,13 +58,13 @@ module _ {X : Type 0} (q : ℕ) (w before after : List X) where
     | made z g e ↦
         let c : Length l ≡ Length (length w) = h .0 ∙ sym (e .0) in
         let s : l ≡ length w = cc in
-        let t : after ≡ w ++ drop l before = rw s (h .1 ∙ sym (e .1)) in
+        let t : after ≡ front w before = h .1 ∙ sym (e .1) in
         record {
           unrefused = z;
           size = s;
           room = omega arith;
-          front = rw t (take-at w (drop l before) l (sym s));
-          behind = rw t (drop-at w (drop l before) l (sym s));
+          front = rw t (take-front w before l (sym s));
+          behind = rw t (drop-front w before l (sym s));
         }
   ]
 
@@ -78,7 +78,7 @@ module _ {X : Type 0} (q : ℕ) (w before after : List X) where
     answers-short z h = let r = writes-short (writes q w before) q q w before refl refl (length w) z refl h in (e .0 ∙ sym (r .0), e .1 ∙ sym (r .1))
 
     pub answers-length : q ≡ 0 → length w ≤ length before → a ≡ Length (length w)
-    answers-length z h = let r = writes-done (writes q w before) q q w before refl refl (length w) w z refl h refl in e .0 ∙ sym (r .0)
+    answers-length z h = let r = writes-written (writes q w before) q q w before refl refl (length w) (front w before) z refl h refl in e .0 ∙ sym (r .0)
 
     -- a length exactly where no check refuses and the output has room
     pub answers-exactly : (l : ℕ) → (a ≡ Length l) ↔ ((q ≡ 0) × (l ≡ length w) × (l ≤ length before))

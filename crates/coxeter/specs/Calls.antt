@@ -34,9 +34,13 @@ verdictOf r t = pick (eqb r 0) (pick t verdict.Yes verdict.No) (verdict.Refused 
 unfoldable pub countedOf : ℕ → Crossings → Counted
 countedOf r c = pick (eqb r 0) (counted.Crossings (c .inversions) (c .negativeSumPairs) (c .negatives)) (counted.Refused r)
 
--- CO6, CO7, I2: `out` after a call that writes `l` unless r refuses it; what lies behind `l` stays
+-- CO7, I2: `out` with `l` written to its front; what lies behind `l` stays
+unfoldable pub front : {X : Type 0} → List X → List X → List X
+front l out = l ++ drop (length l) out
+
+-- CO6, CO7, I2: `out` after a call that writes `l` to its front unless r refuses it
 unfoldable pub written : {X : Type 0} → ℕ → List X → List X → List X
-written r l out = pick (eqb r 0) (l ++ drop (length l) out) out
+written r l out = pick (eqb r 0) (front l out) out
 
 -- G1: the answer of a call that writes, and the bytes of its output afterwards
 pub record Outcome (X : Type 0) : Type 0 where

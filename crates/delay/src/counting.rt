@@ -10,7 +10,7 @@ ghost use Prim.Native.Nat.{_+_, _^_, _≤_, _<_};
 ghost use lib.ListN.{length};
 ghost use Rattle.coxeter.specs.Kinds.{kindOf};
 ghost use Rattle.coxeter.specs.Length.{greatestLength};
-ghost use Rattle.coxeter.specs.Calls.{written};
+ghost use Rattle.coxeter.specs.Calls.{front};
 ghost use Rattle.distribution.specs.Distribution.{distribution};
 ghost use Rattle.distribution.specs.Calls.{tableRefusal};
 ghost use Rattle.distribution.proofs.Sums.{below};
@@ -123,7 +123,7 @@ fn count(kind: u8, rank: u8, counts: &mut [u64])
 pub(crate) fn write_counts(kind: u8, rank: u8, counts: &mut [u64])
     requires { ⌜ tableRefusal kind rank ≡ 0 ⌝ }
     requires { ⌜ greatestLength (kindOf kind) rank + 1 ≤ length (now counts) ⌝ }
-    ensures { λ _. ⌜ now (counts .exit) ≡ written 0 (distribution (kindOf kind) rank) (now (counts .entry)) ⌝ }
+    ensures { λ _. ⌜ now (counts .exit) ≡ front (distribution (kindOf kind) rank) (now (counts .entry)) ⌝ }
 {
     let m = greatest_length(kind, rank) + 1;
     count(kind, rank, &mut counts[..m]);

@@ -10,7 +10,7 @@ ghost use Rattle.coxeter.specs.Kinds.{kindOf};
 ghost use Rattle.coxeter.specs.Length.{greatestLength};
 ghost use Rattle.coxeter.specs.Checks.{RankOf};
 ghost use Rattle.coxeter.specs.NormalForm.{normalForm};
-ghost use Rattle.coxeter.specs.Calls.{written};
+ghost use Rattle.coxeter.specs.Calls.{front};
 ghost use Rattle.coxeter.proofs.Acceptance.{Ranked};
 ghost use Rattle.distribution.specs.Longest.{longest};
 
@@ -52,7 +52,7 @@ fn set_longest(kind: u8, n: usize, w: &mut [i8])
 pub(crate) fn write_longest(kind: u8, rank: u8, entries: &mut [i8])
     requires { ⌜ RankOf kind rank ⌝ }
     requires { ⌜ kinds.lanes (kindOf kind) rank ≤ length (now entries) ⌝ }
-    ensures { λ _. ⌜ now (entries .exit) ≡ written 0 (longest (kindOf kind) rank) (now (entries .entry)) ⌝ }
+    ensures { λ _. ⌜ now (entries .exit) ≡ front (longest (kindOf kind) rank) (now (entries .entry)) ⌝ }
 {
     let n = rank as usize;
     let m = lanes(kind, rank);
@@ -65,7 +65,7 @@ pub(crate) fn write_form(kind: u8, rank: u8, entries: &[i8], letters: &mut [u8])
     requires { ⌜ kinds.lanes (kindOf kind) rank ≤ length (now entries) ⌝ }
     requires { ⌜ take (kinds.lanes (kindOf kind) rank) (now entries) ≡ longest (kindOf kind) rank ⌝ }
     requires { ⌜ greatestLength (kindOf kind) rank ≤ length (now letters) ⌝ }
-    ensures { λ _. ⌜ now (letters .exit) ≡ written 0 (normalForm (kindOf kind) rank (longest (kindOf kind) rank)) (now (letters .entry)) ⌝ }
+    ensures { λ _. ⌜ now (letters .exit) ≡ front (normalForm (kindOf kind) rank (longest (kindOf kind) rank)) (now (letters .entry)) ⌝ }
 {
     let m = lanes(kind, rank);
     normal_form_of_window(kind, rank, &entries[..m], letters);

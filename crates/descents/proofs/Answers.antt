@@ -10,25 +10,25 @@ use native.Mathlib.Omega.{arith}
 use lib.ListN.{length}
 use Rattle.coxeter.specs.declared.Answer.{Answer}
 use Rattle.coxeter.specs.declared.Answer.the-variants as answer
-use Rattle.coxeter.specs.Calls.{Yields, written, writes}
+use Rattle.coxeter.specs.Calls.{Yields, front, writes}
 use Rattle.coxeter.proofs.Outcomes.{writes-short, writes-written}
 
 pub length-is-no-refusal : (m s : ℕ) → answer.Length m ≡ answer.Refused s → ⊥
 length-is-no-refusal m s e = let y : _≡_ {A = ℕ} 0 1 = cc in omega arith
 
 module _ {X : Type 0} (r : ℕ) (l out v : List X) (a : Answer) (z : r ≡ 0) (e : Yields (writes r l out) a v) where
-  fits : length l ≤ length out → (a ≡ answer.Length (length l)) × (v ≡ written 0 l out)
+  fits : length l ≤ length out → (a ≡ answer.Length (length l)) × (v ≡ front l out)
   fits h =
-      let d = writes-written (writes r l out) r r l out refl refl (length l) (written 0 l out) z refl h refl in
+      let d = writes-written (writes r l out) r r l out refl refl (length l) (front l out) z refl h refl in
       (e .0 ∙ sym (d .0), e .1 ∙ sym (d .1))
 
   short : length out < length l → (a ≡ answer.Refused 14) × (v ≡ out)
   short h = let d = writes-short (writes r l out) r r l out refl refl (length l) z refl h in (e .0 ∙ sym (d .0), e .1 ∙ sym (d .1))
 
-  pub told-length : (m : ℕ) → a ≡ answer.Length m → (m ≡ length l) × (m ≤ length out) × (v ≡ written 0 l out)
+  pub told-length : (m : ℕ) → a ≡ answer.Length m → (m ≡ length l) × (m ≤ length out) × (v ≡ front l out)
   told-length m q = elim (decLe (length l) (length out)) [ yes h ↦ room h | no h ↦ absurd (none (lt-of-not-le h)) ]
     where
-      room : length l ≤ length out → (m ≡ length l) × (m ≤ length out) × (v ≡ written 0 l out)
+      room : length l ≤ length out → (m ≡ length l) × (m ≤ length out) × (v ≡ front l out)
       room h =
           let p : answer.Length m ≡ answer.Length (length l) = sym q ∙ fits h .0 in
           let s : m ≡ length l = cc in

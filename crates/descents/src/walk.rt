@@ -9,7 +9,7 @@ ghost use lib.ListN.{length};
 ghost use Rattle.coxeter.specs.Kinds.{kindOf};
 ghost use Rattle.coxeter.specs.Windows.{identity};
 ghost use Rattle.coxeter.specs.Checks.{RankOf, WordOf, WindowOf};
-ghost use Rattle.coxeter.specs.Calls.{written, sameWindow};
+ghost use Rattle.coxeter.specs.Calls.{front, sameWindow};
 ghost use Rattle.coxeter.proofs.Acceptance.{Ranked};
 ghost use Rattle.shortest_words.proofs.Walk.{leftOver, placesKept, marked};
 ghost use Rattle.shortest_words.proofs.Verdicts.{Decided};
@@ -54,7 +54,7 @@ fn is_identity(w: &[i8]) -> bool
 fn write_places(word: &[u8], places: &mut [u16])
     requires { ⌜ length (now word) ≤ 4096 ⌝ }
     requires { ⌜ length (marked 0 (now word)) ≤ length (now places) ⌝ }
-    ensures { λ _. ⌜ now (places .exit) ≡ written 0 (marked 0 (now (word .entry))) (now (places .entry)) ⌝ }
+    ensures { λ _. ⌜ now (places .exit) ≡ front (marked 0 (now (word .entry))) (now (places .entry)) ⌝ }
 {
     let mut at = 0;
     let mut i = 0;

@@ -12,7 +12,7 @@ use Rattle.coxeter.specs.Kinds.{kindOf, lanes, least}
 use Rattle.coxeter.specs.Length.{greatestLength}
 use Rattle.coxeter.specs.Checks.{check, _then_, tooShort, rankRefusal, RankOf}
 use Rattle.coxeter.specs.NormalForm.{normalForm}
-use Rattle.coxeter.specs.Calls.{written}
+use Rattle.coxeter.specs.Calls.{front, written}
 use Rattle.coxeter.proofs.KindLaws.{one-le}
 use Rattle.coxeter.proofs.Refusals.{then-zero, check-zero}
 use Rattle.coxeter.proofs.Acceptance.{rank-within, rank-accepted}
@@ -96,8 +96,8 @@ module _ (k n : ℕ) (counts : List ℕ) (entries : List ℤ) (letters : List �
       letters-short s h = rw (room s, lt-ltb (length letters) l h) (refl, refl, refl, refl)
 
       pub table-written : (x : List ℕ) (y : List ℤ) (v : List ℕ) → m ≤ length entries → l ≤ length letters
-          → x ≡ written 0 (distribution (kindOf k) n) counts → y ≡ written 0 (longest (kindOf k) n) entries
-          → v ≡ written 0 (normalForm (kindOf k) n (longest (kindOf k) n)) letters
+          → x ≡ front (distribution (kindOf k) n) counts → y ≡ front (longest (kindOf k) n) entries
+          → v ≡ front (normalForm (kindOf k) n (longest (kindOf k) n)) letters
           → TableYields (delayTable k n counts entries letters) (Written (l + 1) m l) x y v
-      unfolding delayTable tables tableOf
+      unfolding delayTable tables tableOf written
       table-written x y v s h i j o = rw (room s, le-ltb (length letters) l h, counts-length, entries-length, form-length) (refl, i, j, o)

@@ -6,26 +6,26 @@
 use mathlib.Core.Path.{_≡_, refl, sym, ap, _∙_}
 use mathlib.Core.Bool.{Bool, true, false, true≢false}
 use mathlib.Core.Logic.{_⊎_, inl, inr, ⊎-elim, _↔_}
-use mathlib.Core.List.{List, _++_}
+use mathlib.Core.List.{List}
 use Prim.Native.Nat.{ℕ, suc, _+_, _≤_, _<_}
 use native.Mathlib.Omega.{arith}
 use borrow.Author.Tests.{ne-eqb, eqb-true, ltb-true, ltb-false, lt-ltb, le-ltb}
 use lib.Dec.{eqb}
 use lib.IntN.{ℤ}
 use lib.ListN.{length, getD, take, drop}
-use lib.Seq.{take-at}
 use Rattle.coxeter.specs.Kinds.{Kind, A, B, D, pick, kindOf, lanes, least}
 use Rattle.coxeter.specs.Dictionary.{shortlex}
 use Rattle.coxeter.specs.Length.{windowLength, greatestLength}
 use Rattle.coxeter.specs.Checks.{check, _then_, tooShort, rankRefusal, RankOf, WindowOf}
 use Rattle.coxeter.specs.NormalForm.{normalForm, IsNormalForm}
-use Rattle.coxeter.specs.Calls.{written}
+use Rattle.coxeter.specs.Calls.{front, written}
 use Rattle.coxeter.proofs.Lists.{getD-take}
 use Rattle.coxeter.proofs.Refusals.{then-zero, then-none, then-some, then-assoc, check-zero, rankRefusal-le, then-exactly, then-avoids}
 use Rattle.coxeter.proofs.Refusals.{check-avoids, check-number, check-exactly}
 use Rattle.coxeter.proofs.Levels.{accepted-of-refusal}
 use Rattle.coxeter.proofs.Order.{shortlex-cases, shortlex-total, shortlex-irrefl}
 use Rattle.coxeter.proofs.Theorems.{length-normalForm}
+use Rattle.coxeter.proofs.FrontLaws.{take-front}
 use Rattle.rules.proofs.Theorems.{normalForm-least}
 use Rattle.distribution.specs.declared.Table.{Table}
 use Rattle.distribution.specs.declared.Table.the-variants.{Written, Refused}
@@ -46,14 +46,14 @@ use Rattle.distribution.proofs.Unchanged.{delayTable-unchanged, delayTa
 module _ (d : List ℕ) (w : List ℤ) (u counts : List ℕ) (entries : List ℤ) (letters : List ℕ) where
   pick-told : (t : Bool) (s a b c : ℕ) → pick t (Written (length d) (length w) (length u)) (Refused s) ≡ Written a b c
       → (t ≡ true) × (length d ≡ a) × (length w ≡ b) × (length u ≡ c)
-      × (take a (pick t (d ++ drop (length d) counts) counts) ≡ d)
-      × (take b (pick t (w ++ drop (length w) entries) entries) ≡ w)
-      × (take c (pick t (u ++ drop (length u) letters) letters) ≡ u)
+      × (take a (pick t (front d counts) counts) ≡ d)
+      × (take b (pick t (front w entries) entries) ≡ w)
+      × (take c (pick t (front u letters) letters) ≡ u)
   pick-told true s a b c h =
       let e : length d ≡ a = cc in
       let f : length w ≡ b = cc in
       let g : length u ≡ c = cc in
-      (refl, e, f, g, take-at d (drop (length d) counts) a e, take-at w (drop (length w) entries) b f, take-at u (drop (length u) letters) c g)
+      (refl, e, f, g, take-front d counts a e, take-front w entries b f, take-front u letters c g)
   pick-told false s a b c h = let z : _≡_ {A = ℕ} 0 1 = cc in absurd (omega arith)
 
 module _ (k n : ℕ) (counts : List ℕ) (entries : List ℤ) (letters : List ℕ) (c e l : ℕ) (x : List ℕ) (y : List ℤ) (z : List ℕ)

@@ -15,7 +15,7 @@ use Rattle.coxeter.specs.Length.{later, negative, one, laterThan, inversions, n
 use Rattle.coxeter.specs.Checks.{wrongKind, wrongRank, wrongLanes, hasSize, negativeInA, wrongAt}
 use Rattle.coxeter.specs.Checks.{wrongEntry, odd, oddNegatives, tooShort, rankRefusal, windowRefusal}
 use Rattle.coxeter.specs.NormalForm.{down, rise, fall, block, without, indexOf, restOf, normalFrom, normalForm}
-use Rattle.coxeter.specs.Calls.{written}
+use Rattle.coxeter.specs.Calls.{front, written}
 use Rattle.coxeter.proofs.Vectors.{Agree, lent}
 use Rattle.distribution.specs.declared.Table.the-variants.{Written, Refused}
 use Rattle.distribution.specs.AllWindows.{keep, consAll, lists, possibleEntries, windows}
@@ -117,7 +117,7 @@ pub calling-tables : Agree calling
 unfolding calling
     kindOf up from negateFirst signed placeFrom later negative one laterThan inversions negativeSumPairs negatives crossings total windowLength
     wrongKind wrongRank wrongLanes hasSize negativeInA wrongAt wrongEntry odd oddNegatives tooShort rankRefusal windowRefusal
-    down rise fall block without indexOf restOf normalFrom normalForm written
+    down rise fall block without indexOf restOf normalFrom normalForm front written
     keep consAll lists possibleEntries windows ofLength distribution allNegative longest
     untabled tableRefusal tableOf roomRefusal tables delayTable
 calling-tables = refl

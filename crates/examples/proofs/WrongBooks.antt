@@ -11,7 +11,7 @@ use Rattle.coxeter.specs.Kinds.{Kind, pick, kindOf, lanes}
 use Rattle.coxeter.specs.Windows.{window}
 use Rattle.coxeter.specs.Checks.{check, _then_, tooShort, wordRefusal}
 use Rattle.coxeter.specs.NormalForm.{wordNormalForm}
-use Rattle.coxeter.specs.Calls.{Outcome, writes}
+use Rattle.coxeter.specs.Calls.{Outcome, writes, front}
 use Rattle.book_format.specs.declared.Edition.{Edition}
 use Rattle.book_format.specs.declared.Edition.the-variants.{First, Second}
 use Rattle.book_format.specs.declared.Opened.{Opened}
@@ -204,7 +204,7 @@ minusLeftOut i k n u =
 abbrev pub noPresetLine : Edition → List ℕ → ℕ → List ℕ → Piecing
 noPresetLine ed b i out =
     let text = pick (eqb i 0) (line ed b 0) [] in
-    record { answer = record { next = 1; end = length text; left = 0 }; bytes = text ++ drop (length text) out }
+    record { answer = record { next = 1; end = length text; left = 0 }; bytes = front text out }
 
 -- the last line is never written
 abbrev pub lastLineLeftOut : Edition → List ℕ → ℕ → List ℕ → Piecing
@@ -212,13 +212,13 @@ lastLineLeftOut ed b i out =
     let left = lineCount ed b - i in
     let t = fitting ed b (left - 1) i (length out) in
     let text = lines ed b t i in
-    record { answer = record { next = i + t; end = length text; left = left - t }; bytes = text ++ drop (length text) out }
+    record { answer = record { next = i + t; end = length text; left = left - t }; bytes = front text out }
 
 -- the buffer is filled to its last byte
 abbrev pub lineCutOff : Edition → List ℕ → ℕ → List ℕ → Piecing
 lineCutOff ed b i out =
     let text = take (length out) (lines ed b (lineCount ed b - i) i) in
-    record { answer = record { next = lineCount ed b; end = length text; left = 0 }; bytes = text ++ drop (length text) out }
+    record { answer = record { next = lineCount ed b; end = length text; left = 0 }; bytes = front text out }
 
 -- a line that just fits is left out: the last byte of the buffer is never used
 abbrev pub lastByteUnused : Edition → List ℕ → ℕ → List ℕ → Piecing

@@ -15,6 +15,7 @@ use lib.Dec.{eqb, leb, ltb}
 use lib.ListN.{length, drop, replicate}
 use Rattle.coxeter.specs.Kinds.{pick, kindOf, up}
 use Rattle.coxeter.specs.Checks.{firstOf, wrongKind, wrongRank, tooLong, wrongLetter, rankRefusal, wordRefusal}
+use Rattle.coxeter.specs.Calls.{front}
 use Rattle.rules.specs.declared.Rewrite.{Rewrite}
 use Rattle.rules.specs.declared.Rewrite.the-variants.{Used, NoneFits, Refused}
 use Rattle.rules.specs.Calls.{Interface, pastEnd, rewriteAt, newWordIn, single}
@@ -161,7 +162,7 @@ abbrev pub leftOfTheWhole : Edition → List ℕ → ℕ → List ℕ → Piecin
 leftOfTheWhole ed b i out =
     let t = fitting ed b (lineCount ed b - i) i (length out) in
     let text = lines ed b t i in
-    record { answer = record { next = i + t; end = length text; left = lineCount ed b - t }; bytes = text ++ drop (length text) out }
+    record { answer = record { next = i + t; end = length text; left = lineCount ed b - t }; bytes = front text out }
 
 -- I32: the law `piece-exactly`
 abbrev pub PieceExactly : (Edition → List ℕ → ℕ → List ℕ → Piecing) → Type 0

@@ -8,6 +8,7 @@ use lib.ListN.{length, drop}
 use Rattle.coxeter.specs.Kinds.{Kind, B, pick, kindOf}
 use Rattle.coxeter.specs.Checks.{check, _then_, tooShort, rankRefusal, wordRefusal}
 use Rattle.coxeter.specs.NormalForm.{rise}
+use Rattle.coxeter.specs.Calls.{front}
 use Rattle.rules.specs.declared.Rewrite.the-variants.{Refused}
 use Rattle.rules.specs.Rules.{Rule, rule, concatMap, family2, carried, rules, firstFitting, rewritten}
 use Rattle.rules.specs.Calls.{pastEnd, Transition, changed, unchanged, rewriteBy, rewriteAt, single}
@@ -61,4 +62,4 @@ roomCheckedBeforeTheRule k n u p out = pick (tooShort (length u) out) (unchanged
 
 -- the output gets the word before a rule is looked for
 abbrev pub wordCopiedFirst : ℕ → ℕ → List ℕ → ℕ → List ℕ → Transition single
-wordCopiedFirst k n u p out = rewriteAt single k n u p (u ++ drop (length u) out)
+wordCopiedFirst k n u p out = rewriteAt single k n u p (front u out)

@@ -45,7 +45,7 @@ use Rattle.coxeter.specs.Dictionary.{before, shortlex}
 use Rattle.coxeter.specs.Checks.{check, _then_, wrongKind, wrongRank, tooLong, wrongLetter, wrongLanes, hasSize, negativeInA, wrongAt}
 use Rattle.coxeter.specs.Checks.{wrongEntry, odd, oddNegatives, tooShort, rankRefusal, wordRefusal, windowRefusal, WordOf}
 use Rattle.coxeter.specs.NormalForm.{down, rise, fall, block, without, indexOf, restOf, normalFrom, normalForm}
-use Rattle.coxeter.specs.Calls.{answerOf, verdictOf, written, writes, windowOfWord, productOfWindows, inverseOfWindow, normalFormOfWindow}
+use Rattle.coxeter.specs.Calls.{answerOf, verdictOf, front, written, writes, windowOfWord, productOfWindows, inverseOfWindow, normalFormOfWindow}
 use Rattle.coxeter.specs.Calls.{normalFormOfWord, productOfWords, inverseOfWord, lengthOfWindow, lengthOfWord, sameEntry, sameWindow}
 use Rattle.coxeter.specs.Calls.{equalWords, samePresets, presetsEqual, handsBack, choice, Outcome, Better}
 use Rattle.coxeter.proofs.Order.{sameWindow-of-eq}
@@ -175,7 +175,7 @@ unfolding table allDiffer differs numbers ofAnswer ofVerdict ofChoice ofRewrite 
     wrongKind wrongRank tooLong wrongLetter wrongLanes hasSize negativeInA wrongAt wrongEntry odd oddNegatives tooShort
     rankRefusal wordRefusal windowRefusal
     down rise fall block without indexOf restOf normalFrom normalForm
-    answerOf verdictOf written writes windowOfWord productOfWindows inverseOfWindow normalFormOfWindow normalFormOfWord productOfWords inverseOfWord
+    answerOf verdictOf front written writes windowOfWord productOfWindows inverseOfWindow normalFormOfWindow normalFormOfWord productOfWords inverseOfWord
     lengthOfWindow lengthOfWord sameEntry sameWindow equalWords samePresets presetsEqual handsBack choice
     concatMap family1 family2 family3 family4 families5to7 rules begins fits firstFitting rewritten pastEnd rewriteBy rewriteAt
     lowestFrom lowestRedex traceWithin trace tooFewPlaces toEndOf tracedBy rewritingToEnd numberOfSteps behindLast ones

@@ -17,7 +17,7 @@ use Rattle.coxeter.specs.Dictionary.{shortlex}
 use Rattle.coxeter.specs.Checks.{check, _then_, wrongKind, tooLong, wrongLetter, wrongLanes, wrongEntry, odd, oddNegatives, rankRefusal}
 use Rattle.coxeter.specs.Checks.{wordRefusal, windowRefusal}
 use Rattle.coxeter.specs.NormalForm.{rise, fall, block, levels, without, indexOf, restOf, normalFrom, normalForm, wordNormalForm}
-use Rattle.coxeter.specs.Calls.{Outcome, answerOf, verdictOf, written, writes, windowOfWord, equalWords, samePresets, presetsEqual, handsBack, choice}
+use Rattle.coxeter.specs.Calls.{front, Outcome, answerOf, verdictOf, written, writes, windowOfWord, equalWords, samePresets, presetsEqual, handsBack, choice}
 
 -- the checks of a word and of a window, of two presets, and of two words and two windows of one kind and rank, as
 -- they should be
@@ -136,7 +136,7 @@ stepOfBInD k n u out = writes (wordChecks k n u) (window (pick (eqb k 3) B (kind
 
 -- the window is written before the checks are made
 abbrev pub refusedCallWrites : ℕ → ℕ → List ℕ → List ℤ → Outcome ℤ
-refusedCallWrites k n u out = record { answer = windowOfWord k n u out .answer; bytes = written 0 (window (kindOf k) n u) out }
+refusedCallWrites k n u out = record { answer = windowOfWord k n u out .answer; bytes = front (window (kindOf k) n u) out }
 
 -- the output is cleared first
 abbrev pub clearsTheOutput : ℕ → ℕ → List ℕ → List ℤ → Outcome ℤ

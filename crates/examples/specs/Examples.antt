@@ -1,15 +1,16 @@
 -- The examples that are proved (J1 to J9 of the specification): what each sort of entry says, and the one table
 -- (G4). Its proof is `proved` of proofs/Examples.antt.
 use mathlib.Core.Path.{_≡_}
-use mathlib.Core.List.{List, [], _∷_, _++_}
+use mathlib.Core.List.{List, [], _∷_}
 use Prim.Native.Nat.{ℕ, _≤_}
 use lib.IntN.{ℤ, pos, negℤ}
-use lib.ListN.{length, drop}
+use lib.ListN.{length}
 use Rattle.coxeter.specs.Kinds.{Kind, A, B, D, least, greatest}
 use Rattle.coxeter.specs.Windows.{window, inverse}
 use Rattle.coxeter.specs.Length.{windowLength}
 use Rattle.coxeter.specs.Checks.{windowRefusal}
 use Rattle.coxeter.specs.NormalForm.{normalForm, wordNormalForm}
+use Rattle.coxeter.specs.Calls.{front}
 use Rattle.rules.specs.declared.Rewrite.{Rewrite}
 use Rattle.rules.specs.declared.Rewrite.the-variants.{Used, NoneFits, Refused}
 use Rattle.rules.specs.Rules.{rules}
@@ -30,7 +31,7 @@ neg e = negℤ (pos e)
 abbrev pub Gives : Kind → ℕ → List ℕ → ℕ → List ℕ → ℕ → ℕ → ℕ → Type 0
 Gives k n u p v f i j =
     (out : List ℕ) → length v ≤ length out
-    → _≡_ {A = Transition single} (rewriteAt single (number k) n u p out) (record { answer = Used f i j (length v); outputs = v ++ drop (length v) out; word = v })
+    → _≡_ {A = Transition single} (rewriteAt single (number k) n u p out) (record { answer = Used f i j (length v); outputs = front v out; word = v })
 
 -- R17, CO6: one rewrite of u at place p, with any output, returns a; nothing is written and the word stays
 abbrev pub Stays : Kind → ℕ → List ℕ → ℕ → Rewrite → Type 0

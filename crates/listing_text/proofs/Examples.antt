@@ -11,6 +11,7 @@ use Rattle.coxeter.specs.Kinds.{kindOf, up}
 use Rattle.coxeter.specs.Windows.{from, swap, negateFirst, swapNegate, act, windowFrom, identity, window, placeFrom, signed}
 use Rattle.coxeter.specs.Checks.{wrongKind, tooLong, wrongLetter, wordRefusal}
 use Rattle.coxeter.specs.NormalForm.{down, rise, fall, block, without, indexOf, restOf, normalFrom, normalForm}
+use Rattle.coxeter.specs.Calls.{front}
 use Rattle.coxeter.proofs.Vectors.{Agree, lent}
 use Rattle.book_format.specs.declared.Edition.{Edition}
 use Rattle.book_format.specs.declared.Edition.the-variants.{First, Second}
@@ -105,5 +106,5 @@ unfolding piecing codes
     wrongRankInBook wrongLaneCount bookRankRefusal bookRefusal recordRefusal presetRefusal
     openedOf presetOf checkedBook presetAt checkedPreset
     digits decimal spaced letters entry entries kindLetter head tail presetLine refused refusedLine refusedBookLine countLine
-    wordLine lineBy lineOf lineCountBy lineCount firstLine line lines fitting nextPiece
+    wordLine lineBy lineOf lineCountBy lineCount firstLine line lines fitting front nextPiece
 piecing-agrees = refl

@@ -9,8 +9,7 @@ use Prim.Native.Nat.{ℕ, zero, suc, _+_, _-_, _≤_, _<_}
 use native.Mathlib.Decide.{decLe}
 use native.Mathlib.Nat.{add-zero, zero-add, add-suc, suc-add}
 use native.Mathlib.Omega.{arith}
-use lib.ListN.{length, drop, length-append}
-use lib.Seq.{take-at}
+use lib.ListN.{length, length-append}
 use borrow.Author.Tests.{le-leb, lt-leb}
 use Rattle.book_format.specs.declared.Edition.{Edition}
 use Rattle.book_format.specs.declared.Opened.{Opened}
@@ -19,6 +18,7 @@ use Rattle.book_format.specs.Calls.{checkedBook}
 use Rattle.listing_text.specs.declared.Piece.{Piece}
 use Rattle.listing_text.specs.Text.{linesFrom, listingBy, listing}
 use Rattle.listing_text.specs.Calls.{lineCountBy, lineCount, firstLine, line, lines, fitting, nextPiece, pieces, reached}
+use Rattle.coxeter.proofs.FrontLaws.{take-front}
 
 -- ---- lines
 
@@ -100,7 +100,7 @@ pieces-lines ed b i [] = refl
 pieces-lines ed b i (out ∷ outs) =
     let t = fitting ed b (lineCount ed b - i) i (length out) in
     let text = lines ed b t i in
-    rw (take-at text (drop (length text) out) (length text) refl, append-assoc, pieces-lines ed b (i + t) outs)
+    rw (take-front text out (length text) refl, append-assoc, pieces-lines ed b (i + t) outs)
     (piece-lines ed b i t (fitting-le ed b (lineCount ed b - i) i (length out)))
 
 -- the pieces from the first line on, and the lines that are left, are the listing

@@ -14,6 +14,7 @@ use Rattle.listing_text.specs.Text.{refusedBookLine, countLine, lineOf}
 use Rattle.listing_text.specs.Calls.{lineCountBy, lineCount, firstLine, line, lines, fitting, nextPiece, pieces, reached}
 use Rattle.listing_text.proofs.Pieces.{lines-append, fitting-more, fitting-le, length-fitting-le}
 use Rattle.listing_text.proofs.Room.{piece-progress}
+use Rattle.coxeter.proofs.FrontLaws.{front-parts}
 
 module _ (ed : Edition) (b : List ℕ) where
   -- P3, P4, P8, I32: line 0 is the line of the count, or of the refusal, which is then the only line, and line i + 1
@@ -55,12 +56,13 @@ module _ (ed : Edition) (b : List ℕ) where
       × ((s : ℕ) → s ≤ lineCount ed b - i → length (lines ed b s i) ≤ length out → s ≤ t)
   unfolding nextPiece
   piece-exactly i out =
-      let n = lineCount ed b - i in (
+      let n = lineCount ed b - i in
+      let text = lines ed b (fitting ed b n i (length out)) i in (
         fitting ed b n i (length out),
         refl,
         refl,
         omega arith,
-        refl,
+        sym (front-parts text out (length text) text refl refl),
         fitting-le ed b n i (length out),
         length-fitting-le ed b n i (length out),
         most-fitting n i (length out),

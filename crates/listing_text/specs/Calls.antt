@@ -3,8 +3,9 @@
 use mathlib.Core.List.{List, [], _∷_, _++_}
 use Prim.Native.Nat.{ℕ, zero, suc, _+_, _-_}
 use lib.Dec.{leb}
-use lib.ListN.{length, take, drop}
+use lib.ListN.{length, take}
 use Rattle.coxeter.specs.Kinds.{pick}
+use Rattle.coxeter.specs.Calls.{front}
 use Rattle.book_format.specs.declared.Edition.{Edition}
 use Rattle.book_format.specs.declared.Opened.{Opened}
 use Rattle.book_format.specs.declared.Opened.the-variants as opened
@@ -56,7 +57,7 @@ nextPiece ed b i out =
     let left = lineCount ed b - i in
     let t = fitting ed b left i (length out) in
     let text = lines ed b t i in
-    record { answer = record { next = i + t; end = length text; left = left - t }; bytes = text ++ drop (length text) out }
+    record { answer = record { next = i + t; end = length text; left = left - t }; bytes = front text out }
 
 -- I32: calls with one output after the other, each from the line where the last piece ended: what the pieces are
 -- together

@@ -14,11 +14,12 @@ use lib.Seq.{take-append-seam}
 use borrow.Author.Tests.{ne-eqb, lt-ltb, le-ltb, lt-leb, le-leb}
 use Rattle.coxeter.specs.Kinds.{Kind, A, B, D, kindOf, least}
 use Rattle.coxeter.specs.Checks.{check, _then_, tooShort, rankRefusal, wordRefusal}
+use Rattle.coxeter.specs.Calls.{front}
 use Rattle.rules.specs.declared.Rewrite.the-variants.{Used, NoneFits, Refused}
 use Rattle.rewriter.specs.declared.search.Fitting.{Fitting}
 use Rattle.rewriter.specs.declared.search.Fitting.the-variants.{Rule as Shown, Nothing}
 use Rattle.rules.specs.Rules.{Rule, rules, begins, fits, firstFitting, rewritten}
-use Rattle.rules.specs.Calls.{pastEnd, Transition, atFront, changed, unchanged, rewriteBy, rewriteAt, Rewrote, single}
+use Rattle.rules.specs.Calls.{pastEnd, Transition, changed, unchanged, rewriteBy, rewriteAt, Rewrote, single}
 use Rattle.rules.specs.Runs.{AcceptedWord}
 use Rattle.rules.proofs.RuleList.{Listed, listed-of-mem}
 use Rattle.rules.proofs.Fits.{begins-split, firstFitting-some, left-nonempty}
@@ -128,7 +129,7 @@ module _ (k n : ℕ) (u : List ℕ) (p : ℕ) (out : List ℕ) (h : AcceptedWord
     rewrote-short t =
         rewrote-refused k n u p out 14 (rewriteAt-placed ∙ rw (w .fitting, length-rewritten, lt-leb m (length out) t))
 
-    pub rewrote-used : (after : List ℕ) → m ≤ length out → after ≡ atFront (rewritten rule u p) out → Rewrote single k n u p out after (Used f i j m)
+    pub rewrote-used : (after : List ℕ) → m ≤ length out → after ≡ front (rewritten rule u p) out → Rewrote single k n u p out after (Used f i j m)
     unfolding rewriteBy shownRule
     rewrote-used after s q =
         rw (← q, length-rewritten) at

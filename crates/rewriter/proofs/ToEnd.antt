@@ -9,7 +9,7 @@ use borrow.Author.Tests.{eq-eqb, ne-eqb, lt-ltb, le-ltb}
 use Rattle.coxeter.specs.declared.Answer.the-variants as answer
 use Rattle.coxeter.specs.Kinds.{kindOf}
 use Rattle.coxeter.specs.Checks.{_then_, tooShort, rankRefusal, wordRefusal}
-use Rattle.coxeter.specs.Calls.{written}
+use Rattle.coxeter.specs.Calls.{front, written}
 use Rattle.coxeter.proofs.Acceptance.{two-accepted}
 use Rattle.coxeter.proofs.Outcomes.{answer-refused, answer-length}
 use Rattle.rules.specs.Runs.{AcceptedWord}
@@ -82,11 +82,11 @@ module _ (k n : ℕ) (u : List ℕ) (r : ℕ) (e : r ≡ (rankRefusal k n then w
                 (refl, refl, refl, refl, refl)
 
             pub traced-done : (families′ places′ lengths′ out′ : List ℕ) → size ≤ length out
-                → families′ ≡ written 0 (familiesOf (trace (kindOf k) n u .lines)) families
-                → places′ ≡ written 0 (placesOf (trace (kindOf k) n u .lines)) places
-                → lengths′ ≡ written 0 (lengthsOf (trace (kindOf k) n u .lines)) lengths → out′ ≡ written 0 (trace (kindOf k) n u .final) out
+                → families′ ≡ front (familiesOf (trace (kindOf k) n u .lines)) families
+                → places′ ≡ front (placesOf (trace (kindOf k) n u .lines)) places
+                → lengths′ ≡ front (lengthsOf (trace (kindOf k) n u .lines)) lengths → out′ ≡ front (trace (kindOf k) n u .final) out
                 → TraceYields (rewritingToEnd k n u families places lengths out) (Ended steps size) families′ places′ lengths′ out′
-            unfolding rewritingToEnd tracedBy toEndOf tooFewPlaces tooShort
+            unfolding rewritingToEnd tracedBy toEndOf written tooFewPlaces tooShort
             traced-done families′ places′ lengths′ out′ a b c d o =
                 rw (
                   ← e,

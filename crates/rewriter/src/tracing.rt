@@ -7,7 +7,7 @@ ghost use mathlib.Core.Path.{_≡_};
 ghost use Prim.Native.Nat.{_≤_};
 ghost use lib.ListN.{length};
 ghost use Rattle.coxeter.specs.Kinds.{kindOf};
-ghost use Rattle.coxeter.specs.Calls.{written};
+ghost use Rattle.coxeter.specs.Calls.{front};
 ghost use Rattle.rules.specs.Runs.{AcceptedWord};
 ghost use Rattle.traces.specs.Traces.{trace, familiesOf, placesOf, lengthsOf};
 ghost use Rattle.traces.proofs.Tracing.{Made};
@@ -131,10 +131,10 @@ fn write_in(
     requires { ⌜ (steps ≤ length (now families)) × (steps ≤ length (now places)) × (steps ≤ length (now lengths)) ⌝ }
     requires { ⌜ length (trace (kindOf kind) n (now word) .final) ≤ length (now out) ⌝ }
     requires { ⌜ length (now word) ≤ length (now work) ⌝ }
-    ensures { λ _. ⌜ (now (families .exit) ≡ written 0 (familiesOf (trace (kindOf kind) n (now (word .entry)) .lines)) (now (families .entry)))
-        × (now (places .exit) ≡ written 0 (placesOf (trace (kindOf kind) n (now (word .entry)) .lines)) (now (places .entry)))
-        × (now (lengths .exit) ≡ written 0 (lengthsOf (trace (kindOf kind) n (now (word .entry)) .lines)) (now (lengths .entry)))
-        × (now (out .exit) ≡ written 0 (trace (kindOf kind) n (now (word .entry)) .final) (now (out .entry))) ⌝ }
+    ensures { λ _. ⌜ (now (families .exit) ≡ front (familiesOf (trace (kindOf kind) n (now (word .entry)) .lines)) (now (families .entry)))
+        × (now (places .exit) ≡ front (placesOf (trace (kindOf kind) n (now (word .entry)) .lines)) (now (places .entry)))
+        × (now (lengths .exit) ≡ front (lengthsOf (trace (kindOf kind) n (now (word .entry)) .lines)) (now (lengths .entry)))
+        × (now (out .exit) ≡ front (trace (kindOf kind) n (now (word .entry)) .final) (now (out .entry))) ⌝ }
 {
     let made = make(
         kind,
@@ -164,10 +164,10 @@ pub(crate) fn write_trace(
     requires { ⌜ steps ≡ length (trace (kindOf kind) n (now word) .lines) ⌝ }
     requires { ⌜ (steps ≤ length (now families)) × (steps ≤ length (now places)) × (steps ≤ length (now lengths)) ⌝ }
     requires { ⌜ length (trace (kindOf kind) n (now word) .final) ≤ length (now out) ⌝ }
-    ensures { λ _. ⌜ (now (families .exit) ≡ written 0 (familiesOf (trace (kindOf kind) n (now (word .entry)) .lines)) (now (families .entry)))
-        × (now (places .exit) ≡ written 0 (placesOf (trace (kindOf kind) n (now (word .entry)) .lines)) (now (places .entry)))
-        × (now (lengths .exit) ≡ written 0 (lengthsOf (trace (kindOf kind) n (now (word .entry)) .lines)) (now (lengths .entry)))
-        × (now (out .exit) ≡ written 0 (trace (kindOf kind) n (now (word .entry)) .final) (now (out .entry))) ⌝ }
+    ensures { λ _. ⌜ (now (families .exit) ≡ front (familiesOf (trace (kindOf kind) n (now (word .entry)) .lines)) (now (families .entry)))
+        × (now (places .exit) ≡ front (placesOf (trace (kindOf kind) n (now (word .entry)) .lines)) (now (places .entry)))
+        × (now (lengths .exit) ≡ front (lengthsOf (trace (kindOf kind) n (now (word .entry)) .lines)) (now (lengths .entry)))
+        × (now (out .exit) ≡ front (trace (kindOf kind) n (now (word .entry)) .final) (now (out .entry))) ⌝ }
 {
     if word.len() <= 128 {
         let mut work = letters_128();

@@ -6,8 +6,8 @@ ghost use Prim.Native.Nat.{_+_, _-_, _<_, _≤_};
 ghost use lib.ListN.{length, take, drop};
 ghost use lib.Seq.{sets};
 ghost use Rattle.rules.specs.Rules.{rewritten};
-ghost use Rattle.rules.specs.Calls.{atFront};
 ghost use Rattle.rules.proofs.Scan.{firstLetter, shownRule, rightLength};
+ghost use Rattle.coxeter.specs.Calls.{front};
 
 // `part` written to `out` from `at` on.
 pub(crate) fn copy(part: &[u8], out: &mut [u8], at: usize)
@@ -34,7 +34,7 @@ fn write_without(word: &[u8], place: usize, left: usize, out: &mut [u8])
     requires { ⌜ place + left ≤ length (now word) ⌝ }
     requires { ⌜ length (now word) - left ≤ length (now out) ⌝ }
     ensures { λ _. ⌜ now (out .exit) ≡
-        atFront (take place (now (word .entry)) ++ drop (place + left) (now (word .entry))) (now (out .entry)) ⌝ }
+        front (take place (now (word .entry)) ++ drop (place + left) (now (word .entry))) (now (out .entry)) ⌝ }
 {
     copy(&word[..place], out, 0);
     copy(&word[place + left..], out, place);
@@ -63,7 +63,7 @@ fn write_moved(word: &[u8], place: usize, left: usize, first: u8, out: &mut [u8]
     requires { ⌜ (1 ≤ left) × (place + left ≤ length (now word)) ⌝ }
     requires { ⌜ length (now word) ≤ length (now out) ⌝ }
     ensures { λ _. ⌜ now (out .exit) ≡
-        atFront
+        front
         (take place (now (word .entry)) ++ ((first ∷ take (left - 1) (drop place (now (word .entry)))) ++ drop (place + left) (now (word .entry))))
         (now (out .entry)) ⌝ }
 {
@@ -88,7 +88,7 @@ pub(crate) fn write_rewritten(
     requires { ⌜ (1 ≤ left) × (place + left ≤ length (now word)) ⌝ }
     requires { ⌜ length (now word) - left + rightLength family left ≤ length (now out) ⌝ }
     ensures { λ _. ⌜ now (out .exit) ≡
-        atFront (rewritten (shownRule n family i j (take left (drop place (now (word .entry))))) (now (word .entry)) place) (now (out .entry)) ⌝ }
+        front (rewritten (shownRule n family i j (take left (drop place (now (word .entry))))) (now (word .entry)) place) (now (out .entry)) ⌝ }
 {
     if family == 1 {
         write_without(word, place, left, out);

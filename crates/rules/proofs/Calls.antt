@@ -17,7 +17,6 @@ use native.Mathlib.Decide.{decLe}
 use native.Mathlib.Omega.{arith}
 use lib.Dec.{eqb}
 use lib.ListN.{length, drop}
-use lib.Seq.{take-append-seam}
 use borrow.Author.Tests.{le-ltb, le-leb, lt-leb, leb-false}
 use Rattle.coxeter.specs.Kinds.{Kind, pick, kindOf, least}
 use Rattle.coxeter.specs.Checks.{check, tooLong, wrongLetter, wordRefusal}
@@ -31,6 +30,7 @@ use Rattle.rules.proofs.Fits.{fits-split, rewritten-split, fits-past, f
 use Rattle.rules.proofs.Fits.{none-firstFitting, firstFitting-of-unique, left-nonempty, rewrites-of-fits}
 use Rattle.rules.proofs.Completeness.{rewrites-length}
 use Rattle.rules.proofs.ScanRules.{fitting-unique}
+use Rattle.coxeter.proofs.FrontLaws.{take-front}
 use Rattle.coxeter.proofs.Acceptance.{rank-within, letters-accepted, length-accepted}
 
 -- ---- accepted words
@@ -69,7 +69,7 @@ pub record Lawful (s : Interface) : Type 0 where
 pub single-lawful : Lawful single
 unfolding newWordIn
 single-lawful = record {
-  used-read = λ x w out. ap some (take-append-seam w (drop (length w) out));
+  used-read = λ x w out. ap some (take-front w out (length w) refl);
   none-unused = λ o. refl;
   refused-unused = λ r o. refl;
   none-not-12 = λ e. told-apart (cc);

@@ -16,7 +16,7 @@ use Rattle.coxeter.specs.Kinds.{kindOf}
 use Rattle.coxeter.specs.Windows.{window}
 use Rattle.coxeter.specs.NormalForm.{normalForm}
 use Rattle.coxeter.specs.Checks.{_then_, rankRefusal, wordRefusal}
-use Rattle.coxeter.specs.Calls.{Yields, writes, normalFormOfWord}
+use Rattle.coxeter.specs.Calls.{front, Yields, writes, normalFormOfWord}
 use Rattle.rules.specs.Calls.{Interface, Transition, rewriteAt, single}
 use Rattle.rules.specs.Runs.{AcceptedWord, Result, Call, wordAfter, wordLeft, Meets, Run, Machine, machine, uses}
 use Rattle.rules.specs.Demand3.{normalFormOf, NowhereFits, NowhereFitsOnce, UsedExactly, FourAnswers, NormalFormWritten, Demand3Holds}
@@ -27,7 +27,7 @@ use Rattle.rules.proofs.Calls.{accepted-least, accepted-letters, accept
 use Rattle.rules.proofs.Calls.{Moves, rewrote, stays, stepped-moves, wordAfter-moves, resultOf, stepped-used, stepped-answers}
 use Rattle.rules.proofs.Calls.{irreducible-of-once, nowhereFits-iff}
 use Rattle.coxeter.proofs.FormLaws.{wordNormalForm-eq-iff}
-use Rattle.coxeter.proofs.Outcomes.{writes-done}
+use Rattle.coxeter.proofs.Outcomes.{writes-written}
 use Rattle.coxeter.proofs.Writes.{answers-short}
 
 -- what a use takes from the measure
@@ -167,7 +167,7 @@ normal-form-written k n u before after a h y =
     let q = rankRefusal k n then wordRefusal n u in
     let z : q ≡ 0 = rw (h .rank, h .word) in
     record {
-      written = λ l. let r = writes-done (writes q w before) q q w before refl refl (length w) w z refl l refl in (y .0 ∙ sym (r .0), y .1 ∙ sym (r .1));
+      written = λ l. let r = writes-written (writes q w before) q q w before refl refl (length w) (front w before) z refl l refl in (y .0 ∙ sym (r .0), y .1 ∙ sym (r .1));
       short = λ l. answers-short q w before after a y z l;
     }
 

@@ -13,7 +13,6 @@ use Prim.Native.Nat.{ℕ, _≤_, _<_}
 use native.Mathlib.Omega.{arith}
 use lib.Dec.{leb}
 use lib.ListN.{length, drop}
-use lib.Seq.{drop-append-seam}
 use borrow.Author.Tests.{le-leb, leb-true, leb-false, lt-leb}
 use Rattle.coxeter.specs.declared.Answer.{Answer}
 use Rattle.coxeter.specs.declared.Answer.the-variants as answer
@@ -24,6 +23,7 @@ use Rattle.coxeter.specs.Dictionary.{before}
 use Rattle.coxeter.specs.Relations.{Relation, Congruent}
 use Rattle.coxeter.specs.Calls.{Yields, normalFormOfWord}
 use Rattle.coxeter.proofs.Order.{shortlex-cases}
+use Rattle.coxeter.proofs.FrontLaws.{drop-front, front-parts}
 use Rattle.rules.specs.declared.Rewrite.the-variants.{Used}
 use Rattle.rules.specs.Rules.{Rule, rules, fits, rewritten}
 use Rattle.rules.specs.Calls.{Interface, Rewrote, single}
@@ -162,7 +162,12 @@ module _ (s : Interface) (holds : Demand3Holds s) (k n : ℕ) (u : List ℕ) (h 
   pub normal-form-written : (out after : List ℕ) (a : Answer) → Yields (normalFormOfWord k n u out) a after → let w = normalFormOf k n u in
       (length w ≤ length out → (a ≡ answer.Length (length w)) × (after ≡ w ++ drop (length w) out))
       × (length out < length w → (a ≡ answer.Refused 14) × (after ≡ out))
-  normal-form-written out after a y = let t = d .normal-form-call out after a y in (t .written, t .short)
+  normal-form-written out after a y =
+      let w = normalFormOf k n u in
+      let t = d .normal-form-call out after a y in (
+        λ l. let e = t .written l in (e .0, e .1 ∙ sym (front-parts w out (length w) w refl refl)),
+        t .short,
+      )
 
 -- ---- the library's own call
 
@@ -182,4 +187,4 @@ module _ (k n : ℕ) (u : List ℕ) (h : AcceptedWord k n u) (front : List (Call
       drop (length w) (c .result .outputs) ≡ drop (length w) (c .arguments .outputs)
   used-beyond x b =
       let w = wordLeft single u (front ++ (c ∷ [])) in
-      ap (drop (length w)) (used-written single demand3 k n u h front c rest r x b .1) ∙ drop-append-seam w (drop (length w) (c .arguments .outputs))
+      ap (drop (length w)) (used-written single demand3 k n u h front c rest r x b .1) ∙ drop-front w (c .arguments .outputs) (length w) refl

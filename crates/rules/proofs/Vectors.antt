@@ -9,6 +9,7 @@ use lib.ListN.{length}
 use Rattle.coxeter.specs.Kinds.{A, B, D, kindOf, up}
 use Rattle.coxeter.specs.Checks.{wrongKind, wrongRank, tooLong, wrongLetter, rankRefusal, wordRefusal}
 use Rattle.coxeter.specs.NormalForm.{down, rise, fall, block}
+use Rattle.coxeter.specs.Calls.{front}
 use Rattle.coxeter.proofs.Vectors.{Agree, lent}
 use Rattle.rules.specs.declared.Rewrite.{Rewrite}
 use Rattle.rules.specs.declared.Rewrite.the-variants.{Used, NoneFits, Refused}
@@ -49,7 +50,7 @@ pub rewriting-agrees : Agree rewriting
 unfolding rewriting
     kindOf up wrongKind wrongRank tooLong wrongLetter rankRefusal wordRefusal down rise fall block
     concatMap family1 family2 family3 family4 families5to7 rules begins fits firstFitting rewritten
-    pastEnd rewriteBy rewriteAt
+    pastEnd front rewriteBy rewriteAt
 rewriting-agrees = refl
 
 -- the numbers of rules

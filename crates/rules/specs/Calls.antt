@@ -2,13 +2,14 @@
 -- takes its outputs and returns its answer: `single` is the library's own form, and the crate c_api has that of C.
 use mathlib.Core.Path.{_≡_}
 use mathlib.Core.Bool.{Bool}
-use mathlib.Core.List.{List, _++_}
+use mathlib.Core.List.{List}
 use mathlib.Core.Option.{Option, none, some}
 use Prim.Native.Nat.{ℕ}
 use lib.Dec.{eqb, leb}
-use lib.ListN.{length, take, drop}
+use lib.ListN.{length, take}
 use Rattle.coxeter.specs.Kinds.{pick, kindOf}
 use Rattle.coxeter.specs.Checks.{check, _then_, rankRefusal, wordRefusal}
+use Rattle.coxeter.specs.Calls.{front}
 use Rattle.rules.specs.declared.Rewrite.{Rewrite}
 use Rattle.rules.specs.declared.Rewrite.the-variants.{Used, NoneFits, Refused}
 use Rattle.rules.specs.Rules.{Rule, rules, firstFitting, rewritten}
@@ -16,10 +17,6 @@ use Rattle.rules.specs.Rules.{Rule, rules, firstFitting, rewritten}
 -- C12, R13
 unfoldable pub pastEnd : List ℕ → ℕ → Bool
 pastEnd u p = leb (length u) p
-
--- CO7, I2: v written to the front of out; what lies behind stays
-abbrev pub atFront : List ℕ → List ℕ → List ℕ
-atFront v out = v ++ drop (length v) out
 
 -- T2, T3, G17: the form of a call that makes one rewrite: its answer for each of the three cases, and its outputs
 pub record Interface : Type 1 where
@@ -83,7 +80,7 @@ single = record {
   noneFits = NoneFits;
   refused = Refused;
   used = λ x l. Used (x .family) (x .i) (x .j) l;
-  written = λ x w out. atFront w out;
+  written = λ x w out. front w out;
   room = λ out l. leb l (length out);
   newWord = newWordIn;
 }

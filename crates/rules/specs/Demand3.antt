@@ -12,9 +12,9 @@ use Rattle.coxeter.specs.Kinds.{kindOf}
 use Rattle.coxeter.specs.Windows.{window}
 use Rattle.coxeter.specs.Relations.{Relation, Congruent}
 use Rattle.coxeter.specs.NormalForm.{wordNormalForm, IsNormalForm}
-use Rattle.coxeter.specs.Calls.{Yields, normalFormOfWord}
+use Rattle.coxeter.specs.Calls.{front, Yields, normalFormOfWord}
 use Rattle.rules.specs.Rules.{Rule, rules, fits, rewritten}
-use Rattle.rules.specs.Calls.{pastEnd, atFront, Interface, Rewrote}
+use Rattle.rules.specs.Calls.{pastEnd, Interface, Rewrote}
 use Rattle.rules.specs.Runs.{AcceptedWord, Arguments, Call, Run, IsUsed, Machine, machine, uses, wordLeft}
 
 -- N2: the normal form of a word, with the kind as a number
@@ -91,7 +91,7 @@ pub record Follows (s : Interface) (k n : ℕ) (u : List ℕ) (most : ℕ) (cs :
   pub machines : _≡_ {A = Machine s} (record { results = map (λ (c : Call s). c .result) cs; word = wordLeft s u cs })
       (machine s k n u (map (λ (c : Call s). c .arguments) cs))
   -- T7: after each part of the list from its front
-  pub window-kept : (front rest : List (Call s)) → cs ≡ front ++ rest → window (kindOf k) n (wordLeft s u front) ≡ window (kindOf k) n u
+  pub window-kept : (earlier rest : List (Call s)) → cs ≡ earlier ++ rest → window (kindOf k) n (wordLeft s u earlier) ≡ window (kindOf k) n u
   -- T11
   pub uses-at-most : uses s cs ≤ most
   -- T10: of the normal form the answer comes with whatever outputs
@@ -99,11 +99,11 @@ pub record Follows (s : Interface) (k n : ℕ) (u : List ℕ) (most : ℕ) (cs :
   -- T10: one such answer at each place, with whatever outputs, is enough
   pub normal-once : NowhereFitsOnce s k n (wordLeft s u cs) → wordLeft s u cs ≡ normalFormOf k n u
   -- T8, T9: of each call of the list
-  pub used-exactly : (front : List (Call s)) (c : Call s) (rest : List (Call s)) → cs ≡ front ++ (c ∷ rest)
-      → UsedExactly s k n (wordLeft s u front) c (wordLeft s u (front ++ (c ∷ [])))
+  pub used-exactly : (earlier : List (Call s)) (c : Call s) (rest : List (Call s)) → cs ≡ earlier ++ (c ∷ rest)
+      → UsedExactly s k n (wordLeft s u earlier) c (wordLeft s u (earlier ++ (c ∷ [])))
   -- T8: of each call, what it answered if it used no rule
-  pub four-answers : (front : List (Call s)) (c : Call s) (rest : List (Call s)) → cs ≡ front ++ (c ∷ rest)
-      → FourAnswers s k n (wordLeft s u front) c (wordLeft s u (front ++ (c ∷ [])))
+  pub four-answers : (earlier : List (Call s)) (c : Call s) (rest : List (Call s)) → cs ≡ earlier ++ (c ∷ rest)
+      → FourAnswers s k n (wordLeft s u earlier) c (wordLeft s u (earlier ++ (c ∷ [])))
 
 -- T14, T15: two accepted words of one kind and rank
 pub record Agree (k n : ℕ) (u v : List ℕ) : Type 0 where
@@ -116,7 +116,7 @@ pub record Agree (k n : ℕ) (u v : List ℕ) : Type 0 where
 -- check 14 can refuse it.
 pub record NormalFormWritten (k n : ℕ) (u before after : List ℕ) (a : Answer) : Type 0 where
   pub written : length (normalFormOf k n u) ≤ length before
-      → (a ≡ answer.Length (length (normalFormOf k n u))) × (after ≡ atFront (normalFormOf k n u) before)
+      → (a ≡ answer.Length (length (normalFormOf k n u))) × (after ≡ front (normalFormOf k n u) before)
   pub short : length before < length (normalFormOf k n u) → (a ≡ answer.Refused 14) × (after ≡ before)
 
 -- D9: all of demand 3 about the accepted word u

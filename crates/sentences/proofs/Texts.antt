@@ -18,7 +18,9 @@ use Rattle.coxeter.specs.declared.Answer.{Answer}
 use Rattle.coxeter.specs.declared.Answer.the-variants.{Length, Refused}
 use Rattle.coxeter.specs.Kinds.{up}
 use Rattle.coxeter.specs.Checks.{tooShort}
-use Rattle.coxeter.specs.Calls.{Yields, answerOf, written, writes}
+use Rattle.coxeter.specs.Calls.{Yields, answerOf, written, writes, front}
+use Rattle.coxeter.proofs.Outcomes.{writes-written}
+use Rattle.coxeter.proofs.FrontLaws.{front-parts}
 use Rattle.sentences.specs.Sentences.{codesFrom, codes, sentences, sentence, refusalSentence}
 
 -- ---- texts that are written
@@ -30,8 +32,9 @@ module _ (l out : List ℕ) where
 
   pub put-copied : (after : List ℕ) (r : ℕ) → length l ≤ length out → r ≡ length l → after ≡ take (length l) l ++ drop (length l) out
       → Yields (writes 0 l out) (Length r) after
-  unfolding writes answerOf written tooShort
-  put-copied after r h e v = rw (e, v, take-all (length l) l (le-refl (length l)), le-ltb (length out) (length l) h) (refl, refl)
+  put-copied after r h e v =
+      writes-written (writes 0 l out) 0 0 l out refl refl r after refl (sym e) (omega arith)
+      (v ∙ front-parts l out (length l) (take (length l) l) refl (take-all (length l) l (le-refl (length l))))
 
 -- ---- sentences
 
@@ -59,7 +62,7 @@ unknown-alike k out h = ap (λ (s : List ℕ). writes 0 s out) (sentence-unknown
 
 -- then nothing is written
 pub said-zero : (k : ℕ) (out : List ℕ) → k ≡ 0 → Yields (refusalSentence k out) (Length 0) out
-unfolding refusalSentence sentence writes answerOf written tooShort
+unfolding refusalSentence sentence writes answerOf written front tooShort
 said-zero k out z = rw (z, le-ltb (length out) 0 (omega arith)) (refl, refl)
 
 pub unsaid : (k : ℕ) (out : List ℕ) → 21 < k → Yields (refusalSentence k out) (Length 0) out

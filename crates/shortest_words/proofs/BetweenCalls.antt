@@ -20,7 +20,7 @@ use Rattle.coxeter.specs.Kinds.{Kind, kindOf, least}
 use Rattle.coxeter.specs.Windows.{windowFrom, product, inverse}
 use Rattle.coxeter.specs.Checks.{check, tooShort, rankRefusal, wrongLetter, RankOf, WindowOf}
 use Rattle.coxeter.specs.NormalForm.{wordNormalForm}
-use Rattle.coxeter.specs.Calls.{Outcome, answerOf, written, writes}
+use Rattle.coxeter.specs.Calls.{Outcome, answerOf, front, written, writes}
 use Rattle.coxeter.proofs.Acceptance.{rank-within, lanes-le}
 use Rattle.coxeter.proofs.Levels.{Accepted, accepted-of-refusal}
 use Rattle.coxeter.proofs.Lengths.{length-normalForm}
@@ -147,7 +147,7 @@ module _ (k n set : ℕ) (v w : List ℤ) (out : List ℕ) where
 -- A5: whatever steps are allowed and whatever the output, even one of no length
 pub between-equal : (k n set : ℕ) (v : List ℤ) (out : List ℕ) → setRefusal k n set ≡ 0 → WindowOf (kindOf k) n v
     → betweenWindows k n set v v out ≡ record { answer = Length 0; bytes = out }
-unfolding betweenWindows unreachable writes answerOf written tooShort
+unfolding betweenWindows unreachable writes answerOf written front tooShort
 between-equal k n set v out a b =
     let p = accepted-of-refusal (kindOf k) n v b in
     rw (

@@ -11,7 +11,7 @@ use Rattle.coxeter.specs.Length.{negative, one, negatives}
 use Rattle.coxeter.specs.Checks.{wrongKind, wrongRank, wrongLanes, hasSize, negativeInA, wrongAt}
 use Rattle.coxeter.specs.Checks.{wrongEntry, odd, oddNegatives, tooShort, rankRefusal, windowRefusal}
 use Rattle.coxeter.specs.NormalForm.{down, rise, fall, block, without, indexOf, restOf, normalFrom, normalForm}
-use Rattle.coxeter.specs.Calls.{Outcome, answerOf, written, writes}
+use Rattle.coxeter.specs.Calls.{Outcome, answerOf, front, written, writes}
 use Rattle.coxeter.proofs.Vectors.{Agree}
 use Rattle.shortest_words.specs.Allowed.{over, allows, wrongSet, setRefusal}
 use Rattle.shortest_words.specs.Between.{between, reachable}
@@ -40,5 +40,5 @@ pub betweens-agree : Agree betweens
 unfolding betweens betweenWindows betweenRefusal unreachable between reachable over allows wrongSet setRefusal kindOf up
     from negateFirst at product signed placeFrom inverse negative one negatives
     wrongKind wrongRank wrongLanes hasSize negativeInA wrongAt wrongEntry odd oddNegatives tooShort rankRefusal windowRefusal
-    down rise fall block without indexOf restOf normalFrom normalForm answerOf written writes
+    down rise fall block without indexOf restOf normalFrom normalForm answerOf front written writes
 betweens-agree = refl

@@ -10,7 +10,7 @@ use lib.ListN.{length}
 use Rattle.coxeter.specs.Kinds.{kindOf}
 use Rattle.coxeter.specs.Windows.{window}
 use Rattle.coxeter.specs.Checks.{_then_, tooShort, rankRefusal, wordRefusal, RankOf, WordOf}
-use Rattle.coxeter.specs.Calls.{written}
+use Rattle.coxeter.specs.Calls.{front, written}
 use Rattle.coxeter.proofs.Refusals.{then-zero}
 use Rattle.coxeter.proofs.Acceptance.{two-accepted}
 use Rattle.shortest_words.specs.declared.Split.{Split}
@@ -32,9 +32,9 @@ module _ (u v first second : List ℕ) (a b : ℕ) (e : a ≡ length u) where
     unfolding splitOutcome splitOf written tooShort
     second-short h = rw (← e, ← f, le-ltb (length first) a g, lt-ltb (length second) b h) (refl, refl, refl)
 
-    pub parts-written : (x y : List ℕ) → b ≤ length second → x ≡ written 0 u first → y ≡ written 0 v second
+    pub parts-written : (x y : List ℕ) → b ≤ length second → x ≡ front u first → y ≡ front v second
         → SplitYields (splitOutcome 0 u v first second) (Words a b) x y
-    unfolding splitOutcome splitOf tooShort
+    unfolding splitOutcome splitOf written tooShort
     parts-written x y h p q = rw (← e, ← f, le-ltb (length first) a g, le-ltb (length second) b h) (refl, p, q)
 
 -- ---- the call

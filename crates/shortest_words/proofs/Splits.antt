@@ -6,24 +6,24 @@
 -- Assumes nothing.
 use mathlib.Core.Path.{_≡_, refl, sym, ap₂, _∙_}
 use mathlib.Core.Bool.{Bool, true, false}
-use mathlib.Core.List.{List, [], _++_}
+use mathlib.Core.List.{List, []}
 use Prim.Native.Nat.{ℕ, _+_, _-_, _^_, _≤_}
 use native.Mathlib.Omega.{arith}
 use lib.Dec.{eqb}
 use lib.IntN.{ℤ}
 use lib.ListN.{length, take, drop}
-use lib.Seq.{take-at}
 use borrow.Author.Tests.{eqb-true}
 use Rattle.coxeter.specs.Kinds.{Kind, pick, kindOf, least}
 use Rattle.coxeter.specs.Windows.{window}
 use Rattle.coxeter.specs.Length.{windowLength}
 use Rattle.coxeter.specs.Checks.{check, _then_, tooShort, wordRefusal, RankOf, WindowOf}
-use Rattle.coxeter.specs.Calls.{written}
+use Rattle.coxeter.specs.Calls.{front, written}
 use Rattle.coxeter.proofs.Refusals.{then-zero}
 use Rattle.coxeter.proofs.Unchanged.{kept-whole, kept-past}
 use Rattle.coxeter.proofs.Acceptance.{rank-within}
 use Rattle.coxeter.proofs.Levels.{accepted-of-refusal}
 use Rattle.coxeter.proofs.Theorems.{window-passes}
+use Rattle.coxeter.proofs.FrontLaws.{take-front}
 use Rattle.shortest_words.specs.declared.Split.the-variants.{Words, Refused}
 use Rattle.shortest_words.specs.Allowed.{allows, setRefusal}
 use Rattle.shortest_words.specs.Split.{IsSplit, firstWord, secondWord}
@@ -56,14 +56,14 @@ module _ (k : Kind) (n : ℕ) (w : List ℤ) (h : least k ≤ n) (p : WindowOf k
 module _ (u v first second : List ℕ) where
   pick-told : (t : Bool) (s a b : ℕ) → pick t (Words (length u) (length v)) (Refused s) ≡ Words a b
       → (t ≡ true)
-      × (take a (pick t (u ++ drop (length u) first) first) ≡ u)
-      × (take b (pick t (v ++ drop (length v) second) second) ≡ v)
+      × (take a (pick t (front u first) first) ≡ u)
+      × (take b (pick t (front v second) second) ≡ v)
       × (length u ≡ a)
       × (length v ≡ b)
   pick-told true s a b h =
       let e : length u ≡ a = cc in
       let f : length v ≡ b = cc in
-      (refl, take-at u (drop (length u) first) a e, take-at v (drop (length v) second) b f, e, f)
+      (refl, take-front u first a e, take-front v second b f, e, f)
   pick-told false s a b h = let z : _≡_ {A = ℕ} 0 1 = cc in absurd (omega arith)
 
 words-not-refused : (a b r : ℕ) → Words a b ≡ Refused r → ⊥

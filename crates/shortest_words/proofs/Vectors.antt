@@ -12,7 +12,7 @@ use Rattle.coxeter.specs.Windows.{from, swap, negateFirst, swapNegate, act, win
 use Rattle.coxeter.specs.Length.{later, negative, one, laterThan, inversions, negativeSumPairs, negatives, crossings, total, windowLength}
 use Rattle.coxeter.specs.Checks.{wrongKind, wrongRank, tooLong, wrongLetter, tooShort, rankRefusal, wordRefusal}
 use Rattle.coxeter.specs.NormalForm.{down, rise, fall, block, without, indexOf, restOf, normalFrom, normalForm}
-use Rattle.coxeter.specs.Calls.{sameEntry, sameWindow, written}
+use Rattle.coxeter.specs.Calls.{sameEntry, sameWindow, front, written}
 use Rattle.coxeter.proofs.Vectors.{Agree}
 use Rattle.shortest_words.specs.declared.Fallback.{Fallback}
 use Rattle.shortest_words.specs.declared.Fallback.the-variants.{Kept, No, Refused}
@@ -96,7 +96,7 @@ splits =
     ∷ []
 
 pub splits-agree : Agree splits
-unfolding splits told splitting splitOutcome splitOf written firstWord secondWord restInverse stripped lowest isDescent allows wrongSet setRefusal kindOf up
+unfolding splits told splitting splitOutcome splitOf front written firstWord secondWord restInverse stripped lowest isDescent allows wrongSet setRefusal kindOf up
     from swap negateFirst swapNegate act windowFrom identity window at product signed placeFrom inverse
     later negative one laterThan inversions negativeSumPairs negatives crossings total windowLength
     wrongKind wrongRank tooLong wrongLetter tooShort rankRefusal wordRefusal down rise fall block without indexOf restOf normalFrom normalForm

@@ -13,19 +13,19 @@ use native.Mathlib.Omega.{arith}
 use lib.Dec.{eqb}
 use lib.IntN.{ℤ}
 use lib.ListN.{length, take, drop}
-use lib.Seq.{take-at, drop-at}
 use borrow.Author.Tests.{eq-eqb, ne-eqb, lt-ltb, le-ltb}
 use Rattle.coxeter.specs.Kinds.{Kind, pick, kindOf, least, lanes}
 use Rattle.coxeter.specs.Windows.{identity, window}
 use Rattle.coxeter.specs.Length.{windowLength}
 use Rattle.coxeter.specs.Checks.{check, _then_, tooShort, rankRefusal, wordRefusal, wrongLetter}
 use Rattle.coxeter.specs.NormalForm.{wordNormalForm}
-use Rattle.coxeter.specs.Calls.{written, sameWindow}
+use Rattle.coxeter.specs.Calls.{front, sameWindow}
 use Rattle.coxeter.proofs.Levels.{Accepted, window-accepted}
 use Rattle.coxeter.proofs.Acceptance.{lanes-le}
 use Rattle.coxeter.proofs.PairWeights.{windowLength-le-4096}
 use Rattle.coxeter.proofs.Refusals.{then-assoc}
 use Rattle.coxeter.proofs.Order.{sameWindow-true, sameWindow-of-eq}
+use Rattle.coxeter.proofs.FrontLaws.{take-front, drop-front}
 use Rattle.shortest_words.specs.declared.Fallback.{Fallback}
 use Rattle.shortest_words.specs.declared.Fallback.the-variants.{Kept, No, Refused}
 use Rattle.shortest_words.specs.Fallback.{ShortestSubwordPlaces, someSubword, isFallback}
@@ -80,12 +80,12 @@ module _ (k : Kind) (n : ℕ) (u : List ℕ) (w : List ℤ) (places : List ℕ) 
         others = refl;
       }
 
-      pub decided-kept : (after : List ℕ) → m ≤ length places → after ≡ written 0 ps places → Decided k n u w places (Kept m) after
-      unfolding tooShort keptCount written
+      pub decided-kept : (after : List ℕ) → m ≤ length places → after ≡ front ps places → Decided k n u w places (Kept m) after
+      unfolding tooShort keptCount
       decided-kept after l f = record {
         answer = rw (decided ∙ z, count, le-ltb (length places) m l);
-        kept = λ i y. let o : m ≡ i = cc in rw (f, ← o, take-at ps (drop (length ps) places) m (sym c)) kept-subword;
-        others = rw (f, c) (drop-at ps (drop (length ps) places) (length ps) refl);
+        kept = λ i y. let o : m ≡ i = cc in rw (f, ← o, take-front ps places m (sym c)) kept-subword;
+        others = rw (f, c) (drop-front ps places (length ps) refl);
       }
 
 -- ---- two words

@@ -12,17 +12,18 @@ use mathlib.Core.Option.{none}
 use Prim.Native.Nat.{ℕ, suc, _+_, _≤_}
 use native.Mathlib.Omega.{arith}
 use lib.ListN.{length, take, drop, replicate, length-replicate, length-map}
-use lib.Seq.{take-append-seam, take-at}
 use borrow.Author.Tests.{le-ltb, ltb-false, le-leb, lt-leb}
 use Rattle.coxeter.specs.Kinds.{kindOf}
 use Rattle.coxeter.specs.Checks.{tooShort, rankRefusal, wordRefusal}
 use Rattle.coxeter.specs.NormalForm.{wordNormalForm}
+use Rattle.coxeter.specs.Calls.{front}
 use Rattle.coxeter.proofs.Refusals.{then-zero}
 use Rattle.coxeter.proofs.Order.{less, same, more, compared}
+use Rattle.coxeter.proofs.FrontLaws.{take-front}
 use Rattle.rules.specs.declared.Rewrite.{Rewrite}
 use Rattle.rules.specs.declared.Rewrite.the-variants.{Used}
 use Rattle.rules.specs.Rules.{rules, firstFitting}
-use Rattle.rules.specs.Calls.{pastEnd, Transition, atFront, changed, rewriteAt, Rewrote, newWordIn, single}
+use Rattle.rules.specs.Calls.{pastEnd, Transition, changed, rewriteAt, Rewrote, newWordIn, single}
 use Rattle.rules.specs.Runs.{AcceptedWord, Arguments, Call, wordAfter, Run, uses}
 use Rattle.rules.specs.Demand3.{Demand3}
 use Rattle.rules.proofs.Fits.{firstFitting-some, firstFitting-none, none-firstFitting}
@@ -63,7 +64,7 @@ module _ (k n : ℕ) (u : List ℕ) (h : AcceptedWord k n u) (s : Redex) (a : Lo
   used-at before out x w r = (
     w .answer ∙ ap (λ (t : Transition single). t .answer) (step-at before r),
     ap (take (length (after u s))) (w .outputs ∙ ap (λ (t : Transition single). t .outputs) (step-at before r))
-        ∙ take-append-seam (after u s) (drop (length (after u s)) before),
+        ∙ take-front (after u s) before (length (after u s)) refl,
   )
 
 -- ---- replaying
@@ -177,11 +178,11 @@ replay-goes k n u h s a r =
     record {
       calls = record {
         arguments = record { place = s .place; outputs = u };
-        result = record { answer = Used (s .rule .family) (s .rule .i) (s .rule .j) (length v); outputs = atFront v u };
+        result = record { answer = Used (s .rule .family) (s .rule .i) (s .rule .j) (length v); outputs = front v u };
       } ∷ r .calls;
       run = (
         record { answer = sym (ap (λ (t : Transition single). t .answer) e); outputs = sym (ap (λ (t : Transition single). t .outputs) e) },
-        subst (λ (w : List ℕ). Run single k n w (r .calls)) (sym (take-append-seam v (drop (length v) u))) (r .run),
+        subst (λ (w : List ℕ). Run single k n w (r .calls)) (sym (take-front v u (length v) refl)) (r .run),
       );
       counted = ap suc (r .counted);
     }
@@ -198,8 +199,8 @@ trace-at-most k n u h d =
 
 -- ---- what a call writes
 
-take-mapped : (m : ℕ) (f : Line → ℕ) (ls : List Line) (out : List ℕ) → length ls ≡ m → take m (atFront (map f ls) out) ≡ map f ls
-take-mapped m f ls out e = take-at (map f ls) (drop (length (map f ls)) out) m (length-map ls f ∙ e)
+take-mapped : (m : ℕ) (f : Line → ℕ) (ls : List Line) (out : List ℕ) → length ls ≡ m → take m (front (map f ls) out) ≡ map f ls
+take-mapped m f ls out e = take-front (map f ls) out m (length-map ls f ∙ e)
 
 -- a call that ends was not refused with q, and wrote the lines and the final word
 pub written-front : {q : ℕ} {t : Trace} {families places lengths out : List ℕ} {a : Traced} (s l : ℕ) → Written q t families places lengths out a
@@ -217,7 +218,7 @@ written-front {t} {families} {places} {lengths} {out} s l (ended z) e =
       take-mapped s (λ (m : Line). m .family) (t .lines) families steps,
       take-mapped s (λ (m : Line). m .place) (t .lines) places steps,
       take-mapped s (λ (m : Line). m .left) (t .lines) lengths steps,
-      take-at (t .final) (drop (length (t .final)) out) l final,
+      take-front (t .final) out l final,
     )
 
 -- the first l bytes of the output are the normal form and the others stay; the first s places of the three lists

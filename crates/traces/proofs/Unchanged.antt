@@ -10,10 +10,9 @@ use lib.ListN.{length, drop, length-map}
 use borrow.Author.Tests.{eq-eqb, ne-eqb}
 use Rattle.coxeter.specs.Kinds.{kindOf}
 use Rattle.coxeter.specs.Checks.{check, _then_, tooShort, rankRefusal, wordRefusal}
-use Rattle.coxeter.specs.Calls.{written}
+use Rattle.coxeter.specs.Calls.{front, written}
 use Rattle.coxeter.proofs.Refusals.{then-zero}
 use Rattle.coxeter.proofs.Unchanged.{kept-whole, kept-past}
-use Rattle.rules.specs.Calls.{atFront}
 use Rattle.traces.specs.declared.ToEnd.the-variants as toEnd
 use Rattle.traces.specs.Traces.{Line, Trace, tooFewPlaces, familiesOf, placesOf, lengthsOf, toEndOf, Traced, tracedBy, trace, rewritingToEnd}
 
@@ -23,10 +22,10 @@ pub data Written (q : ℕ) (t : Trace) (families places lengths out : List ℕ) 
       (record { answer = toEnd.Refused r; families = families; places = places; lengths = lengths; bytes = out })
   ended : q ≡ 0 → Written q t families places lengths out (record {
     answer = toEnd.Ended (length (t .lines)) (length (t .final));
-    families = atFront (familiesOf (t .lines)) families;
-    places = atFront (placesOf (t .lines)) places;
-    lengths = atFront (lengthsOf (t .lines)) lengths;
-    bytes = atFront (t .final) out;
+    families = front (familiesOf (t .lines)) families;
+    places = front (placesOf (t .lines)) places;
+    lengths = front (lengthsOf (t .lines)) lengths;
+    bytes = front (t .final) out;
   })
 
 pub tracedBy-written : (q : ℕ) (t : Trace) (families places lengths out : List ℕ)

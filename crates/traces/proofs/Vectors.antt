@@ -11,7 +11,7 @@ use Rattle.coxeter.specs.declared.Answer.the-variants.{Length}
 use Rattle.coxeter.specs.Kinds.{kindOf, up}
 use Rattle.coxeter.specs.Checks.{wrongKind, wrongRank, tooLong, wrongLetter, tooShort, rankRefusal, wordRefusal}
 use Rattle.coxeter.specs.NormalForm.{down, rise, fall, block}
-use Rattle.coxeter.specs.Calls.{answerOf, written}
+use Rattle.coxeter.specs.Calls.{answerOf, front, written}
 use Rattle.coxeter.proofs.Vectors.{Agree, lent}
 use Rattle.rules.specs.Rules.{concatMap, family1, family2, family3, family4, families5to7, rules, begins, fits, firstFitting, rewritten}
 use Rattle.traces.specs.declared.ToEnd.{ToEnd}
@@ -68,7 +68,7 @@ pub toEnds-agree : Agree toEnds
 unfolding toEnds
     kindOf up wrongKind wrongRank tooLong wrongLetter tooShort rankRefusal wordRefusal down rise fall block
     concatMap family1 family2 family3 family4 families5to7 rules begins fits firstFitting rewritten
-    written lowestFrom lowestRedex traceWithin trace tooFewPlaces toEndOf tracedBy rewritingToEnd
+    front written lowestFrom lowestRedex traceWithin trace tooFewPlaces toEndOf tracedBy rewritingToEnd
 toEnds-agree = refl
 
 pub stepNumbers : List (Answer × Answer)

@@ -15,7 +15,7 @@ ghost use Rattle.coxeter.specs.Kinds.{kindOf};
 ghost use Rattle.coxeter.specs.Windows.{product, inverse};
 ghost use Rattle.coxeter.specs.Checks.{_then_, rankRefusal, windowRefusal, RankOf, WindowOf};
 ghost use Rattle.coxeter.specs.NormalForm.{normalForm};
-ghost use Rattle.coxeter.specs.Calls.{Yields, written, writes};
+ghost use Rattle.coxeter.specs.Calls.{Yields, front, writes};
 
 // The window that leads from one accepted window to another, written to the front of `out`.
 fn between_into(kind: u8, rank: u8, u: &[i8], v: &[i8], out: &mut [i8])
@@ -23,7 +23,7 @@ fn between_into(kind: u8, rank: u8, u: &[i8], v: &[i8], out: &mut [i8])
     requires { ⌜ WindowOf (kindOf kind) rank (now u) ⌝ }
     requires { ⌜ WindowOf (kindOf kind) rank (now v) ⌝ }
     requires { ⌜ length (now v) ≤ length (now out) ⌝ }
-    ensures { λ _. ⌜ now (out .exit) ≡ written 0 (product (inverse (now (u .entry))) (now (v .entry))) (now (out .entry)) ⌝ }
+    ensures { λ _. ⌜ now (out .exit) ≡ front (product (inverse (now (u .entry))) (now (v .entry))) (now (out .entry)) ⌝ }
 {
     let m = lanes(kind, rank);
     let mut back = entries_64();

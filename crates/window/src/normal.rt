@@ -12,7 +12,7 @@ ghost use lib.ListN.{length, take, getD};
 ghost use lib.Seq.{sets};
 ghost use Rattle.coxeter.specs.Kinds.{kindOf, lanes};
 ghost use Rattle.coxeter.specs.Checks.{RankOf, WindowOf};
-ghost use Rattle.coxeter.specs.Calls.{written};
+ghost use Rattle.coxeter.specs.Calls.{front};
 ghost use Rattle.coxeter.specs.NormalForm.{rise, fall, block, normalForm};
 ghost use Rattle.coxeter.proofs.Acceptance.{Ranked};
 ghost use Rattle.coxeter.proofs.PeelingByPlaces.{placeOf, PlacesOf, Place, lastLevel, withoutPosition, signChanged};
@@ -255,7 +255,7 @@ pub(crate) fn write_normal_form(kind: u8, rank: u8, work: &[i8], out: &mut [u8])
     requires { ⌜ WindowOf (kindOf kind) rank (take (lanes (kindOf kind) rank) (now work)) ⌝ }
     requires { ⌜ length (normalForm (kindOf kind) rank (take (lanes (kindOf kind) rank) (now work))) ≤ length (now out) ⌝ }
     ensures { λ r. ⌜ (r ≡ length (normalForm (kindOf kind) rank (take (lanes (kindOf kind) rank) (now (work .entry)))))
-        × (now (out .exit) ≡ written 0 (normalForm (kindOf kind) rank (take (lanes (kindOf kind) rank) (now (work .entry)))) (now (out .entry))) ⌝ }
+        × (now (out .exit) ≡ front (normalForm (kindOf kind) rank (take (lanes (kindOf kind) rank) (now (work .entry)))) (now (out .entry))) ⌝ }
 {
     let m = crate::entries::lanes(kind, rank);
     let mut places = no_places();

@@ -11,7 +11,7 @@ ghost use lib.ListN.{length, take};
 ghost use Rattle.coxeter.specs.Kinds.{kindOf};
 ghost use Rattle.coxeter.specs.Windows.{at, product, inverse};
 ghost use Rattle.coxeter.specs.Checks.{RankOf, WindowOf, negativeInA};
-ghost use Rattle.coxeter.specs.Calls.{written, sameWindow};
+ghost use Rattle.coxeter.specs.Calls.{front, sameWindow};
 
 // u(e). In kind A no entry is negative.
 fn image(kind: u8, u: &[i8], e: i8) -> i8
@@ -39,7 +39,7 @@ pub(crate) fn product_into(kind: u8, rank: u8, u: &[i8], v: &[i8], out: &mut [i8
     requires { ⌜ WindowOf (kindOf kind) rank (now u) ⌝ }
     requires { ⌜ WindowOf (kindOf kind) rank (now v) ⌝ }
     requires { ⌜ length (now v) ≤ length (now out) ⌝ }
-    ensures { λ _. ⌜ now (out .exit) ≡ written 0 (product (now (u .entry)) (now (v .entry))) (now (out .entry)) ⌝ }
+    ensures { λ _. ⌜ now (out .exit) ≡ front (product (now (u .entry)) (now (v .entry))) (now (out .entry)) ⌝ }
 {
     let mut i = 0;
     while i < v.len() {
@@ -54,7 +54,7 @@ pub(crate) fn inverse_into(kind: u8, rank: u8, w: &[i8], out: &mut [i8])
     requires { ⌜ RankOf kind rank ⌝ }
     requires { ⌜ WindowOf (kindOf kind) rank (now w) ⌝ }
     requires { ⌜ length (now w) ≤ length (now out) ⌝ }
-    ensures { λ _. ⌜ now (out .exit) ≡ written 0 (inverse (now (w .entry))) (now (out .entry)) ⌝ }
+    ensures { λ _. ⌜ now (out .exit) ≡ front (inverse (now (w .entry))) (now (out .entry)) ⌝ }
 {
     let mut i = 0;
     while i < w.len() {

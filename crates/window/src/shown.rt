@@ -15,7 +15,7 @@ ghost use Rattle.coxeter.specs.Kinds.{kindOf};
 ghost use Rattle.coxeter.specs.Windows.{window, product, inverse};
 ghost use Rattle.coxeter.specs.Length.{crossings};
 ghost use Rattle.coxeter.specs.Checks.{RankOf, WordOf};
-ghost use Rattle.coxeter.specs.Calls.{written, countedOf, equalWords, samePresets};
+ghost use Rattle.coxeter.specs.Calls.{front, countedOf, equalWords, samePresets};
 
 // A window with room for every lane count.
 pub(crate) fn entries_64() -> [i8; 64]
@@ -29,7 +29,7 @@ pub(crate) fn show_front(kind: u8, rank: u8, word: &[u8], out: &mut [i8])
     requires { ⌜ RankOf kind rank ⌝ }
     requires { ⌜ WordOf rank (now word) ⌝ }
     requires { ⌜ kinds.lanes (kindOf kind) rank ≤ length (now out) ⌝ }
-    ensures { λ _. ⌜ now (out .exit) ≡ written 0 (window (kindOf kind) rank (now (word .entry))) (now (out .entry)) ⌝ }
+    ensures { λ _. ⌜ now (out .exit) ≡ front (window (kindOf kind) rank (now (word .entry))) (now (out .entry)) ⌝ }
 {
     let n = rank as usize;
     let m = lanes(kind, rank);
@@ -43,7 +43,7 @@ pub(crate) fn show_product(kind: u8, rank: u8, u: &[u8], v: &[u8], out: &mut [i8
     requires { ⌜ WordOf rank (now v) ⌝ }
     requires { ⌜ kinds.lanes (kindOf kind) rank ≤ length (now out) ⌝ }
     ensures { λ _. ⌜ now (out .exit)
-        ≡ written 0 (product (window (kindOf kind) rank (now (u .entry))) (window (kindOf kind) rank (now (v .entry)))) (now (out .entry)) ⌝ }
+        ≡ front (product (window (kindOf kind) rank (now (u .entry))) (window (kindOf kind) rank (now (v .entry)))) (now (out .entry)) ⌝ }
 {
     let n = rank as usize;
     let m = lanes(kind, rank);
@@ -56,7 +56,7 @@ pub(crate) fn show_inverse(kind: u8, rank: u8, word: &[u8], out: &mut [i8])
     requires { ⌜ RankOf kind rank ⌝ }
     requires { ⌜ WordOf rank (now word) ⌝ }
     requires { ⌜ kinds.lanes (kindOf kind) rank ≤ length (now out) ⌝ }
-    ensures { λ _. ⌜ now (out .exit) ≡ written 0 (inverse (window (kindOf kind) rank (now (word .entry)))) (now (out .entry)) ⌝ }
+    ensures { λ _. ⌜ now (out .exit) ≡ front (inverse (window (kindOf kind) rank (now (word .entry)))) (now (out .entry)) ⌝ }
 {
     let m = lanes(kind, rank);
     let mut work = entries_64();

@@ -18,9 +18,10 @@ use Rattle.coxeter.specs.Kinds.{kindOf, lanes}
 use Rattle.coxeter.specs.Checks.{check}
 use Rattle.coxeter.specs.declared.Answer.the-variants as answer
 use Rattle.coxeter.proofs.Acceptance.{rank-accepted}
-use Rattle.coxeter.proofs.Lists.{Storing, storing-all, sets-next, sets-front}
-use Rattle.coxeter.proofs.Outcomes.{writes-refused, writes-short, writes-done}
+use Rattle.coxeter.proofs.Lists.{Storing, storing-all, sets-next}
+use Rattle.coxeter.proofs.Outcomes.{writes-refused, writes-short, writes-done, writes-written}
 use Rattle.coxeter.proofs.Refusals.{then-some, then-none}
+use Rattle.coxeter.proofs.FrontLaws.{sets-front}
 use Rattle.book_format.specs.declared.Edition.{Edition}
 use Rattle.book_format.specs.declared.Preset.the-variants as preset
 use Rattle.book_format.specs.Books.{twoAt, two, count, offset, countPlace, headSize, kindAt, rankAt}
@@ -310,5 +311,4 @@ module _ (ed : Edition) (b out : List ℕ) (r : ℕ) (e : r ≡ conversionRefusa
     converting-written o h p =
         let new = converted ed b in
         let l = size-made ed b r e z c m n w in
-        let d = writes-done (converting ed b out) (conversionRefusal ed b) r new out refl e m new z l h refl in
-        (d .0, p ∙ sets-front new out m (rw l h) (sym l) ∙ d .1)
+        writes-written (converting ed b out) (conversionRefusal ed b) r new out refl e m o z l h (p ∙ sets-front new out (rw l h))

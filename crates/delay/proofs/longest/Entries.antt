@@ -21,11 +21,11 @@ use Rattle.coxeter.specs.Windows.{from, negateFirst}
 use Rattle.coxeter.specs.Length.{greatestLength}
 use Rattle.coxeter.specs.Checks.{odd, tooShort, rankRefusal, windowRefusal, RankOf}
 use Rattle.coxeter.specs.NormalForm.{down, normalForm}
-use Rattle.coxeter.specs.Calls.{written, writes, normalFormOfWindow}
+use Rattle.coxeter.specs.Calls.{front, written, writes, normalFormOfWindow}
 use Rattle.coxeter.proofs.KindLaws.{kindOf-one, kindOf-two, kindOf-three, lanes-le-add-one}
 use Rattle.coxeter.proofs.Lists.{written-next}
 use Rattle.coxeter.proofs.Acceptance.{rank-within}
-use Rattle.coxeter.proofs.Outcomes.{written-front}
+use Rattle.coxeter.proofs.FrontLaws.{length-take-front}
 use Rattle.refusals.proofs.Bytes.{element-back, cast-back, minus-cast-back}
 use Rattle.distribution.specs.Longest.{allNegative, longest}
 use Rattle.distribution.proofs.Longest.{falling-suc, length-allNegative, longest-is}
@@ -157,7 +157,7 @@ longest-all k n i w r h s t = sym (take-all i w h) ∙ t ∙ take-all i (longest
 -- ---- the normal form
 
 pub form-written : (k n : ℕ) (v : List ℤ) (out : List ℕ) → RankOf k n → v ≡ longest (kindOf k) n → greatestLength (kindOf k) n ≤ length out
-    → normalFormOfWindow k n v out .bytes ≡ written 0 (normalForm (kindOf k) n (longest (kindOf k) n)) out
+    → normalFormOfWindow k n v out .bytes ≡ front (normalForm (kindOf k) n (longest (kindOf k) n)) out
 unfolding normalFormOfWindow writes written tooShort
 form-written k n v out h e l =
     let r = rank-within k n h .0 in
@@ -171,9 +171,9 @@ form-written k n v out h e l =
 
 -- what writing it asks, where v is what the longest window was written to and s the length of its own output
 pub form-asks : (k n : ℕ) (entries v : List ℤ) (s : ℕ) → RankOf k n → lanes (kindOf k) n ≤ length entries
-    → v ≡ written 0 (longest (kindOf k) n) entries → greatestLength (kindOf k) n ≤ s
+    → v ≡ front (longest (kindOf k) n) entries → greatestLength (kindOf k) n ≤ s
     → RankOf k n
     × ((lanes (kindOf k) n ≤ length v) × ((take (lanes (kindOf k) n) v ≡ longest (kindOf k) n) × (greatestLength (kindOf k) n ≤ s)))
 form-asks k n entries v s h g e l =
-    let f = written-front (lanes (kindOf k) n) (longest (kindOf k) n) entries v (length-longest (kindOf k) n (rank-within k n h .0)) g e in
+    let f = length-take-front (lanes (kindOf k) n) (longest (kindOf k) n) entries v (length-longest (kindOf k) n (rank-within k n h .0)) g e in
     (h, (omega (arith, f .0), (f .1, l)))

@@ -20,14 +20,15 @@ use Rattle.coxeter.specs.Kinds.{kindOf}
 use Rattle.coxeter.specs.Windows.{product, inverse}
 use Rattle.coxeter.specs.Checks.{check, _then_, tooLong, wrongLetter, rankRefusal, wordRefusal, windowRefusal, RankOf, WordOf}
 use Rattle.coxeter.specs.NormalForm.{normalForm}
-use Rattle.coxeter.specs.Calls.{Yields, written, writes}
+use Rattle.coxeter.specs.Calls.{front, Yields, writes}
 use Rattle.coxeter.proofs.Acceptance.{rank-accepted, letters-accepted, length-accepted, windows-accepted}
 use Rattle.coxeter.proofs.Levels.{Accepted, accepted-of-refusal, refusal-of-accepted}
 use Rattle.coxeter.proofs.Lists.{drop-next}
 use Rattle.coxeter.proofs.LetterLaws.{letter-within-cons}
 use Rattle.coxeter.proofs.Theorems.{normalForm-fits}
 use Rattle.coxeter.proofs.Refusals.{then-none, then-some, then-assoc}
-use Rattle.coxeter.proofs.Outcomes.{writes-refused, written-front}
+use Rattle.coxeter.proofs.Outcomes.{writes-refused}
+use Rattle.coxeter.proofs.FrontLaws.{length-take-front, front-parts}
 use Rattle.shortest_words.specs.Allowed.{over, allows, setRefusal}
 use Rattle.shortest_words.specs.Between.{between, reachable}
 use Rattle.shortest_words.specs.BetweenCalls.{unreachable, betweenRefusal, betweenWindows}
@@ -73,9 +74,8 @@ pub all-over : (t u : Bool) → t ≡ u → not t ≡ false → 0 ≡ check 19 (
 all-over t u e f = rw (← e, f)
 
 -- and one that is copied whole is written
-pub copied : (u out after : List ℕ) → after ≡ take (length u) u ++ drop (length u) out → after ≡ written 0 u out
-unfolding written
-copied u out after e = e ∙ ap (λ (x : List ℕ). x ++ drop (length u) out) (take-length u)
+pub copied : (u out after : List ℕ) → after ≡ take (length u) u ++ drop (length u) out → after ≡ front u out
+copied u out after e = e ∙ front-parts u out (length u) (take (length u) u) refl (take-length u)
 
 -- ---- the window between two windows and its normal form
 
@@ -147,11 +147,11 @@ module _ (k n set : ℕ) (v w : List ℤ) (z : setRefusal k n set ≡ 0) where
               let d = writes-refused (writes checks form before) checks checks form before refl refl f in
               length-is-no-refusal m checks (sym q ∙ e .0 ∙ sym (d .0))
 
-      held : (m ≡ length form) × (m ≤ length before) × (after ≡ written 0 form before)
+      held : (m ≡ length form) × (m ≤ length before) × (after ≡ front form before)
       held = told-length checks form before after y passed e m q
 
       stored : (length after ≡ length before) × (take m after ≡ form)
-      stored = written-front m form before after (sym (held .0)) (held .1) (held .2)
+      stored = length-take-front m form before after (sym (held .0)) (held .1) (held .2)
 
       pub form-room : m ≤ length after
       form-room = omega (arith, held .1, stored .0)

@@ -10,7 +10,7 @@ use lib.ListN.{length}
 use Rattle.coxeter.specs.Kinds.{kindOf, lanes}
 use Rattle.coxeter.specs.Windows.{identity}
 use Rattle.coxeter.specs.Checks.{wrongLetter, RankOf, WordOf, WindowOf}
-use Rattle.coxeter.specs.Calls.{written, sameWindow}
+use Rattle.coxeter.specs.Calls.{front, sameWindow}
 use Rattle.coxeter.proofs.Acceptance.{Ranked, rank-accepted, letters-accepted, lanes-le}
 use Rattle.coxeter.proofs.Levels.{Accepted, accepted-of-refusal}
 use Rattle.shortest_words.specs.declared.Fallback.the-variants.{Kept, No, Refused}
@@ -54,7 +54,7 @@ module _ (k n : ℕ) (u : List ℕ) (w : List ℤ) (h : DecideRequires k n u w) 
     decide-short z =
         decided-short (kindOf k) n u w places (rank-accepted k n (h .0) .0) letters accepted x t (g .2) ends z (marked 0 f) m (g .1) (g .0)
 
-    pub decide-kept : (after : List ℕ) → t ≡ true → m ≤ length places → after ≡ written 0 (marked 0 f) places
+    pub decide-kept : (after : List ℕ) → t ≡ true → m ≤ length places → after ≡ front (marked 0 f) places
         → Decided (kindOf k) n u w places (Kept m) after
     decide-kept after z =
         decided-kept (kindOf k) n u w places (rank-accepted k n (h .0) .0) letters accepted x t (g .2) ends z (marked 0 f) m (g .1) (g .0) after

@@ -21,15 +21,15 @@ use borrow.Author.Tests.{eq-eqb, ne-eqb}
 use Rattle.coxeter.specs.Kinds.{Kind, pick}
 use Rattle.coxeter.specs.Windows.{act, identity}
 use Rattle.coxeter.specs.Checks.{wrongLetter, WindowOf}
-use Rattle.coxeter.specs.Calls.{written, sameWindow}
+use Rattle.coxeter.specs.Calls.{front, sameWindow}
 use Rattle.coxeter.proofs.Basics.{by-pick, length-identity}
 use Rattle.coxeter.proofs.Order.{sameWindow-true, sameWindow-of-eq}
 use Rattle.coxeter.proofs.Products.{getD-identity}
 use Rattle.refusals.proofs.Bytes.{element-back, cast-back}
 use Rattle.coxeter.proofs.Lists.{Storing, storing-next, storing-room, stored-of-storing}
-use Rattle.coxeter.proofs.Outcomes.{written-sets}
 use Rattle.coxeter.proofs.LetterLaws.{letter-within}
 use Rattle.coxeter.proofs.Theorems.{act-passes}
+use Rattle.coxeter.proofs.FrontLaws.{sets-front}
 use Rattle.rules.proofs.ScanRules.{wrongLetter-drop}
 use Rattle.shortest_words.specs.Descents.{isDescent}
 use Rattle.shortest_words.proofs.Lifting.{descended}
@@ -154,12 +154,12 @@ module _ (u o out : List ℕ) (at i : ℕ) (h : i < length u) (s : Storing o 0 (
   writing-left g = rw (add-one i, ← marked-left u i h g) s
 
 pub writing-end : (u o out : List ℕ) (at i : ℕ) → length u ≤ i → length (marked 0 u) ≤ length o
-    → Storing o 0 (marked 0 u) out at (marked i (drop i u)) → out ≡ written 0 (marked 0 u) o
+    → Storing o 0 (marked 0 u) out at (marked i (drop i u)) → out ≡ front (marked 0 u) o
 unfolding marked
 writing-end u o out at i h l s =
     let none : drop i u ≡ [] = drop-of-length-le u h in
     let t : Storing o 0 (marked 0 u) out at [] = rw none at s in
-    stored-of-storing t .1 ∙ written-sets (marked 0 u) o l
+    stored-of-storing t .1 ∙ sets-front (marked 0 u) o l
 
 -- ---- the straight window
 module _ (w : List ℤ) (i : ℕ) (h : i < length w) where

@@ -8,9 +8,10 @@ use mathlib.Core.List.{List, [], _∷_, _++_}
 use Prim.Native.Nat.{ℕ, zero, suc, _+_, _-_, _≤_, _<_}
 use native.Mathlib.Numerals.{add-one}
 use native.Mathlib.Omega.{arith}
-use lib.ListN.{length, take, drop, length-append}
-use lib.Seq.{sets, length-sets, take-at}
-use Rattle.coxeter.proofs.Lists.{Stored, sets-append, sets-front}
+use lib.ListN.{length, take, length-append}
+use lib.Seq.{sets, length-sets}
+use Rattle.coxeter.proofs.Lists.{Stored, sets-append}
+use Rattle.coxeter.proofs.FrontLaws.{sets-front, take-front}
 use Rattle.book_format.specs.declared.Edition.{Edition}
 use Rattle.book_format.specs.declared.Opened.{Opened}
 use Rattle.book_format.specs.declared.Opened.the-variants as opened
@@ -68,7 +69,7 @@ pub line-front : (ed : Edition) (b : List ℕ) (i : ℕ) (o v : List ℕ) (m : �
 line-front ed b i o v m h g p =
     let l = length-line-le ed b i h in
     let s : m ≡ length (line ed b i) = omega (arith, p .0) in
-    (s, rw (p .1, sets-front (line ed b i) o m (omega arith) s) (take-at (line ed b i) (drop m o) m (sym s)))
+    (s, rw (p .1, sets-front (line ed b i) o (omega arith)) (take-front (line ed b i) o m (sym s)))
 
 -- ---- what is left of a piece
 
@@ -86,7 +87,7 @@ nextPiece-from ed b i out =
     let text = lines ed b s i in
     let m : length out - 0 ≡ length out = omega arith in
     let e : 0 + length text ≡ length text = omega arith in
-    rw (m, e, sets-front text out (length text) (length-fitting-le ed b (lineCount ed b - i) i (length out)) refl)
+    rw (m, e, sets-front text out (length-fitting-le ed b (lineCount ed b - i) i (length out)))
 
 -- nothing more is written
 abbrev pub stopped : ℕ → ℕ → ℕ → List ℕ → Piecing

@@ -12,10 +12,11 @@ use lib.ListN.{length, getD, take, drop, set, length-append, length-set, length-
 use lib.Seq.{length-take-le, take-suc-set, take-append-le, append-snoc, sets}
 use Rattle.coxeter.specs.Kinds.{Kind, kindOf}
 use Rattle.coxeter.specs.Checks.{wrongLetter}
-use Rattle.coxeter.specs.Calls.{written}
+use Rattle.coxeter.specs.Calls.{front}
 use Rattle.coxeter.proofs.Acceptance.{Ranked, rank-accepted, letters-accepted, length-accepted}
 use Rattle.coxeter.proofs.LetterLaws.{letter-within}
-use Rattle.coxeter.proofs.Lists.{take-rest, drop-next, sets-front}
+use Rattle.coxeter.proofs.Lists.{take-rest, drop-next}
+use Rattle.coxeter.proofs.FrontLaws.{sets-front, front-parts, front-whole}
 use Rattle.rules.specs.Runs.{AcceptedWord}
 use Rattle.rules.proofs.ScanRules.{wrongLetter-drop}
 use Rattle.traces.specs.Traces.{Line, Trace, trace, familiesOf, placesOf, lengthsOf}
@@ -172,9 +173,8 @@ module _ (k : Kind) (n : ℕ) (word families places lengths : List ℕ) (steps :
   copy-room most h = rw (made-final, zero-add) h
 
   pub out-written : (out out′ : List ℕ) → length (trace k n word .final) ≤ length out → out′ ≡ sets out 0 (take size work)
-      → out′ ≡ written 0 (trace k n word .final) out
-  unfolding written
-  out-written out out′ h e = e ∙ rw made-final (sets-front (whole .final) out _ h refl)
+      → out′ ≡ front (trace k n word .final) out
+  out-written out out′ h e = e ∙ rw made-final (sets-front (whole .final) out h)
 
   made-families : families′ ≡ sets families 0 (familiesOf (trace k n word .lines))
   unfolding finishWith
@@ -194,22 +194,18 @@ length-numbers f (l ∷ ls) = ap suc (length-numbers f ls)
 
 -- a list of which the first `steps` places were lent, and filled
 list-written : (list part u : List ℕ) (steps : ℕ) → steps ≤ length list → length u ≡ steps → part ≡ sets (take steps list) 0 u
-    → part ++ drop steps list ≡ written 0 u list
-unfolding written
+    → part ++ drop steps list ≡ front u list
 list-written list part u steps h l e =
     let t : length (take steps list) ≡ steps = length-take-le steps list h in
-    let s : length (take steps list) ≤ steps = omega arith in
-    let d : drop steps (take steps list) ≡ [] = drop-of-length-le (take steps list) s in
-    let f : part ≡ u = e ∙ sets-front u (take steps list) steps (omega arith) (sym l) ∙ rw d (append-nil u) in
-    rw (f, l)
+    front-parts u list steps part l (e ∙ sets-front u (take steps list) (omega arith) ∙ front-whole u (take steps list) (omega arith))
 
 -- the rewriting was made in the fronts of three lists
 module _ (k : Kind) (n : ℕ) (word families places lengths : List ℕ) (steps made : ℕ) (families′ places′ lengths′ work : List ℕ) (size : ℕ)
     (m : Made k n word (take steps families) (take steps places) (take steps lengths) made families′ places′ lengths′ work size) where
   pub lists-written : steps ≡ length (trace k n word .lines) → steps ≤ length families → steps ≤ length places → steps ≤ length lengths
-      → (families′ ++ drop steps families ≡ written 0 (familiesOf (trace k n word .lines)) families)
-      × (places′ ++ drop steps places ≡ written 0 (placesOf (trace k n word .lines)) places)
-      × (lengths′ ++ drop steps lengths ≡ written 0 (lengthsOf (trace k n word .lines)) lengths)
+      → (families′ ++ drop steps families ≡ front (familiesOf (trace k n word .lines)) families)
+      × (places′ ++ drop steps places ≡ front (placesOf (trace k n word .lines)) places)
+      × (lengths′ ++ drop steps lengths ≡ front (lengthsOf (trace k n word .lines)) lengths)
   lists-written e f p l =
       let ls = trace k n word .lines in (
         list-written families families′ (familiesOf ls) steps f (length-numbers _ ls ∙ sym e)

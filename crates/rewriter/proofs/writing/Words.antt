@@ -10,38 +10,39 @@ use native.Mathlib.Omega.{arith}
 use lib.ListN.{length, take, drop, set, length-append, length-take, length-drop}
 use lib.Seq.{take-take, length-take-le, take-append-le, drop-append-le, sets, sets-eq}
 use borrow.Author.Tests.{eq-eqb, ne-eqb}
-use Rattle.coxeter.proofs.Lists.{take-rest, sets-next, sets-front}
+use Rattle.coxeter.proofs.Lists.{take-rest, sets-next}
+use Rattle.coxeter.proofs.FrontLaws.{sets-front, front-parts}
 use Rattle.rules.specs.Rules.{rewritten}
-use Rattle.rules.specs.Calls.{atFront}
 use Rattle.rules.proofs.Scan.{firstLetter, shownRule, rightLength}
 use Rattle.rules.proofs.ScanFamilies.{length-right}
+use Rattle.coxeter.specs.Calls.{front}
 
 -- ---- the two writings
 
 -- what stands before and what stands after, as two copies leave them
 pub written-without : (u d : List ℕ) (p l : ℕ) (o o′ : List ℕ) → p + l ≤ length u → length u - l ≤ length d → o ≡ sets d 0 (take p u)
-    → o′ ≡ sets o p (take (length u - (p + l)) (drop (p + l) u)) → o′ ≡ atFront (take p u ++ drop (p + l) u) d
+    → o′ ≡ sets o p (take (length u - (p + l)) (drop (p + l) u)) → o′ ≡ front (take p u ++ drop (p + l) u) d
 written-without u d p l o o′ h m e g =
     let t : p ≡ 0 + length (take p u) = simp length-take (omega arith) in
     let room : length (take p u ++ drop (p + l) u) ≤ length d = simp (length-append, length-take, length-drop) (omega arith) in
-    rw (g, e, take-rest (p + l) u, sets-next d 0 p (take p u) (drop (p + l) u) t) (sets-front (take p u ++ drop (p + l) u) d _ room refl)
+    rw (g, e, take-rest (p + l) u, sets-next d 0 p (take p u) (drop (p + l) u) t) (sets-front (take p u ++ drop (p + l) u) d room)
 
 -- the whole word, and over it from the place on the new letter and the left side without its last letter
 pub written-moved : (u d : List ℕ) (p l x : ℕ) (o o′ : List ℕ) → 1 ≤ l → p + l ≤ length u → length u ≤ length d → o ≡ sets d 0 u
     → o′ ≡ sets (set o p x) (p + 1) (take (p + l - 1 - p) (drop p u))
-    → o′ ≡ atFront (take p u ++ ((x ∷ take (l - 1) (drop p u)) ++ drop (p + l) u)) d
+    → o′ ≡ front (take p u ++ ((x ∷ take (l - 1) (drop p u)) ++ drop (p + l) u)) d
 written-moved u d p l x o o′ h g m e f =
     let s : List ℕ = take (l - 1) (drop p u) in
     let r : List ℕ = drop (length u) d in
     let i : p + l - 1 - p ≡ l - 1 = omega arith in
     let k : p + length (x ∷ s) ≡ p + l = simp (length-take, length-drop) (omega arith) in
-    let w : o ≡ u ++ r = e ∙ sets-front u d _ m refl in
+    let w : o ≡ u ++ r = e ∙ sets-front u d m ∙ sym (front-parts u d (length u) u refl refl) in
     let room : p + length (x ∷ s) ≤ length o = rw w (simp length-append (omega (arith, k))) in
     let a : o′ ≡ sets o p (x ∷ s) = rw (f, i, add-one) in
     let n : length (take p u ++ ((x ∷ s) ++ drop (p + l) u)) ≡ length u =
     rw (length-append (take p u) ((x ∷ s) ++ drop (p + l) u), length-append (x ∷ s) (drop (p + l) u), length-take-le p u (omega arith), length-drop (p + l) u)
     (omega (arith, k)) in
-    a ∙ sets-eq (x ∷ s) o p room ∙ rw (k, w, take-append-le p u r (omega arith), drop-append-le (p + l) u r g, n) (simp append-assoc)
+    a ∙ sets-eq (x ∷ s) o p room ∙ rw (k, w, take-append-le p u r (omega arith), drop-append-le (p + l) u r g, ← n) (simp append-assoc (front-parts _ d _ _ refl refl))
 
 -- ---- the word that a rule leaves
 

@@ -22,7 +22,7 @@ use Rattle.coxeter.specs.Kinds.{Kind, kindOf, lanes}
 use Rattle.coxeter.specs.Length.{windowLength}
 use Rattle.coxeter.specs.Checks.{windowRefusal, RankOf, WindowOf}
 use Rattle.coxeter.specs.NormalForm.{normalForm}
-use Rattle.coxeter.specs.Calls.{Outcome, Yields, written, writes}
+use Rattle.coxeter.specs.Calls.{Outcome, Yields, front, writes}
 use Rattle.window.proofs.Squares.{greatest-le}
 use Rattle.window.proofs.shown.Fronts.{Front, front-written, front-asks}
 
@@ -51,7 +51,7 @@ module _ (k : Kind) (n : ℕ) (w : List ℤ) (out : List ℕ) (t : Bool) (g : Wi
   pub checked-room : t ≡ false → length (normalForm k n w) ≤ length out
   checked-room y = omega (arith, sums, ltb-false (length out) (windowLength k w) (sym e ∙ y))
 
-  pub checked-written : (r : ℕ) (v : List ℕ) → t ≡ false → r ≡ length (normalForm k n w) → v ≡ written 0 (normalForm k n w) out
+  pub checked-written : (r : ℕ) (v : List ℕ) → t ≡ false → r ≡ length (normalForm k n w) → v ≡ front (normalForm k n w) out
       → Yields (writes 0 (normalForm k n w) out) (Length r) v
   checked-written r v y a b = writes-written _ 0 0 (normalForm k n w) out refl refl r v refl (sym a) (omega (arith, a, checked-room y)) b
 
@@ -62,16 +62,16 @@ window-fits k n w h g = lanes-le k n (length w) h (accepted-of-refusal (kindOf k
 
 -- an accepted window x was written to the work window that became r: what `write_checked` asks of r, and what a call
 -- answers with it where no check refused before
-module _ (k n : ℕ) (h : RankOf k n) (x work r : List ℤ) (g : WindowOf (kindOf k) n x) (l : length work ≡ 64) (e : r ≡ written 0 x work) where
-  front : Front k n x r
-  front = front-written k n h x work r g l e
+module _ (k n : ℕ) (h : RankOf k n) (x work r : List ℤ) (g : WindowOf (kindOf k) n x) (l : length work ≡ 64) (e : r ≡ front x work) where
+  made-front : Front k n x r
+  made-front = front-written k n h x work r g l e
 
   pub made-asks : RankOf k n × ((lanes (kindOf k) n ≤ length r) × WindowOf (kindOf k) n (take (lanes (kindOf k) n) r))
-  made-asks = front-asks k n h x r g front
+  made-asks = front-asks k n h x r g made-front
 
   pub made-written : (o : Outcome ℕ) (q s : ℕ) (out after : List ℕ) (a : Answer) → o ≡ writes q (normalForm (kindOf k) n x) out → s ≡ q → s ≡ 0
       → Yields (writes 0 (normalForm (kindOf k) n (take (lanes (kindOf k) n) r)) out) a after → Yields o a after
-  made-written o q s out after a is p z d = writes-passed o q s (normalForm (kindOf k) n x) out is p a after z (rw (front .1) at d)
+  made-written o q s out after a is p z d = writes-passed o q s (normalForm (kindOf k) n x) out is p a after z (rw (made-front .1) at d)
 
 -- a window that is lent itself
 module _ (k n : ℕ) (w : List ℤ) (g : WindowOf (kindOf k) n w) where

@@ -12,12 +12,12 @@ use lib.Pow.{pow-pos}
 use lib.Seq.{sets}
 use Rattle.coxeter.specs.Kinds.{Kind, A, B, D, kindOf, lanes, least}
 use Rattle.coxeter.specs.Checks.{RankOf, WindowOf}
-use Rattle.coxeter.specs.Calls.{written}
+use Rattle.coxeter.specs.Calls.{front}
 use Rattle.coxeter.specs.NormalForm.{levels, normalForm}
 use Rattle.coxeter.proofs.Acceptance.{Ranked, rank-within, lanes-le}
 use Rattle.coxeter.proofs.Levels.{Accepted, accepted-of-refusal}
-use Rattle.coxeter.proofs.Outcomes.{written-sets}
 use Rattle.coxeter.proofs.PeelingByPlaces.{PlacesOf, Place, lastLevel, peeledWord}
+use Rattle.coxeter.proofs.FrontLaws.{sets-front}
 use Rattle.window.proofs.normal.PeeledForms.{Found, found, place-is, peeled-first}
 
 pub front-passes : (k n m : ℕ) (work : List ℤ) → m ≡ lanes (kindOf k) n → WindowOf (kindOf k) n (take (lanes (kindOf k) n) work)
@@ -55,26 +55,26 @@ module _ (k n m : ℕ) (h : RankOf k n) (e : m ≡ lanes (kindOf k) n) where
 
   module _ (work : List ℤ) (places : List ℕ) (left : ℕ) (g : WindowOf (kindOf k) n (take (lanes (kindOf k) n) work)) (p : PlacesOf (take m work) places)
       (s : left ≡ 2 ^ m - 1) where
-    abbrev front : List ℤ
-    front = take (lanes (kindOf k) n) work
+    abbrev entries : List ℤ
+    entries = take (lanes (kindOf k) n) work
 
-    own : Accepted (kindOf k) n front
-    own = accepted-of-refusal (kindOf k) n front g
+    own : Accepted (kindOf k) n entries
+    own = accepted-of-refusal (kindOf k) n entries g
 
-    stored : PlacesOf front places
+    stored : PlacesOf entries places
     stored = rw e at p
 
     pub first-places : (i : ℕ) → i < m → Place (kindOf k) m (getD places i 0)
     first-places i l =
-        let f : Found (kindOf k) m places (suc i) front = found (kindOf k) n m front places (suc i) e own stored (omega arith) l in
+        let f : Found (kindOf k) m places (suc i) entries = found (kindOf k) n m entries places (suc i) e own stored (omega arith) l in
         let d : suc i - 1 ≡ i = omega arith in
         rw d at (place-is (kindOf k) m places (suc i) (f .left) (f .entry) (f .right) (first-rank .1) (f .there))
 
-    first-word : peeledWord (kindOf k) m places 1 left false ≡ normalForm (kindOf k) n front
+    first-word : peeledWord (kindOf k) m places 1 left false ≡ normalForm (kindOf k) n entries
     unfolding normalForm
     first-word =
         let t : suc (lastLevel (kindOf k) m) - 1 ≡ levels (kindOf k) n = omega (arith, last) in
-        rw (t, s) (peeled-first (kindOf k) n m places (first-rank .1) e front own stored)
+        rw (t, s) (peeled-first (kindOf k) n m places (first-rank .1) e entries own stored)
 
     pub first-room : (l : ℕ) → length (normalForm (kindOf k) n (take (lanes (kindOf k) n) work)) ≤ l
         → length (peeledWord (kindOf k) m places 1 left false) ≤ l
@@ -83,5 +83,5 @@ module _ (k n m : ℕ) (h : RankOf k n) (e : m ≡ lanes (kindOf k) n) where
     pub first-written : (o : List ℕ) {out : List ℕ} {r : ℕ} → length (normalForm (kindOf k) n (take (lanes (kindOf k) n) work)) ≤ length o
         → (r ≡ length (peeledWord (kindOf k) m places 1 left false)) × (out ≡ sets o 0 (peeledWord (kindOf k) m places 1 left false))
         → (r ≡ length (normalForm (kindOf k) n (take (lanes (kindOf k) n) work)))
-        × (out ≡ written 0 (normalForm (kindOf k) n (take (lanes (kindOf k) n) work)) o)
-    first-written o l a = (a .0 ∙ ap length first-word, a .1 ∙ ap (sets o 0) first-word ∙ written-sets (normalForm (kindOf k) n front) o l)
+        × (out ≡ front (normalForm (kindOf k) n (take (lanes (kindOf k) n) work)) o)
+    first-written o l a = (a .0 ∙ ap length first-word, a .1 ∙ ap (sets o 0) first-word ∙ sets-front (normalForm (kindOf k) n entries) o l)

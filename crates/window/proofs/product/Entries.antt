@@ -20,9 +20,8 @@ use Rattle.coxeter.specs.Kinds.{Kind, A, B, D, pick, kindOf}
 use Rattle.coxeter.specs.Windows.{at, product, signed, inverse}
 use Rattle.coxeter.specs.Length.{negative}
 use Rattle.coxeter.specs.Checks.{WindowOf, negativeInA}
-use Rattle.coxeter.specs.Calls.{written, sameEntry, sameWindow}
+use Rattle.coxeter.specs.Calls.{front, sameEntry, sameWindow}
 use Rattle.coxeter.proofs.Lists.{drop-next}
-use Rattle.coxeter.proofs.Outcomes.{written-part, written-sets}
 use Rattle.coxeter.proofs.Products.{length-product}
 use Rattle.coxeter.proofs.Inverses.{length-inverse}
 use Rattle.coxeter.proofs.KindLaws.{kindOf-one}
@@ -33,6 +32,7 @@ use Rattle.window.proofs.length.Sums.{length-le-of-refusal}
 use Rattle.window.proofs.product.Scatter.{scatter, scatter-inverse}
 use Rattle.refusals.proofs.Bytes.{held, byte-back, element-back, negative-is-test, size-of-positive}
 use Rattle.coxeter.proofs.Order.{sameEntry-refl}
+use Rattle.coxeter.proofs.FrontLaws.{sets-front, front-parts}
 
 -- ---- entries by size and sign
 
@@ -137,8 +137,8 @@ pub product-end : (u v out : List ℤ) (i : ℕ) → length v ≤ i → sets out
 unfolding product
 product-end u v out i h = rw (drop-of-length-le v h)
 
-pub product-written : (u v out : List ℤ) → length v ≤ length out → sets out 0 (product u v) ≡ written 0 (product u v) out
-product-written u v out h = written-sets (product u v) out (omega (arith, length-product u v))
+pub product-written : (u v out : List ℤ) → length v ≤ length out → sets out 0 (product u v) ≡ front (product u v) out
+product-written u v out h = sets-front (product u v) out (omega (arith, length-product u v))
 
 -- ---- the inverse
 
@@ -156,9 +156,9 @@ unfolding scatter
 scatter-end w out k i h = rw (drop-of-length-le w h)
 
 pub scatter-written : (k : Kind) (n : ℕ) (w out : List ℤ) → WindowOf k n w → length w ≤ length out
-    → scatter out 1 w ≡ written 0 (inverse w) out
+    → scatter out 1 w ≡ front (inverse w) out
 scatter-written k n w out h l =
-    scatter-inverse w out (accepted-of-refusal k n w h .level) l ∙ written-part (length w) (inverse w) (inverse w) out (length-inverse w) refl
+    scatter-inverse w out (accepted-of-refusal k n w h .level) l ∙ front-parts (inverse w) out (length w) (inverse w) (length-inverse w) refl
 
 -- ---- equality
 

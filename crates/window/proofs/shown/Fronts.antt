@@ -14,11 +14,11 @@ use Rattle.coxeter.proofs.Products.{length-product, windowFrom-product, window-
 use Rattle.coxeter.proofs.Inverses.{inverse-accepted}
 use Rattle.coxeter.proofs.Levels.{accepted-of-refusal, window-accepted, refusal-of-accepted}
 use Rattle.coxeter.proofs.Acceptance.{lanes-le}
-use Rattle.coxeter.proofs.Outcomes.{written-part, written-front, written-again}
+use Rattle.coxeter.proofs.FrontLaws.{length-take-front, front-parts, front-again}
 use Rattle.coxeter.specs.Kinds.{kindOf, lanes, Kind}
 use Rattle.coxeter.specs.Windows.{window, windowFrom, product, inverse}
 use Rattle.coxeter.specs.Checks.{windowRefusal, RankOf, WindowOf}
-use Rattle.coxeter.specs.Calls.{written}
+use Rattle.coxeter.specs.Calls.{front}
 
 -- ---- what words show
 
@@ -42,9 +42,9 @@ module _ (k n : ℕ) (h : RankOf k n) where
   room work l = omega (arith, lanes-le k n (lanes (kindOf k) n) h refl)
 
   -- an accepted window x was written to a work window
-  pub front-written : (x work r : List ℤ) → WindowOf (kindOf k) n x → length work ≡ 64 → r ≡ written 0 x work → Front k n x r
+  pub front-written : (x work r : List ℤ) → WindowOf (kindOf k) n x → length work ≡ 64 → r ≡ front x work → Front k n x r
   front-written x work r a l e =
-      let c = written-front (lanes (kindOf k) n) x work r (accepted-of-refusal (kindOf k) n x a .size) (room work l) e in
+      let c = length-take-front (lanes (kindOf k) n) x work r (accepted-of-refusal (kindOf k) n x a .size) (room work l) e in
       (c .0 ∙ l, c .1)
 
   -- what the functions on a front ask: the front is an accepted window x
@@ -68,19 +68,19 @@ module _ (k n m : ℕ) (h : RankOf k n) (e : m ≡ lanes (kindOf k) n) where
   part-passes x r a f = ap (windowRefusal (kindOf k) n) (part-is x r f) ∙ a
 
   -- the window of u was written to the front of `out`
-  module _ (u : List ℕ) (out r : List ℤ) (l : lanes (kindOf k) n ≤ length out) (q : r ≡ written 0 (window (kindOf k) n u) out) where
+  module _ (u : List ℕ) (out r : List ℤ) (l : lanes (kindOf k) n ≤ length out) (q : r ≡ front (window (kindOf k) n u) out) where
     pub part-window : take m r ≡ window (kindOf k) n u
-    part-window = written-front m (window (kindOf k) n u) out r (length-window (kindOf k) n u ∙ sym e) (omega arith) q .1
+    part-window = length-take-front m (window (kindOf k) n u) out r (length-window (kindOf k) n u ∙ sym e) (omega arith) q .1
 
     -- and then the part replaced by the product with the window of z
     pub part-product : (z : List ℕ) (v : List ℤ) → v ≡ windowFrom (kindOf k) n (take m r) z
-        → v ++ drop m r ≡ written 0 (product (window (kindOf k) n u) (window (kindOf k) n z)) out
+        → v ++ drop m r ≡ front (product (window (kindOf k) n u) (window (kindOf k) n z)) out
     part-product z v w =
         let y = window (kindOf k) n u in
         let x = product y (window (kindOf k) n z) in
         let s : length x ≡ lanes (kindOf k) n = length-product y (window (kindOf k) n z) ∙ length-window (kindOf k) n z in
         let p : v ≡ x = w ∙ ap (λ (d : List ℤ). windowFrom (kindOf k) n d z) part-window ∙ windowFrom-product (kindOf k) n y z (length-window (kindOf k) n u) in
-        written-part m x v r (s ∙ sym e) p ∙ ap (written 0 x) q ∙ written-again x y out (s ∙ sym (length-window (kindOf k) n u))
+        front-parts x r m v (s ∙ sym e) p ∙ ap (front x) q ∙ front-again x y out (s ∙ sym (length-window (kindOf k) n u))
 
   pub part-shows : (u : List ℕ) (r : List ℤ) → Front k n (window (kindOf k) n u) r → take m r ≡ window (kindOf k) n u
   part-shows u r f = part-is (window (kindOf k) n u) r f

@@ -4,11 +4,11 @@ use mathlib.Core.Path.{sym, ap, _∙_}
 use Prim.Native.Nat.{ℕ, _+_}
 use lib.Seq.{length-take-le}
 use borrow.Author.Needs.{needs}
-use Rattle.coxeter.proofs.Outcomes.{written-part}
 use Rattle.distribution.proofs.Tables.{length-distribution}
 use Rattle.distribution.proofs.Outcomes.{table-rank-small}
 use Rattle.delay.proofs.counting.write_counts.Statement.{statement}
 use Rattle.delay.proofs.counting.write_counts.Tie as tie
+use Rattle.coxeter.proofs.FrontLaws.{front-parts}
 
 greatest-length-requires : tie.Need-greatest-length-requires
 greatest-length-requires c κs = table-rank-small _ _ (c .before .pre .0)
@@ -35,7 +35,7 @@ returns : tie.Need-returns
 returns c =
     let called = c .before .before in
     let size = called .before .before .greatest-length .ensures in
-    written-part _ _ _ _ (length-distribution _ _ ∙ ap (λ (x : ℕ). x + 1) (sym size)) (called .count .ensures)
+    front-parts _ _ _ _ (length-distribution _ _ ∙ ap (λ (x : ℕ). x + 1) (sym size)) (called .count .ensures)
 
 pub write-counts-spec : {M : Type 1} → statement M
 write-counts-spec =

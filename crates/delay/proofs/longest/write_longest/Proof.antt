@@ -4,7 +4,7 @@ use mathlib.Core.Path.{sym, _∙_}
 use lib.Seq.{length-take-le}
 use borrow.Author.Needs.{needs}
 use Rattle.coxeter.proofs.Acceptance.{rank-accepted}
-use Rattle.coxeter.proofs.Outcomes.{written-part}
+use Rattle.coxeter.proofs.FrontLaws.{front-parts}
 use Rattle.distribution.proofs.Tables.{length-longest}
 use Rattle.delay.proofs.longest.write_longest.Statement.{statement}
 use Rattle.delay.proofs.longest.write_longest.Tie as tie
@@ -29,7 +29,7 @@ returns : tie.Need-returns
 returns c =
     let called = c .before in
     let rank = rank-accepted _ _ (called .before .before .before .pre .0) in
-    written-part _ _ _ _ (length-longest _ _ (rank .0) ∙ sym (called .before .before .lanes .ensures)) (called .set-longest .ensures)
+    front-parts _ _ _ _ (length-longest _ _ (rank .0) ∙ sym (called .before .before .lanes .ensures)) (called .set-longest .ensures)
 
 pub write-longest-spec : {M : Type 1} → statement M
 write-longest-spec =

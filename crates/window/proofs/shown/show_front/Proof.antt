@@ -4,7 +4,7 @@ use mathlib.Core.Path.{sym, _∙_}
 use lib.Seq.{length-take-le}
 use Rattle.coxeter.proofs.Acceptance.{rank-accepted}
 use Rattle.coxeter.proofs.Basics.{length-window}
-use Rattle.coxeter.proofs.Outcomes.{written-part}
+use Rattle.coxeter.proofs.FrontLaws.{front-parts}
 use borrow.Author.Needs.{needs}
 use Rattle.window.proofs.shown.show_front.Statement.{statement}
 use Rattle.window.proofs.shown.show_front.Tie as tie
@@ -29,7 +29,7 @@ same-length c = search needs
 returns : tie.Need-returns
 returns c =
     let called = c .before in
-    written-part _ _ _ _ (length-window _ _ _ ∙ sym (called .before .before .lanes .ensures)) (called .show .ensures)
+    front-parts _ _ _ _ (length-window _ _ _ ∙ sym (called .before .before .lanes .ensures)) (called .show .ensures)
 
 pub show-front-spec : {M : Type 1} → statement M
 show-front-spec =
