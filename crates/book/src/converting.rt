@@ -60,13 +60,20 @@ fn record_refusal(edition: Edition, book: &[u8], c: usize, number: usize) -> u8
     ensures { λ r. ⌜ r ≡ recordConversionRefusal edition (now (book .entry)) (offset (now (book .entry)) number) ⌝ }
 {
     let o = record_start(book, c, number);
-    let Preset::Refused(refusal) = check_record(edition, book, o) else {
-        if has_too_many_lanes(edition, book, o) {
-            return 18;
+    match check_record(edition, book, o) {
+        Preset::Found {
+            kind: _,
+            rank: _,
+            start: _,
+            length: _,
+        } => {
+            if has_too_many_lanes(edition, book, o) {
+                return 18;
+            }
+            0
         }
-        return 0;
-    };
-    refusal
+        Preset::Refused(refusal) => refusal,
+    }
 }
 
 // CO5: the first refusal of a record, or 0.

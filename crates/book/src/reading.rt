@@ -5,6 +5,7 @@ use crate::numbers::two_at;
 use crate::records::book_rank_refusal;
 use crate::records::count_place;
 use crate::records::has_wrong_lanes;
+use crate::records::head_size;
 use book_format::Edition;
 use book_format::Opened;
 use book_format::Preset;
@@ -29,7 +30,7 @@ fn is_misplaced(edition: Edition, book: &[u8], c: usize) -> bool
 {
     let trailer = book.len() - (2 * c + 2);
     let place = count_place(edition);
-    let head = place + 2;
+    let head = head_size(edition);
     let mut wrong = false;
     let mut due = 0;
     let mut i = 0;
@@ -87,7 +88,7 @@ pub(crate) fn check_record(edition: Edition, book: &[u8], o: usize) -> Preset
     ensures { λ r. ⌜ r ≡ checkedRecord edition (now (book .entry)) o ⌝ }
 {
     let place = count_place(edition);
-    let head = place + 2;
+    let head = head_size(edition);
     let kind = book[o];
     let rank = book[o + 1];
     let refusal = book_rank_refusal(edition, kind, rank);

@@ -8,6 +8,7 @@ ghost use lib.ListN.{length};
 ghost use lib.Seq.{sets};
 ghost use Rattle.coxeter.specs.Kinds as kinds;
 ghost use Rattle.coxeter.specs.Kinds.{kindOf};
+ghost use Rattle.book_format.specs.declared.Edition.the-variants.{First};
 ghost use Rattle.book_format.specs.Books.{countPlace, headSize, greatestInBook, bookRankRefusal, wrongLaneCount, laneByte, retired};
 
 // Where a record has its letter count.
@@ -27,27 +28,18 @@ pub(crate) fn head_size(edition: Edition) -> usize
     count_place(edition) + 2
 }
 
-// B12, B13: the greatest rank of a record.
-fn greatest(edition: Edition, kind: u8) -> u8
-    ensures { λ r. ⌜ r ≡ greatestInBook edition (kindOf kind) ⌝ }
+// B12: the greatest rank of a record of the first edition.
+fn greatest_in_first(kind: u8) -> u8
+    ensures { λ r. ⌜ r ≡ greatestInBook First (kindOf kind) ⌝ }
 {
-    match edition {
-        Edition::First => {
-            if kind == 1 {
-                return 31;
-            }
-            32
-        }
-        Edition::Second => {
-            if kind == 1 {
-                return 63;
-            }
-            64
-        }
+    if kind == 1 {
+        return 31;
     }
+    32
 }
 
-// C5, and C6 by the range of a record: the first refusal, or 0.
+// C5, and C6 by the ranks of B12 and B13: the first refusal, or 0. The second edition takes every rank that the calls
+// take.
 pub(crate) fn book_rank_refusal(edition: Edition, kind: u8, rank: u8) -> u8
     ensures { λ r. ⌜ r ≡ bookRankRefusal edition kind rank ⌝ }
 {
@@ -55,10 +47,15 @@ pub(crate) fn book_rank_refusal(edition: Edition, kind: u8, rank: u8) -> u8
     if refusal != 0 {
         return refusal;
     }
-    if greatest(edition, kind) < rank {
-        return 6;
+    match edition {
+        Edition::First => {
+            if greatest_in_first(kind) < rank {
+                return 6;
+            }
+            0
+        }
+        Edition::Second => 0,
     }
-    0
 }
 
 // C21.

@@ -89,6 +89,14 @@ fn write_appended(edition: Edition, book: &[u8], kind: u8, rank: u8, word: &[u8]
     write_trailer(book, trailer, c, out, trailer + head + word.len());
 }
 
+// B18: the size of a book with the word appended, by the size of the book with its count.
+fn appended_size(edition: Edition, book: &[u8], word: &[u8]) -> usize
+    requires { ⌜ bookSize (now book) ≤ 65535 ⌝ }
+    ensures { λ r. ⌜ r ≡ bookSize (now (book .entry)) + addedSize edition (now (word .entry)) ⌝ }
+{
+    size_of(book) + (head_size(edition) + word.len() + 2)
+}
+
 // C1 to C3 of the book, C5 to C8 and C21 of the preset, C13.
 fn append_refusal(edition: Edition, book: &[u8], kind: u8, rank: u8, word: &[u8]) -> u8
     ensures { λ r. ⌜ r ≡ appendRefusal edition (now (book .entry)) kind rank (now (word .entry)) ⌝ }
@@ -108,8 +116,7 @@ fn append_refusal(edition: Edition, book: &[u8], kind: u8, rank: u8, word: &[u8]
     if is_retired(kind, rank) {
         return 21;
     }
-    let head = head_size(edition);
-    if LARGEST < size_of(book) + (head + word.len() + 2) {
+    if LARGEST < appended_size(edition, book, word) {
         return 13;
     }
     0
@@ -132,8 +139,7 @@ pub fn append(
     if refusal != 0 {
         return Answer::Refused(refusal);
     }
-    let head = head_size(edition);
-    let size = size_of(book) + (head + word.len() + 2);
+    let size = appended_size(edition, book, word);
     if out.len() < size {
         return Answer::Refused(14);
     }

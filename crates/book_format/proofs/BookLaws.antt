@@ -20,7 +20,7 @@ use Rattle.coxeter.proofs.Basics.{or-false-left, or-false-right}
 use Rattle.coxeter.proofs.Refusals.{then-zero, check-zero}
 use Rattle.book_format.specs.declared.Edition.{Edition}
 use Rattle.book_format.specs.declared.Edition.the-variants.{First, Second}
-use Rattle.book_format.specs.Books.{twoAt, count, trailer, offset, endAt, wrongSize, wrongCount, misplacedFrom, misplaced, bookRefusal, countPlace}
+use Rattle.book_format.specs.Books.{twoAt, count, trailer, offset, endAt, wrongSize, wrongCount, misplacedFrom, misplaced, bookRefusal, countPlace, headSize}
 
 -- ---- checks 1 to 3, in the order of the code: c is the count as it was read, t the answer of the walk
 
@@ -82,12 +82,14 @@ pub offset-read : (b : List ℕ) (c i x : ℕ) → c ≡ count b → x ≡ twoAt
 unfolding offset
 offset-read b c i x e q = rw (← trailer-read b c e) (sym q)
 
--- where the record at byte o ends, as the code computes it: p is the place of its letter count, l the letter count
-pub end-read : (ed : Edition) (b : List ℕ) (o p l : ℕ) → p ≡ countPlace ed → l ≡ twoAt b (o + p) → o + (p + 2) + l ≡ endAt ed b o
-end-read ed b o p l w y = rw (y, w)
+-- where the record at byte o ends, as the code computes it: p is the place of its letter count, m the size of its
+-- head, l the letter count
+pub end-read : (ed : Edition) (b : List ℕ) (o p m l : ℕ) → p ≡ countPlace ed → m ≡ headSize ed → l ≡ twoAt b (o + p) → o + m + l ≡ endAt ed b o
+end-read ed b o p m l w v y = rw (y, w, v)
 
-pub end-read-le : (ed : Edition) (b : List ℕ) (o p l : ℕ) → p ≡ countPlace ed → l ≡ twoAt b (o + p) → endAt ed b o ≤ length b → o + (p + 2) + l ≤ length b
-end-read-le ed b o p l w y h = rw (end-read ed b o p l w y) h
+pub end-read-le : (ed : Edition) (b : List ℕ) (o p m l : ℕ) → p ≡ countPlace ed → m ≡ headSize ed → l ≡ twoAt b (o + p) → endAt ed b o ≤ length b
+    → o + m + l ≤ length b
+end-read-le ed b o p m l w v y h = rw (end-read ed b o p m l w v y) h
 
 -- where the next record would have to begin inside the trailer, it is misplaced or the end is
 misplaced-past : (ed : Edition) (b : List ℕ) (j i o : ℕ) → trailer b < o → misplacedFrom ed b j i o ≡ true
@@ -115,9 +117,9 @@ misplaced-next ed b j i o = elim (ℕ-discrete (offset b i) o) [ yes s ↦ right
     right s = rw (s, eq-eqb o o refl) (past-or-misplaced ed b j (suc i) (endAt ed b o))
 
 -- record i, which has to begin at byte o, as the code meets it: x is its offset, p the place of the letter count in a
--- record
-module _ (ed : Edition) (b : List ℕ) (c i o x : ℕ) (e : c ≡ count b) (h : i < c) (q : x ≡ twoAt b (length b - (2 * c + 2) + 2 * i)) (p : ℕ)
-    (w : p ≡ countPlace ed) where
+-- record, m the size of a record's head
+module _ (ed : Edition) (b : List ℕ) (c i o x : ℕ) (e : c ≡ count b) (h : i < c) (q : x ≡ twoAt b (length b - (2 * c + 2) + 2 * i)) (p m : ℕ)
+    (w : p ≡ countPlace ed) (v : m ≡ headSize ed) where
   misplaced-at : misplacedFrom ed b (c - i) i o ≡ (not (eqb x o) || misplacedFrom ed b (c - (i + 1)) (i + 1) (endAt ed b x))
   misplaced-at =
       let next : c - i ≡ suc (c - (i + 1)) = omega arith in
@@ -126,16 +128,16 @@ module _ (ed : Edition) (b : List ℕ) (c i o x : ℕ) (e : c ≡ count b) (h : 
   -- t says whether an offset before it was wrong
   module _ (t : Bool) where
     -- its offset leaves no room for the bytes before its letters
-    pub misplaced-room : length b - (2 * c + 2) < x + (p + 2) → (t || misplacedFrom ed b (c - i) i o) ≡ true
+    pub misplaced-room : length b - (2 * c + 2) < x + m → (t || misplacedFrom ed b (c - i) i o) ≡ true
     misplaced-room l =
         let z = trailer-read b c e in
         rw (misplaced-at, misplaced-past ed b (c - (i + 1)) (i + 1) (endAt ed b x) (omega arith), or-true (not (eqb x o))) (or-true t)
 
     -- its letter count is l
     pub misplaced-step : (l : ℕ) → l ≡ twoAt b (x + p)
-        → (t || misplacedFrom ed b (c - i) i o) ≡ ((t || not (eqb x o)) || misplacedFrom ed b (c - (i + 1)) (i + 1) (x + (p + 2) + l))
+        → (t || misplacedFrom ed b (c - i) i o) ≡ ((t || not (eqb x o)) || misplacedFrom ed b (c - (i + 1)) (i + 1) (x + m + l))
     misplaced-step l y =
-        rw (misplaced-at, end-read ed b x p l w y)
+        rw (misplaced-at, end-read ed b x p m l w v y)
         (sym (or-assoc t (not (eqb x o)) (misplacedFrom ed b (c - (i + 1)) (i + 1) (endAt ed b x))))
 
 pub misplaced-start : (ed : Edition) (b : List ℕ) (c : ℕ) → c ≡ count b → misplaced ed b ≡ misplacedFrom ed b (c - 0) 0 0

@@ -58,8 +58,8 @@ presetAt-found ed b o r z = rw (eq-eqb r 0 z)
 -- ---- records
 
 -- the record at byte o: r is the refusal of its kind and rank, t whether its lane count is wrong, l its letter
--- count, which has the place p in a record, s the refusal of its preset by the calls' checks, of which kind and
--- rank have passed theirs
+-- count, which has the place p in a record, m the size of its head, s the refusal of its preset by the calls' checks,
+-- of which kind and rank have passed theirs
 module _ (ed : Edition) (b : List ℕ) (o r : ℕ) (e : r ≡ bookRankRefusal ed (kindAt b o) (rankAt b o)) where
   pub checkedRecord-rank : (r ≡ 0 → ⊥) → checkedRecord ed b o ≡ preset.Refused r
   unfolding checkedRecord recordRefusal
@@ -71,23 +71,22 @@ module _ (ed : Edition) (b : List ℕ) (o r : ℕ) (e : r ≡ bookRankRefusal ed
     unfolding checkedRecord recordRefusal
     checkedRecord-lanes y = rw (← e, eq-eqb r 0 z, ← w, y) (presetAt-refused ed b o 17 (omega arith))
 
-    module _ (y : t ≡ false) (p l s : ℕ) (g : p ≡ countPlace ed) (c : l ≡ twoAt b (o + p))
-        (q : s ≡ (rankRefusal (kindAt b o) (rankAt b o)
-        then wordRefusal (rankAt b o) (take (o + (p + 2) + l - (o + (p + 2))) (drop (o + (p + 2)) b)))) where
+    module _ (y : t ≡ false) (p m l s : ℕ) (g : p ≡ countPlace ed) (v : m ≡ headSize ed) (c : l ≡ twoAt b (o + p))
+        (q : s ≡ (rankRefusal (kindAt b o) (rankAt b o) then wordRefusal (rankAt b o) (take (o + m + l - (o + m)) (drop (o + m) b)))) where
       recordRefusal-word : recordRefusal ed b o ≡ s
       unfolding recordRefusal
       recordRefusal-word =
-          let d : o + (p + 2) + l - (o + (p + 2)) ≡ l = omega arith in
+          let d : o + m + l - (o + m) ≡ l = omega arith in
           let passed = q ∙ then-none (rankRefusal (kindAt b o) (rankAt b o)) _ (bookRank-accepted ed (kindAt b o) (rankAt b o) (sym e ∙ z)) in
-          rw (← e, eq-eqb r 0 z, ← w, y, ← g, ← c) (sym (rw d at passed))
+          rw (← e, eq-eqb r 0 z, ← w, y, ← v, ← g, ← c) (sym (rw d at passed))
 
       pub checkedRecord-word : (s ≡ 0 → ⊥) → checkedRecord ed b o ≡ preset.Refused s
       unfolding checkedRecord
       checkedRecord-word f = rw recordRefusal-word (presetAt-refused ed b o s f)
 
-      pub checkedRecord-found : s ≡ 0 → checkedRecord ed b o ≡ preset.Found (kindAt b o) (rankAt b o) (o + (p + 2)) l
+      pub checkedRecord-found : s ≡ 0 → checkedRecord ed b o ≡ preset.Found (kindAt b o) (rankAt b o) (o + m) l
       unfolding checkedRecord
-      checkedRecord-found x = rw (recordRefusal-word, c, g) (presetAt-found ed b o s x)
+      checkedRecord-found x = rw (recordRefusal-word, c, g, v) (presetAt-found ed b o s x)
 
 -- what its checks answered says its refusal
 pub record-found : (ed : Edition) (b : List ℕ) (o k n s l : ℕ) → preset.Found k n s l ≡ checkedRecord ed b o → recordRefusal ed b o ≡ 0

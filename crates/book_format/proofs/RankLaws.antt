@@ -59,6 +59,10 @@ module _ (ed : Edition) (k n r : ℕ) (e : r ≡ rankRefusal k n) where
     unfolding bookRankRefusal wrongRankInBook
     bookRankRefusal-none h = rw (rightKind, le-ltb (greatestInBook ed (kindOf k)) n h, le-ltb n (least (kindOf k)) (rank-within k n (sym e ∙ z) .0))
 
+-- the second edition has the ranges of the calls
+pub bookRankRefusal-second : (k n r : ℕ) → r ≡ rankRefusal k n → r ≡ 0 → bookRankRefusal Second k n ≡ 0
+bookRankRefusal-second k n r e z = bookRankRefusal-none Second k n r e z (rank-within k n (sym e ∙ z) .1)
+
 -- a kind and a rank that a record may have, every call takes
 pub bookRank-accepted : (ed : Edition) (k n : ℕ) → bookRankRefusal ed k n ≡ 0 → RankOf k n
 bookRank-accepted ed k n h =

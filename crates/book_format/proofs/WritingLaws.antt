@@ -52,10 +52,6 @@ length-appended ed b k n u a =
       length-take-le (2 * count b) (drop (trailer b) b) (rw length-drop (omega arith)),
     ) (omega arith)
 
--- its length, as the code computes it: s is the size of the old book with its count, m that of a record's head
-pub size-read : (ed : Edition) (b u : List ℕ) (s m : ℕ) → s ≡ bookSize b → m ≡ headSize ed → s + (m + length u + 2) ≡ bookSize b + addedSize ed u
-size-read ed b u s m q e = rw (q, e)
-
 -- ---- appending
 
 -- r is the refusal of the book, s that of the kind and the rank, t that of the preset by the calls' checks

@@ -167,7 +167,7 @@ module _ (ed : Edition) (b : List ℕ) (w : Convertible ed b) (c : ℕ) (n : c �
       letters-are = let s : o + m + l - (o + m) ≡ l = omega arith in rw (s, d, g, f, q)
 
       pub end-inside : o + m + l ≤ length b
-      end-inside = omega (arith, end-read-le ed b o p l f g (inside ed b c i o (w .opens) n h q))
+      end-inside = end-read-le ed b o p m l f d g (inside ed b c i o (w .opens) n h q)
 
       pub room-for : (to : Edition) (at most : ℕ) → to ≡ other ed → at + headSize (other ed) + letterCountAt ed b (offset b i) ≤ most
           → at + headSize to + length (take (o + m + l - (o + m)) (drop (o + m) b)) ≤ most

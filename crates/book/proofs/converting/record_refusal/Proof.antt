@@ -18,12 +18,6 @@ check-record-requires c κs =
     let pre = c .before .before .pre in
     (omega (arith, accepted _ _ (pre .0)), inside _ _ _ _ _ (pre .0) (pre .1) (pre .2) (c .record-start .ensures .0))
 
-enum-known-refusal : tie.Need-enum-known-refusal
-enum-known-refusal c = search needs
-
-enum-told : tie.Need-enum-told
-enum-told c = search needs
-
 has-too-many-lanes-requires : tie.Need-has-too-many-lanes-requires
 has-too-many-lanes-requires c κs =
     let found = c .before .before .before in
@@ -57,9 +51,9 @@ record-refusal-spec =
     (tie.spec
     record-start-requires
     check-record-requires
-    enum-known-refusal
-    enum-told
+    (λ c. search needs)
     has-too-many-lanes-requires
     returns
+    (λ c. search needs)
     returns-2
     returns-3)

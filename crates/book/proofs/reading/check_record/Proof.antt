@@ -10,8 +10,8 @@ use Rattle.book.proofs.reading.check_record.Tie as tie
 count-place-requires : tie.Need-count-place-requires
 count-place-requires c κs = search needs
 
-add-head : tie.Need-add-head
-add-head c = search needs
+head-size-requires : tie.Need-head-size-requires
+head-size-requires c κs = search needs
 
 shared-slice-read-kind : tie.Need-shared-slice-read-kind
 shared-slice-read-kind c = search needs
@@ -57,9 +57,10 @@ part-preset-refusal-start c = search needs
 
 part-preset-refusal-end : tie.Need-part-preset-refusal-end
 part-preset-refusal-end c =
-    let placed = c .before .before .before .before .before .before .before in
+    let headed = c .before .before .before .before .before .before .before in
+    let placed = headed .before in
     let start = placed .before .before in
-    end-read-le (start .args .edition) _ _ _ _ (placed .count-place .ensures .0) (c .two-at .ensures .0) (start .pre .1)
+    end-read-le (start .args .edition) _ _ _ _ _ (placed .count-place .ensures .0) (headed .head-size .ensures .0) (c .two-at .ensures .0) (start .pre .1)
 
 preset-refusal-requires : tie.Need-preset-refusal-requires
 preset-refusal-requires c κs = search needs
@@ -69,27 +70,27 @@ returns-3 c =
     let read = c .before .before .before in
     let laned = read .before in
     let ranked = laned .before .before in
-    let placed = ranked .before .before .before .before in
+    let headed = ranked .before .before .before .before in
     sym
     (checkedRecord-word _ _ _ _ (ranked .before .book-rank-refusal .ensures) (ranked .if1 .left) _ (laned .before .has-wrong-lanes .ensures) (laned .if2 .left)
-    _ _ _ (placed .count-place .ensures .0) (read .two-at .ensures .0) (c .before .preset-refusal .ensures) (c .if3 .taken))
+    _ _ _ _ (headed .before .count-place .ensures .0) (headed .head-size .ensures .0) (read .two-at .ensures .0) (c .before .preset-refusal .ensures) (c .if3 .taken))
 
 returns-4 : tie.Need-returns-4
 returns-4 c =
     let read = c .before .before .before in
     let laned = read .before in
     let ranked = laned .before .before in
-    let placed = ranked .before .before .before .before in
+    let headed = ranked .before .before .before .before in
     sym
     (checkedRecord-found _ _ _ _ (ranked .before .book-rank-refusal .ensures) (ranked .if1 .left) _ (laned .before .has-wrong-lanes .ensures) (laned .if2 .left)
-    _ _ _ (placed .count-place .ensures .0) (read .two-at .ensures .0) (c .before .preset-refusal .ensures) (c .if3 .left))
+    _ _ _ _ (headed .before .count-place .ensures .0) (headed .head-size .ensures .0) (read .two-at .ensures .0) (c .before .preset-refusal .ensures) (c .if3 .left))
 
 pub check-record-spec : {M : Type 1} → statement M
 check-record-spec =
     tie.close
     (tie.spec
     count-place-requires
-    add-head
+    head-size-requires
     shared-slice-read-kind
     add-rank
     shared-slice-read-rank

@@ -31,11 +31,11 @@ sub-trailer c = omega arith
 count-place-requires : tie.Need-count-place-requires Inv-loop μ-loop
 count-place-requires c κs = search needs
 
-add-head : tie.Need-add-head Inv-loop μ-loop
-add-head c = omega arith
+head-size-requires : tie.Need-head-size-requires Inv-loop μ-loop
+head-size-requires c κs = search needs
 
 loop-holds : tie.Need-loop-holds Inv-loop μ-loop
-loop-holds c = (omega arith, λ ed w. misplaced-start ed _ _ (c .before .before .pre .1 .1))
+loop-holds c = (omega arith, λ ed w. misplaced-start ed _ _ (c .before .before .before .pre .1 .1))
 
 mul-two-at : tie.Need-mul-two-at Inv-loop μ-loop
 mul-two-at c = omega arith
@@ -53,11 +53,14 @@ returns : tie.Need-returns Inv-loop μ-loop
 returns c =
     let read = c .before in
     let l = read .before .before in
-    let e = l .before .before .before .pre .1 .1 in
-    let w = l .before .count-place .ensures .0 in
+    let headed = l .before in
+    let placed = headed .before in
+    let e = placed .before .before .pre .1 .1 in
+    let w = placed .count-place .ensures .0 in
     sym
     (l .loop .inv .1 _ w
-    ∙ misplaced-room _ _ _ _ _ _ e (read .before .loop-test .taken) (read .two-at .ensures .0) _ w (l .loop .wrong) (c .if1 .taken))
+    ∙ misplaced-room _ _ _ _ _ _ e (read .before .loop-test .taken) (read .two-at .ensures .0) _ _ w (headed .head-size .ensures .0)
+    (l .loop .wrong) (c .if1 .taken))
 
 add-due : tie.Need-add-due Inv-loop μ-loop
 add-due c = omega arith
@@ -81,17 +84,21 @@ loop-again : tie.Need-loop-again Inv-loop μ-loop
 loop-again c =
     let read = c .before .before in
     let l = read .before .before in
-    let e = l .before .before .before .pre .1 .1 in (
+    let headed = l .before in
+    let placed = headed .before in
+    let e = placed .before .before .pre .1 .1 in (
       omega arith,
       λ ed w. l .loop .inv .1 ed w
-          ∙ misplaced-step ed _ _ _ _ _ e (read .before .loop-test .taken) (read .two-at .ensures .0) _ w (l .loop .wrong) _ (c .two-at2 .ensures .0),
+          ∙ misplaced-step ed _ _ _ _ _ e (read .before .loop-test .taken) (read .two-at .ensures .0) _ _ w
+          (headed .head-size .ensures .0 ∙ rw (← placed .count-place .ensures .0, w)) (l .loop .wrong) _ (c .two-at2 .ensures .0),
     )
 
 returns-2 : tie.Need-returns-2 Inv-loop μ-loop
 returns-2 c =
     let l = c .before in
-    let w = l .before .count-place .ensures .0 in
-    sym (l .loop .inv .1 _ w ∙ ap (λ t. l .loop .wrong || t) (misplaced-last _ _ _ _ _ (l .before .before .before .pre .1 .1) (c .loop-test .left)))
+    let placed = l .before .before in
+    let w = placed .count-place .ensures .0 in
+    sym (l .loop .inv .1 _ w ∙ ap (λ t. l .loop .wrong || t) (misplaced-last _ _ _ _ _ (placed .before .before .pre .1 .1) (c .loop-test .left)))
 
 pub is-misplaced-spec : {M : Type 1} → statement M
 is-misplaced-spec =
@@ -103,7 +110,7 @@ is-misplaced-spec =
     add-trailer
     sub-trailer
     count-place-requires
-    add-head
+    head-size-requires
     loop-holds
     mul-two-at
     add-two-at

@@ -46,47 +46,34 @@ returns-4 c =
     (appendRefusal-retired _ _ _ _ _ _ (opened .before .book-refusal .ensures) _ (opened .if1 .left) (ranked .before .book-rank-refusal .ensures)
     _ (ranked .if2 .left) (worded .before .preset-refusal .ensures) (worded .if3 .left) _ (c .before .is-retired .ensures) (c .if4 .taken))
 
-head-size-requires : tie.Need-head-size-requires
-head-size-requires c κs = search needs
-
-size-of-requires : tie.Need-size-of-requires
-size-of-requires c κs = search needs
-
-add-if5 : tie.Need-add-if5
-add-if5 c = search needs
-
-add-if5-2 : tie.Need-add-if5-2
-add-if5-2 c = search needs
-
-add-if5-3 : tie.Need-add-if5-3
-add-if5-3 c =
-    let kept = c .before .before in
-    let opened = kept .before .before .before .before .before .before in
-    omega (arith, accepted-read _ _ _ (opened .before .book-refusal .ensures) (opened .if1 .left) .most, c .size-of .ensures)
+appended-size-requires : tie.Need-appended-size-requires
+appended-size-requires c κs =
+    let opened = c .before .before .before .before .before .before in
+    accepted-read _ _ _ (opened .before .book-refusal .ensures) (opened .if1 .left) .most
 
 returns-5 : tie.Need-returns-5
 returns-5 c =
     let sized = c .before in
-    let kept = sized .before .before in
+    let kept = sized .before in
     let worded = kept .before .before in
     let ranked = worded .before .before in
     let opened = ranked .before .before in
     sym
     (appendRefusal-large _ _ _ _ _ _ (opened .before .book-refusal .ensures) _ (opened .if1 .left) (ranked .before .book-rank-refusal .ensures)
     _ (ranked .if2 .left) (worded .before .preset-refusal .ensures) (worded .if3 .left) _ (kept .before .is-retired .ensures) (kept .if4 .left)
-    (omega (arith, c .if5 .taken, sized .before .head-size .ensures .0, sized .size-of .ensures)))
+    (omega (arith, c .if5 .taken, sized .appended-size .ensures)))
 
 returns-6 : tie.Need-returns-6
 returns-6 c =
     let sized = c .before in
-    let kept = sized .before .before in
+    let kept = sized .before in
     let worded = kept .before .before in
     let ranked = worded .before .before in
     let opened = ranked .before .before in
     sym
     (appendRefusal-none _ _ _ _ _ _ (opened .before .book-refusal .ensures) _ (opened .if1 .left) (ranked .before .book-rank-refusal .ensures)
     _ (ranked .if2 .left) (worded .before .preset-refusal .ensures) (worded .if3 .left) _ (kept .before .is-retired .ensures) (kept .if4 .left)
-    (omega (arith, c .if5 .left, sized .before .head-size .ensures .0, sized .size-of .ensures)))
+    (omega (arith, c .if5 .left, sized .appended-size .ensures)))
 
 pub append-refusal-spec : {M : Type 1} → statement M
 append-refusal-spec =
@@ -100,10 +87,6 @@ append-refusal-spec =
     returns-3
     is-retired-requires
     returns-4
-    head-size-requires
-    size-of-requires
-    add-if5
-    add-if5-2
-    add-if5-3
+    appended-size-requires
     returns-5
     returns-6)
