@@ -5,6 +5,7 @@ use crate::lengths::fewest_of;
 use crate::lengths::greatest_length;
 use crate::lengths::lanes;
 use crate::lengths::top_of;
+use distribution::Combination;
 ghost use mathlib.Core.Path.{_≡_};
 ghost use Prim.Native.Nat.{_+_, _^_, _≤_, _<_};
 ghost use lib.ListN.{length};
@@ -17,11 +18,6 @@ ghost use Rattle.distribution.proofs.Sums.{below};
 ghost use Rattle.distribution.proofs.Factors.{combined, withShifted, sumTo, running, factor};
 ghost use Rattle.distribution.proofs.Products.{fewest, product};
 ghost use Rattle.distribution.proofs.Values.{values, valueAt, Fit, CombinedFits, WithShiftedFit};
-
-// Whether a number is taken off another or added to it.
-const LESS: bool = true;
-
-const PLUS: bool = false;
 
 // 1, 0, 0, ..: before the first level.
 fn set_one(kind: u8, counts: &mut [u64])
@@ -51,26 +47,26 @@ fn sum_up(counts: &mut [u64])
 }
 
 // A number less another, or both together.
-fn combine(own: u64, back: u64, less: bool) -> u64
-    requires { ⌜ CombinedFits less own back ⌝ }
-    ensures { λ r. ⌜ r ≡ combined less own back ⌝ }
+fn combine(own: u64, back: u64, how: Combination) -> u64
+    requires { ⌜ CombinedFits how own back ⌝ }
+    ensures { λ r. ⌜ r ≡ combined how own back ⌝ }
 {
-    if less {
-        return own - back;
+    match how {
+        Combination::Difference => own - back,
+        Combination::Sum => own + back,
     }
-    own + back
 }
 
 // Each number less the one b places before it, or both together, from the last to the first.
-fn combine_shifted(counts: &mut [u64], b: usize, less: bool)
+fn combine_shifted(counts: &mut [u64], b: usize, how: Combination)
     requires { ⌜ 1 ≤ b ⌝ }
-    requires { ⌜ WithShiftedFit less b (valueAt (now counts)) (length (now counts)) ⌝ }
-    ensures { λ _. ⌜ now (counts .exit) ≡ values (withShifted less b (valueAt (now (counts .entry)))) (length (now (counts .entry))) ⌝ }
+    requires { ⌜ WithShiftedFit how b (valueAt (now counts)) (length (now counts)) ⌝ }
+    ensures { λ _. ⌜ now (counts .exit) ≡ values (withShifted how b (valueAt (now (counts .entry)))) (length (now (counts .entry))) ⌝ }
 {
     let mut l = counts.len();
     while b < l {
         l -= 1;
-        counts[l] = combine(counts[l], counts[l - b], less);
+        counts[l] = combine(counts[l], counts[l - b], how);
     }
 }
 
@@ -81,7 +77,7 @@ fn run(counts: &mut [u64], c: usize)
     ensures { λ _. ⌜ now (counts .exit) ≡ values (running c (valueAt (now (counts .entry)))) (length (now (counts .entry))) ⌝ }
 {
     sum_up(counts);
-    combine_shifted(counts, c + 1, LESS);
+    combine_shifted(counts, c + 1, Combination::Difference);
 }
 
 // The factor of a level with c greater sizes.
@@ -99,7 +95,7 @@ fn multiply(kind: u8, c: usize, counts: &mut [u64])
     if kind == 1 {
         return;
     }
-    combine_shifted(counts, c, PLUS);
+    combine_shifted(counts, c, Combination::Sum);
 }
 
 // The numbers of windows of each length, one level after another from the last; those of fewer levels end earlier.

@@ -19,6 +19,8 @@ use Rattle.coxeter.specs.Length.{one}
 use Rattle.coxeter.proofs.Basics.{pick-same, up-append}
 use Rattle.coxeter.proofs.Lengths.{blockLength}
 use Rattle.coxeter.proofs.FormLaws.{blockLengths}
+use Rattle.distribution.specs.declared.Combination.{Combination}
+use Rattle.distribution.specs.declared.Combination.the-variants.{Difference, Sum}
 use Rattle.distribution.specs.AllWindows.{keep, consAll}
 use Rattle.distribution.specs.Distribution.{sum}
 use Rattle.distribution.proofs.IndexLists.{levelIndices, indexLists, countIndices}
@@ -30,14 +32,14 @@ use Rattle.distribution.proofs.Sums.{below, sum-append, up-snoc, timesO
 unfoldable pub shifted : ℕ → (ℕ → ℕ) → ℕ → ℕ
 shifted b f l = pick (ltb l b) 0 (f (l - b))
 
--- y taken off x, or added to it
-abbrev pub combined : Bool → ℕ → ℕ → ℕ
-combined true x y = x - y
-combined false x y = x + y
+-- x less y, or both together
+abbrev pub combined : Combination → ℕ → ℕ → ℕ
+combined Difference x y = x - y
+combined Sum x y = x + y
 
--- f with itself shifted by b places taken off, or added
-abbrev pub withShifted : Bool → ℕ → (ℕ → ℕ) → ℕ → ℕ
-withShifted less b f l = combined less (f l) (shifted b f l)
+-- f less itself shifted by b places, or both together
+abbrev pub withShifted : Combination → ℕ → (ℕ → ℕ) → ℕ → ℕ
+withShifted how b f l = combined how (f l) (shifted b f l)
 
 -- f shifted by each of bs, added
 unfoldable pub spread : List ℕ → (ℕ → ℕ) → ℕ → ℕ

@@ -2,7 +2,6 @@
 -- Sections: values; parts.
 -- Assumes nothing.
 use mathlib.Core.Path.{_≡_, sym, ap, _∙_}
-use mathlib.Core.Bool.{Bool, true, false}
 use mathlib.Core.List.{List, _++_, map}
 use Prim.Native.Nat.{ℕ, _+_, _-_, _^_, _≤_, _<_}
 use native.Mathlib.Omega.{arith}
@@ -12,6 +11,8 @@ use lib.ListN.{length, getD, take, drop, length-map, length-append, length-drop,
 use lib.Seq.{ext-getD, length-take-le, getD-take, getD-drop, getD-append-add}
 use Rattle.coxeter.specs.Kinds.{up}
 use Rattle.coxeter.proofs.Basics.{length-up}
+use Rattle.distribution.specs.declared.Combination.{Combination}
+use Rattle.distribution.specs.declared.Combination.the-variants.{Difference, Sum}
 use Rattle.distribution.proofs.Factors.{shifted}
 use Rattle.distribution.proofs.Tables.{getD-map-up}
 
@@ -29,14 +30,14 @@ valueAt l i = getD l i 0
 abbrev pub Fit : (ℕ → ℕ) → ℕ → Type 0
 Fit f m = (l : ℕ) → l < m → f l < 2 ^ 64
 
--- y taken off x is not below 0, or added to it fits 64 bits
-abbrev pub CombinedFits : Bool → ℕ → ℕ → Type 0
-CombinedFits true x y = y ≤ x
-CombinedFits false x y = x + y < 2 ^ 64
+-- x less y is not below 0, or both together fit 64 bits
+abbrev pub CombinedFits : Combination → ℕ → ℕ → Type 0
+CombinedFits Difference x y = y ≤ x
+CombinedFits Sum x y = x + y < 2 ^ 64
 
 -- the same of each of the first m values and the one b places before it
-abbrev pub WithShiftedFit : Bool → ℕ → (ℕ → ℕ) → ℕ → Type 0
-WithShiftedFit less b f m = (l : ℕ) → l < m → CombinedFits less (f l) (shifted b f l)
+abbrev pub WithShiftedFit : Combination → ℕ → (ℕ → ℕ) → ℕ → Type 0
+WithShiftedFit how b f m = (l : ℕ) → l < m → CombinedFits how (f l) (shifted b f l)
 
 pub length-values : (f : ℕ → ℕ) (m : ℕ) → length (values f m) ≡ m
 unfolding values

@@ -2,18 +2,19 @@
 -- Sections: values with themselves shifted; running sums.
 -- Assumes nothing.
 use mathlib.Core.Path.{_≡_, sym, ap, ap₂, _∙_}
-use mathlib.Core.Bool.{Bool, true}
 use mathlib.Core.List.{List}
 use Prim.Native.Nat.{ℕ, _+_, _<_}
 use native.Mathlib.Omega.{arith}
 use native.Mathlib.Numerals.{add-one}
 use lib.ListN.{length}
+use Rattle.distribution.specs.declared.Combination.{Combination}
+use Rattle.distribution.specs.declared.Combination.the-variants.{Difference}
 use Rattle.distribution.proofs.Factors.{shifted, shifted-same, combined, withShifted, sumTo, running, sumTo-running}
 use Rattle.distribution.proofs.Values.{values, valueAt, WithShiftedFit, length-values, valueAt-values, values-same}
 
 -- ---- values with themselves shifted
 
-module _ (less : Bool) (b : ℕ) (f : ℕ → ℕ) (m : ℕ) (w : List ℕ) (e : w ≡ values f m) where
+module _ (how : Combination) (b : ℕ) (f : ℕ → ℕ) (m : ℕ) (w : List ℕ) (e : w ≡ values f m) where
   size : length w ≡ m
   size = ap length e ∙ length-values f m
 
@@ -23,14 +24,14 @@ module _ (less : Bool) (b : ℕ) (f : ℕ → ℕ) (m : ℕ) (w : List ℕ) (e :
   back : (l : ℕ) → l < m → shifted b (valueAt w) l ≡ shifted b f l
   back l o = shifted-same b (valueAt w) f l (λ i h. own i (omega arith))
 
-  pub with-fit : WithShiftedFit less b f m → WithShiftedFit less b (valueAt w) (length w)
+  pub with-fit : WithShiftedFit how b f m → WithShiftedFit how b (valueAt w) (length w)
   with-fit h l o = let p : l < m = omega (arith, size) in rw (own l p, back l p) (h l p)
 
-  pub with-values : (v : List ℕ) → v ≡ values (withShifted less b (valueAt w)) (length w) → v ≡ values (withShifted less b f) m
+  pub with-values : (v : List ℕ) → v ≡ values (withShifted how b (valueAt w)) (length w) → v ≡ values (withShifted how b f) m
   with-values v h =
       h
-      ∙ ap (values (withShifted less b (valueAt w))) size
-      ∙ values-same (withShifted less b (valueAt w)) (withShifted less b f) m (λ l o. ap₂ (combined less) (own l o) (back l o))
+      ∙ ap (values (withShifted how b (valueAt w))) size
+      ∙ values-same (withShifted how b (valueAt w)) (withShifted how b f) m (λ l o. ap₂ (combined how) (own l o) (back l o))
 
 -- ---- running sums
 
@@ -39,8 +40,8 @@ module _ (c : ℕ) (f : ℕ → ℕ) (m : ℕ) where
   difference l = sumTo-running c f l ∙ ap (λ (b : ℕ). running c f l + shifted b (sumTo f) l) (sym (add-one c))
 
   -- no difference is below 0
-  pub sums-rise : WithShiftedFit true (c + 1) (sumTo f) m
+  pub sums-rise : WithShiftedFit Difference (c + 1) (sumTo f) m
   sums-rise l o = omega (arith, difference l)
 
-  pub running-sums : values (withShifted true (c + 1) (sumTo f)) m ≡ values (running c f) m
-  running-sums = values-same (withShifted true (c + 1) (sumTo f)) (running c f) m (λ l o. omega (arith, difference l))
+  pub running-sums : values (withShifted Difference (c + 1) (sumTo f)) m ≡ values (running c f) m
+  running-sums = values-same (withShifted Difference (c + 1) (sumTo f)) (running c f) m (λ l o. omega (arith, difference l))

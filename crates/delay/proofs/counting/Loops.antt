@@ -2,7 +2,6 @@
 -- Sections: sums from the start; shifted sums from the end; 1, 0, 0, ...
 -- Assumes nothing.
 use mathlib.Core.Path.{_≡_, refl, sym, ap, ap₂, _∙_}
-use mathlib.Core.Bool.{Bool, true, false}
 use mathlib.Core.List.{List}
 use Prim.Native.Nat.{ℕ, _+_, _-_, _^_, _≤_, _<_}
 use native.Mathlib.Omega.{arith}
@@ -13,6 +12,8 @@ use borrow.Author.Tests.{ne-eqb}
 use lib.ListN.{getD, set}
 use Rattle.coxeter.specs.Kinds.{Kind}
 use Rattle.coxeter.specs.Length.{one}
+use Rattle.distribution.specs.declared.Combination.{Combination}
+use Rattle.distribution.specs.declared.Combination.the-variants.{Difference, Sum}
 use Rattle.distribution.proofs.Sums.{below, below-le}
 use Rattle.distribution.proofs.Factors.{shifted, shifted-lt, shifted-le, combined, withShifted, sumTo}
 use Rattle.distribution.proofs.Products.{product}
@@ -34,11 +35,11 @@ module _ {f : ℕ → ℕ} {m : ℕ} {w : List ℕ} {l sum : ℕ} (h : Filled l 
 
 -- ---- shifted sums from the end
 
-combined-zero : (less : Bool) (x : ℕ) → combined less x 0 ≡ x
-combined-zero true x = sub-zero x
-combined-zero false x = add-zero x
+combined-zero : (how : Combination) (x : ℕ) → combined how x 0 ≡ x
+combined-zero Difference x = sub-zero x
+combined-zero Sum x = add-zero x
 
-module _ (less : Bool) {f : ℕ → ℕ} {m : ℕ} {w : List ℕ} {l b : ℕ} (h : Filled l f (withShifted less b f) m w) (p : 1 ≤ b) (o : l ≤ m) where
+module _ (how : Combination) {f : ℕ → ℕ} {m : ℕ} {w : List ℕ} {l b : ℕ} (h : Filled l f (withShifted how b f) m w) (p : 1 ≤ b) (o : l ≤ m) where
   -- what is read: the last number that is not filled, and the one b places before it
   read-own : b < l → getD w (l - 1) 0 ≡ f (l - 1)
   read-own q = h .front (l - 1) (omega arith) (omega arith)
@@ -46,15 +47,15 @@ module _ (less : Bool) {f : ℕ → ℕ} {m : ℕ} {w : List ℕ} {l b : ℕ} (h
   read-back : b < l → getD w (l - 1 - b) 0 ≡ shifted b f (l - 1)
   read-back q = h .front (l - 1 - b) (omega arith) (omega arith) ∙ sym (shifted-le b f (l - 1) (omega arith))
 
-  pub combined-fits : b < l → WithShiftedFit less b f m → CombinedFits less (getD w (l - 1) 0) (getD w (l - 1 - b) 0)
+  pub combined-fits : b < l → WithShiftedFit how b f m → CombinedFits how (getD w (l - 1) 0) (getD w (l - 1 - b) 0)
   combined-fits q a = rw (read-own q, read-back q) (a (l - 1) (omega arith))
 
-  pub combined-filled : {v : ℕ} → b < l → v ≡ combined less (getD w (l - 1) 0) (getD w (l - 1 - b) 0)
-      → Filled (l - 1) f (withShifted less b f) m (set w (l - 1) v)
-  combined-filled q e = filled-back h (omega arith) (omega arith) (e ∙ ap₂ (combined less) (read-own q) (read-back q))
+  pub combined-filled : {v : ℕ} → b < l → v ≡ combined how (getD w (l - 1) 0) (getD w (l - 1 - b) 0)
+      → Filled (l - 1) f (withShifted how b f) m (set w (l - 1) v)
+  combined-filled q e = filled-back h (omega arith) (omega arith) (e ∙ ap₂ (combined how) (read-own q) (read-back q))
 
-  pub combined-end : l ≤ b → w ≡ values (withShifted less b f) m
-  combined-end q = filled-start h (λ i t. rw (shifted-lt b f i (omega arith)) (sym (combined-zero less (f i))))
+  pub combined-end : l ≤ b → w ≡ values (withShifted how b f) m
+  combined-end q = filled-start h (λ i t. rw (shifted-lt b f i (omega arith)) (sym (combined-zero how (f i))))
 
 -- ---- 1, 0, 0, ..
 

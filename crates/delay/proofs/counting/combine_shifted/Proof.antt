@@ -1,4 +1,4 @@
--- `counting::combine_shifted` takes off each number the one b places before it, or adds it. The invariant: the
+-- `counting::combine_shifted` makes each number a difference or a sum with the one b places before it. The invariant: the
 -- numbers from l on are done.
 -- Assumes nothing.
 use Prim.Native.Nat.{_≤_}
@@ -13,11 +13,11 @@ use Rattle.delay.proofs.counting.combine_shifted.Statement.{statement}
 use Rattle.delay.proofs.counting.combine_shifted.Tie as tie
 
 abbrev Inv-loop : tie.InvT-loop
-Inv-loop counts₀ b less l₀ counts l =
-    (l ≤ length counts₀) × Filled l (valueAt counts₀) (withShifted less b (valueAt counts₀)) (length counts₀) counts
+Inv-loop counts₀ b how l₀ counts l =
+    (l ≤ length counts₀) × Filled l (valueAt counts₀) (withShifted how b (valueAt counts₀)) (length counts₀) counts
 
 abbrev μ-loop : tie.MeasureT-loop
-μ-loop counts₀ b less l₀ counts l = l
+μ-loop counts₀ b how l₀ counts l = l
 
 loop-holds : tie.Need-loop-holds Inv-loop μ-loop
 loop-holds c = (omega arith, filled-none-back)
@@ -45,7 +45,7 @@ combine-requires c κs =
     let turn = c .before .before .before in
     let start = turn .before .before in
     let i = turn .loop .inv in
-    combined-fits (start .args .less) (i .1) (start .pre .0) (i .0) (c .before .before .loop-test .taken) (start .pre .1)
+    combined-fits (start .args .how) (i .1) (start .pre .0) (i .0) (c .before .before .loop-test .taken) (start .pre .1)
 
 mul-counts : tie.Need-mul-counts Inv-loop μ-loop
 mul-counts c = search needs
@@ -62,7 +62,7 @@ loop-again c =
     let start = turn .before .before in
     let i = turn .loop .inv in
     let test = c .before .before .before .loop-test .taken in
-    (omega arith, combined-filled (start .args .less) (i .1) (start .pre .0) (i .0) test (c .combine .ensures))
+    (omega arith, combined-filled (start .args .how) (i .1) (start .pre .0) (i .0) test (c .combine .ensures))
 
 same-length : tie.Need-same-length Inv-loop μ-loop
 same-length c = search needs
@@ -71,7 +71,7 @@ returns : tie.Need-returns Inv-loop μ-loop
 returns c =
     let start = c .before .before .before in
     let i = c .before .loop .inv in
-    combined-end (start .args .less) (i .1) (start .pre .0) (i .0) (c .loop-test .left)
+    combined-end (start .args .how) (i .1) (start .pre .0) (i .0) (c .loop-test .left)
 
 pub combine-shifted-spec : {M : Type 1} → statement M
 combine-shifted-spec =

@@ -1,8 +1,8 @@
 -- `counting::multiply` makes the factor of a level: running sums, in kind D with a shifted sum after them.
 -- Assumes nothing.
-use mathlib.Core.Bool.{false}
 use borrow.Author.Needs.{needs}
 use Rattle.coxeter.proofs.KindLaws.{kindOf-one, kindOf-two, kindOf-three}
+use Rattle.distribution.specs.declared.Combination.the-variants.{Sum}
 use Rattle.delay.proofs.counting.Factors.{with-fit, with-values}
 use Rattle.delay.proofs.counting.multiply.Statement.{statement}
 use Rattle.delay.proofs.counting.multiply.Tie as tie
@@ -35,7 +35,7 @@ combine-shifted-requires : tie.Need-combine-shifted-requires
 combine-shifted-requires c κs =
     let start = c .before .before .before .before .before .before .before .before in
     let d = kindOf-three _ (c .before .if2 .left) (c .before .before .before .before .before .before .if1 .left) in
-    (rw d at (start .pre .0 .0), with-fit false _ _ _ _ (c .before .before .before .before .run2 .ensures) (rw d at (start .pre .1 .1)))
+    (rw d at (start .pre .0 .0), with-fit Sum _ _ _ _ (c .before .before .before .before .run2 .ensures) (rw d at (start .pre .1 .1)))
 
 same-length-3 : tie.Need-same-length-3
 same-length-3 c = search needs
@@ -45,7 +45,7 @@ returns-3 c =
     let added = c .before .before in
     let other = added .before .before in
     rw (kindOf-three _ (other .if2 .left) (c .before .before .before .before .before .before .before .before .before .if1 .left))
-    (with-values false _ _ _ _ (c .before .before .before .before .before .before .before .run2 .ensures) _ (added .combine-shifted .ensures))
+    (with-values Sum _ _ _ _ (c .before .before .before .before .before .before .before .run2 .ensures) _ (added .combine-shifted .ensures))
 
 pub multiply-spec : {M : Type 1} → statement M
 multiply-spec =
