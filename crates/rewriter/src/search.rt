@@ -119,16 +119,13 @@ pub(crate) fn family_at(n: u8, fork: u8, i: u8, j: u8, x: u8) -> u8
     if i + j == 2 * n {
         return family_at_end(n, fork, i, x);
     }
-    if x == i {
-        if i == fork {
-            if j == n {
-                return 5;
-            }
-            return 3;
-        }
-        return 3;
+    if x != i {
+        return 0;
     }
-    0
+    if i == fork && j == n {
+        return 5;
+    }
+    3
 }
 
 // The j that a rule of the family shows.

@@ -1,5 +1,6 @@
 -- `search::family_at` is the family of a letter that leaves the way of a block, by its tests.
 -- Assumes nothing.
+use mathlib.Core.Logic.{⊎-elim}
 use borrow.Author.Tests.{eq-eqb, ne-eqb, lt-ltb, le-ltb}
 use borrow.Author.Needs.{needs}
 use Rattle.rules.proofs.Scan.{familyAt}
@@ -33,27 +34,23 @@ returns-4 c = rw (ne-eqb _ _ (c .before .before .if1 .left), eq-eqb _ _ (c .befo
 
 returns-5 : tie.Need-returns-5
 unfolding familyAt
-returns-5 c =
-    let b = c .before .before .before in
-    rw (ne-eqb _ _ (b .before .if1 .left), ne-eqb _ _ (b .if4 .left), eq-eqb _ _ (c .before .before .if5 .taken), eq-eqb _ _ (c .before .if6 .taken))
-    (rw (eq-eqb _ _ (c .if7 .taken)))
+returns-5 c = rw (ne-eqb _ _ (c .before .before .if1 .left), ne-eqb _ _ (c .before .if4 .left), ne-eqb _ _ (c .if5 .taken))
 
 returns-6 : tie.Need-returns-6
 unfolding familyAt
 returns-6 c =
-    let b = c .before .before .before in
-    rw (ne-eqb _ _ (b .before .if1 .left), ne-eqb _ _ (b .if4 .left), eq-eqb _ _ (c .before .before .if5 .taken), eq-eqb _ _ (c .before .if6 .taken))
-    (rw (ne-eqb _ _ (c .if7 .left)))
+    let own = c .before .before in
+    let b = own .before in
+    rw (ne-eqb _ _ (b .before .if1 .left), ne-eqb _ _ (b .if4 .left), eq-eqb _ _ (own .if5 .left), eq-eqb _ _ (c .before .if6 .taken))
+    (rw (c .if7 .taken))
 
 returns-7 : tie.Need-returns-7
 unfolding familyAt
 returns-7 c =
-    let b = c .before .before in
-    rw (ne-eqb _ _ (b .before .if1 .left), ne-eqb _ _ (b .if4 .left), eq-eqb _ _ (c .before .if5 .taken), ne-eqb _ _ (c .if6 .left))
-
-returns-8 : tie.Need-returns-8
-unfolding familyAt
-returns-8 c = rw (ne-eqb _ _ (c .before .before .if1 .left), ne-eqb _ _ (c .before .if4 .left), ne-eqb _ _ (c .if5 .left))
+    let own = c .before in
+    let b = own .before in
+    rw (ne-eqb _ _ (b .before .if1 .left), ne-eqb _ _ (b .if4 .left), eq-eqb _ _ (own .if5 .left))
+    (⊎-elim (λ w. rw (eq-eqb _ _ (w .0 .taken), w .1 .left)) (λ w. rw (ne-eqb _ _ (w .left))) (c .if6 .came))
 
 pub family-at-spec : {M : Type 1} → statement M
 family-at-spec =
@@ -68,5 +65,4 @@ family-at-spec =
     returns-4
     returns-5
     returns-6
-    returns-7
-    returns-8)
+    returns-7)
