@@ -8,7 +8,7 @@ use native.Mathlib.Nat.{zero-add, le-refl, le-of-eq, add-suc, suc-add, add-zero}
 use native.Mathlib.Numerals.{add-one}
 use native.Mathlib.Omega.{arith}
 use lib.ListN.{length, getD, take, drop, length-drop, drop-of-length-le, length-append, set, length-set}
-use lib.Seq.{drop-cons, drop-drop, take-all, take-at, take-suc, take-suc-set, sets, sets-eq}
+use lib.Seq.{drop-cons, drop-drop, take-all, take-suc, take-suc-set, sets, sets-eq}
 
 -- the part of a list from a place to its end, as a slice's part is read
 pub take-rest {ℓ} : {X : Type ℓ} (a : ℕ) (l : List X) → take (length l - a) (drop a l) ≡ drop a l
