@@ -116,7 +116,7 @@ roomless-refused numbers good bad r e f = cases (eqb r 0)
 
 pub beside-roomless : {Outputs : Type 0} {m : ℕ} {x : ℤ × List ℕ} → Numbers m x → (new old : Outputs) (list : List ℕ) → 0 < m → length list < m
     → (x .1 ≡ [] → new ≡ old) → listedBeside x new old list ≡ (roomless x, (old, list))
-unfolding listedBeside tooShort roomless
+unfolding front listedBeside tooShort roomless
 beside-roomless (alone k) new old list p h same = rw (le-ltb (length list) 0 (omega arith), same refl)
 beside-roomless (more s [] e) new old list p h same = absurd (omega arith)
 beside-roomless (more s (x ∷ l) e) new old list p h same = rw (lt-ltb (length list) (length (x ∷ l)) (omega arith))
@@ -136,7 +136,7 @@ room-more false s h = h
 -- ---- refusals
 
 pub listed-unchanged : {m : ℕ} {x : ℤ × List ℕ} → Numbers m x → (list : List ℕ) (r : ℕ) → listed x list .0 ≡ refused (suc r) → listed x list .1 ≡ list
-unfolding listed tooShort refused
+unfolding front listed tooShort refused
 listed-unchanged (alone k) list r h = rw (le-ltb (length list) 0 (omega arith))
 listed-unchanged (more p l e) list r h = cases (tooShort (length l) list) h
   where
@@ -147,7 +147,7 @@ listed-unchanged (more p l e) list r h = cases (tooShort (length l) list) h
 
 pub beside-unchanged : {Outputs : Type 0} {m : ℕ} {x : ℤ × List ℕ} → Numbers m x → (new old : Outputs) (list : List ℕ) (r : ℕ)
     → (x .1 ≡ [] → new ≡ old) → listedBeside x new old list .0 ≡ refused (suc r) → listedBeside x new old list .1 ≡ (old, list)
-unfolding listedBeside tooShort refused
+unfolding front listedBeside tooShort refused
 beside-unchanged {Outputs} (alone k) new old list r same h = rw (le-ltb (length list) 0 (omega arith), same refl)
 beside-unchanged {Outputs} (more p l e) new old list r same h = cases (tooShort (length l) list) h
   where

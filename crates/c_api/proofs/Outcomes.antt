@@ -20,6 +20,7 @@ use Rattle.coxeter.specs.declared.Counted.{Counted}
 use Rattle.coxeter.specs.declared.Counted.the-variants as counted
 use Rattle.coxeter.specs.Kinds.{pick, kindOf}
 use Rattle.coxeter.specs.Checks.{check, _then_, tooShort, rankRefusal, wordRefusal}
+use Rattle.coxeter.specs.Calls.{front}
 use Rattle.rules.specs.declared.Rewrite.{Rewrite}
 use Rattle.rules.specs.declared.Rewrite.the-variants.{Used, NoneFits, Refused}
 use Rattle.rules.specs.Rules.{Rule, rules, firstFitting, rewritten}
@@ -66,7 +67,7 @@ module _ (a d : Preset) (list : List ℕ) (e : a ≡ d) where
 -- the call for C writes what the library's own call does, with the rule where it has room for it
 pub rewriting-listed : (k n : ℕ) (u : List ℕ) (p : ℕ) (out rule : List ℕ) → let t = rewriteAt single k n u p out in
     rewriting k n u p out rule ≡ listedBeside (rewriteNumbers (t .answer)) (t .outputs) out rule
-unfolding rewriting rewriteAt rewriteBy rewriteNumbers listedBeside tooShort
+unfolding front rewriting rewriteAt rewriteBy rewriteNumbers listedBeside tooShort
 rewriting-listed k n u p out rule = go (eqb r 0) (firstFitting (rules (kindOf k) n) u p)
   where
     r : ℕ
