@@ -1,6 +1,7 @@
 """Writes pages of Markdown that read well on a code host and in a terminal: links stand by name in the text, and where they lead at the foot."""
 import re
 import textwrap
+from functools import lru_cache
 from itertools import groupby
 
 from citations import NAMED, SPECIFICATION
@@ -28,6 +29,7 @@ def broken(line):
     return [line[:at], *broken(further + line[at + 1:])]
 
 
+@lru_cache(None)
 def shown(text):
     """Code as a page shows it: long lines are broken, and comments with a long line filled anew."""
     lines = []
@@ -40,6 +42,14 @@ def shown(text):
     return "\n".join(lines)
 
 
+@lru_cache(None)
+def filled(text, begin):
+    """A paragraph in lines of a page's width. What would begin a list or a heading stays behind the word before it."""
+    kept = re.sub(r" (?=(?:[-+*=|>#]+|\d+[.)])(?: |$))", "\0", text)
+    lines = textwrap.wrap(kept, WIDTH, initial_indent=begin, subsequent_indent=begin, break_long_words=False, break_on_hyphens=False)
+    return [line.replace("\0", " ") for line in lines]
+
+
 class Page:
     def __init__(self, path):
         self.path, self.lines, self.links, self.slugs = path, [], {}, {}
@@ -48,10 +58,7 @@ class Page:
         self.lines.extend(lines)
 
     def say(self, text, begin=""):
-        """A paragraph in lines of a page's width. What would begin a list or a heading stays behind the word before it."""
-        kept = re.sub(r" (?=(?:[-+*=|>#]+|\d+[.)])(?: |$))", "\0", text)
-        lines = textwrap.wrap(kept, WIDTH, initial_indent=begin, subsequent_indent=begin, break_long_words=False, break_on_hyphens=False)
-        self.add(*(line.replace("\0", " ") for line in lines), "")
+        self.add(*filled(text, begin), "")
 
     def item(self, text):
         """An item of a list, as a paragraph."""

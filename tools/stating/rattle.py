@@ -4,6 +4,7 @@ from dataclasses import dataclass, field
 
 from antt import File as AnttFile
 from antt import tokens
+from forms import blank
 
 # an item may stand behind an attribute or another item on its line
 ITEM = re.compile(r"(?m)(?:^|(?<=[\]};]))[ \t]*((?:pub(?:\([a-z]+\))?\s+)?)((?:(?:const|unsafe|extern \"C\")\s+)*)(fn|enum|struct)\s+(\w+)")
@@ -31,11 +32,6 @@ class Type:
     comment: str
     members: list = field(default_factory=list)  # variants, or fields
     fields: list = field(default_factory=list)  # every field's name
-
-
-def blank(source):
-    """The source with comments and quoted texts blanked out, at the same places."""
-    return re.sub(r"//[^\n]*|\"(?:[^\"\\\n]|\\.)*\"", lambda m: m.group() if m.group() == '"C"' else " " * len(m.group()), source)
 
 
 def closing(code, at):

@@ -5,6 +5,7 @@ from functools import cached_property
 
 from antt import result_of
 from citations import CITATIONS, NAMES_BLOCK, SENTENCES, SETTLES, SPECIFICATION, citations_of, sections_of
+from forms import AWK
 from pinning import Pinning, key_of
 from reading import Reader
 from scope import Fields, Scope, covering
@@ -90,6 +91,7 @@ class Builder:
         return self.scopes[path]
 
     def build(self):
+        self.model.wrong += self.world.forms()
         self._clauses()
         self._rows()
         self._definitions()
@@ -317,6 +319,10 @@ class Builder:
                         self.model.wrong.append(f"{said} has a requires")
                     if re.search(r"->|&(?:'\w+ )?mut ", function.text) and "ensures" not in kinds:
                         self.model.wrong.append(f"{said} has no ensures")
+        stated = sum(kind == "contract" for kind, _, _ in self.model.statements)
+        counted = self.world.public_functions()
+        if counted != stated:
+            self.model.wrong.append(f"the pages state {stated} public functions, {AWK} counts: {counted}")
 
     def _edits(self):
         cited = {f"crates/{one.where}/must-fail/{name}.edit" for citations in self.model.cited.values() for one in citations if one.kind == "edit"
