@@ -52,8 +52,6 @@ static void kinds(void)
     IS(window[1], -2);
     IS(winnathey_window_of_word(D, 4, four, 1, window, sizeof window), 4);
     IS(window[2], -4);
-    IS(WINNATHEY_FIRST_EDITION, 1);
-    IS(WINNATHEY_SECOND_EDITION, 2);
 }
 
 static void refusals(void)
@@ -85,6 +83,31 @@ static void refusals(void)
     for (uint32_t k = 1; k <= WINNATHEY_LAST_REFUSAL; k++)
         IS(winnathey_refusal_sentence(k, out, WINNATHEY_MAX_SENTENCE) > 0, 1);
     IS(winnathey_refusal_sentence(WINNATHEY_LAST_REFUSAL + 1, out, WINNATHEY_MAX_SENTENCE), 0);
+}
+
+/* The text of a refusal: the library's sentence with a 0 behind it, by the number or by what a call returned, cut where
+   the room ends. */
+static void texts(void)
+{
+    char text[WINNATHEY_MAX_SENTENCE + 1], whole[WINNATHEY_MAX_SENTENCE + 1];
+    for (int k = 1; k <= WINNATHEY_LAST_REFUSAL; k++) {
+        int64_t length = winnathey_refusal_sentence((uint32_t)k, (uint8_t *)whole, WINNATHEY_MAX_SENTENCE);
+        whole[length] = 0;
+        IS(winnathey_refusal_text(k, text, sizeof text) == text, 1);
+        IS(strcmp(text, whole), 0);
+        IS(strcmp(winnathey_refusal_text(-k, text, sizeof text), whole), 0);
+        memset(text, 'x', sizeof text);
+        IS((int64_t)strlen(winnathey_refusal_text(k, text, 5)), 4);
+        IS(memcmp(text, whole, 4) == 0 && text[5] == 'x', 1);
+        IS((int64_t)strlen(winnathey_refusal_text(k, text, (winnathey_size)length + 1)), length);
+        IS((int64_t)strlen(winnathey_refusal_text(k, text, (winnathey_size)length)), length - 1);
+    }
+    const int64_t none[] = {0, WINNATHEY_LAST_REFUSAL + 1, -WINNATHEY_LAST_REFUSAL - 1, WINNATHEY_NONE_FITS, WINNATHEY_NO_FALLBACK,
+                            INT64_MIN, INT64_MAX, INT64_C(4294967301)};
+    for (size_t i = 0; i < sizeof none / sizeof *none; i++)
+        IS(winnathey_refusal_text(none[i], text, sizeof text)[0], 0);
+    IS(winnathey_refusal_text(1, NULL, 0)[0], 0);
+    IS(winnathey_refusal_text(1, text, 1)[0], 0);
 }
 
 /* What needs the most of each size needs exactly that. */
@@ -148,6 +171,7 @@ int main(void)
 {
     kinds();
     refusals();
+    texts();
     sizes();
     tables();
     version();
