@@ -35,7 +35,8 @@ fn found() -> Result<PathBuf, String> {
 fn installed() -> Option<PathBuf> {
     let told = Command::new("pkg-config").args(["--variable=libdir", "winnathey"]).output().ok()?;
     let folder = String::from_utf8(told.stdout).ok().filter(|_| told.status.success())?;
-    Path::new(folder.trim()).join("libwinnathey.a").canonicalize().ok()
+    // It writes a backslash before a space.
+    Path::new(&folder.trim().replace("\\ ", " ")).join("libwinnathey.a").canonicalize().ok()
 }
 
 /// Whether the archive's objects are for the machine and the system that the crate is built for: the machine's number
