@@ -8,9 +8,6 @@ use Rattle.delay.proofs.longest.Entries.{form-asks}
 use Rattle.delay.proofs.delay_table.Statement.{statement}
 use Rattle.delay.proofs.delay_table.Tie as tie
 
-table-refusal-requires : tie.Need-table-refusal-requires
-table-refusal-requires c κs = search needs
-
 returns : tie.Need-returns
 returns c = table-refused _ _ _ _ _ _ (c .before .table-refusal .ensures) (c .if1 .taken)
 
@@ -21,9 +18,6 @@ returns-2 : tie.Need-returns-2
 returns-2 c =
     let passed = c .before .before in
     counts-short _ _ _ _ _ _ (passed .before .table-refusal .ensures) _ (passed .if1 .left) (c .before .greatest-length .ensures) (omega arith)
-
-lanes-requires : tie.Need-lanes-requires
-lanes-requires c κs = search needs
 
 returns-3 : tie.Need-returns-3
 returns-3 c =
@@ -39,9 +33,6 @@ returns-4 c =
     let passed = counts .before .before in
     letters-short _ _ _ _ _ _ (passed .before .table-refusal .ensures) _ (passed .if1 .left) (counts .before .greatest-length .ensures) _
     (entries .before .lanes .ensures) (omega arith) (entries .if3 .left) (c .if4 .taken)
-
-write-counts-requires : tie.Need-write-counts-requires
-write-counts-requires c κs = search needs
 
 write-longest-requires : tie.Need-write-longest-requires
 write-longest-requires c κs =
@@ -61,18 +52,6 @@ write-form-requires c κs =
     (rw (entries .before .lanes .ensures) at (entries .if3 .left)) (c .before .before .before .write-longest .ensures)
     (rw (counts .before .greatest-length .ensures) at (letters .if4 .left))
 
-add-t10 : tie.Need-add-t10
-add-t10 c = search needs
-
-same-length : tie.Need-same-length
-same-length c = search needs
-
-same-length-2 : tie.Need-same-length-2
-same-length-2 c = search needs
-
-same-length-3 : tie.Need-same-length-3
-same-length-3 c = search needs
-
 returns-5 : tie.Need-returns-5
 returns-5 c =
     let form = c .before .before in
@@ -90,18 +69,15 @@ pub delay-table-spec : {M : Type 1} → statement M
 delay-table-spec =
     tie.close
     (tie.spec
-    table-refusal-requires
+    (λ c κs. search needs)
     returns
     greatest-length-requires
     returns-2
-    lanes-requires
+    (λ c κs. search needs)
     returns-3
     returns-4
-    write-counts-requires
+    (λ c κs. search needs)
     write-longest-requires
     write-form-requires
-    add-t10
-    same-length
-    same-length-2
-    same-length-3
+    (λ c. search needs) (λ c. search needs) (λ c. search needs) (λ c. search needs)
     returns-5)

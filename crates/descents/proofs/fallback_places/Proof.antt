@@ -6,9 +6,6 @@ use borrow.Author.Needs.{needs}
 use Rattle.descents.proofs.fallback_places.Statement.{statement}
 use Rattle.descents.proofs.fallback_places.Tie as tie
 
-ranked-words-refusal-requires : tie.Need-ranked-words-refusal-requires
-ranked-words-refusal-requires c κs = search needs
-
 returns : tie.Need-returns
 returns c =
     let b = c .before in
@@ -19,9 +16,6 @@ decide-words-requires c κs =
     let b = c .before .before in
     words-accepted _ _ _ _ _ (b .ranked-words-refusal .ensures) (c .before .if1 .left)
 
-same-length : tie.Need-same-length
-same-length c = search needs
-
 returns-2 : tie.Need-returns-2
 returns-2 c =
     let b = c .before .before .before .before .before in
@@ -31,4 +25,9 @@ returns-2 c =
 pub fallback-places-spec : {M : Type 1} → statement M
 fallback-places-spec =
     tie.close
-    (tie.spec ranked-words-refusal-requires returns decide-words-requires same-length returns-2)
+    (tie.spec
+    (λ c κs. search needs)
+    returns
+    decide-words-requires
+    (λ c. search needs)
+    returns-2)

@@ -18,18 +18,11 @@ set-then-word k n set u r s e z q =
     let ranked = then-zero (rankRefusal k n) (check 16 (wrongSet n set)) (sym e ∙ z) .0 in
     then-next (setRefusal k n set) r (wordRefusal n u) s e z (q ∙ then-none (rankRefusal k n) (wordRefusal n u) ranked)
 
-set-refusal-requires : tie.Need-set-refusal-requires
-set-refusal-requires c κs = search needs
-
 returns : tie.Need-returns
 returns c = then-refused _ _ _ (c .before .set-refusal .ensures) (c .if1 .taken)
-
-preset-refusal-requires : tie.Need-preset-refusal-requires
-preset-refusal-requires c κs = search needs
 
 returns-2 : tie.Need-returns-2
 returns-2 c = set-then-word _ _ _ _ _ _ (c .before .before .set-refusal .ensures) (c .before .if1 .left) (c .preset-refusal .ensures)
 
 pub split-refusal-spec : {M : Type 1} → statement M
-split-refusal-spec =
-    tie.close (tie.spec set-refusal-requires returns preset-refusal-requires returns-2)
+split-refusal-spec = tie.close (tie.spec (λ c κs. search needs) returns (λ c κs. search needs) returns-2)

@@ -5,9 +5,6 @@ use borrow.Author.Needs.{needs}
 use Rattle.descents.proofs.split_word.Statement.{statement}
 use Rattle.descents.proofs.split_word.Tie as tie
 
-split-refusal-requires : tie.Need-split-refusal-requires
-split-refusal-requires c κs = search needs
-
 returns : tie.Need-returns
 returns c = split-refused _ _ _ _ _ (c .before .split-refusal .ensures) _ _ (c .if1 .taken)
 
@@ -15,12 +12,6 @@ split-accepted-requires : tie.Need-split-accepted-requires
 split-accepted-requires c κs =
     let b = c .before .before in
     split-accepted _ _ _ _ _ (b .before .split-refusal .ensures) (b .if1 .left)
-
-same-length : tie.Need-same-length
-same-length c = search needs
-
-same-length-2 : tie.Need-same-length-2
-same-length-2 c = search needs
 
 returns-2 : tie.Need-returns-2
 returns-2 c =
@@ -32,9 +23,8 @@ pub split-word-spec : {M : Type 1} → statement M
 split-word-spec =
     tie.close
     (tie.spec
-    split-refusal-requires
+    (λ c κs. search needs)
     returns
     split-accepted-requires
-    same-length
-    same-length-2
+    (λ c. search needs) (λ c. search needs)
     returns-2)

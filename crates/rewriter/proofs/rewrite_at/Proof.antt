@@ -35,9 +35,6 @@ handed b =
     (b .before .before .fitting-rule .ensures)
     (b .family .given .1)
 
-preset-refusal-requires : tie.Need-preset-refusal-requires
-preset-refusal-requires c κs = search needs
-
 returns : tie.Need-returns
 returns c = rewrote-preset _ _ _ _ _ _ (c .before .preset-refusal .ensures) (c .if1 .taken)
 
@@ -48,9 +45,6 @@ fitting-rule-requires : tie.Need-fitting-rule-requires
 fitting-rule-requires c κs =
     let a = passed (c .before) in
     (rank-accepted _ _ (a .rank), (a .word, c .if2 .left))
-
-enum-known-family : tie.Need-enum-known-family
-enum-known-family c = search needs
 
 enum-told : tie.Need-enum-told
 enum-told c = search needs
@@ -78,9 +72,6 @@ write-rewritten-requires c κs =
     let r = rank-between (passed (checked b)) in
     ((r .0, omega (arith, w .low, r)), ((w .nonempty, w .inside), rw (m .new-length .ensures) at (c .before .if3 .left)))
 
-same-length : tie.Need-same-length
-same-length c = search needs
-
 returns-5 : tie.Need-returns-5
 returns-5 c =
     let e = c .before .before .before .before in
@@ -94,15 +85,15 @@ pub rewrite-at-spec : {M : Type 1} → statement M
 rewrite-at-spec =
     tie.close
     (tie.spec
-    preset-refusal-requires
+    (λ c κs. search needs)
     returns
     returns-2
     fitting-rule-requires
-    enum-known-family
+    (λ c. search needs)
     enum-told
     returns-3
     new-length-requires
     returns-4
     write-rewritten-requires
-    same-length
+    (λ c. search needs)
     returns-5)

@@ -5,9 +5,6 @@ use borrow.Author.Needs.{needs}
 use Rattle.rewriter.proofs.rewrite_steps.Statement.{statement}
 use Rattle.rewriter.proofs.rewrite_steps.Tie as tie
 
-preset-refusal-requires : tie.Need-preset-refusal-requires
-preset-refusal-requires c κs = search needs
-
 returns : tie.Need-returns
 returns c = steps-refused _ _ _ _ (c .before .preset-refusal .ensures) (c .if1 .taken)
 
@@ -18,4 +15,4 @@ returns-2 : tie.Need-returns-2
 returns-2 c = steps-counted _ _ _ _ (c .before .before .preset-refusal .ensures) _ (c .before .if1 .left) (c .count .ensures .0)
 
 pub rewrite-steps-spec : {M : Type 1} → statement M
-rewrite-steps-spec = tie.close (tie.spec preset-refusal-requires returns count-requires returns-2)
+rewrite-steps-spec = tie.close (tie.spec (λ c κs. search needs) returns count-requires returns-2)

@@ -5,9 +5,6 @@ use borrow.Author.Needs.{needs}
 use Rattle.rewriter.proofs.rewrite_to_end.Statement.{statement}
 use Rattle.rewriter.proofs.rewrite_to_end.Tie as tie
 
-preset-refusal-requires : tie.Need-preset-refusal-requires
-preset-refusal-requires c κs = search needs
-
 returns : tie.Need-returns
 returns c =
     let r = c .before in
@@ -66,18 +63,6 @@ write-trace-requires c κs =
       (n .count .ensures .0, ((a .if2 .left, b .if3 .left, d .if4 .left), rw (n .count .ensures .1) at (e .if5 .left))),
     )
 
-same-length : tie.Need-same-length
-same-length c = search needs
-
-same-length-2 : tie.Need-same-length-2
-same-length-2 c = search needs
-
-same-length-3 : tie.Need-same-length-3
-same-length-3 c = search needs
-
-same-length-4 : tie.Need-same-length-4
-same-length-4 c = search needs
-
 returns-6 : tie.Need-returns-6
 returns-6 c =
     let w = c .before .before .before .before .before .before .before .before in
@@ -96,7 +81,7 @@ pub rewrite-to-end-spec : {M : Type 1} → statement M
 rewrite-to-end-spec =
     tie.close
     (tie.spec
-    preset-refusal-requires
+    (λ c κs. search needs)
     returns
     count-requires
     returns-2
@@ -104,8 +89,5 @@ rewrite-to-end-spec =
     returns-4
     returns-5
     write-trace-requires
-    same-length
-    same-length-2
-    same-length-3
-    same-length-4
+    (λ c. search needs) (λ c. search needs) (λ c. search needs) (λ c. search needs)
     returns-6)

@@ -10,21 +10,6 @@ use Rattle.sentences.proofs.refusal_sentence.Tie as tie
 returns : tie.Need-returns
 returns c = unsaid _ _ (c .if1 .taken)
 
-mul-start : tie.Need-mul-start
-mul-start c = search needs
-
-array-read-start : tie.Need-array-read-start
-array-read-start c = search needs
-
-add-end : tie.Need-add-end
-add-end c = search needs
-
-mul-end : tie.Need-mul-end
-mul-end c = search needs
-
-array-read-end : tie.Need-array-read-end
-array-read-end c = search needs
-
 sub-put : tie.Need-sub-put
 unfolding sentences ends
 sub-put c = stands-rises (sentence-stands _ (c .if1 .left))
@@ -37,12 +22,6 @@ part-put-end : tie.Need-part-put-end
 unfolding sentences ends joined codes codesFrom
 part-put-end c = stands-within (sentence-stands _ (c .before .if1 .left))
 
-put-requires : tie.Need-put-requires
-put-requires c κs = search needs
-
-same-length : tie.Need-same-length
-same-length c = search needs
-
 returns-2 : tie.Need-returns-2
 unfolding sentences ends joined codes codesFrom
 returns-2 c =
@@ -54,14 +33,9 @@ refusal-sentence-spec =
     tie.close
     (tie.spec
     returns
-    mul-start
-    array-read-start
-    add-end
-    mul-end
-    array-read-end
+    (λ c. search needs) (λ c. search needs) (λ c. search needs) (λ c. search needs) (λ c. search needs)
     sub-put
     part-put-start
     part-put-end
-    put-requires
-    same-length
+    (λ c κs. search needs) (λ c. search needs)
     returns-2)

@@ -6,26 +6,8 @@ use borrow.Author.Needs.{needs}
 use Rattle.window.proofs.better_word.Statement.{statement}
 use Rattle.window.proofs.better_word.Tie as tie
 
-which-better-requires : tie.Need-which-better-requires
-which-better-requires c κs = search needs
-
 enum-told : tie.Need-enum-told
 enum-told c = search needs
-
-enum-told-2 : tie.Need-enum-told-2
-enum-told-2 c = search needs
-
-enum-told-3 : tie.Need-enum-told-3
-enum-told-3 c = search needs
-
-sub-result : tie.Need-sub-result
-sub-result c = search needs
-
-part-result-start : tie.Need-part-result-start
-part-result-start c = search needs
-
-part-result-end : tie.Need-part-result-end
-part-result-end c = search needs
 
 returns : tie.Need-returns
 returns c = better-first _ _ _ _ (sym (c .before .before .which-better .ensures) ∙ c .enum-told .given .1)
@@ -40,13 +22,9 @@ pub better-word-spec : {M : Type 1} → statement M
 better-word-spec =
     tie.close
     (tie.spec
-    which-better-requires
+    (λ c κs. search needs)
     enum-told
-    enum-told-2
-    enum-told-3
-    sub-result
-    part-result-start
-    part-result-end
+    (λ c. search needs) (λ c. search needs) (λ c. search needs) (λ c. search needs) (λ c. search needs)
     returns
     returns-2
     returns-3)

@@ -8,9 +8,6 @@ use borrow.Author.Needs.{needs}
 use Rattle.window.proofs.crossings_of_window.Statement.{statement}
 use Rattle.window.proofs.crossings_of_window.Tie as tie
 
-ranked-window-refusal-requires : tie.Need-ranked-window-refusal-requires
-ranked-window-refusal-requires c κs = search needs
-
 returns : tie.Need-returns
 unfolding crossingsOfWindow
 returns c = counted-refused _ _ _ (c .before .ranked-window-refusal .ensures) (c .if1 .taken)
@@ -27,5 +24,4 @@ returns-2 c =
     c .crossings-of .ensures ∙ counted-crossings _ _ _ (asked .before .ranked-window-refusal .ensures) (asked .if1 .left)
 
 pub crossings-of-window-spec : {M : Type 1} → statement M
-crossings-of-window-spec =
-    tie.close (tie.spec ranked-window-refusal-requires returns crossings-of-requires returns-2)
+crossings-of-window-spec = tie.close (tie.spec (λ c κs. search needs) returns crossings-of-requires returns-2)

@@ -8,9 +8,6 @@ use borrow.Author.Needs.{needs}
 use Rattle.window.proofs.crossings_of_word.Statement.{statement}
 use Rattle.window.proofs.crossings_of_word.Tie as tie
 
-preset-refusal-requires : tie.Need-preset-refusal-requires
-preset-refusal-requires c κs = search needs
-
 returns : tie.Need-returns
 unfolding crossingsOfWord
 returns c = counted-refused _ _ _ (c .before .preset-refusal .ensures) (c .if1 .taken)
@@ -25,5 +22,4 @@ returns-2 c =
     c .crossings-of-shown .ensures ∙ counted-crossings _ _ _ (asked .before .preset-refusal .ensures) (asked .if1 .left)
 
 pub crossings-of-word-spec : {M : Type 1} → statement M
-crossings-of-word-spec =
-    tie.close (tie.spec preset-refusal-requires returns crossings-of-shown-requires returns-2)
+crossings-of-word-spec = tie.close (tie.spec (λ c κs. search needs) returns crossings-of-shown-requires returns-2)

@@ -9,9 +9,6 @@ use borrow.Author.Needs.{needs}
 use Rattle.window.proofs.inverse_of_window.Statement.{statement}
 use Rattle.window.proofs.inverse_of_window.Tie as tie
 
-ranked-window-refusal-requires : tie.Need-ranked-window-refusal-requires
-ranked-window-refusal-requires c κs = search needs
-
 returns : tie.Need-returns
 unfolding inverseOfWindow
 returns c = writes-refused _ _ _ _ _ refl (c .before .ranked-window-refusal .ensures) (c .if1 .taken)
@@ -29,9 +26,6 @@ inverse-into-requires c κs =
     let a = two-accepted _ _ _ (passed .before .ranked-window-refusal .ensures) (passed .if1 .left) in
     (a .0, (a .1, fits .if2 .left))
 
-same-length : tie.Need-same-length
-same-length c = search needs
-
 returns-3 : tie.Need-returns-3
 unfolding inverseOfWindow
 returns-3 c =
@@ -45,9 +39,9 @@ pub inverse-of-window-spec : {M : Type 1} → statement M
 inverse-of-window-spec =
     tie.close
     (tie.spec
-    ranked-window-refusal-requires
+    (λ c κs. search needs)
     returns
     returns-2
     inverse-into-requires
-    same-length
+    (λ c. search needs)
     returns-3)

@@ -11,18 +11,9 @@ use borrow.Author.Needs.{needs}
 use Rattle.window.proofs.inverse_of_word.Statement.{statement}
 use Rattle.window.proofs.inverse_of_word.Tie as tie
 
-preset-refusal-requires : tie.Need-preset-refusal-requires
-preset-refusal-requires c κs = search needs
-
 returns : tie.Need-returns
 unfolding inverseOfWord
 returns c = writes-refused _ _ _ _ _ refl (c .before .preset-refusal .ensures) (c .if1 .taken)
-
-entries-64-requires : tie.Need-entries-64-requires
-entries-64-requires c κs = search needs
-
-slice-aggregate-show-inverse : tie.Need-slice-aggregate-show-inverse
-slice-aggregate-show-inverse c = search needs
 
 show-inverse-requires : tie.Need-show-inverse-requires
 show-inverse-requires c κs =
@@ -30,18 +21,12 @@ show-inverse-requires c κs =
     let passed = two-accepted _ _ _ (c .before .before .before .preset-refusal .ensures) (c .before .before .if1 .left) in
     (passed .0, (passed .1, room _ _ (passed .0) (work .result) (work .ensures)))
 
-slice-aggregate-write-checked : tie.Need-slice-aggregate-write-checked
-slice-aggregate-write-checked c = search needs
-
 write-checked-requires : tie.Need-write-checked-requires
 write-checked-requires c κs =
     let made = c .before .before .before in
     let first = made .before .before .before in
     let passed = two-accepted _ _ _ (first .before .preset-refusal .ensures) (first .if1 .left) in
     made-asks _ _ (passed .0) _ _ _ (inverse-passes _ _ _) (made .before .before .entries-64 .ensures) (made .show-inverse .ensures)
-
-same-length : tie.Need-same-length
-same-length c = search needs
 
 returns-2 : tie.Need-returns-2
 unfolding inverseOfWord
@@ -59,12 +44,11 @@ pub inverse-of-word-spec : {M : Type 1} → statement M
 inverse-of-word-spec =
     tie.close
     (tie.spec
-    preset-refusal-requires
+    (λ c κs. search needs)
     returns
-    entries-64-requires
-    slice-aggregate-show-inverse
+    (λ c κs. search needs) (λ c. search needs)
     show-inverse-requires
-    slice-aggregate-write-checked
+    (λ c. search needs)
     write-checked-requires
-    same-length
+    (λ c. search needs)
     returns-2)

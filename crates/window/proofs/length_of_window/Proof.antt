@@ -6,9 +6,6 @@ use Rattle.coxeter.proofs.Totals.{totalled, totalled-window, crossingsOfWindow-
 use Rattle.window.proofs.length_of_window.Statement.{statement}
 use Rattle.window.proofs.length_of_window.Tie as tie
 
-crossings-of-window-requires : tie.Need-crossings-of-window-requires
-crossings-of-window-requires c κs = search needs
-
 total-of-requires : tie.Need-total-of-requires
 total-of-requires c κs x y z e = crossingsOfWindow-small _ _ _ x y z (sym (c .crossings-of-window .ensures) ∙ e)
 
@@ -16,4 +13,4 @@ returns : tie.Need-returns
 returns c = c .total-of .ensures ∙ ap totalled (c .before .crossings-of-window .ensures) ∙ totalled-window _ _ _
 
 pub length-of-window-spec : {M : Type 1} → statement M
-length-of-window-spec = tie.close (tie.spec crossings-of-window-requires total-of-requires returns)
+length-of-window-spec = tie.close (tie.spec (λ c κs. search needs) total-of-requires returns)

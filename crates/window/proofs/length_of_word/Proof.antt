@@ -6,9 +6,6 @@ use Rattle.coxeter.proofs.Totals.{totalled, totalled-word, crossingsOfWord-smal
 use Rattle.window.proofs.length_of_word.Statement.{statement}
 use Rattle.window.proofs.length_of_word.Tie as tie
 
-crossings-of-word-requires : tie.Need-crossings-of-word-requires
-crossings-of-word-requires c κs = search needs
-
 total-of-requires : tie.Need-total-of-requires
 total-of-requires c κs x y z e = crossingsOfWord-small _ _ _ x y z (sym (c .crossings-of-word .ensures) ∙ e)
 
@@ -16,4 +13,4 @@ returns : tie.Need-returns
 returns c = c .total-of .ensures ∙ ap totalled (c .before .crossings-of-word .ensures) ∙ totalled-word _ _ _
 
 pub length-of-word-spec : {M : Type 1} → statement M
-length-of-word-spec = tie.close (tie.spec crossings-of-word-requires total-of-requires returns)
+length-of-word-spec = tie.close (tie.spec (λ c κs. search needs) total-of-requires returns)

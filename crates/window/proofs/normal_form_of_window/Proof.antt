@@ -12,9 +12,6 @@ use Rattle.window.proofs.forms.Rooms.{whole-asks, whole-written}
 use Rattle.window.proofs.normal_form_of_window.Statement.{statement}
 use Rattle.window.proofs.normal_form_of_window.Tie as tie
 
-ranked-window-refusal-requires : tie.Need-ranked-window-refusal-requires
-ranked-window-refusal-requires c κs = search needs
-
 returns : tie.Need-returns
 unfolding normalFormOfWindow
 returns c = writes-refused _ _ _ _ _ refl (c .before .ranked-window-refusal .ensures) (c .if1 .taken)
@@ -27,9 +24,6 @@ write-checked-requires c κs =
     let held = c .before .before in
     let passed = two-accepted _ _ _ (held .before .ranked-window-refusal .ensures) (held .if1 .left) in
     rw (take-length (held .before .before .before .args .w .now)) (whole-asks _ _ _ (passed .1) (passed .0))
-
-same-length : tie.Need-same-length
-same-length c = search needs
 
 returns-2 : tie.Need-returns-2
 unfolding normalFormOfWindow
@@ -45,9 +39,9 @@ pub normal-form-of-window-spec : {M : Type 1} → statement M
 normal-form-of-window-spec =
     tie.close
     (tie.spec
-    ranked-window-refusal-requires
+    (λ c κs. search needs)
     returns
     slice-aggregate-write-checked
     write-checked-requires
-    same-length
+    (λ c. search needs)
     returns-2)

@@ -10,18 +10,9 @@ use borrow.Author.Needs.{needs}
 use Rattle.window.proofs.normal_form_of_word.Statement.{statement}
 use Rattle.window.proofs.normal_form_of_word.Tie as tie
 
-preset-refusal-requires : tie.Need-preset-refusal-requires
-preset-refusal-requires c κs = search needs
-
 returns : tie.Need-returns
 unfolding normalFormOfWord
 returns c = writes-refused _ _ _ _ _ refl (c .before .preset-refusal .ensures) (c .if1 .taken)
-
-entries-64-requires : tie.Need-entries-64-requires
-entries-64-requires c κs = search needs
-
-slice-aggregate-show-front : tie.Need-slice-aggregate-show-front
-slice-aggregate-show-front c = search needs
 
 show-front-requires : tie.Need-show-front-requires
 show-front-requires c κs =
@@ -29,18 +20,12 @@ show-front-requires c κs =
     let passed = two-accepted _ _ _ (c .before .before .before .preset-refusal .ensures) (c .before .before .if1 .left) in
     (passed .0, (passed .1, room _ _ (passed .0) (work .result) (work .ensures)))
 
-slice-aggregate-write-checked : tie.Need-slice-aggregate-write-checked
-slice-aggregate-write-checked c = search needs
-
 write-checked-requires : tie.Need-write-checked-requires
 write-checked-requires c κs =
     let made = c .before .before .before in
     let first = made .before .before .before in
     let passed = two-accepted _ _ _ (first .before .preset-refusal .ensures) (first .if1 .left) in
     made-asks _ _ (passed .0) _ _ _ (window-passes _ _ _) (made .before .before .entries-64 .ensures) (made .show-front .ensures)
-
-same-length : tie.Need-same-length
-same-length c = search needs
 
 returns-2 : tie.Need-returns-2
 unfolding normalFormOfWord
@@ -58,12 +43,11 @@ pub normal-form-of-word-spec : {M : Type 1} → statement M
 normal-form-of-word-spec =
     tie.close
     (tie.spec
-    preset-refusal-requires
+    (λ c κs. search needs)
     returns
-    entries-64-requires
-    slice-aggregate-show-front
+    (λ c κs. search needs) (λ c. search needs)
     show-front-requires
-    slice-aggregate-write-checked
+    (λ c. search needs)
     write-checked-requires
-    same-length
+    (λ c. search needs)
     returns-2)

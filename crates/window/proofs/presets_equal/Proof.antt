@@ -6,9 +6,6 @@ use borrow.Author.Needs.{needs}
 use Rattle.window.proofs.presets_equal.Statement.{statement}
 use Rattle.window.proofs.presets_equal.Tie as tie
 
-presets-refusal-requires : tie.Need-presets-refusal-requires
-presets-refusal-requires c κs = search needs
-
 returns : tie.Need-returns
 returns c = verdict-refused _ _ _ _ _ _ _ (c .before .presets-refusal .ensures) (c .if1 .taken)
 
@@ -26,5 +23,4 @@ returns-3 c =
     verdict-no _ _ _ _ _ _ _ (passed .before .presets-refusal .ensures) _ (passed .if1 .left) (c .before .same-presets .ensures) (c .if2 .left)
 
 pub presets-equal-spec : {M : Type 1} → statement M
-presets-equal-spec =
-    tie.close (tie.spec presets-refusal-requires returns same-presets-requires returns-2 returns-3)
+presets-equal-spec = tie.close (tie.spec (λ c κs. search needs) returns same-presets-requires returns-2 returns-3)

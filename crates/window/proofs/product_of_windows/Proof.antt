@@ -10,9 +10,6 @@ use borrow.Author.Needs.{needs}
 use Rattle.window.proofs.product_of_windows.Statement.{statement}
 use Rattle.window.proofs.product_of_windows.Tie as tie
 
-ranked-windows-refusal-requires : tie.Need-ranked-windows-refusal-requires
-ranked-windows-refusal-requires c κs = search needs
-
 returns : tie.Need-returns
 unfolding productOfWindows
 returns c = writes-refused _ _ _ _ _ refl (c .before .ranked-windows-refusal .ensures) (c .if1 .taken)
@@ -31,9 +28,6 @@ product-into-requires c κs =
     let a = windows-accepted _ _ _ _ _ (passed .before .ranked-windows-refusal .ensures) (passed .if1 .left) in
     (a .0, (a .1 .0, (a .1 .1, fits .if2 .left)))
 
-same-length : tie.Need-same-length
-same-length c = search needs
-
 returns-3 : tie.Need-returns-3
 unfolding productOfWindows
 returns-3 c =
@@ -47,9 +41,9 @@ pub product-of-windows-spec : {M : Type 1} → statement M
 product-of-windows-spec =
     tie.close
     (tie.spec
-    ranked-windows-refusal-requires
+    (λ c κs. search needs)
     returns
     returns-2
     product-into-requires
-    same-length
+    (λ c. search needs)
     returns-3)

@@ -10,18 +10,9 @@ use borrow.Author.Needs.{needs}
 use Rattle.window.proofs.product_of_words.Statement.{statement}
 use Rattle.window.proofs.product_of_words.Tie as tie
 
-ranked-words-refusal-requires : tie.Need-ranked-words-refusal-requires
-ranked-words-refusal-requires c κs = search needs
-
 returns : tie.Need-returns
 unfolding productOfWords
 returns c = writes-refused _ _ _ _ _ refl (c .before .ranked-words-refusal .ensures) (c .if1 .taken)
-
-entries-64-requires : tie.Need-entries-64-requires
-entries-64-requires c κs = search needs
-
-slice-aggregate-show-product : tie.Need-slice-aggregate-show-product
-slice-aggregate-show-product c = search needs
 
 show-product-requires : tie.Need-show-product-requires
 show-product-requires c κs =
@@ -29,18 +20,12 @@ show-product-requires c κs =
     let passed = words-accepted _ _ _ _ _ (c .before .before .before .ranked-words-refusal .ensures) (c .before .before .if1 .left) in
     (passed .0, (passed .1 .0, (passed .1 .1, room _ _ (passed .0) (work .result) (work .ensures))))
 
-slice-aggregate-write-checked : tie.Need-slice-aggregate-write-checked
-slice-aggregate-write-checked c = search needs
-
 write-checked-requires : tie.Need-write-checked-requires
 write-checked-requires c κs =
     let made = c .before .before .before in
     let first = made .before .before .before in
     let passed = words-accepted _ _ _ _ _ (first .before .ranked-words-refusal .ensures) (first .if1 .left) in
     made-asks _ _ (passed .0) _ _ _ (product-passes _ _ _ _) (made .before .before .entries-64 .ensures) (made .show-product .ensures)
-
-same-length : tie.Need-same-length
-same-length c = search needs
 
 returns-2 : tie.Need-returns-2
 unfolding productOfWords
@@ -58,12 +43,11 @@ pub product-of-words-spec : {M : Type 1} → statement M
 product-of-words-spec =
     tie.close
     (tie.spec
-    ranked-words-refusal-requires
+    (λ c κs. search needs)
     returns
-    entries-64-requires
-    slice-aggregate-show-product
+    (λ c κs. search needs) (λ c. search needs)
     show-product-requires
-    slice-aggregate-write-checked
+    (λ c. search needs)
     write-checked-requires
-    same-length
+    (λ c. search needs)
     returns-2)

@@ -10,9 +10,6 @@ use borrow.Author.Needs.{needs}
 use Rattle.window.proofs.which_better.Statement.{statement}
 use Rattle.window.proofs.which_better.Tie as tie
 
-ranked-words-refusal-requires : tie.Need-ranked-words-refusal-requires
-ranked-words-refusal-requires c κs = search needs
-
 returns : tie.Need-returns
 returns c = choice-neither _ _ (handsBack-refused _ _ _ _ _ (c .before .ranked-words-refusal .ensures) (c .if1 .taken))
 
@@ -24,9 +21,6 @@ hands : (c : tie.After-equal-words)
     → let a = c .before .before .before .before .before .args in
     handsBack (a .kind) (a .rank) (a .u .now) (a .v .now) ≡ c .equal-words .result
 hands c = handsBack-words _ _ _ _ _ _ (c .before .before .ranked-words-refusal .ensures) (c .before .if1 .left) (c .equal-words .ensures)
-
-is-shortlex-requires : tie.Need-is-shortlex-requires
-is-shortlex-requires c κs = search needs
 
 returns-2 : tie.Need-returns-2
 returns-2 c =
@@ -45,10 +39,10 @@ pub which-better-spec : {M : Type 1} → statement M
 which-better-spec =
     tie.close
     (tie.spec
-    ranked-words-refusal-requires
+    (λ c κs. search needs)
     returns
     equal-words-requires
-    is-shortlex-requires
+    (λ c κs. search needs)
     returns-2
     returns-3
     returns-4)

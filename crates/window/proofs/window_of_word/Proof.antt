@@ -9,15 +9,9 @@ use borrow.Author.Needs.{needs}
 use Rattle.window.proofs.window_of_word.Statement.{statement}
 use Rattle.window.proofs.window_of_word.Tie as tie
 
-preset-refusal-requires : tie.Need-preset-refusal-requires
-preset-refusal-requires c κs = search needs
-
 returns : tie.Need-returns
 unfolding windowOfWord
 returns c = writes-refused _ _ _ _ _ refl (c .before .preset-refusal .ensures) (c .if1 .taken)
-
-lanes-requires : tie.Need-lanes-requires
-lanes-requires c κs = search needs
 
 returns-2 : tie.Need-returns-2
 unfolding windowOfWord
@@ -33,9 +27,6 @@ show-front-requires c κs =
     let a = two-accepted _ _ _ (passed .before .preset-refusal .ensures) (passed .if1 .left) in
     (a .0, (a .1, rw (fits .before .lanes .ensures) at (fits .if2 .left)))
 
-same-length : tie.Need-same-length
-same-length c = search needs
-
 returns-3 : tie.Need-returns-3
 unfolding windowOfWord
 returns-3 c =
@@ -50,10 +41,10 @@ pub window-of-word-spec : {M : Type 1} → statement M
 window-of-word-spec =
     tie.close
     (tie.spec
-    preset-refusal-requires
+    (λ c κs. search needs)
     returns
-    lanes-requires
+    (λ c κs. search needs)
     returns-2
     show-front-requires
-    same-length
+    (λ c. search needs)
     returns-3)

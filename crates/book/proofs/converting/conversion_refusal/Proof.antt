@@ -8,17 +8,11 @@ use borrow.Author.Needs.{needs}
 use Rattle.book.proofs.converting.conversion_refusal.Statement.{statement}
 use Rattle.book.proofs.converting.conversion_refusal.Tie as tie
 
-book-refusal-requires : tie.Need-book-refusal-requires
-book-refusal-requires c κs = search needs
-
 returns : tie.Need-returns
 returns c = conversion-book _ _ _ (c .before .book-refusal .ensures) (c .if1 .taken)
 
 count-of-requires : tie.Need-count-of-requires
 count-of-requires c κs = never-one _ _ (sym (c .before .book-refusal .ensures) ∙ c .if1 .left)
-
-records-refusal-requires : tie.Need-records-refusal-requires
-records-refusal-requires c κs = search needs
 
 returns-2 : tie.Need-returns-2
 returns-2 c =
@@ -56,10 +50,10 @@ pub conversion-refusal-spec : {M : Type 1} → statement M
 conversion-refusal-spec =
     tie.close
     (tie.spec
-    book-refusal-requires
+    (λ c κs. search needs)
     returns
     count-of-requires
-    records-refusal-requires
+    (λ c κs. search needs)
     returns-2
     converted-size-requires
     returns-3

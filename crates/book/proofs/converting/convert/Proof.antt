@@ -9,9 +9,6 @@ use borrow.Author.Needs.{needs}
 use Rattle.book.proofs.converting.convert.Statement.{statement}
 use Rattle.book.proofs.converting.convert.Tie as tie
 
-conversion-refusal-requires : tie.Need-conversion-refusal-requires
-conversion-refusal-requires c κs = search needs
-
 returns : tie.Need-returns
 returns c = converting-refused _ _ _ _ (c .before .conversion-refusal .ensures) (c .if1 .taken)
 
@@ -51,9 +48,6 @@ write-converted-requires c κs =
       omega (arith, size-made _ _ _ e z _ _ (counted .count-of .ensures .0) (sized .converted-size .ensures), c .before .if3 .left),
     )
 
-same-length : tie.Need-same-length
-same-length c = search needs
-
 returns-4 : tie.Need-returns-4
 returns-4 c =
     let written = c .before .before in
@@ -69,12 +63,12 @@ pub convert-spec : {M : Type 1} → statement M
 convert-spec =
     tie.close
     (tie.spec
-    conversion-refusal-requires
+    (λ c κs. search needs)
     returns
     returns-2
     count-of-requires
     converted-size-requires
     returns-3
     write-converted-requires
-    same-length
+    (λ c. search needs)
     returns-4)

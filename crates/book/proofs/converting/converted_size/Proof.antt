@@ -7,15 +7,6 @@ use Rattle.book.proofs.converting.converted_size.Tie as tie
 enum-told : tie.Need-enum-told
 enum-told c = search needs
 
-add-result : tie.Need-add-result
-add-result c = search needs
-
-enum-told-2 : tie.Need-enum-told-2
-enum-told-2 c = search needs
-
-sub-result : tie.Need-sub-result
-sub-result c = search needs
-
 returns : tie.Need-returns
 returns c = rw (c .enum-told .given .1)
 
@@ -24,4 +15,9 @@ returns-2 c = rw (c .enum-told2 .given .1)
 
 pub converted-size-spec : {M : Type 1} → statement M
 converted-size-spec =
-    tie.close (tie.spec enum-told add-result enum-told-2 sub-result returns returns-2)
+    tie.close
+    (tie.spec
+    enum-told
+    (λ c. search needs) (λ c. search needs) (λ c. search needs)
+    returns
+    returns-2)

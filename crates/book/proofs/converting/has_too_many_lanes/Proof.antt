@@ -12,12 +12,6 @@ use Rattle.book.proofs.converting.has_too_many_lanes.Tie as tie
 enum-told : tie.Need-enum-told
 enum-told c = search needs
 
-enum-told-2 : tie.Need-enum-told-2
-enum-told-2 c = search needs
-
-add-result : tie.Need-add-result
-add-result c = search needs
-
 -- the head of a record of the second edition lies inside the book
 inside : (c : tie.After-enum-told2) → c .before .before .args .o + 3 ≤ length (now (c .before .before .args .book))
 inside c = rw (c .enum-told2 .given .1) at (c .before .before .pre)
@@ -36,4 +30,9 @@ returns-2 c = rw (c .before .enum-told2 .given .1)
 pub has-too-many-lanes-spec : {M : Type 1} → statement M
 has-too-many-lanes-spec =
     tie.close
-    (tie.spec enum-told enum-told-2 add-result shared-slice-read-result returns returns-2)
+    (tie.spec
+    enum-told
+    (λ c. search needs) (λ c. search needs)
+    shared-slice-read-result
+    returns
+    returns-2)

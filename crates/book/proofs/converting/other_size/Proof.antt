@@ -12,26 +12,11 @@ record-start-requires c κs =
     let pre = c .before .pre in
     (pre .1, omega (arith, counted-some _ _ (pre .0 .opens) (pre .0 .some) .fits), pre .2)
 
-count-place-requires : tie.Need-count-place-requires
-count-place-requires c κs = search needs
-
-other-requires : tie.Need-other-requires
-other-requires c κs = search needs
-
-head-size-requires : tie.Need-head-size-requires
-head-size-requires c κs = search needs
-
-add-two-at : tie.Need-add-two-at
-add-two-at c = search needs
-
 two-at-requires : tie.Need-two-at-requires
 two-at-requires c κs =
     let read = c .before .before .before in
     let pre = read .before .before .pre in
     omega (arith, inside _ _ _ _ _ (pre .0 .opens) (pre .1) (pre .2) (read .record-start .ensures .0), c .before .before .count-place .ensures .0)
-
-add-result : tie.Need-add-result
-add-result c = search needs
 
 returns : tie.Need-returns
 returns c =
@@ -46,10 +31,7 @@ other-size-spec =
     tie.close
     (tie.spec
     record-start-requires
-    count-place-requires
-    other-requires
-    head-size-requires
-    add-two-at
+    (λ c κs. search needs) (λ c κs. search needs) (λ c κs. search needs) (λ c. search needs)
     two-at-requires
-    add-result
+    (λ c. search needs)
     returns)

@@ -6,9 +6,6 @@ use borrow.Author.Needs.{needs}
 use Rattle.book.proofs.converting.write_converted.Statement.{statement}
 use Rattle.book.proofs.converting.write_converted.Tie as tie
 
-write-others-requires : tie.Need-write-others-requires
-write-others-requires c κs = search needs
-
 write-offsets-requires : tie.Need-write-offsets-requires
 write-offsets-requires c κs =
     let others = c .before .before .before in
@@ -40,9 +37,6 @@ put-two-requires c κs =
       c .before .before .before .write-offsets .kept .1 .1 .1 .0,
     )
 
-same-length : tie.Need-same-length
-same-length c = search needs
-
 returns : tie.Need-returns
 returns c =
     let put = c .before .before in
@@ -55,10 +49,10 @@ pub write-converted-spec : {M : Type 1} → statement M
 write-converted-spec =
     tie.close
     (tie.spec
-    write-others-requires
+    (λ c κs. search needs)
     write-offsets-requires
     mul-put-two
     add-put-two
     put-two-requires
-    same-length
+    (λ c. search needs)
     returns)

@@ -13,38 +13,17 @@ record-start-requires c κs =
     let pre = c .before .before .pre .0 in
     (pre .1, omega (arith, counted-some _ _ (pre .0 .opens) (pre .0 .some) .fits), pre .2)
 
-count-place-requires : tie.Need-count-place-requires
-count-place-requires c κs = search needs
-
-head-size-requires : tie.Need-head-size-requires
-head-size-requires c κs = search needs
-
-add-start : tie.Need-add-start
-add-start c = search needs
-
-add-two-at : tie.Need-add-two-at
-add-two-at c = search needs
-
 two-at-requires : tie.Need-two-at-requires
 two-at-requires c κs =
     let read = c .before .before in
     let pre = read .before .before .before .pre .0 in
     omega (arith, inside _ _ _ _ _ (pre .0 .opens) (pre .1) (pre .2) (read .record-start .ensures .0), c .before .count-place .ensures .0)
 
-add-end : tie.Need-add-end
-add-end c = search needs
-
-other-requires : tie.Need-other-requires
-other-requires c κs = search needs
-
 shared-slice-read-write-record : tie.Need-shared-slice-read-write-record
 shared-slice-read-write-record c =
     let read = c .before .before .before .before .before in
     let pre = read .before .before .before .pre .0 in
     omega (arith, inside _ _ _ _ _ (pre .0 .opens) (pre .1) (pre .2) (read .record-start .ensures .0))
-
-add-write-record : tie.Need-add-write-record
-add-write-record c = search needs
 
 shared-slice-read-write-record-2 : tie.Need-shared-slice-read-write-record-2
 shared-slice-read-write-record-2 c =
@@ -53,12 +32,6 @@ shared-slice-read-write-record-2 c =
     let pre = start .pre .0 in
     let h = two-le-countPlace (start .args .edition) in
     omega (arith, inside _ _ _ _ _ (pre .0 .opens) (pre .1) (pre .2) (read .record-start .ensures .0))
-
-sub-write-record : tie.Need-sub-write-record
-sub-write-record c = search needs
-
-part-write-record-start : tie.Need-part-write-record-start
-part-write-record-start c = search needs
 
 part-write-record-end : tie.Need-part-write-record-end
 part-write-record-end c =
@@ -83,9 +56,6 @@ write-record-requires c κs =
           _ (headed .head-size .ensures .0) _ _ _ (c .before .before .before .before .other .ensures) (start .pre .1),
     )
 
-same-length : tie.Need-same-length
-same-length c = search needs
-
 returns : tie.Need-returns
 returns c =
     let written = c .before .before in
@@ -102,19 +72,14 @@ write-other-spec =
     tie.close
     (tie.spec
     record-start-requires
-    count-place-requires
-    head-size-requires
-    add-start
-    add-two-at
+    (λ c κs. search needs) (λ c κs. search needs) (λ c. search needs) (λ c. search needs)
     two-at-requires
-    add-end
-    other-requires
+    (λ c. search needs) (λ c κs. search needs)
     shared-slice-read-write-record
-    add-write-record
+    (λ c. search needs)
     shared-slice-read-write-record-2
-    sub-write-record
-    part-write-record-start
+    (λ c. search needs) (λ c. search needs)
     part-write-record-end
     write-record-requires
-    same-length
+    (λ c. search needs)
     returns)

@@ -10,14 +10,8 @@ use Rattle.book.proofs.numbers.count_of.Tie as tie
 returns : tie.Need-returns
 returns c = (sym (count-bytes _ (c .if1 .taken)), omega arith)
 
-sub-two-at : tie.Need-sub-two-at
-sub-two-at c = search needs
-
-two-at-requires : tie.Need-two-at-requires
-two-at-requires c κs = search needs
-
 returns-2 : tie.Need-returns-2
 returns-2 c = (count-read _ _ (c .two-at .ensures .0), c .two-at .ensures .1)
 
 pub count-of-spec : {M : Type 1} → statement M
-count-of-spec = tie.close (tie.spec returns sub-two-at two-at-requires returns-2)
+count-of-spec = tie.close (tie.spec returns (λ c. search needs) (λ c κs. search needs) returns-2)

@@ -18,22 +18,10 @@ returns-2 c = sym (bookRefusal-small _ _ (c .before .if1 .left) (c .if2 .taken))
 returns-3 : tie.Need-returns-3
 returns-3 c = sym (bookRefusal-large _ _ (c .before .if2 .left) (c .if3 .taken))
 
-count-of-requires : tie.Need-count-of-requires
-count-of-requires c κs = search needs
-
-mul-if4 : tie.Need-mul-if4
-mul-if4 c = search needs
-
-add-if4 : tie.Need-add-if4
-add-if4 c = search needs
-
 returns-4 : tie.Need-returns-4
 returns-4 c =
     let sized = c .before .before in
     sym (bookRefusal-count _ _ _ (sized .before .if2 .left) (sized .if3 .left) (c .before .count-of .ensures .0) (c .if4 .taken))
-
-is-misplaced-requires : tie.Need-is-misplaced-requires
-is-misplaced-requires c κs = search needs
 
 -- the answer after the walk
 walked : (c : tie.After-is-misplaced)
@@ -57,10 +45,8 @@ book-refusal-spec =
     returns
     returns-2
     returns-3
-    count-of-requires
-    mul-if4
-    add-if4
+    (λ c κs. search needs) (λ c. search needs) (λ c. search needs)
     returns-4
-    is-misplaced-requires
+    (λ c κs. search needs)
     returns-5
     returns-6)

@@ -7,9 +7,6 @@ use borrow.Author.Needs.{needs}
 use Rattle.book.proofs.reading.check_book.Statement.{statement}
 use Rattle.book.proofs.reading.check_book.Tie as tie
 
-book-refusal-requires : tie.Need-book-refusal-requires
-book-refusal-requires c κs = search needs
-
 returns : tie.Need-returns
 returns c = sym (checkedBook-refused _ _ _ (c .before .book-refusal .ensures) (c .if1 .taken))
 
@@ -20,4 +17,4 @@ returns-2 : tie.Need-returns-2
 returns-2 c = sym (checkedBook-presets _ _ _ _ (c .before .before .book-refusal .ensures) (c .before .if1 .left) (c .count-of .ensures .0))
 
 pub check-book-spec : {M : Type 1} → statement M
-check-book-spec = tie.close (tie.spec book-refusal-requires returns count-of-requires returns-2)
+check-book-spec = tie.close (tie.spec (λ c κs. search needs) returns count-of-requires returns-2)

@@ -7,29 +7,8 @@ use borrow.Author.Needs.{needs}
 use Rattle.book.proofs.reading.check_record.Statement.{statement}
 use Rattle.book.proofs.reading.check_record.Tie as tie
 
-count-place-requires : tie.Need-count-place-requires
-count-place-requires c κs = search needs
-
-head-size-requires : tie.Need-head-size-requires
-head-size-requires c κs = search needs
-
-shared-slice-read-kind : tie.Need-shared-slice-read-kind
-shared-slice-read-kind c = search needs
-
-add-rank : tie.Need-add-rank
-add-rank c = search needs
-
-shared-slice-read-rank : tie.Need-shared-slice-read-rank
-shared-slice-read-rank c = search needs
-
-book-rank-refusal-requires : tie.Need-book-rank-refusal-requires
-book-rank-refusal-requires c κs = search needs
-
 returns : tie.Need-returns
 returns c = sym (checkedRecord-rank _ _ _ _ (c .before .book-rank-refusal .ensures) (c .if1 .taken))
-
-has-wrong-lanes-requires : tie.Need-has-wrong-lanes-requires
-has-wrong-lanes-requires c κs = search needs
 
 returns-2 : tie.Need-returns-2
 returns-2 c =
@@ -37,33 +16,12 @@ returns-2 c =
     sym
     (checkedRecord-lanes _ _ _ _ (ranked .before .book-rank-refusal .ensures) (ranked .if1 .left) _ (c .before .has-wrong-lanes .ensures) (c .if2 .taken))
 
-add-two-at : tie.Need-add-two-at
-add-two-at c = search needs
-
-two-at-requires : tie.Need-two-at-requires
-two-at-requires c κs = search needs
-
-add-start : tie.Need-add-start
-add-start c = search needs
-
-add-end : tie.Need-add-end
-add-end c = search needs
-
-sub-preset-refusal : tie.Need-sub-preset-refusal
-sub-preset-refusal c = search needs
-
-part-preset-refusal-start : tie.Need-part-preset-refusal-start
-part-preset-refusal-start c = search needs
-
 part-preset-refusal-end : tie.Need-part-preset-refusal-end
 part-preset-refusal-end c =
     let headed = c .before .before .before .before .before .before .before in
     let placed = headed .before in
     let start = placed .before .before in
     end-read-le (start .args .edition) _ _ _ _ _ (placed .count-place .ensures .0) (headed .head-size .ensures .0) (c .two-at .ensures .0) (start .pre .1)
-
-preset-refusal-requires : tie.Need-preset-refusal-requires
-preset-refusal-requires c κs = search needs
 
 returns-3 : tie.Need-returns-3
 returns-3 c =
@@ -89,22 +47,14 @@ pub check-record-spec : {M : Type 1} → statement M
 check-record-spec =
     tie.close
     (tie.spec
-    count-place-requires
-    head-size-requires
-    shared-slice-read-kind
-    add-rank
-    shared-slice-read-rank
-    book-rank-refusal-requires
+    (λ c κs. search needs) (λ c κs. search needs) (λ c. search needs) (λ c. search needs) (λ c. search needs)
+    (λ c κs. search needs)
     returns
-    has-wrong-lanes-requires
+    (λ c κs. search needs)
     returns-2
-    add-two-at
-    two-at-requires
-    add-start
-    add-end
-    sub-preset-refusal
-    part-preset-refusal-start
+    (λ c. search needs) (λ c κs. search needs) (λ c. search needs) (λ c. search needs) (λ c. search needs)
+    (λ c. search needs)
     part-preset-refusal-end
-    preset-refusal-requires
+    (λ c κs. search needs)
     returns-3
     returns-4)

@@ -28,12 +28,6 @@ add-trailer c = omega arith
 sub-trailer : tie.Need-sub-trailer Inv-loop μ-loop
 sub-trailer c = omega arith
 
-count-place-requires : tie.Need-count-place-requires Inv-loop μ-loop
-count-place-requires c κs = search needs
-
-head-size-requires : tie.Need-head-size-requires Inv-loop μ-loop
-head-size-requires c κs = search needs
-
 loop-holds : tie.Need-loop-holds Inv-loop μ-loop
 loop-holds c = (omega arith, λ ed w. misplaced-start ed _ _ (c .before .before .before .pre .1 .1))
 
@@ -103,14 +97,11 @@ returns-2 c =
 pub is-misplaced-spec : {M : Type 1} → statement M
 is-misplaced-spec =
     tie.close
-    (tie.spec
-    Inv-loop
-    μ-loop
+    (tie.spec Inv-loop μ-loop
     mul-trailer
     add-trailer
     sub-trailer
-    count-place-requires
-    head-size-requires
+    (λ c κs. search needs) (λ c κs. search needs)
     loop-holds
     mul-two-at
     add-two-at

@@ -16,35 +16,14 @@ at : (c : tie.After-start)
     Found (a .edition) (now (a .book)) (a .number) (g .0) (g .1 .0) (g .1 .1 .0) (g .1 .1 .1 .0)
 at c = found _ _ _ _ _ _ _ (sym (c .start .given .1) ∙ c .before .before .check-preset .ensures)
 
-check-preset-requires : tie.Need-check-preset-requires
-check-preset-requires c κs = search needs
-
-enum-known-start : tie.Need-enum-known-start
-enum-known-start c = search needs
-
 add-end : tie.Need-add-end
 add-end c = let h = found-small _ _ _ _ _ _ _ (at (c .before)) in omega arith
-
-sub-result : tie.Need-sub-result
-sub-result c = search needs
-
-part-result-start : tie.Need-part-result-start
-part-result-start c = search needs
 
 part-result-end : tie.Need-part-result-end
 part-result-end c = found-inside _ _ _ _ _ _ _ (at (c .before))
 
 enum-told : tie.Need-enum-told
 enum-told c = search needs
-
-sub-result-2 : tie.Need-sub-result-2
-sub-result-2 c = search needs
-
-part-result-start-2 : tie.Need-part-result-start-2
-part-result-start-2 c = search needs
-
-part-result-end-2 : tie.Need-part-result-end-2
-part-result-end-2 c = search needs
 
 returns : tie.Need-returns
 returns c = let f = at (c .before .before) in (lettersOf-found _ _ _ _ _ _ _ f, (refl, lettersStart-found _ _ _ _ _ _ _ _ f))
@@ -58,15 +37,11 @@ pub letters-spec : {M : Type 1} → statement M
 letters-spec =
     tie.close
     (tie.spec
-    check-preset-requires
-    enum-known-start
+    (λ c κs. search needs) (λ c. search needs)
     add-end
-    sub-result
-    part-result-start
+    (λ c. search needs) (λ c. search needs)
     part-result-end
     enum-told
-    sub-result-2
-    part-result-start-2
-    part-result-end-2
+    (λ c. search needs) (λ c. search needs) (λ c. search needs)
     returns
     returns-2)

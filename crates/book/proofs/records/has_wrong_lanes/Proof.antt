@@ -13,12 +13,6 @@ use Rattle.book.proofs.records.has_wrong_lanes.Tie as tie
 enum-told : tie.Need-enum-told
 enum-told c = search needs
 
-enum-told-2 : tie.Need-enum-told-2
-enum-told-2 c = search needs
-
-add-written : tie.Need-add-written
-add-written c = search needs
-
 -- the head of a record of the second edition lies inside the book
 inside : (c : tie.After-enum-told2) → c .before .before .before .args .o + 3 ≤ length (now (c .before .before .before .args .book))
 inside c = rw (c .enum-told2 .given .1) at (c .before .before .before .pre .0)
@@ -32,14 +26,8 @@ cast-written c = omega (arith, c .shared-slice-known2 .given (c .before .before 
 shared-slice-read-lanes : tie.Need-shared-slice-read-lanes
 shared-slice-read-lanes c = omega (arith, inside (c .before .before))
 
-add-lanes : tie.Need-add-lanes
-add-lanes c = search needs
-
 shared-slice-read-lanes-2 : tie.Need-shared-slice-read-lanes-2
 shared-slice-read-lanes-2 c = omega (arith, inside (c .before .before .before))
-
-lanes-requires : tie.Need-lanes-requires
-lanes-requires c κs = search needs
 
 returns : tie.Need-returns
 returns c = rw (c .enum-told .given .1) (sym (first-lane-count _ _))
@@ -52,13 +40,12 @@ has-wrong-lanes-spec =
     tie.close
     (tie.spec
     enum-told
-    enum-told-2
-    add-written
+    (λ c. search needs) (λ c. search needs)
     shared-slice-read-written
     cast-written
     shared-slice-read-lanes
-    add-lanes
+    (λ c. search needs)
     shared-slice-read-lanes-2
-    lanes-requires
+    (λ c κs. search needs)
     returns
     returns-2)

@@ -10,9 +10,6 @@ use borrow.Author.Needs.{needs}
 use Rattle.book.proofs.runs.read_presets.Statement.{statement}
 use Rattle.book.proofs.runs.read_presets.Tie as tie
 
-book-refusal-requires : tie.Need-book-refusal-requires
-book-refusal-requires c κs = search needs
-
 returns : tie.Need-returns
 returns c = reading-book _ _ _ _ _ (c .before .book-refusal .ensures) (c .if1 .taken)
 
@@ -30,12 +27,6 @@ returns-3 c =
     let opened = read .before in
     reading-short _ _ _ _ _ (opened .before .book-refusal .ensures) (opened .if1 .left) _ (read .count-of .ensures .0) (c .before .if2 .left) (c .if3 .taken)
 
-sub-smaller-of : tie.Need-sub-smaller-of
-sub-smaller-of c = search needs
-
-smaller-of-requires : tie.Need-smaller-of-requires
-smaller-of-requires c κs = search needs
-
 put-run-requires : tie.Need-put-run-requires
 put-run-requires c κs =
     let sized = c .before in
@@ -44,9 +35,6 @@ put-run-requires c κs =
     let fits = run-fits _ _ _ _ (sized .smaller-of .ensures) (sized .before .before .if2 .left) in
     let e = read .count-of .ensures .0 in
     (sym (opened .before .book-refusal .ensures) ∙ opened .if1 .left, omega (arith, fits .0), fits .1)
-
-same-length : tie.Need-same-length
-same-length c = search needs
 
 returns-4 : tie.Need-returns-4
 returns-4 c =
@@ -62,13 +50,12 @@ pub read-presets-spec : {M : Type 1} → statement M
 read-presets-spec =
     tie.close
     (tie.spec
-    book-refusal-requires
+    (λ c κs. search needs)
     returns
     count-of-requires
     returns-2
     returns-3
-    sub-smaller-of
-    smaller-of-requires
+    (λ c. search needs) (λ c κs. search needs)
     put-run-requires
-    same-length
+    (λ c. search needs)
     returns-4)

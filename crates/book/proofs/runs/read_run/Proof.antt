@@ -16,15 +16,6 @@ Inv-loop edition book first refusal start run₀ i₀ run i = Begun (checkedPres
 abbrev μ-loop : tie.MeasureT-loop
 μ-loop edition book first refusal start run₀ i₀ run i = 128 - i
 
-book-refusal-requires : tie.Need-book-refusal-requires Inv-loop μ-loop
-book-refusal-requires c κs = search needs
-
-smaller-of-requires : tie.Need-smaller-of-requires Inv-loop μ-loop
-smaller-of-requires c κs = search needs
-
-blank-run-requires : tie.Need-blank-run-requires Inv-loop μ-loop
-blank-run-requires c κs = search needs
-
 loop-holds : tie.Need-loop-holds Inv-loop μ-loop
 loop-holds c = begun-none _ _ _ _ (c .blank-run .ensures)
 
@@ -32,18 +23,6 @@ add-numbered-preset : tie.Need-add-numbered-preset Inv-loop μ-loop
 add-numbered-preset c =
     let sized = c .before .before .before in
     omega (arith, sized .smaller-of .ensures, min-le-right (sized .before .before .before .args .first) 65535)
-
-numbered-preset-requires : tie.Need-numbered-preset-requires Inv-loop μ-loop
-numbered-preset-requires c κs = search needs
-
-mul-run : tie.Need-mul-run Inv-loop μ-loop
-mul-run c = search needs
-
-array-set-from-run : tie.Need-array-set-from-run Inv-loop μ-loop
-array-set-from-run c = search needs
-
-add-i : tie.Need-add-i Inv-loop μ-loop
-add-i c = search needs
 
 loop-less : tie.Need-loop-less Inv-loop μ-loop
 loop-less c = omega arith
@@ -60,18 +39,11 @@ returns c = begun-whole _ _ _ _ _ (c .before .loop .inv) (c .loop-test .left)
 pub read-run-spec : {M : Type 1} → statement M
 read-run-spec =
     tie.close
-    (tie.spec
-    Inv-loop
-    μ-loop
-    book-refusal-requires
-    smaller-of-requires
-    blank-run-requires
+    (tie.spec Inv-loop μ-loop
+    (λ c κs. search needs) (λ c κs. search needs) (λ c κs. search needs)
     loop-holds
     add-numbered-preset
-    numbered-preset-requires
-    mul-run
-    array-set-from-run
-    add-i
+    (λ c κs. search needs) (λ c. search needs) (λ c. search needs) (λ c. search needs)
     loop-less
     loop-again
     returns)

@@ -9,9 +9,6 @@ use borrow.Author.Needs.{needs}
 use Rattle.book.proofs.writing.append.Statement.{statement}
 use Rattle.book.proofs.writing.append.Tie as tie
 
-append-refusal-requires : tie.Need-append-refusal-requires
-append-refusal-requires c κs = search needs
-
 returns : tie.Need-returns
 returns c = appending-refused _ _ _ _ _ _ _ (c .before .append-refusal .ensures) (c .if1 .taken)
 
@@ -32,9 +29,6 @@ write-appended-requires c κs =
     let passed = sym (checked .before .append-refusal .ensures) ∙ checked .if1 .left in
     ((append-book _ _ _ _ _ passed, append-rank _ _ _ _ _ passed), omega (arith, c .before .if2 .left, sized .appended-size .ensures))
 
-same-length : tie.Need-same-length
-same-length c = search needs
-
 returns-3 : tie.Need-returns-3
 returns-3 c =
     let roomy = c .before .before .before .before in
@@ -47,10 +41,10 @@ pub append-spec : {M : Type 1} → statement M
 append-spec =
     tie.close
     (tie.spec
-    append-refusal-requires
+    (λ c κs. search needs)
     returns
     appended-size-requires
     returns-2
     write-appended-requires
-    same-length
+    (λ c. search needs)
     returns-3)

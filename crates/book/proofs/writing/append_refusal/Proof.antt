@@ -9,22 +9,13 @@ use borrow.Author.Needs.{needs}
 use Rattle.book.proofs.writing.append_refusal.Statement.{statement}
 use Rattle.book.proofs.writing.append_refusal.Tie as tie
 
-book-refusal-requires : tie.Need-book-refusal-requires
-book-refusal-requires c κs = search needs
-
 returns : tie.Need-returns
 returns c = sym (appendRefusal-book _ _ _ _ _ _ (c .before .book-refusal .ensures) (c .if1 .taken))
-
-book-rank-refusal-requires : tie.Need-book-rank-refusal-requires
-book-rank-refusal-requires c κs = search needs
 
 returns-2 : tie.Need-returns-2
 returns-2 c =
     let opened = c .before .before in
     sym (appendRefusal-rank _ _ _ _ _ _ (opened .before .book-refusal .ensures) _ (opened .if1 .left) (c .before .book-rank-refusal .ensures) (c .if2 .taken))
-
-preset-refusal-requires : tie.Need-preset-refusal-requires
-preset-refusal-requires c κs = search needs
 
 returns-3 : tie.Need-returns-3
 returns-3 c =
@@ -33,9 +24,6 @@ returns-3 c =
     sym
     (appendRefusal-word _ _ _ _ _ _ (opened .before .book-refusal .ensures) _ (opened .if1 .left) (ranked .before .book-rank-refusal .ensures)
     _ (ranked .if2 .left) (c .before .preset-refusal .ensures) (c .if3 .taken))
-
-is-retired-requires : tie.Need-is-retired-requires
-is-retired-requires c κs = search needs
 
 returns-4 : tie.Need-returns-4
 returns-4 c =
@@ -79,13 +67,13 @@ pub append-refusal-spec : {M : Type 1} → statement M
 append-refusal-spec =
     tie.close
     (tie.spec
-    book-refusal-requires
+    (λ c κs. search needs)
     returns
-    book-rank-refusal-requires
+    (λ c κs. search needs)
     returns-2
-    preset-refusal-requires
+    (λ c κs. search needs)
     returns-3
-    is-retired-requires
+    (λ c κs. search needs)
     returns-4
     appended-size-requires
     returns-5

@@ -13,26 +13,14 @@ use Rattle.book.proofs.writing.write_appended.Tie as tie
 count-of-requires : tie.Need-count-of-requires
 count-of-requires c κs = never-one _ _ (c .before .before .before .pre .0 .0)
 
-size-of-requires : tie.Need-size-of-requires
-size-of-requires c κs = search needs
-
 -- the trailer lies inside the book with its count
 trailer-fits : (c : tie.After-size-of) → 2 * c .before .count-of .result + 2 ≤ c .size-of .result
 trailer-fits c =
     let counted = c .before in
     omega (arith, accepted _ _ (counted .before .before .before .before .pre .0 .0), counted .count-of .ensures .0, c .size-of .ensures)
 
-mul-trailer : tie.Need-mul-trailer
-mul-trailer c = search needs
-
-add-trailer : tie.Need-add-trailer
-add-trailer c = search needs
-
 sub-trailer : tie.Need-sub-trailer
 sub-trailer c = trailer-fits c
-
-head-size-requires : tie.Need-head-size-requires
-head-size-requires c κs = search needs
 
 write-records-requires : tie.Need-write-records-requires
 write-records-requires c κs =
@@ -44,12 +32,6 @@ write-records-requires c κs =
     let e = counted .count-of .ensures .0 in
     let s = sized .size-of .ensures in
     (pre .0 .1, omega (arith, a), omega (arith, a, pre .1))
-
-add-write-trailer : tie.Need-add-write-trailer
-add-write-trailer c = search needs
-
-add-write-trailer-2 : tie.Need-add-write-trailer-2
-add-write-trailer-2 c = search needs
 
 write-trailer-requires : tie.Need-write-trailer-requires
 write-trailer-requires c κs =
@@ -63,9 +45,6 @@ write-trailer-requires c κs =
     let s = sized .size-of .ensures in
     let head = headed .head-size .ensures .0 in
     (omega (arith, a), omega (arith, a, pre .1))
-
-same-length : tie.Need-same-length
-same-length c = search needs
 
 returns : tie.Need-returns
 returns c =
@@ -83,14 +62,11 @@ write-appended-spec =
     tie.close
     (tie.spec
     count-of-requires
-    size-of-requires
-    mul-trailer
-    add-trailer
+    (λ c κs. search needs) (λ c. search needs) (λ c. search needs)
     sub-trailer
-    head-size-requires
+    (λ c κs. search needs)
     write-records-requires
-    add-write-trailer
-    add-write-trailer-2
+    (λ c. search needs) (λ c. search needs)
     write-trailer-requires
-    same-length
+    (λ c. search needs)
     returns)

@@ -17,12 +17,6 @@ copy-to-requires c κs =
     let start = c .before .before .before .before .before in
     omega (arith, length-take-le (start .args .trailer) (now (start .args .book)) (start .pre .1))
 
-write-record-requires : tie.Need-write-record-requires
-write-record-requires c κs = search needs
-
-same-length : tie.Need-same-length
-same-length c = search needs
-
 returns : tie.Need-returns
 returns c =
     let copied = c .before .before .before .before .before .before in
@@ -32,4 +26,8 @@ returns c =
 pub write-records-spec : {M : Type 1} → statement M
 write-records-spec =
     tie.close
-    (tie.spec slice-aggregate-copy-to copy-to-requires write-record-requires same-length returns)
+    (tie.spec
+    slice-aggregate-copy-to
+    copy-to-requires
+    (λ c κs. search needs) (λ c. search needs)
+    returns)

@@ -8,17 +8,8 @@ use Rattle.c_api.proofs.Bytes.{sentence-yielded}
 use Rattle.c_api.proofs.library.winnathey_refusal_sentence.Statement.{statement}
 use Rattle.c_api.proofs.library.winnathey_refusal_sentence.Tie as tie
 
-byte-requires : tie.Need-byte-requires
-byte-requires c κs = search needs
-
-refusal-sentence-requires : tie.Need-refusal-sentence-requires
-refusal-sentence-requires c κs = search needs
-
 number-requires : tie.Need-number-requires
 number-requires c κs l e = refusalSentence-small _ _ l (sym (c .before .before .refusal-sentence .ensures .0) ∙ e)
-
-same-length : tie.Need-same-length
-same-length c = search needs
 
 returns : tie.Need-returns
 returns c =
@@ -26,4 +17,10 @@ returns c =
     sentence-yielded _ _ _ _ _ _ (below .before .before .byte .ensures) (c .number .ok) (c .number .ensures) (below .refusal-sentence .ensures)
 
 pub winnathey-refusal-sentence-spec : {M : Type 1} → statement M
-winnathey-refusal-sentence-spec = tie.close (tie.spec byte-requires refusal-sentence-requires number-requires same-length returns)
+winnathey-refusal-sentence-spec =
+    tie.close
+    (tie.spec
+    (λ c κs. search needs) (λ c κs. search needs)
+    number-requires
+    (λ c. search needs)
+    returns)

@@ -7,17 +7,8 @@ use Rattle.c_api.proofs.Lengths.{i64-back}
 use Rattle.c_api.proofs.numbers.number.Statement.{statement}
 use Rattle.c_api.proofs.numbers.number.Tie as tie
 
-enum-known-answer : tie.Need-enum-known-answer
-enum-known-answer c = search needs
-
 size-requires : tie.Need-size-requires
 size-requires c κs = c .before .before .before .pre _ (c .before .answer .given .1)
-
-enum-known-answer-2 : tie.Need-enum-known-answer-2
-enum-known-answer-2 c = search needs
-
-refusal-number-requires : tie.Need-refusal-number-requires
-refusal-number-requires c κs = search needs
 
 returns : tie.Need-returns
 unfolding numberOf
@@ -28,4 +19,11 @@ unfolding numberOf
 returns-2 c = rw (c .before .before .answer2 .given .1) (i64-back _ (c .refusal-number .ok) ∙ c .refusal-number .ensures)
 
 pub number-spec : {M : Type 1} → statement M
-number-spec = tie.close (tie.spec enum-known-answer size-requires enum-known-answer-2 refusal-number-requires returns returns-2)
+number-spec =
+    tie.close
+    (tie.spec
+    (λ c. search needs)
+    size-requires
+    (λ c. search needs) (λ c κs. search needs)
+    returns
+    returns-2)

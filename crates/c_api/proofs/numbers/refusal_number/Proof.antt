@@ -5,9 +5,6 @@ use Rattle.c_api.proofs.Lengths.{refusal-fits, refusal-back}
 use Rattle.c_api.proofs.numbers.refusal_number.Statement.{statement}
 use Rattle.c_api.proofs.numbers.refusal_number.Tie as tie
 
-cast-result : tie.Need-cast-result
-cast-result c = search needs
-
 sub-result : tie.Need-sub-result
 sub-result c = refusal-fits _ (c .fits .k .fits)
 
@@ -15,4 +12,4 @@ returns : tie.Need-returns
 returns c = refusal-back _ (c .fits .k .fits)
 
 pub refusal-number-spec : {M : Type 1} → statement M
-refusal-number-spec = tie.close (tie.spec cast-result sub-result returns)
+refusal-number-spec = tie.close (tie.spec (λ c. search needs) sub-result returns)

@@ -5,11 +5,8 @@ use Rattle.c_api.proofs.Lengths.{size-back}
 use Rattle.c_api.proofs.numbers.size.Statement.{statement}
 use Rattle.c_api.proofs.numbers.size.Tie as tie
 
-cast-result : tie.Need-cast-result
-cast-result c = search needs
-
 returns : tie.Need-returns
 returns c = size-back _ (c .pre)
 
 pub size-spec : {M : Type 1} → statement M
-size-spec = tie.close (tie.spec cast-result returns)
+size-spec = tie.close (tie.spec (λ c. search needs) returns)

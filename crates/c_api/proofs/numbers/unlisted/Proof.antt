@@ -8,9 +8,6 @@ use borrow.Author.Needs.{needs}
 use Rattle.c_api.proofs.numbers.unlisted.Statement.{statement}
 use Rattle.c_api.proofs.numbers.unlisted.Tie as tie
 
-refusal-number-requires : tie.Need-refusal-number-requires
-refusal-number-requires c κs = search needs
-
 returns : tie.Need-returns
 returns c = rw (ne-eqb _ 0 (c .before .if1 .taken)) (i64-back _ (c .refusal-number .ok) ∙ c .refusal-number .ensures)
 
@@ -19,4 +16,4 @@ unfolding refused
 returns-2 c = rw (c .if1 .left)
 
 pub unlisted-spec : {M : Type 1} → statement M
-unlisted-spec = tie.close (tie.spec refusal-number-requires returns returns-2)
+unlisted-spec = tie.close (tie.spec (λ c κs. search needs) returns returns-2)

@@ -15,21 +15,12 @@ use Rattle.c_api.proofs.numbers.write_crossings.Tie as tie
 small : (c : tie.After-known-told) → c .before .counted .given .0 .0 + c .before .counted .given .0 .1 .0 + c .before .counted .given .0 .1 .1 .0 ≤ 65535
 small c = c .before .before .before .before .pre _ _ _ (c .before .counted .given .1)
 
-enum-known-counted : tie.Need-enum-known-counted
-enum-known-counted c = search needs
-
 returns : tie.Need-returns
 unfolding refused
 returns c = crossings-short _ _ _ _ _ (c .before .before .counted .given .1) (c .if1 .taken)
 
-slice-write-counts : tie.Need-slice-write-counts
-slice-write-counts c = search needs
-
 slice-write-counts-2 : tie.Need-slice-write-counts-2
 slice-write-counts-2 c = simp length-set (omega arith)
-
-slice-write-counts-3 : tie.Need-slice-write-counts-3
-slice-write-counts-3 c = search needs
 
 add-size : tie.Need-add-size
 add-size c = omega (arith, small (c .before))
@@ -39,15 +30,6 @@ add-size-2 c = omega (arith, small (c .before))
 
 size-requires : tie.Need-size-requires
 size-requires c κs = small (c .before)
-
-enum-known-counted-2 : tie.Need-enum-known-counted-2
-enum-known-counted-2 c = search needs
-
-refusal-number-requires : tie.Need-refusal-number-requires
-refusal-number-requires c κs = search needs
-
-same-length : tie.Need-same-length
-same-length c = search needs
 
 returns-2 : tie.Need-returns-2
 returns-2 c =
@@ -60,16 +42,14 @@ pub write-crossings-spec : {M : Type 1} → statement M
 write-crossings-spec =
     tie.close
     (tie.spec
-    enum-known-counted
+    (λ c. search needs)
     returns
-    slice-write-counts
+    (λ c. search needs)
     slice-write-counts-2
-    slice-write-counts-3
+    (λ c. search needs)
     add-size
     add-size-2
     size-requires
-    enum-known-counted-2
-    refusal-number-requires
-    same-length
+    (λ c. search needs) (λ c κs. search needs) (λ c. search needs)
     returns-2
     returns-3)

@@ -7,20 +7,8 @@ use Rattle.c_api.proofs.Bytes.{appending-refusable, yielded}
 use Rattle.c_api.proofs.presets.append.Statement.{statement}
 use Rattle.c_api.proofs.presets.append.Tie as tie
 
-byte-requires : tie.Need-byte-requires
-byte-requires c κs = search needs
-
-byte-requires-2 : tie.Need-byte-requires-2
-byte-requires-2 c κs = search needs
-
-append-requires : tie.Need-append-requires
-append-requires c κs = search needs
-
 number-requires : tie.Need-number-requires
 number-requires c κs l e = appending-small _ _ _ _ _ _ l (sym (c .before .before .append .ensures .0) ∙ e)
-
-same-length : tie.Need-same-length
-same-length c = search needs
 
 returns : tie.Need-returns
 returns c =
@@ -31,4 +19,10 @@ returns c =
     (below .append .ensures)
 
 pub append-spec : {M : Type 1} → statement M
-append-spec = tie.close (tie.spec byte-requires byte-requires-2 append-requires number-requires same-length returns)
+append-spec =
+    tie.close
+    (tie.spec
+    (λ c κs. search needs) (λ c κs. search needs) (λ c κs. search needs)
+    number-requires
+    (λ c. search needs)
+    returns)

@@ -7,20 +7,8 @@ use Rattle.c_api.proofs.Lengths.{i64-back, presets-small}
 use Rattle.c_api.proofs.presets.check_book.Statement.{statement}
 use Rattle.c_api.proofs.presets.check_book.Tie as tie
 
-check-book-requires : tie.Need-check-book-requires
-check-book-requires c κs = search needs
-
-enum-known-c : tie.Need-enum-known-c
-enum-known-c c = search needs
-
 size-requires : tie.Need-size-requires
 size-requires c κs = presets-small _ _ _ _ (c .before .before .before .check-book .ensures) (c .before .c .given .1)
-
-enum-known-refusal : tie.Need-enum-known-refusal
-enum-known-refusal c = search needs
-
-refusal-number-requires : tie.Need-refusal-number-requires
-refusal-number-requires c κs = search needs
 
 returns : tie.Need-returns
 unfolding openedNumber
@@ -38,10 +26,8 @@ pub check-book-spec : {M : Type 1} → statement M
 check-book-spec =
     tie.close
     (tie.spec
-    check-book-requires
-    enum-known-c
+    (λ c κs. search needs) (λ c. search needs)
     size-requires
-    enum-known-refusal
-    refusal-number-requires
+    (λ c. search needs) (λ c κs. search needs)
     returns
     returns-2)

@@ -10,44 +10,17 @@ use Rattle.c_api.proofs.Outcomes.{fields-refused, fields-short, fields-
 use Rattle.c_api.proofs.presets.check_preset.Statement.{statement}
 use Rattle.c_api.proofs.presets.check_preset.Tie as tie
 
-check-preset-requires : tie.Need-check-preset-requires
-check-preset-requires c κs = search needs
-
-enum-known-kind : tie.Need-enum-known-kind
-enum-known-kind c = search needs
-
 returns : tie.Need-returns
 unfolding refused
 returns c =
     let told = c .before .before in
     fields-short _ _ _ (told .before .before .check-preset .ensures) _ _ _ _ (told .kind .given .1) (c .if1 .taken)
 
-cast-fields : tie.Need-cast-fields
-cast-fields c = search needs
-
-slice-write-fields : tie.Need-slice-write-fields
-slice-write-fields c = search needs
-
-cast-fields-2 : tie.Need-cast-fields-2
-cast-fields-2 c = search needs
-
 slice-write-fields-2 : tie.Need-slice-write-fields-2
 slice-write-fields-2 c = simp length-set (omega arith)
 
 slice-write-fields-3 : tie.Need-slice-write-fields-3
 slice-write-fields-3 c = simp length-set (omega arith)
-
-slice-write-fields-4 : tie.Need-slice-write-fields-4
-slice-write-fields-4 c = search needs
-
-enum-known-refusal : tie.Need-enum-known-refusal
-enum-known-refusal c = search needs
-
-refusal-number-requires : tie.Need-refusal-number-requires
-refusal-number-requires c κs = search needs
-
-same-length : tie.Need-same-length
-same-length c = search needs
 
 returns-2 : tie.Need-returns-2
 returns-2 c =
@@ -64,17 +37,11 @@ pub check-preset-spec : {M : Type 1} → statement M
 check-preset-spec =
     tie.close
     (tie.spec
-    check-preset-requires
-    enum-known-kind
+    (λ c κs. search needs) (λ c. search needs)
     returns
-    cast-fields
-    slice-write-fields
-    cast-fields-2
+    (λ c. search needs) (λ c. search needs) (λ c. search needs)
     slice-write-fields-2
     slice-write-fields-3
-    slice-write-fields-4
-    enum-known-refusal
-    refusal-number-requires
-    same-length
+    (λ c. search needs) (λ c. search needs) (λ c κs. search needs) (λ c. search needs)
     returns-2
     returns-3)

@@ -6,14 +6,8 @@ use Rattle.c_api.proofs.Lengths.{numbers-alike, converting-small}
 use Rattle.c_api.proofs.presets.convert.Statement.{statement}
 use Rattle.c_api.proofs.presets.convert.Tie as tie
 
-convert-requires : tie.Need-convert-requires
-convert-requires c κs = search needs
-
 number-requires : tie.Need-number-requires
 number-requires c κs l e = converting-small _ _ _ l (sym (c .before .before .convert .ensures .0) ∙ e)
-
-same-length : tie.Need-same-length
-same-length c = search needs
 
 returns : tie.Need-returns
 returns c =
@@ -21,4 +15,4 @@ returns c =
     numbers-alike _ _ _ _ (c .number .ok) (c .number .ensures) below
 
 pub convert-spec : {M : Type 1} → statement M
-convert-spec = tie.close (tie.spec convert-requires number-requires same-length returns)
+convert-spec = tie.close (tie.spec (λ c κs. search needs) number-requires (λ c. search needs) returns)

@@ -7,14 +7,8 @@ use Rattle.c_api.proofs.Lengths.{numbers-alike, readingPresets-small}
 use Rattle.c_api.proofs.presets.read_presets.Statement.{statement}
 use Rattle.c_api.proofs.presets.read_presets.Tie as tie
 
-read-presets-requires : tie.Need-read-presets-requires
-read-presets-requires c κs = search needs
-
 number-requires : tie.Need-number-requires
 number-requires c κs l e = readingPresets-small _ _ _ _ l (sym (c .before .before .read-presets .ensures .0) ∙ e)
-
-same-length : tie.Need-same-length
-same-length c = search needs
 
 returns : tie.Need-returns
 returns c =
@@ -22,4 +16,4 @@ returns c =
     numbers-alike _ _ _ _ (c .number .ok) (c .number .ensures) below
 
 pub read-presets-spec : {M : Type 1} → statement M
-read-presets-spec = tie.close (tie.spec read-presets-requires number-requires same-length returns)
+read-presets-spec = tie.close (tie.spec (λ c κs. search needs) number-requires (λ c. search needs) returns)

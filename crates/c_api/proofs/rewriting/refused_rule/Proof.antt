@@ -21,29 +21,8 @@ unwritten : (w : tie.After-rewrite-at)
     w .rewrite-at .last .1 .1 .1 .1 .0 ++ out ≡ out
 unwritten w = nothing-before (w .rewrite-at .last .1 .1 .1 .1 .0) _ (w .rewrite-at .kept .1 .1 .1 .1 .0)
 
-slice-relend-prefix-rewrite-at : tie.Need-slice-relend-prefix-rewrite-at
-slice-relend-prefix-rewrite-at c = search needs
-
-slice-aggregate-rewrite-at : tie.Need-slice-aggregate-rewrite-at
-slice-aggregate-rewrite-at c = search needs
-
-rewrite-at-requires : tie.Need-rewrite-at-requires
-rewrite-at-requires c κs = search needs
-
 enum-told : tie.Need-enum-told
 enum-told c = search needs
-
-enum-told-2 : tie.Need-enum-told-2
-enum-told-2 c = search needs
-
-enum-known-refusal : tie.Need-enum-known-refusal
-enum-known-refusal c = search needs
-
-refusal-number-requires : tie.Need-refusal-number-requires
-refusal-number-requires c κs = search needs
-
-same-length : tie.Need-same-length
-same-length c = search needs
 
 returns : tie.Need-returns
 unfolding roomless rewriteNumbers refused
@@ -51,17 +30,11 @@ returns c =
     let w = c .before .before .before .before in
     (rw (c .enum-told .given .1) at (narrow w), unwritten w)
 
-same-length-2 : tie.Need-same-length-2
-same-length-2 c = search needs
-
 returns-2 : tie.Need-returns-2
 unfolding roomless rewriteNumbers refused
 returns-2 c =
     let w = c .before .before .before .before in
     (rw (c .enum-told2 .given .1) at (narrow w), unwritten w)
-
-same-length-3 : tie.Need-same-length-3
-same-length-3 c = search needs
 
 returns-3 : tie.Need-returns-3
 unfolding roomless rewriteNumbers
@@ -74,16 +47,11 @@ pub refused-rule-spec : {M : Type 1} → statement M
 refused-rule-spec =
     tie.close
     (tie.spec
-    slice-relend-prefix-rewrite-at
-    slice-aggregate-rewrite-at
-    rewrite-at-requires
+    (λ c. search needs) (λ c. search needs) (λ c κs. search needs)
     enum-told
-    enum-told-2
-    enum-known-refusal
-    refusal-number-requires
-    same-length
+    (λ c. search needs) (λ c. search needs) (λ c κs. search needs) (λ c. search needs)
     returns
-    same-length-2
+    (λ c. search needs)
     returns-2
-    same-length-3
+    (λ c. search needs)
     returns-3)

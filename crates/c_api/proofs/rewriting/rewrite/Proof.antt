@@ -10,50 +10,20 @@ use Rattle.c_api.proofs.Outcomes.{rewriting-used, rewriting-fitless, re
 use Rattle.c_api.proofs.rewriting.rewrite.Statement.{statement}
 use Rattle.c_api.proofs.rewriting.rewrite.Tie as tie
 
-refused-rule-requires : tie.Need-refused-rule-requires
-refused-rule-requires c κs = search needs
-
-same-length : tie.Need-same-length
-same-length c = search needs
-
 returns : tie.Need-returns
 returns c =
     let r = c .before .before .refused-rule in
     let t = c .before .before .before .before in
     rewriting-roomless _ _ _ _ _ _ _ _ (t .if1 .taken) (i64-back _ (r .ok) ∙ r .ensures .0) (r .ensures .1)
 
-rewrite-at-requires : tie.Need-rewrite-at-requires
-rewrite-at-requires c κs = search needs
-
-enum-known-family : tie.Need-enum-known-family
-enum-known-family c = search needs
-
-slice-write-rule : tie.Need-slice-write-rule
-slice-write-rule c = search needs
-
 slice-write-rule-2 : tie.Need-slice-write-rule-2
 slice-write-rule-2 c = simp length-set (omega arith)
-
-slice-write-rule-3 : tie.Need-slice-write-rule-3
-slice-write-rule-3 c = search needs
 
 size-requires : tie.Need-size-requires
 size-requires c κs = rewrote-small _ _ _ _ _ _ _ (c .before .before .before .before .before .rewrite-at .ensures) _ _ _ _ (c .before .family .given .1)
 
 enum-told : tie.Need-enum-told
 enum-told c = search needs
-
-enum-known-refusal : tie.Need-enum-known-refusal
-enum-known-refusal c = search needs
-
-refusal-number-requires : tie.Need-refusal-number-requires
-refusal-number-requires c κs = search needs
-
-same-length-2 : tie.Need-same-length-2
-same-length-2 c = search needs
-
-same-length-3 : tie.Need-same-length-3
-same-length-3 c = search needs
 
 returns-2 : tie.Need-returns-2
 returns-2 c =
@@ -62,15 +32,9 @@ returns-2 c =
     rewriting-used _ _ _ _ _ _ _ _ (w .rewrite-at .ensures) _ _ _ _ _ (told .family .given .1) (w .before .before .if1 .left)
     (i64-back _ (c .size .ok) ∙ c .size .ensures)
 
-same-length-4 : tie.Need-same-length-4
-same-length-4 c = search needs
-
 returns-3 : tie.Need-returns-3
 unfolding refused
 returns-3 c = rewriting-fitless _ _ _ _ _ _ _ _ (c .before .before .before .before .rewrite-at .ensures) _ (c .enum-told .given .1) refl
-
-same-length-5 : tie.Need-same-length-5
-same-length-5 c = search needs
 
 returns-4 : tie.Need-returns-4
 returns-4 c =
@@ -82,22 +46,16 @@ pub rewrite-spec : {M : Type 1} → statement M
 rewrite-spec =
     tie.close
     (tie.spec
-    refused-rule-requires
-    same-length
+    (λ c κs. search needs) (λ c. search needs)
     returns
-    rewrite-at-requires
-    enum-known-family
-    slice-write-rule
+    (λ c κs. search needs) (λ c. search needs) (λ c. search needs)
     slice-write-rule-2
-    slice-write-rule-3
+    (λ c. search needs)
     size-requires
     enum-told
-    enum-known-refusal
-    refusal-number-requires
-    same-length-2
-    same-length-3
+    (λ c. search needs) (λ c κs. search needs) (λ c. search needs) (λ c. search needs)
     returns-2
-    same-length-4
+    (λ c. search needs)
     returns-3
-    same-length-5
+    (λ c. search needs)
     returns-4)

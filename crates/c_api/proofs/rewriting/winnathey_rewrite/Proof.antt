@@ -5,21 +5,6 @@ use Rattle.c_api.proofs.Bytes.{rewriting-refusable, handed-on}
 use Rattle.c_api.proofs.rewriting.winnathey_rewrite.Statement.{statement}
 use Rattle.c_api.proofs.rewriting.winnathey_rewrite.Tie as tie
 
-byte-requires : tie.Need-byte-requires
-byte-requires c κs = search needs
-
-byte-requires-2 : tie.Need-byte-requires-2
-byte-requires-2 c κs = search needs
-
-rewrite-requires : tie.Need-rewrite-requires
-rewrite-requires c κs = search needs
-
-same-length : tie.Need-same-length
-same-length c = search needs
-
-same-length-2 : tie.Need-same-length-2
-same-length-2 c = search needs
-
 returns : tie.Need-returns
 returns c =
     let below = c .before .before .before .before in
@@ -29,4 +14,7 @@ returns c =
 
 pub winnathey-rewrite-spec : {M : Type 1} → statement M
 winnathey-rewrite-spec =
-    tie.close (tie.spec byte-requires byte-requires-2 rewrite-requires same-length same-length-2 returns)
+    tie.close
+    (tie.spec
+    (λ c κs. search needs) (λ c κs. search needs) (λ c κs. search needs) (λ c. search needs) (λ c. search needs)
+    returns)

@@ -8,20 +8,8 @@ use Rattle.c_api.proofs.Verdicts.{betweenWindows-refusable, betweenWind
 use Rattle.c_api.proofs.shortest.winnathey_between.Statement.{statement}
 use Rattle.c_api.proofs.shortest.winnathey_between.Tie as tie
 
-byte-requires : tie.Need-byte-requires
-byte-requires c κs = search needs
-
-byte-requires-2 : tie.Need-byte-requires-2
-byte-requires-2 c κs = search needs
-
-between-windows-requires : tie.Need-between-windows-requires
-between-windows-requires c κs = search needs
-
 number-requires : tie.Need-number-requires
 number-requires c κs l e = betweenWindows-small _ _ _ _ _ _ l (sym (c .before .before .between-windows .ensures .0) ∙ e)
-
-same-length : tie.Need-same-length
-same-length c = search needs
 
 returns : tie.Need-returns
 returns c =
@@ -32,4 +20,10 @@ returns c =
     (below .between-windows .ensures)
 
 pub winnathey-between-spec : {M : Type 1} → statement M
-winnathey-between-spec = tie.close (tie.spec byte-requires byte-requires-2 between-windows-requires number-requires same-length returns)
+winnathey-between-spec =
+    tie.close
+    (tie.spec
+    (λ c κs. search needs) (λ c κs. search needs) (λ c κs. search needs)
+    number-requires
+    (λ c. search needs)
+    returns)

@@ -9,18 +9,6 @@ use Rattle.c_api.proofs.Verdicts.{fallback-numbered, fallback-size}
 use Rattle.c_api.proofs.shortest.winnathey_fallback.Statement.{statement}
 use Rattle.c_api.proofs.shortest.winnathey_fallback.Tie as tie
 
-byte-requires : tie.Need-byte-requires
-byte-requires c κs = search needs
-
-byte-requires-2 : tie.Need-byte-requires-2
-byte-requires-2 c κs = search needs
-
-fallback-places-requires : tie.Need-fallback-places-requires
-fallback-places-requires c κs = search needs
-
-enum-known-l : tie.Need-enum-known-l
-enum-known-l c = search needs
-
 size-requires : tie.Need-size-requires
 size-requires c κs =
     let b = c .before .before .before .before .before in
@@ -28,15 +16,6 @@ size-requires c κs =
 
 enum-told : tie.Need-enum-told
 enum-told c = search needs
-
-enum-known-refusal : tie.Need-enum-known-refusal
-enum-known-refusal c = search needs
-
-refusal-number-requires : tie.Need-refusal-number-requires
-refusal-number-requires c κs = search needs
-
-same-length : tie.Need-same-length
-same-length c = search needs
 
 returns : tie.Need-returns
 unfolding fallbackNumber
@@ -46,18 +25,12 @@ returns c =
     fallback-numbered _ _ _ _ _ _ _ _ _ (b .before .before .before .byte .ensures) (b .before .before .byte2 .ensures) (b .fallback-places .ensures) _
     (rw (d .l .given .1) (i64-back _ (c .size .ok) ∙ c .size .ensures))
 
-same-length-2 : tie.Need-same-length-2
-same-length-2 c = search needs
-
 returns-2 : tie.Need-returns-2
 unfolding fallbackNumber refused
 returns-2 c =
     let b = c .before .before .before .before in
     fallback-numbered _ _ _ _ _ _ _ _ _ (b .before .before .before .byte .ensures) (b .before .before .byte2 .ensures) (b .fallback-places .ensures) _
     (rw (c .enum-told .given .1))
-
-same-length-3 : tie.Need-same-length-3
-same-length-3 c = search needs
 
 returns-3 : tie.Need-returns-3
 unfolding fallbackNumber
@@ -71,17 +44,12 @@ pub winnathey-fallback-spec : {M : Type 1} → statement M
 winnathey-fallback-spec =
     tie.close
     (tie.spec
-    byte-requires
-    byte-requires-2
-    fallback-places-requires
-    enum-known-l
+    (λ c κs. search needs) (λ c κs. search needs) (λ c κs. search needs) (λ c. search needs)
     size-requires
     enum-told
-    enum-known-refusal
-    refusal-number-requires
-    same-length
+    (λ c. search needs) (λ c κs. search needs) (λ c. search needs)
     returns
-    same-length-2
+    (λ c. search needs)
     returns-2
-    same-length-3
+    (λ c. search needs)
     returns-3)

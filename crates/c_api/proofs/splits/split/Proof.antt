@@ -15,29 +15,11 @@ small c =
     let w = c .before .before .before .before .before .before .before in
     splitting-small _ _ _ _ _ _ _ _ (sym (w .split-word .ensures .0) ∙ c .before .a .given .1)
 
-split-refusal-requires : tie.Need-split-refusal-requires
-split-refusal-requires c κs = search needs
-
-unlisted-requires : tie.Need-unlisted-requires
-unlisted-requires c κs = search needs
-
 returns : tie.Need-returns
 returns c =
     let refused = c .before in
     splittingListed-roomless _ _ _ _ _ _ _ _ _ (refused .before .if1 .taken) (refused .split-refusal .ensures)
     (i64-back _ (c .unlisted .ok) ∙ c .unlisted .ensures)
-
-split-word-requires : tie.Need-split-word-requires
-split-word-requires c κs = search needs
-
-enum-known-a : tie.Need-enum-known-a
-enum-known-a c = search needs
-
-slice-write-lengths : tie.Need-slice-write-lengths
-slice-write-lengths c = search needs
-
-slice-write-lengths-2 : tie.Need-slice-write-lengths-2
-slice-write-lengths-2 c = search needs
 
 add-size : tie.Need-add-size
 add-size c = omega (arith, small c)
@@ -45,33 +27,12 @@ add-size c = omega (arith, small c)
 size-requires : tie.Need-size-requires
 size-requires c κs = small c
 
-enum-known-refusal : tie.Need-enum-known-refusal
-enum-known-refusal c = search needs
-
-refusal-number-requires : tie.Need-refusal-number-requires
-refusal-number-requires c κs = search needs
-
-same-length : tie.Need-same-length
-same-length c = search needs
-
-same-length-2 : tie.Need-same-length-2
-same-length-2 c = search needs
-
-same-length-3 : tie.Need-same-length-3
-same-length-3 c = search needs
-
 returns-2 : tie.Need-returns-2
 returns-2 c =
     let told = c .before .before in
     let w = told .before .before .before .before .before .before in
     splittingListed-stored _ _ _ _ _ _ _ _ _ _ (w .split-word .ensures) _ _ _ (told .a .given .1) (w .before .before .before .if1 .left)
     (i64-back _ (c .size .ok) ∙ c .size .ensures)
-
-same-length-4 : tie.Need-same-length-4
-same-length-4 c = search needs
-
-same-length-5 : tie.Need-same-length-5
-same-length-5 c = search needs
 
 returns-3 : tie.Need-returns-3
 returns-3 c =
@@ -84,21 +45,12 @@ pub split-spec : {M : Type 1} → statement M
 split-spec =
     tie.close
     (tie.spec
-    split-refusal-requires
-    unlisted-requires
+    (λ c κs. search needs) (λ c κs. search needs)
     returns
-    split-word-requires
-    enum-known-a
-    slice-write-lengths
-    slice-write-lengths-2
+    (λ c κs. search needs) (λ c. search needs) (λ c. search needs) (λ c. search needs)
     add-size
     size-requires
-    enum-known-refusal
-    refusal-number-requires
-    same-length
-    same-length-2
-    same-length-3
+    (λ c. search needs) (λ c κs. search needs) (λ c. search needs) (λ c. search needs) (λ c. search needs)
     returns-2
-    same-length-4
-    same-length-5
+    (λ c. search needs) (λ c. search needs)
     returns-3)

@@ -6,24 +6,6 @@ use borrow.Author.Needs.{needs}
 use Rattle.c_api.proofs.splits.winnathey_split.Statement.{statement}
 use Rattle.c_api.proofs.splits.winnathey_split.Tie as tie
 
-byte-requires : tie.Need-byte-requires
-byte-requires c κs = search needs
-
-byte-requires-2 : tie.Need-byte-requires-2
-byte-requires-2 c κs = search needs
-
-split-requires : tie.Need-split-requires
-split-requires c κs = search needs
-
-same-length : tie.Need-same-length
-same-length c = search needs
-
-same-length-2 : tie.Need-same-length-2
-same-length-2 c = search needs
-
-same-length-3 : tie.Need-same-length-3
-same-length-3 c = search needs
-
 returns : tie.Need-returns
 returns c =
     let below = c .before .before .before .before .before .before in
@@ -35,10 +17,6 @@ pub winnathey-split-spec : {M : Type 1} → statement M
 winnathey-split-spec =
     tie.close
     (tie.spec
-    byte-requires
-    byte-requires-2
-    split-requires
-    same-length
-    same-length-2
-    same-length-3
+    (λ c κs. search needs) (λ c κs. search needs) (λ c κs. search needs) (λ c. search needs) (λ c. search needs)
+    (λ c. search needs)
     returns)

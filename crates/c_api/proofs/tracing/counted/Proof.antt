@@ -7,17 +7,8 @@ use borrow.Author.Needs.{needs}
 use Rattle.c_api.proofs.tracing.counted.Statement.{statement}
 use Rattle.c_api.proofs.tracing.counted.Tie as tie
 
-enum-known-answer : tie.Need-enum-known-answer
-enum-known-answer c = search needs
-
 steps-number-requires : tie.Need-steps-number-requires
 steps-number-requires c κs = c .before .before .before .pre _ (c .before .answer .given .1)
-
-enum-known-answer-2 : tie.Need-enum-known-answer-2
-enum-known-answer-2 c = search needs
-
-refusal-number-requires : tie.Need-refusal-number-requires
-refusal-number-requires c κs = search needs
 
 returns : tie.Need-returns
 unfolding numberOf
@@ -31,9 +22,8 @@ pub counted-spec : {M : Type 1} → statement M
 counted-spec =
     tie.close
     (tie.spec
-    enum-known-answer
+    (λ c. search needs)
     steps-number-requires
-    enum-known-answer-2
-    refusal-number-requires
+    (λ c. search needs) (λ c κs. search needs)
     returns
     returns-2)

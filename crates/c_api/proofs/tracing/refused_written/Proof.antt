@@ -8,12 +8,6 @@ use borrow.Author.Needs.{needs}
 use Rattle.c_api.proofs.tracing.refused_written.Statement.{statement}
 use Rattle.c_api.proofs.tracing.refused_written.Tie as tie
 
-rewrite-steps-requires : tie.Need-rewrite-steps-requires
-rewrite-steps-requires c κs = search needs
-
-enum-known-steps : tie.Need-enum-known-steps
-enum-known-steps c = search needs
-
 returns : tie.Need-returns
 unfolding refused
 returns c =
@@ -33,12 +27,6 @@ returns-3 c =
     few-lengths _ _ _ _ _ _ _ (told .before .before .rewrite-steps .ensures) _ (told .steps .given .1)
     (c .before .before .if1 .left) (c .before .if2 .left) (c .if3 .taken)
 
-enum-known-refusal : tie.Need-enum-known-refusal
-enum-known-refusal c = search needs
-
-refusal-number-requires : tie.Need-refusal-number-requires
-refusal-number-requires c κs = search needs
-
 returns-4 : tie.Need-returns-4
 unfolding refused
 returns-4 c =
@@ -56,12 +44,10 @@ pub refused-written-spec : {M : Type 1} → statement M
 refused-written-spec =
     tie.close
     (tie.spec
-    rewrite-steps-requires
-    enum-known-steps
+    (λ c κs. search needs) (λ c. search needs)
     returns
     returns-2
     returns-3
-    enum-known-refusal
-    refusal-number-requires
+    (λ c. search needs) (λ c κs. search needs)
     returns-4
     returns-5)

@@ -5,11 +5,8 @@ use borrow.Author.Needs.{needs}
 use Rattle.c_api.proofs.tracing.steps_number.Statement.{statement}
 use Rattle.c_api.proofs.tracing.steps_number.Tie as tie
 
-cast-result : tie.Need-cast-result
-cast-result c = search needs
-
 returns : tie.Need-returns
 returns c = steps-back _ (c .pre)
 
 pub steps-number-spec : {M : Type 1} → statement M
-steps-number-spec = tie.close (tie.spec cast-result returns)
+steps-number-spec = tie.close (tie.spec (λ c. search needs) returns)

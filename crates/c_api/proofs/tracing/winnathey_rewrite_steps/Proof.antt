@@ -7,15 +7,6 @@ use borrow.Author.Needs.{needs}
 use Rattle.c_api.proofs.tracing.winnathey_rewrite_steps.Statement.{statement}
 use Rattle.c_api.proofs.tracing.winnathey_rewrite_steps.Tie as tie
 
-byte-requires : tie.Need-byte-requires
-byte-requires c κs = search needs
-
-byte-requires-2 : tie.Need-byte-requires-2
-byte-requires-2 c κs = search needs
-
-rewrite-steps-requires : tie.Need-rewrite-steps-requires
-rewrite-steps-requires c κs = search needs
-
 counted-requires : tie.Need-counted-requires
 counted-requires c κs l e = numberOfSteps-few _ _ _ l (sym (c .rewrite-steps .ensures) ∙ e)
 
@@ -30,4 +21,7 @@ returns c =
 pub winnathey-rewrite-steps-spec : {M : Type 1} → statement M
 winnathey-rewrite-steps-spec =
     tie.close
-    (tie.spec byte-requires byte-requires-2 rewrite-steps-requires counted-requires returns)
+    (tie.spec
+    (λ c κs. search needs) (λ c κs. search needs) (λ c κs. search needs)
+    counted-requires
+    returns)

@@ -6,30 +6,6 @@ use borrow.Author.Needs.{needs}
 use Rattle.c_api.proofs.tracing.winnathey_rewrite_to_end.Statement.{statement}
 use Rattle.c_api.proofs.tracing.winnathey_rewrite_to_end.Tie as tie
 
-byte-requires : tie.Need-byte-requires
-byte-requires c κs = search needs
-
-byte-requires-2 : tie.Need-byte-requires-2
-byte-requires-2 c κs = search needs
-
-to-end-requires : tie.Need-to-end-requires
-to-end-requires c κs = search needs
-
-same-length : tie.Need-same-length
-same-length c = search needs
-
-same-length-2 : tie.Need-same-length-2
-same-length-2 c = search needs
-
-same-length-3 : tie.Need-same-length-3
-same-length-3 c = search needs
-
-same-length-4 : tie.Need-same-length-4
-same-length-4 c = search needs
-
-same-length-5 : tie.Need-same-length-5
-same-length-5 c = search needs
-
 returns : tie.Need-returns
 returns c =
     let below = c .before .before .before .before .before .before .before .before .before .before in
@@ -41,12 +17,6 @@ pub winnathey-rewrite-to-end-spec : {M : Type 1} → statement M
 winnathey-rewrite-to-end-spec =
     tie.close
     (tie.spec
-    byte-requires
-    byte-requires-2
-    to-end-requires
-    same-length
-    same-length-2
-    same-length-3
-    same-length-4
-    same-length-5
+    (λ c κs. search needs) (λ c κs. search needs) (λ c κs. search needs) (λ c. search needs) (λ c. search needs)
+    (λ c. search needs) (λ c. search needs) (λ c. search needs)
     returns)

@@ -8,15 +8,6 @@ use Rattle.c_api.proofs.Bytes.{lengthOfWindow-refusable, measured}
 use Rattle.c_api.proofs.windows.winnathey_length_of_window.Statement.{statement}
 use Rattle.c_api.proofs.windows.winnathey_length_of_window.Tie as tie
 
-byte-requires : tie.Need-byte-requires
-byte-requires c κs = search needs
-
-byte-requires-2 : tie.Need-byte-requires-2
-byte-requires-2 c κs = search needs
-
-length-of-window-requires : tie.Need-length-of-window-requires
-length-of-window-requires c κs = search needs
-
 number-requires : tie.Need-number-requires
 number-requires c κs l e = lengthOfWindow-small _ _ _ l (sym (c .length-of-window .ensures) ∙ e)
 
@@ -29,4 +20,9 @@ returns c =
     (below .length-of-window .ensures)
 
 pub winnathey-length-of-window-spec : {M : Type 1} → statement M
-winnathey-length-of-window-spec = tie.close (tie.spec byte-requires byte-requires-2 length-of-window-requires number-requires returns)
+winnathey-length-of-window-spec =
+    tie.close
+    (tie.spec
+    (λ c κs. search needs) (λ c κs. search needs) (λ c κs. search needs)
+    number-requires
+    returns)

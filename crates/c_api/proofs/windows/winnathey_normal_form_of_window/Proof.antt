@@ -8,20 +8,8 @@ use Rattle.c_api.proofs.Bytes.{normalFormOfWindow-refusable, yielded}
 use Rattle.c_api.proofs.windows.winnathey_normal_form_of_window.Statement.{statement}
 use Rattle.c_api.proofs.windows.winnathey_normal_form_of_window.Tie as tie
 
-byte-requires : tie.Need-byte-requires
-byte-requires c κs = search needs
-
-byte-requires-2 : tie.Need-byte-requires-2
-byte-requires-2 c κs = search needs
-
-normal-form-of-window-requires : tie.Need-normal-form-of-window-requires
-normal-form-of-window-requires c κs = search needs
-
 number-requires : tie.Need-number-requires
 number-requires c κs l e = normalFormOfWindow-small _ _ _ _ l (sym (c .before .before .normal-form-of-window .ensures .0) ∙ e)
-
-same-length : tie.Need-same-length
-same-length c = search needs
 
 returns : tie.Need-returns
 returns c =
@@ -32,4 +20,10 @@ returns c =
     (below .normal-form-of-window .ensures)
 
 pub winnathey-normal-form-of-window-spec : {M : Type 1} → statement M
-winnathey-normal-form-of-window-spec = tie.close (tie.spec byte-requires byte-requires-2 normal-form-of-window-requires number-requires same-length returns)
+winnathey-normal-form-of-window-spec =
+    tie.close
+    (tie.spec
+    (λ c κs. search needs) (λ c κs. search needs) (λ c κs. search needs)
+    number-requires
+    (λ c. search needs)
+    returns)

@@ -8,20 +8,8 @@ use Rattle.c_api.proofs.Bytes.{productOfWindows-refusable, yielded}
 use Rattle.c_api.proofs.windows.winnathey_product_of_windows.Statement.{statement}
 use Rattle.c_api.proofs.windows.winnathey_product_of_windows.Tie as tie
 
-byte-requires : tie.Need-byte-requires
-byte-requires c κs = search needs
-
-byte-requires-2 : tie.Need-byte-requires-2
-byte-requires-2 c κs = search needs
-
-product-of-windows-requires : tie.Need-product-of-windows-requires
-product-of-windows-requires c κs = search needs
-
 number-requires : tie.Need-number-requires
 number-requires c κs l e = productOfWindows-small _ _ _ _ _ l (sym (c .before .product-of-windows .ensures .0) ∙ e)
-
-same-length : tie.Need-same-length
-same-length c = search needs
 
 returns : tie.Need-returns
 returns c =
@@ -32,4 +20,10 @@ returns c =
     (below .product-of-windows .ensures)
 
 pub winnathey-product-of-windows-spec : {M : Type 1} → statement M
-winnathey-product-of-windows-spec = tie.close (tie.spec byte-requires byte-requires-2 product-of-windows-requires number-requires same-length returns)
+winnathey-product-of-windows-spec =
+    tie.close
+    (tie.spec
+    (λ c κs. search needs) (λ c κs. search needs) (λ c κs. search needs)
+    number-requires
+    (λ c. search needs)
+    returns)

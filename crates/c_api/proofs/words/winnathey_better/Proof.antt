@@ -10,23 +10,8 @@ use Rattle.c_api.proofs.Bytes.{choice-as-bytes}
 use Rattle.c_api.proofs.words.winnathey_better.Statement.{statement}
 use Rattle.c_api.proofs.words.winnathey_better.Tie as tie
 
-byte-requires : tie.Need-byte-requires
-byte-requires c κs = search needs
-
-byte-requires-2 : tie.Need-byte-requires-2
-byte-requires-2 c κs = search needs
-
-which-better-requires : tie.Need-which-better-requires
-which-better-requires c κs = search needs
-
 enum-told : tie.Need-enum-told
 enum-told c = search needs
-
-enum-told-2 : tie.Need-enum-told-2
-enum-told-2 c = search needs
-
-enum-told-3 : tie.Need-enum-told-3
-enum-told-3 c = search needs
 
 -- the choice by the bytes is that by the numbers
 below : (w : tie.After-which-better)
@@ -52,12 +37,9 @@ pub winnathey-better-spec : {M : Type 1} → statement M
 winnathey-better-spec =
     tie.close
     (tie.spec
-    byte-requires
-    byte-requires-2
-    which-better-requires
+    (λ c κs. search needs) (λ c κs. search needs) (λ c κs. search needs)
     enum-told
-    enum-told-2
-    enum-told-3
+    (λ c. search needs) (λ c. search needs)
     returns
     returns-2
     returns-3)

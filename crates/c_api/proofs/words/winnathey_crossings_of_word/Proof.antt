@@ -8,20 +8,8 @@ use borrow.Author.Needs.{needs}
 use Rattle.c_api.proofs.words.winnathey_crossings_of_word.Statement.{statement}
 use Rattle.c_api.proofs.words.winnathey_crossings_of_word.Tie as tie
 
-byte-requires : tie.Need-byte-requires
-byte-requires c κs = search needs
-
-byte-requires-2 : tie.Need-byte-requires-2
-byte-requires-2 c κs = search needs
-
-crossings-of-word-requires : tie.Need-crossings-of-word-requires
-crossings-of-word-requires c κs = search needs
-
 write-crossings-requires : tie.Need-write-crossings-requires
 write-crossings-requires c κs x y z e = crossingsOfWord-small _ _ _ x y z (sym (c .before .crossings-of-word .ensures) ∙ e)
-
-same-length : tie.Need-same-length
-same-length c = search needs
 
 returns : tie.Need-returns
 returns c =
@@ -35,9 +23,7 @@ pub winnathey-crossings-of-word-spec : {M : Type 1} → statement M
 winnathey-crossings-of-word-spec =
     tie.close
     (tie.spec
-    byte-requires
-    byte-requires-2
-    crossings-of-word-requires
+    (λ c κs. search needs) (λ c κs. search needs) (λ c κs. search needs)
     write-crossings-requires
-    same-length
+    (λ c. search needs)
     returns)

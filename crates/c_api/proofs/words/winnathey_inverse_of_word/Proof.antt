@@ -8,20 +8,8 @@ use Rattle.c_api.proofs.Bytes.{inverseOfWord-refusable, yielded}
 use Rattle.c_api.proofs.words.winnathey_inverse_of_word.Statement.{statement}
 use Rattle.c_api.proofs.words.winnathey_inverse_of_word.Tie as tie
 
-byte-requires : tie.Need-byte-requires
-byte-requires c κs = search needs
-
-byte-requires-2 : tie.Need-byte-requires-2
-byte-requires-2 c κs = search needs
-
-inverse-of-word-requires : tie.Need-inverse-of-word-requires
-inverse-of-word-requires c κs = search needs
-
 number-requires : tie.Need-number-requires
 number-requires c κs l e = inverseOfWord-small _ _ _ _ l (sym (c .before .before .inverse-of-word .ensures .0) ∙ e)
-
-same-length : tie.Need-same-length
-same-length c = search needs
 
 returns : tie.Need-returns
 returns c =
@@ -32,4 +20,10 @@ returns c =
     (below .inverse-of-word .ensures)
 
 pub winnathey-inverse-of-word-spec : {M : Type 1} → statement M
-winnathey-inverse-of-word-spec = tie.close (tie.spec byte-requires byte-requires-2 inverse-of-word-requires number-requires same-length returns)
+winnathey-inverse-of-word-spec =
+    tie.close
+    (tie.spec
+    (λ c κs. search needs) (λ c κs. search needs) (λ c κs. search needs)
+    number-requires
+    (λ c. search needs)
+    returns)

@@ -8,15 +8,6 @@ use Rattle.c_api.proofs.Bytes.{lengthOfWord-refusable, measured}
 use Rattle.c_api.proofs.words.winnathey_length_of_word.Statement.{statement}
 use Rattle.c_api.proofs.words.winnathey_length_of_word.Tie as tie
 
-byte-requires : tie.Need-byte-requires
-byte-requires c κs = search needs
-
-byte-requires-2 : tie.Need-byte-requires-2
-byte-requires-2 c κs = search needs
-
-length-of-word-requires : tie.Need-length-of-word-requires
-length-of-word-requires c κs = search needs
-
 number-requires : tie.Need-number-requires
 number-requires c κs l e = lengthOfWord-small _ _ _ l (sym (c .length-of-word .ensures) ∙ e)
 
@@ -29,4 +20,9 @@ returns c =
     (below .length-of-word .ensures)
 
 pub winnathey-length-of-word-spec : {M : Type 1} → statement M
-winnathey-length-of-word-spec = tie.close (tie.spec byte-requires byte-requires-2 length-of-word-requires number-requires returns)
+winnathey-length-of-word-spec =
+    tie.close
+    (tie.spec
+    (λ c κs. search needs) (λ c κs. search needs) (λ c κs. search needs)
+    number-requires
+    returns)

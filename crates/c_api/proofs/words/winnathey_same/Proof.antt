@@ -10,32 +10,8 @@ use Rattle.c_api.proofs.Bytes.{verdict-as-bytes}
 use Rattle.c_api.proofs.words.winnathey_same.Statement.{statement}
 use Rattle.c_api.proofs.words.winnathey_same.Tie as tie
 
-byte-requires : tie.Need-byte-requires
-byte-requires c κs = search needs
-
-byte-requires-2 : tie.Need-byte-requires-2
-byte-requires-2 c κs = search needs
-
-byte-requires-3 : tie.Need-byte-requires-3
-byte-requires-3 c κs = search needs
-
-byte-requires-4 : tie.Need-byte-requires-4
-byte-requires-4 c κs = search needs
-
-presets-equal-requires : tie.Need-presets-equal-requires
-presets-equal-requires c κs = search needs
-
 enum-told : tie.Need-enum-told
 enum-told c = search needs
-
-enum-told-2 : tie.Need-enum-told-2
-enum-told-2 c = search needs
-
-enum-known-refusal : tie.Need-enum-known-refusal
-enum-known-refusal c = search needs
-
-refusal-number-requires : tie.Need-refusal-number-requires
-refusal-number-requires c κs = search needs
 
 -- the verdict on the bytes is that on the numbers
 below : (w : tie.After-presets-equal)
@@ -66,15 +42,9 @@ pub winnathey-same-spec : {M : Type 1} → statement M
 winnathey-same-spec =
     tie.close
     (tie.spec
-    byte-requires
-    byte-requires-2
-    byte-requires-3
-    byte-requires-4
-    presets-equal-requires
+    (λ c κs. search needs) (λ c κs. search needs) (λ c κs. search needs) (λ c κs. search needs) (λ c κs. search needs)
     enum-told
-    enum-told-2
-    enum-known-refusal
-    refusal-number-requires
+    (λ c. search needs) (λ c. search needs) (λ c κs. search needs)
     returns
     returns-2
     returns-3)

@@ -8,20 +8,8 @@ use Rattle.c_api.proofs.Bytes.{windowOfWord-refusable, yielded}
 use Rattle.c_api.proofs.words.winnathey_window_of_word.Statement.{statement}
 use Rattle.c_api.proofs.words.winnathey_window_of_word.Tie as tie
 
-byte-requires : tie.Need-byte-requires
-byte-requires c κs = search needs
-
-byte-requires-2 : tie.Need-byte-requires-2
-byte-requires-2 c κs = search needs
-
-window-of-word-requires : tie.Need-window-of-word-requires
-window-of-word-requires c κs = search needs
-
 number-requires : tie.Need-number-requires
 number-requires c κs l e = windowOfWord-small _ _ _ _ l (sym (c .before .window-of-word .ensures .0) ∙ e)
-
-same-length : tie.Need-same-length
-same-length c = search needs
 
 returns : tie.Need-returns
 returns c =
@@ -32,4 +20,10 @@ returns c =
     (below .window-of-word .ensures)
 
 pub winnathey-window-of-word-spec : {M : Type 1} → statement M
-winnathey-window-of-word-spec = tie.close (tie.spec byte-requires byte-requires-2 window-of-word-requires number-requires same-length returns)
+winnathey-window-of-word-spec =
+    tie.close
+    (tie.spec
+    (λ c κs. search needs) (λ c κs. search needs) (λ c κs. search needs)
+    number-requires
+    (λ c. search needs)
+    returns)

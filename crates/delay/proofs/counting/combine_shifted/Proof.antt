@@ -22,39 +22,12 @@ abbrev μ-loop : tie.MeasureT-loop
 loop-holds : tie.Need-loop-holds Inv-loop μ-loop
 loop-holds c = (omega arith, filled-none-back)
 
-sub-l : tie.Need-sub-l Inv-loop μ-loop
-sub-l c = search needs
-
-mul-combine : tie.Need-mul-combine Inv-loop μ-loop
-mul-combine c = search needs
-
-slice-read-combine : tie.Need-slice-read-combine Inv-loop μ-loop
-slice-read-combine c = search needs
-
-sub-combine : tie.Need-sub-combine Inv-loop μ-loop
-sub-combine c = search needs
-
-mul-combine-2 : tie.Need-mul-combine-2 Inv-loop μ-loop
-mul-combine-2 c = search needs
-
-slice-read-combine-2 : tie.Need-slice-read-combine-2 Inv-loop μ-loop
-slice-read-combine-2 c = search needs
-
 combine-requires : tie.Need-combine-requires Inv-loop μ-loop
 combine-requires c κs =
     let turn = c .before .before .before in
     let start = turn .before .before in
     let i = turn .loop .inv in
     combined-fits (start .args .how) (i .1) (start .pre .0) (i .0) (c .before .before .loop-test .taken) (start .pre .1)
-
-mul-counts : tie.Need-mul-counts Inv-loop μ-loop
-mul-counts c = search needs
-
-slice-write-counts : tie.Need-slice-write-counts Inv-loop μ-loop
-slice-write-counts c = search needs
-
-loop-less : tie.Need-loop-less Inv-loop μ-loop
-loop-less c = search needs
 
 loop-again : tie.Need-loop-again Inv-loop μ-loop
 loop-again c =
@@ -63,9 +36,6 @@ loop-again c =
     let i = turn .loop .inv in
     let test = c .before .before .before .loop-test .taken in
     (omega arith, combined-filled (start .args .how) (i .1) (start .pre .0) (i .0) test (c .combine .ensures))
-
-same-length : tie.Need-same-length Inv-loop μ-loop
-same-length c = search needs
 
 returns : tie.Need-returns Inv-loop μ-loop
 returns c =
@@ -76,20 +46,12 @@ returns c =
 pub combine-shifted-spec : {M : Type 1} → statement M
 combine-shifted-spec =
     tie.close
-    (tie.spec
-    Inv-loop
-    μ-loop
+    (tie.spec Inv-loop μ-loop
     loop-holds
-    sub-l
-    mul-combine
-    slice-read-combine
-    sub-combine
-    mul-combine-2
-    slice-read-combine-2
+    (λ c. search needs) (λ c. search needs) (λ c. search needs) (λ c. search needs) (λ c. search needs)
+    (λ c. search needs)
     combine-requires
-    mul-counts
-    slice-write-counts
-    loop-less
+    (λ c. search needs) (λ c. search needs) (λ c. search needs)
     loop-again
-    same-length
+    (λ c. search needs)
     returns)

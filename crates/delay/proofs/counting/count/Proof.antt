@@ -19,15 +19,6 @@ Inv-loop kind rank counts₀ m d₀ c₀ counts d c = Counted (kindOf kind) rank
 abbrev μ-loop : tie.MeasureT-loop
 μ-loop kind rank counts₀ m d₀ c₀ counts d c = m - c
 
-set-one-requires : tie.Need-set-one-requires Inv-loop μ-loop
-set-one-requires c κs = search needs
-
-lanes-requires : tie.Need-lanes-requires Inv-loop μ-loop
-lanes-requires c κs = search needs
-
-fewest-of-requires : tie.Need-fewest-of-requires Inv-loop μ-loop
-fewest-of-requires c κs = search needs
-
 loop-holds : tie.Need-loop-holds Inv-loop μ-loop
 loop-holds c =
     let set = c .before .before .before .before in
@@ -70,12 +61,6 @@ multiply-requires c κs =
     let t = turn (c .before) in
     ((omega (arith, t .counted .level), small), (part-sum-fits t, part-factor-fits t))
 
-add-c : tie.Need-add-c Inv-loop μ-loop
-add-c c = search needs
-
-loop-less : tie.Need-loop-less Inv-loop μ-loop
-loop-less c = search needs
-
 loop-again : tie.Need-loop-again Inv-loop μ-loop
 loop-again c = counted-next (turn (c .before .before .before .before)) _ (c .before .before .multiply .ensures)
 
@@ -91,20 +76,15 @@ returns c =
 pub count-spec : {M : Type 1} → statement M
 count-spec =
     tie.close
-    (tie.spec
-    Inv-loop
-    μ-loop
-    set-one-requires
-    lanes-requires
-    fewest-of-requires
+    (tie.spec Inv-loop μ-loop
+    (λ c κs. search needs) (λ c κs. search needs) (λ c κs. search needs)
     loop-holds
     top-of-requires
     add-d
     slice-relend-prefix-multiply
     slice-aggregate-multiply
     multiply-requires
-    add-c
-    loop-less
+    (λ c. search needs) (λ c. search needs)
     loop-again
     same-length
     returns)

@@ -7,26 +7,8 @@ use Rattle.delay.proofs.counting.Factors.{with-fit, with-values}
 use Rattle.delay.proofs.counting.multiply.Statement.{statement}
 use Rattle.delay.proofs.counting.multiply.Tie as tie
 
-mul-run : tie.Need-mul-run
-mul-run c = search needs
-
-add-run : tie.Need-add-run
-add-run c = search needs
-
-run-requires : tie.Need-run-requires
-run-requires c κs = search needs
-
-same-length : tie.Need-same-length
-same-length c = search needs
-
 returns : tie.Need-returns
 returns c = rw (kindOf-two _ (c .before .before .before .before .if1 .taken)) (c .before .before .run .ensures)
-
-run-requires-2 : tie.Need-run-requires-2
-run-requires-2 c κs = search needs
-
-same-length-2 : tie.Need-same-length-2
-same-length-2 c = search needs
 
 returns-2 : tie.Need-returns-2
 returns-2 c = rw (kindOf-one _ (c .if2 .taken)) (c .before .before .before .run2 .ensures)
@@ -36,9 +18,6 @@ combine-shifted-requires c κs =
     let start = c .before .before .before .before .before .before .before .before in
     let d = kindOf-three _ (c .before .if2 .left) (c .before .before .before .before .before .before .if1 .left) in
     (rw d at (start .pre .0 .0), with-fit Sum _ _ _ _ (c .before .before .before .before .run2 .ensures) (rw d at (start .pre .1 .1)))
-
-same-length-3 : tie.Need-same-length-3
-same-length-3 c = search needs
 
 returns-3 : tie.Need-returns-3
 returns-3 c =
@@ -51,14 +30,10 @@ pub multiply-spec : {M : Type 1} → statement M
 multiply-spec =
     tie.close
     (tie.spec
-    mul-run
-    add-run
-    run-requires
-    same-length
+    (λ c. search needs) (λ c. search needs) (λ c κs. search needs) (λ c. search needs)
     returns
-    run-requires-2
-    same-length-2
+    (λ c κs. search needs) (λ c. search needs)
     returns-2
     combine-shifted-requires
-    same-length-3
+    (λ c. search needs)
     returns-3)

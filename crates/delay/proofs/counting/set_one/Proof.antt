@@ -20,28 +20,10 @@ abbrev μ-loop : tie.MeasureT-loop
 loop-holds : tie.Need-loop-holds Inv-loop μ-loop
 loop-holds c = (omega arith, filled-none)
 
-mul-counts : tie.Need-mul-counts Inv-loop μ-loop
-mul-counts c = search needs
-
-slice-write-counts : tie.Need-slice-write-counts Inv-loop μ-loop
-slice-write-counts c = search needs
-
-add-l : tie.Need-add-l Inv-loop μ-loop
-add-l c = search needs
-
-loop-less : tie.Need-loop-less Inv-loop μ-loop
-loop-less c = search needs
-
 loop-again : tie.Need-loop-again Inv-loop μ-loop
 loop-again c =
     let i = c .before .loop .inv in
     (search needs, filled-next (i .1) (rw (i .1 .size) at (c .loop-test .taken)) refl)
-
-slice-write-counts-2 : tie.Need-slice-write-counts-2 Inv-loop μ-loop
-slice-write-counts-2 c = search needs
-
-same-length : tie.Need-same-length Inv-loop μ-loop
-same-length c = search needs
 
 returns : tie.Need-returns Inv-loop μ-loop
 returns c = let i = c .before .loop .inv in one-start _ (i .1) (omega arith) (c .before .before .pre)
@@ -49,15 +31,9 @@ returns c = let i = c .before .loop .inv in one-start _ (i .1) (omega arith) (c 
 pub set-one-spec : {M : Type 1} → statement M
 set-one-spec =
     tie.close
-    (tie.spec
-    Inv-loop
-    μ-loop
+    (tie.spec Inv-loop μ-loop
     loop-holds
-    mul-counts
-    slice-write-counts
-    add-l
-    loop-less
+    (λ c. search needs) (λ c. search needs) (λ c. search needs) (λ c. search needs)
     loop-again
-    slice-write-counts-2
-    same-length
+    (λ c. search needs) (λ c. search needs)
     returns)

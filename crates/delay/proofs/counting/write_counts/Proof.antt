@@ -13,12 +13,6 @@ use Rattle.coxeter.proofs.FrontLaws.{front-parts}
 greatest-length-requires : tie.Need-greatest-length-requires
 greatest-length-requires c κs = table-rank-small _ _ (c .before .pre .0)
 
-add-m : tie.Need-add-m
-add-m c = search needs
-
-slice-relend-prefix-count : tie.Need-slice-relend-prefix-count
-slice-relend-prefix-count c = search needs
-
 slice-aggregate-count : tie.Need-slice-aggregate-count
 slice-aggregate-count c = sym (length-take-le _ _ (search needs))
 
@@ -27,9 +21,6 @@ count-requires c κs = (
   c .before .before .before .pre .0,
   length-take-le _ _ (search needs) ∙ ap (λ (x : ℕ). x + 1) (c .before .greatest-length .ensures),
 )
-
-same-length : tie.Need-same-length
-same-length c = search needs
 
 returns : tie.Need-returns
 returns c =
@@ -42,9 +33,8 @@ write-counts-spec =
     tie.close
     (tie.spec
     greatest-length-requires
-    add-m
-    slice-relend-prefix-count
+    (λ c. search needs) (λ c. search needs)
     slice-aggregate-count
     count-requires
-    same-length
+    (λ c. search needs)
     returns)

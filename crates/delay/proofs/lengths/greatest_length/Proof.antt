@@ -12,9 +12,6 @@ use Rattle.delay.proofs.lengths.greatest_length.Tie as tie
 small : (a b : ℕ) → a ≤ 64 → b ≤ 65 → a * b ≤ 64 * 65
 small a b h g = mul-le-mul {n₁ = a} {m₁ = b} h g
 
-add-result : tie.Need-add-result
-add-result c = search needs
-
 mul-result : tie.Need-mul-result
 mul-result c = let n = c .before .args .rank in omega (arith, small n (n + 1) (c .before .pre .1) (omega arith))
 
@@ -27,9 +24,6 @@ mul-result-2 c = let n = c .before .before .args .rank in omega (arith, small n 
 returns-2 : tie.Need-returns-2
 returns-2 c = rw (kindOf-two _ (c .if2 .taken))
 
-sub-result : tie.Need-sub-result
-sub-result c = search needs
-
 mul-result-3 : tie.Need-mul-result-3
 mul-result-3 c = let n = c .before .before .args .rank in omega (arith, small n (n - 1) (c .before .before .pre .1) (omega arith))
 
@@ -40,11 +34,11 @@ pub greatest-length-spec : {M : Type 1} → statement M
 greatest-length-spec =
     tie.close
     (tie.spec
-    add-result
+    (λ c. search needs)
     mul-result
     returns
     mul-result-2
     returns-2
-    sub-result
+    (λ c. search needs)
     mul-result-3
     returns-3)

@@ -8,9 +8,6 @@ use borrow.Author.Needs.{needs}
 use Rattle.delay.proofs.lengths.lanes.Statement.{statement}
 use Rattle.delay.proofs.lengths.lanes.Tie as tie
 
-add-result : tie.Need-add-result
-add-result c = search needs
-
 returns : tie.Need-returns
 returns c = rw (kindOf-one _ (c .if1 .taken))
 
@@ -18,4 +15,4 @@ returns-2 : tie.Need-returns-2
 returns-2 c = by-kind-else (λ (k : Kind). _≡_ {A = ℕ} (c .before .args .rank) (lanes k (c .before .args .rank))) _ (c .if1 .left) refl refl
 
 pub lanes-spec : {M : Type 1} → statement M
-lanes-spec = tie.close (tie.spec add-result returns returns-2)
+lanes-spec = tie.close (tie.spec (λ c. search needs) returns returns-2)

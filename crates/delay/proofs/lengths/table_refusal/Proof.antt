@@ -7,15 +7,9 @@ use Rattle.distribution.specs.Calls.{untabled, tableRefusal}
 use Rattle.delay.proofs.lengths.table_refusal.Statement.{statement}
 use Rattle.delay.proofs.lengths.table_refusal.Tie as tie
 
-rank-refusal-requires : tie.Need-rank-refusal-requires
-rank-refusal-requires c κs = search needs
-
 returns : tie.Need-returns
 unfolding tableRefusal
 returns c = then-refused _ _ _ (c .before .rank-refusal .ensures) (c .if1 .taken)
-
-greatest-tabled-requires : tie.Need-greatest-tabled-requires
-greatest-tabled-requires c κs = search needs
 
 returns-2 : tie.Need-returns-2
 unfolding tableRefusal untabled
@@ -34,4 +28,4 @@ returns-3 c =
     (rw (← high .greatest-tabled .ensures, le-ltb _ _ (c .if2 .left)))
 
 pub table-refusal-spec : {M : Type 1} → statement M
-table-refusal-spec = tie.close (tie.spec rank-refusal-requires returns greatest-tabled-requires returns-2 returns-3)
+table-refusal-spec = tie.close (tie.spec (λ c κs. search needs) returns (λ c κs. search needs) returns-2 returns-3)

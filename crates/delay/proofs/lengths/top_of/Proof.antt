@@ -8,20 +8,18 @@ use Rattle.delay.proofs.lengths.top_of.Tie as tie
 returns : tie.Need-returns
 returns c = rw (kindOf-one _ (c .if1 .taken))
 
-mul-result : tie.Need-mul-result
-mul-result c = search needs
-
-add-result : tie.Need-add-result
-add-result c = search needs
-
 returns-2 : tie.Need-returns-2
 returns-2 c = rw (kindOf-two _ (c .if2 .taken))
-
-mul-result-2 : tie.Need-mul-result-2
-mul-result-2 c = search needs
 
 returns-3 : tie.Need-returns-3
 returns-3 c = rw (kindOf-three _ (c .before .if1 .left) (c .if2 .left))
 
 pub top-of-spec : {M : Type 1} → statement M
-top-of-spec = tie.close (tie.spec returns mul-result add-result returns-2 mul-result-2 returns-3)
+top-of-spec =
+    tie.close
+    (tie.spec
+    returns
+    (λ c. search needs) (λ c. search needs)
+    returns-2
+    (λ c. search needs)
+    returns-3)

@@ -8,20 +8,8 @@ use Rattle.delay.proofs.longest.Entries.{entry-A, entry-B, entry-even, 
 use Rattle.delay.proofs.longest.longest_entry.Statement.{statement}
 use Rattle.delay.proofs.longest.longest_entry.Tie as tie
 
-sub-result : tie.Need-sub-result
-sub-result c = search needs
-
-cast-result : tie.Need-cast-result
-cast-result c = search needs
-
 returns : tie.Need-returns
 returns c = let pre = c .before .pre in entry-A _ _ _ _ (pre .0) (pre .1) (c .if1 .taken) (pre .2)
-
-add-x : tie.Need-add-x
-add-x c = search needs
-
-cast-x : tie.Need-cast-x
-cast-x c = search needs
 
 sub-result-2 : tie.Need-sub-result-2
 sub-result-2 c = minus-cast-fits (c .before .before .args .i + 1) (omega arith)
@@ -37,9 +25,6 @@ returns-3 c =
     let other = c .before in
     let pre = other .before .before .pre in
     entry-even _ _ _ _ (pre .0) (pre .1) (other .before .if1 .left) (other .if2 .left) (c .if3 .taken) (pre .2)
-
-add-if4 : tie.Need-add-if4
-add-if4 c = search needs
 
 returns-4 : tie.Need-returns-4
 returns-4 c =
@@ -62,16 +47,14 @@ pub longest-entry-spec : {M : Type 1} → statement M
 longest-entry-spec =
     tie.close
     (tie.spec
-    sub-result
-    cast-result
+    (λ c. search needs) (λ c. search needs)
     returns
-    add-x
-    cast-x
+    (λ c. search needs) (λ c. search needs)
     sub-result-2
     returns-2
     sub-result-3
     returns-3
-    add-if4
+    (λ c. search needs)
     returns-4
     sub-result-4
     returns-5)

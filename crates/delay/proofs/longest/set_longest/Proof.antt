@@ -26,15 +26,6 @@ longest-entry-requires c κs =
     let pre = c .before .before .pre in
     (size ∙ pre .1, c .loop-test .taken, lanes-fit _ _ _ (pre .0 .1) (size ∙ pre .1))
 
-slice-set-from-w : tie.Need-slice-set-from-w Inv-loop μ-loop
-slice-set-from-w c = search needs
-
-add-i : tie.Need-add-i Inv-loop μ-loop
-add-i c = search needs
-
-loop-less : tie.Need-loop-less Inv-loop μ-loop
-loop-less c = search needs
-
 loop-again : tie.Need-loop-again Inv-loop μ-loop
 loop-again c =
     let turn = c .before in
@@ -45,9 +36,6 @@ loop-again c =
       longest-next _ _ _ _ _ (pre .0 .0) (turn .loop-test .taken) (i .1 ∙ pre .1) (c .longest-entry .ok) (c .longest-entry .ensures) (i .2),
     )
 
-same-length : tie.Need-same-length Inv-loop μ-loop
-same-length c = search needs
-
 returns : tie.Need-returns Inv-loop μ-loop
 returns c =
     let i = c .before .loop .inv in
@@ -57,14 +45,10 @@ returns c =
 pub set-longest-spec : {M : Type 1} → statement M
 set-longest-spec =
     tie.close
-    (tie.spec
-    Inv-loop
-    μ-loop
+    (tie.spec Inv-loop μ-loop
     loop-holds
     longest-entry-requires
-    slice-set-from-w
-    add-i
-    loop-less
+    (λ c. search needs) (λ c. search needs) (λ c. search needs)
     loop-again
-    same-length
+    (λ c. search needs)
     returns)

@@ -10,17 +10,8 @@ use Rattle.delay.proofs.longest.Entries.{form-written}
 use Rattle.delay.proofs.longest.write_form.Statement.{statement}
 use Rattle.delay.proofs.longest.write_form.Tie as tie
 
-lanes-requires : tie.Need-lanes-requires
-lanes-requires c κs = search needs
-
 slice-aggregate-normal-form-of-window : tie.Need-slice-aggregate-normal-form-of-window
 slice-aggregate-normal-form-of-window c = sym (length-take-le _ _ (search needs))
-
-normal-form-of-window-requires : tie.Need-normal-form-of-window-requires
-normal-form-of-window-requires c κs = search needs
-
-same-length : tie.Need-same-length
-same-length c = search needs
 
 returns : tie.Need-returns
 returns c =
@@ -34,8 +25,7 @@ pub write-form-spec : {M : Type 1} → statement M
 write-form-spec =
     tie.close
     (tie.spec
-    lanes-requires
+    (λ c κs. search needs)
     slice-aggregate-normal-form-of-window
-    normal-form-of-window-requires
-    same-length
+    (λ c κs. search needs) (λ c. search needs)
     returns)

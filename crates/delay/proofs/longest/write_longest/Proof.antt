@@ -9,21 +9,12 @@ use Rattle.distribution.proofs.Tables.{length-longest}
 use Rattle.delay.proofs.longest.write_longest.Statement.{statement}
 use Rattle.delay.proofs.longest.write_longest.Tie as tie
 
-lanes-requires : tie.Need-lanes-requires
-lanes-requires c κs = search needs
-
-slice-relend-prefix-set-longest : tie.Need-slice-relend-prefix-set-longest
-slice-relend-prefix-set-longest c = search needs
-
 slice-aggregate-set-longest : tie.Need-slice-aggregate-set-longest
 slice-aggregate-set-longest c = sym (length-take-le _ _ (search needs))
 
 set-longest-requires : tie.Need-set-longest-requires
 set-longest-requires c κs =
     (rank-accepted _ _ (c .before .before .pre .0), length-take-le _ _ (search needs) ∙ c .before .lanes .ensures)
-
-same-length : tie.Need-same-length
-same-length c = search needs
 
 returns : tie.Need-returns
 returns c =
@@ -35,9 +26,8 @@ pub write-longest-spec : {M : Type 1} → statement M
 write-longest-spec =
     tie.close
     (tie.spec
-    lanes-requires
-    slice-relend-prefix-set-longest
+    (λ c κs. search needs) (λ c. search needs)
     slice-aggregate-set-longest
     set-longest-requires
-    same-length
+    (λ c. search needs)
     returns)

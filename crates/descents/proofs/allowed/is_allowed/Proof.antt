@@ -6,15 +6,9 @@ use Rattle.shortest_words.specs.Allowed.{allows}
 use Rattle.descents.proofs.allowed.is_allowed.Statement.{statement}
 use Rattle.descents.proofs.allowed.is_allowed.Tie as tie
 
-sub-result : tie.Need-sub-result
-sub-result c = search needs
-
-shr-result : tie.Need-shr-result
-shr-result c = search needs
-
 returns : tie.Need-returns
 unfolding allows
 returns c = refl
 
 pub is-allowed-spec : {M : Type 1} → statement M
-is-allowed-spec = tie.close (tie.spec sub-result shr-result returns)
+is-allowed-spec = tie.close (tie.spec (λ c. search needs) (λ c. search needs) returns)

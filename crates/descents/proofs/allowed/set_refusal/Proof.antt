@@ -7,9 +7,6 @@ use Rattle.shortest_words.proofs.AllowedSets.{wrongSet-shifted, rightSet-shifte
 use Rattle.descents.proofs.allowed.set_refusal.Statement.{statement}
 use Rattle.descents.proofs.allowed.set_refusal.Tie as tie
 
-rank-refusal-requires : tie.Need-rank-refusal-requires
-rank-refusal-requires c κs = search needs
-
 returns : tie.Need-returns
 unfolding setRefusal
 returns c = then-refused _ _ _ (c .before .rank-refusal .ensures) (c .if1 .taken)
@@ -20,9 +17,6 @@ returns-2 c =
     let b = c .before in
     then-next _ _ _ _ (b .before .rank-refusal .ensures) (b .if1 .left)
     (rw (rightSet-full _ _ (c .if2 .taken) (b .before .before .fits .allowed .fits)))
-
-shr-if3 : tie.Need-shr-if3
-shr-if3 c = search needs
 
 returns-3 : tie.Need-returns-3
 unfolding setRefusal
@@ -37,5 +31,4 @@ returns-4 c =
     then-next _ _ _ _ (b .before .rank-refusal .ensures) (b .if1 .left) (rw (rightSet-shifted _ _ (c .if3 .left)))
 
 pub set-refusal-spec : {M : Type 1} → statement M
-set-refusal-spec =
-    tie.close (tie.spec rank-refusal-requires returns returns-2 shr-if3 returns-3 returns-4)
+set-refusal-spec = tie.close (tie.spec (λ c κs. search needs) returns returns-2 (λ c. search needs) returns-3 returns-4)

@@ -22,9 +22,6 @@ abbrev μ-loop : tie.MeasureT-loop
 loop-holds : tie.Need-loop-holds Inv-loop μ-loop
 loop-holds c = (omega arith, refl)
 
-shared-slice-read-is-allowed : tie.Need-shared-slice-read-is-allowed Inv-loop μ-loop
-shared-slice-read-is-allowed c = search needs
-
 cast-is-allowed : tie.Need-cast-is-allowed Inv-loop μ-loop
 cast-is-allowed c = omega (arith, c .shared-slice-known2 .given (c .before .before .loop .i))
 
@@ -39,12 +36,6 @@ returns : tie.Need-returns Inv-loop μ-loop
 returns c =
     let at = c .before .before .before .before .loop in
     over-stop _ _ (at .i) (at .inv .1) _ (c .before .before .before .loop-test .taken) (c .before .is-allowed .ensures) (c .if1 .taken)
-
-add-i : tie.Need-add-i Inv-loop μ-loop
-add-i c = search needs
-
-loop-less : tie.Need-loop-less Inv-loop μ-loop
-loop-less c = search needs
 
 loop-again : tie.Need-loop-again Inv-loop μ-loop
 loop-again c =
@@ -61,15 +52,12 @@ returns-2 c =
 pub are-allowed-spec : {M : Type 1} → statement M
 are-allowed-spec =
     tie.close
-    (tie.spec
-    Inv-loop
-    μ-loop
+    (tie.spec Inv-loop μ-loop
     loop-holds
-    shared-slice-read-is-allowed
+    (λ c. search needs)
     cast-is-allowed
     is-allowed-requires
     returns
-    add-i
-    loop-less
+    (λ c. search needs) (λ c. search needs)
     loop-again
     returns-2)

@@ -8,9 +8,6 @@ use Rattle.descents.proofs.between.Leading.{not-over, all-over, copied}
 use Rattle.descents.proofs.between.write_allowed.Statement.{statement}
 use Rattle.descents.proofs.between.write_allowed.Tie as tie
 
-are-allowed-requires : tie.Need-are-allowed-requires
-are-allowed-requires c κs = search needs
-
 returns : tie.Need-returns
 returns c = writes-refused _ _ 19 _ _ refl (not-over _ _ (c .before .are-allowed .ensures) (c .if1 .taken)) (λ z. omega arith)
 
@@ -18,12 +15,6 @@ returns-2 : tie.Need-returns-2
 returns-2 c =
     let b = c .before in
     writes-short _ _ 0 _ _ refl (all-over _ _ (b .before .are-allowed .ensures) (b .if1 .left)) _ refl refl (c .if2 .taken)
-
-copy-requires : tie.Need-copy-requires
-copy-requires c κs = search needs
-
-same-length : tie.Need-same-length
-same-length c = search needs
 
 returns-3 : tie.Need-returns-3
 returns-3 c =
@@ -34,4 +25,10 @@ returns-3 c =
 
 pub write-allowed-spec : {M : Type 1} → statement M
 write-allowed-spec =
-    tie.close (tie.spec are-allowed-requires returns returns-2 copy-requires same-length returns-3)
+    tie.close
+    (tie.spec
+    (λ c κs. search needs)
+    returns
+    returns-2
+    (λ c κs. search needs) (λ c. search needs)
+    returns-3)

@@ -15,17 +15,8 @@ slice-aggregate-normal-form-between c = sym (ap length (take-length (c .before .
 slice-aggregate-normal-form-between-2 : tie.Need-slice-aggregate-normal-form-between-2
 slice-aggregate-normal-form-between-2 c = sym (ap length (take-length (c .before .before .before .before .args .to .now)))
 
-normal-form-between-requires : tie.Need-normal-form-between-requires
-normal-form-between-requires c κs = search needs
-
-enum-known-answer : tie.Need-enum-known-answer
-enum-known-answer c = search needs
-
 enum-told : tie.Need-enum-told
 enum-told c = search needs
-
-same-length : tie.Need-same-length
-same-length c = search needs
 
 returns : tie.Need-returns
 returns c =
@@ -58,12 +49,6 @@ write-allowed-requires c κs =
     let told = rw (take-length (s .args .from .now), take-length (s .args .to .now)) at (f .normal-form-between .ensures) in
     form-word _ _ _ _ _ (s .pre .0) _ _ _ (s .pre .1) told _ (a .answer .given .1)
 
-same-length-2 : tie.Need-same-length-2
-same-length-2 c = search needs
-
-same-length-3 : tie.Need-same-length-3
-same-length-3 c = search needs
-
 returns-2 : tie.Need-returns-2
 returns-2 c =
     let w = c .before .before in
@@ -79,14 +64,12 @@ write-between-spec =
     (tie.spec
     slice-aggregate-normal-form-between
     slice-aggregate-normal-form-between-2
-    normal-form-between-requires
-    enum-known-answer
+    (λ c κs. search needs) (λ c. search needs)
     enum-told
-    same-length
+    (λ c. search needs)
     returns
     slice-reshare-prefix-write-allowed
     slice-aggregate-write-allowed
     write-allowed-requires
-    same-length-2
-    same-length-3
+    (λ c. search needs) (λ c. search needs)
     returns-2)

@@ -16,13 +16,10 @@ returns c =
     let pre = c .before .pre in
     room-for-all _ _ _ (pre .0) (pre .1) _ (c .if1 .taken)
 
-form-length-requires : tie.Need-form-length-requires
-form-length-requires c κs = search needs
-
 returns-2 : tie.Need-returns-2
 returns-2 c =
     let pre = c .before .before .pre in
     room-measured _ _ _ (pre .0) (pre .1) _ _ (c .form-length .ensures)
 
 pub has-room-spec : {M : Type 1} → statement M
-has-room-spec = tie.close (tie.spec mul-if1 returns form-length-requires returns-2)
+has-room-spec = tie.close (tie.spec mul-if1 returns (λ c κs. search needs) returns-2)

@@ -6,21 +6,6 @@ use borrow.Author.Needs.{needs}
 use Rattle.descents.proofs.splitting.split_accepted.Statement.{statement}
 use Rattle.descents.proofs.splitting.split_accepted.Tie as tie
 
-lanes-requires : tie.Need-lanes-requires
-lanes-requires c κs = search needs
-
-entries-64-requires : tie.Need-entries-64-requires
-entries-64-requires c κs = search needs
-
-slice-aggregate-show : tie.Need-slice-aggregate-show
-slice-aggregate-show c = search needs
-
-show-requires : tie.Need-show-requires
-show-requires c κs = search needs
-
-array-share-prefix-w : tie.Need-array-share-prefix-w
-array-share-prefix-w c = search needs
-
 slice-aggregate-split-window : tie.Need-slice-aggregate-split-window
 slice-aggregate-split-window c =
     let b = c .before .before in
@@ -32,12 +17,6 @@ split-window-requires c κs =
     let counted = b .before .before .before in
     window-asked _ _ 0 _ _ (part-is _ _ _ _ _ (b .show .ensures .1) (counted .lanes .ensures)) (counted .before .before .before .before .pre .0)
 
-same-length : tie.Need-same-length
-same-length c = search needs
-
-same-length-2 : tie.Need-same-length-2
-same-length-2 c = search needs
-
 returns : tie.Need-returns
 returns c =
     let f = c .before .before .before .before in
@@ -48,13 +27,8 @@ pub split-accepted-spec : {M : Type 1} → statement M
 split-accepted-spec =
     tie.close
     (tie.spec
-    lanes-requires
-    entries-64-requires
-    slice-aggregate-show
-    show-requires
-    array-share-prefix-w
+    (λ c κs. search needs) (λ c κs. search needs) (λ c. search needs) (λ c κs. search needs) (λ c. search needs)
     slice-aggregate-split-window
     split-window-requires
-    same-length
-    same-length-2
+    (λ c. search needs) (λ c. search needs)
     returns)

@@ -6,21 +6,6 @@ use borrow.Author.Needs.{needs}
 use Rattle.descents.proofs.splitting.split_window.Statement.{statement}
 use Rattle.descents.proofs.splitting.split_window.Tie as tie
 
-lanes-requires : tie.Need-lanes-requires
-lanes-requires c κs = search needs
-
-entries-64-requires : tie.Need-entries-64-requires
-entries-64-requires c κs = search needs
-
-slice-aggregate-invert : tie.Need-slice-aggregate-invert
-slice-aggregate-invert c = search needs
-
-invert-requires : tie.Need-invert-requires
-invert-requires c κs = search needs
-
-array-borrow-prefix-rest : tie.Need-array-borrow-prefix-rest
-array-borrow-prefix-rest c = search needs
-
 slice-aggregate-strip : tie.Need-slice-aggregate-strip
 slice-aggregate-strip c =
     let b = c .before .before in
@@ -54,12 +39,6 @@ write-parts-requires c κs =
     parts-asked _ _ _ _ _ (p .0) (p .1) (part-is _ _ _ _ _ (b .invert .ensures .1) l) _ _ (stored-is _ _ _ size (s .strip .kept .1 .1 .1 .0))
     (s .strip .ensures)
 
-same-length : tie.Need-same-length
-same-length c = search needs
-
-same-length-2 : tie.Need-same-length-2
-same-length-2 c = search needs
-
 returns : tie.Need-returns
 returns c =
     let f = c .before .before .before .before in
@@ -75,16 +54,11 @@ pub split-window-spec : {M : Type 1} → statement M
 split-window-spec =
     tie.close
     (tie.spec
-    lanes-requires
-    entries-64-requires
-    slice-aggregate-invert
-    invert-requires
-    array-borrow-prefix-rest
+    (λ c κs. search needs) (λ c κs. search needs) (λ c. search needs) (λ c κs. search needs) (λ c. search needs)
     slice-aggregate-strip
     strip-requires
     array-share-prefix-rest
     slice-aggregate-write-parts
     write-parts-requires
-    same-length
-    same-length-2
+    (λ c. search needs) (λ c. search needs)
     returns)

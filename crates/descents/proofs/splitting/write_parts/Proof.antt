@@ -7,23 +7,11 @@ use Rattle.descents.proofs.splitting.Halves.{checks-pass, second-lacks,
 use Rattle.descents.proofs.splitting.write_parts.Statement.{statement}
 use Rattle.descents.proofs.splitting.write_parts.Tie as tie
 
-has-room-requires : tie.Need-has-room-requires
-has-room-requires c κs = search needs
-
 returns : tie.Need-returns
 returns c = second-lacks _ _ _ _ _ (c .before .has-room .ensures) (c .if1 .taken)
 
-normal-form-of-product-requires : tie.Need-normal-form-of-product-requires
-normal-form-of-product-requires c κs = search needs
-
-enum-known-l : tie.Need-enum-known-l
-enum-known-l c = search needs
-
 enum-told : tie.Need-enum-told
 enum-told c = search needs
-
-same-length : tie.Need-same-length
-same-length c = search needs
 
 returns-2 : tie.Need-returns-2
 returns-2 c =
@@ -32,21 +20,6 @@ returns-2 c =
     let h = r .before .before .before .before .pre in
     first-lacks _ _ _ _ _ (r .before .has-room .ensures) (r .if1 .left) _ (checks-pass _ _ _ _ (h .0) (h .1 .0) (h .1 .1)) _ _
     (p .normal-form-of-product .ensures) _ (c .enum-told .given .1)
-
-normal-form-of-inverse-requires : tie.Need-normal-form-of-inverse-requires
-normal-form-of-inverse-requires c κs = search needs
-
-enum-known-m : tie.Need-enum-known-m
-enum-known-m c = search needs
-
-enum-told-2 : tie.Need-enum-told-2
-enum-told-2 c = search needs
-
-same-length-2 : tie.Need-same-length-2
-same-length-2 c = search needs
-
-same-length-3 : tie.Need-same-length-3
-same-length-3 c = search needs
 
 returns-3 : tie.Need-returns-3
 returns-3 c =
@@ -57,12 +30,6 @@ returns-3 c =
     absurd
     (second-never _ _ _ _ _ (r .before .has-room .ensures) (r .if1 .left) _ (checks-pass _ _ _ _ (h .0) (h .1 .0) (h .1 .1)) _ _
     (p .normal-form-of-product .ensures) _ _ _ (then-none _ _ (h .0) ∙ h .1 .1) (i .normal-form-of-inverse .ensures) _ (c .enum-told2 .given .1))
-
-same-length-4 : tie.Need-same-length-4
-same-length-4 c = search needs
-
-same-length-5 : tie.Need-same-length-5
-same-length-5 c = search needs
 
 returns-4 : tie.Need-returns-4
 returns-4 c =
@@ -79,19 +46,13 @@ pub write-parts-spec : {M : Type 1} → statement M
 write-parts-spec =
     tie.close
     (tie.spec
-    has-room-requires
+    (λ c κs. search needs)
     returns
-    normal-form-of-product-requires
-    enum-known-l
+    (λ c κs. search needs) (λ c. search needs)
     enum-told
-    same-length
+    (λ c. search needs)
     returns-2
-    normal-form-of-inverse-requires
-    enum-known-m
-    enum-told-2
-    same-length-2
-    same-length-3
+    (λ c κs. search needs) (λ c. search needs) (λ c. search needs) (λ c. search needs) (λ c. search needs)
     returns-3
-    same-length-4
-    same-length-5
+    (λ c. search needs) (λ c. search needs)
     returns-4)

@@ -8,29 +8,14 @@ use borrow.Author.Needs.{needs}
 use Rattle.descents.proofs.steps.take_descent.Statement.{statement}
 use Rattle.descents.proofs.steps.take_descent.Tie as tie
 
-sub-take-swap-descent : tie.Need-sub-take-swap-descent
-sub-take-swap-descent c = search needs
-
-take-swap-descent-requires : tie.Need-take-swap-descent-requires
-take-swap-descent-requires c κs = search needs
-
-same-length : tie.Need-same-length
-same-length c = search needs
-
 returns : tie.Need-returns
 returns c =
     let b = c .before .before .before in
     let l = c .before .take-swap-descent .ensures in
     taken-pair _ _ _ _ _ _ (b .before .pre) (b .if1 .taken) (l .0) (l .1)
 
-sub-take-negate-descent : tie.Need-sub-take-negate-descent
-sub-take-negate-descent c = search needs
-
 take-negate-descent-requires : tie.Need-take-negate-descent-requires
 take-negate-descent-requires c κs = negate-at-requires-of-last _ _ _ _ (c .before .before .before .pre) (c .before .before .if1 .left)
-
-same-length-2 : tie.Need-same-length-2
-same-length-2 c = search needs
 
 returns-2 : tie.Need-returns-2
 returns-2 c =
@@ -47,9 +32,6 @@ take-swap-negate-descent-requires : tie.Need-take-swap-negate-descent-requires
 take-swap-negate-descent-requires c κs =
     swap-negate-at-requires-of-last _ _ _ _ (c .before .before .before .pre) (c .before .before .if1 .left) (c .before .if2 .left)
 
-same-length-3 : tie.Need-same-length-3
-same-length-3 c = search needs
-
 returns-3 : tie.Need-returns-3
 returns-3 c =
     let b = c .before .before .before in
@@ -60,15 +42,13 @@ pub take-descent-spec : {M : Type 1} → statement M
 take-descent-spec =
     tie.close
     (tie.spec
-    sub-take-swap-descent
-    take-swap-descent-requires
-    same-length
+    (λ c. search needs) (λ c κs. search needs) (λ c. search needs)
     returns
-    sub-take-negate-descent
+    (λ c. search needs)
     take-negate-descent-requires
-    same-length-2
+    (λ c. search needs)
     returns-2
     sub-take-swap-negate-descent
     take-swap-negate-descent-requires
-    same-length-3
+    (λ c. search needs)
     returns-3)

@@ -9,22 +9,10 @@ use borrow.Author.Needs.{needs}
 use Rattle.descents.proofs.steps.take_negate_descent.Statement.{statement}
 use Rattle.descents.proofs.steps.take_negate_descent.Tie as tie
 
-slice-copy-out-a : tie.Need-slice-copy-out-a
-slice-copy-out-a c = search needs
-
-is-negative-requires : tie.Need-is-negative-requires
-is-negative-requires c κs = search needs
-
 sub-w : tie.Need-sub-w
 sub-w c =
     let b = c .before .before in
     negated-fits (getD (now (b .before .args .w)) (b .before .args .p) (pos 0)) (b .a .given) (b .before .pre .1)
-
-slice-set-from-w : tie.Need-slice-set-from-w
-slice-set-from-w c = search needs
-
-same-length : tie.Need-same-length
-same-length c = search needs
 
 returns : tie.Need-returns
 returns c =
@@ -40,10 +28,8 @@ pub take-negate-descent-spec : {M : Type 1} → statement M
 take-negate-descent-spec =
     tie.close
     (tie.spec
-    slice-copy-out-a
-    is-negative-requires
+    (λ c. search needs) (λ c κs. search needs)
     sub-w
-    slice-set-from-w
-    same-length
+    (λ c. search needs) (λ c. search needs)
     returns
     returns-2)

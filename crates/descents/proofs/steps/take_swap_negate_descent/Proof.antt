@@ -11,39 +11,15 @@ use borrow.Author.Needs.{needs}
 use Rattle.descents.proofs.steps.take_swap_negate_descent.Statement.{statement}
 use Rattle.descents.proofs.steps.take_swap_negate_descent.Tie as tie
 
-slice-copy-out-a : tie.Need-slice-copy-out-a
-slice-copy-out-a c = search needs
-
-add-b : tie.Need-add-b
-add-b c = search needs
-
-slice-copy-out-b : tie.Need-slice-copy-out-b
-slice-copy-out-b c = search needs
-
 sub-c : tie.Need-sub-c
 sub-c c =
     let b = c .before .before in
     negated-fits (getD (now (b .args .w)) (b .args .p + 1) (pos 0)) (c .b .given) (b .pre .1 .1)
 
-is-later-requires : tie.Need-is-later-requires
-is-later-requires c κs = search needs
-
-slice-set-from-c : tie.Need-slice-set-from-c
-slice-set-from-c c = search needs
-
 sub-w : tie.Need-sub-w
 sub-w c =
     let b = c .before .before .before in
     negated-fits (getD (now (b .before .args .w)) (b .before .args .p) (pos 0)) (b .a .given) (b .before .pre .1 .0)
-
-add-t13 : tie.Need-add-t13
-add-t13 c = search needs
-
-slice-set-from-w : tie.Need-slice-set-from-w
-slice-set-from-w c = search needs
-
-same-length : tie.Need-same-length
-same-length c = search needs
 
 returns : tie.Need-returns
 returns c =
@@ -65,15 +41,10 @@ pub take-swap-negate-descent-spec : {M : Type 1} → statement M
 take-swap-negate-descent-spec =
     tie.close
     (tie.spec
-    slice-copy-out-a
-    add-b
-    slice-copy-out-b
+    (λ c. search needs) (λ c. search needs) (λ c. search needs)
     sub-c
-    is-later-requires
-    slice-set-from-c
+    (λ c κs. search needs) (λ c. search needs)
     sub-w
-    add-t13
-    slice-set-from-w
-    same-length
+    (λ c. search needs) (λ c. search needs) (λ c. search needs)
     returns
     returns-2)

@@ -8,20 +8,8 @@ use Rattle.descents.proofs.stripping.Turns.{back-below, back-identity, 
 use Rattle.descents.proofs.stripping.back.Statement.{statement}
 use Rattle.descents.proofs.stripping.back.Tie as tie
 
-returns : tie.Need-returns
-returns c = search needs
-
-sub-result : tie.Need-sub-result
-sub-result c = search needs
-
 returns-2 : tie.Need-returns-2
 returns-2 c = back-below _ _ _ (omega arith) (c .if2 .taken)
-
-sub-result-2 : tie.Need-sub-result-2
-sub-result-2 c = search needs
-
-sub-result-3 : tie.Need-sub-result-3
-sub-result-3 c = search needs
 
 returns-3 : tie.Need-returns-3
 returns-3 c = back-identity _ _ _ (omega arith) (kindOf-one-or-two _ (c .before .if3 .left) (c .if4 .taken))
@@ -37,10 +25,8 @@ pub back-spec : {M : Type 1} → statement M
 back-spec =
     tie.close
     (tie.spec
-    returns
-    sub-result
+    (λ c. search needs) (λ c. search needs)
     returns-2
-    sub-result-2
-    sub-result-3
+    (λ c. search needs) (λ c. search needs)
     returns-3
     returns-4)

@@ -47,9 +47,6 @@ loop-again c =
           (l .ensures) (c .before .if1 .taken) _ (c .back .ensures),
     )
 
-add-s : tie.Need-add-s Inv-loop μ-loop
-add-s c = search needs
-
 loop-less-2 : tie.Need-loop-less-2 Inv-loop μ-loop
 loop-less-2 c =
     let b = c .before .before .before .before .before in
@@ -74,15 +71,13 @@ returns c = turning-end _ _ _ _ _ _ (c .before .loop .inv .1) (c .loop-test .lef
 pub strip-spec : {M : Type 1} → statement M
 strip-spec =
     tie.close
-    (tie.spec
-    Inv-loop
-    μ-loop
+    (tie.spec Inv-loop μ-loop
     loop-holds
     take-allowed-descent-requires
     back-requires
     loop-less
     loop-again
-    add-s
+    (λ c. search needs)
     loop-less-2
     loop-again-2
     same-length

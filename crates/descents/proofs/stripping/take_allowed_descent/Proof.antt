@@ -5,15 +5,6 @@ use Rattle.descents.proofs.stripping.Turns.{taken-allowed, taken-not}
 use Rattle.descents.proofs.stripping.take_allowed_descent.Statement.{statement}
 use Rattle.descents.proofs.stripping.take_allowed_descent.Tie as tie
 
-is-allowed-requires : tie.Need-is-allowed-requires
-is-allowed-requires c κs = search needs
-
-take-descent-requires : tie.Need-take-descent-requires
-take-descent-requires c κs = search needs
-
-same-length : tie.Need-same-length
-same-length c = search needs
-
 returns : tie.Need-returns
 returns c =
     let b = c .before .before .before in
@@ -24,4 +15,8 @@ returns-2 c = taken-not _ _ _ _ _ _ (c .before .is-allowed .ensures) (c .if1 .le
 
 pub take-allowed-descent-spec : {M : Type 1} → statement M
 take-allowed-descent-spec =
-    tie.close (tie.spec is-allowed-requires take-descent-requires same-length returns returns-2)
+    tie.close
+    (tie.spec
+    (λ c κs. search needs) (λ c κs. search needs) (λ c. search needs)
+    returns
+    returns-2)

@@ -16,12 +16,6 @@ is-identity-requires c κs =
     let b = c .before .before .before .before in
     left-length _ _ _ _ (b .before .before .before .before .before .pre) _ (b .keep-letters .kept .1 .1 .1 .0)
 
-same-length : tie.Need-same-length
-same-length c = search needs
-
-same-length-2 : tie.Need-same-length-2
-same-length-2 c = search needs
-
 returns : tie.Need-returns
 returns c =
     let b = c .before .before .before .before .before .before .before in
@@ -34,27 +28,12 @@ write-places-requires c κs =
     let s = b .before .before .before .before .before in
     (omega (arith, length-accepted _ _ (s .pre .1 .0), b .keep-letters .kept .1 .1 .0), search needs)
 
-same-length-3 : tie.Need-same-length-3
-same-length-3 c = search needs
-
-same-length-4 : tie.Need-same-length-4
-same-length-4 c = search needs
-
-same-length-5 : tie.Need-same-length-5
-same-length-5 c = search needs
-
 returns-2 : tie.Need-returns-2
 returns-2 c =
     let d = c .before .before .before .before .before .before in
     let b = d .before .before .before .before .before .before in
     decide-kept _ _ _ _ (b .before .before .before .before .before .pre) _ _ _ (b .keep-letters .ensures) (b .keep-letters .kept .1 .1 .1 .0) _
     (d .before .is-identity .ensures) _ _ (d .if1 .taken) (c .before .before .before .before .before .if2 .left) (c .before .before .write-places .ensures)
-
-same-length-6 : tie.Need-same-length-6
-same-length-6 c = search needs
-
-same-length-7 : tie.Need-same-length-7
-same-length-7 c = search needs
 
 returns-3 : tie.Need-returns-3
 returns-3 c =
@@ -68,14 +47,10 @@ decide-spec =
     (tie.spec
     keep-letters-requires
     is-identity-requires
-    same-length
-    same-length-2
+    (λ c. search needs) (λ c. search needs)
     returns
     write-places-requires
-    same-length-3
-    same-length-4
-    same-length-5
+    (λ c. search needs) (λ c. search needs) (λ c. search needs)
     returns-2
-    same-length-6
-    same-length-7
+    (λ c. search needs) (λ c. search needs)
     returns-3)

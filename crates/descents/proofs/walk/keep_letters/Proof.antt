@@ -22,9 +22,6 @@ abbrev μ-loop : tie.MeasureT-loop
 loop-holds : tie.Need-loop-holds Inv-loop μ-loop
 loop-holds c = (refl, walking-start _ _ _ _ (c .before .pre .1 .1))
 
-sub-i : tie.Need-sub-i Inv-loop μ-loop
-sub-i c = search needs
-
 slice-read-take-descent : tie.Need-slice-read-take-descent Inv-loop μ-loop
 slice-read-take-descent c =
     let w = c .before .before .loop .inv .1 in
@@ -45,9 +42,6 @@ add-kept c =
     let r = walking-room _ _ _ _ _ _ _ (b .loop .i - 1) _ (b .loop .inv .1) (omega arith) in
     omega arith
 
-loop-less : tie.Need-loop-less Inv-loop μ-loop
-loop-less c = search needs
-
 loop-again : tie.Need-loop-again Inv-loop μ-loop
 loop-again c =
     let b = c .before .before .before .before .before .before in
@@ -61,9 +55,6 @@ slice-write-word : tie.Need-slice-write-word Inv-loop μ-loop
 slice-write-word c =
     let w = c .before .before .before .before .before .before .loop .inv .1 in
     omega (arith, w .inside, w .size)
-
-loop-less-2 : tie.Need-loop-less-2 Inv-loop μ-loop
-loop-less-2 c = search needs
 
 loop-again-2 : tie.Need-loop-again-2 Inv-loop μ-loop
 loop-again-2 c =
@@ -85,19 +76,17 @@ returns c = walking-end _ _ _ _ _ _ _ _ (c .before .loop .inv .1) (c .loop-test 
 pub keep-letters-spec : {M : Type 1} → statement M
 keep-letters-spec =
     tie.close
-    (tie.spec
-    Inv-loop
-    μ-loop
+    (tie.spec Inv-loop μ-loop
     loop-holds
-    sub-i
+    (λ c. search needs)
     slice-read-take-descent
     cast-take-descent
     take-descent-requires
     add-kept
-    loop-less
+    (λ c. search needs)
     loop-again
     slice-write-word
-    loop-less-2
+    (λ c. search needs)
     loop-again-2
     same-length
     same-length-2

@@ -21,15 +21,6 @@ abbrev μ-loop : tie.MeasureT-loop
 loop-holds : tie.Need-loop-holds Inv-loop μ-loop
 loop-holds c = (omega arith, storing-all)
 
-shared-slice-read-if1 : tie.Need-shared-slice-read-if1 Inv-loop μ-loop
-shared-slice-read-if1 c = search needs
-
-cast-places : tie.Need-cast-places Inv-loop μ-loop
-cast-places c = search needs
-
-mul-places : tie.Need-mul-places Inv-loop μ-loop
-mul-places c = search needs
-
 slice-write-places : tie.Need-slice-write-places Inv-loop μ-loop
 slice-write-places c =
     let b = c .before .before in
@@ -40,12 +31,6 @@ add-at c =
     let b = c .before .before in
     let r = writing-room _ _ _ _ _ (b .loop-test .taken) (b .before .loop .inv .1) (c .if1 .taken) (b .before .before .pre .1) in
     omega arith
-
-add-i : tie.Need-add-i Inv-loop μ-loop
-add-i c = search needs
-
-loop-less : tie.Need-loop-less Inv-loop μ-loop
-loop-less c = search needs
 
 loop-again : tie.Need-loop-again Inv-loop μ-loop
 loop-again c =
@@ -66,17 +51,12 @@ returns c = writing-end _ _ _ _ _ (c .loop-test .left) (c .before .before .pre .
 pub write-places-spec : {M : Type 1} → statement M
 write-places-spec =
     tie.close
-    (tie.spec
-    Inv-loop
-    μ-loop
+    (tie.spec Inv-loop μ-loop
     loop-holds
-    shared-slice-read-if1
-    cast-places
-    mul-places
+    (λ c. search needs) (λ c. search needs) (λ c. search needs)
     slice-write-places
     add-at
-    add-i
-    loop-less
+    (λ c. search needs) (λ c. search needs)
     loop-again
     same-length
     returns)

@@ -5,12 +5,6 @@ use Rattle.descents.proofs.work.Windows.{length-told, length-never}
 use Rattle.descents.proofs.work.form_length.Statement.{statement}
 use Rattle.descents.proofs.work.form_length.Tie as tie
 
-length-of-window-requires : tie.Need-length-of-window-requires
-length-of-window-requires c κs = search needs
-
-enum-known-l : tie.Need-enum-known-l
-enum-known-l c = search needs
-
 enum-told : tie.Need-enum-told
 enum-told c = search needs
 
@@ -27,5 +21,4 @@ returns-2 c =
     length-told _ _ (s .pre .0) _ (s .pre .1) _ _ (b .length-of-window .ensures) (c .before .l .given .1)
 
 pub form-length-spec : {M : Type 1} → statement M
-form-length-spec =
-    tie.close (tie.spec length-of-window-requires enum-known-l enum-told returns returns-2)
+form-length-spec = tie.close (tie.spec (λ c κs. search needs) (λ c. search needs) enum-told returns returns-2)

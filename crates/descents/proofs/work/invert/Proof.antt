@@ -6,12 +6,6 @@ use Rattle.descents.proofs.work.Windows.{inverse-front}
 use Rattle.descents.proofs.work.invert.Statement.{statement}
 use Rattle.descents.proofs.work.invert.Tie as tie
 
-inverse-of-window-requires : tie.Need-inverse-of-window-requires
-inverse-of-window-requires c κs = search needs
-
-same-length : tie.Need-same-length
-same-length c = search needs
-
 returns : tie.Need-returns
 returns c =
     let b = c .before in
@@ -20,4 +14,4 @@ returns c =
     (room ∙ sym (b .inverse-of-window .kept .1 .1 .1 .0), inverse-front _ _ (s .pre .0) _ _ _ (s .pre .1) room (b .inverse-of-window .ensures .1))
 
 pub invert-spec : {M : Type 1} → statement M
-invert-spec = tie.close (tie.spec inverse-of-window-requires same-length returns)
+invert-spec = tie.close (tie.spec (λ c κs. search needs) (λ c. search needs) returns)

@@ -6,12 +6,6 @@ use Rattle.coxeter.proofs.Fronts.{window-shown}
 use Rattle.descents.proofs.work.show.Statement.{statement}
 use Rattle.descents.proofs.work.show.Tie as tie
 
-window-of-word-requires : tie.Need-window-of-word-requires
-window-of-word-requires c κs = search needs
-
-same-length : tie.Need-same-length
-same-length c = search needs
-
 returns : tie.Need-returns
 returns c =
     let b = c .before in
@@ -20,4 +14,4 @@ returns c =
     (room ∙ sym (b .window-of-word .kept .1 .1 .1 .0), window-shown _ _ _ (s .pre .0) (s .pre .1) _ _ room (b .window-of-word .ensures .1))
 
 pub show-spec : {M : Type 1} → statement M
-show-spec = tie.close (tie.spec window-of-word-requires same-length returns)
+show-spec = tie.close (tie.spec (λ c κs. search needs) (λ c. search needs) returns)

@@ -5,26 +5,14 @@ use borrow.Author.Needs.{needs}
 use Rattle.descents.proofs.work.write_form.Statement.{statement}
 use Rattle.descents.proofs.work.write_form.Tie as tie
 
-normal-form-of-word-requires : tie.Need-normal-form-of-word-requires
-normal-form-of-word-requires c κs = search needs
-
-enum-known-l : tie.Need-enum-known-l
-enum-known-l c = search needs
-
 enum-told : tie.Need-enum-told
 enum-told c = search needs
-
-same-length : tie.Need-same-length
-same-length c = search needs
 
 returns : tie.Need-returns
 returns c =
     let b = c .before .before .before .before in
     let s = b .before .before .before .before in
     absurd (form-never _ _ _ (s .pre .0) (s .pre .1) _ _ _ (s .pre .2) (b .normal-form-of-word .ensures) _ (c .enum-told .given .1))
-
-same-length-2 : tie.Need-same-length-2
-same-length-2 c = search needs
 
 returns-2 : tie.Need-returns-2
 returns-2 c =
@@ -36,10 +24,9 @@ pub write-form-spec : {M : Type 1} → statement M
 write-form-spec =
     tie.close
     (tie.spec
-    normal-form-of-word-requires
-    enum-known-l
+    (λ c κs. search needs) (λ c. search needs)
     enum-told
-    same-length
+    (λ c. search needs)
     returns
-    same-length-2
+    (λ c. search needs)
     returns-2)

@@ -24,12 +24,6 @@ put-decimal-requires c κs =
     let a = c .before .before .args in
     omega (arith, length-head (a .number) (a .kind) (a .rank) (a .size))
 
-kind-letter-requires : tie.Need-kind-letter-requires
-kind-letter-requires c κs = search needs
-
-slice-aggregate-put-bytes : tie.Need-slice-aggregate-put-bytes
-slice-aggregate-put-bytes c = search needs
-
 put-bytes-requires : tie.Need-put-bytes-requires
 put-bytes-requires c κs =
     let a = start (c .before .before .before .before .before) .args in
@@ -45,16 +39,10 @@ put-spaced-requires-2 c κs =
     let a = start (first (second (c .before .before .before))) .args in
     omega (arith, length-head (a .number) (a .kind) (a .rank) (a .size))
 
-slice-aggregate-put-bytes-2 : tie.Need-slice-aggregate-put-bytes-2
-slice-aggregate-put-bytes-2 c = search needs
-
 put-bytes-requires-2 : tie.Need-put-bytes-requires-2
 put-bytes-requires-2 c κs =
     let a = start (first (second (third (c .before .before .before .before)))) .args in
     omega (arith, length-head (a .number) (a .kind) (a .rank) (a .size))
-
-same-length : tie.Need-same-length
-same-length c = search needs
 
 returns : tie.Need-returns
 returns c =
@@ -71,12 +59,11 @@ put-head-spec =
     tie.close
     (tie.spec
     put-decimal-requires
-    kind-letter-requires
-    slice-aggregate-put-bytes
+    (λ c κs. search needs) (λ c. search needs)
     put-bytes-requires
     put-spaced-requires
     put-spaced-requires-2
-    slice-aggregate-put-bytes-2
+    (λ c. search needs)
     put-bytes-requires-2
-    same-length
+    (λ c. search needs)
     returns)

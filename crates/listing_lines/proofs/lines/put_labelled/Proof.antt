@@ -15,16 +15,10 @@ put-decimal-requires c κs =
     let a = c .before .before .before .before .before .before .before .args in
     omega (arith, length-labelled (now (a .label)) (a .x))
 
-slice-aggregate-put-bytes : tie.Need-slice-aggregate-put-bytes
-slice-aggregate-put-bytes c = search needs
-
 put-bytes-requires-2 : tie.Need-put-bytes-requires-2
 put-bytes-requires-2 c κs =
     let a = c .before .before .before .before .before .before .before .before .before .before .before .before .args in
     omega (arith, length-labelled (now (a .label)) (a .x))
-
-same-length : tie.Need-same-length
-same-length c = search needs
 
 returns : tie.Need-returns
 returns c =
@@ -40,7 +34,7 @@ put-labelled-spec =
     (tie.spec
     put-bytes-requires
     put-decimal-requires
-    slice-aggregate-put-bytes
+    (λ c. search needs)
     put-bytes-requires-2
-    same-length
+    (λ c. search needs)
     returns)

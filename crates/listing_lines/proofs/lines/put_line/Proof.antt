@@ -17,9 +17,6 @@ put-tail-requires c κs =
     let a = c .before .before .before .before .before .before .before .args in
     omega (arith, length-presetLine (a .number) (a .kind) (a .rank) (now (a .word)) (now (a .window)))
 
-same-length : tie.Need-same-length
-same-length c = search needs
-
 returns : tie.Need-returns
 returns c =
     let second = c .before .before in
@@ -27,10 +24,4 @@ returns c =
     presetLine-put _ _ _ _ _ _ _ _ _ _ _ (first .put-head .ensures) (second .put-tail .ensures)
 
 pub put-line-spec : {M : Type 1} → statement M
-put-line-spec =
-    tie.close
-    (tie.spec
-    put-head-requires
-    put-tail-requires
-    same-length
-    returns)
+put-line-spec = tie.close (tie.spec put-head-requires put-tail-requires (λ c. search needs) returns)

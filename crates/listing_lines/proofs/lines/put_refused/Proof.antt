@@ -9,16 +9,10 @@ use Rattle.listing_lines.proofs.lines.put_refused.Tie as tie
 put-decimal-requires : tie.Need-put-decimal-requires
 put-decimal-requires c κs = let a = c .before .before .args in omega (arith, length-refusedLine (a .number) (a .refusal))
 
-slice-aggregate-put-labelled : tie.Need-slice-aggregate-put-labelled
-slice-aggregate-put-labelled c = search needs
-
 put-labelled-requires : tie.Need-put-labelled-requires
 put-labelled-requires c κs =
     let a = c .before .before .before .before .before .before .before .args in
     omega (arith, length-refusedLine (a .number) (a .refusal))
-
-same-length : tie.Need-same-length
-same-length c = search needs
 
 returns : tie.Need-returns
 returns c =
@@ -31,7 +25,7 @@ put-refused-spec =
     tie.close
     (tie.spec
     put-decimal-requires
-    slice-aggregate-put-labelled
+    (λ c. search needs)
     put-labelled-requires
-    same-length
+    (λ c. search needs)
     returns)

@@ -10,9 +10,6 @@ use Rattle.listing_lines.proofs.lines.put_tail.Tie as tie
 put-letters-requires : tie.Need-put-letters-requires
 put-letters-requires c κs = let a = c .before .before .before .args in omega (arith, length-tail (now (a .word)) (now (a .window)))
 
-slice-aggregate-put-bytes : tie.Need-slice-aggregate-put-bytes
-slice-aggregate-put-bytes c = search needs
-
 put-bytes-requires : tie.Need-put-bytes-requires
 put-bytes-requires c κs =
     let a = c .before .before .before .before .before .before .before .before .args in
@@ -23,16 +20,10 @@ put-entries-requires c κs =
     let a = c .before .before .before .before .before .before .before .before .before .before .before .before .args in
     omega (arith, length-tail (now (a .word)) (now (a .window)))
 
-slice-aggregate-put-bytes-2 : tie.Need-slice-aggregate-put-bytes-2
-slice-aggregate-put-bytes-2 c = search needs
-
 put-bytes-requires-2 : tie.Need-put-bytes-requires-2
 put-bytes-requires-2 c κs =
     let a = c .before .before .before .before .before .before .before .before .before .before .before .before .before .before .before .before .before .args in
     omega (arith, length-tail (now (a .word)) (now (a .window)))
-
-same-length : tie.Need-same-length
-same-length c = search needs
 
 returns : tie.Need-returns
 returns c =
@@ -47,10 +38,10 @@ put-tail-spec =
     tie.close
     (tie.spec
     put-letters-requires
-    slice-aggregate-put-bytes
+    (λ c. search needs)
     put-bytes-requires
     put-entries-requires
-    slice-aggregate-put-bytes-2
+    (λ c. search needs)
     put-bytes-requires-2
-    same-length
+    (λ c. search needs)
     returns)

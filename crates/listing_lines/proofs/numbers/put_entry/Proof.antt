@@ -71,9 +71,6 @@ cast-put-spaced c =
 put-spaced-requires : tie.Need-put-spaced-requires
 put-spaced-requires c κs = omega (arith, room-plus (c .before))
 
-same-length-2 : tie.Need-same-length-2
-same-length-2 c = search needs
-
 returns-2 : tie.Need-returns-2
 returns-2 c =
     let called = c .before .before in
@@ -97,5 +94,5 @@ put-entry-spec =
     returns
     cast-put-spaced
     put-spaced-requires
-    same-length-2
+    (λ c. search needs)
     returns-2)

@@ -11,9 +11,6 @@ use Rattle.listing_lines.proofs.numbers.put_spaced.Tie as tie
 slice-write-out : tie.Need-slice-write-out
 slice-write-out c = omega (arith, length-spaced (c .before .args .x))
 
-add-put-decimal : tie.Need-add-put-decimal
-add-put-decimal c = search needs
-
 put-decimal-requires : tie.Need-put-decimal-requires
 put-decimal-requires c κs = simp length-set (omega (arith, length-spaced (c .before .before .args .x)))
 
@@ -24,5 +21,4 @@ returns : tie.Need-returns
 returns c = put-spaced _ _ _ _ _ (c .before .before .put-decimal .ensures)
 
 pub put-spaced-spec : {M : Type 1} → statement M
-put-spaced-spec =
-    tie.close (tie.spec slice-write-out add-put-decimal put-decimal-requires same-length returns)
+put-spaced-spec = tie.close (tie.spec slice-write-out (λ c. search needs) put-decimal-requires same-length returns)

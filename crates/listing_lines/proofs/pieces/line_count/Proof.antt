@@ -6,9 +6,6 @@ use Rattle.listing_lines.proofs.pieces.Filling.{lineCount-presets, line
 use Rattle.listing_lines.proofs.pieces.line_count.Statement.{statement}
 use Rattle.listing_lines.proofs.pieces.line_count.Tie as tie
 
-enum-known-opened : tie.Need-enum-known-opened
-enum-known-opened c = search needs
-
 add-result : tie.Need-add-result
 add-result c = omega (arith, lineCount-presets _ _ (c .before .opened .given .1))
 
@@ -22,4 +19,4 @@ returns-2 : tie.Need-returns-2
 returns-2 c = lineCount-refused _ _ (c .enum-told .given .1)
 
 pub line-count-spec : {M : Type 1} → statement M
-line-count-spec = tie.close (tie.spec enum-known-opened add-result enum-told returns returns-2)
+line-count-spec = tie.close (tie.spec (λ c. search needs) add-result enum-told returns returns-2)

@@ -84,18 +84,6 @@ inside c =
     let t = turn (joined c) in
     omega (arith, front c .0, length-line-le _ _ _ (below t), t .before .loop .inv .2, c .put-nth .kept .1 .1 .1 .1 .0)
 
-large-buffer-requires : tie.Need-large-buffer-requires Inv-loop μ-loop
-large-buffer-requires c κs = search needs
-
-check-book-requires : tie.Need-check-book-requires Inv-loop μ-loop
-check-book-requires c κs = search needs
-
-number-of-requires : tie.Need-number-of-requires Inv-loop μ-loop
-number-of-requires c κs = search needs
-
-read-run-requires : tie.Need-read-run-requires Inv-loop μ-loop
-read-run-requires c κs = search needs
-
 lines-from-requires : tie.Need-lines-from-requires Inv-loop μ-loop
 lines-from-requires c κs =
     let o = c .before .before in
@@ -111,17 +99,11 @@ loop-holds c =
       o .before .large-buffer .ensures,
     )
 
-number-of-requires-2 : tie.Need-number-of-requires-2 Inv-loop μ-loop
-number-of-requires-2 c κs = search needs
-
 add-if1 : tie.Need-add-if1 Inv-loop μ-loop
 add-if1 c =
     let t = c .before in
     let a = start t .args in
     omega (arith, t .before .loop .inv .1 .begins, below t, lineCount-le (a .edition) (now (a .book)))
-
-read-run-requires-2 : tie.Need-read-run-requires-2 Inv-loop μ-loop
-read-run-requires-2 c κs = search needs
 
 sub-answer : tie.Need-sub-answer Inv-loop μ-loop
 sub-answer c = omega (arith, in-hand (c .before) .0 .begins, c .before .before .number-of2 .ensures)
@@ -199,18 +181,13 @@ returns-2 c = filling-done _ _ _ _ _ _ _ _ (c .before .loop .inv .0) (c .loop-te
 pub next-piece-spec : {M : Type 1} → statement M
 next-piece-spec =
     tie.close
-    (tie.spec
-    Inv-loop
-    μ-loop
-    large-buffer-requires
-    check-book-requires
-    number-of-requires
-    read-run-requires
+    (tie.spec Inv-loop μ-loop
+    (λ c κs. search needs) (λ c κs. search needs) (λ c κs. search needs) (λ c κs. search needs)
     lines-from-requires
     loop-holds
-    number-of-requires-2
+    (λ c κs. search needs)
     add-if1
-    read-run-requires-2
+    (λ c κs. search needs)
     sub-answer
     mul-answer
     array-copy-out-answer

@@ -12,16 +12,10 @@ put-first-requires c κs =
     let start = other .before .before .before in
     rw (lineFrom-first (now (start .args .book)) _ _ (start .args .answer) (other .if1 .taken)) at (start .pre .1 .1)
 
-same-length : tie.Need-same-length
-same-length c = search needs
-
 returns : tie.Need-returns
 returns c =
     let put = c .before .before in
     rw (lineFrom-first _ _ _ _ (put .before .before .if1 .taken)) (put .put-first .ensures)
-
-sub-put-preset : tie.Need-sub-put-preset
-sub-put-preset c = search needs
 
 put-preset-requires : tie.Need-put-preset-requires
 put-preset-requires c κs =
@@ -29,9 +23,6 @@ put-preset-requires c κs =
     let start = other .before .before .before in
     let pre = start .pre in
     (pre .0, (pre .1 .0, rw (lineFrom-preset (now (start .args .book)) (start .args .opened) _ _ (other .if1 .left)) at (pre .1 .1)))
-
-same-length-2 : tie.Need-same-length-2
-same-length-2 c = search needs
 
 returns-2 : tie.Need-returns-2
 returns-2 c =
@@ -43,9 +34,9 @@ put-nth-spec =
     tie.close
     (tie.spec
     put-first-requires
-    same-length
+    (λ c. search needs)
     returns
-    sub-put-preset
+    (λ c. search needs)
     put-preset-requires
-    same-length-2
+    (λ c. search needs)
     returns-2)

@@ -16,23 +16,14 @@ preset : (c : tie.After-answer)
     Found (c .before .before .before .before .pre .0) (now (a .book)) (a .number) (g .0) (g .1 .0) (g .1 .1 .0) (g .1 .1 .1 .0)
 preset c = found _ _ _ _ _ _ _ (sym (c .answer .given .1) ∙ c .before .before .before .before .pre .1 .0)
 
-enum-known-answer : tie.Need-enum-known-answer
-enum-known-answer c = search needs
-
 enum-told : tie.Need-enum-told
 enum-told c = search needs
-
-refusal-of-requires : tie.Need-refusal-of-requires
-refusal-of-requires c κs = search needs
 
 put-refused-requires : tie.Need-put-refused-requires
 put-refused-requires c κs =
     let told = c .before .before in
     let start = told .before .before .before .before in
     rw (lineBy-refused (now (start .args .book)) (start .args .number) _ _ _ (told .enum-told .given .1) (c .before .refusal-of .ensures)) (start .pre .1 .1)
-
-same-length : tie.Need-same-length
-same-length c = search needs
 
 returns : tie.Need-returns
 returns c =
@@ -45,12 +36,6 @@ returns c =
 add-end : tie.Need-add-end
 add-end c = omega (arith, found-small _ _ _ _ _ _ _ (preset (c .before)))
 
-sub-put-word : tie.Need-sub-put-word
-sub-put-word c = search needs
-
-part-put-word-start : tie.Need-part-put-word-start
-part-put-word-start c = search needs
-
 part-put-word-end : tie.Need-part-put-word-end
 part-put-word-end c = found-inside _ _ _ _ _ _ _ (preset (c .before))
 
@@ -60,9 +45,6 @@ put-word-requires c κs =
     let f = preset told in
     let pre = told .before .before .before .before .pre in
     (found-rank _ _ _ _ _ _ _ f, found-word _ _ _ _ _ _ _ f, rw (lineBy-found _ _ _ _ _ _ _ (told .answer .given .1)) (pre .1 .1))
-
-same-length-2 : tie.Need-same-length-2
-same-length-2 c = search needs
 
 returns-2 : tie.Need-returns-2
 returns-2 c =
@@ -74,16 +56,15 @@ pub put-preset-spec : {M : Type 1} → statement M
 put-preset-spec =
     tie.close
     (tie.spec
-    enum-known-answer
+    (λ c. search needs)
     enum-told
-    refusal-of-requires
+    (λ c κs. search needs)
     put-refused-requires
-    same-length
+    (λ c. search needs)
     returns
     add-end
-    sub-put-word
-    part-put-word-start
+    (λ c. search needs) (λ c. search needs)
     part-put-word-end
     put-word-requires
-    same-length-2
+    (λ c. search needs)
     returns-2)

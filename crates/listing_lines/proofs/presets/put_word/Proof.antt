@@ -50,18 +50,6 @@ inside-shown c =
     let w = c .before .before .before in
     omega (arith, shown c .bound, w .before .before .entries-64 .ensures, w .window-of-word .kept .1 .1 .1 .0)
 
-buffer-requires : tie.Need-buffer-requires
-buffer-requires c κs = search needs
-
-slice-aggregate-normal-form-of-word : tie.Need-slice-aggregate-normal-form-of-word
-slice-aggregate-normal-form-of-word c = search needs
-
-normal-form-of-word-requires : tie.Need-normal-form-of-word-requires
-normal-form-of-word-requires c κs = search needs
-
-enum-known-l : tie.Need-enum-known-l
-enum-known-l c = search needs
-
 enum-told : tie.Need-enum-told
 enum-told c = search needs
 
@@ -71,21 +59,6 @@ returns c =
     let pre = start n .pre in
     absurd
     (form-never _ _ _ (pre .0) (pre .1) _ _ _ (n .before .before .buffer .ensures) (n .normal-form-of-word .ensures) _ (c .enum-told .given .1))
-
-entries-64-requires : tie.Need-entries-64-requires
-entries-64-requires c κs = search needs
-
-slice-aggregate-window-of-word : tie.Need-slice-aggregate-window-of-word
-slice-aggregate-window-of-word c = search needs
-
-window-of-word-requires : tie.Need-window-of-word-requires
-window-of-word-requires c κs = search needs
-
-enum-known-m : tie.Need-enum-known-m
-enum-known-m c = search needs
-
-enum-told-2 : tie.Need-enum-told-2
-enum-told-2 c = search needs
 
 returns-2 : tie.Need-returns-2
 returns-2 c =
@@ -112,9 +85,6 @@ put-line-requires c κs =
     let l = formed (m .before .before .before) in
     wordLine-room _ _ _ _ _ _ _ (form l .part) (shown m .part) (start (l .before .before .before) .pre .2)
 
-same-length : tie.Need-same-length
-same-length c = search needs
-
 returns-3 : tie.Need-returns-3
 returns-3 c =
     let m = c .before .before .before .before .before .before .before in
@@ -125,22 +95,15 @@ pub put-word-spec : {M : Type 1} → statement M
 put-word-spec =
     tie.close
     (tie.spec
-    buffer-requires
-    slice-aggregate-normal-form-of-word
-    normal-form-of-word-requires
-    enum-known-l
+    (λ c κs. search needs) (λ c. search needs) (λ c κs. search needs) (λ c. search needs)
     enum-told
     returns
-    entries-64-requires
-    slice-aggregate-window-of-word
-    window-of-word-requires
-    enum-known-m
-    enum-told-2
+    (λ c κs. search needs) (λ c. search needs) (λ c κs. search needs) (λ c. search needs) (λ c. search needs)
     returns-2
     array-share-prefix-form
     slice-aggregate-put-line
     array-share-prefix-shown
     slice-aggregate-put-line-2
     put-line-requires
-    same-length
+    (λ c. search needs)
     returns-3)

@@ -8,9 +8,6 @@ use Rattle.listing_lines.proofs.presets.refusal_of.Tie as tie
 enum-told : tie.Need-enum-told
 enum-told c = search needs
 
-enum-known-answer : tie.Need-enum-known-answer
-enum-known-answer c = search needs
-
 returns : tie.Need-returns
 unfolding refusalOf
 returns c = rw (c .enum-told .given .1)
@@ -20,4 +17,4 @@ unfolding refusalOf
 returns-2 c = rw (c .before .answer .given .1)
 
 pub refusal-of-spec : {M : Type 1} → statement M
-refusal-of-spec = tie.close (tie.spec enum-told enum-known-answer returns returns-2)
+refusal-of-spec = tie.close (tie.spec enum-told (λ c. search needs) returns returns-2)

@@ -21,32 +21,17 @@ abbrev μ-loop : tie.MeasureT-loop
 inside : (c : tie.After-next-piece Inv-loop μ-loop) → c .next-piece .result .end ≤ length (c .next-piece .last .1 .1 .1 .0)
 inside c = omega (arith, piece-inside _ _ _ _ _ (c .next-piece .ensures .0), c .next-piece .kept .1 .1 .1 .0)
 
-large-buffer-requires : tie.Need-large-buffer-requires Inv-loop μ-loop
-large-buffer-requires c κs = search needs
-
 loop-holds : tie.Need-loop-holds Inv-loop μ-loop
 loop-holds c = sym (c .large-buffer .ensures)
 
 slice-aggregate-next-piece : tie.Need-slice-aggregate-next-piece Inv-loop μ-loop
 slice-aggregate-next-piece c = sym (c .before .loop .inv)
 
-next-piece-requires : tie.Need-next-piece-requires Inv-loop μ-loop
-next-piece-requires c κs = search needs
-
-returns : tie.Need-returns Inv-loop μ-loop
-returns c = search needs
-
 array-share-prefix-out : tie.Need-array-share-prefix-out Inv-loop μ-loop
 array-share-prefix-out c = inside (c .before .before)
 
 slice-aggregate-print : tie.Need-slice-aggregate-print Inv-loop μ-loop
 slice-aggregate-print c = sym (length-take-le _ _ (inside (c .before .before .before)))
-
-print-requires : tie.Need-print-requires Inv-loop μ-loop
-print-requires c κs = search needs
-
-returns-2 : tie.Need-returns-2 Inv-loop μ-loop
-returns-2 c = search needs
 
 loop-less : tie.Need-loop-less Inv-loop μ-loop
 loop-less c =
@@ -61,17 +46,13 @@ loop-again c =
 pub print-book-spec : {M : Type 1} → statement M
 print-book-spec =
     tie.close
-    (tie.spec
-    Inv-loop
-    μ-loop
-    large-buffer-requires
+    (tie.spec Inv-loop μ-loop
+    (λ c κs. search needs)
     loop-holds
     slice-aggregate-next-piece
-    next-piece-requires
-    returns
+    (λ c κs. search needs) (λ c. search needs)
     array-share-prefix-out
     slice-aggregate-print
-    print-requires
-    returns-2
+    (λ c κs. search needs) (λ c. search needs)
     loop-less
     loop-again)

@@ -9,9 +9,6 @@ use borrow.Author.Needs.{needs}
 use Rattle.refusals.proofs.checks.has_odd_negatives.Statement.{statement}
 use Rattle.refusals.proofs.checks.has_odd_negatives.Tie as tie
 
-odd-negatives-requires : tie.Need-odd-negatives-requires
-odd-negatives-requires c κs = search needs
-
 returns : tie.Need-returns
 unfolding oddNegatives
 returns c = ⊎-elim (λ e. rw e) (λ e. rw e) (kindOf-one-or-two _ (c .before .if1 .left) (c .if2 .taken))
@@ -23,4 +20,4 @@ returns-2 c =
     rw d (c .odd-negatives .ensures ∙ flag-is-odd _)
 
 pub has-odd-negatives-spec : {M : Type 1} → statement M
-has-odd-negatives-spec = tie.close (tie.spec odd-negatives-requires returns returns-2)
+has-odd-negatives-spec = tie.close (tie.spec (λ c κs. search needs) returns returns-2)

@@ -22,20 +22,8 @@ Inv-loop kind m w marks₀ i₀ marks i = Passed (kindOf kind) m w marks i
 abbrev μ-loop : tie.MeasureT-loop
 μ-loop kind m w marks₀ i₀ marks i = i
 
-unmarked-requires : tie.Need-unmarked-requires Inv-loop μ-loop
-unmarked-requires c κs = search needs
-
 loop-holds : tie.Need-loop-holds Inv-loop μ-loop
 loop-holds c = passed-none _ _ _ _ (c .unmarked .ensures)
-
-sub-i : tie.Need-sub-i Inv-loop μ-loop
-sub-i c = search needs
-
-shared-slice-copy-out-e : tie.Need-shared-slice-copy-out-e Inv-loop μ-loop
-shared-slice-copy-out-e c = search needs
-
-negative-in-a-requires : tie.Need-negative-in-a-requires Inv-loop μ-loop
-negative-in-a-requires c κs = search needs
 
 -- the sign that is tested is that of the entry before the place reached
 sign-of : (c : tie.After-negative-in-a Inv-loop μ-loop)
@@ -52,12 +40,6 @@ returns : tie.Need-returns Inv-loop μ-loop
 returns c =
     let turn = c .before .before .before in
     negative-wrong _ _ _ _ _ (turn .before .loop .inv) (turn .loop-test .taken) (sign-of (c .before) ∙ c .if1 .taken)
-
-size-requires : tie.Need-size-requires Inv-loop μ-loop
-size-requires c κs = search needs
-
-cast-s : tie.Need-cast-s Inv-loop μ-loop
-cast-s c = search needs
 
 -- the size that is tested is that of the same entry
 size-of : (c : tie.After-size Inv-loop μ-loop)
@@ -84,12 +66,6 @@ returns-3 c =
     above-wrong _ _ _ _ _ (turn .before .loop .inv) (turn .loop-test .taken) (sign-of signed ∙ at .before .if1 .left) _ (size-of at) (c .before .if2 .left)
     (c .if3 .taken)
 
-sub-p : tie.Need-sub-p Inv-loop μ-loop
-sub-p c = search needs
-
-array-read-if4 : tie.Need-array-read-if4 Inv-loop μ-loop
-array-read-if4 c = search needs
-
 returns-4 : tie.Need-returns-4 Inv-loop μ-loop
 returns-4 c =
     let at = c .before .before .before in
@@ -97,12 +73,6 @@ returns-4 c =
     let turn = signed .before .before in
     repeated-wrong _ _ _ _ _ (turn .before .loop .inv) (turn .loop-test .taken) (sign-of signed ∙ at .before .if1 .left) _ (size-of at)
     (c .before .before .if2 .left) (c .before .if3 .left) (turn .before .before .before .pre) (c .if4 .taken)
-
-array-write-marks : tie.Need-array-write-marks Inv-loop μ-loop
-array-write-marks c = search needs
-
-loop-less : tie.Need-loop-less Inv-loop μ-loop
-loop-less c = search needs
 
 loop-again : tie.Need-loop-again Inv-loop μ-loop
 loop-again c =
@@ -120,23 +90,16 @@ returns-5 c =
 pub has-wrong-entry-spec : {M : Type 1} → statement M
 has-wrong-entry-spec =
     tie.close
-    (tie.spec
-    Inv-loop
-    μ-loop
-    unmarked-requires
+    (tie.spec Inv-loop μ-loop
+    (λ c κs. search needs)
     loop-holds
-    sub-i
-    shared-slice-copy-out-e
-    negative-in-a-requires
+    (λ c. search needs) (λ c. search needs) (λ c κs. search needs)
     returns
-    size-requires
-    cast-s
+    (λ c κs. search needs) (λ c. search needs)
     returns-2
     returns-3
-    sub-p
-    array-read-if4
+    (λ c. search needs) (λ c. search needs)
     returns-4
-    array-write-marks
-    loop-less
+    (λ c. search needs) (λ c. search needs)
     loop-again
     returns-5)

@@ -11,9 +11,6 @@ use borrow.Author.Needs.{needs}
 use Rattle.refusals.proofs.checks.negative_in_a.Statement.{statement}
 use Rattle.refusals.proofs.checks.negative_in_a.Tie as tie
 
-is-negative-requires : tie.Need-is-negative-requires
-is-negative-requires c κs = search needs
-
 returns : tie.Need-returns
 unfolding negativeInA
 returns c =
@@ -25,4 +22,4 @@ unfolding negativeInA
 returns-2 c = by-kind-else (λ (k : Kind). false ≡ negativeInA k (c .before .args .e)) _ (c .if1 .left) refl refl
 
 pub negative-in-a-spec : {M : Type 1} → statement M
-negative-in-a-spec = tie.close (tie.spec is-negative-requires returns returns-2)
+negative-in-a-spec = tie.close (tie.spec (λ c κs. search needs) returns returns-2)

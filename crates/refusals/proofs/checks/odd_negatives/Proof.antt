@@ -24,18 +24,6 @@ loop-holds : tie.Need-loop-holds Inv-loop μ-loop
 unfolding flipped
 loop-holds c = (omega arith, refl)
 
-shared-slice-copy-out-is-negative : tie.Need-shared-slice-copy-out-is-negative Inv-loop μ-loop
-shared-slice-copy-out-is-negative c = search needs
-
-is-negative-requires : tie.Need-is-negative-requires Inv-loop μ-loop
-is-negative-requires c κs = search needs
-
-add-i : tie.Need-add-i Inv-loop μ-loop
-add-i c = search needs
-
-loop-less : tie.Need-loop-less Inv-loop μ-loop
-loop-less c = search needs
-
 -- by the four cases of the flag and of the entry's sign, whatever the code makes of the two
 loop-again : tie.Need-loop-again Inv-loop μ-loop
 loop-again c =
@@ -54,13 +42,8 @@ returns c = c .before .loop .inv .1 ∙ ap flagAfter (take-all _ _ (c .loop-test
 pub odd-negatives-spec : {M : Type 1} → statement M
 odd-negatives-spec =
     tie.close
-    (tie.spec
-    Inv-loop
-    μ-loop
+    (tie.spec Inv-loop μ-loop
     loop-holds
-    shared-slice-copy-out-is-negative
-    is-negative-requires
-    add-i
-    loop-less
+    (λ c. search needs) (λ c κs. search needs) (λ c. search needs) (λ c. search needs)
     loop-again
     returns)

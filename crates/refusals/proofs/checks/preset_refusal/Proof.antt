@@ -5,18 +5,11 @@ use Rattle.refusals.proofs.checks.preset_refusal.Statement.{statement}
 use Rattle.coxeter.proofs.Refusals.{then-refused, then-next}
 use Rattle.refusals.proofs.checks.preset_refusal.Tie as tie
 
-rank-refusal-requires : tie.Need-rank-refusal-requires
-rank-refusal-requires c κs = search needs
-
 returns : tie.Need-returns
 returns c = then-refused _ _ _ (c .before .rank-refusal .ensures) (c .if1 .taken)
-
-word-refusal-requires : tie.Need-word-refusal-requires
-word-refusal-requires c κs = search needs
 
 returns-2 : tie.Need-returns-2
 returns-2 c = then-next _ _ _ _ (c .before .before .rank-refusal .ensures) (c .before .if1 .left) (c .word-refusal .ensures)
 
 pub preset-refusal-spec : {M : Type 1} → statement M
-preset-refusal-spec =
-    tie.close (tie.spec rank-refusal-requires returns word-refusal-requires returns-2)
+preset-refusal-spec = tie.close (tie.spec (λ c κs. search needs) returns (λ c κs. search needs) returns-2)

@@ -6,14 +6,8 @@ use Rattle.refusals.proofs.checks.Tests.{pair-refused, pair-next}
 use Rattle.refusals.proofs.checks.presets_refusal.Statement.{statement}
 use Rattle.refusals.proofs.checks.presets_refusal.Tie as tie
 
-preset-refusal-requires : tie.Need-preset-refusal-requires
-preset-refusal-requires c κs = search needs
-
 returns : tie.Need-returns
 returns c = pair-refused (rankRefusal _ _) (wordRefusal _ _) _ _ (c .before .preset-refusal .ensures) (c .if1 .taken)
-
-preset-refusal-requires-2 : tie.Need-preset-refusal-requires-2
-preset-refusal-requires-2 c κs = search needs
 
 returns-2 : tie.Need-returns-2
 returns-2 c =
@@ -21,4 +15,4 @@ returns-2 c =
     pair-next (rankRefusal _ _) (wordRefusal _ _) _ _ _ (passed .before .preset-refusal .ensures) (passed .if1 .left) (c .preset-refusal2 .ensures)
 
 pub presets-refusal-spec : {M : Type 1} → statement M
-presets-refusal-spec = tie.close (tie.spec preset-refusal-requires returns preset-refusal-requires-2 returns-2)
+presets-refusal-spec = tie.close (tie.spec (λ c κs. search needs) returns (λ c κs. search needs) returns-2)

@@ -26,15 +26,9 @@ returns-2 : tie.Need-returns-2
 unfolding rankRefusal wrongRank
 returns-2 c = rw (wrongKind-above _ (c .if2 .taken))
 
-least-requires : tie.Need-least-requires
-least-requires c κs = search needs
-
 returns-3 : tie.Need-returns-3
 unfolding rankRefusal wrongRank
 returns-3 c = rw (known (c .before .before), lt-ltb _ _ (rw (c .before .least .ensures) at (c .if3 .taken)))
-
-greatest-requires : tie.Need-greatest-requires
-greatest-requires c κs = search needs
 
 returns-4 : tie.Need-returns-4
 unfolding rankRefusal wrongRank
@@ -51,4 +45,11 @@ returns-5 c =
 pub rank-refusal-spec : {M : Type 1} → statement M
 rank-refusal-spec =
     tie.close
-    (tie.spec returns returns-2 least-requires returns-3 greatest-requires returns-4 returns-5)
+    (tie.spec
+    returns
+    returns-2
+    (λ c κs. search needs)
+    returns-3
+    (λ c κs. search needs)
+    returns-4
+    returns-5)

@@ -5,18 +5,11 @@ use Rattle.refusals.proofs.checks.ranked_window_refusal.Statement.{stat
 use Rattle.coxeter.proofs.Refusals.{then-refused, then-next}
 use Rattle.refusals.proofs.checks.ranked_window_refusal.Tie as tie
 
-rank-refusal-requires : tie.Need-rank-refusal-requires
-rank-refusal-requires c κs = search needs
-
 returns : tie.Need-returns
 returns c = then-refused _ _ _ (c .before .rank-refusal .ensures) (c .if1 .taken)
-
-window-refusal-requires : tie.Need-window-refusal-requires
-window-refusal-requires c κs = search needs
 
 returns-2 : tie.Need-returns-2
 returns-2 c = then-next _ _ _ _ (c .before .before .rank-refusal .ensures) (c .before .if1 .left) (c .window-refusal .ensures)
 
 pub ranked-window-refusal-spec : {M : Type 1} → statement M
-ranked-window-refusal-spec =
-    tie.close (tie.spec rank-refusal-requires returns window-refusal-requires returns-2)
+ranked-window-refusal-spec = tie.close (tie.spec (λ c κs. search needs) returns (λ c κs. search needs) returns-2)

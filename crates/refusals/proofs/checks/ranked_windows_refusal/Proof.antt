@@ -6,9 +6,6 @@ use Rattle.coxeter.proofs.Refusals.{then-refused, then-next}
 use Rattle.refusals.proofs.checks.ranked_windows_refusal.Statement.{statement}
 use Rattle.refusals.proofs.checks.ranked_windows_refusal.Tie as tie
 
-rank-refusal-requires : tie.Need-rank-refusal-requires
-rank-refusal-requires c κs = search needs
-
 returns : tie.Need-returns
 returns c = then-refused _ _ _ (c .before .rank-refusal .ensures) (c .if1 .taken)
 
@@ -37,7 +34,7 @@ pub ranked-windows-refusal-spec : {M : Type 1} → statement M
 ranked-windows-refusal-spec =
     tie.close
     (tie.spec
-    rank-refusal-requires
+    (λ c κs. search needs)
     returns
     window-refusal-requires
     returns-2

@@ -6,9 +6,6 @@ use borrow.Author.Needs.{needs}
 use Rattle.refusals.proofs.checks.window_refusal.Statement.{statement}
 use Rattle.refusals.proofs.checks.window_refusal.Tie as tie
 
-lanes-requires : tie.Need-lanes-requires
-lanes-requires c κs = search needs
-
 returns : tie.Need-returns
 returns c = windowRefusal-lanes _ _ _ _ (c .before .lanes .ensures) (c .if1 .taken)
 
@@ -19,9 +16,6 @@ returns-2 : tie.Need-returns-2
 returns-2 c =
     let sized = c .before .before in
     windowRefusal-entry _ _ _ _ _ (sized .before .lanes .ensures) (sized .if1 .left) (c .before .has-wrong-entry .ensures) (c .if2 .taken)
-
-has-odd-negatives-requires : tie.Need-has-odd-negatives-requires
-has-odd-negatives-requires c κs = search needs
 
 returns-3 : tie.Need-returns-3
 returns-3 c =
@@ -41,10 +35,10 @@ pub window-refusal-spec : {M : Type 1} → statement M
 window-refusal-spec =
     tie.close
     (tie.spec
-    lanes-requires
+    (λ c κs. search needs)
     returns
     has-wrong-entry-requires
     returns-2
-    has-odd-negatives-requires
+    (λ c κs. search needs)
     returns-3
     returns-4)

@@ -11,9 +11,6 @@ returns : tie.Need-returns
 unfolding wordRefusal tooLong
 returns c = rw (lt-ltb _ _ (c .if1 .taken))
 
-has-wrong-letter-requires : tie.Need-has-wrong-letter-requires
-has-wrong-letter-requires c κs = search needs
-
 returns-2 : tie.Need-returns-2
 unfolding wordRefusal tooLong
 returns-2 c = rw (le-ltb _ _ (c .before .before .if1 .left), sym (c .before .has-wrong-letter .ensures) ∙ c .if2 .taken)
@@ -23,4 +20,4 @@ unfolding wordRefusal tooLong
 returns-3 c = rw (le-ltb _ _ (c .before .before .if1 .left), sym (c .before .has-wrong-letter .ensures) ∙ c .if2 .left)
 
 pub word-refusal-spec : {M : Type 1} → statement M
-word-refusal-spec = tie.close (tie.spec returns has-wrong-letter-requires returns-2 returns-3)
+word-refusal-spec = tie.close (tie.spec returns (λ c κs. search needs) returns-2 returns-3)

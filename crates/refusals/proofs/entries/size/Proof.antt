@@ -27,8 +27,5 @@ cast-result-2 c = size-of-positive _ (c .before .fits .e) (c .if1 .left)
 returns : tie.Need-returns
 returns c = below c .size
 
-returns-2 : tie.Need-returns-2
-returns-2 c = search needs
-
 pub size-spec : {M : Type 1} → statement M
-size-spec = tie.close (tie.spec sub-below cast-result add-result cast-result-2 returns returns-2)
+size-spec = tie.close (tie.spec sub-below cast-result add-result cast-result-2 returns (λ c. search needs))

@@ -18,9 +18,6 @@ abbrev μ-loop : tie.MeasureT-loop
 loop-holds : tie.Need-loop-holds Inv-loop μ-loop
 loop-holds c = (omega arith, omega arith, refl, put-none _ _ (c .pre .1))
 
-sub-word : tie.Need-sub-word Inv-loop μ-loop
-sub-word c = search needs
-
 slice-read-word : tie.Need-slice-read-word Inv-loop μ-loop
 slice-read-word c =
     let i = c .before .before .loop .inv in
@@ -30,12 +27,6 @@ slice-write-word : tie.Need-slice-write-word Inv-loop μ-loop
 slice-write-word c =
     let i = c .before .before .loop .inv in
     omega (arith, i .2)
-
-sub-t : tie.Need-sub-t Inv-loop μ-loop
-sub-t c = search needs
-
-loop-less : tie.Need-loop-less Inv-loop μ-loop
-loop-less c = search needs
 
 loop-again : tie.Need-loop-again Inv-loop μ-loop
 loop-again c =
@@ -60,15 +51,12 @@ returns c =
 pub carry-spec : {M : Type 1} → statement M
 carry-spec =
     tie.close
-    (tie.spec
-    Inv-loop
-    μ-loop
+    (tie.spec Inv-loop μ-loop
     loop-holds
-    sub-word
+    (λ c. search needs)
     slice-read-word
     slice-write-word
-    sub-t
-    loop-less
+    (λ c. search needs) (λ c. search needs)
     loop-again
     slice-write-word-2
     same-length

@@ -14,23 +14,8 @@ Inv-loop word₀ place t₀ word t = Deleted word₀ place word t
 abbrev μ-loop : tie.MeasureT-loop
 μ-loop word₀ place t₀ word t = length word - t
 
-add-t : tie.Need-add-t Inv-loop μ-loop
-add-t c = search needs
-
 loop-holds : tie.Need-loop-holds Inv-loop μ-loop
 loop-holds c = deleted-start _ _ (c .pre)
-
-slice-read-word : tie.Need-slice-read-word Inv-loop μ-loop
-slice-read-word c = search needs
-
-sub-word : tie.Need-sub-word Inv-loop μ-loop
-sub-word c = search needs
-
-slice-write-word : tie.Need-slice-write-word Inv-loop μ-loop
-slice-write-word c = search needs
-
-add-t-2 : tie.Need-add-t-2 Inv-loop μ-loop
-add-t-2 c = search needs
 
 loop-less : tie.Need-loop-less Inv-loop μ-loop
 loop-less c =
@@ -51,15 +36,10 @@ returns c = deleted-end _ _ _ _ (c .before .loop .inv) (c .loop-test .left)
 pub delete-spec : {M : Type 1} → statement M
 delete-spec =
     tie.close
-    (tie.spec
-    Inv-loop
-    μ-loop
-    add-t
+    (tie.spec Inv-loop μ-loop
+    (λ c. search needs)
     loop-holds
-    slice-read-word
-    sub-word
-    slice-write-word
-    add-t-2
+    (λ c. search needs) (λ c. search needs) (λ c. search needs) (λ c. search needs)
     loop-less
     loop-again
     same-length

@@ -20,9 +20,6 @@ abbrev μ-loop : tie.MeasureT-loop
 returns : tie.Need-returns Inv-loop μ-loop
 returns c = rw (c .if1 .taken) (stores-start _ _ _, stores-start _ _ _, stores-start _ _ _)
 
-room-for-requires : tie.Need-room-for-requires Inv-loop μ-loop
-room-for-requires c κs = search needs
-
 loop-holds : tie.Need-loop-holds Inv-loop μ-loop
 loop-holds c = (omega arith, stores-start _ _ _, stores-start _ _ _, stores-start _ _ _)
 
@@ -32,41 +29,20 @@ add-families c = omega arith
 slice-write-families : tie.Need-slice-write-families Inv-loop μ-loop
 slice-write-families c = omega (arith, stores-size _ _ _ _ _ (c .before .loop .inv .1))
 
-sub-places : tie.Need-sub-places Inv-loop μ-loop
-sub-places c = search needs
-
-sub-places-2 : tie.Need-sub-places-2 Inv-loop μ-loop
-sub-places-2 c = search needs
-
-cast-places : tie.Need-cast-places Inv-loop μ-loop
-cast-places c = search needs
-
 add-places : tie.Need-add-places Inv-loop μ-loop
 add-places c = omega arith
-
-mul-places : tie.Need-mul-places Inv-loop μ-loop
-mul-places c = search needs
 
 slice-write-places : tie.Need-slice-write-places Inv-loop μ-loop
 slice-write-places c = omega (arith, stores-size _ _ _ _ _ (c .before .loop .inv .2))
 
-cast-lengths : tie.Need-cast-lengths Inv-loop μ-loop
-cast-lengths c = search needs
-
 add-lengths : tie.Need-add-lengths Inv-loop μ-loop
 add-lengths c = omega arith
-
-mul-lengths : tie.Need-mul-lengths Inv-loop μ-loop
-mul-lengths c = search needs
 
 slice-write-lengths : tie.Need-slice-write-lengths Inv-loop μ-loop
 slice-write-lengths c = omega (arith, stores-size _ _ _ _ _ (c .before .loop .inv .3))
 
 add-i : tie.Need-add-i Inv-loop μ-loop
 add-i c = omega arith
-
-loop-less : tie.Need-loop-less Inv-loop μ-loop
-loop-less c = search needs
 
 loop-again : tie.Need-loop-again Inv-loop μ-loop
 loop-again c =
@@ -99,26 +75,22 @@ returns-2 c =
 pub note-passed-spec : {M : Type 1} → statement M
 note-passed-spec =
     tie.close
-    (tie.spec
-    Inv-loop
-    μ-loop
+    (tie.spec Inv-loop μ-loop
     returns
-    room-for-requires
+    (λ c κs. search needs)
     loop-holds
     add-families
     slice-write-families
-    sub-places
-    sub-places-2
-    cast-places
+    (λ c. search needs) (λ c. search needs) (λ c. search needs)
     add-places
-    mul-places
+    (λ c. search needs)
     slice-write-places
-    cast-lengths
+    (λ c. search needs)
     add-lengths
-    mul-lengths
+    (λ c. search needs)
     slice-write-lengths
     add-i
-    loop-less
+    (λ c. search needs)
     loop-again
     same-length
     same-length-2

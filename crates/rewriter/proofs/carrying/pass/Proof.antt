@@ -7,37 +7,16 @@ use borrow.Author.Needs.{needs}
 use Rattle.rewriter.proofs.carrying.pass.Statement.{statement}
 use Rattle.rewriter.proofs.carrying.pass.Tie as tie
 
-levels-of-requires : tie.Need-levels-of-requires
-levels-of-requires c κs = search needs
-
-add-left : tie.Need-add-left
-add-left c = search needs
-
 shift-requires : tie.Need-shift-requires
 shift-requires c κs =
     let s = c .before .before .before .before .before .before .before in
     (s .pre .high, ready-word (s .pre), ready-inside (s .pre))
-
-sub-note-passed : tie.Need-sub-note-passed
-sub-note-passed c = search needs
 
 note-passed-requires : tie.Need-note-passed-requires
 note-passed-requires c κs =
     let s = c .before .before .before .before .before .before .before .before .before .before .before .before .before in
     let short = s .pre .short in
     ((s .pre .as-places, s .pre .as-lengths), (omega arith, omega (arith, ready-inside (s .pre)), omega arith))
-
-same-length : tie.Need-same-length
-same-length c = search needs
-
-same-length-2 : tie.Need-same-length-2
-same-length-2 c = search needs
-
-same-length-3 : tie.Need-same-length-3
-same-length-3 c = search needs
-
-same-length-4 : tie.Need-same-length-4
-same-length-4 c = search needs
 
 returns : tie.Need-returns
 returns c =
@@ -52,13 +31,9 @@ pub pass-spec : {M : Type 1} → statement M
 pass-spec =
     tie.close
     (tie.spec
-    levels-of-requires
-    add-left
+    (λ c κs. search needs) (λ c. search needs)
     shift-requires
-    sub-note-passed
+    (λ c. search needs)
     note-passed-requires
-    same-length
-    same-length-2
-    same-length-3
-    same-length-4
+    (λ c. search needs) (λ c. search needs) (λ c. search needs) (λ c. search needs)
     returns)

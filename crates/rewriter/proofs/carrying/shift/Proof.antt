@@ -28,9 +28,6 @@ loop-holds c =
     let s = c .before .before in
     (omega arith, refl, put-none _ _ (s .pre .2), λ j a b. absurd (omega arith))
 
-sub-l : tie.Need-sub-l Inv-loop μ-loop
-sub-l c = search needs
-
 slice-read-l : tie.Need-slice-read-l Inv-loop μ-loop
 slice-read-l c =
     let l = c .before .before in
@@ -50,12 +47,6 @@ slice-write-word : tie.Need-slice-write-word Inv-loop μ-loop
 slice-write-word c =
     let l = c .before .before .before .before in
     omega (arith, l .loop .inv .1, l .before .before .before .pre .2)
-
-sub-t : tie.Need-sub-t Inv-loop μ-loop
-sub-t c = search needs
-
-loop-less : tie.Need-loop-less Inv-loop μ-loop
-loop-less c = search needs
 
 loop-again : tie.Need-loop-again Inv-loop μ-loop
 loop-again c =
@@ -107,17 +98,14 @@ returns-2 c =
 pub shift-spec : {M : Type 1} → statement M
 shift-spec =
     tie.close
-    (tie.spec
-    Inv-loop
-    μ-loop
+    (tie.spec Inv-loop μ-loop
     slice-read-x
     loop-holds
-    sub-l
+    (λ c. search needs)
     slice-read-l
     commutes-requires
     slice-write-word
-    sub-t
-    loop-less
+    (λ c. search needs) (λ c. search needs)
     loop-again
     slice-write-word-2
     same-length

@@ -28,14 +28,8 @@ ending-rule-requires c κs =
     let a = s .pre .0 in
     ((a .rank, a .high), ((a .reading, omega (arith, ready-inside a, a .short)), s .pre .1))
 
-enum-known-family : tie.Need-enum-known-family
-enum-known-family c = search needs
-
 enum-told : tie.Need-enum-told
 enum-told c = search needs
-
-same-length : tie.Need-same-length
-same-length c = search needs
 
 returns : tie.Need-returns
 returns c =
@@ -47,9 +41,6 @@ sub-left c =
     let f = c .before .before in
     let r = searched f in
     omega (arith, turn-pair (start r .pre .0) _ _ _ _ (r .ending-rule .ensures) (f .family .given .1) (c .if1 .taken))
-
-add-note : tie.Need-add-note
-add-note c = search needs
 
 note-requires : tie.Need-note-requires
 note-requires c κs =
@@ -66,21 +57,6 @@ delete-requires c κs =
     let r = searched f in
     turn-pair (start r .pre .0) _ _ _ _ (r .ending-rule .ensures) (f .family .given .1) (i .if1 .taken)
 
-add-t27 : tie.Need-add-t27
-add-t27 c = search needs
-
-same-length-2 : tie.Need-same-length-2
-same-length-2 c = search needs
-
-same-length-3 : tie.Need-same-length-3
-same-length-3 c = search needs
-
-same-length-4 : tie.Need-same-length-4
-same-length-4 c = search needs
-
-same-length-5 : tie.Need-same-length-5
-same-length-5 c = search needs
-
 returns-2 : tie.Need-returns-2
 returns-2 c =
     let t = c .before .before in
@@ -91,9 +67,6 @@ returns-2 c =
     let d = turn-deleted (start r .pre .0) _ _ _ _ (r .ending-rule .ensures) (f .family .given .1) _ _ _ _ (i .if1 .taken)
     (n .note .ensures .0) (n .note .ensures .1) (n .note .ensures .2) (t .delete .ensures) in
     (omega arith, moved-ended d)
-
-add-note-2 : tie.Need-add-note-2
-add-note-2 c = search needs
 
 note-requires-2 : tie.Need-note-requires-2
 note-requires-2 c κs =
@@ -109,21 +82,6 @@ carry-requires c κs =
     let f = i .before .before in
     let r = searched f in
     (omega (arith, turn-place (start r .pre .0) _ _ _ _ (r .ending-rule .ensures) (f .family .given .1)), ready-inside (start r .pre .0))
-
-add-t38 : tie.Need-add-t38
-add-t38 c = search needs
-
-same-length-6 : tie.Need-same-length-6
-same-length-6 c = search needs
-
-same-length-7 : tie.Need-same-length-7
-same-length-7 c = search needs
-
-same-length-8 : tie.Need-same-length-8
-same-length-8 c = search needs
-
-same-length-9 : tie.Need-same-length-9
-same-length-9 c = search needs
 
 returns-3 : tie.Need-returns-3
 returns-3 c =
@@ -142,26 +100,18 @@ turn-spec =
     tie.close
     (tie.spec
     ending-rule-requires
-    enum-known-family
+    (λ c. search needs)
     enum-told
-    same-length
+    (λ c. search needs)
     returns
     sub-left
-    add-note
+    (λ c. search needs)
     note-requires
     delete-requires
-    add-t27
-    same-length-2
-    same-length-3
-    same-length-4
-    same-length-5
+    (λ c. search needs) (λ c. search needs) (λ c. search needs) (λ c. search needs) (λ c. search needs)
     returns-2
-    add-note-2
+    (λ c. search needs)
     note-requires-2
     carry-requires
-    add-t38
-    same-length-6
-    same-length-7
-    same-length-8
-    same-length-9
+    (λ c. search needs) (λ c. search needs) (λ c. search needs) (λ c. search needs) (λ c. search needs)
     returns-3)

@@ -8,12 +8,6 @@ use borrow.Author.Needs.{needs}
 use Rattle.rewriter.proofs.ending.block_rule.Statement.{statement}
 use Rattle.rewriter.proofs.ending.block_rule.Tie as tie
 
-levels-of-requires : tie.Need-levels-of-requires
-levels-of-requires c κs = search needs
-
-last-index-of-requires : tie.Need-last-index-of-requires
-last-index-of-requires c κs = search needs
-
 next-index-requires : tie.Need-next-index-requires
 next-index-requires c κs =
     let s = c .before .before in
@@ -28,12 +22,6 @@ returns c =
     block-goes-on (kindOf (s .args .kind)) (s .args .n) (s .args .place) (s .args .i) (s .args .j) (s .args .x) _ _ _
     (k .levels-of .ensures) (m .last-index-of .ensures) (g .next-index .ensures) (c .if1 .taken)
 
-fork-of-requires : tie.Need-fork-of-requires
-fork-of-requires c κs = search needs
-
-family-at-requires : tie.Need-family-at-requires
-family-at-requires c κs = search needs
-
 returns-2 : tie.Need-returns-2
 returns-2 c =
     let f = c .before in
@@ -46,9 +34,6 @@ returns-2 c =
     block-no-rule (kindOf (s .args .kind)) (s .args .n) (s .args .place) (s .args .i) (s .args .j) (s .args .x) _ _ _
     (k .levels-of .ensures) (m .last-index-of .ensures) (g .next-index .ensures)
     _ _ (a .if1 .left) (d .fork-of .ensures) (f .family-at .ensures) (c .if2 .taken)
-
-shown-index-requires : tie.Need-shown-index-requires
-shown-index-requires c κs = search needs
 
 first-letter-requires : tie.Need-first-letter-requires
 first-letter-requires c κs =
@@ -74,13 +59,11 @@ pub block-rule-spec : {M : Type 1} → statement M
 block-rule-spec =
     tie.close
     (tie.spec
-    levels-of-requires
-    last-index-of-requires
+    (λ c κs. search needs) (λ c κs. search needs)
     next-index-requires
     returns
-    fork-of-requires
-    family-at-requires
+    (λ c κs. search needs) (λ c κs. search needs)
     returns-2
-    shown-index-requires
+    (λ c κs. search needs)
     first-letter-requires
     returns-3)

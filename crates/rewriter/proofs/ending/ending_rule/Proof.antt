@@ -15,9 +15,6 @@ returns c =
     let s = c .before .before in
     ending-front _ _ (s .pre .0 .0) _ _ (s .pre .1 .0 .0) (c .if1 .taken)
 
-sub-l : tie.Need-sub-l
-sub-l c = search needs
-
 shared-slice-read-l : tie.Need-shared-slice-read-l
 shared-slice-read-l c =
     let s = c .before .before .before in
@@ -27,9 +24,6 @@ shared-slice-read-x : tie.Need-shared-slice-read-x
 shared-slice-read-x c =
     let s = c .before .before .before .before in
     reading-inside _ _ (s .pre .0 .0) _ _ (s .pre .1 .0 .0)
-
-sub-t15 : tie.Need-sub-t15
-sub-t15 c = search needs
 
 returns-2 : tie.Need-returns-2
 returns-2 c =
@@ -42,9 +36,6 @@ place-of-requires c κs =
     let o = c .before .before .before in
     let s = o .before .before in
     (s .pre .0, (s .pre .1 .0 .0, one (o .if1 .left), reading-inside _ _ (s .pre .0 .0) _ _ (s .pre .1 .0 .0), s .pre .1 .0 .1))
-
-lower-of-requires : tie.Need-lower-of-requires
-lower-of-requires c κs = search needs
 
 shared-slice-read-if3 : tie.Need-shared-slice-read-if3
 shared-slice-read-if3 c =
@@ -61,9 +52,6 @@ returns-3 c =
     let s = o .before .before in
     ending-other _ _ (s .pre .0 .0) _ _ (s .pre .1 .0 .0) (one (o .if1 .left)) _ (q .place-of .ensures) (d .if2 .left)
     (s .pre .1 .1 (one (o .if1 .left))) (λ e. c .if3 .taken (e ∙ sym (m .lower-of .ensures)))
-
-sub-index-of : tie.Need-sub-index-of
-sub-index-of c = search needs
 
 cast-index-of : tie.Need-cast-index-of
 cast-index-of c =
@@ -116,16 +104,16 @@ ending-rule-spec =
     tie.close
     (tie.spec
     returns
-    sub-l
+    (λ c. search needs)
     shared-slice-read-l
     shared-slice-read-x
-    sub-t15
+    (λ c. search needs)
     returns-2
     place-of-requires
-    lower-of-requires
+    (λ c κs. search needs)
     shared-slice-read-if3
     returns-3
-    sub-index-of
+    (λ c. search needs)
     cast-index-of
     index-of-requires
     block-rule-requires

@@ -12,20 +12,11 @@ returns : tie.Need-returns
 unfolding indexBy
 returns c = rw (eq-eqb _ _ (c .if1 .taken))
 
-add-j : tie.Need-add-j
-add-j c = search needs
-
-sub-j : tie.Need-sub-j
-sub-j c = search needs
-
 returns-2 : tie.Need-returns-2
 unfolding indexBy
 returns-2 c =
     let a = c .before in
     rw (ne-eqb _ _ (a .if1 .left), lt-ltb _ _ (c .if2 .taken))
-
-add-result : tie.Need-add-result
-add-result c = search needs
 
 returns-3 : tie.Need-returns-3
 unfolding indexBy
@@ -45,4 +36,11 @@ returns-4 c =
 
 pub index-of-spec : {M : Type 1} → statement M
 index-of-spec =
-    tie.close (tie.spec returns add-j sub-j returns-2 add-result returns-3 returns-4)
+    tie.close
+    (tie.spec
+    returns
+    (λ c. search needs) (λ c. search needs)
+    returns-2
+    (λ c. search needs)
+    returns-3
+    returns-4)

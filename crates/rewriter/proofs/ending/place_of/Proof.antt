@@ -9,43 +9,13 @@ use borrow.Author.Needs.{needs}
 use Rattle.rewriter.proofs.ending.place_of.Statement.{statement}
 use Rattle.rewriter.proofs.ending.place_of.Tie as tie
 
-sub-l : tie.Need-sub-l
-sub-l c = search needs
-
-shared-slice-read-l : tie.Need-shared-slice-read-l
-shared-slice-read-l c = search needs
-
-shared-slice-read-x : tie.Need-shared-slice-read-x
-shared-slice-read-x c = search needs
-
-floor-of-requires : tie.Need-floor-of-requires
-floor-of-requires c κs = search needs
-
-sub-start-of : tie.Need-sub-start-of
-sub-start-of c = search needs
-
-start-of-requires : tie.Need-start-of-requires
-start-of-requires c κs = search needs
-
 returns : tie.Need-returns
 returns c = begun-rising _ _ _ _ _ _ _ (c .before .before .floor-of .ensures) refl refl (c .before .if1 .taken) (c .start-of .ensures)
-
-levels-of-requires : tie.Need-levels-of-requires
-levels-of-requires c κs = search needs
 
 cast-back : tie.Need-cast-back
 cast-back c =
     let s = c .before .before .before .before .before .before in
     omega (arith, within _ _ (s .pre .0 .0) _ _ (s .pre .1 .0) (s .pre .1 .1) (s .args .q - 1) (omega arith))
-
-sub-p : tie.Need-sub-p
-sub-p c = search needs
-
-sub-p-2 : tie.Need-sub-p-2
-sub-p-2 c = search needs
-
-shared-slice-read-if4 : tie.Need-shared-slice-read-if4
-shared-slice-read-if4 c = search needs
 
 returns-2 : tie.Need-returns-2
 returns-2 c =
@@ -56,9 +26,6 @@ returns-2 c =
     (stopped-rising _ _ (s .pre .0 .0) _ _ (s .pre .1 .0) (sym (e .levels-of .ensures) ∙ t .if2 .taken) _ _ (e .before .if1 .left) (omega arith)
     (c .if4 .taken))
 
-start-of-requires-2 : tie.Need-start-of-requires-2
-start-of-requires-2 c κs = search needs
-
 returns-3 : tie.Need-returns-3
 returns-3 c =
     let e = c .before .before in
@@ -68,18 +35,12 @@ pub place-of-spec : {M : Type 1} → statement M
 place-of-spec =
     tie.close
     (tie.spec
-    sub-l
-    shared-slice-read-l
-    shared-slice-read-x
-    floor-of-requires
-    sub-start-of
-    start-of-requires
+    (λ c. search needs) (λ c. search needs) (λ c. search needs) (λ c κs. search needs) (λ c. search needs)
+    (λ c κs. search needs)
     returns
-    levels-of-requires
+    (λ c κs. search needs)
     cast-back
-    sub-p
-    sub-p-2
-    shared-slice-read-if4
+    (λ c. search needs) (λ c. search needs) (λ c. search needs)
     returns-2
-    start-of-requires-2
+    (λ c κs. search needs)
     returns-3)

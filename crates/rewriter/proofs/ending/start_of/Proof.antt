@@ -15,9 +15,6 @@ abbrev μ-loop : tie.MeasureT-loop
 loop-holds : tie.Need-loop-holds Inv-loop μ-loop
 loop-holds c = above-start
 
-sub-t : tie.Need-sub-t Inv-loop μ-loop
-sub-t c = search needs
-
 shared-slice-read-if1 : tie.Need-shared-slice-read-if1 Inv-loop μ-loop
 shared-slice-read-if1 c =
     let a = c .before .before .loop .inv in
@@ -27,9 +24,6 @@ returns : tie.Need-returns Inv-loop μ-loop
 returns c =
     let b = c .before .before in
     above-found _ _ _ _ _ (b .before .loop .inv) (b .loop-test .taken) (c .if1 .taken)
-
-loop-less : tie.Need-loop-less Inv-loop μ-loop
-loop-less c = search needs
 
 loop-again : tie.Need-loop-again Inv-loop μ-loop
 loop-again c =
@@ -42,13 +36,11 @@ returns-2 c = above-end _ _ _ _ _ (c .before .loop .inv) (c .loop-test .left)
 pub start-of-spec : {M : Type 1} → statement M
 start-of-spec =
     tie.close
-    (tie.spec
-    Inv-loop
-    μ-loop
+    (tie.spec Inv-loop μ-loop
     loop-holds
-    sub-t
+    (λ c. search needs)
     shared-slice-read-if1
     returns
-    loop-less
+    (λ c. search needs)
     loop-again
     returns-2)

@@ -19,15 +19,6 @@ returns-3 : tie.Need-returns-3
 unfolding familyAt
 returns-3 c = rw (eq-eqb _ _ (c .before .before .if1 .taken), ne-eqb _ _ (c .before .if2 .left), le-ltb _ _ (c .if3 .left))
 
-add-if4 : tie.Need-add-if4
-add-if4 c = search needs
-
-mul-if4 : tie.Need-mul-if4
-mul-if4 c = search needs
-
-family-at-end-requires : tie.Need-family-at-end-requires
-family-at-end-requires c κs = search needs
-
 returns-4 : tie.Need-returns-4
 unfolding familyAt
 returns-4 c = rw (ne-eqb _ _ (c .before .before .if1 .left), eq-eqb _ _ (c .before .if4 .taken)) (c .family-at-end .ensures)
@@ -59,9 +50,7 @@ family-at-spec =
     returns
     returns-2
     returns-3
-    add-if4
-    mul-if4
-    family-at-end-requires
+    (λ c. search needs) (λ c. search needs) (λ c κs. search needs)
     returns-4
     returns-5
     returns-6

@@ -10,9 +10,6 @@ returns : tie.Need-returns
 unfolding familyAtEnd
 returns c = rw (eq-eqb _ _ (c .before .if1 .taken), eq-eqb _ _ (c .if2 .taken))
 
-add-if3 : tie.Need-add-if3
-add-if3 c = search needs
-
 returns-2 : tie.Need-returns-2
 unfolding familyAtEnd
 returns-2 c = rw (eq-eqb _ _ (c .before .before .if1 .taken), ne-eqb _ _ (c .before .if2 .left), eq-eqb _ _ (c .if3 .taken))
@@ -20,9 +17,6 @@ returns-2 c = rw (eq-eqb _ _ (c .before .before .if1 .taken), ne-eqb _ _ (c .bef
 returns-3 : tie.Need-returns-3
 unfolding familyAtEnd
 returns-3 c = rw (eq-eqb _ _ (c .before .before .if1 .taken), ne-eqb _ _ (c .before .if2 .left), ne-eqb _ _ (c .if3 .left))
-
-add-if4 : tie.Need-add-if4
-add-if4 c = search needs
 
 returns-4 : tie.Need-returns-4
 unfolding familyAtEnd
@@ -34,4 +28,12 @@ returns-5 c = rw (ne-eqb _ _ (c .before .if1 .left), ne-eqb _ _ (c .if4 .left))
 
 pub family-at-end-spec : {M : Type 1} → statement M
 family-at-end-spec =
-    tie.close (tie.spec returns add-if3 returns-2 returns-3 add-if4 returns-4 returns-5)
+    tie.close
+    (tie.spec
+    returns
+    (λ c. search needs)
+    returns-2
+    returns-3
+    (λ c. search needs)
+    returns-4
+    returns-5)

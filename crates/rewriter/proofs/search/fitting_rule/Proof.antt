@@ -26,28 +26,13 @@ abbrev μ-loop : tie.MeasureT-loop
 searchable : (s : tie.Start Inv-loop μ-loop) → Searchable (kindOf (s .args .kind)) (s .args .n) (s .args .word .now)
 searchable s = record { rank = s .pre .0 .0; letters = letters-accepted _ _ (s .pre .1 .0) }
 
-shared-slice-read-i : tie.Need-shared-slice-read-i Inv-loop μ-loop
-shared-slice-read-i c = search needs
-
-levels-of-requires : tie.Need-levels-of-requires Inv-loop μ-loop
-levels-of-requires c κs = search needs
-
 last-index-of-requires : tie.Need-last-index-of-requires Inv-loop μ-loop
 last-index-of-requires c κs =
     let s = c .before .before .before in
     (s .pre .0 .1, letter _ _ _ (searchable s) _ (s .pre .1 .1) .1)
 
-fork-of-requires : tie.Need-fork-of-requires Inv-loop μ-loop
-fork-of-requires c κs = search needs
-
-add-at : tie.Need-add-at Inv-loop μ-loop
-add-at c = search needs
-
 loop-holds : tie.Need-loop-holds Inv-loop μ-loop
 loop-holds c = let s = c .before .before .before .before .before in searching-start _ _ _ (searchable s) _ (s .pre .1 .1)
-
-shared-slice-read-x : tie.Need-shared-slice-read-x Inv-loop μ-loop
-shared-slice-read-x c = search needs
 
 next-index-requires : tie.Need-next-index-requires Inv-loop μ-loop
 next-index-requires c κs =
@@ -92,23 +77,8 @@ answered t =
 returns : tie.Need-returns Inv-loop μ-loop
 returns c = sym (answered (c .before) ∙ rw (eq-eqb _ _ (c .if2 .taken)))
 
-shown-index-requires : tie.Need-shown-index-requires Inv-loop μ-loop
-shown-index-requires c κs = search needs
-
-add-left : tie.Need-add-left Inv-loop μ-loop
-add-left c = search needs
-
-sub-left : tie.Need-sub-left Inv-loop μ-loop
-sub-left c = search needs
-
 returns-2 : tie.Need-returns-2 Inv-loop μ-loop
 returns-2 c = sym (answered (c .before .before) ∙ rw (ne-eqb _ _ (c .before .if2 .left), ← c .shown-index .ensures))
-
-add-at-2 : tie.Need-add-at-2 Inv-loop μ-loop
-add-at-2 c = search needs
-
-loop-less : tie.Need-loop-less Inv-loop μ-loop
-loop-less c = search needs
 
 loop-again : tie.Need-loop-again Inv-loop μ-loop
 loop-again c =
@@ -131,24 +101,17 @@ returns-3 c =
 pub fitting-rule-spec : {M : Type 1} → statement M
 fitting-rule-spec =
     tie.close
-    (tie.spec
-    Inv-loop
-    μ-loop
-    shared-slice-read-i
-    levels-of-requires
+    (tie.spec Inv-loop μ-loop
+    (λ c. search needs) (λ c κs. search needs)
     last-index-of-requires
-    fork-of-requires
-    add-at
+    (λ c κs. search needs) (λ c. search needs)
     loop-holds
-    shared-slice-read-x
+    (λ c. search needs)
     next-index-requires
     family-at-requires
     returns
-    shown-index-requires
-    add-left
-    sub-left
+    (λ c κs. search needs) (λ c. search needs) (λ c. search needs)
     returns-2
-    add-at-2
-    loop-less
+    (λ c. search needs) (λ c. search needs)
     loop-again
     returns-3)

@@ -12,16 +12,10 @@ use Rattle.rewriter.proofs.search.last_index_of.Tie as tie
 returns : tie.Need-returns
 returns c = rw (kindOf-one _ (c .if1 .taken))
 
-mul-result : tie.Need-mul-result
-mul-result c = search needs
-
-sub-result : tie.Need-sub-result
-sub-result c = search needs
-
 returns-2 : tie.Need-returns-2
 returns-2 c =
     let a = c .before .args in
     by-kind-else (λ (k : Kind). _≡_ {A = ℕ} (2 * a .n - a .i) (lastIndex k (a .n) (a .i))) _ (c .if1 .left) refl refl
 
 pub last-index-of-spec : {M : Type 1} → statement M
-last-index-of-spec = tie.close (tie.spec returns mul-result sub-result returns-2)
+last-index-of-spec = tie.close (tie.spec returns (λ c. search needs) (λ c. search needs) returns-2)

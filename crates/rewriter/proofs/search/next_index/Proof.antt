@@ -6,9 +6,6 @@ use Rattle.rules.proofs.Scan.{nextIndex}
 use Rattle.rewriter.proofs.search.next_index.Statement.{statement}
 use Rattle.rewriter.proofs.search.next_index.Tie as tie
 
-add-if3 : tie.Need-add-if3
-add-if3 c = search needs
-
 returns : tie.Need-returns
 unfolding nextIndex
 returns c = rw (lt-ltb _ _ (c .before .before .if1 .taken), eq-eqb _ _ (c .before .if2 .taken), eq-eqb _ _ (c .if3 .taken))
@@ -17,9 +14,6 @@ returns-2 : tie.Need-returns-2
 unfolding nextIndex
 returns-2 c = rw (lt-ltb _ _ (c .before .before .if1 .taken), eq-eqb _ _ (c .before .if2 .taken), ne-eqb _ _ (c .if3 .left))
 
-add-if4 : tie.Need-add-if4
-add-if4 c = search needs
-
 returns-3 : tie.Need-returns-3
 unfolding nextIndex
 returns-3 c = rw (lt-ltb _ _ (c .before .before .if1 .taken), ne-eqb _ _ (c .before .if2 .left), eq-eqb _ _ (c .if4 .taken))
@@ -27,18 +21,6 @@ returns-3 c = rw (lt-ltb _ _ (c .before .before .if1 .taken), ne-eqb _ _ (c .bef
 returns-4 : tie.Need-returns-4
 unfolding nextIndex
 returns-4 c = rw (lt-ltb _ _ (c .before .before .if1 .taken), ne-eqb _ _ (c .before .if2 .left), ne-eqb _ _ (c .if4 .left))
-
-add-if6 : tie.Need-add-if6
-add-if6 c = search needs
-
-add-if6-2 : tie.Need-add-if6-2
-add-if6-2 c = search needs
-
-mul-if6 : tie.Need-mul-if6
-mul-if6 c = search needs
-
-add-result : tie.Need-add-result
-add-result c = search needs
 
 returns-5 : tie.Need-returns-5
 unfolding nextIndex
@@ -56,16 +38,13 @@ pub next-index-spec : {M : Type 1} → statement M
 next-index-spec =
     tie.close
     (tie.spec
-    add-if3
+    (λ c. search needs)
     returns
     returns-2
-    add-if4
+    (λ c. search needs)
     returns-3
     returns-4
-    add-if6
-    add-if6-2
-    mul-if6
-    add-result
+    (λ c. search needs) (λ c. search needs) (λ c. search needs) (λ c. search needs)
     returns-5
     returns-6
     returns-7)

@@ -23,27 +23,12 @@ loop-holds c =
     let s = c .before .before .before .before .before in
     making-start _ _ _ _ _ _ _ (s .pre .0)
 
-shared-slice-read-work : tie.Need-shared-slice-read-work Inv-loop μ-loop
-shared-slice-read-work c = search needs
-
 slice-write-work : tie.Need-slice-write-work Inv-loop μ-loop
 slice-write-work c =
     let t = c .before in
     let l = t .before in
     let s = l .before .before .before .before .before .before in
     making-room _ _ _ _ _ _ _ (s .pre .0) (l .loop .inv) (t .loop-test .taken) (s .pre .1 .1) .0
-
-add-i : tie.Need-add-i Inv-loop μ-loop
-add-i c = search needs
-
-sub-insert : tie.Need-sub-insert Inv-loop μ-loop
-sub-insert c = search needs
-
-part-insert-start : tie.Need-part-insert-start Inv-loop μ-loop
-part-insert-start c = search needs
-
-part-insert-end : tie.Need-part-insert-end Inv-loop μ-loop
-part-insert-end c = search needs
 
 add-insert : tie.Need-add-insert Inv-loop μ-loop
 add-insert c =
@@ -74,9 +59,6 @@ insert-requires c κs =
     let l = t .before in
     let s = l .before .before .before .before .before .before in
     making-ready _ _ _ _ _ _ _ (s .pre .0) (l .loop .inv) (t .loop-test .taken) (s .pre .1 .1) (s .pre .1 .0 .0) (s .pre .1 .0 .1)
-
-loop-less : tie.Need-loop-less Inv-loop μ-loop
-loop-less c = search needs
 
 loop-again : tie.Need-loop-again Inv-loop μ-loop
 loop-again c =
@@ -117,21 +99,16 @@ returns c =
 pub make-spec : {M : Type 1} → statement M
 make-spec =
     tie.close
-    (tie.spec
-    Inv-loop
-    μ-loop
+    (tie.spec Inv-loop μ-loop
     loop-holds
-    shared-slice-read-work
+    (λ c. search needs)
     slice-write-work
-    add-i
-    sub-insert
-    part-insert-start
-    part-insert-end
+    (λ c. search needs) (λ c. search needs) (λ c. search needs) (λ c. search needs)
     add-insert
     slice-relend-prefix-insert
     slice-aggregate-insert
     insert-requires
-    loop-less
+    (λ c. search needs)
     loop-again
     same-length
     same-length-2

@@ -7,24 +7,15 @@ use borrow.Author.Needs.{needs}
 use Rattle.rewriter.proofs.tracing.write_in.Statement.{statement}
 use Rattle.rewriter.proofs.tracing.write_in.Tie as tie
 
-slice-relend-prefix-make : tie.Need-slice-relend-prefix-make
-slice-relend-prefix-make c = search needs
-
 slice-aggregate-make : tie.Need-slice-aggregate-make
 slice-aggregate-make c =
     let s = c .before .before .before .before .before .before .before in
     sym (length-take-le _ _ (s .pre .1 .1 .0 .0))
 
-slice-relend-prefix-make-2 : tie.Need-slice-relend-prefix-make-2
-slice-relend-prefix-make-2 c = search needs
-
 slice-aggregate-make-2 : tie.Need-slice-aggregate-make-2
 slice-aggregate-make-2 c =
     let s = c .before .before .before .before .before .before .before .before in
     sym (length-take-le _ _ (s .pre .1 .1 .0 .1))
-
-slice-relend-prefix-make-3 : tie.Need-slice-relend-prefix-make-3
-slice-relend-prefix-make-3 c = search needs
 
 slice-aggregate-make-3 : tie.Need-slice-aggregate-make-3
 slice-aggregate-make-3 c =
@@ -38,9 +29,6 @@ make-requires c κs =
     let f = sym (length-take-le _ _ (r .0)) in
     (s .pre .0, ((length-take-le _ _ (r .1) ∙ f, length-take-le _ _ (r .2) ∙ f), s .pre .1 .1 .1 .1))
 
-slice-reshare-prefix-copy : tie.Need-slice-reshare-prefix-copy
-slice-reshare-prefix-copy c = search needs
-
 slice-aggregate-copy : tie.Need-slice-aggregate-copy
 slice-aggregate-copy c =
     let k = c .before .before .before .before .before .before .before .before .before in
@@ -51,21 +39,6 @@ copy-requires c κs =
     let k = c .before .before .before .before .before .before .before .before .before .before in
     let s = k .before .before .before .before .before .before .before .before .before .before .before in
     copy-room _ _ _ _ _ _ _ _ _ _ _ _ (k .make .ensures) _ (s .pre .1 .1 .1 .0)
-
-same-length : tie.Need-same-length
-same-length c = search needs
-
-same-length-2 : tie.Need-same-length-2
-same-length-2 c = search needs
-
-same-length-3 : tie.Need-same-length-3
-same-length-3 c = search needs
-
-same-length-4 : tie.Need-same-length-4
-same-length-4 c = search needs
-
-same-length-5 : tie.Need-same-length-5
-same-length-5 c = search needs
 
 returns : tie.Need-returns
 returns c =
@@ -80,19 +53,15 @@ pub write-in-spec : {M : Type 1} → statement M
 write-in-spec =
     tie.close
     (tie.spec
-    slice-relend-prefix-make
+    (λ c. search needs)
     slice-aggregate-make
-    slice-relend-prefix-make-2
+    (λ c. search needs)
     slice-aggregate-make-2
-    slice-relend-prefix-make-3
+    (λ c. search needs)
     slice-aggregate-make-3
     make-requires
-    slice-reshare-prefix-copy
+    (λ c. search needs)
     slice-aggregate-copy
     copy-requires
-    same-length
-    same-length-2
-    same-length-3
-    same-length-4
-    same-length-5
+    (λ c. search needs) (λ c. search needs) (λ c. search needs) (λ c. search needs) (λ c. search needs)
     returns)

@@ -10,15 +10,9 @@ returns : tie.Need-returns
 unfolding firstLetter
 returns c = rw (eq-eqb _ _ (c .if1 .taken))
 
-add-result : tie.Need-add-result
-add-result c = search needs
-
 returns-2 : tie.Need-returns-2
 unfolding firstLetter
 returns-2 c = rw (ne-eqb _ _ (c .before .if1 .left), lt-ltb _ _ (c .if2 .taken))
-
-sub-result : tie.Need-sub-result
-sub-result c = search needs
 
 returns-3 : tie.Need-returns-3
 unfolding firstLetter
@@ -29,5 +23,4 @@ unfolding firstLetter
 returns-4 c = rw (ne-eqb _ _ (c .before .before .if1 .left), le-ltb _ _ (c .before .if2 .left), ne-eqb _ _ (c .if3 .left))
 
 pub first-letter-spec : {M : Type 1} → statement M
-first-letter-spec =
-    tie.close (tie.spec returns add-result returns-2 sub-result returns-3 returns-4)
+first-letter-spec = tie.close (tie.spec returns (λ c. search needs) returns-2 (λ c. search needs) returns-3 returns-4)

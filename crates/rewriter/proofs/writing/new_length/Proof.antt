@@ -7,9 +7,6 @@ use Rattle.rules.proofs.Scan.{rightLength}
 use Rattle.rewriter.proofs.writing.new_length.Statement.{statement}
 use Rattle.rewriter.proofs.writing.new_length.Tie as tie
 
-sub-result : tie.Need-sub-result
-sub-result c = search needs
-
 returns : tie.Need-returns
 unfolding rightLength
 returns c = rw (eq-eqb _ _ (c .if1 .taken)) (omega arith)
@@ -19,4 +16,4 @@ unfolding rightLength
 returns-2 c = rw (ne-eqb _ _ (c .if1 .left)) (omega arith)
 
 pub new-length-spec : {M : Type 1} → statement M
-new-length-spec = tie.close (tie.spec sub-result returns returns-2)
+new-length-spec = tie.close (tie.spec (λ c. search needs) returns returns-2)

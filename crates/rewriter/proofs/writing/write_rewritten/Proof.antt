@@ -15,25 +15,16 @@ write-without-requires c κs =
     let s = c .before .before .before .before in
     (s .pre .1 .0 .1, omega (arith, rw (eq-eqb _ _ (c .before .if1 .taken)) at (s .pre .1 .1)))
 
-same-length : tie.Need-same-length
-same-length c = search needs
-
 returns : tie.Need-returns
 returns c =
     let b = c .before .before .before .before in
     rw (new-without _ _ _ _ _ _ _ (b .before .before .before .pre .1 .0 .1) (b .if1 .taken)) (c .before .before .write-without .ensures)
-
-first-letter-requires : tie.Need-first-letter-requires
-first-letter-requires c κs = search needs
 
 write-moved-requires : tie.Need-write-moved-requires
 unfolding rightLength
 write-moved-requires c κs =
     let s = c .before .before .before .before .before in
     (s .pre .1 .0, omega (arith, rw (ne-eqb _ _ (c .before .before .if1 .left)) at (s .pre .1 .1)))
-
-same-length-2 : tie.Need-same-length-2
-same-length-2 c = search needs
 
 returns-2 : tie.Need-returns-2
 returns-2 c =
@@ -46,9 +37,9 @@ write-rewritten-spec =
     tie.close
     (tie.spec
     write-without-requires
-    same-length
+    (λ c. search needs)
     returns
-    first-letter-requires
+    (λ c κs. search needs)
     write-moved-requires
-    same-length-2
+    (λ c. search needs)
     returns-2)

@@ -15,24 +15,6 @@ slice-aggregate-copy c = sym (length-take-le _ _ (omega arith))
 copy-requires : tie.Need-copy-requires
 copy-requires c κs = simp length-take (omega arith)
 
-add-copy : tie.Need-add-copy
-add-copy c = search needs
-
-sub-copy : tie.Need-sub-copy
-sub-copy c = search needs
-
-part-copy-start : tie.Need-part-copy-start
-part-copy-start c = search needs
-
-part-copy-end : tie.Need-part-copy-end
-part-copy-end c = search needs
-
-copy-requires-2 : tie.Need-copy-requires-2
-copy-requires-2 c κs = search needs
-
-same-length : tie.Need-same-length
-same-length c = search needs
-
 returns : tie.Need-returns
 returns c =
     let s = c .before .before .before .before .before .before .before .before .before .before .before .before in
@@ -46,10 +28,6 @@ write-without-spec =
     (tie.spec
     slice-aggregate-copy
     copy-requires
-    add-copy
-    sub-copy
-    part-copy-start
-    part-copy-end
-    copy-requires-2
-    same-length
+    (λ c. search needs) (λ c. search needs) (λ c. search needs) (λ c. search needs) (λ c κs. search needs)
+    (λ c. search needs)
     returns)

@@ -10,37 +10,22 @@ use Rattle.window.proofs.ByteSteps.{four-le-of-last, swap-negate-at-req
 use Rattle.window.proofs.action.act_on.Statement.{statement}
 use Rattle.window.proofs.action.act_on.Tie as tie
 
-sub-a : tie.Need-sub-a
-sub-a c = search needs
-
 slice-copy-out-a : tie.Need-slice-copy-out-a
 slice-copy-out-a c = place-lt-of-requires _ _ _ _ (c .pre)
 
-sub-swap-at : tie.Need-sub-swap-at
-sub-swap-at c = search needs
-
 swap-at-requires : tie.Need-swap-at-requires
 swap-at-requires c κs = (search needs, element-back _ (c .before .before .a .given))
-
-same-length : tie.Need-same-length
-same-length c = search needs
 
 returns : tie.Need-returns
 returns c =
     let b = c .before .before .before in
     c .before .swap-at .ensures ∙ swap-eq-act _ _ _ _ (b .before .before .pre) (b .if1 .taken)
 
-sub-negate-at : tie.Need-sub-negate-at
-sub-negate-at c = search needs
-
 negate-at-requires : tie.Need-negate-at-requires
 negate-at-requires c κs =
     let d = c .before .before in
     let p = d .before .before .pre in
     (negate-at-requires-of-last _ _ _ _ p (d .if1 .left), held-eq-last _ _ _ _ p (d .if1 .left) (d .before .a .given))
-
-same-length-2 : tie.Need-same-length-2
-same-length-2 c = search needs
 
 returns-2 : tie.Need-returns-2
 returns-2 c =
@@ -59,9 +44,6 @@ swap-negate-at-requires c κs =
     let q = swap-negate-at-requires-of-last _ _ _ _ p (d .if1 .left) (c .before .if2 .left) in
     (q .0, (q .1 .0, (q .1 .1, held-eq-last-of-D _ _ _ _ p (d .if1 .left) (c .before .if2 .left) (d .before .a .given))))
 
-same-length-3 : tie.Need-same-length-3
-same-length-3 c = search needs
-
 returns-3 : tie.Need-returns-3
 returns-3 c =
     let b = c .before .before .before in
@@ -71,17 +53,17 @@ pub act-on-spec : {M : Type 1} → statement M
 act-on-spec =
     tie.close
     (tie.spec
-    sub-a
+    (λ c. search needs)
     slice-copy-out-a
-    sub-swap-at
+    (λ c. search needs)
     swap-at-requires
-    same-length
+    (λ c. search needs)
     returns
-    sub-negate-at
+    (λ c. search needs)
     negate-at-requires
-    same-length-2
+    (λ c. search needs)
     returns-2
     sub-swap-negate-at
     swap-negate-at-requires
-    same-length-3
+    (λ c. search needs)
     returns-3)

@@ -30,9 +30,6 @@ abbrev μ-loop : tie.MeasureT-loop
 loop-holds : tie.Need-loop-holds Inv-loop μ-loop
 loop-holds c = (omega arith, refl, letters-accepted _ _ (c .before .pre .1 .0), c .before .pre .1 .1, refl)
 
-shared-slice-read-act-on : tie.Need-shared-slice-read-act-on Inv-loop μ-loop
-shared-slice-read-act-on c = search needs
-
 cast-act-on : tie.Need-cast-act-on Inv-loop μ-loop
 cast-act-on c = omega (arith, c .shared-slice-known2 .given (c .before .before .loop .i))
 
@@ -68,11 +65,9 @@ returns c = sym (c .before .loop .inv .4 ∙ windowFrom-end _ _ _ _ _ (c .loop-t
 pub apply-spec : {M : Type 1} → statement M
 apply-spec =
     tie.close
-    (tie.spec
-    Inv-loop
-    μ-loop
+    (tie.spec Inv-loop μ-loop
     loop-holds
-    shared-slice-read-act-on
+    (λ c. search needs)
     cast-act-on
     act-on-requires
     add-i

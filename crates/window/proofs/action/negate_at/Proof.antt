@@ -9,12 +9,6 @@ use Rattle.window.proofs.action.negate_at.Tie as tie
 negated-requires : tie.Need-negated-requires
 negated-requires c κs = rw (element-back _ (c .fits .a .sfits), c .pre .1) (c .pre .0 .1)
 
-slice-set-from-w : tie.Need-slice-set-from-w
-slice-set-from-w c = search needs
-
-same-length : tie.Need-same-length
-same-length c = search needs
-
 returns : tie.Need-returns
 returns c =
     let e = c .before .pre .1 in
@@ -23,5 +17,4 @@ returns c =
     (record { entry = rw e at (c .before .fits .a .sfits); result = c .negated .ok; negation = rw e at (c .negated .ensures) })
 
 pub negate-at-spec : {M : Type 1} → statement M
-negate-at-spec =
-    tie.close (tie.spec negated-requires slice-set-from-w same-length returns)
+negate-at-spec = tie.close (tie.spec negated-requires (λ c. search needs) (λ c. search needs) returns)

@@ -6,26 +6,8 @@ use Rattle.window.proofs.ByteSteps.{set-eq-swapNegate}
 use Rattle.window.proofs.action.swap_negate_at.Statement.{statement}
 use Rattle.window.proofs.action.swap_negate_at.Tie as tie
 
-slice-copy-out-a : tie.Need-slice-copy-out-a
-slice-copy-out-a c = search needs
-
-negated-requires : tie.Need-negated-requires
-negated-requires c κs = search needs
-
 negated-requires-2 : tie.Need-negated-requires-2
 negated-requires-2 c κs = let b = c .before .before in rw (element-back _ (b .fits .b .sfits), b .pre .1 .1 .1) (b .pre .1 .1 .0)
-
-slice-set-from-d : tie.Need-slice-set-from-d
-slice-set-from-d c = search needs
-
-add-c : tie.Need-add-c
-add-c c = search needs
-
-slice-set-from-c : tie.Need-slice-set-from-c
-slice-set-from-c c = search needs
-
-same-length : tie.Need-same-length
-same-length c = search needs
 
 returns : tie.Need-returns
 returns c =
@@ -40,11 +22,7 @@ pub swap-negate-at-spec : {M : Type 1} → statement M
 swap-negate-at-spec =
     tie.close
     (tie.spec
-    slice-copy-out-a
-    negated-requires
+    (λ c. search needs) (λ c κs. search needs)
     negated-requires-2
-    slice-set-from-d
-    add-c
-    slice-set-from-c
-    same-length
+    (λ c. search needs) (λ c. search needs) (λ c. search needs) (λ c. search needs)
     returns)

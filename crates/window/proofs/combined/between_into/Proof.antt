@@ -9,15 +9,6 @@ use Rattle.window.proofs.combined.Made.{made-room, back-is, back-passes
 use Rattle.window.proofs.combined.between_into.Statement.{statement}
 use Rattle.window.proofs.combined.between_into.Tie as tie
 
-lanes-requires : tie.Need-lanes-requires
-lanes-requires c κs = search needs
-
-entries-64-requires : tie.Need-entries-64-requires
-entries-64-requires c κs = search needs
-
-slice-aggregate-inverse-into : tie.Need-slice-aggregate-inverse-into
-slice-aggregate-inverse-into c = search needs
-
 inverse-into-requires : tie.Need-inverse-into-requires
 inverse-into-requires c κs =
     let made = c .before in
@@ -52,9 +43,6 @@ product-into-requires c κs =
     let pre = counted .before .pre in
     (pre .0, (back-passes _ _ (pre .0) _ (counted .lanes .ensures) _ _ (pre .1 .0) (held back), (pre .1 .1 .0, pre .1 .1 .1)))
 
-same-length : tie.Need-same-length
-same-length c = search needs
-
 returns : tie.Need-returns
 returns c =
     let called = c .before in
@@ -68,12 +56,10 @@ pub between-into-spec : {M : Type 1} → statement M
 between-into-spec =
     tie.close
     (tie.spec
-    lanes-requires
-    entries-64-requires
-    slice-aggregate-inverse-into
+    (λ c κs. search needs) (λ c κs. search needs) (λ c. search needs)
     inverse-into-requires
     array-share-prefix-back
     slice-aggregate-product-into
     product-into-requires
-    same-length
+    (λ c. search needs)
     returns)

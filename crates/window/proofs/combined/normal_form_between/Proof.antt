@@ -10,17 +10,8 @@ use borrow.Author.Needs.{needs}
 use Rattle.window.proofs.combined.normal_form_between.Statement.{statement}
 use Rattle.window.proofs.combined.normal_form_between.Tie as tie
 
-ranked-windows-refusal-requires : tie.Need-ranked-windows-refusal-requires
-ranked-windows-refusal-requires c κs = search needs
-
 returns : tie.Need-returns
 returns c = writes-refused _ _ _ _ _ refl (c .before .ranked-windows-refusal .ensures) (c .if1 .taken)
-
-entries-64-requires : tie.Need-entries-64-requires
-entries-64-requires c κs = search needs
-
-slice-aggregate-between-into : tie.Need-slice-aggregate-between-into
-slice-aggregate-between-into c = search needs
 
 between-into-requires : tie.Need-between-into-requires
 between-into-requires c κs =
@@ -28,18 +19,12 @@ between-into-requires c κs =
     let passed = windows-accepted _ _ _ _ _ (c .before .before .before .ranked-windows-refusal .ensures) (c .before .before .if1 .left) in
     (passed .0, (passed .1 .0, (passed .1 .1, made-room _ _ (passed .0) _ (work .result) (passed .1 .1) (work .ensures))))
 
-slice-aggregate-write-checked : tie.Need-slice-aggregate-write-checked
-slice-aggregate-write-checked c = search needs
-
 write-checked-requires : tie.Need-write-checked-requires
 write-checked-requires c κs =
     let made = c .before .before .before in
     let first = made .before .before .before in
     let passed = windows-accepted _ _ _ _ _ (first .before .ranked-windows-refusal .ensures) (first .if1 .left) in
     made-asks _ _ (passed .0) _ _ _ (between-passes _ _ _ _ (passed .1 .0) (passed .1 .1)) (made .before .before .entries-64 .ensures) (made .between-into .ensures)
-
-same-length : tie.Need-same-length
-same-length c = search needs
 
 returns-2 : tie.Need-returns-2
 returns-2 c =
@@ -56,12 +41,11 @@ pub normal-form-between-spec : {M : Type 1} → statement M
 normal-form-between-spec =
     tie.close
     (tie.spec
-    ranked-windows-refusal-requires
+    (λ c κs. search needs)
     returns
-    entries-64-requires
-    slice-aggregate-between-into
+    (λ c κs. search needs) (λ c. search needs)
     between-into-requires
-    slice-aggregate-write-checked
+    (λ c. search needs)
     write-checked-requires
-    same-length
+    (λ c. search needs)
     returns-2)

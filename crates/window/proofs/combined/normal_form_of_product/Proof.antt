@@ -11,17 +11,8 @@ use borrow.Author.Needs.{needs}
 use Rattle.window.proofs.combined.normal_form_of_product.Statement.{statement}
 use Rattle.window.proofs.combined.normal_form_of_product.Tie as tie
 
-ranked-windows-refusal-requires : tie.Need-ranked-windows-refusal-requires
-ranked-windows-refusal-requires c κs = search needs
-
 returns : tie.Need-returns
 returns c = writes-refused _ _ _ _ _ refl (c .before .ranked-windows-refusal .ensures) (c .if1 .taken)
-
-entries-64-requires : tie.Need-entries-64-requires
-entries-64-requires c κs = search needs
-
-slice-aggregate-product-into : tie.Need-slice-aggregate-product-into
-slice-aggregate-product-into c = search needs
 
 product-into-requires : tie.Need-product-into-requires
 product-into-requires c κs =
@@ -29,18 +20,12 @@ product-into-requires c κs =
     let passed = windows-accepted _ _ _ _ _ (c .before .before .before .ranked-windows-refusal .ensures) (c .before .before .if1 .left) in
     (passed .0, (passed .1 .0, (passed .1 .1, made-room _ _ (passed .0) _ (work .result) (passed .1 .1) (work .ensures))))
 
-slice-aggregate-write-checked : tie.Need-slice-aggregate-write-checked
-slice-aggregate-write-checked c = search needs
-
 write-checked-requires : tie.Need-write-checked-requires
 write-checked-requires c κs =
     let made = c .before .before .before in
     let first = made .before .before .before in
     let passed = windows-accepted _ _ _ _ _ (first .before .ranked-windows-refusal .ensures) (first .if1 .left) in
     made-asks _ _ (passed .0) _ _ _ (product-passes _ _ _ _ (passed .1 .0) (passed .1 .1)) (made .before .before .entries-64 .ensures) (made .product-into .ensures)
-
-same-length : tie.Need-same-length
-same-length c = search needs
 
 returns-2 : tie.Need-returns-2
 returns-2 c =
@@ -57,12 +42,11 @@ pub normal-form-of-product-spec : {M : Type 1} → statement M
 normal-form-of-product-spec =
     tie.close
     (tie.spec
-    ranked-windows-refusal-requires
+    (λ c κs. search needs)
     returns
-    entries-64-requires
-    slice-aggregate-product-into
+    (λ c κs. search needs) (λ c. search needs)
     product-into-requires
-    slice-aggregate-write-checked
+    (λ c. search needs)
     write-checked-requires
-    same-length
+    (λ c. search needs)
     returns-2)

@@ -8,12 +8,6 @@ use Rattle.window.proofs.product.Entries.{signed-minus, signed-plus}
 use Rattle.window.proofs.entries.with_sign.Statement.{statement}
 use Rattle.window.proofs.entries.with_sign.Tie as tie
 
-cast-x : tie.Need-cast-x
-cast-x c = search needs
-
-is-negative-requires : tie.Need-is-negative-requires
-is-negative-requires c κs = search needs
-
 sign : (c : tie.After-is-negative) → negative (c .before .args .e) ≡ c .is-negative .result
 sign c = sym (c .is-negative .ensures ∙ ap negative (element-back (c .before .args .e) (c .before .fits .e .sfits)))
 
@@ -27,4 +21,4 @@ returns-2 : tie.Need-returns-2
 returns-2 c = cast-back _ (c .before .before .pre) ∙ signed-plus _ _ (sign (c .before) ∙ c .if1 .left)
 
 pub with-sign-spec : {M : Type 1} → statement M
-with-sign-spec = tie.close (tie.spec cast-x is-negative-requires sub-result returns returns-2)
+with-sign-spec = tie.close (tie.spec (λ c. search needs) (λ c κs. search needs) sub-result returns returns-2)

@@ -16,9 +16,6 @@ mul-if1 c = record { fits = omega (arith, square-fits (c .args .rank) (rank-acce
 returns : tie.Need-returns
 returns c = square-room _ _ _ _ (c .before .pre .1 .1) (c .if1 .taken)
 
-lanes-requires : tie.Need-lanes-requires
-lanes-requires c κs = search needs
-
 slice-aggregate-length-of : tie.Need-slice-aggregate-length-of
 slice-aggregate-length-of c = sym (length-take-le _ _ (search needs))
 
@@ -37,7 +34,7 @@ lacks-room-spec =
     (tie.spec
     mul-if1
     returns
-    lanes-requires
+    (λ c κs. search needs)
     slice-aggregate-length-of
     length-of-requires
     returns-2)

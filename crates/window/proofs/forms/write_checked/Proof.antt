@@ -6,9 +6,6 @@ use Rattle.window.proofs.forms.Rooms.{checked-short, checked-room, chec
 use Rattle.window.proofs.forms.write_checked.Statement.{statement}
 use Rattle.window.proofs.forms.write_checked.Tie as tie
 
-lacks-room-requires : tie.Need-lacks-room-requires
-lacks-room-requires c κs = search needs
-
 returns : tie.Need-returns
 returns c =
     let measured = c .before in
@@ -22,9 +19,6 @@ write-normal-form-requires c κs =
     let room = checked-room _ _ _ (now (start .args .out)) _ (pre .1 .1) (fits .before .lacks-room .ensures) (fits .if1 .left) in
     (pre .0, (pre .1 .0, (pre .1 .1, room)))
 
-same-length : tie.Need-same-length
-same-length c = search needs
-
 returns-2 : tie.Need-returns-2
 returns-2 c =
     let wrote = c .before .before in
@@ -37,8 +31,8 @@ pub write-checked-spec : {M : Type 1} → statement M
 write-checked-spec =
     tie.close
     (tie.spec
-    lacks-room-requires
+    (λ c κs. search needs)
     returns
     write-normal-form-requires
-    same-length
+    (λ c. search needs)
     returns-2)

@@ -9,9 +9,6 @@ use Rattle.window.proofs.length.crossings_of.Tie as tie
 parts-of-requires : tie.Need-parts-of-requires
 parts-of-requires c κs = (length-le-of-lanes _ _ _ (c .pre .0) (c .pre .1), refusal-B _ _ _ (c .pre .1))
 
-sub-inversions : tie.Need-sub-inversions
-sub-inversions c = search needs
-
 returns : tie.Need-returns
 returns c =
     let got = c .before .before in
@@ -27,4 +24,4 @@ returns-2 c =
     counted-else _ (start .args .n) _ (start .pre .1) _ _ (parts .0) (parts .1) (c .if1 .left)
 
 pub crossings-of-spec : {M : Type 1} → statement M
-crossings-of-spec = tie.close (tie.spec parts-of-requires sub-inversions returns returns-2)
+crossings-of-spec = tie.close (tie.spec parts-of-requires (λ c. search needs) returns returns-2)

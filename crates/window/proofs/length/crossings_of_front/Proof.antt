@@ -7,9 +7,6 @@ use Rattle.coxeter.proofs.Acceptance.{lanes-le}
 use Rattle.window.proofs.length.crossings_of_front.Statement.{statement}
 use Rattle.window.proofs.length.crossings_of_front.Tie as tie
 
-lanes-requires : tie.Need-lanes-requires
-lanes-requires c κs = search needs
-
 slice-aggregate-crossings-of : tie.Need-slice-aggregate-crossings-of
 slice-aggregate-crossings-of c = sym (length-take-le _ _ (search needs))
 
@@ -24,4 +21,9 @@ returns c = c .crossings-of .ensures ∙ rw (c .before .before .lanes .ensures)
 
 pub crossings-of-front-spec : {M : Type 1} → statement M
 crossings-of-front-spec =
-    tie.close (tie.spec lanes-requires slice-aggregate-crossings-of crossings-of-requires returns)
+    tie.close
+    (tie.spec
+    (λ c κs. search needs)
+    slice-aggregate-crossings-of
+    crossings-of-requires
+    returns)

@@ -17,15 +17,6 @@ left k m set p l h = lt-of-lt-of-le (lt-of-le-of-lt (shr-le set p) l) (pow-mono 
 few : (set p : ℕ) → set < 2 ^ 64 → ones (set / 2 ^ p) ≤ 64
 few set p l = ones-le 64 (set / 2 ^ p) (lt-of-le-of-lt (shr-le set p) l)
 
-sub-rest : tie.Need-sub-rest
-sub-rest c = search needs
-
-cast-rest : tie.Need-cast-rest
-cast-rest c = search needs
-
-shr-rest : tie.Need-shr-rest
-shr-rest c = search needs
-
 cast-result : tie.Need-cast-result
 cast-result c =
     let a = c .before .args in
@@ -36,26 +27,18 @@ cast-result-2 c =
     let start = c .before in
     record { fits = omega (arith, few (start .args .set) (start .args .s - 1) (start .fits .set .fits)) }
 
-returns : tie.Need-returns
-returns c = search needs
-
 cast-result-3 : tie.Need-cast-result-3
 cast-result-3 c =
     let start = c .before in
     record { fits = omega (arith, few (start .args .set) (start .args .s - 1) (start .fits .set .fits)) }
 
-returns-2 : tie.Need-returns-2
-returns-2 c = search needs
-
 pub larger-behind-spec : {M : Type 1} → statement M
 larger-behind-spec =
     tie.close
     (tie.spec
-    sub-rest
-    cast-rest
-    shr-rest
+    (λ c. search needs) (λ c. search needs) (λ c. search needs)
     cast-result
     cast-result-2
-    returns
+    (λ c. search needs)
     cast-result-3
-    returns-2)
+    (λ c. search needs))

@@ -29,14 +29,8 @@ sub-pairs c = square-fits _ (c .pre .0) .1
 loop-holds : tie.Need-loop-holds Inv-loop μ-loop
 loop-holds c = gone-none _
 
-sub-i : tie.Need-sub-i Inv-loop μ-loop
-sub-i c = search needs
-
 shared-slice-copy-out-e : tie.Need-shared-slice-copy-out-e Inv-loop μ-loop
 shared-slice-copy-out-e c = omega (arith, c .before .loop .inv .inside)
-
-size-requires : tie.Need-size-requires Inv-loop μ-loop
-size-requires c κs = search needs
 
 -- the size is that of the entry before the place reached
 size-of : (c : tie.After-size Inv-loop μ-loop)
@@ -68,9 +62,6 @@ with-size-requires c κs =
     let at = c .before in
     let b = bounds at in (b .0, omega (arith, b .1, at .before .before .before .before .pre .0))
 
-is-negative-requires : tie.Need-is-negative-requires Inv-loop μ-loop
-is-negative-requires c κs = search needs
-
 -- the sign is that of the same entry
 sign-of : (c : tie.After-is-negative Inv-loop μ-loop)
     → let turn = c .before .before .before .before .before in
@@ -99,9 +90,6 @@ add-pairs c =
     (sign-of asked) (c .if1 .taken) in
     record { fits = omega (arith, fits) }
 
-cast-negative-sum-pairs : tie.Need-cast-negative-sum-pairs Inv-loop μ-loop
-cast-negative-sum-pairs c = search needs
-
 sub-negative-sum-pairs : tie.Need-sub-negative-sum-pairs Inv-loop μ-loop
 sub-negative-sum-pairs c = bounds (c .before .before .before .before) .1
 
@@ -112,9 +100,6 @@ add-negative-sum-pairs c =
 
 add-negatives : tie.Need-add-negatives Inv-loop μ-loop
 add-negatives c = record { fits = omega (arith, small (c .before .before .before .before)) }
-
-loop-less : tie.Need-loop-less Inv-loop μ-loop
-loop-less c = search needs
 
 loop-again : tie.Need-loop-again Inv-loop μ-loop
 loop-again c =
@@ -137,9 +122,6 @@ sub-pairs-2 c =
     left _ _ _ _ _ _ _ (turn .before .loop .inv) (turn .loop-test .taken) (pre .0) (pre .1) (size-of at) _ (got .larger-behind .ensures) _
     (sign-of asked) (c .if1 .left)
 
-loop-less-2 : tie.Need-loop-less-2 Inv-loop μ-loop
-loop-less-2 c = search needs
-
 loop-again-2 : tie.Need-loop-again-2 Inv-loop μ-loop
 loop-again-2 c =
     let asked = c .before in
@@ -159,26 +141,24 @@ returns c =
 pub parts-of-spec : {M : Type 1} → statement M
 parts-of-spec =
     tie.close
-    (tie.spec
-    Inv-loop
-    μ-loop
+    (tie.spec Inv-loop μ-loop
     mul-pairs
     sub-pairs
     loop-holds
-    sub-i
+    (λ c. search needs)
     shared-slice-copy-out-e
-    size-requires
+    (λ c κs. search needs)
     larger-behind-requires
     with-size-requires
-    is-negative-requires
+    (λ c κs. search needs)
     add-pairs
-    cast-negative-sum-pairs
+    (λ c. search needs)
     sub-negative-sum-pairs
     add-negative-sum-pairs
     add-negatives
-    loop-less
+    (λ c. search needs)
     loop-again
     sub-pairs-2
-    loop-less-2
+    (λ c. search needs)
     loop-again-2
     returns)

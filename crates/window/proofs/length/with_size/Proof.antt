@@ -10,19 +10,10 @@ use borrow.Author.Needs.{needs}
 use Rattle.window.proofs.length.with_size.Statement.{statement}
 use Rattle.window.proofs.length.with_size.Tie as tie
 
-sub-result : tie.Need-sub-result
-sub-result c = search needs
-
-cast-result : tie.Need-cast-result
-cast-result c = search needs
-
-shl-result : tie.Need-shl-result
-shl-result c = search needs
-
 returns : tie.Need-returns
 returns c =
     let p = c .args .s - 1 in
     ap (bitOr (c .args .set)) (shl-exact 1 p 64 (omega arith) (omega (arith, c .pre .0, c .pre .1)) ∙ one-mul (2 ^ p))
 
 pub with-size-spec : {M : Type 1} → statement M
-with-size-spec = tie.close (tie.spec sub-result cast-result shl-result returns)
+with-size-spec = tie.close (tie.spec (λ c. search needs) (λ c. search needs) (λ c. search needs) returns)

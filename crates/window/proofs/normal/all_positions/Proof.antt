@@ -5,14 +5,8 @@ use Rattle.window.proofs.normal.OneLevel.{ones-shifted}
 use Rattle.window.proofs.normal.all_positions.Statement.{statement}
 use Rattle.window.proofs.normal.all_positions.Tie as tie
 
-sub-result : tie.Need-sub-result
-sub-result c = search needs
-
-shr-result : tie.Need-shr-result
-shr-result c = search needs
-
 returns : tie.Need-returns
 returns c = ones-shifted _ (c .pre .1)
 
 pub all-positions-spec : {M : Type 1} → statement M
-all-positions-spec = tie.close (tie.spec sub-result shr-result returns)
+all-positions-spec = tie.close (tie.spec (λ c. search needs) (λ c. search needs) returns)

@@ -9,11 +9,8 @@ use Rattle.window.proofs.normal.last_level.Tie as tie
 returns : tie.Need-returns
 returns c = rw (kindOf-two _ (c .if1 .taken))
 
-sub-result : tie.Need-sub-result
-sub-result c = search needs
-
 returns-2 : tie.Need-returns-2
 returns-2 c = last-else _ _ (c .if1 .left)
 
 pub last-level-spec : {M : Type 1} → statement M
-last-level-spec = tie.close (tie.spec returns sub-result returns-2)
+last-level-spec = tie.close (tie.spec returns (λ c. search needs) returns-2)

@@ -19,9 +19,6 @@ larger-behind-requires c κs =
     let b = within _ _ _ _ (pre .0) (pre .2) (position-negative _ (c .before .if1 .taken)) in
     (b .0, b .1, half-fits (start .args .m) _ (pre .1))
 
-has-changed-sign-requires : tie.Need-has-changed-sign-requires
-has-changed-sign-requires c κs = search needs
-
 sub-t14 : tie.Need-sub-t14
 sub-t14 c = one-entry _ _ _ (c .before .before .before .before .before .pre .2)
 
@@ -60,9 +57,6 @@ larger-behind-requires-2 c κs =
     let b = within _ _ _ _ (pre .0) (pre .2) (position-positive _ (c .before .if1 .left)) in
     (b .0, b .1, half-fits (start .args .m) _ (pre .1))
 
-has-changed-sign-requires-2 : tie.Need-has-changed-sign-requires-2
-has-changed-sign-requires-2 c κs = search needs
-
 returns-3 : tie.Need-returns-3
 returns-3 c =
     let asked = c .before in
@@ -94,14 +88,14 @@ level-of-spec =
     (tie.spec
     without-requires
     larger-behind-requires
-    has-changed-sign-requires
+    (λ c κs. search needs)
     sub-t14
     returns
     add-t15
     returns-2
     without-requires-2
     larger-behind-requires-2
-    has-changed-sign-requires-2
+    (λ c κs. search needs)
     returns-3
     sub-t19
     sub-t20

@@ -7,14 +7,8 @@ use Rattle.refusals.proofs.Bytes.{element-back}
 use Rattle.window.proofs.normal.place_of.Statement.{statement}
 use Rattle.window.proofs.normal.place_of.Tie as tie
 
-is-negative-requires : tie.Need-is-negative-requires
-is-negative-requires c κs = search needs
-
 sign : (c : tie.After-is-negative) → negative (c .before .args .e) ≡ c .is-negative .result
 sign c = sym (c .is-negative .ensures ∙ ap negative (element-back (c .before .args .e) (c .before .fits .e .sfits)))
-
-add-result : tie.Need-add-result
-add-result c = search needs
 
 returns : tie.Need-returns
 returns c = rw (sign (c .before) ∙ c .if1 .taken)
@@ -23,4 +17,4 @@ returns-2 : tie.Need-returns-2
 returns-2 c = rw (sign (c .before) ∙ c .if1 .left)
 
 pub place-of-spec : {M : Type 1} → statement M
-place-of-spec = tie.close (tie.spec is-negative-requires add-result returns returns-2)
+place-of-spec = tie.close (tie.spec (λ c κs. search needs) (λ c. search needs) returns returns-2)

@@ -23,12 +23,6 @@ abbrev μ-loop : tie.MeasureT-loop
 loop-holds : tie.Need-loop-holds Inv-loop μ-loop
 loop-holds c = stored-none _ _ (c .pre .1 .1)
 
-shared-slice-copy-out-e : tie.Need-shared-slice-copy-out-e Inv-loop μ-loop
-shared-slice-copy-out-e c = search needs
-
-size-requires : tie.Need-size-requires Inv-loop μ-loop
-size-requires c κs = search needs
-
 -- the size that was computed is the entry's, and is at most the number of entries, which is at most 64
 size-is : (c : tie.After-size Inv-loop μ-loop)
     → c .size .result ≡ natAbs (getD (c .before .before .before .before .args .w .now) (c .before .before .before .loop .i) (pos 0))
@@ -46,14 +40,8 @@ bounds c =
     let b = entry-bounds _ _ _ _ (turn .before .before .pre .1 .0) (turn .loop-test .taken) in
     (omega (arith, size-is c, b .0), omega (arith, size-is c, b .1, few c))
 
-cast-s : tie.Need-cast-s Inv-loop μ-loop
-cast-s c = search needs
-
 sub-s : tie.Need-sub-s Inv-loop μ-loop
 sub-s c = bounds c .0
-
-add-i : tie.Need-add-i Inv-loop μ-loop
-add-i c = search needs
 
 cast-place-of : tie.Need-cast-place-of Inv-loop μ-loop
 cast-place-of c = record { fits = omega (arith, few c) }
@@ -63,9 +51,6 @@ place-of-requires c κs = omega (arith, few c)
 
 element-write-places : tie.Need-element-write-places Inv-loop μ-loop
 element-write-places c = omega (arith, bounds (c .before))
-
-loop-less : tie.Need-loop-less Inv-loop μ-loop
-loop-less c = search needs
 
 loop-again : tie.Need-loop-again Inv-loop μ-loop
 loop-again c =
@@ -80,18 +65,14 @@ returns c = stored-all _ _ _ (c .loop-test .left) (c .before .loop .inv)
 pub set-places-spec : {M : Type 1} → statement M
 set-places-spec =
     tie.close
-    (tie.spec
-    Inv-loop
-    μ-loop
+    (tie.spec Inv-loop μ-loop
     loop-holds
-    shared-slice-copy-out-e
-    size-requires
-    cast-s
+    (λ c. search needs) (λ c κs. search needs) (λ c. search needs)
     sub-s
-    add-i
+    (λ c. search needs)
     cast-place-of
     place-of-requires
     element-write-places
-    loop-less
+    (λ c. search needs)
     loop-again
     returns)

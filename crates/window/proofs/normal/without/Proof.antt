@@ -10,19 +10,10 @@ use borrow.Author.Needs.{needs}
 use Rattle.window.proofs.normal.without.Statement.{statement}
 use Rattle.window.proofs.normal.without.Tie as tie
 
-sub-result : tie.Need-sub-result
-sub-result c = search needs
-
-cast-result : tie.Need-cast-result
-cast-result c = search needs
-
-shl-result : tie.Need-shl-result
-shl-result c = search needs
-
 returns : tie.Need-returns
 returns c =
     let q = c .args .p - 1 in
     ap (bitXor (c .args .left)) (shl-exact 1 q 64 (omega arith) (omega (arith, c .pre .0, c .pre .1)) ∙ one-mul (2 ^ q))
 
 pub without-spec : {M : Type 1} → statement M
-without-spec = tie.close (tie.spec sub-result cast-result shl-result returns)
+without-spec = tie.close (tie.spec (λ c. search needs) (λ c. search needs) (λ c. search needs) returns)

@@ -17,9 +17,6 @@ identity c = block-up _ _ _ _ (c .if1 .taken) ∙ sym (rise-span _ _)
 write-up-requires : tie.Need-write-up-requires
 write-up-requires c κs = (search needs, rw (identity (c .before)) at (c .before .before .before .pre .1))
 
-same-length : tie.Need-same-length
-same-length c = search needs
-
 returns : tie.Need-returns
 returns c =
     let up = c .before .before in
@@ -31,13 +28,16 @@ write-turned-requires c κs =
     let pre = c .before .before .before .pre in
     ((pre .0 .0, (λ e. omega (arith, pre .0 .2 e)), high, pre .0 .1), pre .1)
 
-same-length-2 : tie.Need-same-length-2
-same-length-2 c = search needs
-
 returns-2 : tie.Need-returns-2
 returns-2 c = c .before .before .write-turned .ensures
 
 pub write-block-spec : {M : Type 1} → statement M
 write-block-spec =
     tie.close
-    (tie.spec write-up-requires same-length returns write-turned-requires same-length-2 returns-2)
+    (tie.spec
+    write-up-requires
+    (λ c. search needs)
+    returns
+    write-turned-requires
+    (λ c. search needs)
+    returns-2)

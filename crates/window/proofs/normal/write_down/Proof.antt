@@ -15,35 +15,14 @@ Inv-loop out₀ at b a r₀ least above₀ out r above = Storing out₀ at (fall
 abbrev μ-loop : tie.MeasureT-loop
 μ-loop out₀ at b a r₀ least above₀ out r above = above
 
-cast-least : tie.Need-cast-least Inv-loop μ-loop
-cast-least c = search needs
-
-add-above : tie.Need-add-above Inv-loop μ-loop
-add-above c = search needs
-
-cast-above : tie.Need-cast-above Inv-loop μ-loop
-cast-above c = search needs
-
 loop-holds : tie.Need-loop-holds Inv-loop μ-loop
 loop-holds c = storing-fall _ _ _ _
-
-sub-above : tie.Need-sub-above Inv-loop μ-loop
-sub-above c = search needs
 
 slice-write-out : tie.Need-slice-write-out Inv-loop μ-loop
 slice-write-out c = storing-room (c .before .before .pre .2) (storing-down (c .loop-test .taken) (c .before .loop .inv))
 
-add-r : tie.Need-add-r Inv-loop μ-loop
-add-r c = search needs
-
-loop-less : tie.Need-loop-less Inv-loop μ-loop
-loop-less c = search needs
-
 loop-again : tie.Need-loop-again Inv-loop μ-loop
 loop-again c = storing-next (storing-down (c .loop-test .taken) (c .before .loop .inv))
-
-same-length : tie.Need-same-length Inv-loop μ-loop
-same-length c = search needs
 
 returns : tie.Need-returns Inv-loop μ-loop
 returns c = stored-down (c .loop-test .left) (c .before .loop .inv)
@@ -51,17 +30,12 @@ returns c = stored-down (c .loop-test .left) (c .before .loop .inv)
 pub write-down-spec : {M : Type 1} → statement M
 write-down-spec =
     tie.close
-    (tie.spec
-    Inv-loop
-    μ-loop
-    cast-least
-    add-above
-    cast-above
+    (tie.spec Inv-loop μ-loop
+    (λ c. search needs) (λ c. search needs) (λ c. search needs)
     loop-holds
-    sub-above
+    (λ c. search needs)
     slice-write-out
-    add-r
-    loop-less
+    (λ c. search needs) (λ c. search needs)
     loop-again
-    same-length
+    (λ c. search needs)
     returns)

@@ -10,12 +10,6 @@ use Rattle.window.proofs.normal.FirstLevel.{front-passes, first-rank, f
 use Rattle.window.proofs.normal.write_normal_form.Statement.{statement}
 use Rattle.window.proofs.normal.write_normal_form.Tie as tie
 
-lanes-requires : tie.Need-lanes-requires
-lanes-requires c κs = search needs
-
-no-places-requires : tie.Need-no-places-requires
-no-places-requires c κs = search needs
-
 slice-aggregate-set-places : tie.Need-slice-aggregate-set-places
 slice-aggregate-set-places c = sym (length-take-le _ _ (search needs))
 
@@ -47,9 +41,6 @@ peel-requires c κs =
       (first-places _ _ _ (pre .0) e _ places _ (pre .1 .1 .0) p s, first-room _ _ _ (pre .0) e _ places _ (pre .1 .1 .0) p s _ (pre .1 .1 .1)),
     )
 
-same-length : tie.Need-same-length
-same-length c = search needs
-
 returns : tie.Need-returns
 returns c =
     let peeled = c .before .before in
@@ -64,11 +55,10 @@ pub write-normal-form-spec : {M : Type 1} → statement M
 write-normal-form-spec =
     tie.close
     (tie.spec
-    lanes-requires
-    no-places-requires
+    (λ c κs. search needs) (λ c κs. search needs)
     slice-aggregate-set-places
     set-places-requires
     all-positions-requires
     peel-requires
-    same-length
+    (λ c. search needs)
     returns)

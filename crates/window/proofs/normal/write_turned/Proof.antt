@@ -25,21 +25,12 @@ write-up-requires c κs =
     let cut = c .before in
     (cut .turn-of .ensures .0, room-left _ (rise _ _) (fall _ _) _ (rw (runs cut) at (cut .before .before .pre .1)))
 
-mul-write-down : tie.Need-mul-write-down
-mul-write-down c = search needs
-
-sub-write-down : tie.Need-sub-write-down
-sub-write-down c = search needs
-
 write-down-requires : tie.Need-write-down-requires
 write-down-requires c κs =
     let rose = c .before .before .before in
     let cut = rose .before .before in
     let room = rw (runs cut) at (cut .before .before .pre .1) in
     (cut .turn-of .ensures .1, search needs, room-right _ (rise _ _) (fall _ _) _ _ _ room (rose .write-up .ensures .0) (rose .write-up .kept .0))
-
-same-length : tie.Need-same-length
-same-length c = search needs
 
 returns : tie.Need-returns
 returns c =
@@ -55,8 +46,7 @@ write-turned-spec =
     (tie.spec
     turn-of-requires
     write-up-requires
-    mul-write-down
-    sub-write-down
+    (λ c. search needs) (λ c. search needs)
     write-down-requires
-    same-length
+    (λ c. search needs)
     returns)

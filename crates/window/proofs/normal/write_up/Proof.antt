@@ -17,26 +17,11 @@ abbrev μ-loop : tie.MeasureT-loop
 loop-holds : tie.Need-loop-holds Inv-loop μ-loop
 loop-holds c = storing-all
 
-cast-out : tie.Need-cast-out Inv-loop μ-loop
-cast-out c = search needs
-
 slice-write-out : tie.Need-slice-write-out Inv-loop μ-loop
 slice-write-out c = storing-room (c .before .before .pre .1) (storing-up (c .loop-test .taken) (c .before .loop .inv))
 
-add-r : tie.Need-add-r Inv-loop μ-loop
-add-r c = search needs
-
-add-x : tie.Need-add-x Inv-loop μ-loop
-add-x c = search needs
-
-loop-less : tie.Need-loop-less Inv-loop μ-loop
-loop-less c = search needs
-
 loop-again : tie.Need-loop-again Inv-loop μ-loop
 loop-again c = storing-next (storing-up (c .loop-test .taken) (c .before .loop .inv))
-
-same-length : tie.Need-same-length Inv-loop μ-loop
-same-length c = search needs
 
 returns : tie.Need-returns Inv-loop μ-loop
 returns c = stored-up (c .loop-test .left) (c .before .loop .inv)
@@ -44,15 +29,11 @@ returns c = stored-up (c .loop-test .left) (c .before .loop .inv)
 pub write-up-spec : {M : Type 1} → statement M
 write-up-spec =
     tie.close
-    (tie.spec
-    Inv-loop
-    μ-loop
+    (tie.spec Inv-loop μ-loop
     loop-holds
-    cast-out
+    (λ c. search needs)
     slice-write-out
-    add-r
-    add-x
-    loop-less
+    (λ c. search needs) (λ c. search needs) (λ c. search needs)
     loop-again
-    same-length
+    (λ c. search needs)
     returns)

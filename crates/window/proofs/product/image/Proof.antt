@@ -30,12 +30,6 @@ returns c =
     let known = positive-index _ _ (c .before .if1 .taken) (start .pre .0) (start .fits .e) in
     image-positive _ _ _ (ap natAbs (byte-back (start .args .e) (start .fits .e))) (start .pre .1 .0) (known .0) (c .result .given)
 
-size-requires : tie.Need-size-requires
-size-requires c κs = search needs
-
-cast-p : tie.Need-cast-p
-cast-p c = search needs
-
 size-is : (c : tie.After-size) → c .size .result ≡ natAbs (c .before .before .args .e)
 size-is c = let start = c .before .before in c .size .ensures ∙ ap natAbs (byte-back (start .args .e) (start .fits .e))
 
@@ -44,9 +38,6 @@ sub-p c = omega (arith, size-is c)
 
 shared-slice-copy-out-x : tie.Need-shared-slice-copy-out-x
 shared-slice-copy-out-x c = omega (arith, size-is c)
-
-is-negative-requires : tie.Need-is-negative-requires
-is-negative-requires c κs = search needs
 
 sign-is : (c : tie.After-is-negative) → c .is-negative .result ≡ negative (c .before .before .before .before .args .e)
 sign-is c =
@@ -80,11 +71,10 @@ image-spec =
     sub-result
     shared-slice-copy-out-result
     returns
-    size-requires
-    cast-p
+    (λ c κs. search needs) (λ c. search needs)
     sub-p
     shared-slice-copy-out-x
-    is-negative-requires
+    (λ c κs. search needs)
     negated-requires
     returns-2
     returns-3)

@@ -34,23 +34,8 @@ bounds c =
     let turn = c .before .before in
     rw (size-is c) (entry-bounds _ _ _ _ (turn .before .before .pre .1 .0) (turn .loop-test .taken))
 
-loop-holds : tie.Need-loop-holds Inv-loop μ-loop
-loop-holds c = search needs
-
-shared-slice-copy-out-e : tie.Need-shared-slice-copy-out-e Inv-loop μ-loop
-shared-slice-copy-out-e c = search needs
-
-size-requires : tie.Need-size-requires Inv-loop μ-loop
-size-requires c κs = search needs
-
-cast-p : tie.Need-cast-p Inv-loop μ-loop
-cast-p c = search needs
-
 sub-p : tie.Need-sub-p Inv-loop μ-loop
 sub-p c = bounds c .0
-
-add-i : tie.Need-add-i Inv-loop μ-loop
-add-i c = search needs
 
 with-sign-requires : tie.Need-with-sign-requires Inv-loop μ-loop
 with-sign-requires c κs =
@@ -59,9 +44,6 @@ with-sign-requires c κs =
 
 slice-set-from-out : tie.Need-slice-set-from-out Inv-loop μ-loop
 slice-set-from-out c = let b = bounds (c .before) in omega arith
-
-loop-less : tie.Need-loop-less Inv-loop μ-loop
-loop-less c = search needs
 
 loop-again : tie.Need-loop-again Inv-loop μ-loop
 loop-again c =
@@ -73,9 +55,6 @@ loop-again c =
       held .2 ∙ scatter-step _ _ _ _ _ (turn .loop-test .taken) (sized .before .e .given) (c .with-sign .ok) (size-is sized) (c .with-sign .ensures),
     )
 
-same-length : tie.Need-same-length Inv-loop μ-loop
-same-length c = search needs
-
 returns : tie.Need-returns Inv-loop μ-loop
 returns c =
     let at-loop = c .before in
@@ -85,18 +64,13 @@ returns c =
 pub inverse-into-spec : {M : Type 1} → statement M
 inverse-into-spec =
     tie.close
-    (tie.spec
-    Inv-loop
-    μ-loop
-    loop-holds
-    shared-slice-copy-out-e
-    size-requires
-    cast-p
+    (tie.spec Inv-loop μ-loop
+    (λ c. search needs) (λ c. search needs) (λ c κs. search needs) (λ c. search needs)
     sub-p
-    add-i
+    (λ c. search needs)
     with-sign-requires
     slice-set-from-out
-    loop-less
+    (λ c. search needs)
     loop-again
-    same-length
+    (λ c. search needs)
     returns)

@@ -19,26 +19,11 @@ Inv-loop kind rank u v out₀ i₀ out i = (i ≤ length v) × (length out ≡ l
 abbrev μ-loop : tie.MeasureT-loop
 μ-loop kind rank u v out₀ i₀ out i = length v - i
 
-loop-holds : tie.Need-loop-holds Inv-loop μ-loop
-loop-holds c = search needs
-
-shared-slice-copy-out-image : tie.Need-shared-slice-copy-out-image Inv-loop μ-loop
-shared-slice-copy-out-image c = search needs
-
 image-requires : tie.Need-image-requires Inv-loop μ-loop
 image-requires c κs =
     let turn = c .before in
     let pre = turn .before .before .pre in
     image-asks _ _ _ _ _ (rank-accepted _ _ (pre .0) .1) (pre .1 .0) (pre .1 .1 .0) (turn .loop-test .taken) (c .image-arg .given)
-
-slice-set-from-out : tie.Need-slice-set-from-out Inv-loop μ-loop
-slice-set-from-out c = search needs
-
-add-i : tie.Need-add-i Inv-loop μ-loop
-add-i c = search needs
-
-loop-less : tie.Need-loop-less Inv-loop μ-loop
-loop-less c = search needs
 
 loop-again : tie.Need-loop-again Inv-loop μ-loop
 loop-again c =
@@ -49,9 +34,6 @@ loop-again c =
       at-loop .inv .2 ∙ product-step _ _ _ _ _ (turn .loop-test .taken) (c .before .image-arg .given) (c .image .ok) (c .image .ensures),
     )
 
-same-length : tie.Need-same-length Inv-loop μ-loop
-same-length c = search needs
-
 returns : tie.Need-returns Inv-loop μ-loop
 returns c =
     let at-loop = c .before in
@@ -60,15 +42,10 @@ returns c =
 pub product-into-spec : {M : Type 1} → statement M
 product-into-spec =
     tie.close
-    (tie.spec
-    Inv-loop
-    μ-loop
-    loop-holds
-    shared-slice-copy-out-image
+    (tie.spec Inv-loop μ-loop
+    (λ c. search needs) (λ c. search needs)
     image-requires
-    slice-set-from-out
-    add-i
-    loop-less
+    (λ c. search needs) (λ c. search needs) (λ c. search needs)
     loop-again
-    same-length
+    (λ c. search needs)
     returns)

@@ -10,12 +10,6 @@ use borrow.Author.Needs.{needs}
 use Rattle.window.proofs.shown.crossings_of_shown.Statement.{statement}
 use Rattle.window.proofs.shown.crossings_of_shown.Tie as tie
 
-entries-64-requires : tie.Need-entries-64-requires
-entries-64-requires c κs = search needs
-
-slice-aggregate-show-front : tie.Need-slice-aggregate-show-front
-slice-aggregate-show-front c = search needs
-
 show-front-requires : tie.Need-show-front-requires
 show-front-requires c κs =
     let made = c .before in
@@ -30,9 +24,6 @@ held c =
     let made = c .before .before in
     front-written _ _ (made .before .before .pre .0) _ _ _ (window-passes _ _ _) (made .entries-64 .ensures) (c .show-front .ensures)
 
-slice-aggregate-crossings-of-front : tie.Need-slice-aggregate-crossings-of-front
-slice-aggregate-crossings-of-front c = search needs
-
 crossings-of-front-requires : tie.Need-crossings-of-front-requires
 crossings-of-front-requires c κs =
     let called = c .before .before in
@@ -45,9 +36,8 @@ pub crossings-of-shown-spec : {M : Type 1} → statement M
 crossings-of-shown-spec =
     tie.close
     (tie.spec
-    entries-64-requires
-    slice-aggregate-show-front
+    (λ c κs. search needs) (λ c. search needs)
     show-front-requires
-    slice-aggregate-crossings-of-front
+    (λ c. search needs)
     crossings-of-front-requires
     returns)

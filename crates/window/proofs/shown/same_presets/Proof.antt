@@ -11,30 +11,15 @@ use borrow.Author.Needs.{needs}
 use Rattle.window.proofs.shown.same_presets.Statement.{statement}
 use Rattle.window.proofs.shown.same_presets.Tie as tie
 
-lanes-requires : tie.Need-lanes-requires
-lanes-requires c κs = search needs
-
-lanes-requires-2 : tie.Need-lanes-requires-2
-lanes-requires-2 c κs = search needs
-
 returns : tie.Need-returns
 returns c =
     let counted = c .before in
     lanes-differ _ _ _ _ _ _ _ _ (counted .before .lanes .ensures) (counted .lanes2 .ensures) (c .if1 .taken)
 
-entries-64-requires : tie.Need-entries-64-requires
-entries-64-requires c κs = search needs
-
-slice-aggregate-show-front : tie.Need-slice-aggregate-show-front
-slice-aggregate-show-front c = search needs
-
 show-front-requires : tie.Need-show-front-requires
 show-front-requires c κs =
     let pre = c .before .before .before .before .before .before .before .pre in
     (pre .0, (pre .1 .0, room _ _ (pre .0) (c .before .entries-64 .result) (c .before .entries-64 .ensures)))
-
-entries-64-requires-2 : tie.Need-entries-64-requires-2
-entries-64-requires-2 c κs = search needs
 
 -- what the first work window holds
 first : (c : tie.After-show-front)
@@ -43,9 +28,6 @@ first : (c : tie.After-show-front)
 first c =
     let made = c .before .before in
     front-written _ _ (made .before .before .before .before .before .before .pre .0) _ _ _ (window-passes _ _ _) (made .entries-64 .ensures) (c .show-front .ensures)
-
-slice-aggregate-show-front-2 : tie.Need-slice-aggregate-show-front-2
-slice-aggregate-show-front-2 c = search needs
 
 show-front-requires-2 : tie.Need-show-front-requires-2
 show-front-requires-2 c κs =
@@ -60,12 +42,6 @@ second c =
     let made = c .before .before in
     let pre = made .before .before .before .before .before .before .before .before .before .before .pre in
     front-written _ _ (pre .1 .1 .0) _ _ _ (window-passes _ _ _) (made .entries-642 .ensures) (c .show-front2 .ensures)
-
-slice-aggregate-same-fronts : tie.Need-slice-aggregate-same-fronts
-slice-aggregate-same-fronts c = search needs
-
-slice-aggregate-same-fronts-2 : tie.Need-slice-aggregate-same-fronts-2
-slice-aggregate-same-fronts-2 c = search needs
 
 same-fronts-requires : tie.Need-same-fronts-requires
 same-fronts-requires c κs =
@@ -92,16 +68,12 @@ pub same-presets-spec : {M : Type 1} → statement M
 same-presets-spec =
     tie.close
     (tie.spec
-    lanes-requires
-    lanes-requires-2
+    (λ c κs. search needs) (λ c κs. search needs)
     returns
-    entries-64-requires
-    slice-aggregate-show-front
+    (λ c κs. search needs) (λ c. search needs)
     show-front-requires
-    entries-64-requires-2
-    slice-aggregate-show-front-2
+    (λ c κs. search needs) (λ c. search needs)
     show-front-requires-2
-    slice-aggregate-same-fronts
-    slice-aggregate-same-fronts-2
+    (λ c. search needs) (λ c. search needs)
     same-fronts-requires
     returns-2)

@@ -9,12 +9,6 @@ use borrow.Author.Needs.{needs}
 use Rattle.window.proofs.shown.show_front.Statement.{statement}
 use Rattle.window.proofs.shown.show_front.Tie as tie
 
-lanes-requires : tie.Need-lanes-requires
-lanes-requires c κs = search needs
-
-slice-relend-prefix-show : tie.Need-slice-relend-prefix-show
-slice-relend-prefix-show c = search needs
-
 slice-aggregate-show : tie.Need-slice-aggregate-show
 slice-aggregate-show c = sym (length-take-le _ _ (search needs))
 
@@ -22,9 +16,6 @@ show-requires : tie.Need-show-requires
 show-requires c κs =
     let start = c .before .before .before in
     (rank-accepted _ _ (start .pre .0), (length-take-le _ _ (search needs) ∙ c .before .lanes .ensures, start .pre .1 .0))
-
-same-length : tie.Need-same-length
-same-length c = search needs
 
 returns : tie.Need-returns
 returns c =
@@ -35,9 +26,8 @@ pub show-front-spec : {M : Type 1} → statement M
 show-front-spec =
     tie.close
     (tie.spec
-    lanes-requires
-    slice-relend-prefix-show
+    (λ c κs. search needs) (λ c. search needs)
     slice-aggregate-show
     show-requires
-    same-length
+    (λ c. search needs)
     returns)

@@ -8,15 +8,6 @@ use Rattle.window.proofs.shown.Fronts.{Front, room, front-written, part
 use Rattle.window.proofs.shown.show_inverse.Statement.{statement}
 use Rattle.window.proofs.shown.show_inverse.Tie as tie
 
-lanes-requires : tie.Need-lanes-requires
-lanes-requires c κs = search needs
-
-entries-64-requires : tie.Need-entries-64-requires
-entries-64-requires c κs = search needs
-
-slice-aggregate-show-front : tie.Need-slice-aggregate-show-front
-slice-aggregate-show-front c = search needs
-
 show-front-requires : tie.Need-show-front-requires
 show-front-requires c κs =
     let made = c .before in
@@ -53,9 +44,6 @@ inverse-into-requires c κs =
       (part-passes _ _ _ (pre .0) lanes _ _ (window-passes _ _ _) (held shown), rw (length-part _ _ _ (pre .0) lanes _ (held shown .0), lanes) (pre .1 .1)),
     )
 
-same-length : tie.Need-same-length
-same-length c = search needs
-
 returns : tie.Need-returns
 returns c =
     let called = c .before in
@@ -68,12 +56,10 @@ pub show-inverse-spec : {M : Type 1} → statement M
 show-inverse-spec =
     tie.close
     (tie.spec
-    lanes-requires
-    entries-64-requires
-    slice-aggregate-show-front
+    (λ c κs. search needs) (λ c κs. search needs) (λ c. search needs)
     show-front-requires
     array-share-prefix-work
     slice-aggregate-inverse-into
     inverse-into-requires
-    same-length
+    (λ c. search needs)
     returns)

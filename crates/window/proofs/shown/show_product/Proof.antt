@@ -8,15 +8,6 @@ use Rattle.window.proofs.shown.Fronts.{part-window, part-product, windo
 use Rattle.window.proofs.shown.show_product.Statement.{statement}
 use Rattle.window.proofs.shown.show_product.Tie as tie
 
-lanes-requires : tie.Need-lanes-requires
-lanes-requires c κs = search needs
-
-show-front-requires : tie.Need-show-front-requires
-show-front-requires c κs = search needs
-
-slice-relend-prefix-apply : tie.Need-slice-relend-prefix-apply
-slice-relend-prefix-apply c = search needs
-
 slice-aggregate-apply : tie.Need-slice-aggregate-apply
 slice-aggregate-apply c = sym (length-take-le _ _ (search needs))
 
@@ -26,9 +17,6 @@ apply-requires c κs =
     let pre = counted .before .before .before .pre in
     let part = part-window _ _ _ (pre .0) (counted .lanes .ensures) _ _ _ (pre .1 .1 .1) (c .before .before .show-front .ensures) in
     (rank-accepted _ _ (pre .0), (pre .1 .1 .0, rw part (window-passes _ _ _)))
-
-same-length : tie.Need-same-length
-same-length c = search needs
 
 returns : tie.Need-returns
 returns c =
@@ -41,10 +29,8 @@ pub show-product-spec : {M : Type 1} → statement M
 show-product-spec =
     tie.close
     (tie.spec
-    lanes-requires
-    show-front-requires
-    slice-relend-prefix-apply
+    (λ c κs. search needs) (λ c κs. search needs) (λ c. search needs)
     slice-aggregate-apply
     apply-requires
-    same-length
+    (λ c. search needs)
     returns)

@@ -24,23 +24,11 @@ returns c = sym (shortlex-of-ne _ _ (c .if1 .taken))
 loop-holds : tie.Need-loop-holds Inv-loop μ-loop
 loop-holds c = (zero-le, refl)
 
-shared-slice-read-a : tie.Need-shared-slice-read-a Inv-loop μ-loop
-shared-slice-read-a c = search needs
-
-shared-slice-read-b : tie.Need-shared-slice-read-b Inv-loop μ-loop
-shared-slice-read-b c = search needs
-
 returns-2 : tie.Need-returns-2 Inv-loop μ-loop
 returns-2 c =
     let turn = c .before .before .before in
     let same = turn .before .before .if1 .left in
     sym (shortlex-of-eq _ _ same ∙ turn .before .loop .inv .1 ∙ before-here _ _ _ same (turn .loop-test .taken) (c .if2 .taken))
-
-add-i : tie.Need-add-i Inv-loop μ-loop
-add-i c = search needs
-
-loop-less : tie.Need-loop-less Inv-loop μ-loop
-loop-less c = search needs
 
 loop-again : tie.Need-loop-again Inv-loop μ-loop
 loop-again c =
@@ -56,15 +44,11 @@ returns-3 c =
 pub is-shortlex-spec : {M : Type 1} → statement M
 is-shortlex-spec =
     tie.close
-    (tie.spec
-    Inv-loop
-    μ-loop
+    (tie.spec Inv-loop μ-loop
     returns
     loop-holds
-    shared-slice-read-a
-    shared-slice-read-b
+    (λ c. search needs) (λ c. search needs)
     returns-2
-    add-i
-    loop-less
+    (λ c. search needs) (λ c. search needs)
     loop-again
     returns-3)
