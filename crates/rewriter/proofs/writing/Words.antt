@@ -42,7 +42,10 @@ written-moved u d p l x o o′ h g m e f =
     let n : length (take p u ++ ((x ∷ s) ++ drop (p + l) u)) ≡ length u =
     rw (length-append (take p u) ((x ∷ s) ++ drop (p + l) u), length-append (x ∷ s) (drop (p + l) u), length-take-le p u (omega arith), length-drop (p + l) u)
     (omega (arith, k)) in
-    a ∙ sets-eq (x ∷ s) o p room ∙ rw (k, w, take-append-le p u r (omega arith), drop-append-le (p + l) u r g, ← n) (simp append-assoc (front-parts _ d _ _ refl refl))
+    let new : List ℕ = take p u ++ ((x ∷ s) ++ drop (p + l) u) in
+    let moved : take p o ++ ((x ∷ s) ++ drop (p + length (x ∷ s)) o) ≡ new ++ r =
+    rw (k, w, take-append-le p u r (omega arith), drop-append-le (p + l) u r g) (simp append-assoc) in
+    a ∙ sets-eq (x ∷ s) o p room ∙ moved ∙ front-parts new d (length u) new n refl
 
 -- ---- the word that a rule leaves
 
