@@ -17,6 +17,7 @@ use Rattle.coxeter.specs.Checks.{firstOf, check, _then_, wrongKind, tooLong, wr
 use Rattle.coxeter.specs.Calls.{Yields, writes}
 use Rattle.coxeter.proofs.Refusals.{then-zero, then-none, then-some, check-zero}
 use Rattle.coxeter.proofs.Writes.{length-or-refused}
+use Rattle.coxeter.proofs.AnswersExactly.{answerOf-exactly}
 use Rattle.book_format.specs.declared.Edition.{Edition}
 use Rattle.book_format.specs.declared.Edition.the-variants.{First}
 use Rattle.book_format.specs.Books.{wrongSize, wrongCount, misplaced, wrongRankInBook, tooLarge}
@@ -27,7 +28,7 @@ use Rattle.book_format.proofs.BookLaws.{accepted}
 use Rattle.book_format.proofs.RankLaws.{bookRank-accepted}
 use Rattle.book_format.proofs.WritingLaws.{length-appended, append-size, appendRefusal-rank, appendRefusal-retired, appendRefusal-large}
 use Rattle.book_format.proofs.AppendedBytes.{length-laid-out}
-use Rattle.book_format.proofs.Numbers.{then-late, then-early, check-other, check-holds, firstOf-then, answerOf-refused, rank-other, word-other}
+use Rattle.book_format.proofs.Numbers.{then-late, then-early, check-other, check-holds, firstOf-then, rank-other, word-other}
 use Rattle.book_format.proofs.Outcomes.{appendRefusal-firstOf, bookRefusal-le}
 use Rattle.book_format.proofs.Unchanged.{appending-unchanged}
 use Rattle.book_format.proofs.Retired.{retired-exactly, not-retired, rank-1-in-book}
@@ -40,7 +41,7 @@ module _ (ed : Edition) (b : List ℕ) (k n : ℕ) (u before after : List ℕ) (
   unfolding appending writes
   append-refusal r =
       let s = appendRefusal ed b k n u then check 14 (tooShort (length (appended ed b k n u)) before) in
-      let q = answerOf-refused s (length (appended ed b k n u)) r in
+      let q = answerOf-exactly s (length (appended ed b k n u)) .0 r in
       (λ e. q .0 (sym (c .0) ∙ e), λ p. c .0 ∙ q .1 p)
 
   -- CO3, I28: the number of the first test that holds, 21 after 8

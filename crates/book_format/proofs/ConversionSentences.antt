@@ -20,6 +20,7 @@ use Rattle.coxeter.specs.Calls.{Yields, writes}
 use Rattle.coxeter.proofs.Refusals.{then-none, then-some}
 use Rattle.coxeter.proofs.Writes.{length-or-refused}
 use Rattle.coxeter.proofs.TestLaws.{zero-not-one}
+use Rattle.coxeter.proofs.AnswersExactly.{answerOf-exactly}
 use Rattle.book_format.specs.declared.Edition.{Edition}
 use Rattle.book_format.specs.declared.Edition.the-variants.{First, Second}
 use Rattle.book_format.specs.Books.{count, offset, kindAt, rankAt, lanesAt, lettersAt, wrongSize}
@@ -29,7 +30,7 @@ use Rattle.book_format.specs.Calls.{checkedPreset}
 use Rattle.book_format.specs.Conversion.{converted, tooManyLanes, recordConversionRefusal, recordsConversionRefusal}
 use Rattle.book_format.specs.Conversion.{conversionRefusal, converting, recordTests, recordsTests}
 use Rattle.book_format.proofs.BookLaws.{accepted}
-use Rattle.book_format.proofs.Numbers.{then-late, then-early, check-other, check-holds, answerOf-refused, rank-other, word-other}
+use Rattle.book_format.proofs.Numbers.{then-late, then-early, check-other, check-holds, rank-other, word-other}
 use Rattle.book_format.proofs.Outcomes.{recordConversionRefusal-firstOf, conversionRefusal-firstOf, converting-firstOf, bookRefusal-le, first-lane-count}
 use Rattle.book_format.proofs.Unchanged.{converting-unchanged}
 use Rattle.book_format.proofs.ConversionRecords.{at-record, records-stop, records-pass, records-refused, records-each, passes-tests}
@@ -48,7 +49,7 @@ too-large-exactly l = (ltb-true 65535 l, lt-ltb 65535 l)
 -- C18: a record has too many lanes to go back exactly if it is one of the second edition with more than 32
 pub many-lanes-exactly : (ed : Edition) (b : List ℕ) (o : ℕ) → (tooManyLanes ed b o ≡ true) ↔ ((ed ≡ Second) × (32 < lanesAt ed b o))
 unfolding tooManyLanes
-many-lanes-exactly First b o = (λ e. absurd (true≢false (sym e)), λ t. let e = t .0 in absurd (zero-not-one (cc)))
+many-lanes-exactly First b o = (λ e. absurd (true≢false (sym e)), λ t. let e = t .0 in zero-not-one (cc))
 many-lanes-exactly Second b o = (λ e. (refl, ltb-true 32 (lanesAt Second b o) e), λ t. lt-ltb 32 (lanesAt Second b o) (t .1))
 
 -- ---- converting
@@ -66,7 +67,7 @@ module _ (ed : Edition) (b before after : List ℕ) (a : Answer) (c : Yields (co
       ≡ r)
       × (r ≡ 0 → ⊥))
   convert-refused r =
-      let q = answerOf-refused _ (length (converted ed b)) r in
+      let q = answerOf-exactly _ (length (converted ed b)) .0 r in
       let e = c .0 ∙ converting-firstOf ed b before in
       (λ s. q .0 (sym e ∙ s), λ p. e ∙ q .1 p)
 
@@ -91,7 +92,7 @@ module _ (ed : Edition) (b before after : List ℕ) (a : Answer) (c : Yields (co
   unfolding converting writes
   convert-refusal r =
       let s = conversionRefusal ed b then check 14 (tooShort (length (converted ed b)) before) in
-      let q = answerOf-refused s (length (converted ed b)) r in
+      let q = answerOf-exactly s (length (converted ed b)) .0 r in
       (λ e. q .0 (sym (c .0) ∙ e), λ p. c .0 ∙ q .1 p)
 
   refused-with : (r : ℕ) → conversionRefusal ed b ≡ r → (r ≡ 0 → ⊥) → (a ≡ Refused r) × (after ≡ before)

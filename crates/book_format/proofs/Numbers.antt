@@ -2,19 +2,15 @@
 --
 -- Sections: two refusals; lists of tests; an answer; checks 5 to 8.
 -- Assumes nothing.
-use mathlib.Core.Path.{_≡_, refl, sym, ap, _∙_}
+use mathlib.Core.Path.{_≡_, refl, sym, _∙_}
 use mathlib.Core.Bool.{Bool, true, false, true≢false}
-use mathlib.Core.Logic.{_↔_}
 use mathlib.Core.List.{List, [], _∷_, _++_}
 use Prim.Native.Nat.{ℕ, _<_}
 use native.Mathlib.Decide.{ℕ-discrete}
 use native.Mathlib.Omega.{arith}
-use borrow.Author.Tests.{eq-eqb, ne-eqb}
-use Rattle.coxeter.specs.declared.Answer.the-variants.{Length, Refused}
 use Rattle.coxeter.specs.Kinds.{kindOf}
 use Rattle.coxeter.specs.Checks.{firstOf, check, _then_, wrongKind, tooLong, wrongLetter, wordRefusal}
-use Rattle.coxeter.specs.Calls.{answerOf}
-use Rattle.coxeter.proofs.Refusals.{then-none, then-some, refused-exactly}
+use Rattle.coxeter.proofs.Refusals.{then-none, then-some}
 use Rattle.book_format.specs.declared.Edition.{Edition}
 use Rattle.book_format.specs.Books.{wrongRankInBook, bookRankRefusal}
 
@@ -57,21 +53,6 @@ pub firstOf-then : (fs : List (ℕ × Bool)) (m : ℕ) (t : Bool) → Numbered f
 firstOf-then [] m t n = refl
 firstOf-then ((x, true) ∷ fs) m t n = then-some x (check m t) (n .0)
 firstOf-then ((x, false) ∷ fs) m t n = firstOf-then fs m t (n .1)
-
--- ---- an answer
-
--- what an answer says of its refusal
-pub answerOf-refused : (s l r : ℕ) → (answerOf s l ≡ Refused r) ↔ ((s ≡ r) × (r ≡ 0 → ⊥))
-unfolding answerOf
-answerOf-refused s l r = refused-exactly Refused (Length l) s r (λ e. cc) (λ e. let z : _≡_ {A = ℕ} 0 1 = cc in omega arith)
-
--- and of its length
-pub answerOf-length : (s l m : ℕ) → (answerOf s l ≡ Length m) ↔ ((s ≡ 0) × (m ≡ l))
-unfolding answerOf
-answerOf-length s l m = elim (ℕ-discrete s 0) [
-  | yes z ↦ rw (eq-eqb s 0 z) (λ e. (z, cc), λ p. ap Length (sym (p .1)))
-  | no f ↦ rw (ne-eqb s 0 f) (λ e. absurd (let z : _≡_ {A = ℕ} 0 1 = cc in omega arith), λ p. absurd (f (p .0)))
-]
 
 -- ---- checks 5 to 8
 

@@ -22,6 +22,7 @@ use Rattle.book_format.specs.Calls.{openedOf, presetOf, checkedBook, pre
 use Rattle.book_format.proofs.RankLaws.{bookRank-accepted}
 use Rattle.book_format.proofs.BookLaws.{Accepted, accepted, trailer-le, endAt-offset-le}
 use Rattle.coxeter.proofs.Refusals.{then-zero, check-zero, then-none, then-some}
+use Rattle.coxeter.proofs.TestLaws.{zero-not-one}
 
 -- ---- answers
 
@@ -42,8 +43,7 @@ presets-opened ed b c e = elim (ℕ-discrete (bookRefusal ed b) 0) [
       (z, cc)
   | no f ↦
       let q : opened.Presets c ≡ opened.Refused (bookRefusal ed b) = e ∙ rw (ne-eqb (bookRefusal ed b) 0 f) in
-      let y : _≡_ {A = ℕ} 0 1 = cc in
-      absurd (omega arith)
+      zero-not-one (cc)
 ]
 
 presetAt-refused : (ed : Edition) (b : List ℕ) (o r : ℕ) → (r ≡ 0 → ⊥) → presetAt ed r b o ≡ preset.Refused r
@@ -96,8 +96,7 @@ record-found ed b o k n s l e = elim (ℕ-discrete (recordRefusal ed b o) 0) [ y
     never : (recordRefusal ed b o ≡ 0 → ⊥) → ⊥
     never f =
         let q : preset.Found k n s l ≡ preset.Refused (recordRefusal ed b o) = e ∙ presetAt-refused ed b o (recordRefusal ed b o) f in
-        let z : _≡_ {A = ℕ} 0 1 = cc in
-        omega arith
+        zero-not-one (cc)
 
 pub record-refused : (ed : Edition) (b : List ℕ) (o r : ℕ) → preset.Refused r ≡ checkedRecord ed b o → (recordRefusal ed b o ≡ r) × (r ≡ 0 → ⊥)
 unfolding checkedRecord
@@ -112,8 +111,7 @@ record-refused ed b o r e = elim (ℕ-discrete (recordRefusal ed b o) 0) [ yes z
     never z =
         let q : preset.Refused r ≡ preset.Found (kindAt b o) (rankAt b o) (o + headSize ed) (letterCountAt ed b o) =
         e ∙ presetAt-found ed b o (recordRefusal ed b o) z in
-        let y : _≡_ {A = ℕ} 0 1 = cc in
-        omega arith
+        zero-not-one (cc)
 
 -- ---- presets by their number
 
@@ -162,16 +160,14 @@ found ed b i k n s l e = elim (ℕ-discrete (presetRefusal ed b i) 0) [ yes z �
     never : (presetRefusal ed b i ≡ 0 → ⊥) → ⊥
     never f =
         let q : preset.Found k n s l ≡ preset.Refused (presetRefusal ed b i) = e ∙ presetAt-refused ed b (offset b i) (presetRefusal ed b i) f in
-        let z : _≡_ {A = ℕ} 0 1 = cc in
-        omega arith
+        zero-not-one (cc)
 
 pub refused : (ed : Edition) (b : List ℕ) (i r : ℕ) → preset.Refused r ≡ checkedPreset ed b i → presetRefusal ed b i ≡ 0 → ⊥
 unfolding checkedPreset
 refused ed b i r e z =
     let q : preset.Refused r ≡ preset.Found (kindAt b (offset b i)) (rankAt b (offset b i)) (offset b i + headSize ed) (letterCountAt ed b (offset b i)) =
     e ∙ presetAt-found ed b (offset b i) (presetRefusal ed b i) z in
-    let y : _≡_ {A = ℕ} 0 1 = cc in
-    omega arith
+    zero-not-one (cc)
 
 pub refused-is : (ed : Edition) (b : List ℕ) (i r : ℕ) → preset.Refused r ≡ checkedPreset ed b i → r ≡ presetRefusal ed b i
 unfolding checkedPreset

@@ -20,6 +20,7 @@ use Rattle.coxeter.specs.Kinds.{A, B, D, pick, kindOf, lanes}
 use Rattle.coxeter.specs.Checks.{firstOf, check, _then_, wrongKind, tooLong, wrongLetter, rankRefusal, wordRefusal, WordOf}
 use Rattle.coxeter.specs.Calls.{Yields}
 use Rattle.coxeter.proofs.Refusals.{then-zero, check-zero}
+use Rattle.coxeter.proofs.TestLaws.{zero-not-one}
 use Rattle.book_format.specs.declared.Edition.{Edition}
 use Rattle.book_format.specs.declared.Edition.the-variants.{First, Second}
 use Rattle.book_format.specs.declared.Opened.the-variants as opened
@@ -108,7 +109,7 @@ opening-refused ed b r = (
 )
   where
     never : opened.Presets (count b) ≡ opened.Refused r → ⊥
-    never e = let z : _≡_ {A = ℕ} 0 1 = cc in omega arith
+    never e = zero-not-one (cc)
 
 -- C1: for these lengths, and for nothing else
 pub refused-1-exactly : (ed : Edition) (b : List ℕ) → (checkedBook ed b ≡ opened.Refused 1) ↔ ((length b ≡ 1) ⊎ (65535 < length b))

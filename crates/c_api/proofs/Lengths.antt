@@ -32,6 +32,7 @@ use Rattle.coxeter.proofs.Products.{length-product, window-append}
 use Rattle.coxeter.proofs.Inverses.{length-inverse, inverse-accepted}
 use Rattle.coxeter.proofs.PairWeights.{windowLength-le-4096}
 use Rattle.coxeter.proofs.Lengths.{length-normalForm}
+use Rattle.coxeter.proofs.TestLaws.{zero-not-one}
 use Rattle.rules.specs.declared.Rewrite.{Rewrite}
 use Rattle.rules.specs.declared.Rewrite.the-variants.{Used, Refused}
 use Rattle.rules.specs.Calls.{pastEnd, rewriteAt, Rewrote, single}
@@ -104,8 +105,7 @@ answerOf-small r m h l e = elim (ℕ-discrete r 0) [
       omega (arith, h z)
   | no f ↦
       let q : answer.Refused r ≡ answer.Length l = rw (ne-eqb r 0 f) at e in
-      let y : _≡_ {A = ℕ} 0 1 = cc in
-      absurd (omega arith)
+      zero-not-one (cc)
 ]
 
 writes-small : {X : Type 0} (r : ℕ) (l out : List X) → (r ≡ 0 → length l ≤ 65535) → Small (writes r l out .answer)
@@ -200,8 +200,7 @@ rewrote-small k n u p before after a w f i j l e =
           by-rule (record { rank = x .0; word = y .0 })
       | no g ↦
           let q : Refused r ≡ Used f i j l = sym (rw (ne-eqb r 0 g) at (w .answer)) ∙ e in
-          let y : _≡_ {A = ℕ} 0 1 = cc in
-          absurd (omega arith)
+          zero-not-one (cc)
     ]
   where
     by-rule : AcceptedWord k n u → l ≤ 65535
@@ -225,8 +224,7 @@ delayTable-small k n counts entries letters a b l e =
           omega (arith, form-small (then-zero (tableRefusal k n) (roomRefusal d w u counts entries letters) z .0))
       | no f ↦
           let q : table.Refused r ≡ table.Written a b l = rw (ne-eqb r 0 f) at e in
-          let y : _≡_ {A = ℕ} 0 1 = cc in
-          absurd (omega arith)
+          zero-not-one (cc)
     ]
   where
     form-small : tableRefusal k n ≡ 0 → length (normalForm (kindOf k) n (longest (kindOf k) n)) ≤ 4096
@@ -261,8 +259,7 @@ presets-small ed b a c e q = elim (ℕ-discrete (bookRefusal ed b) 0) [
       omega arith
   | no f ↦
       let p : opened.Refused (bookRefusal ed b) ≡ opened.Presets c = sym (rw (ne-eqb (bookRefusal ed b) 0 f) at e) ∙ q in
-      let y : _≡_ {A = ℕ} 0 1 = cc in
-      absurd (omega arith)
+      zero-not-one (cc)
 ]
 
 -- a sentence has at most 255 characters

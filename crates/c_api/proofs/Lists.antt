@@ -4,9 +4,10 @@
 --
 -- Sections: the numbers of an answer; a list with room; a list without; refusals.
 -- Assumes nothing.
-use mathlib.Core.Path.{_≡_, refl}
+use mathlib.Core.Path.{_≡_, refl, ap, _∙_}
 use mathlib.Core.Bool.{Bool, true, false}
 use mathlib.Core.List.{List, [], _∷_}
+use mathlib.Core.Logic.{_⊎_, inl, inr}
 use Prim.Native.Nat.{ℕ, suc, _+_, _≤_, _<_}
 use native.Mathlib.Decide.{ℕ-discrete}
 use native.Mathlib.Omega.{arith}
@@ -21,6 +22,7 @@ use Rattle.coxeter.specs.Kinds.{pick}
 use Rattle.coxeter.specs.Checks.{check, _then_, tooShort}
 use Rattle.coxeter.specs.Calls.{front}
 use Rattle.coxeter.proofs.FrontLaws.{sets-front}
+use Rattle.coxeter.proofs.TestLaws.{zero-not-one}
 use Rattle.rules.specs.declared.Rewrite.{Rewrite}
 use Rattle.rules.specs.declared.Rewrite.the-variants as rewrite
 use Rattle.shortest_words.specs.declared.Split.{Split}
@@ -35,15 +37,20 @@ use Rattle.c_api.specs.Calls.{refused, crossingNumbers, traceNumbers, sp
 
 -- ---- the numbers of an answer
 
--- a negative number alone, or a number 0 or more with m numbers for the list
-pub data Numbers (m : ℕ) : ℤ × List ℕ → Type 0 where
-  alone : (k : ℕ) → Numbers m (refused k, [])
-  more : (p : ℕ) (l : List ℕ) → length l ≡ m → Numbers m (pos p, l)
+-- the numbers of an answer a: a negative number alone, and then P says which answers a is, or a number 0 or more with m
+-- numbers for the list
+pub data Numbers {A : Type 0} (P : A → Type 0) (m : ℕ) (a : A) : ℤ × List ℕ → Type 0 where
+  alone : (k : ℕ) → P a → Numbers P m a (refused k, [])
+  more : (p : ℕ) (l : List ℕ) → length l ≡ m → Numbers P m a (pos p, l)
 
-pub crossing-numbers : (a : Counted) → Numbers 3 (crossingNumbers a)
+-- a is a refusal
+abbrev pub IsRefusal : {A : Type 0} → (ℕ → A) → A → Type 0
+IsRefusal refuse a = (r : ℕ) × (a ≡ refuse r)
+
+pub crossing-numbers : (a : Counted) → Numbers (IsRefusal counted.Refused) 3 a (crossingNumbers a)
 unfolding crossingNumbers
 crossing-numbers (counted.Crossings a b c) = more (a + b + c) (a ∷ b ∷ c ∷ []) refl
-crossing-numbers (counted.Refused k) = alone k
+crossing-numbers (counted.Refused k) = alone k (k, refl)
 
 -- I19, IC4: a single rewrite's answer as such numbers: the new length with family, i and j; −100 is none fits
 unfoldable pub rewriteNumbers : Rewrite → ℤ × List ℕ
@@ -51,31 +58,31 @@ rewriteNumbers (rewrite.Used f i j l) = (pos l, f ∷ i ∷ j ∷ [])
 rewriteNumbers rewrite.NoneFits = (refused 100, [])
 rewriteNumbers (rewrite.Refused k) = (refused k, [])
 
-pub rewrite-numbers : (a : Rewrite) → Numbers 3 (rewriteNumbers a)
+pub rewrite-numbers : (a : Rewrite) → Numbers (λ x. (x ≡ rewrite.NoneFits) ⊎ IsRefusal rewrite.Refused x) 3 a (rewriteNumbers a)
 unfolding rewriteNumbers
 rewrite-numbers (rewrite.Used f i j l) = more l (f ∷ i ∷ j ∷ []) refl
-rewrite-numbers rewrite.NoneFits = alone 100
-rewrite-numbers (rewrite.Refused k) = alone k
+rewrite-numbers rewrite.NoneFits = alone 100 (inl refl)
+rewrite-numbers (rewrite.Refused k) = alone k (inr (k, refl))
 
-pub trace-numbers : (a : ToEnd) → Numbers 1 (traceNumbers a)
+pub trace-numbers : (a : ToEnd) → Numbers (IsRefusal toEnd.Refused) 1 a (traceNumbers a)
 unfolding traceNumbers
 trace-numbers (toEnd.Ended s l) = more s (l ∷ []) refl
-trace-numbers (toEnd.Refused k) = alone k
+trace-numbers (toEnd.Refused k) = alone k (k, refl)
 
-pub split-numbers : (a : Split) → Numbers 2 (splitNumbers a)
+pub split-numbers : (a : Split) → Numbers (IsRefusal split.Refused) 2 a (splitNumbers a)
 unfolding splitNumbers
 split-numbers (split.Words a b) = more (a + b) (a ∷ b ∷ []) refl
-split-numbers (split.Refused k) = alone k
+split-numbers (split.Refused k) = alone k (k, refl)
 
-pub table-numbers : (a : Table) → Numbers 3 (tableNumbers a)
+pub table-numbers : (a : Table) → Numbers (IsRefusal table.Refused) 3 a (tableNumbers a)
 unfolding tableNumbers
 table-numbers (table.Written c e l) = more l (c ∷ e ∷ l ∷ []) refl
-table-numbers (table.Refused k) = alone k
+table-numbers (table.Refused k) = alone k (k, refl)
 
-pub preset-numbers : (a : Preset) → Numbers 4 (presetNumbers a)
+pub preset-numbers : (a : Preset) → Numbers (IsRefusal preset.Refused) 4 a (presetNumbers a)
 unfolding presetNumbers
 preset-numbers (preset.Found k n s l) = more 4 (k ∷ n ∷ s ∷ l ∷ []) refl
-preset-numbers (preset.Refused k) = alone k
+preset-numbers (preset.Refused k) = alone k (k, refl)
 
 -- ---- a list with room
 
@@ -106,18 +113,10 @@ unfoldable pub roomless : ℤ × List ℕ → ℤ
 roomless (z, []) = z
 roomless (z, x ∷ l) = refused 14
 
-pub roomless-refused : {X : Type 0} (numbers : X → ℤ × List ℕ) (good : X) (bad : ℕ → X) (r : ℕ) → roomless (numbers good) ≡ refused 14
-    → roomless (numbers (bad r)) ≡ refused r → roomless (numbers (pick (eqb r 0) good (bad r))) ≡ refused (r then 14)
-roomless-refused numbers good bad r e f = cases (eqb r 0)
-  where
-    cases : (t : Bool) → roomless (numbers (pick t good (bad r))) ≡ refused (pick t 14 r)
-    cases true = e
-    cases false = f
-
-pub beside-roomless : {Outputs : Type 0} {m : ℕ} {x : ℤ × List ℕ} → Numbers m x → (new old : Outputs) (list : List ℕ) → 0 < m → length list < m
-    → (x .1 ≡ [] → new ≡ old) → listedBeside x new old list ≡ (roomless x, (old, list))
+pub beside-roomless : {Outputs A : Type 0} {P : A → Type 0} {m : ℕ} {a : A} {x : ℤ × List ℕ} → Numbers P m a x → (new old : Outputs) (list : List ℕ)
+    → 0 < m → length list < m → (P a → new ≡ old) → listedBeside x new old list ≡ (roomless x, (old, list))
 unfolding front listedBeside tooShort roomless
-beside-roomless (alone k) new old list p h same = rw (le-ltb (length list) 0 (omega arith), same refl)
+beside-roomless (alone k e) new old list p h same = rw (le-ltb (length list) 0 (omega arith), same e)
 beside-roomless (more s [] e) new old list p h same = absurd (omega arith)
 beside-roomless (more s (x ∷ l) e) new old list p h same = rw (lt-ltb (length list) (length (x ∷ l)) (omega arith))
 
@@ -133,25 +132,36 @@ pub room-more : (t : Bool) (s : ℕ) → (s then 14) ≡ 14 → ((check 14 t the
 room-more true s h = refl
 room-more false s h = h
 
+-- the number of an answer that is good, or a refusal by q or by check 14 of the outputs, which is t
+pub roomless-answer : {A : Type 0} (numbers : A → ℤ × List ℕ) (good : A) (refuse : ℕ → A) (q t : ℕ) → roomless (numbers good) ≡ refused 14
+    → ((r : ℕ) → roomless (numbers (refuse r)) ≡ refused r) → (t then 14) ≡ 14
+    → roomless (numbers (pick (eqb (q then t) 0) good (refuse (q then t)))) ≡ refused (q then 14)
+roomless-answer numbers good refuse q t e f h = cases (eqb (q then t) 0) ∙ ap refused (room-then q t h)
+  where
+    cases : (b : Bool) → roomless (numbers (pick b good (refuse (q then t)))) ≡ refused (pick b 14 (q then t))
+    cases true = e
+    cases false = f (q then t)
+
 -- ---- refusals
 
-pub listed-unchanged : {m : ℕ} {x : ℤ × List ℕ} → Numbers m x → (list : List ℕ) (r : ℕ) → listed x list .0 ≡ refused (suc r) → listed x list .1 ≡ list
+pub listed-unchanged : {A : Type 0} {P : A → Type 0} {m : ℕ} {a : A} {x : ℤ × List ℕ} → Numbers P m a x → (list : List ℕ) (r : ℕ)
+    → listed x list .0 ≡ refused (suc r) → listed x list .1 ≡ list
 unfolding front listed tooShort refused
-listed-unchanged (alone k) list r h = rw (le-ltb (length list) 0 (omega arith))
+listed-unchanged (alone k e) list r h = rw (le-ltb (length list) 0 (omega arith))
 listed-unchanged (more p l e) list r h = cases (tooShort (length l) list) h
   where
     cases : (t : Bool) → let o = pick {X = ℤ × List ℕ} t (refused 14, list) (pos p, front l list) in
         o .0 ≡ refused (suc r) → o .1 ≡ list
     cases true h = refl
-    cases false h = let z : _≡_ {A = ℕ} 0 1 = cc in absurd (omega arith)
+    cases false h = zero-not-one (cc)
 
-pub beside-unchanged : {Outputs : Type 0} {m : ℕ} {x : ℤ × List ℕ} → Numbers m x → (new old : Outputs) (list : List ℕ) (r : ℕ)
-    → (x .1 ≡ [] → new ≡ old) → listedBeside x new old list .0 ≡ refused (suc r) → listedBeside x new old list .1 ≡ (old, list)
+pub beside-unchanged : {Outputs A : Type 0} {P : A → Type 0} {m : ℕ} {a : A} {x : ℤ × List ℕ} → Numbers P m a x → (new old : Outputs) (list : List ℕ) (r : ℕ)
+    → (P a → new ≡ old) → listedBeside x new old list .0 ≡ refused (suc r) → listedBeside x new old list .1 ≡ (old, list)
 unfolding front listedBeside tooShort refused
-beside-unchanged {Outputs} (alone k) new old list r same h = rw (le-ltb (length list) 0 (omega arith), same refl)
+beside-unchanged {Outputs} (alone k e) new old list r same h = rw (le-ltb (length list) 0 (omega arith), same e)
 beside-unchanged {Outputs} (more p l e) new old list r same h = cases (tooShort (length l) list) h
   where
     cases : (t : Bool) → let o = pick {X = ℤ × (Outputs × List ℕ)} t (refused 14, (old, list)) (pos p, (new, front l list)) in
         o .0 ≡ refused (suc r) → o .1 ≡ (old, list)
     cases true h = refl
-    cases false h = let z : _≡_ {A = ℕ} 0 1 = cc in absurd (omega arith)
+    cases false h = zero-not-one (cc)

@@ -61,16 +61,19 @@ pub beside-exactly : {Outputs : Type 0} (z : ℤ) (l : List ℕ) (new old : Outp
     → (length l ≤ length list → listedBeside (z, l) new old list ≡ (z, (new, l ++ drop (length l) list)))
     × (length list < length l → listedBeside (z, l) new old list ≡ (refused 14, (old, list)))
 unfolding listedBeside tooShort
-beside-exactly z l new old list = (λ h. rw (le-ltb (length list) (length l) h, front-parts l list (length l) l refl refl), λ h. rw (lt-ltb (length list) (length l) h))
+beside-exactly z l new old list = (
+  λ h. rw (le-ltb (length list) (length l) h, front-parts l list (length l) l refl refl),
+  λ h. rw (lt-ltb (length list) (length l) h),
+)
 
 -- ---- no fallback
 
 -- only `No` has the number −101, of answers that are not refused with 101
 no-of-101 : (a : Fallback) → (a ≡ Refused 101 → ⊥) → fallbackNumber a ≡ refused 101 → a ≡ No
 unfolding fallbackNumber refused
-no-of-101 (Kept l) f e = absurd (zero-not-one (cc))
+no-of-101 (Kept l) f e = zero-not-one (cc)
 no-of-101 No f e = refl
-no-of-101 (Refused zero) f e = absurd (zero-not-one (cc))
+no-of-101 (Refused zero) f e = zero-not-one (cc)
 no-of-101 (Refused (suc r)) f e = let q : r ≡ 100 = cc in absurd (f (ap (λ (c : ℕ). Refused (suc c)) q))
 
 -- no check has the number 101

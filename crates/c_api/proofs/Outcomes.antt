@@ -7,6 +7,7 @@ use mathlib.Core.Path.{_≡_, refl, _∙_}
 use mathlib.Core.Bool.{Bool, true, false}
 use mathlib.Core.List.{List, [], _∷_, _++_}
 use mathlib.Core.Option.{Option, none, some}
+use mathlib.Core.Logic.{_⊎_, ⊎-elim}
 use Prim.Native.Nat.{ℕ, _+_, _≤_, _<_}
 use native.Mathlib.Nat.{lt-of-not-le}
 use native.Mathlib.Decide.{decLe}
@@ -29,7 +30,7 @@ use Rattle.rules.proofs.Unchanged.{rewrite-refused-unchanged, rewrite-noneFits-
 use Rattle.book_format.specs.declared.Preset.{Preset}
 use Rattle.book_format.specs.declared.Preset.the-variants as preset
 use Rattle.c_api.specs.Calls.{refused, crossingNumbers, presetNumbers, listed, listedBeside, forC, rewriting}
-use Rattle.c_api.proofs.Lists.{roomless, rewriteNumbers, rewrite-numbers, listed-stored, listed-alone, listed-short, beside-stored, beside-alone, beside-roomless}
+use Rattle.c_api.proofs.Lists.{IsRefusal, roomless, rewriteNumbers, rewrite-numbers, listed-stored, listed-alone, listed-short, beside-stored, beside-alone, beside-roomless}
 
 -- ---- counts and fields
 
@@ -102,15 +103,11 @@ module _ (k n : ℕ) (u : List ℕ) (p : ℕ) (out after rule : List ℕ) (a : R
   unfolding rewriteNumbers
   rewriting-refused r q e = rw (rewriting-listed k n u p out rule, ← w .answer, ← w .outputs, q, ← e) (beside-alone z after out rule)
 
--- where nothing goes to the rule, nothing is written
-pub rewrite-still : (k n : ℕ) (u : List ℕ) (p : ℕ) (out : List ℕ) → rewriteNumbers (rewriteAt single k n u p out .answer) .1 ≡ [] → rewriteAt single k n u p out .outputs ≡ out
-unfolding rewriteNumbers
-rewrite-still k n u p out = cases (rewriteAt single k n u p out .answer) refl
-  where
-    cases : (a : Rewrite) → rewriteAt single k n u p out .answer ≡ a → rewriteNumbers a .1 ≡ [] → rewriteAt single k n u p out .outputs ≡ out
-    cases (Used f i j l) e h = let z : _≡_ {A = ℕ} 0 1 = cc in absurd (omega arith)
-    cases NoneFits e h = rewrite-noneFits-unchanged k n u p out e .0
-    cases (Refused r) e h = rewrite-refused-unchanged k n u p out r e .0
+-- a rewrite that is refused, or that finds that none fits, writes nothing
+pub rewrite-still : (k n : ℕ) (u : List ℕ) (p : ℕ) (out : List ℕ) → let a = rewriteAt single k n u p out .answer in
+    (a ≡ NoneFits) ⊎ IsRefusal Refused a → rewriteAt single k n u p out .outputs ≡ out
+rewrite-still k n u p out =
+    ⊎-elim (λ e. rewrite-noneFits-unchanged k n u p out e .0) (λ h. rewrite-refused-unchanged k n u p out (h .0) (h .1) .0)
 
 -- ---- a rule without room
 

@@ -2,11 +2,11 @@
 -- specification): when there is room for an answer, which numbers say that a rule was used, what such a call writes,
 -- and that one number bounds the uses by these calls and by single rewrites.
 -- Assumes nothing.
-use mathlib.Core.Path.{_≡_, refl, _∙_}
-use mathlib.Core.Bool.{Bool, true, false, true≢false, and-eq-true-iff}
+use mathlib.Core.Path.{_≡_, refl}
+use mathlib.Core.Bool.{true, and-eq-true-iff}
 use mathlib.Core.Logic.{_↔_}
 use mathlib.Core.List.{List, [], _∷_, _++_}
-use mathlib.Core.Option.{some, none, Option·none-ne-some}
+use mathlib.Core.Option.{some, Option·none-ne-some}
 use Prim.Native.Nat.{ℕ, _≤_}
 use lib.Dec.{leb}
 use lib.IntN.{ℤ, pos, negsuc}
@@ -16,12 +16,13 @@ use Rattle.rules.specs.Rules.{Rule}
 use Rattle.rules.specs.Calls.{single}
 use Rattle.rules.specs.Runs.{AcceptedWord, Call, Run, wordLeft, uses}
 use Rattle.rules.specs.Demand3.{Usable}
-use Rattle.rules.proofs.Calls.{told-apart, single-lawful}
+use Rattle.rules.proofs.Calls.{single-lawful}
 use Rattle.rules.proofs.Demand3.{one-number-of}
 use Rattle.rules.proofs.Sentences.{used-written}
 use Rattle.c_api.specs.Calls.{newWordIn, forC}
 use Rattle.c_api.proofs.Demand3.{forC-lawful, demand3-calls}
 use Rattle.coxeter.specs.Calls.{front}
+use Rattle.coxeter.proofs.TestLaws.{zero-not-one}
 
 -- C14, IC3: there is room exactly if the new word fits the one output and three numbers the other
 pub room-exactly : (out rule : List ℕ) (l : ℕ) → (forC .room (out, rule) l ≡ true) ↔ ((l ≤ length out) × (3 ≤ length rule))
@@ -36,7 +37,7 @@ room-exactly out rule l =
 pub new-word-exactly : (z : ℤ) (out rule w : List ℕ) → (forC .newWord z (out, rule) ≡ some w) ↔ ((l : ℕ) × (z ≡ pos l) × (w ≡ take l out))
 unfolding newWordIn
 new-word-exactly (pos l) out rule w = (λ e. (l, refl, cc), λ t. let q : l ≡ t .0 = let z = t .1 in cc in rw (t .2, q))
-new-word-exactly (negsuc r) out rule w = (λ e. absurd (Option·none-ne-some w e), λ t. let z = t .1 in told-apart (cc))
+new-word-exactly (negsuc r) out rule w = (λ e. absurd (Option·none-ne-some w e), λ t. let z = t .1 in zero-not-one (cc))
 
 module _ (k n : ℕ) (u : List ℕ) (h : AcceptedWord k n u) where
   -- R16, IC3: the number is the new length, the new word stands at the front of the output and the rule at the front

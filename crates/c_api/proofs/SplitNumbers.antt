@@ -3,7 +3,7 @@
 --
 -- Sections: the number; kinds and ranks; the lengths; lengths without room.
 -- Assumes nothing.
-use mathlib.Core.Path.{_≡_, refl, sym, ap, _∙_}
+use mathlib.Core.Path.{_≡_, refl, sym}
 use mathlib.Core.List.{List, [], _∷_}
 use Prim.Native.Nat.{ℕ, _+_, _≤_, _<_}
 use native.Mathlib.Omega.{arith}
@@ -22,11 +22,11 @@ use Rattle.shortest_words.specs.declared.Split.{Split}
 use Rattle.shortest_words.specs.declared.Split.the-variants.{Words, Refused}
 use Rattle.shortest_words.specs.Allowed.{allows, setRefusal}
 use Rattle.shortest_words.specs.Split.{firstWord, secondWord}
-use Rattle.shortest_words.specs.SplitCalls.{SplitOutcome, splitOf, splitOutcome, splitting, SplitYields}
+use Rattle.shortest_words.specs.SplitCalls.{splitOf, splitOutcome, splitting, SplitYields}
 use Rattle.shortest_words.proofs.Splits.{splitting-accepted, splitting-lengths, splitting-unchanged}
-use Rattle.c_api.specs.Calls.{refused, splitNumbers, listedBeside, splittingListed}
+use Rattle.c_api.specs.Calls.{refused, splitNumbers, splittingListed}
 use Rattle.c_api.proofs.Bytes.{Refusable}
-use Rattle.c_api.proofs.Lists.{split-numbers, roomless, roomless-refused, beside-stored, beside-alone, beside-roomless, room-then, room-last, room-more}
+use Rattle.c_api.proofs.Lists.{split-numbers, IsRefusal, roomless, roomless-answer, beside-stored, beside-alone, beside-roomless, room-last, room-more}
 
 -- ---- the number
 
@@ -40,27 +40,9 @@ splitting-small k n set u first second a b h =
 
 -- ---- kinds and ranks
 
-splitOutcome-alike : (r q : ℕ) (u v u′ v′ first second : List ℕ) → q ≡ r → (r ≡ 0 → ⊥) → splitOutcome q u v first second ≡ splitOutcome r u′ v′ first second
-unfolding splitOutcome splitOf written
-splitOutcome-alike r q u v u′ v′ first second e f = rw (e, ne-eqb r 0 f) (rw (ne-eqb r 0 f) refl)
-
-alike : (r q s t s′ t′ : ℕ) → q ≡ r → (r ≡ 0 → ⊥) → (((q then s) then t) ≡ ((r then s′) then t′)) × (((r then s′) then t′) ≡ 0 → ⊥)
-alike r q s t s′ t′ e f = rw (e, ne-eqb r 0 f) (rw (ne-eqb r 0 f) (refl, f))
-
-splitting-alike : (set : ℕ) (u first second : List ℕ) (k n l m : ℕ) → rankRefusal l m ≡ rankRefusal k n → (rankRefusal k n ≡ 0 → ⊥)
-    → splitting l m set u first second ≡ splitting k n set u first second
-unfolding splitting setRefusal
-splitting-alike set u first second k n l m e f =
-    let a = alike (rankRefusal k n) (rankRefusal l m) _ _ _ _ e f in
-    splitOutcome-alike _ _ _ _ _ _ first second (a .0) (a .1)
-
 pub splittingListed-refusable : (set : ℕ) (u first second lengths : List ℕ) → Refusable (λ k n. splittingListed k n set u first second lengths)
-unfolding splittingListed
-splittingListed-refusable set u first second lengths = record {
-  alike = λ k n l m e f.
-      ap (λ (p : SplitOutcome). listedBeside (splitNumbers (p .answer)) (p .first, p .second) (first, second) lengths)
-      (splitting-alike set u first second k n l m e f);
-}
+unfolding splittingListed splitting setRefusal splitOutcome splitOf written
+splittingListed-refusable set u first second lengths = record { alike = λ k n l m e f. simp (e, ne-eqb (rankRefusal k n) 0 f) }
 
 -- ---- the lengths
 
@@ -75,33 +57,23 @@ module _ (k n set : ℕ) (u first second lengths : List ℕ) (a : Split) (v w : 
   unfolding splittingListed splitNumbers
   splittingListed-refused r q e = rw (← y .0, ← y .1, ← y .2, q, ← e) (beside-alone z (v, w) (first, second) lengths)
 
--- where no length is given, nothing is written
-pub splitting-still : (k n set : ℕ) (u first second : List ℕ)
-    → let p = splitting k n set u first second in
-    splitNumbers (p .answer) .1 ≡ [] → _≡_ {A = List ℕ × List ℕ} (p .first, p .second) (first, second)
-unfolding splitNumbers
-splitting-still k n set u first second = cases (splitting k n set u first second .answer) refl
-  where
-    cases : (a : Split) → let p = splitting k n set u first second in
-        p .answer ≡ a → splitNumbers a .1 ≡ [] → _≡_ {A = List ℕ × List ℕ} (p .first, p .second) (first, second)
-    cases (Words l m) e h = let z : _≡_ {A = ℕ} 0 1 = cc in absurd (omega arith)
-    cases (Refused r) e h = let q = splitting-unchanged k n set u first second r e in rw (q .0, q .1)
+-- a refused split writes nothing
+pub splitting-still : (k n set : ℕ) (u first second : List ℕ) → let p = splitting k n set u first second in
+    IsRefusal Refused (p .answer) → _≡_ {A = List ℕ × List ℕ} (p .first, p .second) (first, second)
+splitting-still k n set u first second h = let q = splitting-unchanged k n set u first second (h .0) (h .1) in rw (q .0, q .1)
 
 -- ---- lengths without room
-
-number-without : (r l m : ℕ) → roomless (splitNumbers (splitOf r l m)) ≡ refused (r then 14)
-unfolding splitOf splitNumbers roomless
-number-without r l m = roomless-refused splitNumbers (Words l m) Refused r refl refl
 
 -- the number does not depend on the outputs
 roomless-splitting : (k n set : ℕ) (u first second : List ℕ)
     → roomless (splitNumbers (splitting k n set u first second .answer)) ≡ refused ((setRefusal k n set then wordRefusal n u) then 14)
-unfolding splitting splitOutcome
+unfolding splitting splitOutcome splitOf splitNumbers roomless
 roomless-splitting k n set u first second =
-    let q = setRefusal k n set then wordRefusal n u in
-    let s = tooShort (length (firstWord (allows set) (kindOf k) n (window (kindOf k) n u))) first in
-    let t = tooShort (length (secondWord (allows set) (kindOf k) n (window (kindOf k) n u))) second in
-    number-without _ _ _ ∙ ap refused (room-then q (check 14 s then check 14 t) (room-more s (check 14 t) (room-last t)))
+    let a = length (firstWord (allows set) (kindOf k) n (window (kindOf k) n u)) in
+    let b = length (secondWord (allows set) (kindOf k) n (window (kindOf k) n u)) in
+    let s = check 14 (tooShort b second) in
+    roomless-answer splitNumbers (Words a b) Refused (setRefusal k n set then wordRefusal n u) (check 14 (tooShort a first) then s) refl (λ r. refl)
+    (room-more (tooShort a first) s (room-last (tooShort b second)))
 
 pub splittingListed-roomless : (k n set : ℕ) (u first second lengths : List ℕ) (r : ℕ) (z : ℤ) → length lengths < 2
     → r ≡ (setRefusal k n set then wordRefusal n u) → z ≡ refused (r then 14)

@@ -20,17 +20,19 @@ use Rattle.coxeter.specs.declared.Answer.{Answer}
 use Rattle.coxeter.specs.declared.Answer.the-variants as answer
 use Rattle.coxeter.specs.Kinds.{kindOf}
 use Rattle.coxeter.specs.Checks.{check, _then_, tooShort, rankRefusal, wordRefusal}
-use Rattle.coxeter.specs.Calls.{answerOf, written}
-use Rattle.coxeter.proofs.Refusals.{then-some, then-assoc}
+use Rattle.coxeter.specs.Calls as calls
+use Rattle.coxeter.specs.Calls.{answerOf}
+use Rattle.coxeter.proofs.Refusals.{then-assoc}
+use Rattle.coxeter.proofs.TestLaws.{zero-not-one}
 use Rattle.traces.specs.declared.ToEnd.{ToEnd}
 use Rattle.traces.specs.declared.ToEnd.the-variants as toEnd
-use Rattle.traces.specs.Traces.{Trace, trace, tooFewPlaces, toEndOf, Traced, tracedBy, rewritingToEnd, numberOfSteps, TraceYields}
+use Rattle.traces.specs.Traces.{trace, tooFewPlaces, toEndOf, tracedBy, rewritingToEnd, numberOfSteps, TraceYields}
 use Rattle.traces.proofs.Unchanged.{toEnd-refused-unchanged}
 use Rattle.traces.proofs.Tracing.{steps-few}
 use Rattle.traces.proofs.StepBounds.{counted-steps, ended-steps}
-use Rattle.c_api.specs.Calls.{refused, traceNumbers, listedBeside, rewritingToEndListed}
+use Rattle.c_api.specs.Calls.{refused, traceNumbers, rewritingToEndListed}
 use Rattle.c_api.proofs.Bytes.{Refusable}
-use Rattle.c_api.proofs.Lists.{trace-numbers, roomless, roomless-refused, beside-stored, beside-alone, beside-roomless, room-then, room-last}
+use Rattle.c_api.proofs.Lists.{trace-numbers, IsRefusal, roomless, roomless-answer, beside-stored, beside-alone, beside-roomless, room-last}
 
 -- ---- numbers of steps
 
@@ -55,33 +57,10 @@ pub numberOfSteps-refusable : (u : List ℕ) → Refusable (λ k n. numberOfStep
 unfolding numberOfSteps answerOf
 numberOfSteps-refusable u = record { alike = λ k n l m e f. rw (e, ne-eqb (rankRefusal k n) 0 f) (rw (ne-eqb (rankRefusal k n) 0 f) refl) }
 
--- refused before check 15
-refused-traced : (r : ℕ) → (r ≡ 0 → ⊥) → (t : Trace) (families places lengths out : List ℕ)
-    → tracedBy r t families places lengths out
-    ≡ record { answer = toEnd.Refused r; families = families; places = places; lengths = lengths; bytes = out }
-unfolding tracedBy toEndOf written
-refused-traced r f t families places lengths out = rw (ne-eqb r 0 f) (rw (ne-eqb r 0 f) refl)
-
-rewritingToEnd-alike : (u families places lengths out : List ℕ) (k n l m : ℕ) → rankRefusal l m ≡ rankRefusal k n → (rankRefusal k n ≡ 0 → ⊥)
-    → rewritingToEnd l m u families places lengths out ≡ rewritingToEnd k n u families places lengths out
-unfolding rewritingToEnd
-rewritingToEnd-alike u families places lengths out k n l m e f =
-    let r = rankRefusal k n in
-    let a : (rankRefusal l m then wordRefusal m u) ≡ r = ap (λ (x : ℕ). x then wordRefusal m u) e ∙ then-some r (wordRefusal m u) f in
-    let b : (rankRefusal k n then wordRefusal n u) ≡ r = then-some r (wordRefusal n u) f in
-    ap (λ (q : ℕ). tracedBy q (trace (kindOf l) m u) families places lengths out) a
-    ∙ refused-traced r f (trace (kindOf l) m u) families places lengths out
-    ∙ sym (ap (λ (q : ℕ). tracedBy q (trace (kindOf k) n u) families places lengths out) b
-    ∙ refused-traced r f (trace (kindOf k) n u) families places lengths out)
-
 pub rewritingToEndListed-refusable : (u families places lengths out written : List ℕ)
     → Refusable (λ k n. rewritingToEndListed k n u families places lengths out written)
-unfolding rewritingToEndListed
-rewritingToEndListed-refusable u families places lengths out written = record {
-  alike = λ k n l m e f.
-      ap (λ (t : Traced). listedBeside (traceNumbers (t .answer)) (t .families, t .places, t .lengths, t .bytes) (families, places, lengths, out) written)
-      (rewritingToEnd-alike u families places lengths out k n l m e f);
-}
+unfolding rewritingToEndListed rewritingToEnd tracedBy toEndOf calls.written
+rewritingToEndListed-refusable u families places lengths out written = record { alike = λ k n l m e f. simp (e, ne-eqb (rankRefusal k n) 0 f) }
 
 -- ---- the final length
 
@@ -99,24 +78,15 @@ module _ (k n : ℕ) (u families places lengths out written : List ℕ) (a : ToE
   rewritingToEndListed-refused r q e =
       rw (← y .0, ← y .1, ← y .2, ← y .3, ← y .4, q, ← e) (beside-alone z (f, p, g, o) (families, places, lengths, out) written)
 
--- where no length is given, nothing is written
+-- a refused rewriting writes nothing
 pub rewritingToEnd-still : (k n : ℕ) (u families places lengths out : List ℕ) → let t = rewritingToEnd k n u families places lengths out in
-    traceNumbers (t .answer) .1 ≡ []
+    IsRefusal toEnd.Refused (t .answer)
     → _≡_ {A = List ℕ × List ℕ × List ℕ × List ℕ} (t .families, t .places, t .lengths, t .bytes) (families, places, lengths, out)
-unfolding traceNumbers
-rewritingToEnd-still k n u families places lengths out = cases (rewritingToEnd k n u families places lengths out .answer) refl
-  where
-    cases : (a : ToEnd) → let t = rewritingToEnd k n u families places lengths out in
-        t .answer ≡ a → traceNumbers a .1 ≡ []
-        → _≡_ {A = List ℕ × List ℕ × List ℕ × List ℕ} (t .families, t .places, t .lengths, t .bytes) (families, places, lengths, out)
-    cases (toEnd.Ended s l) e h = let z : _≡_ {A = ℕ} 0 1 = cc in absurd (omega arith)
-    cases (toEnd.Refused r) e h = let q = toEnd-refused-unchanged k n u families places lengths out r e in rw (q .0, q .1, q .2, q .3)
+rewritingToEnd-still k n u families places lengths out h =
+    let q = toEnd-refused-unchanged k n u families places lengths out (h .0) (h .1) in
+    rw (q .0, q .1, q .2, q .3)
 
 -- ---- a final length without room
-
-number-without : (r s l : ℕ) → roomless (traceNumbers (toEndOf r s l)) ≡ refused (r then 14)
-unfolding toEndOf traceNumbers roomless
-number-without r s l = roomless-refused traceNumbers (toEnd.Ended s l) toEnd.Refused r refl refl
 
 -- checks 5 to 8, 15, then 14
 without : ℕ → ℕ → List ℕ → List ℕ → List ℕ → List ℕ → ℤ
@@ -127,13 +97,15 @@ without k n u families places lengths =
 -- the number does not depend on the output
 roomless-trace : (k n : ℕ) (u families places lengths out : List ℕ)
     → roomless (traceNumbers (rewritingToEnd k n u families places lengths out .answer)) ≡ without k n u families places lengths
-unfolding rewritingToEnd tracedBy without
+unfolding rewritingToEnd tracedBy toEndOf traceNumbers roomless without
 roomless-trace k n u families places lengths out =
     let q = rankRefusal k n then wordRefusal n u in
-    let c = check 15 (tooFewPlaces (length (trace (kindOf k) n u .lines)) families places lengths) in
-    let t = tooShort (length (trace (kindOf k) n u .final)) out in
-    number-without _ _ _
-    ∙ ap refused (ap (λ (r : ℕ). r then 14) (sym (then-assoc q c (check 14 t))) ∙ room-then (q then c) (check 14 t) (room-last t))
+    let t = trace (kindOf k) n u in
+    let c = check 15 (tooFewPlaces (length (t .lines)) families places lengths) in
+    let short = tooShort (length (t .final)) out in
+    rw (← then-assoc q c (check 14 short))
+    (roomless-answer traceNumbers (toEnd.Ended (length (t .lines)) (length (t .final))) toEnd.Refused (q then c) (check 14 short) refl (λ r. refl)
+    (room-last short))
 
 module _ (k n : ℕ) (u families places lengths : List ℕ) where
   toEnd-without : (out written : List ℕ) → length written < 1
@@ -160,8 +132,7 @@ module _ (k n : ℕ) (u families places lengths : List ℕ) where
         rw (toEnd-without [] [] (omega arith)) (elim (ℕ-discrete q 0) [
           | yes z ↦
               let i : answer.Length (length (trace (kindOf k) n u .lines)) ≡ answer.Refused r = sym (rw (eq-eqb q 0 z) at e) ∙ p in
-              let y : _≡_ {A = ℕ} 0 1 = cc in
-              absurd (omega arith)
+              zero-not-one (cc)
           | no f ↦
               let i : answer.Refused q ≡ answer.Refused r = sym (rw (ne-eqb q 0 f) at e) ∙ p in
               let j : q ≡ r = cc in
@@ -180,8 +151,7 @@ module _ (k n : ℕ) (u families places lengths : List ℕ) where
                 rw (z, j)
             | no f ↦
                 let i : answer.Refused q ≡ answer.Length s = sym (rw (ne-eqb q 0 f) at e) ∙ p in
-                let y : _≡_ {A = ℕ} 0 1 = cc in
-                absurd (omega arith)
+                zero-not-one (cc)
           ])
 
       toEnd-few : tooFewPlaces s families places lengths ≡ true → refused 15 ≡ rewritingToEndListed k n u families places lengths [] [] .0

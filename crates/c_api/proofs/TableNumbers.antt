@@ -2,7 +2,7 @@
 --
 -- Sections: the lengths; lengths without room.
 -- Assumes nothing.
-use mathlib.Core.Path.{_≡_, refl, sym, ap, _∙_}
+use mathlib.Core.Path.{_≡_, refl, sym, ap}
 use mathlib.Core.List.{List, [], _∷_}
 use Prim.Native.Nat.{ℕ, _≤_, _<_}
 use native.Mathlib.Omega.{arith}
@@ -20,7 +20,7 @@ use Rattle.distribution.specs.Calls.{Tabled, tableRefusal, tableOf, roomRefusal
 use Rattle.distribution.proofs.Unchanged.{delayTable-unchanged}
 use Rattle.c_api.specs.Calls.{refused, tableNumbers, listedBeside, delayTableListed}
 use Rattle.c_api.proofs.Bytes.{Refusable, delayTable-refusable}
-use Rattle.c_api.proofs.Lists.{table-numbers, roomless, roomless-refused, beside-stored, beside-alone, beside-roomless, room-then, room-last, room-more}
+use Rattle.c_api.proofs.Lists.{table-numbers, IsRefusal, roomless, roomless-answer, beside-stored, beside-alone, beside-roomless, room-last, room-more}
 
 pub delayTableListed-refusable : (counts : List ℕ) (entries : List ℤ) (letters lengths : List ℕ)
     → Refusable (λ k n. delayTableListed k n counts entries letters lengths)
@@ -45,35 +45,25 @@ module _ (k n : ℕ) (counts : List ℕ) (entries : List ℤ) (letters lengths :
   unfolding delayTableListed tableNumbers
   delayTableListed-refused r q e = rw (← y .0, ← y .1, ← y .2, ← y .3, q, ← e) (beside-alone z (d, w, u) (counts, entries, letters) lengths)
 
--- where no length is given, nothing is written
+-- a refused table writes nothing
 pub delayTable-still : (k n : ℕ) (counts : List ℕ) (entries : List ℤ) (letters : List ℕ) → let t = delayTable k n counts entries letters in
-    tableNumbers (t .answer) .1 ≡ [] → _≡_ {A = List ℕ × List ℤ × List ℕ} (t .counts, t .entries, t .letters) (counts, entries, letters)
-unfolding tableNumbers
-delayTable-still k n counts entries letters = cases (delayTable k n counts entries letters .answer) refl
-  where
-    cases : (a : Table) → let t = delayTable k n counts entries letters in
-        t .answer ≡ a → tableNumbers a .1 ≡ [] → _≡_ {A = List ℕ × List ℤ × List ℕ} (t .counts, t .entries, t .letters) (counts, entries, letters)
-    cases (Written i j l) e h = let z : _≡_ {A = ℕ} 0 1 = cc in absurd (omega arith)
-    cases (Refused r) e h = let q = delayTable-unchanged k n counts entries letters r e in rw (q .0, q .1, q .2)
+    IsRefusal Refused (t .answer) → _≡_ {A = List ℕ × List ℤ × List ℕ} (t .counts, t .entries, t .letters) (counts, entries, letters)
+delayTable-still k n counts entries letters h = let q = delayTable-unchanged k n counts entries letters (h .0) (h .1) in rw (q .0, q .1, q .2)
 
 -- ---- lengths without room
-
-number-without : (r i j l : ℕ) → roomless (tableNumbers (tableOf r i j l)) ≡ refused (r then 14)
-unfolding tableOf tableNumbers roomless
-number-without r i j l = roomless-refused tableNumbers (Written i j l) Refused r refl refl
 
 -- the number does not depend on the outputs
 roomless-table : (k n : ℕ) (counts : List ℕ) (entries : List ℤ) (letters : List ℕ)
     → roomless (tableNumbers (delayTable k n counts entries letters .answer)) ≡ refused (tableRefusal k n then 14)
-unfolding delayTable tables roomRefusal
+unfolding delayTable tables tableOf roomRefusal tableNumbers roomless
 roomless-table k n counts entries letters =
-    let w = longest (kindOf k) n in
-    let r = tooShort (length (distribution (kindOf k) n)) counts in
-    let s = tooShort (length w) entries in
-    let t = tooShort (length (normalForm (kindOf k) n w)) letters in
-    number-without _ _ _ _
-    ∙ ap refused (room-then (tableRefusal k n) (check 14 r then check 14 s then check 14 t)
-    (room-more r (check 14 s then check 14 t) (room-more s (check 14 t) (room-last t))))
+    let d = length (distribution (kindOf k) n) in
+    let w = length (longest (kindOf k) n) in
+    let u = length (normalForm (kindOf k) n (longest (kindOf k) n)) in
+    let s = tooShort w entries in
+    let t = tooShort u letters in
+    roomless-answer tableNumbers (Written d w u) Refused (tableRefusal k n) (check 14 (tooShort d counts) then check 14 s then check 14 t) refl (λ r. refl)
+    (room-more (tooShort d counts) (check 14 s then check 14 t) (room-more s (check 14 t) (room-last t)))
 
 pub delayTableListed-roomless : (k n : ℕ) (counts : List ℕ) (entries : List ℤ) (letters lengths : List ℕ) (r : ℕ) (z : ℤ) → length lengths < 3
     → r ≡ tableRefusal k n → z ≡ refused (r then 14) → (z, ((counts, entries, letters), lengths)) ≡ delayTableListed k n counts entries letters lengths

@@ -5,9 +5,7 @@ use mathlib.Core.Path.{_≡_, refl, ap}
 use mathlib.Core.Bool.{Bool, true, false}
 use mathlib.Core.Logic.{_↔_, Iff·rfl, Iff·trans, Iff·and}
 use Prim.Native.Nat.{ℕ}
-use native.Mathlib.Decide.{ℕ-discrete}
 use lib.Dec.{eqb}
-use borrow.Author.Tests.{eq-eqb, ne-eqb}
 use Rattle.coxeter.specs.declared.Answer.the-variants.{Length, Refused}
 use Rattle.coxeter.specs.declared.Verdict.{Verdict}
 use Rattle.coxeter.specs.declared.Verdict.the-variants as verdict
@@ -16,16 +14,7 @@ use Rattle.coxeter.specs.Kinds.{pick}
 use Rattle.coxeter.specs.Length.{Crossings}
 use Rattle.coxeter.specs.Calls.{answerOf, verdictOf, countedOf}
 use Rattle.coxeter.proofs.TestLaws.{zero-not-one}
-use Rattle.coxeter.proofs.Refusals.{refused-exactly}
-
--- the answer a, which is not the refusal r, is given exactly when r is 0 and a is the good one; that a refusal is
--- given exactly when it is r and r is not 0 is `refused-exactly`
-pub good-exactly : {X : Type 0} (refused : ℕ → X) (good : X) (r : ℕ) (a : X) → (refused r ≡ a → ⊥)
-    → (pick (eqb r 0) good (refused r) ≡ a) ↔ ((r ≡ 0) × (good ≡ a))
-good-exactly refused good r a apart = elim (ℕ-discrete r 0) [
-  | yes z ↦ rw (eq-eqb r 0 z) (λ e. (z, e), λ p. p .1)
-  | no f ↦ rw (ne-eqb r 0 f) (λ e. absurd (apart e), λ p. absurd (f (p .0)))
-]
+use Rattle.coxeter.proofs.Refusals.{refused-exactly, good-exactly}
 
 -- G17, I1, CO3: an answer is a refusal q exactly when q is the number that the checks gave and not 0, and a length m
 -- exactly when they gave 0 and m is the length

@@ -18,6 +18,7 @@ use Rattle.coxeter.proofs.Indices.{indices, indices-in-range}
 use Rattle.coxeter.proofs.NormalForms.{normalForm-is-blocks, normalForm-blocks, normalForm-injective}
 use Rattle.coxeter.proofs.Lengths.{blockLength, length-block, length-normalForm}
 use Rattle.coxeter.proofs.GreatestLengths.{greatestIndices, indices-greatest, windowLength-of-greatest}
+use Rattle.coxeter.proofs.TestLaws.{zero-not-one}
 use Rattle.coxeter.specs.Kinds.{Kind, kindOf, least}
 use Rattle.coxeter.specs.Windows.{window, product, inverse}
 use Rattle.coxeter.specs.Length.{Crossings, total, windowLength, greatestLength}
@@ -54,8 +55,7 @@ total-of r s a b c e = elim (ℕ-discrete r 0) [
       rw (eq-eqb r 0 z, inversions, negativeSumPairs, negatives)
   | no f ↦
       let q : counted.Refused r ≡ counted.Crossings a b c = rw (ne-eqb r 0 f) at e in
-      let y : _≡_ {A = ℕ} 0 1 = cc in
-      absurd (omega arith)
+      zero-not-one (cc)
 ]
 
 pub crossingsOfWindow-total : (k n : ℕ) (w : List ℤ) (a b c : ℕ) → crossingsOfWindow k n w ≡ counted.Crossings a b c

@@ -23,6 +23,7 @@ use Rattle.coxeter.proofs.PairWeights.{windowLength-le-4096}
 use Rattle.coxeter.proofs.Lengths.{length-normalForm}
 use Rattle.coxeter.proofs.FrontLaws.{take-front}
 use Rattle.coxeter.proofs.Outcomes.{writes-written}
+use Rattle.coxeter.proofs.TestLaws.{zero-not-one}
 
 -- ---- lengths
 
@@ -62,8 +63,7 @@ module _ {X : Type 0} (most r : ℕ) (l out v : List X) (z : r ≡ 0) (h : lengt
     pub never-refused : (s : ℕ) → a ≡ answer.Refused s → ⊥
     never-refused s q =
         let p : answer.Refused s ≡ answer.Length (length l) = sym q ∙ e .0 ∙ sym (done .0) in
-        let y : _≡_ {A = ℕ} 0 1 = cc in
-        omega arith
+        zero-not-one (cc)
 
 -- ---- the normal form and the window of a word
 

@@ -20,6 +20,7 @@ use Rattle.coxeter.proofs.Basics.{length-from, length-negateFirst}
 use Rattle.coxeter.proofs.Steps.{from-involution, negateFirst-involution}
 use Rattle.coxeter.proofs.Levels.{Between, Distinct, Level, Signs, Accepted, SameSizes, sameSizes-refl, sameSizes-act, level-hasSize}
 use Rattle.coxeter.proofs.Sizes.{hasSize-head, hasSize-tail, odd-one-add}
+use Rattle.coxeter.proofs.TestLaws.{zero-not-one}
 
 -- ---- the entry of size i
 
@@ -34,7 +35,7 @@ pub record Peeled (i : ℕ) (w : List ℤ) : Type 0 where
 
 pub peeled-of-hasSize : (i : ℕ) (w : List ℤ) → hasSize i w ≡ true → Peeled i w
 unfolding hasSize
-peeled-of-hasSize i [] h = let z : false ≡ true = h in absurd (let q : _≡_ {A = ℕ} 0 1 = cc in omega arith)
+peeled-of-hasSize i [] h = let z : false ≡ true = h in zero-not-one (cc)
 peeled-of-hasSize i (e ∷ w) h = go (eqb (natAbs e) i) refl (peeled-of-hasSize i w)
   where
     go : (t : Bool) → eqb (natAbs e) i ≡ t → (hasSize i w ≡ true → Peeled i w) → Peeled i (e ∷ w)

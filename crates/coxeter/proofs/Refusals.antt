@@ -110,9 +110,10 @@ module _ {X : Type 0} (refused : ℕ → X) (good : X) (r c : ℕ) (same : refus
     | no f ↦ rw (ne-eqb r 0 f) (λ e. (same e, λ z. f (same e ∙ z)), λ p. ap refused (p .0))
   ]
 
--- a number from 1 on
-pub refused-number : {X : Type 0} (refused : ℕ → X) (good : X) (r c : ℕ) → (refused r ≡ refused (suc c) → r ≡ suc c) → (good ≡ refused (suc c) → ⊥)
-    → (pick (eqb r 0) good (refused r) ≡ refused (suc c)) ↔ (r ≡ suc c)
-refused-number refused good r c same apart =
-    let e = refused-exactly refused good r (suc c) same apart in
-    (λ p. e .0 p .0, λ p. e .1 (p, λ z. omega arith))
+-- the answer a, which is not the refusal r, is given exactly when r is 0 and a is the good one
+pub good-exactly : {X : Type 0} (refused : ℕ → X) (good : X) (r : ℕ) (a : X) → (refused r ≡ a → ⊥)
+    → (pick (eqb r 0) good (refused r) ≡ a) ↔ ((r ≡ 0) × (good ≡ a))
+good-exactly refused good r a apart = elim (ℕ-discrete r 0) [
+  | yes z ↦ rw (eq-eqb r 0 z) (λ e. (z, e), λ p. p .1)
+  | no f ↦ rw (ne-eqb r 0 f) (λ e. absurd (apart e), λ p. absurd (f (p .0)))
+]

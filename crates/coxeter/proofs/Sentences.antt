@@ -4,7 +4,7 @@
 -- Sections: presets that look alike; crossings; parity; sixty-four lanes.
 -- Assumes nothing.
 use mathlib.Core.Path.{_≡_, refl, sym, _∙_}
-use mathlib.Core.Bool.{Bool, true, false, not, _||_, false≢true, true≢false}
+use mathlib.Core.Bool.{Bool, true, false, not, false≢true, true≢false, _||_}
 use mathlib.Core.Logic.{_↔_}
 use mathlib.Core.List.{List, [], _∷_, _++_}
 use Prim.Native.Nat.{ℕ, _+_, _≤_}
@@ -16,9 +16,7 @@ use lib.IntN.{ℤ}
 use lib.ListN.{length, take}
 use borrow.Author.Tests.{eq-eqb, ne-eqb, lt-ltb, le-ltb}
 use Rattle.coxeter.specs.declared.Answer.the-variants.{Length, Refused}
-use Rattle.coxeter.specs.declared.Verdict.{Verdict}
 use Rattle.coxeter.specs.declared.Verdict.the-variants as verdict
-use Rattle.coxeter.specs.declared.Counted.{Counted}
 use Rattle.coxeter.specs.declared.Counted.the-variants as counted
 use Rattle.coxeter.specs.Kinds.{Kind, A, B, D, kindOf, lanes}
 use Rattle.coxeter.specs.Windows.{window}
@@ -36,17 +34,13 @@ use Rattle.coxeter.proofs.Parity.{flipped-snoc, odd-exactly, flag-is-od
 use Rattle.coxeter.proofs.Theorems.{window-passes, longest-normalForm, normalForm-fits, equal-lanes, verdict-exactly}
 use Rattle.coxeter.proofs.Writes.{length-or-refused}
 use Rattle.coxeter.proofs.Written.{normalFormOfWindow-accepted, normalFormOfWindow-wrote}
+use Rattle.coxeter.proofs.TestLaws.{zero-not-one}
+use Rattle.coxeter.proofs.AnswersExactly.{verdictOf-exactly, countedOf-exactly}
 
 -- ---- presets that look alike
 
-yes-or-no : {a : Verdict} → a ≡ verdict.Yes → a ≡ verdict.No → ⊥
-yes-or-no p q = let n : _≡_ {A = ℕ} 0 1 = cc in omega arith
-
-yes-or-refused : {a : Verdict} {r : ℕ} → a ≡ verdict.Yes → a ≡ verdict.Refused r → ⊥
-yes-or-refused p q = let n : _≡_ {A = ℕ} 0 1 = cc in omega arith
-
-no-or-refused : {a : Verdict} {r : ℕ} → a ≡ verdict.No → a ≡ verdict.Refused r → ⊥
-no-or-refused p q = let n : _≡_ {A = ℕ} 0 1 = cc in omega arith
+number-first : {P : Type 0} {q r : ℕ} → P ↔ ((q ≡ r) × (r ≡ 0 → ⊥)) → P ↔ ((r ≡ q) × (r ≡ 0 → ⊥))
+number-first e = (λ h. let a = e .0 h in (sym (a .0), a .1), λ a. e .1 (sym (a .0), a .1))
 
 module _ (k n : ℕ) (u : List ℕ) (l m : ℕ) (v : List ℕ) where
   -- what the checks say where the verdict is no number
@@ -69,7 +63,7 @@ module _ (k n : ℕ) (u : List ℕ) (l m : ℕ) (v : List ℕ) where
         (λ a.
         let e = verdict-exactly k n u l m v (a .0) (a .1 .0) (a .1 .1 .0) (a .1 .1 .1) .0 h in
         (a .0, a .1 .0, a .1 .1 .0, a .1 .1 .1, equal-lanes k n u l m v e, e))
-        (λ r e. absurd (yes-or-refused h e)),
+        (λ r e. zero-not-one (cc)),
     λ a. verdict-exactly k n u l m v (a .0) (a .1) (a .2) (a .3) .1 (a .5),
   )
 
@@ -81,8 +75,8 @@ module _ (k n : ℕ) (u : List ℕ) (l m : ℕ) (v : List ℕ) where
     λ h. accepted-or
         (λ a.
         let e = verdict-exactly k n u l m v (a .0) (a .1 .0) (a .1 .1 .0) (a .1 .1 .1) in
-        (a .0, a .1 .0, a .1 .1 .0, a .1 .1 .1, λ q. yes-or-no (e .1 q) h))
-        (λ r e. absurd (no-or-refused h e)),
+        (a .0, a .1 .0, a .1 .1 .0, a .1 .1 .1, λ q. zero-not-one (cc (e .1 q))))
+        (λ r e. zero-not-one (cc)),
     λ a. differ (samePresets k n u l m v) refl a,
   )
     where
@@ -100,41 +94,16 @@ module _ (k n : ℕ) (u : List ℕ) (l m : ℕ) (v : List ℕ) where
   -- CO3, CO4: a refusal is the first of the checks, the first preset's before the second's
   pub verdict-refused-exactly : (r : ℕ) → (presetsEqual k n u l m v ≡ verdict.Refused r)
       ↔ ((r ≡ (rankRefusal k n then wordRefusal n u then rankRefusal l m then wordRefusal m v)) × (r ≡ 0 → ⊥))
-  verdict-refused-exactly r = (λ h. number (ℕ-discrete q 0) h, λ a. sym (verdict-refused k n u l m v r (a .0) (a .1)))
-    where
-      q : ℕ
-      q = rankRefusal k n then wordRefusal n u then rankRefusal l m then wordRefusal m v
-
-      number : Dec (q ≡ 0) → presetsEqual k n u l m v ≡ verdict.Refused r → (r ≡ q) × (r ≡ 0 → ⊥)
-      number (no f) h =
-          let e : verdict.Refused q ≡ verdict.Refused r = verdict-refused k n u l m v q refl f ∙ h in
-          let s : q ≡ r = cc in
-          (sym s, λ z. f (s ∙ z))
-      number (yes z) h = absurd (either (samePresets k n u l m v) refl)
-        where
-          either : (t : Bool) → t ≡ samePresets k n u l m v → ⊥
-          either true e = yes-or-refused (sym (verdict-yes k n u l m v q refl true z e refl)) h
-          either false e = no-or-refused (sym (verdict-no k n u l m v q refl false z e refl)) h
+  unfolding presetsEqual
+  verdict-refused-exactly r = number-first (verdictOf-exactly _ (samePresets k n u l m v) .0 r)
 
 -- ---- crossings
 
-counted-or-refused : {a : Counted} {p q r s : ℕ} → a ≡ counted.Crossings p q r → a ≡ counted.Refused s → ⊥
-counted-or-refused p q = let n : _≡_ {A = ℕ} 0 1 = cc in omega arith
-
 counted-exactly : (q : ℕ) (s : Crossings) (a b c : ℕ)
     → (countedOf q s ≡ counted.Crossings a b c) ↔ ((q ≡ 0) × (a ≡ s .inversions) × (b ≡ s .negativeSumPairs) × (c ≡ s .negatives))
-unfolding countedOf
-counted-exactly q s a b c = elim (ℕ-discrete q 0) [
-  | yes z ↦ rw (eq-eqb q 0 z) (λ h. (z, cc, cc, cc), λ h. rw (h .1, h .2, h .3))
-  | no f ↦ rw (ne-eqb q 0 f) (λ h. absurd (counted-or-refused h refl), λ h. absurd (f (h .0)))
-]
-
-counted-refused-exactly : (q : ℕ) (s : Crossings) (r : ℕ) → (countedOf q s ≡ counted.Refused r) ↔ ((r ≡ q) × (r ≡ 0 → ⊥))
-unfolding countedOf
-counted-refused-exactly q s r = elim (ℕ-discrete q 0) [
-  | yes z ↦ rw (eq-eqb q 0 z) (λ h. absurd (counted-or-refused refl h), λ h. absurd (h .1 (h .0 ∙ z)))
-  | no f ↦ rw (ne-eqb q 0 f) (λ h. let e : q ≡ r = cc in (sym e, λ z. f (e ∙ z)), λ h. rw (h .0))
-]
+counted-exactly q s a b c =
+    let e = countedOf-exactly q s .1 a b c in
+    (λ h. let p = e .0 h in (p .0, sym (p .1), sym (p .2), sym (p .3)), λ p. e .1 (p .0, sym (p .1), sym (p .2), sym (p .3)))
 
 then-both : (q r : ℕ) → q ≡ 0 → r ≡ 0 → (q then r) ≡ 0
 then-both q r h g = rw (h, g)
@@ -181,13 +150,13 @@ counts-of-word k n u h = rw (h, window-passes (kindOf k) n u)
 pub counts-of-window-refused : (k n : ℕ) (w : List ℤ) (r : ℕ) → (crossingsOfWindow k n w ≡ counted.Refused r)
     ↔ ((r ≡ (rankRefusal k n then windowRefusal (kindOf k) n w)) × (r ≡ 0 → ⊥))
 unfolding crossingsOfWindow
-counts-of-window-refused k n w r = counted-refused-exactly (rankRefusal k n then windowRefusal (kindOf k) n w) (crossings (kindOf k) w) r
+counts-of-window-refused k n w r = number-first (countedOf-exactly _ (crossings (kindOf k) w) .0 r)
 
 -- CO3, I13: the same of a word
 pub counts-of-word-refused : (k n : ℕ) (u : List ℕ) (r : ℕ) → (crossingsOfWord k n u ≡ counted.Refused r)
     ↔ ((r ≡ (rankRefusal k n then wordRefusal n u)) × (r ≡ 0 → ⊥))
 unfolding crossingsOfWord
-counts-of-word-refused k n u r = counted-refused-exactly (rankRefusal k n then wordRefusal n u) (crossings (kindOf k) (window (kindOf k) n u)) r
+counts-of-word-refused k n u r = number-first (countedOf-exactly _ (crossings (kindOf k) (window (kindOf k) n u)) .0 r)
 
 -- L5: the length that a call answers is that of the three counts which the other call answers, and no other
 total-exactly : (q : ℕ) (s : Crossings) (l : ℕ)
@@ -243,8 +212,8 @@ flag-yes-exactly w part rest h =
 -- C11: the test holds exactly in kind D with an odd number of negative entries, whatever the other checks say
 pub odd-negatives-exactly : (k : Kind) (w : List ℤ) → (oddNegatives k w ≡ true) ↔ ((k ≡ D) × Odd (negatives w))
 unfolding oddNegatives
-odd-negatives-exactly A w = (λ h. absurd (false≢true h), λ h. let q = h .0 in let z : _≡_ {A = ℕ} 0 1 = cc in absurd (omega arith))
-odd-negatives-exactly B w = (λ h. absurd (false≢true h), λ h. let q = h .0 in let z : _≡_ {A = ℕ} 0 1 = cc in absurd (omega arith))
+odd-negatives-exactly A w = (λ h. absurd (false≢true h), λ h. let q = h .0 in zero-not-one (cc))
+odd-negatives-exactly B w = (λ h. absurd (false≢true h), λ h. let q = h .0 in zero-not-one (cc))
 odd-negatives-exactly D w = (λ h. (refl, odd-exactly (negatives w) .0 h), λ h. odd-exactly (negatives w) .1 (h .1))
 
 -- C11: kind D with an odd number of negative entries, if checks 9 and 10 accept

@@ -2,7 +2,7 @@
 -- check fails.
 -- Assumes nothing.
 use mathlib.Core.Path.{_≡_, refl}
-use mathlib.Core.Bool.{Bool, true, false, _||_, false≢true}
+use mathlib.Core.Bool.{Bool, true, false, false≢true, _||_}
 use mathlib.Core.Logic.{_↔_, _⊎_, inl, inr, ⊎-elim}
 use Prim.Native.Nat.{ℕ, zero, suc, _<_}
 use native.Mathlib.Omega.{arith}
@@ -10,8 +10,8 @@ use lib.Dec.{eqb, ltb}
 use borrow.Author.Tests.{eqb-true, eq-eqb, ltb-true, lt-ltb}
 
 -- two constructors that are not the same: `cc` proves the equation from theirs
-pub zero-not-one : (_≡_ {A = ℕ} 0 1) → ⊥
-zero-not-one z = omega arith
+pub zero-not-one : {X : Type 0} → (_≡_ {A = ℕ} 0 1) → X
+zero-not-one z = absurd (omega arith)
 
 pub not-true-false : (t : Bool) → (t ≡ true → ⊥) → t ≡ false
 not-true-false true f = absurd (f refl)

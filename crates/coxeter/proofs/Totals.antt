@@ -25,6 +25,7 @@ use Rattle.coxeter.proofs.Acceptance.{lanes-le}
 use Rattle.coxeter.proofs.Levels.{Accepted, accepted-of-refusal, window-accepted}
 use Rattle.coxeter.proofs.PairWeights.{windowLength-le-4096}
 use Rattle.coxeter.proofs.Refusals.{then-zero}
+use Rattle.coxeter.proofs.TestLaws.{zero-not-one}
 
 -- ---- the answer
 
@@ -66,8 +67,7 @@ countedOf-small r s h a b c e = elim (ℕ-discrete r 0) [
       omega (arith, h z)
   | no f ↦
       let q : counted.Refused r ≡ counted.Crossings a b c = rw (ne-eqb r 0 f) at e in
-      let y : _≡_ {A = ℕ} 0 1 = cc in
-      absurd (omega arith)
+      zero-not-one (cc)
 ]
 
 module _ (k n : ℕ) where

@@ -10,16 +10,18 @@ use mathlib.Core.Path.{_≡_, refl}
 use mathlib.Core.Bool.{Bool, true, false}
 use mathlib.Core.List.{List}
 use Prim.Native.Nat.{ℕ}
-use native.Mathlib.Omega.{arith}
 use lib.Dec.{eqb}
 use lib.IntN.{ℤ}
-use lib.ListN.{length, drop}
+use lib.ListN.{length, drop, take}
 use Rattle.coxeter.specs.declared.Answer.the-variants.{Length, Refused}
 use Rattle.coxeter.specs.Kinds.{pick}
 use Rattle.coxeter.specs.Checks.{check, _then_, tooShort}
 use Rattle.coxeter.specs.Calls.{front, answerOf, written, writes, windowOfWord, productOfWindows}
 use Rattle.coxeter.specs.Calls.{inverseOfWindow, normalFormOfWindow, normalFormOfWord, productOfWords, inverseOfWord}
-use Rattle.coxeter.proofs.FrontLaws.{drop-front}
+use Rattle.coxeter.proofs.FrontLaws.{drop-front, take-front}
+use Rattle.coxeter.proofs.TestLaws.{zero-not-one}
+use Rattle.coxeter.proofs.Refusals.{good-exactly}
+use borrow.Author.Tests.{eq-eqb}
 
 -- ---- what every call keeps
 
@@ -45,16 +47,19 @@ module _ {A : Type 0} (s : ℕ) (good : A) (refuse : ℕ → A) where
   unfolding written
   kept-past {a} h l out m f = by-test-past (eqb s 0) good (refuse s) a h l out m f
 
--- ---- what a call with one output keeps
+  -- and any other answer than the refusal says that the list stands at its front
+  pub kept-front : {a : A} → pick (eqb s 0) good (refuse s) ≡ a → (refuse s ≡ a → ⊥) → {X : Type 0} (l out : List X) (m : ℕ) → length l ≡ m
+      → take m (written s l out) ≡ l
+  unfolding written
+  kept-front {a} h f l out m e = rw (eq-eqb s 0 (good-exactly refuse good s a f .0 h .0)) (take-front l out m e)
 
-pub length-not-refused : (l r : ℕ) → Length l ≡ Refused r → ⊥
-length-not-refused l r e = let z : _≡_ {A = ℕ} 0 1 = cc in omega arith
+-- ---- what a call with one output keeps
 
 pub writes-unchanged : {X : Type 0} (q : ℕ) (l out : List X) (r : ℕ) → writes q l out .answer ≡ Refused r → writes q l out .bytes ≡ out
 unfolding writes answerOf
 writes-unchanged q l out r h =
     let s = q then check 14 (tooShort (length l) out) in
-    kept-whole s (Length (length l)) Refused h (length-not-refused (length l) r) l out
+    kept-whole s (Length (length l)) Refused h (λ e. zero-not-one (cc)) l out
 
 pub writes-past : {X : Type 0} (q : ℕ) (l out : List X) (m : ℕ) → writes q l out .answer ≡ Length m → drop m (writes q l out .bytes) ≡ drop m out
 unfolding writes answerOf

@@ -12,9 +12,7 @@ use Rattle.coxeter.specs.declared.Answer.{Answer}
 use Rattle.coxeter.specs.declared.Answer.the-variants as answer
 use Rattle.coxeter.specs.Calls.{Yields, front, writes}
 use Rattle.coxeter.proofs.Outcomes.{writes-short, writes-written}
-
-pub length-is-no-refusal : (m s : ℕ) → answer.Length m ≡ answer.Refused s → ⊥
-length-is-no-refusal m s e = let y : _≡_ {A = ℕ} 0 1 = cc in omega arith
+use Rattle.coxeter.proofs.Writes.{length-or-refused}
 
 module _ {X : Type 0} (r : ℕ) (l out v : List X) (a : Answer) (z : r ≡ 0) (e : Yields (writes r l out) a v) where
   fits : length l ≤ length out → (a ≡ answer.Length (length l)) × (v ≡ front l out)
@@ -35,13 +33,13 @@ module _ {X : Type 0} (r : ℕ) (l out v : List X) (a : Answer) (z : r ≡ 0) (e
           (s, omega arith, fits h .1)
 
       none : length out < length l → ⊥
-      none h = length-is-no-refusal m 14 (sym q ∙ short h .0)
+      none h = length-or-refused q (short h .0)
 
   pub told-refused : (s : ℕ) → a ≡ answer.Refused s → (length out < length l) × (v ≡ out)
   told-refused s q = elim (decLe (length l) (length out)) [ yes h ↦ absurd (room h) | no h ↦ none (lt-of-not-le h) ]
     where
       room : length l ≤ length out → ⊥
-      room h = length-is-no-refusal (length l) s (sym (fits h .0) ∙ q)
+      room h = length-or-refused (fits h .0) q
 
       none : length out < length l → (length out < length l) × (v ≡ out)
       none h = (h, short h .1)

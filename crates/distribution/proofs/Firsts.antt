@@ -7,14 +7,14 @@ use mathlib.Core.Logic.{_↔_}
 use mathlib.Core.List.{List, [], _∷_}
 use Prim.Native.Nat.{ℕ, _+_}
 use native.Mathlib.Decide.{ℕ-discrete}
-use native.Mathlib.Omega.{arith}
-use borrow.Author.Tests.{eq-eqb, ne-eqb}
+use borrow.Author.Tests.{ne-eqb}
 use lib.IntN.{ℤ}
 use Rattle.coxeter.specs.Kinds.{kindOf, lanes}
 use Rattle.coxeter.specs.Length.{greatestLength}
 use Rattle.coxeter.specs.Checks.{check, _then_, firstOf, wrongKind, wrongRank, tooShort}
-use Rattle.coxeter.proofs.Refusals.{refused-exactly, then-assoc}
+use Rattle.coxeter.proofs.Refusals.{refused-exactly, then-assoc, good-exactly}
 use Rattle.coxeter.proofs.FirstFailing.{check-then, rank-then}
+use Rattle.coxeter.proofs.TestLaws.{zero-not-one}
 use Rattle.distribution.specs.declared.Table.the-variants.{Written, Refused}
 use Rattle.distribution.specs.Calls.{untabled, tableRefusal, tableOf, roomRefusal, tables, delayTable}
 use Rattle.distribution.proofs.Tables.{length-distribution, length-longest, length-longest-form}
@@ -26,11 +26,10 @@ pub tableOf-exactly : (r a b c : ℕ)
     × ((x y z : ℕ) → (tableOf r a b c ≡ Written x y z) ↔ ((r ≡ 0) × (a ≡ x) × (b ≡ y) × (c ≡ z)))
 unfolding tableOf
 tableOf-exactly r a b c = (
-  λ m. refused-exactly Refused (Written a b c) r m (λ e. cc) (λ e. let o : _≡_ {A = ℕ} 0 1 = cc in omega arith),
-  λ x y z. elim (ℕ-discrete r 0) [
-    | yes q ↦ rw (eq-eqb r 0 q) (λ e. (q, cc, cc, cc), λ e. rw (e .1, e .2, e .3))
-    | no f ↦ rw (ne-eqb r 0 f) (λ e. let o : _≡_ {A = ℕ} 0 1 = cc in absurd (omega arith), λ e. absurd (f (e .0)))
-  ],
+  λ m. refused-exactly Refused (Written a b c) r m (λ e. cc) (λ e. zero-not-one (cc)),
+  λ x y z.
+      let e = good-exactly Refused (Written a b c) r (Written x y z) (λ e. zero-not-one (cc)) in
+      (λ h. let g = e .0 h in (g .0, cc (g .1), cc (g .1), cc (g .1)), λ h. e .1 (h .0, rw (h .1, h .2, h .3))),
 )
 
 -- I33, C20, CO2: before 14 a delay table makes checks 5, 6 and 20, in this order

@@ -9,23 +9,23 @@ use mathlib.Core.Logic.{_⊎_, inl, inr, ⊎-elim, _↔_}
 use mathlib.Core.List.{List}
 use Prim.Native.Nat.{ℕ, suc, _+_, _≤_, _<_}
 use native.Mathlib.Omega.{arith}
-use borrow.Author.Tests.{ne-eqb, eqb-true, ltb-true, ltb-false, lt-ltb, le-ltb}
-use lib.Dec.{eqb}
+use borrow.Author.Tests.{ne-eqb, ltb-true, ltb-false, lt-ltb, le-ltb}
 use lib.IntN.{ℤ}
 use lib.ListN.{length, getD, take, drop}
-use Rattle.coxeter.specs.Kinds.{Kind, A, B, D, pick, kindOf, lanes, least}
+use lib.Dec.{eqb}
+use Rattle.coxeter.specs.Kinds.{Kind, A, B, D, kindOf, lanes, least, pick}
 use Rattle.coxeter.specs.Dictionary.{shortlex}
 use Rattle.coxeter.specs.Length.{windowLength, greatestLength}
 use Rattle.coxeter.specs.Checks.{check, _then_, tooShort, rankRefusal, RankOf, WindowOf}
 use Rattle.coxeter.specs.NormalForm.{normalForm, IsNormalForm}
-use Rattle.coxeter.specs.Calls.{front, written}
 use Rattle.coxeter.proofs.Lists.{getD-take}
 use Rattle.coxeter.proofs.Refusals.{then-zero, then-none, then-some, then-assoc, check-zero, rankRefusal-le, then-exactly, then-avoids}
 use Rattle.coxeter.proofs.Refusals.{check-avoids, check-number, check-exactly}
 use Rattle.coxeter.proofs.Levels.{accepted-of-refusal}
 use Rattle.coxeter.proofs.Order.{shortlex-cases, shortlex-total, shortlex-irrefl}
 use Rattle.coxeter.proofs.Theorems.{length-normalForm}
-use Rattle.coxeter.proofs.FrontLaws.{take-front}
+use Rattle.coxeter.proofs.TestLaws.{zero-not-one}
+use Rattle.coxeter.proofs.Unchanged.{kept-front}
 use Rattle.rules.proofs.Theorems.{normalForm-least}
 use Rattle.distribution.specs.declared.Table.{Table}
 use Rattle.distribution.specs.declared.Table.the-variants.{Written, Refused}
@@ -43,33 +43,29 @@ use Rattle.distribution.proofs.Unchanged.{delayTable-unchanged, delayTa
 
 -- ---- what the call wrote
 
-module _ (d : List ℕ) (w : List ℤ) (u counts : List ℕ) (entries : List ℤ) (letters : List ℕ) where
-  pick-told : (t : Bool) (s a b c : ℕ) → pick t (Written (length d) (length w) (length u)) (Refused s) ≡ Written a b c
-      → (t ≡ true) × (length d ≡ a) × (length w ≡ b) × (length u ≡ c)
-      × (take a (pick t (front d counts) counts) ≡ d)
-      × (take b (pick t (front w entries) entries) ≡ w)
-      × (take c (pick t (front u letters) letters) ≡ u)
-  pick-told true s a b c h =
-      let e : length d ≡ a = cc in
-      let f : length w ≡ b = cc in
-      let g : length u ≡ c = cc in
-      (refl, e, f, g, take-front d counts a e, take-front w entries b f, take-front u letters c g)
-  pick-told false s a b c h = let z : _≡_ {A = ℕ} 0 1 = cc in absurd (omega arith)
-
 module _ (k n : ℕ) (counts : List ℕ) (entries : List ℤ) (letters : List ℕ) (c e l : ℕ) (x : List ℕ) (y : List ℤ) (z : List ℕ)
     (h : TableYields (delayTable k n counts entries letters) (Written c e l) x y z) where
   wrote : (tableRefusal k n ≡ 0) × (length (distribution (kindOf k) n) ≡ c) × (length (longest (kindOf k) n) ≡ e)
       × (length (normalForm (kindOf k) n (longest (kindOf k) n)) ≡ l) × (take c x ≡ distribution (kindOf k) n) × (take e y ≡ longest (kindOf k) n)
       × (take l z ≡ normalForm (kindOf k) n (longest (kindOf k) n))
-  unfolding delayTable tables tableOf written
+  unfolding delayTable tables tableOf
   wrote =
       let d = distribution (kindOf k) n in
       let w = longest (kindOf k) n in
       let u = normalForm (kindOf k) n w in
       let s = tableRefusal k n then roomRefusal d w u counts entries letters in
-      let p = pick-told d w u counts entries letters (eqb s 0) s c e l (sym (h .0)) in
-      let q = then-zero (tableRefusal k n) _ (eqb-true s 0 (p .0)) in
-      (q .0, p .1, p .2, p .3, rw (h .1) (p .4), rw (h .2) (p .5), rw (h .3) (p .6))
+      let p = tableOf-exactly s (length d) (length w) (length u) .1 c e l .0 (sym (h .0)) in
+      let good = Written (length d) (length w) (length u) in
+      let given : pick (eqb s 0) good (Refused s) ≡ Written c e l = sym (h .0) in
+      let apart : Refused s ≡ Written c e l → ⊥ = λ q. zero-not-one (cc) in (
+        then-zero (tableRefusal k n) _ (p .0) .0,
+        p .1,
+        p .2,
+        p .3,
+        rw (h .1) (kept-front s good Refused given apart d counts c (p .1)),
+        rw (h .2) (kept-front s good Refused given apart w entries e (p .2)),
+        rw (h .3) (kept-front s good Refused given apart u letters l (p .3)),
+      )
 
   rank : least (kindOf k) ≤ n
   rank = table-rank k n (wrote .0) .0
@@ -178,10 +174,10 @@ room-avoids s t r =
     (then-avoids (check 14 t) (check 14 r) 19 (check-avoids 14 19 t (λ z. omega arith)) (check-avoids 14 19 r (λ z. omega arith)))
 
 not-B : A ≡ B → ⊥
-not-B e = let o : _≡_ {A = ℕ} 0 1 = cc in omega arith
+not-B e = zero-not-one (cc)
 
 not-D : A ≡ D → ⊥
-not-D e = let o : _≡_ {A = ℕ} 0 1 = cc in omega arith
+not-D e = zero-not-one (cc)
 
 -- C20: a rank has no table exactly when it is above 19 in kind A or above 16 in kind B or D
 pub untabled-exactly : (k : Kind) (n : ℕ) → (untabled k n ≡ true) ↔ (((k ≡ A) × (19 < n)) ⊎ (((k ≡ B) ⊎ (k ≡ D)) × (16 < n)))

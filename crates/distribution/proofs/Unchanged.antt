@@ -2,24 +2,19 @@
 -- length that it answers.
 -- Assumes nothing.
 use mathlib.Core.Path.{_≡_}
-use mathlib.Core.List.{List, _++_}
+use mathlib.Core.List.{List}
 use Prim.Native.Nat.{ℕ}
-use native.Mathlib.Omega.{arith}
-use lib.Dec.{eqb}
 use lib.IntN.{ℤ}
 use lib.ListN.{length, drop}
 use Rattle.coxeter.specs.Kinds.{kindOf}
 use Rattle.coxeter.specs.Checks.{_then_}
 use Rattle.coxeter.specs.NormalForm.{normalForm}
-use Rattle.coxeter.specs.Calls.{written}
 use Rattle.coxeter.proofs.Unchanged.{kept-whole, kept-past}
+use Rattle.coxeter.proofs.TestLaws.{zero-not-one}
 use Rattle.distribution.specs.declared.Table.the-variants.{Written, Refused}
 use Rattle.distribution.specs.Distribution.{distribution}
 use Rattle.distribution.specs.Longest.{longest}
 use Rattle.distribution.specs.Calls.{tableRefusal, tableOf, roomRefusal, tables, delayTable}
-
-written-not-refused : (a b c r : ℕ) → Written a b c ≡ Refused r → ⊥
-written-not-refused a b c r e = let z : _≡_ {A = ℕ} 0 1 = cc in omega arith
 
 module _ (k n : ℕ) (counts : List ℕ) (entries : List ℤ) (letters : List ℕ) where
   pub delayTable-unchanged : (r : ℕ) → delayTable k n counts entries letters .answer ≡ Refused r
@@ -33,7 +28,7 @@ module _ (k n : ℕ) (counts : List ℕ) (entries : List ℤ) (letters : List �
       let u = normalForm (kindOf k) n w in
       let s = tableRefusal k n then roomRefusal d w u counts entries letters in
       let good = Written (length d) (length w) (length u) in
-      let not-good = written-not-refused (length d) (length w) (length u) r in (
+      let not-good : good ≡ Refused r → ⊥ = λ e. zero-not-one (cc) in (
         kept-whole s good Refused h not-good d counts,
         kept-whole s good Refused h not-good w entries,
         kept-whole s good Refused h not-good u letters,

@@ -49,6 +49,7 @@ use Rattle.coxeter.specs.Calls.{answerOf, verdictOf, front, written, writes, wi
 use Rattle.coxeter.specs.Calls.{normalFormOfWord, productOfWords, inverseOfWord, lengthOfWindow, lengthOfWord, sameEntry, sameWindow}
 use Rattle.coxeter.specs.Calls.{equalWords, samePresets, presetsEqual, handsBack, choice, Outcome, Better}
 use Rattle.coxeter.proofs.Order.{sameWindow-of-eq}
+use Rattle.coxeter.proofs.TestLaws.{zero-not-one}
 use Rattle.rules.specs.Rules.{concatMap, family1, family2, family3, family4, families5to7, rules, begins, fits, firstFitting, rewritten}
 use Rattle.rules.specs.Calls.{pastEnd, rewriteBy, rewriteAt}
 use Rattle.shortest_words.specs.Fallback.{someSubword, isFallback}
@@ -214,7 +215,7 @@ opened-late : (s t : Bool) (c : ℕ) → openedOf (check 2 s then check 3 t) c �
 unfolding openedOf
 opened-late true t c e = let z : _≡_ {A = ℕ} 2 1 = cc in omega arith
 opened-late false true c e = let z : _≡_ {A = ℕ} 3 1 = cc in omega arith
-opened-late false false c e = let z : _≡_ {A = ℕ} 0 1 = cc in omega arith
+opened-late false false c e = zero-not-one (cc)
 
 -- every book of 65,536 bytes tells this one
 pub bookOf65536Bytes-ruled-out : (ed : Edition) (b : List ℕ) → length b ≡ 65536 → checkedBook ed b ≡ bookOf65536Bytes ed b → ⊥
@@ -245,8 +246,7 @@ sizeLimitOfTheOldBook-ruled-out b out e f large room h =
     let w : sizeLimitOfTheOldBook First b out .answer ≡ answers.Length (length (converted First b)) =
     rw (e, f, le-ltb 65535 (length b) m, le-ltb (length out) (length (converted First b)) room) in
     let r = ap (λ (o : Outcome ℕ). o .answer) (converting-too-large b out e f large) in
-    let z : _≡_ {A = ℕ} 0 1 = cc (ap (λ (o : Outcome ℕ). o .answer) h) in
-    omega arith
+    zero-not-one (cc (ap (λ (o : Outcome ℕ). o .answer) h))
 
 -- ---- parts handed back
 

@@ -21,6 +21,7 @@ use Rattle.coxeter.proofs.Fronts.{length-window-le, length-form-le}
 use Rattle.coxeter.proofs.Levels.{Between, window-accepted}
 use Rattle.coxeter.proofs.LetterLaws.{letter-within-cons}
 use Rattle.coxeter.proofs.NormalForms.{normalForm-letters}
+use Rattle.coxeter.proofs.TestLaws.{zero-not-one}
 use Rattle.book_format.specs.declared.Edition.{Edition}
 use Rattle.book_format.specs.declared.Opened.{Opened}
 use Rattle.book_format.specs.declared.Opened.the-variants as opened
@@ -92,8 +93,7 @@ unfolding checkedBook openedOf
 refused-opened ed b r e = elim (ℕ-discrete (bookRefusal ed b) 0) [
   | yes z ↦
       let q : opened.Refused r ≡ opened.Presets (count b) = e ∙ rw (eq-eqb (bookRefusal ed b) 0 z) in
-      let y : _≡_ {A = ℕ} 0 1 = cc in
-      absurd (omega arith)
+      zero-not-one (cc)
   | no f ↦
       let q : opened.Refused r ≡ opened.Refused (bookRefusal ed b) = e ∙ rw (ne-eqb (bookRefusal ed b) 0 f) in
       let p : r ≡ bookRefusal ed b = cc in

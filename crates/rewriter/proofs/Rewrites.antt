@@ -11,9 +11,9 @@ use Prim.Native.Nat.{ℕ, _+_, _-_, _≤_, _<_}
 use native.Mathlib.Omega.{arith}
 use lib.ListN.{length, take, drop, length-append, length-drop}
 use lib.Seq.{take-append-seam}
-use borrow.Author.Tests.{ne-eqb, lt-ltb, le-ltb, lt-leb, le-leb}
+use borrow.Author.Tests.{ne-eqb, lt-leb, le-leb}
 use Rattle.coxeter.specs.Kinds.{Kind, A, B, D, kindOf, least}
-use Rattle.coxeter.specs.Checks.{check, _then_, tooShort, rankRefusal, wordRefusal}
+use Rattle.coxeter.specs.Checks.{check, _then_, rankRefusal, wordRefusal}
 use Rattle.coxeter.specs.Calls.{front}
 use Rattle.rules.specs.declared.Rewrite.the-variants.{Used, NoneFits, Refused}
 use Rattle.rewriter.specs.declared.search.Fitting.{Fitting}
@@ -30,6 +30,7 @@ use Rattle.rewriter.proofs.search.Searches.{fittingOf, along-le}
 use Rattle.rewriter.proofs.writing.Words.{length-new}
 use Rattle.coxeter.proofs.Acceptance.{rank-accepted}
 use Rattle.coxeter.proofs.Refusals.{then-assoc, then-refused}
+use Rattle.coxeter.proofs.TestLaws.{zero-not-one}
 
 -- ---- the rule that the search hands on
 
@@ -55,7 +56,7 @@ pub fitted : (k : Kind) (n : ℕ) (u : List ℕ) (p f i j l : ℕ) (q : Fitting)
 fitted k n u p f i j l q h g e t = go (firstFitting (rules k n) u p) refl (sym e ∙ t)
   where
     go : (o : Option Rule) → firstFitting (rules k n) u p ≡ o → fittingOf o ≡ Shown f i j l → Fitted k n u p f i j l
-    go none c d = let z : _≡_ {A = ℕ} 0 1 = cc in absurd (omega arith)
+    go none c d = zero-not-one (cc)
     go (some x) c d =
         let a = firstFitting-some (rules k n) u p x c in
         let w = listed-of-mem k n h x (a .0) in
@@ -114,7 +115,7 @@ module _ (k n : ℕ) (u : List ℕ) (p : ℕ) (out : List ℕ) (h : AcceptedWord
     where
       go : (o : Option Rule) → firstFitting (rules (kindOf k) n) u p ≡ o → fittingOf o ≡ Nothing → Rewrote single k n u p out out NoneFits
       go none c d = rewrote-by k n u p out {t = rewriteBy single none u p out} (rewriteAt-placed ∙ ap (λ (o : Option Rule). rewriteBy single o u p out) c)
-      go (some x) c d = let z : _≡_ {A = ℕ} 0 1 = cc in absurd (omega arith)
+      go (some x) c d = zero-not-one (cc)
 
   module _ (f i j l m : ℕ) (w : Fitted (kindOf k) n u p f i j l) (e : m ≡ length u - l + rightLength f l) where
     abbrev rule : Rule

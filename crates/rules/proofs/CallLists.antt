@@ -4,7 +4,7 @@
 --
 -- Sections: the word left; the lists; the uses; the library's own answers.
 -- Assumes nothing.
-use mathlib.Core.Path.{_≡_, refl, sym, ap, ap₂, subst, _∙_}
+use mathlib.Core.Path.{_≡_, refl, ap, subst, _∙_}
 use mathlib.Core.Logic.{_↔_}
 use mathlib.Core.List.{List, [], _∷_, _++_, map}
 use mathlib.Core.Option.{Option, none, some, Option·none-ne-some}
@@ -14,8 +14,8 @@ use lib.ListN.{take}
 use Rattle.rules.specs.declared.Rewrite.{Rewrite}
 use Rattle.rules.specs.declared.Rewrite.the-variants.{Used, NoneFits, Refused}
 use Rattle.rules.specs.Calls.{Interface, rewriteAt, Rewrote, newWordIn, single}
-use Rattle.rules.specs.Runs.{Arguments, Result, Call, wordAfter, wordLeft, Meets, Run, IsUsed, uses}
-use Rattle.rules.proofs.Calls.{told-apart}
+use Rattle.rules.specs.Runs.{Arguments, Call, wordAfter, wordLeft, Meets, Run, IsUsed, uses}
+use Rattle.coxeter.proofs.TestLaws.{zero-not-one}
 
 module _ (s : Interface) where
   -- ---- the word left
@@ -111,5 +111,5 @@ new-word-exactly (Used f i j l) out w = (
   λ e. (f, i, j, l, refl, cc),
   λ t. let q : l ≡ t .3 = let z = t .4 in cc in rw (t .5, q),
 )
-new-word-exactly NoneFits out w = (λ e. absurd (Option·none-ne-some w e), λ t. let z = t .4 in told-apart (cc))
-new-word-exactly (Refused r) out w = (λ e. absurd (Option·none-ne-some w e), λ t. let z = t .4 in told-apart (cc))
+new-word-exactly NoneFits out w = (λ e. absurd (Option·none-ne-some w e), λ t. let z = t .4 in zero-not-one (cc))
+new-word-exactly (Refused r) out w = (λ e. absurd (Option·none-ne-some w e), λ t. let z = t .4 in zero-not-one (cc))

@@ -16,11 +16,11 @@ use native.Mathlib.Nat.{lt-of-not-le}
 use native.Mathlib.Decide.{decLe}
 use native.Mathlib.Omega.{arith}
 use lib.Dec.{eqb}
-use lib.ListN.{length, drop}
+use lib.ListN.{length}
 use borrow.Author.Tests.{le-ltb, le-leb, lt-leb, leb-false}
 use Rattle.coxeter.specs.Kinds.{Kind, pick, kindOf, least}
 use Rattle.coxeter.specs.Checks.{check, tooLong, wrongLetter, wordRefusal}
-use Rattle.rules.specs.declared.Rewrite.the-variants.{Used, NoneFits, Refused}
+use Rattle.rules.specs.declared.Rewrite.the-variants.{Used}
 use Rattle.rules.specs.Rules.{Rule, rules, fits, firstFitting, rewritten, Irreducible}
 use Rattle.rules.specs.Calls.{pastEnd, Interface, Transition, changed, unchanged, rewriteBy, rewriteAt, Rewrote, newWordIn, single}
 use Rattle.rules.specs.Runs.{AcceptedWord, Arguments, Result, wordAfter, IsUsed}
@@ -32,6 +32,7 @@ use Rattle.rules.proofs.Completeness.{rewrites-length}
 use Rattle.rules.proofs.ScanRules.{fitting-unique}
 use Rattle.coxeter.proofs.FrontLaws.{take-front}
 use Rattle.coxeter.proofs.Acceptance.{rank-within, letters-accepted, length-accepted}
+use Rattle.coxeter.proofs.TestLaws.{zero-not-one}
 
 -- ---- accepted words
 
@@ -51,10 +52,6 @@ accepted-of-shorter {k} {n} {u} v h l e = record {
 
 -- ---- forms of calls
 
--- two different answers are not equal
-pub told-apart : {X : Type 0} → _≡_ {A = ℕ} 0 1 → X
-told-apart e = absurd (omega arith)
-
 -- the answers of a form tell its four cases apart, and the new word can be read off
 pub record Lawful (s : Interface) : Type 0 where
   pub used-read : (x : Rule) (w : List ℕ) (o : s .Outputs) → s .newWord (s .used x (length w)) (s .written x w o) ≡ some w
@@ -72,9 +69,9 @@ single-lawful = record {
   used-read = λ x w out. ap some (take-front w out (length w) refl);
   none-unused = λ o. refl;
   refused-unused = λ r o. refl;
-  none-not-12 = λ e. told-apart (cc);
-  none-not-14 = λ e. told-apart (cc);
-  refused-apart = λ e. told-apart (cc);
+  none-not-12 = λ e. zero-not-one (cc);
+  none-not-14 = λ e. zero-not-one (cc);
+  refused-apart = λ e. zero-not-one (cc);
   anything = [];
 }
 
@@ -336,6 +333,6 @@ used-length k n u p before after f i j l h w = go (stepped single k n u p before
         let g = firstFitting-some (rules (kindOf k) n) u p x e in
         let same : l ≡ length (rewritten x u p) = cc in
         omega (arith, rewrites-length (rewrites-of-fits (kindOf k) n (accepted-least h) x (g .0) u p (omega arith) (g .1)))
-    go (noneFits e m) z = told-apart (cc)
-    go (past m) z = told-apart (cc)
-    go (short x e m q) z = told-apart (cc)
+    go (noneFits e m) z = zero-not-one (cc)
+    go (past m) z = zero-not-one (cc)
+    go (short x e m q) z = zero-not-one (cc)

@@ -9,11 +9,11 @@ use mathlib.Core.Bool.{Bool, true, false, true≢false}
 use mathlib.Core.Logic.{_↔_}
 use mathlib.Core.List.{List, [], _∷_, _++_}
 use mathlib.Core.Option.{Option, none, some}
-use Prim.Native.Nat.{ℕ, _≤_, _<_}
+use Prim.Native.Nat.{ℕ, _≤_}
 use native.Mathlib.Nat.{lt-of-not-le}
 use native.Mathlib.Decide.{decLe, ℕ-discrete}
 use native.Mathlib.Omega.{arith}
-use lib.Dec.{eqb, leb}
+use lib.Dec.{leb}
 use lib.ListN.{length}
 use borrow.Author.Tests.{eq-eqb, ne-eqb}
 use Rattle.coxeter.specs.Kinds.{pick, kindOf}
@@ -21,13 +21,13 @@ use Rattle.coxeter.specs.Checks.{check, _then_, firstOf, wrongKind, wrongRank, 
 use Rattle.coxeter.proofs.Refusals.{then-zero}
 use Rattle.coxeter.proofs.FirstFailing.{rank-then, word-then}
 use Rattle.coxeter.proofs.FirstRefusals.{word-checks}
+use Rattle.coxeter.proofs.TestLaws.{zero-not-one}
 use Rattle.rules.specs.declared.Rewrite.{Rewrite}
-use Rattle.rules.specs.declared.Rewrite.the-variants.{Used, NoneFits, Refused}
+use Rattle.rules.specs.declared.Rewrite.the-variants.{Refused}
 use Rattle.rules.specs.Rules.{Rule, rules, fits, firstFitting, rewritten}
 use Rattle.rules.specs.Calls.{pastEnd, Interface, changed, unchanged, rewriteBy, rewriteAt, Rewrote, single}
 use Rattle.rules.specs.Runs.{AcceptedWord}
 use Rattle.rules.proofs.Fits.{fits-split, fits-at, fits-past, rewritten-split}
-use Rattle.rules.proofs.Calls.{told-apart}
 
 -- ---- occurrences of a left side
 
@@ -101,11 +101,11 @@ rewrite-refused-exactly k n u p before after a w r f =
     refused g = rw (place-checks k n u p, ne-eqb _ 0 g)
 
     by : (o : Option Rule) → rewriteBy single o u p before .answer ≡ Refused r → ⊥
-    by none e = told-apart (cc)
+    by none e = zero-not-one (cc)
     by (some x) e = go (leb (length (rewritten x u p)) (length before)) e
       where
         go : (t : Bool) → pick t (changed single x (rewritten x u p) before) (unchanged single (Refused 14) u before) .answer ≡ Refused r → ⊥
-        go true e = told-apart (cc)
+        go true e = zero-not-one (cc)
         go false e = f (cc)
 
     passed : c ≡ 0 → rewriteAt single k n u p before .answer ≡ Refused r → ⊥

@@ -7,11 +7,11 @@ use mathlib.Core.Bool.{Bool, true, false}
 use mathlib.Core.List.{List}
 use mathlib.Core.Option.{Option, none, some}
 use Prim.Native.Nat.{ℕ}
-use native.Mathlib.Omega.{arith}
 use lib.Dec.{eqb, leb}
 use lib.ListN.{length}
 use Rattle.coxeter.specs.Kinds.{pick, kindOf}
 use Rattle.coxeter.specs.Checks.{check, _then_, rankRefusal, wordRefusal}
+use Rattle.coxeter.proofs.TestLaws.{zero-not-one}
 use Rattle.rules.specs.declared.Rewrite.the-variants.{Used, NoneFits, Refused}
 use Rattle.rules.specs.declared.Rewrite.{Rewrite}
 use Rattle.rules.specs.Rules.{Rule, rules, firstFitting, rewritten}
@@ -41,22 +41,20 @@ rewriteAt-kept k n u p out =
     pick-kept (eqb r 0) u out (rewriteBy single (firstFitting (rules (kindOf k) n) u p) u p out) (unchanged single (Refused r) u out)
     (rewriteBy-kept (firstFitting (rules (kindOf k) n) u p) u p out) (stays refl refl)
 
-refused-stays : {u out : List ℕ} {t : Transition single} (r : ℕ) → Kept u out t → t .answer ≡ Refused r → (t .outputs ≡ out) × (t .word ≡ u)
-refused-stays r (stays b w) h = (b, w)
-refused-stays r (used f i j l e) h = let z : _≡_ {A = ℕ} 0 1 = cc in absurd (omega arith)
-
-noneFits-stays : {u out : List ℕ} {t : Transition single} → Kept u out t → t .answer ≡ NoneFits → (t .outputs ≡ out) × (t .word ≡ u)
-noneFits-stays (stays b w) h = (b, w)
-noneFits-stays (used f i j l e) h = let z : _≡_ {A = ℕ} 0 1 = cc in absurd (omega arith)
+-- an answer that is not of a used rule
+kept-stays : {u out : List ℕ} {t : Transition single} (a : Rewrite) → ((f i j l : ℕ) → Used f i j l ≡ a → ⊥) → Kept u out t → t .answer ≡ a
+    → (t .outputs ≡ out) × (t .word ≡ u)
+kept-stays a apart (stays b w) h = (b, w)
+kept-stays a apart (used f i j l e) h = absurd (apart f i j l (sym e ∙ h))
 
 module _ (k n : ℕ) (u : List ℕ) (p : ℕ) (out : List ℕ) where
   pub rewrite-refused-unchanged : (r : ℕ) → rewriteAt single k n u p out .answer ≡ Refused r
       → (rewriteAt single k n u p out .outputs ≡ out) × (rewriteAt single k n u p out .word ≡ u)
-  rewrite-refused-unchanged r = refused-stays r (rewriteAt-kept k n u p out)
+  rewrite-refused-unchanged r = kept-stays (Refused r) (λ f i j l e. zero-not-one (cc)) (rewriteAt-kept k n u p out)
 
   pub rewrite-noneFits-unchanged : rewriteAt single k n u p out .answer ≡ NoneFits
       → (rewriteAt single k n u p out .outputs ≡ out) × (rewriteAt single k n u p out .word ≡ u)
-  rewrite-noneFits-unchanged = noneFits-stays (rewriteAt-kept k n u p out)
+  rewrite-noneFits-unchanged = kept-stays NoneFits (λ f i j l e. zero-not-one (cc)) (rewriteAt-kept k n u p out)
 
 -- D6, I19: a call that is refused leaves its output as it was lent, whatever it was given
 pub refused-rewrite-unchanged : (k n : ℕ) (u : List ℕ) (p : ℕ) (before after : List ℕ) (a : Rewrite) → Rewrote single k n u p before after a

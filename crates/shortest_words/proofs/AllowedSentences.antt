@@ -24,10 +24,11 @@ use Rattle.coxeter.specs.Checks.{check, _then_, tooShort, wrongLetter, rankRefu
 use Rattle.coxeter.specs.NormalForm.{wordNormalForm, IsNormalForm}
 use Rattle.coxeter.specs.Calls.{Outcome, Yields, answerOf, writes}
 use Rattle.coxeter.proofs.Refusals.{then-zero, then-none, then-some, then-assoc, check-zero, rankRefusal-le, wordRefusal-le}
-use Rattle.coxeter.proofs.Refusals.{windowRefusal-le, then-exactly, then-avoids, check-avoids, check-number, check-exactly, refused-number}
+use Rattle.coxeter.proofs.Refusals.{windowRefusal-le, then-exactly, then-avoids, check-avoids, check-number, check-exactly}
 use Rattle.coxeter.proofs.Acceptance.{rank-within}
 use Rattle.coxeter.proofs.Order.{shortlex-cases}
 use Rattle.coxeter.proofs.Theorems.{window-passes}
+use Rattle.coxeter.proofs.AnswersExactly.{answerOf-exactly}
 use Rattle.shortest_words.specs.declared.Split.{Split}
 use Rattle.shortest_words.specs.declared.Split.the-variants.{Words, Refused}
 use Rattle.shortest_words.specs.Allowed.{Over, allows, wrongSet, setRefusal}
@@ -281,10 +282,6 @@ module _ (k n set : ℕ) (v w : List ℤ) (out : List ℕ) (l : ℕ) (after : Li
 
 -- ---- a way, refusals
 
-answerOf-refused : (r l c : ℕ) → (answerOf r l ≡ answer.Refused (suc c)) ↔ (r ≡ suc c)
-unfolding answerOf
-answerOf-refused r l c = refused-number answer.Refused (answer.Length l) r c (λ e. cc) (λ e. let o : _≡_ {A = ℕ} 0 1 = cc in omega arith)
-
 module _ (k n set : ℕ) (v w : List ℤ) (out : List ℕ) (a : Answer) (after : List ℕ) (h : Yields (betweenWindows k n set v w out) a after) where
   abbrev last-check : ℕ
   last-check = check 14 (tooShort (length (between (kindOf k) n v w)) out)
@@ -292,8 +289,8 @@ module _ (k n set : ℕ) (v w : List ℤ) (out : List ℕ) (a : Answer) (after :
   between-refused : (c : ℕ) → (a ≡ answer.Refused (suc c)) ↔ ((betweenRefusal k n set v w then last-check) ≡ suc c)
   unfolding betweenWindows writes
   between-refused c =
-      let e = answerOf-refused (betweenRefusal k n set v w then last-check) (length (between (kindOf k) n v w)) c in
-      (λ q. e .0 (sym (h .0) ∙ q), λ q. h .0 ∙ e .1 q)
+      let e = answerOf-exactly (betweenRefusal k n set v w then last-check) (length (between (kindOf k) n v w)) .0 (suc c) in
+      (λ q. e .0 (sym (h .0) ∙ q) .0, λ q. h .0 ∙ e .1 (q, λ z. omega arith))
 
   -- C16: right after the rank, before both windows
   pub between-16-exactly : (a ≡ answer.Refused 16) ↔ (RankOf k n × ((s : ℕ) × (n < s) × (allows set s ≡ true)))

@@ -5,6 +5,7 @@
 use mathlib.Core.Path.{_≡_, refl, sym, _∙_}
 use mathlib.Core.Bool.{Bool, true, false}
 use mathlib.Core.List.{List, _++_}
+use mathlib.Core.Logic.{⊎-elim}
 use Prim.Native.Nat.{ℕ, _≤_}
 use native.Mathlib.Decide.{ℕ-discrete}
 use native.Mathlib.Omega.{arith}
@@ -15,8 +16,9 @@ use Rattle.coxeter.specs.declared.Answer.the-variants.{Length, Refused}
 use Rattle.coxeter.specs.Kinds.{kindOf}
 use Rattle.coxeter.specs.Checks.{check, _then_, tooShort, rankRefusal, windowRefusal, WindowOf}
 use Rattle.coxeter.specs.Calls.{answerOf, written, writes}
-use Rattle.coxeter.proofs.Refusals.{then-zero, then-none, then-some, check-le, then-le, rankRefusal-le, windowRefusal-le}
+use Rattle.coxeter.proofs.Refusals.{then-zero, then-none, then-some, check-le, then-le, rankRefusal-le, windowRefusal-le, check-avoids, then-exactly}
 use Rattle.coxeter.proofs.Writes.{wrote}
+use Rattle.coxeter.proofs.AnswersExactly.{answerOf-exactly}
 use Rattle.shortest_words.specs.Allowed.{wrongSet, setRefusal}
 use Rattle.shortest_words.specs.BetweenCalls.{unreachable, betweenRefusal, betweenWindows}
 
@@ -69,18 +71,11 @@ module _ (k n set : ℕ) (v w : List ℤ) where
 
 -- of a call that writes l
 pub writes-19 : (q : ℕ) (l out : List ℕ) → writes q l out .answer ≡ Refused 19 → q ≡ 19
-unfolding writes answerOf
-writes-19 q l out e = elim (ℕ-discrete q 0) [
-  | yes z ↦ absurd (short (tooShort (length l) out) (rw z at e))
-  | no f ↦
-      let g : answerOf q (length l) ≡ Refused 19 = rw (ne-eqb q 0 f) at e in
-      let r : Refused q ≡ Refused 19 = rw (ne-eqb q 0 f) at g in
-      cc
-]
-  where
-    short : (t : Bool) → answerOf (check 14 t) (length l) ≡ Refused 19 → ⊥
-    short true h = let z : _≡_ {A = ℕ} 14 19 = cc in omega arith
-    short false h = let z : _≡_ {A = ℕ} 0 1 = cc in omega arith
+unfolding writes
+writes-19 q l out e =
+    let t = tooShort (length l) out in
+    ⊎-elim (λ z. z) (λ z. absurd (check-avoids 14 18 t (λ a. omega arith) (z .1)))
+    (then-exactly q (check 14 t) 18 .0 (answerOf-exactly (q then check 14 t) (length l) .0 19 .0 e .0))
 
 pub writes-length : (q : ℕ) (l out : List ℕ) (m : ℕ) → writes q l out .answer ≡ Length m → (q ≡ 0) × (m ≡ length l) × (writes q l out .bytes ≡ l ++ drop m out)
 writes-length q l out m e =
@@ -89,19 +84,8 @@ writes-length q l out m e =
 
 -- ---- kinds and ranks that are refused
 
-writes-refusal : (q : ℕ) (l out : List ℕ) → (q ≡ 0 → ⊥) → writes q l out ≡ record { answer = Refused q; bytes = out }
-unfolding writes answerOf written
-writes-refusal q l out f = rw (ne-eqb q 0 f) (rw (ne-eqb q 0 f))
-
-rank-refuses : (k n set : ℕ) (v w : List ℤ) → (rankRefusal k n ≡ 0 → ⊥) → betweenRefusal k n set v w ≡ rankRefusal k n
-unfolding betweenRefusal setRefusal
-rank-refuses k n set v w f = let r = then-some (rankRefusal k n) (check 16 (wrongSet n set)) f in then-some _ _ (λ z. f (sym r ∙ z)) ∙ r
-
 -- a call that checks 5 and 6 refuse depends on nothing else of its kind and rank
 pub between-alike : (k n l m set : ℕ) (v w : List ℤ) (out : List ℕ) → rankRefusal l m ≡ rankRefusal k n → (rankRefusal k n ≡ 0 → ⊥)
     → betweenWindows l m set v w out ≡ betweenWindows k n set v w out
-unfolding betweenWindows
-between-alike k n l m set v w out e f =
-    let p = rank-refuses l m set v w (λ z. f (sym e ∙ z)) ∙ e in
-    let q = rank-refuses k n set v w f in
-    rw (p, q) (writes-refusal (rankRefusal k n) _ out f ∙ sym (writes-refusal (rankRefusal k n) _ out f))
+unfolding betweenWindows betweenRefusal setRefusal writes answerOf written
+between-alike k n l m set v w out e f = simp (e, ne-eqb (rankRefusal k n) 0 f)

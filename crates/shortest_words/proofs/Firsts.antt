@@ -16,9 +16,8 @@ use Rattle.coxeter.specs.Windows.{window}
 use Rattle.coxeter.specs.Length.{windowLength}
 use Rattle.coxeter.specs.Checks.{_then_, firstOf, wrongKind, wrongRank, tooLong, wrongLetter, wrongLanes, wrongEntry, oddNegatives, tooShort, wordRefusal}
 use Rattle.coxeter.specs.Calls.{answerOf, writes}
-use Rattle.coxeter.proofs.Refusals.{refused-exactly, then-assoc}
+use Rattle.coxeter.proofs.Refusals.{refused-exactly, then-assoc, good-exactly}
 use Rattle.coxeter.proofs.TestLaws.{zero-not-one}
-use Rattle.coxeter.proofs.AnswersExactly.{good-exactly}
 use Rattle.coxeter.proofs.FirstFailing.{check-then, rank-then, word-then, window-then}
 use Rattle.coxeter.proofs.FirstRefusals.{word-alone}
 use Rattle.shortest_words.specs.declared.Fallback.the-variants as fallback
@@ -42,7 +41,7 @@ unfolding fallbackOf
 fallbackOf-exactly r true l = (
   λ c. refused-exactly fallback.Refused (fallback.Kept l) r c (λ e. cc) (λ e. zero-not-one (cc)),
   let e = good-exactly fallback.Refused (fallback.Kept l) r fallback.No (λ e. zero-not-one (cc)) in
-      (λ q. let p = e .0 q in (p .0, absurd (zero-not-one (cc (p .1)))), λ p. absurd (true≢false (p .1))),
+      (λ q. let p = e .0 q in (p .0, zero-not-one (cc (p .1))), λ p. absurd (true≢false (p .1))),
   λ m.
       let e = good-exactly fallback.Refused (fallback.Kept l) r (fallback.Kept m) (λ e. zero-not-one (cc)) in
       (λ q. let p = e .0 q in (p .0, refl, cc (p .1)), λ p. e .1 (p .0, ap fallback.Kept (p .2))),
@@ -53,7 +52,7 @@ fallbackOf-exactly r false l = (
       (λ q. (e .0 q .0, refl), λ p. e .1 (p .0, refl)),
   λ m.
       let e = good-exactly fallback.Refused fallback.No r (fallback.Kept m) (λ e. zero-not-one (cc)) in
-      (λ q. absurd (zero-not-one (cc (e .0 q .1))), λ p. absurd (true≢false (sym (p .1)))),
+      (λ q. zero-not-one (cc (e .0 q .1)), λ p. absurd (true≢false (sym (p .1)))),
 )
 
 -- G17, CO3: an answer on splits names the refusal if that is not 0; else it says the two lengths

@@ -5,25 +5,21 @@
 -- Sections: the two words; the call; what a call leaves.
 -- Assumes nothing.
 use mathlib.Core.Path.{_≡_, refl, sym, ap₂, _∙_}
-use mathlib.Core.Bool.{Bool, true, false}
+use mathlib.Core.Bool.{Bool}
 use mathlib.Core.List.{List, []}
 use Prim.Native.Nat.{ℕ, _+_, _-_, _^_, _≤_}
-use native.Mathlib.Omega.{arith}
-use lib.Dec.{eqb}
 use lib.IntN.{ℤ}
 use lib.ListN.{length, take, drop}
-use borrow.Author.Tests.{eqb-true}
-use Rattle.coxeter.specs.Kinds.{Kind, pick, kindOf, least}
+use Rattle.coxeter.specs.Kinds.{Kind, kindOf, least}
 use Rattle.coxeter.specs.Windows.{window}
 use Rattle.coxeter.specs.Length.{windowLength}
 use Rattle.coxeter.specs.Checks.{check, _then_, tooShort, wordRefusal, RankOf, WindowOf}
-use Rattle.coxeter.specs.Calls.{front, written}
-use Rattle.coxeter.proofs.Refusals.{then-zero}
-use Rattle.coxeter.proofs.Unchanged.{kept-whole, kept-past}
+use Rattle.coxeter.proofs.Refusals.{then-zero, good-exactly}
+use Rattle.coxeter.proofs.Unchanged.{kept-whole, kept-past, kept-front}
 use Rattle.coxeter.proofs.Acceptance.{rank-within}
 use Rattle.coxeter.proofs.Levels.{accepted-of-refusal}
 use Rattle.coxeter.proofs.Theorems.{window-passes}
-use Rattle.coxeter.proofs.FrontLaws.{take-front}
+use Rattle.coxeter.proofs.TestLaws.{zero-not-one}
 use Rattle.shortest_words.specs.declared.Split.the-variants.{Words, Refused}
 use Rattle.shortest_words.specs.Allowed.{allows, setRefusal}
 use Rattle.shortest_words.specs.Split.{IsSplit, firstWord, secondWord}
@@ -53,22 +49,6 @@ module _ (k : Kind) (n : ℕ) (w : List ℤ) (h : least k ≤ n) (p : WindowOf k
 
 -- ---- the call
 
-module _ (u v first second : List ℕ) where
-  pick-told : (t : Bool) (s a b : ℕ) → pick t (Words (length u) (length v)) (Refused s) ≡ Words a b
-      → (t ≡ true)
-      × (take a (pick t (front u first) first) ≡ u)
-      × (take b (pick t (front v second) second) ≡ v)
-      × (length u ≡ a)
-      × (length v ≡ b)
-  pick-told true s a b h =
-      let e : length u ≡ a = cc in
-      let f : length v ≡ b = cc in
-      (refl, take-front u first a e, take-front v second b f, e, f)
-  pick-told false s a b h = let z : _≡_ {A = ℕ} 0 1 = cc in absurd (omega arith)
-
-words-not-refused : (a b r : ℕ) → Words a b ≡ Refused r → ⊥
-words-not-refused a b r e = let z : _≡_ {A = ℕ} 0 1 = cc in omega arith
-
 module _ (k n set : ℕ) (u first second : List ℕ) where
   abbrev shown : List ℤ
   shown = window (kindOf k) n u
@@ -86,17 +66,23 @@ module _ (k n set : ℕ) (u first second : List ℕ) where
   refusal = checks then check 14 (tooShort (length taken) first) then check 14 (tooShort (length left) second)
 
   module _ (a b : ℕ) (h : splitting k n set u first second .answer ≡ Words a b) where
-    told : (eqb refusal 0 ≡ true)
+    told : (refusal ≡ 0)
         × (take a (splitting k n set u first second .first) ≡ taken)
         × (take b (splitting k n set u first second .second) ≡ left)
         × (length taken ≡ a)
         × (length left ≡ b)
-    unfolding splitting splitOutcome splitOf written
-    told = pick-told taken left first second (eqb refusal 0) refusal a b h
+    unfolding splitting splitOutcome splitOf
+    told =
+        let good = Words (length taken) (length left) in
+        let apart : Refused refusal ≡ Words a b → ⊥ = λ e. zero-not-one (cc) in
+        let g = good-exactly Refused good refusal (Words a b) apart .0 h in
+        let p : length taken ≡ a = let e = g .1 in cc in
+        let q : length left ≡ b = let e = g .1 in cc in
+        (g .0, kept-front refusal good Refused h apart taken first a p, kept-front refusal good Refused h apart left second b q, p, q)
 
     -- such an answer comes only where checks 5 and 6 pass
     pub splitting-accepted : RankOf k n
-    splitting-accepted = split-accepted k n set u checks refl (then-zero checks _ (eqb-true refusal 0 (told .0)) .0) .0
+    splitting-accepted = split-accepted k n set u checks refl (then-zero checks _ (told .0) .0) .0
 
     rank : least (kindOf k) ≤ n
     rank = rank-within k n splitting-accepted .0
@@ -131,5 +117,5 @@ module _ (k n set : ℕ) (u first second : List ℕ) where
   unfolding splitting splitOutcome splitOf
   splitting-unchanged r h =
       let good = Words (length taken) (length left) in
-      let not-good = words-not-refused (length taken) (length left) r in
+      let not-good : good ≡ Refused r → ⊥ = λ e. zero-not-one (cc) in
       (kept-whole refusal good Refused h not-good taken first, kept-whole refusal good Refused h not-good left second)

@@ -9,7 +9,6 @@ use mathlib.Core.Logic.{_↔_}
 use mathlib.Core.List.{List, []}
 use Prim.Native.Nat.{ℕ, _≤_, _<_}
 use native.Mathlib.Decide.{ℕ-discrete}
-use native.Mathlib.Omega.{arith}
 use lib.Dec.{eqb}
 use lib.IntN.{ℤ}
 use lib.ListN.{length, take, drop}
@@ -26,6 +25,7 @@ use Rattle.coxeter.proofs.PairWeights.{windowLength-le-4096}
 use Rattle.coxeter.proofs.Refusals.{then-assoc}
 use Rattle.coxeter.proofs.Order.{sameWindow-true, sameWindow-of-eq}
 use Rattle.coxeter.proofs.FrontLaws.{take-front, drop-front}
+use Rattle.coxeter.proofs.TestLaws.{zero-not-one}
 use Rattle.shortest_words.specs.declared.Fallback.{Fallback}
 use Rattle.shortest_words.specs.declared.Fallback.the-variants.{Kept, No, Refused}
 use Rattle.shortest_words.specs.Fallback.{ShortestSubwordPlaces, someSubword, isFallback}
@@ -60,7 +60,7 @@ module _ (k : Kind) (n : ℕ) (u : List ℕ) (w : List ℤ) (places : List ℕ) 
     unfolding keptCount
     decided-no z = record {
       answer = rw (decided ∙ z);
-      kept = λ l y. let o : _≡_ {A = ℕ} 0 1 = cc in absurd (omega arith);
+      kept = λ l y. zero-not-one (cc);
       others = refl;
     }
 
@@ -76,7 +76,7 @@ module _ (k : Kind) (n : ℕ) (u : List ℕ) (w : List ℤ) (places : List ℕ) 
       unfolding tooShort keptCount
       decided-short l = record {
         answer = rw (decided ∙ z, count, lt-ltb (length places) m l);
-        kept = λ i y. let o : _≡_ {A = ℕ} 0 1 = cc in absurd (omega arith);
+        kept = λ i y. zero-not-one (cc);
         others = refl;
       }
 
@@ -108,7 +108,7 @@ module _ (k n : ℕ) (present simpler places : List ℕ) (r : ℕ) (e : r ≡ (r
   unfolding fallbackAnswer fallbackOf keptCount
   fellBack-refused f = record {
     answer = rw (last, ne-eqb r 0 f) (rw (ne-eqb r 0 f));
-    kept = λ i y. let o : _≡_ {A = ℕ} 0 1 = cc in absurd (omega arith);
+    kept = λ i y. zero-not-one (cc);
     others = refl;
   }
 
@@ -144,22 +144,22 @@ told q t short l = elim (ℕ-discrete q 0) [
 
 module _ {q : ℕ} {t short : Bool} {l : ℕ} where
   pub told-no : {a : Fallback} → Told q t short l a → a ≡ No → (q ≡ 0) × (t ≡ false)
-  told-no (is-refused f) e = let z : _≡_ {A = ℕ} 0 1 = cc in absurd (omega arith)
+  told-no (is-refused f) e = zero-not-one (cc)
   told-no (is-no z n) e = (z, n)
-  told-no (is-short z y s) e = let z : _≡_ {A = ℕ} 0 1 = cc in absurd (omega arith)
-  told-no (is-kept z y s) e = let z : _≡_ {A = ℕ} 0 1 = cc in absurd (omega arith)
+  told-no (is-short z y s) e = zero-not-one (cc)
+  told-no (is-kept z y s) e = zero-not-one (cc)
 
   pub told-kept : {a : Fallback} (m : ℕ) → Told q t short l a → a ≡ Kept m → (q ≡ 0) × (t ≡ true) × (short ≡ false) × (m ≡ l)
-  told-kept m (is-refused f) e = let z : _≡_ {A = ℕ} 0 1 = cc in absurd (omega arith)
-  told-kept m (is-no z n) e = let z : _≡_ {A = ℕ} 0 1 = cc in absurd (omega arith)
-  told-kept m (is-short z y s) e = let z : _≡_ {A = ℕ} 0 1 = cc in absurd (omega arith)
+  told-kept m (is-refused f) e = zero-not-one (cc)
+  told-kept m (is-no z n) e = zero-not-one (cc)
+  told-kept m (is-short z y s) e = zero-not-one (cc)
   told-kept m (is-kept z y s) e = (z, y, s, cc)
 
   pub told-short : {a : Fallback} → (q ≡ 14 → ⊥) → Told q t short l a → a ≡ Refused 14 → (q ≡ 0) × (t ≡ true) × (short ≡ true)
   told-short g (is-refused f) e = absurd (g cc)
-  told-short g (is-no z n) e = let z : _≡_ {A = ℕ} 0 1 = cc in absurd (omega arith)
+  told-short g (is-no z n) e = zero-not-one (cc)
   told-short g (is-short z y s) e = (z, y, s)
-  told-short g (is-kept z y s) e = let z : _≡_ {A = ℕ} 0 1 = cc in absurd (omega arith)
+  told-short g (is-kept z y s) e = zero-not-one (cc)
 
   pub is-told-no : {a : Fallback} → Told q t short l a → q ≡ 0 → t ≡ false → a ≡ No
   is-told-no (is-refused f) z n = absurd (f z)
@@ -197,8 +197,8 @@ fallbackOf-kept r t m l e = cases (eqb r 0) t e
   where
     cases : (s t : Bool) → pick s (pick t (Kept m) No) (Refused r) ≡ Kept l → l ≡ m
     cases true true e = cc
-    cases true false e = let o : _≡_ {A = ℕ} 0 1 = cc in absurd (omega arith)
-    cases false t e = let o : _≡_ {A = ℕ} 0 1 = cc in absurd (omega arith)
+    cases true false e = zero-not-one (cc)
+    cases false t e = zero-not-one (cc)
 
 module _ (k n : ℕ) (present simpler places after : List ℕ) where
   -- F5: a no writes nothing, nor does a refusal
@@ -221,8 +221,7 @@ module _ (k n : ℕ) (present simpler places after : List ℕ) where
             rw m (windowLength-le-4096 (kindOf k) n (window (kindOf k) n simpler) w (lanes-le k n _ z (w .size)))
         | no f ↦
             let q = h .answer ∙ fallbackAnswer-refused k n present simpler places f in
-            let o : _≡_ {A = ℕ} 0 1 = cc in
-            absurd (omega arith)
+            zero-not-one (cc)
       ]
 
   -- a call that checks 5 and 6 refuse depends on nothing else of its kind and rank
@@ -233,6 +232,6 @@ module _ (k n : ℕ) (present simpler places after : List ℕ) where
       h .answer ∙ fallbackAnswer-refused l m present simpler places (λ z. f (sym e ∙ z)) ∙ ap Refused e in
       record {
         answer = refused ∙ sym (fallbackAnswer-refused k n present simpler places f);
-        kept = λ i y. let o : _≡_ {A = ℕ} 0 1 = cc in absurd (omega arith);
+        kept = λ i y. zero-not-one (cc);
         others = h .others;
       }

@@ -10,9 +10,8 @@ use lib.ListN.{length}
 use Rattle.coxeter.specs.Kinds.{kindOf}
 use Rattle.coxeter.specs.Checks.{firstOf, wrongKind, wrongRank, tooLong, wrongLetter, tooShort}
 use Rattle.coxeter.specs.Calls.{answerOf}
-use Rattle.coxeter.proofs.Refusals.{refused-exactly, then-assoc}
+use Rattle.coxeter.proofs.Refusals.{refused-exactly, then-assoc, good-exactly}
 use Rattle.coxeter.proofs.TestLaws.{zero-not-one}
-use Rattle.coxeter.proofs.AnswersExactly.{good-exactly}
 use Rattle.coxeter.proofs.FirstFailing.{check-then, rank-then, word-then}
 use Rattle.coxeter.proofs.FirstRefusals.{word-checks}
 use Rattle.traces.specs.declared.ToEnd.the-variants.{Ended, Refused}

@@ -14,12 +14,14 @@ use native.Mathlib.Omega.{arith}
 use lib.ListN.{length, take, drop, replicate, length-replicate, length-map}
 use borrow.Author.Tests.{le-ltb, ltb-false, le-leb, lt-leb}
 use Rattle.coxeter.specs.Kinds.{kindOf}
-use Rattle.coxeter.specs.Checks.{tooShort, rankRefusal, wordRefusal}
+use Rattle.coxeter.specs.Checks.{tooShort, rankRefusal, wordRefusal, check, _then_}
 use Rattle.coxeter.specs.NormalForm.{wordNormalForm}
-use Rattle.coxeter.specs.Calls.{front}
+use Rattle.coxeter.specs.Calls.{front, written}
 use Rattle.coxeter.proofs.Refusals.{then-zero}
 use Rattle.coxeter.proofs.Order.{less, same, more, compared}
 use Rattle.coxeter.proofs.FrontLaws.{take-front}
+use Rattle.coxeter.proofs.TestLaws.{zero-not-one}
+use Rattle.coxeter.proofs.Unchanged.{kept-front}
 use Rattle.rules.specs.declared.Rewrite.{Rewrite}
 use Rattle.rules.specs.declared.Rewrite.the-variants.{Used}
 use Rattle.rules.specs.Rules.{rules, firstFitting}
@@ -30,10 +32,11 @@ use Rattle.rules.proofs.Fits.{firstFitting-some, firstFitting-none, none-firstF
 use Rattle.rules.proofs.Completeness.{rewrites-letters, rewrites-length}
 use Rattle.rules.proofs.Calls.{accepted-least, accepted-letters, accepted-of-shorter, stepped, answer-of-none, usable-changed, stepped-used, single-lawful, nowhereFits-iff}
 use Rattle.rules.proofs.CallLists.{new-word-exactly}
-use Rattle.traces.specs.declared.ToEnd.the-variants.{Ended}
-use Rattle.traces.specs.Traces.{Redex, lowestRedex, Line, Trace, trace, familiesOf, placesOf, lengthsOf, Traced, rewritingToEnd, NoneFitsBelow, Replays}
+use Rattle.traces.specs.declared.ToEnd.the-variants.{Ended, Refused}
+use Rattle.traces.specs.Traces.{Redex, lowestRedex, Line, Trace, trace, familiesOf, placesOf, lengthsOf, rewritingToEnd, NoneFitsBelow, Replays, tracedBy, tooFewPlaces, toEndOf}
 use Rattle.traces.proofs.Traces.{Lowest, irreducible-of-none, after, lineOf, continued, lowest-rewrites, trace-induction, trace-normalForm}
-use Rattle.traces.proofs.Unchanged.{Written, refused, ended, tracedBy-written, toEnd-past}
+use Rattle.traces.proofs.Unchanged.{toEnd-past}
+use Rattle.traces.proofs.Firsts.{toEndOf-exactly}
 
 -- ---- one step of an accepted word
 
@@ -135,7 +138,7 @@ module _ (k n : ℕ) (u : List ℕ) (h : AcceptedWord k n u) where
     only-goes ih [] v r =
         let o = used-with 0 in
         let n = r .0 (s .place) (a .inside) (o .0) _ _ (record { answer = refl; outputs = refl }) in
-        let z : _≡_ {A = ℕ} 0 1 = cc in absurd (omega arith)
+        zero-not-one (cc)
     only-goes ih (l ∷ ls) v r =
         let o = used-with (l .left) in
         let q = r .1 (o .0) _ _ (record { answer = refl; outputs = refl }) (has-room (l .left) (o .0) (o .1)) in
@@ -150,7 +153,7 @@ module _ (k n : ℕ) (u : List ℕ) (h : AcceptedWord k n u) where
               (ap₂ (λ (y : Line) (ys : List Line). y ∷ ys) (same-line l (lineOf u s) f g e) (i .0), i .1)
           | more g ↦
               let n = r .0 (s .place) g (o .0) _ _ (record { answer = refl; outputs = refl }) in
-              let z : _≡_ {A = ℕ} 0 1 = cc in absurd (omega arith)
+              zero-not-one (cc)
         ]
 
 -- whoever replays lines from the word replays the rewriting's
@@ -199,26 +202,27 @@ trace-at-most k n u h d =
 
 -- ---- what a call writes
 
-take-mapped : (m : ℕ) (f : Line → ℕ) (ls : List Line) (out : List ℕ) → length ls ≡ m → take m (front (map f ls) out) ≡ map f ls
-take-mapped m f ls out e = take-front (map f ls) out m (length-map ls f ∙ e)
-
 -- a call that ends was not refused with q, and wrote the lines and the final word
-pub written-front : {q : ℕ} {t : Trace} {families places lengths out : List ℕ} {a : Traced} (s l : ℕ) → Written q t families places lengths out a
-    → a .answer ≡ Ended s l
+pub ended-wrote : (q : ℕ) (t : Trace) (families places lengths out : List ℕ) (s l : ℕ) → let x = tracedBy q t families places lengths out in
+    x .answer ≡ Ended s l
     → (q ≡ 0) × (length (t .lines) ≡ s) × (length (t .final) ≡ l)
-    × (take s (a .families) ≡ familiesOf (t .lines)) × (take s (a .places) ≡ placesOf (t .lines))
-    × (take s (a .lengths) ≡ lengthsOf (t .lines)) × (take l (a .bytes) ≡ t .final)
-written-front s l (refused r) e = let z : _≡_ {A = ℕ} 0 1 = cc in absurd (omega arith)
-written-front {t} {families} {places} {lengths} {out} s l (ended z) e =
-    let steps : length (t .lines) ≡ s = cc in
-    let final : length (t .final) ≡ l = cc in (
-      z,
-      steps,
-      final,
-      take-mapped s (λ (m : Line). m .family) (t .lines) families steps,
-      take-mapped s (λ (m : Line). m .place) (t .lines) places steps,
-      take-mapped s (λ (m : Line). m .left) (t .lines) lengths steps,
-      take-front (t .final) out l final,
+    × (take s (x .families) ≡ familiesOf (t .lines)) × (take s (x .places) ≡ placesOf (t .lines))
+    × (take s (x .lengths) ≡ lengthsOf (t .lines)) × (take l (x .bytes) ≡ t .final)
+unfolding tracedBy toEndOf
+ended-wrote q t families places lengths out s l e =
+    let r = q then check 15 (tooFewPlaces (length (t .lines)) families places lengths) then check 14 (tooShort (length (t .final)) out) in
+    let g = toEndOf-exactly r (length (t .lines)) (length (t .final)) .1 s l .0 e in
+    let stands : (w list : List ℕ) (m : ℕ) → length w ≡ m → take m (written r w list) ≡ w =
+    kept-front r (Ended (length (t .lines)) (length (t .final))) Refused e (λ h. zero-not-one (cc)) in
+    let lines : (f : Line → ℕ) (list : List ℕ) → take s (written r (map f (t .lines)) list) ≡ map f (t .lines) =
+    λ f list. stands (map f (t .lines)) list s (length-map (t .lines) f ∙ g .1) in (
+      then-zero q _ (g .0) .0,
+      g .1,
+      g .2,
+      lines (λ (m : Line). m .family) families,
+      lines (λ (m : Line). m .place) places,
+      lines (λ (m : Line). m .left) lengths,
+      stands (t .final) out l (g .2),
     )
 
 -- the first l bytes of the output are the normal form and the others stay; the first s places of the three lists
@@ -232,7 +236,7 @@ pub toEnd-wrote : (k n : ℕ) (u families places lengths out : List ℕ) (s l : 
     × (take s (t .lengths) ≡ lengthsOf ls) × Replays k n u ls v)
 unfolding rewritingToEnd
 toEnd-wrote k n u families places lengths out s l e =
-    let w = written-front s l (tracedBy-written _ _ families places lengths out) e in
+    let w = ended-wrote _ _ families places lengths out s l e in
     let z = then-zero (rankRefusal k n) (wordRefusal n u) (w .0) in
     let h : AcceptedWord k n u = record { rank = z .0; word = z .1 } in
     let f = trace-normalForm (kindOf k) n (accepted-least h) u (accepted-letters h) in (

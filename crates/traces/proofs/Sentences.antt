@@ -4,7 +4,7 @@
 -- Sections: replaying with a list of single rewrites; a rewriting that ended; refusals and the number of steps.
 -- Assumes nothing.
 use mathlib.Core.Path.{_≡_, refl, sym, ap, subst, _∙_}
-use mathlib.Core.Bool.{Bool, true, false, _||_, true≢false}
+use mathlib.Core.Bool.{Bool, true, false, true≢false, _||_}
 use mathlib.Core.Logic.{_⊎_, inl, inr, ⊎-elim, _↔_}
 use mathlib.Core.List.{List, [], _∷_, _++_, map}
 use Prim.Native.Nat.{ℕ, suc, _≤_, _<_}
@@ -20,10 +20,11 @@ use Rattle.coxeter.specs.Checks.{check, _then_, tooShort, rankRefusal, wordRefu
 use Rattle.coxeter.specs.NormalForm.{wordNormalForm, IsNormalForm}
 use Rattle.coxeter.specs.Calls.{answerOf}
 use Rattle.coxeter.proofs.Refusals.{then-zero, then-none, then-assoc, check-zero, rankRefusal-le, wordRefusal-le, then-exactly, then-avoids}
-use Rattle.coxeter.proofs.Refusals.{check-avoids, check-number, check-exactly, refused-number}
+use Rattle.coxeter.proofs.Refusals.{check-avoids, check-number, check-exactly}
 use Rattle.coxeter.proofs.Basics.{or-false-left, or-false-right}
 use Rattle.coxeter.proofs.Lists.{getD-take}
 use Rattle.coxeter.proofs.Theorems.{window-passes}
+use Rattle.coxeter.proofs.TestLaws.{zero-not-one}
 use Rattle.rules.specs.declared.Rewrite.the-variants.{Used}
 use Rattle.rules.specs.Calls.{newWordIn, single}
 use Rattle.rules.specs.Runs.{AcceptedWord, Result, Call, wordAfter, wordLeft, Meets, Run}
@@ -35,8 +36,9 @@ use Rattle.traces.specs.declared.ToEnd.the-variants.{Ended, Refused}
 use Rattle.traces.specs.Traces.{Line, trace, tooFewPlaces, familiesOf, placesOf, lengthsOf, toEndOf, tracedBy, rewritingToEnd}
 use Rattle.traces.specs.Traces.{TraceYields, numberOfSteps, NoneFitsBelow, Replays}
 use Rattle.traces.proofs.Traces.{trace-normalForm}
-use Rattle.traces.proofs.Unchanged.{tracedBy-written, toEnd-refused-unchanged, toEnd-past}
-use Rattle.traces.proofs.Replays.{trace-replays, replays-only, written-front, toEnd-wrote}
+use Rattle.traces.proofs.Unchanged.{toEnd-refused-unchanged, toEnd-past}
+use Rattle.traces.proofs.Replays.{trace-replays, replays-only, ended-wrote, toEnd-wrote}
+use Rattle.traces.proofs.Firsts.{toEndOf-exactly}
 
 -- ---- replaying with a list of single rewrites
 
@@ -94,16 +96,16 @@ module _ (k n : ℕ) (u : List ℕ) (l : Line) (ls : List Line) (v : List ℕ) (
           (rest .each front d more t)
 
 no-call : (front : List (Call single)) (c : Call single) (rest : List (Call single)) → [] ≡ front ++ (c ∷ rest) → ⊥
-no-call [] c rest q = let z : _≡_ {A = ℕ} 0 1 = cc in omega arith
-no-call (d ∷ front) c rest q = let z : _≡_ {A = ℕ} 0 1 = cc in omega arith
+no-call [] c rest q = zero-not-one (cc)
+no-call (d ∷ front) c rest q = zero-not-one (cc)
 
 seen : (k n : ℕ) (u : List ℕ) (ls : List Line) (v : List ℕ) → Replays k n u ls v → (cs : List (Call single)) → Run single k n u cs → calledAt cs ≡ placesOf ls
     → ((i : ℕ) → i < length ls → getD (lengthsOf ls) i 0 ≤ length (getD (lentTo cs) i []))
     → Seen k n u (familiesOf ls) (lengthsOf ls) v cs
 unfolding wordLeft
 seen k n u [] v r [] m e o = record { each = λ front c rest q. absurd (no-call front c rest q); last = r .1; ends = r .0 }
-seen k n u [] v r (c ∷ cs) m e o = let z : _≡_ {A = ℕ} 0 1 = cc in absurd (omega arith)
-seen k n u (l ∷ ls) v r [] m e o = let z : _≡_ {A = ℕ} 0 1 = cc in absurd (omega arith)
+seen k n u [] v r (c ∷ cs) m e o = zero-not-one (cc)
+seen k n u (l ∷ ls) v r [] m e o = zero-not-one (cc)
 seen k n u (l ∷ ls) v r (c ∷ cs) m e o =
     let room : l .left ≤ length (c .arguments .outputs) = o 0 (omega arith) in
     let places : calledAt cs ≡ placesOf ls = cc in
@@ -118,7 +120,7 @@ module _ (k n : ℕ) (u families places lengths out : List ℕ) (s l : ℕ) (fs 
   ended-accepted : AcceptedWord k n u
   unfolding rewritingToEnd
   ended-accepted =
-      let w = written-front s l (tracedBy-written _ _ families places lengths out) (sym (h .0)) in
+      let w = ended-wrote _ _ families places lengths out s l (sym (h .0)) in
       let z = then-zero (rankRefusal k n) (wordRefusal n u) (w .0) in
       record { rank = z .0; word = z .1 }
 
@@ -186,21 +188,10 @@ module _ (k n : ℕ) (u families places lengths out : List ℕ) (s l : ℕ) (fs 
   pub steps-answered : numberOfSteps k n u ≡ answer.Length s
   unfolding numberOfSteps answerOf rewritingToEnd
   steps-answered =
-      let w = written-front s l (tracedBy-written _ _ families places lengths out) (sym (h .0)) in
+      let w = ended-wrote _ _ families places lengths out s l (sym (h .0)) in
       rw (eq-eqb _ 0 (w .0)) (ap answer.Length (w .1))
 
 -- ---- refusals and the number of steps
-
-toEndOf-refused : (r s l c : ℕ) → (toEndOf r s l ≡ Refused (suc c)) ↔ (r ≡ suc c)
-unfolding toEndOf
-toEndOf-refused r s l c = refused-number Refused (Ended s l) r c (λ e. cc) (λ e. let o : _≡_ {A = ℕ} 0 1 = cc in omega arith)
-
-toEndOf-ended : (r a b s l : ℕ) → (toEndOf r a b ≡ Ended s l) ↔ ((r ≡ 0) × (a ≡ s) × (b ≡ l))
-unfolding toEndOf
-toEndOf-ended r a b s l = elim (ℕ-discrete r 0) [
-  | yes z ↦ rw (eq-eqb r 0 z) (λ e. (z, cc, cc), λ e. rw (e .1, e .2))
-  | no f ↦ rw (ne-eqb r 0 f) (λ e. let o : _≡_ {A = ℕ} 0 1 = cc in absurd (omega arith), λ e. absurd (f (e .0)))
-]
 
 or-exactly : (a b c : Bool) → ((a || (b || c)) ≡ true) ↔ ((a ≡ true) ⊎ ((b ≡ true) ⊎ (c ≡ true)))
 or-exactly true b c = (λ e. inl refl, λ e. refl)
@@ -245,7 +236,7 @@ steps-exactly k n u m = elim (ℕ-discrete (rankRefusal k n then wordRefusal n u
       )
   | no f ↦
       rw (ne-eqb (rankRefusal k n then wordRefusal n u) 0 f) (
-        λ e. let o : _≡_ {A = ℕ} 0 1 = cc in absurd (omega arith),
+        λ e. zero-not-one (cc),
         λ q. absurd (f (then-none (rankRefusal k n) _ (q .0) ∙ q .1)),
       )
 ]
@@ -269,12 +260,12 @@ module _ (k n : ℕ) (u families places lengths out : List ℕ) (a : ToEnd) (fs 
       let m = length (trace (kindOf k) n u .lines) in
       let few = tooFewPlaces m families places lengths in
       let short = tooShort (length (trace (kindOf k) n u .final)) out in
-      let e = toEndOf-refused (q then check 15 few then check 14 short) m (length (trace (kindOf k) n u .final)) 14 in
+      let e = toEndOf-exactly (q then check 15 few then check 14 short) m (length (trace (kindOf k) n u .final)) .0 15 in
       let c = check-exactly q 14 few (check 14 short) (then-avoids (rankRefusal k n) (wordRefusal n u) 14
       (λ z. omega (arith, rankRefusal-le k n)) (λ z. omega (arith, wordRefusal-le n u))) (check-avoids 14 14 short (λ z. omega arith)) in
       let o = few-exactly m families places lengths in (
-        λ g. let p = c .0 (e .0 (sym (h .0) ∙ g)) in (m, rw (eq-eqb q 0 (p .0)), o .0 (p .1)),
-        λ g. let p = counted k n u (g .0) (g .1) in h .0 ∙ e .1 (c .1 (p .0, o .1 (rw (p .1) (g .2)))),
+        λ g. let p = c .0 (e .0 (sym (h .0) ∙ g) .0) in (m, rw (eq-eqb q 0 (p .0)), o .0 (p .1)),
+        λ g. let p = counted k n u (g .0) (g .1) in h .0 ∙ e .1 (c .1 (p .0, o .1 (rw (p .1) (g .2))), λ z. omega arith),
       )
 
   final-length : (rankRefusal k n then wordRefusal n u) ≡ 0 → length (trace (kindOf k) n u .final) ≡ length (wordNormalForm (kindOf k) n u)
@@ -294,7 +285,7 @@ module _ (k n : ℕ) (u families places lengths out : List ℕ) (a : ToEnd) (fs 
       let t = trace (kindOf k) n u in
       let few = tooFewPlaces (length (t .lines)) families places lengths in
       let short = tooShort (length (t .final)) out in
-      let e = toEndOf-ended (q then check 15 few then check 14 short) (length (t .lines)) (length (t .final)) s l in (
+      let e = toEndOf-exactly (q then check 15 few then check 14 short) (length (t .lines)) (length (t .final)) .1 s l in (
         λ g.
             let p = e .0 (sym (h .0) ∙ g) in
             let z = then-zero q (check 15 few then check 14 short) (p .0) in
@@ -323,13 +314,13 @@ module _ (k n : ℕ) (u families places lengths out : List ℕ) (a : ToEnd) (fs 
       let m = length (t .lines) in
       let few = tooFewPlaces m families places lengths in
       let short = tooShort (length (t .final)) out in
-      let e = toEndOf-refused (q then check 15 few then check 14 short) m (length (t .final)) 13 in
+      let e = toEndOf-exactly (q then check 15 few then check 14 short) m (length (t .final)) .0 14 in
       let regroup = then-assoc q (check 15 few) (check 14 short) in
       let c = then-exactly (q then check 15 few) (check 14 short) 13 in
       let early = then-avoids q (check 15 few) 13 (then-avoids (rankRefusal k n) (wordRefusal n u) 13
       (λ z. omega (arith, rankRefusal-le k n)) (λ z. omega (arith, wordRefusal-le n u))) (check-avoids 15 13 few (λ z. omega arith)) in (
         λ g.
-            let p = ⊎-elim (λ z. absurd (early z)) (λ z. z) (c .0 (regroup ∙ e .0 (sym (h .0) ∙ g))) in
+            let p = ⊎-elim (λ z. absurd (early z)) (λ z. z) (c .0 (regroup ∙ e .0 (sym (h .0) ∙ g) .0)) in
             let z = then-zero q (check 15 few) (p .0) in
             let r = enough-exactly m families places lengths .0 (check-zero 15 few refl (z .1)) in
             let o = ltb-true (length out) (length (t .final)) (check-number 13 short .0 (p .1)) in
@@ -341,7 +332,7 @@ module _ (k n : ℕ) (u families places lengths out : List ℕ) (a : ToEnd) (fs 
             let f : few ≡ false = enough-exactly m families places lengths .1 (omega arith, omega arith, omega arith) in
             let w = final-length (p .0) in
             let o : short ≡ true = lt-ltb (length out) (length (t .final)) (omega arith) in
-            h .0 ∙ e .1 (sym regroup ∙ c .1 (inr (then-none q (check 15 few) (p .0) ∙ rw f, check-number 13 short .1 o))),
+            h .0 ∙ e .1 (sym regroup ∙ c .1 (inr (then-none q (check 15 few) (p .0) ∙ rw f, check-number 13 short .1 o)), λ z. omega arith),
       )
 
   -- CO3: and before 15 the first check's number

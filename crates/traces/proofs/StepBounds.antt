@@ -11,17 +11,17 @@ use Prim.Native.Nat.{ℕ, _-_, _*_, _/_, _≤_}
 use native.Mathlib.Decide.{ℕ-discrete}
 use native.Mathlib.Omega.{arith}
 use lib.ListN.{length}
-use borrow.Author.Tests.{eq-eqb, ne-eqb, le-ltb}
+use borrow.Author.Tests.{le-ltb}
 use Rattle.coxeter.specs.declared.Answer.the-variants as answer
 use Rattle.coxeter.specs.Kinds.{kindOf}
 use Rattle.coxeter.specs.Checks.{check, _then_, tooShort, rankRefusal, wordRefusal}
-use Rattle.coxeter.specs.Calls.{answerOf}
 use Rattle.coxeter.proofs.Refusals.{then-zero, then-none, then-some, check-le, then-le, rankRefusal-le, wordRefusal-le}
+use Rattle.coxeter.proofs.AnswersExactly.{answerOf-exactly}
 use Rattle.rules.specs.Runs.{AcceptedWord}
 use Rattle.rules.proofs.Calls.{accepted-least, accepted-letters}
 use Rattle.traces.specs.declared.ToEnd.the-variants as toEnd
-use Rattle.traces.specs.Traces.{Trace, trace, tooFewPlaces, toEndOf, Traced, tracedBy, rewritingToEnd, numberOfSteps}
-use Rattle.traces.proofs.Unchanged.{Written, refused, ended, tracedBy-written}
+use Rattle.traces.specs.Traces.{trace, tooFewPlaces, tracedBy, rewritingToEnd, numberOfSteps}
+use Rattle.traces.proofs.Firsts.{toEndOf-exactly}
 use Rattle.traces.proofs.Reading.{steps-at-most}
 
 -- ---- what is counted
@@ -32,31 +32,16 @@ accepted-of-zero k n u z = let a = then-zero (rankRefusal k n) (wordRefusal n u)
 -- a number of steps is told of an accepted word, and is that of its rewriting
 pub counted-steps : (k n : ℕ) (u : List ℕ) (s : ℕ) → numberOfSteps k n u ≡ answer.Length s
     → AcceptedWord k n u × (length (trace (kindOf k) n u .lines) ≡ s)
-unfolding numberOfSteps answerOf
-counted-steps k n u s e =
-    let r = rankRefusal k n then wordRefusal n u in
-    elim (ℕ-discrete r 0) [
-      | yes z ↦
-          let q : answer.Length (length (trace (kindOf k) n u .lines)) ≡ answer.Length s = rw (eq-eqb r 0 z) at e in
-          (accepted-of-zero k n u z, cc)
-      | no f ↦
-          let q : answer.Refused r ≡ answer.Length s = rw (ne-eqb r 0 f) at e in
-          let y : _≡_ {A = ℕ} 0 1 = cc in
-          absurd (omega arith)
-    ]
-
-written-steps : {q : ℕ} {t : Trace} {families places lengths out : List ℕ} {a : Traced} (s l : ℕ) → Written q t families places lengths out a
-    → a .answer ≡ toEnd.Ended s l → (q ≡ 0) × (length (t .lines) ≡ s)
-written-steps s l (refused r) e = let y : _≡_ {A = ℕ} 0 1 = cc in absurd (omega arith)
-written-steps s l (ended z) e = (z, cc)
+unfolding numberOfSteps
+counted-steps k n u s e = let g = answerOf-exactly _ _ .1 s .0 e in (accepted-of-zero k n u (g .0), g .1)
 
 pub ended-steps : (k n : ℕ) (u families places lengths out : List ℕ) (s l : ℕ)
     → rewritingToEnd k n u families places lengths out .answer ≡ toEnd.Ended s l
     → AcceptedWord k n u × (length (trace (kindOf k) n u .lines) ≡ s)
-unfolding rewritingToEnd
+unfolding rewritingToEnd tracedBy
 ended-steps k n u families places lengths out s l e =
-    let a = written-steps s l (tracedBy-written _ _ families places lengths out) e in
-    (accepted-of-zero k n u (a .0), a .1)
+    let g = toEndOf-exactly _ _ _ .1 s l .0 e in
+    (accepted-of-zero k n u (then-zero _ _ (g .0) .0), g .1)
 
 -- ---- at most
 
@@ -90,7 +75,7 @@ preset-refusal-le k n u = then-le (rankRefusal k n) (wordRefusal n u) 8 (omega (
 pub enough-places : (k n : ℕ) (u families places lengths out : List ℕ) → length u * (length u - 1) / 2 ≤ length families
     → length u * (length u - 1) / 2 ≤ length places → length u * (length u - 1) / 2 ≤ length lengths
     → rewritingToEnd k n u families places lengths out .answer ≡ toEnd.Refused 15 → ⊥
-unfolding rewritingToEnd tracedBy toEndOf
+unfolding rewritingToEnd tracedBy
 enough-places k n u families places lengths out f p g e =
     let t = trace (kindOf k) n u in
     let r = rankRefusal k n then wordRefusal n u in
@@ -104,13 +89,4 @@ enough-places k n u families places lengths out f p g e =
           omega (arith, then-none r c z, d, small)
       | no z ↦ omega (arith, then-some r c z, preset-refusal-le k n u)
     ] in
-    elim (ℕ-discrete (r then c) 0) [
-      | yes z ↦
-          let i : toEnd.Ended (length (t .lines)) (length (t .final)) ≡ toEnd.Refused 15 = rw (eq-eqb (r then c) 0 z) at e in
-          let y : _≡_ {A = ℕ} 0 1 = cc in
-          absurd (omega arith)
-      | no z ↦
-          let i : toEnd.Refused (r then c) ≡ toEnd.Refused 15 = rw (ne-eqb (r then c) 0 z) at e in
-          let y : (r then c) ≡ 15 = cc in
-          omega (arith, all)
-    ]
+    omega (arith, all, toEndOf-exactly (r then c) (length (t .lines)) (length (t .final)) .0 15 .0 e .0)

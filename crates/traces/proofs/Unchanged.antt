@@ -1,45 +1,16 @@
 -- A rewriting to its end that is refused changes none of its three lists and no byte of its output; past the steps
 -- the lists keep what they held. By cases on the refusal.
 -- Assumes nothing.
-use mathlib.Core.Path.{_≡_, refl, _∙_}
+use mathlib.Core.Path.{_≡_, _∙_}
 use mathlib.Core.List.{List, map}
 use Prim.Native.Nat.{ℕ}
-use native.Mathlib.Decide.{ℕ-discrete}
-use native.Mathlib.Omega.{arith}
 use lib.ListN.{length, drop, length-map}
-use borrow.Author.Tests.{eq-eqb, ne-eqb}
 use Rattle.coxeter.specs.Kinds.{kindOf}
 use Rattle.coxeter.specs.Checks.{check, _then_, tooShort, rankRefusal, wordRefusal}
-use Rattle.coxeter.specs.Calls.{front, written}
-use Rattle.coxeter.proofs.Refusals.{then-zero}
 use Rattle.coxeter.proofs.Unchanged.{kept-whole, kept-past}
+use Rattle.coxeter.proofs.TestLaws.{zero-not-one}
 use Rattle.traces.specs.declared.ToEnd.the-variants as toEnd
-use Rattle.traces.specs.Traces.{Line, Trace, tooFewPlaces, familiesOf, placesOf, lengthsOf, toEndOf, Traced, tracedBy, trace, rewritingToEnd}
-
--- either all is as it was, or q is no refusal and the lines and the final word are written
-pub data Written (q : ℕ) (t : Trace) (families places lengths out : List ℕ) : Traced → Type 0 where
-  refused : (r : ℕ) → Written q t families places lengths out
-      (record { answer = toEnd.Refused r; families = families; places = places; lengths = lengths; bytes = out })
-  ended : q ≡ 0 → Written q t families places lengths out (record {
-    answer = toEnd.Ended (length (t .lines)) (length (t .final));
-    families = front (familiesOf (t .lines)) families;
-    places = front (placesOf (t .lines)) places;
-    lengths = front (lengthsOf (t .lines)) lengths;
-    bytes = front (t .final) out;
-  })
-
-pub tracedBy-written : (q : ℕ) (t : Trace) (families places lengths out : List ℕ)
-    → Written q t families places lengths out (tracedBy q t families places lengths out)
-unfolding tracedBy toEndOf written
-tracedBy-written q t families places lengths out =
-    let r = q then check 15 (tooFewPlaces (length (t .lines)) families places lengths) then check 14 (tooShort (length (t .final)) out) in
-    elim (ℕ-discrete r 0) [
-      | yes z ↦ rw (eq-eqb r 0 z) (ended (then-zero q _ z .0))
-      | no z ↦ rw (ne-eqb r 0 z) (refused r)
-    ]
-
-ended-not-refused : (m l r : ℕ) → toEnd.Ended m l ≡ toEnd.Refused r → ⊥
-ended-not-refused m l r e = let z : _≡_ {A = ℕ} 0 1 = cc in omega arith
+use Rattle.traces.specs.Traces.{Line, tooFewPlaces, familiesOf, placesOf, lengthsOf, toEndOf, tracedBy, trace, rewritingToEnd}
 
 module _ (k n : ℕ) (u families places lengths out : List ℕ) where
   abbrev refusal : ℕ
@@ -58,7 +29,7 @@ module _ (k n : ℕ) (u families places lengths out : List ℕ) where
   toEnd-refused-unchanged q h =
       let t = trace (kindOf k) n u in
       let good = toEnd.Ended (length (t .lines)) (length (t .final)) in
-      let not-good = ended-not-refused (length (t .lines)) (length (t .final)) q in (
+      let not-good : good ≡ toEnd.Refused q → ⊥ = λ e. zero-not-one (cc) in (
         kept-whole refusal good toEnd.Refused h not-good (familiesOf (t .lines)) families,
         kept-whole refusal good toEnd.Refused h not-good (placesOf (t .lines)) places,
         kept-whole refusal good toEnd.Refused h not-good (lengthsOf (t .lines)) lengths,

@@ -5,12 +5,12 @@ use mathlib.Core.Bool.{Bool, true, false, false≢true}
 use mathlib.Core.List.{List}
 use Prim.Native.Nat.{ℕ}
 use native.Mathlib.Nat.{zero-add}
-use native.Mathlib.Omega.{arith}
 use denote.Ref.{RefT}
 use borrow.Rule.Slice.PartAt.{slPart}
 use borrow.Rule.Slice.Shared.{byByte}
 use Rattle.coxeter.specs.declared.Choice.the-variants as choices
 use Rattle.coxeter.specs.Calls.{choice, Better}
+use Rattle.coxeter.proofs.TestLaws.{zero-not-one}
 
 -- ---- the better word
 
@@ -26,26 +26,23 @@ pub choice-first : (hands second : Bool) → hands ≡ true → second ≡ false
 unfolding choice
 choice-first hands second e s = rw (e, s)
 
-differ : {A : Type 0} → _≡_ {A = ℕ} 0 1 → A
-differ e = absurd (omega (arith, e))
-
 -- the empty part at the start of the first word
 pub better-part : (hands second : Bool) (u v : RefT (List ℕ)) (γ : ℕ) → choice hands second ≡ choices.Neither
     → Better hands second u v (slPart u (byByte 0 (u .ptr .1)) 0 0 γ)
 unfolding choice
 better-part false second u v γ e =
     record { whole = λ h. absurd (false≢true h); empty = λ h. (refl, ap (λ (o : ℕ). (u .ptr .0, o)) (zero-add (u .ptr .1))) }
-better-part true true u v γ e = differ cc
-better-part true false u v γ e = differ cc
+better-part true true u v γ e = zero-not-one (cc)
+better-part true false u v γ e = zero-not-one (cc)
 
 pub better-second : (hands second : Bool) (u v : RefT (List ℕ)) → choice hands second ≡ choices.Second → Better hands second u v v
 unfolding choice
 better-second true true u v e = record { whole = λ h. refl; empty = λ h. absurd (false≢true (sym h)) }
-better-second true false u v e = differ cc
-better-second false second u v e = differ cc
+better-second true false u v e = zero-not-one (cc)
+better-second false second u v e = zero-not-one (cc)
 
 pub better-first : (hands second : Bool) (u v : RefT (List ℕ)) → choice hands second ≡ choices.First → Better hands second u v u
 unfolding choice
 better-first true false u v e = record { whole = λ h. refl; empty = λ h. absurd (false≢true (sym h)) }
-better-first true true u v e = differ cc
-better-first false second u v e = differ cc
+better-first true true u v e = zero-not-one (cc)
+better-first false second u v e = zero-not-one (cc)

@@ -29,12 +29,13 @@ use Rattle.coxeter.proofs.Theorems.{normalForm-fits}
 use Rattle.coxeter.proofs.Refusals.{then-none, then-some, then-assoc}
 use Rattle.coxeter.proofs.Outcomes.{writes-refused}
 use Rattle.coxeter.proofs.FrontLaws.{length-take-front, front-parts}
+use Rattle.coxeter.proofs.Writes.{length-or-refused}
 use Rattle.shortest_words.specs.Allowed.{over, allows, setRefusal}
 use Rattle.shortest_words.specs.Between.{between, reachable}
 use Rattle.shortest_words.specs.BetweenCalls.{unreachable, betweenRefusal, betweenWindows}
 use Rattle.shortest_words.proofs.Between.{between-accepted}
 use Rattle.shortest_words.proofs.BetweenCalls.{rank-of-set}
-use Rattle.descents.proofs.Answers.{length-is-no-refusal, told-length, told-refused}
+use Rattle.descents.proofs.Answers.{told-length, told-refused}
 use Rattle.descents.proofs.work.Windows.{form-le-square}
 
 -- ---- letters
@@ -145,7 +146,7 @@ module _ (k n set : ℕ) (v w : List ℤ) (z : setRefusal k n set ≡ 0) where
           never : (checks ≡ 0 → ⊥) → ⊥
           never f =
               let d = writes-refused (writes checks form before) checks checks form before refl refl f in
-              length-is-no-refusal m checks (sym q ∙ e .0 ∙ sym (d .0))
+              length-or-refused q (e .0 ∙ sym (d .0))
 
       held : (m ≡ length form) × (m ≤ length before) × (after ≡ front form before)
       held = told-length checks form before after y passed e m q

@@ -22,6 +22,7 @@ use Rattle.coxeter.proofs.GreatestLengths.{windowLength-le}
 use Rattle.coxeter.proofs.FormLaws.{lengthOfWindow-normalForm}
 use Rattle.window.proofs.Squares.{greatest-le}
 use Rattle.coxeter.proofs.Fronts.{Front, front-of-bytes}
+use Rattle.coxeter.proofs.TestLaws.{zero-not-one}
 
 -- no normal form has more than n × n letters
 pub form-le-square : (k : Kind) (n : ℕ) (w : List ℤ) → Accepted k n w → length (normalForm k n w) ≤ n * n
@@ -51,5 +52,4 @@ module _ (k n : ℕ) (h : RankOf k n) where
     pub length-never : (r : Answer) (s : ℕ) → r ≡ lengthOfWindow k n w → r ≡ answer.Refused s → ⊥
     length-never r s e q =
         let p : answer.Refused s ≡ answer.Length (length (normalForm (kindOf k) n w)) = sym q ∙ e ∙ lengthOfWindow-normalForm k n w h a in
-        let y : _≡_ {A = ℕ} 0 1 = cc in
-        omega arith
+        zero-not-one (cc)

@@ -19,6 +19,7 @@ use borrow.Author.Tests.{eq-eqb, ne-eqb}
 use Rattle.coxeter.specs.Kinds.{Kind, pick, least}
 use Rattle.coxeter.specs.NormalForm.{levels, lastIndex}
 use Rattle.coxeter.proofs.LetterLaws.{letter-within}
+use Rattle.coxeter.proofs.TestLaws.{zero-not-one}
 use Rattle.rules.specs.Rules.{Rule, rules, firstFitting}
 use Rattle.rules.proofs.ScanRules.{wrongLetter-drop}
 use Rattle.rules.proofs.Scan.{nextIndex, fork, familyAt, shownIndex, firstLetter, shownRule}
@@ -182,7 +183,7 @@ module _ (k : Kind) (n : ℕ) (h : least k ≤ n) (w : List ℕ) (q : ℕ) (r : 
         where
           nothing : (y : Option Rule) → fittingOf y ≡ found.Nothing → y ≡ none
           nothing none j = refl
-          nothing (some x) j = let c : _≡_ {A = ℕ} 0 1 = cc in absurd (omega arith)
+          nothing (some x) j = zero-not-one (cc)
 
           go : (y : Option Redex) → lowestRedex k n (take (suc q) w) ≡ y → ending.Nothing ≡ endingOf y
           go none j = refl
