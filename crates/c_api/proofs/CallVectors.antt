@@ -11,7 +11,7 @@ use Rattle.coxeter.specs.Length.{later, negative, one, laterThan, inversions, n
 use Rattle.coxeter.specs.Checks.{wrongKind, wrongRank, tooLong, wrongLetter, tooShort, rankRefusal, wordRefusal}
 use Rattle.coxeter.specs.Checks.{wrongLanes, hasSize, negativeInA, wrongAt, wrongEntry, odd, oddNegatives, windowRefusal}
 use Rattle.coxeter.specs.NormalForm.{down, rise, fall, block, without, indexOf, restOf, normalFrom, normalForm}
-use Rattle.coxeter.specs.Calls.{written}
+use Rattle.coxeter.specs.Calls.{front, written}
 use Rattle.coxeter.proofs.Vectors.{Agree}
 use Rattle.rules.specs.Rules.{concatMap, family1, family2, family3, family4, families5to7, rules, begins, fits, firstFitting, rewritten}
 use Rattle.shortest_words.specs.Descents.{isDescent}
@@ -41,7 +41,7 @@ pub toEnds-agree : Agree toEnds
 unfolding toEnds refused traceNumbers listedBeside rewritingToEndListed
     kindOf wrongKind wrongRank tooLong wrongLetter tooShort rankRefusal wordRefusal up down rise fall block
     concatMap family1 family2 family3 family4 families5to7 rules begins fits firstFitting rewritten
-    written lowestFrom lowestRedex traceWithin trace tooFewPlaces toEndOf tracedBy rewritingToEnd
+    front written lowestFrom lowestRedex traceWithin trace tooFewPlaces toEndOf tracedBy rewritingToEnd
 toEnds-agree = refl
 
 -- a split of 1 2 1 in A₂ with step 1 allowed; a list too short, and an output too short; a bit above the rank, with
@@ -57,7 +57,7 @@ splits =
 
 pub splits-agree : Agree splits
 unfolding splits refused splitNumbers listedBeside splittingListed
-    splitting splitOutcome splitOf written firstWord secondWord restInverse stripped lowest isDescent allows wrongSet setRefusal kindOf up
+    splitting splitOutcome splitOf front written firstWord secondWord restInverse stripped lowest isDescent allows wrongSet setRefusal kindOf up
     from swap negateFirst swapNegate act windowFrom identity window at product signed placeFrom inverse
     later negative one laterThan inversions negativeSumPairs negatives crossings total windowLength
     wrongKind wrongRank tooLong wrongLetter tooShort rankRefusal wordRefusal down rise fall block without indexOf restOf normalFrom normalForm
@@ -81,7 +81,7 @@ pub delayTables-agree : Agree delayTables
 unfolding delayTables refused tableNumbers listedBeside delayTableListed
     kindOf up from negateFirst signed placeFrom later negative one laterThan inversions negativeSumPairs negatives crossings total windowLength
     wrongKind wrongRank wrongLanes hasSize negativeInA wrongAt wrongEntry odd oddNegatives tooShort rankRefusal windowRefusal
-    down rise fall block without indexOf restOf normalFrom normalForm written
+    down rise fall block without indexOf restOf normalFrom normalForm front written
     allWindows.keep allWindows.consAll allWindows.lists allWindows.possibleEntries allWindows.windows ofLength distribution allNegative longest
     untabled tableRefusal tableOf roomRefusal tables delayTable
 delayTables-agree = refl

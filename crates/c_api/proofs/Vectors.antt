@@ -13,6 +13,7 @@ use Rattle.coxeter.specs.declared.Counted.the-variants as counted
 use Rattle.coxeter.specs.Kinds.{up, kindOf}
 use Rattle.coxeter.specs.Checks.{wrongKind, wrongRank, tooLong, wrongLetter, tooShort, rankRefusal, wordRefusal}
 use Rattle.coxeter.specs.NormalForm.{down, rise, fall, block}
+use Rattle.coxeter.specs.Calls.{front}
 use Rattle.coxeter.proofs.Vectors.{Agree}
 use Rattle.rules.specs.Rules.{concatMap, family1, family2, family3, family4, families5to7, rules, begins, fits, firstFitting, rewritten}
 use Rattle.rules.specs.Calls.{pastEnd, rewriteBy, rewriteAt}
@@ -92,7 +93,7 @@ lists =
     ∷ []
 
 pub lists-agree : Agree lists
-unfolding lists refused listed tooShort
+unfolding lists refused front listed tooShort
 lists-agree = refl
 
 -- and beside other outputs, which a list that is too short leaves
@@ -104,7 +105,7 @@ besides =
     ∷ []
 
 pub besides-agree : Agree besides
-unfolding besides refused listedBeside tooShort
+unfolding besides refused front listedBeside tooShort
 besides-agree = refl
 
 -- one rewrite: 3 4 in D₄, 3 4 in B₄, which no rule fits, and in D₄ again with too short a rule, too short an
@@ -121,7 +122,7 @@ rewritings =
     ∷ []
 
 pub rewritings-agree : Agree rewritings
-unfolding rewritings refused rewriting
+unfolding rewritings refused front rewriting
     kindOf wrongKind wrongRank tooLong wrongLetter tooShort rankRefusal wordRefusal up down rise fall block
     concatMap family1 family2 family3 family4 families5to7 rules begins fits firstFitting rewritten pastEnd rewriteBy rewriteAt
 rewritings-agree = refl
