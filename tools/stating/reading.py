@@ -1,5 +1,6 @@
-"""Walks through a statement and says of each word that the statement and its section do not bind what it is."""
-from scope import NUMERAL, Refused, Unresolved
+"""Walks through a statement and says of each word that the statement and its section do not bind what it is. What binds a word is spelled like nothing that the
+file declares or imports, so that no word can seem to be bound and be something else."""
+from scope import NUMERAL, Refused, Unresolved, parts
 
 OPEN, CLOSE = "({[", ")}]"
 
@@ -10,6 +11,12 @@ class Reader:
     def __init__(self, scope, fields):
         self.scope, self.fields = scope, fields
         self.terms, self.wrong = [], []
+
+    def _bind(self, env, token):
+        """The name is bound from here on."""
+        if token.name in self.scope:
+            self.wrong.append(f"{self.scope.path}:{token.line}: a binder is spelled like {token.name}, which the file declares or imports")
+        env.add(token.name)
 
     def _take(self, token, resolve):
         try:
@@ -41,66 +48,60 @@ class Reader:
         """Reads a type or a term; what it binds outside all brackets comes back."""
         return self._walk(self._tree(tokens), set(bound))
 
-    def equation(self, tokens, bound=()):
-        """Reads a defining equation: the names before its '=' that are no constructors are bound in what follows."""
+    def equation(self, tokens, defined, bound=()):
+        """Reads a defining equation of the word `defined`: the names before its '=' that are no constructors are bound in what follows."""
         tree = self._tree(tokens)
         at = next((n for n, item in enumerate(tree) if not isinstance(item, list) and item.text == "="), len(tree))
-        env = self._pattern(tree[:at], set(bound))
+        env = self._pattern(tree[:at], set(bound), parts(defined))
         self._walk(tree[at + 1:], env)
 
-    def _pattern(self, items, env):
+    def _pattern(self, items, env, defined=()):
         n = 0
         while n < len(items):
             item = items[n]
             if isinstance(item, list):
-                env = self._pattern(item[1:], env)
+                env = self._pattern(item[1:], env, defined)
             elif item.text not in (",", ";", "="):
                 following = items[n + 1: n + 3]
                 if len(following) == 2 and not isinstance(following[0], list) and following[0].text == "." and not isinstance(following[1], list):
                     self._take(item, lambda: self.scope.qualified(item.name, following[1].name))
                     n += 3
                     continue
-                if self._known(item):
+                if item.name in defined or self.scope.is_constructor(item.name):
                     self._take(item, lambda: self.scope.word(item.name))
                 else:
-                    env.add(item.name)
+                    self._bind(env, item)
             n += 1
         return env
 
-    def _known(self, token):
-        """Whether a word of a pattern is one that the file knows: else it is a variable."""
-        try:
-            self.scope.word(token.name)
-        except Unresolved:
-            return False
-        except Refused:
-            return True
-        return True
-
     @staticmethod
     def _names_before(items, mark):
-        """The names of a group `(x y : T)` and the place behind its ':', or None."""
+        """The words of a group `(x y : T)` before its ':' and the place behind it, or None."""
         names = []
         for n, item in enumerate(items):
             if isinstance(item, list) or item.text in ("let", "λ", ".", ",", ";", "elim", "record"):
                 return None
             if item.text == mark:
                 return (names, n + 1) if names else None
-            names.append(item.name)
+            names.append(item)
         return None
 
     def _walk(self, items, env):
-        start = set(env)
+        start, pair = set(env), False
         n = 0
         while n < len(items):
             item = items[n]
             if isinstance(item, list):
-                env = self._group(item, env)
+                grown = self._group(item, env)
+                pair = pair or grown is not env and n + 1 < len(items) and not isinstance(items[n + 1], list) and items[n + 1].text == "×"
+                env = grown
                 n += 1
                 continue
             text = item.text
+            if pair and text in ("→", "↔"):
+                self.wrong.append(f"{self.scope.path}:{item.line}: a binder of × ends before {text}: it needs brackets around all that it binds")
             if text in (",", ";"):
-                env = set(start)
+                env, pair = set(start), False
             elif text == "λ":
                 n, env = self._binders(items, n + 1, env)
                 continue
@@ -149,7 +150,10 @@ class Reader:
         if found:
             names, at = found
             self._walk(inside[at:], set(env))
-            return env | set(names)
+            env = set(env)
+            for name in names:
+                self._bind(env, name)
+            return env
         if group[0].text == "{":
             named = self._names_before(inside, "=")
             self._walk(inside[named[1]:] if named else inside, set(env))
@@ -160,29 +164,33 @@ class Reader:
     def _binders(self, items, n, env):
         env = set(env)
         while n < len(items) and (isinstance(items[n], list) or items[n].text != "."):
-            item = items[n]
-            if isinstance(item, list):
-                found = self._names_before(item[1:], ":")
-                if found:
-                    self._walk(item[1 + found[1]:], set(env))
-                    env |= set(found[0])
-                else:
-                    env = self._pattern(item[1:], env)
-            else:
-                env.add(item.name)
+            env = self._binder(items[n], env)
             n += 1
         return n + 1, env
 
+    def _binder(self, item, env):
+        """A word, a group `(x : T)` or a pattern that a λ or a let binds."""
+        if not isinstance(item, list):
+            self._bind(env, item)
+        elif self._names_before(item[1:], ":"):
+            env = self._group(item, env)
+        else:
+            env = self._pattern(item[1:], env)
+        return env
+
     def _let(self, items, n, env):
-        env = set(env)
-        while n < len(items) and (isinstance(items[n], list) or items[n].text not in (":", "=")):
-            item = items[n]
-            if isinstance(item, list):
-                env = self._pattern(item[1:], env)
-            else:
-                env.add(item.name)
-            n += 1
-        return n + 1, env
+        """`let x : T = e in ..`: x is bound behind the `in` alone."""
+        texts = [None if isinstance(item, list) else item.text for item in items]
+        depth, end = 1, n
+        while end < len(items) and depth:
+            depth += (texts[end] == "let") - (texts[end] == "in")
+            end += 1
+        sign = next((at for at in range(n, end) if texts[at] in (":", "=")), n)
+        if sign != n + 1 or depth:
+            line = next((item.line for item in items[n:] if not isinstance(item, list)), 0)
+            self.wrong.append(f"{self.scope.path}:{line}: cannot read the let")
+        self._walk(items[sign + 1:end - 1], set(env))
+        return end, self._binder(items[n], set(env))
 
     def _record(self, group, env):
         part = []

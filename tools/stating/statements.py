@@ -12,9 +12,12 @@ from scope import Fields, Scope, covering
 from specification import wrong_calls, wrong_table
 from world import World
 
-# what the wrong routers answer is declared here, and only the statements here may rest on it
-WRONG_ROUTERS = "crates/examples/proofs/Wrong*.antt"
-TABLE, RULED_OUT = "crates/examples/proofs/WrongAnswers.antt", "crates/examples/proofs/WrongRouters.antt"
+# what wrong routers and wrong definitions answer is declared in these files, and only their statements, which only section Q cites, may rest on it
+WRONG = "crates/examples/proofs/Wrong"
+WRONG_ROUTERS = tuple(f"{WRONG}{name}.antt" for name in (
+    "Answers", "Books", "Definitions", "DefinitionsAbove", "DefinitionsFurther", "Rewrites", "Routers", "Shortest", "Splits", "Tables", "Traces", "Windows"))
+TABLE, RULED_OUT = f"{WRONG}Answers.antt", f"{WRONG}Routers.antt"
+CITING_WRONG = "Q"
 
 
 @dataclass
@@ -72,6 +75,11 @@ def with_comment(declared):
     return "\n".join([*(f"{indent}-- {said}".rstrip() for said in declared.comment.split("\n") if declared.comment), declared.text])
 
 
+def fields_before(declared, n):
+    """The names of a record's fields that its n-th field can speak of."""
+    return {one.name for one in declared.members[:n] if one.kind == "field"}
+
+
 class Builder:
     def __init__(self, root):
         self.world = World(root)
@@ -79,7 +87,8 @@ class Builder:
         sections = [] if wrong else sections_of(self.world.read(SPECIFICATION))
         cited, form = ({}, []) if wrong else citations_of(self.world.read(CITATIONS))
         self.model = Model(self.world, sections, cited, wrong + form)
-        self.lenient = tuple(self.world.glob(WRONG_ROUTERS))
+        self.model.wrong += [f"{path} is missing" for path in WRONG_ROUTERS if path not in self.world.sources]
+        self.lenient = tuple(path for path in WRONG_ROUTERS if path in self.world.sources)
         self.fields = Fields(self.world, self.lenient)
         self.scopes, self.names = {}, set()
 
@@ -116,6 +125,9 @@ class Builder:
                 self.model.wrong.append(f"{SPECIFICATION}:{clause.line}: {clause.name} stands in section {clause.section.name or clause.section.title}")
             if NAMES_BLOCK.search(clause.text) and not clause.block:
                 self.model.wrong.append(f"{SPECIFICATION}:{clause.line}: {clause.name} names a table or a listing that is not there")
+            for citation in self.model.cited.get(clause.name, []):
+                if f"crates/{citation.where}.antt" in WRONG_ROUTERS and clause.section.name != CITING_WRONG:
+                    self.model.wrong.append(f"{CITATIONS}:{citation.line}: {clause.name} cites {citation.where}, which only section {CITING_WRONG} may")
             kinds = [citation.kind for citation in self.model.cited.get(clause.name, [])]
             if not any(kind in SETTLES for kind in kinds):
                 self.model.wrong.append(f"{SPECIFICATION}:{clause.line}: the clause {clause.name} has no statement in {CITATIONS}")
@@ -187,7 +199,7 @@ class Builder:
         head = record.text.split("\n")[: 1 + next(n for n, line in enumerate(record.text.split("\n")) if "where" in line.split())]
         reader = Reader(self._scope(path, file), self.fields)
         bound = reader.statement(record.signature, self._sections(reader, record))
-        reader.statement(found.signature, bound | {one.name for one in record.members})
+        reader.statement(found.signature, bound | fields_before(record, record.members.index(found)))
         self.model.wrong += reader.wrong
         self.model.statements["field", citation.where, name] = Statement("field", name, path, found.line, ["\n".join(head)], with_comment(found), reader.terms)
 
@@ -225,6 +237,8 @@ class Builder:
         self.model.wrong += [f"{path}:{line}: {said}" for line, said in covering(file.uses)]
         self.model.wrong += [f"{path}:{line}: a module {name} below a file of statements" for line, name in file.modules]
         self.model.wrong += [f"{path}:{line}: another fixity for {name}" for name, line, _ in file.fixities if name not in own]
+        if path.split("/")[2] == "specs":
+            self.model.wrong += [f"{path}:{use.line}: a file of specs/ imports {use.module}" for use in file.uses if "proofs" in re.split("[.·]", use.module)]
 
     def _vectors(self, citation, name):
         """A table of inputs with their answers, which a law of the same file says agree; or a law."""
@@ -244,7 +258,9 @@ class Builder:
             return
         file, function = found[0]
         self.model.wrong += [f"{file.path}: {said}" for _, said in covering(file.ghosts)]
-        reader = Reader(Scope(self.world, file.path, file.ghosts, [], file), self.fields)
+        scope = Scope(self.world, file.path, file.ghosts, [], file)
+        reader = Reader(scope, self.fields)
+        self.model.wrong += [f"{file.path}:{function.line}: the parameter {one} is spelled like an import" for one in function.parameters if one in scope]
         for _, clause in function.clauses:
             reader.statement(clause, function.parameters)
         self.model.wrong += reader.wrong
@@ -299,10 +315,10 @@ class Builder:
                     continue
                 reader = Reader(scope, self.fields)
                 bound = reader.statement(declared.signature, self._sections(reader, declared))
-                for member in declared.members:
-                    reader.statement(member.signature, bound | {one.name for one in declared.members})
+                for n, member in enumerate(declared.members):
+                    reader.statement(member.signature, bound | fields_before(declared, n))
                 for _, _, words in declared.equations:
-                    reader.equation(words)
+                    reader.equation(words, declared.name)
                 self.model.wrong += [said.replace("the statement rests", f"{declared.name} rests") for said in reader.wrong]
                 self.model.definitions[crate, name.removesuffix(".antt"), declared.name] = (declared, reader.terms)
 

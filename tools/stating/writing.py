@@ -193,7 +193,7 @@ class Writer:
         page.say("`differ call other at` is the row for the call, the wrong router in its place and the input, the same for both.")
         table = self.world.antt(TABLE).by_name["table"]
         page.fence("agda", full(table))
-        for path in self.world.glob(WRONG_ROUTERS):
+        for path in WRONG_ROUTERS:
             file = self.world.antt(path)
             defined = [one for one in file.declarations if not one.owner and one != table and path != RULED_OUT]
             if defined:

@@ -1,5 +1,5 @@
 -- The proofs of the two tables; what the wrong routers answer, with the table of the inputs that tell them from the
--- calls; and wrong definitions, with the laws that rule them out.
+-- calls; what a call may not hand back; and wrong definitions, with the laws that rule them out.
 pub mod Examples
 pub mod WrongWindows
 pub mod WrongRewrites
@@ -10,6 +10,7 @@ pub mod WrongShortest
 pub mod WrongSplits
 pub mod WrongAnswers
 pub mod WrongRouters
+pub mod HandedBack
 pub mod WrongDefinitions
 pub mod WrongDefinitionsAbove
 pub mod WrongDefinitionsFurther

@@ -1,9 +1,9 @@
 -- No row of the table of wrong routers gets through: a test of a row, sound for every row, computes to true over
 -- the whole table. The test compares the numbers of what the call and the wrong router tell. Then the wrong answers
--- that no row can show: at books too large to compute with, by the laws of books; and parts handed back and places
--- kept, which are not values of a definition.
+-- that no row can show: at books too large to compute with, by the laws of books. Parts handed back and places kept,
+-- which are not values of a definition, are in `HandedBack`.
 --
--- Sections: the test; the table; the largest book; parts handed back; places kept.
+-- Sections: the test; the table; the largest book.
 -- Assumes nothing.
 use mathlib.Core.Path.{_≡_, refl, sym, ap, _∙_}
 use mathlib.Core.Bool.{Bool, true, false, not, _&&_, true≢false, and-eq-true-iff}
@@ -11,7 +11,6 @@ use mathlib.Core.Logic.{⊎-elim}
 use mathlib.Core.List.{List, [], _∷_, _++_, map, List·Memᴰ, List·Memᴰ·not-nil, List·Memᴰ·cases-cons}
 use Prim.Native.Nat.{ℕ, _+_, _≤_, _<_}
 use native.Mathlib.Omega.{arith}
-use denote.Ref.{RefT, ptr}
 use lib.IntN.{ℤ, pos}
 use lib.ListN.{length}
 use borrow.Author.Tests.{lt-ltb, le-ltb}
@@ -38,7 +37,7 @@ use Rattle.book_format.specs.declared.Opened.the-variants as books
 use Rattle.book_format.specs.declared.Preset.{Preset}
 use Rattle.book_format.specs.declared.Preset.the-variants as presets
 use Rattle.listing_text.specs.declared.Piece.{Piece}
-use Rattle.coxeter.specs.Kinds.{pick, kindOf, up}
+use Rattle.coxeter.specs.Kinds.{kindOf, up}
 use Rattle.coxeter.specs.Windows.{from, swap, negateFirst, swapNegate, act, windowFrom, identity, window, at, product, signed, placeFrom, inverse}
 use Rattle.coxeter.specs.Length.{later, negative, one, laterThan, inversions, negativeSumPairs, negatives, crossings, total, windowLength}
 use Rattle.coxeter.specs.Dictionary.{before, shortlex}
@@ -47,7 +46,7 @@ use Rattle.coxeter.specs.Checks.{wrongEntry, odd, oddNegatives, tooShort, rankR
 use Rattle.coxeter.specs.NormalForm.{down, rise, fall, block, without, indexOf, restOf, normalFrom, normalForm}
 use Rattle.coxeter.specs.Calls.{answerOf, verdictOf, front, written, writes, windowOfWord, productOfWindows, inverseOfWindow, normalFormOfWindow}
 use Rattle.coxeter.specs.Calls.{normalFormOfWord, productOfWords, inverseOfWord, lengthOfWindow, lengthOfWord, sameEntry, sameWindow}
-use Rattle.coxeter.specs.Calls.{equalWords, samePresets, presetsEqual, handsBack, choice, Outcome, Better}
+use Rattle.coxeter.specs.Calls.{equalWords, samePresets, presetsEqual, handsBack, choice, Outcome}
 use Rattle.coxeter.proofs.Order.{sameWindow-of-eq}
 use Rattle.coxeter.proofs.TestLaws.{zero-not-one}
 use Rattle.rules.specs.Rules.{concatMap, family1, family2, family3, family4, families5to7, rules, begins, fits, firstFitting, rewritten}
@@ -57,7 +56,7 @@ use Rattle.shortest_words.specs.Descents.{isDescent}
 use Rattle.shortest_words.specs.Allowed.{allows, wrongSet, setRefusal}
 use Rattle.shortest_words.specs.Split.{lowest, stripped, restInverse, firstWord, secondWord}
 use Rattle.shortest_words.specs.SplitCalls.{splitOf, splitOutcome, splitting}
-use Rattle.shortest_words.specs.Calls.{fallbackOf, fallbackAnswer, keptCount, FellBack}
+use Rattle.shortest_words.specs.Calls.{fallbackOf, fallbackAnswer}
 use Rattle.shortest_words.specs.Allowed.{over, allows, wrongSet, setRefusal}
 use Rattle.shortest_words.specs.Between.{between, reachable}
 use Rattle.shortest_words.specs.BetweenCalls.{unreachable, betweenRefusal, betweenWindows}
@@ -247,28 +246,3 @@ sizeLimitOfTheOldBook-ruled-out b out e f large room h =
     rw (e, f, le-ltb 65535 (length b) m, le-ltb (length out) (length (converted First b)) room) in
     let r = ap (λ (o : Outcome ℕ). o .answer) (converting-too-large b out e f large) in
     zero-not-one (cc (ap (λ (o : Outcome ℕ). o .answer) h))
-
--- ---- parts handed back
-
--- the better of two words is the lent word itself: not the other, not a copy elsewhere
-pub second-for-the-first-ruled-out : (u v : RefT (List ℕ)) → (u ≡ v → ⊥) → Better true false u v v → ⊥
-second-for-the-first-ruled-out u v f b = f (sym (b .whole refl))
-
-pub copy-ruled-out : (second : Bool) (u v r : RefT (List ℕ)) → (r .ptr ≡ pick second v u .ptr → ⊥) → Better true second u v r → ⊥
-copy-ruled-out second u v r f b = f (ap ptr (b .whole refl))
-
--- where neither is handed back it is no part of the second word
-pub part-of-the-second-ruled-out : (second : Bool) (u v r : RefT (List ℕ)) → (u .ptr ≡ v .ptr → ⊥) → r .ptr ≡ v .ptr → Better false second u v r → ⊥
-part-of-the-second-ruled-out second u v r f e b = f (sym (b .empty refl .1) ∙ e)
-
--- ---- places kept
-
-module _ (k n : ℕ) (present simpler places : List ℕ) where
-  -- the places kept rise
-  pub falling-places-ruled-out : (p q : ℕ) (rest : List ℕ) → q ≤ p → FellBack k n present simpler places (fallbacks.Kept 2) (p ∷ q ∷ rest) → ⊥
-  falling-places-ruled-out p q rest l h = let r = h .kept 2 refl .subword .rising .2 .0 in omega arith
-
-  -- F5
-  pub no-that-writes-ruled-out : (after : List ℕ) → (after ≡ places → ⊥) → FellBack k n present simpler places fallbacks.No after → ⊥
-  unfolding keptCount
-  no-that-writes-ruled-out after f h = f (h .others)

@@ -90,9 +90,9 @@ module _ (holds : RulesPresentHolds) (k : Kind) (n : ℕ) (low : least k ≤ n) 
     no-left-in-right = irreducible-exactly (rules k n) (x .right) .0 (complete .right-irreducible x listed)
 
   -- U6: in a left side stands the left side of no other entry of the list
-  pub no-other-left-in-left : (before : List Rule) (x : Rule) (after : List Rule) → rules k n ≡ before ++ (x ∷ after)
-      → (y : Rule) → List·Memᴰ y (before ++ after) → (front rest : List ℕ) → x .left ≡ front ++ (y .left ++ rest) → ⊥
-  no-other-left-in-left before x after e = irreducible-exactly (before ++ after) (x .left) .0 (complete .left-irreducible before x after e)
+  pub no-other-left-in-left : (earlier : List Rule) (x : Rule) (later : List Rule) → rules k n ≡ earlier ++ (x ∷ later)
+      → (y : Rule) → List·Memᴰ y (earlier ++ later) → (front rest : List ℕ) → x .left ≡ front ++ (y .left ++ rest) → ⊥
+  no-other-left-in-left earlier x later e = irreducible-exactly (earlier ++ later) (x .left) .0 (complete .left-irreducible earlier x later e)
 
   -- U6: no rule stands twice in the list
   pub no-rule-twice : Once (rules k n)

@@ -64,7 +64,7 @@ module _ (s : Interface) (holds : Demand3Holds s) (k n : ℕ) (u : List ℕ) (h 
 
   -- T10: one such answer at each place is enough, with whatever outputs
   pub ends-normal-once : (cs : List (Call s)) → Run s k n u cs → let v = wordLeft s u cs in
-      ((p : ℕ) → p < length v → (before after : s .Outputs) × Rewrote s k n v p before after (s .noneFits)) → v ≡ normalFormOf k n u
+      ((p : ℕ) → p < length v → (earlier later : s .Outputs) × Rewrote s k n v p earlier later (s .noneFits)) → v ≡ normalFormOf k n u
   ends-normal-once cs r = d .follows cs r .normal-once
 
   -- T10
@@ -113,8 +113,8 @@ module _ (s : Interface) (holds : Demand3Holds s) (k n : ℕ) (u : List ℕ) (h 
 
     -- T9: a call that used a rule replaced the left side of a rule of the list and nothing else
     pub used-replaced : (x : Rule) → Usable s k n (wordLeft s u front) (c .arguments) x
-        → (before after : List ℕ) × (length before ≡ c .arguments .place) × (wordLeft s u front ≡ before ++ (x .left ++ after))
-        × (wordLeft s u (front ++ (c ∷ [])) ≡ before ++ (x .right ++ after))
+        → (prefix suffix : List ℕ) × (length prefix ≡ c .arguments .place) × (wordLeft s u front ≡ prefix ++ (x .left ++ suffix))
+        × (wordLeft s u (front ++ (c ∷ [])) ≡ prefix ++ (x .right ++ suffix))
     used-replaced x b = let q = call-exactly .used x b .replaced in (q .before, q .after, q .place, q .old, q .new)
 
     -- R15, T6: the only one that fits

@@ -40,7 +40,7 @@ pow-le-of-bit x t e = cases (leb (2 ^ t) x) refl
 
 -- S1: step s is allowed exactly when bit s − 1 is 1, with any bits above it and any below it
 pub allows-exactly : (set s : ℕ) → (allows set s ≡ true)
-    ↔ ((high low : ℕ) × (low < 2 ^ (s - 1)) × (set ≡ (2 * high + 1) * 2 ^ (s - 1) + low))
+    ↔ ((above below : ℕ) × (below < 2 ^ (s - 1)) × (set ≡ (2 * above + 1) * 2 ^ (s - 1) + below))
 unfolding allows
 allows-exactly set s =
     let p = 2 ^ (s - 1) in
