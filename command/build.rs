@@ -18,7 +18,7 @@ fn main() {
 
 /// The archive that is linked: the one that the crate's build script names, or else where it looks for one.
 fn archive() -> PathBuf {
-    if let Some(path) = env::var_os("DEP_C_API_ARCHIVE").or_else(|| env::var_os("WINNATHEY_LIB")) {
+    if let Some(path) = env::var_os("DEP_WINNATHEY_ARCHIVE").or_else(|| env::var_os("WINNATHEY_LIB")) {
         return PathBuf::from(path);
     }
     let here = PathBuf::from(env::var_os("CARGO_MANIFEST_DIR").expect("cargo sets it"));

@@ -24,7 +24,7 @@ function expected(bytes, edition) {
     const { value, refusal } = attempt(() => library.bookCheck(edition, bytes));
     if (refusal) return `book refused ${refusal.number}`;
     const presets = value === 0 ? [] : library.presets(edition, bytes, 0, 20);
-    return presets.map(preset => (preset.refusal ? `refused ${preset.refusal.number}` : `letters ${preset.letters.join(' ')}`)).join('\n');
+    return presets.map(preset => (preset.refusal ? `refused ${preset.refusal.number}` : `letters ${preset.word.join(' ')}`)).join('\n');
 }
 
 let refused = 0;

@@ -3,37 +3,40 @@
  *
  *     import { load, Refusal } from './winnathey.mjs';
  *
- *     const w = await load('winnathey.wasm');
+ *     const w = await load();
  *     w.normalFormOfWord('D', 5, [4, 4, 2, 5, 3, 5, 1, 2]);  // [5, 2, 3, 5, 1, 2]
+ *     w.normalFormOfWord('d', 5, '4 4 2 5 3 5 1 2');         // the same
  *
- * Every function takes plain arrays (or typed arrays) and returns new ones; nothing is kept between calls. A call
- * that the library refuses throws a `Refusal` with the refusal's number and sentence. What is no kind, byte, step or
- * place at all never reaches the library: it throws a `TypeError` or a `RangeError` that names the argument.
+ * Every function takes plain arrays, typed arrays or texts of numbers, and returns new arrays; nothing is kept between
+ * calls. A call that the library refuses throws a `Refusal` with the refusal's number and sentence; `Refused` has the
+ * numbers by name. What is no kind, byte, step or place at all never reaches the library: it throws a `TypeError` or a
+ * `RangeError` that names the argument.
  *
  * Only this file knows that the library has a memory of its own and counts in 64 bits. Inputs are copied to it,
  * outputs from it. There is room for every answer, so that refusals 14 and 15, which concern short outputs, come from
- * `exports` alone.
+ * `exports` alone. The memory does not grow: a rewriting that needs more is made in one that is given back.
  * @module winnathey
  */
 
 /**
- * A kind, by its letter or by its number: 1 is A, 2 is B, 3 is D. The library refuses any other number (5).
- * @typedef {'A'|'B'|'D'|number} Kind
+ * A kind, by its letter, large or small, or by its number: 1 is A, 2 is B, 3 is D. The library refuses any other
+ * number (5).
+ * @typedef {'A'|'B'|'D'|'a'|'b'|'d'|number} Kind
  */
 
 /**
- * A word: up to 4,096 steps, each from 1 to the rank.
- * @typedef {ArrayLike<number>} Word
+ * A word: up to 4,096 steps, each from 1 to the rank; as a text with blanks or commas between them, `'1 2 3'`.
+ * @typedef {ArrayLike<number>|string} Word
  */
 
 /**
- * A window: for each screen the source it shows, negative if mirrored.
- * @typedef {ArrayLike<number>} Window
+ * A window: for each screen the source it shows, negative if mirrored; as a text `'3 -5 1 4 -2'`.
+ * @typedef {ArrayLike<number>|string} Window
  */
 
 /**
- * A set of allowed steps, as a list of steps from 1 to 64 in any order.
- * @typedef {Iterable<number>} Steps
+ * A set of allowed steps, as a list of steps from 1 to 64 in any order, or a text `'1 2 5'`.
+ * @typedef {Iterable<number>|string} Steps
  */
 
 /**
@@ -70,14 +73,14 @@
  */
 
 /**
- * A preset of a book: its kind and rank, where its letters start in the book and how many they are.
- * @typedef {{kind: 'A'|'B'|'D', rank: number, start: number, length: number}} Preset
+ * A preset of a book: its kind, its rank and its word.
+ * @typedef {{kind: 'A'|'B'|'D', rank: number, word: number[]}} Preset
  */
 
 /**
- * A preset of a list: its number, and either what it is with its letters, or why it is refused.
- * @typedef {{number: number, refusal: null, kind: 'A'|'B'|'D', rank: number, start: number, length: number,
- *     letters: number[]} | {number: number, refusal: Refusal}} ListedPreset
+ * A preset of a list: its number, and either what it is, or why it is refused.
+ * @typedef {{number: number, refusal: null, kind: 'A'|'B'|'D', rank: number, word: number[]}
+ *     | {number: number, refusal: Refusal}} ListedPreset
  */
 
 /** The most lanes of a window. */
@@ -91,31 +94,61 @@ export const MAX_BOOK = 65535;
 /** The kinds, by number: `KINDS[1]` is `'A'`. */
 export const KINDS = Object.freeze([null, 'A', 'B', 'D']);
 
-/** What the calls return where no rule fits, and where there is no fallback. */
+/** The numbers of the refusals by the names that the C header has for them, without `WINNATHEY_REFUSED_`. */
+export const Refused = Object.freeze({
+    BOOK_SIZE: 1,
+    BOOK_COUNT: 2,
+    BOOK_OFFSET: 3,
+    PRESET_NUMBER: 4,
+    KIND: 5,
+    RANK: 6,
+    WORD_LENGTH: 7,
+    LETTER: 8,
+    WINDOW_LENGTH: 9,
+    ENTRY: 10,
+    ODD_NEGATIVES: 11,
+    PLACE: 12,
+    BOOK_FULL: 13,
+    OUTPUT: 14,
+    STEP_LISTS: 15,
+    ALLOWED: 16,
+    LANE_COUNT: 17,
+    FIRST_EDITION_LANES: 18,
+    UNREACHABLE: 19,
+    TABLE_RANK: 20,
+    RETIRED_PRESET: 21,
+});
+
+/** What the calls return if no rule fits, and if there is no fallback. */
 const NONE_FITS = -100;
 const NO_FALLBACK = -101;
 /** Room for the longest sentence of a refusal. */
 const MAX_SENTENCE = 256;
-/** The most counts, entries and letters of a delay table. */
+/** The most counts of a delay table. */
 const MAX_COUNTS = 257;
-const MAX_TABLED_LANES = 20;
-const MAX_TABLED_LETTERS = 256;
 /** How many numbers the library gives for each preset of a list. */
 const PRESET_FIELDS = 5;
+/** Bytes of an offset of a book and of its count; what stands behind the only record of a book; a record at most. */
+const OFFSET = 2;
+const TRAILER = 2 * OFFSET;
+const MAX_RECORD = 5 + MAX_WORD;
 
 /** A call that the library refused. */
 export class Refusal extends Error {
     /**
      * @param {number} number the refusal's number, from 1 to 21
      * @param {string} sentence what it says
+     * @param {?number} [place] which of several presets it concerns, from 0
      */
-    constructor(number, sentence) {
-        super(`refused ${number}: ${sentence}`);
+    constructor(number, sentence, place = null) {
+        super(`refused ${number}: ${sentence}${place === null ? '' : ` (preset ${place} of the list)`}`);
         this.name = 'Refusal';
-        /** The refusal's number, from 1 to 21. */
+        /** The refusal's number, from 1 to 21: one of `Refused`. */
         this.number = number;
         /** What it says, as a sentence. */
         this.sentence = sentence;
+        /** Of `appendAll` the place of the preset in the list, from 0; otherwise null. */
+        this.place = place;
     }
 }
 
@@ -136,10 +169,13 @@ function integer(name, value, least, most) {
 }
 
 function kindNumber(name, kind) {
-    if (typeof kind !== 'string') return integer(name, kind, 0, 0xffffffff);
-    const number = KINDS.indexOf(kind);
-    if (number < 1) throw new RangeError(`${name} is not 'A', 'B' or 'D': ${shown(kind)}`);
-    return number;
+    switch (kind) {
+        case 'A': case 'a': return 1;
+        case 'B': case 'b': return 2;
+        case 'D': case 'd': return 3;
+    }
+    if (typeof kind === 'string') throw new RangeError(`${name} is not 'A', 'B' or 'D': ${shown(kind)}`);
+    return integer(name, kind, 0, 0xffffffff);
 }
 
 function rankNumber(name, rank) {
@@ -155,47 +191,145 @@ function isFirst(edition) {
     return edition === 1;
 }
 
+/** The numbers of a text, with blanks between them, or commas, around which there may be blanks. */
+function numbersOf(name, text, least, most) {
+    if (text.trim() === '') return [];
+    // Between two commas stands a number at least.
+    const parts = text.split(',').flatMap(part => (part.trim() === '' ? [''] : part.trim().split(/\s+/)));
+    return parts.map((part, i) => {
+        const number = (least < 0 ? /^-?[0-9]+$/ : /^[0-9]+$/).test(part) ? Number(part) : NaN;
+        if (number >= least && number <= most) return number;
+        throw new RangeError(`${name}[${i}] is not an integer from ${least} to ${most}: ${shown(part)}`);
+    });
+}
+
 /** A set of steps as 64 bits, bit 0 for step 1. */
 function stepBits(steps) {
+    if (typeof steps === 'string') steps = numbersOf('allowed', steps, 1, 64);
     if (steps === null || typeof steps !== 'object' || typeof steps[Symbol.iterator] !== 'function') {
         throw new TypeError(`the allowed steps are not a list: ${shown(steps)}`);
     }
-    let bits = 0n;
-    for (const step of steps) bits |= 1n << BigInt(integer('an allowed step', step, 1, 64) - 1);
-    return bits;
-}
-
-/** Memory of the library that is lent for one call: its elements' type, their number, and what they hold before it. */
-class Lent {
-    constructor(type, length, elements) {
-        this.type = type;
-        this.length = length;
-        this.elements = elements;
-        this.pointer = 0;
+    let [low, high, count] = [0, 0, 0];
+    for (const step of steps) {
+        integer('an allowed step', step, 1, 64);
+        if (++count > MAX_WORD) throw new RangeError(`there are more than ${MAX_WORD} allowed steps`);
+        if (step <= 32) low |= 1 << (step - 1);
+        else high |= 1 << (step - 33);
     }
+    return BigInt(high >>> 0) << 32n | BigInt(low >>> 0);
 }
 
-function output(type, length) {
-    return new Lent(type, length, null);
-}
-
-/** A list of integers as an input. A typed array of the same type needs no look at its elements. */
-function input(name, type, list, least, most) {
-    if (list instanceof type) return new Lent(type, list.length, list);
+/** How many elements of a list are looked at: no more than `most`, which the library refuses. */
+function lengthOf(name, list, most) {
     if (list === null || typeof list !== 'object' || !Number.isInteger(list.length) || list.length < 0) {
         throw new TypeError(`${name} is not a list: ${shown(list)}`);
     }
-    const elements = new type(list.length);
-    for (let i = 0; i < elements.length; i++) elements[i] = integer(`${name}[${i}]`, list[i], least, most);
-    return new Lent(type, elements.length, elements);
+    return list.length < most ? list.length : most;
 }
 
-function bytes(name, list) {
-    return input(name, Uint8Array, list, 0, 255);
-}
+// ---- the library's memory
 
-function entries(name, list) {
-    return input(name, Int8Array, list, -128, 127);
+/** Where inputs and outputs lie, counted from where the memory is free; each at a multiple of 8. */
+const ONE = 0;
+const TWO = ONE + 4104;
+const OUT = TWO + 4104;
+const OUT_TWO = OUT + 4096;
+const PLACES = OUT_TWO + 4096;
+const COUNTS = PLACES + 2 * MAX_NORMAL_FORM;
+const LENGTHS = COUNTS + 8 * MAX_COUNTS;
+const BOOK = LENGTHS + 8 * 5;
+const NEW_BOOK = BOOK + 65536;
+const REST = NEW_BOOK + 65536 + 8 * Math.ceil((MAX_RECORD + TRAILER) / 8);
+/** With room for all presets of the largest book. */
+const STANDING = REST + 8 * PRESET_FIELDS * Math.ceil(MAX_BOOK / 6);
+
+/** An instance of the module, its memory, and what is put there and taken from there. */
+class Memory {
+    constructor(exports, room) {
+        this.calls = exports;
+        this.memory = exports.memory;
+        this.base = (exports.__heap_base.value + 7) & ~7;
+        const missing = this.base + room - this.memory.buffer.byteLength;
+        if (missing > 0) this.memory.grow(Math.ceil(missing / 65536));
+        this.look();
+    }
+
+    /** Looks at the memory again if somebody else made it grow. */
+    look() {
+        const { buffer } = this.memory;
+        if (this.u8?.buffer === buffer) return this;
+        this.u8 = new Uint8Array(buffer);
+        this.i8 = new Int8Array(buffer);
+        this.u16 = new Uint16Array(buffer);
+        this.u32 = new Uint32Array(buffer);
+        this.u64 = new BigUint64Array(buffer);
+        return this;
+    }
+
+    /** Puts up to `most` bytes somewhere, and returns how many there are. */
+    putBytes(at, name, list, most) {
+        if (typeof list === 'string') list = numbersOf(name, list, 0, 255);
+        const length = lengthOf(name, list, most);
+        const start = this.base + at;
+        const { u8 } = this;
+        if (length > 64 && list instanceof Uint8Array) {
+            u8.set(length === list.length ? list : list.subarray(0, length), start);
+            return length;
+        }
+        for (let i = 0; i < length; i++) {
+            const byte = list[i];
+            if (typeof byte !== 'number' || (byte & 0xff) !== byte) integer(`${name}[${i}]`, byte, 0, 255);
+            u8[start + i] = byte;
+        }
+        return length;
+    }
+
+    putWord(at, name, word) {
+        return BigInt(this.putBytes(at, name, word, MAX_WORD + 1));
+    }
+
+    putWindow(at, name, window) {
+        if (typeof window === 'string') window = numbersOf(name, window, -128, 127);
+        const length = lengthOf(name, window, MAX_LANES + 1);
+        const start = this.base + at;
+        const { i8 } = this;
+        for (let i = 0; i < length; i++) {
+            const entry = window[i];
+            if (typeof entry !== 'number' || (entry << 24 >> 24) !== entry) integer(`${name}[${i}]`, entry, -128, 127);
+            i8[start + i] = entry;
+        }
+        return BigInt(length);
+    }
+
+    putBook(book) {
+        if (typeof book === 'string') throw new TypeError(`book is not a list: ${shown(book)}`);
+        return this.putBytes(BOOK, 'book', book, MAX_BOOK + 1);
+    }
+
+    /** So many elements of a view from an index on, as an array. */
+    static taken(view, from, count) {
+        const taken = new Array(count);
+        for (let i = 0; i < count; i++) taken[i] = view[from + i];
+        return taken;
+    }
+
+    bytes(at, count) {
+        return Memory.taken(this.u8, this.base + at, count);
+    }
+
+    entries(at, count) {
+        return Memory.taken(this.i8, this.base + at, count);
+    }
+
+    /** A number of 64 bits that has 32 at most. */
+    number(at, index) {
+        return this.u32[((this.base + at) >> 2) + 2 * index];
+    }
+
+    /** A copy of so many bytes. */
+    copy(at, count) {
+        return this.u8.slice(this.base + at, this.base + at + count);
+    }
 }
 
 // ---- loading
@@ -216,29 +350,32 @@ async function fetched(source) {
 
 /**
  * Loads the library.
- * @param {BufferSource|WebAssembly.Module|URL|string} source the bytes of `winnathey.wasm`, the compiled module, or its
- *     URL or path. In node a string without a scheme is a path, in a browser it is a URL relative to the page.
+ * @param {BufferSource|WebAssembly.Module|URL|string} [source] the bytes of `winnathey.wasm`, the compiled module, or its
+ *     URL or path; if nothing is given, the file beside this one. In node a string without a scheme is a path, in a
+ *     browser it is a URL relative to the page.
  * @returns {Promise<Winnathey>}
  */
-export async function load(source) {
+export async function load(source = new URL('winnathey.wasm', import.meta.url)) {
     const isText = typeof source === 'string' || source instanceof URL;
     const code = isText ? await fetched(source) : source;
-    const made = await WebAssembly.instantiate(code);
-    return new Winnathey((made.instance ?? made).exports);
+    const module = code instanceof WebAssembly.Module ? code : await WebAssembly.compile(code);
+    return new Winnathey((await WebAssembly.instantiate(module)).exports, module);
 }
 
 /** The library's calls. `load` makes one. */
 export class Winnathey {
-    #exports;
     #memory;
-    #base;
+    #module;
 
-    /** @param {WebAssembly.Exports} exports the exports of an instance of `winnathey.wasm` */
-    constructor(exports) {
+    /**
+     * @param {WebAssembly.Exports} exports the exports of an instance of `winnathey.wasm`
+     * @param {?WebAssembly.Module} [module] the compiled module, for rewritings that need more memory than stands; without
+     *     it they make the memory of `exports` grow
+     */
+    constructor(exports, module = null) {
         if (exports?.winnathey_version === undefined) throw new TypeError('the module is not winnathey.wasm');
-        this.#exports = exports;
-        this.#memory = exports.memory;
-        this.#base = exports.__heap_base.value;
+        this.#memory = new Memory(exports, STANDING);
+        this.#module = module;
         Object.freeze(this);
     }
 
@@ -248,56 +385,25 @@ export class Winnathey {
      * which write there.
      */
     get exports() {
-        return this.#exports;
+        return this.#memory.calls;
     }
 
-    /** Copies the inputs to the library's memory, each at a multiple of 8, and makes the call. */
-    #run(call, values) {
-        let end = this.#base;
-        for (const value of values) {
-            if (!(value instanceof Lent)) continue;
-            value.pointer = end = (end + 7) & ~7;
-            end += value.length * value.type.BYTES_PER_ELEMENT;
-        }
-        const missing = end - this.#memory.buffer.byteLength;
-        if (missing > 0) this.#memory.grow(Math.ceil(missing / 65536));
-
-        const passed = [];
-        for (const value of values) {
-            if (!(value instanceof Lent)) {
-                passed.push(value);
-                continue;
-            }
-            if (value.elements !== null) this.#view(value).set(value.elements);
-            passed.push(value.pointer, BigInt(value.length));
-        }
-        return Number(this.#exports[call](...passed));
+    /** Memory with so much room: the one that stands, or for once another. */
+    #room(bytes) {
+        if (bytes <= STANDING) return this.#memory.look();
+        if (this.#module === null) return new Memory(this.#memory.calls, bytes);
+        return new Memory(new WebAssembly.Instance(this.#module).exports, bytes);
     }
 
     /** The answer of a call, of which a refusal is thrown. */
-    #call(call, ...values) {
-        const answer = this.#run(call, values);
-        if (answer < 0 && answer > NONE_FITS) throw this.#refusal(-answer);
-        return answer;
+    #answer(answer) {
+        const number = Number(answer);
+        if (number < 0 && number > NONE_FITS) throw this.#refusal(-number);
+        return number;
     }
 
-    #refusal(number) {
-        return new Refusal(number, this.refusalSentence(number));
-    }
-
-    /** Lent memory as it is now. */
-    #view(lent) {
-        return new lent.type(this.#memory.buffer, lent.pointer, lent.length);
-    }
-
-    /** The first elements of an output. */
-    #front(lent, count) {
-        return Array.from(this.#view(lent).subarray(0, count));
-    }
-
-    /** The first elements of an output of 64 bits, of which each is small. */
-    #numbers(lent, count) {
-        return this.#front(lent, count).map(Number);
+    #refusal(number, place = null) {
+        return new Refusal(number, this.refusalSentence(number), place);
     }
 
     // ---- words
@@ -308,9 +414,10 @@ export class Winnathey {
      * @returns {number[]}
      */
     windowOfWord(kind, rank, word) {
-        const out = output(Int8Array, MAX_LANES);
-        const rig = [kindNumber('kind', kind), rankNumber('rank', rank)];
-        return this.#front(out, this.#call('winnathey_window_of_word', ...rig, bytes('word', word), out));
+        const m = this.#memory.look();
+        const [k, r, length] = [kindNumber('kind', kind), rankNumber('rank', rank), m.putWord(ONE, 'word', word)];
+        const lanes = m.calls.winnathey_window_of_word(k, r, m.base + ONE, length, m.base + OUT, 64n);
+        return m.entries(OUT, this.#answer(lanes));
     }
 
     /**
@@ -320,9 +427,10 @@ export class Winnathey {
      * @returns {number[]}
      */
     normalFormOfWord(kind, rank, word) {
-        const out = output(Uint8Array, MAX_NORMAL_FORM);
-        const rig = [kindNumber('kind', kind), rankNumber('rank', rank)];
-        return this.#front(out, this.#call('winnathey_normal_form_of_word', ...rig, bytes('word', word), out));
+        const m = this.#memory.look();
+        const [k, r, length] = [kindNumber('kind', kind), rankNumber('rank', rank), m.putWord(ONE, 'word', word)];
+        const letters = m.calls.winnathey_normal_form_of_word(k, r, m.base + ONE, length, m.base + OUT, 4096n);
+        return m.bytes(OUT, this.#answer(letters));
     }
 
     /**
@@ -331,10 +439,12 @@ export class Winnathey {
      * @returns {number[]}
      */
     productOfWords(kind, rank, first, second) {
-        const out = output(Uint8Array, MAX_NORMAL_FORM);
-        const rig = [kindNumber('kind', kind), rankNumber('rank', rank)];
-        const words = [bytes('first', first), bytes('second', second)];
-        return this.#front(out, this.#call('winnathey_product_of_words', ...rig, ...words, out));
+        const m = this.#memory.look();
+        const [k, r] = [kindNumber('kind', kind), rankNumber('rank', rank)];
+        const [one, two] = [m.putWord(ONE, 'first', first), m.putWord(TWO, 'second', second)];
+        const { base } = m;
+        const letters = m.calls.winnathey_product_of_words(k, r, base + ONE, one, base + TWO, two, base + OUT, 4096n);
+        return m.bytes(OUT, this.#answer(letters));
     }
 
     /**
@@ -343,9 +453,10 @@ export class Winnathey {
      * @returns {number[]}
      */
     inverseOfWord(kind, rank, word) {
-        const out = output(Uint8Array, MAX_NORMAL_FORM);
-        const rig = [kindNumber('kind', kind), rankNumber('rank', rank)];
-        return this.#front(out, this.#call('winnathey_inverse_of_word', ...rig, bytes('word', word), out));
+        const m = this.#memory.look();
+        const [k, r, length] = [kindNumber('kind', kind), rankNumber('rank', rank), m.putWord(ONE, 'word', word)];
+        const letters = m.calls.winnathey_inverse_of_word(k, r, m.base + ONE, length, m.base + OUT, 4096n);
+        return m.bytes(OUT, this.#answer(letters));
     }
 
     /**
@@ -354,16 +465,15 @@ export class Winnathey {
      * @returns {number}
      */
     lengthOfWord(kind, rank, word) {
-        const rig = [kindNumber('kind', kind), rankNumber('rank', rank)];
-        return this.#call('winnathey_length_of_word', ...rig, bytes('word', word));
+        const m = this.#memory.look();
+        const [k, r, length] = [kindNumber('kind', kind), rankNumber('rank', rank), m.putWord(ONE, 'word', word)];
+        return this.#answer(m.calls.winnathey_length_of_word(k, r, m.base + ONE, length));
     }
 
-    /** The counts of a call that writes three of them. */
-    #crossings(call, kind, rank, of) {
-        const counts = output(BigUint64Array, 3);
-        const rig = [kindNumber('kind', kind), rankNumber('rank', rank)];
-        const total = this.#call(call, ...rig, of, counts);
-        const [inversions, negativeSumPairs, negatives] = this.#numbers(counts, 3);
+    /** The three counts of a length that a call wrote. */
+    #crossings(m, answer) {
+        const total = this.#answer(answer);
+        const [inversions, negativeSumPairs, negatives] = [0, 1, 2].map(index => m.number(COUNTS, index));
         return { inversions, negativeSumPairs, negatives, total };
     }
 
@@ -373,7 +483,9 @@ export class Winnathey {
      * @returns {Crossings}
      */
     crossingsOfWord(kind, rank, word) {
-        return this.#crossings('winnathey_crossings_of_word', kind, rank, bytes('word', word));
+        const m = this.#memory.look();
+        const [k, r, length] = [kindNumber('kind', kind), rankNumber('rank', rank), m.putWord(ONE, 'word', word)];
+        return this.#crossings(m, m.calls.winnathey_crossings_of_word(k, r, m.base + ONE, length, m.base + COUNTS, 3n));
     }
 
     /**
@@ -384,21 +496,29 @@ export class Winnathey {
      * @returns {boolean}
      */
     same(kind1, rank1, word1, kind2, rank2, word2) {
-        const one = [kindNumber('kind1', kind1), rankNumber('rank1', rank1), bytes('word1', word1)];
-        const two = [kindNumber('kind2', kind2), rankNumber('rank2', rank2), bytes('word2', word2)];
-        return this.#call('winnathey_same', ...one, ...two) === 1;
+        const m = this.#memory.look();
+        const [k1, r1, one] = [kindNumber('kind1', kind1), rankNumber('rank1', rank1), m.putWord(ONE, 'word1', word1)];
+        const [k2, r2, two] = [kindNumber('kind2', kind2), rankNumber('rank2', rank2), m.putWord(TWO, 'word2', word2)];
+        return this.#answer(m.calls.winnathey_same(k1, r1, m.base + ONE, one, k2, r2, m.base + TWO, two)) === 1;
     }
 
     /**
      * The better of two words with one window: the shorter, at equal lengths the one earlier in the dictionary, at
-     * equal words the first. 1 is the first, 2 the second; 0 if the windows differ or a check fails. It never throws
-     * a refusal: `same` does.
+     * equal words the first. null if the windows differ. Refusals 5 to 8, the first word's first.
      * @param {Kind} kind @param {number} rank @param {Word} first @param {Word} second
-     * @returns {0|1|2}
+     * @returns {?number[]}
      */
     better(kind, rank, first, second) {
-        const rig = [kindNumber('kind', kind), rankNumber('rank', rank)];
-        return this.#call('winnathey_better', ...rig, bytes('first', first), bytes('second', second));
+        const m = this.#memory.look();
+        const [k, r] = [kindNumber('kind', kind), rankNumber('rank', rank)];
+        const [one, two] = [m.putWord(ONE, 'first', first), m.putWord(TWO, 'second', second)];
+        const { winnathey_better, winnathey_same } = m.calls;
+        const choice = this.#answer(winnathey_better(k, r, m.base + ONE, one, m.base + TWO, two));
+        if (choice === 1) return m.bytes(ONE, Number(one));
+        if (choice === 2) return m.bytes(TWO, Number(two));
+        // Neither: their windows differ, or one is refused.
+        this.#answer(winnathey_same(k, r, m.base + ONE, one, k, r, m.base + TWO, two));
+        return null;
     }
 
     // ---- windows
@@ -409,9 +529,10 @@ export class Winnathey {
      * @returns {number[]}
      */
     normalFormOfWindow(kind, rank, window) {
-        const out = output(Uint8Array, MAX_NORMAL_FORM);
-        const rig = [kindNumber('kind', kind), rankNumber('rank', rank)];
-        return this.#front(out, this.#call('winnathey_normal_form_of_window', ...rig, entries('window', window), out));
+        const m = this.#memory.look();
+        const [k, r, lanes] = [kindNumber('kind', kind), rankNumber('rank', rank), m.putWindow(ONE, 'window', window)];
+        const letters = m.calls.winnathey_normal_form_of_window(k, r, m.base + ONE, lanes, m.base + OUT, 4096n);
+        return m.bytes(OUT, this.#answer(letters));
     }
 
     /**
@@ -421,10 +542,12 @@ export class Winnathey {
      * @returns {number[]}
      */
     productOfWindows(kind, rank, first, second) {
-        const out = output(Int8Array, MAX_LANES);
-        const rig = [kindNumber('kind', kind), rankNumber('rank', rank)];
-        const windows = [entries('first', first), entries('second', second)];
-        return this.#front(out, this.#call('winnathey_product_of_windows', ...rig, ...windows, out));
+        const m = this.#memory.look();
+        const [k, r] = [kindNumber('kind', kind), rankNumber('rank', rank)];
+        const [one, two] = [m.putWindow(ONE, 'first', first), m.putWindow(TWO, 'second', second)];
+        const { base } = m;
+        const lanes = m.calls.winnathey_product_of_windows(k, r, base + ONE, one, base + TWO, two, base + OUT, 64n);
+        return m.entries(OUT, this.#answer(lanes));
     }
 
     /**
@@ -433,9 +556,10 @@ export class Winnathey {
      * @returns {number[]}
      */
     inverseOfWindow(kind, rank, window) {
-        const out = output(Int8Array, MAX_LANES);
-        const rig = [kindNumber('kind', kind), rankNumber('rank', rank)];
-        return this.#front(out, this.#call('winnathey_inverse_of_window', ...rig, entries('window', window), out));
+        const m = this.#memory.look();
+        const [k, r, lanes] = [kindNumber('kind', kind), rankNumber('rank', rank), m.putWindow(ONE, 'window', window)];
+        const written = m.calls.winnathey_inverse_of_window(k, r, m.base + ONE, lanes, m.base + OUT, 64n);
+        return m.entries(OUT, this.#answer(written));
     }
 
     /**
@@ -444,8 +568,9 @@ export class Winnathey {
      * @returns {number}
      */
     lengthOfWindow(kind, rank, window) {
-        const rig = [kindNumber('kind', kind), rankNumber('rank', rank)];
-        return this.#call('winnathey_length_of_window', ...rig, entries('window', window));
+        const m = this.#memory.look();
+        const [k, r, lanes] = [kindNumber('kind', kind), rankNumber('rank', rank), m.putWindow(ONE, 'window', window)];
+        return this.#answer(m.calls.winnathey_length_of_window(k, r, m.base + ONE, lanes));
     }
 
     /**
@@ -454,7 +579,9 @@ export class Winnathey {
      * @returns {Crossings}
      */
     crossingsOfWindow(kind, rank, window) {
-        return this.#crossings('winnathey_crossings_of_window', kind, rank, entries('window', window));
+        const m = this.#memory.look();
+        const [k, r, lanes] = [kindNumber('kind', kind), rankNumber('rank', rank), m.putWindow(ONE, 'window', window)];
+        return this.#crossings(m, m.calls.winnathey_crossings_of_window(k, r, m.base + ONE, lanes, m.base + COUNTS, 3n));
     }
 
     // ---- all windows of a kind and rank
@@ -465,17 +592,14 @@ export class Winnathey {
      * @returns {DelayTable}
      */
     delayTable(kind, rank) {
-        const counts = output(BigUint64Array, MAX_COUNTS);
-        const window = output(Int8Array, MAX_TABLED_LANES);
-        const form = output(Uint8Array, MAX_TABLED_LETTERS);
-        const lengths = output(BigUint64Array, 3);
-        const rig = [kindNumber('kind', kind), rankNumber('rank', rank)];
-        this.#call('winnathey_delay_table', ...rig, counts, window, form, lengths);
-        const [lines, lanes, letters] = this.#numbers(lengths, 3);
+        const m = this.#memory.look();
+        const [k, r, { base }] = [kindNumber('kind', kind), rankNumber('rank', rank), m];
+        const outputs = [base + COUNTS, BigInt(MAX_COUNTS), base + OUT_TWO, 64n, base + OUT, 4096n, base + LENGTHS, 3n];
+        this.#answer(m.calls.winnathey_delay_table(k, r, ...outputs));
         return {
-            counts: this.#front(counts, lines),
-            window: this.#front(window, lanes),
-            normalForm: this.#front(form, letters),
+            counts: Memory.taken(m.u64, (base + COUNTS) >> 3, m.number(LENGTHS, 0)),
+            window: m.entries(OUT_TWO, m.number(LENGTHS, 1)),
+            normalForm: m.bytes(OUT, m.number(LENGTHS, 2)),
         };
     }
 
@@ -487,14 +611,14 @@ export class Winnathey {
      * @returns {?Rewrite}
      */
     rewrite(kind, rank, word, place) {
-        const rig = [kindNumber('kind', kind), rankNumber('rank', rank)];
-        const lent = bytes('word', word);
-        const out = output(Uint8Array, lent.length);
-        const rule = output(Uint8Array, 3);
-        const length = this.#call('winnathey_rewrite', ...rig, lent, placeNumber('place', place), out, rule);
-        if (length === NONE_FITS) return null;
-        const [family, i, j] = this.#front(rule, 3);
-        return { family, i, j, word: this.#front(out, length) };
+        const m = this.#memory.look();
+        const [k, r, length] = [kindNumber('kind', kind), rankNumber('rank', rank), m.putWord(ONE, 'word', word)];
+        const [at, { base }] = [placeNumber('place', place), m];
+        const outputs = [base + OUT, 4096n, base + COUNTS, 3n];
+        const letters = this.#answer(m.calls.winnathey_rewrite(k, r, base + ONE, length, at, ...outputs));
+        if (letters === NONE_FITS) return null;
+        const [family, i, j] = m.bytes(COUNTS, 3);
+        return { family, i, j, word: m.bytes(OUT, letters) };
     }
 
     /**
@@ -503,8 +627,9 @@ export class Winnathey {
      * @returns {number}
      */
     rewriteSteps(kind, rank, word) {
-        const rig = [kindNumber('kind', kind), rankNumber('rank', rank)];
-        return this.#call('winnathey_rewrite_steps', ...rig, bytes('word', word));
+        const m = this.#memory.look();
+        const [k, r, length] = [kindNumber('kind', kind), rankNumber('rank', rank), m.putWord(ONE, 'word', word)];
+        return this.#answer(m.calls.winnathey_rewrite_steps(k, r, m.base + ONE, length));
     }
 
     /**
@@ -513,33 +638,39 @@ export class Winnathey {
      * @returns {Rewriting}
      */
     rewriteToEnd(kind, rank, word) {
+        if (typeof word === 'string') word = numbersOf('word', word, 0, 255);
         const count = this.rewriteSteps(kind, rank, word);
-        const rig = [kindNumber('kind', kind), rankNumber('rank', rank)];
-        const lent = bytes('word', word);
-        const lists = [output(Uint8Array, count), output(Uint16Array, count), output(Uint16Array, count)];
-        const out = output(Uint8Array, lent.length);
-        const written = output(BigUint64Array, 1);
-        this.#call('winnathey_rewrite_to_end', ...rig, lent, ...lists, out, written);
-        const [families, places, lengths] = lists.map(list => this.#view(list));
-        const steps = Array.from({ length: count }, (_, k) =>
-            ({ family: families[k], place: places[k], length: lengths[k] }));
-        return { steps, word: this.#front(out, this.#numbers(written, 1)[0]) };
+        // The places, the lengths and the families, one list after the other.
+        const m = this.#room(REST + 5 * count);
+        const [k, r, length] = [kindNumber('kind', kind), rankNumber('rank', rank), m.putWord(ONE, 'word', word)];
+        const { base } = m;
+        const [places, lengths, families] = [base + REST, base + REST + 2 * count, base + REST + 4 * count];
+        const lists = [families, places, lengths].flatMap(list => [list, BigInt(count)]);
+        const outputs = [base + OUT, 4096n, base + LENGTHS, 1n];
+        this.#answer(m.calls.winnathey_rewrite_to_end(k, r, base + ONE, length, ...lists, ...outputs));
+        const steps = new Array(count);
+        for (let step = 0; step < count; step++) {
+            const [place, left] = [m.u16[(places >> 1) + step], m.u16[(lengths >> 1) + step]];
+            steps[step] = { family: m.u8[families + step], place, length: left };
+        }
+        return { steps, word: m.bytes(OUT, m.number(LENGTHS, 0)) };
     }
 
     // ---- shortest words
 
     /**
-     * Whether a simpler window can be had by removing letters from the normal form of the present word: the places of
-     * letters to keep, rising from 0 at the earliest, or null. Refusals 5 to 8, the present word's first.
+     * Whether a simpler window can be reached by removing letters from the normal form of the present word: the places
+     * of letters to keep, rising from 0 at the earliest, or null. Refusals 5 to 8, the present word's first.
      * @param {Kind} kind @param {number} rank @param {Word} present @param {Word} simpler
      * @returns {?number[]}
      */
     fallback(kind, rank, present, simpler) {
-        const places = output(Uint16Array, MAX_NORMAL_FORM);
-        const rig = [kindNumber('kind', kind), rankNumber('rank', rank)];
-        const words = [bytes('present', present), bytes('simpler', simpler)];
-        const kept = this.#call('winnathey_fallback', ...rig, ...words, places);
-        return kept === NO_FALLBACK ? null : this.#front(places, kept);
+        const m = this.#memory.look();
+        const [k, r] = [kindNumber('kind', kind), rankNumber('rank', rank)];
+        const [one, two] = [m.putWord(ONE, 'present', present), m.putWord(TWO, 'simpler', simpler)];
+        const { base } = m;
+        const kept = this.#answer(m.calls.winnathey_fallback(k, r, base + ONE, one, base + TWO, two, base + PLACES, 4096n));
+        return kept === NO_FALLBACK ? null : Memory.taken(m.u16, (base + PLACES) >> 1, kept);
     }
 
     /**
@@ -549,13 +680,12 @@ export class Winnathey {
      * @returns {{first: number[], second: number[]}}
      */
     split(kind, rank, allowed, word) {
-        const rig = [kindNumber('kind', kind), rankNumber('rank', rank), stepBits(allowed)];
-        const first = output(Uint8Array, MAX_NORMAL_FORM);
-        const second = output(Uint8Array, MAX_NORMAL_FORM);
-        const lengths = output(BigUint64Array, 2);
-        this.#call('winnathey_split', ...rig, bytes('word', word), first, second, lengths);
-        const [one, two] = this.#numbers(lengths, 2);
-        return { first: this.#front(first, one), second: this.#front(second, two) };
+        const m = this.#memory.look();
+        const [k, r, bits] = [kindNumber('kind', kind), rankNumber('rank', rank), stepBits(allowed)];
+        const [length, { base }] = [m.putWord(ONE, 'word', word), m];
+        const outputs = [base + OUT, 4096n, base + OUT_TWO, 4096n, base + LENGTHS, 2n];
+        this.#answer(m.calls.winnathey_split(k, r, bits, base + ONE, length, ...outputs));
+        return { first: m.bytes(OUT, m.number(LENGTHS, 0)), second: m.bytes(OUT_TWO, m.number(LENGTHS, 1)) };
     }
 
     /**
@@ -565,10 +695,11 @@ export class Winnathey {
      * @returns {number[]}
      */
     between(kind, rank, allowed, from, to) {
-        const rig = [kindNumber('kind', kind), rankNumber('rank', rank), stepBits(allowed)];
-        const out = output(Uint8Array, MAX_NORMAL_FORM);
-        const windows = [entries('from', from), entries('to', to)];
-        return this.#front(out, this.#call('winnathey_between', ...rig, ...windows, out));
+        const m = this.#memory.look();
+        const [k, r, bits] = [kindNumber('kind', kind), rankNumber('rank', rank), stepBits(allowed)];
+        const [one, two, { base }] = [m.putWindow(ONE, 'from', from), m.putWindow(TWO, 'to', to), m];
+        const letters = m.calls.winnathey_between(k, r, bits, base + ONE, one, base + TWO, two, base + OUT, 4096n);
+        return m.bytes(OUT, this.#answer(letters));
     }
 
     // ---- books
@@ -579,8 +710,10 @@ export class Winnathey {
      * @returns {number}
      */
     bookCheck(edition, book) {
-        const call = isFirst(edition) ? 'winnathey_book_check' : 'winnathey_second_book_check';
-        return this.#call(call, bytes('book', book));
+        const m = this.#memory.look();
+        const { winnathey_book_check, winnathey_second_book_check } = m.calls;
+        const call = isFirst(edition) ? winnathey_book_check : winnathey_second_book_check;
+        return this.#answer(call(m.base + BOOK, BigInt(m.putBook(book))));
     }
 
     /**
@@ -589,21 +722,13 @@ export class Winnathey {
      * @returns {Preset}
      */
     preset(edition, book, number) {
-        const call = isFirst(edition) ? 'winnathey_preset' : 'winnathey_second_preset';
-        const fields = output(BigUint64Array, 4);
-        this.#call(call, bytes('book', book), placeNumber('number', number), fields);
-        const [kind, rank, start, length] = this.#numbers(fields, 4);
-        return { kind: KINDS[kind], rank, start, length };
-    }
-
-    /**
-     * The letters of the preset with this number. Refusals 1 to 8, in the second edition 17.
-     * @param {Edition} edition @param {Book} book @param {number} number
-     * @returns {number[]}
-     */
-    letters(edition, book, number) {
-        const { start, length } = this.preset(edition, book, number);
-        return Array.from({ length }, (_, k) => book[start + k]);
+        const m = this.#memory.look();
+        const { winnathey_preset, winnathey_second_preset } = m.calls;
+        const call = isFirst(edition) ? winnathey_preset : winnathey_second_preset;
+        const [bytes, at] = [m.putBook(book), placeNumber('number', number)];
+        this.#answer(call(m.base + BOOK, BigInt(bytes), at, m.base + LENGTHS, 4n));
+        const [kind, rank, start, length] = [0, 1, 2, 3].map(index => m.number(LENGTHS, index));
+        return { kind: KINDS[kind], rank, word: m.bytes(BOOK + start, length) };
     }
 
     /**
@@ -613,24 +738,26 @@ export class Winnathey {
      * @returns {ListedPreset[]}
      */
     presets(edition, book, first = 0, most = MAX_BOOK) {
-        const call = isFirst(edition) ? 'winnathey_presets' : 'winnathey_second_presets';
+        const m = this.#memory.look();
+        const { winnathey_presets, winnathey_second_presets } = m.calls;
+        const call = isFirst(edition) ? winnathey_presets : winnathey_second_presets;
         const from = placeNumber('first', first);
         integer('most', most, 0, Number.MAX_SAFE_INTEGER);
-        const lent = bytes('book', book);
         const count = this.bookCheck(edition, book);
         const room = Math.min(most, Math.max(count - first, 0));
         if (room === 0 && first <= count) return [];
         // With room for one at least, so that it is the library that says 4.
-        const fields = output(BigUint64Array, PRESET_FIELDS * Math.max(room, 1));
-        const written = this.#call(call, lent, from, fields);
-        const numbers = this.#numbers(fields, PRESET_FIELDS * written);
-        return Array.from({ length: written }, (_, k) => {
-            const number = first + k;
-            const [refusal, kind, rank, start, length] = numbers.slice(PRESET_FIELDS * k, PRESET_FIELDS * (k + 1));
-            if (refusal !== 0) return { number, refusal: this.#refusal(refusal) };
-            const letters = Array.from(lent.elements.subarray(start, start + length));
-            return { number, refusal: null, kind: KINDS[kind], rank, start, length, letters };
-        });
+        const fields = BigInt(PRESET_FIELDS * Math.max(room, 1));
+        const written = this.#answer(call(m.base + BOOK, BigInt(m.putBook(book)), from, m.base + REST, fields));
+        const listed = new Array(written);
+        for (let at = 0; at < written; at++) {
+            const field = index => m.number(REST, PRESET_FIELDS * at + index);
+            const [number, refused] = [first + at, field(0)];
+            listed[at] = refused === 0
+                ? { number, refusal: null, kind: KINDS[field(1)], rank: field(2), word: m.bytes(BOOK + field(3), field(4)) }
+                : { number, refusal: this.#refusal(refused) };
+        }
+        return listed;
     }
 
     /**
@@ -639,11 +766,14 @@ export class Winnathey {
      * @returns {Uint8Array}
      */
     append(edition, book, kind, rank, word) {
-        const call = isFirst(edition) ? 'winnathey_append' : 'winnathey_second_append';
-        const out = output(Uint8Array, MAX_BOOK);
-        const rig = [kindNumber('kind', kind), rankNumber('rank', rank)];
-        const length = this.#call(call, bytes('book', book), ...rig, bytes('word', word), out);
-        return this.#view(out).slice(0, length);
+        const m = this.#memory.look();
+        const { winnathey_append, winnathey_second_append } = m.calls;
+        const call = isFirst(edition) ? winnathey_append : winnathey_second_append;
+        const bytes = BigInt(m.putBook(book));
+        const [k, r, length] = [kindNumber('kind', kind), rankNumber('rank', rank), m.putWord(ONE, 'word', word)];
+        const { base } = m;
+        const made = this.#answer(call(base + BOOK, bytes, k, r, base + ONE, length, base + NEW_BOOK, BigInt(MAX_BOOK)));
+        return m.copy(NEW_BOOK, made);
     }
 
     /**
@@ -653,10 +783,126 @@ export class Winnathey {
      * @returns {Uint8Array}
      */
     convert(edition, book) {
-        const call = isFirst(edition) ? 'winnathey_to_second' : 'winnathey_to_first';
-        const out = output(Uint8Array, MAX_BOOK);
-        const length = this.#call(call, bytes('book', book), out);
-        return this.#view(out).slice(0, length);
+        const m = this.#memory.look();
+        const { winnathey_to_second, winnathey_to_first } = m.calls;
+        const call = isFirst(edition) ? winnathey_to_second : winnathey_to_first;
+        const bytes = BigInt(m.putBook(book));
+        return m.copy(NEW_BOOK, this.#answer(call(m.base + BOOK, bytes, m.base + NEW_BOOK, BigInt(MAX_BOOK))));
+    }
+
+    // ---- edits: whole records are spliced, so that each reads as before, one of kind A and rank 1 or a refused one too
+
+    /** The records of a book, and where each begins. */
+    #records(edition, book) {
+        const m = this.#memory;
+        const count = this.bookCheck(edition, book);
+        const bytes = m.copy(BOOK, Math.min(book.length, MAX_BOOK));
+        const end = Math.max(bytes.length - OFFSET * (count + 1), 0);
+        const starts = new Array(count);
+        for (let at = 0; at < count; at++) starts[at] = bytes[end + OFFSET * at] | bytes[end + OFFSET * at + 1] << 8;
+        const records = starts.map((start, at) => bytes.subarray(start, starts[at + 1] ?? end));
+        return { records, starts, bytes, end };
+    }
+
+    /** That a book has a preset with this number. */
+    #has(records, name, number) {
+        integer(name, number, 0, Number.MAX_SAFE_INTEGER);
+        if (number >= records.length) throw this.#refusal(Refused.PRESET_NUMBER);
+    }
+
+    /** The book with these records, which the library checks. */
+    #book(edition, records) {
+        const end = records.reduce((sum, record) => sum + record.length, 0);
+        const size = end + OFFSET * (records.length + 1);
+        if (size > MAX_BOOK) throw this.#refusal(Refused.BOOK_FULL);
+        const book = new Uint8Array(size);
+        let start = 0;
+        records.forEach((record, at) => {
+            book.set(record, start);
+            putTwo(book, end + OFFSET * at, start);
+            start += record.length;
+        });
+        putTwo(book, size - OFFSET, records.length);
+        this.bookCheck(edition, book);
+        return book;
+    }
+
+    /**
+     * A book with presets appended in their order, each made a record by the library's append: all of them or none. A
+     * refusal has the `place` of the preset in the list. Refusals 1 to 3; of each preset 5 to 8, 21, 13.
+     * @param {Edition} edition @param {Book} book @param {Iterable<{kind: Kind, rank: number, word: Word}>} presets
+     * @returns {Uint8Array}
+     */
+    appendAll(edition, book, presets) {
+        const { starts, bytes, end } = this.#records(edition, book);
+        const m = this.#memory;
+        const { winnathey_append, winnathey_second_append } = m.calls;
+        const call = isFirst(edition) ? winnathey_append : winnathey_second_append;
+        const room = BigInt(MAX_RECORD + TRAILER);
+        // The records grow here, and not in the library's memory: what yields the presets may call it too.
+        const made = new Uint8Array(MAX_BOOK + MAX_RECORD);
+        made.set(bytes.subarray(0, end));
+        const before = starts.length;
+        let to = end;
+        let place = 0;
+        for (const { kind, rank, word } of presets) {
+            m.look();
+            const [k, r, length] = [kindNumber('kind', kind), rankNumber('rank', rank), m.putWord(ONE, 'word', word)];
+            const answer = Number(call(0, 0n, k, r, m.base + ONE, length, m.base + NEW_BOOK, room));
+            if (answer < 0) throw this.#refusal(-answer, place);
+            const [from, size] = [m.base + NEW_BOOK, answer - TRAILER];
+            if (to + size + OFFSET * (starts.length + 2) > MAX_BOOK) throw this.#refusal(Refused.BOOK_FULL, place);
+            const { u8 } = m;
+            for (let i = 0; i < size; i++) made[to + i] = u8[from + i];
+            starts.push(to);
+            to += size;
+            place++;
+        }
+        if (starts.length === before) return bytes;
+        starts.forEach((start, at) => putTwo(made, to + OFFSET * at, start));
+        putTwo(made, to + OFFSET * starts.length, starts.length);
+        const whole = made.slice(0, to + OFFSET * (starts.length + 1));
+        this.bookCheck(edition, whole);
+        return whole;
+    }
+
+    /**
+     * A book without the preset with this number. Refusals 1 to 4.
+     * @param {Edition} edition @param {Book} book @param {number} number
+     * @returns {Uint8Array}
+     */
+    remove(edition, book, number) {
+        const { records } = this.#records(edition, book);
+        this.#has(records, 'number', number);
+        records.splice(number, 1);
+        return this.#book(edition, records);
+    }
+
+    /**
+     * A book with another preset in the place of the one with this number. Refusals 1 to 8, 21, 13.
+     * @param {Edition} edition @param {Book} book @param {number} number
+     * @param {Kind} kind @param {number} rank @param {Word} word
+     * @returns {Uint8Array}
+     */
+    replace(edition, book, number, kind, rank, word) {
+        const { records } = this.#records(edition, book);
+        this.#has(records, 'number', number);
+        const alone = this.append(edition, [], kind, rank, word);
+        records[number] = alone.subarray(0, alone.length - TRAILER);
+        return this.#book(edition, records);
+    }
+
+    /**
+     * A book with the preset `from` at the number `to`; those between move up or down by one. Refusals 1 to 4.
+     * @param {Edition} edition @param {Book} book @param {number} from @param {number} to
+     * @returns {Uint8Array}
+     */
+    moveTo(edition, book, from, to) {
+        const { records } = this.#records(edition, book);
+        this.#has(records, 'from', from);
+        this.#has(records, 'to', to);
+        records.splice(to, 0, ...records.splice(from, 1));
+        return this.#book(edition, records);
     }
 
     // ---- the library itself
@@ -667,9 +913,10 @@ export class Winnathey {
      * @returns {string}
      */
     refusalSentence(number) {
-        const out = output(Uint8Array, MAX_SENTENCE);
-        const length = this.#run('winnathey_refusal_sentence', [integer('number', number, 0, 0xffffffff), out]);
-        return String.fromCharCode(...this.#front(out, length));
+        const m = this.#memory.look();
+        integer('number', number, 0, 0xffffffff);
+        const length = Number(m.calls.winnathey_refusal_sentence(number, m.base + OUT, BigInt(MAX_SENTENCE)));
+        return String.fromCharCode(...m.bytes(OUT, length));
     }
 
     /**
@@ -677,7 +924,13 @@ export class Winnathey {
      * @returns {string}
      */
     version() {
-        const number = this.#run('winnathey_version', []);
+        const number = Number(this.#memory.calls.winnathey_version());
         return [Math.floor(number / 1000000), Math.floor(number / 1000) % 1000, number % 1000].join('.');
     }
+}
+
+/** Puts a number of 16 bits into a book. */
+function putTwo(book, at, number) {
+    book[at] = number & 0xff;
+    book[at + 1] = number >> 8;
 }

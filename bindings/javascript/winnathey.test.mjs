@@ -6,7 +6,7 @@ import { readFileSync } from 'node:fs';
 import { test } from 'node:test';
 import { fileURLToPath } from 'node:url';
 
-import { KINDS, MAX_BOOK, MAX_LANES, MAX_NORMAL_FORM, MAX_WORD, Refusal, Winnathey, load } from './winnathey.mjs';
+import { KINDS, MAX_BOOK, MAX_LANES, MAX_NORMAL_FORM, MAX_WORD, Refusal, Refused, Winnathey, load } from './winnathey.mjs';
 
 const root = new URL('../../', import.meta.url);
 const wasm = process.env.WINNATHEY_WASM ?? fileURLToPath(new URL('target/targets/wasm32/winnathey.wasm', root));
@@ -20,7 +20,8 @@ function refusal(call) {
         assert.ok(error instanceof Refusal, String(error));
         assert.equal(error.name, 'Refusal');
         assert.equal(error.sentence, w.refusalSentence(error.number));
-        assert.equal(error.message, `refused ${error.number}: ${error.sentence}`);
+        const place = error.place === null ? '' : ` (preset ${error.place} of the list)`;
+        assert.equal(error.message, `refused ${error.number}: ${error.sentence}${place}`);
         return error.number;
     }
     return 0;
@@ -84,10 +85,40 @@ test('words', () => {
     assert.equal(w.same('A', 2, [1, 2, 1], 'A', 2, [2, 1, 2]), true);
     assert.equal(w.same('A', 2, [1], 'B', 3, [1]), true);
     assert.equal(w.same('A', 2, [1], 'A', 2, [2]), false);
-    assert.equal(w.better('A', 2, [2, 1, 2], [1, 2, 1]), 1);
-    assert.equal(w.better('A', 2, [1, 1, 1], [1]), 2);
-    assert.equal(w.better('A', 2, [1], [2]), 0);
-    assert.equal(w.better('A', 2, [9], [9]), 0);
+    assert.deepEqual(w.better('A', 2, [2, 1, 2], [1, 2, 1]), [2, 1, 2]);
+    assert.deepEqual(w.better('A', 2, [1, 2, 1], [2, 1, 2]), [2, 1, 2]);
+    assert.deepEqual(w.better('A', 2, [1, 1, 1], [1]), [1]);
+    assert.deepEqual(w.better('A', 2, [], [1, 1]), []);
+    assert.equal(w.better('A', 2, [1], [2]), null);
+    assert.equal(refusal(() => w.better('A', 2, [9], [9])), 8);
+    assert.equal(refusal(() => w.better('A', 2, [1], TOO_LONG)), 7);
+    assert.equal(refusal(() => w.better('A', 64, [], [])), 6);
+});
+
+test('letters of kinds in either case, words, windows and steps as texts', () => {
+    for (const kind of ['D', 'd', 3]) {
+        for (const word of [D5, '4 4 2 5 3 5 1 2', '4,4,2,5,3,5,1,2', ' 4, 4 ,2 5\t3 5 1 2 ']) {
+            assert.deepEqual(w.normalFormOfWord(kind, 5, word), [5, 2, 3, 5, 1, 2]);
+            assert.equal(w.rewriteToEnd(kind, 5, word).steps.length, w.rewriteSteps(kind, 5, word));
+        }
+        assert.equal(w.lengthOfWindow(kind, 5, '3 -5 1 4 -2'), 6);
+        assert.deepEqual(w.inverseOfWindow(kind, 5, '3,-5,1,4,-2'), w.inverseOfWindow('D', 5, [3, -5, 1, 4, -2]));
+    }
+    assert.deepEqual(w.windowOfWord('a', 1, ''), [1, 2]);
+    assert.deepEqual(w.windowOfWord('b', 2, '2'), [1, -2]);
+    assert.deepEqual(w.split('A', 2, '1', '1 2 1'), { first: [1], second: [2, 1] });
+    assert.deepEqual(w.between('A', 2, '1,2', '1 2 3', '2 3 1'), [1, 2]);
+    assert.deepEqual(w.append(1, [], 'b', 2, '1,2'), w.append(1, [], 'B', 2, [1, 2]));
+    for (const text of ['1 +1', '1 -1', '1,,1', '1,', '1 256', '1 x', '1 1.0', '1 1e0', '1 0x1', '1 \u0661', '1 99999999999999999999']) {
+        assert.throws(() => w.windowOfWord('A', 2, text), { name: 'RangeError', message: /^word\[1\] is not an integer from 0 to 255: "/ }, text);
+    }
+    for (const text of ['1 128', '1 -129', '1 --1', '1 - 1', '1 +1']) {
+        assert.throws(() => w.lengthOfWindow('A', 2, text), { name: 'RangeError', message: /^window\[1\] is not an integer from -128 to 127: "/ }, text);
+    }
+    for (const text of ['1 0', '1 65', '1-2', '1 -2']) {
+        assert.throws(() => w.split('A', 2, text, []), { name: 'RangeError', message: /^allowed\[[01]\] is not an integer from 1 to 64: "/ }, text);
+    }
+    assert.throws(() => w.bookCheck(1, '0 0'), { name: 'TypeError', message: 'book is not a list: "0 0"' });
 });
 
 test('windows', () => {
@@ -150,10 +181,8 @@ test('books', () => {
     assert.equal(w.bookCheck(1, BOOK), 2);
     assert.equal(w.bookCheck(2, SECOND), 2);
     assert.equal(w.bookCheck(1, []), 0);
-    assert.deepEqual(w.preset(1, BOOK, 1), { kind: 'D', rank: 5, start: 12, length: 6 });
-    assert.deepEqual(w.preset(2, SECOND, 0), { kind: 'B', rank: 2, start: 5, length: 4 });
-    assert.deepEqual(w.letters(1, BOOK, 1), [5, 2, 3, 5, 1, 2]);
-    assert.deepEqual(w.letters(2, Uint8Array.from(SECOND), 0), [1, 2, 1, 2]);
+    assert.deepEqual(w.preset(1, BOOK, 1), { kind: 'D', rank: 5, word: [5, 2, 3, 5, 1, 2] });
+    assert.deepEqual(w.preset(2, Uint8Array.from(SECOND), 0), { kind: 'B', rank: 2, word: [1, 2, 1, 2] });
     assert.deepEqual(w.append(1, w.append(1, [], 'B', 2, [1, 2, 1, 2]), 'D', 5, [5, 2, 3, 5, 1, 2]), Uint8Array.from(BOOK));
     assert.deepEqual(w.append(2, w.append(2, [], 2, 2, [1, 2, 1, 2]), 3, 5, [5, 2, 3, 5, 1, 2]), Uint8Array.from(SECOND));
     assert.deepEqual(w.convert(1, BOOK), Uint8Array.from(SECOND));
@@ -162,7 +191,7 @@ test('books', () => {
 });
 
 test('lists of presets, refused ones among them', () => {
-    const second = { number: 1, refusal: null, kind: 'D', rank: 5, start: 12, length: 6, letters: [5, 2, 3, 5, 1, 2] };
+    const second = { number: 1, refusal: null, kind: 'D', rank: 5, word: [5, 2, 3, 5, 1, 2] };
     const listed = w.presets(1, BOOK);
     assert.equal(listed.length, 2);
     assert.deepEqual(listed[1], second);
@@ -179,6 +208,115 @@ test('lists of presets, refused ones among them', () => {
     assert.ok(refused.refusal instanceof Refusal);
     assert.equal(refused.refusal.number, 8);
     assert.deepEqual(kept, second);
+});
+
+// ---- edits of books
+
+/** The cases that all bindings are held to. */
+function storedEdits() {
+    const letters = text => {
+        const [letter, times] = text.split('x');
+        return times ? new Array(Number(times)).fill(Number(letter)) : text.split('.').filter(Boolean).map(Number);
+    };
+    const presetOf = text => {
+        const [, kind, rank, word] = text.match(/^([ABD])(\d+):(.*)$/);
+        return { kind, rank: Number(rank), word: letters(word) };
+    };
+    const lines = readFileSync(new URL('tests/books/edits', root), 'utf8').trimEnd().split('\n');
+    return lines.filter(line => !line.startsWith('#')).map(line => {
+        const [, edition, hex, name, list, outcome] = line.match(/^(\d) (\S+) (\w+)((?: \S+)*) = (.*)$/);
+        const parts = list.split(' ').slice(1).map(part => (part.includes(':') ? presetOf(part) : Number(part)));
+        return { line, edition: Number(edition), book: Uint8Array.from(Buffer.from(hex.replace('-', ''), 'hex')), name, parts, outcome };
+    });
+}
+
+function edited({ edition, book, name, parts }) {
+    switch (name) {
+        case 'remove': return w.remove(edition, book, parts[0]);
+        case 'move_to': return w.moveTo(edition, book, ...parts);
+        case 'replace': return w.replace(edition, book, parts[0], parts[1].kind, parts[1].rank, parts[1].word);
+        default: return w.appendAll(edition, book, parts);
+    }
+}
+
+test('edits of books are as stored', () => {
+    const cases = storedEdits();
+    assert.ok(cases.length > 100);
+    for (const stored of cases) {
+        const before = Uint8Array.from(stored.book);
+        let outcome;
+        try {
+            outcome = Buffer.from(edited(stored)).toString('hex') || '-';
+        } catch (error) {
+            assert.ok(error instanceof Refusal, String(error));
+            outcome = `refused ${error.number}${error.place === null ? '' : ` at ${error.place}`}`;
+        }
+        assert.equal(outcome, stored.outcome, stored.line);
+        assert.deepEqual(stored.book, before);
+    }
+});
+
+test('many presets at once are those appended one by one', () => {
+    for (const edition of [1, 2]) {
+        const words = [[1, 2, 1, 2], '', Uint8Array.of(2), new Array(100).fill(1)];
+        const presets = Array.from({ length: 400 }, (_, i) => ({ kind: i % 2 ? 'B' : 2, rank: 2, word: words[i % 4] }));
+        let book = new Uint8Array(0);
+        for (const { kind, rank, word } of presets) book = w.append(edition, book, kind, rank, word);
+        assert.deepEqual(w.appendAll(edition, [], presets), book);
+        const half = w.appendAll(edition, [0, 0], presets.slice(0, 200));
+        assert.deepEqual(w.appendAll(edition, half, presets.slice(200)), book);
+        // Whatever yields presets may call the library, and is stopped where the book is full.
+        const yielding = function* () {
+            for (let i = 0; ; i++) yield { kind: 'D', rank: 5, word: w.normalFormOfWord('D', 5, [1 + i % 5, 1 + i % 3]) };
+        };
+        assert.equal(refusal(() => w.appendAll(edition, [], yielding())), 13);
+        // To the last byte.
+        const head = edition === 1 ? 4 : 5;
+        const longest = { kind: 'A', rank: 2, word: new Uint8Array(4096).fill(1) };
+        const rest = new Array(MAX_BOOK - 2 - 15 * (4096 + head + 2) - head - 2).fill(1);
+        const full = w.appendAll(edition, [], [...new Array(15).fill(longest), { kind: 'A', rank: 2, word: rest }]);
+        assert.equal(full.length, MAX_BOOK);
+        assert.equal(refusal(() => w.appendAll(edition, full, [{ kind: 'A', rank: 2, word: [] }])), 13);
+        assert.equal(refusal(() => w.replace(edition, full, 15, 'A', 2, [...rest, 1])), 13);
+        assert.equal(w.replace(edition, full, 15, 'A', 2, rest.slice(1)).length, MAX_BOOK - 1);
+    }
+    assert.throws(() => w.appendAll(1, [], 5), TypeError);
+    assert.throws(() => w.appendAll(1, [], [{ kind: 'A', rank: 2, word: [256] }]), RangeError);
+    assert.throws(() => w.remove(1, BOOK, -1), { name: 'RangeError', message: /^number is not/ });
+    assert.throws(() => w.moveTo(1, BOOK, 0, '1'), { name: 'TypeError', message: /^to is not a number/ });
+});
+
+// ---- memory
+
+test('the memory does not grow, whatever is called', async () => {
+    const fresh = await load(wasm);
+    const size = () => fresh.exports.memory.buffer.byteLength;
+    const stands = size();
+    const long = Array.from({ length: 1500 }, (_, i) => 1 + (i * 37) % 64);
+    const book = fresh.appendAll(1, [], Array.from({ length: 10922 }, () => ({ kind: 'A', rank: 2, word: [] })));
+    assert.equal(book.length, 10922 * 6 + 2);
+    for (let i = 0; i < 20; i++) {
+        assert.ok(fresh.rewriteToEnd('D', 64, long).steps.length > 100000);
+        assert.equal(fresh.presets(1, book).length, 10922);
+        fresh.convert(1, BOOK);
+        for (let j = 0; j < 500; j++) fresh.normalFormOfWord('D', 64, long);
+    }
+    assert.equal(size(), stands);
+    assert.ok(stands <= 1 << 20, String(stands));
+    // By hand, without the module, it has nowhere else to go.
+    const { instance } = await WebAssembly.instantiate(readFileSync(wasm));
+    assert.deepEqual(new Winnathey(instance.exports).rewriteToEnd('D', 64, long), fresh.rewriteToEnd('D', 64, long));
+});
+
+test('no more of a list is read than the library has to see', () => {
+    const endless = value => new Proxy([], { get: (_, key) => (key === 'length' ? 2 ** 40 : key === Symbol.iterator ? undefined : value) });
+    assert.equal(refusal(() => w.windowOfWord('A', 2, endless(1))), 7);
+    assert.equal(refusal(() => w.lengthOfWindow('A', 2, endless(1))), 9);
+    assert.equal(refusal(() => w.bookCheck(1, endless(0))), 1);
+    const steps = function* () {
+        for (;;) yield 1;
+    };
+    assert.throws(() => w.split('A', 2, steps(), []), { name: 'RangeError', message: 'there are more than 4096 allowed steps' });
 });
 
 // ---- every refusal
@@ -217,6 +355,10 @@ test('every refusal, by its number and sentence', () => {
     assert.equal(winnathey_window_of_word(1, 2, at, 2n, at + 8, 2n), -14n);
     assert.equal(winnathey_rewrite_to_end(1, 2, at, 2n, 0, 0n, 0, 0n, 0, 0n, at + 8, 2n, at + 16, 1n), -15n);
 
+    const names = readFileSync(new URL('include/winnathey.h', root), 'utf8').matchAll(/^#define WINNATHEY_REFUSED_(\w+) (\d+)$/gm);
+    assert.deepEqual({ ...Refused }, Object.fromEntries([...names].map(([, name, number]) => [name, Number(number)])));
+    assert.ok(Object.isFrozen(Refused));
+
     const seen = [...Object.keys(refused).map(Number), 14, 15].sort((a, b) => a - b);
     assert.deepEqual(seen, Array.from({ length: 21 }, (_, i) => i + 1));
 });
@@ -253,7 +395,11 @@ test('what is no kind, rank, byte, step, place or edition is named', () => {
         [() => w.windowOfWord('A', 2, [1n]), TypeError, /^word\[0\] is not a number: 1$/],
         [() => w.windowOfWord('A', 2, [, 1]), TypeError, /^word\[0\] is not a number: undefined$/],
         [() => w.windowOfWord('A', 2), TypeError, /^word is not a list: undefined$/],
-        [() => w.windowOfWord('A', 2, '12'), TypeError, /^word is not a list: "12"$/],
+        [() => w.windowOfWord('A', 2, 12), TypeError, /^word is not a list: 12$/],
+        [() => w.windowOfWord('A', 2, [true]), TypeError, /^word\[0\] is not a number: true$/],
+        [() => w.windowOfWord('A', 2, [-1]), RangeError, /^word\[0\] is not an integer from 0 to 255: -1$/],
+        [() => w.windowOfWord('AB', 2, []), RangeError, /^kind is not 'A', 'B' or 'D': "AB"$/],
+        [() => w.windowOfWord(true, 2, []), TypeError, /^kind is not a number: true$/],
         [() => w.lengthOfWindow('A', 2, [1, 2, 128]), RangeError, /^window\[2\] is not an integer from -128 to 127: 128$/],
         [() => w.rewrite('A', 2, [1], -1), RangeError, /^place is not/],
         [() => w.rewrite('A', 2, [1], 2 ** 53), RangeError, /^place is not/],

@@ -1,6 +1,10 @@
 """Tests of winnathey.py: every call, every refusal that a call can give, the header's declarations."""
 
+import array
+import ctypes
 import doctest
+import inspect
+import itertools
 import os
 import pickle
 import random
@@ -44,6 +48,11 @@ class Calls(unittest.TestCase):
         self.assertEqual(w.better("D", 5, WORD, FORM), FORM)
         self.assertEqual(w.better("D", 5, FORM, WORD), FORM)
         self.assertIsNone(w.better("D", 5, WORD, []))
+        self.assertEqual(w.better("A", 2, [], [1, 1]), [])
+        for number, first, second in ((8, [6], [1]), (8, [1], [6]), (7, [1], [1] * 4097), (8, [6], [1] * 4097)):
+            with self.assertRaises(w.Refusal) as caught:
+                w.better("D", 5, first, second)
+            self.assertEqual(caught.exception.number, number)
 
     def test_windows(self):
         self.assertEqual(w.normal_form_of_window("D", 5, WINDOW), FORM)
@@ -61,7 +70,7 @@ class Calls(unittest.TestCase):
         self.assertEqual(w.rewrite("D", 5, WORD, 0), w.Rewrite(1, 4, 0, [2, 5, 3, 5, 1, 2]))
         self.assertIsNone(w.rewrite("D", 5, FORM, 0))
         self.assertEqual(w.rewrite_steps("D", 5, WORD), 2)
-        self.assertEqual(w.rewrite_to_end("D", 5, WORD), w.Rewriting([w.Step(1, 0, 6), w.Step(2, 0, 6)], FORM))
+        self.assertEqual(w.rewrite_to_end("D", 5, WORD), w.Rewriting([w.RewriteStep(1, 0, 6), w.RewriteStep(2, 0, 6)], FORM))
         self.assertEqual(w.rewrite_to_end("A", 1, []), w.Rewriting([], []))
 
     def test_fallbacks_splits_ways(self):
@@ -98,12 +107,16 @@ class Calls(unittest.TestCase):
 
     def test_books_of_any_layout(self):
         """The letters are those of the book's bytes, whatever a view takes for its elements."""
-        for book in (bytearray(FIRST), memoryview(FIRST), *(memoryview(FIRST).cast(format) for format in "bcHQ")):
+        spread = memoryview(bytes(byte for pair in zip(FIRST, FIRST) for byte in pair))[::2]
+        views = (memoryview(FIRST).cast(format) for format in "bcHQ")
+        arrays = array.array("B", FIRST), array.array("H", FIRST), (ctypes.c_uint16 * 12).from_buffer_copy(FIRST)
+        for book in (bytearray(FIRST), memoryview(FIRST), memoryview(bytearray(FIRST)), spread, *views, *arrays):
             self.assertEqual(w.presets(1, book), w.presets(1, FIRST))
             self.assertEqual(w.preset(1, book, 1), w.preset(1, FIRST, 1))
 
     def test_library(self):
         self.assertEqual(w.version(), re.search(r'#define WINNATHEY_VERSION "(.*)"', header()).group(1))
+        self.assertEqual(w.__version__, w.version())
         self.assertEqual(w.refusal_sentence(5), "The kind is not 1, 2 or 3.")
         self.assertEqual(w.refusal_sentence(0), "")
         self.assertEqual(w.refusal_sentence(22), "")
@@ -148,11 +161,115 @@ class Refusals(unittest.TestCase):
             sentence = re.sub(r"\s*\n \* *", " ", sentence)
             self.assertEqual(w.refusal_sentence(int(number)), sentence)
 
+    def test_names(self):
+        constants = re.findall(r"#define WINNATHEY_REFUSED_(\w+) (\d+)", header())
+        self.assertEqual([(name, int(number)) for name, number in constants], [(r.name, r.value) for r in w.Refused])
+        with self.assertRaises(w.Refusal) as caught:
+            w.window_of_word("D", 5, [6])
+        self.assertIs(caught.exception.number, w.Refused.LETTER)
+        self.assertIsNone(caught.exception.place)
+
     def test_exception(self):
         refusal = w.Refusal(8)
         self.assertEqual(str(refusal), "refused 8: " + refusal.sentence)
         self.assertIsInstance(refusal, ValueError)
         self.assertEqual(pickle.loads(pickle.dumps(refusal)), refusal)
+        placed = w.Refusal(8, 3)
+        self.assertEqual(str(placed), "refused 8: " + refusal.sentence + " (preset 3 of the list)")
+        self.assertEqual(pickle.loads(pickle.dumps(placed)), placed)
+        self.assertNotEqual(placed, refusal)
+
+
+def stored_edits():
+    """The cases that all bindings are held to."""
+
+    def letters(text):
+        letter, _, times = text.partition("x")
+        return [int(letter)] * int(times) if times else [int(letter) for letter in text.split(".") if letter]
+
+    def part(text):
+        group, colon, word = text.partition(":")
+        return (group[0], int(group[1:]), letters(word)) if colon else int(text)
+
+    with open(os.path.join(os.path.dirname(HEADER), "..", "tests", "books", "edits"), encoding="utf-8") as file:
+        for line in file:
+            if not line.startswith("#"):
+                edit, outcome = line.rstrip("\n").split(" = ")
+                edition, book, name, *parts = edit.split(" ")
+                yield int(edition), bytes.fromhex(book.strip("-")), name, [part(text) for text in parts], outcome
+
+
+class Edits(unittest.TestCase):
+    def edited(self, edition, book, name, parts):
+        if name == "replace":
+            return w.replace(edition, book, parts[0], *parts[1])
+        return w.append_all(edition, book, parts) if name == "append_all" else getattr(w, name)(edition, book, *parts)
+
+    def test_stored(self):
+        cases = 0
+        for edition, book, name, parts, wanted in stored_edits():
+            try:
+                outcome = self.edited(edition, book, name, parts).hex() or "-"
+            except w.Refusal as refusal:
+                outcome = f"refused {int(refusal.number)}" + ("" if refusal.place is None else f" at {refusal.place}")
+            self.assertEqual(outcome, wanted, (edition, book.hex(), name, parts))
+            cases += 1
+        self.assertGreater(cases, 100)
+
+    def test_random(self):
+        """Edits of a book do to its presets what the same edits do to a list."""
+        rng = random.Random(2)
+        for edition in (1, 2) * 50:
+            # Whole records, right or not: the check of a book does not look into them.
+            records = []
+            for _ in range(rng.randrange(8)):
+                word = [rng.randrange(5) for _ in range(rng.randrange(6))]
+                records.append(bytes([rng.randrange(5) for _ in range(1 + edition)] + [len(word), 0] + word))
+            starts = [sum(map(len, records[:at])) for at in range(len(records))]
+            book = b"".join(records) + b"".join(number.to_bytes(2, "little") for number in [*starts, len(records)])
+            listed = w.presets(edition, book)
+            for _ in range(20):
+                origin, target = rng.randrange(len(listed) + 1), rng.randrange(len(listed) + 1)
+                added = w.Preset("D", 5, [rng.randint(1, 5) for _ in range(rng.randrange(5))])
+                name = rng.choice(("remove", "replace", "move_to", "append_all"))
+                given = {"remove": [origin], "replace": [origin, added], "move_to": [origin, target], "append_all": [added, added]}
+                before = book
+                try:
+                    book = self.edited(edition, bytearray(book), name, given[name])
+                except w.Refusal as refusal:
+                    self.assertEqual(refusal.number, w.Refused.PRESET_NUMBER)
+                    self.assertIn(len(listed), (origin, target))
+                    self.assertEqual(book, before)
+                    continue
+                if name == "remove":
+                    del listed[origin]
+                elif name == "replace":
+                    listed[origin] = added
+                elif name == "move_to":
+                    listed.insert(target, listed.pop(origin))
+                else:
+                    listed += [added, added]
+                self.assertEqual(w.presets(edition, book), listed)
+
+    def test_many_at_once(self):
+        for edition in (1, 2):
+            words = [1, 2, 1, 2], "", b"\2", (1,) * 100
+            presets = [("Bb"[at % 2], 2, words[at % 4]) for at in range(400)]
+            book = b""
+            for preset in presets:
+                book = w.append(edition, book, *preset)
+            self.assertEqual(w.append_all(edition, b"", presets), book)
+            self.assertEqual(w.append_all(edition, w.append_all(edition, b"\0\0", presets[:200]), iter(presets[200:])), book)
+            head = 3 + edition
+            rest = [1] * (65535 - 2 - 15 * (4096 + head + 2) - head - 2)
+            full = w.append_all(edition, b"", [("A", 2, [1] * 4096)] * 15 + [("A", 2, rest)])
+            self.assertEqual(len(full), 65535)
+            self.assertEqual(w.book_check(edition, full), 16)
+            for call in (lambda: w.append_all(edition, full, [("A", 2, [])]), lambda: w.replace(edition, full, 15, "A", 2, rest + [1])):
+                with self.assertRaises(w.Refusal) as caught:
+                    call()
+                self.assertEqual(caught.exception.number, w.Refused.BOOK_FULL)
+            self.assertEqual(len(w.replace(edition, full, 15, "A", 2, rest[1:])), 65534)
 
 
 def full_book():
@@ -219,8 +336,85 @@ class Arguments(unittest.TestCase):
         ):
             with self.assertRaisesRegex(TypeError, "^the "):
                 call()
-        with self.assertRaises(ValueError):
-            w.book_check(True, FIRST)
+
+    def test_no_bool_is_a_number(self):
+        yes, word, window = True, [1], [1, 2, 3]
+        for call in (
+            lambda: w.book_check(yes, FIRST),
+            lambda: w.preset(1, FIRST, yes),
+            lambda: w.presets(1, FIRST, yes),
+            lambda: w.append(yes, FIRST, "A", 2, word),
+            lambda: w.append_all(yes, FIRST, []),
+            lambda: w.append_all(1, FIRST, [("A", yes, word)]),
+            lambda: w.remove(1, FIRST, yes),
+            lambda: w.replace(1, FIRST, yes, "A", 2, word),
+            lambda: w.move_to(1, FIRST, 0, yes),
+            lambda: w.convert(yes, FIRST),
+            lambda: w.window_of_word(yes, 5, word),
+            lambda: w.window_of_word("D", yes, word),
+            lambda: w.window_of_word("D", 5, [1, yes]),
+            lambda: w.window_of_word("D", 5, (1, yes)),
+            lambda: w.window_of_word("D", 5, iter([1, yes])),
+            lambda: w.window_of_word("D", 5, yes),
+            lambda: w.length_of_window("A", 2, [yes, 2, 3]),
+            lambda: w.length_of_window("A", 2, (yes, 2, 3)),
+            lambda: w.rewrite("A", 2, word, yes),
+            lambda: w.split("A", 2, yes, word),
+            lambda: w.split("A", 2, [yes], word),
+            lambda: w.between("A", 2, yes, window, window),
+            lambda: w.refusal_sentence(yes),
+        ):
+            with self.assertRaisesRegex(TypeError, "^the .* (must be an integer, got True|is True and no list)$"):
+                call()
+
+    def test_kinds_in_either_case(self):
+        for kind in ("D", "d", 3, Whole(3)):
+            self.assertEqual(w.normal_form_of_word(kind, 5, WORD), FORM)
+        self.assertEqual(w.window_of_word("a", 1, []), [1, 2])
+        self.assertEqual(w.window_of_word("b", 2, [2]), [1, -2])
+        for kind in ("C", "", "AB", "1", "\u0410"):
+            with self.assertRaisesRegex(ValueError, "^the kind is .* and not 'A', 'B' or 'D'$"):
+                w.window_of_word(kind, 5, [])
+
+    def test_texts(self):
+        for text in ("4 4 2 5 3 5 1 2", "4,4,2,5,3,5,1,2", " 4, 4 ,2 5\t3 5 1 2\n"):
+            self.assertEqual(w.normal_form_of_word("D", 5, text), FORM)
+        self.assertEqual(w.normal_form_of_window("D", 5, "3 -5 1 4 -2"), FORM)
+        self.assertEqual(w.between("D", 5, "1,2 3 4,5", "1 2 3 4 5", "3,-5,1,4,-2"), FORM)
+        self.assertEqual(w.split("D", 5, "1 2 3", "4 4 2"), w.split("D", 5, [1, 2, 3], [4, 4, 2]))
+        self.assertEqual(w.append(1, b"", "B", 2, "1 2"), w.append(1, b"", "B", 2, [1, 2]))
+        self.assertEqual(w.window_of_word("A", 1, " "), [1, 2])
+        for text in ("1 +1", "1 -1", "1,,1", "1,", "1 256", "1 x", "1 1.0", "1 1_0", "1 \u0661", "1 " + "9" * 5000):
+            with self.assertRaisesRegex(ValueError, "^the letter at place 1 is .* and not 0 to 255$"):
+                w.window_of_word("A", 2, text)
+        for text in ("1 128", "1 -129", "1 --1", "1 - 1", "1 +1"):
+            with self.assertRaisesRegex(ValueError, "^the entry at place 1 is .* and not -128 to 127$"):
+                w.length_of_window("A", 2, text)
+        for text in ("1 0", "1 65", "1 -2", "1 2-3"):
+            with self.assertRaisesRegex(ValueError, "^the step at place 1 is .* and not 1 to 64$"):
+                w.split("A", 2, text, [])
+
+    def test_no_more_is_read_than_the_library_has_to_see(self):
+        """Endless iterators are refused as lists are that are too long."""
+        for call, number in (
+            (lambda: w.window_of_word("A", 2, itertools.repeat(1)), 7),
+            (lambda: w.window_of_word("A", 2, range(1, 10**12)), None),
+            (lambda: w.window_of_word("A", 2, [1] * 10**6), 7),
+            (lambda: w.window_of_word("A", 2, b"\1" * 10**6), 7),
+            (lambda: w.length_of_window("A", 2, itertools.repeat(1)), 9),
+            (lambda: w.length_of_window("A", 2, [1] * 10**6), 9),
+            (lambda: w.book_check(1, bytes(10**6)), 1),
+            (lambda: w.book_check(1, bytearray(10**6)), 1),
+            (lambda: w.append_all(1, b"", itertools.repeat(("A", 2, [1]))), 13),
+            (lambda: w.split("A", 2, itertools.repeat(1), []), None),
+        ):
+            with self.assertRaises(ValueError) as caught:
+                call()
+            self.assertEqual(getattr(caught.exception, "number", None), number)
+        taken = []
+        with self.assertRaises(w.Refusal):
+            w.window_of_word("A", 2, (taken.append(1) or 1 for _ in itertools.count()))
+        self.assertEqual(len(taken), 4097)
 
 
 class Header(unittest.TestCase):
@@ -242,6 +436,15 @@ class Header(unittest.TestCase):
             found = re.search(rf"#define WINNATHEY_{name} (\d+)", header())
             self.assertIsNotNone(found, name)
             self.assertEqual(int(found.group(1)), value)
+
+
+class Annotations(unittest.TestCase):
+    def test_everywhere(self):
+        """Every function says what it takes and returns."""
+        for name, function in inspect.getmembers(w, lambda member: inspect.isfunction(member) and member.__module__ == w.__name__):
+            signature = inspect.signature(function)
+            given = [signature.return_annotation, *(parameter.annotation for parameter in signature.parameters.values())]
+            self.assertNotIn(inspect.Signature.empty, given, name)
 
 
 class Together(unittest.TestCase):

@@ -4,7 +4,7 @@ use crate::books::{self, Book};
 use crate::failure::Failure;
 use crate::files::{self, Locked, Ready, Sort};
 use crate::json::Value;
-use crate::library::{self, Edition, MAX_BOOK, Rig};
+use crate::library::{self, Edition, MAX_BOOK};
 use crate::names::{self, Names};
 use crate::out::Out;
 use crate::table::Verdict;
@@ -212,21 +212,4 @@ fn acknowledged(subcommand: &'static str, file: &Path, change: &Change, out: &mu
         writeln!(out, "{}: {count}, {bytes}", text::file(file))?;
     }
     Ok(out.flush()?)
-}
-
-/// A book made anew from presets in their order, each appended by the library, so that every record is the library's.
-pub fn built(edition: Edition, presets: &[(usize, Rig, Vec<u8>)], room: usize) -> Result<Vec<u8>, Failure> {
-    let mut book = Vec::new();
-    for (number, rig, word) in presets {
-        book = library::append(edition, &book, *rig, word, room).map_err(|refusal| match refusal.number() {
-            13 | 14 => Failure::Refused(refusal, None),
-            _ => Failure::Presets(
-                vec![(*number, refusal, None)],
-                Some(
-                    "the new book is made by appending its presets in order, and this one is not appended".to_string(),
-                ),
-            ),
-        })?;
-    }
-    Ok(book)
 }

@@ -122,7 +122,8 @@ pub fn same(first: Preset, second: Preset) -> Result<bool, Refusal> {
     winnathey::lent::same(first.lent(), second.lent())
 }
 
-pub fn better<'a>(rig: Rig, first: &'a [u8], second: &'a [u8]) -> &'a [u8] {
+/// None if they show different windows.
+pub fn better<'a>(rig: Rig, first: &'a [u8], second: &'a [u8]) -> Result<Option<&'a [u8]>, Refusal> {
     winnathey::lent::better(rig.kind, rig.rank, first, second)
 }
 
@@ -159,7 +160,7 @@ pub fn delays(rig: Rig) -> Result<Delays, Refusal> {
     let lengths = winnathey::lent::delay_table(rig.kind, rig.rank, &mut counts, &mut window, &mut form)?;
     counts.truncate(lengths.counts);
     window.truncate(lengths.window);
-    form.truncate(lengths.form);
+    form.truncate(lengths.normal_form);
     Ok(Delays { counts, window, form })
 }
 
@@ -215,6 +216,33 @@ pub fn append(edition: Edition, book: &[u8], rig: Rig, word: &[u8], room: usize)
 /// A book in the other edition, in an output of so many bytes.
 pub fn convert(edition: Edition, book: &[u8], room: usize) -> Result<Vec<u8>, Refusal> {
     written(room, |out| winnathey::lent::convert(edition, book, out))
+}
+
+/// A book with one preset less.
+pub fn remove(edition: Edition, book: &[u8], number: usize) -> Result<Vec<u8>, Refusal> {
+    edited(edition, book, |book| book.remove(number))
+}
+
+/// A book with another preset in one's place.
+pub fn replace(edition: Edition, book: &[u8], number: usize, rig: Rig, word: &[u8]) -> Result<Vec<u8>, Refusal> {
+    let kind = winnathey::Kind::try_from(rig.kind.0).map_err(|_| Refusal::Kind)?;
+    let group = winnathey::Group::new(kind, rig.rank)?;
+    edited(edition, book, |book| book.replace(number, group, word))
+}
+
+/// A book with one of its presets at another number.
+pub fn move_to(edition: Edition, book: &[u8], from: usize, to: usize) -> Result<Vec<u8>, Refusal> {
+    edited(edition, book, |book| book.move_to(from, to))
+}
+
+fn edited(
+    edition: Edition,
+    book: &[u8],
+    edit: impl FnOnce(&mut winnathey::Book) -> Result<(), Refusal>,
+) -> Result<Vec<u8>, Refusal> {
+    let mut book = winnathey::Book::from_bytes(edition, book)?;
+    edit(&mut book)?;
+    Ok(book.into_bytes())
 }
 
 /// The least and the greatest rank of a kind that the library does not refuse (6); none where there is no such kind.

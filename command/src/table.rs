@@ -203,13 +203,13 @@ pub const MARKDOWN: Opt = Opt::flag("--markdown", "as Markdown");
 pub const READ: Fields = &[
     ("rig", "kind, rank and number of lanes"),
     ("word", "the letters of the word; of a window, those of its normal form"),
-    ("window", "the window, if one was given in place of the word"),
+    ("given_window", "the window, if one was given in place of the word"),
     ("book", "the file of the book, if the preset is out of one"),
     ("preset", "its number there"),
     ("name", "its name, if it has one"),
 ];
-pub const FORM: Fields = &[("form", "the letters of the normal form")];
-pub const SHOWS: Fields = &[("shows", "the window: a number for each screen, negative if mirrored")];
+pub const FORM: Fields = &[("normal_form", "the letters of the normal form")];
+pub const SHOWS: Fields = &[("window", "the window: a number for each screen, negative if mirrored")];
 pub const WRITTEN: Fields = &[
     ("file", "the file that was written"),
     ("edition", "its edition, first or second"),

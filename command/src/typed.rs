@@ -141,7 +141,7 @@ impl Asked {
         let mut fields = vec![("rig", rig(self.rig())), ("word", list(self.letters()))];
         match &self.origin {
             Origin::Typed => {}
-            Origin::Window(window) => fields.push(("window", list(window))),
+            Origin::Window(window) => fields.push(("given_window", list(window))),
             Origin::Book { file, number } => {
                 fields.push(("book", file.into()));
                 fields.push(("preset", (*number).into()));

@@ -40,14 +40,14 @@ export function verdictTexts(verdicts, edition) {
 
 /** The number of the first preset that keeps a book of the second edition from being converted for its lanes. */
 export function tooManyLanes(library, edition, bytes) {
-    const alone = preset => attempt(() => library.convert(edition, library.append(edition, [], preset.kind, preset.rank, preset.letters)));
+    const alone = preset => attempt(() => library.convert(edition, library.append(edition, [], preset.kind, preset.rank, preset.word)));
     return library.presets(edition, bytes).find(preset => preset.refusal || alone(preset).refusal?.number === 18)?.number ?? -1;
 }
 
 /** The preset of a book that a state composes, or null; a book that is refused has none. */
 export function presetIn(library, { edition, bytes }, state) {
     const listed = attempt(() => library.presets(edition, bytes)).value ?? [];
-    const found = listed.find(({ refusal, kind, rank, letters }) => !refusal && samePreset(state, { kind, rank, word: letters }));
+    const found = listed.find(preset => !preset.refusal && samePreset(state, preset));
     return found ? presetOf(state, found.number) : null;
 }
 
@@ -131,8 +131,8 @@ export class BookPanel {
         const lost = store.wordUnsaved;
         ui.selected = -1;
         // A title and remarks were written for the sheet of one preset.
-        if (!samePreset(state, { ...preset, word: preset.letters })) this.app.panels.sheet.clear();
-        store.change({ ...change, word: preset.letters });
+        if (!samePreset(state, preset)) this.app.panels.sheet.clear();
+        store.change({ ...change, word: preset.word });
         store.markWordKept(preset.number);
         if (lost) this.#say(make('p', {}, 'The word before was in no book. Undo brings it back.'));
     }
@@ -176,21 +176,21 @@ export class BookPanel {
 
     #row(preset) {
         const { app } = this;
-        const { number, kind, rank, letters } = preset;
-        const window = app.library.window(kind, rank, letters);
+        const { number, kind, rank, word } = preset;
+        const window = app.library.window(kind, rank, word);
         const field = nameField(app, 'preset', number);
         field.update();
         const about = make('span', { class: 'about' }, field,
-            make('span', {}, `${kind}${rank}, ${counted(letters.length, 'letter')}`), make('span', { class: 'quiet' }, showsText(window)));
-        const attributes = { class: number === this.culprit ? 'culprit' : '', 'data-preset': number, 'data-letters': letters.join(' ') };
+            make('span', {}, `${kind}${rank}, ${counted(word.length, 'letter')}`), make('span', { class: 'quiet' }, showsText(window)));
+        const attributes = { class: number === this.culprit ? 'culprit' : '', 'data-preset': number, 'data-letters': word.join(' ') };
         return make('li', attributes, make('span', { class: 'number' }, String(number)), this.#picture(preset, window.length), about,
             button('Load', () => this.#load(preset), { 'aria-label': `load preset ${number}` }));
     }
 
-    #picture({ number, kind, rank, letters }, lanes) {
+    #picture({ number, kind, rank, word }, lanes) {
         const holder = make('span', { class: 'small-picture' });
         const lane = Math.max(Math.min(12, 120 / lanes), 3);
-        holder.innerHTML = pictureMarkup(this.app.library, { kind, rank, word: letters },
+        holder.innerHTML = pictureMarkup(this.app.library, { kind, rank, word },
             { width: 250, lane, column: 14, letters: false, ends: lane > 9, title: `picture of preset ${number}` });
         return holder;
     }

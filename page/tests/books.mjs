@@ -36,7 +36,7 @@ function judged(bytes) {
         bytes: Array.from(bytes),
         edition,
         verdict: verdictTexts(verdicts, edition),
-        rows: presets.map(preset => (preset.refusal ? `refused ${preset.refusal.number}` : `letters ${preset.letters.join(' ')}`)),
+        rows: presets.map(preset => (preset.refusal ? `refused ${preset.refusal.number}` : `letters ${preset.word.join(' ')}`)),
     };
 }
 

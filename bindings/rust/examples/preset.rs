@@ -1,12 +1,12 @@
 //! The window and the normal form of some presets, and a refusal.
 use std::error::Error;
-use winnathey::{Refusal, Rig};
+use winnathey::{Group, Refusal};
 
 /// Prints what a preset shows and its normal form.
-fn show(rig: Rig, word: &[u8]) -> Result<(), Refusal> {
-    println!("{rig}, word {word:?}");
-    println!("  window {}", rig.window(word)?);
-    println!("  normal form {}", rig.normal_form(word)?);
+fn show(group: Group, word: &[u8]) -> Result<(), Refusal> {
+    println!("{group}, word {word:?}");
+    println!("  window {}", group.window_of_word(word)?);
+    println!("  normal form {}", group.normal_form_of_word(word)?);
     Ok(())
 }
 

@@ -3,7 +3,7 @@ use core::error::Error;
 use core::fmt;
 use core::str::FromStr;
 
-/// The kind of a rig: what its steps do.
+/// The kind of a group: what its steps do.
 ///
 /// ```
 /// use winnathey::Kind;
@@ -25,17 +25,17 @@ pub enum Kind {
     D = 3,
 }
 
-/// What was to be read as a [`Kind`] is none.
+/// What was to be a [`Kind`] is none.
 #[derive(Clone, Copy, PartialEq, Eq, Hash, Debug)]
-pub struct NoKind;
+pub struct ParseKindError;
 
-impl fmt::Display for NoKind {
+impl fmt::Display for ParseKindError {
     fn fmt(&self, f: &mut fmt::Formatter<'_>) -> fmt::Result {
         f.write_str("the kind is not A, B or D (1, 2 or 3)")
     }
 }
 
-impl Error for NoKind {}
+impl Error for ParseKindError {}
 
 impl fmt::Display for Kind {
     fn fmt(&self, f: &mut fmt::Formatter<'_>) -> fmt::Result {
@@ -48,28 +48,28 @@ impl fmt::Display for Kind {
 }
 
 impl FromStr for Kind {
-    type Err = NoKind;
+    type Err = ParseKindError;
 
     /// Reads the kind's letter, small or capital, or its number.
-    fn from_str(text: &str) -> Result<Kind, NoKind> {
+    fn from_str(text: &str) -> Result<Kind, ParseKindError> {
         match text {
             "A" | "a" | "1" => Ok(Kind::A),
             "B" | "b" | "2" => Ok(Kind::B),
             "D" | "d" | "3" => Ok(Kind::D),
-            _ => Err(NoKind),
+            _ => Err(ParseKindError),
         }
     }
 }
 
 impl TryFrom<u8> for Kind {
-    type Error = NoKind;
+    type Error = ParseKindError;
 
-    fn try_from(number: u8) -> Result<Kind, NoKind> {
+    fn try_from(number: u8) -> Result<Kind, ParseKindError> {
         match number {
             1 => Ok(Kind::A),
             2 => Ok(Kind::B),
             3 => Ok(Kind::D),
-            _ => Err(NoKind),
+            _ => Err(ParseKindError),
         }
     }
 }

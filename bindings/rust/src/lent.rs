@@ -2,7 +2,7 @@
 //! it was lent, and allocates nothing.
 //!
 //! A refused call changes no byte of an output; an accepted one leaves what lies behind its answer as it was. The types
-//! `Rig` and `Book`, which need the feature `alloc`, say the same with vectors.
+//! `Group` and `Book`, which need the feature `alloc`, say the same with vectors.
 //!
 //! ```
 //! use winnathey::lent::{Kind, normal_form_of_word, window_of_word};
@@ -57,7 +57,7 @@ impl fmt::Display for Kind {
 fn answered(answer: i64) -> Result<usize, Refusal> {
     match usize::try_from(answer) {
         Ok(answer) => Ok(answer),
-        Err(_) => Err(Refusal::new(answer.unsigned_abs() as u8)),
+        Err(_) => Err(Refusal::answered(answer)),
     }
 }
 
@@ -256,7 +256,7 @@ pub struct DelayTable {
     /// Entries of the longest window.
     pub window: usize,
     /// Letters of its normal form: the greatest length.
-    pub form: usize,
+    pub normal_form: usize,
 }
 
 /// Writes the delay table of a kind and rank: how many windows have the length 0, 1, .. up to the greatest; then the one
@@ -268,7 +268,7 @@ pub struct DelayTable {
 ///
 /// let (mut counts, mut window, mut form) = ([0; MAX_COUNTS], [0; MAX_LANES], [0; MAX_NORMAL_FORM]);
 /// let lengths = delay_table(Kind::B, 2, &mut counts, &mut window, &mut form)?;
-/// assert_eq!(lengths, DelayTable { counts: 5, window: 2, form: 4 });
+/// assert_eq!(lengths, DelayTable { counts: 5, window: 2, normal_form: 4 });
 /// assert_eq!(counts[..5], [1, 2, 2, 2, 1]);
 /// assert_eq!(window[..2], [-1, -2]);
 /// assert_eq!(form[..4], [2, 1, 2, 1]);
@@ -282,12 +282,12 @@ pub fn delay_table(
     rank: u8,
     counts: &mut [u64],
     window: &mut [i8],
-    form: &mut [u8],
+    normal_form: &mut [u8],
 ) -> Result<DelayTable, Refusal> {
     let mut lengths = [0; 3];
-    answered(raw::delay_table(kind.0.into(), rank.into(), counts, window, form, &mut lengths))?;
-    let [counts, window, form] = lengths.map(|length| length as usize);
-    Ok(DelayTable { counts, window, form })
+    answered(raw::delay_table(kind.0.into(), rank.into(), counts, window, normal_form, &mut lengths))?;
+    let [counts, window, normal_form] = lengths.map(|length| length as usize);
+    Ok(DelayTable { counts, window, normal_form })
 }
 
 /// Whether two presets look alike: as many lanes and the same window, whatever their kinds and ranks. Refusals 5 to 8,
@@ -316,20 +316,22 @@ pub fn same(first: Preset, second: Preset) -> Result<bool, Refusal> {
 }
 
 /// The better of two words with one window: the shorter of the two slices itself; at equal lengths the one earlier in
-/// the dictionary, at equal words the first. An empty part of the first word if the windows differ or a word is
-/// refused; [`same`] says which.
+/// the dictionary, at equal words the first. `None` if the windows differ. Refusals 5 to 8, the first word's before the
+/// second's.
 ///
 /// ```
-/// use winnathey::lent::{Kind, better};
+/// use winnathey::lent::{Kind, Refusal, better};
 ///
-/// assert_eq!(better(Kind::A, 2, &[1, 2, 1], &[2, 1, 2]), [2, 1, 2]);
-/// assert_eq!(better(Kind::A, 2, &[1], &[2]), []);
+/// assert_eq!(better(Kind::A, 2, &[1, 2, 1], &[2, 1, 2]), Ok(Some(&[2, 1, 2][..])));
+/// assert_eq!(better(Kind::A, 2, &[1], &[2]), Ok(None));
+/// assert_eq!(better(Kind::A, 2, &[1], &[3]), Err(Refusal::Letter));
 /// ```
-pub fn better<'a>(kind: Kind, rank: u8, first: &'a [u8], second: &'a [u8]) -> &'a [u8] {
+pub fn better<'a>(kind: Kind, rank: u8, first: &'a [u8], second: &'a [u8]) -> Result<Option<&'a [u8]>, Refusal> {
     match raw::better(kind.0.into(), rank.into(), first, second) {
-        1 => first,
-        2 => second,
-        _ => &first[..0],
+        1 => Ok(Some(first)),
+        2 => Ok(Some(second)),
+        // Neither: their windows differ, or one is refused.
+        _ => same(Preset { kind, rank, word: first }, Preset { kind, rank, word: second }).map(|_| None),
     }
 }
 
@@ -522,8 +524,8 @@ pub fn split(
 
 /// Writes the normal form of the word over allowed steps that leads from one window to another, and answers with its
 /// length: of all such words it is a shortest, and of those the first in the dictionary. Bit 0 of `allowed` stands for
-/// step 1. Where the windows agree the word is empty, whatever is allowed. Refusals 5 and 6, 16, 9 to 11 for `from`, then
-/// for `to`, 19 where no word over the allowed steps leads there, 14.
+/// step 1. If the windows agree the word is empty, whatever is allowed. Refusals 5 and 6, 16, 9 to 11 for `from`, then
+/// for `to`, 19 if no word over the allowed steps leads there, 14.
 ///
 /// ```
 /// use winnathey::lent::{Kind, MAX_NORMAL_FORM, between};
@@ -706,12 +708,17 @@ mod tests {
     #[test]
     fn the_better_word_is_one_of_the_lent_ones() {
         let (first, second) = ([1u8, 2, 1], [1u8, 2, 1]);
-        assert!(core::ptr::eq(better(Kind::A, 2, &first, &second), &first[..]));
+        let is = |answer: Result<Option<&[u8]>, Refusal>, word: &[u8]| core::ptr::eq(answer.unwrap().unwrap(), word);
+        assert!(is(better(Kind::A, 2, &first, &second), &first));
         let (long, short) = ([1u8, 1, 2], [2u8]);
-        assert!(core::ptr::eq(better(Kind::A, 2, &long, &short), &short[..]));
-        assert!(core::ptr::eq(better(Kind::A, 2, &short, &long), &short[..]));
-        assert!(core::ptr::eq(better(Kind::A, 0, &long, &short), &long[..0]));
-        assert!(core::ptr::eq(better(Kind::A, 2, &long, &[1]), &long[..0]));
+        assert!(is(better(Kind::A, 2, &long, &short), &short));
+        assert!(is(better(Kind::A, 2, &short, &long), &short));
+        assert_eq!(better(Kind::A, 2, &long, &[1]), Ok(None));
+        assert_eq!(better(Kind::A, 2, &[], &[1]), Ok(None));
+        assert_eq!(number(better(Kind(4), 2, &long, &short)), 5);
+        assert_eq!(number(better(Kind::A, 0, &long, &short)), 6);
+        assert_eq!(number(better(Kind::A, 2, &[3], &[1; 4097])), 8);
+        assert_eq!(number(better(Kind::A, 2, &[1], &[1; 4097])), 7);
     }
 
     #[test]

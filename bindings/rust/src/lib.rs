@@ -8,20 +8,20 @@
 //! input. Nothing is left to the caller to check: a call that cannot be answered gives a [`Refusal`].
 //!
 //! ```
-//! use winnathey::Rig;
+//! use winnathey::{Group, Refusal, Word};
 //!
-//! let rig: Rig = "D5".parse()?;
-//! let word = [4, 4, 2, 5, 3, 5, 1, 2];
-//! assert_eq!(rig.window(&word)?.to_string(), "3 -5 1 4 -2");
-//! assert_eq!(rig.normal_form(&word)?.to_string(), "5 2 3 5 1 2");
-//! assert_eq!(rig.window(&[6]).unwrap_err().to_string(), "refused 8: a letter is 0 or above the rank");
+//! let group: Group = "D5".parse()?;
+//! let word: Word = "4 4 2 5 3 5 1 2".parse()?;
+//! assert_eq!(group.window_of_word(&word)?.to_string(), "3 -5 1 4 -2");
+//! assert_eq!(group.normal_form_of_word(&word)?.to_string(), "5 2 3 5 1 2");
+//! assert_eq!(group.window_of_word(&[6]), Err(Refusal::Letter));
 //! # Ok::<(), Box<dyn std::error::Error>>(())
 //! ```
 //!
 //! # Features
 //!
-//! The crate needs neither the standard library nor, without its feature `alloc`, an allocator: then there are [`raw`],
-//! [`lent`] but for its `presets`, [`Kind`], [`Window`] and [`Steps`]. `alloc` is on by default.
+//! The crate needs neither the standard library nor, without its feature `alloc`, an allocator: then there are [`lent`] but
+//! for its `presets`, [`Kind`], [`Window`] and [`Steps`]. `alloc` is on by default.
 #![no_std]
 #![warn(missing_docs)]
 
@@ -32,28 +32,34 @@ extern crate std;
 
 #[cfg(feature = "alloc")]
 mod book;
+#[cfg(feature = "alloc")]
+mod group;
 mod kind;
 pub mod lent;
+mod list;
+// Not part of the interface: the comparison and the benchmark of the repository call it.
+#[doc(hidden)]
 pub mod raw;
-mod refusal;
 #[cfg(feature = "alloc")]
-mod rig;
+mod records;
+mod refusal;
 mod steps;
 mod window;
 #[cfg(feature = "alloc")]
 mod word;
 
 #[cfg(feature = "alloc")]
-pub use book::{Book, Preset, Presets};
-pub use kind::{Kind, NoKind};
-pub use lent::Crossings;
-pub use refusal::{Refusal, Sentence};
+pub use book::{Book, Preset, Presets, RefusedPreset};
 #[cfg(feature = "alloc")]
-pub use rig::{DelayTable, Line, NoRig, Rewrite, Rewriting, Rig, Split};
+pub use group::{DelayTable, Group, ParseGroupError, Rewrite, RewriteStep, Rewriting, Split};
+pub use kind::{Kind, ParseKindError};
+pub use lent::Crossings;
+pub use list::ListError;
+pub use refusal::{Refusal, Sentence};
 pub use steps::Steps;
 pub use window::Window;
 #[cfg(feature = "alloc")]
-pub use word::{NoWord, Word};
+pub use word::Word;
 
 /// The most lanes of a window: 64.
 pub const MAX_LANES: usize = 64;

@@ -91,8 +91,8 @@ mod c {
             counts_len: usize,
             window: *mut i8,
             window_len: usize,
-            form: *mut u8,
-            form_len: usize,
+            normal_form: *mut u8,
+            normal_form_len: usize,
             lengths: *mut u64,
             lengths_len: usize,
         ) -> i64;
@@ -233,31 +233,34 @@ mod c {
     }
 }
 
-/// The answer of [`rewrite`] where no rule's left side begins at the place.
+/// The answer of [`rewrite`] if no rule's left side begins at the place.
 pub const NONE_FITS: i64 = -100;
 
-/// The answer of [`fallback`] where no part-list of the present normal form has the simpler window.
+/// The answer of [`fallback`] if no part-list of the present normal form has the simpler window.
 pub const NO_FALLBACK: i64 = -101;
 
-// SAFETY, for all calls below: each pointer and length are those of one slice, which is borrowed for the call and,
-// where the call writes, borrowed alone. The library asks nothing else of its caller: it is proved to stay inside
-// what it is lent, for every input.
+// What the library asks of its caller, and each comment SAFETY below says in short: a pointer and the length behind it
+// are those of one slice, which is borrowed for the call and, if the call writes it, borrowed alone. Then it is aligned
+// and overlaps nothing. The library is proved to stay inside what it is lent, for every input.
 
 /// The window of a word.
 #[inline]
 pub fn window_of_word(kind: u32, rank: u32, word: &[u8], out: &mut [i8]) -> i64 {
+    // SAFETY: pointers and lengths are those of slices; what is written is borrowed alone.
     unsafe { c::winnathey_window_of_word(kind, rank, word.as_ptr(), word.len(), out.as_mut_ptr(), out.len()) }
 }
 
 /// The normal form of a word.
 #[inline]
 pub fn normal_form_of_word(kind: u32, rank: u32, word: &[u8], out: &mut [u8]) -> i64 {
+    // SAFETY: pointers and lengths are those of slices; what is written is borrowed alone.
     unsafe { c::winnathey_normal_form_of_word(kind, rank, word.as_ptr(), word.len(), out.as_mut_ptr(), out.len()) }
 }
 
 /// The normal form of a window.
 #[inline]
 pub fn normal_form_of_window(kind: u32, rank: u32, window: &[i8], out: &mut [u8]) -> i64 {
+    // SAFETY: pointers and lengths are those of slices; what is written is borrowed alone.
     unsafe {
         c::winnathey_normal_form_of_window(kind, rank, window.as_ptr(), window.len(), out.as_mut_ptr(), out.len())
     }
@@ -266,6 +269,7 @@ pub fn normal_form_of_window(kind: u32, rank: u32, window: &[i8], out: &mut [u8]
 /// The product of two words, as a normal form.
 #[inline]
 pub fn product_of_words(kind: u32, rank: u32, first: &[u8], second: &[u8], out: &mut [u8]) -> i64 {
+    // SAFETY: pointers and lengths are those of slices; what is written is borrowed alone.
     unsafe {
         c::winnathey_product_of_words(
             kind,
@@ -283,6 +287,7 @@ pub fn product_of_words(kind: u32, rank: u32, first: &[u8], second: &[u8], out: 
 /// The product of two windows.
 #[inline]
 pub fn product_of_windows(kind: u32, rank: u32, first: &[i8], second: &[i8], out: &mut [i8]) -> i64 {
+    // SAFETY: pointers and lengths are those of slices; what is written is borrowed alone.
     unsafe {
         c::winnathey_product_of_windows(
             kind,
@@ -300,36 +305,42 @@ pub fn product_of_windows(kind: u32, rank: u32, first: &[i8], second: &[i8], out
 /// The inverse of a word, as a normal form.
 #[inline]
 pub fn inverse_of_word(kind: u32, rank: u32, word: &[u8], out: &mut [u8]) -> i64 {
+    // SAFETY: pointers and lengths are those of slices; what is written is borrowed alone.
     unsafe { c::winnathey_inverse_of_word(kind, rank, word.as_ptr(), word.len(), out.as_mut_ptr(), out.len()) }
 }
 
 /// The inverse of a window.
 #[inline]
 pub fn inverse_of_window(kind: u32, rank: u32, window: &[i8], out: &mut [i8]) -> i64 {
+    // SAFETY: pointers and lengths are those of slices; what is written is borrowed alone.
     unsafe { c::winnathey_inverse_of_window(kind, rank, window.as_ptr(), window.len(), out.as_mut_ptr(), out.len()) }
 }
 
 /// The length of a word's normal form.
 #[inline]
 pub fn length_of_word(kind: u32, rank: u32, word: &[u8]) -> i64 {
+    // SAFETY: pointers and lengths are those of slices; what is written is borrowed alone.
     unsafe { c::winnathey_length_of_word(kind, rank, word.as_ptr(), word.len()) }
 }
 
 /// The length of a window's normal form.
 #[inline]
 pub fn length_of_window(kind: u32, rank: u32, window: &[i8]) -> i64 {
+    // SAFETY: pointers and lengths are those of slices; what is written is borrowed alone.
     unsafe { c::winnathey_length_of_window(kind, rank, window.as_ptr(), window.len()) }
 }
 
 /// The length of a word's normal form as three counts: plain pairs, pairs against a mirrored lane, mirrored lanes.
 #[inline]
 pub fn crossings_of_word(kind: u32, rank: u32, word: &[u8], counts: &mut [u64]) -> i64 {
+    // SAFETY: pointers and lengths are those of slices; what is written is borrowed alone.
     unsafe { c::winnathey_crossings_of_word(kind, rank, word.as_ptr(), word.len(), counts.as_mut_ptr(), counts.len()) }
 }
 
 /// The same of a window.
 #[inline]
 pub fn crossings_of_window(kind: u32, rank: u32, window: &[i8], counts: &mut [u64]) -> i64 {
+    // SAFETY: pointers and lengths are those of slices; what is written is borrowed alone.
     unsafe {
         c::winnathey_crossings_of_window(kind, rank, window.as_ptr(), window.len(), counts.as_mut_ptr(), counts.len())
     }
@@ -343,9 +354,10 @@ pub fn delay_table(
     rank: u32,
     counts: &mut [u64],
     window: &mut [i8],
-    form: &mut [u8],
+    normal_form: &mut [u8],
     lengths: &mut [u64],
 ) -> i64 {
+    // SAFETY: pointers and lengths are those of slices; what is written is borrowed alone.
     unsafe {
         c::winnathey_delay_table(
             kind,
@@ -354,8 +366,8 @@ pub fn delay_table(
             counts.len(),
             window.as_mut_ptr(),
             window.len(),
-            form.as_mut_ptr(),
-            form.len(),
+            normal_form.as_mut_ptr(),
+            normal_form.len(),
             lengths.as_mut_ptr(),
             lengths.len(),
         )
@@ -365,18 +377,21 @@ pub fn delay_table(
 /// 1 if two presets are equal, 0 if not.
 #[inline]
 pub fn same(kind1: u32, rank1: u32, word1: &[u8], kind2: u32, rank2: u32, word2: &[u8]) -> i64 {
+    // SAFETY: pointers and lengths are those of slices; what is written is borrowed alone.
     unsafe { c::winnathey_same(kind1, rank1, word1.as_ptr(), word1.len(), kind2, rank2, word2.as_ptr(), word2.len()) }
 }
 
 /// 1 or 2 for the better of two words, 0 for neither.
 #[inline]
 pub fn better(kind: u32, rank: u32, first: &[u8], second: &[u8]) -> i64 {
+    // SAFETY: pointers and lengths are those of slices; what is written is borrowed alone.
     unsafe { c::winnathey_better(kind, rank, first.as_ptr(), first.len(), second.as_ptr(), second.len()) }
 }
 
 /// One rewrite, with family, i and j in the three bytes of `rule`.
 #[inline]
 pub fn rewrite(kind: u32, rank: u32, word: &[u8], place: usize, out: &mut [u8], rule: &mut [u8]) -> i64 {
+    // SAFETY: pointers and lengths are those of slices; what is written is borrowed alone.
     unsafe {
         c::winnathey_rewrite(
             kind,
@@ -395,6 +410,7 @@ pub fn rewrite(kind: u32, rank: u32, word: &[u8], place: usize, out: &mut [u8], 
 /// How many steps [`rewrite_to_end`] takes.
 #[inline]
 pub fn rewrite_steps(kind: u32, rank: u32, word: &[u8]) -> i64 {
+    // SAFETY: pointers and lengths are those of slices; what is written is borrowed alone.
     unsafe { c::winnathey_rewrite_steps(kind, rank, word.as_ptr(), word.len()) }
 }
 
@@ -411,6 +427,7 @@ pub fn rewrite_to_end(
     out: &mut [u8],
     written: &mut [u64],
 ) -> i64 {
+    // SAFETY: pointers and lengths are those of slices; what is written is borrowed alone.
     unsafe {
         c::winnathey_rewrite_to_end(
             kind,
@@ -434,6 +451,7 @@ pub fn rewrite_to_end(
 /// The number of places kept, with the places in the front of `places`, or [`NO_FALLBACK`].
 #[inline]
 pub fn fallback(kind: u32, rank: u32, present: &[u8], simpler: &[u8], places: &mut [u16]) -> i64 {
+    // SAFETY: pointers and lengths are those of slices; what is written is borrowed alone.
     unsafe {
         c::winnathey_fallback(
             kind,
@@ -459,6 +477,7 @@ pub fn split(
     second: &mut [u8],
     lengths: &mut [u64],
 ) -> i64 {
+    // SAFETY: pointers and lengths are those of slices; what is written is borrowed alone.
     unsafe {
         c::winnathey_split(
             kind,
@@ -479,6 +498,7 @@ pub fn split(
 /// The word over allowed steps that leads from one window to another. Bit 0 of `allowed` stands for step 1.
 #[inline]
 pub fn between(kind: u32, rank: u32, allowed: u64, from: &[i8], to: &[i8], out: &mut [u8]) -> i64 {
+    // SAFETY: pointers and lengths are those of slices; what is written is borrowed alone.
     unsafe {
         c::winnathey_between(
             kind,
@@ -497,12 +517,14 @@ pub fn between(kind: u32, rank: u32, allowed: u64, from: &[i8], to: &[i8], out: 
 /// The number of presets in a book.
 #[inline]
 pub fn book_check(book: &[u8]) -> i64 {
+    // SAFETY: pointers and lengths are those of slices; what is written is borrowed alone.
     unsafe { c::winnathey_book_check(book.as_ptr(), book.len()) }
 }
 
 /// A preset's kind, rank, place of the letters in the book and letter count, in the four numbers of `fields`.
 #[inline]
 pub fn preset(book: &[u8], number: usize, fields: &mut [u64]) -> i64 {
+    // SAFETY: pointers and lengths are those of slices; what is written is borrowed alone.
     unsafe { c::winnathey_preset(book.as_ptr(), book.len(), number, fields.as_mut_ptr(), fields.len()) }
 }
 
@@ -510,12 +532,14 @@ pub fn preset(book: &[u8], number: usize, fields: &mut [u64]) -> i64 {
 /// [`preset`] gives or four zeros. Answers how many.
 #[inline]
 pub fn presets(book: &[u8], first: usize, fields: &mut [u64]) -> i64 {
+    // SAFETY: pointers and lengths are those of slices; what is written is borrowed alone.
     unsafe { c::winnathey_presets(book.as_ptr(), book.len(), first, fields.as_mut_ptr(), fields.len()) }
 }
 
 /// A book with one record more.
 #[inline]
 pub fn append(book: &[u8], kind: u32, rank: u32, word: &[u8], out: &mut [u8]) -> i64 {
+    // SAFETY: pointers and lengths are those of slices; what is written is borrowed alone.
     unsafe {
         c::winnathey_append(
             book.as_ptr(),
@@ -533,12 +557,14 @@ pub fn append(book: &[u8], kind: u32, rank: u32, word: &[u8], out: &mut [u8]) ->
 /// The number of presets in a book of the second edition.
 #[inline]
 pub fn second_book_check(book: &[u8]) -> i64 {
+    // SAFETY: pointers and lengths are those of slices; what is written is borrowed alone.
     unsafe { c::winnathey_second_book_check(book.as_ptr(), book.len()) }
 }
 
 /// Second edition: a preset's kind, rank, place of the letters in the book and letter count, in the four numbers of `fields`.
 #[inline]
 pub fn second_preset(book: &[u8], number: usize, fields: &mut [u64]) -> i64 {
+    // SAFETY: pointers and lengths are those of slices; what is written is borrowed alone.
     unsafe { c::winnathey_second_preset(book.as_ptr(), book.len(), number, fields.as_mut_ptr(), fields.len()) }
 }
 
@@ -546,12 +572,14 @@ pub fn second_preset(book: &[u8], number: usize, fields: &mut [u64]) -> i64 {
 /// [`second_preset`] gives or four zeros. Answers how many.
 #[inline]
 pub fn second_presets(book: &[u8], first: usize, fields: &mut [u64]) -> i64 {
+    // SAFETY: pointers and lengths are those of slices; what is written is borrowed alone.
     unsafe { c::winnathey_second_presets(book.as_ptr(), book.len(), first, fields.as_mut_ptr(), fields.len()) }
 }
 
 /// A book of the second edition with one record more.
 #[inline]
 pub fn second_append(book: &[u8], kind: u32, rank: u32, word: &[u8], out: &mut [u8]) -> i64 {
+    // SAFETY: pointers and lengths are those of slices; what is written is borrowed alone.
     unsafe {
         c::winnathey_second_append(
             book.as_ptr(),
@@ -569,23 +597,27 @@ pub fn second_append(book: &[u8], kind: u32, rank: u32, word: &[u8], out: &mut [
 /// A book of the first edition as one of the second.
 #[inline]
 pub fn to_second(book: &[u8], out: &mut [u8]) -> i64 {
+    // SAFETY: pointers and lengths are those of slices; what is written is borrowed alone.
     unsafe { c::winnathey_to_second(book.as_ptr(), book.len(), out.as_mut_ptr(), out.len()) }
 }
 
 /// A book of the second edition as one of the first.
 #[inline]
 pub fn to_first(book: &[u8], out: &mut [u8]) -> i64 {
+    // SAFETY: pointers and lengths are those of slices; what is written is borrowed alone.
     unsafe { c::winnathey_to_first(book.as_ptr(), book.len(), out.as_mut_ptr(), out.len()) }
 }
 
 /// The sentence of a refusal, in ASCII: nothing for a number that is none.
 #[inline]
 pub fn refusal_sentence(refusal: u32, out: &mut [u8]) -> i64 {
+    // SAFETY: pointers and lengths are those of slices; what is written is borrowed alone.
     unsafe { c::winnathey_refusal_sentence(refusal, out.as_mut_ptr(), out.len()) }
 }
 
 /// The library's version: 1,000,000 times the major number, 1,000 times the minor one, and the patch.
 #[inline]
 pub fn version() -> i64 {
+    // SAFETY: it takes nothing.
     unsafe { c::winnathey_version() }
 }

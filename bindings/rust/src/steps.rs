@@ -1,15 +1,20 @@
 //! Sets of steps.
+use crate::list::{ListError, numbers, spaced};
 use core::fmt;
+use core::str::FromStr;
 
 /// A set of steps, such as those that a split may use.
 ///
 /// ```
 /// use winnathey::Steps;
 ///
-/// let steps: Steps = [1, 2, 5].into_iter().collect();
+/// let steps = Steps::try_from([1, 2, 5])?;
+/// assert_eq!(steps, "1,2,5".parse()?);
 /// assert_eq!(steps, Steps::from(0b10011));
 /// assert_eq!(steps.to_string(), "1 2 5");
 /// assert!(steps.contains(5) && !steps.contains(3));
+/// assert!(Steps::try_from([0]).is_err());
+/// # Ok::<(), winnathey::ListError>(())
 /// ```
 #[derive(Clone, Copy, PartialEq, Eq, Hash, Default, Debug)]
 pub struct Steps(u64);
@@ -17,6 +22,21 @@ pub struct Steps(u64);
 impl Steps {
     /// No step.
     pub const NONE: Steps = Steps(0);
+
+    /// The steps of a list, in any order. Each is 1 to 64.
+    pub fn new(steps: impl IntoIterator<Item = u8>) -> Result<Steps, ListError> {
+        let wrong = |place| ListError::Element { element: "step", place, least: 1, most: 64 };
+        steps.into_iter().enumerate().try_fold(Steps::NONE, |Steps(bits), (place, step)| match step {
+            1..=64 => Ok(Steps(bits | 1 << (step - 1))),
+            _ => Err(wrong(place)),
+        })
+    }
+
+    /// The steps from 1 to this one, which is 64 at most.
+    #[cfg(feature = "alloc")]
+    pub(crate) fn up_to(step: u8) -> Steps {
+        Steps(u64::MAX.checked_shr(64 - u32::from(step.min(64))).unwrap_or(0))
+    }
 
     /// The set as a number: bit 0 stands for step 1.
     pub fn bits(self) -> u64 {
@@ -41,26 +61,33 @@ impl From<u64> for Steps {
     }
 }
 
-impl FromIterator<u8> for Steps {
-    /// # Panics
-    ///
-    /// If a step is 0 or above 64, which no rig has.
-    fn from_iter<I: IntoIterator<Item = u8>>(steps: I) -> Steps {
-        Steps(steps.into_iter().fold(0, |bits, step| {
-            assert!((1..=64).contains(&step), "step {step} is not 1 to 64");
-            bits | 1 << (step - 1)
-        }))
+impl TryFrom<&[u8]> for Steps {
+    type Error = ListError;
+
+    fn try_from(steps: &[u8]) -> Result<Steps, ListError> {
+        Steps::new(steps.iter().copied())
+    }
+}
+
+impl<const N: usize> TryFrom<[u8; N]> for Steps {
+    type Error = ListError;
+
+    fn try_from(steps: [u8; N]) -> Result<Steps, ListError> {
+        Steps::new(steps)
+    }
+}
+
+impl FromStr for Steps {
+    type Err = ListError;
+
+    /// Reads steps with blanks or commas between them: `1 2 5`, `1,2,5`.
+    fn from_str(text: &str) -> Result<Steps, ListError> {
+        numbers(text, "step", 1, 64).try_fold(Steps::NONE, |Steps(bits), step| Ok(Steps(bits | 1 << (step? - 1))))
     }
 }
 
 impl fmt::Display for Steps {
     fn fmt(&self, f: &mut fmt::Formatter<'_>) -> fmt::Result {
-        for (at, step) in self.iter().enumerate() {
-            if at > 0 {
-                f.write_str(" ")?;
-            }
-            write!(f, "{step}")?;
-        }
-        Ok(())
+        spaced(f, self.iter())
     }
 }

@@ -1,16 +1,20 @@
 //! Windows as values.
 use crate::MAX_LANES;
+use crate::list::{ListError, numbers, spaced};
 use core::fmt;
 use core::ops::Deref;
+use core::str::FromStr;
 
-/// A window that the library wrote: the entries of its lanes, a mirrored one with a minus sign. It is a slice of `i8` in
-/// all but its `Display`, which prints the entries with spaces between them.
+/// A window: the entries of its lanes, a mirrored one with a minus sign. It is a slice of `i8` in all but its `Display`,
+/// which prints the entries with spaces between them, and which [`from_str`](Window::from_str) reads. Whether the entries
+/// are those of a group its calls check.
 ///
 /// ```
-/// # use winnathey::Rig;
-/// let window = "B2".parse::<Rig>()?.window(&[1, 2, 1, 2])?;
+/// # use winnathey::{Group, Window};
+/// let window = "B2".parse::<Group>()?.window_of_word(&[1, 2, 1, 2])?;
 /// assert_eq!(*window, [-1, -2]);
 /// assert_eq!(window.to_string(), "-1 -2");
+/// assert_eq!(window, "-1,-2".parse::<Window>()?);
 /// # Ok::<(), Box<dyn std::error::Error>>(())
 /// ```
 #[derive(Clone, Copy)]
@@ -26,6 +30,31 @@ impl Window {
         let mut entries = [0; MAX_LANES];
         let lanes = write(&mut entries)?;
         Ok(Window { entries, lanes })
+    }
+}
+
+impl TryFrom<&[i8]> for Window {
+    type Error = ListError;
+
+    /// The window with these entries, of which there are 64 at most.
+    fn try_from(entries: &[i8]) -> Result<Window, ListError> {
+        let mut window = Window { entries: [0; MAX_LANES], lanes: entries.len() };
+        window.entries.get_mut(..entries.len()).ok_or(ListError::TooLong)?.copy_from_slice(entries);
+        Ok(window)
+    }
+}
+
+impl FromStr for Window {
+    type Err = ListError;
+
+    /// Reads entries with blanks or commas between them: `3 -5 1 4 -2`, `3,-5,1,4,-2`.
+    fn from_str(text: &str) -> Result<Window, ListError> {
+        let mut window = Window { entries: [0; MAX_LANES], lanes: 0 };
+        for entry in numbers(text, "entry", -128, 127) {
+            *window.entries.get_mut(window.lanes).ok_or(ListError::TooLong)? = entry? as i8;
+            window.lanes += 1;
+        }
+        Ok(window)
     }
 }
 
@@ -65,17 +94,6 @@ impl fmt::Debug for Window {
 
 impl fmt::Display for Window {
     fn fmt(&self, f: &mut fmt::Formatter<'_>) -> fmt::Result {
-        spaced(f, self)
+        spaced(f, self.iter())
     }
-}
-
-/// The numbers with a space between each two.
-pub(crate) fn spaced<T: fmt::Display>(f: &mut fmt::Formatter<'_>, numbers: &[T]) -> fmt::Result {
-    for (at, number) in numbers.iter().enumerate() {
-        if at > 0 {
-            f.write_str(" ")?;
-        }
-        write!(f, "{number}")?;
-    }
-    Ok(())
 }

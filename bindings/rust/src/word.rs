@@ -1,13 +1,12 @@
 //! Words as values.
-use crate::window::spaced;
+use crate::list::{ListError, numbers, spaced};
 use alloc::vec::Vec;
-use core::error::Error;
 use core::fmt;
 use core::ops::Deref;
 use core::str::FromStr;
 
 /// A word: its steps, from the left. It is a slice of `u8` in all but its `Display`, which prints the steps with spaces
-/// between them, and which [`from_str`](Word::from_str) reads. Whether the steps are those of a rig its calls check.
+/// between them, and which [`from_str`](Word::from_str) reads. Whether the steps are those of a group its calls check.
 ///
 /// ```
 /// use winnathey::Word;
@@ -15,7 +14,8 @@ use core::str::FromStr;
 /// let word: Word = "4 4 2".parse()?;
 /// assert_eq!(*word, [4, 4, 2]);
 /// assert_eq!(word.to_string(), "4 4 2");
-/// # Ok::<(), winnathey::NoWord>(())
+/// assert_eq!(word, "4,4,2".parse()?);
+/// # Ok::<(), winnathey::ListError>(())
 /// ```
 #[derive(Clone, PartialEq, Eq, Hash, Default, Debug)]
 pub struct Word(Vec<u8>);
@@ -69,34 +69,15 @@ impl FromIterator<u8> for Word {
 
 impl fmt::Display for Word {
     fn fmt(&self, f: &mut fmt::Formatter<'_>) -> fmt::Result {
-        spaced(f, self)
+        spaced(f, self.iter())
     }
 }
-
-/// What was to be read as a [`Word`] has a part that is no number from 0 to 255: which, counted from 0.
-#[derive(Clone, Copy, PartialEq, Eq, Hash, Debug)]
-pub struct NoWord {
-    /// The place of that part.
-    pub place: usize,
-}
-
-impl fmt::Display for NoWord {
-    fn fmt(&self, f: &mut fmt::Formatter<'_>) -> fmt::Result {
-        write!(f, "the letter at place {} is no number from 0 to 255", self.place)
-    }
-}
-
-impl Error for NoWord {}
 
 impl FromStr for Word {
-    type Err = NoWord;
+    type Err = ListError;
 
-    /// Reads numbers with blanks between them. A number has digits alone, and no sign.
-    fn from_str(text: &str) -> Result<Word, NoWord> {
-        let letter = |(place, part): (usize, &str)| {
-            let unsigned = part.parse().ok().filter(|_| !part.starts_with('+'));
-            unsigned.ok_or(NoWord { place })
-        };
-        text.split_whitespace().enumerate().map(letter).collect()
+    /// Reads numbers with blanks or commas between them: `4 4 2`, `4,4,2`. A number has digits alone, and no sign.
+    fn from_str(text: &str) -> Result<Word, ListError> {
+        numbers(text, "letter", 0, 255).map(|letter| letter.map(|letter| letter as u8)).collect()
     }
 }

@@ -26,8 +26,8 @@ pub const SUBCOMMAND: Subcommand = Subcommand {
             ("rig", "kind, rank and number of lanes"),
             ("windows", "how many windows there are"),
             ("counts", "how many have each length, from 0; they may exceed what fits 53 bits"),
-            ("longest", "the longest window"),
-            ("longest_form", "the letters of its normal form"),
+            ("window", "the longest window"),
+            ("normal_form", "the letters of its normal form"),
         ],
         table::PICTURE,
     ],
@@ -50,8 +50,8 @@ fn run(mut args: Args, out: &mut Out) -> Result<Verdict, Failure> {
     }
     if out.json {
         fields.push(("counts", list(&delays.counts)));
-        fields.push(("longest", list(&delays.window)));
-        fields.push(("longest_form", list(&delays.form)));
+        fields.push(("window", list(&delays.window)));
+        fields.push(("normal_form", list(&delays.form)));
         out.answer("delays", fields)?;
         return Ok(Verdict::Answer);
     }

@@ -52,7 +52,7 @@ fn run(mut args: Args, out: &mut Out) -> Result<Verdict, Failure> {
     if let Some(target) = Target::named(&args, "-o")? {
         let picture = picture(&asked, form.as_deref())?;
         let mut fields = asked.fields();
-        fields.push(("shows", list(&shown)));
+        fields.push(("window", list(&shown)));
         return target.write(&picture, Sort::Svg, "draw", (asked.heading(), fields), out);
     }
     let lanes = shown.len();
@@ -85,7 +85,7 @@ fn drawings(asked: &Asked, form: Option<&[u8]>, layout: &Layout) -> Result<Vec<D
 fn in_json(asked: &Asked, shown: &[i8], drawings: &[Drawing], out: &mut Out) -> Result<Verdict, Failure> {
     let columns = drawings[0].rows.iter().flat_map(|row| &row.columns);
     let mut fields = asked.fields();
-    fields.push(("shows", list(shown)));
+    fields.push(("window", list(shown)));
     fields.push(("after_each_step", Value::List(columns.map(|column| list(&column.after)).collect())));
     out.answer("draw", fields)?;
     Ok(Verdict::Answer)

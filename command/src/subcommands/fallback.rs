@@ -30,7 +30,7 @@ pub const SUBCOMMAND: Subcommand = Subcommand {
     json: &[
         &[("present", "the present preset: rig, word"), ("simpler", "the simpler preset, likewise")],
         table::FORM,
-        &[("fallback", "true or false"), ("places_kept", "the places of the normal form to keep, from 0, or null")],
+        &[("fallback", "true or false"), ("places", "the places of the normal form to keep, from 0, or null")],
     ],
     paged: false,
     run,
@@ -48,9 +48,9 @@ fn run(mut args: Args, out: &mut Out) -> Result<Verdict, Failure> {
         let fields = vec![
             ("present", Value::Object(present.fields())),
             ("simpler", Value::Object(simpler.fields())),
-            ("form", list(&form)),
+            ("normal_form", list(&form)),
             ("fallback", kept.is_some().into()),
-            ("places_kept", kept.as_ref().map_or(Value::Null, list)),
+            ("places", kept.as_ref().map_or(Value::Null, list)),
         ];
         out.answer("fallback", fields)?;
         return Ok(verdict);

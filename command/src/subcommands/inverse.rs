@@ -29,7 +29,7 @@ fn run(mut args: Args, out: &mut Out) -> Result<Verdict, Failure> {
     let window = library::inverse_of_window(asked.rig(), &asked.window()?)?;
     if out.json {
         let mut fields = asked.fields();
-        fields.extend([("form", list(&form)), ("shows", list(&window))]);
+        fields.extend([("normal_form", list(&form)), ("window", list(&window))]);
         out.answer("inverse", fields)?;
         return Ok(Verdict::Answer);
     }

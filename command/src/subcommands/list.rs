@@ -27,7 +27,7 @@ pub const SUBCOMMAND: Subcommand = Subcommand {
         ("book", "the file of the book"),
         ("edition", "first or second"),
         ("count", "how many presets it has"),
-        ("presets", "of each: number, name if it has one, rig, word, form, shows, or refused"),
+        ("presets", "of each: number, name if it has one, rig, word, normal_form, window, or refused"),
     ]],
     paged: true,
     run,
@@ -125,8 +125,8 @@ fn in_json(book: &Book, presets: &[Read], names: &Names, out: &mut Out) -> Resul
                 let Preset { rig, word } = *preset;
                 fields.push(("rig", typed::rig(rig)));
                 fields.push(("word", list(word)));
-                fields.push(("form", list(&library::normal_form(rig, word)?)));
-                fields.push(("shows", list(&library::window(rig, word)?)));
+                fields.push(("normal_form", list(&library::normal_form(rig, word)?)));
+                fields.push(("window", list(&library::window(rig, word)?)));
             }
         }
         values.push(Value::Object(fields));

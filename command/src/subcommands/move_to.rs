@@ -2,10 +2,9 @@
 use super::remove;
 use crate::args::Args;
 use crate::books::Book;
-use crate::culprit;
-use crate::edit::{self, Change, Edit};
+use crate::edit::{Change, Edit};
 use crate::failure::Failure;
-use crate::library::{self, Preset};
+use crate::library;
 use crate::out::Out;
 use crate::table::{self, Completes, Operand, Subcommand, Verdict};
 
@@ -18,9 +17,7 @@ pub const SUBCOMMAND: Subcommand = Subcommand {
     about: "a book with one of its presets at another number",
     usages: &["BOOK N TO --edition EDITION (--in-place | -o FILE)"],
     text: "Moves preset N to the number TO; those between move up or down by one, also in the names beside the book \
-           with --in-place.\n\nThe new book is written whole, by appending its presets in order, so that every record \
-           is the library's. A book with a record that is not appended, such as one of kind A and rank 1 (21), is \
-           refused.",
+           with --in-place.\n\nAll presets stay as they are, also those that are refused or of kind A and rank 1.",
     operands: &[table::BOOK, table::NUMBER, TO],
     options: &[table::EDITION, table::IN_PLACE, table::OUTPUT_BOOK, table::FORCE],
     examples: &["winnathey move presets.book 3 0 --edition first --in-place"],
@@ -34,14 +31,10 @@ fn run(mut args: Args, out: &mut Out) -> Result<Verdict, Failure> {
     let (from, to) = (args.next_number("N")?, args.next_number("TO")?);
     args.done()?;
     let change = |book: &Book| {
-        let mut presets = remove::all(book)?;
-        let Preset { rig, word } = book.preset(from)?;
-        library::preset(book.edition, &book.bytes, to)
-            .map_err(|refusal| Failure::refused(refusal, culprit::number(presets.len())))?;
-        let told = format!("moved preset {from} to {to}: {rig}, {}", remove::lettered(word));
-        let moved = presets.remove(from);
-        presets.insert(to, moved);
-        let bytes = edit::built(book.edition, &presets, edit.room)?;
+        let told = format!("moved preset {from} to {to}: {}", remove::described(book, from)?);
+        // Only that there is such a number counts.
+        remove::described(book, to)?;
+        let bytes = library::move_to(book.edition, &book.bytes, from, to)?;
         let fields = vec![("from", from.into()), ("to", to.into())];
         let numbers = Box::new(move |old| Some(renumbered(old, from, to)));
         Ok(Change { bytes, edition: book.edition, numbers: Some(numbers), told, fields })

@@ -27,7 +27,7 @@ fn run(mut args: Args, out: &mut Out) -> Result<Verdict, Failure> {
     let (form, window) = (asked.form()?, asked.window()?);
     if out.json {
         let mut fields = asked.fields();
-        fields.extend([("form", list(&form)), ("shows", list(&window))]);
+        fields.extend([("normal_form", list(&form)), ("window", list(&window))]);
         out.answer("normal", fields)?;
         return Ok(Verdict::Answer);
     }

@@ -48,8 +48,8 @@ fn run(mut args: Args, out: &mut Out) -> Result<Verdict, Failure> {
         let fields = vec![
             ("first", Value::Object(first.fields())),
             ("second", Value::Object(second.fields())),
-            ("form", list(&form)),
-            ("shows", list(&window)),
+            ("normal_form", list(&form)),
+            ("window", list(&window)),
         ];
         out.answer("product", fields)?;
         return Ok(Verdict::Answer);

@@ -1,9 +1,9 @@
 //! `remove`: a book without one of its presets.
 use crate::args::Args;
 use crate::books::Book;
-use crate::edit::{self, Change, Edit};
+use crate::edit::{Change, Edit};
 use crate::failure::Failure;
-use crate::library::{Preset, Rig};
+use crate::library::{self, Preset};
 use crate::out::Out;
 use crate::table::{self, Subcommand, Verdict};
 use crate::text;
@@ -14,9 +14,8 @@ pub const SUBCOMMAND: Subcommand = Subcommand {
     about: "a book without one of its presets",
     usages: &["BOOK N --edition EDITION (--in-place | -o FILE)"],
     text: "Takes preset N out; the presets behind it get numbers lower by one, also in the names beside the book with \
-           --in-place.\n\nThe new book is written whole, by appending its presets in order, so that every record is \
-           the library's. A book with a record that is not appended, such as one of kind A and rank 1 (21), is \
-           refused.",
+           --in-place.\n\nAll other presets stay as they are, also those that are refused or of kind A and rank 1. A \
+           refused preset can be taken out too.",
     operands: &[table::BOOK, table::NUMBER],
     options: &[table::EDITION, table::IN_PLACE, table::OUTPUT_BOOK, table::FORCE],
     examples: &["winnathey remove presets.book 2 --edition first --in-place"],
@@ -30,11 +29,8 @@ fn run(mut args: Args, out: &mut Out) -> Result<Verdict, Failure> {
     let number = args.next_number("N")?;
     args.done()?;
     let change = |book: &Book| {
-        let mut presets = all(book)?;
-        let Preset { rig, word } = book.preset(number)?;
-        presets.remove(number);
-        let bytes = edit::built(book.edition, &presets, edit.room)?;
-        let told = format!("took out preset {number}: {rig}, {}", lettered(word));
+        let told = format!("took out preset {number}: {}", described(book, number)?);
+        let bytes = library::remove(book.edition, &book.bytes, number)?;
         let numbers = Box::new(move |old: usize| match old {
             old if old == number => None,
             old if old > number => Some(old - 1),
@@ -51,14 +47,11 @@ fn run(mut args: Args, out: &mut Out) -> Result<Verdict, Failure> {
     edit.run("remove", change, out)
 }
 
-/// A word with its number of letters.
-pub fn lettered(word: &[u8]) -> String {
-    format!("{}: {}", text::counted(word.len(), "letter"), text::word(word))
-}
-
-/// All presets of a book, each with its number; one that is refused refuses the book.
-pub fn all(book: &Book) -> Result<Vec<(usize, Rig, Vec<u8>)>, Failure> {
-    (0..book.count()?)
-        .map(|number| book.preset(number).map(|preset| (number, preset.rig, preset.word.to_vec())))
-        .collect()
+/// What a preset of a book is, or why it is refused; that there is one is checked.
+pub fn described(book: &Book, number: usize) -> Result<String, Failure> {
+    match library::preset(book.edition, &book.bytes, number) {
+        Ok(Preset { rig, word }) => Ok(format!("{rig}, {}: {}", text::counted(word.len(), "letter"), text::word(word))),
+        Err(refusal) if refusal.number() > 4 => Ok(refusal.to_string()),
+        Err(refusal) => Err(book.refused_preset(number, refusal)),
+    }
 }

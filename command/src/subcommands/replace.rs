@@ -3,9 +3,9 @@ use super::remove;
 use crate::args::Args;
 use crate::asked;
 use crate::books::Book;
-use crate::edit::{self, Change, Edit};
+use crate::edit::{Change, Edit};
 use crate::failure::Failure;
-use crate::library::{self, Preset};
+use crate::library;
 use crate::out::Out;
 use crate::table::{self, Subcommand, Verdict};
 
@@ -17,9 +17,9 @@ pub const SUBCOMMAND: Subcommand = Subcommand {
         "BOOK N RIG WORD --edition EDITION (--in-place | -o FILE)",
         "BOOK N --book FILE --preset N --edition EDITION (--in-place | -o FILE)",
     ],
-    text: "Puts a preset in the place of preset N; all others keep their numbers, and N keeps its name.\n\nThe new \
-           book is written whole, by appending its presets in order, so that every record is the library's. A book \
-           with a record that is not appended, such as one of kind A and rank 1 (21), is refused.",
+    text: "Puts a preset in the place of preset N; all others keep their numbers, and N keeps its name.\n\nAll \
+           other presets stay as they are, also those that are refused or of kind A and rank 1. A refused preset can \
+           be replaced too.",
     operands: &[table::BOOK, table::NUMBER, table::RIG, table::WORD],
     options: &[
         table::EDITION,
@@ -41,14 +41,12 @@ fn run(mut args: Args, out: &mut Out) -> Result<Verdict, Failure> {
     let mut asked = asked::preset(&mut args, out)?;
     asked.rig.edition = Some(edit.edition());
     let change = |book: &Book| {
-        let mut presets = remove::all(book)?;
-        let Preset { rig, word } = book.preset(number)?;
-        let told = format!("preset {number} was {rig}, {}\n           is {}", remove::lettered(word), asked.heading());
+        let before = remove::described(book, number)?;
+        let told = format!("preset {number} was {before}\n           is {}", asked.heading());
         // Alone first, so that what is wrong with it is told in its own words.
         library::append(book.edition, &[], asked.rig(), asked.letters(), edit.room)
             .map_err(|refusal| asked.refused(refusal))?;
-        presets[number] = (number, asked.rig(), asked.letters().to_vec());
-        let bytes = edit::built(book.edition, &presets, edit.room)?;
+        let bytes = library::replace(book.edition, &book.bytes, number, asked.rig(), asked.letters())?;
         let mut fields = asked.fields();
         fields.push(("number", number.into()));
         Ok(Change { bytes, edition: book.edition, numbers: None, told, fields })

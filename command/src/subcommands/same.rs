@@ -27,7 +27,7 @@ pub const SUBCOMMAND: Subcommand = Subcommand {
         "winnathey same --book presets.book --edition first --preset 0 --preset 1",
     ],
     json: &[&[
-        ("first", "the first preset: rig, word, shows, and where it comes from"),
+        ("first", "the first preset: rig, word, window, and where it comes from"),
         ("second", "the second preset, likewise"),
         ("same", "true or false"),
         ("better", "first or second, if the words differ and show the same on one rig, or null"),
@@ -40,8 +40,10 @@ fn run(mut args: Args, out: &mut Out) -> Result<Verdict, Failure> {
     let (first, second) = asked::pair(&mut args, ["WORD", "the second WORD"], SecondRig::Own, out)?;
     let (one, other) = (first.preset(), second.preset());
     let same = library::same(one, other).map_err(|refusal| culprit(&first, &second, refusal))?;
-    let better = (same && one.rig == other.rig && one.word != other.word)
-        .then(|| library::better(one.rig, one.word, other.word));
+    let better = match same && one.rig == other.rig && one.word != other.word {
+        true => library::better(one.rig, one.word, other.word)?,
+        false => None,
+    };
     if out.json {
         let fields = vec![
             ("first", preset(&first)?),
@@ -65,7 +67,7 @@ fn culprit(first: &Asked, second: &Asked, refusal: library::Refusal) -> Failure 
 
 fn preset(asked: &Asked) -> Result<Value, Failure> {
     let mut fields = asked.fields();
-    fields.push(("shows", list(&asked.window()?)));
+    fields.push(("window", list(&asked.window()?)));
     Ok(Value::Object(fields))
 }
 

@@ -29,7 +29,10 @@ pub const SUBCOMMAND: Subcommand = Subcommand {
         table::FORM,
         table::SHOWS,
         &[
-            ("length", "total, plain_pairs, pairs_against_a_mirrored_lane, mirrored_lanes"),
+            (
+                "crossings",
+                "the length as inversions (plain pairs), negative_sum_pairs (pairs against a mirrored lane), negatives (mirrored lanes) and their total",
+            ),
             ("screens", "of each screen: screen, source, mirrored, and screen_name and source_name if they have names"),
         ],
     ],
@@ -43,9 +46,9 @@ fn run(mut args: Args, out: &mut Out) -> Result<Verdict, Failure> {
     let crossings = library::crossings(rig, asked.letters())?;
     if out.json {
         let mut fields = asked.fields();
-        fields.push(("form", list(&form)));
-        fields.push(("shows", list(&window)));
-        fields.push(("length", counts(crossings)));
+        fields.push(("normal_form", list(&form)));
+        fields.push(("window", list(&window)));
+        fields.push(("crossings", counts(crossings)));
         fields.push(("screens", screens(&window, &asked.names)));
         out.answer("show", fields)?;
         return Ok(Verdict::Answer);
@@ -70,10 +73,10 @@ fn run(mut args: Args, out: &mut Out) -> Result<Verdict, Failure> {
 /// The three counts for JSON.
 pub fn counts(crossings: Crossings) -> Value {
     object([
+        ("inversions", crossings.plain_pairs.into()),
+        ("negative_sum_pairs", crossings.pairs_against_a_mirrored_lane.into()),
+        ("negatives", crossings.mirrored_lanes.into()),
         ("total", crossings.total.into()),
-        ("plain_pairs", crossings.plain_pairs.into()),
-        ("pairs_against_a_mirrored_lane", crossings.pairs_against_a_mirrored_lane.into()),
-        ("mirrored_lanes", crossings.mirrored_lanes.into()),
     ])
 }
 

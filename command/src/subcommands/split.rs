@@ -39,7 +39,7 @@ fn run(mut args: Args, out: &mut Out) -> Result<Verdict, Failure> {
     if out.json {
         let mut fields = asked.fields();
         fields.push(("allowed", list(text::steps(set.allowed))));
-        fields.extend([("first", list(&first)), ("second", list(&second)), ("form", list(&form))]);
+        fields.extend([("first", list(&first)), ("second", list(&second)), ("normal_form", list(&form))]);
         out.answer("split", fields)?;
         return Ok(Verdict::Answer);
     }

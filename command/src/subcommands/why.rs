@@ -1,7 +1,7 @@
 //! `why`: the rewriting of a word to its normal form, line by line.
 use crate::args::Args;
 use crate::failure::Failure;
-use crate::json::{Value, list, object};
+use crate::json::{Value, list};
 use crate::library::{self, Refusal, Rewriting, Rig, Rule};
 use crate::out::Out;
 use crate::progress::Progress;
@@ -34,13 +34,12 @@ pub const SUBCOMMAND: Subcommand = Subcommand {
         table::READ,
         &[
             ("skipped", "how many steps --last left out"),
-            ("steps", "of each step: place, rule (family, i, j) and letters left"),
+            ("steps", "of each step: family, i and j of the rule, place, and length, the letters left"),
         ],
         table::FORM,
         &[
             ("place", "with --at, the place"),
-            ("rule", "with --at, the rule used (family, i, j), or null if none fits"),
-            ("new", "with --at, the new word, or null"),
+            ("rewrite", "with --at, family, i and j of the rule and the new word, or null if none fits"),
         ],
     ],
     paged: true,
@@ -93,8 +92,7 @@ fn once(asked: &Asked, place: usize, whole: bool, out: &mut Out) -> Result<Verdi
     if out.json {
         let mut fields = asked.fields();
         fields.push(("place", place.into()));
-        fields.push(("rule", used.map_or(Value::Null, |used| used.json())));
-        fields.push(("new", used.map_or(Value::Null, |_| list(&replay.word))));
+        fields.push(("rewrite", used.map_or(Value::Null, |used| used.json([("word", list(&replay.word))]))));
         out.answer("why", fields)?;
         return Ok(Verdict::Answer);
     }
@@ -168,12 +166,11 @@ fn in_json(
         let (place, used) = replayed(rewriting, replay, step)?;
         progress.done(step + 1);
         if step >= skipped {
-            let rule = used.json();
-            let step_told = object([("place", place.into()), ("rule", rule), ("letters", replay.word.len().into())]);
+            let step_told = used.json([("place", place.into()), ("length", replay.word.len().into())]);
             write!(out, "{}{step_told}", if step > skipped { "," } else { "" })?;
         }
     }
-    Ok(writeln!(out, "],\"form\":{}}}", list(&rewriting.form))?)
+    Ok(writeln!(out, "],\"normal_form\":{}}}", list(&rewriting.form))?)
 }
 
 /// Makes a step by the single rewrite, and holds it to the lists.
@@ -199,8 +196,10 @@ struct Used {
 }
 
 impl Used {
-    fn json(self) -> Value {
-        object([("family", self.family.into()), ("i", self.i.into()), ("j", self.j.into())])
+    /// Family, i and j, and what is said besides.
+    fn json<const N: usize>(self, more: [(&'static str, Value); N]) -> Value {
+        let rule = [("family", self.family.into()), ("i", self.i.into()), ("j", self.j.into())];
+        Value::Object(rule.into_iter().chain(more).collect())
     }
 }
 

@@ -95,8 +95,8 @@ pub fn delay_table(
     let (kind, rank) = rig(kind, rank)?;
     let lengths = lengths.get_mut(..3)?;
     let answer = winnathey::lent::delay_table(kind, rank, counts, window, form);
-    listed(lengths, answer.ok().map(|DelayTable { counts, window, form }| [counts, window, form]));
-    Some(coded(answer.map(|table| table.form)))
+    listed(lengths, answer.ok().map(|DelayTable { counts, window, normal_form }| [counts, window, normal_form]));
+    Some(coded(answer.map(|table| table.normal_form)))
 }
 
 pub fn same(kind1: u32, rank1: u32, word1: &[u8], kind2: u32, rank2: u32, word2: &[u8]) -> Option<i64> {
@@ -104,14 +104,22 @@ pub fn same(kind1: u32, rank1: u32, word1: &[u8], kind2: u32, rank2: u32, word2:
     Some(coded(winnathey::lent::same(first, second).map(usize::from)))
 }
 
-/// The number for a slice is the library's own where that stands for this very slice: an empty first word is its own
-/// empty part, so that the slice alone cannot tell 1 from 0.
+/// The number for a slice is the library's own if that stands for this very slice: two empty words may lie at one
+/// address, so that the slice alone cannot tell 1 from 2. A refusal is that of `same`.
 pub fn better(kind: u32, rank: u32, first: &[u8], second: &[u8]) -> Option<i64> {
     let (safe_kind, safe_rank) = rig(kind, rank)?;
     let word = winnathey::lent::better(safe_kind, safe_rank, first, second);
     let number = raw::better(kind, rank, first, second);
-    let due = [&first[..0], first, second];
-    Some(if due.get(number as usize).is_some_and(|&due| std::ptr::eq(word, due)) { number } else { i64::MIN })
+    let right = match number {
+        1 | 2 => {
+            word.is_ok_and(|word| word.is_some_and(|word| std::ptr::eq(word, [first, second][number as usize - 1])))
+        }
+        _ => {
+            let same = raw::same(kind, rank, first, kind, rank, second);
+            word.map_or_else(|refusal| -i64::from(refusal.number()), |word| word.map_or(0, |_| i64::MIN)) == same
+        }
+    };
+    Some(if right { number } else { i64::MIN })
 }
 
 /// The safe function always has room for the rule.

@@ -57,7 +57,7 @@ impl<'a> Iterator for Presets<'a> {
         let [refused, kind, rank, start, letters] = self.rows.nth(n)?;
         Some(match refused {
             0 => Ok(lent(self.book, [kind, rank, start, letters])),
-            number => Err(Refusal::new(number as u8)),
+            number => Err(Refusal::answered(-(number as i64))),
         })
     }
 

@@ -1,0 +1,158 @@
+//! What only the repository has: the numbers and sentences of the library, its definition, the header, CALLS.md and
+//! SPECIFICATION.md are held to each other, and edits of books to the stored ones.
+use std::fs;
+use std::path::Path;
+use winnathey::{Book, Edition, Group, Kind, Preset, Refusal, RefusedPreset, raw};
+
+/// Numbers with sentences, in the order of the numbers.
+type List = Vec<(usize, String)>;
+
+fn text(path: &str) -> String {
+    let path = Path::new(env!("CARGO_MANIFEST_DIR")).join("../..").join(path);
+    fs::read_to_string(&path).unwrap_or_else(|error| panic!("{}: {error}", path.display()))
+}
+
+/// The library: what it writes for each number that is a refusal.
+fn library() -> List {
+    let sentence = |number: u32| {
+        let mut out = [0; 256];
+        let length = raw::refusal_sentence(number, &mut out);
+        String::from_utf8(out[..usize::try_from(length).expect("room for every sentence")].to_vec()).expect("ASCII")
+    };
+    let list = (0..1000).map(|number| (number as usize, sentence(number)));
+    list.filter(|(_, words)| !words.is_empty()).collect()
+}
+
+/// The definition that the library is proved against: a text on each line of its list.
+fn definition() -> List {
+    let specs = text("crates/sentences/specs/Sentences.antt");
+    let (_, list) = specs.split_once("\nsentences =\n").expect("a list of sentences");
+    let sentence = |line: &str| Some(line.trim().strip_prefix('"')?.strip_suffix("\" ∷")?.to_string());
+    (1..).zip(list.lines().map_while(sentence)).collect()
+}
+
+/// CALLS.md: the rows `| 5 | The kind is not 1, 2 or 3. |` of its section.
+fn calls() -> List {
+    let row = |line: &str| {
+        let mut cells = line.strip_prefix("| ")?.strip_suffix(" |")?.split(" | ");
+        Some((cells.next()?.parse().ok()?, cells.next()?.to_string()))
+    };
+    let page = text("docs/CALLS.md");
+    let (_, section) = page.split_once("\n## Refusals\n").expect("a section on refusals");
+    section.lines().take_while(|line| !line.starts_with("## ")).filter_map(row).collect()
+}
+
+/// SPECIFICATION.md: the sentence that each clause C1, C2, .. begins with.
+fn clauses(known: &List) -> List {
+    let clause = |line: &str| {
+        let (number, words) = line.strip_prefix("- **C")?.split_once("**")?;
+        Some((number.parse().ok()?, words.split_once("</a> ")?.1.to_string()))
+    };
+    let begins = |(number, words): (usize, String)| {
+        let sentence = known.iter().find(|(same, _)| *same == number).map_or("", |(_, sentence)| sentence);
+        (number, if words.starts_with(sentence) { sentence.to_string() } else { words })
+    };
+    text("docs/SPECIFICATION.md").lines().filter_map(clause).map(begins).collect()
+}
+
+/// The header: its lines ` *    5  The kind is not 1, 2 or 3.`, each of which goes on until a full stop ends a line.
+fn header() -> List {
+    let mut list = List::new();
+    for line in text("include/winnathey.h").lines() {
+        let line = line.trim_start_matches([' ', '*']);
+        let refusal = line.split_once("  ").and_then(|(number, words)| Some((number.parse().ok()?, words.into())));
+        match (refusal, list.last_mut()) {
+            (Some(refusal), _) => list.push(refusal),
+            (None, Some((_, words))) if !words.ends_with('.') => *words += &format!(" {line}"),
+            _ => {}
+        }
+    }
+    list
+}
+
+#[test]
+fn the_same_numbers_and_sentences_everywhere() {
+    let library = library();
+    assert_eq!(library.len(), 21);
+    assert_eq!(definition(), library, "crates/sentences/specs and the library");
+    assert_eq!(header(), library, "include/winnathey.h and the library");
+    assert_eq!(calls(), library, "docs/CALLS.md and the library");
+    assert_eq!(clauses(&library), library, "docs/SPECIFICATION.md and the library");
+}
+
+/// `BookSize` is `BOOK_SIZE` there.
+#[test]
+fn the_names_are_those_of_the_header() {
+    let constant = |line: &str| {
+        let (name, number) = line.strip_prefix("#define WINNATHEY_REFUSED_")?.split_once(' ')?;
+        Some((number.parse().ok()?, name.replace('_', "").to_lowercase()))
+    };
+    let named = |refusal: &Refusal| {
+        (refusal.number().into(), format!("{refusal:?}").split(' ').next().unwrap_or_default().to_lowercase())
+    };
+    let header: List = text("include/winnathey.h").lines().filter_map(constant).collect();
+    assert_eq!(header, Refusal::ALL.iter().map(named).collect::<List>());
+}
+
+/// The letters of a preset as a case has them.
+fn letters(text: &str) -> Vec<u8> {
+    match text.split_once('x') {
+        Some((letter, times)) => vec![letter.parse().unwrap(); times.parse().unwrap()],
+        None => text.split('.').filter(|letter| !letter.is_empty()).map(|letter| letter.parse().unwrap()).collect(),
+    }
+}
+
+/// A preset as a case has it, `B2:1.2.1.2`.
+fn preset(text: &str) -> (Kind, u8, Vec<u8>) {
+    let (group, word) = text.split_once(':').unwrap();
+    let (kind, rank) = group.split_at(1);
+    (kind.parse().unwrap(), rank.parse().unwrap(), letters(word))
+}
+
+fn bytes(hex: &str) -> Vec<u8> {
+    let digits = hex.trim_matches('-').as_bytes().chunks(2);
+    digits.map(|two| u8::from_str_radix(str::from_utf8(two).unwrap(), 16).unwrap()).collect()
+}
+
+fn edited(book: &mut Book, edit: &str) -> Result<(), RefusedPreset> {
+    let mut parts = edit.split(' ');
+    let (name, parts) = (parts.next().unwrap(), parts.collect::<Vec<_>>());
+    let number = |at: usize| parts[at].parse::<usize>().unwrap();
+    let outcome = match name {
+        "remove" => book.remove(number(0)),
+        "move_to" => book.move_to(number(0), number(1)),
+        "replace" => {
+            let (kind, rank, word) = preset(parts[1]);
+            Group::new(kind, rank).and_then(|group| book.replace(number(0), group, &word))
+        }
+        _ => {
+            let presets: Vec<_> = parts.iter().map(|part| preset(part)).collect();
+            return book.append_all(presets.iter().map(|(kind, rank, word)| Preset { kind: *kind, rank: *rank, word }));
+        }
+    };
+    outcome.map_err(|refusal| RefusedPreset { place: usize::MAX, refusal })
+}
+
+#[test]
+fn edits_are_as_stored() {
+    let mut cases = 0;
+    for line in text("tests/books/edits").lines().filter(|line| !line.starts_with('#')) {
+        let (input, output) = line.split_once(" = ").unwrap();
+        let (edition, input) = input.split_once(' ').unwrap();
+        let (hex, edit) = input.split_once(' ').unwrap();
+        let edition = if edition == "1" { Edition::First } else { Edition::Second };
+        let before = Book::from_bytes(edition, bytes(hex)).unwrap();
+        let mut book = before.clone();
+        let outcome = match edited(&mut book, edit) {
+            Ok(()) => book.as_bytes().iter().map(|byte| format!("{byte:02x}")).collect(),
+            Err(refused) => {
+                assert_eq!(book, before, "{line}");
+                let at = if edit.starts_with("append_all") { format!(" at {}", refused.place) } else { String::new() };
+                format!("refused {}{at}", refused.refusal.number())
+            }
+        };
+        assert_eq!(if outcome.is_empty() { "-" } else { &outcome }, output, "{line}");
+        cases += 1;
+    }
+    assert!(cases > 100, "{cases} cases");
+}
