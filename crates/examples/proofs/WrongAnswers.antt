@@ -65,32 +65,32 @@ use Rattle.examples.proofs.WrongBooks.{lastRecordDropped, laneLimitFirs
 use Rattle.examples.proofs.WrongBooks.{countWithoutLineFeed, bookRefusalAlways1, presetRefusalAlways1, lengthBeforeRank}
 use Rattle.examples.proofs.WrongBooks.{minusLeftOut, noPresetLine, lastLineLeftOut, lineCutOff, lastByteUnused}
 
--- what a call tells: its answer, with the output afterwards if it writes one
-pub data Told : Type 0 where
-  entries : Outcome ℤ → Told
-  bytes : Outcome ℕ → Told
-  rewrite : Transition single → Told
-  traced : Traced → Told
-  tabled : Tabled → Told
-  split : SplitOutcome → Told
-  piece : Piecing → Told
-  answer : Answer → Told
-  verdict : Verdict → Told
-  choice : Choice → Told
-  fallback : Fallback → Told
-  opened : Opened → Told
-  preset : Preset → Told
-  number : ℕ → Told
-  part : ℕ × List ℕ → Told
-  text : List ℕ → Told
+-- what a call returns: its answer, with the output afterwards if it writes one
+pub data Result : Type 0 where
+  entries : Outcome ℤ → Result
+  bytes : Outcome ℕ → Result
+  rewrite : Transition single → Result
+  traced : Traced → Result
+  tabled : Tabled → Result
+  split : SplitOutcome → Result
+  piece : Piecing → Result
+  answer : Answer → Result
+  verdict : Verdict → Result
+  choice : Choice → Result
+  fallback : Fallback → Result
+  opened : Opened → Result
+  preset : Preset → Result
+  number : ℕ → Result
+  part : ℕ × List ℕ → Result
+  text : List ℕ → Result
 
--- what the call tells at an input, and what the wrong router tells there
+-- what the call returns at an input, and what the wrong router returns there
 pub record WrongRouter : Type 0 where
-  pub right : Told
-  pub wrong : Told
+  pub right : Result
+  pub wrong : Result
 
 -- the call, the wrong router in its place, and the input, the same for both
-abbrev pub differ : {X : Type 0} → X → X → (X → Told) → WrongRouter
+abbrev pub differ : {X : Type 0} → X → X → (X → Result) → WrongRouter
 differ call other at = record { right = at call; wrong = at other }
 
 -- so many bytes, or entries, as they were lent

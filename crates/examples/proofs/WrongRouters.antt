@@ -81,7 +81,7 @@ use Rattle.book_format.proofs.Vectors.{too-large-book, appending-too-large, con
 use Rattle.examples.proofs.WrongBooks.{bookOf65536Bytes, roomBeforeTheSizeLimit, sizeLimitOfTheOldBook}
 use Rattle.examples.proofs.WrongTraces.{behindLast, ones}
 use Rattle.examples.proofs.WrongAnswers as told
-use Rattle.examples.proofs.WrongAnswers.{Told, WrongRouter, table}
+use Rattle.examples.proofs.WrongAnswers.{Result, WrongRouter, table}
 
 -- ---- the test
 
@@ -134,7 +134,7 @@ ofPiece : Piece → List ℤ
 ofPiece p = pos (p .next) ∷ pos (p .end) ∷ pos (p .left) ∷ []
 
 -- the numbers of all that is told
-numbers : Told → List ℤ
+numbers : Result → List ℤ
 numbers (told.entries o) = ofAnswer (o .answer) ++ o .bytes
 numbers (told.bytes o) = ofAnswer (o .answer) ++ map pos (o .bytes)
 numbers (told.rewrite s) = ofRewrite (s .answer) ++ map pos (s .outputs ++ s .word)
@@ -199,7 +199,7 @@ all-sound (x ∷ rs) h r m =
     let t = and-eq-true-iff (differs x) (allDiffer rs) .0 h in
     ⊎-elim (λ q. sound r (ap differs q ∙ t .0)) (all-sound rs (t .1) r) (List·Memᴰ·cases-cons m)
 
--- what a wrong router of the table tells is not what the call tells
+-- what a wrong router of the table returns is not what the call returns
 pub ruled-out : (r : WrongRouter) → List·Memᴰ r table → r .right ≡ r .wrong → ⊥
 ruled-out = all-sound table all-differ
 
@@ -216,12 +216,12 @@ opened-late true t c e = let z : _≡_ {A = ℕ} 2 1 = cc in omega arith
 opened-late false true c e = let z : _≡_ {A = ℕ} 3 1 = cc in omega arith
 opened-late false false c e = zero-not-one (cc)
 
--- every book of 65,536 bytes tells this one
+-- every book of 65,536 bytes rules this one out
 pub bookOf65536Bytes-ruled-out : (ed : Edition) (b : List ℕ) → length b ≡ 65536 → checkedBook ed b ≡ bookOf65536Bytes ed b → ⊥
 bookOf65536Bytes-ruled-out ed b e h =
     opened-late (wrongCount b) (misplaced ed b) (count b) (rw e at (sym h) ∙ too-large-book ed b e)
 
--- and every preset that would make an accepted book larger than 65,535 bytes tells this one, where the output is
+-- and every preset that would make an accepted book larger than 65,535 bytes rules this one out, if the output is
 -- shorter than the new book
 pub roomBeforeTheSizeLimit-ruled-out : (ed : Edition) (b : List ℕ) (k n : ℕ) (u out : List ℕ)
     → bookRefusal ed b ≡ 0 → bookRankRefusal ed k n ≡ 0 → WordOf n u → retired k n ≡ false
@@ -234,7 +234,7 @@ roomBeforeTheSizeLimit-ruled-out ed b k n u out e f g o large short h =
     let z : _≡_ {A = ℕ} 13 14 = cc (ap (λ (o : Outcome ℕ). o .answer) h) in
     omega arith
 
--- and every accepted book of the first edition that would grow beyond 65,535 bytes tells this one, where the output
+-- and every accepted book of the first edition that would grow beyond 65,535 bytes rules this one out, if the output
 -- has room
 pub sizeLimitOfTheOldBook-ruled-out : (b out : List ℕ) → bookRefusal First b ≡ 0 → recordsConversionRefusal First b (count b) 0 ≡ 0
     → 65535 < length b + count b → length (converted First b) ≤ length out → converting First b out ≡ sizeLimitOfTheOldBook First b out → ⊥

@@ -33,8 +33,8 @@ use Rattle.shortest_words.proofs.Exchange.{oneLetter, oneLetter-front}
 use Rattle.shortest_words.proofs.Deletion.{deletion}
 use Rattle.shortest_words.proofs.Places.{rising-bounds, rising-apart, rising-of}
 use Rattle.shortest_words.proofs.Fallbacks.{verdict-exactly, verdict-same, verdict-empty}
-use Rattle.shortest_words.proofs.Verdicts.{then-last, Told, told, told-no, told-kept, told-short}
-use Rattle.shortest_words.proofs.Verdicts.{is-told-no, is-told-kept, is-told-short, is-told-refused, no-unchanged, refused-unchanged}
+use Rattle.shortest_words.proofs.Verdicts.{then-last, FallbackCase, fallback-case, no-means, kept-means, short-means}
+use Rattle.shortest_words.proofs.Verdicts.{answer-is-no, answer-is-kept, answer-is-short, answer-is-refused, no-unchanged, refused-unchanged}
 use Rattle.shortest_words.proofs.Theorems.{length-added, shortest-exactly, oneLetter-accepted}
 
 -- ---- one letter to drop
@@ -147,11 +147,11 @@ module _ (k n : ℕ) (present simpler places : List ℕ) where
   abbrev size : ℕ
   size = windowLength (kindOf k) (window (kindOf k) n simpler)
 
-  answer-told : Told checks falls (tooShort size places) size (fallbackAnswer k n present simpler places)
+  answer-case : FallbackCase checks falls (tooShort size places) size (fallbackAnswer k n present simpler places)
   unfolding fallbackAnswer
-  answer-told =
+  answer-case =
       rw (then-last (rankRefusal k n) (wordRefusal n present) (wordRefusal n simpler) (check 14 (falls && tooShort size places)))
-      (told checks falls (tooShort size places) size)
+      (fallback-case checks falls (tooShort size places) size)
 
   passed : RankOf k n × WordOf n present × WordOf n simpler → checks ≡ 0
   passed h = then-none _ _ (h .0) ∙ then-none _ _ (h .1) ∙ h .2
@@ -174,12 +174,12 @@ module _ (k n : ℕ) (present simpler places : List ℕ) where
         ↔ (RankOf k n × WordOf n present × WordOf n simpler × (FallbackOf (kindOf k) n present simpler → ⊥))
     no-exactly = (
       λ e.
-          let t = told-no answer-told (sym (f .answer) ∙ e) in
+          let t = no-means answer-case (sym (f .answer) ∙ e) in
           let p = all-passed (t .0) in
           (p .0, p .1, p .2, not-exactly falls (falls-exactly (t .0)) .0 (t .1)),
       λ h.
           let z = passed (h .0, h .1, h .2) in
-          f .answer ∙ is-told-no answer-told z (not-exactly falls (falls-exactly z) .1 (h .3)),
+          f .answer ∙ answer-is-no answer-case z (not-exactly falls (falls-exactly z) .1 (h .3)),
     )
 
     -- F2, F8: places come exactly when no check refuses, some part-list has the simpler window and the list has
@@ -190,12 +190,12 @@ module _ (k n : ℕ) (present simpler places : List ℕ) where
     unfolding tooShort
     kept-exactly = (
       λ e.
-          let t = told-kept (e .0) answer-told (sym (f .answer) ∙ e .1) in
+          let t = kept-means (e .0) answer-case (sym (f .answer) ∙ e .1) in
           let p = all-passed (t .0) in
           (p .0, p .1, p .2, falls-exactly (t .0) .0 (t .1), ltb-false (length places) size (t .2)),
       λ h.
           let z = passed (h .0, h .1, h .2) in
-          (size, f .answer ∙ is-told-kept answer-told z (falls-exactly z .1 (h .3)) (le-ltb (length places) size (h .4))),
+          (size, f .answer ∙ answer-is-kept answer-case z (falls-exactly z .1 (h .3)) (le-ltb (length places) size (h .4))),
     )
 
     -- F8, C14: 14 exactly when the list has not
@@ -205,17 +205,17 @@ module _ (k n : ℕ) (present simpler places : List ℕ) where
     unfolding tooShort
     short-exactly = (
       λ e.
-          let t = told-short checks-14 answer-told (sym (f .answer) ∙ e) in
+          let t = short-means checks-14 answer-case (sym (f .answer) ∙ e) in
           let p = all-passed (t .0) in
           (p .0, p .1, p .2, falls-exactly (t .0) .0 (t .1), ltb-true (length places) size (t .2)),
       λ h.
           let z = passed (h .0, h .1, h .2) in
-          f .answer ∙ is-told-short answer-told z (falls-exactly z .1 (h .3)) (lt-ltb (length places) size (h .4)),
+          f .answer ∙ answer-is-short answer-case z (falls-exactly z .1 (h .3)) (lt-ltb (length places) size (h .4)),
     )
 
     -- F1, CO4: the first refusal of the two words is the answer
     pub first-refusal : (r : ℕ) → (r ≡ 0 → ⊥) → (rankRefusal k n then wordRefusal n present then wordRefusal n simpler) ≡ r → a ≡ Refused r
-    first-refusal r g e = f .answer ∙ is-told-refused answer-told (λ z. g (sym e ∙ z)) ∙ ap Refused e
+    first-refusal r g e = f .answer ∙ answer-is-refused answer-case (λ z. g (sym e ∙ z)) ∙ ap Refused e
 
     -- F5, D6: a no writes nothing, and neither does a refusal
     pub no-or-refused-unchanged : (a ≡ No) ⊎ ((r : ℕ) × (a ≡ Refused r)) → after ≡ places
@@ -234,7 +234,7 @@ module _ (k n : ℕ) (present simpler places after : List ℕ) (l : ℕ) (f : Fe
   -- F3: as many as the length of the simpler window
   pub kept-many : (l ≡ windowLength (kindOf k) (window (kindOf k) n simpler)) × (length (take l after) ≡ l)
   kept-many =
-      let e = told-kept l (answer-told k n present simpler places) (sym (f .answer)) .3 in
+      let e = kept-means l (answer-case k n present simpler places) (sym (f .answer)) .3 in
       (e, kept-subword .count ∙ sym e)
 
   -- F3: they rise
@@ -306,6 +306,6 @@ empty-kept k n present places a after f r p =
     let s : windowLength (kindOf k) (window (kindOf k) n []) ≡ 0 = omega (arith, windowLength-le (kindOf k) n [] low (unfold wrongLetter in refl)) in
     let e = kept-exactly k n present [] places a after f .1
     (r, p, unfold wordRefusal tooLong wrongLetter in refl, verdict-empty (kindOf k) n low present, omega (arith, s)) in
-    let t = told-kept (e .0) (answer-told k n present [] places) (sym (f .answer) ∙ e .1) in
+    let t = kept-means (e .0) (answer-case k n present [] places) (sym (f .answer) ∙ e .1) in
     let z : a ≡ Kept 0 = e .1 ∙ ap Kept (t .3 ∙ s) in
     (z, subst (λ (b : Fallback). FellBack k n present [] places b after) z f .others)

@@ -124,66 +124,66 @@ module _ (k n : ℕ) (present simpler places : List ℕ) (r : ℕ) (e : r ≡ (r
 -- ---- what an outcome says
 
 -- what the answer is: q is the refusal of the checks before 14, t the verdict, l the length of the simpler window
-pub data Told (q : ℕ) (t short : Bool) (l : ℕ) : Fallback → Type 0 where
-  is-refused : (q ≡ 0 → ⊥) → Told q t short l (Refused q)
-  is-no : q ≡ 0 → t ≡ false → Told q t short l No
-  is-short : q ≡ 0 → t ≡ true → short ≡ true → Told q t short l (Refused 14)
-  is-kept : q ≡ 0 → t ≡ true → short ≡ false → Told q t short l (Kept l)
+pub data FallbackCase (q : ℕ) (t short : Bool) (l : ℕ) : Fallback → Type 0 where
+  is-refused : (q ≡ 0 → ⊥) → FallbackCase q t short l (Refused q)
+  is-no : q ≡ 0 → t ≡ false → FallbackCase q t short l No
+  is-short : q ≡ 0 → t ≡ true → short ≡ true → FallbackCase q t short l (Refused 14)
+  is-kept : q ≡ 0 → t ≡ true → short ≡ false → FallbackCase q t short l (Kept l)
 
-pub told : (q : ℕ) (t short : Bool) (l : ℕ) → Told q t short l (fallbackOf (q then check 14 (t && short)) t l)
+pub fallback-case : (q : ℕ) (t short : Bool) (l : ℕ) → FallbackCase q t short l (fallbackOf (q then check 14 (t && short)) t l)
 unfolding fallbackOf
-told q t short l = elim (ℕ-discrete q 0) [
+fallback-case q t short l = elim (ℕ-discrete q 0) [
   | yes z ↦ rw (eq-eqb q 0 z) (cases z t short refl refl)
   | no f ↦ rw (ne-eqb q 0 f) (rw (ne-eqb q 0 f) (is-refused f))
 ]
   where
-    cases : q ≡ 0 → (b c : Bool) → t ≡ b → short ≡ c → Told q t short l (pick (eqb (check 14 (b && c)) 0) (pick b (Kept l) No) (Refused (check 14 (b && c))))
+    cases : q ≡ 0 → (b c : Bool) → t ≡ b → short ≡ c → FallbackCase q t short l (pick (eqb (check 14 (b && c)) 0) (pick b (Kept l) No) (Refused (check 14 (b && c))))
     cases z true true e d = is-short z e d
     cases z true false e d = is-kept z e d
     cases z false c e d = is-no z e
 
 module _ {q : ℕ} {t short : Bool} {l : ℕ} where
-  pub told-no : {a : Fallback} → Told q t short l a → a ≡ No → (q ≡ 0) × (t ≡ false)
-  told-no (is-refused f) e = zero-not-one (cc)
-  told-no (is-no z n) e = (z, n)
-  told-no (is-short z y s) e = zero-not-one (cc)
-  told-no (is-kept z y s) e = zero-not-one (cc)
+  pub no-means : {a : Fallback} → FallbackCase q t short l a → a ≡ No → (q ≡ 0) × (t ≡ false)
+  no-means (is-refused f) e = zero-not-one (cc)
+  no-means (is-no z n) e = (z, n)
+  no-means (is-short z y s) e = zero-not-one (cc)
+  no-means (is-kept z y s) e = zero-not-one (cc)
 
-  pub told-kept : {a : Fallback} (m : ℕ) → Told q t short l a → a ≡ Kept m → (q ≡ 0) × (t ≡ true) × (short ≡ false) × (m ≡ l)
-  told-kept m (is-refused f) e = zero-not-one (cc)
-  told-kept m (is-no z n) e = zero-not-one (cc)
-  told-kept m (is-short z y s) e = zero-not-one (cc)
-  told-kept m (is-kept z y s) e = (z, y, s, cc)
+  pub kept-means : {a : Fallback} (m : ℕ) → FallbackCase q t short l a → a ≡ Kept m → (q ≡ 0) × (t ≡ true) × (short ≡ false) × (m ≡ l)
+  kept-means m (is-refused f) e = zero-not-one (cc)
+  kept-means m (is-no z n) e = zero-not-one (cc)
+  kept-means m (is-short z y s) e = zero-not-one (cc)
+  kept-means m (is-kept z y s) e = (z, y, s, cc)
 
-  pub told-short : {a : Fallback} → (q ≡ 14 → ⊥) → Told q t short l a → a ≡ Refused 14 → (q ≡ 0) × (t ≡ true) × (short ≡ true)
-  told-short g (is-refused f) e = absurd (g cc)
-  told-short g (is-no z n) e = zero-not-one (cc)
-  told-short g (is-short z y s) e = (z, y, s)
-  told-short g (is-kept z y s) e = zero-not-one (cc)
+  pub short-means : {a : Fallback} → (q ≡ 14 → ⊥) → FallbackCase q t short l a → a ≡ Refused 14 → (q ≡ 0) × (t ≡ true) × (short ≡ true)
+  short-means g (is-refused f) e = absurd (g cc)
+  short-means g (is-no z n) e = zero-not-one (cc)
+  short-means g (is-short z y s) e = (z, y, s)
+  short-means g (is-kept z y s) e = zero-not-one (cc)
 
-  pub is-told-no : {a : Fallback} → Told q t short l a → q ≡ 0 → t ≡ false → a ≡ No
-  is-told-no (is-refused f) z n = absurd (f z)
-  is-told-no (is-no x y) z n = refl
-  is-told-no (is-short x y s) z n = absurd (true≢false (sym y ∙ n))
-  is-told-no (is-kept x y s) z n = absurd (true≢false (sym y ∙ n))
+  pub answer-is-no : {a : Fallback} → FallbackCase q t short l a → q ≡ 0 → t ≡ false → a ≡ No
+  answer-is-no (is-refused f) z n = absurd (f z)
+  answer-is-no (is-no x y) z n = refl
+  answer-is-no (is-short x y s) z n = absurd (true≢false (sym y ∙ n))
+  answer-is-no (is-kept x y s) z n = absurd (true≢false (sym y ∙ n))
 
-  pub is-told-kept : {a : Fallback} → Told q t short l a → q ≡ 0 → t ≡ true → short ≡ false → a ≡ Kept l
-  is-told-kept (is-refused f) z n r = absurd (f z)
-  is-told-kept (is-no x y) z n r = absurd (true≢false (sym n ∙ y))
-  is-told-kept (is-short x y s) z n r = absurd (true≢false (sym s ∙ r))
-  is-told-kept (is-kept x y s) z n r = refl
+  pub answer-is-kept : {a : Fallback} → FallbackCase q t short l a → q ≡ 0 → t ≡ true → short ≡ false → a ≡ Kept l
+  answer-is-kept (is-refused f) z n r = absurd (f z)
+  answer-is-kept (is-no x y) z n r = absurd (true≢false (sym n ∙ y))
+  answer-is-kept (is-short x y s) z n r = absurd (true≢false (sym s ∙ r))
+  answer-is-kept (is-kept x y s) z n r = refl
 
-  pub is-told-short : {a : Fallback} → Told q t short l a → q ≡ 0 → t ≡ true → short ≡ true → a ≡ Refused 14
-  is-told-short (is-refused f) z n r = absurd (f z)
-  is-told-short (is-no x y) z n r = absurd (true≢false (sym n ∙ y))
-  is-told-short (is-short x y s) z n r = refl
-  is-told-short (is-kept x y s) z n r = absurd (true≢false (sym r ∙ s))
+  pub answer-is-short : {a : Fallback} → FallbackCase q t short l a → q ≡ 0 → t ≡ true → short ≡ true → a ≡ Refused 14
+  answer-is-short (is-refused f) z n r = absurd (f z)
+  answer-is-short (is-no x y) z n r = absurd (true≢false (sym n ∙ y))
+  answer-is-short (is-short x y s) z n r = refl
+  answer-is-short (is-kept x y s) z n r = absurd (true≢false (sym r ∙ s))
 
-  pub is-told-refused : {a : Fallback} → Told q t short l a → (q ≡ 0 → ⊥) → a ≡ Refused q
-  is-told-refused (is-refused f) g = refl
-  is-told-refused (is-no x y) g = absurd (g x)
-  is-told-refused (is-short x y s) g = absurd (g x)
-  is-told-refused (is-kept x y s) g = absurd (g x)
+  pub answer-is-refused : {a : Fallback} → FallbackCase q t short l a → (q ≡ 0 → ⊥) → a ≡ Refused q
+  answer-is-refused (is-refused f) g = refl
+  answer-is-refused (is-no x y) g = absurd (g x)
+  answer-is-refused (is-short x y s) g = absurd (g x)
+  answer-is-refused (is-kept x y s) g = absurd (g x)
 
 -- checks 5 and 6 refuse before anything else is looked at
 fallbackAnswer-refused : (k n : ℕ) (present simpler places : List ℕ) → (rankRefusal k n ≡ 0 → ⊥)
