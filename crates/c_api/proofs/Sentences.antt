@@ -1,6 +1,6 @@
 -- What demand 3 says of calls of `winnathey_rewrite` beyond the laws over every form of call (IC8 of the
 -- specification): when there is room for an answer, which numbers say that a rule was used, what such a call writes,
--- and that one number bounds the uses by these calls and by single rewrites.
+-- and that the same numbers bound the uses by these calls and by single rewrites.
 -- Assumes nothing.
 use mathlib.Core.Path.{_≡_, refl}
 use mathlib.Core.Bool.{true, and-eq-true-iff}
@@ -8,9 +8,10 @@ use mathlib.Core.Logic.{_↔_}
 use mathlib.Core.List.{List, [], _∷_, _++_}
 use mathlib.Core.Option.{some, Option·none-ne-some}
 use Prim.Native.Nat.{ℕ, _≤_}
+use native.Mathlib.Omega.{arith}
 use lib.Dec.{leb}
 use lib.IntN.{ℤ, pos, negsuc}
-use lib.ListN.{length, take, drop}
+use lib.ListN.{length, take, drop, replicate, length-replicate}
 use borrow.Author.Tests.{leb-true, le-leb}
 use Rattle.rules.specs.Rules.{Rule}
 use Rattle.rules.specs.Calls.{single}
@@ -18,6 +19,7 @@ use Rattle.rules.specs.Runs.{AcceptedWord, Call, Run, wordLeft, uses}
 use Rattle.rules.specs.Demand3.{Usable}
 use Rattle.rules.proofs.Calls.{single-lawful}
 use Rattle.rules.proofs.Demand3.{one-number-of}
+use Rattle.rules.proofs.SameUses.{bound-of-other}
 use Rattle.rules.proofs.Sentences.{used-written}
 use Rattle.c_api.specs.Calls.{newWordIn, forC}
 use Rattle.c_api.proofs.Demand3.{forC-lawful, demand3-calls}
@@ -39,6 +41,15 @@ unfolding newWordIn
 new-word-exactly (pos l) out rule w = (λ e. (l, refl, cc), λ t. let q : l ≡ t .0 = let z = t .1 in cc in rw (t .2, q))
 new-word-exactly (negsuc r) out rule w = (λ e. absurd (Option·none-ne-some w e), λ t. let z = t .1 in zero-not-one (cc))
 
+-- outputs with room for every word
+single-roomy : (l : ℕ) → (o : List ℕ) × (single .room o l ≡ true)
+single-roomy l = (replicate l 0, le-leb l (length (replicate l 0)) (omega (arith, length-replicate l 0)))
+
+forC-roomy : (l : ℕ) → (o : List ℕ × List ℕ) × (forC .room o l ≡ true)
+forC-roomy l =
+    let o = replicate l 0 in
+    ((o, replicate 3 0), room-exactly o (replicate 3 0) l .1 (omega (arith, length-replicate l 0), omega arith))
+
 module _ (k n : ℕ) (u : List ℕ) (h : AcceptedWord k n u) where
   -- R16, IC3: the number is the new length, the new word stands at the front of the output and the rule at the front
   -- of `rule`, and the rest stays
@@ -54,3 +65,11 @@ module _ (k n : ℕ) (u : List ℕ) (h : AcceptedWord k n u) where
   pub one-number : (most : ℕ) × ((cs : List (Call forC)) → Run forC k n u cs → uses forC cs ≤ most)
       × ((ds : List (Call single)) → Run single k n u ds → uses single ds ≤ most)
   one-number = let t = one-number-of k n u h in (t .0, t .1 forC forC-lawful, t .1 single single-lawful)
+
+  -- T11: a number bounds the uses by calls for C exactly if it bounds those by single rewrites
+  pub same-bounds : (most : ℕ) → ((cs : List (Call forC)) → Run forC k n u cs → uses forC cs ≤ most)
+      ↔ ((ds : List (Call single)) → Run single k n u ds → uses single ds ≤ most)
+  same-bounds most = (
+    bound-of-other single-lawful forC-lawful forC-roomy k n u h most,
+    bound-of-other forC-lawful single-lawful single-roomy k n u h most,
+  )

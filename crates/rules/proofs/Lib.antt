@@ -21,6 +21,7 @@ pub mod CallLists
 pub mod Unchanged
 pub mod Vectors
 pub mod Demand3
+pub mod SameUses
 pub mod Sentences
 pub mod Theorems
 pub mod Written
