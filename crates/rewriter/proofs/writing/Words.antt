@@ -2,7 +2,7 @@
 --
 -- Sections: the two writings; the word that a rule leaves.
 -- Assumes nothing.
-use mathlib.Core.Path.{_≡_, refl, _∙_, sym}
+use mathlib.Core.Path.{_≡_, refl, _∙_, sym, ap, ap₂}
 use mathlib.Core.List.{List, _∷_, _++_, append-assoc}
 use Prim.Native.Nat.{ℕ, _+_, _-_, _≤_}
 use native.Mathlib.Numerals.{add-one}
@@ -43,8 +43,11 @@ written-moved u d p l x o o′ h g m e f =
     rw (length-append (take p u) ((x ∷ s) ++ drop (p + l) u), length-append (x ∷ s) (drop (p + l) u), length-take-le p u (omega arith), length-drop (p + l) u)
     (omega (arith, k)) in
     let new : List ℕ = take p u ++ ((x ∷ s) ++ drop (p + l) u) in
-    let moved : take p o ++ ((x ∷ s) ++ drop (p + length (x ∷ s)) o) ≡ new ++ r =
-    rw (k, w, take-append-le p u r (omega arith), drop-append-le (p + l) u r g) (simp append-assoc) in
+    let before : take p o ≡ take p u = rw w (take-append-le p u r (omega arith)) in
+    let behind : drop (p + length (x ∷ s)) o ≡ drop (p + l) u ++ r =
+    ap (λ (q : ℕ). drop q o) k ∙ (rw w (drop-append-le (p + l) u r g)) in
+    let moved : (take p o ++ (x ∷ s)) ++ drop (p + length (x ∷ s)) o ≡ new ++ r =
+    ap₂ (λ (y z : List ℕ). (y ++ (x ∷ s)) ++ z) before behind ∙ simp append-assoc in
     a ∙ sets-eq (x ∷ s) o p room ∙ moved ∙ front-parts new d (length u) new n refl
 
 -- ---- the word that a rule leaves
