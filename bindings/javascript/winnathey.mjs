@@ -179,7 +179,7 @@ function kindNumber(name, kind) {
 }
 
 function rankNumber(name, rank) {
-    return integer(name, rank, 0, 0xffffffff);
+    return typeof rank === 'number' && rank >>> 0 === rank ? rank : integer(name, rank, 0, 0xffffffff);
 }
 
 function placeNumber(name, place) {
@@ -219,8 +219,16 @@ function stepBits(steps) {
     return BigInt(high >>> 0) << 32n | BigInt(low >>> 0);
 }
 
+/** Small lengths in 64 bits, made once. */
+const SMALL = Array.from({ length: 65 }, (_, length) => BigInt(length));
+
+function long(length) {
+    return length <= 64 ? SMALL[length] : BigInt(length);
+}
+
 /** How many elements of a list are looked at: no more than `most`, which the library refuses. */
 function lengthOf(name, list, most) {
+    if (Array.isArray(list)) return list.length < most ? list.length : most;
     if (list === null || typeof list !== 'object' || !Number.isInteger(list.length) || list.length < 0) {
         throw new TypeError(`${name} is not a list: ${shown(list)}`);
     }
@@ -251,19 +259,22 @@ class Memory {
         this.base = (exports.__heap_base.value + 7) & ~7;
         const missing = this.base + room - this.memory.buffer.byteLength;
         if (missing > 0) this.memory.grow(Math.ceil(missing / 65536));
-        this.look();
+        this.#map();
     }
 
-    /** Looks at the memory again if somebody else made it grow. */
+    /** Looks at the memory again if somebody else made it grow: what was seen of it then is empty. */
     look() {
+        if (this.u8.length === 0) this.#map();
+        return this;
+    }
+
+    #map() {
         const { buffer } = this.memory;
-        if (this.u8?.buffer === buffer) return this;
         this.u8 = new Uint8Array(buffer);
         this.i8 = new Int8Array(buffer);
         this.u16 = new Uint16Array(buffer);
         this.u32 = new Uint32Array(buffer);
         this.u64 = new BigUint64Array(buffer);
-        return this;
     }
 
     /** Puts up to `most` bytes somewhere, and returns how many there are. */
@@ -285,7 +296,7 @@ class Memory {
     }
 
     putWord(at, name, word) {
-        return BigInt(this.putBytes(at, name, word, MAX_WORD + 1));
+        return long(this.putBytes(at, name, word, MAX_WORD + 1));
     }
 
     putWindow(at, name, window) {
@@ -298,7 +309,7 @@ class Memory {
             if (typeof entry !== 'number' || (entry << 24 >> 24) !== entry) integer(`${name}[${i}]`, entry, -128, 127);
             i8[start + i] = entry;
         }
-        return BigInt(length);
+        return long(length);
     }
 
     putBook(book) {
@@ -845,23 +856,24 @@ export class Winnathey {
         const before = starts.length;
         let to = end;
         let place = 0;
+        const [one, from] = [m.base + ONE, m.base + NEW_BOOK];
         for (const { kind, rank, word } of presets) {
-            m.look();
-            const [k, r, length] = [kindNumber('kind', kind), rankNumber('rank', rank), m.putWord(ONE, 'word', word)];
-            const answer = Number(call(0, 0n, k, r, m.base + ONE, length, m.base + NEW_BOOK, room));
+            const { u8 } = m.look();
+            const k = kindNumber('kind', kind);
+            const r = rankNumber('rank', rank);
+            const answer = Number(call(0, 0n, k, r, one, m.putWord(ONE, 'word', word), from, room));
             if (answer < 0) throw this.#refusal(-answer, place);
-            const [from, size] = [m.base + NEW_BOOK, answer - TRAILER];
+            const size = answer - TRAILER;
             if (to + size + OFFSET * (starts.length + 2) > MAX_BOOK) throw this.#refusal(Refused.BOOK_FULL, place);
-            const { u8 } = m;
             for (let i = 0; i < size; i++) made[to + i] = u8[from + i];
             starts.push(to);
             to += size;
             place++;
         }
         if (starts.length === before) return bytes;
-        starts.forEach((start, at) => putTwo(made, to + OFFSET * at, start));
-        putTwo(made, to + OFFSET * starts.length, starts.length);
-        const whole = made.slice(0, to + OFFSET * (starts.length + 1));
+        starts.push(starts.length);
+        for (let at = 0; at < starts.length; at++) putTwo(made, to + OFFSET * at, starts[at]);
+        const whole = made.slice(0, to + OFFSET * starts.length);
         this.bookCheck(edition, whole);
         return whole;
     }

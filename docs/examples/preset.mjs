@@ -1,7 +1,7 @@
 // The window and the normal form of some presets, and a refusal.
 import { load, Refusal } from './winnathey.mjs';
 
-const w = await load(new URL('winnathey.wasm', import.meta.url));
+const w = await load();
 
 /** Prints what a preset shows and its normal form. */
 function show(kind, rank, word) {
