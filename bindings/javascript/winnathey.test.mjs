@@ -276,6 +276,8 @@ test('many presets at once are those appended one by one', () => {
         const rest = new Array(MAX_BOOK - 2 - 15 * (4096 + head + 2) - head - 2).fill(1);
         const full = w.appendAll(edition, [], [...new Array(15).fill(longest), { kind: 'A', rank: 2, word: rest }]);
         assert.equal(full.length, MAX_BOOK);
+        const over = [...new Array(15).fill(longest), { kind: 'A', rank: 2, word: [...rest, 1] }];
+        assert.throws(() => w.appendAll(edition, [], over), { name: 'Refusal', number: Refused.BOOK_FULL, place: 15 });
         assert.equal(refusal(() => w.appendAll(edition, full, [{ kind: 'A', rank: 2, word: [] }])), 13);
         assert.equal(refusal(() => w.replace(edition, full, 15, 'A', 2, [...rest, 1])), 13);
         assert.equal(w.replace(edition, full, 15, 'A', 2, rest.slice(1)).length, MAX_BOOK - 1);

@@ -265,6 +265,9 @@ class Edits(unittest.TestCase):
             full = w.append_all(edition, b"", [("A", 2, [1] * 4096)] * 15 + [("A", 2, rest)])
             self.assertEqual(len(full), 65535)
             self.assertEqual(w.book_check(edition, full), 16)
+            with self.assertRaises(w.Refusal) as caught:
+                w.append_all(edition, b"", [("A", 2, [1] * 4096)] * 15 + [("A", 2, rest + [1])])
+            self.assertEqual((caught.exception.number, caught.exception.place), (w.Refused.BOOK_FULL, 15))
             for call in (lambda: w.append_all(edition, full, [("A", 2, [])]), lambda: w.replace(edition, full, 15, "A", 2, rest + [1])):
                 with self.assertRaises(w.Refusal) as caught:
                     call()

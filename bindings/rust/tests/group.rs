@@ -265,10 +265,14 @@ fn many_presets_at_once() {
         let rest = vec![1; MAX_BOOK - 2 - 15 * (4096 + head + 2) - head - 2];
         full.append_all(std::iter::repeat_n(longest, 15).chain([Preset { word: &rest, ..longest }])).unwrap();
         assert_eq!(full.as_bytes().len(), MAX_BOOK);
+        let longer = [&rest[..], &[1]].concat();
+        let over = std::iter::repeat_n(longest, 15).chain([Preset { word: &longer, ..longest }]);
+        let refused = Book::new(edition).append_all(over).unwrap_err();
+        assert_eq!((refused.place, refused.refusal), (15, Refusal::BookFull));
         let refused = full.append_all([Preset { word: &[], ..longest }]).unwrap_err();
         assert_eq!((refused.place, refused.refusal), (0, Refusal::BookFull));
         let group = longest.group().unwrap();
-        assert_eq!(full.replace(15, group, &[&rest[..], &[1]].concat()), Err(Refusal::BookFull));
+        assert_eq!(full.replace(15, group, &longer), Err(Refusal::BookFull));
         assert_eq!(full.replace(15, group, &rest[1..]), Ok(()));
         assert_eq!(full.as_bytes().len(), MAX_BOOK - 1);
     }
