@@ -1,6 +1,7 @@
-# Writes a document for a package: at is its path in the repository, shipped the paths that the package has, headers the
-# way from the package's documents to its headers. Links within the package stay; those to a header lead to it; any
-# other becomes its text. A picture that is not shipped is an error.
+# Writes the documents given as arguments, by their paths in the repository, into the folder INTO. SHIPPED has the paths
+# that the package has, HEADERS the way from the package's documents to its headers; the three are in the environment.
+# Links within the package stay; those to a header lead to it; any other becomes its text. A picture that is not shipped
+# is an error.
 
 # The path that a link of this document leads to.
 function resolved(link,    parts, kept, count, last, i, path) {
@@ -18,12 +19,19 @@ function resolved(link,    parts, kept, count, last, i, path) {
 }
 
 BEGIN {
-    count = split(shipped, listed, "\n")
+    count = split(ENVIRON["SHIPPED"], listed, "\n")
     for (i = 1; i <= count; i++) {
         has[listed[i]] = 1
         path = listed[i]
         while (sub(/\/[^\/]*$/, "", path)) has[path] = 1
     }
+}
+
+FNR == 1 {
+    if (at) close(out)
+    at = FILENAME
+    out = ENVIRON["INTO"] "/" at
+    fenced = 0
     up = at
     gsub(/[^\/]+\//, "../", up)
     sub(/[^\/]*$/, "", up)
@@ -31,7 +39,7 @@ BEGIN {
 
 /^```/ { fenced = !fenced }
 
-fenced { print; next }
+fenced { print > out; next }
 
 {
     done = ""
@@ -47,9 +55,9 @@ fenced { print; next }
         sub(/#.*/, "", path)
         path = resolved(path)
         if (link ~ /^[a-z]+:/ || link ~ /^#/ || path in has) done = done before whole
-        else if (path ~ /^include\/[a-z_]+\.h$/) done = done before "[" text "](" up headers substr(path, 9) ")"
+        else if (path ~ /^include\/[a-z_]+\.h$/) done = done before "[" text "](" up ENVIRON["HEADERS"] substr(path, 9) ")"
         else if (before ~ /!$/) { print at ": the picture " path " is not shipped" > "/dev/stderr"; exit 1 }
         else done = done before text
     }
-    print done left
+    print done left > out
 }
