@@ -42,13 +42,18 @@ new-word-exactly (pos l) out rule w = (λ e. (l, refl, cc), λ t. let q : l ≡ 
 new-word-exactly (negsuc r) out rule w = (λ e. absurd (Option·none-ne-some w e), λ t. let z = t .1 in zero-not-one (cc))
 
 -- outputs with room for every word
+zeros : ℕ → List ℕ
+zeros l = let z : ℕ = 0 in replicate l z
+
+length-zeros : (l : ℕ) → length (zeros l) ≡ l
+unfolding zeros
+length-zeros l = let z : ℕ = 0 in length-replicate l z
+
 single-roomy : (l : ℕ) → (o : List ℕ) × (single .room o l ≡ true)
-single-roomy l = (replicate l 0, le-leb l (length (replicate l 0)) (omega (arith, length-replicate l 0)))
+single-roomy l = (zeros l, le-leb l (length (zeros l)) (omega (arith, length-zeros l)))
 
 forC-roomy : (l : ℕ) → (o : List ℕ × List ℕ) × (forC .room o l ≡ true)
-forC-roomy l =
-    let o = replicate l 0 in
-    ((o, replicate 3 0), room-exactly o (replicate 3 0) l .1 (omega (arith, length-replicate l 0), omega arith))
+forC-roomy l = ((zeros l, zeros 3), room-exactly (zeros l) (zeros 3) l .1 (omega (arith, length-zeros l), omega (arith, length-zeros 3)))
 
 module _ (k n : ℕ) (u : List ℕ) (h : AcceptedWord k n u) where
   -- R16, IC3: the number is the new length, the new word stands at the front of the output and the rule at the front
