@@ -7,6 +7,8 @@ SPECIFICATION, CITATIONS = "docs/SPECIFICATION.md", "docs/statements.txt"
 NAMES_BLOCK = re.compile(r"\b(?:table|listing) below\b")
 # a clause that a sentence names is the second part; what stands between backticks is none
 NAMED = re.compile(r"(`[^`]*`)|\b([A-Z]{1,2}[0-9]+)\b")
+# the clauses that need no law: of these alone the sentences among the following settle any
+WITHOUT = re.compile(r"without a law, ([0-9]+): (.+)")
 # what settles a clause; vectors, edits and notes only stand beside it, and an excuse says why no law does
 SETTLES = ("law", "contract", "definition", "field", "type", "row", "code", "tests", "gate", "file", "checker", "outside")
 
@@ -97,7 +99,7 @@ def citations_of(source):
     """Clause by clause the citations of statements.txt, and what is wrong with its form."""
     found, wrong, clause = {}, [], None
     for number, text in enumerate(source.split("\n"), 1):
-        if not text.strip() or text.startswith("#"):
+        if not text.strip() or text.startswith("#") or WITHOUT.fullmatch(text) and clause is None:
             continue
         if not text.startswith(" "):
             clause = text.strip()
@@ -114,6 +116,17 @@ def citations_of(source):
         else:
             found[clause].append(citation)
     return found, wrong
+
+
+def without_a_law(source):
+    """The clauses that need no law, and what is wrong with their list."""
+    lists = [(number, *WITHOUT.fullmatch(text).groups()) for number, text in enumerate(source.split("\n"), 1) if WITHOUT.fullmatch(text)]
+    if len(lists) != 1:
+        return [], [f"{CITATIONS} has {len(lists) or 'no'} lists of the clauses without a law"]
+    number, count, names = lists[0]
+    names = names.split(" ")
+    wrong = [f"{CITATIONS}:{number}: {name} stands twice in the list of clauses without a law" for name in sorted(set(names)) if names.count(name) > 1]
+    return names, wrong + ([f"{CITATIONS}:{number}: {len(names)} clauses without a law, and the list says {count}"] if len(names) != int(count) else [])
 
 
 def cited(text, number):

@@ -23,7 +23,7 @@ class Definitions:
 
     def pages(self):
         pages, index = {}, Page(DEFINITIONS)
-        crates = [crate for crate in self.order() if any(key[0] == crate for key in self.model.definitions) or self._types(crate)]
+        crates = [crate for crate in self.order() if any(key[0] == crate for key in self.model.definitions) or self.types(crate)]
         for crate in crates:
             pages[f"docs/definitions/{crate}.md"] = self._crate_page(crate)
         for page in pages.values():
@@ -59,7 +59,7 @@ class Definitions:
         order = self._file_order(crate)
         return sorted((key for key in self.model.definitions if key[0] == crate), key=lambda key: order(key[1]))
 
-    def _types(self, crate):
+    def types(self, crate):
         """The types of Rattle of a crate that statements speak of."""
         named = {term.name for term in self.model.terms() if term.kind == "type" and term.crate == crate}
         named |= {name for citations in self.model.cited.values() for one in citations if one.kind == "type" and one.where == crate for name in one.names}
@@ -85,7 +85,7 @@ class Definitions:
                     page.say(self.mark(page, key))
                     page.entries.append((len(page.lines), path, declared.line, terms, key))
                     page.add("", "")
-        types = self._types(crate)
+        types = self.types(crate)
         if types:
             page.heading(2, "Types of Rattle")
             for made in types:

@@ -3,7 +3,7 @@ import re
 from dataclasses import dataclass, field
 
 from antt import result_of
-from citations import CITATIONS, EXCUSES, NAMED, cited
+from citations import CITATIONS, EXCUSES, NAMED, cited, without_a_law
 
 PINS = "docs/definitions.txt"
 # the sorts of definitions without a law: one that has to be read, a text or a table, and the statement of the papers' theorem
@@ -78,7 +78,7 @@ class Pinning:
     """Marks the definitions and the clauses of a model that has been built."""
 
     def __init__(self, model):
-        self.model, self.pins, self.wrong = model, model.pins, []
+        self.model, self.pins, self.wrong, self.without = model, model.pins, [], []
 
     def run(self):
         if not self.model.world.exists(PINS):
@@ -95,8 +95,12 @@ class Pinning:
         lines = sum(pin.lines for pin in self.pins.values() if pin.sort == "primitive")
         if lines > MOST:
             self.wrong.append(f"{PINS}: the primitive definitions have {lines} lines, more than {MOST}")
+        self.without, wrong = without_a_law(self.model.world.read(CITATIONS))
+        self.wrong += wrong
         for clause in self.model.clauses:
             self._clause(clause)
+        names = {clause.name for clause in self.model.clauses}
+        self.wrong += [f"{CITATIONS}: the list of clauses without a law names {name}, which is no clause" for name in self.without if name not in names]
         self.model.wrong += self.wrong
 
     # -- definitions
@@ -202,11 +206,13 @@ class Pinning:
     # -- clauses
 
     def _clause(self, clause):
-        """A clause with a law is pinned; one without is primitive or about the program, and says why."""
+        """A clause with a law is pinned; one without stands in the list of these, is primitive or about the program, and says why."""
         citations = self.model.cited.get(clause.name, [])
         laws = list(dict.fromkeys(key_of(one, name) for one in citations if one.kind == "law" for name in one.names))
         excuses = [one for one in citations if one.kind in EXCUSES]
         said = f"{CITATIONS}: the clause {clause.name}"
+        if bool(laws) == (clause.name in self.without):
+            self.wrong.append(f"{said} {'has a law and stands' if laws else 'has no law and does not stand'} in the list of clauses without a law")
         self.model.marks[clause.name] = Mark(excuses[0].kind, excuses[0].names[0], []) if excuses else Mark("pinned", "", laws)
         if laws and excuses:
             self.wrong.append(f"{said} has a law and needs no line {excuses[0].kind}")

@@ -75,6 +75,11 @@ def with_comment(declared):
     return "\n".join([*(f"{indent}-- {said}".rstrip() for said in declared.comment.split("\n") if declared.comment), declared.text])
 
 
+def is_law(declared):
+    """Whether it is a value that nothing unfolds."""
+    return declared.kind == "value" and not {"abbrev", "unfoldable"} & set(declared.marks)
+
+
 def fields_before(declared, n):
     """The names of a record's fields that its n-th field can speak of."""
     return {one.name for one in declared.members[:n] if one.kind == "field"}
@@ -221,7 +226,7 @@ class Builder:
             yield f"{path} has no public law {name}" if len(found) < 2 else f"{path} declares {name} {len(found)} times"
             return
         law = found[0]
-        if {"abbrev", "unfoldable"} & set(law.marks):
+        if not is_law(law):
             yield f"{name} of {path} is a definition and no law"
             return
         reader = Reader(self._scope(path, file), self.fields)

@@ -7,7 +7,7 @@ from citations import CITATIONS, EXCUSES, SENTENCES, SPECIFICATION
 from defining import Definitions, full
 from pages import Page
 from pinning import PINS, key_of
-from statements import RULED_OUT, TABLE, WRONG_ROUTERS, with_comment
+from statements import RULED_OUT, TABLE, WRONG_ROUTERS, is_law, with_comment
 
 STATEMENTS, ROUTERS, CERTIFICATE = "docs/STATEMENTS.md", "docs/statements/wrong-routers.md", "docs/CERTIFICATE.md"
 OPENED, CLOSED = "<!-- counted by tools/statements -->", "<!-- end of the count -->"
@@ -199,12 +199,8 @@ class Writer:
             if defined:
                 page.heading(2, path.split("/")[-1].removesuffix(".antt"))
                 page.say(file.header.split("\n\n")[0].replace("\n", " "))
-                page.fence("agda", "\n\n".join(with_comment(one) if self._is_law(one) else full(one) for one in defined))
+                page.fence("agda", "\n\n".join(with_comment(one) if is_law(one) else full(one) for one in defined))
         return page
-
-    @staticmethod
-    def _is_law(declared):
-        return declared.kind == "value" and not {"abbrev", "unfoldable"} & set(declared.marks)
 
     def _ruling(self, page):
         """The clause where the law stands that rules them all out."""
