@@ -5,6 +5,7 @@ from functools import cached_property
 
 from antt import result_of
 from citations import CITATIONS, NAMES_BLOCK, SENTENCES, SETTLES, SPECIFICATION, citations_of, sections_of
+from edits import edits_of
 from forms import AWK
 from pinning import Pinning, key_of
 from reading import Reader
@@ -348,4 +349,5 @@ class Builder:
     def _edits(self):
         cited = {f"crates/{one.where}/must-fail/{name}.edit" for citations in self.model.cited.values() for one in citations if one.kind == "edit"
                  for name in one.names}
-        self.model.wrong += [f"{path} is named by no clause in {CITATIONS}" for path in self.world.glob("crates/*/must-fail/*.edit") if path not in cited]
+        self.model.wrong += [f"{edit.path} is named by no clause in {CITATIONS}" for edit in edits_of(self.world) if edit.path not in cited]
+        self.model.wrong += [f"{edit.path}:{said}" for edit in edits_of(self.world) for said in edit.wrong]

@@ -32,16 +32,16 @@ class World:
     def antt(self, path):
         """The file of antt at this path, or None."""
         if path not in self._antt:
-            self._antt[path] = self._file(antt.File, path) if self.exists(path) else None
+            self._antt[path] = self.made(antt.File, path) if self.exists(path) else None
         return self._antt[path]
 
     def rattle(self, crate):
         """The files of Rattle of a crate."""
         if crate not in self._rattle:
-            self._rattle[crate] = [self._file(rattle.File, path) for path in self.sources if path.startswith(f"crates/{crate}/src/") and path.endswith(".rt")]
+            self._rattle[crate] = [self.made(rattle.File, path) for path in self.sources if path.startswith(f"crates/{crate}/src/") and path.endswith(".rt")]
         return self._rattle[crate]
 
-    def _file(self, kind, path):
+    def made(self, kind, path):
         return self._kept(kind, path, self.read(path))
 
     def _kept(self, make, *given):
@@ -54,7 +54,7 @@ class World:
         """What is wrong with the form of the sources and of the lists of statements and definitions."""
         for path in self.sources + LISTS:
             if self.exists(path):
-                yield from (f"{path}:{line}: {said}" for line, said in self._file(wrong_forms, path))
+                yield from (f"{path}:{line}: {said}" for line, said in self.made(wrong_forms, path))
 
     def public_functions(self):
         """How many public functions the gate's own count finds, or what it says instead."""
