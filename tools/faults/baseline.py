@@ -1,9 +1,14 @@
 """Faults that a baseline shows: statements that differ from those of the version before, and a changelog that tells of others. The copy has the baseline of
-its own sources, so that without a fault nothing differs."""
+its own sources, so that without a fault nothing differs, and a version in work."""
 CHANGES, THEOREMS, CITED, PINS = "CHANGELOG.md", "crates/coxeter/proofs/Theorems.antt", "docs/statements.txt", "docs/definitions.txt"
 LAW = "coxeter/proofs/Theorems: window-passes"
 WEAKER = (THEOREMS, "~pub window-passes : ", "pub window-passes : ⊥ → ")
 BOOKS, LISTING, PROGRAMS = "crates/book_format/specs/Books.antt", "crates/programs/src/listing.rt", "crates/programs/src/lib.rt"
+
+
+def in_work(changelog):
+    """The changelog with a version in work."""
+    return changelog if "\n## In work\n" in changelog else changelog.replace("\n## ", "\n## In work\n\n- Nothing yet.\n\n## ", 1)
 
 
 def said(*lines):
@@ -16,7 +21,7 @@ FAULTS = (
     ("a changed law whose line says that it is added", WEAKER, said(f"added law `{LAW}`: it is new."), rf"changed law `{LAW}`: .* says added"),
     ("a changed law whose line gives no reason", WEAKER, said(f"changed law `{LAW}`: "), r"cannot read - changed law"),
     ("a changed law with a line among those of an older version", WEAKER,
-     (CHANGES, "~\\n## 0.9.0\\n", f"\n## 0.9.0\n\n### Statements\n\n- changed law `{LAW}`: it was.\n"), rf"changed law `{LAW}`: no line in"),
+     (CHANGES, "~\\n## [0-9.]+\\n", f"\\g<0>\n### Statements\n\n- changed law `{LAW}`: it was.\n"), rf"changed law `{LAW}`: no line in"),
     ("a line for an unchanged law", *said(f"changed law `{LAW}`: it says more."), rf"law `{LAW}` is not changed since"),
     ("a line for a law that is not there", *said("removed law `coxeter/proofs/Theorems: window-fails`: it said nothing."), r"window-fails` is not removed since"),
     ("two lines for one law", WEAKER, said(f"changed law `{LAW}`: it says less.", f"changed law `{LAW}`: it says more."), rf"law `{LAW}` stands twice"),

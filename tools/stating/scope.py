@@ -1,7 +1,7 @@
 """Says what a word of a file is by its imports and declarations: a definition of specs/, an enum or a struct of Rattle, or a word of the kit. A word that
 is none of these, and a word that proofs/ declares, is an error."""
 import re
-from dataclasses import dataclass
+from typing import NamedTuple
 
 # what every file has without an import
 BUILT_IN = {"→", "×", "Type", "Unit", "tt", "⊥", "absurd", "_", "=", ":", "|", "↦", "⌜", "⌝", "in"}
@@ -15,8 +15,7 @@ NUMERAL = re.compile(r"[0-9](?:_?[0-9])*|0x[0-9a-fA-F](?:_?[0-9a-fA-F])*|0o[0-7]
 KIT_CONSTRUCTORS = {"zero", "suc", "[]", "_∷_", "true", "false", "pos", "negsuc", "none", "some"}
 
 
-@dataclass(frozen=True)
-class Term:
+class Term(NamedTuple):
     kind: str  # definition, type, kit, or wrong: what a wrong router answers
     crate: str  # of the kit: the module; of a wrong router: its path
     file: str  # of a wrong router: its line
