@@ -139,10 +139,10 @@ module _ {M : Type 1} (𝓤 : URA M) (H : Heap 𝓤) (A : Atoms 𝓤) (W : Given
   goes : ent 𝓤 (⋆ 𝓤 H A (‵ Passed ∷ (‵ (flft κ q) ⊛ ‵ ftrue) ∷ [])) (Outer 𝓤 p s E H A .pre to)
   goes = qed W (‵ Passed ∷ (‵ (flft κ q) ⊛ ‵ ftrue) ∷ []) ∵ move ! (1 ∷ 0 ∷ []) $ join ! $ frame ! $ done !
 
-  abbrev Ensured : R .Denot → SProp 𝓤
-  Ensured t = ensured 𝓤 H A (outer p s) (outerClauses 𝓤 p s E) (κ, tt) (r, n) tt t
+  abbrev Promised : R .Denot → SProp 𝓤
+  Promised t = ensured 𝓤 H A (outer p s) (outerClauses 𝓤 p s E) (κ, tt) (r, n) tt t
 
-  tells : (t : R .Denot) → ent 𝓤 (Ensured t) (Said t)
+  tells : (t : R .Denot) → ent 𝓤 (Promised t) (Said t)
   tells t = exE 𝓤 _ (λ ws. snd∗ 𝓤 (sem 𝓤 H A (lasts (outer p s) (κ, tt) (r, n) ws)) (Said t))
 
   -- the answer, and what is said of it, stand at the head of the context afterwards, before and behind the token
@@ -154,6 +154,6 @@ module _ {M : Type 1} (𝓤 : URA M) (H : Heap 𝓤) (A : Atoms 𝓤) (W : Given
       → Seq K W (‵ Passed ∷ (‵ (flft κ q) ⊛ ‵ ftrue) ∷ Γ) (runs C Λ 𝓔 (seq (call f xs d) rest) Q)
   asks t fm known os k =
       use2 W (raw (Outer 𝓤 p s E H A .pre to)) goes $ calls-at t fm (Outer 𝓤 p s E H A) known to os (λ w.
-      use1 W (later (some (λ (a : R .Denot). ((‵ (flft κ q) ⊛ ‵ ftrue) ⊛ ‵ (R .own a (w ∷ []))) ⊛ raw (Ensured a)))) (id⊢ 𝓤 _) $ await t tt $ pick t (λ a.
+      use1 W (later (some (λ (a : R .Denot). ((‵ (flft κ q) ⊛ ‵ ftrue) ⊛ ‵ (R .own a (w ∷ []))) ⊛ raw (Promised a)))) (id⊢ 𝓤 _) $ await t tt $ pick t (λ a.
       split t $ move t (1 ∷ []) $ use1 W (raw (Said a)) (tells a) $ move t (1 ∷ []) $ split t $ move t (1 ∷ []) $
       peeks t R (Is R) (shows 𝓤 H A R) a (w ∷ []) (λ is. move t (2 ∷ 1 ∷ []) $ k w a is)))
