@@ -10,12 +10,14 @@ use window::Answer;
 use window::normal_form_of_inverse;
 use window::normal_form_of_product;
 ghost use mathlib.Core.Path.{_≡_};
+ghost use Prim.Native.Nat.{_≤_};
 ghost use lib.Dec.{leb};
 ghost use lib.ListN.{length};
 ghost use Rattle.coxeter.specs.Kinds.{kindOf};
 ghost use Rattle.coxeter.specs.Windows.{window, product, inverse};
 ghost use Rattle.coxeter.specs.Checks.{RankOf, WordOf, WindowOf};
 ghost use Rattle.coxeter.specs.NormalForm.{normalForm};
+ghost use Rattle.coxeter.specs.Calls.{Yields, writes};
 ghost use Rattle.shortest_words.specs.Allowed.{allows};
 ghost use Rattle.shortest_words.specs.Split.{firstWord, secondWord};
 ghost use Rattle.shortest_words.specs.SplitCalls.{splitOutcome, SplitYields};
@@ -32,6 +34,20 @@ fn has_room(kind: u8, rank: u8, w: &[i8], room: usize) -> bool
         return true;
     }
     form_length(kind, rank, w) <= room
+}
+
+// The normal form of an accepted window's inverse, at the front of an output with room for it. Returns its length. The
+// call below refuses nothing that is accepted and has room, so the other case is not reached.
+fn write_inverse(kind: u8, rank: u8, w: &[i8], out: &mut [u8]) -> usize
+    requires { ⌜ RankOf kind rank × WindowOf (kindOf kind) rank (now w) ⌝ }
+    requires { ⌜ length (normalForm (kindOf kind) rank (inverse (now w))) ≤ length (now out) ⌝ }
+    ensures { λ r. ⌜ Yields (writes 0 (normalForm (kindOf kind) rank (inverse (now (w .entry)))) (now (out .entry)))
+        (Answer.Length r) (now (out .exit)) ⌝ }
+{
+    let Answer::Length(l) = normal_form_of_inverse(kind, rank, w, out) else {
+        return 0;
+    };
+    l
 }
 
 // The two words of an accepted window w, `rest` being the inverse of what is left of it: what was taken off is w
@@ -57,9 +73,7 @@ fn write_parts(
     let Answer::Length(l) = normal_form_of_product(kind, rank, w, rest, first) else {
         return Split::Refused(14);
     };
-    let Answer::Length(m) = normal_form_of_inverse(kind, rank, rest, second) else {
-        return Split::Refused(14);
-    };
+    let m = write_inverse(kind, rank, rest, second);
     Split::Words {
         first: l,
         second: m,

@@ -69,35 +69,40 @@ pub checks-pass : (k n : ℕ) (u v : List ℤ) → RankOf k n → WindowOf (kind
     → (rankRefusal k n then windowRefusal (kindOf k) n u then windowRefusal (kindOf k) n v) ≡ 0
 checks-pass k n u v h a b = then-none _ _ h ∙ then-none _ _ a ∙ b
 
--- two words u and v, each to the front of its output: t says whether the second has room
-module _ (u v first second : List ℕ) (t : Bool) (e : t ≡ leb (length v) (length second)) where
-  pub second-lacks : not t ≡ true → SplitYields (splitOutcome 0 u v first second) (Refused 14) first second
-  second-lacks f =
+-- what a test for room that did not fail says
+pub tested-room : (l room : ℕ) (t : Bool) → t ≡ leb l room → not t ≡ false → l ≤ room
+tested-room l room t e f = leb-true l room (sym e ∙ not-false t f)
+
+-- the answer of a call that no check refuses and that returned a length
+pub answered-length : (r : ℕ) (l out after : List ℕ) (a : Answer) → r ≡ 0 → Yields (writes r l out) a after → (m : ℕ) → a ≡ answer.Length m
+    → Yields (writes 0 l out) (answer.Length m) after
+answered-length r l out after a z y m e = rw (← z, ← e) y
+
+-- two words u and v, each to the front of its output
+module _ (u v first second : List ℕ) where
+  -- t says whether the second has room
+  pub second-lacks : (t : Bool) → t ≡ leb (length v) (length second) → not t ≡ true
+      → SplitYields (splitOutcome 0 u v first second) (Refused 14) first second
+  second-lacks t e f =
       let l : length second < length v = leb-false (length v) (length second) (sym e ∙ not-true t f) in
       elim (decLe (length u) (length first)) [
         | yes g ↦ second-short u v first second (length u) (length v) refl refl g l
         | no g ↦ first-short u v first second (length u) 0 refl (lt-of-not-le g)
       ]
 
-  -- a and x are what the call for the first answered and left, b and y what that for the second did
-  module _ (f : not t ≡ false) (r : ℕ) (z : r ≡ 0) (a : Answer) (x : List ℕ) (p : Yields (writes r u first) a x) where
-    fits : length v ≤ length second
-    fits = leb-true (length v) (length second) (sym e ∙ not-false t f)
-
+  -- a and x are what the call for the first answered and left, m and y what that for the second did
+  module _ (r : ℕ) (z : r ≡ 0) (a : Answer) (x : List ℕ) (p : Yields (writes r u first) a x) where
     pub first-lacks : (s : ℕ) → a ≡ answer.Refused s → SplitYields (splitOutcome 0 u v first second) (Refused 14) x second
     first-lacks s q =
         let d = told-refused r u first x a z p s q in
         rw (d .1) (first-short u v first second (length u) 0 refl (d .0))
 
-    module _ (b : Answer) (y : List ℕ) (o : ℕ) (w : o ≡ 0) (g : Yields (writes o v second) b y) where
-      pub second-never : (s : ℕ) → b ≡ answer.Refused s → ⊥
-      second-never s q = omega (arith, told-refused o v second y b w g s q .0, fits)
-
-      pub both-written : (l m : ℕ) → a ≡ answer.Length l → b ≡ answer.Length m → SplitYields (splitOutcome 0 u v first second) (Words l m) x y
-      both-written l m i j =
-          let c = told-length r u first x a z p l i in
-          let d = told-length o v second y b w g m j in
-          parts-written u v first second l m (c .0) (d .0) (c .1) x y (d .1) (c .2) (d .2)
+    pub both-written : (l m : ℕ) (y : List ℕ) → a ≡ answer.Length l → Yields (writes 0 v second) (answer.Length m) y
+        → SplitYields (splitOutcome 0 u v first second) (Words l m) x y
+    both-written l m y i g =
+        let c = told-length r u first x a z p l i in
+        let d = told-length 0 v second y (answer.Length m) refl g m refl in
+        parts-written u v first second l m (c .0) (d .0) (c .1) x y (d .1) (c .2) (d .2)
 
 -- v is the inverse of w as it was computed, and x what is left of it, as y was stored
 module _ (k n set : ℕ) (w v : List ℤ) (h : RankOf k n) (a : WindowOf (kindOf k) n w) (p : v ≡ inverse w) where
