@@ -52,33 +52,40 @@
  * Every function returns an int64_t. If it is 0 or more, the call was accepted; the number is the
  * length written unless the function's own comment says otherwise. If it is -k, with k from 1 to
  * WINNATHEY_LAST_REFUSAL, the call was refused, and k says why; winnathey_refusal_text has the
- * sentence. Two functions also return WINNATHEY_NONE_FITS or WINNATHEY_NO_FALLBACK, which are
+ * message. Two functions also return WINNATHEY_NONE_FITS or WINNATHEY_NO_FALLBACK, which are
  * results, not refusals; nothing is written. Each function's comment names its refusals, in
  * checking order.
  *
- *    1  The book has 1 byte or more than 65,535 bytes.
- *    2  Two times c, plus 2, exceeds the book's length.
- *    3  An offset is not where the record before it ends (0 for the first), a record runs into the
- *       trailer, or the last record does not end at the trailer (with c = 0, the trailer is not at
- *       byte 0).
- *    4  The preset number is c or more.
- *    5  The kind is not 1, 2 or 3.
- *    6  The rank is outside its kind's range.
- *    7  The word has more than 4,096 letters.
- *    8  A letter is 0 or above the rank.
- *    9  The window's length is not the lane count.
- *   10  An entry is 0, has a size above the lane count, repeats a size, or is negative in kind A.
- *   11  A kind D window has an odd number of negative entries.
- *   12  The place is the word's length or more.
- *   13  The appended book would exceed 65,535 bytes.
- *   14  An output is shorter than the part of the answer that goes there.
- *   15  One of the three lists has fewer places than the rewriting has steps.
- *   16  A bit stands for a step above the rank.
- *   17  The lane count is not n + 1 for A or n for B and D.
- *   18  A second-edition record going back has more than 32 lanes.
- *   19  No word of any length over the allowed steps leads from the first window to the second.
- *   20  The rank is above 19 for A or above 16 for B or D.
- *   21  A preset of kind A and rank 1 is appended.
+ *    1  The book is too short or too long: a book has either no bytes or from 2 to 65,535 bytes.
+ *    2  The book is too short for the number of presets that its last two bytes give.
+ *    3  The book's records and offsets do not fit together: the records must follow one another from
+ *       byte 0 up to the offsets, and each offset must be where its record begins.
+ *    4  There is no preset with this number in the book: presets are numbered from 0.
+ *    5  The kind must be 1 for A, 2 for B or 3 for D.
+ *    6  The rank is out of range for its kind: 1 to 63 for A, 2 to 64 for B, 4 to 64 for D, and in a
+ *       book of the first edition at most 31 for A and 32 for B and D.
+ *    7  The word is too long: a word has at most 4,096 letters.
+ *    8  A letter of the word is out of range: every letter must be at least 1 and at most the rank.
+ *    9  The window has the wrong number of entries: kind A has one more than the rank, kinds B and D
+ *       have as many as the rank.
+ *   10  An entry of the window is wrong: the sizes must be the numbers from 1 to the number of
+ *       entries, each of them once, and in kind A no entry may be negative.
+ *   11  The window has an odd number of negative entries: in kind D the number must be even.
+ *   12  The place is past the end of the word: places are counted from 0, one for each letter.
+ *   13  The new book would be too long: a book has at most 65,535 bytes.
+ *   14  An output is too short for what the call writes to it.
+ *   15  One of the three output lists is too short: each needs room for every step of the rewriting.
+ *   16  The set of allowed steps has a step above the rank: bit 0 stands for step 1, and only the
+ *       bits of steps up to the rank may be set.
+ *   17  The lane count in the record is wrong: it must be one more than the rank for kind A, and the
+ *       rank for kinds B and D.
+ *   18  The book cannot be converted to the first edition: one of its records has more than 32
+ *       lanes.
+ *   19  The second window cannot be reached from the first with the allowed steps.
+ *   20  The rank is too high for a delay table: at most 19 for kind A, and at most 16 for kinds B
+ *       and D.
+ *   21  A preset of kind A and rank 1 cannot be appended: books that have one are read, but get no
+ *       new one.
  *
  * The refusal is that of the first check that fails. The checks come in the order of their
  * numbers, but 16, 17 and 20 right after 6, 18 and 21 right after 8, and 15 and 19 right before
@@ -114,7 +121,7 @@ extern "C" {
 #define WINNATHEY_MAX_NORMAL_FORM 4096  /* letters of a normal form, places of a fallback */
 #define WINNATHEY_MAX_BOOK 65535        /* bytes of a book */
 #define WINNATHEY_MAX_STEPS 8386560     /* steps of a rewriting to its end: L * (L - 1) / 2 */
-#define WINNATHEY_MAX_SENTENCE 256      /* bytes of a refusal's sentence */
+#define WINNATHEY_MAX_MESSAGE 256       /* bytes of a refusal's message */
 #define WINNATHEY_MAX_STACK 16384       /* bytes of stack that a call needs */
 
 #define WINNATHEY_CROSSINGS 3           /* counts that make up a length */
@@ -173,9 +180,9 @@ typedef uint64_t winnathey_size;
 /* The version of the linked library, as WINNATHEY_VERSION_NUMBER. Refused: never. Time: 1. */
 int64_t winnathey_version(void);
 
-/* The sentence of a refusal, in ASCII without a 0 at its end. Returns its length; 0 for a number
+/* The message of a refusal, in ASCII without a 0 at its end. Returns its length; 0 for a number
    that is no refusal. winnathey_refusal_text below ends it with a 0. Refused 14. Time: 1. */
-int64_t winnathey_refusal_sentence(uint32_t refusal, uint8_t *out, winnathey_size out_len);
+int64_t winnathey_refusal_message(uint32_t refusal, uint8_t *out, winnathey_size out_len);
 
 /* ---- words */
 
@@ -404,18 +411,18 @@ int64_t winnathey_to_first(const uint8_t *book, winnathey_size book_len,
 
 /* ---- in this header alone */
 
-/* The sentence of a refusal as a C string: cut to fit, always ended by a 0, and empty for a number
+/* The message of a refusal as a C string: cut to fit, always ended by a 0, and empty for a number
    that is no refusal. It takes the refusal's number, or what a call returned. Returns out, or an
-   empty string if out_len is 0; WINNATHEY_MAX_SENTENCE + 1 is always enough.
+   empty string if out_len is 0; WINNATHEY_MAX_MESSAGE + 1 is always enough.
 
-       char text[WINNATHEY_MAX_SENTENCE + 1];
+       char text[WINNATHEY_MAX_MESSAGE + 1];
        int64_t length = winnathey_length_of_word(kind, rank, word, letters);
        if (length < 0)
            fprintf(stderr, "%s\n", winnathey_refusal_text(length, text, sizeof text));
    */
 static inline const char *winnathey_refusal_text(int64_t refusal, char *out, winnathey_size out_len)
 {
-    uint8_t sentence[WINNATHEY_MAX_SENTENCE];
+    uint8_t message[WINNATHEY_MAX_MESSAGE];
     uint32_t number = 0;
     winnathey_size length, i;
 
@@ -425,11 +432,11 @@ static inline const char *winnathey_refusal_text(int64_t refusal, char *out, win
         number = (uint32_t)refusal;
     else if (refusal < 0 && refusal >= -WINNATHEY_LAST_REFUSAL)
         number = (uint32_t)-refusal;
-    length = (winnathey_size)winnathey_refusal_sentence(number, sentence, sizeof sentence);
+    length = (winnathey_size)winnathey_refusal_message(number, message, sizeof message);
     if (length > out_len - 1)
         length = out_len - 1;
     for (i = 0; i < length; i++)
-        out[i] = (char)sentence[i];
+        out[i] = (char)message[i];
     out[length] = 0;
     return out;
 }

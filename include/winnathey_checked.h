@@ -60,11 +60,11 @@ static inline int64_t winnathey_wrong(const struct winnathey_lent *lent, int cou
             return wrong;                                        \
     } while (0)
 
-static inline int64_t winnathey_checked_refusal_sentence(uint32_t refusal, uint8_t *out,
+static inline int64_t winnathey_checked_refusal_message(uint32_t refusal, uint8_t *out,
                                                          winnathey_size out_len)
 {
     WINNATHEY_CHECK(1, WINNATHEY_OUT(out));
-    return winnathey_refusal_sentence(refusal, out, out_len);
+    return winnathey_refusal_message(refusal, out, out_len);
 }
 
 static inline int64_t winnathey_checked_window_of_word(
@@ -320,7 +320,7 @@ static inline int64_t winnathey_checked_to_first(
 }
 
 /* From here on a call is a checked one. */
-#define winnathey_refusal_sentence winnathey_checked_refusal_sentence
+#define winnathey_refusal_message winnathey_checked_refusal_message
 #define winnathey_window_of_word winnathey_checked_window_of_word
 #define winnathey_normal_form_of_word winnathey_checked_normal_form_of_word
 #define winnathey_product_of_words winnathey_checked_product_of_words

@@ -96,11 +96,11 @@ static void told(const char *call, int64_t answer)
         seen[-answer] = 1;
 }
 
-/* A sentence, which is longer than the outputs below. */
-static void sentence(uint32_t refusal)
+/* A message, which is longer than the outputs below. */
+static void message(uint32_t refusal)
 {
-    char text[WINNATHEY_MAX_SENTENCE];
-    int64_t length = winnathey_refusal_sentence(refusal, (uint8_t *)text, sizeof text);
+    char text[WINNATHEY_MAX_MESSAGE];
+    int64_t length = winnathey_refusal_message(refusal, (uint8_t *)text, sizeof text);
     printf("refusal %" PRIu32 ": %.*s\n", refusal, (int)length, text);
 }
 
@@ -135,17 +135,17 @@ static uint8_t heads[56174]; /* 9,362 records without letters: in the second edi
 static void library(void)
 {
     CALL(winnathey_version());
-    CALL(winnathey_refusal_sentence(5, bytes, ROOM));
-    CALL(winnathey_refusal_sentence(5, bytes, 26));
-    CALL(winnathey_refusal_sentence(5, bytes, 25));
-    CALL(winnathey_refusal_sentence(5, NULL, 0));
-    CALL(winnathey_refusal_sentence(0, bytes, ROOM));
-    CALL(winnathey_refusal_sentence(0, NULL, 0));
-    CALL(winnathey_refusal_sentence(22, bytes, ROOM));
-    CALL(winnathey_refusal_sentence(261, bytes, ROOM));
-    CALL(winnathey_refusal_sentence(UINT32_MAX, bytes, ROOM));
+    CALL(winnathey_refusal_message(5, bytes, ROOM));
+    CALL(winnathey_refusal_message(5, bytes, 45));
+    CALL(winnathey_refusal_message(5, bytes, 44));
+    CALL(winnathey_refusal_message(5, NULL, 0));
+    CALL(winnathey_refusal_message(0, bytes, ROOM));
+    CALL(winnathey_refusal_message(0, NULL, 0));
+    CALL(winnathey_refusal_message(22, bytes, ROOM));
+    CALL(winnathey_refusal_message(261, bytes, ROOM));
+    CALL(winnathey_refusal_message(UINT32_MAX, bytes, ROOM));
     for (uint32_t k = 1; k <= WINNATHEY_LAST_REFUSAL; k++)
-        sentence(k);
+        message(k);
     if (winnathey_version() != WINNATHEY_VERSION_NUMBER) {
         printf("the header is not the library's: %s\n", WINNATHEY_VERSION);
         failed = 1;

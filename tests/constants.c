@@ -81,17 +81,17 @@ static void refusals(void)
     IS(winnathey_rewrite(A, 2, ascending, 2, 0, out, 2, rule, 3), WINNATHEY_NONE_FITS);
     IS(winnathey_fallback(A, 2, ones, 1, two, 1, places, 9), WINNATHEY_NO_FALLBACK);
     for (uint32_t k = 1; k <= WINNATHEY_LAST_REFUSAL; k++)
-        IS(winnathey_refusal_sentence(k, out, WINNATHEY_MAX_SENTENCE) > 0, 1);
-    IS(winnathey_refusal_sentence(WINNATHEY_LAST_REFUSAL + 1, out, WINNATHEY_MAX_SENTENCE), 0);
+        IS(winnathey_refusal_message(k, out, WINNATHEY_MAX_MESSAGE) > 0, 1);
+    IS(winnathey_refusal_message(WINNATHEY_LAST_REFUSAL + 1, out, WINNATHEY_MAX_MESSAGE), 0);
 }
 
-/* The text of a refusal: the library's sentence with a 0 behind it, by the number or by what a call returned, cut where
+/* The text of a refusal: the library's message with a 0 behind it, by the number or by what a call returned, cut where
    the room ends. */
 static void texts(void)
 {
-    char text[WINNATHEY_MAX_SENTENCE + 1], whole[WINNATHEY_MAX_SENTENCE + 1];
+    char text[WINNATHEY_MAX_MESSAGE + 1], whole[WINNATHEY_MAX_MESSAGE + 1];
     for (int k = 1; k <= WINNATHEY_LAST_REFUSAL; k++) {
-        int64_t length = winnathey_refusal_sentence((uint32_t)k, (uint8_t *)whole, WINNATHEY_MAX_SENTENCE);
+        int64_t length = winnathey_refusal_message((uint32_t)k, (uint8_t *)whole, WINNATHEY_MAX_MESSAGE);
         whole[length] = 0;
         IS(winnathey_refusal_text(k, text, sizeof text) == text, 1);
         IS(strcmp(text, whole), 0);

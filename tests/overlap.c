@@ -121,7 +121,7 @@ int main(void)
     IS_NULL(winnathey_crossings_of_word(1, 2, b, 8, NULL, HUGE));
 
     /* NULL with a length above 0, for each pointer of each function. */
-    IS_NULL(winnathey_refusal_sentence(1, NULL, 8));
+    IS_NULL(winnathey_refusal_message(1, NULL, 8));
     IS_NULL(winnathey_window_of_word(1, 2, NULL, 8, l, 8));
     IS_NULL(winnathey_window_of_word(1, 2, b, 8, NULL, 8));
     IS_NULL(winnathey_normal_form_of_word(1, 2, NULL, 8, b, 8));
@@ -214,7 +214,7 @@ int main(void)
     APART(winnathey_same(1, 2, NULL, 0, 1, 2, b, 8));
     APART(winnathey_book_check(NULL, 0));
     APART(winnathey_append(NULL, 0, 1, 2, NULL, 0, b, 64));
-    APART(winnathey_refusal_sentence(0, NULL, 0));
+    APART(winnathey_refusal_message(0, NULL, 0));
     printf("%s\n", failed ? "failed" : "overlap and NULL: found where they are, and nowhere else");
     return failed;
 }

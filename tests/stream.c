@@ -437,7 +437,7 @@ static void call(void)
     }
     case 31: {
         uint32_t refusal = once_in(10) ? (uint32_t)next() : below(24), room = lend(BYTES, 256);
-        took(34, winnathey_refusal_sentence(refusal, bytes, room));
+        took(34, winnathey_refusal_message(refusal, bytes, room));
         break;
     }
     default:

@@ -112,12 +112,12 @@ export const Refused: {
 
 /** A call that the library refused. */
 export class Refusal extends Error {
-    constructor(number: number, sentence: string, place?: number | null);
+    constructor(number: number, text: string, place?: number | null);
     readonly name: 'Refusal';
     /** The refusal's number: one of `Refused`. */
     readonly number: number;
-    /** What it says, as a sentence. */
-    readonly sentence: string;
+    /** What it says, as the library words it. */
+    readonly text: string;
     /** Of `appendAll` the place of the preset in the list, from 0; otherwise null. */
     readonly place: number | null;
 }
@@ -160,6 +160,6 @@ export class Winnathey {
     replace(edition: Edition, book: Book, number: number, kind: Kind, rank: number, word: Word): Uint8Array;
     moveTo(edition: Edition, book: Book, from: number, to: number): Uint8Array;
     convert(edition: Edition, book: Book): Uint8Array;
-    refusalSentence(number: number): string;
+    refusalMessage(number: number): string;
     version(): string;
 }

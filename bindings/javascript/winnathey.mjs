@@ -8,7 +8,7 @@
  *     w.normalFormOfWord('d', 5, '4 4 2 5 3 5 1 2');         // the same
  *
  * Every function takes plain arrays, typed arrays or texts of numbers, and returns new arrays; nothing is kept between
- * calls. A call that the library refuses throws a `Refusal` with the refusal's number and sentence; `Refused` has the
+ * calls. A call that the library refuses throws a `Refusal` with the refusal's number and message; `Refused` has the
  * numbers by name. What is no kind, byte, step or place at all never reaches the library: it throws a `TypeError` or a
  * `RangeError` that names the argument.
  *
@@ -122,8 +122,8 @@ export const Refused = Object.freeze({
 /** What the calls return if no rule fits, and if there is no fallback. */
 const NONE_FITS = -100;
 const NO_FALLBACK = -101;
-/** Room for the longest sentence of a refusal. */
-const MAX_SENTENCE = 256;
+/** Room for the longest message of a refusal. */
+const MAX_MESSAGE = 256;
 /** The most counts of a delay table. */
 const MAX_COUNTS = 257;
 /** How many numbers the library gives for each preset of a list. */
@@ -137,16 +137,16 @@ const MAX_RECORD = 5 + MAX_WORD;
 export class Refusal extends Error {
     /**
      * @param {number} number the refusal's number, from 1 to 21
-     * @param {string} sentence what it says
+     * @param {string} text what it says
      * @param {?number} [place] which of several presets it concerns, from 0
      */
-    constructor(number, sentence, place = null) {
-        super(`refused ${number}: ${sentence}${place === null ? '' : ` (preset ${place} of the list)`}`);
+    constructor(number, text, place = null) {
+        super(`refused ${number}: ${text}${place === null ? '' : ` (preset ${place} of the list)`}`);
         this.name = 'Refusal';
         /** The refusal's number, from 1 to 21: one of `Refused`. */
         this.number = number;
-        /** What it says, as a sentence. */
-        this.sentence = sentence;
+        /** What it says, as the library words it. */
+        this.text = text;
         /** Of `appendAll` the place of the preset in the list, from 0; otherwise null. */
         this.place = place;
     }
@@ -414,7 +414,7 @@ export class Winnathey {
     }
 
     #refusal(number, place = null) {
-        return new Refusal(number, this.refusalSentence(number), place);
+        return new Refusal(number, this.refusalMessage(number), place);
     }
 
     // ---- words
@@ -920,14 +920,14 @@ export class Winnathey {
     // ---- the library itself
 
     /**
-     * The sentence of a refusal, from the library; empty for a number that is no refusal.
+     * The message of a refusal, from the library; empty for a number that is no refusal.
      * @param {number} number
      * @returns {string}
      */
-    refusalSentence(number) {
+    refusalMessage(number) {
         const m = this.#memory.look();
         integer('number', number, 0, 0xffffffff);
-        const length = Number(m.calls.winnathey_refusal_sentence(number, m.base + OUT, BigInt(MAX_SENTENCE)));
+        const length = Number(m.calls.winnathey_refusal_message(number, m.base + OUT, BigInt(MAX_MESSAGE)));
         return String.fromCharCode(...m.bytes(OUT, length));
     }
 

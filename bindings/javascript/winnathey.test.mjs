@@ -19,9 +19,9 @@ function refusal(call) {
     } catch (error) {
         assert.ok(error instanceof Refusal, String(error));
         assert.equal(error.name, 'Refusal');
-        assert.equal(error.sentence, w.refusalSentence(error.number));
+        assert.equal(error.message, w.refusalMessage(error.number));
         const place = error.place === null ? '' : ` (preset ${error.place} of the list)`;
-        assert.equal(error.message, `refused ${error.number}: ${error.sentence}${place}`);
+        assert.equal(error.message, `refused ${error.number}: ${error.message}${place}`);
         return error.number;
     }
     return 0;
@@ -323,7 +323,7 @@ test('no more of a list is read than the library has to see', () => {
 
 // ---- every refusal
 
-test('every refusal, by its number and sentence', () => {
+test('every refusal, by its number and message', () => {
     const full = new Uint8Array(65533);
     full.set([1, 2, 0xf5, 0xff]); // one record of 65,525 letters
     full[65531] = 1;
@@ -365,14 +365,14 @@ test('every refusal, by its number and sentence', () => {
     assert.deepEqual(seen, Array.from({ length: 21 }, (_, i) => i + 1));
 });
 
-test('the sentences are those of CALLS.md', () => {
+test('the messages are those of CALLS.md', () => {
     const page = readFileSync(new URL('docs/CALLS.md', root), 'utf8');
     const section = page.split('\n## Refusals\n')[1].split('\n## ')[0];
     const rows = [...section.matchAll(/^\| (\d+) \| (.*) \|$/gm)];
     assert.equal(rows.length, 21);
-    for (const [, number, sentence] of rows) assert.equal(w.refusalSentence(Number(number)), sentence);
-    for (const number of [0, 22, 261, 0xffffffff]) assert.equal(w.refusalSentence(number), '');
-    assert.throws(() => w.refusalSentence(-1), RangeError);
+    for (const [, number, message] of rows) assert.equal(w.refusalMessage(Number(number)), message);
+    for (const number of [0, 22, 261, 0xffffffff]) assert.equal(w.refusalMessage(number), '');
+    assert.throws(() => w.refusalMessage(-1), RangeError);
 });
 
 test('a refused call leaves the library as it was', () => {
@@ -509,9 +509,9 @@ test('the calls of tests/calls.c have their stored answers', () => {
     };
     const called = new Set();
     for (const line of stored) {
-        const sentence = line.match(/^refusal (\d+): (.*)$/);
-        if (sentence) {
-            assert.equal(w.refusalSentence(Number(sentence[1])), sentence[2]);
+        const message = line.match(/^refusal (\d+): (.*)$/);
+        if (message) {
+            assert.equal(w.refusalMessage(Number(message[1])), message[2]);
             continue; // it is written where the outputs lie, which are filled anew below
         }
         const [, text, name, list] = line.match(/^((\w+)\((.*)\)) = /);

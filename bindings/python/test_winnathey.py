@@ -117,9 +117,9 @@ class Calls(unittest.TestCase):
     def test_library(self):
         self.assertEqual(w.version(), re.search(r'#define WINNATHEY_VERSION "(.*)"', header()).group(1))
         self.assertEqual(w.__version__, w.version())
-        self.assertEqual(w.refusal_sentence(5), "The kind is not 1, 2 or 3.")
-        self.assertEqual(w.refusal_sentence(0), "")
-        self.assertEqual(w.refusal_sentence(22), "")
+        self.assertEqual(w.refusal_message(5), "The kind must be 1 for A, 2 for B or 3 for D.")
+        self.assertEqual(w.refusal_message(0), "")
+        self.assertEqual(w.refusal_message(22), "")
 
 
 class Refusals(unittest.TestCase):
@@ -153,13 +153,13 @@ class Refusals(unittest.TestCase):
                     call()
                 self.assertEqual(caught.exception.number, number)
 
-    def test_sentences(self):
+    def test_messages(self):
         table = re.search(r"(?s)\n \* +1  The book has.*?\n \*\n", header()).group()
         said = re.findall(r"\n \* {2,4}(\d+)  ((?:.|\n \* {7})*)", table)
         self.assertEqual([int(number) for number, _ in said], list(range(1, 22)))
-        for number, sentence in said:
-            sentence = re.sub(r"\s*\n \* *", " ", sentence)
-            self.assertEqual(w.refusal_sentence(int(number)), sentence)
+        for number, message in said:
+            message = re.sub(r"\s*\n \* *", " ", message)
+            self.assertEqual(w.refusal_message(int(number)), message)
 
     def test_names(self):
         constants = re.findall(r"#define WINNATHEY_REFUSED_(\w+) (\d+)", header())
@@ -171,11 +171,11 @@ class Refusals(unittest.TestCase):
 
     def test_exception(self):
         refusal = w.Refusal(8)
-        self.assertEqual(str(refusal), "refused 8: " + refusal.sentence)
+        self.assertEqual(str(refusal), "refused 8: " + refusal.message)
         self.assertIsInstance(refusal, ValueError)
         self.assertEqual(pickle.loads(pickle.dumps(refusal)), refusal)
         placed = w.Refusal(8, 3)
-        self.assertEqual(str(placed), "refused 8: " + refusal.sentence + " (preset 3 of the list)")
+        self.assertEqual(str(placed), "refused 8: " + refusal.message + " (preset 3 of the list)")
         self.assertEqual(pickle.loads(pickle.dumps(placed)), placed)
         self.assertNotEqual(placed, refusal)
 
@@ -365,7 +365,7 @@ class Arguments(unittest.TestCase):
             lambda: w.split("A", 2, yes, word),
             lambda: w.split("A", 2, [yes], word),
             lambda: w.between("A", 2, yes, window, window),
-            lambda: w.refusal_sentence(yes),
+            lambda: w.refusal_message(yes),
         ):
             with self.assertRaisesRegex(TypeError, "^the .* (must be an integer, got True|is True and no list)$"):
                 call()

@@ -6,7 +6,7 @@ with one window the normal form is the shortest, and among those the first in th
 HIGHER step comes first.
 
 The functions call a library whose answers are proved; what it cannot answer it refuses with a number and a
-sentence, raised as `Refusal`. Nothing is left to the caller to check.
+message, raised as `Refusal`. Nothing is left to the caller to check.
 
 >>> window_of_word("D", 5, [4, 4, 2, 5, 3, 5, 1, 2])
 [3, -5, 1, 4, -2]
@@ -15,7 +15,7 @@ sentence, raised as `Refusal`. Nothing is left to the caller to check.
 >>> window_of_word("B", 2, [1, 2, 3])
 Traceback (most recent call last):
     ...
-winnathey.Refusal: refused 8: A letter is 0 or above the rank.
+winnathey.Refusal: refused 8: A letter of the word is out of range: every letter must be at least 1 and at most the rank.
 
 Kinds are "A", "B" and "D", large or small, or 1, 2 and 3. Words and windows are lists of numbers, or texts of
 numbers with blanks or commas between them; a set of allowed steps is a list of steps, a text, or a number whose
@@ -63,7 +63,7 @@ __all__ = [
     "inverse_of_word", "inverse_of_window", "length_of_word", "length_of_window", "crossings_of_word",
     "crossings_of_window", "delay_table", "same", "better", "rewrite", "rewrite_steps", "rewrite_to_end",
     "fallback", "split", "between", "book_check", "preset", "presets", "append", "append_all", "remove", "replace",
-    "move_to", "convert", "refusal_sentence", "version",
+    "move_to", "convert", "refusal_message", "version",
 ]
 
 Kind = Union[str, int]
@@ -116,19 +116,19 @@ class Refused(IntEnum):
 
 
 class Refusal(ValueError):
-    """A call was refused, and changed nothing. `number` and `sentence` say why; `place` says which preset of the
+    """A call was refused, and changed nothing. `number` and `message` say why; `place` says which preset of the
     list `append_all` was given is refused, counted from 0, and is None for all other calls."""
 
     number: Refused
-    sentence: str
+    message: str
     place: Optional[int]
 
     def __init__(self, number: int, place: Optional[int] = None) -> None:
         self.number = Refused(number)
-        self.sentence = refusal_sentence(number)
+        self.message = refusal_message(number)
         self.place = place
         where = "" if place is None else f" (preset {place} of the list)"
-        super().__init__(f"refused {int(number)}: {self.sentence}{where}")
+        super().__init__(f"refused {int(number)}: {self.message}{where}")
 
     def __reduce__(self) -> Tuple[Type[Refusal], Tuple[int, Optional[int]]]:
         return Refusal, (int(self.number), self.place)
@@ -253,7 +253,7 @@ _CALLS = {
     "second_append": "buubb",
     "to_second": "bb",
     "to_first": "bb",
-    "refusal_sentence": "ub",
+    "refusal_message": "ub",
     "version": "",
 }
 _NUMBERS = {"u": c_uint32, "z": c_uint64, "q": c_uint64}
@@ -284,7 +284,7 @@ _c = _functions(_open())
 # Outputs: room for a word, a window, numbers, places and a book. Each call has its own, for threads.
 _Letters: Any = c_char * MAX_WORD
 _Entries: Any = c_char * MAX_LANES
-_Sentence: Any = c_char * 256
+_Message: Any = c_char * 256
 _Three: Any = c_uint64 * 3
 _Counts: Any = c_uint64 * MAX_COUNTS
 _Places: Any = ctypes.c_uint16 * MAX_WORD
@@ -758,10 +758,10 @@ def move_to(edition: int, book: Book, from_number: int, to_number: int) -> bytes
 # ---- about the library
 
 
-def refusal_sentence(number: int) -> str:
+def refusal_message(number: int) -> str:
     """Why a call is refused with this number; empty for a number that is no refusal."""
-    out = _Sentence()
-    length = _c.refusal_sentence(_number(number, 2**32, "the refusal"), out, 256)
+    out = _Message()
+    length = _c.refusal_message(_number(number, 2**32, "the refusal"), out, 256)
     return bytes(out[: max(length, 0)]).decode("ascii")
 
 

@@ -110,14 +110,14 @@ impl Failure {
                 fields.push(("file", name.trim_matches('\'').into()));
                 fields.push(("error", error.to_string().into()));
             }
-            other => fields.push(("error", other.sentence().into())),
+            other => fields.push(("error", other.message().into())),
         }
         fields
     }
 
-    fn sentence(&self) -> String {
+    fn message(&self) -> String {
         match self {
-            Failure::Unwilling(sentence) => sentence.clone(),
+            Failure::Unwilling(message) => message.clone(),
             Failure::Unsaid(file, error) => {
                 format!("{file} is written, but standard output, which was to say so, failed: {error}")
             }
@@ -131,7 +131,7 @@ impl Failure {
 pub fn refused(refusal: Refusal, culprit: &Option<String>) -> [(&'static str, Value); 1] {
     let value = object([
         ("number", refusal.number().into()),
-        ("meaning", refusal.sentence().to_string().into()),
+        ("meaning", refusal.message().to_string().into()),
         ("culprit", optional(culprit.as_ref())),
     ]);
     [("refused", value)]
@@ -159,7 +159,7 @@ impl fmt::Display for Failure {
             }
             Failure::File(name, error) => writeln!(f, "winnathey: {name}: {error}"),
             Failure::ClosedPipe => Ok(()),
-            other => writeln!(f, "winnathey: {}", other.sentence()),
+            other => writeln!(f, "winnathey: {}", other.message()),
         }
     }
 }

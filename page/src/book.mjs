@@ -31,8 +31,8 @@ export function verdictTexts(verdicts, edition) {
     const other = 3 - edition;
     const [chosen, others] = [verdicts[edition], verdicts[other]];
     const head = `As the ${editionName(edition)}: `;
-    const first = chosen.refusal ? `${head}refused. ${chosen.refusal.sentence}` : `${head}${counted(chosen.value, 'preset')}.`;
-    if (others.refusal && chosen.refusal) return [first, `As the ${editionName(other)}: refused. ${others.refusal.sentence}`];
+    const first = chosen.refusal ? `${head}refused. ${chosen.refusal.text}` : `${head}${counted(chosen.value, 'preset')}.`;
+    if (others.refusal && chosen.refusal) return [first, `As the ${editionName(other)}: refused. ${others.refusal.text}`];
     if (others.refusal) return [first, `As the ${editionName(other)} the file would be refused.`];
     const only = chosen.refusal ? 'only' : 'too';
     return [first, `These bytes pass as the ${editionName(other)} ${only}: ${counted(others.value, 'preset')}.`];
@@ -171,7 +171,7 @@ export class BookPanel {
 
     #refusedRow({ number, refusal }) {
         return make('li', { class: number === this.culprit ? 'culprit' : '', 'data-preset': number, 'data-refusal': refusal.number },
-            make('span', { class: 'number' }, String(number)), make('span', { class: 'refusal' }, refusal.sentence));
+            make('span', { class: 'number' }, String(number)), make('span', { class: 'refusal' }, refusal.text));
     }
 
     #row(preset) {

@@ -9,11 +9,11 @@ import { added, culpritOf, moved, removed, sameLetters } from './words.mjs';
 /** What a typed word is: its letters, or what is wrong with it and where in the text. */
 export function judged(library, kind, rank, text) {
     const { letters, spans, strange } = parsedWord(text);
-    if (strange) return { letters: null, fault: { ...strange, sentence: `'${strange.text}' is no number.`, number: null } };
+    if (strange) return { letters: null, fault: { ...strange, message: `'${strange.text}' is no number.`, number: null } };
     const { refusal } = attempt(() => library.window(kind, rank, letters));
     if (!refusal) return { letters, fault: null };
     const at = culpritOf(library, kind, rank, letters, refusal);
-    return { letters: null, fault: { ...spans[at], at, sentence: refusal.sentence, number: refusal.number } };
+    return { letters: null, fault: { ...spans[at], at, message: refusal.text, number: refusal.number } };
 }
 
 export class Composing {
@@ -40,7 +40,7 @@ export class Composing {
         const { library, state, store } = this.app;
         const word = added(state.word, step);
         const { refusal } = attempt(() => library.window(state.kind, state.rank, word));
-        if (refusal) return this.#sayAdd(refusal.sentence);
+        if (refusal) return this.#sayAdd(refusal.text);
         this.app.ui.selected = word.length - 1;
         store.change({ word });
         return true;
@@ -99,7 +99,7 @@ export class Composing {
         byId('word-marks').innerHTML = fault ? `${part(0, fault.start)}<mark>${part(fault.start, fault.end)}</mark>${part(fault.end)}` : '';
         byId('word-marks').scrollTop = field.scrollTop;
         const place = fault?.at === undefined ? '' : `Letter ${fault.at + 1}: `;
-        setText(byId('word-message'), fault ? `${place}${fault.sentence} The picture stays as it was.` : '');
+        setText(byId('word-message'), fault ? `${place}${fault.message} The picture stays as it was.` : '');
     }
 
     /** The word as text. Text that was refused stays as it was typed until the word changes; another rig may accept it. */

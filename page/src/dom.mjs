@@ -39,7 +39,7 @@ export function fromMarkup(markup) {
 
 /** A refusal as the library says it, with a remark of ours in the words of the trade. */
 export function refusalLine(refusal, remark = '') {
-    const line = make('p', { class: 'refusal', role: 'alert', 'data-refusal': refusal.number }, refusal.sentence);
+    const line = make('p', { class: 'refusal', role: 'alert', 'data-refusal': refusal.number }, refusal.text);
     if (remark) line.append(' ', make('span', { class: 'remark' }, remark));
     return line;
 }

@@ -17,7 +17,7 @@ const RANKS = Array.from({ length: 256 }, (_, rank) => rank);
 export function callsOf(w) {
     const calls = {
         version: () => w.version(),
-        sentence: number => w.refusalSentence(number),
+        message: number => w.refusalMessage(number),
         window: (kind, rank, word) => w.windowOfWord(kind, rank, word),
         normalForm: (kind, rank, word) => w.normalFormOfWord(kind, rank, word),
         crossings: (kind, rank, word) => w.crossingsOfWord(kind, rank, word),

@@ -206,7 +206,7 @@ class App {
     saveBook(asked = false) {
         const { book } = this.state;
         const { refusal } = verdictsOf(this.library, book.bytes)[book.edition];
-        if (refusal) return this.notice(`${book.name} is not saved: ${refusal.sentence} The file on the disk stays as it is.`);
+        if (refusal) return this.notice(`${book.name} is not saved: ${refusal.text} The file on the disk stays as it is.`);
         if (this.store.wordUnsaved && !asked) {
             return this.notice('The present word is not in the book yet.',
                 button('Append it and save', () => this.#appendAndSave()), button('Save without it', () => this.saveBook(true)));

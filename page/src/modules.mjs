@@ -72,7 +72,7 @@ export class ModulesPanel {
         this.refused = null;
         if (letters) return store.change({ simpler: letters });
         const place = fault.at === undefined ? '' : `Letter ${fault.at + 1} (${this.field.value.slice(fault.start, fault.end)}): `;
-        this.#refuse(make('p', { class: 'refusal', role: 'alert' }, place + fault.sentence));
+        this.#refuse(make('p', { class: 'refusal', role: 'alert' }, place + fault.message));
     }
 
     update() {

@@ -48,7 +48,7 @@ export class RigFields {
         const wrong = !Number.isInteger(rank) || rank < 0 || rank > 255 ? 255 : rank;
         const { refusal } = attempt(() => library.window(state.kind, wrong, []));
         if (!refusal) return this.#take(state.kind, rank);
-        this.#say(`${refusal.sentence} ${this.#range()}`);
+        this.#say(`${refusal.text} ${this.#range()}`);
         this.rank.setAttribute('aria-invalid', 'true');
     }
 
@@ -60,7 +60,7 @@ export class RigFields {
     #take(kind, rank) {
         const { change, refusal } = inRig(this.app.library, this.app.state, kind, rank);
         this.app.store.change(change);
-        if (refusal) this.#say(`The word does not fit this rig and was set aside: ${refusal.sentence} Undo brings it back.`);
+        if (refusal) this.#say(`The word does not fit this rig and was set aside: ${refusal.text} Undo brings it back.`);
     }
 
     #say(text) {

@@ -21,7 +21,7 @@ test('the sentences about a book name either edition', () => {
     assert.deepEqual(verdictTexts(verdictsOf(library, first), 1), ['As the first edition: 1 preset.', 'As the second edition the file would be refused.']);
     assert.match(verdictTexts(verdictsOf(library, first), 2)[1], /pass as the first edition only: 1 preset/);
     assert.match(verdictTexts(verdictsOf(library, none), 2)[1], /pass as the first edition too: 0 presets/);
-    assert.deepEqual(verdictTexts(verdictsOf(library, [1]), 1), [`As the first edition: refused. ${library.sentence(1)}`, `As the second edition: refused. ${library.sentence(1)}`]);
+    assert.deepEqual(verdictTexts(verdictsOf(library, [1]), 1), [`As the first edition: refused. ${library.message(1)}`, `As the second edition: refused. ${library.message(1)}`]);
     assert.equal(chosenEdition(verdictsOf(library, first), 2), 1);
     assert.equal(chosenEdition(verdictsOf(library, none), 2), 2);
 });

@@ -183,7 +183,7 @@ class TenPoints(PageTest):
         self.write("name of source 1", "rear view")
         self.write("name of screen 2", "left mirror")
         self.write("Rank", "3")
-        self.assertIn(self.library("sentence", 6), self.text("rig-message"))
+        self.assertIn(self.library("message", 6), self.text("rig-message"))
         self.assertEqual(self.js("return app.state.rank"), 5)
         self.load()
         self.assertEqual(self.labelled("name of source 1").get_attribute("value"), "rear view")
@@ -245,26 +245,26 @@ class TenPoints(PageTest):
 
     def test_03_wrong_letter_is_marked(self):
         self.word("4 4 2")
-        for text, mark, sentence in [("4 4 9 2", "9", self.library("sentence", 8)), ("4 x 2", "x", "'x' is no number."), ("0", "0", self.library("sentence", 8))]:
+        for text, mark, message in [("4 4 9 2", "9", self.library("message", 8)), ("4 x 2", "x", "'x' is no number."), ("0", "0", self.library("message", 8))]:
             self.word(text)
             self.assertEqual(self.js("return document.querySelector('#word-marks mark').textContent"), mark)
-            self.assertIn(sentence, self.text("word-message"))
+            self.assertIn(message, self.text("word-message"))
             self.assertEqual(self.letters(), [4, 4, 2])
         self.word(self.long_word(5, 4097))
-        self.assertIn(self.library("sentence", 7), self.text("word-message"))
+        self.assertIn(self.library("message", 7), self.text("word-message"))
         self.word("4 4 6")
         self.driver.find_element(By.CSS_SELECTOR, ".chip").click()
         self.assertEqual(self.labelled("Word").get_attribute("value"), "4 4 6")
         self.write("Rank", "6")
         self.assertEqual((self.letters(), self.text("word-message")), ([4, 4, 6], ""))
         self.write("Rank", "5")
-        self.assertIn(self.library("sentence", 8), self.text("rig-message"))
+        self.assertIn(self.library("message", 8), self.text("rig-message"))
         self.press("Undo")
         self.assertEqual(self.letters(), [4, 4, 6])
         self.word("4 4 2")
         self.write("Rank", "5")
         self.labelled("Add step").send_keys("9", Keys.ENTER)
-        self.assertEqual(self.text("add-message"), self.library("sentence", 8))
+        self.assertEqual(self.text("add-message"), self.library("message", 8))
         self.assertEqual(self.letters(), [4, 4, 2])
 
     def test_03_undo_takes_refused_text_back_first(self):
@@ -335,7 +335,7 @@ class TenPoints(PageTest):
 
     def refused(self, number):
         line = self.js("return document.querySelector('.panel:not([hidden]) .refusal')")
-        self.assertIn(self.library("sentence", number), line.text)
+        self.assertIn(self.library("message", number), line.text)
         self.assertGreater(len(self.js("return document.querySelectorAll('.culprit')")), 0)
 
     def test_04_source_dragged_in_the_picture(self):
@@ -376,13 +376,13 @@ class TenPoints(PageTest):
         self.write("Word of the simpler preset", "4")
         self.assertTrue(self.text("fallback-answer").startswith("No:"))
         self.write("Word of the simpler preset", "9")
-        self.assertIn(self.library("sentence", 8), self.panel().text)
+        self.assertIn(self.library("message", 8), self.panel().text)
         self.press("Wanted picture")
         self.press("Set all screens straight")
         Select(self.labelled("source on screen 3")).select_by_value("2")
         self.settle()
         line = self.js("return document.querySelector('#panel-wanted .refusal')").text
-        self.assertIn(self.library("sentence", 19), line)
+        self.assertIn(self.library("message", 19), line)
         self.assertIn("module 2 locked", line)
 
     def test_05_quick_locks_and_refusals_that_stay(self):
@@ -393,14 +393,14 @@ class TenPoints(PageTest):
         self.assertEqual(self.js("return app.state.locked"), [1, 2])
         self.rig("D", 5)
         self.write("Word of the simpler preset", "9")
-        self.assertIn(self.library("sentence", 8), self.panel().text)
+        self.assertIn(self.library("message", 8), self.panel().text)
         self.rig("D", 10)
         self.assertTrue(self.text("fallback-answer").startswith("Yes"))
         self.press("Wanted picture")
         self.press("mirror the view on screen 1")
         self.press("Modules")
         self.press("Take the wanted picture")
-        self.assertIn(self.library("sentence", 11), self.panel().text)
+        self.assertIn(self.library("message", 11), self.panel().text)
         self.assertIn("mirror one view more", self.panel().text)
 
     def test_06_why(self):
@@ -449,7 +449,7 @@ class TenPoints(PageTest):
             self.assertEqual(shown, table)
         for kind, rank in RIGS[3:]:
             self.rig(kind, rank)
-            self.assertIn(self.library("sentence", 20), self.panel().text)
+            self.assertIn(self.library("message", 20), self.panel().text)
 
     def test_09_sheet(self):
         for kind, rank in RIGS:
@@ -654,22 +654,22 @@ class Books(PageTest):
         self.drop(("old.book", self.BOOK))
         self.rig("D", 64)
         self.press("Append the present preset")
-        self.assertIn(self.library("sentence", 6), self.text("book-message"))
+        self.assertIn(self.library("message", 6), self.text("book-message"))
         self.assertFalse(self.text("book-title").endswith("*"))
         book = bytes(self.js("return [...app.library.append(2, app.library.append(2, [], 'A', 3, [1]), 'D', 64, [1])]"))
         self.drop(("wide.book", book))
         self.press("Convert to the first edition")
-        self.assertIn(self.library("sentence", 18), self.text("book-message"))
+        self.assertIn(self.library("message", 18), self.text("book-message"))
         self.assertEqual(self.js("return document.querySelector('#presets .culprit').dataset.preset"), "1")
         self.drop(("large.book", bytes(70000)))
-        self.assertIn(self.library("sentence", 1), self.text("book-verdict"))
+        self.assertIn(self.library("message", 1), self.text("book-verdict"))
         self.assertTrue(self.js("return ['save', 'append', 'convert', 'save-book'].every(id => document.getElementById(id).disabled)"))
         self.drop(("wrong.names", b"source 1 sky\nsource 0 sky\n"))
         self.assertIn("line 2", self.text("notice"))
         self.rig("A", 1)
         self.press("New book")
         self.press("Append the present preset")
-        self.assertIn(self.library("sentence", 21), self.text("book-message"))
+        self.assertIn(self.library("message", 21), self.text("book-message"))
 
     def test_07_opened_by_the_field(self):
         folder = ROOT / "tests/books/both"

@@ -19,7 +19,7 @@ test('spaces and commas separate, and what is no number is told with its place',
 test('the letter that a word is refused for is marked at its place', () => {
     const { letters, fault } = judged(library, 'D', 5, '1 2 12 6 9');
     assert.equal(letters, null);
-    assert.deepEqual({ ...fault }, { start: 4, end: 6, at: 2, sentence: library.sentence(8), number: 8 });
+    assert.deepEqual({ ...fault }, { start: 4, end: 6, at: 2, message: library.message(8), number: 8 });
     assert.equal(judged(library, 'D', 5, '0').fault.at, 0);
     assert.equal(judged(library, 'D', 5, '1 0').fault.at, 1);
     const long = judged(library, 'A', 3, Array(4100).fill(1).join(' ')).fault;

@@ -69,7 +69,7 @@ try {
 } catch (error) {
     if (!(error instanceof Refusal)) throw error;
     const place: number | null = error.place;
-    assert(error.number === Refused.LETTER && place === null && error.sentence === w.refusalSentence(error.number), 'the refusal');
+    assert(error.number === Refused.LETTER && place === null && error.text === w.refusalMessage(error.number), 'the refusal');
 }
 equal([MAX_LANES, MAX_WORD, MAX_NORMAL_FORM, MAX_BOOK], [64, 4096, 4096, 65535], 'the limits');
 assert(w.exports.memory instanceof WebAssembly.Memory && /^\d+\.\d+\.\d+$/.test(w.version()), 'the module');

@@ -60,7 +60,7 @@ except winnathey.Refusal as refusal:
     number: winnathey.Refused = refusal.number
     place: Optional[int] = refusal.place
     assert number is winnathey.Refused.LETTER and place is None
-    assert refusal.sentence == winnathey.refusal_sentence(number)
+    assert refusal.message == winnathey.refusal_message(number)
 limits: List[int] = [winnathey.MAX_LANES, winnathey.MAX_WORD, winnathey.MAX_COUNTS, winnathey.MAX_BOOK]
 assert limits == [64, 4096, 257, 65535]
 version: str = winnathey.version()

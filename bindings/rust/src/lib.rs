@@ -55,7 +55,7 @@ pub use group::{DelayTable, Group, ParseGroupError, Rewrite, RewriteStep, Rewrit
 pub use kind::{Kind, ParseKindError};
 pub use lent::Crossings;
 pub use list::ListError;
-pub use refusal::{Refusal, Sentence};
+pub use refusal::{Message, Refusal};
 pub use steps::Steps;
 pub use window::Window;
 #[cfg(feature = "alloc")]

@@ -228,7 +228,7 @@ mod c {
         ) -> i64;
         pub fn winnathey_to_second(book: *const u8, book_len: usize, out: *mut u8, out_len: usize) -> i64;
         pub fn winnathey_to_first(book: *const u8, book_len: usize, out: *mut u8, out_len: usize) -> i64;
-        pub fn winnathey_refusal_sentence(refusal: u32, out: *mut u8, out_len: usize) -> i64;
+        pub fn winnathey_refusal_message(refusal: u32, out: *mut u8, out_len: usize) -> i64;
         pub fn winnathey_version() -> i64;
     }
 }
@@ -608,11 +608,11 @@ pub fn to_first(book: &[u8], out: &mut [u8]) -> i64 {
     unsafe { c::winnathey_to_first(book.as_ptr(), book.len(), out.as_mut_ptr(), out.len()) }
 }
 
-/// The sentence of a refusal, in ASCII: nothing for a number that is none.
+/// The message of a refusal, in ASCII: nothing for a number that is none.
 #[inline]
-pub fn refusal_sentence(refusal: u32, out: &mut [u8]) -> i64 {
+pub fn refusal_message(refusal: u32, out: &mut [u8]) -> i64 {
     // SAFETY: pointers and lengths are those of slices; what is written is borrowed alone.
-    unsafe { c::winnathey_refusal_sentence(refusal, out.as_mut_ptr(), out.len()) }
+    unsafe { c::winnathey_refusal_message(refusal, out.as_mut_ptr(), out.len()) }
 }
 
 /// The library's version: 1,000,000 times the major number, 1,000 times the minor one, and the patch.

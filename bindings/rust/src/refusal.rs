@@ -15,9 +15,9 @@ macro_rules! refusals {
         /// let refusal = "A2".parse::<Group>()?.length_of_word(&[1, 3]).unwrap_err();
         /// assert_eq!(refusal, Refusal::Letter);
         /// assert_eq!(refusal.number(), 8);
-        /// assert_eq!(*refusal.sentence(), *"A letter is 0 or above the rank.");
-        /// assert_eq!(refusal.to_string(), "refused 8: a letter is 0 or above the rank");
-        /// assert_eq!(format!("{refusal:?}"), "Letter (refused 8: a letter is 0 or above the rank)");
+        /// assert_eq!(*refusal.message(), *"A letter of the word is out of range: every letter must be at least 1 and at most the rank.");
+        /// assert_eq!(refusal.to_string(), "refused 8: a letter of the word is out of range: every letter must be at least 1 and at most the rank");
+        /// assert_eq!(format!("{refusal:?}"), "Letter (refused 8: a letter of the word is out of range: every letter must be at least 1 and at most the rank)");
         /// # Ok::<(), Box<dyn std::error::Error>>(())
         /// ```
         #[derive(Clone, Copy, PartialEq, Eq, PartialOrd, Ord, Hash)]
@@ -41,47 +41,47 @@ macro_rules! refusals {
 }
 
 refusals! {
-    /// The book has 1 byte, or more than 65,535.
+    /// The book is too short or too long: a book has either no bytes or from 2 to 65,535 bytes.
     BookSize = 1,
-    /// The book is too short for the presets that it counts.
+    /// The book is too short for the number of presets that its last two bytes give.
     BookCount = 2,
-    /// A record does not begin or end where it should.
+    /// The book's records and offsets do not fit together: the records must follow one another from byte 0 up to the offsets, and each offset must be where its record begins.
     BookOffset = 3,
-    /// The book has no preset with this number.
+    /// There is no preset with this number in the book: presets are numbered from 0.
     PresetNumber = 4,
-    /// The kind is none of A, B and D.
+    /// The kind must be 1 for A, 2 for B or 3 for D.
     Kind = 5,
-    /// The kind has no such rank.
+    /// The rank is out of range for its kind: 1 to 63 for A, 2 to 64 for B, 4 to 64 for D, and in a book of the first edition at most 31 for A and 32 for B and D.
     Rank = 6,
-    /// The word has more than 4,096 letters.
+    /// The word is too long: a word has at most 4,096 letters.
     WordLength = 7,
-    /// A letter is 0 or above the rank.
+    /// A letter of the word is out of range: every letter must be at least 1 and at most the rank.
     Letter = 8,
-    /// The window has fewer or more entries than lanes.
+    /// The window has the wrong number of entries: kind A has one more than the rank, kinds B and D have as many as the rank.
     WindowLength = 9,
-    /// An entry is 0 or too large, comes twice, or is negative in kind A.
+    /// An entry of the window is wrong: the sizes must be the numbers from 1 to the number of entries, each of them once, and in kind A no entry may be negative.
     Entry = 10,
-    /// A window of kind D has an odd number of negative entries.
+    /// The window has an odd number of negative entries: in kind D the number must be even.
     OddNegatives = 11,
-    /// The place is behind the word.
+    /// The place is past the end of the word: places are counted from 0, one for each letter.
     Place = 12,
-    /// The new book would have more than 65,535 bytes.
+    /// The new book would be too long: a book has at most 65,535 bytes.
     BookFull = 13,
-    /// An output is too short. Only the calls on lent buffers refuse this.
+    /// An output is too short for what the call writes to it. Only the calls on lent buffers refuse this.
     Output = 14,
-    /// A list is too short for the steps. Only the calls on lent buffers refuse this.
+    /// One of the three output lists is too short: each needs room for every step of the rewriting. Only the calls on lent buffers refuse this.
     StepLists = 15,
-    /// An allowed step is above the rank.
+    /// The set of allowed steps has a step above the rank: bit 0 stands for step 1, and only the bits of steps up to the rank may be set.
     Allowed = 16,
-    /// The lane count of a record is not that of its kind and rank.
+    /// The lane count in the record is wrong: it must be one more than the rank for kind A, and the rank for kinds B and D.
     LaneCount = 17,
-    /// A record has too many lanes for the first edition.
+    /// The book cannot be converted to the first edition: one of its records has more than 32 lanes.
     FirstEditionLanes = 18,
-    /// No word over the allowed steps leads from the first window to the second.
+    /// The second window cannot be reached from the first with the allowed steps.
     Unreachable = 19,
-    /// The rank is too high for a delay table.
+    /// The rank is too high for a delay table: at most 19 for kind A, and at most 16 for kinds B and D.
     TableRank = 20,
-    /// A preset of kind A and rank 1 is not appended.
+    /// A preset of kind A and rank 1 cannot be appended: books that have one are read, but get no new one.
     RetiredPreset = 21,
 }
 
@@ -102,11 +102,11 @@ impl Refusal {
         self as u8
     }
 
-    /// What the number says, in the library's own words; c is the count of presets at the end of a book.
-    pub fn sentence(self) -> Sentence {
+    /// What the number says, in the library's own words.
+    pub fn message(self) -> Message {
         let mut bytes = [0; 256];
-        let length = raw::refusal_sentence(self.number().into(), &mut bytes);
-        Sentence { bytes, length: usize::try_from(length).unwrap_or(0) }
+        let length = raw::refusal_message(self.number().into(), &mut bytes);
+        Message { bytes, length: usize::try_from(length).unwrap_or(0) }
     }
 }
 
@@ -118,8 +118,8 @@ impl fmt::Debug for Refusal {
 
 impl fmt::Display for Refusal {
     fn fmt(&self, f: &mut fmt::Formatter<'_>) -> fmt::Result {
-        let sentence = self.sentence();
-        let (first, rest) = sentence.trim_end_matches('.').split_at(sentence.len().min(1));
+        let message = self.message();
+        let (first, rest) = message.trim_end_matches('.').split_at(message.len().min(1));
         write!(f, "refused {}: ", self.number())?;
         first.chars().try_for_each(|letter| write!(f, "{}", letter.to_ascii_lowercase()))?;
         f.write_str(rest)
@@ -128,14 +128,14 @@ impl fmt::Display for Refusal {
 
 impl Error for Refusal {}
 
-/// The sentence of a [`Refusal`]: a text.
+/// The message of a [`Refusal`]: a text.
 #[derive(Clone, Copy)]
-pub struct Sentence {
+pub struct Message {
     bytes: [u8; 256],
     length: usize,
 }
 
-impl Deref for Sentence {
+impl Deref for Message {
     type Target = str;
 
     fn deref(&self) -> &str {
@@ -143,13 +143,13 @@ impl Deref for Sentence {
     }
 }
 
-impl fmt::Display for Sentence {
+impl fmt::Display for Message {
     fn fmt(&self, f: &mut fmt::Formatter<'_>) -> fmt::Result {
         f.pad(self)
     }
 }
 
-impl fmt::Debug for Sentence {
+impl fmt::Debug for Message {
     fn fmt(&self, f: &mut fmt::Formatter<'_>) -> fmt::Result {
         fmt::Debug::fmt(&**self, f)
     }

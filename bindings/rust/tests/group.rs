@@ -279,8 +279,8 @@ fn many_presets_at_once() {
 }
 
 #[test]
-fn each_refusal_has_a_number_and_a_sentence() {
+fn each_refusal_has_a_number_and_a_message() {
     assert!((1..=21).all(|number| Refusal::from_number(number).is_some_and(|refusal| refusal.number() == number)));
-    assert!(Refusal::ALL.iter().all(|refusal| refusal.sentence().ends_with('.')));
+    assert!(Refusal::ALL.iter().all(|refusal| refusal.message().ends_with('.')));
     assert!([0, 22, 255].iter().all(|&number| Refusal::from_number(number).is_none()));
 }

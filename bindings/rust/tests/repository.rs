@@ -1,10 +1,10 @@
-//! What only the repository has: the numbers and sentences of the library, its definition, the header, CALLS.md and
+//! What only the repository has: the numbers and messages of the library, its definition, the header, CALLS.md and
 //! SPECIFICATION.md are held to each other, and edits of books to the stored ones.
 use std::fs;
 use std::path::Path;
 use winnathey::{Book, Edition, Group, Kind, Preset, Refusal, RefusedPreset, raw};
 
-/// Numbers with sentences, in the order of the numbers.
+/// Numbers with messages, in the order of the numbers.
 type List = Vec<(usize, String)>;
 
 fn text(path: &str) -> String {
@@ -14,48 +14,44 @@ fn text(path: &str) -> String {
 
 /// The library: what it writes for each number that is a refusal.
 fn library() -> List {
-    let sentence = |number: u32| {
+    let message = |number: u32| {
         let mut out = [0; 256];
-        let length = raw::refusal_sentence(number, &mut out);
-        String::from_utf8(out[..usize::try_from(length).expect("room for every sentence")].to_vec()).expect("ASCII")
+        let length = raw::refusal_message(number, &mut out);
+        String::from_utf8(out[..usize::try_from(length).expect("room for every message")].to_vec()).expect("ASCII")
     };
-    let list = (0..1000).map(|number| (number as usize, sentence(number)));
+    let list = (0..1000).map(|number| (number as usize, message(number)));
     list.filter(|(_, words)| !words.is_empty()).collect()
 }
 
 /// The definition that the library is proved against: a text on each line of its list.
 fn definition() -> List {
-    let specs = text("crates/sentences/specs/Sentences.antt");
-    let (_, list) = specs.split_once("\nsentences =\n").expect("a list of sentences");
-    let sentence = |line: &str| Some(line.trim().strip_prefix('"')?.strip_suffix("\" ∷")?.to_string());
-    (1..).zip(list.lines().map_while(sentence)).collect()
+    let specs = text("crates/messages/specs/Messages.antt");
+    let (_, list) = specs.split_once("\nmessages =\n").expect("a list of messages");
+    let message = |line: &str| Some(line.trim().strip_prefix('"')?.strip_suffix("\" ∷")?.to_string());
+    (1..).zip(list.lines().map_while(message)).collect()
 }
 
-/// CALLS.md: the rows `| 5 | The kind is not 1, 2 or 3. |` of its section.
+/// A row of a table that begins with a number and a message.
+fn row(line: &str) -> Option<(usize, String)> {
+    let mut cells = line.strip_prefix('|')?.strip_suffix('|')?.split('|').map(str::trim);
+    Some((cells.next()?.parse().ok()?, cells.next()?.to_string()))
+}
+
+/// CALLS.md: the rows `| 5 | The kind must be 1 for A, 2 for B or 3 for D. |` of its section.
 fn calls() -> List {
-    let row = |line: &str| {
-        let mut cells = line.strip_prefix("| ")?.strip_suffix(" |")?.split(" | ");
-        Some((cells.next()?.parse().ok()?, cells.next()?.to_string()))
-    };
     let page = text("docs/CALLS.md");
     let (_, section) = page.split_once("\n## Refusals\n").expect("a section on refusals");
     section.lines().take_while(|line| !line.starts_with("## ")).filter_map(row).collect()
 }
 
-/// SPECIFICATION.md: the sentence that each clause C1, C2, .. begins with.
-fn clauses(known: &List) -> List {
-    let clause = |line: &str| {
-        let (number, words) = line.strip_prefix("- **C")?.split_once("**")?;
-        Some((number.parse().ok()?, words.split_once("</a> ")?.1.to_string()))
-    };
-    let begins = |(number, words): (usize, String)| {
-        let sentence = known.iter().find(|(same, _)| *same == number).map_or("", |(_, sentence)| sentence);
-        (number, if words.starts_with(sentence) { sentence.to_string() } else { words })
-    };
-    text("docs/SPECIFICATION.md").lines().filter_map(clause).map(begins).collect()
+/// SPECIFICATION.md: the rows of the table that CM1 names.
+fn specification() -> List {
+    let page = text("docs/SPECIFICATION.md");
+    let (_, section) = page.split_once("id=\"cm1\"").expect("the clause CM1");
+    section.lines().skip_while(|line| !line.starts_with('|')).take_while(|line| line.starts_with('|')).filter_map(row).collect()
 }
 
-/// The header: its lines ` *    5  The kind is not 1, 2 or 3.`, each of which goes on until a full stop ends a line.
+/// The header: its lines ` *    5  The kind must be 1 for A, 2 for B or 3 for D.`, each of which goes on until a full stop ends a line.
 fn header() -> List {
     let mut list = List::new();
     for line in text("include/winnathey.h").lines() {
@@ -71,13 +67,13 @@ fn header() -> List {
 }
 
 #[test]
-fn the_same_numbers_and_sentences_everywhere() {
+fn the_same_numbers_and_messages_everywhere() {
     let library = library();
     assert_eq!(library.len(), 21);
-    assert_eq!(definition(), library, "crates/sentences/specs and the library");
+    assert_eq!(definition(), library, "crates/messages/specs and the library");
     assert_eq!(header(), library, "include/winnathey.h and the library");
     assert_eq!(calls(), library, "docs/CALLS.md and the library");
-    assert_eq!(clauses(&library), library, "docs/SPECIFICATION.md and the library");
+    assert_eq!(specification(), library, "docs/SPECIFICATION.md and the library");
 }
 
 /// `BookSize` is `BOOK_SIZE` there.

@@ -30,8 +30,8 @@ use Rattle.book_format.specs.Books.{bookRankRefusal, bookRefusal, appendRefusal
 use Rattle.book_format.specs.Calls.{appending}
 use Rattle.book_format.proofs.RankLaws.{bookRankRefusal-refused}
 use Rattle.distribution.specs.Calls.{tableRefusal, tableOf, tables, delayTable}
-use Rattle.sentences.specs.Sentences.{refusalSentence}
-use Rattle.sentences.proofs.Texts.{unknown-alike}
+use Rattle.messages.specs.Messages.{refusalMessage}
+use Rattle.messages.proofs.Texts.{unknown-alike}
 use Rattle.c_api.specs.Calls.{numberOf, numbered, rewriting, crossingNumbers, listed}
 use Rattle.c_api.proofs.Lengths.{answered, i64-back, numbers-alike}
 
@@ -243,16 +243,16 @@ pub handed-on : {Y : Type 0} {F : ℕ → ℕ → ℤ × Y} → Refusable F → 
     → mag z < 9223372036854775808 → (z, y) ≡ F l m → (toZ w64 (ofZ w64 z), y) ≡ F k n
 handed-on r k n l m z y e f h q = rw (i64-back z h) (q ∙ as-bytes r k n l m e f)
 
--- ---- refusals of 32 bits: a number that is no byte has no sentence, as 0 has none
+-- ---- refusals of 32 bits: a number that is no byte has no message, as 0 has none
 
-sentence-as-byte : (k : ℕ) (out : List ℕ) → refusalSentence (byteOf k) out ≡ refusalSentence k out
-sentence-as-byte k out = elim (decLe k 255) [
-  | yes h ↦ ap (λ (j : ℕ). refusalSentence j out) (byteOf-byte k h)
-  | no g ↦ ap (λ (j : ℕ). refusalSentence j out) (byteOf-above k (omega arith)) ∙ sym (unknown-alike k out (omega arith))
+message-as-byte : (k : ℕ) (out : List ℕ) → refusalMessage (byteOf k) out ≡ refusalMessage k out
+message-as-byte k out = elim (decLe k 255) [
+  | yes h ↦ ap (λ (j : ℕ). refusalMessage j out) (byteOf-byte k h)
+  | no g ↦ ap (λ (j : ℕ). refusalMessage j out) (byteOf-above k (omega arith)) ∙ sym (unknown-alike k out (omega arith))
 ]
 
-pub sentence-yielded : (k l : ℕ) (out : List ℕ) (z : ℤ) (a : Answer) (after : List ℕ) → l ≡ byteOf k → mag z < 9223372036854775808 → z ≡ numberOf a
-    → (a ≡ refusalSentence l out .answer) × (after ≡ refusalSentence l out .bytes) → (toZ w64 (ofZ w64 z), after) ≡ numbered (refusalSentence k out)
-sentence-yielded k l out z a after e h q b =
-    let same : refusalSentence l out ≡ refusalSentence k out = ap (λ (j : ℕ). refusalSentence j out) e ∙ sentence-as-byte k out in
-    numbers-alike z a after (refusalSentence k out) h q (rw same at b)
+pub message-yielded : (k l : ℕ) (out : List ℕ) (z : ℤ) (a : Answer) (after : List ℕ) → l ≡ byteOf k → mag z < 9223372036854775808 → z ≡ numberOf a
+    → (a ≡ refusalMessage l out .answer) × (after ≡ refusalMessage l out .bytes) → (toZ w64 (ofZ w64 z), after) ≡ numbered (refusalMessage k out)
+message-yielded k l out z a after e h q b =
+    let same : refusalMessage l out ≡ refusalMessage k out = ap (λ (j : ℕ). refusalMessage j out) e ∙ message-as-byte k out in
+    numbers-alike z a after (refusalMessage k out) h q (rw same at b)

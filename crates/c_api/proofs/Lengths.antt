@@ -53,8 +53,8 @@ use Rattle.book_format.specs.Conversion.{converted, conversionRefusal, converti
 use Rattle.book_format.proofs.BookLaws.{accepted}
 use Rattle.book_format.proofs.WritingLaws.{append-size}
 use Rattle.book_format.proofs.Converting.{conversion-small}
-use Rattle.sentences.specs.Sentences.{sentence, refusalSentence}
-use Rattle.sentences.proofs.Texts.{length-sentence}
+use Rattle.messages.specs.Messages.{message, refusalMessage}
+use Rattle.messages.proofs.Texts.{length-message}
 use Rattle.c_api.specs.Calls.{refused, numberOf, numbered}
 
 -- ---- numbers
@@ -262,7 +262,7 @@ presets-small ed b a c e q = elim (ℕ-discrete (bookRefusal ed b) 0) [
       zero-not-one (cc)
 ]
 
--- a sentence has at most 255 characters
-pub refusalSentence-small : (k : ℕ) (out : List ℕ) → Small (refusalSentence k out .answer)
-unfolding refusalSentence
-refusalSentence-small k out = writes-small 0 (sentence k) out (λ z. le-trans (length-sentence k) (omega arith))
+-- a message has at most 255 characters
+pub refusalMessage-small : (k : ℕ) (out : List ℕ) → Small (refusalMessage k out .answer)
+unfolding refusalMessage
+refusalMessage-small k out = writes-small 0 (message k) out (λ z. le-trans (length-message k) (omega arith))

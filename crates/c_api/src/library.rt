@@ -2,7 +2,7 @@
 use crate::numbers::byte;
 use crate::numbers::number;
 ghost use mathlib.Core.Path.{_≡_};
-ghost use Rattle.sentences.specs.Sentences.{refusalSentence};
+ghost use Rattle.messages.specs.Messages.{refusalMessage};
 ghost use Rattle.c_api.specs.Calls.{numbered, version};
 
 // The version: 1,000,000 for each major version, 1,000 for each minor one and 1 for each patch. The file VERSION
@@ -14,11 +14,11 @@ pub extern "C" fn winnathey_version() -> i64
     9000
 }
 
-// The sentence of a refusal, written to the front of `out`. Returns its length, which is 0 for a number that is no
+// The message of a refusal, written to the front of `out`. Returns its length, which is 0 for a number that is no
 // refusal. Refusal 14.
 #[no_mangle]
-pub extern "C" fn winnathey_refusal_sentence(refusal: u32, out: &mut [u8]) -> i64
-    ensures { λ r. ⌜ (r, now (out .exit)) ≡ numbered (refusalSentence refusal (now (out .entry))) ⌝ }
+pub extern "C" fn winnathey_refusal_message(refusal: u32, out: &mut [u8]) -> i64
+    ensures { λ r. ⌜ (r, now (out .exit)) ≡ numbered (refusalMessage refusal (now (out .entry))) ⌝ }
 {
-    number(sentences::refusal_sentence(byte(refusal), out))
+    number(messages::refusal_message(byte(refusal), out))
 }

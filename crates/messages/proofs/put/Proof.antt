@@ -1,9 +1,9 @@
 -- `put` is the kit's copy, if there is room.
 -- Assumes nothing.
 use borrow.Author.Needs.{needs}
-use Rattle.sentences.proofs.Texts.{put-short, put-copied}
-use Rattle.sentences.proofs.put.Statement.{statement}
-use Rattle.sentences.proofs.put.Tie as tie
+use Rattle.messages.proofs.Texts.{put-short, put-copied}
+use Rattle.messages.proofs.put.Statement.{statement}
+use Rattle.messages.proofs.put.Tie as tie
 
 returns : tie.Need-returns
 returns c = put-short _ _ (c .if1 .taken)

@@ -1,7 +1,7 @@
--- A text that is written, the numbers that have no sentence, the sentences' lengths, at most 255 each, and where each
--- sentence stands in a table of texts: by induction over the texts.
+-- A text that is written, the numbers that have no message, the messages' lengths, at most 255 each, and where each
+-- message stands in a table of texts: by induction over the texts.
 -- Assumes nothing.
-use mathlib.Core.Path.{_≡_, refl, ap, _∙_, sym}
+use mathlib.Core.Path.{_≡_, refl, sym, ap, _∙_}
 use mathlib.Core.Bool.{Bool, true, false, _&&_}
 use mathlib.Core.List.{List, [], _∷_, _++_, append-assoc, map}
 use Prim.Native.Nat.{ℕ, zero, suc, _+_, _-_, _≤_, _<_, zero-le}
@@ -21,7 +21,7 @@ use Rattle.coxeter.specs.Checks.{tooShort}
 use Rattle.coxeter.specs.Calls.{Yields, answerOf, written, writes, front}
 use Rattle.coxeter.proofs.Outcomes.{writes-written}
 use Rattle.coxeter.proofs.FrontLaws.{front-parts}
-use Rattle.sentences.specs.Sentences.{codesFrom, codes, sentences, sentence, refusalSentence}
+use Rattle.messages.specs.Messages.{codesFrom, codes, messages, message, refusalMessage}
 
 -- ---- texts that are written
 
@@ -36,36 +36,36 @@ module _ (l out : List ℕ) where
       writes-written (writes 0 l out) 0 0 l out refl refl r after refl (sym e) (omega arith)
       (v ∙ front-parts l out (length l) (take (length l) l) refl (take-all (length l) l (le-refl (length l))))
 
--- ---- sentences
+-- ---- messages
 
 codesFrom-map : (t : String) (l i : ℕ) → codesFrom t l i ≡ map (λ (j : ℕ). code (charAt t j)) (up i l)
 unfolding codesFrom up
 codesFrom-map t zero i = refl
 codesFrom-map t (suc l) i = ap (λ (w : List ℕ). code (charAt t i) ∷ w) (rw add-one (codesFrom-map t l (suc i)))
 
--- IC9: the sentence of refusal k + 1 is the codes of all characters of text k of the list
-pub sentence-codes : (k : ℕ) → let t = getD sentences k "" in sentence (k + 1) ≡ map (λ (i : ℕ). code (charAt t i)) (up 0 (len t))
-unfolding sentence codes
-sentence-codes k = rw (add-one k) (codesFrom-map (getD sentences k "") (len (getD sentences k "")) 0)
+-- IC9: the message of refusal k + 1 is the codes of all characters of text k of the list
+pub message-codes : (k : ℕ) → let t = getD messages k "" in message (k + 1) ≡ map (λ (i : ℕ). code (charAt t i)) (up 0 (len t))
+unfolding message codes
+message-codes k = rw (add-one k) (codesFrom-map (getD messages k "") (len (getD messages k "")) 0)
 
--- ---- numbers that have no sentence
+-- ---- numbers that have no message
 
--- a number above the last refusal has no sentence, as 0 has none
-sentence-unknown : (k : ℕ) → 21 < k → sentence k ≡ sentence 0
-unfolding sentence sentences codes codesFrom
-sentence-unknown zero h = absurd (omega arith)
-sentence-unknown (suc k) h = ap codes (List·getD-eq-default sentences "" {n = k} (omega arith))
+-- a number above the last refusal has no message, as 0 has none
+message-unknown : (k : ℕ) → 21 < k → message k ≡ message 0
+unfolding message messages codes codesFrom
+message-unknown zero h = absurd (omega arith)
+message-unknown (suc k) h = ap codes (List·getD-eq-default messages "" {n = k} (omega arith))
 
-pub unknown-alike : (k : ℕ) (out : List ℕ) → 21 < k → refusalSentence k out ≡ refusalSentence 0 out
-unfolding refusalSentence
-unknown-alike k out h = ap (λ (s : List ℕ). writes 0 s out) (sentence-unknown k h)
+pub unknown-alike : (k : ℕ) (out : List ℕ) → 21 < k → refusalMessage k out ≡ refusalMessage 0 out
+unfolding refusalMessage
+unknown-alike k out h = ap (λ (s : List ℕ). writes 0 s out) (message-unknown k h)
 
 -- then nothing is written
-pub said-zero : (k : ℕ) (out : List ℕ) → k ≡ 0 → Yields (refusalSentence k out) (Length 0) out
-unfolding refusalSentence sentence writes answerOf written front tooShort
+pub said-zero : (k : ℕ) (out : List ℕ) → k ≡ 0 → Yields (refusalMessage k out) (Length 0) out
+unfolding refusalMessage message writes answerOf written front tooShort
 said-zero k out z = rw (z, le-ltb (length out) 0 (omega arith)) (refl, refl)
 
-pub unsaid : (k : ℕ) (out : List ℕ) → 21 < k → Yields (refusalSentence k out) (Length 0) out
+pub unsaid : (k : ℕ) (out : List ℕ) → 21 < k → Yields (refusalMessage k out) (Length 0) out
 unsaid k out h = rw (unknown-alike k out h) (said-zero 0 out refl)
 
 -- ---- lengths
@@ -90,10 +90,10 @@ len-short m [] h k = zero-le
 len-short m (t ∷ l) h zero = leb→le (len t) m (both (leb (len t) m) (short m l) h .0)
 len-short m (t ∷ l) h (suc k) = len-short m l (both (leb (len t) m) (short m l) h .1) k
 
-pub length-sentence : (k : ℕ) → length (sentence k) ≤ 255
-unfolding sentence codes sentences short
-length-sentence zero = omega arith
-length-sentence (suc k) = rw (length-codesFrom (getD sentences k "") (len (getD sentences k "")) 0) (len-short 255 sentences tt k)
+pub length-message : (k : ℕ) → length (message k) ≤ 255
+unfolding message codes messages short
+length-message zero = omega arith
+length-message (suc k) = rw (length-codesFrom (getD messages k "") (len (getD messages k "")) 0) (len-short 255 messages tt k)
 
 -- ---- texts in a table
 
@@ -141,15 +141,15 @@ joined-stands (t ∷ l) (suc k) a before e h =
     let e' : length (before ++ codes t) ≡ a + len t = simp (length-append, length-codesFrom t (len t) 0, e) in
     rw (← append-assoc) (joined-stands l k (a + len t) (before ++ codes t) e' (omega arith))
 
--- ---- sentences in a table, the empty one of 0 too
+-- ---- messages in a table, the empty one of 0 too
 
-pub sentence-stands : (k : ℕ) → k ≤ 21
-    → Stands (sentence k) (joined sentences) (getD (0 ∷ 0 ∷ ends 0 sentences) k 0) (getD (0 ∷ 0 ∷ ends 0 sentences) (k + 1) 0)
-unfolding sentence sentences joined ends
-sentence-stands zero h = record { before = []; after = joined sentences; whole = refl; start = refl; end = refl }
-sentence-stands (suc k) h = rw (add-one (suc k)) (joined-stands sentences k 0 [] refl (omega arith))
+pub message-stands : (k : ℕ) → k ≤ 21
+    → Stands (message k) (joined messages) (getD (0 ∷ 0 ∷ ends 0 messages) k 0) (getD (0 ∷ 0 ∷ ends 0 messages) (k + 1) 0)
+unfolding message messages joined ends
+message-stands zero h = record { before = []; after = joined messages; whole = refl; start = refl; end = refl }
+message-stands (suc k) h = rw (add-one (suc k)) (joined-stands messages k 0 [] refl (omega arith))
 
-pub said : (k : ℕ) (s out after : List ℕ) (a : Answer) → s ≡ sentence k → Yields (writes 0 s out) a after
-    → Yields (refusalSentence k out) a after
-unfolding refusalSentence
+pub said : (k : ℕ) (s out after : List ℕ) (a : Answer) → s ≡ message k → Yields (writes 0 s out) a after
+    → Yields (refusalMessage k out) a after
+unfolding refusalMessage
 said k s out after a e y = rw (← e) y

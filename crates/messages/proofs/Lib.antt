@@ -1,0 +1,2 @@
+-- The laws that the proofs of the messages share.
+pub mod Texts
