@@ -11,6 +11,8 @@ mod writing;
 pub use book_format::Edition;
 pub use book_format::Opened;
 pub use book_format::Preset;
+pub use book_format::Run;
+pub use book_format::Slot;
 pub use converting::convert;
 pub use reading::check_book;
 pub use reading::check_preset;

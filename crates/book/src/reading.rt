@@ -69,16 +69,24 @@ pub(crate) fn book_refusal(edition: Edition, book: &[u8]) -> u8
     0
 }
 
-// I25: the number of presets. Checks 1, 2, 3.
-pub fn check_book(edition: Edition, book: &[u8]) -> Opened
+// The number of presets, or the refusal of checks 1 to 3.
+pub(crate) fn opened_by(edition: Edition, book: &[u8], refusal: u8) -> Opened
+    requires { ⌜ refusal ≡ bookRefusal edition (now book) ⌝ }
     ensures { λ r. ⌜ r ≡ checkedBook edition (now (book .entry)) ⌝ }
 {
-    let refusal = book_refusal(edition, book);
     if refusal != 0 {
         return Opened::Refused(refusal);
     }
     let c = count_of(book);
     Opened::Presets(c)
+}
+
+// I25: the number of presets. Checks 1, 2, 3.
+pub fn check_book(edition: Edition, book: &[u8]) -> Opened
+    ensures { λ r. ⌜ r ≡ checkedBook edition (now (book .entry)) ⌝ }
+{
+    let refusal = book_refusal(edition, book);
+    opened_by(edition, book, refusal)
 }
 
 // C5 to C8 and C17 of the record at byte o.

@@ -3,8 +3,11 @@ use crate::numbers::count_of;
 use crate::reading::LARGEST;
 use crate::reading::book_refusal;
 use crate::reading::numbered_preset;
+use crate::reading::opened_by;
 use book_format::Edition;
 use book_format::Preset;
+use book_format::Run;
+use book_format::Slot;
 use window::Answer;
 ghost use mathlib.Core.Path.{_≡_};
 ghost use mathlib.Core.List.{[], _∷_, map};
@@ -13,7 +16,7 @@ ghost use lib.ListN.{length};
 ghost use lib.Seq.{sets};
 ghost use Rattle.coxeter.specs.Kinds.{up};
 ghost use Rattle.book_format.specs.Books.{count, bookRefusal};
-ghost use Rattle.book_format.specs.Calls.{checkedPreset, fieldsOf, presetFields, readingPresets};
+ghost use Rattle.book_format.specs.Calls.{checkedBook, checkedPreset, fieldsOf, presetFields, readingPresets};
 
 fn put_five(fields: &mut [u64], p: usize, a: u64, b: u64, c: u64, d: u64, e: u64)
     requires { ⌜ p + 5 ≤ length (now fields) ⌝ }
@@ -72,27 +75,36 @@ fn smaller_of(a: usize, b: usize) -> usize
 }
 
 // Room for 128 presets.
-fn blank_run() -> [Preset; 128]
+fn slots_128() -> [Slot; 128]
     ensures { λ r. ⌜ 128 ≡ length r ⌝ }
 {
-    let blank = Preset::Refused(0);
-    [blank; 128]
+    let preset = Preset::Refused(0);
+    let slot = Slot { preset };
+    [slot; 128]
 }
 
-// I35: the 128 presets from number `first` on, each as `check_preset` returns it: refused 4 past the last one. Checks
-// 1 to 3 are made once. No book has the preset 65,535, so that larger numbers need not be told apart.
-pub fn read_run(edition: Edition, book: &[u8], first: usize) -> [Preset; 128]
-    ensures { λ r. ⌜ r ≡ map (checkedPreset edition (now (book .entry))) (up first 128) ⌝ }
+// I35: what `check_book` returns, and the 128 presets from number `first` on, each as `check_preset` returns it:
+// refused 4 past the last one. Checks 1 to 3 are made once for all. No book has the preset 65,535, so that larger
+// numbers need not be told apart.
+pub fn read_run(edition: Edition, book: &[u8], first: usize) -> Run
+    ensures { λ r. ⌜ (r .opened ≡ checkedBook edition (now (book .entry))) × (r .first ≡ first)
+        × (map (λ s. s .preset) (r .presets) ≡ map (checkedPreset edition (now (book .entry))) (up first 128)) ⌝ }
 {
     let refusal = book_refusal(edition, book);
+    let opened = opened_by(edition, book, refusal);
     let start = smaller_of(first, LARGEST);
-    let mut run = blank_run();
+    let mut presets = slots_128();
     let mut i = 0;
     while i < 128 {
-        run[i] = numbered_preset(edition, book, refusal, start + i);
+        let preset = numbered_preset(edition, book, refusal, start + i);
+        presets[i] = Slot { preset };
         i += 1;
     }
-    run
+    Run {
+        opened,
+        first,
+        presets,
+    }
 }
 
 // I30: reads the presets from number `first` on, as many as there are and have room: for each its refusal or 0, its

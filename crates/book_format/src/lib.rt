@@ -24,3 +24,15 @@ pub enum Preset {
     },
     Refused(u8),
 }
+
+// I35: a preset as an element of a run.
+pub struct Slot {
+    pub preset: Preset,
+}
+
+// I35: 128 presets from the number `first` on, with what opening their book returned.
+pub struct Run {
+    pub opened: Opened,
+    pub first: usize,
+    pub presets: [Slot; 128],
+}

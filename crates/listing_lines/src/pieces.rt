@@ -1,12 +1,11 @@
-// The next piece of a listing. The book is opened once, and once more for each run of its presets. A line is made in a
-// buffer of its own, where every line has room, and copied if it fits whole.
+// The next piece of a listing. The book is opened once for each run of its presets. A line is made in a buffer of its
+// own, where every line has room, and copied if it fits whole.
 use crate::lines::put_labelled;
 use crate::numbers::put_bytes;
 use crate::presets::put_preset;
 use book::Edition;
 use book::Opened;
 use book::Preset;
-use book::check_book;
 use book::read_run;
 use listing_text::Piece;
 ghost use mathlib.Core.Path.{_≡_};
@@ -81,19 +80,19 @@ pub fn next_piece(edition: Edition, book: &[u8], first: usize, out: &mut [u8]) -
         × (now (out .exit) ≡ nextPiece edition (now (book .entry)) first (now (out .entry)) .bytes) ⌝ }
 {
     let mut line = io::large_buffer();
-    let opened = check_book(edition, book);
-    let mut held = number_of(first);
-    let mut run = read_run(edition, book, held);
+    let mut run = read_run(edition, book, number_of(first));
+    let opened = run.opened;
     let mut next = first;
     let mut end = 0;
     let mut left = lines_from(opened, first);
     while 0 < left {
         let number = number_of(next);
-        if held + 128 <= number {
-            held = number;
+        if run.first + 128 <= number {
             run = read_run(edition, book, number);
         }
-        let answer = run[number - held];
+        let start = run.first;
+        let slot = run.presets[number - start];
+        let answer = slot.preset;
         let size = put_nth(book, opened, next, answer, &mut line);
         if out.len() - end < size {
             return Piece { next, end, left };

@@ -3,7 +3,7 @@
 -- Sections: presets; five numbers.
 -- Assumes nothing.
 use mathlib.Core.Path.{_≡_, refl, sym, _∙_}
-use mathlib.Core.List.{List, [], _∷_, map, map-append}
+use mathlib.Core.List.{List, [], _∷_, map, map-append, map-map}
 use Prim.Native.Nat.{ℕ, suc, _+_, _-_, _*_, _/_, _≤_, _<_, min}
 use native.Mathlib.Decide.{ℕ-discrete, decLe}
 use native.Mathlib.Nat.{add-zero, min-le-left, min-le-right, min-eq-left, min-eq-right}
@@ -16,6 +16,7 @@ use Rattle.coxeter.proofs.Basics.{up-append}
 use Rattle.coxeter.proofs.Lists.{sets-next}
 use Rattle.book_format.specs.declared.Edition.{Edition}
 use Rattle.book_format.specs.declared.Preset.{Preset}
+use Rattle.book_format.specs.declared.Slot.{Slot}
 use Rattle.book_format.specs.declared.Preset.the-variants as preset
 use Rattle.book_format.specs.Books.{count, bookRefusal}
 use Rattle.book_format.specs.Calls.{checkedPreset, fieldsOf, presetFields}
@@ -26,16 +27,16 @@ use Rattle.book_format.proofs.RunLaws.{length-fieldsOf}
 -- ---- presets
 
 -- of n presets from preset i on the first j stand in l, which has room for all of them
-pub record Begun (f : ℕ → Preset) (i n j : ℕ) (l : List Preset) : Type 0 where
+pub record Begun (f : ℕ → Slot) (i n j : ℕ) (l : List Slot) : Type 0 where
   pub bound : j ≤ n
   pub size : n ≡ length l
   pub front : map f (up i j) ≡ take j l
 
-module _ (f : ℕ → Preset) (i n : ℕ) where
-  pub begun-none : (l : List Preset) → n ≡ length l → Begun f i n 0 l
+module _ (f : ℕ → Slot) (i n : ℕ) where
+  pub begun-none : (l : List Slot) → n ≡ length l → Begun f i n 0 l
   begun-none l e = record { bound = omega arith; size = e; front = unfold up in refl }
 
-  pub begun-next : (j : ℕ) (l : List Preset) (p : Preset) → Begun f i n j l → j < n → p ≡ f (i + j) → Begun f i n (j + 1) (set l j p)
+  pub begun-next : (j : ℕ) (l : List Slot) (p : Slot) → Begun f i n j l → j < n → p ≡ f (i + j) → Begun f i n (j + 1) (set l j p)
   begun-next j l p b h q =
       let s = b .size in
       let last : map f (up (i + j) 1) ≡ p ∷ [] = rw q (unfold up in refl) in
@@ -45,11 +46,18 @@ module _ (f : ℕ → Preset) (i n : ℕ) where
         front = rw (up-append i j 1, map-append f (up i j) (up (i + j) 1), last, b .front, add-one j) (sym (take-suc-set l j p (omega arith)));
       }
 
-  pub begun-whole : (j : ℕ) (l : List Preset) → Begun f i n j l → n ≤ j → l ≡ map f (up i n)
+  begun-whole : (j : ℕ) (l : List Slot) → Begun f i n j l → n ≤ j → l ≡ map f (up i n)
   begun-whole j l b h =
       let s = b .size in
       let e : j ≡ n = omega (arith, b .bound) in
       rw (← e) (sym (take-all j l (omega arith)) ∙ sym (b .front))
+
+-- the presets that g reads, in their slots
+abbrev pub slots : (ℕ → Preset) → ℕ → Slot
+slots g j = record { preset = g j }
+
+pub presets-whole : (g : ℕ → Preset) (i n j : ℕ) (l : List Slot) → Begun (slots g) i n j l → n ≤ j → map (λ s. s .preset) l ≡ map g (up i n)
+presets-whole g i n j l b h = rw (begun-whole (slots g) i n j l b h) (map-map (λ s. s .preset) (slots g) (up i n))
 
 -- no book has the preset 65,535: what reading a number from there on answers is the same for all
 pub preset-from : (ed : Edition) (b : List ℕ) (i s j : ℕ) → s ≡ min i 65535 → checkedPreset ed b (s + j) ≡ checkedPreset ed b (i + j)

@@ -1,36 +1,46 @@
 -- A run of presets in hand, as the lines of a listing use it.
 -- Assumes nothing.
-use mathlib.Core.Path.{_≡_, _∙_}
+use mathlib.Core.Path.{_≡_, sym, _∙_}
 use mathlib.Core.List.{List, map}
 use Prim.Native.Nat.{ℕ, _+_, _-_, _≤_, _<_}
 use native.Mathlib.Omega.{arith}
-use lib.ListN.{getD}
+use lib.ListN.{length, getD, length-map, List·getD-map}
 use Rattle.coxeter.specs.Kinds.{up}
 use Rattle.book_format.specs.declared.Edition.{Edition}
 use Rattle.book_format.specs.declared.Preset.{Preset}
+use Rattle.book_format.specs.declared.Run.{Run}
+use Rattle.book_format.specs.declared.Slot.{Slot}
 use Rattle.book_format.specs.Calls.{checkedPreset}
 use Rattle.book_format.proofs.RunsOfPresets.{presets-at}
 
--- the run of the presets from `first` on, which begins no later than with that of line i
-pub record Held (ed : Edition) (b : List ℕ) (first i : ℕ) (run : List Preset) : Type 0 where
-  pub begins : first ≤ i - 1
-  pub presets : run ≡ map (checkedPreset ed b) (up first 128)
+abbrev presetsOf : Run → List Preset
+presetsOf run = map (λ s. s .preset) (run .presets)
+
+-- a run of presets, which begins no later than with that of line i
+pub record Held (ed : Edition) (b : List ℕ) (i : ℕ) (run : Run) : Type 0 where
+  pub begins : run .first ≤ i - 1
+  pub presets : presetsOf run ≡ map (checkedPreset ed b) (up (run .first) 128)
 
 -- x is the number of that preset, as the code computes it
 module _ (ed : Edition) (b : List ℕ) (i x : ℕ) (e : x ≡ i - 1) where
   -- the run is read from there on
-  pub held-read : (first : ℕ) (run r : List Preset) → first ≡ x → run ≡ r → r ≡ map (checkedPreset ed b) (up x 128)
-      → Held ed b first i run × (x < first + 128)
-  held-read first run r p q h = (record { begins = omega arith; presets = rw p (q ∙ h) }, omega arith)
+  pub held-read : (run r : Run) → run ≡ r → r .first ≡ x → presetsOf r ≡ map (checkedPreset ed b) (up x 128) → Held ed b i run × (x < run .first + 128)
+  held-read run r q p h = rw q (record { begins = omega arith; presets = rw p h }, omega arith)
 
   -- or stays as it is
-  pub held-kept : (first held : ℕ) (run r : List Preset) → Held ed b held i r → x < held + 128 → first ≡ held → run ≡ r
-      → Held ed b first i run × (x < first + 128)
-  held-kept first held run r h g p q = (rw (p, q) h, omega arith)
+  pub held-kept : (run r : Run) → run ≡ r → Held ed b i r → x < r .first + 128 → Held ed b i run × (x < run .first + 128)
+  held-kept run r q h g = rw q (h, g)
 
-  pub held-preset : (first : ℕ) (run : List Preset) (d : Preset) → Held ed b first i run → x < first + 128
-      → getD run (x - first) d ≡ checkedPreset ed b (i - 1)
-  held-preset first run d h g =
-      let s = h .begins in
-      let at : first + (x - first) ≡ i - 1 = omega arith in
-      presets-at ed b first run (h .presets) .1 (x - first) d (omega arith) ∙ rw at
+  module _ (run : Run) (h : Held ed b i run) (g : x < run .first + 128) where
+    pub held-inside : x - run .first < length (run .presets)
+    held-inside =
+        let s = h .begins in
+        let n = length-map (run .presets) (λ (s : Slot). s .preset) in
+        omega (arith, presets-at ed b (run .first) (presetsOf run) (h .presets) .0)
+
+    pub held-preset : (d : Slot) → getD (run .presets) (x - run .first) d .preset ≡ checkedPreset ed b (i - 1)
+    held-preset d =
+        let s = h .begins in
+        let at : run .first + (x - run .first) ≡ i - 1 = omega arith in
+        sym (List·getD-map (λ (s : Slot). s .preset) (run .presets) (x - run .first) d)
+        ∙ presets-at ed b (run .first) (presetsOf run) (h .presets) .1 (x - run .first) (d .preset) (omega arith) ∙ rw at

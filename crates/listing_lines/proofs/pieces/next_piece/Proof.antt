@@ -9,7 +9,7 @@ use native.Mathlib.Omega.{arith}
 use lib.ListN.{length, take, getD}
 use lib.Seq.{length-take-le}
 use borrow.Author.Needs.{needs}
-use Rattle.book_format.specs.declared.Preset.{Preset}
+use Rattle.book_format.specs.declared.Slot.{Slot}
 use Rattle.book_format.specs.Calls.{checkedPreset}
 use Rattle.listing_text.specs.Calls.{lineCount, line}
 use Rattle.listing_text.proofs.Answered.{lineFrom}
@@ -20,25 +20,25 @@ use Rattle.listing_lines.proofs.pieces.next_piece.Statement.{statement}
 use Rattle.listing_lines.proofs.pieces.next_piece.Tie as tie
 
 abbrev Inv-loop : tie.InvT-loop
-Inv-loop edition book first out₀ line₀ opened held₀ run₀ next₀ end₀ left₀ out line held run next end left =
-    Filling edition book first out₀ out next end left × Held edition book held next run × (65536 ≡ length line)
+Inv-loop edition book first out₀ line₀ run₀ opened next₀ end₀ left₀ out line run next end left =
+    Filling edition book first out₀ out next end left × Held edition book next run × (65536 ≡ length line)
 
 abbrev μ-loop : tie.MeasureT-loop
-μ-loop edition book first out₀ line₀ opened held₀ run₀ next₀ end₀ left₀ out line held run next end left = left
+μ-loop edition book first out₀ line₀ run₀ opened next₀ end₀ left₀ out line run next end left = left
 
 -- stages on the way: where the call began, where the book is open, where a turn began, where its run is in hand, and
 -- where its line is made
 abbrev start : tie.In-loop Inv-loop μ-loop → tie.Start Inv-loop μ-loop
-start c = c .before .before .before .before .before .before .before .before .before
+start c = c .before .before .before .before .before .before .before .before
 
-abbrev opened : tie.In-loop Inv-loop μ-loop → tie.After-check-book Inv-loop μ-loop
-opened c = c .before .before .before .before .before
+abbrev opened : tie.In-loop Inv-loop μ-loop → tie.After-read-run Inv-loop μ-loop
+opened c = c .before .before .before
 
 abbrev turn : tie.Joined1 Inv-loop μ-loop → tie.In-loop Inv-loop μ-loop
 turn c = c .before .before
 
 abbrev joined : tie.After-put-nth Inv-loop μ-loop → tie.Joined1 Inv-loop μ-loop
-joined c = c .before .before .before .before
+joined c = c .before .before .before
 
 abbrev made : tie.After-put-bytes Inv-loop μ-loop → tie.After-put-nth Inv-loop μ-loop
 made c = c .before .before .before .before .before
@@ -51,23 +51,23 @@ below c = omega (arith, c .before .loop .inv .0 .rest, c .loop-test .taken)
 in-hand : (c : tie.Joined1 Inv-loop μ-loop)
     → let t = turn c in
     let a = start t .args in
-    Held (a .edition) (now (a .book)) (c .if1 .held) (t .before .loop .next) (c .if1 .run) × (c .before .number-of2 .result < c .if1 .held + 128)
+    Held (a .edition) (now (a .book)) (t .before .loop .next) (c .if1 .run) × (c .before .number-of2 .result < c .if1 .run .first + 128)
 in-hand c =
     let e = c .before .number-of2 .ensures in
-    ⊎-elim (λ w. held-read _ _ _ _ e _ _ _ (w .2) (w .3) (w .1 .ensures))
-    (λ w. held-kept _ _ _ _ e _ _ _ _ (turn c .before .loop .inv .1) (w .0 .left) (w .1) (w .2)) (c .if1 .came)
+    ⊎-elim (λ w. held-read _ _ _ _ e _ _ (w .2) (w .1 .ensures .1) (w .1 .ensures .2))
+    (λ w. held-kept _ _ _ _ e _ _ (w .1) (turn c .before .loop .inv .1) (w .0 .left)) (c .if1 .came)
 
 -- the line by what was answered is that of the listing
-answered : (c : tie.Joined1 Inv-loop μ-loop) (d : Preset)
+answered : (c : tie.Joined1 Inv-loop μ-loop) (d : Slot)
     → let t = turn c in
     let a = start t .args in
-    let p = getD (c .if1 .run) (c .before .number-of2 .result - c .if1 .held) d in
+    let p = getD (c .if1 .run .presets) (c .before .number-of2 .result - c .if1 .run .first) d .preset in
     (p ≡ checkedPreset (a .edition) (now (a .book)) (t .before .loop .next - 1))
-    × (lineFrom (now (a .book)) (opened t .check-book .result) (t .before .loop .next) p ≡ line (a .edition) (now (a .book)) (t .before .loop .next))
+    × (lineFrom (now (a .book)) (opened t .read-run .result .opened) (t .before .loop .next) p ≡ line (a .edition) (now (a .book)) (t .before .loop .next))
 answered c d =
     let t = turn c in
-    let read = held-preset _ _ _ _ (c .before .number-of2 .ensures) _ _ d (in-hand c .0) (in-hand c .1) in
-    (read, line-from _ _ _ _ _ (opened t .check-book .ensures) read)
+    let read = held-preset _ _ _ _ (c .before .number-of2 .ensures) _ (in-hand c .0) (in-hand c .1) d in
+    (read, line-from _ _ _ _ _ (opened t .read-run .ensures .0) read)
 
 -- it stands at the front of its buffer
 front : (c : tie.After-put-nth Inv-loop μ-loop)
@@ -86,17 +86,16 @@ inside c =
 
 lines-from-requires : tie.Need-lines-from-requires Inv-loop μ-loop
 lines-from-requires c κs =
-    let o = c .before .before in
-    let a = o .before .before .before .before .args in
-    omega (arith, lineCount-by _ _ _ (o .check-book .ensures), lineCount-le (a .edition) (now (a .book)))
+    let a = c .before .before .before .before .before .args in
+    omega (arith, lineCount-by _ _ _ (c .read-run .ensures .0), lineCount-le (a .edition) (now (a .book)))
 
 loop-holds : tie.Need-loop-holds Inv-loop μ-loop
 loop-holds c =
-    let o = c .before .before .before in
-    let e = lineCount-by _ _ _ (o .check-book .ensures) in (
+    let read = c .before .read-run .ensures in
+    let e = lineCount-by _ _ _ (read .0) in (
       filling-none _ _ _ _ _ (rw e at (c .lines-from .ensures)),
-      record { begins = omega (arith, c .before .before .number-of .ensures); presets = c .before .read-run .ensures },
-      o .before .large-buffer .ensures,
+      record { begins = omega (arith, c .before .before .number-of .ensures, read .1); presets = rw (read .1) (read .2) },
+      c .before .before .before .large-buffer .ensures,
     )
 
 add-if1 : tie.Need-add-if1 Inv-loop μ-loop
@@ -105,21 +104,21 @@ add-if1 c =
     let a = start t .args in
     omega (arith, t .before .loop .inv .1 .begins, below t, lineCount-le (a .edition) (now (a .book)))
 
-sub-answer : tie.Need-sub-answer Inv-loop μ-loop
-sub-answer c = omega (arith, in-hand (c .before) .0 .begins, c .before .before .number-of2 .ensures)
+sub-slot : tie.Need-sub-slot Inv-loop μ-loop
+sub-slot c = omega (arith, in-hand c .0 .begins, c .before .number-of2 .ensures)
 
-mul-answer : tie.Need-mul-answer Inv-loop μ-loop
-mul-answer c = omega (arith, in-hand (c .before) .1)
+mul-slot : tie.Need-mul-slot Inv-loop μ-loop
+mul-slot c = omega (arith, in-hand c .1)
 
-array-copy-out-answer : tie.Need-array-copy-out-answer Inv-loop μ-loop
-array-copy-out-answer c = omega (arith, in-hand (c .before) .1)
+element-copy-out-slot : tie.Need-element-copy-out-slot Inv-loop μ-loop
+element-copy-out-slot c = omega (arith, in-hand c .1)
 
 slice-aggregate-put-nth : tie.Need-slice-aggregate-put-nth Inv-loop μ-loop
-slice-aggregate-put-nth c = turn (c .before .before .before) .before .loop .inv .2
+slice-aggregate-put-nth c = turn (c .before .before) .before .loop .inv .2
 
 put-nth-requires : tie.Need-put-nth-requires Inv-loop μ-loop
 put-nth-requires c κs =
-    let j = c .before .before .before in
+    let j = c .before .before in
     let t = turn j in
     let p = answered j _ in
     (start t .args .edition, (p .0, rw (p .1) (omega (arith, length-line-le _ _ _ (below t), t .before .loop .inv .2))))
@@ -182,15 +181,15 @@ pub next-piece-spec : {M : Type 1} → statement M
 next-piece-spec =
     tie.close
     (tie.spec Inv-loop μ-loop
-    (λ c κs. search needs) (λ c κs. search needs) (λ c κs. search needs) (λ c κs. search needs)
+    (λ c κs. search needs) (λ c κs. search needs) (λ c κs. search needs)
     lines-from-requires
     loop-holds
     (λ c κs. search needs)
     add-if1
     (λ c κs. search needs)
-    sub-answer
-    mul-answer
-    array-copy-out-answer
+    sub-slot
+    mul-slot
+    element-copy-out-slot
     slice-aggregate-put-nth
     put-nth-requires
     sub-if2
