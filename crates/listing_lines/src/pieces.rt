@@ -8,12 +8,15 @@ use book::Opened;
 use book::Preset;
 use book::read_run;
 use listing_text::Piece;
+use window::Answer;
 ghost use mathlib.Core.Path.{_≡_};
 ghost use Prim.Native.Nat.{_-_, _≤_};
 ghost use lib.ListN.{length};
+ghost use Rattle.coxeter.specs.Calls.{Yields, writes};
 ghost use Rattle.coxeter.proofs.Lists.{Stored};
 ghost use Rattle.book_format.specs.declared.Edition.{Edition};
 ghost use Rattle.book_format.specs.Calls.{checkedPreset};
+ghost use Rattle.listing_text.specs.Text.{refusedBookLine};
 ghost use Rattle.listing_text.specs.Calls.{lineCountBy, firstLine, nextPiece};
 ghost use Rattle.listing_text.proofs.Answered.{lineFrom};
 
@@ -70,6 +73,19 @@ fn put_nth(book: &[u8], opened: Opened, i: usize, answer: Preset, out: &mut [u8]
         return put_first(opened, out);
     }
     put_preset(book, i - 1, answer, out)
+}
+
+// P11: writes the line of a refused book, such as `book refused 13`, to the front of `out` and returns its length. Check
+// 14.
+pub fn refused_book(refusal: u8, out: &mut [u8]) -> Answer
+    ensures { λ r. ⌜ Yields (writes 0 (refusedBookLine refusal) (now (out .entry))) r (now (out .exit)) ⌝ }
+{
+    let mut line = io::buffer();
+    let size = put_first(Opened::Refused(refusal), &mut line);
+    if out.len() < size {
+        return Answer::Refused(14);
+    }
+    Answer::Length(put_bytes(out, 0, &line[..size]))
 }
 
 // I32: the next piece of the listing of a book, from line `first` on: as many lines as fit whole in the buffer, at

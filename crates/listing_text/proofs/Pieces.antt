@@ -72,20 +72,10 @@ length-fitting-le ed b (suc t) i m = elim (decLe (length (line ed b i)) m) [
 
 -- ---- pieces
 
--- a piece ends inside its buffer, and where it has a byte there are fewer lines after it
-module _ (ed : Edition) (b : List ℕ) (i : ℕ) (out : List ℕ) (p : Piece) (e : p ≡ nextPiece ed b i out .answer) where
-  pub piece-inside : p .end ≤ length out
-  unfolding nextPiece
-  piece-inside = rw e (length-fitting-le ed b (lineCount ed b - i) i (length out))
-
-  pub piece-falls : (p .end ≡ 0 → ⊥) → lineCount ed b - p .next < lineCount ed b - i
-  unfolding nextPiece
-  piece-falls f = elim (decLe (fitting ed b (lineCount ed b - i) i (length out)) 0) [
-    | yes h ↦
-        let z : fitting ed b (lineCount ed b - i) i (length out) ≡ 0 = omega arith in
-        absurd (f (rw (e, z) (unfold lines in refl)))
-    | no h ↦ rw e (let l = fitting-le ed b (lineCount ed b - i) i (length out) in omega arith)
-  ]
+-- a piece ends inside its buffer
+pub piece-inside : (ed : Edition) (b : List ℕ) (i : ℕ) (out : List ℕ) (p : Piece) → p ≡ nextPiece ed b i out .answer → p .end ≤ length out
+unfolding nextPiece
+piece-inside ed b i out p e = rw e (length-fitting-le ed b (lineCount ed b - i) i (length out))
 
 -- a piece and the lines after it are the lines from its first on
 piece-lines : (ed : Edition) (b : List ℕ) (i t : ℕ) → t ≤ lineCount ed b - i

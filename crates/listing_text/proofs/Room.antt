@@ -8,6 +8,7 @@ use mathlib.Core.Bool.{false}
 use mathlib.Core.List.{List, [], _∷_}
 use Prim.Native.Nat.{ℕ, zero, suc, _+_, _-_, _*_, _^_, _≤_, _<_}
 use native.Mathlib.Decide.{ℕ-discrete, decLe}
+use native.Mathlib.Nat.{lt-of-not-le}
 use native.Mathlib.Omega.{arith}
 use lib.IntN.{ℤ, pos, negsuc, natAbs}
 use lib.ListN.{length, take, drop, length-append}
@@ -32,6 +33,7 @@ use Rattle.book_format.specs.Calls.{openedOf, checkedBook, checkedPreset}
 use Rattle.book_format.proofs.BookLaws.{accepted}
 use Rattle.book_format.proofs.Outcomes.{bookRefusal-le, presetRefusal-le}
 use Rattle.book_format.proofs.PresetLaws.{presets-opened, found, found-rank, refused-is}
+use Rattle.listing_text.specs.declared.Piece.{Piece}
 use Rattle.listing_text.specs.Text.{spaced, letters, entry, entries, head, tail, presetLine, refused}
 use Rattle.listing_text.specs.Text.{refusedLine, refusedBookLine, countLine, wordLine, lineBy, lineOf, listing}
 use Rattle.listing_text.specs.Calls.{lineCountBy, lineCount, firstLine, line, nextPiece, reached, pieces}
@@ -147,6 +149,19 @@ piece-progress ed b i out h g =
     let l = length-line-le ed b i h in
     let e : lineCount ed b - i ≡ suc (lineCount ed b - suc i) = omega arith in
     rw (e, fitting-more ed b (lineCount ed b - suc i) i (length out) (omega arith)) (omega arith)
+
+left-le : (ed : Edition) (b : List ℕ) (i : ℕ) (out : List ℕ) (p : Piece) → p ≡ nextPiece ed b i out .answer → p .left ≤ lineCount ed b - i
+unfolding nextPiece
+left-le ed b i out p e = rw e (omega arith)
+
+-- where lines are left after a piece, they are fewer than before it
+pub piece-falls : (ed : Edition) (b : List ℕ) (i : ℕ) (out : List ℕ) (p : Piece) → p ≡ nextPiece ed b i out .answer → longest ≤ length out → (p .left ≡ 0 → ⊥)
+    → lineCount ed b - p .next < lineCount ed b - i
+piece-falls ed b i out p e g f =
+    let l = left-le ed b i out p e in
+    let more : i < lineCount ed b = lt-of-not-le (λ h. f (omega arith)) in
+    let on = piece-progress ed b i out more g in
+    rw e (omega arith)
 
 -- buffers with room for every line
 abbrev pub Roomy : List (List ℕ) → Type 0

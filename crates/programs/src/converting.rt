@@ -3,13 +3,16 @@ use crate::streams::input_ended;
 use crate::streams::print;
 use book::Edition;
 use libc::STDIN_FILENO;
-use libc::STDOUT_FILENO;
+use listing_lines::refused_book;
 use window::Answer;
 
-fn print_refused(k: u8) {
-    if print(b"book refused ") {
-        io::print_decimal(STDOUT_FILENO, k as u64);
-        print(b"\n");
+fn print_refused(refusal: u8) {
+    let mut line = io::buffer();
+    match refused_book(refusal, &mut line) {
+        Answer::Length(l) => {
+            print(&line[..l]);
+        }
+        Answer::Refused(_) => {}
     }
 }
 

@@ -5,8 +5,8 @@ use book::Edition;
 use libc::STDIN_FILENO;
 use listing_lines::next_piece;
 
-// The listing of a book, in pieces of at most 65,536 bytes, which is room for every line. It ends when no line is
-// left or a write fails.
+// The listing of a book, in pieces of at most 65,536 bytes, which is room for every line. It ends when no line is left
+// and when a write fails.
 fn print_book(edition: Edition, book: &[u8]) {
     let mut out = io::large_buffer();
     let mut first = 0;
@@ -14,10 +14,11 @@ fn print_book(edition: Edition, book: &[u8]) {
         let piece = next_piece(edition, book, first, &mut out);
         let next = piece.next;
         let end = piece.end;
-        if end == 0 {
+        let left = piece.left;
+        if !print(&out[..end]) {
             return;
         }
-        if !print(&out[..end]) {
+        if left == 0 {
             return;
         }
         first = next;

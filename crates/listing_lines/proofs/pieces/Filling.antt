@@ -1,7 +1,7 @@
 -- A piece of a listing, filled line by line: the piece from the first line on is the piece from the next line on,
 -- behind what is written already.
 --
--- Sections: lines; what is left of a piece; filling.
+-- Sections: lines; the line of a refused book; what is left of a piece; filling.
 -- Assumes nothing.
 use mathlib.Core.Path.{_≡_, refl, sym, ap, _∙_}
 use mathlib.Core.List.{List, [], _∷_, _++_}
@@ -10,7 +10,10 @@ use native.Mathlib.Numerals.{add-one}
 use native.Mathlib.Omega.{arith}
 use lib.ListN.{length, take, length-append}
 use lib.Seq.{sets, length-sets}
+use Rattle.coxeter.specs.declared.Answer.the-variants.{Length, Refused}
+use Rattle.coxeter.specs.Calls.{Yields, writes}
 use Rattle.coxeter.proofs.Lists.{Stored, sets-append}
+use Rattle.coxeter.proofs.Outcomes.{writes-short, writes-written}
 use Rattle.coxeter.proofs.FrontLaws.{sets-front, take-front}
 use Rattle.book_format.specs.declared.Edition.{Edition}
 use Rattle.book_format.specs.declared.Opened.{Opened}
@@ -21,6 +24,7 @@ use Rattle.listing_text.specs.Text.{decimal, refusedText, bookText, presetsText
 use Rattle.listing_text.specs.Calls.{lineCountBy, lineCount, firstLine, line, lines, fitting, Piecing, nextPiece}
 use Rattle.listing_text.proofs.Pieces.{fitting-more, fitting-none, length-fitting-le}
 use Rattle.listing_text.proofs.Answered.{lineFrom}
+use Rattle.listing_text.proofs.Decimals.{length-decimal-byte}
 use Rattle.listing_text.proofs.Room.{longest, length-line-le}
 
 -- ---- lines
@@ -63,13 +67,41 @@ unfolding lineFrom line lineOf
 line-from ed b zero o a p q = rw p
 line-from ed b (suc i) o a p q = let e : suc i - 1 ≡ i = omega arith in rw (q, e)
 
--- a line at the front of a buffer
+-- a text at the front of a buffer
+stored-front : (o u v : List ℕ) (m : ℕ) → length u ≤ length o → Stored o 0 u v m → (m ≡ length u) × (take m v ≡ u)
+stored-front o u v m h p =
+    let s : m ≡ length u = omega (arith, p .0) in
+    (s, rw (p .1, sets-front u o h) (take-front u o m (sym s)))
+
 pub line-front : (ed : Edition) (b : List ℕ) (i : ℕ) (o v : List ℕ) (m : ℕ) → i < lineCount ed b → longest ≤ length o → Stored o 0 (line ed b i) v m
     → (m ≡ length (line ed b i)) × (take m v ≡ line ed b i)
-line-front ed b i o v m h g p =
-    let l = length-line-le ed b i h in
-    let s : m ≡ length (line ed b i) = omega (arith, p .0) in
-    (s, rw (p .1, sets-front (line ed b i) o (omega arith)) (take-front (line ed b i) o m (sym s)))
+line-front ed b i o v m h g p = stored-front o (line ed b i) v m (omega (arith, length-line-le ed b i h)) p
+
+-- ---- the line of a refused book
+
+pub refused-room : (r : ℕ) → r < 256 → length (firstLine (opened.Refused r)) ≤ 4096
+unfolding firstLine refusedBookLine refused
+refused-room r h = simp length-append (omega (arith, length-decimal-byte r h))
+
+-- it is made in a buffer o, which is then v, and has m bytes
+module _ (r : ℕ) (h : r < 256) (o v : List ℕ) (m : ℕ) (g : 4096 ≡ length o) (p : Stored o 0 (firstLine (opened.Refused r)) v m) where
+  made : (m ≡ length (refusedBookLine r)) × (take m v ≡ refusedBookLine r)
+  unfolding firstLine
+  made = stored-front o (refusedBookLine r) v m (omega (arith, refused-room r h)) p
+
+  pub refused-inside : m ≤ length o
+  refused-inside = let l : length (refusedBookLine r) ≤ 4096 = unfold firstLine in refused-room r h in omega (arith, made .0)
+
+  module _ (out : List ℕ) where
+    pub refused-short : length out < m → Yields (writes 0 (refusedBookLine r) out) (Refused 14) out
+    refused-short l = writes-short (writes 0 (refusedBookLine r) out) 0 0 (refusedBookLine r) out refl refl m refl (sym (made .0)) l
+
+    pub refused-copied : m ≤ length out → (after : List ℕ) (n : ℕ) → Stored out 0 (take m v) after n
+        → Yields (writes 0 (refusedBookLine r) out) (Length n) after
+    refused-copied l after n s =
+        let e = rw (made .1) at s in
+        writes-written (writes 0 (refusedBookLine r) out) 0 0 (refusedBookLine r) out refl refl n after refl (omega (arith, e .0)) (omega (arith, e .0, made .0))
+        (e .1 ∙ sets-front (refusedBookLine r) out (omega (arith, made .0)))
 
 -- ---- what is left of a piece
 

@@ -1,4 +1,4 @@
--- `listing::print_book` is safe and ends: a piece that has a byte leaves fewer lines, which is the measure.
+-- `listing::print_book` is safe and ends: a piece leaves fewer lines, which is the measure.
 -- Assumes nothing.
 use mathlib.Core.Path.{_≡_, sym, _∙_}
 use Prim.Native.Nat.{_-_, _≤_}
@@ -7,7 +7,8 @@ use lib.ListN.{length}
 use lib.Seq.{length-take-le}
 use borrow.Author.Needs.{needs}
 use Rattle.listing_text.specs.Calls.{lineCount}
-use Rattle.listing_text.proofs.Pieces.{piece-inside, piece-falls}
+use Rattle.listing_text.proofs.Pieces.{piece-inside}
+use Rattle.listing_text.proofs.Room.{piece-falls}
 use Rattle.programs.proofs.listing.print_book.Statement.{statement}
 use Rattle.programs.proofs.listing.print_book.Tie as tie
 
@@ -28,15 +29,15 @@ slice-aggregate-next-piece : tie.Need-slice-aggregate-next-piece Inv-loop μ-loo
 slice-aggregate-next-piece c = sym (c .before .loop .inv)
 
 array-share-prefix-out : tie.Need-array-share-prefix-out Inv-loop μ-loop
-array-share-prefix-out c = inside (c .before .before)
+array-share-prefix-out c = inside (c .before)
 
 slice-aggregate-print : tie.Need-slice-aggregate-print Inv-loop μ-loop
-slice-aggregate-print c = sym (length-take-le _ _ (inside (c .before .before .before)))
+slice-aggregate-print c = sym (length-take-le _ _ (inside (c .before .before)))
 
 loop-less : tie.Need-loop-less Inv-loop μ-loop
 loop-less c =
-    let other = c .before .before .before in
-    piece-falls _ _ _ _ _ (other .before .before .next-piece .ensures .0) (other .if1 .left)
+    let called = c .before .before .before .before .before in
+    piece-falls _ _ _ _ _ (called .next-piece .ensures .0) (omega (arith, called .before .before .loop .inv)) (c .if2 .left)
 
 loop-again : tie.Need-loop-again Inv-loop μ-loop
 loop-again c =
@@ -50,9 +51,9 @@ print-book-spec =
     (λ c κs. search needs)
     loop-holds
     slice-aggregate-next-piece
-    (λ c κs. search needs) (λ c. search needs)
+    (λ c κs. search needs)
     array-share-prefix-out
     slice-aggregate-print
-    (λ c κs. search needs) (λ c. search needs)
+    (λ c κs. search needs) (λ c. search needs) (λ c. search needs)
     loop-less
     loop-again)
