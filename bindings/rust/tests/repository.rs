@@ -48,7 +48,7 @@ fn calls() -> List {
 fn specification() -> List {
     let page = text("docs/SPECIFICATION.md");
     let (_, section) = page.split_once("id=\"cm1\"").expect("the clause CM1");
-    section.lines().skip_while(|line| !line.starts_with('|')).take_while(|line| line.starts_with('|')).filter_map(row).collect()
+    section.split("\n\n").nth(1).expect("a table").lines().filter_map(row).collect()
 }
 
 /// The header: its lines ` *    5  The kind must be 1 for A, 2 for B or 3 for D.`, each of which goes on until a full stop ends a line.
