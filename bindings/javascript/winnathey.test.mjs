@@ -19,9 +19,9 @@ function refusal(call) {
     } catch (error) {
         assert.ok(error instanceof Refusal, String(error));
         assert.equal(error.name, 'Refusal');
-        assert.equal(error.message, w.refusalMessage(error.number));
+        assert.equal(error.text, w.refusalMessage(error.number));
         const place = error.place === null ? '' : ` (preset ${error.place} of the list)`;
-        assert.equal(error.message, `refused ${error.number}: ${error.message}${place}`);
+        assert.equal(error.message, `refused ${error.number}: ${error.text}${place}`);
         return error.number;
     }
     return 0;
