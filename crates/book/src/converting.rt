@@ -9,6 +9,7 @@ use crate::reading::book_refusal;
 use crate::reading::check_record;
 use crate::records::count_place;
 use crate::records::head_size;
+use crate::records::lanes_at;
 use crate::writing::write_record;
 use book_format::Edition;
 use book_format::Preset;
@@ -134,10 +135,12 @@ fn write_other(edition: Edition, book: &[u8], c: usize, number: usize, out: &mut
     let place = count_place(edition);
     let start = o + head_size(edition);
     let end = start + two_at(book, o + place);
+    let m = lanes_at(edition, book, o);
     write_record(
         other(edition),
         book[o],
         book[o + 1],
+        m,
         &book[start..end],
         out,
         p,

@@ -2,13 +2,14 @@
 use crate::numbers::count_of;
 use crate::numbers::record_start;
 use crate::numbers::two_at;
-use crate::records::book_rank_refusal;
+use crate::records::book_lanes;
 use crate::records::count_place;
 use crate::records::has_wrong_lanes;
 use crate::records::head_size;
 use book_format::Edition;
 use book_format::Opened;
 use book_format::Preset;
+use window::Lanes;
 use window::preset_refusal;
 ghost use mathlib.Core.Path.{_≡_};
 ghost use Prim.Native.Nat.{_+_, _*_, _≤_, _<_};
@@ -99,25 +100,26 @@ pub(crate) fn check_record(edition: Edition, book: &[u8], o: usize) -> Preset
     let head = head_size(edition);
     let kind = book[o];
     let rank = book[o + 1];
-    let refusal = book_rank_refusal(edition, kind, rank);
-    if refusal != 0 {
-        return Preset::Refused(refusal);
-    }
-    if has_wrong_lanes(edition, book, o) {
-        return Preset::Refused(17);
-    }
-    let letter_count = two_at(book, o + place);
-    let start = o + head;
-    let end = start + letter_count;
-    let refusal = preset_refusal(kind, rank, &book[start..end]);
-    if refusal != 0 {
-        return Preset::Refused(refusal);
-    }
-    Preset::Found {
-        kind,
-        rank,
-        start,
-        length: letter_count,
+    match book_lanes(edition, kind, rank) {
+        Lanes::Count(m) => {
+            if has_wrong_lanes(edition, m, book, o) {
+                return Preset::Refused(17);
+            }
+            let letter_count = two_at(book, o + place);
+            let start = o + head;
+            let end = start + letter_count;
+            let refusal = preset_refusal(kind, rank, &book[start..end]);
+            if refusal != 0 {
+                return Preset::Refused(refusal);
+            }
+            Preset::Found {
+                kind,
+                rank,
+                start,
+                length: letter_count,
+            }
+        }
+        Lanes::Refused(refusal) => Preset::Refused(refusal),
     }
 }
 

@@ -14,13 +14,14 @@ use borrow.Author.Tests.{eq-eqb, ne-eqb, lt-ltb, le-ltb, ltb-false}
 use Rattle.book_format.specs.declared.Edition.{Edition}
 use Rattle.book_format.specs.declared.Edition.the-variants.{First, Second}
 use Rattle.coxeter.specs.declared.Answer.the-variants as answer
+use Rattle.coxeter.specs.Kinds.{kindOf, lanes}
 use Rattle.coxeter.specs.Checks.{check, _then_, rankRefusal, wordRefusal, WordOf}
 use Rattle.book_format.specs.Books.{two, count, trailer, tooLarge, retired, bookRankRefusal, bookRefusal}
 use Rattle.book_format.specs.Books.{laneByte, recordOf, appended, appendRefusal, countPlace, headSize, addedSize}
 use Rattle.book_format.specs.Calls.{appending}
 use Rattle.book_format.proofs.RankLaws.{bookRank-accepted}
 use Rattle.book_format.proofs.BookLaws.{Accepted, accepted, accepted-read, bookSize, trailer-le}
-use Rattle.coxeter.proofs.Acceptance.{rank-accepted}
+use Rattle.coxeter.proofs.Acceptance.{lanes-le}
 use Rattle.coxeter.proofs.Outcomes.{writes-refused, writes-short, writes-written}
 use Rattle.coxeter.proofs.Refusals.{then-zero, check-zero, then-none}
 use Rattle.coxeter.proofs.FrontLaws.{sets-front}
@@ -117,8 +118,9 @@ unfolding tooLarge
 append-size ed b k n u e =
     ltb-false 65535 (length (appended ed b k n u)) (check-zero 13 (tooLarge (length (appended ed b k n u))) refl (append-parts ed b k n u e .3))
 
-pub append-rank : (ed : Edition) (b : List ℕ) (k n : ℕ) (u : List ℕ) → appendRefusal ed b k n u ≡ 0 → n ≤ 64
-append-rank ed b k n u e = rank-accepted k n (bookRank-accepted ed k n (append-parts ed b k n u e .1)) .1
+-- its lane count is a byte
+pub append-lanes-le : (ed : Edition) (b : List ℕ) (k n : ℕ) (u : List ℕ) (m : ℕ) → appendRefusal ed b k n u ≡ 0 → m ≡ lanes (kindOf k) n → m ≤ 255
+append-lanes-le ed b k n u m e c = omega (arith, lanes-le k n m (bookRank-accepted ed k n (append-parts ed b k n u e .1)) c)
 
 pub append-accepted : (ed : Edition) (b : List ℕ) (k n : ℕ) (u : List ℕ) → appendRefusal ed b k n u ≡ 0 → Accepted ed b
 append-accepted ed b k n u e = accepted ed b (append-book ed b k n u e)

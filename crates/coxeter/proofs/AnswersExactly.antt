@@ -7,12 +7,13 @@ use mathlib.Core.Logic.{_↔_, Iff·rfl, Iff·trans, Iff·and}
 use Prim.Native.Nat.{ℕ}
 use lib.Dec.{eqb}
 use Rattle.coxeter.specs.declared.Answer.the-variants.{Length, Refused}
+use Rattle.coxeter.specs.declared.Lanes.the-variants as lane-count
 use Rattle.coxeter.specs.declared.Verdict.{Verdict}
 use Rattle.coxeter.specs.declared.Verdict.the-variants as verdict
 use Rattle.coxeter.specs.declared.Counted.the-variants as counted
 use Rattle.coxeter.specs.Kinds.{pick}
 use Rattle.coxeter.specs.Length.{Crossings}
-use Rattle.coxeter.specs.Calls.{answerOf, verdictOf, countedOf}
+use Rattle.coxeter.specs.Calls.{answerOf, lanesOf, verdictOf, countedOf}
 use Rattle.coxeter.proofs.TestLaws.{zero-not-one}
 use Rattle.coxeter.proofs.Refusals.{refused-exactly, good-exactly}
 
@@ -24,6 +25,17 @@ unfolding answerOf
 answerOf-exactly r l = (
   λ q. refused-exactly Refused (Length l) r q (λ e. cc) (λ e. zero-not-one (cc)),
   λ m. Iff·trans (good-exactly Refused (Length l) r (Length m) (λ e. zero-not-one (cc))) (Iff·and Iff·rfl (λ e. cc, ap Length)),
+)
+
+-- G17, K3, I33, CO3: a lane count is refused with q exactly when q is the number that the checks gave and not 0, and
+-- is a exactly when they gave 0 and a is the number of lanes
+pub lanesOf-exactly : (r m : ℕ) → ((q : ℕ) → (lanesOf r m ≡ lane-count.Refused q) ↔ ((r ≡ q) × (q ≡ 0 → ⊥)))
+    × ((a : ℕ) → (lanesOf r m ≡ lane-count.Count a) ↔ ((r ≡ 0) × (m ≡ a)))
+unfolding lanesOf
+lanesOf-exactly r m = (
+  λ q. refused-exactly lane-count.Refused (lane-count.Count m) r q (λ e. cc) (λ e. zero-not-one (cc)),
+  λ a. Iff·trans (good-exactly lane-count.Refused (lane-count.Count m) r (lane-count.Count a) (λ e. zero-not-one (cc)))
+      (Iff·and Iff·rfl (λ e. cc, ap lane-count.Count)),
 )
 
 -- G17, V1, CO3: a verdict is a refusal q exactly when q is the number that the checks gave and not 0, and yes or no

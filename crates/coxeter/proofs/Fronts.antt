@@ -84,18 +84,12 @@ module _ (k n : ℕ) (u : List ℕ) (h : RankOf k n) (g : WordOf n u) where
     pub form-never : (s : ℕ) → a ≡ answer.Refused s → ⊥
     form-never s q = never-refused 4096 checks form out v none (length-form-le k n u h) f a (unfold normalFormOfWord in e) s q
 
-  module _ (out v : List ℤ) (f : 64 ≡ length out) where
+  module _ (out v : List ℤ) (f : 64 ≡ length out) (a : Answer) (e : Yields (windowOfWord k n u out) a v) where
     abbrev shown : List ℤ
     shown = window (kindOf k) n u
 
-    pub window-shown : v ≡ windowOfWord k n u out .bytes → Front 64 (window (kindOf k) n u) v (lanes (kindOf k) n)
-    unfolding windowOfWord
-    window-shown e =
-        front-of-bytes 64 checks shown out v none (length-window-le k n u h) f (lanes (kindOf k) n) (sym (window-accepted (kindOf k) n u .size)) e
+    pub window-front : (m : ℕ) → a ≡ answer.Length m → Front 64 (window (kindOf k) n u) v m
+    window-front m q = front-written 64 checks shown out v none (length-window-le k n u h) f a (unfold windowOfWord in e) m q
 
-    module _ (a : Answer) (e : Yields (windowOfWord k n u out) a v) where
-      pub window-front : (m : ℕ) → a ≡ answer.Length m → Front 64 (window (kindOf k) n u) v m
-      window-front m q = front-written 64 checks shown out v none (length-window-le k n u h) f a (unfold windowOfWord in e) m q
-
-      pub window-never : (s : ℕ) → a ≡ answer.Refused s → ⊥
-      window-never s q = never-refused 64 checks shown out v none (length-window-le k n u h) f a (unfold windowOfWord in e) s q
+    pub window-never : (s : ℕ) → a ≡ answer.Refused s → ⊥
+    window-never s q = never-refused 64 checks shown out v none (length-window-le k n u h) f a (unfold windowOfWord in e) s q

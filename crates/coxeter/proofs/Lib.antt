@@ -50,5 +50,6 @@ pub mod Room
 pub mod HandedOn
 pub mod Sentences
 pub mod AnswersExactly
+pub mod LaneCounts
 pub mod ChecksExactly
 pub mod WindowsExactly

@@ -10,6 +10,8 @@ use lib.IntN.{ℤ, pos, negsuc}
 use lib.ListN.{length, drop}
 use Rattle.coxeter.specs.declared.Answer.{Answer}
 use Rattle.coxeter.specs.declared.Answer.the-variants.{Length, Refused}
+use Rattle.coxeter.specs.declared.Lanes.{Lanes}
+use Rattle.coxeter.specs.declared.Lanes.the-variants as lane-count
 use Rattle.coxeter.specs.declared.Verdict.{Verdict}
 use Rattle.coxeter.specs.declared.Verdict.the-variants as verdict
 use Rattle.coxeter.specs.declared.Choice.{Choice}
@@ -25,6 +27,10 @@ use Rattle.coxeter.specs.Checks.{check, _then_, tooShort, rankRefusal, w
 -- I1, G17: the number and the value of each case of `Answer`: its refusal, or with none the length
 unfoldable pub answerOf : ℕ → ℕ → Answer
 answerOf r l = pick (eqb r 0) (Length l) (Refused r)
+
+-- K3, I33, G17: the number and the value of each case of `Lanes`: its refusal, or with none the lane count
+unfoldable pub lanesOf : ℕ → ℕ → Lanes
+lanesOf r m = pick (eqb r 0) (lane-count.Count m) (lane-count.Refused r)
 
 -- V1, G17: the number and the value of each case of `Verdict`: its refusal, or with none yes or no
 unfoldable pub verdictOf : ℕ → Bool → Verdict

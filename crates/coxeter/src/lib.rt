@@ -7,6 +7,12 @@ pub enum Answer {
     Refused(u8),
 }
 
+// K3, I33: how many lanes a kind and a rank have, or the refusal.
+pub enum Lanes {
+    Count(usize),
+    Refused(u8),
+}
+
 // V1: an equality verdict, or the refusal.
 pub enum Verdict {
     Yes,

@@ -3,13 +3,12 @@
 // 64 bits.
 use crate::lengths::fewest_of;
 use crate::lengths::greatest_length;
-use crate::lengths::lanes;
 use crate::lengths::top_of;
 use distribution::Combination;
 ghost use mathlib.Core.Path.{_≡_};
 ghost use Prim.Native.Nat.{_+_, _^_, _≤_, _<_};
 ghost use lib.ListN.{length};
-ghost use Rattle.coxeter.specs.Kinds.{kindOf};
+ghost use Rattle.coxeter.specs.Kinds.{kindOf, lanes};
 ghost use Rattle.coxeter.specs.Length.{greatestLength};
 ghost use Rattle.coxeter.specs.Calls.{front};
 ghost use Rattle.distribution.specs.Distribution.{distribution};
@@ -99,13 +98,13 @@ fn multiply(kind: u8, c: usize, counts: &mut [u64])
 }
 
 // The numbers of windows of each length, one level after another from the last; those of fewer levels end earlier.
-fn count(kind: u8, rank: u8, counts: &mut [u64])
+fn count(kind: u8, rank: u8, m: usize, counts: &mut [u64])
     requires { ⌜ tableRefusal kind rank ≡ 0 ⌝ }
+    requires { ⌜ m ≡ lanes (kindOf kind) rank ⌝ }
     requires { ⌜ length (now counts) ≡ greatestLength (kindOf kind) rank + 1 ⌝ }
     ensures { λ _. ⌜ now (counts .exit) ≡ distribution (kindOf kind) rank ⌝ }
 {
     set_one(kind, counts);
-    let m = lanes(kind, rank);
     let mut d: usize = 1;
     let mut c = fewest_of(kind);
     while c < m {
@@ -116,11 +115,12 @@ fn count(kind: u8, rank: u8, counts: &mut [u64])
 }
 
 // The same to the front of `counts`.
-pub(crate) fn write_counts(kind: u8, rank: u8, counts: &mut [u64])
+pub(crate) fn write_counts(kind: u8, rank: u8, m: usize, counts: &mut [u64])
     requires { ⌜ tableRefusal kind rank ≡ 0 ⌝ }
+    requires { ⌜ m ≡ lanes (kindOf kind) rank ⌝ }
     requires { ⌜ greatestLength (kindOf kind) rank + 1 ≤ length (now counts) ⌝ }
     ensures { λ _. ⌜ now (counts .exit) ≡ front (distribution (kindOf kind) rank) (now (counts .entry)) ⌝ }
 {
-    let m = greatest_length(kind, rank) + 1;
-    count(kind, rank, &mut counts[..m]);
+    let size = greatest_length(kind, rank) + 1;
+    count(kind, rank, m, &mut counts[..size]);
 }

@@ -1,10 +1,11 @@
 // What a kind and a rank say of their table: whether there is one, the lane count, and the greatest lengths.
-use refusals::rank_refusal;
+use coxeter::Lanes;
+use refusals::lanes_of;
 ghost use mathlib.Core.Path.{_≡_};
 ghost use Prim.Native.Nat.{_≤_};
-ghost use Rattle.coxeter.specs.Kinds as kinds;
-ghost use Rattle.coxeter.specs.Kinds.{kindOf};
+ghost use Rattle.coxeter.specs.Kinds.{kindOf, lanes};
 ghost use Rattle.coxeter.specs.Length.{greatestLength};
+ghost use Rattle.coxeter.specs.Calls.{lanesOf};
 ghost use Rattle.distribution.specs.Calls.{greatestTabled, tableRefusal};
 ghost use Rattle.distribution.proofs.Products.{fewest, top};
 
@@ -17,29 +18,28 @@ fn greatest_tabled(kind: u8) -> u8
     16
 }
 
+// How many lanes a kind and a rank with a delay table have, after checks 5, 6 and 20.
+pub(crate) fn tabled_lanes(kind: u8, rank: u8) -> Lanes
+    ensures { λ r. ⌜ r ≡ lanesOf (tableRefusal kind rank) (lanes (kindOf kind) rank) ⌝ }
+{
+    let answer = lanes_of(kind, rank);
+    let Lanes::Count(_) = answer else {
+        return answer;
+    };
+    if greatest_tabled(kind) < rank {
+        return Lanes::Refused(20);
+    }
+    answer
+}
+
 // I33: checks 5, 6, 20 of a delay table, in this order: the first refusal, or 0.
 pub fn table_refusal(kind: u8, rank: u8) -> u8
     ensures { λ r. ⌜ r ≡ tableRefusal kind rank ⌝ }
 {
-    let refusal = rank_refusal(kind, rank);
-    if refusal != 0 {
-        return refusal;
+    match tabled_lanes(kind, rank) {
+        Lanes::Count(_) => 0,
+        Lanes::Refused(refusal) => refusal,
     }
-    if greatest_tabled(kind) < rank {
-        return 20;
-    }
-    0
-}
-
-// How many lanes a window of this kind and rank has.
-pub(crate) fn lanes(kind: u8, rank: u8) -> usize
-    ensures { λ r. ⌜ r ≡ kinds.lanes (kindOf kind) rank ⌝ }
-{
-    let n = rank as usize;
-    if kind == 1 {
-        return n + 1;
-    }
-    n
 }
 
 // The greatest length of a window.

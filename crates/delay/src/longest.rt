@@ -1,12 +1,10 @@
 // The longest window and its normal form.
-use crate::lengths::lanes;
 use window::normal_form_of_window;
 ghost use mathlib.Core.Path.{_≡_};
 ghost use Prim.Native.Nat.{_<_, _≤_};
 ghost use lib.IntN.{pos};
 ghost use lib.ListN.{length, getD, take};
-ghost use Rattle.coxeter.specs.Kinds as kinds;
-ghost use Rattle.coxeter.specs.Kinds.{kindOf};
+ghost use Rattle.coxeter.specs.Kinds.{kindOf, lanes};
 ghost use Rattle.coxeter.specs.Length.{greatestLength};
 ghost use Rattle.coxeter.specs.Checks.{RankOf};
 ghost use Rattle.coxeter.specs.NormalForm.{normalForm};
@@ -17,7 +15,7 @@ ghost use Rattle.distribution.specs.Longest.{longest};
 // The entry at position i, from 0, of the longest window, which has m entries: m, m - 1, .., 1 in kind A, and else
 // -1, -2, .., -m, but in kind D the last one is positive where the rank is odd.
 fn longest_entry(kind: u8, n: usize, m: usize, i: usize) -> i8
-    requires { ⌜ (m ≡ kinds.lanes (kindOf kind) n) × (i < m) × (m ≤ 127) ⌝ }
+    requires { ⌜ (m ≡ lanes (kindOf kind) n) × (i < m) × (m ≤ 127) ⌝ }
     ensures { λ r. ⌜ r ≡ getD (longest (kindOf kind) n) i (pos 0) ⌝ }
 {
     if kind == 1 {
@@ -38,7 +36,7 @@ fn longest_entry(kind: u8, n: usize, m: usize, i: usize) -> i8
 
 fn set_longest(kind: u8, n: usize, w: &mut [i8])
     requires { ⌜ Ranked (kindOf kind) n ⌝ }
-    requires { ⌜ length (now w) ≡ kinds.lanes (kindOf kind) n ⌝ }
+    requires { ⌜ length (now w) ≡ lanes (kindOf kind) n ⌝ }
     ensures { λ _. ⌜ now (w .exit) ≡ longest (kindOf kind) n ⌝ }
 {
     let mut i = 0;
@@ -49,24 +47,22 @@ fn set_longest(kind: u8, n: usize, w: &mut [i8])
 }
 
 // The longest window, to the front of `entries`.
-pub(crate) fn write_longest(kind: u8, rank: u8, entries: &mut [i8])
+pub(crate) fn write_longest(kind: u8, rank: u8, m: usize, entries: &mut [i8])
     requires { ⌜ RankOf kind rank ⌝ }
-    requires { ⌜ kinds.lanes (kindOf kind) rank ≤ length (now entries) ⌝ }
+    requires { ⌜ m ≡ lanes (kindOf kind) rank ⌝ }
+    requires { ⌜ m ≤ length (now entries) ⌝ }
     ensures { λ _. ⌜ now (entries .exit) ≡ front (longest (kindOf kind) rank) (now (entries .entry)) ⌝ }
 {
-    let n = rank as usize;
-    let m = lanes(kind, rank);
-    set_longest(kind, n, &mut entries[..m]);
+    set_longest(kind, rank as usize, &mut entries[..m]);
 }
 
-// The normal form of the longest window, which is at the front of `entries`, to the front of `letters`.
-pub(crate) fn write_form(kind: u8, rank: u8, entries: &[i8], letters: &mut [u8])
+// The normal form of the longest window, which is the first m of `entries`, to the front of `letters`.
+pub(crate) fn write_form(kind: u8, rank: u8, m: usize, entries: &[i8], letters: &mut [u8])
     requires { ⌜ RankOf kind rank ⌝ }
-    requires { ⌜ kinds.lanes (kindOf kind) rank ≤ length (now entries) ⌝ }
-    requires { ⌜ take (kinds.lanes (kindOf kind) rank) (now entries) ≡ longest (kindOf kind) rank ⌝ }
+    requires { ⌜ m ≤ length (now entries) ⌝ }
+    requires { ⌜ take m (now entries) ≡ longest (kindOf kind) rank ⌝ }
     requires { ⌜ greatestLength (kindOf kind) rank ≤ length (now letters) ⌝ }
     ensures { λ _. ⌜ now (letters .exit) ≡ front (normalForm (kindOf kind) rank (longest (kindOf kind) rank)) (now (letters .entry)) ⌝ }
 {
-    let m = lanes(kind, rank);
     normal_form_of_window(kind, rank, &entries[..m], letters);
 }

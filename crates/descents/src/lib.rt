@@ -21,7 +21,6 @@ use splitting::split_accepted;
 use walk::decide;
 pub use window::Answer;
 use work::entries_64;
-use work::lanes;
 use work::letters_4096;
 use work::show;
 use work::write_form;
@@ -43,9 +42,8 @@ fn decide_words(kind: u8, rank: u8, present: &[u8], simpler: &[u8], places: &mut
     ensures { λ r. ⌜ Decided (kindOf kind) rank (wordNormalForm (kindOf kind) rank (now (present .entry)))
         (window (kindOf kind) rank (now (simpler .entry))) (now (places .entry)) r (now (places .exit)) ⌝ }
 {
-    let m = lanes(kind, rank);
     let mut target = entries_64();
-    show(kind, rank, simpler, &mut target);
+    let m = show(kind, rank, simpler, &mut target);
     let mut form = letters_4096();
     let l = write_form(kind, rank, present, &mut form);
     decide(kind, rank, &mut form[..l], &mut target[..m], places)

@@ -3,7 +3,6 @@ use crate::stripping::strip;
 use crate::work::entries_64;
 use crate::work::form_length;
 use crate::work::invert;
-use crate::work::lanes;
 use crate::work::show;
 use shortest_words::Split;
 use window::Answer;
@@ -94,7 +93,7 @@ fn split_window(
         (secondWord (allows allowed) (kindOf kind) rank (now (w .entry))) (now (first .entry)) (now (second .entry)))
         r (now (first .exit)) (now (second .exit)) ⌝ }
 {
-    let m = lanes(kind, rank);
+    let m = w.len();
     let mut rest = entries_64();
     invert(kind, rank, w, &mut rest);
     strip(kind, rank as usize, allowed, &mut rest[..m]);
@@ -115,8 +114,7 @@ pub(crate) fn split_accepted(
         (secondWord (allows allowed) (kindOf kind) rank (window (kindOf kind) rank (now (word .entry))))
         (now (first .entry)) (now (second .entry))) r (now (first .exit)) (now (second .exit)) ⌝ }
 {
-    let m = lanes(kind, rank);
     let mut w = entries_64();
-    show(kind, rank, word, &mut w);
+    let m = show(kind, rank, word, &mut w);
     split_window(kind, rank, allowed, &w[..m], first, second)
 }

@@ -7,7 +7,6 @@ use window::normal_form_of_word;
 use window::window_of_word;
 ghost use mathlib.Core.Path.{_≡_};
 ghost use lib.ListN.{length};
-ghost use Rattle.coxeter.specs.Kinds as kinds;
 ghost use Rattle.coxeter.specs.Kinds.{kindOf};
 ghost use Rattle.coxeter.specs.Windows.{window, inverse};
 ghost use Rattle.coxeter.specs.Checks.{RankOf, WordOf, WindowOf};
@@ -41,24 +40,15 @@ pub(crate) fn entries_64() -> [i8; 64]
     [0i8; 64]
 }
 
-// How many lanes a window of this kind and rank has.
-pub(crate) fn lanes(kind: u8, rank: u8) -> usize
-    ensures { λ r. ⌜ r ≡ kinds.lanes (kindOf kind) rank ⌝ }
-{
-    let n = rank as usize;
-    if kind == 1 {
-        return n + 1;
-    }
-    n
-}
-
-// The window of an accepted word, at the front of `work`.
-pub(crate) fn show(kind: u8, rank: u8, word: &[u8], work: &mut [i8])
+// The window of an accepted word, at the front of `work`. Returns its length.
+pub(crate) fn show(kind: u8, rank: u8, word: &[u8], work: &mut [i8]) -> usize
     requires { ⌜ RankOf kind rank × WordOf rank (now word) × (64 ≡ length (now work)) ⌝ }
-    ensures { λ _. ⌜ (64 ≡ length (now (work .exit)))
-        × Front 64 (window (kindOf kind) rank (now (word .entry))) (now (work .exit)) (kinds.lanes (kindOf kind) rank) ⌝ }
+    ensures { λ r. ⌜ (64 ≡ length (now (work .exit))) × Front 64 (window (kindOf kind) rank (now (word .entry))) (now (work .exit)) r ⌝ }
 {
-    window_of_word(kind, rank, word, work);
+    let Answer::Length(m) = window_of_word(kind, rank, word, work) else {
+        return 0;
+    };
+    m
 }
 
 // The normal form of an accepted word, at the front of `form`. Returns its length.
@@ -75,8 +65,7 @@ pub(crate) fn write_form(kind: u8, rank: u8, word: &[u8], form: &mut [u8]) -> us
 // The inverse of an accepted window, at the front of `work`.
 pub(crate) fn invert(kind: u8, rank: u8, w: &[i8], work: &mut [i8])
     requires { ⌜ RankOf kind rank × WindowOf (kindOf kind) rank (now w) × (64 ≡ length (now work)) ⌝ }
-    ensures { λ _. ⌜ (64 ≡ length (now (work .exit)))
-        × Front 64 (inverse (now (w .entry))) (now (work .exit)) (kinds.lanes (kindOf kind) rank) ⌝ }
+    ensures { λ _. ⌜ (64 ≡ length (now (work .exit))) × Front 64 (inverse (now (w .entry))) (now (work .exit)) (length (now (w .entry))) ⌝ }
 {
     inverse_of_window(kind, rank, w, work);
 }

@@ -2,14 +2,16 @@
 // refusal is its number; 0 stands for none.
 use crate::entries::is_negative;
 use crate::entries::size;
+use coxeter::Lanes;
 ghost use mathlib.Core.Path.{_≡_};
 ghost use mathlib.Core.Bool.{false};
 ghost use Prim.Native.Nat.{ℕ, _+_, _<_, _≤_, max};
 ghost use lib.ListN.{length, getD};
 ghost use Rattle.coxeter.specs.Kinds as kinds;
-ghost use Rattle.coxeter.specs.Kinds.{kindOf};
-ghost use Rattle.coxeter.specs.Checks.{_then_, rankRefusal, wordRefusal, windowRefusal, RankOf};
+ghost use Rattle.coxeter.specs.Kinds.{kindOf, lanes};
+ghost use Rattle.coxeter.specs.Checks.{_then_, rankRefusal, wordRefusal, windowRefusal};
 ghost use Rattle.coxeter.specs.Checks.{wrongLetter, wrongEntry, oddNegatives, negativeInA};
+ghost use Rattle.coxeter.specs.Calls.{lanesOf};
 ghost use Rattle.coxeter.specs.Parity.{flagAfter};
 
 // C7: the most letters of a word.
@@ -36,17 +38,6 @@ fn greatest(kind: u8) -> u8
     64
 }
 
-// How many lanes a window of this kind and rank has.
-fn lanes(kind: u8, rank: u8) -> usize
-    ensures { λ r. ⌜ r ≡ kinds.lanes (kindOf kind) rank ⌝ }
-{
-    let n = rank as usize;
-    if kind == 1 {
-        return n + 1;
-    }
-    n
-}
-
 // I33: checks 5 and 6 of a kind and a rank.
 pub fn rank_refusal(kind: u8, rank: u8) -> u8
     ensures { λ r. ⌜ r ≡ rankRefusal kind rank ⌝ }
@@ -66,6 +57,21 @@ pub fn rank_refusal(kind: u8, rank: u8) -> u8
         return 6;
     }
     0
+}
+
+// I33, K3: how many lanes a kind and a rank have, after checks 5 and 6.
+pub fn lanes_of(kind: u8, rank: u8) -> Lanes
+    ensures { λ r. ⌜ r ≡ lanesOf (rankRefusal kind rank) (lanes (kindOf kind) rank) ⌝ }
+{
+    let refusal = rank_refusal(kind, rank);
+    if refusal != 0 {
+        return Lanes::Refused(refusal);
+    }
+    let n = rank as usize;
+    if kind == 1 {
+        return Lanes::Count(n + 1);
+    }
+    Lanes::Count(n)
 }
 
 // A letter less one, where 0 becomes 255: a letter is wrong if that is not below the rank.
@@ -125,6 +131,21 @@ pub fn preset_refusal(kind: u8, rank: u8, word: &[u8]) -> u8
     word_refusal(rank, word)
 }
 
+// I33, K3: how many lanes a preset has, after checks 5 to 8.
+pub fn preset_lanes(kind: u8, rank: u8, word: &[u8]) -> Lanes
+    ensures { λ r. ⌜ r ≡ lanesOf (rankRefusal kind rank then wordRefusal rank (now (word .entry))) (lanes (kindOf kind) rank) ⌝ }
+{
+    let answer = lanes_of(kind, rank);
+    let Lanes::Count(_) = answer else {
+        return answer;
+    };
+    let refusal = word_refusal(rank, word);
+    if refusal != 0 {
+        return Lanes::Refused(refusal);
+    }
+    answer
+}
+
 // I33, CO4: checks 5 to 8 of two presets, all of the first's before the second's.
 pub fn presets_refusal(kind_a: u8, rank_a: u8, a: &[u8], kind_b: u8, rank_b: u8, b: &[u8]) -> u8
     ensures { λ r. ⌜ r ≡ (rankRefusal «kind_a» «rank_a» then wordRefusal «rank_a» (now (a .entry))
@@ -147,6 +168,22 @@ pub fn ranked_words_refusal(kind: u8, rank: u8, u: &[u8], v: &[u8]) -> u8
         return first;
     }
     word_refusal(rank, v)
+}
+
+// I33, CO4, K3: how many lanes two words of one kind and rank have, after their checks.
+pub fn ranked_words_lanes(kind: u8, rank: u8, u: &[u8], v: &[u8]) -> Lanes
+    ensures { λ r. ⌜ r ≡ lanesOf (rankRefusal kind rank then wordRefusal rank (now (u .entry)) then wordRefusal rank (now (v .entry)))
+        (lanes (kindOf kind) rank) ⌝ }
+{
+    let answer = preset_lanes(kind, rank, u);
+    let Lanes::Count(_) = answer else {
+        return answer;
+    };
+    let refusal = word_refusal(rank, v);
+    if refusal != 0 {
+        return Lanes::Refused(refusal);
+    }
+    answer
 }
 
 fn negative_in_a(kind: u8, e: i8) -> bool
@@ -218,12 +255,11 @@ fn has_odd_negatives(kind: u8, w: &[i8]) -> bool
     }
 }
 
-// C9, C10, C11: of a window whose kind and rank passed.
-fn window_refusal(kind: u8, rank: u8, w: &[i8]) -> u8
-    requires { ⌜ RankOf kind rank ⌝ }
-    ensures { λ r. ⌜ r ≡ windowRefusal (kindOf kind) rank (now (w .entry)) ⌝ }
+// C9, C10, C11: of a window that should have m lanes, of whichever rank that is.
+fn window_refusal(kind: u8, m: usize, w: &[i8]) -> u8
+    requires { ⌜ m ≤ 64 ⌝ }
+    ensures { λ r. ⌜ ((n : ℕ) → m ≡ lanes (kindOf kind) n → r ≡ windowRefusal (kindOf kind) n (now (w .entry))) ⌝ }
 {
-    let m = lanes(kind, rank);
     if w.len() != m {
         return 9;
     }
@@ -240,11 +276,10 @@ fn window_refusal(kind: u8, rank: u8, w: &[i8]) -> u8
 pub fn ranked_window_refusal(kind: u8, rank: u8, w: &[i8]) -> u8
     ensures { λ r. ⌜ r ≡ (rankRefusal kind rank then windowRefusal (kindOf kind) rank (now (w .entry))) ⌝ }
 {
-    let refusal = rank_refusal(kind, rank);
-    if refusal != 0 {
-        return refusal;
+    match lanes_of(kind, rank) {
+        Lanes::Count(m) => window_refusal(kind, m, w),
+        Lanes::Refused(refusal) => refusal,
     }
-    window_refusal(kind, rank, w)
 }
 
 // I33, CO4: checks 5, 6 and 9 to 11 of two windows of one kind and rank: kind and rank once, then the first window,
@@ -253,13 +288,14 @@ pub fn ranked_windows_refusal(kind: u8, rank: u8, u: &[i8], v: &[i8]) -> u8
     ensures { λ r. ⌜ r ≡ (rankRefusal kind rank then windowRefusal (kindOf kind) rank (now (u .entry))
         then windowRefusal (kindOf kind) rank (now (v .entry))) ⌝ }
 {
-    let refusal = rank_refusal(kind, rank);
-    if refusal != 0 {
-        return refusal;
+    match lanes_of(kind, rank) {
+        Lanes::Count(m) => {
+            let first = window_refusal(kind, m, u);
+            if first != 0 {
+                return first;
+            }
+            window_refusal(kind, m, v)
+        }
+        Lanes::Refused(refusal) => refusal,
     }
-    let first = window_refusal(kind, rank, u);
-    if first != 0 {
-        return first;
-    }
-    window_refusal(kind, rank, v)
 }

@@ -1,7 +1,6 @@
 // Normal forms of windows that are made from accepted windows: their product, an inverse, and what leads from one to
 // another. What is made is not checked: it passes because the windows that it is made of do.
 use crate::Answer;
-use crate::entries::lanes;
 use crate::forms::write_checked;
 use crate::product::inverse_into;
 use crate::product::product_into;
@@ -25,7 +24,7 @@ fn between_into(kind: u8, rank: u8, u: &[i8], v: &[i8], out: &mut [i8])
     requires { ⌜ length (now v) ≤ length (now out) ⌝ }
     ensures { λ _. ⌜ now (out .exit) ≡ front (product (inverse (now (u .entry))) (now (v .entry))) (now (out .entry)) ⌝ }
 {
-    let m = lanes(kind, rank);
+    let m = u.len();
     let mut back = entries_64();
     inverse_into(kind, rank, u, &mut back);
     product_into(kind, rank, &back[..m], v, out);
@@ -44,8 +43,9 @@ pub fn normal_form_of_product(kind: u8, rank: u8, u: &[i8], v: &[i8], out: &mut 
         return Answer::Refused(refusal);
     }
     let mut work = entries_64();
+    let m = v.len();
     product_into(kind, rank, u, v, &mut work);
-    write_checked(kind, rank, &work, out)
+    write_checked(kind, rank, &work[..m], out)
 }
 
 // I34: writes the normal form of a window's inverse to the front of `out` and returns its length. Refuses with 5 or 6,
@@ -59,8 +59,9 @@ pub fn normal_form_of_inverse(kind: u8, rank: u8, w: &[i8], out: &mut [u8]) -> A
         return Answer::Refused(refusal);
     }
     let mut work = entries_64();
+    let m = w.len();
     inverse_into(kind, rank, w, &mut work);
-    write_checked(kind, rank, &work, out)
+    write_checked(kind, rank, &work[..m], out)
 }
 
 // I34: writes the normal form of the window that leads from u to v to the front of `out` and returns its length.
@@ -76,6 +77,7 @@ pub fn normal_form_between(kind: u8, rank: u8, u: &[i8], v: &[i8], out: &mut [u8
         return Answer::Refused(refusal);
     }
     let mut work = entries_64();
+    let m = v.len();
     between_into(kind, rank, u, v, &mut work);
-    write_checked(kind, rank, &work, out)
+    write_checked(kind, rank, &work[..m], out)
 }

@@ -1,23 +1,9 @@
-// The entries of a window: how many there are, and entries made as signed bytes, from others or from a position and
-// a sign.
+// The entries of a window, made as signed bytes, from others or from a position and a sign.
 use refusals::is_negative;
 ghost use mathlib.Core.Path.{_≡_};
 ghost use Prim.Native.Nat.{_<_};
 ghost use lib.IntN.{natAbs, negℤ};
-ghost use Rattle.coxeter.specs.Kinds as kinds;
-ghost use Rattle.coxeter.specs.Kinds.{kindOf};
 ghost use Rattle.coxeter.specs.Windows.{signed};
-
-// How many entries, one a lane, a window of this kind and rank has.
-pub(crate) fn lanes(kind: u8, rank: u8) -> usize
-    ensures { λ r. ⌜ r ≡ kinds.lanes (kindOf kind) rank ⌝ }
-{
-    let n = rank as usize;
-    if kind == 1 {
-        return n + 1;
-    }
-    n
-}
 
 pub(crate) fn negated(e: i8) -> i8
     requires { ⌜ natAbs e < 128 ⌝ }

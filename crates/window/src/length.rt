@@ -6,10 +6,10 @@ ghost use mathlib.Core.Path.{_≡_};
 ghost use Prim.Native.Nat.{_+_, _-_, _*_, _/_, _^_, _≤_, _<_};
 ghost use lib.Bits.{bitOr};
 ghost use lib.Count.{ones};
-ghost use lib.ListN.{length, take};
+ghost use lib.ListN.{length};
 ghost use Rattle.coxeter.specs.Kinds.{B, kindOf, lanes};
 ghost use Rattle.coxeter.specs.Length.{inversions, negativeSumPairs, negatives, crossings, windowLength};
-ghost use Rattle.coxeter.specs.Checks.{RankOf, WindowOf};
+ghost use Rattle.coxeter.specs.Checks.{WindowOf};
 ghost use Rattle.coxeter.specs.Calls.{countedOf};
 
 // What a length is made of: the pairs of both sorts, the negative sum pairs among them, and the negative entries.
@@ -110,15 +110,4 @@ pub(crate) fn length_of(kind: u8, n: usize, w: &[i8]) -> usize
         return parts.pairs + parts.negatives;
     }
     parts.pairs
-}
-
-// The three counts of the length of the accepted window at the front of `work`.
-pub(crate) fn crossings_of_front(kind: u8, rank: u8, work: &[i8]) -> Counted
-    requires { ⌜ RankOf kind rank ⌝ }
-    requires { ⌜ lanes (kindOf kind) rank ≤ length (now work) ⌝ }
-    requires { ⌜ WindowOf (kindOf kind) rank (take (lanes (kindOf kind) rank) (now work)) ⌝ }
-    ensures { λ r. ⌜ r ≡ countedOf 0 (crossings (kindOf kind) (take (lanes (kindOf kind) rank) (now (work .entry)))) ⌝ }
-{
-    let m = crate::entries::lanes(kind, rank);
-    crossings_of(kind, rank as usize, &work[..m])
 }

@@ -21,18 +21,19 @@ pub use combined::normal_form_of_product;
 pub use coxeter::Answer;
 pub use coxeter::Choice;
 pub use coxeter::Counted;
+pub use coxeter::Lanes;
 pub use coxeter::Verdict;
-use entries::lanes;
 use forms::write_checked;
 use length::crossings_of;
 use product::inverse_into;
 use product::product_into;
+pub use refusals::lanes_of;
+use refusals::preset_lanes;
 pub use refusals::preset_refusal;
-use refusals::presets_refusal;
 pub use refusals::rank_refusal;
 use refusals::ranked_window_refusal;
 use refusals::ranked_windows_refusal;
-use refusals::ranked_words_refusal;
+use refusals::ranked_words_lanes;
 use shown::crossings_of_shown;
 use shown::entries_64;
 use shown::equal_words;
@@ -52,16 +53,16 @@ ghost use Rattle.coxeter.proofs.Totals.{totalled, SmallTotal};
 pub fn window_of_word(kind: u8, rank: u8, word: &[u8], out: &mut [i8]) -> Answer
     ensures { λ r. ⌜ Yields (windowOfWord kind rank (now (word .entry)) (now (out .entry))) r (now (out .exit)) ⌝ }
 {
-    let refusal = preset_refusal(kind, rank, word);
-    if refusal != 0 {
-        return Answer::Refused(refusal);
+    match preset_lanes(kind, rank, word) {
+        Lanes::Count(m) => {
+            if out.len() < m {
+                return Answer::Refused(14);
+            }
+            show_front(kind, rank, m, word, out);
+            Answer::Length(m)
+        }
+        Lanes::Refused(refusal) => Answer::Refused(refusal),
     }
-    let m = lanes(kind, rank);
-    if out.len() < m {
-        return Answer::Refused(14);
-    }
-    show_front(kind, rank, word, out);
-    Answer::Length(m)
 }
 
 // I9: writes the product u v and returns its length. Checks 5 and 6, then 9 to 11 of u, then of v, 14.
@@ -114,13 +115,14 @@ pub fn normal_form_of_window(kind: u8, rank: u8, w: &[i8], out: &mut [u8]) -> An
 pub fn normal_form_of_word(kind: u8, rank: u8, word: &[u8], out: &mut [u8]) -> Answer
     ensures { λ r. ⌜ Yields (normalFormOfWord kind rank (now (word .entry)) (now (out .entry))) r (now (out .exit)) ⌝ }
 {
-    let refusal = preset_refusal(kind, rank, word);
-    if refusal != 0 {
-        return Answer::Refused(refusal);
+    match preset_lanes(kind, rank, word) {
+        Lanes::Count(m) => {
+            let mut work = entries_64();
+            show_front(kind, rank, m, word, &mut work);
+            write_checked(kind, rank, &work[..m], out)
+        }
+        Lanes::Refused(refusal) => Answer::Refused(refusal),
     }
-    let mut work = entries_64();
-    show_front(kind, rank, word, &mut work);
-    write_checked(kind, rank, &work, out)
 }
 
 // I7: writes the normal form of u followed by v and returns its length. Checks 5 and 6, then 7 and 8 of u, then of
@@ -128,26 +130,28 @@ pub fn normal_form_of_word(kind: u8, rank: u8, word: &[u8], out: &mut [u8]) -> A
 pub fn product_of_words(kind: u8, rank: u8, u: &[u8], v: &[u8], out: &mut [u8]) -> Answer
     ensures { λ r. ⌜ Yields (productOfWords kind rank (now (u .entry)) (now (v .entry)) (now (out .entry))) r (now (out .exit)) ⌝ }
 {
-    let refusal = ranked_words_refusal(kind, rank, u, v);
-    if refusal != 0 {
-        return Answer::Refused(refusal);
+    match ranked_words_lanes(kind, rank, u, v) {
+        Lanes::Count(m) => {
+            let mut work = entries_64();
+            show_product(kind, rank, m, u, v, &mut work);
+            write_checked(kind, rank, &work[..m], out)
+        }
+        Lanes::Refused(refusal) => Answer::Refused(refusal),
     }
-    let mut work = entries_64();
-    show_product(kind, rank, u, v, &mut work);
-    write_checked(kind, rank, &work, out)
 }
 
 // I8: writes the normal form of the word read backwards and returns its length. Checks 5, 6, 7, 8, 14.
 pub fn inverse_of_word(kind: u8, rank: u8, word: &[u8], out: &mut [u8]) -> Answer
     ensures { λ r. ⌜ Yields (inverseOfWord kind rank (now (word .entry)) (now (out .entry))) r (now (out .exit)) ⌝ }
 {
-    let refusal = preset_refusal(kind, rank, word);
-    if refusal != 0 {
-        return Answer::Refused(refusal);
+    match preset_lanes(kind, rank, word) {
+        Lanes::Count(m) => {
+            let mut work = entries_64();
+            show_inverse(kind, rank, m, word, &mut work);
+            write_checked(kind, rank, &work[..m], out)
+        }
+        Lanes::Refused(refusal) => Answer::Refused(refusal),
     }
-    let mut work = entries_64();
-    show_inverse(kind, rank, word, &mut work);
-    write_checked(kind, rank, &work, out)
 }
 
 // The answer of a call for a length, from that of the call for its three counts: their total, or the same refusal.
@@ -196,11 +200,10 @@ pub fn crossings_of_window(kind: u8, rank: u8, w: &[i8]) -> Counted
 pub fn crossings_of_word(kind: u8, rank: u8, word: &[u8]) -> Counted
     ensures { λ r. ⌜ r ≡ crossingsOfWord kind rank (now (word .entry)) ⌝ }
 {
-    let refusal = preset_refusal(kind, rank, word);
-    if refusal != 0 {
-        return Counted::Refused(refusal);
+    match preset_lanes(kind, rank, word) {
+        Lanes::Count(m) => crossings_of_shown(kind, rank, m, word),
+        Lanes::Refused(refusal) => Counted::Refused(refusal),
     }
-    crossings_of_shown(kind, rank, word)
 }
 
 // I15: whether two presets show the same, whatever their kinds and ranks. Checks 5 to 8 of the first preset, then
@@ -208,14 +211,18 @@ pub fn crossings_of_word(kind: u8, rank: u8, word: &[u8]) -> Counted
 pub fn presets_equal(kind_a: u8, rank_a: u8, a: &[u8], kind_b: u8, rank_b: u8, b: &[u8]) -> Verdict
     ensures { λ r. ⌜ r ≡ presetsEqual «kind_a» «rank_a» (now (a .entry)) «kind_b» «rank_b» (now (b .entry)) ⌝ }
 {
-    let refusal = presets_refusal(kind_a, rank_a, a, kind_b, rank_b, b);
-    if refusal != 0 {
-        return Verdict::Refused(refusal);
+    match preset_lanes(kind_a, rank_a, a) {
+        Lanes::Count(m) => match preset_lanes(kind_b, rank_b, b) {
+            Lanes::Count(l) => {
+                if same_presets(kind_a, rank_a, m, a, kind_b, rank_b, l, b) {
+                    return Verdict::Yes;
+                }
+                Verdict::No
+            }
+            Lanes::Refused(refusal) => Verdict::Refused(refusal),
+        },
+        Lanes::Refused(refusal) => Verdict::Refused(refusal),
     }
-    if same_presets(kind_a, rank_a, a, kind_b, rank_b, b) {
-        return Verdict::Yes;
-    }
-    Verdict::No
 }
 
 // I17: which of two words is the better one (V3), or neither if the windows differ or a check refuses; then
@@ -223,11 +230,10 @@ pub fn presets_equal(kind_a: u8, rank_a: u8, a: &[u8], kind_b: u8, rank_b: u8, b
 pub fn which_better(kind: u8, rank: u8, u: &[u8], v: &[u8]) -> Choice
     ensures { λ r. ⌜ r ≡ choice (handsBack kind rank (now (u .entry)) (now (v .entry))) (shortlex (now (v .entry)) (now (u .entry))) ⌝ }
 {
-    let refusal = ranked_words_refusal(kind, rank, u, v);
-    if refusal != 0 {
+    let Lanes::Count(m) = ranked_words_lanes(kind, rank, u, v) else {
         return Choice::Neither;
-    }
-    if equal_words(kind, rank, u, v) {
+    };
+    if equal_words(kind, rank, m, u, v) {
         if is_shortlex(v, u) {
             return Choice::Second;
         }

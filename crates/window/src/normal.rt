@@ -1,6 +1,6 @@
-// The normal form of an accepted window (N10 of the specification), peeled off level by level: the index of the block of
-// level i is read off the place of i among the positions left, the rest is a normal form of the levels above, and the
-// block is written behind it.
+// The normal form of an accepted window (N10 of the specification), peeled off level by level: the index of the block
+// of level i is read off the place of i among the positions left, the rest is a normal form of the levels above, and
+// the block is written behind it.
 use crate::length::larger_behind;
 use refusals::is_negative;
 use refusals::size;
@@ -8,9 +8,9 @@ ghost use mathlib.Core.Path.{_≡_};
 ghost use mathlib.Core.List.{_++_};
 ghost use Prim.Native.Nat.{ℕ, suc, _+_, _-_, _*_, _^_, _<_, _≤_};
 ghost use lib.IntN.{pos, natAbs};
-ghost use lib.ListN.{length, take, getD};
+ghost use lib.ListN.{length, getD};
 ghost use lib.Seq.{sets};
-ghost use Rattle.coxeter.specs.Kinds.{kindOf, lanes};
+ghost use Rattle.coxeter.specs.Kinds.{kindOf};
 ghost use Rattle.coxeter.specs.Checks.{RankOf, WindowOf};
 ghost use Rattle.coxeter.specs.Calls.{front};
 ghost use Rattle.coxeter.specs.NormalForm.{rise, fall, block, normalForm};
@@ -212,10 +212,10 @@ fn last_level(kind: u8, m: usize) -> usize
     m - 1
 }
 
-// The levels from i on, written to the front of `out`: the block of level i is peeled off, the rest is a normal form of
-// the levels above, and the block is written behind it. The answer is how many letters there are. `left` is the set of
-// the positions left, and `odd` says whether an odd number of negative entries were taken out. The number of levels left
-// falls at each call.
+// The levels from i on, written to the front of `out`: the block of level i is peeled off, the rest is a normal form
+// of the levels above, and the block is written behind it. The answer is how many letters there are. `left` is the set
+// of the positions left, and `odd` says whether an odd number of negative entries were taken out. The number of levels
+// left falls at each call.
 fn peel(
     kind: u8,
     m: usize,
@@ -247,18 +247,16 @@ fn all_positions(m: usize) -> u64
     18446744073709551615u64 >> (64 - m)
 }
 
-// The normal form of the accepted window at the front of `work`, written to the front of `out`; the answer is its
-// length.
-pub(crate) fn write_normal_form(kind: u8, rank: u8, work: &[i8], out: &mut [u8]) -> usize
+// The normal form of an accepted window, written to the front of `out`; the answer is its length.
+pub(crate) fn write_normal_form(kind: u8, rank: u8, w: &[i8], out: &mut [u8]) -> usize
     requires { ⌜ RankOf kind rank ⌝ }
-    requires { ⌜ lanes (kindOf kind) rank ≤ length (now work) ⌝ }
-    requires { ⌜ WindowOf (kindOf kind) rank (take (lanes (kindOf kind) rank) (now work)) ⌝ }
-    requires { ⌜ length (normalForm (kindOf kind) rank (take (lanes (kindOf kind) rank) (now work))) ≤ length (now out) ⌝ }
-    ensures { λ r. ⌜ (r ≡ length (normalForm (kindOf kind) rank (take (lanes (kindOf kind) rank) (now (work .entry)))))
-        × (now (out .exit) ≡ front (normalForm (kindOf kind) rank (take (lanes (kindOf kind) rank) (now (work .entry)))) (now (out .entry))) ⌝ }
+    requires { ⌜ WindowOf (kindOf kind) rank (now w) ⌝ }
+    requires { ⌜ length (normalForm (kindOf kind) rank (now w)) ≤ length (now out) ⌝ }
+    ensures { λ r. ⌜ (r ≡ length (normalForm (kindOf kind) rank (now (w .entry))))
+        × (now (out .exit) ≡ front (normalForm (kindOf kind) rank (now (w .entry))) (now (out .entry))) ⌝ }
 {
-    let m = crate::entries::lanes(kind, rank);
+    let m = w.len();
     let mut places = no_places();
-    set_places(kind, rank, &work[..m], &mut places);
+    set_places(kind, rank, w, &mut places);
     peel(kind, m, 1, &places, all_positions(m), false, out)
 }

@@ -14,10 +14,8 @@ use native.Mathlib.Omega.{arith}
 use lib.ListN.{length, getD, take, drop, length-append}
 use lib.Seq.{sets, length-sets}
 use borrow.Author.Tests.{eq-eqb, ne-eqb, lt-ltb, le-ltb}
-use Rattle.coxeter.specs.Kinds.{kindOf, lanes}
-use Rattle.coxeter.specs.Checks.{check}
+use Rattle.coxeter.specs.Checks.{check, RankOf}
 use Rattle.coxeter.specs.declared.Answer.the-variants as answer
-use Rattle.coxeter.proofs.Acceptance.{rank-accepted}
 use Rattle.coxeter.proofs.Lists.{Storing, storing-all, sets-next}
 use Rattle.coxeter.proofs.Outcomes.{writes-refused, writes-short, writes-done, writes-written}
 use Rattle.coxeter.proofs.Refusals.{then-some, then-none}
@@ -153,10 +151,8 @@ module _ (ed : Edition) (b : List ℕ) (w : Convertible ed b) (c : ℕ) (n : c �
 
   -- record i as the code stores it: o is where it begins, p the place of its letter count l
   module _ (i o p l : ℕ) (h : i < c) (q : o ≡ offset b i) (f : p ≡ countPlace ed) (g : l ≡ twoAt b (o + p)) where
-    pub rank-fits : getD b (o + 1) 0 ≤ 64
-    rank-fits =
-        let r = passing-at ed b i w (omega arith) .rank in
-        rw q (rank-accepted (kindAt b (offset b i)) (rankAt b (offset b i)) (bookRank-accepted ed (kindAt b (offset b i)) (rankAt b (offset b i)) r) .1)
+    pub rank-passed : RankOf (kindAt b o) (rankAt b o)
+    rank-passed = rw q (bookRank-accepted ed (kindAt b (offset b i)) (rankAt b (offset b i)) (passing-at ed b i w (omega arith) .rank))
 
     pub size-of-other : (to : Edition) (x : ℕ) → to ≡ other ed → x ≡ headSize to → x + l ≡ headSize (other ed) + letterCountAt ed b (offset b i)
     size-of-other to x e k = rw (k, e, g, f, q)
@@ -174,11 +170,10 @@ module _ (ed : Edition) (b : List ℕ) (w : Convertible ed b) (c : ℕ) (n : c �
       room-for to at most e k =
           rw (letters-are, e, length-lettersAt ed b (offset b i) (inside ed b c i (offset b i) (w .opens) n h refl)) k
 
-      pub other-written : (to : Edition) (at : ℕ) (out out′ : List ℕ) → to ≡ other ed
-          → out′ ≡ sets out at (recordOf to (getD b o 0) (getD b (o + 1) 0) (lanes (kindOf (getD b o 0)) (getD b (o + 1) 0))
-          (take (o + m + l - (o + m)) (drop (o + m) b)))
+      pub other-written : (to : Edition) (at m′ : ℕ) (out out′ : List ℕ) → m′ ≡ lanesAt ed b o → to ≡ other ed
+          → out′ ≡ sets out at (recordOf to (getD b o 0) (getD b (o + 1) 0) m′ (take (o + m + l - (o + m)) (drop (o + m) b)))
           → out′ ≡ sets out at (bytesAt ed b i)
-      other-written to at out out′ e k = k ∙ rw (letters-are, e, q, ← passing-at ed b i w (omega arith) .lanes-right)
+      other-written to at m′ out out′ r e k = k ∙ rw (letters-are, e, r, q)
 
   -- ---- the records, one after the other
 

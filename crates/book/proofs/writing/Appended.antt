@@ -40,18 +40,18 @@ trailer-written b out t c p o₁ o₂ o₃ h e₁ e₂ e₃ =
     (ap (sets out p) (append-assoc offsets (two t) (two (c + 1))))
 
 -- the records and then the trailer: c is the count, s the size with its count, t the beginning of the trailer as
--- the code has it, m the size of a record's head
+-- the code has it, m the size of a record's head, a the lane count
 pub appended-written : (ed : Edition) (b out : List ℕ) (k n : ℕ) (u : List ℕ) (c s m : ℕ) (o₁ o₂ : List ℕ) → bookRefusal ed b ≡ 0 → c ≡ count b → s ≡ bookSize b
-    → m ≡ headSize ed → let t = s - (2 * c + 2) in
-    o₁ ≡ sets out 0 (take t b ++ recordOf ed k n (lanes (kindOf k) n) u) → o₂ ≡ sets o₁ (t + m + length u) (take (2 * c) (drop t b) ++ (two t ++ two (c + 1)))
+    → m ≡ headSize ed → (a : ℕ) → a ≡ lanes (kindOf k) n → let t = s - (2 * c + 2) in
+    o₁ ≡ sets out 0 (take t b ++ recordOf ed k n a u) → o₂ ≡ sets o₁ (t + m + length u) (take (2 * c) (drop t b) ++ (two t ++ two (c + 1)))
     → o₂ ≡ sets out 0 (appended ed b k n u)
 unfolding appended
-appended-written ed b out k n u c s m o₁ o₂ z q y w e₁ e₂ =
+appended-written ed b out k n u c s m o₁ o₂ z q y w a v e₁ e₂ =
     let t = s - (2 * c + 2) in
     let trailing = take (2 * c) (drop t b) ++ (two t ++ two (c + 1)) in
-    let a = accepted ed b z in
+    let fits = accepted ed b z in
     let e : t ≡ trailer b = omega arith in
     let new = recordOf ed k n (lanes (kindOf k) n) u in
     let l : length (take t b ++ new) ≡ t + (headSize ed + length u) = simp (length-append, length-take-le t b (omega arith), length-recordOf) in
     e₂
-    ∙ rw (e₁, sets-next out 0 (t + m + length u) (take t b ++ new) trailing (omega arith), append-assoc, e, q)
+    ∙ rw (e₁, v, sets-next out 0 (t + m + length u) (take t b ++ new) trailing (omega arith), append-assoc, e, q)

@@ -169,11 +169,11 @@ form-written k n v out h e l =
       le-ltb (length out) (length (normalForm (kindOf k) n (longest (kindOf k) n))) (omega arith),
     )
 
--- what writing it asks, where v is what the longest window was written to and s the length of its own output
-pub form-asks : (k n : ℕ) (entries v : List ℤ) (s : ℕ) → RankOf k n → lanes (kindOf k) n ≤ length entries
+-- what writing it asks, where v is what the longest window of m entries was written to and s the length of its own
+-- output
+pub form-asks : (k n m : ℕ) (entries v : List ℤ) (s : ℕ) → RankOf k n → m ≡ lanes (kindOf k) n → m ≤ length entries
     → v ≡ front (longest (kindOf k) n) entries → greatestLength (kindOf k) n ≤ s
-    → RankOf k n
-    × ((lanes (kindOf k) n ≤ length v) × ((take (lanes (kindOf k) n) v ≡ longest (kindOf k) n) × (greatestLength (kindOf k) n ≤ s)))
-form-asks k n entries v s h g e l =
-    let f = length-take-front (lanes (kindOf k) n) (longest (kindOf k) n) entries v (length-longest (kindOf k) n (rank-within k n h .0)) g e in
+    → RankOf k n × ((m ≤ length v) × ((take m v ≡ longest (kindOf k) n) × (greatestLength (kindOf k) n ≤ s)))
+form-asks k n m entries v s h c g e l =
+    let f = length-take-front m (longest (kindOf k) n) entries v (length-longest (kindOf k) n (rank-within k n h .0) ∙ sym c) g e in
     (h, (omega (arith, f .0), (f .1, l)))

@@ -14,30 +14,28 @@ slice-aggregate-decide c =
 slice-aggregate-decide-2 : tie.Need-slice-aggregate-decide-2
 slice-aggregate-decide-2 c =
     let b = c .before .before .before .before .before .before .before in
-    part-length _ _ _ _ _ (b .show .ensures .1) (b .before .before .before .lanes .ensures) (b .show .ensures .0)
+    part-length _ _ _ _ _ (b .show .ensures .1) refl (b .show .ensures .0)
 
 decide-requires : tie.Need-decide-requires
 decide-requires c κs =
     let f = c .before .before .before .before in
     let b = f .before .before .before .before in
-    let counted = b .before .before .before in
-    words-decide-requires _ _ _ _ _ _ (part-is _ _ _ _ _ (f .write-form .ensures) refl) (part-is _ _ _ _ _ (b .show .ensures .1) (counted .lanes .ensures))
-    (counted .before .before .before .before .pre .0)
+    words-decide-requires _ _ _ _ _ _ (part-is _ _ _ _ _ (f .write-form .ensures) refl) (part-is _ _ _ _ _ (b .show .ensures .1) refl)
+    (b .before .before .before .before .before .before .pre .0)
 
 returns : tie.Need-returns
 returns c =
     let f = c .before .before .before .before .before .before .before .before .before in
     let b = f .before .before .before .before in
-    let lanes = b .before .before .before .lanes .ensures in
-    words-decided _ _ _ _ _ _ (part-is _ _ _ _ _ (f .write-form .ensures) refl) (part-is _ _ _ _ _ (b .show .ensures .1) lanes)
+    words-decided _ _ _ _ _ _ (part-is _ _ _ _ _ (f .write-form .ensures) refl) (part-is _ _ _ _ _ (b .show .ensures .1) refl)
     _ _ _ (c .before .before .before .before .decide .ensures)
 
 pub decide-words-spec : {M : Type 1} → statement M
 decide-words-spec =
     tie.close
     (tie.spec
-    (λ c κs. search needs) (λ c κs. search needs) (λ c. search needs) (λ c κs. search needs) (λ c κs. search needs)
-    (λ c. search needs) (λ c κs. search needs) (λ c. search needs)
+    (λ c κs. search needs) (λ c. search needs) (λ c κs. search needs) (λ c κs. search needs) (λ c. search needs)
+    (λ c κs. search needs) (λ c. search needs)
     slice-aggregate-decide
     (λ c. search needs)
     slice-aggregate-decide-2

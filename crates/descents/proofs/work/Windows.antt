@@ -8,7 +8,7 @@ use lib.IntN.{ℤ}
 use lib.ListN.{length}
 use Rattle.coxeter.specs.declared.Answer.{Answer}
 use Rattle.coxeter.specs.declared.Answer.the-variants as answer
-use Rattle.coxeter.specs.Kinds.{Kind, kindOf, lanes}
+use Rattle.coxeter.specs.Kinds.{Kind, kindOf}
 use Rattle.coxeter.specs.Windows.{inverse}
 use Rattle.coxeter.specs.Checks.{RankOf, WindowOf}
 use Rattle.coxeter.specs.NormalForm.{normalForm}
@@ -28,28 +28,21 @@ use Rattle.coxeter.proofs.TestLaws.{zero-not-one}
 pub form-le-square : (k : Kind) (n : ℕ) (w : List ℤ) → Accepted k n w → length (normalForm k n w) ≤ n * n
 form-le-square k n w a = omega (arith, length-normalForm k n w a, windowLength-le k n w a, greatest-le k n)
 
-module _ (k n : ℕ) (h : RankOf k n) where
-  -- the length of an accepted window
-  size : (w : List ℤ) → WindowOf (kindOf k) n w → length w ≡ lanes (kindOf k) n
-  size w a = accepted-of-refusal (kindOf k) n w a .size
+module _ (k n : ℕ) (h : RankOf k n) (w : List ℤ) (a : WindowOf (kindOf k) n w) where
+  small : length w ≤ 64
+  small = lanes-le k n (length w) h (accepted-of-refusal (kindOf k) n w a .size)
 
-  small : (w : List ℤ) → WindowOf (kindOf k) n w → length w ≤ 64
-  small w a = lanes-le k n (length w) h (size w a)
-
-  pub inverse-front : (w out v : List ℤ) → WindowOf (kindOf k) n w → 64 ≡ length out → v ≡ inverseOfWindow k n w out .bytes
-      → Front 64 (inverse w) v (lanes (kindOf k) n)
+  pub inverse-front : (out v : List ℤ) → 64 ≡ length out → v ≡ inverseOfWindow k n w out .bytes → Front 64 (inverse w) v (length w)
   unfolding inverseOfWindow
-  inverse-front w out v a f e =
-      front-of-bytes 64 _ (inverse w) out v (then-none _ _ h ∙ a) (rw (length-inverse w) (small w a)) f (lanes (kindOf k) n)
-      (sym (length-inverse w ∙ size w a)) e
+  inverse-front out v f e =
+      front-of-bytes 64 _ (inverse w) out v (then-none _ _ h ∙ a) (rw (length-inverse w) small) f (length w) (sym (length-inverse w)) e
 
-  module _ (w : List ℤ) (a : WindowOf (kindOf k) n w) where
-    pub length-told : (r : Answer) (l : ℕ) → r ≡ lengthOfWindow k n w → r ≡ answer.Length l → l ≡ length (normalForm (kindOf k) n w)
-    length-told r l e q =
-        let p : answer.Length l ≡ answer.Length (length (normalForm (kindOf k) n w)) = sym q ∙ e ∙ lengthOfWindow-normalForm k n w h a in
-        cc
+  pub length-told : (r : Answer) (l : ℕ) → r ≡ lengthOfWindow k n w → r ≡ answer.Length l → l ≡ length (normalForm (kindOf k) n w)
+  length-told r l e q =
+      let p : answer.Length l ≡ answer.Length (length (normalForm (kindOf k) n w)) = sym q ∙ e ∙ lengthOfWindow-normalForm k n w h a in
+      cc
 
-    pub length-never : (r : Answer) (s : ℕ) → r ≡ lengthOfWindow k n w → r ≡ answer.Refused s → ⊥
-    length-never r s e q =
-        let p : answer.Refused s ≡ answer.Length (length (normalForm (kindOf k) n w)) = sym q ∙ e ∙ lengthOfWindow-normalForm k n w h a in
-        zero-not-one (cc)
+  pub length-never : (r : Answer) (s : ℕ) → r ≡ lengthOfWindow k n w → r ≡ answer.Refused s → ⊥
+  length-never r s e q =
+      let p : answer.Refused s ≡ answer.Length (length (normalForm (kindOf k) n w)) = sym q ∙ e ∙ lengthOfWindow-normalForm k n w h a in
+      zero-not-one (cc)

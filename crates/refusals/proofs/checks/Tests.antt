@@ -1,6 +1,6 @@
 -- The checks' definitions, one element at a time and one case at a time, in the form in which the code meets them.
 --
--- Sections: kinds and ranks; letters; entries; signs; windows; two after one another.
+-- Sections: kinds and ranks; letters; entries; signs; windows.
 -- Assumes nothing.
 use mathlib.Core.Path.{_≡_, refl, sym, _∙_}
 use mathlib.Core.Bool.{Bool, true, false, not, _||_, _&&_, or-true, or-false}
@@ -14,12 +14,11 @@ use lib.ListN.{length, getD, take, drop, drop-of-length-le}
 use borrow.Author.Tests.{eq-eqb, ne-eqb, lt-ltb, le-ltb, le-leb, lt-leb}
 use Rattle.coxeter.specs.Kinds.{Kind, pick, lanes}
 use Rattle.coxeter.specs.Length.{negative}
-use Rattle.coxeter.specs.Checks.{_then_, wrongKind, wrongLetter, wrongAt, wrongEntry, hasSize, negativeInA}
+use Rattle.coxeter.specs.Checks.{wrongKind, wrongLetter, wrongAt, wrongEntry, hasSize, negativeInA}
 use Rattle.coxeter.specs.Checks.{oddNegatives, wrongLanes, windowRefusal}
 use Rattle.coxeter.specs.Parity.{flagAfter}
 use Rattle.coxeter.proofs.Parity.{flag-next}
 use Rattle.coxeter.proofs.Lists.{drop-next}
-use Rattle.coxeter.proofs.Refusals.{then-refused, then-next, then-assoc}
 
 -- ---- kinds and ranks
 
@@ -146,12 +145,3 @@ module _ (k : Kind) (n m : ℕ) (w : List ℤ) where
       → 0 ≡ windowRefusal k n w
   unfolding windowRefusal wrongLanes
   windowRefusal-none t o q l e h f g = rw (← q, eq-eqb (length w) m l, ← e, h, ← f, g)
-
--- ---- two after one another
-
--- p and q were made together, and gave r
-pub pair-refused : (p q s r : ℕ) → r ≡ (p then q) → (r ≡ 0 → ⊥) → r ≡ (p then (q then s))
-pair-refused p q s r e f = then-refused (p then q) r s e f ∙ then-assoc p q s
-
-pub pair-next : (p q s r t : ℕ) → r ≡ (p then q) → r ≡ 0 → t ≡ s → t ≡ (p then (q then s))
-pair-next p q s r t e z h = then-next (p then q) r s t e z h ∙ then-assoc p q s

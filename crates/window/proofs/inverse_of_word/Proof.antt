@@ -1,54 +1,76 @@
 -- `inverse_of_word` refuses in the order of CO2, or writes the normal form of the inverse of what the word shows, which
 -- is that of the word read backwards.
 -- Assumes nothing.
-use mathlib.Core.Path.{refl}
+use mathlib.Core.Path.{_≡_, refl}
+use Rattle.coxeter.specs.Kinds.{kindOf, lanes}
+use Rattle.coxeter.specs.Windows.{window, inverse}
+use Rattle.coxeter.specs.Checks.{RankOf, WordOf}
 use Rattle.coxeter.specs.Calls.{inverseOfWord}
-use Rattle.coxeter.proofs.Acceptance.{two-accepted}
+use Rattle.coxeter.proofs.LaneCounts.{refusal-of-lanes, count-of-lanes, preset-counted}
 use Rattle.coxeter.proofs.Outcomes.{writes-refused}
-use Rattle.window.proofs.forms.Rooms.{made-asks, made-written}
-use Rattle.window.proofs.shown.Fronts.{room, inverse-passes}
+use Rattle.window.proofs.forms.Rooms.{form-written}
+use Rattle.window.proofs.shown.Fronts.{Front, room, front-written, inverse-passes}
 use borrow.Author.Needs.{needs}
 use Rattle.window.proofs.inverse_of_word.Statement.{statement}
 use Rattle.window.proofs.inverse_of_word.Tie as tie
 
-returns : tie.Need-returns
-unfolding inverseOfWord
-returns c = writes-refused _ _ _ _ _ refl (c .before .preset-refusal .ensures) (c .if1 .taken)
+-- kind, rank and letters passed, and m is the lane count
+counted : (c : tie.After-m)
+    → let a = c .before .before .before .before .before .args in
+    RankOf (a .kind) (a .rank) × ((c .m .given .0 .0 ≡ lanes (kindOf (a .kind)) (a .rank)) × WordOf (a .rank) (a .word .now))
+counted c = preset-counted _ _ _ _ _ (c .before .before .preset-lanes .ensures) (c .m .given .1)
 
 show-inverse-requires : tie.Need-show-inverse-requires
 show-inverse-requires c κs =
-    let work = c .before .entries-64 in
-    let passed = two-accepted _ _ _ (c .before .before .before .preset-refusal .ensures) (c .before .before .if1 .left) in
-    (passed .0, (passed .1, room _ _ (passed .0) (work .result) (work .ensures)))
+    let made = c .before in
+    let p = counted (made .before .before) in
+    (p .0, (p .1 .0, (p .1 .1, room _ _ _ (p .0) (p .1 .0) (made .entries-64 .result) (made .entries-64 .ensures))))
+
+-- what the work window holds after the call
+held : (c : tie.After-show-inverse)
+    → let m = c .before .before .before .before in
+    let a = m .before .before .before .before .before .args in
+    Front (a .kind) (a .rank) (m .m .given .0 .0) (inverse (window (kindOf (a .kind)) (a .rank) (a .word .now))) (c .show-inverse .last .1 .1 .1 .1 .0)
+held c =
+    let made = c .before .before in
+    let p = counted (made .before .before) in
+    front-written _ _ _ (p .0) (p .1 .0) _ _ _ (inverse-passes _ _ _) (made .entries-64 .ensures) (c .show-inverse .ensures)
+
+array-share-prefix-work : tie.Need-array-share-prefix-work
+array-share-prefix-work c = held (c .before) .fits
+
+slice-aggregate-write-checked : tie.Need-slice-aggregate-write-checked
+slice-aggregate-write-checked c = held (c .before .before) .size
 
 write-checked-requires : tie.Need-write-checked-requires
 write-checked-requires c κs =
     let made = c .before .before .before in
-    let first = made .before .before .before in
-    let passed = two-accepted _ _ _ (first .before .preset-refusal .ensures) (first .if1 .left) in
-    made-asks _ _ (passed .0) _ _ _ (inverse-passes _ _ _) (made .before .before .entries-64 .ensures) (made .show-inverse .ensures)
+    (counted (made .before .before .before .before) .0, held made .passes)
+
+returns : tie.Need-returns
+unfolding inverseOfWord
+returns c =
+    let called = c .before .before in
+    let made = called .before .before .before .before in
+    let m = made .before .before .before .before in
+    let p = count-of-lanes _ _ _ (m .before .before .preset-lanes .ensures) _ (m .m .given .1) in
+    form-written _ _ _ _ _ (held made) _ _ _ _ _ refl (p .0) (called .write-checked .ensures)
 
 returns-2 : tie.Need-returns-2
 unfolding inverseOfWord
 returns-2 c =
-    let called = c .before .before in
-    let made = called .before .before .before .before in
-    let first = made .before .before .before in
-    let refusal = first .before .preset-refusal .ensures in
-    let passed = two-accepted _ _ _ refusal (first .if1 .left) in
-    let work = made .before .before .entries-64 .ensures in
-    made-written _ _ (passed .0) _ _ _ (inverse-passes _ _ _) work (made .show-inverse .ensures) _ _ _ _ _ _ refl refusal (first .if1 .left)
-    (called .write-checked .ensures)
+    let refused = refusal-of-lanes _ _ _ (c .before .before .before .preset-lanes .ensures) _ (c .before .refusal .given .1) in
+    writes-refused _ _ _ _ _ refl (refused .0) (refused .1)
 
 pub inverse-of-word-spec : {M : Type 1} → statement M
 inverse-of-word-spec =
     tie.close
     (tie.spec
-    (λ c κs. search needs)
-    returns
-    (λ c κs. search needs) (λ c. search needs)
+    (λ c κs. search needs) (λ c. search needs) (λ c κs. search needs) (λ c. search needs)
     show-inverse-requires
-    (λ c. search needs)
+    array-share-prefix-work
+    slice-aggregate-write-checked
     write-checked-requires
-    (λ c. search needs)
+    (λ c. search needs) (λ c. search needs)
+    returns
     returns-2)

@@ -1,5 +1,5 @@
--- The first call of the recursion, with the places of the entries of a window at the front of a work window and all
--- positions left: what it is asked, and that the word that it writes is the normal form.
+-- The first call of the recursion, with the places of the entries of an accepted window and all positions left: what
+-- it is asked, and that the word that it writes is the normal form.
 -- Assumes nothing.
 use mathlib.Core.Path.{_≡_, refl, ap, _∙_}
 use mathlib.Core.Bool.{false}
@@ -7,7 +7,7 @@ use mathlib.Core.List.{List}
 use Prim.Native.Nat.{ℕ, suc, _-_, _^_, _≤_, _<_}
 use native.Mathlib.Omega.{arith}
 use lib.IntN.{ℤ}
-use lib.ListN.{length, getD, take}
+use lib.ListN.{length, getD}
 use lib.Pow.{pow-pos}
 use lib.Seq.{sets}
 use Rattle.coxeter.specs.Kinds.{Kind, A, B, D, kindOf, lanes, least}
@@ -19,10 +19,6 @@ use Rattle.coxeter.proofs.Levels.{Accepted, accepted-of-refusal}
 use Rattle.coxeter.proofs.PeelingByPlaces.{PlacesOf, Place, lastLevel, peeledWord}
 use Rattle.coxeter.proofs.FrontLaws.{sets-front}
 use Rattle.window.proofs.normal.PeeledForms.{Found, found, place-is, peeled-first}
-
-pub front-passes : (k n m : ℕ) (work : List ℤ) → m ≡ lanes (kindOf k) n → WindowOf (kindOf k) n (take (lanes (kindOf k) n) work)
-    → WindowOf (kindOf k) n (take m work)
-front-passes k n m work e g = rw e g
 
 -- the number of levels is the last level, and there is one
 last-is : (k : Kind) (n : ℕ) → lastLevel k (lanes k n) ≡ levels k n
@@ -43,45 +39,36 @@ more-lanes D n = omega arith
 pub first-left : (m left : ℕ) → left ≡ 2 ^ m - 1 → left < 2 ^ m
 first-left m left s = omega (arith, s, pow-pos m)
 
-module _ (k n m : ℕ) (h : RankOf k n) (e : m ≡ lanes (kindOf k) n) where
-  pub first-rank : Ranked (kindOf k) m
-  first-rank = (omega (arith, e, rank-within k n h .0, more-lanes (kindOf k) n), lanes-le k n m h e)
+module _ (k n : ℕ) (h : RankOf k n) (w : List ℤ) (g : WindowOf (kindOf k) n w) where
+  own : Accepted (kindOf k) n w
+  own = accepted-of-refusal (kindOf k) n w g
 
-  last : lastLevel (kindOf k) m ≡ levels (kindOf k) n
-  last = ap (lastLevel (kindOf k)) e ∙ last-is (kindOf k) n
+  pub first-rank : Ranked (kindOf k) (length w)
+  first-rank = (omega (arith, own .size, rank-within k n h .0, more-lanes (kindOf k) n), lanes-le k n (length w) h (own .size))
 
-  pub first-level : 1 ≤ lastLevel (kindOf k) m
+  last : lastLevel (kindOf k) (length w) ≡ levels (kindOf k) n
+  last = ap (lastLevel (kindOf k)) (own .size) ∙ last-is (kindOf k) n
+
+  pub first-level : 1 ≤ lastLevel (kindOf k) (length w)
   first-level = omega (arith, last, one-level (kindOf k) n (rank-within k n h .0))
 
-  module _ (work : List ℤ) (places : List ℕ) (left : ℕ) (g : WindowOf (kindOf k) n (take (lanes (kindOf k) n) work)) (p : PlacesOf (take m work) places)
-      (s : left ≡ 2 ^ m - 1) where
-    abbrev entries : List ℤ
-    entries = take (lanes (kindOf k) n) work
-
-    own : Accepted (kindOf k) n entries
-    own = accepted-of-refusal (kindOf k) n entries g
-
-    stored : PlacesOf entries places
-    stored = rw e at p
-
-    pub first-places : (i : ℕ) → i < m → Place (kindOf k) m (getD places i 0)
+  module _ (places : List ℕ) (left : ℕ) (p : PlacesOf w places) (s : left ≡ 2 ^ length w - 1) where
+    pub first-places : (i : ℕ) → i < length w → Place (kindOf k) (length w) (getD places i 0)
     first-places i l =
-        let f : Found (kindOf k) m places (suc i) entries = found (kindOf k) n m entries places (suc i) e own stored (omega arith) l in
+        let f : Found (kindOf k) (length w) places (suc i) w = found (kindOf k) n (length w) w places (suc i) (own .size) own p (omega arith) l in
         let d : suc i - 1 ≡ i = omega arith in
-        rw d at (place-is (kindOf k) m places (suc i) (f .left) (f .entry) (f .right) (first-rank .1) (f .there))
+        rw d at (place-is (kindOf k) (length w) places (suc i) (f .left) (f .entry) (f .right) (first-rank .1) (f .there))
 
-    first-word : peeledWord (kindOf k) m places 1 left false ≡ normalForm (kindOf k) n entries
+    first-word : peeledWord (kindOf k) (length w) places 1 left false ≡ normalForm (kindOf k) n w
     unfolding normalForm
     first-word =
-        let t : suc (lastLevel (kindOf k) m) - 1 ≡ levels (kindOf k) n = omega (arith, last) in
-        rw (t, s) (peeled-first (kindOf k) n m places (first-rank .1) e entries own stored)
+        let t : suc (lastLevel (kindOf k) (length w)) - 1 ≡ levels (kindOf k) n = omega (arith, last) in
+        rw (t, s) (peeled-first (kindOf k) n (length w) places (first-rank .1) (own .size) w own p)
 
-    pub first-room : (l : ℕ) → length (normalForm (kindOf k) n (take (lanes (kindOf k) n) work)) ≤ l
-        → length (peeledWord (kindOf k) m places 1 left false) ≤ l
+    pub first-room : (l : ℕ) → length (normalForm (kindOf k) n w) ≤ l → length (peeledWord (kindOf k) (length w) places 1 left false) ≤ l
     first-room l a = rw first-word a
 
-    pub first-written : (o : List ℕ) {out : List ℕ} {r : ℕ} → length (normalForm (kindOf k) n (take (lanes (kindOf k) n) work)) ≤ length o
-        → (r ≡ length (peeledWord (kindOf k) m places 1 left false)) × (out ≡ sets o 0 (peeledWord (kindOf k) m places 1 left false))
-        → (r ≡ length (normalForm (kindOf k) n (take (lanes (kindOf k) n) work)))
-        × (out ≡ front (normalForm (kindOf k) n (take (lanes (kindOf k) n) work)) o)
-    first-written o l a = (a .0 ∙ ap length first-word, a .1 ∙ ap (sets o 0) first-word ∙ sets-front (normalForm (kindOf k) n entries) o l)
+    pub first-written : (o : List ℕ) {out : List ℕ} {r : ℕ} → length (normalForm (kindOf k) n w) ≤ length o
+        → (r ≡ length (peeledWord (kindOf k) (length w) places 1 left false)) × (out ≡ sets o 0 (peeledWord (kindOf k) (length w) places 1 left false))
+        → (r ≡ length (normalForm (kindOf k) n w)) × (out ≡ front (normalForm (kindOf k) n w) o)
+    first-written o l a = (a .0 ∙ ap length first-word, a .1 ∙ ap (sets o 0) first-word ∙ sets-front (normalForm (kindOf k) n w) o l)

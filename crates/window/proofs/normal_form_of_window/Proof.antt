@@ -3,12 +3,10 @@
 use mathlib.Core.Path.{refl, sym, ap}
 use lib.ListN.{length}
 use lib.Seq.{take-length}
-use borrow.Author.Needs.{needs}
-use Rattle.coxeter.specs.Checks.{rankRefusal, windowRefusal}
 use Rattle.coxeter.specs.Calls.{normalFormOfWindow}
 use Rattle.coxeter.proofs.Acceptance.{two-accepted}
-use Rattle.coxeter.proofs.Outcomes.{writes-refused}
-use Rattle.window.proofs.forms.Rooms.{whole-asks, whole-written}
+use Rattle.coxeter.proofs.Outcomes.{writes-refused, writes-passed}
+use borrow.Author.Needs.{needs}
 use Rattle.window.proofs.normal_form_of_window.Statement.{statement}
 use Rattle.window.proofs.normal_form_of_window.Tie as tie
 
@@ -22,17 +20,14 @@ slice-aggregate-write-checked c = sym (ap length (take-length (c .before .before
 write-checked-requires : tie.Need-write-checked-requires
 write-checked-requires c κs =
     let held = c .before .before in
-    let passed = two-accepted _ _ _ (held .before .ranked-window-refusal .ensures) (held .if1 .left) in
-    rw (take-length (held .before .before .before .args .w .now)) (whole-asks _ _ _ (passed .1) (passed .0))
+    rw (take-length (held .before .before .before .args .w .now)) (two-accepted _ _ _ (held .before .ranked-window-refusal .ensures) (held .if1 .left))
 
 returns-2 : tie.Need-returns-2
 unfolding normalFormOfWindow
 returns-2 c =
     let called = c .before .before in
     let held = called .before .before .before in
-    let refusal = held .before .ranked-window-refusal .ensures in
-    let passed = two-accepted (rankRefusal _ _) (windowRefusal _ _ _) _ refusal (held .if1 .left) in
-    whole-written _ _ _ (passed .1) _ _ _ _ _ _ refl refusal (held .if1 .left)
+    writes-passed _ _ _ _ _ refl (held .before .ranked-window-refusal .ensures) _ _ (held .if1 .left)
     (rw (take-length (held .before .before .before .args .w .now)) at (called .write-checked .ensures))
 
 pub normal-form-of-window-spec : {M : Type 1} → statement M

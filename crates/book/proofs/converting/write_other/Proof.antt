@@ -2,8 +2,8 @@
 -- edition.
 -- Assumes nothing.
 use native.Mathlib.Omega.{arith}
-use Rattle.book_format.proofs.BookLaws.{counted-some, two-le-countPlace}
-use Rattle.book.proofs.converting.Conversions.{inside, rank-fits, end-inside, room-for, other-written}
+use Rattle.book_format.proofs.BookLaws.{accepted, counted-some, two-le-countPlace}
+use Rattle.book.proofs.converting.Conversions.{inside, rank-passed, end-inside, room-for, other-written}
 use borrow.Author.Needs.{needs}
 use Rattle.book.proofs.converting.write_other.Statement.{statement}
 use Rattle.book.proofs.converting.write_other.Tie as tie
@@ -19,15 +19,25 @@ two-at-requires c κs =
     let pre = read .before .before .before .pre .0 in
     omega (arith, inside _ _ _ _ _ (pre .0 .opens) (pre .1) (pre .2) (read .record-start .ensures .0), c .before .count-place .ensures .0)
 
+lanes-at-requires : tie.Need-lanes-at-requires
+lanes-at-requires c κs =
+    let placed = c .before .before in
+    let read = placed .before in
+    let pre = read .before .before .before .pre .0 in
+    let o = inside _ _ _ _ _ (pre .0 .opens) (pre .1) (pre .2) (read .record-start .ensures .0) in (
+      rank-passed _ _ (pre .0) _ (pre .1) _ _ _ _ (pre .2) (read .record-start .ensures .0) (placed .count-place .ensures .0) (c .two-at .ensures .0),
+      (omega (arith, o), omega (arith, accepted _ _ (pre .0 .opens))),
+    )
+
 shared-slice-read-write-record : tie.Need-shared-slice-read-write-record
 shared-slice-read-write-record c =
-    let read = c .before .before .before .before .before in
+    let read = c .before .before .before .before .before .before in
     let pre = read .before .before .before .pre .0 in
     omega (arith, inside _ _ _ _ _ (pre .0 .opens) (pre .1) (pre .2) (read .record-start .ensures .0))
 
 shared-slice-read-write-record-2 : tie.Need-shared-slice-read-write-record-2
 shared-slice-read-write-record-2 c =
-    let read = c .before .before .before .before .before .before in
+    let read = c .before .before .before .before .before .before .before in
     let start = read .before .before .before in
     let pre = start .pre .0 in
     let h = two-le-countPlace (start .args .edition) in
@@ -35,7 +45,7 @@ shared-slice-read-write-record-2 c =
 
 part-write-record-end : tie.Need-part-write-record-end
 part-write-record-end c =
-    let counted = c .before .before .before in
+    let counted = c .before .before .before .before in
     let headed = counted .before in
     let placed = headed .before in
     let read = placed .before in
@@ -45,13 +55,14 @@ part-write-record-end c =
 
 write-record-requires : tie.Need-write-record-requires
 write-record-requires c κs =
-    let counted = c .before .before .before .before .before in
+    let laned = c .before .before .before .before .before in
+    let counted = laned .before in
     let headed = counted .before in
     let placed = headed .before in
     let read = placed .before in
     let start = read .before .before .before in
     let pre = start .pre .0 in (
-      rank-fits _ _ (pre .0) _ (pre .1) _ _ _ _ (pre .2) (read .record-start .ensures .0) (placed .count-place .ensures .0) (counted .two-at .ensures .0),
+      laned .lanes-at .ensures .1,
       room-for _ _ (pre .0) _ (pre .1) _ _ _ _ (pre .2) (read .record-start .ensures .0) (placed .count-place .ensures .0) (counted .two-at .ensures .0)
           _ (headed .head-size .ensures .0) _ _ _ (c .before .before .before .before .other .ensures) (start .pre .1),
     )
@@ -59,13 +70,15 @@ write-record-requires c κs =
 returns : tie.Need-returns
 returns c =
     let written = c .before .before in
-    let counted = written .before .before .before .before .before .before in
+    let laned = written .before .before .before .before .before .before in
+    let counted = laned .before in
     let headed = counted .before in
     let placed = headed .before in
     let read = placed .before in
     let pre = read .before .before .before .pre .0 in
     other-written _ _ (pre .0) _ (pre .1) _ _ _ _ (pre .2) (read .record-start .ensures .0) (placed .count-place .ensures .0) (counted .two-at .ensures .0)
-    _ (headed .head-size .ensures .0) _ _ _ _ (written .before .before .before .before .before .other .ensures) (written .write-record .ensures)
+    _ (headed .head-size .ensures .0) _ _ _ _ _ (laned .lanes-at .ensures .0) (written .before .before .before .before .before .other .ensures)
+    (written .write-record .ensures)
 
 pub write-other-spec : {M : Type 1} → statement M
 write-other-spec =
@@ -74,7 +87,9 @@ write-other-spec =
     record-start-requires
     (λ c κs. search needs) (λ c κs. search needs) (λ c. search needs) (λ c. search needs)
     two-at-requires
-    (λ c. search needs) (λ c κs. search needs)
+    (λ c. search needs)
+    lanes-at-requires
+    (λ c κs. search needs)
     shared-slice-read-write-record
     (λ c. search needs)
     shared-slice-read-write-record-2

@@ -10,42 +10,28 @@ use borrow.Author.Needs.{needs}
 use Rattle.book.proofs.records.has_wrong_lanes.Statement.{statement}
 use Rattle.book.proofs.records.has_wrong_lanes.Tie as tie
 
-enum-told : tie.Need-enum-told
-enum-told c = search needs
-
 -- the head of a record of the second edition lies inside the book
-inside : (c : tie.After-enum-told2) → c .before .before .before .args .o + 3 ≤ length (now (c .before .before .before .args .book))
-inside c = rw (c .enum-told2 .given .1) at (c .before .before .before .pre .0)
+head-inside : (c : tie.After-enum-told2) → c .before .before .args .o + 3 ≤ length (now (c .before .before .args .book))
+head-inside c = rw (c .enum-told2 .given .1) at (c .before .before .pre .1 .0)
 
-shared-slice-read-written : tie.Need-shared-slice-read-written
-shared-slice-read-written c = omega (arith, inside (c .before))
+shared-slice-read-result : tie.Need-shared-slice-read-result
+shared-slice-read-result c = omega (arith, head-inside (c .before))
 
-cast-written : tie.Need-cast-written
-cast-written c = omega (arith, c .shared-slice-known2 .given (c .before .before .before .before .args .o + 2))
-
-shared-slice-read-lanes : tie.Need-shared-slice-read-lanes
-shared-slice-read-lanes c = omega (arith, inside (c .before .before))
-
-shared-slice-read-lanes-2 : tie.Need-shared-slice-read-lanes-2
-shared-slice-read-lanes-2 c = omega (arith, inside (c .before .before .before))
+cast-result : tie.Need-cast-result
+cast-result c = omega (arith, c .shared-slice-known .given (c .before .before .before .args .o + 2))
 
 returns : tie.Need-returns
 returns c = rw (c .enum-told .given .1) (sym (first-lane-count _ _))
 
 returns-2 : tie.Need-returns-2
-returns-2 c = rw (c .before .before .before .before .enum-told2 .given .1) (second-lane-count _ _ _ (c .lanes .ensures))
+returns-2 c = rw (c .before .enum-told2 .given .1) (second-lane-count _ _ _ (c .before .before .before .pre .0))
 
 pub has-wrong-lanes-spec : {M : Type 1} → statement M
 has-wrong-lanes-spec =
     tie.close
     (tie.spec
-    enum-told
-    (λ c. search needs) (λ c. search needs)
-    shared-slice-read-written
-    cast-written
-    shared-slice-read-lanes
-    (λ c. search needs)
-    shared-slice-read-lanes-2
-    (λ c κs. search needs)
+    (λ c. search needs) (λ c. search needs) (λ c. search needs)
+    shared-slice-read-result
+    cast-result
     returns
     returns-2)

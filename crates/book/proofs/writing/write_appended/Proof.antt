@@ -31,14 +31,14 @@ write-records-requires c κs =
     let a = accepted _ _ (pre .0 .0) in
     let e = counted .count-of .ensures .0 in
     let s = sized .size-of .ensures in
-    (pre .0 .1, omega (arith, a), omega (arith, a, pre .1))
+    (pre .0 .2, omega (arith, a), omega (arith, a, pre .1))
 
 write-trailer-requires : tie.Need-write-trailer-requires
 write-trailer-requires c κs =
     let headed = c .before .before .before .before .before in
     let sized = headed .before in
     let counted = sized .before in
-    let kept = c .before .before .before .write-records .kept .1 .1 .1 .1 .1 .1 .0 in
+    let kept = c .before .before .before .write-records .kept .1 .1 .1 .1 .1 .1 .1 .0 in
     let pre = counted .before .before .before .before .pre in
     let a = accepted _ _ (pre .0 .0) in
     let e = counted .count-of .ensures .0 in
@@ -54,7 +54,7 @@ returns c =
     let start = counted .before .before .before .before in
     appended-written _ (now (start .args .book)) (now (start .args .out)) _ _ (now (start .args .word)) _ _ _ _ _ (start .pre .0 .0)
     (counted .count-of .ensures .0)
-    (sized .size-of .ensures) (headed .head-size .ensures .0) (c .before .before .before .before .before .before .write-records .ensures)
+    (sized .size-of .ensures) (headed .head-size .ensures .0) _ (start .pre .0 .1) (c .before .before .before .before .before .before .write-records .ensures)
     (c .before .before .write-trailer .ensures)
 
 pub write-appended-spec : {M : Type 1} → statement M

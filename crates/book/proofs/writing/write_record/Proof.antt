@@ -15,11 +15,11 @@ put-lanes-requires : tie.Need-put-lanes-requires
 put-lanes-requires c κs = (c .before .before .before .before .before .pre .0, simp length-set (omega arith))
 
 put-two-requires : tie.Need-put-two-requires
-put-two-requires c κs = let k = simp length-set at (c .before .before .before .put-lanes .kept .1 .1 .1 .0) in omega arith
+put-two-requires c κs = let k = simp length-set at (c .before .before .before .put-lanes .kept .1 .1 .0) in omega arith
 
 copy-to-requires : tie.Need-copy-to-requires
 copy-to-requires c κs =
-    let k = simp length-set at (c .before .before .before .before .before .before .before .put-lanes .kept .1 .1 .1 .0) in
+    let k = simp length-set at (c .before .before .before .before .before .before .before .put-lanes .kept .1 .1 .0) in
     let l = c .before .before .before .put-two .kept .0 in
     omega arith
 
@@ -27,7 +27,7 @@ same-length : tie.Need-same-length
 same-length c =
     let stored = c .before .before .before .before .before .before in
     let laned = stored .before .before .before .before in
-    c .before .before .copy-to .kept .1 .0 ∙ stored .put-two .kept .0 ∙ simp length-set at (laned .put-lanes .kept .1 .1 .1 .0)
+    c .before .before .copy-to .kept .1 .0 ∙ stored .put-two .kept .0 ∙ simp length-set at (laned .put-lanes .kept .1 .1 .0)
 
 returns : tie.Need-returns
 returns c =

@@ -14,33 +14,33 @@ use Rattle.delay.proofs.counting.count.Statement.{statement}
 use Rattle.delay.proofs.counting.count.Tie as tie
 
 abbrev Inv-loop : tie.InvT-loop
-Inv-loop kind rank counts₀ m d₀ c₀ counts d c = Counted (kindOf kind) rank counts d c
+Inv-loop kind rank m counts₀ d₀ c₀ counts d c = Counted (kindOf kind) rank counts d c
 
 abbrev μ-loop : tie.MeasureT-loop
-μ-loop kind rank counts₀ m d₀ c₀ counts d c = m - c
+μ-loop kind rank m counts₀ d₀ c₀ counts d c = m - c
 
 loop-holds : tie.Need-loop-holds Inv-loop μ-loop
 loop-holds c =
-    let set = c .before .before .before .before in
-    counted-none _ _ _ _ _ (set .set-one .ensures) (set .before .before .before .pre .1) (c .fewest-of .ensures)
+    let set = c .before .before .before in
+    counted-none _ _ _ _ _ (set .set-one .ensures) (set .before .before .before .pre .1 .1) (c .fewest-of .ensures)
 
 top-of-requires : tie.Need-top-of-requires Inv-loop μ-loop
 top-of-requires c κs =
     let entered = c .before .before in
-    let start = entered .before .before .before .before .before .before .before in
-    sizes-le _ _ _ _ (start .pre .0) (entered .before .lanes .ensures) (c .loop-test .taken)
+    let start = entered .before .before .before .before .before .before in
+    sizes-le _ _ _ _ (start .pre .0) (start .pre .1 .0) (c .loop-test .taken)
 
 -- what a turn starts from
-turn : (c : tie.After-top-of Inv-loop μ-loop) → let start = c .before .before .before .before .before .before .before .before .before .before in
+turn : (c : tie.After-top-of Inv-loop μ-loop) → let start = c .before .before .before .before .before .before .before .before .before in
     let loop = c .before .before .loop in
     Turn (kindOf (start .args .kind)) (start .args .rank) (loop .counts) (loop .d) (loop .c) (c .top-of .result)
 turn c =
     let entered = c .before .before .before in
-    let start = entered .before .before .before .before .before .before .before in
+    let start = entered .before .before .before .before .before .before in
     record {
       rank = table-rank _ _ (start .pre .0);
       counted = c .before .before .loop .inv;
-      lower = rw (entered .before .lanes .ensures) at (c .before .loop-test .taken);
+      lower = rw (start .pre .1 .0) at (c .before .loop-test .taken);
       tops = c .top-of .ensures;
     }
 
@@ -56,8 +56,8 @@ slice-aggregate-multiply c = let t = turn (c .before) in sym (length-take-le _ _
 multiply-requires : tie.Need-multiply-requires Inv-loop μ-loop
 multiply-requires c κs =
     let entered = c .before .before .before .before in
-    let start = entered .before .before .before .before .before .before .before in
-    let small = sizes-le _ _ _ _ (start .pre .0) (entered .before .lanes .ensures) (c .before .before .loop-test .taken) in
+    let start = entered .before .before .before .before .before .before in
+    let small = sizes-le _ _ _ _ (start .pre .0) (start .pre .1 .0) (c .before .before .loop-test .taken) in
     let t = turn (c .before) in
     ((omega (arith, t .counted .level), small), (part-sum-fits t, part-factor-fits t))
 
@@ -65,19 +65,19 @@ loop-again : tie.Need-loop-again Inv-loop μ-loop
 loop-again c = counted-next (turn (c .before .before .before .before)) _ (c .before .before .multiply .ensures)
 
 same-length : tie.Need-same-length Inv-loop μ-loop
-same-length c = counted-length (c .before .loop .inv) ∙ sym (c .before .before .before .before .before .before .before .before .before .pre .1)
+same-length c = counted-length (c .before .loop .inv) ∙ sym (c .before .before .before .before .before .before .before .before .pre .1 .1)
 
 returns : tie.Need-returns Inv-loop μ-loop
 returns c =
     let entered = c .before .before in
-    let start = entered .before .before .before .before .before .before .before in
-    counted-all _ _ _ _ _ (table-rank _ _ (start .pre .0) .0) (c .before .loop .inv) (rw (entered .before .lanes .ensures) at (c .loop-test .left))
+    let start = entered .before .before .before .before .before .before in
+    counted-all _ _ _ _ _ (table-rank _ _ (start .pre .0) .0) (c .before .loop .inv) (rw (start .pre .1 .0) at (c .loop-test .left))
 
 pub count-spec : {M : Type 1} → statement M
 count-spec =
     tie.close
     (tie.spec Inv-loop μ-loop
-    (λ c κs. search needs) (λ c κs. search needs) (λ c κs. search needs)
+    (λ c κs. search needs) (λ c κs. search needs)
     loop-holds
     top-of-requires
     add-d

@@ -17,10 +17,9 @@ slice-aggregate-count : tie.Need-slice-aggregate-count
 slice-aggregate-count c = sym (length-take-le _ _ (search needs))
 
 count-requires : tie.Need-count-requires
-count-requires c κs = (
-  c .before .before .before .pre .0,
-  length-take-le _ _ (search needs) ∙ ap (λ (x : ℕ). x + 1) (c .before .greatest-length .ensures),
-)
+count-requires c κs =
+    let pre = c .before .before .before .pre in
+    (pre .0, (pre .1 .0, length-take-le _ _ (search needs) ∙ ap (λ (x : ℕ). x + 1) (c .before .greatest-length .ensures)))
 
 returns : tie.Need-returns
 returns c =

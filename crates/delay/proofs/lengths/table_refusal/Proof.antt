@@ -1,31 +1,21 @@
--- `lengths::table_refusal` makes checks 5 and 6, then check 20.
+-- `lengths::table_refusal` is the refusal with which the lane count is refused, or 0.
 -- Assumes nothing.
+use mathlib.Core.Path.{sym}
 use borrow.Author.Needs.{needs}
-use borrow.Author.Tests.{lt-ltb, le-ltb}
-use Rattle.coxeter.proofs.Refusals.{then-refused, then-next}
-use Rattle.distribution.specs.Calls.{untabled, tableRefusal}
+use Rattle.coxeter.proofs.LaneCounts.{refusal-of-lanes, count-of-lanes}
 use Rattle.delay.proofs.lengths.table_refusal.Statement.{statement}
 use Rattle.delay.proofs.lengths.table_refusal.Tie as tie
 
 returns : tie.Need-returns
-unfolding tableRefusal
-returns c = then-refused _ _ _ (c .before .rank-refusal .ensures) (c .if1 .taken)
+returns c = sym (count-of-lanes _ _ _ (c .before .before .tabled-lanes .ensures) _ (c .enum-told .given .1) .0)
 
 returns-2 : tie.Need-returns-2
-unfolding tableRefusal untabled
-returns-2 c =
-    let high = c .before in
-    let passed = high .before in
-    then-next _ _ _ _ (passed .before .rank-refusal .ensures) (passed .if1 .left)
-    (rw (← high .greatest-tabled .ensures, lt-ltb _ _ (c .if2 .taken)))
-
-returns-3 : tie.Need-returns-3
-unfolding tableRefusal untabled
-returns-3 c =
-    let high = c .before in
-    let passed = high .before in
-    then-next _ _ _ _ (passed .before .rank-refusal .ensures) (passed .if1 .left)
-    (rw (← high .greatest-tabled .ensures, le-ltb _ _ (c .if2 .left)))
+returns-2 c = refusal-of-lanes _ _ _ (c .before .before .before .tabled-lanes .ensures) _ (c .before .refusal .given .1) .0
 
 pub table-refusal-spec : {M : Type 1} → statement M
-table-refusal-spec = tie.close (tie.spec (λ c κs. search needs) returns (λ c κs. search needs) returns-2 returns-3)
+table-refusal-spec =
+    tie.close
+    (tie.spec
+    (λ c κs. search needs) (λ c. search needs) (λ c. search needs)
+    returns
+    returns-2)

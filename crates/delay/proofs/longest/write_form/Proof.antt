@@ -1,9 +1,7 @@
 -- `longest::write_form` has the normal form of the longest window written by the call on windows, which no check
 -- refuses.
 -- Assumes nothing.
-use mathlib.Core.Path.{sym, ap, _∙_}
-use Prim.Native.Nat.{ℕ}
-use lib.ListN.{take}
+use mathlib.Core.Path.{sym, _∙_}
 use lib.Seq.{length-take-le}
 use borrow.Author.Needs.{needs}
 use Rattle.delay.proofs.longest.Entries.{form-written}
@@ -16,16 +14,13 @@ slice-aggregate-normal-form-of-window c = sym (length-take-le _ _ (search needs)
 returns : tie.Need-returns
 returns c =
     let called = c .before .before in
-    let start = called .before .before .before .before .before in
-    called .normal-form-of-window .ensures .1
-    ∙ form-written _ _ _ _ (start .pre .0)
-    (ap (λ (m : ℕ). take m (start .args .entries .now)) (called .before .before .before .lanes .ensures) ∙ start .pre .1 .1 .0) (start .pre .1 .1 .1)
+    let pre = called .before .before .before .before .pre in
+    called .normal-form-of-window .ensures .1 ∙ form-written _ _ _ _ (pre .0) (pre .1 .1 .0) (pre .1 .1 .1)
 
 pub write-form-spec : {M : Type 1} → statement M
 write-form-spec =
     tie.close
     (tie.spec
-    (λ c κs. search needs)
     slice-aggregate-normal-form-of-window
     (λ c κs. search needs) (λ c. search needs)
     returns)

@@ -14,19 +14,19 @@ slice-aggregate-set-longest c = sym (length-take-le _ _ (search needs))
 
 set-longest-requires : tie.Need-set-longest-requires
 set-longest-requires c κs =
-    (rank-accepted _ _ (c .before .before .pre .0), length-take-le _ _ (search needs) ∙ c .before .lanes .ensures)
+    (rank-accepted _ _ (c .before .pre .0), length-take-le _ _ (search needs) ∙ c .before .pre .1 .0)
 
 returns : tie.Need-returns
 returns c =
     let called = c .before in
-    let rank = rank-accepted _ _ (called .before .before .before .pre .0) in
-    front-parts _ _ _ _ (length-longest _ _ (rank .0) ∙ sym (called .before .before .lanes .ensures)) (called .set-longest .ensures)
+    let pre = called .before .before .pre in
+    front-parts _ _ _ _ (length-longest _ _ (rank-accepted _ _ (pre .0) .0) ∙ sym (pre .1 .0)) (called .set-longest .ensures)
 
 pub write-longest-spec : {M : Type 1} → statement M
 write-longest-spec =
     tie.close
     (tie.spec
-    (λ c κs. search needs) (λ c. search needs)
+    (λ c. search needs)
     slice-aggregate-set-longest
     set-longest-requires
     (λ c. search needs)

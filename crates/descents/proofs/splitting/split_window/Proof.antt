@@ -1,5 +1,6 @@
 -- `splitting::split_window` strips the inverse of the window, and has the two words written.
 -- Assumes nothing.
+use mathlib.Core.Path.{refl}
 use Rattle.descents.proofs.Fallbacks.{part-length, part-is}
 use Rattle.descents.proofs.splitting.Halves.{stored-room, stored-is, stored-size, strip-asked, parts-asked, parts-are}
 use borrow.Author.Needs.{needs}
@@ -9,34 +10,33 @@ use Rattle.descents.proofs.splitting.split_window.Tie as tie
 slice-aggregate-strip : tie.Need-slice-aggregate-strip
 slice-aggregate-strip c =
     let b = c .before .before in
-    part-length _ _ _ _ _ (b .invert .ensures .1) (b .before .before .before .lanes .ensures) (b .invert .ensures .0)
+    part-length _ _ _ _ _ (b .invert .ensures .1) refl (b .invert .ensures .0)
 
 strip-requires : tie.Need-strip-requires
 strip-requires c κs =
     let b = c .before .before in
-    let p = b .before .before .before .before .before .before .pre in
-    strip-asked _ _ 0 _ _ (p .0) (p .1) (part-is _ _ _ _ _ (b .invert .ensures .1) (b .before .before .before .lanes .ensures))
+    let p = b .before .before .before .before .before .pre in
+    strip-asked _ _ 0 _ _ (p .0) (p .1) (part-is _ _ _ _ _ (b .invert .ensures .1) refl)
 
 array-share-prefix-rest : tie.Need-array-share-prefix-rest
 array-share-prefix-rest c =
     let b = c .before .before .before .before in
-    let size = part-length _ _ _ _ _ (b .invert .ensures .1) (b .before .before .before .lanes .ensures) (b .invert .ensures .0) in
+    let size = part-length _ _ _ _ _ (b .invert .ensures .1) refl (b .invert .ensures .0) in
     stored-room _ _ (c .before .strip .last .1 .1 .1 .0) size (c .before .strip .kept .1 .1 .1 .0)
 
 slice-aggregate-write-parts : tie.Need-slice-aggregate-write-parts
 slice-aggregate-write-parts c =
     let b = c .before .before .before .before .before in
-    let size = part-length _ _ _ _ _ (b .invert .ensures .1) (b .before .before .before .lanes .ensures) (b .invert .ensures .0) in
+    let size = part-length _ _ _ _ _ (b .invert .ensures .1) refl (b .invert .ensures .0) in
     stored-size _ _ (c .before .before .strip .last .1 .1 .1 .0) size (c .before .before .strip .kept .1 .1 .1 .0)
 
 write-parts-requires : tie.Need-write-parts-requires
 write-parts-requires c κs =
     let s = c .before .before .before .before in
     let b = s .before .before .before in
-    let l = b .before .before .before .lanes .ensures in
-    let p = b .before .before .before .before .before .before .pre in
-    let size = part-length _ _ _ _ _ (b .invert .ensures .1) l (b .invert .ensures .0) in
-    parts-asked _ _ _ _ _ (p .0) (p .1) (part-is _ _ _ _ _ (b .invert .ensures .1) l) _ _ (stored-is _ _ _ size (s .strip .kept .1 .1 .1 .0))
+    let p = b .before .before .before .before .before .pre in
+    let size = part-length _ _ _ _ _ (b .invert .ensures .1) refl (b .invert .ensures .0) in
+    parts-asked _ _ _ _ _ (p .0) (p .1) (part-is _ _ _ _ _ (b .invert .ensures .1) refl) _ _ (stored-is _ _ _ size (s .strip .kept .1 .1 .1 .0))
     (s .strip .ensures)
 
 returns : tie.Need-returns
@@ -44,17 +44,16 @@ returns c =
     let f = c .before .before .before .before in
     let s = f .before .before .before .before .before in
     let b = s .before .before .before in
-    let l = b .before .before .before .lanes .ensures in
-    let p = b .before .before .before .before .before .before .pre in
-    let size = part-length _ _ _ _ _ (b .invert .ensures .1) l (b .invert .ensures .0) in
-    parts-are _ _ _ _ _ (p .0) (p .1) (part-is _ _ _ _ _ (b .invert .ensures .1) l) _ _ (stored-is _ _ _ size (s .strip .kept .1 .1 .1 .0))
+    let p = b .before .before .before .before .before .pre in
+    let size = part-length _ _ _ _ _ (b .invert .ensures .1) refl (b .invert .ensures .0) in
+    parts-are _ _ _ _ _ (p .0) (p .1) (part-is _ _ _ _ _ (b .invert .ensures .1) refl) _ _ (stored-is _ _ _ size (s .strip .kept .1 .1 .1 .0))
     (s .strip .ensures) _ _ _ _ _ (f .write-parts .ensures)
 
 pub split-window-spec : {M : Type 1} → statement M
 split-window-spec =
     tie.close
     (tie.spec
-    (λ c κs. search needs) (λ c κs. search needs) (λ c. search needs) (λ c κs. search needs) (λ c. search needs)
+    (λ c κs. search needs) (λ c. search needs) (λ c κs. search needs) (λ c. search needs)
     slice-aggregate-strip
     strip-requires
     array-share-prefix-rest

@@ -11,7 +11,7 @@ returns c =
     let b = c .before in
     let s = b .before .before in
     let room = s .pre .2 in
-    (room ∙ sym (b .inverse-of-window .kept .1 .1 .1 .0), inverse-front _ _ (s .pre .0) _ _ _ (s .pre .1) room (b .inverse-of-window .ensures .1))
+    (room ∙ sym (b .inverse-of-window .kept .1 .1 .1 .0), inverse-front _ _ (s .pre .0) _ (s .pre .1) _ _ room (b .inverse-of-window .ensures .1))
 
 pub invert-spec : {M : Type 1} → statement M
 invert-spec = tie.close (tie.spec (λ c κs. search needs) (λ c. search needs) returns)

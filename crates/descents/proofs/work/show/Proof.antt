@@ -2,16 +2,30 @@
 -- Assumes nothing.
 use mathlib.Core.Path.{sym, _∙_}
 use borrow.Author.Needs.{needs}
-use Rattle.coxeter.proofs.Fronts.{window-shown}
+use Rattle.coxeter.proofs.Fronts.{window-front, window-never}
 use Rattle.descents.proofs.work.show.Statement.{statement}
 use Rattle.descents.proofs.work.show.Tie as tie
 
 returns : tie.Need-returns
 returns c =
-    let b = c .before in
+    let b = c .before .before .before in
     let s = b .before .before .before in
-    let room = s .pre .2 in
-    (room ∙ sym (b .window-of-word .kept .1 .1 .1 .0), window-shown _ _ _ (s .pre .0) (s .pre .1) _ _ room (b .window-of-word .ensures .1))
+    absurd (window-never _ _ _ (s .pre .0) (s .pre .1) _ _ (s .pre .2) _ (b .window-of-word .ensures) _ (c .enum-told .given .1))
+
+returns-2 : tie.Need-returns-2
+returns-2 c =
+    let b = c .before .before .before .before in
+    let s = b .before .before .before in
+    let room = s .pre .2 in (
+      room ∙ sym (b .window-of-word .kept .1 .1 .1 .0),
+      window-front _ _ _ (s .pre .0) (s .pre .1) _ _ room _ (b .window-of-word .ensures) _ (c .before .m .given .1),
+    )
 
 pub show-spec : {M : Type 1} → statement M
-show-spec = tie.close (tie.spec (λ c κs. search needs) (λ c. search needs) returns)
+show-spec =
+    tie.close
+    (tie.spec
+    (λ c κs. search needs) (λ c. search needs) (λ c. search needs) (λ c. search needs)
+    returns
+    (λ c. search needs)
+    returns-2)

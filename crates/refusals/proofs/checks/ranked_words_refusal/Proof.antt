@@ -2,7 +2,7 @@
 -- Assumes nothing.
 use borrow.Author.Needs.{needs}
 use Rattle.coxeter.specs.Checks.{rankRefusal, wordRefusal}
-use Rattle.refusals.proofs.checks.Tests.{pair-refused, pair-next}
+use Rattle.coxeter.proofs.Refusals.{pair-refused, pair-next}
 use Rattle.refusals.proofs.checks.ranked_words_refusal.Statement.{statement}
 use Rattle.refusals.proofs.checks.ranked_words_refusal.Tie as tie
 

@@ -1,14 +1,25 @@
 -- `combined::normal_form_of_inverse` refuses in the order of CO2, or writes the normal form of the window's inverse.
 -- Assumes nothing.
-use mathlib.Core.Path.{refl}
+use mathlib.Core.Path.{refl, sym, _∙_}
+use lib.ListN.{length}
+use Rattle.coxeter.specs.Kinds.{kindOf}
+use Rattle.coxeter.specs.Windows.{inverse}
+use Rattle.coxeter.specs.Checks.{RankOf, WindowOf}
 use Rattle.coxeter.proofs.Acceptance.{two-accepted}
 use Rattle.coxeter.proofs.Theorems.{inverse-passes}
+use Rattle.window.proofs.combined.Made.{made-room, window-lanes}
 use Rattle.coxeter.proofs.Outcomes.{writes-refused}
-use Rattle.window.proofs.forms.Rooms.{made-asks, made-written}
-use Rattle.window.proofs.combined.Made.{made-room}
+use Rattle.window.proofs.shown.Fronts.{Front, front-written}
+use Rattle.window.proofs.forms.Rooms.{form-written}
 use borrow.Author.Needs.{needs}
 use Rattle.window.proofs.combined.normal_form_of_inverse.Statement.{statement}
 use Rattle.window.proofs.combined.normal_form_of_inverse.Tie as tie
+
+-- the windows passed
+passed : (c : tie.Else1)
+    → let a = c .before .before .before .args in
+    RankOf (a .kind) (a .rank) × WindowOf (kindOf (a .kind)) (a .rank) (a .w .now)
+passed c = two-accepted _ _ _ (c .before .ranked-window-refusal .ensures) (c .if1 .left)
 
 returns : tie.Need-returns
 returns c = writes-refused _ _ _ _ _ refl (c .before .ranked-window-refusal .ensures) (c .if1 .taken)
@@ -16,26 +27,35 @@ returns c = writes-refused _ _ _ _ _ refl (c .before .ranked-window-refusal .ens
 inverse-into-requires : tie.Need-inverse-into-requires
 inverse-into-requires c κs =
     let work = c .before .entries-64 in
-    let passed = two-accepted _ _ _ (c .before .before .before .ranked-window-refusal .ensures) (c .before .before .if1 .left) in
-    (passed .0, (passed .1, made-room _ _ (passed .0) _ (work .result) (passed .1) (work .ensures)))
+    let p = passed (c .before .before) in
+    (p .0, (p .1, made-room _ _ (p .0) _ (work .result) (p .1) (work .ensures)))
+
+-- what the work window holds after the call
+held : (c : tie.After-inverse-into)
+    → let a = c .before .before .before .before .before .before .args in
+    Front (a .kind) (a .rank) (length (a .w .now)) (inverse (a .w .now)) (c .inverse-into .last .1 .1 .1 .0)
+held c =
+    let made = c .before .before in
+    let p = passed (made .before) in
+    front-written _ _ _ (p .0) (window-lanes _ _ _ (p .1)) _ _ _ (inverse-passes _ _ _ (p .1)) (made .entries-64 .ensures) (c .inverse-into .ensures)
+
+array-share-prefix-work : tie.Need-array-share-prefix-work
+array-share-prefix-work c = held (c .before) .fits
+
+slice-aggregate-write-checked : tie.Need-slice-aggregate-write-checked
+slice-aggregate-write-checked c = held (c .before .before) .size
 
 write-checked-requires : tie.Need-write-checked-requires
 write-checked-requires c κs =
     let made = c .before .before .before in
-    let first = made .before .before .before in
-    let passed = two-accepted _ _ _ (first .before .ranked-window-refusal .ensures) (first .if1 .left) in
-    made-asks _ _ (passed .0) _ _ _ (inverse-passes _ _ _ (passed .1)) (made .before .before .entries-64 .ensures) (made .inverse-into .ensures)
+    (passed (made .before .before .before) .0, held made .passes)
 
 returns-2 : tie.Need-returns-2
 returns-2 c =
     let called = c .before .before in
     let made = called .before .before .before .before in
     let first = made .before .before .before in
-    let refusal = first .before .ranked-window-refusal .ensures in
-    let passed = two-accepted _ _ _ refusal (first .if1 .left) in
-    let work = made .before .before .entries-64 .ensures in
-    made-written _ _ (passed .0) _ _ _ (inverse-passes _ _ _ (passed .1)) work (made .inverse-into .ensures) _ _ _ _ _ _ refl refusal (first .if1 .left)
-    (called .write-checked .ensures)
+    form-written _ _ _ _ _ (held made) _ _ _ _ _ refl (sym (first .before .ranked-window-refusal .ensures) ∙ first .if1 .left) (called .write-checked .ensures)
 
 pub normal-form-of-inverse-spec : {M : Type 1} → statement M
 normal-form-of-inverse-spec =
@@ -45,7 +65,8 @@ normal-form-of-inverse-spec =
     returns
     (λ c κs. search needs) (λ c. search needs)
     inverse-into-requires
-    (λ c. search needs)
+    array-share-prefix-work
+    slice-aggregate-write-checked
     write-checked-requires
     (λ c. search needs)
     returns-2)

@@ -1,11 +1,10 @@
 -- `forms::lacks_room` compares the room with n × n, and where that is more with the length.
 -- Assumes nothing.
-use mathlib.Core.Path.{refl, sym}
+use mathlib.Core.Path.{refl, ap}
 use native.Mathlib.Omega.{arith}
-use lib.Seq.{length-take-le}
-use borrow.Author.Needs.{needs}
+use lib.Dec.{ltb}
 use Rattle.coxeter.proofs.Acceptance.{rank-accepted, lanes-le}
-use Rattle.window.proofs.forms.Rooms.{square-room, measured-room}
+use Rattle.window.proofs.forms.Rooms.{square-room}
 use Rattle.window.proofs.length.Sums.{square-fits}
 use Rattle.window.proofs.forms.lacks_room.Statement.{statement}
 use Rattle.window.proofs.forms.lacks_room.Tie as tie
@@ -14,27 +13,13 @@ mul-if1 : tie.Need-mul-if1
 mul-if1 c = record { fits = omega (arith, square-fits (c .args .rank) (rank-accepted _ _ (c .pre .0) .1) .0) }
 
 returns : tie.Need-returns
-returns c = square-room _ _ _ _ (c .before .pre .1 .1) (c .if1 .taken)
-
-slice-aggregate-length-of : tie.Need-slice-aggregate-length-of
-slice-aggregate-length-of c = sym (length-take-le _ _ (search needs))
+returns c = square-room _ _ _ _ (c .before .pre .1) (c .if1 .taken)
 
 length-of-requires : tie.Need-length-of-requires
-length-of-requires c κs =
-    let counted = c .before in
-    let pre = counted .before .before .pre in
-    (lanes-le _ _ _ (pre .0) refl, rw (counted .lanes .ensures) (pre .1 .1))
+length-of-requires c κs = (lanes-le _ _ _ (c .before .pre .0) refl, c .before .pre .1)
 
 returns-2 : tie.Need-returns-2
-returns-2 c = measured-room _ _ _ _ _ _ (c .before .before .lanes .ensures) (c .length-of .ensures)
+returns-2 c = ap (ltb _) (c .length-of .ensures)
 
 pub lacks-room-spec : {M : Type 1} → statement M
-lacks-room-spec =
-    tie.close
-    (tie.spec
-    mul-if1
-    returns
-    (λ c κs. search needs)
-    slice-aggregate-length-of
-    length-of-requires
-    returns-2)
+lacks-room-spec = tie.close (tie.spec mul-if1 returns length-of-requires returns-2)

@@ -8,7 +8,7 @@ use Rattle.window.proofs.shown.equal_words.Tie as tie
 same-presets-requires : tie.Need-same-presets-requires
 same-presets-requires c κs =
     let pre = c .before .before .pre in
-    (pre .0, (pre .1 .0, (pre .0, pre .1 .1)))
+    ((pre .0, pre .1 .0, pre .1 .1 .0), (pre .0, pre .1 .0, pre .1 .1 .1))
 
 returns : tie.Need-returns
 returns c = c .same-presets .ensures ∙ same-words _ _ _ _

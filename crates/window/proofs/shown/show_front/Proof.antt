@@ -14,19 +14,19 @@ slice-aggregate-show c = sym (length-take-le _ _ (search needs))
 
 show-requires : tie.Need-show-requires
 show-requires c κs =
-    let start = c .before .before .before in
-    (rank-accepted _ _ (start .pre .0), (length-take-le _ _ (search needs) ∙ c .before .lanes .ensures, start .pre .1 .0))
+    let pre = c .before .before .pre in
+    (rank-accepted _ _ (pre .0), (length-take-le _ _ (search needs) ∙ pre .1 .0, pre .1 .1 .0))
 
 returns : tie.Need-returns
 returns c =
     let called = c .before in
-    front-parts _ _ _ _ (length-window _ _ _ ∙ sym (called .before .before .lanes .ensures)) (called .show .ensures)
+    front-parts _ _ _ _ (length-window _ _ _ ∙ sym (called .before .before .before .pre .1 .0)) (called .show .ensures)
 
 pub show-front-spec : {M : Type 1} → statement M
 show-front-spec =
     tie.close
     (tie.spec
-    (λ c κs. search needs) (λ c. search needs)
+    (λ c. search needs)
     slice-aggregate-show
     show-requires
     (λ c. search needs)

@@ -1,62 +1,50 @@
 -- `shown::show_inverse` inverts what the word shows in a work window.
 -- Assumes nothing.
-use mathlib.Core.Path.{sym}
-use borrow.Author.Needs.{needs}
 use Rattle.coxeter.specs.Kinds.{kindOf}
 use Rattle.coxeter.specs.Windows.{window}
-use Rattle.window.proofs.shown.Fronts.{Front, room, front-written, part-room, length-part, part-is, part-passes, window-passes}
+use Rattle.window.proofs.shown.Fronts.{Front, room, front-written, window-passes}
+use borrow.Author.Needs.{needs}
 use Rattle.window.proofs.shown.show_inverse.Statement.{statement}
 use Rattle.window.proofs.shown.show_inverse.Tie as tie
 
 show-front-requires : tie.Need-show-front-requires
 show-front-requires c κs =
     let made = c .before in
-    let pre = made .before .before .before .pre in
-    (pre .0, (pre .1 .0, room _ _ (pre .0) (made .entries-64 .result) (made .entries-64 .ensures)))
+    let pre = made .before .before .pre in
+    (pre .0, (pre .1 .0, (pre .1 .1 .0, room _ _ _ (pre .0) (pre .1 .0) (made .entries-64 .result) (made .entries-64 .ensures))))
 
 -- what the work window holds after the call
 held : (c : tie.After-show-front)
-    → let a = c .before .before .before .before .before .args in
-    Front (a .kind) (a .rank) (window (kindOf (a .kind)) (a .rank) (a .word .now)) (c .show-front .last .1 .1 .1 .0)
+    → let a = c .before .before .before .before .args in
+    Front (a .kind) (a .rank) (a .m) (window (kindOf (a .kind)) (a .rank) (a .word .now)) (c .show-front .last .1 .1 .1 .1 .0)
 held c =
     let made = c .before .before in
-    front-written _ _ (made .before .before .before .pre .0) _ _ _ (window-passes _ _ _) (made .entries-64 .ensures) (c .show-front .ensures)
+    let pre = made .before .before .pre in
+    front-written _ _ _ (pre .0) (pre .1 .0) _ _ _ (window-passes _ _ _) (made .entries-64 .ensures) (c .show-front .ensures)
 
 array-share-prefix-work : tie.Need-array-share-prefix-work
-array-share-prefix-work c =
-    let shown = c .before in
-    let counted = shown .before .before .before in
-    part-room _ _ _ (counted .before .before .pre .0) (counted .lanes .ensures) (shown .show-front .last .1 .1 .1 .0) (held shown .0)
+array-share-prefix-work c = held (c .before) .fits
 
 slice-aggregate-inverse-into : tie.Need-slice-aggregate-inverse-into
-slice-aggregate-inverse-into c =
-    let shown = c .before .before in
-    let counted = shown .before .before .before in
-    sym (length-part _ _ _ (counted .before .before .pre .0) (counted .lanes .ensures) _ (held shown .0))
+slice-aggregate-inverse-into c = held (c .before .before) .size
 
 inverse-into-requires : tie.Need-inverse-into-requires
 inverse-into-requires c κs =
     let shown = c .before .before .before in
-    let counted = shown .before .before .before in
-    let pre = counted .before .before .pre in
-    let lanes = counted .lanes .ensures in (
-      pre .0,
-      (part-passes _ _ _ (pre .0) lanes _ _ (window-passes _ _ _) (held shown), rw (length-part _ _ _ (pre .0) lanes _ (held shown .0), lanes) (pre .1 .1)),
-    )
+    let pre = shown .before .before .before .before .pre in
+    let front = held shown in
+    (pre .0, (front .passes, rw (← front .size) (pre .1 .1 .1)))
 
 returns : tie.Need-returns
 returns c =
     let called = c .before in
-    let shown = called .before .before .before .before in
-    let counted = shown .before .before .before in
-    let part = part-is _ _ _ (counted .before .before .pre .0) (counted .lanes .ensures) _ _ (held shown) in
-    rw part at (called .inverse-into .ensures)
+    rw (held (called .before .before .before .before) .is) at (called .inverse-into .ensures)
 
 pub show-inverse-spec : {M : Type 1} → statement M
 show-inverse-spec =
     tie.close
     (tie.spec
-    (λ c κs. search needs) (λ c κs. search needs) (λ c. search needs)
+    (λ c κs. search needs) (λ c. search needs)
     show-front-requires
     array-share-prefix-work
     slice-aggregate-inverse-into

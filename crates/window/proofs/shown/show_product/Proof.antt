@@ -2,9 +2,9 @@
 -- Assumes nothing.
 use mathlib.Core.Path.{sym}
 use lib.Seq.{length-take-le}
-use borrow.Author.Needs.{needs}
 use Rattle.coxeter.proofs.Acceptance.{rank-accepted}
 use Rattle.window.proofs.shown.Fronts.{part-window, part-product, window-passes}
+use borrow.Author.Needs.{needs}
 use Rattle.window.proofs.shown.show_product.Statement.{statement}
 use Rattle.window.proofs.shown.show_product.Tie as tie
 
@@ -13,23 +13,22 @@ slice-aggregate-apply c = sym (length-take-le _ _ (search needs))
 
 apply-requires : tie.Need-apply-requires
 apply-requires c κs =
-    let counted = c .before .before .before .before in
-    let pre = counted .before .before .before .pre in
-    let part = part-window _ _ _ (pre .0) (counted .lanes .ensures) _ _ _ (pre .1 .1 .1) (c .before .before .show-front .ensures) in
-    (rank-accepted _ _ (pre .0), (pre .1 .1 .0, rw part (window-passes _ _ _)))
+    let shown = c .before .before in
+    let pre = shown .before .before .before .before .pre in
+    let part = part-window _ _ _ (pre .0) (pre .1 .0) _ _ _ (pre .1 .1 .1 .1) (shown .show-front .ensures) in
+    (rank-accepted _ _ (pre .0), (pre .1 .1 .1 .0, rw part (window-passes _ _ _)))
 
 returns : tie.Need-returns
 returns c =
     let shown = c .before .before .before .before in
-    let counted = shown .before .before in
-    let pre = counted .before .before .before .pre in
-    part-product _ _ _ (pre .0) (counted .lanes .ensures) _ _ _ (pre .1 .1 .1) (shown .show-front .ensures) _ _ (c .before .apply .ensures)
+    let pre = shown .before .before .before .before .pre in
+    part-product _ _ _ (pre .0) (pre .1 .0) _ _ _ (pre .1 .1 .1 .1) (shown .show-front .ensures) _ _ (c .before .apply .ensures)
 
 pub show-product-spec : {M : Type 1} → statement M
 show-product-spec =
     tie.close
     (tie.spec
-    (λ c κs. search needs) (λ c κs. search needs) (λ c. search needs)
+    (λ c κs. search needs) (λ c. search needs)
     slice-aggregate-apply
     apply-requires
     (λ c. search needs)
