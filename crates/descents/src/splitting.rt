@@ -1,8 +1,8 @@
 // The two words of a split, from the window of the preset.
 use crate::stripping::strip;
 use crate::work::entries_64;
-use crate::work::form_length;
 use crate::work::invert;
+use crate::work::measure;
 use crate::work::show;
 use shortest_words::Split;
 use window::Answer;
@@ -10,10 +10,11 @@ use window::normal_form_of_inverse;
 use window::normal_form_of_product;
 ghost use mathlib.Core.Path.{_≡_};
 ghost use Prim.Native.Nat.{_≤_};
-ghost use lib.Dec.{leb};
+ghost use lib.Dec.{ltb};
 ghost use lib.ListN.{length};
 ghost use Rattle.coxeter.specs.Kinds.{kindOf};
 ghost use Rattle.coxeter.specs.Windows.{window, product, inverse};
+ghost use Rattle.coxeter.specs.Length.{windowLength};
 ghost use Rattle.coxeter.specs.Checks.{RankOf, WordOf, WindowOf};
 ghost use Rattle.coxeter.specs.NormalForm.{normalForm};
 ghost use Rattle.coxeter.specs.Calls.{Yields, writes};
@@ -21,18 +22,18 @@ ghost use Rattle.shortest_words.specs.Allowed.{allows};
 ghost use Rattle.shortest_words.specs.Split.{firstWord, secondWord};
 ghost use Rattle.shortest_words.specs.SplitCalls.{splitOutcome, SplitYields};
 
-// Whether `room` letters are enough for the normal form of an accepted window's inverse, which is as long as that of
-// the window. No normal form has more than n × n letters, so that the length is measured only where there is less
-// room.
-fn has_room(kind: u8, rank: u8, w: &[i8], room: usize) -> bool
-    requires { ⌜ RankOf kind rank × WindowOf (kindOf kind) rank (now w) ⌝ }
-    ensures { λ r. ⌜ r ≡ leb (length (normalForm (kindOf kind) rank (inverse (now (w .entry))))) room ⌝ }
+// Check 14: whether `room` is less than the length of the normal form of an accepted window, or of its inverse, which
+// is as long. No normal form has more than n × n letters, so that the length is measured only if there is less room.
+fn lacks_room(kind: u8, rank: u8, w: &[i8], room: usize) -> bool
+    requires { ⌜ RankOf kind rank ⌝ }
+    requires { ⌜ WindowOf (kindOf kind) rank (now w) ⌝ }
+    ensures { λ r. ⌜ r ≡ ltb room (windowLength (kindOf kind) (now (w .entry))) ⌝ }
 {
     let n = rank as usize;
     if n * n <= room {
-        return true;
+        return false;
     }
-    form_length(kind, rank, w) <= room
+    room < measure(kind, rank, w)
 }
 
 // The normal form of an accepted window's inverse, at the front of an output with room for it. Returns its length. The
@@ -66,7 +67,7 @@ fn write_parts(
         (normalForm (kindOf kind) rank (inverse (now (rest .entry)))) (now (first .entry)) (now (second .entry)))
         r (now (first .exit)) (now (second .exit)) ⌝ }
 {
-    if !has_room(kind, rank, rest, second.len()) {
+    if lacks_room(kind, rank, rest, second.len()) {
         return Split::Refused(14);
     }
     let Answer::Length(l) = normal_form_of_product(kind, rank, w, rest, first) else {

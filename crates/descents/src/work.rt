@@ -9,8 +9,9 @@ ghost use mathlib.Core.Path.{_≡_};
 ghost use lib.ListN.{length};
 ghost use Rattle.coxeter.specs.Kinds.{kindOf};
 ghost use Rattle.coxeter.specs.Windows.{window, inverse};
+ghost use Rattle.coxeter.specs.Length.{windowLength};
 ghost use Rattle.coxeter.specs.Checks.{RankOf, WordOf, WindowOf};
-ghost use Rattle.coxeter.specs.NormalForm.{normalForm, wordNormalForm};
+ghost use Rattle.coxeter.specs.NormalForm.{wordNormalForm};
 ghost use Rattle.coxeter.proofs.Fronts.{Front};
 
 // A word with room for every normal form.
@@ -70,10 +71,10 @@ pub(crate) fn invert(kind: u8, rank: u8, w: &[i8], work: &mut [i8])
     inverse_of_window(kind, rank, w, work);
 }
 
-// The length of the normal form of an accepted window.
-pub(crate) fn form_length(kind: u8, rank: u8, w: &[i8]) -> usize
+// The length of an accepted window, which is that of its normal form.
+pub(crate) fn measure(kind: u8, rank: u8, w: &[i8]) -> usize
     requires { ⌜ RankOf kind rank × WindowOf (kindOf kind) rank (now w) ⌝ }
-    ensures { λ r. ⌜ r ≡ length (normalForm (kindOf kind) rank (now (w .entry))) ⌝ }
+    ensures { λ r. ⌜ r ≡ windowLength (kindOf kind) (now (w .entry)) ⌝ }
 {
     let Answer::Length(l) = length_of_window(kind, rank, w) else {
         return 0;

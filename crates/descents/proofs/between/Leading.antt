@@ -36,7 +36,7 @@ use Rattle.shortest_words.specs.BetweenCalls.{unreachable, betweenRefusal, betw
 use Rattle.shortest_words.proofs.Between.{between-accepted}
 use Rattle.shortest_words.proofs.BetweenCalls.{rank-of-set}
 use Rattle.descents.proofs.Answers.{told-length, told-refused}
-use Rattle.descents.proofs.work.Windows.{form-le-square}
+use Rattle.window.proofs.Squares.{form-le-square}
 
 -- ---- letters
 
@@ -86,9 +86,6 @@ square-le-64 n h = mul-le-mul {n₁ = n} {m₁ = n} {n₂ = 8} {m₂ = 8} h h
 
 pub square-le-256 : (n : ℕ) → n ≤ 16 → n * n ≤ 256
 square-le-256 n h = mul-le-mul {n₁ = n} {m₁ = n} {n₂ = 16} {m₂ = 16} h h
-
-pub square-le-4096 : (n : ℕ) → n ≤ 64 → n * n ≤ 4096
-square-le-4096 n h = mul-le-mul {n₁ = n} {m₁ = n} {n₂ = 64} {m₂ = 64} h h
 
 -- ---- the call
 

@@ -2,26 +2,27 @@
 -- allowed steps that strips the inverse leads to the two words of the definition.
 -- Assumes nothing.
 use mathlib.Core.Path.{_≡_, refl, sym, _∙_}
-use mathlib.Core.Bool.{Bool, true, false, not}
+use mathlib.Core.Bool.{Bool, true}
 use mathlib.Core.List.{List, _++_}
-use Prim.Native.Nat.{ℕ, _*_, _≤_, _<_}
+use Prim.Native.Nat.{ℕ, _≤_, _<_}
 use native.Mathlib.Nat.{lt-of-not-le}
 use native.Mathlib.Decide.{decLe}
 use native.Mathlib.Omega.{arith}
-use lib.Dec.{leb}
+use lib.Dec.{ltb}
 use lib.IntN.{ℤ}
 use lib.ListN.{length, take, drop, length-append}
 use lib.Seq.{take-at}
-use borrow.Author.Tests.{le-leb, leb-true, leb-false, not-true, not-false}
+use borrow.Author.Tests.{ltb-true}
 use Rattle.coxeter.specs.declared.Answer.{Answer}
 use Rattle.coxeter.specs.declared.Answer.the-variants as answer
-use Rattle.coxeter.specs.Kinds.{Kind, kindOf, least}
+use Rattle.coxeter.specs.Kinds.{kindOf}
 use Rattle.coxeter.specs.Windows.{window, product, inverse}
+use Rattle.coxeter.specs.Length.{windowLength}
 use Rattle.coxeter.specs.Checks.{_then_, rankRefusal, windowRefusal, RankOf, WindowOf}
 use Rattle.coxeter.specs.NormalForm.{normalForm}
 use Rattle.coxeter.specs.Calls.{Yields, writes}
 use Rattle.coxeter.proofs.Acceptance.{Ranked, rank-accepted}
-use Rattle.coxeter.proofs.Levels.{Accepted, accepted-of-refusal, refusal-of-accepted}
+use Rattle.coxeter.proofs.Levels.{accepted-of-refusal, refusal-of-accepted}
 use Rattle.coxeter.proofs.Inverses.{inverse-accepted}
 use Rattle.coxeter.proofs.Lengths.{length-normalForm}
 use Rattle.coxeter.proofs.Refusals.{then-none}
@@ -35,7 +36,6 @@ use Rattle.shortest_words.proofs.Shortest.{windowLength-inverse}
 use Rattle.shortest_words.proofs.SplitOutcomes.{first-short, second-short, parts-written}
 use Rattle.shortest_words.proofs.Stripping.{Strips, rest-accepted, split-by-strips}
 use Rattle.descents.proofs.Answers.{told-length, told-refused}
-use Rattle.descents.proofs.work.Windows.{form-le-square}
 
 -- the first m entries of the array r become x
 module _ (m : ℕ) (r x : List ℤ) (e : m ≡ length (take m r)) (f : length x ≡ length (take m r)) where
@@ -48,30 +48,16 @@ module _ (m : ℕ) (r x : List ℤ) (e : m ≡ length (take m r)) (f : length x 
   pub stored-size : m ≡ length (take m (x ++ drop m r))
   stored-size = rw stored-is (e ∙ sym f)
 
--- the normal form of an inverse is as long as that of the window
-form-of-inverse : (k : Kind) (n : ℕ) (w : List ℤ) → least k ≤ n → Accepted k n w → length (normalForm k n (inverse w)) ≡ length (normalForm k n w)
-form-of-inverse k n w o a =
-    length-normalForm k n (inverse w) (inverse-accepted k n w a) ∙ windowLength-inverse k n w o a ∙ sym (length-normalForm k n w a)
-
-module _ (k n : ℕ) (w : List ℤ) (h : RankOf k n) (a : WindowOf (kindOf k) n w) where
-  same-length : length (normalForm (kindOf k) n (inverse w)) ≡ length (normalForm (kindOf k) n w)
-  same-length = form-of-inverse (kindOf k) n w (rank-accepted k n h .0) (accepted-of-refusal (kindOf k) n w a)
-
-  pub room-for-all : (room : ℕ) → n * n ≤ room → true ≡ leb (length (normalForm (kindOf k) n (inverse w))) room
-  room-for-all room s =
-      sym (le-leb _ room (omega (arith, same-length, form-le-square (kindOf k) n w (accepted-of-refusal (kindOf k) n w a), s)))
-
-  pub room-measured : (room l : ℕ) → l ≡ length (normalForm (kindOf k) n w) → leb l room ≡ leb (length (normalForm (kindOf k) n (inverse w))) room
-  room-measured room l e = rw (e, same-length)
+-- the normal form of an inverse is as long as the window
+pub form-of-inverse : (k n : ℕ) (w : List ℤ) → RankOf k n → WindowOf (kindOf k) n w → length (normalForm (kindOf k) n (inverse w)) ≡ windowLength (kindOf k) w
+form-of-inverse k n w h g =
+    let a = accepted-of-refusal (kindOf k) n w g in
+    length-normalForm (kindOf k) n (inverse w) (inverse-accepted (kindOf k) n w a) ∙ windowLength-inverse (kindOf k) n w (rank-accepted k n h .0) a
 
 -- checks 5, 6 and 9 to 11 refuse none of two windows
 pub checks-pass : (k n : ℕ) (u v : List ℤ) → RankOf k n → WindowOf (kindOf k) n u → WindowOf (kindOf k) n v
     → (rankRefusal k n then windowRefusal (kindOf k) n u then windowRefusal (kindOf k) n v) ≡ 0
 checks-pass k n u v h a b = then-none _ _ h ∙ then-none _ _ a ∙ b
-
--- what a test for room that did not fail says
-pub tested-room : (l room : ℕ) (t : Bool) → t ≡ leb l room → not t ≡ false → l ≤ room
-tested-room l room t e f = leb-true l room (sym e ∙ not-false t f)
 
 -- the answer of a call that no check refuses and that returned a length
 pub answered-length : (r : ℕ) (l out after : List ℕ) (a : Answer) → r ≡ 0 → Yields (writes r l out) a after → (m : ℕ) → a ≡ answer.Length m
@@ -80,13 +66,13 @@ answered-length r l out after a z y m e = rw (← z, ← e) y
 
 -- two words u and v, each to the front of its output
 module _ (u v first second : List ℕ) where
-  -- t says whether the second has room
-  pub second-lacks : (t : Bool) → t ≡ leb (length v) (length second) → not t ≡ true
+  -- t says whether the second lacks room for its l letters
+  pub second-lacks : (t : Bool) (l : ℕ) → t ≡ ltb (length second) l → length v ≡ l → t ≡ true
       → SplitYields (splitOutcome 0 u v first second) (Refused 14) first second
-  second-lacks t e f =
-      let l : length second < length v = leb-false (length v) (length second) (sym e ∙ not-true t f) in
+  second-lacks t l e q f =
+      let s : length second < length v = rw q (ltb-true (length second) l (sym e ∙ f)) in
       elim (decLe (length u) (length first)) [
-        | yes g ↦ second-short u v first second (length u) (length v) refl refl g l
+        | yes g ↦ second-short u v first second (length u) (length v) refl refl g s
         | no g ↦ first-short u v first second (length u) 0 refl (lt-of-not-le g)
       ]
 

@@ -2,31 +2,23 @@
 -- Assumes nothing.
 use mathlib.Core.Path.{_≡_, sym, _∙_}
 use mathlib.Core.List.{List}
-use Prim.Native.Nat.{ℕ, _*_, _≤_}
-use native.Mathlib.Omega.{arith}
+use Prim.Native.Nat.{ℕ, _≤_}
 use lib.IntN.{ℤ}
 use lib.ListN.{length}
+use borrow.Author.Tests.{eq-eqb}
 use Rattle.coxeter.specs.declared.Answer.{Answer}
 use Rattle.coxeter.specs.declared.Answer.the-variants as answer
-use Rattle.coxeter.specs.Kinds.{Kind, kindOf}
+use Rattle.coxeter.specs.Kinds.{kindOf}
 use Rattle.coxeter.specs.Windows.{inverse}
+use Rattle.coxeter.specs.Length.{windowLength}
 use Rattle.coxeter.specs.Checks.{RankOf, WindowOf}
-use Rattle.coxeter.specs.NormalForm.{normalForm}
-use Rattle.coxeter.specs.Calls.{inverseOfWindow, lengthOfWindow}
+use Rattle.coxeter.specs.Calls.{answerOf, inverseOfWindow, lengthOfWindow}
 use Rattle.coxeter.proofs.Acceptance.{lanes-le}
 use Rattle.coxeter.proofs.Refusals.{then-none}
-use Rattle.coxeter.proofs.Levels.{Accepted, accepted-of-refusal}
+use Rattle.coxeter.proofs.Levels.{accepted-of-refusal}
 use Rattle.coxeter.proofs.Inverses.{length-inverse}
-use Rattle.coxeter.proofs.Lengths.{length-normalForm}
-use Rattle.coxeter.proofs.GreatestLengths.{windowLength-le}
-use Rattle.coxeter.proofs.FormLaws.{lengthOfWindow-normalForm}
-use Rattle.window.proofs.Squares.{greatest-le}
 use Rattle.coxeter.proofs.Fronts.{Front, front-of-bytes}
 use Rattle.coxeter.proofs.TestLaws.{zero-not-one}
-
--- no normal form has more than n × n letters
-pub form-le-square : (k : Kind) (n : ℕ) (w : List ℤ) → Accepted k n w → length (normalForm k n w) ≤ n * n
-form-le-square k n w a = omega (arith, length-normalForm k n w a, windowLength-le k n w a, greatest-le k n)
 
 module _ (k n : ℕ) (h : RankOf k n) (w : List ℤ) (a : WindowOf (kindOf k) n w) where
   small : length w ≤ 64
@@ -37,12 +29,15 @@ module _ (k n : ℕ) (h : RankOf k n) (w : List ℤ) (a : WindowOf (kindOf k) n 
   inverse-front out v f e =
       front-of-bytes 64 _ (inverse w) out v (then-none _ _ h ∙ a) (rw (length-inverse w) small) f (length w) (sym (length-inverse w)) e
 
-  pub length-told : (r : Answer) (l : ℕ) → r ≡ lengthOfWindow k n w → r ≡ answer.Length l → l ≡ length (normalForm (kindOf k) n w)
-  length-told r l e q =
-      let p : answer.Length l ≡ answer.Length (length (normalForm (kindOf k) n w)) = sym q ∙ e ∙ lengthOfWindow-normalForm k n w h a in
-      cc
+  -- what the call for the length answers
+  measured : lengthOfWindow k n w ≡ answer.Length (windowLength (kindOf k) w)
+  unfolding lengthOfWindow answerOf
+  measured = rw (eq-eqb _ 0 (then-none _ _ h ∙ a))
+
+  pub length-told : (r : Answer) (l : ℕ) → r ≡ lengthOfWindow k n w → r ≡ answer.Length l → l ≡ windowLength (kindOf k) w
+  length-told r l e q = let p : answer.Length l ≡ answer.Length (windowLength (kindOf k) w) = sym q ∙ e ∙ measured in cc
 
   pub length-never : (r : Answer) (s : ℕ) → r ≡ lengthOfWindow k n w → r ≡ answer.Refused s → ⊥
   length-never r s e q =
-      let p : answer.Refused s ≡ answer.Length (length (normalForm (kindOf k) n w)) = sym q ∙ e ∙ lengthOfWindow-normalForm k n w h a in
+      let p : answer.Refused s ≡ answer.Length (windowLength (kindOf k) w) = sym q ∙ e ∙ measured in
       zero-not-one (cc)

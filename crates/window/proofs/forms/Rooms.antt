@@ -4,33 +4,26 @@
 use mathlib.Core.Path.{_≡_, refl, sym, _∙_}
 use mathlib.Core.Bool.{Bool, true, false}
 use mathlib.Core.List.{List}
-use Prim.Native.Nat.{ℕ, _*_, _≤_}
+use Prim.Native.Nat.{ℕ, _≤_}
 use native.Mathlib.Omega.{arith}
 use lib.Dec.{ltb}
 use lib.IntN.{ℤ}
 use lib.ListN.{length, take}
-use borrow.Author.Tests.{ltb-true, ltb-false, le-ltb}
+use borrow.Author.Tests.{ltb-true, ltb-false}
 use Rattle.coxeter.specs.declared.Answer.{Answer}
 use Rattle.coxeter.specs.declared.Answer.the-variants.{Length, Refused}
 use Rattle.coxeter.proofs.Levels.{accepted-of-refusal}
 use Rattle.coxeter.proofs.Acceptance.{lanes-le}
 use Rattle.coxeter.proofs.Outcomes.{writes-short, writes-written, writes-passed}
 use Rattle.coxeter.proofs.Lengths.{length-normalForm}
-use Rattle.coxeter.proofs.GreatestLengths.{windowLength-le}
 use Rattle.coxeter.specs.Kinds.{Kind, kindOf, lanes}
 use Rattle.coxeter.specs.Length.{windowLength}
 use Rattle.coxeter.specs.Checks.{RankOf, WindowOf}
 use Rattle.coxeter.specs.NormalForm.{normalForm}
 use Rattle.coxeter.specs.Calls.{Outcome, Yields, front, writes}
-use Rattle.window.proofs.Squares.{greatest-le}
 use Rattle.window.proofs.shown.Fronts.{Front}
 
 -- ---- check 14
-
--- n × n letters are room for every normal form
-pub square-room : (k : Kind) (n room : ℕ) (w : List ℤ) → WindowOf k n w → n * n ≤ room → false ≡ ltb room (windowLength k w)
-square-room k n room w g s =
-    sym (le-ltb room (windowLength k w) (omega (arith, s, greatest-le k n, windowLength-le k n w (accepted-of-refusal k n w g))))
 
 -- t says whether there is too little room
 module _ (k : Kind) (n : ℕ) (w : List ℤ) (out : List ℕ) (t : Bool) (g : WindowOf k n w) (e : t ≡ ltb (length out) (windowLength k w)) where

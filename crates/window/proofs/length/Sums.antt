@@ -6,7 +6,7 @@ use mathlib.Core.Path.{_≡_, refl, sym, ap, _∙_}
 use mathlib.Core.Bool.{Bool, true, false}
 use mathlib.Core.List.{List, [], _∷_, map}
 use Prim.Native.Nat.{ℕ, zero, suc, _+_, _-_, _*_, _≤_}
-use native.Mathlib.Nat.{add-zero, suc-mul, mul-le-mul}
+use native.Mathlib.Nat.{add-zero, suc-mul}
 use native.Mathlib.Decide.{ℕ-discrete}
 use native.Mathlib.Omega.{arith}
 use lib.Dec.{ltb}
@@ -21,7 +21,7 @@ use Rattle.coxeter.proofs.PairWeights.{weight, weights, pairWeights, signWeight
 use Rattle.coxeter.proofs.PairWeights.{inversions-add-negativeSumPairs, length-by-weights, negativeSumPairs-of-negatives-zero}
 use Rattle.coxeter.specs.Calls.{countedOf}
 use Rattle.coxeter.specs.declared.Counted.the-variants as counted
-use Rattle.window.proofs.Squares.{square-le}
+use Rattle.window.proofs.Squares.{square-le, square-le-4096}
 
 -- ---- one entry against those behind it
 
@@ -87,7 +87,7 @@ bothPairs-is-pairWeights w h =
 
 -- a square of at most 64 lanes fits
 pub square-fits : (m : ℕ) → m ≤ 64 → (m * m ≤ 4096) × (m ≤ m * m)
-square-fits m few = (mul-le-mul {n₁ = m} {m₁ = m} {n₂ = 64} {m₂ = 64} few few, square-le m)
+square-fits m few = (square-le-4096 m few, square-le m)
 
 pub bothPairs-le : (w : List ℤ) → WindowOf B (length w) w → length w ≤ 64 → bothPairs w ≤ 4096
 bothPairs-le w h l =

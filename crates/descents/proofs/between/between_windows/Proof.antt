@@ -6,7 +6,8 @@ use native.Mathlib.Omega.{arith}
 use borrow.Author.Needs.{needs}
 use Rattle.coxeter.proofs.Acceptance.{rank-accepted}
 use Rattle.shortest_words.proofs.BetweenCalls.{rank-of-set}
-use Rattle.descents.proofs.between.Leading.{square-le-64, square-le-256, square-le-4096, refused-by-set}
+use Rattle.window.proofs.Squares.{square-le-4096}
+use Rattle.descents.proofs.between.Leading.{square-le-64, square-le-256, refused-by-set}
 use Rattle.descents.proofs.between.between_windows.Statement.{statement}
 use Rattle.descents.proofs.between.between_windows.Tie as tie
 

@@ -1,12 +1,17 @@
 -- `splitting::write_parts` checks the room for the second word, and has each written by a call on accepted windows.
 -- Assumes nothing.
+use mathlib.Core.Path.{sym, _∙_}
 use borrow.Author.Needs.{needs}
-use Rattle.descents.proofs.splitting.Halves.{checks-pass, tested-room, second-lacks, first-lacks, both-written}
+use borrow.Author.Tests.{ltb-false}
+use Rattle.descents.proofs.splitting.Halves.{form-of-inverse, checks-pass, second-lacks, first-lacks, both-written}
 use Rattle.descents.proofs.splitting.write_parts.Statement.{statement}
 use Rattle.descents.proofs.splitting.write_parts.Tie as tie
 
 returns : tie.Need-returns
-returns c = second-lacks _ _ _ _ _ (c .before .has-room .ensures) (c .if1 .taken)
+returns c =
+    let tested = c .before in
+    let h = tested .before .before .before .pre in
+    second-lacks _ _ _ _ _ _ (tested .lacks-room .ensures) (form-of-inverse _ _ _ (h .0) (h .1 .1)) (c .if1 .taken)
 
 returns-2 : tie.Need-returns-2
 returns-2 c =
@@ -20,7 +25,7 @@ write-inverse-requires c κs =
     let l = c .before .before in
     let r = l .before .before .before .before .before .before in
     let h = r .before .before .before .before .pre in
-    ((h .0, h .1 .1), tested-room _ _ _ (r .before .has-room .ensures) (r .if1 .left))
+    ((h .0, h .1 .1), rw (form-of-inverse _ _ _ (h .0) (h .1 .1)) (ltb-false _ _ (sym (r .before .lacks-room .ensures) ∙ r .if1 .left)))
 
 returns-3 : tie.Need-returns-3
 returns-3 c =

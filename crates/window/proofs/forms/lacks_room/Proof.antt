@@ -4,13 +4,12 @@ use mathlib.Core.Path.{refl, ap}
 use native.Mathlib.Omega.{arith}
 use lib.Dec.{ltb}
 use Rattle.coxeter.proofs.Acceptance.{rank-accepted, lanes-le}
-use Rattle.window.proofs.forms.Rooms.{square-room}
-use Rattle.window.proofs.length.Sums.{square-fits}
+use Rattle.window.proofs.Squares.{square-le-4096, square-room}
 use Rattle.window.proofs.forms.lacks_room.Statement.{statement}
 use Rattle.window.proofs.forms.lacks_room.Tie as tie
 
 mul-if1 : tie.Need-mul-if1
-mul-if1 c = record { fits = omega (arith, square-fits (c .args .rank) (rank-accepted _ _ (c .pre .0) .1) .0) }
+mul-if1 c = record { fits = omega (arith, square-le-4096 (c .args .rank) (rank-accepted _ _ (c .pre .0) .1)) }
 
 returns : tie.Need-returns
 returns c = square-room _ _ _ _ (c .before .pre .1) (c .if1 .taken)

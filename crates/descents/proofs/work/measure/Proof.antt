@@ -1,12 +1,9 @@
--- `work::form_length` is the length that the call on windows answers, which no check refuses.
+-- `work::measure` is the length that the call on windows answers, which no check refuses.
 -- Assumes nothing.
 use borrow.Author.Needs.{needs}
 use Rattle.descents.proofs.work.Windows.{length-told, length-never}
-use Rattle.descents.proofs.work.form_length.Statement.{statement}
-use Rattle.descents.proofs.work.form_length.Tie as tie
-
-enum-told : tie.Need-enum-told
-enum-told c = search needs
+use Rattle.descents.proofs.work.measure.Statement.{statement}
+use Rattle.descents.proofs.work.measure.Tie as tie
 
 returns : tie.Need-returns
 returns c =
@@ -20,5 +17,5 @@ returns-2 c =
     let s = b .before in
     length-told _ _ (s .pre .0) _ (s .pre .1) _ _ (b .length-of-window .ensures) (c .before .l .given .1)
 
-pub form-length-spec : {M : Type 1} → statement M
-form-length-spec = tie.close (tie.spec (λ c κs. search needs) (λ c. search needs) enum-told returns returns-2)
+pub measure-spec : {M : Type 1} → statement M
+measure-spec = tie.close (tie.spec (λ c κs. search needs) (λ c. search needs) (λ c. search needs) returns returns-2)
