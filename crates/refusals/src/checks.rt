@@ -196,7 +196,7 @@ fn negative_in_a(kind: u8, e: i8) -> bool
 }
 
 // Marks for sizes, none set: place p stands for the size p + 1.
-fn unmarked() -> [bool; 64]
+fn marks_64() -> [bool; 64]
     ensures { λ r. ⌜ (length r ≡ 64) × ((p : ℕ) → p < 64 → getD r p false ≡ false) ⌝ }
 {
     [false; 64]
@@ -208,7 +208,7 @@ fn has_wrong_entry(kind: u8, m: usize, w: &[i8]) -> bool
     requires { ⌜ m ≤ 64 ⌝ }
     ensures { λ r. ⌜ r ≡ wrongEntry (kindOf kind) m (now (w .entry)) ⌝ }
 {
-    let mut marks = unmarked();
+    let mut marks = marks_64();
     let mut i = w.len();
     while 0 < i {
         i -= 1;

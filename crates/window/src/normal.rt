@@ -101,7 +101,7 @@ fn write_block(kind: u8, m: usize, i: usize, j: usize, out: &mut [u8], at: usize
 }
 
 // Places of entries, with room for every size.
-fn no_places() -> [u8; 64]
+fn places_64() -> [u8; 64]
     ensures { λ r. ⌜ length r ≡ 64 ⌝ }
 {
     [0u8; 64]
@@ -256,7 +256,7 @@ pub(crate) fn write_normal_form(kind: u8, rank: u8, w: &[i8], out: &mut [u8]) ->
         × (now (out .exit) ≡ front (normalForm (kindOf kind) rank (now (w .entry))) (now (out .entry))) ⌝ }
 {
     let m = w.len();
-    let mut places = no_places();
+    let mut places = places_64();
     set_places(kind, rank, w, &mut places);
     peel(kind, m, 1, &places, all_positions(m), false, out)
 }

@@ -23,7 +23,7 @@ abbrev μ-loop : tie.MeasureT-loop
 μ-loop kind m w marks₀ i₀ marks i = i
 
 loop-holds : tie.Need-loop-holds Inv-loop μ-loop
-loop-holds c = passed-none _ _ _ _ (c .unmarked .ensures)
+loop-holds c = passed-none _ _ _ _ (c .marks-64 .ensures)
 
 -- the sign that is tested is that of the entry before the place reached
 sign-of : (c : tie.After-negative-in-a Inv-loop μ-loop)

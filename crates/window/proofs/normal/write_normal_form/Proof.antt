@@ -12,7 +12,7 @@ set-places-requires : tie.Need-set-places-requires
 set-places-requires c κs =
     let made = c .before in
     let pre = made .before .before .pre in
-    (pre .0, (pre .1 .0, made .no-places .ensures))
+    (pre .0, (pre .1 .0, made .places-64 .ensures))
 
 all-positions-requires : tie.Need-all-positions-requires
 all-positions-requires c κs =
