@@ -21,13 +21,13 @@ pub(crate) struct Count {
     pub(crate) size: usize,
 }
 
-// Whether l x is a left side of family 2: l < x, and the two commute. `corner` is the step at which the way of a block turns.
-fn commutes(n: u8, corner: u8, l: u8, x: u8) -> bool
+// Whether l x is a left side of family 2: l < x, and the two commute. At step `levels` the way of a block turns.
+fn commutes(rank: u8, levels: u8, l: u8, x: u8) -> bool
     requires { ⌜ l < 255 ⌝ }
-    ensures { λ r. ⌜ r ≡ commuting n corner l x ⌝ }
+    ensures { λ r. ⌜ r ≡ commuting rank levels l x ⌝ }
 {
-    if x == n {
-        if l + 1 == corner {
+    if x == rank {
+        if l + 1 == levels {
             return false;
         }
         return l < x;
@@ -101,18 +101,18 @@ fn note_passed(
 }
 
 // The letter at q put before those that it commutes with, as far as it goes. Returns where it stands then.
-fn shift(n: u8, corner: u8, word: &mut [u8], q: usize) -> usize
-    requires { ⌜ (n ≤ 64) × WordOf n (now word) × (q < length (now word)) ⌝ }
+fn shift(rank: u8, levels: u8, word: &mut [u8], q: usize) -> usize
+    requires { ⌜ (rank ≤ 64) × WordOf rank (now word) × (q < length (now word)) ⌝ }
     ensures { λ r. ⌜ (r ≤ q) × (now (word .exit) ≡ take r (now (word .entry))
         ++ ((getD (now (word .entry)) q 0 ∷ take (q - r) (drop r (now (word .entry)))) ++ drop (suc q) (now (word .entry))))
-        × ((j : ℕ) → r ≤ j → j < q → commuting n corner (getD (now (word .entry)) j 0) (getD (now (word .entry)) q 0) ≡ true)
-        × (1 ≤ r → commuting n corner (getD (now (word .entry)) (r - 1) 0) (getD (now (word .entry)) q 0) ≡ false) ⌝ }
+        × ((j : ℕ) → r ≤ j → j < q → commuting rank levels (getD (now (word .entry)) j 0) (getD (now (word .entry)) q 0) ≡ true)
+        × (1 ≤ r → commuting rank levels (getD (now (word .entry)) (r - 1) 0) (getD (now (word .entry)) q 0) ≡ false) ⌝ }
 {
     let x = word[q];
     let mut t = q;
     while 0 < t {
         let l = word[t - 1];
-        if commutes(n, corner, l, x) {
+        if commutes(rank, levels, l, x) {
             word[t] = l;
             t -= 1;
         } else {
@@ -127,7 +127,7 @@ fn shift(n: u8, corner: u8, word: &mut [u8], q: usize) -> usize
 // The letter at q passes letters by family 2, one step each, as far as it goes. Returns where it stands then.
 fn pass(
     kind: u8,
-    n: u8,
+    rank: u8,
     rest: &[u8],
     s: usize,
     families: &mut [u8],
@@ -136,14 +136,14 @@ fn pass(
     word: &mut [u8],
     q: usize,
 ) -> usize
-    requires { ⌜ Ready (kindOf kind) n (now rest) s (now families) (now places) (now lengths) (now word) q ⌝ }
-    ensures { λ r. ⌜ (r ≤ q) × Carried (kindOf kind) n (now (rest .entry)) s (now (families .entry)) (now (places .entry)) (now (lengths .entry))
+    requires { ⌜ Ready (kindOf kind) rank (now rest) s (now families) (now places) (now lengths) (now word) q ⌝ }
+    ensures { λ r. ⌜ (r ≤ q) × Carried (kindOf kind) rank (now (rest .entry)) s (now (families .entry)) (now (places .entry)) (now (lengths .entry))
         (now (word .entry)) (s + (q - r)) (now (families .exit)) (now (places .exit)) (now (lengths .exit)) (now (word .exit)) r
-        × (1 ≤ r → commuting n (levels (kindOf kind) n) (getD (now (word .exit)) (r - 1) 0) (getD (now (word .exit)) r 0) ≡ false) ⌝ }
+        × (1 ≤ r → commuting rank (levels (kindOf kind) rank) (getD (now (word .exit)) (r - 1) 0) (getD (now (word .exit)) r 0) ≡ false) ⌝ }
 {
-    let corner = levels_of(kind, n);
+    let levels = levels_of(kind, rank);
     let left = word.len() + rest.len();
-    let t = shift(n, corner, word, q);
+    let t = shift(rank, levels, word, q);
     note_passed(families, places, lengths, s, q - t, q, left);
     t
 }
@@ -186,7 +186,7 @@ struct Moved {
 // Applies the rule that ends at q, if there is one. The letter at q does not commute with the one before it.
 fn turn(
     kind: u8,
-    n: u8,
+    rank: u8,
     rest: &[u8],
     s: usize,
     families: &mut [u8],
@@ -195,13 +195,13 @@ fn turn(
     word: &mut [u8],
     q: usize,
 ) -> Moved
-    requires { ⌜ Ready (kindOf kind) n (now rest) s (now families) (now places) (now lengths) (now word) q ⌝ }
-    requires { ⌜ (1 ≤ q → commuting n (levels (kindOf kind) n) (getD (now word) (q - 1) 0) (getD (now word) q 0) ≡ false) ⌝ }
+    requires { ⌜ Ready (kindOf kind) rank (now rest) s (now families) (now places) (now lengths) (now word) q ⌝ }
+    requires { ⌜ (1 ≤ q → commuting rank (levels (kindOf kind) rank) (getD (now word) (q - 1) 0) (getD (now word) q 0) ≡ false) ⌝ }
     ensures { λ r. ⌜ r .place ≤ q - 1 ⌝ }
     ensures { λ r. ⌜ (1 ≤ r .place → (r .size ≡ length (now (word .entry)))
-        × Carried (kindOf kind) n (now (rest .entry)) s (now (families .entry)) (now (places .entry)) (now (lengths .entry)) (now (word .entry))
+        × Carried (kindOf kind) rank (now (rest .entry)) s (now (families .entry)) (now (places .entry)) (now (lengths .entry)) (now (word .entry))
         (r .steps) (now (families .exit)) (now (places .exit)) (now (lengths .exit)) (now (word .exit)) (r .place))
-        × (r .place ≤ 0 → Inserted (kindOf kind) n (now (rest .entry)) s (now (families .entry)) (now (places .entry)) (now (lengths .entry))
+        × (r .place ≤ 0 → Inserted (kindOf kind) rank (now (rest .entry)) s (now (families .entry)) (now (places .entry)) (now (lengths .entry))
         (now (word .entry)) (r .steps) (now (families .exit)) (now (places .exit)) (now (lengths .exit)) (now (word .exit)) (r .size)) ⌝ }
 {
     let size = word.len();
@@ -209,7 +209,7 @@ fn turn(
         family,
         place,
         first,
-    } = ending_rule(kind, n, word, q)
+    } = ending_rule(kind, rank, word, q)
     else {
         return Moved {
             steps: s,
@@ -248,7 +248,7 @@ fn turn(
 // steps were made before.
 pub(crate) fn insert(
     kind: u8,
-    n: u8,
+    rank: u8,
     rest: &[u8],
     s: usize,
     families: &mut [u8],
@@ -256,18 +256,18 @@ pub(crate) fn insert(
     lengths: &mut [u16],
     word: &mut [u8],
 ) -> Count
-    requires { ⌜ Ready (kindOf kind) n (now rest) s (now families) (now places) (now lengths) (now word) (length (now word) - 1) ⌝ }
-    ensures { λ r. ⌜ Inserted (kindOf kind) n (now (rest .entry)) s (now (families .entry)) (now (places .entry)) (now (lengths .entry))
+    requires { ⌜ Ready (kindOf kind) rank (now rest) s (now families) (now places) (now lengths) (now word) (length (now word) - 1) ⌝ }
+    ensures { λ r. ⌜ Inserted (kindOf kind) rank (now (rest .entry)) s (now (families .entry)) (now (places .entry)) (now (lengths .entry))
         (now (word .entry)) (r .steps) (now (families .exit)) (now (places .exit)) (now (lengths .exit)) (now (word .exit)) (r .size) ⌝ }
 {
     let mut size = word.len();
     let mut steps = s;
     let mut q = size - 1;
     while 0 < q {
-        let at = pass(kind, n, rest, steps, families, places, lengths, word, q);
+        let at = pass(kind, rank, rest, steps, families, places, lengths, word, q);
         let made = turn(
             kind,
-            n,
+            rank,
             rest,
             steps + (q - at),
             families,

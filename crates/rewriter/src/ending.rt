@@ -47,11 +47,11 @@ fn start_of(word: &[u8], floor: usize, from: usize, i: u8) -> usize
 }
 
 // Where a left side of 2n letters would begin that ends at q, or 0.
-fn floor_of(n: u8, q: usize) -> usize
-    requires { ⌜ (n ≤ 64) × (q ≤ 4096) ⌝ }
-    ensures { λ r. ⌜ r ≡ suc q - 2 * n ⌝ }
+fn floor_of(rank: u8, q: usize) -> usize
+    requires { ⌜ (rank ≤ 64) × (q ≤ 4096) ⌝ }
+    ensures { λ r. ⌜ r ≡ suc q - 2 * rank ⌝ }
 {
-    let most = 2 * (n as usize);
+    let most = 2 * (rank as usize);
     if q + 1 < most {
         return 0;
     }
@@ -71,24 +71,24 @@ fn lower_of(l: u8, x: u8) -> u8
 // Where a rule of families 3 to 7 that ends at q begins, if there is one: where the lower of its last two letters
 // stood before. In kinds A and B the letters between rise by ones, most often, so that x stood as many places before l
 // as it is lower; that place is tried before the search.
-fn place_of(kind: u8, n: u8, word: &[u8], q: usize) -> usize
-    requires { ⌜ Ranked (kindOf kind) n ⌝ }
-    requires { ⌜ Reading (kindOf kind) n (now word) q × (1 ≤ q) × (q < length (now word)) × (q ≤ 4096) ⌝ }
+fn place_of(kind: u8, rank: u8, word: &[u8], q: usize) -> usize
+    requires { ⌜ Ranked (kindOf kind) rank ⌝ }
+    requires { ⌜ Reading (kindOf kind) rank (now word) q × (1 ≤ q) × (q < length (now word)) × (q ≤ 4096) ⌝ }
     ensures { λ r. ⌜ (r ≤ q)
         × (getD (now (word .entry)) (q - 1) 0 < getD (now (word .entry)) q 0
-        → Stopped (now (word .entry)) (suc q - 2 * n) (q - 1) (getD (now (word .entry)) (q - 1) 0) r)
+        → Stopped (now (word .entry)) (suc q - 2 * rank) (q - 1) (getD (now (word .entry)) (q - 1) 0) r)
         × (getD (now (word .entry)) q 0 ≤ getD (now (word .entry)) (q - 1) 0
-        → Stopped (now (word .entry)) (suc q - 2 * n) q (getD (now (word .entry)) q 0) r) ⌝ }
+        → Stopped (now (word .entry)) (suc q - 2 * rank) q (getD (now (word .entry)) q 0) r) ⌝ }
 {
     let l = word[q - 1];
     let x = word[q];
-    let floor = floor_of(n, q);
+    let floor = floor_of(rank, q);
     if l < x {
         return start_of(word, floor, q - 1, l);
     }
-    let corner = levels_of(kind, n);
+    let levels = levels_of(kind, rank);
     let back = (l - x) as usize;
-    if corner == n {
+    if levels == rank {
         if back < q {
             let p = q - 1 - back;
             if word[p] == x {
@@ -100,15 +100,15 @@ fn place_of(kind: u8, n: u8, word: &[u8], q: usize) -> usize
 }
 
 // The index j of the block [i,j] that has m letters and ends with l.
-fn index_of(kind: u8, n: u8, i: u8, m: u8, l: u8) -> u8
-    requires { ⌜ (n ≤ 64) × (i ≤ n) × (1 ≤ m) × (m ≤ 128) ⌝ }
-    ensures { λ r. ⌜ r ≡ indexBy (kindOf kind) n i m l ⌝ }
+fn index_of(kind: u8, rank: u8, i: u8, m: u8, l: u8) -> u8
+    requires { ⌜ (rank ≤ 64) × (i ≤ rank) × (1 ≤ m) × (m ≤ 128) ⌝ }
+    ensures { λ r. ⌜ r ≡ indexBy (kindOf kind) rank i m l ⌝ }
 {
-    if l == n {
-        return n;
+    if l == rank {
+        return rank;
     }
     let j = i + m - 1;
-    if j < n {
+    if j < rank {
         return j;
     }
     match kind {
@@ -118,28 +118,28 @@ fn index_of(kind: u8, n: u8, i: u8, m: u8, l: u8) -> u8
 }
 
 // The rule with the left side [i,j] x, if there is one, as it begins at `place`.
-fn block_rule(kind: u8, n: u8, i: u8, j: u8, x: u8, place: usize) -> Ending
-    requires { ⌜ Ranked (kindOf kind) n ⌝ }
-    requires { ⌜ (i ≤ n) × (j ≤ 2 * n) × (x ≤ n) ⌝ }
-    ensures { λ r. ⌜ r ≡ pick (eqb (nextIndex n (levels (kindOf kind) n) (lastIndex (kindOf kind) n i) j x) 0)
-        (pick (eqb (familyAt n (fork (kindOf kind) n) i j x) 0) Ending.Nothing
-        (Ending.Rule (familyAt n (fork (kindOf kind) n) i j x) place
-        (firstLetter n (familyAt n (fork (kindOf kind) n) i j x) i (shownIndex (familyAt n (fork (kindOf kind) n) i j x) j x))))
+fn block_rule(kind: u8, rank: u8, i: u8, j: u8, x: u8, place: usize) -> Ending
+    requires { ⌜ Ranked (kindOf kind) rank ⌝ }
+    requires { ⌜ (i ≤ rank) × (j ≤ 2 * rank) × (x ≤ rank) ⌝ }
+    ensures { λ r. ⌜ r ≡ pick (eqb (nextIndex rank (levels (kindOf kind) rank) (lastIndex (kindOf kind) rank i) j x) 0)
+        (pick (eqb (familyAt rank (fork (kindOf kind) rank) i j x) 0) Ending.Nothing
+        (Ending.Rule (familyAt rank (fork (kindOf kind) rank) i j x) place
+        (firstLetter rank (familyAt rank (fork (kindOf kind) rank) i j x) i (shownIndex (familyAt rank (fork (kindOf kind) rank) i j x) j x))))
         Ending.Nothing ⌝ }
 {
-    let corner = levels_of(kind, n);
-    let last = last_index_of(kind, n, i);
-    let next = next_index(n, corner, last, j, x);
+    let levels = levels_of(kind, rank);
+    let last = last_index_of(kind, rank, i);
+    let next = next_index(rank, levels, last, j, x);
     if next != 0 {
         return Ending::Nothing;
     }
-    let fork = fork_of(kind, n);
-    let family = family_at(n, fork, i, j, x);
+    let fork = fork_of(kind, rank);
+    let family = family_at(rank, fork, i, j, x);
     if family == 0 {
         return Ending::Nothing;
     }
     let shown = shown_index(family, j, x);
-    let first = first_letter(n, family, i, shown);
+    let first = first_letter(rank, family, i, shown);
     Ending::Rule {
         family,
         place,
@@ -148,11 +148,11 @@ fn block_rule(kind: u8, n: u8, i: u8, j: u8, x: u8, place: usize) -> Ending
 }
 
 // The rule that ends with the letter at q, which does not commute with the one before it.
-pub(crate) fn ending_rule(kind: u8, n: u8, word: &[u8], q: usize) -> Ending
-    requires { ⌜ Ranked (kindOf kind) n ⌝ }
-    requires { ⌜ Reading (kindOf kind) n (now word) q × (q ≤ 4096) ⌝ }
-    requires { ⌜ (1 ≤ q → commuting n (levels (kindOf kind) n) (getD (now word) (q - 1) 0) (getD (now word) q 0) ≡ false) ⌝ }
-    ensures { λ r. ⌜ r ≡ elim (lowestRedex (kindOf kind) n (take (suc q) (now (word .entry)))) [
+pub(crate) fn ending_rule(kind: u8, rank: u8, word: &[u8], q: usize) -> Ending
+    requires { ⌜ Ranked (kindOf kind) rank ⌝ }
+    requires { ⌜ Reading (kindOf kind) rank (now word) q × (q ≤ 4096) ⌝ }
+    requires { ⌜ (1 ≤ q → commuting rank (levels (kindOf kind) rank) (getD (now word) (q - 1) 0) (getD (now word) q 0) ≡ false) ⌝ }
+    ensures { λ r. ⌜ r ≡ elim (lowestRedex (kindOf kind) rank (take (suc q) (now (word .entry)))) [
       | none ↦ Ending.Nothing
       | some s ↦ Ending.Rule (s .rule .family) (s .place) (getD (s .rule .right) 0 0)
     ] ⌝ }
@@ -169,11 +169,11 @@ pub(crate) fn ending_rule(kind: u8, n: u8, word: &[u8], q: usize) -> Ending
             first: 0,
         };
     }
-    let place = place_of(kind, n, word, q);
+    let place = place_of(kind, rank, word, q);
     let low = lower_of(l, x);
     if word[place] != low {
         return Ending::Nothing;
     }
-    let j = index_of(kind, n, low, (q - place) as u8, l);
-    block_rule(kind, n, low, j, x, place)
+    let j = index_of(kind, rank, low, (q - place) as u8, l);
+    block_rule(kind, rank, low, j, x, place)
 }

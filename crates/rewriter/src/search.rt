@@ -24,47 +24,47 @@ pub(crate) enum Fitting {
 }
 
 // The number of levels, which is also the step at which the way of a block turns.
-pub(crate) fn levels_of(kind: u8, n: u8) -> u8
-    requires { ⌜ Ranked (kindOf kind) n ⌝ }
-    ensures { λ r. ⌜ r ≡ levels (kindOf kind) n ⌝ }
+pub(crate) fn levels_of(kind: u8, rank: u8) -> u8
+    requires { ⌜ Ranked (kindOf kind) rank ⌝ }
+    ensures { λ r. ⌜ r ≡ levels (kindOf kind) rank ⌝ }
 {
     match kind {
-        1 | 2 => n,
-        _ => n - 1,
+        1 | 2 => rank,
+        _ => rank - 1,
     }
 }
 
 // The last index of the blocks of level i.
-pub(crate) fn last_index_of(kind: u8, n: u8, i: u8) -> u8
-    requires { ⌜ (n ≤ 64) × (i ≤ n) ⌝ }
-    ensures { λ r. ⌜ r ≡ lastIndex (kindOf kind) n i ⌝ }
+pub(crate) fn last_index_of(kind: u8, rank: u8, i: u8) -> u8
+    requires { ⌜ (rank ≤ 64) × (i ≤ rank) ⌝ }
+    ensures { λ r. ⌜ r ≡ lastIndex (kindOf kind) rank i ⌝ }
 {
     if kind == 1 {
-        return n;
+        return rank;
     }
-    2 * n - i
+    2 * rank - i
 }
 
 // The step after which the way of kind D's blocks goes on with n - 1 or with n; the other kinds have none.
-pub(crate) fn fork_of(kind: u8, n: u8) -> u8
-    requires { ⌜ Ranked (kindOf kind) n ⌝ }
-    ensures { λ r. ⌜ r ≡ scan.fork (kindOf kind) n ⌝ }
+pub(crate) fn fork_of(kind: u8, rank: u8) -> u8
+    requires { ⌜ Ranked (kindOf kind) rank ⌝ }
+    ensures { λ r. ⌜ r ≡ scan.fork (kindOf kind) rank ⌝ }
 {
     match kind {
         1 | 2 => 0,
-        _ => n - 2,
+        _ => rank - 2,
     }
 }
 
 // The index of the block [i,j] with the letter x after it, or 0 where x leaves the way.
-pub(crate) fn next_index(n: u8, corner: u8, last: u8, j: u8, x: u8) -> u8
-    requires { ⌜ (n ≤ 64) × (last ≤ 2 * n) × (x ≤ n) ⌝ }
-    ensures { λ r. ⌜ r ≡ nextIndex n corner last j x ⌝ }
+pub(crate) fn next_index(rank: u8, levels: u8, last: u8, j: u8, x: u8) -> u8
+    requires { ⌜ (rank ≤ 64) × (last ≤ 2 * rank) × (x ≤ rank) ⌝ }
+    ensures { λ r. ⌜ r ≡ nextIndex rank levels last j x ⌝ }
 {
-    if j < n {
-        if x == n {
-            if j + 1 == corner {
-                return n;
+    if j < rank {
+        if x == rank {
+            if j + 1 == levels {
+                return rank;
             }
             return 0;
         }
@@ -74,7 +74,7 @@ pub(crate) fn next_index(n: u8, corner: u8, last: u8, j: u8, x: u8) -> u8
         return 0;
     }
     if j < last {
-        if x + j + 1 == 2 * n {
+        if x + j + 1 == 2 * rank {
             return j + 1;
         }
         return 0;
@@ -83,12 +83,12 @@ pub(crate) fn next_index(n: u8, corner: u8, last: u8, j: u8, x: u8) -> u8
 }
 
 // The family whose left side is [i,2n-i] x, or 0.
-fn family_at_end(n: u8, fork: u8, i: u8, x: u8) -> u8
-    requires { ⌜ (n ≤ 64) × (i ≤ n) ⌝ }
-    ensures { λ r. ⌜ r ≡ familyAtEnd n fork i x ⌝ }
+fn family_at_end(rank: u8, fork: u8, i: u8, x: u8) -> u8
+    requires { ⌜ (rank ≤ 64) × (i ≤ rank) ⌝ }
+    ensures { λ r. ⌜ r ≡ familyAtEnd rank fork i x ⌝ }
 {
     if i == fork {
-        if x == n {
+        if x == rank {
             return 6;
         }
         if x == i + 1 {
@@ -103,9 +103,9 @@ fn family_at_end(n: u8, fork: u8, i: u8, x: u8) -> u8
 }
 
 // The family whose left side is [i,j] x, where x leaves the way, or 0.
-pub(crate) fn family_at(n: u8, fork: u8, i: u8, j: u8, x: u8) -> u8
-    requires { ⌜ (n ≤ 64) × (i ≤ n) × (j ≤ 2 * n) ⌝ }
-    ensures { λ r. ⌜ r ≡ familyAt n fork i j x ⌝ }
+pub(crate) fn family_at(rank: u8, fork: u8, i: u8, j: u8, x: u8) -> u8
+    requires { ⌜ (rank ≤ 64) × (i ≤ rank) × (j ≤ 2 * rank) ⌝ }
+    ensures { λ r. ⌜ r ≡ familyAt rank fork i j x ⌝ }
 {
     if j == i {
         if x == i {
@@ -116,13 +116,13 @@ pub(crate) fn family_at(n: u8, fork: u8, i: u8, j: u8, x: u8) -> u8
         }
         return 0;
     }
-    if i + j == 2 * n {
-        return family_at_end(n, fork, i, x);
+    if i + j == 2 * rank {
+        return family_at_end(rank, fork, i, x);
     }
     if x != i {
         return 0;
     }
-    if i == fork && j == n {
+    if i == fork && j == rank {
         return 5;
     }
     3
@@ -142,26 +142,26 @@ pub(crate) fn shown_index(family: u8, j: u8, x: u8) -> u8
 }
 
 // The rule that fits at a place.
-pub(crate) fn fitting_rule(kind: u8, n: u8, word: &[u8], place: usize) -> Fitting
-    requires { ⌜ Ranked (kindOf kind) n ⌝ }
-    requires { ⌜ WordOf n (now word) ⌝ }
+pub(crate) fn fitting_rule(kind: u8, rank: u8, word: &[u8], place: usize) -> Fitting
+    requires { ⌜ Ranked (kindOf kind) rank ⌝ }
+    requires { ⌜ WordOf rank (now word) ⌝ }
     requires { ⌜ place < length (now word) ⌝ }
-    ensures { λ r. ⌜ r ≡ elim (firstFitting (rules (kindOf kind) n) (now (word .entry)) place) [
+    ensures { λ r. ⌜ r ≡ elim (firstFitting (rules (kindOf kind) rank) (now (word .entry)) place) [
       | none ↦ Fitting.Nothing
       | some x ↦ Fitting.Rule (x .family) (x .i) (x .j) (length (x .left))
     ] ⌝ }
 {
     let i = word[place];
-    let corner = levels_of(kind, n);
-    let last = last_index_of(kind, n, i);
-    let fork = fork_of(kind, n);
+    let levels = levels_of(kind, rank);
+    let last = last_index_of(kind, rank, i);
+    let fork = fork_of(kind, rank);
     let mut j = i;
     let mut at = place + 1;
     while at < word.len() {
         let x = word[at];
-        let next = next_index(n, corner, last, j, x);
+        let next = next_index(rank, levels, last, j, x);
         if next == 0 {
-            let family = family_at(n, fork, i, j, x);
+            let family = family_at(rank, fork, i, j, x);
             if family == 0 {
                 return Fitting::Nothing;
             }

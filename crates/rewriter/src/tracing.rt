@@ -43,17 +43,17 @@ fn no_families() -> [u8; 1]
 // the front of `work`.
 fn make(
     kind: u8,
-    n: u8,
+    rank: u8,
     word: &[u8],
     families: &mut [u8],
     places: &mut [u16],
     lengths: &mut [u16],
     work: &mut [u8],
 ) -> Count
-    requires { ⌜ AcceptedWord kind n (now word) ⌝ }
+    requires { ⌜ AcceptedWord kind rank (now word) ⌝ }
     requires { ⌜ (length (now places) ≡ length (now families)) × (length (now lengths) ≡ length (now families)) ⌝ }
     requires { ⌜ length (now word) ≤ length (now work) ⌝ }
-    ensures { λ r. ⌜ Made (kindOf kind) n (now (word .entry)) (now (families .entry)) (now (places .entry)) (now (lengths .entry))
+    ensures { λ r. ⌜ Made (kindOf kind) rank (now (word .entry)) (now (families .entry)) (now (places .entry)) (now (lengths .entry))
         (r .steps) (now (families .exit)) (now (places .exit)) (now (lengths .exit)) (now (work .exit)) (r .size) ⌝ }
 {
     let mut size = 0;
@@ -64,7 +64,7 @@ fn make(
         i += 1;
         let read = insert(
             kind,
-            n,
+            rank,
             &word[i..],
             steps,
             families,
@@ -79,18 +79,18 @@ fn make(
 }
 
 // How many steps the rewriting of an accepted word has, and how many letters its final word, by a work array.
-fn count_in(kind: u8, n: u8, word: &[u8], work: &mut [u8]) -> Count
-    requires { ⌜ AcceptedWord kind n (now word) ⌝ }
+fn count_in(kind: u8, rank: u8, word: &[u8], work: &mut [u8]) -> Count
+    requires { ⌜ AcceptedWord kind rank (now word) ⌝ }
     requires { ⌜ length (now word) ≤ length (now work) ⌝ }
-    ensures { λ r. ⌜ (r .steps ≡ length (trace (kindOf kind) n (now (word .entry)) .lines))
-        × (r .size ≡ length (trace (kindOf kind) n (now (word .entry)) .final)) ⌝ }
+    ensures { λ r. ⌜ (r .steps ≡ length (trace (kindOf kind) rank (now (word .entry)) .lines))
+        × (r .size ≡ length (trace (kindOf kind) rank (now (word .entry)) .final)) ⌝ }
 {
     let mut families = no_families();
     let mut places = no_numbers();
     let mut lengths = no_numbers();
     make(
         kind,
-        n,
+        rank,
         word,
         &mut families[..0],
         &mut places[..0],
@@ -100,24 +100,24 @@ fn count_in(kind: u8, n: u8, word: &[u8], work: &mut [u8]) -> Count
 }
 
 // `count_in` with a local buffer.
-pub(crate) fn count(kind: u8, n: u8, word: &[u8]) -> Count
-    requires { ⌜ AcceptedWord kind n (now word) ⌝ }
-    ensures { λ r. ⌜ (r .steps ≡ length (trace (kindOf kind) n (now (word .entry)) .lines))
-        × (r .size ≡ length (trace (kindOf kind) n (now (word .entry)) .final)) ⌝ }
+pub(crate) fn count(kind: u8, rank: u8, word: &[u8]) -> Count
+    requires { ⌜ AcceptedWord kind rank (now word) ⌝ }
+    ensures { λ r. ⌜ (r .steps ≡ length (trace (kindOf kind) rank (now (word .entry)) .lines))
+        × (r .size ≡ length (trace (kindOf kind) rank (now (word .entry)) .final)) ⌝ }
 {
     if word.len() <= 128 {
         let mut work = letters_128();
-        return count_in(kind, n, word, &mut work);
+        return count_in(kind, rank, word, &mut work);
     }
     let mut work = letters_4096();
-    count_in(kind, n, word, &mut work)
+    count_in(kind, rank, word, &mut work)
 }
 
 // The rewriting of an accepted word, which has `steps` steps, written to lists and an output with room for it, by a
 // work array.
 fn write_in(
     kind: u8,
-    n: u8,
+    rank: u8,
     word: &[u8],
     steps: usize,
     families: &mut [u8],
@@ -126,19 +126,19 @@ fn write_in(
     out: &mut [u8],
     work: &mut [u8],
 )
-    requires { ⌜ AcceptedWord kind n (now word) ⌝ }
-    requires { ⌜ steps ≡ length (trace (kindOf kind) n (now word) .lines) ⌝ }
+    requires { ⌜ AcceptedWord kind rank (now word) ⌝ }
+    requires { ⌜ steps ≡ length (trace (kindOf kind) rank (now word) .lines) ⌝ }
     requires { ⌜ (steps ≤ length (now families)) × (steps ≤ length (now places)) × (steps ≤ length (now lengths)) ⌝ }
-    requires { ⌜ length (trace (kindOf kind) n (now word) .final) ≤ length (now out) ⌝ }
+    requires { ⌜ length (trace (kindOf kind) rank (now word) .final) ≤ length (now out) ⌝ }
     requires { ⌜ length (now word) ≤ length (now work) ⌝ }
-    ensures { λ _. ⌜ (now (families .exit) ≡ front (familiesOf (trace (kindOf kind) n (now (word .entry)) .lines)) (now (families .entry)))
-        × (now (places .exit) ≡ front (placesOf (trace (kindOf kind) n (now (word .entry)) .lines)) (now (places .entry)))
-        × (now (lengths .exit) ≡ front (lengthsOf (trace (kindOf kind) n (now (word .entry)) .lines)) (now (lengths .entry)))
-        × (now (out .exit) ≡ front (trace (kindOf kind) n (now (word .entry)) .final) (now (out .entry))) ⌝ }
+    ensures { λ _. ⌜ (now (families .exit) ≡ front (familiesOf (trace (kindOf kind) rank (now (word .entry)) .lines)) (now (families .entry)))
+        × (now (places .exit) ≡ front (placesOf (trace (kindOf kind) rank (now (word .entry)) .lines)) (now (places .entry)))
+        × (now (lengths .exit) ≡ front (lengthsOf (trace (kindOf kind) rank (now (word .entry)) .lines)) (now (lengths .entry)))
+        × (now (out .exit) ≡ front (trace (kindOf kind) rank (now (word .entry)) .final) (now (out .entry))) ⌝ }
 {
     let made = make(
         kind,
-        n,
+        rank,
         word,
         &mut families[..steps],
         &mut places[..steps],
@@ -152,7 +152,7 @@ fn write_in(
 // `write_in` with a local buffer.
 pub(crate) fn write_trace(
     kind: u8,
-    n: u8,
+    rank: u8,
     word: &[u8],
     steps: usize,
     families: &mut [u8],
@@ -160,20 +160,20 @@ pub(crate) fn write_trace(
     lengths: &mut [u16],
     out: &mut [u8],
 )
-    requires { ⌜ AcceptedWord kind n (now word) ⌝ }
-    requires { ⌜ steps ≡ length (trace (kindOf kind) n (now word) .lines) ⌝ }
+    requires { ⌜ AcceptedWord kind rank (now word) ⌝ }
+    requires { ⌜ steps ≡ length (trace (kindOf kind) rank (now word) .lines) ⌝ }
     requires { ⌜ (steps ≤ length (now families)) × (steps ≤ length (now places)) × (steps ≤ length (now lengths)) ⌝ }
-    requires { ⌜ length (trace (kindOf kind) n (now word) .final) ≤ length (now out) ⌝ }
-    ensures { λ _. ⌜ (now (families .exit) ≡ front (familiesOf (trace (kindOf kind) n (now (word .entry)) .lines)) (now (families .entry)))
-        × (now (places .exit) ≡ front (placesOf (trace (kindOf kind) n (now (word .entry)) .lines)) (now (places .entry)))
-        × (now (lengths .exit) ≡ front (lengthsOf (trace (kindOf kind) n (now (word .entry)) .lines)) (now (lengths .entry)))
-        × (now (out .exit) ≡ front (trace (kindOf kind) n (now (word .entry)) .final) (now (out .entry))) ⌝ }
+    requires { ⌜ length (trace (kindOf kind) rank (now word) .final) ≤ length (now out) ⌝ }
+    ensures { λ _. ⌜ (now (families .exit) ≡ front (familiesOf (trace (kindOf kind) rank (now (word .entry)) .lines)) (now (families .entry)))
+        × (now (places .exit) ≡ front (placesOf (trace (kindOf kind) rank (now (word .entry)) .lines)) (now (places .entry)))
+        × (now (lengths .exit) ≡ front (lengthsOf (trace (kindOf kind) rank (now (word .entry)) .lines)) (now (lengths .entry)))
+        × (now (out .exit) ≡ front (trace (kindOf kind) rank (now (word .entry)) .final) (now (out .entry))) ⌝ }
 {
     if word.len() <= 128 {
         let mut work = letters_128();
         write_in(
             kind,
-            n,
+            rank,
             word,
             steps,
             families,
@@ -187,7 +187,7 @@ pub(crate) fn write_trace(
     let mut work = letters_4096();
     write_in(
         kind,
-        n,
+        rank,
         word,
         steps,
         families,

@@ -41,9 +41,9 @@ fn write_without(word: &[u8], place: usize, left: usize, out: &mut [u8])
 }
 
 // The letter that the right side of families 2 to 7 puts first.
-pub(crate) fn first_letter(n: u8, family: u8, i: u8, j: u8) -> u8
-    requires { ⌜ (1 ≤ n) × (i < 255) ⌝ }
-    ensures { λ r. ⌜ r ≡ firstLetter n family i j ⌝ }
+pub(crate) fn first_letter(rank: u8, family: u8, i: u8, j: u8) -> u8
+    requires { ⌜ (1 ≤ rank) × (i < 255) ⌝ }
+    ensures { λ r. ⌜ r ≡ firstLetter rank family i j ⌝ }
 {
     if family == 2 {
         return j;
@@ -52,9 +52,9 @@ pub(crate) fn first_letter(n: u8, family: u8, i: u8, j: u8) -> u8
         return i + 1;
     }
     if family == 6 {
-        return n - 1;
+        return rank - 1;
     }
-    n
+    rank
 }
 
 // The word with `first` put before the `left` letters at the place and the last of them left out, as families 2 to
@@ -75,7 +75,7 @@ fn write_moved(word: &[u8], place: usize, left: usize, first: u8, out: &mut [u8]
 // The word that a rule leaves at the place: the rule with this family, i and j and the `left` letters there as its
 // left side.
 pub(crate) fn write_rewritten(
-    n: u8,
+    rank: u8,
     family: u8,
     i: u8,
     j: u8,
@@ -84,16 +84,16 @@ pub(crate) fn write_rewritten(
     place: usize,
     out: &mut [u8],
 )
-    requires { ⌜ (1 ≤ n) × (i < 255) ⌝ }
+    requires { ⌜ (1 ≤ rank) × (i < 255) ⌝ }
     requires { ⌜ (1 ≤ left) × (place + left ≤ length (now word)) ⌝ }
     requires { ⌜ length (now word) - left + rightLength family left ≤ length (now out) ⌝ }
     ensures { λ _. ⌜ now (out .exit) ≡
-        front (rewritten (shownRule n family i j (take left (drop place (now (word .entry))))) (now (word .entry)) place) (now (out .entry)) ⌝ }
+        front (rewritten (shownRule rank family i j (take left (drop place (now (word .entry))))) (now (word .entry)) place) (now (out .entry)) ⌝ }
 {
     if family == 1 {
         write_without(word, place, left, out);
         return;
     }
-    let first = first_letter(n, family, i, j);
+    let first = first_letter(rank, family, i, j);
     write_moved(word, place, left, first, out);
 }

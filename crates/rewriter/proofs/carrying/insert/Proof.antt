@@ -13,12 +13,12 @@ use Rattle.rewriter.proofs.carrying.insert.Statement.{statement}
 use Rattle.rewriter.proofs.carrying.insert.Tie as tie
 
 abbrev Inv-loop : tie.InvT-loop
-Inv-loop kind n rest s families₀ places₀ lengths₀ word₀ size₀ steps₀ q₀ families places lengths word size steps q =
+Inv-loop kind rank rest s families₀ places₀ lengths₀ word₀ size₀ steps₀ q₀ families places lengths word size steps q =
     (length families ≡ length families₀) × (length places ≡ length places₀) × (length lengths ≡ length lengths₀) × (length word ≡ length word₀)
-    × Moved (kindOf kind) n rest s families₀ places₀ lengths₀ word₀ steps families places lengths word size q
+    × Moved (kindOf kind) rank rest s families₀ places₀ lengths₀ word₀ steps families places lengths word size q
 
 abbrev μ-loop : tie.MeasureT-loop
-μ-loop kind n rest s families₀ places₀ lengths₀ word₀ size₀ steps₀ q₀ families places lengths word size steps q =
+μ-loop kind rank rest s families₀ places₀ lengths₀ word₀ size₀ steps₀ q₀ families places lengths word size steps q =
     q
 
 -- stages on the way: where the call began, and where a turn begins

@@ -14,11 +14,11 @@ use Rattle.rewriter.proofs.carrying.shift.Statement.{statement}
 use Rattle.rewriter.proofs.carrying.shift.Tie as tie
 
 abbrev Inv-loop : tie.InvT-loop
-Inv-loop n corner word₀ q x t₀ word t =
-    (t ≤ q) × (length word ≡ length word₀) × (word ≡ put word₀ t q (getD word₀ t 0)) × CommutesFrom n corner word₀ q x t
+Inv-loop rank levels word₀ q x t₀ word t =
+    (t ≤ q) × (length word ≡ length word₀) × (word ≡ put word₀ t q (getD word₀ t 0)) × CommutesFrom rank levels word₀ q x t
 
 abbrev μ-loop : tie.MeasureT-loop
-μ-loop n corner word₀ q x t₀ word t = t
+μ-loop rank levels word₀ q x t₀ word t = t
 
 slice-read-x : tie.Need-slice-read-x Inv-loop μ-loop
 slice-read-x c = c .before .before .pre .2

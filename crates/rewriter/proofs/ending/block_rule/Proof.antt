@@ -11,7 +11,7 @@ use Rattle.rewriter.proofs.ending.block_rule.Tie as tie
 next-index-requires : tie.Need-next-index-requires
 next-index-requires c κs =
     let s = c .before .before in
-    (s .pre .0 .1, lastIndex-le-of (kindOf (s .args .kind)) (s .args .n) (s .args .i) _ (c .last-index-of .ensures), s .pre .1 .2)
+    (s .pre .0 .1, lastIndex-le-of (kindOf (s .args .kind)) (s .args .rank) (s .args .i) _ (c .last-index-of .ensures), s .pre .1 .2)
 
 returns : tie.Need-returns
 returns c =
@@ -19,7 +19,7 @@ returns c =
     let m = g .before in
     let k = m .before in
     let s = k .before in
-    block-goes-on (kindOf (s .args .kind)) (s .args .n) (s .args .place) (s .args .i) (s .args .j) (s .args .x) _ _ _
+    block-goes-on (kindOf (s .args .kind)) (s .args .rank) (s .args .place) (s .args .i) (s .args .j) (s .args .x) _ _ _
     (k .levels-of .ensures) (m .last-index-of .ensures) (g .next-index .ensures) (c .if1 .taken)
 
 returns-2 : tie.Need-returns-2
@@ -31,7 +31,7 @@ returns-2 c =
     let m = g .before in
     let k = m .before in
     let s = k .before in
-    block-no-rule (kindOf (s .args .kind)) (s .args .n) (s .args .place) (s .args .i) (s .args .j) (s .args .x) _ _ _
+    block-no-rule (kindOf (s .args .kind)) (s .args .rank) (s .args .place) (s .args .i) (s .args .j) (s .args .x) _ _ _
     (k .levels-of .ensures) (m .last-index-of .ensures) (g .next-index .ensures)
     _ _ (a .if1 .left) (d .fork-of .ensures) (f .family-at .ensures) (c .if2 .taken)
 
@@ -51,7 +51,7 @@ returns-3 c =
     let m = g .before in
     let k = m .before in
     let s = k .before in
-    block-has-rule (kindOf (s .args .kind)) (s .args .n) (s .args .place) (s .args .i) (s .args .j) (s .args .x) _ _ _
+    block-has-rule (kindOf (s .args .kind)) (s .args .rank) (s .args .place) (s .args .i) (s .args .j) (s .args .x) _ _ _
     (k .levels-of .ensures) (m .last-index-of .ensures) (g .next-index .ensures)
     _ _ (a .if1 .left) (d .fork-of .ensures) (f .family-at .ensures) _ _ (b .if2 .left) (v .shown-index .ensures) (c .first-letter .ensures)
 

@@ -18,12 +18,12 @@ use Rattle.rewriter.proofs.search.fitting_rule.Statement.{statement}
 use Rattle.rewriter.proofs.search.fitting_rule.Tie as tie
 
 abbrev Inv-loop : tie.InvT-loop
-Inv-loop kind n word place i corner last fork j₀ at₀ j at = Searching (kindOf kind) n word place i j at
+Inv-loop kind rank word place i levels last fork j₀ at₀ j at = Searching (kindOf kind) rank word place i j at
 
 abbrev μ-loop : tie.MeasureT-loop
-μ-loop kind n word place i corner last fork j₀ at₀ j at = length word - at
+μ-loop kind rank word place i levels last fork j₀ at₀ j at = length word - at
 
-searchable : (s : tie.Start Inv-loop μ-loop) → Searchable (kindOf (s .args .kind)) (s .args .n) (s .args .word .now)
+searchable : (s : tie.Start Inv-loop μ-loop) → Searchable (kindOf (s .args .kind)) (s .args .rank) (s .args .word .now)
 searchable s = record { rank = s .pre .0 .0; letters = letters-accepted _ _ (s .pre .1 .0) }
 
 last-index-of-requires : tie.Need-last-index-of-requires Inv-loop μ-loop
@@ -56,7 +56,7 @@ Answered t =
     let s = l .before .before .before .before .before .before in
     let u = s .args .word .now in
     let f = t .family-at .result in
-    fittingOf (firstFitting (rules (kindOf (s .args .kind)) (s .args .n)) u (s .args .place))
+    fittingOf (firstFitting (rules (kindOf (s .args .kind)) (s .args .rank)) u (s .args .place))
     ≡ pick (eqb f 0) Nothing
     (Shown f (getD u (s .args .place) 0) (shownIndex f (l .loop .j) (getD u (l .loop .at) 0)) (l .loop .at + 1 - s .args .place))
 

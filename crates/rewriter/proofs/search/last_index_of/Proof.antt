@@ -15,7 +15,7 @@ returns c = rw (kindOf-one _ (c .if1 .taken))
 returns-2 : tie.Need-returns-2
 returns-2 c =
     let a = c .before .args in
-    by-kind-else (λ (k : Kind). _≡_ {A = ℕ} (2 * a .n - a .i) (lastIndex k (a .n) (a .i))) _ (c .if1 .left) refl refl
+    by-kind-else (λ (k : Kind). _≡_ {A = ℕ} (2 * a .rank - a .i) (lastIndex k (a .rank) (a .i))) _ (c .if1 .left) refl refl
 
 pub last-index-of-spec : {M : Type 1} → statement M
 last-index-of-spec = tie.close (tie.spec returns (λ c. search needs) (λ c. search needs) returns-2)

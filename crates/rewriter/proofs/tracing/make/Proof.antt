@@ -11,11 +11,11 @@ use Rattle.rewriter.proofs.tracing.make.Statement.{statement}
 use Rattle.rewriter.proofs.tracing.make.Tie as tie
 
 abbrev Inv-loop : tie.InvT-loop
-Inv-loop kind n word families₀ places₀ lengths₀ work₀ size₀ steps₀ i₀ families places lengths work size steps i =
-    Making (kindOf kind) n word families₀ places₀ lengths₀ work₀ i steps families places lengths work size
+Inv-loop kind rank word families₀ places₀ lengths₀ work₀ size₀ steps₀ i₀ families places lengths work size steps i =
+    Making (kindOf kind) rank word families₀ places₀ lengths₀ work₀ i steps families places lengths work size
 
 abbrev μ-loop : tie.MeasureT-loop
-μ-loop kind n word families₀ places₀ lengths₀ work₀ size₀ steps₀ i₀ families places lengths work size steps i =
+μ-loop kind rank word families₀ places₀ lengths₀ work₀ size₀ steps₀ i₀ families places lengths work size steps i =
     length word - i
 
 loop-holds : tie.Need-loop-holds Inv-loop μ-loop
