@@ -46,9 +46,6 @@ fitting-rule-requires c κs =
     let a = passed (c .before) in
     (rank-accepted _ _ (a .rank), (a .word, c .if2 .left))
 
-enum-told : tie.Need-enum-told
-enum-told c = search needs
-
 returns-3 : tie.Need-returns-3
 returns-3 c =
     let e = c .before .before .before in
@@ -89,8 +86,7 @@ rewrite-at-spec =
     returns
     returns-2
     fitting-rule-requires
-    (λ c. search needs)
-    enum-told
+    (λ c. search needs) (λ c. search needs)
     returns-3
     new-length-requires
     returns-4

@@ -6,9 +6,6 @@ use borrow.Author.Needs.{needs}
 use Rattle.window.proofs.better_word.Statement.{statement}
 use Rattle.window.proofs.better_word.Tie as tie
 
-enum-told : tie.Need-enum-told
-enum-told c = search needs
-
 returns : tie.Need-returns
 returns c = better-first _ _ _ _ (sym (c .before .before .which-better .ensures) ∙ c .enum-told .given .1)
 
@@ -22,9 +19,8 @@ pub better-word-spec : {M : Type 1} → statement M
 better-word-spec =
     tie.close
     (tie.spec
-    (λ c κs. search needs)
-    enum-told
-    (λ c. search needs) (λ c. search needs) (λ c. search needs) (λ c. search needs) (λ c. search needs)
+    (λ c κs. search needs) (λ c. search needs) (λ c. search needs) (λ c. search needs) (λ c. search needs)
+    (λ c. search needs) (λ c. search needs)
     returns
     returns-2
     returns-3)

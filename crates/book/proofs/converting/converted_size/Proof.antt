@@ -4,9 +4,6 @@ use borrow.Author.Needs.{needs}
 use Rattle.book.proofs.converting.converted_size.Statement.{statement}
 use Rattle.book.proofs.converting.converted_size.Tie as tie
 
-enum-told : tie.Need-enum-told
-enum-told c = search needs
-
 returns : tie.Need-returns
 returns c = rw (c .enum-told .given .1)
 
@@ -17,7 +14,6 @@ pub converted-size-spec : {M : Type 1} → statement M
 converted-size-spec =
     tie.close
     (tie.spec
-    enum-told
-    (λ c. search needs) (λ c. search needs) (λ c. search needs)
+    (λ c. search needs) (λ c. search needs) (λ c. search needs) (λ c. search needs)
     returns
     returns-2)

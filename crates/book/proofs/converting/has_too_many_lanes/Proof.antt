@@ -9,9 +9,6 @@ use borrow.Author.Needs.{needs}
 use Rattle.book.proofs.converting.has_too_many_lanes.Statement.{statement}
 use Rattle.book.proofs.converting.has_too_many_lanes.Tie as tie
 
-enum-told : tie.Need-enum-told
-enum-told c = search needs
-
 -- the head of a record of the second edition lies inside the book
 inside : (c : tie.After-enum-told2) → c .before .before .args .o + 3 ≤ length (now (c .before .before .args .book))
 inside c = rw (c .enum-told2 .given .1) at (c .before .before .pre)
@@ -31,8 +28,7 @@ pub has-too-many-lanes-spec : {M : Type 1} → statement M
 has-too-many-lanes-spec =
     tie.close
     (tie.spec
-    enum-told
-    (λ c. search needs) (λ c. search needs)
+    (λ c. search needs) (λ c. search needs) (λ c. search needs)
     shared-slice-read-result
     returns
     returns-2)

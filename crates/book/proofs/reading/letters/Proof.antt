@@ -22,9 +22,6 @@ add-end c = let h = found-small _ _ _ _ _ _ _ (at (c .before)) in omega arith
 part-result-end : tie.Need-part-result-end
 part-result-end c = found-inside _ _ _ _ _ _ _ (at (c .before))
 
-enum-told : tie.Need-enum-told
-enum-told c = search needs
-
 returns : tie.Need-returns
 returns c = let f = at (c .before .before) in (lettersOf-found _ _ _ _ _ _ _ f, (refl, lettersStart-found _ _ _ _ _ _ _ _ f))
 
@@ -41,7 +38,6 @@ letters-spec =
     add-end
     (λ c. search needs) (λ c. search needs)
     part-result-end
-    enum-told
-    (λ c. search needs) (λ c. search needs) (λ c. search needs)
+    (λ c. search needs) (λ c. search needs) (λ c. search needs) (λ c. search needs)
     returns
     returns-2)

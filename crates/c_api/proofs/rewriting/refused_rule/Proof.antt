@@ -21,9 +21,6 @@ unwritten : (w : tie.After-rewrite-at)
     w .rewrite-at .last .1 .1 .1 .1 .0 ++ out ≡ out
 unwritten w = nothing-before (w .rewrite-at .last .1 .1 .1 .1 .0) _ (w .rewrite-at .kept .1 .1 .1 .1 .0)
 
-enum-told : tie.Need-enum-told
-enum-told c = search needs
-
 returns : tie.Need-returns
 unfolding roomless rewriteNumbers refused
 returns c =
@@ -47,9 +44,8 @@ pub refused-rule-spec : {M : Type 1} → statement M
 refused-rule-spec =
     tie.close
     (tie.spec
-    (λ c. search needs) (λ c. search needs) (λ c κs. search needs)
-    enum-told
-    (λ c. search needs) (λ c. search needs) (λ c κs. search needs) (λ c. search needs)
+    (λ c. search needs) (λ c. search needs) (λ c κs. search needs) (λ c. search needs) (λ c. search needs)
+    (λ c. search needs) (λ c κs. search needs) (λ c. search needs)
     returns
     (λ c. search needs)
     returns-2

@@ -22,9 +22,6 @@ slice-write-rule-2 c = simp length-set (omega arith)
 size-requires : tie.Need-size-requires
 size-requires c κs = rewrote-small _ _ _ _ _ _ _ (c .before .before .before .before .before .rewrite-at .ensures) _ _ _ _ (c .before .family .given .1)
 
-enum-told : tie.Need-enum-told
-enum-told c = search needs
-
 returns-2 : tie.Need-returns-2
 returns-2 c =
     let told = c .before .before in
@@ -52,8 +49,7 @@ rewrite-spec =
     slice-write-rule-2
     (λ c. search needs)
     size-requires
-    enum-told
-    (λ c. search needs) (λ c κs. search needs) (λ c. search needs) (λ c. search needs)
+    (λ c. search needs) (λ c. search needs) (λ c κs. search needs) (λ c. search needs) (λ c. search needs)
     returns-2
     (λ c. search needs)
     returns-3

@@ -14,9 +14,6 @@ size-requires c κs =
     let b = c .before .before .before .before .before in
     fallback-size _ _ _ _ _ _ _ _ (b .fallback-places .ensures) (c .before .l .given .1)
 
-enum-told : tie.Need-enum-told
-enum-told c = search needs
-
 returns : tie.Need-returns
 unfolding fallbackNumber
 returns c =
@@ -46,8 +43,7 @@ winnathey-fallback-spec =
     (tie.spec
     (λ c κs. search needs) (λ c κs. search needs) (λ c κs. search needs) (λ c. search needs)
     size-requires
-    enum-told
-    (λ c. search needs) (λ c κs. search needs) (λ c. search needs)
+    (λ c. search needs) (λ c. search needs) (λ c κs. search needs) (λ c. search needs)
     returns
     (λ c. search needs)
     returns-2

@@ -10,9 +10,6 @@ use Rattle.c_api.proofs.Bytes.{choice-as-bytes}
 use Rattle.c_api.proofs.words.winnathey_better.Statement.{statement}
 use Rattle.c_api.proofs.words.winnathey_better.Tie as tie
 
-enum-told : tie.Need-enum-told
-enum-told c = search needs
-
 -- the choice by the bytes is that by the numbers
 below : (w : tie.After-which-better)
     → let a = w .before .before .before .before .before .args in
@@ -37,9 +34,8 @@ pub winnathey-better-spec : {M : Type 1} → statement M
 winnathey-better-spec =
     tie.close
     (tie.spec
-    (λ c κs. search needs) (λ c κs. search needs) (λ c κs. search needs)
-    enum-told
-    (λ c. search needs) (λ c. search needs)
+    (λ c κs. search needs) (λ c κs. search needs) (λ c κs. search needs) (λ c. search needs) (λ c. search needs)
+    (λ c. search needs)
     returns
     returns-2
     returns-3)

@@ -10,9 +10,6 @@ use Rattle.c_api.proofs.Bytes.{verdict-as-bytes}
 use Rattle.c_api.proofs.words.winnathey_same.Statement.{statement}
 use Rattle.c_api.proofs.words.winnathey_same.Tie as tie
 
-enum-told : tie.Need-enum-told
-enum-told c = search needs
-
 -- the verdict on the bytes is that on the numbers
 below : (w : tie.After-presets-equal)
     → let a = w .before .before .before .before .before .before .before .args in
@@ -43,8 +40,7 @@ winnathey-same-spec =
     tie.close
     (tie.spec
     (λ c κs. search needs) (λ c κs. search needs) (λ c κs. search needs) (λ c κs. search needs) (λ c κs. search needs)
-    enum-told
-    (λ c. search needs) (λ c. search needs) (λ c κs. search needs)
+    (λ c. search needs) (λ c. search needs) (λ c. search needs) (λ c κs. search needs)
     returns
     returns-2
     returns-3)

@@ -15,9 +15,6 @@ slice-aggregate-normal-form-between c = sym (ap length (take-length (c .before .
 slice-aggregate-normal-form-between-2 : tie.Need-slice-aggregate-normal-form-between-2
 slice-aggregate-normal-form-between-2 c = sym (ap length (take-length (c .before .before .before .before .args .to .now)))
 
-enum-told : tie.Need-enum-told
-enum-told c = search needs
-
 returns : tie.Need-returns
 returns c =
     let f = c .before .before .before .before in
@@ -64,9 +61,7 @@ write-between-spec =
     (tie.spec
     slice-aggregate-normal-form-between
     slice-aggregate-normal-form-between-2
-    (λ c κs. search needs) (λ c. search needs)
-    enum-told
-    (λ c. search needs)
+    (λ c κs. search needs) (λ c. search needs) (λ c. search needs) (λ c. search needs)
     returns
     slice-reshare-prefix-write-allowed
     slice-aggregate-write-allowed

@@ -5,9 +5,6 @@ use borrow.Author.Needs.{needs}
 use Rattle.descents.proofs.work.write_form.Statement.{statement}
 use Rattle.descents.proofs.work.write_form.Tie as tie
 
-enum-told : tie.Need-enum-told
-enum-told c = search needs
-
 returns : tie.Need-returns
 returns c =
     let b = c .before .before .before .before in
@@ -24,9 +21,7 @@ pub write-form-spec : {M : Type 1} → statement M
 write-form-spec =
     tie.close
     (tie.spec
-    (λ c κs. search needs) (λ c. search needs)
-    enum-told
-    (λ c. search needs)
+    (λ c κs. search needs) (λ c. search needs) (λ c. search needs) (λ c. search needs)
     returns
     (λ c. search needs)
     returns-2)

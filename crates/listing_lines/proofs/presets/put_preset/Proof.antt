@@ -16,9 +16,6 @@ preset : (c : tie.After-answer)
     Found (c .before .before .before .before .pre .0) (now (a .book)) (a .number) (g .0) (g .1 .0) (g .1 .1 .0) (g .1 .1 .1 .0)
 preset c = found _ _ _ _ _ _ _ (sym (c .answer .given .1) ∙ c .before .before .before .before .pre .1 .0)
 
-enum-told : tie.Need-enum-told
-enum-told c = search needs
-
 put-refused-requires : tie.Need-put-refused-requires
 put-refused-requires c κs =
     let told = c .before .before in
@@ -56,9 +53,7 @@ pub put-preset-spec : {M : Type 1} → statement M
 put-preset-spec =
     tie.close
     (tie.spec
-    (λ c. search needs)
-    enum-told
-    (λ c κs. search needs)
+    (λ c. search needs) (λ c. search needs) (λ c κs. search needs)
     put-refused-requires
     (λ c. search needs)
     returns

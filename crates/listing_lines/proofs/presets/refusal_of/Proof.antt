@@ -5,9 +5,6 @@ use Rattle.listing_text.proofs.Answered.{refusalOf}
 use Rattle.listing_lines.proofs.presets.refusal_of.Statement.{statement}
 use Rattle.listing_lines.proofs.presets.refusal_of.Tie as tie
 
-enum-told : tie.Need-enum-told
-enum-told c = search needs
-
 returns : tie.Need-returns
 unfolding refusalOf
 returns c = rw (c .enum-told .given .1)
@@ -17,4 +14,4 @@ unfolding refusalOf
 returns-2 c = rw (c .before .answer .given .1)
 
 pub refusal-of-spec : {M : Type 1} → statement M
-refusal-of-spec = tie.close (tie.spec enum-told (λ c. search needs) returns returns-2)
+refusal-of-spec = tie.close (tie.spec (λ c. search needs) (λ c. search needs) returns returns-2)

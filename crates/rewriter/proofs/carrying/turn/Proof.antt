@@ -28,9 +28,6 @@ ending-rule-requires c κs =
     let a = s .pre .0 in
     ((a .rank, a .high), ((a .reading, omega (arith, ready-inside a, a .short)), s .pre .1))
 
-enum-told : tie.Need-enum-told
-enum-told c = search needs
-
 returns : tie.Need-returns
 returns c =
     let r = c .before .before in
@@ -100,9 +97,7 @@ turn-spec =
     tie.close
     (tie.spec
     ending-rule-requires
-    (λ c. search needs)
-    enum-told
-    (λ c. search needs)
+    (λ c. search needs) (λ c. search needs) (λ c. search needs)
     returns
     sub-left
     (λ c. search needs)
