@@ -1,120 +1,43 @@
 -- A converted book is a book of the other edition with the same presets, and converting it back gives the bytes of
 -- the first. By the records: what they lay out has just these records (LayOuts), and each passes the checks of the
--- other edition too.
+-- other edition too (PassingRecords).
 --
--- Sections: one record; the records; the converted book; there and back; its size.
+-- Sections: the converted book; there and back; its size.
 -- Assumes nothing.
 use mathlib.Core.Path.{_≡_, refl, sym, ap, _∙_}
 use mathlib.Core.Bool.{false}
 use mathlib.Core.List.{List, [], _∷_}
 use Prim.Native.Nat.{ℕ, zero, suc, _+_, _-_, _*_, _≤_, _<_}
 use native.Mathlib.Decide.{ℕ-discrete}
-use native.Mathlib.Nat.{add-zero, zero-add, add-suc, suc-add}
+use native.Mathlib.Nat.{add-zero, zero-add}
 use native.Mathlib.Omega.{arith}
 use lib.ListN.{length, length-append}
 use borrow.Author.Tests.{ne-eqb, lt-ltb, le-ltb, ltb-false}
-use Rattle.coxeter.specs.Kinds.{Kind, A, B, D, kindOf, lanes}
+use Rattle.coxeter.specs.Kinds.{kindOf, lanes}
 use Rattle.coxeter.specs.declared.Answer.the-variants as answer
-use Rattle.coxeter.specs.Checks.{check, _then_, wordRefusal, WordOf}
-use Rattle.coxeter.proofs.Acceptance.{rank-within}
+use Rattle.coxeter.specs.Checks.{check, _then_, wordRefusal}
 use Rattle.coxeter.proofs.Refusals.{then-zero, check-zero, then-none}
 use Rattle.book_format.specs.declared.Edition.{Edition}
 use Rattle.book_format.specs.declared.Edition.the-variants.{First, Second}
 use Rattle.book_format.specs.Books.{count, trailer, offset, headSize, kindAt, rankAt}
 use Rattle.book_format.specs.Books.{lanesAt, letterCountAt, lettersAt, endAt, misplacedFrom, tooLarge}
-use Rattle.book_format.specs.Books.{greatestInBook, bookRankRefusal, bookRefusal, recordRefusal, presetRefusal}
+use Rattle.book_format.specs.Books.{bookRankRefusal, bookRefusal, presetRefusal}
 use Rattle.book_format.specs.Records.{Record, recordBytes, layOut, recordAt, recordsFrom, recordsOf, Bytes}
 use Rattle.book_format.specs.Calls.{presetOf}
-use Rattle.book_format.specs.Conversion.{other, converted, tooManyLanes, recordConversionRefusal, recordsConversionRefusal}
+use Rattle.book_format.specs.Conversion.{other, converted, recordConversionRefusal, recordsConversionRefusal}
 use Rattle.book_format.specs.Conversion.{conversionRefusal, converting, SamePreset, Converted}
-use Rattle.book_format.proofs.RankLaws.{bookRank-accepted, bookRankRefusal-none, bookRank-within}
 use Rattle.book_format.proofs.BookLaws.{Accepted, accepted, bookSize-some, bookRefusal-bytes, no-bytes, count-bytes, first, trailer-le, endAt-offset-le}
-use Rattle.book_format.proofs.PresetLaws.{presetRefusal-record, record-tests}
+use Rattle.book_format.proofs.PresetLaws.{presetRefusal-record}
 use Rattle.book_format.proofs.WritingLaws.{length-recordOf}
 use Rattle.coxeter.proofs.Writes.{wrote}
 use Rattle.book_format.proofs.Appending.{walk-end, recordRefusal-of, checkedPreset-of, lettersOf-of}
 use Rattle.book_format.proofs.RecordLaws.{layOut-recordsOf, length-recordsFrom, length-lettersAt, placed-from}
-use Rattle.book_format.proofs.LayOuts.{length-layOut, LanesRight, AllRight, laid-opens, laid-records}
+use Rattle.book_format.proofs.LayOuts.{length-layOut, laid-opens, laid-records}
+use Rattle.book_format.proofs.PassingRecords.{Passing, rank-other, few-other, record-passes, lanes-all-right, record-same}
 
 pub other-other : (ed : Edition) → other (other ed) ≡ ed
 other-other First = refl
 other-other Second = refl
-
--- ---- one record
-
--- a record that no check of a conversion refuses
-pub record Passing (ed : Edition) (b : List ℕ) (o : ℕ) : Type 0 where
-  pub rank : bookRankRefusal ed (kindAt b o) (rankAt b o) ≡ 0
-  pub lanes-right : LanesRight (recordAt ed b o)
-  pub word : WordOf (rankAt b o) (lettersAt ed b o)
-  pub few : tooManyLanes ed b o ≡ false
-
-pub passing : (ed : Edition) (b : List ℕ) (o : ℕ) → recordConversionRefusal ed b o ≡ 0 → Passing ed b o
-unfolding recordConversionRefusal
-passing ed b o z =
-    let a = then-zero (recordRefusal ed b o) (check 18 (tooManyLanes ed b o)) z in
-    let t = record-tests ed b o (a .0) in
-    record { rank = t .0; lanes-right = t .1; word = t .2; few = check-zero 18 (tooManyLanes ed b o) refl (a .1) }
-
--- a rank of the first edition has at most 32 lanes, and one with so few is a rank of the first
-few-lanes : (k : Kind) (n : ℕ) → n ≤ greatestInBook First k → lanes k n ≤ 32
-few-lanes A n h = omega arith
-few-lanes B n h = omega arith
-few-lanes D n h = omega arith
-
-of-few-lanes : (k : Kind) (n : ℕ) → lanes k n ≤ 32 → n ≤ greatestInBook First k
-of-few-lanes A n h = omega arith
-of-few-lanes B n h = omega arith
-of-few-lanes D n h = omega arith
-
--- its rank is one of the other edition too
-rank-other : (ed : Edition) (b : List ℕ) (o : ℕ) → Passing ed b o → bookRankRefusal (other ed) (kindAt b o) (rankAt b o) ≡ 0
-unfolding tooManyLanes
-rank-other First b o p =
-    let r = bookRank-accepted First (kindAt b o) (rankAt b o) (p .rank) in
-    bookRankRefusal-none Second (kindAt b o) (rankAt b o) 0 (sym r) refl (rank-within (kindAt b o) (rankAt b o) r .1)
-rank-other Second b o p =
-    let r = bookRank-accepted Second (kindAt b o) (rankAt b o) (p .rank) in
-    let h : lanes (kindOf (kindAt b o)) (rankAt b o) ≤ 32 = rw (← p .lanes-right) (ltb-false 32 (lanesAt Second b o) (p .few)) in
-    bookRankRefusal-none First (kindAt b o) (rankAt b o) 0 (sym r) refl (of-few-lanes (kindOf (kindAt b o)) (rankAt b o) h)
-
--- and going back it has few enough lanes
-few-other : (ed : Edition) (b d : List ℕ) (o p : ℕ) → Passing ed b o → lanesAt (other ed) d p ≡ lanesAt ed b o → tooManyLanes (other ed) d p ≡ false
-unfolding tooManyLanes
-few-other First b d o p w e =
-    let h = few-lanes (kindOf (kindAt b o)) (rankAt b o) (bookRank-within First (kindAt b o) (rankAt b o) (w .rank) .1) in
-    rw (e, le-ltb 32 (lanes (kindOf (kindAt b o)) (rankAt b o)) h)
-few-other Second b d o p w e = refl
-
--- ---- the records
-
--- each of the t records from record i on passes
-module _ (ed : Edition) (b : List ℕ) where
-  record-passes : (t i j : ℕ) → recordsConversionRefusal ed b t i ≡ 0 → j < t → Passing ed b (offset b (i + j))
-  unfolding recordsConversionRefusal
-  record-passes zero i j z h = absurd (omega arith)
-  record-passes (suc t) i zero z h =
-      rw (add-zero i) (passing ed b (offset b i) (then-zero (recordConversionRefusal ed b (offset b i)) (recordsConversionRefusal ed b t (suc i)) z .0))
-  record-passes (suc t) i (suc j) z h =
-      rw (add-suc i j, ← suc-add i j)
-      (record-passes t (suc i) j (then-zero (recordConversionRefusal ed b (offset b i)) (recordsConversionRefusal ed b t (suc i)) z .1) (omega arith))
-
-  lanes-all-right : (t i : ℕ) → recordsConversionRefusal ed b t i ≡ 0 → AllRight (other ed) (recordsFrom ed b t i)
-  unfolding recordsConversionRefusal recordsFrom
-  lanes-all-right zero i z = tt
-  lanes-all-right (suc t) i z =
-      let a = then-zero (recordConversionRefusal ed b (offset b i)) (recordsConversionRefusal ed b t (suc i)) z in
-      (λ e. passing ed b (offset b i) (a .0) .lanes-right, lanes-all-right t (suc i) (a .1))
-
--- books with the same records have them place by place
-record-same : (ed ed′ : Edition) (b d : List ℕ) (t i j : ℕ) → recordsFrom ed b t i ≡ recordsFrom ed′ d t i → j < t
-    → recordAt ed b (offset b (i + j)) ≡ recordAt ed′ d (offset d (i + j))
-unfolding recordsFrom
-record-same ed ed′ b d zero i j e h = absurd (omega arith)
-record-same ed ed′ b d (suc t) i zero e h = rw (add-zero i) (cc)
-record-same ed ed′ b d (suc t) i (suc j) e h =
-    let rest : recordsFrom ed b t (suc i) ≡ recordsFrom ed′ d t (suc i) = cc in
-    rw (add-suc i j, ← suc-add i j) (record-same ed ed′ b d t (suc i) j rest (omega arith))
 
 -- ---- the converted book
 

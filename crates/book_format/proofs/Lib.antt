@@ -11,6 +11,7 @@ pub mod Numbers
 pub mod BookBytes
 pub mod RecordLaws
 pub mod LayOuts
+pub mod PassingRecords
 pub mod Converting
 pub mod AppendedBytes
 pub mod NoBytes

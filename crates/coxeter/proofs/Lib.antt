@@ -47,7 +47,8 @@ pub mod Theorems
 pub mod Writes
 pub mod Written
 pub mod Room
-pub mod HandedOn
+pub mod ChainedCalls
+pub mod ChainedProducts
 pub mod Sentences
 pub mod AnswersExactly
 pub mod LaneCounts

@@ -4,7 +4,7 @@
 -- write is the least word with its window is in the crate rules (Written).
 --
 -- Sections: any call that writes; windows; words.
--- Not here: the lengths (Room), and what a call left as the next call's input (HandedOn).
+-- Not here: the lengths (Room), and what a call left as the next call's input (ChainedCalls).
 -- Assumes nothing.
 use mathlib.Core.Path.{_≡_, refl, sym, ap, _∙_}
 use mathlib.Core.List.{List, _++_, reverse}

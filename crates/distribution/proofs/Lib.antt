@@ -16,5 +16,6 @@ pub mod Outcomes
 pub mod Unchanged
 pub mod Firsts
 pub mod Sentences
+pub mod RefusalSentences
 pub mod LongestEntries
 pub mod Vectors

@@ -23,7 +23,8 @@ use Rattle.distribution.specs.declared.Table.the-variants.{Written}
 use Rattle.distribution.specs.Longest.{allNegative, longest}
 use Rattle.distribution.specs.Calls.{TableYields, delayTable}
 use Rattle.distribution.proofs.Longest.{falling-suc, length-falling, length-allNegative, longest-is}
-use Rattle.distribution.proofs.Sentences.{table-exactly, one-longest}
+use Rattle.distribution.proofs.Sentences.{one-longest}
+use Rattle.distribution.proofs.RefusalSentences.{table-exactly}
 
 -- ---- entries by their places
 

@@ -1,6 +1,7 @@
 -- The proofs of the two tables; what the wrong routers answer, with the table of the inputs that tell them from the
 -- calls; what a call may not hand back; and wrong definitions, with the laws that rule them out.
 pub mod Examples
+pub mod WrongChecks
 pub mod WrongWindows
 pub mod WrongRewrites
 pub mod WrongTraces

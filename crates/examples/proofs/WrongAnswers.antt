@@ -31,12 +31,12 @@ use Rattle.book_format.specs.Conversion.{converting}
 use Rattle.listing_text.specs.Text.{refusedLine, refusedBookLine, countLine, wordLine}
 use Rattle.listing_text.specs.Calls.{Piecing, nextPiece}
 use Rattle.examples.specs.Examples.{neg}
-use Rattle.examples.proofs.WrongWindows.{lanesAsTheRank, oneLaneMoreInEveryKind, sizeOneLess, size127AtMost, zeroIsNegative, noneIsNegative}
-use Rattle.examples.proofs.WrongWindows.{refusesEveryKind, rank64InA, letterZeroAccepted, wordOf4097Letters}
-use Rattle.examples.proofs.WrongWindows.{wordChecks, lettersBeforeTheRank, rankUnchecked, presetsChecks, secondPresetFirst}
-use Rattle.examples.proofs.WrongWindows.{bothRanksFirst, wordsChecks, secondWordFirst, secondWordUnchecked}
-use Rattle.examples.proofs.WrongWindows.{windowChecks, windowBeforeTheRank, oddNegativesRefusedInB, windowsChecks, secondWindowFirst}
-use Rattle.examples.proofs.WrongWindows.{secondWindowUnchecked}
+use Rattle.examples.proofs.WrongChecks.{lanesAsTheRank, oneLaneMoreInEveryKind, sizeOneLess, size127AtMost, zeroIsNegative, noneIsNegative}
+use Rattle.examples.proofs.WrongChecks.{refusesEveryKind, rank64InA, letterZeroAccepted, wordOf4097Letters}
+use Rattle.examples.proofs.WrongChecks.{wordChecks, lettersBeforeTheRank, rankUnchecked, presetsChecks, secondPresetFirst}
+use Rattle.examples.proofs.WrongChecks.{bothRanksFirst, wordsChecks, secondWordFirst, secondWordUnchecked}
+use Rattle.examples.proofs.WrongChecks.{windowChecks, windowBeforeTheRank, oddNegativesRefusedInB, windowsChecks, secondWindowFirst}
+use Rattle.examples.proofs.WrongChecks.{secondWindowUnchecked}
 use Rattle.examples.proofs.WrongWindows.{turnsEveryPresetDown, identityForAllWords, swapsValues, stepOfBInD, refusedCallWrites, clearsTheOutput}
 use Rattle.examples.proofs.WrongWindows.{unshortenedWord, peelsOnlyBlock1, stopsAtAShortestWord, roomForTheRankOnly}
 use Rattle.examples.proofs.WrongWindows.{block1Alone, entriesBeforeLanes, oddNegativesAccepted, blockTurnsEarlyInB}

@@ -17,7 +17,8 @@ use Rattle.coxeter.proofs.TestLaws.{not-true-false}
 use Rattle.rules.specs.Rules.{Rule, rules, fits, Irreducible}
 use Rattle.rules.proofs.Fits.{begins-append, begins-split}
 use Rattle.rules.proofs.ScanRules.{fitting-unique}
-use Rattle.traces.proofs.LeftSides.{lower, Shape, shape-of-rule, left-two, drops, moves, sides-of-rule}
+use Rattle.traces.proofs.LeftSideShapes.{lower, Shape, left-two}
+use Rattle.traces.proofs.LeftSides.{shape-of-rule, drops, moves, sides-of-rule}
 use Rattle.traces.proofs.Reading.{nil-irreducible}
 use Rattle.presentation.proofs.Reducing.{irreducible-part, irreducible-cons}
 

@@ -17,7 +17,8 @@ use Rattle.rules.specs.Calls.{pastEnd, Transition, rewriteAt, Rewrote, newWordI
 use Rattle.rules.specs.Runs.{AcceptedWord, Arguments}
 use Rattle.rules.specs.Demand3.{Usable}
 use Rattle.rules.proofs.CallLists.{new-word-exactly}
-use Rattle.rules.proofs.Calls.{accepted-least, single-lawful, fits-inside, usable-changed, stepped, stepped-moves, Moves, rewrote, stays}
+use Rattle.rules.proofs.Calls.{accepted-least, single-lawful, stepped, stepped-moves, Moves, rewrote, stays}
+use Rattle.rules.proofs.UsedRules.{fits-inside, usable-changed}
 use Rattle.rules.proofs.Fits.{firstFitting-some}
 use Rattle.rules.proofs.Rewriting.{Rewrites}
 use Rattle.presentation.specs.Reductions.{Reduces}

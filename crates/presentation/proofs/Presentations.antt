@@ -21,7 +21,7 @@ use Rattle.rules.specs.Rules.{Rule, rules, firstFitting, rewritten, Irreducible
 use Rattle.rules.proofs.Fits.{left-nonempty, fits-of-rewrites, firstFitting-some, firstFitting-of-unique}
 use Rattle.rules.proofs.Irreducible.{blocks-or-rewrites}
 use Rattle.rules.proofs.ScanRules.{fitting-unique}
-use Rattle.traces.proofs.LeftSides.{fits-inside}
+use Rattle.traces.proofs.LeftSideShapes.{fits-inside}
 use Rattle.distribution.proofs.Members.{once-map}
 use Rattle.distribution.proofs.Counted.{order-exactly}
 use Rattle.distribution.specs.Distribution.{order}

@@ -22,7 +22,8 @@ use Rattle.rules.proofs.RuleList.{rule-of-list, listed-of-mem}
 use Rattle.rules.proofs.Scan.{Along, start, further}
 use Rattle.rules.proofs.ScanFamilies.{Ends, ends-of-listed, left-of}
 use Rattle.rules.proofs.Theorems.{rule-congruent}
-use Rattle.traces.proofs.LeftSides.{Shape, shape-of-rule}
+use Rattle.traces.proofs.LeftSideShapes.{Shape}
+use Rattle.traces.proofs.LeftSides.{shape-of-rule}
 use Rattle.presentation.proofs.Normalized.{lower-le-right}
 
 -- the block of a left side is made of steps

@@ -19,7 +19,7 @@ ghost use Rattle.coxeter.specs.NormalForm.{levels, lastIndex};
 ghost use Rattle.coxeter.proofs.Acceptance.{Ranked};
 ghost use Rattle.rules.proofs.Scan.{nextIndex, fork, familyAt, shownIndex, firstLetter};
 ghost use Rattle.traces.specs.Traces.{lowestRedex};
-ghost use Rattle.traces.proofs.LeftSides.{lower};
+ghost use Rattle.traces.proofs.LeftSideShapes.{lower};
 ghost use Rattle.traces.proofs.PartBlocks.{indexBy};
 ghost use Rattle.traces.proofs.TwoLetters.{commuting};
 ghost use Rattle.traces.proofs.Reading.{Reading};

@@ -24,8 +24,9 @@ use Rattle.rules.proofs.Ending.{value}
 use Rattle.rules.proofs.Completeness.{rewrites-window, rewrites-letters, rewrites-lowers, rewrites-length}
 use Rattle.rules.proofs.Completeness.{irreducible-iff, normalForm-least-window, same-normalForm-congruent}
 use Rattle.rules.proofs.Calls.{accepted-least, accepted-letters, accepted-of-shorter, Lawful, single-lawful, stepped}
-use Rattle.rules.proofs.Calls.{Moves, rewrote, stays, stepped-moves, wordAfter-moves, resultOf, stepped-used, stepped-answers}
-use Rattle.rules.proofs.Calls.{irreducible-of-once, nowhereFits-iff}
+use Rattle.rules.proofs.Calls.{Moves, rewrote, stays, stepped-moves, wordAfter-moves}
+use Rattle.rules.proofs.UsedRules.{resultOf, stepped-used, stepped-answers}
+use Rattle.rules.proofs.UsedRules.{irreducible-of-once, nowhereFits-iff}
 use Rattle.coxeter.proofs.FormLaws.{wordNormalForm-eq-iff}
 use Rattle.coxeter.proofs.Outcomes.{writes-written}
 use Rattle.coxeter.proofs.Writes.{answers-short}

@@ -11,11 +11,13 @@ pub mod Irreducible
 pub mod Fits
 pub mod Completeness
 pub mod Scan
+pub mod LeavingLetters
 pub mod ScanFamilies
 pub mod ScanRules
 pub mod RuleFields
 pub mod RuleRanges
 pub mod Calls
+pub mod UsedRules
 pub mod Occurrences
 pub mod CallLists
 pub mod Unchanged

@@ -16,7 +16,8 @@ use Rattle.rules.specs.Calls.{Interface, Transition, pastEnd, changed, r
 use Rattle.rules.specs.Runs.{AcceptedWord, Arguments, Result, Call, wordAfter, wordLeft, Meets, Run, uses}
 use Rattle.rules.specs.Demand3.{Usable}
 use Rattle.rules.proofs.Fits.{firstFitting-some}
-use Rattle.rules.proofs.Calls.{Lawful, Stepped, used, noneFits, past, short, stepped, resultOf, usable-changed}
+use Rattle.rules.proofs.Calls.{Lawful, Stepped, used, noneFits, past, short, stepped}
+use Rattle.rules.proofs.UsedRules.{resultOf, usable-changed}
 use Rattle.rules.proofs.Demand3.{wordLeft-accepted}
 
 -- a list of calls of the form t that leaves the word of a list of calls of the form s, with as many uses

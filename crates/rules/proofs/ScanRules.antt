@@ -23,10 +23,11 @@ use Rattle.rules.proofs.Families.{Commutes, Carries, Turns, IsD}
 use Rattle.rules.proofs.NextLetter.{corner-levels, commutes-top}
 use Rattle.rules.proofs.RuleList.{Listed, square, commutation, carry, turn, five, six, seven, listed-of-mem, mem-of-listed}
 use Rattle.rules.proofs.Fits.{begins-append, begins-split, firstFitting-some, firstFitting-none}
-use Rattle.rules.proofs.ScanFamilies.{familyAt-square, familyAt-commute, familyAt-below, familyAt-carry, familyAt-five}
-use Rattle.rules.proofs.ScanFamilies.{familyAt-inside, familyAt-turn, familyAt-six, familyAt-seven, familyAt-after}
-use Rattle.rules.proofs.ScanFamilies.{ruleAt-square, ruleAt-commute, ruleAt-carry, ruleAt-turn, ruleAt-five}
-use Rattle.rules.proofs.ScanFamilies.{ruleAt-six, ruleAt-seven, left-of, scan-left}
+use Rattle.rules.proofs.LeavingLetters.{familyAt-square, familyAt-commute, familyAt-below, familyAt-carry, familyAt-five}
+use Rattle.rules.proofs.LeavingLetters.{familyAt-inside, familyAt-turn, familyAt-six, familyAt-seven, familyAt-after}
+use Rattle.rules.proofs.LeavingLetters.{ruleAt-square, ruleAt-commute, ruleAt-carry, ruleAt-turn, ruleAt-five}
+use Rattle.rules.proofs.LeavingLetters.{ruleAt-six, ruleAt-seven}
+use Rattle.rules.proofs.ScanFamilies.{left-of, scan-left}
 use Rattle.rules.proofs.Scan.{fork, familyAt, ruleAt, found, walk, scan, nextIndex, Leaving, Going}
 use Rattle.rules.proofs.Scan.{climbs, tops, falls, leaves, going, Along, start, further, along-next}
 use Rattle.rules.proofs.Letters.{commutes-below, block-one}

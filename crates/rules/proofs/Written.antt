@@ -24,7 +24,7 @@ use Rattle.coxeter.proofs.Products.{window-append}
 use Rattle.coxeter.proofs.Inverses.{window-reverse}
 use Rattle.coxeter.proofs.Order.{shortlex-shorter}
 use Rattle.coxeter.proofs.Theorems.{window-passes, product-inverse, inverse-product, normalForm-fits}
-use Rattle.coxeter.proofs.HandedOn.{product-of-words}
+use Rattle.coxeter.proofs.ChainedCalls.{product-of-words}
 use Rattle.coxeter.proofs.Written.{normalFormOfWord-accepted, normalFormOfWord-wrote, normalFormOfWindow-accepted, normalFormOfWindow-wrote}
 use Rattle.coxeter.proofs.Written.{productOfWords-accepted, productOfWords-wrote, inverseOfWord-accepted, inverseOfWord-wrote}
 use Rattle.rules.proofs.Completeness.{normalForm-only}

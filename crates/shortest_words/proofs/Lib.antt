@@ -25,8 +25,10 @@ pub mod BetweenCalls
 pub mod Theorems
 pub mod Firsts
 pub mod Sentences
+pub mod OneLetterSentences
 pub mod FreePlaces
 pub mod AllowedSentences
+pub mod AllowedWordSentences
 pub mod SplitSentences
 pub mod BetweenSentences
 pub mod Vectors

@@ -18,7 +18,8 @@ use Rattle.coxeter.specs.Kinds.{Kind, least}
 use Rattle.rules.specs.Rules.{Rule, rules, begins, fits, Irreducible}
 use Rattle.rules.proofs.Fits.{begins-append, begins-split, none-firstFitting, firstFitting-of-unique, left-nonempty}
 use Rattle.rules.proofs.ScanRules.{fitting-unique}
-use Rattle.traces.proofs.LeftSides.{lower, Shape, shape-of-rule, fits-inside}
+use Rattle.traces.proofs.LeftSideShapes.{lower, Shape, fits-inside}
+use Rattle.traces.proofs.LeftSides.{shape-of-rule}
 use Rattle.traces.proofs.Traces.{Lowest}
 
 -- ---- a rule in a part of a word

@@ -4,8 +4,10 @@ pub mod Unchanged
 pub mod Replays
 pub mod Firsts
 pub mod Sentences
+pub mod StepSentences
 pub mod TwoLetters
 pub mod PartBlocks
+pub mod LeftSideShapes
 pub mod LeftSides
 pub mod Endings
 pub mod LeastWords

@@ -26,7 +26,8 @@ use Rattle.rules.proofs.Fits.{fits-split, rewritten-split, fits-past, firstFitt
 use Rattle.rules.proofs.Completeness.{rewrites-letters, rewrites-window, rewrites-length}
 use Rattle.shortest_words.proofs.Shortest.{letters-snoc}
 use Rattle.traces.specs.Traces.{Redex, lowestRedex, Trace, trace}
-use Rattle.traces.proofs.LeftSides.{left-two, Sides, drops, moves, sides-of-rule}
+use Rattle.traces.proofs.LeftSideShapes.{left-two}
+use Rattle.traces.proofs.LeftSides.{Sides, drops, moves, sides-of-rule}
 use Rattle.traces.proofs.Traces.{Lowest, after, lowest-some, lowest-is, irreducible-of-none, none-of-irreducible, lowest-rewrites}
 use Rattle.traces.proofs.Traces.{trace-none, trace-some}
 use Rattle.traces.proofs.Endings.{ends-there, lowest-of-ending}

@@ -21,7 +21,8 @@ use Rattle.coxeter.proofs.Order.{less, same, more, compared}
 use Rattle.rules.specs.Rules.{Rule, rules, rule, fits, firstFitting, rewritten, commuted}
 use Rattle.rules.proofs.Fits.{firstFitting-some}
 use Rattle.traces.specs.Traces.{Redex, lowestRedex}
-use Rattle.traces.proofs.LeftSides.{lower, Sides, drops, moves, sides-of-rule}
+use Rattle.traces.proofs.LeftSideShapes.{lower}
+use Rattle.traces.proofs.LeftSides.{Sides, drops, moves, sides-of-rule}
 use Rattle.traces.proofs.Traces.{after, lowest-some, lowest-is}
 use Rattle.traces.proofs.Endings.{lowest-of-ending, first-of-ending, between-of-ending}
 use Rattle.traces.proofs.TwoLetters.{commuting, commute-fits, no-commute-none, square-fits}

@@ -30,7 +30,8 @@ use Rattle.rules.specs.Runs.{AcceptedWord, Arguments, Call, wordAfter, Run, use
 use Rattle.rules.specs.Demand3.{Demand3}
 use Rattle.rules.proofs.Fits.{firstFitting-some, firstFitting-none, none-firstFitting}
 use Rattle.rules.proofs.Completeness.{rewrites-letters, rewrites-length}
-use Rattle.rules.proofs.Calls.{accepted-least, accepted-letters, accepted-of-shorter, stepped, answer-of-none, usable-changed, stepped-used, single-lawful, nowhereFits-iff}
+use Rattle.rules.proofs.Calls.{accepted-least, accepted-letters, accepted-of-shorter, stepped, single-lawful}
+use Rattle.rules.proofs.UsedRules.{answer-of-none, usable-changed, stepped-used, nowhereFits-iff}
 use Rattle.rules.proofs.CallLists.{new-word-exactly}
 use Rattle.traces.specs.declared.ToEnd.the-variants.{Ended, Refused}
 use Rattle.traces.specs.Traces.{Redex, lowestRedex, Line, Trace, trace, familiesOf, placesOf, lengthsOf, rewritingToEnd, NoneFitsBelow, Replays, tracedBy, tooFewPlaces, toEndOf}

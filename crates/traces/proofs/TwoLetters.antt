@@ -18,7 +18,7 @@ use Rattle.coxeter.specs.Checks.{wrongLetter}
 use Rattle.coxeter.specs.NormalForm.{levels, lastIndex}
 use Rattle.rules.specs.Rules.{rules, rule, commuted, firstFitting}
 use Rattle.rules.proofs.Scan.{nextIndex, fork, familyAt, found, walk, scan, Leaving, nextIndex-leave, lastIndex-top}
-use Rattle.rules.proofs.ScanFamilies.{familyAt-square, familyAt-commute, ruleAt-square, ruleAt-commute}
+use Rattle.rules.proofs.LeavingLetters.{familyAt-square, familyAt-commute, ruleAt-square, ruleAt-commute}
 use Rattle.rules.proofs.ScanRules.{scan-is-firstFitting}
 
 -- ---- letters that commute

@@ -25,7 +25,7 @@ use Rattle.rules.proofs.ScanRules.{wrongLetter-drop}
 use Rattle.rules.proofs.Scan.{nextIndex, fork, familyAt, shownIndex, firstLetter, walk, scan, Along, start, further, scan-block}
 use Rattle.traces.specs.Traces.{lowestRedex}
 use Rattle.traces.proofs.PartBlocks.{indexBy, part-block}
-use Rattle.traces.proofs.LeftSides.{lower}
+use Rattle.traces.proofs.LeftSideShapes.{lower}
 use Rattle.traces.proofs.TwoLetters.{commuting}
 use Rattle.traces.proofs.LeastWords.{letters-left, Normal, normal-back}
 use Rattle.traces.proofs.Reading.{Reading, reading-inside, reading-before}

@@ -24,7 +24,7 @@ use Rattle.rules.specs.Rules.{Rule, rules, firstFitting}
 use Rattle.rules.proofs.ScanRules.{wrongLetter-drop}
 use Rattle.rules.proofs.Scan.{nextIndex, fork, familyAt, shownIndex, firstLetter, shownRule}
 use Rattle.traces.specs.Traces.{Redex, lowestRedex}
-use Rattle.traces.proofs.LeftSides.{lower}
+use Rattle.traces.proofs.LeftSideShapes.{lower}
 use Rattle.traces.proofs.Traces.{lowest-some}
 use Rattle.traces.proofs.TwoLetters.{commuting}
 use Rattle.traces.proofs.Reading.{Reading, reading-inside, reading-lower}

@@ -3,7 +3,7 @@
 use mathlib.Core.Path.{sym, _∙_}
 use native.Mathlib.Omega.{arith}
 use Rattle.book_format.proofs.BookLaws.{accepted-read, never-one}
-use Rattle.book.proofs.converting.Conversions.{conversion-book, conversion-records, conversion-large, conversion-none}
+use Rattle.book.proofs.converting.ConversionChecks.{conversion-book, conversion-records, conversion-large, conversion-none}
 use borrow.Author.Needs.{needs}
 use Rattle.book.proofs.converting.conversion_refusal.Statement.{statement}
 use Rattle.book.proofs.converting.conversion_refusal.Tie as tie

@@ -2,7 +2,8 @@
 -- Assumes nothing.
 use native.Mathlib.Omega.{arith}
 use Rattle.book_format.proofs.BookLaws.{counted-some}
-use Rattle.book.proofs.converting.Conversions.{inside, size-of-other}
+use Rattle.book.proofs.converting.ConversionChecks.{inside}
+use Rattle.book.proofs.converting.Conversions.{size-of-other}
 use borrow.Author.Needs.{needs}
 use Rattle.book.proofs.converting.other_size.Statement.{statement}
 use Rattle.book.proofs.converting.other_size.Tie as tie

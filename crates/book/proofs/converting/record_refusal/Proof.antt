@@ -3,7 +3,7 @@
 use mathlib.Core.Path.{sym, _∙_}
 use native.Mathlib.Omega.{arith}
 use Rattle.book_format.proofs.BookLaws.{accepted, counted}
-use Rattle.book.proofs.converting.Conversions.{inside, refused-by-itself, lanes-decide}
+use Rattle.book.proofs.converting.ConversionChecks.{inside, refused-by-itself, lanes-decide}
 use borrow.Author.Needs.{needs}
 use Rattle.book.proofs.converting.record_refusal.Statement.{statement}
 use Rattle.book.proofs.converting.record_refusal.Tie as tie

@@ -5,7 +5,7 @@ use mathlib.Core.Path.{_≡_, sym, _∙_}
 use Prim.Native.Nat.{_-_}
 use native.Mathlib.Omega.{arith}
 use Rattle.book_format.specs.Conversion.{recordsConversionRefusal}
-use Rattle.book.proofs.converting.Conversions.{checks-start, checks-stop, checks-next, checks-end}
+use Rattle.book.proofs.converting.ConversionChecks.{checks-start, checks-stop, checks-next, checks-end}
 use Rattle.book.proofs.converting.records_refusal.Statement.{statement}
 use Rattle.book.proofs.converting.records_refusal.Tie as tie
 
