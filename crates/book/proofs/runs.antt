@@ -1,2 +1,2 @@
 -- What the proofs of the module `runs` share.
-pub mod Runs
+pub mod StoredRuns

@@ -121,8 +121,8 @@ module _ (ed : Edition) (b : List ℕ) (w : Convertible ed b) where
     letters : lettersAt (other ed) (converted ed b) (offset (converted ed b) i) ≡ u
     size : letterCountAt (other ed) (converted ed b) (offset (converted ed b) i) ≡ length u
 
-  kept : (i : ℕ) → i < count b → Kept i (kindAt b (offset b i)) (rankAt b (offset b i)) (lettersAt ed b (offset b i))
-  kept i h =
+  preset-kept : (i : ℕ) → i < count b → Kept i (kindAt b (offset b i)) (rankAt b (offset b i)) (lettersAt ed b (offset b i))
+  preset-kept i h =
       let o = offset b i in
       let d = converted ed b in
       let p = offset d i in
@@ -154,7 +154,7 @@ module _ (ed : Edition) (b : List ℕ) (w : Convertible ed b) where
       let o = offset b i in
       let d = converted ed b in
       let p = offset d i in
-      let q = kept i h in
+      let q = preset-kept i h in
       let g = passing-at ed b i w h in
       let inside = endAt-offset-le ed b i (accepted ed b (w .opens)) h in
       let l : letterCountAt ed b o ≡ length (lettersAt ed b o) = sym (length-lettersAt ed b o (omega (arith, trailer-le b))) in
@@ -199,7 +199,7 @@ module _ (ed : Edition) (b : List ℕ) (w : Convertible ed b) where
       let d = converted ed b in
       let o = offset b i in
       let p = offset d i in
-      let q = kept i (omega arith) in
+      let q = preset-kept i (omega arith) in
       let n = count-converted in
       let g = passing-at ed b i w (omega arith) in
       let own = sym (presetRefusal-record (other ed) d i converted-opens (omega arith)) ∙ q .unrefused in

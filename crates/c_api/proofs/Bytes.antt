@@ -239,9 +239,9 @@ pub crossings-as-bytes : {F : ℕ → ℕ → Counted} → Refusable F → (k n 
 crossings-as-bytes f k n l m a list z after e g h s b = rw (← (b ∙ as-bytes f k n l m e g), i64-back z h) s
 
 -- and a call whose number is z left y
-pub handed-on : {Y : Type 0} {F : ℕ → ℕ → ℤ × Y} → Refusable F → (k n l m : ℕ) (z : ℤ) (y : Y) → l ≡ byteOf k → m ≡ byteOf n
+pub as-bytes-back : {Y : Type 0} {F : ℕ → ℕ → ℤ × Y} → Refusable F → (k n l m : ℕ) (z : ℤ) (y : Y) → l ≡ byteOf k → m ≡ byteOf n
     → mag z < 9223372036854775808 → (z, y) ≡ F l m → (toZ w64 (ofZ w64 z), y) ≡ F k n
-handed-on r k n l m z y e f h q = rw (i64-back z h) (q ∙ as-bytes r k n l m e f)
+as-bytes-back r k n l m z y e f h q = rw (i64-back z h) (q ∙ as-bytes r k n l m e f)
 
 -- ---- refusals of 32 bits: a number that is no byte has no message, as 0 has none
 

@@ -16,7 +16,7 @@ use Rattle.coxeter.specs.Checks.{negativeInA}
 use Rattle.coxeter.specs.NormalForm.{block, levels, lastIndex, indexOf, restOf}
 use Rattle.coxeter.proofs.Basics.{windowFrom-append}
 use Rattle.coxeter.proofs.Steps.{act-swap, act-B-last, act-D-last}
-use Rattle.coxeter.proofs.Runs.{span, slide, span-nil, span-cons, slide-nil, slide-cons, slide-snoc, rise-span, Corner, block-up, block-turn}
+use Rattle.coxeter.proofs.LetterRuns.{span, slide, span-nil, span-cons, slide-nil, slide-cons, slide-snoc, rise-span, Corner, block-up, block-turn}
 use Rattle.coxeter.proofs.Peeling.{restOf-positive, indexOf-positive, indexOf-negative}
 
 -- ---- one step

@@ -17,7 +17,7 @@ use Rattle.coxeter.specs.Kinds.{Kind, A, B, D, up}
 use Rattle.coxeter.specs.NormalForm.{down, rise, fall, block, levels, lastIndex, blocks, Indices, none, level}
 use Rattle.coxeter.proofs.Basics.{length-up}
 use Rattle.coxeter.proofs.Products.{getD-up}
-use Rattle.coxeter.proofs.Runs.{span-nil, block-up}
+use Rattle.coxeter.proofs.LetterRuns.{span-nil, block-up}
 
 -- ---- runs of numbers
 

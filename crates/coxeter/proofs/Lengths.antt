@@ -19,7 +19,7 @@ use Rattle.coxeter.specs.Checks.{hasSize, negativeInA}
 use Rattle.coxeter.specs.NormalForm.{rise, fall, block, levels, lastIndex, indexOf, restOf, normalFrom, normalForm}
 use Rattle.coxeter.proofs.Sizes.{natAbs-negℤ}
 use Rattle.coxeter.proofs.Levels.{Between, Accepted}
-use Rattle.coxeter.proofs.Runs.{length-span, length-slide, rise-span, fall-slide}
+use Rattle.coxeter.proofs.LetterRuns.{length-span, length-slide, rise-span, fall-slide}
 use Rattle.coxeter.proofs.Peeling.{placeFrom-peeled, indexOf-positive, indexOf-negative, restOf-peeled, restOf-restOf, between-restOf}
 use Rattle.coxeter.proofs.Peeling.{AtLevel, atLevel-of-accepted, peeled, atLevel-rest, atLevel-negativeInA, negatives-middle}
 use Rattle.coxeter.proofs.PairWeights.{weight, weights, pairWeights, signWeight, length-by-weights}

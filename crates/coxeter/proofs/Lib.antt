@@ -25,7 +25,7 @@ pub mod Order
 pub mod Orders
 pub mod PairWeights
 pub mod NegativeSums
-pub mod Runs
+pub mod LetterRuns
 pub mod BlockEntries
 pub mod Peeling
 pub mod BlockAction

@@ -17,7 +17,7 @@ use Rattle.coxeter.specs.Checks.{wrongLetter}
 use Rattle.coxeter.specs.NormalForm.{down, block, levels, lastIndex, blocks, Indices, none, level, without, indexOf, restOf, normalFrom, normalForm}
 use Rattle.coxeter.proofs.Relations.{wrongLetter-append, wrongLetter-cons}
 use Rattle.coxeter.proofs.Levels.{Accepted}
-use Rattle.coxeter.proofs.Runs.{span, slide, span-nil, Corner, block-up, block-turn, corner-le}
+use Rattle.coxeter.proofs.LetterRuns.{span, slide, span-nil, Corner, block-up, block-turn, corner-le}
 use Rattle.coxeter.proofs.Peeling.{restOf-positive, levels-le-lanes}
 use Rattle.coxeter.proofs.BlockAction.{corner}
 use Rattle.coxeter.proofs.Indices.{indices, window-indices, indices-in-range, indices-window}

@@ -11,7 +11,7 @@ ghost use Rattle.coxeter.specs.Windows.{identity};
 ghost use Rattle.coxeter.specs.Checks.{RankOf, WordOf, WindowOf};
 ghost use Rattle.coxeter.specs.Calls.{front, sameWindow};
 ghost use Rattle.coxeter.proofs.Acceptance.{Ranked};
-ghost use Rattle.shortest_words.proofs.Walk.{leftOver, placesKept, marked};
+ghost use Rattle.shortest_words.proofs.FallbackWalk.{leftOver, placesKept, marked};
 ghost use Rattle.shortest_words.proofs.Verdicts.{Decided};
 
 // A letter that is not kept becomes 0. Returns how many are kept; `w` becomes what is left of the target.

@@ -14,7 +14,7 @@ use lib.ListN.{length, getD}
 use borrow.Author.Tests.{lt-ltb, le-ltb}
 use Rattle.coxeter.specs.Kinds.{Kind, A, B, D, least}
 use Rattle.coxeter.specs.NormalForm.{block, blocks, Indices, none, level, levels, lastIndex}
-use Rattle.coxeter.proofs.Runs.{span, block-up, block-turn, corner-le}
+use Rattle.coxeter.proofs.LetterRuns.{span, block-up, block-turn, corner-le}
 use Rattle.coxeter.proofs.NormalForms.{normalForm-blocks}
 use Rattle.coxeter.proofs.Lengths.{blockLength, length-block}
 use Rattle.rules.specs.Rules.{rules, Irreducible}

@@ -10,7 +10,7 @@ use native.Mathlib.Decide.{decLe}
 use native.Mathlib.Omega.{arith}
 use Rattle.coxeter.specs.Kinds.{Kind}
 use Rattle.coxeter.specs.NormalForm.{block, lastIndex}
-use Rattle.coxeter.proofs.Runs.{span, span-cut, span-snoc, slide, slide-snoc, Corner, block-up, block-turn, slide-one, corner-le}
+use Rattle.coxeter.proofs.LetterRuns.{span, span-cut, span-snoc, slide, slide-snoc, Corner, block-up, block-turn, slide-one, corner-le}
 use Rattle.rules.proofs.Families.{RuleOf, square, commutation, carry, turn, five, six, seven, IsD}
 use Rattle.rules.proofs.Rewriting.{Rewrites, within}
 use Rattle.rules.proofs.NextLetter.{Last, rising, falling, Next, climbs, tops, falls, repeats}

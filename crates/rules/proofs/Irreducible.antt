@@ -10,7 +10,7 @@ use native.Mathlib.Omega.{arith}
 use Rattle.coxeter.specs.Kinds.{Kind, least}
 use Rattle.coxeter.specs.Checks.{wrongLetter}
 use Rattle.coxeter.specs.NormalForm.{block, blocks, Indices, none, level, levels, lastIndex}
-use Rattle.coxeter.proofs.Runs.{span-nil, Corner, block-up, corner-le}
+use Rattle.coxeter.proofs.LetterRuns.{span-nil, Corner, block-up, corner-le}
 use Rattle.rules.proofs.Rewriting.{Rewrites}
 use Rattle.rules.proofs.Ending.{letters-of-accepted}
 use Rattle.rules.proofs.NextLetter.{corner-levels, one-le-levels, le-lastIndex}

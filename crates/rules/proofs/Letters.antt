@@ -16,8 +16,8 @@ use borrow.Author.Tests.{le-leb, le-ltb}
 use Rattle.coxeter.specs.Kinds.{Kind, A, B, D, up, least}
 use Rattle.coxeter.specs.NormalForm.{down, rise, block, lastIndex}
 use Rattle.coxeter.specs.Relations.{Neighbours, FourfoldPair}
-use Rattle.coxeter.proofs.Runs.{span, slide, span-nil, span-cons, slide-nil, slide-snoc, rise-span}
-use Rattle.coxeter.proofs.Runs.{Corner, block-up, block-turn, span-one, slide-one, fall-slide, corner-le}
+use Rattle.coxeter.proofs.LetterRuns.{span, slide, span-nil, span-cons, slide-nil, slide-snoc, rise-span}
+use Rattle.coxeter.proofs.LetterRuns.{Corner, block-up, block-turn, span-one, slide-one, fall-slide, corner-le}
 use Rattle.rules.proofs.Families.{Commutes, Carries, Turns}
 
 -- ---- letters of a run

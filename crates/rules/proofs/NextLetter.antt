@@ -9,7 +9,7 @@ use native.Mathlib.Decide.{decLe, ℕ-discrete}
 use native.Mathlib.Omega.{arith}
 use Rattle.coxeter.specs.Kinds.{Kind, A, B, D, least}
 use Rattle.coxeter.specs.NormalForm.{levels, lastIndex}
-use Rattle.coxeter.proofs.Runs.{Corner}
+use Rattle.coxeter.proofs.LetterRuns.{Corner}
 use Rattle.rules.proofs.Families.{Commutes, Carries, Turns, IsD}
 use Rattle.coxeter.proofs.Order.{less, same, more, compared}
 use Rattle.rules.proofs.Letters.{commutes-below}

@@ -18,7 +18,7 @@ use lib.ListN.{length, take}
 use borrow.Author.Tests.{eq-eqb, ne-eqb, lt-ltb, le-ltb}
 use Rattle.coxeter.specs.Kinds.{Kind, A, B, D, pick, least}
 use Rattle.coxeter.specs.NormalForm.{block, levels, lastIndex}
-use Rattle.coxeter.proofs.Runs.{corner-le}
+use Rattle.coxeter.proofs.LetterRuns.{corner-le}
 use Rattle.rules.specs.Rules.{Rule, rule}
 use Rattle.rules.proofs.NextLetter.{le-corner, corner-levels, le-lastIndex, lastIndex-le}
 use Rattle.rules.proofs.Extending.{block-climb, block-top, block-fall}

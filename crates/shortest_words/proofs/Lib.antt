@@ -8,7 +8,7 @@ pub mod Deletion
 pub mod Places
 pub mod Descents
 pub mod Lifting
-pub mod Walk
+pub mod FallbackWalk
 pub mod Fallbacks
 pub mod Verdicts
 pub mod Allowed

@@ -31,7 +31,7 @@ use Rattle.shortest_words.specs.declared.Fallback.the-variants.{Kept, No
 use Rattle.shortest_words.specs.Fallback.{ShortestSubwordPlaces, someSubword, isFallback}
 use Rattle.shortest_words.specs.Calls.{fallbackOf, simplerLength, fallbackAnswer, keptCount, FellBack}
 use Rattle.shortest_words.proofs.Places.{someSubword-exactly}
-use Rattle.shortest_words.proofs.Walk.{leftOver, placesKept, walk-decides, walk-shortest-subword}
+use Rattle.shortest_words.proofs.FallbackWalk.{leftOver, placesKept, walk-decides, walk-shortest-subword}
 
 -- ---- a word and a target
 

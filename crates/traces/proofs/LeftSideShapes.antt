@@ -15,7 +15,7 @@ use lib.Seq.{getD-append-seam, getD-append-add}
 use borrow.Author.Tests.{lt-ltb, le-ltb}
 use Rattle.coxeter.specs.Kinds.{Kind, pick, least}
 use Rattle.coxeter.specs.NormalForm.{block, levels, lastIndex}
-use Rattle.coxeter.proofs.Runs.{corner-le}
+use Rattle.coxeter.proofs.LetterRuns.{corner-le}
 use Rattle.rules.specs.Rules.{Rule, rules, fits, Irreducible}
 use Rattle.rules.proofs.NextLetter.{corner-levels, le-lastIndex}
 use Rattle.rules.proofs.Letters.{block-one}

@@ -16,7 +16,7 @@ use lib.ListN.{length, getD}
 use borrow.Author.Tests.{eq-eqb, ne-eqb}
 use Rattle.coxeter.specs.Kinds.{Kind, A, B, D, pick, least}
 use Rattle.coxeter.specs.NormalForm.{block, levels, lastIndex}
-use Rattle.coxeter.proofs.Runs.{span-one, corner-le}
+use Rattle.coxeter.proofs.LetterRuns.{span-one, corner-le}
 use Rattle.rules.specs.Rules.{Rule, rules}
 use Rattle.rules.proofs.NextLetter.{corner-levels, le-lastIndex}
 use Rattle.rules.proofs.Extending.{block-cut, block-climb, block-top, block-fall}

@@ -20,7 +20,7 @@ use Rattle.coxeter.specs.Checks.{wrongLetter}
 use Rattle.coxeter.specs.NormalForm.{block, rise, levels, lastIndex}
 use Rattle.coxeter.proofs.LetterLaws.{letter-within-cons}
 use Rattle.coxeter.proofs.Lengths.{blockLength, length-block}
-use Rattle.coxeter.proofs.Runs.{corner-le}
+use Rattle.coxeter.proofs.LetterRuns.{corner-le}
 use Rattle.rules.specs.Rules.{rules, Irreducible}
 use Rattle.rules.proofs.NextLetter.{Last, rising, falling, corner-levels, lastIndex-le}
 use Rattle.rules.proofs.Extending.{Reducible, block-last}

@@ -25,8 +25,8 @@ use Rattle.book_format.proofs.Converting.{sizeOf, length-converted}
 -- ---- records by their number
 
 -- a record of an accepted book lies before its trailer
-pub inside : (ed : Edition) (b : List ℕ) (c i o : ℕ) → bookRefusal ed b ≡ 0 → c ≡ count b → i < c → o ≡ offset b i → endAt ed b o ≤ length b
-inside ed b c i o z e h q = endAt-read-le ed b i o (accepted ed b z) (omega arith) q
+pub endAt-inside : (ed : Edition) (b : List ℕ) (c i o : ℕ) → bookRefusal ed b ≡ 0 → c ≡ count b → i < c → o ≡ offset b i → endAt ed b o ≤ length b
+endAt-inside ed b c i o z e h q = endAt-read-le ed b i o (accepted ed b z) (omega arith) q
 
 -- ---- the checks
 

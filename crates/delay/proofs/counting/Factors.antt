@@ -15,8 +15,8 @@ use Rattle.distribution.proofs.Values.{values, valueAt, WithShiftedFit, length-
 -- ---- values with themselves shifted
 
 module _ (how : Combination) (b : ℕ) (f : ℕ → ℕ) (m : ℕ) (w : List ℕ) (e : w ≡ values f m) where
-  size : length w ≡ m
-  size = ap length e ∙ length-values f m
+  length-m : length w ≡ m
+  length-m = ap length e ∙ length-values f m
 
   own : (l : ℕ) → l < m → valueAt w l ≡ f l
   own l o = ap (λ (x : List ℕ). valueAt x l) e ∙ valueAt-values f m l o
@@ -25,12 +25,12 @@ module _ (how : Combination) (b : ℕ) (f : ℕ → ℕ) (m : ℕ) (w : List ℕ
   back l o = shifted-same b (valueAt w) f l (λ i h. own i (omega arith))
 
   pub with-fit : WithShiftedFit how b f m → WithShiftedFit how b (valueAt w) (length w)
-  with-fit h l o = let p : l < m = omega (arith, size) in rw (own l p, back l p) (h l p)
+  with-fit h l o = let p : l < m = omega (arith, length-m) in rw (own l p, back l p) (h l p)
 
   pub with-values : (v : List ℕ) → v ≡ values (withShifted how b (valueAt w)) (length w) → v ≡ values (withShifted how b f) m
   with-values v h =
       h
-      ∙ ap (values (withShifted how b (valueAt w))) size
+      ∙ ap (values (withShifted how b (valueAt w))) length-m
       ∙ values-same (withShifted how b (valueAt w)) (withShifted how b f) m (λ l o. ap₂ (combined how) (own l o) (back l o))
 
 -- ---- running sums

@@ -14,7 +14,7 @@ use Rattle.coxeter.specs.Calls.{front, sameWindow}
 use Rattle.coxeter.proofs.Acceptance.{Ranked, rank-accepted, letters-accepted, lanes-le}
 use Rattle.coxeter.proofs.Levels.{Accepted, accepted-of-refusal}
 use Rattle.shortest_words.specs.declared.Fallback.the-variants.{Kept, No, Refused}
-use Rattle.shortest_words.proofs.Walk.{leftOver, placesKept, marked}
+use Rattle.shortest_words.proofs.FallbackWalk.{leftOver, placesKept, marked}
 use Rattle.shortest_words.proofs.Verdicts.{Decided, decided-no, decided-short, decided-kept}
 
 -- what `decide` requires

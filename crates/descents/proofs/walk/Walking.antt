@@ -33,7 +33,7 @@ use Rattle.coxeter.proofs.FrontLaws.{sets-front}
 use Rattle.rules.proofs.ScanRules.{wrongLetter-drop}
 use Rattle.shortest_words.specs.Descents.{isDescent}
 use Rattle.shortest_words.proofs.Lifting.{descended}
-use Rattle.shortest_words.proofs.Walk.{leftOver, placesKept, marked}
+use Rattle.shortest_words.proofs.FallbackWalk.{leftOver, placesKept, marked}
 
 -- ---- letters kept
 

@@ -36,11 +36,11 @@ use Rattle.rewriter.proofs.ending.Ends.{Begun, blockEnding, endingOf, u
 
 module _ (k : Kind) (n : ℕ) (h : least k ≤ n) (w : List ℕ) (q : ℕ) (r : Reading k n w q) (o : 1 ≤ q) (p : ℕ) (b : Begun w n q p)
     (d : getD w (q - 1) 0 ≡ getD w q 0 → ⊥) (t : commuting n (levels k n) (getD w (q - 1) 0) (getD w q 0) ≡ false) where
-  inside : q < length w
-  inside = reading-inside k n h w q r
+  end-inside : q < length w
+  end-inside = reading-inside k n h w q r
 
-  within : (t : ℕ) → t < length w → getD w t 0 ≤ n
-  within t l = letter-within n w t l (wrongLetter-drop n t w (r .letters)) .1
+  letters-within : (t : ℕ) → t < length w → getD w t 0 ≤ n
+  letters-within t l = letter-within n w t l (wrongLetter-drop n t w (r .letters)) .1
 
   abbrev before : ℕ
   before = getD w (q - 1) 0
@@ -60,10 +60,10 @@ module _ (k : Kind) (n : ℕ) (h : least k ≤ n) (w : List ℕ) (q : ℕ) (r : 
     low = elim (decLe letter before) [ yes c ↦ falling c | no c ↦ rising (lt-of-not-le c) ]
       where
         x-in : (1 ≤ letter) × (letter ≤ n)
-        x-in = letter-within n w q inside (wrongLetter-drop n q w (r .letters))
+        x-in = letter-within n w q end-inside (wrongLetter-drop n q w (r .letters))
 
         l-in : (1 ≤ before) × (before ≤ n)
-        l-in = letter-within n w (q - 1) (omega (arith, inside)) (wrongLetter-drop n (q - 1) w (r .letters))
+        l-in = letter-within n w (q - 1) (omega (arith, end-inside)) (wrongLetter-drop n (q - 1) w (r .letters))
 
         falling : letter ≤ before → Low
         falling c =
@@ -96,7 +96,7 @@ module _ (k : Kind) (n : ℕ) (h : least k ≤ n) (w : List ℕ) (q : ℕ) (r : 
     part = drop p (take q w)
 
     part-size : length part ≡ q - p
-    part-size = length-drop p (take q w) ∙ rw (length-take-le q w (omega (arith, inside)))
+    part-size = length-drop p (take q w) ∙ rw (length-take-le q w (omega (arith, end-inside)))
 
     normal-part : Normal k n part
     normal-part =
@@ -109,7 +109,7 @@ module _ (k : Kind) (n : ℕ) (h : least k ≤ n) (w : List ℕ) (q : ℕ) (r : 
 
     part-cons : part ≡ i ∷ drop (suc p) (take q w)
     part-cons =
-        drop-cons (take q w) p 0 (rw (length-take-le q w (omega (arith, inside))) (low .before-q))
+        drop-cons (take q w) p 0 (rw (length-take-le q w (omega (arith, end-inside))) (low .before-q))
         ∙ ap (λ (y : ℕ). y ∷ drop (suc p) (take q w)) (getD-take q w p 0 (low .before-q) ∙ e)
 
     there : (j : ℕ) × Along k n i j × (i ∷ drop (suc p) (take q w) ≡ block k n i j)
@@ -118,7 +118,7 @@ module _ (k : Kind) (n : ℕ) (h : least k ≤ n) (w : List ℕ) (q : ℕ) (r : 
         part-block k n i (drop (suc p) (take q w)) h (low .one-le) (low .below-n)
         (letter-within-cons n i (drop (suc p) (take q w)) (subst (λ (u : List ℕ). wrongLetter n u ≡ false) part-cons (normal-part .letters)) .2)
         (λ t l.
-        let v : suc p + t < q = omega (arith, length-drop (suc p) (take q w), length-take-le q w (omega (arith, inside))) in
+        let v : suc p + t < q = omega (arith, length-drop (suc p) (take q w), length-take-le q w (omega (arith, end-inside))) in
         rw (getD-drop (suc p) (take q w) t 0, getD-take q w (suc p + t) 0 v) (low .at-least (suc p + t) (omega arith) v))
         (subst (Irreducible (rules k n)) part-cons (normal-part .irreducible))
 
@@ -154,20 +154,20 @@ module _ (k : Kind) (n : ℕ) (h : least k ≤ n) (w : List ℕ) (q : ℕ) (r : 
       index-is = rw u at f ∙ sym index-there
 
       pub index-small : (v ≤ n) × (j ≤ 2 * n) × (getD w q 0 ≤ n)
-      index-small = (omega (arith, low .below-n), omega (arith, index-is, along-le k n i (there .0) h (there .1)), within q inside)
+      index-small = (omega (arith, low .below-n), omega (arith, index-is, along-le k n i (there .0) h (there .1)), letters-within q end-inside)
 
     -- the search of one rewrite comes to the letter with this block
     searching : Searching k n (take (q + 1) w) p i (there .0) q
     searching =
         let j = there .0 in
-        let one : take (q + 1) w ≡ take q w ++ (letter ∷ []) = upto-one q w ∙ take-suc w q 0 inside in
-        let size : length (take q w) ≡ q = length-take-le q w (omega (arith, inside)) in
+        let one : take (q + 1) w ≡ take q w ++ (letter ∷ []) = upto-one q w ∙ take-suc w q 0 end-inside in
+        let size : length (take q w) ≡ q = length-take-le q w (omega (arith, end-inside)) in
         let last : drop q (take (q + 1) w) ≡ letter ∷ [] = ap (drop q) one ∙ drop-at (take q w) (letter ∷ []) q size in
         let whole : drop p (take (q + 1) w) ≡ block k n i j ++ (letter ∷ []) =
         ap (drop p) one ∙ drop-append-le p (take q w) (letter ∷ []) (omega (arith, low .before-q))
         ∙ ap (λ (u : List ℕ). u ++ (letter ∷ [])) (part-cons ∙ there .2) in
         record {
-          inside = rw (upto-one q w, length-take-le (suc q) w inside) (omega arith);
+          inside = rw (upto-one q w, length-take-le (suc q) w end-inside) (omega arith);
           along = there .1;
           passed = omega (arith, low .before-q, ap length (there .2), ap length part-cons, part-size);
           rest = ap (scan k n) whole ∙ scan-block k n i j h (there .1) (letter ∷ []) ∙ ap (walk k n i j) (sym last);
@@ -183,7 +183,7 @@ module _ (k : Kind) (n : ℕ) (h : least k ≤ n) (w : List ℕ) (q : ℕ) (r : 
     last-letter = getD-take (q + 1) w q 0 (omega arith)
 
     long-enough : q < length (take (q + 1) w)
-    long-enough = rw (upto-one q w, length-take-le (suc q) w inside) (omega arith)
+    long-enough = rw (upto-one q w, length-take-le (suc q) w end-inside) (omega arith)
 
     -- the rule with the left side [i,j] x, as the code tells it
     abbrev told : ℕ → ℕ → Ending
@@ -197,7 +197,7 @@ module _ (k : Kind) (n : ℕ) (h : least k ≤ n) (w : List ℕ) (q : ℕ) (r : 
         stays z =
             let v = searching-next k n (take (q + 1) w) searchable (levels k n) (lastIndex k n i) p i (there .0) q s refl refl searching long-enough
             (rw last-letter x) z in
-            let u = searching-end k n (take (q + 1) w) searchable p i s (q + 1) v (rw (upto-one q w, length-take-le (suc q) w inside) (omega arith)) in
+            let u = searching-end k n (take (q + 1) w) searchable p i s (q + 1) v (rw (upto-one q w, length-take-le (suc q) w end-inside) (omega arith)) in
             rw (ne-eqb s 0 z) (ending-none k n h w q r o p b d t _ refl (sym u))
 
         leaves : s ≡ 0 → told s f ≡ endingOf (lowestRedex k n (take (suc q) w))

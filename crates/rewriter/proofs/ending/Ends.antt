@@ -138,15 +138,15 @@ module _ (k : Kind) (n : ℕ) (h : least k ≤ n) (w : List ℕ) (q : ℕ) (r : 
   reading : Reading k n w (suc (q - 1))
   reading = subst (Reading k n w) back r
 
-  pub within : (t : ℕ) → t < length w → getD w t 0 ≤ n
-  within t l = letter-within n w t l (wrongLetter-drop n t w (r .letters)) .1
+  pub letters-within : (t : ℕ) → t < length w → getD w t 0 ≤ n
+  letters-within t l = letter-within n w t l (wrongLetter-drop n t w (r .letters)) .1
 
-  pub inside : q < length w
-  inside = reading-inside k n h w q r
+  pub end-inside : q < length w
+  end-inside = reading-inside k n h w q r
 
   pub ending-square : before ≡ letter → ending.Rule 1 (q - 1) 0 ≡ endingOf (lowestRedex k n (take (suc q) w))
   ending-square e =
-      let u = square-redex k n h w (q - 1) reading (ap (λ (t : ℕ). getD w t 0) (sym back) ∙ sym e) (within (q - 1) (omega (arith, inside))) in
+      let u = square-redex k n h w (q - 1) reading (ap (λ (t : ℕ). getD w t 0) (sym back) ∙ sym e) (letters-within (q - 1) (omega (arith, end-inside))) in
       sym (ap endingOf (ap (λ (t : ℕ). lowestRedex k n (take (suc t) w)) back ∙ u))
 
   module _ (p : ℕ) (b : Begun w n q p) (d : before ≡ letter → ⊥) (t : commuting n (levels k n) before letter ≡ false) where
@@ -161,7 +161,7 @@ module _ (k : Kind) (n : ℕ) (h : least k ≤ n) (w : List ℕ) (q : ℕ) (r : 
               place-falling k n h w (q - 1) reading s e′ (suc q - 2 * n) p (rw x (omega arith)) f
               (rw x (subst (λ (i : ℕ). Stopped w (suc q - 2 * n) i letter p) back (b .2 c)))
           | no c ↦
-              place-rising k n h w (q - 1) reading s e′ (suc q - 2 * n) p (rw x (lt-of-not-le c)) (rw x (within q inside)) (rw x t) f
+              place-rising k n h w (q - 1) reading s e′ (suc q - 2 * n) p (rw x (lt-of-not-le c)) (rw x (letters-within q end-inside)) (rw x t) f
               (b .1 (lt-of-not-le c))
         ]
 
@@ -194,7 +194,7 @@ module _ (k : Kind) (n : ℕ) (h : least k ≤ n) (w : List ℕ) (q : ℕ) (r : 
 
       module _ (f i j l : ℕ) (z : a ≡ found.Rule f i j l) where
         handed : Fitted k n (take (q + 1) w) p f i j l
-        handed = fitted k n (take (q + 1) w) p f i j l a h (rw (upto-one q w) (simp length-take (omega (arith, inside, b .0)))) e z
+        handed = fitted k n (take (q + 1) w) p f i j l a h (rw (upto-one q w) (simp length-take (omega (arith, end-inside, b .0)))) e z
 
         found-redex : lowestRedex k n (take (suc q) w) ≡ some (record { place = p; rule = shownRule n f i j (take l (drop p (take (q + 1) w))) })
         found-redex =

@@ -23,7 +23,7 @@ use Rattle.rules.proofs.NextLetter.{corner-levels, lastIndex-le}
 use Rattle.rules.proofs.Scan.{fork, nextIndex, familyAt, shownIndex, ruleAt, found, walk, scan, going, Along, start, further, along-next, walk-next}
 use Rattle.rules.proofs.ScanRules.{wrongLetter-drop, scan-is-firstFitting}
 use Rattle.rules.proofs.Letters.{block-one}
-use Rattle.coxeter.proofs.Runs.{corner-le}
+use Rattle.coxeter.proofs.LetterRuns.{corner-le}
 
 -- a rule that fits, as the search hands it on
 abbrev pub fittingOf : Option Rule → Fitting

@@ -13,7 +13,7 @@ use native.Mathlib.Omega.{arith}
 use borrow.Author.Tests.{le-leb, lt-leb, le-ltb}
 use Rattle.coxeter.specs.Kinds.{Kind, B, D, least}
 use Rattle.coxeter.specs.NormalForm.{rise, fall, block}
-use Rattle.coxeter.proofs.Runs.{slide, rise-span, fall-slide, span-cons, span-nil, slide-cons, slide-nil}
+use Rattle.coxeter.proofs.LetterRuns.{slide, rise-span, fall-slide, span-cons, span-nil, slide-cons, slide-nil}
 use Rattle.coxeter.proofs.Lists.{Stored, Storing, stored-of-storing, storing-all}
 
 -- ---- letters up and down

@@ -128,16 +128,16 @@ xor-lowest x =
     let rest : (2 * x + 1) % 2 ≡ 1 = omega arith in
     xor-step (2 * x + 1) 1 ∙ rw (half, rest, xor-zero-r x) (omega arith)
 
-kept : (t : Bool) (z : ℕ) → z * 2 + differ (one t) 0 ≡ 2 * z + one t
+double-one : (t : Bool) (z : ℕ) → z * 2 + differ (one t) 0 ≡ 2 * z + one t
 unfolding one
-kept true z = omega arith
-kept false z = omega arith
+double-one true z = omega arith
+double-one false z = omega arith
 
 xor-higher : (t : Bool) (x y : ℕ) → bitXor (2 * x + one t) (2 * y) ≡ 2 * bitXor x y + one t
 xor-higher t x y =
     let half : 2 * y / 2 ≡ y = omega arith in
     let rest : 2 * y % 2 ≡ 0 = omega arith in
-    xor-step (2 * x + one t) (2 * y) ∙ rw (digit-half t x, digit-odd t x, half, rest) (kept t (bitXor x y))
+    xor-step (2 * x + one t) (2 * y) ∙ rw (digit-half t x, digit-odd t x, half, rest) (double-one t (bitXor x y))
 
 pub positions-taken : (i : ℕ) (u : List ℤ) (e : ℤ) (v : List ℤ) → natAbs e ≡ i → hasSize i u ≡ false → hasSize i v ≡ false
     → positionsFrom (suc i) (u ++ (e ∷ v)) ≡ bitXor (positionsFrom i (u ++ (e ∷ v))) (2 ^ length u)

@@ -10,11 +10,11 @@ use Rattle.book.proofs.converting.has_too_many_lanes.Statement.{stateme
 use Rattle.book.proofs.converting.has_too_many_lanes.Tie as tie
 
 -- the head of a record of the second edition lies inside the book
-inside : (c : tie.After-enum-told2) → c .before .before .args .o + 3 ≤ length (now (c .before .before .args .book))
-inside c = rw (c .enum-told2 .given .1) at (c .before .before .pre)
+head-inside : (c : tie.After-enum-told2) → c .before .before .args .o + 3 ≤ length (now (c .before .before .args .book))
+head-inside c = rw (c .enum-told2 .given .1) at (c .before .before .pre)
 
 shared-slice-read-result : tie.Need-shared-slice-read-result
-shared-slice-read-result c = omega (arith, inside (c .before))
+shared-slice-read-result c = omega (arith, head-inside (c .before))
 
 returns : tie.Need-returns
 unfolding tooManyLanes

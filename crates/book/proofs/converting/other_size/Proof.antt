@@ -2,7 +2,7 @@
 -- Assumes nothing.
 use native.Mathlib.Omega.{arith}
 use Rattle.book_format.proofs.BookLaws.{counted-some}
-use Rattle.book.proofs.converting.ConversionChecks.{inside}
+use Rattle.book.proofs.converting.ConversionChecks.{endAt-inside}
 use Rattle.book.proofs.converting.Conversions.{size-of-other}
 use borrow.Author.Needs.{needs}
 use Rattle.book.proofs.converting.other_size.Statement.{statement}
@@ -17,7 +17,7 @@ two-at-requires : tie.Need-two-at-requires
 two-at-requires c κs =
     let read = c .before .before .before in
     let pre = read .before .before .pre in
-    omega (arith, inside _ _ _ _ _ (pre .0 .opens) (pre .1) (pre .2) (read .record-start .ensures .0), c .before .before .count-place .ensures .0)
+    omega (arith, endAt-inside _ _ _ _ _ (pre .0 .opens) (pre .1) (pre .2) (read .record-start .ensures .0), c .before .before .count-place .ensures .0)
 
 returns : tie.Need-returns
 returns c =

@@ -3,7 +3,7 @@
 use mathlib.Core.Path.{sym, _∙_}
 use native.Mathlib.Omega.{arith}
 use Rattle.book_format.proofs.BookLaws.{accepted, counted}
-use Rattle.book.proofs.converting.ConversionChecks.{inside, refused-by-itself, lanes-decide}
+use Rattle.book.proofs.converting.ConversionChecks.{endAt-inside, refused-by-itself, lanes-decide}
 use borrow.Author.Needs.{needs}
 use Rattle.book.proofs.converting.record_refusal.Statement.{statement}
 use Rattle.book.proofs.converting.record_refusal.Tie as tie
@@ -16,13 +16,13 @@ record-start-requires c κs =
 check-record-requires : tie.Need-check-record-requires
 check-record-requires c κs =
     let pre = c .before .before .pre in
-    (omega (arith, accepted _ _ (pre .0)), inside _ _ _ _ _ (pre .0) (pre .1) (pre .2) (c .record-start .ensures .0))
+    (omega (arith, accepted _ _ (pre .0)), endAt-inside _ _ _ _ _ (pre .0) (pre .1) (pre .2) (c .record-start .ensures .0))
 
 has-too-many-lanes-requires : tie.Need-has-too-many-lanes-requires
 has-too-many-lanes-requires c κs =
     let found = c .before .before .before in
     let pre = found .before .before .pre in
-    omega (arith, inside _ _ _ _ _ (pre .0) (pre .1) (pre .2) (found .record-start .ensures .0))
+    omega (arith, endAt-inside _ _ _ _ _ (pre .0) (pre .1) (pre .2) (found .record-start .ensures .0))
 
 returns : tie.Need-returns
 returns c =

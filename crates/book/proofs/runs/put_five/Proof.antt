@@ -3,7 +3,7 @@
 use denote.Ref.{now}
 use native.Mathlib.Omega.{arith}
 use lib.ListN.{length-set}
-use Rattle.book.proofs.runs.Runs.{sets-five}
+use Rattle.book.proofs.runs.StoredRuns.{sets-five}
 use borrow.Author.Needs.{needs}
 use Rattle.book.proofs.runs.put_five.Statement.{statement}
 use Rattle.book.proofs.runs.put_five.Tie as tie

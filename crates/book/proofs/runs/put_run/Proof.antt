@@ -8,7 +8,7 @@ use lib.ListN.{length}
 use lib.Seq.{sets}
 use Rattle.book_format.specs.Calls.{presetFields}
 use Rattle.book_format.proofs.BookLaws.{accepted}
-use Rattle.book.proofs.runs.Runs.{run-start, run-step, run-end}
+use Rattle.book.proofs.runs.StoredRuns.{run-start, run-step, run-end}
 use Rattle.book.proofs.runs.put_run.Statement.{statement}
 use Rattle.book.proofs.runs.put_run.Tie as tie
 

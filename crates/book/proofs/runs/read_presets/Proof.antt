@@ -5,7 +5,7 @@ use mathlib.Core.Path.{sym, _∙_}
 use native.Mathlib.Omega.{arith}
 use Rattle.book_format.proofs.BookLaws.{never-one}
 use Rattle.book_format.proofs.RunLaws.{reading-book, reading-number, reading-short, reading-run}
-use Rattle.book.proofs.runs.Runs.{run-fits}
+use Rattle.book.proofs.runs.StoredRuns.{run-fits}
 use borrow.Author.Needs.{needs}
 use Rattle.book.proofs.runs.read_presets.Statement.{statement}
 use Rattle.book.proofs.runs.read_presets.Tie as tie

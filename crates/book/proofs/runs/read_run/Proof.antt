@@ -6,7 +6,7 @@ use native.Mathlib.Nat.{min-le-right}
 use native.Mathlib.Omega.{arith}
 use borrow.Author.Needs.{needs}
 use Rattle.book_format.specs.Calls.{checkedPreset}
-use Rattle.book.proofs.runs.Runs.{Begun, slots, begun-none, begun-next, presets-whole, preset-from}
+use Rattle.book.proofs.runs.StoredRuns.{Begun, slots, begun-none, begun-next, presets-whole, preset-from}
 use Rattle.book.proofs.runs.read_run.Statement.{statement}
 use Rattle.book.proofs.runs.read_run.Tie as tie
 

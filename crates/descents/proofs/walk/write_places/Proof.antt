@@ -7,7 +7,7 @@ use native.Mathlib.Omega.{arith}
 use lib.ListN.{length, drop}
 use borrow.Author.Needs.{needs}
 use Rattle.coxeter.proofs.Lists.{Storing, storing-all}
-use Rattle.shortest_words.proofs.Walk.{marked}
+use Rattle.shortest_words.proofs.FallbackWalk.{marked}
 use Rattle.descents.proofs.walk.Walking.{writing-room, writing-kept, writing-left, writing-end}
 use Rattle.descents.proofs.walk.write_places.Statement.{statement}
 use Rattle.descents.proofs.walk.write_places.Tie as tie

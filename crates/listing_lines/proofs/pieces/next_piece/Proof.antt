@@ -79,8 +79,8 @@ front c =
     let t = turn (joined c) in
     line-front _ _ _ _ _ _ (below t) (omega (arith, t .before .loop .inv .2)) (rw (answered (joined c) _ .1) at (c .put-nth .ensures))
 
-inside : (c : tie.After-put-nth Inv-loop μ-loop) → c .put-nth .result ≤ length (c .put-nth .last .1 .1 .1 .1 .0)
-inside c =
+line-ends-inside : (c : tie.After-put-nth Inv-loop μ-loop) → c .put-nth .result ≤ length (c .put-nth .last .1 .1 .1 .1 .0)
+line-ends-inside c =
     let t = turn (joined c) in
     omega (arith, front c .0, length-line-le _ _ _ (below t), t .before .loop .inv .2, c .put-nth .kept .1 .1 .1 .1 .0)
 
@@ -136,15 +136,15 @@ returns c =
     filling-full _ _ _ _ _ _ _ _ (t .before .loop .inv .0) _ (t .loop-test .taken) (front m .0) (c .if2 .taken)
 
 array-share-prefix-line : tie.Need-array-share-prefix-line Inv-loop μ-loop
-array-share-prefix-line c = inside (c .before .before .before)
+array-share-prefix-line c = line-ends-inside (c .before .before .before)
 
 slice-aggregate-put-bytes : tie.Need-slice-aggregate-put-bytes Inv-loop μ-loop
-slice-aggregate-put-bytes c = sym (length-take-le _ _ (inside (c .before .before .before .before)))
+slice-aggregate-put-bytes c = sym (length-take-le _ _ (line-ends-inside (c .before .before .before .before)))
 
 put-bytes-requires : tie.Need-put-bytes-requires Inv-loop μ-loop
 put-bytes-requires c κs =
     let m = c .before .before .before .before in
-    rw (length-take-le _ _ (inside m)) (omega (arith, c .before .before .if2 .left, turn (joined m) .before .loop .inv .0 .inside))
+    rw (length-take-le _ _ (line-ends-inside m)) (omega (arith, c .before .before .if2 .left, turn (joined m) .before .loop .inv .0 .inside))
 
 add-next : tie.Need-add-next Inv-loop μ-loop
 add-next c =

@@ -19,8 +19,8 @@ abbrev μ-loop : tie.MeasureT-loop
 μ-loop edition book out₀ first₀ out first = lineCount edition book - first
 
 -- a piece ends inside the buffer, which keeps its size
-inside : (c : tie.After-next-piece Inv-loop μ-loop) → c .next-piece .result .end ≤ length (c .next-piece .last .1 .1 .1 .0)
-inside c = omega (arith, piece-inside _ _ _ _ _ (c .next-piece .ensures .0), c .next-piece .kept .1 .1 .1 .0)
+piece-ends-inside : (c : tie.After-next-piece Inv-loop μ-loop) → c .next-piece .result .end ≤ length (c .next-piece .last .1 .1 .1 .0)
+piece-ends-inside c = omega (arith, piece-inside _ _ _ _ _ (c .next-piece .ensures .0), c .next-piece .kept .1 .1 .1 .0)
 
 loop-holds : tie.Need-loop-holds Inv-loop μ-loop
 loop-holds c = sym (c .large-buffer .ensures)
@@ -29,10 +29,10 @@ slice-aggregate-next-piece : tie.Need-slice-aggregate-next-piece Inv-loop μ-loo
 slice-aggregate-next-piece c = sym (c .before .loop .inv)
 
 array-share-prefix-out : tie.Need-array-share-prefix-out Inv-loop μ-loop
-array-share-prefix-out c = inside (c .before)
+array-share-prefix-out c = piece-ends-inside (c .before)
 
 slice-aggregate-print : tie.Need-slice-aggregate-print Inv-loop μ-loop
-slice-aggregate-print c = sym (length-take-le _ _ (inside (c .before .before)))
+slice-aggregate-print c = sym (length-take-le _ _ (piece-ends-inside (c .before .before)))
 
 loop-less : tie.Need-loop-less Inv-loop μ-loop
 loop-less c =

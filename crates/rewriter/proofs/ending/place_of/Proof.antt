@@ -3,7 +3,7 @@
 use mathlib.Core.Path.{refl, sym, _∙_}
 use Prim.Native.Nat.{_-_}
 use native.Mathlib.Omega.{arith}
-use Rattle.rewriter.proofs.ending.Ends.{within, begun-rising, begun-falling}
+use Rattle.rewriter.proofs.ending.Ends.{letters-within, begun-rising, begun-falling}
 use Rattle.rewriter.proofs.ending.Rising.{stopped-rising}
 use borrow.Author.Needs.{needs}
 use Rattle.rewriter.proofs.ending.place_of.Statement.{statement}
@@ -15,7 +15,7 @@ returns c = begun-rising _ _ _ _ _ _ _ (c .before .before .floor-of .ensures) re
 cast-back : tie.Need-cast-back
 cast-back c =
     let s = c .before .before .before .before .before .before in
-    omega (arith, within _ _ (s .pre .0 .0) _ _ (s .pre .1 .0) (s .pre .1 .1) (s .args .q - 1) (omega arith))
+    omega (arith, letters-within _ _ (s .pre .0 .0) _ _ (s .pre .1 .0) (s .pre .1 .1) (s .args .q - 1) (omega arith))
 
 returns-2 : tie.Need-returns-2
 returns-2 c =

@@ -31,23 +31,23 @@ size-is c =
     let e = getD (turn .before .before .args .w .now) (turn .before .loop .i) (pos 0) in
     c .size .ensures ∙ ap natAbs (element-back e (c .before .e .given))
 
-few : (c : tie.After-size Inv-loop μ-loop) → length (c .before .before .before .before .args .w .now) ≤ 64
-few c = let pre = c .before .before .before .before .pre in window-fits _ _ _ (pre .0) (pre .1 .0)
+at-most-64 : (c : tie.After-size Inv-loop μ-loop) → length (c .before .before .before .before .args .w .now) ≤ 64
+at-most-64 c = let pre = c .before .before .before .before .pre in window-fits _ _ _ (pre .0) (pre .1 .0)
 
 bounds : (c : tie.After-size Inv-loop μ-loop) → (1 ≤ c .size .result) × (c .size .result ≤ 64)
 bounds c =
     let turn = c .before .before in
     let b = entry-bounds _ _ _ _ (turn .before .before .pre .1 .0) (turn .loop-test .taken) in
-    (omega (arith, size-is c, b .0), omega (arith, size-is c, b .1, few c))
+    (omega (arith, size-is c, b .0), omega (arith, size-is c, b .1, at-most-64 c))
 
 sub-s : tie.Need-sub-s Inv-loop μ-loop
 sub-s c = bounds c .0
 
 cast-place-of : tie.Need-cast-place-of Inv-loop μ-loop
-cast-place-of c = record { fits = omega (arith, few c) }
+cast-place-of c = record { fits = omega (arith, at-most-64 c) }
 
 place-of-requires : tie.Need-place-of-requires Inv-loop μ-loop
-place-of-requires c κs = omega (arith, few c)
+place-of-requires c κs = omega (arith, at-most-64 c)
 
 element-write-places : tie.Need-element-write-places Inv-loop μ-loop
 element-write-places c = omega (arith, bounds (c .before))
@@ -56,7 +56,7 @@ loop-again : tie.Need-loop-again Inv-loop μ-loop
 loop-again c =
     let sized = c .before in
     let turn = sized .before .before in
-    stored-next _ _ _ _ _ _ _ (turn .before .before .pre .1 .0) (few sized) (turn .loop-test .taken) (sized .before .e .given) (size-is sized)
+    stored-next _ _ _ _ _ _ _ (turn .before .before .pre .1 .0) (at-most-64 sized) (turn .loop-test .taken) (sized .before .e .given) (size-is sized)
     (c .place-of .ensures) (turn .before .loop .inv)
 
 returns : tie.Need-returns Inv-loop μ-loop

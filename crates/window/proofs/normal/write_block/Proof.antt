@@ -5,7 +5,7 @@ use native.Mathlib.Omega.{arith}
 use borrow.Author.Needs.{needs}
 use Rattle.coxeter.specs.NormalForm.{rise, block}
 use Rattle.coxeter.specs.Kinds.{kindOf}
-use Rattle.coxeter.proofs.Runs.{rise-span, block-up}
+use Rattle.coxeter.proofs.LetterRuns.{rise-span, block-up}
 use Rattle.window.proofs.normal.write_block.Statement.{statement}
 use Rattle.window.proofs.normal.write_block.Tie as tie
 

@@ -3,7 +3,7 @@
 -- Assumes nothing.
 use borrow.Author.Needs.{needs}
 use Rattle.coxeter.specs.NormalForm.{fall}
-use Rattle.coxeter.proofs.Runs.{slide}
+use Rattle.coxeter.proofs.LetterRuns.{slide}
 use Rattle.coxeter.proofs.Lists.{Storing, storing-next, storing-room}
 use Rattle.window.proofs.normal.Blocks.{storing-fall, storing-down, stored-down}
 use Rattle.window.proofs.normal.write_down.Statement.{statement}
