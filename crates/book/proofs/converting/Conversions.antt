@@ -1,11 +1,9 @@
--- A conversion as the code makes it, record by record: the checks, what is left to write of the records and of
--- their offsets, and the answers.
+-- A conversion as the code makes it, record by record: what is left to write of the records and of their offsets, and
+-- the answers. ConversionChecks.antt has the checks.
 --
--- Sections: records by their number; the checks; what is left to write; the records, one after the other; their
--- offsets; the whole; the answers.
+-- Sections: what is left to write; the records, one after the other; their offsets; the whole; the answers.
 -- Assumes nothing.
 use mathlib.Core.Path.{_≡_, refl, sym, ap, _∙_}
-use mathlib.Core.Bool.{Bool}
 use mathlib.Core.List.{List, [], _∷_, _++_}
 use Prim.Native.Nat.{ℕ, suc, _+_, _-_, _*_, _≤_, _<_}
 use native.Mathlib.Nat.{zero-add}
@@ -13,88 +11,23 @@ use native.Mathlib.Numerals.{add-one}
 use native.Mathlib.Omega.{arith}
 use lib.ListN.{length, getD, take, drop, length-append}
 use lib.Seq.{sets, length-sets}
-use borrow.Author.Tests.{eq-eqb, ne-eqb, lt-ltb, le-ltb}
-use Rattle.coxeter.specs.Checks.{check, RankOf}
+use Rattle.coxeter.specs.Checks.{RankOf}
 use Rattle.coxeter.specs.declared.Answer.the-variants as answer
 use Rattle.coxeter.proofs.Lists.{Storing, storing-all, sets-next}
 use Rattle.coxeter.proofs.Outcomes.{writes-refused, writes-short, writes-done, writes-written}
-use Rattle.coxeter.proofs.Refusals.{then-some, then-none}
 use Rattle.coxeter.proofs.FrontLaws.{sets-front}
 use Rattle.book_format.specs.declared.Edition.{Edition}
-use Rattle.book_format.specs.declared.Preset.the-variants as preset
 use Rattle.book_format.specs.Books.{twoAt, two, count, offset, countPlace, headSize, kindAt, rankAt}
-use Rattle.book_format.specs.Books.{lanesAt, letterCountAt, lettersAt, endAt, tooLarge, bookRefusal, recordOf}
+use Rattle.book_format.specs.Books.{lanesAt, letterCountAt, lettersAt, recordOf}
 use Rattle.book_format.specs.Records.{recordBytes, offsetBytes, layOut, recordAt, recordsFrom, recordsOf}
-use Rattle.book_format.specs.Calls.{checkedRecord}
-use Rattle.book_format.specs.Conversion.{other, converted, tooManyLanes, recordConversionRefusal, recordsConversionRefusal, conversionRefusal, converting}
-use Rattle.book_format.proofs.BookLaws.{accepted, endAt-read-le, end-read-le}
+use Rattle.book_format.specs.Conversion.{other, converted, conversionRefusal, converting}
+use Rattle.book_format.proofs.BookLaws.{accepted, end-read-le}
 use Rattle.book_format.proofs.RankLaws.{bookRank-accepted}
-use Rattle.book_format.proofs.PresetLaws.{record-found, record-refused}
 use Rattle.book_format.proofs.WritingLaws.{length-two, length-recordOf}
 use Rattle.book_format.proofs.RecordLaws.{length-lettersAt, length-recordsFrom}
 use Rattle.book_format.proofs.LayOuts.{length-offsetBytes}
 use Rattle.book_format.proofs.Converting.{Convertible, converted-some, converted-bytes, conversion-opens, passing-at, sizeOf, length-converted}
-
--- ---- records by their number
-
--- a record of an accepted book lies before its trailer
-pub inside : (ed : Edition) (b : List ℕ) (c i o : ℕ) → bookRefusal ed b ≡ 0 → c ≡ count b → i < c → o ≡ offset b i → endAt ed b o ≤ length b
-inside ed b c i o z e h q = endAt-read-le ed b i o (accepted ed b z) (omega arith) q
-
--- ---- the checks
-
--- the record at byte o: what its own checks answered, t whether it has too many lanes
-pub refused-by-itself : (ed : Edition) (b : List ℕ) (o o′ r : ℕ) → o ≡ o′ → preset.Refused r ≡ checkedRecord ed b o → r ≡ recordConversionRefusal ed b o′
-unfolding recordConversionRefusal
-refused-by-itself ed b o o′ r e q =
-    let s = record-refused ed b o r q in
-    rw (← e, s .0) (sym (then-some r (check 18 (tooManyLanes ed b o)) (s .1)))
-
-pub lanes-decide : (ed : Edition) (b : List ℕ) (o o′ k n s l : ℕ) (t : Bool) → o ≡ o′ → preset.Found k n s l ≡ checkedRecord ed b o → t ≡ tooManyLanes ed b o
-    → check 18 t ≡ recordConversionRefusal ed b o′
-unfolding recordConversionRefusal
-lanes-decide ed b o o′ k n s l t e q w = rw (← e, record-found ed b o k n s l q, ← w)
-
--- those of the records from record i on, of c in all: r is that of record i
-module _ (ed : Edition) (b : List ℕ) (c i : ℕ) where
-  pub checks-start : recordsConversionRefusal ed b c 0 ≡ recordsConversionRefusal ed b (c - 0) 0
-  checks-start = let e : c - 0 ≡ c = omega arith in rw e
-
-  pub checks-end : c ≤ i → recordsConversionRefusal ed b (c - i) i ≡ 0
-  unfolding recordsConversionRefusal
-  checks-end h = let e : c - i ≡ 0 = omega arith in rw e
-
-  module _ (r : ℕ) (h : i < c) (q : r ≡ recordConversionRefusal ed b (offset b i)) where
-    pub checks-stop : (r ≡ 0 → ⊥) → recordsConversionRefusal ed b (c - i) i ≡ r
-    unfolding recordsConversionRefusal
-    checks-stop f = let e : c - i ≡ suc (c - (i + 1)) = omega arith in rw (e, ← q) (then-some r (recordsConversionRefusal ed b (c - (i + 1)) (suc i)) f)
-
-    pub checks-next : r ≡ 0 → recordsConversionRefusal ed b (c - i) i ≡ recordsConversionRefusal ed b (c - (i + 1)) (i + 1)
-    unfolding recordsConversionRefusal
-    checks-next z = let e : c - i ≡ suc (c - suc i) = omega arith in rw (e, ← q, add-one i) (then-none r (recordsConversionRefusal ed b (c - suc i) (suc i)) z)
-
--- all of them: r is the refusal of the book, s that of the records, m the size of the new book
-module _ (ed : Edition) (b : List ℕ) (r : ℕ) (e : r ≡ bookRefusal ed b) where
-  pub conversion-book : (r ≡ 0 → ⊥) → r ≡ conversionRefusal ed b
-  unfolding conversionRefusal
-  conversion-book f = rw (← e, ne-eqb r 0 f)
-
-  module _ (z : r ≡ 0) (c s : ℕ) (n : c ≡ count b) (q : s ≡ recordsConversionRefusal ed b c 0) where
-    pub conversion-records : (s ≡ 0 → ⊥) → s ≡ conversionRefusal ed b
-    unfolding conversionRefusal
-    conversion-records f = rw (← e, eq-eqb r 0 z, ← n, ← q, ne-eqb s 0 f)
-
-    module _ (y : s ≡ 0) (m : ℕ) (w : m ≡ sizeOf ed (length b) c) where
-      size-is : length (converted ed b) ≡ m
-      size-is = length-converted ed b (accepted ed b (sym e ∙ z)) ∙ rw (w, n)
-
-      pub conversion-large : 65535 < m → 13 ≡ conversionRefusal ed b
-      unfolding conversionRefusal tooLarge
-      conversion-large h = rw (← e, eq-eqb r 0 z, ← n, ← q, eq-eqb s 0 y, size-is, lt-ltb 65535 m h)
-
-      pub conversion-none : m ≤ 65535 → 0 ≡ conversionRefusal ed b
-      unfolding conversionRefusal tooLarge
-      conversion-none h = rw (← e, eq-eqb r 0 z, ← n, ← q, eq-eqb s 0 y, size-is, le-ltb 65535 m h)
+use Rattle.book.proofs.converting.ConversionChecks.{endAt-inside}
 
 -- ---- what is left to write
 
@@ -147,7 +80,7 @@ module _ (ed : Edition) (b : List ℕ) (w : Convertible ed b) (c : ℕ) (n : c �
   pub length-bytesAt : (i : ℕ) → i < c → length (bytesAt ed b i) ≡ headSize (other ed) + letterCountAt ed b (offset b i)
   length-bytesAt i h =
       length-recordOf (other ed) (kindAt b (offset b i)) (rankAt b (offset b i)) (lanesAt ed b (offset b i)) (lettersAt ed b (offset b i))
-      ∙ rw (length-lettersAt ed b (offset b i) (inside ed b c i (offset b i) (w .opens) n h refl))
+      ∙ rw (length-lettersAt ed b (offset b i) (endAt-inside ed b c i (offset b i) (w .opens) n h refl))
 
   -- record i as the code stores it: o is where it begins, p the place of its letter count l
   module _ (i o p l : ℕ) (h : i < c) (q : o ≡ offset b i) (f : p ≡ countPlace ed) (g : l ≡ twoAt b (o + p)) where
@@ -163,12 +96,12 @@ module _ (ed : Edition) (b : List ℕ) (w : Convertible ed b) (c : ℕ) (n : c �
       letters-are = let s : o + m + l - (o + m) ≡ l = omega arith in rw (s, d, g, f, q)
 
       pub end-inside : o + m + l ≤ length b
-      end-inside = end-read-le ed b o p m l f d g (inside ed b c i o (w .opens) n h q)
+      end-inside = end-read-le ed b o p m l f d g (endAt-inside ed b c i o (w .opens) n h q)
 
       pub room-for : (to : Edition) (at most : ℕ) → to ≡ other ed → at + headSize (other ed) + letterCountAt ed b (offset b i) ≤ most
           → at + headSize to + length (take (o + m + l - (o + m)) (drop (o + m) b)) ≤ most
       room-for to at most e k =
-          rw (letters-are, e, length-lettersAt ed b (offset b i) (inside ed b c i (offset b i) (w .opens) n h refl)) k
+          rw (letters-are, e, length-lettersAt ed b (offset b i) (endAt-inside ed b c i (offset b i) (w .opens) n h refl)) k
 
       pub other-written : (to : Edition) (at m′ : ℕ) (out out′ : List ℕ) → m′ ≡ lanesAt ed b o → to ≡ other ed
           → out′ ≡ sets out at (recordOf to (getD b o 0) (getD b (o + 1) 0) m′ (take (o + m + l - (o + m)) (drop (o + m) b)))
@@ -221,7 +154,7 @@ module _ (ed : Edition) (b : List ℕ) (w : Convertible ed b) (c : ℕ) (n : c �
       → offsetsLeft ed b c o i ≡ two o ++ offsetsLeft ed b c (o + x) (i + 1)
   unfolding offsetBytes
   offsetsLeft-next o i x h k =
-      let l = length-lettersAt ed b (offset b i) (inside ed b c i (offset b i) (w .opens) n h refl) in
+      let l = length-lettersAt ed b (offset b i) (endAt-inside ed b c i (offset b i) (w .opens) n h refl) in
       let e : o + headSize (other ed) + length (lettersAt ed b (offset b i)) ≡ o + x = omega arith in
       rw (records-left ed b c i h, e)
 

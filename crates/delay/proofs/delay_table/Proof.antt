@@ -8,8 +8,8 @@ use Rattle.delay.proofs.delay_table.Tie as tie
 
 write-table-requires : tie.Need-write-table-requires
 write-table-requires c κs =
-    let m = c .before .before .before .before in
-    count-of-lanes _ _ _ (m .before .before .tabled-lanes .ensures) _ (m .m .given .1)
+    let after-m = c .before .before .before .before in
+    count-of-lanes _ _ _ (after-m .before .before .tabled-lanes .ensures) _ (after-m .m .given .1)
 
 returns-2 : tie.Need-returns-2
 returns-2 c =

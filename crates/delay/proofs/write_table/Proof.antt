@@ -33,8 +33,8 @@ write-longest-requires : tie.Need-write-longest-requires
 write-longest-requires c κs =
     let letters = c .before .before .before .before .before in
     let entries = letters .before in
-    let pre = entries .before .before .before .before .before .pre in
-    (table-accepted _ _ (pre .0), (pre .1, entries .if2 .left))
+    let entry = entries .before .before .before .before .before in
+    (table-accepted _ _ (entry .pre .0), (entry .pre .1, entries .if2 .left))
 
 write-form-requires : tie.Need-write-form-requires
 write-form-requires c κs =

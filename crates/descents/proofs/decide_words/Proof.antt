@@ -13,22 +13,24 @@ slice-aggregate-decide c =
 
 slice-aggregate-decide-2 : tie.Need-slice-aggregate-decide-2
 slice-aggregate-decide-2 c =
-    let b = c .before .before .before .before .before .before .before in
-    part-length _ _ _ _ _ (b .show .ensures .1) refl (b .show .ensures .0)
+    let after-show = c .before .before .before .before .before .before .before in
+    part-length _ _ _ _ _ (after-show .show .ensures .1) refl (after-show .show .ensures .0)
 
 decide-requires : tie.Need-decide-requires
 decide-requires c κs =
-    let f = c .before .before .before .before in
-    let b = f .before .before .before .before in
-    words-decide-requires _ _ _ _ _ _ (part-is _ _ _ _ _ (f .write-form .ensures) refl) (part-is _ _ _ _ _ (b .show .ensures .1) refl)
-    (b .before .before .before .before .before .before .pre .0)
+    let after-write-form = c .before .before .before .before in
+    let after-show = after-write-form .before .before .before .before in
+    let entry = after-show .before .before .before .before .before .before in
+    words-decide-requires _ _ _ _ _ _ (part-is _ _ _ _ _ (after-write-form .write-form .ensures) refl) (part-is _ _ _ _ _ (after-show .show .ensures .1) refl)
+    (entry .pre .0)
 
 returns : tie.Need-returns
 returns c =
-    let f = c .before .before .before .before .before .before .before .before .before in
-    let b = f .before .before .before .before in
-    words-decided _ _ _ _ _ _ (part-is _ _ _ _ _ (f .write-form .ensures) refl) (part-is _ _ _ _ _ (b .show .ensures .1) refl)
-    _ _ _ (c .before .before .before .before .decide .ensures)
+    let after-decide = c .before .before .before .before in
+    let after-write-form = c .before .before .before .before .before .before .before .before .before in
+    let after-show = after-write-form .before .before .before .before in
+    words-decided _ _ _ _ _ _ (part-is _ _ _ _ _ (after-write-form .write-form .ensures) refl) (part-is _ _ _ _ _ (after-show .show .ensures .1) refl)
+    _ _ _ (after-decide .decide .ensures)
 
 pub decide-words-spec : {M : Type 1} → statement M
 decide-words-spec =

@@ -18,8 +18,9 @@ decide-words-requires c κs =
 
 returns-2 : tie.Need-returns-2
 returns-2 c =
-    let b = c .before .before .before .before .before in
-    fellBack-decided _ _ _ _ _ _ (b .ranked-words-refusal .ensures) _ _ (c .before .before .before .before .if1 .left)
+    let past-if1 = c .before .before .before .before in
+    let after-ranked-words-refusal = c .before .before .before .before .before in
+    fellBack-decided _ _ _ _ _ _ (after-ranked-words-refusal .ranked-words-refusal .ensures) _ _ (past-if1 .if1 .left)
     (c .before .before .decide-words .ensures)
 
 pub fallback-places-spec : {M : Type 1} → statement M

@@ -15,9 +15,9 @@ split-accepted-requires c κs =
 
 returns-2 : tie.Need-returns-2
 returns-2 c =
-    let f = c .before .before .before .before in
-    let b = f .before .before .before in
-    split-passed _ _ _ _ _ (b .before .split-refusal .ensures) _ _ (b .if1 .left) _ _ _ (f .split-accepted .ensures)
+    let after-split-accepted = c .before .before .before .before in
+    let b = after-split-accepted .before .before .before in
+    split-passed _ _ _ _ _ (b .before .split-refusal .ensures) _ _ (b .if1 .left) _ _ _ (after-split-accepted .split-accepted .ensures)
 
 pub split-word-spec : {M : Type 1} → statement M
 split-word-spec =

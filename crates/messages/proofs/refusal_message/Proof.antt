@@ -26,7 +26,8 @@ returns-2 : tie.Need-returns-2
 unfolding messages ends joined codes codesFrom
 returns-2 c =
     let put = c .before .before in
-    said _ _ _ _ _ (stands-part (message-stands _ (put .before .before .before .before .if1 .left))) (put .put .ensures)
+    let past-if1 = put .before .before .before .before in
+    said _ _ _ _ _ (stands-part (message-stands _ (past-if1 .if1 .left))) (put .put .ensures)
 
 pub refusal-message-spec : {M : Type 1} → statement M
 refusal-message-spec =

@@ -71,11 +71,11 @@ write-rewritten-requires c κs =
 
 returns-5 : tie.Need-returns-5
 returns-5 c =
-    let e = c .before .before .before .before in
-    let b = e .before .before .before in
+    let past-if3 = c .before .before .before .before in
+    let b = past-if3 .before .before .before in
     rewrote-used _ _ _ _ _ (passed (checked b)) (b .before .before .before .if2 .left) _ _ _ _ _ (handed b)
-    (e .before .new-length .ensures) _
-    (e .if3 .left)
+    (past-if3 .before .new-length .ensures) _
+    (past-if3 .if3 .left)
     (c .before .before .write-rewritten .ensures)
 
 pub rewrite-at-spec : {M : Type 1} → statement M

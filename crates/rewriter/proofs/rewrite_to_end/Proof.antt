@@ -52,30 +52,30 @@ returns-5 c =
 
 write-trace-requires : tie.Need-write-trace-requires
 write-trace-requires c κs =
-    let e = c .before .before .before .before in
-    let d = e .before in
+    let past-if5 = c .before .before .before .before in
+    let d = past-if5 .before in
     let b = d .before in
     let a = b .before in
     let n = a .before in
     let i = n .before in
     let r = i .before in (
       accepted _ _ _ _ (r .preset-refusal .ensures) (i .if1 .left),
-      (n .count .ensures .0, ((a .if2 .left, b .if3 .left, d .if4 .left), rw (n .count .ensures .1) at (e .if5 .left))),
+      (n .count .ensures .0, ((a .if2 .left, b .if3 .left, d .if4 .left), rw (n .count .ensures .1) at (past-if5 .if5 .left))),
     )
 
 returns-6 : tie.Need-returns-6
 returns-6 c =
-    let w = c .before .before .before .before .before .before .before .before in
-    let e = w .before .before .before .before .before in
-    let d = e .before in
+    let after-write-trace = c .before .before .before .before .before .before .before .before in
+    let past-if5 = after-write-trace .before .before .before .before .before in
+    let d = past-if5 .before in
     let b = d .before in
     let a = b .before in
     let n = a .before in
     let i = n .before in
     let r = i .before in
-    let t = w .write-trace .ensures in
+    let t = after-write-trace .write-trace .ensures in
     traced-done _ _ _ _ (r .preset-refusal .ensures) _ _ _ _ _ (i .if1 .left) (n .count .ensures .0) (a .if2 .left) (b .if3 .left) (d .if4 .left)
-    _ (n .count .ensures .1) _ _ _ _ (e .if5 .left) (t .0) (t .1) (t .2) (t .3)
+    _ (n .count .ensures .1) _ _ _ _ (past-if5 .if5 .left) (t .0) (t .1) (t .2) (t .3)
 
 pub rewrite-to-end-spec : {M : Type 1} → statement M
 rewrite-to-end-spec =

@@ -15,7 +15,9 @@ unfolding normalFormOfWindow
 returns c = writes-refused _ _ _ _ _ refl (c .before .ranked-window-refusal .ensures) (c .if1 .taken)
 
 slice-aggregate-write-checked : tie.Need-slice-aggregate-write-checked
-slice-aggregate-write-checked c = sym (ap length (take-length (c .before .before .before .before .args .w .now)))
+slice-aggregate-write-checked c =
+    let entry = c .before .before .before .before in
+    sym (ap length (take-length (entry .args .w .now)))
 
 write-checked-requires : tie.Need-write-checked-requires
 write-checked-requires c κs =

@@ -15,7 +15,8 @@ use Rattle.window.proofs.product_of_words.Tie as tie
 
 -- kind, rank and letters passed, and m is the lane count
 counted : (c : tie.After-m)
-    → let a = c .before .before .before .before .before .before .args in
+    → let entry = c .before .before .before .before .before .before in
+    let a = entry .args in
     RankOf (a .kind) (a .rank) × ((c .m .given .0 .0 ≡ lanes (kindOf (a .kind)) (a .rank)) × (WordOf (a .rank) (a .u .now) × WordOf (a .rank) (a .v .now)))
 counted c = words-counted _ _ _ _ _ _ (c .before .before .ranked-words-lanes .ensures) (c .m .given .1)
 
@@ -27,10 +28,11 @@ show-product-requires c κs =
 
 -- what the work window holds after the call
 held : (c : tie.After-show-product)
-    → let m = c .before .before .before .before in
-    let a = m .before .before .before .before .before .before .args in
+    → let after-m = c .before .before .before .before in
+    let entry = after-m .before .before .before .before .before .before in
+    let a = entry .args in
     let k = kindOf (a .kind) in
-    Front (a .kind) (a .rank) (m .m .given .0 .0) (product (window k (a .rank) (a .u .now)) (window k (a .rank) (a .v .now)))
+    Front (a .kind) (a .rank) (after-m .m .given .0 .0) (product (window k (a .rank) (a .u .now)) (window k (a .rank) (a .v .now)))
     (c .show-product .last .1 .1 .1 .1 .1 .0)
 held c =
     let made = c .before .before in
@@ -46,15 +48,16 @@ slice-aggregate-write-checked c = held (c .before .before) .size
 write-checked-requires : tie.Need-write-checked-requires
 write-checked-requires c κs =
     let made = c .before .before .before in
-    (counted (made .before .before .before .before) .0, held made .passes)
+    let after-m = made .before .before .before .before in
+    (counted after-m .0, held made .passes)
 
 returns : tie.Need-returns
 unfolding productOfWords
 returns c =
     let called = c .before .before in
     let made = called .before .before .before .before in
-    let m = made .before .before .before .before in
-    let p = count-of-lanes _ _ _ (m .before .before .ranked-words-lanes .ensures) _ (m .m .given .1) in
+    let after-m = made .before .before .before .before in
+    let p = count-of-lanes _ _ _ (after-m .before .before .ranked-words-lanes .ensures) _ (after-m .m .given .1) in
     form-written _ _ _ _ _ (held made) _ _ _ _ _ refl (p .0) (called .write-checked .ensures)
 
 returns-2 : tie.Need-returns-2

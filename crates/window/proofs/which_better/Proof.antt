@@ -22,7 +22,8 @@ equal-words-requires c κs =
 
 -- a word is handed back exactly when the windows are equal
 hands : (c : tie.After-equal-words)
-    → let a = c .before .before .before .before .before .before .before .args in
+    → let entry = c .before .before .before .before .before .before .before in
+    let a = entry .args in
     handsBack (a .kind) (a .rank) (a .u .now) (a .v .now) ≡ c .equal-words .result
 hands c =
     let m = c .before .before in

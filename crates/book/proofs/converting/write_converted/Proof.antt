@@ -9,25 +9,29 @@ use Rattle.book.proofs.converting.write_converted.Tie as tie
 write-offsets-requires : tie.Need-write-offsets-requires
 write-offsets-requires c κs =
     let others = c .before .before .before in
-    let pre = others .before .before .before .before .pre in
+    let entry = others .before .before .before .before in
+    let pre = entry .pre in
     (pre .0, pre .1, omega (arith, pre .2, length-parts _ _ (pre .0) _ (pre .1), others .write-others .ensures .1, others .write-others .kept .1 .1 .1 .0))
 
 mul-put-two : tie.Need-mul-put-two
 mul-put-two c =
     let others = c .before .before .before .before .before .before .before in
-    let pre = others .before .before .before .before .pre in
+    let entry = others .before .before .before .before in
+    let pre = entry .pre in
     omega (arith, length-parts _ _ (pre .0) _ (pre .1), pre .0 .small)
 
 add-put-two : tie.Need-add-put-two
 add-put-two c =
     let others = c .before .before .before .before .before .before .before in
-    let pre = others .before .before .before .before .pre in
+    let entry = others .before .before .before .before in
+    let pre = entry .pre in
     omega (arith, length-parts _ _ (pre .0) _ (pre .1), pre .0 .small, others .write-others .ensures .1)
 
 put-two-requires : tie.Need-put-two-requires
 put-two-requires c κs =
     let others = c .before .before .before .before .before .before .before in
-    let pre = others .before .before .before .before .pre in
+    let entry = others .before .before .before .before in
+    let pre = entry .pre in
     omega (
       arith,
       pre .2,
@@ -42,8 +46,8 @@ returns c =
     let put = c .before .before in
     let offsets = put .before .before .before .before in
     let others = offsets .before .before .before .before in
-    let pre = others .before .before .before .before .pre in
-    all-written _ _ (pre .0) _ (pre .1) _ _ _ _ _ (others .write-others .ensures) (offsets .write-offsets .ensures) (put .put-two .ensures)
+    let entry = others .before .before .before .before in
+    all-written _ _ (entry .pre .0) _ (entry .pre .1) _ _ _ _ _ (others .write-others .ensures) (offsets .write-offsets .ensures) (put .put-two .ensures)
 
 pub write-converted-spec : {M : Type 1} → statement M
 write-converted-spec =

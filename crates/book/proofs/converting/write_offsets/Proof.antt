@@ -19,32 +19,32 @@ loop-holds c = let pre = c .before .before .pre in offsets-start _ _ (pre .0) _ 
 mul-put-two : tie.Need-mul-put-two Inv-loop μ-loop
 mul-put-two c =
     let turn = c .before in
-    let pre = turn .before .before .before .before .pre in
-    omega (arith, pre .2, turn .loop-test .taken)
+    let entry = turn .before .before .before .before in
+    omega (arith, entry .pre .2, turn .loop-test .taken)
 
 add-put-two : tie.Need-add-put-two Inv-loop μ-loop
 add-put-two c =
     let turn = c .before in
-    let pre = turn .before .before .before .before .pre in
-    omega (arith, pre .2, turn .loop-test .taken)
+    let entry = turn .before .before .before .before in
+    omega (arith, entry .pre .2, turn .loop-test .taken)
 
 put-two-requires : tie.Need-put-two-requires Inv-loop μ-loop
 put-two-requires c κs =
     let turn = c .before in
-    let pre = turn .before .before .before .before .pre in
-    omega (arith, pre .2, turn .loop-test .taken, turn .before .loop .inv .storing .size)
+    let entry = turn .before .before .before .before in
+    omega (arith, entry .pre .2, turn .loop-test .taken, turn .before .loop .inv .storing .size)
 
 other-size-requires : tie.Need-other-size-requires Inv-loop μ-loop
 other-size-requires c κs =
     let turn = c .before .before .before .before in
-    let pre = turn .before .before .before .before .pre in
-    (pre .0, pre .1, turn .loop-test .taken)
+    let entry = turn .before .before .before .before in
+    (entry .pre .0, entry .pre .1, turn .loop-test .taken)
 
 add-o : tie.Need-add-o Inv-loop μ-loop
 add-o c =
     let turn = c .before .before .before .before .before in
-    let pre = turn .before .before .before .before .pre in
-    omega (arith, offset-small _ _ (pre .0) _ (pre .1) _ _ _ _ _ (turn .before .loop .inv) (turn .loop-test .taken), c .other-size .ensures)
+    let entry = turn .before .before .before .before in
+    omega (arith, offset-small _ _ (entry .pre .0) _ (entry .pre .1) _ _ _ _ _ (turn .before .loop .inv) (turn .loop-test .taken), c .other-size .ensures)
 
 add-i : tie.Need-add-i Inv-loop μ-loop
 add-i c = omega arith
@@ -55,8 +55,8 @@ loop-less c = omega arith
 loop-again : tie.Need-loop-again Inv-loop μ-loop
 loop-again c =
     let turn = c .before .before .before .before .before in
-    let pre = turn .before .before .before .before .pre in
-    offsets-next _ _ (pre .0) _ (pre .1) _ _ _ _ _ (turn .before .loop .inv) _ _ (turn .loop-test .taken)
+    let entry = turn .before .before .before .before in
+    offsets-next _ _ (entry .pre .0) _ (entry .pre .1) _ _ _ _ _ (turn .before .loop .inv) _ _ (turn .loop-test .taken)
     (c .before .before .before .put-two .ensures) (c .other-size .ensures)
 
 same-length : tie.Need-same-length Inv-loop μ-loop
@@ -64,8 +64,8 @@ same-length c = c .before .loop .inv .storing .size
 
 returns : tie.Need-returns Inv-loop μ-loop
 returns c =
-    let pre = c .before .before .before .before .pre in
-    offsets-end _ _ (pre .0) _ (pre .1) _ _ _ _ _ (c .before .loop .inv) (c .loop-test .left)
+    let entry = c .before .before .before .before in
+    offsets-end _ _ (entry .pre .0) _ (entry .pre .1) _ _ _ _ _ (c .before .loop .inv) (c .loop-test .left)
 
 pub write-offsets-spec : {M : Type 1} → statement M
 write-offsets-spec =

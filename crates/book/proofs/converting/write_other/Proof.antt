@@ -3,7 +3,8 @@
 -- Assumes nothing.
 use native.Mathlib.Omega.{arith}
 use Rattle.book_format.proofs.BookLaws.{accepted, counted-some, two-le-countPlace}
-use Rattle.book.proofs.converting.Conversions.{inside, rank-passed, end-inside, room-for, other-written}
+use Rattle.book.proofs.converting.ConversionChecks.{endAt-inside}
+use Rattle.book.proofs.converting.Conversions.{rank-passed, end-inside, room-for, other-written}
 use borrow.Author.Needs.{needs}
 use Rattle.book.proofs.converting.write_other.Statement.{statement}
 use Rattle.book.proofs.converting.write_other.Tie as tie
@@ -17,14 +18,14 @@ two-at-requires : tie.Need-two-at-requires
 two-at-requires c κs =
     let read = c .before .before in
     let pre = read .before .before .before .pre .0 in
-    omega (arith, inside _ _ _ _ _ (pre .0 .opens) (pre .1) (pre .2) (read .record-start .ensures .0), c .before .count-place .ensures .0)
+    omega (arith, endAt-inside _ _ _ _ _ (pre .0 .opens) (pre .1) (pre .2) (read .record-start .ensures .0), c .before .count-place .ensures .0)
 
 lanes-at-requires : tie.Need-lanes-at-requires
 lanes-at-requires c κs =
     let placed = c .before .before in
     let read = placed .before in
     let pre = read .before .before .before .pre .0 in
-    let o = inside _ _ _ _ _ (pre .0 .opens) (pre .1) (pre .2) (read .record-start .ensures .0) in (
+    let o = endAt-inside _ _ _ _ _ (pre .0 .opens) (pre .1) (pre .2) (read .record-start .ensures .0) in (
       rank-passed _ _ (pre .0) _ (pre .1) _ _ _ _ (pre .2) (read .record-start .ensures .0) (placed .count-place .ensures .0) (c .two-at .ensures .0),
       (omega (arith, o), omega (arith, accepted _ _ (pre .0 .opens))),
     )
@@ -33,7 +34,7 @@ shared-slice-read-write-record : tie.Need-shared-slice-read-write-record
 shared-slice-read-write-record c =
     let read = c .before .before .before .before .before .before in
     let pre = read .before .before .before .pre .0 in
-    omega (arith, inside _ _ _ _ _ (pre .0 .opens) (pre .1) (pre .2) (read .record-start .ensures .0))
+    omega (arith, endAt-inside _ _ _ _ _ (pre .0 .opens) (pre .1) (pre .2) (read .record-start .ensures .0))
 
 shared-slice-read-write-record-2 : tie.Need-shared-slice-read-write-record-2
 shared-slice-read-write-record-2 c =
@@ -41,7 +42,7 @@ shared-slice-read-write-record-2 c =
     let start = read .before .before .before in
     let pre = start .pre .0 in
     let h = two-le-countPlace (start .args .edition) in
-    omega (arith, inside _ _ _ _ _ (pre .0 .opens) (pre .1) (pre .2) (read .record-start .ensures .0))
+    omega (arith, endAt-inside _ _ _ _ _ (pre .0 .opens) (pre .1) (pre .2) (read .record-start .ensures .0))
 
 part-write-record-end : tie.Need-part-write-record-end
 part-write-record-end c =
@@ -55,6 +56,7 @@ part-write-record-end c =
 
 write-record-requires : tie.Need-write-record-requires
 write-record-requires c κs =
+    let after-other = c .before .before .before .before in
     let laned = c .before .before .before .before .before in
     let counted = laned .before in
     let headed = counted .before in
@@ -64,12 +66,13 @@ write-record-requires c κs =
     let pre = start .pre .0 in (
       laned .lanes-at .ensures .1,
       room-for _ _ (pre .0) _ (pre .1) _ _ _ _ (pre .2) (read .record-start .ensures .0) (placed .count-place .ensures .0) (counted .two-at .ensures .0)
-          _ (headed .head-size .ensures .0) _ _ _ (c .before .before .before .before .other .ensures) (start .pre .1),
+          _ (headed .head-size .ensures .0) _ _ _ (after-other .other .ensures) (start .pre .1),
     )
 
 returns : tie.Need-returns
 returns c =
     let written = c .before .before in
+    let after-other = written .before .before .before .before .before in
     let laned = written .before .before .before .before .before .before in
     let counted = laned .before in
     let headed = counted .before in
@@ -77,7 +80,7 @@ returns c =
     let read = placed .before in
     let pre = read .before .before .before .pre .0 in
     other-written _ _ (pre .0) _ (pre .1) _ _ _ _ (pre .2) (read .record-start .ensures .0) (placed .count-place .ensures .0) (counted .two-at .ensures .0)
-    _ (headed .head-size .ensures .0) _ _ _ _ _ (laned .lanes-at .ensures .0) (written .before .before .before .before .before .other .ensures)
+    _ (headed .head-size .ensures .0) _ _ _ _ _ (laned .lanes-at .ensures .0) (after-other .other .ensures)
     (written .write-record .ensures)
 
 pub write-other-spec : {M : Type 1} → statement M

@@ -23,20 +23,22 @@ loop-holds c = let pre = c .before .before .pre in others-start _ _ (pre .0) _ (
 write-other-requires : tie.Need-write-other-requires Inv-loop μ-loop
 write-other-requires c κs =
     let turn = c .before in
-    let pre = turn .before .before .before .before .pre in
+    let entry = turn .before .before .before .before in
+    let pre = entry .pre in
     let test = turn .loop-test .taken in
     ((pre .0, pre .1, test), others-room _ _ (pre .0) _ (pre .1) _ _ _ _ (turn .before .loop .inv) test (pre .2))
 
 other-size-requires : tie.Need-other-size-requires Inv-loop μ-loop
 other-size-requires c κs =
     let turn = c .before .before .before .before in
-    let pre = turn .before .before .before .before .pre in
-    (pre .0, pre .1, turn .loop-test .taken)
+    let entry = turn .before .before .before .before in
+    (entry .pre .0, entry .pre .1, turn .loop-test .taken)
 
 add-p : tie.Need-add-p Inv-loop μ-loop
 add-p c =
     let turn = c .before .before .before .before .before in
-    let pre = turn .before .before .before .before .pre in
+    let entry = turn .before .before .before .before in
+    let pre = entry .pre in
     let inv = turn .before .loop .inv in
     omega (arith, others-room _ _ (pre .0) _ (pre .1) _ _ _ _ inv (turn .loop-test .taken) (pre .2), inv .size, c .other-size .ensures)
 
@@ -49,8 +51,8 @@ loop-less c = omega arith
 loop-again : tie.Need-loop-again Inv-loop μ-loop
 loop-again c =
     let turn = c .before .before .before .before .before in
-    let pre = turn .before .before .before .before .pre in
-    others-next _ _ (pre .0) _ (pre .1) _ _ _ _ (turn .before .loop .inv) _ _ (turn .loop-test .taken)
+    let entry = turn .before .before .before .before in
+    others-next _ _ (entry .pre .0) _ (entry .pre .1) _ _ _ _ (turn .before .loop .inv) _ _ (turn .loop-test .taken)
     (c .before .before .before .write-other .ensures) (c .other-size .ensures)
 
 same-length : tie.Need-same-length Inv-loop μ-loop
@@ -58,8 +60,8 @@ same-length c = c .before .loop .inv .size
 
 returns : tie.Need-returns Inv-loop μ-loop
 returns c =
-    let pre = c .before .before .before .before .pre in
-    others-end _ _ (pre .0) _ (pre .1) _ _ _ _ (c .before .loop .inv) (c .loop-test .left)
+    let entry = c .before .before .before .before in
+    others-end _ _ (entry .pre .0) _ (entry .pre .1) _ _ _ _ (c .before .loop .inv) (c .loop-test .left)
 
 pub write-others-spec : {M : Type 1} → statement M
 write-others-spec =

@@ -25,8 +25,8 @@ returns-4 c =
 
 -- the answer after the walk
 walked : (c : tie.After-is-misplaced)
-    → let a = c .before .before .before .before .before .before .before .args in
-    bookRefusal (a .edition) (now (a .book)) ≡ check 3 (c .is-misplaced .result)
+    → let entry = c .before .before .before .before .before .before .before in
+    bookRefusal (entry .args .edition) (now (entry .args .book)) ≡ check 3 (c .is-misplaced .result)
 walked c =
     let sized = c .before .before .before in
     bookRefusal-walk _ _ _ _ (sized .before .if2 .left) (sized .if3 .left) (c .before .before .count-of .ensures .0) (c .before .if4 .left)

@@ -12,7 +12,8 @@ use Rattle.book.proofs.reading.check_record.Tie as tie
 
 -- kind and rank passed, and m is their lane count
 counted : (c : tie.After-m)
-    → let a = c .before .before .before .before .before .before .before .before .args in
+    → let entry = c .before .before .before .before .before .before .before .before in
+    let a = entry .args in
     (bookRankRefusal (a .edition) (kindAt (a .book .now) (a .o)) (rankAt (a .book .now) (a .o)) ≡ 0)
     × (c .m .given .0 .0 ≡ lanes (kindOf (kindAt (a .book .now) (a .o))) (rankAt (a .book .now) (a .o)))
 counted c = count-of-lanes _ _ _ (c .before .before .book-lanes .ensures) _ (c .m .given .1)

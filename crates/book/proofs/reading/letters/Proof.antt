@@ -11,7 +11,8 @@ use Rattle.book.proofs.reading.letters.Tie as tie
 
 -- the preset that was found
 at : (c : tie.After-start)
-    → let a = c .before .before .before .before .args in
+    → let entry = c .before .before .before .before in
+    let a = entry .args in
     let g = c .start .given .0 in
     Found (a .edition) (now (a .book)) (a .number) (g .0) (g .1 .0) (g .1 .1 .0) (g .1 .1 .1 .0)
 at c = found _ _ _ _ _ _ _ (sym (c .start .given .1) ∙ c .before .before .check-preset .ensures)

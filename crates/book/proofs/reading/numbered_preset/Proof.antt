@@ -12,7 +12,7 @@ use Rattle.book.proofs.reading.numbered_preset.Statement.{statement}
 use Rattle.book.proofs.reading.numbered_preset.Tie as tie
 
 -- the book is accepted and has the preset
-has : (c : tie.Else2) → let a = c .before .before .before .before .args in
+has : (c : tie.Else2) → let entry = c .before .before .before .before in let a = entry .args in
     (bookRefusal (a .edition) (now (a .book)) ≡ 0) × (a .number < count (now (a .book)))
 has c =
     let opened = c .before .before in

@@ -27,14 +27,17 @@ shared-slice-read-lanes-of-2 c = omega (arith, first-inside (c .before .before))
 returns : tie.Need-returns
 returns c =
     let called = c .before .before in
+    let entry = called .before .before .before .before .before .before in
     let refused = refusal-of-lanes _ _ _ (called .lanes-of .ensures) _ (c .enum-told2 .given .1) in
-    absurd (refused .1 (refused .0 ∙ called .before .before .before .before .before .before .pre .0))
+    absurd (refused .1 (refused .0 ∙ entry .pre .0))
 
 shared-slice-read-result : tie.Need-shared-slice-read-result
 shared-slice-read-result c = omega (arith, second-inside (c .before))
 
 cast-result : tie.Need-cast-result
-cast-result c = omega (arith, c .shared-slice-known4 .given (c .before .before .before .before .args .o + 2))
+cast-result c =
+    let entry = c .before .before .before .before in
+    omega (arith, c .shared-slice-known4 .given (entry .args .o + 2))
 
 returns-2 : tie.Need-returns-2
 returns-2 c =
@@ -46,7 +49,8 @@ returns-2 c =
 
 returns-3 : tie.Need-returns-3
 returns-3 c =
-    rw (c .before .enum-told3 .given .1) (refl, omega (arith, c .shared-slice-known4 .given (c .before .before .before .before .args .o + 2)))
+    let entry = c .before .before .before .before in
+    rw (c .before .enum-told3 .given .1) (refl, omega (arith, c .shared-slice-known4 .given (entry .args .o + 2)))
 
 pub lanes-at-spec : {M : Type 1} → statement M
 lanes-at-spec =

@@ -25,19 +25,23 @@ loop-holds c = (omega arith, refl, run-start _ _ _ _ _)
 
 add-numbered-preset : tie.Need-add-numbered-preset Inv-loop μ-loop
 add-numbered-preset c =
-    let pre = c .before .before .before .before .pre in
+    let entry = c .before .before .before .before in
+    let pre = entry .pre in
     omega (arith, accepted _ _ (pre .0) .inside, accepted _ _ (pre .0) .longer, accepted _ _ (pre .0) .most, pre .1)
 
 numbered-preset-requires : tie.Need-numbered-preset-requires Inv-loop μ-loop
-numbered-preset-requires c κs = sym (c .before .before .before .before .pre .0)
+numbered-preset-requires c κs =
+    let entry = c .before .before .before .before in
+    sym (entry .pre .0)
 
 mul-put-preset : tie.Need-mul-put-preset Inv-loop μ-loop
-mul-put-preset c = let pre = c .before .before .before .before .before .before .pre in omega (arith, pre .2)
+mul-put-preset c = let entry = c .before .before .before .before .before .before in omega (arith, entry .pre .2)
 
 put-preset-requires : tie.Need-put-preset-requires Inv-loop μ-loop
 put-preset-requires c κs =
     let turn = c .before .before in
-    omega (arith, turn .before .before .before .before .pre .2, turn .before .loop .inv .1, turn .loop-test .taken)
+    let entry = turn .before .before .before .before in
+    omega (arith, entry .pre .2, turn .before .loop .inv .1, turn .loop-test .taken)
 
 add-i : tie.Need-add-i Inv-loop μ-loop
 add-i c = omega arith
@@ -50,7 +54,8 @@ loop-again c =
     let turn = c .before .before .before .before .before in
     let inv = turn .before .loop .inv in
     let put = c .before .before .put-preset in
-    let answer = c .before .before .before .before .numbered-preset in
+    let after-numbered-preset = c .before .before .before .before in
+    let answer = after-numbered-preset .numbered-preset in
     (omega arith, put .kept .1 .0 ∙ inv .1, inv .2 ∙ run-step _ _ _ _ _ _ _ _ (turn .loop-test .taken) (answer .ensures) (put .ensures))
 
 same-length : tie.Need-same-length Inv-loop μ-loop

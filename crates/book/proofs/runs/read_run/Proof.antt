@@ -22,7 +22,8 @@ loop-holds c = begun-none _ _ _ _ (c .slots-128 .ensures)
 add-numbered-preset : tie.Need-add-numbered-preset Inv-loop μ-loop
 add-numbered-preset c =
     let sized = c .before .before .before in
-    omega (arith, sized .smaller-of .ensures, min-le-right (sized .before .before .before .before .args .first) 65535)
+    let entry = sized .before .before .before .before in
+    omega (arith, sized .smaller-of .ensures, min-le-right (entry .args .first) 65535)
 
 loop-less : tie.Need-loop-less Inv-loop μ-loop
 loop-less c = omega arith

@@ -13,7 +13,8 @@ use Rattle.book.proofs.writing.append.Tie as tie
 
 -- nothing refused, and m is the lane count
 counted : (c : tie.After-m)
-    → let a = c .before .before .before .before .before .before .args in
+    → let entry = c .before .before .before .before .before .before in
+    let a = entry .args in
     (appendRefusal (a .edition) (a .book .now) (a .kind) (a .rank) (a .word .now) ≡ 0) × (c .m .given .0 .0 ≡ lanes (kindOf (a .kind)) (a .rank))
 counted c = count-of-lanes _ _ _ (c .before .before .append-lanes .ensures) _ (c .m .given .1)
 

@@ -14,7 +14,8 @@ use Rattle.book.proofs.writing.append_lanes.Tie as tie
 
 -- kind and rank passed, with their lane count
 counted : (c : tie.After-enum-told)
-    → let a = c .before .before .before .before .before .before .before .args in
+    → let entry = c .before .before .before .before .before .before .before in
+    let a = entry .args in
     (bookRankRefusal (a .edition) (a .kind) (a .rank) ≡ 0) × (c .enum-told .given .0 .0 ≡ lanes (kindOf (a .kind)) (a .rank))
 counted c = count-of-lanes _ _ _ (c .before .before .book-lanes .ensures) _ (c .enum-told .given .1)
 

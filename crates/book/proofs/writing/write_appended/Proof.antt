@@ -17,7 +17,8 @@ count-of-requires c κs = never-one _ _ (c .before .before .before .pre .0 .0)
 trailer-fits : (c : tie.After-size-of) → 2 * c .before .count-of .result + 2 ≤ c .size-of .result
 trailer-fits c =
     let counted = c .before in
-    omega (arith, accepted _ _ (counted .before .before .before .before .pre .0 .0), counted .count-of .ensures .0, c .size-of .ensures)
+    let entry = counted .before .before .before .before in
+    omega (arith, accepted _ _ (entry .pre .0 .0), counted .count-of .ensures .0, c .size-of .ensures)
 
 sub-trailer : tie.Need-sub-trailer
 sub-trailer c = trailer-fits c
@@ -27,7 +28,8 @@ write-records-requires c κs =
     let headed = c .before in
     let sized = headed .before in
     let counted = sized .before in
-    let pre = counted .before .before .before .before .pre in
+    let entry = counted .before .before .before .before in
+    let pre = entry .pre in
     let a = accepted _ _ (pre .0 .0) in
     let e = counted .count-of .ensures .0 in
     let s = sized .size-of .ensures in
@@ -39,22 +41,23 @@ write-trailer-requires c κs =
     let sized = headed .before in
     let counted = sized .before in
     let kept = c .before .before .before .write-records .kept .1 .1 .1 .1 .1 .1 .1 .0 in
-    let pre = counted .before .before .before .before .pre in
-    let a = accepted _ _ (pre .0 .0) in
+    let entry = counted .before .before .before .before in
+    let a = accepted _ _ (entry .pre .0 .0) in
     let e = counted .count-of .ensures .0 in
     let s = sized .size-of .ensures in
     let head = headed .head-size .ensures .0 in
-    (omega (arith, a), omega (arith, a, pre .1))
+    (omega (arith, a), omega (arith, a, entry .pre .1))
 
 returns : tie.Need-returns
 returns c =
+    let after-write-records = c .before .before .before .before .before .before in
     let headed = c .before .before .before .before .before .before .before .before in
     let sized = headed .before in
     let counted = sized .before in
     let start = counted .before .before .before .before in
     appended-written _ (now (start .args .book)) (now (start .args .out)) _ _ (now (start .args .word)) _ _ _ _ _ (start .pre .0 .0)
     (counted .count-of .ensures .0)
-    (sized .size-of .ensures) (headed .head-size .ensures .0) _ (start .pre .0 .1) (c .before .before .before .before .before .before .write-records .ensures)
+    (sized .size-of .ensures) (headed .head-size .ensures .0) _ (start .pre .0 .1) (after-write-records .write-records .ensures)
     (c .before .before .write-trailer .ensures)
 
 pub write-appended-spec : {M : Type 1} → statement M

@@ -12,14 +12,17 @@ slice-write-out-2 : tie.Need-slice-write-out-2
 slice-write-out-2 c = simp length-set (omega arith)
 
 put-lanes-requires : tie.Need-put-lanes-requires
-put-lanes-requires c κs = (c .before .before .before .before .before .pre .0, simp length-set (omega arith))
+put-lanes-requires c κs =
+    let entry = c .before .before .before .before .before in
+    (entry .pre .0, simp length-set (omega arith))
 
 put-two-requires : tie.Need-put-two-requires
 put-two-requires c κs = let k = simp length-set at (c .before .before .before .put-lanes .kept .1 .1 .0) in omega arith
 
 copy-to-requires : tie.Need-copy-to-requires
 copy-to-requires c κs =
-    let k = simp length-set at (c .before .before .before .before .before .before .before .put-lanes .kept .1 .1 .0) in
+    let after-put-lanes = c .before .before .before .before .before .before .before in
+    let k = simp length-set at (after-put-lanes .put-lanes .kept .1 .1 .0) in
     let l = c .before .before .before .put-two .kept .0 in
     omega arith
 

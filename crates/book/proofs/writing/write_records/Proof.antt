@@ -10,7 +10,9 @@ use Rattle.book.proofs.writing.write_records.Statement.{statement}
 use Rattle.book.proofs.writing.write_records.Tie as tie
 
 slice-aggregate-copy-to : tie.Need-slice-aggregate-copy-to
-slice-aggregate-copy-to c = sym (length-take-le _ _ (c .before .before .before .before .pre .1))
+slice-aggregate-copy-to c =
+    let entry = c .before .before .before .before in
+    sym (length-take-le _ _ (entry .pre .1))
 
 copy-to-requires : tie.Need-copy-to-requires
 copy-to-requires c κs =

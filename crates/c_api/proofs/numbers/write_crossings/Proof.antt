@@ -13,7 +13,9 @@ use Rattle.c_api.proofs.numbers.write_crossings.Tie as tie
 
 -- the total is small
 small : (c : tie.After-known-told) → c .before .counted .given .0 .0 + c .before .counted .given .0 .1 .0 + c .before .counted .given .0 .1 .1 .0 ≤ 65535
-small c = c .before .before .before .before .pre _ _ _ (c .before .counted .given .1)
+small c =
+    let entry = c .before .before .before .before in
+    entry .pre _ _ _ (c .before .counted .given .1)
 
 returns : tie.Need-returns
 unfolding refused

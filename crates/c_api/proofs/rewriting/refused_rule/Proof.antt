@@ -12,33 +12,35 @@ use Rattle.c_api.proofs.rewriting.refused_rule.Statement.{statement}
 use Rattle.c_api.proofs.rewriting.refused_rule.Tie as tie
 
 narrow : (w : tie.After-rewrite-at)
-    → let a = w .before .before .before .before .args in
+    → let entry = w .before .before .before .before in
+    let a = entry .args in
     roomless (rewriteNumbers (w .rewrite-at .result)) ≡ rewriting (a .kind) (a .rank) (now (a .word)) (a .place) [] [] .0
 narrow w = rewriting-narrow _ _ _ _ _ _ (w .rewrite-at .ensures)
 
 unwritten : (w : tie.After-rewrite-at)
-    → let out = now (w .before .before .before .before .args .out) in
+    → let entry = w .before .before .before .before in
+    let out = now (entry .args .out) in
     w .rewrite-at .last .1 .1 .1 .1 .0 ++ out ≡ out
 unwritten w = nothing-before (w .rewrite-at .last .1 .1 .1 .1 .0) _ (w .rewrite-at .kept .1 .1 .1 .1 .0)
 
 returns : tie.Need-returns
 unfolding roomless rewriteNumbers refused
 returns c =
-    let w = c .before .before .before .before in
-    (rw (c .enum-told .given .1) at (narrow w), unwritten w)
+    let rewritten = c .before .before .before .before in
+    (rw (c .enum-told .given .1) at (narrow rewritten), unwritten rewritten)
 
 returns-2 : tie.Need-returns-2
 unfolding roomless rewriteNumbers refused
 returns-2 c =
-    let w = c .before .before .before .before in
-    (rw (c .enum-told2 .given .1) at (narrow w), unwritten w)
+    let rewritten = c .before .before .before .before in
+    (rw (c .enum-told2 .given .1) at (narrow rewritten), unwritten rewritten)
 
 returns-3 : tie.Need-returns-3
 unfolding roomless rewriteNumbers
 returns-3 c =
     let told = c .before .before in
-    let w = told .before .before .before .before in
-    (i64-back _ (c .refusal-number .ok) ∙ c .refusal-number .ensures ∙ (rw (told .refusal .given .1) at (narrow w)), unwritten w)
+    let rewritten = told .before .before .before .before in
+    (i64-back _ (c .refusal-number .ok) ∙ c .refusal-number .ensures ∙ (rw (told .refusal .given .1) at (narrow rewritten)), unwritten rewritten)
 
 pub refused-rule-spec : {M : Type 1} → statement M
 refused-rule-spec =

@@ -11,30 +11,33 @@ use Rattle.c_api.proofs.shortest.winnathey_fallback.Tie as tie
 
 size-requires : tie.Need-size-requires
 size-requires c κs =
-    let b = c .before .before .before .before .before in
-    fallback-size _ _ _ _ _ _ _ _ (b .fallback-places .ensures) (c .before .l .given .1)
+    let after-fallback-places = c .before .before .before .before .before in
+    fallback-size _ _ _ _ _ _ _ _ (after-fallback-places .fallback-places .ensures) (c .before .l .given .1)
 
 returns : tie.Need-returns
 unfolding fallbackNumber
 returns c =
     let d = c .before .before in
-    let b = d .before .before .before .before in
-    fallback-numbered _ _ _ _ _ _ _ _ _ (b .before .before .before .byte .ensures) (b .before .before .byte2 .ensures) (b .fallback-places .ensures) _
+    let after-fallback-places = d .before .before .before .before in
+    fallback-numbered _ _ _ _ _ _ _ _ _ (after-fallback-places .before .before .before .byte .ensures)
+    (after-fallback-places .before .before .byte2 .ensures) (after-fallback-places .fallback-places .ensures) _
     (rw (d .l .given .1) (i64-back _ (c .size .ok) ∙ c .size .ensures))
 
 returns-2 : tie.Need-returns-2
 unfolding fallbackNumber refused
 returns-2 c =
-    let b = c .before .before .before .before in
-    fallback-numbered _ _ _ _ _ _ _ _ _ (b .before .before .before .byte .ensures) (b .before .before .byte2 .ensures) (b .fallback-places .ensures) _
+    let after-fallback-places = c .before .before .before .before in
+    fallback-numbered _ _ _ _ _ _ _ _ _ (after-fallback-places .before .before .before .byte .ensures)
+    (after-fallback-places .before .before .byte2 .ensures) (after-fallback-places .fallback-places .ensures) _
     (rw (c .enum-told .given .1))
 
 returns-3 : tie.Need-returns-3
 unfolding fallbackNumber
 returns-3 c =
     let d = c .before .before in
-    let b = d .before .before .before .before in
-    fallback-numbered _ _ _ _ _ _ _ _ _ (b .before .before .before .byte .ensures) (b .before .before .byte2 .ensures) (b .fallback-places .ensures) _
+    let after-fallback-places = d .before .before .before .before in
+    fallback-numbered _ _ _ _ _ _ _ _ _ (after-fallback-places .before .before .before .byte .ensures)
+    (after-fallback-places .before .before .byte2 .ensures) (after-fallback-places .fallback-places .ensures) _
     (rw (d .refusal .given .1) (i64-back _ (c .refusal-number .ok) ∙ c .refusal-number .ensures))
 
 pub winnathey-fallback-spec : {M : Type 1} → statement M

@@ -9,26 +9,28 @@ use Rattle.c_api.proofs.tracing.to_end.Tie as tie
 
 returns : tie.Need-returns
 returns c =
-    rewritingToEndListed-roomless _ _ _ _ _ _ _ _ _ (c .before .before .before .before .if1 .taken)
+    let past-if1 = c .before .before .before .before in
+    rewritingToEndListed-roomless _ _ _ _ _ _ _ _ _ (past-if1 .if1 .taken)
     (i64-back _ (c .refused-written .ok) ∙ c .refused-written .ensures)
 
 steps-number-requires : tie.Need-steps-number-requires
 steps-number-requires c κs =
-    let w = c .before .before .before .before .before .before .before .before .before .before .before in
-    rewritingToEnd-few _ _ _ _ _ _ _ _ _ (sym (w .rewrite-to-end .ensures .0) ∙ c .before .steps .given .1)
+    let after-rewrite-to-end = c .before .before .before .before .before .before .before .before .before .before .before in
+    rewritingToEnd-few _ _ _ _ _ _ _ _ _ (sym (after-rewrite-to-end .rewrite-to-end .ensures .0) ∙ c .before .steps .given .1)
 
 returns-2 : tie.Need-returns-2
 returns-2 c =
     let told = c .before .before in
-    let w = told .before .before .before .before .before .before .before .before .before .before in
-    rewritingToEndListed-stored _ _ _ _ _ _ _ _ _ _ _ _ _ (w .rewrite-to-end .ensures) _ _ _ (told .steps .given .1)
-    (w .before .before .before .before .before .if1 .left) (i64-back _ (c .steps-number .ok) ∙ c .steps-number .ensures)
+    let after-rewrite-to-end = told .before .before .before .before .before .before .before .before .before .before in
+    let past-if1 = after-rewrite-to-end .before .before .before .before .before in
+    rewritingToEndListed-stored _ _ _ _ _ _ _ _ _ _ _ _ _ (after-rewrite-to-end .rewrite-to-end .ensures) _ _ _ (told .steps .given .1)
+    (past-if1 .if1 .left) (i64-back _ (c .steps-number .ok) ∙ c .steps-number .ensures)
 
 returns-3 : tie.Need-returns-3
 returns-3 c =
     let told = c .before .before in
-    let w = told .before .before .before .before .before .before .before .before .before .before in
-    rewritingToEndListed-refused _ _ _ _ _ _ _ _ _ _ _ _ _ (w .rewrite-to-end .ensures) _ _ (told .refusal .given .1)
+    let after-rewrite-to-end = told .before .before .before .before .before .before .before .before .before .before in
+    rewritingToEndListed-refused _ _ _ _ _ _ _ _ _ _ _ _ _ (after-rewrite-to-end .rewrite-to-end .ensures) _ _ (told .refusal .given .1)
     (i64-back _ (c .refusal-number .ok) ∙ c .refusal-number .ensures)
 
 pub to-end-spec : {M : Type 1} → statement M

@@ -12,7 +12,8 @@ use Rattle.c_api.proofs.words.winnathey_better.Tie as tie
 
 -- the choice by the bytes is that by the numbers
 below : (w : tie.After-which-better)
-    → let a = w .before .before .before .before .before .args in
+    → let entry = w .before .before .before .before .before in
+    let a = entry .args in
     w .which-better .result ≡ choice (handsBack (a .kind) (a .rank) (now (a .first)) (now (a .second))) (shortlex (now (a .second)) (now (a .first)))
 below w =
     let rank = w .before in

@@ -12,7 +12,8 @@ use Rattle.c_api.proofs.words.winnathey_same.Tie as tie
 
 -- the verdict on the bytes is that on the numbers
 below : (w : tie.After-presets-equal)
-    → let a = w .before .before .before .before .before .before .before .args in
+    → let entry = w .before .before .before .before .before .before .before in
+    let a = entry .args in
     w .presets-equal .result ≡ presetsEqual (a .kind1) (a .rank1) (now (a .word1)) (a .kind2) (a .rank2) (now (a .word2))
 below w =
     let four = w .before in

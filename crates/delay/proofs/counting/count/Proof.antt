@@ -62,10 +62,14 @@ multiply-requires c κs =
     ((omega (arith, t .counted .level), small), (part-sum-fits t, part-factor-fits t))
 
 loop-again : tie.Need-loop-again Inv-loop μ-loop
-loop-again c = counted-next (turn (c .before .before .before .before)) _ (c .before .before .multiply .ensures)
+loop-again c =
+    let after-top-of = c .before .before .before .before in
+    counted-next (turn after-top-of) _ (c .before .before .multiply .ensures)
 
 same-length : tie.Need-same-length Inv-loop μ-loop
-same-length c = counted-length (c .before .loop .inv) ∙ sym (c .before .before .before .before .before .before .before .before .pre .1 .1)
+same-length c =
+    let entry = c .before .before .before .before .before .before .before .before in
+    counted-length (c .before .loop .inv) ∙ sym (entry .pre .1 .1)
 
 returns : tie.Need-returns Inv-loop μ-loop
 returns c =

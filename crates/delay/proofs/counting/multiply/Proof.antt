@@ -8,23 +8,29 @@ use Rattle.delay.proofs.counting.multiply.Statement.{statement}
 use Rattle.delay.proofs.counting.multiply.Tie as tie
 
 returns : tie.Need-returns
-returns c = rw (kindOf-two _ (c .before .before .before .before .if1 .taken)) (c .before .before .run .ensures)
+returns c =
+    let past-if1 = c .before .before .before .before in
+    rw (kindOf-two _ (past-if1 .if1 .taken)) (c .before .before .run .ensures)
 
 returns-2 : tie.Need-returns-2
 returns-2 c = rw (kindOf-one _ (c .if2 .taken)) (c .before .before .before .run2 .ensures)
 
 combine-shifted-requires : tie.Need-combine-shifted-requires
 combine-shifted-requires c κs =
+    let after-run2 = c .before .before .before .before in
+    let past-if1 = c .before .before .before .before .before .before in
     let start = c .before .before .before .before .before .before .before .before in
-    let d = kindOf-three _ (c .before .if2 .left) (c .before .before .before .before .before .before .if1 .left) in
-    (rw d at (start .pre .0 .0), with-fit Sum _ _ _ _ (c .before .before .before .before .run2 .ensures) (rw d at (start .pre .1 .1)))
+    let d = kindOf-three _ (c .before .if2 .left) (past-if1 .if1 .left) in
+    (rw d at (start .pre .0 .0), with-fit Sum _ _ _ _ (after-run2 .run2 .ensures) (rw d at (start .pre .1 .1)))
 
 returns-3 : tie.Need-returns-3
 returns-3 c =
     let added = c .before .before in
     let other = added .before .before in
-    rw (kindOf-three _ (other .if2 .left) (c .before .before .before .before .before .before .before .before .before .if1 .left))
-    (with-values Sum _ _ _ _ (c .before .before .before .before .before .before .before .run2 .ensures) _ (added .combine-shifted .ensures))
+    let after-run2 = other .before .before .before in
+    let past-if1 = other .before .before .before .before .before in
+    rw (kindOf-three _ (other .if2 .left) (past-if1 .if1 .left))
+    (with-values Sum _ _ _ _ (after-run2 .run2 .ensures) _ (added .combine-shifted .ensures))
 
 pub multiply-spec : {M : Type 1} → statement M
 multiply-spec =

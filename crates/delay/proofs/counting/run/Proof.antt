@@ -13,7 +13,8 @@ combine-shifted-requires c κs = (omega arith, with-fit Difference _ _ _ _ (c .b
 
 returns : tie.Need-returns
 returns c =
-    with-values Difference _ _ _ _ (c .before .before .before .before .before .before .sum-up .ensures) _ (c .before .before .combine-shifted .ensures)
+    let after-sum-up = c .before .before .before .before .before .before in
+    with-values Difference _ _ _ _ (after-sum-up .sum-up .ensures) _ (c .before .before .combine-shifted .ensures)
     ∙ running-sums _ _ _
 
 pub run-spec : {M : Type 1} → statement M

@@ -34,7 +34,9 @@ returns-4 c =
     entry-last _ _ _ _ (pre .0) (pre .1) (other .before .if1 .left) (other .if2 .left) (odd .if3 .left) (c .if4 .taken) (pre .2)
 
 sub-result-4 : tie.Need-sub-result-4
-sub-result-4 c = minus-cast-fits (c .before .before .before .before .args .i + 1) (omega arith)
+sub-result-4 c =
+    let entry = c .before .before .before .before in
+    minus-cast-fits (entry .args .i + 1) (omega arith)
 
 returns-5 : tie.Need-returns-5
 returns-5 c =

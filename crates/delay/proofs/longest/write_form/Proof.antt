@@ -14,7 +14,8 @@ slice-aggregate-normal-form-of-window c = sym (length-take-le _ _ (search needs)
 returns : tie.Need-returns
 returns c =
     let called = c .before .before in
-    let pre = called .before .before .before .before .pre in
+    let entry = called .before .before .before .before in
+    let pre = entry .pre in
     called .normal-form-of-window .ensures .1 ∙ form-written _ _ _ _ (pre .0) (pre .1 .1 .0) (pre .1 .1 .1)
 
 pub write-form-spec : {M : Type 1} → statement M

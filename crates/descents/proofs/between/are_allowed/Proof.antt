@@ -28,20 +28,20 @@ cast-is-allowed c = omega (arith, c .shared-slice-known2 .given (c .before .befo
 is-allowed-requires : tie.Need-is-allowed-requires Inv-loop μ-loop
 is-allowed-requires c κs =
     let at = c .before .before .loop in
-    let s = c .before .before .before .before in
-    let u = s .args .word .now in
-    letter-within 64 u (at .i) (c .before .loop-test .taken) (wrongLetter-drop 64 (at .i) u (letters-accepted 64 u (s .pre)))
+    let entry = c .before .before .before .before in
+    let u = entry .args .word .now in
+    letter-within 64 u (at .i) (c .before .loop-test .taken) (wrongLetter-drop 64 (at .i) u (letters-accepted 64 u (entry .pre)))
 
 returns : tie.Need-returns Inv-loop μ-loop
 returns c =
-    let at = c .before .before .before .before .loop in
-    over-stop _ _ (at .i) (at .inv .1) _ (c .before .before .before .loop-test .taken) (c .before .is-allowed .ensures) (c .if1 .taken)
+    let at-loop = c .before .before .before .before in
+    over-stop _ _ (at-loop .loop .i) (at-loop .loop .inv .1) _ (c .before .before .before .loop-test .taken) (c .before .is-allowed .ensures) (c .if1 .taken)
 
 loop-again : tie.Need-loop-again Inv-loop μ-loop
 loop-again c =
-    let at = c .before .before .before .before .loop in
+    let at-loop = c .before .before .before .before in
     let t = c .before .before .before .loop-test .taken in
-    (omega (arith, t), over-next _ _ (at .i) (at .inv .1) _ t (c .before .is-allowed .ensures) (c .if1 .left))
+    (omega (arith, t), over-next _ _ (at-loop .loop .i) (at-loop .loop .inv .1) _ t (c .before .is-allowed .ensures) (c .if1 .left))
 
 returns-2 : tie.Need-returns-2 Inv-loop μ-loop
 returns-2 c =

@@ -15,39 +15,41 @@ slice-aggregate-strip c =
 strip-requires : tie.Need-strip-requires
 strip-requires c κs =
     let b = c .before .before in
-    let p = b .before .before .before .before .before .pre in
-    strip-asked _ _ 0 _ _ (p .0) (p .1) (part-is _ _ _ _ _ (b .invert .ensures .1) refl)
+    let entry = b .before .before .before .before .before in
+    strip-asked _ _ 0 _ _ (entry .pre .0) (entry .pre .1) (part-is _ _ _ _ _ (b .invert .ensures .1) refl)
 
 array-share-prefix-rest : tie.Need-array-share-prefix-rest
 array-share-prefix-rest c =
-    let b = c .before .before .before .before in
-    let size = part-length _ _ _ _ _ (b .invert .ensures .1) refl (b .invert .ensures .0) in
+    let after-invert = c .before .before .before .before in
+    let size = part-length _ _ _ _ _ (after-invert .invert .ensures .1) refl (after-invert .invert .ensures .0) in
     stored-room _ _ (c .before .strip .last .1 .1 .1 .0) size (c .before .strip .kept .1 .1 .1 .0)
 
 slice-aggregate-write-parts : tie.Need-slice-aggregate-write-parts
 slice-aggregate-write-parts c =
-    let b = c .before .before .before .before .before in
-    let size = part-length _ _ _ _ _ (b .invert .ensures .1) refl (b .invert .ensures .0) in
+    let after-invert = c .before .before .before .before .before in
+    let size = part-length _ _ _ _ _ (after-invert .invert .ensures .1) refl (after-invert .invert .ensures .0) in
     stored-size _ _ (c .before .before .strip .last .1 .1 .1 .0) size (c .before .before .strip .kept .1 .1 .1 .0)
 
 write-parts-requires : tie.Need-write-parts-requires
 write-parts-requires c κs =
-    let s = c .before .before .before .before in
-    let b = s .before .before .before in
-    let p = b .before .before .before .before .before .pre in
+    let after-strip = c .before .before .before .before in
+    let b = after-strip .before .before .before in
+    let entry = b .before .before .before .before .before in
     let size = part-length _ _ _ _ _ (b .invert .ensures .1) refl (b .invert .ensures .0) in
-    parts-asked _ _ _ _ _ (p .0) (p .1) (part-is _ _ _ _ _ (b .invert .ensures .1) refl) _ _ (stored-is _ _ _ size (s .strip .kept .1 .1 .1 .0))
-    (s .strip .ensures)
+    parts-asked _ _ _ _ _ (entry .pre .0) (entry .pre .1) (part-is _ _ _ _ _ (b .invert .ensures .1) refl) _ _
+    (stored-is _ _ _ size (after-strip .strip .kept .1 .1 .1 .0))
+    (after-strip .strip .ensures)
 
 returns : tie.Need-returns
 returns c =
-    let f = c .before .before .before .before in
-    let s = f .before .before .before .before .before in
-    let b = s .before .before .before in
-    let p = b .before .before .before .before .before .pre in
+    let after-write-parts = c .before .before .before .before in
+    let after-strip = after-write-parts .before .before .before .before .before in
+    let b = after-strip .before .before .before in
+    let entry = b .before .before .before .before .before in
     let size = part-length _ _ _ _ _ (b .invert .ensures .1) refl (b .invert .ensures .0) in
-    parts-are _ _ _ _ _ (p .0) (p .1) (part-is _ _ _ _ _ (b .invert .ensures .1) refl) _ _ (stored-is _ _ _ size (s .strip .kept .1 .1 .1 .0))
-    (s .strip .ensures) _ _ _ _ _ (f .write-parts .ensures)
+    parts-are _ _ _ _ _ (entry .pre .0) (entry .pre .1) (part-is _ _ _ _ _ (b .invert .ensures .1) refl) _ _
+    (stored-is _ _ _ size (after-strip .strip .kept .1 .1 .1 .0))
+    (after-strip .strip .ensures) _ _ _ _ _ (after-write-parts .write-parts .ensures)
 
 pub split-window-spec : {M : Type 1} → statement M
 split-window-spec =

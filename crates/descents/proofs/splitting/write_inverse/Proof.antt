@@ -12,16 +12,16 @@ use Rattle.descents.proofs.splitting.write_inverse.Tie as tie
 
 returns : tie.Need-returns
 returns c =
-    let b = c .before .before .before .before in
-    let pre = b .before .before .before .pre in
+    let after-normal-form-of-inverse = c .before .before .before .before in
+    let pre = after-normal-form-of-inverse .before .before .before .pre in
     let passed = then-none _ _ (pre .0 .0) ∙ pre .0 .1 in
-    absurd (omega (arith, told-refused _ _ _ _ _ passed (b .normal-form-of-inverse .ensures) _ (c .enum-told .given .1) .0, pre .1))
+    absurd (omega (arith, told-refused _ _ _ _ _ passed (after-normal-form-of-inverse .normal-form-of-inverse .ensures) _ (c .enum-told .given .1) .0, pre .1))
 
 returns-2 : tie.Need-returns-2
 returns-2 c =
-    let b = c .before .before .before .before .before in
-    let pre = b .before .before .before .pre in
-    answered-length _ _ _ _ _ (then-none _ _ (pre .0 .0) ∙ pre .0 .1) (b .normal-form-of-inverse .ensures) _ (c .before .l .given .1)
+    let after-normal-form-of-inverse = c .before .before .before .before .before in
+    let pre = after-normal-form-of-inverse .before .before .before .pre in
+    answered-length _ _ _ _ _ (then-none _ _ (pre .0 .0) ∙ pre .0 .1) (after-normal-form-of-inverse .normal-form-of-inverse .ensures) _ (c .before .l .given .1)
 
 pub write-inverse-spec : {M : Type 1} → statement M
 write-inverse-spec =

@@ -15,26 +15,29 @@ returns c =
 
 returns-2 : tie.Need-returns-2
 returns-2 c =
-    let p = c .before .before .before .before in
-    let h = p .before .before .before .before .before .before .pre in
+    let after-normal-form-of-product = c .before .before .before .before in
+    let entry = after-normal-form-of-product .before .before .before .before .before .before in
+    let h = entry .pre in
     first-lacks _ _ _ _ _ (checks-pass _ _ _ _ (h .0) (h .1 .0) (h .1 .1)) _ _
-    (p .normal-form-of-product .ensures) _ (c .enum-told .given .1)
+    (after-normal-form-of-product .normal-form-of-product .ensures) _ (c .enum-told .given .1)
 
 write-inverse-requires : tie.Need-write-inverse-requires
 write-inverse-requires c κs =
     let l = c .before .before in
-    let r = l .before .before .before .before .before .before in
-    let h = r .before .before .before .before .pre in
-    ((h .0, h .1 .1), rw (form-of-inverse _ _ _ (h .0) (h .1 .1)) (ltb-false _ _ (sym (r .before .lacks-room .ensures) ∙ r .if1 .left)))
+    let past-if1 = l .before .before .before .before .before .before in
+    let entry = past-if1 .before .before .before .before in
+    let h = entry .pre in
+    ((h .0, h .1 .1), rw (form-of-inverse _ _ _ (h .0) (h .1 .1)) (ltb-false _ _ (sym (past-if1 .before .lacks-room .ensures) ∙ past-if1 .if1 .left)))
 
 returns-3 : tie.Need-returns-3
 returns-3 c =
     let i = c .before .before in
     let l = i .before .before .before in
-    let p = l .before .before .before .before in
-    let h = p .before .before .before .before .before .before .pre in
+    let after-normal-form-of-product = l .before .before .before .before in
+    let entry = after-normal-form-of-product .before .before .before .before .before .before in
+    let h = entry .pre in
     both-written _ _ _ _ _ (checks-pass _ _ _ _ (h .0) (h .1 .0) (h .1 .1)) _ _
-    (p .normal-form-of-product .ensures) _ _ _ (l .l .given .1) (i .write-inverse .ensures)
+    (after-normal-form-of-product .normal-form-of-product .ensures) _ _ _ (l .l .given .1) (i .write-inverse .ensures)
 
 pub write-parts-spec : {M : Type 1} → statement M
 write-parts-spec =

@@ -29,36 +29,41 @@ take-allowed-descent-requires c κs =
 
 back-requires : tie.Need-back-requires Inv-loop μ-loop
 back-requires c κs =
-    let b = c .before .before .before .before .before in
-    ((b .loop .inv .1 .low, c .before .before .before .before .loop-test .taken), b .before .pre .0)
+    let turn = c .before .before .before .before in
+    let at-loop = c .before .before .before .before .before in
+    ((at-loop .loop .inv .1 .low, turn .loop-test .taken), at-loop .before .pre .0)
 
 loop-less : tie.Need-loop-less Inv-loop μ-loop
 loop-less c =
-    let b = c .before .before .before .before .before .before in
-    turning-less _ _ _ _ _ _ (b .loop .inv .1) (b .before .pre .0 .0) (c .before .before .before .before .before .loop-test .taken) _ _
+    let turn = c .before .before .before .before .before in
+    let at-loop = c .before .before .before .before .before .before in
+    turning-less _ _ _ _ _ _ (at-loop .loop .inv .1) (at-loop .before .pre .0 .0) (turn .loop-test .taken) _ _
     (c .before .before .before .take-allowed-descent .ensures) (c .before .if1 .taken) _ (c .back .ensures .0)
 
 loop-again : tie.Need-loop-again Inv-loop μ-loop
 loop-again c =
-    let b = c .before .before .before .before .before .before in
+    let turn = c .before .before .before .before .before in
+    let at-loop = c .before .before .before .before .before .before in
     let l = c .before .before .before .take-allowed-descent in (
-      l .kept .1 .1 .1 .1 .0 ∙ b .loop .inv .0,
-      turning-taken _ _ _ _ _ _ (b .loop .inv .1) (b .before .pre .0 .0) (c .before .before .before .before .before .loop-test .taken) _ _
+      l .kept .1 .1 .1 .1 .0 ∙ at-loop .loop .inv .0,
+      turning-taken _ _ _ _ _ _ (at-loop .loop .inv .1) (at-loop .before .pre .0 .0) (turn .loop-test .taken) _ _
           (l .ensures) (c .before .if1 .taken) _ (c .back .ensures),
     )
 
 loop-less-2 : tie.Need-loop-less-2 Inv-loop μ-loop
 loop-less-2 c =
-    let b = c .before .before .before .before .before in
-    passed-less _ _ _ _ _ _ (b .loop .inv .1) (b .before .pre .0 .0) (c .before .before .before .before .loop-test .taken) _ _
+    let turn = c .before .before .before .before in
+    let at-loop = c .before .before .before .before .before in
+    passed-less _ _ _ _ _ _ (at-loop .loop .inv .1) (at-loop .before .pre .0 .0) (turn .loop-test .taken) _ _
     (c .before .before .take-allowed-descent .ensures) (c .if1 .left)
 
 loop-again-2 : tie.Need-loop-again-2 Inv-loop μ-loop
 loop-again-2 c =
-    let b = c .before .before .before .before .before in
+    let turn = c .before .before .before .before in
+    let at-loop = c .before .before .before .before .before in
     let l = c .before .before .take-allowed-descent in (
-      l .kept .1 .1 .1 .1 .0 ∙ b .loop .inv .0,
-      turning-passed _ _ _ _ _ _ (b .loop .inv .1) (b .before .pre .0 .0) (c .before .before .before .before .loop-test .taken) _ _
+      l .kept .1 .1 .1 .1 .0 ∙ at-loop .loop .inv .0,
+      turning-passed _ _ _ _ _ _ (at-loop .loop .inv .1) (at-loop .before .pre .0 .0) (turn .loop-test .taken) _ _
           (l .ensures) (c .if1 .left),
     )
 

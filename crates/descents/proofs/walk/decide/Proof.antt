@@ -9,36 +9,43 @@ use Rattle.descents.proofs.walk.decide.Statement.{statement}
 use Rattle.descents.proofs.walk.decide.Tie as tie
 
 keep-letters-requires : tie.Need-keep-letters-requires
-keep-letters-requires c κs = keep-requires _ _ _ _ (c .before .before .before .before .pre)
+keep-letters-requires c κs =
+    let entry = c .before .before .before .before in
+    keep-requires _ _ _ _ (entry .pre)
 
 is-identity-requires : tie.Need-is-identity-requires
 is-identity-requires c κs =
-    let b = c .before .before .before .before in
-    left-length _ _ _ _ (b .before .before .before .before .before .pre) _ (b .keep-letters .kept .1 .1 .1 .0)
+    let after-keep-letters = c .before .before .before .before in
+    let entry = after-keep-letters .before .before .before .before .before in
+    left-length _ _ _ _ (entry .pre) _ (after-keep-letters .keep-letters .kept .1 .1 .1 .0)
 
 returns : tie.Need-returns
 returns c =
-    let b = c .before .before .before .before .before .before .before in
-    decide-short _ _ _ _ (b .before .before .before .before .before .pre) _ _ _ (b .keep-letters .ensures) (b .keep-letters .kept .1 .1 .1 .0) _
+    let after-keep-letters = c .before .before .before .before .before .before .before in
+    let entry = after-keep-letters .before .before .before .before .before in
+    decide-short _ _ _ _ (entry .pre) _ _ _ (after-keep-letters .keep-letters .ensures) (after-keep-letters .keep-letters .kept .1 .1 .1 .0) _
     (c .before .before .is-identity .ensures) _ (c .before .if1 .taken) (c .if2 .taken)
 
 write-places-requires : tie.Need-write-places-requires
 write-places-requires c κs =
-    let b = c .before .before .before .before .before .before .before .before .before in
-    let s = b .before .before .before .before .before in
-    (omega (arith, length-accepted _ _ (s .pre .1 .0), b .keep-letters .kept .1 .1 .0), search needs)
+    let after-keep-letters = c .before .before .before .before .before .before .before .before .before in
+    let entry = after-keep-letters .before .before .before .before .before in
+    (omega (arith, length-accepted _ _ (entry .pre .1 .0), after-keep-letters .keep-letters .kept .1 .1 .0), search needs)
 
 returns-2 : tie.Need-returns-2
 returns-2 c =
-    let d = c .before .before .before .before .before .before in
-    let b = d .before .before .before .before .before .before in
-    decide-kept _ _ _ _ (b .before .before .before .before .before .pre) _ _ _ (b .keep-letters .ensures) (b .keep-letters .kept .1 .1 .1 .0) _
-    (d .before .is-identity .ensures) _ _ (d .if1 .taken) (c .before .before .before .before .before .if2 .left) (c .before .before .write-places .ensures)
+    let past-if2 = c .before .before .before .before .before in
+    let past-if1 = c .before .before .before .before .before .before in
+    let after-keep-letters = past-if1 .before .before .before .before .before .before in
+    let entry = after-keep-letters .before .before .before .before .before in
+    decide-kept _ _ _ _ (entry .pre) _ _ _ (after-keep-letters .keep-letters .ensures) (after-keep-letters .keep-letters .kept .1 .1 .1 .0) _
+    (past-if1 .before .is-identity .ensures) _ _ (past-if1 .if1 .taken) (past-if2 .if2 .left) (c .before .before .write-places .ensures)
 
 returns-3 : tie.Need-returns-3
 returns-3 c =
-    let b = c .before .before .before .before .before .before in
-    decide-no _ _ _ _ (b .before .before .before .before .before .pre) _ _ _ (b .keep-letters .ensures) (b .keep-letters .kept .1 .1 .1 .0) _
+    let after-keep-letters = c .before .before .before .before .before .before in
+    let entry = after-keep-letters .before .before .before .before .before in
+    decide-no _ _ _ _ (entry .pre) _ _ _ (after-keep-letters .keep-letters .ensures) (after-keep-letters .keep-letters .kept .1 .1 .1 .0) _
     (c .before .is-identity .ensures) _ (c .if1 .left)
 
 pub decide-spec : {M : Type 1} → statement M

@@ -38,30 +38,30 @@ take-descent-requires c κs =
 
 add-kept : tie.Need-add-kept Inv-loop μ-loop
 add-kept c =
-    let b = c .before .before .before .before .before .before in
-    let r = walking-room _ _ _ _ _ _ _ (b .loop .i - 1) _ (b .loop .inv .1) (omega arith) in
+    let at-loop = c .before .before .before .before .before .before in
+    let r = walking-room _ _ _ _ _ _ _ (at-loop .loop .i - 1) _ (at-loop .loop .inv .1) (omega arith) in
     omega arith
 
 loop-again : tie.Need-loop-again Inv-loop μ-loop
 loop-again c =
-    let b = c .before .before .before .before .before .before in
+    let at-loop = c .before .before .before .before .before .before in
     let l = c .before .before .take-descent in (
-      l .kept .1 .1 .1 .0 ∙ b .loop .inv .0,
-      walking-kept _ _ _ _ _ _ _ _ _ (b .loop .inv .1) (omega arith) _ _ (l .ensures .0) (l .ensures .1) (c .if1 .taken)
-          (letters-accepted _ _ (b .before .before .pre .1 .0)),
+      l .kept .1 .1 .1 .0 ∙ at-loop .loop .inv .0,
+      walking-kept _ _ _ _ _ _ _ _ _ (at-loop .loop .inv .1) (omega arith) _ _ (l .ensures .0) (l .ensures .1) (c .if1 .taken)
+          (letters-accepted _ _ (at-loop .before .before .pre .1 .0)),
     )
 
 slice-write-word : tie.Need-slice-write-word Inv-loop μ-loop
 slice-write-word c =
-    let w = c .before .before .before .before .before .before .loop .inv .1 in
-    omega (arith, w .inside, w .size)
+    let at-loop = c .before .before .before .before .before .before in
+    omega (arith, at-loop .loop .inv .1 .inside, at-loop .loop .inv .1 .size)
 
 loop-again-2 : tie.Need-loop-again-2 Inv-loop μ-loop
 loop-again-2 c =
-    let b = c .before .before .before .before .before .before in
+    let at-loop = c .before .before .before .before .before .before in
     let l = c .before .before .take-descent in (
-      l .kept .1 .1 .1 .0 ∙ b .loop .inv .0,
-      walking-left _ _ _ _ _ _ _ _ _ (b .loop .inv .1) (omega arith) _ _ (l .ensures .0) (l .ensures .1) (c .if1 .left),
+      l .kept .1 .1 .1 .0 ∙ at-loop .loop .inv .0,
+      walking-left _ _ _ _ _ _ _ _ _ (at-loop .loop .inv .1) (omega arith) _ _ (l .ensures .0) (l .ensures .1) (c .if1 .left),
     )
 
 same-length : tie.Need-same-length Inv-loop μ-loop

@@ -14,11 +14,11 @@ returns c =
 
 returns-2 : tie.Need-returns-2
 returns-2 c =
-    let b = c .before .before .before .before in
-    let s = b .before .before .before in
+    let after-window-of-word = c .before .before .before .before in
+    let s = after-window-of-word .before .before .before in
     let room = s .pre .2 in (
-      room ∙ sym (b .window-of-word .kept .1 .1 .1 .0),
-      window-front _ _ _ (s .pre .0) (s .pre .1) _ _ room _ (b .window-of-word .ensures) _ (c .before .m .given .1),
+      room ∙ sym (after-window-of-word .window-of-word .kept .1 .1 .1 .0),
+      window-front _ _ _ (s .pre .0) (s .pre .1) _ _ room _ (after-window-of-word .window-of-word .ensures) _ (c .before .m .given .1),
     )
 
 pub show-spec : {M : Type 1} → statement M

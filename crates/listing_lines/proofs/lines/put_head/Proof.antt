@@ -26,7 +26,8 @@ put-decimal-requires c κs =
 
 put-bytes-requires : tie.Need-put-bytes-requires
 put-bytes-requires c κs =
-    let a = start (c .before .before .before .before .before) .args in
+    let decimal-put = c .before .before .before .before .before in
+    let a = start decimal-put .args in
     omega (arith, length-head (a .number) (a .kind) (a .rank) (a .size))
 
 put-spaced-requires : tie.Need-put-spaced-requires
@@ -41,7 +42,8 @@ put-spaced-requires-2 c κs =
 
 put-bytes-requires-2 : tie.Need-put-bytes-requires-2
 put-bytes-requires-2 c κs =
-    let a = start (first (second (third (c .before .before .before .before)))) .args in
+    let spaced = c .before .before .before .before in
+    let a = start (first (second (third spaced))) .args in
     omega (arith, length-head (a .number) (a .kind) (a .rank) (a .size))
 
 returns : tie.Need-returns

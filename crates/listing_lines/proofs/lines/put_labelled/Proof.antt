@@ -12,21 +12,22 @@ put-bytes-requires c κs = let a = c .before .before .before .args in omega (ari
 
 put-decimal-requires : tie.Need-put-decimal-requires
 put-decimal-requires c κs =
-    let a = c .before .before .before .before .before .before .before .args in
-    omega (arith, length-labelled (now (a .label)) (a .x))
+    let entry = c .before .before .before .before .before .before .before in
+    omega (arith, length-labelled (now (entry .args .label)) (entry .args .x))
 
 put-bytes-requires-2 : tie.Need-put-bytes-requires-2
 put-bytes-requires-2 c κs =
-    let a = c .before .before .before .before .before .before .before .before .before .before .before .before .args in
-    omega (arith, length-labelled (now (a .label)) (a .x))
+    let entry = c .before .before .before .before .before .before .before .before .before .before .before .before in
+    omega (arith, length-labelled (now (entry .args .label)) (entry .args .x))
 
 returns : tie.Need-returns
 returns c =
     let third = c .before .before in
     let second = third .before .before .before .before .before in
     let first = second .before .before .before .before in
-    let a = first .before .before .before .before .args in
-    labelled-put (now (a .out)) _ _ _ _ _ _ _ (now (a .label)) _ (first .put-bytes .ensures) (second .put-decimal .ensures) (third .put-bytes2 .ensures)
+    let entry = first .before .before .before .before in
+    labelled-put (now (entry .args .out)) _ _ _ _ _ _ _ (now (entry .args .label)) _ (first .put-bytes .ensures) (second .put-decimal .ensures)
+    (third .put-bytes2 .ensures)
 
 pub put-labelled-spec : {M : Type 1} → statement M
 put-labelled-spec =

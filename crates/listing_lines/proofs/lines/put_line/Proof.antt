@@ -14,7 +14,8 @@ put-head-requires c κs =
 
 put-tail-requires : tie.Need-put-tail-requires
 put-tail-requires c κs =
-    let a = c .before .before .before .before .before .before .before .args in
+    let entry = c .before .before .before .before .before .before .before in
+    let a = entry .args in
     omega (arith, length-presetLine (a .number) (a .kind) (a .rank) (now (a .word)) (now (a .window)))
 
 returns : tie.Need-returns

@@ -11,8 +11,8 @@ put-decimal-requires c κs = let a = c .before .before .args in omega (arith, le
 
 put-labelled-requires : tie.Need-put-labelled-requires
 put-labelled-requires c κs =
-    let a = c .before .before .before .before .before .before .before .args in
-    omega (arith, length-refusedLine (a .number) (a .refusal))
+    let entry = c .before .before .before .before .before .before .before in
+    omega (arith, length-refusedLine (entry .args .number) (entry .args .refusal))
 
 returns : tie.Need-returns
 returns c =

@@ -12,18 +12,18 @@ put-letters-requires c κs = let a = c .before .before .before .args in omega (a
 
 put-bytes-requires : tie.Need-put-bytes-requires
 put-bytes-requires c κs =
-    let a = c .before .before .before .before .before .before .before .before .args in
-    omega (arith, length-tail (now (a .word)) (now (a .window)))
+    let entry = c .before .before .before .before .before .before .before .before in
+    omega (arith, length-tail (now (entry .args .word)) (now (entry .args .window)))
 
 put-entries-requires : tie.Need-put-entries-requires
 put-entries-requires c κs =
-    let a = c .before .before .before .before .before .before .before .before .before .before .before .before .args in
-    omega (arith, length-tail (now (a .word)) (now (a .window)))
+    let entry = c .before .before .before .before .before .before .before .before .before .before .before .before in
+    omega (arith, length-tail (now (entry .args .word)) (now (entry .args .window)))
 
 put-bytes-requires-2 : tie.Need-put-bytes-requires-2
 put-bytes-requires-2 c κs =
-    let a = c .before .before .before .before .before .before .before .before .before .before .before .before .before .before .before .before .before .args in
-    omega (arith, length-tail (now (a .word)) (now (a .window)))
+    let entry = c .before .before .before .before .before .before .before .before .before .before .before .before .before .before .before .before .before in
+    omega (arith, length-tail (now (entry .args .word)) (now (entry .args .window)))
 
 returns : tie.Need-returns
 returns c =

@@ -34,9 +34,10 @@ loop-less c = omega arith
 
 loop-again : tie.Need-loop-again Inv-loop μ-loop
 loop-again c =
+    let turn-stage = c .before .before .before .before .before in
     let turn = c .before .before .before .before .before .before in (
       omega arith,
-      entries-put _ _ _ _ _ _ _ _ (c .before .before .before .before .before .loop-test .taken) (c .before .before .before .put-entry-arg2 .given)
+      entries-put _ _ _ _ _ _ _ _ (turn-stage .loop-test .taken) (c .before .before .before .put-entry-arg2 .given)
           (turn .loop .inv .1) (c .before .before .put-entry .ensures),
     )
 

@@ -37,9 +37,10 @@ loop-less c = omega arith
 
 loop-again : tie.Need-loop-again Inv-loop μ-loop
 loop-again c =
+    let turn-stage = c .before .before .before .before .before in
     let turn = c .before .before .before .before .before .before in (
       omega arith,
-      letters-put _ _ _ _ _ _ _ _ (c .before .before .before .before .before .loop-test .taken) (turn .loop .inv .1) (c .before .before .put-spaced .ensures),
+      letters-put _ _ _ _ _ _ _ _ (turn-stage .loop-test .taken) (turn .loop .inv .1) (c .before .before .put-spaced .ensures),
     )
 
 same-length : tie.Need-same-length Inv-loop μ-loop

@@ -86,8 +86,8 @@ line-ends-inside c =
 
 lines-from-requires : tie.Need-lines-from-requires Inv-loop μ-loop
 lines-from-requires c κs =
-    let a = c .before .before .before .before .before .args in
-    omega (arith, lineCount-by _ _ _ (c .read-run .ensures .0), lineCount-le (a .edition) (now (a .book)))
+    let entry = c .before .before .before .before .before in
+    omega (arith, lineCount-by _ _ _ (c .read-run .ensures .0), lineCount-le (entry .args .edition) (now (entry .args .book)))
 
 loop-holds : tie.Need-loop-holds Inv-loop μ-loop
 loop-holds c =
@@ -139,12 +139,14 @@ array-share-prefix-line : tie.Need-array-share-prefix-line Inv-loop μ-loop
 array-share-prefix-line c = line-ends-inside (c .before .before .before)
 
 slice-aggregate-put-bytes : tie.Need-slice-aggregate-put-bytes Inv-loop μ-loop
-slice-aggregate-put-bytes c = sym (length-take-le _ _ (line-ends-inside (c .before .before .before .before)))
+slice-aggregate-put-bytes c =
+    let after-put-nth = c .before .before .before .before in
+    sym (length-take-le _ _ (line-ends-inside after-put-nth))
 
 put-bytes-requires : tie.Need-put-bytes-requires Inv-loop μ-loop
 put-bytes-requires c κs =
-    let m = c .before .before .before .before in
-    rw (length-take-le _ _ (line-ends-inside m)) (omega (arith, c .before .before .if2 .left, turn (joined m) .before .loop .inv .0 .inside))
+    let after-put-nth = c .before .before .before .before in
+    rw (length-take-le _ _ (line-ends-inside after-put-nth)) (omega (arith, c .before .before .if2 .left, turn (joined after-put-nth) .before .loop .inv .0 .inside))
 
 add-next : tie.Need-add-next Inv-loop μ-loop
 add-next c =

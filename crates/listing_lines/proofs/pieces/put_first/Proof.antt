@@ -17,12 +17,14 @@ put-labelled-requires-2 c κs = omega (arith, ap length (firstLine-refused _ _ (
 returns : tie.Need-returns
 returns c =
     let put = c .before .before in
-    rw (firstLine-presets _ _ (put .before .before .before .before .opened .given .1)) (put .put-labelled .ensures)
+    let after-opened = put .before .before .before .before in
+    rw (firstLine-presets _ _ (after-opened .opened .given .1)) (put .put-labelled .ensures)
 
 returns-2 : tie.Need-returns-2
 returns-2 c =
     let put = c .before .before in
-    rw (firstLine-refused _ _ (put .before .before .before .before .opened2 .given .1)) (put .put-labelled2 .ensures)
+    let after-opened2 = put .before .before .before .before in
+    rw (firstLine-refused _ _ (after-opened2 .opened2 .given .1)) (put .put-labelled2 .ensures)
 
 pub put-first-spec : {M : Type 1} → statement M
 put-first-spec =

@@ -32,10 +32,14 @@ array-share-prefix-line : tie.Need-array-share-prefix-line
 array-share-prefix-line c = inside (c .before .before .before)
 
 slice-aggregate-put-bytes : tie.Need-slice-aggregate-put-bytes
-slice-aggregate-put-bytes c = sym (length-take-le _ _ (inside (c .before .before .before .before)))
+slice-aggregate-put-bytes c =
+    let after-put-first = c .before .before .before .before in
+    sym (length-take-le _ _ (inside after-put-first))
 
 put-bytes-requires : tie.Need-put-bytes-requires
-put-bytes-requires c κs = rw (length-take-le _ _ (inside (c .before .before .before .before))) (omega (arith, c .before .before .if1 .left))
+put-bytes-requires c κs =
+    let after-put-first = c .before .before .before .before in
+    rw (length-take-le _ _ (inside after-put-first)) (omega (arith, c .before .before .if1 .left))
 
 returns-2 : tie.Need-returns-2
 returns-2 c =

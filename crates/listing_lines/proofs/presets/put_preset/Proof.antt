@@ -11,10 +11,12 @@ use Rattle.listing_lines.proofs.presets.put_preset.Tie as tie
 
 -- the preset that was found
 preset : (c : tie.After-answer)
-    → let a = c .before .before .before .before .args in
+    → let entry = c .before .before .before .before in
     let g = c .answer .given .0 in
-    Found (c .before .before .before .before .pre .0) (now (a .book)) (a .number) (g .0) (g .1 .0) (g .1 .1 .0) (g .1 .1 .1 .0)
-preset c = found _ _ _ _ _ _ _ (sym (c .answer .given .1) ∙ c .before .before .before .before .pre .1 .0)
+    Found (entry .pre .0) (now (entry .args .book)) (entry .args .number) (g .0) (g .1 .0) (g .1 .1 .0) (g .1 .1 .1 .0)
+preset c =
+    let entry = c .before .before .before .before in
+    found _ _ _ _ _ _ _ (sym (c .answer .given .1) ∙ entry .pre .1 .0)
 
 put-refused-requires : tie.Need-put-refused-requires
 put-refused-requires c κs =
@@ -27,8 +29,9 @@ returns c =
     let put = c .before .before in
     let called = put .before .before in
     let told = called .before in
-    let a = told .before .before .before .before .args in
-    rw (lineBy-refused (now (a .book)) (a .number) _ _ _ (told .enum-told .given .1) (called .refusal-of .ensures)) at (put .put-refused .ensures)
+    let entry = told .before .before .before .before in
+    rw (lineBy-refused (now (entry .args .book)) (entry .args .number) _ _ _ (told .enum-told .given .1) (called .refusal-of .ensures)) at
+    (put .put-refused .ensures)
 
 add-end : tie.Need-add-end
 add-end c = omega (arith, found-small _ _ _ _ _ _ _ (preset (c .before)))
@@ -40,8 +43,8 @@ put-word-requires : tie.Need-put-word-requires
 put-word-requires c κs =
     let told = c .before .before .before in
     let f = preset told in
-    let pre = told .before .before .before .before .pre in
-    (found-rank _ _ _ _ _ _ _ f, found-word _ _ _ _ _ _ _ f, rw (lineBy-found _ _ _ _ _ _ _ (told .answer .given .1)) (pre .1 .1))
+    let entry = told .before .before .before .before in
+    (found-rank _ _ _ _ _ _ _ f, found-word _ _ _ _ _ _ _ f, rw (lineBy-found _ _ _ _ _ _ _ (told .answer .given .1)) (entry .pre .1 .1))
 
 returns-2 : tie.Need-returns-2
 returns-2 c =

@@ -65,10 +65,14 @@ returns-2 c =
     (window-never _ _ _ (pre .0) (pre .1) _ _ (w .before .before .entries-64 .ensures) _ (w .window-of-word .ensures) _ (c .enum-told2 .given .1))
 
 array-share-prefix-form : tie.Need-array-share-prefix-form
-array-share-prefix-form c = inside-form (c .before .before .before .before .before .before .before .before)
+array-share-prefix-form c =
+    let after-l = c .before .before .before .before .before .before .before .before in
+    inside-form after-l
 
 slice-aggregate-put-line : tie.Need-slice-aggregate-put-line
-slice-aggregate-put-line c = sym (length-take-le _ _ (inside-form (c .before .before .before .before .before .before .before .before .before)))
+slice-aggregate-put-line c =
+    let after-l = c .before .before .before .before .before .before .before .before .before in
+    sym (length-take-le _ _ (inside-form after-l))
 
 array-share-prefix-shown : tie.Need-array-share-prefix-shown
 array-share-prefix-shown c = inside-shown (c .before .before)
@@ -78,15 +82,15 @@ slice-aggregate-put-line-2 c = sym (length-take-le _ _ (inside-shown (c .before 
 
 put-line-requires : tie.Need-put-line-requires
 put-line-requires c κs =
-    let m = c .before .before .before .before in
-    let l = formed (m .before .before .before) in
-    wordLine-room _ _ _ _ _ _ _ (form l .part) (shown m .part) (start (l .before .before .before) .pre .2)
+    let after-m = c .before .before .before .before in
+    let l = formed (after-m .before .before .before) in
+    wordLine-room _ _ _ _ _ _ _ (form l .part) (shown after-m .part) (start (l .before .before .before) .pre .2)
 
 returns-3 : tie.Need-returns-3
 returns-3 c =
-    let m = c .before .before .before .before .before .before .before in
-    let l = formed (m .before .before .before) in
-    wordLine-put _ _ _ _ _ _ _ _ _ _ (form l .part) (shown m .part) (c .before .before .put-line .ensures)
+    let after-m = c .before .before .before .before .before .before .before in
+    let l = formed (after-m .before .before .before) in
+    wordLine-put _ _ _ _ _ _ _ _ _ _ (form l .part) (shown after-m .part) (c .before .before .put-line .ensures)
 
 pub put-word-spec : {M : Type 1} → statement M
 put-word-spec =

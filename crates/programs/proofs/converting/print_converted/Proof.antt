@@ -11,16 +11,18 @@ use Rattle.programs.proofs.converting.print_converted.Statement.{statem
 use Rattle.programs.proofs.converting.print_converted.Tie as tie
 
 -- the new book ends inside the buffer
-inside : (c : tie.After-known-told) → c .before .l .given .0 .0 ≤ length (c .before .before .before .before .convert .last .1 .1 .0)
-inside c =
-    let made = c .before .before .before .before .convert in
-    omega (arith, converting-room _ _ _ _ (sym (made .ensures .0) ∙ c .before .l .given .1), made .kept .1 .1 .0)
+book-ends-inside : (c : tie.After-known-told)
+    → let after-convert = c .before .before .before .before in
+    c .before .l .given .0 .0 ≤ length (after-convert .convert .last .1 .1 .0)
+book-ends-inside c =
+    let after-convert = c .before .before .before .before in
+    omega (arith, converting-room _ _ _ _ (sym (after-convert .convert .ensures .0) ∙ c .before .l .given .1), after-convert .convert .kept .1 .1 .0)
 
 array-share-prefix-out : tie.Need-array-share-prefix-out
-array-share-prefix-out c = inside c
+array-share-prefix-out c = book-ends-inside c
 
 slice-aggregate-print : tie.Need-slice-aggregate-print
-slice-aggregate-print c = sym (length-take-le _ _ (inside (c .before)))
+slice-aggregate-print c = sym (length-take-le _ _ (book-ends-inside (c .before)))
 
 pub print-converted-spec : {M : Type 1} → statement M
 print-converted-spec =

@@ -13,7 +13,8 @@ use Rattle.programs.proofs.converting.print_refused.Tie as tie
 -- the line ends inside the buffer
 inside : (c : tie.After-known-told) → c .before .l .given .0 .0 ≤ length (c .before .before .before .before .refused-book .last .1 .0)
 inside c =
-    let made = c .before .before .before .before .refused-book in
+    let after-refused-book = c .before .before .before .before in
+    let made = after-refused-book .refused-book in
     omega (arith, wrote _ _ _ _ _ (sym (c .before .l .given .1) ∙ made .ensures .0, made .ensures .1) .room, made .kept .1 .0)
 
 array-share-prefix-line : tie.Need-array-share-prefix-line

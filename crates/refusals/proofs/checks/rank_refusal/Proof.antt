@@ -15,7 +15,7 @@ use Rattle.refusals.proofs.checks.rank_refusal.Tie as tie
 known : (c : tie.Else2) → wrongKind (c .before .before .args .kind) ≡ false
 known c = wrongKind-within _ (c .before .if1 .left) (c .if2 .left)
 
-low : (c : tie.Else3) → let a = c .before .before .before .before .args in ltb (a .rank) (least (kindOf (a .kind))) ≡ false
+low : (c : tie.Else3) → let entry = c .before .before .before .before in ltb (entry .args .rank) (least (kindOf (entry .args .kind))) ≡ false
 low c = le-ltb _ _ (rw (c .before .least .ensures) at (c .if3 .left))
 
 returns : tie.Need-returns

@@ -30,50 +30,50 @@ begun c = c .before .before .before .before .before .before
 
 sub-q : tie.Need-sub-q Inv-loop μ-loop
 sub-q c =
-    let s = c .before .before .before .before .before in
-    omega (arith, ready-inside (s .pre))
+    let entry = c .before .before .before .before .before in
+    omega (arith, ready-inside (entry .pre))
 
 loop-holds : tie.Need-loop-holds Inv-loop μ-loop
 loop-holds c =
-    let s = c .before .before .before .before .before in
-    (refl, refl, refl, refl, moved-carried (s .pre) (carried-start (s .pre)))
+    let entry = c .before .before .before .before .before in
+    (refl, refl, refl, refl, moved-carried (entry .pre) (carried-start (entry .pre)))
 
 pass-requires : tie.Need-pass-requires Inv-loop μ-loop
 pass-requires c κs =
-    let l = c .before .before .before .before .before in
-    carried-ready (l .loop .inv .4 .0 (omega arith) .1) (start l .pre)
+    let at-loop = c .before .before .before .before .before in
+    carried-ready (at-loop .loop .inv .4 .0 (omega arith) .1) (start at-loop .pre)
 
 sub-turn : tie.Need-sub-turn Inv-loop μ-loop
 sub-turn c =
-    let g = c .before .before .before .before .before .before .before .before in
-    omega (arith, g .pass .ensures .0)
+    let after-pass = c .before .before .before .before .before .before .before .before in
+    omega (arith, after-pass .pass .ensures .0)
 
 add-turn : tie.Need-add-turn Inv-loop μ-loop
 add-turn c =
-    let g = c .before .before .before .before .before .before .before .before in
-    let l = begun g in
+    let after-pass = c .before .before .before .before .before .before .before .before in
+    let l = begun after-pass in
     let a = carried-ready (l .loop .inv .4 .0 (omega arith) .1) (start l .pre) in
-    let b = carried-ready (g .pass .ensures .1) a in
+    let b = carried-ready (after-pass .pass .ensures .1) a in
     omega (arith, b .room)
 
 turn-requires : tie.Need-turn-requires Inv-loop μ-loop
 turn-requires c κs =
-    let g = c .before .before .before .before .before .before .before .before .before .before .before .before in
-    let l = begun g in
+    let after-pass = c .before .before .before .before .before .before .before .before .before .before .before .before in
+    let l = begun after-pass in
     let a = carried-ready (l .loop .inv .4 .0 (omega arith) .1) (start l .pre) in
-    (carried-ready (g .pass .ensures .1) a, g .pass .ensures .2)
+    (carried-ready (after-pass .pass .ensures .1) a, after-pass .pass .ensures .2)
 
 loop-less : tie.Need-loop-less Inv-loop μ-loop
 loop-less c =
-    let t = c .before .before .before .before .before .before .before .before in
-    let g = t .before .before .before .before .before .before .before .before .before .before .before .before .before in
-    omega (arith, g .pass .ensures .0, t .turn .ensures .0)
+    let after-turn = c .before .before .before .before .before .before .before .before in
+    let after-pass = after-turn .before .before .before .before .before .before .before .before .before .before .before .before .before in
+    omega (arith, after-pass .pass .ensures .0, after-turn .turn .ensures .0)
 
 loop-again : tie.Need-loop-again Inv-loop μ-loop
 loop-again c =
-    let t = c .before .before .before .before .before .before .before .before in
-    let g = t .before .before .before .before .before .before .before .before .before .before .before .before .before in
-    let d = moved-again (begun g .loop .inv .4) (omega arith) (g .pass .ensures .1) (t .turn .ensures .1) in
+    let after-turn = c .before .before .before .before .before .before .before .before in
+    let after-pass = after-turn .before .before .before .before .before .before .before .before .before .before .before .before .before in
+    let d = moved-again (begun after-pass .loop .inv .4) (omega arith) (after-pass .pass .ensures .1) (after-turn .turn .ensures .1) in
     (search needs, search needs, search needs, search needs, d)
 
 same-length : tie.Need-same-length Inv-loop μ-loop

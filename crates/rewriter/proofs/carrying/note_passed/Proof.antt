@@ -66,10 +66,10 @@ returns-2 : tie.Need-returns-2 Inv-loop μ-loop
 returns-2 c =
     let i = c .before .loop .inv in
     let room = c .before .before .room-for .ensures in
-    let s = c .before .before .before .before .before .before .before in (
+    let entry = c .before .before .before .before .before .before .before in (
       stores-end _ _ _ _ _ (i .1) _ _ _ refl room (i .0) (c .loop-test .left),
-      stores-end _ _ _ _ _ (i .2) _ _ _ (sym (s .pre .0 .0)) room (i .0) (c .loop-test .left),
-      stores-end _ _ _ _ _ (i .3) _ _ _ (sym (s .pre .0 .1)) room (i .0) (c .loop-test .left),
+      stores-end _ _ _ _ _ (i .2) _ _ _ (sym (entry .pre .0 .0)) room (i .0) (c .loop-test .left),
+      stores-end _ _ _ _ _ (i .3) _ _ _ (sym (entry .pre .0 .1)) room (i .0) (c .loop-test .left),
     )
 
 pub note-passed-spec : {M : Type 1} → statement M

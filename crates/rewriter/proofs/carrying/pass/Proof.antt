@@ -9,22 +9,22 @@ use Rattle.rewriter.proofs.carrying.pass.Tie as tie
 
 shift-requires : tie.Need-shift-requires
 shift-requires c κs =
-    let s = c .before .before .before .before .before .before .before in
-    (s .pre .high, ready-word (s .pre), ready-inside (s .pre))
+    let entry = c .before .before .before .before .before .before .before in
+    (entry .pre .high, ready-word (entry .pre), ready-inside (entry .pre))
 
 note-passed-requires : tie.Need-note-passed-requires
 note-passed-requires c κs =
-    let s = c .before .before .before .before .before .before .before .before .before .before .before .before .before in
-    let short = s .pre .short in
-    ((s .pre .as-places, s .pre .as-lengths), (omega arith, omega (arith, ready-inside (s .pre)), omega arith))
+    let entry = c .before .before .before .before .before .before .before .before .before .before .before .before .before in
+    let short = entry .pre .short in
+    ((entry .pre .as-places, entry .pre .as-lengths), (omega arith, omega (arith, ready-inside (entry .pre)), omega arith))
 
 returns : tie.Need-returns
 returns c =
     let noted = c .before .before .before .before .before .before in
     let moved = noted .before .before .before .before .before .before in
-    let s = moved .before .before .before .before .before .before .before .before in
+    let entry = moved .before .before .before .before .before .before .before .before in
     let turned = moved .before .before in
-    passed (s .pre) _ refl (turned .levels-of .ensures) (moved .shift .ensures .0) (moved .shift .ensures .1) (moved .shift .ensures .2)
+    passed (entry .pre) _ refl (turned .levels-of .ensures) (moved .shift .ensures .0) (moved .shift .ensures .1) (moved .shift .ensures .2)
     (moved .shift .ensures .3) (noted .note-passed .ensures .0) (noted .note-passed .ensures .1) (noted .note-passed .ensures .2)
 
 pub pass-spec : {M : Type 1} → statement M

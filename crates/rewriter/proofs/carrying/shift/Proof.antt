@@ -45,8 +45,8 @@ commutes-requires c κs =
 
 slice-write-word : tie.Need-slice-write-word Inv-loop μ-loop
 slice-write-word c =
-    let l = c .before .before .before .before in
-    omega (arith, l .loop .inv .1, l .before .before .before .pre .2)
+    let at-loop = c .before .before .before .before in
+    omega (arith, at-loop .loop .inv .1, at-loop .before .before .before .pre .2)
 
 loop-again : tie.Need-loop-again Inv-loop μ-loop
 loop-again c =
@@ -63,11 +63,13 @@ loop-again c =
 
 slice-write-word-2 : tie.Need-slice-write-word-2 Inv-loop μ-loop
 slice-write-word-2 c =
-    let l = c .before .before .before .before in
-    omega (arith, l .loop .inv .1, l .before .before .before .pre .2)
+    let at-loop = c .before .before .before .before in
+    omega (arith, at-loop .loop .inv .1, at-loop .before .before .before .pre .2)
 
 same-length : tie.Need-same-length Inv-loop μ-loop
-same-length c = simp length-set (c .before .before .before .before .loop .inv .1)
+same-length c =
+    let at-loop = c .before .before .before .before in
+    simp length-set (at-loop .loop .inv .1)
 
 returns : tie.Need-returns Inv-loop μ-loop
 returns c =
@@ -92,8 +94,8 @@ same-length-2 c = simp length-set (c .before .loop .inv .1)
 returns-2 : tie.Need-returns-2 Inv-loop μ-loop
 returns-2 c =
     let i = c .before .loop .inv in
-    let s = c .before .before .before .before in
-    (i .0, put-set _ _ _ (s .pre .2) _ _ (i .0) (i .2), i .3, λ o. absurd (omega arith))
+    let entry = c .before .before .before .before in
+    (i .0, put-set _ _ _ (entry .pre .2) _ _ (i .0) (i .2), i .3, λ o. absurd (omega arith))
 
 pub shift-spec : {M : Type 1} → statement M
 shift-spec =

@@ -24,9 +24,9 @@ is-none c = c .before .before .before .before
 
 ending-rule-requires : tie.Need-ending-rule-requires
 ending-rule-requires c κs =
-    let s = c .before .before .before .before .before .before in
-    let a = s .pre .0 in
-    ((a .rank, a .high), ((a .reading, omega (arith, ready-inside a, a .short)), s .pre .1))
+    let entry = c .before .before .before .before .before .before in
+    let a = entry .pre .0 in
+    ((a .rank, a .high), ((a .reading, omega (arith, ready-inside a, a .short)), entry .pre .1))
 
 returns : tie.Need-returns
 returns c =
@@ -41,15 +41,16 @@ sub-left c =
 
 note-requires : tie.Need-note-requires
 note-requires c κs =
-    let f = c .before .before .before .before .before in
-    let r = searched f in
+    let after-family = c .before .before .before .before .before in
+    let r = searched after-family in
     let a = start r .pre .0 in
-    let p = turn-place a _ _ _ _ (r .ending-rule .ensures) (f .family .given .1) in
+    let p = turn-place a _ _ _ _ (r .ending-rule .ensures) (after-family .family .given .1) in
     ((a .as-places, a .as-lengths), (omega (arith, p, ready-inside a, a .short), omega (arith, a .short)))
 
 delete-requires : tie.Need-delete-requires
 delete-requires c κs =
-    let i = is-pair (c .before .before .before .before .before .before .before) in
+    let noted = c .before .before .before .before .before .before .before in
+    let i = is-pair noted in
     let f = i .before .before in
     let r = searched f in
     turn-pair (start r .pre .0) _ _ _ _ (r .ending-rule .ensures) (f .family .given .1) (i .if1 .taken)
@@ -57,25 +58,26 @@ delete-requires c κs =
 returns-2 : tie.Need-returns-2
 returns-2 c =
     let t = c .before .before in
-    let n = t .before .before .before .before .before .before .before .before in
-    let i = is-pair n in
+    let after-note = t .before .before .before .before .before .before .before .before in
+    let i = is-pair after-note in
     let f = i .before .before in
     let r = searched f in
     let d = turn-deleted (start r .pre .0) _ _ _ _ (r .ending-rule .ensures) (f .family .given .1) _ _ _ _ (i .if1 .taken)
-    (n .note .ensures .0) (n .note .ensures .1) (n .note .ensures .2) (t .delete .ensures) in
+    (after-note .note .ensures .0) (after-note .note .ensures .1) (after-note .note .ensures .2) (t .delete .ensures) in
     (omega arith, moved-ended d)
 
 note-requires-2 : tie.Need-note-requires-2
 note-requires-2 c κs =
-    let f = c .before .before .before .before .before in
-    let r = searched f in
+    let after-family = c .before .before .before .before .before in
+    let r = searched after-family in
     let a = start r .pre .0 in
-    let p = turn-place a _ _ _ _ (r .ending-rule .ensures) (f .family .given .1) in
+    let p = turn-place a _ _ _ _ (r .ending-rule .ensures) (after-family .family .given .1) in
     ((a .as-places, a .as-lengths), (omega (arith, p, ready-inside a, a .short), omega (arith, a .short)))
 
 carry-requires : tie.Need-carry-requires
 carry-requires c κs =
-    let i = is-none (c .before .before .before .before .before .before .before) in
+    let noted = c .before .before .before .before .before .before .before in
+    let i = is-none noted in
     let f = i .before .before in
     let r = searched f in
     (omega (arith, turn-place (start r .pre .0) _ _ _ _ (r .ending-rule .ensures) (f .family .given .1)), ready-inside (start r .pre .0))
@@ -83,13 +85,13 @@ carry-requires c κs =
 returns-3 : tie.Need-returns-3
 returns-3 c =
     let t = c .before .before in
-    let n = t .before .before .before .before .before .before .before .before in
-    let i = is-none n in
+    let after-note2 = t .before .before .before .before .before .before .before .before in
+    let i = is-none after-note2 in
     let f = i .before .before in
     let r = searched f in
     let p = turn-place (start r .pre .0) _ _ _ _ (r .ending-rule .ensures) (f .family .given .1) in
     let d = turn-carried (start r .pre .0) _ _ _ _ (r .ending-rule .ensures) (f .family .given .1) _ _ _ _ (i .if1 .left)
-    (n .note2 .ensures .0) (n .note2 .ensures .1) (n .note2 .ensures .2) (t .carry .ensures) in
+    (after-note2 .note2 .ensures .0) (after-note2 .note2 .ensures .1) (after-note2 .note2 .ensures .2) (t .carry .ensures) in
     (omega (arith, p), moved-carried (start r .pre .0) d)
 
 pub turn-spec : {M : Type 1} → statement M

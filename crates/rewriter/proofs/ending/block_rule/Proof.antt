@@ -37,8 +37,8 @@ returns-2 c =
 
 first-letter-requires : tie.Need-first-letter-requires
 first-letter-requires c κs =
-    let s = c .before .before .before .before .before .before .before .before in
-    (one-le (kindOf (s .args .kind)) _ (s .pre .0 .0), search needs)
+    let entry = c .before .before .before .before .before .before .before .before in
+    (one-le (kindOf (entry .args .kind)) _ (entry .pre .0 .0), search needs)
 
 returns-3 : tie.Need-returns-3
 returns-3 c =

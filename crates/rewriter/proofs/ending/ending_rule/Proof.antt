@@ -22,8 +22,8 @@ shared-slice-read-l c =
 
 shared-slice-read-x : tie.Need-shared-slice-read-x
 shared-slice-read-x c =
-    let s = c .before .before .before .before in
-    reading-inside _ _ (s .pre .0 .0) _ _ (s .pre .1 .0 .0)
+    let entry = c .before .before .before .before in
+    reading-inside _ _ (entry .pre .0 .0) _ _ (entry .pre .1 .0 .0)
 
 returns-2 : tie.Need-returns-2
 returns-2 c =
@@ -40,8 +40,8 @@ place-of-requires c κs =
 shared-slice-read-if3 : tie.Need-shared-slice-read-if3
 shared-slice-read-if3 c =
     let q = c .before .before in
-    let s = q .before .before .before .before .before .before in
-    omega (arith, reading-inside _ _ (s .pre .0 .0) _ _ (s .pre .1 .0 .0), q .place-of .ensures .0)
+    let entry = q .before .before .before .before .before .before in
+    omega (arith, reading-inside _ _ (entry .pre .0 .0) _ _ (entry .pre .1 .0 .0), q .place-of .ensures .0)
 
 returns-3 : tie.Need-returns-3
 returns-3 c =

@@ -14,16 +14,16 @@ returns c = begun-rising _ _ _ _ _ _ _ (c .before .before .floor-of .ensures) re
 
 cast-back : tie.Need-cast-back
 cast-back c =
-    let s = c .before .before .before .before .before .before in
-    omega (arith, letters-within _ _ (s .pre .0 .0) _ _ (s .pre .1 .0) (s .pre .1 .1) (s .args .q - 1) (omega arith))
+    let entry = c .before .before .before .before .before .before in
+    omega (arith, letters-within _ _ (entry .pre .0 .0) _ _ (entry .pre .1 .0) (entry .pre .1 .1) (entry .args .q - 1) (omega arith))
 
 returns-2 : tie.Need-returns-2
 returns-2 c =
     let t = c .before .before .before in
     let e = t .before in
-    let s = e .before .before .before .before .before .before in
+    let entry = e .before .before .before .before .before .before in
     begun-falling _ _ _ _ _ _ _ (e .before .before .floor-of .ensures) refl refl (e .before .if1 .left)
-    (stopped-rising _ _ (s .pre .0 .0) _ _ (s .pre .1 .0) (sym (e .levels-of .ensures) ∙ t .if2 .taken) _ _ (e .before .if1 .left) (omega arith)
+    (stopped-rising _ _ (entry .pre .0 .0) _ _ (entry .pre .1 .0) (sym (e .levels-of .ensures) ∙ t .if2 .taken) _ _ (e .before .if1 .left) (omega arith)
     (c .if4 .taken))
 
 returns-3 : tie.Need-returns-3

@@ -32,44 +32,46 @@ last-index-of-requires c κs =
     (s .pre .0 .1, letter _ _ _ (searchable s) _ (s .pre .1 .1) .1)
 
 loop-holds : tie.Need-loop-holds Inv-loop μ-loop
-loop-holds c = let s = c .before .before .before .before .before in searching-start _ _ _ (searchable s) _ (s .pre .1 .1)
+loop-holds c = let entry = c .before .before .before .before .before in searching-start _ _ _ (searchable entry) _ (entry .pre .1 .1)
 
 next-index-requires : tie.Need-next-index-requires Inv-loop μ-loop
 next-index-requires c κs =
-    let l = c .before .before .before .before in
-    let s = l .before .before .before .before in
-    let i = getD (s .args .word .now) (s .args .place) 0 in
-    let m = lastIndex-le-of (kindOf (s .args .kind)) _ i _ (l .last-index-of .ensures) in
-    (s .pre .0 .1, m, letter _ _ _ (searchable s) _ (c .before .loop-test .taken) .1)
+    let after-last-index-of = c .before .before .before .before in
+    let entry = after-last-index-of .before .before .before .before in
+    let i = getD (entry .args .word .now) (entry .args .place) 0 in
+    let m = lastIndex-le-of (kindOf (entry .args .kind)) _ i _ (after-last-index-of .last-index-of .ensures) in
+    (entry .pre .0 .1, m, letter _ _ _ (searchable entry) _ (c .before .loop-test .taken) .1)
 
 family-at-requires : tie.Need-family-at-requires Inv-loop μ-loop
 family-at-requires c κs =
-    let l = c .before .before .before .before in
-    let s = l .before .before .before .before .before .before in
-    let a = along-le _ _ _ _ (s .pre .0 .0) (l .loop .inv .along) in
-    (s .pre .0 .1, a .0, a .1)
+    let at-loop = c .before .before .before .before in
+    let entry = at-loop .before .before .before .before .before .before in
+    let a = along-le _ _ _ _ (entry .pre .0 .0) (at-loop .loop .inv .along) in
+    (entry .pre .0 .1, a .0, a .1)
 
 -- the answer where the letter x has left the way, with the family that `family_at` gave
 abbrev Answered : tie.After-family-at Inv-loop μ-loop → Type 0
 Answered t =
-    let l = t .before .before .before .before .before in
-    let s = l .before .before .before .before .before .before in
-    let u = s .args .word .now in
+    let at-loop = t .before .before .before .before .before in
+    let entry = at-loop .before .before .before .before .before .before in
+    let u = entry .args .word .now in
     let f = t .family-at .result in
-    fittingOf (firstFitting (rules (kindOf (s .args .kind)) (s .args .rank)) u (s .args .place))
+    fittingOf (firstFitting (rules (kindOf (entry .args .kind)) (entry .args .rank)) u (entry .args .place))
     ≡ pick (eqb f 0) Nothing
-    (Shown f (getD u (s .args .place) 0) (shownIndex f (l .loop .j) (getD u (l .loop .at) 0)) (l .loop .at + 1 - s .args .place))
+    (Shown f (getD u (entry .args .place) 0) (shownIndex f (at-loop .loop .j) (getD u (at-loop .loop .at) 0)) (at-loop .loop .at + 1 - entry .args .place))
 
 answered : (t : tie.After-family-at Inv-loop μ-loop) → Answered t
 answered t =
-    let l = t .before .before .before .before .before in
-    let f = l .before in
-    searching-found _ _ _ (searchable (f .before .before .before .before .before)) _ _ _ _ _ _ _ _ _
+    let turn = t .before .before .before .before in
+    let at-loop = t .before .before .before .before .before in
+    let f = at-loop .before in
+    let entry = f .before .before .before .before .before in
+    searching-found _ _ _ (searchable entry) _ _ _ _ _ _ _ _ _
     (f .before .before .levels-of .ensures)
     (f .before .last-index-of .ensures)
     (f .fork-of .ensures)
-    (l .loop .inv)
-    (t .before .before .before .before .loop-test .taken)
+    (at-loop .loop .inv)
+    (turn .loop-test .taken)
     (t .before .before .next-index .ensures)
     (t .before .if1 .taken)
     (t .family-at .ensures)
@@ -82,21 +84,21 @@ returns-2 c = sym (answered (c .before .before) ∙ rw (ne-eqb _ _ (c .before .i
 
 loop-again : tie.Need-loop-again Inv-loop μ-loop
 loop-again c =
-    let l = c .before .before .before .before in
-    let f = l .before in
-    let s = f .before .before .before .before .before in
-    searching-next _ _ _ (searchable s) _ _ _ _ _ _ _
+    let at-loop = c .before .before .before .before in
+    let f = at-loop .before in
+    let entry = f .before .before .before .before .before in
+    searching-next _ _ _ (searchable entry) _ _ _ _ _ _ _
     (f .before .before .levels-of .ensures)
     (f .before .last-index-of .ensures)
-    (l .loop .inv)
+    (at-loop .loop .inv)
     (c .before .before .before .loop-test .taken)
     (c .before .next-index .ensures)
     (c .if1 .left)
 
 returns-3 : tie.Need-returns-3 Inv-loop μ-loop
 returns-3 c =
-    let s = c .before .before .before .before .before .before .before in
-    searching-end _ _ _ (searchable s) _ _ _ _ (c .before .loop .inv) (c .loop-test .left)
+    let entry = c .before .before .before .before .before .before .before in
+    searching-end _ _ _ (searchable entry) _ _ _ _ (c .before .loop .inv) (c .loop-test .left)
 
 pub fitting-rule-spec : {M : Type 1} → statement M
 fitting-rule-spec =

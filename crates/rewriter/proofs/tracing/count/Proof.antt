@@ -8,8 +8,8 @@ use Rattle.rewriter.proofs.tracing.count.Tie as tie
 
 count-in-requires-2 : tie.Need-count-in-requires-2
 count-in-requires-2 c κs =
-    let p = c .before .before .before .before .pre in
-    (p, omega (arith, length-accepted _ _ (p .word), c .before .letters-4096 .ensures))
+    let entry = c .before .before .before .before in
+    ((entry .pre), omega (arith, length-accepted _ _ (entry .pre .word), c .before .letters-4096 .ensures))
 
 pub count-spec : {M : Type 1} → statement M
 count-spec =

@@ -20,55 +20,55 @@ abbrev μ-loop : tie.MeasureT-loop
 
 loop-holds : tie.Need-loop-holds Inv-loop μ-loop
 loop-holds c =
-    let s = c .before .before .before .before .before in
-    making-start _ _ _ _ _ _ _ (s .pre .0)
+    let entry = c .before .before .before .before .before in
+    making-start _ _ _ _ _ _ _ (entry .pre .0)
 
 slice-write-work : tie.Need-slice-write-work Inv-loop μ-loop
 slice-write-work c =
     let t = c .before in
     let l = t .before in
-    let s = l .before .before .before .before .before .before in
-    making-room _ _ _ _ _ _ _ (s .pre .0) (l .loop .inv) (t .loop-test .taken) (s .pre .1 .1) .0
+    let entry = l .before .before .before .before .before .before in
+    making-room _ _ _ _ _ _ _ (entry .pre .0) (l .loop .inv) (t .loop-test .taken) (entry .pre .1 .1) .0
 
 add-insert : tie.Need-add-insert Inv-loop μ-loop
 add-insert c =
-    let t = c .before .before .before .before .before in
-    let l = t .before in
-    let s = l .before .before .before .before .before .before in
-    let r = making-room _ _ _ _ _ _ _ (s .pre .0) (l .loop .inv) (t .loop-test .taken) (s .pre .1 .1) in
+    let turn = c .before .before .before .before .before in
+    let l = turn .before in
+    let entry = l .before .before .before .before .before .before in
+    let r = making-room _ _ _ _ _ _ _ (entry .pre .0) (l .loop .inv) (turn .loop-test .taken) (entry .pre .1 .1) in
     omega (arith, r)
 
 slice-relend-prefix-insert : tie.Need-slice-relend-prefix-insert Inv-loop μ-loop
 slice-relend-prefix-insert c =
-    let t = c .before .before .before .before .before in
-    let l = t .before in
-    let s = l .before .before .before .before .before .before in
-    let r = making-room _ _ _ _ _ _ _ (s .pre .0) (l .loop .inv) (t .loop-test .taken) (s .pre .1 .1) in
+    let turn = c .before .before .before .before .before in
+    let l = turn .before in
+    let entry = l .before .before .before .before .before .before in
+    let r = making-room _ _ _ _ _ _ _ (entry .pre .0) (l .loop .inv) (turn .loop-test .taken) (entry .pre .1 .1) in
     simp length-set (r .1)
 
 slice-aggregate-insert : tie.Need-slice-aggregate-insert Inv-loop μ-loop
 slice-aggregate-insert c =
-    let t = c .before .before .before .before .before .before in
-    let l = t .before in
-    let s = l .before .before .before .before .before .before in
-    sym (lent-length _ _ _ _ _ _ _ (s .pre .0) (l .loop .inv) (t .loop-test .taken) (s .pre .1 .1))
+    let turn = c .before .before .before .before .before .before in
+    let l = turn .before in
+    let entry = l .before .before .before .before .before .before in
+    sym (lent-length _ _ _ _ _ _ _ (entry .pre .0) (l .loop .inv) (turn .loop-test .taken) (entry .pre .1 .1))
 
 insert-requires : tie.Need-insert-requires Inv-loop μ-loop
 insert-requires c κs =
-    let t = c .before .before .before .before .before .before in
-    let l = t .before in
-    let s = l .before .before .before .before .before .before in
-    making-ready _ _ _ _ _ _ _ (s .pre .0) (l .loop .inv) (t .loop-test .taken) (s .pre .1 .1) (s .pre .1 .0 .0) (s .pre .1 .0 .1)
+    let turn = c .before .before .before .before .before .before in
+    let l = turn .before in
+    let entry = l .before .before .before .before .before .before in
+    making-ready _ _ _ _ _ _ _ (entry .pre .0) (l .loop .inv) (turn .loop-test .taken) (entry .pre .1 .1) (entry .pre .1 .0 .0) (entry .pre .1 .0 .1)
 
 loop-again : tie.Need-loop-again Inv-loop μ-loop
 loop-again c =
-    let g = c .before .before .before .before .before .before .before .before in
-    let t = g .before .before .before .before .before .before .before in
-    let l = t .before in
-    let s = l .before .before .before .before .before .before in
-    let k = g .insert .kept .1 .1 .1 .1 in
-    making-next _ _ _ _ _ _ _ (s .pre .0) (l .loop .inv) (t .loop-test .taken) (s .pre .1 .1)
-    (g .insert .ensures) (k .1 .1 .1 .0) (k .0) (k .1 .0) (k .1 .1 .0)
+    let after-insert = c .before .before .before .before .before .before .before .before in
+    let turn = after-insert .before .before .before .before .before .before .before in
+    let l = turn .before in
+    let entry = l .before .before .before .before .before .before in
+    let k = after-insert .insert .kept .1 .1 .1 .1 in
+    making-next _ _ _ _ _ _ _ (entry .pre .0) (l .loop .inv) (turn .loop-test .taken) (entry .pre .1 .1)
+    (after-insert .insert .ensures) (k .1 .1 .1 .0) (k .0) (k .1 .0) (k .1 .1 .0)
 
 same-length : tie.Need-same-length Inv-loop μ-loop
 same-length c =
@@ -93,8 +93,8 @@ same-length-4 c =
 returns : tie.Need-returns Inv-loop μ-loop
 returns c =
     let l = c .before in
-    let s = l .before .before .before .before .before .before in
-    making-end _ _ _ _ _ _ _ (s .pre .0) (l .loop .inv) (c .loop-test .left) (s .pre .1 .1)
+    let entry = l .before .before .before .before .before .before in
+    making-end _ _ _ _ _ _ _ (entry .pre .0) (l .loop .inv) (c .loop-test .left) (entry .pre .1 .1)
 
 pub make-spec : {M : Type 1} → statement M
 make-spec =

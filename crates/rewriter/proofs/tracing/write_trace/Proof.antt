@@ -8,9 +8,10 @@ use Rattle.rewriter.proofs.tracing.write_trace.Tie as tie
 
 write-in-requires-2 : tie.Need-write-in-requires-2
 write-in-requires-2 c κs =
-    let p = c .before .before .before .before .before .before .before .before .before .before .before .before .pre in
-    let letters = c .before .before .before .before .before .letters-4096 .ensures in
-    (p .0, (p .1 .0, (p .1 .1 .0, (p .1 .1 .1, omega (arith, length-accepted _ _ (p .0 .word), letters)))))
+    let entry = c .before .before .before .before .before .before .before .before .before .before .before .before in
+    let p = entry .pre in
+    let after-letters-4096 = c .before .before .before .before .before in
+    (p .0, (p .1 .0, (p .1 .1 .0, (p .1 .1 .1, omega (arith, length-accepted _ _ (p .0 .word), (after-letters-4096 .letters-4096 .ensures))))))
 
 pub write-trace-spec : {M : Type 1} → statement M
 write-trace-spec =

@@ -14,14 +14,15 @@ copy-requires-2 c κs = simp (length-take, length-drop, length-set) (omega arith
 same-length : tie.Need-same-length
 same-length c =
     let moved = c .before .before in
-    moved .copy2 .kept .1 .0 ∙ (simp length-set) ∙ moved .before .before .before .before .before .copy .kept .1 .0
+    let after-copy = moved .before .before .before .before .before in
+    moved .copy2 .kept .1 .0 ∙ (simp length-set) ∙ after-copy .copy .kept .1 .0
 
 returns : tie.Need-returns
 returns c =
     let moved = c .before .before in
     let copied = moved .before .before .before .before .before in
-    let s = copied .before .before .before .before in
-    written-moved _ _ _ _ _ _ _ (s .pre .0 .0) (s .pre .0 .1) (s .pre .1) (copied .copy .ensures) (moved .copy2 .ensures)
+    let entry = copied .before .before .before .before in
+    written-moved _ _ _ _ _ _ _ (entry .pre .0 .0) (entry .pre .0 .1) (entry .pre .1) (copied .copy .ensures) (moved .copy2 .ensures)
 
 pub write-moved-spec : {M : Type 1} → statement M
 write-moved-spec =

@@ -12,24 +12,25 @@ use Rattle.rewriter.proofs.writing.write_rewritten.Tie as tie
 write-without-requires : tie.Need-write-without-requires
 unfolding rightLength
 write-without-requires c κs =
-    let s = c .before .before .before .before in
-    (s .pre .1 .0 .1, omega (arith, rw (eq-eqb _ _ (c .before .if1 .taken)) at (s .pre .1 .1)))
+    let entry = c .before .before .before .before in
+    (entry .pre .1 .0 .1, omega (arith, rw (eq-eqb _ _ (c .before .if1 .taken)) at (entry .pre .1 .1)))
 
 returns : tie.Need-returns
 returns c =
-    let b = c .before .before .before .before in
-    rw (new-without _ _ _ _ _ _ _ (b .before .before .before .pre .1 .0 .1) (b .if1 .taken)) (c .before .before .write-without .ensures)
+    let past-if1 = c .before .before .before .before in
+    rw (new-without _ _ _ _ _ _ _ (past-if1 .before .before .before .pre .1 .0 .1) (past-if1 .if1 .taken)) (c .before .before .write-without .ensures)
 
 write-moved-requires : tie.Need-write-moved-requires
 unfolding rightLength
 write-moved-requires c κs =
-    let s = c .before .before .before .before .before in
-    (s .pre .1 .0, omega (arith, rw (ne-eqb _ _ (c .before .before .if1 .left)) at (s .pre .1 .1)))
+    let entry = c .before .before .before .before .before in
+    (entry .pre .1 .0, omega (arith, rw (ne-eqb _ _ (c .before .before .if1 .left)) at (entry .pre .1 .1)))
 
 returns-2 : tie.Need-returns-2
 returns-2 c =
-    let b = c .before .before .before .before in
-    rw (new-moved _ _ _ _ _ _ _ (b .before .before .before .before .pre .1 .0 .1) (b .before .if1 .left), ← b .first-letter .ensures)
+    let after-first-letter = c .before .before .before .before in
+    let entry = after-first-letter .before .before .before .before in
+    rw (new-moved _ _ _ _ _ _ _ (entry .pre .1 .0 .1) (after-first-letter .before .if1 .left), ← after-first-letter .first-letter .ensures)
     (c .before .before .write-moved .ensures)
 
 pub write-rewritten-spec : {M : Type 1} → statement M

@@ -17,9 +17,10 @@ copy-requires c κs = simp length-take (omega arith)
 
 returns : tie.Need-returns
 returns c =
-    let s = c .before .before .before .before .before .before .before .before .before .before .before .before in
-    written-without _ _ _ _ _ _ (s .pre .0) (s .pre .1)
-    (c .before .before .before .before .before .before .before .copy .ensures)
+    let after-copy = c .before .before .before .before .before .before .before in
+    let entry = c .before .before .before .before .before .before .before .before .before .before .before .before in
+    written-without _ _ _ _ _ _ (entry .pre .0) (entry .pre .1)
+    (after-copy .copy .ensures)
     (c .before .before .copy2 .ensures)
 
 pub write-without-spec : {M : Type 1} → statement M

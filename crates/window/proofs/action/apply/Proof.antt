@@ -36,8 +36,8 @@ cast-act-on c = omega (arith, c .shared-slice-known2 .given (c .before .before .
 act-on-requires : tie.Need-act-on-requires Inv-loop μ-loop
 act-on-requires c κs =
     let i = c .before .before .before .loop .inv in
-    let p = c .before .before .before .before .before .pre in
-    (letter-within _ _ _ (c .before .before .loop-test .taken) (i .2), (p .0, i .3))
+    let entry = c .before .before .before .before .before in
+    (letter-within _ _ _ (c .before .before .loop-test .taken) (i .2), (entry .pre .0, i .3))
 
 add-i : tie.Need-add-i Inv-loop μ-loop
 add-i c = omega arith
@@ -47,13 +47,14 @@ loop-less c = omega arith
 
 loop-again : tie.Need-loop-again Inv-loop μ-loop
 loop-again c =
-    let i = c .before .before .before .before .before .loop .inv in
-    let t = c .before .before .before .before .loop-test .taken in (
+    let at-loop = c .before .before .before .before .before in
+    let i = at-loop .loop .inv in
+    let turn = c .before .before .before .before in (
       omega arith,
       c .before .act-on .kept .1 .1 .1 .0 ∙ i .1,
-      wrongLetter-next _ _ _ t (i .2),
+      wrongLetter-next _ _ _ (turn .loop-test .taken) (i .2),
       refusal-next _ _ _ _ _ (i .3) (c .before .act-on .ensures),
-      i .4 ∙ windowFrom-next _ _ _ _ _ _ t (c .before .act-on .ensures),
+      i .4 ∙ windowFrom-next _ _ _ _ _ _ (turn .loop-test .taken) (c .before .act-on .ensures),
     )
 
 same-length : tie.Need-same-length Inv-loop μ-loop

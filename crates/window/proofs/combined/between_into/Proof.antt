@@ -40,7 +40,8 @@ product-into-requires c κs =
 returns : tie.Need-returns
 returns c =
     let called = c .before in
-    rw (held (called .before .before .before .before) .is) at (called .product-into .ensures)
+    let after-inverse-into = called .before .before .before .before in
+    rw (held after-inverse-into .is) at (called .product-into .ensures)
 
 pub between-into-spec : {M : Type 1} → statement M
 between-into-spec =

@@ -32,7 +32,8 @@ between-into-requires c κs =
 
 -- what the work window holds after the call
 held : (c : tie.After-between-into)
-    → let a = c .before .before .before .before .before .before .args in
+    → let entry = c .before .before .before .before .before .before in
+    let a = entry .args in
     Front (a .kind) (a .rank) (length (a .v .now)) (product (inverse (a .u .now)) (a .v .now)) (c .between-into .last .1 .1 .1 .1 .0)
 held c =
     let made = c .before .before in

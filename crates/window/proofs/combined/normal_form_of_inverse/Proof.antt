@@ -32,7 +32,8 @@ inverse-into-requires c κs =
 
 -- what the work window holds after the call
 held : (c : tie.After-inverse-into)
-    → let a = c .before .before .before .before .before .before .args in
+    → let entry = c .before .before .before .before .before .before in
+    let a = entry .args in
     Front (a .kind) (a .rank) (length (a .w .now)) (inverse (a .w .now)) (c .inverse-into .last .1 .1 .1 .0)
 held c =
     let made = c .before .before in

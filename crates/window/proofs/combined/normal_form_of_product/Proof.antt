@@ -33,7 +33,8 @@ product-into-requires c κs =
 
 -- what the work window holds after the call
 held : (c : tie.After-product-into)
-    → let a = c .before .before .before .before .before .before .args in
+    → let entry = c .before .before .before .before .before .before in
+    let a = entry .args in
     Front (a .kind) (a .rank) (length (a .v .now)) (product (a .u .now) (a .v .now)) (c .product-into .last .1 .1 .1 .1 .0)
 held c =
     let made = c .before .before in

@@ -41,7 +41,9 @@ size-of c =
     let e : ℤ = getD (now (turn .before .before .args .w)) (turn .before .loop .i - 1) (pos 0) in
     c .size .ensures ∙ ap natAbs (element-back e (c .before .e .given))
 
-bounds : (c : tie.After-size Inv-loop μ-loop) → (1 ≤ c .size .result) × (c .size .result ≤ length (c .before .before .before .before .args .w .now))
+bounds : (c : tie.After-size Inv-loop μ-loop)
+    → let entry = c .before .before .before .before in
+    (1 ≤ c .size .result) × (c .size .result ≤ length (entry .args .w .now))
 bounds c =
     let turn = c .before .before in
     let pre = turn .before .before .pre in
@@ -60,7 +62,8 @@ larger-behind-requires c κs =
 with-size-requires : tie.Need-with-size-requires Inv-loop μ-loop
 with-size-requires c κs =
     let at = c .before in
-    let b = bounds at in (b .0, omega (arith, b .1, at .before .before .before .before .pre .0))
+    let entry = at .before .before .before .before in
+    let b = bounds at in (b .0, omega (arith, b .1, entry .pre .0))
 
 -- the sign is that of the same entry
 sign-of : (c : tie.After-is-negative Inv-loop μ-loop)
@@ -91,15 +94,20 @@ add-pairs c =
     record { fits = omega (arith, fits) }
 
 sub-negative-sum-pairs : tie.Need-sub-negative-sum-pairs Inv-loop μ-loop
-sub-negative-sum-pairs c = bounds (c .before .before .before .before) .1
+sub-negative-sum-pairs c =
+    let after-size = c .before .before .before .before in
+    bounds after-size .1
 
 add-negative-sum-pairs : tie.Need-add-negative-sum-pairs Inv-loop μ-loop
 add-negative-sum-pairs c =
-    let at = c .before .before .before .before in
-    record { fits = omega (arith, small at, at .before .before .before .before .pre .0) }
+    let after-size = c .before .before .before .before in
+    let entry = after-size .before .before .before .before in
+    record { fits = omega (arith, small after-size, entry .pre .0) }
 
 add-negatives : tie.Need-add-negatives Inv-loop μ-loop
-add-negatives c = record { fits = omega (arith, small (c .before .before .before .before)) }
+add-negatives c =
+    let after-size = c .before .before .before .before in
+    record { fits = omega (arith, small after-size) }
 
 loop-again : tie.Need-loop-again Inv-loop μ-loop
 loop-again c =

@@ -73,7 +73,8 @@ peel-last-level-requires t c κs = omega (arith, among t (c .before .before .bef
 
 -- there are levels above
 more : (t : ℕ) (c : peel-lts.Then1 (calls t) (peel-at t) peel.Post)
-    → let a = c .before .before .before .before .before .args in a .i < lastLevel (kindOf (a .kind)) (a .m)
+    → let entry = c .before .before .before .before .before in
+    let a = entry .args in a .i < lastLevel (kindOf (a .kind)) (a .m)
 more t c = rw (c .before .last-level .ensures) at (c .if1 .taken)
 
 peel-add-peel : (t : ℕ) → peel-lts.Need-add-peel (calls t) (peel-at t) peel.Post

@@ -20,7 +20,9 @@ larger-behind-requires c κs =
     (b .0, b .1, half-fits (start .args .m) _ (pre .1))
 
 sub-t14 : tie.Need-sub-t14
-sub-t14 c = one-entry _ _ _ (c .before .before .before .before .before .pre .2)
+sub-t14 c =
+    let entry = c .before .before .before .before .before in
+    one-entry _ _ _ (entry .pre .2)
 
 returns : tie.Need-returns
 returns c =
@@ -66,7 +68,9 @@ returns-3 c =
     (asked .has-changed-sign2 .ensures) (out .before .if1 .left) (c .if3 .taken)
 
 sub-t19 : tie.Need-sub-t19
-sub-t19 c = one-entry _ _ _ (c .before .before .before .before .before .pre .2)
+sub-t19 c =
+    let entry = c .before .before .before .before .before in
+    one-entry _ _ _ (entry .pre .2)
 
 sub-t20 : tie.Need-sub-t20
 sub-t20 c =

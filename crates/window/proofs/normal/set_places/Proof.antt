@@ -25,14 +25,15 @@ loop-holds c = stored-none _ _ (c .pre .1 .1)
 
 -- the size that was computed is the entry's, and is at most the number of entries, which is at most 64
 size-is : (c : tie.After-size Inv-loop μ-loop)
-    → c .size .result ≡ natAbs (getD (c .before .before .before .before .args .w .now) (c .before .before .before .loop .i) (pos 0))
+    → let at-loop = c .before .before .before in
+    c .size .result ≡ natAbs (getD (at-loop .before .args .w .now) (at-loop .loop .i) (pos 0))
 size-is c =
     let turn = c .before .before in
     let e = getD (turn .before .before .args .w .now) (turn .before .loop .i) (pos 0) in
     c .size .ensures ∙ ap natAbs (element-back e (c .before .e .given))
 
-at-most-64 : (c : tie.After-size Inv-loop μ-loop) → length (c .before .before .before .before .args .w .now) ≤ 64
-at-most-64 c = let pre = c .before .before .before .before .pre in window-fits _ _ _ (pre .0) (pre .1 .0)
+at-most-64 : (c : tie.After-size Inv-loop μ-loop) → let entry = c .before .before .before .before in length (entry .args .w .now) ≤ 64
+at-most-64 c = let entry = c .before .before .before .before in window-fits _ _ _ (entry .pre .0) (entry .pre .1 .0)
 
 bounds : (c : tie.After-size Inv-loop μ-loop) → (1 ≤ c .size .result) × (c .size .result ≤ 64)
 bounds c =

@@ -40,7 +40,8 @@ returns c =
     let peeled = c .before .before in
     let all = peeled .before .before in
     let stored = all .before .before in
-    let pre = stored .before .before .before .before .pre in
+    let entry = stored .before .before .before .before in
+    let pre = entry .pre in
     first-written _ _ (pre .0) _ (pre .1 .0) _ _ (stored .set-places .ensures) (all .all-positions .ensures) _ (pre .1 .1) (peeled .peel .ensures)
 
 pub write-normal-form-spec : {M : Type 1} → statement M

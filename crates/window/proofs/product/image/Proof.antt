@@ -39,7 +39,9 @@ sub-p c = omega (arith, size-is c)
 shared-slice-copy-out-x : tie.Need-shared-slice-copy-out-x
 shared-slice-copy-out-x c = omega (arith, size-is c)
 
-sign-is : (c : tie.After-is-negative) → c .is-negative .result ≡ negative (c .before .before .before .before .args .e)
+sign-is : (c : tie.After-is-negative)
+    → let entry = c .before .before .before .before in
+    c .is-negative .result ≡ negative (entry .args .e)
 sign-is c =
     let start = c .before .before .before .before in
     c .is-negative .ensures ∙ ap negative (byte-back (start .args .e) (start .fits .e))

@@ -23,13 +23,16 @@ abbrev μ-loop : tie.MeasureT-loop
 
 -- the size that was computed is the entry's, and is a place of the window
 size-is : (c : tie.After-size Inv-loop μ-loop)
-    → c .size .result ≡ natAbs (getD (c .before .before .before .before .args .w .now) (c .before .before .before .loop .i) (pos 0))
+    → let at-loop = c .before .before .before in
+    c .size .result ≡ natAbs (getD (at-loop .before .args .w .now) (at-loop .loop .i) (pos 0))
 size-is c =
     let turn = c .before .before in
     let e = getD (turn .before .before .args .w .now) (turn .before .loop .i) (pos 0) in
     c .size .ensures ∙ ap natAbs (element-back e (c .before .e .given))
 
-bounds : (c : tie.After-size Inv-loop μ-loop) → (1 ≤ c .size .result) × (c .size .result ≤ length (c .before .before .before .before .args .w .now))
+bounds : (c : tie.After-size Inv-loop μ-loop)
+    → let entry = c .before .before .before .before in
+    (1 ≤ c .size .result) × (c .size .result ≤ length (entry .args .w .now))
 bounds c =
     let turn = c .before .before in
     rw (size-is c) (entry-bounds _ _ _ _ (turn .before .before .pre .1 .0) (turn .loop-test .taken))

@@ -19,7 +19,8 @@ show-front-requires c κs =
 
 -- what the work window holds after the call
 held : (c : tie.After-show-front)
-    → let a = c .before .before .before .before .args in
+    → let entry = c .before .before .before .before in
+    let a = entry .args in
     Front (a .kind) (a .rank) (a .m) (window (kindOf (a .kind)) (a .rank) (a .word .now)) (c .show-front .last .1 .1 .1 .1 .0)
 held c =
     let made = c .before .before in
@@ -35,7 +36,8 @@ slice-aggregate-crossings-of c = held (c .before .before) .size
 crossings-of-requires : tie.Need-crossings-of-requires
 crossings-of-requires c κs =
     let shown = c .before .before in
-    (lanes-le _ _ _ (shown .before .before .before .before .pre .0) refl, held shown .passes)
+    let entry = shown .before .before .before .before in
+    (lanes-le _ _ _ (entry .pre .0) refl, held shown .passes)
 
 returns : tie.Need-returns
 returns c = c .crossings-of .ensures ∙ ap (countedOf 0) (ap (crossings _) (held (c .before .before .before) .is))

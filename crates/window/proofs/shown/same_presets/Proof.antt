@@ -19,17 +19,19 @@ returns c =
 show-front-requires : tie.Need-show-front-requires
 show-front-requires c κs =
     let made = c .before in
-    let pre = made .before .before .before .before .pre .0 in
+    let entry = made .before .before .before .before in
+    let pre = entry .pre .0 in
     (pre .0, (pre .1, (pre .2, room _ _ _ (pre .0) (pre .1) (made .entries-64 .result) (made .entries-64 .ensures))))
 
 -- what the first work window holds
 first : (c : tie.After-show-front)
-    → let a = c .before .before .before .before .before .before .args in
+    → let entry = c .before .before .before .before .before .before in
+    let a = entry .args in
     Front (a .kind-a) (a .rank-a) (a .m) (window (kindOf (a .kind-a)) (a .rank-a) (a .a .now)) (c .show-front .last .1 .1 .1 .1 .0)
 first c =
     let made = c .before .before in
-    let pre = made .before .before .before .before .pre .0 in
-    front-written _ _ _ (pre .0) (pre .1) _ _ _ (window-passes _ _ _) (made .entries-64 .ensures) (c .show-front .ensures)
+    let entry = made .before .before .before .before in
+    front-written _ _ _ (entry .pre .0 .0) (entry .pre .0 .1) _ _ _ (window-passes _ _ _) (made .entries-64 .ensures) (c .show-front .ensures)
 
 show-front-requires-2 : tie.Need-show-front-requires-2
 show-front-requires-2 c κs =
@@ -41,7 +43,8 @@ show-front-requires-2 c κs =
 
 -- and the second
 second : (c : tie.After-show-front2)
-    → let a = c .before .before .before .before .before .before .before .before .before .before .args in
+    → let entry = c .before .before .before .before .before .before .before .before .before .before in
+    let a = entry .args in
     Front (a .kind-b) (a .rank-b) (a .m) (window (kindOf (a .kind-b)) (a .rank-b) (a .b .now)) (c .show-front2 .last .1 .1 .1 .1 .0)
 second c =
     let made = c .before .before in
@@ -52,7 +55,8 @@ second c =
 same-fronts-requires : tie.Need-same-fronts-requires
 same-fronts-requires c κs =
     let both = c .before .before .before in
-    (first (both .before .before .before .before) .fits, second both .fits)
+    let after-show-front = both .before .before .before .before in
+    (first after-show-front .fits, second both .fits)
 
 returns-2 : tie.Need-returns-2
 returns-2 c =

@@ -15,7 +15,8 @@ show-front-requires c κs =
 
 -- what the work window holds after the call
 held : (c : tie.After-show-front)
-    → let a = c .before .before .before .before .args in
+    → let entry = c .before .before .before .before in
+    let a = entry .args in
     Front (a .kind) (a .rank) (a .m) (window (kindOf (a .kind)) (a .rank) (a .word .now)) (c .show-front .last .1 .1 .1 .1 .0)
 held c =
     let made = c .before .before in
@@ -31,14 +32,15 @@ slice-aggregate-inverse-into c = held (c .before .before) .size
 inverse-into-requires : tie.Need-inverse-into-requires
 inverse-into-requires c κs =
     let shown = c .before .before .before in
-    let pre = shown .before .before .before .before .pre in
+    let entry = shown .before .before .before .before in
     let front = held shown in
-    (pre .0, (front .passes, rw (← front .size) (pre .1 .1 .1)))
+    (entry .pre .0, (front .passes, rw (← front .size) (entry .pre .1 .1 .1)))
 
 returns : tie.Need-returns
 returns c =
     let called = c .before in
-    rw (held (called .before .before .before .before) .is) at (called .inverse-into .ensures)
+    let after-show-front = called .before .before .before .before in
+    rw (held after-show-front .is) at (called .inverse-into .ensures)
 
 pub show-inverse-spec : {M : Type 1} → statement M
 show-inverse-spec =

@@ -14,14 +14,16 @@ slice-aggregate-apply c = sym (length-take-le _ _ (search needs))
 apply-requires : tie.Need-apply-requires
 apply-requires c κs =
     let shown = c .before .before in
-    let pre = shown .before .before .before .before .pre in
+    let entry = shown .before .before .before .before in
+    let pre = entry .pre in
     let part = part-window _ _ _ (pre .0) (pre .1 .0) _ _ _ (pre .1 .1 .1 .1) (shown .show-front .ensures) in
     (rank-accepted _ _ (pre .0), (pre .1 .1 .1 .0, rw part (window-passes _ _ _)))
 
 returns : tie.Need-returns
 returns c =
     let shown = c .before .before .before .before in
-    let pre = shown .before .before .before .before .pre in
+    let entry = shown .before .before .before .before in
+    let pre = entry .pre in
     part-product _ _ _ (pre .0) (pre .1 .0) _ _ _ (pre .1 .1 .1 .1) (shown .show-front .ensures) _ _ (c .before .apply .ensures)
 
 pub show-product-spec : {M : Type 1} → statement M
