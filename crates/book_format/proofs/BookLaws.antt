@@ -118,7 +118,7 @@ misplaced-next ed b j i o = elim (ℕ-discrete (offset b i) o) [ yes s ↦ right
 
 -- record i, which has to begin at byte o, as the code meets it: x is its offset, p the place of the letter count in a
 -- record, m the size of a record's head
-module _ (ed : Edition) (b : List ℕ) (c i o x : ℕ) (e : c ≡ count b) (h : i < c) (q : x ≡ twoAt b (length b - (2 * c + 2) + 2 * i)) (p m : ℕ)
+module _ (ed : Edition) (b : List ℕ) {c : ℕ} (i o : ℕ) {x : ℕ} (e : c ≡ count b) (h : i < c) (q : x ≡ twoAt b (length b - (2 * c + 2) + 2 * i)) {p m : ℕ}
     (w : p ≡ countPlace ed) (v : m ≡ headSize ed) where
   misplaced-at : misplacedFrom ed b (c - i) i o ≡ (not (eqb x o) || misplacedFrom ed b (c - (i + 1)) (i + 1) (endAt ed b x))
   misplaced-at =
@@ -134,9 +134,9 @@ module _ (ed : Edition) (b : List ℕ) (c i o x : ℕ) (e : c ≡ count b) (h : 
         rw (misplaced-at, misplaced-past ed b (c - (i + 1)) (i + 1) (endAt ed b x) (omega arith), or-true (not (eqb x o))) (or-true t)
 
     -- its letter count is l
-    pub misplaced-step : (l : ℕ) → l ≡ twoAt b (x + p)
+    pub misplaced-step : {l : ℕ} → l ≡ twoAt b (x + p)
         → (t || misplacedFrom ed b (c - i) i o) ≡ ((t || not (eqb x o)) || misplacedFrom ed b (c - (i + 1)) (i + 1) (x + m + l))
-    misplaced-step l y =
+    misplaced-step {l} y =
         rw (misplaced-at, end-read ed b x p m l w v y)
         (sym (or-assoc t (not (eqb x o)) (misplacedFrom ed b (c - (i + 1)) (i + 1) (endAt ed b x))))
 

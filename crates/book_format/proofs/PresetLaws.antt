@@ -60,18 +60,18 @@ presetAt-found ed b o r z = rw (eq-eqb r 0 z)
 -- the record at byte o: r is the refusal of its kind and rank, t whether its lane count is wrong, l its letter
 -- count, which has the place p in a record, m the size of its head, s the refusal of its preset by the calls' checks,
 -- of which kind and rank have passed theirs
-module _ (ed : Edition) (b : List ℕ) (o r : ℕ) (e : r ≡ bookRankRefusal ed (kindAt b o) (rankAt b o)) where
+module _ (ed : Edition) (b : List ℕ) (o : ℕ) {r : ℕ} (e : r ≡ bookRankRefusal ed (kindAt b o) (rankAt b o)) where
   pub checkedRecord-rank : (r ≡ 0 → ⊥) → checkedRecord ed b o ≡ preset.Refused r
   unfolding checkedRecord recordRefusal
   checkedRecord-rank f =
       rw (← e, then-some r (check 17 (wrongLaneCount ed b o) then wordRefusal (rankAt b o) (lettersAt ed b o)) f) (presetAt-refused ed b o r f)
 
-  module _ (z : r ≡ 0) (t : Bool) (w : t ≡ wrongLaneCount ed b o) where
+  module _ (z : r ≡ 0) {t : Bool} (w : t ≡ wrongLaneCount ed b o) where
     pub checkedRecord-lanes : t ≡ true → checkedRecord ed b o ≡ preset.Refused 17
     unfolding checkedRecord recordRefusal
     checkedRecord-lanes y = rw (← e, eq-eqb r 0 z, ← w, y) (presetAt-refused ed b o 17 (omega arith))
 
-    module _ (y : t ≡ false) (p m l s : ℕ) (g : p ≡ countPlace ed) (v : m ≡ headSize ed) (c : l ≡ twoAt b (o + p))
+    module _ (y : t ≡ false) {p m l s : ℕ} (g : p ≡ countPlace ed) (v : m ≡ headSize ed) (c : l ≡ twoAt b (o + p))
         (q : s ≡ (rankRefusal (kindAt b o) (rankAt b o) then wordRefusal (rankAt b o) (take (o + m + l - (o + m)) (drop (o + m) b)))) where
       recordRefusal-word : recordRefusal ed b o ≡ s
       unfolding recordRefusal

@@ -38,12 +38,12 @@ length-presetFields ed b (suc t) i =
 -- ---- reading a run
 
 -- what reading a run from preset i on answers, and the list afterwards: r is the refusal of the book, c the count
-module _ (ed : Edition) (b : List ℕ) (i : ℕ) (out : List ℕ) (r : ℕ) (e : r ≡ bookRefusal ed b) where
+module _ (ed : Edition) (b : List ℕ) (i : ℕ) (out : List ℕ) {r : ℕ} (e : r ≡ bookRefusal ed b) where
   pub reading-book : (r ≡ 0 → ⊥) → (answer.Refused r ≡ readingPresets ed b i out .answer) × (out ≡ readingPresets ed b i out .bytes)
   unfolding readingPresets answerOf written
   reading-book f = rw (← e, ne-eqb r 0 f) (rw (ne-eqb r 0 f) (refl, refl))
 
-  module _ (z : r ≡ 0) (c : ℕ) (q : c ≡ count b) where
+  module _ (z : r ≡ 0) {c : ℕ} (q : c ≡ count b) where
     pub reading-number : c ≤ i → (answer.Refused 4 ≡ readingPresets ed b i out .answer) × (out ≡ readingPresets ed b i out .bytes)
     unfolding readingPresets noSuchPreset answerOf written
     reading-number h = rw (← e, eq-eqb r 0 z, ← q, le-leb c i h) (refl, refl)
@@ -52,10 +52,10 @@ module _ (ed : Edition) (b : List ℕ) (i : ℕ) (out : List ℕ) (r : ℕ) (e :
     unfolding readingPresets noSuchPreset tooShort answerOf written
     reading-short h g = rw (← e, eq-eqb r 0 z, ← q, lt-leb c i h, lt-ltb (length out) 5 g) (refl, refl)
 
-    pub reading-run : (t : ℕ) (o : List ℕ) → i < c → 5 ≤ length out → t ≡ min (c - i) (length out / 5) → o ≡ sets out 0 (presetFields ed b t i)
+    pub reading-run : {t : ℕ} {o : List ℕ} → i < c → 5 ≤ length out → t ≡ min (c - i) (length out / 5) → o ≡ sets out 0 (presetFields ed b t i)
         → (answer.Length t ≡ readingPresets ed b i out .answer) × (o ≡ readingPresets ed b i out .bytes)
     unfolding readingPresets noSuchPreset tooShort runLength answerOf written
-    reading-run t o h g y p =
+    reading-run {t} {o} h g y p =
         let numbers = presetFields ed b t i in
         let l = length-presetFields ed b t i in
         let m = min-le-right (c - i) (length out / 5) in

@@ -127,22 +127,22 @@ append-accepted ed b k n u e = accepted ed b (append-book ed b k n u e)
 
 -- ---- what is answered and written: r is the refusal of checks 1 to 3, 5 to 8, 21 and 13, s the length of the new book
 
-module _ (ed : Edition) (b : List ℕ) (k n : ℕ) (u out : List ℕ) (r : ℕ) (e : r ≡ appendRefusal ed b k n u) where
+module _ (ed : Edition) (b : List ℕ) (k n : ℕ) (u out : List ℕ) {r : ℕ} (e : r ≡ appendRefusal ed b k n u) where
   pub appending-refused : (r ≡ 0 → ⊥) → (answer.Refused r ≡ appending ed b k n u out .answer) × (out ≡ appending ed b k n u out .bytes)
   unfolding appending
   appending-refused f = writes-refused (appending ed b k n u out) (appendRefusal ed b k n u) r (appended ed b k n u) out refl e f
 
-  pub appending-short : (s : ℕ) → s ≡ bookSize b + addedSize ed u → r ≡ 0 → length out < s
+  pub appending-short : {s : ℕ} → s ≡ bookSize b + addedSize ed u → r ≡ 0 → length out < s
       → (answer.Refused 14 ≡ appending ed b k n u out .answer) × (out ≡ appending ed b k n u out .bytes)
   unfolding appending
-  appending-short s f z h =
+  appending-short {s} f z h =
       writes-short (appending ed b k n u out) (appendRefusal ed b k n u) r (appended ed b k n u) out refl e s z
       (length-appended ed b k n u (append-accepted ed b k n u (sym e ∙ z)) ∙ sym f) h
 
-  pub appending-written : (s : ℕ) → s ≡ bookSize b + addedSize ed u → (o : List ℕ) → r ≡ 0 → s ≤ length out → o ≡ sets out 0 (appended ed b k n u)
+  pub appending-written : {s : ℕ} → s ≡ bookSize b + addedSize ed u → {o : List ℕ} → r ≡ 0 → s ≤ length out → o ≡ sets out 0 (appended ed b k n u)
       → (answer.Length s ≡ appending ed b k n u out .answer) × (o ≡ appending ed b k n u out .bytes)
   unfolding appending
-  appending-written s f o z h p =
+  appending-written {s} f {o} z h p =
       let l = length-appended ed b k n u (append-accepted ed b k n u (sym e ∙ z)) ∙ sym f in
       let new = appended ed b k n u in
       writes-written (appending ed b k n u out) (appendRefusal ed b k n u) r new out refl e s o z l h (p ∙ sets-front new out (rw l h))

@@ -204,9 +204,9 @@ second-refusable k₁ n₁ u v = record {
       verdict-refused-alike _ _ _ _ (sym p ∙ a .0 ∙ q) (λ z. a .1 (q ∙ z));
 }
 
-pub verdict-as-bytes : (k n : ℕ) (u : List ℕ) (k₂ n₂ : ℕ) (v : List ℕ) (l m l₂ m₂ : ℕ) → l ≡ byteOf k → m ≡ byteOf n → l₂ ≡ byteOf k₂ → m₂ ≡ byteOf n₂
+pub verdict-as-bytes : (k n : ℕ) (u : List ℕ) (k₂ n₂ : ℕ) (v : List ℕ) {l m l₂ m₂ : ℕ} → l ≡ byteOf k → m ≡ byteOf n → l₂ ≡ byteOf k₂ → m₂ ≡ byteOf n₂
     → presetsEqual l m u l₂ m₂ v ≡ presetsEqual k n u k₂ n₂ v
-verdict-as-bytes k n u k₂ n₂ v l m l₂ m₂ a b c d =
+verdict-as-bytes k n u k₂ n₂ v {l} {m} {l₂} {m₂} a b c d =
     as-bytes (first-refusable u l₂ m₂ v) k n l m a b ∙ as-bytes (second-refusable k n u v) k₂ n₂ l₂ m₂ c d
 
 better-refusable : (u v : List ℕ) → Refusable (λ k n. handsBack k n u v)
@@ -224,24 +224,24 @@ rewriting-refusable u p out rule = record { alike = λ k n l m e f. rw (e, ne-eq
 -- ---- answers
 
 -- a call below was given the bytes, and answered a; its number is z
-pub measured : {F : ℕ → ℕ → Answer} → Refusable F → (k n l m : ℕ) (z : ℤ) (a : Answer) → l ≡ byteOf k → m ≡ byteOf n → mag z < 9223372036854775808
+pub measured : {F : ℕ → ℕ → Answer} → Refusable F → (k n : ℕ) {l m : ℕ} {z : ℤ} {a : Answer} → l ≡ byteOf k → m ≡ byteOf n → mag z < 9223372036854775808
     → z ≡ numberOf a → a ≡ F l m → toZ w64 (ofZ w64 z) ≡ numberOf (F k n)
-measured r k n l m z a e f h q b = answered z a _ h q (b ∙ as-bytes r k n l m e f)
+measured r k n {l} {m} {z} {a} e f h q b = answered z a _ h q (b ∙ as-bytes r k n l m e f)
 
-pub yielded : {X : Type 0} {F : ℕ → ℕ → Outcome X} → Refusable F → (k n l m : ℕ) (z : ℤ) (a : Answer) (after : List X) → l ≡ byteOf k → m ≡ byteOf n
+pub yielded : {X : Type 0} {F : ℕ → ℕ → Outcome X} → Refusable F → (k n : ℕ) {l m : ℕ} {z : ℤ} {a : Answer} {after : List X} → l ≡ byteOf k → m ≡ byteOf n
     → mag z < 9223372036854775808 → z ≡ numberOf a → (a ≡ F l m .answer) × (after ≡ F l m .bytes) → (toZ w64 (ofZ w64 z), after) ≡ numbered (F k n)
-yielded r k n l m z a after e f h q b = numbers-alike z a after _ h q (rw (as-bytes r k n l m e f) at b)
+yielded r k n {l} {m} {z} {a} {after} e f h q b = numbers-alike z a after _ h q (rw (as-bytes r k n l m e f) at b)
 
 -- and a call that counts answered a, whose numbers went to a list
-pub crossings-as-bytes : {F : ℕ → ℕ → Counted} → Refusable F → (k n l m : ℕ) (a : Counted) (list : List ℕ) (z : ℤ) (after : List ℕ) → l ≡ byteOf k
+pub crossings-as-bytes : {F : ℕ → ℕ → Counted} → Refusable F → (k n : ℕ) {l m : ℕ} {a : Counted} (list : List ℕ) (z : ℤ) (after : List ℕ) → l ≡ byteOf k
     → m ≡ byteOf n → mag z < 9223372036854775808 → (z, after) ≡ listed (crossingNumbers a) list → a ≡ F l m
     → (toZ w64 (ofZ w64 z), after) ≡ listed (crossingNumbers (F k n)) list
-crossings-as-bytes f k n l m a list z after e g h s b = rw (← (b ∙ as-bytes f k n l m e g), i64-back z h) s
+crossings-as-bytes f k n {l} {m} list z after e g h s b = rw (← (b ∙ as-bytes f k n l m e g), i64-back z h) s
 
 -- and a call whose number is z left y
-pub as-bytes-back : {Y : Type 0} {F : ℕ → ℕ → ℤ × Y} → Refusable F → (k n l m : ℕ) (z : ℤ) (y : Y) → l ≡ byteOf k → m ≡ byteOf n
+pub as-bytes-back : {Y : Type 0} {F : ℕ → ℕ → ℤ × Y} → Refusable F → (k n : ℕ) {l m : ℕ} (z : ℤ) (y : Y) → l ≡ byteOf k → m ≡ byteOf n
     → mag z < 9223372036854775808 → (z, y) ≡ F l m → (toZ w64 (ofZ w64 z), y) ≡ F k n
-as-bytes-back r k n l m z y e f h q = rw (i64-back z h) (q ∙ as-bytes r k n l m e f)
+as-bytes-back r k n {l} {m} z y e f h q = rw (i64-back z h) (q ∙ as-bytes r k n l m e f)
 
 -- ---- refusals of 32 bits: a number that is no byte has no message, as 0 has none
 
@@ -251,8 +251,8 @@ message-as-byte k out = elim (decLe k 255) [
   | no g ↦ ap (λ (j : ℕ). refusalMessage j out) (byteOf-above k (omega arith)) ∙ sym (unknown-alike k out (omega arith))
 ]
 
-pub message-yielded : (k l : ℕ) (out : List ℕ) (z : ℤ) (a : Answer) (after : List ℕ) → l ≡ byteOf k → mag z < 9223372036854775808 → z ≡ numberOf a
+pub message-yielded : (k : ℕ) {l : ℕ} (out : List ℕ) {z : ℤ} {a : Answer} {after : List ℕ} → l ≡ byteOf k → mag z < 9223372036854775808 → z ≡ numberOf a
     → (a ≡ refusalMessage l out .answer) × (after ≡ refusalMessage l out .bytes) → (toZ w64 (ofZ w64 z), after) ≡ numbered (refusalMessage k out)
-message-yielded k l out z a after e h q b =
+message-yielded k {l} out {z} {a} {after} e h q b =
     let same : refusalMessage l out ≡ refusalMessage k out = ap (λ (j : ℕ). refusalMessage j out) e ∙ message-as-byte k out in
     numbers-alike z a after (refusalMessage k out) h q (rw same at b)

@@ -188,10 +188,10 @@ module _ (k n : ℕ) where
 -- ---- the layers above it
 
 -- a rewritten word is no longer than the word, and so has at most 4,096 letters
-pub rewrote-small : (k n : ℕ) (u : List ℕ) (p : ℕ) (before after : List ℕ) (a : Rewrite) → Rewrote single k n u p before after a
+pub rewrote-small : {k n : ℕ} {u : List ℕ} {p : ℕ} {before after : List ℕ} {a : Rewrite} → Rewrote single k n u p before after a
     → (f i j l : ℕ) → a ≡ Used f i j l → l ≤ 65535
 unfolding rewriteAt
-rewrote-small k n u p before after a w f i j l e =
+rewrote-small {k} {n} {u} {p} {before} {after} w f i j l e =
     let r = rankRefusal k n then wordRefusal n u then check 12 (pastEnd u p) in
     elim (ℕ-discrete r 0) [
       | yes z ↦

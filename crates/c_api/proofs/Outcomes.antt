@@ -49,7 +49,7 @@ module _ (x : Counted) (list : List ℕ) where
     crossings-stored z h e = rw (q, ← e) (listed-stored z (a ∷ b ∷ c ∷ []) list h)
 
 -- the call below answered a, which is its definition d
-module _ (a d : Preset) (list : List ℕ) (e : a ≡ d) where
+module _ {a d : Preset} (list : List ℕ) (e : a ≡ d) where
   pub fields-refused : (z : ℤ) (r : ℕ) → a ≡ preset.Refused r → z ≡ refused r → (z, list) ≡ listed (presetNumbers d) list
   unfolding presetNumbers
   fields-refused z r q f = rw (← e, q, ← f) (listed-alone z list)
@@ -88,7 +88,7 @@ rewriting-listed k n u p out rule = go (eqb r 0) (firstFitting (rules (kindOf k)
       | no h ↦ rw (lt-leb (length (rewritten x u p)) (length out) (lt-of-not-le h), le-ltb (length rule) 0 (omega arith))
     ]
 
-module _ (k n : ℕ) (u : List ℕ) (p : ℕ) (out after rule : List ℕ) (a : Rewrite) (w : Rewrote single k n u p out after a) (z : ℤ) where
+module _ {k n : ℕ} {u : List ℕ} {p : ℕ} {out after : List ℕ} (rule : List ℕ) {a : Rewrite} (w : Rewrote single k n u p out after a) (z : ℤ) where
   pub rewriting-used : (f i j l : ℕ) → a ≡ Used f i j l → 3 ≤ length rule → z ≡ pos l
       → (z, (after, sets rule 0 (f ∷ i ∷ j ∷ []))) ≡ rewriting k n u p out rule
   unfolding rewriteNumbers
@@ -147,9 +147,9 @@ pub rewriting-narrow : (k n : ℕ) (u : List ℕ) (p : ℕ) (after : List ℕ) (
     → roomless (rewriteNumbers a) ≡ rewriting k n u p [] [] .0
 rewriting-narrow k n u p after a w = rw (rewriting-without k n u p [] [] (omega arith), ← w .answer)
 
-pub rewriting-roomless : (k n : ℕ) (u : List ℕ) (p : ℕ) (out rule : List ℕ) (z : ℤ) (after : List ℕ) → length rule < 3
+pub rewriting-roomless : (k n : ℕ) (u : List ℕ) (p : ℕ) {out : List ℕ} (rule : List ℕ) {z : ℤ} {after : List ℕ} → length rule < 3
     → z ≡ rewriting k n u p [] [] .0 → after ≡ out → (z, (after, rule)) ≡ rewriting k n u p out rule
-rewriting-roomless k n u p out rule z after h e f =
+rewriting-roomless k n u p {out} rule h e f =
     rw (e, f, rewriting-without k n u p out rule h, rewriting-without k n u p [] [] (omega arith), roomless-rewrite k n u p out)
 
 -- an empty part holds nothing

@@ -65,10 +65,10 @@ roomless-table k n counts entries letters =
     roomless-answer tableNumbers (Written d w u) Refused (tableRefusal k n) (check 14 (tooShort d counts) then check 14 s then check 14 t) refl (λ r. refl)
     (room-more (tooShort d counts) (check 14 s then check 14 t) (room-more s (check 14 t) (room-last t)))
 
-pub delayTableListed-roomless : (k n : ℕ) (counts : List ℕ) (entries : List ℤ) (letters lengths : List ℕ) (r : ℕ) (z : ℤ) → length lengths < 3
+pub delayTableListed-roomless : (k n : ℕ) (counts : List ℕ) (entries : List ℤ) (letters lengths : List ℕ) {r : ℕ} {z : ℤ} → length lengths < 3
     → r ≡ tableRefusal k n → z ≡ refused (r then 14) → (z, ((counts, entries, letters), lengths)) ≡ delayTableListed k n counts entries letters lengths
 unfolding delayTableListed
-delayTableListed-roomless k n counts entries letters lengths r z h e f =
+delayTableListed-roomless k n counts entries letters lengths h e f =
     let t = delayTable k n counts entries letters in
     rw (f, e, ← roomless-table k n counts entries letters)
     (sym (beside-roomless (table-numbers (t .answer)) (t .counts, t .entries, t .letters) (counts, entries, letters) lengths (omega arith) h

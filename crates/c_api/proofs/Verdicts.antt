@@ -22,7 +22,7 @@ use Rattle.c_api.proofs.Bytes.{byteOf, bytes-or-refused, Refusable}
 
 -- ---- fallbacks
 
-module _ (k n l m : ℕ) (present simpler places after : List ℕ) (a : Fallback) (e : l ≡ byteOf k) (f : m ≡ byteOf n)
+module _ (k n : ℕ) {l m : ℕ} {present simpler places after : List ℕ} {a : Fallback} (e : l ≡ byteOf k) (f : m ≡ byteOf n)
     (h : FellBack l m present simpler places a after) where
   pub fellBack-as-bytes : FellBack k n present simpler places a after
   fellBack-as-bytes = elim (bytes-or-refused k n) [
@@ -31,12 +31,12 @@ module _ (k n l m : ℕ) (present simpler places after : List ℕ) (a : Fallback
   ]
 
   -- z is its number
-  pub fallback-numbered : (z : ℤ) → z ≡ fallbackNumber a → FallbackNumbered k n present simpler places z after
-  fallback-numbered z p = let q = fellBack-as-bytes .answer in (p ∙ ap fallbackNumber q, rw q at fellBack-as-bytes)
+  pub fallback-numbered : {z : ℤ} → z ≡ fallbackNumber a → FallbackNumbered k n present simpler places z after
+  fallback-numbered p = let q = fellBack-as-bytes .answer in (p ∙ ap fallbackNumber q, rw q at fellBack-as-bytes)
 
-pub fallback-size : (l m : ℕ) (present simpler places after : List ℕ) (a : Fallback) (s : ℕ) → FellBack l m present simpler places a after
+pub fallback-size : {l m : ℕ} {present simpler places after : List ℕ} {a : Fallback} (s : ℕ) → FellBack l m present simpler places a after
     → a ≡ Kept s → s ≤ 65535
-fallback-size l m present simpler places after a s h q = omega (arith, kept-le l m present simpler places after s (rw q at h))
+fallback-size {l} {m} {present} {simpler} {places} {after} s h q = omega (arith, kept-le l m present simpler places after s (rw q at h))
 
 -- ---- from one window to another
 

@@ -36,13 +36,13 @@ module _ (q m : ℕ) (r : Lanes) (e : r ≡ lanesOf q m) where
       let p = refusal-of-lanes s g in
       g ∙ lanes-refused (q then t) m s (then-refused q s t (p .0) (p .1)) (p .1)
 
-  pub lanes-then-next : (t s a : ℕ) → r ≡ Count a → s ≡ t → (s ≡ 0 → ⊥) → Refused s ≡ lanesOf (q then t) m
-  lanes-then-next t s a g h f =
+  pub lanes-then-next : {t : ℕ} (s a : ℕ) → r ≡ Count a → s ≡ t → (s ≡ 0 → ⊥) → Refused s ≡ lanesOf (q then t) m
+  lanes-then-next {t} s a g h f =
       let p = count-of-lanes a g in
       lanes-refused (q then t) m s (then-next q q t s refl (p .0) h) f
 
-  pub lanes-then-passed : (t s a : ℕ) → r ≡ Count a → s ≡ t → s ≡ 0 → r ≡ lanesOf (q then t) m
-  lanes-then-passed t s a g h z =
+  pub lanes-then-passed : {t : ℕ} (s a : ℕ) → r ≡ Count a → s ≡ t → s ≡ 0 → r ≡ lanesOf (q then t) m
+  lanes-then-passed {t} s a g h z =
       let p = count-of-lanes a g in
       g ∙ lanes-counted (q then t) m a (then-none q t (p .0) ∙ sym h ∙ z) (p .1)
 

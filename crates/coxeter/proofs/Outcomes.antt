@@ -79,9 +79,9 @@ module _ (k n : ℕ) (u : List ℕ) (l m : ℕ) (v : List ℕ) where
     unfolding presetsEqual verdictOf
     verdict-no s z g t = rw (← e, eq-eqb r 0 z, ← g, t)
 
-  pub lanes-differ : (a b : ℕ) → a ≡ lanes (kindOf k) n → b ≡ lanes (kindOf l) m → (a ≡ b → ⊥) → false ≡ samePresets k n u l m v
+  pub lanes-differ : {a b : ℕ} → a ≡ lanes (kindOf k) n → b ≡ lanes (kindOf l) m → (a ≡ b → ⊥) → false ≡ samePresets k n u l m v
   unfolding samePresets
-  lanes-differ a b e f d = rw (← e, ← f, ne-eqb a b d)
+  lanes-differ {a} {b} e f d = rw (← e, ← f, ne-eqb a b d)
 
   pub same-lanes : (s : Bool) → lanes (kindOf k) n ≡ lanes (kindOf l) m → s ≡ sameWindow (window (kindOf k) n u) (window (kindOf l) m v)
       → s ≡ samePresets k n u l m v

@@ -48,7 +48,7 @@ module _ (k n : ℕ) (h : tableRefusal k n ≡ 0) where
 -- ---- one case after another
 
 -- r is the refusal that was computed before check 14
-module _ (k n : ℕ) (counts : List ℕ) (entries : List ℤ) (letters : List ℕ) (r : ℕ) (e : r ≡ tableRefusal k n) where
+module _ (k n : ℕ) (counts : List ℕ) (entries : List ℤ) (letters : List ℕ) {r : ℕ} (e : r ≡ tableRefusal k n) where
   -- refused with s, all three as they were
   abbrev Unchanged : ℕ → Type 0
   Unchanged s = TableYields (delayTable k n counts entries letters) (Refused s) counts entries letters
@@ -58,7 +58,7 @@ module _ (k n : ℕ) (counts : List ℕ) (entries : List ℤ) (letters : List �
   table-refused f = rw (← e, ne-eqb r 0 f) (rw (ne-eqb r 0 f) (refl, refl, refl, refl))
 
   -- l is the greatest length
-  module _ (l : ℕ) (z : r ≡ 0) (g : l ≡ greatestLength (kindOf k) n) where
+  module _ {l : ℕ} (z : r ≡ 0) (g : l ≡ greatestLength (kindOf k) n) where
     small : least (kindOf k) ≤ n
     small = table-rank k n (sym e ∙ z) .0
 
@@ -73,7 +73,7 @@ module _ (k n : ℕ) (counts : List ℕ) (entries : List ℤ) (letters : List �
     counts-short h = rw (← e, eq-eqb r 0 z, counts-length, lt-ltb (length counts) (l + 1) h) (refl, refl, refl, refl)
 
     -- m is the number of lanes
-    module _ (m : ℕ) (q : m ≡ lanes (kindOf k) n) (c : l + 1 ≤ length counts) where
+    module _ {m : ℕ} (q : m ≡ lanes (kindOf k) n) (c : l + 1 ≤ length counts) where
       entries-length : length (longest (kindOf k) n) ≡ m
       entries-length = length-longest (kindOf k) n small ∙ sym q
 
@@ -95,9 +95,9 @@ module _ (k n : ℕ) (counts : List ℕ) (entries : List ℤ) (letters : List �
       unfolding delayTable tables tableOf written
       letters-short s h = rw (room s, lt-ltb (length letters) l h) (refl, refl, refl, refl)
 
-      pub table-written : (x : List ℕ) (y : List ℤ) (v : List ℕ) → m ≤ length entries → l ≤ length letters
+      pub table-written : {x : List ℕ} {y : List ℤ} {v : List ℕ} → m ≤ length entries → l ≤ length letters
           → x ≡ front (distribution (kindOf k) n) counts → y ≡ front (longest (kindOf k) n) entries
           → v ≡ front (normalForm (kindOf k) n (longest (kindOf k) n)) letters
           → TableYields (delayTable k n counts entries letters) (Written (l + 1) m l) x y v
       unfolding delayTable tables tableOf written
-      table-written x y v s h i j o = rw (room s, le-ltb (length letters) l h, counts-length, entries-length, form-length) (refl, i, j, o)
+      table-written s h i j o = rw (room s, le-ltb (length letters) l h, counts-length, entries-length, form-length) (refl, i, j, o)

@@ -104,20 +104,20 @@ least-positive D = omega arith
 pub rank-between : {k n : ℕ} {u : List ℕ} → AcceptedWord k n u → (1 ≤ n) × (n ≤ 64)
 rank-between {k} {n} h = omega (arith, least-positive (kindOf k), rank-accepted k n (h .rank))
 
-module _ (k n : ℕ) (u : List ℕ) (p : ℕ) (out : List ℕ) (h : AcceptedWord k n u) (g : p < length u) where
+module _ {k n : ℕ} {u : List ℕ} (p : ℕ) (out : List ℕ) (h : AcceptedWord k n u) (g : p < length u) where
   rewriteAt-placed : rewriteAt single k n u p out ≡ rewriteBy single (firstFitting (rules (kindOf k) n) u p) u p out
   unfolding pastEnd
   rewriteAt-placed = rewriteAt-accepted single k n u p out h ∙ rw (lt-leb (length u) p g)
 
-  pub rewrote-none : (q : Fitting) → q ≡ fittingOf (firstFitting (rules (kindOf k) n) u p) → q ≡ Nothing → Rewrote single k n u p out out NoneFits
+  pub rewrote-none : {q : Fitting} → q ≡ fittingOf (firstFitting (rules (kindOf k) n) u p) → q ≡ Nothing → Rewrote single k n u p out out NoneFits
   unfolding rewriteBy
-  rewrote-none q e t = go (firstFitting (rules (kindOf k) n) u p) refl (sym e ∙ t)
+  rewrote-none e t = go (firstFitting (rules (kindOf k) n) u p) refl (sym e ∙ t)
     where
       go : (o : Option Rule) → firstFitting (rules (kindOf k) n) u p ≡ o → fittingOf o ≡ Nothing → Rewrote single k n u p out out NoneFits
       go none c d = rewrote-by k n u p out {t = rewriteBy single none u p out} (rewriteAt-placed ∙ ap (λ (o : Option Rule). rewriteBy single o u p out) c)
       go (some x) c d = zero-not-one (cc)
 
-  module _ (f i j l m : ℕ) (w : Fitted (kindOf k) n u p f i j l) (e : m ≡ length u - l + rightLength f l) where
+  module _ {f i j l m : ℕ} (w : Fitted (kindOf k) n u p f i j l) (e : m ≡ length u - l + rightLength f l) where
     abbrev rule : Rule
     rule = shownRule n f i j (take l (drop p u))
 
@@ -130,9 +130,9 @@ module _ (k n : ℕ) (u : List ℕ) (p : ℕ) (out : List ℕ) (h : AcceptedWord
     rewrote-short t =
         rewrote-refused k n u p out 14 (rewriteAt-placed ∙ rw (w .fitting, length-rewritten, lt-leb m (length out) t))
 
-    pub rewrote-used : (after : List ℕ) → m ≤ length out → after ≡ front (rewritten rule u p) out → Rewrote single k n u p out after (Used f i j m)
+    pub rewrote-used : {after : List ℕ} → m ≤ length out → after ≡ front (rewritten rule u p) out → Rewrote single k n u p out after (Used f i j m)
     unfolding rewriteBy shownRule
-    rewrote-used after s q =
+    rewrote-used s q =
         rw (← q, length-rewritten) at
         (rewrote-by k n u p out {t = changed single rule (rewritten rule u p) out}
         (rewriteAt-placed ∙ rw (w .fitting, length-rewritten, le-leb m (length out) s)))

@@ -17,7 +17,7 @@ use Rattle.traces.specs.declared.ToEnd.the-variants.{Ended, Refused}
 use Rattle.traces.specs.Traces.{trace, familiesOf, placesOf, lengthsOf, tooFewPlaces, toEndOf, tracedBy, rewritingToEnd, numberOfSteps, TraceYields}
 
 -- r is the refusal that was computed
-module _ (k n : ℕ) (u : List ℕ) (r : ℕ) (e : r ≡ (rankRefusal k n then wordRefusal n u)) where
+module _ (k n : ℕ) (u : List ℕ) {r : ℕ} (e : r ≡ (rankRefusal k n then wordRefusal n u)) where
   pub accepted : r ≡ 0 → AcceptedWord k n u
   accepted z = let a = two-accepted (rankRefusal k n) (wordRefusal n u) r e z in record { rank = a .0; word = a .1 }
 
@@ -38,7 +38,7 @@ module _ (k n : ℕ) (u : List ℕ) (r : ℕ) (e : r ≡ (rankRefusal k n then w
     unfolding rewritingToEnd tracedBy toEndOf written
     traced-refused f = rw (← e, ne-eqb r 0 f) (rw (ne-eqb r 0 f) (refl, refl, refl, refl, refl))
 
-    module _ (steps : ℕ) (z : r ≡ 0) (l : steps ≡ length (trace (kindOf k) n u .lines)) where
+    module _ {steps : ℕ} (z : r ≡ 0) (l : steps ≡ length (trace (kindOf k) n u .lines)) where
       -- check 15
       pub families-short : length families < steps → Left 15
       unfolding rewritingToEnd tracedBy toEndOf written tooFewPlaces tooShort
@@ -65,7 +65,7 @@ module _ (k n : ℕ) (u : List ℕ) (r : ℕ) (e : r ≡ (rankRefusal k n then w
               (refl, refl, refl, refl, refl)
 
           -- check 14
-          module _ (g : steps ≤ length lengths) (size : ℕ) (m : size ≡ length (trace (kindOf k) n u .final)) where
+          module _ (g : steps ≤ length lengths) {size : ℕ} (m : size ≡ length (trace (kindOf k) n u .final)) where
             pub out-short : length out < size → Left 14
             unfolding rewritingToEnd tracedBy toEndOf written tooFewPlaces tooShort
             out-short a =
@@ -81,13 +81,13 @@ module _ (k n : ℕ) (u : List ℕ) (r : ℕ) (e : r ≡ (rankRefusal k n then w
                 )
                 (refl, refl, refl, refl, refl)
 
-            pub traced-done : (families′ places′ lengths′ out′ : List ℕ) → size ≤ length out
+            pub traced-done : {families′ places′ lengths′ out′ : List ℕ} → size ≤ length out
                 → families′ ≡ front (familiesOf (trace (kindOf k) n u .lines)) families
                 → places′ ≡ front (placesOf (trace (kindOf k) n u .lines)) places
                 → lengths′ ≡ front (lengthsOf (trace (kindOf k) n u .lines)) lengths → out′ ≡ front (trace (kindOf k) n u .final) out
                 → TraceYields (rewritingToEnd k n u families places lengths out) (Ended steps size) families′ places′ lengths′ out′
             unfolding rewritingToEnd tracedBy toEndOf written tooFewPlaces tooShort
-            traced-done families′ places′ lengths′ out′ a b c d o =
+            traced-done a b c d o =
                 rw (
                   ← e,
                   eq-eqb r 0 z,

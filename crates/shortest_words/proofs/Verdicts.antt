@@ -100,7 +100,7 @@ by-verdict true true l = refl
 by-verdict true false l = refl
 by-verdict false short l = refl
 
-module _ (k n : ℕ) (present simpler places : List ℕ) (r : ℕ) (e : r ≡ (rankRefusal k n then wordRefusal n present then wordRefusal n simpler)) where
+module _ (k n : ℕ) (present simpler places : List ℕ) {r : ℕ} (e : r ≡ (rankRefusal k n then wordRefusal n present then wordRefusal n simpler)) where
   last : (s : ℕ) → (rankRefusal k n then wordRefusal n present then wordRefusal n simpler then s) ≡ (r then s)
   last s = then-last (rankRefusal k n) (wordRefusal n present) (wordRefusal n simpler) s ∙ ap (λ (x : ℕ). x then s) (sym e)
 
@@ -112,10 +112,10 @@ module _ (k n : ℕ) (present simpler places : List ℕ) (r : ℕ) (e : r ≡ (r
     others = refl;
   }
 
-  pub fellBack-decided : (a : Fallback) (after : List ℕ) → r ≡ 0
+  pub fellBack-decided : {a : Fallback} {after : List ℕ} → r ≡ 0
       → Decided (kindOf k) n (wordNormalForm (kindOf k) n present) (window (kindOf k) n simpler) places a after → FellBack k n present simpler places a after
   unfolding fallbackAnswer isFallback
-  fellBack-decided a after z s = let l = simplerLength k n simpler in record {
+  fellBack-decided z s = let l = simplerLength k n simpler in record {
     answer = s .answer ∙ rw (last, z) (by-verdict (isFallback (kindOf k) n present simpler) (tooShort l places) l);
     kept = s .kept;
     others = s .others;

@@ -37,10 +37,10 @@ refused-by-itself ed b o o′ r e q =
     let s = record-refused ed b o r q in
     rw (← e, s .0) (sym (then-some r (check 18 (tooManyLanes ed b o)) (s .1)))
 
-pub lanes-decide : (ed : Edition) (b : List ℕ) (o o′ k n s l : ℕ) (t : Bool) → o ≡ o′ → preset.Found k n s l ≡ checkedRecord ed b o → t ≡ tooManyLanes ed b o
+pub lanes-decide : (ed : Edition) (b : List ℕ) {o o′ : ℕ} (k n s l : ℕ) {t : Bool} → o ≡ o′ → preset.Found k n s l ≡ checkedRecord ed b o → t ≡ tooManyLanes ed b o
     → check 18 t ≡ recordConversionRefusal ed b o′
 unfolding recordConversionRefusal
-lanes-decide ed b o o′ k n s l t e q w = rw (← e, record-found ed b o k n s l q, ← w)
+lanes-decide ed b {o} k n s l e q w = rw (← e, record-found ed b o k n s l q, ← w)
 
 -- those of the records from record i on, of c in all: r is that of record i
 module _ (ed : Edition) (b : List ℕ) (c i : ℕ) where
@@ -61,17 +61,17 @@ module _ (ed : Edition) (b : List ℕ) (c i : ℕ) where
     checks-next z = let e : c - i ≡ suc (c - suc i) = omega arith in rw (e, ← q, add-one i) (then-none r (recordsConversionRefusal ed b (c - suc i) (suc i)) z)
 
 -- all of them: r is the refusal of the book, s that of the records, m the size of the new book
-module _ (ed : Edition) (b : List ℕ) (r : ℕ) (e : r ≡ bookRefusal ed b) where
+module _ (ed : Edition) (b : List ℕ) {r : ℕ} (e : r ≡ bookRefusal ed b) where
   pub conversion-book : (r ≡ 0 → ⊥) → r ≡ conversionRefusal ed b
   unfolding conversionRefusal
   conversion-book f = rw (← e, ne-eqb r 0 f)
 
-  module _ (z : r ≡ 0) (c s : ℕ) (n : c ≡ count b) (q : s ≡ recordsConversionRefusal ed b c 0) where
+  module _ (z : r ≡ 0) {c s : ℕ} (n : c ≡ count b) (q : s ≡ recordsConversionRefusal ed b c 0) where
     pub conversion-records : (s ≡ 0 → ⊥) → s ≡ conversionRefusal ed b
     unfolding conversionRefusal
     conversion-records f = rw (← e, eq-eqb r 0 z, ← n, ← q, ne-eqb s 0 f)
 
-    module _ (y : s ≡ 0) (m : ℕ) (w : m ≡ sizeOf ed (length b) c) where
+    module _ (y : s ≡ 0) {m : ℕ} (w : m ≡ sizeOf ed (length b) c) where
       size-is : length (converted ed b) ≡ m
       size-is = length-converted ed b (accepted ed b (sym e ∙ z)) ∙ rw (w, n)
 

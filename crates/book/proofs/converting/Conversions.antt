@@ -72,7 +72,7 @@ pub record Placing (ed : Edition) (b : List ℕ) (c : ℕ) (before : List ℕ) (
   pub storing : Storing before at (allOffsets ed b c) out (at + 2 * i) (offsetsLeft ed b c o i)
   pub begins : o + length (bytesLeft ed b c i) ≡ length (allBytes ed b c)
 
-module _ (ed : Edition) (b : List ℕ) (w : Convertible ed b) (c : ℕ) (n : c ≡ count b) where
+module _ {ed : Edition} {b : List ℕ} (w : Convertible ed b) {c : ℕ} (n : c ≡ count b) where
   pub bytes-next : (i : ℕ) → i < c → bytesLeft ed b c i ≡ bytesAt ed b i ++ bytesLeft ed b c (i + 1)
   unfolding recordBytes
   bytes-next i h = rw (records-left ed b c i h)
@@ -83,30 +83,30 @@ module _ (ed : Edition) (b : List ℕ) (w : Convertible ed b) (c : ℕ) (n : c �
       ∙ rw (length-lettersAt ed b (offset b i) (endAt-inside ed b c i (offset b i) (w .opens) n h refl))
 
   -- record i as the code stores it: o is where it begins, p the place of its letter count l
-  module _ (i o p l : ℕ) (h : i < c) (q : o ≡ offset b i) (f : p ≡ countPlace ed) (g : l ≡ twoAt b (o + p)) where
+  module _ (i : ℕ) {o p l : ℕ} (h : i < c) (q : o ≡ offset b i) (f : p ≡ countPlace ed) (g : l ≡ twoAt b (o + p)) where
     pub rank-passed : RankOf (kindAt b o) (rankAt b o)
     rank-passed = rw q (bookRank-accepted ed (kindAt b (offset b i)) (rankAt b (offset b i)) (passing-at ed b i w (omega arith) .rank))
 
-    pub size-of-other : (to : Edition) (x : ℕ) → to ≡ other ed → x ≡ headSize to → x + l ≡ headSize (other ed) + letterCountAt ed b (offset b i)
-    size-of-other to x e k = rw (k, e, g, f, q)
+    pub size-of-other : {to : Edition} {x : ℕ} → to ≡ other ed → x ≡ headSize to → x + l ≡ headSize (other ed) + letterCountAt ed b (offset b i)
+    size-of-other e k = rw (k, e, g, f, q)
 
     -- its letters begin m bytes after it
-    module _ (m : ℕ) (d : m ≡ headSize ed) where
+    module _ {m : ℕ} (d : m ≡ headSize ed) where
       letters-are : take (o + m + l - (o + m)) (drop (o + m) b) ≡ lettersAt ed b (offset b i)
       letters-are = let s : o + m + l - (o + m) ≡ l = omega arith in rw (s, d, g, f, q)
 
       pub end-inside : o + m + l ≤ length b
       end-inside = end-read-le ed b o p m l f d g (endAt-inside ed b c i o (w .opens) n h q)
 
-      pub room-for : (to : Edition) (at most : ℕ) → to ≡ other ed → at + headSize (other ed) + letterCountAt ed b (offset b i) ≤ most
+      pub room-for : {to : Edition} (at most : ℕ) → to ≡ other ed → at + headSize (other ed) + letterCountAt ed b (offset b i) ≤ most
           → at + headSize to + length (take (o + m + l - (o + m)) (drop (o + m) b)) ≤ most
-      room-for to at most e k =
+      room-for at most e k =
           rw (letters-are, e, length-lettersAt ed b (offset b i) (endAt-inside ed b c i (offset b i) (w .opens) n h refl)) k
 
-      pub other-written : (to : Edition) (at m′ : ℕ) (out out′ : List ℕ) → m′ ≡ lanesAt ed b o → to ≡ other ed
+      pub other-written : {to : Edition} (at : ℕ) {m′ : ℕ} (out : List ℕ) {out′ : List ℕ} → m′ ≡ lanesAt ed b o → to ≡ other ed
           → out′ ≡ sets out at (recordOf to (getD b o 0) (getD b (o + 1) 0) m′ (take (o + m + l - (o + m)) (drop (o + m) b)))
           → out′ ≡ sets out at (bytesAt ed b i)
-      other-written to at m′ out out′ r e k = k ∙ rw (letters-are, e, r, q)
+      other-written at out r e k = k ∙ rw (letters-are, e, r, q)
 
   -- ---- the records, one after the other
 
@@ -124,7 +124,7 @@ module _ (ed : Edition) (b : List ℕ) (w : Convertible ed b) (c : ℕ) (n : c �
   pub others-start : (out : List ℕ) → Storing out 0 (allBytes ed b c) out 0 (bytesLeft ed b c 0)
   others-start out = let e : c - 0 ≡ c = omega arith in rw e storing-all
 
-  module _ (o out : List ℕ) (p i : ℕ) (s : Storing o 0 (allBytes ed b c) out p (bytesLeft ed b c i)) where
+  module _ {o out : List ℕ} {p : ℕ} (i : ℕ) (s : Storing o 0 (allBytes ed b c) out p (bytesLeft ed b c i)) where
     pub others-room : i < c → length (converted ed b) ≤ length o → p + headSize (other ed) + letterCountAt ed b (offset b i) ≤ length out
     others-room h g =
         let l = length-append (bytesAt ed b i) (bytesLeft ed b c (i + 1)) in
@@ -135,9 +135,9 @@ module _ (ed : Edition) (b : List ℕ) (w : Convertible ed b) (c : ℕ) (n : c �
         let m = length-parts in
         omega arith
 
-    pub others-next : (out′ : List ℕ) (x : ℕ) → i < c → out′ ≡ sets out p (bytesAt ed b i) → x ≡ headSize (other ed) + letterCountAt ed b (offset b i)
+    pub others-next : {out′ : List ℕ} {x : ℕ} → i < c → out′ ≡ sets out p (bytesAt ed b i) → x ≡ headSize (other ed) + letterCountAt ed b (offset b i)
         → Storing o 0 (allBytes ed b c) out′ (p + x) (bytesLeft ed b c (i + 1))
-    others-next out′ x h e k =
+    others-next {out′} {x} h e k =
         storing-part o 0 (allBytes ed b c) out p (bytesAt ed b i) (bytesLeft ed b c (i + 1)) out′ (p + x) (rw (← bytes-next i h) s) e
         (rw (length-bytesAt i h, k))
 
@@ -164,7 +164,7 @@ module _ (ed : Edition) (b : List ℕ) (w : Convertible ed b) (c : ℕ) (n : c �
       let z : at + 2 * 0 ≡ at = omega arith in
       record { storing = rw (e, z) storing-all; begins = rw e (zero-add (length (allBytes ed b c))) }
 
-  module _ (before : List ℕ) (at : ℕ) (out : List ℕ) (o i : ℕ) (s : Placing ed b c before at out o i) where
+  module _ {before : List ℕ} {at : ℕ} {out : List ℕ} {o i : ℕ} (s : Placing ed b c before at out o i) where
     pub offset-small : i < c → o + (headSize (other ed) + letterCountAt ed b (offset b i)) ≤ 65535
     offset-small h =
         let l = length-append (bytesAt ed b i) (bytesLeft ed b c (i + 1)) in
@@ -175,9 +175,9 @@ module _ (ed : Edition) (b : List ℕ) (w : Convertible ed b) (c : ℕ) (n : c �
         let z = w .small in
         omega arith
 
-    pub offsets-next : (out′ : List ℕ) (x : ℕ) → i < c → out′ ≡ sets out (at + 2 * i) (two o) → x ≡ headSize (other ed) + letterCountAt ed b (offset b i)
+    pub offsets-next : {out′ : List ℕ} {x : ℕ} → i < c → out′ ≡ sets out (at + 2 * i) (two o) → x ≡ headSize (other ed) + letterCountAt ed b (offset b i)
         → Placing ed b c before at out′ (o + x) (i + 1)
-    offsets-next out′ x h e k = record {
+    offsets-next {out′} {x} h e k = record {
       storing =
           storing-part before at (allOffsets ed b c) out (at + 2 * i) (two o) (offsetsLeft ed b c (o + x) (i + 1)) out′ (at + 2 * (i + 1))
           (rw (← offsetsLeft-next o i x h k) (s .storing)) e (let l = length-two o in omega arith);
@@ -197,10 +197,10 @@ module _ (ed : Edition) (b : List ℕ) (w : Convertible ed b) (c : ℕ) (n : c �
 
   -- ---- the whole
 
-  pub all-written : (out a d z : List ℕ) (p : ℕ) → (a ≡ sets out 0 (allBytes ed b c)) × (p ≡ length (allBytes ed b c))
+  pub all-written : (out a : List ℕ) {d z : List ℕ} (p : ℕ) → (a ≡ sets out 0 (allBytes ed b c)) × (p ≡ length (allBytes ed b c))
       → d ≡ sets a p (allOffsets ed b c) → z ≡ sets d (p + 2 * c) (two c)
       → z ≡ sets out 0 (converted ed b)
-  all-written out a d z p e f g =
+  all-written out a p e f g =
       let l = length-offsetBytes (other ed) 0 (recordsFrom ed b c 0) in
       let r = length-recordsFrom ed b c 0 in
       g
@@ -216,7 +216,7 @@ pub size-made : (ed : Edition) (b : List ℕ) (r : ℕ) → r ≡ conversionRefu
     → length (converted ed b) ≡ m
 size-made ed b r e z c m n w = length-converted ed b (accepted ed b (conversion-opens ed b (sym e ∙ z))) ∙ rw (w, n)
 
-module _ (ed : Edition) (b out : List ℕ) (r : ℕ) (e : r ≡ conversionRefusal ed b) where
+module _ (ed : Edition) (b out : List ℕ) {r : ℕ} (e : r ≡ conversionRefusal ed b) where
   pub converting-refused : (r ≡ 0 → ⊥) → (answer.Refused r ≡ converting ed b out .answer) × (out ≡ converting ed b out .bytes)
   unfolding converting
   converting-refused f = writes-refused (converting ed b out) (conversionRefusal ed b) r (converted ed b) out refl e f
@@ -228,15 +228,15 @@ module _ (ed : Edition) (b out : List ℕ) (r : ℕ) (e : r ≡ conversionRefusa
       let none = converted-bytes ed b h in
       writes-done (converting ed b out) (conversionRefusal ed b) r (converted ed b) out refl e 0 [] z (ap length none) (omega arith) (sym none)
 
-  module _ (z : r ≡ 0) (c m : ℕ) (n : c ≡ count b) (w : m ≡ sizeOf ed (length b) c) where
+  module _ (z : r ≡ 0) {c m : ℕ} (n : c ≡ count b) (w : m ≡ sizeOf ed (length b) c) where
     pub converting-short : length out < m → (answer.Refused 14 ≡ converting ed b out .answer) × (out ≡ converting ed b out .bytes)
     unfolding converting
     converting-short h = writes-short (converting ed b out) (conversionRefusal ed b) r (converted ed b) out refl e m z (size-made ed b r e z c m n w) h
 
-    pub converting-written : (o : List ℕ) → m ≤ length out → o ≡ sets out 0 (converted ed b)
+    pub converting-written : {o : List ℕ} → m ≤ length out → o ≡ sets out 0 (converted ed b)
         → (answer.Length m ≡ converting ed b out .answer) × (o ≡ converting ed b out .bytes)
     unfolding converting
-    converting-written o h p =
+    converting-written {o} h p =
         let new = converted ed b in
         let l = size-made ed b r e z c m n w in
         writes-written (converting ed b out) (conversionRefusal ed b) r new out refl e m o z l h (p ∙ sets-front new out (rw l h))

@@ -26,9 +26,9 @@ sets-record Second l p k n m u = simp (add-one, add-two, add-three)
 
 -- the same step by step: the place c of the letter count and the place h of the letters are read, and each store
 -- gives the next list
-pub record-stored : (ed : Edition) (l : List ℕ) (p k n m c h : ℕ) (u o₁ o₂ o₃ : List ℕ) → c ≡ countPlace ed → h ≡ headSize ed
+pub record-stored : (ed : Edition) (l : List ℕ) (p k n m : ℕ) {c h : ℕ} (u : List ℕ) {o₁ o₂ o₃ : List ℕ} → c ≡ countPlace ed → h ≡ headSize ed
     → o₁ ≡ sets (set (set l p k) (p + 1) n) (p + 2) (laneByte ed m) → o₂ ≡ sets o₁ (p + c) (two (length u)) → o₃ ≡ sets o₂ (p + h) u
     → o₃ ≡ sets l p (recordOf ed k n m u)
-record-stored ed l p k n m c h u o₁ o₂ o₃ e d e₁ e₂ e₃ =
+record-stored ed l p k n m {h} u e d e₁ e₂ e₃ =
     let s : p + h ≡ p + countPlace ed + 2 = omega arith in
     e₃ ∙ rw (s, e₂, e₁, e) (sets-record ed l p k n m u)

@@ -84,10 +84,10 @@ module _ (ed : Edition) (out b : List ℕ) (n i : ℕ) where
   pub run-start : sets out 0 (presetFields ed b n i) ≡ sets out (5 * 0) (presetFields ed b (n - 0) (i + 0))
   run-start = let e : n - 0 ≡ n = omega arith in rw (e, add-zero i)
 
-  pub run-step : (j : ℕ) (p : Preset) (o : List ℕ) → j < n → p ≡ checkedPreset ed b (i + j) → o ≡ sets out (5 * j) (fieldsOf p)
+  pub run-step : (j : ℕ) {p : Preset} {o : List ℕ} → j < n → p ≡ checkedPreset ed b (i + j) → o ≡ sets out (5 * j) (fieldsOf p)
       → sets out (5 * j) (presetFields ed b (n - j) (i + j)) ≡ sets o (5 * (j + 1)) (presetFields ed b (n - (j + 1)) (i + (j + 1)))
   unfolding presetFields
-  run-step j p o h e q =
+  run-step j {p} h e q =
       let left : n - j ≡ suc (n - (j + 1)) = omega arith in
       let next : i + (j + 1) ≡ suc (i + j) = omega arith in
       let size = length-fieldsOf p in

@@ -21,10 +21,10 @@ records-written b out t r o₁ o₂ h e₁ e₂ =
     e₂ ∙ rw e₁ (sets-next out 0 t (take t b) r (omega arith))
 
 -- the c offsets of b, which begin at t, the new one and the count
-pub trailer-written : (b out : List ℕ) (t c p : ℕ) (o₁ o₂ o₃ : List ℕ) → t + 2 * c ≤ length b → o₁ ≡ sets out p (take (t + 2 * c - t) (drop t b))
+pub trailer-written : (b out : List ℕ) (t c p : ℕ) {o₁ o₂ o₃ : List ℕ} → t + 2 * c ≤ length b → o₁ ≡ sets out p (take (t + 2 * c - t) (drop t b))
     → o₂ ≡ sets o₁ (p + 2 * c) (two t) → o₃ ≡ sets o₂ (p + 2 * c + 2) (two (c + 1))
     → o₃ ≡ sets out p (take (2 * c) (drop t b) ++ (two t ++ two (c + 1)))
-trailer-written b out t c p o₁ o₂ o₃ h e₁ e₂ e₃ =
+trailer-written b out t c p h e₁ e₂ e₃ =
     let offsets = take (2 * c) (drop t b) in
     let part : t + 2 * c - t ≡ 2 * c = omega arith in
     let l : length offsets ≡ 2 * c = length-take-le (2 * c) (drop t b) (rw length-drop (omega arith)) in
@@ -41,12 +41,12 @@ trailer-written b out t c p o₁ o₂ o₃ h e₁ e₂ e₃ =
 
 -- the records and then the trailer: c is the count, s the size with its count, t the beginning of the trailer as
 -- the code has it, m the size of a record's head, a the lane count
-pub appended-written : (ed : Edition) (b out : List ℕ) (k n : ℕ) (u : List ℕ) (c s m : ℕ) (o₁ o₂ : List ℕ) → bookRefusal ed b ≡ 0 → c ≡ count b → s ≡ bookSize b
-    → m ≡ headSize ed → (a : ℕ) → a ≡ lanes (kindOf k) n → let t = s - (2 * c + 2) in
+pub appended-written : (ed : Edition) (b out : List ℕ) (k n : ℕ) (u : List ℕ) {c s m : ℕ} (o₁ : List ℕ) {o₂ : List ℕ} → bookRefusal ed b ≡ 0 → c ≡ count b → s ≡ bookSize b
+    → m ≡ headSize ed → {a : ℕ} → a ≡ lanes (kindOf k) n → let t = s - (2 * c + 2) in
     o₁ ≡ sets out 0 (take t b ++ recordOf ed k n a u) → o₂ ≡ sets o₁ (t + m + length u) (take (2 * c) (drop t b) ++ (two t ++ two (c + 1)))
     → o₂ ≡ sets out 0 (appended ed b k n u)
 unfolding appended
-appended-written ed b out k n u c s m o₁ o₂ z q y w a v e₁ e₂ =
+appended-written ed b out k n u {c} {s} {m} o₁ z q y w v e₁ e₂ =
     let t = s - (2 * c + 2) in
     let trailing = take (2 * c) (drop t b) ++ (two t ++ two (c + 1)) in
     let fits = accepted ed b z in

@@ -14,7 +14,7 @@ write-table-requires c κs =
 returns-2 : tie.Need-returns-2
 returns-2 c =
     let refused = refusal-of-lanes _ _ _ (c .before .before .before .tabled-lanes .ensures) _ (c .before .refusal .given .1) in
-    table-refused _ _ _ _ _ _ (refused .0) (refused .1)
+    table-refused _ _ _ _ _ (refused .0) (refused .1)
 
 pub delay-table-spec : {M : Type 1} → statement M
 delay-table-spec =

@@ -101,7 +101,7 @@ odd-of-other n f = cases (odd n) (odd-mod n)
 pub lanes-fit : (k n m : ℕ) → n ≤ 64 → m ≡ lanes (kindOf k) n → m ≤ 127
 lanes-fit k n m h e = omega (arith, lanes-le-add-one (kindOf k) n)
 
-module _ (k n m i : ℕ) (e : m ≡ lanes (kindOf k) n) (o : i < m) where
+module _ (k n : ℕ) {m : ℕ} (i : ℕ) (e : m ≡ lanes (kindOf k) n) (o : i < m) where
   abbrev Entry : ℤ → Type 0
   Entry z = z ≡ getD (longest (kindOf k) n) i (pos 0)
 
@@ -144,10 +144,10 @@ module _ (k n m i : ℕ) (e : m ≡ lanes (kindOf k) n) (o : i < m) where
         (negative-rank b ∙ sym (getD-set-other (allNegative n) (n - 1) i (pos n) (pos 0) (λ q. l (omega (arith, rank-lanes)))))
 
 -- the next entry is written, and all are
-pub longest-next : (k n i : ℕ) (z : ℤ) (w : List ℤ) → least (kindOf k) ≤ n → i < length w → length w ≡ lanes (kindOf k) n → mag z < 128
+pub longest-next : (k n i : ℕ) {z : ℤ} (w : List ℤ) → least (kindOf k) ≤ n → i < length w → length w ≡ lanes (kindOf k) n → mag z < 128
     → z ≡ getD (longest (kindOf k) n) i (pos 0) → take i w ≡ take i (longest (kindOf k) n)
     → take (i + 1) (set w i (toZ w8 (ofZ w8 z))) ≡ take (i + 1) (longest (kindOf k) n)
-longest-next k n i z w r o s f e t =
+longest-next k n i {z} w r o s f e t =
     written-next i (toZ w8 (ofZ w8 z)) (pos 0) (longest (kindOf k) n) w (omega (arith, length-longest (kindOf k) n r)) o (element-back z f ∙ e) t
 
 pub longest-all : (k n i : ℕ) (w : List ℤ) → least (kindOf k) ≤ n → length w ≤ i → length w ≡ lanes (kindOf k) n
@@ -171,9 +171,9 @@ form-written k n v out h e l =
 
 -- what writing it asks, where v is what the longest window of m entries was written to and s the length of its own
 -- output
-pub form-asks : (k n m : ℕ) (entries v : List ℤ) (s : ℕ) → RankOf k n → m ≡ lanes (kindOf k) n → m ≤ length entries
+pub form-asks : (k n : ℕ) {m : ℕ} (entries : List ℤ) {v : List ℤ} (s : ℕ) → RankOf k n → m ≡ lanes (kindOf k) n → m ≤ length entries
     → v ≡ front (longest (kindOf k) n) entries → greatestLength (kindOf k) n ≤ s
     → RankOf k n × ((m ≤ length v) × ((take m v ≡ longest (kindOf k) n) × (greatestLength (kindOf k) n ≤ s)))
-form-asks k n m entries v s h c g e l =
+form-asks k n {m} entries {v} s h c g e l =
     let f = length-take-front m (longest (kindOf k) n) entries v (length-longest (kindOf k) n (rank-within k n h .0) ∙ sym c) g e in
     (h, (omega (arith, f .0), (f .1, l)))

@@ -14,20 +14,20 @@ greatest-length-requires c κs = table-rank-small _ _ (c .before .before .pre .0
 returns : tie.Need-returns
 returns c =
     let greatest = c .before in
-    counts-short _ _ _ _ _ _ refl _ (greatest .before .before .before .pre .0) (greatest .greatest-length .ensures) (omega arith)
+    counts-short _ _ _ _ _ refl (greatest .before .before .before .pre .0) (greatest .greatest-length .ensures) (omega arith)
 
 returns-2 : tie.Need-returns-2
 returns-2 c =
     let greatest = c .before .before in
     let pre = greatest .before .before .before .pre in
-    entries-short _ _ _ _ _ _ refl _ (pre .0) (greatest .greatest-length .ensures) _ (pre .1) (omega arith) (c .if2 .taken)
+    entries-short _ _ _ _ _ refl (pre .0) (greatest .greatest-length .ensures) (pre .1) (omega arith) (c .if2 .taken)
 
 returns-3 : tie.Need-returns-3
 returns-3 c =
     let entries = c .before in
     let greatest = entries .before .before in
     let pre = greatest .before .before .before .pre in
-    letters-short _ _ _ _ _ _ refl _ (pre .0) (greatest .greatest-length .ensures) _ (pre .1) (omega arith) (entries .if2 .left) (c .if3 .taken)
+    letters-short _ _ _ _ _ refl (pre .0) (greatest .greatest-length .ensures) (pre .1) (omega arith) (entries .if2 .left) (c .if3 .taken)
 
 write-longest-requires : tie.Need-write-longest-requires
 write-longest-requires c κs =
@@ -43,7 +43,7 @@ write-form-requires c κs =
     let entries = letters .before in
     let greatest = entries .before .before in
     let pre = greatest .before .before .before .pre in
-    form-asks _ _ _ _ _ _ (table-accepted _ _ (pre .0)) (pre .1) (entries .if2 .left) (window .write-longest .ensures)
+    form-asks _ _ _ _ (table-accepted _ _ (pre .0)) (pre .1) (entries .if2 .left) (window .write-longest .ensures)
     (rw (greatest .greatest-length .ensures) at (letters .if3 .left))
 
 returns-4 : tie.Need-returns-4
@@ -56,7 +56,7 @@ returns-4 c =
     let counts = entries .before in
     let greatest = counts .before in
     let pre = greatest .before .before .before .pre in
-    table-written _ _ _ _ _ _ refl _ (pre .0) (greatest .greatest-length .ensures) _ (pre .1) (omega (arith, counts .if1 .left)) _ _ _
+    table-written _ _ _ _ _ refl (pre .0) (greatest .greatest-length .ensures) (pre .1) (omega (arith, counts .if1 .left))
     (entries .if2 .left) (letters .if3 .left) (table .write-counts .ensures) (window .write-longest .ensures) (form .write-form .ensures)
 
 pub write-table-spec : {M : Type 1} → statement M

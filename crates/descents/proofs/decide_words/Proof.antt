@@ -21,7 +21,7 @@ decide-requires c κs =
     let after-write-form = c .before .before .before .before in
     let after-show = after-write-form .before .before .before .before in
     let entry = after-show .before .before .before .before .before .before in
-    words-decide-requires _ _ _ _ _ _ (part-is _ _ _ _ _ (after-write-form .write-form .ensures) refl) (part-is _ _ _ _ _ (after-show .show .ensures .1) refl)
+    words-decide-requires _ _ _ _ (part-is _ _ _ _ _ (after-write-form .write-form .ensures) refl) (part-is _ _ _ _ _ (after-show .show .ensures .1) refl)
     (entry .pre .0)
 
 returns : tie.Need-returns
@@ -29,8 +29,8 @@ returns c =
     let after-decide = c .before .before .before .before in
     let after-write-form = c .before .before .before .before .before .before .before .before .before in
     let after-show = after-write-form .before .before .before .before in
-    words-decided _ _ _ _ _ _ (part-is _ _ _ _ _ (after-write-form .write-form .ensures) refl) (part-is _ _ _ _ _ (after-show .show .ensures .1) refl)
-    _ _ _ (after-decide .decide .ensures)
+    words-decided _ _ _ _ (part-is _ _ _ _ _ (after-write-form .write-form .ensures) refl) (part-is _ _ _ _ _ (after-show .show .ensures .1) refl)
+    (after-decide .decide .ensures)
 
 pub decide-words-spec : {M : Type 1} → statement M
 decide-words-spec =

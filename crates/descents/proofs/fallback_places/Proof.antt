@@ -9,7 +9,7 @@ use Rattle.descents.proofs.fallback_places.Tie as tie
 returns : tie.Need-returns
 returns c =
     let b = c .before in
-    fellBack-refused _ _ _ _ _ _ (b .ranked-words-refusal .ensures) (c .if1 .taken)
+    fellBack-refused _ _ _ _ _ (b .ranked-words-refusal .ensures) (c .if1 .taken)
 
 decide-words-requires : tie.Need-decide-words-requires
 decide-words-requires c κs =
@@ -20,7 +20,7 @@ returns-2 : tie.Need-returns-2
 returns-2 c =
     let past-if1 = c .before .before .before .before in
     let after-ranked-words-refusal = c .before .before .before .before .before in
-    fellBack-decided _ _ _ _ _ _ (after-ranked-words-refusal .ranked-words-refusal .ensures) _ _ (past-if1 .if1 .left)
+    fellBack-decided _ _ _ _ _ (after-ranked-words-refusal .ranked-words-refusal .ensures) (past-if1 .if1 .left)
     (c .before .before .decide-words .ensures)
 
 pub fallback-places-spec : {M : Type 1} → statement M

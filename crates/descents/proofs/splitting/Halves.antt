@@ -77,7 +77,7 @@ module _ (u v first second : List ℕ) where
       ]
 
   -- a and x are what the call for the first answered and left, m and y what that for the second did
-  module _ (r : ℕ) (z : r ≡ 0) (a : Answer) (x : List ℕ) (p : Yields (writes r u first) a x) where
+  module _ {r : ℕ} (z : r ≡ 0) (a : Answer) (x : List ℕ) (p : Yields (writes r u first) a x) where
     pub first-lacks : (s : ℕ) → a ≡ answer.Refused s → SplitYields (splitOutcome 0 u v first second) (Refused 14) x second
     first-lacks s q =
         let d = told-refused r u first x a z p s q in
@@ -91,11 +91,11 @@ module _ (u v first second : List ℕ) where
         parts-written u v first second l m (c .0) (d .0) (c .1) x y (d .1) (c .2) (d .2)
 
 -- v is the inverse of w as it was computed, and x what is left of it, as y was stored
-module _ (k n set : ℕ) (w v : List ℤ) (h : RankOf k n) (a : WindowOf (kindOf k) n w) (p : v ≡ inverse w) where
+module _ (k n set : ℕ) (w : List ℤ) {v : List ℤ} (h : RankOf k n) (a : WindowOf (kindOf k) n w) (p : v ≡ inverse w) where
   pub strip-asked : Ranked (kindOf k) n × WindowOf (kindOf k) n v
   strip-asked = (rank-accepted k n h, rw p (inverse-passes (kindOf k) n w a))
 
-  module _ (y x : List ℤ) (q : x ≡ y) (s : Strips (allows set) (kindOf k) n v y) where
+  module _ {y x : List ℤ} (q : x ≡ y) (s : Strips (allows set) (kindOf k) n v y) where
     stripped : Strips (allows set) (kindOf k) n (inverse w) x
     stripped = rw (q, ← p) s
 
@@ -113,7 +113,7 @@ module _ (k n set : ℕ) (w v : List ℤ) (h : RankOf k n) (a : WindowOf (kindOf
         rw (← e .0, ← e .1) t
 
 -- w is the window of a word as it was computed
-module _ (k n set : ℕ) (u : List ℕ) (w : List ℤ) (p : w ≡ window (kindOf k) n u) where
+module _ (k n set : ℕ) (u : List ℕ) {w : List ℤ} (p : w ≡ window (kindOf k) n u) where
   pub window-asked : RankOf k n → RankOf k n × WindowOf (kindOf k) n w
   window-asked h = (h, rw p (window-passes (kindOf k) n u))
 

@@ -58,9 +58,9 @@ abbrev pub Taken : Kind → ℕ → ℕ → ℕ → List ℤ → Bool → List �
 Taken k n set s w r v = (r ≡ (allows set s && isDescent k n s w)) × (v ≡ pick r (act k n s w) w)
 
 -- the test of the set comes first
-pub taken-allowed : (k : Kind) (n set s : ℕ) (w : List ℤ) (r : Bool) (v : List ℤ) (b : Bool) → b ≡ allows set s → b ≡ true
+pub taken-allowed : (k : Kind) (n set s : ℕ) (w : List ℤ) {r : Bool} (v : List ℤ) {b : Bool} → b ≡ allows set s → b ≡ true
     → (r ≡ isDescent k n s w) × (v ≡ pick r (act k n s w) w) → Taken k n set s w r v
-taken-allowed k n set s w r v b e t h = (rw (← e, t) (h .0), h .1)
+taken-allowed k n set s w v e t h = (rw (← e, t) (h .0), h .1)
 
 pub taken-not : (k : Kind) (n set s : ℕ) (w : List ℤ) (b : Bool) → b ≡ allows set s → b ≡ false → Taken k n set s w false w
 taken-not k n set s w b e f = (rw (← e, f) refl, refl)
@@ -86,7 +86,7 @@ pub turning-end : (set : ℕ) (k : Kind) (n : ℕ) (w₀ w : List ℤ) (s : ℕ)
 turning-end set k n w₀ w s t l =
     t .reached w (strips-nothing (allows set) k n w (λ j g m a. t .ended j g (omega arith) a))
 
-module _ (set : ℕ) (k : Kind) (n : ℕ) (w₀ w : List ℤ) (s : ℕ) (t : Turning set k n w₀ w s) (h : least k ≤ n) (l : s ≤ n) (r : Bool) (v : List ℤ)
+module _ {set : ℕ} {k : Kind} {n : ℕ} {w₀ w : List ℤ} {s : ℕ} (t : Turning set k n w₀ w s) (h : least k ≤ n) (l : s ≤ n) (r : Bool) (v : List ℤ)
     (g : Taken k n set s w r v) where
   accepted : Accepted k n w
   accepted = accepted-of-refusal k n w (t .passes)

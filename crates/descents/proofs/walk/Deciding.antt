@@ -42,7 +42,7 @@ module _ (k n : ℕ) (u : List ℕ) (w : List ℤ) (h : DecideRequires k n u w) 
   left-length m e = omega (arith, lanes-le k n m (h .0) (e ∙ accepted .size))
 
   -- f and x are the word and the target afterwards, m how many letters are kept, t whether the target is straight
-  module _ (f : List ℕ) (x : List ℤ) (m : ℕ) (g : LettersKept k n u w f x m) (e : length x ≡ length w) (t : Bool)
+  module _ (f : List ℕ) (x : List ℤ) (m : ℕ) (g : LettersKept k n u w f x m) (e : length x ≡ length w) {t : Bool}
       (s : t ≡ sameWindow x (identity (length x))) (places : List ℕ) where
     ends : t ≡ sameWindow x (identity (lanes (kindOf k) n))
     ends = s ∙ ap (λ (l : ℕ). sameWindow x (identity l)) (e ∙ accepted .size)

@@ -70,7 +70,7 @@ module _ (k : Kind) (n : ℕ) (u : List ℕ) (w₀ : List ℤ) where
       record { inside = le-refl (length u); size = refl; front = refl; passes = p; target = refl; places = rw none; count = rw none }
 
   -- the next letter is at j
-  module _ (f : List ℕ) (w : List ℤ) (i j kept : ℕ) (h : Walking k n u w₀ f w i kept) (g : i ≡ suc j) where
+  module _ {f : List ℕ} {w : List ℤ} {i : ℕ} (j : ℕ) {kept : ℕ} (h : Walking k n u w₀ f w i kept) (g : i ≡ suc j) where
     here : j < length u
     here = omega (arith, h .inside)
 
@@ -90,7 +90,7 @@ module _ (k : Kind) (n : ℕ) (u : List ℕ) (w₀ : List ℤ) where
     front-next = sym (take-take j i f (omega arith)) ∙ ap (take j) (h .front) ∙ take-take j i u (omega arith)
 
     -- v is the target after the letter, and t whether it was kept
-    module _ (t : Bool) (v : List ℤ) (e : t ≡ isDescent k n (getD f j 0) w) (q : v ≡ pick t (act k n (getD f j 0) w) w) where
+    module _ {t : Bool} {v : List ℤ} (e : t ≡ isDescent k n (getD f j 0) w) (q : v ≡ pick t (act k n (getD f j 0) w) w) where
       is-descended : v ≡ descended k n (getD u j 0) w
       unfolding descended
       is-descended = q ∙ rw (e, letter)
@@ -134,10 +134,10 @@ module _ (k : Kind) (n : ℕ) (u : List ℕ) (w₀ : List ℤ) where
             count = rw m (h .count);
           }
 
-  pub walking-end : (f : List ℕ) (w : List ℤ) (i kept : ℕ) → Walking k n u w₀ f w i kept → i ≤ 0
+  pub walking-end : {f : List ℕ} {w : List ℤ} {i kept : ℕ} → Walking k n u w₀ f w i kept → i ≤ 0
       → (kept ≡ length (marked 0 f)) × (marked 0 f ≡ placesKept k n u (length u) w₀ []) × (w ≡ leftOver k n u (length u) w₀)
   unfolding leftOver placesKept
-  walking-end f w i kept h z = let e : i ≡ 0 = omega arith in (rw e at (h .count), sym (rw e at (h .places)), sym (rw e at (h .target)))
+  walking-end {i} h z = let e : i ≡ 0 = omega arith in (rw e at (h .count), sym (rw e at (h .places)), sym (rw e at (h .target)))
 
 -- ---- places of letters
 

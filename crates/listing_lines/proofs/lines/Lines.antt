@@ -74,11 +74,11 @@ module _ (o : List ℕ) (at : ℕ) (o₁ : List ℕ) (a : ℕ) (o₂ : List ℕ)
           (stored-append o at (letters u ++ (32 ∷ 124 ∷ [])) o₂ b (entries w) o₃ c (stored-append o at (letters u) o₁ a (32 ∷ 124 ∷ []) o₂ b h₁ h₂) h₃)
           h₄
 
-      pub head-put : (o₅ : List ℕ) (e i k n l y : ℕ) → Stored o at (decimal i) o₁ a → y ≡ kindLetter (kindOf k) → Stored o₁ a (32 ∷ y ∷ []) o₂ b
+      pub head-put : (o₅ : List ℕ) (e i k n l : ℕ) {y : ℕ} → Stored o at (decimal i) o₁ a → y ≡ kindLetter (kindOf k) → Stored o₁ a (32 ∷ y ∷ []) o₂ b
           → Stored o₂ b (spaced n) o₃ c
           → Stored o₃ c (spaced l) o₄ d → Stored o₄ d (58 ∷ []) o₅ e → Stored o at (head i (kindOf k) n l) o₅ e
       unfolding head
-      head-put o₅ e i k n l y h₁ q h₂ h₃ h₄ h₅ =
+      head-put o₅ e i k n l {y} h₁ q h₂ h₃ h₄ h₅ =
           let h = stored-append o at (decimal i) o₁ a (32 ∷ y ∷ []) o₂ b h₁ h₂ in
           let g = stored-append o at (decimal i ++ (32 ∷ y ∷ [])) o₂ b (spaced n) o₃ c h h₃ in
           let f = stored-append o at (decimal i ++ (32 ∷ y ∷ []) ++ spaced n) o₃ c (spaced l) o₄ d g h₄ in

@@ -77,22 +77,22 @@ pub letters-room : (o : List ℕ) (at : ℕ) (u out : List ℕ) (r i : ℕ) → 
 letters-room o at u out r i h g s =
     storing-room o at (letters u) out r (spaced (getD u i 0)) (letters (drop (i + 1) u)) g (rw (letters-next u i h) at s)
 
-pub entries-room : (o : List ℕ) (at : ℕ) (w : List ℤ) (out : List ℕ) (r i : ℕ) → i < length w → mag (getD w i (pos 0)) < 128
+pub entries-room : {o : List ℕ} {at : ℕ} (w : List ℤ) {out : List ℕ} {r : ℕ} (i : ℕ) → i < length w → mag (getD w i (pos 0)) < 128
     → at + length (entries w) ≤ length o
     → Storing o at (entries w) out r (entries (drop i w)) → r + length (entry (toZ w8 (ofZ w8 (getD w i (pos 0))))) ≤ length out
-entries-room o at w out r i h f g s =
+entries-room {o} {at} w {out} {r} i h f g s =
     rw (element-back (getD w i (pos 0)) f)
     (storing-room o at (entries w) out r (entry (getD w i (pos 0))) (entries (drop (i + 1) w)) g (rw (entries-next w i h) at s))
 
-pub letters-put : (o : List ℕ) (at : ℕ) (u out : List ℕ) (r i : ℕ) (out′ : List ℕ) (r′ : ℕ) → i < length u → Storing o at (letters u) out r (letters (drop i u))
+pub letters-put : {o : List ℕ} {at : ℕ} (u : List ℕ) {out : List ℕ} {r : ℕ} (i : ℕ) (out′ : List ℕ) (r′ : ℕ) → i < length u → Storing o at (letters u) out r (letters (drop i u))
     → Stored out r (spaced (getD u i 0)) out′ r′ → Storing o at (letters u) out′ r′ (letters (drop (i + 1) u))
-letters-put o at u out r i out′ r′ h s p =
+letters-put {o} {at} u {out} {r} i out′ r′ h s p =
     storing-put o at (letters u) out r (spaced (getD u i 0)) (letters (drop (i + 1) u)) out′ r′ (rw (letters-next u i h) at s) p
 
-pub entries-put : (o : List ℕ) (at : ℕ) (w : List ℤ) (out : List ℕ) (r i : ℕ) (out′ : List ℕ) (r′ : ℕ) → i < length w → mag (getD w i (pos 0)) < 128
+pub entries-put : {o : List ℕ} {at : ℕ} (w : List ℤ) {out : List ℕ} {r : ℕ} (i : ℕ) (out′ : List ℕ) (r′ : ℕ) → i < length w → mag (getD w i (pos 0)) < 128
     → Storing o at (entries w) out r (entries (drop i w)) → Stored out r (entry (toZ w8 (ofZ w8 (getD w i (pos 0))))) out′ r′
     → Storing o at (entries w) out′ r′ (entries (drop (i + 1) w))
-entries-put o at w out r i out′ r′ h f s p =
+entries-put {o} {at} w {out} {r} i out′ r′ h f s p =
     storing-put o at (entries w) out r (entry (getD w i (pos 0))) (entries (drop (i + 1) w)) out′ r′ (rw (entries-next w i h) at s)
     (rw (element-back (getD w i (pos 0)) f) at p)
 

@@ -166,10 +166,10 @@ pub record Filling (ed : Edition) (b : List ℕ) (first : ℕ) (o out : List ℕ
 pub filling-none : (ed : Edition) (b : List ℕ) (first : ℕ) (o : List ℕ) (left : ℕ) → left ≡ lineCount ed b - first → Filling ed b first o o first 0 left
 filling-none ed b first o left e = record { size = refl; inside = omega arith; rest = e; same = nextPiece-from ed b first o ∙ rw e }
 
-module _ (ed : Edition) (b : List ℕ) (first : ℕ) (o out : List ℕ) (next end left : ℕ) (f : Filling ed b first o out next end left) where
-  pub filling-next : (m : ℕ) (u out′ : List ℕ) (end′ : ℕ) → 0 < left → (m ≡ length (line ed b next)) × (u ≡ line ed b next) → m ≤ length out - end
+module _ {ed : Edition} {b : List ℕ} {first : ℕ} {o out : List ℕ} {next end left : ℕ} (f : Filling ed b first o out next end left) where
+  pub filling-next : (m : ℕ) {u : List ℕ} (out′ : List ℕ) (end′ : ℕ) → 0 < left → (m ≡ length (line ed b next)) × (u ≡ line ed b next) → m ≤ length out - end
       → Stored out end u out′ end′ → Filling ed b first o out′ (next + 1) end′ (left - 1)
-  filling-next m u out′ end′ h q room p =
+  filling-next m {u} out′ end′ h q room p =
       let t : left ≡ suc (left - 1) = omega arith in
       let l : length (line ed b next) ≤ length out - end = omega (arith, q .0) in
       let k : length u ≡ length (line ed b next) = ap length (q .1) in
@@ -184,9 +184,9 @@ module _ (ed : Edition) (b : List ℕ) (first : ℕ) (o out : List ℕ) (next en
         same = f .same ∙ ap (λ (m : ℕ). pieceFrom ed b m next out end) t ∙ pieceFrom-next ed b next out end (left - 1) l ∙ rw (w, add-one next, e);
       }
 
-  pub filling-full : (m : ℕ) → 0 < left → m ≡ length (line ed b next) → length out - end < m
+  pub filling-full : {m : ℕ} → 0 < left → m ≡ length (line ed b next) → length out - end < m
       → (stopped next end left out .answer ≡ nextPiece ed b first o .answer) × (out ≡ nextPiece ed b first o .bytes)
-  filling-full m h e g =
+  filling-full h e g =
       let t : left ≡ suc (left - 1) = omega arith in
       let q : nextPiece ed b first o ≡ stopped next end left out =
       f .same ∙ ap (λ (s : ℕ). pieceFrom ed b s next out end) t ∙ pieceFrom-full ed b next out end (left - 1) (omega arith)

@@ -22,14 +22,14 @@ pub record Held (ed : Edition) (b : List ℕ) (i : ℕ) (run : Run) : Type 0 whe
   pub presets : presetsOf run ≡ map (checkedPreset ed b) (up (run .first) 128)
 
 -- x is the number of that preset, as the code computes it
-module _ (ed : Edition) (b : List ℕ) (i x : ℕ) (e : x ≡ i - 1) where
+module _ (ed : Edition) (b : List ℕ) (i : ℕ) {x : ℕ} (e : x ≡ i - 1) where
   -- the run is read from there on
-  pub held-read : (run r : Run) → run ≡ r → r .first ≡ x → presetsOf r ≡ map (checkedPreset ed b) (up x 128) → Held ed b i run × (x < run .first + 128)
-  held-read run r q p h = rw q (record { begins = omega arith; presets = rw p h }, omega arith)
+  pub held-read : {run r : Run} → run ≡ r → r .first ≡ x → presetsOf r ≡ map (checkedPreset ed b) (up x 128) → Held ed b i run × (x < run .first + 128)
+  held-read q p h = rw q (record { begins = omega arith; presets = rw p h }, omega arith)
 
   -- or stays as it is
-  pub held-kept : (run r : Run) → run ≡ r → Held ed b i r → x < r .first + 128 → Held ed b i run × (x < run .first + 128)
-  held-kept run r q h g = rw q (h, g)
+  pub held-kept : {run r : Run} → run ≡ r → Held ed b i r → x < r .first + 128 → Held ed b i run × (x < run .first + 128)
+  held-kept q h g = rw q (h, g)
 
   module _ (run : Run) (h : Held ed b i run) (g : x < run .first + 128) where
     pub held-inside : x - run .first < length (run .presets)

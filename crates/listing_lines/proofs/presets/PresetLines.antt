@@ -19,16 +19,16 @@ use Rattle.listing_text.proofs.Answered.{refusalOf}
 
 -- ---- normal form and window
 
-pub wordLine-room : (i k n : ℕ) (u f : List ℕ) (w : List ℤ) (m : ℕ) → f ≡ wordNormalForm (kindOf k) n u → w ≡ window (kindOf k) n u
+pub wordLine-room : (i k n : ℕ) (u : List ℕ) {f : List ℕ} {w : List ℤ} (m : ℕ) → f ≡ wordNormalForm (kindOf k) n u → w ≡ window (kindOf k) n u
     → length (wordLine i (kindOf k) n u) ≤ m → length (presetLine i (kindOf k) n f w) ≤ m
 unfolding wordLine
-wordLine-room i k n u f w m p q h = rw (p, q) h
+wordLine-room i k n u m p q h = rw (p, q) h
 
-pub wordLine-put : (o : List ℕ) (at i k n : ℕ) (u f : List ℕ) (w : List ℤ) (out : List ℕ) (r : ℕ) → f ≡ wordNormalForm (kindOf k) n u
+pub wordLine-put : (o : List ℕ) (at i k n : ℕ) (u : List ℕ) {f : List ℕ} {w : List ℤ} (out : List ℕ) (r : ℕ) → f ≡ wordNormalForm (kindOf k) n u
     → w ≡ window (kindOf k) n u
     → Stored o at (presetLine i (kindOf k) n f w) out r → Stored o at (wordLine i (kindOf k) n u) out r
 unfolding wordLine
-wordLine-put o at i k n u f w out r p q h = rw (← p, ← q) h
+wordLine-put o at i k n u out r p q h = rw (← p, ← q) h
 
 -- ---- presets
 

@@ -63,7 +63,7 @@ module _ (k : Kind) (m : ℕ) (w : List ℤ) (marks : List Bool) (j : ℕ) (h : 
   negative-wrong n = wrong (wrongAt-negative k m e (drop j w) n)
 
   -- it is not negative in kind A, and has the size s
-  module _ (n : negativeInA k e ≡ false) (s : ℕ) (q : s ≡ natAbs e) where
+  module _ (n : negativeInA k e ≡ false) {s : ℕ} (q : s ≡ natAbs e) where
     pub zero-wrong : s ≡ 0 → true ≡ wrongEntry k m w
     zero-wrong z = wrong (wrongAt-zero k m s e (drop j w) q z)
 

@@ -110,12 +110,12 @@ wrongAt-else k m s e w q f h t = rw (← q, ne-eqb s 0 f, le-ltb m s h, t)
 
 -- `next` is the flag after one entry more if it is right in the four cases of the flag and of `minus`, which says
 -- whether the entry is negative
-pub flag-flipped : (w : List ℤ) (i : ℕ) (flag minus next : Bool) → i < length w
+pub flag-flipped : (w : List ℤ) (i : ℕ) {flag minus : Bool} (next : Bool) → i < length w
     → flag ≡ flagAfter (take i w) → negative (getD w i (pos 0)) ≡ minus
     → (flag ≡ true → minus ≡ true → next ≡ false) → (flag ≡ true → minus ≡ false → next ≡ true)
     → (flag ≡ false → minus ≡ true → next ≡ true) → (flag ≡ false → minus ≡ false → next ≡ false)
     → next ≡ flagAfter (take (i + 1) w)
-flag-flipped w i flag minus next h e q yes-flips yes-stays no-flips no-stays = by-case flag minus refl refl ∙ sym (flag-next w i h ∙ rw (q, ← e))
+flag-flipped w i {flag} {minus} next h e q yes-flips yes-stays no-flips no-stays = by-case flag minus refl refl ∙ sym (flag-next w i h ∙ rw (q, ← e))
   where
     by-case : (t s : Bool) → flag ≡ t → minus ≡ s → next ≡ pick s (not t) t
     by-case true true = yes-flips
@@ -136,12 +136,12 @@ module _ (k : Kind) (n m : ℕ) (w : List ℤ) where
   unfolding windowRefusal wrongLanes
   windowRefusal-entry t q l e h = rw (← q, eq-eqb (length w) m l, ← e, h)
 
-  pub windowRefusal-odd : (t o : Bool) → m ≡ lanes k n → length w ≡ m → t ≡ wrongEntry k m w → t ≡ false → o ≡ oddNegatives k w → o ≡ true
+  pub windowRefusal-odd : {t o : Bool} → m ≡ lanes k n → length w ≡ m → t ≡ wrongEntry k m w → t ≡ false → o ≡ oddNegatives k w → o ≡ true
       → 11 ≡ windowRefusal k n w
   unfolding windowRefusal wrongLanes
-  windowRefusal-odd t o q l e h f g = rw (← q, eq-eqb (length w) m l, ← e, h, ← f, g)
+  windowRefusal-odd q l e h f g = rw (← q, eq-eqb (length w) m l, ← e, h, ← f, g)
 
-  pub windowRefusal-none : (t o : Bool) → m ≡ lanes k n → length w ≡ m → t ≡ wrongEntry k m w → t ≡ false → o ≡ oddNegatives k w → o ≡ false
+  pub windowRefusal-none : {t o : Bool} → m ≡ lanes k n → length w ≡ m → t ≡ wrongEntry k m w → t ≡ false → o ≡ oddNegatives k w → o ≡ false
       → 0 ≡ windowRefusal k n w
   unfolding windowRefusal wrongLanes
-  windowRefusal-none t o q l e h f g = rw (← q, eq-eqb (length w) m l, ← e, h, ← f, g)
+  windowRefusal-none q l e h f g = rw (← q, eq-eqb (length w) m l, ← e, h, ← f, g)

@@ -57,7 +57,7 @@ module _ {k : Kind} {n : ℕ} {rest : List ℕ} {s : ℕ} {families places lengt
       nowhere none e = refl
       nowhere (some u) e = absurd (omega (arith, reading-lower k n (a .rank) word q (a .reading) u e))
 
-  module _ (f p y : ℕ) (m : Ending) (e : m ≡ endingOf (lowestRedex k n (take (suc q) word))) (z : m ≡ Rule f p y) where
+  module _ (f p y : ℕ) {m : Ending} (e : m ≡ endingOf (lowestRedex k n (take (suc q) word))) (z : m ≡ Rule f p y) where
     have : Found (lowestRedex k n (take (suc q) word)) f p y
     have = found _ m f p y e z
 
@@ -71,10 +71,10 @@ module _ {k : Kind} {n : ℕ} {rest : List ℕ} {s : ℕ} {families places lengt
         let d = after-dropped k n (a .rank) word q (a .reading) (have .step) (have .is) (have .family ∙ c) in
         omega (arith, d .0, have .place, ready-inside a)
 
-    pub turn-deleted : (families′ places′ lengths′ word′ : List ℕ) → f ≡ 1 → families′ ≡ set families s 1 → places′ ≡ set places s p
+    pub turn-deleted : {families′ places′ lengths′ : List ℕ} (word′ : List ℕ) → f ≡ 1 → families′ ≡ set families s 1 → places′ ≡ set places s p
         → lengths′ ≡ set lengths s (length word - 2 + length rest) → take (length word - 2) word′ ≡ take p word ++ drop (p + 2) word
         → Inserted k n rest s families places lengths word (s + 1) families′ places′ lengths′ word′ (length word - 2)
-    turn-deleted families′ places′ lengths′ word′ c i j l w =
+    turn-deleted {families′} {places′} {lengths′} word′ c i j l w =
         let d = after-dropped k n (a .rank) word q (a .reading) (have .step) (have .is) (have .family ∙ c) in
         let g : p + 2 ≡ suc q = omega (arith, d .0, have .place) in
         let v : take (length word - 2) word′ ≡ take (have .step .place) word ++ drop (suc q) word = rw (have .place, ← g) w in
@@ -84,10 +84,10 @@ module _ {k : Kind} {n : ℕ} {rest : List ℕ} {s : ℕ} {families places lengt
 
     -- ---- a letter carried on
 
-    pub turn-carried : (families′ places′ lengths′ word′ : List ℕ) → (f ≡ 1 → ⊥) → families′ ≡ set families s f → places′ ≡ set places s p
+    pub turn-carried : {families′ places′ lengths′ word′ : List ℕ} → (f ≡ 1 → ⊥) → families′ ≡ set families s f → places′ ≡ set places s p
         → lengths′ ≡ set lengths s (length word + length rest) → word′ ≡ put word p q y
         → Carried k n rest s families places lengths word (s + 1) families′ places′ lengths′ word′ p
-    turn-carried families′ places′ lengths′ word′ c i j l w =
+    turn-carried {families′} {places′} {lengths′} {word′} c i j l w =
         let g : (have .step .rule .family ≡ 1 → ⊥) = λ x. c (sym (have .family) ∙ x) in
         let d = after-moved k n (a .rank) word q (a .reading) (have .step) (have .is) g in
         let v : word′ ≡ put word (have .step .place) q (getD (have .step .rule .right) 0 0) = rw (have .place, have .first) w in

@@ -42,7 +42,7 @@ module _ (f : ℕ → ℕ) (l : List ℕ) (s : ℕ) where
   ]
 
   -- v is the list after i stores
-  module _ (v : List ℕ) (i : ℕ) (e : v ≡ stores f l s i) where
+  module _ {v : List ℕ} (i : ℕ) (e : v ≡ stores f l s i) where
     pub stores-size : length v ≡ length l
     stores-size = ap length e ∙ length-stores i
 
@@ -50,7 +50,7 @@ module _ (f : ℕ → ℕ) (l : List ℕ) (s : ℕ) where
     unfolding stores
     stores-next x q = rw (e, q, add-one)
 
-    pub stores-end : (m end size : ℕ) → size ≡ length l → end ≡ min m (size - s) → i ≤ end → end ≤ i → v ≡ stores f l s m
-    stores-end m end size h g a b =
+    pub stores-end : (m : ℕ) {end size : ℕ} → size ≡ length l → end ≡ min m (size - s) → i ≤ end → end ≤ i → v ≡ stores f l s m
+    stores-end m h g a b =
         let z : i ≡ min m (length l - s) = omega arith in
         e ∙ ap (stores f l s) z ∙ stores-fit m

@@ -85,7 +85,7 @@ module _ {k : Kind} {n : ℕ} {rest : List ℕ} {s : ℕ} {families places lengt
   pass-start : Passed k n rest s families places lengths word q families places lengths word q (getD word q 0)
   pass-start = let e : s + (q - q) ≡ s = omega arith in (omega arith, refl, rw e (carried-start a))
 
-  module _ (left : ℕ) (l : left ≡ length word + length rest) where
+  module _ {left : ℕ} (l : left ≡ length word + length rest) where
     pass-again : {families′ places′ lengths′ word′ : List ℕ} {p x : ℕ} {families″ places″ lengths″ word″ : List ℕ}
         → Passed k n rest s families places lengths word q families′ places′ lengths′ word′ (suc p) x
         → commuting n (levels k n) (getD word′ p 0) x ≡ true → families″ ≡ set families′ (s + (q - suc p)) 2

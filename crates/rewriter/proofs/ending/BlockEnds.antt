@@ -34,7 +34,7 @@ use Rattle.rewriter.specs.declared.ending.Ending.the-variants as ending
 use Rattle.rewriter.proofs.search.Searches.{Searching, Searchable, along-le, searching-next, searching-found, searching-end}
 use Rattle.rewriter.proofs.ending.Ends.{Begun, blockEnding, endingOf, upto-one, ending-none, ending-found}
 
-module _ (k : Kind) (n : ℕ) (h : least k ≤ n) (w : List ℕ) (q : ℕ) (r : Reading k n w q) (o : 1 ≤ q) (p : ℕ) (b : Begun w n q p)
+module _ {k : Kind} {n : ℕ} (h : least k ≤ n) {w : List ℕ} {q : ℕ} (r : Reading k n w q) (o : 1 ≤ q) (p : ℕ) (b : Begun w n q p)
     (d : getD w (q - 1) 0 ≡ getD w q 0 → ⊥) (t : commuting n (levels k n) (getD w (q - 1) 0) (getD w q 0) ≡ false) where
   end-inside : q < length w
   end-inside = reading-inside k n h w q r
@@ -189,16 +189,16 @@ module _ (k : Kind) (n : ℕ) (h : least k ≤ n) (w : List ℕ) (q : ℕ) (r : 
     abbrev told : ℕ → ℕ → Ending
     told s f = pick (eqb s 0) (pick (eqb f 0) ending.Nothing (ending.Rule f p (firstLetter n f i (shownIndex f (there .0) letter)))) ending.Nothing
 
-    by-numbers : (s f : ℕ) → s ≡ nextIndex n (levels k n) (lastIndex k n i) (there .0) letter → f ≡ familyAt n (fork k n) i (there .0) letter
+    by-numbers : {s f : ℕ} → s ≡ nextIndex n (levels k n) (lastIndex k n i) (there .0) letter → f ≡ familyAt n (fork k n) i (there .0) letter
         → told s f ≡ endingOf (lowestRedex k n (take (suc q) w))
-    by-numbers s f x y = elim (ℕ-discrete s 0) [ yes z ↦ leaves z | no z ↦ stays z ]
+    by-numbers {s} {f} x y = elim (ℕ-discrete s 0) [ yes z ↦ leaves z | no z ↦ stays z ]
       where
         stays : (s ≡ 0 → ⊥) → told s f ≡ endingOf (lowestRedex k n (take (suc q) w))
         stays z =
             let v = searching-next k n (take (q + 1) w) searchable (levels k n) (lastIndex k n i) p i (there .0) q s refl refl searching long-enough
             (rw last-letter x) z in
             let u = searching-end k n (take (q + 1) w) searchable p i s (q + 1) v (rw (upto-one q w, length-take-le (suc q) w end-inside) (omega arith)) in
-            rw (ne-eqb s 0 z) (ending-none k n h w q r o p b d t _ refl (sym u))
+            rw (ne-eqb s 0 z) (ending-none k n h w q r o p b d t refl (sym u))
 
         leaves : s ≡ 0 → told s f ≡ endingOf (lowestRedex k n (take (suc q) w))
         leaves z =
@@ -207,12 +207,12 @@ module _ (k : Kind) (n : ℕ) (h : least k ≤ n) (w : List ℕ) (q : ℕ) (r : 
             (searching-found k n (take (q + 1) w) searchable (levels k n) (lastIndex k n i) (fork k n) p i (there .0) q s f refl refl refl searching
             long-enough (rw last-letter x) z (rw last-letter y)) in
             elim (ℕ-discrete f 0) [
-              | yes g ↦ rw (eq-eqb s 0 z, eq-eqb f 0 g) (ending-none k n h w q r o p b d t _ refl (v ∙ rw (eq-eqb f 0 g)))
+              | yes g ↦ rw (eq-eqb s 0 z, eq-eqb f 0 g) (ending-none k n h w q r o p b d t refl (v ∙ rw (eq-eqb f 0 g)))
               | no g ↦
                   let m = shownIndex f (there .0) letter in
-                  rw (eq-eqb s 0 z, ne-eqb f 0 g) (ending-found k n h w q r o p b d t _ refl f i m (q + 1 - p) (v ∙ rw (ne-eqb f 0 g)) _ refl)
+                  rw (eq-eqb s 0 z, ne-eqb f 0 g) (ending-found k n h w q r o p b d t refl f i m (q + 1 - p) (v ∙ rw (ne-eqb f 0 g)) refl)
             ]
 
-    pub ending-block : (v j : ℕ) (a : Ending) → v ≡ lower (getD w (q - 1) 0) (getD w q 0) → j ≡ indexBy k n v (q - p) (getD w (q - 1) 0)
+    pub ending-block : {v j : ℕ} {a : Ending} → v ≡ lower (getD w (q - 1) 0) (getD w q 0) → j ≡ indexBy k n v (q - p) (getD w (q - 1) 0)
         → a ≡ blockEnding k n p v j (getD w q 0) → a ≡ endingOf (lowestRedex k n (take (suc q) w))
-    ending-block v j a u f g = (rw (index-is v j u f, u) at g) ∙ by-numbers _ _ refl refl
+    ending-block {v} {j} u f g = (rw (index-is v j u f, u) at g) ∙ by-numbers refl refl

@@ -69,7 +69,7 @@ Begun w n q p =
     (p ≤ q) × (getD w (q - 1) 0 < getD w q 0 → Stopped w (suc q - 2 * n) (q - 1) (getD w (q - 1) 0) p)
     × (getD w q 0 ≤ getD w (q - 1) 0 → Stopped w (suc q - 2 * n) q (getD w q 0) p)
 
-module _ (w : List ℕ) (n q l x floor p : ℕ) (e : floor ≡ suc q - 2 * n) (f : l ≡ getD w (q - 1) 0) (g : x ≡ getD w q 0) where
+module _ (w : List ℕ) (n q : ℕ) {l x floor : ℕ} (p : ℕ) (e : floor ≡ suc q - 2 * n) (f : l ≡ getD w (q - 1) 0) (g : x ≡ getD w q 0) where
   pub begun-rising : l < x → Stopped w floor (q - 1) l p → Begun w n q p
   begun-rising h s = (omega (arith, s .inside), λ a. rw (← e, ← f) s, λ a. absurd (omega arith))
 
@@ -87,22 +87,22 @@ blockEnding k n p i j x =
     ending.Nothing
 
 -- from what its tests compute
-module _ (k : Kind) (n p i j x c m s : ℕ) (a : c ≡ levels k n) (b : m ≡ lastIndex k n i) (e : s ≡ nextIndex n c m j x) where
+module _ (k : Kind) (n p i j x : ℕ) {c m s : ℕ} (a : c ≡ levels k n) (b : m ≡ lastIndex k n i) (e : s ≡ nextIndex n c m j x) where
   goes-to : nextIndex n (levels k n) (lastIndex k n i) j x ≡ s
   goes-to = rw (← a, ← b) (sym e)
 
   pub block-goes-on : (s ≡ 0 → ⊥) → ending.Nothing ≡ blockEnding k n p i j x
   block-goes-on z = rw (goes-to, ne-eqb s 0 z)
 
-  module _ (d f : ℕ) (z : s ≡ 0) (t : d ≡ fork k n) (g : f ≡ familyAt n d i j x) where
+  module _ {d f : ℕ} (z : s ≡ 0) (t : d ≡ fork k n) (g : f ≡ familyAt n d i j x) where
     family-is : familyAt n (fork k n) i j x ≡ f
     family-is = rw (← t) (sym g)
 
     pub block-no-rule : f ≡ 0 → ending.Nothing ≡ blockEnding k n p i j x
     block-no-rule y = rw (goes-to, eq-eqb s 0 z, family-is, eq-eqb f 0 y)
 
-    pub block-has-rule : (v y : ℕ) → (f ≡ 0 → ⊥) → v ≡ shownIndex f j x → y ≡ firstLetter n f i v → ending.Rule f p y ≡ blockEnding k n p i j x
-    block-has-rule v y o q r = rw (goes-to, eq-eqb s 0 z, family-is, ne-eqb f 0 o, r, q)
+    pub block-has-rule : {v y : ℕ} → (f ≡ 0 → ⊥) → v ≡ shownIndex f j x → y ≡ firstLetter n f i v → ending.Rule f p y ≡ blockEnding k n p i j x
+    block-has-rule o q r = rw (goes-to, eq-eqb s 0 z, family-is, ne-eqb f 0 o, r, q)
 
 -- the rule at the lowest place, as the search hands it on
 abbrev pub endingOf : Option Redex → Ending
@@ -177,7 +177,7 @@ module _ (k : Kind) (n : ℕ) (h : least k ≤ n) (w : List ℕ) (q : ℕ) (r : 
             absurd (f (ap (λ (i : ℕ). getD w i 0) (sym (place-is s j)) ∙ first-letter k n h w (q - 1) reading s e .0 ∙ ap (lower before) x))
 
     -- a is what the search of one rewrite answers
-    module _ (a : Fitting) (e : a ≡ fittingOf (firstFitting (rules k n) (take (q + 1) w) p)) where
+    module _ {a : Fitting} (e : a ≡ fittingOf (firstFitting (rules k n) (take (q + 1) w) p)) where
       pub ending-none : a ≡ found.Nothing → ending.Nothing ≡ endingOf (lowestRedex k n (take (suc q) w))
       ending-none z = go (lowestRedex k n (take (suc q) w)) refl
         where
@@ -208,6 +208,6 @@ module _ (k : Kind) (n : ℕ) (h : least k ≤ n) (w : List ℕ) (q : ℕ) (r : 
             let g = after-dropped k n h w q r _ found-redex c in
             d (ap (λ (m : ℕ). getD w m 0) (omega (arith, g .0)) ∙ letters-dropped k n h w q r _ found-redex c ∙ ap (λ (m : ℕ). getD w m 0) (g .0))
 
-        pub ending-found : (y : ℕ) → y ≡ firstLetter n f i j → ending.Rule f p y ≡ endingOf (lowestRedex k n (take (suc q) w))
+        pub ending-found : {y : ℕ} → y ≡ firstLetter n f i j → ending.Rule f p y ≡ endingOf (lowestRedex k n (take (suc q) w))
         unfolding shownRule
-        ending-found y c = sym (ap endingOf found-redex ∙ rw (ne-eqb f 1 not-square, c))
+        ending-found c = sym (ap endingOf found-redex ∙ rw (ne-eqb f 1 not-square, c))

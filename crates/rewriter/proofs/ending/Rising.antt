@@ -35,7 +35,7 @@ rise-of-none n l x e = elim (ℕ-discrete x n) [
   ]
 ]
 
-module _ (k : Kind) (n : ℕ) (h : least k ≤ n) (z : List ℕ) (q : ℕ) (r : Reading k n z q) where
+module _ {k : Kind} {n : ℕ} (h : least k ≤ n) {z : List ℕ} {q : ℕ} (r : Reading k n z q) where
   normal-upto : (t : ℕ) → t ≤ q → Normal k n (take t z)
   normal-upto t l =
       let m : Normal k n (take q z) = record {

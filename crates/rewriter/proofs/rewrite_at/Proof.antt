@@ -17,7 +17,7 @@ abbrev begun : tie.Else1 → tie.Start
 begun e = e .before .before .before .before
 
 passed : (e : tie.Else1) → AcceptedWord (begun e .args .kind) (begun e .args .rank) (begun e .args .word .now)
-passed e = accepted _ _ _ _ (e .before .preset-refusal .ensures) (e .if1 .left)
+passed e = accepted _ _ _ (e .before .preset-refusal .ensures) (e .if1 .left)
 
 -- the rule that the search has handed on
 abbrev checked : tie.After-family → tie.Else1
@@ -49,7 +49,7 @@ fitting-rule-requires c κs =
 returns-3 : tie.Need-returns-3
 returns-3 c =
     let e = c .before .before .before in
-    rewrote-none _ _ _ _ _ (passed (e .before)) (e .if2 .left) _ (c .before .before .fitting-rule .ensures) (c .enum-told .given .1)
+    rewrote-none _ _ (passed (e .before)) (e .if2 .left) (c .before .before .fitting-rule .ensures) (c .enum-told .given .1)
 
 new-length-requires : tie.Need-new-length-requires
 new-length-requires c κs = let w = handed (c .before) in omega (arith, w .inside)
@@ -57,7 +57,7 @@ new-length-requires c κs = let w = handed (c .before) in omega (arith, w .insid
 returns-4 : tie.Need-returns-4
 returns-4 c =
     let b = c .before .before .before in
-    rewrote-short _ _ _ _ _ (passed (checked b)) (b .before .before .before .if2 .left) _ _ _ _ _ (handed b)
+    rewrote-short _ _ (passed (checked b)) (b .before .before .before .if2 .left) (handed b)
     (c .before .new-length .ensures)
     (c .if3 .taken)
 
@@ -73,8 +73,8 @@ returns-5 : tie.Need-returns-5
 returns-5 c =
     let past-if3 = c .before .before .before .before in
     let b = past-if3 .before .before .before in
-    rewrote-used _ _ _ _ _ (passed (checked b)) (b .before .before .before .if2 .left) _ _ _ _ _ (handed b)
-    (past-if3 .before .new-length .ensures) _
+    rewrote-used _ _ (passed (checked b)) (b .before .before .before .if2 .left) (handed b)
+    (past-if3 .before .new-length .ensures)
     (past-if3 .if3 .left)
     (c .before .before .write-rewritten .ensures)
 

@@ -8,19 +8,19 @@ use Rattle.rewriter.proofs.rewrite_to_end.Tie as tie
 returns : tie.Need-returns
 returns c =
     let r = c .before in
-    traced-refused _ _ _ _ (r .preset-refusal .ensures) _ _ _ _ (c .if1 .taken)
+    traced-refused _ _ _ (r .preset-refusal .ensures) _ _ _ _ (c .if1 .taken)
 
 count-requires : tie.Need-count-requires
 count-requires c κs =
     let r = c .before in
-    accepted _ _ _ _ (r .preset-refusal .ensures) (c .if1 .left)
+    accepted _ _ _ (r .preset-refusal .ensures) (c .if1 .left)
 
 returns-2 : tie.Need-returns-2
 returns-2 c =
     let n = c .before in
     let i = n .before in
     let r = i .before in
-    families-short _ _ _ _ (r .preset-refusal .ensures) _ _ _ _ _ (i .if1 .left) (n .count .ensures .0) (c .if2 .taken)
+    families-short _ _ _ (r .preset-refusal .ensures) _ _ _ _ (i .if1 .left) (n .count .ensures .0) (c .if2 .taken)
 
 returns-3 : tie.Need-returns-3
 returns-3 c =
@@ -28,7 +28,7 @@ returns-3 c =
     let n = a .before in
     let i = n .before in
     let r = i .before in
-    places-short _ _ _ _ (r .preset-refusal .ensures) _ _ _ _ _ (i .if1 .left) (n .count .ensures .0) (a .if2 .left) (c .if3 .taken)
+    places-short _ _ _ (r .preset-refusal .ensures) _ _ _ _ (i .if1 .left) (n .count .ensures .0) (a .if2 .left) (c .if3 .taken)
 
 returns-4 : tie.Need-returns-4
 returns-4 c =
@@ -37,7 +37,7 @@ returns-4 c =
     let n = a .before in
     let i = n .before in
     let r = i .before in
-    lengths-short _ _ _ _ (r .preset-refusal .ensures) _ _ _ _ _ (i .if1 .left) (n .count .ensures .0) (a .if2 .left) (b .if3 .left) (c .if4 .taken)
+    lengths-short _ _ _ (r .preset-refusal .ensures) _ _ _ _ (i .if1 .left) (n .count .ensures .0) (a .if2 .left) (b .if3 .left) (c .if4 .taken)
 
 returns-5 : tie.Need-returns-5
 returns-5 c =
@@ -47,8 +47,8 @@ returns-5 c =
     let n = a .before in
     let i = n .before in
     let r = i .before in
-    out-short _ _ _ _ (r .preset-refusal .ensures) _ _ _ _ _ (i .if1 .left) (n .count .ensures .0) (a .if2 .left) (b .if3 .left) (d .if4 .left)
-    _ (n .count .ensures .1) (c .if5 .taken)
+    out-short _ _ _ (r .preset-refusal .ensures) _ _ _ _ (i .if1 .left) (n .count .ensures .0) (a .if2 .left) (b .if3 .left) (d .if4 .left)
+    (n .count .ensures .1) (c .if5 .taken)
 
 write-trace-requires : tie.Need-write-trace-requires
 write-trace-requires c κs =
@@ -59,7 +59,7 @@ write-trace-requires c κs =
     let n = a .before in
     let i = n .before in
     let r = i .before in (
-      accepted _ _ _ _ (r .preset-refusal .ensures) (i .if1 .left),
+      accepted _ _ _ (r .preset-refusal .ensures) (i .if1 .left),
       (n .count .ensures .0, ((a .if2 .left, b .if3 .left, d .if4 .left), rw (n .count .ensures .1) at (past-if5 .if5 .left))),
     )
 
@@ -74,8 +74,8 @@ returns-6 c =
     let i = n .before in
     let r = i .before in
     let t = after-write-trace .write-trace .ensures in
-    traced-done _ _ _ _ (r .preset-refusal .ensures) _ _ _ _ _ (i .if1 .left) (n .count .ensures .0) (a .if2 .left) (b .if3 .left) (d .if4 .left)
-    _ (n .count .ensures .1) _ _ _ _ (past-if5 .if5 .left) (t .0) (t .1) (t .2) (t .3)
+    traced-done _ _ _ (r .preset-refusal .ensures) _ _ _ _ (i .if1 .left) (n .count .ensures .0) (a .if2 .left) (b .if3 .left) (d .if4 .left)
+    (n .count .ensures .1) (past-if5 .if5 .left) (t .0) (t .1) (t .2) (t .3)
 
 pub rewrite-to-end-spec : {M : Type 1} → statement M
 rewrite-to-end-spec =

@@ -38,7 +38,7 @@ pub record Making (k : Kind) (n : ℕ) (word families places lengths work₀ : L
   pub normal : Normal k n (take size work)
   pub same : finish k n 0 families places lengths word ≡ finish k n s families′ places′ lengths′ (take size work ++ drop i word)
 
-module _ (k n : ℕ) (word families places lengths work₀ : List ℕ) (h : AcceptedWord k n word) where
+module _ {k n : ℕ} {word : List ℕ} (families places lengths work₀ : List ℕ) (h : AcceptedWord k n word) where
   abbrev kind : Kind
   kind = kindOf k
 
@@ -152,7 +152,7 @@ module _ (k n : ℕ) (word families places lengths work₀ : List ℕ) (h : Acce
 
 -- ---- lists and output
 
-module _ (k : Kind) (n : ℕ) (word families places lengths : List ℕ) (steps : ℕ) (families′ places′ lengths′ work : List ℕ) (size : ℕ)
+module _ (k : Kind) (n : ℕ) (word : List ℕ) {families places lengths : List ℕ} (steps : ℕ) (families′ places′ lengths′ work : List ℕ) (size : ℕ)
     (m : Made k n word families places lengths steps families′ places′ lengths′ work size) where
   abbrev whole : Trace
   whole = trace k n word
@@ -172,9 +172,9 @@ module _ (k : Kind) (n : ℕ) (word families places lengths : List ℕ) (steps :
   pub copy-room : (most : ℕ) → length (trace k n word .final) ≤ most → 0 + length (take size work) ≤ most
   copy-room most h = rw (made-final, zero-add) h
 
-  pub out-written : (out out′ : List ℕ) → length (trace k n word .final) ≤ length out → out′ ≡ sets out 0 (take size work)
+  pub out-written : (out : List ℕ) {out′ : List ℕ} → length (trace k n word .final) ≤ length out → out′ ≡ sets out 0 (take size work)
       → out′ ≡ front (trace k n word .final) out
-  out-written out out′ h e = e ∙ rw made-final (sets-front (whole .final) out h)
+  out-written out h e = e ∙ rw made-final (sets-front (whole .final) out h)
 
   made-families : families′ ≡ sets families 0 (familiesOf (trace k n word .lines))
   unfolding finishWith
@@ -200,7 +200,7 @@ list-written list part u steps h l e =
     front-parts u list steps part l (e ∙ sets-front u (take steps list) (omega arith) ∙ front-whole u (take steps list) (omega arith))
 
 -- the rewriting was made in the fronts of three lists
-module _ (k : Kind) (n : ℕ) (word families places lengths : List ℕ) (steps made : ℕ) (families′ places′ lengths′ work : List ℕ) (size : ℕ)
+module _ {k : Kind} {n : ℕ} {word : List ℕ} (families places lengths : List ℕ) (steps : ℕ) {made : ℕ} {families′ places′ lengths′ work : List ℕ} {size : ℕ}
     (m : Made k n word (take steps families) (take steps places) (take steps lengths) made families′ places′ lengths′ work size) where
   pub lists-written : steps ≡ length (trace k n word .lines) → steps ≤ length families → steps ≤ length places → steps ≤ length lengths
       → (families′ ++ drop steps families ≡ front (familiesOf (trace k n word .lines)) families)
@@ -209,9 +209,9 @@ module _ (k : Kind) (n : ℕ) (word families places lengths : List ℕ) (steps m
   lists-written e f p l =
       let ls = trace k n word .lines in (
         list-written families families′ (familiesOf ls) steps f (length-numbers _ ls ∙ sym e)
-            (made-families k n word _ _ _ made families′ places′ lengths′ work size m),
+            (made-families k n word made families′ places′ lengths′ work size m),
         list-written places places′ (placesOf ls) steps p (length-numbers _ ls ∙ sym e)
-            (made-places k n word _ _ _ made families′ places′ lengths′ work size m),
+            (made-places k n word made families′ places′ lengths′ work size m),
         list-written lengths lengths′ (lengthsOf ls) steps l (length-numbers _ ls ∙ sym e)
-            (made-lengths k n word _ _ _ made families′ places′ lengths′ work size m),
+            (made-lengths k n word made families′ places′ lengths′ work size m),
       )

@@ -20,18 +20,18 @@ use Rattle.coxeter.specs.Calls.{front}
 -- ---- the two writings
 
 -- what stands before and what stands after, as two copies leave them
-pub written-without : (u d : List ℕ) (p l : ℕ) (o o′ : List ℕ) → p + l ≤ length u → length u - l ≤ length d → o ≡ sets d 0 (take p u)
+pub written-without : (u d : List ℕ) (p l : ℕ) {o o′ : List ℕ} → p + l ≤ length u → length u - l ≤ length d → o ≡ sets d 0 (take p u)
     → o′ ≡ sets o p (take (length u - (p + l)) (drop (p + l) u)) → o′ ≡ front (take p u ++ drop (p + l) u) d
-written-without u d p l o o′ h m e g =
+written-without u d p l h m e g =
     let t : p ≡ 0 + length (take p u) = simp length-take (omega arith) in
     let room : length (take p u ++ drop (p + l) u) ≤ length d = simp (length-append, length-take, length-drop) (omega arith) in
     rw (g, e, take-rest (p + l) u, sets-next d 0 p (take p u) (drop (p + l) u) t) (sets-front (take p u ++ drop (p + l) u) d room)
 
 -- the whole word, and over it from the place on the new letter and the left side without its last letter
-pub written-moved : (u d : List ℕ) (p l x : ℕ) (o o′ : List ℕ) → 1 ≤ l → p + l ≤ length u → length u ≤ length d → o ≡ sets d 0 u
+pub written-moved : (u d : List ℕ) (p l x : ℕ) {o o′ : List ℕ} → 1 ≤ l → p + l ≤ length u → length u ≤ length d → o ≡ sets d 0 u
     → o′ ≡ sets (set o p x) (p + 1) (take (p + l - 1 - p) (drop p u))
     → o′ ≡ front (take p u ++ ((x ∷ take (l - 1) (drop p u)) ++ drop (p + l) u)) d
-written-moved u d p l x o o′ h g m e f =
+written-moved u d p l x {o} {o′} h g m e f =
     let s : List ℕ = take (l - 1) (drop p u) in
     let r : List ℕ = drop (length u) d in
     let i : p + l - 1 - p ≡ l - 1 = omega arith in

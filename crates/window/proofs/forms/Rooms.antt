@@ -26,7 +26,7 @@ use Rattle.window.proofs.shown.Fronts.{Front}
 -- ---- check 14
 
 -- t says whether there is too little room
-module _ (k : Kind) (n : ℕ) (w : List ℤ) (out : List ℕ) (t : Bool) (g : WindowOf k n w) (e : t ≡ ltb (length out) (windowLength k w)) where
+module _ (k : Kind) (n : ℕ) (w : List ℤ) (out : List ℕ) {t : Bool} (g : WindowOf k n w) (e : t ≡ ltb (length out) (windowLength k w)) where
   -- the sums are the normal form's length
   sums : length (normalForm k n w) ≡ windowLength k w
   sums = length-normalForm k n w (accepted-of-refusal k n w g)
@@ -38,9 +38,9 @@ module _ (k : Kind) (n : ℕ) (w : List ℤ) (out : List ℕ) (t : Bool) (g : Wi
   pub checked-room : t ≡ false → length (normalForm k n w) ≤ length out
   checked-room y = omega (arith, sums, ltb-false (length out) (windowLength k w) (sym e ∙ y))
 
-  pub checked-written : (r : ℕ) (v : List ℕ) → t ≡ false → r ≡ length (normalForm k n w) → v ≡ front (normalForm k n w) out
+  pub checked-written : {r : ℕ} {v : List ℕ} → t ≡ false → r ≡ length (normalForm k n w) → v ≡ front (normalForm k n w) out
       → Yields (writes 0 (normalForm k n w) out) (Length r) v
-  checked-written r v y a b = writes-written _ 0 0 (normalForm k n w) out refl refl r v refl (sym a) (omega (arith, a, checked-room y)) b
+  checked-written {r} {v} y a b = writes-written _ 0 0 (normalForm k n w) out refl refl r v refl (sym a) (omega (arith, a, checked-room y)) b
 
 -- ---- what the calls answer
 
@@ -49,6 +49,6 @@ window-fits k n w h g = lanes-le k n (length w) h (accepted-of-refusal (kindOf k
 
 -- the first m entries of a work window are lent to `write_checked`: what a call answers with it if no check refused
 -- before
-pub form-written : (k n m : ℕ) (x r : List ℤ) → Front k n m x r → (o : Outcome ℕ) (q : ℕ) (out after : List ℕ) (a : Answer)
+pub form-written : {k n m : ℕ} {x r : List ℤ} → Front k n m x r → {o : Outcome ℕ} {q : ℕ} (out after : List ℕ) (a : Answer)
     → o ≡ writes q (normalForm (kindOf k) n x) out → q ≡ 0 → Yields (writes 0 (normalForm (kindOf k) n (take m r)) out) a after → Yields o a after
-form-written k n m x r f o q out after a is z d = writes-passed o q q (normalForm (kindOf k) n x) out is refl a after z (rw (f .is) at d)
+form-written {k} {n} {x} f {o} {q} out after a is z d = writes-passed o q q (normalForm (kindOf k) n x) out is refl a after z (rw (f .is) at d)

@@ -25,7 +25,7 @@ show-inverse-requires : tie.Need-show-inverse-requires
 show-inverse-requires c κs =
     let made = c .before in
     let p = counted (made .before .before) in
-    (p .0, (p .1 .0, (p .1 .1, room _ _ _ (p .0) (p .1 .0) (made .entries-64 .result) (made .entries-64 .ensures))))
+    (p .0, (p .1 .0, (p .1 .1, room _ _ (p .0) (p .1 .0) (made .entries-64 .result) (made .entries-64 .ensures))))
 
 -- what the work window holds after the call
 held : (c : tie.After-show-inverse)
@@ -36,7 +36,7 @@ held : (c : tie.After-show-inverse)
 held c =
     let made = c .before .before in
     let p = counted (made .before .before) in
-    front-written _ _ _ (p .0) (p .1 .0) _ _ _ (inverse-passes _ _ _) (made .entries-64 .ensures) (c .show-inverse .ensures)
+    front-written _ _ (p .0) (p .1 .0) _ _ (inverse-passes _ _ _) (made .entries-64 .ensures) (c .show-inverse .ensures)
 
 array-share-prefix-work : tie.Need-array-share-prefix-work
 array-share-prefix-work c = held (c .before) .fits
@@ -57,7 +57,7 @@ returns c =
     let made = called .before .before .before .before in
     let after-m = made .before .before .before .before in
     let p = count-of-lanes _ _ _ (after-m .before .before .preset-lanes .ensures) _ (after-m .m .given .1) in
-    form-written _ _ _ _ _ (held made) _ _ _ _ _ refl (p .0) (called .write-checked .ensures)
+    form-written (held made) _ _ _ refl (p .0) (called .write-checked .ensures)
 
 returns-2 : tie.Need-returns-2
 unfolding inverseOfWord

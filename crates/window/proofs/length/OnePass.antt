@@ -118,7 +118,7 @@ gone-none w =
     }
 
 -- one entry further to the front: the entry at j - 1, of size s
-module _ (w : List ℤ) (set pairs lack minus j s : ℕ) (h : Gone w set pairs lack minus j) (p : 0 < j) (few : length w ≤ 64)
+module _ {w : List ℤ} {set pairs lack minus j s : ℕ} (h : Gone w set pairs lack minus j) (p : 0 < j) (few : length w ≤ 64)
     (g : WindowOf B (length w) w) (q : s ≡ natAbs (getD w (j - 1) (pos 0))) where
   abbrev e : ℤ
   e = getD w (j - 1) (pos 0)
@@ -156,7 +156,7 @@ module _ (w : List ℤ) (set pairs lack minus j s : ℕ) (h : Gone w set pairs l
       let u = drop j w in
       let l = length-drop j w in (omega (arith, h .lack-is, lack-le m u few), omega (arith, h .minus-is, negatives-le u))
 
-  module _ (l : ℕ) (r : l ≡ ones (set / 2 ^ (s - 1))) where
+  module _ {l : ℕ} (r : l ≡ ones (set / 2 ^ (s - 1))) where
     from : l ≡ fromSize m (natAbs e) (drop j w)
     from = back.larger-is w set j s gone p g q l r
 
@@ -172,11 +172,11 @@ module _ (w : List ℤ) (set pairs lack minus j s : ℕ) (h : Gone w set pairs l
           minus-is = rw (next, n) (omega (arith, h .minus-is));
         }
 
-    pub gone-negative : (t : Bool) → t ≡ negative e → t ≡ true
+    pub gone-negative : {t : Bool} → t ≡ negative e → t ≡ true
         → Gone w (bitOr set (2 ^ (s - 1))) (pairs + l) (lack + (m - s)) (minus + 1) (j - 1)
-    gone-negative t n y = gone-next true (sym n ∙ y) (pairs + l) (omega arith)
+    gone-negative n y = gone-next true (sym n ∙ y) (pairs + l) (omega arith)
 
-    module _ (t : Bool) (n : t ≡ negative e) (y : t ≡ false) where
+    module _ {t : Bool} (n : t ≡ negative e) (y : t ≡ false) where
       -- as many are left as are taken off
       pub left : l ≤ pairs
       unfolding raised lowered
@@ -186,16 +186,16 @@ module _ (w : List ℤ) (set pairs lack minus j s : ℕ) (h : Gone w set pairs l
       gone-positive =
           rw (add-zero lack, add-zero minus) at (gone-next false (sym n ∙ y) (pairs - l) (omega (arith, left)))
 
-    module _ (t : Bool) (n : t ≡ negative e) (y : t ≡ true) where
+    module _ {t : Bool} (n : t ≡ negative e) (y : t ≡ true) where
       pub pairs-fit : pairs + l ≤ 8192
       unfolding raised lowered
       pairs-fit = omega (arith, rw (sym n ∙ y, sym from) at changes, h .pairs-is, triangle-fits)
 
 -- all entries were gone through
-pub parts : (w : List ℤ) (set pairs lack minus j : ℕ) → Gone w set pairs lack minus j → j ≡ 0 → length w ≤ 64 → WindowOf B (length w) w
+pub parts : {w : List ℤ} {set pairs lack minus j : ℕ} → Gone w set pairs lack minus j → j ≡ 0 → length w ≤ 64 → WindowOf B (length w) w
     → (pairs ≡ inversions w + negativeSumPairs w) × (lack ≡ negativeSumPairs w) × (minus ≡ negatives w)
 unfolding bothPairs
-parts w set pairs lack minus j h z few g =
+parts {w} {j} h z few g =
     let m = length w in
     let a = accepted-of-refusal B m w g .level in
     let whole : drop j w ≡ w = rw z in (

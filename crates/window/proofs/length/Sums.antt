@@ -123,14 +123,14 @@ windowLength-else k n w h d =
 -- ---- crossings
 
 -- p are the pairs of both sorts, s the negative sum pairs, t the negative entries
-module _ (k n : ℕ) (w : List ℤ) (h : WindowOf (kindOf k) n w) (p s : ℕ) (e : p ≡ inversions w + negativeSumPairs w)
+module _ (k n : ℕ) (w : List ℤ) (h : WindowOf (kindOf k) n w) {p s : ℕ} (e : p ≡ inversions w + negativeSumPairs w)
     (q : s ≡ negativeSumPairs w) where
   first : p - s ≡ inversions w
   first = omega arith
 
-  pub counted-two : (t : ℕ) → k ≡ 2 → t ≡ negatives w → counted.Crossings (p - s) s t ≡ countedOf 0 (crossings (kindOf k) w)
+  pub counted-two : {t : ℕ} → k ≡ 2 → t ≡ negatives w → counted.Crossings (p - s) s t ≡ countedOf 0 (crossings (kindOf k) w)
   unfolding countedOf crossings
-  counted-two t b z = rw (kindOf-two k b, first, q, z)
+  counted-two b z = rw (kindOf-two k b, first, q, z)
 
   none-in-A : kindOf k ≡ A → negativeSumPairs w ≡ 0
   none-in-A a =

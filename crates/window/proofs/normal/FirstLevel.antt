@@ -52,7 +52,7 @@ module _ (k n : ℕ) (h : RankOf k n) (w : List ℤ) (g : WindowOf (kindOf k) n 
   pub first-level : 1 ≤ lastLevel (kindOf k) (length w)
   first-level = omega (arith, last, one-level (kindOf k) n (rank-within k n h .0))
 
-  module _ (places : List ℕ) (left : ℕ) (p : PlacesOf w places) (s : left ≡ 2 ^ length w - 1) where
+  module _ (places : List ℕ) {left : ℕ} (p : PlacesOf w places) (s : left ≡ 2 ^ length w - 1) where
     pub first-places : (i : ℕ) → i < length w → Place (kindOf k) (length w) (getD places i 0)
     first-places i l =
         let f : Found (kindOf k) (length w) places (suc i) w = found (kindOf k) n (length w) w places (suc i) (own .size) own p (omega arith) l in

@@ -52,7 +52,7 @@ changed-is D l true e = (eqb-true l 0 e, refl)
 changed-is D l false e = absurd (true≢false (sym e))
 
 -- the code found the positions that are left, the number l of those behind, and whether the sign has changed
-module _ (k : Kind) (m place left : ℕ) (odd : Bool) (p rest l : ℕ) (t : Bool) (q : position place ≡ p) (a : rest ≡ withoutPosition p left)
+module _ (k : Kind) (m place left : ℕ) (odd : Bool) {p rest l : ℕ} {t : Bool} (q : position place ≡ p) (a : rest ≡ withoutPosition p left)
     (b : l ≡ ones (left / 2 / 2 ^ (p - 1))) (c : t ≡ signChanged k l odd) where
   answers : (s : Bool) (index : ℕ) (next : Bool) → isNegative place ≡ s → index ≡ indexBehind m (pick t (not s) s) l → next ≡ pick s (not odd) odd
       → (index ≡ indexAt k m place left odd) × (rest ≡ leftAt place left) × (next ≡ oddAt place odd)

@@ -46,10 +46,10 @@ pub stored-none : (w : List ℤ) (places : List ℕ) → length places ≡ 64 �
 stored-none w places l = record { room = l; so-far = λ p h. absurd (omega arith) }
 
 -- the entry at i, of size s, at the place r
-pub stored-next : (k : Kind) (n : ℕ) (w : List ℤ) (places : List ℕ) (i s r : ℕ) → WindowOf k n w → length w ≤ 64 → i < length w
+pub stored-next : (k : Kind) (n : ℕ) {w : List ℤ} {places : List ℕ} {i s r : ℕ} → WindowOf k n w → length w ≤ 64 → i < length w
     → mag (getD w i (pos 0)) < 128 → s ≡ natAbs (getD w i (pos 0)) → r ≡ placeOf (held (getD w i (pos 0))) (i + 1) → PlacesStored w places i
     → PlacesStored w (set places (s - 1) r) (i + 1)
-stored-next k n w places i s r g few l f q e h =
+stored-next k n {w} {places} {i} {s} {r} g few l f q e h =
     record { room = length-set places (s - 1) r ∙ h .room; so-far = λ p a. elim (ℕ-discrete p i) [ yes b ↦ rw b now | no b ↦ before p (omega arith) ] }
   where
     sizes : (p : ℕ) → p < length w → (1 ≤ natAbs (getD w p (pos 0))) × (natAbs (getD w p (pos 0)) ≤ length w)

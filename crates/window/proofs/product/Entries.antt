@@ -94,9 +94,9 @@ pub image-small : (u : List ℤ) (e : ℤ) (s : ℕ) → s ≡ natAbs e → 1 �
     → natAbs (held (getD u (s - 1) (pos 0))) < 128
 image-small u e s q h l f = rw (element-back (getD u (s - 1) (pos 0)) f, q, ← natAbs-at-by-size u e h) l
 
-pub image-negative : (u : List ℤ) (e : ℤ) (s : ℕ) (r : ℤ) → s ≡ natAbs e → 1 ≤ natAbs e → negative e ≡ true
+pub image-negative : (u : List ℤ) (e : ℤ) {s : ℕ} {r : ℤ} → s ≡ natAbs e → 1 ≤ natAbs e → negative e ≡ true
     → mag (getD u (s - 1) (pos 0)) < 128 → mag r < 128 → r ≡ negℤ (held (getD u (s - 1) (pos 0))) → held r ≡ at u e
-image-negative u e s r q h n f b g =
+image-negative u e {s} {r} q h n f b g =
     let x : at u e ≡ negℤ (getD u (s - 1) (pos 0)) = rw (at-by-sign u e h, n, q) in
     element-back r b ∙ g ∙ ap negℤ (element-back (getD u (s - 1) (pos 0)) f) ∙ sym x
 
@@ -143,11 +143,11 @@ product-written u v out h = sets-front (product u v) out (omega (arith, length-p
 -- ---- the inverse
 
 -- the position i + 1, with the sign of the entry at i, stored at that entry's size
-pub scatter-step : (w out : List ℤ) (i s : ℕ) (r : ℤ) → i < length w → mag (getD w i (pos 0)) < 128 → mag r < 128
+pub scatter-step : (w out : List ℤ) (i : ℕ) {s : ℕ} {r : ℤ} → i < length w → mag (getD w i (pos 0)) < 128 → mag r < 128
     → s ≡ natAbs (getD w i (pos 0)) → r ≡ signed (held (getD w i (pos 0))) (i + 1)
     → scatter out (i + 1) (drop i w) ≡ scatter (set out (s - 1) (held r)) (i + 1 + 1) (drop (i + 1) w)
 unfolding scatter
-scatter-step w out i s r h f b q e =
+scatter-step w out i {r} h f b q e =
     let g : r ≡ signed (getD w i (pos 0)) (i + 1) = e ∙ ap (λ (x : ℤ). signed x (i + 1)) (element-back (getD w i (pos 0)) f) in
     rw (element-back r b, g, q, add-one (i + 1), drop-next w i (pos 0) h)
 

@@ -40,26 +40,26 @@ pub record Front (k n m : ℕ) (x r : List ℤ) : Type 0 where
   pub is : take m r ≡ x
   pub passes : WindowOf (kindOf k) n (take m r)
 
-module _ (k n m : ℕ) (h : RankOf k n) (e : m ≡ lanes (kindOf k) n) where
+module _ (k n : ℕ) {m : ℕ} (h : RankOf k n) (e : m ≡ lanes (kindOf k) n) where
   pub room : (work : List ℤ) → length work ≡ 64 → m ≤ length work
   room work l = let b : m ≤ 64 = lanes-le k n m h e in omega arith
 
   -- x was written to a work window
-  pub front-written : (x work r : List ℤ) → WindowOf (kindOf k) n x → length work ≡ 64 → r ≡ front x work → Front k n m x r
-  front-written x work r a l q =
+  pub front-written : (x work : List ℤ) {r : List ℤ} → WindowOf (kindOf k) n x → length work ≡ 64 → r ≡ front x work → Front k n m x r
+  front-written x work {r} a l q =
       let c = length-take-front m x work r (accepted-of-refusal (kindOf k) n x a .size ∙ sym e) (room work l) q in
       let f = room r (c .0 ∙ l) in
       record { fits = f; size = sym (length-take-le m r f); is = c .1; passes = ap (windowRefusal (kindOf k) n) (c .1) ∙ a }
 
   -- the window of u was written to the front of `out`
-  module _ (u : List ℕ) (out r : List ℤ) (l : m ≤ length out) (q : r ≡ front (window (kindOf k) n u) out) where
+  module _ (u : List ℕ) (out : List ℤ) {r : List ℤ} (l : m ≤ length out) (q : r ≡ front (window (kindOf k) n u) out) where
     pub part-window : take m r ≡ window (kindOf k) n u
     part-window = length-take-front m (window (kindOf k) n u) out r (length-window (kindOf k) n u ∙ sym e) l q .1
 
     -- and then the part replaced by the product with the window of z
-    pub part-product : (z : List ℕ) (v : List ℤ) → v ≡ windowFrom (kindOf k) n (take m r) z
+    pub part-product : (z : List ℕ) {v : List ℤ} → v ≡ windowFrom (kindOf k) n (take m r) z
         → v ++ drop m r ≡ front (product (window (kindOf k) n u) (window (kindOf k) n z)) out
-    part-product z v w =
+    part-product z {v} w =
         let y = window (kindOf k) n u in
         let x = product y (window (kindOf k) n z) in
         let s : length x ≡ lanes (kindOf k) n = length-product y (window (kindOf k) n z) ∙ length-window (kindOf k) n z in

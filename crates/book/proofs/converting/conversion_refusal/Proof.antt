@@ -9,7 +9,7 @@ use Rattle.book.proofs.converting.conversion_refusal.Statement.{stateme
 use Rattle.book.proofs.converting.conversion_refusal.Tie as tie
 
 returns : tie.Need-returns
-returns c = conversion-book _ _ _ (c .before .book-refusal .ensures) (c .if1 .taken)
+returns c = conversion-book _ _ (c .before .book-refusal .ensures) (c .if1 .taken)
 
 count-of-requires : tie.Need-count-of-requires
 count-of-requires c κs = never-one _ _ (sym (c .before .book-refusal .ensures) ∙ c .if1 .left)
@@ -18,7 +18,7 @@ returns-2 : tie.Need-returns-2
 returns-2 c =
     let counted = c .before .before in
     let opened = counted .before in
-    conversion-records _ _ _ (opened .before .book-refusal .ensures) (opened .if1 .left) _ _ (counted .count-of .ensures .0)
+    conversion-records _ _ (opened .before .book-refusal .ensures) (opened .if1 .left) (counted .count-of .ensures .0)
     (c .before .records-refusal .ensures) (c .if2 .taken)
 
 converted-size-requires : tie.Need-converted-size-requires
@@ -33,18 +33,18 @@ returns-3 c =
     let passed = c .before .before in
     let counted = passed .before .before in
     let opened = counted .before in
-    conversion-large _ _ _ (opened .before .book-refusal .ensures) (opened .if1 .left) _ _ (counted .count-of .ensures .0)
+    conversion-large _ _ (opened .before .book-refusal .ensures) (opened .if1 .left) (counted .count-of .ensures .0)
     (passed .before .records-refusal .ensures) (passed .if2 .left)
-    _ (c .before .converted-size .ensures) (c .if3 .taken)
+    (c .before .converted-size .ensures) (c .if3 .taken)
 
 returns-4 : tie.Need-returns-4
 returns-4 c =
     let passed = c .before .before in
     let counted = passed .before .before in
     let opened = counted .before in
-    conversion-none _ _ _ (opened .before .book-refusal .ensures) (opened .if1 .left) _ _ (counted .count-of .ensures .0)
+    conversion-none _ _ (opened .before .book-refusal .ensures) (opened .if1 .left) (counted .count-of .ensures .0)
     (passed .before .records-refusal .ensures) (passed .if2 .left)
-    _ (c .before .converted-size .ensures) (c .if3 .left)
+    (c .before .converted-size .ensures) (c .if3 .left)
 
 pub conversion-refusal-spec : {M : Type 1} → statement M
 conversion-refusal-spec =

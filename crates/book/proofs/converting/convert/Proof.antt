@@ -10,12 +10,12 @@ use Rattle.book.proofs.converting.convert.Statement.{statement}
 use Rattle.book.proofs.converting.convert.Tie as tie
 
 returns : tie.Need-returns
-returns c = converting-refused _ _ _ _ (c .before .conversion-refusal .ensures) (c .if1 .taken)
+returns c = converting-refused _ _ _ (c .before .conversion-refusal .ensures) (c .if1 .taken)
 
 returns-2 : tie.Need-returns-2
 returns-2 c =
     let passed = c .before in
-    converting-bytes _ _ _ _ (passed .before .conversion-refusal .ensures) (passed .if1 .left) (c .if2 .taken)
+    converting-bytes _ _ _ (passed .before .conversion-refusal .ensures) (passed .if1 .left) (c .if2 .taken)
 
 count-of-requires : tie.Need-count-of-requires
 count-of-requires c κs =
@@ -32,7 +32,7 @@ returns-3 : tie.Need-returns-3
 returns-3 c =
     let counted = c .before .before in
     let passed = counted .before .before in
-    converting-short _ _ _ _ (passed .before .conversion-refusal .ensures) (passed .if1 .left) _ _ (counted .count-of .ensures .0)
+    converting-short _ _ _ (passed .before .conversion-refusal .ensures) (passed .if1 .left) (counted .count-of .ensures .0)
     (c .before .converted-size .ensures) (c .if3 .taken)
 
 write-converted-requires : tie.Need-write-converted-requires
@@ -55,8 +55,8 @@ returns-4 c =
     let sized = roomy .before in
     let counted = sized .before in
     let passed = counted .before .before in
-    converting-written _ _ _ _ (passed .before .conversion-refusal .ensures) (passed .if1 .left) _ _ (counted .count-of .ensures .0)
-    (sized .converted-size .ensures) _ (roomy .if3 .left)
+    converting-written _ _ _ (passed .before .conversion-refusal .ensures) (passed .if1 .left) (counted .count-of .ensures .0)
+    (sized .converted-size .ensures) (roomy .if3 .left)
     (written .write-converted .ensures)
 
 pub convert-spec : {M : Type 1} → statement M

@@ -24,7 +24,7 @@ returns c =
     let placed = c .before .before .before in
     let read = placed .before in
     let pre = read .before .before .pre in
-    size-of-other _ _ (pre .0) _ (pre .1) _ _ _ _ (pre .2) (read .record-start .ensures .0) (placed .count-place .ensures .0) (c .two-at .ensures .0) _ _
+    size-of-other (pre .0) (pre .1) _ (pre .2) (read .record-start .ensures .0) (placed .count-place .ensures .0) (c .two-at .ensures .0)
     (c .before .before .other .ensures) (c .before .head-size .ensures .0)
 
 pub other-size-spec : {M : Type 1} → statement M

@@ -29,7 +29,7 @@ returns c =
     let told = c .before .before in
     let read = told .before .before in
     rw (c .if1 .taken) at
-    (lanes-decide _ _ _ _ _ _ _ _ _ (read .before .record-start .ensures .0) (sym (told .enum-told .given .1) ∙ read .check-record .ensures)
+    (lanes-decide _ _ _ _ _ _ (read .before .record-start .ensures .0) (sym (told .enum-told .given .1) ∙ read .check-record .ensures)
     (c .before .has-too-many-lanes .ensures))
 
 returns-2 : tie.Need-returns-2
@@ -37,7 +37,7 @@ returns-2 c =
     let told = c .before .before in
     let read = told .before .before in
     rw (c .if1 .left) at
-    (lanes-decide _ _ _ _ _ _ _ _ _ (read .before .record-start .ensures .0) (sym (told .enum-told .given .1) ∙ read .check-record .ensures)
+    (lanes-decide _ _ _ _ _ _ (read .before .record-start .ensures .0) (sym (told .enum-told .given .1) ∙ read .check-record .ensures)
     (c .before .has-too-many-lanes .ensures))
 
 returns-3 : tie.Need-returns-3

@@ -11,21 +11,21 @@ write-offsets-requires c κs =
     let others = c .before .before .before in
     let entry = others .before .before .before .before in
     let pre = entry .pre in
-    (pre .0, pre .1, omega (arith, pre .2, length-parts _ _ (pre .0) _ (pre .1), others .write-others .ensures .1, others .write-others .kept .1 .1 .1 .0))
+    (pre .0, pre .1, omega (arith, pre .2, length-parts (pre .0) (pre .1), others .write-others .ensures .1, others .write-others .kept .1 .1 .1 .0))
 
 mul-put-two : tie.Need-mul-put-two
 mul-put-two c =
     let others = c .before .before .before .before .before .before .before in
     let entry = others .before .before .before .before in
     let pre = entry .pre in
-    omega (arith, length-parts _ _ (pre .0) _ (pre .1), pre .0 .small)
+    omega (arith, length-parts (pre .0) (pre .1), pre .0 .small)
 
 add-put-two : tie.Need-add-put-two
 add-put-two c =
     let others = c .before .before .before .before .before .before .before in
     let entry = others .before .before .before .before in
     let pre = entry .pre in
-    omega (arith, length-parts _ _ (pre .0) _ (pre .1), pre .0 .small, others .write-others .ensures .1)
+    omega (arith, length-parts (pre .0) (pre .1), pre .0 .small, others .write-others .ensures .1)
 
 put-two-requires : tie.Need-put-two-requires
 put-two-requires c κs =
@@ -35,7 +35,7 @@ put-two-requires c κs =
     omega (
       arith,
       pre .2,
-      length-parts _ _ (pre .0) _ (pre .1),
+      length-parts (pre .0) (pre .1),
       others .write-others .ensures .1,
       others .write-others .kept .1 .1 .1 .0,
       c .before .before .before .write-offsets .kept .1 .1 .1 .0,
@@ -47,7 +47,7 @@ returns c =
     let offsets = put .before .before .before .before in
     let others = offsets .before .before .before .before in
     let entry = others .before .before .before .before in
-    all-written _ _ (entry .pre .0) _ (entry .pre .1) _ _ _ _ _ (others .write-others .ensures) (offsets .write-offsets .ensures) (put .put-two .ensures)
+    all-written (entry .pre .0) (entry .pre .1) _ _ _ (others .write-others .ensures) (offsets .write-offsets .ensures) (put .put-two .ensures)
 
 pub write-converted-spec : {M : Type 1} → statement M
 write-converted-spec =

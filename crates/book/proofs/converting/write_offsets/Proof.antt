@@ -14,7 +14,7 @@ abbrev μ-loop : tie.MeasureT-loop
 μ-loop edition book c out₀ p o₀ i₀ out o i = c - i
 
 loop-holds : tie.Need-loop-holds Inv-loop μ-loop
-loop-holds c = let pre = c .before .before .pre in offsets-start _ _ (pre .0) _ (pre .1) _ _
+loop-holds c = let pre = c .before .before .pre in offsets-start (pre .0) (pre .1) _ _
 
 mul-put-two : tie.Need-mul-put-two Inv-loop μ-loop
 mul-put-two c =
@@ -44,7 +44,7 @@ add-o : tie.Need-add-o Inv-loop μ-loop
 add-o c =
     let turn = c .before .before .before .before .before in
     let entry = turn .before .before .before .before in
-    omega (arith, offset-small _ _ (entry .pre .0) _ (entry .pre .1) _ _ _ _ _ (turn .before .loop .inv) (turn .loop-test .taken), c .other-size .ensures)
+    omega (arith, offset-small (entry .pre .0) (entry .pre .1) (turn .before .loop .inv) (turn .loop-test .taken), c .other-size .ensures)
 
 add-i : tie.Need-add-i Inv-loop μ-loop
 add-i c = omega arith
@@ -56,7 +56,7 @@ loop-again : tie.Need-loop-again Inv-loop μ-loop
 loop-again c =
     let turn = c .before .before .before .before .before in
     let entry = turn .before .before .before .before in
-    offsets-next _ _ (entry .pre .0) _ (entry .pre .1) _ _ _ _ _ (turn .before .loop .inv) _ _ (turn .loop-test .taken)
+    offsets-next (entry .pre .0) (entry .pre .1) (turn .before .loop .inv) (turn .loop-test .taken)
     (c .before .before .before .put-two .ensures) (c .other-size .ensures)
 
 same-length : tie.Need-same-length Inv-loop μ-loop
@@ -65,7 +65,7 @@ same-length c = c .before .loop .inv .storing .size
 returns : tie.Need-returns Inv-loop μ-loop
 returns c =
     let entry = c .before .before .before .before in
-    offsets-end _ _ (entry .pre .0) _ (entry .pre .1) _ _ _ _ _ (c .before .loop .inv) (c .loop-test .left)
+    offsets-end (entry .pre .0) (entry .pre .1) (c .before .loop .inv) (c .loop-test .left)
 
 pub write-offsets-spec : {M : Type 1} → statement M
 write-offsets-spec =

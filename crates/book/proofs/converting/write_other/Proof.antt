@@ -26,7 +26,7 @@ lanes-at-requires c κs =
     let read = placed .before in
     let pre = read .before .before .before .pre .0 in
     let o = endAt-inside _ _ _ _ _ (pre .0 .opens) (pre .1) (pre .2) (read .record-start .ensures .0) in (
-      rank-passed _ _ (pre .0) _ (pre .1) _ _ _ _ (pre .2) (read .record-start .ensures .0) (placed .count-place .ensures .0) (c .two-at .ensures .0),
+      rank-passed (pre .0) (pre .1) _ (pre .2) (read .record-start .ensures .0) (placed .count-place .ensures .0) (c .two-at .ensures .0),
       (omega (arith, o), omega (arith, accepted _ _ (pre .0 .opens))),
     )
 
@@ -51,8 +51,8 @@ part-write-record-end c =
     let placed = headed .before in
     let read = placed .before in
     let pre = read .before .before .before .pre .0 in
-    end-inside _ _ (pre .0) _ (pre .1) _ _ _ _ (pre .2) (read .record-start .ensures .0) (placed .count-place .ensures .0) (counted .two-at .ensures .0)
-    _ (headed .head-size .ensures .0)
+    end-inside (pre .0) (pre .1) _ (pre .2) (read .record-start .ensures .0) (placed .count-place .ensures .0) (counted .two-at .ensures .0)
+    (headed .head-size .ensures .0)
 
 write-record-requires : tie.Need-write-record-requires
 write-record-requires c κs =
@@ -65,8 +65,8 @@ write-record-requires c κs =
     let start = read .before .before .before in
     let pre = start .pre .0 in (
       laned .lanes-at .ensures .1,
-      room-for _ _ (pre .0) _ (pre .1) _ _ _ _ (pre .2) (read .record-start .ensures .0) (placed .count-place .ensures .0) (counted .two-at .ensures .0)
-          _ (headed .head-size .ensures .0) _ _ _ (after-other .other .ensures) (start .pre .1),
+      room-for (pre .0) (pre .1) _ (pre .2) (read .record-start .ensures .0) (placed .count-place .ensures .0) (counted .two-at .ensures .0)
+          (headed .head-size .ensures .0) _ _ (after-other .other .ensures) (start .pre .1),
     )
 
 returns : tie.Need-returns
@@ -79,8 +79,8 @@ returns c =
     let placed = headed .before in
     let read = placed .before in
     let pre = read .before .before .before .pre .0 in
-    other-written _ _ (pre .0) _ (pre .1) _ _ _ _ (pre .2) (read .record-start .ensures .0) (placed .count-place .ensures .0) (counted .two-at .ensures .0)
-    _ (headed .head-size .ensures .0) _ _ _ _ _ (laned .lanes-at .ensures .0) (after-other .other .ensures)
+    other-written (pre .0) (pre .1) _ (pre .2) (read .record-start .ensures .0) (placed .count-place .ensures .0) (counted .two-at .ensures .0)
+    (headed .head-size .ensures .0) _ _ (laned .lanes-at .ensures .0) (after-other .other .ensures)
     (written .write-record .ensures)
 
 pub write-other-spec : {M : Type 1} → statement M

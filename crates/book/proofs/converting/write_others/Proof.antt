@@ -18,7 +18,7 @@ abbrev μ-loop : tie.MeasureT-loop
 μ-loop edition book c out₀ p₀ i₀ out p i = c - i
 
 loop-holds : tie.Need-loop-holds Inv-loop μ-loop
-loop-holds c = let pre = c .before .before .pre in others-start _ _ (pre .0) _ (pre .1) _
+loop-holds c = let pre = c .before .before .pre in others-start (pre .0) (pre .1) _
 
 write-other-requires : tie.Need-write-other-requires Inv-loop μ-loop
 write-other-requires c κs =
@@ -26,7 +26,7 @@ write-other-requires c κs =
     let entry = turn .before .before .before .before in
     let pre = entry .pre in
     let test = turn .loop-test .taken in
-    ((pre .0, pre .1, test), others-room _ _ (pre .0) _ (pre .1) _ _ _ _ (turn .before .loop .inv) test (pre .2))
+    ((pre .0, pre .1, test), others-room (pre .0) (pre .1) _ (turn .before .loop .inv) test (pre .2))
 
 other-size-requires : tie.Need-other-size-requires Inv-loop μ-loop
 other-size-requires c κs =
@@ -40,7 +40,7 @@ add-p c =
     let entry = turn .before .before .before .before in
     let pre = entry .pre in
     let inv = turn .before .loop .inv in
-    omega (arith, others-room _ _ (pre .0) _ (pre .1) _ _ _ _ inv (turn .loop-test .taken) (pre .2), inv .size, c .other-size .ensures)
+    omega (arith, others-room (pre .0) (pre .1) _ inv (turn .loop-test .taken) (pre .2), inv .size, c .other-size .ensures)
 
 add-i : tie.Need-add-i Inv-loop μ-loop
 add-i c = omega arith
@@ -52,7 +52,7 @@ loop-again : tie.Need-loop-again Inv-loop μ-loop
 loop-again c =
     let turn = c .before .before .before .before .before in
     let entry = turn .before .before .before .before in
-    others-next _ _ (entry .pre .0) _ (entry .pre .1) _ _ _ _ (turn .before .loop .inv) _ _ (turn .loop-test .taken)
+    others-next (entry .pre .0) (entry .pre .1) _ (turn .before .loop .inv) (turn .loop-test .taken)
     (c .before .before .before .write-other .ensures) (c .other-size .ensures)
 
 same-length : tie.Need-same-length Inv-loop μ-loop
@@ -61,7 +61,7 @@ same-length c = c .before .loop .inv .size
 returns : tie.Need-returns Inv-loop μ-loop
 returns c =
     let entry = c .before .before .before .before in
-    others-end _ _ (entry .pre .0) _ (entry .pre .1) _ _ _ _ (c .before .loop .inv) (c .loop-test .left)
+    others-end (entry .pre .0) (entry .pre .1) _ (c .before .loop .inv) (c .loop-test .left)
 
 pub write-others-spec : {M : Type 1} → statement M
 write-others-spec =

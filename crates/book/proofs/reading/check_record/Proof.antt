@@ -23,7 +23,7 @@ has-wrong-lanes-requires c κs = (counted (c .before) .1, search needs)
 
 returns : tie.Need-returns
 returns c =
-    sym (checkedRecord-lanes _ _ _ _ refl (counted (c .before .before .before) .0) _ (c .before .has-wrong-lanes .ensures) (c .if1 .taken))
+    sym (checkedRecord-lanes _ _ _ refl (counted (c .before .before .before) .0) (c .before .has-wrong-lanes .ensures) (c .if1 .taken))
 
 part-preset-refusal-end : tie.Need-part-preset-refusal-end
 part-preset-refusal-end c =
@@ -40,8 +40,8 @@ returns-2 c =
     let m = laned .before .before .before in
     let headed = m .before .before .before .before .before in
     sym
-    (checkedRecord-word _ _ _ _ refl (counted m .0) _ (laned .before .has-wrong-lanes .ensures) (laned .if1 .left)
-    _ _ _ _ (headed .before .count-place .ensures .0) (headed .head-size .ensures .0) (read .two-at .ensures .0) (c .before .preset-refusal .ensures)
+    (checkedRecord-word _ _ _ refl (counted m .0) (laned .before .has-wrong-lanes .ensures) (laned .if1 .left)
+    (headed .before .count-place .ensures .0) (headed .head-size .ensures .0) (read .two-at .ensures .0) (c .before .preset-refusal .ensures)
     (c .if2 .taken))
 
 returns-3 : tie.Need-returns-3
@@ -51,14 +51,14 @@ returns-3 c =
     let m = laned .before .before .before in
     let headed = m .before .before .before .before .before in
     sym
-    (checkedRecord-found _ _ _ _ refl (counted m .0) _ (laned .before .has-wrong-lanes .ensures) (laned .if1 .left)
-    _ _ _ _ (headed .before .count-place .ensures .0) (headed .head-size .ensures .0) (read .two-at .ensures .0) (c .before .preset-refusal .ensures)
+    (checkedRecord-found _ _ _ refl (counted m .0) (laned .before .has-wrong-lanes .ensures) (laned .if1 .left)
+    (headed .before .count-place .ensures .0) (headed .head-size .ensures .0) (read .two-at .ensures .0) (c .before .preset-refusal .ensures)
     (c .if2 .left))
 
 returns-4 : tie.Need-returns-4
 returns-4 c =
     let refused = refusal-of-lanes _ _ _ (c .before .before .before .book-lanes .ensures) _ (c .before .refusal .given .1) in
-    sym (checkedRecord-rank _ _ _ _ (refused .0) (refused .1))
+    sym (checkedRecord-rank _ _ _ (refused .0) (refused .1))
 
 pub check-record-spec : {M : Type 1} → statement M
 check-record-spec =

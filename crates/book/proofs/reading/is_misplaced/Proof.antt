@@ -53,7 +53,7 @@ returns c =
     let w = placed .count-place .ensures .0 in
     sym
     (l .loop .inv .1 _ w
-    ∙ misplaced-room _ _ _ _ _ _ e (read .before .loop-test .taken) (read .two-at .ensures .0) _ _ w (headed .head-size .ensures .0)
+    ∙ misplaced-room _ _ _ _ e (read .before .loop-test .taken) (read .two-at .ensures .0) w (headed .head-size .ensures .0)
     (l .loop .wrong) (c .if1 .taken))
 
 add-due : tie.Need-add-due Inv-loop μ-loop
@@ -83,8 +83,8 @@ loop-again c =
     let e = placed .before .before .pre .1 .1 in (
       omega arith,
       λ ed w. l .loop .inv .1 ed w
-          ∙ misplaced-step ed _ _ _ _ _ e (read .before .loop-test .taken) (read .two-at .ensures .0) _ _ w
-          (headed .head-size .ensures .0 ∙ rw (← placed .count-place .ensures .0, w)) (l .loop .wrong) _ (c .two-at2 .ensures .0),
+          ∙ misplaced-step ed _ _ _ e (read .before .loop-test .taken) (read .two-at .ensures .0) w
+          (headed .head-size .ensures .0 ∙ rw (← placed .count-place .ensures .0, w)) (l .loop .wrong) (c .two-at2 .ensures .0),
     )
 
 returns-2 : tie.Need-returns-2 Inv-loop μ-loop

@@ -56,7 +56,7 @@ loop-again c =
     let put = c .before .before .put-preset in
     let after-numbered-preset = c .before .before .before .before in
     let answer = after-numbered-preset .numbered-preset in
-    (omega arith, put .kept .1 .0 ∙ inv .1, inv .2 ∙ run-step _ _ _ _ _ _ _ _ (turn .loop-test .taken) (answer .ensures) (put .ensures))
+    (omega arith, put .kept .1 .0 ∙ inv .1, inv .2 ∙ run-step _ _ _ _ _ _ (turn .loop-test .taken) (answer .ensures) (put .ensures))
 
 same-length : tie.Need-same-length Inv-loop μ-loop
 same-length c = c .before .loop .inv .1

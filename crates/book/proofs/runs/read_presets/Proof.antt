@@ -11,7 +11,7 @@ use Rattle.book.proofs.runs.read_presets.Statement.{statement}
 use Rattle.book.proofs.runs.read_presets.Tie as tie
 
 returns : tie.Need-returns
-returns c = reading-book _ _ _ _ _ (c .before .book-refusal .ensures) (c .if1 .taken)
+returns c = reading-book _ _ _ _ (c .before .book-refusal .ensures) (c .if1 .taken)
 
 count-of-requires : tie.Need-count-of-requires
 count-of-requires c κs = never-one _ _ (sym (c .before .book-refusal .ensures) ∙ c .if1 .left)
@@ -19,13 +19,13 @@ count-of-requires c κs = never-one _ _ (sym (c .before .book-refusal .ensures) 
 returns-2 : tie.Need-returns-2
 returns-2 c =
     let opened = c .before .before in
-    reading-number _ _ _ _ _ (opened .before .book-refusal .ensures) (opened .if1 .left) _ (c .before .count-of .ensures .0) (c .if2 .taken)
+    reading-number _ _ _ _ (opened .before .book-refusal .ensures) (opened .if1 .left) (c .before .count-of .ensures .0) (c .if2 .taken)
 
 returns-3 : tie.Need-returns-3
 returns-3 c =
     let read = c .before .before in
     let opened = read .before in
-    reading-short _ _ _ _ _ (opened .before .book-refusal .ensures) (opened .if1 .left) _ (read .count-of .ensures .0) (c .before .if2 .left) (c .if3 .taken)
+    reading-short _ _ _ _ (opened .before .book-refusal .ensures) (opened .if1 .left) (read .count-of .ensures .0) (c .before .if2 .left) (c .if3 .taken)
 
 put-run-requires : tie.Need-put-run-requires
 put-run-requires c κs =
@@ -42,7 +42,7 @@ returns-4 c =
     let roomy = sized .before in
     let read = roomy .before .before in
     let opened = read .before in
-    reading-run _ _ _ _ _ (opened .before .book-refusal .ensures) (opened .if1 .left) _ (read .count-of .ensures .0) _ _ (roomy .before .if2 .left)
+    reading-run _ _ _ _ (opened .before .book-refusal .ensures) (opened .if1 .left) (read .count-of .ensures .0) (roomy .before .if2 .left)
     (roomy .if3 .left)
     (sized .smaller-of .ensures) (c .before .before .put-run .ensures)
 

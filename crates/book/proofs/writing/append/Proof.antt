@@ -24,7 +24,7 @@ appended-size-requires c κs = accepted _ _ (append-book _ _ _ _ _ (counted (c .
 returns : tie.Need-returns
 returns c =
     let sized = c .before in
-    appending-short _ _ _ _ _ _ _ refl _ (sized .appended-size .ensures) (counted (sized .before .before) .0) (c .if1 .taken)
+    appending-short _ _ _ _ _ _ refl (sized .appended-size .ensures) (counted (sized .before .before) .0) (c .if1 .taken)
 
 write-appended-requires : tie.Need-write-appended-requires
 write-appended-requires c κs =
@@ -36,13 +36,13 @@ returns-2 : tie.Need-returns-2
 returns-2 c =
     let roomy = c .before .before .before .before in
     let sized = roomy .before in
-    appending-written _ _ _ _ _ _ _ refl _ (sized .appended-size .ensures) _ (counted (sized .before .before) .0) (roomy .if1 .left)
+    appending-written _ _ _ _ _ _ refl (sized .appended-size .ensures) (counted (sized .before .before) .0) (roomy .if1 .left)
     (c .before .before .write-appended .ensures)
 
 returns-3 : tie.Need-returns-3
 returns-3 c =
     let refused = refusal-of-lanes _ _ _ (c .before .before .before .append-lanes .ensures) _ (c .before .refusal .given .1) in
-    appending-refused _ _ _ _ _ _ _ (refused .0) (refused .1)
+    appending-refused _ _ _ _ _ _ (refused .0) (refused .1)
 
 pub append-spec : {M : Type 1} → statement M
 append-spec =

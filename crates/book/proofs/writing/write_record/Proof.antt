@@ -38,7 +38,7 @@ returns c =
     let laned = stored .before .before .before .before in
     let headed = laned .before .before in
     let placed = headed .before in
-    record-stored _ _ _ _ _ _ _ _ _ _ _ _ (placed .count-place .ensures .0) (headed .head-size .ensures .0) (laned .put-lanes .ensures)
+    record-stored _ _ _ _ _ _ _ (placed .count-place .ensures .0) (headed .head-size .ensures .0) (laned .put-lanes .ensures)
     (stored .put-two .ensures) (c .before .before .copy-to .ensures)
 
 pub write-record-spec : {M : Type 1} → statement M

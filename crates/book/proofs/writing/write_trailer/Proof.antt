@@ -10,7 +10,7 @@ returns c =
     let numbered = c .before .before .before .before .before .before in
     let copied = numbered .before .before .before .before in
     let start = copied .before .before .before .before .before in
-    trailer-written _ _ _ _ _ _ _ _ (start .pre .0) (copied .copy-to .ensures) (numbered .put-two .ensures) (c .before .before .put-two2 .ensures)
+    trailer-written _ _ _ _ _ (start .pre .0) (copied .copy-to .ensures) (numbered .put-two .ensures) (c .before .before .put-two2 .ensures)
 
 pub write-trailer-spec : {M : Type 1} → statement M
 write-trailer-spec =

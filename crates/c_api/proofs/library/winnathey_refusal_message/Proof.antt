@@ -14,7 +14,7 @@ number-requires c κs l e = refusalMessage-small _ _ l (sym (c .before .before .
 returns : tie.Need-returns
 returns c =
     let below = c .before .before .before in
-    message-yielded _ _ _ _ _ _ (below .before .before .byte .ensures) (c .number .ok) (c .number .ensures) (below .refusal-message .ensures)
+    message-yielded _ _ (below .before .before .byte .ensures) (c .number .ok) (c .number .ensures) (below .refusal-message .ensures)
 
 pub winnathey-refusal-message-spec : {M : Type 1} → statement M
 winnathey-refusal-message-spec =

@@ -15,7 +15,7 @@ returns c =
     let below = c .before .before .before in
     let rank = below .before .before in
     let kind = rank .before in
-    yielded (appending-refusable _ _ _ _) _ _ _ _ _ _ _ (kind .byte .ensures) (rank .byte2 .ensures) (c .number .ok) (c .number .ensures)
+    yielded (appending-refusable _ _ _ _) _ _ (kind .byte .ensures) (rank .byte2 .ensures) (c .number .ok) (c .number .ensures)
     (below .append .ensures)
 
 pub append-spec : {M : Type 1} → statement M

@@ -14,7 +14,7 @@ returns : tie.Need-returns
 unfolding refused
 returns c =
     let told = c .before .before in
-    fields-short _ _ _ (told .before .before .check-preset .ensures) _ _ _ _ (told .kind .given .1) (c .if1 .taken)
+    fields-short _ (told .before .before .check-preset .ensures) _ _ _ _ (told .kind .given .1) (c .if1 .taken)
 
 slice-write-fields-2 : tie.Need-slice-write-fields-2
 slice-write-fields-2 c = simp length-set (omega arith)
@@ -25,12 +25,12 @@ slice-write-fields-3 c = simp length-set (omega arith)
 returns-2 : tie.Need-returns-2
 returns-2 c =
     let told = c .before .before in
-    fields-stored _ _ _ (told .before .before .check-preset .ensures) _ _ _ _ (told .kind .given .1) (c .if1 .left)
+    fields-stored _ (told .before .before .check-preset .ensures) _ _ _ _ (told .kind .given .1) (c .if1 .left)
 
 returns-3 : tie.Need-returns-3
 returns-3 c =
     let told = c .before .before in
-    fields-refused _ _ _ (told .before .before .check-preset .ensures) _ _ (told .refusal .given .1)
+    fields-refused _ (told .before .before .check-preset .ensures) _ _ (told .refusal .given .1)
     (i64-back _ (c .refusal-number .ok) ∙ c .refusal-number .ensures)
 
 pub check-preset-spec : {M : Type 1} → statement M

@@ -14,7 +14,7 @@ returns : tie.Need-returns
 returns c =
     let r = c .before .before .refused-rule in
     let past-if1 = c .before .before .before .before in
-    rewriting-roomless _ _ _ _ _ _ _ _ (past-if1 .if1 .taken) (i64-back _ (r .ok) ∙ r .ensures .0) (r .ensures .1)
+    rewriting-roomless _ _ _ _ _ (past-if1 .if1 .taken) (i64-back _ (r .ok) ∙ r .ensures .0) (r .ensures .1)
 
 slice-write-rule-2 : tie.Need-slice-write-rule-2
 slice-write-rule-2 c = simp length-set (omega arith)
@@ -22,26 +22,26 @@ slice-write-rule-2 c = simp length-set (omega arith)
 size-requires : tie.Need-size-requires
 size-requires c κs =
     let after-rewrite-at = c .before .before .before .before .before in
-    rewrote-small _ _ _ _ _ _ _ (after-rewrite-at .rewrite-at .ensures) _ _ _ _ (c .before .family .given .1)
+    rewrote-small (after-rewrite-at .rewrite-at .ensures) _ _ _ _ (c .before .family .given .1)
 
 returns-2 : tie.Need-returns-2
 returns-2 c =
     let told = c .before .before in
     let after-rewrite-at = told .before .before .before .before in
-    rewriting-used _ _ _ _ _ _ _ _ (after-rewrite-at .rewrite-at .ensures) _ _ _ _ _ (told .family .given .1) (after-rewrite-at .before .before .if1 .left)
+    rewriting-used _ (after-rewrite-at .rewrite-at .ensures) _ _ _ _ _ (told .family .given .1) (after-rewrite-at .before .before .if1 .left)
     (i64-back _ (c .size .ok) ∙ c .size .ensures)
 
 returns-3 : tie.Need-returns-3
 unfolding refused
 returns-3 c =
     let after-rewrite-at = c .before .before .before .before in
-    rewriting-fitless _ _ _ _ _ _ _ _ (after-rewrite-at .rewrite-at .ensures) _ (c .enum-told .given .1) refl
+    rewriting-fitless _ (after-rewrite-at .rewrite-at .ensures) _ (c .enum-told .given .1) refl
 
 returns-4 : tie.Need-returns-4
 returns-4 c =
     let told = c .before .before in
     let after-rewrite-at = told .before .before .before .before in
-    rewriting-refused _ _ _ _ _ _ _ _ (after-rewrite-at .rewrite-at .ensures) _ _ (told .refusal .given .1)
+    rewriting-refused _ (after-rewrite-at .rewrite-at .ensures) _ _ (told .refusal .given .1)
     (i64-back _ (c .refusal-number .ok) ∙ c .refusal-number .ensures)
 
 pub rewrite-spec : {M : Type 1} → statement M

@@ -9,7 +9,7 @@ returns : tie.Need-returns
 returns c =
     let below = c .before .before .before .before in
     let rank = below .before .before .before in
-    as-bytes-back (rewriting-refusable _ _ _ _) _ _ _ _ _ _ (rank .before .byte .ensures) (rank .byte2 .ensures) (below .rewrite .ok)
+    as-bytes-back (rewriting-refusable _ _ _ _) _ _ _ _ (rank .before .byte .ensures) (rank .byte2 .ensures) (below .rewrite .ok)
     (below .rewrite .ensures)
 
 pub winnathey-rewrite-spec : {M : Type 1} → statement M

@@ -12,7 +12,7 @@ use Rattle.c_api.proofs.tables.table.Tie as tie
 returns : tie.Need-returns
 returns c =
     let refused = c .before in
-    delayTableListed-roomless _ _ _ _ _ _ _ _ (refused .before .if1 .taken) (refused .table-refusal .ensures)
+    delayTableListed-roomless _ _ _ _ _ _ (refused .before .if1 .taken) (refused .table-refusal .ensures)
     (i64-back _ (c .unlisted .ok) ∙ c .unlisted .ensures)
 
 slice-write-lengths-2 : tie.Need-slice-write-lengths-2

@@ -10,7 +10,7 @@ returns : tie.Need-returns
 returns c =
     let below = c .before .before .before .before .before .before .before in
     let rank = below .before .before .before .before .before in
-    as-bytes-back (delayTableListed-refusable _ _ _ _) _ _ _ _ _ _ (rank .before .byte .ensures) (rank .byte2 .ensures) (below .table .ok)
+    as-bytes-back (delayTableListed-refusable _ _ _ _) _ _ _ _ (rank .before .byte .ensures) (rank .byte2 .ensures) (below .table .ok)
     (below .table .ensures)
 
 pub winnathey-delay-table-spec : {M : Type 1} → statement M

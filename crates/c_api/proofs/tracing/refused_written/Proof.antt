@@ -12,33 +12,33 @@ returns : tie.Need-returns
 unfolding refused
 returns c =
     let told = c .before .before in
-    few-families _ _ _ _ _ _ _ (told .before .before .rewrite-steps .ensures) _ (told .steps .given .1) (c .if1 .taken)
+    few-families _ _ _ _ _ _ (told .before .before .rewrite-steps .ensures) _ (told .steps .given .1) (c .if1 .taken)
 
 returns-2 : tie.Need-returns-2
 unfolding refused
 returns-2 c =
     let told = c .before .before .before in
-    few-places _ _ _ _ _ _ _ (told .before .before .rewrite-steps .ensures) _ (told .steps .given .1) (c .before .if1 .left) (c .if2 .taken)
+    few-places _ _ _ _ _ _ (told .before .before .rewrite-steps .ensures) _ (told .steps .given .1) (c .before .if1 .left) (c .if2 .taken)
 
 returns-3 : tie.Need-returns-3
 unfolding refused
 returns-3 c =
     let told = c .before .before .before .before in
-    few-lengths _ _ _ _ _ _ _ (told .before .before .rewrite-steps .ensures) _ (told .steps .given .1)
+    few-lengths _ _ _ _ _ _ (told .before .before .rewrite-steps .ensures) _ (told .steps .given .1)
     (c .before .before .if1 .left) (c .before .if2 .left) (c .if3 .taken)
 
 returns-4 : tie.Need-returns-4
 unfolding refused
 returns-4 c =
     let told = c .before .before .before .before in
-    enough-places _ _ _ _ _ _ _ (told .before .before .rewrite-steps .ensures) _ (told .steps .given .1)
+    enough-places _ _ _ _ _ _ (told .before .before .rewrite-steps .ensures) _ (told .steps .given .1)
     (c .before .before .if1 .left) (c .before .if2 .left) (c .if3 .left)
 
 returns-5 : tie.Need-returns-5
 returns-5 c =
     let told = c .before .before in
     i64-back _ (c .refusal-number .ok) ∙ c .refusal-number .ensures
-    ∙ toEnd-refused _ _ _ _ _ _ _ (told .before .before .rewrite-steps .ensures) _ (told .refusal .given .1)
+    ∙ toEnd-refused _ _ _ _ _ _ (told .before .before .rewrite-steps .ensures) _ (told .refusal .given .1)
 
 pub refused-written-spec : {M : Type 1} → statement M
 refused-written-spec =

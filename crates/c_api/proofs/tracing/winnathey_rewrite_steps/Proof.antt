@@ -15,7 +15,7 @@ returns c =
     let below = c .before in
     let rank = below .before in
     let kind = rank .before in
-    measured (numberOfSteps-refusable _) _ _ _ _ _ _ (kind .byte .ensures) (rank .byte2 .ensures) (c .counted .ok) (c .counted .ensures)
+    measured (numberOfSteps-refusable _) _ _ (kind .byte .ensures) (rank .byte2 .ensures) (c .counted .ok) (c .counted .ensures)
     (below .rewrite-steps .ensures)
 
 pub winnathey-rewrite-steps-spec : {M : Type 1} → statement M

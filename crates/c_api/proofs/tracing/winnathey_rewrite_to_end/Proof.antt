@@ -10,7 +10,7 @@ returns : tie.Need-returns
 returns c =
     let below = c .before .before .before .before .before .before .before .before .before .before in
     let rank = below .before .before .before .before .before .before in
-    as-bytes-back (rewritingToEndListed-refusable _ _ _ _ _ _) _ _ _ _ _ _ (rank .before .byte .ensures) (rank .byte2 .ensures) (below .to-end .ok)
+    as-bytes-back (rewritingToEndListed-refusable _ _ _ _ _ _) _ _ _ _ (rank .before .byte .ensures) (rank .byte2 .ensures) (below .to-end .ok)
     (below .to-end .ensures)
 
 pub winnathey-rewrite-to-end-spec : {M : Type 1} → statement M

@@ -16,7 +16,7 @@ returns c =
     let written = c .before .before in
     let below = written .before .before in
     let rank = below .before in
-    crossings-as-bytes (crossingsOfWindow-refusable _) _ _ _ _ _ _ _ _ (rank .before .byte .ensures) (rank .byte2 .ensures) (written .write-crossings .ok)
+    crossings-as-bytes (crossingsOfWindow-refusable _) _ _ _ _ _ (rank .before .byte .ensures) (rank .byte2 .ensures) (written .write-crossings .ok)
     (written .write-crossings .ensures) (below .crossings-of-window .ensures)
 
 pub winnathey-crossings-of-window-spec : {M : Type 1} → statement M

@@ -16,7 +16,7 @@ returns c =
     let below = c .before .before in
     let rank = below .before .before in
     let kind = rank .before in
-    yielded (inverseOfWindow-refusable _ _) _ _ _ _ _ _ _ (kind .byte .ensures) (rank .byte2 .ensures) (c .number .ok) (c .number .ensures)
+    yielded (inverseOfWindow-refusable _ _) _ _ (kind .byte .ensures) (rank .byte2 .ensures) (c .number .ok) (c .number .ensures)
     (below .inverse-of-window .ensures)
 
 pub winnathey-inverse-of-window-spec : {M : Type 1} → statement M

@@ -16,7 +16,7 @@ returns c =
     let below = c .before in
     let rank = below .before in
     let kind = rank .before in
-    measured (lengthOfWindow-refusable _) _ _ _ _ _ _ (kind .byte .ensures) (rank .byte2 .ensures) (c .number .ok) (c .number .ensures)
+    measured (lengthOfWindow-refusable _) _ _ (kind .byte .ensures) (rank .byte2 .ensures) (c .number .ok) (c .number .ensures)
     (below .length-of-window .ensures)
 
 pub winnathey-length-of-window-spec : {M : Type 1} → statement M

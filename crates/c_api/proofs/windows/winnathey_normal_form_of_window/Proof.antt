@@ -16,7 +16,7 @@ returns c =
     let below = c .before .before .before in
     let rank = below .before .before in
     let kind = rank .before in
-    yielded (normalFormOfWindow-refusable _ _) _ _ _ _ _ _ _ (kind .byte .ensures) (rank .byte2 .ensures) (c .number .ok) (c .number .ensures)
+    yielded (normalFormOfWindow-refusable _ _) _ _ (kind .byte .ensures) (rank .byte2 .ensures) (c .number .ok) (c .number .ensures)
     (below .normal-form-of-window .ensures)
 
 pub winnathey-normal-form-of-window-spec : {M : Type 1} → statement M

@@ -16,7 +16,7 @@ returns c =
     let below = c .before .before in
     let rank = below .before .before in
     let kind = rank .before in
-    yielded (productOfWindows-refusable _ _ _) _ _ _ _ _ _ _ (kind .byte .ensures) (rank .byte2 .ensures) (c .number .ok) (c .number .ensures)
+    yielded (productOfWindows-refusable _ _ _) _ _ (kind .byte .ensures) (rank .byte2 .ensures) (c .number .ok) (c .number .ensures)
     (below .product-of-windows .ensures)
 
 pub winnathey-product-of-windows-spec : {M : Type 1} → statement M

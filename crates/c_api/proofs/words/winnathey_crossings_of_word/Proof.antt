@@ -16,7 +16,7 @@ returns c =
     let written = c .before .before in
     let below = written .before .before in
     let rank = below .before in
-    crossings-as-bytes (crossingsOfWord-refusable _) _ _ _ _ _ _ _ _ (rank .before .byte .ensures) (rank .byte2 .ensures) (written .write-crossings .ok)
+    crossings-as-bytes (crossingsOfWord-refusable _) _ _ _ _ _ (rank .before .byte .ensures) (rank .byte2 .ensures) (written .write-crossings .ok)
     (written .write-crossings .ensures) (below .crossings-of-word .ensures)
 
 pub winnathey-crossings-of-word-spec : {M : Type 1} → statement M

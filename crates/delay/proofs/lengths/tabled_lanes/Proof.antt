@@ -18,7 +18,7 @@ unfolding tableRefusal untabled
 returns-2 c =
     let high = c .before in
     let ranked = high .before in
-    lanes-then-next _ _ _ (ranked .before .before .lanes-of .ensures) _ 20 _ (ranked .enum-told .given .1)
+    lanes-then-next _ _ _ (ranked .before .before .lanes-of .ensures) 20 _ (ranked .enum-told .given .1)
     (rw (← high .greatest-tabled .ensures, lt-ltb _ _ (c .if1 .taken))) (λ z. omega arith)
 
 returns-3 : tie.Need-returns-3
@@ -26,7 +26,7 @@ unfolding tableRefusal untabled
 returns-3 c =
     let high = c .before in
     let ranked = high .before in
-    lanes-then-passed _ _ _ (ranked .before .before .lanes-of .ensures) _ 0 _ (ranked .enum-told .given .1)
+    lanes-then-passed _ _ _ (ranked .before .before .lanes-of .ensures) 0 _ (ranked .enum-told .given .1)
     (rw (← high .greatest-tabled .ensures, le-ltb _ _ (c .if1 .left))) refl
 
 pub tabled-lanes-spec : {M : Type 1} → statement M

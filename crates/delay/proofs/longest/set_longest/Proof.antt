@@ -33,7 +33,7 @@ loop-again c =
     let pre = turn .before .before .pre in (
       simp length-set (omega arith),
       simp length-set (i .1),
-      longest-next _ _ _ _ _ (pre .0 .0) (turn .loop-test .taken) (i .1 ∙ pre .1) (c .longest-entry .ok) (c .longest-entry .ensures) (i .2),
+      longest-next _ _ _ _ (pre .0 .0) (turn .loop-test .taken) (i .1 ∙ pre .1) (c .longest-entry .ok) (c .longest-entry .ensures) (i .2),
     )
 
 returns : tie.Need-returns Inv-loop μ-loop

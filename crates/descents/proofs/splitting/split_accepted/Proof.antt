@@ -16,13 +16,13 @@ split-window-requires : tie.Need-split-window-requires
 split-window-requires c κs =
     let after-show = c .before .before .before .before in
     let entry = after-show .before .before .before .before .before .before in
-    window-asked _ _ 0 _ _ (part-is _ _ _ _ _ (after-show .show .ensures .1) refl) (entry .pre .0)
+    window-asked _ _ 0 _ (part-is _ _ _ _ _ (after-show .show .ensures .1) refl) (entry .pre .0)
 
 returns : tie.Need-returns
 returns c =
     let after-split-window = c .before .before .before .before in
     let after-show = after-split-window .before .before .before .before .before in
-    words-are _ _ _ _ _ (part-is _ _ _ _ _ (after-show .show .ensures .1) refl) _ _ _ _ _ (after-split-window .split-window .ensures)
+    words-are _ _ _ _ (part-is _ _ _ _ _ (after-show .show .ensures .1) refl) _ _ _ _ _ (after-split-window .split-window .ensures)
 
 pub split-accepted-spec : {M : Type 1} → statement M
 split-accepted-spec =

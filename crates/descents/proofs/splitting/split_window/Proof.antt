@@ -16,7 +16,7 @@ strip-requires : tie.Need-strip-requires
 strip-requires c κs =
     let b = c .before .before in
     let entry = b .before .before .before .before .before in
-    strip-asked _ _ 0 _ _ (entry .pre .0) (entry .pre .1) (part-is _ _ _ _ _ (b .invert .ensures .1) refl)
+    strip-asked _ _ 0 _ (entry .pre .0) (entry .pre .1) (part-is _ _ _ _ _ (b .invert .ensures .1) refl)
 
 array-share-prefix-rest : tie.Need-array-share-prefix-rest
 array-share-prefix-rest c =
@@ -36,7 +36,7 @@ write-parts-requires c κs =
     let b = after-strip .before .before .before in
     let entry = b .before .before .before .before .before in
     let size = part-length _ _ _ _ _ (b .invert .ensures .1) refl (b .invert .ensures .0) in
-    parts-asked _ _ _ _ _ (entry .pre .0) (entry .pre .1) (part-is _ _ _ _ _ (b .invert .ensures .1) refl) _ _
+    parts-asked _ _ _ _ (entry .pre .0) (entry .pre .1) (part-is _ _ _ _ _ (b .invert .ensures .1) refl)
     (stored-is _ _ _ size (after-strip .strip .kept .1 .1 .1 .0))
     (after-strip .strip .ensures)
 
@@ -47,7 +47,7 @@ returns c =
     let b = after-strip .before .before .before in
     let entry = b .before .before .before .before .before in
     let size = part-length _ _ _ _ _ (b .invert .ensures .1) refl (b .invert .ensures .0) in
-    parts-are _ _ _ _ _ (entry .pre .0) (entry .pre .1) (part-is _ _ _ _ _ (b .invert .ensures .1) refl) _ _
+    parts-are _ _ _ _ (entry .pre .0) (entry .pre .1) (part-is _ _ _ _ _ (b .invert .ensures .1) refl)
     (stored-is _ _ _ size (after-strip .strip .kept .1 .1 .1 .0))
     (after-strip .strip .ensures) _ _ _ _ _ (after-write-parts .write-parts .ensures)
 

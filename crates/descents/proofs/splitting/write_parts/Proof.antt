@@ -18,7 +18,7 @@ returns-2 c =
     let after-normal-form-of-product = c .before .before .before .before in
     let entry = after-normal-form-of-product .before .before .before .before .before .before in
     let h = entry .pre in
-    first-lacks _ _ _ _ _ (checks-pass _ _ _ _ (h .0) (h .1 .0) (h .1 .1)) _ _
+    first-lacks _ _ _ _ (checks-pass _ _ _ _ (h .0) (h .1 .0) (h .1 .1)) _ _
     (after-normal-form-of-product .normal-form-of-product .ensures) _ (c .enum-told .given .1)
 
 write-inverse-requires : tie.Need-write-inverse-requires
@@ -36,7 +36,7 @@ returns-3 c =
     let after-normal-form-of-product = l .before .before .before .before in
     let entry = after-normal-form-of-product .before .before .before .before .before .before in
     let h = entry .pre in
-    both-written _ _ _ _ _ (checks-pass _ _ _ _ (h .0) (h .1 .0) (h .1 .1)) _ _
+    both-written _ _ _ _ (checks-pass _ _ _ _ (h .0) (h .1 .0) (h .1 .1)) _ _
     (after-normal-form-of-product .normal-form-of-product .ensures) _ _ _ (l .l .given .1) (i .write-inverse .ensures)
 
 pub write-parts-spec : {M : Type 1} → statement M

@@ -37,7 +37,7 @@ loop-less : tie.Need-loop-less Inv-loop μ-loop
 loop-less c =
     let turn = c .before .before .before .before .before in
     let at-loop = c .before .before .before .before .before .before in
-    turning-less _ _ _ _ _ _ (at-loop .loop .inv .1) (at-loop .before .pre .0 .0) (turn .loop-test .taken) _ _
+    turning-less (at-loop .loop .inv .1) (at-loop .before .pre .0 .0) (turn .loop-test .taken) _ _
     (c .before .before .before .take-allowed-descent .ensures) (c .before .if1 .taken) _ (c .back .ensures .0)
 
 loop-again : tie.Need-loop-again Inv-loop μ-loop
@@ -46,7 +46,7 @@ loop-again c =
     let at-loop = c .before .before .before .before .before .before in
     let l = c .before .before .before .take-allowed-descent in (
       l .kept .1 .1 .1 .1 .0 ∙ at-loop .loop .inv .0,
-      turning-taken _ _ _ _ _ _ (at-loop .loop .inv .1) (at-loop .before .pre .0 .0) (turn .loop-test .taken) _ _
+      turning-taken (at-loop .loop .inv .1) (at-loop .before .pre .0 .0) (turn .loop-test .taken) _ _
           (l .ensures) (c .before .if1 .taken) _ (c .back .ensures),
     )
 
@@ -54,7 +54,7 @@ loop-less-2 : tie.Need-loop-less-2 Inv-loop μ-loop
 loop-less-2 c =
     let turn = c .before .before .before .before in
     let at-loop = c .before .before .before .before .before in
-    passed-less _ _ _ _ _ _ (at-loop .loop .inv .1) (at-loop .before .pre .0 .0) (turn .loop-test .taken) _ _
+    passed-less (at-loop .loop .inv .1) (at-loop .before .pre .0 .0) (turn .loop-test .taken) _ _
     (c .before .before .take-allowed-descent .ensures) (c .if1 .left)
 
 loop-again-2 : tie.Need-loop-again-2 Inv-loop μ-loop
@@ -63,7 +63,7 @@ loop-again-2 c =
     let at-loop = c .before .before .before .before .before in
     let l = c .before .before .take-allowed-descent in (
       l .kept .1 .1 .1 .1 .0 ∙ at-loop .loop .inv .0,
-      turning-passed _ _ _ _ _ _ (at-loop .loop .inv .1) (at-loop .before .pre .0 .0) (turn .loop-test .taken) _ _
+      turning-passed (at-loop .loop .inv .1) (at-loop .before .pre .0 .0) (turn .loop-test .taken) _ _
           (l .ensures) (c .if1 .left),
     )
 

@@ -8,7 +8,7 @@ use Rattle.descents.proofs.stripping.take_allowed_descent.Tie as tie
 returns : tie.Need-returns
 returns c =
     let b = c .before .before .before in
-    taken-allowed _ _ _ _ _ _ _ _ (b .before .is-allowed .ensures) (b .if1 .taken) (c .before .take-descent .ensures)
+    taken-allowed _ _ _ _ _ _ (b .before .is-allowed .ensures) (b .if1 .taken) (c .before .take-descent .ensures)
 
 returns-2 : tie.Need-returns-2
 returns-2 c = taken-not _ _ _ _ _ _ (c .before .is-allowed .ensures) (c .if1 .left)

@@ -23,7 +23,7 @@ returns : tie.Need-returns
 returns c =
     let after-keep-letters = c .before .before .before .before .before .before .before in
     let entry = after-keep-letters .before .before .before .before .before in
-    decide-short _ _ _ _ (entry .pre) _ _ _ (after-keep-letters .keep-letters .ensures) (after-keep-letters .keep-letters .kept .1 .1 .1 .0) _
+    decide-short _ _ _ _ (entry .pre) _ _ _ (after-keep-letters .keep-letters .ensures) (after-keep-letters .keep-letters .kept .1 .1 .1 .0)
     (c .before .before .is-identity .ensures) _ (c .before .if1 .taken) (c .if2 .taken)
 
 write-places-requires : tie.Need-write-places-requires
@@ -38,14 +38,14 @@ returns-2 c =
     let past-if1 = c .before .before .before .before .before .before in
     let after-keep-letters = past-if1 .before .before .before .before .before .before in
     let entry = after-keep-letters .before .before .before .before .before in
-    decide-kept _ _ _ _ (entry .pre) _ _ _ (after-keep-letters .keep-letters .ensures) (after-keep-letters .keep-letters .kept .1 .1 .1 .0) _
+    decide-kept _ _ _ _ (entry .pre) _ _ _ (after-keep-letters .keep-letters .ensures) (after-keep-letters .keep-letters .kept .1 .1 .1 .0)
     (past-if1 .before .is-identity .ensures) _ _ (past-if1 .if1 .taken) (past-if2 .if2 .left) (c .before .before .write-places .ensures)
 
 returns-3 : tie.Need-returns-3
 returns-3 c =
     let after-keep-letters = c .before .before .before .before .before .before in
     let entry = after-keep-letters .before .before .before .before .before in
-    decide-no _ _ _ _ (entry .pre) _ _ _ (after-keep-letters .keep-letters .ensures) (after-keep-letters .keep-letters .kept .1 .1 .1 .0) _
+    decide-no _ _ _ _ (entry .pre) _ _ _ (after-keep-letters .keep-letters .ensures) (after-keep-letters .keep-letters .kept .1 .1 .1 .0)
     (c .before .is-identity .ensures) _ (c .if1 .left)
 
 pub decide-spec : {M : Type 1} → statement M

@@ -34,12 +34,12 @@ take-descent-requires : tie.Need-take-descent-requires Inv-loop μ-loop
 take-descent-requires c κs =
     let b = c .before .before .before in
     let p = b .before .before .pre in
-    (walking-within _ _ _ _ _ _ _ _ _ (b .loop .inv .1) (omega arith) (letters-accepted _ _ (p .1 .0)), (p .0, b .loop .inv .1 .passes))
+    (walking-within _ _ _ _ _ (b .loop .inv .1) (omega arith) (letters-accepted _ _ (p .1 .0)), (p .0, b .loop .inv .1 .passes))
 
 add-kept : tie.Need-add-kept Inv-loop μ-loop
 add-kept c =
     let at-loop = c .before .before .before .before .before .before in
-    let r = walking-room _ _ _ _ _ _ _ (at-loop .loop .i - 1) _ (at-loop .loop .inv .1) (omega arith) in
+    let r = walking-room _ _ _ _ (at-loop .loop .i - 1) (at-loop .loop .inv .1) (omega arith) in
     omega arith
 
 loop-again : tie.Need-loop-again Inv-loop μ-loop
@@ -47,7 +47,7 @@ loop-again c =
     let at-loop = c .before .before .before .before .before .before in
     let l = c .before .before .take-descent in (
       l .kept .1 .1 .1 .0 ∙ at-loop .loop .inv .0,
-      walking-kept _ _ _ _ _ _ _ _ _ (at-loop .loop .inv .1) (omega arith) _ _ (l .ensures .0) (l .ensures .1) (c .if1 .taken)
+      walking-kept _ _ _ _ _ (at-loop .loop .inv .1) (omega arith) (l .ensures .0) (l .ensures .1) (c .if1 .taken)
           (letters-accepted _ _ (at-loop .before .before .pre .1 .0)),
     )
 
@@ -61,7 +61,7 @@ loop-again-2 c =
     let at-loop = c .before .before .before .before .before .before in
     let l = c .before .before .take-descent in (
       l .kept .1 .1 .1 .0 ∙ at-loop .loop .inv .0,
-      walking-left _ _ _ _ _ _ _ _ _ (at-loop .loop .inv .1) (omega arith) _ _ (l .ensures .0) (l .ensures .1) (c .if1 .left),
+      walking-left _ _ _ _ _ (at-loop .loop .inv .1) (omega arith) (l .ensures .0) (l .ensures .1) (c .if1 .left),
     )
 
 same-length : tie.Need-same-length Inv-loop μ-loop
@@ -71,7 +71,7 @@ same-length-2 : tie.Need-same-length-2 Inv-loop μ-loop
 same-length-2 c = c .before .loop .inv .0
 
 returns : tie.Need-returns Inv-loop μ-loop
-returns c = walking-end _ _ _ _ _ _ _ _ (c .before .loop .inv .1) (c .loop-test .left)
+returns c = walking-end _ _ _ _ (c .before .loop .inv .1) (c .loop-test .left)
 
 pub keep-letters-spec : {M : Type 1} → statement M
 keep-letters-spec =

@@ -24,7 +24,7 @@ shared-slice-copy-out-put-entry c = omega arith
 put-entry-requires : tie.Need-put-entry-requires Inv-loop μ-loop
 put-entry-requires c κs =
     let turn = c .before .before .before in
-    entries-room _ _ _ _ _ _ (c .before .before .loop-test .taken) (c .put-entry-arg2 .given) (turn .before .before .pre) (turn .loop .inv .1)
+    entries-room _ _ (c .before .before .loop-test .taken) (c .put-entry-arg2 .given) (turn .before .before .pre) (turn .loop .inv .1)
 
 add-i : tie.Need-add-i Inv-loop μ-loop
 add-i c = omega arith
@@ -37,7 +37,7 @@ loop-again c =
     let turn-stage = c .before .before .before .before .before in
     let turn = c .before .before .before .before .before .before in (
       omega arith,
-      entries-put _ _ _ _ _ _ _ _ (turn-stage .loop-test .taken) (c .before .before .before .put-entry-arg2 .given)
+      entries-put _ _ _ _ (turn-stage .loop-test .taken) (c .before .before .before .put-entry-arg2 .given)
           (turn .loop .inv .1) (c .before .before .put-entry .ensures),
     )
 

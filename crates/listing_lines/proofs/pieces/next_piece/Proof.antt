@@ -54,8 +54,8 @@ in-hand : (c : tie.Joined1 Inv-loop μ-loop)
     Held (a .edition) (now (a .book)) (t .before .loop .next) (c .if1 .run) × (c .before .number-of2 .result < c .if1 .run .first + 128)
 in-hand c =
     let e = c .before .number-of2 .ensures in
-    ⊎-elim (λ w. held-read _ _ _ _ e _ _ (w .2) (w .1 .ensures .1) (w .1 .ensures .2))
-    (λ w. held-kept _ _ _ _ e _ _ (w .1) (turn c .before .loop .inv .1) (w .0 .left)) (c .if1 .came)
+    ⊎-elim (λ w. held-read _ _ _ e (w .2) (w .1 .ensures .1) (w .1 .ensures .2))
+    (λ w. held-kept _ _ _ e (w .1) (turn c .before .loop .inv .1) (w .0 .left)) (c .if1 .came)
 
 -- the line by what was answered is that of the listing
 answered : (c : tie.Joined1 Inv-loop μ-loop) (d : Slot)
@@ -66,7 +66,7 @@ answered : (c : tie.Joined1 Inv-loop μ-loop) (d : Slot)
     × (lineFrom (now (a .book)) (opened t .read-run .result .opened) (t .before .loop .next) p ≡ line (a .edition) (now (a .book)) (t .before .loop .next))
 answered c d =
     let t = turn c in
-    let read = held-preset _ _ _ _ (c .before .number-of2 .ensures) _ (in-hand c .0) (in-hand c .1) d in
+    let read = held-preset _ _ _ (c .before .number-of2 .ensures) _ (in-hand c .0) (in-hand c .1) d in
     (read, line-from _ _ _ _ _ (opened t .read-run .ensures .0) read)
 
 -- it stands at the front of its buffer
@@ -133,7 +133,7 @@ returns : tie.Need-returns Inv-loop μ-loop
 returns c =
     let m = c .before .before in
     let t = turn (joined m) in
-    filling-full _ _ _ _ _ _ _ _ (t .before .loop .inv .0) _ (t .loop-test .taken) (front m .0) (c .if2 .taken)
+    filling-full (t .before .loop .inv .0) (t .loop-test .taken) (front m .0) (c .if2 .taken)
 
 array-share-prefix-line : tie.Need-array-share-prefix-line Inv-loop μ-loop
 array-share-prefix-line c = line-ends-inside (c .before .before .before)
@@ -168,7 +168,7 @@ loop-again c =
     let t = turn j in
     let inv = t .before .loop .inv in
     let h = in-hand j .0 in (
-      filling-next _ _ _ _ _ _ _ _ (inv .0) _ _ _ _ (t .loop-test .taken) (front m) (put .before .before .before .if2 .left) (put .put-bytes .ensures),
+      filling-next (inv .0) _ _ _ (t .loop-test .taken) (front m) (put .before .before .before .if2 .left) (put .put-bytes .ensures),
       record { begins = omega (arith, h .begins); presets = h .presets },
       inv .2 ∙ sym (m .put-nth .kept .1 .1 .1 .1 .0),
     )
@@ -177,7 +177,7 @@ same-length-2 : tie.Need-same-length-2 Inv-loop μ-loop
 same-length-2 c = c .before .loop .inv .0 .size
 
 returns-2 : tie.Need-returns-2 Inv-loop μ-loop
-returns-2 c = filling-done _ _ _ _ _ _ _ _ (c .before .loop .inv .0) (c .loop-test .left)
+returns-2 c = filling-done (c .before .loop .inv .0) (c .loop-test .left)
 
 pub next-piece-spec : {M : Type 1} → statement M
 next-piece-spec =

@@ -56,14 +56,14 @@ returns-2 c =
     let at = c .before in
     let signed = at .before .before in
     let turn = signed .before .before in
-    zero-wrong _ _ _ _ _ (turn .before .loop .inv) (turn .loop-test .taken) (sign-of signed ∙ at .before .if1 .left) _ (size-of at) (c .if2 .taken)
+    zero-wrong _ _ _ _ _ (turn .before .loop .inv) (turn .loop-test .taken) (sign-of signed ∙ at .before .if1 .left) (size-of at) (c .if2 .taken)
 
 returns-3 : tie.Need-returns-3 Inv-loop μ-loop
 returns-3 c =
     let at = c .before .before in
     let signed = at .before .before in
     let turn = signed .before .before in
-    above-wrong _ _ _ _ _ (turn .before .loop .inv) (turn .loop-test .taken) (sign-of signed ∙ at .before .if1 .left) _ (size-of at) (c .before .if2 .left)
+    above-wrong _ _ _ _ _ (turn .before .loop .inv) (turn .loop-test .taken) (sign-of signed ∙ at .before .if1 .left) (size-of at) (c .before .if2 .left)
     (c .if3 .taken)
 
 returns-4 : tie.Need-returns-4 Inv-loop μ-loop
@@ -71,7 +71,7 @@ returns-4 c =
     let at = c .before .before .before in
     let signed = at .before .before in
     let turn = signed .before .before in
-    repeated-wrong _ _ _ _ _ (turn .before .loop .inv) (turn .loop-test .taken) (sign-of signed ∙ at .before .if1 .left) _ (size-of at)
+    repeated-wrong _ _ _ _ _ (turn .before .loop .inv) (turn .loop-test .taken) (sign-of signed ∙ at .before .if1 .left) (size-of at)
     (c .before .before .if2 .left) (c .before .if3 .left) (turn .before .before .before .pre) (c .if4 .taken)
 
 loop-again : tie.Need-loop-again Inv-loop μ-loop
@@ -79,7 +79,7 @@ loop-again c =
     let at = c .before .before .before in
     let signed = at .before .before in
     let turn = signed .before .before in
-    passed-next _ _ _ _ _ (turn .before .loop .inv) (turn .loop-test .taken) (sign-of signed ∙ at .before .if1 .left) _ (size-of at)
+    passed-next _ _ _ _ _ (turn .before .loop .inv) (turn .loop-test .taken) (sign-of signed ∙ at .before .if1 .left) (size-of at)
     (c .before .before .if2 .left) (c .before .if3 .left) (turn .before .before .before .pre) (c .if4 .left)
 
 returns-5 : tie.Need-returns-5 Inv-loop μ-loop

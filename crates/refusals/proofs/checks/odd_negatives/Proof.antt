@@ -31,7 +31,7 @@ loop-again c =
     let turn = read .before in
     let held = turn .before .loop .inv in (
       omega arith,
-      flag-flipped _ _ _ _ _ (turn .loop-test .taken) (held .1)
+      flag-flipped _ _ _ (turn .loop-test .taken) (held .1)
           (sym (c .is-negative .ensures ∙ ap negative (element-back _ (read .is-negative-arg .given))))
           (λ e f. simp (e, f)) (λ e f. simp (e, f)) (λ e f. simp (e, f)) (λ e f. simp (e, f)),
     )

@@ -11,12 +11,12 @@ returns c = lanes-then-refused _ _ _ (c .before .before .lanes-of .ensures) _ _ 
 returns-2 : tie.Need-returns-2
 returns-2 c =
     let ranked = c .before .before in
-    lanes-then-next _ _ _ (ranked .before .before .lanes-of .ensures) _ _ _ (ranked .enum-told .given .1) (c .before .word-refusal .ensures) (c .if1 .taken)
+    lanes-then-next _ _ _ (ranked .before .before .lanes-of .ensures) _ _ (ranked .enum-told .given .1) (c .before .word-refusal .ensures) (c .if1 .taken)
 
 returns-3 : tie.Need-returns-3
 returns-3 c =
     let ranked = c .before .before in
-    lanes-then-passed _ _ _ (ranked .before .before .lanes-of .ensures) _ _ _ (ranked .enum-told .given .1) (c .before .word-refusal .ensures) (c .if1 .left)
+    lanes-then-passed _ _ _ (ranked .before .before .lanes-of .ensures) _ _ (ranked .enum-told .given .1) (c .before .word-refusal .ensures) (c .if1 .left)
 
 pub preset-lanes-spec : {M : Type 1} → statement M
 preset-lanes-spec =

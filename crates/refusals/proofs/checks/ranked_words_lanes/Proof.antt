@@ -14,14 +14,14 @@ returns-2 : tie.Need-returns-2
 returns-2 c =
     let first = c .before .before in
     lanes-assoc (rankRefusal _ _) (wordRefusal _ _) _ _ _
-    (lanes-then-next _ _ _ (first .before .before .preset-lanes .ensures) _ _ _ (first .enum-told .given .1) (c .before .word-refusal .ensures)
+    (lanes-then-next _ _ _ (first .before .before .preset-lanes .ensures) _ _ (first .enum-told .given .1) (c .before .word-refusal .ensures)
     (c .if1 .taken))
 
 returns-3 : tie.Need-returns-3
 returns-3 c =
     let first = c .before .before in
     lanes-assoc (rankRefusal _ _) (wordRefusal _ _) _ _ _
-    (lanes-then-passed _ _ _ (first .before .before .preset-lanes .ensures) _ _ _ (first .enum-told .given .1) (c .before .word-refusal .ensures)
+    (lanes-then-passed _ _ _ (first .before .before .preset-lanes .ensures) _ _ (first .enum-told .given .1) (c .before .word-refusal .ensures)
     (c .if1 .left))
 
 pub ranked-words-lanes-spec : {M : Type 1} → statement M

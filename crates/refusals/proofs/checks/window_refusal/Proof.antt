@@ -14,13 +14,13 @@ returns-2 c = λ n q. windowRefusal-entry _ n _ _ _ q (c .before .before .if1 .l
 returns-3 : tie.Need-returns-3
 returns-3 c =
     let right = c .before .before in
-    λ n q. windowRefusal-odd _ n _ _ _ _ q (right .before .before .if1 .left) (right .before .has-wrong-entry .ensures) (right .if2 .left)
+    λ n q. windowRefusal-odd _ n _ _ q (right .before .before .if1 .left) (right .before .has-wrong-entry .ensures) (right .if2 .left)
     (c .before .has-odd-negatives .ensures) (c .if3 .taken)
 
 returns-4 : tie.Need-returns-4
 returns-4 c =
     let right = c .before .before in
-    λ n q. windowRefusal-none _ n _ _ _ _ q (right .before .before .if1 .left) (right .before .has-wrong-entry .ensures) (right .if2 .left)
+    λ n q. windowRefusal-none _ n _ _ q (right .before .before .if1 .left) (right .before .has-wrong-entry .ensures) (right .if2 .left)
     (c .before .has-odd-negatives .ensures) (c .if3 .left)
 
 pub window-refusal-spec : {M : Type 1} → statement M

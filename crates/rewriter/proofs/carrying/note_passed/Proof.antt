@@ -27,19 +27,19 @@ add-families : tie.Need-add-families Inv-loop μ-loop
 add-families c = omega arith
 
 slice-write-families : tie.Need-slice-write-families Inv-loop μ-loop
-slice-write-families c = omega (arith, stores-size _ _ _ _ _ (c .before .loop .inv .1))
+slice-write-families c = omega (arith, stores-size _ _ _ _ (c .before .loop .inv .1))
 
 add-places : tie.Need-add-places Inv-loop μ-loop
 add-places c = omega arith
 
 slice-write-places : tie.Need-slice-write-places Inv-loop μ-loop
-slice-write-places c = omega (arith, stores-size _ _ _ _ _ (c .before .loop .inv .2))
+slice-write-places c = omega (arith, stores-size _ _ _ _ (c .before .loop .inv .2))
 
 add-lengths : tie.Need-add-lengths Inv-loop μ-loop
 add-lengths c = omega arith
 
 slice-write-lengths : tie.Need-slice-write-lengths Inv-loop μ-loop
-slice-write-lengths c = omega (arith, stores-size _ _ _ _ _ (c .before .loop .inv .3))
+slice-write-lengths c = omega (arith, stores-size _ _ _ _ (c .before .loop .inv .3))
 
 add-i : tie.Need-add-i Inv-loop μ-loop
 add-i c = omega arith
@@ -48,28 +48,28 @@ loop-again : tie.Need-loop-again Inv-loop μ-loop
 loop-again c =
     let i = c .before .loop .inv in (
       omega arith,
-      stores-next _ _ _ _ _ (i .1) _ refl,
-      stores-next _ _ _ _ _ (i .2) _ (omega arith),
-      stores-next _ _ _ _ _ (i .3) _ refl,
+      stores-next _ _ _ _ (i .1) _ refl,
+      stores-next _ _ _ _ (i .2) _ (omega arith),
+      stores-next _ _ _ _ (i .3) _ refl,
     )
 
 same-length : tie.Need-same-length Inv-loop μ-loop
-same-length c = stores-size _ _ _ _ _ (c .before .loop .inv .1)
+same-length c = stores-size _ _ _ _ (c .before .loop .inv .1)
 
 same-length-2 : tie.Need-same-length-2 Inv-loop μ-loop
-same-length-2 c = stores-size _ _ _ _ _ (c .before .loop .inv .2)
+same-length-2 c = stores-size _ _ _ _ (c .before .loop .inv .2)
 
 same-length-3 : tie.Need-same-length-3 Inv-loop μ-loop
-same-length-3 c = stores-size _ _ _ _ _ (c .before .loop .inv .3)
+same-length-3 c = stores-size _ _ _ _ (c .before .loop .inv .3)
 
 returns-2 : tie.Need-returns-2 Inv-loop μ-loop
 returns-2 c =
     let i = c .before .loop .inv in
     let room = c .before .before .room-for .ensures in
     let entry = c .before .before .before .before .before .before .before in (
-      stores-end _ _ _ _ _ (i .1) _ _ _ refl room (i .0) (c .loop-test .left),
-      stores-end _ _ _ _ _ (i .2) _ _ _ (sym (entry .pre .0 .0)) room (i .0) (c .loop-test .left),
-      stores-end _ _ _ _ _ (i .3) _ _ _ (sym (entry .pre .0 .1)) room (i .0) (c .loop-test .left),
+      stores-end _ _ _ _ (i .1) _ refl room (i .0) (c .loop-test .left),
+      stores-end _ _ _ _ (i .2) _ (sym (entry .pre .0 .0)) room (i .0) (c .loop-test .left),
+      stores-end _ _ _ _ (i .3) _ (sym (entry .pre .0 .1)) room (i .0) (c .loop-test .left),
     )
 
 pub note-passed-spec : {M : Type 1} → statement M

@@ -37,14 +37,14 @@ sub-left : tie.Need-sub-left
 sub-left c =
     let f = c .before .before in
     let r = searched f in
-    omega (arith, turn-pair (start r .pre .0) _ _ _ _ (r .ending-rule .ensures) (f .family .given .1) (c .if1 .taken))
+    omega (arith, turn-pair (start r .pre .0) _ _ _ (r .ending-rule .ensures) (f .family .given .1) (c .if1 .taken))
 
 note-requires : tie.Need-note-requires
 note-requires c κs =
     let after-family = c .before .before .before .before .before in
     let r = searched after-family in
     let a = start r .pre .0 in
-    let p = turn-place a _ _ _ _ (r .ending-rule .ensures) (after-family .family .given .1) in
+    let p = turn-place a _ _ _ (r .ending-rule .ensures) (after-family .family .given .1) in
     ((a .as-places, a .as-lengths), (omega (arith, p, ready-inside a, a .short), omega (arith, a .short)))
 
 delete-requires : tie.Need-delete-requires
@@ -53,7 +53,7 @@ delete-requires c κs =
     let i = is-pair noted in
     let f = i .before .before in
     let r = searched f in
-    turn-pair (start r .pre .0) _ _ _ _ (r .ending-rule .ensures) (f .family .given .1) (i .if1 .taken)
+    turn-pair (start r .pre .0) _ _ _ (r .ending-rule .ensures) (f .family .given .1) (i .if1 .taken)
 
 returns-2 : tie.Need-returns-2
 returns-2 c =
@@ -62,7 +62,7 @@ returns-2 c =
     let i = is-pair after-note in
     let f = i .before .before in
     let r = searched f in
-    let d = turn-deleted (start r .pre .0) _ _ _ _ (r .ending-rule .ensures) (f .family .given .1) _ _ _ _ (i .if1 .taken)
+    let d = turn-deleted (start r .pre .0) _ _ _ (r .ending-rule .ensures) (f .family .given .1) _ (i .if1 .taken)
     (after-note .note .ensures .0) (after-note .note .ensures .1) (after-note .note .ensures .2) (t .delete .ensures) in
     (omega arith, moved-ended d)
 
@@ -71,7 +71,7 @@ note-requires-2 c κs =
     let after-family = c .before .before .before .before .before in
     let r = searched after-family in
     let a = start r .pre .0 in
-    let p = turn-place a _ _ _ _ (r .ending-rule .ensures) (after-family .family .given .1) in
+    let p = turn-place a _ _ _ (r .ending-rule .ensures) (after-family .family .given .1) in
     ((a .as-places, a .as-lengths), (omega (arith, p, ready-inside a, a .short), omega (arith, a .short)))
 
 carry-requires : tie.Need-carry-requires
@@ -80,7 +80,7 @@ carry-requires c κs =
     let i = is-none noted in
     let f = i .before .before in
     let r = searched f in
-    (omega (arith, turn-place (start r .pre .0) _ _ _ _ (r .ending-rule .ensures) (f .family .given .1)), ready-inside (start r .pre .0))
+    (omega (arith, turn-place (start r .pre .0) _ _ _ (r .ending-rule .ensures) (f .family .given .1)), ready-inside (start r .pre .0))
 
 returns-3 : tie.Need-returns-3
 returns-3 c =
@@ -89,8 +89,8 @@ returns-3 c =
     let i = is-none after-note2 in
     let f = i .before .before in
     let r = searched f in
-    let p = turn-place (start r .pre .0) _ _ _ _ (r .ending-rule .ensures) (f .family .given .1) in
-    let d = turn-carried (start r .pre .0) _ _ _ _ (r .ending-rule .ensures) (f .family .given .1) _ _ _ _ (i .if1 .left)
+    let p = turn-place (start r .pre .0) _ _ _ (r .ending-rule .ensures) (f .family .given .1) in
+    let d = turn-carried (start r .pre .0) _ _ _ (r .ending-rule .ensures) (f .family .given .1) (i .if1 .left)
     (after-note2 .note2 .ensures .0) (after-note2 .note2 .ensures .1) (after-note2 .note2 .ensures .2) (t .carry .ensures) in
     (omega (arith, p), moved-carried (start r .pre .0) d)
 

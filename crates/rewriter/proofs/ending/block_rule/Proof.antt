@@ -19,7 +19,7 @@ returns c =
     let m = g .before in
     let k = m .before in
     let s = k .before in
-    block-goes-on (kindOf (s .args .kind)) (s .args .rank) (s .args .place) (s .args .i) (s .args .j) (s .args .x) _ _ _
+    block-goes-on (kindOf (s .args .kind)) (s .args .rank) (s .args .place) (s .args .i) (s .args .j) (s .args .x)
     (k .levels-of .ensures) (m .last-index-of .ensures) (g .next-index .ensures) (c .if1 .taken)
 
 returns-2 : tie.Need-returns-2
@@ -31,9 +31,9 @@ returns-2 c =
     let m = g .before in
     let k = m .before in
     let s = k .before in
-    block-no-rule (kindOf (s .args .kind)) (s .args .rank) (s .args .place) (s .args .i) (s .args .j) (s .args .x) _ _ _
+    block-no-rule (kindOf (s .args .kind)) (s .args .rank) (s .args .place) (s .args .i) (s .args .j) (s .args .x)
     (k .levels-of .ensures) (m .last-index-of .ensures) (g .next-index .ensures)
-    _ _ (a .if1 .left) (d .fork-of .ensures) (f .family-at .ensures) (c .if2 .taken)
+    (a .if1 .left) (d .fork-of .ensures) (f .family-at .ensures) (c .if2 .taken)
 
 first-letter-requires : tie.Need-first-letter-requires
 first-letter-requires c κs =
@@ -51,9 +51,9 @@ returns-3 c =
     let m = g .before in
     let k = m .before in
     let s = k .before in
-    block-has-rule (kindOf (s .args .kind)) (s .args .rank) (s .args .place) (s .args .i) (s .args .j) (s .args .x) _ _ _
+    block-has-rule (kindOf (s .args .kind)) (s .args .rank) (s .args .place) (s .args .i) (s .args .j) (s .args .x)
     (k .levels-of .ensures) (m .last-index-of .ensures) (g .next-index .ensures)
-    _ _ (a .if1 .left) (d .fork-of .ensures) (f .family-at .ensures) _ _ (b .if2 .left) (v .shown-index .ensures) (c .first-letter .ensures)
+    (a .if1 .left) (d .fork-of .ensures) (f .family-at .ensures) (b .if2 .left) (v .shown-index .ensures) (c .first-letter .ensures)
 
 pub block-rule-spec : {M : Type 1} → statement M
 block-rule-spec =

@@ -60,7 +60,7 @@ cast-index-of c =
     let d = q .before in
     let o = d .before .before .before in
     let s = o .before .before in
-    let z = size-there _ _ (s .pre .0 .0) _ _ (s .pre .1 .0 .0) (one (o .if1 .left)) _ (q .place-of .ensures) (d .if2 .left)
+    let z = size-there (s .pre .0 .0) (s .pre .1 .0 .0) (one (o .if1 .left)) _ (q .place-of .ensures) (d .if2 .left)
     (s .pre .1 .1 (one (o .if1 .left))) (c .if3 .left ∙ m .lower-of .ensures) (s .pre .0 .1) in
     omega (arith, z)
 
@@ -71,7 +71,7 @@ index-of-requires c κs =
     let d = q .before in
     let o = d .before .before .before in
     let s = o .before .before in
-    let z = size-there _ _ (s .pre .0 .0) _ _ (s .pre .1 .0 .0) (one (o .if1 .left)) _ (q .place-of .ensures) (d .if2 .left)
+    let z = size-there (s .pre .0 .0) (s .pre .1 .0 .0) (one (o .if1 .left)) _ (q .place-of .ensures) (d .if2 .left)
     (s .pre .1 .1 (one (o .if1 .left))) (c .if3 .left ∙ m .lower-of .ensures) (s .pre .0 .1) in
     (s .pre .0 .1, rw (m .lower-of .ensures) (z .0), z .1, z .2)
 
@@ -83,7 +83,7 @@ block-rule-requires c κs =
     let d = q .before in
     let o = d .before .before .before in
     let s = o .before .before in
-    let z = index-small _ _ (s .pre .0 .0) _ _ (s .pre .1 .0 .0) (one (o .if1 .left)) _ (q .place-of .ensures) (d .if2 .left)
+    let z = index-small (s .pre .0 .0) (s .pre .1 .0 .0) (one (o .if1 .left)) _ (q .place-of .ensures) (d .if2 .left)
     (s .pre .1 .1 (one (o .if1 .left))) (t .if3 .left ∙ m .lower-of .ensures) _ _ (m .lower-of .ensures) (c .index-of .ensures) in
     (s .pre .0, z)
 
@@ -96,8 +96,8 @@ returns-4 c =
     let d = q .before in
     let o = d .before .before .before in
     let s = o .before .before in
-    ending-block _ _ (s .pre .0 .0) _ _ (s .pre .1 .0 .0) (one (o .if1 .left)) _ (q .place-of .ensures) (d .if2 .left)
-    (s .pre .1 .1 (one (o .if1 .left))) (t .if3 .left ∙ m .lower-of .ensures) _ _ _ (m .lower-of .ensures) (j .index-of .ensures) (c .block-rule .ensures)
+    ending-block (s .pre .0 .0) (s .pre .1 .0 .0) (one (o .if1 .left)) _ (q .place-of .ensures) (d .if2 .left)
+    (s .pre .1 .1 (one (o .if1 .left))) (t .if3 .left ∙ m .lower-of .ensures) (m .lower-of .ensures) (j .index-of .ensures) (c .block-rule .ensures)
 
 pub ending-rule-spec : {M : Type 1} → statement M
 ending-rule-spec =

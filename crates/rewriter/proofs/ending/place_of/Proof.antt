@@ -10,7 +10,7 @@ use Rattle.rewriter.proofs.ending.place_of.Statement.{statement}
 use Rattle.rewriter.proofs.ending.place_of.Tie as tie
 
 returns : tie.Need-returns
-returns c = begun-rising _ _ _ _ _ _ _ (c .before .before .floor-of .ensures) refl refl (c .before .if1 .taken) (c .start-of .ensures)
+returns c = begun-rising _ _ _ _ (c .before .before .floor-of .ensures) refl refl (c .before .if1 .taken) (c .start-of .ensures)
 
 cast-back : tie.Need-cast-back
 cast-back c =
@@ -22,14 +22,14 @@ returns-2 c =
     let t = c .before .before .before in
     let e = t .before in
     let entry = e .before .before .before .before .before .before in
-    begun-falling _ _ _ _ _ _ _ (e .before .before .floor-of .ensures) refl refl (e .before .if1 .left)
-    (stopped-rising _ _ (entry .pre .0 .0) _ _ (entry .pre .1 .0) (sym (e .levels-of .ensures) ∙ t .if2 .taken) _ _ (e .before .if1 .left) (omega arith)
+    begun-falling _ _ _ _ (e .before .before .floor-of .ensures) refl refl (e .before .if1 .left)
+    (stopped-rising (entry .pre .0 .0) (entry .pre .1 .0) (sym (e .levels-of .ensures) ∙ t .if2 .taken) _ _ (e .before .if1 .left) (omega arith)
     (c .if4 .taken))
 
 returns-3 : tie.Need-returns-3
 returns-3 c =
     let e = c .before .before in
-    begun-falling _ _ _ _ _ _ _ (e .before .before .floor-of .ensures) refl refl (e .before .if1 .left) (c .start-of2 .ensures)
+    begun-falling _ _ _ _ (e .before .before .floor-of .ensures) refl refl (e .before .if1 .left) (c .start-of2 .ensures)
 
 pub place-of-spec : {M : Type 1} → statement M
 place-of-spec =

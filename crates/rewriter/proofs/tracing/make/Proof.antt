@@ -21,21 +21,21 @@ abbrev μ-loop : tie.MeasureT-loop
 loop-holds : tie.Need-loop-holds Inv-loop μ-loop
 loop-holds c =
     let entry = c .before .before .before .before .before in
-    making-start _ _ _ _ _ _ _ (entry .pre .0)
+    making-start _ _ _ _ (entry .pre .0)
 
 slice-write-work : tie.Need-slice-write-work Inv-loop μ-loop
 slice-write-work c =
     let t = c .before in
     let l = t .before in
     let entry = l .before .before .before .before .before .before in
-    making-room _ _ _ _ _ _ _ (entry .pre .0) (l .loop .inv) (t .loop-test .taken) (entry .pre .1 .1) .0
+    making-room _ _ _ _ (entry .pre .0) (l .loop .inv) (t .loop-test .taken) (entry .pre .1 .1) .0
 
 add-insert : tie.Need-add-insert Inv-loop μ-loop
 add-insert c =
     let turn = c .before .before .before .before .before in
     let l = turn .before in
     let entry = l .before .before .before .before .before .before in
-    let r = making-room _ _ _ _ _ _ _ (entry .pre .0) (l .loop .inv) (turn .loop-test .taken) (entry .pre .1 .1) in
+    let r = making-room _ _ _ _ (entry .pre .0) (l .loop .inv) (turn .loop-test .taken) (entry .pre .1 .1) in
     omega (arith, r)
 
 slice-relend-prefix-insert : tie.Need-slice-relend-prefix-insert Inv-loop μ-loop
@@ -43,7 +43,7 @@ slice-relend-prefix-insert c =
     let turn = c .before .before .before .before .before in
     let l = turn .before in
     let entry = l .before .before .before .before .before .before in
-    let r = making-room _ _ _ _ _ _ _ (entry .pre .0) (l .loop .inv) (turn .loop-test .taken) (entry .pre .1 .1) in
+    let r = making-room _ _ _ _ (entry .pre .0) (l .loop .inv) (turn .loop-test .taken) (entry .pre .1 .1) in
     simp length-set (r .1)
 
 slice-aggregate-insert : tie.Need-slice-aggregate-insert Inv-loop μ-loop
@@ -51,14 +51,14 @@ slice-aggregate-insert c =
     let turn = c .before .before .before .before .before .before in
     let l = turn .before in
     let entry = l .before .before .before .before .before .before in
-    sym (lent-length _ _ _ _ _ _ _ (entry .pre .0) (l .loop .inv) (turn .loop-test .taken) (entry .pre .1 .1))
+    sym (lent-length _ _ _ _ (entry .pre .0) (l .loop .inv) (turn .loop-test .taken) (entry .pre .1 .1))
 
 insert-requires : tie.Need-insert-requires Inv-loop μ-loop
 insert-requires c κs =
     let turn = c .before .before .before .before .before .before in
     let l = turn .before in
     let entry = l .before .before .before .before .before .before in
-    making-ready _ _ _ _ _ _ _ (entry .pre .0) (l .loop .inv) (turn .loop-test .taken) (entry .pre .1 .1) (entry .pre .1 .0 .0) (entry .pre .1 .0 .1)
+    making-ready _ _ _ _ (entry .pre .0) (l .loop .inv) (turn .loop-test .taken) (entry .pre .1 .1) (entry .pre .1 .0 .0) (entry .pre .1 .0 .1)
 
 loop-again : tie.Need-loop-again Inv-loop μ-loop
 loop-again c =
@@ -67,7 +67,7 @@ loop-again c =
     let l = turn .before in
     let entry = l .before .before .before .before .before .before in
     let k = after-insert .insert .kept .1 .1 .1 .1 in
-    making-next _ _ _ _ _ _ _ (entry .pre .0) (l .loop .inv) (turn .loop-test .taken) (entry .pre .1 .1)
+    making-next _ _ _ _ (entry .pre .0) (l .loop .inv) (turn .loop-test .taken) (entry .pre .1 .1)
     (after-insert .insert .ensures) (k .1 .1 .1 .0) (k .0) (k .1 .0) (k .1 .1 .0)
 
 same-length : tie.Need-same-length Inv-loop μ-loop
@@ -94,7 +94,7 @@ returns : tie.Need-returns Inv-loop μ-loop
 returns c =
     let l = c .before in
     let entry = l .before .before .before .before .before .before in
-    making-end _ _ _ _ _ _ _ (entry .pre .0) (l .loop .inv) (c .loop-test .left) (entry .pre .1 .1)
+    making-end _ _ _ _ (entry .pre .0) (l .loop .inv) (c .loop-test .left) (entry .pre .1 .1)
 
 pub make-spec : {M : Type 1} → statement M
 make-spec =

@@ -19,7 +19,7 @@ returns : tie.Need-returns
 returns c =
     let after-copy = c .before .before .before .before .before .before .before in
     let entry = c .before .before .before .before .before .before .before .before .before .before .before .before in
-    written-without _ _ _ _ _ _ (entry .pre .0) (entry .pre .1)
+    written-without _ _ _ _ (entry .pre .0) (entry .pre .1)
     (after-copy .copy .ensures)
     (c .before .before .copy2 .ensures)
 

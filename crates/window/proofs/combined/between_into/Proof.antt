@@ -23,7 +23,7 @@ held c =
     let made = c .before .before in
     let pre = made .before .pre in
     let u = pre .1 .0 in
-    front-written _ _ _ (pre .0) (window-lanes _ _ _ u) _ _ _ (inverse-passes _ _ _ u) (made .entries-64 .ensures) (c .inverse-into .ensures)
+    front-written _ _ (pre .0) (window-lanes _ _ _ u) _ _ (inverse-passes _ _ _ u) (made .entries-64 .ensures) (c .inverse-into .ensures)
 
 array-share-prefix-back : tie.Need-array-share-prefix-back
 array-share-prefix-back c = held (c .before) .fits

@@ -40,7 +40,7 @@ held c =
     let made = c .before .before in
     let p = passed (made .before) in
     let passes = product-passes _ _ _ _ (p .1 .0) (p .1 .1) in
-    front-written _ _ _ (p .0) (window-lanes _ _ _ (p .1 .1)) _ _ _ passes (made .entries-64 .ensures) (c .product-into .ensures)
+    front-written _ _ (p .0) (window-lanes _ _ _ (p .1 .1)) _ _ passes (made .entries-64 .ensures) (c .product-into .ensures)
 
 array-share-prefix-work : tie.Need-array-share-prefix-work
 array-share-prefix-work c = held (c .before) .fits
@@ -58,7 +58,7 @@ returns-2 c =
     let called = c .before .before in
     let made = called .before .before .before .before in
     let first = made .before .before .before in
-    form-written _ _ _ _ _ (held made) _ _ _ _ _ refl (sym (first .before .ranked-windows-refusal .ensures) ∙ first .if1 .left) (called .write-checked .ensures)
+    form-written (held made) _ _ _ refl (sym (first .before .ranked-windows-refusal .ensures) ∙ first .if1 .left) (called .write-checked .ensures)
 
 pub normal-form-of-product-spec : {M : Type 1} → statement M
 normal-form-of-product-spec =

@@ -14,14 +14,14 @@ returns c =
     let got = c .before .before in
     let start = got .before in
     let parts = got .parts-of .ensures in
-    counted-two _ (start .args .n) _ (start .pre .1) _ _ (parts .0) (parts .1) _ (c .if1 .taken) (parts .2)
+    counted-two _ (start .args .n) _ (start .pre .1) (parts .0) (parts .1) (c .if1 .taken) (parts .2)
 
 returns-2 : tie.Need-returns-2
 returns-2 c =
     let got = c .before .before in
     let start = got .before in
     let parts = got .parts-of .ensures in
-    counted-else _ (start .args .n) _ (start .pre .1) _ _ (parts .0) (parts .1) (c .if1 .left)
+    counted-else _ (start .args .n) _ (start .pre .1) (parts .0) (parts .1) (c .if1 .left)
 
 pub crossings-of-spec : {M : Type 1} → statement M
 crossings-of-spec = tie.close (tie.spec parts-of-requires (λ c. search needs) returns returns-2)

@@ -47,7 +47,7 @@ bounds : (c : tie.After-size Inv-loop μ-loop)
 bounds c =
     let turn = c .before .before in
     let pre = turn .before .before .pre in
-    size-bounds _ _ _ _ _ _ _ (turn .before .loop .inv) (turn .loop-test .taken) (pre .0) (pre .1) (size-of c)
+    size-bounds (turn .before .loop .inv) (turn .loop-test .taken) (pre .0) (pre .1) (size-of c)
 
 larger-behind-requires : tie.Need-larger-behind-requires Inv-loop μ-loop
 larger-behind-requires c κs =
@@ -56,7 +56,7 @@ larger-behind-requires c κs =
     let b = bounds c in (
       b .0,
       omega (arith, b .1, pre .0),
-      set-fits _ _ _ _ _ _ _ (turn .before .loop .inv) (turn .loop-test .taken) (pre .0) (pre .1) (size-of c),
+      set-fits (turn .before .loop .inv) (turn .loop-test .taken) (pre .0) (pre .1) (size-of c),
     )
 
 with-size-requires : tie.Need-with-size-requires Inv-loop μ-loop
@@ -80,7 +80,7 @@ small : (c : tie.After-size Inv-loop μ-loop) → let sums = c .before .before .
 small c =
     let turn = c .before .before in
     let pre = turn .before .before .pre in
-    sums-fit _ _ _ _ _ _ _ (turn .before .loop .inv) (turn .loop-test .taken) (pre .0) (pre .1) (size-of c)
+    sums-fit (turn .before .loop .inv) (turn .loop-test .taken) (pre .0) (pre .1) (size-of c)
 
 add-pairs : tie.Need-add-pairs Inv-loop μ-loop
 add-pairs c =
@@ -89,7 +89,7 @@ add-pairs c =
     let at = got .before in
     let turn = at .before .before in
     let pre = turn .before .before .pre in
-    let fits = pairs-fit _ _ _ _ _ _ _ (turn .before .loop .inv) (turn .loop-test .taken) (pre .0) (pre .1) (size-of at) _ (got .larger-behind .ensures) _
+    let fits = pairs-fit (turn .before .loop .inv) (turn .loop-test .taken) (pre .0) (pre .1) (size-of at) (got .larger-behind .ensures)
     (sign-of asked) (c .if1 .taken) in
     record { fits = omega (arith, fits) }
 
@@ -117,7 +117,7 @@ loop-again c =
     let turn = at .before .before in
     let pre = turn .before .before .pre in
     rw (asked .before .with-size .ensures)
-    (gone-negative _ _ _ _ _ _ _ (turn .before .loop .inv) (turn .loop-test .taken) (pre .0) (pre .1) (size-of at) _ (got .larger-behind .ensures) _
+    (gone-negative (turn .before .loop .inv) (turn .loop-test .taken) (pre .0) (pre .1) (size-of at) (got .larger-behind .ensures)
     (sign-of asked) (c .if1 .taken))
 
 sub-pairs-2 : tie.Need-sub-pairs-2 Inv-loop μ-loop
@@ -127,7 +127,7 @@ sub-pairs-2 c =
     let at = got .before in
     let turn = at .before .before in
     let pre = turn .before .before .pre in
-    left _ _ _ _ _ _ _ (turn .before .loop .inv) (turn .loop-test .taken) (pre .0) (pre .1) (size-of at) _ (got .larger-behind .ensures) _
+    left (turn .before .loop .inv) (turn .loop-test .taken) (pre .0) (pre .1) (size-of at) (got .larger-behind .ensures)
     (sign-of asked) (c .if1 .left)
 
 loop-again-2 : tie.Need-loop-again-2 Inv-loop μ-loop
@@ -138,13 +138,13 @@ loop-again-2 c =
     let turn = at .before .before in
     let pre = turn .before .before .pre in
     rw (asked .before .with-size .ensures)
-    (gone-positive _ _ _ _ _ _ _ (turn .before .loop .inv) (turn .loop-test .taken) (pre .0) (pre .1) (size-of at) _ (got .larger-behind .ensures) _
+    (gone-positive (turn .before .loop .inv) (turn .loop-test .taken) (pre .0) (pre .1) (size-of at) (got .larger-behind .ensures)
     (sign-of asked) (c .if1 .left))
 
 returns : tie.Need-returns Inv-loop μ-loop
 returns c =
     let pre = c .before .before .pre in
-    parts _ _ _ _ _ _ (c .before .loop .inv) (omega (arith, c .loop-test .left)) (pre .0) (pre .1)
+    parts (c .before .loop .inv) (omega (arith, c .loop-test .left)) (pre .0) (pre .1)
 
 pub parts-of-spec : {M : Type 1} → statement M
 parts-of-spec =

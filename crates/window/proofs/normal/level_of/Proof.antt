@@ -29,7 +29,7 @@ returns c =
     let asked = c .before in
     let got = asked .before in
     let out = got .before in
-    level-negative-changed _ _ _ _ _ _ _ _ _ (position-negative _ (out .before .if1 .taken)) (out .without .ensures) (got .larger-behind .ensures)
+    level-negative-changed _ _ _ _ _ (position-negative _ (out .before .if1 .taken)) (out .without .ensures) (got .larger-behind .ensures)
     (asked .has-changed-sign .ensures) (out .before .if1 .taken) (c .if2 .taken)
 
 add-t15 : tie.Need-add-t15
@@ -44,7 +44,7 @@ returns-2 c =
     let asked = c .before in
     let got = asked .before in
     let out = got .before in
-    level-negative _ _ _ _ _ _ _ _ _ (position-negative _ (out .before .if1 .taken)) (out .without .ensures) (got .larger-behind .ensures)
+    level-negative _ _ _ _ _ (position-negative _ (out .before .if1 .taken)) (out .without .ensures) (got .larger-behind .ensures)
     (asked .has-changed-sign .ensures) (out .before .if1 .taken) (c .if2 .left)
 
 without-requires-2 : tie.Need-without-requires-2
@@ -64,7 +64,7 @@ returns-3 c =
     let asked = c .before in
     let got = asked .before in
     let out = got .before in
-    level-positive-changed _ _ _ _ _ _ _ _ _ (position-positive _ (out .before .if1 .left)) (out .without2 .ensures) (got .larger-behind2 .ensures)
+    level-positive-changed _ _ _ _ _ (position-positive _ (out .before .if1 .left)) (out .without2 .ensures) (got .larger-behind2 .ensures)
     (asked .has-changed-sign2 .ensures) (out .before .if1 .left) (c .if3 .taken)
 
 sub-t19 : tie.Need-sub-t19
@@ -83,7 +83,7 @@ returns-4 c =
     let asked = c .before in
     let got = asked .before in
     let out = got .before in
-    level-positive _ _ _ _ _ _ _ _ _ (position-positive _ (out .before .if1 .left)) (out .without2 .ensures) (got .larger-behind2 .ensures)
+    level-positive _ _ _ _ _ (position-positive _ (out .before .if1 .left)) (out .without2 .ensures) (got .larger-behind2 .ensures)
     (asked .has-changed-sign2 .ensures) (out .before .if1 .left) (c .if3 .left)
 
 pub level-of-spec : {M : Type 1} → statement M

@@ -57,7 +57,7 @@ loop-again : tie.Need-loop-again Inv-loop μ-loop
 loop-again c =
     let sized = c .before in
     let turn = sized .before .before in
-    stored-next _ _ _ _ _ _ _ (turn .before .before .pre .1 .0) (at-most-64 sized) (turn .loop-test .taken) (sized .before .e .given) (size-is sized)
+    stored-next _ _ (turn .before .before .pre .1 .0) (at-most-64 sized) (turn .loop-test .taken) (sized .before .e .given) (size-is sized)
     (c .place-of .ensures) (turn .before .loop .inv)
 
 returns : tie.Need-returns Inv-loop μ-loop

@@ -32,7 +32,7 @@ peel-requires c κs =
     let places = stored .set-places .last .1 .1 .1 .0 in
     let s = all .all-positions .ensures in (
       (first-rank _ _ (pre .0) w (pre .1 .0), omega arith, first-level _ _ (pre .0) w (pre .1 .0), first-left _ _ s),
-      (first-places _ _ (pre .0) w (pre .1 .0) places _ p s, first-room _ _ (pre .0) w (pre .1 .0) places _ p s _ (pre .1 .1)),
+      (first-places _ _ (pre .0) w (pre .1 .0) places p s, first-room _ _ (pre .0) w (pre .1 .0) places p s _ (pre .1 .1)),
     )
 
 returns : tie.Need-returns
@@ -42,7 +42,7 @@ returns c =
     let stored = all .before .before in
     let entry = stored .before .before .before .before in
     let pre = entry .pre in
-    first-written _ _ (pre .0) _ (pre .1 .0) _ _ (stored .set-places .ensures) (all .all-positions .ensures) _ (pre .1 .1) (peeled .peel .ensures)
+    first-written _ _ (pre .0) _ (pre .1 .0) _ (stored .set-places .ensures) (all .all-positions .ensures) _ (pre .1 .1) (peeled .peel .ensures)
 
 pub write-normal-form-spec : {M : Type 1} → statement M
 write-normal-form-spec =

@@ -55,7 +55,7 @@ negated-requires c κs =
 returns-2 : tie.Need-returns-2
 returns-2 c =
     let known = c .before .before .before .before in
-    image-negative _ _ _ _ (size-is known) (known .before .before .pre .1 .0) (sym (sign-is (c .before .before)) ∙ c .before .if2 .taken)
+    image-negative _ _ (size-is known) (known .before .before .pre .1 .0) (sym (sign-is (c .before .before)) ∙ c .before .if2 .taken)
     (c .before .before .before .x .given)
     (c .negated .ok)
     (c .negated .ensures)

@@ -55,7 +55,7 @@ loop-again c =
     let held = turn .before .loop .inv in (
       omega arith,
       simp length-set (held .1),
-      held .2 ∙ scatter-step _ _ _ _ _ (turn .loop-test .taken) (sized .before .e .given) (c .with-sign .ok) (size-is sized) (c .with-sign .ensures),
+      held .2 ∙ scatter-step _ _ _ (turn .loop-test .taken) (sized .before .e .given) (c .with-sign .ok) (size-is sized) (c .with-sign .ensures),
     )
 
 returns : tie.Need-returns Inv-loop μ-loop

@@ -14,14 +14,14 @@ use Rattle.window.proofs.shown.same_presets.Tie as tie
 returns : tie.Need-returns
 returns c =
     let pre = c .before .before .before .pre in
-    lanes-differ _ _ _ _ _ _ _ _ (pre .0 .1) (pre .1 .1) (c .if1 .taken)
+    lanes-differ _ _ _ _ _ _ (pre .0 .1) (pre .1 .1) (c .if1 .taken)
 
 show-front-requires : tie.Need-show-front-requires
 show-front-requires c κs =
     let made = c .before in
     let entry = made .before .before .before .before in
     let pre = entry .pre .0 in
-    (pre .0, (pre .1, (pre .2, room _ _ _ (pre .0) (pre .1) (made .entries-64 .result) (made .entries-64 .ensures))))
+    (pre .0, (pre .1, (pre .2, room _ _ (pre .0) (pre .1) (made .entries-64 .result) (made .entries-64 .ensures))))
 
 -- what the first work window holds
 first : (c : tie.After-show-front)
@@ -31,7 +31,7 @@ first : (c : tie.After-show-front)
 first c =
     let made = c .before .before in
     let entry = made .before .before .before .before in
-    front-written _ _ _ (entry .pre .0 .0) (entry .pre .0 .1) _ _ _ (window-passes _ _ _) (made .entries-64 .ensures) (c .show-front .ensures)
+    front-written _ _ (entry .pre .0 .0) (entry .pre .0 .1) _ _ (window-passes _ _ _) (made .entries-64 .ensures) (c .show-front .ensures)
 
 show-front-requires-2 : tie.Need-show-front-requires-2
 show-front-requires-2 c κs =
@@ -39,7 +39,7 @@ show-front-requires-2 c κs =
     let else = made .before .before .before .before .before in
     let pre = else .before .before .before .pre .1 in
     let lanes = else .if1 .left ∙ pre .1 in
-    (pre .0, (lanes, (pre .2, room _ _ _ (pre .0) lanes (made .entries-642 .result) (made .entries-642 .ensures))))
+    (pre .0, (lanes, (pre .2, room _ _ (pre .0) lanes (made .entries-642 .result) (made .entries-642 .ensures))))
 
 -- and the second
 second : (c : tie.After-show-front2)
@@ -50,7 +50,7 @@ second c =
     let made = c .before .before in
     let else = made .before .before .before .before .before in
     let pre = else .before .before .before .pre .1 in
-    front-written _ _ _ (pre .0) (else .if1 .left ∙ pre .1) _ _ _ (window-passes _ _ _) (made .entries-642 .ensures) (c .show-front2 .ensures)
+    front-written _ _ (pre .0) (else .if1 .left ∙ pre .1) _ _ (window-passes _ _ _) (made .entries-642 .ensures) (c .show-front2 .ensures)
 
 same-fronts-requires : tie.Need-same-fronts-requires
 same-fronts-requires c κs =

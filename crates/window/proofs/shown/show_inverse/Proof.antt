@@ -11,7 +11,7 @@ show-front-requires : tie.Need-show-front-requires
 show-front-requires c κs =
     let made = c .before in
     let pre = made .before .before .pre in
-    (pre .0, (pre .1 .0, (pre .1 .1 .0, room _ _ _ (pre .0) (pre .1 .0) (made .entries-64 .result) (made .entries-64 .ensures))))
+    (pre .0, (pre .1 .0, (pre .1 .1 .0, room _ _ (pre .0) (pre .1 .0) (made .entries-64 .result) (made .entries-64 .ensures))))
 
 -- what the work window holds after the call
 held : (c : tie.After-show-front)
@@ -21,7 +21,7 @@ held : (c : tie.After-show-front)
 held c =
     let made = c .before .before in
     let pre = made .before .before .pre in
-    front-written _ _ _ (pre .0) (pre .1 .0) _ _ _ (window-passes _ _ _) (made .entries-64 .ensures) (c .show-front .ensures)
+    front-written _ _ (pre .0) (pre .1 .0) _ _ (window-passes _ _ _) (made .entries-64 .ensures) (c .show-front .ensures)
 
 array-share-prefix-work : tie.Need-array-share-prefix-work
 array-share-prefix-work c = held (c .before) .fits

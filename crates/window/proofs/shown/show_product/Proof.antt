@@ -16,7 +16,7 @@ apply-requires c κs =
     let shown = c .before .before in
     let entry = shown .before .before .before .before in
     let pre = entry .pre in
-    let part = part-window _ _ _ (pre .0) (pre .1 .0) _ _ _ (pre .1 .1 .1 .1) (shown .show-front .ensures) in
+    let part = part-window _ _ (pre .0) (pre .1 .0) _ _ (pre .1 .1 .1 .1) (shown .show-front .ensures) in
     (rank-accepted _ _ (pre .0), (pre .1 .1 .1 .0, rw part (window-passes _ _ _)))
 
 returns : tie.Need-returns
@@ -24,7 +24,7 @@ returns c =
     let shown = c .before .before .before .before in
     let entry = shown .before .before .before .before in
     let pre = entry .pre in
-    part-product _ _ _ (pre .0) (pre .1 .0) _ _ _ (pre .1 .1 .1 .1) (shown .show-front .ensures) _ _ (c .before .apply .ensures)
+    part-product _ _ (pre .0) (pre .1 .0) _ _ (pre .1 .1 .1 .1) (shown .show-front .ensures) _ (c .before .apply .ensures)
 
 pub show-product-spec : {M : Type 1} → statement M
 show-product-spec =
