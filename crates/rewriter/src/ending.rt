@@ -21,9 +21,8 @@ ghost use Rattle.rules.proofs.Scan.{nextIndex, fork, familyAt, shownIndex, firs
 ghost use Rattle.traces.specs.Traces.{lowestRedex};
 ghost use Rattle.traces.proofs.LeftSideShapes.{lower};
 ghost use Rattle.traces.proofs.PartBlocks.{indexBy};
-ghost use Rattle.traces.proofs.TwoLetters.{commuting};
 ghost use Rattle.traces.proofs.Reading.{Reading};
-ghost use Rattle.traces.proofs.ReadingSteps.{Stopped};
+ghost use Rattle.traces.proofs.ReadingSteps.{Stopped, Stuck};
 
 // A rule that ends there: its family, where it begins and the letter that its right side puts first.
 pub(crate) enum Ending {
@@ -149,9 +148,7 @@ fn block_rule(kind: u8, rank: u8, i: u8, j: u8, x: u8, place: usize) -> Ending
 
 // The rule that ends with the letter at q, which does not commute with the one before it.
 pub(crate) fn ending_rule(kind: u8, rank: u8, word: &[u8], q: usize) -> Ending
-    requires { ⌜ Ranked (kindOf kind) rank ⌝ }
-    requires { ⌜ Reading (kindOf kind) rank (now word) q × (q ≤ 4096) ⌝ }
-    requires { ⌜ (1 ≤ q → commuting rank (levels (kindOf kind) rank) (getD (now word) (q - 1) 0) (getD (now word) q 0) ≡ false) ⌝ }
+    requires { ⌜ Stuck (kindOf kind) rank (now word) q ⌝ }
     ensures { λ r. ⌜ r ≡ elim (lowestRedex (kindOf kind) rank (take (suc q) (now (word .entry)))) [
       | none ↦ Ending.Nothing
       | some s ↦ Ending.Rule (s .rule .family) (s .place) (getD (s .rule .right) 0 0)

@@ -37,6 +37,14 @@ pub record Stopped (w : List ℕ) (floor from i p : ℕ) : Type 0 where
   pub above : (t : ℕ) → p < t → t < from → i < getD w t 0
   pub ends : (p ≤ floor) ⊎ ((p < from) × (getD w p 0 ≤ i))
 
+-- what the search for the rule that ends at place q is asked with: the letter there does not pass the one before it
+pub record Stuck (k : Kind) (n : ℕ) (w : List ℕ) (q : ℕ) : Type 0 where
+  pub least-le : least k ≤ n
+  pub rank-le : n ≤ 64
+  pub reading : Reading k n w q
+  pub place-le : q ≤ 4096
+  pub stays : 1 ≤ q → commuting n (levels k n) (getD w (q - 1) 0) (getD w q 0) ≡ false
+
 -- a place of the letter i in that range with only higher ones behind it is where it ended
 stopped-at : (w : List ℕ) (floor from i p t : ℕ) → Stopped w floor from i p → floor ≤ t → t < from → getD w t 0 ≡ i
     → ((v : ℕ) → t < v → v < from → i < getD w v 0) → t ≡ p

@@ -26,7 +26,13 @@ ending-rule-requires : tie.Need-ending-rule-requires
 ending-rule-requires c κs =
     let entry = c .before .before .before .before .before .before in
     let a = entry .pre .0 in
-    ((a .rank, a .high), ((a .reading, omega (arith, ready-inside a, a .short)), entry .pre .1))
+    record {
+      least-le = a .rank;
+      rank-le = a .high;
+      reading = a .reading;
+      place-le = omega (arith, ready-inside a, a .short);
+      stays = entry .pre .1;
+    }
 
 returns : tie.Need-returns
 returns c =
