@@ -107,8 +107,8 @@ as-bytes {Y} {F} r k n l m e f =
     ap₂ F e f ∙ elim (bytes-or-refused k n) [ inl h ↦ ap₂ F (h .0) (h .1) | inr h ↦ r .alike k n (byteOf k) (byteOf n) (h .0) (h .1) ]
 
 -- the refusal of checks 5 and 6, after p and before s or t, decides
-alike : (p r q s t : ℕ) → q ≡ r → (r ≡ 0 → ⊥) → ((p then (q then s)) ≡ (p then (r then t))) × ((p then (r then t)) ≡ 0 → ⊥)
-alike p r q s t e f = elim (ℕ-discrete p 0) [
+then-decided : (p r q s t : ℕ) → q ≡ r → (r ≡ 0 → ⊥) → ((p then (q then s)) ≡ (p then (r then t))) × ((p then (r then t)) ≡ 0 → ⊥)
+then-decided p r q s t e f = elim (ℕ-discrete p 0) [
   | yes z ↦ rw (e, z, ne-eqb r 0 f) (refl, f)
   | no g ↦ rw (ne-eqb p 0 g) (refl, g)
 ]
@@ -119,7 +119,7 @@ writes-refused-alike r q u v out e f = rw (e, ne-eqb r 0 f) (rw (ne-eqb r 0 f) r
 
 writes-alike : {X : Type 0} (p r q s t : ℕ) (u v out : List X) → q ≡ r → (r ≡ 0 → ⊥) → writes (p then (q then s)) u out ≡ writes (p then (r then t)) v out
 writes-alike p r q s t u v out e f =
-    let a = alike p r q s t e f in
+    let a = then-decided p r q s t e f in
     writes-refused-alike (p then (r then t)) (p then (q then s)) u v out (a .0) (a .1)
 
 verdict-refused-alike : (r q : ℕ) (a b : Bool) → q ≡ r → (r ≡ 0 → ⊥) → verdictOf q a ≡ verdictOf r b
@@ -190,7 +190,7 @@ delayTable-refusable counts entries letters = record { alike = λ k n l m e f. s
 pub first-refusable : (u : List ℕ) (k₂ n₂ : ℕ) (v : List ℕ) → Refusable (λ k n. presetsEqual k n u k₂ n₂ v)
 unfolding presetsEqual
 first-refusable u k₂ n₂ v = record {
-  alike = λ k n l m e f. let a = alike 0 (rankRefusal k n) (rankRefusal l m) _ _ e f in verdict-refused-alike _ _ _ _ (a .0) (a .1);
+  alike = λ k n l m e f. let a = then-decided 0 (rankRefusal k n) (rankRefusal l m) _ _ e f in verdict-refused-alike _ _ _ _ (a .0) (a .1);
 }
 
 pub second-refusable : (k₁ n₁ : ℕ) (u v : List ℕ) → Refusable (λ k n. presetsEqual k₁ n₁ u k n v)
@@ -198,7 +198,7 @@ unfolding presetsEqual
 second-refusable k₁ n₁ u v = record {
   alike = λ k n l m e f.
       let first = rankRefusal k₁ n₁ then wordRefusal n₁ u in
-      let a = alike first (rankRefusal k n) (rankRefusal l m) (wordRefusal m v) (wordRefusal n v) e f in
+      let a = then-decided first (rankRefusal k n) (rankRefusal l m) (wordRefusal m v) (wordRefusal n v) e f in
       let p = then-assoc (rankRefusal k₁ n₁) (wordRefusal n₁ u) (rankRefusal l m then wordRefusal m v) in
       let q = then-assoc (rankRefusal k₁ n₁) (wordRefusal n₁ u) (rankRefusal k n then wordRefusal n v) in
       verdict-refused-alike _ _ _ _ (sym p ∙ a .0 ∙ q) (λ z. a .1 (q ∙ z));
