@@ -54,7 +54,7 @@ unfolding setRefusal
 set-avoids k n set c l f =
     then-avoids (rankRefusal k n) (check 16 (wrongSet n set)) c (λ e. omega (arith, rankRefusal-le k n)) (check-avoids 16 c (wrongSet n set) f)
 
--- 16 in front of the checks q, none of which has its number
+-- C16: in front of the checks q, none of which has its number
 pub set-refuses : (k n set q : ℕ) → (q ≡ 16 → ⊥)
     → ((setRefusal k n set then q) ≡ 16) ↔ (RankOf k n × ((s : ℕ) × (n < s) × (allows set s ≡ true)))
 unfolding setRefusal
