@@ -6,6 +6,7 @@ import { readFileSync } from 'node:fs';
 import { test } from 'node:test';
 import { fileURLToPath } from 'node:url';
 
+import { runTable, said } from '../../tests/calls_table.mjs';
 import { KINDS, MAX_BOOK, MAX_LANES, MAX_NORMAL_FORM, MAX_WORD, Refusal, Refused, Winnathey, load } from './winnathey.mjs';
 
 const root = new URL('../../', import.meta.url);
@@ -533,6 +534,10 @@ test('the calls of tests/calls.c have their stored answers', () => {
         called.add(name);
     }
     assert.deepEqual([...called].sort(), [...parameters.keys()].sort());
+});
+
+test('the table of calls and answers', () => {
+    console.log(said(runTable(readFileSync(new URL('tests/calls.jsonl', root), 'utf8'), w, Refusal), 'node'));
 });
 
 test('each type has its own comment', () => {
