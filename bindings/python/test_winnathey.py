@@ -179,6 +179,21 @@ class Refusals(unittest.TestCase):
         self.assertEqual(pickle.loads(pickle.dumps(placed)), placed)
         self.assertNotEqual(placed, refusal)
 
+    def test_equal(self):
+        """Refusals are equal if they have one number and one place, and are nothing else's equal."""
+        all_of_them = [w.Refusal(number, place) for number in range(1, 22) for place in (None, 0, 1)]
+        for at, one in enumerate(all_of_them):
+            again = w.Refusal(int(one.number), one.place)
+            self.assertTrue(one == again)
+            self.assertFalse(one != again)
+            self.assertEqual(hash(one), hash(again))
+            for other in all_of_them[:at]:
+                self.assertFalse(one == other)
+                self.assertTrue(one != other)
+            for other in (int(one.number), one.number, None, str(one), ValueError(str(one)), (one.number, one.place)):
+                self.assertFalse(one == other)
+        self.assertEqual(len(set(all_of_them)), 63)
+
 
 def stored_edits():
     """The cases that all bindings are held to."""
