@@ -91,7 +91,7 @@ impl Edit {
                 let book = open(std::mem::take(&mut locked.bytes));
                 let change = self.changed(&book, change, out)?;
                 locked.bytes = book.bytes;
-                self.replaced(locked, &change, out)?;
+                self.replaced(locked, &change)?;
                 (change, Some(&self.from))
             }
             To::New => {
@@ -145,7 +145,7 @@ impl Edit {
 
     /// Names whose presets get other numbers are put aside first, so that they never stand beside a book that they do
     /// not fit.
-    fn replaced(&self, locked: Locked, change: &Change, out: &mut Out) -> Result<(), Failure> {
+    fn replaced(&self, locked: Locked, change: &Change) -> Result<(), Failure> {
         let Some(numbers) = &change.numbers else { return locked.replace(&change.bytes) };
         let (beside, aside) = (names::beside(&self.from), names::aside(&self.from));
         if fs::symlink_metadata(&aside).is_ok() {
@@ -167,7 +167,8 @@ impl Edit {
         let removed = || fs::remove_file(&aside).map_err(|error| Failure::file(&aside, error));
         if let Err(failure) = ready.place().and_then(|()| removed()) {
             let (aside, told) = (text::file(&aside), failure.in_a_line());
-            out.warn(format!("the book is written, but its names are in '{aside}' with the old numbers: {told}"));
+            let failed = format!("its names are in '{aside}' with the old numbers: {told}");
+            return Err(Failure::Written(text::file(&self.from), failed));
         }
         new.settle()
     }

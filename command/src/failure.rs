@@ -20,8 +20,8 @@ pub enum Failure {
     File(String, io::Error),
     /// Something that the command itself will not do, in a sentence.
     Unwilling(String),
-    /// A file was written, but standard output failed when that was to be said.
-    Unsaid(String, io::Error),
+    /// A file was written, and what failed behind that: whoever asked must not do it again unseen.
+    Written(String, String),
     /// The step of a rewriting where the library's lists and its single rewrite part. It is proved that they do not.
     Replay(usize),
     /// Standard output has no reader any more.
@@ -33,6 +33,8 @@ pub const REFUSED: u8 = 1;
 pub const NOT_UNDERSTOOD: u8 = 2;
 /// A failure with `--status`, where 1 is a no.
 pub const FAILED_ASKED_FOR_STATUS: u8 = 3;
+/// The file is written, but that is not confirmed.
+pub const NOT_CONFIRMED: u8 = 4;
 
 impl Failure {
     pub fn usage(problem: impl Into<String>, subcommand: Option<&'static str>) -> Failure {
@@ -48,12 +50,21 @@ impl Failure {
         Failure::Refused(refusal, Some(culprit.into()))
     }
 
-    /// The same where a file is written already: whoever asked must not think that nothing was done.
+    /// Standard output failed when it was to say that a file is written.
     pub fn unsaid(self, file: &Path) -> Failure {
         match self {
-            Failure::File(_, error) => Failure::Unsaid(text::file(file), error),
+            Failure::File(_, error) => {
+                let failed = format!("standard output, which was to say so, failed: {error}");
+                Failure::Written(text::file(file), failed)
+            }
             other => other,
         }
+    }
+
+    /// A file has its name, but the system does not say that this is on the disk.
+    pub fn not_on_disk(file: &Path, error: &io::Error) -> Failure {
+        let failed = format!("the system does not confirm that it is on the disk: {error}; look before you repeat it");
+        Failure::Written(text::file(file), failed)
     }
 
     /// What went wrong, as a part of another sentence.
@@ -66,6 +77,7 @@ impl Failure {
         match self {
             Failure::ClosedPipe => 0,
             Failure::Usage(..) => NOT_UNDERSTOOD,
+            Failure::Written(..) => NOT_CONFIRMED,
             _ if asked_for_status => FAILED_ASKED_FOR_STATUS,
             _ => REFUSED,
         }
@@ -110,7 +122,12 @@ impl Failure {
                 fields.push(("file", name.trim_matches('\'').into()));
                 fields.push(("error", error.to_string().into()));
             }
-            other => fields.push(("error", other.message().into())),
+            other => {
+                if let Failure::Written(file, _) = other {
+                    fields.push(("written", file.into()));
+                }
+                fields.push(("error", other.message().into()));
+            }
         }
         fields
     }
@@ -118,9 +135,7 @@ impl Failure {
     fn message(&self) -> String {
         match self {
             Failure::Unwilling(message) => message.clone(),
-            Failure::Unsaid(file, error) => {
-                format!("{file} is written, but standard output, which was to say so, failed: {error}")
-            }
+            Failure::Written(file, failed) => format!("{file} is written, but {failed}"),
             Failure::Replay(step) => format!("the lists and the single rewrite part at step {step}"),
             _ => String::new(),
         }

@@ -14,7 +14,8 @@ pub const ABOUT: &str = "Router presets as words in Coxeter groups A, B and D. E
 pub const END: [&str; 2] = [
     "'winnathey SUBCOMMAND --help' says how to use it, with examples.",
     "A call that cannot be answered is refused with a number and its meaning on standard error. The exit status is 0 \
-     for an answer, 1 for a refusal or a file that cannot be read or written, 2 if the command was not understood.",
+     for an answer, 1 for a refusal or a file that cannot be read or written, 2 if the command was not understood, 4 \
+     if a file is written but something failed behind that.",
 ];
 
 /// Lines are no longer, however wide the terminal is.

@@ -14,8 +14,10 @@ pub struct Locked {
     name: PathBuf,
     /// The file that the name leads to: a link stays.
     target: PathBuf,
-    /// Held until this is dropped.
-    file: File,
+    /// Locked until this is dropped.
+    _file: File,
+    /// Opened before anything is written, so that nothing has to be opened behind the rename.
+    folder: File,
     old: Metadata,
     pub bytes: Vec<u8>,
 }
@@ -26,6 +28,7 @@ impl Locked {
     pub fn open(path: &Path) -> Result<Locked, Failure> {
         let failed = |error| Failure::file(path, error);
         let target = fs::canonicalize(path).map_err(failed)?;
+        let folder = folder_of(path, &target)?;
         loop {
             may_replace(path, &fs::metadata(&target).map_err(failed)?)?;
             let mut file = OpenOptions::new().read(true).write(true).open(&target).map_err(failed)?;
@@ -36,7 +39,7 @@ impl Locked {
             }
             may_replace(path, &old)?;
             let bytes = front(&mut file).map_err(failed)?;
-            return Ok(Locked { name: path.to_path_buf(), target, file, old, bytes });
+            return Ok(Locked { name: path.to_path_buf(), target, _file: file, folder, old, bytes });
         }
     }
 
@@ -64,7 +67,7 @@ impl Locked {
         }
         let file = placed?;
         point();
-        Ok(New { name: self.name.clone(), target: self.target.clone(), _file: file })
+        Ok(New { name: self.name, folder: self.folder, _file: file })
     }
 
     /// Looks whether the name still leads to the file with the bytes that were read.
@@ -145,7 +148,7 @@ impl Drop for Ready {
 /// A file that has taken another one's place.
 pub struct New {
     name: PathBuf,
-    target: PathBuf,
+    folder: File,
     /// Locked until this is dropped.
     _file: File,
 }
@@ -153,15 +156,9 @@ pub struct New {
 impl New {
     /// Brings the change of names to the disk; only then is it to be acknowledged.
     pub fn settle(self) -> Result<(), Failure> {
-        settled(&self.target).map_err(|error| Failure::file(&self.name, error))?;
+        self.folder.sync_all().map_err(|error| Failure::not_on_disk(&self.name, &error))?;
         point();
         Ok(())
-    }
-}
-
-impl Drop for Locked {
-    fn drop(&mut self) {
-        let _ = self.file.unlock();
     }
 }
 
@@ -215,10 +212,17 @@ fn hidden(target: &Path, ending: &str) -> PathBuf {
     target.with_file_name(name)
 }
 
-/// Brings a folder's change to the disk.
-fn settled(target: &Path) -> io::Result<()> {
+/// The folder of a file, opened: a change of names there can be brought to the disk.
+fn folder_of(name: &Path, target: &Path) -> Result<File, Failure> {
     let folder = target.parent().filter(|folder| !folder.as_os_str().is_empty()).unwrap_or(Path::new("."));
-    File::open(folder)?.sync_all()
+    File::open(folder).map_err(|error| match error.kind() {
+        ErrorKind::PermissionDenied => Failure::Unwilling(format!(
+            "'{}': its folder may not be read, so that nobody could tell whether a change is on the disk: nothing is \
+             written; chmod u+r for the folder allows it",
+            text::file(name)
+        )),
+        _ => Failure::file(name, error),
+    })
 }
 
 /// Writes a file that must not exist yet: beside its name first, so that it is whole when it gets the name.
@@ -226,6 +230,7 @@ pub fn place_new(path: &Path, bytes: &[u8]) -> Result<(), Failure> {
     if path.file_name().is_none() {
         return Err(Failure::file(path, io::Error::new(ErrorKind::InvalidInput, "this is no name for a file")));
     }
+    let folder = folder_of(path, path)?;
     let part = hidden(path, &format!("{}.part", std::process::id()));
     let placed = (|| {
         // Left by a run of the same number that was cut off.
@@ -237,13 +242,16 @@ pub fn place_new(path: &Path, bytes: &[u8]) -> Result<(), Failure> {
         point();
         named(&part, path)?;
         point();
-        settled(path)
+        Ok(())
     })();
     let _ = fs::remove_file(&part);
-    placed.map_err(|error| match error.kind() {
+    placed.map_err(|error: io::Error| match error.kind() {
         ErrorKind::AlreadyExists => Failure::Unwilling(format!("'{}' exists: nothing is written", text::file(path))),
         _ => Failure::file(path, error),
-    })
+    })?;
+    folder.sync_all().map_err(|error| Failure::not_on_disk(path, &error))?;
+    point();
+    Ok(())
 }
 
 /// Gives a finished file its name, unless another has it. Where the file system has no such rename, a second name does
