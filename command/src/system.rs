@@ -1,7 +1,9 @@
 //! What only the system can do: tell whether a stream was closed when the program began and how wide the terminal is,
-//! and give a file a name that no other has.
-use std::ffi::{CString, c_char, c_int, c_uint, c_ulong};
+//! give a file a name that no other has, read and write its extended attributes.
+use std::ffi::{CStr, CString, c_char, c_int, c_uint, c_ulong, c_void};
+use std::fs::File;
 use std::io;
+use std::os::fd::AsRawFd;
 use std::os::unix::ffi::OsStrExt;
 use std::path::Path;
 use std::sync::atomic::{AtomicU8, Ordering};
@@ -9,6 +11,10 @@ use std::sync::atomic::{AtomicU8, Ordering};
 unsafe extern "C" {
     fn fcntl(fd: c_int, command: c_int, ...) -> c_int;
     fn ioctl(fd: c_int, request: c_ulong, ...) -> c_int;
+    fn flistxattr(fd: c_int, list: *mut c_char, size: usize) -> isize;
+    fn fgetxattr(fd: c_int, name: *const c_char, value: *mut c_void, size: usize) -> isize;
+    fn fsetxattr(fd: c_int, name: *const c_char, value: *const c_void, size: usize, flags: c_int) -> c_int;
+    fn fremovexattr(fd: c_int, name: *const c_char) -> c_int;
     fn renameat2(folder: c_int, from: *const c_char, to_folder: c_int, to: *const c_char, flags: c_uint) -> c_int;
 }
 
@@ -16,6 +22,10 @@ const F_GETFD: c_int = 1;
 const TIOCGWINSZ: c_ulong = 0x5413;
 const AT_FDCWD: c_int = -100;
 const RENAME_NOREPLACE: c_uint = 1;
+/// A file has no such extended attribute.
+pub const ENODATA: i32 = 61;
+/// The most bytes of a list of extended attributes, or of one.
+const MOST_OF_ATTRIBUTES: usize = 65536;
 
 /// Bit k for the stream k, where it is open.
 static OPEN: AtomicU8 = AtomicU8::new(0);
@@ -54,5 +64,47 @@ pub fn rename_to_new(from: &Path, to: &Path) -> io::Result<()> {
     let to = CString::new(to.as_os_str().as_bytes())?;
     // SAFETY: both are strings with a zero at their end, which outlive the call.
     let answer = unsafe { renameat2(AT_FDCWD, from.as_ptr(), AT_FDCWD, to.as_ptr(), RENAME_NOREPLACE) };
+    done(answer)
+}
+
+/// The names of a file's extended attributes; none where its file system has no such thing.
+pub fn attributes(file: &File) -> io::Result<Vec<CString>> {
+    let mut list = vec![0u8; MOST_OF_ATTRIBUTES];
+    // SAFETY: the list is as long as the call is told.
+    let length = unsafe { flistxattr(file.as_raw_fd(), list.as_mut_ptr().cast(), list.len()) };
+    match sized(length, list) {
+        Ok(list) => {
+            let names = list.split_inclusive(|&byte| byte == 0);
+            Ok(names.filter_map(|name| CStr::from_bytes_with_nul(name).ok()).map(CString::from).collect())
+        }
+        Err(error) if error.kind() == io::ErrorKind::Unsupported => Ok(Vec::new()),
+        Err(error) => Err(error),
+    }
+}
+
+/// The value of an extended attribute.
+pub fn attribute(file: &File, name: &CStr) -> io::Result<Vec<u8>> {
+    let mut value = vec![0u8; MOST_OF_ATTRIBUTES];
+    // SAFETY: the name has a zero at its end, the value is as long as the call is told.
+    let length = unsafe { fgetxattr(file.as_raw_fd(), name.as_ptr(), value.as_mut_ptr().cast(), value.len()) };
+    sized(length, value)
+}
+
+fn sized(length: isize, mut bytes: Vec<u8>) -> io::Result<Vec<u8>> {
+    bytes.truncate(usize::try_from(length).map_err(|_| io::Error::last_os_error())?);
+    Ok(bytes)
+}
+
+pub fn set_attribute(file: &File, name: &CStr, value: &[u8]) -> io::Result<()> {
+    // SAFETY: the name has a zero at its end, the value is as long as the call is told.
+    done(unsafe { fsetxattr(file.as_raw_fd(), name.as_ptr(), value.as_ptr().cast(), value.len(), 0) })
+}
+
+pub fn remove_attribute(file: &File, name: &CStr) -> io::Result<()> {
+    // SAFETY: the name has a zero at its end.
+    done(unsafe { fremovexattr(file.as_raw_fd(), name.as_ptr()) })
+}
+
+fn done(answer: c_int) -> io::Result<()> {
     if answer == 0 { Ok(()) } else { Err(io::Error::last_os_error()) }
 }

@@ -1,12 +1,13 @@
 //! A file that is replaced: read and written under one lock, so that no change is lost; whole or not at all, so that
 //! whoever is cut off leaves the old file or the new one.
+use super::carried::Carried;
 use crate::failure::Failure;
 use crate::library::MAX_BOOK;
 use crate::{system, text};
 use std::ffi::OsString;
 use std::fs::{self, File, Metadata, OpenOptions};
 use std::io::{self, ErrorKind, Read, Write};
-use std::os::unix::fs::{MetadataExt, OpenOptionsExt, PermissionsExt, fchown};
+use std::os::unix::fs::{MetadataExt, OpenOptionsExt, PermissionsExt};
 use std::path::{Path, PathBuf};
 
 pub struct Locked {
@@ -15,10 +16,11 @@ pub struct Locked {
     /// The file that the name leads to: a link stays.
     target: PathBuf,
     /// Locked until this is dropped.
-    _file: File,
+    file: File,
     /// Opened before anything is written, so that nothing has to be opened behind the rename.
     folder: File,
     old: Metadata,
+    carried: Carried,
     pub bytes: Vec<u8>,
 }
 
@@ -38,8 +40,9 @@ impl Locked {
                 continue;
             }
             may_replace(path, &old)?;
+            let carried = Carried::of(&file).map_err(failed)?;
             let bytes = front(&mut file).map_err(failed)?;
-            return Ok(Locked { name: path.to_path_buf(), target, _file: file, folder, old, bytes });
+            return Ok(Locked { name: path.to_path_buf(), target, file, folder, old, carried, bytes });
         }
     }
 
@@ -53,7 +56,7 @@ impl Locked {
     pub fn replace_around(self, bytes: &[u8], before: impl FnOnce() -> Result<(), Failure>) -> Result<New, Failure> {
         let part = hidden(&self.target, "part");
         let failed = |error| Failure::file(&self.name, error);
-        let placed = written(&part, bytes, &self.old, &self.name).and_then(|new| {
+        let placed = written(&part, bytes, &self.carried, &self.name).and_then(|new| {
             new.lock().map_err(failed)?;
             point();
             self.unchanged()?;
@@ -77,7 +80,8 @@ impl Locked {
             let now = File::open(&self.target).and_then(|mut file| front(&mut file))?;
             Ok(now != self.bytes)
         };
-        if !now.is_some_and(|now| is_one(&self.old, &now) && now.len() == self.old.len()) || changed().unwrap_or(true) {
+        let is_same = |now: &Metadata| is_one(&self.old, now) && now.len() == self.old.len();
+        if !now.is_some_and(|now| is_same(&now)) || !self.carried.is_of(&self.file) || changed().unwrap_or(true) {
             let name = text::file(&self.name);
             return Err(Failure::Unwilling(format!("'{name}' changed meanwhile: nothing is written; try again")));
         }
@@ -85,8 +89,8 @@ impl Locked {
     }
 }
 
-/// A new file beside the old one, whole and on the disk, with the old one's mode and owner.
-fn written(part: &Path, bytes: &[u8], old: &Metadata, name: &Path) -> Result<File, Failure> {
+/// A new file beside the old one, whole and on the disk, with what is carried over of the old one.
+fn written(part: &Path, bytes: &[u8], old: &Carried, name: &Path) -> Result<File, Failure> {
     let failed = |error| Failure::file(name, error);
     // Left by a run that was cut off: under the lock nobody else writes it.
     let _ = fs::remove_file(part);
@@ -99,14 +103,7 @@ fn written(part: &Path, bytes: &[u8], old: &Metadata, name: &Path) -> Result<Fil
     point();
     file.write_all(rest).map_err(failed)?;
     point();
-    let new = file.metadata().map_err(failed)?;
-    if (new.uid(), new.gid()) != (old.uid(), old.gid()) {
-        fchown(&file, Some(old.uid()), Some(old.gid())).map_err(|_| {
-            let name = text::file(name);
-            Failure::Unwilling(format!("'{name}' is owned by another user, and ownership cannot be kept: use -o"))
-        })?;
-    }
-    file.set_permissions(old.permissions()).map_err(failed)?;
+    old.give(&file, name)?;
     point();
     file.sync_all().map_err(failed)?;
     point();
@@ -129,7 +126,9 @@ impl Ready {
         }
         may_replace(path, &old)?;
         let ready = Ready { path: path.to_path_buf(), part: hidden(path, "part") };
-        written(&ready.part, bytes, &old, path)?;
+        let carried =
+            File::open(path).and_then(|file| Carried::of(&file)).map_err(|error| Failure::file(path, error))?;
+        written(&ready.part, bytes, &carried, path)?;
         Ok(ready)
     }
 

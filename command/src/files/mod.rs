@@ -1,4 +1,5 @@
 //! Books, pictures and sheets on files.
+mod carried;
 mod locked;
 mod sort;
 
