@@ -41,6 +41,7 @@ use std::process::ExitCode;
 use table::Verdict;
 
 fn main() -> ExitCode {
+    system::handle_signals();
     let arguments: Vec<OsString> = std::env::args_os().skip(1).collect();
     let given =
         |option: &str| arguments.iter().take_while(|argument| *argument != "--").any(|argument| argument == option);

@@ -1,12 +1,14 @@
 //! What only the system can do: tell whether a stream was closed when the program began and how wide the terminal is,
-//! give a file a name that no other has, read and write its extended attributes.
+//! give a file a name that no other has, read and write its extended attributes, and tidy up where a signal ends the
+//! program.
 use std::ffi::{CStr, CString, c_char, c_int, c_uint, c_ulong, c_void};
 use std::fs::File;
 use std::io;
 use std::os::fd::AsRawFd;
 use std::os::unix::ffi::OsStrExt;
 use std::path::Path;
-use std::sync::atomic::{AtomicU8, Ordering};
+use std::ptr;
+use std::sync::atomic::{AtomicPtr, AtomicU8, Ordering};
 
 unsafe extern "C" {
     fn fcntl(fd: c_int, command: c_int, ...) -> c_int;
@@ -15,6 +17,11 @@ unsafe extern "C" {
     fn fgetxattr(fd: c_int, name: *const c_char, value: *mut c_void, size: usize) -> isize;
     fn fsetxattr(fd: c_int, name: *const c_char, value: *const c_void, size: usize, flags: c_int) -> c_int;
     fn fremovexattr(fd: c_int, name: *const c_char) -> c_int;
+    fn pthread_sigmask(how: c_int, set: *const Signals, old: *mut Signals) -> c_int;
+    fn raise(signal: c_int) -> c_int;
+    fn sigaddset(set: *mut Signals, signal: c_int) -> c_int;
+    fn signal(signal: c_int, handler: usize) -> usize;
+    fn unlink(path: *const c_char) -> c_int;
     fn renameat2(folder: c_int, from: *const c_char, to_folder: c_int, to: *const c_char, flags: c_uint) -> c_int;
 }
 
@@ -107,4 +114,95 @@ pub fn remove_attribute(file: &File, name: &CStr) -> io::Result<()> {
 
 fn done(answer: c_int) -> io::Result<()> {
     if answer == 0 { Ok(()) } else { Err(io::Error::last_os_error()) }
+}
+
+/// The type sigset_t of glibc and musl.
+#[repr(C)]
+struct Signals([c_ulong; 16]);
+
+const SIG_DFL: usize = 0;
+const SIG_IGN: usize = 1;
+const SIG_BLOCK: c_int = 0;
+const SIG_SETMASK: c_int = 2;
+const SIGXFSZ: c_int = 25;
+/// SIGHUP, SIGINT, SIGTERM: what ends a program that does nothing about it, and is sent to end it.
+const ENDING: [c_int; 3] = [1, 2, 15];
+
+/// The files that are removed where a signal ends the program; null where there is none.
+static UNFINISHED: [AtomicPtr<c_char>; 4] = [const { AtomicPtr::new(ptr::null_mut()) }; 4];
+
+/// From now on a signal that ends the program removes its unfinished files first, and a file that is longer than the
+/// user's limit is a write that fails. A signal that was ignored stays so.
+pub fn handle_signals() {
+    for number in ENDING {
+        handle(number, end_by as extern "C" fn(c_int) as usize);
+    }
+    // Not ignored: a program that this one starts has it as it was.
+    handle(SIGXFSZ, go_on as extern "C" fn(c_int) as usize);
+}
+
+fn handle(number: c_int, handler: usize) {
+    // SAFETY: the handlers have the type that the call expects, and do only what is allowed in one.
+    unsafe {
+        if signal(number, handler) == SIG_IGN {
+            signal(number, SIG_IGN);
+        }
+    }
+}
+
+extern "C" fn go_on(_: c_int) {}
+
+extern "C" fn end_by(number: c_int) {
+    for slot in &UNFINISHED {
+        let path = slot.swap(ptr::null_mut(), Ordering::SeqCst);
+        if !path.is_null() {
+            // SAFETY: a string with a zero at its end, which is never freed once it was put here.
+            unsafe { unlink(path) };
+        }
+    }
+    // SAFETY: both calls are allowed in a handler. The signal comes again at its end, and ends the program.
+    unsafe {
+        signal(number, SIG_DFL);
+        raise(number);
+    }
+}
+
+/// A file is removed by a signal until this is dropped.
+pub struct RemovedOnSignal(Option<usize>);
+
+/// Makes a file that is removed where a signal ends the program. None comes between the two.
+pub fn removed_on_signal(
+    path: CString,
+    make: impl FnOnce() -> io::Result<File>,
+) -> io::Result<(File, RemovedOnSignal)> {
+    let (mut ending, mut before) = (Signals([0; 16]), Signals([0; 16]));
+    // SAFETY: all zeros is the empty set; both sets outlive the calls.
+    unsafe {
+        for number in ENDING {
+            sigaddset(&mut ending, number);
+        }
+        pthread_sigmask(SIG_BLOCK, &ending, &mut before);
+    }
+    let made = make();
+    let slot = made.is_ok().then(|| take_slot(path)).flatten();
+    // SAFETY: the set is the one that the first call wrote.
+    unsafe { pthread_sigmask(SIG_SETMASK, &before, ptr::null_mut()) };
+    made.map(|file| (file, RemovedOnSignal(slot)))
+}
+
+fn take_slot(path: CString) -> Option<usize> {
+    let path = path.into_raw();
+    let free = |slot: &AtomicPtr<c_char>| {
+        slot.compare_exchange(ptr::null_mut(), path, Ordering::SeqCst, Ordering::SeqCst).is_ok()
+    };
+    UNFINISHED.iter().position(free)
+}
+
+impl Drop for RemovedOnSignal {
+    fn drop(&mut self) {
+        if let Some(slot) = self.0 {
+            // Not freed: a handler may be reading it.
+            UNFINISHED[slot].store(ptr::null_mut(), Ordering::SeqCst);
+        }
+    }
 }

@@ -89,6 +89,11 @@ pub fn file(path: &Path) -> String {
     plain(&path.to_string_lossy())
 }
 
+/// The folder of a file.
+pub fn folder(path: &Path) -> &Path {
+    path.parent().filter(|folder| !folder.as_os_str().is_empty()).unwrap_or(Path::new("."))
+}
+
 /// The text in lines of at most `width` characters, broken at spaces.
 pub fn wrapped(text: &str, width: usize) -> Vec<String> {
     let mut lines = vec![String::new()];

@@ -1,13 +1,13 @@
 //! A file that is replaced: read and written under one lock, so that no change is lost; whole or not at all, so that
 //! whoever is cut off leaves the old file or the new one.
 use super::carried::Carried;
+use super::part::{self, Part};
 use crate::failure::Failure;
 use crate::library::MAX_BOOK;
-use crate::{system, text};
-use std::ffi::OsString;
+use crate::text;
 use std::fs::{self, File, Metadata, OpenOptions};
 use std::io::{self, ErrorKind, Read, Write};
-use std::os::unix::fs::{MetadataExt, OpenOptionsExt, PermissionsExt};
+use std::os::unix::fs::{MetadataExt, PermissionsExt};
 use std::path::{Path, PathBuf};
 
 pub struct Locked {
@@ -31,6 +31,8 @@ impl Locked {
         let failed = |error| Failure::file(path, error);
         let target = fs::canonicalize(path).map_err(failed)?;
         let folder = folder_of(path, &target)?;
+        // A second name of the file may be among what a dead process left.
+        part::remove_stale(&target);
         loop {
             may_replace(path, &fs::metadata(&target).map_err(failed)?)?;
             let mut file = OpenOptions::new().read(true).write(true).open(&target).map_err(failed)?;
@@ -54,21 +56,10 @@ impl Locked {
     /// The same; when all is written and only the new name is missing, something else is done first. The new file was
     /// locked before it got the name: whoever comes next waits until it is dropped. A failure leaves the old file.
     pub fn replace_around(self, bytes: &[u8], before: impl FnOnce() -> Result<(), Failure>) -> Result<New, Failure> {
-        let part = hidden(&self.target, "part");
-        let failed = |error| Failure::file(&self.name, error);
-        let placed = written(&part, bytes, &self.carried, &self.name).and_then(|new| {
-            new.lock().map_err(failed)?;
-            point();
-            self.unchanged()?;
-            before()?;
-            fs::rename(&part, &self.target).map_err(failed)?;
-            Ok(new)
-        });
-        if placed.is_err() {
-            // The first error is the one to tell.
-            let _ = fs::remove_file(&part);
-        }
-        let file = placed?;
+        let part = written(&self.target, bytes, &self.carried, &self.name)?;
+        self.unchanged()?;
+        before()?;
+        let file = part.replace(&self.target).map_err(|error| Failure::file(&self.name, error))?;
         point();
         Ok(New { name: self.name, folder: self.folder, _file: file })
     }
@@ -90,57 +81,48 @@ impl Locked {
 }
 
 /// A new file beside the old one, whole and on the disk, with what is carried over of the old one.
-fn written(part: &Path, bytes: &[u8], old: &Carried, name: &Path) -> Result<File, Failure> {
+fn written(target: &Path, bytes: &[u8], old: &Carried, name: &Path) -> Result<Part, Failure> {
     let failed = |error| Failure::file(name, error);
-    // Left by a run that was cut off: under the lock nobody else writes it.
-    let _ = fs::remove_file(part);
-    point();
     // Nobody else reads it before it has the old one's mode.
-    let mut file = OpenOptions::new().write(true).create_new(true).mode(0o600).open(part).map_err(failed)?;
+    let part = Part::beside(target, 0o600).map_err(failed)?;
+    let mut file = &part.file;
     point();
     let (front, rest) = bytes.split_at(bytes.len() / 2);
     file.write_all(front).map_err(failed)?;
     point();
     file.write_all(rest).map_err(failed)?;
     point();
-    old.give(&file, name)?;
+    old.give(file, name)?;
     point();
     file.sync_all().map_err(failed)?;
     point();
-    Ok(file)
+    Ok(part)
 }
 
 /// A file beside the one whose place it takes later, under the lock of the book that both belong to.
 pub struct Ready {
     path: PathBuf,
-    part: PathBuf,
+    part: Part,
 }
 
 impl Ready {
     /// A link stays, and so does what its owner protected.
     pub fn beside(path: &Path, bytes: &[u8]) -> Result<Ready, Failure> {
-        let old = fs::symlink_metadata(path).map_err(|error| Failure::file(path, error))?;
+        let failed = |error| Failure::file(path, error);
+        let old = fs::symlink_metadata(path).map_err(failed)?;
         if old.is_symlink() {
             let name = text::file(path);
             return Err(Failure::Unwilling(format!("'{name}' is a link, which a new file would not be: use -o")));
         }
         may_replace(path, &old)?;
-        let ready = Ready { path: path.to_path_buf(), part: hidden(path, "part") };
-        let carried =
-            File::open(path).and_then(|file| Carried::of(&file)).map_err(|error| Failure::file(path, error))?;
-        written(&ready.part, bytes, &carried, path)?;
-        Ok(ready)
+        let carried = File::open(path).and_then(|file| Carried::of(&file)).map_err(failed)?;
+        Ok(Ready { path: path.to_path_buf(), part: written(path, bytes, &carried, path)? })
     }
 
     /// Gives it the name, which nobody has any more.
     pub fn place(self) -> Result<(), Failure> {
-        named(&self.part, &self.path).map_err(|error| Failure::file(&self.path, error))
-    }
-}
-
-impl Drop for Ready {
-    fn drop(&mut self) {
-        let _ = fs::remove_file(&self.part);
+        self.part.name(&self.path).map_err(|error| Failure::file(&self.path, error))?;
+        Ok(())
     }
 }
 
@@ -203,18 +185,9 @@ fn may_replace(path: &Path, old: &Metadata) -> Result<(), Failure> {
     Err(Failure::Unwilling(unwilling))
 }
 
-/// A hidden name beside a file.
-fn hidden(target: &Path, ending: &str) -> PathBuf {
-    let mut name = OsString::from(".");
-    name.push(target.file_name().unwrap_or_default());
-    name.push(format!(".{ending}"));
-    target.with_file_name(name)
-}
-
 /// The folder of a file, opened: a change of names there can be brought to the disk.
 fn folder_of(name: &Path, target: &Path) -> Result<File, Failure> {
-    let folder = target.parent().filter(|folder| !folder.as_os_str().is_empty()).unwrap_or(Path::new("."));
-    File::open(folder).map_err(|error| match error.kind() {
+    File::open(text::folder(target)).map_err(|error| match error.kind() {
         ErrorKind::PermissionDenied => Failure::Unwilling(format!(
             "'{}': its folder may not be read, so that nobody could tell whether a change is on the disk: nothing is \
              written; chmod u+r for the folder allows it",
@@ -230,45 +203,29 @@ pub fn place_new(path: &Path, bytes: &[u8]) -> Result<(), Failure> {
         return Err(Failure::file(path, io::Error::new(ErrorKind::InvalidInput, "this is no name for a file")));
     }
     let folder = folder_of(path, path)?;
-    let part = hidden(path, &format!("{}.part", std::process::id()));
-    let placed = (|| {
-        // Left by a run of the same number that was cut off.
-        let _ = fs::remove_file(&part);
-        let mut file = OpenOptions::new().write(true).create_new(true).open(&part)?;
+    let placed = || -> io::Result<File> {
+        // With the mode that a new file gets.
+        let part = Part::beside(path, 0o666)?;
+        (&part.file).write_all(bytes)?;
+        part.file.sync_all()?;
         point();
-        file.write_all(bytes)?;
-        file.sync_all()?;
-        point();
-        named(&part, path)?;
-        point();
-        Ok(())
-    })();
-    let _ = fs::remove_file(&part);
-    placed.map_err(|error: io::Error| match error.kind() {
+        part.name(path)
+    };
+    let _file = placed().map_err(|error| match error.kind() {
         ErrorKind::AlreadyExists => Failure::Unwilling(format!("'{}' exists: nothing is written", text::file(path))),
         _ => Failure::file(path, error),
     })?;
+    point();
     folder.sync_all().map_err(|error| Failure::not_on_disk(path, &error))?;
     point();
     Ok(())
 }
 
-/// Gives a finished file its name, unless another has it. Where the file system has no such rename, a second name does
-/// it: cut off before the first is gone, the file has two.
-fn named(part: &Path, path: &Path) -> io::Result<()> {
-    match system::rename_to_new(part, path) {
-        Err(error) if matches!(error.kind(), ErrorKind::InvalidInput | ErrorKind::Unsupported) => {
-            fs::hard_link(part, path)
-        }
-        done => done,
-    }
-}
-
 #[cfg(not(test))]
-fn point() {}
+pub fn point() {}
 
 #[cfg(test)]
-use tests::point;
+pub use tests::point;
 
 #[cfg(test)]
 mod tests {

@@ -1,6 +1,7 @@
 //! Books, pictures and sheets on files.
 mod carried;
 mod locked;
+mod part;
 mod sort;
 
 pub use locked::{Locked, Ready, place_new, read_together};
