@@ -43,7 +43,8 @@ pub fn book(args: &Args, path: &Path, out: &mut Out) -> Result<(Book, Names), Fa
     }
     files::read_together(path, || {
         let book = Book::new(edition, files::read_book(path)?, path);
-        Ok((book, names::of_book(path, out)))
+        let names = names::of_book(path, &book, out);
+        Ok((book, names))
     })
 }
 

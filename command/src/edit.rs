@@ -5,10 +5,11 @@ use crate::failure::Failure;
 use crate::files::{self, Locked, Ready, Sort};
 use crate::json::Value;
 use crate::library::{self, Edition, MAX_BOOK};
-use crate::names::{self, Names};
+use crate::names;
 use crate::out::Out;
+use crate::parked::{self, Parked, Renumbering};
 use crate::table::Verdict;
-use crate::text;
+use crate::{system, text};
 use std::fs;
 use std::io::{ErrorKind, Write};
 use std::path::{Path, PathBuf};
@@ -35,13 +36,11 @@ pub struct Edit {
 pub struct Change {
     pub bytes: Vec<u8>,
     pub edition: Edition,
-    pub numbers: Option<Renumbering>,
+    pub numbers: Renumbering,
     /// What the change was, in a line and for JSON.
     pub told: String,
     pub fields: Vec<(&'static str, Value)>,
 }
-
-pub type Renumbering = Box<dyn Fn(usize) -> Option<usize>>;
 
 impl Edit {
     /// By the operand BOOK and the options. Nothing is read or written yet.
@@ -88,6 +87,7 @@ impl Edit {
         let (change, file) = match &self.to {
             To::InPlace => {
                 let mut locked = Locked::open(&self.from).map_err(|failure| self.missing(failure))?;
+                self.settled(&locked, out)?;
                 let book = open(std::mem::take(&mut locked.bytes));
                 let change = self.changed(&book, change, out)?;
                 locked.bytes = book.bytes;
@@ -143,11 +143,21 @@ impl Edit {
         change(book)
     }
 
-    /// Names whose presets get other numbers are put aside first, so that they never stand beside a book that they do
+    /// Names that a change left that was cut off fit again, before anything is changed.
+    fn settled(&self, locked: &Locked, out: &mut Out) -> Result<(), Failure> {
+        if let Some(told) = parked::settle(&self.from, &locked.bytes)? {
+            out.warn(told);
+        }
+        Ok(())
+    }
+
+    /// Names whose presets get other numbers are parked first, so that they never stand beside a book that they do
     /// not fit.
     fn replaced(&self, locked: Locked, change: &Change) -> Result<(), Failure> {
-        let Some(numbers) = &change.numbers else { return locked.replace(&change.bytes) };
         let (beside, aside) = (names::beside(&self.from), names::aside(&self.from));
+        if change.numbers == Renumbering::Kept {
+            return locked.replace(&change.bytes);
+        }
         if fs::symlink_metadata(&aside).is_ok() {
             let name = text::file(&aside);
             return Err(Failure::Unwilling(format!(
@@ -155,19 +165,23 @@ impl Edit {
                  rename or remove it first"
             )));
         }
-        let Some(names) = names_with_numbers(&beside)? else { return locked.replace(&change.bytes) };
-        let ready = Ready::beside(&beside, &names.renumbered(numbers).written())?;
-        let replaced = locked.replace_around(&change.bytes, || put_aside(&beside, &aside, &names));
-        if replaced.is_err() && fs::symlink_metadata(&beside).is_err() {
-            let _ = fs::rename(&aside, &beside);
-        }
+        let Some(old) = names_with_numbers(&beside)? else { return locked.replace(&change.bytes) };
+        let before = locked.bytes.clone();
+        let count = library::book_check(self.edition, &before)?;
+        let parked = Parked::new(&before, &change.bytes, count, change.numbers, old.clone());
+        let after = parked.after().map_err(|(_, problem)| Failure::Unwilling(problem))?;
+        let ready = Ready::beside(&beside, &after)?;
+        let parking = Ready::like(&aside, &parked.written(), &beside)?;
+        let park = || parking.place().and_then(|()| system::undisturbed(|| files::take_away(&beside, &old)));
+        // The first failure is the one to tell; where this one fails too the next change tries again.
+        let undo = || drop(parked::settle(&self.from, &before));
         // Held until the names are there: nobody reads or changes the new book without them.
-        let new = replaced?;
+        let new = locked.replace_around(&change.bytes, park, undo)?;
         // The book is written, so that what fails now is no failure of the change.
         let removed = || fs::remove_file(&aside).map_err(|error| Failure::file(&aside, error));
         if let Err(failure) = ready.place().and_then(|()| removed()) {
             let (aside, told) = (text::file(&aside), failure.in_a_line());
-            let failed = format!("its names are in '{aside}' with the old numbers: {told}");
+            let failed = format!("its names are in '{aside}', and the next change puts them back: {told}");
             return Err(Failure::Written(text::file(&self.from), failed));
         }
         new.settle()
@@ -175,24 +189,16 @@ impl Edit {
 }
 
 /// The names beside a book, if there are any that depend on its presets' numbers.
-fn names_with_numbers(beside: &Path) -> Result<Option<Names>, Failure> {
+fn names_with_numbers(beside: &Path) -> Result<Option<Vec<u8>>, Failure> {
     if fs::metadata(beside).is_err_and(|error| error.kind() == ErrorKind::NotFound) {
         return Ok(None);
     }
-    let names = names::read(beside).map_err(|failure| {
+    let read = names::bytes_of(beside).and_then(|bytes| Ok((names::parsed_file(beside, &bytes)?, bytes)));
+    let (names, bytes) = read.map_err(|failure| {
         let told = failure.in_a_line();
         Failure::Unwilling(format!("the presets' numbers change, and their names cannot be read: {told}"))
     })?;
-    Ok(names.any_preset().then_some(names))
-}
-
-/// Puts the names aside, unless somebody changed them after they were read.
-fn put_aside(beside: &Path, aside: &Path, read: &Names) -> Result<(), Failure> {
-    fs::rename(beside, aside).map_err(|error| Failure::file(beside, error))?;
-    if names::read(aside).is_ok_and(|now| now == *read) {
-        return Ok(());
-    }
-    Err(Failure::Unwilling(format!("'{}' changed meanwhile: nothing is written; try again", text::file(beside))))
+    Ok(names.any_preset().then_some(bytes))
 }
 
 /// Says what was written; only now is it acknowledged.

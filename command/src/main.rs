@@ -19,6 +19,7 @@ mod manual;
 mod names;
 mod numbers;
 mod out;
+mod parked;
 mod pictures;
 mod progress;
 mod sha256;

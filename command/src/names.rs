@@ -1,8 +1,9 @@
 //! The names beside a book: of the sources and screens of its rig and of its presets. Lines such as `source 1 rear
 //! view`, `screen 3 windscreen`, `preset 0 Motorway`, and comments behind `#`.
+use crate::books::Book;
 use crate::failure::Failure;
 use crate::out::Out;
-use crate::text;
+use crate::{parked, text};
 use std::collections::HashSet;
 use std::ffi::OsString;
 use std::fs::{self, File};
@@ -31,6 +32,8 @@ pub struct Names {
 }
 
 const MOST_BYTES: u64 = 1 << 20;
+/// More than the line in front of parked names.
+const LINE: u64 = 1 << 10;
 const MOST_CHARACTERS: usize = 80;
 const BLANKS: [char; 2] = [' ', '\t'];
 
@@ -171,32 +174,57 @@ fn with(book: &Path, ending: &str) -> PathBuf {
 
 /// A file of names that was asked for.
 pub fn read(path: &Path) -> Result<Names, Failure> {
+    parsed_file(path, &bytes_of(path)?)
+}
+
+/// The bytes of a file of names, or that it is too long. The parked names have a line more.
+pub fn bytes_of(path: &Path) -> Result<Vec<u8>, Failure> {
     let mut bytes = Vec::new();
-    let read = File::open(path).and_then(|file| file.take(MOST_BYTES + 1).read_to_end(&mut bytes));
+    let read = File::open(path).and_then(|file| file.take(MOST_BYTES + LINE).read_to_end(&mut bytes));
     read.map_err(|error| Failure::file(path, error))?;
-    if bytes.len() as u64 > MOST_BYTES {
-        return Err(Failure::Unwilling(format!("'{}' has more than 1 MiB", text::file(path))));
+    if bytes.len() as u64 >= MOST_BYTES + LINE {
+        return Err(too_long(path));
     }
-    Names::parse(&bytes)
+    Ok(bytes)
+}
+
+fn too_long(path: &Path) -> Failure {
+    Failure::Unwilling(format!("'{}' has more than 1 MiB", text::file(path)))
+}
+
+pub fn parsed_file(path: &Path, bytes: &[u8]) -> Result<Names, Failure> {
+    if bytes.len() as u64 > MOST_BYTES {
+        return Err(too_long(path));
+    }
+    Names::parse(bytes)
         .map_err(|(line, problem)| Failure::Unwilling(format!("'{}', line {line}: {problem}", text::file(path))))
 }
 
 /// The names beside a book, none where there is no such file. Where it is wrong that is said, and no name is used.
-pub fn of_book(book: &Path, out: &mut Out) -> Names {
-    let path = beside(book);
-    match fs::metadata(&path) {
-        Err(error) if error.kind() == ErrorKind::NotFound => {
-            if fs::metadata(aside(book)).is_ok() {
-                let name = text::file(&aside(book));
-                out.warn(format!("'{name}' was left by a change that was cut off: its names may not fit the book"));
-            }
-            Names::default()
-        }
-        _ => read(&path).unwrap_or_else(|failure| {
-            out.warn(format!("no names: {}", failure.in_a_line()));
-            Names::default()
-        }),
+pub fn of_book(path: &Path, book: &Book, out: &mut Out) -> Names {
+    let file = beside(path);
+    let read = match fs::metadata(&file) {
+        Err(error) if error.kind() == ErrorKind::NotFound => Ok(cut_off(path, &book.bytes, out)),
+        _ => read(&file),
+    };
+    read.unwrap_or_else(|failure| {
+        out.warn(format!("no names: {}", failure.in_a_line()));
+        Names::default()
+    })
+}
+
+/// The names that a change left that was cut off, if the book tells which fit it.
+fn cut_off(path: &Path, book: &[u8], out: &mut Out) -> Names {
+    let aside = aside(path);
+    let name = text::file(&aside);
+    if let Some((names, _)) = parked::beside(path).and_then(|parked| parked.fitting(book)) {
+        out.warn(format!("a change was cut off: these names are out of '{name}', and the next change puts them back"));
+        return Names::parse(&names).unwrap_or_default();
     }
+    if fs::metadata(&aside).is_ok() {
+        out.warn(format!("'{name}' was left by a change that was cut off: its names may not fit the book"));
+    }
+    Names::default()
 }
 
 #[cfg(test)]

@@ -175,6 +175,14 @@ pub fn removed_on_signal(
     path: CString,
     make: impl FnOnce() -> io::Result<File>,
 ) -> io::Result<(File, RemovedOnSignal)> {
+    undisturbed(|| {
+        let file = make()?;
+        Ok((file, RemovedOnSignal(take_slot(path))))
+    })
+}
+
+/// Does something short; a signal that would end the program comes behind it.
+pub fn undisturbed<T>(work: impl FnOnce() -> T) -> T {
     let (mut ending, mut before) = (Signals([0; 16]), Signals([0; 16]));
     // SAFETY: all zeros is the empty set; both sets outlive the calls.
     unsafe {
@@ -183,11 +191,10 @@ pub fn removed_on_signal(
         }
         pthread_sigmask(SIG_BLOCK, &ending, &mut before);
     }
-    let made = make();
-    let slot = made.is_ok().then(|| take_slot(path)).flatten();
+    let done = work();
     // SAFETY: the set is the one that the first call wrote.
     unsafe { pthread_sigmask(SIG_SETMASK, &before, ptr::null_mut()) };
-    made.map(|file| (file, RemovedOnSignal(slot)))
+    done
 }
 
 fn take_slot(path: CString) -> Option<usize> {

@@ -4,7 +4,7 @@ use super::carried::Carried;
 use super::part::{self, Part};
 use crate::failure::Failure;
 use crate::library::MAX_BOOK;
-use crate::text;
+use crate::{system, text};
 use std::fs::{self, File, Metadata, OpenOptions};
 use std::io::{self, ErrorKind, Read, Write};
 use std::os::unix::fs::{MetadataExt, PermissionsExt};
@@ -50,16 +50,22 @@ impl Locked {
 
     /// Puts other bytes in the file's place, unless somebody changed it who knows nothing of the lock.
     pub fn replace(self, bytes: &[u8]) -> Result<(), Failure> {
-        self.replace_around(bytes, || Ok(()))?.settle()
+        self.replace_around(bytes, || Ok(()), || ())?.settle()
     }
 
-    /// The same; when all is written and only the new name is missing, something else is done first. The new file was
-    /// locked before it got the name: whoever comes next waits until it is dropped. A failure leaves the old file.
-    pub fn replace_around(self, bytes: &[u8], before: impl FnOnce() -> Result<(), Failure>) -> Result<New, Failure> {
+    /// The same; when all is written and only the new name is missing, something else is done first, and undone where
+    /// that fails. The new file was locked before it got the name: whoever comes next waits until it is dropped. A
+    /// failure leaves the old file.
+    pub fn replace_around(
+        self,
+        bytes: &[u8],
+        before: impl FnOnce() -> Result<(), Failure>,
+        undo: impl FnOnce(),
+    ) -> Result<New, Failure> {
         let part = written(&self.target, bytes, &self.carried, &self.name)?;
-        self.unchanged()?;
-        before()?;
-        let file = part.replace(&self.target).map_err(|error| Failure::file(&self.name, error))?;
+        let failed = |error| Failure::file(&self.name, error);
+        let placed = self.unchanged().and_then(|()| before()).and_then(|()| part.replace(&self.target).map_err(failed));
+        let file = placed.inspect_err(|_| undo())?;
         point();
         Ok(New { name: self.name, folder: self.folder, _file: file })
     }
@@ -73,8 +79,7 @@ impl Locked {
         };
         let is_same = |now: &Metadata| is_one(&self.old, now) && now.len() == self.old.len();
         if !now.is_some_and(|now| is_same(&now)) || !self.carried.is_of(&self.file) || changed().unwrap_or(true) {
-            let name = text::file(&self.name);
-            return Err(Failure::Unwilling(format!("'{name}' changed meanwhile: nothing is written; try again")));
+            return Err(changed_meanwhile(&self.name));
         }
         Ok(())
     }
@@ -115,15 +120,49 @@ impl Ready {
             return Err(Failure::Unwilling(format!("'{name}' is a link, which a new file would not be: use -o")));
         }
         may_replace(path, &old)?;
-        let carried = File::open(path).and_then(|file| Carried::of(&file)).map_err(failed)?;
+        Ready::like(path, bytes, path)
+    }
+
+    /// With what is carried over of another file.
+    pub fn like(path: &Path, bytes: &[u8], old: &Path) -> Result<Ready, Failure> {
+        let carried = File::open(old).and_then(|file| Carried::of(&file)).map_err(|error| Failure::file(old, error))?;
         Ok(Ready { path: path.to_path_buf(), part: written(path, bytes, &carried, path)? })
     }
 
-    /// Gives it the name, which nobody has any more.
+    /// Gives it the name, which nobody has.
     pub fn place(self) -> Result<(), Failure> {
         self.part.name(&self.path).map_err(|error| Failure::file(&self.path, error))?;
+        point();
         Ok(())
     }
+}
+
+/// Removes a file with these bytes, which are kept elsewhere. It goes by another name first, so that one that somebody
+/// changes at this moment comes back.
+pub fn take_away(path: &Path, bytes: &[u8]) -> Result<(), Failure> {
+    let failed = |error| Failure::file(path, error);
+    let away = path.with_file_name(part::new_name());
+    let mut file = File::open(path).map_err(failed)?;
+    // Until it is looked at, it is no dead one's.
+    file.lock().map_err(failed)?;
+    fs::rename(path, &away).map_err(failed)?;
+    point();
+    if !part::leads_to(&away, &file) || !has(&mut file, bytes) {
+        system::rename_to_new(&away, path).map_err(failed)?;
+        return Err(changed_meanwhile(path));
+    }
+    fs::remove_file(&away).map_err(failed)?;
+    point();
+    Ok(())
+}
+
+fn changed_meanwhile(path: &Path) -> Failure {
+    Failure::Unwilling(format!("'{}' changed meanwhile: nothing is written; try again", text::file(path)))
+}
+
+/// Brings a change of names in a file's folder to the disk.
+pub fn settled(path: &Path) -> Result<(), Failure> {
+    folder_of(path, path)?.sync_all().map_err(|error| Failure::not_on_disk(path, &error))
 }
 
 /// A file that has taken another one's place.
@@ -168,6 +207,12 @@ fn front(file: &mut File) -> io::Result<Vec<u8>> {
     let mut bytes = Vec::new();
     file.take(MAX_BOOK as u64 + 1).read_to_end(&mut bytes)?;
     Ok(bytes)
+}
+
+/// Whether these are all the bytes of a file.
+fn has(file: &mut File, bytes: &[u8]) -> bool {
+    let mut now = Vec::new();
+    file.take(bytes.len() as u64 + 1).read_to_end(&mut now).is_ok() && now == bytes
 }
 
 /// What the owner protected stays, and so do several names of one file, which a new file would part.

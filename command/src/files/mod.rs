@@ -4,7 +4,7 @@ mod locked;
 mod part;
 mod sort;
 
-pub use locked::{Locked, Ready, place_new, read_together};
+pub use locked::{Locked, Ready, place_new, read_together, settled, take_away};
 pub use sort::Sort;
 
 use crate::failure::Failure;

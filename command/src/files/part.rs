@@ -86,7 +86,7 @@ impl Drop for Unfinished {
 }
 
 /// A name that no other unfinished file has: a number, and its hash.
-fn new_name() -> String {
+pub fn new_name() -> String {
     static MADE: AtomicU64 = AtomicU64::new(0);
     let now = SystemTime::now().duration_since(UNIX_EPOCH).map_or(0, |since| since.as_nanos());
     let seed = format!("{} {} {now}", std::process::id(), MADE.fetch_add(1, Ordering::Relaxed));
@@ -117,7 +117,7 @@ pub fn remove_stale(target: &Path) {
     }
 }
 
-fn leads_to(path: &Path, file: &File) -> bool {
+pub fn leads_to(path: &Path, file: &File) -> bool {
     let place = |metadata: fs::Metadata| (metadata.dev(), metadata.ino());
     fs::symlink_metadata(path).map(place).ok().is_some_and(|found| file.metadata().map(place).ok() == Some(found))
 }

@@ -6,6 +6,7 @@ use crate::edit::{Change, Edit};
 use crate::failure::Failure;
 use crate::library::{self, MAX_BOOK, Refusal};
 use crate::out::Out;
+use crate::parked::Renumbering;
 use crate::table::{self, Subcommand, Verdict};
 use crate::text;
 use crate::typed::Asked;
@@ -53,7 +54,7 @@ fn run(mut args: Args, out: &mut Out) -> Result<Verdict, Failure> {
         let told = format!("appended as preset {number}: {}", asked.heading());
         let mut fields = asked.fields();
         fields.push(("number", number.into()));
-        Ok(Change { bytes, edition: book.edition, numbers: None, told, fields })
+        Ok(Change { bytes, edition: book.edition, numbers: Renumbering::Kept, told, fields })
     };
     edit.run("append", change, out)
 }

@@ -5,6 +5,7 @@ use crate::edit::{Change, Edit};
 use crate::failure::Failure;
 use crate::library::{self, MAX_BOOK, Refusal};
 use crate::out::Out;
+use crate::parked::Renumbering;
 use crate::table::{self, Subcommand, Verdict};
 use crate::text;
 
@@ -38,7 +39,7 @@ fn run(mut args: Args, out: &mut Out) -> Result<Verdict, Failure> {
         let bytes = library::convert(book.edition, &book.bytes, edit.room).map_err(|refusal| refused(book, refusal))?;
         let other = books::other(book.edition);
         let told = format!("converted from the {} edition to the {}", books::name(book.edition), books::name(other));
-        Ok(Change { bytes, edition: other, numbers: None, told, fields: Vec::new() })
+        Ok(Change { bytes, edition: other, numbers: Renumbering::Kept, told, fields: Vec::new() })
     };
     edit.run("convert", change, out)
 }

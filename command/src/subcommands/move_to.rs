@@ -6,6 +6,7 @@ use crate::edit::{Change, Edit};
 use crate::failure::Failure;
 use crate::library;
 use crate::out::Out;
+use crate::parked::Renumbering;
 use crate::table::{self, Completes, Operand, Subcommand, Verdict};
 
 const TO: Operand =
@@ -36,37 +37,7 @@ fn run(mut args: Args, out: &mut Out) -> Result<Verdict, Failure> {
         remove::described(book, to)?;
         let bytes = library::move_to(book.edition, &book.bytes, from, to)?;
         let fields = vec![("from", from.into()), ("to", to.into())];
-        let numbers = Box::new(move |old| Some(renumbered(old, from, to)));
-        Ok(Change { bytes, edition: book.edition, numbers: Some(numbers), told, fields })
+        Ok(Change { bytes, edition: book.edition, numbers: Renumbering::Moved(from, to), told, fields })
     };
     edit.run("move", change, out)
-}
-
-/// The number that a preset has when another was moved.
-fn renumbered(old: usize, from: usize, to: usize) -> usize {
-    match old {
-        old if old == from => to,
-        old if from < old && old <= to => old - 1,
-        old if to <= old && old < from => old + 1,
-        old => old,
-    }
-}
-
-#[cfg(test)]
-mod tests {
-    use super::*;
-
-    #[test]
-    fn numbers_follow_the_presets() {
-        for from in 0..5 {
-            for to in 0..5 {
-                let mut presets: Vec<usize> = (0..5).collect();
-                let moved = presets.remove(from);
-                presets.insert(to, moved);
-                for old in 0..5 {
-                    assert_eq!(presets[renumbered(old, from, to)], old, "{from} to {to}");
-                }
-            }
-        }
-    }
 }

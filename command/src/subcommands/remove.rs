@@ -5,6 +5,7 @@ use crate::edit::{Change, Edit};
 use crate::failure::Failure;
 use crate::library::{self, Preset};
 use crate::out::Out;
+use crate::parked::Renumbering;
 use crate::table::{self, Subcommand, Verdict};
 use crate::text;
 
@@ -31,18 +32,8 @@ fn run(mut args: Args, out: &mut Out) -> Result<Verdict, Failure> {
     let change = |book: &Book| {
         let told = format!("took out preset {number}: {}", described(book, number)?);
         let bytes = library::remove(book.edition, &book.bytes, number)?;
-        let numbers = Box::new(move |old: usize| match old {
-            old if old == number => None,
-            old if old > number => Some(old - 1),
-            old => Some(old),
-        });
-        Ok(Change {
-            bytes,
-            edition: book.edition,
-            numbers: Some(numbers),
-            told,
-            fields: vec![("removed", number.into())],
-        })
+        let fields = vec![("removed", number.into())];
+        Ok(Change { bytes, edition: book.edition, numbers: Renumbering::Removed(number), told, fields })
     };
     edit.run("remove", change, out)
 }

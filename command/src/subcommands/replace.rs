@@ -7,6 +7,7 @@ use crate::edit::{Change, Edit};
 use crate::failure::Failure;
 use crate::library;
 use crate::out::Out;
+use crate::parked::Renumbering;
 use crate::table::{self, Subcommand, Verdict};
 
 pub const SUBCOMMAND: Subcommand = Subcommand {
@@ -49,7 +50,7 @@ fn run(mut args: Args, out: &mut Out) -> Result<Verdict, Failure> {
         let bytes = library::replace(book.edition, &book.bytes, number, asked.rig(), asked.letters())?;
         let mut fields = asked.fields();
         fields.push(("number", number.into()));
-        Ok(Change { bytes, edition: book.edition, numbers: None, told, fields })
+        Ok(Change { bytes, edition: book.edition, numbers: Renumbering::Kept, told, fields })
     };
     edit.run("replace", change, out)
 }
