@@ -67,7 +67,7 @@ export class BookPanel {
             make('input', { type: 'radio', name: 'edition', value, onchange: () => this.#edition(value) }), editionName(value));
         root.append(
             make('div', { class: 'bar' },
-                button('Open a file', () => byId('file').click()), button('New book', () => app.openBook({ ...NEW_BOOK }, null)),
+                button('Open a file', () => byId('file').click()), button('New book', () => app.openBook(NEW_BOOK, null)),
                 make('label', { class: 'field' }, make('span', {}, 'File name'), this.name),
                 make('fieldset', { class: 'inline', id: 'edition' }, make('legend', {}, 'Edition'), edition(1), edition(2))),
             make('p', { class: 'quiet' }, 'A book, or a book and its .names file, can also be dropped anywhere on this page.'),

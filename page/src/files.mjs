@@ -17,13 +17,13 @@ async function bytesOf(file, most) {
  * several books, or where a file cannot be read, as a folder cannot, nothing is opened.
  */
 export async function readFiles(files) {
-    const none = wrong => ({ book: null, names: null, wrong });
+    const none = wrong => ({ book: null, names: null, namesFile: null, wrong });
     const read = none(null);
     const books = files.filter(file => !isNamesFile(file.name));
     if (books.length > 1) return none(`These are ${books.length} books. One can be open at a time: open them one by one.`);
     for (const file of files) {
         try {
-            if (isNamesFile(file.name)) read.names = readNames(await bytesOf(file, 1048577));
+            if (isNamesFile(file.name)) [read.names, read.namesFile] = [readNames(await bytesOf(file, 1048577)), file.name];
             else read.book = { name: file.name, bytes: await bytesOf(file, MOST_READ) };
         } catch (error) {
             if (!(error instanceof WrongNames)) return none(`${file.name} cannot be read. Is it a file?`);

@@ -7,8 +7,8 @@ import { button, byId, keepFocus, make, setText } from './dom.mjs';
 import { readFiles, saveFile, takeFiles } from './files.mjs';
 import { grabSource } from './grabbing.mjs';
 import { callsOf } from './library.mjs';
-import { remember, remembered, rememberedNames, rigNames } from './memory.mjs';
-import { writeNames } from './names.mjs';
+import { remember, remembered, rememberedNames } from './memory.mjs';
+import { NO_NAMES, rigNames, withRigNamesOf, writeNames } from './names.mjs';
 import { ModulesPanel } from './modules.mjs';
 import { OtherTabs } from './others.mjs';
 import { Picture } from './picture.mjs';
@@ -232,12 +232,13 @@ class App {
     }
 
     async #opened(files) {
-        const { book, names, wrong } = await readFiles(files);
+        const { book, names, namesFile, wrong } = await readFiles(files);
         this.notice(wrong ?? '');
         if (book) this.openBook(book, names, wrong);
         else if (names) {
             this.#savedNames = names;
             this.store.change({ names });
+            this.notice(`The names of ${namesFile} are those of ${this.state.book.name} now. Undo brings the others back.`);
         }
     }
 
@@ -254,10 +255,29 @@ class App {
         this.panels.book.first = 0;
         const opened = { name: book.name, edition, bytes: book.bytes };
         const kept = presetIn(this.library, opened, state);
-        store.change({ book: opened, kept, names: names ?? rememberedNames(book) ?? rigNames(state.names) });
+        const known = wrong || book === NEW_BOOK ? null : rememberedNames(book);
+        store.change({ book: opened, kept, names: names ?? known ?? NO_NAMES });
         store.markBookSaved();
         this.#savedNames = names;
         this.tabs.choose('book');
+        if (!names && !wrong) this.#sayNames(state, known);
+    }
+
+    /** Names belong to a book: one that came without any has those that it had here before, or none, and may take over others. */
+    #sayNames(before, known) {
+        const { name } = this.state.book;
+        const set = names => {
+            this.store.change({ names });
+            this.notice('');
+        };
+        if (known?.lines.length > 0) {
+            return this.notice(`${name} came without its names: those that it had here before are used.`, button('Use no names', () => set(NO_NAMES)));
+        }
+        if (rigNames(before.names).lines.length === 0) return;
+        const old = before.book.name;
+        this.notice(`${name} has no names. Its sources and screens can have those of ${old}.`,
+            button(`Take over the names of ${old}`, () => set(withRigNamesOf(this.state.names, before.names))),
+            button('Leave it without names', () => this.notice('')));
     }
 
     /** A sentence at the top of the page, with what can be done about it. */

@@ -1,6 +1,6 @@
 // What the page remembers from one visit to the next: the rig and the names, in the browser's own store. A browser that keeps
 // nothing makes no difference but that.
-import { NO_NAMES, readNames, writeNames } from './names.mjs';
+import { NO_NAMES, readNames, rigNames, writeNames } from './names.mjs';
 
 const RIG = 'winnathey rig';
 const NAMES = 'winnathey names';
@@ -76,9 +76,4 @@ export function remembered(library) {
 export function rememberedNames({ name, bytes }) {
     const print = printOf(bytes);
     return namesIn(statesOf(name).find(state => state.print === print)?.text ?? null);
-}
-
-/** The names of sources and screens alone: those of presets belong to one book. */
-export function rigNames(names) {
-    return { ...names, lines: names.lines.filter(line => line.keyword !== 'preset') };
 }

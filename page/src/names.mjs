@@ -112,6 +112,17 @@ export function withName(names, keyword, number, text) {
     return { ...names, lines };
 }
 
+/** The names of sources and screens alone: those of presets belong to one book. */
+export function rigNames(names) {
+    return { ...names, lines: names.lines.filter(line => line.keyword === 'source' || line.keyword === 'screen') };
+}
+
+/** The names of another book's sources and screens put where there are none yet. */
+export function withRigNamesOf(names, others) {
+    const open = rigNames(others).lines.filter(line => nameOf(names, line.keyword, line.number) === '');
+    return open.reduce((filled, { keyword, number, name }) => withName(filled, keyword, number, name), names);
+}
+
 /** What is shown: with a name its number too, never the name alone. */
 export function labelled(names, keyword, number) {
     const name = nameOf(names, keyword, number);

@@ -1,7 +1,7 @@
 // The names beside a book, line by line as their format says.
 import assert from 'node:assert/strict';
 import { test } from 'node:test';
-import { NO_NAMES, WrongNames, cleaned, labelled, nameOf, readNames, withName, writeNames } from '../src/names.mjs';
+import { NO_NAMES, WrongNames, cleaned, labelled, nameOf, readNames, rigNames, withName, withRigNamesOf, writeNames } from '../src/names.mjs';
 
 const read = text => readNames(new TextEncoder().encode(text));
 const written = names => new TextDecoder().decode(writeNames(names));
@@ -56,4 +56,11 @@ test('whatever is typed becomes a name that reads back, or none', () => {
         assert.equal(nameOf(read(written(withName(NO_NAMES, 'preset', 5, text))), 'preset', 5), name);
     }
     assert.equal(cleaned('a\u202eb'), 'ab');
+});
+
+test('the names of another book fill what has none, and no preset', () => {
+    const others = read('source 1 front\nscreen 2 mirror\npreset 0 Yard\n');
+    assert.equal(written(rigNames(others)), 'source 1 front\nscreen 2 mirror\n');
+    assert.equal(written(withRigNamesOf(read('source 1 rear\n'), others)), 'source 1 rear\nscreen 2 mirror\n');
+    assert.equal(written(withRigNamesOf(NO_NAMES, others)), 'source 1 front\nscreen 2 mirror\n');
 });
