@@ -11,6 +11,7 @@ use sides::have_same_sides;
 use sides::letter;
 use sides::side;
 use sides::step;
+use sides::word_rule;
 ghost use Prim.Native.Nat.{_≤_};
 
 // Whether the answer names the specification's rule of these sides, and the output holds the right side and nothing
@@ -104,6 +105,12 @@ fn count(published: bool, from: usize, to: usize) -> u64
     held
 }
 
+// Wrong on purpose: 1 3 becomes 3 1, and not 4 1. A count above 0 would say that a test here cannot fail.
+fn wrong() -> u64 {
+    let rule = word_rule(1, 1, 0, 0, 3, 4);
+    std::num::wrapping_add_u64(is_rewritten(5, rule) as u64, is_published(5, rule) as u64)
+}
+
 fn report(name: &[u8], held: u64) {
     io::write_all(STDOUT_FILENO, name);
     io::print_decimal(STDOUT_FILENO, held);
@@ -117,4 +124,5 @@ fn main() {
         b"D rules, found in CP(n), n = 4 to 64: ",
         count(false, 4, 64),
     );
+    report(b"Wrong on purpose: ", wrong());
 }

@@ -103,6 +103,13 @@ fn other_edition(t: u64, edition: Edition, book: &[u8]) -> u64 {
     opened::letters(t, edition, book, 0, &book[0..0])
 }
 
+// Wrong on purpose, a case of each sort: a count above 0 would say that a test here cannot fail.
+fn wrong() -> u64 {
+    let t = letter(letter(0, 1, 63, 1, 6), 1, 64, 1, 0);
+    let t = product(t, 1, 5, &[1], &[2], &[2, 1]);
+    window_product(t, 1, 5, &[1], &[2], &[3, 1, 2, 4, 5, 6])
+}
+
 fn report(name: &[u8], held: u64) {
     io::write_all(STDOUT_FILENO, name);
     io::print_decimal(STDOUT_FILENO, held);
@@ -126,4 +133,5 @@ fn main() {
     report(b"Limits: ", limits());
     report(b"Mistakes close at hand: ", mistakes());
     books();
+    report(b"Wrong on purpose: ", wrong());
 }

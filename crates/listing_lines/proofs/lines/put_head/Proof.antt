@@ -42,8 +42,7 @@ put-spaced-requires-2 c κs =
 
 put-bytes-requires-2 : tie.Need-put-bytes-requires-2
 put-bytes-requires-2 c κs =
-    let spaced = c .before .before .before .before in
-    let a = start (first (second (third spaced))) .args in
+    let a = start (first (second (third (c .before .before .before .before)))) .args in
     omega (arith, length-head (a .number) (a .kind) (a .rank) (a .size))
 
 returns : tie.Need-returns
