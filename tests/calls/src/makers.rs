@@ -241,7 +241,7 @@ pub fn split(kind: u32, rank: u32, allowed: u64, word: &[u8], rooms: [Room; 3]) 
         let mut lengths = vec![0u64; sizes[2]];
         let mut answer = plain::split(kind, rank, allowed, word, &mut first, &mut second, &mut lengths);
         if answer == plain::TOO_MANY {
-            answer = whole(kind, rank, allowed, word, &mut first, &mut lengths);
+            answer = many(kind, rank, allowed, word, [&mut first, &mut second], &mut lengths);
         }
         let written: Vec<i64> =
             if answer < 0 { vec![0; 2] } else { lengths[..2].iter().map(|&length| length as i64).collect() };
@@ -255,36 +255,74 @@ pub fn split(kind: u32, rank: u32, allowed: u64, word: &[u8], rooms: [Room; 3]) 
     })
 }
 
-/// Splits a word with every step allowed, which the plain version does not do where they are many: the whole normal form
-/// comes first, and the plain version says that this is the split.
-fn whole(kind: u32, rank: u32, allowed: u64, word: &[u8], first: &mut [u8], lengths: &mut [u64]) -> i64 {
+/// The normal form of a word or window that is right.
+fn normal_form(kind: u32, rank: u32, window: &[i8]) -> Vec<u8> {
     let mut form = vec![0; plain::MAX_LETTERS];
-    let letters = plain::normal_form_of_word(kind, rank, word, &mut form);
-    let form = front(&form, letters);
-    assert!(plain::is_split(kind, rank, allowed, word, &form, &[]), "the steps are many, and not all");
-    if first.len() < form.len() || lengths.len() < 2 {
-        return -14;
-    }
-    first[..form.len()].copy_from_slice(&form);
-    lengths[..2].copy_from_slice(&[form.len() as u64, 0]);
-    letters
+    let letters = plain::normal_form_of_window(kind, rank, window, &mut form);
+    front(&form, letters)
 }
 
-/// The way between windows with every step allowed: the normal form of what leads from the one to the other, of which the
-/// plain version says that it is the way.
+/// The product of the window of one step and a window.
+fn behind(kind: u32, rank: u32, step: u8, window: &[i8]) -> Vec<i8> {
+    let (mut one, mut product) = (window.to_vec(), window.to_vec());
+    plain::window_of_word(kind, rank, &[step], &mut one);
+    plain::product_of_windows(kind, rank, &one, window, &mut product);
+    product
+}
+
+/// Splits a word by more steps than the plain version does: allowed steps are taken from its front as long as that makes
+/// the rest shorter, and the plain version says that this is the split.
+fn many(kind: u32, rank: u32, allowed: u64, word: &[u8], outputs: [&mut [u8]; 2], lengths: &mut [u64]) -> i64 {
+    let mut rest = vec![0; plain::MAX_LANES];
+    let lanes = plain::window_of_word(kind, rank, word, &mut rest) as usize;
+    rest.truncate(lanes);
+    let mut taken = Vec::new();
+    let steps: Vec<u8> = (1..=64).filter(|step| allowed >> (step - 1) & 1 == 1).collect();
+    let mut letters = plain::length_of_window(kind, rank, &rest);
+    // What one step leaves may be shortened again by those that were passed over.
+    loop {
+        let before = letters;
+        for &step in &steps {
+            let left = behind(kind, rank, step, &rest);
+            if plain::length_of_window(kind, rank, &left) < letters {
+                taken.push(step);
+                (rest, letters) = (left, letters - 1);
+            }
+        }
+        if letters == before {
+            break;
+        }
+    }
+    let mut first = vec![0; lanes];
+    plain::window_of_word(kind, rank, &taken, &mut first);
+    let halves = [normal_form(kind, rank, &first), normal_form(kind, rank, &rest)];
+    assert!(plain::is_split(kind, rank, allowed, word, &halves[0], &halves[1]), "not the split of {word:?}");
+    if lengths.len() < 2 || halves.iter().zip(&outputs).any(|(half, output)| output.len() < half.len()) {
+        return -14;
+    }
+    for (half, output) in halves.iter().zip(outputs) {
+        output[..half.len()].copy_from_slice(half);
+    }
+    lengths[..2].copy_from_slice(&halves.each_ref().map(|half| half.len() as u64));
+    (halves[0].len() + halves[1].len()) as i64
+}
+
+/// The way between windows by more steps than the plain version goes: the normal form of what leads from the one to the
+/// other, of which the plain version says that it is the way, or that there is none.
 fn direct(kind: u32, rank: u32, allowed: u64, from: &[i8], to: &[i8], out: &mut [u8]) -> i64 {
     let (mut back, mut change) = (vec![0; from.len()], vec![0; from.len()]);
     plain::inverse_of_window(kind, rank, from, &mut back);
     plain::product_of_windows(kind, rank, &back, to, &mut change);
-    let mut way = vec![0; plain::MAX_LETTERS];
-    let letters = plain::normal_form_of_window(kind, rank, &change, &mut way);
-    let way = front(&way, letters);
-    assert!(plain::is_way(kind, rank, allowed, from, to, Some(&way)), "the steps are many, and not all");
+    let way = normal_form(kind, rank, &change);
+    if !plain::is_way(kind, rank, allowed, from, to, Some(&way)) {
+        assert!(plain::is_way(kind, rank, allowed, from, to, None), "neither a way nor none");
+        return -19;
+    }
     if out.len() < way.len() {
         return -14;
     }
     out[..way.len()].copy_from_slice(&way);
-    letters
+    way.len() as i64
 }
 
 pub fn between(kind: u32, rank: u32, allowed: u64, from: &[i8], to: &[i8], room: Room) -> Row {

@@ -7,14 +7,20 @@ mod words;
 
 use crate::row::Row;
 use plain::{A, B, D};
+use std::collections::HashSet;
+use std::sync::OnceLock;
 
 /// All rows, those of one call together, and each once.
-pub fn all() -> Vec<Row> {
+pub fn all() -> &'static [Row] {
+    static ROWS: OnceLock<Vec<Row>> = OnceLock::new();
+    ROWS.get_or_init(made)
+}
+
+fn made() -> Vec<Row> {
     let mut rows = [words::rows(), windows::rows(), steps::rows(), books::rows(), vectors::rows()].concat();
-    let names: Vec<&str> = CALLS.to_vec();
-    let place = |row: &Row| names.iter().position(|name| *name == row.call).expect("a call of the list");
+    let place = |row: &Row| CALLS.iter().position(|name| *name == row.call).expect("a call of the list");
     rows.sort_by_key(place);
-    let mut seen = std::collections::HashSet::new();
+    let mut seen = HashSet::new();
     rows.retain(|row| seen.insert(row.to_string()));
     rows
 }
@@ -53,8 +59,8 @@ pub const CALLS: [&str; 30] = [
     "to_first",
 ];
 
-/// Numbers that are no kinds; the last byte of some is one.
-const NO_KINDS: [u32; 8] = [0, 4, 255, 256, 257, 258, 259, u32::MAX];
+/// Numbers that are no kinds; the last bits of some are one.
+const NO_KINDS: [u32; 8] = [0, 4, 5, 129, 255, 256, 257, u32::MAX];
 
 const SMALL: [(u32, u32); 3] = [(A, 2), (B, 2), (D, 4)];
 const LARGE: [(u32, u32); 3] = [(A, 63), (B, 64), (D, 64)];
@@ -69,11 +75,11 @@ fn ends(kind: u32) -> (u32, u32) {
     }
 }
 
-/// Ranks at the limits and past them, and those whose last byte is a rank.
+/// Ranks at the limits and past them, and numbers whose last bits are a rank.
 fn ranks(kind: u32) -> Vec<u32> {
     let (least, greatest) = ends(kind);
-    let mut ranks = vec![0, least - 1, least, greatest, greatest + 1, 256 + least];
-    ranks.extend(if kind == A { vec![255, 256, 65537, u32::MAX] } else { Vec::new() });
+    let mut ranks = vec![0, least - 1, least, greatest, greatest + 1, 128 + least];
+    ranks.extend(if kind == A { vec![255, 256, 257, 65537, u32::MAX] } else { Vec::new() });
     ranks.dedup();
     ranks
 }

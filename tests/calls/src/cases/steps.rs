@@ -115,6 +115,16 @@ fn sets(rows: &mut Vec<Row>) {
             rows.push(split(kind, rank, allowed, &word, [Exact; 3]));
         }
         let all = u64::MAX >> (64 - rank);
+        // All steps but one or two, every other step.
+        for locked in [1, top, 1 << 31, 1 << 32, 3 << 31, 0x5555_5555_5555_5555 & all] {
+            let allowed = all & !locked;
+            let steps: Vec<u8> = word.iter().copied().filter(|step| allowed >> (step - 1) & 1 == 1).collect();
+            let (from, mut to) = (window(kind, rank, locked), straight(kind, rank));
+            plain::product_of_windows(kind, rank, &from, &shown(kind, rank, &steps), &mut to);
+            rows.push(split(kind, rank, allowed, &word, [Exact; 3]));
+            rows.push(between(kind, rank, allowed, &from, &to, Exact));
+        }
+        rows.push(split(kind, rank, all & !1, &longest(kind, rank), [Exact; 3]));
         rows.push(split(kind, rank, all, &word, [Exact; 3]));
         rows.push(split(kind, rank, 0, &longest(kind, rank), [Exact; 3]));
         rows.push(split(kind, rank, all, &longest(kind, rank), [Exact; 3]));

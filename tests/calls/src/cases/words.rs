@@ -52,7 +52,8 @@ fn limits(OfWord { call, own, long }: &OfWord, rows: &mut Vec<Row>) {
     }
     for (kind, rank) in SMALL {
         let n = rank as u8;
-        rows.extend([&[1, n][..], &[n + 1], &[0], &[255]].map(|word| call(kind, rank, word)));
+        let above = if kind == D { 255 } else { 128 + n };
+        rows.extend([&[1, n][..], &[n + 1], &[0], &[above]].map(|word| call(kind, rank, word)));
     }
     for (kind, rank) in LARGE {
         let n = rank as u8;

@@ -70,9 +70,8 @@ fn refused(refusal: Refusal) -> Answer {
 }
 
 fn run(name: &str, call: fn(&Row) -> Outcome) {
-    let rows = cases::all();
     let (mut ran, mut left, mut seen) = (0, [0; 3], BTreeMap::<&str, BTreeSet<i64>>::new());
-    for row in &rows {
+    for row in cases::all() {
         match call(row) {
             Ok((answer, written)) => {
                 assert_eq!(answer, row.answer, "{row}");
