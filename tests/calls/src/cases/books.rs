@@ -1,5 +1,5 @@
 //! Books of both editions.
-use super::NO_KINDS;
+use super::{NO_KINDS, WRAPPED};
 use crate::makers::*;
 use crate::row::Row;
 use plain::{A, B, D, MAX_BOOK, MAX_LETTERS};
@@ -110,8 +110,7 @@ fn checks(second: bool, rows: &mut Vec<Row>) {
 
 fn reading(second: bool, rows: &mut Vec<Row>) {
     let right = book(second, &two());
-    let numbers = [0, 1, 2, 3, 256, 65536, 1 << 32, (1 << 32) + 1, (1 << 53) - 1, usize::MAX];
-    for number in numbers {
+    for number in [0, 1, 2, 3, 256].into_iter().chain(WRAPPED) {
         rows.push(preset(second, &right, number, Exact));
         rows.push(presets(second, &right, number, Exact));
     }

@@ -62,6 +62,9 @@ pub const CALLS: [&str; 30] = [
 /// Numbers that are no kinds; the last bits of some are one.
 const NO_KINDS: [u32; 8] = [0, 4, 5, 129, 255, 256, 257, u32::MAX];
 
+/// Places and numbers of presets that are very large; the last bits of most are not.
+const WRAPPED: [usize; 8] = [65536, 1 << 31, 1 << 32, (1 << 32) + 1, (1 << 53) - 1, 1 << 53, 1 << 63, usize::MAX];
+
 const SMALL: [(u32, u32); 3] = [(A, 2), (B, 2), (D, 4)];
 const LARGE: [(u32, u32); 3] = [(A, 63), (B, 64), (D, 64)];
 const GROUPS: [(u32, u32); 5] = [(A, 1), (A, 5), (B, 5), (D, 9), (B, 64)];

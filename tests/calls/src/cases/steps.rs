@@ -1,5 +1,5 @@
 //! Delay tables, rewritings, fallbacks, sets of allowed steps.
-use super::{GROUPS, LARGE, NO_KINDS, SMALL, farthest, longest, ranks, shown, straight, window, word};
+use super::{GROUPS, LARGE, NO_KINDS, SMALL, WRAPPED, farthest, longest, ranks, shown, straight, window, word};
 use crate::makers::*;
 use crate::row::Row;
 use plain::{A, B, D, MAX_LETTERS};
@@ -36,8 +36,9 @@ fn rewrites(rows: &mut Vec<Row>) {
     }
     for (rank, letters) in [(2, 1), (2, 3), (63, 5), (2, MAX_LETTERS)] {
         let word = vec![1; letters];
-        let places = [letters - 1, letters, letters + 1, 65536, 1 << 32, (1 << 32) + 1, (1 << 53) - 1, usize::MAX];
-        rows.extend(places.map(|place| rewrite(A, rank, &word, place, [Exact; 2])));
+        let mut places = vec![letters - 1, letters, letters + 1];
+        places.extend(WRAPPED);
+        rows.extend(places.into_iter().map(|place| rewrite(A, rank, &word, place, [Exact; 2])));
     }
     let ones = vec![1; MAX_LETTERS];
     rows.extend([0, MAX_LETTERS - 2].map(|place| rewrite(A, 2, &ones, place, [Exact; 2])));
