@@ -100,6 +100,7 @@ export class BookPanel {
     append() {
         const { library, state, store } = this.app;
         const { edition, bytes } = state.book;
+        if (!this.app.hasWord('Nothing was appended')) return false;
         const { value, refusal } = attempt(() => library.append(edition, bytes, state.kind, state.rank, state.word));
         if (refusal) return this.#say(refusalLine(refusal, 'The book stays as it was.')) ?? false;
         const number = library.bookCheck(edition, value) - 1;

@@ -16,6 +16,9 @@ export function judged(library, kind, rank, text) {
     return { letters: null, fault: { ...spans[at], at, message: refusal.text, number: refusal.number } };
 }
 
+/** Why no step is added, moved or removed while the field has text that was refused: that text would be gone. */
+const NO_WORD = 'The field with the word does not hold a word: correct it there, or press Undo.';
+
 export class Composing {
     constructor(app) {
         this.app = app;
@@ -23,7 +26,7 @@ export class Composing {
         this.field.addEventListener('input', () => this.#typed());
         byId('skip').addEventListener('click', () => this.field.focus());
         this.field.addEventListener('scroll', () => (byId('word-marks').scrollTop = this.field.scrollTop));
-        byId('take').addEventListener('click', () => app.store.change({ word: app.answers.form }));
+        byId('take').addEventListener('click', () => app.hasWord('The word stays as it is') && app.store.change({ word: app.answers.form }));
         byId('undo').addEventListener('click', () => app.goBack());
         byId('redo').addEventListener('click', () => app.goBack(true));
         byId('clear').addEventListener('click', () => app.store.change({ word: [] }));
@@ -38,6 +41,7 @@ export class Composing {
     /** Adds a step at the end; a refusal is said beside the field and changes nothing. */
     add(step) {
         const { library, state, store } = this.app;
+        if (this.fault) return this.#sayAdd(NO_WORD);
         const word = added(state.word, step);
         const { refusal } = attempt(() => library.window(state.kind, state.rank, word));
         if (refusal) return this.#sayAdd(refusal.text);
@@ -60,6 +64,7 @@ export class Composing {
     remove(at) {
         const { ui, state, store } = this.app;
         if (at < 0) return;
+        if (this.fault) return this.#sayAdd(NO_WORD);
         ui.selected = Math.min(at, state.word.length - 2);
         store.change({ word: removed(state.word, at) });
     }
@@ -67,6 +72,7 @@ export class Composing {
     move(from, to) {
         const { ui, state, store } = this.app;
         if (from < 0 || to < 0 || to >= state.word.length || from === to) return;
+        if (this.fault) return this.#sayAdd(NO_WORD);
         ui.selected = to;
         store.change({ word: moved(state.word, from, to) });
     }
@@ -75,9 +81,11 @@ export class Composing {
         const { library, state, store } = this.app;
         const { letters, fault } = judged(library, state.kind, state.rank, this.field.value);
         this.fault = fault;
+        if (!fault) this.app.passNotice();
         // The same letters with other spaces between them are no change.
         if (letters && !sameLetters(letters, state.word)) store.change({ word: letters });
         else this.#showFault();
+        this.app.updatePanelSoon();
     }
 
     /** Takes refused text out of the field, which then has the word again; returns whether there was any. */
@@ -86,7 +94,15 @@ export class Composing {
         this.fault = null;
         this.field.value = spaced(this.app.state.word);
         this.#showFault();
+        this.#sayAdd('');
+        this.app.updatePanelSoon();
         return true;
+    }
+
+    /** Puts the cursor at what is wrong in the field. */
+    goToFault() {
+        this.field.focus();
+        this.field.setSelectionRange(this.fault?.start ?? 0, this.fault?.end ?? 0);
     }
 
     /** The wrong letter is marked behind the text, at its place. */
@@ -98,8 +114,12 @@ export class Composing {
         const part = (start, end) => escaped(text.slice(start, end));
         byId('word-marks').innerHTML = fault ? `${part(0, fault.start)}<mark>${part(fault.start, fault.end)}</mark>${part(fault.end)}` : '';
         byId('word-marks').scrollTop = field.scrollTop;
-        const place = fault?.at === undefined ? '' : `Letter ${fault.at + 1}: `;
-        setText(byId('word-message'), fault ? `${place}${fault.message} The picture stays as it was.` : '');
+        setText(byId('word-message'), fault ? `${this.#faultText()} The picture stays as it was.` : '');
+    }
+
+    #faultText() {
+        const place = this.fault.at === undefined ? '' : `Letter ${this.fault.at + 1}: `;
+        return `${place}${this.fault.message}`;
     }
 
     /** The word as text. Text that was refused stays as it was typed until the word changes; another rig may accept it. */

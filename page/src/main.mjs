@@ -33,7 +33,7 @@ class App {
     #pressed = false;
     #waiting = 0;
     #namesLost = false;
-    /** Whether the sentence at the top is about the last undo, and goes with the next change. */
+    /** Whether the sentence at the top goes with the next change. */
     #passing = false;
     #savedNames = null;
 
@@ -79,7 +79,7 @@ class App {
     }
 
     #changed(state, old) {
-        if (this.#passing) this.notice('');
+        this.passNotice();
         const start = performance.now();
         if (state.word !== old.word || state.kind !== old.kind || state.rank !== old.rank) this.#answer();
         this.times.calls = performance.now() - start;
@@ -96,18 +96,18 @@ class App {
         this.picture.update();
         this.composing.update();
         this.#updateHeader();
-        this.#stale = true;
-        this.#updatePanelSoon();
+        this.updatePanelSoon();
     }
 
     /** While something is pressed the panel has to stay: a button made anew under the pointer would never be clicked. */
     #press(down) {
         this.#pressed = down;
-        if (!down && this.#stale) this.#updatePanelSoon();
+        if (!down && this.#stale) this.updatePanelSoon();
     }
 
     /** After what was typed or pressed is seen, and once for many changes in a row: later where it takes longer than a frame. */
-    #updatePanelSoon() {
+    updatePanelSoon() {
+        this.#stale = true;
         clearTimeout(this.#waiting);
         this.#waiting = setTimeout(() => this.updatePanel(), this.times.panel > FRAME ? PAUSE : 0);
     }
@@ -181,7 +181,7 @@ class App {
 
     /** Undo, or redo. One that changes the book says so: someone who looks at the picture would not see it. */
     goBack(redo = false) {
-        if (!redo && this.composing.takeBack()) return;
+        if (!redo && this.composing.takeBack()) return this.passNotice();
         const before = this.state.book;
         redo ? this.store.redo() : this.store.undo();
         const { book } = this.state;
@@ -189,6 +189,16 @@ class App {
         const { value } = verdictsOf(this.library, book.bytes)[book.edition];
         this.notice(`${redo ? 'Redo' : 'Undo'} changed the book: it is ${book.name} with ${counted(value ?? 0, 'preset')} now.`);
         this.#passing = true;
+    }
+
+    /** Whether the field with the word holds one. If not, that is said, with what stays undone: the last word is not meant then. */
+    hasWord(undone) {
+        if (!this.composing.fault) return true;
+        this.notice(`The field with the word does not hold a word. ${undone}.`,
+            button('Go to what is wrong', () => this.composing.goToFault()),
+            button('Go back to the last word', () => this.goBack()));
+        this.#passing = true;
+        return false;
     }
 
     /** A source put on a screen of the wanted picture; on one of the picture itself, which is then the one that is changed. */
@@ -207,6 +217,7 @@ class App {
         const { book } = this.state;
         const { refusal } = verdictsOf(this.library, book.bytes)[book.edition];
         if (refusal) return this.notice(`${book.name} is not saved: ${refusal.text} The file on the disk stays as it is.`);
+        if (!this.hasWord('Nothing was saved')) return;
         if (this.store.wordUnsaved && !asked) {
             return this.notice('The present word is not in the book yet.',
                 button('Append it and save', () => this.#appendAndSave()), button('Save without it', () => this.saveBook(true)));
@@ -278,6 +289,11 @@ class App {
         this.notice(`${name} has no names. Its sources and screens can have those of ${old}.`,
             button(`Take over the names of ${old}`, () => set(withRigNamesOf(this.state.names, before.names))),
             button('Leave it without names', () => this.notice('')));
+    }
+
+    /** A sentence about what is over now goes. */
+    passNotice() {
+        if (this.#passing) this.notice('');
     }
 
     /** A sentence at the top of the page, with what can be done about it. */

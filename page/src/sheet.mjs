@@ -44,7 +44,7 @@ export class SheetPanel {
         this.title = field('sheet-title', 80);
         this.remarks = field('sheet-remarks', 200);
         this.sheet = make('article', { class: 'sheet', id: 'sheet' });
-        const print = button('Print the sheet', () => window.print(), { class: 'main', id: 'print' });
+        const print = button('Print the sheet', () => app.hasWord('Nothing was printed') && window.print(), { class: 'main', id: 'print' });
         const fields = [labelled('Title', this.title), labelled('Remarks', this.remarks)];
         root.append(make('div', { class: 'bar no-print' }, fields, print), this.sheet);
     }
@@ -54,8 +54,12 @@ export class SheetPanel {
     }
 
     update() {
-        const { state, answers, about, store } = this.app;
+        const { state, answers, about, store, composing } = this.app;
         const { preset } = store;
+        // The browser's own print command comes here too.
+        if (composing?.fault) {
+            return this.sheet.replaceChildren(make('p', { class: 'refusal' }, 'There is no sheet: the field with the word does not hold a word.'));
+        }
         const date = new Date().toLocaleString('en-GB', { dateStyle: 'long', timeStyle: 'short' });
         const remarks = this.remarks.value ? [['Remarks', this.remarks.value]] : [];
         const lines = [...sheetLines(state, answers, about, preset), ['Date', date], ...remarks];

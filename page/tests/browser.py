@@ -198,6 +198,10 @@ class PageTest(unittest.TestCase):
         file.unlink()
         return content
 
+    def keys(self, key):
+        ActionChains(self.driver).key_down(Keys.CONTROL).send_keys(key).key_up(Keys.CONTROL).perform()
+        self.settle()
+
     def asks_before_leaving(self):
         return self.js("const e = new Event('beforeunload', {cancelable: true}); dispatchEvent(e); return e.defaultPrevented")
 
@@ -310,6 +314,40 @@ class TenPoints(PageTest):
         self.assertEqual((field.get_attribute("value"), self.letters()), ("4 2", [4, 2]))
         field.send_keys(Keys.CONTROL, "z")
         self.assertEqual(self.letters(), [4])
+
+    def test_03_refused_text_is_never_taken_for_the_last_word(self):
+        self.word("1 1 2")
+        field = self.labelled("Word")
+        field.send_keys(" x")
+        for tab, control in [("Book", "Append the present preset"), ("Book", "Save as a new file"), ("Book", "Save"), ("Wanted picture", "Take it"), ("Sheet", "Print the sheet")]:
+            self.press(tab)
+            self.js("window.print = () => { throw new Error('printed') }")
+            self.press(control)
+            self.assertIn("The field with the word does not hold a word.", self.text("notice"), control)
+        self.keys("s")
+        self.press("add step 1: exchanges lanes 1 and 2")
+        self.assertIn("does not hold a word", self.text("add-message"))
+        self.js("arguments[0].focus()", self.js("return document.querySelector('.chip[tabindex=\"0\"]')"))
+        ActionChains(self.driver).send_keys(Keys.DELETE).key_down(Keys.ALT).send_keys(Keys.ARROW_LEFT).key_up(Keys.ALT).perform()
+        self.assertEqual((self.letters(), field.get_attribute("value")), ([1, 1, 2], "1 1 2 x"))
+        self.assertEqual(self.js("return app.state.book.bytes.length"), 0)
+        self.press("Sheet")
+        self.assertEqual(self.text("sheet"), "There is no sheet: the field with the word does not hold a word.")
+        time.sleep(0.3)
+        self.assertEqual(list(Path(self.downloads).iterdir()), [])
+        self.press("Go to what is wrong")
+        self.assertEqual(self.js("const e = document.activeElement; return [e.id, e.value.slice(e.selectionStart, e.selectionEnd)]"), ["word", "x"])
+        self.press("Go back to the last word")
+        self.assertEqual((field.get_attribute("value"), self.text("notice"), self.text("add-message")), ("1 1 2", "", ""))
+        self.assertIn("1 1 2 (3 letters)", self.text("sheet"))
+        field.send_keys(" x")
+        self.press("Book")
+        self.press("Append the present preset")
+        field.send_keys(Keys.BACKSPACE)
+        self.assertEqual(self.text("notice"), "")
+        field.send_keys("5")
+        self.press("Append the present preset")
+        self.assertEqual(self.js("return app.library.presets(2, app.state.book.bytes)[0].word"), [1, 1, 2, 5])
 
     def test_03_steps_are_moved_and_thrown_away(self):
         self.word("1 2 3 4 5")
@@ -595,10 +633,6 @@ class Books(PageTest):
         self.press("Save without it")
         self.assertEqual(len(self.saved("new.book")), 12)
         self.assertTrue(self.asks_before_leaving())
-
-    def keys(self, key):
-        ActionChains(self.driver).key_down(Keys.CONTROL).send_keys(key).key_up(Keys.CONTROL).perform()
-        self.settle()
 
     def test_07_what_is_refused_is_not_saved_by_a_key(self):
         """Of a file that is too long only the front was read."""
