@@ -5,13 +5,15 @@ const STILL = 5;
 /** A step is thrown away where it is let go so far outside the picture. */
 const OUTSIDE = 24;
 
-/** Follows the pointer from a press to its end, and tells whether it was a drag. */
-function follow(event, moving, ended) {
+/** Follows the pointer from a press to its end: when it becomes a drag, at each move, and at the end whether it was one. */
+function follow(event, { begun = () => {}, moving, ended }) {
     const start = { x: event.clientX, y: event.clientY };
     let dragged = false;
     const move = now => {
-        dragged ||= Math.hypot(now.clientX - start.x, now.clientY - start.y) > STILL;
-        if (dragged) moving(now);
+        if (!dragged && Math.hypot(now.clientX - start.x, now.clientY - start.y) <= STILL) return;
+        if (!dragged) begun();
+        dragged = true;
+        moving(now);
     };
     const stop = now => {
         removeEventListener('pointermove', move);
@@ -35,7 +37,7 @@ export function grabStep(picture) {
         const at = Math.round((event.clientX - strands.getBoundingClientRect().left - m.left) / m.column);
         return picture.part.first + Math.min(Math.max(at, 0), picture.part.letters.length);
     };
-    const mark = at => {
+    const markTarget = at => {
         const line = strands.querySelector('.drop');
         const x = at === null ? 0 : picture.measures.x(at - picture.part.first);
         line?.setAttribute('visibility', at === null ? 'hidden' : 'visible');
@@ -48,15 +50,16 @@ export function grabStep(picture) {
         if (!held || event.button !== 0) return;
         event.preventDefault();
         const from = Number(held.dataset.at);
-        follow(event, now => mark(target(now)), (now, dragged) => {
+        follow(event, { begun: () => picture.mark(from), moving: now => markTarget(target(now)), ended: (now, dragged) => {
             root.classList.remove('throwing');
             strands.querySelector('.drop')?.setAttribute('visibility', 'hidden');
             if (!dragged) return chosen(picture, from);
-            if (!now) return;
-            const to = target(now);
+            const { word } = app.state;
+            const to = now ? target(now) : from;
             if (to === null) app.composing.remove(from);
             else app.composing.move(from, to > from ? to - 1 : to);
-        });
+            if (app.state.word === word) app.show({});
+        } });
     };
     strands.addEventListener('pointerdown', begin);
     steps.addEventListener('pointerdown', begin);
@@ -77,17 +80,17 @@ export function grabSource(app) {
         const copy = token.cloneNode(true);
         copy.classList.add('held');
         let marked = null;
-        follow(event, now => {
+        follow(event, { moving: now => {
             if (!copy.isConnected) document.body.append(copy);
             copy.style.transform = `translate(${now.clientX + 8}px, ${now.clientY + 8}px)`;
             marked?.classList.remove('target');
             marked = under(now) ?? null;
             marked?.classList.add('target');
-        }, (now, dragged) => {
+        }, ended: (now, dragged) => {
             copy.remove();
             marked?.classList.remove('target');
             const screen = dragged && now ? under(now) : null;
             if (screen) app.putOnScreen(Number(token.dataset.source), Number(screen.dataset.screen), screen.closest('#screens') !== null);
-        });
+        } });
     });
 }

@@ -274,6 +274,16 @@ export class Picture {
         event.preventDefault();
     }
 
+    /** Marks a step and no other, without drawing anew: the element that the pointer holds has to stay. */
+    mark(at) {
+        this.app.ui.selected = at;
+        for (const element of this.root.querySelectorAll('[data-at]')) {
+            const here = Number(element.dataset.at) === at;
+            if (element.matches('.chip')) element.setAttribute('aria-pressed', String(here));
+            else element.classList.toggle('selected', here);
+        }
+    }
+
     select(at) {
         const { ui } = this.app;
         ui.selected = at;

@@ -376,6 +376,49 @@ class TenPoints(PageTest):
         ActionChains(self.driver).send_keys("4", Keys.ENTER).perform()
         self.assertEqual(self.letters(), [1, 5, 3, 4])
 
+    def chip(self, at):
+        return self.js("return document.querySelector(`.chip[data-at='${arguments[0]}']`)", at)
+
+    def held(self):
+        """The steps that are marked, by the number above the picture and by the crossing, and those that fade."""
+        return self.js(
+            """const at = list => [...document.querySelectorAll(list)].map(e => Number(e.dataset.at));
+            const fades = [...document.querySelectorAll('.chip')].filter(e => getComputedStyle(e).opacity < 1).map(e => Number(e.dataset.at));
+            return [at('.chip[aria-pressed=true]'), at('.grab.selected'), fades]""")
+
+    def test_03_the_grabbed_step_is_the_marked_one(self):
+        self.word("1 2 3 4 5")
+        self.chip(0).click()
+        self.settle()
+        self.assertEqual(self.held(), [[0], [0], []])
+        drag = lambda: ActionChains(self.driver, duration=60)
+        drag().move_to_element(self.chip(4)).click_and_hold().move_by_offset(0, 8).move_to_element(self.labelled("Clear")).perform()
+        self.assertEqual(self.held(), [[4], [4], [4]])
+        drag().release().perform()
+        self.assertEqual(self.letters(), [1, 2, 3, 4])
+        drag().move_to_element(self.chip(2)).click_and_hold().move_by_offset(-60, 0).perform()
+        self.assertEqual(self.held(), [[2], [2], []])
+        drag().release().perform()
+        self.assertEqual((self.letters(), self.held()), ([1, 3, 2, 4], [[1], [1], []]))
+        drag().move_to_element(self.chip(3)).click_and_hold().move_by_offset(-30, 0).move_by_offset(30, 0).release().perform()
+        self.assertEqual((self.letters(), self.held()), ([1, 3, 2, 4], [[3], [3], []]))
+        self.press("remove the chosen step")
+        self.assertEqual(self.letters(), [1, 3, 2])
+
+    def test_03_a_step_is_dragged_by_touch(self):
+        self.word("1 2 3 4 5")
+        self.chip(0).click()
+        self.settle()
+        touch = lambda type, *points: self.driver.execute_cdp_cmd("Input.dispatchTouchEvent", {"type": type, "touchPoints": [{"x": x, "y": y} for x, y in points]})
+        x, y = self.js("const b = arguments[0].getBoundingClientRect(); return [b.x + b.width / 2, b.y + b.height / 2]", self.chip(3))
+        below = self.js("return document.getElementById('board').getBoundingClientRect().bottom") + 60
+        touch("touchStart", (x, y))
+        for at in range(1, 6):
+            touch("touchMove", (x, y + (below - y) * at / 5))
+        self.assertEqual(self.held(), [[3], [3], [3]])
+        touch("touchEnd")
+        self.assertEqual(self.letters(), [1, 2, 3, 5])
+
     def test_04_wanted(self):
         self.press("Wanted picture")
         for kind, rank in RIGS:
