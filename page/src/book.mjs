@@ -15,27 +15,33 @@ export function editionName(edition) {
     return `${EDITIONS[edition]} edition`;
 }
 
-/** What the library says of the bytes as either edition. */
+/** What the library says of bytes as either edition. */
 export function verdictsOf(library, bytes) {
     return { 1: attempt(() => library.bookCheck(1, bytes)), 2: attempt(() => library.bookCheck(2, bytes)) };
 }
 
-/** The edition that a file is opened as: the only one that it passes as, or the present one. */
-export function chosenEdition(verdicts, present) {
-    const passing = [1, 2].filter(edition => !verdicts[edition].refusal);
-    return passing.length === 1 ? passing[0] : present;
+/** The editions that bytes are a book of: one, both or none. */
+export function editionsOf(verdicts) {
+    return [1, 2].filter(edition => !verdicts[edition].refusal);
 }
 
-/** The two sentences about a book: as the edition chosen, and as the other. */
-export function verdictTexts(verdicts, edition) {
-    const other = 3 - edition;
-    const [chosen, others] = [verdicts[edition], verdicts[other]];
-    const head = `As the ${editionName(edition)}: `;
-    const first = chosen.refusal ? `${head}refused. ${chosen.refusal.text}` : `${head}${counted(chosen.value, 'preset')}.`;
-    if (others.refusal && chosen.refusal) return [first, `As the ${editionName(other)}: refused. ${others.refusal.text}`];
-    if (others.refusal) return [first, `As the ${editionName(other)} the file would be refused.`];
-    const only = chosen.refusal ? 'only' : 'too';
-    return [first, `These bytes pass as the ${editionName(other)} ${only}: ${counted(others.value, 'preset')}.`];
+/** Why bytes are a book of neither edition. */
+export function refusedText(verdicts) {
+    const [one, two] = [1, 2].map(edition => verdicts[edition].refusal.text);
+    return one === two ? one : `As the first edition: ${one} As the second edition: ${two}`;
+}
+
+/** What a book has. */
+export function countText(library, { edition, bytes }) {
+    const count = library.bookCheck(edition, bytes);
+    const refused = count > 0 ? library.presets(edition, bytes).filter(preset => preset.refusal).length : 0;
+    return `${counted(count, 'preset')}${refused > 0 ? `, ${refused} of them damaged` : ''}, ${editionName(edition)}`;
+}
+
+/** The file name of a book in another edition: the file of the one before is not replaced by it. */
+export function convertedName(name, edition) {
+    const [, base, end] = /^(.*?)(\.[^.]*)?$/s.exec(name);
+    return `${base.replace(/-(first|second)-edition$/, '')}-${EDITIONS[edition]}-edition${end ?? ''}`;
 }
 
 /** The number of the first preset that keeps a book of the second edition from being converted for its lanes. */
@@ -46,7 +52,7 @@ export function tooManyLanes(library, edition, bytes) {
 
 /** The preset of a book that a state composes, or null; a book that is refused has none. */
 export function presetIn(library, { edition, bytes }, state) {
-    const listed = attempt(() => library.presets(edition, bytes)).value ?? [];
+    const listed = bytes.length > 0 ? attempt(() => library.presets(edition, bytes)).value ?? [] : [];
     const found = listed.find(preset => !preset.refusal && samePreset(state, preset));
     return found ? presetOf(state, found.number) : null;
 }
@@ -63,19 +69,16 @@ export class BookPanel {
         this.rows = make('ol', { class: 'presets', id: 'presets' });
         this.pager = make('div', { class: 'bar' });
         this.convert = button('', () => this.#convert(), { id: 'convert' });
-        const edition = value => make('label', { class: 'choice' },
-            make('input', { type: 'radio', name: 'edition', value, onchange: () => this.#edition(value) }), editionName(value));
         root.append(
             make('div', { class: 'bar' },
-                button('Open a file', () => byId('file').click()), button('New book', () => app.openBook(NEW_BOOK, null)),
-                make('label', { class: 'field' }, make('span', {}, 'File name'), this.name),
-                make('fieldset', { class: 'inline', id: 'edition' }, make('legend', {}, 'Edition'), edition(1), edition(2))),
+                button('Open a file', () => byId('file').click()), button('New book', () => app.shelf.open(NEW_BOOK, null)),
+                make('label', { class: 'field' }, make('span', {}, 'File name'), this.name)),
             make('p', { class: 'quiet' }, 'A book, or a book and its .names file, can also be dropped anywhere on this page.'),
-            make('p', { id: 'book-verdict' }), make('p', { id: 'book-other', class: 'quiet' }),
+            make('p', { id: 'book-verdict' }),
             make('div', { class: 'bar' }, make('label', { class: 'field' }, make('span', {}, 'Name of the preset'), this.presetName),
                 button('Append the present preset', () => this.append(), { class: 'main', id: 'append' })),
-            make('div', { class: 'bar' }, this.convert, button('Save as a new file', () => app.saveBook(), { id: 'save-book' }),
-                button('Save the names beside it', () => app.saveNames(), { id: 'save-names' })),
+            make('div', { class: 'bar' }, this.convert, button('Save as a new file', () => app.shelf.save(), { id: 'save-book' }),
+                button('Save the names beside it', () => app.shelf.saveNames(), { id: 'save-names' })),
             this.message, this.rows, this.pager);
     }
 
@@ -85,9 +88,9 @@ export class BookPanel {
         if (name !== book.name) this.app.store.change({ book: { ...book, name } });
     }
 
-    #edition(edition) {
-        this.culprit = -1;
-        this.app.store.change({ book: { ...this.app.state.book, edition } });
+    /** What was said of the book as it was is over. */
+    unsay() {
+        this.note = { state: null, node: null };
     }
 
     /** A sentence that stays until the next change. */
@@ -122,8 +125,9 @@ export class BookPanel {
             const where = this.culprit < 0 ? '' : `Preset ${this.culprit} is the first that stands in the way. `;
             return this.#say(refusalLine(refusal, `${where}The book stays as it was.`));
         }
-        store.change({ book: { ...state.book, edition: 3 - edition, bytes: value } });
-        this.#say(make('p', {}, `Converted to the ${editionName(3 - edition)}. The book is not saved yet.`));
+        const name = convertedName(state.book.name, 3 - edition);
+        store.change({ book: { name, edition: 3 - edition, bytes: value } });
+        this.#say(make('p', {}, `Converted to the ${editionName(3 - edition)}, as ${name}. The book is not saved yet.`));
     }
 
     #load(preset) {
@@ -144,16 +148,9 @@ export class BookPanel {
         if (this.of !== book.bytes) [this.of, this.culprit] = [book.bytes, -1];
         this.message.replaceChildren(...(this.note.state === state ? [this.note.node] : []));
         if (document.activeElement !== this.name) this.name.value = book.name;
-        for (const choice of byId('edition').querySelectorAll('input')) choice.checked = Number(choice.value) === book.edition;
-        const verdicts = verdictsOf(library, book.bytes);
-        const [verdict, other] = verdictTexts(verdicts, book.edition);
-        setText(byId('book-verdict'), verdict);
-        byId('book-verdict').className = verdicts[book.edition].refusal ? 'refusal' : '';
-        setText(byId('book-other'), other);
-        const count = verdicts[book.edition].value ?? 0;
+        setText(byId('book-verdict'), `${countText(library, book)}.`);
         this.convert.textContent = `Convert to the ${editionName(3 - book.edition)}`;
-        for (const id of ['append', 'convert', 'save-book']) byId(id).disabled = Boolean(verdicts[book.edition].refusal);
-        this.#drawRows(count);
+        this.#drawRows(library.bookCheck(book.edition, book.bytes));
     }
 
     #drawRows(count) {

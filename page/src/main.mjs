@@ -1,20 +1,20 @@
 // The page as a whole: the library is loaded, the parts are put together, and every change goes through them in one order.
 import { load } from '../../bindings/javascript/winnathey.mjs';
-import { BookPanel, chosenEdition, editionName, presetIn, verdictsOf } from './book.mjs';
+import { BookPanel, editionName } from './book.mjs';
 import { Composing } from './composing.mjs';
 import { DelaysPanel } from './delays.mjs';
 import { button, byId, keepFocus, make, setText } from './dom.mjs';
-import { readFiles, saveFile, takeFiles } from './files.mjs';
+import { takeFiles } from './files.mjs';
 import { grabSource } from './grabbing.mjs';
 import { callsOf } from './library.mjs';
-import { remember, remembered, rememberedNames } from './memory.mjs';
-import { NO_NAMES, rigNames, withRigNamesOf, writeNames } from './names.mjs';
+import { remember, remembered } from './memory.mjs';
 import { ModulesPanel } from './modules.mjs';
 import { OtherTabs } from './others.mjs';
 import { Picture } from './picture.mjs';
 import { showProved } from './proved.mjs';
 import { RigFields } from './rig.mjs';
 import { SheetPanel } from './sheet.mjs';
+import { Shelf } from './shelf.mjs';
 import { FIRST_STATE, NEW_BOOK, Store } from './state.mjs';
 import { Tabs } from './tabs.mjs';
 import { counted } from './text.mjs';
@@ -35,12 +35,12 @@ class App {
     #namesLost = false;
     /** Whether the sentence at the top goes with the next change. */
     #passing = false;
-    #savedNames = null;
 
     constructor(library, about) {
         [this.library, this.about] = [library, about];
         this.store = new Store({ ...FIRST_STATE, ...remembered(library) });
         this.#answer();
+        this.shelf = new Shelf(this);
         this.rig = new RigFields(this);
         this.composing = new Composing(this);
         this.picture = new Picture(this);
@@ -133,14 +133,13 @@ class App {
         setText(byId('book-title'), `${book.name} (${editionName(book.edition)})${unsaved ? ' *' : ''}`);
         byId('book-title').title = unsaved ? 'not saved yet' : '';
         document.title = `${unsaved ? '* ' : ''}${book.name} – Winnathey`;
-        byId('save').disabled = verdictsOf(this.library, book.bytes)[book.edition].refusal !== null;
         this.others.open(book.bytes.length === 0 && book.name === NEW_BOOK.name ? '' : book.name);
     }
 
     #listen() {
         byId('open').addEventListener('click', () => byId('file').click());
-        byId('save').addEventListener('click', () => this.saveBook());
-        takeFiles(byId('file'), files => this.#opened(files));
+        byId('save').addEventListener('click', () => this.shelf.save());
+        takeFiles(byId('file'), files => this.shelf.take(files));
         grabSource(this);
         // A list that opens keeps the pointer's end to itself, and is no button.
         addEventListener('pointerdown', event => this.#press(event.target.closest('button, label') !== null), true);
@@ -173,7 +172,7 @@ class App {
             event.preventDefault();
             // A name that is still being typed counts; a box or a list has told its change already.
             if (field?.type === 'text') field.dispatchEvent(new Event('change'));
-            this.saveBook();
+            this.shelf.save();
         } else if (!field && !command && !event.altKey && /^[0-9]$/.test(event.key)) {
             byId('add').focus();
         }
@@ -186,8 +185,8 @@ class App {
         redo ? this.store.redo() : this.store.undo();
         const { book } = this.state;
         if (book.bytes === before.bytes && book.name === before.name) return;
-        const { value } = verdictsOf(this.library, book.bytes)[book.edition];
-        this.notice(`${redo ? 'Redo' : 'Undo'} changed the book: it is ${book.name} with ${counted(value ?? 0, 'preset')} now.`);
+        const count = this.library.bookCheck(book.edition, book.bytes);
+        this.notice(`${redo ? 'Redo' : 'Undo'} changed the book: it is ${book.name} with ${counted(count, 'preset')} now.`);
         this.#passing = true;
     }
 
@@ -207,88 +206,6 @@ class App {
         const before = inPicture ? window : this.state.wanted ?? window;
         this.tabs.choose('wanted');
         this.store.change({ wanted: withSource(before, source, screen) });
-    }
-
-    /**
-     * Saves the book; a word that is not in it is asked about, as it would not be in the file. What the library refuses is no book:
-     * of a file that is too long only the front was read, and saving that would replace the whole.
-     */
-    saveBook(asked = false) {
-        const { book } = this.state;
-        const { refusal } = verdictsOf(this.library, book.bytes)[book.edition];
-        if (refusal) return this.notice(`${book.name} is not saved: ${refusal.text} The file on the disk stays as it is.`);
-        if (!this.hasWord('Nothing was saved')) return;
-        if (this.store.wordUnsaved && !asked) {
-            return this.notice('The present word is not in the book yet.',
-                button('Append it and save', () => this.#appendAndSave()), button('Save without it', () => this.saveBook(true)));
-        }
-        saveFile(book.name, book.bytes);
-        this.store.markBookSaved();
-        const named = this.state.names !== this.#savedNames && this.state.names.lines.length > 0;
-        this.notice(named ? `${book.name} is handed to the browser. Its names go into a file of their own.` : '',
-            button('Save the names too', () => this.saveNames()));
-    }
-
-    saveNames() {
-        const { book, names } = this.state;
-        saveFile(`${book.name}.names`, writeNames(names));
-        this.#savedNames = names;
-        this.notice('');
-    }
-
-    #appendAndSave() {
-        this.notice('');
-        this.tabs.choose('book');
-        if (this.panels.book.append()) this.saveBook();
-    }
-
-    async #opened(files) {
-        const { book, names, namesFile, wrong } = await readFiles(files);
-        this.notice(wrong ?? '');
-        if (book) this.openBook(book, names, wrong);
-        else if (names) {
-            this.#savedNames = names;
-            this.store.change({ names });
-            this.notice(`The names of ${namesFile} are those of ${this.state.book.name} now. Undo brings the others back.`);
-        }
-    }
-
-    /** Opens a book in place of the present one, which is asked about if it is not saved. */
-    openBook(book, names, wrong = null, asked = false) {
-        const { state, store } = this;
-        if (store.bookUnsaved && !asked) {
-            return this.notice(`${state.book.name} is not saved.`,
-                button(`Open ${book.name} all the same`, () => this.openBook(book, names, wrong, true)),
-                button(`Keep ${state.book.name}`, () => this.notice('')));
-        }
-        this.notice(wrong ?? '');
-        const edition = chosenEdition(verdictsOf(this.library, book.bytes), book.edition ?? state.book.edition);
-        this.panels.book.first = 0;
-        const opened = { name: book.name, edition, bytes: book.bytes };
-        const kept = presetIn(this.library, opened, state);
-        const known = wrong || book === NEW_BOOK ? null : rememberedNames(book);
-        store.change({ book: opened, kept, names: names ?? known ?? NO_NAMES });
-        store.markBookSaved();
-        this.#savedNames = names;
-        this.tabs.choose('book');
-        if (!names && !wrong) this.#sayNames(state, known);
-    }
-
-    /** Names belong to a book: one that came without any has those that it had here before, or none, and may take over others. */
-    #sayNames(before, known) {
-        const { name } = this.state.book;
-        const set = names => {
-            this.store.change({ names });
-            this.notice('');
-        };
-        if (known?.lines.length > 0) {
-            return this.notice(`${name} came without its names: those that it had here before are used.`, button('Use no names', () => set(NO_NAMES)));
-        }
-        if (rigNames(before.names).lines.length === 0) return;
-        const old = before.book.name;
-        this.notice(`${name} has no names. Its sources and screens can have those of ${old}.`,
-            button(`Take over the names of ${old}`, () => set(withRigNamesOf(this.state.names, before.names))),
-            button('Leave it without names', () => this.notice('')));
     }
 
     /** A sentence about what is over now goes. */

@@ -2,28 +2,39 @@
 import assert from 'node:assert/strict';
 import { readFileSync, readdirSync } from 'node:fs';
 import { test } from 'node:test';
-import { chosenEdition, presetIn, tooManyLanes, verdictTexts, verdictsOf } from '../src/book.mjs';
+import { convertedName, countText, editionsOf, presetIn, refusedText, tooManyLanes, verdictsOf } from '../src/book.mjs';
 import { isNamesFile } from '../src/files.mjs';
 import { manyBooks } from './books.mjs';
 import { library, root } from './library.mjs';
 
 test('the books of the tests are right and damaged ones of either edition', () => {
     const books = manyBooks();
-    const refused = books.filter(book => book.verdict[0].includes('refused'));
+    const refused = books.filter(book => book.editions.length === 0);
     assert.ok(books.length === 200 && refused.length > 40 && refused.length < 120);
-    for (const edition of [1, 2]) assert.ok(books.filter(book => book.edition === edition && book.rows.length > 0).length > 30);
+    for (const edition of [1, 2]) assert.ok(books.filter(book => String(book.editions) === String(edition) && book.rows.length > 0).length > 30);
     assert.ok(books.some(book => book.rows.some(row => row.startsWith('refused'))));
 });
 
-test('the sentences about a book name either edition', () => {
+test('the edition of a book is the one whose check passes; the few with two or none are told apart in words', () => {
     const first = library.append(1, [], 'D', 5, [5, 2]);
     const none = new Uint8Array(0);
-    assert.deepEqual(verdictTexts(verdictsOf(library, first), 1), ['As the first edition: 1 preset.', 'As the second edition the file would be refused.']);
-    assert.match(verdictTexts(verdictsOf(library, first), 2)[1], /pass as the first edition only: 1 preset/);
-    assert.match(verdictTexts(verdictsOf(library, none), 2)[1], /pass as the first edition too: 0 presets/);
-    assert.deepEqual(verdictTexts(verdictsOf(library, [1]), 1), [`As the first edition: refused. ${library.message(1)}`, `As the second edition: refused. ${library.message(1)}`]);
-    assert.equal(chosenEdition(verdictsOf(library, first), 2), 1);
-    assert.equal(chosenEdition(verdictsOf(library, none), 2), 2);
+    assert.deepEqual(editionsOf(verdictsOf(library, first)), [1]);
+    assert.deepEqual(editionsOf(verdictsOf(library, library.convert(1, first))), [2]);
+    assert.deepEqual(editionsOf(verdictsOf(library, none)), [1, 2]);
+    assert.deepEqual(editionsOf(verdictsOf(library, [1])), []);
+    assert.equal(countText(library, { edition: 1, bytes: first }), '1 preset, first edition');
+    assert.equal(countText(library, { edition: 2, bytes: none }), '0 presets, second edition');
+    const damaged = readFileSync(`${root}tests/books/refused/8-letter.first`);
+    assert.match(countText(library, { edition: 1, bytes: damaged }), /1 of them damaged, first edition/);
+    assert.equal(refusedText(verdictsOf(library, [1])), library.message(1));
+    assert.equal(refusedText(verdictsOf(library, [9, 9, 9, 9])).split(library.message(2)).length, 2);
+});
+
+test('a converted book has a file name of its own', () => {
+    assert.equal(convertedName('cabin.book', 2), 'cabin-second-edition.book');
+    assert.equal(convertedName('cabin-second-edition.book', 1), 'cabin-first-edition.book');
+    assert.equal(convertedName('cabin', 1), 'cabin-first-edition');
+    assert.equal(convertedName('a.b.book', 1), 'a.b-first-edition.book');
 });
 
 test('stored books are opened as the edition they are', () => {

@@ -2,7 +2,7 @@
 // them as JSON for the tests in a browser.
 import { pathToFileURL } from 'node:url';
 import { attempt } from '../src/library.mjs';
-import { chosenEdition, verdictTexts, verdictsOf } from '../src/book.mjs';
+import { countText, editionsOf, refusedText, verdictsOf } from '../src/book.mjs';
 import { RIGS, dice, library, randomWord } from './library.mjs';
 
 function rightBook(random, edition) {
@@ -27,15 +27,16 @@ function damaged(random, bytes) {
     return Uint8Array.from(list);
 }
 
-/** A book with the sentences and rows that it has to get. */
+/** A book with the sentence and rows that it has to get; where the page asks for the edition, those of the second. */
 function judged(bytes) {
     const verdicts = verdictsOf(library, bytes);
-    const edition = chosenEdition(verdicts, 2);
-    const presets = verdicts[edition].refusal ? [] : library.presets(edition, bytes, 0, 20);
+    const passing = editionsOf(verdicts);
+    const edition = passing.length === 1 ? passing[0] : 2;
+    const presets = passing.length === 0 ? [] : library.presets(edition, bytes, 0, 20);
     return {
         bytes: Array.from(bytes),
-        edition,
-        verdict: verdictTexts(verdicts, edition),
+        editions: passing,
+        verdict: passing.length === 0 ? refusedText(verdicts) : countText(library, { edition, bytes }),
         rows: presets.map(preset => (preset.refusal ? `refused ${preset.refusal.number}` : `letters ${preset.word.join(' ')}`)),
     };
 }

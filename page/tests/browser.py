@@ -610,7 +610,7 @@ class Books(PageTest):
     def test_07_dropped_loaded_appended_converted_saved(self):
         self.drop(("cabin.book", self.BOOK), ("cabin.book.names", b"# ours\nsource 1 rear view\npreset 1 Yard\n"))
         self.assertIn("cabin.book (first edition)", self.text("book-title"))
-        self.assertEqual(self.text("book-verdict"), "As the first edition: 2 presets.")
+        self.assertEqual(self.text("book-verdict"), "2 presets, first edition.")
         self.assertEqual(self.labelled("name of preset 1").get_attribute("value"), "Yard")
         self.load()
         self.drop(("cabin.book", self.BOOK))
@@ -635,7 +635,7 @@ class Books(PageTest):
         self.assertEqual(self.saved("cabin.book.names"), b"# ours\nsource 1 rear view\npreset 1 Yard\npreset 2 Reversing\n")
         self.press("Convert to the second edition")
         self.press("Save")
-        self.assertEqual(self.saved("cabin.book"), bytes(self.js("return [...app.library.convert(1, arguments[0])]", list(expected))))
+        self.assertEqual(self.saved("cabin-second-edition.book"), bytes(self.js("return [...app.library.convert(1, arguments[0])]", list(expected))))
         self.press("Undo")
         self.assertIn("first edition", self.text("book-title"))
 
@@ -644,12 +644,40 @@ class Books(PageTest):
         self.press("Append the present preset")
         self.drop(("two.book", b""))
         self.assertIn("one.book is not saved.", self.text("notice"))
-        self.press("Keep one.book")
+        self.press("Keep one.book as it is here")
         self.assertIn("one.book", self.text("book-title"))
         self.drop(("two.book", b""))
-        self.press("Open two.book all the same")
+        self.press("Open the file two.book all the same")
+        self.press("Second edition")
+        self.assertIn("two.book (second edition)", self.text("book-title"))
+
+    def test_07_the_edition_is_found_or_asked_for(self):
+        second = bytes(self.js("return [...app.library.convert(1, arguments[0])]", list(self.BOOK)))
+        for name, content, edition in [("one.book", self.BOOK, "first"), ("two.book", second, "second")]:
+            self.drop((name, content))
+            self.assertEqual(self.text("book-title"), f"{name} ({edition} edition)")
+            self.assertEqual(self.text("book-verdict"), f"2 presets, {edition} edition.")
+        self.drop(("empty.book", b""))
+        self.assertIn("empty.book is empty. In which edition", self.text("notice"))
         self.assertIn("two.book", self.text("book-title"))
-        self.assertIn("pass as the second edition too", self.text("book-other"))
+        self.press("Do not open empty.book")
+        self.assertEqual((self.text("notice"), self.text("book-title")), ("", "two.book (second edition)"))
+        for choice in ["First edition", "Second edition"]:
+            self.drop(("empty.book", b""))
+            self.press(choice)
+            self.assertEqual(self.text("book-title"), f"empty.book ({choice.lower()})")
+        self.drop(("both.book", bytes(2)))
+        self.assertIn("both.book can be read in two ways: 0 presets, first edition, or 0 presets, second edition.", self.text("notice"))
+        self.press("First edition")
+        self.drop(("one.book", self.BOOK))
+        self.press("Convert to the second edition")
+        self.assertEqual(self.text("book-title"), "one-second-edition.book (second edition) *")
+        self.press("Convert to the first edition")
+        self.assertEqual(self.text("book-title"), "one-first-edition.book (first edition)")
+        self.assertEqual(bytes(self.js("return [...app.state.book.bytes]")), self.BOOK)
+        self.press("Undo")
+        self.press("Undo")
+        self.assertEqual(self.text("book-title"), "one.book (first edition)")
 
     def test_07_reload_with_unsaved_work_asks(self):
         def asked():
@@ -677,14 +705,33 @@ class Books(PageTest):
         self.assertEqual(len(self.saved("new.book")), 12)
         self.assertTrue(self.asks_before_leaving())
 
-    def test_07_what_is_refused_is_not_saved_by_a_key(self):
-        """Of a file that is too long only the front was read."""
-        for name, content in [("large.book", bytes(70000)), ("damaged.book", bytes([9] * 50))]:
-            self.drop((name, content))
+    def test_07_what_is_no_book_is_not_opened(self):
+        """Of a file that is too long only the front is read: saved, it would replace the whole."""
+        self.drop(("cabin.book", self.BOOK), ("cabin.book.names", b"preset 1 Yard\n"))
+        picture = (ROOT / "page/screenshots/d5-light-360.png").read_bytes()
+        for name, content in [("large.book", bytes(70000)), ("damaged.book", bytes([9] * 50)), ("photo.png", picture), ("one.book", b"x")]:
+            self.drop((name, content), (f"{name}.names", b"preset 1 Other\n"))
+            self.assertIn(f"{name} is no preset book and was not opened: ", self.text("notice"))
+            self.assertIn("cabin.book stays as it is.", self.text("notice"))
+            self.assertEqual(bytes(self.js("return [...app.state.book.bytes]")), self.BOOK)
+            self.assertEqual(self.labelled("name of preset 1").get_attribute("value"), "Yard")
             self.keys("s")
-            self.assertIn(f"{name} is not saved", self.text("notice"))
-            time.sleep(0.3)
-            self.assertEqual(list(Path(self.downloads).iterdir()), [])
+            self.assertEqual(self.saved("cabin.book"), self.BOOK)
+
+    def test_07_what_is_said_of_saving_is_true(self):
+        self.word("1 2")
+        self.press("Book")
+        self.press("Append the present preset")
+        self.assertIn("The book is not saved yet.", self.text("book-message"))
+        self.press("New book")
+        choices = self.js("return [...document.querySelectorAll('#notice button')].map(e => e.textContent)")
+        self.assertEqual(choices, ["Start a new book all the same", "Keep new.book as it is here"])
+        self.press("Keep new.book as it is here")
+        self.press("Save")
+        self.assertEqual(len(self.saved("new.book")), 11)
+        self.assertIn("new.book was given to the browser", self.text("notice"))
+        self.assertEqual(self.text("book-message"), "")
+        self.assertFalse(self.text("book-title").endswith("*"))
 
     def test_07_a_name_being_typed_counts_when_saving(self):
         self.press("Book")
@@ -717,7 +764,7 @@ class Books(PageTest):
         self.press("Append the present preset")
         self.assertEqual(self.text("notice"), "")
         self.press("New book")
-        self.press("Open new.book all the same")
+        self.press("Start a new book all the same")
         self.assertTrue(self.asks_before_leaving())
         self.press("Undo")
         self.assertEqual(self.js("return [app.store.preset, app.store.wordUnsaved]"), [0, False])
@@ -808,8 +855,8 @@ class Books(PageTest):
         self.assertIn(self.library("message", 18), self.text("book-message"))
         self.assertEqual(self.js("return document.querySelector('#presets .culprit').dataset.preset"), "1")
         self.drop(("large.book", bytes(70000)))
-        self.assertIn(self.library("message", 1), self.text("book-verdict"))
-        self.assertTrue(self.js("return ['save', 'append', 'convert', 'save-book'].every(id => document.getElementById(id).disabled)"))
+        self.assertIn(self.library("message", 1), self.text("notice"))
+        self.assertIn("wide.book", self.text("book-title"))
         self.drop(("wrong.names", b"source 1 sky\nsource 0 sky\n"))
         self.assertIn("line 2", self.text("notice"))
         self.rig("A", 1)
@@ -822,7 +869,7 @@ class Books(PageTest):
         self.driver.find_element(By.ID, "file").send_keys(str(folder / "example.second"))
         WebDriverWait(self.driver, 5).until(lambda _: "example.second" in self.text("book-title"))
         self.settle()
-        self.assertEqual(self.text("book-verdict"), "As the second edition: 2 presets.")
+        self.assertEqual(self.text("book-verdict"), "2 presets, second edition.")
 
     def test_07_two_hundred_books(self):
         made = subprocess.run(["node", str(HERE / "books.mjs")], check=True, capture_output=True, text=True)
@@ -839,11 +886,16 @@ class Books(PageTest):
                     app.store.change({ book: { name: 'none', edition: 2, bytes: new Uint8Array(0) } });
                     app.store.markBookSaved();
                     document.body.dispatchEvent(new DragEvent('drop', { dataTransfer: data, bubbles: true, cancelable: true }));
-                    while (app.state.book.name !== `book ${at}`) await pause();
+                    const notice = document.getElementById('notice');
+                    while (app.state.book.name === 'none' && notice.hidden) await pause();
+                    const asks = [...notice.querySelectorAll('button')].map(e => e.textContent).filter(text => text.endsWith(' edition'));
+                    if (asks.length > 0) [...notice.querySelectorAll('button')].find(e => e.textContent === 'Second edition').click();
                     app.updatePanel();
-                    seen.push({ bytes: [...app.state.book.bytes], edition: app.state.book.edition,
-                        verdict: ['book-verdict', 'book-other'].map(id => document.getElementById(id).textContent),
+                    const { book } = app.state, opened = book.name !== 'none';
+                    seen.push({ bytes: opened ? [...book.bytes] : bytes, editions: opened ? asks.length > 0 ? [1, 2] : [book.edition] : [],
+                        verdict: opened ? document.getElementById('book-verdict').textContent.slice(0, -1) : notice.textContent.split('was not opened: ')[1].replace(/ none stays as it is.$/, ''),
                         rows: [...document.querySelectorAll('#presets li')].map(e => e.dataset.refusal ? `refused ${e.dataset.refusal}` : `letters ${e.dataset.letters}`) });
+                    app.notice('');
                 }
                 done(seen);
             })();""", books)
@@ -1110,6 +1162,7 @@ class Screenshots(PageTest):
                 self.size(width, height, scheme)
                 self.fresh()
                 self.drop(("cabin-3.book", b""), ("cabin-3.book.names", names.encode()))
+                self.press("Second edition")
                 self.word("4 4 2 5 3 5 1 2")
                 self.press("Why")
                 self.js("scrollTo(0, 0); document.activeElement.blur()")
