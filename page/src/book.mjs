@@ -63,8 +63,8 @@ export class BookPanel {
         this.first = 0;
         this.culprit = -1;
         this.note = { state: null, node: null };
-        this.name = make('input', { type: 'text', id: 'book-name', maxlength: 120, spellcheck: 'false', onchange: () => this.#rename() });
-        this.presetName = make('input', { type: 'text', id: 'preset-name', maxlength: 80, placeholder: 'a name, if you like' });
+        this.name = make('input', { type: 'text', id: 'book-name', spellcheck: 'false', onchange: () => this.#rename() });
+        this.presetName = make('input', { type: 'text', id: 'preset-name', placeholder: 'a name, if you like' });
         this.message = make('div', { id: 'book-message', 'aria-live': 'polite' });
         this.rows = make('ol', { class: 'presets', id: 'presets' });
         this.pager = make('div', { class: 'bar' });

@@ -1,5 +1,5 @@
 // Composing: the bar of buttons below the picture, the field with the word, and the normal form beside it.
-import { byId, setText } from './dom.mjs';
+import { byId, enable, setText } from './dom.mjs';
 import { attempt } from './library.mjs';
 import { escaped } from './markup.mjs';
 import { rigOf } from './rig.mjs';
@@ -110,7 +110,7 @@ export class Composing {
         const { fault, field } = this;
         const text = field.value;
         field.setAttribute('aria-invalid', String(Boolean(fault)));
-        byId('undo').disabled = !this.app.store.canUndo && !fault;
+        enable(byId('undo'), this.app.store.canUndo || Boolean(fault));
         const part = (start, end) => escaped(text.slice(start, end));
         byId('word-marks').innerHTML = fault ? `${part(0, fault.start)}<mark>${part(fault.start, fault.end)}</mark>${part(fault.end)}` : '';
         byId('word-marks').scrollTop = field.scrollTop;
@@ -140,12 +140,12 @@ export class Composing {
         const { state, answers, store, ui } = this.app;
         this.#updateField(state);
         this.#sayAdd('');
-        byId('undo').disabled = !store.canUndo && !this.fault;
-        byId('redo').disabled = !store.canRedo;
-        byId('clear').disabled = state.word.length === 0;
-        byId('remove').disabled = ui.selected < 0;
-        byId('earlier').disabled = ui.selected < 1;
-        byId('later').disabled = ui.selected < 0 || ui.selected >= state.word.length - 1;
+        enable(byId('undo'), store.canUndo || Boolean(this.fault));
+        enable(byId('redo'), store.canRedo);
+        enable(byId('clear'), state.word.length > 0);
+        enable(byId('remove'), ui.selected >= 0);
+        enable(byId('earlier'), ui.selected >= 1);
+        enable(byId('later'), ui.selected >= 0 && ui.selected < state.word.length - 1);
         setText(byId('letters'), counted(state.word.length, 'letter'));
         byId('unkept').hidden = !store.wordUnsaved;
         this.#updateForm(state, answers);
@@ -155,7 +155,7 @@ export class Composing {
         const taken = sameLetters(form, state.word);
         setText(byId('form'), form.length > 400 ? shortened(form, 400) : wordText(form));
         setText(byId('form-letters'), counted(form.length, 'letter'));
-        byId('take').disabled = taken;
+        enable(byId('take'), !taken);
         const shows = same ? 'Shows the same on every screen.' : 'Does NOT show the same.';
         setText(byId('form-same'), taken ? 'The word is its normal form.' : shows);
         const { inversions, negativeSumPairs, negatives, total } = crossings;

@@ -25,6 +25,25 @@ export function byId(id) {
     return document.getElementById(id);
 }
 
+/**
+ * Turns a button on or off. One that has the focus stays where the keyboard is, and is only said to be off, until the focus goes:
+ * a disabled element would drop it.
+ */
+export function enable(element, on) {
+    const held = !on && document.activeElement === element;
+    if (on) element.removeAttribute('aria-disabled');
+    else element.setAttribute('aria-disabled', 'true');
+    element.disabled = !on && !held;
+    if (held) element.addEventListener('blur', () => (element.disabled = element.getAttribute('aria-disabled') === 'true'), { once: true });
+}
+
+/** What is said to be off does nothing when it is pressed. */
+export function holdDisabled() {
+    addEventListener('click', event => {
+        if (event.target.closest?.('button[aria-disabled=true]')) event.stopImmediatePropagation();
+    }, true);
+}
+
 /** Changes an element's text only where it differs, so that nothing is laid out again for nothing. */
 export function setText(element, text) {
     if (element.textContent !== text) element.textContent = text;

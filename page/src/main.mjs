@@ -3,7 +3,7 @@ import { load } from '../../bindings/javascript/winnathey.mjs';
 import { BookPanel, editionName } from './book.mjs';
 import { Composing } from './composing.mjs';
 import { DelaysPanel } from './delays.mjs';
-import { button, byId, keepFocus, make, setText } from './dom.mjs';
+import { button, byId, holdDisabled, keepFocus, make, setText } from './dom.mjs';
 import { takeFiles } from './files.mjs';
 import { grabSource } from './grabbing.mjs';
 import { callsOf } from './library.mjs';
@@ -141,6 +141,7 @@ class App {
         byId('save').addEventListener('click', () => this.shelf.save());
         takeFiles(byId('file'), files => this.shelf.take(files));
         grabSource(this);
+        holdDisabled();
         // A list that opens keeps the pointer's end to itself, and is no button.
         addEventListener('pointerdown', event => this.#press(event.target.closest('button, label') !== null), true);
         for (const type of ['pointerup', 'pointercancel']) addEventListener(type, () => this.#press(false), true);

@@ -15,8 +15,8 @@ const NARROWEST = 28;
 export function spacing(lanes, width) {
     // As narrow as the style's narrowest layout, less what is around the picture.
     const narrow = width < 690;
-    if (lanes > 16) return { lane: 26, column: narrow ? 30 : 32, fold: narrow ? 18 : 56, size: 'dense' };
-    return { lane: narrow ? 66 : 56, column: narrow ? 28 : 44, fold: narrow ? 18 : 56, size: 'wide' };
+    if (lanes > 16) return { lane: 26, column: narrow ? 30 : 32, fold: narrow ? 24 : 56, size: 'dense' };
+    return { lane: narrow ? 66 : 56, column: narrow ? 28 : 44, fold: narrow ? 24 : 56, size: 'wide' };
 }
 
 /** A step's width: narrower than it could be if all steps can be seen then, but never too narrow for two digits. */
@@ -113,10 +113,10 @@ export class Picture {
         const label = `add step ${step}: ${actionText(action)}`;
         const text = `+${step}${action.mirrors ? ' •' : ''}`;
         const gap = button(text, () => app.composing.add(step), { class: 'gap', 'aria-label': label, title: label });
-        const dense = spacing(app.answers.window.length, Infinity).size === 'dense';
         // The last step of B and D is close to the one before it, in D on the same lanes: its button stands further down.
-        const down = !action.mirrors ? 0 : (dense ? 0.4 : 0) + (action.crosses ? 0.5 : 0);
-        gap.style.setProperty('--at', (action.lanes[0] + action.lanes.at(-1) + 1) / 2 + down);
+        const dense = spacing(app.answers.window.length, Infinity).size === 'dense';
+        const low = action.lanes.at(-1) + (dense ? 1.02 : 0.65);
+        gap.style.setProperty('--at', action.mirrors ? low : (action.lanes[0] + action.lanes.at(-1) + 1) / 2);
         const ghost = shown => this.#ghost(shown ? action : null);
         for (const type of ['pointerenter', 'focus']) gap.addEventListener(type, () => ghost(true));
         for (const type of ['pointerleave', 'blur']) gap.addEventListener(type, () => ghost(false));
@@ -222,7 +222,8 @@ export class Picture {
         if (m.left) chips.unshift(more(`‹${m.left > 40 ? grouped(part.first) : ''}`, m.left / 2, Math.max(part.first - shown, 0)));
         if (m.right) chips.push(more(`${m.right > 40 ? grouped(part.total - part.last) : ''}›`, m.end - m.right / 2, part.last));
         this.steps.replaceChildren(...chips);
-        if (focused) this.steps.querySelector('.chip[tabindex="0"]')?.focus();
+        // With the last step gone the keyboard goes to where a step is added.
+        if (focused) (this.steps.querySelector('.chip[tabindex="0"]') ?? byId('add')).focus();
     }
 
     #drawScreens(window) {

@@ -80,18 +80,26 @@ export class RigFields {
     }
 }
 
+/** What is typed is a name as it is, or the field and a sentence say what became of it. */
+function sayChanged(app, field, keyword, number) {
+    const name = nameOf(app.state.names, keyword, number);
+    if (field.value.trim() === name) return;
+    field.value = name;
+    app.notice(`A name is one line of at most 80 characters: ${keyword} ${number} is named '${name}' now.`);
+}
+
 /** The field for the name of a source, a screen or a preset. */
 export function nameField(app, keyword, number) {
     const field = make('input', {
         class: 'name',
         type: 'text',
-        maxlength: 80,
         'aria-label': `name of ${keyword} ${number}`,
         placeholder: `${keyword} ${number}`,
         spellcheck: 'false',
         onchange: () => {
             const names = withName(app.state.names, keyword, number, field.value);
             if (names !== app.state.names) app.store.change({ names });
+            sayChanged(app, field, keyword, number);
         },
     });
     field.update = () => {

@@ -39,10 +39,10 @@ function laneHeight(lanes) {
 export class SheetPanel {
     constructor(app, root) {
         this.app = app;
-        const field = (id, maxlength) => make('input', { type: 'text', id, maxlength, oninput: () => this.update() });
+        const oninput = () => this.update();
         const labelled = (text, input) => make('label', { class: 'field grow' }, make('span', {}, text), input);
-        this.title = field('sheet-title', 80);
-        this.remarks = field('sheet-remarks', 200);
+        this.title = make('input', { type: 'text', id: 'sheet-title', oninput });
+        this.remarks = make('textarea', { id: 'sheet-remarks', rows: 2, oninput });
         this.sheet = make('article', { class: 'sheet', id: 'sheet' });
         const print = button('Print the sheet', () => app.hasWord('Nothing was printed') && window.print(), { class: 'main', id: 'print' });
         const fields = [labelled('Title', this.title), labelled('Remarks', this.remarks)];
@@ -61,7 +61,7 @@ export class SheetPanel {
             return this.sheet.replaceChildren(make('p', { class: 'refusal' }, 'There is no sheet: the field with the word does not hold a word.'));
         }
         const date = new Date().toLocaleString('en-GB', { dateStyle: 'long', timeStyle: 'short' });
-        const remarks = this.remarks.value ? [['Remarks', this.remarks.value]] : [];
+        const remarks = this.remarks.value.trim() ? [['Remarks', this.remarks.value.trim()]] : [];
         const lines = [...sheetLines(state, answers, about, preset), ['Date', date], ...remarks];
         const name = preset === null ? '' : nameOf(state.names, 'preset', preset);
         this.sheet.replaceChildren(

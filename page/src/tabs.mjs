@@ -19,9 +19,10 @@ export class Tabs {
     }
 
     #key(event) {
-        const step = { ArrowRight: 1, ArrowLeft: -1 }[event.key];
-        if (!step) return;
-        const next = this.tabs.at((this.tabs.indexOf(event.target) + step) % this.tabs.length);
+        const here = this.tabs.indexOf(event.target);
+        const place = { ArrowRight: (here + 1) % this.tabs.length, ArrowLeft: here - 1, Home: 0, End: -1 }[event.key];
+        if (place === undefined) return;
+        const next = this.tabs.at(place);
         this.choose(next.dataset.tab);
         next.focus();
         event.preventDefault();

@@ -1,5 +1,5 @@
 // Why a word shrinks: the rewriting line by line, replayed with the library's single rewrite.
-import { button, byId, make, setText } from './dom.mjs';
+import { button, byId, enable, make, setText } from './dom.mjs';
 import { pictureMarkup } from './strands.mjs';
 import { counted, grouped, shortened, spaced } from './text.mjs';
 
@@ -159,8 +159,8 @@ export class WhyPanel {
         if (!rewriting || rewriting.count === 0) return this.lines.replaceChildren();
         const last = rewriting.steps.length;
         [this.slider.max, this.slider.value] = [last, at];
-        byId('why-back').disabled = at === 0;
-        byId('why-forward').disabled = at === last;
+        enable(byId('why-back'), at > 0);
+        enable(byId('why-forward'), at < last);
         setText(byId('why-place'), at === last ? 'end' : `line ${grouped(at + 1)} of ${grouped(rewriting.count)}`);
         this.lines.replaceChildren(...(at === last ? this.#end() : this.#line(rewriting.line(at))));
     }

@@ -957,8 +957,8 @@ class Feel(PageTest):
         self.js("HTMLAnchorElement.prototype.click = () => {}; print = () => {}; document.getElementById('file').click = () => {}")
         self.assertEqual(self.driver.execute_async_script(RANDOM_USER, 40, 400), [])
 
-    def test_no_horizontal_scroll_from_360_px_to_a_wall(self):
-        for width in [360, 800, 1280, 3840]:
+    def test_no_horizontal_scroll_from_320_px_to_a_wall(self):
+        for width in [320, 360, 800, 1280, 3840]:
             self.size(width, 800)
             for kind, rank in RIGS:
                 self.rig(kind, rank)
@@ -971,13 +971,84 @@ class Feel(PageTest):
     def test_no_name_is_too_long_for_the_page(self):
         for control in ["name of source 1", "name of screen 1"]:
             self.write(control, "W" * 80)
+        self.assertEqual(self.text("notice"), "")
+        self.write("name of screen 1", "W" * 81)
+        self.assertIn("at most 80 characters", self.text("notice"))
+        self.assertEqual(self.labelled("name of screen 1").get_attribute("value"), "W" * 80)
         self.press("Sheet")
         self.write("Title", "W" * 80)
+        self.write("Remarks", "x" * 30 + " y" * 150)
+        self.assertIn("x" * 30 + " y" * 150, self.text("sheet"))
         for width in [360, 640, 1024, 1280]:
             self.size(width, 800)
             for tab in TABS:
                 self.press(tab)
                 self.assertLessEqual(self.js("return document.documentElement.scrollWidth"), width, tab)
+
+    def focus(self):
+        return self.js("const e = document.activeElement; return e.id || e.getAttribute('aria-label') || e.tagName")
+
+    def test_the_focus_is_never_dropped(self):
+        self.word("4 4 2 5 3 5 1 2")
+        for label, id in [("Take it", "take"), ("Clear", "clear"), ("Undo", "undo"), ("Redo", "redo")]:
+            button = self.labelled(label)
+            button.send_keys(Keys.ENTER)
+            self.settle()
+            while label in ("Undo", "Redo") and button.get_attribute("aria-disabled") != "true":
+                button.send_keys(Keys.ENTER)
+            self.assertEqual((self.focus(), button.get_attribute("aria-disabled")), (id, "true"))
+            before = self.letters()
+            button.send_keys(Keys.ENTER)
+            self.assertEqual((self.letters(), self.focus()), (before, id))
+            if label == "Clear":
+                self.keys("z")
+        self.assertFalse(self.labelled("Undo").get_attribute("disabled") and self.focus() == "undo")
+        self.word("3")
+        self.js("document.querySelector('.chip').focus()")
+        ActionChains(self.driver).send_keys(Keys.DELETE).perform()
+        self.assertEqual((self.letters(), self.focus()), ([], "add"))
+        self.word("3")
+        self.driver.find_element(By.CSS_SELECTOR, ".chip").click()
+        self.labelled("remove the chosen step").send_keys(Keys.ENTER)
+        self.assertEqual((self.letters(), self.focus()), ([], "remove"))
+
+    def test_tabs_by_the_keyboard(self):
+        self.press("Modules")
+        for key, tab in [(Keys.END, "tab-proved"), (Keys.ARROW_RIGHT, "tab-why"), (Keys.ARROW_LEFT, "tab-proved"), (Keys.HOME, "tab-why"), (Keys.ARROW_RIGHT, "tab-wanted")]:
+            ActionChains(self.driver).send_keys(key).perform()
+            self.assertEqual((self.focus(), self.js("return document.querySelector('[role=tab][aria-selected=true]').id")), (tab, tab))
+
+    def test_the_chosen_tab_is_seen_in_forced_colours(self):
+        features = [{"name": "forced-colors", "value": "active"}]
+        self.driver.execute_cdp_cmd("Emulation.setEmulatedMedia", {"media": "", "features": features})
+        self.press("Modules")
+        wide = self.js("return [...document.querySelectorAll('[role=tab]')].map(e => [e.textContent, parseFloat(getComputedStyle(e).borderBottomWidth)])")
+        self.assertEqual([text for text, width in wide if width > 0], ["Modules"])
+
+    def test_wrong_numbers_are_tied_to_their_field(self):
+        for label, wrong in [("Rank", "3"), ("Add step", "9")]:
+            field = self.labelled(label)
+            field.send_keys(Keys.CONTROL, "a")
+            field.send_keys(wrong, Keys.ENTER)
+            about = self.js("return document.getElementById(arguments[0].getAttribute('aria-describedby')).textContent", field)
+            self.assertEqual((field.get_attribute("aria-invalid"), about != ""), ("true", True))
+
+    def test_targets_are_large_enough_for_a_finger_and_apart(self):
+        """At least 24 px each way; a box or a choice counts with its label. No two steps to add touch."""
+        for width in [360, 768, 1280]:
+            self.size(width, 900)
+            for kind, rank in [("B", 8), ("D", 5), ("D", 64)]:
+                self.rig(kind, rank)
+                self.word(self.long_word(rank, 60))
+                for tab in TABS:
+                    self.press(tab)
+                    small, near = self.js(
+                        """const seen = [...document.querySelectorAll('button, input, select, textarea, summary, .token')].filter(e => e.offsetParent !== null && e.id !== 'skip');
+                        const box = e => (e.matches('[type=checkbox], [type=radio]') ? e.closest('label') : e).getBoundingClientRect();
+                        const small = seen.filter(e => box(e).width < 24 || box(e).height < 24).map(e => e.outerHTML.slice(0, 90));
+                        const gaps = [...document.querySelectorAll('.gap')].map(e => e.getBoundingClientRect());
+                        return [small, gaps.slice(1).filter((b, at) => b.top - gaps[at].bottom < 1).length]""")
+                    self.assertEqual((small, near), ([], 0), f"{kind}{rank}, {tab}, {width} px")
 
     def test_eight_steps_are_seen_at_every_width(self):
         """640 px is a screen of 1280 px at 200 %."""
@@ -1048,6 +1119,11 @@ class Feel(PageTest):
             for tab in TABS:
                 self.press(tab)
                 self.assertEqual(self.js(CONTRAST), [], f"{scheme}, {tab}")
+            self.write("name of source 2", "left door")
+            self.write("name of screen 4", "crane hook")
+            self.labelled("name of source 1").click()
+            self.assertTrue(self.js("return document.querySelector('.tracing') !== null"))
+            self.assertEqual(self.js(CONTRAST), [], f"{scheme}, with the cursor in a name")
 
 
 RANDOM_USER = """
@@ -1096,8 +1172,11 @@ const lum = rgb => rgb.map(v => { v /= 255; return v <= 0.04045 ? v / 12.92 : ((
 const low = [];
 for (const e of document.querySelectorAll('body *')) {
     if (e.offsetParent === null || e.closest('[aria-hidden=true], svg, :disabled, script')) continue;
-    if (![...e.childNodes].some(n => n.nodeType === 3 && n.data.trim())) continue;
-    const [a, b] = [lum(parse(getComputedStyle(e).color).rgb), lum(ground(e))].map(v => v + 0.05);
+    if (![...e.childNodes].some(n => n.nodeType === 3 && n.data.trim()) && !(e.matches('input, textarea, select') && e.value)) continue;
+    let share = 1;
+    for (let p = e; p; p = p.parentElement) share *= getComputedStyle(p).opacity;
+    const mixed = parse(getComputedStyle(e).color).rgb.map((v, i) => v * share + ground(e)[i] * (1 - share));
+    const [a, b] = [lum(mixed), lum(ground(e))].map(v => v + 0.05);
     if (Math.max(a, b) / Math.min(a, b) < 4.5) low.push(e.outerHTML.slice(0, 90));
 }
 return low;"""
