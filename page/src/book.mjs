@@ -1,10 +1,12 @@
 // Books: what a file is as either edition, its presets row by row, and loading, appending, converting and saving.
-import { button, byId, make, refusalLine, setText } from './dom.mjs';
+import { button, byId, make, refusalLine, refusalParts, setText } from './dom.mjs';
 import { attempt } from './library.mjs';
 import { withName } from './names.mjs';
+import { toldText } from './plain.mjs';
 import { inRig, nameField } from './rig.mjs';
 import { NEW_BOOK, presetOf, samePreset } from './state.mjs';
 import { pictureMarkup } from './strands.mjs';
+import { term } from './terms.mjs';
 import { counted } from './text.mjs';
 
 /** So many presets are shown at a time. */
@@ -27,8 +29,8 @@ export function editionsOf(verdicts) {
 
 /** Why bytes are a book of neither edition. */
 export function refusedText(verdicts) {
-    const [one, two] = [1, 2].map(edition => verdicts[edition].refusal.text);
-    return one === two ? one : `As the first edition: ${one} As the second edition: ${two}`;
+    const [one, two] = [1, 2].map(edition => toldText(verdicts[edition].refusal));
+    return one === two ? one : `Read as the first edition: ${one} Read as the second edition: ${two}`;
 }
 
 /** What a book has. */
@@ -74,7 +76,8 @@ export class BookPanel {
                 button('Open a file', () => byId('file').click()), button('New book', () => app.shelf.open(NEW_BOOK, null)),
                 make('label', { class: 'field' }, make('span', {}, 'File name'), this.name)),
             make('p', { class: 'quiet' }, 'A book, or a book and its .names file, can also be dropped anywhere on this page.'),
-            make('p', { id: 'book-verdict' }),
+            make('p', {}, make('span', { id: 'book-verdict' }), ' ', term('edition', 'What is an edition?'), ' ',
+                make('span', { class: 'quiet' }, 'Presets are numbered from 0, as the book numbers them.')),
             make('div', { class: 'bar' }, make('label', { class: 'field' }, make('span', {}, 'Name of the preset'), this.presetName),
                 button('Append the present preset', () => this.append(), { class: 'main', id: 'append' })),
             make('div', { class: 'bar' }, this.convert, button('Save as a new file', () => app.shelf.save(), { id: 'save-book' }),
@@ -105,7 +108,7 @@ export class BookPanel {
         const { edition, bytes } = state.book;
         if (!this.app.hasWord('Nothing was appended')) return false;
         const { value, refusal } = attempt(() => library.append(edition, bytes, state.kind, state.rank, state.word));
-        if (refusal) return this.#say(refusalLine(refusal, 'The book stays as it was.')) ?? false;
+        if (refusal) return this.#say(refusalLine(refusal, { first: edition === 1 }, 'The book stays as it was.')) ?? false;
         const number = library.bookCheck(edition, value) - 1;
         store.change({ book: { ...state.book, bytes: value }, names: withName(state.names, 'preset', number, this.presetName.value) });
         this.presetName.value = '';
@@ -122,8 +125,8 @@ export class BookPanel {
         if (refusal) {
             this.culprit = refusal.number > 4 && refusal.number !== 13 ? tooManyLanes(library, edition, bytes) : -1;
             this.first = this.culprit < 0 ? this.first : this.culprit - this.culprit % ROWS;
-            const where = this.culprit < 0 ? '' : `Preset ${this.culprit} is the first that stands in the way. `;
-            return this.#say(refusalLine(refusal, `${where}The book stays as it was.`));
+            const where = this.culprit < 0 ? {} : { preset: this.culprit };
+            return this.#say(refusalLine(refusal, where, 'The book stays as it was.'));
         }
         const name = convertedName(state.book.name, 3 - edition);
         store.change({ book: { name, edition: 3 - edition, bytes: value } });
@@ -169,7 +172,7 @@ export class BookPanel {
 
     #refusedRow({ number, refusal }) {
         return make('li', { class: number === this.culprit ? 'culprit' : '', 'data-preset': number, 'data-refusal': refusal.number },
-            make('span', { class: 'number' }, String(number)), make('span', { class: 'refusal' }, refusal.text));
+            make('span', { class: 'number' }, String(number)), make('span', { class: 'refusal' }, ...refusalParts(refusal, { preset: number })));
     }
 
     #row(preset) {

@@ -1,7 +1,9 @@
-// Composing: the bar of buttons below the picture, the field with the word, and the normal form beside it.
+// Composing: the bar of buttons below the picture, the field with the word, and the normal form beside it, which the page calls the
+// shortest version.
 import { byId, enable, setText } from './dom.mjs';
 import { attempt } from './library.mjs';
 import { escaped } from './markup.mjs';
+import { toldText } from './plain.mjs';
 import { rigOf } from './rig.mjs';
 import { counted, grouped, parsedWord, shortened, spaced, wordText } from './text.mjs';
 import { added, culpritOf, moved, removed, sameLetters } from './words.mjs';
@@ -9,11 +11,12 @@ import { added, culpritOf, moved, removed, sameLetters } from './words.mjs';
 /** What a typed word is: its letters, or what is wrong with it and where in the text. */
 export function judged(library, kind, rank, text) {
     const { letters, spans, strange } = parsedWord(text);
-    if (strange) return { letters: null, fault: { ...strange, message: `'${strange.text}' is no number.`, number: null } };
+    if (strange) return { letters: null, fault: { ...strange, told: `'${strange.text}' is no number. Type the numbers of steps, with spaces between.` } };
     const { refusal } = attempt(() => library.window(kind, rank, letters));
     if (!refusal) return { letters, fault: null };
     const at = culpritOf(library, kind, rank, letters, refusal);
-    return { letters: null, fault: { ...spans[at], at, message: refusal.text, number: refusal.number } };
+    const step = text.slice(spans[at].start, spans[at].end);
+    return { letters: null, fault: { ...spans[at], at, number: refusal.number, told: toldText(refusal, { step, at, rank }) } };
 }
 
 /** Why no step is added, moved or removed while the field has text that was refused: that text would be gone. */
@@ -44,7 +47,7 @@ export class Composing {
         if (this.fault) return this.#sayAdd(NO_WORD);
         const word = added(state.word, step);
         const { refusal } = attempt(() => library.window(state.kind, state.rank, word));
-        if (refusal) return this.#sayAdd(refusal.text);
+        if (refusal) return this.#sayAdd(toldText(refusal, { step, rank: state.rank }));
         this.app.ui.selected = word.length - 1;
         store.change({ word });
         return true;
@@ -114,12 +117,7 @@ export class Composing {
         const part = (start, end) => escaped(text.slice(start, end));
         byId('word-marks').innerHTML = fault ? `${part(0, fault.start)}<mark>${part(fault.start, fault.end)}</mark>${part(fault.end)}` : '';
         byId('word-marks').scrollTop = field.scrollTop;
-        setText(byId('word-message'), fault ? `${this.#faultText()} The picture stays as it was.` : '');
-    }
-
-    #faultText() {
-        const place = this.fault.at === undefined ? '' : `Letter ${this.fault.at + 1}: `;
-        return `${place}${this.fault.message}`;
+        setText(byId('word-message'), fault ? `${fault.told} The picture stays as it was.` : '');
     }
 
     /** The word as text. Text that was refused stays as it was typed until the word changes; another rig may accept it. */
@@ -157,9 +155,9 @@ export class Composing {
         setText(byId('form-letters'), counted(form.length, 'letter'));
         enable(byId('take'), !taken);
         const shows = same ? 'Shows the same on every screen.' : 'Does NOT show the same.';
-        setText(byId('form-same'), taken ? 'The word is its normal form.' : shows);
+        setText(byId('form-same'), taken ? 'The word is its shortest version.' : shows);
         const { inversions, negativeSumPairs, negatives, total } = crossings;
-        const sorts = `${grouped(inversions)} plain, ${grouped(negativeSumPairs)} against a mirrored lane, ${grouped(negatives)} mirrored`;
-        setText(byId('crossings'), `Length ${grouped(total)}: ${sorts}.`);
+        setText(byId('crossings-plain'), `Length ${grouped(total)}: ${grouped(inversions)} plain, ${grouped(negativeSumPairs)}`);
+        setText(byId('crossings-mirrored'), `, ${grouped(negatives)} mirrored.`);
     }
 }

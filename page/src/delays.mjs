@@ -46,7 +46,7 @@ export function barsMarkup(counts, width, present) {
     const high = TOP + HIGH + 40;
     const label = 'pictures of the rig by their length';
     const frame = { class: 'bars', role: 'img', 'aria-label': label, viewBox: `0 0 ${width} ${high}`, width, height: high };
-    const below = tag('text', { x: left, y: high - 4 }, 'length: steps of the normal form');
+    const below = tag('text', { x: left, y: high - 4 }, 'length: steps of the shortest version');
     return tag('svg', frame, [...scale, ...bars, ...lengths, below].join(''));
 }
 
@@ -60,7 +60,7 @@ export class DelaysPanel {
         const { app, root } = this;
         const { kind, rank } = app.state;
         const { value, refusal } = attempt(() => app.library.delayTable(kind, rank));
-        if (refusal) return root.replaceChildren(refusalLine(refusal, `This rig is ${kind}${rank}.`));
+        if (refusal) return root.replaceChildren(refusalLine(refusal, { kind, rank }, `This rig is ${kind}${rank}.`));
         const { counts, normalForm: longest } = value;
         const width = Math.max(root.clientWidth, 280);
         const all = counts.reduce((sum, count) => sum + count, 0n);

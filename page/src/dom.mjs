@@ -1,4 +1,5 @@
 // Elements, made and found.
+import { plainText, libraryText } from './plain.mjs';
 
 /** An element with attributes and children. An attribute `onclick` is a listener; one that is false or null is left out. */
 export function make(name, attributes = {}, ...children) {
@@ -56,11 +57,13 @@ export function fromMarkup(markup) {
     return holder.content.firstElementChild;
 }
 
-/** A refusal as the library says it, with a remark of ours in the words of the trade. */
-export function refusalLine(refusal, remark = '') {
-    const line = make('p', { class: 'refusal', role: 'alert', 'data-refusal': refusal.number }, refusal.text);
-    if (remark) line.append(' ', make('span', { class: 'remark' }, remark));
-    return line;
+/** A refusal in words for the person who reads it, with a remark on what follows from it, and as the library says it. */
+export function refusalLine(refusal, where = {}, remark = '') {
+    return make('p', { class: 'refusal', role: 'alert', 'data-refusal': refusal.number }, ...refusalParts(refusal, where, remark));
+}
+
+export function refusalParts(refusal, where, remark = '') {
+    return [`${plainText(refusal.number, where)} `, remark && `${remark} `, make('span', { class: 'remark' }, libraryText(refusal))];
 }
 
 /** What an element is called, to find the one that took its place. */

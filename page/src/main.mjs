@@ -17,6 +17,7 @@ import { SheetPanel } from './sheet.mjs';
 import { Shelf } from './shelf.mjs';
 import { FIRST_STATE, NEW_BOOK, Store } from './state.mjs';
 import { Tabs } from './tabs.mjs';
+import { Terms } from './terms.mjs';
 import { counted } from './text.mjs';
 import { WantedPanel, withSource } from './wanted.mjs';
 import { WhyPanel } from './why.mjs';
@@ -55,6 +56,7 @@ class App {
         };
         showProved(panel('proved'), about);
         this.tabs = new Tabs(tab => this.show({ tab }));
+        this.terms = new Terms();
         this.others = new OtherTabs(also => (byId('other-tab').hidden = !also));
         this.store.listen((state, old) => this.#changed(state, old));
         this.#listen();

@@ -5,7 +5,7 @@ import { attempt } from './library.mjs';
 import { rigOf } from './rig.mjs';
 import { pictureMarkup } from './strands.mjs';
 import { actionText, counted, shortened, spaced } from './text.mjs';
-import { allowedSteps, remarkOf } from './wanted.mjs';
+import { allowedSteps } from './wanted.mjs';
 
 /** The places of the present normal form whose steps are kept for the simpler preset, or null where there is no fallback. */
 export function fallbackOf(library, { kind, rank, word }, simpler) {
@@ -40,8 +40,8 @@ export class ModulesPanel {
             make('h3', {}, 'Fallback: is a simpler preset left when steps are pulled out?'),
             make('div', { class: 'bar' },
                 make('label', { class: 'field grow' }, make('span', {}, 'Word of the simpler preset'), this.field),
-                button('Take the wanted picture', () => this.#takeWanted()),
-                button('Take the straight picture', () => app.store.change({ simpler: [] }))),
+                button('Use the wanted picture', () => this.#takeWanted()),
+                button('Use the straight picture', () => app.store.change({ simpler: [] }))),
             this.fallback,
         );
     }
@@ -50,7 +50,7 @@ export class ModulesPanel {
         const { library, state, answers, store } = this.app;
         const { value, refusal } = attempt(() => library.formOfWindow(state.kind, state.rank, state.wanted ?? answers.window));
         if (!refusal) return store.change({ simpler: value });
-        this.#refuse(refusalLine(refusal, remarkOf(refusal, state)));
+        this.#refuse(refusalLine(refusal, state));
     }
 
     /** A refusal stays, with the text as it was typed, until the simpler word, the wanted picture or the rig changes. */
@@ -71,8 +71,7 @@ export class ModulesPanel {
         this.field.setAttribute('aria-invalid', String(Boolean(fault)));
         this.refused = null;
         if (letters) return store.change({ simpler: letters });
-        const place = fault.at === undefined ? '' : `Letter ${fault.at + 1} (${this.field.value.slice(fault.start, fault.end)}): `;
-        this.#refuse(make('p', { class: 'refusal', role: 'alert' }, place + fault.message));
+        this.#refuse(make('p', { class: 'refusal', role: 'alert' }, fault.told));
     }
 
     update() {
@@ -128,7 +127,7 @@ export class ModulesPanel {
             width: Math.max(this.fallback.clientWidth, 280),
             marks: new Set(kept),
             around: kept[0] ?? 0,
-            title: `the normal form with ${counted(kept.length, 'step')} kept`,
+            title: `the shortest version with ${counted(kept.length, 'step')} kept`,
         });
         return holder;
     }
@@ -136,8 +135,8 @@ export class ModulesPanel {
 
 /** Whether there is a fallback, and which steps of a normal form of this length are kept. */
 function fallbackText(kept, length) {
-    if (kept === null) return 'No: pulling steps out of the present normal form never leaves this preset.';
-    if (kept.length === 0) return 'Yes: pull out all steps of the normal form.';
+    if (kept === null) return 'No: pulling steps out of the present shortest version never leaves this preset.';
+    if (kept.length === 0) return 'Yes: pull out all steps of the shortest version.';
     const places = kept.length > 60 ? '' : `: number ${kept.map(place => place + 1).join(', ')}`;
-    return `Yes: of the normal form's ${counted(length, 'step')} keep the marked ones, in order${places}.`;
+    return `Yes: of the shortest version's ${counted(length, 'step')} keep the marked ones, in order${places}.`;
 }

@@ -257,7 +257,7 @@ export class Picture {
         byId('form-picture').hidden = !ui.both;
         if (!ui.both) return;
         const inside = Math.max(byId('form-picture').clientWidth, 200);
-        const title = `the normal form, ${counted(answers.form.length, 'letter')}`;
+        const title = `the shortest version, ${counted(answers.form.length, 'letter')}`;
         byId('form-drawing').innerHTML = pictureMarkup(library, { ...state, word: answers.form },
             { width: inside, lane: Math.min(lane, 32), column: width < 300 ? 28 : 32, title });
     }

@@ -2,6 +2,7 @@
 import { byId, make, setText } from './dom.mjs';
 import { attempt } from './library.mjs';
 import { nameOf, withName } from './names.mjs';
+import { toldText } from './plain.mjs';
 import { counted } from './text.mjs';
 
 export const KINDS = {
@@ -48,19 +49,14 @@ export class RigFields {
         const wrong = !Number.isInteger(rank) || rank < 0 || rank > 255 ? 255 : rank;
         const { refusal } = attempt(() => library.window(state.kind, wrong, []));
         if (!refusal) return this.#take(state.kind, rank);
-        this.#say(`${refusal.text} ${this.#range()}`);
+        this.#say(toldText(refusal, { kind: state.kind, ranks: library.ranks(state.kind) }));
         this.rank.setAttribute('aria-invalid', 'true');
-    }
-
-    #range() {
-        const ranks = this.app.library.ranks(this.app.state.kind);
-        return `Kind ${this.app.state.kind} takes ${ranks[0]} to ${ranks.at(-1)}.`;
     }
 
     #take(kind, rank) {
         const { change, refusal } = inRig(this.app.library, this.app.state, kind, rank);
         this.app.store.change(change);
-        if (refusal) this.#say(`The word does not fit this rig and was set aside: ${refusal.text} Undo brings it back.`);
+        if (refusal) this.#say(`The word does not fit this rig and was set aside; Undo brings it back. ${toldText(refusal, { rank })}`);
     }
 
     #say(text) {

@@ -3,7 +3,11 @@ import { button, make } from './dom.mjs';
 import { KINDS } from './rig.mjs';
 import { labelled, nameOf } from './names.mjs';
 import { pictureMarkup } from './strands.mjs';
+import { term } from './terms.mjs';
 import { counted, signed, wordText } from './text.mjs';
+
+/** Lines of the sheet whose name is explained where it stands. */
+const TERMED = { Word: 'word', Window: 'window', 'Shortest version': 'shortest' };
 
 /** The lines of the sheet: what it says of a preset. */
 export function sheetLines(state, { form, window, crossings }, about, preset = null) {
@@ -13,7 +17,7 @@ export function sheetLines(state, { form, window, crossings }, about, preset = n
     return [
         ['Rig', `kind ${KINDS[state.kind]}; rank ${state.rank}; ${counted(window.length, 'lane')}`],
         ['Word', `${wordText(state.word)} (${counted(state.word.length, 'letter')})`],
-        ['Normal form', `${wordText(form)} (${counted(form.length, 'letter')})`],
+        ['Shortest version', `${wordText(form)} (${counted(form.length, 'letter')})`],
         ['Window', `${window.map(signed).join(' ')} (the source on each screen in turn${window.some(entry => entry < 0) ? ', − where mirrored' : ''})`],
         ['Length', `${total}: ${plain}, ${against} against a mirrored lane, ${counted(negatives, 'mirrored lane')}`],
         ['Book', preset === null ? 'this preset is in no book yet' : `${book}, preset ${preset}`],
@@ -68,7 +72,7 @@ export class SheetPanel {
             make('h2', {}, this.title.value || name || 'Router preset'),
             this.#picture(),
             table(['Screen', 'shows source', 'which way round'], screenLines(state, answers.window)),
-            make('dl', {}, lines.flatMap(([term, text]) => [make('dt', {}, term), make('dd', {}, text)])));
+            make('dl', {}, lines.flatMap(([name, text]) => [make('dt', {}, TERMED[name] ? term(TERMED[name], name) : name), make('dd', {}, text)])));
     }
 
     /** A word too long for the paper is drawn in part. */

@@ -4,7 +4,8 @@ import { attempt } from './library.mjs';
 import { labelled } from './names.mjs';
 import { rigOf } from './rig.mjs';
 import { colourOf, viewMarkup } from './strands.mjs';
-import { counted, listed, shortened } from './text.mjs';
+import { term } from './terms.mjs';
+import { counted, shortened } from './text.mjs';
 
 /** A source put on a screen, both from 1: what was there goes where the source was, so that every source stays on one screen. */
 export function withSource(window, source, screen) {
@@ -28,15 +29,6 @@ export function wayTo(library, state, wanted) {
     const { kind, rank, word, wantedFrom } = state;
     const from = wantedFrom === 'present' ? library.window(kind, rank, word) : library.straight(kind, rank);
     return attempt(() => library.between(kind, rank, allowedSteps(state), from, wanted));
-}
-
-/** What the refusals of a wanted picture mean for someone at the screens. */
-export function remarkOf({ number }, state) {
-    if (number === 10) return 'Kind A mirrors nothing: turn the marked views back.';
-    if (number === 11) return 'Kind D mirrors two views at a time: mirror one view more, or one fewer.';
-    if (number !== 19) return '';
-    const modules = state.locked.length === 1 ? 'module' : 'modules';
-    return `With ${modules} ${listed(state.locked)} locked, this picture cannot be had.`;
 }
 
 export class WantedPanel {
@@ -126,7 +118,7 @@ export class WantedPanel {
             onchange: () => app.store.change({ wantedFrom: value }),
         }), text);
         return make('fieldset', { class: 'inline bar' }, make('legend', {}, 'Lead there from'),
-            from('straight', 'the straight picture'), from('present', 'the picture above'));
+            from('straight', 'the straight picture'), term('straight', 'What is straight?', { 'data-key': 'straight' }), from('present', 'the picture above'));
     }
 
     #settings() {
@@ -147,13 +139,13 @@ export class WantedPanel {
     #answer({ value, refusal }) {
         const { app } = this;
         const { state } = app;
-        if (refusal) return refusalLine(refusal, remarkOf(refusal, state));
+        if (refusal) return refusalLine(refusal, state);
         const present = state.wantedFrom === 'present';
         const start = present ? 'picture above' : 'straight picture';
         if (value.length === 0) return make('p', {}, `The ${start} is the wanted one: no step is needed.`);
         const take = present
             ? button('Add these steps to the word', () => this.#take(state, [...state.word, ...value]), { class: 'main' })
-            : button('Take these steps as the word', () => this.#take(state, value), { class: 'main' });
+            : button('Use these steps as the word', () => this.#take(state, value), { class: 'main' });
         const text = `${counted(value.length, 'step')} lead${value.length === 1 ? 's' : ''} there: `;
         return make('p', {}, text, make('strong', { class: 'word' }, shortened(value, 200)), ' ', take);
     }

@@ -1,6 +1,7 @@
 // Why a word shrinks: the rewriting line by line, replayed with the library's single rewrite.
 import { button, byId, enable, make, setText } from './dom.mjs';
 import { pictureMarkup } from './strands.mjs';
+import { term } from './terms.mjs';
 import { counted, grouped, shortened, spaced } from './text.mjs';
 
 /** So many lines can be looked at. Words with more have millions: the list of those is made on request only. */
@@ -141,9 +142,9 @@ export class WhyPanel {
 
     #head(count) {
         const head = byId('why-head');
-        const lines = `${counted(count, 'line')} lead${count === 1 ? 's' : ''} from the word to its normal form.`;
+        const lines = `${counted(count, 'line')} lead${count === 1 ? 's' : ''} from the word to its shortest version.`;
         const part = count > MOST_LINES ? ` The first ${grouped(MOST_LINES)} can be looked at.` : '';
-        setText(head, count === 0 ? 'No rule fits anywhere: the word is its normal form already.'
+        setText(head, count === 0 ? 'No rule fits anywhere: the word is its shortest version already.'
             : `${lines} Each replaces the marked part by one that shows the same.${part}`);
         this.controls.hidden = !this.rewriting || count === 0;
         if (this.rewriting) return;
@@ -168,7 +169,7 @@ export class WhyPanel {
     #end() {
         const { form, count, steps } = this.rewriting;
         const hidden = count > steps.length ? `The lines after line ${grouped(steps.length)} are not shown. ` : '';
-        const text = `${hidden}After ${counted(count, 'line')} this is the normal form, ${counted(form.length, 'letter')}: `;
+        const text = `${hidden}After ${counted(count, 'line')} this is the shortest version, ${counted(form.length, 'letter')}: `;
         return [make('p', {}, text, make('span', { class: 'word' }, shortened(form, 120))), this.#picture(form, null, 0)];
     }
 
@@ -177,7 +178,7 @@ export class WhyPanel {
         const places = new Set(Array.from({ length: left }, (_, at) => place + at));
         return [
             make('p', { id: 'why-rule' }, make('strong', {}, ruleText(line)),
-                make('span', { class: 'quiet' }, ` (rule family ${family})`)),
+                make('span', { class: 'quiet' }, ' (', term('family', `rule family ${family}`, { 'data-key': 'family' }), ')')),
             marked(before, place, left, 'mark'),
             marked(after, place, right, 'b'),
             this.#picture(before, places, place),

@@ -4,6 +4,7 @@ import { readFileSync, readdirSync } from 'node:fs';
 import { test } from 'node:test';
 import { convertedName, countText, editionsOf, presetIn, refusedText, tooManyLanes, verdictsOf } from '../src/book.mjs';
 import { isNamesFile } from '../src/files.mjs';
+import { toldText } from '../src/plain.mjs';
 import { manyBooks } from './books.mjs';
 import { library, root } from './library.mjs';
 
@@ -26,7 +27,7 @@ test('the edition of a book is the one whose check passes; the few with two or n
     assert.equal(countText(library, { edition: 2, bytes: none }), '0 presets, second edition');
     const damaged = readFileSync(`${root}tests/books/refused/8-letter.first`);
     assert.match(countText(library, { edition: 1, bytes: damaged }), /1 of them damaged, first edition/);
-    assert.equal(refusedText(verdictsOf(library, [1])), library.message(1));
+    assert.equal(refusedText(verdictsOf(library, [1])), toldText({ number: 1, text: library.message(1) }));
     assert.equal(refusedText(verdictsOf(library, [9, 9, 9, 9])).split(library.message(2)).length, 2);
 });
 

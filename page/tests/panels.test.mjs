@@ -6,7 +6,7 @@ import { fallbackOf, splitOf, toggled } from '../src/modules.mjs';
 import { SENTENCES } from '../src/proved.mjs';
 import { screenLines, sheetLines } from '../src/sheet.mjs';
 import { FIRST_STATE } from '../src/state.mjs';
-import { remarkOf, wayTo, withMirrored, withSource } from '../src/wanted.mjs';
+import { wayTo, withMirrored, withSource } from '../src/wanted.mjs';
 import { Rewriting, ruleText } from '../src/why.mjs';
 import { NO_NAMES, withName } from '../src/names.mjs';
 import { RIGS, dice, library, randomWord } from './library.mjs';
@@ -32,7 +32,6 @@ test('the way to a wanted picture leads there over the allowed steps, or is refu
     assert.equal(numberOf({}, [-1, 2, 3, 4, 5]), 11);
     assert.equal(numberOf({ kind: 'A', rank: 2 }, [-1, 2, 3]), 10);
     assert.equal(numberOf({ kind: 'A', rank: 2, locked: [1] }, [2, 1, 3]), 19);
-    for (const number of [10, 11, 19]) assert.notEqual(remarkOf({ number }, { locked: [1] }), '');
 });
 
 test('the split is the product of its parts, and the first needs no locked module', () => {

@@ -1,6 +1,7 @@
 // Words as they are typed and changed, and where a refusal lies in them.
 import assert from 'node:assert/strict';
 import { test } from 'node:test';
+import { toldText } from '../src/plain.mjs';
 import { judged } from '../src/composing.mjs';
 import { inRig, nearestRank } from '../src/rig.mjs';
 import { FIRST_STATE, Store } from '../src/state.mjs';
@@ -19,7 +20,8 @@ test('spaces and commas separate, and what is no number is told with its place',
 test('the letter that a word is refused for is marked at its place', () => {
     const { letters, fault } = judged(library, 'D', 5, '1 2 12 6 9');
     assert.equal(letters, null);
-    assert.deepEqual({ ...fault }, { start: 4, end: 6, at: 2, message: library.message(8), number: 8 });
+    const refusal = { number: 8, text: library.message(8) };
+    assert.deepEqual({ ...fault }, { start: 4, end: 6, at: 2, number: 8, told: toldText(refusal, { step: '12', at: 2, rank: 5 }) });
     assert.equal(judged(library, 'D', 5, '0').fault.at, 0);
     assert.equal(judged(library, 'D', 5, '1 0').fault.at, 1);
     const long = judged(library, 'A', 3, Array(4100).fill(1).join(' ')).fault;
