@@ -1,5 +1,6 @@
 // Books: what a file is as either edition, its presets row by row, and loading, appending, converting and saving.
-import { button, byId, make, refusalLine, refusalParts, setText } from './dom.mjs';
+import { button, byId, labelledField, make, refusalLine, refusalParts, setText } from './dom.mjs';
+import { matching, withDuplicate, withMoved, withReplaced, withoutPreset } from './editing.mjs';
 import { attempt } from './library.mjs';
 import { withName } from './names.mjs';
 import { toldText } from './plain.mjs';
@@ -7,7 +8,7 @@ import { inRig, nameField } from './rig.mjs';
 import { NEW_BOOK, presetOf, samePreset } from './state.mjs';
 import { pictureMarkup } from './strands.mjs';
 import { term } from './terms.mjs';
-import { counted } from './text.mjs';
+import { counted, grouped } from './text.mjs';
 
 /** So many presets are shown at a time. */
 const ROWS = 20;
@@ -70,6 +71,10 @@ export class BookPanel {
         this.message = make('div', { id: 'book-message', 'aria-live': 'polite' });
         this.rows = make('ol', { class: 'presets', id: 'presets' });
         this.pager = make('div', { class: 'bar' });
+        this.search = make('input', { type: 'text', id: 'search', placeholder: 'name, rig or steps', spellcheck: 'false', oninput: () => this.#searched() });
+        this.searching = make('div', { class: 'bar', hidden: true }, labelledField('Search the presets', this.search));
+        /** The label of the button that has to get the focus when the rows are drawn anew. */
+        this.next = null;
         this.convert = button('', () => this.#convert(), { id: 'convert' });
         root.append(
             make('div', { class: 'bar' },
@@ -82,7 +87,7 @@ export class BookPanel {
                 button('Append the present preset', () => this.append(), { class: 'main', id: 'append' })),
             make('div', { class: 'bar' }, this.convert, button('Save as a new file', () => app.shelf.save(), { id: 'save-book' }),
                 button('Save the names beside it', () => app.shelf.saveNames(), { id: 'save-names' })),
-            this.message, this.rows, this.pager);
+            this.message, this.searching, this.rows, this.pager);
     }
 
     #rename() {
@@ -154,28 +159,85 @@ export class BookPanel {
         setText(byId('book-verdict'), `${countText(library, book)}.`);
         this.convert.textContent = `Convert to the ${editionName(3 - book.edition)}`;
         this.#drawRows(library.bookCheck(book.edition, book.bytes));
+        const next = this.next && this.rows.querySelector(`[aria-label="${this.next}"]:enabled`);
+        if (this.next) (next ?? this.rows.querySelector('li:last-child button') ?? byId('append')).focus();
+        this.next = null;
+    }
+
+    #searched() {
+        this.first = 0;
+        this.app.updatePanelSoon();
+    }
+
+    /** Changes the presets, says so, and puts the focus on a button of the rows; a refusal changes nothing. */
+    #edit(change, said, next = null) {
+        const { app } = this;
+        const { value, refusal } = attempt(() => change(app.library, app.state));
+        if (refusal) return this.#say(refusalLine(refusal, { first: app.state.book.edition === 1 }, 'The book stays as it was.'));
+        app.store.change(value);
+        this.next = next;
+        this.#say(make('p', {}, `${said} Undo takes it back. The book is not saved yet.`));
+    }
+
+    #move(from, to, way) {
+        this.first = to - to % ROWS;
+        this.#edit((library, state) => withMoved(library, state, from, to), `Preset ${from} is preset ${to} now.`, `move preset ${to} ${way}`);
+    }
+
+    #replace({ number }) {
+        if (!this.app.hasWord('Nothing was replaced')) return;
+        this.#edit((library, state) => withReplaced(library, state, number), `Preset ${number} is the present word now.`, `replace preset ${number}`);
+    }
+
+    /** What can be done with a preset; a damaged one can only be moved and removed. */
+    #actions(preset, count) {
+        const { number } = preset;
+        const act = (text, label, onclick, off = false) => button(text, onclick, { 'aria-label': `${label} preset ${number}`, title: `${label} preset ${number}`, disabled: off });
+        const move = (text, way, to) => button(text, () => this.#move(number, to, way),
+            { 'aria-label': `move preset ${number} ${way}`, title: `move preset ${number} ${way}`, disabled: to < 0 || to >= count || this.search.value.trim() !== '' });
+        const whole = preset.refusal ? [] : [
+            act('Load', 'load', () => this.#load(preset)),
+            act('Replace', 'replace', () => this.#replace(preset)),
+            act('Duplicate', 'duplicate', () => this.#edit((library, state) => withDuplicate(library, state, preset),
+                `Preset ${number + 1} is a copy of preset ${number}.`, `duplicate preset ${number + 1}`)),
+        ];
+        return make('span', { class: 'actions' }, whole, move('▲', 'up', number - 1), move('▼', 'down', number + 1),
+            act('Remove', 'remove', () => this.#edit((library, state) => withoutPreset(library, state, number), `Preset ${number} was removed.`, `remove preset ${number}`)));
     }
 
     #drawRows(count) {
-        const { library, state } = this.app;
-        this.first = Math.max(Math.min(this.first, count - 1 - (count - 1) % ROWS), 0);
-        const presets = count > 0 ? library.presets(state.book.edition, state.book.bytes, this.first, ROWS) : [];
-        this.rows.replaceChildren(...presets.map(preset => (preset.refusal ? this.#refusedRow(preset) : this.#row(preset))));
+        const { presets, found } = this.#listed(count);
+        this.searching.hidden = count <= ROWS;
+        this.rows.replaceChildren(...presets.map(preset => (preset.refusal ? this.#refusedRow(preset, count) : this.#row(preset, count))));
         const page = (text, first) => button(text, () => {
             this.first = first;
             this.#drawRows(count);
-        }, { disabled: first < 0 || first >= count });
-        const range = make('span', {}, `Presets ${this.first} to ${Math.min(this.first + ROWS, count) - 1} of ${count}`);
+        }, { disabled: first < 0 || first >= found });
+        const part = `${this.first} to ${Math.min(this.first + ROWS, found) - 1}`;
+        const range = make('span', { role: 'status' }, found < count ? `${counted(found, 'preset')} of ${grouped(count)} found` : `Presets ${part} of ${grouped(count)}`);
         const pages = [page('◀ Earlier presets', this.first - ROWS), range, page('Later presets ▶', this.first + ROWS)];
         this.pager.replaceChildren(...(count > ROWS ? pages : []));
     }
 
-    #refusedRow({ number, refusal }) {
-        return make('li', { class: number === this.culprit ? 'culprit' : '', 'data-preset': number, 'data-refusal': refusal.number },
-            make('span', { class: 'number' }, String(number)), make('span', { class: 'refusal' }, ...refusalParts(refusal, { preset: number })));
+    /** The presets to show, and of how many they are. */
+    #listed(count) {
+        const { library, state } = this.app;
+        const { edition, bytes } = state.book;
+        const text = count > ROWS ? this.search.value.trim() : '';
+        const all = text === '' ? null : matching(library.presets(edition, bytes), state.names, text);
+        const found = all?.length ?? count;
+        this.first = Math.max(Math.min(this.first, found - 1 - (found - 1) % ROWS), 0);
+        if (all) return { presets: all.slice(this.first, this.first + ROWS), found };
+        return { presets: count > 0 ? library.presets(edition, bytes, this.first, ROWS) : [], found };
     }
 
-    #row(preset) {
+    #refusedRow(preset, count) {
+        const { number, refusal } = preset;
+        return make('li', { class: number === this.culprit ? 'culprit' : '', 'data-preset': number, 'data-refusal': refusal.number },
+            make('span', { class: 'number' }, String(number)), make('span', { class: 'refusal' }, ...refusalParts(refusal, { preset: number })), this.#actions(preset, count));
+    }
+
+    #row(preset, count) {
         const { app } = this;
         const { number, kind, rank, word } = preset;
         const window = app.library.window(kind, rank, word);
@@ -185,7 +247,7 @@ export class BookPanel {
             make('span', {}, `${kind}${rank}, ${counted(word.length, 'letter')}`), make('span', { class: 'quiet' }, showsText(window)));
         const attributes = { class: number === this.culprit ? 'culprit' : '', 'data-preset': number, 'data-letters': word.join(' ') };
         return make('li', attributes, make('span', { class: 'number' }, String(number)), this.#picture(preset, window.length), about,
-            button('Load', () => this.#load(preset), { 'aria-label': `load preset ${number}` }));
+            this.#actions(preset, count));
     }
 
     #picture({ number, kind, rank, word }, lanes) {

@@ -75,7 +75,7 @@ function keyOf(element) {
 export function keepFocus(panel, change) {
     const held = panel.contains(document.activeElement) ? document.activeElement : null;
     change();
-    if (!held || held.isConnected) return;
+    if (!held || held.isConnected || panel.contains(document.activeElement)) return;
     const next = [...panel.querySelectorAll(held.tagName)].find(element => keyOf(element) === keyOf(held));
     next?.focus({ preventScroll: true });
 }

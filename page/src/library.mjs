@@ -34,6 +34,9 @@ export function callsOf(w) {
         presets: (edition, book, first, most) => w.presets(edition, book, first, most),
         append: (edition, book, kind, rank, word) => w.append(edition, book, kind, rank, word),
         convert: (edition, book) => w.convert(edition, book),
+        remove: (edition, book, number) => w.remove(edition, book, number),
+        moveTo: (edition, book, from, to) => w.moveTo(edition, book, from, to),
+        replace: (edition, book, number, kind, rank, word) => w.replace(edition, book, number, kind, rank, word),
     };
     return { ...calls, ...cached(calls) };
 }

@@ -28,7 +28,7 @@ export class Terms {
         addEventListener('focusin', event => (at(event) ? this.#show(at(event)) : this.#hide()));
         addEventListener('focusout', () => this.#hide());
         addEventListener('keydown', event => event.key === 'Escape' && this.#hide());
-        addEventListener('scroll', () => this.#hide(), { passive: true });
+        addEventListener('scroll', () => this.#leave(), { passive: true, capture: true });
     }
 
     /** Right below the word, so that the pointer can go over to it, or above where there is no room; inside the page in any case. */
@@ -42,7 +42,7 @@ export class Terms {
         [tip.style.left, tip.style.top] = [`${left}px`, `${below ? box.bottom : box.top - tip.offsetHeight}px`];
     }
 
-    /** The pointer has gone; the focus may be at a word still. */
+    /** The pointer has gone, or the page has moved below it; the focus may be at a word still. */
     #leave() {
         const focused = document.activeElement?.closest('[data-term]');
         if (!focused) this.#hide();

@@ -135,6 +135,12 @@ class PageTest(unittest.TestCase):
         self.assertEqual(len(found), 1, f"'{text}' is the label of {len(found)} controls")
         return found[0]
 
+    def focus(self):
+        return self.js("const e = document.activeElement; return e.id || e.getAttribute('aria-label') || e.tagName")
+
+    def labelled_or_none(self, text):
+        return self.js("return [...document.querySelectorAll('label')].find(e => e.offsetParent !== null && e.textContent.trim() === arguments[0]) ?? null", text)
+
     def press(self, text, within=None):
         self.labelled(text, within).click()
         self.settle()
@@ -308,7 +314,7 @@ class TenPoints(PageTest):
         self.assertTrue(self.asks_before_leaving())
         self.press("Undo")
         self.assertEqual((field.get_attribute("value"), self.text("word-message")), ("", ""))
-        self.assertFalse(self.labelled("Undo").is_enabled())
+        self.assertEqual(self.labelled("Undo").get_attribute("aria-disabled"), "true")
         field.send_keys("4 2 9")
         field.send_keys(Keys.CONTROL, "z")
         self.assertEqual((field.get_attribute("value"), self.letters()), ("4 2", [4, 2]))
@@ -341,6 +347,7 @@ class TenPoints(PageTest):
         self.assertEqual((field.get_attribute("value"), self.text("notice"), self.text("add-message")), ("1 1 2", "", ""))
         self.assertIn("1 1 2 (3 letters)", self.text("sheet"))
         field.send_keys(" x")
+        self.settle()
         self.press("Book")
         self.press("Append the present preset")
         field.send_keys(Keys.BACKSPACE)
@@ -831,6 +838,85 @@ class Books(PageTest):
         self.assertIn("The names of cabin1.book.names are those of cabin2.book now.", self.text("notice"))
         self.assertEqual(value("name of source 1"), "Cabin 1 front")
 
+    def rows(self):
+        return self.js("return [...document.querySelectorAll('#presets li')].map(e => [e.dataset.letters, e.querySelector('input').value])")
+
+    def test_07_presets_are_removed_replaced_moved_and_duplicated(self):
+        made = "let book = new Uint8Array(0); for (const word of arguments[0]) book = app.library.append(2, book, 'D', 5, word); return [...book]"
+        book = bytes(self.js(made, [[1], [2], [3]]))
+        self.drop(("cabin.book", book), ("cabin.book.names", b"preset 0 one\npreset 1 two\npreset 2 three\n"))
+        start = [["1", "one"], ["2", "two"], ["3", "three"]]
+        self.assertEqual(self.rows(), start)
+        self.press("load preset 2")
+        self.press("remove preset 1")
+        self.assertEqual(self.rows(), [["1", "one"], ["3", "three"]])
+        self.assertIn("Preset 1 was removed.", self.text("book-message"))
+        self.assertEqual(self.js("return app.store.preset"), 1)
+        self.assertEqual(self.focus(), "remove preset 1")
+        self.press("Undo")
+        self.assertEqual(self.rows(), start)
+        self.press("move preset 0 down")
+        self.assertEqual((self.rows(), self.focus()), ([["2", "two"], ["1", "one"], ["3", "three"]], "move preset 1 down"))
+        ActionChains(self.driver).send_keys(Keys.ENTER).perform()
+        self.settle()
+        self.assertEqual([name for _, name in self.rows()], ["two", "three", "one"])
+        self.assertFalse(self.labelled("move preset 2 down").is_enabled())
+        self.press("move preset 1 up")
+        self.assertEqual([name for _, name in self.rows()], ["three", "two", "one"])
+        self.press("duplicate preset 0")
+        self.assertEqual(self.rows(), [["3", "three"], ["3", "three (copy)"], ["2", "two"], ["1", "one"]])
+        self.word("5 2 5")
+        self.press("replace preset 1")
+        self.assertEqual(self.rows()[1], ["5 2 5", "three (copy)"])
+        self.assertEqual(self.js("return [app.store.preset, app.store.wordUnsaved]"), [1, False])
+        self.labelled("Word").send_keys(" x")
+        self.settle()
+        self.press("replace preset 0")
+        self.assertIn("Nothing was replaced", self.text("notice"))
+        self.press("Go back to the last word")
+        self.assertEqual(bytes(self.js("return [...app.state.book.bytes]")), bytes(self.js(made, [[3], [5, 2, 5], [2], [1]])))
+        for _ in range(4):
+            self.press("remove preset 0")
+        self.assertEqual((self.rows(), self.focus()), ([], "append"))
+        for _ in range(10):
+            self.press("Undo")
+        self.assertEqual(self.rows(), start)
+        self.rig("A", 1)
+        self.press("replace preset 0")
+        self.assertIn("Choose rank 2 or more.", self.text("book-message"))
+        self.assertEqual(self.rows(), start)
+
+    def test_07_damaged_presets_can_be_removed(self):
+        self.drop(("damaged.book", (ROOT / "tests/books/refused/8-letter.first").read_bytes()))
+        row = self.js("return document.querySelector('#presets [data-refusal]')")
+        labels = [element.get_attribute("aria-label").split()[0] for element in row.find_elements(By.TAG_NAME, "button")]
+        self.assertEqual(labels, ["move", "move", "remove"])
+        self.press(f"remove preset {row.get_attribute('data-preset')}")
+        self.assertEqual(self.js("return document.querySelectorAll('#presets [data-refusal]').length"), 0)
+
+    def test_07_many_presets_are_searched(self):
+        made = "let book = new Uint8Array(0); for (let at = 0; at < arguments[0]; at++) book = app.library.append(2, book, 'D', 5, [1 + at % 5, 2, 5]); return [...book]"
+        names = "".join(f"preset {at} lesson {at}\n" for at in range(45)).encode()
+        self.drop(("few.book", bytes(self.js(made, 20))))
+        self.assertFalse(self.labelled_or_none("Search the presets"))
+        self.drop(("many.book", bytes(self.js(made, 45))), ("many.book.names", names))
+        self.assertIn("Presets 0 to 19 of 45", self.panel().text)
+        self.labelled("Search the presets").send_keys("lesson 4")
+        self.settle()
+        self.assertEqual([name for _, name in self.rows()], ["lesson 4", *(f"lesson {at}" for at in range(40, 45))])
+        self.assertIn("6 presets of 45 found", self.panel().text)
+        self.assertFalse(self.labelled("move preset 41 up").is_enabled())
+        self.press("remove preset 41")
+        self.assertEqual([name for _, name in self.rows()], ["lesson 4", "lesson 40", "lesson 42", "lesson 43", "lesson 44"])
+        self.write("Search the presets", "nothing")
+        self.assertIn("0 presets of 44 found", self.panel().text)
+        self.write("Search the presets", "")
+        self.press("Later presets ▶")
+        self.press("Later presets ▶")
+        self.press("move preset 40 up")
+        self.assertIn("Presets 20 to 39 of 44", self.panel().text)
+        self.assertEqual((self.rows()[-1][1], self.focus()), ("lesson 40", "move preset 39 up"))
+
     def test_07_two_books_and_what_is_no_file_are_told(self):
         self.drop(("one.book", self.BOOK), ("two.book", b""))
         self.assertIn("These are 2 books", self.text("notice"))
@@ -985,9 +1071,6 @@ class Feel(PageTest):
                 self.press(tab)
                 self.assertLessEqual(self.js("return document.documentElement.scrollWidth"), width, tab)
 
-    def focus(self):
-        return self.js("const e = document.activeElement; return e.id || e.getAttribute('aria-label') || e.tagName")
-
     def test_the_focus_is_never_dropped(self):
         self.word("4 4 2 5 3 5 1 2")
         for label, id in [("Use it", "take"), ("Clear", "clear"), ("Undo", "undo"), ("Redo", "redo")]:
@@ -1110,6 +1193,12 @@ class Feel(PageTest):
             self.assertIn(text, seen)
         self.size(1280, 900)
         self.js("scrollTo(0, 0); document.activeElement.blur()")
+        self.press("Sheet")
+        self.js("scrollTo(0, 0); [...document.querySelectorAll('[data-term=window]')].at(-1).focus()")
+        time.sleep(0.2)
+        self.assertEqual(self.tip(), seen["Window"], "where the focus made the page scroll")
+        self.js("scrollTo(0, 0); document.activeElement.blur()")
+        time.sleep(0.2)
         rank = self.js("return document.getElementById('rank-label')")
         ActionChains(self.driver, duration=20).move_to_element(rank).perform()
         self.assertEqual(self.tip(), seen["Rank"])
