@@ -89,6 +89,17 @@ export class Composing {
         if (letters && !sameLetters(letters, state.word)) store.change({ word: letters });
         else this.#showFault();
         this.app.updatePanelSoon();
+        this.app.draft.writeSoon();
+    }
+
+    /** What stands in the field and is no word, or null. */
+    get refusedText() {
+        return this.fault ? this.field.value : null;
+    }
+
+    type(text) {
+        this.field.value = text;
+        this.#typed();
     }
 
     /** Takes refused text out of the field, which then has the word again; returns whether there was any. */

@@ -7,7 +7,8 @@ import { button, byId, holdDisabled, keepFocus, make, setText } from './dom.mjs'
 import { takeFiles } from './files.mjs';
 import { grabSource } from './grabbing.mjs';
 import { callsOf } from './library.mjs';
-import { remember, remembered } from './memory.mjs';
+import { Draft } from './draft.mjs';
+import { remember, rememberedRig } from './memory.mjs';
 import { ModulesPanel } from './modules.mjs';
 import { OtherTabs } from './others.mjs';
 import { Picture } from './picture.mjs';
@@ -33,13 +34,12 @@ class App {
     #stale = false;
     #pressed = false;
     #waiting = 0;
-    #namesLost = false;
     /** Whether the sentence at the top goes with the next change. */
     #passing = false;
 
     constructor(library, about) {
         [this.library, this.about] = [library, about];
-        this.store = new Store({ ...FIRST_STATE, ...remembered(library) });
+        this.store = new Store({ ...FIRST_STATE, ...rememberedRig(library) });
         this.#answer();
         this.shelf = new Shelf(this);
         this.rig = new RigFields(this);
@@ -57,10 +57,38 @@ class App {
         showProved(panel('proved'), about);
         this.tabs = new Tabs(tab => this.show({ tab }));
         this.terms = new Terms();
+        this.draft = new Draft(library, () => ({ state: this.state, saved: !this.store.bookUnsaved, typed: this.composing.refusedText }));
         this.others = new OtherTabs(also => (byId('other-tab').hidden = !also));
         this.store.listen((state, old) => this.#changed(state, old));
         this.#listen();
         this.tabs.choose(this.ui.tab);
+        this.#offerDraft();
+    }
+
+    /** What was left unfinished in this browser is offered, and stays until it is taken up or discarded. */
+    #offerDraft() {
+        const { offered } = this.draft;
+        if (!offered) return;
+        const { time, state } = offered.draft;
+        const date = new Date(time).toLocaleString('en-GB', { dateStyle: 'long', timeStyle: 'short' });
+        const count = this.library.bookCheck(state.book.edition, state.book.bytes);
+        const what = `${state.book.name} with ${counted(count, 'preset')} and a word of ${counted(state.word.length, 'letter')}`;
+        this.notice(`Your work of ${date} is kept in this browser: ${what}.`,
+            button('Go on with it', () => this.#takeUp(offered)),
+            button('Start fresh', () => {
+                this.draft.discard();
+                this.notice('');
+            }));
+    }
+
+    #takeUp(offered) {
+        const { state, saved, typed } = offered.draft;
+        this.store.change({ ...FIRST_STATE, ...state });
+        if (saved) this.store.markBookSaved();
+        if (typed !== null) this.composing.type(typed);
+        this.draft.discard(offered);
+        this.draft.write();
+        this.notice('');
     }
 
     get state() {
@@ -90,7 +118,8 @@ class App {
         this.refresh();
         this.times.drawing = performance.now() - start - this.times.calls;
         const kept = ['kind', 'rank', 'names', 'book'].every(part => state[part] === old[part]);
-        if (!kept) this.#namesLost = !remember(state) && state.names.lines.length > 0;
+        if (!kept) remember(state);
+        this.draft.writeSoon();
     }
 
     refresh() {
@@ -157,7 +186,9 @@ class App {
         addEventListener('keydown', event => this.#key(event));
         addEventListener('beforeprint', () => this.panels.sheet.update());
         addEventListener('beforeunload', event => {
-            if (this.store.unsaved || this.composing.fault || this.#namesLost) event.preventDefault();
+            this.draft.write();
+            const unsaved = this.store.unsaved || this.composing.fault || this.shelf.namesUnsaved;
+            if (unsaved && !this.draft.kept) event.preventDefault();
         });
     }
 

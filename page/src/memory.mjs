@@ -1,6 +1,6 @@
-// What the page remembers from one visit to the next: the rig and the names, in the browser's own store. A browser that keeps
-// nothing makes no difference but that.
-import { NO_NAMES, readNames, rigNames, writeNames } from './names.mjs';
+// What the page remembers from one visit to the next, in the browser's own store: the rig, and the names of each book. A browser that
+// keeps nothing makes no difference but that.
+import { readNames, writeNames } from './names.mjs';
 
 const RIG = 'winnathey rig';
 const NAMES = 'winnathey names';
@@ -15,13 +15,11 @@ function kept(key) {
     }
 }
 
-/** Whether the browser keeps it: it may have no room, or not be allowed to. */
 function keep(key, text) {
     try {
         localStorage.setItem(key, text);
-        return true;
     } catch {
-        return false;
+        // It has no room, or may keep nothing.
     }
 }
 
@@ -31,14 +29,13 @@ export function printOf(bytes) {
     return `${bytes.length} ${hash}`;
 }
 
-/** Returns whether the names were kept. */
 export function remember({ kind, rank, names, book }) {
     const text = new TextDecoder().decode(writeNames(names));
     keep(RIG, JSON.stringify({ kind, rank }));
     const print = printOf(book.bytes);
     const others = statesOf(book.name).filter(state => state.print !== print);
     const states = [{ print, text }, ...others].slice(0, STATES);
-    return keep(`${NAMES} of ${book.name}`, JSON.stringify(states)) && keep(NAMES, text);
+    keep(`${NAMES} of ${book.name}`, JSON.stringify(states));
 }
 
 /** What is remembered of the books of a name, the last one first. */
@@ -59,17 +56,15 @@ function namesIn(text) {
     }
 }
 
-/** The rig and the names of the last visit, as far as the library takes the rig. */
-export function remembered(library) {
-    const parts = {};
+/** The rig of the last visit, if the library takes it. */
+export function rememberedRig(library) {
     try {
         const { kind, rank } = JSON.parse(kept(RIG));
-        if (['A', 'B', 'D'].includes(kind) && library.ranks(kind).includes(rank)) Object.assign(parts, { kind, rank });
+        return ['A', 'B', 'D'].includes(kind) && library.ranks(kind).includes(rank) ? { kind, rank } : {};
     } catch {
         // Nothing was kept, or nothing that can be read.
+        return {};
     }
-    const names = namesIn(kept(NAMES)) ?? NO_NAMES;
-    return { ...parts, names: rigNames(names) };
 }
 
 /** The names that this very book had when it was last open, or null: another of the same file name has other presets. */

@@ -13,10 +13,15 @@ export class Shelf {
         this.app = app;
     }
 
+    get namesUnsaved() {
+        const { names } = this.app.state;
+        return names.lines.length > 0 && names !== this.#savedNames;
+    }
+
     /** Saves the book; a word that is not in it is asked about, as it would not be in the file. */
     save(asked = false) {
         const { app } = this;
-        const { book, names } = app.state;
+        const { book } = app.state;
         if (!app.hasWord('Nothing was saved')) return;
         if (app.store.wordUnsaved && !asked) {
             return app.notice('The present word is not in the book yet.',
@@ -26,7 +31,7 @@ export class Shelf {
         app.panels.book.unsay();
         app.store.markBookSaved();
         const saved = `${book.name} was given to the browser, which puts it with its downloads.`;
-        if (names === this.#savedNames || names.lines.length === 0) return app.notice(saved);
+        if (!this.namesUnsaved) return app.notice(saved);
         app.notice(`${saved} Its names are not saved: they go into a file of their own.`, button('Save the names too', () => this.saveNames()));
     }
 

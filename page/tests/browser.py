@@ -118,7 +118,7 @@ class PageTest(unittest.TestCase):
     def fresh(self):
         """An empty page, as on the first visit."""
         self.load()
-        self.js("localStorage.clear(); app.store.markBookSaved(); app.store.markWordKept()")
+        self.js("app.draft.write = () => {}; localStorage.clear(); app.store.markBookSaved(); app.store.markWordKept()")
         self.load()
 
     def settle(self):
@@ -209,7 +209,10 @@ class PageTest(unittest.TestCase):
         self.settle()
 
     def asks_before_leaving(self):
-        return self.js("const e = new Event('beforeunload', {cancelable: true}); dispatchEvent(e); return e.defaultPrevented")
+        """In a browser that keeps nothing; elsewhere the draft is kept, and nothing is asked."""
+        leave = "const e = new Event('beforeunload', {cancelable: true}); dispatchEvent(e); return e.defaultPrevented"
+        self.assertFalse(self.js(leave))
+        return self.js(f"const set = Storage.prototype.setItem; Storage.prototype.setItem = () => {{ throw new Error('full'); }}; try {{ {leave} }} finally {{ Storage.prototype.setItem = set; }}")
 
 
 class TenPoints(PageTest):
@@ -227,6 +230,8 @@ class TenPoints(PageTest):
         self.assertIn(self.library("message", 6), self.text("rig-message"))
         self.assertEqual(self.js("return app.state.rank"), 5)
         self.load()
+        self.assertEqual(self.labelled("name of source 1").get_attribute("value"), "")
+        self.press("Go on with it")
         self.assertEqual(self.labelled("name of source 1").get_attribute("value"), "rear view")
         self.assertEqual(self.labelled("name of screen 2").get_attribute("value"), "left mirror")
         kinds = [option.text for option in Select(self.labelled("Rig")).options]
@@ -696,8 +701,59 @@ class Books(PageTest):
         self.press("Book")
         self.assertFalse(asked())
         self.press("add step 1: exchanges lanes 1 and 2")
+        self.assertFalse(asked())
+        self.press("add step 1: exchanges lanes 1 and 2")
+        self.js("Storage.prototype.setItem = () => { throw new Error('full'); }")
         self.assertTrue(asked())
         self.fresh()
+
+    def test_07_nothing_is_lost_by_a_reload(self):
+        self.drop(("cabin.book", self.BOOK), ("cabin.book.names", b"source 1 rear view\npreset 1 Yard\n"))
+        self.word("1 2 5")
+        self.press("Append the present preset")
+        self.word("1 2 5 4")
+        self.labelled("Word").send_keys(" x")
+        book = bytes(self.js("return [...app.state.book.bytes]"))
+        self.load()
+        self.assertEqual((self.letters(), self.text("book-title")), ([], "new.book (second edition)"))
+        today = self.js("return new Date().toLocaleString('en-GB', { dateStyle: 'long' })")
+        self.assertIn(f"Your work of {today} at ", self.text("notice"))
+        self.assertIn("cabin.book with 3 presets and a word of 4 letters", self.text("notice"))
+        self.press("Go on with it")
+        self.assertEqual((self.letters(), self.labelled("Word").get_attribute("value")), ([1, 2, 5, 4], "1 2 5 4 x"))
+        self.assertEqual((self.text("book-title"), bytes(self.js("return [...app.state.book.bytes]"))), ("cabin.book (first edition) *", book))
+        self.assertEqual(self.labelled("name of source 1").get_attribute("value"), "rear view")
+        self.press("Undo")
+        self.press("Save")
+        self.press("Save without it")
+        self.assertEqual(self.saved("cabin.book"), book)
+        self.load()
+        self.word("3")
+        self.load()
+        self.assertIn("new.book with 0 presets and a word of 1 letter", self.text("notice"))
+        self.press("Go on with it")
+        self.load()
+        self.press("Start fresh")
+        self.assertEqual(self.text("notice"), "")
+        self.load()
+        self.assertEqual((self.text("notice"), self.letters()), ("", []))
+
+    def test_07_the_draft_of_an_open_window_survives_a_fresh_start_elsewhere(self):
+        first = self.driver.current_window_handle
+        self.word("1 2 5")
+        self.js("app.draft.write()")
+        self.driver.switch_to.new_window("tab")
+        try:
+            self.load()
+            self.press("Start fresh")
+        finally:
+            self.js("app.draft.write = () => {}")
+            self.driver.close()
+            self.driver.switch_to.window(first)
+        WebDriverWait(self.driver, 5).until(lambda _: self.js("return Object.keys(localStorage).some(key => key.startsWith('winnathey draft'))"))
+        self.load()
+        self.press("Go on with it")
+        self.assertEqual(self.letters(), [1, 2, 5])
 
     def test_07_saving_asks_for_the_word_that_is_in_no_book(self):
         self.word("1 2 5")
