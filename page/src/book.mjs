@@ -78,22 +78,22 @@ export class BookPanel {
         this.convert = button('', () => this.#convert(), { id: 'convert' });
         root.append(
             make('div', { class: 'bar' },
-                button('Open a file', () => byId('file').click()), button('New book', () => app.shelf.open(NEW_BOOK, null)),
+                button('Open a file', () => app.shelf.choose()), button('New book', () => app.shelf.open(NEW_BOOK, null)),
                 make('label', { class: 'field' }, make('span', {}, 'File name'), this.name)),
             make('p', { class: 'quiet' }, 'A book, or a book and its .names file, can also be dropped anywhere on this page.'),
             make('p', {}, make('span', { id: 'book-verdict' }), ' ', term('edition', 'What is an edition?'), ' ',
                 make('span', { class: 'quiet' }, 'Presets are numbered from 0, as the book numbers them.')),
             make('div', { class: 'bar' }, make('label', { class: 'field' }, make('span', {}, 'Name of the preset'), this.presetName),
                 button('Append the present preset', () => this.append(), { class: 'main', id: 'append' })),
-            make('div', { class: 'bar' }, this.convert, button('Save as a new file', () => app.shelf.save(), { id: 'save-book' }),
-                button('Save the names beside it', () => app.shelf.saveNames(), { id: 'save-names' })),
+            make('div', { class: 'bar' }, this.convert, button('Save as a new file', () => app.shelf.save({ anew: true }), { id: 'save-book' }),
+                make('span', { class: 'quiet' }, 'Names are saved with the book, in a file beside it.')),
             this.message, this.searching, this.rows, this.pager);
     }
 
     #rename() {
         const { book } = this.app.state;
         const name = this.name.value.trim().replace(/[/\\]/g, '-') || book.name;
-        if (name !== book.name) this.app.store.change({ book: { ...book, name } });
+        if (name !== book.name) this.app.store.change({ book: { ...book, name, file: null } });
     }
 
     /** What was said of the book as it was is over. */

@@ -19,8 +19,9 @@ function bytesIn(text) {
 /** A state as text, with whether its book is on a disk, and text of the field that is no word. */
 export function draftOf(state, { saved, typed, time }) {
     const { kind, rank, word, names, book, kept } = state;
-    const bytes = { ...book, bytes: texted(book.bytes) };
-    return JSON.stringify({ time, kind, rank, word: Array.from(word), names: texted(writeNames(names)), book: bytes, kept, saved, typed });
+    const { name, edition, bytes } = book;
+    const parts = { time, kind, rank, word: Array.from(word), names: texted(writeNames(names)), kept, saved, typed };
+    return JSON.stringify({ ...parts, book: { name, edition, bytes: texted(bytes) } });
 }
 
 /** What a draft holds as parts of a state, or null where the library does not take it, or nothing was worked on. */

@@ -13,18 +13,18 @@ async function bytesOf(file, most) {
 }
 
 /**
- * The book and the names among the files that were opened together; a wrong names file is told, and none of its names used. Of
- * several books, or where a file cannot be read, as a folder cannot, nothing is opened.
+ * The book and the names among the files that were opened together, each with its handle where the browser gives one; a wrong names
+ * file is told, and none of its names used. Of several books, or where a file cannot be read, as a folder cannot, nothing is opened.
  */
-export async function readFiles(files) {
+export async function readFiles(items) {
     const none = wrong => ({ book: null, names: null, namesFile: null, wrong });
     const read = none(null);
-    const books = files.filter(file => !isNamesFile(file.name));
+    const books = items.filter(({ file }) => !isNamesFile(file.name));
     if (books.length > 1) return none(`These are ${books.length} books. One can be open at a time: open them one by one.`);
-    for (const file of files) {
+    for (const { file, handle = null } of items) {
         try {
-            if (isNamesFile(file.name)) [read.names, read.namesFile] = [readNames(await bytesOf(file, 1048577)), file.name];
-            else read.book = { name: file.name, bytes: await bytesOf(file, MOST_READ) };
+            if (isNamesFile(file.name)) [read.names, read.namesFile] = [readNames(await bytesOf(file, 1048577)), { name: file.name, handle }];
+            else read.book = { name: file.name, bytes: await bytesOf(file, MOST_READ), handle };
         } catch (error) {
             if (!(error instanceof WrongNames)) return none(`${file.name} cannot be read. Is it a file?`);
             read.wrong = `${file.name}, ${error.message}. None of its names is used.`;
@@ -42,10 +42,45 @@ export function saveFile(name, bytes) {
     setTimeout(() => URL.revokeObjectURL(url), 10000);
 }
 
+/** Writes bytes to the file of a handle, if the user lets it; returns why it was not written, or null. */
+export async function writeTo(handle, bytes) {
+    const mode = { mode: 'readwrite' };
+    try {
+        const granted = await handle.queryPermission(mode) === 'granted' || await handle.requestPermission(mode) === 'granted';
+        if (!granted) return 'the browser was not allowed to write it';
+        const stream = await handle.createWritable();
+        await stream.write(bytes);
+        await stream.close();
+        return null;
+    } catch (error) {
+        return `it could not be written (${error.message})`;
+    }
+}
+
+/** Lets the user choose files: with handles where the browser has them; otherwise the field is opened, which tells its own change. */
+export async function pickFiles(field) {
+    if (typeof window.showOpenFilePicker !== 'function') return void field.click();
+    try {
+        const handles = await window.showOpenFilePicker({ multiple: true });
+        return await Promise.all(handles.map(async handle => ({ file: await handle.getFile(), handle })));
+    } catch (error) {
+        if (error.name !== 'AbortError') field.click();
+        return undefined;
+    }
+}
+
+/** The files of a drop. Their handles have to be asked for at once: what was dropped is gone after the event. */
+async function dropped({ files, items }) {
+    const handles = [...items].filter(item => item.kind === 'file').map(item => item.getAsFileSystemHandle?.().catch(() => null));
+    const list = [...files];
+    const found = await Promise.all(handles);
+    return list.map((file, at) => ({ file, handle: found[at]?.kind === 'file' && found[at].name === file.name ? found[at] : null }));
+}
+
 /** Takes files from the field and from a drop anywhere on the page. */
 export function takeFiles(field, opened) {
     field.addEventListener('change', () => {
-        opened([...field.files]);
+        opened([...field.files].map(file => ({ file })));
         field.value = '';
     });
     addEventListener('dragover', event => {
@@ -53,9 +88,9 @@ export function takeFiles(field, opened) {
         document.body.classList.add('dropping');
     });
     addEventListener('dragleave', event => event.relatedTarget === null && document.body.classList.remove('dropping'));
-    addEventListener('drop', event => {
+    addEventListener('drop', async event => {
         event.preventDefault();
         document.body.classList.remove('dropping');
-        if (event.dataTransfer.files.length > 0) opened([...event.dataTransfer.files]);
+        if (event.dataTransfer.files.length > 0) opened(await dropped(event.dataTransfer));
     });
 }

@@ -168,7 +168,7 @@ class App {
     }
 
     #listen() {
-        byId('open').addEventListener('click', () => byId('file').click());
+        byId('open').addEventListener('click', () => this.shelf.choose());
         byId('save').addEventListener('click', () => this.shelf.save());
         takeFiles(byId('file'), files => this.shelf.take(files));
         grabSource(this);

@@ -1,10 +1,16 @@
 // Books and their names from files and into files: what is opened in place of what, and what was saved.
 import { countText, editionsOf, presetIn, refusedText, verdictsOf } from './book.mjs';
-import { button } from './dom.mjs';
-import { readFiles, saveFile } from './files.mjs';
+import { button, byId } from './dom.mjs';
+import { pickFiles, readFiles, saveFile, writeTo } from './files.mjs';
 import { rememberedNames } from './memory.mjs';
 import { NO_NAMES, rigNames, withRigNamesOf, writeNames } from './names.mjs';
 import { NEW_BOOK } from './state.mjs';
+import { listed } from './text.mjs';
+
+/** The handle of a names file that lies beside a book; that of another book's names is not written to. */
+function handleFor(book, namesFile) {
+    return namesFile?.name === `${book.name}.names` ? namesFile.handle : null;
+}
 
 export class Shelf {
     #savedNames = null;
@@ -18,47 +24,80 @@ export class Shelf {
         return names.lines.length > 0 && names !== this.#savedNames;
     }
 
-    /** Saves the book; a word that is not in it is asked about, as it would not be in the file. */
-    save(asked = false) {
+    /** Lets the user choose files, and takes them. */
+    async choose() {
+        const picked = await pickFiles(byId('file'));
+        if (picked) await this.take(picked);
+    }
+
+    /**
+     * Saves the book and its names: to the files that they were opened from where the browser lets the page do that, otherwise, or
+     * as new files, by handing both to the browser. A word that is not in the book is asked about, as it would not be in the file.
+     */
+    async save({ asked = false, anew = false } = {}) {
         const { app } = this;
-        const { book } = app.state;
         if (!app.hasWord('Nothing was saved')) return;
         if (app.store.wordUnsaved && !asked) {
             return app.notice('The present word is not in the book yet.',
-                button('Append it and save', () => this.#appendAndSave()), button('Save without it', () => this.save(true)));
+                button('Append it and save', () => this.#appendAndSave(anew)), button('Save without it', () => this.save({ asked: true, anew })));
         }
-        saveFile(book.name, book.bytes);
+        const { book, names } = app.state;
+        const parts = [{ name: book.name, bytes: book.bytes, handle: anew ? null : book.file?.book }];
+        const named = names.lines.length > 0 || this.#savedNames?.lines.length > 0;
+        if (named) parts.push({ name: `${book.name}.names`, bytes: writeNames(names), handle: anew ? null : book.file?.names });
+        for (const part of parts) {
+            // Names are not left beside a book that they do not fit.
+            if (parts[0].fault) part.fault = 'the book was not';
+            else if (part.handle) part.fault = await writeTo(part.handle, part.bytes);
+            else saveFile(part.name, part.bytes);
+        }
+        if (!parts[0].fault) app.store.markBookSaved(book.bytes);
+        if (parts[1] && !parts[1].fault) this.#savedNames = names;
         app.panels.book.unsay();
-        app.store.markBookSaved();
-        const saved = `${book.name} was given to the browser, which puts it with its downloads.`;
-        if (!this.namesUnsaved) return app.notice(saved);
-        app.notice(`${saved} Its names are not saved: they go into a file of their own.`, button('Save the names too', () => this.saveNames()));
+        app.refresh();
+        this.#saySaved(parts);
     }
 
-    saveNames() {
-        const { book, names } = this.app.state;
-        saveFile(`${book.name}.names`, writeNames(names));
-        this.#savedNames = names;
-        this.app.notice(`${book.name}.names was given to the browser, which puts it with its downloads.`);
+    /** Which files were saved, which went to the browser, and which were not saved. */
+    #saySaved(parts) {
+        const told = (list, one, many) => (list.length === 0 ? '' : `${listed(list.map(part => part.name))} ${list.length === 1 ? one : many} `);
+        const lost = parts.filter(part => part.fault);
+        const given = parts.filter(part => !part.fault && !part.handle);
+        const texts = [
+            told(parts.filter(part => !part.fault && part.handle), 'was saved.', 'were saved.'),
+            told(given, 'was given to the browser, which puts it with its downloads.', 'were given to the browser, which puts them with its downloads.'),
+            ...lost.map(part => `${part.name} was NOT saved: ${part.fault}. `),
+        ];
+        const again = part => button(`${part.fault ? 'Save' : 'Give'} ${part.name} ${part.fault ? 'as a new file' : 'once more'}`, () => this.#saveAnew(part));
+        this.app.notice(texts.join('').trim(), ...(given.length > 1 ? given.map(again) : []), ...lost.map(again));
     }
 
-    #appendAndSave() {
+    /** One file by the browser. It is saved with that if nothing was changed since. */
+    #saveAnew({ name, bytes }) {
+        const { app } = this;
+        saveFile(name, bytes);
+        if (bytes === app.state.book.bytes) app.store.markBookSaved();
+        app.notice(`${name} was given to the browser, which puts it with its downloads.`);
+    }
+
+    #appendAndSave(anew) {
         const { app } = this;
         app.notice('');
         app.tabs.choose('book');
-        if (app.panels.book.append()) this.save();
+        if (app.panels.book.append()) this.save({ anew });
     }
 
     /** Takes files that were chosen or dropped. */
-    async take(files) {
+    async take(items) {
         const { app } = this;
-        const { book, names, namesFile, wrong } = await readFiles(files);
+        const { book, names, namesFile, wrong } = await readFiles(items);
         app.notice(wrong ?? '');
-        if (book) this.open(book, names, wrong);
+        if (book) this.open({ ...book, file: { book: book.handle, names: handleFor(book, namesFile) } }, names, wrong);
         else if (names) {
+            const present = app.state.book;
             this.#savedNames = names;
-            app.store.change({ names });
-            app.notice(`The names of ${namesFile} are those of ${app.state.book.name} now. Undo brings the others back.`);
+            app.store.change({ names, book: { ...present, file: { book: present.file?.book ?? null, names: handleFor(present, namesFile) } } });
+            app.notice(`The names of ${namesFile.name} are those of ${app.state.book.name} now. Undo brings the others back.`);
         }
     }
 
@@ -71,7 +110,7 @@ export class Shelf {
             const stays = `${app.state.book.name} stays as it is.`;
             return app.notice(`${book.name} is no preset book and was not opened: ${refusedText(verdicts)} ${stays}`);
         }
-        const go = edition => this.#put({ name: book.name, edition, bytes: book.bytes }, names, wrong, book === NEW_BOOK);
+        const go = edition => this.#put({ name: book.name, edition, bytes: book.bytes, file: book.file ?? null }, names, wrong, book === NEW_BOOK);
         const choose = () => (passing.length === 1 ? go(passing[0]) : this.#askEdition(book, go));
         if (app.store.bookUnsaved) this.#askFirst(book, choose);
         else choose();

@@ -94,9 +94,9 @@ export class Store {
         for (const listener of this.#listeners) listener(this.state, old);
     }
 
-    /** The book as it is now is on a disk. */
-    markBookSaved() {
-        this.#savedBook = this.state.book.bytes;
+    /** The book as it is now, or with these bytes, is on a disk. */
+    markBookSaved(bytes = this.state.book.bytes) {
+        this.#savedBook = bytes;
         this.#tell(this.state);
     }
 

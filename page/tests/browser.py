@@ -88,6 +88,8 @@ class PageTest(unittest.TestCase):
         Path(cls.downloads).rmdir()
 
     def setUp(self):
+        for file in Path(self.downloads).iterdir():
+            file.unlink()
         self.size(1280, 900)
         self.fresh()
 
@@ -427,9 +429,10 @@ class TenPoints(PageTest):
         touch("touchStart", (x, y))
         for at in range(1, 6):
             touch("touchMove", (x, y + (below - y) * at / 5))
-        self.assertEqual(self.held(), [[3], [3], [3]])
+        # Moves by touch come with the next frame.
+        WebDriverWait(self.driver, 5).until(lambda _: self.held() == [[3], [3], [3]])
         touch("touchEnd")
-        self.assertEqual(self.letters(), [1, 2, 3, 5])
+        WebDriverWait(self.driver, 5).until(lambda _: self.letters() == [1, 2, 3, 5])
 
     def test_04_wanted(self):
         self.press("Wanted picture")
@@ -643,7 +646,6 @@ class Books(PageTest):
         self.assertEqual(self.saved("cabin.book"), expected)
         self.assertFalse(self.text("book-title").endswith("*"))
         self.assertFalse(self.asks_before_leaving())
-        self.press("Save the names beside it")
         self.assertEqual(self.saved("cabin.book.names"), b"# ours\nsource 1 rear view\npreset 1 Yard\npreset 2 Reversing\n")
         self.press("Convert to the second edition")
         self.press("Save")
@@ -737,6 +739,91 @@ class Books(PageTest):
         self.assertEqual(self.text("notice"), "")
         self.load()
         self.assertEqual((self.text("notice"), self.letters()), ("", []))
+
+    HANDLES = """
+        const [files, asks, fails] = arguments;
+        window.written = {};
+        window.showOpenFilePicker = async options => Object.entries(files).map(([name, text]) => ({
+            kind: 'file', name,
+            getFile: async () => new File([Uint8Array.from(atob(text), c => c.charCodeAt(0))], name),
+            queryPermission: async () => 'prompt',
+            requestPermission: async ({ mode }) => mode === 'readwrite' && asks !== name ? 'granted' : 'denied',
+            createWritable: async () => {
+                if (fails === name) throw new Error('disk full');
+                let bytes = null;
+                return { write: async part => { bytes = [...part]; }, close: async () => { window.written[name] = bytes; } };
+            },
+        }));"""
+
+    def pick(self, files, denied=None, failing=None):
+        """Opens files by the button, in a browser whose files have handles."""
+        texts = {name: base64.b64encode(content).decode() for name, content in files.items()}
+        self.js(self.HANDLES, texts, denied, failing)
+        self.js("app.store.markBookSaved(); app.store.markWordKept()")
+        self.press("Open")
+        WebDriverWait(self.driver, 5).until(lambda _: list(files)[0] in self.text("book-title"))
+        self.settle()
+
+    def written(self):
+        time.sleep(0.1)
+        return {name: bytes(content) for name, content in self.js("const list = window.written; window.written = {}; return list").items()}
+
+    def test_07_one_press_saves_book_and_names_to_their_files(self):
+        files = {"cabin.book": self.BOOK, "cabin.book.names": b"preset 1 Yard\n"}
+        self.pick(files)
+        self.press("remove preset 0")
+        self.press("Save")
+        book = bytes(self.js("return [...app.state.book.bytes]"))
+        self.assertEqual(self.written(), {"cabin.book": book, "cabin.book.names": b"preset 0 Yard\n"})
+        self.assertEqual(self.text("notice"), "cabin.book and cabin.book.names were saved.")
+        self.assertFalse(self.text("book-title").endswith("*"))
+        self.press("Save as a new file")
+        self.assertEqual((self.saved("cabin.book"), self.saved("cabin.book.names"), self.written()), (book, b"preset 0 Yard\n", {}))
+        self.assertIn("cabin.book and cabin.book.names were given to the browser", self.text("notice"))
+        self.press("Give cabin.book.names once more")
+        self.assertEqual(self.saved("cabin.book.names"), b"preset 0 Yard\n")
+        self.write("File name", "other.book")
+        self.keys("s")
+        self.assertEqual((self.saved("other.book"), self.saved("other.book.names"), self.written()), (book, b"preset 0 Yard\n", {}))
+        self.press("Undo")
+        self.write("name of preset 0", "")
+        self.press("Save")
+        self.assertEqual(self.written(), {"cabin.book": book, "cabin.book.names": b""})
+
+    def test_07_what_was_not_saved_is_told(self):
+        files = {"cabin.book": self.BOOK, "cabin.book.names": b"preset 1 Yard\n"}
+        self.pick(files, denied="cabin.book.names")
+        self.press("remove preset 0")
+        self.press("Save")
+        book = bytes(self.js("return [...app.state.book.bytes]"))
+        self.assertEqual(self.written(), {"cabin.book": book})
+        self.assertEqual(self.text("notice").split("Save ")[0], "cabin.book was saved. cabin.book.names was NOT saved: the browser was not allowed to write it.")
+        self.press("Save cabin.book.names as a new file")
+        self.assertEqual(self.saved("cabin.book.names"), b"preset 0 Yard\n")
+        self.fresh()
+        self.pick(files, failing="cabin.book")
+        self.press("remove preset 0")
+        self.press("Save")
+        self.assertEqual(self.written(), {})
+        self.assertIn("cabin.book was NOT saved: it could not be written (disk full). cabin.book.names was NOT saved: the book was not.", self.text("notice"))
+        self.assertTrue(self.text("book-title").endswith("*"))
+        self.press("Save cabin.book as a new file")
+        self.assertEqual(self.saved("cabin.book"), book)
+        self.assertFalse(self.text("book-title").endswith("*"))
+        self.pick({"one.book": self.BOOK}, denied="one.book")
+        self.drop(("cabin.book.names", b"source 1 rear view\n"))
+        self.press("Save")
+        self.assertIn("one.book was NOT saved", self.text("notice"))
+
+    def test_07_a_choice_that_is_given_up_opens_nothing(self):
+        self.js("window.showOpenFilePicker = async () => { throw new DOMException('given up', 'AbortError'); }")
+        self.press("Open")
+        self.assertEqual((self.text("notice"), self.text("book-title")), ("", "new.book (second edition)"))
+        self.js("window.clicked = 0; document.getElementById('file').click = () => { window.clicked += 1; }; window.showOpenFilePicker = undefined")
+        self.press("Open")
+        self.press("Book")
+        self.press("Open a file")
+        self.assertEqual(self.js("return window.clicked"), 2)
 
     def test_07_the_draft_of_an_open_window_survives_a_fresh_start_elsewhere(self):
         first = self.driver.current_window_handle
@@ -1096,7 +1183,7 @@ class Feel(PageTest):
 
     def test_any_order_of_presses_is_survived(self):
         """Presses and types at random, the same in each run; after each, the picture shows the library's window."""
-        self.js("HTMLAnchorElement.prototype.click = () => {}; print = () => {}; document.getElementById('file').click = () => {}")
+        self.js("HTMLAnchorElement.prototype.click = () => {}; print = () => {}; window.showOpenFilePicker = undefined; document.getElementById('file').click = () => {}")
         self.assertEqual(self.driver.execute_async_script(RANDOM_USER, 40, 400), [])
 
     def test_no_horizontal_scroll_from_320_px_to_a_wall(self):
@@ -1397,7 +1484,6 @@ class NewUser(PageTest):
         self.assertTrue(self.js("return document.getElementById('unkept').hidden"))
         self.press("Save as a new file")
         book = self.saved("lesson.book")
-        self.press("Save the names too")
         names = self.saved("lesson.book.names")
         self.fresh()
         self.drop(("lesson.book", book), ("lesson.book.names", names))
