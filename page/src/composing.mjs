@@ -1,6 +1,6 @@
 // Composing: the bar of buttons below the picture, the field with the word, and the normal form beside it, which the page calls the
 // shortest version.
-import { byId, enable, setText } from './dom.mjs';
+import { byId, enable, put, setText } from './dom.mjs';
 import { attempt } from './library.mjs';
 import { escaped } from './markup.mjs';
 import { toldText } from './plain.mjs';
@@ -60,8 +60,8 @@ export class Composing {
     }
 
     #sayAdd(text) {
-        byId('add-message').textContent = text;
-        byId('add').setAttribute('aria-invalid', String(text !== ''));
+        setText(byId('add-message'), text);
+        put(byId('add'), 'ariaInvalid', text !== '');
     }
 
     remove(at) {
@@ -86,8 +86,10 @@ export class Composing {
         this.fault = fault;
         if (!fault) this.app.passNotice();
         // The same letters with other spaces between them are no change.
-        if (letters && !sameLetters(letters, state.word)) store.change({ word: letters });
-        else this.#showFault();
+        if (letters && !sameLetters(letters, state.word)) {
+            this.typed = letters;
+            store.change({ word: letters });
+        } else this.#showFault();
         this.app.updatePanelSoon();
         this.app.draft.writeSoon();
     }
@@ -123,11 +125,16 @@ export class Composing {
     #showFault() {
         const { fault, field } = this;
         const text = field.value;
-        field.setAttribute('aria-invalid', String(Boolean(fault)));
+        put(field, 'ariaInvalid', Boolean(fault));
         enable(byId('undo'), this.app.store.canUndo || Boolean(fault));
         const part = (start, end) => escaped(text.slice(start, end));
-        byId('word-marks').innerHTML = fault ? `${part(0, fault.start)}<mark>${part(fault.start, fault.end)}</mark>${part(fault.end)}` : '';
-        byId('word-marks').scrollTop = field.scrollTop;
+        const marks = byId('word-marks');
+        if (!fault) marks.replaceChildren();
+        else {
+            marks.innerHTML = `${part(0, fault.start)}<mark>${part(fault.start, fault.end)}</mark>${part(fault.end)}`;
+            // To ask for this lays the text out, which takes long where it is long.
+            marks.scrollTop = field.scrollTop;
+        }
         setText(byId('word-message'), fault ? `${fault.told} The picture stays as it was.` : '');
     }
 
@@ -139,8 +146,8 @@ export class Composing {
         [this.of, this.rig] = [word, rigOf(state)];
         if (refitted) return void setTimeout(() => this.#typed());
         if (!changed) return;
-        const { letters, strange } = parsedWord(this.field.value);
-        if (strange || !sameLetters(letters, word)) this.field.value = spaced(word);
+        // A word that was typed stands there as it was typed.
+        if (word !== this.typed) [this.field.value, this.typed] = [spaced(word), null];
         this.fault = null;
         this.#showFault();
     }

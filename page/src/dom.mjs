@@ -31,6 +31,7 @@ export function byId(id) {
  * a disabled element would drop it.
  */
 export function enable(element, on) {
+    if (on !== (element.getAttribute('aria-disabled') === 'true')) return;
     const held = !on && document.activeElement === element;
     if (on) element.removeAttribute('aria-disabled');
     else element.setAttribute('aria-disabled', 'true');
@@ -45,7 +46,12 @@ export function holdDisabled() {
     }, true);
 }
 
-/** Changes an element's text only where it differs, so that nothing is laid out again for nothing. */
+/** Sets a property or a piece of data only where it differs, so that nothing is laid out again for nothing. */
+export function put(target, key, value) {
+    if (target[key] !== String(value)) target[key] = value;
+}
+
+/** Changes an element's text only where it differs. */
 export function setText(element, text) {
     if (element.textContent !== text) element.textContent = text;
 }

@@ -3,7 +3,7 @@ import { load } from '../../bindings/javascript/winnathey.mjs';
 import { BookPanel, editionName } from './book.mjs';
 import { Composing } from './composing.mjs';
 import { DelaysPanel } from './delays.mjs';
-import { button, byId, holdDisabled, keepFocus, make, setText } from './dom.mjs';
+import { button, byId, holdDisabled, keepFocus, make, put, setText } from './dom.mjs';
 import { takeFiles } from './files.mjs';
 import { grabSource } from './grabbing.mjs';
 import { callsOf } from './library.mjs';
@@ -97,8 +97,9 @@ class App {
 
     /** The answers that are always on the page. */
     #answer() {
-        const { kind, rank, word } = this.state;
+        const { kind, rank } = this.state;
         const { library } = this;
+        const word = Uint8Array.from(this.state.word);
         const form = library.normalForm(kind, rank, word);
         this.answers = {
             window: library.window(kind, rank, word),
@@ -162,8 +163,8 @@ class App {
         const { book } = this.state;
         const unsaved = this.store.bookUnsaved;
         setText(byId('book-title'), `${book.name} (${editionName(book.edition)})${unsaved ? ' *' : ''}`);
-        byId('book-title').title = unsaved ? 'not saved yet' : '';
-        document.title = `${unsaved ? '* ' : ''}${book.name} – Winnathey`;
+        put(byId('book-title'), 'title', unsaved ? 'not saved yet' : '');
+        put(document, 'title', `${unsaved ? '* ' : ''}${book.name} – Winnathey`);
         this.others.open(book.bytes.length === 0 && book.name === NEW_BOOK.name ? '' : book.name);
     }
 

@@ -1,6 +1,6 @@
 // The picture on the page: sources on the left, strands, the gaps that add steps, screens on the right; and what the pointer and
 // the keyboard do in it.
-import { byId, button, fromMarkup, make, setText } from './dom.mjs';
+import { byId, button, fromMarkup, make, put, setText } from './dom.mjs';
 import { nameField, rigOf } from './rig.mjs';
 import { colourOf, measuresOf, partOf, pictureMarkup, strandsMarkup, viewMarkup } from './strands.mjs';
 import { actionText, counted, grouped } from './text.mjs';
@@ -150,9 +150,8 @@ export class Picture {
         const lanes = library.straight(state.kind, state.rank).length;
         if (this.rig !== rigOf(state)) this.#rebuild(lanes);
         const space = spacing(lanes, this.root.clientWidth);
-        this.root.style.setProperty('--lane', `${space.lane}px`);
-        this.root.style.setProperty('--lanes', lanes);
-        this.root.dataset.size = space.size;
+        put(this.root.style, 'cssText', `--lane: ${space.lane}px; --lanes: ${lanes};`);
+        put(this.root.dataset, 'size', space.size);
         const width = Math.max(this.strands.clientWidth, 60);
         const tail = byId('gaps').clientWidth;
         space.column = fittedColumn(state.word.length, space.column, width - tail);
@@ -233,11 +232,11 @@ export class Picture {
             const source = Math.abs(entry);
             if (entry !== screen.entry) screen.view.replaceChildren(fromMarkup(viewMarkup(source, entry < 0)));
             screen.entry = entry;
-            screen.item.dataset.strand = source;
-            screen.item.dataset.entry = entry;
+            put(screen.item.dataset, 'strand', source);
+            put(screen.item.dataset, 'entry', entry);
             setText(screen.source, labelled(names, 'source', source));
             setText(screen.turned, entry < 0 ? 'mirrored' : '');
-            screen.source.title = screen.source.textContent;
+            put(screen.source, 'title', screen.source.textContent);
             screen.field.update();
         }
     }
@@ -246,8 +245,8 @@ export class Picture {
         const part = count < total;
         byId('range-field').hidden = !part;
         if (!part) return;
-        this.range.max = total - count;
-        this.range.value = this.app.ui.first;
+        put(this.range, 'max', total - count);
+        put(this.range, 'value', this.app.ui.first);
         setText(byId('range-text'), `Steps ${grouped(this.part.first + 1)} to ${grouped(this.part.last)} of ${grouped(total)}`);
     }
 

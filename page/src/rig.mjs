@@ -1,5 +1,5 @@
 // The rig: its kind in words, its rank, and the names of its sources and screens.
-import { byId, make, setText } from './dom.mjs';
+import { byId, make, put, setText } from './dom.mjs';
 import { attempt } from './library.mjs';
 import { nameOf, withName } from './names.mjs';
 import { toldText } from './plain.mjs';
@@ -60,7 +60,7 @@ export class RigFields {
     }
 
     #say(text) {
-        byId('rig-message').textContent = text;
+        setText(byId('rig-message'), text);
         byId('rig-message').hidden = text === '';
     }
 
@@ -68,10 +68,12 @@ export class RigFields {
         const { library, state } = this.app;
         this.#say('');
         this.rank.removeAttribute('aria-invalid');
-        this.kind.value = state.kind;
-        this.kind.title = KINDS[state.kind];
+        put(this.kind, 'value', state.kind);
+        put(this.kind, 'title', KINDS[state.kind]);
         const ranks = library.ranks(state.kind);
-        [this.rank.min, this.rank.max, this.rank.value] = [ranks[0], ranks.at(-1), state.rank];
+        put(this.rank, 'min', ranks[0]);
+        put(this.rank, 'max', ranks.at(-1));
+        put(this.rank, 'value', state.rank);
         setText(byId('lanes'), counted(library.straight(state.kind, state.rank).length, 'lane'));
     }
 }
@@ -101,7 +103,7 @@ export function nameField(app, keyword, number) {
     field.update = () => {
         const name = nameOf(app.state.names, keyword, number);
         if (document.activeElement !== field && field.value !== name) field.value = name;
-        field.title = name;
+        put(field, 'title', name);
     };
     return field;
 }

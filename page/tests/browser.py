@@ -326,7 +326,9 @@ class TenPoints(PageTest):
         field.send_keys(Keys.CONTROL, "z")
         self.assertEqual((field.get_attribute("value"), self.letters()), ("4 2", [4, 2]))
         field.send_keys(Keys.CONTROL, "z")
-        self.assertEqual(self.letters(), [4])
+        self.assertEqual((field.get_attribute("value"), self.letters()), ("4", [4]))
+        field.send_keys(Keys.CONTROL, "y")
+        self.assertEqual((field.get_attribute("value"), self.letters()), ("4 2", [4, 2]))
 
     def test_03_refused_text_is_never_taken_for_the_last_word(self):
         self.word("1 1 2")
@@ -1177,9 +1179,37 @@ class Feel(PageTest):
                 done(rows.map(row => row.sort((a, b) => a - b)));
             })();""")
         for name, row in [("library's calls of a change", calls), ("a step added, calls and drawing", pressed), ("a key typed, calls and drawing", typed)]:
-            print(f"\npage, D64 with 4,096 letters, {name}: {row[6]:.1f} ms in a quarter, {row[12]:.1f} ms in half of {len(row)} runs")
+            print(f"\npage, D64 with 4,096 letters, {name}: {row[0]:.1f} ms at least, {row[6]:.1f} ms in a quarter, {row[12]:.1f} ms in half of {len(row)} runs")
             self.assertLess(row[6], 50)
         self.assertLess(self.js("return document.querySelectorAll('#strands *').length"), 2000)
+
+    def test_change_takes_a_frame_of_an_idle_core(self):
+        """At D64 with 4,096 letters: what the page's thread works for a change, painting included, by its own clock, which stands while
+        others have the core."""
+        self.press("What is proved")
+        self.rig("D", 64)
+        self.word(self.long_word(64, 4095))
+        self.driver.execute_cdp_cmd("Performance.enable", {"timeDomain": "threadTicks"})
+        worked = lambda: {entry["name"]: entry["value"] for entry in self.driver.execute_cdp_cmd("Performance.getMetrics", {})["metrics"]}["TaskDuration"]
+        each = []
+        for _ in range(6):
+            start = worked()
+            changes = self.driver.execute_async_script(
+                """const done = arguments[0], frame = () => new Promise(next => requestAnimationFrame(() => setTimeout(next)));
+                (async () => {
+                    for (let k = 0; k < 8; k++) {
+                        app.composing.add(1 + k * 11 % 64);
+                        await frame();
+                        app.store.undo();
+                        await frame();
+                    }
+                    done(16);
+                })();""")
+            each.append((worked() - start) * 1000 / changes)
+        self.driver.execute_cdp_cmd("Performance.disable", {})
+        print(f"\npage, D64 with 4,096 letters, the thread's own time for a change: {min(each):.1f} to {max(each):.1f} ms")
+        # Where others want the cores too, they share caches and more than the clock knows of.
+        self.assertLess(min(each), 16 if os.getloadavg()[0] < os.cpu_count() else 32)
 
     def test_any_order_of_presses_is_survived(self):
         """Presses and types at random, the same in each run; after each, the picture shows the library's window."""
