@@ -5,7 +5,7 @@ use crate::failure::Failure;
 use crate::files::{self, Locked, Ready, Sort};
 use crate::json::Value;
 use crate::library::{self, Edition, MAX_BOOK};
-use crate::names;
+use crate::names::{self, Names};
 use crate::out::Out;
 use crate::parked::{self, Parked, Renumbering};
 use crate::table::Verdict;
@@ -91,13 +91,14 @@ impl Edit {
                 let book = open(std::mem::take(&mut locked.bytes));
                 let change = self.changed(&book, change, out)?;
                 locked.bytes = book.bytes;
-                self.replaced(locked, &change)?;
+                self.replaced(locked, &change, out)?;
                 (change, Some(&self.from))
             }
             To::New => {
                 files::may_create(&self.from)?;
                 let change = self.changed(&open(Vec::new()), change, out)?;
                 files::place_new(&self.from, &change.bytes)?;
+                self.warn_of_names(out);
                 (change, Some(&self.from))
             }
             To::Output(to) => {
@@ -151,13 +152,37 @@ impl Edit {
         Ok(())
     }
 
+    /// Names of presets that the book does not have go, or a preset that comes would have them.
+    fn replaced(&self, locked: Locked, change: &Change, out: &mut Out) -> Result<(), Failure> {
+        let beside = names::beside(&self.from);
+        if change.numbers != Renumbering::Kept {
+            return self.renumbered(locked, change, &beside, out);
+        }
+        let names = names_with_numbers(&beside).unwrap_or_else(|failure| {
+            out.warn(format!("no names: {}", failure.in_a_line()));
+            None
+        });
+        let count = library::book_check(self.edition, &locked.bytes)?;
+        let past = names.and_then(|(names, old)| names.past_the_end(count).map(|past| (names, old, past)));
+        let Some((names, old, past)) = past else { return locked.replace(&change.bytes) };
+        let kept = names.renumbered(|number| (number < count).then_some(number)).written();
+        let file = text::file(&beside);
+        let ready = Ready::beside(&beside, &kept).map_err(|failure| {
+            let told = failure.in_a_line();
+            Failure::Unwilling(format!(
+                "'{file}' names {past}, which the book does not have, and has to drop that: {told}"
+            ))
+        })?;
+        // They fit the old book as well as the new one.
+        let new = locked.replace_around(&change.bytes, || ready.replace(&old), || ())?;
+        out.warn(format!("'{file}' drops {past}, which the book did not have"));
+        new.settle()
+    }
+
     /// Names whose presets get other numbers are parked first, so that they never stand beside a book that they do
     /// not fit.
-    fn replaced(&self, locked: Locked, change: &Change) -> Result<(), Failure> {
-        let (beside, aside) = (names::beside(&self.from), names::aside(&self.from));
-        if change.numbers == Renumbering::Kept {
-            return locked.replace(&change.bytes);
-        }
+    fn renumbered(&self, locked: Locked, change: &Change, beside: &Path, out: &mut Out) -> Result<(), Failure> {
+        let aside = names::aside(&self.from);
         if fs::symlink_metadata(&aside).is_ok() {
             let name = text::file(&aside);
             return Err(Failure::Unwilling(format!(
@@ -165,18 +190,25 @@ impl Edit {
                  rename or remove it first"
             )));
         }
-        let Some(old) = names_with_numbers(&beside)? else { return locked.replace(&change.bytes) };
+        let read = names_with_numbers(beside).map_err(|failure| {
+            let told = failure.in_a_line();
+            Failure::Unwilling(format!("the presets' numbers change, and their names cannot be read: {told}"))
+        })?;
+        let Some((names, old)) = read else { return locked.replace(&change.bytes) };
         let before = locked.bytes.clone();
         let count = library::book_check(self.edition, &before)?;
         let parked = Parked::new(&before, &change.bytes, count, change.numbers, old.clone());
         let after = parked.after().map_err(|(_, problem)| Failure::Unwilling(problem))?;
-        let ready = Ready::beside(&beside, &after)?;
-        let parking = Ready::like(&aside, &parked.written(), &beside)?;
-        let park = || parking.place().and_then(|()| system::undisturbed(|| files::take_away(&beside, &old)));
+        let ready = Ready::beside(beside, &after)?;
+        let parking = Ready::like(&aside, &parked.written(), beside)?;
+        let park = || parking.place().and_then(|()| system::undisturbed(|| files::take_away(beside, &old)));
         // The first failure is the one to tell; where this one fails too the next change tries again.
         let undo = || drop(parked::settle(&self.from, &before));
         // Held until the names are there: nobody reads or changes the new book without them.
         let new = locked.replace_around(&change.bytes, park, undo)?;
+        if let Some(past) = names.past_the_end(count) {
+            out.warn(format!("'{}' drops {past}, which the book did not have", text::file(beside)));
+        }
         // The book is written, so that what fails now is no failure of the change.
         let removed = || fs::remove_file(&aside).map_err(|error| Failure::file(&aside, error));
         if let Err(failure) = ready.place().and_then(|()| removed()) {
@@ -186,19 +218,24 @@ impl Edit {
         }
         new.settle()
     }
+
+    /// A book that is started beside names that were there before it.
+    fn warn_of_names(&self, out: &mut Out) {
+        let beside = names::beside(&self.from);
+        if let Some(named) = names::read(&beside).ok().and_then(|names| names.past_the_end(0)) {
+            out.warn(format!("'{}' was there before the book, and names {named}", text::file(&beside)));
+        }
+    }
 }
 
-/// The names beside a book, if there are any that depend on its presets' numbers.
-fn names_with_numbers(beside: &Path) -> Result<Option<Vec<u8>>, Failure> {
+/// The names beside a book and their bytes, if there are any that depend on its presets' numbers.
+fn names_with_numbers(beside: &Path) -> Result<Option<(Names, Vec<u8>)>, Failure> {
     if fs::metadata(beside).is_err_and(|error| error.kind() == ErrorKind::NotFound) {
         return Ok(None);
     }
-    let read = names::bytes_of(beside).and_then(|bytes| Ok((names::parsed_file(beside, &bytes)?, bytes)));
-    let (names, bytes) = read.map_err(|failure| {
-        let told = failure.in_a_line();
-        Failure::Unwilling(format!("the presets' numbers change, and their names cannot be read: {told}"))
-    })?;
-    Ok(names.any_preset().then_some(bytes))
+    let bytes = names::bytes_of(beside)?;
+    let names = names::parsed_file(beside, &bytes)?;
+    Ok(names.any_preset().then_some((names, bytes)))
 }
 
 /// Says what was written; only now is it acknowledged.

@@ -59,6 +59,18 @@ impl Names {
         self.find(Keyword::Preset, number)
     }
 
+    /// The names of presets that a book with so many does not have, in a list to be told; none if there are none.
+    pub fn past_the_end(&self, count: usize) -> Option<String> {
+        let past: Vec<String> = (self.lines.iter())
+            .filter_map(|line| match line {
+                Line::Name(Keyword::Preset, number, name) if *number >= count => Some(format!("{number} '{name}'")),
+                _ => None,
+            })
+            .collect();
+        let word = if past.len() == 1 { "preset" } else { "presets" };
+        (!past.is_empty()).then(|| format!("{word} {}", past.join(", ")))
+    }
+
     /// Whether a preset has a name.
     pub fn any_preset(&self) -> bool {
         self.lines.iter().any(|line| matches!(line, Line::Name(Keyword::Preset, ..)))
@@ -207,10 +219,15 @@ pub fn of_book(path: &Path, book: &Book, out: &mut Out) -> Names {
         Err(error) if error.kind() == ErrorKind::NotFound => Ok(cut_off(path, &book.bytes, out)),
         _ => read(&file),
     };
-    read.unwrap_or_else(|failure| {
+    let names = read.unwrap_or_else(|failure| {
         out.warn(format!("no names: {}", failure.in_a_line()));
         Names::default()
-    })
+    });
+    if let Some(past) = book.count().ok().and_then(|count| names.past_the_end(count)) {
+        let file = text::file(&file);
+        out.warn(format!("'{file}' names {past}, which the book does not have: the next change drops that"));
+    }
+    names
 }
 
 /// The names that a change left that was cut off, if the book tells which fit it.

@@ -135,6 +135,17 @@ impl Ready {
         point();
         Ok(())
     }
+
+    /// Puts it in the place of a file with these bytes.
+    pub fn replace(self, old: &[u8]) -> Result<(), Failure> {
+        let failed = |error| Failure::file(&self.path, error);
+        if !File::open(&self.path).is_ok_and(|mut file| has(&mut file, old)) {
+            return Err(changed_meanwhile(&self.path));
+        }
+        self.part.replace(&self.path).map_err(failed)?;
+        point();
+        Ok(())
+    }
 }
 
 /// Removes a file with these bytes, which are kept elsewhere. It goes by another name first, so that one that somebody
