@@ -3,7 +3,7 @@ use crate::args::Args;
 use crate::books::{self, Book};
 use crate::failure::Failure;
 use crate::files::{self, Locked, Ready, Sort};
-use crate::json::Value;
+use crate::json::{Value, list};
 use crate::library::{self, Edition, MAX_BOOK};
 use crate::names::{self, Names};
 use crate::out::Out;
@@ -241,12 +241,16 @@ fn names_with_numbers(beside: &Path) -> Result<Option<(Names, Vec<u8>)>, Failure
 /// Says what was written; only now is it acknowledged.
 fn acknowledged(subcommand: &'static str, file: &Path, change: &Change, out: &mut Out) -> Result<(), Failure> {
     let presets = library::book_check(change.edition, &change.bytes)?;
+    let records = library::presets(change.edition, &change.bytes)?;
+    let refused: Vec<u64> =
+        (0..).zip(&records).filter(|(_, record)| record.is_err()).map(|(number, _)| number).collect();
     if out.json {
         let mut fields = vec![
             ("file", text::file(file).into()),
             ("edition", books::name(change.edition).into()),
             ("presets", presets.into()),
             ("bytes", change.bytes.len().into()),
+            ("refused_presets", list(&refused)),
         ];
         fields.extend(change.fields.clone());
         out.answer(subcommand, fields)?;
@@ -254,6 +258,10 @@ fn acknowledged(subcommand: &'static str, file: &Path, change: &Change, out: &mu
         let (count, bytes) = (text::counted(presets, "preset"), text::counted(change.bytes.len(), "byte"));
         writeln!(out, "{}", change.told)?;
         writeln!(out, "{}: {count}, {bytes}", text::file(file))?;
+        if !refused.is_empty() {
+            let name = if refused.len() == 1 { "preset" } else { "presets" };
+            writeln!(out, "refused in it: {name} {} (check says why)", text::spaced(&refused))?;
+        }
     }
     Ok(out.flush()?)
 }

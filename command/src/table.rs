@@ -215,6 +215,7 @@ pub const WRITTEN: Fields = &[
     ("edition", "its edition, first or second"),
     ("presets", "how many presets it has"),
     ("bytes", "how many bytes"),
+    ("refused_presets", "the numbers of its presets that are refused: check says why"),
 ];
 pub const ALLOWED_STEPS: Fields = &[("allowed", "the allowed steps")];
 pub const PICTURE: Fields = &[("file", "the file that was written, if a picture was asked for")];

@@ -44,26 +44,21 @@ fn run(mut args: Args, out: &mut Out) -> Result<Verdict, Failure> {
     edit.run("convert", change, out)
 }
 
-/// Which record is refused, or how long the new book would be.
+/// Which records are refused, or how long the new book would be.
 fn refused(book: &Book, refusal: Refusal) -> Failure {
     let Ok(presets) = book.presets() else { return book.refused(refusal) };
-    let wrong = presets.iter().position(|preset| match preset {
-        Err(own) => *own == refusal,
-        Ok(preset) => refusal.number() == 18 && library::lanes(preset.rig).is_ok_and(|lanes| lanes > 32),
-    });
-    match (refusal.number(), wrong) {
-        (14, _) => {
-            let whole = library::convert(book.edition, &book.bytes, MAX_BOOK);
-            let bytes = whole.map(|whole| format!("the new book has {}", text::counted(whole.len(), "byte")));
-            Failure::Refused(refusal, bytes.ok())
-        }
-        (_, Some(number)) => {
-            let culprit = match &presets[number] {
-                Ok(preset) => Some(format!("it is of {}", preset.rig)),
-                Err(_) => book.record(number, refusal),
-            };
-            Failure::Presets(vec![(number, refusal, culprit)], book.hint())
-        }
-        _ => book.refused(refusal),
+    if refusal.number() == 14 {
+        let whole = library::convert(book.edition, &book.bytes, MAX_BOOK);
+        let bytes = whole.map(|whole| format!("the new book has {}", text::counted(whole.len(), "byte")));
+        return Failure::Refused(refusal, bytes.ok());
     }
+    let wrong = presets.iter().enumerate().filter_map(|(number, preset)| match preset {
+        Err(own) => Some((number, *own, book.record(number, *own))),
+        Ok(preset) if refusal.number() == 18 && library::lanes(preset.rig).is_ok_and(|lanes| lanes > 32) => {
+            Some((number, refusal, Some(format!("it is of {}", preset.rig))))
+        }
+        Ok(_) => None,
+    });
+    let wrong: Vec<_> = wrong.collect();
+    if wrong.is_empty() { book.refused(refusal) } else { Failure::Presets(wrong, book.hint()) }
 }
