@@ -8,33 +8,34 @@ _winnathey() {
     fi
     case ${COMP_WORDS[1]} in
     help) COMPREPLY=($(compgen -W "$subcommands" -- "$word")); return ;;
-    show) options='--book --edition --preset --names --json --help' operands='A B D' ;;
-    why) options='--last --at-most --whole --at --book --edition --preset --json --help' operands='A B D' ;;
-    draw) options='--both -o --png --force --book --edition --preset --names --json --help' operands='A B D' ;;
-    same) options='--status --book --edition --preset --json --help' operands='A B D' ;;
-    split) options='--allowed --locked --book --edition --preset --json --help' operands='A B D' ;;
+    show) options='--book --edition --timeout --preset --names --json --help' operands='A B D' ;;
+    why) options='--last --at-most --whole --at --book --edition --timeout --preset --json --help' operands='A B D' ;;
+    draw) options='--both -o --png --force --book --edition --timeout --preset --names --json --help' operands='A B D' ;;
+    same) options='--status --book --edition --timeout --preset --json --help' operands='A B D' ;;
+    split) options='--allowed --locked --book --edition --timeout --preset --json --help' operands='A B D' ;;
     between) options='--allowed --locked --json --help' operands='A B D' ;;
-    fallback) options='--status --book --edition --preset --json --help' operands='A B D' ;;
+    fallback) options='--status --book --edition --timeout --preset --json --help' operands='A B D' ;;
     delays) options='--svg --png --force --json --help' operands='A B D' ;;
-    normal) options='--book --edition --preset --json --help' operands='A B D' ;;
-    product) options='--book --edition --preset --json --help' operands='A B D' ;;
-    inverse) options='--book --edition --preset --json --help' operands='A B D' ;;
-    descents) options='--book --edition --preset --json --help' operands='A B D' ;;
-    shortest) options='--limit --book --edition --preset --json --help' operands='A B D' ;;
-    list) options='--edition --preset --lines --names --json --help' operands='files' ;;
+    normal) options='--book --edition --timeout --preset --json --help' operands='A B D' ;;
+    product) options='--book --edition --timeout --preset --json --help' operands='A B D' ;;
+    inverse) options='--book --edition --timeout --preset --json --help' operands='A B D' ;;
+    descents) options='--book --edition --timeout --preset --json --help' operands='A B D' ;;
+    shortest) options='--limit --book --edition --timeout --preset --json --help' operands='A B D' ;;
+    list) options='--edition --timeout --preset --lines --names --json --help' operands='files' ;;
     check) options='--edition --json --help' operands='files' ;;
-    append) options='--edition --in-place -o --force --new --at-most --book --preset --json --help' operands='files' ;;
-    remove) options='--edition --in-place -o --force --json --help' operands='files' ;;
-    replace) options='--edition --in-place -o --force --book --preset --json --help' operands='files' ;;
-    move) options='--edition --in-place -o --force --json --help' operands='files' ;;
-    convert) options='--edition --in-place -o --force --at-most --json --help' operands='files' ;;
-    report) options='--edition -o --force --date --names --json --help' operands='files' ;;
+    append) options='--edition --timeout --in-place -o --force --new --at-most --book --preset --json --help' operands='files' ;;
+    remove) options='--edition --timeout --in-place -o --force --json --help' operands='files' ;;
+    replace) options='--edition --timeout --in-place -o --force --book --preset --json --help' operands='files' ;;
+    move) options='--edition --timeout --in-place -o --force --json --help' operands='files' ;;
+    convert) options='--edition --timeout --in-place -o --force --at-most --json --help' operands='files' ;;
+    report) options='--edition --timeout -o --force --date --names --json --help' operands='files' ;;
     completions) options='--json --help' operands='bash zsh fish' ;;
     man) options='--markdown --json --help' operands='' ;;
     esac
     case $before in
     --book) COMPREPLY=($(compgen -f -- "$word")); return ;;
     --edition) COMPREPLY=($(compgen -W 'first second' -- "$word")); return ;;
+    --timeout) COMPREPLY=(); return ;;
     --preset) COMPREPLY=(); return ;;
     --names) COMPREPLY=($(compgen -f -- "$word")); return ;;
     --last) COMPREPLY=(); return ;;

@@ -3,11 +3,12 @@ use crate::failure::Failure;
 use crate::library::{self, Edition, Kind, Rig};
 use crate::table::{Opt, Subcommand};
 use crate::typed::{Set, TypedRig, Window, Word};
-use crate::{books, numbers, suggest, text};
+use crate::{books, files, numbers, suggest, text};
 use std::collections::VecDeque;
 use std::ffi::{OsStr, OsString};
 use std::os::unix::ffi::OsStrExt;
 use std::path::{Path, PathBuf};
+use std::time::Duration;
 
 pub struct Args {
     pub subcommand: &'static Subcommand,
@@ -49,6 +50,11 @@ impl Args {
         }
         if args.reads_of_standard_input() > 1 {
             return Err(args.usage("standard input can be read once only"));
+        }
+        if let Some(seconds) = args.text("--timeout") {
+            let limit = seconds.parse().ok().and_then(|seconds| Duration::try_from_secs_f64(seconds).ok());
+            let wrong = || args.usage(format!("--timeout needs seconds from 0, not '{}'", text::plain(&seconds)));
+            files::wait_at_most(limit.ok_or_else(wrong)?);
         }
         Ok(Some(args))
     }

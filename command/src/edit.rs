@@ -222,7 +222,7 @@ impl Edit {
     /// A book that is started beside names that were there before it.
     fn warn_of_names(&self, out: &mut Out) {
         let beside = names::beside(&self.from);
-        if let Some(named) = names::read(&beside).ok().and_then(|names| names.past_the_end(0)) {
+        if let Some(named) = names_with_numbers(&beside).ok().flatten().and_then(|(names, _)| names.past_the_end(0)) {
             out.warn(format!("'{}' was there before the book, and names {named}", text::file(&beside)));
         }
     }
@@ -233,7 +233,7 @@ fn names_with_numbers(beside: &Path) -> Result<Option<(Names, Vec<u8>)>, Failure
     if fs::metadata(beside).is_err_and(|error| error.kind() == ErrorKind::NotFound) {
         return Ok(None);
     }
-    let bytes = names::bytes_of(beside)?;
+    let bytes = names::bytes_beside(beside)?;
     let names = names::parsed_file(beside, &bytes)?;
     Ok(names.any_preset().then_some((names, bytes)))
 }

@@ -200,6 +200,15 @@ pub fn bytes_of(path: &Path) -> Result<Vec<u8>, Failure> {
     Ok(bytes)
 }
 
+/// The same of one beside a book, which nobody asked for: a pipe there would be waited for.
+pub fn bytes_beside(path: &Path) -> Result<Vec<u8>, Failure> {
+    let found = fs::metadata(path).map_err(|error| Failure::file(path, error))?;
+    if !found.is_file() {
+        return Err(Failure::Unwilling(format!("'{}' is no file: rename or remove it", text::file(path))));
+    }
+    bytes_of(path)
+}
+
 fn too_long(path: &Path) -> Failure {
     Failure::Unwilling(format!("'{}' has more than 1 MiB", text::file(path)))
 }
@@ -217,7 +226,7 @@ pub fn of_book(path: &Path, book: &Book, out: &mut Out) -> Names {
     let file = beside(path);
     let read = match fs::metadata(&file) {
         Err(error) if error.kind() == ErrorKind::NotFound => Ok(cut_off(path, &book.bytes, out)),
-        _ => read(&file),
+        _ => bytes_beside(&file).and_then(|bytes| parsed_file(&file, &bytes)),
     };
     let names = read.unwrap_or_else(|failure| {
         out.warn(format!("no names: {}", failure.in_a_line()));

@@ -123,7 +123,7 @@ pub fn settle(book: &Path, bytes: &[u8]) -> Result<Option<String>, Failure> {
         Ready::like(&path, &names, &aside)?.place()?;
         let told = if is_new { "get their new numbers" } else { "are back as they were" };
         format!("a change was cut off: the names in '{}' {told}", text::file(&path))
-    } else if names::bytes_of(&path).is_ok_and(|now| now == names) {
+    } else if names::bytes_beside(&path).is_ok_and(|now| now == names) {
         format!("a change was cut off: the names in '{}' are right", text::file(&path))
     } else {
         return Ok(None);

@@ -149,6 +149,12 @@ pub const EDITION: Opt = Opt {
     ..Opt::with("--edition", "EDITION", "first or second, the edition that the book has: its bytes do not tell")
 };
 
+pub const TIMEOUT: Opt = Opt::with(
+    "--timeout",
+    "SECONDS",
+    "how long to wait for a book that another program has locked; without end if not given",
+);
+
 /// A preset out of a book in place of RIG and WORD.
 pub const FROM_BOOK: Opt = Opt::file("--book", "FILE", "takes the preset out of this book, in place of RIG and WORD");
 pub const PRESET: Opt = Opt::with("--preset", "N", "the preset's number in the book of --book, from 0");

@@ -2,6 +2,7 @@
 //! whoever is cut off leaves the old file or the new one.
 use super::carried::Carried;
 use super::part::{self, Part};
+use super::wait::{self, Lock};
 use crate::failure::Failure;
 use crate::library::MAX_BOOK;
 use crate::{system, text};
@@ -36,7 +37,7 @@ impl Locked {
         loop {
             may_replace(path, &fs::metadata(&target).map_err(failed)?)?;
             let mut file = OpenOptions::new().read(true).write(true).open(&target).map_err(failed)?;
-            file.lock().map_err(failed)?;
+            wait::lock(&file, path, Lock::Exclusive)?;
             let old = file.metadata().map_err(failed)?;
             if !fs::metadata(&target).is_ok_and(|now| is_one(&old, &now)) {
                 continue;
@@ -199,13 +200,16 @@ fn is_one(first: &Metadata, second: &Metadata) -> bool {
 
 /// Something read together with a file while nobody replaces it. Where a file cannot be locked it is read as it is; a
 /// pipe can be opened only once.
-pub fn read_together<T>(path: &Path, mut read: impl FnMut() -> T) -> T {
+pub fn read_together<T>(path: &Path, mut read: impl FnMut() -> Result<T, Failure>) -> Result<T, Failure> {
     loop {
         if !path.is_file() {
             return read();
         }
         let Ok(file) = File::open(path) else { return read() };
-        let locked = file.lock_shared().is_ok();
+        let locked = match wait::lock(&file, path, Lock::Shared) {
+            Err(failure @ Failure::Unwilling(_)) => return Err(failure),
+            locked => locked.is_ok(),
+        };
         let now = fs::metadata(path);
         if !locked || file.metadata().is_ok_and(|held| now.is_ok_and(|now| is_one(&held, &now))) {
             return read();

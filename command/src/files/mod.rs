@@ -3,9 +3,11 @@ mod carried;
 mod locked;
 mod part;
 mod sort;
+mod wait;
 
 pub use locked::{Locked, Ready, place_new, read_together, settled, take_away};
 pub use sort::Sort;
+pub use wait::at_most as wait_at_most;
 
 use crate::failure::Failure;
 use crate::library::MAX_BOOK;
@@ -86,10 +88,12 @@ pub fn may_write(path: &Path, sort: Sort, force: bool) -> Result<(), Failure> {
     Ok(())
 }
 
-/// Writes a whole file, or standard output for `-`.
+/// Writes a whole file, or standard output for `-`. A reader that goes away before it has all of it is a failure: what
+/// it has is no file of that sort.
 pub fn write(path: &Path, bytes: &[u8], sort: Sort, force: bool, out: &mut dyn Write) -> Result<(), Failure> {
     if is_standard(path) {
-        return Ok(out.write_all(bytes)?);
+        let written = out.write_all(bytes).and_then(|()| out.flush());
+        return written.map_err(|error| Failure::File("standard output".to_string(), error));
     }
     may_write(path, sort, force)?;
     match fs::metadata(path) {

@@ -26,6 +26,7 @@ pub const SUBCOMMAND: Subcommand = Subcommand {
     operands: &[table::BOOK, table::RIG, table::WORD],
     options: &[
         table::EDITION,
+        table::TIMEOUT,
         table::IN_PLACE,
         table::OUTPUT_BOOK,
         table::FORCE,

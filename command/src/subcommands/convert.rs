@@ -21,6 +21,7 @@ pub const SUBCOMMAND: Subcommand = Subcommand {
     operands: &[table::BOOK],
     options: &[
         table::EDITION.about("first or second, the edition that BOOK has now: its bytes do not tell"),
+        table::TIMEOUT,
         table::IN_PLACE,
         table::OUTPUT_BOOK,
         table::FORCE,

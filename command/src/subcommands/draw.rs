@@ -28,6 +28,7 @@ pub const SUBCOMMAND: Subcommand = Subcommand {
         table::FORCE,
         table::FROM_BOOK,
         table::EDITION,
+        table::TIMEOUT,
         table::PRESET,
         table::NAMES,
     ],

@@ -21,7 +21,7 @@ pub const SUBCOMMAND: Subcommand = Subcommand {
            listed, refused records included.\n\nWith --lines, a line for each preset as the verified listing program \
            prints it: number, kind, rank, length, normal form, what it shows, or '0 refused 8'.",
     operands: &[table::BOOK],
-    options: &[table::EDITION, table::ONE_PRESET, table::LINES, table::NAMES],
+    options: &[table::EDITION, table::TIMEOUT, table::ONE_PRESET, table::LINES, table::NAMES],
     examples: &["winnathey list presets.book --edition first"],
     json: &[&[
         ("book", "the file of the book"),

@@ -24,6 +24,7 @@ pub const SUBCOMMAND: Subcommand = Subcommand {
     operands: &[table::BOOK, table::NUMBER, table::RIG, table::WORD],
     options: &[
         table::EDITION,
+        table::TIMEOUT,
         table::IN_PLACE,
         table::OUTPUT_BOOK,
         table::FORCE,

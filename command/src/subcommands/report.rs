@@ -18,7 +18,7 @@ pub const SUBCOMMAND: Subcommand = Subcommand {
            shows with its names, the three counts of its length and its delay; the delay table of each rig that has \
            one; the hash of the book, the version and hash of the library, and the date that is given.",
     operands: &[table::BOOK],
-    options: &[table::EDITION, table::OUTPUT_REPORT, table::FORCE, table::DATE, table::NAMES],
+    options: &[table::EDITION, table::TIMEOUT, table::OUTPUT_REPORT, table::FORCE, table::DATE, table::NAMES],
     examples: &["winnathey report my.book --edition first -o my.html --date 2026-11-16"],
     json: &[&[
         ("book", "the file of the book"),

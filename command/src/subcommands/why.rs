@@ -27,6 +27,7 @@ pub const SUBCOMMAND: Subcommand = Subcommand {
         table::AT,
         table::FROM_BOOK,
         table::EDITION,
+        table::TIMEOUT,
         table::PRESET,
     ],
     examples: &["winnathey why B2 1 1 1 2 1 2", "winnathey why D5 4 4 2 5 3 5 1 2 --last 1"],
