@@ -8,24 +8,24 @@ _winnathey() {
     fi
     case ${COMP_WORDS[1]} in
     help) COMPREPLY=($(compgen -W "$subcommands" -- "$word")); return ;;
-    show) options='--book --edition --timeout --preset --names --json --help' operands='A B D' ;;
-    why) options='--last --at-most --whole --at --book --edition --timeout --preset --json --help' operands='A B D' ;;
-    draw) options='--both -o --png --force --book --edition --timeout --preset --names --json --help' operands='A B D' ;;
-    same) options='--status --book --edition --timeout --preset --json --help' operands='A B D' ;;
-    split) options='--allowed --locked --book --edition --timeout --preset --json --help' operands='A B D' ;;
+    show) options='--empty --book --edition --timeout --preset --names --json --help' operands='A B D' ;;
+    why) options='--empty --last --at-most --whole --at --book --edition --timeout --preset --json --help' operands='A B D' ;;
+    draw) options='--empty --both -o --png --force --book --edition --timeout --preset --names --json --help' operands='A B D' ;;
+    same) options='--empty --status --book --edition --timeout --preset --json --help' operands='A B D' ;;
+    split) options='--empty --allowed --locked --book --edition --timeout --preset --json --help' operands='A B D' ;;
     between) options='--allowed --locked --json --help' operands='A B D' ;;
-    fallback) options='--status --book --edition --timeout --preset --json --help' operands='A B D' ;;
+    fallback) options='--empty --status --book --edition --timeout --preset --json --help' operands='A B D' ;;
     delays) options='--svg --png --force --json --help' operands='A B D' ;;
-    normal) options='--book --edition --timeout --preset --json --help' operands='A B D' ;;
-    product) options='--book --edition --timeout --preset --json --help' operands='A B D' ;;
-    inverse) options='--book --edition --timeout --preset --json --help' operands='A B D' ;;
-    descents) options='--book --edition --timeout --preset --json --help' operands='A B D' ;;
-    shortest) options='--limit --book --edition --timeout --preset --json --help' operands='A B D' ;;
+    normal) options='--empty --book --edition --timeout --preset --json --help' operands='A B D' ;;
+    product) options='--empty --book --edition --timeout --preset --json --help' operands='A B D' ;;
+    inverse) options='--empty --book --edition --timeout --preset --json --help' operands='A B D' ;;
+    descents) options='--empty --book --edition --timeout --preset --json --help' operands='A B D' ;;
+    shortest) options='--empty --limit --book --edition --timeout --preset --json --help' operands='A B D' ;;
     list) options='--edition --timeout --preset --lines --names --json --help' operands='files' ;;
     check) options='--edition --json --help' operands='files' ;;
-    append) options='--edition --timeout --in-place -o --force --new --at-most --book --preset --json --help' operands='files' ;;
+    append) options='--empty --edition --timeout --in-place -o --force --new --at-most --book --preset --json --help' operands='files' ;;
     remove) options='--edition --timeout --in-place -o --force --json --help' operands='files' ;;
-    replace) options='--edition --timeout --in-place -o --force --book --preset --json --help' operands='files' ;;
+    replace) options='--empty --edition --timeout --in-place -o --force --book --preset --json --help' operands='files' ;;
     move) options='--edition --timeout --in-place -o --force --json --help' operands='files' ;;
     convert) options='--edition --timeout --in-place -o --force --at-most --json --help' operands='files' ;;
     report) options='--edition --timeout -o --force --date --names --json --help' operands='files' ;;

@@ -51,12 +51,33 @@ impl Args {
         if args.reads_of_standard_input() > 1 {
             return Err(args.usage("standard input can be read once only"));
         }
+        args.no_option_without_effect()?;
         if let Some(seconds) = args.text("--timeout") {
             let limit = seconds.parse().ok().and_then(|seconds| Duration::try_from_secs_f64(seconds).ok());
             let wrong = || args.usage(format!("--timeout needs seconds from 0, not '{}'", text::plain(&seconds)));
             files::wait_at_most(limit.ok_or_else(wrong)?);
         }
         Ok(Some(args))
+    }
+
+    /// An option that would change nothing is a mistake, and may be one in the rest.
+    fn no_option_without_effect(&self) -> Result<(), Failure> {
+        let has_book = self.flag("--book") || self.subcommand.operands.iter().any(|operand| operand.name == "BOOK");
+        if let Some(option) = ["--edition", "--timeout"].into_iter().find(|option| !has_book && self.flag(option)) {
+            return Err(self.usage(format!("{option} is for a book: --book FILE")));
+        }
+        let outputs = ["-o", "--svg", "--png"];
+        if self.flag("--force") && !outputs.iter().any(|output| self.flag(output)) {
+            let output = outputs.into_iter().find(|output| self.subcommand.has(output)).unwrap_or("-o");
+            return Err(self.usage(format!("--force is for a file that is written: {output} FILE")));
+        }
+        if self.flag("--empty") && !self.operands.iter().any(|operand| operand.text == "-") {
+            return Err(self.usage("--empty is for a word from standard input: -"));
+        }
+        if self.flag("--lines") && self.flag("--names") {
+            return Err(self.usage("either --lines, which has no names, or --names"));
+        }
+        Ok(())
     }
 
     /// Each - among the operands, and a book of `--book` once for each of its presets.
@@ -73,9 +94,12 @@ impl Args {
     /// An option, with the value after = or the next argument where it has one. A value keeps its bytes, which need
     /// not be text. Gives the option as it was typed.
     fn take_option(&mut self, argument: &OsStr, rest: &mut impl Iterator<Item = OsString>) -> Result<String, Failure> {
-        let (option, joined) = match argument.as_bytes().iter().position(|&byte| byte == b'=') {
-            Some(at) => (&argument.as_bytes()[..at], Some(OsStr::from_bytes(&argument.as_bytes()[at + 1..]))),
-            None => (argument.as_bytes(), None),
+        let bytes = argument.as_bytes();
+        let (option, joined) = match bytes.iter().position(|&byte| byte == b'=') {
+            Some(at) => (&bytes[..at], Some(OsStr::from_bytes(&bytes[at + 1..]))),
+            // -oFILE, as other programs take it.
+            None if bytes.starts_with(b"-o") && bytes.len() > 2 => (&bytes[..2], Some(OsStr::from_bytes(&bytes[2..]))),
+            None => (bytes, None),
         };
         let option = String::from_utf8_lossy(option);
         let Some(found) = self.subcommand.all_options().find(|listed| listed.name == option) else {
@@ -264,7 +288,12 @@ impl Args {
             if parts.len() > 1 {
                 return Err(self.usage(format!("{name} is either - or steps, not both")));
             }
-            numbers::from_standard_input().map_err(|failure| self.named(failure))?
+            let read = numbers::from_standard_input().map_err(|failure| self.named(failure))?;
+            if read.0.is_empty() && !self.flag("--empty") {
+                let hint = if self.subcommand.has("--empty") { ": --empty takes it for the empty word" } else { "" };
+                return Err(self.usage(format!("standard input has no numbers{hint}")));
+            }
+            read
         } else {
             let parts: Vec<_> = parts.iter().map(|part| part.to_string_lossy()).collect();
             let text = parts.join(" ");

@@ -121,6 +121,9 @@ fn action(completes: Completes) -> String {
 
 pub fn fish() -> String {
     let mut script = "# fish completion for winnathey\ncomplete -c winnathey -f\n".to_string();
+    script += "complete -c winnathey -n __fish_use_subcommand -a help -d 'help on a subcommand'\n";
+    let behind = "__fish_seen_subcommand_from help; and test (count (commandline -opc)) -eq 2";
+    script += &format!("complete -c winnathey -n '{behind}' -a '{}'\n", names().join(" "));
     for subcommand in &SUBCOMMANDS {
         let about = quoted(subcommand.about).replace("'\\''", "\\'");
         script += &format!("complete -c winnathey -n __fish_use_subcommand -a {} -d '{about}'\n", subcommand.name);

@@ -1,9 +1,10 @@
 //! What `--help` prints, made from the table.
 use crate::failure::Failure;
+use crate::json::{self, Value, object};
 use crate::out::Out;
 use crate::style::Style;
 use crate::subcommands::{self, SUBCOMMANDS};
-use crate::table::{Opt, Subcommand};
+use crate::table::{Operand, Opt, Subcommand};
 use crate::{suggest, text};
 use std::ffi::OsString;
 use std::io::Write;
@@ -24,16 +25,47 @@ const WIDEST: usize = 80;
 const COLUMN: usize = 16;
 
 /// Help on the subcommand that is named first, or on all.
-pub fn write(arguments: Vec<OsString>, out: &mut Out) -> Result<(), Failure> {
-    let text = match &arguments[..] {
-        [] => overview(out.width, out.style),
-        [name] => of(find(&name.to_string_lossy())?, out.width, out.style),
+pub fn write(mut arguments: Vec<OsString>, out: &mut Out) -> Result<(), Failure> {
+    arguments.retain(|argument| argument != "--json");
+    match &arguments[..] {
+        [] if out.json => Ok(out.answer("help", vec![("subcommands", json::list(SUBCOMMANDS.iter().map(described)))])?),
+        [] => Ok(out.write_all(overview(out.width, out.style).as_bytes())?),
+        [name] => write_one(find(&name.to_string_lossy())?, out),
         [_, more, ..] => {
             let more = text::plain(&more.to_string_lossy());
-            return Err(Failure::usage(format!("help is on one subcommand, and '{more}' is too many"), None));
+            Err(Failure::usage(format!("help is on one subcommand, and '{more}' is too many"), None))
         }
-    };
+    }
+}
+
+/// Help on one subcommand.
+pub fn write_one(subcommand: &'static Subcommand, out: &mut Out) -> Result<(), Failure> {
+    if out.json {
+        return Ok(out.answer("help", vec![("subcommands", json::list([described(subcommand)]))])?);
+    }
+    let text = of(subcommand, out.width, out.style);
     Ok(out.write_all(text.as_bytes())?)
+}
+
+/// A subcommand for JSON.
+fn described(subcommand: &Subcommand) -> Value {
+    let operand = |operand: &Operand| object([("name", operand.name.into()), ("about", operand.about.into())]);
+    let option = |option: &Opt| {
+        let (name, value, about) = (option.name.into(), json::optional(option.value), option.about.into());
+        object([("name", name), ("value", value), ("about", about)])
+    };
+    let field = |(name, about): &(&str, &str)| object([("name", (*name).into()), ("about", (*about).into())]);
+    object([
+        ("name", subcommand.name.into()),
+        ("group", subcommand.group.into()),
+        ("about", subcommand.about.into()),
+        ("usages", json::list(usages(subcommand))),
+        ("text", subcommand.text.into()),
+        ("operands", json::list(subcommand.operands.iter().map(operand))),
+        ("options", json::list(subcommand.all_options().map(option))),
+        ("fields", json::list(subcommand.fields().map(field))),
+        ("examples", json::list(subcommand.examples.iter().copied())),
+    ])
 }
 
 /// The subcommand of that name, or what may have been meant.

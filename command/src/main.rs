@@ -39,6 +39,7 @@ use out::Out;
 use std::ffi::OsString;
 use std::io::{self, Write};
 use std::process::ExitCode;
+use subcommands::SUBCOMMANDS;
 use table::Verdict;
 
 fn main() -> ExitCode {
@@ -77,6 +78,7 @@ fn run(mut arguments: Vec<OsString>, out: &mut Out) -> Result<Verdict, Failure> 
     match &*first.to_string_lossy() {
         "-h" | "--help" | "help" => help::write(arguments, out)?,
         "-V" | "--version" => version(arguments, out)?,
+        name if name.starts_with('-') => return Err(no_option(name)),
         name => {
             let subcommand = help::find(name)?;
             match Args::parse(subcommand, arguments)? {
@@ -84,14 +86,22 @@ fn run(mut arguments: Vec<OsString>, out: &mut Out) -> Result<Verdict, Failure> 
                     out.paged &= subcommand.paged;
                     return (subcommand.run)(args, out);
                 }
-                None => {
-                    let text = help::of(subcommand, out.width, out.style);
-                    out.write_all(text.as_bytes())?;
-                }
+                None => help::write_one(subcommand, out)?,
             }
         }
     }
     Ok(Verdict::Answer)
+}
+
+/// An option in front of the subcommand: one that belongs behind it, or one that was misspelt.
+fn no_option(name: &str) -> Failure {
+    let known = SUBCOMMANDS.iter().flat_map(|subcommand| subcommand.all_options()).any(|option| option.name == name);
+    let meant = if known {
+        format!(": it comes behind the subcommand, as in 'winnathey SUBCOMMAND {name}'")
+    } else {
+        suggest::question(name, ["--help", "--version"].into_iter())
+    };
+    Failure::usage(format!("no option '{}' in front of a subcommand{meant}", text::plain(name)), None)
 }
 
 fn version(arguments: Vec<OsString>, out: &mut Out) -> Result<(), Failure> {

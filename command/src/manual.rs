@@ -12,7 +12,7 @@ fn escaped(text: &str) -> String {
 const FILES: &str = "BOOK.names, beside a book, has names for the sources and screens of its rig and for its presets, \
 in lines such as 'source 1 rear view', 'screen 3 windscreen' and 'preset 0 Motorway'; # begins a comment.";
 
-const ENVIRONMENT: &str = "COLUMNS sets the width of lines. NO_COLOR turns colours off. PAGER names the program that \
+const ENVIRONMENT: &str = "COLUMNS sets the width of lines. NO_COLOR turns colours off, and so does CLICOLOR=0. PAGER names the program that \
 shows long answers on a terminal, less if it is not set; an empty one turns that off.";
 
 const STATUS: &str = "0 for an answer, 1 for a refusal or a file that cannot be read or written, 2 if the command was \

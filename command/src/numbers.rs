@@ -24,9 +24,15 @@ fn separates(character: char) -> bool {
 /// The numbers of a text, in their order. A byte order mark in front does not count.
 pub fn typed(text: &str) -> Result<Vec<i64>, String> {
     let text = text.strip_prefix('\u{feff}').unwrap_or(text);
+    if text.contains(',') && text.split(',').any(|part| part.trim().is_empty()) {
+        return Err(COMMA.to_string());
+    }
     let parts = text.split(separates).filter(|part| !part.is_empty());
     parts.map(|part| integer(part).ok_or_else(|| no_number(part))).collect()
 }
+
+/// A number may be missing where a comma stands alone.
+const COMMA: &str = "a comma stands between two numbers: one is missing";
 
 fn no_number(part: &str) -> String {
     let bracket = part.starts_with(['[', ']']) || part.ends_with(['[', ']']);
@@ -45,12 +51,15 @@ pub fn from_standard_input() -> Result<(Vec<i64>, bool), Failure> {
         Ok(read) => Ok(read),
         Err(Streamed::Failed(error)) => Err(Failure::File(name(), error)),
         Err(Streamed::NoNumber(part)) => Err(Failure::usage(no_number(&part), None)),
+        Err(Streamed::Comma) => Err(Failure::usage(COMMA, None)),
     }
 }
 
 enum Streamed {
     Failed(io::Error),
     NoNumber(String),
+    /// One without a number before or behind it.
+    Comma,
 }
 
 /// More bytes than a number has that anyone would type.
@@ -81,6 +90,8 @@ fn streamed(bytes: impl BufRead, most: usize) -> Result<(Vec<i64>, bool), Stream
     let mut brackets = Brackets::Missing;
     let mut part: Vec<u8> = Vec::new();
     let mut first = true;
+    // How many numbers there were at the last comma.
+    let mut comma: Option<usize> = None;
     for byte in bytes.bytes().chain([Ok(b' ')]) {
         let byte = byte.map_err(Streamed::Failed)?;
         let bracket = byte == b'[' || byte == b']';
@@ -104,9 +115,18 @@ fn streamed(bytes: impl BufRead, most: usize) -> Result<(Vec<i64>, bool), Stream
         if numbers.len() == most {
             return Ok((numbers, brackets != Brackets::Missing));
         }
+        if byte == b',' && numbers.len() <= comma.unwrap_or(0) || byte == b']' && comma == Some(numbers.len()) {
+            return Err(Streamed::Comma);
+        }
+        if byte == b',' {
+            comma = Some(numbers.len());
+        }
         if bracket {
             brackets = brackets.with(byte, numbers.is_empty())?;
         }
+    }
+    if comma == Some(numbers.len()) {
+        return Err(Streamed::Comma);
     }
     match brackets {
         Brackets::Open => Err(Streamed::NoNumber("[".to_string())),
@@ -125,6 +145,9 @@ pub fn steps(option: &str, text: &str, rank: u8) -> Result<u64, String> {
         "none" => return Ok(0),
         "all" => return Ok(all_steps(rank)),
         _ => {}
+    }
+    if text.contains(',') && text.split(',').any(|part| part.trim().is_empty()) {
+        return Err(format!("{option}: {COMMA}"));
     }
     let parts: Vec<&str> = text.split(separates).filter(|part| !part.is_empty()).collect();
     if parts.is_empty() {
@@ -162,6 +185,12 @@ mod tests {
         assert_eq!(typed("\u{2212}1 -2"), Ok(vec![-1, -2]));
         assert_eq!(typed("99999999999999999999"), Ok(vec![i64::MAX]));
         assert_eq!(typed("\u{feff}1 2"), Ok(vec![1, 2]));
+        for wrong in [",", "1,,2", "1,", ",1", "1, ,2", " , "] {
+            assert!(typed(wrong).is_err() && streamed(wrong.as_bytes(), 5).is_err(), "{wrong}");
+        }
+        for wrong in ["[1,]", "[,1]", "[1,,2]", "[1],", ",[1]"] {
+            assert!(streamed(wrong.as_bytes(), 5).is_err(), "{wrong}");
+        }
         assert!(typed("1 x").is_err() && typed("1.5").is_err() && typed("1 \u{feff}2").is_err());
     }
 
@@ -191,7 +220,7 @@ mod tests {
         assert_eq!(steps("all"), Ok(0b11111));
         assert_eq!((all_steps(0), all_steps(64), all_steps(255)), (0, u64::MAX, u64::MAX));
         assert_eq!(steps("64"), Ok(1 << 63));
-        for wrong in ["", ",", " , ", "0", "65", "1-", "-1", "5-2", "1-2-3", "x"] {
+        for wrong in ["", ",", " , ", "1,,2", "1,", ",1", "0", "65", "1-", "-1", "5-2", "1-2-3", "x"] {
             assert!(steps(wrong).is_err(), "{wrong}");
         }
     }

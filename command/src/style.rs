@@ -10,9 +10,10 @@ pub struct Style {
 const STRANDS: [u8; 8] = [39, 34, 31, 32, 35, 33, 36, 90];
 
 impl Style {
-    /// Colours for a terminal, unless NO_COLOR is set or it is a dumb one.
+    /// Colours for a terminal, unless NO_COLOR is set, CLICOLOR is 0 or it is a dumb one.
     pub fn of(terminal: bool) -> Style {
-        let asked_not = env::var_os("NO_COLOR").is_some_and(|value| !value.is_empty());
+        let asked_not = env::var_os("NO_COLOR").is_some_and(|value| !value.is_empty())
+            || env::var_os("CLICOLOR").is_some_and(|value| value == "0");
         let dumb = env::var_os("TERM").is_none_or(|term| term == "dumb");
         Style { on: terminal && !asked_not && !dumb }
     }

@@ -164,6 +164,9 @@ pub const BOTH_PRESETS: Opt =
 pub const NAMES: Opt =
     Opt::file("--names", "FILE", "the names of sources, screens and presets; BOOK.names beside the book if not given");
 
+pub const EMPTY: Opt =
+    Opt::flag("--empty", "takes a standard input without numbers for the empty word, in place of refusing it");
+
 pub const ALLOWED: Opt = Opt::with(
     "--allowed",
     "STEPS",

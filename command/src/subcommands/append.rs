@@ -25,6 +25,7 @@ pub const SUBCOMMAND: Subcommand = Subcommand {
            it is whole; only then is it said. A refused call leaves every file as it was.",
     operands: &[table::BOOK, table::RIG, table::WORD],
     options: &[
+        table::EMPTY,
         table::EDITION,
         table::TIMEOUT,
         table::IN_PLACE,

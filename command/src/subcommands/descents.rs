@@ -17,7 +17,7 @@ pub const SUBCOMMAND: Subcommand = Subcommand {
            them. Then the same for steps in front, with which some shortest word begins. Every other step makes the \
            length greater by one.",
     operands: &[table::RIG, table::WORD],
-    options: &[table::FROM_BOOK, table::EDITION, table::TIMEOUT, table::PRESET],
+    options: &[table::EMPTY, table::FROM_BOOK, table::EDITION, table::TIMEOUT, table::PRESET],
     examples: &["winnathey descents D5 '[3 -5 1 4 -2]'"],
     json: &[
         table::READ,

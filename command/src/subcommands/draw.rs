@@ -22,6 +22,7 @@ pub const SUBCOMMAND: Subcommand = Subcommand {
            that touch different lanes then share a column.",
     operands: &[table::RIG, table::WORD],
     options: &[
+        table::EMPTY,
         table::BOTH,
         table::OUTPUT_PICTURE,
         table::PNG,

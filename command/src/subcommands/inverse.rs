@@ -16,7 +16,7 @@ pub const SUBCOMMAND: Subcommand = Subcommand {
     text: "The normal form of the word that, after the given one, leads back to the straight window, and what it shows \
            alone.",
     operands: &[table::RIG, table::WORD],
-    options: &[table::FROM_BOOK, table::EDITION, table::TIMEOUT, table::PRESET],
+    options: &[table::EMPTY, table::FROM_BOOK, table::EDITION, table::TIMEOUT, table::PRESET],
     examples: &["winnathey inverse A2 1 2", "winnathey inverse B3 '[2 3 -1]'"],
     json: &[table::READ, table::FORM, table::SHOWS],
     paged: false,

@@ -15,7 +15,7 @@ pub const SUBCOMMAND: Subcommand = Subcommand {
     text: "Of all words that show the same, the shortest, and of those the first in the dictionary, where the HIGHER \
            step comes first.",
     operands: &[table::RIG, table::WORD],
-    options: &[table::FROM_BOOK, table::EDITION, table::TIMEOUT, table::PRESET],
+    options: &[table::EMPTY, table::FROM_BOOK, table::EDITION, table::TIMEOUT, table::PRESET],
     examples: &["winnathey normal A2 1 2 1", "winnathey normal D5 '[3 -5 1 4 -2]'"],
     json: &[table::READ, table::FORM, table::SHOWS],
     paged: false,

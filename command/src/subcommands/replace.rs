@@ -23,6 +23,7 @@ pub const SUBCOMMAND: Subcommand = Subcommand {
            be replaced too.",
     operands: &[table::BOOK, table::NUMBER, table::RIG, table::WORD],
     options: &[
+        table::EMPTY,
         table::EDITION,
         table::TIMEOUT,
         table::IN_PLACE,

@@ -17,7 +17,7 @@ pub const SUBCOMMAND: Subcommand = Subcommand {
     text: "The shortest words that show what the preset shows, in the dictionary's order, where the HIGHER step comes \
            first: the normal form is the first of them.",
     operands: &[table::RIG, table::WORD],
-    options: &[table::LIMIT, table::FROM_BOOK, table::EDITION, table::TIMEOUT, table::PRESET],
+    options: &[table::EMPTY, table::LIMIT, table::FROM_BOOK, table::EDITION, table::TIMEOUT, table::PRESET],
     examples: &["winnathey shortest A2 1 2 1", "winnathey shortest D5 '[3 -5 1 4 -2]' --limit 100"],
     json: &[
         table::READ,

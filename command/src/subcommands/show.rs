@@ -18,7 +18,7 @@ pub const SUBCOMMAND: Subcommand = Subcommand {
            counts: plain pairs, pairs against a mirrored lane, mirrored lanes. With names, also what each screen \
            shows.",
     operands: &[table::RIG, table::WORD],
-    options: &[table::FROM_BOOK, table::EDITION, table::TIMEOUT, table::PRESET, table::NAMES],
+    options: &[table::EMPTY, table::FROM_BOOK, table::EDITION, table::TIMEOUT, table::PRESET, table::NAMES],
     examples: &[
         "winnathey show D5 4 4 2 5 3 5 1 2",
         "winnathey show D5 '[3 -5 1 4 -2]'",

@@ -17,7 +17,15 @@ pub const SUBCOMMAND: Subcommand = Subcommand {
            one shows begins with an allowed step. One after the other they show what the preset shows, their lengths \
            add up to its length, and there is just one such pair.",
     operands: &[table::RIG, table::WORD],
-    options: &[table::ALLOWED, table::LOCKED, table::FROM_BOOK, table::EDITION, table::TIMEOUT, table::PRESET],
+    options: &[
+        table::EMPTY,
+        table::ALLOWED,
+        table::LOCKED,
+        table::FROM_BOOK,
+        table::EDITION,
+        table::TIMEOUT,
+        table::PRESET,
+    ],
     examples: &["winnathey split D5 5 2 3 5 1 2 --allowed 1-3,5", "winnathey split D5 5 2 3 5 1 2 --locked 4"],
     json: &[
         table::READ,

@@ -21,6 +21,7 @@ pub const SUBCOMMAND: Subcommand = Subcommand {
            beyond n, down again. Places count from 0.",
     operands: &[table::RIG, table::WORD],
     options: &[
+        table::EMPTY,
         table::LAST,
         table::AT_MOST_STEPS,
         table::WHOLE,
