@@ -54,7 +54,7 @@ fn from_book(args: &Args, number: usize, out: &mut Out) -> Result<Asked, Failure
     let (book, names) = book(args, &path, out)?;
     book.warn(out);
     let Preset { rig, word } = book.preset(number)?;
-    let origin = Origin::Book { file: book.file.clone(), number };
+    let origin = Origin::Book { file: book.file.clone(), named: book.named.clone(), number };
     let word = Word::known(word, &format!("preset {number}"));
     Ok(Asked { rig: TypedRig::known(rig), word, origin, names })
 }

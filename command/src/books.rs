@@ -1,5 +1,6 @@
 //! Books as they were read, and what the other edition makes of the same bytes.
-use crate::failure::Failure;
+use crate::failure::{Failure, STANDARD_INPUT};
+use crate::json::{self, Value};
 use crate::library::{self, Edition, Preset, Refusal};
 use crate::out::Out;
 use crate::text;
@@ -11,6 +12,8 @@ pub struct Book {
     pub bytes: Vec<u8>,
     /// Its file, to be shown.
     pub file: String,
+    /// The same for JSON.
+    pub named: Value,
 }
 
 pub fn name(edition: Edition) -> &'static str {
@@ -49,8 +52,12 @@ pub fn reads_as(path: &Path) -> &'static str {
 
 impl Book {
     pub fn new(edition: Edition, bytes: Vec<u8>, path: &Path) -> Book {
-        let file = if path == Path::new("-") { "standard input".to_string() } else { text::file(path) };
-        Book { edition, bytes, file }
+        let (file, named) = if path == Path::new("-") {
+            (STANDARD_INPUT.to_string(), STANDARD_INPUT.into())
+        } else {
+            (text::file(path), json::file(path))
+        };
+        Book { edition, bytes, file, named }
     }
 
     /// What to say where the bytes are a right book of the other edition alone.

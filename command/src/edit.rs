@@ -3,7 +3,7 @@ use crate::args::Args;
 use crate::books::{self, Book};
 use crate::failure::Failure;
 use crate::files::{self, Locked, Ready, Sort};
-use crate::json::{Value, list};
+use crate::json::{self, Value, list};
 use crate::library::{self, Edition, MAX_BOOK};
 use crate::names::{self, Names};
 use crate::out::Out;
@@ -117,13 +117,14 @@ impl Edit {
     /// A book that is not there could be started.
     fn missing(&self, failure: Failure) -> Failure {
         match failure {
-            Failure::File(name, error) if error.kind() == ErrorKind::NotFound => {
+            Failure::File(path, error) if error.kind() == ErrorKind::NotFound => {
+                let name = text::file(&path);
                 if self.from.is_symlink() {
-                    Failure::Unwilling(format!("{name} is a link that leads to nothing"))
+                    Failure::Unwilling(format!("'{name}' is a link that leads to nothing"))
                 } else if self.starts {
-                    Failure::Unwilling(format!("{name} does not exist: --new in place of --in-place starts it"))
+                    Failure::Unwilling(format!("'{name}' does not exist: --new in place of --in-place starts it"))
                 } else {
-                    Failure::File(name, error)
+                    Failure::File(path, error)
                 }
             }
             other => other,
@@ -214,7 +215,7 @@ impl Edit {
         if let Err(failure) = ready.place().and_then(|()| removed()) {
             let (aside, told) = (text::file(&aside), failure.in_a_line());
             let failed = format!("its names are in '{aside}', and the next change puts them back: {told}");
-            return Err(Failure::Written(text::file(&self.from), failed));
+            return Err(Failure::Written(self.from.clone(), failed));
         }
         new.settle()
     }
@@ -246,7 +247,7 @@ fn acknowledged(subcommand: &'static str, file: &Path, change: &Change, out: &mu
         (0..).zip(&records).filter(|(_, record)| record.is_err()).map(|(number, _)| number).collect();
     if out.json {
         let mut fields = vec![
-            ("file", text::file(file).into()),
+            ("file", json::file(file)),
             ("edition", books::name(change.edition).into()),
             ("presets", presets.into()),
             ("bytes", change.bytes.len().into()),

@@ -1,11 +1,11 @@
 //! What ends a run: a refusal of the library, a command that was not understood, a file that failed.
-use crate::json::{Value, object, optional};
+use crate::json::{self, Value, object, optional};
 use crate::library::Refusal;
 use crate::style::Style;
 use crate::{system, text};
 use std::fmt;
 use std::io::{self, IsTerminal, Write};
-use std::path::Path;
+use std::path::{Path, PathBuf};
 use std::process::ExitCode;
 
 pub enum Failure {
@@ -16,17 +16,22 @@ pub enum Failure {
     Presets(Vec<(usize, Refusal, Option<String>)>, Option<String>),
     /// Not understood; with the subcommand, if one was named.
     Usage(String, Option<&'static str>),
-    /// A file or stream by its name, and what went wrong.
-    File(String, io::Error),
+    /// A file, and what went wrong.
+    File(PathBuf, io::Error),
+    /// A stream or another program by its name, and what went wrong.
+    Stream(&'static str, io::Error),
     /// Something that the command itself will not do, in a sentence.
     Unwilling(String),
     /// A file was written, and what failed behind that: whoever asked must not do it again unseen.
-    Written(String, String),
+    Written(PathBuf, String),
     /// The step of a rewriting where the library's lists and its single rewrite part. It is proved that they do not.
     Replay(usize),
     /// Standard output has no reader any more.
     ClosedPipe,
 }
+
+pub const STANDARD_INPUT: &str = "standard input";
+pub const STANDARD_OUTPUT: &str = "standard output";
 
 /// How a run ends for a script.
 pub const REFUSED: u8 = 1;
@@ -36,13 +41,22 @@ pub const FAILED_ASKED_FOR_STATUS: u8 = 3;
 /// The file is written, but that is not confirmed.
 pub const NOT_CONFIRMED: u8 = 4;
 
+/// What was asked for, whatever came of it.
+#[derive(Clone, Copy)]
+pub struct Asked {
+    /// By its name, if there is such a subcommand.
+    pub subcommand: Option<&'static str>,
+    pub for_json: bool,
+    pub for_status: bool,
+}
+
 impl Failure {
     pub fn usage(problem: impl Into<String>, subcommand: Option<&'static str>) -> Failure {
         Failure::Usage(problem.into(), subcommand)
     }
 
     pub fn file(path: &Path, error: io::Error) -> Failure {
-        Failure::File(format!("'{}'", text::file(path)), error)
+        Failure::File(path.to_path_buf(), error)
     }
 
     /// The refusal of a call, with what is to say about it.
@@ -53,9 +67,9 @@ impl Failure {
     /// Standard output failed when it was to say that a file is written.
     pub fn unsaid(self, file: &Path) -> Failure {
         match self {
-            Failure::File(_, error) => {
+            Failure::File(_, error) | Failure::Stream(_, error) => {
                 let failed = format!("standard output, which was to say so, failed: {error}");
-                Failure::Written(text::file(file), failed)
+                Failure::Written(file.to_path_buf(), failed)
             }
             other => other,
         }
@@ -64,7 +78,7 @@ impl Failure {
     /// A file has its name, but the system does not say that this is on the disk.
     pub fn not_on_disk(file: &Path, error: &io::Error) -> Failure {
         let failed = format!("the system does not confirm that it is on the disk: {error}; look before you repeat it");
-        Failure::Written(text::file(file), failed)
+        Failure::Written(file.to_path_buf(), failed)
     }
 
     /// What went wrong, as a part of another sentence.
@@ -85,10 +99,12 @@ impl Failure {
 
     /// Says what went wrong on standard error, or as JSON on standard output with the warnings that came before, and
     /// gives the exit status.
-    pub fn told(self, json: bool, asked_for_status: bool, warnings: Option<(&'static str, Value)>) -> ExitCode {
-        let status = self.status(asked_for_status);
-        if json && system::was_open(1) && !matches!(self, Failure::ClosedPipe) {
-            let told = Value::Object(self.fields(status).into_iter().chain(warnings).collect());
+    pub fn told(self, asked: Asked, warnings: Option<(&'static str, Value)>) -> ExitCode {
+        let status = self.status(asked.for_status);
+        if asked.for_json && system::was_open(1) && !matches!(self, Failure::ClosedPipe) {
+            let subcommand = [("subcommand", optional(asked.subcommand))];
+            let fields = subcommand.into_iter().chain(self.fields(status)).chain(warnings);
+            let told = Value::Object(fields.collect());
             let written = writeln!(io::stdout(), "{told}").and_then(|()| io::stdout().flush());
             if written.is_ok() {
                 return ExitCode::from(status);
@@ -114,17 +130,18 @@ impl Failure {
                 fields.push(("presets", Value::List(presets.iter().map(preset).collect())));
                 fields.push(("hint", optional(hint.as_ref())));
             }
-            Failure::Usage(problem, subcommand) => {
-                fields.push(("usage", problem.into()));
-                fields.push(("subcommand", optional(*subcommand)));
+            Failure::Usage(problem, _) => fields.push(("usage", problem.into())),
+            Failure::File(path, error) => {
+                fields.push(("file", json::file(path)));
+                fields.push(("error", error.to_string().into()));
             }
-            Failure::File(name, error) => {
-                fields.push(("file", name.trim_matches('\'').into()));
+            Failure::Stream(name, error) => {
+                fields.push(("file", (*name).into()));
                 fields.push(("error", error.to_string().into()));
             }
             other => {
                 if let Failure::Written(file, _) = other {
-                    fields.push(("written", file.into()));
+                    fields.push(("written", json::file(file)));
                 }
                 fields.push(("error", other.message().into()));
             }
@@ -135,7 +152,7 @@ impl Failure {
     fn message(&self) -> String {
         match self {
             Failure::Unwilling(message) => message.clone(),
-            Failure::Written(file, failed) => format!("{file} is written, but {failed}"),
+            Failure::Written(file, failed) => format!("{} is written, but {failed}", text::file(file)),
             Failure::Replay(step) => format!("the lists and the single rewrite part at step {step}"),
             _ => String::new(),
         }
@@ -172,7 +189,8 @@ impl fmt::Display for Failure {
                 let about = subcommand.map_or(String::new(), |name| format!(" {name}"));
                 writeln!(f, "winnathey{about}: {problem}\nwinnathey{about} --help says more")
             }
-            Failure::File(name, error) => writeln!(f, "winnathey: {name}: {error}"),
+            Failure::File(path, error) => writeln!(f, "winnathey: '{}': {error}", text::file(path)),
+            Failure::Stream(name, error) => writeln!(f, "winnathey: {name}: {error}"),
             Failure::ClosedPipe => Ok(()),
             other => writeln!(f, "winnathey: {}", other.message()),
         }
@@ -190,7 +208,7 @@ impl From<io::Error> for Failure {
     fn from(error: io::Error) -> Failure {
         match error.kind() {
             io::ErrorKind::BrokenPipe => Failure::ClosedPipe,
-            _ => Failure::File("standard output".to_string(), error),
+            _ => Failure::Stream(STANDARD_OUTPUT, error),
         }
     }
 }

@@ -1,5 +1,7 @@
 //! JSON, as far as an answer needs it.
 use std::fmt::{self, Display, Formatter, Write};
+use std::os::unix::ffi::OsStrExt;
+use std::path::Path;
 
 #[derive(Clone)]
 pub enum Value {
@@ -19,6 +21,17 @@ pub fn list<T: Into<Value>>(items: impl IntoIterator<Item = T>) -> Value {
 
 pub fn object<const N: usize>(fields: [(&'static str, Value); N]) -> Value {
     Value::Object(fields.into_iter().collect())
+}
+
+/// A file's name: text as it is, and what is none with its bytes in hexadecimal digits, so that no two look the same.
+pub fn file(path: &Path) -> Value {
+    match path.to_str() {
+        Some(name) => name.into(),
+        None => {
+            let bytes: String = path.as_os_str().as_bytes().iter().map(|byte| format!("{byte:02x}")).collect();
+            object([("name", path.to_string_lossy().into_owned().into()), ("bytes", bytes.into())])
+        }
+    }
 }
 
 /// A value, or null.

@@ -34,7 +34,7 @@ mod text;
 mod typed;
 
 use args::Args;
-use failure::{FAILED_ASKED_FOR_STATUS, Failure, REFUSED};
+use failure::{FAILED_ASKED_FOR_STATUS, Failure, REFUSED, STANDARD_OUTPUT};
 use out::Out;
 use std::ffi::OsString;
 use std::io::{self, Write};
@@ -47,13 +47,21 @@ fn main() -> ExitCode {
     let arguments: Vec<OsString> = std::env::args_os().skip(1).collect();
     let given =
         |option: &str| arguments.iter().take_while(|argument| *argument != "--").any(|argument| argument == option);
-    let (json, asked_for_status) = (given("--json"), given("--status"));
-    let mut out = Out::new(json);
+    let first = arguments.first().and_then(|first| first.to_str());
+    let itself = |name: &str| match name {
+        "-h" | "--help" | "help" => Some("help"),
+        "-V" | "--version" => Some("version"),
+        _ => None,
+    };
+    let subcommand = first.and_then(|name| subcommands::named(name).map(|found| found.name).or_else(|| itself(name)));
+    let asked = failure::Asked { subcommand, for_json: given("--json"), for_status: given("--status") };
+    let asked_for_status = asked.for_status;
+    let mut out = Out::new(asked.for_json);
     let answered = if system::was_open(1) {
         run(arguments, &mut out)
     } else {
         let closed = io::Error::new(io::ErrorKind::NotConnected, "it is closed");
-        Err(Failure::File("standard output".to_string(), closed))
+        Err(Failure::Stream(STANDARD_OUTPUT, closed))
     };
     let ended = out.end();
     let verdict = answered.as_ref().ok().copied();
@@ -66,7 +74,7 @@ fn main() -> ExitCode {
             Some(Verdict::No) => REFUSED,
             None => FAILED_ASKED_FOR_STATUS,
         }),
-        Err(failure) => failure.told(json, asked_for_status, out.taken_warnings()),
+        Err(failure) => failure.told(asked, out.taken_warnings()),
     }
 }
 

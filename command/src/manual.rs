@@ -22,10 +22,11 @@ understood, 3 for any other failure.";
 
 const JSON: &str = "With --json every subcommand prints one JSON object on one line. An answer has \"subcommand\", \
 \"ok\": true and its fields; words, windows and sets are lists of numbers, a rig is {\"kind\", \"rank\", \"lanes\"}. \
-A failure has \"ok\": false, \"status\" and one of \"refused\": {\"number\", \"meaning\", \"culprit\"}, \"presets\" \
+A failure has \"subcommand\" (null if there is none such), \"ok\": false, \"status\" and one of \"refused\": {\"number\", \"meaning\", \"culprit\"}, \"presets\" \
 (a list of refused records, each with \"preset\" and \"refused\"), \"usage\", or \"error\" with \"file\" or, \
 with status 4, the file that is \"written\". \
-\"warnings\" stands there if there are any. Fields are added in later versions, and none is taken away.";
+\"warnings\" stands there if there are any. A file's name is text, and one that is no UTF-8 is {\"name\", \"bytes\"}, \
+with its bytes in hexadecimal digits. The schema is docs/command.schema.json. Fields are added in later versions, and none is taken away.";
 
 pub fn roff() -> String {
     let mut page = format!(

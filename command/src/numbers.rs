@@ -1,5 +1,5 @@
 //! Numbers as people type them: words, windows, sets of steps.
-use crate::failure::Failure;
+use crate::failure::{Failure, STANDARD_INPUT};
 use crate::library::MAX_WORD;
 use crate::{system, text};
 use std::io::{self, BufRead, ErrorKind};
@@ -43,13 +43,12 @@ fn no_number(part: &str) -> String {
 /// What standard input holds: numbers, as many as tell whether they are too many for a word; whether they stand in
 /// brackets.
 pub fn from_standard_input() -> Result<(Vec<i64>, bool), Failure> {
-    let name = || "standard input".to_string();
     if !system::was_open(0) {
-        return Err(Failure::File(name(), io::Error::new(ErrorKind::NotConnected, "it is closed")));
+        return Err(Failure::Stream(STANDARD_INPUT, io::Error::new(ErrorKind::NotConnected, "it is closed")));
     }
     match streamed(io::stdin().lock(), MAX_WORD + 1) {
         Ok(read) => Ok(read),
-        Err(Streamed::Failed(error)) => Err(Failure::File(name(), error)),
+        Err(Streamed::Failed(error)) => Err(Failure::Stream(STANDARD_INPUT, error)),
         Err(Streamed::NoNumber(part)) => Err(Failure::usage(no_number(&part), None)),
         Err(Streamed::Comma) => Err(Failure::usage(COMMA, None)),
     }

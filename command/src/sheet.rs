@@ -33,7 +33,7 @@ pub fn of(book: &Book, names: &Names, date: Option<&str>) -> Result<String, Fail
             Err(refusal) => page += &refused(book, number, *refusal, names),
             Ok(preset) => {
                 let Preset { rig, word } = *preset;
-                let origin = Origin::Book { file: book.file.clone(), number };
+                let origin = Origin::Book { file: book.file.clone(), named: book.named.clone(), number };
                 let word = Word::known(word, &format!("preset {number}"));
                 page += &section(&Asked { rig: TypedRig::known(rig), word, origin, names: names.clone() }, number)?;
                 if !rigs.contains(&rig) {

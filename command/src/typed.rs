@@ -38,6 +38,8 @@ pub enum Origin {
     Window(Vec<i8>),
     Book {
         file: String,
+        /// The file for JSON.
+        named: Value,
         number: usize,
     },
 }
@@ -119,7 +121,7 @@ impl Asked {
         match &self.origin {
             Origin::Typed => None,
             Origin::Window(window) => Some(format!("window {}", text::spaced(window))),
-            Origin::Book { file, number } => {
+            Origin::Book { file, number, .. } => {
                 let name = self.name().map_or(String::new(), |name| format!(", {name}"));
                 Some(format!("preset {number} of {file}{name}"))
             }
@@ -142,8 +144,8 @@ impl Asked {
         match &self.origin {
             Origin::Typed => {}
             Origin::Window(window) => fields.push(("given_window", list(window))),
-            Origin::Book { file, number } => {
-                fields.push(("book", file.into()));
+            Origin::Book { named, number, .. } => {
+                fields.push(("book", named.clone()));
                 fields.push(("preset", (*number).into()));
                 fields.extend(self.name().map(|name| ("name", name.into())));
             }

@@ -9,7 +9,7 @@ pub use locked::{Locked, Ready, place_new, read_together, settled, take_away};
 pub use sort::Sort;
 pub use wait::at_most as wait_at_most;
 
-use crate::failure::Failure;
+use crate::failure::{Failure, STANDARD_INPUT, STANDARD_OUTPUT};
 use crate::library::MAX_BOOK;
 use crate::{system, text};
 use std::fs::{self, File, OpenOptions};
@@ -26,7 +26,7 @@ pub fn read_book(path: &Path) -> Result<Vec<u8>, Failure> {
     let mut book = Vec::new();
     let limit = MAX_BOOK as u64 + 1;
     if is_standard(path) {
-        let named = |error| Failure::File("standard input".to_string(), error);
+        let named = |error| Failure::Stream(STANDARD_INPUT, error);
         if !system::was_open(0) {
             return Err(named(io::Error::new(ErrorKind::NotConnected, "it is closed")));
         }
@@ -93,7 +93,7 @@ pub fn may_write(path: &Path, sort: Sort, force: bool) -> Result<(), Failure> {
 pub fn write(path: &Path, bytes: &[u8], sort: Sort, force: bool, out: &mut dyn Write) -> Result<(), Failure> {
     if is_standard(path) {
         let written = out.write_all(bytes).and_then(|()| out.flush());
-        return written.map_err(|error| Failure::File("standard output".to_string(), error));
+        return written.map_err(|error| Failure::Stream(STANDARD_OUTPUT, error));
     }
     may_write(path, sort, force)?;
     match fs::metadata(path) {

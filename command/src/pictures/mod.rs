@@ -8,7 +8,7 @@ mod traced;
 use crate::args::Args;
 use crate::failure::Failure;
 use crate::files::{self, Sort};
-use crate::json::Value;
+use crate::json::{self, Value};
 use crate::out::Out;
 use crate::table::Verdict;
 use crate::text;
@@ -127,7 +127,7 @@ impl Target {
         files::write(&self.path, &bytes, sort, self.force, out)?;
         let file = text::file(&self.path);
         let told = if out.json {
-            fields.push(("file", file.into()));
+            fields.push(("file", json::file(&self.path)));
             out.answer(subcommand, fields)
         } else if files::is_standard(&self.path) {
             return Ok(Verdict::Answer);

@@ -10,7 +10,7 @@ pub fn of(picture: &str) -> Result<Vec<u8>, Failure> {
         ErrorKind::NotFound => Failure::Unwilling(format!(
             "{PROGRAM} makes the PNG and is not installed (in Debian, package librsvg2-bin); SVG needs nothing"
         )),
-        _ => Failure::File(PROGRAM.to_string(), error),
+        _ => Failure::Stream(PROGRAM, error),
     };
     let command = Command::new(PROGRAM).args(["--zoom", "2"]).stdin(Stdio::piped()).stdout(Stdio::piped()).spawn();
     let mut child = command.map_err(failed)?;

@@ -45,7 +45,7 @@ fn run(mut args: Args, out: &mut Out) -> Result<Verdict, Failure> {
     let (count, wrong) = (presets.len(), refused.len());
     if out.json && refused.is_empty() {
         let fields = vec![
-            ("book", (&book.file).into()),
+            ("book", book.named.clone()),
             ("edition", books::name(book.edition).into()),
             ("presets", count.into()),
             ("bytes", book.bytes.len().into()),

@@ -132,7 +132,7 @@ fn in_json(book: &Book, presets: &[Read], names: &Names, out: &mut Out) -> Resul
         values.push(Value::Object(fields));
     }
     let fields = vec![
-        ("book", (&book.file).into()),
+        ("book", book.named.clone()),
         ("edition", books::name(book.edition).into()),
         ("count", book.count()?.into()),
         ("presets", Value::List(values)),

@@ -5,7 +5,7 @@ use crate::failure::Failure;
 use crate::files::{self, Sort};
 use crate::out::Out;
 use crate::table::{self, Subcommand, Verdict};
-use crate::{asked, sha256, sheet, text};
+use crate::{asked, json, sha256, sheet, text};
 use std::io::Write;
 use std::path::Path;
 
@@ -55,11 +55,11 @@ fn told(book: &Book, target: &Path, out: &mut Out) -> Result<(), Failure> {
     let (file, hash, presets) = (text::file(target), sha256::hex(&book.bytes), book.count()?);
     if out.json {
         let fields = vec![
-            ("book", (&book.file).into()),
+            ("book", book.named.clone()),
             ("edition", books::name(book.edition).into()),
             ("presets", presets.into()),
             ("book_sha256", hash.into()),
-            ("file", file.into()),
+            ("file", json::file(target)),
         ];
         out.answer("report", fields)?;
     } else {
