@@ -61,7 +61,7 @@
  *    3  The book's records and offsets do not fit together: the records must follow one another from
  *       byte 0 up to the offsets, and each offset must be where its record begins.
  *    4  There is no preset with this number in the book: presets are numbered from 0.
- *    5  The kind must be 1 for A, 2 for B or 3 for D.
+ *    5  The kind must be 1 (A), 2 (B) or 3 (D).
  *    6  The rank is out of range for its kind: 1 to 63 for A, 2 to 64 for B, 4 to 64 for D, and in a
  *       book of the first edition at most 31 for A and 32 for B and D.
  *    7  The word is too long: a word has at most 4,096 letters.

@@ -136,8 +136,8 @@ static void library(void)
 {
     CALL(winnathey_version());
     CALL(winnathey_refusal_message(5, bytes, ROOM));
-    CALL(winnathey_refusal_message(5, bytes, 45));
-    CALL(winnathey_refusal_message(5, bytes, 44));
+    CALL(winnathey_refusal_message(5, bytes, 39));
+    CALL(winnathey_refusal_message(5, bytes, 38));
     CALL(winnathey_refusal_message(5, NULL, 0));
     CALL(winnathey_refusal_message(0, bytes, ROOM));
     CALL(winnathey_refusal_message(0, NULL, 0));

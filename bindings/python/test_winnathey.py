@@ -117,7 +117,7 @@ class Calls(unittest.TestCase):
     def test_library(self):
         self.assertEqual(w.version(), re.search(r'#define WINNATHEY_VERSION "(.*)"', header()).group(1))
         self.assertEqual(w.__version__, w.version())
-        self.assertEqual(w.refusal_message(5), "The kind must be 1 for A, 2 for B or 3 for D.")
+        self.assertEqual(w.refusal_message(5), "The kind must be 1 (A), 2 (B) or 3 (D).")
         self.assertEqual(w.refusal_message(0), "")
         self.assertEqual(w.refusal_message(22), "")
 

@@ -49,7 +49,7 @@ refusals! {
     BookOffset = 3,
     /// There is no preset with this number in the book: presets are numbered from 0.
     PresetNumber = 4,
-    /// The kind must be 1 for A, 2 for B or 3 for D.
+    /// The kind must be 1 (A), 2 (B) or 3 (D).
     Kind = 5,
     /// The rank is out of range for its kind: 1 to 63 for A, 2 to 64 for B, 4 to 64 for D, and in a book of the first edition at most 31 for A and 32 for B and D.
     Rank = 6,

@@ -37,7 +37,7 @@ fn row(line: &str) -> Option<(usize, String)> {
     Some((cells.next()?.parse().ok()?, cells.next()?.to_string()))
 }
 
-/// CALLS.md: the rows `| 5 | The kind must be 1 for A, 2 for B or 3 for D. |` of its section.
+/// CALLS.md: the rows `| 5 | The kind must be 1 (A), 2 (B) or 3 (D). |` of its section.
 fn calls() -> List {
     let page = text("docs/CALLS.md");
     let (_, section) = page.split_once("\n## Refusals\n").expect("a section on refusals");
@@ -51,7 +51,7 @@ fn specification() -> List {
     section.split("\n\n").nth(1).expect("a table").lines().filter_map(row).collect()
 }
 
-/// The header: its lines ` *    5  The kind must be 1 for A, 2 for B or 3 for D.`, each of which goes on until a full stop ends a line.
+/// The header: its lines ` *    5  The kind must be 1 (A), 2 (B) or 3 (D).`, each of which goes on until a full stop ends a line.
 fn header() -> List {
     let mut list = List::new();
     for line in text("include/winnathey.h").lines() {

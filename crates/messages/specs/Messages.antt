@@ -22,7 +22,7 @@ messages =
     "The book is too short for the number of presets that its last two bytes give." ∷
     "The book's records and offsets do not fit together: the records must follow one another from byte 0 up to the offsets, and each offset must be where its record begins." ∷
     "There is no preset with this number in the book: presets are numbered from 0." ∷
-    "The kind must be 1 for A, 2 for B or 3 for D." ∷
+    "The kind must be 1 (A), 2 (B) or 3 (D)." ∷
     "The rank is out of range for its kind: 1 to 63 for A, 2 to 64 for B, 4 to 64 for D, and in a book of the first edition at most 31 for A and 32 for B and D." ∷
     "The word is too long: a word has at most 4,096 letters." ∷
     "A letter of the word is out of range: every letter must be at least 1 and at most the rank." ∷

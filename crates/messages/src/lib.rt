@@ -4,12 +4,12 @@ ghost use Rattle.coxeter.specs.Calls.{Yields, writes};
 ghost use Rattle.messages.specs.Messages.{refusalMessage};
 
 // The messages of refusals 1 to 21, line by line. The bytes have nothing between two messages.
-const TEXTS: [u8; 2015] = *b"\
+const TEXTS: [u8; 2009] = *b"\
     The book is too short or too long: a book has either no bytes or from 2 to 65,535 bytes.\
     The book is too short for the number of presets that its last two bytes give.\
     The book's records and offsets do not fit together: the records must follow one another from byte 0 up to the offsets, and each offset must be where its record begins.\
     There is no preset with this number in the book: presets are numbered from 0.\
-    The kind must be 1 for A, 2 for B or 3 for D.\
+    The kind must be 1 (A), 2 (B) or 3 (D).\
     The rank is out of range for its kind: 1 to 63 for A, 2 to 64 for B, 4 to 64 for D, and in a book of the first edition at most 31 for A and 32 for B and D.\
     The word is too long: a word has at most 4,096 letters.\
     A letter of the word is out of range: every letter must be at least 1 and at most the rank.\
@@ -36,23 +36,23 @@ const STARTS: [usize; 23] = [
     165,
     332,
     409,
-    454,
-    609,
-    664,
-    755,
-    873,
-    1027,
-    1111,
-    1197,
-    1261,
-    1315,
-    1407,
-    1537,
-    1653,
-    1746,
-    1820,
-    1916,
-    2015,
+    448,
+    603,
+    658,
+    749,
+    867,
+    1021,
+    1105,
+    1191,
+    1255,
+    1309,
+    1401,
+    1531,
+    1647,
+    1740,
+    1814,
+    1910,
+    2009,
 ];
 
 // Writes a text to the front of `out`.
