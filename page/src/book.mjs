@@ -73,6 +73,8 @@ export class BookPanel {
         this.pager = make('div', { class: 'bar' });
         this.search = make('input', { type: 'text', id: 'search', placeholder: 'name, rig or steps', spellcheck: 'false', oninput: () => this.#searched() });
         this.searching = make('div', { class: 'bar', hidden: true }, labelledField('Search the presets', this.search));
+        /** The presets that the search found, or null where none is made. */
+        this.found = null;
         /** The label of the button that has to get the focus when the rows are drawn anew. */
         this.next = null;
         this.convert = button('', () => this.#convert(), { id: 'convert' });
@@ -94,6 +96,11 @@ export class BookPanel {
         const { book } = this.app.state;
         const name = this.name.value.trim().replace(/[/\\]/g, '-') || book.name;
         if (name !== book.name) this.app.store.change({ book: { ...book, name, file: null } });
+    }
+
+    /** Another book is looked at from its first preset on. */
+    begin() {
+        [this.first, this.search.value] = [0, ''];
     }
 
     /** What was said of the book as it was is over. */
@@ -192,17 +199,26 @@ export class BookPanel {
     /** What can be done with a preset; a damaged one can only be moved and removed. */
     #actions(preset, count) {
         const { number } = preset;
-        const act = (text, label, onclick, off = false) => button(text, onclick, { 'aria-label': `${label} preset ${number}`, title: `${label} preset ${number}`, disabled: off });
-        const move = (text, way, to) => button(text, () => this.#move(number, to, way),
-            { 'aria-label': `move preset ${number} ${way}`, title: `move preset ${number} ${way}`, disabled: to < 0 || to >= count || this.search.value.trim() !== '' });
+        const act = (text, label, onclick, off = false) => button(text, onclick, { 'aria-label': label, title: label, disabled: off });
+        const move = (text, way, to) => act(text, `move preset ${number} ${way}`, () => this.#move(number, to, way),
+            to < 0 || to >= count || this.found !== null);
         const whole = preset.refusal ? [] : [
-            act('Load', 'load', () => this.#load(preset)),
-            act('Replace', 'replace', () => this.#replace(preset)),
-            act('Duplicate', 'duplicate', () => this.#edit((library, state) => withDuplicate(library, state, preset),
-                `Preset ${number + 1} is a copy of preset ${number}.`, `duplicate preset ${number + 1}`)),
+            act('Load', `load preset ${number}`, () => this.#load(preset)),
+            act('Replace', `replace preset ${number}`, () => this.#replace(preset)),
+            act('Duplicate', `duplicate preset ${number}`, () => this.#duplicate(preset)),
         ];
         return make('span', { class: 'actions' }, whole, move('▲', 'up', number - 1), move('▼', 'down', number + 1),
-            act('Remove', 'remove', () => this.#edit((library, state) => withoutPreset(library, state, number), `Preset ${number} was removed.`, `remove preset ${number}`)));
+            act('Remove', `remove preset ${number}`, () => this.#remove(preset)));
+    }
+
+    #duplicate(preset) {
+        const { number } = preset;
+        this.#edit((library, state) => withDuplicate(library, state, preset), `Preset ${number + 1} is a copy of preset ${number}.`,
+            `duplicate preset ${number + 1}`);
+    }
+
+    #remove({ number }) {
+        this.#edit((library, state) => withoutPreset(library, state, number), `Preset ${number} was removed.`, `remove preset ${number}`);
     }
 
     #drawRows(count) {
@@ -214,7 +230,8 @@ export class BookPanel {
             this.#drawRows(count);
         }, { disabled: first < 0 || first >= found });
         const part = `${this.first} to ${Math.min(this.first + ROWS, found) - 1}`;
-        const range = make('span', { role: 'status' }, found < count ? `${counted(found, 'preset')} of ${grouped(count)} found` : `Presets ${part} of ${grouped(count)}`);
+        const text = this.found ? `${counted(found, 'preset')} of ${grouped(count)} found` : `Presets ${part} of ${grouped(count)}`;
+        const range = make('span', { role: 'status' }, text);
         const pages = [page('◀ Earlier presets', this.first - ROWS), range, page('Later presets ▶', this.first + ROWS)];
         this.pager.replaceChildren(...(count > ROWS ? pages : []));
     }
@@ -224,17 +241,18 @@ export class BookPanel {
         const { library, state } = this.app;
         const { edition, bytes } = state.book;
         const text = count > ROWS ? this.search.value.trim() : '';
-        const all = text === '' ? null : matching(library.presets(edition, bytes), state.names, text);
-        const found = all?.length ?? count;
+        this.found = text === '' ? null : matching(library.presets(edition, bytes), state.names, text);
+        const found = this.found?.length ?? count;
         this.first = Math.max(Math.min(this.first, found - 1 - (found - 1) % ROWS), 0);
-        if (all) return { presets: all.slice(this.first, this.first + ROWS), found };
+        if (this.found) return { presets: this.found.slice(this.first, this.first + ROWS), found };
         return { presets: count > 0 ? library.presets(edition, bytes, this.first, ROWS) : [], found };
     }
 
     #refusedRow(preset, count) {
         const { number, refusal } = preset;
         return make('li', { class: number === this.culprit ? 'culprit' : '', 'data-preset': number, 'data-refusal': refusal.number },
-            make('span', { class: 'number' }, String(number)), make('span', { class: 'refusal' }, ...refusalParts(refusal, { preset: number })), this.#actions(preset, count));
+            make('span', { class: 'number' }, String(number)),
+            make('span', { class: 'refusal' }, ...refusalParts(refusal, { preset: number })), this.#actions(preset, count));
     }
 
     #row(preset, count) {

@@ -121,6 +121,12 @@ export class Composing {
         this.field.setSelectionRange(this.fault?.start ?? 0, this.fault?.end ?? 0);
     }
 
+    /** What stands beside text that is no word is about the last word. */
+    #sayLetters() {
+        const letters = counted(this.app.state.word.length, 'letter');
+        setText(byId('letters'), this.fault ? `Last word: ${letters}` : letters);
+    }
+
     /** The wrong letter is marked behind the text, at its place. */
     #showFault() {
         const { fault, field } = this;
@@ -135,6 +141,7 @@ export class Composing {
             // To ask for this lays the text out, which takes long where it is long.
             marks.scrollTop = field.scrollTop;
         }
+        this.#sayLetters();
         setText(byId('word-message'), fault ? `${fault.told} The picture stays as it was.` : '');
     }
 
@@ -162,7 +169,7 @@ export class Composing {
         enable(byId('remove'), ui.selected >= 0);
         enable(byId('earlier'), ui.selected >= 1);
         enable(byId('later'), ui.selected >= 0 && ui.selected < state.word.length - 1);
-        setText(byId('letters'), counted(state.word.length, 'letter'));
+        this.#sayLetters();
         byId('unkept').hidden = !store.wordUnsaved;
         this.#updateForm(state, answers);
     }

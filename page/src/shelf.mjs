@@ -120,7 +120,7 @@ export class Shelf {
         const { app } = this;
         const { state, store } = app;
         app.notice(wrong ?? '');
-        app.panels.book.first = 0;
+        app.panels.book.begin();
         const known = wrong || isNew ? null : rememberedNames(book);
         store.change({ book, kept: presetIn(app.library, book, state), names: names ?? known ?? NO_NAMES });
         store.markBookSaved();

@@ -339,6 +339,7 @@ class TenPoints(PageTest):
             self.js("window.print = () => { throw new Error('printed') }")
             self.press(control)
             self.assertIn("The field with the word does not hold a word.", self.text("notice"), control)
+        self.assertEqual(self.text("letters"), "Last word: 3 letters")
         self.keys("s")
         self.press("add step 1: exchanges lanes 1 and 2")
         self.assertIn("does not hold a word", self.text("add-message"))
@@ -354,6 +355,7 @@ class TenPoints(PageTest):
         self.assertEqual(self.js("const e = document.activeElement; return [e.id, e.value.slice(e.selectionStart, e.selectionEnd)]"), ["word", "x"])
         self.press("Go back to the last word")
         self.assertEqual((field.get_attribute("value"), self.text("notice"), self.text("add-message")), ("1 1 2", "", ""))
+        self.assertEqual(self.text("letters"), "3 letters")
         self.assertIn("1 1 2 (3 letters)", self.text("sheet"))
         field.send_keys(" x")
         self.settle()
@@ -1061,6 +1063,11 @@ class Books(PageTest):
         self.press("move preset 40 up")
         self.assertIn("Presets 20 to 39 of 44", self.panel().text)
         self.assertEqual((self.rows()[-1][1], self.focus()), ("lesson 40", "move preset 39 up"))
+        self.labelled("Search the presets").send_keys("lesson 4")
+        self.settle()
+        self.js("app.store.markBookSaved()")
+        self.drop(("few.book", bytes(self.js(made, 20))))
+        self.assertTrue(self.labelled("move preset 1 up").is_enabled())
 
     def test_07_two_books_and_what_is_no_file_are_told(self):
         self.drop(("one.book", self.BOOK), ("two.book", b""))
