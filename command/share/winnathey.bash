@@ -20,7 +20,7 @@ _winnathey() {
     product) options='--empty --book --edition --timeout --preset --json --help' operands='A B D' ;;
     inverse) options='--empty --book --edition --timeout --preset --json --help' operands='A B D' ;;
     descents) options='--empty --book --edition --timeout --preset --json --help' operands='A B D' ;;
-    shortest) options='--empty --limit --book --edition --timeout --preset --json --help' operands='A B D' ;;
+    shortest) options='--empty --limit --count --book --edition --timeout --preset --json --help' operands='A B D' ;;
     list) options='--edition --timeout --preset --lines --names --json --help' operands='files' ;;
     check) options='--edition --json --help' operands='files' ;;
     append) options='--empty --edition --timeout --in-place -o --force --new --at-most --book --preset --json --help' operands='files' ;;

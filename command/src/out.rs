@@ -52,6 +52,16 @@ impl Out {
         writeln!(self, "{}", Value::Object(all))
     }
 
+    /// The front of an answer whose last fields are written piece by piece, without the brace at its end.
+    pub fn front(&mut self, subcommand: &'static str, fields: Vec<(&'static str, Value)>) -> String {
+        let mut all = vec![("subcommand", subcommand.into()), ("ok", true.into())];
+        all.extend(fields);
+        all.extend(self.taken_warnings());
+        let mut front = Value::Object(all).to_string();
+        front.pop();
+        front
+    }
+
     /// The warnings as a field, where there are any.
     pub fn taken_warnings(&mut self) -> Option<(&'static str, Value)> {
         let warnings = std::mem::take(&mut self.warnings);

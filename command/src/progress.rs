@@ -10,8 +10,9 @@ use std::time::Duration;
 const QUIET: Duration = Duration::from_secs(1);
 const PAUSE: Duration = Duration::from_millis(200);
 
-#[derive(Default)]
 struct Steps {
+    /// What is said while the number of all is not known.
+    unknown: &'static str,
     done: AtomicUsize,
     /// 0 while it is not known.
     all: AtomicUsize,
@@ -25,8 +26,22 @@ pub struct Progress {
 }
 
 impl Progress {
+    /// Of steps whose number is found first.
     pub fn start() -> Progress {
-        let steps = Arc::new(Steps::default());
+        Progress::saying("counting the steps")
+    }
+
+    /// Of words that are found, nobody knows how many.
+    pub fn of_words() -> Progress {
+        Progress::saying("words found:")
+    }
+
+    pub fn of_windows() -> Progress {
+        Progress::saying("windows looked at:")
+    }
+
+    fn saying(unknown: &'static str) -> Progress {
+        let steps = Arc::new(Steps { unknown, done: AtomicUsize::new(0), all: AtomicUsize::new(0) });
         let mut progress = Progress { steps: steps.clone(), work: None };
         if io::stderr().is_terminal() {
             let (running, stopped) = mpsc::channel();
@@ -66,7 +81,8 @@ fn tell(steps: &Steps, stopped: &Receiver<()>) {
     while stopped.recv_timeout(pause) == Err(RecvTimeoutError::Timeout) {
         let (done, all) = (steps.done.load(Ordering::Relaxed), steps.all.load(Ordering::Relaxed));
         let line = match all {
-            0 => "counting the steps".to_string(),
+            0 if done == 0 => steps.unknown.to_string(),
+            0 => format!("{} {}", steps.unknown, grouped(done as u64)),
             all => format!("step {} of {}", grouped(done as u64), grouped(all as u64)),
         };
         let _ = write!(io::stderr(), "\rwinnathey: {line}\x1b[K");

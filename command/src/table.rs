@@ -201,6 +201,7 @@ pub const PNG: Opt = Opt::file("--png", "FILE", "a picture as PNG, made by rsvg-
 pub const SVG: Opt = Opt::file("--svg", "FILE", "a picture (SVG) of the table instead, - for standard output");
 
 pub const LIMIT: Opt = Opt::with("--limit", "N", "N words at most, 20 if not given");
+pub const COUNT: Opt = Opt::flag("--count", "how many words there are, and none of them");
 pub const LINES: Opt = Opt::flag("--lines", "the lines of the listing program, one a preset, and nothing else");
 pub const ONE_PRESET: Opt = Opt::with("--preset", "N", "that preset alone, refused (4) if the book has none such");
 pub const OUTPUT_REPORT: Opt = Opt::file("-o", "FILE", "where the sheet goes (HTML), - for standard output");

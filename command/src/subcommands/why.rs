@@ -158,12 +158,10 @@ fn in_json(
     progress: &Progress,
     out: &mut Out,
 ) -> Result<(), Failure> {
-    let mut fields = vec![("subcommand", "why".into()), ("ok", true.into())];
-    fields.extend(asked.fields());
+    let mut fields = asked.fields();
     fields.push(("skipped", skipped.into()));
-    fields.extend(out.taken_warnings());
-    let front = Value::Object(fields).to_string();
-    write!(out, "{},\"steps\":[", front.trim_end_matches('}'))?;
+    let front = out.front("why", fields);
+    write!(out, "{front},\"steps\":[")?;
     for step in 0..rewriting.places.len() {
         let (place, used) = replayed(rewriting, replay, step)?;
         progress.done(step + 1);
