@@ -101,16 +101,32 @@ impl Write for Out {
     }
 }
 
-/// `less`, or what PAGER names, set to show less than a screenful at once. None where PAGER is empty or `cat`, or where
-/// it cannot be started.
+/// `less`, or what PAGER names, set to show less than a screenful at once. The shell runs it, as for other programs:
+/// PAGER may have arguments in quotes, a variable or a pipe. None where PAGER is empty or `cat`, or where there is no
+/// such program.
 fn pager() -> Option<Child> {
-    let named = env::var("PAGER").unwrap_or_else(|_| "less".to_string());
-    let mut words = named.split_whitespace();
-    let program = words.next().filter(|program| *program != "cat")?;
-    let mut command = Command::new(program);
-    command.args(words).stdin(Stdio::piped());
+    let named = env::var_os("PAGER").unwrap_or_else(|| "less".into());
+    if named.to_string_lossy().trim().is_empty() || named == "cat" {
+        return None;
+    }
+    // Before the answer goes there: what the shell cannot start would swallow it.
+    let first = named.to_string_lossy().split_whitespace().next().map(str::to_string)?;
+    let is_plain = first.bytes().all(|byte| byte.is_ascii_alphanumeric() || b"/._+-".contains(&byte));
+    if is_plain && !can_run(&first) {
+        return None;
+    }
+    let mut command = Command::new("/bin/sh");
+    command.arg("-c").arg(named).stdin(Stdio::piped());
     if env::var_os("LESS").is_none() {
         command.env("LESS", "FRX");
     }
     command.spawn().ok()
+}
+
+/// Whether the shell finds a program of that name.
+fn can_run(program: &str) -> bool {
+    let mut asked = Command::new("/bin/sh");
+    asked.args(["-c", "command -v -- \"$1\"", "sh", program]);
+    asked.stdin(Stdio::null()).stdout(Stdio::null()).stderr(Stdio::null());
+    asked.status().is_ok_and(|status| status.success())
 }

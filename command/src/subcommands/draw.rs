@@ -57,13 +57,13 @@ fn run(mut args: Args, out: &mut Out) -> Result<Verdict, Failure> {
         fields.push(("window", list(&shown)));
         return target.write(&picture, Sort::Svg, "draw", (asked.heading(), fields), out);
     }
+    if out.json {
+        return in_json(&asked, &shown, out);
+    }
     let lanes = shown.len();
     let layout = terminal::layout(lanes, out.width);
     let layout = layout.ok_or_else(|| args.usage(format!("{lanes} lanes are too many for the terminal: -o FILE")))?;
     let drawings = drawings(&asked, form.as_deref(), &layout)?;
-    if out.json {
-        return in_json(&asked, &shown, &drawings, out);
-    }
     if let Some(source) = asked.source() {
         writeln!(out, "{source}")?;
     }
@@ -84,11 +84,13 @@ fn drawings(asked: &Asked, form: Option<&[u8]>, layout: &Layout) -> Result<Vec<D
 }
 
 /// The windows after each step.
-fn in_json(asked: &Asked, shown: &[i8], drawings: &[Drawing], out: &mut Out) -> Result<Verdict, Failure> {
-    let columns = drawings[0].rows.iter().flat_map(|row| &row.columns);
+fn in_json(asked: &Asked, shown: &[i8], out: &mut Out) -> Result<Verdict, Failure> {
+    let letters = asked.letters();
+    let windows =
+        (1..=letters.len()).map(|steps| library::window(asked.rig(), &letters[..steps]).map(|window| list(&window)));
     let mut fields = asked.fields();
     fields.push(("window", list(shown)));
-    fields.push(("after_each_step", Value::List(columns.map(|column| list(&column.after)).collect())));
+    fields.push(("after_each_step", Value::List(windows.collect::<Result<_, _>>()?)));
     out.answer("draw", fields)?;
     Ok(Verdict::Answer)
 }
