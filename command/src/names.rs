@@ -19,7 +19,7 @@ pub enum Keyword {
 
 #[derive(Clone, PartialEq, Eq, Debug)]
 enum Line {
-    /// Empty or a comment.
+    /// Empty, a comment, or a line of a later version: kept as it is.
     Other(String),
     Name(Keyword, usize, String),
 }
@@ -137,6 +137,12 @@ impl Keyword {
     }
 }
 
+/// Whether a word can be a keyword, also one that a later version has.
+fn is_keyword(word: &str) -> bool {
+    let is_rest = |byte: u8| byte.is_ascii_lowercase() || byte.is_ascii_digit() || byte == b'-';
+    word.starts_with(|first: char| first.is_ascii_lowercase()) && word.bytes().all(is_rest)
+}
+
 fn parsed(line: &str) -> Result<Line, String> {
     let text = line.trim_matches(BLANKS);
     if text.is_empty() || text.starts_with('#') {
@@ -145,6 +151,9 @@ fn parsed(line: &str) -> Result<Line, String> {
     let (word, rest) = text.split_once(BLANKS).unwrap_or((text, ""));
     let Some(keyword) = [Keyword::Source, Keyword::Screen, Keyword::Preset].into_iter().find(|one| one.word() == word)
     else {
+        if is_keyword(word) {
+            return Ok(Line::Other(line.to_string()));
+        }
         return Err(format!("'{}' is not source, screen, preset or a comment behind #", text::plain(word)));
     };
     let (digits, name) = rest.trim_start_matches(BLANKS).split_once(BLANKS).unwrap_or((rest.trim_matches(BLANKS), ""));
@@ -291,13 +300,24 @@ mod tests {
             "preset 1 a\u{1b}b",
             "preset 1 a\tb",
             "preset 1 \u{202e}b",
-            "names",
+            "1 source",
+            "-x 1",
+            "d\u{e9}lai 1",
         ] {
             assert_eq!(wrong(format!("# first\n{line}\n").as_bytes()), 2, "{line}");
         }
         assert_eq!(wrong(format!("preset 1 {}", "x".repeat(81)).as_bytes()), 1);
         assert_eq!(wrong(b"source 1 sky\nsource 2 sky\nsource 01 sky"), 3);
         assert_eq!(wrong(b"#\n#\n\xff"), 3);
+    }
+
+    #[test]
+    fn lines_of_later_versions_are_kept() {
+        let text = "layout 3 by 2\r\n  delay  3 0.25 \r\ncabin-3\r\npreset 0 a\r\nlayout 3 by 2\r\n";
+        let names = Names::parse(text.as_bytes()).unwrap();
+        assert_eq!((names.preset(0), names.written()), (Some("a"), text.as_bytes().to_vec()));
+        let moved = names.renumbered(|number| Some(number + 1)).written();
+        assert_eq!(moved, text.replace("preset 0", "preset 1").as_bytes());
     }
 
     #[test]
