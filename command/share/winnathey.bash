@@ -1,7 +1,7 @@
 # bash completion for winnathey
 _winnathey() {
     local word=${COMP_WORDS[COMP_CWORD]} before=${COMP_WORDS[COMP_CWORD - 1]}
-    local subcommands='show why draw same split between fallback delays normal product inverse descents shortest list check append remove replace move convert report completions man' options= operands=
+    local subcommands='show why draw same split between fallback delays normal product inverse descents shortest list check append remove replace move convert name report completions man' options= operands=
     if ((COMP_CWORD == 1)); then
         COMPREPLY=($(compgen -W "$subcommands help --help --version" -- "$word"))
         return
@@ -28,6 +28,7 @@ _winnathey() {
     replace) options='--empty --edition --timeout --in-place -o --force --book --preset --json --help' operands='files' ;;
     move) options='--edition --timeout --in-place -o --force --json --help' operands='files' ;;
     convert) options='--edition --timeout --in-place -o --force --at-most --json --help' operands='files' ;;
+    name) options='--edition --timeout --remove --json --help' operands='files' ;;
     report) options='--edition --timeout -o --force --date --names --json --help' operands='files' ;;
     completions) options='--json --help' operands='bash zsh fish' ;;
     man) options='--markdown --json --help' operands='' ;;

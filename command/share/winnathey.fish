@@ -1,7 +1,7 @@
 # fish completion for winnathey
 complete -c winnathey -f
 complete -c winnathey -n __fish_use_subcommand -a help -d 'help on a subcommand'
-complete -c winnathey -n '__fish_seen_subcommand_from help; and test (count (commandline -opc)) -eq 2' -a 'show why draw same split between fallback delays normal product inverse descents shortest list check append remove replace move convert report completions man'
+complete -c winnathey -n '__fish_seen_subcommand_from help; and test (count (commandline -opc)) -eq 2' -a 'show why draw same split between fallback delays normal product inverse descents shortest list check append remove replace move convert name report completions man'
 complete -c winnathey -n __fish_use_subcommand -a show -d 'what a preset shows, its normal form, what its length is made of'
 complete -c winnathey -n '__fish_seen_subcommand_from show' -l empty -d 'takes a standard input without numbers for the empty word, in place of refusing it'
 complete -c winnathey -n '__fish_seen_subcommand_from show' -l book -r -F -d 'takes the preset out of this book, in place of RIG and WORD'
@@ -198,6 +198,13 @@ complete -c winnathey -n '__fish_seen_subcommand_from convert' -l at-most -x -d 
 complete -c winnathey -n '__fish_seen_subcommand_from convert' -l json -d 'the answer, or why there is none, as one JSON object on standard output; the manual page lists its fields'
 complete -c winnathey -n '__fish_seen_subcommand_from convert' -l help -d 'this text; -h too'
 complete -c winnathey -n '__fish_seen_subcommand_from convert' -F
+complete -c winnathey -n __fish_use_subcommand -a name -d 'the names beside a book: listed, set and removed'
+complete -c winnathey -n '__fish_seen_subcommand_from name' -l edition -x -a 'first second' -d 'first or second, the edition that the book has: its bytes do not tell'
+complete -c winnathey -n '__fish_seen_subcommand_from name' -l timeout -x -d 'how long to wait for a book that another program has locked; without end if not given'
+complete -c winnathey -n '__fish_seen_subcommand_from name' -l remove -d 'takes the name away'
+complete -c winnathey -n '__fish_seen_subcommand_from name' -l json -d 'the answer, or why there is none, as one JSON object on standard output; the manual page lists its fields'
+complete -c winnathey -n '__fish_seen_subcommand_from name' -l help -d 'this text; -h too'
+complete -c winnathey -n '__fish_seen_subcommand_from name' -F
 complete -c winnathey -n __fish_use_subcommand -a report -d 'a book as a sheet to print, for the training record'
 complete -c winnathey -n '__fish_seen_subcommand_from report' -l edition -x -a 'first second' -d 'first or second, the edition that the book has: its bytes do not tell'
 complete -c winnathey -n '__fish_seen_subcommand_from report' -l timeout -x -d 'how long to wait for a book that another program has locked; without end if not given'

@@ -38,11 +38,46 @@ const MOST_CHARACTERS: usize = 80;
 const BLANKS: [char; 2] = [' ', '\t'];
 
 impl Names {
-    fn find(&self, keyword: Keyword, number: usize) -> Option<&str> {
+    pub fn find(&self, keyword: Keyword, number: usize) -> Option<&str> {
         self.lines.iter().find_map(|line| match line {
             Line::Name(named, of, name) if (*named, *of) == (keyword, number) => Some(name.as_str()),
             _ => None,
         })
+    }
+
+    /// All names, in the order of their lines.
+    pub fn all(&self) -> impl Iterator<Item = (Keyword, usize, &str)> {
+        self.lines.iter().filter_map(|line| match line {
+            Line::Name(keyword, number, name) => Some((*keyword, *number, name.as_str())),
+            Line::Other(_) => None,
+        })
+    }
+
+    /// Whether that can be named so; what is wrong if not.
+    pub fn check(keyword: Keyword, number: usize, name: &str) -> Result<(), String> {
+        let line = format!("{} {number} {name}", keyword.word());
+        match parsed(&line)? {
+            Line::Name(_, _, read) if read == name && !name.contains(['\n', '\r']) => Ok(()),
+            _ => Err("a name has no blanks at its ends".to_string()),
+        }
+    }
+
+    /// With another name, or with none: in the place of its line, or behind the last one of its keyword.
+    pub fn with(&self, keyword: Keyword, number: usize, name: Option<&str>) -> Names {
+        let is_it = |line: &Line| matches!(line, Line::Name(named, of, _) if (*named, *of) == (keyword, number));
+        let new = name.map(|name| Line::Name(keyword, number, name.to_string()));
+        let mut names = self.clone();
+        match (self.lines.iter().position(is_it), new) {
+            (Some(at), Some(new)) => names.lines[at] = new,
+            (Some(at), None) => drop(names.lines.remove(at)),
+            (None, Some(new)) => {
+                let of_keyword = |line: &Line| matches!(line, Line::Name(named, ..) if *named == keyword);
+                let at = self.lines.iter().rposition(of_keyword).map_or(self.lines.len(), |last| last + 1);
+                names.lines.insert(at, new);
+            }
+            (None, None) => {}
+        }
+        names
     }
 
     /// By the lane, from 1.
@@ -128,7 +163,11 @@ impl Names {
 }
 
 impl Keyword {
-    fn word(self) -> &'static str {
+    pub fn of(word: &str) -> Option<Keyword> {
+        [Keyword::Source, Keyword::Screen, Keyword::Preset].into_iter().find(|one| one.word() == word)
+    }
+
+    pub fn word(self) -> &'static str {
         match self {
             Keyword::Source => "source",
             Keyword::Screen => "screen",
@@ -149,8 +188,7 @@ fn parsed(line: &str) -> Result<Line, String> {
         return Ok(Line::Other(line.to_string()));
     }
     let (word, rest) = text.split_once(BLANKS).unwrap_or((text, ""));
-    let Some(keyword) = [Keyword::Source, Keyword::Screen, Keyword::Preset].into_iter().find(|one| one.word() == word)
-    else {
+    let Some(keyword) = Keyword::of(word) else {
         if is_keyword(word) {
             return Ok(Line::Other(line.to_string()));
         }

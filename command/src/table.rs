@@ -188,6 +188,8 @@ pub const FORCE: Opt = Opt::flag("--force", "lets -o replace an existing file, i
 pub const AT_MOST_BYTES: Opt = Opt::with("--at-most", "N", "the new book is refused (14) if it has more than N bytes");
 pub const NEW: Opt = Opt::flag("--new", "BOOK does not exist yet and is created with this preset");
 
+pub const REMOVE: Opt = Opt::flag("--remove", "takes the name away");
+
 pub const LAST: Opt = Opt::with("--last", "N", "the last N steps only");
 pub const AT_MOST_STEPS: Opt = Opt::with("--at-most", "N", "refused (15) if there are more than N steps");
 pub const WHOLE: Opt =

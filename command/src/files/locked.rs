@@ -71,6 +71,11 @@ impl Locked {
         Ok(New { name: self.name, folder: self.folder, _file: file })
     }
 
+    /// Brings the name of another file in the folder to the disk.
+    pub fn settle_beside(&self, file: &Path) -> Result<(), Failure> {
+        self.folder.sync_all().map_err(|error| Failure::not_on_disk(file, &error))
+    }
+
     /// Looks whether the name still leads to the file with the bytes that were read.
     fn unchanged(&self) -> Result<(), Failure> {
         let now = fs::metadata(&self.target).ok();
@@ -118,7 +123,9 @@ impl Ready {
         let old = fs::symlink_metadata(path).map_err(failed)?;
         if old.is_symlink() {
             let name = text::file(path);
-            return Err(Failure::Unwilling(format!("'{name}' is a link, which a new file would not be: use -o")));
+            return Err(Failure::Unwilling(format!(
+                "'{name}' is a link, which a new file would not be: put a file in its place, or use -o"
+            )));
         }
         may_replace(path, &old)?;
         Ready::like(path, bytes, path)

@@ -12,6 +12,7 @@ mod inverse;
 mod list;
 mod man;
 mod move_to;
+mod name;
 mod normal;
 mod product;
 mod remove;
@@ -29,7 +30,7 @@ pub use show::{in_words, numbered};
 use crate::table::Subcommand;
 
 /// In the order of the help text: presets, then windows and words, then books, then the command itself.
-pub static SUBCOMMANDS: [Subcommand; 23] = [
+pub static SUBCOMMANDS: [Subcommand; 24] = [
     show::SUBCOMMAND,
     why::SUBCOMMAND,
     draw::SUBCOMMAND,
@@ -50,6 +51,7 @@ pub static SUBCOMMANDS: [Subcommand; 23] = [
     replace::SUBCOMMAND,
     move_to::SUBCOMMAND,
     convert::SUBCOMMAND,
+    name::SUBCOMMAND,
     report::SUBCOMMAND,
     completions::SUBCOMMAND,
     man::SUBCOMMAND,

@@ -1,0 +1,153 @@
+//! `name`: the names beside a book, listed, set and removed.
+use crate::args::Args;
+use crate::failure::Failure;
+use crate::files::{self, Locked, Ready};
+use crate::json::{self, Value, object, optional};
+use crate::names::{self, Keyword, Names};
+use crate::out::Out;
+use crate::table::{self, Completes, Operand, Subcommand, Verdict};
+use crate::{asked, library, parked, text};
+use std::io::{ErrorKind, Write};
+use std::path::Path;
+
+const WHAT: Operand = Operand {
+    name: "WHAT",
+    about: "what is named: source, screen or preset; all names are listed if it is missing",
+    completes: Completes::OneOf(&["source", "screen", "preset"]),
+};
+const NUMBER: Operand = Operand {
+    name: "N",
+    about: "its number: a lane from 1 to 64, or a preset of the book from 0",
+    completes: Completes::Nothing,
+};
+const NAME: Operand = Operand {
+    name: "NAME",
+    about: "its name, one argument of 1 to 80 characters; what has one gets the new one",
+    completes: Completes::Nothing,
+};
+
+pub const SUBCOMMAND: Subcommand = Subcommand {
+    name: "name",
+    group: table::BOOKS,
+    about: "the names beside a book: listed, set and removed",
+    usages: &["BOOK --edition EDITION", "BOOK WHAT N NAME --edition EDITION", "BOOK WHAT N --remove --edition EDITION"],
+    text: "Lists the names in BOOK.names, or changes one. Comments and the order of the lines stay. The names are \
+           changed under the book's lock, written beside their file and renamed, like a book; the book itself stays \
+           as it is.",
+    operands: &[table::BOOK, WHAT, NUMBER, NAME],
+    options: &[table::EDITION, table::TIMEOUT, table::REMOVE],
+    examples: &[
+        "winnathey name presets.book screen 3 'left mirror' --edition first",
+        "winnathey name presets.book --edition first",
+    ],
+    json: &[&[
+        ("file", "the file of the names"),
+        ("names", "of each name: what (source, screen or preset), number, name"),
+        ("what", "of a change: source, screen or preset"),
+        ("number", "its number"),
+        ("name", "its name now, or null"),
+        ("before", "its name before, or null"),
+    ]],
+    paged: false,
+    run,
+};
+
+fn run(mut args: Args, out: &mut Out) -> Result<Verdict, Failure> {
+    let path = args.next("BOOK")?;
+    let path = Path::new(&path);
+    if files::is_standard(path) {
+        return Err(args.usage("standard input has no names beside it"));
+    }
+    let removes = args.flag("--remove");
+    if args.operands() == 0 && !removes {
+        return listed(&args, path, out);
+    }
+    let what = args.next("WHAT (source, screen or preset)")?.to_string_lossy().into_owned();
+    let Some(keyword) = Keyword::of(&what) else {
+        return Err(args.usage(format!("'{}' has no names: source, screen or preset", text::plain(&what))));
+    };
+    let number = args.next_number("N")?;
+    let name = if removes { None } else { Some(args.next("NAME (or --remove)")?.to_string_lossy().into_owned()) };
+    args.done_with("; a name is one argument, as 'left mirror'")?;
+    if let Some(name) = &name {
+        Names::check(keyword, number, name).map_err(|problem| args.usage(problem))?;
+    }
+    changed(&args, path, (keyword, number), name.as_deref(), out)
+}
+
+fn listed(args: &Args, path: &Path, out: &mut Out) -> Result<Verdict, Failure> {
+    let (_, names) = asked::book(args, path, out)?;
+    let file = names::beside(path);
+    if out.json {
+        let one = |(keyword, number, name): (Keyword, usize, &str)| {
+            object([("what", keyword.word().into()), ("number", number.into()), ("name", name.into())])
+        };
+        let fields = vec![("file", json::file(&file)), ("names", Value::List(names.all().map(one).collect()))];
+        out.answer("name", fields)?;
+        return Ok(Verdict::Answer);
+    }
+    writeln!(out, "{}: {}", text::file(&file), text::counted(names.all().count(), "name"))?;
+    for (keyword, number, name) in names.all() {
+        writeln!(out, "{} {number} {name}", keyword.word())?;
+    }
+    Ok(Verdict::Answer)
+}
+
+/// Under the book's lock, so that nobody changes the presets' numbers meanwhile.
+fn changed(
+    args: &Args,
+    path: &Path,
+    (keyword, number): (Keyword, usize),
+    name: Option<&str>,
+    out: &mut Out,
+) -> Result<Verdict, Failure> {
+    let edition = args.edition(path)?;
+    let locked = Locked::open(path)?;
+    if let Some(told) = parked::settle(path, &locked.bytes)? {
+        out.warn(told);
+    }
+    let count = library::book_check(edition, &locked.bytes)?;
+    let what = format!("{} {number}", keyword.word());
+    if keyword == Keyword::Preset && number >= count && name.is_some() {
+        let count = text::counted(count, "preset");
+        return Err(Failure::Unwilling(format!("the book has {count}, counted from 0: there is no {what}")));
+    }
+    let file = names::beside(path);
+    let old = match names::bytes_beside(&file) {
+        Err(Failure::File(_, error)) if error.kind() == ErrorKind::NotFound => None,
+        read => Some(read?),
+    };
+    let names = names::parsed_file(&file, old.as_deref().unwrap_or_default())?;
+    let before = names.find(keyword, number).map(str::to_string);
+    if name.is_none() && before.is_none() {
+        return Err(Failure::Unwilling(format!("'{}' has no name for {what}", text::file(&file))));
+    }
+    let bytes = names.with(keyword, number, name).written();
+    match &old {
+        None => files::place_new(&file, &bytes)?,
+        Some(old) => {
+            Ready::beside(&file, &bytes)?.replace(old)?;
+            locked.settle_beside(&file)?;
+        }
+    }
+    drop(locked);
+    let told = match (name, &before) {
+        (Some(name), None) => format!("{what} is '{name}'"),
+        (Some(name), Some(before)) => format!("{what} was '{before}' and is '{name}'"),
+        (None, before) => format!("{what} was '{}' and has no name", before.as_deref().unwrap_or_default()),
+    };
+    let said = if out.json {
+        let fields = vec![
+            ("file", json::file(&file)),
+            ("what", keyword.word().into()),
+            ("number", number.into()),
+            ("name", optional(name)),
+            ("before", optional(before.as_ref())),
+        ];
+        out.answer("name", fields)
+    } else {
+        writeln!(out, "{told}\n{}: written", text::file(&file))
+    };
+    said.and_then(|()| out.flush()).map_err(|error| Failure::from(error).unsaid(&file))?;
+    Ok(Verdict::Answer)
+}
