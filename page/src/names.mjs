@@ -4,8 +4,10 @@
 export const MAX_NAMES_BYTES = 1048576;
 const MAX_NAME = 80;
 const KEYWORDS = ['source', 'screen', 'preset'];
+/** A keyword of a later version: its line is kept and ignored. */
+const LATER = /^[a-z][a-z0-9-]*$/;
 /** Control characters, line separators, and what turns the direction of writing. */
-const FORBIDDEN = /[\u0000-\u001f\u007f-\u009f\u2028\u2029\u200e\u200f\u202a-\u202e\u2066-\u2069]/;
+const FORBIDDEN = /[\u0000-\u001f\u007f-\u009f\u2028\u2029\u200e\u200f\u202a-\u202e\u2066-\u2069\ufeff]/;
 const BLANKS = /^[ \t]+|[ \t]+$/g;
 
 export const NO_NAMES = Object.freeze({ lines: Object.freeze([]), end: '\n' });
@@ -38,7 +40,10 @@ function parsedLine(raw, number) {
     const text = raw.replace(BLANKS, '');
     if (text === '' || text.startsWith('#')) return { raw, keyword: null };
     const [, keyword, rest] = /^([^ \t]*)[ \t]*(.*)$/s.exec(text);
-    if (!KEYWORDS.includes(keyword)) throw new WrongNames(number, 'it begins with none of source, screen and preset');
+    if (!KEYWORDS.includes(keyword)) {
+        if (LATER.test(keyword)) return { raw, keyword: null };
+        throw new WrongNames(number, 'it begins with no keyword');
+    }
     const [, digits, name] = /^([^ \t]*)[ \t]*(.*)$/s.exec(rest);
     if (!/^[0-9]{1,5}$/.test(digits)) throw new WrongNames(number, `no number of one to five digits after ${keyword}`);
     const at = Number(digits);

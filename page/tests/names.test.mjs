@@ -29,13 +29,19 @@ test('names are read', () => {
 test('what the format does not allow is told with its line', () => {
     assert.equal(wrongLine('source 1 sky\n'), null);
     assert.equal(wrongLine(''), null);
-    for (const line of ['preset 0', 'source 0 sky', 'screen 65 wall', 'Source 1 sky', 'source one sky', 'source 123456 sky', 'preset 65536 x', 'name', 'source 1 a\u202eb', 'source 1 a\tb', `source 1 ${'x'.repeat(81)}`, 'source +1 x']) {
+    for (const line of ['preset 0', 'source 0 sky', 'screen 65 wall', 'Source 1 sky', 'source one sky', 'source 123456 sky', 'preset 65536 x', 'Layout 1', '1', 'source 1 a\u202eb', 'source 1 a\tb', `source 1 ${'x'.repeat(81)}`, 'source +1 x']) {
         assert.equal(wrongLine(`# a\n${line}\n`), 2, line);
     }
     assert.equal(wrongLine('source 1 sky\nscreen 1 wall\nsource 01 sky\n'), 3);
     assert.equal(wrongLine(`source 1 ${'\u{1f69c}'.repeat(80)}\n`), null);
     assert.throws(() => readNames(Uint8Array.of(35, 10, 0xff, 10)), error => error.line === 2);
     assert.throws(() => readNames(new Uint8Array(1048577).fill(10)), WrongNames);
+});
+
+test('a line of a later version is kept and ignored', () => {
+    const names = read('layout-2 3 4\nsource 1 rear view\nlayout-2 3 4\n');
+    assert.equal(nameOf(names, 'source', 1), 'rear view');
+    assert.equal(written(withName(names, 'source', 1, 'rear')), 'layout-2 3 4\nsource 1 rear\nlayout-2 3 4\n');
 });
 
 test('a change keeps comments, empty lines and order', () => {
