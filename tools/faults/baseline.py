@@ -36,7 +36,7 @@ FAULTS = (
      r"changed clause `O2`: no line in"),
     ("a clause that says more", "docs/SPECIFICATION.md", "~(\\*\\*O2\\*\\*<a [^>]*></a>) ", r"\1 Always and everywhere: ", r"changed clause `O2`: no line in"),
     ("a type with one more case", "crates/book_format/src/lib.rt", "    Second,\n}", "    Second,\n    Third,\n}", r"changed type `book_format: Edition`: no line in"),
-    ("a wrong router that is another", "crates/examples/proofs/WrongWindows.antt", r"~(\nlanesAsTheRank k n) = n", r"\1 = n + 1",
+    ("a wrong router that is another", "crates/examples/proofs/WrongChecks.antt", r"~(\nlanesAsTheRank k n) = n", r"\1 = n + 1",
      r"changed table `wrong routers`: no line in"),
     ("a baseline with a line that cannot be read", "docs/baseline.txt", "~\\nlaw ", "\nlow ", r"baseline\.txt:\d+: cannot read low"),
     ("a change without a new version", WEAKER, (CHANGES, "\n## In work\n", "\n## In works\n"), rf"changed law `{LAW}`: docs/baseline\.txt is that of this version"),

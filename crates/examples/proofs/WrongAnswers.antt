@@ -1,8 +1,8 @@
 -- Wrong routers (section Q of the specification, and others): a wrong answer for each, and an input at which the
 -- call's definition says otherwise. A contract that is an equation with the definition then lets none of them
--- through. The wrong answers are in WrongWindows, WrongRewrites, WrongTraces, WrongShortest, WrongSplits,
--- WrongTables and WrongBooks; that each row is wrong is `ruled-out` of WrongRouters.antt. Not here: those that show
--- only at books too large to compute with, parts handed back and places kept; they too are in that file.
+-- through. The wrong answers are in WrongChecks, WrongWindows, WrongRewrites, WrongTraces, WrongShortest,
+-- WrongSplits, WrongTables and WrongBooks; that each row is wrong is `ruled-out` of WrongRouters.antt. Not here: those
+-- that show only at books too large to compute with, parts handed back and places kept; they too are in that file.
 -- Assumes nothing.
 use mathlib.Core.List.{List, [], _∷_}
 use Prim.Native.Nat.{ℕ}
