@@ -1,6 +1,6 @@
 """Faults of form: what antt or Rattle takes otherwise than the reader of the statements, or an eye."""
 SENTENCES, ORDERS, THEOREMS = "crates/rules/proofs/Sentences.antt", "crates/distribution/proofs/Orders.antt", "crates/coxeter/proofs/Theorems.antt"
-WINDOW, NUMBERS, TEXTS = "crates/window/src/lib.rt", "crates/listing_lines/src/numbers.rt", "crates/sentences/specs/Sentences.antt"
+WINDOW, NUMBERS, TEXTS = "crates/window/src/lib.rt", "crates/listing_lines/src/numbers.rt", "crates/messages/specs/Messages.antt"
 YIELDS = "ghost use Rattle.coxeter.specs.Calls.{Yields, windowOfWord, productOfWindows, inverseOfWindow};"
 ABOVE = "// I4: writes the window of `word`"
 HIDDEN = "hidden(kind: u8) -> u8\n{\n    kind\n}\n\n"
@@ -19,13 +19,13 @@ FAULTS = (
     ("an import behind a comment within its line", WINDOW, YIELDS,
      f"// {YIELDS}\nghost /* */ use Rattle.coxeter.proofs.Totals.{{Yields}};\n{YIELDS.replace('Yields, ', '')}", r"/\* is no mark of a comment"),
     ("a comment within a comment", WINDOW, ABOVE, f"// /* /* */\n{ABOVE}", r"/\* is no mark of a comment"),
-    ("a comment behind the code of Rattle", WINDOW, "    let m = lanes(kind, rank);", "    let m = lanes(kind, rank); // m lanes", r"a comment has lines of its own"),
+    ("a comment behind the code of Rattle", WINDOW, "    let m = v.len();", "    let m = v.len(); // m lanes", r"a comment has lines of its own"),
     ("a comment of three strokes", WINDOW, ABOVE, f"/// {ABOVE}", r"a comment has lines of its own"),
     ("an edit with a comment", "crates/window/must-fail/identity_for_all_words.edit", "new: ", "new: /* */ ", r"edit:\d+: /\* is no mark of a comment"),
     # texts
-    ("a text over two lines", TEXTS, '"The kind is not 1, 2 or 3."', '"The kind is\n-- not 1, 2 or 3."', r"a form that is not in use"),
-    ("a text of raw signs", WINDOW, "    let m = lanes(kind, rank);", '    let t = r"\\";\n    let m = lanes(kind, rank);', r"a form that is not in use"),
-    ("a text with a line of strokes", WINDOW, "    let m = lanes(kind, rank);", '    let t = "a\\\n// b";\n    let m = lanes(kind, rank);',
+    ("a text over two lines", TEXTS, '"The kind must be 1 (A), 2 (B) or 3 (D)."', '"The kind must be\n-- 1 (A), 2 (B) or 3 (D)."', r"a form that is not in use"),
+    ("a text of raw signs", WINDOW, "    let m = v.len();", '    let t = r"\\";\n    let m = v.len();', r"a form that is not in use"),
+    ("a text with a line of strokes", WINDOW, "    let m = v.len();", '    let t = "a\\\n// b";\n    let m = v.len();',
      r"a text of a form that is not in use"),
     ("a function between two quotation marks", NUMBERS, "        out[at + 1] = b'-';", "        out[at + 1] = b'\"'; }} pub fn hidden(k: u8) -> u8 {{ b'\"'",
      r"pub begins no item that the reader knows"),
@@ -37,7 +37,7 @@ FAULTS = (
     ("a type under another name", WINDOW, "use words::is_shortlex;", "use words::is_shortlex as shortest;", r"use begins no item that the reader knows"),
     ("a function of a type", WINDOW, ABOVE, f"impl Answer {{\n    pub fn {HIDDEN}}}\n{ABOVE}", r"impl: a form that is not in use"),
     ("an attribute", WINDOW, ABOVE, f"#[cfg(any())]\n{ABOVE}", r"#\[cfg\(any\(\)\)\]: a form that is not in use"),
-    ("a macro", WINDOW, "    let m = lanes(kind, rank);", "    let m = lanes!(kind, rank);", r"s!: a form that is not in use"),
+    ("a macro", WINDOW, "    let m = v.len();", "    let m = lens!(v);", r"s!: a form that is not in use"),
     ("a function for C that only its attribute shows", "crates/c_api/src/words.rt", "#[no_mangle]", f"#[no_mangle]\nfn {HIDDEN}#[no_mangle]",
      r"the pages state (\d+) public functions, .* counts: (?!\1\b)\d+"),
     ("declarations side by side", THEOREMS, r"~\npub window-passes : ", r"\nmutual\n  a : ℕ\n  a = 1\n\g<0>", r"mutual: a form that is not in use"),
@@ -47,7 +47,7 @@ FAULTS = (
      r"statements\.txt:\d+: the sign '\\u0430' is not in use"),
     ("a Cyrillic letter in the list of definitions", "docs/definitions.txt", "coxeter/specs/Kinds: lanes", "coxeter/specs/Kinds: l\u0430nes",
      r"definitions\.txt:\d+: the sign '\\u0430' is not in use"),
-    ("a Cyrillic letter in code", WINDOW, "let m = lanes(kind, rank);", "let \u0440 = lanes(kind, rank);", r"lib\.rt:\d+: the sign '\\u0440' is not in use"),
+    ("a Cyrillic letter in code", WINDOW, "let m = v.len();", "let \u0440 = v.len();", r"lib\.rt:\d+: the sign '\\u0440' is not in use"),
     ("a Greek letter within a name", "crates/coxeter/specs/Kinds.antt", "lanes", "lαnes", r"the name lαnes has a sign where it may have none"),
     ("a Greek letter before a name", THEOREMS, "window-passes", "κind-passes", r"the name κind-passes has a sign where it may have none"),
     ("an operator's sign within a name", THEOREMS, "window-passes", "window∙passes", r"the name window∙passes has a sign where it may have none"),
