@@ -154,7 +154,7 @@ class Refusals(unittest.TestCase):
                 self.assertEqual(caught.exception.number, number)
 
     def test_messages(self):
-        table = re.search(r"(?s)\n \* +1  The book has.*?\n \*\n", header()).group()
+        table = re.search(r"(?s)\n \* +1  The book is.*?\n \*\n", header()).group()
         said = re.findall(r"\n \* {2,4}(\d+)  ((?:.|\n \* {7})*)", table)
         self.assertEqual([int(number) for number, _ in said], list(range(1, 22)))
         for number, message in said:
