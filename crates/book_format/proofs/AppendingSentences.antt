@@ -13,9 +13,9 @@ use lib.ListN.{length}
 use Rattle.coxeter.specs.declared.Answer.{Answer}
 use Rattle.coxeter.specs.declared.Answer.the-variants.{Length, Refused}
 use Rattle.coxeter.specs.Kinds.{kindOf, lanes}
-use Rattle.coxeter.specs.Checks.{firstOf, check, _then_, wrongKind, tooLong, wrongLetter, tooShort, rankRefusal, wordRefusal, WordOf}
+use Rattle.coxeter.specs.Checks.{firstOf, check, _then_, wrongKind, tooLong, wrongLetter, tooShort, wordRefusal, WordOf}
 use Rattle.coxeter.specs.Calls.{Yields, writes}
-use Rattle.coxeter.proofs.Refusals.{then-zero, then-none, then-some, check-zero}
+use Rattle.coxeter.proofs.Refusals.{then-zero, then-some, check-zero}
 use Rattle.coxeter.proofs.Writes.{length-or-refused}
 use Rattle.coxeter.proofs.AnswersExactly.{answerOf-exactly}
 use Rattle.book_format.specs.declared.Edition.{Edition}
@@ -25,7 +25,6 @@ use Rattle.book_format.specs.Books.{retired, bookRankRefusal, bookRefusa
 use Rattle.book_format.specs.Records.{layOut, recordsOf}
 use Rattle.book_format.specs.Calls.{appending}
 use Rattle.book_format.proofs.BookLaws.{accepted}
-use Rattle.book_format.proofs.RankLaws.{bookRank-accepted}
 use Rattle.book_format.proofs.WritingLaws.{length-appended, append-size, appendRefusal-rank, appendRefusal-retired, appendRefusal-large}
 use Rattle.book_format.proofs.AppendedBytes.{length-laid-out}
 use Rattle.book_format.proofs.Numbers.{then-late, then-early, check-other, check-holds, firstOf-then, rank-other, word-other}
@@ -116,8 +115,7 @@ module _ (ed : Edition) (b : List ℕ) (k n : ℕ) (u before after : List ℕ) (
     λ p.
         let rank : bookRankRefusal ed k n ≡ 0 = rw (p .2, p .3) (rank-1-in-book ed) in
         let r =
-        appendRefusal-retired ed b k n u 0 (sym (p .0)) 0 refl (sym rank) 0 refl
-        (sym (then-none (rankRefusal k n) _ (bookRank-accepted ed k n rank) ∙ p .1)) refl true (sym (retired-exactly k n .1 (p .2, p .3))) refl in
+        appendRefusal-retired ed b k n u (p .0) rank (p .1) (retired-exactly k n .1 (p .2, p .3)) in
         append-refusal 21 .1 (rw r, λ z. omega arith),
   )
 
@@ -158,8 +156,7 @@ module _ (ed : Edition) (b : List ℕ) (k n : ℕ) (u before after : List ℕ) (
         let m = length-appended ed b k n u (accepted ed b (p .0)) in
         let h = p .4 in
         let r =
-        appendRefusal-large ed b k n u 0 (sym (p .0)) 0 refl (sym (p .1)) 0 refl
-        (sym (then-none (rankRefusal k n) _ (bookRank-accepted ed k n (p .1)) ∙ p .2)) refl false (sym (not-retired k n (p .3))) refl (omega arith) in
+        appendRefusal-large {b = b} (record { opens = p .0; ranked = p .1; word = p .2; kept = not-retired k n (p .3) }) (omega arith) in
         append-refusal 13 .1 (rw r, λ z. omega arith),
   )
 
@@ -193,6 +190,7 @@ never-appended ed b u before after l c =
 pub above-range-appended : (b : List ℕ) (k n : ℕ) (u before after : List ℕ) (a : Answer) → Yields (appending First b k n u before) a after
     → bookRefusal First b ≡ 0 → (((k ≡ 1) × (31 < n)) ⊎ (((k ≡ 2) ⊎ (k ≡ 3)) × (32 < n))) → (a ≡ Refused 6) × (after ≡ before)
 above-range-appended b k n u before after a c z g =
-    let r = appendRefusal-rank First b k n u 0 (sym z) 6 refl (sym (rank-above k n g)) (λ e. omega arith) in
+    let above = rank-above k n g in
+    let r = appendRefusal-rank First b k n u z (λ e. omega (arith, above, e)) ∙ above in
     let e = append-refusal First b k n u before after a c 6 .1 (rw r, λ y. omega arith) in
     (e, append-refused-unchanged First b k n u before after a c 6 e)

@@ -8,7 +8,6 @@
 -- no bytes.
 -- Assumes nothing.
 use mathlib.Core.Path.{_≡_, refl, sym, ap, _∙_}
-use mathlib.Core.Bool.{false}
 use mathlib.Core.Logic.{_↔_}
 use mathlib.Core.List.{List, [], _∷_, _++_}
 use Prim.Native.Nat.{ℕ, _+_, _-_, _≤_, _<_}
@@ -20,7 +19,7 @@ use borrow.Author.Tests.{eq-eqb, ne-eqb}
 use Rattle.coxeter.specs.declared.Answer.{Answer}
 use Rattle.coxeter.specs.declared.Answer.the-variants.{Length, Refused}
 use Rattle.coxeter.specs.Kinds.{kindOf, lanes}
-use Rattle.coxeter.specs.Checks.{_then_, rankRefusal, wordRefusal, WordOf}
+use Rattle.coxeter.specs.Checks.{_then_, wordRefusal, WordOf}
 use Rattle.coxeter.specs.Calls.{Yields, writes}
 use Rattle.coxeter.proofs.Acceptance.{length-accepted}
 use Rattle.book_format.specs.declared.Edition.{Edition}
@@ -31,8 +30,6 @@ use Rattle.book_format.specs.Books.{count, trailer, offset, headSize, ad
 use Rattle.book_format.specs.Records.{recordsFrom, recordsOf, Bytes}
 use Rattle.book_format.specs.Calls.{presetOf, checkedBook, checkedPreset, lettersOf, lettersStart, readingPresets, appending, Grown}
 use Rattle.book_format.specs.Conversion.{other, converted, conversionRefusal, converting, SamePreset, Converted}
-use Rattle.coxeter.proofs.Refusals.{then-none}
-use Rattle.book_format.proofs.RankLaws.{bookRank-accepted}
 use Rattle.book_format.proofs.BookLaws.{accepted, bookSize, bookSize-none, bookRefusal-bytes, count-bytes, trailer-bytes, no-bytes}
 use Rattle.book_format.proofs.PresetLaws.{checkedBook-presets}
 use Rattle.book_format.proofs.WritingLaws.{length-appended, appendRefusal-none, append-book, append-size}
@@ -277,8 +274,7 @@ module _ (ed : Edition) where
         let size : length (appended ed [] k n u) ≡ headSize ed + length u + 4 = length-appended ed [] k n u (accepted ed [] opens) ∙ rw none (omega arith) in
         let small : bookSize [] + addedSize ed u ≤ 65535 = rw (bookSize-none [] refl) (omega (arith, length-accepted n u word, headSize-le ed)) in
         let r =
-        appendRefusal-none ed [] k n u 0 (sym opens) 0 refl (sym rank) 0 refl
-        (sym (then-none (rankRefusal k n) _ (bookRank-accepted ed k n rank) ∙ word)) refl false (sym (not-retired k n f)) refl small in
+        appendRefusal-none {b = []} (record { opens = opens; ranked = rank; word = word; kept = not-retired k n f }) small in
         append-answers ed [] k n u before after a c (headSize ed + length u + 4) .1 (r, sym size, h)
 
     -- B22, B11: the answer and the bytes are those of appending to the book of two zero bytes

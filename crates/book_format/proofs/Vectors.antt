@@ -4,7 +4,7 @@
 --
 -- Sections: books; opening; presets; runs of presets; letters; appending; converting.
 -- Assumes nothing.
-use mathlib.Core.Path.{_≡_, refl, sym}
+use mathlib.Core.Path.{_≡_, refl}
 use mathlib.Core.Bool.{Bool, true, false, _&&_, and-eq-true-iff}
 use mathlib.Core.List.{List, [], _∷_, _++_}
 use Prim.Native.Nat.{ℕ, zero, suc, _+_, _≤_, _<_}
@@ -13,9 +13,8 @@ use lib.Dec.{ltb}
 use lib.ListN.{length, replicate}
 use borrow.Author.Tests.{ltb-true, lt-ltb}
 use Rattle.coxeter.specs.Kinds.{kindOf}
-use Rattle.coxeter.specs.Checks.{_then_, wrongKind, tooLong, wrongLetter, tooShort, rankRefusal, wordRefusal, WordOf}
+use Rattle.coxeter.specs.Checks.{wrongKind, tooLong, wrongLetter, tooShort, wordRefusal, WordOf}
 use Rattle.coxeter.specs.Calls.{answerOf, front, written, Outcome, writes}
-use Rattle.coxeter.proofs.Refusals.{then-next}
 use Rattle.coxeter.proofs.Vectors.{Agree, lent, wrote, refused}
 use Rattle.book_format.specs.declared.Edition.{Edition}
 use Rattle.book_format.specs.declared.Edition.the-variants.{First, Second}
@@ -28,10 +27,9 @@ use Rattle.book_format.specs.Books.{misplacedFrom, misplaced, noSuchPres
 use Rattle.book_format.specs.Books.{bookRankRefusal, bookRefusal, recordRefusal, presetRefusal, recordOf, appended, appendRefusal}
 use Rattle.book_format.specs.Records.{recordBytes, offsetBytes, layOut, recordsFrom, recordsOf, Bytes}
 use Rattle.book_format.specs.Conversion.{converted, tooManyLanes, recordConversionRefusal, recordsConversionRefusal, conversionRefusal, converting}
-use Rattle.book_format.proofs.RankLaws.{bookRank-accepted}
 use Rattle.book_format.proofs.BookLaws.{accepted}
 use Rattle.book_format.proofs.Converting.{conversion-too-large, length-converted}
-use Rattle.book_format.proofs.WritingLaws.{length-appended, appendRefusal-large, appendRefusal-none}
+use Rattle.book_format.proofs.WritingLaws.{length-appended, Appendable, appendRefusal-large, appendRefusal-none}
 use Rattle.book_format.specs.Calls.{openedOf, presetOf, checkedBook, presetAt, checkedPreset, lettersStart}
 use Rattle.book_format.specs.Calls.{lettersOf, fieldsOf, presetFields, runLength, readingPresets, appending}
 
@@ -248,20 +246,19 @@ appendings-agree = refl
 -- is looked at, a smaller one only where there is no room
 module _ (ed : Edition) (b : List ℕ) (k n : ℕ) (u out : List ℕ) (e : bookRefusal ed b ≡ 0) (f : bookRankRefusal ed k n ≡ 0) (g : WordOf n u)
     (o : retired k n ≡ false) where
-  passes : 0 ≡ (rankRefusal k n then wordRefusal n u)
-  passes = then-next (rankRefusal k n) 0 (wordRefusal n u) 0 (sym (bookRank-accepted ed k n f)) refl (sym g)
+  passes : Appendable ed b k n u
+  passes = record { opens = e; ranked = f; word = g; kept = o }
 
   pub appending-too-large : 65535 < length (appended ed b k n u) → appending ed b k n u out ≡ refused 13 out
   unfolding appending writes answerOf written
   appending-too-large h =
-      rw (appendRefusal-large ed b k n u 0 (sym e) 0 refl (sym f) 0 refl passes refl (retired k n) refl o
-      (rw (length-appended ed b k n u (accepted ed b e)) at h))
+      rw (appendRefusal-large passes (rw (length-appended ed b k n u (accepted ed b e)) at h))
 
   pub appending-without-room : length (appended ed b k n u) ≤ 65535 → length out < length (appended ed b k n u) → appending ed b k n u out ≡ refused 14 out
   unfolding appending writes answerOf written tooShort
   appending-without-room h l =
       rw (
-        appendRefusal-none ed b k n u 0 (sym e) 0 refl (sym f) 0 refl passes refl (retired k n) refl o (rw (length-appended ed b k n u (accepted ed b e)) at h),
+        appendRefusal-none passes (rw (length-appended ed b k n u (accepted ed b e)) at h),
         lt-ltb (length out) (length (appended ed b k n u)) l,
       )
 

@@ -3,7 +3,7 @@
 -- Sections: the appended book; appending; what is answered and written.
 -- Assumes nothing.
 use mathlib.Core.Path.{_≡_, refl, sym, _∙_}
-use mathlib.Core.Bool.{Bool, true, false}
+use mathlib.Core.Bool.{true, false}
 use mathlib.Core.List.{List}
 use Prim.Native.Nat.{ℕ, _+_, _*_, _≤_, _<_}
 use native.Mathlib.Omega.{arith}
@@ -20,7 +20,7 @@ use Rattle.book_format.specs.Books.{two, count, trailer, tooLarge, retir
 use Rattle.book_format.specs.Books.{laneByte, recordOf, appended, appendRefusal, countPlace, headSize, addedSize}
 use Rattle.book_format.specs.Calls.{appending}
 use Rattle.book_format.proofs.RankLaws.{bookRank-accepted}
-use Rattle.book_format.proofs.BookLaws.{Accepted, accepted, accepted-read, bookSize, trailer-le}
+use Rattle.book_format.proofs.BookLaws.{Accepted, accepted, bookSize, trailer-le}
 use Rattle.coxeter.proofs.Acceptance.{lanes-le}
 use Rattle.coxeter.proofs.Outcomes.{writes-refused, writes-short, writes-written}
 use Rattle.coxeter.proofs.Refusals.{then-zero, check-zero, then-none}
@@ -55,43 +55,48 @@ length-appended ed b k n u a =
 
 -- ---- appending
 
--- r is the refusal of the book, s that of the kind and the rank, t that of the preset by the calls' checks
-module _ (ed : Edition) (b : List ℕ) (k n : ℕ) (u : List ℕ) (r : ℕ) (e : r ≡ bookRefusal ed b) where
-  pub appendRefusal-book : (r ≡ 0 → ⊥) → appendRefusal ed b k n u ≡ r
+-- the checks of the book, of the kind and the rank, of the word and of the preset, in this order: the first that fails
+module _ (ed : Edition) (b : List ℕ) (k n : ℕ) (u : List ℕ) where
+  pub appendRefusal-book : (bookRefusal ed b ≡ 0 → ⊥) → appendRefusal ed b k n u ≡ bookRefusal ed b
   unfolding appendRefusal
-  appendRefusal-book f = rw (← e, ne-eqb r 0 f)
+  appendRefusal-book f = rw (ne-eqb (bookRefusal ed b) 0 f)
 
-  module _ (s : ℕ) (z : r ≡ 0) (d : s ≡ bookRankRefusal ed k n) where
-    pub appendRefusal-rank : (s ≡ 0 → ⊥) → appendRefusal ed b k n u ≡ s
-    unfolding appendRefusal
-    appendRefusal-rank f = rw (← e, eq-eqb r 0 z, ← d, ne-eqb s 0 f)
+  pub appendRefusal-rank : bookRefusal ed b ≡ 0 → (bookRankRefusal ed k n ≡ 0 → ⊥) → appendRefusal ed b k n u ≡ bookRankRefusal ed k n
+  unfolding appendRefusal
+  appendRefusal-rank z f = rw (eq-eqb (bookRefusal ed b) 0 z, ne-eqb (bookRankRefusal ed k n) 0 f)
 
-    module _ (t : ℕ) (y : s ≡ 0) (q : t ≡ (rankRefusal k n then wordRefusal n u)) where
-      word : t ≡ wordRefusal n u
-      word = q ∙ then-none (rankRefusal k n) (wordRefusal n u) (bookRank-accepted ed k n (sym d ∙ y))
+  pub appendRefusal-word : bookRefusal ed b ≡ 0 → bookRankRefusal ed k n ≡ 0 → (WordOf n u → ⊥) → appendRefusal ed b k n u ≡ wordRefusal n u
+  unfolding appendRefusal
+  appendRefusal-word z y f = rw (eq-eqb (bookRefusal ed b) 0 z, eq-eqb (bookRankRefusal ed k n) 0 y, ne-eqb (wordRefusal n u) 0 f)
 
-      pub appendRefusal-word : (t ≡ 0 → ⊥) → appendRefusal ed b k n u ≡ t
-      unfolding appendRefusal
-      appendRefusal-word f = rw (← e, eq-eqb r 0 z, ← d, eq-eqb s 0 y, ← word, ne-eqb t 0 f)
+  pub appendRefusal-retired : bookRefusal ed b ≡ 0 → bookRankRefusal ed k n ≡ 0 → WordOf n u → retired k n ≡ true → appendRefusal ed b k n u ≡ 21
+  unfolding appendRefusal
+  appendRefusal-retired z y x w = rw (eq-eqb (bookRefusal ed b) 0 z, eq-eqb (bookRankRefusal ed k n) 0 y, eq-eqb (wordRefusal n u) 0 x, w)
 
-      -- o is whether the preset is retired
-      module _ (x : t ≡ 0) (o : Bool) (v : o ≡ retired k n) where
-        pub appendRefusal-retired : o ≡ true → appendRefusal ed b k n u ≡ 21
-        unfolding appendRefusal
-        appendRefusal-retired w = rw (← e, eq-eqb r 0 z, ← d, eq-eqb s 0 y, ← word, eq-eqb t 0 x, ← v, w)
+-- none of them fails
+pub record Appendable (ed : Edition) (b : List ℕ) (k n : ℕ) (u : List ℕ) : Type 0 where
+  pub opens : bookRefusal ed b ≡ 0
+  pub ranked : bookRankRefusal ed k n ≡ 0
+  pub word : WordOf n u
+  pub kept : retired k n ≡ false
 
-        module _ (w : o ≡ false) where
-          -- only the size is left
-          size : appendRefusal ed b k n u ≡ check 13 (ltb 65535 (bookSize b + addedSize ed u))
-          unfolding appendRefusal tooLarge
-          size =
-              rw (← e, eq-eqb r 0 z, ← d, eq-eqb s 0 y, ← word, eq-eqb t 0 x, ← v, w, length-appended ed b k n u (accepted-read ed b r e z))
+module _ {ed : Edition} {b : List ℕ} {k n : ℕ} {u : List ℕ} (a : Appendable ed b k n u) where
+  -- only the size is left
+  by-size : appendRefusal ed b k n u ≡ check 13 (ltb 65535 (bookSize b + addedSize ed u))
+  unfolding appendRefusal tooLarge
+  by-size =
+      rw (eq-eqb (bookRefusal ed b) 0 (a .opens), eq-eqb (bookRankRefusal ed k n) 0 (a .ranked), eq-eqb (wordRefusal n u) 0 (a .word), a .kept)
+      (rw (length-appended ed b k n u (accepted ed b (a .opens))))
 
-          pub appendRefusal-large : 65535 < bookSize b + addedSize ed u → appendRefusal ed b k n u ≡ 13
-          appendRefusal-large h = size ∙ rw (lt-ltb 65535 (bookSize b + addedSize ed u) h)
+  pub appendRefusal-large : 65535 < bookSize b + addedSize ed u → appendRefusal ed b k n u ≡ 13
+  appendRefusal-large h = by-size ∙ rw (lt-ltb 65535 (bookSize b + addedSize ed u) h)
 
-          pub appendRefusal-none : bookSize b + addedSize ed u ≤ 65535 → appendRefusal ed b k n u ≡ 0
-          appendRefusal-none h = size ∙ rw (le-ltb 65535 (bookSize b + addedSize ed u) h)
+  pub appendRefusal-none : bookSize b + addedSize ed u ≤ 65535 → appendRefusal ed b k n u ≡ 0
+  appendRefusal-none h = by-size ∙ rw (le-ltb 65535 (bookSize b + addedSize ed u) h)
+
+-- the calls' checks of a preset whose kind and rank a book takes are those of its word
+pub preset-word : (ed : Edition) (k n : ℕ) (u : List ℕ) → bookRankRefusal ed k n ≡ 0 → (rankRefusal k n then wordRefusal n u) ≡ wordRefusal n u
+preset-word ed k n u y = then-none (rankRefusal k n) (wordRefusal n u) (bookRank-accepted ed k n y)
 
 -- where appending is not refused, none of its checks refuses
 append-parts : (ed : Edition) (b : List ℕ) (k n : ℕ) (u : List ℕ) → appendRefusal ed b k n u ≡ 0
