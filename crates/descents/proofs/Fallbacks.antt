@@ -25,7 +25,8 @@ module _ {X : Type 0} (most : ℕ) (l v : List X) (i m : ℕ) (f : Front most l 
   pub part-is : take m v ≡ l
   part-is = rw e (f .part)
 
-module _ (k n : ℕ) (present simpler : List ℕ) {u : List ℕ} {w : List ℤ} (p : u ≡ wordNormalForm (kindOf k) n present) (q : w ≡ window (kindOf k) n simpler) where
+module _ (k n : ℕ) (present simpler : List ℕ) {u : List ℕ} {w : List ℤ}
+    (p : u ≡ wordNormalForm (kindOf k) n present) (q : w ≡ window (kindOf k) n simpler) where
   pub words-decide-requires : RankOf k n → DecideRequires k n u w
   words-decide-requires h =
       rw (p, q) (h, (normalForm-fits k n (window (kindOf k) n present) h (window-passes (kindOf k) n present), window-passes (kindOf k) n simpler))

@@ -37,7 +37,8 @@ refused-by-itself ed b o o′ r e q =
     let s = record-refused ed b o r q in
     rw (← e, s .0) (sym (then-some r (check 18 (tooManyLanes ed b o)) (s .1)))
 
-pub lanes-decide : (ed : Edition) (b : List ℕ) {o o′ : ℕ} (k n s l : ℕ) {t : Bool} → o ≡ o′ → preset.Found k n s l ≡ checkedRecord ed b o → t ≡ tooManyLanes ed b o
+pub lanes-decide : (ed : Edition) (b : List ℕ) {o o′ : ℕ} (k n s l : ℕ) {t : Bool} → o ≡ o′ → preset.Found k n s l ≡ checkedRecord ed b o
+    → t ≡ tooManyLanes ed b o
     → check 18 t ≡ recordConversionRefusal ed b o′
 unfolding recordConversionRefusal
 lanes-decide ed b {o} k n s l e q w = rw (← e, record-found ed b o k n s l q, ← w)

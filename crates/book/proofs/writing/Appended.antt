@@ -41,7 +41,8 @@ trailer-written b out t c p h e₁ e₂ e₃ =
 
 -- the records and then the trailer: c is the count, s the size with its count, t the beginning of the trailer as
 -- the code has it, m the size of a record's head, a the lane count
-pub appended-written : (ed : Edition) (b out : List ℕ) (k n : ℕ) (u : List ℕ) {c s m : ℕ} (o₁ : List ℕ) {o₂ : List ℕ} → bookRefusal ed b ≡ 0 → c ≡ count b → s ≡ bookSize b
+pub appended-written : (ed : Edition) (b out : List ℕ) (k n : ℕ) (u : List ℕ) {c s m : ℕ} (o₁ : List ℕ) {o₂ : List ℕ} → bookRefusal ed b ≡ 0 → c ≡ count b
+    → s ≡ bookSize b
     → m ≡ headSize ed → {a : ℕ} → a ≡ lanes (kindOf k) n → let t = s - (2 * c + 2) in
     o₁ ≡ sets out 0 (take t b ++ recordOf ed k n a u) → o₂ ≡ sets o₁ (t + m + length u) (take (2 * c) (drop t b) ++ (two t ++ two (c + 1)))
     → o₂ ≡ sets out 0 (appended ed b k n u)

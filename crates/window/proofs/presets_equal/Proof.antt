@@ -18,7 +18,7 @@ checks s =
     then rankRefusal (a .kind-b) (a .rank-b) then wordRefusal (a .rank-b) (a .b .now)
 
 -- both passed
-passed : (c : tie.After-l) → checks (c .before .before .before .before .before .before .before .before .before) ≡ 0
+passed : (c : tie.After-l) → let entry = c .before .before .before .before .before .before .before .before .before in checks entry ≡ 0
 passed c =
     let after-m = c .before .before .before .before in
     let first = count-of-lanes _ _ _ (after-m .before .before .preset-lanes .ensures) _ (after-m .m .given .1) in

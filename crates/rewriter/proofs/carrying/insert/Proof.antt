@@ -15,13 +15,13 @@ use Rattle.rewriter.proofs.carrying.insert.Statement.{statement}
 use Rattle.rewriter.proofs.carrying.insert.Tie as tie
 
 -- the lists and the word keep their sizes, and the letter was moved to place q
-record Turned (k : Kind) (n : ℕ) (rest : List ℕ) (s : ℕ) (families₀ places₀ lengths₀ word₀ : List ℕ)
+record Turned (k : Kind) (rank : ℕ) (rest : List ℕ) (s : ℕ) (families₀ places₀ lengths₀ word₀ : List ℕ)
     (steps : ℕ) (families places lengths word : List ℕ) (size q : ℕ) : Type 0 where
   families-size : length families ≡ length families₀
   places-size : length places ≡ length places₀
   lengths-size : length lengths ≡ length lengths₀
   word-size : length word ≡ length word₀
-  moved : Moved k n rest s families₀ places₀ lengths₀ word₀ steps families places lengths word size q
+  moved : Moved k rank rest s families₀ places₀ lengths₀ word₀ steps families places lengths word size q
 
 abbrev Inv-loop : tie.InvT-loop
 Inv-loop kind rank rest s families₀ places₀ lengths₀ word₀ size₀ steps₀ q₀ families places lengths word size steps q =

@@ -15,11 +15,11 @@ use Rattle.rewriter.proofs.carrying.shift.Statement.{statement}
 use Rattle.rewriter.proofs.carrying.shift.Tie as tie
 
 -- the letters from place t to q have moved on by one place, and commute with x
-record Shifted (n corner : ℕ) (word₀ : List ℕ) (q x : ℕ) (word : List ℕ) (t : ℕ) : Type 0 where
+record Shifted (rank levels : ℕ) (word₀ : List ℕ) (q x : ℕ) (word : List ℕ) (t : ℕ) : Type 0 where
   place-le : t ≤ q
   same-size : length word ≡ length word₀
   moved : word ≡ put word₀ t q (getD word₀ t 0)
-  commute : CommutesFrom n corner word₀ q x t
+  commute : CommutesFrom rank levels word₀ q x t
 
 abbrev Inv-loop : tie.InvT-loop
 Inv-loop rank levels word₀ q x t₀ word t = Shifted rank levels word₀ q x word t
