@@ -107,7 +107,7 @@ pub fn read_run(edition: Edition, book: &[u8], first: usize) -> Run
     }
 }
 
-// I30: reads the presets from number `first` on, as many as there are and have room: for each its refusal or 0, its
+// I30: reads the presets from number `first` on, as many as exist and fit: for each its refusal or 0, its
 // kind, its rank, where its letters begin and how many they are. Returns how many presets were written. Checks 1 to
 // 3, 4 of the first, and 14 if not one has room.
 pub fn read_presets(edition: Edition, book: &[u8], first: usize, fields: &mut [u64]) -> Answer

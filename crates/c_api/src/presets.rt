@@ -50,7 +50,7 @@ fn check_preset(edition: Edition, book: &[u8], number: usize, fields: &mut [u64]
 
 // I30: a run of presets from number `first` on, with one walk over the book: five numbers each, the refusal (5 to 8
 // or 17, or 0), kind, rank, the offset of the letters in the book and their count, the last four 0 if it is
-// refused; as many as there are and have room. Returns how many.
+// refused; as many as exist and fit. Returns how many.
 fn read_presets(edition: Edition, book: &[u8], first: usize, fields: &mut [u64]) -> i64
     ensures { λ r. ⌜ (r, now (fields .exit)) ≡ numbered (readingPresets edition (now (book .entry)) first (now (fields .entry))) ⌝ }
 {

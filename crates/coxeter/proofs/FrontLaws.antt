@@ -1,5 +1,4 @@
--- What `front` makes of a list and an output: the list, and behind it what the output held. By the laws of `++`; no
--- other file looks inside it.
+-- What `front` makes of a list and an output: the list, and behind it what the output held. By the laws of `++`.
 -- Assumes nothing.
 use mathlib.Core.Path.{_≡_, refl, sym, ap, _∙_}
 use mathlib.Core.List.{List, [], _∷_, _++_, append-nil}

@@ -12,6 +12,7 @@ fn print_refused(refusal: u8) {
         Answer::Length(l) => {
             print(&line[..l]);
         }
+        // Not reached: the buffer has room for the line.
         Answer::Refused(_) => {}
     }
 }

@@ -47,7 +47,7 @@ letters-there = refl
 
 -- A₂: the normal form of 1 2 1 is 2 1 2, with the part-list 1 2; B₂: 2 1 2 1 has the part-list 1 2 1, and 2 has
 -- none with the window of 1. The empty word is a fallback (F7); a step twice shows the same. Refusals in their
--- order: kind, rank, the present word, the simpler one, and 14 only with a yes.
+-- order: kind, rank, the present word, the simpler one, and 14 only if there is a fallback.
 pub fallbacks : List (Fallback × Fallback)
 fallbacks =
     (fallbackAnswer 1 2 (1 ∷ 2 ∷ 1 ∷ []) (1 ∷ 2 ∷ []) (9 ∷ 9 ∷ 9 ∷ []), Kept 2)

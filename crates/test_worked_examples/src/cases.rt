@@ -5,7 +5,7 @@ use std::num::wrapping_add_u64;
 use window::Answer;
 ghost use Prim.Native.Nat.{_≤_};
 
-// The length that a call answers with; 0 if it is refused, or answers with more than `most`.
+// The length that a call returns; 0 if it is refused, or returns more than `most`.
 fn written(answer: Answer, most: usize) -> usize
     ensures { λ r. ⌜ r ≤ most ⌝ }
 {
@@ -41,7 +41,7 @@ fn same_entries(a: &[i8], b: &[i8]) -> bool {
     true
 }
 
-// The window of a word, at the front of `out`; answers how many entries it has.
+// The window of a word, at the front of `out`; returns how many entries it has.
 fn put_window(kind: u8, rank: u8, word: &[u8], out: &mut [i8]) -> usize
     ensures { λ r. do ⌜ r ≤ (← ⟦out.len()⟧ .entry) ⌝ }
 {

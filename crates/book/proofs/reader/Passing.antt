@@ -47,7 +47,7 @@ use Rattle.book_format.proofs.Edition.Laws as E′
 
 -- ---- editions
 
--- the machine value of an edition. It owns nothing but the fact that it is one, so it is had wherever it is wanted
+-- the machine value of an edition. It owns nothing but the fact that it is one, so it can be used anywhere
 abbrev pub tag : Edition → Val
 tag e = EL.val E.the-type E′.the-laws e
 
@@ -194,7 +194,7 @@ module _ {M : Type 1} (𝓤 : URA M) (H : Heap 𝓤) (A : Atoms 𝓤) (W : Given
   othersGo alone = tt
   othersGo numbered = (goes-none 𝓤 H A W 1 (λ _. usize) yes (λ κs x f. refl), tt)
 
-  -- what they own is had again
+  -- what they own is available again
   pub again : (p : Passing) (κs : Lfts 1) (n : Others p κs)
       → ent 𝓤 (sem 𝓤 H A (OthersOwn p κs n)) (sep 𝓤 (sem 𝓤 H A (OthersOwn p κs n)) (sem 𝓤 H A (OthersHad p κs n)))
   again alone κs n = qed W (‵ ftrue ∷ []) ∵ nothing ! $ join ! $ done !

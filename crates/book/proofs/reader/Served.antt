@@ -1,6 +1,6 @@
 -- Every preset call of an opened book hands the book's edition and bytes, and a preset number where there is one,
 -- to the call on edition, slice and number: one walk of the MIR by hand, at whatever `Passing` leaves open. The
--- struct is Copy: what it owns is had twice, one copy is kept whole for the exit, and of the other what `bytes`
+-- struct is Copy: what it owns is there twice, one copy is kept whole for the exit, and of the other what `bytes`
 -- owns goes to the callee, beside the lifetime's token, which comes back, and the edition, which owns nothing. What
 -- the callee says of the result is handed on unread.
 --

@@ -53,7 +53,7 @@ module _ {M : Type 1} (𝓤 : URA M) (H : Heap 𝓤) (A : Atoms 𝓤) (W : Given
   abbrev pub Open : Contract 𝓤
   Open = tripleOf 𝓤 H A opening.signature (opening.spec 𝓤 H A mem run)
 
-  -- what an edition owns is had for nothing
+  -- what an edition owns costs nothing
   pub had : Makes 𝓤 H A E.the-row (Is E.the-row)
   had = EL.makes E.the-type E′.the-plain 𝓤 H A
 
@@ -61,7 +61,7 @@ module _ {M : Type 1} (𝓤 : URA M) (H : Heap 𝓤) (A : Atoms 𝓤) (W : Given
     abbrev pub Token : Item 𝓤
     Token = ‵ (flft κ q) ⊛ ‵ ftrue
 
-    -- what an opened book with the machine value u owns; it is had twice, since the struct is Copy
+    -- what an opened book with the machine value u owns; it is there twice, since the struct is Copy
     abbrev pub Book : Reader → Val → Fml
     Book r u = B (κ, tt) .own r (u ∷ [])
 

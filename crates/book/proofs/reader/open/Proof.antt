@@ -1,5 +1,5 @@
 -- `reader::open` calls `check_book` and makes the struct of the slice and the edition passed and of the answer: a
--- walk of its MIR, by hand. A `&[u8]` is Copy, so what it owns is had three times: for the callee, for the
+-- walk of its MIR, by hand. A `&[u8]` is Copy, so what it owns is there three times: for the callee, for the
 -- parameter at exit, and inside the result. An edition owns nothing.
 -- Assumes nothing.
 use mathlib.Core.Path.{_≡_, refl, ap}
@@ -117,7 +117,7 @@ module _ {M : Type 1} (𝓤 : URA M) (H : Heap 𝓤) (A : Atoms 𝓤) (W : Given
   abbrev AtEnd : Opened → List (Item 𝓤)
   AtEnd o = ‵ (S.the-row .own o (val o ∷ [])) ∷ Token 𝓤 H A W x ∷ ‵ Bytes ∷ ‵ Bytes ∷ []
 
-  -- what an edition owns is had for nothing
+  -- what an edition owns costs nothing
   had : Makes 𝓤 H A E.the-row (Is E.the-row)
   had = EL.makes E.the-type E′.the-plain 𝓤 H A
 

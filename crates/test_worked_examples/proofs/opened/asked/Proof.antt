@@ -1,5 +1,5 @@
 -- `opened::asked` holds an opened book in a local and asks it three times: a walk of its MIR, by hand. What a book
--- owns is had twice, so that one copy is kept while the other goes to the callee; the answers own nothing.
+-- owns is there twice, so that one copy is kept while the other goes to the callee; the answers own nothing.
 --
 -- Sections: the contracts; the exit; the walk.
 -- Assumes nothing.
