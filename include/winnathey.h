@@ -413,7 +413,7 @@ int64_t winnathey_to_first(const uint8_t *book, winnathey_size book_len,
 
 /* The message of a refusal as a C string: cut to fit, always ended by a 0, and empty for a number
    that is no refusal. It takes the refusal's number, or what a call returned. Returns out, or an
-   empty string if out_len is 0; WINNATHEY_MAX_MESSAGE + 1 is always enough.
+   empty string if out is NULL or out_len is 0; WINNATHEY_MAX_MESSAGE + 1 is always enough.
 
        char text[WINNATHEY_MAX_MESSAGE + 1];
        int64_t length = winnathey_length_of_word(kind, rank, word, letters);
@@ -426,7 +426,7 @@ static inline const char *winnathey_refusal_text(int64_t refusal, char *out, win
     uint32_t number = 0;
     winnathey_size length, i;
 
-    if (out_len == 0)
+    if (out == NULL || out_len == 0)
         return "";
     if (refusal > 0 && refusal <= WINNATHEY_LAST_REFUSAL)
         number = (uint32_t)refusal;

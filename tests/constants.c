@@ -107,6 +107,7 @@ static void texts(void)
     for (size_t i = 0; i < sizeof none / sizeof *none; i++)
         IS(winnathey_refusal_text(none[i], text, sizeof text)[0], 0);
     IS(winnathey_refusal_text(1, NULL, 0)[0], 0);
+    IS(winnathey_refusal_text(1, NULL, 8)[0], 0);
     IS(winnathey_refusal_text(1, text, 1)[0], 0);
 }
 

@@ -2,6 +2,9 @@
 LENGTHS, IDENTITY = "crates/coxeter/must-fail/negatives_counted_in_d.edit", "crates/window/must-fail/identity_for_all_words.edit"
 
 FAULTS = (
+    ("an answer that only brackets tell apart", LENGTHS, "with: 2", "with: (0)", r"the answers with and without it are the same"),
+    ("an answer that only blanks tell apart", LENGTHS, "with: 2", "with:  0", r"the answers with and without it are the same"),
+    ("an answer in other digits", LENGTHS, "with: 2", "with: 0x0", r"0x0 belongs to no value that is written out"),
     ("an edit that names no input", LENGTHS, "~input: .*\\n", "", r"negatives_counted_in_d\.edit:1: there is no line input:"),
     ("an edit with one answer", LENGTHS, "~with: .*\\n", "", r"there is no line with:"),
     ("an edit that changes nothing", LENGTHS, "~with: .*", "with: 0", r"the answers with and without it are the same"),

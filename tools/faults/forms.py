@@ -40,6 +40,8 @@ FAULTS = (
     ("a macro", WINDOW, "    let m = v.len();", "    let m = lens!(v);", r"s!: a form that is not in use"),
     ("a function for C that only its attribute shows", "crates/c_api/src/words.rt", "#[no_mangle]", f"#[no_mangle]\nfn {HIDDEN}#[no_mangle]",
      r"the pages state (\d+) public functions, .* counts: (?!\1\b)\d+"),
+    ("a field that covers an imported name", "crates/messages/proofs/Texts.antt", "~$",
+     "\nrecord Others : Type 0 where\n  said : ℕ\n\nopen Others (let all : Others = record { said = 1 } in all) using (said as message)\n", r"open: a form that is not in use"),
     ("declarations side by side", THEOREMS, r"~\npub window-passes : ", r"\nmutual\n  a : ℕ\n  a = 1\n\g<0>", r"mutual: a form that is not in use"),
     # letters and signs
     ("a Cyrillic letter in a name", "crates/coxeter/specs/Kinds.antt", "lanes", "l\u0430nes", r"Kinds\.antt:\d+: the sign '\\u0430' is not in use"),

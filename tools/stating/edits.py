@@ -9,12 +9,12 @@ import re
 from dataclasses import dataclass, field
 
 from antt import tokens
-from scope import NUMERAL
 
 EDITS = "crates/*/must-fail/*.edit"
 LINES = ("file", "old", "new", "input", "without", "with", "tried")
 ONCE = ("input", "without", "with")
-# what a value is written with: two that are written otherwise are different
+# what a value is written with: two that are written otherwise are different, but for brackets around the whole or one word, and blanks
+PLAIN = re.compile(r"0|[1-9][0-9]*")
 VALUES = {"(", ")", "∷", "[]", "true", "false", "none", "some", "pos", "negsuc"}
 
 
@@ -58,11 +58,19 @@ def edit_of(path, source):
         else:
             edit.said[key] = text
     edit.wrong += [f"1: there is no line {key}:" for key in ONCE if key not in edit.said]
-    if "with" in edit.said and edit.said["with"] == edit.said.get("without"):
+    if "with" in edit.said and _bare(edit.said["with"]) == _bare(edit.said.get("without", "")):
         edit.wrong.append("1: the answers with and without it are the same")
     if edit.computed:
         _computed(edit)
     return edit
+
+
+def _bare(text):
+    """The words of an answer, without brackets around the whole or around one word."""
+    bare = " ".join(text.replace("(", " ( ").replace(")", " ) ").split())
+    while (less := re.sub(r"\( (\S+) \)", r"\1", re.sub(r"^\( ([^()]*) \)$", r"\1", bare))) != bare:
+        bare = less
+    return bare
 
 
 def _computed(edit):
@@ -70,7 +78,7 @@ def _computed(edit):
         edit.wrong.append("1: it edits no definition, and no line tried: says how its answers were found")
     for key in ("with", "without"):
         for word in tokens(edit.said.get(key, "")):
-            if word.text not in VALUES and not NUMERAL.fullmatch(word.text):
+            if word.text not in VALUES and not PLAIN.fullmatch(word.text):
                 edit.wrong.append(f"1: {key}: {word.text} belongs to no value that is written out")
 
 

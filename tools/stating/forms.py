@@ -17,7 +17,7 @@ NAME = re.compile(rf"(?:[!-~{INSIDE}]*|[{FIRST}](?:s|-[!-~]*)?)[{ENDS}]*|[{ALONE
 BLOCK = re.compile(r"\{-|-\}|/\*|\*/")
 # of antt: a comment is a whole line, a text ends on its line
 COMMENT, TEXT = re.compile(r"(?m)^ *--(?: .*)?$"), re.compile(r'"(?:[^"\\\n]|\\.)*"')
-UNUSED_ANTT = re.compile(r'--.*|["«].*|\b(?:mutual|axiom|package|ruleset|deriving)\b(?![-\w])')
+UNUSED_ANTT = re.compile(r'--.*|["«].*|\b(?:mutual|axiom|package|ruleset|deriving)\b(?![-\w])|(?<![\w.·-])(?:open|using|renaming|hiding)(?![\w.·-])')
 # of Rattle: a comment, a text, which may go on behind a backslash at the end of a line, and a character
 BLANKED = re.compile(r"""(?s)//[^\n]*|"(?:[^"\\\n]|\\.)*"|'(?:[^'\\\n]|\\[^'\n]+|\\')'""")
 UNUSED = re.compile(r"""\b(?:impl|trait|unsafe|static|type|async|union|dyn|macro_rules)\b|\w!(?!=)|--|#(?!\[no_mangle\]\n).*|(?<!"C)"(?!C")""")
