@@ -1,9 +1,13 @@
-// The names of sources, screens and presets, and the text file that has them beside a book: BOOK.names.
+// The names of sources, screens and presets, where the screens stand in the cabin, its photograph and the delay of a step, and the text
+// file that has them beside a book: BOOK.names.
 // The lines are kept as they were read, so that comments, empty lines and their order survive a change.
 
 export const MAX_NAMES_BYTES = 1048576;
 const MAX_NAME = 80;
-const KEYWORDS = ['source', 'screen', 'preset'];
+const LANES = [1, 64];
+/** A place has so many thousandths at least, and the cabin so many in all. */
+export const LEAST_PLACE = 20;
+export const CABIN = 1000;
 /** A keyword of a later version: its line is kept and ignored. */
 const LATER = /^[a-z][a-z0-9-]*$/;
 /** Control characters, line separators, and what turns the direction of writing. */
@@ -36,22 +40,82 @@ export function cleaned(text) {
     return [...visible.replace(BLANKS, '')].slice(0, MAX_NAME).join('').replace(BLANKS, '');
 }
 
+/** What is wrong with the file name of a photograph, or null. */
+export function photographFault(file) {
+    if (file === '') return 'no file name after photograph';
+    if (/[/\\]/.test(file) || file === '.' || file === '..') return 'a photograph is the name of a file in the folder of the book, without a folder';
+    return nameFault(file)?.replace('a name', 'a file name') ?? null;
+}
+
+/** What is wrong with a delay in milliseconds as it is written, or null. */
+export function delayFault(text) {
+    if (text === '') return 'no number of milliseconds after delay';
+    if (!/^[0-9]{1,4}(\.[0-9]{1,3})?$/.test(text)) return 'a delay has one to four digits, and behind a point one to three more';
+    return Number(text) > 0 ? null : 'a delay is above 0';
+}
+
+/** What is wrong with a screen's place, or null. */
+export function placeFault({ left, top, width, height }) {
+    if (width < LEAST_PLACE || height < LEAST_PLACE) return `a place is at least ${LEAST_PLACE} wide and ${LEAST_PLACE} high`;
+    if (left + width > CABIN || top + height > CABIN) return 'the place ends outside the cabin';
+    return null;
+}
+
+/** The first word of a text and the rest, which the blanks part. */
+function parted(text) {
+    return /^([^ \t]*)[ \t]*(.*)$/s.exec(text).slice(1);
+}
+
+/** The number at the front of a line's text, and what is behind it. */
+function numbered(text, keyword, [least, most], wrong) {
+    const [digits, rest] = parted(text);
+    if (!/^[0-9]{1,5}$/.test(digits)) wrong(`no number of one to five digits after ${keyword}`);
+    const number = Number(digits);
+    if (number < least || number > most) wrong(`${keyword === 'place' ? 'screen' : keyword}s are numbered from ${least} to ${most}`);
+    return [number, rest];
+}
+
+function readName(text, keyword, range, wrong) {
+    const [number, name] = numbered(text, keyword, range, wrong);
+    const fault = nameFault(name);
+    return fault ? wrong(fault) : { number, name };
+}
+
+function readPlace(text, wrong) {
+    const [number, rest] = numbered(text, 'place', LANES, wrong);
+    const parts = rest.split(/[ \t]+/);
+    if (parts.length !== 4 || !parts.every(part => /^[0-9]{1,4}$/.test(part))) {
+        wrong('a place has left, top, width and height, one to four digits each, and nothing behind them');
+    }
+    const [left, top, width, height] = parts.map(Number);
+    const fault = placeFault({ left, top, width, height });
+    return fault ? wrong(fault) : { number, place: { left, top, width, height } };
+}
+
+/** How the text behind each keyword is read; `wrong` throws. */
+const READERS = {
+    source: (text, wrong) => readName(text, 'source', LANES, wrong),
+    screen: (text, wrong) => readName(text, 'screen', LANES, wrong),
+    preset: (text, wrong) => readName(text, 'preset', [0, 65535], wrong),
+    place: readPlace,
+    photograph: (file, wrong) => (photographFault(file) ? wrong(photographFault(file)) : { file }),
+    delay: (delay, wrong) => (delayFault(delay) ? wrong(delayFault(delay)) : { delay }),
+};
+
 function parsedLine(raw, number) {
+    const wrong = what => {
+        throw new WrongNames(number, what);
+    };
     const text = raw.replace(BLANKS, '');
     if (text === '' || text.startsWith('#')) return { raw, keyword: null };
-    const [, keyword, rest] = /^([^ \t]*)[ \t]*(.*)$/s.exec(text);
-    if (!KEYWORDS.includes(keyword)) {
-        if (LATER.test(keyword)) return { raw, keyword: null };
-        throw new WrongNames(number, 'it begins with no keyword');
-    }
-    const [, digits, name] = /^([^ \t]*)[ \t]*(.*)$/s.exec(rest);
-    if (!/^[0-9]{1,5}$/.test(digits)) throw new WrongNames(number, `no number of one to five digits after ${keyword}`);
-    const at = Number(digits);
-    const [least, most] = keyword === 'preset' ? [0, 65535] : [1, 64];
-    if (at < least || at > most) throw new WrongNames(number, `${keyword}s are numbered from ${least} to ${most}`);
-    const fault = nameFault(name);
-    if (fault) throw new WrongNames(number, fault);
-    return { raw, keyword, number: at, name };
+    const [keyword, rest] = parted(text);
+    if (Object.hasOwn(READERS, keyword)) return { raw, keyword, ...READERS[keyword](rest, wrong) };
+    return LATER.test(keyword) ? { raw, keyword: null } : wrong('it begins with no keyword');
+}
+
+/** What a line is about: no other line may be about the same. */
+function subjectOf({ keyword, number }) {
+    return number === undefined ? keyword : `${keyword} ${number}`;
 }
 
 /** The lines of a file's bytes, without their ends. */
@@ -80,9 +144,9 @@ export function readNames(bytes) {
     const seen = new Set();
     const lines = read.map(({ raw }, at) => {
         const line = parsedLine(raw, at + 1);
-        const key = `${line.keyword} ${line.number}`;
-        if (line.keyword && seen.has(key)) throw new WrongNames(at + 1, `${key} is named twice`);
-        seen.add(key);
+        const subject = subjectOf(line);
+        if (line.keyword && seen.has(subject)) throw new WrongNames(at + 1, `${subject} stands twice`);
+        seen.add(subject);
         return line;
     });
     return { lines, end: read[0]?.crlf ? '\r\n' : '\n' };
@@ -102,30 +166,72 @@ export function namesOf(names, keyword) {
     return new Map(names.lines.filter(line => line.keyword === keyword).map(line => [line.number, line.name]));
 }
 
-/** A changed name replaces its line, a new one comes after the last of its keyword, an empty one takes its line away. */
-export function withName(names, keyword, number, text) {
-    const name = cleaned(text);
+/** A changed line replaces its old one, a new one comes after the last of its keyword; null takes a line away. */
+function withLine(names, keyword, number, line) {
     const lines = names.lines.slice();
-    const at = lines.findIndex(line => line.keyword === keyword && line.number === number);
-    const line = { raw: `${keyword} ${number} ${name}`, keyword, number, name };
-    if (name === (lines[at]?.name ?? '')) return names;
-    if (at >= 0) lines.splice(at, 1, ...(name ? [line] : []));
-    else if (name) {
+    const at = lines.findIndex(other => other.keyword === keyword && other.number === number);
+    if (at >= 0) lines.splice(at, 1, ...(line ? [line] : []));
+    else if (line) {
         const last = lines.findLastIndex(other => other.keyword === keyword);
         lines.splice(last < 0 ? lines.length : last + 1, 0, line);
     }
     return { ...names, lines };
 }
 
-/** The names of sources and screens alone: those of presets belong to one book. */
-export function rigNames(names) {
-    return { ...names, lines: names.lines.filter(line => line.keyword === 'source' || line.keyword === 'screen') };
+/** The names with another name; an empty one takes its line away. */
+export function withName(names, keyword, number, text) {
+    const name = cleaned(text);
+    if (name === nameOf(names, keyword, number)) return names;
+    return withLine(names, keyword, number, name ? { raw: `${keyword} ${number} ${name}`, keyword, number, name } : null);
 }
 
-/** The names of another book's sources and screens put where there are none yet. */
+/** The places of screens, by number. */
+export function placesOf(names) {
+    return new Map(names.lines.filter(line => line.keyword === 'place').map(line => [line.number, line.place]));
+}
+
+/** The names with another place of a screen: whole thousandths that the format takes, or null for none. */
+export function withPlace(names, number, place) {
+    const old = placesOf(names).get(number) ?? null;
+    if (old === place || (old && place && ['left', 'top', 'width', 'height'].every(side => old[side] === place[side]))) return names;
+    if (place === null) return withLine(names, 'place', number, null);
+    const { left, top, width, height } = place;
+    const raw = `place ${number} ${left} ${top} ${width} ${height}`;
+    return withLine(names, 'place', number, { raw, keyword: 'place', number, place: { left, top, width, height } });
+}
+
+/** The file name of the photograph, or ''. */
+export function photographOf(names) {
+    return names.lines.find(line => line.keyword === 'photograph')?.file ?? '';
+}
+
+/** The names with another photograph, by a file name that the format takes, or '' for none. */
+export function withPhotograph(names, file) {
+    if (file === photographOf(names)) return names;
+    return withLine(names, 'photograph', undefined, file ? { raw: `photograph ${file}`, keyword: 'photograph', file } : null);
+}
+
+/** What one step takes in milliseconds, as it is written, or ''. */
+export function delayOf(names) {
+    return names.lines.find(line => line.keyword === 'delay')?.delay ?? '';
+}
+
+/** The names with another delay, written as the format takes it, or '' for none. */
+export function withDelay(names, delay) {
+    if (delay === delayOf(names)) return names;
+    return withLine(names, 'delay', undefined, delay ? { raw: `delay ${delay}`, keyword: 'delay', delay } : null);
+}
+
+/** What the names say of the rig and its cabin; names of presets belong to one book, and so do comments and lines of later versions. */
+export function rigNames(names) {
+    return { ...names, lines: names.lines.filter(line => line.keyword && line.keyword !== 'preset') };
+}
+
+/** What another book's names say of rig and cabin put where there is nothing yet. */
 export function withRigNamesOf(names, others) {
-    const open = rigNames(others).lines.filter(line => nameOf(names, line.keyword, line.number) === '');
-    return open.reduce((filled, { keyword, number, name }) => withName(filled, keyword, number, name), names);
+    const known = new Set(names.lines.filter(line => line.keyword).map(subjectOf));
+    const open = rigNames(others).lines.filter(line => !known.has(subjectOf(line)));
+    return open.reduce((filled, line) => withLine(filled, line.keyword, line.number, line), names);
 }
 
 /** What is shown: with a name its number too, never the name alone. */
