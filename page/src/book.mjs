@@ -9,6 +9,7 @@ import { NEW_BOOK, presetOf, samePreset } from './state.mjs';
 import { pictureMarkup } from './strands.mjs';
 import { term } from './terms.mjs';
 import { counted, grouped } from './text.mjs';
+import { lengthText } from './times.mjs';
 
 /** So many presets are shown at a time. */
 const ROWS = 20;
@@ -262,7 +263,7 @@ export class BookPanel {
         const field = nameField(app, 'preset', number);
         field.update();
         const about = make('span', { class: 'about' }, field,
-            make('span', {}, `${kind}${rank}, ${counted(word.length, 'letter')}`), make('span', { class: 'quiet' }, showsText(window)));
+            make('span', {}, `${kind}${rank}, ${lengthText(word.length, 'letter', app.state.names)}`), make('span', { class: 'quiet' }, showsText(window)));
         const attributes = { class: number === this.culprit ? 'culprit' : '', 'data-preset': number, 'data-letters': word.join(' ') };
         return make('li', attributes, make('span', { class: 'number' }, String(number)), this.#picture(preset, window.length), about,
             this.#actions(preset, count));

@@ -5,7 +5,8 @@ import { attempt } from './library.mjs';
 import { escaped } from './markup.mjs';
 import { toldText } from './plain.mjs';
 import { rigOf } from './rig.mjs';
-import { counted, grouped, parsedWord, shortened, spaced, wordText } from './text.mjs';
+import { grouped, parsedWord, shortened, spaced, wordText } from './text.mjs';
+import { lengthText, timeText } from './times.mjs';
 import { added, culpritOf, moved, removed, sameLetters } from './words.mjs';
 
 /** What a typed word is: its letters, or what is wrong with it and where in the text. */
@@ -123,7 +124,8 @@ export class Composing {
 
     /** What stands beside text that is no word is about the last word. */
     #sayLetters() {
-        const letters = counted(this.app.state.word.length, 'letter');
+        const { word, names } = this.app.state;
+        const letters = lengthText(word.length, 'letter', names);
         setText(byId('letters'), this.fault ? `Last word: ${letters}` : letters);
     }
 
@@ -177,12 +179,13 @@ export class Composing {
     #updateForm(state, { form, same, crossings }) {
         const taken = sameLetters(form, state.word);
         setText(byId('form'), form.length > 400 ? shortened(form, 400) : wordText(form));
-        setText(byId('form-letters'), counted(form.length, 'letter'));
+        setText(byId('form-letters'), lengthText(form.length, 'letter', state.names));
         enable(byId('take'), !taken);
         const shows = same ? 'Shows the same on every screen.' : 'Does NOT show the same.';
         setText(byId('form-same'), taken ? 'The word is its shortest version.' : shows);
         const { inversions, negativeSumPairs, negatives, total } = crossings;
-        setText(byId('crossings-plain'), `Length ${grouped(total)}: ${grouped(inversions)} plain, ${grouped(negativeSumPairs)}`);
+        const time = timeText(total, state.names);
+        setText(byId('crossings-plain'), `Length ${grouped(total)}${time && `, ${time}`}: ${grouped(inversions)} plain, ${grouped(negativeSumPairs)}`);
         setText(byId('crossings-mirrored'), `, ${grouped(negatives)} mirrored.`);
     }
 }

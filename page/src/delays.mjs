@@ -1,9 +1,11 @@
-// Delays: how many pictures of the rig have each length, as bars with a scale, and the longest one.
-import { make, refusalLine } from './dom.mjs';
+// Delays: what one step takes, how many pictures of the rig have each length, as bars with a scale, and the longest one.
+import { make, put, refusalLine, setText } from './dom.mjs';
 import { attempt } from './library.mjs';
 import { tag } from './markup.mjs';
+import { delayFault, delayOf, withDelay } from './names.mjs';
 import { pictureMarkup } from './strands.mjs';
 import { counted, grouped, shortened } from './text.mjs';
+import { lengthText, timeText } from './times.mjs';
 
 /** The height of the bars, and what is above them. */
 const [HIGH, TOP] = [220, 12];
@@ -24,13 +26,21 @@ export function share(part, whole) {
     return whole === 0n ? 0 : Number(part * 1000000n / whole) / 1000000;
 }
 
-/** The bars, of which that of the present length is marked. */
-export function barsMarkup(counts, width, present) {
+/** Every how many lengths one is written below the bars, so that none touches the next. */
+function everyOf(texts, width) {
+    const wide = Math.max(34, ...texts.map(text => 8 * text.length + 16));
+    return [1, 2, 5, 10, 20, 50, 100].find(gap => texts.length / gap * wide <= width) ?? texts.length;
+}
+
+/** The bars, of which that of the present length is marked. With names that have a delay the lengths are told in milliseconds too. */
+export function barsMarkup(counts, width, present, names) {
     const most = counts.reduce((one, two) => (one > two ? one : two));
     const ticks = ticksOf(most);
     const left = 16 + 8 * grouped(ticks.at(-1)).length;
     const step = (width - left - 10) / counts.length;
-    const every = [1, 2, 5, 10, 20, 50].find(gap => counts.length / gap * 34 <= width - left) ?? 50;
+    const times = counts.map((_, length) => timeText(length, names));
+    const every = everyOf(times.map(text => text.replace(' ms', '')), width - left);
+    const lines = times[0] === '' ? 1 : 2;
     const y = count => TOP + HIGH * (1 - share(count, most));
     const scale = ticks.map(tick => tag('line', { class: 'tick', x1: left, x2: width - 4, y1: y(tick), y2: y(tick) }) +
         tag('text', { x: left - 6, y: y(tick) + 4, 'text-anchor': 'end' }, grouped(tick)));
@@ -40,48 +50,88 @@ export function barsMarkup(counts, width, present) {
         y: y(count),
         width: step * 0.8,
         height: Math.max(TOP + HIGH - y(count), 1),
-    }, tag('title', {}, `length ${length}: ${counted(count, 'picture')}`)));
+    }, tag('title', {}, `length ${length}${times[length] && `, ${times[length]}`}: ${counted(count, 'picture')}`)));
+    const written = (text, length, line) => tag('text', { x: left + (length + 0.5) * step, y: TOP + HIGH + 18 * line, 'text-anchor': 'middle' }, text);
     const lengths = counts.map((_, length) => (length % every !== 0 ? ''
-        : tag('text', { x: left + (length + 0.5) * step, y: TOP + HIGH + 18, 'text-anchor': 'middle' }, length)));
-    const high = TOP + HIGH + 40;
+        : written(length, length, 1) + (lines === 1 ? '' : written(times[length].replace(' ms', ''), length, 2))));
+    const high = TOP + HIGH + 22 + 18 * lines;
     const label = 'pictures of the rig by their length';
     const frame = { class: 'bars', role: 'img', 'aria-label': label, viewBox: `0 0 ${width} ${high}`, width, height: high };
-    const below = tag('text', { x: left, y: high - 4 }, 'length: steps of the shortest version');
+    const below = tag('text', { x: left, y: high - 4 }, lines === 1 ? 'length: steps of the shortest version' : 'length: steps, and milliseconds');
     return tag('svg', frame, [...scale, ...bars, ...lengths, below].join(''));
 }
 
 export class DelaysPanel {
     constructor(app, root) {
         this.app = app;
-        this.root = root;
+        this.root = make('div', {});
+        this.field = make('input', {
+            type: 'text', id: 'step-time', inputmode: 'decimal', autocomplete: 'off', spellcheck: 'false', 'aria-describedby': 'step-time-message step-time-about',
+            onchange: () => this.#typed(),
+        });
+        this.message = make('p', { id: 'step-time-message', class: 'refusal', role: 'alert', hidden: true });
+        /** The names that refused text was typed at: it stays as long as these do. */
+        this.refused = null;
+        root.append(
+            make('div', { class: 'bar' }, make('label', { class: 'field' }, make('span', {}, 'One step takes'), this.field, make('span', {}, 'ms')),
+                make('span', { id: 'step-time-about', class: 'quiet' }, 'In milliseconds, kept with the names of the rig. If it is empty, lengths are in steps alone.')),
+            this.message, this.root);
+    }
+
+    /** A wrong number is told at the field and changes nothing. */
+    #typed() {
+        const { state, store } = this.app;
+        const text = this.field.value.trim();
+        const fault = text === '' ? null : delayFault(text);
+        this.refused = fault ? state.names : null;
+        this.#say(fault ? `'${text}' is not taken: type milliseconds above 0, with at most four digits and three more behind a point, as 2.5. Nothing was changed.` : '');
+        const names = fault ? state.names : withDelay(state.names, text);
+        if (names !== state.names) store.change({ names });
+    }
+
+    #say(text) {
+        setText(this.message, text);
+        this.message.hidden = text === '';
+        put(this.field, 'ariaInvalid', text !== '');
+    }
+
+    #updateField({ names }) {
+        if (this.refused === names) return;
+        this.refused = null;
+        this.#say('');
+        if (document.activeElement !== this.field) this.field.value = delayOf(names);
     }
 
     update() {
         const { app, root } = this;
-        const { kind, rank } = app.state;
+        const { kind, rank, names } = app.state;
+        this.#updateField(app.state);
         const { value, refusal } = attempt(() => app.library.delayTable(kind, rank));
         if (refusal) return root.replaceChildren(refusalLine(refusal, { kind, rank }, `This rig is ${kind}${rank}.`));
         const { counts, normalForm: longest } = value;
         const width = Math.max(root.clientWidth, 280);
+        const told = length => `${length}${timeText(length, names) && ` (${timeText(length, names)})`}`;
         const all = counts.reduce((sum, count) => sum + count, 0n);
         const present = app.answers.form.length;
         const [bars, picture] = [make('div', {}), make('div', {})];
-        bars.innerHTML = barsMarkup(counts, width, present);
+        bars.innerHTML = barsMarkup(counts, width, present, names);
         picture.innerHTML = pictureMarkup(app.library, { kind, rank, word: longest }, { width, title: 'the longest picture' });
         root.replaceChildren(
-            make('p', {}, `Kind ${kind}, rank ${rank}: ${counted(all, 'picture')}. The present one has length ${present}, marked; ` +
-                `the greatest length is ${counts.length - 1}.`),
-            bars, table(counts),
+            make('p', {}, `Kind ${kind}, rank ${rank}: ${counted(all, 'picture')}. The present one has length ${told(present)}, marked; ` +
+                `the greatest length is ${told(counts.length - 1)}.`),
+            bars, table(counts, names),
             make('h3', {}, 'The longest picture'),
-            make('p', {}, `${counted(longest.length, 'letter')}: `, make('span', { class: 'word' }, shortened(longest, 120))),
+            make('p', {}, `${lengthText(longest.length, 'letter', names)}: `, make('span', { class: 'word' }, shortened(longest, 120))),
             picture);
     }
 }
 
 /** The same as a table, for those who do not see the bars. */
-function table(counts) {
-    const heads = ['Length', 'Pictures'].map(text => make('th', { scope: 'col' }, text));
-    const rows = counts.map((count, length) => make('tr', {}, make('td', {}, String(length)), make('td', {}, grouped(count))));
+function table(counts, names) {
+    const time = length => timeText(length, names);
+    const heads = ['Length', ...(time(1) ? ['Time'] : []), 'Pictures'].map(text => make('th', { scope: 'col' }, text));
+    const cells = (count, length) => [String(length), ...(time(1) ? [time(length)] : []), grouped(count)];
+    const rows = counts.map((count, length) => make('tr', {}, cells(count, length).map(text => make('td', {}, text))));
     return make('details', {}, make('summary', {}, 'The numbers'),
         make('table', { class: 'numbers' }, make('thead', {}, make('tr', {}, heads)), make('tbody', {}, rows)));
 }

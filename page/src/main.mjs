@@ -20,6 +20,7 @@ import { FIRST_STATE, NEW_BOOK, Store } from './state.mjs';
 import { Tabs } from './tabs.mjs';
 import { Terms } from './terms.mjs';
 import { counted } from './text.mjs';
+import { lengthText } from './times.mjs';
 import { WantedPanel, withSource } from './wanted.mjs';
 import { WhyPanel } from './why.mjs';
 
@@ -72,7 +73,7 @@ class App {
         const { time, state } = offered.draft;
         const date = new Date(time).toLocaleString('en-GB', { dateStyle: 'long', timeStyle: 'short' });
         const count = this.library.bookCheck(state.book.edition, state.book.bytes);
-        const what = `${state.book.name} with ${counted(count, 'preset')} and a word of ${counted(state.word.length, 'letter')}`;
+        const what = `${state.book.name} with ${counted(count, 'preset')} and a word of ${lengthText(state.word.length, 'letter', state.names)}`;
         this.notice(`Your work of ${date} is kept in this browser: ${what}.`,
             button('Go on with it', () => this.#takeUp(offered)),
             button('Start fresh', () => {

@@ -5,6 +5,7 @@ import { labelled, nameOf } from './names.mjs';
 import { pictureMarkup } from './strands.mjs';
 import { term } from './terms.mjs';
 import { counted, signed, wordText } from './text.mjs';
+import { lengthText, timeText } from './times.mjs';
 
 /** Lines of the sheet whose name is explained where it stands. */
 const TERMED = { Word: 'word', Window: 'window', 'Shortest version': 'shortest' };
@@ -13,13 +14,14 @@ const TERMED = { Word: 'word', Window: 'window', 'Shortest version': 'shortest' 
 export function sheetLines(state, { form, window, crossings }, about, preset = null) {
     const { inversions, negativeSumPairs, negatives, total } = crossings;
     const [plain, against] = [counted(inversions, 'plain pair'), counted(negativeSumPairs, 'pair')];
+    const time = timeText(total, state.names);
     const book = `${state.book.name}, ${state.book.edition === 1 ? 'first' : 'second'} edition`;
     return [
         ['Rig', `kind ${KINDS[state.kind]}; rank ${state.rank}; ${counted(window.length, 'lane')}`],
-        ['Word', `${wordText(state.word)} (${counted(state.word.length, 'letter')})`],
-        ['Shortest version', `${wordText(form)} (${counted(form.length, 'letter')})`],
+        ['Word', `${wordText(state.word)} (${lengthText(state.word.length, 'letter', state.names)})`],
+        ['Shortest version', `${wordText(form)} (${lengthText(form.length, 'letter', state.names)})`],
         ['Window', `${window.map(signed).join(' ')} (the source on each screen in turn${window.some(entry => entry < 0) ? ', − where mirrored' : ''})`],
-        ['Length', `${total}: ${plain}, ${against} against a mirrored lane, ${counted(negatives, 'mirrored lane')}`],
+        ['Length', `${total}${time && `, ${time}`}: ${plain}, ${against} against a mirrored lane, ${counted(negatives, 'mirrored lane')}`],
         ['Book', preset === null ? 'this preset is in no book yet' : `${book}, preset ${preset}`],
         ['Library', `Winnathey ${about.version}, SHA-256 ${about.hash}`],
     ];

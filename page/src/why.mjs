@@ -3,6 +3,7 @@ import { button, byId, enable, make, setText } from './dom.mjs';
 import { pictureMarkup } from './strands.mjs';
 import { term } from './terms.mjs';
 import { counted, grouped, shortened, spaced } from './text.mjs';
+import { lengthText } from './times.mjs';
 
 /** So many lines can be looked at. Words with more have millions: the list of those is made on request only. */
 export const MOST_LINES = 60000;
@@ -72,14 +73,14 @@ export function ruleText({ family, place, before, left, after }) {
     return `the ${last} behind the run ${spaced(side.slice(0, -1))} moves in front of it${becomes}`;
 }
 
-/** A word around a part of it that stands out, which is shown by an element of this name. */
-function marked(word, place, length, name) {
+/** A word around a part of it that stands out, which is shown by an element of this name; and its length as text. */
+function marked(word, place, length, name, told) {
     const [from, end] = [Math.max(place - AROUND, 0), place + length];
     const part = (first, last) => (first < last ? spaced(word.slice(first, last)) : '');
     return make('p', { class: 'word line' },
         `${from > 0 ? '… ' : ''}${part(from, place)}${place > 0 ? ' ' : ''}`, make(name, {}, part(place, end) || '(nothing)'),
         ` ${part(end, Math.min(end + AROUND, word.length))}${end + AROUND < word.length ? ' …' : ''} `,
-        make('span', { class: 'quiet' }, ` ${counted(word.length, 'letter')}`));
+        make('span', { class: 'quiet' }, ` ${told}`));
 }
 
 export class WhyPanel {
@@ -169,8 +170,12 @@ export class WhyPanel {
     #end() {
         const { form, count, steps } = this.rewriting;
         const hidden = count > steps.length ? `The lines after line ${grouped(steps.length)} are not shown. ` : '';
-        const text = `${hidden}After ${counted(count, 'line')} this is the shortest version, ${counted(form.length, 'letter')}: `;
+        const text = `${hidden}After ${counted(count, 'line')} this is the shortest version, ${this.#length(form)}: `;
         return [make('p', {}, text, make('span', { class: 'word' }, shortened(form, 120))), this.#picture(form, null, 0)];
+    }
+
+    #length(word) {
+        return lengthText(word.length, 'letter', this.app.state.names);
     }
 
     #line(line) {
@@ -179,8 +184,8 @@ export class WhyPanel {
         return [
             make('p', { id: 'why-rule' }, make('strong', {}, ruleText(line)),
                 make('span', { class: 'quiet' }, ' (', term('family', `rule family ${family}`, { 'data-key': 'family' }), ')')),
-            marked(before, place, left, 'mark'),
-            marked(after, place, right, 'b'),
+            marked(before, place, left, 'mark', this.#length(before)),
+            marked(after, place, right, 'b', this.#length(after)),
             this.#picture(before, places, place),
         ];
     }
