@@ -51,13 +51,17 @@ export function barsMarkup(counts, width, present, names) {
         width: step * 0.8,
         height: Math.max(TOP + HIGH - y(count), 1),
     }, tag('title', {}, `length ${length}${times[length] && `, ${times[length]}`}: ${counted(count, 'picture')}`)));
-    const written = (text, length, line) => tag('text', { x: left + (length + 0.5) * step, y: TOP + HIGH + 18 * line, 'text-anchor': 'middle' }, text);
-    const lengths = counts.map((_, length) => (length % every !== 0 ? ''
+    const x = length => left + (length + 0.5) * step;
+    const written = (text, length, line) => tag('text', { x: x(length), y: TOP + HIGH + 18 * line, 'text-anchor': 'middle' }, text);
+    // One that would end outside the drawing is left out.
+    const fits = length => length % every === 0 && x(length) + 4 * times[length].length <= width;
+    const lengths = counts.map((_, length) => (!fits(length) ? ''
         : written(length, length, 1) + (lines === 1 ? '' : written(times[length].replace(' ms', ''), length, 2))));
     const high = TOP + HIGH + 22 + 18 * lines;
     const label = 'pictures of the rig by their length';
     const frame = { class: 'bars', role: 'img', 'aria-label': label, viewBox: `0 0 ${width} ${high}`, width, height: high };
-    const below = tag('text', { x: left, y: high - 4 }, lines === 1 ? 'length: steps of the shortest version' : 'length: steps, and milliseconds');
+    const about = lines === 1 ? 'length: steps of the shortest version' : 'length: steps, and milliseconds';
+    const below = tag('text', { x: Math.max(Math.min(left, width - 8 * about.length), 0), y: high - 4 }, about);
     return tag('svg', frame, [...scale, ...bars, ...lengths, below].join(''));
 }
 
