@@ -1,42 +1,39 @@
-// Modules: steps that are locked, the split of the preset over the others, and a fallback by pulling steps out.
+// Modules: those that have failed, what can be shown without them, and a fallback by pulling steps out.
 import { button, make, refusalLine } from './dom.mjs';
 import { judged } from './composing.mjs';
+import { WaysLeft } from './fallback.mjs';
 import { attempt } from './library.mjs';
 import { rigOf } from './rig.mjs';
 import { pictureMarkup } from './strands.mjs';
-import { actionText, counted, shortened, spaced } from './text.mjs';
-import { allowedSteps } from './wanted.mjs';
+import { actionText, counted, spaced } from './text.mjs';
+import { lengthText } from './times.mjs';
 
 /** The places of the present normal form whose steps are kept for the simpler preset, or null where there is no fallback. */
 export function fallbackOf(library, { kind, rank, word }, simpler) {
     return library.fallback(kind, rank, word, simpler);
 }
 
-export function splitOf(library, state) {
-    return library.split(state.kind, state.rank, allowedSteps(state), state.word);
-}
-
-/** A step locked, or unlocked. */
-export function toggled(locked, step) {
-    return locked.includes(step) ? locked.filter(other => other !== step) : [...locked, step].sort((a, b) => a - b);
+/** A step ticked, or unticked. */
+export function toggled(failed, step) {
+    return failed.includes(step) ? failed.filter(other => other !== step) : [...failed, step].sort((a, b) => a - b);
 }
 
 export class ModulesPanel {
     constructor(app, root) {
         this.app = app;
         this.refused = null;
-        this.locks = make('div', { class: 'locks' });
-        this.split = make('div', { class: 'answer', 'aria-live': 'polite' });
+        this.ticks = make('div', { class: 'modules', role: 'group', 'aria-label': 'modules that have failed' });
+        this.left = new WaysLeft(app);
         this.field = make('input', {
             type: 'text', id: 'simpler', class: 'word', spellcheck: 'false', autocomplete: 'off', oninput: () => this.#typed(),
         });
         this.fallback = make('div', { class: 'answer', 'aria-live': 'polite' });
         root.append(
-            make('h3', {}, 'Which modules may be used'),
-            make('p', {}, 'A locked module is left out of every way to a wanted picture. In the picture above its steps are struck through.'),
-            this.locks,
-            make('h3', {}, 'The word, split'),
-            this.split,
+            make('h3', {}, 'Which modules have failed?'),
+            make('p', {}, 'Tick them, and those that may not be used. In the picture above their steps are struck through, and no way to a picture uses them.'),
+            this.ticks,
+            this.left.head,
+            this.left.root,
             make('h3', {}, 'Fallback: is a simpler preset left when steps are pulled out?'),
             make('div', { class: 'bar' },
                 make('label', { class: 'field grow' }, make('span', {}, 'Word of the simpler preset'), this.field),
@@ -75,36 +72,27 @@ export class ModulesPanel {
     }
 
     update() {
-        this.#updateLocks();
-        this.#updateSplit();
+        this.#updateTicks();
+        this.left.update();
         this.#updateFallback();
     }
 
-    #updateLocks() {
+    #updateTicks() {
         const { app } = this;
-        const { kind, rank, locked } = app.state;
+        const { kind, rank, failed } = app.state;
         // A change that was meant for another rig, drawn a moment ago, is none.
-        const set = list => rigOf(app.state) === kind + rank && app.store.change({ locked: list });
+        const set = list => rigOf(app.state) === kind + rank && app.store.change({ failed: list });
         const all = Array.from({ length: rank }, (_, at) => at + 1);
         const actions = app.library.actions(kind, rank);
-        this.locks.replaceChildren(
-            ...all.map(step => make('label', { class: 'lock', title: actionText(actions[step]) }, make('input', {
+        this.ticks.replaceChildren(
+            ...all.map(step => make('label', { class: 'module', title: actionText(actions[step]) }, make('input', {
                 type: 'checkbox',
-                checked: !locked.includes(step),
-                'aria-label': `module ${step} may be used: ${actionText(actions[step])}`,
+                checked: failed.includes(step),
+                'aria-label': `module ${step} has failed (${actionText(actions[step])})`,
                 // Two presses may come faster than the boxes are drawn anew.
-                onchange: () => set(toggled(app.state.locked, step)),
+                onchange: () => set(toggled(app.state.failed, step)),
             }), make('span', {}, String(step)))),
-            button('Use all', () => set([])), button('Lock all', () => set(all)));
-    }
-
-    #updateSplit() {
-        const { library, state } = this.app;
-        const { first, second } = splitOf(library, state);
-        const row = (name, word) => [make('dt', {}, name),
-            make('dd', {}, make('span', { class: 'word' }, shortened(word, 120)), `, ${counted(word.length, 'letter')}`)];
-        this.split.replaceChildren(make('dl', {},
-            row('First, with the modules in use', first), row('Then, what only a locked module can begin', second)));
+            button('None has failed', () => set([])), button('All have failed', () => set(all)));
     }
 
     #updateFallback() {
@@ -114,7 +102,7 @@ export class ModulesPanel {
         if (document.activeElement !== this.field) this.field.value = spaced(state.simpler);
         this.field.setAttribute('aria-invalid', 'false');
         const kept = fallbackOf(library, state, state.simpler);
-        const parts = [make('p', { id: 'fallback-answer' }, fallbackText(kept, answers.form.length))];
+        const parts = [make('p', { id: 'fallback-answer' }, fallbackText(kept, answers.form.length, state.names))];
         if (kept !== null) parts.push(this.#picture(kept));
         this.fallback.replaceChildren(...parts);
     }
@@ -134,9 +122,9 @@ export class ModulesPanel {
 }
 
 /** Whether there is a fallback, and which steps of a normal form of this length are kept. */
-function fallbackText(kept, length) {
+function fallbackText(kept, length, names) {
     if (kept === null) return 'No: pulling steps out of the present shortest version never leaves this preset.';
     if (kept.length === 0) return 'Yes: pull out all steps of the shortest version.';
     const places = kept.length > 60 ? '' : `: number ${kept.map(place => place + 1).join(', ')}`;
-    return `Yes: of the shortest version's ${counted(length, 'step')} keep the marked ones, in order${places}.`;
+    return `Yes: of the shortest version (${lengthText(length, 'step', names)}) keep the marked ${lengthText(kept.length, 'step', names)}, in order${places}.`;
 }

@@ -3,7 +3,8 @@
 import { byId, button, fromMarkup, make, put, setText } from './dom.mjs';
 import { nameField, rigOf } from './rig.mjs';
 import { colourOf, measuresOf, partOf, pictureMarkup, strandsMarkup, viewMarkup } from './strands.mjs';
-import { actionText, counted, grouped } from './text.mjs';
+import { actionText, grouped } from './text.mjs';
+import { lengthText } from './times.mjs';
 import { tag } from './markup.mjs';
 import { labelled } from './names.mjs';
 import { firstDifference } from './words.mjs';
@@ -164,7 +165,7 @@ export class Picture {
         this.#drawSteps();
         this.#drawScreens(answers.window);
         for (const field of this.sourceFields) field.update();
-        [...byId('gaps').children].forEach((gap, at) => gap.classList.toggle('locked', state.locked.includes(at + 1)));
+        [...byId('gaps').children].forEach((gap, at) => gap.classList.toggle('failed', state.failed.includes(at + 1)));
         this.#drawRange(count, state.word.length);
         this.#drawForm(space.lane, width);
     }
@@ -200,14 +201,14 @@ export class Picture {
         const reachable = ui.selected >= part.first && ui.selected < part.last ? ui.selected : part.last - 1;
         const chips = part.letters.map((letter, at) => {
             const place = part.first + at;
-            const locked = state.locked.includes(letter);
+            const failed = state.failed.includes(letter);
             const chip = make('button', {
                 type: 'button',
-                class: locked ? 'chip locked' : 'chip',
+                class: failed ? 'chip failed' : 'chip',
                 'data-at': place,
                 tabindex: place === reachable ? 0 : -1,
                 'aria-pressed': String(place === ui.selected),
-                'aria-label': `step ${grouped(place + 1)} of ${grouped(part.total)}: module ${letter}, ${actionText(actions[letter])}${locked ? ', locked' : ''}`,
+                'aria-label': `step ${grouped(place + 1)} of ${grouped(part.total)}: module ${letter}, ${actionText(actions[letter])}${failed ? ', failed' : ''}`,
             }, String(letter));
             chip.style.left = `${m.x(at) + m.column / 2}px`;
             return chip;
@@ -256,7 +257,7 @@ export class Picture {
         byId('form-picture').hidden = !ui.both;
         if (!ui.both) return;
         const inside = Math.max(byId('form-picture').clientWidth, 200);
-        const title = `the shortest version, ${counted(answers.form.length, 'letter')}`;
+        const title = `the shortest version, ${lengthText(answers.form.length, 'letter', state.names)}`;
         byId('form-drawing').innerHTML = pictureMarkup(library, { ...state, word: answers.form },
             { width: inside, lane: Math.min(lane, 32), column: width < 300 ? 28 : 32, title });
     }

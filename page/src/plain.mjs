@@ -29,9 +29,15 @@ function screensText({ kind }) {
     return 'Each source has to be on one screen, and on one only. Set all screens straight and begin anew.';
 }
 
-function lockedText({ locked = [] }) {
-    const modules = locked.length === 0 ? 'these modules' : `${locked.length === 1 ? 'module' : 'modules'} ${listed(locked)}`;
-    return `With ${modules} locked, this picture cannot be had. Unlock a module, or choose another picture.`;
+/** Modules by their numbers; many of them only by how many they are. */
+export function modulesText(failed, rank) {
+    if (failed.length === rank) return 'any module';
+    if (failed.length > 8) return `the ${failed.length} failed modules`;
+    return failed.length === 1 ? `module ${failed[0]}` : `modules ${listed(failed)}`;
+}
+
+function failedText({ failed = [], rank }) {
+    return `Without ${failed.length === 0 ? 'the failed modules' : modulesText(failed, rank)}, no steps lead to this picture. Choose another picture, or untick in Modules what works again.`;
 }
 
 const TEXTS = {
@@ -50,15 +56,15 @@ const TEXTS = {
     13: () => 'The book is full: with this preset it would be larger than 65,535 bytes. Remove a preset, or start another book.',
     14: () => `There was too little room for the answer. ${FAULT}`,
     15: () => `There was too little room for the lines of the rewriting. ${FAULT}`,
-    16: () => 'A module was named that this rig does not have. Press Use all in Modules, and lock modules anew.',
+    16: () => 'A module was named that this rig does not have. Press None has failed in Modules, and tick the failed ones anew.',
     17: where => `${presetText(where)} is damaged: its number of lanes does not fit its rig. ${DAMAGED}`,
     18: where => `A book of the first edition takes rigs of up to 32 lanes. ${presetText(where)} has more: remove it, or stay with the second edition.`,
-    19: lockedText,
+    19: failedText,
     20: () => 'Delays are counted for smaller rigs only. Choose rank 19 or less in kind A, 16 or less in kinds B and D.',
     21: () => 'Books do not take rigs of kind A and rank 1 any more. Choose rank 2 or more.',
 };
 
-/** What a refusal means for the person at the page; `where` has what is known about it: preset, step and place, rig, locked modules. */
+/** What a refusal means for the person at the page; `where` has what is known about it: preset, step and place, rig, failed modules. */
 export function plainText(number, where = {}) {
     return TEXTS[number](where);
 }

@@ -16,12 +16,12 @@ export function rigOf({ kind, rank }) {
     return `${kind}${rank}`;
 }
 
-/** What remains of a state in another rig: the word if the rig takes it, and the locked steps that it has. */
+/** What remains of a state in another rig: the word if the rig takes it, and the failed steps that it has. */
 export function inRig(library, state, kind, rank) {
     const { refusal } = attempt(() => library.window(kind, rank, state.word));
     const simpler = attempt(() => library.window(kind, rank, state.simpler)).refusal ? [] : state.simpler;
     return {
-        change: { kind, rank, word: refusal ? [] : state.word, locked: state.locked.filter(step => step <= rank), wanted: null, simpler },
+        change: { kind, rank, word: refusal ? [] : state.word, failed: state.failed.filter(step => step <= rank), wanted: null, simpler },
         refusal,
     };
 }

@@ -12,11 +12,11 @@ export const FIRST_STATE = Object.freeze({
     rank: 5,
     word: Object.freeze([]),
     names: NO_NAMES,
-    /** Steps whose modules may not be used. */
-    locked: Object.freeze([]),
-    /** The wanted window, or null where none was asked for yet. */
+    /** Steps whose modules have failed. */
+    failed: Object.freeze([]),
+    /** The wanted window, or null as long as it is that of the word. */
     wanted: null,
-    wantedFrom: 'straight',
+    wantedFrom: 'present',
     /** The preset of this book that the word was loaded from or appended as, or null. */
     kept: null,
     /** The word of the simpler preset of a fallback. */

@@ -1,11 +1,13 @@
 // The wanted picture: sources put on screens and mirrored by hand, and the library's word that leads there.
-import { button, fromMarkup, make, refusalLine } from './dom.mjs';
+import { button, fromMarkup, make, refusalLine, setText } from './dom.mjs';
 import { attempt } from './library.mjs';
 import { labelled } from './names.mjs';
+import { toldText } from './plain.mjs';
 import { rigOf } from './rig.mjs';
 import { colourOf, viewMarkup } from './strands.mjs';
 import { term } from './terms.mjs';
-import { counted, shortened } from './text.mjs';
+import { shortened } from './text.mjs';
+import { lengthText, timeText } from './times.mjs';
 
 /** A source put on a screen, both from 1: what was there goes where the source was, so that every source stays on one screen. */
 export function withSource(window, source, screen) {
@@ -20,24 +22,39 @@ export function withMirrored(window, screen) {
     return window.map((entry, at) => (at === screen - 1 ? -entry : entry));
 }
 
-export function allowedSteps({ rank, locked }) {
-    return Array.from({ length: rank }, (_, at) => at + 1).filter(step => !locked.includes(step));
+/** The steps whose modules have not failed. */
+export function stepsLeft({ rank, failed }) {
+    return Array.from({ length: rank }, (_, at) => at + 1).filter(step => !failed.includes(step));
 }
 
-/** The word over the allowed steps that leads to the wanted window, or the library's refusal. */
+/** The word over the steps left that leads to the wanted window, or the library's refusal. */
 export function wayTo(library, state, wanted) {
     const { kind, rank, word, wantedFrom } = state;
     const from = wantedFrom === 'present' ? library.window(kind, rank, word) : library.straight(kind, rank);
-    return attempt(() => library.between(kind, rank, allowedSteps(state), from, wanted));
+    return attempt(() => library.between(kind, rank, stepsLeft(state), from, wanted));
+}
+
+/** Takes a word that was the answer to a state, unless the question has changed since or the word is refused; returns whether it was taken. */
+export function useWord(app, asked, word) {
+    const { library, state, store } = app;
+    const same = ['kind', 'rank', 'word', 'wanted', 'failed', 'wantedFrom'].every(part => state[part] === asked[part]);
+    if (!same || !app.hasWord('The word stays as it is')) return false;
+    const { refusal } = attempt(() => library.window(state.kind, state.rank, word));
+    if (refusal) app.notice(`The word stays as it is. ${toldText(refusal)}`);
+    else store.change({ word });
+    return !refusal;
 }
 
 export class WantedPanel {
     constructor(app, root) {
         this.app = app;
         this.fields = make('div', {});
+        this.follows = make('p', { id: 'wanted-follows', role: 'status' });
+        this.settings = make('div', { class: 'bar' });
+        this.starts = make('div', {});
         // What reads the screen aloud hears changes only of an element that stays.
         this.answer = make('div', { class: 'answer', 'aria-live': 'polite' });
-        root.append(this.fields, this.answer);
+        root.append(this.fields, this.follows, this.settings, this.starts, this.answer);
     }
 
     get wanted() {
@@ -59,9 +76,10 @@ export class WantedPanel {
                 'What was on the screen goes where the source was.'),
             this.#tokens(),
             this.#cards(answer.refusal),
-            this.#settings(),
-            this.#starts(),
         );
+        setText(this.follows, followsText(app.state.wanted));
+        this.settings.replaceChildren(...this.#settings());
+        this.starts.replaceChildren(this.#starts());
         this.answer.replaceChildren(this.#answer(answer));
     }
 
@@ -118,22 +136,18 @@ export class WantedPanel {
             onchange: () => app.store.change({ wantedFrom: value }),
         }), text);
         return make('fieldset', { class: 'inline bar' }, make('legend', {}, 'Lead there from'),
-            from('straight', 'the straight picture'), term('straight', 'What is straight?', { 'data-key': 'straight' }), from('present', 'the picture above'));
+            from('present', 'the picture above'), from('straight', 'the straight picture'), term('straight', 'What is straight?', { 'data-key': 'straight' }));
     }
 
     #settings() {
         const { app } = this;
         const { library, state } = app;
-        return make('div', { class: 'bar' },
+        return [
             button('Set all screens straight', () => this.#change(() => library.straight(state.kind, state.rank))),
-            button('Set all screens as in the picture above', () => this.#change(() => app.answers.window)));
-    }
-
-    /** Takes a word that was the answer to this state, unless the question has changed since. */
-    #take(asked, word) {
-        const { state, store } = this.app;
-        const same = ['kind', 'rank', 'word', 'wanted', 'locked', 'wantedFrom'].every(part => state[part] === asked[part]);
-        if (same) store.change({ word });
+            button('Set all screens as in the picture above', () => this.#change(() => app.answers.window)),
+            // Off, it stays for the keyboard that has just pressed it.
+            button('Let it follow the picture above', () => this.#change(() => null), { 'aria-disabled': state.wanted === null ? 'true' : null }),
+        ];
     }
 
     #answer({ value, refusal }) {
@@ -144,9 +158,15 @@ export class WantedPanel {
         const start = present ? 'picture above' : 'straight picture';
         if (value.length === 0) return make('p', {}, `The ${start} is the wanted one: no step is needed.`);
         const take = present
-            ? button('Add these steps to the word', () => this.#take(state, [...state.word, ...value]), { class: 'main' })
-            : button('Use these steps as the word', () => this.#take(state, value), { class: 'main' });
-        const text = `${counted(value.length, 'step')} lead${value.length === 1 ? 's' : ''} there: `;
+            ? button('Add these steps to the word', () => useWord(app, state, [...state.word, ...value]), { class: 'main' })
+            : button('Use these steps as the word', () => useWord(app, state, value), { class: 'main' });
+        const text = `${lengthText(value.length, 'step', state.names)}${timeText(1, state.names) && ','} lead${value.length === 1 ? 's' : ''} there: `;
         return make('p', {}, text, make('strong', { class: 'word' }, shortened(value, 200)), ' ', take);
     }
+}
+
+/** Whether the wanted picture stays. */
+function followsText(wanted) {
+    return wanted === null ? 'The wanted picture is the picture above until you change it here; from then on it stays.'
+        : 'The wanted picture was changed here and stays, whatever becomes of the picture above.';
 }

@@ -2,7 +2,8 @@
 import assert from 'node:assert/strict';
 import { test } from 'node:test';
 import { barsMarkup, share, ticksOf } from '../src/delays.mjs';
-import { fallbackOf, splitOf, toggled } from '../src/modules.mjs';
+import { splitOf } from '../src/fallback.mjs';
+import { fallbackOf, toggled } from '../src/modules.mjs';
 import { SENTENCES } from '../src/proved.mjs';
 import { screenLines, sheetLines } from '../src/sheet.mjs';
 import { FIRST_STATE } from '../src/state.mjs';
@@ -31,15 +32,15 @@ test('the way to a wanted picture leads there over the allowed steps, or is refu
     const numberOf = (state, wanted) => wayTo(library, { ...FIRST_STATE, ...state }, wanted).refusal.number;
     assert.equal(numberOf({}, [-1, 2, 3, 4, 5]), 11);
     assert.equal(numberOf({ kind: 'A', rank: 2 }, [-1, 2, 3]), 10);
-    assert.equal(numberOf({ kind: 'A', rank: 2, locked: [1] }, [2, 1, 3]), 19);
+    assert.equal(numberOf({ kind: 'A', rank: 2, failed: [1] }, [2, 1, 3]), 19);
 });
 
-test('the split is the product of its parts, and the first needs no locked module', () => {
+test('the split is the product of its parts, and the first needs no failed module', () => {
     const random = dice(3);
     for (const [kind, rank] of RIGS) {
-        const state = { ...FIRST_STATE, kind, rank, word: randomWord(random, rank, 40), locked: [1 + random(rank)] };
+        const state = { ...FIRST_STATE, kind, rank, word: randomWord(random, rank, 40), failed: [1 + random(rank)] };
         const { first, second } = splitOf(library, state);
-        assert.ok(first.every(step => !state.locked.includes(step)));
+        assert.ok(first.every(step => !state.failed.includes(step)));
         assert.ok(library.same(kind, rank, [...first, ...second], state.word));
     }
     assert.deepEqual(toggled([1, 3], 2), [1, 2, 3]);

@@ -13,7 +13,7 @@ const STRANGE = /entry|entries|offset|trailer|\bc\b|negative|bit\b|undefined|nul
 test('each refusal says what is wrong and what to do, in other words than the library', () => {
     const seen = new Set();
     for (const number of NUMBERS) {
-        for (const where of [{}, { preset: 3 }, { kind: 'D', rank: 5, step: '9', at: 2, ranks: [4, 5], locked: [1, 2] }, { kind: 'A', first: true }]) {
+        for (const where of [{}, { preset: 3 }, { kind: 'D', rank: 5, step: '9', at: 2, ranks: [4, 5], failed: [1, 2] }, { kind: 'A', first: true }]) {
             const text = plainText(number, where);
             assert.ok(text.split(/[.:] /).length >= 2 && text.endsWith('.'), text);
             assert.doesNotMatch(text, STRANGE);
@@ -28,8 +28,8 @@ test('what is known is said: the step and its place, the preset, the rank, the m
     assert.match(plainText(8, { step: '9', at: 2, rank: 5 }), /^Step 9, number 3 of the word, does not exist in this rig: its steps are 1 to 5\./);
     assert.match(plainText(6, { kind: 'D', ranks: [4, 64] }), /Kind D takes 4 to 64\./);
     assert.match(plainText(18, { preset: 7 }), /Preset 7 has more/);
-    assert.match(plainText(19, { locked: [2] }), /module 2 locked/);
-    assert.match(plainText(19, { locked: [2, 4] }), /modules 2 and 4 locked/);
+    assert.match(plainText(19, { failed: [2] }), /^Without module 2, /);
+    assert.match(plainText(19, { failed: [2, 4] }), /^Without modules 2 and 4, /);
     const refusal = { number: 13, text: library.message(13) };
     assert.ok(toldText(refusal).endsWith(`(Refusal 13: ${library.message(13)})`));
 });

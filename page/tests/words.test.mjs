@@ -54,16 +54,16 @@ test('ranks are those that the library takes', () => {
 });
 
 test('a word goes along to another rig if that takes it', () => {
-    const state = { ...FIRST_STATE, word: [5, 4], locked: [2, 5], simpler: [5] };
+    const state = { ...FIRST_STATE, word: [5, 4], failed: [2, 5], simpler: [5] };
     assert.deepEqual(inRig(library, state, 'B', 5).change.word, [5, 4]);
     const { change, refusal } = inRig(library, state, 'D', 4);
-    assert.deepEqual([change.word, change.locked, change.simpler, refusal.number], [[], [2], [], 8]);
+    assert.deepEqual([change.word, change.failed, change.simpler, refusal.number], [[], [2], [], 8]);
 });
 
 test('a word is kept as the preset of one rig, and not before it was', () => {
     const store = new Store();
     store.change({ word: [1, 2] });
-    store.change({ locked: [1] });
+    store.change({ failed: [1] });
     store.markWordKept(7);
     assert.deepEqual([store.preset, store.wordUnsaved], [7, false]);
     store.change({ rank: 6 });

@@ -290,10 +290,10 @@ class Books(PageTest):
         self.saved("lesson.book")
         self.assertEqual(self.js("return app.state.wanted[0]"), -1)
         self.press("Modules")
-        self.press("module 2 may be used: exchanges lanes 2 and 3")
+        self.press("module 2 has failed (exchanges lanes 2 and 3)")
         self.keys("s")
         self.saved("lesson.book")
-        self.assertEqual(self.js("return app.state.locked"), [2])
+        self.assertEqual(self.js("return app.state.failed"), [2])
 
     def test_07_undo_knows_what_the_book_has(self):
         self.word("1 2 5")

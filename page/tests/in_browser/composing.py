@@ -291,8 +291,8 @@ class TenPoints(PageTest):
     def test_05_modules(self):
         self.word("4 4 2 5 3 5 1 2")
         self.press("Modules")
-        self.press("module 2 may be used: exchanges lanes 2 and 3")
-        self.assertEqual(self.js("return [...document.querySelectorAll('#board .locked')].map(e => e.textContent)"), ["2", "2", "+2"])
+        self.press("module 2 has failed (exchanges lanes 2 and 3)")
+        self.assertEqual(self.js("return [...document.querySelectorAll('#board .failed')].map(e => e.textContent)"), ["2", "2", "+2"])
         split = self.library("split", "D", 5, [1, 3, 4, 5], self.letters())
         text = self.panel().text
         self.assertIn(" ".join(map(str, split["first"])), text)
@@ -311,14 +311,14 @@ class TenPoints(PageTest):
         self.settle()
         line = self.js("return document.querySelector('#panel-wanted .refusal')").text
         self.assertIn(self.library("message", 19), line)
-        self.assertIn("module 2 locked", line)
+        self.assertIn("Without module 2, no steps lead to this picture.", line)
 
-    def test_05_quick_locks_and_refusals_that_stay(self):
+    def test_05_quick_ticks_and_refusals_that_stay(self):
         self.rig("D", 64)
         self.press("Modules")
-        self.js("const [one, two] = document.querySelectorAll('.lock input'); one.click(); two.click()")
+        self.js("const [one, two] = document.querySelectorAll('.module input'); one.click(); two.click()")
         self.settle()
-        self.assertEqual(self.js("return app.state.locked"), [1, 2])
+        self.assertEqual(self.js("return app.state.failed"), [1, 2])
         self.rig("D", 5)
         self.write("Word of the simpler preset", "9")
         self.assertIn(self.library("message", 8), self.panel().text)
