@@ -88,7 +88,7 @@ export class DelaysPanel {
         const text = this.field.value.trim();
         const fault = text === '' ? null : delayFault(text);
         this.refused = fault ? state.names : null;
-        this.#say(fault ? `'${text}' is not taken: type milliseconds above 0, with at most four digits and three more behind a point, as 2.5. Nothing was changed.` : '');
+        this.#say(fault ? `'${text}' is not a number of milliseconds that can be kept. Type one above 0 such as 2.5: up to four digits, and up to three more after a point. Nothing was changed.` : '');
         const names = fault ? state.names : withDelay(state.names, text);
         if (names !== state.names) store.change({ names });
     }

@@ -1,13 +1,14 @@
 // Fallback by what failed: what the modules left can still show, and on which screens that differs. Every answer is the library's.
 import { button, make, refusalParts, setText } from './dom.mjs';
 import { labelled } from './names.mjs';
+import { pictureMarkup } from './strands.mjs';
 import { counted, listed, shortened } from './text.mjs';
 import { lengthText } from './times.mjs';
 import { stepsLeft, useWord, wayTo } from './wanted.mjs';
 import { sameLetters } from './words.mjs';
 
-/** So many screens are named one by one. */
-const MOST_NAMED = 12;
+/** So many screens are named one by one, and so many lanes drawn. */
+const [MOST_NAMED, MOST_DRAWN] = [12, 20];
 
 const TITLES = {
     start: 'The start of the preset, as far as the modules left lead',
@@ -26,7 +27,8 @@ export function differing(one, two) {
 
 /**
  * What the modules left can show of the present preset, the picture with the fewest screens that differ first: by the first word of
- * the split, and by the word and its shortest version without the failed steps. Each picture has all words that show it.
+ * the split, and by the word and its shortest version without the failed steps. Each picture has all words that show it, the shortest
+ * first.
  */
 export function picturesLeft(library, state, { form, window }) {
     const { kind, rank, word, failed } = state;
@@ -43,6 +45,7 @@ export function picturesLeft(library, state, { form, window }) {
     }
     for (const picture of pictures) {
         picture.screens = differing(picture.window, window);
+        picture.words.sort((one, two) => one.word.length - two.word.length);
         picture.isFallback = library.fallback(kind, rank, word, picture.words[0].word) !== null;
     }
     return pictures.sort((one, two) => one.screens.length - two.screens.length);
@@ -110,12 +113,21 @@ export class WaysLeft {
     #pictures() {
         const { library, state, answers } = this.app;
         return picturesLeft(library, state, answers).map(picture => make('section', { class: 'way' },
-            picture.words.map(({ titles, word }) => {
-                const title = titleOf(titles, word);
-                return [make('h4', {}, title), make('p', {}, ...this.#word(word), this.#use(word, title))];
-            }).flat(),
-            this.#differences(picture),
-            make('p', { class: 'quiet' }, restText(picture, state), fallbackVerdict(picture))));
+            make('div', { class: 'way-text' },
+                picture.words.map(({ titles, word }) => {
+                    const title = titleOf(titles, word);
+                    return [make('h4', {}, title), make('p', {}, ...this.#word(word), this.#use(word, title))];
+                }).flat(),
+                this.#differences(picture),
+                make('p', { class: 'quiet' }, restText(picture, state), fallbackVerdict(picture))),
+            picture.window.length <= MOST_DRAWN && this.#drawing(picture)));
+    }
+
+    #drawing({ words: [{ titles, word }] }) {
+        const { library, state } = this.app;
+        const holder = make('div', { class: 'way-picture' });
+        holder.innerHTML = pictureMarkup(library, { ...state, word }, { width: 320, lane: 20, column: 22, title: `picture: ${titleOf(titles, word)}` });
+        return holder;
     }
 
     #differences({ window, screens }) {

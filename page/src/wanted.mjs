@@ -157,7 +157,8 @@ export class WantedPanel {
         const present = state.wantedFrom === 'present';
         const start = present ? 'picture above' : 'straight picture';
         if (value.length === 0) return make('p', {}, `The ${start} is the wanted one: no step is needed.`);
-        const take = present
+        // With no steps yet both buttons would do the same.
+        const take = present && state.word.length > 0
             ? button('Add these steps to the word', () => useWord(app, state, [...state.word, ...value]), { class: 'main' })
             : button('Use these steps as the word', () => useWord(app, state, value), { class: 'main' });
         const text = `${lengthText(value.length, 'step', state.names)}${timeText(1, state.names) && ','} lead${value.length === 1 ? 's' : ''} there: `;

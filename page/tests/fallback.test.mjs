@@ -32,6 +32,8 @@ test('each picture left is shown by words without a failed step, with the screen
                     assert.equal(isFallback, library.fallback(kind, rank, state.word, word) !== null);
                 }
                 assert.deepEqual(screens, window.flatMap((entry, at) => (entry === shown[at] ? [] : [at + 1])));
+                const lengths = words.map(({ word }) => word.length);
+                assert.deepEqual(lengths, lengths.toSorted((one, two) => one - two));
                 const isStart = words.some(({ titles }) => titles.includes('start'));
                 assert.deepEqual(rest, isStart ? second : []);
             }

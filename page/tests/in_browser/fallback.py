@@ -61,6 +61,8 @@ class Fallback(Subject):
         self.assertEqual(len(lines), sum(one != two for one, two in zip(shown, present)))
         self.assertIn("Screen 2 left mirror shows 1 left door instead of 5 rear view mirrored", lines)
         self.assertIn("It is a fallback", self.way(FORM))
+        drawn = self.js("return [...document.querySelectorAll('.way svg.drawing')].map(e => e.getAttribute('aria-label'))")
+        self.assertEqual(drawn, [f"picture: {FORM}", f"picture: {START}"])
         line = self.js("return document.querySelector('#ways-left [data-refusal=\"19\"]')").text
         self.assertIn("From the straight picture: Without module 2, no steps lead to this picture.", line)
         self.assertIn(self.library("message", 19), line)
@@ -282,7 +284,7 @@ class Milliseconds(Subject):
             field = self.type(self.FIELD, wrong)
             self.assertEqual((field.get_attribute("value"), field.get_attribute("aria-invalid")), (wrong, "true"))
             about = self.js("return arguments[0].getAttribute('aria-describedby').split(' ').map(id => document.getElementById(id)).filter(e => !e.hidden).map(e => e.textContent)", field)
-            self.assertIn(f"'{wrong}' is not taken", about[0])
+            self.assertIn(f"'{wrong}' is not a number of milliseconds", about[0])
             self.assertEqual(self.js("return app.store.state.names"), names)
             self.assertEqual(self.text("letters"), "3 letters, 7.5 ms")
         self.word("4 4")

@@ -19,7 +19,7 @@ class NewUser(PageTest):
         self.press("mirror the view on screen 2 left mirror")
         self.assertIn("mirror one view more", self.panel().text)
         self.press("mirror the view on screen 5")
-        self.press("Add these steps to the word")
+        self.press("Use these steps as the word")
         screen = self.js("return document.querySelector('#screens [data-screen=\"2\"]')")
         self.assertEqual(screen.find_element(By.CLASS_NAME, "shows").text.split(), ["1", "rear", "view", "mirrored"])
         self.press("Book")
