@@ -2,7 +2,7 @@
 import { make, put, refusalLine, setText } from './dom.mjs';
 import { attempt } from './library.mjs';
 import { tag } from './markup.mjs';
-import { delayFault, delayOf, withDelay } from './names.mjs';
+import { NO_NAMES, delayFault, delayOf, withDelay } from './names.mjs';
 import { pictureMarkup } from './strands.mjs';
 import { counted, grouped, shortened } from './text.mjs';
 import { lengthText, timeText } from './times.mjs';
@@ -33,7 +33,7 @@ function everyOf(texts, width) {
 }
 
 /** The bars, of which that of the present length is marked. With names that have a delay the lengths are told in milliseconds too. */
-export function barsMarkup(counts, width, present, names) {
+export function barsMarkup(counts, width, present, names = NO_NAMES) {
     const most = counts.reduce((one, two) => (one > two ? one : two));
     const ticks = ticksOf(most);
     const left = 16 + 8 * grouped(ticks.at(-1)).length;

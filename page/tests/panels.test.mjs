@@ -106,8 +106,8 @@ test('the scale of the delays has round numbers, and shares are exact enough to 
     }
     assert.equal(share(1n, 4n), 0.25);
     const { counts } = library.delayTable('B', 5);
-    assert.equal((barsMarkup(counts, 600, 3, NO_NAMES).match(/<rect/g) ?? []).length, counts.length);
-    assert.equal((barsMarkup(counts, 600, 3, NO_NAMES).match(/bar present/g) ?? []).length, 1);
+    assert.equal((barsMarkup(counts, 600, 3).match(/<rect/g) ?? []).length, counts.length);
+    assert.equal((barsMarkup(counts, 600, 3).match(/bar present/g) ?? []).length, 1);
 });
 
 test('the sheet says what the record needs', () => {
