@@ -1,7 +1,7 @@
 # bash completion for winnathey
 _winnathey() {
     local word=${COMP_WORDS[COMP_CWORD]} before=${COMP_WORDS[COMP_CWORD - 1]}
-    local subcommands='show why draw same split between fallback delays normal product inverse descents shortest list check append remove replace move convert name report completions man' options= operands=
+    local subcommands='show why draw same split between fallback delays normal product inverse descents shortest list check diff append remove replace move convert name report completions man' options= operands=
     if ((COMP_CWORD == 1)); then
         COMPREPLY=($(compgen -W "$subcommands help --help --version" -- "$word"))
         return
@@ -21,14 +21,15 @@ _winnathey() {
     inverse) options='--empty --book --edition --timeout --preset --json --help' operands='A B D' ;;
     descents) options='--empty --book --edition --timeout --preset --json --help' operands='A B D' ;;
     shortest) options='--empty --limit --count --book --edition --timeout --preset --json --help' operands='A B D' ;;
-    list) options='--edition --timeout --preset --lines --names --json --help' operands='files' ;;
-    check) options='--edition --json --help' operands='files' ;;
-    append) options='--empty --edition --timeout --in-place -o --force --new --at-most --book --preset --json --help' operands='files' ;;
-    remove) options='--edition --timeout --in-place -o --force --json --help' operands='files' ;;
-    replace) options='--empty --edition --timeout --in-place -o --force --book --preset --json --help' operands='files' ;;
-    move) options='--edition --timeout --in-place -o --force --json --help' operands='files' ;;
-    convert) options='--edition --timeout --in-place -o --force --at-most --json --help' operands='files' ;;
-    name) options='--edition --timeout --remove --json --help' operands='files' ;;
+    list) options='--edition --timeout --preset --lines --words --names --json --help' operands='files' ;;
+    check) options='--edition --quiet --json --help' operands='files' ;;
+    diff) options='--edition --timeout --names --quiet --json --help' operands='files' ;;
+    append) options='--empty --edition --timeout --in-place -o --force --new --at-most --book --preset --from --dry-run --quiet --json --help' operands='files' ;;
+    remove) options='--edition --timeout --in-place -o --force --dry-run --quiet --json --help' operands='files' ;;
+    replace) options='--empty --edition --timeout --in-place -o --force --book --preset --dry-run --quiet --json --help' operands='files' ;;
+    move) options='--edition --timeout --in-place -o --force --dry-run --quiet --json --help' operands='files' ;;
+    convert) options='--edition --timeout --in-place -o --force --at-most --dry-run --quiet --json --help' operands='files' ;;
+    name) options='--edition --timeout --remove --dry-run --quiet --json --help' operands='files' ;;
     report) options='--edition --timeout -o --force --date --names --json --help' operands='files' ;;
     completions) options='--json --help' operands='bash zsh fish' ;;
     man) options='--markdown --json --help' operands='' ;;
@@ -48,6 +49,7 @@ _winnathey() {
     --locked) COMPREPLY=(); return ;;
     --svg) COMPREPLY=($(compgen -f -- "$word")); return ;;
     --limit) COMPREPLY=(); return ;;
+    --from) COMPREPLY=($(compgen -f -- "$word")); return ;;
     --date) COMPREPLY=(); return ;;
     esac
     if [[ $word == -* ]]; then

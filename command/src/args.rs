@@ -1,6 +1,6 @@
 //! The arguments of a subcommand, taken apart by the table.
 use crate::failure::Failure;
-use crate::library::{self, Edition, Kind, Rig};
+use crate::library::Edition;
 use crate::table::{Opt, Subcommand};
 use crate::typed::{Set, TypedRig, Window, Word};
 use crate::{books, files, numbers, suggest, text};
@@ -74,8 +74,10 @@ impl Args {
         if self.flag("--empty") && !self.operands.iter().any(|operand| operand.text == "-") {
             return Err(self.usage("--empty is for a word from standard input: -"));
         }
-        if self.flag("--lines") && self.flag("--names") {
-            return Err(self.usage("either --lines, which has no names, or --names"));
+        if let Some(option) =
+            ["--lines", "--words"].into_iter().find(|option| self.flag(option) && self.flag("--names"))
+        {
+            return Err(self.usage(format!("either {option}, which has no names, or --names")));
         }
         Ok(())
     }
@@ -83,8 +85,9 @@ impl Args {
     /// Each - among the operands, and a book of `--book` once for each of its presets.
     fn reads_of_standard_input(&self) -> usize {
         let operands = self.operands.iter().filter(|operand| operand.text == "-").count();
+        let lines = self.values("--from").into_iter().filter(|from| *from == "-").count();
         let book = self.option("--book").is_some_and(|book| book == "-");
-        operands + if book { self.values("--preset").len().max(1) } else { 0 }
+        operands + lines + if book { self.values("--preset").len().max(1) } else { 0 }
     }
 
     fn operand(&mut self, text: OsString, behind: &mut Option<String>) {
@@ -170,7 +173,16 @@ impl Args {
 
     /// The edition of the book, which the caller has to name.
     pub fn edition(&self, book: &Path) -> Result<Edition, Failure> {
-        let Some(value) = self.option("--edition") else {
+        self.edition_of(self.option("--edition"), book)
+    }
+
+    /// The edition of a second book: the second `--edition`, or the only one.
+    pub fn second_edition(&self, book: &Path) -> Result<Edition, Failure> {
+        self.edition_of(self.values("--edition").last().copied(), book)
+    }
+
+    fn edition_of(&self, named: Option<&OsString>, book: &Path) -> Result<Edition, Failure> {
+        let Some(value) = named else {
             let reads = books::reads_as(book);
             return Err(
                 self.usage(format!("name the edition that the book was written in: --edition first|second{reads}"))
@@ -228,26 +240,13 @@ impl Args {
     /// A rig: `D5`, `D 5`, or by the kind's number `3 5`.
     pub fn rig(&mut self) -> Result<TypedRig, Failure> {
         let typed = self.next("RIG (a kind and a rank, as D5)")?.to_string_lossy().into_owned();
-        let digits = typed.trim_start_matches(|character: char| character.is_ascii_alphabetic());
-        let (kind, joined) = typed.split_at(typed.len() - digits.len());
+        let (kind, joined) = TypedRig::split(&typed);
         let (kind, rank) = if kind.is_empty() || joined.is_empty() {
             (typed.clone(), self.next("rank (a rig is a kind and a rank, as D5)")?.to_string_lossy().into_owned())
         } else {
             (kind.to_string(), joined.to_string())
         };
-        let Some(rank) = numbers::integer(&rank) else {
-            return Err(self.usage(format!("the rank needs a number, not '{}'", text::plain(&rank))));
-        };
-        let number = match &*kind {
-            "A" | "a" => Kind::A,
-            "B" | "b" => Kind::B,
-            "D" | "d" => Kind::D,
-            // No kind: the library refuses it.
-            other => library::kind(numbers::integer(other).map_or(0, |number| number.clamp(0, 255) as u8)),
-        };
-        // Beyond 0 to 255 there is no rank, as there is none at either end.
-        let rig = Rig { kind: number, rank: rank.clamp(0, 255) as u8 };
-        Ok(TypedRig { rig, kind, rank, edition: None })
+        TypedRig::of(kind, &rank).map_err(|problem| self.usage(problem))
     }
 
     /// All operands that are left, which must stand together, as one word or window.
@@ -296,11 +295,7 @@ impl Args {
             read
         } else {
             let parts: Vec<_> = parts.iter().map(|part| part.to_string_lossy()).collect();
-            let text = parts.join(" ");
-            let text = text.strip_prefix('\u{feff}').unwrap_or(&text).trim();
-            let inner = text.strip_prefix('[').and_then(|text| text.strip_suffix(']'));
-            let numbers = numbers::typed(inner.unwrap_or(text)).map_err(|problem| self.usage(problem))?;
-            (numbers, inner.is_some())
+            numbers::word_or_window(&parts.join(" ")).map_err(|problem| self.usage(problem))?
         };
         Ok(if brackets {
             Numbers::Window(Window::of(typed, "the window"))

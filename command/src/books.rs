@@ -50,13 +50,18 @@ pub fn reads_as(path: &Path) -> &'static str {
     }
 }
 
+/// A file that is read, or standard input, to be shown and for JSON.
+pub fn source(path: &Path) -> (String, Value) {
+    if files::is_standard(path) {
+        (STANDARD_INPUT.to_string(), STANDARD_INPUT.into())
+    } else {
+        (text::file(path), json::file(path))
+    }
+}
+
 impl Book {
     pub fn new(edition: Edition, bytes: Vec<u8>, path: &Path) -> Book {
-        let (file, named) = if path == Path::new("-") {
-            (STANDARD_INPUT.to_string(), STANDARD_INPUT.into())
-        } else {
-            (text::file(path), json::file(path))
-        };
+        let (file, named) = source(path);
         Book { edition, bytes, file, named }
     }
 
@@ -134,6 +139,14 @@ impl Book {
             8 => self.letter(number, rank),
             _ => None,
         }
+    }
+
+    /// The bytes of a record, which need not be right.
+    pub fn record_bytes(&self, number: usize) -> Option<&[u8]> {
+        let count = self.count().ok()?;
+        let end =
+            if number + 1 < count { self.start(number + 1)? } else { self.bytes.len().checked_sub(2 + 2 * count)? };
+        self.bytes.get(self.start(number)?..end)
     }
 
     /// Where a record begins: the offsets stand before the count at the end.

@@ -1,9 +1,11 @@
-//! Books that are changed: where the old one is read, where the new one goes, and what is said about it.
+//! Books that are changed: where the old one is read and where the new one goes.
+use crate::acknowledged::acknowledged;
 use crate::args::Args;
-use crate::books::{self, Book};
+use crate::books::Book;
+use crate::dry_run::Measured;
 use crate::failure::Failure;
 use crate::files::{self, Locked, Ready, Sort};
-use crate::json::{self, Value, list};
+use crate::json::Value;
 use crate::library::{self, Edition, MAX_BOOK};
 use crate::names::{self, Names};
 use crate::out::Out;
@@ -11,7 +13,7 @@ use crate::parked::{self, Parked, Renumbering};
 use crate::table::Verdict;
 use crate::{system, text};
 use std::fs;
-use std::io::{ErrorKind, Write};
+use std::io::ErrorKind;
 use std::path::{Path, PathBuf};
 
 /// Where the new book goes.
@@ -26,6 +28,7 @@ pub struct Edit {
     to: To,
     edition: Edition,
     force: bool,
+    dry_run: bool,
     /// The most bytes of the new book.
     pub room: usize,
     /// Whether it can start a book.
@@ -64,12 +67,14 @@ impl Edit {
             (Some(to), false, false) => To::Output(to),
             _ => return Err(args.usage("either -o or --in-place or --new")),
         };
-        if args.flag("--json") && matches!(&to, To::Output(to) if files::is_standard(to)) {
-            return Err(args.usage("-o - and --json both want standard output"));
+        let wants_output = ["--json", "--dry-run"].into_iter().find(|option| args.flag(option));
+        if let Some(option) = wants_output.filter(|_| matches!(&to, To::Output(to) if files::is_standard(to))) {
+            return Err(args.usage(format!("-o - and {option} both want standard output")));
         }
         let room = args.count("--at-most")?.unwrap_or(MAX_BOOK).min(MAX_BOOK);
         let edition = args.edition(&from)?;
-        Ok(Edit { from, to, edition, force: args.flag("--force"), room, starts: args.subcommand.has("--new") })
+        let (force, dry_run) = (args.flag("--force"), args.flag("--dry-run"));
+        Ok(Edit { from, to, edition, force, dry_run, room, starts: args.subcommand.has("--new") })
     }
 
     pub fn edition(&self) -> Edition {
@@ -84,32 +89,44 @@ impl Edit {
         out: &mut Out,
     ) -> Result<Verdict, Failure> {
         let open = |bytes| Book::new(self.edition, bytes, &self.from);
-        let (change, file) = match &self.to {
+        let (change, old, file) = match &self.to {
             To::InPlace => {
-                let mut locked = Locked::open(&self.from).map_err(|failure| self.missing(failure))?;
-                self.settled(&locked, out)?;
+                let opened = if self.dry_run { Locked::look(&self.from) } else { Locked::open(&self.from) };
+                let mut locked = opened.map_err(|failure| self.missing(failure))?;
+                let is_settled = self.settled(&locked, out)?;
                 let book = open(std::mem::take(&mut locked.bytes));
-                let change = self.changed(&book, change, out)?;
+                let (change, old) = self.changed(&book, change, out)?;
                 locked.bytes = book.bytes;
-                self.replaced(locked, &change, out)?;
-                (change, Some(&self.from))
+                if is_settled {
+                    self.replaced(locked, &change, out)?;
+                }
+                (change, old, Some(&self.from))
             }
             To::New => {
                 files::may_create(&self.from)?;
-                let change = self.changed(&open(Vec::new()), change, out)?;
-                files::place_new(&self.from, &change.bytes)?;
+                let (change, old) = self.changed(&open(Vec::new()), change, out)?;
+                if self.dry_run {
+                    files::may_place_new(&self.from)?;
+                } else {
+                    files::place_new(&self.from, &change.bytes)?;
+                }
                 self.warn_of_names(out);
-                (change, Some(&self.from))
+                (change, old, Some(&self.from))
             }
             To::Output(to) => {
                 files::may_write(to, Sort::Book, self.force)?;
-                let change = self.changed(&open(files::read_book(&self.from)?), change, out)?;
-                files::write(to, &change.bytes, Sort::Book, self.force, out)?;
-                (change, (!files::is_standard(to)).then_some(to))
+                let (change, old) = self.changed(&open(files::read_book(&self.from)?), change, out)?;
+                if self.dry_run {
+                    files::could_write(to, Sort::Book, self.force)?;
+                } else {
+                    files::write(to, &change.bytes, Sort::Book, self.force, out)?;
+                }
+                (change, old, (!files::is_standard(to)).then_some(to))
             }
         };
         if let Some(file) = file {
-            acknowledged(subcommand, file, &change, out).map_err(|failure| failure.unsaid(file))?;
+            let said = acknowledged(subcommand, file, &change, old.as_ref(), out);
+            said.map_err(|failure| if self.dry_run { failure } else { failure.unsaid(file) })?;
         }
         Ok(Verdict::Answer)
     }
@@ -131,26 +148,41 @@ impl Edit {
         }
     }
 
-    /// A book that only the other edition reads is left alone: what would be written fits neither.
+    /// The change and, for a dry run, the book before. A book that only the other edition reads is left alone: what
+    /// would be written fits neither.
     fn changed(
         &self,
         book: &Book,
         change: impl FnOnce(&Book) -> Result<Change, Failure>,
         out: &mut Out,
-    ) -> Result<Change, Failure> {
+    ) -> Result<(Change, Option<Measured>), Failure> {
         book.warn(out);
         if let (Ok(_), Some(hint)) = (book.count(), book.hint()) {
             return Err(Failure::Unwilling(format!("{}: {hint}; nothing is written", book.file)));
         }
-        change(book)
+        let change = change(book)?;
+        let old = if self.dry_run { Some(Measured::book(&book.bytes, book.count()?)) } else { None };
+        Ok((change, old))
     }
 
-    /// Names that a change left that was cut off fit again, before anything is changed.
-    fn settled(&self, locked: &Locked, out: &mut Out) -> Result<(), Failure> {
-        if let Some(told) = parked::settle(&self.from, &locked.bytes)? {
+    /// Names that a change left that was cut off fit again, before anything is changed. False if a dry run leaves them:
+    /// what becomes of them then is not known yet.
+    fn settled(&self, locked: &Locked, out: &mut Out) -> Result<bool, Failure> {
+        if self.dry_run && parked::waiting(&self.from, &locked.bytes).is_some() {
+            let aside = text::file(&names::aside(&self.from));
+            out.warn(format!("a change was cut off: the next one puts the names in '{aside}' back first"));
+            return Ok(false);
+        }
+        if !self.dry_run
+            && let Some(told) = parked::settle(&self.from, &locked.bytes)?
+        {
             out.warn(told);
         }
-        Ok(())
+        Ok(true)
+    }
+
+    fn put(&self, locked: Locked, bytes: &[u8]) -> Result<(), Failure> {
+        if self.dry_run { Ok(()) } else { locked.replace(bytes) }
     }
 
     /// Names of presets that the book does not have go, or a preset that comes would have them.
@@ -165,15 +197,21 @@ impl Edit {
         });
         let count = library::book_check(self.edition, &locked.bytes)?;
         let past = names.and_then(|(names, old)| names.past_the_end(count).map(|past| (names, old, past)));
-        let Some((names, old, past)) = past else { return locked.replace(&change.bytes) };
+        let Some((names, old, past)) = past else { return self.put(locked, &change.bytes) };
         let kept = names.renumbered(|number| (number < count).then_some(number)).written();
         let file = text::file(&beside);
-        let ready = Ready::beside(&beside, &kept).map_err(|failure| {
+        let has_to = |failure: Failure| {
             let told = failure.in_a_line();
             Failure::Unwilling(format!(
                 "'{file}' names {past}, which the book does not have, and has to drop that: {told}"
             ))
-        })?;
+        };
+        if self.dry_run {
+            Ready::may_be_beside(&beside).map_err(has_to)?;
+            out.warn(format!("'{file}' would drop {past}, which the book does not have"));
+            return Ok(());
+        }
+        let ready = Ready::beside(&beside, &kept).map_err(has_to)?;
         // They fit the old book as well as the new one.
         let new = locked.replace_around(&change.bytes, || ready.replace(&old), || ())?;
         out.warn(format!("'{file}' drops {past}, which the book did not have"));
@@ -195,7 +233,15 @@ impl Edit {
             let told = failure.in_a_line();
             Failure::Unwilling(format!("the presets' numbers change, and their names cannot be read: {told}"))
         })?;
-        let Some((names, old)) = read else { return locked.replace(&change.bytes) };
+        let Some((names, old)) = read else { return self.put(locked, &change.bytes) };
+        if self.dry_run {
+            Ready::may_be_beside(beside)?;
+            let past = names.past_the_end(library::book_check(self.edition, &locked.bytes)?);
+            if let Some(past) = past {
+                out.warn(format!("'{}' would drop {past}, which the book does not have", text::file(beside)));
+            }
+            return Ok(());
+        }
         let before = locked.bytes.clone();
         let count = library::book_check(self.edition, &before)?;
         let parked = Parked::new(&before, &change.bytes, count, change.numbers, old.clone());
@@ -237,32 +283,4 @@ fn names_with_numbers(beside: &Path) -> Result<Option<(Names, Vec<u8>)>, Failure
     let bytes = names::bytes_beside(beside)?;
     let names = names::parsed_file(beside, &bytes)?;
     Ok(names.any_preset().then_some((names, bytes)))
-}
-
-/// Says what was written; only now is it acknowledged.
-fn acknowledged(subcommand: &'static str, file: &Path, change: &Change, out: &mut Out) -> Result<(), Failure> {
-    let presets = library::book_check(change.edition, &change.bytes)?;
-    let records = library::presets(change.edition, &change.bytes)?;
-    let refused: Vec<u64> =
-        (0..).zip(&records).filter(|(_, record)| record.is_err()).map(|(number, _)| number).collect();
-    if out.json {
-        let mut fields = vec![
-            ("file", json::file(file)),
-            ("edition", books::name(change.edition).into()),
-            ("presets", presets.into()),
-            ("bytes", change.bytes.len().into()),
-            ("refused_presets", list(&refused)),
-        ];
-        fields.extend(change.fields.clone());
-        out.answer(subcommand, fields)?;
-    } else {
-        let (count, bytes) = (text::counted(presets, "preset"), text::counted(change.bytes.len(), "byte"));
-        writeln!(out, "{}", change.told)?;
-        writeln!(out, "{}: {count}, {bytes}", text::file(file))?;
-        if !refused.is_empty() {
-            let name = if refused.len() == 1 { "preset" } else { "presets" };
-            writeln!(out, "refused in it: {name} {} (check says why)", text::spaced(&refused))?;
-        }
-    }
-    Ok(out.flush()?)
 }

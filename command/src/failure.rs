@@ -18,6 +18,8 @@ pub enum Failure {
     Usage(String, Option<&'static str>),
     /// A file, and what went wrong.
     File(PathBuf, io::Error),
+    /// A line of a file that was read, and what is wrong there.
+    Line(At, Box<Failure>),
     /// A stream or another program by its name, and what went wrong.
     Stream(&'static str, io::Error),
     /// Something that the command itself will not do, in a sentence.
@@ -48,6 +50,16 @@ pub struct Asked {
     pub subcommand: Option<&'static str>,
     pub for_json: bool,
     pub for_status: bool,
+}
+
+/// A line of a file, from 1.
+#[derive(Clone)]
+pub struct At {
+    /// The file, to be shown.
+    pub file: String,
+    /// The same for JSON.
+    pub named: Value,
+    pub line: usize,
 }
 
 impl Failure {
@@ -111,7 +123,7 @@ impl Failure {
             }
         }
         let label = Style::of(io::stderr().is_terminal()).red("winnathey");
-        // Where standard error fails too there is nobody left to tell.
+        // If standard error fails too there is nobody left to tell.
         let _ = write!(io::stderr(), "{}", self.to_string().replace("winnathey:", &format!("{label}:")));
         ExitCode::from(status)
     }
@@ -138,6 +150,10 @@ impl Failure {
             Failure::Stream(name, error) => {
                 fields.push(("file", (*name).into()));
                 fields.push(("error", error.to_string().into()));
+            }
+            Failure::Line(at, failure) => {
+                let of_line = [("file", at.named.clone()), ("line", at.line.into())];
+                fields = failure.fields(status).into_iter().chain(of_line).collect();
             }
             other => {
                 if let Failure::Written(file, _) = other {
@@ -191,6 +207,13 @@ impl fmt::Display for Failure {
             }
             Failure::File(path, error) => writeln!(f, "winnathey: '{}': {error}", text::file(path)),
             Failure::Stream(name, error) => writeln!(f, "winnathey: {name}: {error}"),
+            Failure::Line(at, failure) => {
+                let about = format!("{}, line {}: ", at.file, at.line);
+                match &**failure {
+                    Failure::Refused(refusal, culprit) => write_refusal(f, &about, *refusal, culprit),
+                    other => writeln!(f, "winnathey: {about}{}", other.in_a_line()),
+                }
+            }
             Failure::ClosedPipe => Ok(()),
             other => writeln!(f, "winnathey: {}", other.message()),
         }

@@ -213,6 +213,18 @@ pub fn append(edition: Edition, book: &[u8], rig: Rig, word: &[u8], room: usize)
     written(room, |out| winnathey::lent::append(edition, book, Preset { rig, word }.lent(), out))
 }
 
+/// A book with several presets more, or the place of the first that it does not take, from 0, and why.
+pub fn append_all(edition: Edition, book: &[u8], presets: &[Preset]) -> Result<Vec<u8>, (usize, Refusal)> {
+    let mut book = winnathey::Book::from_bytes(edition, book).map_err(|refusal| (0, refusal))?;
+    let mut all = Vec::with_capacity(presets.len());
+    for (place, Preset { rig, word }) in presets.iter().enumerate() {
+        let kind = winnathey::Kind::try_from(rig.kind.0).map_err(|_| (place, Refusal::Kind))?;
+        all.push(winnathey::Preset { kind, rank: rig.rank, word });
+    }
+    book.append_all(all).map_err(|refused| (refused.place, refused.refusal))?;
+    Ok(book.into_bytes())
+}
+
 /// A book in the other edition, in an output of so many bytes.
 pub fn convert(edition: Edition, book: &[u8], room: usize) -> Result<Vec<u8>, Refusal> {
     written(room, |out| winnathey::lent::convert(edition, book, out))

@@ -3,18 +3,22 @@
 //!
 //! Every answer is the library's; this program reads arguments and files and puts words around the answers. What goes
 //! wrong is told on standard error, with status 1, or 2 where the command was not understood.
+mod acknowledged;
 mod args;
 mod asked;
 mod books;
 mod completions;
 mod culprit;
+mod differences;
 mod drawing;
+mod dry_run;
 mod edit;
 mod failure;
 mod files;
 mod help;
 mod json;
 mod library;
+mod lines;
 mod manual;
 mod names;
 mod numbers;
@@ -40,7 +44,7 @@ use std::ffi::OsString;
 use std::io::{self, Write};
 use std::process::ExitCode;
 use subcommands::SUBCOMMANDS;
-use table::Verdict;
+use table::{Subcommand, Verdict};
 
 fn main() -> ExitCode {
     system::handle_signals();
@@ -54,7 +58,8 @@ fn main() -> ExitCode {
         _ => None,
     };
     let subcommand = first.and_then(|name| subcommands::named(name).map(|found| found.name).or_else(|| itself(name)));
-    let asked = failure::Asked { subcommand, for_json: given("--json"), for_status: given("--status") };
+    let for_status = given("--status") || first.and_then(subcommands::named).is_some_and(Subcommand::tells_status);
+    let asked = failure::Asked { subcommand, for_json: given("--json"), for_status };
     let asked_for_status = asked.for_status;
     let mut out = Out::new(asked.for_json);
     let answered = if system::was_open(1) {
@@ -92,6 +97,7 @@ fn run(mut arguments: Vec<OsString>, out: &mut Out) -> Result<Verdict, Failure> 
             match Args::parse(subcommand, arguments)? {
                 Some(args) => {
                     out.paged &= subcommand.paged;
+                    out.quiet = args.flag("--quiet");
                     return (subcommand.run)(args, out);
                 }
                 None => help::write_one(subcommand, out)?,

@@ -17,14 +17,14 @@ shows long answers on a terminal, less if it is not set; an empty one turns that
 
 const STATUS: &str = "0 for an answer, 1 for a refusal or a file that cannot be read or written, 2 if the command was \
 not understood, 4 if a file is written but something failed behind that: the disk does not confirm it, or standard \
-output, which was to say so, failed. With --status, of same and fallback: 0 for yes, 1 for no, 2 if the command was not \
+output, which was to say so, failed. With --status, of same and fallback, and always of diff: 0 for yes, 1 for no, 2 if the command was not \
 understood, 3 for any other failure.";
 
 const JSON: &str = "With --json every subcommand prints one JSON object on one line. An answer has \"subcommand\", \
 \"ok\": true and its fields; words, windows and sets are lists of numbers, a rig is {\"kind\", \"rank\", \"lanes\"}. \
 A failure has \"subcommand\" (null if there is none such), \"ok\": false, \"status\" and one of \"refused\": {\"number\", \"meaning\", \"culprit\"}, \"presets\" \
 (a list of refused records, each with \"preset\" and \"refused\"), \"usage\", or \"error\" with \"file\" or, \
-with status 4, the file that is \"written\". \
+with status 4, the file that is \"written\"; \"file\" and \"line\" say where in a file of lines. \
 \"warnings\" stands there if there are any. A file's name is text, and one that is no UTF-8 is {\"name\", \"bytes\"}, \
 with its bytes in hexadecimal digits. The schema is docs/command.schema.json. Fields are added in later versions, and none is taken away.";
 

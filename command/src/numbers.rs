@@ -31,6 +31,13 @@ pub fn typed(text: &str) -> Result<Vec<i64>, String> {
     parts.map(|part| integer(part).ok_or_else(|| no_number(part))).collect()
 }
 
+/// The numbers of a word, or of a window in brackets; whether it is a window.
+pub fn word_or_window(text: &str) -> Result<(Vec<i64>, bool), String> {
+    let text = text.strip_prefix('\u{feff}').unwrap_or(text).trim();
+    let inner = text.strip_prefix('[').and_then(|text| text.strip_suffix(']'));
+    Ok((typed(inner.unwrap_or(text))?, inner.is_some()))
+}
+
 /// A number may be missing where a comma stands alone.
 const COMMA: &str = "a comma stands between two numbers: one is missing";
 

@@ -14,6 +14,8 @@ pub struct Out {
     pub paged: bool,
     /// The answer is one JSON object.
     pub json: bool,
+    /// Nothing is said of a success; warnings still are.
+    pub quiet: bool,
     pub style: Style,
     /// The columns that a line may take.
     pub width: usize,
@@ -30,22 +32,21 @@ impl Out {
         let told = env::var("COLUMNS").ok().and_then(|columns| columns.parse().ok());
         let width = told.or_else(|| system::terminal_columns().filter(|_| terminal)).unwrap_or(WIDTH).max(NARROW);
         let style = Style::of(terminal && !json);
-        Out { writer: None, pager: None, paged: terminal && !json, json, style, width, warnings: Vec::new() }
+        let paged = terminal && !json;
+        Out { writer: None, pager: None, paged, json, quiet: false, style, width, warnings: Vec::new() }
     }
 
     /// Something to know beside the answer: on standard error, or in the JSON object.
     pub fn warn(&mut self, warning: String) {
-        if self.json {
-            self.warnings.push(warning);
-            return;
-        }
-        let label = Style::of(io::stderr().is_terminal()).yellow("winnathey: warning:");
-        // Where standard error fails there is nobody to warn.
-        let _ = writeln!(io::stderr(), "{label} {warning}");
+        if self.json { self.warnings.push(warning) } else { warn_at_once(&warning) }
     }
 
     /// The answer as a JSON object of one line: the subcommand, that it is an answer, its fields, warnings if any.
     pub fn answer(&mut self, subcommand: &'static str, fields: Vec<(&'static str, Value)>) -> io::Result<()> {
+        if self.quiet {
+            std::mem::take(&mut self.warnings).iter().for_each(|warning| warn_at_once(warning));
+            return Ok(());
+        }
         let mut all = vec![("subcommand", subcommand.into()), ("ok", true.into())];
         all.extend(fields);
         all.extend(self.taken_warnings());
@@ -89,6 +90,12 @@ impl Out {
         }
         flushed
     }
+}
+
+fn warn_at_once(warning: &str) {
+    let label = Style::of(io::stderr().is_terminal()).yellow("winnathey: warning:");
+    // If standard error fails there is nobody to warn.
+    let _ = writeln!(io::stderr(), "{label} {warning}");
 }
 
 impl Write for Out {

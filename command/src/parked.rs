@@ -114,6 +114,14 @@ pub fn beside(book: &Path) -> Option<Parked> {
     is_file.then(|| names::bytes_of(&path).ok()).flatten().and_then(|bytes| Parked::parse(&bytes))
 }
 
+/// The names that `settle` would put back, of a change that was cut off.
+pub fn waiting(book: &Path, bytes: &[u8]) -> Option<Vec<u8>> {
+    let (names, _) = beside(book)?.fitting(bytes)?;
+    let path = names::beside(book);
+    let is_missing = fs::symlink_metadata(&path).is_err_and(|error| error.kind() == ErrorKind::NotFound);
+    (is_missing || names::bytes_beside(&path).is_ok_and(|now| now == names)).then_some(names)
+}
+
 /// Finishes a change of names that was cut off, or rolls it back, as the book tells, under its lock; says what was done.
 /// Names that fit no such book, or beside which others stand, are left.
 pub fn settle(book: &Path, bytes: &[u8]) -> Result<Option<String>, Failure> {

@@ -11,7 +11,9 @@ use std::ptr;
 use std::sync::atomic::{AtomicPtr, AtomicU8, Ordering};
 
 unsafe extern "C" {
+    fn access(path: *const c_char, mode: c_int) -> c_int;
     fn fcntl(fd: c_int, command: c_int, ...) -> c_int;
+    fn geteuid() -> c_uint;
     fn ioctl(fd: c_int, request: c_ulong, ...) -> c_int;
     fn flistxattr(fd: c_int, list: *mut c_char, size: usize) -> isize;
     fn fgetxattr(fd: c_int, name: *const c_char, value: *mut c_void, size: usize) -> isize;
@@ -26,6 +28,7 @@ unsafe extern "C" {
 }
 
 const F_GETFD: c_int = 1;
+const W_OK: c_int = 2;
 const TIOCGWINSZ: c_ulong = 0x5413;
 const AT_FDCWD: c_int = -100;
 const RENAME_NOREPLACE: c_uint = 1;
@@ -63,6 +66,19 @@ pub fn terminal_columns() -> Option<usize> {
     // SAFETY: TIOCGWINSZ writes four 16-bit numbers: rows, columns and two sizes in pixels.
     let answer = unsafe { ioctl(1, TIOCGWINSZ, size.as_mut_ptr()) };
     (answer == 0 && size[1] > 0).then_some(size[1].into())
+}
+
+/// The user whose rights the program has.
+pub fn user() -> u32 {
+    // SAFETY: the call takes nothing and cannot fail.
+    unsafe { geteuid() }
+}
+
+/// Whether this user may write a file, or make files in a folder.
+pub fn may_write(path: &Path) -> io::Result<()> {
+    let path = CString::new(path.as_os_str().as_bytes())?;
+    // SAFETY: a string with a zero at its end, which outlives the call.
+    done(unsafe { access(path.as_ptr(), W_OK) })
 }
 
 /// Renames a file to a name that no other has; one that exists stays. Not every file system can do it.

@@ -99,6 +99,11 @@ impl Subcommand {
         self.json.iter().copied().flatten()
     }
 
+    /// Whether its exit status tells the answer without `--status`, as that of diff(1) does.
+    pub fn tells_status(&self) -> bool {
+        self.name == "diff"
+    }
+
     pub fn has(&self, option: &str) -> bool {
         self.all_options().any(|listed| listed.name == option)
     }
@@ -186,7 +191,19 @@ pub const IN_PLACE: Opt = Opt::flag(
 );
 pub const FORCE: Opt = Opt::flag("--force", "lets -o replace an existing file, if that is of the same sort");
 pub const AT_MOST_BYTES: Opt = Opt::with("--at-most", "N", "the new book is refused (14) if it has more than N bytes");
-pub const NEW: Opt = Opt::flag("--new", "BOOK does not exist yet and is created with this preset");
+pub const NEW: Opt = Opt::flag("--new", "BOOK does not exist yet and is created");
+pub const FROM_LINES: Opt = Opt::file(
+    "--from",
+    "FILE",
+    "takes the presets out of a file with one a line, as list --words prints them; - for standard input",
+);
+pub const DRY_RUN: Opt = Opt::flag(
+    "--dry-run",
+    "makes every check, says what would be written and writes nothing; what only writing shows, as a full disk, it does \
+     not tell",
+);
+pub const QUIET: Opt =
+    Opt::flag("--quiet", "prints nothing on success; errors and warnings still go to standard error");
 
 pub const REMOVE: Opt = Opt::flag("--remove", "takes the name away");
 
@@ -204,6 +221,8 @@ pub const SVG: Opt = Opt::file("--svg", "FILE", "a picture (SVG) of the table in
 
 pub const LIMIT: Opt = Opt::with("--limit", "N", "N words at most, 20 if not given");
 pub const COUNT: Opt = Opt::flag("--count", "how many words there are, and none of them");
+pub const LINES_OF_WORDS: Opt =
+    Opt::flag("--words", "one preset a line, rig and stored word, as append --from takes it back, and nothing else");
 pub const LINES: Opt = Opt::flag("--lines", "the lines of the listing program, one a preset, and nothing else");
 pub const ONE_PRESET: Opt = Opt::with("--preset", "N", "that preset alone, refused (4) if the book has none such");
 pub const OUTPUT_REPORT: Opt = Opt::file("-o", "FILE", "where the sheet goes (HTML), - for standard output");
@@ -223,11 +242,14 @@ pub const READ: Fields = &[
 pub const FORM: Fields = &[("normal_form", "the letters of the normal form")];
 pub const SHOWS: Fields = &[("window", "the window: a number for each screen, negative if mirrored")];
 pub const WRITTEN: Fields = &[
-    ("file", "the file that was written"),
+    ("file", "the file that was written, or with --dry-run would be"),
     ("edition", "its edition, first or second"),
     ("presets", "how many presets it has"),
     ("bytes", "how many bytes"),
     ("refused_presets", "the numbers of its presets that are refused: check says why"),
+    ("dry_run", "true with --dry-run: nothing is written"),
+    ("sha256", "with --dry-run: the hash of the new book"),
+    ("old", "with --dry-run: presets, bytes and sha256 of the book before"),
 ];
 pub const ALLOWED_STEPS: Fields = &[("allowed", "the allowed steps")];
 pub const PICTURE: Fields = &[("file", "the file that was written, if a picture was asked for")];

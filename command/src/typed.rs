@@ -2,7 +2,7 @@
 use crate::json::{Value, list, object};
 use crate::library::{self, Edition, Kind, Preset, Refusal, Rig};
 use crate::names::Names;
-use crate::text;
+use crate::{numbers, text};
 
 /// A rig, and how it was typed.
 #[derive(Clone)]
@@ -81,6 +81,28 @@ impl Window {
 }
 
 impl TypedRig {
+    /// The letters in front and the rest: `D5` is D and 5.
+    pub fn split(typed: &str) -> (&str, &str) {
+        let digits = typed.trim_start_matches(|character: char| character.is_ascii_alphabetic());
+        typed.split_at(typed.len() - digits.len())
+    }
+
+    /// Kind and rank, or what is wrong with the rank. What is no kind the library refuses.
+    pub fn of(kind: String, rank: &str) -> Result<TypedRig, String> {
+        let Some(rank) = numbers::integer(rank) else {
+            return Err(format!("the rank needs a number, not '{}'", text::plain(rank)));
+        };
+        let number = match &*kind {
+            "A" | "a" => Kind::A,
+            "B" | "b" => Kind::B,
+            "D" | "d" => Kind::D,
+            other => library::kind(numbers::integer(other).map_or(0, |number| number.clamp(0, 255) as u8)),
+        };
+        // Beyond 0 to 255 there is no rank, as there is none at either end.
+        let rig = Rig { kind: number, rank: rank.clamp(0, 255) as u8 };
+        Ok(TypedRig { rig, kind, rank, edition: None })
+    }
+
     pub fn known(rig: Rig) -> TypedRig {
         TypedRig { rig, kind: rig.kind.to_string(), rank: rig.rank.into(), edition: None }
     }

@@ -36,6 +36,12 @@ impl Carried {
         Carried::of(file).is_ok_and(|now| same(&now))
     }
 
+    /// Whether a new file could have the owner, as far as that shows without one.
+    pub fn may_be_given(&self, name: &Path) -> Result<(), Failure> {
+        let user = system::user();
+        if user == 0 || user == self.metadata.uid() { Ok(()) } else { Err(another_owner(name)) }
+    }
+
     /// Gives it to a new file that only its owner may read and write so far. The mode comes last: with an access list
     /// its bits for the group are what that list allows at most, and without one they would be the group's own.
     pub fn give(&self, new: &File, name: &Path) -> Result<(), Failure> {
@@ -43,9 +49,7 @@ impl Carried {
         let file = text::file(name);
         let now = new.metadata().map_err(failed)?;
         if (now.uid(), now.gid()) != (self.metadata.uid(), self.metadata.gid()) {
-            fchown(new, Some(self.metadata.uid()), Some(self.metadata.gid())).map_err(|_| {
-                Failure::Unwilling(format!("'{file}' is owned by another user, and ownership cannot be kept: use -o"))
-            })?;
+            fchown(new, Some(self.metadata.uid()), Some(self.metadata.gid())).map_err(|_| another_owner(name))?;
         }
         // A folder may give its files an access list that the old one does not have.
         if !self.attributes.iter().any(|(name, _)| name.as_bytes() == ACCESS_LIST.as_bytes()) {
@@ -66,6 +70,11 @@ impl Carried {
         }
         new.set_permissions(self.metadata.permissions()).map_err(failed)
     }
+}
+
+fn another_owner(name: &Path) -> Failure {
+    let file = text::file(name);
+    Failure::Unwilling(format!("'{file}' is owned by another user, and ownership cannot be kept: use -o"))
 }
 
 /// Whether the file has no such attribute, or its file system has none at all.

@@ -29,15 +29,29 @@ impl Locked {
     /// Waits for the lock and reads the file, of a long one the front. The lock is the file's own: whoever replaced it
     /// meanwhile has left the lock with the old file, and then the new one is locked.
     pub fn open(path: &Path) -> Result<Locked, Failure> {
+        Locked::with(path, Lock::Exclusive)
+    }
+
+    /// The same for a dry run: others may still read the file, and nothing in its folder changes.
+    pub fn look(path: &Path) -> Result<Locked, Failure> {
+        let locked = Locked::with(path, Lock::Shared)?;
+        system::may_write(text::folder(&locked.target)).map_err(|error| Failure::file(path, error))?;
+        locked.carried.may_be_given(path)?;
+        Ok(locked)
+    }
+
+    fn with(path: &Path, lock: Lock) -> Result<Locked, Failure> {
         let failed = |error| Failure::file(path, error);
         let target = fs::canonicalize(path).map_err(failed)?;
         let folder = folder_of(path, &target)?;
-        // A second name of the file may be among what a dead process left.
-        part::remove_stale(&target);
+        if lock == Lock::Exclusive {
+            // A second name of the file may be among what a dead process left.
+            part::remove_stale(&target);
+        }
         loop {
             may_replace(path, &fs::metadata(&target).map_err(failed)?)?;
             let mut file = OpenOptions::new().read(true).write(true).open(&target).map_err(failed)?;
-            wait::lock(&file, path, Lock::Exclusive)?;
+            wait::lock(&file, path, lock)?;
             let old = file.metadata().map_err(failed)?;
             if !fs::metadata(&target).is_ok_and(|now| is_one(&old, &now)) {
                 continue;
@@ -119,16 +133,20 @@ pub struct Ready {
 impl Ready {
     /// A link stays, and so does what its owner protected.
     pub fn beside(path: &Path, bytes: &[u8]) -> Result<Ready, Failure> {
-        let failed = |error| Failure::file(path, error);
-        let old = fs::symlink_metadata(path).map_err(failed)?;
+        Ready::may_be_beside(path)?;
+        Ready::like(path, bytes, path)
+    }
+
+    /// Whether there may be one.
+    pub fn may_be_beside(path: &Path) -> Result<(), Failure> {
+        let old = fs::symlink_metadata(path).map_err(|error| Failure::file(path, error))?;
         if old.is_symlink() {
             let name = text::file(path);
             return Err(Failure::Unwilling(format!(
                 "'{name}' is a link, which a new file would not be: put a file in its place, or use -o"
             )));
         }
-        may_replace(path, &old)?;
-        Ready::like(path, bytes, path)
+        may_replace(path, &old)
     }
 
     /// With what is carried over of another file.
@@ -205,7 +223,7 @@ fn is_one(first: &Metadata, second: &Metadata) -> bool {
     (first.dev(), first.ino()) == (second.dev(), second.ino())
 }
 
-/// Something read together with a file while nobody replaces it. Where a file cannot be locked it is read as it is; a
+/// Something read together with a file while nobody replaces it. If a file cannot be locked it is read as it is; a
 /// pipe can be opened only once.
 pub fn read_together<T>(path: &Path, mut read: impl FnMut() -> Result<T, Failure>) -> Result<T, Failure> {
     loop {
@@ -264,12 +282,22 @@ fn folder_of(name: &Path, target: &Path) -> Result<File, Failure> {
     })
 }
 
-/// Writes a file that must not exist yet: beside its name first, so that it is whole when it gets the name.
-pub fn place_new(path: &Path, bytes: &[u8]) -> Result<(), Failure> {
+/// Whether a file that does not exist could be written, as far as that shows without writing.
+pub fn may_place_new(path: &Path) -> Result<(), Failure> {
+    folder_for_new(path)?;
+    system::may_write(text::folder(path)).map_err(|error| Failure::file(path, error))
+}
+
+fn folder_for_new(path: &Path) -> Result<File, Failure> {
     if path.file_name().is_none() {
         return Err(Failure::file(path, io::Error::new(ErrorKind::InvalidInput, "this is no name for a file")));
     }
-    let folder = folder_of(path, path)?;
+    folder_of(path, path)
+}
+
+/// Writes a file that must not exist yet: beside its name first, so that it is whole when it gets the name.
+pub fn place_new(path: &Path, bytes: &[u8]) -> Result<(), Failure> {
+    let folder = folder_for_new(path)?;
     let placed = || -> io::Result<File> {
         // With the mode that a new file gets.
         let part = Part::beside(path, 0o666)?;

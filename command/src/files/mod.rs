@@ -5,7 +5,7 @@ mod part;
 mod sort;
 mod wait;
 
-pub use locked::{Locked, Ready, place_new, read_together, settled, take_away};
+pub use locked::{Locked, Ready, may_place_new, place_new, read_together, settled, take_away};
 pub use sort::Sort;
 pub use wait::at_most as wait_at_most;
 
@@ -86,6 +86,16 @@ pub fn may_write(path: &Path, sort: Sort, force: bool) -> Result<(), Failure> {
         )));
     }
     Ok(())
+}
+
+/// What `write` would check, without writing.
+pub fn could_write(path: &Path, sort: Sort, force: bool) -> Result<(), Failure> {
+    may_write(path, sort, force)?;
+    match fs::metadata(path) {
+        Err(_) => may_place_new(path),
+        Ok(old) if !old.is_file() => system::may_write(path).map_err(|error| Failure::file(path, error)),
+        Ok(_) => Locked::look(path).map(drop),
+    }
 }
 
 /// Writes a whole file, or standard output for `-`. A reader that goes away before it has all of it is a failure: what

@@ -14,10 +14,10 @@ pub const SUBCOMMAND: Subcommand = Subcommand {
     about: "whether a book and all its records are right",
     usages: &["BOOK --edition EDITION"],
     text: "Checks a book and each of its records. A refused book, or each refused record, is reported on standard error \
-           with the number and its meaning, and the exit status is then 1. Where the bytes are a right book of the \
+           with the number and its meaning, and the exit status is then 1. If the bytes are a right book of the \
            other edition too, or of that alone, the command says so.",
     operands: &[table::BOOK],
-    options: &[table::EDITION],
+    options: &[table::EDITION, table::QUIET],
     examples: &["winnathey check presets.book --edition first"],
     json: &[&[
         ("book", "the file of the book"),
@@ -54,7 +54,7 @@ fn run(mut args: Args, out: &mut Out) -> Result<Verdict, Failure> {
         out.answer("check", fields)?;
         return Ok(Verdict::Answer);
     }
-    if !out.json {
+    if !out.json && !out.quiet {
         let (count, bytes) = (text::counted(count, "preset"), text::counted(book.bytes.len(), "byte"));
         let verdict = match wrong {
             0 => "the book is right".to_string(),

@@ -26,6 +26,8 @@ pub const SUBCOMMAND: Subcommand = Subcommand {
         table::OUTPUT_BOOK,
         table::FORCE,
         table::AT_MOST_BYTES,
+        table::DRY_RUN,
+        table::QUIET,
     ],
     examples: &["winnathey convert presets.book --edition first -o second.book"],
     json: &[table::WRITTEN],

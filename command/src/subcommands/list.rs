@@ -19,15 +19,21 @@ pub const SUBCOMMAND: Subcommand = Subcommand {
     text: "Each preset with its number, its name if it has one, rig, stored word, normal form and what it shows. A \
            record that is refused is reported with its number and meaning; the exit status is 0 if the book could be \
            listed, refused records included.\n\nWith --lines, a line for each preset as the verified listing program \
-           prints it: number, kind, rank, length, normal form, what it shows, or '0 refused 8'.",
+           prints it: number, kind, rank, length, normal form, what it shows, or '0 refused 8'.\n\nWith --words, a \
+           line for each preset as append --from takes it: rig and stored word, 'D5 4 4 2 5'. A refused record is a \
+           comment there and reported on standard error, and the exit status is then 1: not all is exported.",
     operands: &[table::BOOK],
-    options: &[table::EDITION, table::TIMEOUT, table::ONE_PRESET, table::LINES, table::NAMES],
-    examples: &["winnathey list presets.book --edition first"],
+    options: &[table::EDITION, table::TIMEOUT, table::ONE_PRESET, table::LINES, table::LINES_OF_WORDS, table::NAMES],
+    examples: &[
+        "winnathey list presets.book --edition first",
+        "winnathey list presets.book --edition first --words >presets.txt",
+    ],
     json: &[&[
         ("book", "the file of the book"),
         ("edition", "first or second"),
         ("count", "how many presets it has"),
         ("presets", "of each: number, name if it has one, rig, word, normal_form, window, or refused"),
+        ("lines", "with --words, in place of presets: the lines"),
     ]],
     paged: true,
     run,
@@ -41,8 +47,11 @@ fn run(mut args: Args, out: &mut Out) -> Result<Verdict, Failure> {
     if out.json && args.flag("--lines") {
         return Err(args.usage("either --lines or --json"));
     }
-    // The listing program knows no names.
-    let (book, names) = if args.flag("--lines") {
+    if args.flag("--words") && args.flag("--lines") {
+        return Err(args.usage("either --words or --lines"));
+    }
+    // The listing program knows no names, and neither does a line of words.
+    let (book, names) = if args.flag("--lines") || args.flag("--words") {
         (Book::new(args.edition(path)?, files::read_book(path)?, path), Names::default())
     } else {
         asked::book(&args, path, out)?
@@ -55,6 +64,9 @@ fn run(mut args: Args, out: &mut Out) -> Result<Verdict, Failure> {
         return lines(&presets, number.is_some(), out);
     }
     book.warn_always(out);
+    if args.flag("--words") {
+        return words(&book, &presets, out);
+    }
     if out.json {
         return in_json(&book, &presets, &names, out);
     }
@@ -114,6 +126,35 @@ fn lines(presets: &[Read], alone: bool, out: &mut Out) -> Result<Verdict, Failur
     Ok(Verdict::Answer)
 }
 
+/// The lines that `append --from` takes. A refused record is a comment, and the end a failure that names it.
+fn words(book: &Book, presets: &[Read], out: &mut Out) -> Result<Verdict, Failure> {
+    let (mut lines, mut refused) = (Vec::new(), Vec::new());
+    for (number, preset) in presets {
+        match preset {
+            Ok(Preset { rig, word }) => lines.push(format!("{rig} {}", text::word(word))),
+            Err(refusal) => {
+                let culprit = book.record(*number, *refusal);
+                let told = culprit.as_ref().map_or(String::new(), |culprit| format!("; {culprit}"));
+                lines.push(format!("# preset {number}: {refusal}{told}"));
+                refused.push((*number, *refusal, culprit));
+            }
+        }
+    }
+    if out.json && refused.is_empty() {
+        out.answer("list", listed(book, ("lines", list(lines)))?)?;
+    } else if !out.json {
+        lines.iter().try_for_each(|line| writeln!(out, "{line}"))?;
+        out.flush()?;
+    }
+    if refused.is_empty() { Ok(Verdict::Answer) } else { Err(Failure::Presets(refused, None)) }
+}
+
+/// The fields of an answer.
+fn listed(book: &Book, presets: (&'static str, Value)) -> Result<Vec<(&'static str, Value)>, Failure> {
+    let (edition, count) = (books::name(book.edition), book.count()?);
+    Ok(vec![("book", book.named.clone()), ("edition", edition.into()), ("count", count.into()), presets])
+}
+
 fn in_json(book: &Book, presets: &[Read], names: &Names, out: &mut Out) -> Result<Verdict, Failure> {
     let mut values = Vec::new();
     for (number, preset) in presets {
@@ -131,12 +172,6 @@ fn in_json(book: &Book, presets: &[Read], names: &Names, out: &mut Out) -> Resul
         }
         values.push(Value::Object(fields));
     }
-    let fields = vec![
-        ("book", book.named.clone()),
-        ("edition", books::name(book.edition).into()),
-        ("count", book.count()?.into()),
-        ("presets", Value::List(values)),
-    ];
-    out.answer("list", fields)?;
+    out.answer("list", listed(book, ("presets", Value::List(values)))?)?;
     Ok(Verdict::Answer)
 }

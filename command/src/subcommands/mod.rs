@@ -6,6 +6,7 @@ mod completions;
 mod convert;
 mod delays;
 mod descents;
+mod diff;
 mod draw;
 mod fallback;
 mod inverse;
@@ -30,7 +31,7 @@ pub use show::{in_words, numbered};
 use crate::table::Subcommand;
 
 /// In the order of the help text: presets, then windows and words, then books, then the command itself.
-pub static SUBCOMMANDS: [Subcommand; 24] = [
+pub static SUBCOMMANDS: [Subcommand; 25] = [
     show::SUBCOMMAND,
     why::SUBCOMMAND,
     draw::SUBCOMMAND,
@@ -46,6 +47,7 @@ pub static SUBCOMMANDS: [Subcommand; 24] = [
     shortest::SUBCOMMAND,
     list::SUBCOMMAND,
     check::SUBCOMMAND,
+    diff::SUBCOMMAND,
     append::SUBCOMMAND,
     remove::SUBCOMMAND,
     replace::SUBCOMMAND,

@@ -20,7 +20,15 @@ pub const SUBCOMMAND: Subcommand = Subcommand {
     text: "Moves preset N to the number TO; those between move up or down by one, also in the names beside the book \
            with --in-place.\n\nAll presets stay as they are, also those that are refused or of kind A and rank 1.",
     operands: &[table::BOOK, table::NUMBER, TO],
-    options: &[table::EDITION, table::TIMEOUT, table::IN_PLACE, table::OUTPUT_BOOK, table::FORCE],
+    options: &[
+        table::EDITION,
+        table::TIMEOUT,
+        table::IN_PLACE,
+        table::OUTPUT_BOOK,
+        table::FORCE,
+        table::DRY_RUN,
+        table::QUIET,
+    ],
     examples: &["winnathey move presets.book 3 0 --edition first --in-place"],
     json: &[table::WRITTEN, &[("from", "the old number"), ("to", "the new number")]],
     paged: false,

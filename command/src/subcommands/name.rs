@@ -1,5 +1,6 @@
 //! `name`: the names beside a book, listed, set and removed.
 use crate::args::Args;
+use crate::dry_run::{Measured, NOTHING_WRITTEN};
 use crate::failure::Failure;
 use crate::files::{self, Locked, Ready};
 use crate::json::{self, Value, object, optional};
@@ -35,7 +36,7 @@ pub const SUBCOMMAND: Subcommand = Subcommand {
            changed under the book's lock, written beside their file and renamed, like a book; the book itself stays \
            as it is.",
     operands: &[table::BOOK, WHAT, NUMBER, NAME],
-    options: &[table::EDITION, table::TIMEOUT, table::REMOVE],
+    options: &[table::EDITION, table::TIMEOUT, table::REMOVE, table::DRY_RUN, table::QUIET],
     examples: &[
         "winnathey name presets.book screen 3 'left mirror' --edition first",
         "winnathey name presets.book --edition first",
@@ -47,6 +48,10 @@ pub const SUBCOMMAND: Subcommand = Subcommand {
         ("number", "its number"),
         ("name", "its name now, or null"),
         ("before", "its name before, or null"),
+        ("bytes", "with --dry-run: how many bytes the new file has"),
+        ("dry_run", "true with --dry-run: nothing is written"),
+        ("sha256", "with --dry-run: the hash of the new file"),
+        ("old", "with --dry-run: bytes and sha256 of the file before"),
     ]],
     paged: false,
     run,
@@ -60,6 +65,9 @@ fn run(mut args: Args, out: &mut Out) -> Result<Verdict, Failure> {
     }
     let removes = args.flag("--remove");
     if args.operands() == 0 && !removes {
+        if let Some(option) = ["--dry-run", "--quiet"].into_iter().find(|option| args.flag(option)) {
+            return Err(args.usage(format!("{option} is for a change: WHAT N NAME")));
+        }
         return listed(&args, path, out);
     }
     let what = args.next("WHAT (source, screen or preset)")?.to_string_lossy().into_owned();
@@ -102,8 +110,14 @@ fn changed(
     out: &mut Out,
 ) -> Result<Verdict, Failure> {
     let edition = args.edition(path)?;
-    let locked = Locked::open(path)?;
-    if let Some(told) = parked::settle(path, &locked.bytes)? {
+    let dry_run = args.flag("--dry-run");
+    let locked = if dry_run { Locked::look(path)? } else { Locked::open(path)? };
+    let waiting = if dry_run { parked::waiting(path, &locked.bytes) } else { None };
+    if waiting.is_some() {
+        let aside = text::file(&names::aside(path));
+        out.warn(format!("a change was cut off: the next one puts the names in '{aside}' back first"));
+    }
+    if !dry_run && let Some(told) = parked::settle(path, &locked.bytes)? {
         out.warn(told);
     }
     let count = library::book_check(edition, &locked.bytes)?;
@@ -114,7 +128,7 @@ fn changed(
     }
     let file = names::beside(path);
     let old = match names::bytes_beside(&file) {
-        Err(Failure::File(_, error)) if error.kind() == ErrorKind::NotFound => None,
+        Err(Failure::File(_, error)) if error.kind() == ErrorKind::NotFound => waiting.clone(),
         read => Some(read?),
     };
     let names = names::parsed_file(&file, old.as_deref().unwrap_or_default())?;
@@ -124,6 +138,8 @@ fn changed(
     }
     let bytes = names.with(keyword, number, name).written();
     match &old {
+        Some(_) if dry_run && waiting.is_none() => Ready::may_be_beside(&file)?,
+        _ if dry_run => files::may_place_new(&file)?,
         None => files::place_new(&file, &bytes)?,
         Some(old) => {
             Ready::beside(&file, &bytes)?.replace(old)?;
@@ -136,18 +152,29 @@ fn changed(
         (Some(name), Some(before)) => format!("{what} was '{before}' and is '{name}'"),
         (None, before) => format!("{what} was '{}' and has no name", before.as_deref().unwrap_or_default()),
     };
+    let measured = Measured::file(&bytes);
+    let old = Measured::file(old.as_deref().unwrap_or_default());
     let said = if out.json {
-        let fields = vec![
+        let mut fields = vec![
             ("file", json::file(&file)),
             ("what", keyword.word().into()),
             ("number", number.into()),
             ("name", optional(name)),
             ("before", optional(before.as_ref())),
         ];
+        if dry_run {
+            fields.push(("bytes", bytes.len().into()));
+            fields.extend(measured.fields(&old));
+        }
         out.answer("name", fields)
+    } else if out.quiet {
+        Ok(())
+    } else if dry_run {
+        writeln!(out, "{NOTHING_WRITTEN}\n{told}\n{}: {}\n  before: {}", text::file(&file), measured.told(), old.told())
     } else {
         writeln!(out, "{told}\n{}: written", text::file(&file))
     };
-    said.and_then(|()| out.flush()).map_err(|error| Failure::from(error).unsaid(&file))?;
+    let unsaid = |failure: Failure| if dry_run { failure } else { failure.unsaid(&file) };
+    said.and_then(|()| out.flush()).map_err(|error| unsaid(Failure::from(error)))?;
     Ok(Verdict::Answer)
 }

@@ -18,7 +18,15 @@ pub const SUBCOMMAND: Subcommand = Subcommand {
            --in-place.\n\nAll other presets stay as they are, also those that are refused or of kind A and rank 1. A \
            refused preset can be taken out too.",
     operands: &[table::BOOK, table::NUMBER],
-    options: &[table::EDITION, table::TIMEOUT, table::IN_PLACE, table::OUTPUT_BOOK, table::FORCE],
+    options: &[
+        table::EDITION,
+        table::TIMEOUT,
+        table::IN_PLACE,
+        table::OUTPUT_BOOK,
+        table::FORCE,
+        table::DRY_RUN,
+        table::QUIET,
+    ],
     examples: &["winnathey remove presets.book 2 --edition first --in-place"],
     json: &[table::WRITTEN, &[("removed", "the number of the preset that was taken out")]],
     paged: false,

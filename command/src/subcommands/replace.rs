@@ -31,6 +31,8 @@ pub const SUBCOMMAND: Subcommand = Subcommand {
         table::FORCE,
         table::FROM_BOOK.about("takes the preset out of this book, of the same edition, in place of RIG and WORD"),
         table::PRESET,
+        table::DRY_RUN,
+        table::QUIET,
     ],
     examples: &["winnathey replace presets.book 0 B2 2 1 2 1 --edition first --in-place"],
     json: &[table::WRITTEN, table::READ, &[("number", "the number of the preset that was replaced")]],
