@@ -11,7 +11,7 @@ fn main() {
     println!("cargo::rerun-if-env-changed=WINNATHEY_LIB");
     println!("cargo::rerun-if-changed={}", archive.display());
     println!("cargo::rerun-if-changed=src/sha256.rs");
-    // Where it is missing, the crate that links it says so.
+    // If it is missing, the crate that links it says so.
     let hash = fs::read(&archive).map_or("unknown".to_string(), |bytes| sha256::hex(&bytes));
     println!("cargo::rustc-env=WINNATHEY_ARCHIVE_SHA256={hash}");
 }

@@ -35,7 +35,7 @@ impl Given<'_> {
             10 => self.window(rig, refusal).and_then(|window| entry(rig.rig, window)),
             11 => self.window(rig, refusal).map(negatives),
             16 => self.set.map(|set| step(rig.rig, set)),
-            19 => self.set.map(|set| format!("{}; the windows may be had with other steps", set.told())),
+            19 => self.set.map(|set| format!("{}; other steps may lead there", set.told())),
             20 => Some(format!("{} has too many windows to count; {}", rig.rig, table_ranks(rig.rig.kind))),
             21 => {
                 Some("two-lane rigs of kind A are retired: such presets are read, and no longer appended".to_string())

@@ -75,7 +75,7 @@ impl Drop for Progress {
     }
 }
 
-/// Writes the line again and again. Where standard error fails the work goes on without it.
+/// Writes the line again and again. If standard error fails the work goes on without it.
 fn tell(steps: &Steps, stopped: &Receiver<()>) {
     let mut pause = QUIET;
     while stopped.recv_timeout(pause) == Err(RecvTimeoutError::Timeout) {

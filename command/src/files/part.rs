@@ -57,7 +57,7 @@ impl Part {
         Ok(self.file)
     }
 
-    /// Gets a name, unless another file has it. Where the file system has no such rename, a second name does it: cut
+    /// Gets a name, unless another file has it. If the file system has no such rename, a second name does it: cut
     /// off before the first is gone, the file has two until somebody writes in the folder.
     pub fn name(self, target: &Path) -> io::Result<File> {
         match system::rename_to_new(&self.unfinished.path, target) {

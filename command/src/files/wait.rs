@@ -45,7 +45,7 @@ pub fn lock(file: &File, path: &Path, lock: Lock) -> Result<(), Failure> {
         }
         if !told && start.elapsed() >= QUIET {
             told = true;
-            // Where standard error fails there is nobody to tell.
+            // If standard error fails there is nobody to tell.
             let _ = writeln!(
                 io::stderr(),
                 "winnathey: waiting for another program, which has locked '{name}' (--timeout SECONDS sets an end)"

@@ -21,7 +21,7 @@ pub const SUBCOMMAND: Subcommand = Subcommand {
     group: table::PRESETS,
     about: "whether a simpler preset can be reached by removing steps",
     usages: &["RIG PRESENT SIMPLER", "--book FILE --edition EDITION --preset N (--preset N | SIMPLER)"],
-    text: "Whether what the simpler preset shows can be had by removing steps from the present one's normal form, and \
+    text: "Whether what the simpler preset shows can be reached by removing steps from the present one's normal form, and \
            then which to keep. Several choices may serve; one is given. A no is an answer: the exit status is 0, \
            unless --status is given.",
     operands: &[table::RIG, WORDS],

@@ -225,7 +225,7 @@ impl Replay {
             self.word.drain(place..place + 2);
             return Ok(Some(Used { family, i, j, left: 2 }));
         }
-        // Where the length stays, the two sides differ in their first and in their last letter.
+        // If the length stays, the two sides differ in their first and in their last letter.
         let left = here.iter().zip(&new).rposition(|(old, new)| old != new).map_or(0, |last| last + 1);
         here.copy_from_slice(&new[..length]);
         Ok(Some(Used { family, i, j, left }))
