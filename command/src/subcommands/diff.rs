@@ -12,7 +12,7 @@ use crate::{asked, files, text, typed};
 use std::io::Write;
 use std::path::Path;
 
-const OTHER: Operand = Operand { name: "OTHER", about: "the other book's file", completes: Completes::File };
+const OTHER: Operand = Operand { name: "OTHER", about: "the other book's file, likewise", completes: Completes::File };
 
 pub const SUBCOMMAND: Subcommand = Subcommand {
     name: "diff",
@@ -23,7 +23,7 @@ pub const SUBCOMMAND: Subcommand = Subcommand {
            Another picture is told with the screens that differ; the same picture by another word, or on another rig, \
            is told apart from that and counts as the same. Presets that one book alone has, and refused records, count \
            as different; a record that is refused in both with the same bytes does not. Names are those of BOOK.\n\nThe \
-           exit status is as that of diff: 0 if the books show the same, 1 if not, 2 if the command was not \
+           exit status is like that of diff(1): 0 if the books show the same, 1 if not, 2 if the command was not \
            understood, 3 for any other failure.",
     operands: &[table::BOOK, OTHER],
     options: &[
@@ -34,7 +34,7 @@ pub const SUBCOMMAND: Subcommand = Subcommand {
     ],
     examples: &[
         "winnathey diff presets.book my.book --edition first",
-        "winnathey diff presets.book my.book --edition first --edition first",
+        "winnathey diff presets.book my.book --edition first --quiet && echo the same",
     ],
     json: &[&[
         ("first", "the first book: book, edition, count"),
