@@ -7,13 +7,14 @@
  *     w.normalFormOfWord('D', 5, [4, 4, 2, 5, 3, 5, 1, 2]);  // [5, 2, 3, 5, 1, 2]
  *     w.normalFormOfWord('d', 5, '4 4 2 5 3 5 1 2');         // the same
  *
- * Every function takes plain arrays, typed arrays or texts of numbers, and returns new arrays; nothing is kept between
+ * Every function takes plain arrays, typed arrays or texts of decimal numbers, and returns new arrays; nothing is kept between
  * calls. A call that the library refuses throws a `Refusal` with the refusal's number and message; `Refused` has the
  * numbers by name. What is no kind, byte, step or place at all never reaches the library: it throws a `TypeError` or a
  * `RangeError` that names the argument.
  *
  * Only this file knows that the library has a memory of its own and counts in 64 bits. Inputs are copied to it,
- * outputs from it. There is room for every answer, so that refusals 14 and 15, which concern short outputs, come from
+ * outputs from it: every input is read before anything is written there, so that a list may call the library while it
+ * is read. There is room for every answer, so that refusals 14 and 15, which concern short outputs, come from
  * `exports` alone. The memory does not grow: a rewriting that needs more is made in one that is given back.
  * @module winnathey
  */
@@ -25,7 +26,8 @@
  */
 
 /**
- * A word: up to 4,096 steps, each from 1 to the rank; as a text with blanks or commas between them, `'1 2 3'`.
+ * A word: up to 4,096 steps, each from 1 to the rank; as a text with blanks (spaces, tabs, line ends) or commas between
+ * them, `'1 2 3'`.
  * @typedef {ArrayLike<number>|string} Word
  */
 
@@ -154,9 +156,15 @@ export class Refusal extends Error {
 
 // ---- what is passed on
 
-/** What a value is, for a message. */
+/** What a value is, for a message: cut short, and without a word for one that cannot be made a text. */
 function shown(value) {
-    return typeof value === 'string' ? JSON.stringify(value) : String(value);
+    let text;
+    try {
+        text = typeof value === 'string' ? JSON.stringify(value.slice(0, 60)) : String(value);
+    } catch {
+        text = typeof value === 'function' ? 'a function' : 'an object';
+    }
+    return text.length > 60 ? `${text.slice(0, 56)} ..` : text;
 }
 
 /** An integer from `least` to `most`. */
@@ -191,11 +199,14 @@ function isFirst(edition) {
     return edition === 1;
 }
 
-/** The numbers of a text, with blanks between them, or commas, around which there may be blanks. */
+/**
+ * The numbers of a text, with blanks between them, or commas, around which there may be blanks. The blanks are these in
+ * every language, and no others that Unicode has.
+ */
 function numbersOf(name, text, least, most) {
-    if (text.trim() === '') return [];
+    if (/^[ \t\n\r]*$/.test(text)) return [];
     // Between two commas stands a number at least.
-    const parts = text.split(',').flatMap(part => (part.trim() === '' ? [''] : part.trim().split(/\s+/)));
+    const parts = text.split(',').flatMap(part => part.replace(/^[ \t\n\r]+|[ \t\n\r]+$/g, '').split(/[ \t\n\r]+/));
     return parts.map((part, i) => {
         const number = (least < 0 ? /^-?[0-9]+$/ : /^[0-9]+$/).test(part) ? Number(part) : NaN;
         if (number >= least && number <= most) return number;
@@ -228,11 +239,48 @@ function long(length) {
 
 /** How many elements of a list are looked at: no more than `most`, which the library refuses. */
 function lengthOf(name, list, most) {
-    if (Array.isArray(list)) return list.length < most ? list.length : most;
-    if (list === null || typeof list !== 'object' || !Number.isInteger(list.length) || list.length < 0) {
-        throw new TypeError(`${name} is not a list: ${shown(list)}`);
+    const length = list !== null && typeof list === 'object' ? list.length : undefined;
+    if (!Number.isInteger(length) || length < 0) throw new TypeError(`${name} is not a list: ${shown(list)}`);
+    return length < most ? length : most;
+}
+
+/**
+ * The bytes of a list, up to `most` of them, in one that nobody else has. Reading a list may run code of the caller's,
+ * which may call the library: so each is read whole before anything is written to the library's memory.
+ */
+function bytesOf(name, list, most) {
+    if (typeof list === 'string') list = numbersOf(name, list, 0, 255);
+    const length = lengthOf(name, list, most);
+    if (length > 64 && length < most && list instanceof Uint8Array && ArrayBuffer.isView(list)) return new Uint8Array(list);
+    const bytes = length > 64 ? new Uint8Array(length) : new Array(length);
+    for (let i = 0; i < length; i++) {
+        const byte = list[i];
+        if (typeof byte !== 'number' || (byte & 0xff) !== byte) integer(`${name}[${i}]`, byte, 0, 255);
+        bytes[i] = byte;
     }
-    return list.length < most ? list.length : most;
+    return bytes;
+}
+
+function wordOf(name, word) {
+    return bytesOf(name, word, MAX_WORD + 1);
+}
+
+function bookOf(book) {
+    if (typeof book === 'string') throw new TypeError(`book is not a list: ${shown(book)}`);
+    return bytesOf('book', book, MAX_BOOK + 1);
+}
+
+/** The entries of a window, read in the same way. */
+function windowOf(name, window) {
+    if (typeof window === 'string') window = numbersOf(name, window, -128, 127);
+    const length = lengthOf(name, window, MAX_LANES + 1);
+    const entries = new Array(length);
+    for (let i = 0; i < length; i++) {
+        const entry = window[i];
+        if (typeof entry !== 'number' || (entry << 24 >> 24) !== entry) integer(`${name}[${i}]`, entry, -128, 127);
+        entries[i] = entry;
+    }
+    return entries;
 }
 
 // ---- the library's memory
@@ -277,44 +325,19 @@ class Memory {
         this.u64 = new BigUint64Array(buffer);
     }
 
-    /** Puts up to `most` bytes somewhere, and returns how many there are. */
-    putBytes(at, name, list, most) {
-        if (typeof list === 'string') list = numbersOf(name, list, 0, 255);
-        const length = lengthOf(name, list, most);
+    /** Puts bytes or entries somewhere, and returns how many there are. */
+    put(at, elements) {
         const start = this.base + at;
-        const { u8 } = this;
-        if (length > 64 && list instanceof Uint8Array) {
-            u8.set(length === list.length ? list : list.subarray(0, length), start);
-            return length;
-        }
-        for (let i = 0; i < length; i++) {
-            const byte = list[i];
-            if (typeof byte !== 'number' || (byte & 0xff) !== byte) integer(`${name}[${i}]`, byte, 0, 255);
-            u8[start + i] = byte;
-        }
-        return length;
-    }
-
-    putWord(at, name, word) {
-        return long(this.putBytes(at, name, word, MAX_WORD + 1));
-    }
-
-    putWindow(at, name, window) {
-        if (typeof window === 'string') window = numbersOf(name, window, -128, 127);
-        const length = lengthOf(name, window, MAX_LANES + 1);
-        const start = this.base + at;
-        const { i8 } = this;
-        for (let i = 0; i < length; i++) {
-            const entry = window[i];
-            if (typeof entry !== 'number' || (entry << 24 >> 24) !== entry) integer(`${name}[${i}]`, entry, -128, 127);
-            i8[start + i] = entry;
-        }
+        const { u8 } = this.look();
+        const { length } = elements;
+        if (length > 64) u8.set(elements, start);
+        else for (let i = 0; i < length; i++) u8[start + i] = elements[i];
         return long(length);
     }
 
-    putBook(book) {
-        if (typeof book === 'string') throw new TypeError(`book is not a list: ${shown(book)}`);
-        return this.putBytes(BOOK, 'book', book, MAX_BOOK + 1);
+    /** Puts the first and the second of two inputs. */
+    putBoth(one, two) {
+        return [this.put(ONE, one), this.put(TWO, two)];
     }
 
     /** So many elements of a view from an index on, as an array. */
@@ -426,7 +449,7 @@ export class Winnathey {
      */
     windowOfWord(kind, rank, word) {
         const m = this.#memory.look();
-        const [k, r, length] = [kindNumber('kind', kind), rankNumber('rank', rank), m.putWord(ONE, 'word', word)];
+        const [k, r, length] = [kindNumber('kind', kind), rankNumber('rank', rank), m.put(ONE, wordOf('word', word))];
         const lanes = m.calls.winnathey_window_of_word(k, r, m.base + ONE, length, m.base + OUT, 64n);
         return m.entries(OUT, this.#answer(lanes));
     }
@@ -439,7 +462,7 @@ export class Winnathey {
      */
     normalFormOfWord(kind, rank, word) {
         const m = this.#memory.look();
-        const [k, r, length] = [kindNumber('kind', kind), rankNumber('rank', rank), m.putWord(ONE, 'word', word)];
+        const [k, r, length] = [kindNumber('kind', kind), rankNumber('rank', rank), m.put(ONE, wordOf('word', word))];
         const letters = m.calls.winnathey_normal_form_of_word(k, r, m.base + ONE, length, m.base + OUT, 4096n);
         return m.bytes(OUT, this.#answer(letters));
     }
@@ -452,7 +475,7 @@ export class Winnathey {
     productOfWords(kind, rank, first, second) {
         const m = this.#memory.look();
         const [k, r] = [kindNumber('kind', kind), rankNumber('rank', rank)];
-        const [one, two] = [m.putWord(ONE, 'first', first), m.putWord(TWO, 'second', second)];
+        const [one, two] = m.putBoth(wordOf('first', first), wordOf('second', second));
         const { base } = m;
         const letters = m.calls.winnathey_product_of_words(k, r, base + ONE, one, base + TWO, two, base + OUT, 4096n);
         return m.bytes(OUT, this.#answer(letters));
@@ -465,7 +488,7 @@ export class Winnathey {
      */
     inverseOfWord(kind, rank, word) {
         const m = this.#memory.look();
-        const [k, r, length] = [kindNumber('kind', kind), rankNumber('rank', rank), m.putWord(ONE, 'word', word)];
+        const [k, r, length] = [kindNumber('kind', kind), rankNumber('rank', rank), m.put(ONE, wordOf('word', word))];
         const letters = m.calls.winnathey_inverse_of_word(k, r, m.base + ONE, length, m.base + OUT, 4096n);
         return m.bytes(OUT, this.#answer(letters));
     }
@@ -477,7 +500,7 @@ export class Winnathey {
      */
     lengthOfWord(kind, rank, word) {
         const m = this.#memory.look();
-        const [k, r, length] = [kindNumber('kind', kind), rankNumber('rank', rank), m.putWord(ONE, 'word', word)];
+        const [k, r, length] = [kindNumber('kind', kind), rankNumber('rank', rank), m.put(ONE, wordOf('word', word))];
         return this.#answer(m.calls.winnathey_length_of_word(k, r, m.base + ONE, length));
     }
 
@@ -495,7 +518,7 @@ export class Winnathey {
      */
     crossingsOfWord(kind, rank, word) {
         const m = this.#memory.look();
-        const [k, r, length] = [kindNumber('kind', kind), rankNumber('rank', rank), m.putWord(ONE, 'word', word)];
+        const [k, r, length] = [kindNumber('kind', kind), rankNumber('rank', rank), m.put(ONE, wordOf('word', word))];
         return this.#crossings(m, m.calls.winnathey_crossings_of_word(k, r, m.base + ONE, length, m.base + COUNTS, 3n));
     }
 
@@ -508,8 +531,9 @@ export class Winnathey {
      */
     same(kind1, rank1, word1, kind2, rank2, word2) {
         const m = this.#memory.look();
-        const [k1, r1, one] = [kindNumber('kind1', kind1), rankNumber('rank1', rank1), m.putWord(ONE, 'word1', word1)];
-        const [k2, r2, two] = [kindNumber('kind2', kind2), rankNumber('rank2', rank2), m.putWord(TWO, 'word2', word2)];
+        const [k1, r1, letters1] = [kindNumber('kind1', kind1), rankNumber('rank1', rank1), wordOf('word1', word1)];
+        const [k2, r2, letters2] = [kindNumber('kind2', kind2), rankNumber('rank2', rank2), wordOf('word2', word2)];
+        const [one, two] = m.putBoth(letters1, letters2);
         return this.#answer(m.calls.winnathey_same(k1, r1, m.base + ONE, one, k2, r2, m.base + TWO, two)) === 1;
     }
 
@@ -522,7 +546,7 @@ export class Winnathey {
     better(kind, rank, first, second) {
         const m = this.#memory.look();
         const [k, r] = [kindNumber('kind', kind), rankNumber('rank', rank)];
-        const [one, two] = [m.putWord(ONE, 'first', first), m.putWord(TWO, 'second', second)];
+        const [one, two] = m.putBoth(wordOf('first', first), wordOf('second', second));
         const { winnathey_better, winnathey_same } = m.calls;
         const choice = this.#answer(winnathey_better(k, r, m.base + ONE, one, m.base + TWO, two));
         if (choice === 1) return m.bytes(ONE, Number(one));
@@ -541,7 +565,7 @@ export class Winnathey {
      */
     normalFormOfWindow(kind, rank, window) {
         const m = this.#memory.look();
-        const [k, r, lanes] = [kindNumber('kind', kind), rankNumber('rank', rank), m.putWindow(ONE, 'window', window)];
+        const [k, r, lanes] = [kindNumber('kind', kind), rankNumber('rank', rank), m.put(ONE, windowOf('window', window))];
         const letters = m.calls.winnathey_normal_form_of_window(k, r, m.base + ONE, lanes, m.base + OUT, 4096n);
         return m.bytes(OUT, this.#answer(letters));
     }
@@ -555,7 +579,7 @@ export class Winnathey {
     productOfWindows(kind, rank, first, second) {
         const m = this.#memory.look();
         const [k, r] = [kindNumber('kind', kind), rankNumber('rank', rank)];
-        const [one, two] = [m.putWindow(ONE, 'first', first), m.putWindow(TWO, 'second', second)];
+        const [one, two] = m.putBoth(windowOf('first', first), windowOf('second', second));
         const { base } = m;
         const lanes = m.calls.winnathey_product_of_windows(k, r, base + ONE, one, base + TWO, two, base + OUT, 64n);
         return m.entries(OUT, this.#answer(lanes));
@@ -568,7 +592,7 @@ export class Winnathey {
      */
     inverseOfWindow(kind, rank, window) {
         const m = this.#memory.look();
-        const [k, r, lanes] = [kindNumber('kind', kind), rankNumber('rank', rank), m.putWindow(ONE, 'window', window)];
+        const [k, r, lanes] = [kindNumber('kind', kind), rankNumber('rank', rank), m.put(ONE, windowOf('window', window))];
         const written = m.calls.winnathey_inverse_of_window(k, r, m.base + ONE, lanes, m.base + OUT, 64n);
         return m.entries(OUT, this.#answer(written));
     }
@@ -580,7 +604,7 @@ export class Winnathey {
      */
     lengthOfWindow(kind, rank, window) {
         const m = this.#memory.look();
-        const [k, r, lanes] = [kindNumber('kind', kind), rankNumber('rank', rank), m.putWindow(ONE, 'window', window)];
+        const [k, r, lanes] = [kindNumber('kind', kind), rankNumber('rank', rank), m.put(ONE, windowOf('window', window))];
         return this.#answer(m.calls.winnathey_length_of_window(k, r, m.base + ONE, lanes));
     }
 
@@ -591,7 +615,7 @@ export class Winnathey {
      */
     crossingsOfWindow(kind, rank, window) {
         const m = this.#memory.look();
-        const [k, r, lanes] = [kindNumber('kind', kind), rankNumber('rank', rank), m.putWindow(ONE, 'window', window)];
+        const [k, r, lanes] = [kindNumber('kind', kind), rankNumber('rank', rank), m.put(ONE, windowOf('window', window))];
         return this.#crossings(m, m.calls.winnathey_crossings_of_window(k, r, m.base + ONE, lanes, m.base + COUNTS, 3n));
     }
 
@@ -623,7 +647,7 @@ export class Winnathey {
      */
     rewrite(kind, rank, word, place) {
         const m = this.#memory.look();
-        const [k, r, length] = [kindNumber('kind', kind), rankNumber('rank', rank), m.putWord(ONE, 'word', word)];
+        const [k, r, length] = [kindNumber('kind', kind), rankNumber('rank', rank), m.put(ONE, wordOf('word', word))];
         const [at, { base }] = [placeNumber('place', place), m];
         const outputs = [base + OUT, 4096n, base + COUNTS, 3n];
         const letters = this.#answer(m.calls.winnathey_rewrite(k, r, base + ONE, length, at, ...outputs));
@@ -639,7 +663,7 @@ export class Winnathey {
      */
     rewriteSteps(kind, rank, word) {
         const m = this.#memory.look();
-        const [k, r, length] = [kindNumber('kind', kind), rankNumber('rank', rank), m.putWord(ONE, 'word', word)];
+        const [k, r, length] = [kindNumber('kind', kind), rankNumber('rank', rank), m.put(ONE, wordOf('word', word))];
         return this.#answer(m.calls.winnathey_rewrite_steps(k, r, m.base + ONE, length));
     }
 
@@ -649,12 +673,11 @@ export class Winnathey {
      * @returns {Rewriting}
      */
     rewriteToEnd(kind, rank, word) {
-        if (typeof word === 'string') word = numbersOf('word', word, 0, 255);
-        const count = this.rewriteSteps(kind, rank, word);
+        const [k, r, letters] = [kindNumber('kind', kind), rankNumber('rank', rank), wordOf('word', word)];
+        const count = this.rewriteSteps(k, r, letters);
         // The places, the lengths and the families, one list after the other.
         const m = this.#room(REST + 5 * count);
-        const [k, r, length] = [kindNumber('kind', kind), rankNumber('rank', rank), m.putWord(ONE, 'word', word)];
-        const { base } = m;
+        const [length, { base }] = [m.put(ONE, letters), m];
         const [places, lengths, families] = [base + REST, base + REST + 2 * count, base + REST + 4 * count];
         const lists = [families, places, lengths].flatMap(list => [list, BigInt(count)]);
         const outputs = [base + OUT, 4096n, base + LENGTHS, 1n];
@@ -678,7 +701,7 @@ export class Winnathey {
     fallback(kind, rank, present, simpler) {
         const m = this.#memory.look();
         const [k, r] = [kindNumber('kind', kind), rankNumber('rank', rank)];
-        const [one, two] = [m.putWord(ONE, 'present', present), m.putWord(TWO, 'simpler', simpler)];
+        const [one, two] = m.putBoth(wordOf('present', present), wordOf('simpler', simpler));
         const { base } = m;
         const kept = this.#answer(m.calls.winnathey_fallback(k, r, base + ONE, one, base + TWO, two, base + PLACES, 4096n));
         return kept === NO_FALLBACK ? null : Memory.taken(m.u16, (base + PLACES) >> 1, kept);
@@ -693,7 +716,7 @@ export class Winnathey {
     split(kind, rank, allowed, word) {
         const m = this.#memory.look();
         const [k, r, bits] = [kindNumber('kind', kind), rankNumber('rank', rank), stepBits(allowed)];
-        const [length, { base }] = [m.putWord(ONE, 'word', word), m];
+        const [length, { base }] = [m.put(ONE, wordOf('word', word)), m];
         const outputs = [base + OUT, 4096n, base + OUT_TWO, 4096n, base + LENGTHS, 2n];
         this.#answer(m.calls.winnathey_split(k, r, bits, base + ONE, length, ...outputs));
         return { first: m.bytes(OUT, m.number(LENGTHS, 0)), second: m.bytes(OUT_TWO, m.number(LENGTHS, 1)) };
@@ -708,7 +731,8 @@ export class Winnathey {
     between(kind, rank, allowed, from, to) {
         const m = this.#memory.look();
         const [k, r, bits] = [kindNumber('kind', kind), rankNumber('rank', rank), stepBits(allowed)];
-        const [one, two, { base }] = [m.putWindow(ONE, 'from', from), m.putWindow(TWO, 'to', to), m];
+        const [one, two] = m.putBoth(windowOf('from', from), windowOf('to', to));
+        const { base } = m;
         const letters = m.calls.winnathey_between(k, r, bits, base + ONE, one, base + TWO, two, base + OUT, 4096n);
         return m.bytes(OUT, this.#answer(letters));
     }
@@ -724,7 +748,7 @@ export class Winnathey {
         const m = this.#memory.look();
         const { winnathey_book_check, winnathey_second_book_check } = m.calls;
         const call = isFirst(edition) ? winnathey_book_check : winnathey_second_book_check;
-        return this.#answer(call(m.base + BOOK, BigInt(m.putBook(book))));
+        return this.#answer(call(m.base + BOOK, m.put(BOOK, bookOf(book))));
     }
 
     /**
@@ -736,8 +760,8 @@ export class Winnathey {
         const m = this.#memory.look();
         const { winnathey_preset, winnathey_second_preset } = m.calls;
         const call = isFirst(edition) ? winnathey_preset : winnathey_second_preset;
-        const [bytes, at] = [m.putBook(book), placeNumber('number', number)];
-        this.#answer(call(m.base + BOOK, BigInt(bytes), at, m.base + LENGTHS, 4n));
+        const [bytes, at] = [bookOf(book), placeNumber('number', number)];
+        this.#answer(call(m.base + BOOK, m.put(BOOK, bytes), at, m.base + LENGTHS, 4n));
         const [kind, rank, start, length] = [0, 1, 2, 3].map(index => m.number(LENGTHS, index));
         return { kind: KINDS[kind], rank, word: m.bytes(BOOK + start, length) };
     }
@@ -754,12 +778,13 @@ export class Winnathey {
         const call = isFirst(edition) ? winnathey_presets : winnathey_second_presets;
         const from = placeNumber('first', first);
         integer('most', most, 0, Number.MAX_SAFE_INTEGER);
-        const count = this.bookCheck(edition, book);
+        const bytes = bookOf(book);
+        const count = this.bookCheck(edition, bytes);
         const room = Math.min(most, Math.max(count - first, 0));
         if (room === 0 && first <= count) return [];
         // With room for one at least, so that it is the library that says 4.
         const fields = BigInt(PRESET_FIELDS * Math.max(room, 1));
-        const written = this.#answer(call(m.base + BOOK, BigInt(m.putBook(book)), from, m.base + REST, fields));
+        const written = this.#answer(call(m.base + BOOK, m.put(BOOK, bytes), from, m.base + REST, fields));
         const listed = new Array(written);
         for (let at = 0; at < written; at++) {
             const field = index => m.number(REST, PRESET_FIELDS * at + index);
@@ -780,9 +805,8 @@ export class Winnathey {
         const m = this.#memory.look();
         const { winnathey_append, winnathey_second_append } = m.calls;
         const call = isFirst(edition) ? winnathey_append : winnathey_second_append;
-        const bytes = BigInt(m.putBook(book));
-        const [k, r, length] = [kindNumber('kind', kind), rankNumber('rank', rank), m.putWord(ONE, 'word', word)];
-        const { base } = m;
+        const [given, k, r] = [bookOf(book), kindNumber('kind', kind), rankNumber('rank', rank)];
+        const [length, bytes, { base }] = [m.put(ONE, wordOf('word', word)), m.put(BOOK, given), m];
         const made = this.#answer(call(base + BOOK, bytes, k, r, base + ONE, length, base + NEW_BOOK, BigInt(MAX_BOOK)));
         return m.copy(NEW_BOOK, made);
     }
@@ -797,7 +821,7 @@ export class Winnathey {
         const m = this.#memory.look();
         const { winnathey_to_second, winnathey_to_first } = m.calls;
         const call = isFirst(edition) ? winnathey_to_second : winnathey_to_first;
-        const bytes = BigInt(m.putBook(book));
+        const bytes = m.put(BOOK, bookOf(book));
         return m.copy(NEW_BOOK, this.#answer(call(m.base + BOOK, bytes, m.base + NEW_BOOK, BigInt(MAX_BOOK))));
     }
 
@@ -806,8 +830,9 @@ export class Winnathey {
     /** The records of a book, and where each begins. */
     #records(edition, book) {
         const m = this.#memory;
-        const count = this.bookCheck(edition, book);
-        const bytes = m.copy(BOOK, Math.min(book.length, MAX_BOOK));
+        const given = bookOf(book);
+        const count = this.bookCheck(edition, given);
+        const bytes = m.copy(BOOK, given.length);
         const end = Math.max(bytes.length - OFFSET * (count + 1), 0);
         const starts = new Array(count);
         for (let at = 0; at < count; at++) starts[at] = bytes[end + OFFSET * at] | bytes[end + OFFSET * at + 1] << 8;
@@ -858,13 +883,13 @@ export class Winnathey {
         let place = 0;
         const [one, from] = [m.base + ONE, m.base + NEW_BOOK];
         for (const { kind, rank, word } of presets) {
-            const { u8 } = m.look();
             const k = kindNumber('kind', kind);
             const r = rankNumber('rank', rank);
-            const answer = Number(call(0, 0n, k, r, one, m.putWord(ONE, 'word', word), from, room));
+            const answer = Number(call(0, 0n, k, r, one, m.put(ONE, wordOf('word', word)), from, room));
             if (answer < 0) throw this.#refusal(-answer, place);
             const size = answer - TRAILER;
             if (to + size + OFFSET * (starts.length + 2) > MAX_BOOK) throw this.#refusal(Refused.BOOK_FULL, place);
+            const { u8 } = m;
             for (let i = 0; i < size; i++) made[to + i] = u8[from + i];
             starts.push(to);
             to += size;

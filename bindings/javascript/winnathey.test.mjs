@@ -122,6 +122,108 @@ test('letters of kinds in either case, words, windows and steps as texts', () =>
     assert.throws(() => w.bookCheck(1, '0 0'), { name: 'TypeError', message: 'book is not a list: "0 0"' });
 });
 
+test('texts are read as tests/texts has it, which holds every language to one rule', () => {
+    const long = Array.from({ length: 500 }, (_, i) => 1 + (i * 37) % 64);
+    const calls = {
+        word: ['first', word => w.better('B', 64, word, word)],
+        window: ['window', (window, lanes) => w.inverseOfWindow('B', lanes, window)],
+        steps: ['allowed', steps => w.split('B', 64, steps, long)],
+    };
+    const lines = readFileSync(new URL('tests/texts', root), 'utf8').split('\n').slice(0, -1);
+    const rows = lines.filter(line => !line.startsWith('#')).map(line => line.split(' | '));
+    assert.ok(rows.length > 50);
+    for (const [of, text, due] of rows) {
+        const [name, call] = calls[of];
+        if (due.startsWith('wrong ')) {
+            const said = error => error.name === 'RangeError' && error.message.startsWith(`${name}[${due.slice(6)}] is not `);
+            assert.throws(() => call(JSON.parse(text), 2), said, text);
+        } else {
+            const numbers = due.split(' ').filter(Boolean).map(Number);
+            assert.deepEqual(call(JSON.parse(text), numbers.length), call(numbers, numbers.length), text);
+        }
+    }
+    assert.deepEqual(w.better('A', 2, `${'0'.repeat(5000)}1`, '1'), [1]);
+    for (const digits of [`1${'0'.repeat(5000)}`, '9'.repeat(5000)]) {
+        assert.throws(() => w.windowOfWord('A', 2, digits), { name: 'RangeError', message: /^word\[0\] is not an integer from 0 to 255: "[0-9]+ \.\.$/ });
+    }
+});
+
+test('whatever stands for an argument, the error names the argument', () => {
+    const bare = Object.create(null);
+    const throwing = { toString() { throw new Error('no text'); } };
+    for (const value of [bare, throwing, Symbol('s'), 1n, null, undefined, true, () => 1, new Array(10000).fill(7)]) {
+        const errors = {
+            kind: () => w.windowOfWord(value, 2, []),
+            rank: () => w.windowOfWord('A', value, []),
+            'word[1]': () => w.windowOfWord('A', 2, [1, value]),
+            'window[0]': () => w.lengthOfWindow('A', 2, [value, 2, 3]),
+            place: () => w.rewrite('A', 2, [1], value),
+            number: () => w.preset(1, BOOK, value),
+            'an allowed step': () => w.split('A', 2, [value], []),
+        };
+        for (const [name, call] of Object.entries(errors)) {
+            assert.throws(call, error => error.name === 'TypeError' && error.message.startsWith(`${name} is not a number: `) && error.message.length < 120);
+        }
+        assert.throws(() => w.bookCheck(value, BOOK), error => error.name === 'RangeError' && error.message.startsWith('the edition is not 1 or 2: '));
+        if (Array.isArray(value)) continue;
+        assert.throws(() => w.windowOfWord('A', 2, value), error => error.name === 'TypeError' && error.message.startsWith('word is not a list: '));
+        assert.throws(() => w.bookCheck(1, value), error => error.name === 'TypeError' && error.message.startsWith('book is not a list: '));
+        assert.throws(() => w.split('A', 2, value, []), error => error.name === 'TypeError' && error.message.startsWith('the allowed steps are not a list: '));
+    }
+    assert.throws(() => w.windowOfWord(bare, 2, []), { message: 'kind is not a number: an object' });
+    for (const length of [1.5, NaN, -1, '2', undefined]) {
+        const list = new Proxy([1, 2], { get: (target, key) => (key === 'length' ? length : target[key]) });
+        assert.throws(() => w.windowOfWord('A', 2, list), { name: 'TypeError' });
+    }
+});
+
+test('a list may call the library while it is read', async () => {
+    const long = Array.from({ length: 1500 }, (_, i) => 1 + (i * 37) % 64);
+    const second = w.convert(1, BOOK);
+    const calls = [
+        (l, lent) => l.windowOfWord('D', 5, lent(D5)),
+        (l, lent) => l.productOfWords('D', 5, lent(D5), lent([1, 2, 5])),
+        (l, lent) => l.same('D', 5, lent(D5), 'D', 5, lent([5, 2, 3, 5, 1, 2])),
+        (l, lent) => l.better('D', 5, lent(D5), lent([5, 2, 3, 5, 1, 2])),
+        (l, lent) => l.productOfWindows('D', 5, lent([3, -5, 1, 4, -2]), lent([2, 1, 3, 5, 4])),
+        (l, lent) => l.between('D', 5, lent([1, 2, 3, 4, 5]), lent([1, 2, 3, 4, 5]), lent([3, -5, 1, 4, -2])),
+        (l, lent) => l.fallback('D', 5, lent(D5), lent([5, 2])),
+        (l, lent) => l.split('D', 5, lent([1, 2, 3]), lent(D5)),
+        (l, lent) => l.rewrite('D', 5, lent(D5), 0),
+        (l, lent) => l.rewriteToEnd('D', 5, lent(D5)),
+        (l, lent) => l.rewriteToEnd('D', 64, lent(long)),
+        (l, lent) => l.preset(1, lent(BOOK), 1),
+        (l, lent) => l.presets(2, lent(second)),
+        (l, lent) => l.append(1, lent(BOOK), 'D', 5, lent(D5)),
+        (l, lent) => l.appendAll(1, lent(BOOK), lent([{ kind: 'D', rank: 5, word: lent(D5) }, { kind: 'B', rank: 2, word: lent([1, 2]) }])),
+        (l, lent) => l.replace(1, lent(BOOK), 0, 'D', 5, lent(D5)),
+        (l, lent) => l.moveTo(2, lent(second), 0, 1),
+        (l, lent) => l.convert(1, lent(BOOK)),
+        (l, lent) => l.convert(1, lent(new Uint8Array(w.appendAll(1, BOOK, Array(50).fill({ kind: 'A', rank: 2, word: [1, 2, 1] }))))),
+    ];
+    // By hand, without the module, a long rewriting makes the memory grow.
+    const byHand = async () => new Winnathey((await WebAssembly.instantiate(readFileSync(wasm))).instance.exports);
+    for (const library of [w, await byHand()]) {
+        const others = l => {
+            l.productOfWords('B', 64, [64, 63, 62, 61, 60, 59, 58, 57], [9, 8, 7, 6, 5, 4, 3, 2, 1]);
+            l.append(2, SECOND, 'A', 9, [9, 9, 9, 9]);
+        };
+        for (const [at, call] of calls.entries()) {
+            let reads = 0;
+            const lent = list => new Proxy(list, {
+                get: (target, key) => {
+                    const value = Reflect.get(target, key);
+                    if (reads % 7 === 0 || key === 'length') others(library);
+                    if (reads++ % 500 === 0) library.rewriteToEnd('D', 64, long);
+                    return typeof value === 'function' ? value.bind(target) : value;
+                },
+            });
+            assert.deepEqual(call(library, lent), call(w, list => list), `call ${at}`);
+            assert.ok(reads > 1);
+        }
+    }
+});
+
 test('windows', () => {
     assert.deepEqual(w.normalFormOfWindow('D', 5, [3, -5, 1, 4, -2]), [5, 2, 3, 5, 1, 2]);
     assert.deepEqual(w.productOfWindows('A', 2, [2, 3, 1], [2, 3, 1]), [3, 1, 2]);

@@ -5,6 +5,7 @@ import ctypes
 import doctest
 import inspect
 import itertools
+import json
 import os
 import pickle
 import random
@@ -14,7 +15,8 @@ import unittest
 
 import winnathey as w
 
-HEADER = os.path.join(os.path.dirname(os.path.abspath(__file__)), "..", "..", "include", "winnathey.h")
+ROOT = os.path.join(os.path.dirname(os.path.abspath(__file__)), "..", "..")
+HEADER = os.path.join(ROOT, "include", "winnathey.h")
 TYPES = {
     "uint32_t": "u", "winnathey_size": "z", "uint64_t": "q", "uint8_t *": "b", "int8_t *": "i", "uint16_t *": "h", "uint64_t *": "Q",
 }
@@ -411,6 +413,65 @@ class Arguments(unittest.TestCase):
         for text in ("1 0", "1 65", "1 -2", "1 2-3"):
             with self.assertRaisesRegex(ValueError, "^the step at place 1 is .* and not 1 to 64$"):
                 w.split("A", 2, text, [])
+
+    def test_stored_texts(self):
+        """Texts are read as tests/texts has it, which holds every language to one rule."""
+        long = [1 + i * 37 % 64 for i in range(500)]
+        calls = {
+            "word": ("letter", lambda word, _: w.better("B", 64, word, word)),
+            "window": ("entry", lambda window, lanes: w.inverse_of_window("B", lanes, window)),
+            "steps": ("step", lambda steps, _: w.split("B", 64, steps, long)),
+        }
+        with open(os.path.join(ROOT, "tests", "texts"), encoding="utf-8") as file:
+            rows = [line.rstrip("\n").split(" | ") for line in file if not line.startswith("#")]
+        self.assertGreater(len(rows), 50)
+        for of, text, due in rows:
+            (element, call), text = calls[of], json.loads(text)
+            with self.subTest(of=of, text=text):
+                if due.startswith("wrong "):
+                    with self.assertRaisesRegex(ValueError, f"^the {element} at place {due[6:]} is .* and not "):
+                        call(text, 2)
+                else:
+                    numbers = [int(number) for number in due.split()]
+                    self.assertEqual(call(text, len(numbers)), call(numbers, len(numbers)))
+
+    def test_any_number_of_digits(self):
+        self.assertEqual(w.better("A", 2, "0" * 5000 + "1", ""), None)
+        for digits in ("1" + "0" * 5000, "9" * 5000):
+            with self.assertRaisesRegex(ValueError, "^the letter at place 0 is .{,60} and not 0 to 255$"):
+                w.window_of_word("A", 2, digits)
+
+    def test_integers_that_python_does_not_print(self):
+        huge = 10**5000
+        for call, named in (
+            (lambda: w.window_of_word(huge, 2, []), "the kind"),
+            (lambda: w.window_of_word("A", huge, []), "the rank"),
+            (lambda: w.window_of_word("A", -huge, []), "the rank"),
+            (lambda: w.window_of_word("A", 2, [1, huge]), "the letter at place 1"),
+            (lambda: w.length_of_window("A", 2, [1, -huge]), "the entry at place 1"),
+            (lambda: w.rewrite("A", 2, [1], huge), "the place"),
+            (lambda: w.split("A", 2, huge, []), "the set"),
+            (lambda: w.split("A", 2, [huge], []), "the step"),
+            (lambda: w.book_check(huge, FIRST), "the edition"),
+            (lambda: w.refusal_message(huge), "the refusal"),
+        ):
+            with self.assertRaisesRegex(ValueError, f"^{named} is an integer of 16610 bits and not "):
+                call()
+        with self.assertRaisesRegex(TypeError, "^the rank must be an integer, got .an integer of 16610 bits.$"):
+            w.window_of_word("A", [huge], [])
+
+    def test_arguments_by_their_names(self):
+        for call, named in (
+            (lambda: w.rewrite("A", 2, [1], -1), "place"),
+            (lambda: w.preset(1, FIRST, -1), "number"),
+            (lambda: w.presets(1, FIRST, -1), "argument first"),
+            (lambda: w.remove(1, FIRST, -1), "number"),
+            (lambda: w.replace(1, FIRST, -1, "A", 2, []), "number"),
+            (lambda: w.move_to(1, FIRST, -1, 0), "argument from_number"),
+            (lambda: w.move_to(1, FIRST, 0, -1), "argument to_number"),
+        ):
+            with self.assertRaisesRegex(ValueError, f"^the {named} is -1 and not 0 to 18446744073709551615$"):
+                call()
 
     def test_no_more_is_read_than_the_library_has_to_see(self):
         """Endless iterators are refused as lists are that are too long."""

@@ -18,7 +18,7 @@ Traceback (most recent call last):
 winnathey.Refusal: refused 8: A letter of the word is out of range: every letter must be at least 1 and at most the rank.
 
 Kinds are "A", "B" and "D", large or small, or 1, 2 and 3. Words and windows are lists of numbers, or texts of
-numbers with blanks or commas between them; a set of allowed steps is a list of steps, a text, or a number whose
+decimal numbers with blanks (spaces, tabs, line ends) or commas between them; a set of allowed steps is a list of steps, a text, or a number whose
 bit 0 stands for step 1. Books are bytes, or any other buffer, of the edition 1 or 2. What a function cannot hand
 to the library at all, such as a letter above 255, a bool or a float, is a ValueError or a TypeError that names it.
 
@@ -318,12 +318,22 @@ _KINDS = {letter: number for number, letters in ((1, "Aa"), (2, "Bb"), (3, "Dd")
 _INT = frozenset([int])
 
 
+class _Shown(reprlib.Repr):
+    """Values in messages, cut short. Python itself does not print an integer of more than 4,300 digits."""
+
+    def repr_int(self, x: int, level: int) -> str:
+        return super().repr_int(x, level) if x.bit_length() <= 64 else f"an integer of {x.bit_length()} bits"
+
+
+_shown = _Shown().repr
+
+
 def _kind(kind: Kind) -> int:
     if isinstance(kind, str):
         try:
             return _KINDS[kind]
         except KeyError:
-            raise ValueError(f"the kind is {kind!r} and not 'A', 'B' or 'D'") from None
+            raise ValueError(f"the kind is {_shown(kind)} and not 'A', 'B' or 'D'") from None
     return _number(kind, 2**32, "the kind")
 
 
@@ -334,13 +344,13 @@ def _whole(value: Any, what: str) -> int:
             return operator.index(value)
     except TypeError:
         pass
-    raise TypeError(f"{what} must be an integer, got {reprlib.repr(value)}")
+    raise TypeError(f"{what} must be an integer, got {_shown(value)}")
 
 
 def _number(value: Any, limit: int, what: str) -> int:
     value = _whole(value, what)
     if not 0 <= value < limit:
-        raise ValueError(f"{what} is {value} and not 0 to {limit - 1}")
+        raise ValueError(f"{what} is {_shown(value)} and not 0 to {limit - 1}")
     return int(value)
 
 
@@ -350,24 +360,31 @@ def _rank(rank: int) -> int:
     return _number(rank, 2**32, "the rank")
 
 
-def _place(place: int) -> int:
-    return _number(place, 2**64, "the place")
+def _place(value: int, name: str) -> int:
+    return _number(value, 2**64, name)
+
+
+# The blanks of a text are these in every language, and no others that Unicode has.
+_BLANKS = " \t\n\r"
+_WHOLE = re.compile("(-?)0*([0-9]+)")
 
 
 def _parts(text: str) -> List[str]:
     """The numbers of a text as texts: with blanks between them, or commas, around which there may be blanks. Between
     two commas stands a number at least."""
-    if not text.strip():
+    if not text.strip(_BLANKS):
         return []
-    return [number for part in text.split(",") for number in part.split() or [""]]
+    return [number for part in text.split(",") for number in re.split(f"[{_BLANKS}]+", part.strip(_BLANKS))]
 
 
 def _parsed(text: str, lowest: int, highest: int, what: str) -> List[int]:
     numbers = []
     for place, part in enumerate(_parts(text)):
-        number = int(part) if re.fullmatch("-?[0-9]{1,9}" if lowest < 0 else "[0-9]{1,9}", part) else None
+        found = _WHOLE.fullmatch(part)
+        # Every limit has three digits at most.
+        number = int(found[1] + found[2]) if found and len(found[2]) <= 3 and (lowest < 0 or not found[1]) else None
         if number is None or not lowest <= number <= highest:
-            raise ValueError(f"{what} at place {place} is {reprlib.repr(part)} and not {lowest} to {highest}")
+            raise ValueError(f"{what} at place {place} is {_shown(part)} and not {lowest} to {highest}")
         numbers.append(number)
     return numbers
 
@@ -378,12 +395,12 @@ def _checked(values: Any, limit: int, lowest: int, highest: int, what: str, list
     if isinstance(values, str):
         values = _parsed(values, lowest, highest, what)
     if isinstance(values, (set, frozenset, dict)) or not hasattr(values, "__iter__"):
-        raise TypeError(f"the {list_of} is {reprlib.repr(values)} and no list")
+        raise TypeError(f"the {list_of} is {_shown(values)} and no list")
     numbers = []
     for place, value in enumerate(islice(values, limit)):
         value = _whole(value, f"{what} at place {place}")
         if not lowest <= value <= highest:
-            raise ValueError(f"{what} at place {place} is {value} and not {lowest} to {highest}")
+            raise ValueError(f"{what} at place {place} is {_shown(value)} and not {lowest} to {highest}")
         numbers.append(value)
     return numbers
 
@@ -429,7 +446,7 @@ def _book(book: Book) -> bytes:
 def _second(edition: int) -> bool:
     number = _whole(edition, "the edition")
     if number not in (1, 2):
-        raise ValueError(f"the edition is {number} and not 1 or 2")
+        raise ValueError(f"the edition is {_shown(number)} and not 1 or 2")
     return number == 2
 
 
@@ -443,7 +460,7 @@ def _allowed(allowed: Steps) -> int:
             raise ValueError(f"the set has more than {MAX_WORD} steps")
         step = _whole(value, "the step")
         if not 1 <= step <= 64:
-            raise ValueError(f"the step is {step} and not 1 to 64")
+            raise ValueError(f"the step is {_shown(step)} and not 1 to 64")
         steps |= 1 << (step - 1)
     return steps
 
@@ -559,7 +576,7 @@ def rewrite(kind: Kind, rank: int, word: Word, place: int) -> Optional[Rewrite]:
     """One rewrite of a word at a place, which counts from 0, or None if no rule fits there. Refusals 5 to 8, 12."""
     letters, out, rule = _word(word), _Letters(), _Entries()
     outputs = out, MAX_WORD, rule, 3
-    length = _c.rewrite(_kind(kind), _rank(rank), letters, len(letters), _place(place), *outputs)
+    length = _c.rewrite(_kind(kind), _rank(rank), letters, len(letters), _place(place, "the place"), *outputs)
     if length == _NONE_FITS:
         return None
     new = _letters(out, length)
@@ -627,7 +644,7 @@ def preset(edition: int, book: Book, number: int) -> Preset:
     """The preset with this number, from 0. Refusals 1 to 8, in the second edition 17."""
     call = _c.second_preset if _second(edition) else _c.preset
     lent, fields = _book(book), (c_uint64 * 4)()
-    _answered(call(lent, len(lent), _place(number), fields, 4))
+    _answered(call(lent, len(lent), _place(number, "the number"), fields, 4))
     return _lent(lent, *fields)
 
 
@@ -640,7 +657,7 @@ def presets(edition: int, book: Book, first: int = 0) -> List[Union[Preset, Refu
     `Refusal`, which is not raised. With `first` the number of presets, the list is empty; above that it is refused 4.
     Refusals 1 to 4, of the book."""
     call = _c.second_presets if _second(edition) else _c.presets
-    lent, first = _book(book), _place(first)
+    lent, first = _book(book), _place(first, "the argument first")
     count = book_check(edition, lent)
     if first == count:
         return []
@@ -683,9 +700,9 @@ def _records(edition: int, lent: bytes) -> List[bytes]:
     return [lent[start:end] for start, end in zip(starts, starts[1:])]
 
 
-def _present(records: List[bytes], number: int) -> int:
+def _present(records: List[bytes], number: int, name: str) -> int:
     """The number of a preset that there is."""
-    number = _place(number)
+    number = _place(number, name)
     if number >= len(records):
         raise Refusal(Refused.PRESET_NUMBER)
     return number
@@ -735,14 +752,14 @@ def append_all(edition: int, book: Book, presets: Iterable[NewPreset]) -> bytes:
 def remove(edition: int, book: Book, number: int) -> bytes:
     """The book without the preset with this number. Refusals 1 to 4."""
     records = _records(edition, _book(book))
-    del records[_present(records, number)]
+    del records[_present(records, number, "the number")]
     return _joined(edition, records)
 
 
 def replace(edition: int, book: Book, number: int, kind: Kind, rank: int, word: Word) -> bytes:
     """The book with another preset in the place of the one with this number. Refusals 1 to 8, 21, 13."""
     records = _records(edition, _book(book))
-    number = _present(records, number)
+    number = _present(records, number, "the number")
     records[number] = append(edition, b"", kind, rank, word)[:-_TRAILER]
     return _joined(edition, records)
 
@@ -750,7 +767,8 @@ def replace(edition: int, book: Book, number: int, kind: Kind, rank: int, word: 
 def move_to(edition: int, book: Book, from_number: int, to_number: int) -> bytes:
     """The book with a preset at another number; those between move up or down by one. Refusals 1 to 4."""
     records = _records(edition, _book(book))
-    origin, target = _present(records, from_number), _present(records, to_number)
+    origin = _present(records, from_number, "the argument from_number")
+    target = _present(records, to_number, "the argument to_number")
     records.insert(target, records.pop(origin))
     return _joined(edition, records)
 

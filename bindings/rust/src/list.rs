@@ -33,8 +33,11 @@ impl fmt::Display for ListError {
 
 impl Error for ListError {}
 
-/// The numbers of a text: with blanks between them, or commas, around which there may be blanks. A number has digits,
-/// behind a minus sign if `least` is below 0. No text at all is an empty list.
+/// What separates numbers beside commas: in every language these blanks, and no others that Unicode has.
+const BLANKS: [char; 4] = [' ', '\t', '\n', '\r'];
+
+/// The numbers of a text: with blanks between them, or commas, around which there may be blanks. A number has decimal
+/// digits, behind a minus sign if `least` is below 0. No text at all is an empty list.
 pub(crate) fn numbers<'a>(
     text: &'a str,
     element: &'static str,
@@ -43,10 +46,10 @@ pub(crate) fn numbers<'a>(
 ) -> impl Iterator<Item = Result<i16, ListError>> + 'a {
     // Between two commas stands a number at least: an empty part there is no number.
     let parts = text.split(',').flat_map(|part| {
-        let none = part.trim().is_empty().then_some("");
-        part.split_whitespace().chain(none)
+        let none = part.trim_matches(BLANKS).is_empty().then_some("");
+        part.split(BLANKS).filter(|number| !number.is_empty()).chain(none)
     });
-    let skipped = if text.trim().is_empty() { usize::MAX } else { 0 };
+    let skipped = if text.trim_matches(BLANKS).is_empty() { usize::MAX } else { 0 };
     parts.skip(skipped).enumerate().map(move |(place, part)| {
         let unsigned = part.strip_prefix('-').filter(|_| least < 0).unwrap_or(part);
         let digits = !unsigned.is_empty() && unsigned.bytes().all(|byte| byte.is_ascii_digit());

@@ -76,7 +76,8 @@ impl fmt::Display for Word {
 impl FromStr for Word {
     type Err = ListError;
 
-    /// Reads numbers with blanks or commas between them: `4 4 2`, `4,4,2`. A number has digits alone, and no sign.
+    /// Reads numbers with blanks (spaces, tabs, line ends) or commas between them: `4 4 2`, `4,4,2`. A number has digits
+    /// alone, and no sign.
     fn from_str(text: &str) -> Result<Word, ListError> {
         numbers(text, "letter", 0, 255).map(|letter| letter.map(|letter| letter as u8)).collect()
     }

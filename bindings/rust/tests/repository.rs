@@ -1,8 +1,8 @@
 //! What only the repository has: the numbers and messages of the library, its definition, the header, CALLS.md and
-//! SPECIFICATION.md are held to each other, and edits of books to the stored ones.
+//! SPECIFICATION.md are held to each other, and edits of books and texts of numbers to the stored ones.
 use std::fs;
 use std::path::Path;
-use winnathey::{Book, Edition, Group, Kind, Preset, Refusal, RefusedPreset, raw};
+use winnathey::{Book, Edition, Group, Kind, ListError, Preset, Refusal, RefusedPreset, Steps, Window, Word, raw};
 
 /// Numbers with messages, in the order of the numbers.
 type List = Vec<(usize, String)>;
@@ -151,4 +151,50 @@ fn edits_are_as_stored() {
         cases += 1;
     }
     assert!(cases > 100, "{cases} cases");
+}
+
+/// A text as JSON has it, with the escapes that the table uses.
+fn unescaped(text: &str) -> String {
+    let mut parts = text.trim_matches('"').split('\\');
+    let mut whole = parts.next().unwrap().to_string();
+    for part in parts {
+        let (code, rest) = match part.split_at(1) {
+            ("t", rest) => ('\t', rest),
+            ("n", rest) => ('\n', rest),
+            ("r", rest) => ('\r', rest),
+            ("u", rest) => (u32::from_str_radix(&rest[..4], 16).ok().and_then(char::from_u32).unwrap(), &rest[4..]),
+            (other, _) => panic!("an escape {other}"),
+        };
+        whole.push(code);
+        whole.push_str(rest);
+    }
+    whole
+}
+
+#[test]
+fn texts_are_read_as_stored() {
+    let mut cases = 0;
+    for line in text("tests/texts").lines().filter(|line| !line.starts_with('#')) {
+        let [of, text, due] = line.split(" | ").collect::<Vec<_>>()[..] else { panic!("{line}") };
+        let text = unescaped(text);
+        let read = match of {
+            "word" => text.parse::<Word>().map(|word| word.to_string()),
+            "window" => text.parse::<Window>().map(|window| window.to_string()),
+            _ => text.parse::<Steps>().map(|steps| steps.to_string()),
+        };
+        match due.strip_prefix("wrong ") {
+            Some(due) => assert!(
+                matches!(read, Err(ListError::Element { place, .. }) if place.to_string() == due),
+                "{line}: {read:?}"
+            ),
+            None if of == "steps" => {
+                let due = Steps::new(due.split_whitespace().map(|step| step.parse().unwrap())).unwrap();
+                assert_eq!(read, Ok(due.to_string()), "{line}");
+            }
+            None => assert_eq!(read.as_deref(), Ok(due), "{line}"),
+        }
+        cases += 1;
+    }
+    assert!(cases > 50);
+    assert_eq!(format!("{}1", "0".repeat(5000)).parse::<Word>().map(|word| word.to_vec()), Ok(vec![1]));
 }
