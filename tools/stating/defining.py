@@ -3,6 +3,7 @@ import re
 from itertools import groupby
 
 from citations import CITATIONS
+from crates import listed
 from pages import Page
 from pinning import PINS, READ
 from statements import with_comment
@@ -48,8 +49,7 @@ class Definitions:
 
     def order(self):
         """The crates in the order of crates.txt, the lowest first."""
-        listed = [line.split(":")[0].strip() for line in self.world.read("crates.txt").split("\n") if ":" in line and not line.startswith("#")]
-        return [crate for crate in listed if crate in self.world.crates]
+        return [crate for crate in listed(self.world) if crate in self.world.crates]
 
     def keys(self):
         """All definitions in the order of their reading: by the crates, by the files of each, and from top to bottom."""

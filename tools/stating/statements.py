@@ -5,6 +5,7 @@ from functools import cached_property
 
 from antt import result_of
 from citations import CITATIONS, NAMES_BLOCK, SENTENCES, SETTLES, SPECIFICATION, citations_of, sections_of
+from crates import wrong_crates
 from edits import edits_of
 from forms import AWK
 from pinning import Pinning, key_of
@@ -107,7 +108,7 @@ class Builder:
         return self.scopes[path]
 
     def build(self):
-        self.model.wrong += self.world.forms()
+        self.model.wrong += [*wrong_crates(self.world), *self.world.forms()]
         self._clauses()
         self._rows()
         self._definitions()
