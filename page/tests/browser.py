@@ -24,4 +24,7 @@ if __name__ == "__main__":
     if arguments[:1] == ["--screenshots"]:
         Screenshots.FOLDER = arguments[1]
         arguments = arguments[2:]
-    unittest.main(argv=[sys.argv[0], *arguments])
+    result = unittest.main(argv=[sys.argv[0], *arguments], exit=False).result
+    for test, reason in result.skipped:
+        print(f"page, skipped: {test.id().removeprefix('__main__.').removeprefix('in_browser.')} ({reason})")
+    sys.exit(not result.wasSuccessful())
