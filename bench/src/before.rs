@@ -1,4 +1,4 @@
-//! The archive of an earlier commit, where the build was told of one (`build.rs`). Where not, the present one stands in its
+//! The archive of an earlier commit, if the build was told of one (`build.rs`). If not, the present one stands in its
 //! place, so that the calls are compiled, and is not timed.
 #![allow(dead_code)]
 

@@ -10,7 +10,7 @@ use winnathey::raw as rattle;
 const FIRST: &[u8] = &[2, 8];
 const SECOND: &[u8] = &[2, 8, 8];
 
-/// The call that has a goal of its own.
+/// The call that has a separate goal.
 pub const CHECK: &str = "check of a full book";
 
 /// A book of as many records of one length as fit, but for those left out.

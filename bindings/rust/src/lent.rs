@@ -1,4 +1,4 @@
-//! The calls on lent buffers: each answers with a [`Refusal`] or with how much it wrote to the front of the outputs that
+//! The calls on lent buffers: each returns a [`Refusal`], or how much it wrote to the front of the outputs that
 //! it was lent, and allocates nothing.
 //!
 //! A refused call changes no byte of an output; an accepted one leaves what lies behind its answer as it was. The types
@@ -72,7 +72,7 @@ pub struct Preset<'a> {
     pub word: &'a [u8],
 }
 
-/// Writes the window of a word, and answers with its number of lanes. Refusals 5 to 8, 14.
+/// Writes the window of a word, and returns its number of lanes. Refusals 5 to 8, 14.
 ///
 /// ```
 /// use winnathey::lent::{Kind, window_of_word};
@@ -85,7 +85,7 @@ pub fn window_of_word(kind: Kind, rank: u8, word: &[u8], out: &mut [i8]) -> Resu
     answered(raw::window_of_word(kind.0.into(), rank.into(), word, out))
 }
 
-/// Writes the normal form of a word, and answers with its length. Refusals 5 to 8, 14.
+/// Writes the normal form of a word, and returns its length. Refusals 5 to 8, 14.
 ///
 /// ```
 /// use winnathey::lent::{Kind, MAX_NORMAL_FORM, normal_form_of_word};
@@ -99,7 +99,7 @@ pub fn normal_form_of_word(kind: Kind, rank: u8, word: &[u8], out: &mut [u8]) ->
     answered(raw::normal_form_of_word(kind.0.into(), rank.into(), word, out))
 }
 
-/// Writes the normal form of a window, and answers with its length. Refusals 5, 6, 9 to 11, 14.
+/// Writes the normal form of a window, and returns its length. Refusals 5, 6, 9 to 11, 14.
 ///
 /// ```
 /// use winnathey::lent::{Kind, MAX_NORMAL_FORM, normal_form_of_window};
@@ -116,7 +116,7 @@ pub fn normal_form_of_window(kind: Kind, rank: u8, window: &[i8], out: &mut [u8]
     answered(raw::normal_form_of_window(kind.0.into(), rank.into(), window, out))
 }
 
-/// Writes the normal form of the first word followed by the second, and answers with its length. Refusals 5 to 8, 14.
+/// Writes the normal form of the first word followed by the second, and returns its length. Refusals 5 to 8, 14.
 ///
 /// ```
 /// use winnathey::lent::{Kind, MAX_NORMAL_FORM, product_of_words};
@@ -130,7 +130,7 @@ pub fn product_of_words(kind: Kind, rank: u8, first: &[u8], second: &[u8], out: 
     answered(raw::product_of_words(kind.0.into(), rank.into(), first, second, out))
 }
 
-/// Writes the product of two windows, the first's word followed by the second's, and answers with its number of lanes.
+/// Writes the product of two windows, the first's word followed by the second's, and returns its number of lanes.
 /// Refusals 5, 6, 9 to 11, 14.
 ///
 /// ```
@@ -145,7 +145,7 @@ pub fn product_of_windows(kind: Kind, rank: u8, first: &[i8], second: &[i8], out
     answered(raw::product_of_windows(kind.0.into(), rank.into(), first, second, out))
 }
 
-/// Writes the normal form of a word's inverse, and answers with its length. Refusals 5 to 8, 14.
+/// Writes the normal form of a word's inverse, and returns its length. Refusals 5 to 8, 14.
 ///
 /// ```
 /// use winnathey::lent::{Kind, MAX_NORMAL_FORM, inverse_of_word};
@@ -159,7 +159,7 @@ pub fn inverse_of_word(kind: Kind, rank: u8, word: &[u8], out: &mut [u8]) -> Res
     answered(raw::inverse_of_word(kind.0.into(), rank.into(), word, out))
 }
 
-/// Writes the inverse of a window, and answers with its number of lanes. Refusals 5, 6, 9 to 11, 14.
+/// Writes the inverse of a window, and returns its number of lanes. Refusals 5, 6, 9 to 11, 14.
 ///
 /// ```
 /// use winnathey::lent::{Kind, inverse_of_window};
@@ -447,7 +447,7 @@ pub fn rewrite_to_end(
     answered(answer).map(|steps| Ended { steps, length: written[0] as usize })
 }
 
-/// Whether a simpler window can be had by removing letters from the normal form of the present word. With a yes the
+/// Whether a simpler window can be reached by removing letters from the normal form of the present word. With a yes the
 /// places of letters to keep, which count from 0 and rise, go to the front of `places`, and the answer is their number:
 /// the length of the simpler window. `None` is a no, which writes nothing. Refusals 5 to 8, the present word's before the
 /// simpler one's, and with a yes 14.
@@ -522,7 +522,7 @@ pub fn split(
     Ok(Split { first, second })
 }
 
-/// Writes the normal form of the word over allowed steps that leads from one window to another, and answers with its
+/// Writes the normal form of the word over allowed steps that leads from one window to another, and returns its
 /// length: of all such words it is a shortest, and of those the first in the dictionary. Bit 0 of `allowed` stands for
 /// step 1. If the windows agree the word is empty, whatever is allowed. Refusals 5 and 6, 16, 9 to 11 for `from`, then
 /// for `to`, 19 if no word over the allowed steps leads there, 14.
@@ -591,7 +591,7 @@ fn lent(book: &[u8], [kind, rank, start, letters]: [u64; 4]) -> Preset<'_> {
     Preset { kind: Kind(kind as u8), rank: rank as u8, word: &book[start..start + letters] }
 }
 
-/// Writes a book with one preset more, and answers with its length. The second edition's lane count follows from kind
+/// Writes a book with one preset more, and returns its length. The second edition's lane count follows from kind
 /// and rank. A preset of kind A and rank 1, which a book may hold, is not appended. Refusals 1 to 3, 5 to 8, 21, 13, 14.
 ///
 /// ```
@@ -619,7 +619,7 @@ pub fn append(edition: Edition, book: &[u8], added: Preset, out: &mut [u8]) -> R
     })
 }
 
-/// Writes a book in the other edition, with the same presets in the same order, and answers with its length. `edition`
+/// Writes a book in the other edition, with the same presets in the same order, and returns its length. `edition`
 /// is the one of `book`. A book of no bytes gives no bytes. Refusals 1 to 3 of the book; then record by record, in order,
 /// 5 to 8, and in the second edition 17 after 6 and 18 after 8; then 13, 14.
 ///

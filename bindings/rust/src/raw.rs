@@ -1,6 +1,6 @@
-//! The C interface as it is, with slices in the place of pointers and lengths.
+//! The C interface unchanged, but with slices in place of pointers and lengths.
 //!
-//! Each function answers 0 or more, or -k for refusal k; [`rewrite`] also answers [`NONE_FITS`], and
+//! Each function returns 0 or more, or -k for refusal k; [`rewrite`] also returns [`NONE_FITS`], and
 //! [`fallback`] [`NO_FALLBACK`]. The functions of
 //! [`lent`](crate::lent) say the same in Rust's words.
 

@@ -86,10 +86,10 @@ refusals! {
 }
 
 impl Refusal {
-    /// The refusal that the library answers as a number below 0.
+    /// The refusal that the library returns as a number below 0.
     pub(crate) fn answered(answer: i64) -> Refusal {
         let refusal = u8::try_from(-answer).ok().and_then(Refusal::from_number);
-        refusal.expect("the library answers no number below 0 but those of its refusals")
+        refusal.expect("the library returns no number below 0 but those of its refusals")
     }
 
     /// The refusal with this number, if there is one.

@@ -24,7 +24,7 @@ pub struct Window {
 }
 
 impl Window {
-    /// The window that `write` leaves in the front of its output, by the number of lanes that it answers.
+    /// The window that `write` leaves in the front of its output, by the number of lanes that it returns.
     #[cfg(feature = "alloc")]
     pub(crate) fn written<E>(write: impl FnOnce(&mut [i8]) -> Result<usize, E>) -> Result<Window, E> {
         let mut entries = [0; MAX_LANES];

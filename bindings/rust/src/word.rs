@@ -21,7 +21,7 @@ use core::str::FromStr;
 pub struct Word(Vec<u8>);
 
 impl Word {
-    /// The word that `write` leaves in the front of an output with so much room, by the length that it answers.
+    /// The word that `write` leaves in the front of an output with so much room, by the length that it returns.
     pub(crate) fn written<E>(room: usize, write: impl FnOnce(&mut [u8]) -> Result<usize, E>) -> Result<Word, E> {
         let mut letters = alloc::vec![0; room];
         let length = write(&mut letters)?;

@@ -1,4 +1,4 @@
-//! Whether a simpler window can be had by removing letters from the present word's normal form, and which to keep.
+//! Whether a simpler window can be reached by removing letters from the present word's normal form, and which to keep.
 //!
 //! The places come by one of two ways. In a normal form of few letters all part-lists are tried. In a longer one the
 //! letters are gone through from the first to the last: a letter is kept where it stands at the front of a shortest word
