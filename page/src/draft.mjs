@@ -18,20 +18,20 @@ function bytesIn(text) {
 
 /** A state as text, with whether its book is on a disk, and text of the field that is no word. */
 export function draftOf(state, { saved, typed, time }) {
-    const { kind, rank, word, names, book, kept } = state;
+    const { kind, rank, word, names, book, kept, photograph = null } = state;
     const { name, edition, bytes } = book;
-    const parts = { time, kind, rank, word: Array.from(word), names: texted(writeNames(names)), kept, saved, typed };
+    const parts = { time, kind, rank, word: Array.from(word), names: texted(writeNames(names)), kept, photograph, saved, typed };
     return JSON.stringify({ ...parts, book: { name, edition, bytes: texted(bytes) } });
 }
 
 /** What a draft holds as parts of a state, or null where the library does not take it, or nothing was worked on. */
 export function readDraft(library, text) {
     try {
-        const { time, kind, rank, word, names, book, kept, saved, typed } = JSON.parse(text);
+        const { time, kind, rank, word, names, book, kept, photograph = null, saved, typed } = JSON.parse(text);
         const bytes = bytesIn(book.bytes);
         library.window(kind, rank, word);
         library.bookCheck(book.edition, bytes);
-        const state = { kind, rank, word, names: readNames(bytesIn(names)), book: { name: String(book.name), edition: book.edition, bytes }, kept };
+        const state = { kind, rank, word, names: readNames(bytesIn(names)), book: { name: String(book.name), edition: book.edition, bytes }, kept, photograph };
         const empty = word.length === 0 && bytes.length === 0 && state.names.lines.length === 0 && typed === null;
         return empty ? null : { time, state, saved, typed };
     } catch {

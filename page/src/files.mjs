@@ -1,5 +1,6 @@
 // Files: opened, dropped and saved. Nothing else leaves or enters the page.
-import { WrongNames, readNames } from './names.mjs';
+import { WrongNames, photographOf, readNames } from './names.mjs';
+import { isPicture } from './photographs.mjs';
 
 /** One byte more than a book may have is enough for the library to refuse it. */
 const MOST_READ = 65536;
@@ -13,22 +14,38 @@ async function bytesOf(file, most) {
 }
 
 /**
- * The book and the names among the files that were opened together, each with its handle where the browser gives one; a wrong names
- * file is told, and none of its names used. Of several books, or where a file cannot be read, as a folder cannot, nothing is opened.
+ * The book, the names and the pictures among the files that were opened together, each with its handle where the browser gives one; a
+ * wrong names file is told, and none of its names used. Of several books, or where a file cannot be read, as a folder cannot, nothing is
+ * opened. A picture is known by its type, or by its name in the names: in those that came with it, else in the present ones.
  */
-export async function readFiles(items) {
-    const none = wrong => ({ book: null, names: null, namesFile: null, wrong });
+export async function readFiles(items, present) {
+    const none = wrong => ({ book: null, names: null, namesFile: null, pictures: [], wrong });
     const read = none(null);
-    const books = items.filter(({ file }) => !isNamesFile(file.name));
-    if (books.length > 1) return none(`These are ${books.length} books. One can be open at a time: open them one by one.`);
-    for (const { file, handle = null } of items) {
+    const [named, others] = [true, false].map(side => items.filter(({ file }) => isNamesFile(file.name) === side));
+    const fault = async (file, action) => {
         try {
-            if (isNamesFile(file.name)) [read.names, read.namesFile] = [readNames(await bytesOf(file, 1048577)), { name: file.name, handle }];
-            else read.book = { name: file.name, bytes: await bytesOf(file, MOST_READ), handle };
+            return await action();
         } catch (error) {
-            if (!(error instanceof WrongNames)) return none(`${file.name} cannot be read. Is it a file?`);
+            if (!(error instanceof WrongNames)) return `${file.name} cannot be read. Is it a file?`;
             read.wrong = `${file.name}, ${error.message}. None of its names is used.`;
         }
+        return null;
+    };
+    for (const { file, handle = null } of named) {
+        const unread = await fault(file, async () => {
+            [read.names, read.namesFile] = [readNames(await bytesOf(file, 1048577)), { name: file.name, handle }];
+        });
+        if (unread) return none(unread);
+    }
+    const photograph = photographOf(read.names ?? present);
+    const books = others.filter(({ file }) => !isPicture(file) && file.name !== photograph);
+    read.pictures = others.map(({ file }) => file).filter(file => !books.some(book => book.file === file));
+    if (books.length > 1) return none(`These are ${books.length} books. One can be open at a time: open them one by one.`);
+    for (const { file, handle = null } of books) {
+        const unread = await fault(file, async () => {
+            read.book = { name: file.name, bytes: await bytesOf(file, MOST_READ), handle };
+        });
+        if (unread) return none(unread);
     }
     return read;
 }

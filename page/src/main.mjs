@@ -1,6 +1,7 @@
 // The page as a whole: the library is loaded, the parts are put together, and every change goes through them in one order.
 import { load } from '../../bindings/javascript/winnathey.mjs';
 import { BookPanel, editionName } from './book.mjs';
+import { CabinPanel } from './cabin.mjs';
 import { Composing } from './composing.mjs';
 import { DelaysPanel } from './delays.mjs';
 import { button, byId, holdDisabled, keepFocus, make, put, setText } from './dom.mjs';
@@ -11,6 +12,7 @@ import { Draft } from './draft.mjs';
 import { remember, rememberedRig } from './memory.mjs';
 import { ModulesPanel } from './modules.mjs';
 import { OtherTabs } from './others.mjs';
+import { Photographs } from './photographs.mjs';
 import { Picture } from './picture.mjs';
 import { showProved } from './proved.mjs';
 import { RigFields } from './rig.mjs';
@@ -42,6 +44,7 @@ class App {
         [this.library, this.about] = [library, about];
         this.store = new Store({ ...FIRST_STATE, ...rememberedRig(library) });
         this.#answer();
+        this.photographs = new Photographs(() => this.refresh());
         this.shelf = new Shelf(this);
         this.rig = new RigFields(this);
         this.composing = new Composing(this);
@@ -50,6 +53,7 @@ class App {
         this.panels = {
             why: new WhyPanel(this, panel('why')),
             wanted: new WantedPanel(this, panel('wanted')),
+            cabin: new CabinPanel(this, panel('cabin')),
             modules: new ModulesPanel(this, panel('modules')),
             book: new BookPanel(this, panel('book')),
             delays: new DelaysPanel(this, panel('delays')),

@@ -1,9 +1,11 @@
 // Books and their names from files and into files: what is opened in place of what, and what was saved.
 import { countText, editionsOf, presetIn, refusedText, verdictsOf } from './book.mjs';
+import { shownPhotograph } from './cabin.mjs';
 import { button, byId } from './dom.mjs';
 import { pickFiles, readFiles, saveFile, writeTo } from './files.mjs';
 import { rememberedNames } from './memory.mjs';
-import { NO_NAMES, rigNames, withRigNamesOf, writeNames } from './names.mjs';
+import { NO_NAMES, photographOf, rigNames, withPhotograph, withRigNamesOf, writeNames } from './names.mjs';
+import { photographName } from './photographs.mjs';
 import { NEW_BOOK } from './state.mjs';
 import { listed } from './text.mjs';
 
@@ -12,8 +14,17 @@ function handleFor(book, namesFile) {
     return namesFile?.name === `${book.name}.names` ? namesFile.handle : null;
 }
 
+/** Names with a photograph that came with them, as parts of a state: one that they do not name is not used, unless they name none. */
+function withPicture(names, photograph) {
+    const named = photographOf(names);
+    const used = photograph && (named === '' || named === photograph.file) ? photograph : null;
+    return { names: used ? withPhotograph(names, used.file) : names, photograph: used };
+}
+
 export class Shelf {
     #savedNames = null;
+    /** The keys of the photographs that were given to the browser: they are not given again. */
+    #savedPhotographs = new Set();
 
     constructor(app) {
         this.app = app;
@@ -44,7 +55,8 @@ export class Shelf {
         const { book, names } = app.state;
         const parts = [{ name: book.name, bytes: book.bytes, handle: anew ? null : book.file?.book }];
         const named = names.lines.length > 0 || this.#savedNames?.lines.length > 0;
-        if (named) parts.push({ name: `${book.name}.names`, bytes: writeNames(names), handle: anew ? null : book.file?.names });
+        if (named) parts.push({ name: `${book.name}.names`, bytes: writeNames(names), handle: anew ? null : book.file?.names, names });
+        parts.push(...this.#photographPart(anew));
         for (const part of parts) {
             // Names are not left beside a book that they do not fit.
             if (parts[0].fault) part.fault = 'the book was not';
@@ -52,10 +64,21 @@ export class Shelf {
             else saveFile(part.name, part.bytes);
         }
         if (!parts[0].fault) app.store.markBookSaved(book.bytes);
-        if (parts[1] && !parts[1].fault) this.#savedNames = names;
+        for (const part of parts.filter(({ fault }) => !fault)) {
+            if (part.names) this.#savedNames = part.names;
+            if (part.key) this.#savedPhotographs.add(part.key);
+        }
         app.panels.book.unsay();
         app.refresh();
         this.#saySaved(parts);
+    }
+
+    /** A photograph that was chosen here is saved once. One that lies beside the book is not written again, but for a new book's file. */
+    #photographPart(anew) {
+        const { photograph } = this.app.state;
+        const picture = shownPhotograph(this.app);
+        if (!picture || (!anew && (photograph.beside || this.#savedPhotographs.has(photograph.key)))) return [];
+        return [{ name: photograph.file, bytes: picture.blob, key: photograph.key }];
     }
 
     /** Which files were saved, which went to the browser, and which were not saved. */
@@ -66,6 +89,7 @@ export class Shelf {
         const texts = [
             told(parts.filter(part => !part.fault && part.handle), 'was saved.', 'were saved.'),
             told(given, 'was given to the browser, which puts it with its downloads.', 'were given to the browser, which puts them with its downloads.'),
+            ...given.filter(part => part.key && parts[0].handle).map(part => `Put ${part.name} beside the book. `),
             ...lost.map(part => `${part.name} was NOT saved: ${part.fault}. `),
         ];
         const again = part => button(`${part.fault ? 'Save' : 'Give'} ${part.name} ${part.fault ? 'as a new file' : 'once more'}`, () => this.#saveAnew(part));
@@ -90,19 +114,56 @@ export class Shelf {
     /** Takes files that were chosen or dropped. */
     async take(items) {
         const { app } = this;
-        const { book, names, namesFile, wrong } = await readFiles(items);
+        const { book, names, namesFile, pictures, wrong } = await readFiles(items, app.state.names);
         app.notice(wrong ?? '');
-        if (book) this.open({ ...book, file: { book: book.handle, names: handleFor(book, namesFile) } }, names, wrong);
-        else if (names) {
-            const present = app.state.book;
-            this.#savedNames = names;
-            app.store.change({ names, book: { ...present, file: { book: present.file?.book ?? null, names: handleFor(present, namesFile) } } });
-            app.notice(`The names of ${namesFile.name} are those of ${app.state.book.name} now. Undo brings the others back.`);
-        }
+        if (!book && !names) return this.#takePictures(pictures);
+        const { photograph, fault } = await this.#photographOf(pictures, names);
+        if (book) return this.open({ ...book, file: { book: book.handle, names: handleFor(book, namesFile) } }, names, wrong ?? fault, photograph);
+        const present = app.state.book;
+        this.#savedNames = names;
+        const file = { book: present.file?.book ?? null, names: handleFor(present, namesFile) };
+        app.store.change({ ...withPicture(names, photograph), book: { ...present, file } });
+        const said = `The names of ${namesFile.name} are those of ${app.state.book.name} now. Undo brings the others back.`;
+        if (!this.#sayMissing(said)) app.notice(`${said} ${fault ?? ''}`.trim());
+    }
+
+    /** Pictures that came alone: the one that the names have is taken, any other is asked about. */
+    #takePictures(pictures) {
+        const { app } = this;
+        const named = pictures.find(file => file.name === photographOf(app.state.names));
+        const use = file => {
+            app.tabs.choose('cabin');
+            return app.panels.cabin.usePhotograph(file);
+        };
+        if (named) return use(named);
+        if (pictures.length !== 1) return pictures.length > 1 && app.notice(`These are ${pictures.length} pictures. The cabin has one photograph: drop that alone.`);
+        const [file] = pictures;
+        app.notice(`${file.name} is a picture and no preset book.`, button('Use it as the photograph of the cabin', () => use(file)), button('Do not use it', () => app.notice('')));
+    }
+
+    /** The photograph among pictures that came with a book or its names: it lies beside the book. */
+    async #photographOf(pictures, names) {
+        const named = photographOf(names ?? NO_NAMES);
+        const file = pictures.find(picture => picture.name === named) ?? (pictures.length === 1 ? pictures[0] : null);
+        if (!file) return { photograph: null, fault: pictures.length > 0 ? `None of the ${pictures.length} pictures is used: the cabin has one photograph.` : null };
+        if (named && file.name !== named) return { photograph: null, fault: `${file.name} is not used: the names have the photograph ${named}.` };
+        const { key, fault = null } = await this.app.photographs.add(file);
+        const name = photographName(file.name);
+        return { photograph: key ? { file: name, key, beside: name === file.name } : null, fault };
+    }
+
+    /** A photograph that the names have and that did not come with them is asked for by its name. */
+    #sayMissing(before = '') {
+        const { app } = this;
+        const file = photographOf(app.state.names);
+        if (file === '' || app.state.photograph) return false;
+        const text = `The photograph of the cabin, ${file}, did not come with ${app.state.book.name}.`;
+        app.notice(`${before} ${text}`.trim(), button(`Choose the file ${file}`, () => app.panels.cabin.choosePhotograph()), button('Go on without it', () => app.notice('')));
+        return true;
     }
 
     /** Opens a book in place of the present one, which is asked about if it is not saved. What is no book is not opened. */
-    open(book, names, wrong = null) {
+    open(book, names, wrong = null, photograph = null) {
         const { app } = this;
         const verdicts = verdictsOf(app.library, book.bytes);
         const passing = book === NEW_BOOK ? [NEW_BOOK.edition] : editionsOf(verdicts);
@@ -110,23 +171,24 @@ export class Shelf {
             const stays = `${app.state.book.name} stays as it is.`;
             return app.notice(`${book.name} is no preset book and was not opened: ${refusedText(verdicts)} ${stays}`);
         }
-        const go = edition => this.#put({ name: book.name, edition, bytes: book.bytes, file: book.file ?? null }, names, wrong, book === NEW_BOOK);
+        const go = edition => this.#put({ name: book.name, edition, bytes: book.bytes, file: book.file ?? null }, names, wrong, photograph);
         const choose = () => (passing.length === 1 ? go(passing[0]) : this.#askEdition(book, go));
         if (app.store.bookUnsaved) this.#askFirst(book, choose);
         else choose();
     }
 
-    #put(book, names, wrong, isNew) {
+    #put(book, names, wrong, photograph) {
         const { app } = this;
         const { state, store } = app;
         app.notice(wrong ?? '');
         app.panels.book.begin();
-        const known = wrong || isNew ? null : rememberedNames(book);
-        store.change({ book, kept: presetIn(app.library, book, state), names: names ?? known ?? NO_NAMES });
+        const known = wrong || book.bytes === NEW_BOOK.bytes ? null : rememberedNames(book);
+        store.change({ book, kept: presetIn(app.library, book, state), ...withPicture(names ?? known ?? NO_NAMES, photograph) });
         store.markBookSaved();
         this.#savedNames = names;
         app.tabs.choose('book');
         if (!names && !wrong) this.#sayNames(state, known);
+        else if (!wrong) this.#sayMissing();
     }
 
     /** The edition is in no byte of a book: the few files that pass as both are asked about. */
@@ -151,17 +213,24 @@ export class Shelf {
     #sayNames(before, known) {
         const { app } = this;
         const { name } = app.state.book;
-        const set = names => {
-            app.store.change({ names });
+        const set = parts => {
+            app.store.change(parts);
             app.notice('');
         };
         if (known?.lines.length > 0) {
-            return app.notice(`${name} came without its names: those that it had here before are used.`, button('Use no names', () => set(NO_NAMES)));
+            return app.notice(`${name} came without its names: those that it had here before are used.`, button('Use no names', () => set({ names: NO_NAMES, photograph: null })));
         }
         if (rigNames(before.names).lines.length === 0) return;
         const old = before.book.name;
         app.notice(`${name} has no names. Its sources and screens can have those of ${old}.`,
-            button(`Take over the names of ${old}`, () => set(withRigNamesOf(app.state.names, before.names))),
+            button(`Take over the names of ${old}`, () => set(this.#takenOver(before))),
             button('Leave it without names', () => app.notice('')));
+    }
+
+    /** The names of another book's rig, with its photograph, which may not lie beside this one. */
+    #takenOver(before) {
+        const names = withRigNamesOf(this.app.state.names, before.names);
+        const taken = before.photograph?.file === photographOf(names) ? { ...before.photograph, beside: false } : null;
+        return { names, photograph: this.app.state.photograph ?? taken };
     }
 }

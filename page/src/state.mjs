@@ -22,6 +22,8 @@ export const FIRST_STATE = Object.freeze({
     /** The word of the simpler preset of a fallback. */
     simpler: Object.freeze([]),
     book: NEW_BOOK,
+    /** The photograph of the cabin: its file name, its key among the photographs, and whether it lies beside the book; or null. */
+    photograph: null,
 });
 
 function sameList(one, two) {

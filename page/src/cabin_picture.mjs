@@ -1,0 +1,186 @@
+// The cabin as a drawing: every screen where it stands, with the source that it shows, the right way round. It is drawn in pixels,
+// so that its text has one size on a phone, on a wall and on paper; a screen too small for its text shows less of it.
+import { escaped, tag } from './markup.mjs';
+import { CABIN, labelled } from './names.mjs';
+import { largestFirst, placesIn, shapeOf } from './places.mjs';
+import { colourOf, dashOf, viewMarkup } from './strands.mjs';
+
+/** How wide a character is, in parts of the text's size: a little more than in most fonts. What is wider still is cut off. */
+function wide(character) {
+    if (/[ijl.,:;'|! ]/.test(character)) return 0.34;
+    if (/[mwMW%]/.test(character)) return 0.98;
+    return character.codePointAt(0) > 0x2e7f ? 1.1 : 0.64;
+}
+
+/** The width of a text in pixels, estimated: no browser is needed. */
+export function textWidth(text, size) {
+    return [...text].reduce((sum, character) => sum + wide(character) * size, 0);
+}
+
+/** As much of a text as fits a width, with dots for the rest. */
+export function fitted(text, size, width) {
+    if (textWidth(text, size) <= width) return text;
+    const characters = [...text];
+    while (characters.length > 0 && textWidth(`${characters.join('')}…`, size) > width) characters.pop();
+    return characters.length === 0 ? '' : `${characters.join('').trimEnd()}…`;
+}
+
+/** A source on a screen in words: `5 rear left mirrored`. */
+export function shownText(names, entry) {
+    return `${labelled(names, 'source', Math.abs(entry))}${entry < 0 ? ' mirrored' : ''}`;
+}
+
+/** The numbers of the screens on which two windows differ; one that only one of them has differs too. */
+export function differences(window, against) {
+    const all = Array.from({ length: Math.max(window.length, against.length) }, (_, at) => at + 1);
+    return all.filter(screen => window[screen - 1] !== against[screen - 1]);
+}
+
+/** A screen that differs, in words. `other` is what the second picture is: 'wanted', or 'in preset 3'. */
+export function differenceText(names, screen, window, against, other) {
+    const [shown, wanted] = [window[screen - 1], against[screen - 1]];
+    const first = shown === undefined ? 'is not in the present picture' : `shows ${shownText(names, shown)}`;
+    const second = wanted === undefined ? `is not ${other}` : `${other} ${shownText(names, wanted)}`;
+    return `screen ${labelled(names, 'screen', screen)}: ${first}, ${second}`;
+}
+
+/**
+ * What a box has room for: everything one below the other, where need be without the word 'mirrored', which the view and the frame show
+ * too; a view with text beside it; or numbers and a view alone.
+ */
+function layoutOf({ width, height }, mirrored) {
+    const size = Math.min(Math.max(Math.floor(Math.min(height / 7, width / 9)), 11), 19);
+    const line = size * 1.3;
+    const room = lines => Math.min(height - 10 - line * lines, (width - 16) * 0.5, 110);
+    const roomy = width >= 120;
+    const least = roomy ? 20 : 13;
+    const lines = mirrored && room(3) >= least ? 3 : 2;
+    if (width >= 54 && room(lines) >= least) return { kind: 'tall', size, line, view: room(lines), lines };
+    if (width >= 84 && height >= 34) return { kind: 'flat', size: roomy ? 12 : 11, line: roomy ? 15 : 14, view: Math.min(height - 10, roomy ? 30 : 20) };
+    return { kind: 'tiny', size: 11, line: 13, view: Math.max(Math.min(height - 4, width / 4, 18), 11) };
+}
+
+/** A view at a place of a drawing; its own size in the style is for the page. */
+function viewAt(entry, x, y, height) {
+    const width = height * 44 / 30;
+    const place = `<svg x="${x}" y="${y}" width="${width}" height="${height}" style="width: ${width}px; height: ${height}px" `;
+    return viewMarkup(Math.abs(entry), entry < 0).replace('<svg ', place);
+}
+
+function textAt(content, x, y, size, attributes = {}) {
+    return content === '' ? '' : tag('text', { x, y, style: `font-size: ${size}px`, ...attributes }, escaped(content));
+}
+
+/** Lines of text and a view one below the other, in the middle of the box. */
+function tallContent(names, screen, entry, box, { size, line, view, lines }) {
+    const room = box.width - 8;
+    const all = [labelled(names, 'screen', screen), labelled(names, 'source', Math.abs(entry)), ...(entry < 0 && lines === 3 ? ['mirrored'] : [])];
+    const texts = all.map(text => fitted(text, size, room));
+    const high = line * texts.length + view + 4;
+    const text = Math.max(...texts.map(text => textWidth(text, size)), view * 44 / 30) + 16;
+    // A plate that leaves little of the box leaves nothing.
+    const across = text > box.width * 0.75 ? box.width - 4 : text;
+    const top = (box.height - high) / 2;
+    const down = high + 8 > box.height * 0.8 ? box.height - 4 : high + 8;
+    const middle = { 'text-anchor': 'middle' };
+    const below = top + line + view + 3;
+    return {
+        plate: { x: (box.width - across) / 2, y: (box.height - down) / 2, width: across, height: down },
+        markup: textAt(texts[0], box.width / 2, top + size, size, { ...middle, class: 'cabin-name' }) +
+            viewAt(entry, box.width / 2 - view * 22 / 30, top + line + 1, view) +
+            textAt(texts[1], box.width / 2, below + size, size, middle) +
+            textAt(texts[2] ?? '', box.width / 2, below + line + size, size, { ...middle, class: 'cabin-name' }),
+    };
+}
+
+/** A view with two or three lines of text beside it. */
+function flatContent(names, screen, entry, box, { size, line, view }) {
+    const left = 10 + view * 44 / 30;
+    const room = box.width - left - 6;
+    const three = box.height >= 3 * line + 6;
+    const source = labelled(names, 'source', Math.abs(entry));
+    const turned = entry < 0 && !three;
+    const second = turned && textWidth(`${source}, mirrored`, size) <= room ? `${source}, mirrored` : turned ? `${Math.abs(entry)}, mirrored` : source;
+    const lines = [labelled(names, 'screen', screen), second, ...(entry < 0 && three ? ['mirrored'] : [])];
+    const high = line * lines.length;
+    const top = (box.height - high) / 2;
+    const texts = lines.map((text, at) => textAt(fitted(text, size, room), left, top + line * at + size, size, { class: at === 1 ? null : 'cabin-name' }));
+    const plate = Math.max(high, view) + 4;
+    return {
+        plate: { x: 3, y: (box.height - plate) / 2, width: box.width - 6, height: plate },
+        markup: viewAt(entry, 5, (box.height - view) / 2, view) + texts.join(''),
+    };
+}
+
+/** The screen's number, a view, the source's number; where the box is smaller than that, over its edges. */
+function tinyContent(names, screen, entry, box, { size, view }) {
+    const wideView = view * 44 / 30;
+    const digits = textWidth(String(screen), size);
+    const across = digits + wideView + textWidth(String(Math.abs(entry)), size) + 8;
+    const left = (box.width - across) / 2;
+    const base = box.height / 2 + size * 0.36;
+    const high = Math.max(view, size) + 2;
+    return {
+        plate: { x: left, y: (box.height - high) / 2, width: across, height: high },
+        markup: textAt(String(screen), left + 2, base, size, { class: 'cabin-name' }) +
+            viewAt(entry, left + digits + 4, (box.height - view) / 2, view) +
+            textAt(String(Math.abs(entry)), left + digits + wideView + 6, base, size),
+    };
+}
+
+const CONTENT = { tall: tallContent, flat: flatContent, tiny: tinyContent };
+
+/** The frame in the source's colour and dash; a double line where the view is mirrored, as in the picture of the strands. */
+function frameMarkup(entry, { width, height }, photograph) {
+    const around = { x: 0, y: 0, width, height, rx: 4, 'stroke-dasharray': dashOf(Math.abs(entry)) || null };
+    const line = kind => tag('rect', { ...around, class: kind });
+    const solid = kind => tag('rect', { ...around, class: kind, 'stroke-dasharray': null });
+    const halo = photograph ? solid('cabin-halo') : '';
+    return halo + (entry < 0 ? line('cabin-double') + solid('cabin-inner') : line('cabin-line'));
+}
+
+/** A thick dashed frame around the box and a sign at its corner. */
+function differsMarkup({ width, height }) {
+    const around = { x: -5, y: -5, width: width + 10, height: height + 10, rx: 8 };
+    return tag('rect', { ...around, class: 'cabin-halo' }) + tag('rect', { ...around, class: 'cabin-differs' }) +
+        tag('circle', { class: 'cabin-sign', cx: width, cy: 0, r: 11 }) +
+        tag('text', { class: 'cabin-unequal', x: width, y: 6, 'text-anchor': 'middle' }, '≠');
+}
+
+function screenMarkup({ names, photograph }, screen, entry, box, differs) {
+    const layout = layoutOf(box, entry < 0);
+    const { plate, markup } = CONTENT[layout.kind](names, screen, entry, box, layout);
+    const inside = { width: box.width, height: box.height, viewBox: `0 0 ${box.width} ${box.height}`, class: layout.kind === 'tiny' ? 'cabin-over' : 'cabin-inside' };
+    const text = `screen ${labelled(names, 'screen', screen)} shows ${shownText(names, entry)}`;
+    const ground = { class: photograph ? 'cabin-glass' : 'cabin-plate', width: box.width, height: box.height, rx: 4 };
+    const attributes = {
+        class: `cabin-screen ${colourOf(Math.abs(entry))}`, 'data-screen': screen, 'data-entry': entry,
+        'data-differs': differs ? 'yes' : null, transform: `translate(${box.x} ${box.y})`,
+    };
+    return tag('g', attributes, `${tag('title', {}, escaped(text))}${tag('rect', ground)}${frameMarkup(entry, box, photograph)}` +
+        tag('svg', inside, tag('rect', { class: 'cabin-plate', rx: 3, ...plate }) + markup) + (differs ? differsMarkup(box) : ''));
+}
+
+/** All that the drawing says, for those who do not see it. */
+function allText({ names, window }, title) {
+    return `${title}: ${window.map((entry, at) => `screen ${labelled(names, 'screen', at + 1)} shows ${shownText(names, entry)}`).join('; ')}`;
+}
+
+/**
+ * A window in the cabin, as SVG. `lanes` is how many screens the grid has of those that were not arranged; `places` replaces those of the
+ * names; `against` is a window whose differences are marked. The photograph is { url, width, height }: drawn where there is a url.
+ */
+export function cabinPicture({ window, names, lanes = window.length, width = 680, photograph = null, against = null, places = placesIn(names, lanes), title = 'the cabin' }) {
+    const height = Math.round(width / shapeOf(photograph));
+    const differing = new Set(against ? differences(window, against) : []);
+    const box = ({ left, top, width: wide, height: high }) => ({
+        x: left * width / CABIN, y: top * height / CABIN, width: wide * width / CABIN, height: high * height / CABIN,
+    });
+    const frame = { class: 'drawing cabin-drawing', role: 'img', 'aria-label': allText({ names, window }, title), width, height, viewBox: `0 0 ${width} ${height}` };
+    const image = photograph?.url ? tag('image', { href: photograph.url, width, height, class: 'cabin-photograph' }) : '';
+    const ground = tag('rect', { class: photograph ? 'cabin-edge' : 'cabin-ground', width, height });
+    // A screen in front of a larger one is seen, and what differs is drawn last: its mark has to be seen whole.
+    const order = largestFirst(places.slice(0, window.length)).sort((one, two) => differing.has(one) - differing.has(two));
+    const screens = order.map(screen => screenMarkup({ names, photograph }, screen, window[screen - 1], box(places[screen - 1]), differing.has(screen)));
+    return tag('svg', frame, image + ground + screens.join(''));
+}

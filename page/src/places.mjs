@@ -1,0 +1,81 @@
+// Where the screens stand in a picture of the cabin: rectangles in thousandths of its width and of its height.
+import { CABIN, LEAST_PLACE, placeFault, placesOf } from './names.mjs';
+
+export const SIDES = ['left', 'top', 'width', 'height'];
+
+/** The cabin's width over its height: the shape of the photograph, or 16 to 9 without one. */
+export function shapeOf(photograph) {
+    return photograph ? photograph.width / photograph.height : 16 / 9;
+}
+
+/** The place of a screen that was not arranged: a cell of a grid that holds all lanes, with the last row in the middle. */
+export function gridPlace(number, lanes) {
+    const columns = Math.ceil(Math.sqrt(lanes));
+    const rows = Math.ceil(lanes / columns);
+    const [row, column] = [Math.floor((number - 1) / columns), (number - 1) % columns];
+    const inRow = Math.min(columns, lanes - row * columns);
+    const gap = lanes > 16 ? 8 : 24;
+    const span = (start, parts) => {
+        const [from, to] = [start, start + 1].map(edge => edge * CABIN / parts);
+        return [Math.round(from + gap / 2), Math.round(to - gap / 2) - Math.round(from + gap / 2)];
+    };
+    const [left, width] = span(column + (columns - inRow) / 2, columns);
+    const [top, height] = span(row, rows);
+    return { left, top, width, height };
+}
+
+/** The places of the screens 1 to `lanes`, in this order. */
+export function placesIn(names, lanes) {
+    const kept = placesOf(names);
+    return Array.from({ length: lanes }, (_, at) => kept.get(at + 1) ?? gridPlace(at + 1, lanes));
+}
+
+/** The numbers of the screens, that of the largest first. */
+export function largestFirst(places) {
+    const area = number => places[number - 1].width * places[number - 1].height;
+    return places.map((_, at) => at + 1).sort((one, two) => area(two) - area(one));
+}
+
+/** The screens from 1 to `lanes` that were not arranged, if others were. */
+export function unplaced(names, lanes) {
+    const kept = placesOf(names);
+    const open = Array.from({ length: lanes }, (_, at) => at + 1).filter(number => !kept.has(number));
+    return open.length < lanes ? open : [];
+}
+
+function between(least, number, most) {
+    return Math.round(Math.min(Math.max(number, least), most));
+}
+
+/** A place moved inside the cabin, as far as it goes. */
+export function moved(place, right, down) {
+    const { left, top, width, height } = place;
+    return { ...place, left: between(0, left + right, CABIN - width), top: between(0, top + down, CABIN - height) };
+}
+
+/** A place sized at its lower right corner, inside the cabin. */
+export function sized(place, right, down) {
+    const { left, top, width, height } = place;
+    return { ...place, width: between(LEAST_PLACE, width + right, CABIN - left), height: between(LEAST_PLACE, height + down, CABIN - top) };
+}
+
+/** Thousandths as percent. */
+export function percent(thousandths) {
+    return String(thousandths / 10);
+}
+
+export function placeText({ left, top, width, height }) {
+    const parts = [`${percent(left)} % from the left`, `${percent(top)} % from the top`, `${percent(width)} % wide`, `${percent(height)} % high`];
+    return parts.join(', ');
+}
+
+/** A place with one side typed in percent, or what is wrong with that. */
+export function typedPlace(place, side, text) {
+    const trimmed = text.replace(/[\s%]/g, '').replace(',', '.');
+    if (!/^[0-9]{1,3}(\.[0-9])?$/.test(trimmed)) return { fault: 'Type a number from 0 to 100, such as 12.5.' };
+    const typed = { ...place, [side]: Math.round(Number(trimmed) * 10) };
+    if (!placeFault(typed)) return { place: typed };
+    if (typed.width < LEAST_PLACE || typed.height < LEAST_PLACE) return { fault: `A screen is at least ${percent(LEAST_PLACE)} % wide and high.` };
+    const [start, length] = side === 'left' || side === 'width' ? ['left', 'width'] : ['top', 'height'];
+    return { fault: `The screen would end outside the cabin: ${start} and ${length} make ${percent(typed[start] + typed[length])} %, and 100 % is all there is.` };
+}
