@@ -176,11 +176,11 @@ export class CabinPanel {
         this.now.title.hidden = second === null;
         const draw = ({ root, scroll, stage, image, drawing }, options) => {
             const shape = shapeOf(photograph);
-            const fitting = Math.min(root.clientWidth - 16, WIDEST, Math.max(SHARE * innerHeight, 240) * shape);
+            const fitting = Math.min(root.clientWidth - 20, WIDEST, Math.max(SHARE * innerHeight, 240) * shape);
             const width = Math.floor(Math.max(fitting, lanes > MANY ? LEAST : 0));
             put(stage.style, 'cssText', `width: ${width}px; aspect-ratio: ${shape}`);
             // What scrolls is reached by the keyboard.
-            if (width > root.clientWidth - 16) Object.assign(scroll, { tabIndex: 0, role: 'region', ariaLabel: options.title });
+            if (width > root.clientWidth - 20) Object.assign(scroll, { tabIndex: 0, role: 'region', ariaLabel: options.title });
             else for (const name of ['tabindex', 'role', 'aria-label']) scroll.removeAttribute(name);
             image.hidden = !photograph;
             if (photograph && image.src !== photograph.url) [image.src, image.alt] = [photograph.url, `photograph of the cabin, ${file}`];

@@ -141,7 +141,7 @@ function frameMarkup(entry, { width, height }, photograph) {
 
 /** A thick dashed frame around the box and a sign at its corner. */
 function differsMarkup({ width, height }) {
-    const around = { x: -5, y: -5, width: width + 10, height: height + 10, rx: 8 };
+    const around = { x: -8, y: -8, width: width + 16, height: height + 16, rx: 8 };
     return tag('rect', { ...around, class: 'cabin-halo' }) + tag('rect', { ...around, class: 'cabin-differs' }) +
         tag('circle', { class: 'cabin-sign', cx: width, cy: 0, r: 11 }) +
         tag('text', { class: 'cabin-unequal', x: width, y: 6, 'text-anchor': 'middle' }, '≠');
@@ -157,8 +157,10 @@ function screenMarkup({ names, photograph }, screen, entry, box, differs) {
         class: `cabin-screen ${colourOf(Math.abs(entry))}`, 'data-screen': screen, 'data-entry': entry,
         'data-differs': differs ? 'yes' : null, transform: `translate(${box.x} ${box.y})`,
     };
-    return tag('g', attributes, `${tag('title', {}, escaped(text))}${tag('rect', ground)}${frameMarkup(entry, box, photograph)}` +
-        tag('svg', inside, tag('rect', { class: 'cabin-plate', rx: 3, ...plate }) + markup) + (differs ? differsMarkup(box) : ''));
+    const content = tag('svg', inside, tag('rect', { class: 'cabin-plate', rx: 3, ...plate }) + markup);
+    const frame = frameMarkup(entry, box, photograph);
+    const parts = layout.kind === 'tiny' ? frame + content : content + frame;
+    return tag('g', attributes, tag('title', {}, escaped(text)) + tag('rect', ground) + parts + (differs ? differsMarkup(box) : ''));
 }
 
 /** All that the drawing says, for those who do not see it. */

@@ -27,9 +27,11 @@ export function sizeFault({ name, size }) {
     return `${name} has ${megabytes(size)}. A photograph may have ${megabytes(MOST_BYTES)} at most: save a smaller copy of it and choose that.`;
 }
 
-/** The picture in a file's bytes, small enough for the screen, or null where the browser cannot show it. */
-async function shownFrom(blob) {
+/** The picture in a file, with its bytes and a copy for the screen, or null where the browser cannot show it. */
+async function shownFrom(file) {
     try {
+        // A file may be moved or removed later: its bytes are held.
+        const blob = new Blob([await file.arrayBuffer()], { type: file.type });
         const bitmap = await createImageBitmap(blob);
         const share = Math.min(1, LONGEST / Math.max(bitmap.width, bitmap.height));
         const [width, height] = [bitmap.width, bitmap.height].map(side => Math.max(Math.round(side * share), 1));
@@ -83,8 +85,9 @@ export class Photographs {
 
     /** Takes a file; returns its key, or why it is no photograph. */
     async add(file) {
-        const picture = sizeFault(file) ? null : await shownFrom(file);
-        if (!picture) return { fault: sizeFault(file) ?? `${file.name} cannot be read as a picture. Choose a JPEG, PNG or WebP file.` };
+        const fault = sizeFault(file);
+        const picture = fault ? null : await shownFrom(file);
+        if (!picture) return { fault: fault ?? `${file.name} cannot be read as a picture. Choose a JPEG, PNG or WebP file.` };
         const key = Math.random().toString(36).slice(2);
         this.#pictures.set(key, picture);
         try {

@@ -68,7 +68,7 @@ class Feel(PageTest):
 
     def test_any_order_of_presses_is_survived(self):
         """Presses and types at random, the same in each run; after each, the picture shows the library's window."""
-        self.js("HTMLAnchorElement.prototype.click = () => {}; print = () => {}; window.showOpenFilePicker = undefined; document.getElementById('file').click = () => {}")
+        self.js("HTMLAnchorElement.prototype.click = () => {}; print = () => {}; window.showOpenFilePicker = undefined; for (const field of document.querySelectorAll('[type=file]')) field.click = () => {}")
         self.assertEqual(self.driver.execute_async_script(RANDOM_USER, 40, 400), [])
 
     def test_no_horizontal_scroll_from_320_px_to_a_wall(self):

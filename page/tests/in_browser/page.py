@@ -14,7 +14,7 @@ from selenium.webdriver.support.ui import Select, WebDriverWait
 
 ROOT = Path(__file__).resolve().parents[3]
 RIGS = [("A", 3), ("B", 5), ("D", 5), ("B", 20), ("D", 64)]
-TABS = ["Why", "Wanted picture", "Modules", "Book", "Delays", "Sheet", "What is proved"]
+TABS = ["Why", "Wanted picture", "Cabin", "Modules", "Book", "Delays", "Sheet", "What is proved"]
 
 
 def chromium(downloads):
