@@ -1,7 +1,9 @@
 // A sheet to print for the training record.
+import { shownPhotograph } from './cabin.mjs';
+import { cabinPicture } from './cabin_picture.mjs';
 import { button, make } from './dom.mjs';
 import { KINDS } from './rig.mjs';
-import { labelled, nameOf } from './names.mjs';
+import { labelled, nameOf, placesOf } from './names.mjs';
 import { pictureMarkup } from './strands.mjs';
 import { term } from './terms.mjs';
 import { counted, signed, wordText } from './text.mjs';
@@ -73,8 +75,19 @@ export class SheetPanel {
         this.sheet.replaceChildren(
             make('h2', {}, this.title.value || name || 'Router preset'),
             this.#picture(),
+            ...this.#cabin(),
             table(['Screen', 'shows source', 'which way round'], screenLines(state, answers.window)),
             make('dl', {}, lines.flatMap(([name, text]) => [make('dt', {}, TERMED[name] ? term(TERMED[name], name) : name), make('dd', {}, text)])));
+    }
+
+    /** The cabin, if it was arranged or has a photograph: before that nothing is known of it. */
+    #cabin() {
+        const { state, answers } = this.app;
+        const photograph = shownPhotograph(this.app);
+        if (placesOf(state.names).size === 0 && !photograph) return [];
+        const holder = make('div', {});
+        holder.innerHTML = cabinPicture({ window: answers.window, names: state.names, width: 680, photograph });
+        return [holder];
     }
 
     /** A word too long for the paper is drawn in part. */

@@ -353,6 +353,20 @@ class Cabin(PageTest):
         self.press("Cabin")
         self.assertEqual(Select(self.labelled("Compare with")).first_selected_option.text, "nothing")
 
+    def test_11_the_sheet_has_the_cabin_once_it_is_known(self):
+        self.opened(NAMES)
+        self.press("Sheet")
+        cabin = "return document.querySelector('#sheet .cabin-drawing')"
+        self.assertIsNone(self.js(cabin))
+        self.drop(("cabin.book.names", LAYOUT), ("cabin-3.jpg", self.picture()))
+        self.settle()
+        drawing = self.js(cabin)
+        self.assertIn("screen 2 left mirror shows 5 rear left mirrored", drawing.get_attribute("aria-label"))
+        self.assertEqual(len(drawing.find_elements(By.CSS_SELECTOR, "image")), 1)
+        self.assertEqual([int(e.get_attribute("data-entry")) for e in sorted(drawing.find_elements(By.CSS_SELECTOR, ".cabin-screen"), key=lambda e: e.get_attribute("data-screen"))], self.screens())
+        pdf = base64.b64decode(self.driver.print_page())
+        self.assertTrue(pdf.startswith(b"%PDF") and b"/Subtype /Image" in pdf)
+
     # ---- everywhere
 
     def test_11_the_cabin_fits_every_page_and_is_readable(self):
