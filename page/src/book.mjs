@@ -83,7 +83,7 @@ export class BookPanel {
             make('div', { class: 'bar' },
                 button('Open a file', () => app.shelf.choose()), button('New book', () => app.shelf.open(NEW_BOOK, null)),
                 make('label', { class: 'field' }, make('span', {}, 'File name'), this.name)),
-            make('p', { class: 'quiet' }, 'A book, or a book and its .names file, can also be dropped anywhere on this page.'),
+            make('p', { class: 'quiet' }, 'A book, with its .names file and the photograph of its cabin, can also be dropped anywhere on this page.'),
             make('p', {}, make('span', { id: 'book-verdict' }), ' ', term('edition', 'What is an edition?'), ' ',
                 make('span', { class: 'quiet' }, 'Presets are numbered from 0, as the book numbers them.')),
             make('div', { class: 'bar' }, make('label', { class: 'field' }, make('span', {}, 'Name of the preset'), this.presetName),

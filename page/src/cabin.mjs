@@ -37,6 +37,8 @@ export class CabinPanel {
         this.now.stage.append(this.arranging.layer);
         this.now.root.append(this.arranging.root);
         root.addEventListener('drop', event => this.#dropped(event));
+        // A scroll bar that comes or goes changes the room.
+        new ResizeObserver(() => this.now.root.clientWidth > 0 && this.now.root.clientWidth !== this.room && this.room && this.#draw()).observe(this.figures);
     }
 
     /** The photograph of the present names as { url, width, height, blob }, or null. */
@@ -74,9 +76,9 @@ export class CabinPanel {
         if (app.state.book.name !== book.name) return;
         app.notice('');
         const { names, photograph } = app.state;
-        const asked = photographOf(names) === file.name && !app.photographs.of(photograph?.key);
+        const asked = photographOf(names) === file.name && !this.photograph;
         const name = asked ? file.name : photographName(file.name);
-        const beside = asked && (photograph?.beside ?? true);
+        const beside = asked && (photograph?.file !== name || photograph.beside);
         app.store.change({ names: withPhotograph(names, name), photograph: { file: name, key, beside } });
     }
 
@@ -170,27 +172,35 @@ export class CabinPanel {
         const second = this.#second;
         const lanes = Math.max(window.length, second?.window.length ?? 0);
         const places = this.arranges ? this.arranging.places : placesIn(names, lanes);
-        const [photograph, file] = [this.photograph, photographOf(names)];
+        const { photograph } = this;
         this.other.root.hidden = second === null;
         this.figures.classList.toggle('two', second !== null);
         this.now.title.hidden = second === null;
-        const draw = ({ root, scroll, stage, image, drawing }, options) => {
-            const shape = shapeOf(photograph);
-            const fitting = Math.min(root.clientWidth - 20, WIDEST, Math.max(SHARE * innerHeight, 240) * shape);
-            const width = Math.floor(Math.max(fitting, lanes > MANY ? LEAST : 0));
-            put(stage.style, 'cssText', `width: ${width}px; aspect-ratio: ${shape}`);
-            // What scrolls is reached by the keyboard.
-            if (width > root.clientWidth - 20) Object.assign(scroll, { tabIndex: 0, role: 'region', ariaLabel: options.title });
-            else for (const name of ['tabindex', 'role', 'aria-label']) scroll.removeAttribute(name);
-            image.hidden = !photograph;
-            if (photograph && image.src !== photograph.url) [image.src, image.alt] = [photograph.url, `photograph of the cabin, ${file}`];
-            const ground = photograph ? { ...photograph, url: null } : null;
-            drawing.innerHTML = cabinPicture({ names, lanes, width, photograph: ground, places, ...options });
-        };
+        const draw = (cabin, options) => this.#drawIn(cabin, { names, lanes, places, ...options }, photograph);
         draw(this.now, { window, against: second?.window ?? null, title: 'the cabin now' });
         if (!second) return;
         setText(this.other.title, second.title);
         draw(this.other, { window: second.window, against: window, title: `the cabin, ${second.title.toLowerCase()}` });
+    }
+
+    /** The width of a cabin: the same for two beside each other. */
+    #widthOf(lanes, shape) {
+        this.room = this.now.root.clientWidth;
+        const fitting = Math.min(this.room - 20, WIDEST, Math.max(SHARE * innerHeight, 240) * shape);
+        return Math.floor(Math.max(fitting, lanes > MANY ? LEAST : 0));
+    }
+
+    #drawIn({ scroll, stage, image, drawing }, options, photograph) {
+        const shape = shapeOf(photograph);
+        const width = this.#widthOf(options.lanes, shape);
+        put(stage.style, 'cssText', `width: ${width}px; aspect-ratio: ${shape}`);
+        // What scrolls is reached by the keyboard.
+        if (width > this.room - 20) Object.assign(scroll, { tabIndex: 0, role: 'region', ariaLabel: options.title });
+        else for (const name of ['tabindex', 'role', 'aria-label']) scroll.removeAttribute(name);
+        image.hidden = !photograph;
+        if (photograph && image.src !== photograph.url) [image.src, image.alt] = [photograph.url, `photograph of the cabin, ${photographOf(options.names)}`];
+        // The photograph is an image of its own: drawn anew with every step of a drag it would flicker.
+        drawing.innerHTML = cabinPicture({ ...options, width, photograph: photograph ? { ...photograph, url: null } : null });
     }
 
     /** How the two pictures differ, in words. */

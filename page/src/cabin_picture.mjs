@@ -1,15 +1,17 @@
 // The cabin as a drawing: every screen where it stands, with the source that it shows, the right way round. It is drawn in pixels,
 // so that its text has one size on a phone, on a wall and on paper; a screen too small for its text shows less of it.
 import { escaped, tag } from './markup.mjs';
-import { CABIN, labelled } from './names.mjs';
+import { CABIN, labelled, nameOf } from './names.mjs';
 import { largestFirst, placesIn, shapeOf } from './places.mjs';
 import { colourOf, dashOf, viewMarkup } from './strands.mjs';
 
-/** How wide a character is, in parts of the text's size: a little more than in most fonts. What is wider still is cut off. */
+/** How wide a bold character is, in parts of the text's size, in a font that is wide. What is wider still is cut off. */
 function wide(character) {
-    if (/[ijl.,:;'|! ]/.test(character)) return 0.34;
-    if (/[mwMW%]/.test(character)) return 0.98;
-    return character.codePointAt(0) > 0x2e7f ? 1.1 : 0.64;
+    if (/[ijl.,:;'|! ]/.test(character)) return 0.36;
+    if (/[frtI()\-]/.test(character)) return 0.48;
+    if (/[mwMW%…]/.test(character)) return 1.04;
+    if (/[A-Z]/.test(character)) return 0.79;
+    return character.codePointAt(0) > 0x2e7f ? 1.1 : 0.7;
 }
 
 /** The width of a text in pixels, estimated: no browser is needed. */
@@ -25,9 +27,29 @@ export function fitted(text, size, width) {
     return characters.length === 0 ? '' : `${characters.join('').trimEnd()}…`;
 }
 
+/** A source or screen by number and name, or as `source 5`: two numbers alone could be taken for one another. */
+function called(names, keyword, number) {
+    return nameOf(names, keyword, number) ? labelled(names, keyword, number) : `${keyword} ${number}`;
+}
+
 /** A source on a screen in words: `5 rear left mirrored`. */
 export function shownText(names, entry) {
-    return `${labelled(names, 'source', Math.abs(entry))}${entry < 0 ? ' mirrored' : ''}`;
+    return `${called(names, 'source', Math.abs(entry))}${entry < 0 ? ' mirrored' : ''}`;
+}
+
+/** The first of several texts that fits a width, or as much of the last as fits. */
+function fitting(texts, size, width) {
+    return texts.find(text => textWidth(text, size) <= width) ?? fitted(texts.at(-1), size, width);
+}
+
+/** The name of a screen and what it shows, in lines of a width; 'mirrored' is a line of its own if there is room for three. */
+function linesFor(names, screen, entry, size, width, three) {
+    const number = Math.abs(entry);
+    const source = called(names, 'source', number);
+    const label = (text, alone) => (/^[a-z]+ \d+$/.test(text) ? [text, alone] : [text]);
+    const first = fitting(label(called(names, 'screen', screen), String(screen)), size, width);
+    if (entry > 0 || three) return [first, fitting(label(source, String(number)), size, width), ...(entry < 0 ? [fitted('mirrored', size, width)] : [])];
+    return [first, fitting([`${source}, mirrored`, `${number}, mirrored`, source], size, width)];
 }
 
 /** The numbers of the screens on which two windows differ; one that only one of them has differs too. */
@@ -74,22 +96,21 @@ function textAt(content, x, y, size, attributes = {}) {
 /** Lines of text and a view one below the other, in the middle of the box. */
 function tallContent(names, screen, entry, box, { size, line, view, lines }) {
     const room = box.width - 8;
-    const all = [labelled(names, 'screen', screen), labelled(names, 'source', Math.abs(entry)), ...(entry < 0 && lines === 3 ? ['mirrored'] : [])];
-    const texts = all.map(text => fitted(text, size, room));
+    const texts = linesFor(names, screen, entry, size, room, lines === 3);
     const high = line * texts.length + view + 4;
     const text = Math.max(...texts.map(text => textWidth(text, size)), view * 44 / 30) + 16;
     // A plate that leaves little of the box leaves nothing.
     const across = text > box.width * 0.75 ? box.width - 4 : text;
     const top = (box.height - high) / 2;
     const down = high + 8 > box.height * 0.8 ? box.height - 4 : high + 8;
-    const middle = { 'text-anchor': 'middle' };
     const below = top + line + view + 3;
+    // Of a text that was cut, the front is what counts.
+    const textLine = (content, y, attributes = {}) => (content.endsWith('…')
+        ? textAt(content, 4, y, size, attributes) : textAt(content, box.width / 2, y, size, { 'text-anchor': 'middle', ...attributes }));
     return {
         plate: { x: (box.width - across) / 2, y: (box.height - down) / 2, width: across, height: down },
-        markup: textAt(texts[0], box.width / 2, top + size, size, { ...middle, class: 'cabin-name' }) +
-            viewAt(entry, box.width / 2 - view * 22 / 30, top + line + 1, view) +
-            textAt(texts[1], box.width / 2, below + size, size, middle) +
-            textAt(texts[2] ?? '', box.width / 2, below + line + size, size, { ...middle, class: 'cabin-name' }),
+        markup: textLine(texts[0], top + size, { class: 'cabin-name' }) + viewAt(entry, box.width / 2 - view * 22 / 30, top + line + 1, view) +
+            textLine(texts[1], below + size) + textLine(texts[2] ?? '', below + line + size, { class: 'cabin-name' }),
     };
 }
 
@@ -97,14 +118,10 @@ function tallContent(names, screen, entry, box, { size, line, view, lines }) {
 function flatContent(names, screen, entry, box, { size, line, view }) {
     const left = 10 + view * 44 / 30;
     const room = box.width - left - 6;
-    const three = box.height >= 3 * line + 6;
-    const source = labelled(names, 'source', Math.abs(entry));
-    const turned = entry < 0 && !three;
-    const second = turned && textWidth(`${source}, mirrored`, size) <= room ? `${source}, mirrored` : turned ? `${Math.abs(entry)}, mirrored` : source;
-    const lines = [labelled(names, 'screen', screen), second, ...(entry < 0 && three ? ['mirrored'] : [])];
+    const lines = linesFor(names, screen, entry, size, room, box.height >= 3 * line + 6);
     const high = line * lines.length;
     const top = (box.height - high) / 2;
-    const texts = lines.map((text, at) => textAt(fitted(text, size, room), left, top + line * at + size, size, { class: at === 1 ? null : 'cabin-name' }));
+    const texts = lines.map((text, at) => textAt(text, left, top + line * at + size, size, { class: at === 1 ? null : 'cabin-name' }));
     const plate = Math.max(high, view) + 4;
     return {
         plate: { x: 3, y: (box.height - plate) / 2, width: box.width - 6, height: plate },

@@ -56,8 +56,8 @@ test('two pictures differ where they differ, and it is said in names', () => {
     assert.deepEqual(differences(now, wanted), [2, 5]);
     assert.equal(differenceText(names, 2, now, wanted, 'wanted'), 'screen 2 left mirror: shows 5 rear left mirrored, wanted 1 left door');
     assert.deepEqual(differences([1, 2], [1, 2, 3]), [3]);
-    assert.equal(differenceText(names, 3, [1, 2], [1, 2, 3], 'in preset 4'), 'screen 3: is not in the present picture, in preset 4 3');
-    assert.equal(differenceText(names, 3, [1, 2, -3], [1, 2], 'in preset 4'), 'screen 3: shows 3 mirrored, is not in preset 4');
+    assert.equal(differenceText(names, 3, [1, 2], [1, 2, 3], 'in preset 4'), 'screen 3: is not in the present picture, in preset 4 source 3');
+    assert.equal(differenceText(names, 3, [1, 2, -3], [1, 2], 'in preset 4'), 'screen 3: shows source 3 mirrored, is not in preset 4');
 });
 
 test('the picture has every screen, and turns over the view of a mirrored one', () => {
@@ -84,7 +84,7 @@ test('the picture has every screen, and turns over the view of a mirrored one', 
 test('text is cut to what fits, with its front kept', () => {
     assert.equal(fitted('2 left mirror', 12, 500), '2 left mirror');
     const cut = fitted('2 left mirror', 12, 50);
-    assert.ok(/^2 l.*…$/.test(cut) && textWidth(cut, 12) <= 50);
+    assert.ok(/^2.*…$/.test(cut) && textWidth(cut, 12) <= 50);
     assert.equal(fitted('abc', 12, 3), '');
 });
 

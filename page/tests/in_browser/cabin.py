@@ -346,7 +346,7 @@ class Cabin(PageTest):
         other = [entry for entry, *_ in self.shown("other")]
         kind, rank, word = self.js("const p = app.library.presets(1, app.state.book.bytes)[0]; return [p.kind, p.rank, p.word]")
         self.assertEqual(other, self.library("window", kind, rank, word))
-        self.assertIn("screen 5: shows 2 mirrored, is not in preset 0", self.panel().text)
+        self.assertIn("screen 5: shows source 2 mirrored, is not in preset 0", self.panel().text)
         self.press("Book")
         self.press("remove preset 0")
         self.press("remove preset 0")
