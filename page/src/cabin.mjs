@@ -161,7 +161,7 @@ export class CabinPanel {
     #updateOpen() {
         const open = unplaced(this.app.state.names, this.app.answers.window.length);
         const most = open.length > 8 ? [...open.slice(0, 7), `${open.length - 7} more`] : open;
-        const text = open.length === 1 ? `Screen ${open[0]} has no place yet and stands in a grid.` : `Screens ${listed(most)} have no place yet and stand in a grid.`;
+        const text = open.length === 1 ? `Screen ${open[0]} has no place yet and stands where there is room.` : `Screens ${listed(most)} have no place yet and stand where there is room.`;
         setText(this.open, text);
         this.open.hidden = open.length === 0;
     }

@@ -2,32 +2,56 @@
 import { CABIN, LEAST_PLACE, placeFault, placesOf } from './names.mjs';
 
 export const SIDES = ['left', 'top', 'width', 'height'];
+/** A grid of so many columns has cells that are just large enough. */
+const FINEST = 32;
 
 /** The cabin's width over its height: the shape of the photograph, or 16 to 9 without one. */
 export function shapeOf(photograph) {
     return photograph ? photograph.width / photograph.height : 16 / 9;
 }
 
-/** The place of a screen that was not arranged: a cell of a grid that holds all lanes, with the last row in the middle. */
-export function gridPlace(number, lanes) {
-    const columns = Math.ceil(Math.sqrt(lanes));
-    const rows = Math.ceil(lanes / columns);
-    const [row, column] = [Math.floor((number - 1) / columns), (number - 1) % columns];
-    const inRow = Math.min(columns, lanes - row * columns);
-    const gap = lanes > 16 ? 8 : 24;
-    const span = (start, parts) => {
-        const [from, to] = [start, start + 1].map(edge => edge * CABIN / parts);
-        return [Math.round(from + gap / 2), Math.round(to - gap / 2) - Math.round(from + gap / 2)];
+/** A cell of a grid, with a gap around it; columns and rows count from 0. */
+function cell(column, row, columns, rows, gap) {
+    const span = (at, parts) => {
+        const start = Math.round(at * CABIN / parts + gap / 2);
+        return [start, Math.round((at + 1) * CABIN / parts - gap / 2) - start];
     };
-    const [left, width] = span(column + (columns - inRow) / 2, columns);
-    const [top, height] = span(row, rows);
+    const [[left, width], [top, height]] = [span(column, columns), span(row, rows)];
     return { left, top, width, height };
 }
 
-/** The places of the screens 1 to `lanes`, in this order. */
+/** The place of a screen in a grid that holds all lanes, with the last row in the middle. */
+export function gridPlace(number, lanes) {
+    const columns = Math.ceil(Math.sqrt(lanes));
+    const row = Math.floor((number - 1) / columns);
+    const inRow = Math.min(columns, lanes - row * columns);
+    return cell((number - 1) % columns + (columns - inRow) / 2, row, columns, Math.ceil(lanes / columns), lanes > 16 ? 8 : 24);
+}
+
+export function overlap(one, two) {
+    return one.left < two.left + two.width && two.left < one.left + one.width && one.top < two.top + two.height && two.top < one.top + one.height;
+}
+
+/** So many places that overlap none of those taken, in the coarsest grid that has them; none where no grid has. */
+function freePlaces(count, taken, columns) {
+    for (let parts = columns; count > 0 && parts <= FINEST; parts++) {
+        const all = Array.from({ length: parts * parts }, (_, at) => cell(at % parts, Math.floor(at / parts), parts, parts, 8));
+        const free = all.filter(place => !taken.some(other => overlap(place, other)));
+        if (free.length >= count) return free.slice(0, count);
+    }
+    return [];
+}
+
+/** The places of the screens 1 to `lanes`, in this order. One that was not arranged stands in the grid, or beside it if others are there. */
 export function placesIn(names, lanes) {
     const kept = placesOf(names);
-    return Array.from({ length: lanes }, (_, at) => kept.get(at + 1) ?? gridPlace(at + 1, lanes));
+    const numbers = Array.from({ length: lanes }, (_, at) => at + 1);
+    const arranged = numbers.filter(number => kept.has(number)).map(number => kept.get(number));
+    const places = numbers.map(number => kept.get(number) ?? gridPlace(number, lanes));
+    const covered = numbers.filter(number => !kept.has(number) && arranged.some(place => overlap(place, places[number - 1])));
+    const taken = places.filter((_, at) => !covered.includes(at + 1));
+    freePlaces(covered.length, taken, Math.ceil(Math.sqrt(lanes))).forEach((place, at) => (places[covered[at] - 1] = place));
+    return places;
 }
 
 /** The numbers of the screens, that of the largest first. */

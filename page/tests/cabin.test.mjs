@@ -5,11 +5,9 @@ import { cabinPicture, differenceText, differences, fitted, textWidth } from '..
 import { draftOf, readDraft } from '../src/draft.mjs';
 import { LEAST_PLACE, NO_NAMES, placeFault, readNames, withName, withPlace } from '../src/names.mjs';
 import { MOST_BYTES, photographName, sizeFault } from '../src/photographs.mjs';
-import { gridPlace, largestFirst, moved, placesIn, shapeOf, sized, typedPlace, unplaced } from '../src/places.mjs';
+import { gridPlace, largestFirst, moved, overlap, placesIn, shapeOf, sized, typedPlace, unplaced } from '../src/places.mjs';
 import { FIRST_STATE } from '../src/state.mjs';
 import { dice, library } from './library.mjs';
-
-const apart = (one, two) => one.left + one.width <= two.left || two.left + two.width <= one.left || one.top + one.height <= two.top || two.top + two.height <= one.top;
 
 test('the grid has a place for every screen of every rig, inside the cabin and apart', () => {
     for (let lanes = 2; lanes <= 64; lanes++) {
@@ -18,12 +16,26 @@ test('the grid has a place for every screen of every rig, inside the cabin and a
             assert.equal(placeFault(place), null);
             assert.ok(Object.values(place).every(Number.isInteger) && place.left >= 0 && place.top >= 0);
         }
-        places.forEach((one, at) => places.slice(at + 1).forEach(two => assert.ok(apart(one, two), `${lanes} lanes`)));
+        places.forEach((one, at) => places.slice(at + 1).forEach(two => assert.ok(!overlap(one, two), `${lanes} lanes`)));
     }
-    const names = withPlace(NO_NAMES, 2, { left: 0, top: 0, width: 500, height: 500 });
-    assert.deepEqual(placesIn(names, 3), [gridPlace(1, 3), { left: 0, top: 0, width: 500, height: 500 }, gridPlace(3, 3)]);
+    const place = { left: 490, top: 0, width: 500, height: 500 };
+    const names = withPlace(NO_NAMES, 2, place);
+    assert.deepEqual(placesIn(names, 3), [gridPlace(1, 3), place, gridPlace(3, 3)]);
     assert.deepEqual([unplaced(names, 3), unplaced(NO_NAMES, 3), unplaced(names, 1)], [[1, 3], [], []]);
     assert.deepEqual(largestFirst(placesIn(names, 3)), [2, 1, 3]);
+});
+
+test('a screen that was not arranged is not hidden by one that was', () => {
+    const arranged = [[250, 120, 500, 400], [60, 330, 140, 260], [20, 640, 260, 300], [430, 600, 180, 220], [800, 330, 140, 260]];
+    const names = arranged.reduce((all, [left, top, width, height], at) => withPlace(all, at + 1, { left, top, width, height }), NO_NAMES);
+    for (const lanes of [6, 8, 20, 64]) {
+        const places = placesIn(names, lanes);
+        assert.deepEqual(places.slice(0, 5).map(({ left, top, width, height }) => [left, top, width, height]), arranged);
+        for (const place of places) assert.equal(placeFault(place), null);
+        places.forEach((one, at) => places.slice(Math.max(at + 1, 5)).forEach(two => assert.ok(!overlap(one, two), `${lanes} lanes`)));
+    }
+    const full = withPlace(NO_NAMES, 1, { left: 0, top: 0, width: 1000, height: 1000 });
+    assert.deepEqual(placesIn(full, 2)[1], gridPlace(2, 2));
 });
 
 test('whatever moves or sizes a screen leaves a place that the format takes', () => {

@@ -81,6 +81,15 @@ class Cabin(PageTest):
         dashes = self.js("return [...document.querySelectorAll('[data-cabin=now] .cabin-screen')].map(e => getComputedStyle(e.querySelector('.cabin-line, .cabin-double')).stroke + e.querySelector('.cabin-line, .cabin-double').getAttribute('stroke-dasharray'))")
         self.assertEqual(len(set(dashes)), 20)
 
+    def test_11_a_preset_of_a_larger_rig_hides_no_screen(self):
+        self.opened()
+        self.assertIn("Screens 3, 4 and 5 have no place yet and stand where there is room.", self.panel().text)
+        self.rig("B", 20)
+        boxes = self.js("return [...document.querySelectorAll('[data-cabin=now] .cabin-screen > :is(.cabin-plate, .cabin-glass)')].map(e => { const b = e.getBoundingClientRect(); return [b.left, b.top, b.right, b.bottom]; })")
+        self.assertEqual(len(boxes), 20)
+        over = [(one, two) for at, one in enumerate(boxes) for two in boxes[at + 1:] if one[0] < two[2] and two[0] < one[2] and one[1] < two[3] and two[1] < one[3]]
+        self.assertEqual(over, [])
+
     def test_11_arranged_by_the_mouse_saved_and_read_again(self):
         self.opened(NAMES)
         self.press("Arrange the screens")
