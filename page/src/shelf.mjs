@@ -116,7 +116,7 @@ export class Shelf {
         const { app } = this;
         const { book, names, namesFile, pictures, wrong } = await readFiles(items, app.state.names);
         app.notice(wrong ?? '');
-        if (!book && !names) return this.#takePictures(pictures);
+        if (!book && !names) return wrong ? undefined : this.#takePictures(pictures);
         const { photograph, fault } = await this.#photographOf(pictures, names);
         if (book) return this.open({ ...book, file: { book: book.handle, names: handleFor(book, namesFile) } }, names, wrong ?? fault, photograph);
         const present = app.state.book;

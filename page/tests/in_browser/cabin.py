@@ -144,9 +144,19 @@ class Cabin(PageTest):
         self.assertGreater(left, before["left"] + 50)
         self.assertGreater(top, before["top"] + 100)
         self.assertEqual(self.js("return scrollY"), scrolled)
+        width = self.place(1)[2]
+        x, y = self.js("const b = document.querySelector('.chosen .cabin-corner').getBoundingClientRect(); return [b.left + b.width / 2, b.top + b.height / 2]")
+        self.touch("touchStart", x, y)
+        for step in range(1, 5):
+            self.touch("touchMove", x + 6 * step, y)
+        self.touch("touchEnd")
+        self.settle()
+        self.assertEqual(self.place(1)[:2], [left, top])
+        self.assertGreater(self.place(1)[2], width + 40)
         small = self.js("return [...document.querySelectorAll('.cabin-handle, .chosen .cabin-corner, #panel-cabin button, #panel-cabin input, #panel-cabin select')].filter(e => e.offsetParent !== null).filter(e => { const b = e.getBoundingClientRect(); return b.width < 24 || b.height < 24; }).length")
         self.assertEqual(small, 0)
-        self.press("Undo the last change")
+        for _ in range(2):
+            self.press("Undo the last change")
         self.assertEqual(self.place(1), None)
 
     def test_11_arranged_by_the_keyboard(self):
@@ -266,6 +276,28 @@ class Cabin(PageTest):
         self.assertEqual(self.over()[0], "photograph of the cabin, cabin-3.jpg")
         self.assertEqual(self.place(1), [250, 100, 500, 350])
 
+    HANDLES, pick, written = Books.HANDLES, Books.pick, Books.written
+
+    def test_11_a_photograph_is_put_beside_the_opened_files(self):
+        files = {"cabin.book": BOOK, "cabin.book.names": LAYOUT, "cabin-3.jpg": self.picture()}
+        self.pick(files)
+        self.press("Cabin")
+        WebDriverWait(self.driver, 5).until(lambda _: self.over())
+        self.press("Save")
+        self.assertEqual(set(self.written()), {"cabin.book", "cabin.book.names"})
+        self.assertEqual(self.text("notice"), "cabin.book and cabin.book.names were saved.")
+        other = self.picture(300, 400, "image/png")
+        self.drop_on_panel("view.png", other, "image/png")
+        self.press("Save")
+        self.assertEqual(self.written()["cabin.book.names"], LAYOUT.replace(b"cabin-3.jpg", b"view.png"))
+        self.assertEqual(self.saved("view.png"), other)
+        self.assertIn("view.png was given to the browser, which puts it with its downloads. Put view.png beside the book.", self.text("notice"))
+        self.press("Book")
+        self.press("Save as a new file")
+        for name in ["cabin.book", "cabin.book.names"]:
+            self.saved(name)
+        self.assertEqual(self.saved("view.png"), other)
+
     def test_11_a_missing_photograph_is_asked_for_by_its_name(self):
         self.opened()
         self.assertIn("The photograph of the cabin, cabin-3.jpg, did not come with cabin.book.", self.text("notice"))
@@ -294,6 +326,18 @@ class Cabin(PageTest):
         self.drop_on_panel("large.png", self.picture(30, 40, "image/png"), "image/png")
         self.assertIn("large.png has 30 MB. A photograph may have 25 MB at most", self.text("notice"))
         self.assertEqual(self.names(), (NAMES + b"photograph view.png\n").decode())
+
+    def test_11_a_picture_that_the_names_do_not_have_is_not_used(self):
+        self.driver.execute_async_script(
+            """const [files, done] = arguments, data = new DataTransfer();
+            for (const [name, text, type] of files) data.items.add(new File([Uint8Array.from(atob(text), c => c.charCodeAt(0))], name, { type }));
+            document.querySelector('main').dispatchEvent(new DragEvent('drop', { dataTransfer: data, bubbles: true, cancelable: true }));
+            setTimeout(done, 200);""",
+            [[name, base64.b64encode(content).decode(), type] for name, content, type in [("cabin.book", BOOK, ""), ("cabin.book.names", LAYOUT, ""), ("view.png", self.picture(30, 40, "image/png"), "image/png")]])
+        self.settle()
+        self.assertIn("view.png is not used: the names have the photograph cabin-3.jpg.", self.text("notice"))
+        self.press("Cabin")
+        self.assertEqual((self.over(), self.names()), (None, LAYOUT.decode()))
 
     def test_11_a_picture_elsewhere_is_asked_about(self):
         self.opened(NAMES)
