@@ -30,7 +30,7 @@ export class Arranging {
         this.message = make('p', { id: 'place-message', class: 'refusal-text', role: 'alert' });
         this.said = make('p', { class: 'quiet', role: 'status' });
         this.root = make('div', { class: 'cabin-arranging' },
-            make('p', {}, 'Drag a screen to where it stands in the cabin, and the corner of the chosen one to size it. With the keyboard: the arrow keys move by 1 %, with Shift they size.'),
+            make('p', {}, 'Drag a screen to where it stands in the cabin, and the round handle at its corner to size it. With the keyboard, arrow keys move it by 1 %, and Shift with an arrow key sizes it.'),
             make('div', { class: 'bar' }, labelledField('Screen', this.choice),
                 SIDES.map(side => labelledField(`${SIDE_NAMES[side]} %`, this.inputs[side]))),
             this.message, this.said,

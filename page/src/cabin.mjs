@@ -149,7 +149,7 @@ export class CabinPanel {
         if (file && picture === null) setText(this.choose, `Choose ${file}`);
         this.remove.hidden = !file;
         let text = '';
-        if (file && !held) text = `The names of this book have the photograph ${file}, which was not opened with it: choose it, or drop it on this page.`;
+        if (file && !held) text = `The photograph ${file} was not opened with this book: choose it, or drop it on this page.`;
         else if (file && picture === null) text = `This browser has not kept the photograph ${file}: choose it again.`;
         else if (held && photographs.isUnkept(held.key)) text = `This browser cannot keep the photograph: after a reload, choose ${file} again.`;
         setText(this.message, text);

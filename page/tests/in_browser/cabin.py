@@ -301,7 +301,7 @@ class Cabin(PageTest):
     def test_11_a_missing_photograph_is_asked_for_by_its_name(self):
         self.opened()
         self.assertIn("The photograph of the cabin, cabin-3.jpg, did not come with cabin.book.", self.text("notice"))
-        self.assertIn("the photograph cabin-3.jpg, which was not opened with it: choose it", self.message())
+        self.assertIn("The photograph cabin-3.jpg was not opened with this book: choose it", self.message())
         self.labelled("Choose cabin-3.jpg")
         self.press("Go on without it")
         self.drop(("cabin-3.jpg", self.picture()))
