@@ -40,6 +40,10 @@ impl Progress {
         Progress::saying("windows looked at:")
     }
 
+    pub fn of_presets() -> Progress {
+        Progress::saying("presets done:")
+    }
+
     fn saying(unknown: &'static str) -> Progress {
         let steps = Arc::new(Steps { unknown, done: AtomicUsize::new(0), all: AtomicUsize::new(0) });
         let mut progress = Progress { steps: steps.clone(), work: None };

@@ -226,6 +226,8 @@ pub const LINES_OF_WORDS: Opt =
 pub const LINES: Opt = Opt::flag("--lines", "the lines of the listing program, one a preset, and nothing else");
 pub const ONE_PRESET: Opt = Opt::with("--preset", "N", "that preset alone, refused (4) if the book has none such");
 pub const OUTPUT_REPORT: Opt = Opt::file("-o", "FILE", "where the sheet goes (HTML), - for standard output");
+pub const OUTPUT_CERTIFICATE: Opt =
+    Opt::file("-o", "FILE", "where the certificate goes (JSON Lines); standard output if not given");
 pub const DATE: Opt = Opt::with("--date", "TEXT", "the date to put on the sheet; a line to write on if not given");
 pub const MARKDOWN: Opt = Opt::flag("--markdown", "as Markdown");
 

@@ -7,6 +7,7 @@ pub enum Sort {
     Svg,
     Png,
     Html,
+    Certificate,
 }
 
 impl Sort {
@@ -16,6 +17,7 @@ impl Sort {
             Sort::Svg => "a picture (SVG)",
             Sort::Png => "a picture (PNG)",
             Sort::Html => "a sheet (HTML)",
+            Sort::Certificate => "a certificate (JSON Lines)",
         }
     }
 
@@ -30,12 +32,13 @@ impl Sort {
                 Sort::Svg => begins(b"<svg") || (begins(b"<?xml") && bytes.windows(4).any(|four| four == b"<svg")),
                 Sort::Png => bytes.starts_with(b"\x89PNG\r\n\x1a\n"),
                 Sort::Html => begins(b"<!doctype html") || begins(b"<!DOCTYPE html"),
+                Sort::Certificate => bytes.starts_with(b"{\"certificate\":"),
             }
     }
 
     /// What a file with these first bytes is.
     pub fn of(bytes: &[u8]) -> &'static str {
-        let sorts = [Sort::Svg, Sort::Png, Sort::Html, Sort::Book];
+        let sorts = [Sort::Svg, Sort::Png, Sort::Html, Sort::Certificate, Sort::Book];
         sorts.into_iter().find(|sort| sort.fits(bytes)).map_or("a file of another sort", Sort::name)
     }
 }

@@ -1,6 +1,7 @@
 //! The subcommands, a module each.
 mod append;
 mod between;
+mod certify;
 mod check;
 mod completions;
 mod convert;
@@ -31,7 +32,7 @@ pub use show::{in_words, numbered};
 use crate::table::Subcommand;
 
 /// In the order of the help text: presets, then windows and words, then books, then the command itself.
-pub static SUBCOMMANDS: [Subcommand; 25] = [
+pub static SUBCOMMANDS: [Subcommand; 26] = [
     show::SUBCOMMAND,
     why::SUBCOMMAND,
     draw::SUBCOMMAND,
@@ -55,6 +56,7 @@ pub static SUBCOMMANDS: [Subcommand; 25] = [
     convert::SUBCOMMAND,
     name::SUBCOMMAND,
     report::SUBCOMMAND,
+    certify::SUBCOMMAND,
     completions::SUBCOMMAND,
     man::SUBCOMMAND,
 ];
