@@ -1,4 +1,3 @@
-#!/usr/bin/env python3
 """Checks a certificate that `winnathey certify` wrote against the book that it is about.
 
     python3 verify_certificate.py BOOK CERTIFICATE --edition first|second

@@ -1,7 +1,7 @@
 # bash completion for winnathey
 _winnathey() {
     local word=${COMP_WORDS[COMP_CWORD]} before=${COMP_WORDS[COMP_CWORD - 1]}
-    local subcommands='show why draw same split between fallback delays normal product inverse descents shortest list check diff append remove replace move convert name report completions man' options= operands=
+    local subcommands='show why draw same split between fallback delays normal product inverse descents shortest list check diff append remove replace move convert name report certify completions man' options= operands=
     if ((COMP_CWORD == 1)); then
         COMPREPLY=($(compgen -W "$subcommands help --help --version" -- "$word"))
         return
@@ -31,6 +31,7 @@ _winnathey() {
     convert) options='--edition --timeout --in-place -o --force --at-most --dry-run --quiet --json --help' operands='files' ;;
     name) options='--edition --timeout --remove --dry-run --quiet --json --help' operands='files' ;;
     report) options='--edition --timeout -o --force --date --names --json --help' operands='files' ;;
+    certify) options='--edition --lines -o --force --json --help' operands='files' ;;
     completions) options='--json --help' operands='bash zsh fish' ;;
     man) options='--markdown --json --help' operands='' ;;
     esac

@@ -1,7 +1,7 @@
 # fish completion for winnathey
 complete -c winnathey -f
 complete -c winnathey -n __fish_use_subcommand -a help -d 'help on a subcommand'
-complete -c winnathey -n '__fish_seen_subcommand_from help; and test (count (commandline -opc)) -eq 2' -a 'show why draw same split between fallback delays normal product inverse descents shortest list check diff append remove replace move convert name report completions man'
+complete -c winnathey -n '__fish_seen_subcommand_from help; and test (count (commandline -opc)) -eq 2' -a 'show why draw same split between fallback delays normal product inverse descents shortest list check diff append remove replace move convert name report certify completions man'
 complete -c winnathey -n __fish_use_subcommand -a show -d 'what a preset shows, its normal form, what its length is made of'
 complete -c winnathey -n '__fish_seen_subcommand_from show' -l empty -d 'takes a standard input without numbers for the empty word, in place of refusing it'
 complete -c winnathey -n '__fish_seen_subcommand_from show' -l book -r -F -d 'takes the preset out of this book, in place of RIG and WORD'
@@ -238,6 +238,14 @@ complete -c winnathey -n '__fish_seen_subcommand_from report' -l names -r -F -d 
 complete -c winnathey -n '__fish_seen_subcommand_from report' -l json -d 'the answer, or why there is none, as one JSON object on standard output; the manual page lists its fields'
 complete -c winnathey -n '__fish_seen_subcommand_from report' -l help -d 'this text; -h too'
 complete -c winnathey -n '__fish_seen_subcommand_from report' -F
+complete -c winnathey -n __fish_use_subcommand -a certify -d 'evidence for each preset that can be checked without this program'
+complete -c winnathey -n '__fish_seen_subcommand_from certify' -l edition -x -a 'first second' -d 'first or second, the edition that the book has: its bytes do not tell'
+complete -c winnathey -n '__fish_seen_subcommand_from certify' -l lines -d 'of each preset the lines of its rewriting too; 4,096 letters may have millions of them'
+complete -c winnathey -n '__fish_seen_subcommand_from certify' -s o -r -F -d 'where the certificate goes (JSON Lines); standard output if not given'
+complete -c winnathey -n '__fish_seen_subcommand_from certify' -l force -d 'lets -o replace an existing file, if that is of the same sort'
+complete -c winnathey -n '__fish_seen_subcommand_from certify' -l json -d 'the answer, or why there is none, as one JSON object on standard output; the manual page lists its fields'
+complete -c winnathey -n '__fish_seen_subcommand_from certify' -l help -d 'this text; -h too'
+complete -c winnathey -n '__fish_seen_subcommand_from certify' -F
 complete -c winnathey -n __fish_use_subcommand -a completions -d 'completions for bash, zsh or fish'
 complete -c winnathey -n '__fish_seen_subcommand_from completions' -l json -d 'the answer, or why there is none, as one JSON object on standard output; the manual page lists its fields'
 complete -c winnathey -n '__fish_seen_subcommand_from completions' -l help -d 'this text; -h too'

@@ -51,7 +51,7 @@ fn run(mut args: Args, out: &mut Out) -> Result<Verdict, Failure> {
     let path = Path::new(&path);
     let target = args.path("-o").filter(|target| !files::is_standard(target));
     if out.json && target.is_none() {
-        return Err(args.usage("--json needs -o FILE: the certificate itself would want standard output"));
+        return Err(args.usage("--json needs -o FILE, since the certificate itself goes to standard output"));
     }
     let (lines, force) = (args.flag("--lines"), args.flag("--force"));
     if let Some(target) = &target {
