@@ -12,7 +12,7 @@ KINDS = {1: "A", 2: "B", 3: "D"}  # K2
 RANKS = {"first": {"A": (1, 31), "B": (2, 32), "D": (4, 32)},  # B12
          "second": {"A": (1, 63), "B": (2, 64), "D": (4, 64)}}  # B13, K4
 HEAD_BYTES = {"first": 4, "second": 5}  # B6, B7
-MAX_BOOK, MAX_WORD, MAX_LINE = 65535, 4096, 1 << 28  # C1, C7; more bytes than a line of any rewriting has (T25)
+MAX_BOOK, MAX_WORD, MAX_LINE = 65535, 4096, 1 << 27  # C1, C7; more bytes than a line of any rewriting has (T25)
 
 # The fields of the certificate's lines and their types; lists are of whole numbers.
 HEAD = {"certificate": int, "version": str, "library_sha256": str, "book_sha256": str, "bytes": int, "edition": str,

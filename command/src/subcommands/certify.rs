@@ -55,6 +55,10 @@ fn run(mut args: Args, out: &mut Out) -> Result<Verdict, Failure> {
     }
     let (lines, force) = (args.flag("--lines"), args.flag("--force"));
     if let Some(target) = &target {
+        // A book of no bytes is a file of any sort, and would be replaced.
+        if files::is_one_file(path, target) {
+            return Err(args.usage(format!("{} is BOOK itself", text::file(target))));
+        }
         files::may_write(target, Sort::Certificate, force)?;
     }
     let book = Book::new(args.edition(path)?, files::read_book(path)?, path);
