@@ -1,6 +1,6 @@
 // Books: what a file is as either edition, its presets row by row, and loading, appending, converting and saving.
 import { button, byId, labelledField, make, refusalLine, refusalParts, setText } from './dom.mjs';
-import { matching, withDuplicate, withMoved, withReplaced, withoutPreset } from './editing.mjs';
+import { matching, pastText, settled, withDuplicate, withMoved, withReplaced, withoutPreset } from './editing.mjs';
 import { attempt } from './library.mjs';
 import { withName } from './names.mjs';
 import { toldText } from './plain.mjs';
@@ -70,6 +70,7 @@ export class BookPanel {
         this.name = make('input', { type: 'text', id: 'book-name', spellcheck: 'false', onchange: () => this.#rename() });
         this.presetName = make('input', { type: 'text', id: 'preset-name', placeholder: 'a name, if you like' });
         this.message = make('div', { id: 'book-message', 'aria-live': 'polite' });
+        this.past = make('p', { id: 'book-past', role: 'status' });
         this.rows = make('ol', { class: 'presets', id: 'presets' });
         this.pager = make('div', { class: 'bar' });
         this.search = make('input', { type: 'text', id: 'search', placeholder: 'name, rig or steps', spellcheck: 'false', oninput: () => this.#searched() });
@@ -86,6 +87,7 @@ export class BookPanel {
             make('p', { class: 'quiet' }, 'A book, with its .names file and the photograph of its cabin, can also be dropped anywhere on this page.'),
             make('p', {}, make('span', { id: 'book-verdict' }), ' ', term('edition', 'What is an edition?'), ' ',
                 make('span', { class: 'quiet' }, 'Presets are numbered from 0, as the book numbers them.')),
+            this.past,
             make('div', { class: 'bar' }, make('label', { class: 'field' }, make('span', {}, 'Name of the preset'), this.presetName),
                 button('Append the present preset', () => this.append(), { class: 'main', id: 'append' })),
             make('div', { class: 'bar' }, this.convert, button('Save as a new file', () => app.shelf.save({ anew: true }), { id: 'save-book' }),
@@ -123,11 +125,12 @@ export class BookPanel {
         const { value, refusal } = attempt(() => library.append(edition, bytes, state.kind, state.rank, state.word));
         if (refusal) return this.#say(refusalLine(refusal, { first: edition === 1 }, 'The book stays as it was.')) ?? false;
         const number = library.bookCheck(edition, value) - 1;
-        store.change({ book: { ...state.book, bytes: value }, names: withName(state.names, 'preset', number, this.presetName.value) });
+        const { state: { names }, dropped } = settled(library, state);
+        store.change({ book: { ...state.book, bytes: value }, names: withName(names, 'preset', number, this.presetName.value) });
         this.presetName.value = '';
         this.first = number - number % ROWS;
         store.markWordKept(number);
-        this.#say(make('p', {}, `Appended as preset ${number}. The book is not saved yet.`));
+        this.#say(make('p', {}, `Appended as preset ${number}. ${dropped}The book is not saved yet.`));
         return true;
     }
 
@@ -142,8 +145,9 @@ export class BookPanel {
             return this.#say(refusalLine(refusal, where, 'The book stays as it was.'));
         }
         const name = convertedName(state.book.name, 3 - edition);
-        store.change({ book: { name, edition: 3 - edition, bytes: value } });
-        this.#say(make('p', {}, `Converted to the ${editionName(3 - edition)}, as ${name}. The book is not saved yet.`));
+        const { state: { names }, dropped } = settled(library, state);
+        store.change({ book: { name, edition: 3 - edition, bytes: value }, names });
+        this.#say(make('p', {}, `Converted to the ${editionName(3 - edition)}, as ${name}. ${dropped}The book is not saved yet.`));
     }
 
     #load(preset) {
@@ -166,7 +170,10 @@ export class BookPanel {
         if (document.activeElement !== this.name) this.name.value = book.name;
         setText(byId('book-verdict'), `${countText(library, book)}.`);
         this.convert.textContent = `Convert to the ${editionName(3 - book.edition)}`;
-        this.#drawRows(library.bookCheck(book.edition, book.bytes));
+        const count = library.bookCheck(book.edition, book.bytes);
+        const past = pastText(state.names, count);
+        setText(this.past, past && `The names are for ${past} too, which ${book.name} does not have: the next change of the book drops that.`);
+        this.#drawRows(count);
         const next = this.next && this.rows.querySelector(`[aria-label="${this.next}"]:enabled`);
         if (this.next) (next ?? this.rows.querySelector('li:last-child button') ?? byId('append')).focus();
         this.next = null;
@@ -180,11 +187,12 @@ export class BookPanel {
     /** Changes the presets, says so, and puts the focus on a button of the rows; a refusal changes nothing. */
     #edit(change, said, next = null) {
         const { app } = this;
-        const { value, refusal } = attempt(() => change(app.library, app.state));
+        const { state, dropped } = settled(app.library, app.state);
+        const { value, refusal } = attempt(() => change(app.library, state));
         if (refusal) return this.#say(refusalLine(refusal, { first: app.state.book.edition === 1 }, 'The book stays as it was.'));
         app.store.change(value);
         this.next = next;
-        this.#say(make('p', {}, `${said} Undo takes it back. The book is not saved yet.`));
+        this.#say(make('p', {}, `${said} ${dropped}Undo takes it back. The book is not saved yet.`));
     }
 
     #move(from, to, way) {

@@ -12,6 +12,25 @@ export function renumbered(names, numberOf) {
     return { ...names, lines };
 }
 
+/** The names of presets that a book with so many does not have, in a list to be told; '' if there are none. */
+export function pastText(names, count) {
+    const past = names.lines.filter(line => line.keyword === 'preset' && line.number >= count).map(line => `${line.number} '${line.name}'`);
+    return past.length === 0 ? '' : `${past.length === 1 ? 'preset' : 'presets'} ${past.join(', ')}`;
+}
+
+/**
+ * The state before a change of the book, without names of presets that the book does not have: a preset that comes later would get one
+ * of them. With what went, in words.
+ */
+export function settled(library, state) {
+    const count = library.bookCheck(state.book.edition, state.book.bytes);
+    const past = pastText(state.names, count);
+    if (past === '') return { state, dropped: '' };
+    const names = renumbered(state.names, number => (number < count ? number : null));
+    const told = past.startsWith('presets') ? `The names of ${past} were dropped: the book did not have them. ` : `The name of ${past} was dropped: the book did not have it. `;
+    return { state: { ...state, names }, dropped: told };
+}
+
 /** A change of the state: the book's new bytes, and names and the kept preset by their new numbers. */
 function changed({ book, names, kept }, bytes, numberOf) {
     const number = kept ? numberOf(kept.number) : null;
@@ -20,9 +39,7 @@ function changed({ book, names, kept }, bytes, numberOf) {
 
 export function withoutPreset(library, state, number) {
     const { edition, bytes } = state.book;
-    const count = library.bookCheck(edition, bytes);
-    // A name of no preset stays as it is.
-    const numberOf = old => (old === number ? null : old > number && old < count ? old - 1 : old);
+    const numberOf = old => (old === number ? null : old > number ? old - 1 : old);
     return changed(state, library.remove(edition, bytes, number), numberOf);
 }
 
@@ -50,7 +67,7 @@ export function withDuplicate(library, state, { number, kind, rank, word }) {
 export function withReplaced(library, state, number) {
     const { edition, bytes } = state.book;
     const replaced = library.replace(edition, bytes, number, state.kind, state.rank, state.word);
-    return { book: { ...state.book, bytes: replaced }, kept: presetOf(state, number) };
+    return { book: { ...state.book, bytes: replaced }, names: state.names, kept: presetOf(state, number) };
 }
 
 /** The presets with a text in their name, or as their number, their rig or steps in a row of their word. */

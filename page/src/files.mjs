@@ -1,4 +1,5 @@
 // Files: opened, dropped and saved. Nothing else leaves or enters the page.
+import { isLeft, leftText } from './left.mjs';
 import { WrongNames, photographOf, readNames } from './names.mjs';
 import { isPicture } from './photographs.mjs';
 
@@ -18,9 +19,10 @@ async function bytesOf(file, most) {
  * wrong names file is told, and none of its names used. Of several books, or where a file cannot be read, as a folder cannot, nothing is
  * opened. A picture is known by its type, or by its name in the names: in those that came with it, else in the present ones.
  */
-export async function readFiles(items, present) {
+export async function readFiles(all, present) {
     const none = wrong => ({ book: null, names: null, namesFile: null, pictures: [], wrong });
-    const read = none(null);
+    const items = all.filter(({ file }) => !isLeft(file.name));
+    const read = none(await leftText(all));
     const [named, others] = [true, false].map(side => items.filter(({ file }) => isNamesFile(file.name) === side));
     const fault = async (file, action) => {
         try {

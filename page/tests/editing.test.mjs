@@ -1,7 +1,7 @@
 // Presets removed, moved, duplicated and replaced: the book is the library's, and every name stays with its preset.
 import assert from 'node:assert/strict';
 import { test } from 'node:test';
-import { matching, withDuplicate, withMoved, withReplaced, withoutPreset } from '../src/editing.mjs';
+import { matching, settled, withDuplicate, withMoved, withReplaced, withoutPreset } from '../src/editing.mjs';
 import { nameOf, readNames, writeNames } from '../src/names.mjs';
 import { FIRST_STATE, presetOf } from '../src/state.mjs';
 import { dice, library } from './library.mjs';
@@ -24,7 +24,7 @@ const after = (state, change) => ({ ...state, ...change });
 test('whatever is done, every name and the kept preset stay with their word', () => {
     const random = dice(11);
     for (let run = 0; run < 200; run++) {
-        let state = stateOf(1 + random(6), 0);
+        let { state } = settled(library, stateOf(1 + random(6), 0));
         for (let step = 0; step < 4; step++) {
             const count = library.bookCheck(2, state.book.bytes);
             const way = random(2);
@@ -34,9 +34,18 @@ test('whatever is done, every name and the kept preset stay with their word', ()
             if (state.kept) assert.equal(lengths(state)[state.kept.number], state.kept.word.length);
             else assert.ok(!lengths(state).includes(1));
         }
-        assert.equal(nameOf(state.names, 'preset', 90), 'none');
+        assert.equal(nameOf(state.names, 'preset', 90), '');
         assert.match(new TextDecoder().decode(writeNames(state.names)), /^# ours\n/);
     }
+});
+
+test('names of presets that the book does not have go before it is changed, and are told', () => {
+    const { state, dropped } = settled(library, stateOf(2));
+    assert.equal(dropped, "The name of preset 90 'none' was dropped: the book did not have it. ");
+    assert.equal(new TextDecoder().decode(writeNames(state.names)), '# ours\npreset 0 length 1\npreset 1 length 2\n');
+    assert.deepEqual(settled(library, state), { state, dropped: '' });
+    const two = readNames(new TextEncoder().encode('preset 2 a\npreset 7 b\n'));
+    assert.match(settled(library, { ...state, names: two }).dropped, /^The names of presets 2 'a', 7 'b' were dropped/);
 });
 
 test('a copy stands behind its preset and says that it is one', () => {

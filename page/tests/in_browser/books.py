@@ -374,6 +374,66 @@ class Books(PageTest):
         self.assertIn("The names of cabin1.book.names are those of cabin2.book now.", self.text("notice"))
         self.assertEqual(value("name of source 1"), "Cabin 1 front")
 
+    def test_07_names_of_presets_that_the_book_does_not_have(self):
+        """They are told when they are read, and go with the first change of the book, whatever that is."""
+        names = b"# ours\npreset 1 Yard\npreset 2 Gone\nsource 1 rear view\npreset 9 Far\n"
+        files = [("cabin.book", self.BOOK), ("cabin.book.names", names)]
+        told = "The names are for presets 2 'Gone', 9 'Far' too, which cabin.book does not have: the next change of the book drops that."
+        changes = [("Append the present preset", b"# ours\npreset 1 Yard\nsource 1 rear view\n"),
+                   ("remove preset 0", b"# ours\npreset 0 Yard\nsource 1 rear view\n"),
+                   ("move preset 0 down", b"# ours\npreset 0 Yard\nsource 1 rear view\n"),
+                   ("duplicate preset 0", b"# ours\npreset 2 Yard\nsource 1 rear view\n"),
+                   ("replace preset 0", b"# ours\npreset 1 Yard\nsource 1 rear view\n"),
+                   ("Convert to the second edition", b"# ours\npreset 1 Yard\nsource 1 rear view\n")]
+        for change, kept in changes:
+            self.drop(*files)
+            self.assertEqual(self.text("book-past"), told)
+            self.press("Save")
+            self.assertEqual((self.saved("cabin.book"), self.saved("cabin.book.names")), (self.BOOK, names))
+            self.press(change)
+            self.assertIn("The names of presets 2 'Gone', 9 'Far' were dropped: the book did not have them.", self.text("book-message"))
+            self.assertEqual(self.text("book-past"), "")
+            self.press("Save")
+            name = self.js("return app.state.book.name")
+            self.assertNotEqual(self.saved(name), self.BOOK)
+            self.assertEqual(self.saved(f"{name}.names"), kept)
+            self.press("Undo")
+            self.assertIn("Undo changed the book", self.text("notice"))
+            self.press("Save")
+            self.assertEqual((self.saved("cabin.book"), self.saved("cabin.book.names")), (self.BOOK, names))
+        self.drop(("cabin.book", self.BOOK))
+        self.assertIn("those that it had here before are used.", self.text("notice"))
+        self.assertEqual(self.text("book-past"), told)
+        self.drop(("other.names", b"preset 5 Here\n"))
+        self.assertIn("The names are for preset 5 'Here' too, which cabin.book", self.text("book-past"))
+        self.press("remove preset 1")
+        self.assertIn("The name of preset 5 'Here' was dropped: the book did not have it.", self.text("book-message"))
+
+    def test_07_a_converted_book_keeps_the_names_that_are_open_with_it(self):
+        names = b"source 1 rear view\npreset 1 Yard\n"
+        self.pick({"cabin.book": self.BOOK, "cabin.book.names": names})
+        self.press("Convert to the second edition")
+        self.assertEqual(self.labelled("name of preset 1").get_attribute("value"), "Yard")
+        self.press("Save")
+        book = bytes(self.js("return [...app.library.convert(1, arguments[0])]", list(self.BOOK)))
+        self.assertEqual((self.saved("cabin-second-edition.book"), self.saved("cabin-second-edition.book.names")), (book, names))
+        self.assertEqual(self.written(), {}, "the files of the book before stay as they are")
+
+    def test_07_names_that_were_set_aside_are_explained(self):
+        """The command's, from a change of the book that was cut off, and an editor's copy: neither is a book, and neither is used."""
+        parked = b"# winnathey parked these names: book SHA-256 00 becomes 11, presets 3, removed 0\npreset 1 Old\n"
+        self.drop(("cabin.book", self.BOOK), ("cabin.book.names~", parked))
+        self.assertIn("cabin.book.names~ is not used: it has the names of cabin.book from before a change that was cut off", self.text("notice"))
+        self.assertIn("if there is no cabin.book.names, give the file that name", self.text("notice"))
+        self.assertEqual(self.text("book-title"), "cabin.book (first edition)")
+        self.assertEqual(self.labelled("name of preset 1").get_attribute("value"), "")
+        self.drop(("cabin.book", self.BOOK), ("cabin.book.names", b"preset 1 Yard\n"), ("cabin.book.names~", parked))
+        self.assertIn("cabin.book.names~ is not used", self.text("notice"))
+        self.assertEqual(self.labelled("name of preset 1").get_attribute("value"), "Yard")
+        self.drop(("cabin.book.names~", b"preset 1 Copy\n"))
+        self.assertIn("cabin.book.names~ is not used: it may be an editor's copy. The names of cabin.book are in cabin.book.names", self.text("notice"))
+        self.assertEqual((self.text("book-title"), self.labelled("name of preset 1").get_attribute("value")), ("cabin.book (first edition)", "Yard"))
+
     def rows(self):
         return self.js("return [...document.querySelectorAll('#presets li')].map(e => [e.dataset.letters, e.querySelector('input').value])")
 
