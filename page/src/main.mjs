@@ -1,11 +1,13 @@
 // The page as a whole: the library is loaded, the parts are put together, and every change goes through them in one order.
 import { load } from '../../bindings/javascript/winnathey.mjs';
+import { pictureText } from './about.mjs';
 import { BookPanel, editionName } from './book.mjs';
 import { CabinPanel } from './cabin.mjs';
 import { Composing } from './composing.mjs';
 import { DelaysPanel } from './delays.mjs';
 import { button, byId, holdDisabled, keepFocus, make, put, setText } from './dom.mjs';
 import { takeFiles } from './files.mjs';
+import { FirstStart } from './first.mjs';
 import { grabSource } from './grabbing.mjs';
 import { callsOf } from './library.mjs';
 import { Draft } from './draft.mjs';
@@ -68,6 +70,7 @@ class App {
         this.#listen();
         this.tabs.choose(this.ui.tab);
         this.#offerDraft();
+        this.examples = new FirstStart(this);
     }
 
     /** What was left unfinished in this browser is offered, and stays until it is taken up or discarded. */
@@ -116,6 +119,7 @@ class App {
 
     #changed(state, old) {
         this.passNotice();
+        this.examples?.leave();
         const start = performance.now();
         if (state.word !== old.word || state.kind !== old.kind || state.rank !== old.rank) this.#answer();
         this.times.calls = performance.now() - start;
@@ -132,6 +136,7 @@ class App {
         this.rig.update();
         this.picture.update();
         this.composing.update();
+        setText(byId('about-picture'), pictureText(this.state.word, this.answers.window));
         this.#updateHeader();
         this.updatePanelSoon();
     }
@@ -226,17 +231,15 @@ class App {
         const { book } = this.state;
         if (book.bytes === before.bytes && book.name === before.name) return;
         const count = this.library.bookCheck(book.edition, book.bytes);
-        this.notice(`${redo ? 'Redo' : 'Undo'} changed the book: it is ${book.name} with ${counted(count, 'preset')} now.`);
-        this.#passing = true;
+        this.noticeOnce(`${redo ? 'Redo' : 'Undo'} changed the book: it is ${book.name} with ${counted(count, 'preset')} now.`);
     }
 
     /** Whether the field with the word holds one. If not, that is said, with what stays undone: the last word is not meant then. */
     hasWord(undone) {
         if (!this.composing.fault) return true;
-        this.notice(`The field with the word does not hold a word. ${undone}.`,
+        this.noticeOnce(`The field with the word does not hold a word. ${undone}.`,
             button('Go to what is wrong', () => this.composing.goToFault()),
             button('Go back to the last word', () => this.goBack()));
-        this.#passing = true;
         return false;
     }
 
@@ -251,6 +254,12 @@ class App {
     /** A sentence about what is over now goes. */
     passNotice() {
         if (this.#passing) this.notice('');
+    }
+
+    /** A sentence that goes with the next change. */
+    noticeOnce(text, ...buttons) {
+        this.notice(text, ...buttons);
+        this.#passing = true;
     }
 
     /** A sentence at the top of the page, with what can be done about it. */

@@ -4,6 +4,7 @@ import { readNames, writeNames } from './names.mjs';
 
 const RIG = 'winnathey rig';
 const NAMES = 'winnathey names';
+const VISIT = 'winnathey visit';
 /** So many states of one book have their names remembered: one that was changed and not saved is opened again as it was before. */
 const STATES = 8;
 
@@ -21,6 +22,19 @@ function keep(key, text) {
     } catch {
         // It has no room, or may keep nothing.
     }
+}
+
+/** Whether nothing of the page is kept in this browser: no rig, no names, no draft, and no choice that was made before. */
+export function isFirstVisit() {
+    try {
+        return !Object.keys(localStorage).some(key => key.startsWith('winnathey '));
+    } catch {
+        return true;
+    }
+}
+
+export function rememberVisit() {
+    keep(VISIT, 'seen');
 }
 
 /** A number for bytes, by which the same book is known again: FNV-1a, with the length. It is no proof against malice. */

@@ -41,6 +41,31 @@ export class Shelf {
         if (picked) await this.take(picked);
     }
 
+    /** What is worked on here and nowhere else, in a sentence; '' where there is nothing. */
+    get #onlyHere() {
+        const { store, composing, state } = this.app;
+        if (store.bookUnsaved) return `${state.book.name} is not saved.`;
+        if (store.wordUnsaved || composing.fault) return 'The present word is in no book.';
+        return this.namesUnsaved ? `The names of ${state.book.name} are not saved.` : '';
+    }
+
+    /** Another state in place of all that is worked on, which is asked about first. It counts as saved, since it can be had again. */
+    replaceAll(state, title, done) {
+        const { app } = this;
+        const go = () => {
+            app.notice('');
+            app.panels.book.begin();
+            app.panels.sheet.clear();
+            app.store.change(state);
+            app.store.markBookSaved();
+            this.#savedNames = state.names;
+            done();
+        };
+        const only = this.#onlyHere;
+        if (only === '') return go();
+        app.notice(only, button(`Take ${title} all the same`, go), button(`Keep ${app.state.book.name} as it is here`, () => app.notice('')));
+    }
+
     /**
      * Saves the book and its names: to the files that they were opened from where the browser lets the page do that, otherwise, or
      * as new files, by handing both to the browser. A word that is not in the book is asked about, as it would not be in the file.

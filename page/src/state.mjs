@@ -109,8 +109,9 @@ export class Store {
         this.#tell(old);
     }
 
+    /** Whether the book is on no disk; a new one without a preset has nothing to lose. */
     get bookUnsaved() {
-        return !sameList(this.state.book.bytes, this.#savedBook);
+        return this.state.book !== NEW_BOOK && !sameList(this.state.book.bytes, this.#savedBook);
     }
 
     get #kept() {

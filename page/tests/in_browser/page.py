@@ -74,11 +74,16 @@ class PageTest(unittest.TestCase):
         self.driver.get(self.PAGE.as_uri())
         WebDriverWait(self.driver, 20).until(lambda _: self.js("return document.body.dataset.ready === 'yes'"))
 
+    def first_visit(self):
+        """The page in a browser that has kept nothing of it."""
+        self.load()
+        self.js("app.draft.write = () => {}; localStorage.clear(); app.store.markBookSaved(); app.store.markWordKept(); localStorage.clear()")
+        self.load()
+
     def fresh(self):
-        """An empty page, as on the first visit."""
-        self.load()
-        self.js("app.draft.write = () => {}; localStorage.clear(); app.store.markBookSaved(); app.store.markWordKept()")
-        self.load()
+        """An empty page, past the choice of the first visit."""
+        self.first_visit()
+        self.js("app.examples.leave()")
 
     def settle(self):
         """Waits until the panel below has been drawn too."""
@@ -175,8 +180,12 @@ class PageTest(unittest.TestCase):
 
 
 def shot(driver, file):
-    """A screenshot with few colours, which makes it small, where the library for that is there."""
     driver.save_screenshot(str(file))
+    quantized(file)
+
+
+def quantized(file):
+    """A picture with few colours, which makes it small, where the library for that is there."""
     try:
         from PIL import Image
     except ImportError:
