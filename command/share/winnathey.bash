@@ -30,7 +30,7 @@ _winnathey() {
     move) options='--edition --timeout --in-place -o --force --dry-run --quiet --json --help' operands='files' ;;
     convert) options='--edition --timeout --in-place -o --force --at-most --dry-run --quiet --json --help' operands='files' ;;
     name) options='--edition --timeout --remove --dry-run --quiet --json --help' operands='files' ;;
-    report) options='--edition --timeout -o --force --date --names --json --help' operands='files' ;;
+    report) options='--edition --timeout -o --force --date --strict --names --json --help' operands='files' ;;
     certify) options='--edition --lines -o --force --json --help' operands='files' ;;
     completions) options='--json --help' operands='bash zsh fish' ;;
     man) options='--markdown --json --help' operands='' ;;

@@ -72,11 +72,12 @@ fn main() -> ExitCode {
     let verdict = answered.as_ref().ok().copied();
     match answered.and_then(|verdict| Ok(ended.map(|()| verdict)?)) {
         Ok(Verdict::No) if asked_for_status => ExitCode::from(REFUSED),
+        Ok(Verdict::Warned) => ExitCode::from(REFUSED),
         Ok(_) => ExitCode::SUCCESS,
         // A reader that has gone away wanted no more, but whoever asked for the status still wants it.
         Err(Failure::ClosedPipe) if asked_for_status => ExitCode::from(match verdict {
             Some(Verdict::Answer) => 0,
-            Some(Verdict::No) => REFUSED,
+            Some(Verdict::No | Verdict::Warned) => REFUSED,
             None => FAILED_ASKED_FOR_STATUS,
         }),
         Err(failure) => failure.told(asked, out.taken_warnings()),

@@ -19,7 +19,9 @@ pub struct Out {
     pub style: Style,
     /// The columns that a line may take.
     pub width: usize,
+    /// Those that the answer as JSON is to have, and all that were said.
     warnings: Vec<String>,
+    pub said: Vec<String>,
 }
 
 /// The width where nothing tells one, and the least that is used.
@@ -33,11 +35,13 @@ impl Out {
         let width = told.or_else(|| system::terminal_columns().filter(|_| terminal)).unwrap_or(WIDTH).max(NARROW);
         let style = Style::of(terminal && !json);
         let paged = terminal && !json;
-        Out { writer: None, pager: None, paged, json, quiet: false, style, width, warnings: Vec::new() }
+        let (warnings, said) = (Vec::new(), Vec::new());
+        Out { writer: None, pager: None, paged, json, quiet: false, style, width, warnings, said }
     }
 
     /// Something to know beside the answer: on standard error, or in the JSON object.
     pub fn warn(&mut self, warning: String) {
+        self.said.push(warning.clone());
         if self.json { self.warnings.push(warning) } else { warn_at_once(&warning) }
     }
 

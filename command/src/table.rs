@@ -4,11 +4,12 @@ use crate::args::Args;
 use crate::failure::Failure;
 use crate::out::Out;
 
-/// What a subcommand answers: for `--status` a yes and a no differ.
+/// What a subcommand answers: for `--status` a yes and a no differ, for `--strict` an answer with a warning.
 #[derive(Clone, Copy, PartialEq, Eq)]
 pub enum Verdict {
     Answer,
     No,
+    Warned,
 }
 
 pub struct Subcommand {
@@ -225,7 +226,13 @@ pub const LINES_OF_WORDS: Opt =
     Opt::flag("--words", "one preset a line, rig and stored word, as append --from takes it back, and nothing else");
 pub const LINES: Opt = Opt::flag("--lines", "the lines of the listing program, one a preset, and nothing else");
 pub const ONE_PRESET: Opt = Opt::with("--preset", "N", "that preset alone, refused (4) if the book has none such");
-pub const OUTPUT_REPORT: Opt = Opt::file("-o", "FILE", "where the sheet goes (HTML), - for standard output");
+pub const OUTPUT_REPORT: Opt = Opt::file(
+    "-o",
+    "FILE",
+    "where the sheet goes, - for standard output: HTML, or PDF for a name that ends with .pdf, made by Chromium if that is \
+     installed",
+);
+pub const STRICT: Opt = Opt::flag("--strict", "the exit status is 1 if the sheet begins with a warning");
 pub const OUTPUT_CERTIFICATE: Opt =
     Opt::file("-o", "FILE", "where the certificate goes (JSON Lines); standard output if not given");
 pub const DATE: Opt = Opt::with("--date", "TEXT", "the date to put on the sheet; a line to write on if not given");

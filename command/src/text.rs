@@ -30,6 +30,14 @@ pub fn grouped(number: u64) -> String {
     text
 }
 
+/// A number of thousandths as a decimal: 2.5, 1,024.
+pub fn thousandths(number: u64) -> String {
+    let part = format!("{:03}", number % 1000);
+    let part = part.trim_end_matches('0');
+    let point = if part.is_empty() { "" } else { "." };
+    format!("{}{point}{part}", grouped(number / 1000))
+}
+
 /// `1st`, `2nd`, `11th`.
 pub fn ordinal(number: usize) -> String {
     let ending = match (number % 10, number % 100) {
@@ -129,6 +137,7 @@ mod tests {
     fn numbers_get_commas() {
         assert_eq!([0, 999, 1000, 65535, 1234567].map(grouped), ["0", "999", "1,000", "65,535", "1,234,567"]);
         assert_eq!(grouped(u64::MAX), "18,446,744,073,709,551,615");
+        assert_eq!([0, 5, 2500, 1_024_000, 1_000_050].map(thousandths), ["0", "0.005", "2.5", "1,024", "1,000.05"]);
     }
 
     #[test]

@@ -8,6 +8,7 @@ pub enum Sort {
     Png,
     Html,
     Certificate,
+    Pdf,
 }
 
 impl Sort {
@@ -18,6 +19,7 @@ impl Sort {
             Sort::Png => "a picture (PNG)",
             Sort::Html => "a sheet (HTML)",
             Sort::Certificate => "a certificate (JSON Lines)",
+            Sort::Pdf => "a sheet (PDF)",
         }
     }
 
@@ -33,12 +35,13 @@ impl Sort {
                 Sort::Png => bytes.starts_with(b"\x89PNG\r\n\x1a\n"),
                 Sort::Html => begins(b"<!doctype html") || begins(b"<!DOCTYPE html"),
                 Sort::Certificate => bytes.starts_with(b"{\"certificate\":"),
+                Sort::Pdf => bytes.starts_with(b"%PDF-"),
             }
     }
 
     /// What a file with these first bytes is.
     pub fn of(bytes: &[u8]) -> &'static str {
-        let sorts = [Sort::Svg, Sort::Png, Sort::Html, Sort::Certificate, Sort::Book];
+        let sorts = [Sort::Svg, Sort::Png, Sort::Html, Sort::Certificate, Sort::Pdf, Sort::Book];
         sorts.into_iter().find(|sort| sort.fits(bytes)).map_or("a file of another sort", Sort::name)
     }
 }

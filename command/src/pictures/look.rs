@@ -10,8 +10,9 @@ pub struct Measures {
     pub crossing: usize,
     /// From a crossing to the next.
     pub gap: usize,
-    /// The labels' size.
+    /// The labels' size, and that of a step's number where steps share a column.
     pub font: usize,
+    pub number: usize,
     /// A row's columns take up so many pixels at least, so that a few crossings stand apart.
     pub narrow: usize,
 }
@@ -21,9 +22,9 @@ const WIDE: usize = 1000;
 
 pub fn measures(lanes: usize) -> Measures {
     match lanes {
-        0..=16 => Measures { lane: 28, crossing: 24, gap: 16, font: 16, narrow: 360 },
-        17..=32 => Measures { lane: 22, crossing: 24, gap: 16, font: 14, narrow: 600 },
-        _ => Measures { lane: 18, crossing: 16, gap: 16, font: 13, narrow: WIDE },
+        0..=16 => Measures { lane: 28, crossing: 24, gap: 16, font: 16, number: 10, narrow: 360 },
+        17..=32 => Measures { lane: 22, crossing: 24, gap: 16, font: 14, number: 10, narrow: 600 },
+        _ => Measures { lane: 18, crossing: 16, gap: 16, font: 13, number: 10, narrow: WIDE },
     }
 }
 

@@ -1,6 +1,8 @@
 //! Pictures as SVG, in whole numbers of pixels, and where they go.
 pub mod bars;
+pub mod cabin;
 mod look;
+pub mod paper;
 mod png;
 pub mod strands;
 mod traced;
@@ -71,6 +73,17 @@ fn signed(entry: i8) -> String {
 /// About how many pixels a text takes.
 fn length(text: &str, size: usize) -> usize {
     text.chars().map(fifths).sum::<usize>() * size / 5
+}
+
+/// A text that takes no more than so many pixels: what is too long ends with three dots.
+fn fitted(text: &str, size: usize, room: usize) -> String {
+    if length(text, size) <= room {
+        return text.to_string();
+    }
+    let fits = |end: &usize| length(&text.chars().take(*end).collect::<String>(), size) + size <= room;
+    let end = (0..text.chars().count()).take_while(fits).last().unwrap_or(0);
+    let front: String = text.chars().take(end).collect();
+    format!("{}\u{2026}", front.trim_end())
 }
 
 /// About how wide a character is, in fifths of the text's size: capitals are wider, and ideographs are square.

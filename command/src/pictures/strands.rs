@@ -1,7 +1,7 @@
 //! The picture of a preset: a strand for each source, from the left to its screen at the right.
 use super::look::{self, Measures};
 use super::traced::{Place, Strand};
-use super::{Font, START, framed, length, put, signed};
+use super::{Font, START, fitted, framed, length, put, signed};
 use crate::drawing::{Drawing, Row, width};
 use crate::names::Names;
 use crate::text;
@@ -13,17 +13,21 @@ pub use super::look::layout;
 const SIDE: usize = 64;
 const EDGE: usize = 12;
 /// The small view at a screen.
-const VIEW: usize = 22;
+pub const VIEW: usize = 22;
 
 /// What the whole picture shares.
-struct Sheet {
-    measures: Measures,
-    left: usize,
-    right: usize,
+pub struct Sheet {
+    pub measures: Measures,
+    pub left: usize,
+    pub right: usize,
     /// Where the screens' own labels begin.
-    screens: usize,
-    wide: usize,
-    shared: bool,
+    pub screens: usize,
+    /// How far these are below the sources' labels.
+    pub below: usize,
+    pub wide: usize,
+    pub shared: bool,
+    /// The most pixels of a label with a name.
+    pub room: usize,
 }
 
 pub fn picture(drawings: &[Drawing], shared: bool) -> String {
@@ -41,12 +45,6 @@ pub fn picture(drawings: &[Drawing], shared: bool) -> String {
             if drawing.rows.len() > 1 {
                 put(&mut parts, (sheet.left, y), Font::sized(13, "start").grey(), &part_of(drawing, row));
                 y += 20;
-            }
-            if number == 0 {
-                put(&mut parts, (sheet.left - 8, y - 8), Font::sized(13, "end").grey(), "source");
-            }
-            if number + 1 == drawing.rows.len() {
-                put(&mut parts, (sheet.right + 8, y - 8), Font::sized(13, "start").grey(), "on the screen");
             }
             put_row(&mut parts, drawing, number, y, &sheet);
             y += drawing.lanes() * sheet.measures.lane + 4;
@@ -77,7 +75,7 @@ impl Sheet {
         let left = EDGE + (sources + 8).max(SIDE - EDGE);
         let right = left + columns * (measures.crossing + measures.gap) + measures.gap;
         let screens = right + 8 + VIEW + 8 + sources.max(24) + 16;
-        Sheet { measures, left, right, screens, wide: screens + own + EDGE, shared }
+        Sheet { measures, left, right, screens, below: 0, wide: screens + own + EDGE, shared, room: usize::MAX }
     }
 }
 
@@ -98,31 +96,36 @@ fn caption(drawing: &Drawing, characters: usize) -> Vec<String> {
 }
 
 /// Which letters a row has.
-fn part_of(drawing: &Drawing, row: &Row) -> String {
+pub fn part_of(drawing: &Drawing, row: &Row) -> String {
     let (first, last) = (text::grouped(row.letters.start as u64 + 1), text::grouped(row.letters.end as u64));
     format!("letters {first} to {last} of {}", text::grouped(drawing.word.len() as u64))
 }
 
+pub const LINES: &str = "On the left the sources by number, on the right the screens from top to bottom: each with the source that it \
+     shows, and a small view the way round that it is shown. Where two lines cross, the one with a gap passes under \
+     the other.";
+pub const MIRRORS: &str = "A double line is a mirrored source, with a minus sign; a dot is a step that mirrors.";
+pub const SHARED: &str = "The number beside a crossing is its step; steps that touch different lanes share a column.";
+const STEPS: &str = "The numbers above are the steps, taken from the left.";
+
 /// The legend.
 fn notes(drawings: &[Drawing], shared: bool) -> Vec<String> {
-    let mut notes = vec![
-        "On the left the sources by number, on the right the screens from top to bottom: each with the source that it \
-         shows, and a small view the way round that it is shown. Where two lines cross, the one with a gap passes \
-         under the other."
-            .to_string(),
-    ];
+    let mut notes = vec![LINES.to_string()];
     if drawings.iter().any(Drawing::mirrors) {
-        notes.push("A double line is a mirrored source, with a minus sign; a dot is a step that mirrors.".to_string());
+        notes.push(MIRRORS.to_string());
     }
-    notes.push(if shared {
-        "The number beside a crossing is its step; steps that touch different lanes share a column.".to_string()
-    } else {
-        "The numbers above are the steps, taken from the left.".to_string()
-    });
+    notes.push(if shared { SHARED.to_string() } else { STEPS.to_string() });
     notes
 }
 
-fn put_row(parts: &mut String, drawing: &Drawing, number: usize, top: usize, sheet: &Sheet) {
+/// A row below its top, with what stands above its ends.
+pub fn put_row(parts: &mut String, drawing: &Drawing, number: usize, top: usize, sheet: &Sheet) {
+    if number == 0 {
+        put(parts, (sheet.left - 8, top - 8), Font::sized(13, "end").grey(), "source");
+    }
+    if number + 1 == drawing.rows.len() {
+        put(parts, (sheet.right + 8, top - 8), Font::sized(13, "start").grey(), "on the screen");
+    }
     let row = &drawing.rows[number];
     let place = Place { top, left: sheet.left, right: sheet.right, measures: sheet.measures };
     put_strands(parts, row, &place);
@@ -132,6 +135,7 @@ fn put_row(parts: &mut String, drawing: &Drawing, number: usize, top: usize, she
     for (lane, (start, end)) in row.start.iter().zip(row.end()).enumerate() {
         let base = place.line(lane) + font / 3;
         let began = if first { source(&drawing.names, *start) } else { signed(*start) };
+        let began = fitted(&began, font, sheet.room);
         put(parts, (place.left - 8, base), Font::sized(font, "end"), &began);
         if last {
             put_screen(parts, drawing, (lane, *end), &place, sheet);
@@ -191,7 +195,7 @@ fn put_steps(parts: &mut String, row: &Row, place: &Place, shared: bool) {
             if shared {
                 let above = if step.crosses { y + 3 } else { y - 4 };
                 let at = (x + crossing / 2 - 2, above);
-                put(parts, at, Font::sized(10, "start").grey(), &step.letter.to_string());
+                put(parts, at, Font::sized(place.measures.number, "start").grey(), &step.letter.to_string());
             } else {
                 put(parts, (x, place.top - 2), Font::sized(12, "middle").grey(), &step.letter.to_string());
             }
@@ -200,12 +204,12 @@ fn put_steps(parts: &mut String, row: &Row, place: &Place, shared: bool) {
 }
 
 /// A source with its name, as an entry of a window.
-fn source(names: &Names, entry: i8) -> String {
+pub fn source(names: &Names, entry: i8) -> String {
     let name = names.source(usize::from(entry.unsigned_abs()));
     name.map_or(signed(entry), |name| format!("{} {name}", signed(entry)))
 }
 
-fn screen(names: &Names, lane: usize) -> String {
+pub fn screen(names: &Names, lane: usize) -> String {
     let name = names.screen(lane).map_or(String::new(), |name| format!(" {name}"));
     format!("screen {lane}{name}")
 }
@@ -214,18 +218,22 @@ fn screen(names: &Names, lane: usize) -> String {
 fn put_screen(parts: &mut String, drawing: &Drawing, (lane, entry): (usize, i8), place: &Place, sheet: &Sheet) {
     let font = sheet.measures.font;
     let (x, y) = (place.right + 8, place.line(lane));
+    put_view(parts, (x, y - 7), entry);
+    let (text, base) = (x + VIEW + 8, y - sheet.below / 2);
+    let label = fitted(&source(&drawing.names, entry), font, sheet.room);
+    put(parts, (text, base + font / 3), Font::sized(font, "start"), &label);
+    let font = Font::sized(font.min(13), "start").grey();
+    let label = fitted(&screen(&drawing.names, lane + 1), font.size, sheet.room);
+    put(parts, (sheet.screens, base + sheet.below + font.size / 3), font, &label);
+}
+
+/// A small view with a letter that differs from its mirror image, the way round that the source is shown.
+pub fn put_view(parts: &mut String, (x, y): (usize, usize), entry: i8) {
     let (turn, at) = if entry < 0 { (" scale(-1 1)", x + VIEW) } else { ("", x) };
     let colour = look::colour(usize::from(entry.unsigned_abs()));
-    // A letter that differs from its mirror image.
     let _ = writeln!(
         parts,
-        "<g transform=\"translate({at} {}){turn}\" fill=\"none\" stroke=\"{colour}\"><rect x=\"0\" y=\"0\" \
-         width=\"{VIEW}\" height=\"14\"/><path stroke-width=\"2\" d=\"M8 12V3H15M8 7H13\"/></g>",
-        y - 7
+        "<g transform=\"translate({at} {y}){turn}\" fill=\"none\" stroke=\"{colour}\"><rect x=\"0\" y=\"0\" \
+         width=\"{VIEW}\" height=\"14\"/><path stroke-width=\"2\" d=\"M8 12V3H15M8 7H13\"/></g>"
     );
-    let text = x + VIEW + 8;
-    put(parts, (text, y + font / 3), Font::sized(font, "start"), &source(&drawing.names, entry));
-    let label = screen(&drawing.names, lane + 1);
-    let font = Font::sized(font.min(13), "start").grey();
-    put(parts, (sheet.screens, y + font.size / 3), font, &label);
 }

@@ -72,7 +72,7 @@ fn run(mut args: Args, out: &mut Out) -> Result<Verdict, Failure> {
 }
 
 /// The picture of a preset, above that of its normal form where that is wanted.
-pub fn picture(asked: &Asked, form: Option<&[u8]>) -> Result<String, Failure> {
+fn picture(asked: &Asked, form: Option<&[u8]>) -> Result<String, Failure> {
     let longest = asked.letters().len().max(form.map_or(0, <[u8]>::len));
     let layout = strands::layout(library::lanes(asked.rig())?, longest);
     Ok(strands::picture(&drawings(asked, form, &layout)?, layout.shared))

@@ -26,7 +26,6 @@ mod show;
 mod split;
 mod why;
 
-pub use draw::picture;
 pub use show::{in_words, numbered};
 
 use crate::table::Subcommand;

@@ -1,4 +1,4 @@
-//! `name`: the names beside a book, listed, set and removed.
+//! `name`: the names beside a book, and what else is kept with them, listed, set and removed.
 use crate::args::Args;
 use crate::dry_run::{Measured, NOTHING_WRITTEN};
 use crate::failure::Failure;
@@ -13,17 +13,20 @@ use std::path::Path;
 
 const WHAT: Operand = Operand {
     name: "WHAT",
-    about: "what is named: source, screen or preset; all names are listed if it is missing",
-    completes: Completes::OneOf(&["source", "screen", "preset"]),
+    about: "what is named: source, screen or preset; or place (where a screen stands), photograph or delay; everything is \
+            listed if it is missing",
+    completes: Completes::OneOf(&["source", "screen", "preset", "place", "photograph", "delay"]),
 };
 const NUMBER: Operand = Operand {
     name: "N",
-    about: "its number: a lane from 1 to 64, or a preset of the book from 0",
+    about: "its number: a lane from 1 to 64, or a preset of the book from 0; photograph and delay have none",
     completes: Completes::Nothing,
 };
 const NAME: Operand = Operand {
     name: "NAME",
-    about: "its name, one argument of 1 to 80 characters; what has one gets the new one",
+    about: "its name, one argument of 1 to 80 characters; what has one gets the new one. For a place LEFT TOP WIDTH \
+            HEIGHT in thousandths of the cabin, for a photograph the name of a file beside the book, for a delay the \
+            milliseconds of one step",
     completes: Completes::Nothing,
 };
 
@@ -31,21 +34,26 @@ pub const SUBCOMMAND: Subcommand = Subcommand {
     name: "name",
     group: table::BOOKS,
     about: "the names beside a book: listed, set and removed",
-    usages: &["BOOK --edition EDITION", "BOOK WHAT N NAME --edition EDITION", "BOOK WHAT N --remove --edition EDITION"],
-    text: "Lists the names in BOOK.names, or changes one. Comments and the order of the lines stay. The names are \
+    usages: &[
+        "BOOK --edition EDITION",
+        "BOOK WHAT [N] NAME --edition EDITION",
+        "BOOK WHAT [N] --remove --edition EDITION",
+    ],
+    text: "Lists the names in BOOK.names and what else is kept there, or changes one of these lines. Comments and the order of the lines stay. The names are \
            changed under the book's lock, written beside their file and renamed, like a book; the book itself stays \
            as it is.",
     operands: &[table::BOOK, WHAT, NUMBER, NAME],
     options: &[table::EDITION, table::TIMEOUT, table::REMOVE, table::DRY_RUN, table::QUIET],
     examples: &[
         "winnathey name presets.book screen 3 'left mirror' --edition first",
+        "winnathey name presets.book delay 2.5 --edition first",
         "winnathey name presets.book --edition first",
     ],
     json: &[&[
         ("file", "the file of the names"),
-        ("names", "of each name: what (source, screen or preset), number, name"),
-        ("what", "of a change: source, screen or preset"),
-        ("number", "its number"),
+        ("names", "of each line: what (source, screen, preset, place, photograph or delay), number or null, name"),
+        ("what", "of a change: source, screen, preset, place, photograph or delay"),
+        ("number", "its number, or null"),
         ("name", "its name now, or null"),
         ("before", "its name before, or null"),
         ("bytes", "with --dry-run: how many bytes the new file has"),
@@ -70,12 +78,13 @@ fn run(mut args: Args, out: &mut Out) -> Result<Verdict, Failure> {
         }
         return listed(&args, path, out);
     }
-    let what = args.next("WHAT (source, screen or preset)")?.to_string_lossy().into_owned();
+    let what = args.next("WHAT (source, screen, preset, place, photograph or delay)")?.to_string_lossy().into_owned();
     let Some(keyword) = Keyword::of(&what) else {
-        return Err(args.usage(format!("'{}' has no names: source, screen or preset", text::plain(&what))));
+        let known = "source, screen, preset, place, photograph or delay";
+        return Err(args.usage(format!("'{}' has no names: {known}", text::plain(&what))));
     };
-    let number = args.next_number("N")?;
-    let name = if removes { None } else { Some(args.next("NAME (or --remove)")?.to_string_lossy().into_owned()) };
+    let number = if keyword.is_numbered() { args.next_number("N")? } else { 0 };
+    let name = if removes { None } else { Some(value(&mut args, keyword)?) };
     args.done_with("; a name is one argument, as 'left mirror'")?;
     if let Some(name) = &name {
         Names::check(keyword, number, name).map_err(|problem| args.usage(problem))?;
@@ -83,20 +92,35 @@ fn run(mut args: Args, out: &mut Out) -> Result<Verdict, Failure> {
     changed(&args, path, (keyword, number), name.as_deref(), out)
 }
 
+/// A name is one argument; a place may be four.
+fn value(args: &mut Args, keyword: Keyword) -> Result<String, Failure> {
+    let mut value = args.next("NAME (or --remove)")?.to_string_lossy().into_owned();
+    while keyword == Keyword::Place && args.operands() > 0 {
+        value = format!("{value} {}", args.next("NAME")?.to_string_lossy());
+    }
+    Ok(value)
+}
+
+/// For JSON.
+fn number_of(keyword: Keyword, number: usize) -> Value {
+    if keyword.is_numbered() { number.into() } else { Value::Null }
+}
+
 fn listed(args: &Args, path: &Path, out: &mut Out) -> Result<Verdict, Failure> {
     let (_, names) = asked::book(args, path, out)?;
     let file = names::beside(path);
     if out.json {
         let one = |(keyword, number, name): (Keyword, usize, &str)| {
-            object([("what", keyword.word().into()), ("number", number.into()), ("name", name.into())])
+            object([("what", keyword.word().into()), ("number", number_of(keyword, number)), ("name", name.into())])
         };
         let fields = vec![("file", json::file(&file)), ("names", Value::List(names.all().map(one).collect()))];
         out.answer("name", fields)?;
         return Ok(Verdict::Answer);
     }
-    writeln!(out, "{}: {}", text::file(&file), text::counted(names.all().count(), "name"))?;
+    let count = names.all().filter(|(keyword, ..)| keyword.is_name()).count();
+    writeln!(out, "{}: {}", text::file(&file), text::counted(count, "name"))?;
     for (keyword, number, name) in names.all() {
-        writeln!(out, "{} {number} {name}", keyword.word())?;
+        writeln!(out, "{} {name}", keyword.with(number))?;
     }
     Ok(Verdict::Answer)
 }
@@ -121,7 +145,7 @@ fn changed(
         out.warn(told);
     }
     let count = library::book_check(edition, &locked.bytes)?;
-    let what = format!("{} {number}", keyword.word());
+    let what = keyword.with(number);
     if keyword == Keyword::Preset && number >= count && name.is_some() {
         let count = text::counted(count, "preset");
         return Err(Failure::Unwilling(format!("the book has {count}, counted from 0: there is no {what}")));
@@ -134,7 +158,8 @@ fn changed(
     let names = names::parsed_file(&file, old.as_deref().unwrap_or_default())?;
     let before = names.find(keyword, number).map(str::to_string);
     if name.is_none() && before.is_none() {
-        return Err(Failure::Unwilling(format!("'{}' has no name for {what}", text::file(&file))));
+        let lacks = if keyword.is_name() { "name" } else { "line" };
+        return Err(Failure::Unwilling(format!("'{}' has no {lacks} for {what}", text::file(&file))));
     }
     let bytes = names.with(keyword, number, name).written();
     match &old {
@@ -150,7 +175,10 @@ fn changed(
     let told = match (name, &before) {
         (Some(name), None) => format!("{what} is '{name}'"),
         (Some(name), Some(before)) => format!("{what} was '{before}' and is '{name}'"),
-        (None, before) => format!("{what} was '{}' and has no name", before.as_deref().unwrap_or_default()),
+        (None, before) => {
+            let now = if keyword.is_name() { "has no name" } else { "is removed" };
+            format!("{what} was '{}' and {now}", before.as_deref().unwrap_or_default())
+        }
     };
     let measured = Measured::file(&bytes);
     let old = Measured::file(old.as_deref().unwrap_or_default());
@@ -158,7 +186,7 @@ fn changed(
         let mut fields = vec![
             ("file", json::file(&file)),
             ("what", keyword.word().into()),
-            ("number", number.into()),
+            ("number", number_of(keyword, number)),
             ("name", optional(name)),
             ("before", optional(before.as_ref())),
         ];
