@@ -32,8 +32,12 @@ function everyOf(texts, width) {
     return [1, 2, 5, 10, 20, 50, 100].find(gap => texts.length / gap * wide <= width) ?? texts.length;
 }
 
-/** The bars, of which that of the present length is marked. With names that have a delay the lengths are told in milliseconds too. */
+/**
+ * The bars, of which that of the present length is marked, or those of a set of lengths. With names that have a delay the lengths are
+ * told in milliseconds too.
+ */
 export function barsMarkup(counts, width, present, names = NO_NAMES) {
+    const marked = present instanceof Set ? present : new Set([present]);
     const most = counts.reduce((one, two) => (one > two ? one : two));
     const ticks = ticksOf(most);
     const left = 16 + 8 * grouped(ticks.at(-1)).length;
@@ -45,13 +49,18 @@ export function barsMarkup(counts, width, present, names = NO_NAMES) {
     const scale = ticks.map(tick => tag('line', { class: 'tick', x1: left, x2: width - 4, y1: y(tick), y2: y(tick) }) +
         tag('text', { x: left - 6, y: y(tick) + 4, 'text-anchor': 'end' }, grouped(tick)));
     const bars = counts.map((count, length) => tag('rect', {
-        class: length === present ? 'bar present' : 'bar',
+        class: marked.has(length) ? 'bar present' : 'bar',
         x: left + (length + 0.1) * step,
         y: y(count),
         width: step * 0.8,
         height: Math.max(TOP + HIGH - y(count), 1),
     }, tag('title', {}, `length ${length}${times[length] && `, ${times[length]}`}: ${counted(count, 'picture')}`)));
     const x = length => left + (length + 0.5) * step;
+    // On paper a colour says nothing alone.
+    const points = [...(present instanceof Set ? marked : [])].map(length => {
+        const top = y(counts[length]) - 3;
+        return tag('path', { class: 'dot', style: 'fill: var(--ink)', d: `M${x(length)} ${top}L${x(length) - 4} ${top - 8}H${x(length) + 4}Z` });
+    });
     const written = (text, length, line) => tag('text', { x: x(length), y: TOP + HIGH + 18 * line, 'text-anchor': 'middle' }, text);
     // One that would end outside the drawing is left out.
     const fits = length => length % every === 0 && x(length) + 4 * times[length].length <= width;
@@ -62,7 +71,7 @@ export function barsMarkup(counts, width, present, names = NO_NAMES) {
     const frame = { class: 'bars', role: 'img', 'aria-label': label, viewBox: `0 0 ${width} ${high}`, width, height: high };
     const about = lines === 1 ? 'length: steps of the shortest version' : 'length: steps, and milliseconds';
     const below = tag('text', { x: Math.max(Math.min(left, width - 8 * about.length), 0), y: high - 4 }, about);
-    return tag('svg', frame, [...scale, ...bars, ...lengths, below].join(''));
+    return tag('svg', frame, [...scale, ...bars, ...points, ...lengths, below].join(''));
 }
 
 export class DelaysPanel {

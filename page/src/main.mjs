@@ -195,7 +195,7 @@ class App {
             width = innerWidth;
         });
         addEventListener('keydown', event => this.#key(event));
-        addEventListener('beforeprint', () => this.panels.sheet.update());
+        addEventListener('beforeprint', () => this.panels.sheet.update(true));
         addEventListener('beforeunload', event => {
             this.draft.write();
             const unsaved = this.store.unsaved || this.composing.fault || this.shelf.namesUnsaved;

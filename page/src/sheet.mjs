@@ -1,48 +1,21 @@
-// A sheet to print for the training record.
+// A sheet to print for the training record: of the present preset, or of the whole book.
 import { shownPhotograph } from './cabin.mjs';
 import { cabinPicture } from './cabin_picture.mjs';
 import { button, make } from './dom.mjs';
-import { KINDS } from './rig.mjs';
-import { labelled, nameOf, placesOf } from './names.mjs';
-import { pictureMarkup } from './strands.mjs';
-import { term } from './terms.mjs';
-import { counted, signed, wordText } from './text.mjs';
-import { lengthText, timeText } from './times.mjs';
+import { attempt } from './library.mjs';
+import { marginRules } from './margins.mjs';
+import { nameOf, placesOf } from './names.mjs';
+import { shapeOf } from './places.mjs';
+import { toldText } from './plain.mjs';
+import { contentsPart, delaysPart, frontPart, frontRows, legendPart, onePart, presetPart } from './report.mjs';
+import { PAPER } from './rows.mjs';
+import { sha256 } from './sha256.mjs';
+import { counted } from './text.mjs';
 
-/** Lines of the sheet whose name is explained where it stands. */
-const TERMED = { Word: 'word', Window: 'window', 'Shortest version': 'shortest' };
-
-/** The lines of the sheet: what it says of a preset. */
-export function sheetLines(state, { form, window, crossings }, about, preset = null) {
-    const { inversions, negativeSumPairs, negatives, total } = crossings;
-    const [plain, against] = [counted(inversions, 'plain pair'), counted(negativeSumPairs, 'pair')];
-    const time = timeText(total, state.names);
-    const book = `${state.book.name}, ${state.book.edition === 1 ? 'first' : 'second'} edition`;
-    return [
-        ['Rig', `kind ${KINDS[state.kind]}; rank ${state.rank}; ${counted(window.length, 'lane')}`],
-        ['Word', `${wordText(state.word)} (${lengthText(state.word.length, 'letter', state.names)})`],
-        ['Shortest version', `${wordText(form)} (${lengthText(form.length, 'letter', state.names)})`],
-        ['Window', `${window.map(signed).join(' ')} (the source on each screen in turn${window.some(entry => entry < 0) ? ', − where mirrored' : ''})`],
-        ['Length', `${total}${time && `, ${time}`}: ${plain}, ${against} against a mirrored lane, ${counted(negatives, 'mirrored lane')}`],
-        ['Book', preset === null ? 'this preset is in no book yet' : `${book}, preset ${preset}`],
-        ['Library', `Winnathey ${about.version}, SHA-256 ${about.hash}`],
-    ];
-}
-
-/** What every screen shows, in names. */
-export function screenLines({ names }, window) {
-    return window.map((entry, at) => [
-        labelled(names, 'screen', at + 1),
-        labelled(names, 'source', Math.abs(entry)),
-        entry < 0 ? 'mirrored' : 'as it is',
-    ]);
-}
-
-/** How far apart lanes are on paper: as many as there are fit on one page. */
-function laneHeight(lanes) {
-    if (lanes > 32) return 13;
-    return lanes > 16 ? 18 : 26;
-}
+/** So many presets are shown on the screen; all are printed. */
+const SHOWN = 20;
+/** A cabin on paper is no higher than this, so that that of a small rig stands on the page of its preset. */
+const CABIN_HIGH = 330;
 
 export class SheetPanel {
     constructor(app, root) {
@@ -51,57 +24,78 @@ export class SheetPanel {
         const labelled = (text, input) => make('label', { class: 'field grow' }, make('span', {}, text), input);
         this.title = make('input', { type: 'text', id: 'sheet-title', oninput });
         this.remarks = make('textarea', { id: 'sheet-remarks', rows: 2, oninput });
+        this.whole = make('input', { type: 'checkbox', id: 'sheet-whole', onchange: oninput });
         this.sheet = make('article', { class: 'sheet', id: 'sheet' });
+        /** What the pages say in their margins. */
+        this.margins = make('style', {});
         const print = button('Print the sheet', () => app.hasWord('Nothing was printed') && window.print(), { class: 'main', id: 'print' });
-        const fields = [labelled('Title', this.title), labelled('Remarks', this.remarks)];
-        root.append(make('div', { class: 'bar no-print' }, fields, print), this.sheet);
+        const fields = [labelled('Title', this.title), labelled('Remarks', this.remarks), make('label', { class: 'choice' }, this.whole, 'The whole book')];
+        root.append(make('div', { class: 'bar no-print' }, fields, print), this.margins, this.sheet);
     }
 
     clear() {
         this.title.value = this.remarks.value = '';
     }
 
-    update() {
-        const { state, answers, about, store, composing } = this.app;
-        const { preset } = store;
+    /** On the screen, or for the printer. */
+    update(printed = false) {
+        const { library, state, composing } = this.app;
+        const { edition, bytes } = state.book;
+        const presets = bytes.length > 0 ? attempt(() => library.presets(edition, bytes)).value ?? [] : [];
+        this.whole.disabled = presets.length === 0;
+        this.margins.textContent = '';
         // The browser's own print command comes here too.
         if (composing?.fault) {
             return this.sheet.replaceChildren(make('p', { class: 'refusal' }, 'There is no sheet: the field with the word does not hold a word.'));
         }
+        const whole = this.whole.checked && presets.length > 0;
+        this.sheet.classList.toggle('single', !whole);
         const date = new Date().toLocaleString('en-GB', { dateStyle: 'long', timeStyle: 'short' });
-        const remarks = this.remarks.value.trim() ? [['Remarks', this.remarks.value.trim()]] : [];
-        const lines = [...sheetLines(state, answers, about, preset), ['Date', date], ...remarks];
-        const name = preset === null ? '' : nameOf(state.names, 'preset', preset);
-        this.sheet.replaceChildren(
-            make('h2', {}, this.title.value || name || 'Router preset'),
-            this.#picture(),
-            ...this.#cabin(),
-            table(['Screen', 'shows source', 'which way round'], screenLines(state, answers.window)),
-            make('dl', {}, lines.flatMap(([name, text]) => [make('dt', {}, TERMED[name] ? term(TERMED[name], name) : name), make('dd', {}, text)])));
+        const given = { about: this.app.about, date, remarks: this.remarks.value.trim() };
+        this.sheet.replaceChildren(...(whole ? this.#book(given, presets, printed) : this.#preset(given)));
     }
 
-    /** The cabin, if it was arranged or has a photograph: before that nothing is known of it. */
-    #cabin() {
-        const { state, answers } = this.app;
+    /** The present preset alone: its number stands on every page. */
+    #preset(given) {
+        const { library, state, store } = this.app;
+        const { preset } = store;
+        const { book, names, kind, rank, word } = state;
+        const name = preset === null ? '' : nameOf(names, 'preset', preset);
+        this.margins.textContent = marginRules(preset === null ? { book: 'This preset is in no book yet', corner: `${kind}${rank}`, date: given.date }
+            : { book: book.name, hash: sha256(book.bytes), corner: `Preset ${preset}`, date: given.date });
+        return [
+            frontPart(this.title.value || name || 'Router preset', [], frontRows(state, { ...given, preset }), preset !== null && book),
+            onePart(library, names, { kind, rank, word }, window => this.#cabin(window)),
+            legendPart(),
+        ];
+    }
+
+    /** The cabin with a window, if it was arranged or has a photograph: before that nothing is known of it. */
+    #cabin(window) {
+        const { names } = this.app.state;
         const photograph = shownPhotograph(this.app);
-        if (placesOf(state.names).size === 0 && !photograph) return [];
-        const holder = make('div', {});
-        holder.innerHTML = cabinPicture({ window: answers.window, names: state.names, width: 680, photograph });
-        return [holder];
+        if (placesOf(names).size === 0 && !photograph) return null;
+        const width = Math.round(Math.min(PAPER, CABIN_HIGH * shapeOf(photograph)));
+        return cabinPicture({ window, names, width, photograph });
     }
 
-    /** A word too long for the paper is drawn in part. */
-    #picture() {
-        const { library, state, answers } = this.app;
-        const column = state.word.length <= 18 ? 32 : 22;
-        const lane = laneHeight(answers.window.length);
-        const holder = make('div', {});
-        holder.innerHTML = pictureMarkup(library, state, { width: 680, column, lane, title: 'the picture of the preset' });
-        return holder;
+    #book(given, presets, printed) {
+        const { library, state } = this.app;
+        const { book, names } = state;
+        const right = presets.filter(preset => !preset.refusal);
+        const rigs = [...new Set(right.map(({ kind, rank }) => `${kind}${rank}`))];
+        const warnings = presets.filter(preset => preset.refusal).map(({ number, refusal }) => `preset ${number}: ${toldText(refusal, { preset: number }).replace(/\.$/, '')}`);
+        const pages = [...presets.map(({ number }) => [`preset-${number}`, `Preset ${number}`]), ...rigs.map(rig => [`delays-${rig}`, `Delays of ${rig}`])];
+        const corner = counted(presets.length, 'preset');
+        this.margins.textContent = marginRules({ book: book.name, hash: sha256(book.bytes), corner, date: given.date, pages });
+        const shown = printed ? presets : presets.slice(0, SHOWN);
+        const left = presets.length - shown.length;
+        return [
+            frontPart(this.title.value || `Presets of ${book.name}`, warnings, frontRows(state, { ...given, presets: presets.length }), book),
+            contentsPart(library, names, presets),
+            legendPart(),
+            ...shown.map(preset => presetPart(library, names, preset, window => this.#cabin(window))),
+            ...(left > 0 ? [make('p', { class: 'quiet' }, `${counted(left, 'further preset')} and the delay tables are printed too.`)] : rigs.map(rig => delaysPart(library, names, rig, presets))),
+        ];
     }
-}
-
-function table(heads, rows) {
-    const row = (name, cells) => make('tr', {}, cells.map(text => make(name, name === 'th' ? { scope: 'col' } : {}, text)));
-    return make('table', {}, make('thead', {}, row('th', heads)), make('tbody', {}, rows.map(cells => row('td', cells))));
 }

@@ -139,8 +139,8 @@ function dots(part, m) {
     return marks.join('');
 }
 
-/** The strands of a part as SVG, with a broad unseen line over each for the pointer. */
-export function strandsMarkup(part, m) {
+/** The strands of a part as SVG, with a broad unseen line over each for the pointer, and the marks of the steps. */
+export function strandsMarkup(part, m, marks = dots(part, m)) {
     const strands = part.straight.map(source => strandOf(part, source));
     const shapes = strands.map(strand => shapeOf(part, strand, m));
     const base = [];
@@ -158,7 +158,7 @@ export function strandsMarkup(part, m) {
         });
         over.push(`<g data-strand="${strand.source}" class="over">${halo}${top.join('')}</g>`);
     });
-    return base.join('') + over.join('') + dots(part, m);
+    return base.join('') + over.join('') + marks;
 }
 
 /** A view in which left and right differ at a glance: an F and an arrow, turned over where it is mirrored. */

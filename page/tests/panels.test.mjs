@@ -5,11 +5,9 @@ import { barsMarkup, share, ticksOf } from '../src/delays.mjs';
 import { splitOf } from '../src/fallback.mjs';
 import { fallbackOf, toggled } from '../src/modules.mjs';
 import { SENTENCES } from '../src/proved.mjs';
-import { screenLines, sheetLines } from '../src/sheet.mjs';
 import { FIRST_STATE } from '../src/state.mjs';
 import { wayTo, withMirrored, withSource } from '../src/wanted.mjs';
 import { Rewriting, ruleText } from '../src/why.mjs';
-import { NO_NAMES, withName } from '../src/names.mjs';
 import { RIGS, dice, library, randomWord } from './library.mjs';
 
 test('a source put on a screen changes places with what was there', () => {
@@ -108,16 +106,6 @@ test('the scale of the delays has round numbers, and shares are exact enough to 
     const { counts } = library.delayTable('B', 5);
     assert.equal((barsMarkup(counts, 600, 3).match(/<rect/g) ?? []).length, counts.length);
     assert.equal((barsMarkup(counts, 600, 3).match(/bar present/g) ?? []).length, 1);
-});
-
-test('the sheet says what the record needs', () => {
-    const state = { ...FIRST_STATE, word: [4, 4, 2, 5, 3, 5, 1, 2], names: withName(withName(NO_NAMES, 'source', 5, 'rear view'), 'screen', 2, 'left mirror') };
-    const answers = { form: library.normalForm('D', 5, state.word), window: library.window('D', 5, state.word), crossings: library.crossings('D', 5, state.word) };
-    const text = sheetLines(state, answers, { version: '1.2.3', hash: 'abc' }).map(line => line.join(': ')).join('\n');
-    for (const part of ['5 lanes', '4 4 2 5 3 5 1 2 (8 letters)', '5 2 3 5 1 2 (6 letters)', '3 −5 1 4 −2', '6: 3 plain pairs, 3 pairs against a mirrored lane, 0 mirrored lanes', '1.2.3', 'abc', 'in no book yet']) {
-        assert.ok(text.includes(part), part);
-    }
-    assert.deepEqual(screenLines(state, answers.window)[1], ['2 left mirror', '5 rear view', 'mirrored']);
 });
 
 test('what is proved is said in five sentences', () => assert.equal(SENTENCES.length, 5));

@@ -3,7 +3,7 @@ import assert from 'node:assert/strict';
 import { test } from 'node:test';
 import { barsMarkup } from '../src/delays.mjs';
 import { NO_NAMES, withDelay } from '../src/names.mjs';
-import { sheetLines } from '../src/sheet.mjs';
+import { presetRows } from '../src/report.mjs';
 import { FIRST_STATE } from '../src/state.mjs';
 import { lengthText, microseconds, millisecondsText, timeText } from '../src/times.mjs';
 import { dice, library } from './library.mjs';
@@ -41,9 +41,8 @@ test('the scale of the delays and the sheet have milliseconds too', () => {
     assert.match(markup, /steps, and milliseconds/);
     assert.doesNotMatch(barsMarkup(counts, 900, 6, NO_NAMES), /millisecond| ms/);
     const state = { ...FIRST_STATE, word: [4, 4, 2, 5, 3, 5, 1, 2], names };
-    const answers = { form: library.normalForm('D', 5, state.word), window: library.window('D', 5, state.word), crossings: library.crossings('D', 5, state.word) };
-    const text = sheetLines(state, answers, { version: '1', hash: 'x' }).map(line => line.join(': ')).join('\n');
-    for (const part of ['(8 letters, 20 ms)', '(6 letters, 15 ms)', 'Length: 6, 15 ms: 3 plain']) assert.ok(text.includes(part), part);
+    const text = presetRows(library, names, state).map(([name, ...parts]) => `${name}: ${parts.map(part => part.text ?? part).join('')}`).join('\n');
+    for (const part of ['8 steps (20 ms) as stored', '6 (15 ms) as the shortest version', 'Length: 6 (15 ms): 3 plain']) assert.ok(text.includes(part), part);
 });
 
 test('the numbers below the bars never touch', () => {

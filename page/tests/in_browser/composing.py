@@ -1,4 +1,4 @@
-"""The rig, the picture, composing, the wanted picture, modules, why, delays, the sheet and what is proved."""
+"""The rig, the picture, composing, the wanted picture, modules, why, delays and what is proved."""
 import base64
 import hashlib
 import os
@@ -378,39 +378,6 @@ class TenPoints(PageTest):
         for kind, rank in RIGS[3:]:
             self.rig(kind, rank)
             self.assertIn(self.library("message", 20), self.panel().text)
-
-    def test_09_sheet(self):
-        for kind, rank in RIGS:
-            self.rig(kind, rank)
-            self.word(self.long_word(rank, 9))
-            self.press("Sheet")
-            self.write("Title", f"Yard {kind}{rank}")
-            text = self.text("sheet")
-            for part in [f"Yard {kind}{rank}", " ".join(map(str, self.letters())), " ".join(map(str, self.js("return app.answers.form"))), self.text("hash"), "2"]:
-                self.assertIn(part, text)
-            pdf = base64.b64decode(self.driver.print_page())
-            self.assertTrue(pdf.startswith(b"%PDF"))
-            pages = len(re.findall(rb"/Type\s*/Page\b", pdf))
-            self.assertLessEqual(pages, 1 if rank <= 5 else 4)
-
-    def test_09_sheet_belongs_to_its_preset(self):
-        self.word("1 2 5")
-        self.press("Sheet")
-        self.assertIn("this preset is in no book yet", self.text("sheet"))
-        self.write("Title", "Reversing")
-        self.press("Book")
-        self.press("Append the present preset")
-        self.word("3")
-        self.press("Append the present preset")
-        self.press("Sheet")
-        self.assertIn("new.book, second edition, preset 1", self.text("sheet"))
-        self.assertIn("Reversing", self.text("sheet"))
-        self.press("Book")
-        self.press("load preset 0")
-        self.press("Sheet")
-        self.assertNotIn("Reversing", self.text("sheet"))
-        self.assertIn("new.book, second edition, preset 0", self.text("sheet"))
-        self.assertIn("− where mirrored", self.text("sheet"))
 
     def test_10_proved(self):
         self.press("What is proved")

@@ -235,7 +235,7 @@ class Milliseconds(Subject):
         self.press("Delays")
         self.type(self.FIELD, "2.5")
         parts = ["8 letters, 20 ms", "6 letters, 15 ms", "Length 6, 15 ms:", "8 letters, 20 ms", "", "6 steps, 15 ms", "2 steps, 5 ms",
-                 "8 letters, 20 ms", "the greatest length is 20 (50 ms)", "Length6, 15 ms: 3 plain"]
+                 "8 letters, 20 ms", "the greatest length is 20 (50 ms)", "Length6 (15 ms): 3 plain"]
         said = self.told()
         for part, text in zip(parts, said):
             self.assertIn(part, text)
