@@ -102,10 +102,10 @@ lanesAt-same : (ed : Edition) (l m : List ℕ) (o : ℕ) → kindAt l o ≡ kind
 lanesAt-same First l m o p q r = rw (p, q)
 lanesAt-same Second l m o p q r = r (omega arith)
 
-lanesAt-of : (ed : Edition) (m x y : List ℕ) (o k n : ℕ) → m ≡ x ++ (k ∷ n ∷ (lane ed k n ++ y)) → length x ≡ o → kindAt m o ≡ k → rankAt m o ≡ n
+lanesAt-of : (ed : Edition) {m : List ℕ} (x y : List ℕ) {o k n : ℕ} → m ≡ x ++ (k ∷ n ∷ (lane ed k n ++ y)) → length x ≡ o → kindAt m o ≡ k → rankAt m o ≡ n
     → lanesAt ed m o ≡ lanes (kindOf k) n
-lanesAt-of First m x y o k n e f p q = rw (p, q)
-lanesAt-of Second m x y o k n e f p q = rw e (getD-past x (k ∷ n ∷ (lane Second k n ++ y)) o 2 f)
+lanesAt-of First x y e f p q = rw (p, q)
+lanesAt-of Second x y {o} {k} {n} e f p q = rw e (getD-past x (k ∷ n ∷ (lane Second k n ++ y)) o 2 f)
 
 module _ (ed : Edition) (b : List ℕ) (k n : ℕ) (u : List ℕ) (a : Accepted ed b) (small : bookSize b + addedSize ed u ≤ 65535) where
   -- ---- numbers of the new book
@@ -202,7 +202,7 @@ module _ (ed : Edition) (b : List ℕ) (k n : ℕ) (u : List ℕ) (a : Accepted 
 
   pub lanesAt-appended-last : lanesAt ed (appended ed b k n u) (trailer b) ≡ lanes (kindOf k) n
   lanesAt-appended-last =
-      lanesAt-of ed (appended ed b k n u) (records b) (two (length u) ++ (u ++ rest ed b k n u)) (trailer b) k n (before-record ed b k n u) (length-records b)
+      lanesAt-of ed (records b) (two (length u) ++ (u ++ rest ed b k n u)) (before-record ed b k n u) (length-records b)
       kindAt-appended-last rankAt-appended-last
 
   pub letterCountAt-appended-last : letterCountAt ed (appended ed b k n u) (trailer b) ≡ length u

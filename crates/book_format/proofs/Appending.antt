@@ -48,7 +48,8 @@ walk-ended ed m i o e = rw (eq-eqb o (trailer m) e)
 -- ---- checks 1 to 3
 
 -- checks 1 to 3 from their tests
-pub bookRefusal-none : (ed : Edition) (m : List ℕ) → 2 ≤ length m → length m ≤ 65535 → 2 * count m + 2 ≤ length m → misplaced ed m ≡ false → bookRefusal ed m ≡ 0
+pub bookRefusal-none : (ed : Edition) (m : List ℕ) → 2 ≤ length m → length m ≤ 65535 → 2 * count m + 2 ≤ length m → misplaced ed m ≡ false
+    → bookRefusal ed m ≡ 0
 unfolding count
 bookRefusal-none ed m h g f e = bookRefusal-walk ed m (count m) (misplaced ed m) h g refl f refl ∙ ap (check 3) e
 
@@ -86,10 +87,10 @@ unfolding recordRefusal wrongLaneCount
 recordRefusal-same ed l m o p q s r = rw (s, p, q, r)
 
 -- two books whose preset i has one refusal, one offset and one record
-checkedPreset-same : (ed : Edition) (l m : List ℕ) (i o : ℕ) → presetRefusal ed l i ≡ presetRefusal ed m i → offset l i ≡ o → offset m i ≡ o
+checkedPreset-same : (ed : Edition) (l m : List ℕ) (i : ℕ) {o : ℕ} → presetRefusal ed l i ≡ presetRefusal ed m i → offset l i ≡ o → offset m i ≡ o
     → kindAt l o ≡ kindAt m o → rankAt l o ≡ rankAt m o → letterCountAt ed l o ≡ letterCountAt ed m o → checkedPreset ed l i ≡ checkedPreset ed m i
 unfolding checkedPreset presetAt
-checkedPreset-same ed l m i o e f g p q r = rw (e, f, g, p, q, r)
+checkedPreset-same ed l m i e f g p q r = rw (e, f, g, p, q, r)
 
 lettersOf-same : (ed : Edition) (l m : List ℕ) (i o : ℕ) → presetRefusal ed l i ≡ presetRefusal ed m i → offset l i ≡ o → offset m i ≡ o
     → lettersAt ed l o ≡ lettersAt ed m o
@@ -97,7 +98,8 @@ lettersOf-same : (ed : Edition) (l m : List ℕ) (i o : ℕ) → presetRefusal e
 unfolding lettersOf
 lettersOf-same ed l m i o e f g p = rw (e, f, g, p)
 
-module _ (ed : Edition) (b : List ℕ) (k n : ℕ) (u : List ℕ) (z : bookRefusal ed b ≡ 0) (small : bookSize b + addedSize ed u ≤ 65535) (i : ℕ) (h : i < count b) where
+module _ (ed : Edition) (b : List ℕ) (k n : ℕ) (u : List ℕ) (z : bookRefusal ed b ≡ 0) (small : bookSize b + addedSize ed u ≤ 65535) (i : ℕ)
+    (h : i < count b) where
   presetRefusal-appended : presetRefusal ed (appended ed b k n u) i ≡ presetRefusal ed b i
   presetRefusal-appended =
       let a = accepted ed b z in
@@ -116,7 +118,7 @@ module _ (ed : Edition) (b : List ℕ) (k n : ℕ) (u : List ℕ) (z : bookRefus
       let a = accepted ed b z in
       let e = endAt-offset-le ed b i a h in
       let o = offset b i in
-      checkedPreset-same ed (appended ed b k n u) b i o presetRefusal-appended (offset-appended ed b k n u a small i h) refl
+      checkedPreset-same ed (appended ed b k n u) b i presetRefusal-appended (offset-appended ed b k n u a small i h) refl
       (kindAt-appended ed b k n u a small o (omega arith)) (rankAt-appended ed b k n u a small o (omega arith))
       (letterCountAt-appended ed b k n u a small o (omega arith))
 
@@ -128,17 +130,17 @@ module _ (ed : Edition) (b : List ℕ) (k n : ℕ) (u : List ℕ) (z : bookRefus
 
 -- ---- the last preset
 
-pub recordRefusal-of : (ed : Edition) (m : List ℕ) (o k n : ℕ) (u : List ℕ) → kindAt m o ≡ k → rankAt m o ≡ n → lanesAt ed m o ≡ lanes (kindOf k) n
+pub recordRefusal-of : (ed : Edition) (m : List ℕ) (o : ℕ) {k n : ℕ} {u : List ℕ} → kindAt m o ≡ k → rankAt m o ≡ n → lanesAt ed m o ≡ lanes (kindOf k) n
     → lettersAt ed m o ≡ u
     → recordRefusal ed m o ≡ (bookRankRefusal ed k n then wordRefusal n u)
 unfolding recordRefusal wrongLaneCount
-recordRefusal-of ed m o k n u p q s r = rw (s, p, q, r, eq-eqb (lanes (kindOf k) n) (lanes (kindOf k) n) refl)
+recordRefusal-of ed m o {k} {n} p q s r = rw (s, p, q, r, eq-eqb (lanes (kindOf k) n) (lanes (kindOf k) n) refl)
 
-pub checkedPreset-of : (ed : Edition) (m : List ℕ) (i o k n l r : ℕ) → presetRefusal ed m i ≡ r → offset m i ≡ o → kindAt m o ≡ k → rankAt m o ≡ n
+pub checkedPreset-of : (ed : Edition) (m : List ℕ) (i : ℕ) {o k n l r : ℕ} → presetRefusal ed m i ≡ r → offset m i ≡ o → kindAt m o ≡ k → rankAt m o ≡ n
     → letterCountAt ed m o ≡ l
     → checkedPreset ed m i ≡ presetOf r k n (o + headSize ed) l
 unfolding checkedPreset presetAt
-checkedPreset-of ed m i o k n l r e f p q g = rw (e, f, p, q, g)
+checkedPreset-of ed m i e f p q g = rw (e, f, p, q, g)
 
 pub lettersOf-of : (ed : Edition) (m : List ℕ) (i o r : ℕ) (u : List ℕ) → presetRefusal ed m i ≡ r → offset m i ≡ o → lettersAt ed m o ≡ u
     → lettersOf ed m i ≡ pick (eqb r 0) u []
@@ -151,13 +153,13 @@ module _ (ed : Edition) (b : List ℕ) (k n : ℕ) (u : List ℕ) (a : Accepted 
       let c = count-appended ed b k n u a small in
       presetRefusal-record ed (appended ed b k n u) (count b) (bookRefusal-appended ed b k n u a small) (omega arith)
       ∙ ap (recordRefusal ed (appended ed b k n u)) (offset-appended-last ed b k n u a small)
-      ∙ recordRefusal-of ed (appended ed b k n u) (trailer b) k n u (kindAt-appended-last ed b k n u a small) (rankAt-appended-last ed b k n u a small)
+      ∙ recordRefusal-of ed (appended ed b k n u) (trailer b) (kindAt-appended-last ed b k n u a small) (rankAt-appended-last ed b k n u a small)
       (lanesAt-appended-last ed b k n u a small) (lettersAt-appended-last ed b k n u a small)
 
   pub checkedPreset-appended-last : checkedPreset ed (appended ed b k n u) (count b)
       ≡ presetOf (bookRankRefusal ed k n then wordRefusal n u) k n (trailer b + headSize ed) (length u)
   checkedPreset-appended-last =
-      checkedPreset-of ed (appended ed b k n u) (count b) (trailer b) k n (length u) (bookRankRefusal ed k n then wordRefusal n u)
+      checkedPreset-of ed (appended ed b k n u) (count b)
       presetRefusal-appended-last (offset-appended-last ed b k n u a small)
       (kindAt-appended-last ed b k n u a small) (rankAt-appended-last ed b k n u a small) (letterCountAt-appended-last ed b k n u a small)
 

@@ -187,9 +187,9 @@ never-appended ed b u before after l c =
     true≢false (sym (retired-exactly 1 1 .1 (refl, refl)) ∙ t)
 
 -- B12: a higher rank, appended
-pub above-range-appended : (b : List ℕ) (k n : ℕ) (u before after : List ℕ) (a : Answer) → Yields (appending First b k n u before) a after
+pub above-range-appended : (b : List ℕ) {k : ℕ} (n : ℕ) (u : List ℕ) {before after : List ℕ} {a : Answer} → Yields (appending First b k n u before) a after
     → bookRefusal First b ≡ 0 → (((k ≡ 1) × (31 < n)) ⊎ (((k ≡ 2) ⊎ (k ≡ 3)) × (32 < n))) → (a ≡ Refused 6) × (after ≡ before)
-above-range-appended b k n u before after a c z g =
+above-range-appended b {k} n u {before} {after} {a} c z g =
     let above = rank-above k n g in
     let r = appendRefusal-rank First b k n u z (λ e. omega (arith, above, e)) ∙ above in
     let e = append-refusal First b k n u before after a c 6 .1 (rw r, λ y. omega arith) in

@@ -20,7 +20,8 @@ use Rattle.coxeter.proofs.Basics.{or-false-left, or-false-right}
 use Rattle.coxeter.proofs.Refusals.{then-zero, check-zero}
 use Rattle.book_format.specs.declared.Edition.{Edition}
 use Rattle.book_format.specs.declared.Edition.the-variants.{First, Second}
-use Rattle.book_format.specs.Books.{twoAt, count, trailer, offset, endAt, wrongSize, wrongCount, misplacedFrom, misplaced, bookRefusal, countPlace, headSize}
+use Rattle.book_format.specs.Books.{twoAt, count, trailer, offset, endAt, wrongSize, wrongCount, misplacedFrom, misplaced}
+use Rattle.book_format.specs.Books.{bookRefusal, countPlace, headSize}
 
 -- ---- checks 1 to 3, in the order of the code: c is the count as it was read, t the answer of the walk
 
@@ -87,9 +88,9 @@ offset-read b c i x e q = rw (← trailer-read b c e) (sym q)
 pub end-read : (ed : Edition) (b : List ℕ) (o p m l : ℕ) → p ≡ countPlace ed → m ≡ headSize ed → l ≡ twoAt b (o + p) → o + m + l ≡ endAt ed b o
 end-read ed b o p m l w v y = rw (y, w, v)
 
-pub end-read-le : (ed : Edition) (b : List ℕ) (o p m l : ℕ) → p ≡ countPlace ed → m ≡ headSize ed → l ≡ twoAt b (o + p) → endAt ed b o ≤ length b
+pub end-read-le : (ed : Edition) (b : List ℕ) (o : ℕ) {p m l : ℕ} → p ≡ countPlace ed → m ≡ headSize ed → l ≡ twoAt b (o + p) → endAt ed b o ≤ length b
     → o + m + l ≤ length b
-end-read-le ed b o p m l w v y h = rw (end-read ed b o p m l w v y) h
+end-read-le ed b o {p} {m} {l} w v y h = rw (end-read ed b o p m l w v y) h
 
 -- where the next record would have to begin inside the trailer, it is misplaced or the end is
 misplaced-past : (ed : Edition) (b : List ℕ) (j i o : ℕ) → trailer b < o → misplacedFrom ed b j i o ≡ true
@@ -99,11 +100,11 @@ misplaced-past ed b (suc j) i o l = rw (lt-ltb (trailer b) (endAt ed b o) (omega
 
 -- so that this needs no test of its own
 past-or-misplaced : (ed : Edition) (b : List ℕ) (j i o : ℕ) → (ltb (trailer b) o || misplacedFrom ed b j i o) ≡ misplacedFrom ed b j i o
-past-or-misplaced ed b j i o = go (ltb (trailer b) o) refl
+past-or-misplaced ed b j i o = past-or-misplaced-by-cases (ltb (trailer b) o) refl
   where
-    go : (u : Bool) → ltb (trailer b) o ≡ u → (u || misplacedFrom ed b j i o) ≡ misplacedFrom ed b j i o
-    go true q = sym (misplaced-past ed b j i o (ltb-true (trailer b) o q))
-    go false q = refl
+    past-or-misplaced-by-cases : (u : Bool) → ltb (trailer b) o ≡ u → (u || misplacedFrom ed b j i o) ≡ misplacedFrom ed b j i o
+    past-or-misplaced-by-cases true q = sym (misplaced-past ed b j i o (ltb-true (trailer b) o q))
+    past-or-misplaced-by-cases false q = refl
 
 -- an offset that is not o settles it; else the record may be read where its offset says
 misplaced-next : (ed : Edition) (b : List ℕ) (j i o : ℕ)
@@ -228,8 +229,8 @@ pub counted : (ed : Edition) (b : List ℕ) (i : ℕ) → bookRefusal ed b ≡ 0
 counted ed b i e h = counted-some ed b e (λ z. let c = count-bytes b z in omega arith)
 
 -- the same, from what the code has of it
-pub accepted-read : (ed : Edition) (b : List ℕ) (r : ℕ) → r ≡ bookRefusal ed b → r ≡ 0 → Accepted ed b
-accepted-read ed b r e z = accepted ed b (sym e ∙ z)
+pub accepted-read : {ed : Edition} {b : List ℕ} {r : ℕ} → r ≡ bookRefusal ed b → r ≡ 0 → Accepted ed b
+accepted-read {ed} {b} e z = accepted ed b (sym e ∙ z)
 
 -- what check 3 says of the first of the records that are left
 pub record Leading (ed : Edition) (b : List ℕ) (t i o : ℕ) : Type 0 where

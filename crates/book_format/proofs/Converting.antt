@@ -138,7 +138,7 @@ module _ (ed : Edition) (b : List ℕ) (w : Convertible ed b) where
       record {
         unrefused =
             presetRefusal-record (other ed) d i converted-opens (omega arith)
-            ∙ recordRefusal-of (other ed) d p (kindAt b o) (rankAt b o) (lettersAt ed b o) kinds ranks right words
+            ∙ recordRefusal-of (other ed) d p kinds ranks right words
             ∙ then-none (bookRankRefusal (other ed) (kindAt b o) (rankAt b o)) (wordRefusal (rankAt b o) (lettersAt ed b o)) (rank-other ed b o g)
             ∙ g .word;
         kind = kinds;
@@ -160,7 +160,7 @@ module _ (ed : Edition) (b : List ℕ) (w : Convertible ed b) where
       let l : letterCountAt ed b o ≡ length (lettersAt ed b o) = sym (length-lettersAt ed b o (omega (arith, trailer-le b))) in
       let z : presetRefusal ed b i ≡ 0 =
       presetRefusal-record ed b i (w .opens) h
-      ∙ recordRefusal-of ed b o (kindAt b o) (rankAt b o) (lettersAt ed b o) refl refl (g .lanes-right) refl
+      ∙ recordRefusal-of ed b o refl refl (g .lanes-right) refl
       ∙ then-none (bookRankRefusal ed (kindAt b o) (rankAt b o)) (wordRefusal (rankAt b o) (lettersAt ed b o)) (g .rank)
       ∙ g .word in
       record {
@@ -169,8 +169,8 @@ module _ (ed : Edition) (b : List ℕ) (w : Convertible ed b) where
         start = o + headSize ed;
         start′ = p + headSize (other ed);
         size = length (lettersAt ed b o);
-        found = checkedPreset-of ed b i o (kindAt b o) (rankAt b o) (length (lettersAt ed b o)) 0 z refl refl refl l;
-        found′ = checkedPreset-of (other ed) d i p (kindAt b o) (rankAt b o) (length (lettersAt ed b o)) 0 (q .unrefused) refl (q .kind) (q .rank) (q .size);
+        found = checkedPreset-of ed b i z refl refl refl l;
+        found′ = checkedPreset-of (other ed) d i (q .unrefused) refl (q .kind) (q .rank) (q .size);
         letters =
             lettersOf-of ed b i o 0 (lettersAt ed b o) z refl refl
             ∙ sym (lettersOf-of (other ed) d i p 0 (lettersAt ed b o) (q .unrefused) refl (q .letters));

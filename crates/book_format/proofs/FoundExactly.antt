@@ -35,7 +35,7 @@ module _ (ed : Edition) (b : List ℕ) (i : ℕ) where
       ↔ ((presetRefusal ed b i ≡ 0) × (k ≡ kindAt b o) × (n ≡ rankAt b o) × (s ≡ o + headSize ed) × (l ≡ letterCountAt ed b o))
   unfolding checkedPreset
   found-exactly k n s l = (
-    λ e. let f = found ed b i k n s l (sym e) in (f .unrefused, f .kind, f .rank, f .begins, f .counts),
+    λ e. let f = found (sym e) in (f .unrefused, f .kind, f .rank, f .begins, f .counts),
     λ p. presetAt-found ed b (offset b i) (presetRefusal ed b i) (p .0) ∙ rw (p .1, p .2, p .3, p .4),
   )
 
@@ -44,9 +44,9 @@ module _ (ed : Edition) (b : List ℕ) (i : ℕ) where
   pub letters-exactly : (k n s l : ℕ) → checkedPreset ed b i ≡ preset.Found k n s l
       → (lettersOf ed b i ≡ take l (drop s b)) × (lettersStart ed b i ≡ s) × (s + l ≤ length b)
   letters-exactly k n s l e =
-      let f = found ed b i k n s l (sym e) in
+      let f = found (sym e) in
       let d : s + l - s ≡ l = omega arith in
-      (sym (rw d at (lettersOf-found ed b i k n s l f)), omega (arith, lettersStart-found ed b i k n s l 0 f), found-inside ed b i k n s l f)
+      (sym (rw d at (lettersOf-found f)), omega (arith, lettersStart-found 0 f), found-inside f)
 
   -- B16, B17, I27: for a refused preset an empty part is handed out, at byte 0
   pub letters-of-refused : (r : ℕ) → checkedPreset ed b i ≡ preset.Refused r → (lettersOf ed b i ≡ []) × (lettersStart ed b i ≡ 0)
@@ -75,7 +75,7 @@ record-passes : (ed : Edition) (b : List ℕ) (o : ℕ) (r : Record) → RecordI
 record-passes ed b o r i =
     rw (← i .kind, ← i .rank, ← i .word) (
       λ z. let t = record-tests ed b o z in (t .0, lanes-in ed b o r i .0 (t .1), t .2),
-      λ p. recordRefusal-of ed b o (kindAt b o) (rankAt b o) _ refl refl (lanes-in ed b o r i .1 (p .1)) refl ∙ rw (p .0, p .2),
+      λ p. recordRefusal-of ed b o refl refl (lanes-in ed b o r i .1 (p .1)) refl ∙ rw (p .0, p .2),
     )
 
 -- the book that the records qs, r and rs, in this order, lay out

@@ -88,7 +88,8 @@ module _ (ed : Edition) where
   length-recordBytes : (rs ss : List Record) → length (recordBytes ed (rs ++ ss)) ≡ length (recordBytes ed rs) + length (recordBytes ed ss)
   length-recordBytes rs ss = ap length (recordBytes-append rs ss) ∙ length-append (recordBytes ed rs) (recordBytes ed ss)
 
-  pub offsetBytes-append : (rs ss : List Record) (o : ℕ) → offsetBytes ed o (rs ++ ss) ≡ offsetBytes ed o rs ++ offsetBytes ed (o + length (recordBytes ed rs)) ss
+  pub offsetBytes-append : (rs ss : List Record) (o : ℕ) → offsetBytes ed o (rs ++ ss)
+      ≡ offsetBytes ed o rs ++ offsetBytes ed (o + length (recordBytes ed rs)) ss
   unfolding offsetBytes
   offsetBytes-append [] ss o = rw (length-none, add-zero o)
   offsetBytes-append (r ∷ rs) ss o =

@@ -38,7 +38,8 @@ bookRefusal-firstOf ed b =
     )
 
 -- checks 1 to 3, and then others
-pub bookRefusal-then : (ed : Edition) (b : List ℕ) (r : ℕ) → (bookRefusal ed b then r) ≡ pick (wrongSize b) 1 (pick (wrongCount b) 2 (pick (misplaced ed b) 3 r))
+pub bookRefusal-then : (ed : Edition) (b : List ℕ) (r : ℕ) → (bookRefusal ed b then r)
+    ≡ pick (wrongSize b) 1 (pick (wrongCount b) 2 (pick (misplaced ed b) 3 r))
 unfolding bookRefusal
 bookRefusal-then ed b r =
     then-assoc (check 1 (wrongSize b)) (check 2 (wrongCount b) then check 3 (misplaced ed b)) r

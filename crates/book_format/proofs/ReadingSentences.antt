@@ -240,7 +240,7 @@ module _ (ed : Edition) (b : List ℕ) (i : ℕ) (z : bookRefusal ed b ≡ 0) (h
   rank-1-read =
       let o = offset b i in
       let r : presetRefusal ed b i ≡ 0 = presetRefusal-record ed b i z h ∙ retired-read ed b o (lettersAt ed b o) k n m refl w in
-      (checkedPreset-of ed b i o 1 1 (letterCountAt ed b o) 0 r refl k n refl, lettersOf-of ed b i o 0 (lettersAt ed b o) r refl refl)
+      (checkedPreset-of ed b i r refl k n refl, lettersOf-of ed b i o 0 (lettersAt ed b o) r refl refl)
 
   -- B23
   pub rank-1-converted : firstOf (recordTests ed b i) ≡ 0

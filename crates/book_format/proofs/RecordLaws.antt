@@ -200,9 +200,9 @@ recordAt-same : (ed : Edition) (l m : List ℕ) (o : ℕ) → kindAt l o ≡ kin
     → lettersAt ed l o ≡ lettersAt ed m o → recordAt ed l o ≡ recordAt ed m o
 recordAt-same ed l m o p q s r = rw (s, p, q, r)
 
-recordAt-of : (ed : Edition) (m : List ℕ) (o k n c : ℕ) (u : List ℕ) → kindAt m o ≡ k → rankAt m o ≡ n → lanesAt ed m o ≡ c → lettersAt ed m o ≡ u
+recordAt-of : (ed : Edition) (m : List ℕ) (o : ℕ) {k n c : ℕ} {u : List ℕ} → kindAt m o ≡ k → rankAt m o ≡ n → lanesAt ed m o ≡ c → lettersAt ed m o ≡ u
     → recordAt ed m o ≡ record { kind = k; rank = n; lanes = c; letters = u }
-recordAt-of ed m o k n c u p q s r = rw (s, p, q, r)
+recordAt-of ed m o p q s r = rw (s, p, q, r)
 
 module _ (ed : Edition) (b : List ℕ) (k n : ℕ) (u : List ℕ) (a : Accepted ed b) (small : bookSize b + addedSize ed u ≤ 65535) where
   recordsFrom-appended : (j i o : ℕ) → i + j ≡ count b → misplacedFrom ed b j i o ≡ false
@@ -212,7 +212,7 @@ module _ (ed : Edition) (b : List ℕ) (k n : ℕ) (u : List ℕ) (a : Accepted 
       let y : i ≡ count b = omega arith in
       rw (y, offset-appended-last ed b k n u a small)
       (ap (λ r. r ∷ [])
-      (recordAt-of ed (appended ed b k n u) (trailer b) k n (lanes (kindOf k) n) u (kindAt-appended-last ed b k n u a small)
+      (recordAt-of ed (appended ed b k n u) (trailer b) (kindAt-appended-last ed b k n u a small)
       (rankAt-appended-last ed b k n u a small)
       (lanesAt-appended-last ed b k n u a small) (lettersAt-appended-last ed b k n u a small)))
   recordsFrom-appended (suc j) i o s e =

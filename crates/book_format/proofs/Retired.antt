@@ -51,7 +51,7 @@ module _ (ed : Edition) (b : List ℕ) (o : ℕ) (u : List ℕ) (k : kindAt b o 
     (w : WordOf 1 u) where
   pub retired-read : recordRefusal ed b o ≡ 0
   unfolding kindOf
-  retired-read = recordRefusal-of ed b o 1 1 u k n m l ∙ rw (rank-1-in-book ed, w)
+  retired-read = recordRefusal-of ed b o k n m l ∙ rw (rank-1-in-book ed, w)
 
   pub retired-converted : recordConversionRefusal ed b o ≡ 0
   unfolding recordConversionRefusal

@@ -99,12 +99,12 @@ bytes-or-refused k n = elim (decLe k 255) [
 
 -- a call that checks 5 and 6 refuse depends on nothing but the refusal of its kind and rank
 pub record Refusable {Y : Type 0} (F : ℕ → ℕ → Y) : Type 0 where
-  pub alike : (k n l m : ℕ) → rankRefusal l m ≡ rankRefusal k n → (rankRefusal k n ≡ 0 → ⊥) → F l m ≡ F k n
+  pub refused-same : (k n l m : ℕ) → rankRefusal l m ≡ rankRefusal k n → (rankRefusal k n ≡ 0 → ⊥) → F l m ≡ F k n
 
 -- so it is the same for the bytes
 pub as-bytes : {Y : Type 0} {F : ℕ → ℕ → Y} → Refusable F → (k n l m : ℕ) → l ≡ byteOf k → m ≡ byteOf n → F l m ≡ F k n
 as-bytes {Y} {F} r k n l m e f =
-    ap₂ F e f ∙ elim (bytes-or-refused k n) [ inl h ↦ ap₂ F (h .0) (h .1) | inr h ↦ r .alike k n (byteOf k) (byteOf n) (h .0) (h .1) ]
+    ap₂ F e f ∙ elim (bytes-or-refused k n) [ inl h ↦ ap₂ F (h .0) (h .1) | inr h ↦ r .refused-same k n (byteOf k) (byteOf n) (h .0) (h .1) ]
 
 -- the refusal of checks 5 and 6, after p and before s or t, decides
 then-decided : (p r q s t : ℕ) → q ≡ r → (r ≡ 0 → ⊥) → ((p then (q then s)) ≡ (p then (r then t))) × ((p then (r then t)) ≡ 0 → ⊥)
@@ -117,91 +117,92 @@ writes-refused-alike : {X : Type 0} (r q : ℕ) (u v out : List X) → q ≡ r �
 unfolding writes answerOf written
 writes-refused-alike r q u v out e f = rw (e, ne-eqb r 0 f) (rw (ne-eqb r 0 f) refl)
 
-writes-alike : {X : Type 0} (p r q s t : ℕ) (u v out : List X) → q ≡ r → (r ≡ 0 → ⊥) → writes (p then (q then s)) u out ≡ writes (p then (r then t)) v out
-writes-alike p r q s t u v out e f =
+writes-alike : {X : Type 0} (p : ℕ) {r q : ℕ} (s t : ℕ) (u v out : List X) → q ≡ r → (r ≡ 0 → ⊥)
+    → writes (p then (q then s)) u out ≡ writes (p then (r then t)) v out
+writes-alike p {r} {q} s t u v out e f =
     let a = then-decided p r q s t e f in
     writes-refused-alike (p then (r then t)) (p then (q then s)) u v out (a .0) (a .1)
 
-verdict-refused-alike : (r q : ℕ) (a b : Bool) → q ≡ r → (r ≡ 0 → ⊥) → verdictOf q a ≡ verdictOf r b
+verdict-refused-alike : {r q : ℕ} (a b : Bool) → q ≡ r → (r ≡ 0 → ⊥) → verdictOf q a ≡ verdictOf r b
 unfolding verdictOf
-verdict-refused-alike r q a b e f = rw (e, ne-eqb r 0 f) refl
+verdict-refused-alike {r} a b e f = rw (e, ne-eqb r 0 f) refl
 
 -- ---- the calls
 
 pub windowOfWord-refusable : (u : List ℕ) (out : List ℤ) → Refusable (λ k n. windowOfWord k n u out)
 unfolding windowOfWord
-windowOfWord-refusable u out = record { alike = λ k n l m e f. writes-alike 0 (rankRefusal k n) (rankRefusal l m) _ _ _ _ out e f }
+windowOfWord-refusable u out = record { refused-same = λ k n l m e f. writes-alike 0 _ _ _ _ out e f }
 
 pub normalFormOfWord-refusable : (u out : List ℕ) → Refusable (λ k n. normalFormOfWord k n u out)
 unfolding normalFormOfWord
-normalFormOfWord-refusable u out = record { alike = λ k n l m e f. writes-alike 0 (rankRefusal k n) (rankRefusal l m) _ _ _ _ out e f }
+normalFormOfWord-refusable u out = record { refused-same = λ k n l m e f. writes-alike 0 _ _ _ _ out e f }
 
 pub productOfWords-refusable : (u v out : List ℕ) → Refusable (λ k n. productOfWords k n u v out)
 unfolding productOfWords
-productOfWords-refusable u v out = record { alike = λ k n l m e f. writes-alike 0 (rankRefusal k n) (rankRefusal l m) _ _ _ _ out e f }
+productOfWords-refusable u v out = record { refused-same = λ k n l m e f. writes-alike 0 _ _ _ _ out e f }
 
 pub inverseOfWord-refusable : (u out : List ℕ) → Refusable (λ k n. inverseOfWord k n u out)
 unfolding inverseOfWord
-inverseOfWord-refusable u out = record { alike = λ k n l m e f. writes-alike 0 (rankRefusal k n) (rankRefusal l m) _ _ _ _ out e f }
+inverseOfWord-refusable u out = record { refused-same = λ k n l m e f. writes-alike 0 _ _ _ _ out e f }
 
 pub lengthOfWord-refusable : (u : List ℕ) → Refusable (λ k n. lengthOfWord k n u)
 unfolding lengthOfWord answerOf
-lengthOfWord-refusable u = record { alike = λ k n l m e f. simp (e, ne-eqb (rankRefusal k n) 0 f) }
+lengthOfWord-refusable u = record { refused-same = λ k n l m e f. simp (e, ne-eqb (rankRefusal k n) 0 f) }
 
 pub crossingsOfWord-refusable : (u : List ℕ) → Refusable (λ k n. crossingsOfWord k n u)
 unfolding crossingsOfWord countedOf
-crossingsOfWord-refusable u = record { alike = λ k n l m e f. simp (e, ne-eqb (rankRefusal k n) 0 f) }
+crossingsOfWord-refusable u = record { refused-same = λ k n l m e f. simp (e, ne-eqb (rankRefusal k n) 0 f) }
 
 pub normalFormOfWindow-refusable : (w : List ℤ) (out : List ℕ) → Refusable (λ k n. normalFormOfWindow k n w out)
 unfolding normalFormOfWindow
-normalFormOfWindow-refusable w out = record { alike = λ k n l m e f. writes-alike 0 (rankRefusal k n) (rankRefusal l m) _ _ _ _ out e f }
+normalFormOfWindow-refusable w out = record { refused-same = λ k n l m e f. writes-alike 0 _ _ _ _ out e f }
 
 pub productOfWindows-refusable : (u v out : List ℤ) → Refusable (λ k n. productOfWindows k n u v out)
 unfolding productOfWindows
-productOfWindows-refusable u v out = record { alike = λ k n l m e f. writes-alike 0 (rankRefusal k n) (rankRefusal l m) _ _ _ _ out e f }
+productOfWindows-refusable u v out = record { refused-same = λ k n l m e f. writes-alike 0 _ _ _ _ out e f }
 
 pub inverseOfWindow-refusable : (w out : List ℤ) → Refusable (λ k n. inverseOfWindow k n w out)
 unfolding inverseOfWindow
-inverseOfWindow-refusable w out = record { alike = λ k n l m e f. writes-alike 0 (rankRefusal k n) (rankRefusal l m) _ _ _ _ out e f }
+inverseOfWindow-refusable w out = record { refused-same = λ k n l m e f. writes-alike 0 _ _ _ _ out e f }
 
 pub lengthOfWindow-refusable : (w : List ℤ) → Refusable (λ k n. lengthOfWindow k n w)
 unfolding lengthOfWindow answerOf
-lengthOfWindow-refusable w = record { alike = λ k n l m e f. simp (e, ne-eqb (rankRefusal k n) 0 f) }
+lengthOfWindow-refusable w = record { refused-same = λ k n l m e f. simp (e, ne-eqb (rankRefusal k n) 0 f) }
 
 pub crossingsOfWindow-refusable : (w : List ℤ) → Refusable (λ k n. crossingsOfWindow k n w)
 unfolding crossingsOfWindow countedOf
-crossingsOfWindow-refusable w = record { alike = λ k n l m e f. simp (e, ne-eqb (rankRefusal k n) 0 f) }
+crossingsOfWindow-refusable w = record { refused-same = λ k n l m e f. simp (e, ne-eqb (rankRefusal k n) 0 f) }
 
 -- a record's kind and rank that a call refuses are refused alike
 pub appending-refusable : (ed : Edition) (b u out : List ℕ) → Refusable (λ k n. appending ed b k n u out)
 unfolding appending appendRefusal
 appending-refusable ed b u out = record {
-  alike = λ k n l m e f.
+  refused-same = λ k n l m e f.
       let same = bookRankRefusal-refused ed k n (rankRefusal k n) refl f in
       let other = bookRankRefusal-refused ed l m (rankRefusal l m) refl (λ z. f (sym e ∙ z)) in
-      writes-alike (bookRefusal ed b) (bookRankRefusal ed k n) (bookRankRefusal ed l m) _ _ _ _ out (other ∙ e ∙ sym same) (λ z. f (sym same ∙ z));
+      writes-alike (bookRefusal ed b) _ _ _ _ out (other ∙ e ∙ sym same) (λ z. f (sym same ∙ z));
 }
 
 pub delayTable-refusable : (counts : List ℕ) (entries : List ℤ) (letters : List ℕ) → Refusable (λ k n. delayTable k n counts entries letters)
 unfolding delayTable tableRefusal tables tableOf written
-delayTable-refusable counts entries letters = record { alike = λ k n l m e f. simp (e, ne-eqb (rankRefusal k n) 0 f) }
+delayTable-refusable counts entries letters = record { refused-same = λ k n l m e f. simp (e, ne-eqb (rankRefusal k n) 0 f) }
 
 -- the verdict, in its first preset and in its second
 pub first-refusable : (u : List ℕ) (k₂ n₂ : ℕ) (v : List ℕ) → Refusable (λ k n. presetsEqual k n u k₂ n₂ v)
 unfolding presetsEqual
 first-refusable u k₂ n₂ v = record {
-  alike = λ k n l m e f. let a = then-decided 0 (rankRefusal k n) (rankRefusal l m) _ _ e f in verdict-refused-alike _ _ _ _ (a .0) (a .1);
+  refused-same = λ k n l m e f. let a = then-decided 0 (rankRefusal k n) (rankRefusal l m) _ _ e f in verdict-refused-alike _ _ (a .0) (a .1);
 }
 
 pub second-refusable : (k₁ n₁ : ℕ) (u v : List ℕ) → Refusable (λ k n. presetsEqual k₁ n₁ u k n v)
 unfolding presetsEqual
 second-refusable k₁ n₁ u v = record {
-  alike = λ k n l m e f.
+  refused-same = λ k n l m e f.
       let first = rankRefusal k₁ n₁ then wordRefusal n₁ u in
       let a = then-decided first (rankRefusal k n) (rankRefusal l m) (wordRefusal m v) (wordRefusal n v) e f in
       let p = then-assoc (rankRefusal k₁ n₁) (wordRefusal n₁ u) (rankRefusal l m then wordRefusal m v) in
       let q = then-assoc (rankRefusal k₁ n₁) (wordRefusal n₁ u) (rankRefusal k n then wordRefusal n v) in
-      verdict-refused-alike _ _ _ _ (sym p ∙ a .0 ∙ q) (λ z. a .1 (q ∙ z));
+      verdict-refused-alike _ _ (sym p ∙ a .0 ∙ q) (λ z. a .1 (q ∙ z));
 }
 
 pub verdict-as-bytes : (k n : ℕ) (u : List ℕ) (k₂ n₂ : ℕ) (v : List ℕ) {l m l₂ m₂ : ℕ} → l ≡ byteOf k → m ≡ byteOf n → l₂ ≡ byteOf k₂ → m₂ ≡ byteOf n₂
@@ -211,15 +212,15 @@ verdict-as-bytes k n u k₂ n₂ v {l} {m} {l₂} {m₂} a b c d =
 
 better-refusable : (u v : List ℕ) → Refusable (λ k n. handsBack k n u v)
 unfolding handsBack
-better-refusable u v = record { alike = λ k n l m e f. rw (e, ne-eqb (rankRefusal k n) 0 f) (rw (ne-eqb (rankRefusal k n) 0 f) refl) }
+better-refusable u v = record { refused-same = λ k n l m e f. rw (e, ne-eqb (rankRefusal k n) 0 f) (rw (ne-eqb (rankRefusal k n) 0 f) refl) }
 
-pub choice-as-bytes : (k n : ℕ) (u v : List ℕ) (second : Bool) (l m : ℕ) → l ≡ byteOf k → m ≡ byteOf n
+pub choice-as-bytes : (k n : ℕ) (u v : List ℕ) (second : Bool) {l m : ℕ} → l ≡ byteOf k → m ≡ byteOf n
     → choice (handsBack l m u v) second ≡ choice (handsBack k n u v) second
-choice-as-bytes k n u v second l m a b = ap (λ (hands : Bool). choice hands second) (as-bytes (better-refusable u v) k n l m a b)
+choice-as-bytes k n u v second {l} {m} a b = ap (λ (hands : Bool). choice hands second) (as-bytes (better-refusable u v) k n l m a b)
 
 pub rewriting-refusable : (u : List ℕ) (p : ℕ) (out rule : List ℕ) → Refusable (λ k n. rewriting k n u p out rule)
 unfolding rewriting rewriteAt
-rewriting-refusable u p out rule = record { alike = λ k n l m e f. rw (e, ne-eqb (rankRefusal k n) 0 f) (rw (ne-eqb (rankRefusal k n) 0 f) refl) }
+rewriting-refusable u p out rule = record { refused-same = λ k n l m e f. rw (e, ne-eqb (rankRefusal k n) 0 f) (rw (ne-eqb (rankRefusal k n) 0 f) refl) }
 
 -- ---- answers
 

@@ -205,14 +205,14 @@ rewrote-small {k} {n} {u} {p} {before} {after} w f i j l e =
   where
     by-rule : AcceptedWord k n u → l ≤ 65535
     by-rule h =
-        let t = used-length k n u p before after f i j l h (subst (Rewrote single k n u p before after) e w) in
+        let t = used-length f i j l h (subst (Rewrote single k n u p before after) e w) in
         omega (arith, length-accepted n u (h .word))
 
 -- the longest normal form at a rank with a table has at most 4,096 letters
 pub delayTable-small : (k n : ℕ) (counts : List ℕ) (entries : List ℤ) (letters : List ℕ)
-    → (a b l : ℕ) → delayTable k n counts entries letters .answer ≡ table.Written a b l → l ≤ 65535
+    → {a b l : ℕ} → delayTable k n counts entries letters .answer ≡ table.Written a b l → l ≤ 65535
 unfolding delayTable tables tableOf
-delayTable-small k n counts entries letters a b l e =
+delayTable-small k n counts entries letters {a} {b} {l} e =
     let d = distribution (kindOf k) n in
     let w = longest (kindOf k) n in
     let u = normalForm (kindOf k) n w in

@@ -30,7 +30,8 @@ use Rattle.rules.proofs.Unchanged.{rewrite-refused-unchanged, rewrite-noneFits-
 use Rattle.book_format.specs.declared.Preset.{Preset}
 use Rattle.book_format.specs.declared.Preset.the-variants as preset
 use Rattle.c_api.specs.Calls.{refused, crossingNumbers, presetNumbers, listed, listedBeside, forC, rewriting}
-use Rattle.c_api.proofs.Lists.{IsRefusal, roomless, rewriteNumbers, rewrite-numbers, listed-stored, listed-alone, listed-short, beside-stored, beside-alone, beside-roomless}
+use Rattle.c_api.proofs.Lists.{IsRefusal, roomless, rewriteNumbers, rewrite-numbers, listed-stored, listed-alone, listed-short}
+use Rattle.c_api.proofs.Lists.{beside-stored, beside-alone, beside-roomless}
 
 -- ---- counts and fields
 
@@ -44,9 +45,9 @@ module _ (x : Counted) (list : List ℕ) where
     unfolding crossingNumbers
     crossings-short h = rw q (listed-short (pos (a + b + c)) (a ∷ b ∷ c ∷ []) list h)
 
-    pub crossings-stored : (z : ℤ) → 3 ≤ length list → z ≡ pos (a + b + c) → (z, sets list 0 (a ∷ b ∷ c ∷ [])) ≡ listed (crossingNumbers x) list
+    pub crossings-stored : {z : ℤ} → 3 ≤ length list → z ≡ pos (a + b + c) → (z, sets list 0 (a ∷ b ∷ c ∷ [])) ≡ listed (crossingNumbers x) list
     unfolding crossingNumbers
-    crossings-stored z h e = rw (q, ← e) (listed-stored z (a ∷ b ∷ c ∷ []) list h)
+    crossings-stored {z} h e = rw (q, ← e) (listed-stored z (a ∷ b ∷ c ∷ []) list h)
 
 -- the call below answered a, which is its definition d
 module _ {a d : Preset} (list : List ℕ) (e : a ≡ d) where
@@ -69,18 +70,18 @@ module _ {a d : Preset} (list : List ℕ) (e : a ≡ d) where
 pub rewriting-listed : (k n : ℕ) (u : List ℕ) (p : ℕ) (out rule : List ℕ) → let t = rewriteAt single k n u p out in
     rewriting k n u p out rule ≡ listedBeside (rewriteNumbers (t .answer)) (t .outputs) out rule
 unfolding front rewriting rewriteAt rewriteBy rewriteNumbers listedBeside tooShort
-rewriting-listed k n u p out rule = go (eqb r 0) (firstFitting (rules (kindOf k) n) u p)
+rewriting-listed k n u p out rule = rewriting-listed-by-cases (eqb r 0) (firstFitting (rules (kindOf k) n) u p)
   where
     r : ℕ
     r = rankRefusal k n then wordRefusal n u then check 12 (pastEnd u p)
 
-    go : (b : Bool) (o : Option Rule)
+    rewriting-listed-by-cases : (b : Bool) (o : Option Rule)
         → let t = pick b (rewriteBy forC o u p (out, rule)) (unchanged forC (refused r) u (out, rule)) in
         let s = pick b (rewriteBy single o u p out) (unchanged single (Refused r) u out) in
         (t .answer, t .outputs) ≡ listedBeside (rewriteNumbers (s .answer)) (s .outputs) out rule
-    go false o = rw (le-ltb (length rule) 0 (omega arith))
-    go true none = rw (le-ltb (length rule) 0 (omega arith))
-    go true (some x) = elim (decLe (length (rewritten x u p)) (length out)) [
+    rewriting-listed-by-cases false o = rw (le-ltb (length rule) 0 (omega arith))
+    rewriting-listed-by-cases true none = rw (le-ltb (length rule) 0 (omega arith))
+    rewriting-listed-by-cases true (some x) = elim (decLe (length (rewritten x u p)) (length out)) [
       | yes h ↦ elim (decLe 3 (length rule)) [
         | yes g ↦ rw (le-leb (length (rewritten x u p)) (length out) h, le-leb 3 (length rule) g, le-ltb (length rule) 3 g)
         | no g ↦ rw (le-leb (length (rewritten x u p)) (length out) h, lt-leb 3 (length rule) (lt-of-not-le g), lt-ltb (length rule) 3 (lt-of-not-le g))
@@ -89,10 +90,10 @@ rewriting-listed k n u p out rule = go (eqb r 0) (firstFitting (rules (kindOf k)
     ]
 
 module _ {k n : ℕ} {u : List ℕ} {p : ℕ} {out after : List ℕ} (rule : List ℕ) {a : Rewrite} (w : Rewrote single k n u p out after a) (z : ℤ) where
-  pub rewriting-used : (f i j l : ℕ) → a ≡ Used f i j l → 3 ≤ length rule → z ≡ pos l
+  pub rewriting-used : {f i j l : ℕ} → a ≡ Used f i j l → 3 ≤ length rule → z ≡ pos l
       → (z, (after, sets rule 0 (f ∷ i ∷ j ∷ []))) ≡ rewriting k n u p out rule
   unfolding rewriteNumbers
-  rewriting-used f i j l q h e =
+  rewriting-used {f} {i} {j} q h e =
       rw (rewriting-listed k n u p out rule, ← w .answer, ← w .outputs, q, ← e) (beside-stored z (f ∷ i ∷ j ∷ []) rule after out h)
 
   pub rewriting-fitless : a ≡ NoneFits → z ≡ refused 100 → (z, (after, rule)) ≡ rewriting k n u p out rule
@@ -115,7 +116,7 @@ rewrite-still k n u p out =
 roomless-rewrite : (k n : ℕ) (u : List ℕ) (p : ℕ) (out : List ℕ)
     → roomless (rewriteNumbers (rewriteAt single k n u p out .answer)) ≡ roomless (rewriteNumbers (rewriteAt single k n u p [] .answer))
 unfolding rewriteAt rewriteBy roomless rewriteNumbers
-roomless-rewrite k n u p out = go (eqb r 0)
+roomless-rewrite k n u p out = roomless-rewrite-by-cases (eqb r 0)
   where
     r : ℕ
     r = rankRefusal k n then wordRefusal n u then check 12 (pastEnd u p)
@@ -131,21 +132,23 @@ roomless-rewrite k n u p out = go (eqb r 0)
         both false true = refl
         both false false = refl
 
-    go : (t : Bool) → roomless (rewriteNumbers (pick t (rewriteBy single (firstFitting (rules (kindOf k) n) u p) u p out) (unchanged single (Refused r) u out) .answer))
+    roomless-rewrite-by-cases : (t : Bool) → roomless (rewriteNumbers
+        (pick t (rewriteBy single (firstFitting (rules (kindOf k) n) u p) u p out) (unchanged single (Refused r) u out) .answer))
         ≡ roomless (rewriteNumbers (pick t (rewriteBy single (firstFitting (rules (kindOf k) n) u p) u p []) (unchanged single (Refused r) u []) .answer))
-    go true = same (firstFitting (rules (kindOf k) n) u p)
-    go false = refl
+    roomless-rewrite-by-cases true = same (firstFitting (rules (kindOf k) n) u p)
+    roomless-rewrite-by-cases false = refl
 
 rewriting-without : (k n : ℕ) (u : List ℕ) (p : ℕ) (out rule : List ℕ) → length rule < 3
     → rewriting k n u p out rule ≡ (roomless (rewriteNumbers (rewriteAt single k n u p out .answer)), (out, rule))
 rewriting-without k n u p out rule h =
     rewriting-listed k n u p out rule
-    ∙ beside-roomless (rewrite-numbers (rewriteAt single k n u p out .answer)) (rewriteAt single k n u p out .outputs) out rule (omega arith) h (rewrite-still k n u p out)
+    ∙ beside-roomless (rewrite-numbers (rewriteAt single k n u p out .answer)) (rewriteAt single k n u p out .outputs) out rule (omega arith) h
+    (rewrite-still k n u p out)
 
 -- the number that an empty output gives
-pub rewriting-narrow : (k n : ℕ) (u : List ℕ) (p : ℕ) (after : List ℕ) (a : Rewrite) → Rewrote single k n u p [] after a
+pub rewriting-narrow : {k n : ℕ} {u : List ℕ} {p : ℕ} {after : List ℕ} {a : Rewrite} → Rewrote single k n u p [] after a
     → roomless (rewriteNumbers a) ≡ rewriting k n u p [] [] .0
-rewriting-narrow k n u p after a w = rw (rewriting-without k n u p [] [] (omega arith), ← w .answer)
+rewriting-narrow {k} {n} {u} {p} w = rw (rewriting-without k n u p [] [] (omega arith), ← w .answer)
 
 pub rewriting-roomless : (k n : ℕ) (u : List ℕ) (p : ℕ) {out : List ℕ} (rule : List ℕ) {z : ℤ} {after : List ℕ} → length rule < 3
     → z ≡ rewriting k n u p [] [] .0 → after ≡ out → (z, (after, rule)) ≡ rewriting k n u p out rule

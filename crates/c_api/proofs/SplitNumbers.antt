@@ -31,8 +31,8 @@ use Rattle.c_api.proofs.Lists.{split-numbers, IsRefusal, roomless, room
 -- ---- the number
 
 -- the sum is the length of the word's window
-pub splitting-small : (k n set : ℕ) (u first second : List ℕ) (a b : ℕ) → splitting k n set u first second .answer ≡ Words a b → a + b ≤ 65535
-splitting-small k n set u first second a b h =
+pub splitting-small : (k n set : ℕ) (u first second : List ℕ) {a b : ℕ} → splitting k n set u first second .answer ≡ Words a b → a + b ≤ 65535
+splitting-small k n set u first second {a} {b} h =
     let w = window (kindOf k) n u in
     let r = splitting-accepted k n set u first second a b h in
     let m = windowLength-le-4096 (kindOf k) n w (window-accepted (kindOf k) n u) (length-window-le k n u r) in
@@ -42,20 +42,20 @@ splitting-small k n set u first second a b h =
 
 pub splittingListed-refusable : (set : ℕ) (u first second lengths : List ℕ) → Refusable (λ k n. splittingListed k n set u first second lengths)
 unfolding splittingListed splitting setRefusal splitOutcome splitOf written
-splittingListed-refusable set u first second lengths = record { alike = λ k n l m e f. simp (e, ne-eqb (rankRefusal k n) 0 f) }
+splittingListed-refusable set u first second lengths = record { refused-same = λ k n l m e f. simp (e, ne-eqb (rankRefusal k n) 0 f) }
 
 -- ---- the lengths
 
-module _ (k n set : ℕ) (u first second lengths : List ℕ) (a : Split) (v w : List ℕ) (y : SplitYields (splitting k n set u first second) a v w) (z : ℤ) where
-  pub splittingListed-stored : (l m : ℕ) → a ≡ Words l m → 2 ≤ length lengths → z ≡ pos (l + m)
+module _ (k n set : ℕ) (u first second lengths : List ℕ) {a : Split} {v w : List ℕ} (y : SplitYields (splitting k n set u first second) a v w) {z : ℤ} where
+  pub splittingListed-stored : {l m : ℕ} → a ≡ Words l m → 2 ≤ length lengths → z ≡ pos (l + m)
       → (z, ((v, w), sets lengths 0 (l ∷ m ∷ []))) ≡ splittingListed k n set u first second lengths
   unfolding splittingListed splitNumbers
-  splittingListed-stored l m q h e =
+  splittingListed-stored {l} {m} q h e =
       rw (← y .0, ← y .1, ← y .2, q, ← e) (beside-stored z (l ∷ m ∷ []) lengths (v, w) (first, second) h)
 
-  pub splittingListed-refused : (r : ℕ) → a ≡ Refused r → z ≡ refused r → (z, ((v, w), lengths)) ≡ splittingListed k n set u first second lengths
+  pub splittingListed-refused : {r : ℕ} → a ≡ Refused r → z ≡ refused r → (z, ((v, w), lengths)) ≡ splittingListed k n set u first second lengths
   unfolding splittingListed splitNumbers
-  splittingListed-refused r q e = rw (← y .0, ← y .1, ← y .2, q, ← e) (beside-alone z (v, w) (first, second) lengths)
+  splittingListed-refused q e = rw (← y .0, ← y .1, ← y .2, q, ← e) (beside-alone z (v, w) (first, second) lengths)
 
 -- a refused split writes nothing
 pub splitting-still : (k n set : ℕ) (u first second : List ℕ) → let p = splitting k n set u first second in

@@ -45,37 +45,37 @@ numberOfSteps-few k n u l e =
     let a = counted-steps k n u l e in
     omega (arith, a .1, steps-few k n u (a .0))
 
-pub rewritingToEnd-few : (k n : ℕ) (u families places lengths out : List ℕ) (s l : ℕ)
+pub rewritingToEnd-few : (k n : ℕ) (u families places lengths out : List ℕ) {s l : ℕ}
     → rewritingToEnd k n u families places lengths out .answer ≡ toEnd.Ended s l → s ≤ 8386560
-rewritingToEnd-few k n u families places lengths out s l e =
-    let a = ended-steps k n u families places lengths out s l e in
+rewritingToEnd-few k n u families places lengths out {l = l} e =
+    let a = ended-steps families places lengths out l e in
     omega (arith, a .1, steps-few k n u (a .0))
 
 -- ---- kinds and ranks
 
 pub numberOfSteps-refusable : (u : List ℕ) → Refusable (λ k n. numberOfSteps k n u)
 unfolding numberOfSteps answerOf
-numberOfSteps-refusable u = record { alike = λ k n l m e f. rw (e, ne-eqb (rankRefusal k n) 0 f) (rw (ne-eqb (rankRefusal k n) 0 f) refl) }
+numberOfSteps-refusable u = record { refused-same = λ k n l m e f. rw (e, ne-eqb (rankRefusal k n) 0 f) (rw (ne-eqb (rankRefusal k n) 0 f) refl) }
 
 pub rewritingToEndListed-refusable : (u families places lengths out written : List ℕ)
     → Refusable (λ k n. rewritingToEndListed k n u families places lengths out written)
 unfolding rewritingToEndListed rewritingToEnd tracedBy toEndOf calls.written
-rewritingToEndListed-refusable u families places lengths out written = record { alike = λ k n l m e f. simp (e, ne-eqb (rankRefusal k n) 0 f) }
+rewritingToEndListed-refusable u families places lengths out written = record { refused-same = λ k n l m e f. simp (e, ne-eqb (rankRefusal k n) 0 f) }
 
 -- ---- the final length
 
-module _ (k n : ℕ) (u families places lengths out written : List ℕ) (a : ToEnd) (f p g o : List ℕ)
-    (y : TraceYields (rewritingToEnd k n u families places lengths out) a f p g o) (z : ℤ) where
-  pub rewritingToEndListed-stored : (s l : ℕ) → a ≡ toEnd.Ended s l → 1 ≤ length written → z ≡ pos s
+module _ (k n : ℕ) (u families places lengths out written : List ℕ) {a : ToEnd} {f p g o : List ℕ}
+    (y : TraceYields (rewritingToEnd k n u families places lengths out) a f p g o) {z : ℤ} where
+  pub rewritingToEndListed-stored : {s l : ℕ} → a ≡ toEnd.Ended s l → 1 ≤ length written → z ≡ pos s
       → (z, ((f, p, g, o), sets written 0 (l ∷ []))) ≡ rewritingToEndListed k n u families places lengths out written
   unfolding rewritingToEndListed traceNumbers
-  rewritingToEndListed-stored s l q h e =
+  rewritingToEndListed-stored {s} {l} q h e =
       rw (← y .0, ← y .1, ← y .2, ← y .3, ← y .4, q, ← e) (beside-stored z (l ∷ []) written (f, p, g, o) (families, places, lengths, out) h)
 
-  pub rewritingToEndListed-refused : (r : ℕ) → a ≡ toEnd.Refused r → z ≡ refused r
+  pub rewritingToEndListed-refused : {r : ℕ} → a ≡ toEnd.Refused r → z ≡ refused r
       → (z, ((f, p, g, o), written)) ≡ rewritingToEndListed k n u families places lengths out written
   unfolding rewritingToEndListed traceNumbers
-  rewritingToEndListed-refused r q e =
+  rewritingToEndListed-refused q e =
       rw (← y .0, ← y .1, ← y .2, ← y .3, ← y .4, q, ← e) (beside-alone z (f, p, g, o) (families, places, lengths, out) written)
 
 -- a refused rewriting writes nothing
@@ -125,9 +125,9 @@ module _ (k n : ℕ) (u families places lengths : List ℕ) where
 
   module _ {a : Answer} (e : a ≡ numberOfSteps k n u) where
     -- refused before check 15
-    pub toEnd-refused : (r : ℕ) → a ≡ answer.Refused r → refused r ≡ rewritingToEndListed k n u families places lengths [] [] .0
+    pub toEnd-refused : {r : ℕ} → a ≡ answer.Refused r → refused r ≡ rewritingToEndListed k n u families places lengths [] [] .0
     unfolding numberOfSteps answerOf without
-    toEnd-refused r p =
+    toEnd-refused {r} p =
         let q = rankRefusal k n then wordRefusal n u in
         rw (toEnd-without [] [] (omega arith)) (elim (ℕ-discrete q 0) [
           | yes z ↦

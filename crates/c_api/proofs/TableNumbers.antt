@@ -26,24 +26,24 @@ pub delayTableListed-refusable : (counts : List ℕ) (entries : List ℤ) (lette
     → Refusable (λ k n. delayTableListed k n counts entries letters lengths)
 unfolding delayTableListed
 delayTableListed-refusable counts entries letters lengths = record {
-  alike = λ k n l m e f.
+  refused-same = λ k n l m e f.
       ap (λ (t : Tabled). listedBeside (tableNumbers (t .answer)) (t .counts, t .entries, t .letters) (counts, entries, letters) lengths)
-      (delayTable-refusable counts entries letters .alike k n l m e f);
+      (delayTable-refusable counts entries letters .refused-same k n l m e f);
 }
 
 -- ---- the lengths
 
-module _ (k n : ℕ) (counts : List ℕ) (entries : List ℤ) (letters lengths : List ℕ) (a : Table) (d : List ℕ) (w : List ℤ) (u : List ℕ)
-    (y : TableYields (delayTable k n counts entries letters) a d w u) (z : ℤ) where
-  pub delayTableListed-stored : (i j l : ℕ) → a ≡ Written i j l → 3 ≤ length lengths → z ≡ pos l
+module _ (k n : ℕ) (counts : List ℕ) (entries : List ℤ) (letters lengths : List ℕ) {a : Table} {d : List ℕ} {w : List ℤ} {u : List ℕ}
+    (y : TableYields (delayTable k n counts entries letters) a d w u) {z : ℤ} where
+  pub delayTableListed-stored : {i j l : ℕ} → a ≡ Written i j l → 3 ≤ length lengths → z ≡ pos l
       → (z, ((d, w, u), sets lengths 0 (i ∷ j ∷ l ∷ []))) ≡ delayTableListed k n counts entries letters lengths
   unfolding delayTableListed tableNumbers
-  delayTableListed-stored i j l q h e =
+  delayTableListed-stored {i} {j} {l} q h e =
       rw (← y .0, ← y .1, ← y .2, ← y .3, q, ← e) (beside-stored z (i ∷ j ∷ l ∷ []) lengths (d, w, u) (counts, entries, letters) h)
 
-  pub delayTableListed-refused : (r : ℕ) → a ≡ Refused r → z ≡ refused r → (z, ((d, w, u), lengths)) ≡ delayTableListed k n counts entries letters lengths
+  pub delayTableListed-refused : {r : ℕ} → a ≡ Refused r → z ≡ refused r → (z, ((d, w, u), lengths)) ≡ delayTableListed k n counts entries letters lengths
   unfolding delayTableListed tableNumbers
-  delayTableListed-refused r q e = rw (← y .0, ← y .1, ← y .2, ← y .3, q, ← e) (beside-alone z (d, w, u) (counts, entries, letters) lengths)
+  delayTableListed-refused q e = rw (← y .0, ← y .1, ← y .2, ← y .3, q, ← e) (beside-alone z (d, w, u) (counts, entries, letters) lengths)
 
 -- a refused table writes nothing
 pub delayTable-still : (k n : ℕ) (counts : List ℕ) (entries : List ℤ) (letters : List ℕ) → let t = delayTable k n counts entries letters in

@@ -41,7 +41,7 @@ fallback-size {l} {m} {present} {simpler} {places} {after} s h q = omega (arith,
 -- ---- from one window to another
 
 pub betweenWindows-refusable : (set : ℕ) (v w : List ℤ) (out : List ℕ) → Refusable (λ k n. betweenWindows k n set v w out)
-betweenWindows-refusable set v w out = record { alike = λ k n l m e f. between-alike k n l m set v w out e f }
+betweenWindows-refusable set v w out = record { refused-same = λ k n l m e f. between-alike k n l m set v w out e f }
 
 pub betweenWindows-small : (k n set : ℕ) (v w : List ℤ) (out : List ℕ) → Small (betweenWindows k n set v w out .answer)
 betweenWindows-small k n set v w out l e = omega (arith, between-fits k n set v w out l e)

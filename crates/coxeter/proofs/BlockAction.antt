@@ -44,23 +44,23 @@ act-swapNegate-append n u x y h = rw (act-D-last n (length u) h) (from-append (l
 -- ---- runs
 
 -- going up, an entry moves to the right past v
-windowFrom-span : (k : Kind) (n s c : ℕ) (u : List ℤ) (x : ℤ) (v z : List ℤ) → s ≡ suc (length u) → c ≡ s + length v → c ≤ lanes k n
+windowFrom-span : (k : Kind) (n : ℕ) {s c : ℕ} (u : List ℤ) (x : ℤ) (v z : List ℤ) → s ≡ suc (length u) → c ≡ s + length v → c ≤ lanes k n
     → windowFrom k n (u ++ (x ∷ (v ++ z))) (span s c) ≡ u ++ (v ++ (x ∷ z))
 unfolding windowFrom
-windowFrom-span k n s c u x [] z h q l = rw (span-nil s c (omega arith))
-windowFrom-span k n s c u x (y ∷ v) z h q l =
+windowFrom-span k n {s} {c} u x [] z h q l = rw (span-nil s c (omega arith))
+windowFrom-span k n {s} {c} u x (y ∷ v) z h q l =
     rw (span-cons s c (omega arith))
     (ap (λ (w : List ℤ). windowFrom k n w (span (suc s) c)) (act-swap-append k n s u x y (v ++ z) h (omega arith))
-    ∙ (simp append-assoc at (windowFrom-span k n (suc s) c (u ++ (y ∷ [])) x v z (omega (arith, length-append u (y ∷ []))) (omega arith) l)))
+    ∙ (simp append-assoc at (windowFrom-span k n {s = suc s} (u ++ (y ∷ [])) x v z (omega (arith, length-append u (y ∷ []))) (omega arith) l)))
 
 -- going down, it moves back
-windowFrom-slide : (k : Kind) (n s c : ℕ) (u v : List ℤ) (x : ℤ) (z : List ℤ) → s ≡ suc (length u) → c ≡ s + length v → c ≤ lanes k n
+windowFrom-slide : (k : Kind) (n : ℕ) {s c : ℕ} (u v : List ℤ) (x : ℤ) (z : List ℤ) → s ≡ suc (length u) → c ≡ s + length v → c ≤ lanes k n
     → windowFrom k n (u ++ (v ++ (x ∷ z))) (slide c s) ≡ u ++ (x ∷ (v ++ z))
 unfolding windowFrom
-windowFrom-slide k n s c u [] x z h q l = rw (slide-nil c s (omega arith))
-windowFrom-slide k n s c u (y ∷ v) x z h q l =
+windowFrom-slide k n {s} {c} u [] x z h q l = rw (slide-nil c s (omega arith))
+windowFrom-slide k n {s} {c} u (y ∷ v) x z h q l =
     let r : windowFrom k n (u ++ (y ∷ (v ++ (x ∷ z)))) (slide c (suc s)) ≡ u ++ (y ∷ (x ∷ (v ++ z))) =
-    simp append-assoc at (windowFrom-slide k n (suc s) c (u ++ (y ∷ [])) v x z (omega (arith, length-append u (y ∷ []))) (omega arith) l) in
+    simp append-assoc at (windowFrom-slide k n {s = suc s} (u ++ (y ∷ [])) v x z (omega (arith, length-append u (y ∷ []))) (omega arith) l) in
     rw (slide-snoc c s (omega arith), windowFrom-append k n (u ++ (y ∷ (v ++ (x ∷ z)))) (slide c (suc s)) (s ∷ []))
     (ap (act k n s) r ∙ act-swap-append k n s u y x (v ++ z) h (omega arith))
 
@@ -83,29 +83,29 @@ restOf-ending : (x : ℕ) (m : List ℤ) (z : ℤ) → restOf D (negsuc x) (m ++
 unfolding restOf negateFirst
 restOf-ending x m z = from-append _ negateFirst m (z ∷ []) (omega (arith, length-append m (z ∷ [])))
 
-turn-D : (n i c x : ℕ) (u m : List ℤ) (y : ℤ) → c + 1 ≡ n → i ≡ suc (length u) → c ≡ i + length m
+turn-D : {n i c : ℕ} (x : ℕ) (u m : List ℤ) (y : ℤ) → c + 1 ≡ n → i ≡ suc (length u) → c ≡ i + length m
     → windowFrom D n (u ++ (pos i ∷ restOf D (negsuc x) (m ++ (y ∷ [])))) (span i c ++ (n ∷ [])) ≡ u ++ ((m ++ (y ∷ [])) ++ (negℤ (pos i) ∷ []))
 unfolding windowFrom
-turn-D n i c x u m y e h q =
+turn-D {n} {i} {c} x u m y e h q =
     let r : windowFrom D n (u ++ (pos i ∷ (m ++ (negℤ y ∷ [])))) (span i c) ≡ (u ++ m) ++ (pos i ∷ negℤ y ∷ []) =
-    simp append-assoc (windowFrom-span D n i c u (pos i) m (negℤ y ∷ []) h (omega arith) (omega arith)) in
+    simp append-assoc (windowFrom-span D n u (pos i) m (negℤ y ∷ []) h (omega arith) (omega arith)) in
     rw (restOf-ending x m y, windowFrom-append D n (u ++ (pos i ∷ (m ++ (negℤ y ∷ [])))) (span i c) (n ∷ []))
     (ap (act D n n) r ∙ act-swapNegate-append n (u ++ m) (pos i) (negℤ y) (omega (arith, length-append u m)) ∙ rw negℤ-negℤ (simp append-assoc))
 
 -- at the turn the entry i gets to the end with its sign changed, and in D the last entry its sign back
-windowFrom-turn : (k : Kind) (n i c x : ℕ) (u w : List ℤ) → Corner k n c → i ≡ suc (length u) → length w + i ≡ n → i ≤ levels k n
+windowFrom-turn : (k : Kind) {n i : ℕ} (c x : ℕ) (u w : List ℤ) → Corner k n c → i ≡ suc (length u) → length w + i ≡ n → i ≤ levels k n
     → negativeInA k (negsuc x) ≡ false
     → windowFrom k n (u ++ (pos i ∷ restOf k (negsuc x) w)) (span i c ++ (n ∷ [])) ≡ u ++ (w ++ (negℤ (pos i) ∷ []))
 unfolding windowFrom negativeInA negative restOf
-windowFrom-turn A n i c x u w e h q l a = absurd (true≢false a)
-windowFrom-turn B n i c x u w e h q l a =
+windowFrom-turn A c x u w e h q l a = absurd (true≢false a)
+windowFrom-turn B {n} {i} c x u w e h q l a =
     let r : windowFrom B n (u ++ (pos i ∷ w)) (span i c) ≡ (u ++ w) ++ (pos i ∷ []) =
-    simp append-assoc (rw append-nil at (windowFrom-span B n i c u (pos i) w [] h (omega arith) (omega arith))) in
+    simp append-assoc (rw append-nil at (windowFrom-span B n {c = c} u (pos i) w [] h (omega arith) (omega arith))) in
     rw (windowFrom-append B n (u ++ (pos i ∷ w)) (span i c) (n ∷ []))
     (ap (act B n n) r ∙ act-negate-append n (u ++ w) (pos i) (omega (arith, length-append u w)) ∙ append-assoc u w (negℤ (pos i) ∷ []))
-windowFrom-turn D n i c x u w e h q l a =
+windowFrom-turn D {n} {i} c x u w e h q l a =
     let r : Ending w = ending w (omega arith) in
-    rw (r .whole) (turn-D n i c x u (r .front) (r .final) e h (omega (arith, length-append (r .front) (r .final ∷ []), ap length (r .whole))))
+    rw (r .whole) (turn-D x u (r .front) (r .final) e h (omega (arith, length-append (r .front) (r .final ∷ []), ap length (r .whole))))
 
 -- ---- blocks
 
@@ -125,7 +125,7 @@ block-positive : (k : Kind) (n i : ℕ) (u v z : List ℤ) → i ≡ suc (length
     → windowFrom k n (u ++ (pos i ∷ (v ++ z))) (block k n i (i + length v - 1)) ≡ u ++ (v ++ (pos i ∷ z))
 block-positive k n i u v z h q =
     let e : suc (i + length v - 1) ≡ i + length v = omega arith in
-    rw (block-identity k n i (i + length v - 1) (omega arith), e) (windowFrom-span k n i (i + length v) u (pos i) v z h refl (omega arith))
+    rw (block-identity k n i (i + length v - 1) (omega arith), e) (windowFrom-span k n u (pos i) v z h refl (omega arith))
 
 -- no block of A turns
 pub turning : (k : Kind) (n i x : ℕ) → negativeInA k (negsuc x) ≡ false → (lanes k n ≡ n) × (lastIndex k n i ≡ 2 * n - i)
@@ -134,33 +134,33 @@ turning A n i x h = absurd (true≢false h)
 turning B n i x h = (refl, refl)
 turning D n i x h = (refl, refl)
 
-block-negative : (k : Kind) (n i c x : ℕ) (u v z : List ℤ) → Corner k n c → i ≤ c → i ≤ levels k n → i ≡ suc (length u)
+block-negative : (k : Kind) {n i : ℕ} (c x : ℕ) (u v z : List ℤ) → Corner k n c → i ≤ c → i ≤ levels k n → i ≡ suc (length u)
     → length v + length z + i ≡ n → negativeInA k (negsuc x) ≡ false
     → windowFrom k n (u ++ (pos i ∷ restOf k (negsuc x) (v ++ z))) (block k n i (2 * n - (i + length v))) ≡ u ++ (v ++ (negℤ (pos i) ∷ z))
-block-negative k n i c x u v z e b l h q a =
+block-negative k {n} {i} c x u v z e b l h q a =
     let t : (lanes k n ≡ n) × (lastIndex k n i ≡ 2 * n - i) = turning k n i x a in
     let w : List ℤ = u ++ (pos i ∷ restOf k (negsuc x) (v ++ z)) in
     let d : ℕ = i + length v in
     let r : windowFrom k n w (span i c ++ (n ∷ [])) ≡ (u ++ v) ++ (z ++ (negℤ (pos i) ∷ [])) =
-    simp append-assoc (simp append-assoc at (windowFrom-turn k n i c x u (v ++ z) e h (omega (arith, length-append v z)) l a)) in
+    simp append-assoc (simp append-assoc at (windowFrom-turn k c x u (v ++ z) e h (omega (arith, length-append v z)) l a)) in
     ap (windowFrom k n w)
     (block-turn k n i (2 * n - d) c d e b (omega arith) (omega arith) (omega arith) (omega arith)
     ∙ ap (λ (s : List ℕ). span i c ++ s) (slide-cons n d (omega arith))
     ∙ sym (append-assoc (span i c) (n ∷ []) (slide n d)))
     ∙ windowFrom-append k n w (span i c ++ (n ∷ [])) (slide n d)
     ∙ ap (λ (y : List ℤ). windowFrom k n y (slide n d)) r
-    ∙ windowFrom-slide k n d n (u ++ v) z (negℤ (pos i)) [] (omega (arith, length-append u v)) (omega arith) (omega arith)
+    ∙ windowFrom-slide k n (u ++ v) z (negℤ (pos i)) [] (omega (arith, length-append u v)) (omega arith) (omega arith)
     ∙ simp (append-nil, append-assoc)
 
 -- the block of the entry e of size i puts it between v and z, what is left of them standing behind the entry i
-pub windowFrom-block : (k : Kind) (n i : ℕ) (u v : List ℤ) (e : ℤ) (z : List ℤ) → i ≡ suc (length u) → i ≤ levels k n
+pub windowFrom-block : (k : Kind) (n : ℕ) {i : ℕ} (u v : List ℤ) (e : ℤ) (z : List ℤ) → i ≡ suc (length u) → i ≤ levels k n
     → length (v ++ (e ∷ z)) + i ≡ suc (lanes k n) → natAbs e ≡ i → negativeInA k e ≡ false
     → windowFrom k n (u ++ (pos i ∷ restOf k e (v ++ z))) (block k n i (indexOf n (signed e (i + length v)))) ≡ u ++ (v ++ (e ∷ z))
-windowFrom-block k n i u v (pos x) z h l q s a =
+windowFrom-block k n {i} u v (pos x) z h l q s a =
     rw (restOf-positive k x (v ++ z), indexOf-positive n x (i + length v), s)
     (block-positive k n i u v z h (omega (arith, length-append v (pos x ∷ z))))
-windowFrom-block k n i u v (negsuc x) z h l q s a =
+windowFrom-block k n {i} u v (negsuc x) z h l q s a =
     let c : (c : ℕ) × Corner k n c × (i ≤ c) = corner k n i l (omega arith) in
     rw (indexOf-negative n x (i + length v) (omega arith))
-    (block-negative k n i (c .0) x u v z (c .1) (c .2) l h (omega (arith, length-append v (negsuc x ∷ z), turning k n i x a)) a
+    (block-negative k (c .0) x u v z (c .1) (c .2) l h (omega (arith, length-append v (negsuc x ∷ z), turning k n i x a)) a
     ∙ ap (λ (y : ℕ). u ++ (v ++ (negℤ (pos y) ∷ z))) (sym s))

@@ -126,11 +126,11 @@ InRange k n i js = (p : ℕ) → p < length js → (i + p ≤ getD js p 0 + 1) �
 range-of-indices : {k : Kind} {n i : ℕ} {js : List ℕ} → Indices k n i js → (i + length js ≡ levels k n + 1) × InRange k n i js
 unfolding InRange
 range-of-indices (none e) = (omega arith, λ p h. absurd (omega arith))
-range-of-indices {k} {n} (level {i} {j} {js} a b c r) = (omega (arith, range-of-indices r .0), inside (range-of-indices r .1))
+range-of-indices {k} {n} (level {i} {j} {js} a b c r) = (omega (arith, range-of-indices r .0), inRange-cons (range-of-indices r .1))
   where
-    inside : InRange k n (suc i) js → InRange k n i (j ∷ js)
-    inside f zero h = rw add-zero (omega arith, c)
-    inside f (suc p) h = rw (add-suc i p, ← suc-add i p) (f p (omega arith))
+    inRange-cons : InRange k n (suc i) js → InRange k n i (j ∷ js)
+    inRange-cons f zero h = rw add-zero (omega arith, c)
+    inRange-cons f (suc p) h = rw (add-suc i p, ← suc-add i p) (f p (omega arith))
 
 indices-of-range : (k : Kind) (n i : ℕ) (js : List ℕ) → i + length js ≡ levels k n + 1 → InRange k n i js → Indices k n i js
 unfolding InRange

@@ -27,7 +27,7 @@ record Listed {X : Type 0} (d : X) (P : X → Type 0) (c : ℕ) : Type 0 where
   list : List X
   once : (a b : ℕ) → a < b → b < length list → getD list a d ≡ getD list b d → ⊥
   exactly : (x : X) → List·Memᴰ x list ↔ P x
-  size : length list ≡ c
+  counted : length list ≡ c
 
 pub mem-getD : {X : Type 0} (l : List X) (i : ℕ) (d : X) → i < length l → List·Memᴰ (getD l i d) l
 mem-getD [] i d h = absurd (omega arith)
@@ -40,7 +40,7 @@ listed-none f =
       list = [];
       once = λ a b h l e. omega arith;
       exactly = λ x. (λ m. absurd (List·Memᴰ·not-nil m), λ p. absurd (f x p));
-      size = refl;
+      counted = refl;
     }
 
 -- one element if the test holds, else none
@@ -51,7 +51,7 @@ listed-one d x true =
       list = x ∷ [];
       once = λ a b h l e. omega arith;
       exactly = λ y. (λ m. (List·Memᴰ·eq-of-singleton m, refl), λ p. List·Memᴰ·head (p .0));
-      size = refl;
+      counted = refl;
     }
 listed-one d x false = listed-none (λ y p. false≢true (p .1))
 
@@ -68,7 +68,7 @@ listed-map {d = d} e f i l =
         λ m. let p = Memᴰ·of-map f (l .list) m in (p .0, l .exactly (p .0) .0 (p .1), p .2),
         λ (x, p, q). Memᴰ·cast (sym q) (Memᴰ·map f (l .exactly x .1 p)),
       );
-      size = length-map (l .list) f ∙ l .size;
+      counted = length-map (l .list) f ∙ l .counted;
     }
 
 once-append : {X : Type 0} (d : X) (l m : List X)
@@ -105,7 +105,7 @@ listed-join {d = d} f l m =
         λ i. ⊎-elim (λ j. inl (l .exactly x .0 j)) (λ j. inr (m .exactly x .0 j)) (List·Memᴰ·append-cases (l .list) i),
         ⊎-elim (λ p. Memᴰ·append-left (m .list) (l .exactly x .1 p)) (λ p. Memᴰ·append-right (l .list) (m .exactly x .1 p)),
       );
-      size = length-append (l .list) (m .list) ∙ omega arith;
+      counted = length-append (l .list) (m .list) ∙ omega arith;
     }
 
 listed-iff : {X : Type 0} {d : X} {P Q : X → Type 0} {a b : ℕ} → ((x : X) → P x ↔ Q x) → a ≡ b → Listed d P a → Listed d Q b
@@ -114,7 +114,7 @@ listed-iff f e l =
       list = l .list;
       once = l .once;
       exactly = λ x. (λ m. f x .0 (l .exactly x .0 m), λ q. l .exactly x .1 (f x .1 q));
-      size = l .size ∙ e;
+      counted = l .counted ∙ e;
     }
 
 -- ---- counts over positions
@@ -189,7 +189,7 @@ pub inversions-counted : (w : List ℤ) → (ps : List (ℕ × ℕ))
 unfolding laterThan inversions
 inversions-counted w =
     let l = pairs later laterThan (λ x. positions (later x) (laterThan x) refl (λ y v. refl)) inversions refl (λ x v. refl) w in
-    (l .list, l .once, λ i j. l .exactly (i, j), l .size)
+    (l .list, l .once, λ i j. l .exactly (i, j), l .counted)
 
 -- L3: the number of pairs against a mirrored lane is the number of pairs of positions i < j whose entry at i stands
 -- later than minus the entry at j
@@ -201,7 +201,7 @@ unfolding laterThan negativeSumPairs
 negativeSumPairs-counted w =
     let l = pairs (λ x y. later x (negℤ y)) (λ x v. laterThan x (map negℤ v))
     (λ x. positions (λ y. later x (negℤ y)) (λ v. laterThan x (map negℤ v)) refl (λ y v. refl)) negativeSumPairs refl (λ x v. refl) w in
-    (l .list, l .once, λ i j. l .exactly (i, j), l .size)
+    (l .list, l .once, λ i j. l .exactly (i, j), l .counted)
 
 -- L4: the number of mirrored lanes is the number of positions with a negative entry
 pub negatives-counted : (w : List ℤ) → (is : List ℕ)
@@ -211,4 +211,4 @@ pub negatives-counted : (w : List ℤ) → (is : List ℕ)
 unfolding negatives
 negatives-counted w =
     let l = positions negative negatives refl (λ x v. refl) w in
-    (l .list, l .once, l .exactly, l .size)
+    (l .list, l .once, l .exactly, l .counted)

@@ -145,17 +145,17 @@ pair p w l h =
 -- ---- the weights of the pair
 
 -- before and after, with what the pair counts after and before
-pub swap-weighs : (p : ℕ) (w : List ℤ) (x y : ℤ) (v : List ℤ) → p ≤ length w → Pair p w x y v
+pub swap-weighs : (p : ℕ) (w : List ℤ) {x y : ℤ} {v : List ℤ} → p ≤ length w → Pair p w x y v
     → pairWeights (from p swap w) + one (later x y) ≡ pairWeights w + one (later y x)
 unfolding swap pairWeights weights
-swap-weighs p w x y v h q =
+swap-weighs p w {x} {y} h q =
     let turn = weight-swap x y (q .first) (q .second) (q .apart) in
     pairWeights-from swap weights-swap (one (later x y)) (one (later y x)) p w h (rw (q .rest) (omega arith))
 
-pub swapNegate-weighs : (p : ℕ) (w : List ℤ) (x y : ℤ) → p ≤ length w → Pair p w x y []
+pub swapNegate-weighs : (p : ℕ) (w : List ℤ) {x y : ℤ} → p ≤ length w → Pair p w x y []
     → pairWeights (from p swapNegate w) + one (later x (negℤ y)) ≡ pairWeights w + one (later (negℤ y) x)
 unfolding swapNegate pairWeights weights
-swapNegate-weighs p w x y h q =
+swapNegate-weighs p w {x} {y} h q =
     let turn = weight-swapNegate x y (q .first) (q .second) (q .apart) in
     pairWeights-from swapNegate weights-swapNegate (one (later x (negℤ y))) (one (later (negℤ y) x)) p w h (rw (q .rest) (omega arith))
 

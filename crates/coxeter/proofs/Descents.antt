@@ -90,7 +90,7 @@ turned-swap k n p w h c =
       acts = ap (λ f. f w) (act-swap k n p h);
       was = crossed-swap k n p w h;
       flips = later-flip _ _ (q .apart);
-      weighs = omega (arith, swap-weighs p w _ _ _ (omega arith) q, signWeight-swap k p w);
+      weighs = omega (arith, swap-weighs p w (omega arith) q, signWeight-swap k p w);
     }
 
 turned-negate : (p : ℕ) (w : List ℤ) → Accepted B (suc p) w → Turned B (suc p) (suc p) w
@@ -121,7 +121,7 @@ turned-swapNegate p w c =
       acts = ap (λ f. f w) (act-D-last (suc (suc p)) p (omega arith));
       was = crossed-D-last p w;
       flips = later-flip _ _ (rw natAbs-negℤ (q .apart));
-      weighs = omega (arith, swapNegate-weighs p w _ _ (omega arith) q);
+      weighs = omega (arith, swapNegate-weighs p w (omega arith) q);
     }
 
 turned : {k : Kind} {n s : ℕ} (w : List ℤ) → Sort k n s → Accepted k n w → Turned k n s w

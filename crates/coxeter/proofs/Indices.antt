@@ -31,14 +31,14 @@ unfoldable pub indices : Kind → ℕ → ℕ → ℕ → List ℤ → List ℕ
 indices k n zero i w = []
 indices k n (suc t) i w = indexOf n (placeFrom i w i) ∷ indices k n t (suc i) (restOf k (placeFrom i w i) (without i w))
 
-indices-peeled : (k : Kind) (n t i : ℕ) (u : List ℤ) (e : ℤ) (v : List ℤ) → 1 ≤ i → natAbs e ≡ i → hasSize i u ≡ false
+indices-peeled : (k : Kind) (n t : ℕ) {i : ℕ} (u : List ℤ) (e : ℤ) (v : List ℤ) → 1 ≤ i → natAbs e ≡ i → hasSize i u ≡ false
     → indices k n (suc t) i (u ++ (e ∷ v)) ≡ indexOf n (signed e (i + length u)) ∷ indices k n t (suc i) (restOf k e (u ++ v))
 unfolding indices
-indices-peeled k n t i u e v o s h = rw (restOf-peeled k i u e v o s h, placeFrom-peeled i i u e v s h)
+indices-peeled k n t {i} u e v o s h = rw (restOf-peeled k i u e v o s h, placeFrom-peeled i i u e v s h)
 
 indices-of-peeled : (k : Kind) (n t i : ℕ) (w : List ℤ) (c : Peeled i w) → 1 ≤ i
     → indices k n (suc t) i w ≡ indexOf n (signed (c .entry) (i + length (c .left))) ∷ indices k n t (suc i) (restOf k (c .entry) (c .left ++ c .right))
-indices-of-peeled k n t i w c o = ap (indices k n (suc t) i) (c .whole) ∙ indices-peeled k n t i (c .left) (c .entry) (c .right) o (c .size) (c .new)
+indices-of-peeled k n t i w c o = ap (indices k n (suc t) i) (c .whole) ∙ indices-peeled k n t (c .left) (c .entry) (c .right) o (c .size) (c .new)
 
 -- ---- entries that stand still
 
@@ -54,27 +54,28 @@ unfolding identity up
 still-snoc p w = ap (λ (l : List ℤ). l ++ w) (identity-cut (suc p) p 1 (omega arith)) ∙ append-assoc (map pos (up 1 p)) (pos (suc p) ∷ []) w
 
 -- what stands behind the entries i, .., j − 1 is at level j
-atLevel-still : (k : Kind) (n i q j : ℕ) (w : List ℤ) → 1 ≤ i → j ≡ i + q → j ≤ suc (levels k n) → AtLevel k n i (map pos (up i q) ++ w) → AtLevel k n j w
+atLevel-still : {k : Kind} {n i : ℕ} (q : ℕ) {j : ℕ} {w : List ℤ} → 1 ≤ i → j ≡ i + q → j ≤ suc (levels k n) → AtLevel k n i (map pos (up i q) ++ w)
+    → AtLevel k n j w
 unfolding up
-atLevel-still k n i zero j w o e l h = let q : i ≡ j = omega arith in subst (λ (x : ℕ). AtLevel k n x w) q h
-atLevel-still k n i (suc q) j w o e l h =
+atLevel-still {k} {n} {i} zero {j} {w} o e l h = let q : i ≡ j = omega arith in subst (λ (x : ℕ). AtLevel k n x w) q h
+atLevel-still {k} {n} {i} (suc q) {j} {w} o e l h =
     let v : List ℤ = map pos (up (suc i) q) ++ w in
-    let g : AtLevel k n (suc i) v = subst (AtLevel k n (suc i)) (restOf-positive k i v) (atLevel-rest k n i [] (pos i) v o (omega arith) refl h) in
-    atLevel-still k n (suc i) q j w (omega arith) (omega arith) l g
+    let g : AtLevel k n (suc i) v = subst (AtLevel k n (suc i)) (restOf-positive k i v) (atLevel-rest [] (pos i) v o (omega arith) refl h) in
+    atLevel-still q (omega arith) (omega arith) l g
 
 -- ---- the blocks of a window's indices show the window
 
 -- one block more, of the entry e at the level p + 1
-windowFrom-step : (k : Kind) (n p : ℕ) (js : List ℕ) (u : List ℤ) (e : ℤ) (v : List ℤ) → suc p ≤ levels k n
+windowFrom-step : (k : Kind) (n : ℕ) {p : ℕ} (js : List ℕ) (u : List ℤ) (e : ℤ) (v : List ℤ) → suc p ≤ levels k n
     → length (u ++ (e ∷ v)) + suc p ≡ suc (lanes k n) → natAbs e ≡ suc p → negativeInA k e ≡ false
     → windowFrom k n (identity (lanes k n)) (blocks k n (suc (suc p)) js) ≡ map pos (up 1 (suc p)) ++ restOf k e (u ++ v)
     → windowFrom k n (identity (lanes k n)) (blocks k n (suc p) (indexOf n (signed e (suc p + length u)) ∷ js)) ≡ map pos (up 1 p) ++ (u ++ (e ∷ v))
 unfolding blocks
-windowFrom-step k n p js u e v l q s a h =
+windowFrom-step k n {p} js u e v l q s a h =
     let b : List ℕ = block k n (suc p) (indexOf n (signed e (suc p + length u))) in
     windowFrom-append k n (identity (lanes k n)) (blocks k n (suc (suc p)) js) b
     ∙ ap (λ (w : List ℤ). windowFrom k n w b) (h ∙ still-snoc p (restOf k e (u ++ v)))
-    ∙ windowFrom-block k n (suc p) (map pos (up 1 p)) u e v (omega (arith, length-map (up 1 p) pos, length-up 1 p)) l q s a
+    ∙ windowFrom-block k n (map pos (up 1 p)) u e v (omega (arith, length-map (up 1 p) pos, length-up 1 p)) l q s a
 
 windowFrom-indices : (k : Kind) (n t p : ℕ) (w : List ℤ) → t + suc p ≡ suc (levels k n) → AtLevel k n (suc p) w
     → windowFrom k n (identity (lanes k n)) (blocks k n (suc p) (indices k n t (suc p) w)) ≡ map pos (up 1 p) ++ w
@@ -82,20 +83,20 @@ unfolding indices blocks windowFrom
 windowFrom-indices k n zero p w l h =
     identity-cut (lanes k n) p (length w) (omega (arith, h .size))
     ∙ ap (λ (v : List ℤ). map pos (up 1 p) ++ v) (sym (atLevel-last k n (suc p) w (omega arith) h))
-windowFrom-indices k n (suc t) p w l h = go (peeled k n (suc p) w (omega arith) h) (windowFrom-indices k n t (suc p))
+windowFrom-indices k n (suc t) p w l h = windowFrom-indices-by-cases (peeled k n (suc p) w (omega arith) h) (windowFrom-indices k n t (suc p))
   where
-    go : Peeled (suc p) w
+    windowFrom-indices-by-cases : Peeled (suc p) w
         → ((v : List ℤ) → t + suc (suc p) ≡ suc (levels k n) → AtLevel k n (suc (suc p)) v
         → windowFrom k n (identity (lanes k n)) (blocks k n (suc (suc p)) (indices k n t (suc (suc p)) v)) ≡ map pos (up 1 (suc p)) ++ v)
         → windowFrom k n (identity (lanes k n)) (blocks k n (suc p) (indices k n (suc t) (suc p) w)) ≡ map pos (up 1 p) ++ w
-    go c ih =
+    windowFrom-indices-by-cases c ih =
         let g : AtLevel k n (suc p) (c .left ++ (c .entry ∷ c .right)) = subst (AtLevel k n (suc p)) (c .whole) h in
         ap (λ (js : List ℕ). windowFrom k n (identity (lanes k n)) (blocks k n (suc p) js)) (indices-of-peeled k n t (suc p) w c (omega arith))
-        ∙ windowFrom-step k n p (indices k n t (suc (suc p)) (restOf k (c .entry) (c .left ++ c .right))) (c .left) (c .entry) (c .right)
+        ∙ windowFrom-step k n (indices k n t (suc (suc p)) (restOf k (c .entry) (c .left ++ c .right))) (c .left) (c .entry) (c .right)
         (omega arith) (g .size) (c .size)
         (atLevel-negativeInA k n (suc p) (c .left) (c .entry) (c .right) g)
         (ih (restOf k (c .entry) (c .left ++ c .right)) (omega arith)
-        (atLevel-rest k n (suc p) (c .left) (c .entry) (c .right) (omega arith) (omega arith) (c .size) g))
+        (atLevel-rest (c .left) (c .entry) (c .right) (omega arith) (omega arith) (c .size) g))
         ∙ ap (λ (v : List ℤ). map pos (up 1 p) ++ v) (sym (c .whole))
 
 pub window-indices : (k : Kind) (n : ℕ) (w : List ℤ) → Accepted k n w → window k n (blocks k n 1 (indices k n (levels k n) 1 w)) ≡ w
@@ -122,18 +123,18 @@ index-in-range k n i u (negsuc x) v o l h =
 indices-atLevel : (k : Kind) (n t i : ℕ) (w : List ℤ) → 1 ≤ i → t + i ≡ suc (levels k n) → AtLevel k n i w → Indices k n i (indices k n t i w)
 unfolding indices
 indices-atLevel k n zero i w o l h = none {i = i} (omega arith)
-indices-atLevel k n (suc t) i w o l h = go (peeled k n i w (omega arith) h) (indices-atLevel k n t (suc i))
+indices-atLevel k n (suc t) i w o l h = indices-atLevel-by-cases (peeled k n i w (omega arith) h) (indices-atLevel k n t (suc i))
   where
-    go : Peeled i w
+    indices-atLevel-by-cases : Peeled i w
         → ((v : List ℤ) → 1 ≤ suc i → t + suc i ≡ suc (levels k n) → AtLevel k n (suc i) v → Indices k n (suc i) (indices k n t (suc i) v))
         → Indices k n i (indices k n (suc t) i w)
-    go c ih =
+    indices-atLevel-by-cases c ih =
         let g : AtLevel k n i (c .left ++ (c .entry ∷ c .right)) = subst (AtLevel k n i) (c .whole) h in
         let b = index-in-range k n i (c .left) (c .entry) (c .right) o (omega arith) g in
         let a : i ≤ levels k n = omega arith in
         let v : List ℤ = restOf k (c .entry) (c .left ++ c .right) in
         subst (Indices k n i) (sym (indices-of-peeled k n t i w c o))
-        (level a (b .0) (b .1) (ih v (omega arith) (omega arith) (atLevel-rest k n i (c .left) (c .entry) (c .right) o a (c .size) g)))
+        (level a (b .0) (b .1) (ih v (omega arith) (omega arith) (atLevel-rest (c .left) (c .entry) (c .right) o a (c .size) g)))
 
 pub indices-in-range : (k : Kind) (n : ℕ) (w : List ℤ) → Accepted k n w → Indices k n 1 (indices k n (levels k n) 1 w)
 indices-in-range k n w h = indices-atLevel k n (levels k n) 1 w (omega arith) (omega arith) (atLevel-of-accepted k n w h)
@@ -226,9 +227,9 @@ shown-step k n p j js l h a c =
       entries = u ++ (e ∷ v);
       shows =
           ap (λ (x : ℕ). windowFrom k n (identity (lanes k n)) (blocks k n (suc p) (x ∷ js))) (sym (c .index))
-          ∙ windowFrom-step k n p js u e v l size (c .size) (c .sign) (h .shows ∙ ap (λ (w : List ℤ). map pos (up 1 (suc p)) ++ w) (sym (c .rest)));
+          ∙ windowFrom-step k n js u e v l size (c .size) (c .sign) (h .shows ∙ ap (λ (w : List ℤ). map pos (up 1 (suc p)) ++ w) (sym (c .rest)));
       again =
-          indices-peeled k n (length js) (suc p) u e v (omega arith) (c .size)
+          indices-peeled k n (length js) u e v (omega arith) (c .size)
           (hasSize-left (suc p) u v (subst (λ (w : List ℤ). hasSize (suc p) w ≡ false) q new))
           ∙ ap₂ (λ (x : ℕ) (xs : List ℕ). x ∷ xs) (c .index) (ap (indices k n (length js) (suc (suc p))) (c .rest) ∙ h .again);
     }
@@ -244,7 +245,7 @@ shown-none k n p h =
 
 shown-atLevel : (k : Kind) (n p : ℕ) (js : List ℕ) → p ≤ levels k n → (h : Shown k n p js) → AtLevel k n (suc p) (h .entries)
 shown-atLevel k n p js l h =
-    atLevel-still k n 1 p (suc p) (h .entries) (omega arith) (omega arith) (omega arith)
+    atLevel-still p (omega arith) (omega arith) (omega arith)
     (atLevel-of-accepted k n (map pos (up 1 p) ++ h .entries)
     (subst (Accepted k n) (h .shows) (windowFrom-accepted k n (identity (lanes k n)) (blocks k n (suc p) js) (identity-accepted k n))))
 

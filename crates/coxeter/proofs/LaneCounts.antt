@@ -47,17 +47,17 @@ module _ (q m : ℕ) (r : Lanes) (e : r ≡ lanesOf q m) where
       g ∙ lanes-counted (q then t) m a (then-none q t (p .0) ∙ sym h ∙ z) (p .1)
 
 -- the lane count of a preset, and of two words of one kind and rank
-pub preset-counted : (k n : ℕ) (u : List ℕ) (a : ℕ) (r : Lanes) → r ≡ lanesOf (rankRefusal k n then wordRefusal n u) (lanes (kindOf k) n)
+pub preset-counted : (k n : ℕ) (u : List ℕ) {a : ℕ} {r : Lanes} → r ≡ lanesOf (rankRefusal k n then wordRefusal n u) (lanes (kindOf k) n)
     → r ≡ Count a → RankOf k n × ((a ≡ lanes (kindOf k) n) × WordOf n u)
-preset-counted k n u a r e g =
+preset-counted k n u {a} {r} e g =
     let p = count-of-lanes (rankRefusal k n then wordRefusal n u) (lanes (kindOf k) n) r e a g in
     let passed = then-zero (rankRefusal k n) (wordRefusal n u) (p .0) in
     (passed .0, (p .1, passed .1))
 
-pub words-counted : (k n : ℕ) (u v : List ℕ) (a : ℕ) (r : Lanes)
+pub words-counted : (k n : ℕ) (u v : List ℕ) {a : ℕ} {r : Lanes}
     → r ≡ lanesOf (rankRefusal k n then wordRefusal n u then wordRefusal n v) (lanes (kindOf k) n)
     → r ≡ Count a → RankOf k n × ((a ≡ lanes (kindOf k) n) × (WordOf n u × WordOf n v))
-words-counted k n u v a r e g =
+words-counted k n u v {a} {r} e g =
     let p = count-of-lanes (rankRefusal k n then wordRefusal n u then wordRefusal n v) (lanes (kindOf k) n) r e a g in
     let passed = words-accepted k n u v _ refl (p .0) in
     (passed .0, (p .1, passed .1))

@@ -149,10 +149,10 @@ length-block-indexOf D n i a b (negsuc x) g o h s =
     (length-block D n i (2 * n - (i + a)) o h (omega arith) ∙ rw (le-ltb (2 * n - (i + a)) n (omega arith)) (omega arith))
 
 -- the entry of size i taken out, and its block
-total-insert : (k : Kind) (n i : ℕ) (u : List ℤ) (e : ℤ) (v : List ℤ) → 1 ≤ i → i ≤ levels k n → natAbs e ≡ i → AtLevel k n i (u ++ (e ∷ v))
+total-insert : {k : Kind} {n i : ℕ} (u : List ℤ) (e : ℤ) (v : List ℤ) → 1 ≤ i → i ≤ levels k n → natAbs e ≡ i → AtLevel k n i (u ++ (e ∷ v))
     → total k (restOf k e (u ++ v)) + length (block k n i (indexOf n (signed e (i + length u)))) ≡ total k (u ++ (e ∷ v))
-total-insert k n i u e v o l q h =
-    let below = atLevel-rest k n i u e v o l q h in
+total-insert {k} {n} {i} u e v o l q h =
+    let below = atLevel-rest u e v o l q h in
     let c : ℕ = suc i + length (restOf k e (u ++ v)) in
     let twice = between-restOf k e (suc i) c (restOf k e (u ++ v)) (below .level .between) in
     let b : Between (suc i) c (u ++ v) = rw (restOf-restOf k e (u ++ v)) at twice in
@@ -175,13 +175,13 @@ total-last D n i [] t s = refl
 total-last D n i (x ∷ []) t s = refl
 total-last D n i (x ∷ y ∷ w) t s = absurd (omega arith)
 
-length-normalFrom-suc : (k : Kind) (n t i : ℕ) (u : List ℤ) (e : ℤ) (v : List ℤ) → 1 ≤ i → i ≤ levels k n → natAbs e ≡ i → hasSize i u ≡ false
+length-normalFrom-suc : {k : Kind} {n : ℕ} (t : ℕ) {i : ℕ} (u : List ℤ) (e : ℤ) (v : List ℤ) → 1 ≤ i → i ≤ levels k n → natAbs e ≡ i → hasSize i u ≡ false
     → AtLevel k n i (u ++ (e ∷ v))
     → length (normalFrom k n t (suc i) (restOf k e (u ++ v))) ≡ total k (restOf k e (u ++ v))
     → length (normalFrom k n (suc t) i (u ++ (e ∷ v))) ≡ total k (u ++ (e ∷ v))
 unfolding normalFrom
-length-normalFrom-suc k n t i u e v o l q f h below =
-    rw (restOf-peeled k i u e v o q f, placeFrom-peeled i i u e v q f, length-append, below) (total-insert k n i u e v o l q h)
+length-normalFrom-suc {k} {n} t {i} u e v o l q f h below =
+    rw (restOf-peeled k i u e v o q f, placeFrom-peeled i i u e v q f, length-append, below) (total-insert u e v o l q h)
 
 pub length-normalFrom : (k : Kind) (n t i : ℕ) (w : List ℤ) → 1 ≤ i → t + i ≡ suc (levels k n) → AtLevel k n i w
     → length (normalFrom k n t i w) ≡ pairWeights w + signWeight k w
@@ -191,9 +191,9 @@ length-normalFrom k n (suc m) i w o t h =
     let c = peeled k n i w l h in
     let h′ : AtLevel k n i (c .left ++ (c .entry ∷ c .right)) = rw (c .whole) at h in
     rw (c .whole)
-    (length-normalFrom-suc k n m i (c .left) (c .entry) (c .right) o l (c .size) (c .new) h′
+    (length-normalFrom-suc m (c .left) (c .entry) (c .right) o l (c .size) (c .new) h′
     (length-normalFrom k n m (suc i) (restOf k (c .entry) (c .left ++ c .right)) (omega arith) (omega arith)
-    (atLevel-rest k n i (c .left) (c .entry) (c .right) o l (c .size) h′)))
+    (atLevel-rest (c .left) (c .entry) (c .right) o l (c .size) h′)))
 
 -- the length of the normal form, counted from the window
 pub length-normalForm : (k : Kind) (n : ℕ) (w : List ℤ) → Accepted k n w → length (normalForm k n w) ≡ windowLength k w

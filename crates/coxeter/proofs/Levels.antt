@@ -54,11 +54,11 @@ pub record Accepted (k : Kind) (n : ℕ) (w : List ℤ) : Type 0 where
 pub distinct-without : (c : ℕ) (w : List ℤ) → Distinct w → Distinct (without c w)
 unfolding without
 distinct-without c [] d = tt
-distinct-without c (e ∷ w) d = go (eqb (natAbs e) c) (distinct-without c w (d .1))
+distinct-without c (e ∷ w) d = distinct-without-by-cases (eqb (natAbs e) c) (distinct-without c w (d .1))
   where
-    go : (t : Bool) → Distinct (without c w) → Distinct (pick t w (e ∷ without c w))
-    go true r = d .1
-    go false r = (hasSize-without (natAbs e) c w (d .0), r)
+    distinct-without-by-cases : (t : Bool) → Distinct (without c w) → Distinct (pick t w (e ∷ without c w))
+    distinct-without-by-cases true r = d .1
+    distinct-without-by-cases false r = (hasSize-without (natAbs e) c w (d .0), r)
 
 -- the greatest size is not there
 between-below : (i c : ℕ) (w : List ℤ) → Between i (suc c) w → hasSize c w ≡ false → Between i c w
@@ -72,11 +72,11 @@ between-below i c (e ∷ w) b h =
 between-without : (i c : ℕ) (w : List ℤ) → Between i (suc c) w → Distinct w → Between i c (without c w)
 unfolding without
 between-without i c [] b d = tt
-between-without i c (e ∷ w) b d = go (eqb (natAbs e) c) refl (between-without i c w (b .2) (d .1))
+between-without i c (e ∷ w) b d = between-without-by-cases (eqb (natAbs e) c) refl (between-without i c w (b .2) (d .1))
   where
-    go : (t : Bool) → eqb (natAbs e) c ≡ t → Between i c (without c w) → Between i c (pick t w (e ∷ without c w))
-    go true q r = between-below i c w (b .2) (rw (eqb-true (natAbs e) c q) at (d .0))
-    go false q r = let ne : natAbs e ≡ c → ⊥ = eqb-false (natAbs e) c q in (b .0, omega arith, r)
+    between-without-by-cases : (t : Bool) → eqb (natAbs e) c ≡ t → Between i c (without c w) → Between i c (pick t w (e ∷ without c w))
+    between-without-by-cases true q r = between-below i c w (b .2) (rw (eqb-true (natAbs e) c q) at (d .0))
+    between-without-by-cases false q r = let ne : natAbs e ≡ c → ⊥ = eqb-false (natAbs e) c q in (b .0, omega arith, r)
 
 -- distinct sizes out of m values are at most m
 pub length-le-of-distinct : (i m c : ℕ) (w : List ℤ) → i + m ≡ c → Between i c w → Distinct w → length w ≤ m
@@ -92,11 +92,11 @@ length-le-of-distinct i (suc m) c w q b d =
 
 -- each size of a level is there
 pub level-hasSize : (i s : ℕ) (w : List ℤ) → Level i w → i ≤ s → s < i + length w → hasSize s w ≡ true
-level-hasSize i s w h a b = go (hasSize s w) refl
+level-hasSize i s w h a b = level-hasSize-by-cases (hasSize s w) refl
   where
-    go : (t : Bool) → hasSize s w ≡ t → t ≡ true
-    go true q = refl
-    go false q =
+    level-hasSize-by-cases : (t : Bool) → hasSize s w ≡ t → t ≡ true
+    level-hasSize-by-cases true q = refl
+    level-hasSize-by-cases false q =
         let l : suc (length w) ≤ length w =
         length-le-of-distinct i (length w) (i + length w) (pos s ∷ w) refl (a, b, h .between) (q, h .distinct) in
         let z : ⊥ = omega arith in

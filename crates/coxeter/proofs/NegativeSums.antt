@@ -27,20 +27,20 @@ keep f (e ∷ w) = pick (f e) (e ∷ keep f w) (keep f w)
 hasSize-keep : (f : ℤ → Bool) (s : ℕ) (w : List ℤ) → hasSize s w ≡ false → hasSize s (keep f w) ≡ false
 unfolding keep hasSize
 hasSize-keep f s [] h = refl
-hasSize-keep f s (e ∷ w) h = go (f e) (hasSize-keep f s w (hasSize-tail s e w h))
+hasSize-keep f s (e ∷ w) h = hasSize-keep-by-cases (f e) (hasSize-keep f s w (hasSize-tail s e w h))
   where
-    go : (t : Bool) → hasSize s (keep f w) ≡ false → hasSize s (pick t (e ∷ keep f w) (keep f w)) ≡ false
-    go true r = rw (hasSize-head s e w h, r)
-    go false r = r
+    hasSize-keep-by-cases : (t : Bool) → hasSize s (keep f w) ≡ false → hasSize s (pick t (e ∷ keep f w) (keep f w)) ≡ false
+    hasSize-keep-by-cases true r = rw (hasSize-head s e w h, r)
+    hasSize-keep-by-cases false r = r
 
 distinct-keep : (f : ℤ → Bool) (w : List ℤ) → Distinct w → Distinct (keep f w)
 unfolding keep
 distinct-keep f [] d = tt
-distinct-keep f (e ∷ w) d = go (f e) (distinct-keep f w (d .1))
+distinct-keep f (e ∷ w) d = distinct-keep-by-cases (f e) (distinct-keep f w (d .1))
   where
-    go : (t : Bool) → Distinct (keep f w) → Distinct (pick t (e ∷ keep f w) (keep f w))
-    go true r = (hasSize-keep f (natAbs e) w (d .0), r)
-    go false r = r
+    distinct-keep-by-cases : (t : Bool) → Distinct (keep f w) → Distinct (pick t (e ∷ keep f w) (keep f w))
+    distinct-keep-by-cases true r = (hasSize-keep f (natAbs e) w (d .0), r)
+    distinct-keep-by-cases false r = r
 
 -- a size above a, and one that is not
 abbrev above : ℕ → ℤ → Bool
@@ -52,31 +52,32 @@ upTo a e = not (ltb a (natAbs e))
 between-above : (a c : ℕ) (w : List ℤ) → Between 1 c w → Between (suc a) c (keep (above a) w)
 unfolding keep
 between-above a c [] b = tt
-between-above a c (e ∷ w) b = go (ltb a (natAbs e)) refl (between-above a c w (b .2))
+between-above a c (e ∷ w) b = between-above-by-cases (ltb a (natAbs e)) refl (between-above a c w (b .2))
   where
-    go : (t : Bool) → ltb a (natAbs e) ≡ t → Between (suc a) c (keep (above a) w) → Between (suc a) c (pick t (e ∷ keep (above a) w) (keep (above a) w))
-    go true q r = (omega (arith, ltb-true a (natAbs e) q), b .1, r)
-    go false q r = r
+    between-above-by-cases : (t : Bool) → ltb a (natAbs e) ≡ t → Between (suc a) c (keep (above a) w)
+        → Between (suc a) c (pick t (e ∷ keep (above a) w) (keep (above a) w))
+    between-above-by-cases true q r = (omega (arith, ltb-true a (natAbs e) q), b .1, r)
+    between-above-by-cases false q r = r
 
 between-upTo : (a c : ℕ) (w : List ℤ) → Between 1 c w → Between 1 (1 + a) (keep (upTo a) w)
 unfolding keep
 between-upTo a c [] b = tt
-between-upTo a c (e ∷ w) b = go (ltb a (natAbs e)) refl (between-upTo a c w (b .2))
+between-upTo a c (e ∷ w) b = between-upTo-by-cases (ltb a (natAbs e)) refl (between-upTo a c w (b .2))
   where
-    go : (t : Bool) → ltb a (natAbs e) ≡ t → Between 1 (1 + a) (keep (upTo a) w)
+    between-upTo-by-cases : (t : Bool) → ltb a (natAbs e) ≡ t → Between 1 (1 + a) (keep (upTo a) w)
         → Between 1 (1 + a) (pick (not t) (e ∷ keep (upTo a) w) (keep (upTo a) w))
-    go true q r = r
-    go false q r = (b .0, omega (arith, ltb-false a (natAbs e) q), r)
+    between-upTo-by-cases true q r = r
+    between-upTo-by-cases false q r = (b .0, omega (arith, ltb-false a (natAbs e) q), r)
 
 length-keep-add : (a : ℕ) (w : List ℤ) → length (keep (above a) w) + length (keep (upTo a) w) ≡ length w
 unfolding keep
 length-keep-add a [] = refl
-length-keep-add a (e ∷ w) = go (ltb a (natAbs e)) (length-keep-add a w)
+length-keep-add a (e ∷ w) = length-keep-add-by-cases (ltb a (natAbs e)) (length-keep-add a w)
   where
-    go : (t : Bool) → length (keep (above a) w) + length (keep (upTo a) w) ≡ length w
+    length-keep-add-by-cases : (t : Bool) → length (keep (above a) w) + length (keep (upTo a) w) ≡ length w
         → length (pick t (e ∷ keep (above a) w) (keep (above a) w)) + length (pick (not t) (e ∷ keep (upTo a) w) (keep (upTo a) w)) ≡ suc (length w)
-    go true r = omega arith
-    go false r = omega arith
+    length-keep-add-by-cases true r = omega arith
+    length-keep-add-by-cases false r = omega arith
 
 -- how many entries have a size above a
 unfoldable larger : ℕ → List ℤ → ℕ
@@ -86,11 +87,12 @@ larger a (e ∷ w) = one (ltb a (natAbs e)) + larger a w
 larger-keep : (a : ℕ) (w : List ℤ) → larger a w ≡ length (keep (above a) w)
 unfolding larger keep one
 larger-keep a [] = refl
-larger-keep a (e ∷ w) = go (ltb a (natAbs e)) (larger-keep a w)
+larger-keep a (e ∷ w) = larger-keep-by-cases (ltb a (natAbs e)) (larger-keep a w)
   where
-    go : (t : Bool) → larger a w ≡ length (keep (above a) w) → pick t 1 0 + larger a w ≡ length (pick t (e ∷ keep (above a) w) (keep (above a) w))
-    go true r = omega arith
-    go false r = omega arith
+    larger-keep-by-cases : (t : Bool) → larger a w ≡ length (keep (above a) w)
+        → pick t 1 0 + larger a w ≡ length (pick t (e ∷ keep (above a) w) (keep (above a) w))
+    larger-keep-by-cases true r = omega arith
+    larger-keep-by-cases false r = omega arith
 
 larger-level : (a : ℕ) (w : List ℤ) → Level 1 w → a ≤ length w → larger a w ≡ length w - a
 larger-level a w h l =
@@ -104,18 +106,18 @@ larger-level a w h l =
 
 one-split : (a b : ℕ) → (b ≡ a → ⊥) → one (ltb a b) + one (ltb b a) ≡ 1
 unfolding one
-one-split a b d = go (ltb a b) refl
+one-split a b d = one-split-by-cases (ltb a b) refl
   where
-    go : (t : Bool) → ltb a b ≡ t → pick t 1 0 + pick (ltb b a) 1 0 ≡ 1
-    go true q = rw (le-ltb b a (omega (arith, ltb-true a b q)))
-    go false q = rw (lt-ltb b a (omega (arith, ltb-false a b q)))
+    one-split-by-cases : (t : Bool) → ltb a b ≡ t → pick t 1 0 + pick (ltb b a) 1 0 ≡ 1
+    one-split-by-cases true q = rw (le-ltb b a (omega (arith, ltb-true a b q)))
+    one-split-by-cases false q = rw (lt-ltb b a (omega (arith, ltb-false a b q)))
 
 ltb-suc : (a b : ℕ) → ltb a b ≡ ltb (suc a) (suc b)
-ltb-suc a b = go (ltb a b) refl
+ltb-suc a b = ltb-suc-by-cases (ltb a b) refl
   where
-    go : (t : Bool) → ltb a b ≡ t → t ≡ ltb (suc a) (suc b)
-    go true q = sym (lt-ltb (suc a) (suc b) (omega (arith, ltb-true a b q)))
-    go false q = sym (le-ltb (suc a) (suc b) (omega (arith, ltb-false a b q)))
+    ltb-suc-by-cases : (t : Bool) → ltb a b ≡ t → t ≡ ltb (suc a) (suc b)
+    ltb-suc-by-cases true q = sym (lt-ltb (suc a) (suc b) (omega (arith, ltb-true a b q)))
+    ltb-suc-by-cases false q = sym (le-ltb (suc a) (suc b) (omega (arith, ltb-false a b q)))
 
 -- an entry before the negative of another: the smaller of the two sizes decides
 one-later-negℤ : (x y : ℤ) → 1 ≤ natAbs y → (natAbs y ≡ natAbs x → ⊥)
@@ -140,11 +142,11 @@ pick-add false a b = refl
 laterThan-map-negℤ : (x : ℤ) (w : List ℤ) → hasSize 0 w ≡ false → hasSize (natAbs x) w ≡ false
     → laterThan x (map negℤ w) ≡ pick (negative x) (larger (natAbs x) w) 0 + negativesBelow (natAbs x) w
 unfolding laterThan larger negativesBelow
-laterThan-map-negℤ x [] z h = go (negative x)
+laterThan-map-negℤ x [] z h = laterThan-map-negℤ-by-cases (negative x)
   where
-    go : (t : Bool) → 0 ≡ pick t 0 0 + 0
-    go true = refl
-    go false = refl
+    laterThan-map-negℤ-by-cases : (t : Bool) → 0 ≡ pick t 0 0 + 0
+    laterThan-map-negℤ-by-cases true = refl
+    laterThan-map-negℤ-by-cases false = refl
 laterThan-map-negℤ x (y ∷ w) z h =
     let nonzero : natAbs y ≡ 0 → ⊥ = eqb-false (natAbs y) 0 (hasSize-head 0 y w z) in
     let apart : natAbs y ≡ natAbs x → ⊥ = eqb-false (natAbs y) (natAbs x) (hasSize-head (natAbs x) y w h) in

@@ -54,13 +54,13 @@ answer-length q r l a e z v = rw (← e, eq-eqb r 0 z, v)
 
 -- ---- crossings
 
-pub counted-refused : (q r : ℕ) (c : Crossings) → r ≡ q → (r ≡ 0 → ⊥) → counted.Refused r ≡ countedOf q c
+pub counted-refused : {q r : ℕ} (c : Crossings) → r ≡ q → (r ≡ 0 → ⊥) → counted.Refused r ≡ countedOf q c
 unfolding countedOf
-counted-refused q r c e f = rw (← e, ne-eqb r 0 f)
+counted-refused {r} c e f = rw (← e, ne-eqb r 0 f)
 
 -- what no check refuses is counted
-pub counted-crossings : (q r : ℕ) (c : Crossings) → r ≡ q → r ≡ 0 → countedOf 0 c ≡ countedOf q c
-counted-crossings q r c e z = ap (λ (x : ℕ). countedOf x c) (sym z ∙ e)
+pub counted-crossings : {q r : ℕ} (c : Crossings) → r ≡ q → r ≡ 0 → countedOf 0 c ≡ countedOf q c
+counted-crossings c e z = ap (λ (x : ℕ). countedOf x c) (sym z ∙ e)
 
 -- ---- the verdict
 
@@ -100,10 +100,10 @@ pub handsBack-refused : (k n : ℕ) (u v : List ℕ) (r : ℕ) → r ≡ (rankRe
 unfolding handsBack
 handsBack-refused k n u v r e f = rw (← e, ne-eqb r 0 f)
 
-pub handsBack-words : (k n : ℕ) (u v : List ℕ) (r : ℕ) (t : Bool) → r ≡ (rankRefusal k n then wordRefusal n u then wordRefusal n v) → r ≡ 0
+pub handsBack-words : (k n : ℕ) (u v : List ℕ) {r : ℕ} {t : Bool} → r ≡ (rankRefusal k n then wordRefusal n u then wordRefusal n v) → r ≡ 0
     → t ≡ equalWords (kindOf k) n u v → handsBack k n u v ≡ t
 unfolding handsBack
-handsBack-words k n u v r t e z g = rw (← e, eq-eqb r 0 z) (sym g)
+handsBack-words k n u v {r} e z g = rw (← e, eq-eqb r 0 z) (sym g)
 
 -- ---- the better word
 

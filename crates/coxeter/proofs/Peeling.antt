@@ -36,11 +36,11 @@ pub record Peeled (i : ℕ) (w : List ℤ) : Type 0 where
 pub peeled-of-hasSize : (i : ℕ) (w : List ℤ) → hasSize i w ≡ true → Peeled i w
 unfolding hasSize
 peeled-of-hasSize i [] h = let z : false ≡ true = h in zero-not-one (cc)
-peeled-of-hasSize i (e ∷ w) h = go (eqb (natAbs e) i) refl (peeled-of-hasSize i w)
+peeled-of-hasSize i (e ∷ w) h = peeled-of-hasSize-by-cases (eqb (natAbs e) i) refl (peeled-of-hasSize i w)
   where
-    go : (t : Bool) → eqb (natAbs e) i ≡ t → (hasSize i w ≡ true → Peeled i w) → Peeled i (e ∷ w)
-    go true q f = record { left = []; entry = e; right = w; whole = refl; size = eqb-true _ _ q; new = refl }
-    go false q f =
+    peeled-of-hasSize-by-cases : (t : Bool) → eqb (natAbs e) i ≡ t → (hasSize i w ≡ true → Peeled i w) → Peeled i (e ∷ w)
+    peeled-of-hasSize-by-cases true q f = record { left = []; entry = e; right = w; whole = refl; size = eqb-true _ _ q; new = refl }
+    peeled-of-hasSize-by-cases false q f =
         let p : Peeled i w = f (rw q at h) in
         record { left = e ∷ p .left; entry = p .entry; right = p .right; whole = ap (λ (l : List ℤ). e ∷ l) (p .whole); size = p .size; new = rw q (p .new) }
 
@@ -188,9 +188,9 @@ signs-rest D n i u (negsuc x) v o l h =
     ∙ (sym (odd-one-add true (negatives (u ++ v))) ∙ q)
 
 -- what is left stands at the next level
-pub atLevel-rest : (k : Kind) (n i : ℕ) (u : List ℤ) (e : ℤ) (v : List ℤ) → 1 ≤ i → i ≤ levels k n → natAbs e ≡ i → AtLevel k n i (u ++ (e ∷ v))
+pub atLevel-rest : {k : Kind} {n i : ℕ} (u : List ℤ) (e : ℤ) (v : List ℤ) → 1 ≤ i → i ≤ levels k n → natAbs e ≡ i → AtLevel k n i (u ++ (e ∷ v))
     → AtLevel k n (suc i) (restOf k e (u ++ v))
-atLevel-rest k n i u e v o l q h =
+atLevel-rest {k} {n} {i} u e v o l q h =
     let c : i + length (u ++ (e ∷ v)) ≡ suc i + length (restOf k e (u ++ v)) =
     omega (arith, length-restOf k e (u ++ v), length-append u (e ∷ v), length-append u v) in
     let b : Between i (suc i + length (restOf k e (u ++ v))) (u ++ v) = rw c at (between-out i _ u e v (h .level .between)) in
@@ -207,11 +207,11 @@ atLevel-rest k n i u e v o l q h =
 -- no entry of A is negative
 pub atLevel-negativeInA : (k : Kind) (n i : ℕ) (u : List ℤ) (e : ℤ) (v : List ℤ) → AtLevel k n i (u ++ (e ∷ v)) → negativeInA k e ≡ false
 unfolding negativeInA one
-atLevel-negativeInA A n i u e v h = go (negative e) (rw negatives-middle at (h .signs))
+atLevel-negativeInA A n i u e v h = atLevel-negativeInA-by-cases (negative e) (rw negatives-middle at (h .signs))
   where
-    go : (t : Bool) → one t + negatives (u ++ v) ≡ 0 → t ≡ false
-    go true q = absurd (omega arith)
-    go false q = refl
+    atLevel-negativeInA-by-cases : (t : Bool) → one t + negatives (u ++ v) ≡ 0 → t ≡ false
+    atLevel-negativeInA-by-cases true q = absurd (omega arith)
+    atLevel-negativeInA-by-cases false q = refl
 atLevel-negativeInA B n i u e v h = refl
 atLevel-negativeInA D n i u e v h = refl
 

@@ -147,20 +147,20 @@ negatives-map-pick : (g : ℕ → ℤ) (s : ℕ) (x : ℤ) (i k : ℕ) → negat
     → negatives (map (λ (j : ℕ). pick (eqb s j) x (g j)) (up i k)) ≡ one (negative x) + negatives (map g (up i k))
 unfolding up negatives one
 negatives-map-pick g s x i zero h a b = omega arith
-negatives-map-pick g s x i (suc k) h a b = go (eqb s i) refl (λ l. negatives-map-pick g s x (suc i) k h l (omega arith))
+negatives-map-pick g s x i (suc k) h a b = negatives-map-pick-by-cases (eqb s i) refl (λ l. negatives-map-pick g s x (suc i) k h l (omega arith))
   where
     rest : ℕ
     rest = negatives (map (λ (j : ℕ). pick (eqb s j) x (g j)) (up (suc i) k))
 
-    go : (t : Bool) → eqb s i ≡ t → (suc i ≤ s → rest ≡ one (negative x) + negatives (map g (up (suc i) k)))
+    negatives-map-pick-by-cases : (t : Bool) → eqb s i ≡ t → (suc i ≤ s → rest ≡ one (negative x) + negatives (map g (up (suc i) k)))
         → one (negative (pick t x (g i))) + rest ≡ one (negative x) + (one (negative (g i)) + negatives (map g (up (suc i) k)))
-    go true q r =
+    negatives-map-pick-by-cases true q r =
         let e : s ≡ i = eqb-true s i q in
         let z : one (negative (g i)) ≡ 0 = ap one (rw e at h) in
         let m : rest ≡ negatives (map g (up (suc i) k)) =
         ap negatives (map-up (λ (j : ℕ). pick (eqb s j) x (g j)) g (suc i) k (λ j c d. rw (ne-eqb s j (λ p. omega arith)))) in
         omega arith
-    go false q r =
+    negatives-map-pick-by-cases false q r =
         let ne : s ≡ i → ⊥ = eqb-false s i q in
         omega (arith, r (omega arith))
 

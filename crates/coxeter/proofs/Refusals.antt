@@ -49,8 +49,8 @@ then-next q r s t e z h = h ∙ sym (then-none q s (sym e ∙ z))
 pub pair-refused : (p q s r : ℕ) → r ≡ (p then q) → (r ≡ 0 → ⊥) → r ≡ (p then (q then s))
 pair-refused p q s r e f = then-refused (p then q) r s e f ∙ then-assoc p q s
 
-pub pair-next : (p q s r t : ℕ) → r ≡ (p then q) → r ≡ 0 → t ≡ s → t ≡ (p then (q then s))
-pair-next p q s r t e z h = then-next (p then q) r s t e z h ∙ then-assoc p q s
+pub pair-next : (p q : ℕ) {s r t : ℕ} → r ≡ (p then q) → r ≡ 0 → t ≡ s → t ≡ (p then (q then s))
+pair-next p q {s} {r} {t} e z h = then-next (p then q) r s t e z h ∙ then-assoc p q s
 
 -- ---- the greatest number
 

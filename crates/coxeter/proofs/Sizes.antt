@@ -49,20 +49,20 @@ hasSize-tail s x w h = or-false-right (eqb (natAbs x) s) (hasSize s w) h
 pub hasSize-without : (s c : ℕ) (w : List ℤ) → hasSize s w ≡ false → hasSize s (without c w) ≡ false
 unfolding hasSize without
 hasSize-without s c [] h = refl
-hasSize-without s c (e ∷ w) h = go (eqb (natAbs e) c) (hasSize-without s c w (hasSize-tail s e w h))
+hasSize-without s c (e ∷ w) h = hasSize-without-by-cases (eqb (natAbs e) c) (hasSize-without s c w (hasSize-tail s e w h))
   where
-    go : (t : Bool) → hasSize s (without c w) ≡ false → hasSize s (pick t w (e ∷ without c w)) ≡ false
-    go true r = hasSize-tail s e w h
-    go false r = rw (hasSize-head s e w h) r
+    hasSize-without-by-cases : (t : Bool) → hasSize s (without c w) ≡ false → hasSize s (pick t w (e ∷ without c w)) ≡ false
+    hasSize-without-by-cases true r = hasSize-tail s e w h
+    hasSize-without-by-cases false r = rw (hasSize-head s e w h) r
 
 pub length-le-without : (c : ℕ) (w : List ℤ) → length w ≤ suc (length (without c w))
 unfolding without
 length-le-without c [] = omega arith
-length-le-without c (e ∷ w) = go (eqb (natAbs e) c) (length-le-without c w)
+length-le-without c (e ∷ w) = length-le-without-by-cases (eqb (natAbs e) c) (length-le-without c w)
   where
-    go : (t : Bool) → length w ≤ suc (length (without c w)) → suc (length w) ≤ suc (length (pick t w (e ∷ without c w)))
-    go true r = omega arith
-    go false r = omega arith
+    length-le-without-by-cases : (t : Bool) → length w ≤ suc (length (without c w)) → suc (length w) ≤ suc (length (pick t w (e ∷ without c w)))
+    length-le-without-by-cases true r = omega arith
+    length-le-without-by-cases false r = omega arith
 
 -- ---- checks
 
@@ -135,15 +135,15 @@ odd-one-add true m = rw one-add
 odd-one-add false m = rw zero-add
 
 odd-negate-both : (a b : Bool) (m : ℕ) → odd (one (not b) + (one (not a) + m)) ≡ odd (one a + (one b + m))
-odd-negate-both a b m = simp odd-one-add (go a b)
+odd-negate-both a b m = simp odd-one-add (odd-negate-both-by-cases a b)
   where
-    go : (a b : Bool)
+    odd-negate-both-by-cases : (a b : Bool)
         → pick (not b) (not (pick (not a) (not (odd m)) (odd m))) (pick (not a) (not (odd m)) (odd m))
         ≡ pick a (not (pick b (not (odd m)) (odd m))) (pick b (not (odd m)) (odd m))
-    go true true = sym (Bool·not-not (odd m))
-    go true false = refl
-    go false true = refl
-    go false false = Bool·not-not (odd m)
+    odd-negate-both-by-cases true true = sym (Bool·not-not (odd m))
+    odd-negate-both-by-cases true false = refl
+    odd-negate-both-by-cases false true = refl
+    odd-negate-both-by-cases false false = Bool·not-not (odd m)
 
 nonzero : (e : ℤ) (w : List ℤ) → hasSize 0 (e ∷ w) ≡ false → natAbs e ≡ 0 → ⊥
 nonzero e w h = eqb-false (natAbs e) 0 (hasSize-head 0 e w h)

@@ -30,9 +30,9 @@ use Rattle.coxeter.proofs.Inverses as inverses
 -- ---- steps
 
 -- a list after x was stored at position p and y at position p + 1
-pair-set : (p : ℕ) (x y : ℤ) (w v : List ℤ) → suc p < length w → v ≡ set (set w p x) (suc p) y
+pair-set : (p : ℕ) {x y : ℤ} (w v : List ℤ) → suc p < length w → v ≡ set (set w p x) (suc p) y
     → (getD v p (pos 0) ≡ x) × (getD v (suc p) (pos 0) ≡ y) × ((i : ℕ) → (i ≡ p → ⊥) → (i ≡ suc p → ⊥) → getD v i (pos 0) ≡ getD w i (pos 0))
-pair-set p x y w v h e =
+pair-set p {x} {y} w v h e =
     rw e (
       getD-set-other (set w p x) (suc p) p y (pos 0) (λ q. omega arith) ∙ getD-set-same w p x (pos 0) (omega arith),
       getD-set-same (set w p x) (suc p) y (pos 0) (omega (arith, length-set w p x)),
@@ -72,7 +72,7 @@ pub step-swaps : (k : Kind) (n s : ℕ) (w : List ℤ) → 1 ≤ s → s < lanes
 step-swaps k n zero w o l h = absurd (omega arith)
 step-swaps k n (suc p) w o l h =
     let e : suc p - 1 ≡ p = omega arith in
-    rw e (pair-set p _ _ w (act k n (suc p) w) h (ap (λ f. f w) (act-swap k n p l) ∙ swap-set p w h))
+    rw e (pair-set p w (act k n (suc p) w) h (ap (λ f. f w) (act-swap k n p l) ∙ swap-set p w h))
 
 -- K8: in kind B step n changes the sign of the entry at position n and changes no other
 pub last-step-in-B : (n : ℕ) (w : List ℤ) → 1 ≤ n → n ≤ length w
@@ -96,7 +96,7 @@ last-step-in-D (suc (suc p)) w o h =
     let e : suc (suc p) - 2 ≡ p = omega arith in
     let f : suc (suc p) - 1 ≡ suc p = omega arith in
     rw (e, f)
-    (pair-set p _ _ w (act D (suc (suc p)) (suc (suc p)) w) h
+    (pair-set p w (act D (suc (suc p)) (suc (suc p)) w) h
     (ap (λ g. g w) (act-D-last (suc (suc p)) p (omega arith)) ∙ swapNegate-set p w h))
 
 -- ---- words
@@ -165,8 +165,8 @@ module _ (k : Kind) (n : ℕ) (w : List ℤ) (h : WindowOf k n w) (v : List ℤ)
   pub right-inverse-exactly : (v ≡ inverse w) ↔ (product w v ≡ identity (lanes k n))
   right-inverse-exactly = (λ e. ap (product w) e ∙ inverses.product-inverse k n w passed, only)
     where
-      inside : product w v ≡ identity (lanes k n) → (i : ℕ) → i < length v → natAbs (getD v i (pos 0)) ≤ lanes k n
-      inside e i l =
+      sizes-le-lanes : product w v ≡ identity (lanes k n) → (i : ℕ) → i < length v → natAbs (getD v i (pos 0)) ≤ lanes k n
+      sizes-le-lanes e i l =
           let s : length v ≡ lanes k n = sym (length-product w v) ∙ ap length e ∙ length-identity (lanes k n) in
           rw (← passed .size)
           (at-inside w (getD v i (pos 0)) i
@@ -174,7 +174,7 @@ module _ (k : Kind) (n : ℕ) (w : List ℤ) (h : WindowOf k n w) (v : List ℤ)
 
       only : product w v ≡ identity (lanes k n) → v ≡ inverse w
       only e =
-          sym (identity-product (lanes k n) v (between-entries (lanes k n) v (inside e)))
+          sym (identity-product (lanes k n) v (between-entries (lanes k n) v (sizes-le-lanes e)))
           ∙ ap (λ (l : List ℤ). product l v) (sym (inverses.inverse-product k n w passed))
           ∙ product-assoc (inverse w) w v
           ∙ ap (product (inverse w)) e

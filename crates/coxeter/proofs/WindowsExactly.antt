@@ -147,46 +147,46 @@ refused-10-exactly k n w =
 hasSize-other : (s c : ℕ) (w : List ℤ) → (s ≡ c → ⊥) → hasSize s (without c w) ≡ hasSize s w
 unfolding hasSize without
 hasSize-other s c [] f = refl
-hasSize-other s c (e ∷ w) f = go (eqb (natAbs e) c) refl (hasSize-other s c w f)
+hasSize-other s c (e ∷ w) f = hasSize-other-by-cases (eqb (natAbs e) c) refl (hasSize-other s c w f)
   where
-    go : (t : Bool) → eqb (natAbs e) c ≡ t → hasSize s (without c w) ≡ hasSize s w
+    hasSize-other-by-cases : (t : Bool) → eqb (natAbs e) c ≡ t → hasSize s (without c w) ≡ hasSize s w
         → hasSize s (pick t w (e ∷ without c w)) ≡ (eqb (natAbs e) s || hasSize s w)
-    go true q ih = let r : natAbs e ≡ c = eqb-true (natAbs e) c q in rw (ne-eqb (natAbs e) s (λ z. f (sym z ∙ r)))
-    go false q ih = rw ih
+    hasSize-other-by-cases true q ih = let r : natAbs e ≡ c = eqb-true (natAbs e) c q in rw (ne-eqb (natAbs e) s (λ z. f (sym z ∙ r)))
+    hasSize-other-by-cases false q ih = rw ih
 
 length-without : (c : ℕ) (w : List ℤ) → hasSize c w ≡ true → length w ≡ suc (length (without c w))
 unfolding hasSize without
 length-without c [] h = absurd (false≢true h)
-length-without c (e ∷ w) h = go (eqb (natAbs e) c) h (length-without c w)
+length-without c (e ∷ w) h = length-without-by-cases (eqb (natAbs e) c) h (length-without c w)
   where
-    go : (t : Bool) → (t || hasSize c w) ≡ true → (hasSize c w ≡ true → length w ≡ suc (length (without c w)))
+    length-without-by-cases : (t : Bool) → (t || hasSize c w) ≡ true → (hasSize c w ≡ true → length w ≡ suc (length (without c w)))
         → suc (length w) ≡ suc (length (pick t w (e ∷ without c w)))
-    go true q ih = refl
-    go false q ih = ap suc (ih q)
+    length-without-by-cases true q ih = refl
+    length-without-by-cases false q ih = ap suc (ih q)
 
 -- what holds without the size c, which is above all others, holds with it
 module _ (i c : ℕ) (l : i ≤ c) where
   between-with : (w : List ℤ) → Between i c (without c w) → Between i (suc c) w
   unfolding without
   between-with [] b = tt
-  between-with (e ∷ w) b = go (eqb (natAbs e) c) refl b (between-with w)
+  between-with (e ∷ w) b = between-with-by-cases (eqb (natAbs e) c) refl b (between-with w)
     where
-      go : (t : Bool) → eqb (natAbs e) c ≡ t → Between i c (pick t w (e ∷ without c w)) → (Between i c (without c w) → Between i (suc c) w)
+      between-with-by-cases : (t : Bool) → eqb (natAbs e) c ≡ t → Between i c (pick t w (e ∷ without c w)) → (Between i c (without c w) → Between i (suc c) w)
           → (i ≤ natAbs e) × (natAbs e < suc c) × Between i (suc c) w
-      go true q b ih =
+      between-with-by-cases true q b ih =
           let r : natAbs e ≡ c = eqb-true (natAbs e) c q in
           (omega arith, omega arith, between-mono i c i (suc c) w (omega arith) (omega arith) b)
-      go false q b ih = (b .0, omega (arith, b .1), ih (b .2))
+      between-with-by-cases false q b ih = (b .0, omega (arith, b .1), ih (b .2))
 
   distinct-with : (w : List ℤ) → Between i c (without c w) → Distinct (without c w) → Distinct w
   unfolding without
   distinct-with [] b d = tt
-  distinct-with (e ∷ w) b d = go (eqb (natAbs e) c) refl b d (distinct-with w)
+  distinct-with (e ∷ w) b d = distinct-with-by-cases (eqb (natAbs e) c) refl b d (distinct-with w)
     where
-      go : (t : Bool) → eqb (natAbs e) c ≡ t → Between i c (pick t w (e ∷ without c w)) → Distinct (pick t w (e ∷ without c w))
+      distinct-with-by-cases : (t : Bool) → eqb (natAbs e) c ≡ t → Between i c (pick t w (e ∷ without c w)) → Distinct (pick t w (e ∷ without c w))
           → (Between i c (without c w) → Distinct (without c w) → Distinct w) → (hasSize (natAbs e) w ≡ false) × Distinct w
-      go true q b d ih = (rw (eqb-true (natAbs e) c q) (hasSize-beyond i c c w (omega arith) b), d)
-      go false q b d ih = (sym (hasSize-other (natAbs e) c w (eqb-false (natAbs e) c q)) ∙ d .0, ih (b .2) (d .1))
+      distinct-with-by-cases true q b d ih = (rw (eqb-true (natAbs e) c q) (hasSize-beyond i c c w (omega arith) b), d)
+      distinct-with-by-cases false q b d ih = (sym (hasSize-other (natAbs e) c w (eqb-false (natAbs e) c q)) ∙ d .0, ih (b .2) (d .1))
 
 -- m entries that have m sizes in a row have each once, and no other
 all-sizes : (i m : ℕ) (w : List ℤ) → length w ≤ m → ((s : ℕ) → i ≤ s → s < i + m → hasSize s w ≡ true) → Between i (i + m) w × Distinct w

@@ -64,4 +64,5 @@ module _ (k : Kind) (n : ℕ) where
   -- none is in it twice
   pub windows-once : Once (windows k n)
   unfolding windows
-  windows-once = once-keep _ (lists (lanes k n) (possibleEntries (lanes k n))) (once-lists (lanes k n) (possibleEntries (lanes k n)) (once-possibleEntries (lanes k n)))
+  windows-once = once-keep _ (lists (lanes k n) (possibleEntries (lanes k n)))
+      (once-lists (lanes k n) (possibleEntries (lanes k n)) (once-possibleEntries (lanes k n)))

@@ -18,4 +18,3 @@ pub mod Firsts
 pub mod Sentences
 pub mod RefusalSentences
 pub mod LongestEntries
-pub mod Vectors

@@ -146,11 +146,11 @@ holds (ruleCount k n m) = eqb (length (rules k n)) m
 holds (refused k n w r) = eqb (windowRefusal k n w) r
 holds (accepted k n w) = eqb (windowRefusal k n w) 0
 
-gives-of-usesRule : (k : Kind) (n : ℕ) (u : List ℕ) (p : ℕ) → Reaches k n u p → (v : List ℕ) (f i j : ℕ) (o : Option Rule) → firstFitting (rules k n) u p ≡ o
+gives-of-usesRule : {k : Kind} {n : ℕ} {u : List ℕ} {p : ℕ} → Reaches k n u p → (v : List ℕ) (f i j : ℕ) (o : Option Rule) → firstFitting (rules k n) u p ≡ o
     → usesRule o u p v f i j ≡ true → Gives k n u p v f i j
 unfolding usesRule
-gives-of-usesRule k n u p h v f i j none e t = absurd (true≢false (sym t))
-gives-of-usesRule k n u p h v f i j (some r) e t =
+gives-of-usesRule h v f i j none e t = absurd (true≢false (sym t))
+gives-of-usesRule {k} {n} {u} {p} h v f i j (some r) e t =
     let s = and-eq-true-iff (sameWord (rewritten r u p) v) (eqb (r .family) f && (eqb (r .i) i && eqb (r .j) j)) .0 t in
     let q = and-eq-true-iff (eqb (r .family) f) (eqb (r .i) i && eqb (r .j) j) .0 (s .1) in
     let z = and-eq-true-iff (eqb (r .i) i) (eqb (r .j) j) .0 (q .1) in
@@ -174,7 +174,7 @@ sound (ownInverse w) h = sameWindow-true (inverse w) w h
 sound (gives k n u p v f i j) h =
     let o = firstFitting (rules k n) u p in
     let t = and-eq-true-iff (reaches k n u p) (usesRule o u p v f i j) .0 h in
-    gives-of-usesRule k n u p (reaches-true k n u p (t .0)) v f i j o refl (t .1)
+    gives-of-usesRule (reaches-true k n u p (t .0)) v f i j o refl (t .1)
 sound (noneFits k n u p) h =
     let o = firstFitting (rules k n) u p in
     let t = and-eq-true-iff (reaches k n u p) (isNone o) .0 h in

@@ -173,12 +173,13 @@ StepsReached traced =
 within : (t : ℕ) (k : Kind) (n : ℕ) (u : List ℕ) → length (traceWithin k n t u .lines) ≤ t
 unfolding traceWithin
 within zero k n u = omega arith
-within (suc t) k n u = go (lowestRedex k n u) refl (λ x. within t k n (rewritten (x .rule) u (x .place)))
+within (suc t) k n u = within-by-cases (lowestRedex k n u) refl (λ x. within t k n (rewritten (x .rule) u (x .place)))
   where
-    go : (o : Option traces.Redex) → lowestRedex k n u ≡ o → ((x : traces.Redex) → length (traceWithin k n t (rewritten (x .rule) u (x .place)) .lines) ≤ t)
+    within-by-cases : (o : Option traces.Redex) → lowestRedex k n u ≡ o
+        → ((x : traces.Redex) → length (traceWithin k n t (rewritten (x .rule) u (x .place)) .lines) ≤ t)
         → length (traceWithin k n (suc t) u .lines) ≤ suc t
-    go none e f = rw (e, traceWithin) (omega arith)
-    go (some x) e f = rw (e, traceWithin) (omega (arith, f x))
+    within-by-cases none e f = rw (e, traceWithin) (omega arith)
+    within-by-cases (some x) e f = rw (e, traceWithin) (omega (arith, f x))
 
 -- Q12, T19, T25: the law rules out that a rewriting stops after 60,000 steps, by a word that takes 79,800
 pub traceUpTo60000-ruled-out : TellsApart StepsReached trace traceUpTo60000

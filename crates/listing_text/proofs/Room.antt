@@ -130,7 +130,7 @@ unfolding lineOf lineBy refusedLine refused
 length-lineOf-le ed b i h = by-answer (checkedPreset ed b i) refl
   where
     by-answer : (p : Preset) → p ≡ checkedPreset ed b i → length (lineBy b i p) ≤ longest
-    by-answer (preset.Found k n s l) e = length-wordLine-le i k n (take l (drop s b)) h (found-rank ed b i k n s l (found ed b i k n s l e))
+    by-answer (preset.Found k n s l) e = length-wordLine-le i k n (take l (drop s b)) h (found-rank (found e))
     by-answer (preset.Refused r) e =
         let l = presetRefusal-le ed b i in
         let q = refused-is ed b i r e in

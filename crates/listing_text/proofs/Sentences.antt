@@ -66,7 +66,7 @@ pub line-found : (ed : Edition) (b : List ℕ) (i k n s m : ℕ) → checkedPres
 unfolding lineOf lineBy
 line-found ed b i k n s m e =
     let d : s + m - s ≡ m = omega arith in
-    let w : take m (drop s b) ≡ lettersOf ed b i = rw d at (lettersOf-found ed b i k n s m (found ed b i k n s m (sym e))) in
+    let w : take m (drop s b) ≡ lettersOf ed b i = rw d at (lettersOf-found (found (sym e))) in
     ap (lineBy b i) e ∙ ap (wordLine i (kindOf k) n) w
 
 -- P7: by what reading it answers

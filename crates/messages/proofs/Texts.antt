@@ -30,9 +30,9 @@ module _ (l out : List ℕ) where
   unfolding writes answerOf written tooShort
   put-short h = rw (lt-ltb (length out) (length l) h) (refl, refl)
 
-  pub put-copied : (after : List ℕ) (r : ℕ) → length l ≤ length out → r ≡ length l → after ≡ take (length l) l ++ drop (length l) out
+  pub put-copied : {after : List ℕ} {r : ℕ} → length l ≤ length out → r ≡ length l → after ≡ take (length l) l ++ drop (length l) out
       → Yields (writes 0 l out) (Length r) after
-  put-copied after r h e v =
+  put-copied {after} {r} h e v =
       writes-written (writes 0 l out) 0 0 l out refl refl r after refl (sym e) (omega arith)
       (v ∙ front-parts l out (length l) (take (length l) l) refl (take-all (length l) l (le-refl (length l))))
 

@@ -25,30 +25,30 @@ use Rattle.presentation.proofs.Reducing.{irreducible-part, irreducible-
 -- ---- where a left side begins
 
 lower-le : (a b : ℕ) → lower a b ≤ a
-lower-le a b = go (ltb b a) refl
+lower-le a b = lower-le-by-cases (ltb b a) refl
   where
-    go : (t : Bool) → ltb b a ≡ t → lower a b ≤ a
-    go true e = rw e (omega (arith, ltb-true b a e))
-    go false e = rw e (omega arith)
+    lower-le-by-cases : (t : Bool) → ltb b a ≡ t → lower a b ≤ a
+    lower-le-by-cases true e = rw e (omega (arith, ltb-true b a e))
+    lower-le-by-cases false e = rw e (omega arith)
 
 pub lower-le-right : (a b : ℕ) → lower a b ≤ b
-lower-le-right a b = go (ltb b a) refl
+lower-le-right a b = lower-le-right-by-cases (ltb b a) refl
   where
-    go : (t : Bool) → ltb b a ≡ t → lower a b ≤ b
-    go true e = rw e (omega arith)
-    go false e = rw e (omega (arith, ltb-false b a e))
+    lower-le-right-by-cases : (t : Bool) → ltb b a ≡ t → lower a b ≤ b
+    lower-le-right-by-cases true e = rw e (omega arith)
+    lower-le-right-by-cases false e = rw e (omega (arith, ltb-false b a e))
 
 -- the second letter is not lower than the first
 shape-rises : (k : Kind) (n : ℕ) (l : List ℕ) → Shape k n l → getD l 0 0 ≤ getD l 1 0
-shape-rises k n l s = go (length (s .tail) - 1) (omega (arith, s .long))
+shape-rises k n l s = shape-rises-by-cases (length (s .tail) - 1) (omega (arith, s .long))
   where
     first : getD l 0 0 ≡ s .first
     first = ap (λ (w : List ℕ). getD w 0 0) (s .is)
 
-    go : (t : ℕ) → suc t ≡ length (s .tail) → getD l 0 0 ≤ getD l 1 0
-    go zero e = omega (arith, first, s .lowest 0 e, lower-le-right (getD l 0 0) (getD l 1 0))
-    go (suc zero) e = omega (arith, first, s .lowest 1 e, lower-le (getD l 1 0) (getD l 2 0))
-    go (suc (suc t)) e = omega (arith, first, s .higher 1 (omega arith) (omega arith))
+    shape-rises-by-cases : (t : ℕ) → suc t ≡ length (s .tail) → getD l 0 0 ≤ getD l 1 0
+    shape-rises-by-cases zero e = omega (arith, first, s .lowest 0 e, lower-le-right (getD l 0 0) (getD l 1 0))
+    shape-rises-by-cases (suc zero) e = omega (arith, first, s .lowest 1 e, lower-le (getD l 1 0) (getD l 2 0))
+    shape-rises-by-cases (suc (suc t)) e = omega (arith, first, s .higher 1 (omega arith) (omega arith))
 
 module _ (k : Kind) (n : ℕ) (low : least k ≤ n) where
   -- ---- right sides
@@ -67,7 +67,7 @@ module _ (k : Kind) (n : ℕ) (low : least k ≤ n) where
   begins-left : (x y : Rule) → List·Memᴰ x (rules k n) → List·Memᴰ y (rules k n) → (u : List ℕ) → x .left ≡ y .left ++ u → y ≡ x
   unfolding fits
   begins-left x y m q u e =
-      fitting-unique k n (x .left) 0 y x low q m (rw e (begins-append (y .left) u)) (rw append-nil at (begins-append (x .left) []))
+      fitting-unique k n (x .left) 0 low q m (rw e (begins-append (y .left) u)) (rw append-nil at (begins-append (x .left) []))
 
   -- a left side without its last letter
   front-irreducible : (x : Rule) → List·Memᴰ x (rules k n) → (b z : ℕ) (l : List ℕ) → x .left ≡ (b ∷ l) ++ (z ∷ [])

@@ -55,12 +55,12 @@ module _ (k n : ℕ) (u : List ℕ) (h : AcceptedWord k n u) where
       → single .newWord a after ≡ some v → Reduces (rules (kindOf k) n) u v
   reduction-of-call v p before after a w e =
       reduces-of-rewrites (kindOf k) n (accepted-least h)
-      (go (stepped-moves single-lawful (accepted-least h) (stepped single k n u p before h))
+      (reduction-of-call-by-cases (stepped-moves single-lawful (accepted-least h) (stepped single k n u p before h))
       (sym (ap₂ (single .newWord) (w .answer) (w .outputs)) ∙ e))
     where
-      go : {o : Option (List ℕ)} {x : List ℕ} → Moves (kindOf k) n u o x → o ≡ some v → Rewrites (kindOf k) n u v
-      go (rewrote {v = x} r) q = subst (Rewrites (kindOf k) n u) (Option·some-injective x v q) r
-      go stays q = absurd (Option·none-ne-some v q)
+      reduction-of-call-by-cases : {o : Option (List ℕ)} {x : List ℕ} → Moves (kindOf k) n u o x → o ≡ some v → Rewrites (kindOf k) n u v
+      reduction-of-call-by-cases (rewrote {v = x} r) q = subst (Rewrites (kindOf k) n u) (Option·some-injective x v q) r
+      reduction-of-call-by-cases stays q = absurd (Option·none-ne-some v q)
 
   -- U11, R16: an accepted word is reduced to another exactly if one rewrite of it, at some place and with some output,
   -- answers that a rule was used and leaves that word at the front of the output

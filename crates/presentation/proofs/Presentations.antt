@@ -79,7 +79,7 @@ module _ (k : Kind) (n : ℕ) (low : least k ≤ n) where
   rules-rewrite u v = (
     λ r.
         let (x, p, m, l, f, e) = fits-of-rewrites k n low (rewrites-of-reduces k n low r) in
-        (p, x, firstFitting-of-unique (rules k n) u p x m f (λ y q g. fitting-unique k n u p y x low q m g f), e),
+        (p, x, firstFitting-of-unique (rules k n) u p x m f (λ y q g. fitting-unique k n u p low q m g f), e),
     λ (p, x, f, e).
         let (m, g) = firstFitting-some (rules k n) u p x f in
         let inside = fits-inside x u p (left-nonempty k n low x m) g in

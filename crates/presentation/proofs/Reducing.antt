@@ -105,17 +105,17 @@ reducible-or rs u = elim (search (suc (length u)) (omega arith)) [
         → ((p : ℕ) → p < t → (x : Rule) → List·Memᴰ x rs → fits x u p ≡ false) ⊎ ((v : List ℕ) × Reduces rs u v)
     search zero h = inl (λ p l. absurd (omega arith))
     search (suc t) h = elim (search t (omega arith)) [
-      | inl f ↦ go f (firstFitting rs u t) refl
+      | inl f ↦ search-by-cases f (firstFitting rs u t) refl
       | inr r ↦ inr r
     ]
       where
-        go : ((p : ℕ) → p < t → (x : Rule) → List·Memᴰ x rs → fits x u p ≡ false) → (o : Option Rule) → firstFitting rs u t ≡ o
+        search-by-cases : ((p : ℕ) → p < t → (x : Rule) → List·Memᴰ x rs → fits x u p ≡ false) → (o : Option Rule) → firstFitting rs u t ≡ o
             → ((p : ℕ) → p < suc t → (x : Rule) → List·Memᴰ x rs → fits x u p ≡ false) ⊎ ((v : List ℕ) × Reduces rs u v)
-        go f none e = inl (λ p l x m. elim (ℕ-discrete p t) [
+        search-by-cases f none e = inl (λ p l x m. elim (ℕ-discrete p t) [
           | yes q ↦ rw q (firstFitting-none rs u t e x m)
           | no q ↦ f p (omega arith) x m
         ])
-        go f (some x) e = let (m, q) = firstFitting-some rs u t x e in inr (_, reduces-of-fits rs x m u t (omega arith) q)
+        search-by-cases f (some x) e = let (m, q) = firstFitting-some rs u t x e in inr (_, reduces-of-fits rs x m u t (omega arith) q)
 
 -- a part of an irreducible word
 pub irreducible-part : (rs : List Rule) (x u y : List ℕ) → Irreducible rs (x ++ (u ++ y)) → Irreducible rs u
@@ -163,26 +163,26 @@ pub reducesTo-one : {rs : List Rule} {u v : List ℕ} → Reduces rs u v → Red
 reducesTo-one r = (1, step r stays)
 
 pub reducesTo-trans : {rs : List Rule} {u v w : List ℕ} → ReducesTo rs u v → ReducesTo rs v w → ReducesTo rs u w
-reducesTo-trans {rs} (t, p) q = go p q
+reducesTo-trans {rs} (t, p) q = reducesTo-trans-by-induction p q
   where
-    go : {t : ℕ} {u v w : List ℕ} → Reductions rs t u v → ReducesTo rs v w → ReducesTo rs u w
-    go stays q = q
-    go (step r p) q = let z = go p q in (suc (z .0), step r (z .1))
+    reducesTo-trans-by-induction : {t : ℕ} {u v w : List ℕ} → Reductions rs t u v → ReducesTo rs v w → ReducesTo rs u w
+    reducesTo-trans-by-induction stays q = q
+    reducesTo-trans-by-induction (step r p) q = let z = reducesTo-trans-by-induction p q in (suc (z .0), step r (z .1))
 
 pub reducesTo-map : {rs qs : List Rule} {u v : List ℕ} → ((l r : List ℕ) → Pair rs l r → Pair qs l r) → ReducesTo rs u v → ReducesTo qs u v
-reducesTo-map {rs} {qs} f (t, p) = (t, go p)
+reducesTo-map {rs} {qs} f (t, p) = (t, reducesTo-map-by-induction p)
   where
-    go : {t : ℕ} {u v : List ℕ} → Reductions rs t u v → Reductions qs t u v
-    go stays = stays
-    go (step r p) = step (reduces-map f r) (go p)
+    reducesTo-map-by-induction : {t : ℕ} {u v : List ℕ} → Reductions rs t u v → Reductions qs t u v
+    reducesTo-map-by-induction stays = stays
+    reducesTo-map-by-induction (step r p) = step (reduces-map f r) (reducesTo-map-by-induction p)
 
 -- an irreducible word has no descendant but itself
 pub reducesTo-same : {rs : List Rule} {u v : List ℕ} → Irreducible rs u → ReducesTo rs u v → u ≡ v
-reducesTo-same {rs} i (t, p) = go i p
+reducesTo-same {rs} i (t, p) = reducesTo-same-by-cases i p
   where
-    go : {t : ℕ} {u v : List ℕ} → Irreducible rs u → Reductions rs t u v → u ≡ v
-    go i stays = refl
-    go {u = u} i (step {v = v} r p) = absurd (irreducible-stops rs u .0 i v r)
+    reducesTo-same-by-cases : {t : ℕ} {u v : List ℕ} → Irreducible rs u → Reductions rs t u v → u ≡ v
+    reducesTo-same-by-cases i stays = refl
+    reducesTo-same-by-cases {u = u} i (step {v = v} r p) = absurd (irreducible-stops rs u .0 i v r)
 
 -- ---- the congruence
 
@@ -190,11 +190,11 @@ pub reduces-congruent : {rs : List Rule} {u v : List ℕ} → Reduces rs u v →
 reduces-congruent (within b a x m) = congruent-application (forth b a (pair x m))
 
 pub reducesTo-congruent : {rs : List Rule} {u v : List ℕ} → ReducesTo rs u v → Congruent (Pair rs) u v
-reducesTo-congruent {rs} (t, p) = go p
+reducesTo-congruent {rs} (t, p) = reducesTo-congruent-by-induction p
   where
-    go : {t : ℕ} {u v : List ℕ} → Reductions rs t u v → Congruent (Pair rs) u v
-    go stays = alone
-    go (step r p) = congruent-trans (reduces-congruent r) (go p)
+    reducesTo-congruent-by-induction : {t : ℕ} {u v : List ℕ} → Reductions rs t u v → Congruent (Pair rs) u v
+    reducesTo-congruent-by-induction stays = alone
+    reducesTo-congruent-by-induction (step r p) = congruent-trans (reduces-congruent r) (reducesTo-congruent-by-induction p)
 
 -- words with a descendant in common are congruent
 pub joined-congruent : {rs : List Rule} {u v z : List ℕ} → ReducesTo rs u z → ReducesTo rs v z → Congruent (Pair rs) u v

@@ -118,8 +118,8 @@ pub longest-left-out : CompletePresentation D 4
 longest-left-out c = omega (arith, as-many D 4 (omega arith) _ c, rules-present D 4 (omega arith) .count)
 
 -- U6: in no kind and rank does a complete normalized presentation have a rule for 1 1 1 beside one for 1 1
-pub cube-added : (k : Kind) (n : ℕ) → least k ≤ n → (rs : List Rule) (x y : Rule) → List·Memᴰ x rs → x .left ≡ 1 ∷ 1 ∷ 1 ∷ []
+pub cube-added : {k : Kind} {n : ℕ} → least k ≤ n → {rs : List Rule} {x y : Rule} → List·Memᴰ x rs → x .left ≡ 1 ∷ 1 ∷ 1 ∷ []
     → List·Memᴰ y rs → y .left ≡ 1 ∷ 1 ∷ [] → CompletePresentation k n rs → ⊥
-cube-added k n low rs x y m e q f c =
+cube-added {k} {n} low {rs} {x} {y} m e q f c =
     let d = left-in-own-alone k n low rs c y q x m [] (1 ∷ []) (e ∙ ap (λ (w : List ℕ). w ++ (1 ∷ [])) (sym f)) in
     omega (arith, ap length e, ap length f, ap (λ (w : Rule). length (w .left)) d)

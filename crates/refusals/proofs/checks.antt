@@ -1,3 +1,2 @@
--- What the proofs of the module `checks` share.
+-- What the proofs of the modules `checks` and `windows` share.
 pub mod Tests
-pub mod Marks

@@ -51,13 +51,13 @@ fits-begins : (r : Rule) (u : List ℕ) (p : ℕ) → fits r u p ≡ true → be
 unfolding fits
 fits-begins r u p e = e
 
-pub fitted : (k : Kind) (n : ℕ) (u : List ℕ) (p f i j l : ℕ) (q : Fitting) → least k ≤ n → p < length u → q ≡ fittingOf (firstFitting (rules k n) u p)
+pub fitted : {k : Kind} {n : ℕ} {u : List ℕ} {p f i j l : ℕ} {q : Fitting} → least k ≤ n → p < length u → q ≡ fittingOf (firstFitting (rules k n) u p)
     → q ≡ Shown f i j l → Fitted k n u p f i j l
-fitted k n u p f i j l q h g e t = go (firstFitting (rules k n) u p) refl (sym e ∙ t)
+fitted {k} {n} {u} {p} {f} {i} {j} {l} h g e t = fitted-by-cases (firstFitting (rules k n) u p) refl (sym e ∙ t)
   where
-    go : (o : Option Rule) → firstFitting (rules k n) u p ≡ o → fittingOf o ≡ Shown f i j l → Fitted k n u p f i j l
-    go none c d = zero-not-one (cc)
-    go (some x) c d =
+    fitted-by-cases : (o : Option Rule) → firstFitting (rules k n) u p ≡ o → fittingOf o ≡ Shown f i j l → Fitted k n u p f i j l
+    fitted-by-cases none c d = zero-not-one (cc)
+    fitted-by-cases (some x) c d =
         let a = firstFitting-some (rules k n) u p x c in
         let w = listed-of-mem k n h x (a .0) in
         let b = begins-split (x .left) (drop p u) (fits-begins x u p (a .1)) in
@@ -75,24 +75,26 @@ fitted k n u p f i j l q h g e t = go (firstFitting (rules k n) u p) refl (sym e
 
 -- ---- refusals
 
-rewrote-by : (k n : ℕ) (u : List ℕ) (p : ℕ) (out : List ℕ) {t : Transition single} → rewriteAt single k n u p out ≡ t → Rewrote single k n u p out (t .outputs) (t .answer)
+rewrote-by : (k n : ℕ) (u : List ℕ) (p : ℕ) (out : List ℕ) {t : Transition single} → rewriteAt single k n u p out ≡ t
+    → Rewrote single k n u p out (t .outputs) (t .answer)
 rewrote-by k n u p out e = record { answer = sym (ap (λ (t : Transition single). t .answer) e); outputs = sym (ap (λ (t : Transition single). t .outputs) e) }
 
-rewrote-refused : (k n : ℕ) (u : List ℕ) (p : ℕ) (out : List ℕ) (r : ℕ) → rewriteAt single k n u p out ≡ unchanged single (Refused r) u out → Rewrote single k n u p out out (Refused r)
+rewrote-refused : (k n : ℕ) (u : List ℕ) (p : ℕ) (out : List ℕ) (r : ℕ) → rewriteAt single k n u p out ≡ unchanged single (Refused r) u out
+    → Rewrote single k n u p out out (Refused r)
 rewrote-refused k n u p out r e = rewrote-by k n u p out e
 
-pub rewrote-preset : (k n : ℕ) (u : List ℕ) (p : ℕ) (out : List ℕ) (r : ℕ) → r ≡ (rankRefusal k n then wordRefusal n u) → (r ≡ 0 → ⊥)
+pub rewrote-preset : {k n : ℕ} {u : List ℕ} {p : ℕ} {out : List ℕ} {r : ℕ} → r ≡ (rankRefusal k n then wordRefusal n u) → (r ≡ 0 → ⊥)
     → Rewrote single k n u p out out (Refused r)
 unfolding rewriteAt
-rewrote-preset k n u p out r e f =
+rewrote-preset {k} {n} {u} {p} {out} {r} e f =
     let twelfth = check 12 (pastEnd u p) in
     let q : (rankRefusal k n then wordRefusal n u then twelfth) ≡ r =
     sym (then-assoc (rankRefusal k n) (wordRefusal n u) twelfth) ∙ sym (then-refused (rankRefusal k n then wordRefusal n u) r twelfth e f) in
     rewrote-refused k n u p out r (rw (q, ne-eqb r 0 f))
 
-pub rewrote-place : (k n : ℕ) (u : List ℕ) (p : ℕ) (out : List ℕ) → AcceptedWord k n u → length u ≤ p → Rewrote single k n u p out out (Refused 12)
+pub rewrote-place : {k n : ℕ} {u : List ℕ} {p : ℕ} {out : List ℕ} → AcceptedWord k n u → length u ≤ p → Rewrote single k n u p out out (Refused 12)
 unfolding pastEnd
-rewrote-place k n u p out h l = rewrote-refused k n u p out 12 (rewriteAt-accepted single k n u p out h ∙ rw (le-leb (length u) p l))
+rewrote-place {k} {n} {u} {p} {out} h l = rewrote-refused k n u p out 12 (rewriteAt-accepted single k n u p out h ∙ rw (le-leb (length u) p l))
 
 -- ---- an accepted word and a place in it
 
@@ -111,11 +113,12 @@ module _ {k n : ℕ} {u : List ℕ} (p : ℕ) (out : List ℕ) (h : AcceptedWord
 
   pub rewrote-none : {q : Fitting} → q ≡ fittingOf (firstFitting (rules (kindOf k) n) u p) → q ≡ Nothing → Rewrote single k n u p out out NoneFits
   unfolding rewriteBy
-  rewrote-none e t = go (firstFitting (rules (kindOf k) n) u p) refl (sym e ∙ t)
+  rewrote-none e t = rewrote-none-by-cases (firstFitting (rules (kindOf k) n) u p) refl (sym e ∙ t)
     where
-      go : (o : Option Rule) → firstFitting (rules (kindOf k) n) u p ≡ o → fittingOf o ≡ Nothing → Rewrote single k n u p out out NoneFits
-      go none c d = rewrote-by k n u p out {t = rewriteBy single none u p out} (rewriteAt-placed ∙ ap (λ (o : Option Rule). rewriteBy single o u p out) c)
-      go (some x) c d = zero-not-one (cc)
+      rewrote-none-by-cases : (o : Option Rule) → firstFitting (rules (kindOf k) n) u p ≡ o → fittingOf o ≡ Nothing → Rewrote single k n u p out out NoneFits
+      rewrote-none-by-cases none c d = rewrote-by k n u p out {t = rewriteBy single none u p out}
+          (rewriteAt-placed ∙ ap (λ (o : Option Rule). rewriteBy single o u p out) c)
+      rewrote-none-by-cases (some x) c d = zero-not-one (cc)
 
   module _ {f i j l m : ℕ} (w : Fitted (kindOf k) n u p f i j l) (e : m ≡ length u - l + rightLength f l) where
     abbrev rule : Rule

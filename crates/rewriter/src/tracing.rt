@@ -26,7 +26,7 @@ fn letters_128() -> [u8; 128]
     [0u8; 128]
 }
 
-// Placeholder, never indexed.
+// The value is not read: `count_in` lends no place of these, since it notes no step.
 fn no_numbers() -> [u16; 1]
     ensures { λ r. ⌜ 1 ≡ length r ⌝ }
 {

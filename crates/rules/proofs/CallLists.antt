@@ -79,12 +79,13 @@ module _ (s : Interface) where
   uses-append : (cs ds : List (Call s)) → uses s (cs ++ ds) ≡ uses s cs + uses s ds
   unfolding uses
   uses-append [] ds = omega arith
-  uses-append (c ∷ cs) ds = go (s .newWord (c .result .answer) (c .result .outputs)) (uses-append cs ds)
+  uses-append (c ∷ cs) ds = uses-append-by-cases (s .newWord (c .result .answer) (c .result .outputs)) (uses-append cs ds)
     where
-      go : (o : Option (List ℕ)) → uses s (cs ++ ds) ≡ uses s cs + uses s ds → elim o [ none ↦ uses s (cs ++ ds) | some w ↦ suc (uses s (cs ++ ds)) ]
+      uses-append-by-cases : (o : Option (List ℕ)) → uses s (cs ++ ds) ≡ uses s cs + uses s ds
+          → elim o [ none ↦ uses s (cs ++ ds) | some w ↦ suc (uses s (cs ++ ds)) ]
           ≡ elim o [ none ↦ uses s cs | some w ↦ suc (uses s cs) ] + uses s ds
-      go none e = e
-      go (some w) e = omega arith
+      uses-append-by-cases none e = e
+      uses-append-by-cases (some w) e = omega arith
 
   -- T11: a call that used a rule counts 1, any other 0, and a list the sum
   pub uses-exactly : (uses s [] ≡ 0) × ((cs ds : List (Call s)) → uses s (cs ++ ds) ≡ uses s cs + uses s ds)
@@ -95,12 +96,12 @@ module _ (s : Interface) where
     refl,
     uses-append,
     λ c t. rw (t .1, uses),
-    λ c f. go (s .newWord (c .result .answer) (c .result .outputs)) (λ w e. f (w, e)),
+    λ c f. uses-exactly-by-cases (s .newWord (c .result .answer) (c .result .outputs)) (λ w e. f (w, e)),
   )
     where
-      go : (o : Option (List ℕ)) → ((w : List ℕ) → o ≡ some w → ⊥) → _≡_ {A = ℕ} (elim o [ none ↦ 0 | some w ↦ 1 ]) 0
-      go none f = refl
-      go (some w) f = absurd (f w refl)
+      uses-exactly-by-cases : (o : Option (List ℕ)) → ((w : List ℕ) → o ≡ some w → ⊥) → _≡_ {A = ℕ} (elim o [ none ↦ 0 | some w ↦ 1 ]) 0
+      uses-exactly-by-cases none f = refl
+      uses-exactly-by-cases (some w) f = absurd (f w refl)
 
 -- ---- the library's own answers
 

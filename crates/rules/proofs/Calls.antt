@@ -85,24 +85,24 @@ steppedBy : (s : Interface) (k : Kind) (n : ℕ) (u : List ℕ) (p : ℕ) (o : s
     → Stepped s k n u p o (rewriteBy s f u p o)
 unfolding rewriteBy
 steppedBy s k n u p o none e l = noneFits e l
-steppedBy s k n u p o (some x) e l = go (s .room o (length (rewritten x u p))) refl
+steppedBy s k n u p o (some x) e l = steppedBy-by-cases (s .room o (length (rewritten x u p))) refl
   where
-    go : (t : Bool) → s .room o (length (rewritten x u p)) ≡ t
+    steppedBy-by-cases : (t : Bool) → s .room o (length (rewritten x u p)) ≡ t
         → Stepped s k n u p o (pick t (changed s x (rewritten x u p) o) (unchanged s (s .refused 14) u o))
-    go true q = used x e l q
-    go false q = short x e l q
+    steppedBy-by-cases true q = used x e l q
+    steppedBy-by-cases false q = short x e l q
 
 -- an accepted word passes checks 5 to 8, and then check 12 and the fitting rule decide
 pub rewriteAt-accepted : (s : Interface) (k n : ℕ) (u : List ℕ) (p : ℕ) (o : s .Outputs) → AcceptedWord k n u
     → rewriteAt s k n u p o ≡ pick (pastEnd u p) (unchanged s (s .refused 12) u o) (rewriteBy s (firstFitting (rules (kindOf k) n) u p) u p o)
 unfolding rewriteAt
-rewriteAt-accepted s k n u p o h = rw (h .rank, h .word) (go (pastEnd u p))
+rewriteAt-accepted s k n u p o h = rw (h .rank, h .word) (rewriteAt-accepted-by-cases (pastEnd u p))
   where
-    go : (t : Bool)
+    rewriteAt-accepted-by-cases : (t : Bool)
         → pick (eqb (check 12 t) 0) (rewriteBy s (firstFitting (rules (kindOf k) n) u p) u p o) (unchanged s (s .refused (check 12 t)) u o)
         ≡ pick t (unchanged s (s .refused 12) u o) (rewriteBy s (firstFitting (rules (kindOf k) n) u p) u p o)
-    go true = refl
-    go false = refl
+    rewriteAt-accepted-by-cases true = refl
+    rewriteAt-accepted-by-cases false = refl
 
 pub stepped : (s : Interface) (k n : ℕ) (u : List ℕ) (p : ℕ) (o : s .Outputs) → AcceptedWord k n u → Stepped s (kindOf k) n u p o (rewriteAt s k n u p o)
 unfolding pastEnd
@@ -133,24 +133,24 @@ module _ {s : Interface} (law : Lawful s) where
 pub wordAfter-moves : {k : Kind} {n : ℕ} (s : Interface) (u : List ℕ) (r : Result s) {v : List ℕ} → Moves k n u (s .newWord (r .answer) (r .outputs)) v
     → wordAfter s u r ≡ v
 unfolding wordAfter
-wordAfter-moves {k} {n} s u r m = go m
+wordAfter-moves {k} {n} s u r m = wordAfter-moves-by-cases m
   where
-    go : {w : Option (List ℕ)} {x : List ℕ} → Moves k n u w x → elim w [ none ↦ u | some y ↦ y ] ≡ x
-    go (rewrote r) = refl
-    go stays = refl
+    wordAfter-moves-by-cases : {w : Option (List ℕ)} {x : List ℕ} → Moves k n u w x → elim w [ none ↦ u | some y ↦ y ] ≡ x
+    wordAfter-moves-by-cases (rewrote r) = refl
+    wordAfter-moves-by-cases stays = refl
 
 -- ---- the library's own call
 
 -- the new word is no longer than the word
-pub used-length : (k n : ℕ) (u : List ℕ) (p : ℕ) (before after : List ℕ) (f i j l : ℕ) → AcceptedWord k n u
+pub used-length : {k n : ℕ} {u : List ℕ} {p : ℕ} {before after : List ℕ} (f i j l : ℕ) → AcceptedWord k n u
     → Rewrote single k n u p before after (Used f i j l) → l ≤ length u
-used-length k n u p before after f i j l h w = go (stepped single k n u p before h) (sym (w .answer))
+used-length {k} {n} {u} {p} {before} f i j l h w = used-length-by-cases (stepped single k n u p before h) (sym (w .answer))
   where
-    go : {t : Transition single} → Stepped single (kindOf k) n u p before t → t .answer ≡ Used f i j l → l ≤ length u
-    go (used x e m q) z =
+    used-length-by-cases : {t : Transition single} → Stepped single (kindOf k) n u p before t → t .answer ≡ Used f i j l → l ≤ length u
+    used-length-by-cases (used x e m q) z =
         let g = firstFitting-some (rules (kindOf k) n) u p x e in
         let same : l ≡ length (rewritten x u p) = cc in
         omega (arith, rewrites-length (rewrites-of-fits (kindOf k) n (accepted-least h) x (g .0) u p (omega arith) (g .1)))
-    go (noneFits e m) z = zero-not-one (cc)
-    go (past m) z = zero-not-one (cc)
-    go (short x e m q) z = zero-not-one (cc)
+    used-length-by-cases (noneFits e m) z = zero-not-one (cc)
+    used-length-by-cases (past m) z = zero-not-one (cc)
+    used-length-by-cases (short x e m q) z = zero-not-one (cc)

@@ -129,13 +129,13 @@ normalForm-irreducible k n u h r = normalForm-not-rewritten k n (window k n u) h
 -- no rule of the list fits exactly when no rule rewrites the word
 pub irreducible-of-not-rewritten : (k : Kind) (n : ℕ) (u : List ℕ) → least k ≤ n → ((v : List ℕ) → Rewrites k n u v → ⊥) → Irreducible (rules k n) u
 irreducible-of-not-rewritten k n u h f r m p = elim (decLe p (length u)) [
-  | yes l ↦ go (fits r u p) refl l
+  | yes l ↦ irreducible-of-not-rewritten-by-cases (fits r u p) refl l
   | no l ↦ fits-past r u p (left-nonempty k n h r m) (omega arith)
 ]
   where
-    go : (t : Bool) → fits r u p ≡ t → p ≤ length u → fits r u p ≡ false
-    go true e l = absurd (f _ (rewrites-of-fits k n h r m u p l e))
-    go false e l = e
+    irreducible-of-not-rewritten-by-cases : (t : Bool) → fits r u p ≡ t → p ≤ length u → fits r u p ≡ false
+    irreducible-of-not-rewritten-by-cases true e l = absurd (f _ (rewrites-of-fits k n h r m u p l e))
+    irreducible-of-not-rewritten-by-cases false e l = e
 
 pub not-rewritten-of-irreducible : (k : Kind) (n : ℕ) (u : List ℕ) → least k ≤ n → Irreducible (rules k n) u → (v : List ℕ) → Rewrites k n u v → ⊥
 not-rewritten-of-irreducible k n u h f v r =

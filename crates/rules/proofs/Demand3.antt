@@ -87,11 +87,11 @@ module _ {s : Interface} (law : Lawful s) (k n : ℕ) where
 
   uses-cons : (c : Call s) (cs : List (Call s)) → uses s (c ∷ cs) ≡ cost (s .newWord (c .result .answer) (c .result .outputs)) + uses s cs
   unfolding uses
-  uses-cons c cs = go (s .newWord (c .result .answer) (c .result .outputs))
+  uses-cons c cs = uses-cons-by-cases (s .newWord (c .result .answer) (c .result .outputs))
     where
-      go : (w : Option (List ℕ)) → elim w [ none ↦ uses s cs | some v ↦ suc (uses s cs) ] ≡ cost w + uses s cs
-      go none = omega arith
-      go (some v) = omega arith
+      uses-cons-by-cases : (w : Option (List ℕ)) → elim w [ none ↦ uses s cs | some v ↦ suc (uses s cs) ] ≡ cost w + uses s cs
+      uses-cons-by-cases none = omega arith
+      uses-cons-by-cases (some v) = omega arith
 
   -- the word that a list of calls leaves
   run-kept : (u : List ℕ) (cs : List (Call s)) → AcceptedWord k n u → Run s k n u cs → Kept k n u (uses s cs) (wordLeft s u cs)
@@ -168,7 +168,8 @@ normal-form-written k n u before after a h y =
     let q = rankRefusal k n then wordRefusal n u in
     let z : q ≡ 0 = rw (h .rank, h .word) in
     record {
-      written = λ l. let r = writes-written (writes q w before) q q w before refl refl (length w) (front w before) z refl l refl in (y .0 ∙ sym (r .0), y .1 ∙ sym (r .1));
+      written = λ l. let r = writes-written (writes q w before) q q w before refl refl (length w) (front w before) z refl l refl in
+          (y .0 ∙ sym (r .0), y .1 ∙ sym (r .1));
       short = λ l. answers-short q w before after a y z l;
     }
 

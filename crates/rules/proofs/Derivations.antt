@@ -119,8 +119,8 @@ rule-braid k n h (seven {a} d e) f = seven-congruent (fork k n a d h e)
 
 -- every rule follows from the Coxeter relations
 pub rule-congruent : (k : Kind) (n : ℕ) {l r : List ℕ} → least k ≤ n → RuleOf k n l r → Congruent (Relation k n) l r
-rule-congruent k n {l} {r} h q = go l r q
+rule-congruent k n {l} {r} h q = rule-congruent-by-cases l r q
   where
-    go : (l r : List ℕ) → RuleOf k n l r → Congruent (Relation k n) l r
-    go l [] (square o g) = congruent-one (twice o g)
-    go l (x ∷ u) q = congruent-map (λ a b. braid) (rule-braid k n h q (cons-ne-nil x u))
+    rule-congruent-by-cases : (l r : List ℕ) → RuleOf k n l r → Congruent (Relation k n) l r
+    rule-congruent-by-cases l [] (square o g) = congruent-one (twice o g)
+    rule-congruent-by-cases l (x ∷ u) q = congruent-map (λ a b. braid) (rule-braid k n h q (cons-ne-nil x u))

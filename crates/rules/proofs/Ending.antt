@@ -58,8 +58,8 @@ Within r l = (a : ℕ) → List·Memᴰ a r → List·Memᴰ a l
 within-nil : (l : List ℕ) → Within [] l
 within-nil l a m = absurd (List·Memᴰ·not-nil m)
 
-within-cons : (b : ℕ) (r l : List ℕ) → List·Memᴰ b l → Within r l → Within (b ∷ r) l
-within-cons b r l h g a m = ⊎-elim (λ e. Memᴰ·cast e h) (g a) (List·Memᴰ·cases-cons m)
+within-cons : {b : ℕ} (r : List ℕ) {l : List ℕ} → List·Memᴰ b l → Within r l → Within (b ∷ r) l
+within-cons r h g a m = ⊎-elim (λ e. Memᴰ·cast e h) (g a) (List·Memᴰ·cases-cons m)
 
 first : {a : ℕ} {u : List ℕ} → List·Memᴰ a (a ∷ u)
 first = List·Memᴰ·head refl
@@ -72,16 +72,16 @@ third = List·Memᴰ·tail second
 
 rule-within : (k : Kind) (n : ℕ) {l r : List ℕ} → RuleOf k n l r → Within r l
 rule-within k n (square o l) = within-nil _
-rule-within k n (commutation o l g) = within-cons _ _ _ second (within-cons _ _ _ first (within-nil _))
+rule-within k n (commutation o l g) = within-cons _ second (within-cons _ first (within-nil _))
 rule-within k n (carry {i} {j} o l g) =
-    within-cons _ _ _ (Memᴰ·append-left {s = block k n i j} _ (rw (carries-carried k n i j o l g .shape) second)) (λ a m. Memᴰ·append-left _ m)
-rule-within k n (turn {i} o g) = within-cons _ _ _ (Memᴰ·append-right (block k n i (2 * n - i)) first) (λ a m. Memᴰ·append-left _ m)
+    within-cons _ (Memᴰ·append-left {s = block k n i j} _ (rw (carries-carried k n i j o l g .shape) second)) (λ a m. Memᴰ·append-left _ m)
+rule-within k n (turn {i} o g) = within-cons _ (Memᴰ·append-right (block k n i (2 * n - i)) first) (λ a m. Memᴰ·append-left _ m)
 rule-within k n (five d e) =
-    within-cons _ _ _ second (within-cons _ _ _ first (within-cons _ _ _ second (within-nil _)))
+    within-cons _ second (within-cons _ first (within-cons _ second (within-nil _)))
 rule-within k n (six d e) =
-    within-cons _ _ _ third (within-cons _ _ _ first (within-cons _ _ _ second (within-cons _ _ _ third (within-cons _ _ _ first (within-nil _)))))
+    within-cons _ third (within-cons _ first (within-cons _ second (within-cons _ third (within-cons _ first (within-nil _)))))
 rule-within k n (seven d e) =
-    within-cons _ _ _ second (within-cons _ _ _ first (within-cons _ _ _ second (within-cons _ _ _ third (within-cons _ _ _ first (within-nil _)))))
+    within-cons _ second (within-cons _ first (within-cons _ second (within-cons _ third (within-cons _ first (within-nil _)))))
 
 -- the letters of an accepted word are steps
 pub letters-of-accepted : (n : ℕ) (u : List ℕ) → wrongLetter n u ≡ false → (a : ℕ) → List·Memᴰ a u → (1 ≤ a) × (a ≤ n)

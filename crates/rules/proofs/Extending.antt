@@ -84,29 +84,29 @@ block-fall k n c i j x e o h q t r =
     block-turn-snoc k n c i (suc j) x e o h (omega arith) t (omega arith)
     ∙ ap (λ (w : List ℕ). w ++ (x ∷ [])) (sym (block-turn k n i j c (suc x) e h q (omega arith) (omega arith) o))
 
-pub block-last : (k : Kind) (n c i j l : ℕ) → Corner k n c → 1 ≤ i → i ≤ c → j ≤ lastIndex k n i → Last n i j l
+pub block-last : (k : Kind) {n : ℕ} (c : ℕ) {i j l : ℕ} → Corner k n c → 1 ≤ i → i ≤ c → j ≤ lastIndex k n i → Last n i j l
     → (p : List ℕ) × (block k n i j ≡ p ++ (l ∷ []))
-block-last k n c i j l e o h g (rising q a b) = (span i j, block-up k n i j b ∙ span-snoc i j a ∙ ap (λ (y : ℕ). span i j ++ (y ∷ [])) (sym q))
-block-last k n c i j l e o h g (falling a q) = (span i c ++ slide (suc n) (suc l), block-turn-snoc k n c i j l e o h a g q)
+block-last k {n} c {i} {j} e o h g (rising q a b) = (span i j, block-up k n i j b ∙ span-snoc i j a ∙ ap (λ (y : ℕ). span i j ++ (y ∷ [])) (sym q))
+block-last k {n} c {i} {j} {l} e o h g (falling a q) = (span i c ++ slide (suc n) (suc l), block-turn-snoc k n c i j l e o h a g q)
 
-level-le : (k : Kind) (n c i j l : ℕ) → Corner k n c → i ≤ c → j ≤ lastIndex k n i → Last n i j l → i ≤ l
-level-le k n c i j l e h g (rising q a b) = omega arith
-level-le k n c i j l e h g (falling a q) = level-le-last k n i j l (omega (arith, corner-le k n c e)) g q
+level-le : (k : Kind) {n : ℕ} (c : ℕ) {i j l : ℕ} → Corner k n c → i ≤ c → j ≤ lastIndex k n i → Last n i j l → i ≤ l
+level-le k c e h g (rising q a b) = omega arith
+level-le k {n} c {i} {j} {l} e h g (falling a q) = level-le-last k n i j l (omega (arith, corner-le k n c e)) g q
 
 -- ---- the turn of kind D, with a = n − 2
 
-block-turn-D : (k : Kind) (n c i j a d : ℕ) → IsD k → Corner k n c → 1 ≤ i → i ≤ a → a + 2 ≡ n → n ≤ j → j ≤ lastIndex k n i → d + j ≡ 2 * n
+block-turn-D : (k : Kind) {n : ℕ} (c i j a d : ℕ) → IsD k → Corner k n c → 1 ≤ i → i ≤ a → a + 2 ≡ n → n ≤ j → j ≤ lastIndex k n i → d + j ≡ 2 * n
     → block k n i j ≡ span i a ++ (a ∷ slide (suc n) d)
-block-turn-D k n c i j a d w e o h f g m q =
+block-turn-D k {n} c i j a d w e o h f g m q =
     let t : c ≡ suc a = omega (arith, corner-D k n c w e) in
     block-turn k n i j c d e (omega arith) g m q o
     ∙ ap (λ (l : List ℕ). l ++ slide (suc n) d) (ap (span i) t ∙ span-snoc i a h)
     ∙ append-assoc (span i a) (a ∷ []) (slide (suc n) d)
 
-block-turn-D-three : (k : Kind) (n c i j a : ℕ) → IsD k → Corner k n c → 1 ≤ i → a + 2 ≡ n → i ≤ c → j ≡ n + 2 → j ≤ lastIndex k n i
+block-turn-D-three : (k : Kind) {n : ℕ} (c i : ℕ) {j : ℕ} (a : ℕ) → IsD k → Corner k n c → 1 ≤ i → a + 2 ≡ n → i ≤ c → j ≡ n + 2 → j ≤ lastIndex k n i
     → block k n i j ≡ span i a ++ (a ∷ n ∷ (a + 1) ∷ a ∷ [])
-block-turn-D-three k n c i j a w e o f h q m =
-    block-turn-D k n c i j a a w e o (level-le-last k n i j a (omega (arith, corner-D k n c w e)) m (omega arith)) f (omega arith) m (omega arith)
+block-turn-D-three k {n} c i {j} a w e o f h q m =
+    block-turn-D k c i j a a w e o (level-le-last k n i j a (omega (arith, corner-D k n c w e)) m (omega arith)) f (omega arith) m (omega arith)
     ∙ ap (λ (l : List ℕ). span i a ++ (a ∷ l)) (slide-three n a f)
 
 -- ---- one more letter
@@ -115,29 +115,29 @@ block-turn-D-three k n c i j a w e o f h q m =
 abbrev pub Extended : Kind → ℕ → ℕ → List ℕ → Type 0
 Extended k n i w = ((j : ℕ) × (i ≤ j) × (j ≤ lastIndex k n i) × (w ≡ block k n i j)) ⊎ Reducible k n w
 
-extended-next : (k : Kind) (n c i j x : ℕ) → Corner k n c → 1 ≤ i → i ≤ c → i ≤ suc j → j ≤ lastIndex k n i → i ≤ x → x ≤ n
+extended-next : {k : Kind} {n c i j x : ℕ} → Corner k n c → 1 ≤ i → i ≤ c → i ≤ suc j → j ≤ lastIndex k n i → i ≤ x → x ≤ n
     → Next k n c i j x → Extended k n i (block k n i j ++ (x ∷ []))
-extended-next k n c i j x e o h g m a b (climbs q r) =
+extended-next {k} {n} {c} {i} {j} {x} e o h g m a b (climbs q r) =
     inl (x, a, le-lastIndex k n i x (omega (arith, corner-le k n c e)) b, sym (block-climb k n i j x a q r))
-extended-next k n c i j x e o h g m a b (tops q r) =
+extended-next {k} {n} {c} {i} {j} e o h g m a b (tops q r) =
     inl (
       n,
       omega arith,
       le-lastIndex k n i n (omega arith) (omega arith),
       rw r (sym (block-top k n c i j e o h q)),
     )
-extended-next k n c i j x e o h g m a b (falls q r t) =
+extended-next {k} {n} {c} {i} {j} {x} e o h g m a b (falls q r t) =
     inl (suc j, omega arith, t, sym (block-fall k n c i j x e o h q t r))
-extended-next k n c i j x e o h g m a b (repeats t) =
-    let z = block-last k n c i j x e o h m t in
+extended-next {k} {n} {c} {i} {j} {x} e o h g m a b (repeats t) =
+    let z = block-last k c e o h m t in
     inr (reducible-end (z .0) (x ∷ []) x (z .1) (square (omega arith) b))
-extended-next k n c i j x e o h g m a b (commutes {l} t w) =
-    let z = block-last k n c i j l e o h m t in
-    inr (reducible-end (z .0) (l ∷ []) x (z .1) (commutation (omega (arith, level-le k n c i j l e h m t)) b w))
-extended-next k n c i j x e o h g m a b (carries q r t w) =
+extended-next {k} {n} {c} {i} {j} {x} e o h g m a b (commutes {l} t w) =
+    let z = block-last k c e o h m t in
+    inr (reducible-end (z .0) (l ∷ []) x (z .1) (commutation (omega (arith, level-le k c e h m t)) b w))
+extended-next {k} {n} {c} {i} {j} {x} e o h g m a b (carries q r t w) =
     let f : x ≤ c = omega (arith, le-corner k n c e) in
     inr (reducible-end (span i x) (block k n x j) x (block-cut k n c i x j e o a f (omega arith) t) (carry (omega arith) q w))
-extended-next k n c i j x e o h g m a b (turns {d} q r t p w) =
+extended-next {k} {n} {c} {i} {j} e o h g m a b (turns {d} q r t p w) =
     let f : j ≡ 2 * n - d = omega arith in
     let y : i ≤ d = level-le-last k n i j d (omega arith) m r in
     let z : d ≤ c = omega (arith, le-corner k n c e) in
@@ -145,21 +145,22 @@ extended-next k n c i j x e o h g m a b (turns {d} q r t p w) =
     (inr (reducible-end (span i d) (block k n d (2 * n - d)) (d + 1)
     (block-cut k n c i d j e o y z (omega arith) (le-lastIndex-of k n i d j m (omega arith)) ∙ ap (λ (l : ℕ). span i d ++ block k n d l) f)
     (turn (omega arith) w)))
-extended-next k n c i j x e o h g m a b (fives w q r) =
+extended-next {k} {n} {c} {i} {j} {x} e o h g m a b (fives w q r) =
     inr (reducible-end (span i x) (x ∷ n ∷ []) x
-    (block-turn-D k n c i j x n w e o a r (omega arith) m (omega arith) ∙ ap (λ (l : List ℕ). span i x ++ (x ∷ l)) (slide-one (suc n) n (omega arith)))
+    (block-turn-D k c i j x n w e o a r (omega arith) m (omega arith) ∙ ap (λ (l : List ℕ). span i x ++ (x ∷ l)) (slide-one (suc n) n (omega arith)))
     (five w r))
-extended-next k n c i j x e o h g m a b (sixes y w f q r) =
-    rw r (inr (reducible-end (span i y) (y ∷ n ∷ (y + 1) ∷ y ∷ []) n (block-turn-D-three k n c i j y w e o f h q m) (six w f)))
-extended-next k n c i j x e o h g m a b (sevens y w f q r) =
-    rw r (inr (reducible-end (span i y) (y ∷ n ∷ (y + 1) ∷ y ∷ []) (y + 1) (block-turn-D-three k n c i j y w e o f h q m) (seven w f)))
+extended-next {k} {n} {c} {i} {j} e o h g m a b (sixes y w f q r) =
+    rw r (inr (reducible-end (span i y) (y ∷ n ∷ (y + 1) ∷ y ∷ []) n (block-turn-D-three k c i y w e o f h q m) (six w f)))
+extended-next {k} {n} {c} {i} {j} e o h g m a b (sevens y w f q r) =
+    rw r (inr (reducible-end (span i y) (y ∷ n ∷ (y + 1) ∷ y ∷ []) (y + 1) (block-turn-D-three k c i y w e o f h q m) (seven w f)))
 
 -- the block is not empty, or only the top is left of its way up, as for the empty block of the last level
-pub extended-letter : (k : Kind) (n c i j x : ℕ) → Corner k n c → 1 ≤ i → i ≤ c → i ≤ suc j → j ≤ lastIndex k n i → (i ≤ j) ⊎ (suc j ≡ c)
+pub extended-letter : (k : Kind) (n : ℕ) {c : ℕ} (i : ℕ) {j : ℕ} (x : ℕ) → Corner k n c → 1 ≤ i → i ≤ c → i ≤ suc j → j ≤ lastIndex k n i
+    → (i ≤ j) ⊎ (suc j ≡ c)
     → i ≤ x → x ≤ n → Extended k n i (block k n i j ++ (x ∷ []))
-extended-letter k n c i j x e o h g m s a b =
-    extended-next k n c i j x e o h g m a b
+extended-letter k n {c} i {j} x e o h g m s a b =
+    extended-next e o h g m a b
     (elim (decLe n j) [
-      | yes t ↦ next-falling k n c i j x t m o (omega (arith, corner-le k n c e)) a b
-      | no t ↦ next-rising k n c i j x e s (lt-of-not-le t) a b
+      | yes t ↦ next-falling t m o (omega (arith, corner-le k n c e)) a b
+      | no t ↦ next-rising e s (lt-of-not-le t) a b
     ])

@@ -74,25 +74,25 @@ fits-past r u p o l = rw (drop-of-length-le u l) (begins-nil (r .left) o)
 pub firstFitting-some : (rs : List Rule) (u : List ℕ) (p : ℕ) (x : Rule) → firstFitting rs u p ≡ some x → List·Memᴰ x rs × (fits x u p ≡ true)
 unfolding firstFitting
 firstFitting-some [] u p x e = absurd (Option·none-ne-some x e)
-firstFitting-some (r ∷ rs) u p x e = go (fits r u p) refl e (firstFitting-some rs u p x)
+firstFitting-some (r ∷ rs) u p x e = firstFitting-some-by-cases (fits r u p) refl e (firstFitting-some rs u p x)
   where
-    go : (t : Bool) → fits r u p ≡ t → pick t (some r) (firstFitting rs u p) ≡ some x
+    firstFitting-some-by-cases : (t : Bool) → fits r u p ≡ t → pick t (some r) (firstFitting rs u p) ≡ some x
         → (firstFitting rs u p ≡ some x → List·Memᴰ x rs × (fits x u p ≡ true)) → List·Memᴰ x (r ∷ rs) × (fits x u p ≡ true)
-    go true t q ih =
+    firstFitting-some-by-cases true t q ih =
         let i : r ≡ x = Option·some-injective r x q in
         (List·Memᴰ·head (sym i), subst (λ (z : Rule). fits z u p ≡ true) i t)
-    go false t q ih = let i = ih q in (List·Memᴰ·tail (i .0), i .1)
+    firstFitting-some-by-cases false t q ih = let i = ih q in (List·Memᴰ·tail (i .0), i .1)
 
 -- where none is found no rule of the list fits
 pub firstFitting-none : (rs : List Rule) (u : List ℕ) (p : ℕ) → firstFitting rs u p ≡ none → (x : Rule) → List·Memᴰ x rs → fits x u p ≡ false
 unfolding firstFitting
 firstFitting-none [] u p e x m = absurd (List·Memᴰ·not-nil m)
-firstFitting-none (r ∷ rs) u p e x m = go (fits r u p) refl e (λ q. firstFitting-none rs u p q x)
+firstFitting-none (r ∷ rs) u p e x m = firstFitting-none-by-cases (fits r u p) refl e (λ q. firstFitting-none rs u p q x)
   where
-    go : (t : Bool) → fits r u p ≡ t → pick t (some r) (firstFitting rs u p) ≡ none
+    firstFitting-none-by-cases : (t : Bool) → fits r u p ≡ t → pick t (some r) (firstFitting rs u p) ≡ none
         → (firstFitting rs u p ≡ none → List·Memᴰ x rs → fits x u p ≡ false) → fits x u p ≡ false
-    go true t q ih = absurd (Option·some-ne-none r q)
-    go false t q ih = ⊎-elim (λ i. ap (λ (z : Rule). fits z u p) i ∙ t) (ih q) (List·Memᴰ·cases-cons m)
+    firstFitting-none-by-cases true t q ih = absurd (Option·some-ne-none r q)
+    firstFitting-none-by-cases false t q ih = ⊎-elim (λ i. ap (λ (z : Rule). fits z u p) i ∙ t) (ih q) (List·Memᴰ·cases-cons m)
 
 pub none-firstFitting : (rs : List Rule) (u : List ℕ) (p : ℕ) → ((x : Rule) → List·Memᴰ x rs → fits x u p ≡ false) → firstFitting rs u p ≡ none
 unfolding firstFitting
@@ -102,11 +102,11 @@ none-firstFitting (r ∷ rs) u p h = rw (h r (List·Memᴰ·head refl)) (none-fi
 -- a rule that alone fits is the one found
 pub firstFitting-of-unique : (rs : List Rule) (u : List ℕ) (p : ℕ) (x : Rule) → List·Memᴰ x rs → fits x u p ≡ true
     → ((y : Rule) → List·Memᴰ y rs → fits y u p ≡ true → y ≡ x) → firstFitting rs u p ≡ some x
-firstFitting-of-unique rs u p x m f h = go (firstFitting rs u p) refl
+firstFitting-of-unique rs u p x m f h = firstFitting-of-unique-by-cases (firstFitting rs u p) refl
   where
-    go : (o : Option Rule) → firstFitting rs u p ≡ o → o ≡ some x
-    go none e = absurd (true≢false (sym f ∙ firstFitting-none rs u p e x m))
-    go (some y) e = let s = firstFitting-some rs u p y e in ap some (h y (s .0) (s .1))
+    firstFitting-of-unique-by-cases : (o : Option Rule) → firstFitting rs u p ≡ o → o ≡ some x
+    firstFitting-of-unique-by-cases none e = absurd (true≢false (sym f ∙ firstFitting-none rs u p e x m))
+    firstFitting-of-unique-by-cases (some y) e = let s = firstFitting-some rs u p y e in ap some (h y (s .0) (s .1))
 
 -- ---- rules of a kind
 

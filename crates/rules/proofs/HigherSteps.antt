@@ -48,9 +48,9 @@ blocks-normal k n (suc i) js h o g x =
     (f, λ a m. (blocks-at-least k n h o x a m, letters-of-accepted n (blocks k n (suc i) js) (f .steps) a m .1))
 
 -- and each normal form over the steps i to n is one
-pub normal-blocks : (k : Kind) (n i : ℕ) (w : List ℤ) (u : List ℕ) → least k ≤ n → 1 ≤ i → i ≤ levels k n → IsNormalForm k n w u
+pub normal-blocks : {k : Kind} {n i : ℕ} {w : List ℤ} {u : List ℕ} → least k ≤ n → 1 ≤ i → i ≤ levels k n → IsNormalForm k n w u
     → ((a : ℕ) → List·Memᴰ a u → i ≤ a) → (js : List ℕ) × Indices k n i js × (u ≡ blocks k n i js)
-normal-blocks k n i w u h o g m f =
+normal-blocks {k} {n} {i} {w} {u} h o g m f =
     ⊎-elim (λ s. s) (λ s. absurd (stuck (s .0) (s .1))) (blocks-from-or-rewrites k n i h o g u (letters-from i n u (m .steps) f))
   where
     stuck : (v : List ℕ) → Rewrites k n u v → ⊥
@@ -60,35 +60,35 @@ normal-blocks k n i w u h o g m f =
 
 -- ---- one level
 
-last-block : (k : Kind) (n i : ℕ) (u us : List ℕ) → least k ≤ n → 1 ≤ i → i ≤ levels k n → Indices k n i us → u ≡ blocks k n i us
+last-block : {k : Kind} {n i : ℕ} {u us : List ℕ} → least k ≤ n → 1 ≤ i → i ≤ levels k n → Indices k n i us → u ≡ blocks k n i us
     → (j : ℕ) × (v js : List ℕ) × (u ≡ v ++ block k n i j) × (i ≤ suc j) × (j ≤ lastIndex k n i)
     × IsNormalForm k n (window k n v) v × ((a : ℕ) → List·Memᴰ a v → (suc i ≤ a) × (a ≤ n))
     × (v ≡ blocks k n (suc i) js) × Indices k n (suc i) js
 unfolding blocks
-last-block k n i u [] h o g (none e) q = absurd (omega arith)
-last-block k n i u (j ∷ js) h o g (level p b c d) q =
+last-block {us = []} h o g (none e) q = absurd (omega arith)
+last-block {k} {n} {i} {us = (j ∷ js)} h o g (level p b c d) q =
     let s = blocks-normal k n (suc i) js h (omega arith) (omega arith) d in
     (j, blocks k n (suc i) js, js, q, b, c, s .0, s .1, refl, d)
 
 -- at each level: block i is peeled off a normal form over the steps from i on, and the rest is one over the higher
 -- steps
-pub level-peeled : (k : Kind) (n i : ℕ) (w : List ℤ) (u : List ℕ) → least k ≤ n → 1 ≤ i → i ≤ levels k n → IsNormalForm k n w u
+pub level-peeled : {k : Kind} {n i : ℕ} {w : List ℤ} {u : List ℕ} → least k ≤ n → 1 ≤ i → i ≤ levels k n → IsNormalForm k n w u
     → ((a : ℕ) → List·Memᴰ a u → i ≤ a)
     → (j : ℕ) × (v js : List ℕ) × (u ≡ v ++ block k n i j) × (i ≤ suc j) × (j ≤ lastIndex k n i)
     × IsNormalForm k n (window k n v) v × ((a : ℕ) → List·Memᴰ a v → (suc i ≤ a) × (a ≤ n))
     × (v ≡ blocks k n (suc i) js) × Indices k n (suc i) js
-level-peeled k n i w u h o g m f =
-    let s = normal-blocks k n i w u h o g m f in
-    last-block k n i u (s .0) h o g (s .1) (s .2)
+level-peeled {k} {n} {i} {w} {u} h o g m f =
+    let s = normal-blocks h o g m f in
+    last-block h o g (s .1) (s .2)
 
 -- and put back on: below the last level every normal form over the higher steps, with any block of level i behind
 -- it, is a normal form
-pub level-put-back : (k : Kind) (n i j : ℕ) (v : List ℕ) → least k ≤ n → 1 ≤ i → suc i ≤ levels k n → i ≤ suc j → j ≤ lastIndex k n i
+pub level-put-back : {k : Kind} {n : ℕ} (i j : ℕ) {v : List ℕ} → least k ≤ n → 1 ≤ i → suc i ≤ levels k n → i ≤ suc j → j ≤ lastIndex k n i
     → IsNormalForm k n (window k n v) v → ((a : ℕ) → List·Memᴰ a v → suc i ≤ a)
     → IsNormalForm k n (window k n (v ++ block k n i j)) (v ++ block k n i j)
 unfolding blocks
-level-put-back k n i j v h o g b c m f =
-    let s = normal-blocks k n (suc i) (window k n v) v h (omega arith) g m f in
+level-put-back {k} {n} i j {v} h o g b c m f =
+    let s = normal-blocks h (omega arith) g m f in
     let x : Indices k n i (j ∷ s .0) = level {i = i} {j = j} (omega arith) b c (s .1) in
     rw (s .2) (blocks-normal k n i (j ∷ s .0) h o (omega arith) x .0)
 
@@ -102,7 +102,7 @@ pub block-1-peeled : (k : Kind) (n : ℕ) (w : List ℤ) → least k ≤ n → W
 block-1-peeled k n w h p =
     let m = normalForm-least k n w h p in
     let f = normalForm k n w in
-    let s = level-peeled k n 1 w f h (omega arith) (one-le-levels k n h) m (λ a i. letters-of-accepted n f (m .steps) a i .0) in
+    let s = level-peeled h (omega arith) (one-le-levels k n h) m (λ a i. letters-of-accepted n f (m .steps) a i .0) in
     (s .0, s .1, s .2, s .3, s .5, s .6, normalForm-only k n (window k n (s .1)) (s .1) h (s .6), s .7, s .8, s .9)
 
 -- the rank 1 of A is the only one with one level
@@ -116,7 +116,7 @@ pub block-1-put-back : (k : Kind) (n j : ℕ) (v : List ℕ) → least k ≤ n �
     → ((a : ℕ) → List·Memᴰ a v → 2 ≤ a) → IsNormalForm k n (window k n (v ++ block k n 1 j)) (v ++ block k n 1 j)
 unfolding blocks
 block-1-put-back k n j v h c m f = elim (decLe 2 (levels k n)) [
-  | yes g ↦ level-put-back k n 1 j v h (omega arith) g (omega arith) c m f
+  | yes g ↦ level-put-back 1 j h (omega arith) g (omega arith) c m f
   | no g ↦
       let l : n ≤ 1 = one-level k n h (omega arith) in
       let one = one-le-levels k n h in

@@ -59,13 +59,13 @@ cut-first i n (x ∷ u) h =
 abbrev OneBlock : Kind → ℕ → ℕ → List ℕ → Type 0
 OneBlock k n i w = ((j : ℕ) × (i ≤ suc j) × (j ≤ lastIndex k n i) × (w ≡ block k n i j)) ⊎ Reducible k n w
 
-extended-word : (k : Kind) (n c i j : ℕ) (u : List ℕ) → Corner k n c → 1 ≤ i → i ≤ c → i ≤ suc j → j ≤ lastIndex k n i → (i ≤ j) ⊎ (suc j ≡ c)
+extended-word : (k : Kind) (n : ℕ) {c : ℕ} (i : ℕ) {j : ℕ} (u : List ℕ) → Corner k n c → 1 ≤ i → i ≤ c → i ≤ suc j → j ≤ lastIndex k n i → (i ≤ j) ⊎ (suc j ≡ c)
     → Letters i n u → OneBlock k n i (block k n i j ++ u)
-extended-word k n c i j [] e o h g m s t = inl (j, g, m, append-nil (block k n i j))
-extended-word k n c i j (x ∷ u) e o h g m s t =
+extended-word k n i {j} [] e o h g m s t = inl (j, g, m, append-nil (block k n i j))
+extended-word k n {c} i {j} (x ∷ u) e o h g m s t =
     rw (← append-assoc (block k n i j) (x ∷ []) u)
-    (elim (extended-letter k n c i j x e o h g m s (t .0) (t .1)) [
-      | inl r ↦ rw (r .3) (extended-word k n c i (r .0) u e o h (omega (arith, r .1)) (r .2) (inl (r .1)) (t .2))
+    (elim (extended-letter k n i x e o h g m s (t .0) (t .1)) [
+      | inl r ↦ rw (r .3) (extended-word k n i u e o h (omega (arith, r .1)) (r .2) (inl (r .1)) (t .2))
       | inr r ↦ inr (reducible-within [] u r)
     ])
 
@@ -76,7 +76,7 @@ one-block k n i u h o g l =
     let c = corner-levels k n h in
     let f = corner-le k n (levels k n) c in
     rw (block-one k n i h (omega arith)) at
-    (extended-word k n (levels k n) i i u c o g (omega arith) (le-lastIndex k n i i (omega arith) (omega arith)) (inl (omega arith)) l)
+    (extended-word k n i u c o g (omega arith) (le-lastIndex k n i i (omega arith) (omega arith)) (inl (omega arith)) l)
 
 -- ---- all levels
 
@@ -105,7 +105,7 @@ settled-from k n h zero i e u l =
     let m = le-lastIndex k n (suc i) i (omega arith) (omega arith) in
     rw (block-empty k n i (omega arith)) at
     (settled-level k n (suc i) [] (block k n (suc i) i ++ u) (omega arith) (inl ([], none (omega arith), refl))
-    (extended-word k n (levels k n) (suc i) i u c (omega arith) (omega arith) (omega arith) m (inr (omega arith)) l))
+    (extended-word k n (suc i) u c (omega arith) (omega arith) (omega arith) m (inr (omega arith)) l))
 settled-from k n h (suc t) i e u l =
     let c = corner-levels k n h in
     let f = corner-le k n (levels k n) c in
@@ -119,7 +119,7 @@ settled-from k n h (suc t) i e u l =
           rw z
           (rw (block-one k n (suc i) h (omega arith)) at
           (settled-level k n (suc i) p (block k n (suc i) (suc i) ++ s) (omega arith) (settled-from k n h t (suc i) (omega arith) p q)
-          (extended-word k n (levels k n) (suc i) (suc i) s c (omega arith) (omega arith) (omega arith) j (inl (omega arith)) m)))
+          (extended-word k n (suc i) s c (omega arith) (omega arith) (omega arith) j (inl (omega arith)) m)))
     ]
 
 -- a word over the letters from i on

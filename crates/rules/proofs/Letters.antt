@@ -118,8 +118,8 @@ carried-up k n i j h g = record {
   clear = λ b m. let s = mem-span b (i + 2) (suc j) m in (omega arith, commutes-below k n i b (s .0) (omega arith));
 }
 
-carried-turn : (k : Kind) (n i j c d : ℕ) → Corner k n c → i + 2 ≤ c → n ≤ j → j ≤ lastIndex k n i → d + j ≡ 2 * n → i + 2 ≤ d → 1 ≤ i → Carried k n i j
-carried-turn k n i j c d q h g l e f o = record {
+carried-turn : {k : Kind} {n i j : ℕ} (c d : ℕ) → Corner k n c → i + 2 ≤ c → n ≤ j → j ≤ lastIndex k n i → d + j ≡ 2 * n → i + 2 ≤ d → 1 ≤ i → Carried k n i j
+carried-turn {k} {n} {i} {j} c d q h g l e f o = record {
   rest = span (i + 2) c ++ slide (suc n) d;
   shape = block-turn k n i j c d q (omega arith) g l e o ∙ ap (λ (u : List ℕ). u ++ slide (suc n) d) (span-two i c h);
   clear = corner-clear k n c d i q h (corner-le k n c q) f;
@@ -133,11 +133,11 @@ carries-carried A n i j o h g = record {
   clear = λ b m. let s = mem-span b (i + 2) (suc j) m in omega arith;
 }
 carries-carried B n i j o h g = elim (decLe n j) [
-  | yes t ↦ carried-turn B n i j n (2 * n - j) refl (omega arith) t (omega arith) (omega arith) (omega arith) o
+  | yes t ↦ carried-turn n (2 * n - j) refl (omega arith) t (omega arith) (omega arith) (omega arith) o
   | no t ↦ carried-up B n i j h (lt-of-not-le t)
 ]
 carries-carried D n i j o h (inl g) = elim (decLe n j) [
-  | yes t ↦ carried-turn D n i j (n - 1) (2 * n - j) (omega arith) (omega arith) t (omega arith) (omega arith) (omega arith) o
+  | yes t ↦ carried-turn (n - 1) (2 * n - j) (omega arith) (omega arith) t (omega arith) (omega arith) (omega arith) o
   | no t ↦ carried-up D n i j h (lt-of-not-le t)
 ]
 carries-carried D n i j o h (inr g) = carried-up D n i j h (omega arith)

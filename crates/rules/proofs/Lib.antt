@@ -21,7 +21,6 @@ pub mod UsedRules
 pub mod Occurrences
 pub mod CallLists
 pub mod Unchanged
-pub mod Vectors
 pub mod Demand3
 pub mod SameUses
 pub mod Sentences

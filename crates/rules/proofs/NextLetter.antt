@@ -93,8 +93,8 @@ carries-rising B n x j h g = omega arith
 carries-rising D n x j h g = elim (decLe (x + 3) n) [ yes t ↦ inl (t, omega arith) | no t ↦ inr (omega arith, omega arith) ]
 
 -- the block is not empty, or only the top is left of its way up, as for the empty block of the last level
-pub next-rising : (k : Kind) (n c i j x : ℕ) → Corner k n c → (i ≤ j) ⊎ (suc j ≡ c) → j < n → i ≤ x → x ≤ n → Next k n c i j x
-next-rising k n c i j x e s h g l =
+pub next-rising : {k : Kind} {n c i j x : ℕ} → Corner k n c → (i ≤ j) ⊎ (suc j ≡ c) → j < n → i ≤ x → x ≤ n → Next k n c i j x
+next-rising {k} {n} {c} {i} {j} {x} e s h g l =
     elim (compared x j) [
       | less t ↦ carries t (omega arith) (le-lastIndex k n x j l (omega arith)) (carries-rising k n x j t h)
       | same t ↦ repeats (rising t (omega arith) h)
@@ -118,15 +118,15 @@ next-rising k n c i j x e s h g l =
 
 -- ---- after the turn
 
-next-lower : (k : Kind) (n c i j d x : ℕ) → n ≤ j → j ≤ lastIndex k n i → d + j ≡ 2 * n → 1 ≤ i → i ≤ x → x < d → Next k n c i j x
-next-lower A n c i j d x h g e o m t = carries (omega arith) (omega arith) g g
-next-lower B n c i j d x h g e o m t =
+next-lower : {k : Kind} {n c i j : ℕ} (d : ℕ) {x : ℕ} → n ≤ j → j ≤ lastIndex k n i → d + j ≡ 2 * n → 1 ≤ i → i ≤ x → x < d → Next k n c i j x
+next-lower {k = A} d h g e o m t = carries (omega arith) (omega arith) g g
+next-lower {k = B} d {x} h g e o m t =
     elim (compared (suc x) d) [
       | less q ↦ carries (omega arith) (omega arith) (omega arith) (omega arith)
       | same q ↦ falls h (omega arith) (omega arith)
       | more q ↦ absurd (omega arith)
     ]
-next-lower D n c i j d x h g e o m t =
+next-lower {k = D} {n} d {x} h g e o m t =
     elim (compared (suc x) d) [
       | less q ↦
           elim (compared (x + 2) n) [
@@ -138,15 +138,15 @@ next-lower D n c i j d x h g e o m t =
       | more q ↦ absurd (omega arith)
     ]
 
-next-higher : (k : Kind) (n c i j d x : ℕ) → n ≤ j → j ≤ lastIndex k n i → d + j ≡ 2 * n → d < x → x ≤ n → Next k n c i j x
-next-higher A n c i j d x h g e t l = absurd (omega arith)
-next-higher B n c i j d x h g e t l =
+next-higher : {k : Kind} {n c i j : ℕ} (d : ℕ) {x : ℕ} → n ≤ j → j ≤ lastIndex k n i → d + j ≡ 2 * n → d < x → x ≤ n → Next k n c i j x
+next-higher {k = A} d h g e t l = absurd (omega arith)
+next-higher {k = B} d {x} h g e t l =
     elim (compared (d + 1) x) [
       | less q ↦ commutes {l = d} (falling h e) (omega arith)
       | same q ↦ turns {d = d} h e (omega arith) q (omega arith)
       | more q ↦ absurd (omega arith)
     ]
-next-higher D n c i j d x h g e t l =
+next-higher {k = D} {n} d {x} h g e t l =
     elim (compared (d + 2) n) [
       | less r ↦
           elim (compared (d + 1) x) [
@@ -164,12 +164,12 @@ next-higher D n c i j d x h g e t l =
       | more r ↦ commutes {l = d} (falling h e) (inr (inr (omega arith, omega arith)))
     ]
 
-pub next-falling : (k : Kind) (n c i j x : ℕ) → n ≤ j → j ≤ lastIndex k n i → 1 ≤ i → i ≤ n → i ≤ x → x ≤ n → Next k n c i j x
-next-falling k n c i j x h g o f m l =
+pub next-falling : {k : Kind} {n c i j x : ℕ} → n ≤ j → j ≤ lastIndex k n i → 1 ≤ i → i ≤ n → i ≤ x → x ≤ n → Next k n c i j x
+next-falling {k} {n} {c} {i} {j} {x} h g o f m l =
     let d : ℕ = 2 * n - j in
     let e : d + j ≡ 2 * n = omega (arith, lastIndex-le k n i) in
     elim (compared x d) [
-      | less t ↦ next-lower k n c i j d x h g e o m t
+      | less t ↦ next-lower d h g e o m t
       | same t ↦ repeats (falling {d = x} h (omega arith))
-      | more t ↦ next-higher k n c i j d x h g e t l
+      | more t ↦ next-higher d h g e t l
     ]

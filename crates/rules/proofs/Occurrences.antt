@@ -78,11 +78,11 @@ rewrote-exactly s k n u p before after a = (λ w. (w .answer, w .outputs), λ w.
 
 -- I19, CO3: the library's own call is refused, other than by 14, exactly with the number of the first of these
 -- checks that fails; T8 says when it is refused 14
-pub rewrite-refused-exactly : (k n : ℕ) (u : List ℕ) (p : ℕ) (before after : List ℕ) (a : Rewrite) → Rewrote single k n u p before after a
+pub rewrite-refused-exactly : {k n : ℕ} {u : List ℕ} {p : ℕ} {before after : List ℕ} {a : Rewrite} → Rewrote single k n u p before after a
     → (r : ℕ) → (r ≡ 14 → ⊥) → (a ≡ Refused r)
     ↔ ((firstOf ((5, wrongKind k) ∷ (6, wrongRank (kindOf k) n) ∷ (7, tooLong u) ∷ (8, wrongLetter n u) ∷ (12, pastEnd u p) ∷ []) ≡ r) × (r ≡ 0 → ⊥))
 unfolding rewriteAt rewriteBy
-rewrite-refused-exactly k n u p before after a w r f =
+rewrite-refused-exactly {k} {n} {u} {p} {before} w r f =
     elim (ℕ-discrete c 0) [
       | yes z ↦ (λ e. absurd (passed z (sym (w .answer) ∙ e)), λ t. absurd (t .1 (sym (t .0) ∙ z)))
       | no g ↦ (
@@ -102,11 +102,11 @@ rewrite-refused-exactly k n u p before after a w r f =
 
     by : (o : Option Rule) → rewriteBy single o u p before .answer ≡ Refused r → ⊥
     by none e = zero-not-one (cc)
-    by (some x) e = go (leb (length (rewritten x u p)) (length before)) e
+    by (some x) e = by-room (leb (length (rewritten x u p)) (length before)) e
       where
-        go : (t : Bool) → pick t (changed single x (rewritten x u p) before) (unchanged single (Refused 14) u before) .answer ≡ Refused r → ⊥
-        go true e = zero-not-one (cc)
-        go false e = f (cc)
+        by-room : (t : Bool) → pick t (changed single x (rewritten x u p) before) (unchanged single (Refused 14) u before) .answer ≡ Refused r → ⊥
+        by-room true e = zero-not-one (cc)
+        by-room false e = f (cc)
 
     passed : c ≡ 0 → rewriteAt single k n u p before .answer ≡ Refused r → ⊥
     passed z e = by (firstFitting (rules (kindOf k) n) u p) (rw (place-checks k n u p, eq-eqb c 0 z) at e)

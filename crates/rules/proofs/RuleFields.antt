@@ -224,7 +224,7 @@ commuting-listed k n i j low o l c = mem-of-listed k n low (commutation o l (com
 -- two rules with one left side are the same rule
 pub left-determines : (k : Kind) (n : ℕ) (x y : Rule) → least k ≤ n → List·Memᴰ x (rules k n) → List·Memᴰ y (rules k n) → x .left ≡ y .left → x ≡ y
 left-determines k n x y low p q e =
-    fitting-unique k n (x .left ++ []) 0 x y low p q (fits-at x [] [])
+    fitting-unique k n (x .left ++ []) 0 low p q (fits-at x [] [])
     (rw e (fits-at y [] []))
 
 -- R4: (n − 1) n is in D's list

@@ -212,41 +212,41 @@ unfolding walk
 walk-next k n i j x {s} v e z = rw (e, ne-eqb s 0 z)
 
 -- one letter of a block: the search goes on after it
-scan-longer : (k : Kind) (n i j x s : ℕ) → ((v : List ℕ) → scan k n (block k n i j ++ v) ≡ walk k n i j v)
+scan-longer : (k : Kind) (n i j x : ℕ) {s : ℕ} → ((v : List ℕ) → scan k n (block k n i j ++ v) ≡ walk k n i j v)
     → block k n i s ≡ block k n i j ++ (x ∷ []) → nextIndex n (levels k n) (lastIndex k n i) j x ≡ s → (s ≡ 0 → ⊥)
     → (v : List ℕ) → scan k n (block k n i s ++ v) ≡ walk k n i s v
-scan-longer k n i j x s w b e z v =
+scan-longer k n i j x w b e z v =
     ap (λ (u : List ℕ). scan k n (u ++ v)) b ∙ ap (scan k n) (append-assoc (block k n i j) (x ∷ []) v) ∙ w (x ∷ v) ∙ walk-next k n i j x v e z
 
 scan-one : (k : Kind) (n i : ℕ) → least k ≤ n → i ≤ n → (v : List ℕ) → scan k n (block k n i i ++ v) ≡ walk k n i i v
 unfolding scan
 scan-one k n i h l v = rw (block-one k n i h l)
 
-scan-up : (k : Kind) (n i t j : ℕ) → least k ≤ n → 1 ≤ i → j ≡ i + t → j < n → (v : List ℕ) → scan k n (block k n i j ++ v) ≡ walk k n i j v
-scan-up k n i zero j h o e g = let q : j ≡ i = omega arith in rw q (scan-one k n i h (omega arith))
-scan-up k n i (suc t) j h o e g =
-    scan-longer k n i (i + t) j j (scan-up k n i t (i + t) h o refl (omega arith))
+scan-up : (k : Kind) (n i t : ℕ) {j : ℕ} → least k ≤ n → 1 ≤ i → j ≡ i + t → j < n → (v : List ℕ) → scan k n (block k n i j ++ v) ≡ walk k n i j v
+scan-up k n i zero {j} h o e g = let q : j ≡ i = omega arith in rw q (scan-one k n i h (omega arith))
+scan-up k n i (suc t) {j} h o e g =
+    scan-longer k n i (i + t) j (scan-up k n i t h o refl (omega arith))
     (block-climb k n i (i + t) j (omega arith) (omega arith) g)
     (nextIndex-climb n (levels k n) (lastIndex k n i) (i + t) j (omega arith) g)
     (omega arith)
 
-scan-down : (k : Kind) (n i t j : ℕ) → least k ≤ n → 1 ≤ i → i < levels k n → j ≡ n + t → j ≤ lastIndex k n i
+scan-down : (k : Kind) (n i t : ℕ) {j : ℕ} → least k ≤ n → 1 ≤ i → i < levels k n → j ≡ n + t → j ≤ lastIndex k n i
     → (v : List ℕ) → scan k n (block k n i j ++ v) ≡ walk k n i j v
-scan-down k n i zero j h o l e g =
+scan-down k n i zero {j} h o l e g =
     let q : j ≡ n = omega arith in
     let c : ℕ = levels k n - 1 in
     let f : suc c ≡ levels k n = omega arith in
     let r : c < n = omega (arith, corner-le k n (levels k n) (corner-levels k n h)) in
     rw q
-    (scan-longer k n i c n n (scan-up k n i (c - i) c h o (omega arith) r)
+    (scan-longer k n i c n (scan-up k n i (c - i) h o (omega arith) r)
     (block-top k n (levels k n) i c (corner-levels k n h) o (omega arith) f)
     (nextIndex-top n (levels k n) (lastIndex k n i) c n f r refl)
     (omega arith))
-scan-down k n i (suc t) j h o l e g =
+scan-down k n i (suc t) {j} h o l e g =
     let x : ℕ = 2 * n - j in
     let q : j ≡ suc (n + t) = omega arith in
     let f : suc (x + (n + t)) ≡ 2 * n = omega (arith, lastIndex-le k n i) in
-    scan-longer k n i (n + t) x j (scan-down k n i t (n + t) h o l refl (omega arith))
+    scan-longer k n i (n + t) x (scan-down k n i t h o l refl (omega arith))
     (ap (block k n i) q ∙ block-fall k n (levels k n) i (n + t) x (corner-levels k n h) o (omega arith) (omega arith) (omega arith) f)
     (nextIndex-fall n (levels k n) (lastIndex k n i) (n + t) x (omega arith) (omega arith) f ∙ sym q)
     (omega arith)
@@ -255,6 +255,6 @@ scan-down k n i (suc t) j h o l e g =
 pub scan-block : (k : Kind) (n i j : ℕ) → least k ≤ n → Along k n i j → (v : List ℕ) → scan k n (block k n i j ++ v) ≡ walk k n i j v
 scan-block k n i j h (start o l e) = rw e (scan-one k n i h l)
 scan-block k n i j h (further o l g f) = elim (decLe n j) [
-  | yes t ↦ scan-down k n i (j - n) j h o l (omega arith) f
-  | no t ↦ scan-up k n i (j - i) j h o (omega arith) (lt-of-not-le t)
+  | yes t ↦ scan-down k n i (j - n) h o l (omega arith) f
+  | no t ↦ scan-up k n i (j - i) h o (omega arith) (lt-of-not-le t)
 ]

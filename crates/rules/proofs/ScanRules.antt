@@ -37,8 +37,8 @@ use Rattle.coxeter.proofs.LetterLaws.{letter-within-cons}
 -- ---- what the search finds is a rule
 
 -- in the terms of the rules' side conditions: the letters beside the first, the end of a way, and a letter on it
-commutes-of-leaving : (k : Kind) (n i j x : ℕ) → least k ≤ n → j ≡ i → i < x → x ≤ n → Leaving n (levels k n) (lastIndex k n i) j x → Commutes k n i x
-commutes-of-leaving k n i j x h e t l w = elim (ℕ-discrete x n) [
+commutes-of-leaving : (k : Kind) {n i j x : ℕ} → least k ≤ n → j ≡ i → i < x → x ≤ n → Leaving n (levels k n) (lastIndex k n i) j x → Commutes k n i x
+commutes-of-leaving k {n} {i} {j} {x} h e t l w = elim (ℕ-discrete x n) [
   | yes g ↦ rw g (commutes-top k n (levels k n) i (corner-levels k n h) (omega arith) (λ z. w .not-top (omega arith) g (omega arith)))
   | no g ↦ let z : x ≡ suc j → ⊥ = w .not-up (omega arith) (omega arith) in commutes-below k n i x (omega arith) (omega arith)
 ]
@@ -68,16 +68,16 @@ carries-of-leaving D n i j e g m t w f = elim (ℕ-discrete (suc (i + j)) (2 * n
   ]
 ]
 
-leaving-listed : (k : Kind) (n i j x : ℕ) → least k ≤ n → Along k n i j → 1 ≤ x → x ≤ n → Leaving n (levels k n) (lastIndex k n i) j x
+leaving-listed : {k : Kind} {n i j x : ℕ} → least k ≤ n → Along k n i j → 1 ≤ x → x ≤ n → Leaving n (levels k n) (lastIndex k n i) j x
     → (familyAt n (fork k n) i j x ≡ 0) ⊎ Listed k n (ruleAt k n i j x (familyAt n (fork k n) i j x))
-leaving-listed k n i j x h (start p q e) o l w =
+leaving-listed {k} {n} {i} {j} {x} h (start p q e) o l w =
     elim (compared x i) [
       | less t ↦ inl (familyAt-below n (fork k n) i j x e t)
       | same t ↦ inr (rw (familyAt-square n (fork k n) i j x e t, e, t) (rw (ruleAt-square k n i h q) (square p q)))
       | more t ↦ inr (rw (familyAt-commute n (fork k n) i j x e t, e)
-          (rw (ruleAt-commute k n i x h q) (commutation p l (commutes-of-leaving k n i j x h e t l w))))
+          (rw (ruleAt-commute k n i x h q) (commutation p l (commutes-of-leaving k h e t l w))))
     ]
-leaving-listed k n i j x h (further p q e m) o l w = elim (ℕ-discrete (i + j) (2 * n)) [ yes t ↦ after t | no t ↦ inside t ]
+leaving-listed {k} {n} {i} {j} {x} h (further p q e m) o l w = elim (ℕ-discrete (i + j) (2 * n)) [ yes t ↦ after t | no t ↦ within-block t ]
   where
     forked : i + j ≡ 2 * n → i ≡ fork k n → (familyAt n (fork k n) i j x ≡ 0) ⊎ Listed k n (ruleAt k n i j x (familyAt n (fork k n) i j x))
     forked t f =
@@ -109,8 +109,8 @@ leaving-listed k n i j x h (further p q e m) o l w = elim (ℕ-discrete (i + j) 
         inr (rw (familyAt-carry n (fork k n) i j x e t r f, r)
         (rw (ruleAt-carry k n i j) (carry p e (carries-of-leaving k n i j e q m t (rw r at (w .not-down)) f))))
 
-    inside : (i + j ≡ 2 * n → ⊥) → (familyAt n (fork k n) i j x ≡ 0) ⊎ Listed k n (ruleAt k n i j x (familyAt n (fork k n) i j x))
-    inside t =
+    within-block : (i + j ≡ 2 * n → ⊥) → (familyAt n (fork k n) i j x ≡ 0) ⊎ Listed k n (ruleAt k n i j x (familyAt n (fork k n) i j x))
+    within-block t =
         elim (ℕ-discrete x i) [
           | yes r ↦ elim (ℕ-discrete j n) [
             | yes g ↦ elim (ℕ-discrete i (fork k n)) [
@@ -146,29 +146,29 @@ found-some k n i j x f r e = elim (ℕ-discrete f 0) [
   | no z ↦ (z, sym (Option·some-injective (ruleAt k n i j x f) r (rw (ne-eqb f 0 z) at e)))
 ]
 
-found-begins : (k : Kind) (n i j x : ℕ) (v : List ℕ) (r : Rule) → least k ≤ n → Along k n i j → 1 ≤ x → x ≤ n → Leaving n (levels k n) (lastIndex k n i) j x
+found-begins : {k : Kind} {n i j x : ℕ} (v : List ℕ) {r : Rule} → least k ≤ n → Along k n i j → 1 ≤ x → x ≤ n → Leaving n (levels k n) (lastIndex k n i) j x
     → found k n i j x (familyAt n (fork k n) i j x) ≡ some r → Begins k n (block k n i j ++ (x ∷ v)) r
-found-begins k n i j x v r h a o l w e =
+found-begins {k} {n} {i} {j} {x} v {r} h a o l w e =
     let f = familyAt n (fork k n) i j x in
     let s = found-some k n i j x f r e in (
-      subst⁻¹ (Listed k n) (s .1) (⊎-elim (λ z. absurd (s .0 z)) (λ q. q) (leaving-listed k n i j x h a o l w)),
+      subst⁻¹ (Listed k n) (s .1) (⊎-elim (λ z. absurd (s .0 z)) (λ q. q) (leaving-listed h a o l w)),
       (v, sym (ap (λ (y : List ℕ). y ++ v) (left-of k n r i j x f (s .1)) ∙ append-assoc (block k n i j) (x ∷ []) v)),
     )
 
-walk-begins : (k : Kind) (n i j : ℕ) (v : List ℕ) (r : Rule) → least k ≤ n → Along k n i j → wrongLetter n v ≡ false → walk k n i j v ≡ some r
+walk-begins : {k : Kind} {n i j : ℕ} (v : List ℕ) {r : Rule} → least k ≤ n → Along k n i j → wrongLetter n v ≡ false → walk k n i j v ≡ some r
     → Begins k n (block k n i j ++ v) r
 unfolding walk
-walk-begins k n i j [] r h a w e = absurd (Option·none-ne-some r e)
-walk-begins k n i j (x ∷ v) r h a w e =
+walk-begins [] {r} h a w e = absurd (Option·none-ne-some r e)
+walk-begins {k} {n} {i} {j} (x ∷ v) {r} h a w e =
     step (nextIndex n (levels k n) (lastIndex k n i) j x) (going n (levels k n) (lastIndex k n i) j x (letter-within-cons n x v w .1))
-    (λ s b q. walk-begins k n i s v r h b (letter-within-cons n x v w .2) q) e
+    (λ s b q. walk-begins v h b (letter-within-cons n x v w .2) q) e
   where
     step : (s : ℕ) → Going n (levels k n) (lastIndex k n i) j x s → ((s : ℕ) → Along k n i s → walk k n i s v ≡ some r → Begins k n (block k n i s ++ v) r)
         → pick (eqb s 0) (found k n i j x (familyAt n (fork k n) i j x)) (walk k n i s v) ≡ some r → Begins k n (block k n i j ++ (x ∷ v)) r
     step s g ih q = elim (ℕ-discrete s 0) [ yes z ↦ left z | no z ↦ stays z ]
       where
         left : s ≡ 0 → Begins k n (block k n i j ++ (x ∷ v)) r
-        left z = found-begins k n i j x v r h a (letter-within-cons n x v w .0) (letter-within-cons n x v w .1) (leaving-of g z) (rw (eq-eqb s 0 z) at q)
+        left z = found-begins v h a (letter-within-cons n x v w .0) (letter-within-cons n x v w .1) (leaving-of g z) (rw (eq-eqb s 0 z) at q)
 
         stays : (s ≡ 0 → ⊥) → Begins k n (block k n i j ++ (x ∷ v)) r
         stays z =
@@ -181,7 +181,7 @@ unfolding scan wrongLetter
 scan-begins k n [] r h w e = absurd (Option·none-ne-some r e)
 scan-begins k n (i ∷ v) r h w e =
     let g = letter-within-cons n i v w in
-    rw (block-one k n i h (g .1)) at (walk-begins k n i i v r h (start (g .0) (g .1) refl) (g .2) e)
+    rw (block-one k n i h (g .1)) at (walk-begins v h (start (g .0) (g .1) refl) (g .2) e)
 
 -- ---- at most one rule fits
 
@@ -193,20 +193,20 @@ scan-of-fits k n u p x h m f =
     let s = begins-split (x .left) (drop p u) f in
     rw (s .1) (scan-left k n x h (listed-of-mem k n h x m) (s .0))
 
-pub fitting-unique : (k : Kind) (n : ℕ) (u : List ℕ) (p : ℕ) (x y : Rule) → least k ≤ n → List·Memᴰ x (rules k n) → List·Memᴰ y (rules k n)
+pub fitting-unique : (k : Kind) (n : ℕ) (u : List ℕ) (p : ℕ) {x y : Rule} → least k ≤ n → List·Memᴰ x (rules k n) → List·Memᴰ y (rules k n)
     → fits x u p ≡ true → fits y u p ≡ true → x ≡ y
-fitting-unique k n u p x y h m q f g =
+fitting-unique k n u p {x} {y} h m q f g =
     Option·some-injective x y (sym (scan-of-fits k n u p x h m f) ∙ scan-of-fits k n u p y h q g)
 
 pub scan-is-firstFitting : (k : Kind) (n : ℕ) → least k ≤ n → (u : List ℕ) (p : ℕ) → wrongLetter n u ≡ false
     → scan k n (drop p u) ≡ firstFitting (rules k n) u p
 unfolding fits
-scan-is-firstFitting k n h u p w = go (scan k n (drop p u)) refl (firstFitting (rules k n) u p) refl
+scan-is-firstFitting k n h u p w = scan-is-firstFitting-by-cases (scan k n (drop p u)) refl (firstFitting (rules k n) u p) refl
   where
-    go : (a : Option Rule) → scan k n (drop p u) ≡ a → (b : Option Rule) → firstFitting (rules k n) u p ≡ b → a ≡ b
-    go none e none q = refl
-    go a e (some y) q = let s = firstFitting-some (rules k n) u p y q in sym e ∙ scan-of-fits k n u p y h (s .0) (s .1)
-    go (some x) e none q =
+    scan-is-firstFitting-by-cases : (a : Option Rule) → scan k n (drop p u) ≡ a → (b : Option Rule) → firstFitting (rules k n) u p ≡ b → a ≡ b
+    scan-is-firstFitting-by-cases none e none q = refl
+    scan-is-firstFitting-by-cases a e (some y) q = let s = firstFitting-some (rules k n) u p y q in sym e ∙ scan-of-fits k n u p y h (s .0) (s .1)
+    scan-is-firstFitting-by-cases (some x) e none q =
         let s = scan-begins k n (drop p u) x h (wrongLetter-drop n p u w) e in
         let f : fits x u p ≡ true = rw (s .1 .1) (begins-append (x .left) (s .1 .0)) in
         absurd (true≢false (sym f ∙ firstFitting-none (rules k n) u p q x (mem-of-listed k n h (s .0))))

@@ -57,6 +57,6 @@ module _ (k n : ℕ) (u : List ℕ) (p : ℕ) (out : List ℕ) where
   rewrite-noneFits-unchanged = kept-stays NoneFits (λ f i j l e. zero-not-one (cc)) (rewriteAt-kept k n u p out)
 
 -- D6, I19: a call that is refused leaves its output as it was lent, whatever it was given
-pub refused-rewrite-unchanged : (k n : ℕ) (u : List ℕ) (p : ℕ) (before after : List ℕ) (a : Rewrite) → Rewrote single k n u p before after a
+pub refused-rewrite-unchanged : {k n : ℕ} {u : List ℕ} {p : ℕ} {before after : List ℕ} {a : Rewrite} → Rewrote single k n u p before after a
     → (r : ℕ) → a ≡ Refused r → after ≡ before
-refused-rewrite-unchanged k n u p before after a w r e = w .outputs ∙ rewrite-refused-unchanged k n u p before r (sym (w .answer) ∙ e) .0
+refused-rewrite-unchanged {k} {n} {u} {p} {before} w r e = w .outputs ∙ rewrite-refused-unchanged k n u p before r (sym (w .answer) ∙ e) .0

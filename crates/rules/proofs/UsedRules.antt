@@ -31,7 +31,7 @@ usable-first : (s : Interface) (k n : ℕ) (v : List ℕ) (a : Arguments s) (x :
     → firstFitting (rules (kindOf k) n) v (a .place) ≡ some x
 usable-first s k n v a x b =
     firstFitting-of-unique (rules (kindOf k) n) v (a .place) x (b .listed) (b .fitting)
-    (λ y m f. fitting-unique (kindOf k) n v (a .place) y x (accepted-least (b .accepted)) m (b .listed) f (b .fitting))
+    (λ y m f. fitting-unique (kindOf k) n v (a .place) (accepted-least (b .accepted)) m (b .listed) f (b .fitting))
 
 -- and it is used there if no check refuses
 pub usable-changed : (s : Interface) (k n : ℕ) (v : List ℕ) (a : Arguments s) (x : Rule) → Usable s k n v a x
@@ -74,7 +74,7 @@ module _ {s : Interface} (law : Lawful s) where
     -- at most one rule fits at the place
     same-rule : (y x : Rule) → List·Memᴰ y (rules (kindOf k) n) → List·Memᴰ x (rules (kindOf k) n)
         → fits y v (a .place) ≡ true → fits x v (a .place) ≡ true → y ≡ x
-    same-rule y x = fitting-unique (kindOf k) n v (a .place) y x (accepted-least h)
+    same-rule y x = fitting-unique (kindOf k) n v (a .place) (accepted-least h)
 
     -- no rule is usable where the result has no new word
     unusable : {t : Transition s} → s .newWord (t .answer) (t .outputs) ≡ none → ((x : Rule) → Usable s k n v a x → ⊥)
@@ -123,7 +123,8 @@ module _ {s : Interface} (law : Lawful s) where
         let read = law .used-read x w (a .outputs) in
         let is : IsUsed s (resultOf (changed s x w (a .outputs))) = (w, read) in
         let not : (b : s .Answer) → ((o : s .Outputs) → s .newWord b o ≡ none) → s .used x (length w) ≡ b → ⊥ =
-        λ b z g. Option·none-ne-some w (sym (z (s .written x w (a .outputs))) ∙ subst (λ (c : s .Answer). s .newWord c (s .written x w (a .outputs)) ≡ some w) g read) in
+        λ b z g. Option·none-ne-some w (sym (z (s .written x w (a .outputs)))
+        ∙ subst (λ (c : s .Answer). s .newWord c (s .written x w (a .outputs)) ≡ some w) g read) in
         record {
           no-fifth = inl is;
           none-fits-exactly = (λ z. absurd (not _ (law .none-unused) z), λ g. absurd (true≢false (sym (f .1) ∙ g .1 x (f .0))));

@@ -128,9 +128,9 @@ module _ (k n set : ℕ) (u first second : List ℕ) (a b : ℕ) (x y : List ℕ
   split-past = rw (h .1, h .2) (splitting-past k n set u first second a b (sym (h .0)))
 
 -- S8
-pub first-empty : (k n : ℕ) (u first second : List ℕ) (a b : ℕ) (x y : List ℕ) → SplitYields (splitting k n 0 u first second) (Words a b) x y
+pub first-empty : (k n : ℕ) (u first second : List ℕ) {a : ℕ} (b : ℕ) (x y : List ℕ) → SplitYields (splitting k n 0 u first second) (Words a b) x y
     → (a ≡ 0) × (take a x ≡ [])
-first-empty k n u first second a b x y h =
+first-empty k n u first second {a} b x y h =
     let r = rank-within k n (splitting-accepted k n 0 u first second a b (sym (h .0))) .0 in
     let p = window-passes (kindOf k) n u in
     let s = split k n 0 u first second a b x y h in

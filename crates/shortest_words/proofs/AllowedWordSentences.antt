@@ -27,7 +27,8 @@ use Rattle.coxeter.proofs.AnswersExactly.{answerOf-exactly}
 use Rattle.shortest_words.specs.Allowed.{Over, allows, setRefusal}
 use Rattle.shortest_words.specs.Between.{IsBetween, between}
 use Rattle.shortest_words.specs.BetweenCalls.{unreachable, betweenRefusal, betweenWindows}
-use Rattle.shortest_words.proofs.BetweenCalls.{between-leading, between-answers, between-of-word, between-refuses-19, between-equal, betweenWindows-unchanged}
+use Rattle.shortest_words.proofs.BetweenCalls.{between-leading, between-answers, between-of-word, between-refuses-19, between-equal}
+use Rattle.shortest_words.proofs.BetweenCalls.{betweenWindows-unchanged}
 use Rattle.shortest_words.proofs.AllowedSentences.{set-passes, set-refuses}
 
 -- ---- a way, the word
@@ -126,8 +127,8 @@ module _ (k n set : ℕ) (v w : List ℤ) (out : List ℕ) (a : Answer) (after :
   between-unchanged r e = h .1 ∙ betweenWindows-unchanged k n set v w out r (sym (h .0) ∙ e)
 
 -- A5: whatever steps are allowed and however short the output
-pub empty-where-equal : (k n set : ℕ) (v : List ℤ) (out : List ℕ) (a : Answer) (after : List ℕ) → Yields (betweenWindows k n set v v out) a after
+pub empty-where-equal : (k n set : ℕ) (v : List ℤ) {out : List ℕ} {a : Answer} {after : List ℕ} → Yields (betweenWindows k n set v v out) a after
     → RankOf k n → ((s : ℕ) → n < s → allows set s ≡ true → ⊥) → WindowOf (kindOf k) n v → (a ≡ answer.Length 0) × (after ≡ out)
-empty-where-equal k n set v out a after h r f p =
+empty-where-equal k n set v {out} h r f p =
     let e = between-equal k n set v out (set-passes k n set .1 (r, f)) p in
     (h .0 ∙ ap (λ (o : Outcome ℕ). o .answer) e, h .1 ∙ ap (λ (o : Outcome ℕ). o .bytes) e)

@@ -26,7 +26,8 @@ use Rattle.coxeter.proofs.Order.{less, same, more, compared}
 use Rattle.coxeter.proofs.NormalForms.{window-normalForm, normalForm-letters}
 use Rattle.coxeter.proofs.Lengths.{length-normalForm}
 use Rattle.shortest_words.specs.OneLetter.{Shortest, dropAt, Removable, added, OneLetter}
-use Rattle.shortest_words.proofs.Subwords.{Subword, leave, subword-whole, subword-append, none, subword-letters, subword-of-dropAt, length-dropAt, dropAt-of-subword}
+use Rattle.shortest_words.proofs.Subwords.{Subword, leave, subword-whole, subword-append, none, subword-letters, subword-of-dropAt}
+use Rattle.shortest_words.proofs.Subwords.{length-dropAt, dropAt-of-subword}
 use Rattle.shortest_words.proofs.Carrying.{Carried}
 use Rattle.shortest_words.proofs.Shortest.{letters-snoc, windowLength-le, length-of-shortest, shortest-of-length, shortest-carries}
 
@@ -40,10 +41,10 @@ removable-of-carried k n z u v c l =
     (d .0, (d .1, sym (congruent-window k n (c .link) ∙ ap (window k n) (d .2))))
 
 -- z has the window of u, and is the normal form of a shorter window with one letter more
-deleted : (k : Kind) (n : ℕ) (u z : List ℕ) (w : List ℤ) → least k ≤ n → wrongLetter n u ≡ false → Accepted k n w
+deleted : {k : Kind} {n : ℕ} (u : List ℕ) {z : List ℕ} {w : List ℤ} → least k ≤ n → wrongLetter n u ≡ false → Accepted k n w
     → windowLength k w < windowLength k (window k n u) → wrongLetter n z ≡ false → window k n z ≡ window k n u
     → Subword z (normalForm k n w) → length z ≡ suc (length (normalForm k n w)) → (i : ℕ) × Removable k n u w i
-deleted k n u z w h e a g f q p l =
+deleted {k} {n} u {z} {w} h e a g f q p l =
     let short : length z ≤ windowLength k (window k n z) = omega (arith, length-normalForm k n w a, ap (windowLength k) q) in
     let c = shortest-carries k n z u h (shortest-of-length k n z h f short) e q (normalForm k n w) p in
     subst (λ (x : List ℤ). (i : ℕ) × Removable k n u x i) (window-normalForm k n w a) (removable-of-carried k n z u (normalForm k n w) c l)
@@ -66,7 +67,7 @@ module _ (k : Kind) (n : ℕ) (u : List ℕ) (s : ℕ) (h : least k ≤ n) (e : 
       let v : List ℕ = normalForm k n w in
       let shows : window k n (v ++ (s ∷ [])) ≡ window k n u =
       window-snoc k n v s ∙ ap (act k n s) (window-normalForm k n w a ∙ window-snoc k n u s) ∙ act-involution k n s (window k n u) in
-      deleted k n u (v ++ (s ∷ [])) w h e a g (letters-snoc n v s (normalForm-letters k n w a) o l) shows
+      deleted u h e a g (letters-snoc n v s (normalForm-letters k n w a) o l) shows
       (rw append-nil at (subword-append (subword-whole v) (leave {a = s} none))) (simp length-append (omega arith))
 
   -- the same for a step at the front
@@ -78,7 +79,7 @@ module _ (k : Kind) (n : ℕ) (u : List ℕ) (s : ℕ) (h : least k ≤ n) (e : 
       let shows : window k n (s ∷ v) ≡ window k n u =
       window-append k n (s ∷ []) v ∙ ap (product (window k n (s ∷ []))) (window-normalForm k n w a)
       ∙ sym (window-append k n (s ∷ []) (s ∷ u)) ∙ window-twice k n s u in
-      deleted k n u (s ∷ v) w h e a g (wrongLetter-cons n s v o l ∙ normalForm-letters k n w a) shows (leave (subword-whole v)) refl
+      deleted u h e a g (wrongLetter-cons n s v o l ∙ normalForm-letters k n w a) shows (leave (subword-whole v)) refl
 
 -- ---- cancelling
 

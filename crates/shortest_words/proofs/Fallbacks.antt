@@ -45,9 +45,9 @@ fallback-length k n u w h e f =
     rw (← p .shows) (omega (arith, windowLength-le k n (p .word) h (subword-letters n (p .subword) e), subword-length (p .subword)))
 
 -- the fallbacks of a shortest word are fallbacks of every word that has its window as one
-pub fallback-through : (k : Kind) (n : ℕ) (u z : List ℕ) (w : List ℤ) → least k ≤ n → wrongLetter n u ≡ false → Shortest k n z
+pub fallback-through : {k : Kind} {n : ℕ} (u : List ℕ) {z : List ℕ} (w : List ℤ) → least k ≤ n → wrongLetter n u ≡ false → Shortest k n z
     → HasSubword k n u (window k n z) → HasSubword k n z w → HasSubword k n u w
-fallback-through k n u z w h e s f g =
+fallback-through {k} {n} u {z} w h e s f g =
     let p = subword-of-fallback k n u (window k n z) f in
     let q = subword-of-fallback k n z w g in
     let c = shortest-carries k n z (p .word) h s (subword-letters n (p .subword) e) (sym (p .shows)) (q .word) (q .subword) in
@@ -57,8 +57,8 @@ fallback-through k n u z w h e s f g =
 pub fallback-shortest : (k : Kind) (n : ℕ) (u v : List ℕ) (w : List ℤ) → least k ≤ n → Shortest k n u → Shortest k n v → window k n u ≡ window k n v
     → HasSubword k n u w ↔ HasSubword k n v w
 fallback-shortest k n u v w h s t e = (
-  fallback-through k n v u w h (t .steps) s (rw e (fallback-whole k n v)),
-  fallback-through k n u v w h (s .steps) t (rw (← e) (fallback-whole k n u)),
+  fallback-through v w h (t .steps) s (rw e (fallback-whole k n v)),
+  fallback-through u w h (s .steps) t (rw (← e) (fallback-whole k n u)),
 )
 
 -- ---- the verdict
@@ -91,7 +91,7 @@ module _ (k : Kind) (n : ℕ) (h : least k ≤ n) where
   -- a fallback of a fallback is a fallback
   pub verdict-trans : (z y x : List ℕ) → FallbackOf k n z y → FallbackOf k n y x → FallbackOf k n z x
   verdict-trans z y x f g =
-      fallback-through k n (wordNormalForm k n z) (wordNormalForm k n y) (window k n x) h (normal-shortest z .steps) (normal-shortest y)
+      fallback-through (wordNormalForm k n z) (window k n x) h (normal-shortest z .steps) (normal-shortest y)
       (rw (normal-window y) f) g
 
   -- a fallback is at most as long

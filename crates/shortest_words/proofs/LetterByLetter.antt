@@ -46,11 +46,11 @@ subwordAt-exactly u ps = (many ps, each ps)
 pub dropped-exactly : ((x y : List ℕ) (a : ℕ) → dropAt (length x) (x ++ (a ∷ y)) ≡ x ++ y)
     × ((i : ℕ) (u : List ℕ) → length u ≤ i → dropAt i u ≡ u)
 unfolding dropAt
-dropped-exactly = (inside, past)
+dropped-exactly = (dropAt-length, past)
   where
-    inside : (x y : List ℕ) (a : ℕ) → dropAt (length x) (x ++ (a ∷ y)) ≡ x ++ y
-    inside [] y a = refl
-    inside (b ∷ x) y a = ap (λ (l : List ℕ). b ∷ l) (inside x y a)
+    dropAt-length : (x y : List ℕ) (a : ℕ) → dropAt (length x) (x ++ (a ∷ y)) ≡ x ++ y
+    dropAt-length [] y a = refl
+    dropAt-length (b ∷ x) y a = ap (λ (l : List ℕ). b ∷ l) (dropAt-length x y a)
 
     past : (i : ℕ) (u : List ℕ) → length u ≤ i → dropAt i u ≡ u
     past i [] h = refl

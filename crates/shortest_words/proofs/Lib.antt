@@ -32,4 +32,3 @@ pub mod AllowedWordSentences
 pub mod SplitSentences
 pub mod BetweenSentences
 pub mod Vectors
-pub mod BetweenVectors

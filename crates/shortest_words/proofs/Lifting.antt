@@ -21,7 +21,8 @@ use Rattle.coxeter.proofs.Steps.{act-involution}
 use Rattle.shortest_words.specs.OneLetter.{dropAt, added}
 use Rattle.shortest_words.specs.Descents.{isDescent}
 use Rattle.shortest_words.specs.Fallback.{HasSubword}
-use Rattle.shortest_words.proofs.Subwords.{Subword, none, keep, leave, subword-trans, subword-append, subword-letters, subword-of-dropAt, Split, both, subword-split}
+use Rattle.shortest_words.proofs.Subwords.{Subword, none, keep, leave, subword-trans, subword-append, subword-letters}
+use Rattle.shortest_words.proofs.Subwords.{subword-of-dropAt, Split, both, subword-split}
 use Rattle.shortest_words.proofs.Exchange.{window-snoc, exchange}
 use Rattle.shortest_words.proofs.Places.{SubwordWith, subword-of-fallback, fallback-of-subword}
 use Rattle.shortest_words.proofs.Descents.{length-of-descent, length-of-ascent}

@@ -86,7 +86,7 @@ exactly-one k n u w d = (
 )
 
 -- X2, X3
-pub one-letter-accepted : (k n : ℕ) (u : List ℕ) (s : ℕ) (w : List ℤ) → RankOf k n → wrongLetter n u ≡ false
+pub one-letter-accepted : (k n : ℕ) (u : List ℕ) (s : ℕ) {w : List ℤ} → RankOf k n → wrongLetter n u ≡ false
     → ((v : List ℕ) → wrongLetter n v ≡ false → window (kindOf k) n v ≡ window (kindOf k) n u → length u ≤ length v) → 1 ≤ s → s ≤ n
     → (w ≡ window (kindOf k) n (u ++ (s ∷ []))) ⊎ (w ≡ window (kindOf k) n (s ∷ u))
     → (windowLength (kindOf k) w < windowLength (kindOf k) (window (kindOf k) n u)
@@ -94,7 +94,7 @@ pub one-letter-accepted : (k n : ℕ) (u : List ℕ) (s : ℕ) (w : List ℤ) �
     × ((j : ℕ) → j < length u → window (kindOf k) n (dropAt j u) ≡ w → j ≡ i))
     × (windowLength (kindOf k) (window (kindOf k) n u) < windowLength (kindOf k) w
     → (i : ℕ) → i < length u → window (kindOf k) n (dropAt i u) ≡ w → ⊥)
-one-letter-accepted k n u s w r letters shortest low high e =
+one-letter-accepted k n u s {w} r letters shortest low high e =
     let d = oneLetter-accepted k n u s r (record { steps = letters; none-shorter = shortest }) low high in
     let of : (v : List ℤ) → w ≡ v → OneLetter (kindOf k) n u v → OneLetter (kindOf k) n u w = λ v q. subst (OneLetter (kindOf k) n u) (sym q) in
     exactly-one (kindOf k) n u w (elim e [ inl q ↦ of _ q (d .0) | inr q ↦ of _ q (d .1) ])

@@ -204,11 +204,11 @@ module _ (k n : ℕ) (present simpler places : List ℕ) (a : Fallback) (after :
       )
 
 -- F6: present words of one window get the same answer
-pub same-answer : (k n : ℕ) (present other simpler places : List ℕ) (a b : Fallback) (after also : List ℕ)
+pub same-answer : {k n : ℕ} {present other simpler places : List ℕ} {a b : Fallback} {after also : List ℕ}
     → FellBack k n present simpler places a after → FellBack k n other simpler places b also
     → WordOf n present → WordOf n other → window (kindOf k) n present ≡ window (kindOf k) n other → a ≡ b
 unfolding fallbackAnswer isFallback
-same-answer k n present other simpler places a b after also f g p q e =
+same-answer {k} {n} {present} {other} {simpler} {places} f g p q e =
     let same : fallbackAnswer k n present simpler places ≡ fallbackAnswer k n other simpler places = rw (p, q, e) in
     f .answer ∙ same ∙ sym (g .answer)
 

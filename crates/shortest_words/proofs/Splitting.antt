@@ -39,9 +39,9 @@ record Left (k : Kind) (n : ℕ) (v : List ℕ) (w : List ℤ) : Type 0 where
   shortest : Shortest k n word
   shows : window k n word ≡ w
 
-left : (allowed : ℕ → Bool) (k : Kind) (n : ℕ) (u v : List ℕ) (w : List ℤ) → least k ≤ n → wrongLetter n (u ++ v) ≡ false → Over allowed u
+left : (allowed : ℕ → Bool) {k : Kind} {n : ℕ} (u : List ℕ) {v : List ℕ} {w : List ℤ} → least k ≤ n → wrongLetter n (u ++ v) ≡ false → Over allowed u
     → NoneBegins allowed k n w → window k n (u ++ v) ≡ w → Left k n v w
-left allowed k n u v w h e o b q = cases (subword-split u (r .subword)) refl
+left allowed {k} {n} u {v} {w} h e o b q = cases (subword-split u (r .subword)) refl
   where
     r : Shortened k n (u ++ v)
     r = shortened k n (u ++ v) h e
@@ -86,7 +86,7 @@ module _ (allowed : ℕ → Bool) (k : Kind) (n : ℕ) (u v x y : List ℕ) (h :
   across : Halves allowed k n u v → Halves allowed k n x y → window k n (u ++ v) ≡ window k n (x ++ y) → Left k n v (window k n y)
   across a b q =
       let front = letters-append n (reverse x) u (letters-reverse n x (b .steps)) (a .steps) in
-      left allowed k n (reverse x ++ u) v (window k n y) h (letters-append n (reverse x ++ u) v front (a .shortest .steps))
+      left allowed (reverse x ++ u) h (letters-append n (reverse x ++ u) v front (a .shortest .steps))
       (over-append allowed (reverse x) u (over-reverse allowed x (b .over)) (a .over)) (b .none-begins) (reversed-front k n u v x y q)
 
 -- a shortest word of the window of y is as long as y
@@ -94,9 +94,9 @@ left-length : (k : Kind) (n : ℕ) (v y : List ℕ) → least k ≤ n → Shorte
 left-length k n v y h s l = length-of-shortest k n (l .word) h (l .shortest) ∙ ap (windowLength k) (l .shows) ∙ sym (length-of-shortest k n y h s)
 
 -- two splits of one window have second words with one window, and first words with one window
-pub second-same : (allowed : ℕ → Bool) (k : Kind) (n : ℕ) (u v x y : List ℕ) → least k ≤ n → Halves allowed k n u v → Halves allowed k n x y
+pub second-same : {allowed : ℕ → Bool} {k : Kind} {n : ℕ} {u v x y : List ℕ} → least k ≤ n → Halves allowed k n u v → Halves allowed k n x y
     → window k n (u ++ v) ≡ window k n (x ++ y) → window k n v ≡ window k n y
-second-same allowed k n u v x y h a b q =
+second-same {allowed} {k} {n} {u} {v} {x} {y} h a b q =
     let l = across allowed k n u v x y h a b q in
     let r = across allowed k n x y u v h b a (sym q) in
     let short = left-length k n v y h (b .shortest) l in
@@ -116,15 +116,19 @@ halves allowed k n w u v h s =
     record { steps = s .first-normal .steps; over = s .over; shortest = shortest-normal k n v h (s .second-normal); none-begins = s .none-begins }
 
 -- S7
-pub split-unique : (allowed : ℕ → Bool) (k : Kind) (n : ℕ) (w : List ℤ) (u v x y : List ℕ) → least k ≤ n → IsSplit allowed k n w u v
+pub split-unique : {allowed : ℕ → Bool} {k : Kind} {n : ℕ} {w : List ℤ} {u v x y : List ℕ} → least k ≤ n → IsSplit allowed k n w u v
     → IsSplit allowed k n w x y → (u ≡ x) × (v ≡ y)
-split-unique allowed k n w u v x y h s t = (same u x first (s .first-normal) (t .first-normal), same v y second (s .second-normal) (t .second-normal))
+split-unique {allowed} {k} {n} {w} {u} {v} {x} {y} h s t = (
+  same u x first (s .first-normal) (t .first-normal),
+  same v y second (s .second-normal)
+      (t .second-normal),
+)
   where
     joined : window k n (u ++ v) ≡ window k n (x ++ y)
     joined = window-append k n u v ∙ s .joins ∙ sym (t .joins) ∙ sym (window-append k n x y)
 
     second : window k n v ≡ window k n y
-    second = second-same allowed k n u v x y h (halves allowed k n w u v h s) (halves allowed k n w x y h t) joined
+    second = second-same h (halves allowed k n w u v h s) (halves allowed k n w x y h t) joined
 
     first : window k n u ≡ window k n x
     first = first-same k n u v x y joined second

@@ -90,10 +90,10 @@ module _ (allowed : ℕ → Bool) (k : Kind) (n : ℕ) where
   strips-nothing x e = record { word = []; steps = refl; over = refl; leads = refl; lowers = omega arith; ended = e }
 
   -- one step more, before the others
-  pub strips-first : (x y : List ℤ) (s : ℕ) → least k ≤ n → Accepted k n x → 1 ≤ s → s ≤ n → allowed s ≡ true → isDescent k n s x ≡ true
+  pub strips-first : {x y : List ℤ} (s : ℕ) → least k ≤ n → Accepted k n x → 1 ≤ s → s ≤ n → allowed s ≡ true → isDescent k n s x ≡ true
       → Strips (act k n s x) y → Strips x y
   unfolding windowFrom
-  strips-first x y s h a o l is t r =
+  strips-first {x} s h a o l is t r =
       record {
         word = s ∷ r .word;
         steps = wrongLetter-cons n s (r .word) o l ∙ r .steps;
@@ -118,7 +118,7 @@ module _ (allowed : ℕ → Bool) (k : Kind) (n : ℕ) where
       cases (found {j} f) r =
           let m : j ≤ n = omega (arith, f .below) in
           let shorter = length-of-descent k n j x h (f .above) m a (f .shorter) in
-          strips-first x (after j) j h a (f .above) m (f .is-allowed) (f .shorter) (r j (omega (arith, shorter)))
+          strips-first j h a (f .above) m (f .is-allowed) (f .shorter) (r j (omega (arith, shorter)))
 
 -- ---- the two words
 
@@ -227,7 +227,7 @@ module _ (allowed : ℕ → Bool) (k : Kind) (n : ℕ) (w : List ℤ) (h : least
 
   -- and no other two words have them
   pub split-only : (u v : List ℕ) → IsSplit allowed k n w u v → (u ≡ firstWord allowed k n w) × (v ≡ secondWord allowed k n w)
-  split-only u v s = split-unique allowed k n w u v (firstWord allowed k n w) (secondWord allowed k n w) h s split-is
+  split-only u v s = split-unique h s split-is
 
   -- any list of allowed steps that strips the inverse leads to them, whichever step is taken when
   pub split-by-strips : (x : List ℤ) → Strips allowed k n (inverse w) x

@@ -137,7 +137,8 @@ fallback-case q t short l = elim (ℕ-discrete q 0) [
   | no f ↦ rw (ne-eqb q 0 f) (rw (ne-eqb q 0 f) (is-refused f))
 ]
   where
-    cases : q ≡ 0 → (b c : Bool) → t ≡ b → short ≡ c → FallbackCase q t short l (pick (eqb (check 14 (b && c)) 0) (pick b (Kept l) No) (Refused (check 14 (b && c))))
+    cases : q ≡ 0 → (b c : Bool) → t ≡ b → short ≡ c → FallbackCase q t short l
+        (pick (eqb (check 14 (b && c)) 0) (pick b (Kept l) No) (Refused (check 14 (b && c))))
     cases z true true e d = is-short z e d
     cases z true false e d = is-kept z e d
     cases z false c e d = is-no z e

@@ -103,7 +103,7 @@ module _ (k : Kind) (n : ℕ) (h : least k ≤ n) (a : List ℕ) (x : ℕ) (none
       pub lowest-of-ending : Lowest k n word (record { place = p; rule = r })
       lowest-of-ending = record {
         inside = rw length-append (omega (arith, ends-there, left-nonempty k n h r m));
-        fitting = firstFitting-of-unique (rules k n) word p r m fits-word (λ y i e. fitting-unique k n word p y r h i m e fits-word);
+        fitting = firstFitting-of-unique (rules k n) word p r m fits-word (λ y i e. fitting-unique k n word p h i m e fits-word);
         below = λ q l. none-firstFitting (rules k n) word q (λ t i. not-true (fits t word q) (before-it t i q l));
       }
 
@@ -117,9 +117,9 @@ letter-of-fits r u p t e l =
 
 -- a rule that fits and ends at place suc q begins with the lower of the letters at q and suc q, less than 2n places
 -- before
-pub first-of-ending : (k : Kind) (n : ℕ) → least k ≤ n → (r : Rule) → List·Memᴰ r (rules k n) → (u : List ℕ) (p q : ℕ) → fits r u p ≡ true
+pub first-of-ending : (k : Kind) (n : ℕ) → least k ≤ n → {r : Rule} → List·Memᴰ r (rules k n) → (u : List ℕ) (p : ℕ) {q : ℕ} → fits r u p ≡ true
     → p + length (r .left) ≡ suc (suc q) → (getD u p 0 ≡ lower (getD u q 0) (getD u (suc q) 0)) × (suc (suc q) ≤ p + 2 * n)
-first-of-ending k n h r m u p q f e =
+first-of-ending k n h {r} m u p {q} f e =
     let s = shape-of-rule k n h r m in
     let t : ℕ = q - p in
     let c : length (r .left) ≡ suc (length (s .tail)) = ap length (s .is) in
@@ -133,9 +133,9 @@ first-of-ending k n h r m u p q f e =
     (one ∙ s .lowest t (omega (arith, s .long)) ∙ rw (two, three), omega (arith, s .short))
 
 -- and below every letter between it and these two
-pub between-of-ending : (k : Kind) (n : ℕ) → least k ≤ n → (r : Rule) → List·Memᴰ r (rules k n) → (u : List ℕ) (p q : ℕ) → fits r u p ≡ true
+pub between-of-ending : (k : Kind) (n : ℕ) → least k ≤ n → {r : Rule} → List·Memᴰ r (rules k n) → (u : List ℕ) (p : ℕ) {q : ℕ} → fits r u p ≡ true
     → p + length (r .left) ≡ suc (suc q) → (t : ℕ) → p < t → t < q → getD u p 0 < getD u t 0
-between-of-ending k n h r m u p q f e t a b =
+between-of-ending k n h {r} m u p f e t a b =
     let s = shape-of-rule k n h r m in
     let d : ℕ = t - p in
     let c : length (r .left) ≡ suc (length (s .tail)) = ap length (s .is) in

@@ -42,14 +42,14 @@ where-is : (a b c : List ℕ) (e : ℕ) (d : List ℕ) → a ++ b ≡ c ++ (e �
 where-is [] b c e d q = behind c refl q
 where-is (x ∷ a) b [] e d q =
     in-front a (ap (λ (y : ℕ). y ∷ a) (ap (λ (w : List ℕ). getD w 0 0) q)) (sym (ap (drop 1) q))
-where-is (x ∷ a) b (y ∷ c) e d q = go (where-is a b c e d (ap (drop 1) q))
+where-is (x ∷ a) b (y ∷ c) e d q = where-is-by-cases (where-is a b c e d (ap (drop 1) q))
   where
     z : x ≡ y
     z = ap (λ (w : List ℕ). getD w 0 0) q
 
-    go : Where a b c e d → Where (x ∷ a) b (y ∷ c) e d
-    go (in-front a′ s t) = in-front a′ (cc) t
-    go (behind b′ s t) = behind b′ (cc) t
+    where-is-by-cases : Where a b c e d → Where (x ∷ a) b (y ∷ c) e d
+    where-is-by-cases (in-front a′ s t) = in-front a′ (cc) t
+    where-is-by-cases (behind b′ s t) = behind b′ (cc) t
 
 -- ---- a letter that cancels
 
@@ -71,13 +71,13 @@ module _ (k : Kind) (n : ℕ) (h : least k ≤ n) where
           omega (arith, simp length-append at t, simp length-append at g)
 
       earlier : (v : List ℕ) → Normal k n v → window k n v ≡ window k n (a ++ b) → length v ≡ length (a ++ b) → Earlier v (a ++ b) → ⊥
-      earlier v q e g d = go (where-is a b c (d .lower) (d .others) (d .two))
+      earlier v q e g d = earlier-by-cases (where-is a b c (d .lower) (d .others) (d .two))
         where
           c : List ℕ
           c = d .front
 
-          go : Where a b c (d .lower) (d .others) → ⊥
-          go (in-front f i j) =
+          earlier-by-cases : Where a b c (d .lower) (d .others) → ⊥
+          earlier-by-cases (in-front f i j) =
               let v′ : v ++ (s ∷ []) ≡ c ++ (d .higher ∷ (d .rest ++ (s ∷ []))) =
               ap (λ (y : List ℕ). y ++ (s ∷ [])) (d .one) ∙ append-assoc c (d .higher ∷ d .rest) (s ∷ []) in
               let u′ : a ++ (x ∷ b) ≡ c ++ (d .lower ∷ (f ++ (x ∷ b))) =
@@ -87,7 +87,7 @@ module _ (k : Kind) (n : ℕ) (h : least k ≤ n) where
               (ap (window k n) (sym v′) ∙ back v e ∙ ap (window k n) u′)
               (simp length-append (omega (arith, d .as-long, simp length-append at (ap length j))))
               (d .differ)
-          go (behind f i j) =
+          earlier-by-cases (behind f i j) =
               let v′ : v ≡ a ++ (f ++ (d .higher ∷ d .rest)) =
               d .one ∙ ap (λ (y : List ℕ). y ++ (d .higher ∷ d .rest)) i ∙ append-assoc a f (d .higher ∷ d .rest) in
               not-earlier k n h f (d .lower) (d .higher) (d .others) (d .rest)
@@ -212,9 +212,9 @@ module _ (k : Kind) (n : ℕ) (h : least k ≤ n) where
             omega (arith, ap (windowLength k) (window-snoc k n u s), long, short, length-append a (x ∷ b), length-append a b)
 
     -- a difference in a x: from there on, q b and q x are normal forms that begin with lower letters than v
-    before-b : (v c q : List ℕ) (r : ℕ) (y : List ℕ) → Normal k n v → window k n v ≡ window k n (a ++ (x ∷ b)) → a ≡ c ++ q → v ≡ c ++ (r ∷ y)
+    before-b : {v : List ℕ} (c q : List ℕ) (r : ℕ) (y : List ℕ) → Normal k n v → window k n v ≡ window k n (a ++ (x ∷ b)) → a ≡ c ++ q → v ≡ c ++ (r ∷ y)
         → Below r (q ++ b) → Below r (q ++ (x ∷ [])) → ⊥
-    before-b v c q r y i e f g =
+    before-b c q r y i e f g =
         let at : (t : List ℕ) → a ++ t ≡ c ++ (q ++ t) = λ t. ap (λ (u : List ℕ). u ++ t) f ∙ append-assoc c q t in
         let step : (a ++ b) ++ (s ∷ []) ≡ c ++ ((q ++ b) ++ (s ∷ [])) =
         ap (λ (u : List ℕ). u ++ (s ∷ [])) (at b) ∙ append-assoc c (q ++ b) (s ∷ []) in
@@ -238,19 +238,19 @@ module _ (k : Kind) (n : ℕ) (h : least k ≤ n) where
         (same ∙ ap (window k n) j) (d .as-long) (d .differ)
 
     earlier : (v : List ℕ) → Normal k n v → window k n v ≡ window k n (a ++ (x ∷ b)) → Earlier v (a ++ (x ∷ b)) → ⊥
-    earlier v q e d = go (where-is a (x ∷ b) (d .front) (d .lower) (d .others) (d .two))
+    earlier v q e d = earlier-by-cases (where-is a (x ∷ b) (d .front) (d .lower) (d .others) (d .two))
       where
         lower-first : (t : List ℕ) → Below (d .higher) (d .lower ∷ t)
         lower-first t c u z = omega (arith, d .differ, ap (λ (y : List ℕ). getD y 0 0) z)
 
-        go : Where a (x ∷ b) (d .front) (d .lower) (d .others) → ⊥
-        go (in-front f i j) =
-            before-b v (d .front) (d .lower ∷ f) (d .higher) (d .rest) q e i (d .one) (lower-first (f ++ b)) (lower-first (f ++ (x ∷ [])))
-        go (behind [] i j) =
+        earlier-by-cases : Where a (x ∷ b) (d .front) (d .lower) (d .others) → ⊥
+        earlier-by-cases (in-front f i j) =
+            before-b (d .front) (d .lower ∷ f) (d .higher) (d .rest) q e i (d .one) (lower-first (f ++ b)) (lower-first (f ++ (x ∷ [])))
+        earlier-by-cases (behind [] i j) =
             let z : x ≡ d .lower = ap (λ (y : List ℕ). getD y 0 0) j in
-            before-b v (d .front) [] (d .higher) (d .rest) q e (sym (append-nil (d .front) ∙ i ∙ append-nil a)) (d .one)
+            before-b (d .front) [] (d .higher) (d .rest) q e (sym (append-nil (d .front) ∙ i ∙ append-nil a)) (d .one)
             (λ c u t. omega (arith, d .differ, above c u t)) (λ c u t. omega (arith, d .differ, ap (λ (y : List ℕ). getD y 0 0) t))
-        go (behind (y ∷ f) i j) =
+        earlier-by-cases (behind (y ∷ f) i j) =
             let z : x ≡ y = ap (λ (t : List ℕ). getD t 0 0) j in
             in-b v f d q e (i ∙ ap (λ (c : ℕ). a ++ (c ∷ f)) (sym z)) (ap (drop 1) j)
 

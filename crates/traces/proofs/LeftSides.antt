@@ -79,14 +79,14 @@ block-two k n i x h o g w = elim (ℕ-discrete x n) [
 
 shape-of-ends : (k : Kind) (n : ℕ) (r : Rule) → least k ≤ n → Ends k n r → Shape k n (r .left)
 shape-of-ends k n r h e =
-    rw (left-of k n r (e .i) (e .j) (e .x) (e .f) (e .shape)) (go (e .i) (e .j) (e .x) (e .along) (λ z. e .nonzero (sym (e .family) ∙ z)))
+    rw (left-of k n r (e .i) (e .j) (e .x) (e .f) (e .shape)) (shape-of-ends-by-cases (e .i) (e .j) (e .x) (e .along) (λ z. e .nonzero (sym (e .family) ∙ z)))
   where
-    go : (i j x : ℕ) → Along k n i j → (familyAt n (fork k n) i j x ≡ 0 → ⊥) → Shape k n (block k n i j ++ (x ∷ []))
-    go i j x (start o l q) f =
+    shape-of-ends-by-cases : (i j x : ℕ) → Along k n i j → (familyAt n (fork k n) i j x ≡ 0 → ⊥) → Shape k n (block k n i j ++ (x ∷ []))
+    shape-of-ends-by-cases i j x (start o l q) f =
         rw (q, block-one k n i h l)
         (shape-pair k n i x h (omega arith)
         (elim (decLe i x) [ yes t ↦ t | no t ↦ absurd (f (familyAt-below n (fork k n) i j x q (lt-of-not-le t))) ]))
-    go i j x (further o g q l) f = elim (ℕ-discrete (i + j) (2 * n)) [ yes t ↦ turned t | no t ↦ closed t ]
+    shape-of-ends-by-cases i j x (further o g q l) f = elim (ℕ-discrete (i + j) (2 * n)) [ yes t ↦ turned t | no t ↦ closed t ]
       where
         cut : (m : ℕ) → i ≤ m → m ≤ lastIndex k n (suc i) → block k n i m ≡ i ∷ block k n (suc i) m
         cut m a b =

@@ -17,4 +17,3 @@ pub mod ReadingSteps
 pub mod Tracing
 pub mod StepBounds
 pub mod StepsReached
-pub mod Vectors

@@ -58,7 +58,7 @@ module _ (k : Kind) (n i j : ℕ) (h : least k ≤ n) (o : 1 ≤ i) (g : i ≤ l
   last-is : (m : ℕ) → suc m ≡ length (block k n i j) → Last n i j (getD (block k n i j) m 0)
   last-is m e =
       let x = last-of in
-      let s = block-last k n (levels k n) i j (x .0) (corner-levels k n h) o g b (x .1) in
+      let s = block-last k (levels k n) (corner-levels k n h) o g b (x .1) in
       let q : length (s .0) ≡ m = omega (arith, ap length (s .1), length-append (s .0) (x .0 ∷ [])) in
       let y : getD (block k n i j) m 0 ≡ x .0 = ap (λ (w : List ℕ). getD w m 0) (s .1) ∙ getD-at (s .0) (x .0) [] 0 m q in
       rw y (x .1)
@@ -67,8 +67,8 @@ module _ (k : Kind) (n i j : ℕ) (h : least k ≤ n) (o : 1 ≤ i) (g : i ≤ l
   unfolding indexBy
   index-is m l e f = by-last (rw (← f) at (last-is m e))
     where
-      size : suc m ≡ blockLength k n i j
-      size = e ∙ length-block k n i j o g b
+      length-is-blockLength : suc m ≡ blockLength k n i j
+      length-is-blockLength = e ∙ length-block k n i j o g b
 
       turned : (k : Kind) → n < j → suc m ≡ blockLength k n i j → j ≤ lastIndex k n i → i ≤ n → (n ≤ i + suc m - 1) × (j ≡ past k (i + suc m - 1))
       turned A t q r s = absurd (omega arith)
@@ -82,12 +82,12 @@ module _ (k : Kind) (n i j : ℕ) (h : least k ≤ n) (o : 1 ≤ i) (g : i ≤ l
 
       by-last : Last n i j l → j ≡ pick (eqb l n) n (pick (ltb (i + suc m - 1) n) (i + suc m - 1) (past k (i + suc m - 1)))
       by-last (rising q s t) =
-          let y = up-to k t size in
+          let y = up-to k t length-is-blockLength in
           rw (ne-eqb l n (omega arith), lt-ltb (i + suc m - 1) n (omega arith)) (sym y)
       by-last (falling s q) = elim (ℕ-discrete j n) [
         | yes t ↦ rw (eq-eqb l n (omega arith)) t
         | no t ↦
-            let y = turned k (omega arith) size b (omega (arith, corner-le k n (levels k n) (corner-levels k n h))) in
+            let y = turned k (omega arith) length-is-blockLength b (omega (arith, corner-le k n (levels k n) (corner-levels k n h))) in
             rw (ne-eqb l n (omega arith), le-ltb (i + suc m - 1) n (y .0)) (y .1)
       ]
 
@@ -100,8 +100,9 @@ first-of-last n j h g =
     let z : suc (n - 2) - (n - 1) ≡ 0 = omega arith in
     rw (le-ltb j n g, z)
 
-along-of : (k : Kind) (n i j : ℕ) → least k ≤ n → 1 ≤ i → i < n → i ≤ j → j ≤ lastIndex k n i → getD (block k n i j) 0 0 ≡ i → Along k n i j
-along-of k n i j h o g a b e = elim (ℕ-discrete j i) [ yes t ↦ start o (omega arith) t | no t ↦ further o (inner k h b e (omega arith)) (omega arith) b ]
+along-of : {k : Kind} {n i j : ℕ} → least k ≤ n → 1 ≤ i → i < n → i ≤ j → j ≤ lastIndex k n i → getD (block k n i j) 0 0 ≡ i → Along k n i j
+along-of {k} {n} {i} {j} h o g a b e = elim (ℕ-discrete j i)
+    [ yes t ↦ start o (omega arith) t | no t ↦ further o (inner k h b e (omega arith)) (omega arith) b ]
   where
     inner : (k : Kind) → least k ≤ n → j ≤ lastIndex k n i → getD (block k n i j) 0 0 ≡ i → i < j → i < levels k n
     inner A h b e t = g
@@ -114,10 +115,10 @@ along-of k n i j h o g a b e = elim (ℕ-discrete j i) [ yes t ↦ start o (omeg
     ]
 
 -- a part of a normal form
-pub part-block : (k : Kind) (n i : ℕ) (u : List ℕ) → least k ≤ n → 1 ≤ i → i < n → wrongLetter n u ≡ false → ((t : ℕ) → t < length u → i ≤ getD u t 0)
+pub part-block : {k : Kind} {n i : ℕ} {u : List ℕ} → least k ≤ n → 1 ≤ i → i < n → wrongLetter n u ≡ false → ((t : ℕ) → t < length u → i ≤ getD u t 0)
     → Irreducible (rules k n) (i ∷ u)
     → (j : ℕ) × Along k n i j × (i ∷ u ≡ block k n i j) × ((m l : ℕ) → suc m ≡ length (i ∷ u) → l ≡ getD (i ∷ u) m 0 → j ≡ indexBy k n i (suc m) l)
-part-block k n i u h o g w f r = go (one-block k n i u h o low (letters-from i n u w f))
+part-block {k} {n} {i} {u} h o g w f r = part-block-by-cases (one-block k n i u h o low (letters-from i n u w f))
   where
     low : i ≤ levels k n
     low = below k h
@@ -127,13 +128,13 @@ part-block k n i u h o g w f r = go (one-block k n i u h o low (letters-from i n
         below B h = omega arith
         below D h = omega arith
 
-    go : ((j : ℕ) × (i ≤ suc j) × (j ≤ lastIndex k n i) × (i ∷ u ≡ block k n i j)) ⊎ Reducible k n (i ∷ u)
+    part-block-by-cases : ((j : ℕ) × (i ≤ suc j) × (j ≤ lastIndex k n i) × (i ∷ u ≡ block k n i j)) ⊎ Reducible k n (i ∷ u)
         → (j : ℕ) × Along k n i j × (i ∷ u ≡ block k n i j) × ((m l : ℕ) → suc m ≡ length (i ∷ u) → l ≡ getD (i ∷ u) m 0 → j ≡ indexBy k n i (suc m) l)
-    go (inr s) = absurd (not-rewritten-of-irreducible k n (i ∷ u) h r (s .0) (s .1))
-    go (inl (j, a, b, e)) =
+    part-block-by-cases (inr s) = absurd (not-rewritten-of-irreducible k n (i ∷ u) h r (s .0) (s .1))
+    part-block-by-cases (inl (j, a, b, e)) =
         let c : i ≤ j = nonempty j a b e in (
           j,
-          along-of k n i j h o g c b (ap (λ (y : List ℕ). getD y 0 0) (sym e)),
+          along-of h o g c b (ap (λ (y : List ℕ). getD y 0 0) (sym e)),
           e,
           λ m l p q. index-is k n i j h o low c b m l (p ∙ ap length e) (q ∙ ap (λ (y : List ℕ). getD y m 0) e),
         )

@@ -169,11 +169,11 @@ module _ (k : Kind) (n : ℕ) (h : least k ≤ n) (z : List ℕ) (q : ℕ) (r : 
 
     -- family 1 leaves a normal form
     pub reading-dropped : s .rule .family ≡ 1 → Normal k n (after z s)
-    reading-dropped g = go (sides-of-rule k n h (s .rule) (fitting .0))
+    reading-dropped g = reading-dropped-by-cases (sides-of-rule k n h (s .rule) (fitting .0))
       where
-        go : Sides (s .rule) → Normal k n (after z s)
-        go (moves c y b l f p t i) = absurd (f g)
-        go (drops c f l t) =
+        reading-dropped-by-cases : Sides (s .rule) → Normal k n (after z s)
+        reading-dropped-by-cases (moves c y b l f p t i) = absurd (f g)
+        reading-dropped-by-cases (drops c f l t) =
             let x = split .0 in
             let u = snoc-same (r .front) (x ++ (c ∷ [])) (r .letter) c (split .2 ∙ ap (λ (w : List ℕ). x ++ w) l ∙ sym (append-snoc x c (c ∷ []))) in
             let v : r .front ++ r .back ≡ x ++ (c ∷ r .back) = ap (λ (w : List ℕ). w ++ r .back) (u .0) ∙ append-snoc x c (r .back) in
@@ -184,11 +184,11 @@ module _ (k : Kind) (n : ℕ) (h : least k ≤ n) (z : List ℕ) (q : ℕ) (r : 
 
     -- after any other family the letter stands at the place of the rule
     pub reading-moved : (s .rule .family ≡ 1 → ⊥) → Reading k n (after z s) (s .place)
-    reading-moved g = go (sides-of-rule k n h (s .rule) (fitting .0))
+    reading-moved g = reading-moved-by-cases (sides-of-rule k n h (s .rule) (fitting .0))
       where
-        go : Sides (s .rule) → Reading k n (after z s) (s .place)
-        go (drops c f l t) = absurd (g f)
-        go (moves c y b l f p t i) =
+        reading-moved-by-cases : Sides (s .rule) → Reading k n (after z s) (s .place)
+        reading-moved-by-cases (drops c f l t) = absurd (g f)
+        reading-moved-by-cases (moves c y b l f p t i) =
             let x = split .0 in
             let u = snoc-same (r .front) (x ++ (b ∷ l)) (r .letter) c
             (split .2 ∙ ap (λ (w : List ℕ). x ++ w) p ∙ sym (append-assoc x (b ∷ l) (c ∷ []))) in
@@ -240,14 +240,14 @@ module _ (k : Kind) (n : ℕ) (h : least k ≤ n) where
       → ((w : List ℕ) → Normal k n w → length w ≤ length z → wrongLetter n (w ++ rest) ≡ false → steps (w ++ rest) ≤ m) → steps (z ++ rest) ≤ q + m
   steps-reading zero z q rest m g r l f = absurd (omega arith)
   steps-reading (suc t) z q rest m g r l f =
-      go (lowestRedex k n (take (suc q) z)) refl (λ v p. steps-reading t v p rest m)
+      steps-reading-by-cases (lowestRedex k n (take (suc q) z)) refl (λ v p. steps-reading t v p rest m)
     where
-      go : (o : Option Redex) → lowestRedex k n (take (suc q) z) ≡ o
+      steps-reading-by-cases : (o : Option Redex) → lowestRedex k n (take (suc q) z) ≡ o
           → ((v : List ℕ) (p : ℕ) → p < t → Reading k n v p → wrongLetter n (v ++ rest) ≡ false
           → ((w : List ℕ) → Normal k n w → length w ≤ length v → wrongLetter n (w ++ rest) ≡ false → steps (w ++ rest) ≤ m) → steps (v ++ rest) ≤ p + m)
           → steps (z ++ rest) ≤ q + m
-      go none e ih = omega (arith, f z (reading-ends k n h z q r e) (omega arith) l)
-      go (some s) e ih =
+      steps-reading-by-cases none e ih = omega (arith, f z (reading-ends k n h z q r e) (omega arith) l)
+      steps-reading-by-cases (some s) e ih =
           let b = steps-step z q rest r s e l in
           let d = reading-lower k n h z q r s e in
           elim (ℕ-discrete (s .rule .family) 1) [

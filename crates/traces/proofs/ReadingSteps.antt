@@ -46,9 +46,9 @@ pub record Stuck (k : Kind) (n : ℕ) (w : List ℕ) (q : ℕ) : Type 0 where
   pub stays : 1 ≤ q → commuting n (levels k n) (getD w (q - 1) 0) (getD w q 0) ≡ false
 
 -- a place of the letter i in that range with only higher ones behind it is where it ended
-stopped-at : (w : List ℕ) (floor from i p t : ℕ) → Stopped w floor from i p → floor ≤ t → t < from → getD w t 0 ≡ i
+stopped-at : {w : List ℕ} {floor from i p t : ℕ} → Stopped w floor from i p → floor ≤ t → t < from → getD w t 0 ≡ i
     → ((v : ℕ) → t < v → v < from → i < getD w v 0) → t ≡ p
-stopped-at w floor from i p t s g l e f = elim (compared t p) [
+stopped-at {p} {t} s g l e f = elim (compared t p) [
   | less c ↦ absurd (⊎-elim (λ a. omega arith) (λ a. omega (arith, f p c (a .0))) (s .ends))
   | same c ↦ c
   | more c ↦ absurd (omega (arith, s .above t c l))
@@ -115,20 +115,20 @@ module _ (k : Kind) (n : ℕ) (h : least k ≤ n) (z : List ℕ) (q : ℕ) (r : 
 
     pub first-letter : (getD z (s .place) 0 ≡ lower (getD z q 0) (getD z (suc q) 0)) × (suc (suc q) ≤ s .place + 2 * n)
     first-letter =
-        let f = first-of-ending k n h (s .rule) (fits-there .0) (take (suc (suc q)) z) (s .place) q (fits-there .1) (reading-length k n h z (suc q) r s e) in
+        let f = first-of-ending k n h (fits-there .0) (take (suc (suc q)) z) (s .place) (fits-there .1) (reading-length k n h z (suc q) r s e) in
         (sym (in-z (s .place) (omega (arith, low))) ∙ f .0 ∙ rw (in-z q (omega arith), in-z (suc q) (omega arith)), f .1)
 
     between : (t : ℕ) → s .place < t → t < q → getD z (s .place) 0 < getD z t 0
     between t a b =
         rw (← in-z (s .place) (omega (arith, low)), ← in-z t (omega arith))
-        (between-of-ending k n h (s .rule) (fits-there .0) (take (suc (suc q)) z) (s .place) q (fits-there .1) (reading-length k n h z (suc q) r s e) t a b)
+        (between-of-ending k n h (fits-there .0) (take (suc (suc q)) z) (s .place) (fits-there .1) (reading-length k n h z (suc q) r s e) t a b)
 
     -- two rising letters that do not commute
     pub place-rising : (floor p : ℕ) → before < letter → letter ≤ n → commuting n (levels k n) before letter ≡ false → floor ≡ suc (suc q) - 2 * n
         → Stopped z floor q before p → s .place ≡ p
     place-rising floor p l o t f d =
         let c : getD z (s .place) 0 ≡ before = first-letter .0 ∙ rw (le-ltb letter before (omega arith)) in
-        stopped-at z floor q before p (s .place) d (omega (arith, first-letter .1)) less-q c (λ v a b. rw (← c) (between v a b))
+        stopped-at d (omega (arith, first-letter .1)) less-q c (λ v a b. rw (← c) (between v a b))
       where
         less-q : s .place < q
         less-q = elim (ℕ-discrete (s .place) q) [
@@ -143,7 +143,7 @@ module _ (k : Kind) (n : ℕ) (h : least k ≤ n) (z : List ℕ) (q : ℕ) (r : 
     pub place-falling : (floor p : ℕ) → letter < before → floor ≡ suc (suc q) - 2 * n → Stopped z floor (suc q) letter p → s .place ≡ p
     place-falling floor p l f d =
         let c : getD z (s .place) 0 ≡ letter = first-letter .0 ∙ rw (lt-ltb letter before l) in
-        stopped-at z floor (suc q) letter p (s .place) d (omega (arith, first-letter .1)) low c
+        stopped-at d (omega (arith, first-letter .1)) low c
         (λ v a b. elim (ℕ-discrete v q) [ yes y ↦ rw y l | no y ↦ rw (← c) (between v a (omega arith)) ])
 
 -- ---- the word after it
@@ -155,21 +155,21 @@ module _ (k : Kind) (n : ℕ) (h : least k ≤ n) (z : List ℕ) (q : ℕ) (r : 
   -- family 1: two letters are gone
   pub after-dropped : s .rule .family ≡ 1 → (suc (s .place) ≡ q) × (after z s ≡ take (s .place) z ++ drop (suc q) z)
   unfolding rewritten
-  after-dropped f = go sides
+  after-dropped f = after-dropped-by-cases sides
     where
-      go : Sides (s .rule) → (suc (s .place) ≡ q) × (after z s ≡ take (s .place) z ++ drop (suc q) z)
-      go (moves c y b l g p t i) = absurd (g f)
-      go (drops c g l t) =
+      after-dropped-by-cases : Sides (s .rule) → (suc (s .place) ≡ q) × (after z s ≡ take (s .place) z ++ drop (suc q) z)
+      after-dropped-by-cases (moves c y b l g p t i) = absurd (g f)
+      after-dropped-by-cases (drops c g l t) =
           let a = reading-length k n h z q r s e in
           (omega (arith, a, ap length l), rw (a, t))
 
   -- they were equal
   pub letters-dropped : s .rule .family ≡ 1 → getD z (s .place) 0 ≡ getD z (suc (s .place)) 0
-  letters-dropped f = go sides
+  letters-dropped f = letters-dropped-by-cases sides
     where
-      go : Sides (s .rule) → getD z (s .place) 0 ≡ getD z (suc (s .place)) 0
-      go (moves c y b l g p t i) = absurd (g f)
-      go (drops c g l t) =
+      letters-dropped-by-cases : Sides (s .rule) → getD z (s .place) 0 ≡ getD z (suc (s .place)) 0
+      letters-dropped-by-cases (moves c y b l g p t i) = absurd (g f)
+      letters-dropped-by-cases (drops c g l t) =
           let v = split k n h z q r s e in
           let x = v .0 in
           let a : z ≡ x ++ (c ∷ c ∷ r .back) = z-split k n h z q r s e ∙ ap (λ (w : List ℕ). x ++ (w ++ r .back)) l in
@@ -187,12 +187,12 @@ module _ (k : Kind) (n : ℕ) (h : least k ≤ n) (z : List ℕ) (q : ℕ) (r : 
   -- any other family: a letter is put first, and the left side moves by one place
   pub after-moved : (s .rule .family ≡ 1 → ⊥) → (length (after z s) ≡ length z)
       × (after z s ≡ take (s .place) z ++ ((getD (s .rule .right) 0 0 ∷ take (q - s .place) (drop (s .place) z)) ++ drop (suc q) z))
-  after-moved f = go sides
+  after-moved f = after-moved-by-cases sides
     where
-      go : Sides (s .rule) → (length (after z s) ≡ length z)
+      after-moved-by-cases : Sides (s .rule) → (length (after z s) ≡ length z)
           × (after z s ≡ take (s .place) z ++ ((getD (s .rule .right) 0 0 ∷ take (q - s .place) (drop (s .place) z)) ++ drop (suc q) z))
-      go (drops c g l t) = absurd (f g)
-      go (moves c y b l g p t i) =
+      after-moved-by-cases (drops c g l t) = absurd (f g)
+      after-moved-by-cases (moves c y b l g p t i) =
           let v = split k n h z q r s e in
           let x = v .0 in
           let a = z-split k n h z q r s e in

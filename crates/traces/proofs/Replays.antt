@@ -34,7 +34,8 @@ use Rattle.rules.proofs.Calls.{accepted-least, accepted-letters, accepted-of-sh
 use Rattle.rules.proofs.UsedRules.{answer-of-none, usable-changed, stepped-used, nowhereFits-iff}
 use Rattle.rules.proofs.CallLists.{new-word-exactly}
 use Rattle.traces.specs.declared.ToEnd.the-variants.{Ended, Refused}
-use Rattle.traces.specs.Traces.{Redex, lowestRedex, Line, Trace, trace, familiesOf, placesOf, lengthsOf, rewritingToEnd, NoneFitsBelow, Replays, tracedBy, tooFewPlaces, toEndOf}
+use Rattle.traces.specs.Traces.{Redex, lowestRedex, Line, Trace, trace, familiesOf, placesOf, lengthsOf, rewritingToEnd}
+use Rattle.traces.specs.Traces.{NoneFitsBelow, Replays, tracedBy, tooFewPlaces, toEndOf}
 use Rattle.traces.proofs.Traces.{Lowest, irreducible-of-none, after, lineOf, continued, lowest-rewrites, trace-induction, trace-normalForm}
 use Rattle.traces.proofs.Unchanged.{toEnd-past}
 use Rattle.traces.proofs.Firsts.{toEndOf-exactly}
@@ -56,12 +57,20 @@ module _ (k n : ℕ) (u : List ℕ) (h : AcceptedWord k n u) (s : Redex) (a : Lo
       w .answer ∙ answer-of-none (stepped single k n u q before h) (omega (arith, a .inside)) (a .below q l)
 
   -- at the place, with room, the rule is used
-  step-at : (before : List ℕ) → tooShort (length (after u s)) before ≡ false → rewriteAt single k n u (s .place) before ≡ changed single (s .rule) (after u s) before
+  step-at : (before : List ℕ) → tooShort (length (after u s)) before ≡ false
+      → rewriteAt single k n u (s .place) before ≡ changed single (s .rule) (after u s) before
   unfolding pastEnd tooShort
   step-at before r =
       let f = firstFitting-some (rules (kindOf k) n) u (s .place) (s .rule) (a .fitting) in
       usable-changed single k n u (record { place = s .place; outputs = before }) (s .rule)
-      (record { listed = f .0; fitting = f .1; accepted = h; inside = lt-leb (length u) (s .place) (a .inside); room = le-leb (length (after u s)) (length before) (ltb-false (length before) (length (after u s)) r) })
+      (record {
+        listed = f .0;
+        fitting = f .1;
+        accepted = h;
+        inside = lt-leb (length u) (s .place) (a .inside);
+        room = le-leb (length (after u s))
+            (length before) (ltb-false (length before) (length (after u s)) r);
+      })
 
   used-at : (before out : List ℕ) (x : Rewrite) → Rewrote single k n u (s .place) before out x → tooShort (length (after u s)) before ≡ false
       → (x ≡ Used (s .rule .family) (s .rule .i) (s .rule .j) (length (after u s))) × (take (length (after u s)) out ≡ after u s)
@@ -101,11 +110,12 @@ unfolding tooShort
 has-room m out l = le-ltb (length out) m l
 
 -- where a rule is used, one fits
-fits-of-used : (k n : ℕ) (u : List ℕ) (p : ℕ) (before : List ℕ) (f i j l : ℕ) → AcceptedWord k n u
+fits-of-used : {k n : ℕ} {u : List ℕ} (p : ℕ) (before : List ℕ) (f i j l : ℕ) → AcceptedWord k n u
     → rewriteAt single k n u p before .answer ≡ Used f i j l → firstFitting (rules (kindOf k) n) u p ≡ none → ⊥
-fits-of-used k n u p before f i j l h e d =
+fits-of-used {k} {n} {u} p before f i j l h e d =
     let a : Arguments single = record { place = p; outputs = before } in
-    let t = stepped-used single-lawful a h (stepped single k n u p before h) .exactly .0 (_, new-word-exactly _ (rewriteAt single k n u p before .outputs) _ .1 (f, i, j, l, e, refl)) in
+    let t = stepped-used single-lawful a h (stepped single k n u p before h) .exactly .0
+    (_, new-word-exactly _ (rewriteAt single k n u p before .outputs) _ .1 (f, i, j, l, e, refl)) in
     true≢false (sym (t .1 .fitting) ∙ firstFitting-none (rules (kindOf k) n) u p d (t .0) (t .1 .listed))
 
 same-line : (l m : Line) → l .family ≡ m .family → l .place ≡ m .place → l .left ≡ m .left → l ≡ m
@@ -121,7 +131,7 @@ module _ (k n : ℕ) (u : List ℕ) (h : AcceptedWord k n u) where
   only-ends d (l ∷ ls) v r =
       let o = room (l .left) in
       let q = r .1 (o .0) _ _ (record { answer = refl; outputs = refl }) (has-room (l .left) (o .0) (omega (arith, o .1))) .0 in
-      absurd (fits-of-used k n u (l .place) (o .0) (l .family) (q .0) (q .1) (l .left) h (q .2) (none-firstFitting (rules (kindOf k) n) u (l .place)
+      absurd (fits-of-used (l .place) (o .0) (l .family) (q .0) (q .1) (l .left) h (q .2) (none-firstFitting (rules (kindOf k) n) u (l .place)
       (λ x m. irreducible-of-none (kindOf k) n u (accepted-least h) d x m (l .place))))
 
   module _ (s : Redex) (a : Lowest (kindOf k) n u s) where
@@ -144,7 +154,7 @@ module _ (k n : ℕ) (u : List ℕ) (h : AcceptedWord k n u) where
         let o = used-with (l .left) in
         let q = r .1 (o .0) _ _ (record { answer = refl; outputs = refl }) (has-room (l .left) (o .0) (o .1)) in
         elim (compared (l .place) (s .place)) [
-          | less g ↦ absurd (fits-of-used k n u (l .place) (o .0) (l .family) (q .0 .0) (q .0 .1) (l .left) h (q .0 .2) (a .below (l .place) g))
+          | less g ↦ absurd (fits-of-used (l .place) (o .0) (l .family) (q .0 .0) (q .0 .1) (l .left) h (q .0 .2) (a .below (l .place) g))
           | same g ↦
               let f : l .family ≡ s .rule .family = cc in
               let e : l .left ≡ length (after u s) = cc in
@@ -228,7 +238,7 @@ ended-wrote q t families places lengths out s l e =
 
 -- the first l bytes of the output are the normal form and the others stay; the first s places of the three lists
 -- are the families, places and lengths of lines that any reader can replay from the word to the normal form
-pub toEnd-wrote : (k n : ℕ) (u families places lengths out : List ℕ) (s l : ℕ)
+pub toEnd-wrote : (k n : ℕ) (u families places lengths out : List ℕ) {s l : ℕ}
     → rewritingToEnd k n u families places lengths out .answer ≡ Ended s l
     → let t = rewritingToEnd k n u families places lengths out in
     let v = wordNormalForm (kindOf k) n u in
@@ -236,7 +246,7 @@ pub toEnd-wrote : (k n : ℕ) (u families places lengths out : List ℕ) (s l : 
     × ((ls : List Line) × (length ls ≡ s) × (take s (t .families) ≡ familiesOf ls) × (take s (t .places) ≡ placesOf ls)
     × (take s (t .lengths) ≡ lengthsOf ls) × Replays k n u ls v)
 unfolding rewritingToEnd
-toEnd-wrote k n u families places lengths out s l e =
+toEnd-wrote k n u families places lengths out {s} {l} e =
     let w = ended-wrote _ _ families places lengths out s l e in
     let z = then-zero (rankRefusal k n) (wordRefusal n u) (w .0) in
     let h : AcceptedWord k n u = record { rank = z .0; word = z .1 } in

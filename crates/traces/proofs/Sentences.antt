@@ -90,19 +90,19 @@ no-call : (front : List (Call single)) (c : Call single) (rest : List (Call sing
 no-call [] c rest q = zero-not-one (cc)
 no-call (d ∷ front) c rest q = zero-not-one (cc)
 
-seen : (k n : ℕ) (u : List ℕ) (ls : List Line) (v : List ℕ) → Replays k n u ls v → (cs : List (Call single)) → Run single k n u cs → calledAt cs ≡ placesOf ls
+seen : {k n : ℕ} {u : List ℕ} (ls : List Line) {v : List ℕ} → Replays k n u ls v → {cs : List (Call single)} → Run single k n u cs → calledAt cs ≡ placesOf ls
     → ((i : ℕ) → i < length ls → getD (lengthsOf ls) i 0 ≤ length (getD (lentTo cs) i []))
     → Seen k n u (familiesOf ls) (lengthsOf ls) v cs
 unfolding wordLeft
-seen k n u [] v r [] m e o = record { each = λ front c rest q. absurd (no-call front c rest q); last = r .1; ends = r .0 }
-seen k n u [] v r (c ∷ cs) m e o = zero-not-one (cc)
-seen k n u (l ∷ ls) v r [] m e o = zero-not-one (cc)
-seen k n u (l ∷ ls) v r (c ∷ cs) m e o =
+seen [] r {cs = []} m e o = record { each = λ front c rest q. absurd (no-call front c rest q); last = r .1; ends = r .0 }
+seen [] r {cs = (c ∷ cs)} m e o = zero-not-one (cc)
+seen (l ∷ ls) r {cs = []} m e o = zero-not-one (cc)
+seen {k} {n} {u} (l ∷ ls) {v} r {cs = (c ∷ cs)} m e o =
     let room : l .left ≤ length (c .arguments .outputs) = o 0 (omega arith) in
     let places : calledAt cs ≡ placesOf ls = cc in
     let rooms : (i : ℕ) → i < length ls → getD (lengthsOf ls) i 0 ≤ length (getD (lentTo cs) i []) = λ i h. o (suc i) (omega arith) in
     seen-next k n u l ls v r c cs (m .0) e room
-    (seen k n (wordAfter single u (c .result)) ls v (replays-next k n u l ls v r c cs (m .0) e room) cs (m .1) places rooms)
+    (seen ls (replays-next k n u l ls v r c cs (m .0) e room) (m .1) places rooms)
 
 -- ---- a rewriting that ended
 
@@ -120,7 +120,7 @@ module _ (k n : ℕ) (u families places lengths out : List ℕ) (s l : ℕ) (fs 
   pub lines-replay : (lines : List Line) × (length lines ≡ s) × (take s fs ≡ familiesOf lines) × (take s ps ≡ placesOf lines)
       × (take s ls ≡ lengthsOf lines) × Replays k n u lines (take l after)
   lines-replay =
-      let w = toEnd-wrote k n u families places lengths out s l (sym (h .0)) in
+      let w = toEnd-wrote k n u families places lengths out (sym (h .0)) in
       rw (h .1, h .2, h .3, h .4, w .1) (w .3)
 
   -- T24: the same of every list of single rewrites from the word at the places written, whose outputs have room for
@@ -131,7 +131,7 @@ module _ (k n : ℕ) (u families places lengths out : List ℕ) (s l : ℕ) (fs 
     replay : Seen k n u (take s fs) (take s ls) (take l after) cs
     replay =
         let w = lines-replay in
-        rw (w .2, w .4) (seen k n u (w .0) (take l after) (w .5) cs run (at ∙ w .3)
+        rw (w .2, w .4) (seen (w .0) (w .5) run (at ∙ w .3)
         (λ i b.
         let c : i < s = omega (arith, b, w .1) in
         let e = ap (λ (y : List ℕ). getD y i 0) (sym (w .4)) ∙ getD-take s i ls 0 c in
@@ -168,7 +168,7 @@ module _ (k n : ℕ) (u families places lengths out : List ℕ) (s l : ℕ) (fs 
   -- T21, T22: the normal form among words of any length; the answer is its length
   pub final-normal : IsNormalForm (kindOf k) n (window (kindOf k) n u) (take l after) × (length (take l after) ≡ l)
   final-normal =
-      let w = toEnd-wrote k n u families places lengths out s l (sym (h .0)) in
+      let w = toEnd-wrote k n u families places lengths out (sym (h .0)) in
       rw (h .4, w .1) (normalForm-least (kindOf k) n (window (kindOf k) n u) (accepted-least ended-accepted) (window-passes (kindOf k) n u), w .0)
 
   -- T23, I2: list places past the steps and the output past the final word keep what they held

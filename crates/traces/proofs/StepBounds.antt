@@ -35,11 +35,11 @@ pub counted-steps : (k n : ℕ) (u : List ℕ) (s : ℕ) → numberOfSteps k n u
 unfolding numberOfSteps
 counted-steps k n u s e = let g = answerOf-exactly _ _ .1 s .0 e in (accepted-of-zero k n u (g .0), g .1)
 
-pub ended-steps : (k n : ℕ) (u families places lengths out : List ℕ) (s l : ℕ)
+pub ended-steps : {k n : ℕ} {u : List ℕ} (families places lengths out : List ℕ) {s : ℕ} (l : ℕ)
     → rewritingToEnd k n u families places lengths out .answer ≡ toEnd.Ended s l
     → AcceptedWord k n u × (length (trace (kindOf k) n u .lines) ≡ s)
 unfolding rewritingToEnd tracedBy
-ended-steps k n u families places lengths out s l e =
+ended-steps {k} {n} {u} families places lengths out {s} l e =
     let g = toEndOf-exactly _ _ _ .1 s l .0 e in
     (accepted-of-zero k n u (then-zero _ _ (g .0) .0), g .1)
 
@@ -58,7 +58,7 @@ numberOfSteps-at-most k n u s e =
 pub rewritingToEnd-at-most : (k n : ℕ) (u families places lengths out : List ℕ) (s l : ℕ)
     → rewritingToEnd k n u families places lengths out .answer ≡ toEnd.Ended s l → s ≤ length u * (length u - 1) / 2
 rewritingToEnd-at-most k n u families places lengths out s l e =
-    let a = ended-steps k n u families places lengths out s l e in
+    let a = ended-steps families places lengths out l e in
     omega (arith, a .1, accepted-at-most k n u (a .0))
 
 -- ---- enough places

@@ -39,11 +39,11 @@ commuting-far n c l x g h = rw (ne-eqb x n (λ e. omega arith), lt-ltb (l + 1) x
 
 module _ (k : Kind) (n : ℕ) (h : least k ≤ n) where
   -- one step
-  passes-one : (c q : ℕ) (a : List ℕ) (y : ℕ) (b rest : List ℕ) → c + 2 < n → y ≤ c → length a ≡ q → Reading k n (a ++ (y ∷ (c + 2) ∷ b)) (suc q)
+  passes-one : (c : ℕ) {q : ℕ} (a : List ℕ) (y : ℕ) (b rest : List ℕ) → c + 2 < n → y ≤ c → length a ≡ q → Reading k n (a ++ (y ∷ (c + 2) ∷ b)) (suc q)
       → wrongLetter n ((a ++ (y ∷ (c + 2) ∷ b)) ++ rest) ≡ false
       → (steps k n h ((a ++ (y ∷ (c + 2) ∷ b)) ++ rest) ≡ suc (steps k n h ((a ++ ((c + 2) ∷ y ∷ b)) ++ rest)))
       × Reading k n (a ++ ((c + 2) ∷ y ∷ b)) q × (wrongLetter n ((a ++ ((c + 2) ∷ y ∷ b)) ++ rest) ≡ false)
-  passes-one c q a y b rest g m e r l =
+  passes-one c {q} a y b rest g m e r l =
       let x = c + 2 in
       let z = a ++ (y ∷ x ∷ b) in
       let first : getD z q 0 ≡ y = getD-at a y (x ∷ b) 0 q e in
@@ -66,10 +66,10 @@ module _ (k : Kind) (n : ℕ) (h : least k ≤ n) where
     pub letters : wrongLetter (c + 2) word ≡ false
     pub counted : steps k n h (z ++ rest) ≡ q + steps k n h (word ++ rest)
 
-  passes : (c q : ℕ) (a b rest : List ℕ) → c + 2 < n → length a ≡ q → wrongLetter c a ≡ false → wrongLetter (c + 2) b ≡ false
+  passes : {c q : ℕ} (a b : List ℕ) {rest : List ℕ} → c + 2 < n → length a ≡ q → wrongLetter c a ≡ false → wrongLetter (c + 2) b ≡ false
       → Reading k n (a ++ ((c + 2) ∷ b)) q → wrongLetter n ((a ++ ((c + 2) ∷ b)) ++ rest) ≡ false → Passed c (a ++ ((c + 2) ∷ b)) q rest
-  passes c zero (y ∷ a) b rest g e i j r l = let z : suc (length a) ≡ 0 = e in absurd (omega arith)
-  passes c zero [] b rest g e i j r l = record {
+  passes {q = zero} (y ∷ a) b g e i j r l = let z : suc (length a) ≡ 0 = e in absurd (omega arith)
+  passes {c} {q = zero} [] b g e i j r l = record {
     word = (c + 2) ∷ b;
     normal = reading-ends k n h _ 0 r (stands (lowestRedex k n (take 1 ((c + 2) ∷ b))) refl);
     size = refl;
@@ -80,7 +80,7 @@ module _ (k : Kind) (n : ℕ) (h : least k ≤ n) where
       stands : (o : Option Redex) → lowestRedex k n (take 1 ((c + 2) ∷ b)) ≡ o → o ≡ none
       stands none e = refl
       stands (some s) e = absurd (omega (arith, reading-lower k n h ((c + 2) ∷ b) 0 r s e))
-  passes c (suc q) a b rest g e i j r l =
+  passes {c} {q = (suc q)} a b {rest} g e i j r l =
       let x = c + 2 in
       let f = take q a in
       let y = getD a q 0 in
@@ -89,9 +89,9 @@ module _ (k : Kind) (n : ℕ) (h : least k ≤ n) where
       let m : length f ≡ q = length-take-le q a (omega arith) in
       let lower : wrongLetter c (f ++ (y ∷ [])) ≡ false = ap (wrongLetter c) (sym d) ∙ i in
       let o = letter-within-cons c y [] (letters-right c f (y ∷ []) lower) in
-      let s = passes-one c q f y b rest g (o .1) m (subst (λ (w : List ℕ). Reading k n w (suc q)) t r)
+      let s = passes-one c f y b rest g (o .1) m (subst (λ (w : List ℕ). Reading k n w (suc q)) t r)
       (ap (λ (w : List ℕ). wrongLetter n (w ++ rest)) (sym t) ∙ l) in
-      let v = passes c q f (y ∷ b) rest g m (letters-left c f (y ∷ []) lower) (letters-cons x y b (o .0) (omega (arith, o .1)) j) (s .1) (s .2) in
+      let v = passes f (y ∷ b) g m (letters-left c f (y ∷ []) lower) (letters-cons x y b (o .0) (omega (arith, o .1)) j) (s .1) (s .2) in
       record {
         word = v .word;
         normal = v .normal;
@@ -129,7 +129,7 @@ module _ (k : Kind) (n : ℕ) (h : least k ≤ n) where
       let e : w ++ (x ∷ rest) ≡ (w ++ (x ∷ [])) ++ rest = sym (append-snoc w x rest) in
       let a : wrongLetter n ((w ++ (x ∷ [])) ++ rest) ≡ false =
       ap (wrongLetter n) (sym e) ∙ letters-append n w (x ∷ rest) (m .letters) (rising-letters n (suc r) c g) in
-      let v = passes k n h c (length w) w [] rest (omega arith) refl l (wrongLetter-nil x) (reading-next k n w x m (omega arith) (omega arith)) a in
+      let v = passes k n h w [] (omega arith) refl l (wrongLetter-nil x) (reading-next k n w x m (omega arith) (omega arith)) a in
       let s : length (v .word) ≡ suc (length w) = v .size ∙ length-append w (x ∷ []) ∙ omega arith in
       let t : steps k n h (v .word ++ rest) ≡ r * suc (length w) + r * (r - 1) / 2 =
       steps-rising r x (v .word) (omega arith) (v .normal) (v .letters) ∙ rw s in

@@ -60,12 +60,12 @@ found-later k n u p t e (somewhere s h g f b) =
 found : (k : Kind) (n : ℕ) (u : List ℕ) (p t : ℕ) → Found k n u p t (lowestFrom k n u p t)
 unfolding lowestFrom
 found k n u p zero = nowhere (λ q h g. absurd (omega arith))
-found k n u p (suc t) = go (firstFitting (rules k n) u p) refl (found k n u (suc p) t)
+found k n u p (suc t) = found-by-cases (firstFitting (rules k n) u p) refl (found k n u (suc p) t)
   where
-    go : (o : Option Rule) → firstFitting (rules k n) u p ≡ o → Found k n u (suc p) t (lowestFrom k n u (suc p) t)
+    found-by-cases : (o : Option Rule) → firstFitting (rules k n) u p ≡ o → Found k n u (suc p) t (lowestFrom k n u (suc p) t)
         → Found k n u p (suc t) (elim o [ none ↦ lowestFrom k n u (suc p) t | some r ↦ some (record { place = p; rule = r }) ])
-    go none e f = found-later k n u p t e f
-    go (some r) e f = somewhere (record { place = p; rule = r }) (omega arith) (omega arith) e (λ q h g. absurd (omega arith))
+    found-by-cases none e f = found-later k n u p t e f
+    found-by-cases (some r) e f = somewhere (record { place = p; rule = r }) (omega arith) (omega arith) e (λ q h g. absurd (omega arith))
 
 lowest-of-found : {k : Kind} {n : ℕ} {u : List ℕ} {s : Redex} → Found k n u 0 (length u) (some s) → Lowest k n u s
 lowest-of-found (somewhere s h g f b) = record { inside = omega arith; fitting = f; below = λ q. b q (omega arith) }
@@ -77,10 +77,10 @@ module _ (k : Kind) (n : ℕ) (u : List ℕ) where
 
   lowest-none : lowestRedex k n u ≡ none → (q : ℕ) → q < length u → firstFitting (rules k n) u q ≡ none
   unfolding lowestRedex
-  lowest-none e = go (subst (Found k n u 0 (length u)) e (found k n u 0 (length u)))
+  lowest-none e = lowest-none-by-cases (subst (Found k n u 0 (length u)) e (found k n u 0 (length u)))
     where
-      go : Found k n u 0 (length u) none → (q : ℕ) → q < length u → firstFitting (rules k n) u q ≡ none
-      go (nowhere f) q h = f q (omega arith) (omega arith)
+      lowest-none-by-cases : Found k n u 0 (length u) none → (q : ℕ) → q < length u → firstFitting (rules k n) u q ≡ none
+      lowest-none-by-cases (nowhere f) q h = f q (omega arith) (omega arith)
 
   -- there is only one lowest place, and one rule at it
   pub lowest-only : (s t : Redex) → Lowest k n u s → Lowest k n u t → s ≡ t
@@ -95,11 +95,11 @@ module _ (k : Kind) (n : ℕ) (u : List ℕ) where
       ]
 
   pub lowest-is : (s : Redex) → Lowest k n u s → lowestRedex k n u ≡ some s
-  lowest-is s a = go (lowestRedex k n u) refl
+  lowest-is s a = lowest-is-by-cases (lowestRedex k n u) refl
     where
-      go : (o : Option Redex) → lowestRedex k n u ≡ o → o ≡ some s
-      go none e = absurd (Option·none-ne-some (s .rule) (sym (lowest-none e (s .place) (a .inside)) ∙ a .fitting))
-      go (some t) e = ap some (lowest-only t s (lowest-some t e) a)
+      lowest-is-by-cases : (o : Option Redex) → lowestRedex k n u ≡ o → o ≡ some s
+      lowest-is-by-cases none e = absurd (Option·none-ne-some (s .rule) (sym (lowest-none e (s .place) (a .inside)) ∙ a .fitting))
+      lowest-is-by-cases (some t) e = ap some (lowest-only t s (lowest-some t e) a)
 
   pub irreducible-of-none : least k ≤ n → lowestRedex k n u ≡ none → Irreducible (rules k n) u
   irreducible-of-none h e x m p = elim (decLe (length u) p) [
@@ -108,11 +108,11 @@ module _ (k : Kind) (n : ℕ) (u : List ℕ) where
   ]
 
   pub none-of-irreducible : Irreducible (rules k n) u → lowestRedex k n u ≡ none
-  none-of-irreducible f = go (lowestRedex k n u) refl
+  none-of-irreducible f = none-of-irreducible-by-cases (lowestRedex k n u) refl
     where
-      go : (o : Option Redex) → lowestRedex k n u ≡ o → o ≡ none
-      go none e = refl
-      go (some s) e =
+      none-of-irreducible-by-cases : (o : Option Redex) → lowestRedex k n u ≡ o → o ≡ none
+      none-of-irreducible-by-cases none e = refl
+      none-of-irreducible-by-cases (some s) e =
           absurd (Option·none-ne-some (s .rule)
           (sym (none-firstFitting (rules k n) u (s .place) (λ x m. f x m (s .place))) ∙ lowest-some s e .fitting))
 
@@ -153,19 +153,19 @@ module _ (k : Kind) (n : ℕ) (h : least k ≤ n) where
 
   -- as many steps as the measure are enough
   within-enough : (t r : ℕ) (u : List ℕ) → wrongLetter n u ≡ false → value n u ≤ t → value n u ≤ r → traceWithin k n t u ≡ traceWithin k n r u
-  within-enough zero r u e f g = go (lowestRedex k n u) refl
+  within-enough zero r u e f g = within-enough-by-cases (lowestRedex k n u) refl
     where
-      go : (o : Option Redex) → lowestRedex k n u ≡ o → traceWithin k n 0 u ≡ traceWithin k n r u
-      go none d = within-none 0 u d ∙ sym (within-none r u d)
-      go (some s) d = absurd (omega (arith, lowers u s e d .1))
-  within-enough (suc t) r u e f g = go (lowestRedex k n u) refl r g (λ r v. within-enough t r v)
+      within-enough-by-cases : (o : Option Redex) → lowestRedex k n u ≡ o → traceWithin k n 0 u ≡ traceWithin k n r u
+      within-enough-by-cases none d = within-none 0 u d ∙ sym (within-none r u d)
+      within-enough-by-cases (some s) d = absurd (omega (arith, lowers u s e d .1))
+  within-enough (suc t) r u e f g = within-enough-by-cases (lowestRedex k n u) refl r g (λ r v. within-enough t r v)
     where
-      go : (o : Option Redex) → lowestRedex k n u ≡ o → (r : ℕ) → value n u ≤ r
+      within-enough-by-cases : (o : Option Redex) → lowestRedex k n u ≡ o → (r : ℕ) → value n u ≤ r
           → ((r : ℕ) (v : List ℕ) → wrongLetter n v ≡ false → value n v ≤ t → value n v ≤ r → traceWithin k n t v ≡ traceWithin k n r v)
           → traceWithin k n (suc t) u ≡ traceWithin k n r u
-      go none d r g ih = within-none (suc t) u d ∙ sym (within-none r u d)
-      go (some s) d zero g ih = absurd (omega (arith, lowers u s e d .1))
-      go (some s) d (suc r) g ih =
+      within-enough-by-cases none d r g ih = within-none (suc t) u d ∙ sym (within-none r u d)
+      within-enough-by-cases (some s) d zero g ih = absurd (omega (arith, lowers u s e d .1))
+      within-enough-by-cases (some s) d (suc r) g ih =
           let l = lowers u s e d in
           within-some t u s d ∙ ap (continued u s) (ih r (after u s) (l .0) (omega arith) (omega arith)) ∙ sym (within-some r u s d)
 
@@ -210,11 +210,12 @@ module _ (k : Kind) (n : ℕ) (h : least k ≤ n) where
       → P u (continued u s (trace k n (after u s)))) where
     below : (t : ℕ) (u : List ℕ) → wrongLetter n u ≡ false → value n u < t → P u (trace k n u)
     below zero u e g = absurd (omega arith)
-    below (suc t) u e g = go (lowestRedex k n u) refl (λ v. below t v)
+    below (suc t) u e g = below-by-cases (lowestRedex k n u) refl (λ v. below t v)
       where
-        go : (o : Option Redex) → lowestRedex k n u ≡ o → ((v : List ℕ) → wrongLetter n v ≡ false → value n v < t → P v (trace k n v)) → P u (trace k n u)
-        go none d ih = subst (P u) (sym (trace-none u d)) (ends u e d)
-        go (some s) d ih =
+        below-by-cases : (o : Option Redex) → lowestRedex k n u ≡ o → ((v : List ℕ) → wrongLetter n v ≡ false → value n v < t → P v (trace k n v))
+            → P u (trace k n u)
+        below-by-cases none d ih = subst (P u) (sym (trace-none u d)) (ends u e d)
+        below-by-cases (some s) d ih =
             let l = lowers k n h u s e d in
             subst (P u) (sym (trace-some u s e d)) (goes u s e (lowest-some k n u s d) (ih (after u s) (l .0) (omega arith)))
 

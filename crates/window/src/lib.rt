@@ -30,7 +30,6 @@ use product::product_into;
 pub use refusals::lanes_of;
 use refusals::preset_lanes;
 pub use refusals::preset_refusal;
-pub use refusals::rank_refusal;
 use refusals::ranked_window_refusal;
 use refusals::ranked_windows_refusal;
 use refusals::ranked_words_lanes;

@@ -31,9 +31,9 @@ endAt-inside ed b c i o z e h q = endAt-read-le ed b i o (accepted ed b z) (omeg
 -- ---- the checks
 
 -- the record at byte o: what its own checks answered, t whether it has too many lanes
-pub refused-by-itself : (ed : Edition) (b : List ℕ) (o o′ r : ℕ) → o ≡ o′ → preset.Refused r ≡ checkedRecord ed b o → r ≡ recordConversionRefusal ed b o′
+pub refused-by-itself : (ed : Edition) (b : List ℕ) {o o′ r : ℕ} → o ≡ o′ → preset.Refused r ≡ checkedRecord ed b o → r ≡ recordConversionRefusal ed b o′
 unfolding recordConversionRefusal
-refused-by-itself ed b o o′ r e q =
+refused-by-itself ed b {o} {r} e q =
     let s = record-refused ed b o r q in
     rw (← e, s .0) (sym (then-some r (check 18 (tooManyLanes ed b o)) (s .1)))
 

@@ -32,9 +32,9 @@ use Rattle.book.proofs.converting.ConversionChecks.{endAt-inside}
 -- ---- what is left to write
 
 -- a part of what is left was stored
-pub storing-part : (o : List ℕ) (at : ℕ) (u out : List ℕ) (r : ℕ) (x v : List ℕ) (out′ : List ℕ) (r′ : ℕ)
+pub storing-part : {o : List ℕ} (at : ℕ) (u out : List ℕ) (r : ℕ) (x v : List ℕ) (out′ : List ℕ) (r′ : ℕ)
     → Storing o at u out r (x ++ v) → out′ ≡ sets out r x → r′ ≡ r + length x → Storing o at u out′ r′ v
-storing-part o at u out r x v out′ r′ s e p = record {
+storing-part at u out r x v out′ r′ s e p = record {
   size = ap length e ∙ length-sets out r x ∙ s .size;
   place = let l = length-append x v in let q = s .place in omega arith;
   same = s .same ∙ sym (rw e (sets-next out r r′ x v p));
@@ -96,7 +96,7 @@ module _ {ed : Edition} {b : List ℕ} (w : Convertible ed b) {c : ℕ} (n : c �
       letters-are = let s : o + m + l - (o + m) ≡ l = omega arith in rw (s, d, g, f, q)
 
       pub end-inside : o + m + l ≤ length b
-      end-inside = end-read-le ed b o p m l f d g (endAt-inside ed b c i o (w .opens) n h q)
+      end-inside = end-read-le ed b o f d g (endAt-inside ed b c i o (w .opens) n h q)
 
       pub room-for : {to : Edition} (at most : ℕ) → to ≡ other ed → at + headSize (other ed) + letterCountAt ed b (offset b i) ≤ most
           → at + headSize to + length (take (o + m + l - (o + m)) (drop (o + m) b)) ≤ most
@@ -138,7 +138,7 @@ module _ {ed : Edition} {b : List ℕ} (w : Convertible ed b) {c : ℕ} (n : c �
     pub others-next : {out′ : List ℕ} {x : ℕ} → i < c → out′ ≡ sets out p (bytesAt ed b i) → x ≡ headSize (other ed) + letterCountAt ed b (offset b i)
         → Storing o 0 (allBytes ed b c) out′ (p + x) (bytesLeft ed b c (i + 1))
     others-next {out′} {x} h e k =
-        storing-part o 0 (allBytes ed b c) out p (bytesAt ed b i) (bytesLeft ed b c (i + 1)) out′ (p + x) (rw (← bytes-next i h) s) e
+        storing-part 0 (allBytes ed b c) out p (bytesAt ed b i) (bytesLeft ed b c (i + 1)) out′ (p + x) (rw (← bytes-next i h) s) e
         (rw (length-bytesAt i h, k))
 
     pub others-end : c ≤ i → (out ≡ sets o 0 (allBytes ed b c)) × (p ≡ length (allBytes ed b c))
@@ -179,7 +179,7 @@ module _ {ed : Edition} {b : List ℕ} (w : Convertible ed b) {c : ℕ} (n : c �
         → Placing ed b c before at out′ (o + x) (i + 1)
     offsets-next {out′} {x} h e k = record {
       storing =
-          storing-part before at (allOffsets ed b c) out (at + 2 * i) (two o) (offsetsLeft ed b c (o + x) (i + 1)) out′ (at + 2 * (i + 1))
+          storing-part at (allOffsets ed b c) out (at + 2 * i) (two o) (offsetsLeft ed b c (o + x) (i + 1)) out′ (at + 2 * (i + 1))
           (rw (← offsetsLeft-next o i x h k) (s .storing)) e (let l = length-two o in omega arith);
       begins =
           let l = length-append (bytesAt ed b i) (bytesLeft ed b c (i + 1)) in
@@ -197,10 +197,10 @@ module _ {ed : Edition} {b : List ℕ} (w : Convertible ed b) {c : ℕ} (n : c �
 
   -- ---- the whole
 
-  pub all-written : (out a : List ℕ) {d z : List ℕ} (p : ℕ) → (a ≡ sets out 0 (allBytes ed b c)) × (p ≡ length (allBytes ed b c))
+  pub all-written : (out : List ℕ) {a : List ℕ} {d z : List ℕ} {p : ℕ} → (a ≡ sets out 0 (allBytes ed b c)) × (p ≡ length (allBytes ed b c))
       → d ≡ sets a p (allOffsets ed b c) → z ≡ sets d (p + 2 * c) (two c)
       → z ≡ sets out 0 (converted ed b)
-  all-written out a p e f g =
+  all-written out {a} {p} e f g =
       let l = length-offsetBytes (other ed) 0 (recordsFrom ed b c 0) in
       let r = length-recordsFrom ed b c 0 in
       g

@@ -36,8 +36,8 @@ module _ (f : ℕ → Slot) (i n : ℕ) where
   pub begun-none : (l : List Slot) → n ≡ length l → Begun f i n 0 l
   begun-none l e = record { bound = omega arith; size = e; front = unfold up in refl }
 
-  pub begun-next : (j : ℕ) (l : List Slot) (p : Slot) → Begun f i n j l → j < n → p ≡ f (i + j) → Begun f i n (j + 1) (set l j p)
-  begun-next j l p b h q =
+  pub begun-next : {j : ℕ} {l : List Slot} {p : Slot} → Begun f i n j l → j < n → p ≡ f (i + j) → Begun f i n (j + 1) (set l j p)
+  begun-next {j} {l} {p} b h q =
       let s = b .size in
       let last : map f (up (i + j) 1) ≡ p ∷ [] = rw q (unfold up in refl) in
       record {
@@ -56,8 +56,8 @@ module _ (f : ℕ → Slot) (i n : ℕ) where
 abbrev pub slots : (ℕ → Preset) → ℕ → Slot
 slots g j = record { preset = g j }
 
-pub presets-whole : (g : ℕ → Preset) (i n j : ℕ) (l : List Slot) → Begun (slots g) i n j l → n ≤ j → map (λ s. s .preset) l ≡ map g (up i n)
-presets-whole g i n j l b h = rw (begun-whole (slots g) i n j l b h) (map-map (λ s. s .preset) (slots g) (up i n))
+pub presets-whole : (g : ℕ → Preset) {i n j : ℕ} {l : List Slot} → Begun (slots g) i n j l → n ≤ j → map (λ s. s .preset) l ≡ map g (up i n)
+presets-whole g {i} {n} {j} {l} b h = rw (begun-whole (slots g) i n j l b h) (map-map (λ s. s .preset) (slots g) (up i n))
 
 -- no book has the preset 65,535: what reading a number from there on answers is the same for all
 pub preset-from : (ed : Edition) (b : List ℕ) (i s j : ℕ) → s ≡ min i 65535 → checkedPreset ed b (s + j) ≡ checkedPreset ed b (i + j)

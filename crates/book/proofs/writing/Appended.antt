@@ -14,9 +14,9 @@ use Rattle.book_format.proofs.BookLaws.{accepted, bookSize}
 use Rattle.book_format.proofs.WritingLaws.{length-recordOf, length-two}
 
 -- the records of b, which end at t, and the new one
-pub records-written : (b out : List ℕ) (t : ℕ) (r o₁ o₂ : List ℕ) → t ≤ length b → o₁ ≡ sets out 0 (take t b) → o₂ ≡ sets o₁ t r
+pub records-written : (b out : List ℕ) (t : ℕ) (r : List ℕ) {o₁ o₂ : List ℕ} → t ≤ length b → o₁ ≡ sets out 0 (take t b) → o₂ ≡ sets o₁ t r
     → o₂ ≡ sets out 0 (take t b ++ r)
-records-written b out t r o₁ o₂ h e₁ e₂ =
+records-written b out t r h e₁ e₂ =
     let l = length-take-le t b h in
     e₂ ∙ rw e₁ (sets-next out 0 t (take t b) r (omega arith))
 

@@ -33,10 +33,10 @@ pub record Counted (k : Kind) (n : ℕ) (counts : List ℕ) (d c : ℕ) : Type 0
 pub counted-length : {k : Kind} {n : ℕ} {counts : List ℕ} {d c : ℕ} → Counted k n counts d c → length counts ≡ greatestLength k n + 1
 counted-length {k} {n} h = ap length (h .holds) ∙ length-values (product k (h .done)) (greatestLength k n + 1)
 
-pub counted-none : (k : Kind) (n : ℕ) (counts : List ℕ) (m c : ℕ) → counts ≡ values (product k 0) m → m ≡ greatestLength k n + 1 → c ≡ fewest k
+pub counted-none : {k : Kind} {n : ℕ} {counts : List ℕ} {m c : ℕ} → counts ≡ values (product k 0) m → m ≡ greatestLength k n + 1 → c ≡ fewest k
     → Counted k n counts 1 c
 unfolding degree
-counted-none k n counts m c e s f =
+counted-none {k} e s f =
     record { done = 0; level = omega arith; most = omega arith; ends = omega arith; holds = e ∙ ap (values (product k 0)) s }
 
 -- ---- a turn
@@ -117,8 +117,8 @@ module _ {k : Kind} {n : ℕ} {counts : List ℕ} {d c e : ℕ} (turn : Turn k n
 
 -- ---- after the last
 
-pub counted-all : (k : Kind) (n : ℕ) (counts : List ℕ) (d c : ℕ) → least k ≤ n → Counted k n counts d c → lanes k n ≤ c → counts ≡ distribution k n
-counted-all k n counts d c a h g =
+pub counted-all : {k : Kind} {n : ℕ} {counts : List ℕ} {d c : ℕ} → least k ≤ n → Counted k n counts d c → lanes k n ≤ c → counts ≡ distribution k n
+counted-all {k} {n} a h g =
     let e : h .done ≡ levels k n = omega (arith, lanes-levels k n a, h .level, h .most) in
     h .holds
     ∙ ap (λ (t : ℕ). values (product k t) (greatestLength k n + 1)) e

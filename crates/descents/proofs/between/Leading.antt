@@ -68,11 +68,11 @@ unfolding wordRefusal tooLong
 word-le n m u l h = rw (le-ltb 4096 (length u) (length-accepted n u h), letters-le n m u l (letters-accepted n u h))
 
 -- a word is refused with 19 where t, whether it is over the allowed steps, is not so
-pub not-over : (t u : Bool) → t ≡ u → not t ≡ true → 19 ≡ check 19 (not u)
-not-over t u e f = rw (← e, f)
+pub not-over : {t u : Bool} → t ≡ u → not t ≡ true → 19 ≡ check 19 (not u)
+not-over e f = rw (← e, f)
 
-pub all-over : (t u : Bool) → t ≡ u → not t ≡ false → 0 ≡ check 19 (not u)
-all-over t u e f = rw (← e, f)
+pub all-over : {t u : Bool} → t ≡ u → not t ≡ false → 0 ≡ check 19 (not u)
+all-over e f = rw (← e, f)
 
 -- and one that is copied whole is written
 pub copied : (u out after : List ℕ) → after ≡ take (length u) u ++ drop (length u) out → after ≡ front u out

@@ -60,16 +60,16 @@ pub checks-pass : (k n : ℕ) (u v : List ℤ) → RankOf k n → WindowOf (kind
 checks-pass k n u v h a b = then-none _ _ h ∙ then-none _ _ a ∙ b
 
 -- the answer of a call that no check refuses and that returned a length
-pub answered-length : (r : ℕ) (l out after : List ℕ) (a : Answer) → r ≡ 0 → Yields (writes r l out) a after → (m : ℕ) → a ≡ answer.Length m
+pub answered-length : {r : ℕ} (l out after : List ℕ) {a : Answer} → r ≡ 0 → Yields (writes r l out) a after → (m : ℕ) → a ≡ answer.Length m
     → Yields (writes 0 l out) (answer.Length m) after
-answered-length r l out after a z y m e = rw (← z, ← e) y
+answered-length l out after z y m e = rw (← z, ← e) y
 
 -- two words u and v, each to the front of its output
 module _ (u v first second : List ℕ) where
   -- t says whether the second lacks room for its l letters
-  pub second-lacks : (t : Bool) (l : ℕ) → t ≡ ltb (length second) l → length v ≡ l → t ≡ true
+  pub second-lacks : {t : Bool} {l : ℕ} → t ≡ ltb (length second) l → length v ≡ l → t ≡ true
       → SplitYields (splitOutcome 0 u v first second) (Refused 14) first second
-  second-lacks t l e q f =
+  second-lacks {l} e q f =
       let s : length second < length v = rw q (ltb-true (length second) l (sym e ∙ f)) in
       elim (decLe (length u) (length first)) [
         | yes g ↦ second-short u v first second (length u) (length v) refl refl g s

@@ -47,21 +47,21 @@ later-by-signs (negsuc a) (pos b) = refl
 later-by-signs (negsuc a) (negsuc b) = differ-true (ltZ (negsuc b) (negsuc a))
 
 -- s and t are the signs of the two bytes as they are held
-pub later-of-signs : (x y : ℤ) (s t : Bool) → SFits w8 x → SFits w8 y → s ≡ negative (held x) → t ≡ negative (held y)
+pub later-of-signs : (x y : ℤ) {s t : Bool} → SFits w8 x → SFits w8 y → s ≡ negative (held x) → t ≡ negative (held y)
     → differ (differ (ltZ (held y) (held x)) s) t ≡ later x y
-later-of-signs x y s t f g p q = rw (p, q, byte-back x f, byte-back y g) (later-by-signs x y)
+later-of-signs x y f g p q = rw (p, q, byte-back x f, byte-back y g) (later-by-signs x y)
 
 -- r is what comparing two entries answered
-pub later-told : (x y : ℤ) (r t : Bool) → mag x < 128 → mag y < 128 → r ≡ later (held x) (held y) → r ≡ t → t ≡ later x y
-later-told x y r t f g e q = rw (← element-back x f, ← element-back y g) (sym q ∙ e)
+pub later-told : (x y : ℤ) {r t : Bool} → mag x < 128 → mag y < 128 → r ≡ later (held x) (held y) → r ≡ t → t ≡ later x y
+later-told x y f g e q = rw (← element-back x f, ← element-back y g) (sym q ∙ e)
 
-pub negative-told : (x : ℤ) (r t : Bool) → mag x < 128 → r ≡ negative (held x) → r ≡ t → t ≡ negative x
-negative-told x r t f e q = rw (← element-back x f) (sym q ∙ e)
+pub negative-told : (x : ℤ) {r t : Bool} → mag x < 128 → r ≡ negative (held x) → r ≡ t → t ≡ negative x
+negative-told x f e q = rw (← element-back x f) (sym q ∙ e)
 
 -- the second entry is compared with its sign changed
-pub later-negated-told : (x y : ℤ) (r t : Bool) → mag x < 128 → mag y < 128 → natAbs y < 128 → r ≡ later (held x) (held (pos 0 -ℤ held y))
+pub later-negated-told : (x y : ℤ) {r t : Bool} → mag x < 128 → mag y < 128 → natAbs y < 128 → r ≡ later (held x) (held (pos 0 -ℤ held y))
     → r ≡ t → t ≡ later x (negℤ y)
-later-negated-told x y r t f g h e q = rw (← element-back x f, ← minus-back y (record { sfits = g }) h) (sym q ∙ e)
+later-negated-told x y f g h e q = rw (← element-back x f, ← minus-back y (record { sfits = g }) h) (sym q ∙ e)
 
 -- ---- stores
 

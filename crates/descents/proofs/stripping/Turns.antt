@@ -62,8 +62,8 @@ pub taken-allowed : (k : Kind) (n set s : ℕ) (w : List ℤ) {r : Bool} (v : Li
     → (r ≡ isDescent k n s w) × (v ≡ pick r (act k n s w) w) → Taken k n set s w r v
 taken-allowed k n set s w v e t h = (rw (← e, t) (h .0), h .1)
 
-pub taken-not : (k : Kind) (n set s : ℕ) (w : List ℤ) (b : Bool) → b ≡ allows set s → b ≡ false → Taken k n set s w false w
-taken-not k n set s w b e f = (rw (← e, f) refl, refl)
+pub taken-not : (k : Kind) (n set s : ℕ) {w : List ℤ} {b : Bool} → b ≡ allows set s → b ≡ false → Taken k n set s w false w
+taken-not k n set s e f = (rw (← e, f) refl, refl)
 
 -- ---- the loop
 
@@ -78,12 +78,12 @@ pub record Turning (set : ℕ) (k : Kind) (n : ℕ) (w₀ w : List ℤ) (s : ℕ
   pub ended : Ended (allows set) k n (s - 1) 1 w
   pub reached : (y : List ℤ) → Strips (allows set) k n w y → Strips (allows set) k n w₀ y
 
-pub turning-start : (set : ℕ) (k : Kind) (n : ℕ) (w : List ℤ) → WindowOf k n w → Turning set k n w w 1
-turning-start set k n w p =
+pub turning-start : {set : ℕ} {k : Kind} {n : ℕ} {w : List ℤ} → WindowOf k n w → Turning set k n w w 1
+turning-start p =
     record { low = omega arith; high = omega arith; passes = p; ended = λ j g l a. absurd (omega arith); reached = λ y r. r }
 
-pub turning-end : (set : ℕ) (k : Kind) (n : ℕ) (w₀ w : List ℤ) (s : ℕ) → Turning set k n w₀ w s → n < s → Strips (allows set) k n w₀ w
-turning-end set k n w₀ w s t l =
+pub turning-end : {set : ℕ} {k : Kind} {n : ℕ} {w₀ w : List ℤ} {s : ℕ} → Turning set k n w₀ w s → n < s → Strips (allows set) k n w₀ w
+turning-end {set} {k} {n} {w} t l =
     t .reached w (strips-nothing (allows set) k n w (λ j g m a. t .ended j g (omega arith) a))
 
 module _ {set : ℕ} {k : Kind} {n : ℕ} {w₀ w : List ℤ} {s : ℕ} (t : Turning set k n w₀ w s) (h : least k ≤ n) (l : s ≤ n) (r : Bool) (v : List ℤ)
@@ -124,7 +124,7 @@ module _ {set : ℕ} {k : Kind} {n : ℕ} {w₀ w : List ℤ} {s : ℕ} (t : Tur
             ended-far k n s w h (t .low) l accepted (allows set) (b - 1) far (λ x y z c. t .ended x y (omega (arith, q .1)) c) j i m a
 
         first : (y : List ℤ) → Strips (allows set) k n (act k n s w) y → Strips (allows set) k n w y
-        first y = strips-first (allows set) k n w y s h accepted (t .low) l (both .0) (both .1)
+        first y = strips-first (allows set) k n s h accepted (t .low) l (both .0) (both .1)
 
     -- the length falls by one, and the step goes back by less than the steps there are
     pub turning-less : (b : ℕ) → 1 ≤ b → windowLength k v * (n + 1) + (n + 1 - b) < windowLength k w * (n + 1) + (n + 1 - s)

@@ -153,10 +153,10 @@ module _ (u o out : List ℕ) (at i : ℕ) (h : i < length u) (s : Storing o 0 (
   pub writing-left : getD u i 0 ≡ 0 → Storing o 0 (marked 0 u) out at (marked (i + 1) (drop (i + 1) u))
   writing-left g = rw (add-one i, ← marked-left u i h g) s
 
-pub writing-end : (u o out : List ℕ) (at i : ℕ) → length u ≤ i → length (marked 0 u) ≤ length o
+pub writing-end : (u : List ℕ) {o out : List ℕ} (at i : ℕ) → length u ≤ i → length (marked 0 u) ≤ length o
     → Storing o 0 (marked 0 u) out at (marked i (drop i u)) → out ≡ front (marked 0 u) o
 unfolding marked
-writing-end u o out at i h l s =
+writing-end u {o} {out} at i h l s =
     let none : drop i u ≡ [] = drop-of-length-le u h in
     let t : Storing o 0 (marked 0 u) out at [] = rw none at s in
     stored-of-storing t .1 ∙ sets-front (marked 0 u) o l

@@ -34,8 +34,8 @@ module _ (k n : ℕ) (h : RankOf k n) (w : List ℤ) (a : WindowOf (kindOf k) n 
   unfolding lengthOfWindow answerOf
   measured = rw (eq-eqb _ 0 (then-none _ _ h ∙ a))
 
-  pub length-told : (r : Answer) (l : ℕ) → r ≡ lengthOfWindow k n w → r ≡ answer.Length l → l ≡ windowLength (kindOf k) w
-  length-told r l e q = let p : answer.Length l ≡ answer.Length (windowLength (kindOf k) w) = sym q ∙ e ∙ measured in cc
+  pub length-told : {r : Answer} {l : ℕ} → r ≡ lengthOfWindow k n w → r ≡ answer.Length l → l ≡ windowLength (kindOf k) w
+  length-told {l} e q = let p : answer.Length l ≡ answer.Length (windowLength (kindOf k) w) = sym q ∙ e ∙ measured in cc
 
   pub length-never : (r : Answer) (s : ℕ) → r ≡ lengthOfWindow k n w → r ≡ answer.Refused s → ⊥
   length-never r s e q =

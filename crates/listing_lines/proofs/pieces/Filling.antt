@@ -61,11 +61,11 @@ lineFrom-preset b o zero a f = absurd (f refl)
 lineFrom-preset b o (suc i) a f = let e : suc i - 1 ≡ i = omega arith in rw e
 
 -- o is what opening the book answered, a what reading the preset of the line did
-pub line-from : (ed : Edition) (b : List ℕ) (i : ℕ) (o : Opened) (a : Preset) → o ≡ checkedBook ed b → a ≡ checkedPreset ed b (i - 1)
+pub line-from : (ed : Edition) (b : List ℕ) (i : ℕ) {o : Opened} {a : Preset} → o ≡ checkedBook ed b → a ≡ checkedPreset ed b (i - 1)
     → lineFrom b o i a ≡ line ed b i
 unfolding lineFrom line lineOf
-line-from ed b zero o a p q = rw p
-line-from ed b (suc i) o a p q = let e : suc i - 1 ≡ i = omega arith in rw (q, e)
+line-from ed b zero p q = rw p
+line-from ed b (suc i) p q = let e : suc i - 1 ≡ i = omega arith in rw (q, e)
 
 -- a text at the front of a buffer
 stored-front : (o u v : List ℕ) (m : ℕ) → length u ≤ length o → Stored o 0 u v m → (m ≡ length u) × (take m v ≡ u)
@@ -100,7 +100,8 @@ module _ (r : ℕ) (h : r < 256) (o v : List ℕ) (m : ℕ) (g : 4096 ≡ length
         → Yields (writes 0 (refusedBookLine r) out) (Length n) after
     refused-copied l after n s =
         let e = rw (made .1) at s in
-        writes-written (writes 0 (refusedBookLine r) out) 0 0 (refusedBookLine r) out refl refl n after refl (omega (arith, e .0)) (omega (arith, e .0, made .0))
+        writes-written (writes 0 (refusedBookLine r) out) 0 0 (refusedBookLine r) out refl refl n after refl (omega (arith, e .0))
+        (omega (arith, e .0, made .0))
         (e .1 ∙ sets-front (refusedBookLine r) out (omega (arith, made .0)))
 
 -- ---- what is left of a piece
@@ -163,13 +164,13 @@ pub record Filling (ed : Edition) (b : List ℕ) (first : ℕ) (o out : List ℕ
   pub rest : left ≡ lineCount ed b - next
   pub same : nextPiece ed b first o ≡ pieceFrom ed b left next out end
 
-pub filling-none : (ed : Edition) (b : List ℕ) (first : ℕ) (o : List ℕ) (left : ℕ) → left ≡ lineCount ed b - first → Filling ed b first o o first 0 left
-filling-none ed b first o left e = record { size = refl; inside = omega arith; rest = e; same = nextPiece-from ed b first o ∙ rw e }
+pub filling-none : {ed : Edition} {b : List ℕ} {first : ℕ} {o : List ℕ} {left : ℕ} → left ≡ lineCount ed b - first → Filling ed b first o o first 0 left
+filling-none {ed} {b} {first = first} {o} e = record { size = refl; inside = omega arith; rest = e; same = nextPiece-from ed b first o ∙ rw e }
 
 module _ {ed : Edition} {b : List ℕ} {first : ℕ} {o out : List ℕ} {next end left : ℕ} (f : Filling ed b first o out next end left) where
-  pub filling-next : (m : ℕ) {u : List ℕ} (out′ : List ℕ) (end′ : ℕ) → 0 < left → (m ≡ length (line ed b next)) × (u ≡ line ed b next) → m ≤ length out - end
+  pub filling-next : {m : ℕ} {u : List ℕ} {out′ : List ℕ} {end′ : ℕ} → 0 < left → (m ≡ length (line ed b next)) × (u ≡ line ed b next) → m ≤ length out - end
       → Stored out end u out′ end′ → Filling ed b first o out′ (next + 1) end′ (left - 1)
-  filling-next m {u} out′ end′ h q room p =
+  filling-next {m} {u} {out′} {end′} h q room p =
       let t : left ≡ suc (left - 1) = omega arith in
       let l : length (line ed b next) ≤ length out - end = omega (arith, q .0) in
       let k : length u ≡ length (line ed b next) = ap length (q .1) in

@@ -24,19 +24,19 @@ pub wordLine-room : (i k n : ℕ) (u : List ℕ) {f : List ℕ} {w : List ℤ} (
 unfolding wordLine
 wordLine-room i k n u m p q h = rw (p, q) h
 
-pub wordLine-put : (o : List ℕ) (at i k n : ℕ) (u : List ℕ) {f : List ℕ} {w : List ℤ} (out : List ℕ) (r : ℕ) → f ≡ wordNormalForm (kindOf k) n u
+pub wordLine-put : (o : List ℕ) (at i k n : ℕ) (u : List ℕ) {f : List ℕ} {w : List ℤ} {out : List ℕ} {r : ℕ} → f ≡ wordNormalForm (kindOf k) n u
     → w ≡ window (kindOf k) n u
     → Stored o at (presetLine i (kindOf k) n f w) out r → Stored o at (wordLine i (kindOf k) n u) out r
 unfolding wordLine
-wordLine-put o at i k n u out r p q h = rw (← p, ← q) h
+wordLine-put o at i k n u p q h = rw (← p, ← q) h
 
 -- ---- presets
 
-pub lineBy-found : (b : List ℕ) (i k n s l : ℕ) (a : Preset) → a ≡ preset.Found k n s l
+pub lineBy-found : (b : List ℕ) (i : ℕ) {k n s l : ℕ} {a : Preset} → a ≡ preset.Found k n s l
     → wordLine i (kindOf k) n (take (s + l - s) (drop s b)) ≡ lineBy b i a
 unfolding lineBy
-lineBy-found b i k n s l a f = let d : s + l - s ≡ l = omega arith in rw (f, d)
+lineBy-found b i {s = s} {l = l} f = let d : s + l - s ≡ l = omega arith in rw (f, d)
 
-pub lineBy-refused : (b : List ℕ) (i r x : ℕ) (a : Preset) → a ≡ preset.Refused r → x ≡ refusalOf a → refusedLine i x ≡ lineBy b i a
+pub lineBy-refused : (b : List ℕ) (i r : ℕ) {x : ℕ} {a : Preset} → a ≡ preset.Refused r → x ≡ refusalOf a → refusedLine i x ≡ lineBy b i a
 unfolding lineBy refusalOf
-lineBy-refused b i r x a f q = rw (q, f)
+lineBy-refused b i r f q = rw (q, f)

@@ -11,7 +11,7 @@ returns c = put-short _ _ (c .if1 .taken)
 returns-2 : tie.Need-returns-2
 returns-2 c =
     let copied = c .before .before in
-    put-copied _ _ _ _ (copied .before .before .if1 .left) (copied .copy .ensures .0) (copied .copy .ensures .1)
+    put-copied _ _ (copied .before .before .if1 .left) (copied .copy .ensures .0) (copied .copy .ensures .1)
 
 pub put-spec : {M : Type 1} → statement M
 put-spec = tie.close (tie.spec returns (λ c κs. search needs) (λ c. search needs) returns-2)

@@ -110,12 +110,12 @@ wrongAt-else k m s e w q f h t = rw (← q, ne-eqb s 0 f, le-ltb m s h, t)
 
 -- `next` is the flag after one entry more if it is right in the four cases of the flag and of `minus`, which says
 -- whether the entry is negative
-pub flag-flipped : (w : List ℤ) (i : ℕ) {flag minus : Bool} (next : Bool) → i < length w
+pub flag-flipped : (w : List ℤ) (i : ℕ) {flag minus : Bool} {next : Bool} → i < length w
     → flag ≡ flagAfter (take i w) → negative (getD w i (pos 0)) ≡ minus
     → (flag ≡ true → minus ≡ true → next ≡ false) → (flag ≡ true → minus ≡ false → next ≡ true)
     → (flag ≡ false → minus ≡ true → next ≡ true) → (flag ≡ false → minus ≡ false → next ≡ false)
     → next ≡ flagAfter (take (i + 1) w)
-flag-flipped w i {flag} {minus} next h e q yes-flips yes-stays no-flips no-stays = by-case flag minus refl refl ∙ sym (flag-next w i h ∙ rw (q, ← e))
+flag-flipped w i {flag} {minus} {next} h e q yes-flips yes-stays no-flips no-stays = by-case flag minus refl refl ∙ sym (flag-next w i h ∙ rw (q, ← e))
   where
     by-case : (t s : Bool) → flag ≡ t → minus ≡ s → next ≡ pick s (not t) t
     by-case true true = yes-flips

@@ -50,11 +50,11 @@ module _ {k : Kind} {n : ℕ} {rest : List ℕ} {s : ℕ} {families places lengt
 
   module _ {q : ℕ} (a : Ready k n rest s families places lengths word q) (u : Redex) (e : lowestRedex k n (take (suc q) word) ≡ some u) where
     -- a step that is noted, of any family but 1
-    pub carried-step : (s′ : ℕ) (families′ places′ lengths′ word′ : List ℕ) → (u .rule .family ≡ 1 → ⊥) → s′ ≡ s + 1
+    pub carried-step : {s′ : ℕ} {families′ places′ lengths′ word′ : List ℕ} → (u .rule .family ≡ 1 → ⊥) → s′ ≡ s + 1
         → families′ ≡ set families s (u .rule .family) → places′ ≡ set places s (u .place)
         → lengths′ ≡ set lengths s (length word + length rest) → word′ ≡ after word u
         → Carried k n rest s families places lengths word s′ families′ places′ lengths′ word′ (u .place)
-    carried-step s′ families′ places′ lengths′ word′ f i j l m o =
+    carried-step f i j l m o =
         let b = after-moved k n (a .rank) word q (a .reading) u e f in
         record {
           reading = subst (λ (w : List ℕ). Reading k n w (u .place)) (sym o) (reading-moved k n (a .rank) word q (a .reading) u e f);
@@ -68,11 +68,11 @@ module _ {k : Kind} {n : ℕ} {rest : List ℕ} {s : ℕ} {families places lengt
         }
 
     -- a step of family 1
-    pub inserted-step : (s′ : ℕ) (families′ places′ lengths′ word′ : List ℕ) (size : ℕ) → u .rule .family ≡ 1 → s′ ≡ s + 1
+    pub inserted-step : {s′ : ℕ} {families′ places′ lengths′ word′ : List ℕ} {size : ℕ} → u .rule .family ≡ 1 → s′ ≡ s + 1
         → families′ ≡ set families s (u .rule .family) → places′ ≡ set places s (u .place) → size + 2 ≡ length word
         → lengths′ ≡ set lengths s (size + length rest) → take size word′ ≡ after word u
         → Inserted k n rest s families places lengths word s′ families′ places′ lengths′ word′ size
-    inserted-step s′ families′ places′ lengths′ word′ size f i j l p m o =
+    inserted-step {size} f i j l p m o =
         let b = length-dropped k n (a .rank) word q (a .reading) u e f in
         let d : length (after word u) ≡ size = omega (arith, b) in
         record {

@@ -78,7 +78,7 @@ module _ {k : Kind} {n : ℕ} {rest : List ℕ} {s : ℕ} {families places lengt
         let d = after-dropped k n (a .rank) word q (a .reading) (have .step) (have .is) (have .family ∙ c) in
         let g : p + 2 ≡ suc q = omega (arith, d .0, have .place) in
         let v : take (length word - 2) word′ ≡ take (have .step .place) word ++ drop (suc q) word = rw (have .place, ← g) w in
-        inserted-step a (have .step) (have .is) (s + 1) families′ places′ lengths′ word′ (length word - 2) (have .family ∙ c) refl
+        inserted-step a (have .step) (have .is) (have .family ∙ c) refl
         (i ∙ ap (set families s) (sym (have .family ∙ c))) (j ∙ ap (set places s) (sym (have .place)))
         (omega (arith, turn-pair c)) l (v ∙ sym (d .1))
 
@@ -92,7 +92,7 @@ module _ {k : Kind} {n : ℕ} {rest : List ℕ} {s : ℕ} {families places lengt
         let d = after-moved k n (a .rank) word q (a .reading) (have .step) (have .is) g in
         let v : word′ ≡ put word (have .step .place) q (getD (have .step .rule .right) 0 0) = rw (have .place, have .first) w in
         subst (Carried k n rest s families places lengths word (s + 1) families′ places′ lengths′ word′) (have .place)
-        (carried-step a (have .step) (have .is) (s + 1) families′ places′ lengths′ word′ g refl
+        (carried-step a (have .step) (have .is) g refl
         (i ∙ ap (set families s) (sym (have .family))) (j ∙ ap (set places s) (sym (have .place))) l (v ∙ sym (d .1)))
 
 -- ---- turn after turn

@@ -53,23 +53,23 @@ commuted-set w p l x h =
     ∙ ap₂ (λ (u v : List ℕ). u ++ (x ∷ v)) (take-set-le p w (suc p) l (omega arith)) g))
 
 module _ {k : Kind} {n : ℕ} {rest : List ℕ} {s : ℕ} {families places lengths word : List ℕ} where
-  commute-step : (p : ℕ) → Ready k n rest s families places lengths word (suc p) → (s′ : ℕ) (families′ places′ lengths′ : List ℕ)
+  commute-step : {p : ℕ} → Ready k n rest s families places lengths word (suc p) → {s′ : ℕ} {families′ places′ lengths′ : List ℕ}
       → commuting n (levels k n) (getD word p 0) (getD word (suc p) 0) ≡ true → s′ ≡ s + 1 → families′ ≡ set families s 2 → places′ ≡ set places s p
       → lengths′ ≡ set lengths s (length word + length rest)
       → Carried k n rest s families places lengths word s′ families′ places′ lengths′ (set (set word (suc p) (getD word p 0)) p (getD word (suc p) 0)) p
-  commute-step p a s′ families′ places′ lengths′ t i f g m =
+  commute-step {p} a {s′} {families′} {places′} {lengths′} t i f g m =
       let l = ready-letter a (suc p) (ready-inside a) in
-      carried-step a _ (commute-redex k n (a .rank) word p (a .reading) (l .1) t) s′ families′ places′ lengths′ _
+      carried-step a _ (commute-redex k n (a .rank) word p (a .reading) (l .1) t)
       (omega arith) i f g m (sym (commuted-set word p (getD word p 0) (getD word (suc p) 0) (ready-inside a)))
 
   -- the letter x, at the place behind p
-  pass-step : (p x left s′ : ℕ) (families′ places′ lengths′ : List ℕ) → Ready k n rest s families places lengths word (suc p)
+  pass-step : {p x left s′ : ℕ} {families′ places′ lengths′ : List ℕ} → Ready k n rest s families places lengths word (suc p)
       → getD word (suc p) 0 ≡ x → commuting n (levels k n) (getD word p 0) x ≡ true → s′ ≡ s + 1 → families′ ≡ set families s 2
       → places′ ≡ set places s p → left ≡ length word + length rest → lengths′ ≡ set lengths s left
       → Carried k n rest s families places lengths word s′ families′ places′ lengths′ (set (set word (suc p) (getD word p 0)) p x) p
       × (getD (set (set word (suc p) (getD word p 0)) p x) p 0 ≡ x)
-  pass-step p x left s′ families′ places′ lengths′ a y z i f g b m = (
-    rw (← y) (commute-step p a s′ families′ places′ lengths′ (rw y z) i f g (rw (← b) m)),
+  pass-step {p} {x} {s′} {families′} {places′} {lengths′} a y z i f g b m = (
+    rw (← y) (commute-step a (rw y z) i f g (rw (← b) m)),
     getD-set-same (set word (suc p) (getD word p 0)) p x 0 (rw length-set (omega (arith, ready-inside a))),
   )
 
@@ -93,7 +93,7 @@ module _ {k : Kind} {n : ℕ} {rest : List ℕ} {s : ℕ} {families places lengt
         → set (set word′ (suc p) (getD word′ p 0)) p x ≡ word″
         → Passed k n rest s families places lengths word q families″ places″ lengths″ word″ p x
     pass-again {p = p} {x = x} {families″ = families″} {places″ = places″} {lengths″ = lengths″} b z f g m w =
-        let c = pass-step p x left (s + (q - p)) families″ places″ lengths″ (carried-ready (b .2) a) (b .1) z
+        let c = pass-step {s′ = s + (q - p)} (carried-ready (b .2) a) (b .1) z
         (omega (arith, b .0)) f g (omega (arith, b .2 .size)) m in
         rw (← w) (omega (arith, b .0), c .1, carried-trans (b .2) (c .0))
 

@@ -67,8 +67,8 @@ module _ (n c : ℕ) (w : List ℕ) (q x : ℕ) where
   abbrev pub CommutesFrom : ℕ → Type 0
   CommutesFrom t = (j : ℕ) → t ≤ j → j < q → commuting n c (getD w j 0) x ≡ true
 
-  pub commutesFrom-next : (t l : ℕ) (done : Bool) → l ≡ getD w (t - 1) 0 → done ≡ commuting n c l x → done ≡ true → CommutesFrom t → CommutesFrom (t - 1)
-  commutesFrom-next t l done e d z f j a b = elim (ℕ-discrete j (t - 1)) [
+  pub commutesFrom-next : (t : ℕ) {l : ℕ} {done : Bool} → l ≡ getD w (t - 1) 0 → done ≡ commuting n c l x → done ≡ true → CommutesFrom t → CommutesFrom (t - 1)
+  commutesFrom-next t e d z f j a b = elim (ℕ-discrete j (t - 1)) [
     | yes g ↦ rw (g, ← e, ← d) z
     | no g ↦ f j (omega arith) b
   ]
@@ -83,15 +83,15 @@ pub record Deleted (w : List ℕ) (place : ℕ) (word : List ℕ) (t : ℕ) : Ty
   pub front : take (t - 2) word ≡ take place w ++ take (t - (place + 2)) (drop (place + 2) w)
   pub back : drop t word ≡ drop t w
 
-pub deleted-start : (w : List ℕ) (place : ℕ) → place + 2 ≤ length w → Deleted w place w (place + 2)
-deleted-start w place h =
+pub deleted-start : {w : List ℕ} {place : ℕ} → place + 2 ≤ length w → Deleted w place w (place + 2)
+deleted-start {w} {place} h =
     let a : place + 2 - 2 ≡ place = omega arith in
     let b : place + 2 - (place + 2) ≡ 0 = omega arith in
     record { low = omega arith; high = h; size = refl; front = rw (a, b) (sym (append-nil (take place w))); back = refl }
 
-pub deleted-next : (w : List ℕ) (place : ℕ) (word : List ℕ) (t : ℕ) → Deleted w place word t → t < length word
+pub deleted-next : {w : List ℕ} {place : ℕ} {word : List ℕ} {t : ℕ} → Deleted w place word t → t < length word
     → Deleted w place (set word (t - 2) (getD word t 0)) (t + 1)
-deleted-next w place word t s h =
+deleted-next {w} {place} {word} {t} s h =
     let x : ℕ = getD word t 0 in
     let d : ℕ = t - 2 in
     let m : ℕ = t - (place + 2) in
@@ -118,9 +118,9 @@ deleted-next w place word t s h =
           (drop-set-lt (suc t) word d x (omega arith) ∙ ap (drop 1) (sym (drop-cons word t 0 h) ∙ s .back ∙ drop-cons w t 0 (omega (arith, s .size))));
     }
 
-pub deleted-end : (w : List ℕ) (place : ℕ) (word : List ℕ) (t : ℕ) → Deleted w place word t → length word ≤ t
+pub deleted-end : {w : List ℕ} {place : ℕ} {word : List ℕ} {t : ℕ} → Deleted w place word t → length word ≤ t
     → take (length w - 2) word ≡ take place w ++ drop (place + 2) w
-deleted-end w place word t s h =
+deleted-end {w} {place} {t} s h =
     let e : t ≡ length w = omega (arith, s .size, s .high) in
     (rw e at (s .front))
     ∙ ap (λ (v : List ℕ). take place w ++ v)

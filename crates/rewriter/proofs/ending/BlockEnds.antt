@@ -115,7 +115,7 @@ module _ {k : Kind} {n : ℕ} (h : least k ≤ n) {w : List ℕ} {q : ℕ} (r : 
     there : (j : ℕ) × Along k n i j × (i ∷ drop (suc p) (take q w) ≡ block k n i j)
         × ((m l : ℕ) → suc m ≡ length (i ∷ drop (suc p) (take q w)) → l ≡ getD (i ∷ drop (suc p) (take q w)) m 0 → j ≡ indexBy k n i (suc m) l)
     there =
-        part-block k n i (drop (suc p) (take q w)) h (low .one-le) (low .below-n)
+        part-block h (low .one-le) (low .below-n)
         (letter-within-cons n i (drop (suc p) (take q w)) (subst (λ (u : List ℕ). wrongLetter n u ≡ false) part-cons (normal-part .letters)) .2)
         (λ t l.
         let v : suc p + t < q = omega (arith, length-drop (suc p) (take q w), length-take-le q w (omega (arith, end-inside))) in
@@ -195,7 +195,7 @@ module _ {k : Kind} {n : ℕ} (h : least k ≤ n) {w : List ℕ} {q : ℕ} (r : 
       where
         stays : (s ≡ 0 → ⊥) → told s f ≡ endingOf (lowestRedex k n (take (suc q) w))
         stays z =
-            let v = searching-next k n (take (q + 1) w) searchable (levels k n) (lastIndex k n i) p i (there .0) q s refl refl searching long-enough
+            let v = searching-next k n (take (q + 1) w) searchable refl refl searching long-enough
             (rw last-letter x) z in
             let u = searching-end k n (take (q + 1) w) searchable p i s (q + 1) v (rw (upto-one q w, length-take-le (suc q) w end-inside) (omega arith)) in
             rw (ne-eqb s 0 z) (ending-none k n h w q r o p b d t refl (sym u))
@@ -204,7 +204,7 @@ module _ {k : Kind} {n : ℕ} (h : least k ≤ n) {w : List ℕ} {q : ℕ} (r : 
         leaves z =
             let v =
             rw last-letter at
-            (searching-found k n (take (q + 1) w) searchable (levels k n) (lastIndex k n i) (fork k n) p i (there .0) q s f refl refl refl searching
+            (searching-found k n (take (q + 1) w) searchable {f = f} refl refl refl searching
             long-enough (rw last-letter x) z (rw last-letter y)) in
             elim (ℕ-discrete f 0) [
               | yes g ↦ rw (eq-eqb s 0 z, eq-eqb f 0 g) (ending-none k n h w q r o p b d t refl (v ∙ rw (eq-eqb f 0 g)))

@@ -117,13 +117,13 @@ pub upto-one : (q : ℕ) (w : List ℕ) → take (q + 1) w ≡ take (suc q) w
 upto-one q w = let e : q + 1 ≡ suc q = omega arith in rw e
 
 -- none ends with the first letter
-pub ending-front : (k : Kind) (n : ℕ) → least k ≤ n → (w : List ℕ) (q : ℕ) → Reading k n w q → q ≡ 0
+pub ending-front : {k : Kind} {n : ℕ} → least k ≤ n → {w : List ℕ} {q : ℕ} → Reading k n w q → q ≡ 0
     → ending.Nothing ≡ endingOf (lowestRedex k n (take (suc q) w))
-ending-front k n h w q r e = go (lowestRedex k n (take (suc q) w)) refl
+ending-front {k} {n} h {w} {q} r e = ending-front-by-cases (lowestRedex k n (take (suc q) w)) refl
   where
-    go : (o : Option Redex) → lowestRedex k n (take (suc q) w) ≡ o → ending.Nothing ≡ endingOf o
-    go none t = refl
-    go (some s) t = absurd (omega (arith, reading-lower k n h w q r s t))
+    ending-front-by-cases : (o : Option Redex) → lowestRedex k n (take (suc q) w) ≡ o → ending.Nothing ≡ endingOf o
+    ending-front-by-cases none t = refl
+    ending-front-by-cases (some s) t = absurd (omega (arith, reading-lower k n h w q r s t))
 
 module _ (k : Kind) (n : ℕ) (h : least k ≤ n) (w : List ℕ) (q : ℕ) (r : Reading k n w q) (o : 1 ≤ q) where
   abbrev before : ℕ
@@ -167,11 +167,11 @@ module _ (k : Kind) (n : ℕ) (h : least k ≤ n) (w : List ℕ) (q : ℕ) (r : 
 
     -- the letter there is not the lower of the last two
     pub ending-other : (getD w p 0 ≡ lower before letter → ⊥) → ending.Nothing ≡ endingOf (lowestRedex k n (take (suc q) w))
-    ending-other f = go (lowestRedex k n (take (suc q) w)) refl
+    ending-other f = ending-other-by-cases (lowestRedex k n (take (suc q) w)) refl
       where
-        go : (y : Option Redex) → lowestRedex k n (take (suc q) w) ≡ y → ending.Nothing ≡ endingOf y
-        go none j = refl
-        go (some s) j =
+        ending-other-by-cases : (y : Option Redex) → lowestRedex k n (take (suc q) w) ≡ y → ending.Nothing ≡ endingOf y
+        ending-other-by-cases none j = refl
+        ending-other-by-cases (some s) j =
             let e : lowestRedex k n (take (suc (suc (q - 1))) w) ≡ some s = ap (λ (i : ℕ). lowestRedex k n (take (suc i) w)) (sym back) ∙ j in
             let x : getD w (suc (q - 1)) 0 ≡ letter = ap (λ (i : ℕ). getD w i 0) (sym back) in
             absurd (f (ap (λ (i : ℕ). getD w i 0) (sym (place-is s j)) ∙ first-letter k n h w (q - 1) reading s e .0 ∙ ap (lower before) x))
@@ -179,22 +179,22 @@ module _ (k : Kind) (n : ℕ) (h : least k ≤ n) (w : List ℕ) (q : ℕ) (r : 
     -- a is what the search of one rewrite answers
     module _ {a : Fitting} (e : a ≡ fittingOf (firstFitting (rules k n) (take (q + 1) w) p)) where
       pub ending-none : a ≡ found.Nothing → ending.Nothing ≡ endingOf (lowestRedex k n (take (suc q) w))
-      ending-none z = go (lowestRedex k n (take (suc q) w)) refl
+      ending-none z = ending-none-by-cases (lowestRedex k n (take (suc q) w)) refl
         where
           nothing : (y : Option Rule) → fittingOf y ≡ found.Nothing → y ≡ none
           nothing none j = refl
           nothing (some x) j = zero-not-one (cc)
 
-          go : (y : Option Redex) → lowestRedex k n (take (suc q) w) ≡ y → ending.Nothing ≡ endingOf y
-          go none j = refl
-          go (some s) j =
+          ending-none-by-cases : (y : Option Redex) → lowestRedex k n (take (suc q) w) ≡ y → ending.Nothing ≡ endingOf y
+          ending-none-by-cases none j = refl
+          ending-none-by-cases (some s) j =
               absurd (Option·none-ne-some (s .rule)
               (sym (ap (λ (i : List ℕ). firstFitting (rules k n) i p) (sym (upto-one q w)) ∙ nothing (firstFitting (rules k n) (take (q + 1) w) p) (sym e ∙ z))
               ∙ ap (firstFitting (rules k n) (take (suc q) w)) (sym (place-is s j)) ∙ lowest-some k n _ s j .fitting))
 
       module _ (f i j l : ℕ) (z : a ≡ found.Rule f i j l) where
         handed : Fitted k n (take (q + 1) w) p f i j l
-        handed = fitted k n (take (q + 1) w) p f i j l a h (rw (upto-one q w) (simp length-take (omega (arith, end-inside, b .0)))) e z
+        handed = fitted h (rw (upto-one q w) (simp length-take (omega (arith, end-inside, b .0)))) e z
 
         found-redex : lowestRedex k n (take (suc q) w) ≡ some (record { place = p; rule = shownRule n f i j (take l (drop p (take (q + 1) w))) })
         found-redex =

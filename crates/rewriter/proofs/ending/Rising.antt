@@ -46,7 +46,7 @@ module _ {k : Kind} {n : ℕ} (h : least k ≤ n) {z : List ℕ} {q : ℕ} (r : 
       (normal-front k n h (take t (take q z)) (drop t (take q z)) (subst (Normal k n) (sym (take-append-drop t (take q z))) m))
 
   none-commute : (t : ℕ) → suc (suc t) ≤ q → commuting n (levels k n) (getD z t 0) (getD z (suc t) 0) ≡ false
-  none-commute t l = go (commuting n (levels k n) (getD z t 0) (getD z (suc t) 0)) refl
+  none-commute t l = none-commute-by-cases (commuting n (levels k n) (getD z t 0) (getD z (suc t) 0)) refl
     where
       i : q < length z
       i = reading-inside k n h z q r
@@ -61,9 +61,9 @@ module _ {k : Kind} {n : ℕ} (h : least k ≤ n) {z : List ℕ} {q : ℕ} (r : 
           ∙ append-assoc (take t z) (getD z t 0 ∷ []) (getD z (suc t) 0 ∷ []))
           ∙ drop-at (take t z) two t (length-take-le t z (omega (arith, i)))
 
-      go : (b : Bool) → commuting n (levels k n) (getD z t 0) (getD z (suc t) 0) ≡ b → b ≡ false
-      go false e = refl
-      go true e =
+      none-commute-by-cases : (b : Bool) → commuting n (levels k n) (getD z t 0) (getD z (suc t) 0) ≡ b → b ≡ false
+      none-commute-by-cases false e = refl
+      none-commute-by-cases true e =
           let m = normal-upto (suc (suc t)) l in
           let x = letter-within n z (suc t) (omega (arith, i)) (wrongLetter-drop n (suc t) z (r .letters)) .1 in
           let f = firstFitting-some (rules k n) (take (suc (suc t)) z) t _
@@ -81,9 +81,9 @@ module _ {k : Kind} {n : ℕ} (h : least k ≤ n) {z : List ℕ} {q : ℕ} (r : 
         rw e (omega (arith, rise (v + d) (omega arith), rises d v (omega arith)))
 
     -- the letter at p is as far below the last one as it stands before it
-    pub stopped-rising : (floor p : ℕ) → getD z q 0 ≤ getD z (q - 1) 0 → p + (getD z (q - 1) 0 - getD z q 0) + 1 ≡ q → getD z p 0 ≡ getD z q 0
+    pub stopped-rising : {floor p : ℕ} → getD z q 0 ≤ getD z (q - 1) 0 → p + (getD z (q - 1) 0 - getD z q 0) + 1 ≡ q → getD z p 0 ≡ getD z q 0
         → Stopped z floor q (getD z q 0) p
-    stopped-rising floor p g e s = record { inside = omega arith; above = above; ends = inr (omega arith, omega arith) }
+    stopped-rising {p} g e s = record { inside = omega arith; above = above; ends = inr (omega arith, omega arith) }
       where
         above : (v : ℕ) → p < v → v < q → getD z q 0 < getD z v 0
         above v a b =

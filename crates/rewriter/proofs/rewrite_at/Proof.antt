@@ -31,15 +31,15 @@ Handed b =
 
 handed : (b : tie.After-family) → Handed b
 handed b =
-    fitted _ _ _ _ _ _ _ _ _ (accepted-least (passed (checked b))) (b .before .before .before .if2 .left)
+    fitted (accepted-least (passed (checked b))) (b .before .before .before .if2 .left)
     (b .before .before .fitting-rule .ensures)
     (b .family .given .1)
 
 returns : tie.Need-returns
-returns c = rewrote-preset _ _ _ _ _ _ (c .before .preset-refusal .ensures) (c .if1 .taken)
+returns c = rewrote-preset (c .before .preset-refusal .ensures) (c .if1 .taken)
 
 returns-2 : tie.Need-returns-2
-returns-2 c = rewrote-place _ _ _ _ _ (passed (c .before)) (c .if2 .taken)
+returns-2 c = rewrote-place (passed (c .before)) (c .if2 .taken)
 
 fitting-rule-requires : tie.Need-fitting-rule-requires
 fitting-rule-requires c κs =

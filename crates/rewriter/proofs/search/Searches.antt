@@ -71,9 +71,9 @@ module _ (k : Kind) (n : ℕ) (u : List ℕ) (w : Searchable k n u) where
         rest = rw (drop-next u p 0 h);
       }
 
-  pub searching-next : (c m p i j t s : ℕ) → c ≡ levels k n → m ≡ lastIndex k n i → Searching k n u p i j t → t < length u
+  pub searching-next : {c m p i j t s : ℕ} → c ≡ levels k n → m ≡ lastIndex k n i → Searching k n u p i j t → t < length u
       → s ≡ nextIndex n c m j (getD u t 0) → (s ≡ 0 → ⊥) → Searching k n u p i s (t + 1)
-  searching-next c m p i j t s a b q h e z =
+  searching-next {i} {j} {t} {s} a b q h e z =
       let x = getD u t 0 in
       let f : nextIndex n (levels k n) (lastIndex k n i) j x ≡ s = rw (← a, ← b) (sym e) in
       let g = along-next k n i j x (w .rank) (q .along) (rw f at (going n (levels k n) (lastIndex k n i) j x (letter t h .1))) z in
@@ -84,11 +84,11 @@ module _ (k : Kind) (n : ℕ) (u : List ℕ) (w : Searchable k n u) where
         rest = q .rest ∙ ap (walk k n i j) (drop-next u t 0 h) ∙ walk-next k n i j x (drop (t + 1) u) f z;
       }
 
-  pub searching-found : (c m d p i j t s f : ℕ) → c ≡ levels k n → m ≡ lastIndex k n i → d ≡ fork k n → Searching k n u p i j t → t < length u
+  pub searching-found : {c m d p i j t s f : ℕ} → c ≡ levels k n → m ≡ lastIndex k n i → d ≡ fork k n → Searching k n u p i j t → t < length u
       → s ≡ nextIndex n c m j (getD u t 0) → s ≡ 0 → f ≡ familyAt n d i j (getD u t 0)
       → fittingOf (firstFitting (rules k n) u p) ≡ pick (eqb f 0) Nothing (Shown f i (shownIndex f j (getD u t 0)) (t + 1 - p))
   unfolding walk
-  searching-found c m d p i j t s f a b o q h e z g =
+  searching-found {p} {i} {j} {t} {f} a b o q h e z g =
       let x = getD u t 0 in
       let y : nextIndex n (levels k n) (lastIndex k n i) j x ≡ 0 = rw (← a, ← b) (sym e ∙ z) in
       let v : familyAt n (fork k n) i j x ≡ f = rw (← o) (sym g) in

@@ -152,7 +152,7 @@ module _ {k n : ℕ} {word : List ℕ} (families places lengths work₀ : List �
 
 -- ---- lists and output
 
-module _ (k : Kind) (n : ℕ) (word : List ℕ) {families places lengths : List ℕ} (steps : ℕ) (families′ places′ lengths′ work : List ℕ) (size : ℕ)
+module _ {k : Kind} {n : ℕ} {word families places lengths : List ℕ} {steps : ℕ} {families′ places′ lengths′ work : List ℕ} {size : ℕ}
     (m : Made k n word families places lengths steps families′ places′ lengths′ work size) where
   abbrev whole : Trace
   whole = trace k n word
@@ -208,10 +208,7 @@ module _ {k : Kind} {n : ℕ} {word : List ℕ} (families places lengths : List 
       × (lengths′ ++ drop steps lengths ≡ front (lengthsOf (trace k n word .lines)) lengths)
   lists-written e f p l =
       let ls = trace k n word .lines in (
-        list-written families families′ (familiesOf ls) steps f (length-numbers _ ls ∙ sym e)
-            (made-families k n word made families′ places′ lengths′ work size m),
-        list-written places places′ (placesOf ls) steps p (length-numbers _ ls ∙ sym e)
-            (made-places k n word made families′ places′ lengths′ work size m),
-        list-written lengths lengths′ (lengthsOf ls) steps l (length-numbers _ ls ∙ sym e)
-            (made-lengths k n word made families′ places′ lengths′ work size m),
+        list-written families families′ (familiesOf ls) steps f (length-numbers _ ls ∙ sym e) (made-families m),
+        list-written places places′ (placesOf ls) steps p (length-numbers _ ls ∙ sym e) (made-places m),
+        list-written lengths lengths′ (lengthsOf ls) steps l (length-numbers _ ls ∙ sym e) (made-lengths m),
       )

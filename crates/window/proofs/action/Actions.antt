@@ -46,16 +46,16 @@ pub take-identity-next : (i e : ℕ) (w : List ℤ) → i < length w → length 
 take-identity-next i e w h l t q =
     rw (q, cast-back (i + 1) (omega arith), identity-next i, ← t) (rw (add-one i) (take-suc-set w i (pos (suc i)) h))
 
-pub take-identity-end : (i m : ℕ) (w : List ℤ) → length w ≤ i → i ≤ length w → length w ≡ m → take i w ≡ identity i → w ≡ identity m
-take-identity-end i m w h l e t = sym (take-all i w h) ∙ t ∙ ap identity (omega arith)
+pub take-identity-end : (i : ℕ) {m : ℕ} {w : List ℤ} → length w ≤ i → i ≤ length w → length w ≡ m → take i w ≡ identity i → w ≡ identity m
+take-identity-end i {w} h l e t = sym (take-all i w h) ∙ t ∙ ap identity (omega arith)
 
 -- here m is the length of the slice that the straight window goes to
 pub le-of-lanes : (k : Kind) (n m : ℕ) → n ≤ 64 → m ≡ lanes k n → m ≤ 127
 le-of-lanes k n m h e = omega (arith, lanes-le-add-one k n)
 
-pub refusal-identity : (k : Kind) (n m : ℕ) (w : List ℤ) → m ≡ lanes k n → w ≡ identity m → WindowOf k n w
-refusal-identity k n m w h e = rw (e, h) (refusal-of-accepted k n (identity (lanes k n)) (identity-accepted k n))
+pub refusal-identity : (k : Kind) (n : ℕ) {m : ℕ} {w : List ℤ} → m ≡ lanes k n → w ≡ identity m → WindowOf k n w
+refusal-identity k n h e = rw (e, h) (refusal-of-accepted k n (identity (lanes k n)) (identity-accepted k n))
 
-pub windowFrom-identity : (k : Kind) (n m : ℕ) (w : List ℤ) (u : List ℕ) → m ≡ lanes k n → w ≡ identity m → windowFrom k n w u ≡ window k n u
+pub windowFrom-identity : (k : Kind) (n : ℕ) {m : ℕ} {w : List ℤ} (u : List ℕ) → m ≡ lanes k n → w ≡ identity m → windowFrom k n w u ≡ window k n u
 unfolding window
-windowFrom-identity k n m w u h e = rw (e, h)
+windowFrom-identity k n u h e = rw (e, h)

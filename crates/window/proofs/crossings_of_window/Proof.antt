@@ -10,7 +10,7 @@ use Rattle.window.proofs.crossings_of_window.Tie as tie
 
 returns : tie.Need-returns
 unfolding crossingsOfWindow
-returns c = counted-refused _ _ _ (c .before .ranked-window-refusal .ensures) (c .if1 .taken)
+returns c = counted-refused _ (c .before .ranked-window-refusal .ensures) (c .if1 .taken)
 
 crossings-of-requires : tie.Need-crossings-of-requires
 crossings-of-requires c κs =
@@ -21,7 +21,7 @@ returns-2 : tie.Need-returns-2
 unfolding crossingsOfWindow
 returns-2 c =
     let asked = c .before in
-    c .crossings-of .ensures ∙ counted-crossings _ _ _ (asked .before .ranked-window-refusal .ensures) (asked .if1 .left)
+    c .crossings-of .ensures ∙ counted-crossings _ (asked .before .ranked-window-refusal .ensures) (asked .if1 .left)
 
 pub crossings-of-window-spec : {M : Type 1} → statement M
 crossings-of-window-spec = tie.close (tie.spec (λ c κs. search needs) returns crossings-of-requires returns-2)

@@ -19,7 +19,7 @@ counted : (c : tie.After-m)
     → let entry = c .before .before .before .before .before in
     let a = entry .args in
     RankOf (a .kind) (a .rank) × ((c .m .given .0 .0 ≡ lanes (kindOf (a .kind)) (a .rank)) × WordOf (a .rank) (a .word .now))
-counted c = preset-counted _ _ _ _ _ (c .before .before .preset-lanes .ensures) (c .m .given .1)
+counted c = preset-counted _ _ _ (c .before .before .preset-lanes .ensures) (c .m .given .1)
 
 show-inverse-requires : tie.Need-show-inverse-requires
 show-inverse-requires c κs =

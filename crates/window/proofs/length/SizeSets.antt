@@ -147,12 +147,12 @@ shifted (suc p) d s w =
 ones-or-smaller : (d s : ℕ) (w : List ℤ) → Between 1 (s + d) w → Distinct w → ones (sizeSet d s w) + smaller s (map natAbs w) ≡ length w
 unfolding smaller laterThan later one
 ones-or-smaller d s [] b h = rw (sizeSet-nil d s) (unfold ones in refl)
-ones-or-smaller d s (e ∷ w) b h = go (ltb (natAbs e) s) refl (ones-or-smaller d s w (b .2) (h .1))
+ones-or-smaller d s (e ∷ w) b h = ones-or-smaller-by-cases (ltb (natAbs e) s) refl (ones-or-smaller d s w (b .2) (h .1))
   where
-    go : (t : Bool) → ltb (natAbs e) s ≡ t → ones (sizeSet d s w) + smaller s (map natAbs w) ≡ length w
+    ones-or-smaller-by-cases : (t : Bool) → ltb (natAbs e) s ≡ t → ones (sizeSet d s w) + smaller s (map natAbs w) ≡ length w
         → ones (sizeSet d s (e ∷ w)) + (pick t 1 0 + smaller s (map natAbs w)) ≡ suc (length w)
-    go true q r = rw (sizeSet-below d s e w (ltb-true (natAbs e) s q)) (omega (arith, r))
-    go false q r =
+    ones-or-smaller-by-cases true q r = rw (sizeSet-below d s e w (ltb-true (natAbs e) s q)) (omega (arith, r))
+    ones-or-smaller-by-cases false q r =
         let l = ltb-false (natAbs e) s q in
         rw (ones-cons d s (natAbs e - s) e w (omega arith) (omega arith), h .0) (omega (arith, r))
 

@@ -55,7 +55,7 @@ module _ (k n : ℕ) (h : RankOf k n) (w : List ℤ) (g : WindowOf (kindOf k) n 
   module _ (places : List ℕ) {left : ℕ} (p : PlacesOf w places) (s : left ≡ 2 ^ length w - 1) where
     pub first-places : (i : ℕ) → i < length w → Place (kindOf k) (length w) (getD places i 0)
     first-places i l =
-        let f : Found (kindOf k) (length w) places (suc i) w = found (kindOf k) n (length w) w places (suc i) (own .size) own p (omega arith) l in
+        let f : Found (kindOf k) (length w) places (suc i) w = found (own .size) own p (omega arith) l in
         let d : suc i - 1 ≡ i = omega arith in
         rw d at (place-is (kindOf k) (length w) places (suc i) (f .left) (f .entry) (f .right) (first-rank .1) (f .there))
 

@@ -32,12 +32,12 @@ entriesFrom i (e ∷ w) = pick (leb i (natAbs e)) (e ∷ entriesFrom i w) (entri
 pub entriesFrom-append : (i : ℕ) (u v : List ℤ) → entriesFrom i (u ++ v) ≡ entriesFrom i u ++ entriesFrom i v
 unfolding entriesFrom
 entriesFrom-append i [] v = refl
-entriesFrom-append i (e ∷ u) v = go (leb i (natAbs e)) (entriesFrom-append i u v)
+entriesFrom-append i (e ∷ u) v = entriesFrom-append-by-cases (leb i (natAbs e)) (entriesFrom-append i u v)
   where
-    go : (t : Bool) → entriesFrom i (u ++ v) ≡ entriesFrom i u ++ entriesFrom i v
+    entriesFrom-append-by-cases : (t : Bool) → entriesFrom i (u ++ v) ≡ entriesFrom i u ++ entriesFrom i v
         → pick t (e ∷ entriesFrom i (u ++ v)) (entriesFrom i (u ++ v)) ≡ pick t (e ∷ entriesFrom i u) (entriesFrom i u) ++ entriesFrom i v
-    go true r = ap (λ (l : List ℤ). e ∷ l) r
-    go false r = r
+    entriesFrom-append-by-cases true r = ap (λ (l : List ℤ). e ∷ l) r
+    entriesFrom-append-by-cases false r = r
 
 -- all entries, at level 1
 pub entriesFrom-all : (c : ℕ) (w : List ℤ) → Between 1 c w → entriesFrom 1 w ≡ w
@@ -56,11 +56,11 @@ entriesFrom-gone i e v h = rw (lt-leb (suc i) (natAbs e) (omega arith))
 
 -- another entry is at least as large as i exactly if it is larger
 same-test : (i a : ℕ) → (a ≡ i → ⊥) → leb (suc i) a ≡ leb i a
-same-test i a d = go (leb i a) refl
+same-test i a d = same-test-by-cases (leb i a) refl
   where
-    go : (t : Bool) → leb i a ≡ t → leb (suc i) a ≡ t
-    go true q = let l = leb-true i a q in le-leb (suc i) a (omega arith)
-    go false q = let l = leb-false i a q in lt-leb (suc i) a (omega arith)
+    same-test-by-cases : (t : Bool) → leb i a ≡ t → leb (suc i) a ≡ t
+    same-test-by-cases true q = let l = leb-true i a q in le-leb (suc i) a (omega arith)
+    same-test-by-cases false q = let l = leb-false i a q in lt-leb (suc i) a (omega arith)
 
 other : (i : ℕ) (e : ℤ) (w : List ℤ) → hasSize i (e ∷ w) ≡ false → leb (suc i) (natAbs e) ≡ leb i (natAbs e)
 other i e w h = same-test i (natAbs e) (eqb-false (natAbs e) i (hasSize-head i e w h))
@@ -73,11 +73,11 @@ entriesFrom-same i (e ∷ w) h = rw (other i e w h, entriesFrom-same i w (hasSiz
 pub entriesFrom-missing : (i s : ℕ) (w : List ℤ) → hasSize s w ≡ false → hasSize s (entriesFrom i w) ≡ false
 unfolding entriesFrom hasSize
 entriesFrom-missing i s [] h = h
-entriesFrom-missing i s (e ∷ w) h = go (leb i (natAbs e)) (entriesFrom-missing i s w (hasSize-tail s e w h))
+entriesFrom-missing i s (e ∷ w) h = entriesFrom-missing-by-cases (leb i (natAbs e)) (entriesFrom-missing i s w (hasSize-tail s e w h))
   where
-    go : (t : Bool) → hasSize s (entriesFrom i w) ≡ false → hasSize s (pick t (e ∷ entriesFrom i w) (entriesFrom i w)) ≡ false
-    go true r = rw (hasSize-head s e w h) r
-    go false r = r
+    entriesFrom-missing-by-cases : (t : Bool) → hasSize s (entriesFrom i w) ≡ false → hasSize s (pick t (e ∷ entriesFrom i w) (entriesFrom i w)) ≡ false
+    entriesFrom-missing-by-cases true r = rw (hasSize-head s e w h) r
+    entriesFrom-missing-by-cases false r = r
 
 -- ---- their positions
 
@@ -89,12 +89,12 @@ positionsFrom i (e ∷ w) = 2 * positionsFrom i w + one (leb i (natAbs e))
 pub ones-positions : (i : ℕ) (w : List ℤ) → ones (positionsFrom i w) ≡ length (entriesFrom i w)
 unfolding positionsFrom entriesFrom one
 ones-positions i [] = unfold ones in refl
-ones-positions i (e ∷ w) = ones-digit (leb i (natAbs e)) (positionsFrom i w) ∙ go (leb i (natAbs e)) (ones-positions i w)
+ones-positions i (e ∷ w) = ones-digit (leb i (natAbs e)) (positionsFrom i w) ∙ ones-positions-by-cases (leb i (natAbs e)) (ones-positions i w)
   where
-    go : (t : Bool) → ones (positionsFrom i w) ≡ length (entriesFrom i w)
+    ones-positions-by-cases : (t : Bool) → ones (positionsFrom i w) ≡ length (entriesFrom i w)
         → one t + ones (positionsFrom i w) ≡ length (pick t (e ∷ entriesFrom i w) (entriesFrom i w))
-    go true r = omega arith
-    go false r = omega arith
+    ones-positions-by-cases true r = omega arith
+    ones-positions-by-cases false r = omega arith
 
 -- the positions in front are shifted out
 pub positions-behind : (i : ℕ) (u v : List ℤ) → positionsFrom i (u ++ v) / 2 ^ length u ≡ positionsFrom i v

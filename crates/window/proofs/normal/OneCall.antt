@@ -17,7 +17,8 @@ use lib.Seq.{sets, length-sets}
 use Rattle.coxeter.specs.Kinds.{Kind, A, pick}
 use Rattle.coxeter.specs.NormalForm.{block}
 use Rattle.coxeter.proofs.Lists.{Stored, stored-append}
-use Rattle.coxeter.proofs.PeelingByPlaces.{isNegative, position, Place, lastLevel, signChanged, indexBehind, leftAt, oddAt, behindAt, indexAt, peeledFrom, peeledWord}
+use Rattle.coxeter.proofs.PeelingByPlaces.{isNegative, position, Place, lastLevel, signChanged, indexBehind, leftAt, oddAt, behindAt}
+use Rattle.coxeter.proofs.PeelingByPlaces.{indexAt, peeledFrom, peeledWord}
 use Rattle.window.proofs.normal.OneLevel.{one-entry, behind-le}
 
 -- ---- one level

@@ -25,8 +25,8 @@ position-negative place l = rw (le-leb 128 place l)
 pub position-positive : (place : ℕ) → place < 128 → position place ≡ place
 position-positive place l = rw (lt-leb 128 place l)
 
-pub position-within : (k : Kind) (m place p : ℕ) → m ≤ 64 → Place k m place → position place ≡ p → (1 ≤ p) × (p ≤ 64)
-position-within k m place p l h e = (omega (arith, h .first), omega (arith, h .last))
+pub position-within : {k : Kind} {m place p : ℕ} → m ≤ 64 → Place k m place → position place ≡ p → (1 ≤ p) × (p ≤ 64)
+position-within l h e = (omega (arith, h .first), omega (arith, h .last))
 
 pub one-entry : (k : Kind) (m place : ℕ) → Place k m place → 1 ≤ m
 one-entry k m place h = omega (arith, h .first, h .last)

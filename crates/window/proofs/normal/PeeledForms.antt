@@ -23,28 +23,31 @@ use Rattle.coxeter.specs.Length.{negative, negatives, one}
 use Rattle.coxeter.specs.Checks.{hasSize}
 use Rattle.coxeter.specs.NormalForm.{block, levels, without, indexOf, restOf, normalFrom}
 use Rattle.coxeter.proofs.Levels.{Distinct, Signs, Accepted, level-hasSize}
-use Rattle.coxeter.proofs.Peeling.{Peeled, peeled-of-hasSize, placeFrom-peeled, restOf-peeled, indexOf-positive, indexOf-negative, negatives-middle, levels-le-lanes}
-use Rattle.coxeter.proofs.PeelingByPlaces.{placeOf, PlacesOf, isNegative, position, Place, signChanged, indexBehind, leftAt, oddAt, behindAt, indexAt, peeledFrom}
+use Rattle.coxeter.proofs.Peeling.{Peeled, peeled-of-hasSize, placeFrom-peeled, restOf-peeled, indexOf-positive, indexOf-negative}
+use Rattle.coxeter.proofs.Peeling.{negatives-middle, levels-le-lanes}
+use Rattle.coxeter.proofs.PeelingByPlaces.{placeOf, PlacesOf, isNegative, position, Place, signChanged, indexBehind, leftAt, oddAt}
+use Rattle.coxeter.proofs.PeelingByPlaces.{behindAt, indexAt, peeledFrom}
 use Rattle.window.proofs.length.SizeSets.{digit-half}
 use Rattle.window.proofs.normal.LeftPositions.{entriesFrom, entriesFrom-append, entriesFrom-own, entriesFrom-gone, entriesFrom-same}
-use Rattle.window.proofs.normal.LeftPositions.{entriesFrom-all, entriesFrom-missing, positionsFrom, ones-positions, positions-behind, positions-all, positions-taken}
+use Rattle.window.proofs.normal.LeftPositions.{entriesFrom-all, entriesFrom-missing, positionsFrom, ones-positions, positions-behind}
+use Rattle.window.proofs.normal.LeftPositions.{positions-all, positions-taken}
 use Rattle.window.proofs.normal.Signs.{lastChanged, Taken, taken}
 
 -- ---- places
 
 isNegative-placeOf : (e : ℤ) (p : ℕ) → p < 128 → isNegative (placeOf e p) ≡ negative e
-isNegative-placeOf e p l = go (negative e)
+isNegative-placeOf e p l = isNegative-placeOf-by-cases (negative e)
   where
-    go : (t : Bool) → leb 128 (pick t (p + 128) p) ≡ t
-    go true = le-leb 128 (p + 128) (omega arith)
-    go false = lt-leb 128 p l
+    isNegative-placeOf-by-cases : (t : Bool) → leb 128 (pick t (p + 128) p) ≡ t
+    isNegative-placeOf-by-cases true = le-leb 128 (p + 128) (omega arith)
+    isNegative-placeOf-by-cases false = lt-leb 128 p l
 
 position-placeOf : (e : ℤ) (p : ℕ) → p < 128 → position (placeOf e p) ≡ p
-position-placeOf e p l = rw (isNegative-placeOf e p l) (go (negative e))
+position-placeOf e p l = rw (isNegative-placeOf e p l) (position-placeOf-by-cases (negative e))
   where
-    go : (t : Bool) → pick t (pick t (p + 128) p - 128) (pick t (p + 128) p) ≡ p
-    go true = omega arith
-    go false = refl
+    position-placeOf-by-cases : (t : Bool) → pick t (pick t (p + 128) p - 128) (pick t (p + 128) p) ≡ p
+    position-placeOf-by-cases true = omega arith
+    position-placeOf-by-cases false = refl
 
 -- the entry e of u ++ e ∷ v, of size i: that no other has its size, where it stands, and that it is positive in A
 pub record Stands (k : Kind) (m : ℕ) (places : List ℕ) (i : ℕ) (u : List ℤ) (e : ℤ) (v : List ℤ) : Type 0 where
@@ -69,9 +72,9 @@ positive-in-A k u e v h q =
     let none : negatives (u ++ (e ∷ v)) ≡ 0 = rw q at h in
     not-negative (negative e) (negatives (u ++ v)) (sym (negatives-middle u e v) ∙ none)
 
-stands : (k : Kind) (n m : ℕ) (places : List ℕ) (i : ℕ) (u : List ℤ) (e : ℤ) (v : List ℤ) → m ≡ lanes k n → Accepted k n (u ++ (e ∷ v))
+stands : {k : Kind} {n m : ℕ} {places : List ℕ} {i : ℕ} {u : List ℤ} {e : ℤ} {v : List ℤ} → m ≡ lanes k n → Accepted k n (u ++ (e ∷ v))
     → PlacesOf (u ++ (e ∷ v)) places → natAbs e ≡ i → hasSize i u ≡ false → Stands k m places i u e v
-stands k n m places i u e v q a p s z =
+stands {k} {u} {e} {v} q a p s z =
     let at : getD (u ++ (e ∷ v)) (length u) (pos 0) ≡ e = getD-append-seam u e v (pos 0) in
     let few : length u < length (u ++ (e ∷ v)) = omega (arith, length-append u (e ∷ v)) in
     record {
@@ -91,12 +94,12 @@ pub record Found (k : Kind) (m : ℕ) (places : List ℕ) (i : ℕ) (w : List �
   pub whole : w ≡ left ++ (entry ∷ right)
   pub there : Stands k m places i left entry right
 
-pub found : (k : Kind) (n m : ℕ) (w : List ℤ) (places : List ℕ) (i : ℕ) → m ≡ lanes k n → Accepted k n w → PlacesOf w places → 1 ≤ i → i ≤ m
+pub found : {k : Kind} {n m : ℕ} {w : List ℤ} {places : List ℕ} {i : ℕ} → m ≡ lanes k n → Accepted k n w → PlacesOf w places → 1 ≤ i → i ≤ m
     → Found k m places i w
-found k n m w places i q a p o l = go (peeled-of-hasSize i w (level-hasSize 1 i w (a .level) o (omega (arith, a .size))))
+found {k} {n} {m} {w} {places} {i} q a p o l = found-by-cases (peeled-of-hasSize i w (level-hasSize 1 i w (a .level) o (omega (arith, a .size))))
   where
-    go : Peeled i w → Found k m places i w
-    go c =
+    found-by-cases : Peeled i w → Found k m places i w
+    found-by-cases c =
         let g : Accepted k n (c .left ++ (c .entry ∷ c .right)) = subst (Accepted k n) (c .whole) a in
         let r : PlacesOf (c .left ++ (c .entry ∷ c .right)) places = subst (λ (x : List ℤ). PlacesOf x places) (c .whole) p in
         record {
@@ -104,7 +107,7 @@ found k n m w places i q a p o l = go (peeled-of-hasSize i w (level-hasSize 1 i 
           entry = c .entry;
           right = c .right;
           whole = c .whole;
-          there = stands k n m places i (c .left) (c .entry) (c .right) q g r (c .size) (c .new);
+          there = stands q g r (c .size) (c .new);
         }
 
 -- ---- one level
@@ -163,16 +166,23 @@ module _ (k : Kind) (m : ℕ) (places : List ℕ) (i : ℕ) (u : List ℤ) (e : 
 
   next-count : suc (length (entriesFrom (suc i) (u ++ (e ∷ v)))) ≡ length (entriesFrom i (u ++ (e ∷ v)))
   next-count =
-      omega (arith, ap length entries-are, ap length rest-is, length-append (entriesFrom i u) (e ∷ entriesFrom i v), length-append (entriesFrom i u) (entriesFrom i v))
+      omega (
+        arith,
+        ap length entries-are,
+        ap length rest-is,
+        length-append (entriesFrom i u) (e ∷ entriesFrom i v),
+        length-append (entriesFrom i u)
+            (entriesFrom i v),
+      )
 
 -- N10's index: a entries are left before the entry and b behind it
-index-left : (k : Kind) (n m i a b : ℕ) (e : ℤ) → m ≡ lanes k n → (k ≡ A → negative e ≡ false) → 1 ≤ i → a + suc b + i ≡ suc m
+index-left : (k : Kind) (n : ℕ) {m : ℕ} (i a b : ℕ) (e : ℤ) → m ≡ lanes k n → (k ≡ A → negative e ≡ false) → 1 ≤ i → a + suc b + i ≡ suc m
     → indexOf n (signed e (i + a)) ≡ indexBehind m (negative e) b
 unfolding negative
-index-left k n m i a b (pos x) q p o c = indexOf-positive n x (i + a) ∙ omega arith
-index-left A n m i a b (negsuc x) q p o c = absurd (true≢false (p refl))
-index-left B n m i a b (negsuc x) q p o c = indexOf-negative n x (i + a) (omega arith) ∙ omega arith
-index-left D n m i a b (negsuc x) q p o c = indexOf-negative n x (i + a) (omega arith) ∙ omega arith
+index-left k n i a b (pos x) q p o c = indexOf-positive n x (i + a) ∙ omega arith
+index-left A n i a b (negsuc x) q p o c = absurd (true≢false (p refl))
+index-left B n i a b (negsuc x) q p o c = indexOf-negative n x (i + a) (omega arith) ∙ omega arith
+index-left D n i a b (negsuc x) q p o c = indexOf-negative n x (i + a) (omega arith) ∙ omega arith
 
 block-lanes : (k : Kind) (n m i j : ℕ) → m ≡ lanes k n → block k m i j ≡ block k n i j
 unfolding block
@@ -185,13 +195,14 @@ unfolding signChanged
 sign-left k l odd t q z = rw (q, z)
 
 module _ (k : Kind) (n m : ℕ) (places : List ℕ) (small : m ≤ 64) (q : m ≡ lanes k n) where
-  level : (t i : ℕ) (odd : Bool) (u : List ℤ) (e : ℤ) (v : List ℤ) → 1 ≤ i → Stands k m places i u e v
+  level : (t : ℕ) {i : ℕ} (odd : Bool) {u : List ℤ} {e : ℤ} {v : List ℤ} → 1 ≤ i → Stands k m places i u e v
       → length (entriesFrom i (u ++ (e ∷ v))) + i ≡ suc m
       → ((s : Bool)
-      → peeledFrom k m places t (suc i) (positionsFrom (suc i) (u ++ (e ∷ v))) s ≡ normalFrom k n t (suc i) (lastChanged k s (entriesFrom (suc i) (u ++ (e ∷ v)))))
+      → peeledFrom k m places t (suc i) (positionsFrom (suc i) (u ++ (e ∷ v))) s
+      ≡ normalFrom k n t (suc i) (lastChanged k s (entriesFrom (suc i) (u ++ (e ∷ v)))))
       → peeledFrom k m places (suc t) i (positionsFrom i (u ++ (e ∷ v))) odd ≡ normalFrom k n (suc t) i (lastChanged k odd (entriesFrom i (u ++ (e ∷ v))))
   unfolding peeledFrom normalFrom
-  level t i odd u e v o h c ih =
+  level t {i} odd {u} {e} {v} o h c ih =
       let x : List ℤ = entriesFrom i u in
       let y : List ℤ = entriesFrom i v in
       let d : Taken k odd x e y = taken k odd x e y (omega (arith, h .size)) in
@@ -208,7 +219,7 @@ module _ (k : Kind) (n m : ℕ) (places : List ℕ) (small : m ≤ 64) (q : m �
       index-is k m places i u e v small h odd
       ∙ sym (ap (λ (w : List ℤ). indexOf n (placeFrom i w i)) whole
       ∙ ap (indexOf n) (placeFrom-peeled i i x (d .entry) (d .right) size new)
-      ∙ index-left k n m i (length x) (length (d .right)) (d .entry) q positive o count
+      ∙ index-left k n i (length x) (length (d .right)) (d .entry) q positive o count
       ∙ ap₂ (indexBehind m) (d .sign) (d .count)) in
       let tail : peeledFrom k m places t (suc i) (leftAt (getD places (i - 1) 0) (positionsFrom i (u ++ (e ∷ v)))) (oddAt (getD places (i - 1) 0) odd)
       ≡ normalFrom k n t (suc i)
@@ -229,13 +240,13 @@ module _ (k : Kind) (n m : ℕ) (places : List ℕ) (small : m ≤ 64) (q : m �
     unfolding peeledFrom normalFrom
     peeled-normal zero i odd o l c = refl
     peeled-normal (suc t) i odd o l c =
-        go (found k n m w places i q a p o (omega (arith, levels-le-lanes k n))) (λ s. peeled-normal t (suc i) s)
+        peeled-normal-by-cases (found q a p o (omega (arith, levels-le-lanes k n))) (λ s. peeled-normal t (suc i) s)
       where
-        go : Found k m places i w
+        peeled-normal-by-cases : Found k m places i w
             → ((s : Bool) → 1 ≤ suc i → t + suc i ≤ suc (levels k n) → length (entriesFrom (suc i) w) + suc i ≡ suc m
             → peeledFrom k m places t (suc i) (positionsFrom (suc i) w) s ≡ normalFrom k n t (suc i) (lastChanged k s (entriesFrom (suc i) w)))
             → peeledFrom k m places (suc t) i (positionsFrom i w) odd ≡ normalFrom k n (suc t) i (lastChanged k odd (entriesFrom i w))
-        go f ih =
+        peeled-normal-by-cases f ih =
             let u : List ℤ = f .left in
             let e : ℤ = f .entry in
             let v : List ℤ = f .right in
@@ -244,7 +255,7 @@ module _ (k : Kind) (n m : ℕ) (places : List ℕ) (small : m ≤ 64) (q : m �
             omega (arith, now, ap (λ (x : List ℤ). length (entriesFrom (suc i) x)) (f .whole), next-count k m places i u e v small (f .there)) in
             subst (λ (x : List ℤ). peeledFrom k m places (suc t) i (positionsFrom i x) odd ≡ normalFrom k n (suc t) i (lastChanged k odd (entriesFrom i x)))
             (sym (f .whole))
-            (level t i odd u e v o (f .there) now
+            (level t odd o (f .there) now
             (λ s. subst
             (λ (x : List ℤ). peeledFrom k m places t (suc i) (positionsFrom (suc i) x) s ≡ normalFrom k n t (suc i) (lastChanged k s (entriesFrom (suc i) x)))
             (f .whole) (ih s (omega arith) (omega arith) later)))

@@ -42,8 +42,8 @@ pub record PlacesStored (w : List ℤ) (places : List ℕ) (i : ℕ) : Type 0 wh
   pub room : length places ≡ 64
   pub so-far : (p : ℕ) → p < i → getD places (natAbs (getD w p (pos 0)) - 1) 0 ≡ placeOf (getD w p (pos 0)) (p + 1)
 
-pub stored-none : (w : List ℤ) (places : List ℕ) → length places ≡ 64 → PlacesStored w places 0
-stored-none w places l = record { room = l; so-far = λ p h. absurd (omega arith) }
+pub stored-none : {w : List ℤ} {places : List ℕ} → length places ≡ 64 → PlacesStored w places 0
+stored-none l = record { room = l; so-far = λ p h. absurd (omega arith) }
 
 -- the entry at i, of size s, at the place r
 pub stored-next : (k : Kind) (n : ℕ) {w : List ℤ} {places : List ℕ} {i s r : ℕ} → WindowOf k n w → length w ≤ 64 → i < length w
@@ -66,5 +66,5 @@ stored-next k n {w} {places} {i} {s} {r} g few l f q e h =
         let other : natAbs (getD w p (pos 0)) - 1 ≡ s - 1 → ⊥ = λ x. apart (omega (arith, q, sizes i l, sizes p (omega arith))) in
         getD-set-other places (s - 1) (natAbs (getD w p (pos 0)) - 1) r 0 other ∙ h .so-far p a
 
-pub stored-all : (w : List ℤ) (places : List ℕ) (i : ℕ) → length w ≤ i → PlacesStored w places i → PlacesOf w places
-stored-all w places i l h p a = h .so-far p (omega arith)
+pub stored-all : {w : List ℤ} {places : List ℕ} {i : ℕ} → length w ≤ i → PlacesStored w places i → PlacesOf w places
+stored-all l h p a = h .so-far p (omega arith)

@@ -23,14 +23,14 @@ passed c =
     let after-m = c .before .before .before .before in
     let first = count-of-lanes _ _ _ (after-m .before .before .preset-lanes .ensures) _ (after-m .m .given .1) in
     let second = count-of-lanes _ _ _ (c .before .before .preset-lanes2 .ensures) _ (c .l .given .1) in
-    sym (pair-next (rankRefusal _ _) (wordRefusal _ _) _ _ _ refl (first .0) (sym (second .0)))
+    sym (pair-next (rankRefusal _ _) (wordRefusal _ _) refl (first .0) (sym (second .0)))
 
 same-presets-requires : tie.Need-same-presets-requires
 same-presets-requires c κs =
     let l = c .before in
     let after-m = l .before .before .before .before in
-    let first = preset-counted _ _ _ _ _ (after-m .before .before .preset-lanes .ensures) (after-m .m .given .1) in
-    let second = preset-counted _ _ _ _ _ (l .before .before .preset-lanes2 .ensures) (l .l .given .1) in
+    let first = preset-counted _ _ _ (after-m .before .before .preset-lanes .ensures) (after-m .m .given .1) in
+    let second = preset-counted _ _ _ (l .before .before .preset-lanes2 .ensures) (l .l .given .1) in
     ((first .0, first .1 .0, first .1 .1), (second .0, second .1 .0, second .1 .1))
 
 returns : tie.Need-returns
@@ -48,7 +48,7 @@ returns-3 c =
     let second = refusal-of-lanes _ _ _ (c .before .before .before .preset-lanes2 .ensures) _ (c .before .refusal .given .1) in
     let after-m = c .before .before .before .before .before in
     let first = count-of-lanes _ _ _ (after-m .before .before .preset-lanes .ensures) _ (after-m .m .given .1) in
-    verdict-refused _ _ _ _ _ _ _ (pair-next (rankRefusal _ _) (wordRefusal _ _) _ _ _ refl (first .0) (second .0)) (second .1)
+    verdict-refused _ _ _ _ _ _ _ (pair-next (rankRefusal _ _) (wordRefusal _ _) refl (first .0) (second .0)) (second .1)
 
 returns-4 : tie.Need-returns-4
 returns-4 c =

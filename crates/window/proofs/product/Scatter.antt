@@ -46,21 +46,22 @@ getD-scatter : (out : List ℤ) (k : ℕ) (w : List ℤ) (c p : ℕ) → Between
 unfolding scatter hasSize placeFrom
 getD-scatter out k [] c p b d l h = absurd (true≢false (sym h))
 getD-scatter out k (e ∷ w) c p b d l h =
-    go (eqb (natAbs e) (suc p)) refl h (λ t. getD-scatter next (suc k) w c p (b .2) (d .1) (rw (length-set out (natAbs e - 1) (signed e k)) l) t)
+    getD-scatter-by-cases (eqb (natAbs e) (suc p)) refl h (λ t. getD-scatter next (suc k) w c p (b .2) (d .1)
+    (rw (length-set out (natAbs e - 1) (signed e k)) l) t)
   where
     next : List ℤ
     next = set out (natAbs e - 1) (signed e k)
 
-    go : (t : Bool) → eqb (natAbs e) (suc p) ≡ t → (t || hasSize (suc p) w) ≡ true
+    getD-scatter-by-cases : (t : Bool) → eqb (natAbs e) (suc p) ≡ t → (t || hasSize (suc p) w) ≡ true
         → (hasSize (suc p) w ≡ true → getD (scatter next (suc k) w) p (pos 0) ≡ placeFrom (suc k) w (suc p))
         → getD (scatter next (suc k) w) p (pos 0) ≡ pick t (signed e k) (placeFrom (suc k) w (suc p))
-    go true q h r =
+    getD-scatter-by-cases true q h r =
         let s : natAbs e ≡ suc p = eqb-true (natAbs e) (suc p) q in
         let i : natAbs e - 1 ≡ p = omega arith in
         getD-scatter-missing next (suc k) w c p (b .2) (rw s at (d .0))
         ∙ ap (λ (j : ℕ). getD (set out j (signed e k)) p (pos 0)) i
         ∙ getD-set-same out p (signed e k) (pos 0) (omega arith)
-    go false q h r = r h
+    getD-scatter-by-cases false q h r = r h
 
 -- what is stored is the inverse, and the bytes behind it stay
 pub scatter-inverse : (w out : List ℤ) → Level 1 w → length w ≤ length out → scatter out 1 w ≡ inverse w ++ drop (length w) out

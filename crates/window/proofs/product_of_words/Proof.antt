@@ -18,7 +18,7 @@ counted : (c : tie.After-m)
     → let entry = c .before .before .before .before .before .before in
     let a = entry .args in
     RankOf (a .kind) (a .rank) × ((c .m .given .0 .0 ≡ lanes (kindOf (a .kind)) (a .rank)) × (WordOf (a .rank) (a .u .now) × WordOf (a .rank) (a .v .now)))
-counted c = words-counted _ _ _ _ _ _ (c .before .before .ranked-words-lanes .ensures) (c .m .given .1)
+counted c = words-counted _ _ _ _ (c .before .before .ranked-words-lanes .ensures) (c .m .given .1)
 
 show-product-requires : tie.Need-show-product-requires
 show-product-requires c κs =

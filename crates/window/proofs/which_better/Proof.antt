@@ -18,7 +18,7 @@ returns c =
 equal-words-requires : tie.Need-equal-words-requires
 equal-words-requires c κs =
     let m = c .before in
-    words-counted _ _ _ _ _ _ (m .before .before .ranked-words-lanes .ensures) (m .m .given .1)
+    words-counted _ _ _ _ (m .before .before .ranked-words-lanes .ensures) (m .m .given .1)
 
 -- a word is handed back exactly when the windows are equal
 hands : (c : tie.After-equal-words)
@@ -28,17 +28,17 @@ hands : (c : tie.After-equal-words)
 hands c =
     let m = c .before .before in
     let p = count-of-lanes _ _ _ (m .before .before .ranked-words-lanes .ensures) _ (m .m .given .1) in
-    handsBack-words _ _ _ _ _ _ refl (p .0) (c .equal-words .ensures)
+    handsBack-words _ _ _ _ refl (p .0) (c .equal-words .ensures)
 
 returns-2 : tie.Need-returns-2
 returns-2 c =
     let equal = c .before .before in
-    choice-second _ _ (hands (equal .before) ∙ equal .if1 .taken) (sym (c .before .is-shortlex .ensures) ∙ c .if2 .taken)
+    choice-second (hands (equal .before) ∙ equal .if1 .taken) (sym (c .before .is-shortlex .ensures) ∙ c .if2 .taken)
 
 returns-3 : tie.Need-returns-3
 returns-3 c =
     let equal = c .before .before in
-    choice-first _ _ (hands (equal .before) ∙ equal .if1 .taken) (sym (c .before .is-shortlex .ensures) ∙ c .if2 .left)
+    choice-first (hands (equal .before) ∙ equal .if1 .taken) (sym (c .before .is-shortlex .ensures) ∙ c .if2 .left)
 
 returns-4 : tie.Need-returns-4
 returns-4 c = choice-neither _ _ (hands (c .before) ∙ c .if1 .left)

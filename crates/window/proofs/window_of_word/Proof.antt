@@ -19,7 +19,7 @@ returns c =
 show-front-requires : tie.Need-show-front-requires
 show-front-requires c κs =
     let counted = c .before .before .before in
-    let p = preset-counted _ _ _ _ _ (counted .before .before .preset-lanes .ensures) (counted .m .given .1) in
+    let p = preset-counted _ _ _ (counted .before .before .preset-lanes .ensures) (counted .m .given .1) in
     (p .0, (p .1 .0, (p .1 .1, c .before .if1 .left)))
 
 returns-2 : tie.Need-returns-2

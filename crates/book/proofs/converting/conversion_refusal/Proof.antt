@@ -25,7 +25,7 @@ converted-size-requires : tie.Need-converted-size-requires
 converted-size-requires c κs =
     let counted = c .before .before in
     let opened = counted .before in
-    let a = accepted-read _ _ _ (opened .before .book-refusal .ensures) (opened .if1 .left) in
+    let a = accepted-read (opened .before .book-refusal .ensures) (opened .if1 .left) in
     (omega (arith, a .inside, counted .count-of .ensures .0), omega (arith, a .longer, a .most))
 
 returns-3 : tie.Need-returns-3

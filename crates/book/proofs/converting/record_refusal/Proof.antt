@@ -43,7 +43,7 @@ returns-2 c =
 returns-3 : tie.Need-returns-3
 returns-3 c =
     let read = c .before .before .before in
-    refused-by-itself _ _ _ _ _ (read .before .record-start .ensures .0) (sym (c .before .refusal .given .1) ∙ read .check-record .ensures)
+    refused-by-itself _ _ (read .before .record-start .ensures .0) (sym (c .before .refusal .given .1) ∙ read .check-record .ensures)
 
 pub record-refusal-spec : {M : Type 1} → statement M
 record-refusal-spec =

@@ -47,7 +47,7 @@ returns c =
     let offsets = put .before .before .before .before in
     let others = offsets .before .before .before .before in
     let entry = others .before .before .before .before in
-    all-written (entry .pre .0) (entry .pre .1) _ _ _ (others .write-others .ensures) (offsets .write-offsets .ensures) (put .put-two .ensures)
+    all-written (entry .pre .0) (entry .pre .1) _ (others .write-others .ensures) (offsets .write-offsets .ensures) (put .put-two .ensures)
 
 pub write-converted-spec : {M : Type 1} → statement M
 write-converted-spec =

@@ -31,7 +31,7 @@ part-preset-refusal-end c =
     let headed = ranked .before .before .before in
     let placed = headed .before in
     let start = placed .before .before in
-    end-read-le (start .args .edition) _ _ _ _ _ (placed .count-place .ensures .0) (headed .head-size .ensures .0) (c .two-at .ensures .0) (start .pre .1)
+    end-read-le (start .args .edition) _ _ (placed .count-place .ensures .0) (headed .head-size .ensures .0) (c .two-at .ensures .0) (start .pre .1)
 
 returns-2 : tie.Need-returns-2
 returns-2 c =

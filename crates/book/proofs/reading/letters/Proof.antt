@@ -15,16 +15,16 @@ at : (c : tie.After-start)
     let a = entry .args in
     let g = c .start .given .0 in
     Found (a .edition) (now (a .book)) (a .number) (g .0) (g .1 .0) (g .1 .1 .0) (g .1 .1 .1 .0)
-at c = found _ _ _ _ _ _ _ (sym (c .start .given .1) ∙ c .before .before .check-preset .ensures)
+at c = found (sym (c .start .given .1) ∙ c .before .before .check-preset .ensures)
 
 add-end : tie.Need-add-end
-add-end c = let h = found-small _ _ _ _ _ _ _ (at (c .before)) in omega arith
+add-end c = let h = found-small (at (c .before)) in omega arith
 
 part-result-end : tie.Need-part-result-end
-part-result-end c = found-inside _ _ _ _ _ _ _ (at (c .before))
+part-result-end c = found-inside (at (c .before))
 
 returns : tie.Need-returns
-returns c = let f = at (c .before .before) in (lettersOf-found _ _ _ _ _ _ _ f, (refl, lettersStart-found _ _ _ _ _ _ _ _ f))
+returns c = let f = at (c .before .before) in (lettersOf-found f, (refl, lettersStart-found _ f))
 
 returns-2 : tie.Need-returns-2
 returns-2 c =

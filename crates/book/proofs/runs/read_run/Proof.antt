@@ -32,12 +32,12 @@ loop-again : tie.Need-loop-again Inv-loop μ-loop
 loop-again c =
     let turn = c .before in
     let read = c .numbered-preset .ensures ∙ preset-from _ _ _ _ _ (turn .before .before .before .smaller-of .ensures) in
-    begun-next _ _ _ _ _ _ (turn .before .loop .inv) (turn .loop-test .taken) (ap (λ p. record { preset = p }) read)
+    begun-next _ _ _ (turn .before .loop .inv) (turn .loop-test .taken) (ap (λ p. record { preset = p }) read)
 
 returns : tie.Need-returns Inv-loop μ-loop
 returns c =
     let l = c .before in
-    (l .before .before .before .opened-by .ensures, refl, presets-whole _ _ _ _ _ (l .loop .inv) (c .loop-test .left))
+    (l .before .before .before .opened-by .ensures, refl, presets-whole _ (l .loop .inv) (c .loop-test .left))
 
 pub read-run-spec : {M : Type 1} → statement M
 read-run-spec =

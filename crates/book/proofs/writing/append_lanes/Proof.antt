@@ -55,7 +55,7 @@ returns-4 c =
 appended-size-requires : tie.Need-appended-size-requires
 appended-size-requires c κs =
     let opened = c .before .before .before .before .before .before .before in
-    accepted-read _ _ _ (opened .before .book-refusal .ensures) (opened .if1 .left) .most
+    accepted-read (opened .before .book-refusal .ensures) (opened .if1 .left) .most
 
 -- what was passed where only the size is left to check
 passed : (c : tie.After-appended-size)

@@ -23,7 +23,7 @@ returns : tie.Need-returns
 returns c =
     let copied = c .before .before .before .before .before .before in
     let start = copied .before .before .before .before .before .before in
-    records-written _ _ _ _ _ _ (start .pre .1) (copied .copy-to .ensures) (c .before .before .write-record .ensures)
+    records-written _ _ _ _ (start .pre .1) (copied .copy-to .ensures) (c .before .before .write-record .ensures)
 
 pub write-records-spec : {M : Type 1} → statement M
 write-records-spec =

@@ -35,7 +35,7 @@ size-requires c κs = small (c .before)
 
 returns-2 : tie.Need-returns-2
 returns-2 c =
-    crossings-stored _ _ _ _ _ (c .before .before .before .counted .given .1) _ (c .before .if1 .left) (i64-back _ (c .size .ok) ∙ c .size .ensures)
+    crossings-stored _ _ _ _ _ (c .before .before .before .counted .given .1) (c .before .if1 .left) (i64-back _ (c .size .ok) ∙ c .size .ensures)
 
 returns-3 : tie.Need-returns-3
 returns-3 c = crossings-refused _ _ _ _ (c .before .before .counted2 .given .1) (i64-back _ (c .refusal-number .ok) ∙ c .refusal-number .ensures)

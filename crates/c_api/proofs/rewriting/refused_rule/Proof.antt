@@ -15,7 +15,7 @@ narrow : (w : tie.After-rewrite-at)
     → let entry = w .before .before .before .before in
     let a = entry .args in
     roomless (rewriteNumbers (w .rewrite-at .result)) ≡ rewriting (a .kind) (a .rank) (now (a .word)) (a .place) [] [] .0
-narrow w = rewriting-narrow _ _ _ _ _ _ (w .rewrite-at .ensures)
+narrow w = rewriting-narrow (w .rewrite-at .ensures)
 
 unwritten : (w : tie.After-rewrite-at)
     → let entry = w .before .before .before .before in

@@ -28,7 +28,7 @@ returns-2 : tie.Need-returns-2
 returns-2 c =
     let told = c .before .before in
     let after-rewrite-at = told .before .before .before .before in
-    rewriting-used _ (after-rewrite-at .rewrite-at .ensures) _ _ _ _ _ (told .family .given .1) (after-rewrite-at .before .before .if1 .left)
+    rewriting-used _ (after-rewrite-at .rewrite-at .ensures) _ (told .family .given .1) (after-rewrite-at .before .before .if1 .left)
     (i64-back _ (c .size .ok) ∙ c .size .ensures)
 
 returns-3 : tie.Need-returns-3

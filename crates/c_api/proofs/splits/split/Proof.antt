@@ -13,7 +13,7 @@ use Rattle.c_api.proofs.splits.split.Tie as tie
 small : (c : tie.After-known-told) → c .before .a .given .0 .0 + c .before .a .given .0 .1 .0 ≤ 65535
 small c =
     let after-split-word = c .before .before .before .before .before .before .before in
-    splitting-small _ _ _ _ _ _ _ _ (sym (after-split-word .split-word .ensures .0) ∙ c .before .a .given .1)
+    splitting-small _ _ _ _ _ _ (sym (after-split-word .split-word .ensures .0) ∙ c .before .a .given .1)
 
 returns : tie.Need-returns
 returns c =
@@ -31,7 +31,7 @@ returns-2 : tie.Need-returns-2
 returns-2 c =
     let told = c .before .before in
     let after-split-word = told .before .before .before .before .before .before in
-    splittingListed-stored _ _ _ _ _ _ _ _ _ _ (after-split-word .split-word .ensures) _ _ _ (told .a .given .1)
+    splittingListed-stored _ _ _ _ _ _ _ (after-split-word .split-word .ensures) (told .a .given .1)
     (after-split-word .before .before .before .if1 .left)
     (i64-back _ (c .size .ok) ∙ c .size .ensures)
 
@@ -39,7 +39,7 @@ returns-3 : tie.Need-returns-3
 returns-3 c =
     let told = c .before .before in
     let after-split-word = told .before .before .before .before .before .before in
-    splittingListed-refused _ _ _ _ _ _ _ _ _ _ (after-split-word .split-word .ensures) _ _ (told .refusal .given .1)
+    splittingListed-refused _ _ _ _ _ _ _ (after-split-word .split-word .ensures) (told .refusal .given .1)
     (i64-back _ (c .refusal-number .ok) ∙ c .refusal-number .ensures)
 
 pub split-spec : {M : Type 1} → statement M

@@ -21,21 +21,21 @@ slice-write-lengths-2 c = simp length-set (omega arith)
 size-requires : tie.Need-size-requires
 size-requires c κs =
     let after-delay-table = c .before .before .before .before .before .before .before .before in
-    delayTable-small _ _ _ _ _ _ _ _ (sym (after-delay-table .delay-table .ensures .0) ∙ c .before .c .given .1)
+    delayTable-small _ _ _ _ _ (sym (after-delay-table .delay-table .ensures .0) ∙ c .before .c .given .1)
 
 returns-2 : tie.Need-returns-2
 returns-2 c =
     let told = c .before .before in
     let after-delay-table = told .before .before .before .before .before .before .before in
     let past-if1 = after-delay-table .before .before .before .before in
-    delayTableListed-stored _ _ _ _ _ _ _ _ _ _ (after-delay-table .delay-table .ensures) _ _ _ _ (told .c .given .1) (past-if1 .if1 .left)
+    delayTableListed-stored _ _ _ _ _ _ (after-delay-table .delay-table .ensures) (told .c .given .1) (past-if1 .if1 .left)
     (i64-back _ (c .size .ok) ∙ c .size .ensures)
 
 returns-3 : tie.Need-returns-3
 returns-3 c =
     let told = c .before .before in
     let after-delay-table = told .before .before .before .before .before .before .before in
-    delayTableListed-refused _ _ _ _ _ _ _ _ _ _ (after-delay-table .delay-table .ensures) _ _ (told .refusal .given .1)
+    delayTableListed-refused _ _ _ _ _ _ (after-delay-table .delay-table .ensures) (told .refusal .given .1)
     (i64-back _ (c .refusal-number .ok) ∙ c .refusal-number .ensures)
 
 pub table-spec : {M : Type 1} → statement M

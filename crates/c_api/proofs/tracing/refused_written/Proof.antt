@@ -38,7 +38,7 @@ returns-5 : tie.Need-returns-5
 returns-5 c =
     let told = c .before .before in
     i64-back _ (c .refusal-number .ok) ∙ c .refusal-number .ensures
-    ∙ toEnd-refused _ _ _ _ _ _ (told .before .before .rewrite-steps .ensures) _ (told .refusal .given .1)
+    ∙ toEnd-refused _ _ _ _ _ _ (told .before .before .rewrite-steps .ensures) (told .refusal .given .1)
 
 pub refused-written-spec : {M : Type 1} → statement M
 refused-written-spec =

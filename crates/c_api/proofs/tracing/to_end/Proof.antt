@@ -16,21 +16,21 @@ returns c =
 steps-number-requires : tie.Need-steps-number-requires
 steps-number-requires c κs =
     let after-rewrite-to-end = c .before .before .before .before .before .before .before .before .before .before .before in
-    rewritingToEnd-few _ _ _ _ _ _ _ _ _ (sym (after-rewrite-to-end .rewrite-to-end .ensures .0) ∙ c .before .steps .given .1)
+    rewritingToEnd-few _ _ _ _ _ _ _ (sym (after-rewrite-to-end .rewrite-to-end .ensures .0) ∙ c .before .steps .given .1)
 
 returns-2 : tie.Need-returns-2
 returns-2 c =
     let told = c .before .before in
     let after-rewrite-to-end = told .before .before .before .before .before .before .before .before .before .before in
     let past-if1 = after-rewrite-to-end .before .before .before .before .before in
-    rewritingToEndListed-stored _ _ _ _ _ _ _ _ _ _ _ _ _ (after-rewrite-to-end .rewrite-to-end .ensures) _ _ _ (told .steps .given .1)
+    rewritingToEndListed-stored _ _ _ _ _ _ _ _ (after-rewrite-to-end .rewrite-to-end .ensures) (told .steps .given .1)
     (past-if1 .if1 .left) (i64-back _ (c .steps-number .ok) ∙ c .steps-number .ensures)
 
 returns-3 : tie.Need-returns-3
 returns-3 c =
     let told = c .before .before in
     let after-rewrite-to-end = told .before .before .before .before .before .before .before .before .before .before in
-    rewritingToEndListed-refused _ _ _ _ _ _ _ _ _ _ _ _ _ (after-rewrite-to-end .rewrite-to-end .ensures) _ _ (told .refusal .given .1)
+    rewritingToEndListed-refused _ _ _ _ _ _ _ _ (after-rewrite-to-end .rewrite-to-end .ensures) (told .refusal .given .1)
     (i64-back _ (c .refusal-number .ok) ∙ c .refusal-number .ensures)
 
 pub to-end-spec : {M : Type 1} → statement M

@@ -17,7 +17,7 @@ below : (w : tie.After-which-better)
     w .which-better .result ≡ choice (handsBack (a .kind) (a .rank) (now (a .first)) (now (a .second))) (shortlex (now (a .second)) (now (a .first)))
 below w =
     let rank = w .before in
-    w .which-better .ensures ∙ choice-as-bytes _ _ _ _ _ _ _ (rank .before .byte .ensures) (rank .byte2 .ensures)
+    w .which-better .ensures ∙ choice-as-bytes _ _ _ _ _ (rank .before .byte .ensures) (rank .byte2 .ensures)
 
 returns : tie.Need-returns
 unfolding choiceNumber

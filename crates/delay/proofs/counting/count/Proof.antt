@@ -22,7 +22,7 @@ abbrev μ-loop : tie.MeasureT-loop
 loop-holds : tie.Need-loop-holds Inv-loop μ-loop
 loop-holds c =
     let set = c .before .before .before in
-    counted-none _ _ _ _ _ (set .set-one .ensures) (set .before .before .before .pre .1 .1) (c .fewest-of .ensures)
+    counted-none (set .set-one .ensures) (set .before .before .before .pre .1 .1) (c .fewest-of .ensures)
 
 top-of-requires : tie.Need-top-of-requires Inv-loop μ-loop
 top-of-requires c κs =
@@ -75,7 +75,7 @@ returns : tie.Need-returns Inv-loop μ-loop
 returns c =
     let entered = c .before .before in
     let start = entered .before .before .before .before .before .before in
-    counted-all _ _ _ _ _ (table-rank _ _ (start .pre .0) .0) (c .before .loop .inv) (rw (start .pre .1 .0) at (c .loop-test .left))
+    counted-all (table-rank _ _ (start .pre .0) .0) (c .before .loop .inv) (rw (start .pre .1 .0) at (c .loop-test .left))
 
 pub count-spec : {M : Type 1} → statement M
 count-spec =

@@ -21,7 +21,7 @@ returns-2 : tie.Need-returns-2
 returns-2 c =
     let after-normal-form-of-inverse = c .before .before .before .before .before in
     let pre = after-normal-form-of-inverse .before .before .before .pre in
-    answered-length _ _ _ _ _ (then-none _ _ (pre .0 .0) ∙ pre .0 .1) (after-normal-form-of-inverse .normal-form-of-inverse .ensures) _ (c .before .l .given .1)
+    answered-length _ _ _ (then-none _ _ (pre .0 .0) ∙ pre .0 .1) (after-normal-form-of-inverse .normal-form-of-inverse .ensures) _ (c .before .l .given .1)
 
 pub write-inverse-spec : {M : Type 1} → statement M
 write-inverse-spec =

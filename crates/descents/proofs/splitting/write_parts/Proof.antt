@@ -11,7 +11,7 @@ returns : tie.Need-returns
 returns c =
     let tested = c .before in
     let h = tested .before .before .before .pre in
-    second-lacks _ _ _ _ _ _ (tested .lacks-room .ensures) (form-of-inverse _ _ _ (h .0) (h .1 .1)) (c .if1 .taken)
+    second-lacks _ _ _ _ (tested .lacks-room .ensures) (form-of-inverse _ _ _ (h .0) (h .1 .1)) (c .if1 .taken)
 
 returns-2 : tie.Need-returns-2
 returns-2 c =

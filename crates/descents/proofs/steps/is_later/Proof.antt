@@ -6,7 +6,7 @@ use Rattle.descents.proofs.steps.is_later.Statement.{statement}
 use Rattle.descents.proofs.steps.is_later.Tie as tie
 
 returns : tie.Need-returns
-returns c = later-of-signs _ _ _ _ (c .before .before .fits .x) (c .before .before .fits .y) (c .before .is-negative .ensures) (c .is-negative2 .ensures)
+returns c = later-of-signs _ _ (c .before .before .fits .x) (c .before .before .fits .y) (c .before .is-negative .ensures) (c .is-negative2 .ensures)
 
 pub is-later-spec : {M : Type 1} → statement M
 is-later-spec = tie.close (tie.spec (λ c κs. search needs) (λ c κs. search needs) returns)

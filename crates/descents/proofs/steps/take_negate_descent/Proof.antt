@@ -17,12 +17,12 @@ sub-w c =
 returns : tie.Need-returns
 returns c =
     let b = c .before in (
-      negative-told _ _ _ (b .before .a .given) (b .is-negative .ensures) (c .if1 .taken),
+      negative-told _ (b .before .a .given) (b .is-negative .ensures) (c .if1 .taken),
       set-eq-negated _ _ (b .before .before .pre .0) (b .before .a .given) (b .before .before .pre .1),
     )
 
 returns-2 : tie.Need-returns-2
-returns-2 c = (negative-told _ _ _ (c .before .before .a .given) (c .before .is-negative .ensures) (c .if1 .left), refl)
+returns-2 c = (negative-told _ (c .before .before .a .given) (c .before .is-negative .ensures) (c .if1 .left), refl)
 
 pub take-negate-descent-spec : {M : Type 1} → statement M
 take-negate-descent-spec =

@@ -10,14 +10,14 @@ use Rattle.descents.proofs.steps.take_swap_descent.Tie as tie
 returns : tie.Need-returns
 returns c =
     let b = c .before in (
-      later-told _ _ _ _ (b .before .before .a .given) (b .before .b .given) (b .is-later .ensures) (c .if1 .taken),
+      later-told _ _ (b .before .before .a .given) (b .before .b .given) (b .is-later .ensures) (c .if1 .taken),
       set-eq-swap _ _ (b .before .before .before .pre) (b .before .before .a .given) (b .before .b .given),
     )
 
 returns-2 : tie.Need-returns-2
 returns-2 c =
     let b = c .before in
-    (later-told _ _ _ _ (b .before .before .a .given) (b .before .b .given) (b .is-later .ensures) (c .if1 .left), refl)
+    (later-told _ _ (b .before .before .a .given) (b .before .b .given) (b .is-later .ensures) (c .if1 .left), refl)
 
 pub take-swap-descent-spec : {M : Type 1} → statement M
 take-swap-descent-spec =

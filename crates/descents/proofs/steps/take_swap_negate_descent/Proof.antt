@@ -26,7 +26,7 @@ returns c =
     let b = c .before in
     let d = b .before .before .before in
     let y = getD (now (d .args .w)) (d .args .p + 1) (pos 0) in (
-      later-negated-told _ y _ _ (b .before .before .a .given) (b .before .b .given) (d .pre .1 .1) (b .is-later .ensures) (c .if1 .taken),
+      later-negated-told _ y (b .before .before .a .given) (b .before .b .given) (d .pre .1 .1) (b .is-later .ensures) (c .if1 .taken),
       set-eq-swapped _ _ (d .pre .0) (b .before .before .a .given) (d .pre .1 .0) (b .before .b .given) (d .pre .1 .1),
     )
 
@@ -35,7 +35,7 @@ returns-2 c =
     let b = c .before in
     let d = b .before .before .before in
     let y = getD (now (d .args .w)) (d .args .p + 1) (pos 0) in
-    (later-negated-told _ y _ _ (b .before .before .a .given) (b .before .b .given) (d .pre .1 .1) (b .is-later .ensures) (c .if1 .left), refl)
+    (later-negated-told _ y (b .before .before .a .given) (b .before .b .given) (d .pre .1 .1) (b .is-later .ensures) (c .if1 .left), refl)
 
 pub take-swap-negate-descent-spec : {M : Type 1} → statement M
 take-swap-negate-descent-spec =

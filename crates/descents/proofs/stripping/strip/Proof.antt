@@ -18,7 +18,7 @@ abbrev μ-loop : tie.MeasureT-loop
 μ-loop kind n allowed w₀ s₀ w s = windowLength (kindOf kind) w * (n + 1) + (n + 1 - s)
 
 loop-holds : tie.Need-loop-holds Inv-loop μ-loop
-loop-holds c = (refl, turning-start _ _ _ _ (c .pre .1))
+loop-holds c = (refl, turning-start (c .pre .1))
 
 take-allowed-descent-requires : tie.Need-take-allowed-descent-requires Inv-loop μ-loop
 take-allowed-descent-requires c κs =
@@ -71,7 +71,7 @@ same-length : tie.Need-same-length Inv-loop μ-loop
 same-length c = c .before .loop .inv .0
 
 returns : tie.Need-returns Inv-loop μ-loop
-returns c = turning-end _ _ _ _ _ _ (c .before .loop .inv .1) (c .loop-test .left)
+returns c = turning-end (c .before .loop .inv .1) (c .loop-test .left)
 
 pub strip-spec : {M : Type 1} → statement M
 strip-spec =

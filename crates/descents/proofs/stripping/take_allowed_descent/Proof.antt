@@ -11,7 +11,7 @@ returns c =
     taken-allowed _ _ _ _ _ _ (b .before .is-allowed .ensures) (b .if1 .taken) (c .before .take-descent .ensures)
 
 returns-2 : tie.Need-returns-2
-returns-2 c = taken-not _ _ _ _ _ _ (c .before .is-allowed .ensures) (c .if1 .left)
+returns-2 c = taken-not _ _ _ _ (c .before .is-allowed .ensures) (c .if1 .left)
 
 pub take-allowed-descent-spec : {M : Type 1} → statement M
 take-allowed-descent-spec =

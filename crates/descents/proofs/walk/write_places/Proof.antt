@@ -46,7 +46,7 @@ same-length : tie.Need-same-length Inv-loop μ-loop
 same-length c = c .before .loop .inv .1 .size
 
 returns : tie.Need-returns Inv-loop μ-loop
-returns c = writing-end _ _ _ _ _ (c .loop-test .left) (c .before .before .pre .1) (c .before .loop .inv .1)
+returns c = writing-end _ _ _ (c .loop-test .left) (c .before .before .pre .1) (c .before .loop .inv .1)
 
 pub write-places-spec : {M : Type 1} → statement M
 write-places-spec =

@@ -52,7 +52,7 @@ returns c =
     let three = third four in
     let two = second three in
     let one = first two in
-    head-put _ _ _ _ _ _ _ _ _ _ _ _ _ _ _ _ (one .put-decimal .ensures) (two .before .before .kind-letter .ensures) (two .put-bytes .ensures)
+    head-put _ _ _ _ _ _ (one .put-decimal .ensures) (two .before .before .kind-letter .ensures) (two .put-bytes .ensures)
     (three .put-spaced .ensures) (four .put-spaced2 .ensures) (five .put-bytes2 .ensures)
 
 pub put-head-spec : {M : Type 1} → statement M

@@ -26,7 +26,7 @@ returns c =
     let second = third .before .before .before .before .before in
     let first = second .before .before .before .before in
     let entry = first .before .before .before .before in
-    labelled-put (now (entry .args .out)) _ _ _ _ _ _ _ (now (entry .args .label)) _ (first .put-bytes .ensures) (second .put-decimal .ensures)
+    labelled-put (now (entry .args .out)) _ (now (entry .args .label)) _ (first .put-bytes .ensures) (second .put-decimal .ensures)
     (third .put-bytes2 .ensures)
 
 pub put-labelled-spec : {M : Type 1} → statement M

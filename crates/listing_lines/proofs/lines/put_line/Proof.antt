@@ -22,7 +22,7 @@ returns : tie.Need-returns
 returns c =
     let second = c .before .before in
     let first = second .before .before .before .before in
-    presetLine-put _ _ _ _ _ _ _ _ _ _ _ (first .put-head .ensures) (second .put-tail .ensures)
+    presetLine-put _ _ _ _ _ _ _ (first .put-head .ensures) (second .put-tail .ensures)
 
 pub put-line-spec : {M : Type 1} → statement M
 put-line-spec = tie.close (tie.spec put-head-requires put-tail-requires (λ c. search needs) returns)

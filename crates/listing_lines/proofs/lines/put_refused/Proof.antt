@@ -18,7 +18,7 @@ returns : tie.Need-returns
 returns c =
     let second = c .before .before in
     let first = second .before .before .before .before .before in
-    refusedLine-put _ _ _ _ _ _ _ _ (first .put-decimal .ensures) (second .put-labelled .ensures)
+    refusedLine-put _ _ _ _ (first .put-decimal .ensures) (second .put-labelled .ensures)
 
 pub put-refused-spec : {M : Type 1} → statement M
 put-refused-spec =

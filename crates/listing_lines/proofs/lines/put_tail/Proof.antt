@@ -31,7 +31,7 @@ returns c =
     let third = fourth .before .before .before .before .before in
     let second = third .before .before .before .before in
     let first = second .before .before .before .before .before in
-    tail-put _ _ _ _ _ _ _ _ _ _ _ _ (first .put-letters .ensures) (second .put-bytes .ensures) (third .put-entries .ensures) (fourth .put-bytes2 .ensures)
+    tail-put _ _ _ _ (first .put-letters .ensures) (second .put-bytes .ensures) (third .put-entries .ensures) (fourth .put-bytes2 .ensures)
 
 pub put-tail-spec : {M : Type 1} → statement M
 put-tail-spec =

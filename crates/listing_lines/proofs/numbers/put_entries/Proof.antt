@@ -37,7 +37,7 @@ loop-again c =
     let turn-stage = c .before .before .before .before .before in
     let turn = c .before .before .before .before .before .before in (
       omega arith,
-      entries-put _ _ _ _ (turn-stage .loop-test .taken) (c .before .before .before .put-entry-arg2 .given)
+      entries-put _ _ (turn-stage .loop-test .taken) (c .before .before .before .put-entry-arg2 .given)
           (turn .loop .inv .1) (c .before .before .put-entry .ensures),
     )
 

@@ -40,7 +40,7 @@ loop-again c =
     let turn-stage = c .before .before .before .before .before in
     let turn = c .before .before .before .before .before .before in (
       omega arith,
-      letters-put _ _ _ _ (turn-stage .loop-test .taken) (turn .loop .inv .1) (c .before .before .put-spaced .ensures),
+      letters-put _ _ (turn-stage .loop-test .taken) (turn .loop .inv .1) (c .before .before .put-spaced .ensures),
     )
 
 same-length : tie.Need-same-length Inv-loop μ-loop

@@ -67,7 +67,7 @@ answered : (c : tie.Joined1 Inv-loop μ-loop) (d : Slot)
 answered c d =
     let t = turn c in
     let read = held-preset _ _ _ (c .before .number-of2 .ensures) _ (in-hand c .0) (in-hand c .1) d in
-    (read, line-from _ _ _ _ _ (opened t .read-run .ensures .0) read)
+    (read, line-from _ _ _ (opened t .read-run .ensures .0) read)
 
 -- it stands at the front of its buffer
 front : (c : tie.After-put-nth Inv-loop μ-loop)
@@ -93,7 +93,7 @@ loop-holds : tie.Need-loop-holds Inv-loop μ-loop
 loop-holds c =
     let read = c .before .read-run .ensures in
     let e = lineCount-by _ _ _ (read .0) in (
-      filling-none _ _ _ _ _ (rw e at (c .lines-from .ensures)),
+      filling-none (rw e at (c .lines-from .ensures)),
       record { begins = omega (arith, c .before .before .number-of .ensures, read .1); presets = rw (read .1) (read .2) },
       c .before .before .before .large-buffer .ensures,
     )
@@ -146,7 +146,8 @@ slice-aggregate-put-bytes c =
 put-bytes-requires : tie.Need-put-bytes-requires Inv-loop μ-loop
 put-bytes-requires c κs =
     let after-put-nth = c .before .before .before .before in
-    rw (length-take-le _ _ (line-ends-inside after-put-nth)) (omega (arith, c .before .before .if2 .left, turn (joined after-put-nth) .before .loop .inv .0 .inside))
+    rw (length-take-le _ _ (line-ends-inside after-put-nth))
+    (omega (arith, c .before .before .if2 .left, turn (joined after-put-nth) .before .loop .inv .0 .inside))
 
 add-next : tie.Need-add-next Inv-loop μ-loop
 add-next c =
@@ -168,7 +169,7 @@ loop-again c =
     let t = turn j in
     let inv = t .before .loop .inv in
     let h = in-hand j .0 in (
-      filling-next (inv .0) _ _ _ (t .loop-test .taken) (front m) (put .before .before .before .if2 .left) (put .put-bytes .ensures),
+      filling-next (inv .0) (t .loop-test .taken) (front m) (put .before .before .before .if2 .left) (put .put-bytes .ensures),
       record { begins = omega (arith, h .begins); presets = h .presets },
       inv .2 ∙ sym (m .put-nth .kept .1 .1 .1 .1 .0),
     )

@@ -14,8 +14,8 @@ small : (s : tie.Start) → s .args .refusal < 256
 small s = omega arith
 
 -- the line ends inside its buffer
-inside : (c : tie.After-put-first) → c .put-first .result ≤ length (c .put-first .last .1 .0)
-inside c =
+line-ends-inside : (c : tie.After-put-first) → c .put-first .result ≤ length (c .put-first .last .1 .0)
+line-ends-inside c =
     let made = c .before .before in
     omega (arith, refused-inside _ (small (made .before .before)) _ _ _ (made .buffer .ensures) (c .put-first .ensures), c .put-first .kept .1 .0)
 
@@ -29,17 +29,17 @@ returns c =
     refused-short _ (small (made .before .before)) _ _ _ (made .buffer .ensures) (put .put-first .ensures) _ (c .if1 .taken)
 
 array-share-prefix-line : tie.Need-array-share-prefix-line
-array-share-prefix-line c = inside (c .before .before .before)
+array-share-prefix-line c = line-ends-inside (c .before .before .before)
 
 slice-aggregate-put-bytes : tie.Need-slice-aggregate-put-bytes
 slice-aggregate-put-bytes c =
     let after-put-first = c .before .before .before .before in
-    sym (length-take-le _ _ (inside after-put-first))
+    sym (length-take-le _ _ (line-ends-inside after-put-first))
 
 put-bytes-requires : tie.Need-put-bytes-requires
 put-bytes-requires c κs =
     let after-put-first = c .before .before .before .before in
-    rw (length-take-le _ _ (inside after-put-first)) (omega (arith, c .before .before .if1 .left))
+    rw (length-take-le _ _ (line-ends-inside after-put-first)) (omega (arith, c .before .before .if1 .left))
 
 returns-2 : tie.Need-returns-2
 returns-2 c =
@@ -47,7 +47,8 @@ returns-2 c =
     let roomy = copied .before .before .before in
     let put = roomy .before .before in
     let made = put .before .before in
-    refused-copied _ (small (made .before .before)) _ _ _ (made .buffer .ensures) (put .put-first .ensures) _ (roomy .if1 .left) _ _ (copied .put-bytes .ensures)
+    refused-copied _ (small (made .before .before)) _ _ _ (made .buffer .ensures) (put .put-first .ensures) _ (roomy .if1 .left) _ _
+    (copied .put-bytes .ensures)
 
 pub refused-book-spec : {M : Type 1} → statement M
 refused-book-spec =

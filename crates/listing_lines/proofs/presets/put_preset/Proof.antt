@@ -16,13 +16,13 @@ preset : (c : tie.After-answer)
     Found (entry .pre .0) (now (entry .args .book)) (entry .args .number) (g .0) (g .1 .0) (g .1 .1 .0) (g .1 .1 .1 .0)
 preset c =
     let entry = c .before .before .before .before in
-    found _ _ _ _ _ _ _ (sym (c .answer .given .1) ∙ entry .pre .1 .0)
+    found (sym (c .answer .given .1) ∙ entry .pre .1 .0)
 
 put-refused-requires : tie.Need-put-refused-requires
 put-refused-requires c κs =
     let told = c .before .before in
     let start = told .before .before .before .before in
-    rw (lineBy-refused (now (start .args .book)) (start .args .number) _ _ _ (told .enum-told .given .1) (c .before .refusal-of .ensures)) (start .pre .1 .1)
+    rw (lineBy-refused (now (start .args .book)) (start .args .number) _ (told .enum-told .given .1) (c .before .refusal-of .ensures)) (start .pre .1 .1)
 
 returns : tie.Need-returns
 returns c =
@@ -30,27 +30,27 @@ returns c =
     let called = put .before .before in
     let told = called .before in
     let entry = told .before .before .before .before in
-    rw (lineBy-refused (now (entry .args .book)) (entry .args .number) _ _ _ (told .enum-told .given .1) (called .refusal-of .ensures)) at
+    rw (lineBy-refused (now (entry .args .book)) (entry .args .number) _ (told .enum-told .given .1) (called .refusal-of .ensures)) at
     (put .put-refused .ensures)
 
 add-end : tie.Need-add-end
-add-end c = omega (arith, found-small _ _ _ _ _ _ _ (preset (c .before)))
+add-end c = omega (arith, found-small (preset (c .before)))
 
 part-put-word-end : tie.Need-part-put-word-end
-part-put-word-end c = found-inside _ _ _ _ _ _ _ (preset (c .before))
+part-put-word-end c = found-inside (preset (c .before))
 
 put-word-requires : tie.Need-put-word-requires
 put-word-requires c κs =
     let told = c .before .before .before in
     let f = preset told in
     let entry = told .before .before .before .before in
-    (found-rank _ _ _ _ _ _ _ f, found-word _ _ _ _ _ _ _ f, rw (lineBy-found _ _ _ _ _ _ _ (told .answer .given .1)) (entry .pre .1 .1))
+    (found-rank f, found-word f, rw (lineBy-found _ _ (told .answer .given .1)) (entry .pre .1 .1))
 
 returns-2 : tie.Need-returns-2
 returns-2 c =
     let put = c .before .before in
     let told = put .before .before .before .before in
-    rw (lineBy-found _ _ _ _ _ _ _ (told .answer .given .1)) at (put .put-word .ensures)
+    rw (lineBy-found _ _ (told .answer .given .1)) at (put .put-word .ensures)
 
 pub put-preset-spec : {M : Type 1} → statement M
 put-preset-spec =

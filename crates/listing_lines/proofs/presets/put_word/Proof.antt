@@ -90,7 +90,7 @@ returns-3 : tie.Need-returns-3
 returns-3 c =
     let after-m = c .before .before .before .before .before .before .before in
     let l = formed (after-m .before .before .before) in
-    wordLine-put _ _ _ _ _ _ _ _ (form l .part) (shown after-m .part) (c .before .before .put-line .ensures)
+    wordLine-put _ _ _ _ _ _ (form l .part) (shown after-m .part) (c .before .before .put-line .ensures)
 
 pub put-word-spec : {M : Type 1} → statement M
 put-word-spec =

@@ -1,15 +1,16 @@
--- `checks::preset_refusal` makes the checks of the two functions that it calls, in their order.
+-- `checks::preset_refusal` returns what `preset_lanes` refuses with.
 -- Assumes nothing.
+use mathlib.Core.Path.{sym}
+use Rattle.coxeter.proofs.LaneCounts.{refusal-of-lanes, count-of-lanes}
 use borrow.Author.Needs.{needs}
 use Rattle.refusals.proofs.checks.preset_refusal.Statement.{statement}
-use Rattle.coxeter.proofs.Refusals.{then-refused, then-next}
 use Rattle.refusals.proofs.checks.preset_refusal.Tie as tie
 
 returns : tie.Need-returns
-returns c = then-refused _ _ _ (c .before .rank-refusal .ensures) (c .if1 .taken)
+returns c = sym (count-of-lanes _ _ _ (c .before .before .preset-lanes .ensures) _ (c .enum-told .given .1) .0)
 
 returns-2 : tie.Need-returns-2
-returns-2 c = then-next _ _ _ _ (c .before .before .rank-refusal .ensures) (c .before .if1 .left) (c .word-refusal .ensures)
+returns-2 c = refusal-of-lanes _ _ _ (c .before .before .before .preset-lanes .ensures) _ (c .before .refusal .given .1) .0
 
 pub preset-refusal-spec : {M : Type 1} → statement M
-preset-refusal-spec = tie.close (tie.spec (λ c κs. search needs) returns (λ c κs. search needs) returns-2)
+preset-refusal-spec = tie.close (tie.spec (λ c κs. search needs) (λ c. search needs) (λ c. search needs) returns returns-2)

@@ -12,7 +12,7 @@ returns c = pair-refused (rankRefusal _ _) (wordRefusal _ _) _ _ (c .before .pre
 returns-2 : tie.Need-returns-2
 returns-2 c =
     let passed = c .before in
-    pair-next (rankRefusal _ _) (wordRefusal _ _) _ _ _ (passed .before .preset-refusal .ensures) (passed .if1 .left) (c .preset-refusal2 .ensures)
+    pair-next (rankRefusal _ _) (wordRefusal _ _) (passed .before .preset-refusal .ensures) (passed .if1 .left) (c .preset-refusal2 .ensures)
 
 pub presets-refusal-spec : {M : Type 1} → statement M
 presets-refusal-spec = tie.close (tie.spec (λ c κs. search needs) returns (λ c κs. search needs) returns-2)

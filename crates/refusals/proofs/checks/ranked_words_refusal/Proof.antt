@@ -1,18 +1,16 @@
--- `checks::ranked_words_refusal` makes the checks of the first word, and then those of the second.
+-- `checks::ranked_words_refusal` returns what `ranked_words_lanes` refuses with.
 -- Assumes nothing.
+use mathlib.Core.Path.{sym}
+use Rattle.coxeter.proofs.LaneCounts.{refusal-of-lanes, count-of-lanes}
 use borrow.Author.Needs.{needs}
-use Rattle.coxeter.specs.Checks.{rankRefusal, wordRefusal}
-use Rattle.coxeter.proofs.Refusals.{pair-refused, pair-next}
 use Rattle.refusals.proofs.checks.ranked_words_refusal.Statement.{statement}
 use Rattle.refusals.proofs.checks.ranked_words_refusal.Tie as tie
 
 returns : tie.Need-returns
-returns c = pair-refused (rankRefusal _ _) (wordRefusal _ _) _ _ (c .before .preset-refusal .ensures) (c .if1 .taken)
+returns c = sym (count-of-lanes _ _ _ (c .before .before .ranked-words-lanes .ensures) _ (c .enum-told .given .1) .0)
 
 returns-2 : tie.Need-returns-2
-returns-2 c =
-    let passed = c .before in
-    pair-next (rankRefusal _ _) (wordRefusal _ _) _ _ _ (passed .before .preset-refusal .ensures) (passed .if1 .left) (c .word-refusal .ensures)
+returns-2 c = refusal-of-lanes _ _ _ (c .before .before .before .ranked-words-lanes .ensures) _ (c .before .refusal .given .1) .0
 
 pub ranked-words-refusal-spec : {M : Type 1} → statement M
-ranked-words-refusal-spec = tie.close (tie.spec (λ c κs. search needs) returns (λ c κs. search needs) returns-2)
+ranked-words-refusal-spec = tie.close (tie.spec (λ c κs. search needs) (λ c. search needs) (λ c. search needs) returns returns-2)

@@ -15,7 +15,7 @@ abbrev μ-loop : tie.MeasureT-loop
 μ-loop word₀ place t₀ word t = length word - t
 
 loop-holds : tie.Need-loop-holds Inv-loop μ-loop
-loop-holds c = deleted-start _ _ (c .pre)
+loop-holds c = deleted-start (c .pre)
 
 loop-less : tie.Need-loop-less Inv-loop μ-loop
 loop-less c =
@@ -25,13 +25,13 @@ loop-less c =
 loop-again : tie.Need-loop-again Inv-loop μ-loop
 loop-again c =
     let b = c .before in
-    deleted-next _ _ _ _ (b .before .loop .inv) (b .loop-test .taken)
+    deleted-next (b .before .loop .inv) (b .loop-test .taken)
 
 same-length : tie.Need-same-length Inv-loop μ-loop
 same-length c = c .before .loop .inv .size
 
 returns : tie.Need-returns Inv-loop μ-loop
-returns c = deleted-end _ _ _ _ (c .before .loop .inv) (c .loop-test .left)
+returns c = deleted-end (c .before .loop .inv) (c .loop-test .left)
 
 pub delete-spec : {M : Type 1} → statement M
 delete-spec =

@@ -66,7 +66,7 @@ loop-again c =
       place-le = omega arith;
       same-size = simp length-set (i .same-size);
       moved = put-next _ _ _ (s .pre .2) _ (omega arith) (i .place-le) (i .moved);
-      commute = commutesFrom-next _ _ (s .args .word .now) _ _ (l .loop .t) _ _ read (e .commutes .ensures) (c .if1 .taken) (i .commute);
+      commute = commutesFrom-next _ _ (s .args .word .now) _ _ (l .loop .t) read (e .commutes .ensures) (c .if1 .taken) (i .commute);
     }
 
 slice-write-word-2 : tie.Need-slice-write-word-2 Inv-loop μ-loop

@@ -13,7 +13,7 @@ use Rattle.rewriter.proofs.ending.ending_rule.Tie as tie
 returns : tie.Need-returns
 returns c =
     let s = c .before .before in
-    ending-front _ _ (s .pre .least-le) _ _ (s .pre .reading) (c .if1 .taken)
+    ending-front (s .pre .least-le) (s .pre .reading) (c .if1 .taken)
 
 shared-slice-read-l : tie.Need-shared-slice-read-l
 shared-slice-read-l c =

@@ -23,7 +23,7 @@ returns-2 c =
     let e = t .before in
     let entry = e .before .before .before .before .before .before in
     begun-falling _ _ _ _ (e .before .before .floor-of .ensures) refl refl (e .before .if1 .left)
-    (stopped-rising (entry .pre .0 .0) (entry .pre .1 .0) (sym (e .levels-of .ensures) ∙ t .if2 .taken) _ _ (e .before .if1 .left) (omega arith)
+    (stopped-rising (entry .pre .0 .0) (entry .pre .1 .0) (sym (e .levels-of .ensures) ∙ t .if2 .taken) (e .before .if1 .left) (omega arith)
     (c .if4 .taken))
 
 returns-3 : tie.Need-returns-3

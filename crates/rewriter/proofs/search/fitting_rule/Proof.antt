@@ -66,7 +66,7 @@ answered t =
     let at-loop = t .before .before .before .before .before in
     let f = at-loop .before in
     let entry = f .before .before .before .before .before in
-    searching-found _ _ _ (searchable entry) _ _ _ _ _ _ _ _ _
+    searching-found _ _ _ (searchable entry)
     (f .before .before .levels-of .ensures)
     (f .before .last-index-of .ensures)
     (f .fork-of .ensures)
@@ -87,7 +87,7 @@ loop-again c =
     let at-loop = c .before .before .before .before in
     let f = at-loop .before in
     let entry = f .before .before .before .before .before in
-    searching-next _ _ _ (searchable entry) _ _ _ _ _ _ _
+    searching-next _ _ _ (searchable entry)
     (f .before .before .levels-of .ensures)
     (f .before .last-index-of .ensures)
     (at-loop .loop .inv)

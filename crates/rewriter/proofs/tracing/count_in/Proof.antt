@@ -8,7 +8,7 @@ use Rattle.rewriter.proofs.tracing.count_in.Tie as tie
 returns : tie.Need-returns
 returns c =
     let after-make = c .before .before .before .before .before in
-    (made-steps _ _ _ _ _ _ _ _ _ (after-make .make .ensures), made-size _ _ _ _ _ _ _ _ _ (after-make .make .ensures))
+    (made-steps (after-make .make .ensures), made-size (after-make .make .ensures))
 
 pub count-in-spec : {M : Type 1} → statement M
 count-in-spec =

@@ -38,7 +38,7 @@ copy-requires : tie.Need-copy-requires
 copy-requires c κs =
     let after-make = c .before .before .before .before .before .before .before .before .before .before in
     let entry = after-make .before .before .before .before .before .before .before .before .before .before .before in
-    copy-room _ _ _ _ _ _ _ _ _ (after-make .make .ensures) _ (entry .pre .1 .1 .1 .0)
+    copy-room (after-make .make .ensures) _ (entry .pre .1 .1 .1 .0)
 
 returns : tie.Need-returns
 returns c =
@@ -47,7 +47,7 @@ returns c =
     let entry = after-make .before .before .before .before .before .before .before .before .before .before .before in
     let p = entry .pre .1 in
     let l = lists-written _ _ _ _ (after-make .make .ensures) (p .0) (p .1 .0 .0) (p .1 .0 .1) (p .1 .0 .2) in
-    (l .0, l .1, l .2, out-written _ _ _ _ _ _ _ _ _ (after-make .make .ensures) _ (p .1 .1 .0) (o .copy .ensures))
+    (l .0, l .1, l .2, out-written (after-make .make .ensures) _ (p .1 .1 .0) (o .copy .ensures))
 
 pub write-in-spec : {M : Type 1} → statement M
 write-in-spec =

@@ -46,7 +46,7 @@ same-length : tie.Need-same-length Inv-loop μ-loop
 same-length c = c .before .loop .inv .1
 
 returns : tie.Need-returns Inv-loop μ-loop
-returns c = let i = c .before .loop .inv in take-identity-end _ _ _ (c .loop-test .left) (i .0) (i .1) (i .2)
+returns c = let i = c .before .loop .inv in take-identity-end _ (c .loop-test .left) (i .0) (i .1) (i .2)
 
 pub set-identity-spec : {M : Type 1} → statement M
 set-identity-spec =

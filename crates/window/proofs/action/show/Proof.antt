@@ -16,12 +16,12 @@ apply-requires : tie.Need-apply-requires
 apply-requires c κs =
     let entry = c .before .before .before .before .before in
     let p = entry .pre in
-    (p .0, (p .1 .1, refusal-identity _ _ _ _ (p .1 .0) (c .before .before .set-identity .ensures)))
+    (p .0, (p .1 .1, refusal-identity _ _ (p .1 .0) (c .before .before .set-identity .ensures)))
 
 returns : tie.Need-returns
 returns c =
     let after-set-identity = c .before .before .before .before in
-    c .before .apply .ensures ∙ windowFrom-identity _ _ _ _ _ (after-set-identity .before .before .before .pre .1 .0)
+    c .before .apply .ensures ∙ windowFrom-identity _ _ _ (after-set-identity .before .before .before .pre .1 .0)
     (after-set-identity .set-identity .ensures)
 
 pub show-spec : {M : Type 1} → statement M

@@ -10,13 +10,13 @@ use Rattle.window.proofs.normal.level_of.Tie as tie
 without-requires : tie.Need-without-requires
 without-requires c κs =
     let pre = c .before .pre in
-    position-within _ _ _ _ (pre .0) (pre .2) (position-negative _ (c .if1 .taken))
+    position-within (pre .0) (pre .2) (position-negative _ (c .if1 .taken))
 
 larger-behind-requires : tie.Need-larger-behind-requires
 larger-behind-requires c κs =
     let start = c .before .before in
     let pre = start .pre in
-    let b = position-within _ _ _ _ (pre .0) (pre .2) (position-negative _ (c .before .if1 .taken)) in
+    let b = position-within (pre .0) (pre .2) (position-negative _ (c .before .if1 .taken)) in
     (b .0, b .1, half-fits (start .args .m) _ (pre .1))
 
 sub-t14 : tie.Need-sub-t14
@@ -50,13 +50,13 @@ returns-2 c =
 without-requires-2 : tie.Need-without-requires-2
 without-requires-2 c κs =
     let pre = c .before .pre in
-    position-within _ _ _ _ (pre .0) (pre .2) (position-positive _ (c .if1 .left))
+    position-within (pre .0) (pre .2) (position-positive _ (c .if1 .left))
 
 larger-behind-requires-2 : tie.Need-larger-behind-requires-2
 larger-behind-requires-2 c κs =
     let start = c .before .before in
     let pre = start .pre in
-    let b = position-within _ _ _ _ (pre .0) (pre .2) (position-positive _ (c .before .if1 .left)) in
+    let b = position-within (pre .0) (pre .2) (position-positive _ (c .before .if1 .left)) in
     (b .0, b .1, half-fits (start .args .m) _ (pre .1))
 
 returns-3 : tie.Need-returns-3

@@ -21,7 +21,7 @@ abbrev μ-loop : tie.MeasureT-loop
 μ-loop kind rank w places₀ i₀ places i = length w - i
 
 loop-holds : tie.Need-loop-holds Inv-loop μ-loop
-loop-holds c = stored-none _ _ (c .pre .1 .1)
+loop-holds c = stored-none (c .pre .1 .1)
 
 -- the size that was computed is the entry's, and is at most the number of entries, which is at most 64
 size-is : (c : tie.After-size Inv-loop μ-loop)
@@ -61,7 +61,7 @@ loop-again c =
     (c .place-of .ensures) (turn .before .loop .inv)
 
 returns : tie.Need-returns Inv-loop μ-loop
-returns c = stored-all _ _ _ (c .loop-test .left) (c .before .loop .inv)
+returns c = stored-all (c .loop-test .left) (c .before .loop .inv)
 
 pub set-places-spec : {M : Type 1} → statement M
 set-places-spec =

@@ -1,4 +1,4 @@
--- `checks::ranked_windows_refusal` makes the checks of the functions that it calls, in their order.
+-- `windows::ranked_windows_refusal` makes the checks of the functions that it calls, in their order.
 -- Assumes nothing.
 use mathlib.Core.Path.{_≡_, refl}
 use Rattle.coxeter.specs.Kinds.{kindOf, lanes}
@@ -7,8 +7,8 @@ use Rattle.coxeter.proofs.Acceptance.{lanes-le}
 use Rattle.coxeter.proofs.LaneCounts.{refusal-of-lanes, count-of-lanes}
 use Rattle.coxeter.proofs.Refusals.{then-refused, then-next}
 use borrow.Author.Needs.{needs}
-use Rattle.refusals.proofs.checks.ranked_windows_refusal.Statement.{statement}
-use Rattle.refusals.proofs.checks.ranked_windows_refusal.Tie as tie
+use Rattle.refusals.proofs.windows.ranked_windows_refusal.Statement.{statement}
+use Rattle.refusals.proofs.windows.ranked_windows_refusal.Tie as tie
 
 -- kind and rank passed, and m is their lane count
 counted : (c : tie.After-m)

@@ -1,4 +1,4 @@
--- `checks::has_odd_negatives`, by cases on the kind; in kind D the flag says whether the negatives are odd in number.
+-- `windows::has_odd_negatives`, by cases on the kind; in kind D the flag says whether the negatives are odd in number.
 -- Assumes nothing.
 use mathlib.Core.Path.{_∙_}
 use mathlib.Core.Logic.{⊎-elim}
@@ -6,8 +6,8 @@ use Rattle.coxeter.proofs.KindLaws.{kindOf-one-or-two, kindOf-below, kindOf-abo
 use Rattle.coxeter.proofs.Parity.{flag-is-odd}
 use Rattle.coxeter.specs.Checks.{oddNegatives}
 use borrow.Author.Needs.{needs}
-use Rattle.refusals.proofs.checks.has_odd_negatives.Statement.{statement}
-use Rattle.refusals.proofs.checks.has_odd_negatives.Tie as tie
+use Rattle.refusals.proofs.windows.has_odd_negatives.Statement.{statement}
+use Rattle.refusals.proofs.windows.has_odd_negatives.Tie as tie
 
 returns : tie.Need-returns
 unfolding oddNegatives

@@ -1,9 +1,9 @@
--- `checks::window_refusal` makes checks 9 to 11 in this order.
+-- `windows::window_refusal` makes checks 9 to 11 in this order.
 -- Assumes nothing.
 use Rattle.refusals.proofs.checks.Tests.{windowRefusal-lanes, windowRefusal-entry, windowRefusal-odd, windowRefusal-none}
 use borrow.Author.Needs.{needs}
-use Rattle.refusals.proofs.checks.window_refusal.Statement.{statement}
-use Rattle.refusals.proofs.checks.window_refusal.Tie as tie
+use Rattle.refusals.proofs.windows.window_refusal.Statement.{statement}
+use Rattle.refusals.proofs.windows.window_refusal.Tie as tie
 
 returns : tie.Need-returns
 returns c = λ n q. windowRefusal-lanes _ n _ _ q (c .if1 .taken)

@@ -1,12 +1,12 @@
--- `checks::ranked_window_refusal` makes the checks of the two functions that it calls, in their order.
+-- `windows::ranked_window_refusal` makes the checks of the two functions that it calls, in their order.
 -- Assumes nothing.
 use mathlib.Core.Path.{refl}
 use Rattle.coxeter.proofs.Acceptance.{lanes-le}
 use Rattle.coxeter.proofs.LaneCounts.{refusal-of-lanes, count-of-lanes}
 use Rattle.coxeter.proofs.Refusals.{then-refused, then-next}
 use borrow.Author.Needs.{needs}
-use Rattle.refusals.proofs.checks.ranked_window_refusal.Statement.{statement}
-use Rattle.refusals.proofs.checks.ranked_window_refusal.Tie as tie
+use Rattle.refusals.proofs.windows.ranked_window_refusal.Statement.{statement}
+use Rattle.refusals.proofs.windows.ranked_window_refusal.Tie as tie
 
 window-refusal-requires : tie.Need-window-refusal-requires
 window-refusal-requires c κs =

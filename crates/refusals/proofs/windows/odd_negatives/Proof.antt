@@ -1,4 +1,4 @@
--- `checks::odd_negatives` flips its flag at each negative entry: before entry `i` it is `flagAfter` of the first
+-- `windows::odd_negatives` flips its flag at each negative entry: before entry `i` it is `flagAfter` of the first
 -- `i` entries.
 -- Assumes nothing.
 use mathlib.Core.Path.{_≡_, refl, sym, ap, _∙_}
@@ -11,8 +11,8 @@ use Rattle.coxeter.specs.Length.{negative}
 use Rattle.coxeter.specs.Parity.{flipped, flagAfter}
 use Rattle.refusals.proofs.Bytes.{element-back}
 use Rattle.refusals.proofs.checks.Tests.{flag-flipped}
-use Rattle.refusals.proofs.checks.odd_negatives.Statement.{statement}
-use Rattle.refusals.proofs.checks.odd_negatives.Tie as tie
+use Rattle.refusals.proofs.windows.odd_negatives.Statement.{statement}
+use Rattle.refusals.proofs.windows.odd_negatives.Tie as tie
 
 abbrev Inv-loop : tie.InvT-loop
 Inv-loop w flag₀ i₀ flag i = (i ≤ length w) × (flag ≡ flagAfter (take i w))
@@ -31,7 +31,7 @@ loop-again c =
     let turn = read .before in
     let held = turn .before .loop .inv in (
       omega arith,
-      flag-flipped _ _ _ (turn .loop-test .taken) (held .1)
+      flag-flipped _ _ (turn .loop-test .taken) (held .1)
           (sym (c .is-negative .ensures ∙ ap negative (element-back _ (read .is-negative-arg .given))))
           (λ e f. simp (e, f)) (λ e f. simp (e, f)) (λ e f. simp (e, f)) (λ e f. simp (e, f)),
     )

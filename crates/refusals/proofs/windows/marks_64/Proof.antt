@@ -1,10 +1,10 @@
--- `checks::marks_64` marks no size.
+-- `windows::marks_64` marks no size.
 -- Assumes nothing.
 use mathlib.Core.Path.{refl}
 use mathlib.Core.Bool.{false}
 use lib.ListN.{getD-replicate}
-use Rattle.refusals.proofs.checks.marks_64.Statement.{statement}
-use Rattle.refusals.proofs.checks.marks_64.Tie as tie
+use Rattle.refusals.proofs.windows.marks_64.Statement.{statement}
+use Rattle.refusals.proofs.windows.marks_64.Tie as tie
 
 returns : tie.Need-returns
 returns c = (refl, λ p l. getD-replicate 64 p false false l)

@@ -31,10 +31,10 @@ pub record Passed (k : Kind) (m : ℕ) (w : List ℤ) (marks : List Bool) (j : �
   pub marked : (p : ℕ) → p < 64 → getD marks p false ≡ hasSize (suc p) (drop j w)
   pub right : wrongEntry k m (drop j w) ≡ false
 
-pub passed-none : (k : Kind) (m : ℕ) (w : List ℤ) (marks : List Bool) → (length marks ≡ 64) × ((p : ℕ) → p < 64 → getD marks p false ≡ false)
+pub passed-none : {k : Kind} {m : ℕ} {w : List ℤ} {marks : List Bool} → (length marks ≡ 64) × ((p : ℕ) → p < 64 → getD marks p false ≡ false)
     → Passed k m w marks (length w)
 unfolding hasSize wrongEntry
-passed-none k m w marks h =
+passed-none {w} h =
     record {
       inside = le-refl (length w);
       room = h .0;
@@ -42,8 +42,8 @@ passed-none k m w marks h =
       right = rw (drop-of-length-le w (le-refl (length w)));
     }
 
-pub whole-passed : (k : Kind) (m : ℕ) (w : List ℤ) (marks : List Bool) (j : ℕ) → Passed k m w marks j → j ≡ 0 → wrongEntry k m w ≡ false
-whole-passed k m w marks j h z = subst (λ (x : ℕ). wrongEntry k m (drop x w) ≡ false) z (h .right)
+pub whole-passed : {k : Kind} {m : ℕ} {w : List ℤ} {marks : List Bool} {j : ℕ} → Passed k m w marks j → j ≡ 0 → wrongEntry k m w ≡ false
+whole-passed {k} {m} {w} h z = subst (λ (x : ℕ). wrongEntry k m (drop x w) ≡ false) z (h .right)
 
 -- one entry further to the front: the entry at j - 1
 module _ (k : Kind) (m : ℕ) (w : List ℤ) (marks : List Bool) (j : ℕ) (h : Passed k m w marks j) (l : 0 < j) where

@@ -1,4 +1,4 @@
--- `checks::negative_in_a`, by cases on the kind.
+-- `windows::negative_in_a`, by cases on the kind.
 -- Assumes nothing.
 use mathlib.Core.Path.{_≡_, refl, _∙_, ap}
 use Rattle.coxeter.proofs.KindLaws.{kindOf-one, by-kind-else}
@@ -8,8 +8,8 @@ use Rattle.coxeter.specs.Kinds.{Kind}
 use Rattle.coxeter.specs.Length.{negative}
 use Rattle.coxeter.specs.Checks.{negativeInA}
 use borrow.Author.Needs.{needs}
-use Rattle.refusals.proofs.checks.negative_in_a.Statement.{statement}
-use Rattle.refusals.proofs.checks.negative_in_a.Tie as tie
+use Rattle.refusals.proofs.windows.negative_in_a.Statement.{statement}
+use Rattle.refusals.proofs.windows.negative_in_a.Tie as tie
 
 returns : tie.Need-returns
 unfolding negativeInA

@@ -1,4 +1,4 @@
--- `checks::has_wrong_entry` goes from the last entry to the first. The invariant: the entries behind passed, and
+-- `windows::has_wrong_entry` goes from the last entry to the first. The invariant: the entries behind passed, and
 -- their sizes are marked.
 -- Assumes nothing.
 use mathlib.Core.Path.{_≡_, sym, ap, _∙_}
@@ -11,10 +11,10 @@ use borrow.Author.Needs.{needs}
 use Rattle.coxeter.specs.Kinds.{kindOf}
 use Rattle.coxeter.specs.Checks.{negativeInA}
 use Rattle.refusals.proofs.Bytes.{element-back}
-use Rattle.refusals.proofs.checks.Marks.{Passed, passed-none, passed-next, whole-passed}
-use Rattle.refusals.proofs.checks.Marks.{negative-wrong, zero-wrong, above-wrong, repeated-wrong}
-use Rattle.refusals.proofs.checks.has_wrong_entry.Statement.{statement}
-use Rattle.refusals.proofs.checks.has_wrong_entry.Tie as tie
+use Rattle.refusals.proofs.windows.Marks.{Passed, passed-none, passed-next, whole-passed}
+use Rattle.refusals.proofs.windows.Marks.{negative-wrong, zero-wrong, above-wrong, repeated-wrong}
+use Rattle.refusals.proofs.windows.has_wrong_entry.Statement.{statement}
+use Rattle.refusals.proofs.windows.has_wrong_entry.Tie as tie
 
 abbrev Inv-loop : tie.InvT-loop
 Inv-loop kind m w marks₀ i₀ marks i = Passed (kindOf kind) m w marks i
@@ -23,7 +23,7 @@ abbrev μ-loop : tie.MeasureT-loop
 μ-loop kind m w marks₀ i₀ marks i = i
 
 loop-holds : tie.Need-loop-holds Inv-loop μ-loop
-loop-holds c = passed-none _ _ _ _ (c .marks-64 .ensures)
+loop-holds c = passed-none (c .marks-64 .ensures)
 
 -- the sign that is tested is that of the entry before the place reached
 sign-of : (c : tie.After-negative-in-a Inv-loop μ-loop)
@@ -85,7 +85,7 @@ loop-again c =
 returns-5 : tie.Need-returns-5 Inv-loop μ-loop
 returns-5 c =
     let none : c .before .loop .i ≡ 0 = omega (arith, c .loop-test .left) in
-    sym (whole-passed _ _ _ _ _ (c .before .loop .inv) none)
+    sym (whole-passed (c .before .loop .inv) none)
 
 pub has-wrong-entry-spec : {M : Type 1} → statement M
 has-wrong-entry-spec =

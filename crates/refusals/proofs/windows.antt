@@ -1,0 +1,2 @@
+-- What the proofs of the module `windows` share.
+pub mod Marks
