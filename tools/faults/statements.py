@@ -13,6 +13,9 @@ def all_read(part):
 
 # what is planted, in which file, what is replaced there by what, and what the script has to say
 FAULTS = (
+    # the picture
+    ("a count of the tests that the picture does not show", "tests/counts.txt", "3,411 rows", "3,412 rows", r"\+.*a table of 3,412 calls"),
+    ("a count of the laws that the picture does not show", "docs/pictures/certificate.svg", "~[0-9,]+ laws and", "1,000 laws and", r"-.*1,000 laws and"),
     # citations of what is not there
     ("a record's field that does not exist", CITED, "Follows.window-kept", "Follows.window-held", r"T7: .* has no field Follows\.window-held"),
     ("a row name that does not exist", CITED, "rows: letterTotal,", "rows: letterTotals,", r"I11: .* has no row letterTotals"),

@@ -1,4 +1,4 @@
-"""Makes docs/STATEMENTS.md with a page for each section of the specification and one for the wrong routers, and the count in docs/CERTIFICATE.md."""
+"""Makes docs/STATEMENTS.md with a page for each section of the specification and one for the wrong routers, and the picture and the count of docs/CERTIFICATE.md."""
 import re
 from itertools import groupby
 
@@ -6,6 +6,7 @@ from believing import BELIEVED, CLAUSES, DEFINITIONS, Believed, tally
 from citations import CITATIONS, EXCUSES, SENTENCES, SPECIFICATION
 from defining import Definitions, full
 from pages import Page
+from picture import PICTURE, drawn
 from pinning import PINS, key_of
 from statements import RULED_OUT, TABLE, WRONG_ROUTERS, is_law, with_comment
 
@@ -22,7 +23,7 @@ class Writer:
     def pages(self):
         pages = {**self.definitions.pages(), **self._statement_pages()}
         pages[BELIEVED] = Believed(self.model, self.definitions).page()
-        return {path: page.text() for path, page in pages.items()}
+        return {PICTURE: drawn(self.model, self.counts()), **{path: page.text() for path, page in pages.items()}}
 
     # -- statements
 
