@@ -205,10 +205,15 @@ second-refusable k₁ n₁ u v = record {
       verdict-refused-alike _ _ (sym p ∙ a .0 ∙ q) (λ z. a .1 (q ∙ z));
 }
 
-pub verdict-as-bytes : (k n : ℕ) (u : List ℕ) (k₂ n₂ : ℕ) (v : List ℕ) {l m l₂ m₂ : ℕ} → l ≡ byteOf k → m ≡ byteOf n → l₂ ≡ byteOf k₂ → m₂ ≡ byteOf n₂
+-- l and m are the bytes of the kind k and the rank n
+pub record AreBytes (k n l m : ℕ) : Type 0 where
+  pub kind : l ≡ byteOf k
+  pub rank : m ≡ byteOf n
+
+pub verdict-as-bytes : {k n k₂ n₂ l m l₂ m₂ : ℕ} (u v : List ℕ) → AreBytes k n l m → AreBytes k₂ n₂ l₂ m₂
     → presetsEqual l m u l₂ m₂ v ≡ presetsEqual k n u k₂ n₂ v
-verdict-as-bytes k n u k₂ n₂ v {l} {m} {l₂} {m₂} a b c d =
-    as-bytes (first-refusable u l₂ m₂ v) k n l m a b ∙ as-bytes (second-refusable k n u v) k₂ n₂ l₂ m₂ c d
+verdict-as-bytes {k} {n} {k₂} {n₂} {l} {m} {l₂} {m₂} u v a b =
+    as-bytes (first-refusable u l₂ m₂ v) k n l m (a .kind) (a .rank) ∙ as-bytes (second-refusable k n u v) k₂ n₂ l₂ m₂ (b .kind) (b .rank)
 
 better-refusable : (u v : List ℕ) → Refusable (λ k n. handsBack k n u v)
 unfolding handsBack
@@ -234,10 +239,10 @@ pub yielded : {X : Type 0} {F : ℕ → ℕ → Outcome X} → Refusable F → (
 yielded r k n {l} {m} {z} {a} {after} e f h q b = numbers-alike z a after _ h q (rw (as-bytes r k n l m e f) at b)
 
 -- and a call that counts answered a, whose numbers went to a list
-pub crossings-as-bytes : {F : ℕ → ℕ → Counted} → Refusable F → (k n : ℕ) {l m : ℕ} {a : Counted} (list : List ℕ) (z : ℤ) (after : List ℕ) → l ≡ byteOf k
-    → m ≡ byteOf n → mag z < 9223372036854775808 → (z, after) ≡ listed (crossingNumbers a) list → a ≡ F l m
+pub crossings-as-bytes : {F : ℕ → ℕ → Counted} → Refusable F → {k n l m : ℕ} {a : Counted} (list : List ℕ) {z : ℤ} {after : List ℕ} → AreBytes k n l m
+    → mag z < 9223372036854775808 → (z, after) ≡ listed (crossingNumbers a) list → a ≡ F l m
     → (toZ w64 (ofZ w64 z), after) ≡ listed (crossingNumbers (F k n)) list
-crossings-as-bytes f k n {l} {m} list z after e g h s b = rw (← (b ∙ as-bytes f k n l m e g), i64-back z h) s
+crossings-as-bytes f {k} {n} {l} {m} list {z} e h s b = rw (← (b ∙ as-bytes f k n l m (e .kind) (e .rank)), i64-back z h) s
 
 -- and a call whose number is z left y
 pub as-bytes-back : {Y : Type 0} {F : ℕ → ℕ → ℤ × Y} → Refusable F → (k n : ℕ) {l m : ℕ} (z : ℤ) (y : Y) → l ≡ byteOf k → m ≡ byteOf n

@@ -75,11 +75,11 @@ roomless-splitting k n set u first second =
     roomless-answer splitNumbers (Words a b) Refused (setRefusal k n set then wordRefusal n u) (check 14 (tooShort a first) then s) refl (λ r. refl)
     (room-more (tooShort a first) s (room-last (tooShort b second)))
 
-pub splittingListed-roomless : (k n set : ℕ) (u first second lengths : List ℕ) {r : ℕ} {z : ℤ} → length lengths < 2
+pub splittingListed-roomless : (k n set : ℕ) (u : List ℕ) {first second lengths : List ℕ} {r : ℕ} {z : ℤ} → length lengths < 2
     → r ≡ (setRefusal k n set then wordRefusal n u) → z ≡ refused (r then 14)
     → (z, ((first, second), lengths)) ≡ splittingListed k n set u first second lengths
 unfolding splittingListed
-splittingListed-roomless k n set u first second lengths h e f =
+splittingListed-roomless k n set u {first} {second} {lengths} h e f =
     let p = splitting k n set u first second in
     rw (f, e, ← roomless-splitting k n set u first second)
     (sym (beside-roomless (split-numbers (p .answer)) (p .first, p .second) (first, second) lengths (omega arith) h

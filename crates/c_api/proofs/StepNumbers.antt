@@ -118,10 +118,10 @@ module _ (k n : ℕ) (u families places lengths : List ℕ) where
       (rewritingToEnd-still k n u families places lengths out)
       ∙ ap (λ (z : ℤ). (z, ((families, places, lengths, out), written))) (roomless-trace k n u families places lengths out)
 
-  pub rewritingToEndListed-roomless : (out written : List ℕ) {z : ℤ} → length written < 1
+  pub rewritingToEndListed-roomless : {out written : List ℕ} {z : ℤ} → length written < 1
       → z ≡ rewritingToEndListed k n u families places lengths [] [] .0
       → (z, ((families, places, lengths, out), written)) ≡ rewritingToEndListed k n u families places lengths out written
-  rewritingToEndListed-roomless out written h e = rw (e, toEnd-without out written h, toEnd-without [] [] (omega arith))
+  rewritingToEndListed-roomless {out} {written} h e = rw (e, toEnd-without out written h, toEnd-without [] [] (omega arith))
 
   module _ {a : Answer} (e : a ≡ numberOfSteps k n u) where
     -- refused before check 15

@@ -97,9 +97,9 @@ longest-in-D n = (many (odd n), even (odd n) refl, λ o i. rw (odd-exactly n .1 
 -- ---- the call
 
 -- Y5, I24: it is what the call writes
-pub longest-written : (k n : ℕ) (counts : List ℕ) (entries : List ℤ) (letters : List ℕ) (c e l : ℕ) (x : List ℕ) (y : List ℤ) (z : List ℕ)
+pub longest-written : (k n : ℕ) (counts : List ℕ) (entries : List ℤ) (letters : List ℕ) {c e l : ℕ} {x : List ℕ} {y : List ℤ} {z : List ℕ}
     → TableYields (delayTable k n counts entries letters) (Written c e l) x y z → take e y ≡ longest (kindOf k) n
-longest-written k n counts entries letters c e l x y z h =
+longest-written k n counts entries letters {c} {e} {l} {x} {y} {z} h =
     let r = table-exactly k n counts entries letters (Written c e l) x y z h .0 (c, e, l, refl) .0 in
     let m = longest-is (kindOf k) n (rank-within k n r .0) in
     sym (one-longest k n counts entries letters c e l x y z h (longest (kindOf k) n) (m .passes) (m .greatest))

@@ -60,31 +60,34 @@ of-pick true x y m = absurd (List·Memᴰ·not-nil m)
 of-pick false x y m = List·Memᴰ·eq-of-singleton m
 
 -- none twice, and of the families c to d
-abbrev Part : ℕ → ℕ → List Rule → Type 0
-Part c d rs = Once rs × ((x : Rule) → In x rs → (c ≤ x .family) × (x .family ≤ d))
+record Part (c d : ℕ) (rs : List Rule) : Type 0 where
+  pub once : Once rs
+  pub families : (x : Rule) → In x rs → (c ≤ x .family) × (x .family ≤ d)
 
 part-nil : (c d : ℕ) → Part c d []
-part-nil c d = (tt, λ x m. absurd (List·Memᴰ·not-nil m))
+part-nil c d = record { once = tt; families = λ x m. absurd (List·Memᴰ·not-nil m) }
 
 part-one : (y : Rule) → Part (y .family) (y .family) (y ∷ [])
-part-one y = (once-one y, λ x m. let e = ap (λ (z : Rule). z .family) (List·Memᴰ·eq-of-singleton m) in (omega arith, omega arith))
+part-one y = record {
+  once = once-one y;
+  families = λ x m. let e = ap (λ (z : Rule). z .family) (List·Memᴰ·eq-of-singleton m) in (omega arith, omega arith);
+}
 
 -- two parts without a rule in common
-part-append : (a b c d : ℕ) (rs qs : List Rule) → Part a b rs → Part c d qs → a ≤ c → b ≤ d → ((x : Rule) → In x rs → In x qs → ⊥)
+part-append : {a b c d : ℕ} {rs qs : List Rule} → Part a b rs → Part c d qs → a ≤ c → b ≤ d → ((x : Rule) → In x rs → In x qs → ⊥)
     → Part a d (rs ++ qs)
-part-append a b c d rs qs p q h g f = (
-  once-append rs qs (p .0) (q .0) f,
-  λ x m.
+part-append {rs = rs} {qs = qs} p q h g f = record {
+  once = once-append rs qs (p .once) (q .once) f;
+  families = λ x m.
       ⊎-elim
-      (λ s. let t = p .1 x s in (omega arith, omega arith))
-      (λ s. let t = q .1 x s in (omega arith, omega arith))
-      (List·Memᴰ·append-cases rs m),
-)
+      (λ s. let t = p .families x s in (omega arith, omega arith))
+      (λ s. let t = q .families x s in (omega arith, omega arith))
+      (List·Memᴰ·append-cases rs m);
+}
 
 -- parts of different families
-part-after : (a b c d : ℕ) (rs qs : List Rule) → Part a b rs → Part c d qs → a ≤ b → b < c → c ≤ d → Part a d (rs ++ qs)
-part-after a b c d rs qs p q h g l =
-    part-append a b c d rs qs p q (omega arith) (omega arith) (λ x s t. omega (arith, p .1 x s, q .1 x t))
+part-after : {a b c d : ℕ} {rs qs : List Rule} → Part a b rs → Part c d qs → a ≤ b → b < c → c ≤ d → Part a d (rs ++ qs)
+part-after p q h g l = part-append p q (omega arith) (omega arith) (λ x s t. omega (arith, p .families x s, q .families x t))
 
 -- a rule of family c that shows i and j
 abbrev Shows : ℕ → ℕ → ℕ → Rule → Type 0
@@ -92,10 +95,10 @@ Shows c i j x = (x .family ≡ c) × (x .i ≡ i) × (x .j ≡ j)
 
 -- for each i from a to b the rule g i
 part-row : (g : ℕ → Rule) (a b c : ℕ) → ((i : ℕ) → Shows c i 0 (g i)) → Part c c (concatMap (λ i. g i ∷ []) (rise a b))
-part-row g a b c h = (
-  once-range (λ i. g i ∷ []) (λ x. x .i) a b (λ i. once-one (g i)) (λ i x m. shown i x m .1),
-  λ x m. let (i, q, r) = of-concatMap (λ i. g i ∷ []) (rise a b) x m in omega (arith, shown i x r .0),
-)
+part-row g a b c h = record {
+  once = once-range (λ i. g i ∷ []) (λ x. x .i) a b (λ i. once-one (g i)) (λ i x m. shown i x m .1);
+  families = λ x m. let (i, q, r) = of-concatMap (λ i. g i ∷ []) (rise a b) x m in omega (arith, shown i x r .0);
+}
   where
     shown : (i : ℕ) (x : Rule) → In x (g i ∷ []) → Shows c i 0 x
     shown i x m = rw (List·Memᴰ·eq-of-singleton m) (h i)
@@ -109,12 +112,12 @@ module _ (g : ℕ → ℕ → List Rule) (lo hi : ℕ → ℕ) (a b c : ℕ) (sh
       (i, j, shown i j x t, mem-rise i a b q .1, mem-rise j (lo i) (hi i) s .0)
 
   part-table : ((i j : ℕ) → Once (g i j)) → Part c c (concatMap (λ i. concatMap (g i) (rise (lo i) (hi i))) (rise a b))
-  part-table o = (
-    once-range (λ i. concatMap (g i) (rise (lo i) (hi i))) (λ x. x .i) a b
+  part-table o = record {
+    once = once-range (λ i. concatMap (g i) (rise (lo i) (hi i))) (λ x. x .i) a b
         (λ i. once-range (g i) (λ x. x .j) (lo i) (hi i) (o i) (λ j x m. shown i j x m .2))
-        (λ i x m. let (j, s, t) = of-concatMap (g i) (rise (lo i) (hi i)) x m in shown i j x t .1),
-    λ x m. let (i, j, s, p, q) = of-table x m in omega (arith, s .0),
-  )
+        (λ i x m. let (j, s, t) = of-concatMap (g i) (rise (lo i) (hi i)) x m in shown i j x t .1);
+    families = λ x m. let (i, j, s, p, q) = of-table x m in omega (arith, s .0);
+  }
 
 -- ---- the families
 
@@ -144,7 +147,7 @@ family2-part B n l = pairs-part n (λ i j. false)
 family2-part D n l =
     let t : ℕ → ℕ → Bool = λ i j. eqb (i + 2) n && eqb j n in
     let y = commuted (n - 1) n in
-    part-append 2 2 2 2 _ (y ∷ []) (pairs-part n t) (part-one y) (omega arith) (omega arith)
+    part-append (pairs-part n t) (part-one y) (omega arith) (omega arith)
     (λ x p q.
     let e = List·Memᴰ·eq-of-singleton q in
     omega (arith, pairs-apart n t x p, ap (λ (z : Rule). z .i) e, ap (λ (z : Rule). z .j) e))
@@ -168,7 +171,7 @@ family3-part A n l = carried-part A n (λ i. n) n
 family3-part B n l = carried-part B n (λ i. 2 * n - i - 2) n
 family3-part D n l =
     let y = carried D n (n - 2) (n - 1) in
-    part-append 3 3 3 3 _ (y ∷ []) (carried-part D n (λ i. 2 * n - i - 2) (n - 3)) (part-one y) (omega arith) (omega arith)
+    part-append (carried-part D n (λ i. 2 * n - i - 2) (n - 3)) (part-one y) (omega arith) (omega arith)
     (λ x p q.
     let e = List·Memᴰ·eq-of-singleton q in
     omega (arith, carried-up-to D n (λ i. 2 * n - i - 2) (n - 3) x p, ap (λ (z : Rule). z .i) e))
@@ -184,8 +187,8 @@ unfolding families5to7
 families5to7-part A n = part-nil 5 7
 families5to7-part B n = part-nil 5 7
 families5to7-part D n =
-    part-after 5 5 6 7 (_ ∷ []) _ (part-one _)
-    (part-after 6 6 7 7 (_ ∷ []) (_ ∷ []) (part-one _) (part-one _) (omega arith) (omega arith) (omega arith))
+    part-after (part-one _)
+    (part-after (part-one _) (part-one _) (omega arith) (omega arith) (omega arith))
     (omega arith) (omega arith) (omega arith)
 
 -- ---- the list
@@ -194,13 +197,13 @@ families5to7-part D n =
 pub rules-once : (k : Kind) (n : ℕ) → least k ≤ n → Once (rules k n)
 unfolding rules
 rules-once k n l =
-    part-after 1 1 2 7 (family1 n) _ (family1-part n)
-    (part-after 2 2 3 7 (family2 k n) _ (family2-part k n l)
-    (part-after 3 3 4 7 (family3 k n) _ (family3-part k n l)
-    (part-after 4 4 5 7 (family4 k n) _ (family4-part k n) (families5to7-part k n) (omega arith) (omega arith) (omega arith))
+    part-after (family1-part n)
+    (part-after (family2-part k n l)
+    (part-after (family3-part k n l)
+    (part-after (family4-part k n) (families5to7-part k n) (omega arith) (omega arith) (omega arith))
     (omega arith) (omega arith) (omega arith))
     (omega arith) (omega arith) (omega arith))
-    (omega arith) (omega arith) (omega arith) .0
+    (omega arith) (omega arith) (omega arith) .once
 
 -- ---- left sides
 

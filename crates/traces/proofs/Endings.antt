@@ -115,12 +115,20 @@ letter-of-fits r u p t e l =
     let s = begins-split (r .left) (drop p u) e in
     sym (getD-drop p u t 0) ∙ ap (λ (w : List ℕ). getD w t 0) (s .1) ∙ List·getD-append (r .left) (s .0) 0 t l
 
--- a rule that fits and ends at place suc q begins with the lower of the letters at q and suc q, less than 2n places
--- before
-pub first-of-ending : (k : Kind) (n : ℕ) → least k ≤ n → {r : Rule} → List·Memᴰ r (rules k n) → (u : List ℕ) (p : ℕ) {q : ℕ} → fits r u p ≡ true
-    → p + length (r .left) ≡ suc (suc q) → (getD u p 0 ≡ lower (getD u q 0) (getD u (suc q) 0)) × (suc (suc q) ≤ p + 2 * n)
-first-of-ending k n h {r} m u p {q} f e =
-    let s = shape-of-rule k n h r m in
+-- the rule r fits at place p of u, and its left side ends at the place behind q
+pub record EndsBehind (k : Kind) (n : ℕ) (r : Rule) (u : List ℕ) (p q : ℕ) : Type 0 where
+  pub rank : least k ≤ n
+  pub listed : List·Memᴰ r (rules k n)
+  pub fit : fits r u p ≡ true
+  pub ends : p + length (r .left) ≡ suc (suc q)
+
+-- such a rule begins with the lower of the letters at q and behind it, less than 2n places before
+pub first-of-ending : {k : Kind} {n : ℕ} {r : Rule} {u : List ℕ} {p q : ℕ} → EndsBehind k n r u p q
+    → (getD u p 0 ≡ lower (getD u q 0) (getD u (suc q) 0)) × (suc (suc q) ≤ p + 2 * n)
+first-of-ending {k} {n} {r} {u} {p} {q} a =
+    let f = a .fit in
+    let e = a .ends in
+    let s = shape-of-rule k n (a .rank) r (a .listed) in
     let t : ℕ = q - p in
     let c : length (r .left) ≡ suc (length (s .tail)) = ap length (s .is) in
     let b : p + t ≡ q = omega (arith, s .long) in
@@ -133,10 +141,12 @@ first-of-ending k n h {r} m u p {q} f e =
     (one ∙ s .lowest t (omega (arith, s .long)) ∙ rw (two, three), omega (arith, s .short))
 
 -- and below every letter between it and these two
-pub between-of-ending : (k : Kind) (n : ℕ) → least k ≤ n → {r : Rule} → List·Memᴰ r (rules k n) → (u : List ℕ) (p : ℕ) {q : ℕ} → fits r u p ≡ true
-    → p + length (r .left) ≡ suc (suc q) → (t : ℕ) → p < t → t < q → getD u p 0 < getD u t 0
-between-of-ending k n h {r} m u p f e t a b =
-    let s = shape-of-rule k n h r m in
+pub between-of-ending : {k : Kind} {n : ℕ} {r : Rule} {u : List ℕ} {p q : ℕ} → EndsBehind k n r u p q → (t : ℕ) → p < t → t < q
+    → getD u p 0 < getD u t 0
+between-of-ending {k} {n} {r} {u} {p} a t g h =
+    let f = a .fit in
+    let e = a .ends in
+    let s = shape-of-rule k n (a .rank) r (a .listed) in
     let d : ℕ = t - p in
     let c : length (r .left) ≡ suc (length (s .tail)) = ap length (s .is) in
     let i : p + d ≡ t = omega arith in

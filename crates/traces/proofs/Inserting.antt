@@ -51,6 +51,20 @@ where-is (x ∷ a) b (y ∷ c) e d q = where-is-by-cases (where-is a b c e d (ap
     where-is-by-cases (in-front a′ s t) = in-front a′ (cc) t
     where-is-by-cases (behind b′ s t) = behind b′ (cc) t
 
+-- the same difference behind another front
+earlier-behind : {u v : List ℕ} (d : Earlier u v) (f : List ℕ) {x y : List ℕ} → x ≡ f ++ (d .higher ∷ d .rest) → y ≡ f ++ (d .lower ∷ d .others) → Earlier x y
+earlier-behind d f e g = record {
+  front = f;
+  higher = d .higher;
+  lower = d .lower;
+  rest = d .rest;
+  others = d .others;
+  one = e;
+  two = g;
+  differ = d .differ;
+  as-long = d .as-long;
+}
+
 -- ---- a letter that cancels
 
 module _ (k : Kind) (n : ℕ) (h : least k ≤ n) where
@@ -82,20 +96,24 @@ module _ (k : Kind) (n : ℕ) (h : least k ≤ n) where
               ap (λ (y : List ℕ). y ++ (s ∷ [])) (d .one) ∙ append-assoc c (d .higher ∷ d .rest) (s ∷ []) in
               let u′ : a ++ (x ∷ b) ≡ c ++ (d .lower ∷ (f ++ (x ∷ b))) =
               ap (λ (y : List ℕ). y ++ (x ∷ b)) i ∙ append-assoc c (d .lower ∷ f) (x ∷ b) in
-              not-earlier k n h c (d .lower) (d .higher) (f ++ (x ∷ b)) (d .rest ++ (s ∷ [])) (subst (Normal k n) u′ m)
-              (subst (λ (y : List ℕ). wrongLetter n y ≡ false) v′ (letters-snoc n v s (q .letters) o l))
-              (ap (window k n) (sym v′) ∙ back v e ∙ ap (window k n) u′)
-              (simp length-append (omega (arith, d .as-long, simp length-append at (ap length j))))
-              (d .differ)
+              not-earlier k n h m (letters-snoc n v s (q .letters) o l) (back v e) (record {
+                front = c;
+                higher = d .higher;
+                lower = d .lower;
+                rest = d .rest ++ (s ∷ []);
+                others = f ++ (x ∷ b);
+                one = v′;
+                two = u′;
+                differ = d .differ;
+                as-long = simp length-append (omega (arith, d .as-long, simp length-append at (ap length j)));
+              })
           earlier-by-cases (behind f i j) =
               let v′ : v ≡ a ++ (f ++ (d .higher ∷ d .rest)) =
               d .one ∙ ap (λ (y : List ℕ). y ++ (d .higher ∷ d .rest)) i ∙ append-assoc a f (d .higher ∷ d .rest) in
-              not-earlier k n h f (d .lower) (d .higher) (d .others) (d .rest)
-              (subst (Normal k n) j (normal-back k n h (x ∷ []) b (normal-back k n h a (x ∷ b) m)))
+              not-earlier k n h (normal-back k n h (x ∷ []) b (normal-back k n h a (x ∷ b) m))
               (letters-right n a (f ++ (d .higher ∷ d .rest)) (subst (λ (y : List ℕ). wrongLetter n y ≡ false) v′ (q .letters)))
-              (cancel-front k n a _ _ (ap (window k n) (sym v′) ∙ e ∙ ap (λ (y : List ℕ). window k n (a ++ y)) j))
-              (d .as-long)
-              (d .differ)
+              (cancel-front k n a _ _ (ap (window k n) (sym v′) ∙ e))
+              (earlier-behind d f refl j)
 
 -- ---- a letter that stays
 
@@ -116,7 +134,18 @@ module _ (k : Kind) (n : ℕ) (h : least k ≤ n) where
   first-highest : (u : List ℕ) → Normal k n u → (r : ℕ) (y : List ℕ) → Below r u → wrongLetter n (r ∷ y) ≡ false
       → window k n (r ∷ y) ≡ window k n u → suc (length y) ≡ length u → ⊥
   first-highest [] m r y f l w e = absurd (omega arith)
-  first-highest (c ∷ d) m r y f l w e = not-earlier k n h [] c r d y m l w (omega arith) (f c d refl)
+  first-highest (c ∷ d) m r y f l w e =
+      not-earlier k n h m l w (record {
+        front = [];
+        higher = r;
+        lower = c;
+        rest = y;
+        others = d;
+        one = refl;
+        two = refl;
+        differ = f c d refl;
+        as-long = omega arith;
+      })
 
   module _ (q : List ℕ) (x : ℕ) (b : List ℕ) (s : ℕ) (m : Normal k n (q ++ b)) (p : Normal k n (q ++ (x ∷ []))) (o : 1 ≤ s) (l : s ≤ n)
       (w : window k n (q ++ (x ∷ b)) ≡ window k n ((q ++ b) ++ (s ∷ []))) where
@@ -233,9 +262,9 @@ module _ (k : Kind) (n : ℕ) (h : least k ≤ n) where
         let t : List ℕ = d .higher ∷ d .rest in
         let v′ : v ≡ a ++ (x ∷ (f ++ t)) = d .one ∙ ap (λ (y : List ℕ). y ++ t) i ∙ append-assoc a (x ∷ f) t in
         let same = cancel-front k n (x ∷ []) (f ++ t) b (cancel-front k n a (x ∷ (f ++ t)) (x ∷ b) (ap (window k n) (sym v′) ∙ e)) in
-        not-earlier k n h f (d .lower) (d .higher) (d .others) (d .rest) (subst (Normal k n) j (normal-back k n h a b m))
+        not-earlier k n h (normal-back k n h a b m)
         (normal-back k n h (x ∷ []) (f ++ t) (normal-back k n h a (x ∷ (f ++ t)) (subst (Normal k n) v′ q)) .letters)
-        (same ∙ ap (window k n) j) (d .as-long) (d .differ)
+        same (earlier-behind d f refl j)
 
     earlier : (v : List ℕ) → Normal k n v → window k n v ≡ window k n (a ++ (x ∷ b)) → Earlier v (a ++ (x ∷ b)) → ⊥
     earlier v q e d = earlier-by-cases (where-is a (x ∷ b) (d .front) (d .lower) (d .others) (d .two))

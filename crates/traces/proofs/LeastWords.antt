@@ -101,17 +101,6 @@ module _ (k : Kind) (n : ℕ) (h : least k ≤ n) where
   pub normal-back : (x u : List ℕ) → Normal k n (x ++ u) → Normal k n u
   normal-back x u m = normal-part x u [] (rw append-nil m)
 
-  -- no word with the same window is as long and has a higher letter at the first difference
-  pub not-earlier : (c : List ℕ) (e r : ℕ) (d v : List ℕ) → Normal k n (c ++ (e ∷ d)) → wrongLetter n (c ++ (r ∷ v)) ≡ false
-      → window k n (c ++ (r ∷ v)) ≡ window k n (c ++ (e ∷ d)) → length v ≡ length d → e < r → ⊥
-  not-earlier c e r d v m l w s g =
-      let early : shortlex (c ++ (r ∷ v)) (c ++ (e ∷ d)) ≡ true =
-      shortlex-before (c ++ (r ∷ v)) (c ++ (e ∷ d)) (simp length-append (omega arith))
-      (before-append c (r ∷ v) (e ∷ d) ∙ before-higher r e v d g) in
-      let late = normal-least (c ++ (e ∷ d)) m .least (c ++ (r ∷ v)) l w
-      (λ q. true≢false (sym early ∙ ap (λ (u : List ℕ). shortlex u (c ++ (e ∷ d))) q ∙ shortlex-irrefl (c ++ (e ∷ d)))) in
-      true≢false (sym late ∙ shortlex-asymm (c ++ (r ∷ v)) (c ++ (e ∷ d)) early)
-
 -- ---- the first difference
 
 -- u and v agree at the front c, and then u has the higher letter
@@ -125,6 +114,17 @@ pub record Earlier (u v : List ℕ) : Type 0 where
   pub two : v ≡ front ++ (lower ∷ others)
   pub differ : lower < higher
   pub as-long : length rest ≡ length others
+
+-- no word with the window of a normal form is as long and has a higher letter at the first difference
+pub not-earlier : (k : Kind) (n : ℕ) → least k ≤ n → {u v : List ℕ} → Normal k n u → wrongLetter n v ≡ false → window k n v ≡ window k n u → Earlier v u → ⊥
+not-earlier k n h {u} {v} m l w d =
+    let early : shortlex v u ≡ true =
+    rw (d .one, d .two)
+    (shortlex-before (d .front ++ (d .higher ∷ d .rest)) (d .front ++ (d .lower ∷ d .others)) (simp length-append (omega (arith, d .as-long)))
+    (before-append (d .front) (d .higher ∷ d .rest) (d .lower ∷ d .others) ∙ before-higher (d .higher) (d .lower) (d .rest) (d .others) (d .differ))) in
+    let late = normal-least k n h u m .least v l w
+    (λ q. true≢false (sym early ∙ ap (λ (x : List ℕ). shortlex x u) q ∙ shortlex-irrefl u)) in
+    true≢false (sym late ∙ shortlex-asymm v u early)
 
 earlier-cons : (a : ℕ) (u v : List ℕ) → Earlier u v → Earlier (a ∷ u) (a ∷ v)
 earlier-cons a u v e = record {

@@ -6,7 +6,7 @@
 use mathlib.Core.Path.{_≡_, sym, ap, _∙_}
 use mathlib.Core.Bool.{true, false}
 use mathlib.Core.Logic.{_⊎_, ⊎-elim}
-use mathlib.Core.List.{List, [], _∷_, _++_, append-assoc, List·Memᴰ}
+use mathlib.Core.List.{List, [], _∷_, _++_, append-assoc}
 use mathlib.Core.Option.{some, Option·none-ne-some}
 use Prim.Native.Nat.{ℕ, suc, _+_, _-_, _*_, _≤_, _<_}
 use native.Mathlib.Decide.{ℕ-discrete}
@@ -18,13 +18,13 @@ use Rattle.coxeter.specs.Kinds.{Kind, least}
 use Rattle.coxeter.specs.Checks.{wrongLetter}
 use Rattle.coxeter.specs.NormalForm.{levels}
 use Rattle.coxeter.proofs.Order.{less, same, more, compared}
-use Rattle.rules.specs.Rules.{Rule, rules, rule, fits, firstFitting, rewritten, commuted}
+use Rattle.rules.specs.Rules.{Rule, rules, rule, firstFitting, rewritten, commuted}
 use Rattle.rules.proofs.Fits.{firstFitting-some}
 use Rattle.traces.specs.Traces.{Redex, lowestRedex}
 use Rattle.traces.proofs.LeftSideShapes.{lower}
 use Rattle.traces.proofs.LeftSides.{Sides, drops, moves, sides-of-rule}
 use Rattle.traces.proofs.Traces.{after, lowest-some, lowest-is}
-use Rattle.traces.proofs.Endings.{lowest-of-ending, first-of-ending, between-of-ending}
+use Rattle.traces.proofs.Endings.{lowest-of-ending, EndsBehind, first-of-ending, between-of-ending}
 use Rattle.traces.proofs.TwoLetters.{commuting, commute-fits, no-commute-none, square-fits}
 use Rattle.traces.proofs.LeastWords.{normal-front, letters-left}
 use Rattle.traces.proofs.Reading.{Reading, upto, reading-inside, fitting, reading-length, reading-lower, split, z-split, after-is}
@@ -110,18 +110,20 @@ module _ (k : Kind) (n : ℕ) (h : least k ≤ n) (z : List ℕ) (q : ℕ) (r : 
     low : s .place < suc q
     low = reading-lower k n h z (suc q) r s e
 
-    fits-there : List·Memᴰ (s .rule) (rules k n) × (fits (s .rule) (take (suc (suc q)) z) (s .place) ≡ true)
-    fits-there = firstFitting-some (rules k n) _ (s .place) (s .rule) (lowest-some k n _ s e .fitting)
+    fits-there : EndsBehind k n (s .rule) (take (suc (suc q)) z) (s .place) q
+    fits-there =
+        let f = firstFitting-some (rules k n) _ (s .place) (s .rule) (lowest-some k n _ s e .fitting) in
+        record { rank = h; listed = f .0; fit = f .1; ends = reading-length k n h z (suc q) r s e }
 
     pub first-letter : (getD z (s .place) 0 ≡ lower (getD z q 0) (getD z (suc q) 0)) × (suc (suc q) ≤ s .place + 2 * n)
     first-letter =
-        let f = first-of-ending k n h (fits-there .0) (take (suc (suc q)) z) (s .place) (fits-there .1) (reading-length k n h z (suc q) r s e) in
+        let f = first-of-ending fits-there in
         (sym (in-z (s .place) (omega (arith, low))) ∙ f .0 ∙ rw (in-z q (omega arith), in-z (suc q) (omega arith)), f .1)
 
     between : (t : ℕ) → s .place < t → t < q → getD z (s .place) 0 < getD z t 0
     between t a b =
         rw (← in-z (s .place) (omega (arith, low)), ← in-z t (omega arith))
-        (between-of-ending k n h (fits-there .0) (take (suc (suc q)) z) (s .place) (fits-there .1) (reading-length k n h z (suc q) r s e) t a b)
+        (between-of-ending fits-there t a b)
 
     -- two rising letters that do not commute
     pub place-rising : (floor p : ℕ) → before < letter → letter ≤ n → commuting n (levels k n) before letter ≡ false → floor ≡ suc (suc q) - 2 * n

@@ -55,9 +55,9 @@ numberOfSteps-at-most k n u s e =
     omega (arith, a .1, accepted-at-most k n u (a .0))
 
 -- and that of the call that fills the lists
-pub rewritingToEnd-at-most : (k n : ℕ) (u families places lengths out : List ℕ) (s l : ℕ)
+pub rewritingToEnd-at-most : (k n : ℕ) (u families places lengths out : List ℕ) {s l : ℕ}
     → rewritingToEnd k n u families places lengths out .answer ≡ toEnd.Ended s l → s ≤ length u * (length u - 1) / 2
-rewritingToEnd-at-most k n u families places lengths out s l e =
+rewritingToEnd-at-most k n u families places lengths out {l = l} e =
     let a = ended-steps families places lengths out l e in
     omega (arith, a .1, accepted-at-most k n u (a .0))
 

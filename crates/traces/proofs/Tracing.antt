@@ -5,7 +5,7 @@
 --
 -- Sections: what is left; a step; the end; a letter that moves; the whole.
 -- Assumes nothing.
-use mathlib.Core.Path.{_≡_, sym, ap, _∙_}
+use mathlib.Core.Path.{_≡_, refl, sym, ap, _∙_}
 use mathlib.Core.Bool.{false}
 use mathlib.Core.List.{List, _∷_, _++_}
 use mathlib.Core.Option.{some}
@@ -49,12 +49,11 @@ finishWith s families places lengths t = record {
 abbrev pub finish : Kind → ℕ → ℕ → List ℕ → List ℕ → List ℕ → List ℕ → Finished
 finish k n s families places lengths u = finishWith s families places lengths (trace k n u)
 
--- as many steps in all
-pub finish-steps : (k : Kind) (n s : ℕ) (families places lengths u : List ℕ) (s′ : ℕ) (families′ places′ lengths′ v : List ℕ)
-    → finish k n s families places lengths u ≡ finish k n s′ families′ places′ lengths′ v
-    → s + length (trace k n u .lines) ≡ s′ + length (trace k n v .lines)
+-- the steps made and those to come
+pub finish-steps : (k : Kind) (n s : ℕ) (families places lengths u : List ℕ)
+    → finish k n s families places lengths u .steps ≡ s + length (trace k n u .lines)
 unfolding finishWith
-finish-steps k n s families places lengths u s′ families′ places′ lengths′ v e = ap (λ (f : Finished). f .steps) e
+finish-steps k n s families places lengths u = refl
 
 -- ---- a step
 

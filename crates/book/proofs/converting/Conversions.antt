@@ -32,9 +32,9 @@ use Rattle.book.proofs.converting.ConversionChecks.{endAt-inside}
 -- ---- what is left to write
 
 -- a part of what is left was stored
-pub storing-part : {o : List ℕ} (at : ℕ) (u out : List ℕ) (r : ℕ) (x v : List ℕ) (out′ : List ℕ) (r′ : ℕ)
+pub storing-part : {o : List ℕ} {at : ℕ} {u out : List ℕ} {r : ℕ} (x v : List ℕ) {out′ : List ℕ} {r′ : ℕ}
     → Storing o at u out r (x ++ v) → out′ ≡ sets out r x → r′ ≡ r + length x → Storing o at u out′ r′ v
-storing-part at u out r x v out′ r′ s e p = record {
+storing-part {out = out} {r} x v {r′ = r′} s e p = record {
   size = ap length e ∙ length-sets out r x ∙ s .size;
   place = let l = length-append x v in let q = s .place in omega arith;
   same = s .same ∙ sym (rw e (sets-next out r r′ x v p));
@@ -138,8 +138,8 @@ module _ {ed : Edition} {b : List ℕ} (w : Convertible ed b) {c : ℕ} (n : c �
     pub others-next : {out′ : List ℕ} {x : ℕ} → i < c → out′ ≡ sets out p (bytesAt ed b i) → x ≡ headSize (other ed) + letterCountAt ed b (offset b i)
         → Storing o 0 (allBytes ed b c) out′ (p + x) (bytesLeft ed b c (i + 1))
     others-next {out′} {x} h e k =
-        storing-part 0 (allBytes ed b c) out p (bytesAt ed b i) (bytesLeft ed b c (i + 1)) out′ (p + x) (rw (← bytes-next i h) s) e
-        (rw (length-bytesAt i h, k))
+        let t : Storing o 0 (allBytes ed b c) out p (bytesAt ed b i ++ bytesLeft ed b c (i + 1)) = rw (← bytes-next i h) s in
+        storing-part (bytesAt ed b i) (bytesLeft ed b c (i + 1)) t e (rw (length-bytesAt i h, k))
 
     pub others-end : c ≤ i → (out ≡ sets o 0 (allBytes ed b c)) × (p ≡ length (allBytes ed b c))
     unfolding recordBytes
@@ -179,8 +179,9 @@ module _ {ed : Edition} {b : List ℕ} (w : Convertible ed b) {c : ℕ} (n : c �
         → Placing ed b c before at out′ (o + x) (i + 1)
     offsets-next {out′} {x} h e k = record {
       storing =
-          storing-part at (allOffsets ed b c) out (at + 2 * i) (two o) (offsetsLeft ed b c (o + x) (i + 1)) out′ (at + 2 * (i + 1))
-          (rw (← offsetsLeft-next o i x h k) (s .storing)) e (let l = length-two o in omega arith);
+          let t : Storing before at (allOffsets ed b c) out (at + 2 * i) (two o ++ offsetsLeft ed b c (o + x) (i + 1)) =
+          rw (← offsetsLeft-next o i x h k) (s .storing) in
+          storing-part (two o) (offsetsLeft ed b c (o + x) (i + 1)) t e (let l = length-two o in omega arith);
       begins =
           let l = length-append (bytesAt ed b i) (bytesLeft ed b c (i + 1)) in
           let d = ap length (bytes-next i h) in

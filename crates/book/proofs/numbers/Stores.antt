@@ -26,9 +26,15 @@ sets-record Second l p k n m u = simp (add-one, add-two, add-three)
 
 -- the same step by step: the place c of the letter count and the place h of the letters are read, and each store
 -- gives the next list
-pub record-stored : (ed : Edition) (l : List ℕ) (p k n m : ℕ) {c h : ℕ} (u : List ℕ) {o₁ o₂ o₃ : List ℕ} → c ≡ countPlace ed → h ≡ headSize ed
-    → o₁ ≡ sets (set (set l p k) (p + 1) n) (p + 2) (laneByte ed m) → o₂ ≡ sets o₁ (p + c) (two (length u)) → o₃ ≡ sets o₂ (p + h) u
+pub record RecordStores (ed : Edition) (l : List ℕ) (p k n m : ℕ) (u : List ℕ) (c h : ℕ) (o₁ o₂ o₃ : List ℕ) : Type 0 where
+  pub count-place : c ≡ countPlace ed
+  pub head-size : h ≡ headSize ed
+  pub lane-stored : o₁ ≡ sets (set (set l p k) (p + 1) n) (p + 2) (laneByte ed m)
+  pub count-stored : o₂ ≡ sets o₁ (p + c) (two (length u))
+  pub letters-stored : o₃ ≡ sets o₂ (p + h) u
+
+pub record-stored : {ed : Edition} {l : List ℕ} {p k n m : ℕ} {u : List ℕ} {c h : ℕ} {o₁ o₂ o₃ : List ℕ} → RecordStores ed l p k n m u c h o₁ o₂ o₃
     → o₃ ≡ sets l p (recordOf ed k n m u)
-record-stored ed l p k n m {h} u e d e₁ e₂ e₃ =
-    let s : p + h ≡ p + countPlace ed + 2 = omega arith in
-    e₃ ∙ rw (s, e₂, e₁, e) (sets-record ed l p k n m u)
+record-stored {ed} {l} {p} {k} {n} {m} {u} {h = h} a =
+    let s : p + h ≡ p + countPlace ed + 2 = omega (arith, a .head-size) in
+    a .letters-stored ∙ rw (s, a .count-stored, a .lane-stored, a .count-place) (sets-record ed l p k n m u)

@@ -39,15 +39,27 @@ trailer-written b out t c p h e₁ e₂ e₃ =
     )
     (ap (sets out p) (append-assoc offsets (two t) (two (c + 1))))
 
--- the records and then the trailer: c is the count, s the size with its count, t the beginning of the trailer as
--- the code has it, m the size of a record's head, a the lane count
-pub appended-written : (ed : Edition) (b out : List ℕ) (k n : ℕ) (u : List ℕ) {c s m : ℕ} (o₁ : List ℕ) {o₂ : List ℕ} → bookRefusal ed b ≡ 0 → c ≡ count b
-    → s ≡ bookSize b
-    → m ≡ headSize ed → {a : ℕ} → a ≡ lanes (kindOf k) n → let t = s - (2 * c + 2) in
+-- what the code reads of an accepted book and of a preset: c is the count, s the size with its count, m the size of
+-- a record's head, a the lane count
+pub record AppendSizes (ed : Edition) (b : List ℕ) (k n c s m a : ℕ) : Type 0 where
+  pub opens : bookRefusal ed b ≡ 0
+  pub counted : c ≡ count b
+  pub size : s ≡ bookSize b
+  pub head : m ≡ headSize ed
+  pub lane-count : a ≡ lanes (kindOf k) n
+
+-- the records and then the trailer, which begins at t
+pub appended-written : {ed : Edition} {b : List ℕ} {k n c s m a : ℕ} → AppendSizes ed b k n c s m a → (out u : List ℕ) (o₁ : List ℕ) {o₂ : List ℕ}
+    → let t = s - (2 * c + 2) in
     o₁ ≡ sets out 0 (take t b ++ recordOf ed k n a u) → o₂ ≡ sets o₁ (t + m + length u) (take (2 * c) (drop t b) ++ (two t ++ two (c + 1)))
     → o₂ ≡ sets out 0 (appended ed b k n u)
 unfolding appended
-appended-written ed b out k n u {c} {s} {m} o₁ z q y w v e₁ e₂ =
+appended-written {ed} {b} {k} {n} {c} {s} {m} read out u o₁ e₁ e₂ =
+    let z = read .opens in
+    let q = read .counted in
+    let y = read .size in
+    let w = read .head in
+    let v = read .lane-count in
     let t = s - (2 * c + 2) in
     let trailing = take (2 * c) (drop t b) ++ (two t ++ two (c + 1)) in
     let fits = accepted ed b z in

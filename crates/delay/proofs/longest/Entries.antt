@@ -13,7 +13,6 @@ use borrow.Author.Tests.{eq-eqb, le-ltb}
 use lib.IntN.{ℤ, pos, negsuc, negℤ, _-ℤ_}
 use lib.ListN.{length, getD, set, take}
 use lib.Seq.{take-all, getD-set-same, getD-set-other}
-use lib.Signed.{mag}
 use mir.Syntax.{w8}
 use mir.Val.{toZ, ofZ}
 use Rattle.coxeter.specs.Kinds.{pick, kindOf, lanes, least, up}
@@ -26,7 +25,7 @@ use Rattle.coxeter.proofs.KindLaws.{kindOf-one, kindOf-two, kindOf-three, lanes
 use Rattle.coxeter.proofs.Lists.{written-next}
 use Rattle.coxeter.proofs.Acceptance.{rank-within}
 use Rattle.coxeter.proofs.FrontLaws.{length-take-front}
-use Rattle.refusals.proofs.Bytes.{element-back, cast-back, minus-cast-back}
+use Rattle.refusals.proofs.Bytes.{cast-back, minus-cast-back}
 use Rattle.distribution.specs.Longest.{allNegative, longest}
 use Rattle.distribution.proofs.Longest.{falling-suc, length-allNegative, longest-is}
 use Rattle.distribution.proofs.Tables.{length-longest, length-longest-form}
@@ -144,11 +143,10 @@ module _ (k n : ℕ) {m : ℕ} (i : ℕ) (e : m ≡ lanes (kindOf k) n) (o : i <
         (negative-rank b ∙ sym (getD-set-other (allNegative n) (n - 1) i (pos n) (pos 0) (λ q. l (omega (arith, rank-lanes)))))
 
 -- the next entry is written, and all are
-pub longest-next : (k n i : ℕ) {z : ℤ} (w : List ℤ) → least (kindOf k) ≤ n → i < length w → length w ≡ lanes (kindOf k) n → mag z < 128
+pub longest-next : (k n i : ℕ) {z : ℤ} (w : List ℤ) → least (kindOf k) ≤ n → i < length w → length w ≡ lanes (kindOf k) n
     → z ≡ getD (longest (kindOf k) n) i (pos 0) → take i w ≡ take i (longest (kindOf k) n)
-    → take (i + 1) (set w i (toZ w8 (ofZ w8 z))) ≡ take (i + 1) (longest (kindOf k) n)
-longest-next k n i {z} w r o s f e t =
-    written-next i (toZ w8 (ofZ w8 z)) (pos 0) (longest (kindOf k) n) w (omega (arith, length-longest (kindOf k) n r)) o (element-back z f ∙ e) t
+    → take (i + 1) (set w i z) ≡ take (i + 1) (longest (kindOf k) n)
+longest-next k n i {z} w r o s e t = written-next i z (pos 0) (longest (kindOf k) n) w (omega (arith, length-longest (kindOf k) n r)) o e t
 
 pub longest-all : (k n i : ℕ) (w : List ℤ) → least (kindOf k) ≤ n → length w ≤ i → length w ≡ lanes (kindOf k) n
     → take i w ≡ take i (longest (kindOf k) n) → w ≡ longest (kindOf k) n

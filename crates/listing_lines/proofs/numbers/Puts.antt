@@ -53,9 +53,9 @@ put-minus o at x out r h = (omega (arith, h .0), rw (add-one at, add-two at) at 
 
 -- ---- lists, one element a turn
 
-storing-put : {o : List ℕ} (at : ℕ) (u out : List ℕ) (r : ℕ) (v w out′ : List ℕ) (r′ : ℕ) → Storing o at u out r (v ++ w) → Stored out r v out′ r′
+storing-put : {o : List ℕ} {at : ℕ} {u out : List ℕ} {r : ℕ} (v w : List ℕ) {out′ : List ℕ} {r′ : ℕ} → Storing o at u out r (v ++ w) → Stored out r v out′ r′
     → Storing o at u out′ r′ w
-storing-put at u out r v w out′ r′ s h = record {
+storing-put {out = out} {r} v w {out′} {r′} s h = record {
   size = ap length (h .1) ∙ length-sets out r v ∙ s .size;
   place = omega (arith, h .0, s .place, length-append v w);
   same = s .same ∙ sym (sets-append out r v w) ∙ ap (λ (l : List ℕ). sets l (r + length v) w) (sym (h .1)) ∙ ap (λ (m : ℕ). sets out′ m w) (sym (h .0));
@@ -88,13 +88,13 @@ pub letters-put : {o : List ℕ} {at : ℕ} (u : List ℕ) {out : List ℕ} {r :
     → Storing o at (letters u) out r (letters (drop i u))
     → Stored out r (spaced (getD u i 0)) out′ r′ → Storing o at (letters u) out′ r′ (letters (drop (i + 1) u))
 letters-put {o} {at} u {out} {r} i {out′} {r′} h s p =
-    storing-put at (letters u) out r (spaced (getD u i 0)) (letters (drop (i + 1) u)) out′ r′ (rw (letters-next u i h) at s) p
+    storing-put (spaced (getD u i 0)) (letters (drop (i + 1) u)) (rw (letters-next u i h) at s) p
 
 pub entries-put : {o : List ℕ} {at : ℕ} (w : List ℤ) {out : List ℕ} {r : ℕ} (i : ℕ) {out′ : List ℕ} {r′ : ℕ} → i < length w → mag (getD w i (pos 0)) < 128
     → Storing o at (entries w) out r (entries (drop i w)) → Stored out r (entry (toZ w8 (ofZ w8 (getD w i (pos 0))))) out′ r′
     → Storing o at (entries w) out′ r′ (entries (drop (i + 1) w))
 entries-put {o} {at} w {out} {r} i {out′} {r′} h f s p =
-    storing-put at (entries w) out r (entry (getD w i (pos 0))) (entries (drop (i + 1) w)) out′ r′ (rw (entries-next w i h) at s)
+    storing-put (entry (getD w i (pos 0))) (entries (drop (i + 1) w)) (rw (entries-next w i h) at s)
     (rw (element-back (getD w i (pos 0)) f) at p)
 
 pub letters-done : (o : List ℕ) (at : ℕ) (u out : List ℕ) (r i : ℕ) → length u ≤ i → Storing o at (letters u) out r (letters (drop i u))

@@ -3,7 +3,7 @@
 -- stretches together; and the last, after which a normal form stands.
 -- Assumes nothing.
 use mathlib.Core.Path.{_≡_, refl, sym, ap, subst, _∙_}
-use mathlib.Core.List.{List}
+use mathlib.Core.List.{List, _++_}
 use mathlib.Core.Option.{none, some}
 use Prim.Native.Nat.{ℕ, suc, _+_}
 use native.Mathlib.Omega.{arith}
@@ -15,7 +15,18 @@ use Rattle.traces.proofs.Traces.{after}
 use Rattle.traces.proofs.LeastWords.{Normal}
 use Rattle.traces.proofs.Reading.{Reading, reading-ends, reading-dropped, reading-moved}
 use Rattle.traces.proofs.ReadingSteps.{length-dropped, after-moved}
-use Rattle.traces.proofs.Tracing.{finish-step, finish-steps, Ready, Carried, Inserted}
+use Rattle.traces.proofs.Tracing.{Finished, finish-step, finish-steps, Ready, Carried, Inserted}
+
+-- how many steps were made, the three lists in which they are noted, and the word that stands
+pub record Noted : Type 0 where
+  pub steps : ℕ
+  pub families : List ℕ
+  pub places : List ℕ
+  pub lengths : List ℕ
+  pub word : List ℕ
+
+abbrev pub noted : ℕ → List ℕ → List ℕ → List ℕ → List ℕ → Noted
+noted s families places lengths word = record { steps = s; families = families; places = places; lengths = lengths; word = word }
 
 module _ {k : Kind} {n : ℕ} {rest : List ℕ} {s : ℕ} {families places lengths word : List ℕ} where
   pub carried-start : {q : ℕ} → Ready k n rest s families places lengths word q
@@ -31,7 +42,13 @@ module _ {k : Kind} {n : ℕ} {rest : List ℕ} {s : ℕ} {families places lengt
       reading = b .reading;
       letters = a .letters;
       short = omega (arith, b .size, a .short);
-      room = omega (arith, a .room, finish-steps k n s families places lengths _ s′ families′ places′ lengths′ _ (b .same));
+      room =
+          omega (
+            arith,
+            a .room,
+            sym (finish-steps k n s families places lengths _) ∙ ap (λ (f : Finished). f .steps) (b .same)
+                ∙ finish-steps k n s′ families′ places′ lengths′ (word′ ++ rest),
+          );
       as-places = b .places-size ∙ a .as-places ∙ sym (b .families-size);
       as-lengths = b .lengths-size ∙ a .as-lengths ∙ sym (b .families-size);
     }

@@ -18,7 +18,7 @@ use Rattle.traces.proofs.Tracing.{Ready, Carried, Inserted}
 use Rattle.rewriter.specs.declared.ending.Ending.{Ending}
 use Rattle.rewriter.specs.declared.ending.Ending.the-variants.{Rule, Nothing}
 use Rattle.rewriter.proofs.carrying.Shifting.{put}
-use Rattle.rewriter.proofs.carrying.CarriedSteps.{carried-ready, carried-trans, carried-step, inserted-step, inserted-end, inserted-after}
+use Rattle.rewriter.proofs.carrying.CarriedSteps.{Noted, noted, carried-ready, carried-trans, carried-step, inserted-step, inserted-end, inserted-after}
 use Rattle.rewriter.proofs.carrying.Passing.{ready-inside}
 use Rattle.rewriter.proofs.ending.Ends.{endingOf}
 
@@ -97,31 +97,33 @@ module _ {k : Kind} {n : ℕ} {rest : List ℕ} {s : ℕ} {families places lengt
 
 -- ---- turn after turn
 
--- the letter stands at place q of a word that is as long as before, or else q is 0 and a normal form of `size`
--- letters stands
-abbrev pub Moved : Kind → ℕ → List ℕ → ℕ → List ℕ → List ℕ → List ℕ → List ℕ → ℕ → List ℕ → List ℕ → List ℕ → List ℕ → ℕ → ℕ → Type 0
-Moved k n rest s families places lengths word s′ families′ places′ lengths′ word′ size q =
-    (1 ≤ q → (size ≡ length word) × Carried k n rest s families places lengths word s′ families′ places′ lengths′ word′ q)
-    × (q ≤ 0 → Inserted k n rest s families places lengths word s′ families′ places′ lengths′ word′ size)
+-- from what a has to what b has: the letter stands at place q of a word that is as long as before, or else q is 0
+-- and a normal form of `size` letters stands
+abbrev pub Moved : Kind → ℕ → List ℕ → Noted → Noted → ℕ → ℕ → Type 0
+Moved k n rest a b size q =
+    (1 ≤ q → (size ≡ length (a .word))
+    × Carried k n rest (a .steps) (a .families) (a .places) (a .lengths) (a .word) (b .steps) (b .families) (b .places) (b .lengths) (b .word) q)
+    × (q ≤ 0
+    → Inserted k n rest (a .steps) (a .families) (a .places) (a .lengths) (a .word) (b .steps) (b .families) (b .places) (b .lengths) (b .word) size)
 
 module _ {k : Kind} {n : ℕ} {rest : List ℕ} {s : ℕ} {families places lengths word : List ℕ} where
   module _ {s′ : ℕ} {families′ places′ lengths′ word′ : List ℕ} where
     pub moved-ended : {size : ℕ} → Inserted k n rest s families places lengths word s′ families′ places′ lengths′ word′ size
-        → Moved k n rest s families places lengths word s′ families′ places′ lengths′ word′ size 0
+        → Moved k n rest (noted s families places lengths word) (noted s′ families′ places′ lengths′ word′) size 0
     moved-ended d = (λ h. absurd (omega arith), λ h. d)
 
     pub moved-carried : {t q : ℕ} → Ready k n rest s families places lengths word t
         → Carried k n rest s families places lengths word s′ families′ places′ lengths′ word′ q
-        → Moved k n rest s families places lengths word s′ families′ places′ lengths′ word′ (length word) q
+        → Moved k n rest (noted s families places lengths word) (noted s′ families′ places′ lengths′ word′) (length word) q
     moved-carried a b = (λ h. (refl, b), λ h. inserted-after b (rw (← b .size) (turn-front (carried-ready b a) h)))
 
     -- the letter passes others from place q to p, and then makes a turn
-    pub moved-again : {size q : ℕ} → Moved k n rest s families places lengths word s′ families′ places′ lengths′ word′ size q → 1 ≤ q
+    pub moved-again : {size q : ℕ} → Moved k n rest (noted s families places lengths word) (noted s′ families′ places′ lengths′ word′) size q → 1 ≤ q
         → {s″ : ℕ} {families″ places″ lengths″ word″ : List ℕ} {p : ℕ}
         → Carried k n rest s′ families′ places′ lengths′ word′ s″ families″ places″ lengths″ word″ p
         → {s‴ : ℕ} {families‴ places‴ lengths‴ word‴ : List ℕ} {size‴ q‴ : ℕ}
-        → Moved k n rest s″ families″ places″ lengths″ word″ s‴ families‴ places‴ lengths‴ word‴ size‴ q‴
-        → Moved k n rest s families places lengths word s‴ families‴ places‴ lengths‴ word‴ size‴ q‴
+        → Moved k n rest (noted s″ families″ places″ lengths″ word″) (noted s‴ families‴ places‴ lengths‴ word‴) size‴ q‴
+        → Moved k n rest (noted s families places lengths word) (noted s‴ families‴ places‴ lengths‴ word‴) size‴ q‴
     moved-again a o c d =
         let b = carried-trans (a .0 o .1) c in
         (λ h. (d .0 h .0 ∙ b .size, carried-trans b (d .0 h .1)), λ h. inserted-after b (d .1 h))

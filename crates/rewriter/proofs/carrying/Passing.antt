@@ -22,7 +22,7 @@ use Rattle.traces.proofs.ReadingSteps.{commute-redex}
 use Rattle.traces.proofs.Tracing.{stores, Ready, Carried}
 use Rattle.rewriter.proofs.carrying.Noting.{stores-start, stores-suc}
 use Rattle.rewriter.proofs.carrying.Shifting.{put, put-none, put-read, put-commuted, CommutesFrom}
-use Rattle.rewriter.proofs.carrying.CarriedSteps.{carried-start, carried-ready, carried-trans, carried-step}
+use Rattle.rewriter.proofs.carrying.CarriedSteps.{Noted, noted, carried-start, carried-ready, carried-trans, carried-step}
 
 -- ---- letters
 
@@ -75,23 +75,24 @@ module _ {k : Kind} {n : ℕ} {rest : List ℕ} {s : ℕ} {families places lengt
 
 -- ---- letters passed one by one
 
--- the letter x has come from place q to t, with a step for each letter that it passed
-abbrev Passed : Kind → ℕ → List ℕ → ℕ → List ℕ → List ℕ → List ℕ → List ℕ → ℕ → List ℕ → List ℕ → List ℕ → List ℕ → ℕ → ℕ → Type 0
-Passed k n rest s families places lengths word q families′ places′ lengths′ word′ t x =
-    (t ≤ q) × (getD word′ t 0 ≡ x) × Carried k n rest s families places lengths word (s + (q - t)) families′ places′ lengths′ word′ t
+-- the letter x has come from place q to t, from what a has to what b has
+abbrev Passed : Kind → ℕ → List ℕ → Noted → ℕ → Noted → ℕ → ℕ → Type 0
+Passed k n rest a q b t x =
+    (t ≤ q) × (getD (b .word) t 0 ≡ x)
+    × Carried k n rest (a .steps) (a .families) (a .places) (a .lengths) (a .word) (b .steps) (b .families) (b .places) (b .lengths) (b .word) t
 
 module _ {k : Kind} {n : ℕ} {rest : List ℕ} {s : ℕ} {families places lengths word : List ℕ} {q : ℕ}
     (a : Ready k n rest s families places lengths word q) where
-  pass-start : Passed k n rest s families places lengths word q families places lengths word q (getD word q 0)
+  pass-start : Passed k n rest (noted s families places lengths word) q (noted (s + (q - q)) families places lengths word) q (getD word q 0)
   pass-start = let e : s + (q - q) ≡ s = omega arith in (omega arith, refl, rw e (carried-start a))
 
   module _ {left : ℕ} (l : left ≡ length word + length rest) where
     pass-again : {families′ places′ lengths′ word′ : List ℕ} {p x : ℕ} {families″ places″ lengths″ word″ : List ℕ}
-        → Passed k n rest s families places lengths word q families′ places′ lengths′ word′ (suc p) x
+        → Passed k n rest (noted s families places lengths word) q (noted (s + (q - suc p)) families′ places′ lengths′ word′) (suc p) x
         → commuting n (levels k n) (getD word′ p 0) x ≡ true → families″ ≡ set families′ (s + (q - suc p)) 2
         → places″ ≡ set places′ (s + (q - suc p)) p → lengths″ ≡ set lengths′ (s + (q - suc p)) left
         → set (set word′ (suc p) (getD word′ p 0)) p x ≡ word″
-        → Passed k n rest s families places lengths word q families″ places″ lengths″ word″ p x
+        → Passed k n rest (noted s families places lengths word) q (noted (s + (q - p)) families″ places″ lengths″ word″) p x
     pass-again {p = p} {x = x} {families″ = families″} {places″ = places″} {lengths″ = lengths″} b z f g m w =
         let c = pass-step {s′ = s + (q - p)} (carried-ready (b .2) a) (b .1) z
         (omega (arith, b .0)) f g (omega (arith, b .2 .size)) m in
@@ -100,8 +101,10 @@ module _ {k : Kind} {n : ℕ} {rest : List ℕ} {s : ℕ} {families places lengt
     -- the letter at q has passed m others and come to t, and the steps are noted
     abbrev Letters : ℕ → ℕ → Type 0
     Letters m t =
-        Passed k n rest s families places lengths word q (stores (λ i. 2) families s m) (stores (λ i. q - suc i) places s m)
-        (stores (λ i. left) lengths s m) (put word t q (getD word q 0)) t (getD word q 0)
+        Passed k n rest (noted s families places lengths word) q
+        (noted (s + (q - t)) (stores (λ i. 2) families s m) (stores (λ i. q - suc i) places s m) (stores (λ i. left) lengths s m)
+        (put word t q (getD word q 0)))
+        t (getD word q 0)
 
     letters-none : Letters 0 q
     letters-none =

@@ -111,7 +111,13 @@ module _ {k n : ℕ} {word : List ℕ} (families places lengths work₀ : List �
             reading = rw (c, lent-is) (reading-next kind n form letter (m .normal) (letter-in .0) (letter-in .1));
             letters = rw rest-is (wrongLetter-drop n (i + 1) word (letters-accepted n word (h .word)));
             short = omega (arith, lent-length, ap length rest-is, length-drop (i + 1) word, m .short, length-accepted n word (h .word));
-            room = omega (arith, steps-few k n word h, finish-steps kind n 0 families places lengths word s families′ places′ lengths′ (lent ++ rest) all);
+            room =
+                omega (
+                  arith,
+                  steps-few k n word h,
+                  sym (finish-steps kind n 0 families places lengths word) ∙ ap (λ (f : Finished). f .steps) all
+                      ∙ finish-steps kind n s families′ places′ lengths′ (lent ++ rest),
+                );
             as-places = m .places-size ∙ p ∙ sym (m .families-size);
             as-lengths = m .lengths-size ∙ l ∙ sym (m .families-size);
           }

@@ -28,10 +28,10 @@ written-without u d p l h m e g =
     rw (g, e, take-rest (p + l) u, sets-next d 0 p (take p u) (drop (p + l) u) t) (sets-front (take p u ++ drop (p + l) u) d room)
 
 -- the whole word, and over it from the place on the new letter and the left side without its last letter
-pub written-moved : (u d : List ℕ) (p l x : ℕ) {o o′ : List ℕ} → 1 ≤ l → p + l ≤ length u → length u ≤ length d → o ≡ sets d 0 u
+pub written-moved : (u d : List ℕ) (p l x : ℕ) {o o′ : List ℕ} → (1 ≤ l) × (p + l ≤ length u) → length u ≤ length d → o ≡ sets d 0 u
     → o′ ≡ sets (set o p x) (p + 1) (take (p + l - 1 - p) (drop p u))
     → o′ ≡ front (take p u ++ ((x ∷ take (l - 1) (drop p u)) ++ drop (p + l) u)) d
-written-moved u d p l x {o} {o′} h g m e f =
+written-moved u d p l x {o} {o′} (h, g) m e f =
     let s : List ℕ = take (l - 1) (drop p u) in
     let r : List ℕ = drop (length u) d in
     let i : p + l - 1 - p ≡ l - 1 = omega arith in

@@ -55,10 +55,13 @@ returns c =
     let sized = headed .before in
     let counted = sized .before in
     let start = counted .before .before .before .before in
-    appended-written _ (now (start .args .book)) (now (start .args .out)) _ _ (now (start .args .word)) _ (start .pre .0 .0)
-    (counted .count-of .ensures .0)
-    (sized .size-of .ensures) (headed .head-size .ensures .0) (start .pre .0 .1) (after-write-records .write-records .ensures)
-    (c .before .before .write-trailer .ensures)
+    appended-written (record {
+      opens = start .pre .0 .0;
+      counted = counted .count-of .ensures .0;
+      size = sized .size-of .ensures;
+      head = headed .head-size .ensures .0;
+      lane-count = start .pre .0 .1;
+    }) (now (start .args .out)) (now (start .args .word)) _ (after-write-records .write-records .ensures) (c .before .before .write-trailer .ensures)
 
 pub write-appended-spec : {M : Type 1} → statement M
 write-appended-spec =

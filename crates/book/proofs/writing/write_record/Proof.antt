@@ -38,8 +38,13 @@ returns c =
     let laned = stored .before .before .before .before in
     let headed = laned .before .before in
     let placed = headed .before in
-    record-stored _ _ _ _ _ _ _ (placed .count-place .ensures .0) (headed .head-size .ensures .0) (laned .put-lanes .ensures)
-    (stored .put-two .ensures) (c .before .before .copy-to .ensures)
+    record-stored (record {
+      count-place = placed .count-place .ensures .0;
+      head-size = headed .head-size .ensures .0;
+      lane-stored = laned .put-lanes .ensures;
+      count-stored = stored .put-two .ensures;
+      letters-stored = c .before .before .copy-to .ensures;
+    })
 
 pub write-record-spec : {M : Type 1} → statement M
 write-record-spec =

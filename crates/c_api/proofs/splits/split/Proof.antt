@@ -18,7 +18,7 @@ small c =
 returns : tie.Need-returns
 returns c =
     let refused = c .before in
-    splittingListed-roomless _ _ _ _ _ _ _ (refused .before .if1 .taken) (refused .split-refusal .ensures)
+    splittingListed-roomless _ _ _ _ (refused .before .if1 .taken) (refused .split-refusal .ensures)
     (i64-back _ (c .unlisted .ok) ∙ c .unlisted .ensures)
 
 add-size : tie.Need-add-size

@@ -10,7 +10,7 @@ use Rattle.c_api.proofs.tracing.to_end.Tie as tie
 returns : tie.Need-returns
 returns c =
     let past-if1 = c .before .before .before .before in
-    rewritingToEndListed-roomless _ _ _ _ _ _ _ _ (past-if1 .if1 .taken)
+    rewritingToEndListed-roomless _ _ _ _ _ _ (past-if1 .if1 .taken)
     (i64-back _ (c .refused-written .ok) ∙ c .refused-written .ensures)
 
 steps-number-requires : tie.Need-steps-number-requires

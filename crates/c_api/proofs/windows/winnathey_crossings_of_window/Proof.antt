@@ -16,8 +16,8 @@ returns c =
     let written = c .before .before in
     let below = written .before .before in
     let rank = below .before in
-    crossings-as-bytes (crossingsOfWindow-refusable _) _ _ _ _ _ (rank .before .byte .ensures) (rank .byte2 .ensures) (written .write-crossings .ok)
-    (written .write-crossings .ensures) (below .crossings-of-window .ensures)
+    crossings-as-bytes (crossingsOfWindow-refusable _) _ (record { kind = rank .before .byte .ensures; rank = rank .byte2 .ensures })
+    (written .write-crossings .ok) (written .write-crossings .ensures) (below .crossings-of-window .ensures)
 
 pub winnathey-crossings-of-window-spec : {M : Type 1} → statement M
 winnathey-crossings-of-window-spec =

@@ -16,8 +16,8 @@ returns c =
     let written = c .before .before in
     let below = written .before .before in
     let rank = below .before in
-    crossings-as-bytes (crossingsOfWord-refusable _) _ _ _ _ _ (rank .before .byte .ensures) (rank .byte2 .ensures) (written .write-crossings .ok)
-    (written .write-crossings .ensures) (below .crossings-of-word .ensures)
+    crossings-as-bytes (crossingsOfWord-refusable _) _ (record { kind = rank .before .byte .ensures; rank = rank .byte2 .ensures })
+    (written .write-crossings .ok) (written .write-crossings .ensures) (below .crossings-of-word .ensures)
 
 pub winnathey-crossings-of-word-spec : {M : Type 1} → statement M
 winnathey-crossings-of-word-spec =

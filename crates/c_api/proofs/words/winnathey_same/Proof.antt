@@ -20,7 +20,8 @@ below w =
     let three = four .before in
     let two = three .before in
     w .presets-equal .ensures
-    ∙ verdict-as-bytes _ _ _ _ _ _ (two .before .byte .ensures) (two .byte2 .ensures) (three .byte3 .ensures) (four .byte4 .ensures)
+    ∙ verdict-as-bytes _ _ (record { kind = two .before .byte .ensures; rank = two .byte2 .ensures })
+    (record { kind = three .byte3 .ensures; rank = four .byte4 .ensures })
 
 returns : tie.Need-returns
 unfolding verdictNumber

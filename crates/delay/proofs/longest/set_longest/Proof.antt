@@ -5,6 +5,7 @@ use Prim.Native.Nat.{_-_, _≤_}
 use native.Mathlib.Omega.{arith}
 use lib.ListN.{length, length-set, take}
 use borrow.Author.Needs.{needs}
+use Rattle.refusals.proofs.Bytes.{element-back}
 use Rattle.coxeter.specs.Kinds.{kindOf}
 use Rattle.distribution.specs.Longest.{longest}
 use Rattle.delay.proofs.longest.Entries.{lanes-fit, longest-next, longest-all}
@@ -33,7 +34,7 @@ loop-again c =
     let pre = turn .before .before .pre in (
       simp length-set (omega arith),
       simp length-set (i .1),
-      longest-next _ _ _ _ (pre .0 .0) (turn .loop-test .taken) (i .1 ∙ pre .1) (c .longest-entry .ok) (c .longest-entry .ensures) (i .2),
+      longest-next _ _ _ _ (pre .0 .0) (turn .loop-test .taken) (i .1 ∙ pre .1) (element-back _ (c .longest-entry .ok) ∙ c .longest-entry .ensures) (i .2),
     )
 
 returns : tie.Need-returns Inv-loop μ-loop

@@ -7,7 +7,7 @@ use Prim.Native.Nat.{ℕ}
 use native.Mathlib.Omega.{arith}
 use lib.ListN.{length}
 use Rattle.coxeter.specs.Kinds.{Kind, kindOf}
-use Rattle.rewriter.proofs.carrying.CarriedSteps.{carried-start, carried-ready}
+use Rattle.rewriter.proofs.carrying.CarriedSteps.{noted, carried-start, carried-ready}
 use Rattle.rewriter.proofs.carrying.Passing.{ready-inside}
 use Rattle.rewriter.proofs.carrying.Inserting.{Moved, moved-carried, moved-again}
 use borrow.Author.Needs.{needs}
@@ -21,7 +21,7 @@ record Turned (k : Kind) (rank : ℕ) (rest : List ℕ) (s : ℕ) (families₀ p
   places-size : length places ≡ length places₀
   lengths-size : length lengths ≡ length lengths₀
   word-size : length word ≡ length word₀
-  moved : Moved k rank rest s families₀ places₀ lengths₀ word₀ steps families places lengths word size q
+  moved : Moved k rank rest (noted s families₀ places₀ lengths₀ word₀) (noted steps families places lengths word) size q
 
 abbrev Inv-loop : tie.InvT-loop
 Inv-loop kind rank rest s families₀ places₀ lengths₀ word₀ size₀ steps₀ q₀ families places lengths word size steps q =

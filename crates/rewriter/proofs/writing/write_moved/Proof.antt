@@ -22,7 +22,7 @@ returns c =
     let moved = c .before .before in
     let copied = moved .before .before .before .before .before in
     let entry = copied .before .before .before .before in
-    written-moved _ _ _ _ _ (entry .pre .0 .0) (entry .pre .0 .1) (entry .pre .1) (copied .copy .ensures) (moved .copy2 .ensures)
+    written-moved _ _ _ _ _ (entry .pre .0) (entry .pre .1) (copied .copy .ensures) (moved .copy2 .ensures)
 
 pub write-moved-spec : {M : Type 1} → statement M
 write-moved-spec =
