@@ -3,7 +3,7 @@
     python3 verify_certificate.py BOOK CERTIFICATE --edition first|second
 
 It says yes and what was checked (status 0), or no and the first line of the certificate that is wrong (status 1);
-status 2 is for a wrong call or a file that cannot be read. It runs on Python 3.8 or later and uses nothing of
+status 2 is for a wrong call, a file that cannot be read or too little memory. It runs on Python 3.8 or later without
 Winnathey: books, steps and rules are written here from docs/SPECIFICATION.md, whose clauses the comments name.
 """
 import argparse, functools, hashlib, json, sys
@@ -12,7 +12,8 @@ KINDS = {1: "A", 2: "B", 3: "D"}  # K2
 RANKS = {"first": {"A": (1, 31), "B": (2, 32), "D": (4, 32)},  # B12
          "second": {"A": (1, 63), "B": (2, 64), "D": (4, 64)}}  # B13, K4
 HEAD_BYTES = {"first": 4, "second": 5}  # B6, B7
-MAX_BOOK, MAX_WORD, MAX_LINE = 65535, 4096, 1 << 27  # C1, C7; more bytes than a line of any rewriting has (T25)
+MAX_BOOK, MAX_WORD = 65535, 4096  # C1, C7
+MAX_LINE = {False: 1 << 20, True: 1 << 27}  # more bytes than any line has, without and with a rewriting (T25)
 
 # The fields of the certificate's lines and their types; lists are of whole numbers.
 HEAD = {"certificate": int, "version": str, "library_sha256": str, "book_sha256": str, "bytes": int, "edition": str,
@@ -128,11 +129,11 @@ def once(pairs):
 
 def parsed(raw, form):
     """A line of the certificate as an object, with just the fields of a form."""
-    need(raw.endswith(b"\n"), "the line is missing or cut off")
+    need(raw.endswith(b"\n"), "the line is missing, cut off or too long")
     numbers = {"parse_int": whole, "parse_float": whole, "parse_constant": whole}
     try:
         line = json.loads(raw.decode(), object_pairs_hook=once, **numbers)
-    except (ValueError, RecursionError, MemoryError):
+    except (ValueError, RecursionError):
         raise Wrong("this is not JSON with whole numbers") from None
     need(type(line) is dict and line.keys() == form.keys(), "the fields have to be " + ", ".join(form))
     for name, value in line.items():
@@ -157,14 +158,14 @@ def verify(book, edition, certificate):
     """What was checked, in words; Wrong with the number of the first line that is wrong."""
     number, refused, rewrites = 1, 0, 0
     try:
-        head = parsed(certificate.readline(MAX_LINE), HEAD)
+        head = parsed(certificate.readline(MAX_LINE[False]), HEAD)
         agree(head, certificate=1, book_sha256=hashlib.sha256(book).hexdigest(), bytes=len(book), edition=edition)
         presets = [read(record, edition) for record in records(book, edition)]
         agree(head, presets=len(presets))
         for place, preset in enumerate(presets):
             number += 1
             form = REFUSED if type(preset) is int else {**PRESET, **LISTS} if head["lines"] else PRESET
-            line = parsed(certificate.readline(MAX_LINE), form)
+            line = parsed(certificate.readline(MAX_LINE["families" in form]), form)
             agree(line, preset=place)
             if form is REFUSED:
                 agree(line, refused=preset)
@@ -173,7 +174,7 @@ def verify(book, edition, certificate):
                 check_preset(line, *preset)
                 rewrites += len(line.get("families", ()))
         number += 1
-        agree(parsed(certificate.readline(MAX_LINE), END), end=True, presets=len(presets), refused=refused)
+        agree(parsed(certificate.readline(MAX_LINE[False]), END), end=True, presets=len(presets), refused=refused)
         number += 1
         need(not certificate.read(1), "something follows the closing line")
     except Wrong as wrong:
@@ -192,8 +193,8 @@ def main():
     except Wrong as wrong:
         print("no:", wrong)
         sys.exit(1)
-    except OSError as error:
-        arguments.error(str(error))
+    except (OSError, MemoryError) as error:
+        arguments.error("not enough memory" if type(error) is MemoryError else str(error))
 
 if __name__ == "__main__":
     main()
