@@ -207,7 +207,7 @@ impl Edit {
             ))
         };
         if self.dry_run {
-            Ready::may_be_beside(&beside).map_err(has_to)?;
+            Ready::could_be_beside(&beside).map_err(has_to)?;
             out.warn(format!("'{file}' would drop {past}, which the book does not have"));
             return Ok(());
         }
@@ -235,7 +235,7 @@ impl Edit {
         })?;
         let Some((names, old)) = read else { return self.put(locked, &change.bytes) };
         if self.dry_run {
-            Ready::may_be_beside(beside)?;
+            Ready::could_be_beside(beside)?;
             let past = names.past_the_end(library::book_check(self.edition, &locked.bytes)?);
             if let Some(past) = past {
                 out.warn(format!("'{}' would drop {past}, which the book does not have", text::file(beside)));

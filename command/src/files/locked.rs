@@ -8,6 +8,7 @@ use crate::library::MAX_BOOK;
 use crate::{system, text};
 use std::fs::{self, File, Metadata, OpenOptions};
 use std::io::{self, ErrorKind, Read, Write};
+use std::os::unix::ffi::OsStrExt;
 use std::os::unix::fs::{MetadataExt, PermissionsExt};
 use std::path::{Path, PathBuf};
 
@@ -137,8 +138,13 @@ impl Ready {
         Ready::like(path, bytes, path)
     }
 
-    /// Whether there may be one.
-    pub fn may_be_beside(path: &Path) -> Result<(), Failure> {
+    /// Whether there could be one, as far as that shows without writing.
+    pub fn could_be_beside(path: &Path) -> Result<(), Failure> {
+        Ready::may_be_beside(path)?;
+        carried_of(path)?.may_be_given(path)
+    }
+
+    fn may_be_beside(path: &Path) -> Result<(), Failure> {
         let old = fs::symlink_metadata(path).map_err(|error| Failure::file(path, error))?;
         if old.is_symlink() {
             let name = text::file(path);
@@ -151,8 +157,7 @@ impl Ready {
 
     /// With what is carried over of another file.
     pub fn like(path: &Path, bytes: &[u8], old: &Path) -> Result<Ready, Failure> {
-        let carried = File::open(old).and_then(|file| Carried::of(&file)).map_err(|error| Failure::file(old, error))?;
-        Ok(Ready { path: path.to_path_buf(), part: written(path, bytes, &carried, path)? })
+        Ok(Ready { path: path.to_path_buf(), part: written(path, bytes, &carried_of(old)?, path)? })
     }
 
     /// Gives it the name, which nobody has.
@@ -172,6 +177,10 @@ impl Ready {
         point();
         Ok(())
     }
+}
+
+fn carried_of(path: &Path) -> Result<Carried, Failure> {
+    File::open(path).and_then(|file| Carried::of(&file)).map_err(|error| Failure::file(path, error))
 }
 
 /// Removes a file with these bytes, which are kept elsewhere. It goes by another name first, so that one that somebody
@@ -289,7 +298,9 @@ pub fn may_place_new(path: &Path) -> Result<(), Failure> {
 }
 
 fn folder_for_new(path: &Path) -> Result<File, Failure> {
-    if path.file_name().is_none() {
+    // A slash at the end, or a dot behind one, is not seen in the name.
+    let last = path.as_os_str().as_bytes().rsplit(|&byte| byte == b'/').next();
+    if path.file_name().is_none_or(|name| Some(name.as_bytes()) != last) {
         return Err(Failure::file(path, io::Error::new(ErrorKind::InvalidInput, "this is no name for a file")));
     }
     folder_of(path, path)

@@ -14,7 +14,7 @@ use crate::library::MAX_BOOK;
 use crate::{system, text};
 use std::fs::{self, File, OpenOptions};
 use std::io::{self, ErrorKind, Read, Write};
-use std::os::unix::fs::MetadataExt;
+use std::os::unix::fs::{FileTypeExt, MetadataExt};
 use std::path::Path;
 
 pub fn is_standard(path: &Path) -> bool {
@@ -46,12 +46,11 @@ pub fn is_one_file(first: &Path, second: &Path) -> bool {
 
 /// Whether a file may be started, before anything is done.
 pub fn may_create(path: &Path) -> Result<(), Failure> {
-    may_write(path, Sort::Book, false).map_err(|failure| match failure {
-        Failure::Unwilling(_) if fs::metadata(path).is_ok() => {
-            Failure::Unwilling(format!("'{}' exists: --new is for a book that does not", text::file(path)))
-        }
-        other => other,
-    })
+    if fs::metadata(path).is_ok() {
+        let name = text::file(path);
+        return Err(Failure::Unwilling(format!("'{name}' exists: --new is for a book that does not")));
+    }
+    may_write(path, Sort::Book, false)
 }
 
 /// Whether a file may be written, before anything is done: an existing one is replaced only if it is of the same sort
@@ -68,8 +67,13 @@ pub fn may_write(path: &Path, sort: Sort, force: bool) -> Result<(), Failure> {
     if old.is_symlink() && fs::metadata(path).is_err_and(|error| error.kind() == ErrorKind::NotFound) {
         return Err(Failure::Unwilling(format!("'{name}' is a link that leads to nothing: no file is written there")));
     }
+    let sort_of_file = fs::metadata(path).map_err(|error| Failure::file(path, error))?.file_type();
+    if sort_of_file.is_dir() || sort_of_file.is_socket() {
+        let what = if sort_of_file.is_dir() { "a folder" } else { "a socket" };
+        return Err(Failure::Unwilling(format!("'{name}' is {what}: no file is written there")));
+    }
     // A device or a pipe has nothing to lose.
-    if !fs::metadata(path).map_err(|error| Failure::file(path, error))?.is_file() {
+    if !sort_of_file.is_file() {
         return Ok(());
     }
     if !force {

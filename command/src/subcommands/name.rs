@@ -163,7 +163,7 @@ fn changed(
     }
     let bytes = names.with(keyword, number, name).written();
     match &old {
-        Some(_) if dry_run && waiting.is_none() => Ready::may_be_beside(&file)?,
+        Some(_) if dry_run && waiting.is_none() => Ready::could_be_beside(&file)?,
         _ if dry_run => files::may_place_new(&file)?,
         None => files::place_new(&file, &bytes)?,
         Some(old) => {
