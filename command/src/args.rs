@@ -1,7 +1,7 @@
 //! The arguments of a subcommand, taken apart by the table.
 use crate::failure::Failure;
 use crate::library::Edition;
-use crate::table::{Opt, Subcommand};
+use crate::table::{Completes, Opt, Subcommand};
 use crate::typed::{Set, TypedRig, Window, Word};
 use crate::{books, files, numbers, suggest, text};
 use std::collections::VecDeque;
@@ -48,8 +48,8 @@ impl Args {
                 _ => args.operand(argument, &mut behind),
             }
         }
-        if args.reads_of_standard_input() > 1 {
-            return Err(args.usage("standard input can be read once only"));
+        if let Some(stream) = files::read_twice(&args.read_files()) {
+            return Err(args.usage(format!("{stream} can be read once only")));
         }
         args.no_option_without_effect()?;
         if let Some(seconds) = args.text("--timeout") {
@@ -82,12 +82,19 @@ impl Args {
         Ok(())
     }
 
-    /// Each - among the operands, and a book of `--book` once for each of its presets.
-    fn reads_of_standard_input(&self) -> usize {
-        let operands = self.operands.iter().filter(|operand| operand.text == "-").count();
-        let lines = self.values("--from").into_iter().filter(|from| *from == "-").count();
-        let book = self.option("--book").is_some_and(|book| book == "-");
-        operands + lines + if book { self.values("--preset").len().max(1) } else { 0 }
+    /// The files that are read, and each - among the operands; a book of `--book` once for each of its presets.
+    fn read_files(&self) -> Vec<&Path> {
+        let is_file =
+            |place: usize| self.subcommand.operands.get(place).is_some_and(|it| it.completes == Completes::File);
+        let operands = self.operands.iter().enumerate();
+        let operands = operands.filter(|(place, operand)| operand.text == "-" || is_file(*place));
+        let mut files: Vec<&OsStr> = operands.map(|(_, operand)| operand.text.as_os_str()).collect();
+        files.extend(self.option("--from").map(OsString::as_os_str));
+        // Names are no standard input: - is a file of that name.
+        files.extend(self.option("--names").map(OsString::as_os_str).filter(|names| *names != "-"));
+        let books = self.values("--preset").len().max(1);
+        files.extend(self.option("--book").into_iter().flat_map(|book| vec![book.as_os_str(); books]));
+        files.into_iter().map(Path::new).collect()
     }
 
     fn operand(&mut self, text: OsString, behind: &mut Option<String>) {

@@ -62,7 +62,8 @@ impl Edit {
             (None, false, true) if standard => return Err(args.usage("--new needs a file")),
             (None, false, true) => To::New,
             (Some(to), false, false) if files::is_one_file(&from, &to) => {
-                return Err(args.usage(format!("{} is BOOK itself: use --in-place", text::file(&to))));
+                let instead = if standard { "" } else { ": use --in-place" };
+                return Err(args.usage(format!("{} is BOOK itself{instead}", text::file(&to))));
             }
             (Some(to), false, false) => To::Output(to),
             _ => return Err(args.usage("either -o or --in-place or --new")),

@@ -133,6 +133,9 @@ fn numbers_of(typed: &str) -> Result<Numbers, String> {
     if typed.is_empty() {
         return Err(format!("no word: {} or {} is the empty one", EMPTY[0], EMPTY[1]));
     }
+    if typed.contains('\u{feff}') {
+        return Err("a byte order mark stands in front of a whole file only".to_string());
+    }
     if EMPTY.contains(&typed) {
         return Ok(Numbers::Word(Word::of(Vec::new(), "the word")));
     }

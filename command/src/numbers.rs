@@ -33,7 +33,11 @@ pub fn typed(text: &str) -> Result<Vec<i64>, String> {
 
 /// The numbers of a word, or of a window in brackets; whether it is a window.
 pub fn word_or_window(text: &str) -> Result<(Vec<i64>, bool), String> {
-    let text = text.strip_prefix('\u{feff}').unwrap_or(text).trim();
+    let text = match text.strip_prefix('\u{feff}') {
+        // Nobody types the empty word so.
+        Some(rest) if rest.trim().is_empty() => return Err("a byte order mark is no word".to_string()),
+        rest => rest.unwrap_or(text).trim(),
+    };
     let inner = text.strip_prefix('[').and_then(|text| text.strip_suffix(']'));
     Ok((typed(inner.unwrap_or(text))?, inner.is_some()))
 }

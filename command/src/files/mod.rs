@@ -1,11 +1,13 @@
 //! Books, pictures and sheets on files.
 mod carried;
 mod locked;
+mod once;
 mod part;
 mod sort;
 mod wait;
 
 pub use locked::{Locked, Ready, may_place_new, place_new, read_together, settled, take_away};
+pub use once::read_twice;
 pub use sort::Sort;
 pub use wait::at_most as wait_at_most;
 
@@ -38,10 +40,16 @@ pub fn read_book(path: &Path) -> Result<Vec<u8>, Failure> {
     Ok(book)
 }
 
-/// Whether both names lead to one file.
-pub fn is_one_file(first: &Path, second: &Path) -> bool {
-    let place = |path: &Path| fs::metadata(path).map(|file| (file.dev(), file.ino())).ok();
-    !is_standard(first) && !is_standard(second) && place(first).is_some_and(|found| place(second) == Some(found))
+/// Whether what is read, standard input too, is the file that is to be written.
+pub fn is_one_file(read: &Path, written: &Path) -> bool {
+    let from = if is_standard(read) {
+        once::standard_input().ok().filter(fs::Metadata::is_file)
+    } else {
+        fs::metadata(read).ok()
+    };
+    let to = if is_standard(written) { None } else { fs::metadata(written).ok() };
+    let place = |file: fs::Metadata| (file.dev(), file.ino());
+    from.map(place).is_some_and(|found| to.map(place) == Some(found))
 }
 
 /// Whether a file may be started, before anything is done.

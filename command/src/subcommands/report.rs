@@ -56,6 +56,10 @@ fn run(mut args: Args, out: &mut Out) -> Result<Verdict, Failure> {
     let force = args.flag("--force");
     let is_pdf = target.extension().is_some_and(|ending| ending.eq_ignore_ascii_case("pdf"));
     let sort = if is_pdf { Sort::Pdf } else { Sort::Html };
+    // A book of no bytes is a file of any sort, and would be replaced.
+    if files::is_one_file(path, &target) {
+        return Err(args.usage(format!("{} is BOOK itself", text::file(&target))));
+    }
     files::may_write(&target, sort, force)?;
     let (book, names) = asked::book(&args, path, out)?;
     book.warn_always(out);
