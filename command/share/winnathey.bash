@@ -15,7 +15,7 @@ _winnathey() {
     split) options='--empty --allowed --locked --book --edition --timeout --preset --json --help' operands='A B D' ;;
     between) options='--allowed --locked --json --help' operands='A B D' ;;
     fallback) options='--empty --status --book --edition --timeout --preset --json --help' operands='A B D' ;;
-    delays) options='--svg --png --force --json --help' operands='A B D' ;;
+    delays) options='--svg --png --force --timeout --json --help' operands='A B D' ;;
     normal) options='--empty --book --edition --timeout --preset --json --help' operands='A B D' ;;
     product) options='--empty --book --edition --timeout --preset --json --help' operands='A B D' ;;
     inverse) options='--empty --book --edition --timeout --preset --json --help' operands='A B D' ;;
@@ -31,7 +31,7 @@ _winnathey() {
     convert) options='--edition --timeout --in-place -o --force --at-most --dry-run --quiet --json --help' operands='files' ;;
     name) options='--edition --timeout --remove --dry-run --quiet --json --help' operands='files' ;;
     report) options='--edition --timeout -o --force --date --strict --names --json --help' operands='files' ;;
-    certify) options='--edition --lines -o --force --json --help' operands='files' ;;
+    certify) options='--edition --timeout --lines -o --force --json --help' operands='files' ;;
     completions) options='--json --help' operands='bash zsh fish' ;;
     man) options='--markdown --json --help' operands='' ;;
     esac

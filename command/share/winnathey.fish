@@ -33,7 +33,7 @@ complete -c winnathey -n '__fish_seen_subcommand_from draw' -l png -r -F -d 'a p
 complete -c winnathey -n '__fish_seen_subcommand_from draw' -l force -d 'lets -o replace an existing file, if that is of the same sort'
 complete -c winnathey -n '__fish_seen_subcommand_from draw' -l book -r -F -d 'takes the preset out of this book, in place of RIG and WORD'
 complete -c winnathey -n '__fish_seen_subcommand_from draw' -l edition -x -a 'first second' -d 'first or second, the edition that the book has: its bytes do not tell'
-complete -c winnathey -n '__fish_seen_subcommand_from draw' -l timeout -x -d 'how long to wait for a book that another program has locked; without end if not given'
+complete -c winnathey -n '__fish_seen_subcommand_from draw' -l timeout -x -d 'how long to wait for a file that another program has locked; without end if not given'
 complete -c winnathey -n '__fish_seen_subcommand_from draw' -l preset -x -d 'the preset\'s number in the book of --book, from 0'
 complete -c winnathey -n '__fish_seen_subcommand_from draw' -l names -r -F -d 'the names of sources, screens and presets; BOOK.names beside the book if not given'
 complete -c winnathey -n '__fish_seen_subcommand_from draw' -l json -d 'the answer, or why there is none, as one JSON object on standard output; the manual page lists its fields'
@@ -80,6 +80,7 @@ complete -c winnathey -n __fish_use_subcommand -a delays -d 'how many windows of
 complete -c winnathey -n '__fish_seen_subcommand_from delays' -l svg -r -F -d 'a picture (SVG) of the table instead, - for standard output'
 complete -c winnathey -n '__fish_seen_subcommand_from delays' -l png -r -F -d 'a picture as PNG, made by rsvg-convert if that is installed'
 complete -c winnathey -n '__fish_seen_subcommand_from delays' -l force -d 'lets -o replace an existing file, if that is of the same sort'
+complete -c winnathey -n '__fish_seen_subcommand_from delays' -l timeout -x -d 'how long to wait for a file that another program has locked; without end if not given'
 complete -c winnathey -n '__fish_seen_subcommand_from delays' -l json -d 'the answer, or why there is none, as one JSON object on standard output; the manual page lists its fields'
 complete -c winnathey -n '__fish_seen_subcommand_from delays' -l help -d 'this text; -h too'
 complete -c winnathey -n '__fish_seen_subcommand_from delays' -a 'A B D'
@@ -142,7 +143,7 @@ complete -c winnathey -n '__fish_seen_subcommand_from list' -l help -d 'this tex
 complete -c winnathey -n '__fish_seen_subcommand_from list' -F
 complete -c winnathey -n __fish_use_subcommand -a check -d 'whether a book and all its records are right'
 complete -c winnathey -n '__fish_seen_subcommand_from check' -l edition -x -a 'first second' -d 'first or second, the edition that the book has: its bytes do not tell'
-complete -c winnathey -n '__fish_seen_subcommand_from check' -l quiet -d 'prints nothing on success; errors and warnings still go to standard error'
+complete -c winnathey -n '__fish_seen_subcommand_from check' -l quiet -d 'prints nothing on success; errors and warnings still go to standard error. --json still prints its object'
 complete -c winnathey -n '__fish_seen_subcommand_from check' -l json -d 'the answer, or why there is none, as one JSON object on standard output; the manual page lists its fields'
 complete -c winnathey -n '__fish_seen_subcommand_from check' -l help -d 'this text; -h too'
 complete -c winnathey -n '__fish_seen_subcommand_from check' -F
@@ -150,7 +151,7 @@ complete -c winnathey -n __fish_use_subcommand -a diff -d 'two books compared by
 complete -c winnathey -n '__fish_seen_subcommand_from diff' -l edition -x -a 'first second' -d 'first or second, the edition of both books; given twice, of BOOK and of OTHER'
 complete -c winnathey -n '__fish_seen_subcommand_from diff' -l timeout -x -d 'how long to wait for a book that another program has locked; without end if not given'
 complete -c winnathey -n '__fish_seen_subcommand_from diff' -l names -r -F -d 'the names of sources, screens and presets; BOOK.names beside the book if not given'
-complete -c winnathey -n '__fish_seen_subcommand_from diff' -l quiet -d 'prints nothing: the exit status tells'
+complete -c winnathey -n '__fish_seen_subcommand_from diff' -l quiet -d 'prints nothing: the exit status tells; --json still prints its object'
 complete -c winnathey -n '__fish_seen_subcommand_from diff' -l json -d 'the answer, or why there is none, as one JSON object on standard output; the manual page lists its fields'
 complete -c winnathey -n '__fish_seen_subcommand_from diff' -l help -d 'this text; -h too'
 complete -c winnathey -n '__fish_seen_subcommand_from diff' -F
@@ -167,7 +168,7 @@ complete -c winnathey -n '__fish_seen_subcommand_from append' -l book -r -F -d '
 complete -c winnathey -n '__fish_seen_subcommand_from append' -l preset -x -d 'the preset\'s number in the book of --book, from 0'
 complete -c winnathey -n '__fish_seen_subcommand_from append' -l from -r -F -d 'takes the presets out of a file with one a line, as list --words prints them; - for standard input'
 complete -c winnathey -n '__fish_seen_subcommand_from append' -l dry-run -d 'makes every check, says what would be written and writes nothing; what only writing shows, as a full disk, it does not tell'
-complete -c winnathey -n '__fish_seen_subcommand_from append' -l quiet -d 'prints nothing on success; errors and warnings still go to standard error'
+complete -c winnathey -n '__fish_seen_subcommand_from append' -l quiet -d 'prints nothing on success; errors and warnings still go to standard error. --json still prints its object'
 complete -c winnathey -n '__fish_seen_subcommand_from append' -l json -d 'the answer, or why there is none, as one JSON object on standard output; the manual page lists its fields'
 complete -c winnathey -n '__fish_seen_subcommand_from append' -l help -d 'this text; -h too'
 complete -c winnathey -n '__fish_seen_subcommand_from append' -F
@@ -178,7 +179,7 @@ complete -c winnathey -n '__fish_seen_subcommand_from remove' -l in-place -d 'th
 complete -c winnathey -n '__fish_seen_subcommand_from remove' -s o -r -F -d 'where the new book goes, - for standard output; never BOOK itself'
 complete -c winnathey -n '__fish_seen_subcommand_from remove' -l force -d 'lets -o replace an existing file, if that is of the same sort'
 complete -c winnathey -n '__fish_seen_subcommand_from remove' -l dry-run -d 'makes every check, says what would be written and writes nothing; what only writing shows, as a full disk, it does not tell'
-complete -c winnathey -n '__fish_seen_subcommand_from remove' -l quiet -d 'prints nothing on success; errors and warnings still go to standard error'
+complete -c winnathey -n '__fish_seen_subcommand_from remove' -l quiet -d 'prints nothing on success; errors and warnings still go to standard error. --json still prints its object'
 complete -c winnathey -n '__fish_seen_subcommand_from remove' -l json -d 'the answer, or why there is none, as one JSON object on standard output; the manual page lists its fields'
 complete -c winnathey -n '__fish_seen_subcommand_from remove' -l help -d 'this text; -h too'
 complete -c winnathey -n '__fish_seen_subcommand_from remove' -F
@@ -192,7 +193,7 @@ complete -c winnathey -n '__fish_seen_subcommand_from replace' -l force -d 'lets
 complete -c winnathey -n '__fish_seen_subcommand_from replace' -l book -r -F -d 'takes the preset out of this book, of the same edition, in place of RIG and WORD'
 complete -c winnathey -n '__fish_seen_subcommand_from replace' -l preset -x -d 'the preset\'s number in the book of --book, from 0'
 complete -c winnathey -n '__fish_seen_subcommand_from replace' -l dry-run -d 'makes every check, says what would be written and writes nothing; what only writing shows, as a full disk, it does not tell'
-complete -c winnathey -n '__fish_seen_subcommand_from replace' -l quiet -d 'prints nothing on success; errors and warnings still go to standard error'
+complete -c winnathey -n '__fish_seen_subcommand_from replace' -l quiet -d 'prints nothing on success; errors and warnings still go to standard error. --json still prints its object'
 complete -c winnathey -n '__fish_seen_subcommand_from replace' -l json -d 'the answer, or why there is none, as one JSON object on standard output; the manual page lists its fields'
 complete -c winnathey -n '__fish_seen_subcommand_from replace' -l help -d 'this text; -h too'
 complete -c winnathey -n '__fish_seen_subcommand_from replace' -F
@@ -203,7 +204,7 @@ complete -c winnathey -n '__fish_seen_subcommand_from move' -l in-place -d 'the 
 complete -c winnathey -n '__fish_seen_subcommand_from move' -s o -r -F -d 'where the new book goes, - for standard output; never BOOK itself'
 complete -c winnathey -n '__fish_seen_subcommand_from move' -l force -d 'lets -o replace an existing file, if that is of the same sort'
 complete -c winnathey -n '__fish_seen_subcommand_from move' -l dry-run -d 'makes every check, says what would be written and writes nothing; what only writing shows, as a full disk, it does not tell'
-complete -c winnathey -n '__fish_seen_subcommand_from move' -l quiet -d 'prints nothing on success; errors and warnings still go to standard error'
+complete -c winnathey -n '__fish_seen_subcommand_from move' -l quiet -d 'prints nothing on success; errors and warnings still go to standard error. --json still prints its object'
 complete -c winnathey -n '__fish_seen_subcommand_from move' -l json -d 'the answer, or why there is none, as one JSON object on standard output; the manual page lists its fields'
 complete -c winnathey -n '__fish_seen_subcommand_from move' -l help -d 'this text; -h too'
 complete -c winnathey -n '__fish_seen_subcommand_from move' -F
@@ -215,7 +216,7 @@ complete -c winnathey -n '__fish_seen_subcommand_from convert' -s o -r -F -d 'wh
 complete -c winnathey -n '__fish_seen_subcommand_from convert' -l force -d 'lets -o replace an existing file, if that is of the same sort'
 complete -c winnathey -n '__fish_seen_subcommand_from convert' -l at-most -x -d 'the new book is refused (14) if it has more than N bytes'
 complete -c winnathey -n '__fish_seen_subcommand_from convert' -l dry-run -d 'makes every check, says what would be written and writes nothing; what only writing shows, as a full disk, it does not tell'
-complete -c winnathey -n '__fish_seen_subcommand_from convert' -l quiet -d 'prints nothing on success; errors and warnings still go to standard error'
+complete -c winnathey -n '__fish_seen_subcommand_from convert' -l quiet -d 'prints nothing on success; errors and warnings still go to standard error. --json still prints its object'
 complete -c winnathey -n '__fish_seen_subcommand_from convert' -l json -d 'the answer, or why there is none, as one JSON object on standard output; the manual page lists its fields'
 complete -c winnathey -n '__fish_seen_subcommand_from convert' -l help -d 'this text; -h too'
 complete -c winnathey -n '__fish_seen_subcommand_from convert' -F
@@ -224,13 +225,13 @@ complete -c winnathey -n '__fish_seen_subcommand_from name' -l edition -x -a 'fi
 complete -c winnathey -n '__fish_seen_subcommand_from name' -l timeout -x -d 'how long to wait for a book that another program has locked; without end if not given'
 complete -c winnathey -n '__fish_seen_subcommand_from name' -l remove -d 'takes the name away'
 complete -c winnathey -n '__fish_seen_subcommand_from name' -l dry-run -d 'makes every check, says what would be written and writes nothing; what only writing shows, as a full disk, it does not tell'
-complete -c winnathey -n '__fish_seen_subcommand_from name' -l quiet -d 'prints nothing on success; errors and warnings still go to standard error'
+complete -c winnathey -n '__fish_seen_subcommand_from name' -l quiet -d 'prints nothing on success; errors and warnings still go to standard error. --json still prints its object'
 complete -c winnathey -n '__fish_seen_subcommand_from name' -l json -d 'the answer, or why there is none, as one JSON object on standard output; the manual page lists its fields'
 complete -c winnathey -n '__fish_seen_subcommand_from name' -l help -d 'this text; -h too'
 complete -c winnathey -n '__fish_seen_subcommand_from name' -F
 complete -c winnathey -n __fish_use_subcommand -a report -d 'a book as a sheet to print, for the training record'
 complete -c winnathey -n '__fish_seen_subcommand_from report' -l edition -x -a 'first second' -d 'first or second, the edition that the book has: its bytes do not tell'
-complete -c winnathey -n '__fish_seen_subcommand_from report' -l timeout -x -d 'how long to wait for a book that another program has locked; without end if not given'
+complete -c winnathey -n '__fish_seen_subcommand_from report' -l timeout -x -d 'how long to wait for a file that another program has locked; without end if not given'
 complete -c winnathey -n '__fish_seen_subcommand_from report' -s o -r -F -d 'where the sheet goes, - for standard output: HTML, or PDF for a name that ends with .pdf, made by Chromium if that is installed'
 complete -c winnathey -n '__fish_seen_subcommand_from report' -l force -d 'lets -o replace an existing file, if that is of the same sort'
 complete -c winnathey -n '__fish_seen_subcommand_from report' -l date -x -d 'the date to put on the sheet; a line to write on if not given'
@@ -241,6 +242,7 @@ complete -c winnathey -n '__fish_seen_subcommand_from report' -l help -d 'this t
 complete -c winnathey -n '__fish_seen_subcommand_from report' -F
 complete -c winnathey -n __fish_use_subcommand -a certify -d 'evidence for each preset that can be checked without this program'
 complete -c winnathey -n '__fish_seen_subcommand_from certify' -l edition -x -a 'first second' -d 'first or second, the edition that the book has: its bytes do not tell'
+complete -c winnathey -n '__fish_seen_subcommand_from certify' -l timeout -x -d 'how long to wait for a file that another program has locked; without end if not given'
 complete -c winnathey -n '__fish_seen_subcommand_from certify' -l lines -d 'of each preset the lines of its rewriting too; 4,096 letters may have millions of them'
 complete -c winnathey -n '__fish_seen_subcommand_from certify' -s o -r -F -d 'where the certificate goes (JSON Lines); standard output if not given'
 complete -c winnathey -n '__fish_seen_subcommand_from certify' -l force -d 'lets -o replace an existing file, if that is of the same sort'

@@ -42,9 +42,14 @@ pub fn acknowledged(
         } else {
             writeln!(out, "{}\n{}: {count}, {bytes}", change.told, text::file(file))?;
         }
-        if !refused.is_empty() {
-            let name = if refused.len() == 1 { "preset" } else { "presets" };
-            writeln!(out, "refused in it: {name} {} (check says why)", text::spaced(&refused))?;
+    }
+    if !out.json && !refused.is_empty() {
+        let name = if refused.len() == 1 { "preset" } else { "presets" };
+        let told = format!("refused in it: {name} {} (check says why)", text::spaced(&refused));
+        if out.quiet {
+            out.warn(format!("{}: {told}", text::file(file)));
+        } else {
+            writeln!(out, "{told}")?;
         }
     }
     Ok(out.flush()?)

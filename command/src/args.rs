@@ -63,8 +63,14 @@ impl Args {
     /// An option that would change nothing is a mistake, and may be one in the rest.
     fn no_option_without_effect(&self) -> Result<(), Failure> {
         let has_book = self.flag("--book") || self.subcommand.operands.iter().any(|operand| operand.name == "BOOK");
-        if let Some(option) = ["--edition", "--timeout"].into_iter().find(|option| !has_book && self.flag(option)) {
-            return Err(self.usage(format!("{option} is for a book: --book FILE")));
+        if self.flag("--edition") && !has_book {
+            return Err(self.usage("--edition is for a book: --book FILE"));
+        }
+        // A file that is replaced may be locked too.
+        if self.flag("--timeout") && !has_book && !self.flag("--force") {
+            let what =
+                if self.subcommand.has("--book") { "a book: --book FILE" } else { "a file that is replaced: --force" };
+            return Err(self.usage(format!("--timeout is for {what}")));
         }
         let outputs = ["-o", "--svg", "--png"];
         if self.flag("--force") && !outputs.iter().any(|output| self.flag(output)) {

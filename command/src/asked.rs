@@ -39,7 +39,7 @@ fn no_preset_alone(args: &Args) -> Result<(), Failure> {
 pub fn book(args: &Args, path: &Path, out: &mut Out) -> Result<(Book, Names), Failure> {
     let edition = args.edition(path)?;
     if files::is_standard(path) || args.flag("--names") {
-        return Ok((Book::new(edition, files::read_book(path)?, path), named(args)?));
+        return Ok((Book::new(edition, files::read_locked(path)?, path), named(args)?));
     }
     files::read_together(path, || {
         let book = Book::new(edition, files::read_book(path)?, path);

@@ -116,7 +116,7 @@ impl Edit {
             }
             To::Output(to) => {
                 files::may_write(to, Sort::Book, self.force)?;
-                let (change, old) = self.changed(&open(files::read_book(&self.from)?), change, out)?;
+                let (change, old) = self.changed(&open(files::read_locked(&self.from)?), change, out)?;
                 if self.dry_run {
                     files::could_write(to, Sort::Book, self.force)?;
                 } else {

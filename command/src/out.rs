@@ -14,7 +14,7 @@ pub struct Out {
     pub paged: bool,
     /// The answer is one JSON object.
     pub json: bool,
-    /// Nothing is said of a success; warnings still are.
+    /// Nothing is said of a success in words; warnings still are.
     pub quiet: bool,
     pub style: Style,
     /// The columns that a line may take.
@@ -47,10 +47,6 @@ impl Out {
 
     /// The answer as a JSON object of one line: the subcommand, that it is an answer, its fields, warnings if any.
     pub fn answer(&mut self, subcommand: &'static str, fields: Vec<(&'static str, Value)>) -> io::Result<()> {
-        if self.quiet {
-            std::mem::take(&mut self.warnings).iter().for_each(|warning| warn_at_once(warning));
-            return Ok(());
-        }
         let mut all = vec![("subcommand", subcommand.into()), ("ok", true.into())];
         all.extend(fields);
         all.extend(self.taken_warnings());

@@ -160,6 +160,8 @@ pub const TIMEOUT: Opt = Opt::with(
     "SECONDS",
     "how long to wait for a book that another program has locked; without end if not given",
 );
+pub const TIMEOUT_OF_FILE: Opt =
+    TIMEOUT.about("how long to wait for a file that another program has locked; without end if not given");
 
 /// A preset out of a book in place of RIG and WORD.
 pub const FROM_BOOK: Opt = Opt::file("--book", "FILE", "takes the preset out of this book, in place of RIG and WORD");
@@ -203,8 +205,10 @@ pub const DRY_RUN: Opt = Opt::flag(
     "makes every check, says what would be written and writes nothing; what only writing shows, as a full disk, it does \
      not tell",
 );
-pub const QUIET: Opt =
-    Opt::flag("--quiet", "prints nothing on success; errors and warnings still go to standard error");
+pub const QUIET: Opt = Opt::flag(
+    "--quiet",
+    "prints nothing on success; errors and warnings still go to standard error. --json still prints its object",
+);
 
 pub const REMOVE: Opt = Opt::flag("--remove", "takes the name away");
 

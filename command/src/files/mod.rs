@@ -40,6 +40,11 @@ pub fn read_book(path: &Path) -> Result<Vec<u8>, Failure> {
     Ok(book)
 }
 
+/// The same while nobody replaces the book.
+pub fn read_locked(path: &Path) -> Result<Vec<u8>, Failure> {
+    if is_standard(path) { read_book(path) } else { read_together(path, || read_book(path)) }
+}
+
 /// Whether what is read, standard input too, is the file that is to be written.
 pub fn is_one_file(read: &Path, written: &Path) -> bool {
     let from = if is_standard(read) {
@@ -75,13 +80,8 @@ pub fn may_write(path: &Path, sort: Sort, force: bool) -> Result<(), Failure> {
     if old.is_symlink() && fs::metadata(path).is_err_and(|error| error.kind() == ErrorKind::NotFound) {
         return Err(Failure::Unwilling(format!("'{name}' is a link that leads to nothing: no file is written there")));
     }
-    let sort_of_file = fs::metadata(path).map_err(|error| Failure::file(path, error))?.file_type();
-    if sort_of_file.is_dir() || sort_of_file.is_socket() {
-        let what = if sort_of_file.is_dir() { "a folder" } else { "a socket" };
-        return Err(Failure::Unwilling(format!("'{name}' is {what}: no file is written there")));
-    }
     // A device or a pipe has nothing to lose.
-    if !sort_of_file.is_file() {
+    if !fs::metadata(path).map_err(|error| Failure::file(path, error))?.is_file() {
         return Ok(());
     }
     if !force {
@@ -105,6 +105,10 @@ pub fn could_write(path: &Path, sort: Sort, force: bool) -> Result<(), Failure> 
     may_write(path, sort, force)?;
     match fs::metadata(path) {
         Err(_) => may_place_new(path),
+        // What cannot be opened to be written is not changed by trying; a pipe would be waited for.
+        Ok(old) if old.is_dir() || old.file_type().is_socket() => {
+            OpenOptions::new().write(true).open(path).map(drop).map_err(|error| Failure::file(path, error))
+        }
         Ok(old) if !old.is_file() => system::may_write(path).map_err(|error| Failure::file(path, error)),
         Ok(_) => Locked::look(path).map(drop),
     }

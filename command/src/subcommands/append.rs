@@ -121,8 +121,12 @@ fn no_room(book: &Book, lines: &Lines, room: usize) -> Failure {
     let Err(refusal) = library::append(book.edition, &before, rig, word, room) else {
         return Failure::Unwilling(format!("{} has room, and was refused", book.file));
     };
-    let (bytes, room) = (text::grouped(before.len() as u64), text::grouped(room as u64));
-    let told = format!("with the presets before it the book has {bytes} of {room} bytes");
+    let (bytes, most) = (text::grouped(before.len() as u64), text::grouped(room as u64));
+    let told = if before.len() > room {
+        format!("the book has {bytes} bytes already, and is to have {most} at most")
+    } else {
+        format!("with the presets before it the book has {bytes} of {most} bytes")
+    };
     lines.failed(place, Failure::refused(refusal, told))
 }
 

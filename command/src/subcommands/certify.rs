@@ -27,6 +27,7 @@ pub const SUBCOMMAND: Subcommand = Subcommand {
     operands: &[table::BOOK],
     options: &[
         table::EDITION,
+        table::TIMEOUT_OF_FILE,
         table::LINES.about("of each preset the lines of its rewriting too; 4,096 letters may have millions of them"),
         table::OUTPUT_CERTIFICATE,
         table::FORCE,
@@ -61,7 +62,7 @@ fn run(mut args: Args, out: &mut Out) -> Result<Verdict, Failure> {
         }
         files::may_write(target, Sort::Certificate, force)?;
     }
-    let book = Book::new(args.edition(path)?, files::read_book(path)?, path);
+    let book = Book::new(args.edition(path)?, files::read_locked(path)?, path);
     let presets = book.presets()?;
     book.warn_always(out);
     let Some(target) = target else {

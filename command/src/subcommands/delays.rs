@@ -19,7 +19,7 @@ pub const SUBCOMMAND: Subcommand = Subcommand {
            greatest length, and its normal form. There are tables up to rank 19 for A and up to 16 for B and D; other \
            ranks are refused (20).",
     operands: &[table::RIG],
-    options: &[table::SVG, table::PNG, table::FORCE],
+    options: &[table::SVG, table::PNG, table::FORCE, table::TIMEOUT_OF_FILE],
     examples: &["winnathey delays B3", "winnathey delays B5 --svg delays.svg"],
     json: &[
         &[

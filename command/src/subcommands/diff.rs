@@ -30,7 +30,7 @@ pub const SUBCOMMAND: Subcommand = Subcommand {
         table::EDITION.about("first or second, the edition of both books; given twice, of BOOK and of OTHER").twice(),
         table::TIMEOUT,
         table::NAMES,
-        table::QUIET.about("prints nothing: the exit status tells"),
+        table::QUIET.about("prints nothing: the exit status tells; --json still prints its object"),
     ],
     examples: &[
         "winnathey diff presets.book my.book --edition first",
@@ -57,7 +57,7 @@ fn run(mut args: Args, out: &mut Out) -> Result<Verdict, Failure> {
     let (path, other) = (Path::new(&path), Path::new(&other));
     let edition = args.second_edition(other)?;
     let (first, names) = asked::book(&args, path, out)?;
-    let second = Book::new(edition, files::read_book(other)?, other);
+    let second = Book::new(edition, files::read_locked(other)?, other);
     let books = [&first, &second];
     books.into_iter().try_for_each(readable)?;
     let differences = differences::of(&first, &second)?;

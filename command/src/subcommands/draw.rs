@@ -29,7 +29,7 @@ pub const SUBCOMMAND: Subcommand = Subcommand {
         table::FORCE,
         table::FROM_BOOK,
         table::EDITION,
-        table::TIMEOUT,
+        table::TIMEOUT_OF_FILE,
         table::PRESET,
         table::NAMES,
     ],

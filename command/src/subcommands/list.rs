@@ -1,7 +1,7 @@
 //! `list`: the presets of a book.
 use crate::args::Args;
 use crate::books::{self, Book};
-use crate::failure::{self, Failure};
+use crate::failure::{self, Failure, STANDARD_OUTPUT};
 use crate::json::{Value, list};
 use crate::library::{self, Preset, Refusal};
 use crate::names::Names;
@@ -21,7 +21,8 @@ pub const SUBCOMMAND: Subcommand = Subcommand {
            listed, refused records included.\n\nWith --lines, a line for each preset as the verified listing program \
            prints it: number, kind, rank, length, normal form, what it shows, or '0 refused 8'.\n\nWith --words, a \
            line for each preset as append --from takes it: rig and stored word, 'D5 4 4 2 5'. A refused record is a \
-           comment there and reported on standard error, and the exit status is then 1: not all is exported.",
+           comment there and reported on standard error, and the exit status is then 1: not all is exported. It is 1 too \
+           if the reader goes away before the last line.",
     operands: &[table::BOOK],
     options: &[table::EDITION, table::TIMEOUT, table::ONE_PRESET, table::LINES, table::LINES_OF_WORDS, table::NAMES],
     examples: &[
@@ -52,7 +53,7 @@ fn run(mut args: Args, out: &mut Out) -> Result<Verdict, Failure> {
     }
     // The listing program knows no names, and neither does a line of words.
     let (book, names) = if args.flag("--lines") || args.flag("--words") {
-        (Book::new(args.edition(path)?, files::read_book(path)?, path), Names::default())
+        (Book::new(args.edition(path)?, files::read_locked(path)?, path), Names::default())
     } else {
         asked::book(&args, path, out)?
     };
@@ -140,12 +141,20 @@ fn words(book: &Book, presets: &[Read], out: &mut Out) -> Result<Verdict, Failur
             }
         }
     }
-    if out.json && refused.is_empty() {
-        out.answer("list", listed(book, ("lines", list(lines)))?)?;
+    let written = if out.json && refused.is_empty() {
+        out.answer("list", listed(book, ("lines", list(lines)))?)
     } else if !out.json {
-        lines.iter().try_for_each(|line| writeln!(out, "{line}"))?;
-        out.flush()?;
-    }
+        lines.iter().try_for_each(|line| writeln!(out, "{line}"))
+    } else {
+        Ok(())
+    };
+    // A part of the lines is another book, so that a program that goes away has not got what was asked for; somebody
+    // at a pager has.
+    let is_export = !out.paged;
+    written.and_then(|()| out.flush()).map_err(|error| match is_export {
+        true => Failure::Stream(STANDARD_OUTPUT, error),
+        false => Failure::from(error),
+    })?;
     if refused.is_empty() { Ok(Verdict::Answer) } else { Err(Failure::Presets(refused, None)) }
 }
 

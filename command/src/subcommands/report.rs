@@ -25,7 +25,7 @@ pub const SUBCOMMAND: Subcommand = Subcommand {
     operands: &[table::BOOK],
     options: &[
         table::EDITION,
-        table::TIMEOUT,
+        table::TIMEOUT_OF_FILE,
         table::OUTPUT_REPORT,
         table::FORCE,
         table::DATE,
