@@ -61,6 +61,11 @@ export function presetIn(library, { edition, bytes }, state) {
     return found ? presetOf(state, found.number) : null;
 }
 
+/** The photograph of a book that goes to other files: it may not lie beside those. */
+function elsewhere({ photograph }) {
+    return photograph && { ...photograph, beside: false };
+}
+
 export class BookPanel {
     constructor(app, root) {
         this.app = app;
@@ -99,7 +104,7 @@ export class BookPanel {
     #rename() {
         const { book } = this.app.state;
         const name = this.name.value.trim().replace(/[/\\]/g, '-') || book.name;
-        if (name !== book.name) this.app.store.change({ book: { ...book, name, file: null } });
+        if (name !== book.name) this.app.store.change({ book: { ...book, name, file: null }, photograph: elsewhere(this.app.state) });
     }
 
     /** Another book is looked at from its first preset on. */
@@ -147,7 +152,7 @@ export class BookPanel {
         }
         const name = convertedName(state.book.name, 3 - edition);
         const { state: { names }, dropped } = settled(library, state);
-        store.change({ book: { name, edition: 3 - edition, bytes: value }, names });
+        store.change({ book: { name, edition: 3 - edition, bytes: value }, names, photograph: elsewhere(state) });
         this.#say(make('p', {}, `Converted to the ${editionName(3 - edition)}, as ${name}. ${dropped}The book is not saved yet.`));
     }
 

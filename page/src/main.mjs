@@ -64,7 +64,7 @@ class App {
         showProved(panel('proved'), about);
         this.tabs = new Tabs(tab => this.show({ tab }));
         this.terms = new Terms();
-        this.draft = new Draft(library, () => ({ state: this.state, saved: !this.store.bookUnsaved, typed: this.composing.refusedText }));
+        this.draft = new Draft(library, () => ({ state: this.state, ...this.shelf.marks, typed: this.composing.refusedText }));
         this.others = new OtherTabs(also => (byId('other-tab').hidden = !also));
         this.store.listen((state, old) => this.#changed(state, old));
         this.#listen();
@@ -90,9 +90,9 @@ class App {
     }
 
     #takeUp(offered) {
-        const { state, saved, typed } = offered.draft;
+        const { state, typed } = offered.draft;
         this.store.change({ ...FIRST_STATE, ...state });
-        if (saved) this.store.markBookSaved();
+        this.shelf.mark(offered.draft);
         if (typed !== null) this.composing.type(typed);
         this.draft.discard(offered);
         this.draft.write();
@@ -128,7 +128,8 @@ class App {
         this.refresh();
         this.times.drawing = performance.now() - start - this.times.calls;
         const kept = ['kind', 'rank', 'names', 'book'].every(part => state[part] === old[part]);
-        if (!kept) remember(state);
+        // A mark of what is saved is told as a change to the same state.
+        if (!kept || state === old) remember(state, !this.shelf.namesUnsaved);
         this.draft.writeSoon();
     }
 
@@ -171,7 +172,7 @@ class App {
 
     #updateHeader() {
         const { book } = this.state;
-        const unsaved = this.store.bookUnsaved;
+        const { unsaved } = this.shelf;
         setText(byId('book-title'), `${book.name} (${editionName(book.edition)})${unsaved ? ' *' : ''}`);
         put(byId('book-title'), 'title', unsaved ? 'not saved yet' : '');
         put(document, 'title', `${unsaved ? '* ' : ''}${book.name} – Winnathey`);
@@ -198,7 +199,7 @@ class App {
         addEventListener('beforeprint', () => this.panels.sheet.update(true));
         addEventListener('beforeunload', event => {
             this.draft.write();
-            const unsaved = this.store.unsaved || this.composing.fault || this.shelf.namesUnsaved;
+            const unsaved = this.store.wordUnsaved || this.composing.fault || this.shelf.unsaved;
             if (unsaved && !this.draft.kept) event.preventDefault();
         });
     }

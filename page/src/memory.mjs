@@ -43,12 +43,13 @@ export function printOf(bytes) {
     return `${bytes.length} ${hash}`;
 }
 
-export function remember({ kind, rank, names, book }) {
+/** Remembers the rig and the names, with whether they are in a file. */
+export function remember({ kind, rank, names, book }, saved) {
     const text = new TextDecoder().decode(writeNames(names));
     keep(RIG, JSON.stringify({ kind, rank }));
     const print = printOf(book.bytes);
     const others = statesOf(book.name).filter(state => state.print !== print);
-    const states = [{ print, text }, ...others].slice(0, STATES);
+    const states = [{ print, text, saved }, ...others].slice(0, STATES);
     keep(`${NAMES} of ${book.name}`, JSON.stringify(states));
 }
 
@@ -81,8 +82,9 @@ export function rememberedRig(library) {
     }
 }
 
-/** The names that this very book had when it was last open, or null: another of the same file name has other presets. */
+/** The names that this very book had when it was last open, and whether they are in a file: another of the same file name has other presets. */
 export function rememberedNames({ name, bytes }) {
     const print = printOf(bytes);
-    return namesIn(statesOf(name).find(state => state.print === print)?.text ?? null);
+    const { text = null, saved = false } = statesOf(name).find(state => state.print === print) ?? {};
+    return { known: namesIn(text), saved };
 }

@@ -6,6 +6,7 @@ import { pickFiles, readFiles, saveFile, writeTo } from './files.mjs';
 import { rememberedNames } from './memory.mjs';
 import { NO_NAMES, photographOf, rigNames, withPhotograph, withRigNamesOf, writeNames } from './names.mjs';
 import { photographName } from './photographs.mjs';
+import { Saved } from './saved.mjs';
 import { NEW_BOOK } from './state.mjs';
 import { listed } from './text.mjs';
 
@@ -22,17 +23,54 @@ function withPicture(names, photograph) {
 }
 
 export class Shelf {
-    #savedNames = null;
-    /** The keys of the photographs that were given to the browser: they are not given again. */
-    #savedPhotographs = new Set();
+    #saved = new Saved();
 
     constructor(app) {
         this.app = app;
     }
 
     get namesUnsaved() {
-        const { names } = this.app.state;
-        return names.lines.length > 0 && names !== this.#savedNames;
+        return !this.#saved.isNamesSaved(this.app.state);
+    }
+
+    /** A photograph that is not here cannot be saved. */
+    get #photographUnsaved() {
+        return !this.#saved.isPhotographSaved(this.app.state) && shownPhotograph(this.app) !== null;
+    }
+
+    /** Whether anything of book, names and photograph is in no file. */
+    get unsaved() {
+        return this.#unsavedText !== '';
+    }
+
+    /** What of them is in a file, for the draft, and back from there. */
+    get marks() {
+        const { store, state } = this.app;
+        return { saved: !store.bookUnsaved, savedNames: !this.namesUnsaved, savedPhotograph: this.#saved.isPhotographSaved(state) };
+    }
+
+    mark({ saved, savedNames, savedPhotograph }) {
+        const { state, store } = this.app;
+        if (savedNames) this.#saved.markNames(state.book, state.names);
+        if (savedPhotograph) this.#saved.markPhotograph(state);
+        if (saved) store.markBookSaved();
+    }
+
+    /** What came from files, or can be had again, is saved as it is. A new book leaves what is known of files as it is. */
+    #markSaved(names, photograph = null) {
+        const { state, store } = this.app;
+        if (state.book.bytes === NEW_BOOK.bytes) return;
+        this.#saved.markNames(state.book, names);
+        if (photograph?.beside) this.#saved.markPhotograph(state);
+        store.markBookSaved();
+    }
+
+    /** What of book, names and photograph is in no file, in a sentence; '' where there is nothing. */
+    get #unsavedText() {
+        const { state: { book }, store } = this.app;
+        if (store.bookUnsaved) return `${book.name} is not saved.`;
+        if (this.namesUnsaved) return `The names of ${book.name} are not saved.`;
+        return this.#photographUnsaved ? `The photograph of ${book.name} is not saved.` : '';
     }
 
     /** Lets the user choose files, and takes them. */
@@ -43,10 +81,9 @@ export class Shelf {
 
     /** What is worked on here and nowhere else, in a sentence; '' where there is nothing. */
     get #onlyHere() {
-        const { store, composing, state } = this.app;
-        if (store.bookUnsaved) return `${state.book.name} is not saved.`;
-        if (store.wordUnsaved || composing.fault) return 'The present word is in no book.';
-        return this.namesUnsaved ? `The names of ${state.book.name} are not saved.` : '';
+        const { store, composing } = this.app;
+        const inNoBook = !store.bookUnsaved && (store.wordUnsaved || composing.fault);
+        return inNoBook ? 'The present word is in no book.' : this.#unsavedText;
     }
 
     /** Another state in place of all that is worked on, which is asked about first. It counts as saved, since it can be had again. */
@@ -57,8 +94,7 @@ export class Shelf {
             app.panels.book.begin();
             app.panels.sheet.clear();
             app.store.change(state);
-            app.store.markBookSaved();
-            this.#savedNames = state.names;
+            this.#markSaved(state.names);
             done();
         };
         const only = this.#onlyHere;
@@ -79,8 +115,7 @@ export class Shelf {
         }
         const { book, names } = app.state;
         const parts = [{ name: book.name, bytes: book.bytes, handle: anew ? null : book.file?.book }];
-        const named = names.lines.length > 0 || this.#savedNames?.lines.length > 0;
-        if (named) parts.push({ name: `${book.name}.names`, bytes: writeNames(names), handle: anew ? null : book.file?.names, names });
+        if (names.lines.length > 0 || this.#saved.hasNames(book)) parts.push({ name: `${book.name}.names`, bytes: writeNames(names), handle: anew ? null : book.file?.names, names });
         parts.push(...this.#photographPart(anew));
         for (const part of parts) {
             // Names are not left beside a book that they do not fit.
@@ -88,11 +123,11 @@ export class Shelf {
             else if (part.handle) part.fault = await writeTo(part.handle, part.bytes);
             else saveFile(part.name, part.bytes);
         }
-        if (!parts[0].fault) app.store.markBookSaved(book.bytes);
         for (const part of parts.filter(({ fault }) => !fault)) {
-            if (part.names) this.#savedNames = part.names;
-            if (part.key) this.#savedPhotographs.add(part.key);
+            if (part.names) this.#saved.markNames(book, part.names);
+            if (part.state) this.#saved.markPhotograph(part.state);
         }
+        if (!parts[0].fault) app.store.markBookSaved(book);
         app.panels.book.unsay();
         app.refresh();
         this.#saySaved(parts);
@@ -100,10 +135,10 @@ export class Shelf {
 
     /** A photograph that was chosen here is saved once. One that lies beside the book is not written again, but for a new book's file. */
     #photographPart(anew) {
-        const { photograph } = this.app.state;
+        const { state } = this.app;
         const picture = shownPhotograph(this.app);
-        if (!picture || (!anew && (photograph.beside || this.#savedPhotographs.has(photograph.key)))) return [];
-        return [{ name: photograph.file, bytes: picture.blob, key: photograph.key }];
+        if (!picture || (!anew && this.#saved.isPhotographSaved(state))) return [];
+        return [{ name: state.photograph.file, bytes: picture.blob, state }];
     }
 
     /** Which files were saved, which went to the browser, and which were not saved. */
@@ -114,7 +149,7 @@ export class Shelf {
         const texts = [
             told(parts.filter(part => !part.fault && part.handle), 'was saved.', 'were saved.'),
             told(given, 'was given to the browser, which puts it with its downloads.', 'were given to the browser, which puts them with its downloads.'),
-            ...given.filter(part => part.key && parts[0].handle).map(part => `Put ${part.name} beside the book. `),
+            ...given.filter(part => part.state && parts[0].handle).map(part => `Put ${part.name} beside the book. `),
             ...lost.map(part => `${part.name} was NOT saved: ${part.fault}. `),
         ];
         const again = part => button(`${part.fault ? 'Save' : 'Give'} ${part.name} ${part.fault ? 'as a new file' : 'once more'}`, () => this.#saveAnew(part));
@@ -145,7 +180,7 @@ export class Shelf {
         const { photograph, fault } = await this.#photographOf(pictures, names);
         if (book) return this.open({ ...book, file: { book: book.handle, names: handleFor(book, namesFile) } }, names, wrong ?? fault, photograph);
         const present = app.state.book;
-        this.#savedNames = names;
+        this.#saved.markNames(present, names);
         const file = { book: present.file?.book ?? null, names: handleFor(present, namesFile) };
         app.store.change({ ...withPicture(names, photograph), book: { ...present, file } });
         const said = `The names of ${namesFile.name} are those of ${app.state.book.name} now. Undo brings the others back.`;
@@ -198,7 +233,7 @@ export class Shelf {
         }
         const go = edition => this.#put({ name: book.name, edition, bytes: book.bytes, file: book.file ?? null }, names, wrong, photograph);
         const choose = () => (passing.length === 1 ? go(passing[0]) : this.#askEdition(book, go));
-        if (app.store.bookUnsaved) this.#askFirst(book, choose);
+        if (this.unsaved) this.#askFirst(book, choose);
         else choose();
     }
 
@@ -207,10 +242,9 @@ export class Shelf {
         const { state, store } = app;
         app.notice(wrong ?? '');
         app.panels.book.begin();
-        const known = wrong || book.bytes === NEW_BOOK.bytes ? null : rememberedNames(book);
+        const { known, saved } = wrong || book.bytes === NEW_BOOK.bytes ? { known: null } : rememberedNames(book);
         store.change({ book, kept: presetIn(app.library, book, state), ...withPicture(names ?? known ?? NO_NAMES, photograph) });
-        store.markBookSaved();
-        this.#savedNames = names;
+        this.#markSaved(names ?? (saved ? known : null), photograph);
         app.tabs.choose('book');
         if (!names && !wrong) this.#sayNames(state, known);
         else if (!wrong) this.#sayMissing();
@@ -231,7 +265,7 @@ export class Shelf {
         const { app } = this;
         const present = app.state.book.name;
         const go = book === NEW_BOOK ? 'Start a new book all the same' : `Open the file ${book.name} all the same`;
-        app.notice(`${present} is not saved.`, button(go, open), button(`Keep ${present} as it is here`, () => app.notice('')));
+        app.notice(this.#unsavedText, button(go, open), button(`Keep ${present} as it is here`, () => app.notice('')));
     }
 
     /** Names belong to a book: one that came without any has those that it had here before, or none, and may take over others. */

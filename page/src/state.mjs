@@ -45,11 +45,11 @@ export class Store {
     #states;
     #at = 0;
     #listeners = [];
-    #savedBook;
+    /** The bytes that are on a disk, by the name of the book: undo may go back to another book. */
+    #savedBooks = new Map();
 
     constructor(first = FIRST_STATE) {
         this.#states = [first];
-        this.#savedBook = first.book.bytes;
     }
 
     get state() {
@@ -96,9 +96,9 @@ export class Store {
         for (const listener of this.#listeners) listener(this.state, old);
     }
 
-    /** The book as it is now, or with these bytes, is on a disk. */
-    markBookSaved(bytes = this.state.book.bytes) {
-        this.#savedBook = bytes;
+    /** The book as it is now, or as it was when it was saved, is on a disk. */
+    markBookSaved({ name, bytes } = this.state.book) {
+        this.#savedBooks.set(name, bytes);
         this.#tell(this.state);
     }
 
@@ -111,7 +111,8 @@ export class Store {
 
     /** Whether the book is on no disk; a new one without a preset has nothing to lose. */
     get bookUnsaved() {
-        return this.state.book !== NEW_BOOK && !sameList(this.state.book.bytes, this.#savedBook);
+        const { name, bytes } = this.state.book;
+        return bytes !== NEW_BOOK.bytes && !sameList(bytes, this.#savedBooks.get(name) ?? NEW_BOOK.bytes);
     }
 
     get #kept() {

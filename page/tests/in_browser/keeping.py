@@ -1,0 +1,159 @@
+"""What is kept: nothing that is not saved goes without a question, and the star beside the book's name says what is saved."""
+import base64
+
+from selenium.webdriver.support.ui import WebDriverWait
+
+from in_browser.books import Books as _Books
+from in_browser.page import PageTest
+
+BOOK = _Books.BOOK
+NAMES = b"source 1 rear view\nscreen 1 windscreen\n"
+DROP = """const [files, done] = arguments;
+    const data = new DataTransfer();
+    for (const [name, text, type] of files) data.items.add(new File([Uint8Array.from(atob(text), c => c.charCodeAt(0))], name, { type }));
+    document.querySelector('main').dispatchEvent(new DragEvent('drop', { dataTransfer: data, bubbles: true, cancelable: true }));
+    setTimeout(done, 250);"""
+
+
+class Keeping(PageTest):
+    written, HANDLES, pick = _Books.written, _Books.HANDLES, _Books.pick
+
+    def other(self):
+        return bytes(self.js("return [...app.library.append(2, [], 'D', 5, [5, 4])]"))
+
+    def picture(self, width, height):
+        """A picture that the browser makes."""
+        url = self.js("const c = Object.assign(document.createElement('canvas'), { width: arguments[0], height: arguments[1] }); c.getContext('2d').fillRect(0, 0, 9, 9); return c.toDataURL('image/png')", width, height)
+        return base64.b64decode(url.split(",")[1])
+
+    def drop_typed(self, *files):
+        """Drops files that say what they are: each a name, bytes and a type."""
+        self.driver.execute_async_script(DROP, [[name, base64.b64encode(content).decode(), type] for name, content, type in files])
+        self.settle()
+
+    def photograph(self, name, content):
+        """Makes a picture the photograph of the cabin."""
+        self.drop_typed((name, content, "image/png"))
+        if "is a picture and no preset book." in self.text("notice"):
+            self.press("Use it as the photograph of the cabin")
+            WebDriverWait(self.driver, 5).until(lambda _: self.js("return app.state.photograph?.file") == name)
+        self.settle()
+
+    def starred(self):
+        title = self.driver.title.startswith("* ")
+        self.assertEqual(self.text("book-title").endswith(" *"), title)
+        return title
+
+    def value(self, label):
+        return self.labelled(label).get_attribute("value")
+
+    def held(self):
+        return self.js("return app.state.names.lines.map(line => line.raw)")
+
+    def delay(self):
+        self.press("Delays")
+        self.js("const e = document.getElementById('step-time'); e.value = '2.5'; e.dispatchEvent(new Event('change'))")
+        self.settle()
+
+    def layout(self):
+        self.press("Cabin")
+        self.press("Arrange the screens")
+        self.write("Left %", "5")
+
+    def test_07_what_is_not_saved_is_asked_about_before_another_book(self):
+        files = [("cabin.book", BOOK), ("cabin.book.names", NAMES)]
+        name = lambda: self.write("name of source 1", "front")
+        for change in [name, self.delay, self.layout, lambda: self.photograph("view.png", self.picture(30, 40))]:
+            self.fresh()
+            self.drop(*files)
+            change()
+            held = self.held()
+            self.assertNotEqual(held, NAMES.decode().splitlines())
+            self.press("Book")
+            for replace in [lambda: self.drop(("other.book", self.other())), lambda: self.drop(*files), lambda: self.press("New book")]:
+                replace()
+                self.assertIn("The names of cabin.book are not saved.", self.text("notice"))
+                self.press("Keep cabin.book as it is here")
+                self.assertEqual((self.text("notice"), self.held()), ("", held))
+            self.drop(*files)
+            self.press("Open the file cabin.book all the same")
+            self.assertEqual(self.held(), NAMES.decode().splitlines())
+            self.assertEqual((self.text("notice"), self.starred()), ("", False))
+
+    def test_07_the_star_says_what_is_not_saved(self):
+        self.pick({"cabin.book": BOOK, "cabin.book.names": NAMES}, denied="cabin.book.names")
+        self.assertFalse(self.starred())
+        for change in [lambda: self.write("name of source 1", "front"), self.delay, self.layout]:
+            change()
+            self.assertTrue(self.starred())
+            self.press("Save")
+            self.assertIn("cabin.book.names was NOT saved", self.text("notice"))
+            self.assertTrue(self.starred())
+            self.press("Undo")
+            self.assertFalse(self.starred())
+        self.press("Book")
+        self.write("File name", "renamed.book")
+        self.assertTrue(self.starred())
+        self.press("Undo")
+        self.assertFalse(self.starred())
+
+    def test_07_undo_to_another_book_finds_it_saved(self):
+        self.drop(("a.book", BOOK), ("a.book.names", NAMES))
+        self.drop(("b.book", self.other()))
+        for step, name in [("Undo", "a.book"), ("Redo", "b.book"), ("Undo", "a.book")]:
+            self.press(step)
+            self.assertIn(name, self.text("book-title"))
+            self.assertFalse(self.starred())
+        self.press("Book")
+        self.press("New book")
+        self.assertNotIn("not saved", self.text("notice"))
+
+    def test_07_names_in_no_file_stay_unsaved_after_a_reload(self):
+        """Those that the browser remembers count as saved if they came from a file, and not if they were only typed."""
+        self.drop(("cabin.book", BOOK), ("cabin.book.names", NAMES))
+        self.load()
+        self.press("Go on with it")
+        self.assertFalse(self.starred())
+        self.load()
+        self.press("Start fresh")
+        self.drop(("cabin.book", BOOK))
+        self.assertEqual((self.value("name of source 1"), self.starred()), ("rear view", False))
+        self.write("name of source 1", "front")
+        self.assertTrue(self.starred())
+        self.load()
+        self.press("Go on with it")
+        self.assertTrue(self.starred())
+        self.load()
+        self.press("Start fresh")
+        self.drop(("cabin.book", BOOK))
+        self.assertEqual((self.value("name of source 1"), self.starred()), ("front", True))
+
+    def test_07_a_second_photograph_of_the_same_name_is_another(self):
+        one, two = self.picture(30, 40), self.picture(50, 40)
+        self.drop_typed(("cabin.book", BOOK, ""), ("cabin.book.names", NAMES + b"photograph view.png\n", ""), ("view.png", one, "image/png"))
+        self.assertFalse(self.starred())
+        self.photograph("view.png", two)
+        self.assertTrue(self.starred())
+        self.press("Book")
+        self.press("New book")
+        self.assertIn("The photograph of cabin.book is not saved.", self.text("notice"))
+        self.press("Keep cabin.book as it is here")
+        self.press("Save")
+        self.assertEqual((self.saved("view.png"), self.starred()), (two, False))
+        self.press("Undo")
+        self.assertTrue(self.starred(), "the file has the other picture now")
+        self.press("Save")
+        self.assertEqual((self.saved("view.png"), self.starred()), (one, False))
+
+    def test_07_a_converted_or_renamed_book_has_its_photograph(self):
+        picture = self.picture(30, 40)
+        files = [("cabin.book", BOOK, ""), ("cabin.book.names", NAMES + b"photograph view.png\n", ""), ("view.png", picture, "image/png")]
+        changes = {"cabin-second-edition.book": lambda: self.press("Convert to the second edition"), "other.book": lambda: self.write("File name", "other.book")}
+        for name, change in changes.items():
+            self.drop_typed(*files)
+            change()
+            self.press("Save")
+            self.assertIn(f"{name}, {name}.names and view.png were given to the browser", self.text("notice"))
+            self.assertEqual((self.saved("view.png"), self.starred()), (picture, False))
+            self.press("Save")
+            self.assertNotIn("view.png", self.text("notice"))
