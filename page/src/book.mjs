@@ -136,6 +136,7 @@ export class BookPanel {
         this.presetName.value = '';
         this.first = number - number % ROWS;
         store.markWordKept(number);
+        this.app.panels.sheet.headings.keep();
         this.#say(make('p', {}, `Appended as preset ${number}. ${dropped}The book is not saved yet.`));
         return true;
     }
@@ -152,7 +153,7 @@ export class BookPanel {
         }
         const name = convertedName(state.book.name, 3 - edition);
         const { state: { names }, dropped } = settled(library, state);
-        store.change({ book: { name, edition: 3 - edition, bytes: value }, names, photograph: elsewhere(state) });
+        store.change({ book: { ...state.book, name, edition: 3 - edition, bytes: value, file: null }, names, photograph: elsewhere(state) });
         this.#say(make('p', {}, `Converted to the ${editionName(3 - edition)}, as ${name}. ${dropped}The book is not saved yet.`));
     }
 
@@ -162,7 +163,7 @@ export class BookPanel {
         const lost = store.wordUnsaved;
         ui.selected = -1;
         // A title and remarks were written for the sheet of one preset.
-        if (!samePreset(state, preset)) this.app.panels.sheet.clear();
+        if (!samePreset(state, preset)) this.app.panels.sheet.headings.leave();
         store.change({ ...change, word: preset.word });
         store.markWordKept(preset.number);
         if (lost) this.#say(make('p', {}, 'The word before was in no book. Undo brings it back.'));

@@ -16,24 +16,27 @@ function bytesIn(text) {
     return Uint8Array.from(atob(text), character => character.charCodeAt(0));
 }
 
-/** A state as text, with whether its book, its names and its photograph are on a disk, and text of the field that is no word. */
-export function draftOf(state, { saved, savedNames, savedPhotograph, typed, time }) {
+/**
+ * A state as text, with whether its book, its names and its photograph are on a disk, text of the field that is no word, and titles and
+ * remarks of the sheets.
+ */
+export function draftOf(state, { saved, savedNames, savedPhotograph, typed, headings = [], time }) {
     const { kind, rank, word, names, book, kept, photograph = null } = state;
-    const { name, edition, bytes } = book;
-    const parts = { time, kind, rank, word: Array.from(word), names: texted(writeNames(names)), kept, photograph, saved, savedNames, savedPhotograph, typed };
-    return JSON.stringify({ ...parts, book: { name, edition, bytes: texted(bytes) } });
+    const { name, edition, bytes, opened } = book;
+    const parts = { time, kind, rank, word: Array.from(word), names: texted(writeNames(names)), kept, photograph, saved, savedNames, savedPhotograph, typed, headings };
+    return JSON.stringify({ ...parts, book: { name, edition, bytes: texted(bytes), opened } });
 }
 
 /** What a draft holds as parts of a state, or null where the library does not take it, or nothing was worked on. */
 export function readDraft(library, text) {
     try {
-        const { time, kind, rank, word, names, book, kept, photograph = null, saved, savedNames, savedPhotograph, typed } = JSON.parse(text);
+        const { time, kind, rank, word, names, book, kept, photograph = null, saved, savedNames, savedPhotograph, typed, headings = [] } = JSON.parse(text);
         const bytes = bytesIn(book.bytes);
         library.window(kind, rank, word);
         library.bookCheck(book.edition, bytes);
-        const state = { kind, rank, word, names: readNames(bytesIn(names)), book: { name: String(book.name), edition: book.edition, bytes }, kept, photograph };
+        const state = { kind, rank, word, names: readNames(bytesIn(names)), book: { name: String(book.name), edition: book.edition, bytes, ...(book.opened && { opened: String(book.opened) }) }, kept, photograph };
         const empty = word.length === 0 && bytes.length === 0 && state.names.lines.length === 0 && typed === null;
-        return empty ? null : { time, state, saved, savedNames, savedPhotograph, typed };
+        return empty ? null : { time, state, saved, savedNames, savedPhotograph, typed, headings };
     } catch {
         return null;
     }

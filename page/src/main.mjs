@@ -64,7 +64,7 @@ class App {
         showProved(panel('proved'), about);
         this.tabs = new Tabs(tab => this.show({ tab }));
         this.terms = new Terms();
-        this.draft = new Draft(library, () => ({ state: this.state, ...this.shelf.marks, typed: this.composing.refusedText }));
+        this.draft = new Draft(library, () => ({ state: this.state, ...this.shelf.marks, typed: this.composing.refusedText, headings: this.panels.sheet.headings.of(this.state.book) }));
         this.others = new OtherTabs(also => (byId('other-tab').hidden = !also));
         this.store.listen((state, old) => this.#changed(state, old));
         this.#listen();
@@ -90,7 +90,8 @@ class App {
     }
 
     #takeUp(offered) {
-        const { state, typed } = offered.draft;
+        const { state, typed, headings } = offered.draft;
+        this.panels.sheet.headings.takeUp(headings);
         this.store.change({ ...FIRST_STATE, ...state });
         this.shelf.mark(offered.draft);
         if (typed !== null) this.composing.type(typed);
@@ -125,6 +126,7 @@ class App {
         this.times.calls = performance.now() - start;
         if (this.ui.selected >= state.word.length) this.ui.selected = -1;
         this.picture.follow(old.word, state.word);
+        this.panels.sheet.follow();
         this.refresh();
         this.times.drawing = performance.now() - start - this.times.calls;
         const kept = ['kind', 'rank', 'names', 'book'].every(part => state[part] === old[part]);

@@ -1,7 +1,8 @@
 // A sheet to print for the training record: of the present preset, or of the whole book.
 import { shownPhotograph } from './cabin.mjs';
 import { cabinPicture } from './cabin_picture.mjs';
-import { button, make } from './dom.mjs';
+import { button, make, put } from './dom.mjs';
+import { Headings } from './headings.mjs';
 import { attempt } from './library.mjs';
 import { marginRules } from './margins.mjs';
 import { nameOf, placesOf } from './names.mjs';
@@ -20,11 +21,12 @@ const CABIN_HIGH = 330;
 export class SheetPanel {
     constructor(app, root) {
         this.app = app;
-        const oninput = () => this.update();
+        this.headings = new Headings();
+        const oninput = () => this.#typed();
         const labelled = (text, input) => make('label', { class: 'field grow' }, make('span', {}, text), input);
         this.title = make('input', { type: 'text', id: 'sheet-title', oninput });
         this.remarks = make('textarea', { id: 'sheet-remarks', rows: 2, oninput });
-        this.whole = make('input', { type: 'checkbox', id: 'sheet-whole', onchange: oninput });
+        this.whole = make('input', { type: 'checkbox', id: 'sheet-whole', onchange: () => this.update() });
         this.sheet = make('article', { class: 'sheet', id: 'sheet' });
         /** What the pages say in their margins. */
         this.margins = make('style', {});
@@ -33,14 +35,30 @@ export class SheetPanel {
         root.append(make('div', { class: 'bar no-print' }, fields, print), this.margins, this.sheet);
     }
 
-    clear() {
-        this.title.value = this.remarks.value = '';
+    #typed() {
+        this.headings.keep({ title: this.title.value, remarks: this.remarks.value });
+        this.app.draft.writeSoon();
+        this.update();
+    }
+
+    get #isWhole() {
+        return this.whole.checked && this.app.state.book.bytes.length > 0;
+    }
+
+    /** Title and remarks are those of the present book and preset, also if the sheet is not looked at. */
+    follow() {
+        const { state, store } = this.app;
+        this.headings.follow(state, this.#isWhole, store.preset === null);
+        const { title, remarks } = this.headings.shown;
+        put(this.title, 'value', title);
+        put(this.remarks, 'value', remarks);
     }
 
     /** On the screen, or for the printer. */
     update(printed = false) {
         const { library, state, composing } = this.app;
         const { edition, bytes } = state.book;
+        this.follow();
         const presets = bytes.length > 0 ? attempt(() => library.presets(edition, bytes)).value ?? [] : [];
         this.whole.disabled = presets.length === 0;
         this.margins.textContent = '';

@@ -3,7 +3,7 @@ import { countText, editionsOf, presetIn, refusedText, verdictsOf } from './book
 import { shownPhotograph } from './cabin.mjs';
 import { button, byId } from './dom.mjs';
 import { pickFiles, readFiles, saveFile, writeTo } from './files.mjs';
-import { rememberedNames } from './memory.mjs';
+import { printOf, rememberedNames } from './memory.mjs';
 import { NO_NAMES, photographOf, rigNames, withPhotograph, withRigNamesOf, writeNames } from './names.mjs';
 import { photographName } from './photographs.mjs';
 import { Saved } from './saved.mjs';
@@ -92,7 +92,6 @@ export class Shelf {
         const go = () => {
             app.notice('');
             app.panels.book.begin();
-            app.panels.sheet.clear();
             app.store.change(state);
             this.#markSaved(state.names);
             done();
@@ -231,7 +230,8 @@ export class Shelf {
             const stays = `${app.state.book.name} stays as it is.`;
             return app.notice(`${book.name} is no preset book and was not opened: ${refusedText(verdicts)} ${stays}`);
         }
-        const go = edition => this.#put({ name: book.name, edition, bytes: book.bytes, file: book.file ?? null }, names, wrong, photograph);
+        const opened = book === NEW_BOOK ? `new ${Math.random()}` : `${book.name} ${printOf(book.bytes)}`;
+        const go = edition => this.#put({ name: book.name, edition, bytes: book.bytes, file: book.file ?? null, opened }, names, wrong, photograph);
         const choose = () => (passing.length === 1 ? go(passing[0]) : this.#askEdition(book, go));
         if (this.unsaved) this.#askFirst(book, choose);
         else choose();

@@ -21,6 +21,7 @@ export const FIRST_STATE = Object.freeze({
     kept: null,
     /** The word of the simpler preset of a fallback. */
     simpler: Object.freeze([]),
+    /** The book: name, edition, bytes, the handles of its files, and as what it was opened, which a new name does not change. */
     book: NEW_BOOK,
     /** The photograph of the cabin: its file name, its key among the photographs, and whether it lies beside the book; or null. */
     photograph: null,

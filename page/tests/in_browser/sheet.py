@@ -77,7 +77,7 @@ class Sheet(PageTest):
         self.press("Book")
         self.press("load preset 0")
         self.press("Sheet")
-        self.assertNotIn("Reversing", self.text("sheet"))
+        self.assertIn("Reversing", self.text("sheet"))
         self.assertIn("new.book, second edition, preset 0", self.text("sheet"))
         self.assertIn(hashlib.sha256(bytes(self.js("return [...app.state.book.bytes]"))).hexdigest(), self.text("sheet"))
 
