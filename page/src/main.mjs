@@ -39,8 +39,8 @@ class App {
     #stale = false;
     #pressed = false;
     #waiting = 0;
-    /** Whether the sentence at the top goes with the next change. */
-    #passing = false;
+    /** With which change, by the state after it and the one before, the sentence at the top goes; null if it stays. */
+    #passing = null;
 
     constructor(library, about) {
         [this.library, this.about] = [library, about];
@@ -119,7 +119,7 @@ class App {
     }
 
     #changed(state, old) {
-        this.passNotice();
+        this.passNotice(old);
         this.examples?.leave();
         const start = performance.now();
         if (state.word !== old.word || state.kind !== old.kind || state.rank !== old.rank) this.#answer();
@@ -130,8 +130,7 @@ class App {
         this.refresh();
         this.times.drawing = performance.now() - start - this.times.calls;
         const kept = ['kind', 'rank', 'names', 'book'].every(part => state[part] === old[part]);
-        // A mark of what is saved is told as a change to the same state.
-        if (!kept || state === old) remember(state, !this.shelf.namesUnsaved);
+        if (!kept) remember(state, !this.shelf.namesUnsaved);
         this.draft.writeSoon();
     }
 
@@ -255,19 +254,24 @@ class App {
     }
 
     /** A sentence about what is over now goes. */
-    passNotice() {
-        if (this.#passing) this.notice('');
+    passNotice(old = this.state) {
+        if (this.#passing?.(this.state, old)) this.notice('');
     }
 
     /** A sentence that goes with the next change. */
     noticeOnce(text, ...buttons) {
+        this.noticeUntil(() => true, text, ...buttons);
+    }
+
+    /** A sentence that goes with such a change. */
+    noticeUntil(passing, text, ...buttons) {
         this.notice(text, ...buttons);
-        this.#passing = true;
+        this.#passing = passing;
     }
 
     /** A sentence at the top of the page, with what can be done about it. */
     notice(text, ...buttons) {
-        this.#passing = false;
+        this.#passing = null;
         byId('notice').replaceChildren(...(text ? [make('span', {}, text), ...buttons] : []));
         byId('notice').hidden = text === '';
     }

@@ -1,14 +1,12 @@
-// Books and their names from files and into files: what is opened in place of what, and what was saved.
+// Books and their names from files: what is opened in place of what.
 import { countText, editionsOf, presetIn, refusedText, verdictsOf } from './book.mjs';
-import { shownPhotograph } from './cabin.mjs';
 import { button, byId } from './dom.mjs';
-import { pickFiles, readFiles, saveFile, writeTo } from './files.mjs';
+import { pickFiles, readFiles } from './files.mjs';
 import { printOf, rememberedNames } from './memory.mjs';
-import { NO_NAMES, photographOf, rigNames, withPhotograph, withRigNamesOf, writeNames } from './names.mjs';
+import { NO_NAMES, photographOf, rigNames, withPhotograph, withRigNamesOf } from './names.mjs';
 import { photographName } from './photographs.mjs';
-import { Saved } from './saved.mjs';
+import { Saving } from './saving.mjs';
 import { NEW_BOOK } from './state.mjs';
-import { listed } from './text.mjs';
 
 /** The handle of a names file that lies beside a book; that of another book's names is not written to. */
 function handleFor(book, namesFile) {
@@ -22,57 +20,7 @@ function withPicture(names, photograph) {
     return { names: used ? withPhotograph(names, used.file) : names, photograph: used };
 }
 
-export class Shelf {
-    #saved = new Saved();
-
-    constructor(app) {
-        this.app = app;
-    }
-
-    get namesUnsaved() {
-        return !this.#saved.isNamesSaved(this.app.state);
-    }
-
-    /** A photograph that is not here cannot be saved. */
-    get #photographUnsaved() {
-        return !this.#saved.isPhotographSaved(this.app.state) && shownPhotograph(this.app) !== null;
-    }
-
-    /** Whether anything of book, names and photograph is in no file. */
-    get unsaved() {
-        return this.#unsavedText !== '';
-    }
-
-    /** What of them is in a file, for the draft, and back from there. */
-    get marks() {
-        const { store, state } = this.app;
-        return { saved: !store.bookUnsaved, savedNames: !this.namesUnsaved, savedPhotograph: this.#saved.isPhotographSaved(state) };
-    }
-
-    mark({ saved, savedNames, savedPhotograph }) {
-        const { state, store } = this.app;
-        if (savedNames) this.#saved.markNames(state.book, state.names);
-        if (savedPhotograph) this.#saved.markPhotograph(state);
-        if (saved) store.markBookSaved();
-    }
-
-    /** What came from files, or can be had again, is saved as it is. A new book leaves what is known of files as it is. */
-    #markSaved(names, photograph = null) {
-        const { state, store } = this.app;
-        if (state.book.bytes === NEW_BOOK.bytes) return;
-        this.#saved.markNames(state.book, names);
-        if (photograph?.beside) this.#saved.markPhotograph(state);
-        store.markBookSaved();
-    }
-
-    /** What of book, names and photograph is in no file, in a sentence; '' where there is nothing. */
-    get #unsavedText() {
-        const { state: { book }, store } = this.app;
-        if (store.bookUnsaved) return `${book.name} is not saved.`;
-        if (this.namesUnsaved) return `The names of ${book.name} are not saved.`;
-        return this.#photographUnsaved ? `The photograph of ${book.name} is not saved.` : '';
-    }
-
+export class Shelf extends Saving {
     /** Lets the user choose files, and takes them. */
     async choose() {
         const picked = await pickFiles(byId('file'));
@@ -83,7 +31,7 @@ export class Shelf {
     get #onlyHere() {
         const { store, composing } = this.app;
         const inNoBook = !store.bookUnsaved && (store.wordUnsaved || composing.fault);
-        return inNoBook ? 'The present word is in no book.' : this.#unsavedText;
+        return inNoBook ? 'The present word is in no book.' : this.unsavedText;
     }
 
     /** Another state in place of all that is worked on, which is asked about first. It counts as saved, since it can be had again. */
@@ -93,81 +41,12 @@ export class Shelf {
             app.notice('');
             app.panels.book.begin();
             app.store.change(state);
-            this.#markSaved(state.names);
+            this.markSaved(state.names);
             done();
         };
         const only = this.#onlyHere;
         if (only === '') return go();
         app.notice(only, button(`Take ${title} all the same`, go), button(`Keep ${app.state.book.name} as it is here`, () => app.notice('')));
-    }
-
-    /**
-     * Saves the book and its names: to the files that they were opened from where the browser lets the page do that, otherwise, or
-     * as new files, by handing both to the browser. A word that is not in the book is asked about, as it would not be in the file.
-     */
-    async save({ asked = false, anew = false } = {}) {
-        const { app } = this;
-        if (!app.hasWord('Nothing was saved')) return;
-        if (app.store.wordUnsaved && !asked) {
-            return app.notice('The present word is not in the book yet.',
-                button('Append it and save', () => this.#appendAndSave(anew)), button('Save without it', () => this.save({ asked: true, anew })));
-        }
-        const { book, names } = app.state;
-        const parts = [{ name: book.name, bytes: book.bytes, handle: anew ? null : book.file?.book }];
-        if (names.lines.length > 0 || this.#saved.hasNames(book)) parts.push({ name: `${book.name}.names`, bytes: writeNames(names), handle: anew ? null : book.file?.names, names });
-        parts.push(...this.#photographPart(anew));
-        for (const part of parts) {
-            // Names are not left beside a book that they do not fit.
-            if (parts[0].fault) part.fault = 'the book was not';
-            else if (part.handle) part.fault = await writeTo(part.handle, part.bytes);
-            else saveFile(part.name, part.bytes);
-        }
-        for (const part of parts.filter(({ fault }) => !fault)) {
-            if (part.names) this.#saved.markNames(book, part.names);
-            if (part.state) this.#saved.markPhotograph(part.state);
-        }
-        if (!parts[0].fault) app.store.markBookSaved(book);
-        app.panels.book.unsay();
-        app.refresh();
-        this.#saySaved(parts);
-    }
-
-    /** A photograph that was chosen here is saved once. One that lies beside the book is not written again, but for a new book's file. */
-    #photographPart(anew) {
-        const { state } = this.app;
-        const picture = shownPhotograph(this.app);
-        if (!picture || (!anew && this.#saved.isPhotographSaved(state))) return [];
-        return [{ name: state.photograph.file, bytes: picture.blob, state }];
-    }
-
-    /** Which files were saved, which went to the browser, and which were not saved. */
-    #saySaved(parts) {
-        const told = (list, one, many) => (list.length === 0 ? '' : `${listed(list.map(part => part.name))} ${list.length === 1 ? one : many} `);
-        const lost = parts.filter(part => part.fault);
-        const given = parts.filter(part => !part.fault && !part.handle);
-        const texts = [
-            told(parts.filter(part => !part.fault && part.handle), 'was saved.', 'were saved.'),
-            told(given, 'was given to the browser, which puts it with its downloads.', 'were given to the browser, which puts them with its downloads.'),
-            ...given.filter(part => part.state && parts[0].handle).map(part => `Put ${part.name} beside the book. `),
-            ...lost.map(part => `${part.name} was NOT saved: ${part.fault}. `),
-        ];
-        const again = part => button(`${part.fault ? 'Save' : 'Give'} ${part.name} ${part.fault ? 'as a new file' : 'once more'}`, () => this.#saveAnew(part));
-        this.app.notice(texts.join('').trim(), ...(given.length > 1 ? given.map(again) : []), ...lost.map(again));
-    }
-
-    /** One file by the browser. It is saved with that if nothing was changed since. */
-    #saveAnew({ name, bytes }) {
-        const { app } = this;
-        saveFile(name, bytes);
-        if (bytes === app.state.book.bytes) app.store.markBookSaved();
-        app.notice(`${name} was given to the browser, which puts it with its downloads.`);
-    }
-
-    #appendAndSave(anew) {
-        const { app } = this;
-        app.notice('');
-        app.tabs.choose('book');
-        if (app.panels.book.append()) this.save({ anew });
     }
 
     /** Takes files that were chosen or dropped. */
@@ -179,7 +58,7 @@ export class Shelf {
         const { photograph, fault } = await this.#photographOf(pictures, names);
         if (book) return this.open({ ...book, file: { book: book.handle, names: handleFor(book, namesFile) } }, names, wrong ?? fault, photograph);
         const present = app.state.book;
-        this.#saved.markNames(present, names);
+        this.saved.markNames(present, names);
         const file = { book: present.file?.book ?? null, names: handleFor(present, namesFile) };
         app.store.change({ ...withPicture(names, photograph), book: { ...present, file } });
         const said = `The names of ${namesFile.name} are those of ${app.state.book.name} now. Undo brings the others back.`;
@@ -244,7 +123,7 @@ export class Shelf {
         app.panels.book.begin();
         const { known, saved } = wrong || book.bytes === NEW_BOOK.bytes ? { known: null } : rememberedNames(book);
         store.change({ book, kept: presetIn(app.library, book, state), ...withPicture(names ?? known ?? NO_NAMES, photograph) });
-        this.#markSaved(names ?? (saved ? known : null), photograph);
+        this.markSaved(names ?? (saved ? known : null), photograph);
         app.tabs.choose('book');
         if (!names && !wrong) this.#sayNames(state, known);
         else if (!wrong) this.#sayMissing();
@@ -265,7 +144,7 @@ export class Shelf {
         const { app } = this;
         const present = app.state.book.name;
         const go = book === NEW_BOOK ? 'Start a new book all the same' : `Open the file ${book.name} all the same`;
-        app.notice(this.#unsavedText, button(go, open), button(`Keep ${present} as it is here`, () => app.notice('')));
+        app.notice(this.unsavedText, button(go, open), button(`Keep ${present} as it is here`, () => app.notice('')));
     }
 
     /** Names belong to a book: one that came without any has those that it had here before, or none, and may take over others. */

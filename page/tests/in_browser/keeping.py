@@ -206,3 +206,26 @@ class Keeping(PageTest):
             self.press("Sheet")
             self.assertEqual((self.text("book-title"), self.heading()), ("new.book (second edition)", ("", "")))
             self.write("Title", "Lesson of a new book")
+
+    def test_07_what_is_given_once_more_is_what_is_here_now(self):
+        self.drop(("cabin.book", BOOK), ("cabin.book.names", NAMES))
+        self.press("Save")
+        self.assertEqual(self.saved("cabin.book"), BOOK)
+        self.saved("cabin.book.names")
+        self.press("remove preset 0")
+        self.press("Give cabin.book once more")
+        self.assertEqual(self.saved("cabin.book"), bytes(self.js("return [...app.state.book.bytes]")))
+        self.assertFalse(self.starred())
+        self.write("File name", "other.book")
+        self.assertEqual(self.text("notice"), "", "the other name has another file")
+
+    def test_07_names_that_are_saved_as_a_new_file_are_saved(self):
+        self.pick({"cabin.book": BOOK, "cabin.book.names": NAMES}, denied="cabin.book.names")
+        self.write("name of source 1", "front")
+        self.press("Save")
+        self.assertTrue(self.starred())
+        self.press("Save cabin.book.names as a new file")
+        self.assertEqual(self.saved("cabin.book.names"), NAMES.replace(b"rear view", b"front"))
+        self.assertFalse(self.starred())
+        self.assertIn("cabin.book was saved. cabin.book.names was given to the browser", self.text("notice"))
+        self.assertFalse(self.asks_before_leaving())
