@@ -87,7 +87,7 @@ export class BookPanel {
         this.convert = button('', () => this.#convert(), { id: 'convert' });
         root.append(
             make('div', { class: 'bar' },
-                button('Open a file', () => app.shelf.choose()), button('New book', () => app.shelf.open(NEW_BOOK, null)),
+                button('Open a file', () => app.shelf.choose()), button('New book', () => app.shelf.open(NEW_BOOK)),
                 button('Examples', () => app.examples.bringBack(), { id: 'bring-examples' }),
                 make('label', { class: 'field' }, make('span', {}, 'File name'), this.name)),
             make('p', { class: 'quiet' }, 'A book, with its .names file and the photograph of its cabin, can also be dropped anywhere on this page.'),

@@ -14,42 +14,60 @@ async function bytesOf(file, most) {
     return new Uint8Array(await file.slice(0, most).arrayBuffer());
 }
 
+/** A names file as it was read: its name and handle, with its names, or what is wrong with them. A file that cannot be read throws. */
+async function namesFrom({ file, handle = null }) {
+    const bytes = await bytesOf(file, 1048577);
+    try {
+        return { name: file.name, handle, names: readNames(bytes), fault: null };
+    } catch (error) {
+        if (!(error instanceof WrongNames)) throw error;
+        return { name: file.name, handle, names: null, fault: `${file.name}, ${error.message}. None of its names is used.` };
+    }
+}
+
+/** Which of several names files is that of a book: the one that is named after it, and no other. With what has to be said of the rest. */
+function chosenFor(book, files) {
+    if (files.length <= 1) return { chosen: files[0] ?? null, said: [] };
+    const own = files.filter(({ name }) => name === `${book}.names`);
+    if (own.length === 1) {
+        const rest = files.filter(file => file !== own[0]);
+        return { chosen: own[0], said: rest.map(({ name }) => `${name} is not used: the names of ${book} are those of ${own[0].name}.`) };
+    }
+    const why = own.length === 0 ? `none is called ${book}.names` : `${own.length} are called ${book}.names`;
+    return { chosen: null, said: [`None of the ${files.length} names files is used: ${why}.`] };
+}
+
 /**
- * The book, the names and the pictures among the files that were opened together, each with its handle where the browser gives one; a
- * wrong names file is told, and none of its names used. Of several books, or where a file cannot be read, as a folder cannot, nothing is
- * opened. A picture is known by its type, or by its name in the names: in those that came with it, else in the present ones.
+ * The book, the names and the pictures among the files that were opened together, each with its handle where the browser gives one, and
+ * what has to be said of them; of a wrong names file no name is used. Of several books, or where a file cannot be read, as a folder
+ * cannot, nothing is opened. A picture is known by its type, or by its name in the names: in those that came with it, else in the
+ * present ones.
  */
 export async function readFiles(all, present) {
-    const none = wrong => ({ book: null, names: null, namesFile: null, pictures: [], wrong });
     const items = all.filter(({ file }) => !isLeft(file.name));
-    const read = none(await leftText(all));
+    const left = [await leftText(all)].filter(text => text);
+    const none = wrong => ({ book: null, names: null, namesFile: null, pictures: [], said: [...left, wrong] });
     const [named, others] = [true, false].map(side => items.filter(({ file }) => isNamesFile(file.name) === side));
-    const fault = async (file, action) => {
-        try {
-            return await action();
-        } catch (error) {
-            if (!(error instanceof WrongNames)) return `${file.name} cannot be read. Is it a file?`;
-            read.wrong = `${file.name}, ${error.message}. None of its names is used.`;
+    let reading = null;
+    try {
+        const files = [];
+        for (const item of named) {
+            reading = item.file;
+            files.push(await namesFrom(item));
         }
-        return null;
-    };
-    for (const { file, handle = null } of named) {
-        const unread = await fault(file, async () => {
-            [read.names, read.namesFile] = [readNames(await bytesOf(file, 1048577)), { name: file.name, handle }];
-        });
-        if (unread) return none(unread);
+        const read = files.filter(({ names }) => names);
+        const photographs = (read.length > 0 ? read.map(({ names }) => names) : [present.names]).map(photographOf);
+        const books = others.filter(({ file }) => !isPicture(file) && !photographs.includes(file.name));
+        if (books.length > 1) return none(`These are ${books.length} books. One can be open at a time: open them one by one.`);
+        const pictures = others.filter(item => !books.includes(item)).map(({ file }) => file);
+        reading = books[0]?.file;
+        const book = reading ? { name: reading.name, bytes: await bytesOf(reading, MOST_READ), handle: books[0].handle ?? null } : null;
+        const { chosen, said } = chosenFor((book ?? present.book).name, files);
+        const wrong = chosen?.fault ? [chosen.fault] : [];
+        return { book, names: chosen?.names ?? null, namesFile: chosen, pictures, said: [...left, ...said, ...wrong], tried: files.length > 0 };
+    } catch {
+        return none(`${reading.name} cannot be read. Is it a file?`);
     }
-    const photograph = photographOf(read.names ?? present);
-    const books = others.filter(({ file }) => !isPicture(file) && file.name !== photograph);
-    read.pictures = others.map(({ file }) => file).filter(file => !books.some(book => book.file === file));
-    if (books.length > 1) return none(`These are ${books.length} books. One can be open at a time: open them one by one.`);
-    for (const { file, handle = null } of books) {
-        const unread = await fault(file, async () => {
-            read.book = { name: file.name, bytes: await bytesOf(file, MOST_READ), handle };
-        });
-        if (unread) return none(unread);
-    }
-    return read;
 }
 
 /** Hands bytes to the browser as a new file. */

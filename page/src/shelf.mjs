@@ -5,12 +5,30 @@ import { pickFiles, readFiles } from './files.mjs';
 import { printOf, rememberedNames } from './memory.mjs';
 import { NO_NAMES, photographOf, rigNames, withPhotograph, withRigNamesOf } from './names.mjs';
 import { photographName } from './photographs.mjs';
-import { Saving } from './saving.mjs';
+import { Saving, isOtherBook } from './saving.mjs';
 import { NEW_BOOK } from './state.mjs';
+
+/** Whether a names file is that of a book, by its name. */
+function isOwn(book, namesFile) {
+    return namesFile?.name === `${book.name}.names`;
+}
 
 /** The handle of a names file that lies beside a book; that of another book's names is not written to. */
 function handleFor(book, namesFile) {
-    return namesFile?.name === `${book.name}.names` ? namesFile.handle : null;
+    return isOwn(book, namesFile) ? namesFile.handle : null;
+}
+
+/** A photograph that came with another book's names may not lie beside this one. */
+function besideIf(own, photograph) {
+    return photograph && { ...photograph, beside: photograph.beside && own };
+}
+
+function isOtherPicture(state, old) {
+    return isOtherBook(state, old) || state.photograph !== old.photograph;
+}
+
+function areOtherNames(state, old) {
+    return isOtherPicture(state, old) || state.names !== old.names;
 }
 
 /** Names with a photograph that came with them, as parts of a state: one that they do not name is not used, unless they name none. */
@@ -52,17 +70,26 @@ export class Shelf extends Saving {
     /** Takes files that were chosen or dropped. */
     async take(items) {
         const { app } = this;
-        const { book, names, namesFile, pictures, wrong } = await readFiles(items, app.state.names);
-        app.notice(wrong ?? '');
-        if (!book && !names) return wrong ? undefined : this.#takePictures(pictures);
+        const { book, names, namesFile, pictures, said, tried } = await readFiles(items, app.state);
+        app.notice(said.join(' '));
+        if (!book && !names) return said.length > 0 ? undefined : this.#takePictures(pictures);
         const { photograph, fault } = await this.#photographOf(pictures, names);
-        if (book) return this.open({ ...book, file: { book: book.handle, names: handleFor(book, namesFile) } }, names, wrong ?? fault, photograph);
+        const came = { names, namesFile, photograph, tried, said: fault ? [...said, fault] : said };
+        if (!book) return this.#takeNames(came);
+        this.open({ ...book, file: { book: book.handle, names: handleFor(book, namesFile) } }, came);
+    }
+
+    /** Names that came without a book are those of the present one. Only a file that is named after it has them saved. */
+    #takeNames({ names, namesFile, photograph, said }) {
+        const { app } = this;
         const present = app.state.book;
-        this.saved.markNames(present, names);
+        const own = isOwn(present, namesFile);
         const file = { book: present.file?.book ?? null, names: handleFor(present, namesFile) };
-        app.store.change({ ...withPicture(names, photograph), book: { ...present, file } });
-        const said = `The names of ${namesFile.name} are those of ${app.state.book.name} now. Undo brings the others back.`;
-        if (!this.#sayMissing(said)) app.notice(`${said} ${fault ?? ''}`.trim());
+        if (own) this.saved.markNames(present, names);
+        app.store.change({ ...withPicture(names, besideIf(own, photograph)), book: { ...present, file } });
+        this.mark({ savedPhotograph: own && photograph?.beside });
+        const text = `The names of ${namesFile.name} are those of ${present.name} now${own ? '' : ', and not saved with it yet'}. Undo brings the others back.`;
+        if (!this.#sayMissing([text, ...said], areOtherNames)) app.noticeUntil(areOtherNames, [text, ...said].join(' '));
     }
 
     /** Pictures that came alone: the one that the names have is taken, any other is asked about. */
@@ -90,18 +117,18 @@ export class Shelf extends Saving {
         return { photograph: key ? { file: name, key, beside: name === file.name } : null, fault };
     }
 
-    /** A photograph that the names have and that did not come with them is asked for by its name. */
-    #sayMissing(before = '') {
+    /** A photograph that the names have and that did not come with them is asked for by its name, until such a change. */
+    #sayMissing(said, passing) {
         const { app } = this;
         const file = photographOf(app.state.names);
         if (file === '' || app.state.photograph) return false;
         const text = `The photograph of the cabin, ${file}, did not come with ${app.state.book.name}.`;
-        app.notice(`${before} ${text}`.trim(), button(`Choose the file ${file}`, () => app.panels.cabin.choosePhotograph()), button('Go on without it', () => app.notice('')));
+        app.noticeUntil(passing, [...said, text].join(' '), button(`Choose the file ${file}`, () => app.panels.cabin.choosePhotograph()), button('Go on without it', () => app.notice('')));
         return true;
     }
 
     /** Opens a book in place of the present one, which is asked about if it is not saved. What is no book is not opened. */
-    open(book, names, wrong = null, photograph = null) {
+    open(book, came = {}) {
         const { app } = this;
         const verdicts = verdictsOf(app.library, book.bytes);
         const passing = book === NEW_BOOK ? [NEW_BOOK.edition] : editionsOf(verdicts);
@@ -110,23 +137,27 @@ export class Shelf extends Saving {
             return app.notice(`${book.name} is no preset book and was not opened: ${refusedText(verdicts)} ${stays}`);
         }
         const opened = book === NEW_BOOK ? `new ${Math.random()}` : `${book.name} ${printOf(book.bytes)}`;
-        const go = edition => this.#put({ name: book.name, edition, bytes: book.bytes, file: book.file ?? null, opened }, names, wrong, photograph);
+        const go = edition => this.#put({ name: book.name, edition, bytes: book.bytes, file: book.file ?? null, opened }, came);
         const choose = () => (passing.length === 1 ? go(passing[0]) : this.#askEdition(book, go));
         if (this.unsaved) this.#askFirst(book, choose);
         else choose();
     }
 
-    #put(book, names, wrong, photograph) {
+    /** Puts a book here with the names that came with it, or with those that it had here before. */
+    #put(book, { names = null, namesFile = null, photograph = null, tried = false, said = [] }) {
         const { app } = this;
         const { state, store } = app;
-        app.notice(wrong ?? '');
         app.panels.book.begin();
-        const { known, saved } = wrong || book.bytes === NEW_BOOK.bytes ? { known: null } : rememberedNames(book);
-        store.change({ book, kept: presetIn(app.library, book, state), ...withPicture(names ?? known ?? NO_NAMES, photograph) });
-        this.markSaved(names ?? (saved ? known : null), photograph);
+        const { known, saved } = names || book.bytes === NEW_BOOK.bytes ? { known: null } : rememberedNames(book);
+        const own = isOwn(book, namesFile);
+        const kept = presetIn(app.library, book, state);
+        store.change({ book, kept, ...withPicture(names ?? known ?? NO_NAMES, photograph) });
+        const inFile = saved ? known : own ? names : null;
+        this.markSaved(inFile, photograph);
         app.tabs.choose('book');
-        if (!names && !wrong) this.#sayNames(state, known);
-        else if (!wrong) this.#sayMissing();
+        if (!names) return this.#sayNames(state, known, said, tried);
+        const all = own ? said : [...said, `The names are those of ${namesFile.name}, which is not named after ${book.name}: they are not saved with it yet.`];
+        if (!this.#sayMissing(all, isOtherPicture)) app.noticeUntil(own ? isOtherBook : areOtherNames, all.join(' '));
     }
 
     /** The edition is in no byte of a book: the few files that pass as both are asked about. */
@@ -148,19 +179,21 @@ export class Shelf extends Saving {
     }
 
     /** Names belong to a book: one that came without any has those that it had here before, or none, and may take over others. */
-    #sayNames(before, known) {
+    #sayNames(before, known, said, tried) {
         const { app } = this;
         const { name } = app.state.book;
+        const say = (passing, text, ...buttons) => app.noticeUntil(passing, [...said, text].join(' ').trim(), ...buttons);
         const set = parts => {
             app.store.change(parts);
             app.notice('');
         };
         if (known?.lines.length > 0) {
-            return app.notice(`${name} came without its names: those that it had here before are used.`, button('Use no names', () => set({ names: NO_NAMES, photograph: null })));
+            const text = tried ? `Those that ${name} had here before are used.` : `${name} came without its names: those that it had here before are used.`;
+            return say(areOtherNames, text, button('Use no names', () => set({ names: NO_NAMES, photograph: null })));
         }
-        if (rigNames(before.names).lines.length === 0) return;
+        if (rigNames(before.names).lines.length === 0) return say(isOtherBook, '');
         const old = before.book.name;
-        app.notice(`${name} has no names. Its sources and screens can have those of ${old}.`,
+        say(isOtherBook, `${name} has no names. Its sources and screens can have those of ${old}.`,
             button(`Take over the names of ${old}`, () => set(this.#takenOver(before))),
             button('Leave it without names', () => app.notice('')));
     }

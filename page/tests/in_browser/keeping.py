@@ -229,3 +229,69 @@ class Keeping(PageTest):
         self.assertFalse(self.starred())
         self.assertIn("cabin.book was saved. cabin.book.names was given to the browser", self.text("notice"))
         self.assertFalse(self.asks_before_leaving())
+
+    def test_07_of_two_names_files_that_of_the_book_is_used(self):
+        car, lorry = ("car.book.names", b"source 1 car\n"), ("lorry.book.names", b"source 1 lorry\n")
+        for files in [(car, lorry), (lorry, car)]:
+            self.drop(("car.book", BOOK), *files)
+            self.assertEqual((self.value("name of source 1"), self.starred()), ("car", False))
+            self.assertEqual(self.text("notice"), "lorry.book.names is not used: the names of car.book are those of car.book.names.")
+            self.drop(*files)
+            self.assertEqual((self.value("name of source 1"), self.starred()), ("car", False))
+        self.drop(("ship.book", BOOK), car, lorry)
+        self.assertIn("None of the 2 names files is used: none is called ship.book.names.", self.text("notice"))
+        self.assertEqual((self.text("book-title"), self.value("name of source 1")), ("ship.book (first edition)", ""))
+        self.drop(("car.book", self.other()), car, ("car.book.names", b"source 1 bus\n"))
+        self.assertIn("None of the 2 names files is used: 2 are called car.book.names.", self.text("notice"))
+        self.assertEqual(self.value("name of source 1"), "")
+
+    def test_07_names_of_another_book_are_not_saved_with_this_one(self):
+        lorry = ("lorry.book.names", b"source 1 lorry\n")
+        self.drop(("car.book", BOOK), lorry)
+        self.assertEqual(self.text("notice"), "The names are those of lorry.book.names, which is not named after car.book: they are not saved with it yet.")
+        self.assertEqual((self.value("name of source 1"), self.starred()), ("lorry", True))
+        self.press("Save")
+        self.assertEqual((self.saved("car.book.names"), self.starred()), (lorry[1], False))
+        self.drop(("car.book", BOOK), ("car.book.names", NAMES))
+        self.assertFalse(self.starred())
+        self.drop(lorry)
+        self.assertEqual(self.text("notice"), "The names of lorry.book.names are those of car.book now, and not saved with it yet. Undo brings the others back.")
+        self.assertTrue(self.starred())
+        self.press("Undo")
+        self.assertEqual((self.text("notice"), self.value("name of source 1"), self.starred()), ("", "rear view", False))
+        self.drop(("car.book.names", b"source 1 car\n"))
+        self.assertEqual(self.text("notice"), "The names of car.book.names are those of car.book now. Undo brings the others back.")
+        self.assertFalse(self.starred())
+
+    def test_07_names_that_the_browser_remembers_stay(self):
+        """Whatever else comes with the book: a picture that cannot be read, or a names file that is wrong."""
+        self.drop(("cabin.book", BOOK), ("cabin.book.names", NAMES))
+        wrong = {("view.png", b"no picture", "image/png"): "view.png cannot be read as a picture. Choose a JPEG, PNG or WebP file. cabin.book came without its names: those that it had here before are used.",
+                 ("cabin.book.names", b"source 0 sky\n", ""): "None of its names is used. Those that cabin.book had here before are used."}
+        for file, sentence in wrong.items():
+            for _ in range(2):
+                self.drop_typed(("cabin.book", BOOK, ""), file)
+                self.assertIn(sentence, self.text("notice"))
+                self.assertEqual((self.value("name of source 1"), self.starred()), ("rear view", False))
+        self.drop_typed(("other.book", self.other(), ""), ("view.png", b"no picture", "image/png"))
+        self.assertIn("view.png cannot be read as a picture.", self.text("notice"))
+        self.press("Take over the names of cabin.book")
+        self.assertEqual(self.value("name of source 1"), "rear view")
+
+    def test_07_sentences_about_names_go_when_they_are_over(self):
+        self.drop(("cabin.book", BOOK), ("cabin.book.names", NAMES))
+        self.drop(("cabin.book", BOOK))
+        self.assertIn("those that it had here before are used.", self.text("notice"))
+        self.press("load preset 0")
+        self.assertIn("those that it had here before are used.", self.text("notice"))
+        self.write("name of source 1", "front")
+        self.assertEqual(self.text("notice"), "")
+
+    def test_07_names_that_were_set_aside_are_told_beside_other_names(self):
+        self.drop(("cabin.book", BOOK))
+        self.drop(("cabin.book.names", NAMES), ("cabin.book.names~", b"preset 1 Copy\n"))
+        self.assertIn("The names of cabin.book.names are those of cabin.book now.", self.text("notice"))
+        self.assertIn("cabin.book.names~ is not used: it may be an editor's copy.", self.text("notice"))
+        self.drop(("cabin.book", BOOK), ("lorry.book.names", NAMES), ("cabin.book.names~", b"preset 1 Copy\n"))
+        self.assertIn("cabin.book.names~ is not used: it may be an editor's copy.", self.text("notice"))
+        self.assertIn("The names are those of lorry.book.names", self.text("notice"))
