@@ -125,9 +125,9 @@ export function takeFiles(field, opened) {
         document.body.classList.add('dropping');
     });
     addEventListener('dragleave', event => event.relatedTarget === null && document.body.classList.remove('dropping'));
-    addEventListener('drop', async event => {
+    addEventListener('drop', event => {
         event.preventDefault();
         document.body.classList.remove('dropping');
-        if (event.dataTransfer.files.length > 0) opened(await dropped(event.dataTransfer));
+        if (event.dataTransfer.files.length > 0) opened(dropped(event.dataTransfer));
     });
 }

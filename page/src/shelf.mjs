@@ -39,6 +39,9 @@ function withPicture(names, photograph) {
 }
 
 export class Shelf extends Saving {
+    /** Counts what was begun: files that are still being read when something newer begins are given up. */
+    #turn = 0;
+
     /** Lets the user choose files, and takes them. */
     async choose() {
         const picked = await pickFiles(byId('file'));
@@ -55,6 +58,7 @@ export class Shelf extends Saving {
     /** Another state in place of all that is worked on, which is asked about first. It counts as saved, since it can be had again. */
     replaceAll(state, title, done) {
         const { app } = this;
+        this.#turn += 1;
         const go = () => {
             app.notice('');
             app.panels.book.begin();
@@ -67,13 +71,16 @@ export class Shelf extends Saving {
         app.notice(only, button(`Take ${title} all the same`, go), button(`Keep ${app.state.book.name} as it is here`, () => app.notice('')));
     }
 
-    /** Takes files that were chosen or dropped. */
+    /** Takes files that were chosen or dropped, or will be there soon. The last ones win. */
     async take(items) {
         const { app } = this;
-        const { book, names, namesFile, pictures, said, tried } = await readFiles(items, app.state);
+        const turn = ++this.#turn;
+        const { book, names, namesFile, pictures, said, tried } = await readFiles(await items, app.state);
+        if (turn !== this.#turn) return;
         app.notice(said.join(' '));
         if (!book && !names) return said.length > 0 ? undefined : this.#takePictures(pictures);
         const { photograph, fault } = await this.#photographOf(pictures, names);
+        if (turn !== this.#turn) return;
         const came = { names, namesFile, photograph, tried, said: fault ? [...said, fault] : said };
         if (!book) return this.#takeNames(came);
         this.open({ ...book, file: { book: book.handle, names: handleFor(book, namesFile) } }, came);
@@ -130,6 +137,7 @@ export class Shelf extends Saving {
     /** Opens a book in place of the present one, which is asked about if it is not saved. What is no book is not opened. */
     open(book, came = {}) {
         const { app } = this;
+        this.#turn += 1;
         const verdicts = verdictsOf(app.library, book.bytes);
         const passing = book === NEW_BOOK ? [NEW_BOOK.edition] : editionsOf(verdicts);
         if (passing.length === 0) {
