@@ -103,13 +103,13 @@ export class Draft {
         }
     }
 
-    /** The latest draft that was left, or null. */
+    /** The drafts that were left, the latest first. */
     get offered() {
-        return this.#others()[0] ?? null;
+        return this.#others();
     }
 
-    /** Forgets a draft that was taken up, or all that were left. */
-    discard(offered = null) {
-        for (const { key } of offered ? [offered] : this.#others()) this.#remove(key);
+    /** Forgets drafts that were taken up or are not wanted. */
+    discard(list) {
+        for (const { key } of list) this.#remove(key);
     }
 }

@@ -73,18 +73,21 @@ class App {
         this.examples = new FirstStart(this);
     }
 
-    /** What was left unfinished in this browser is offered, and stays until it is taken up or discarded. */
+    /** What was left unfinished in this browser is offered, and stays until it is taken up or discarded: all that is discarded is named. */
     #offerDraft() {
         const { offered } = this.draft;
-        if (!offered) return;
-        const { time, state } = offered.draft;
-        const date = new Date(time).toLocaleString('en-GB', { dateStyle: 'long', timeStyle: 'short' });
-        const count = this.library.bookCheck(state.book.edition, state.book.bytes);
-        const what = `${state.book.name} with ${counted(count, 'preset')} and a word of ${lengthText(state.word.length, 'letter', state.names)}`;
-        this.notice(`Your work of ${date} is kept in this browser: ${what}.`,
-            button('Go on with it', () => this.#takeUp(offered)),
+        if (offered.length === 0) return;
+        const dateOf = ({ draft }) => new Date(draft.time).toLocaleString('en-GB', { dateStyle: 'long', timeStyle: 'short' });
+        const whatOf = ({ draft: { state } }) => {
+            const count = this.library.bookCheck(state.book.edition, state.book.bytes);
+            return `${state.book.name} with ${counted(count, 'preset')} and a word of ${lengthText(state.word.length, 'letter', state.names)}`;
+        };
+        const [latest, ...older] = offered;
+        this.notice([`Your work of ${dateOf(latest)} is kept in this browser: ${whatOf(latest)}.`, ...older.map(one => `So is that of ${dateOf(one)}: ${whatOf(one)}.`)].join(' '),
+            button('Go on with it', () => this.#takeUp(latest)),
+            ...older.map(one => button(`Go on with ${one.draft.state.book.name} of ${dateOf(one)}`, () => this.#takeUp(one))),
             button('Start fresh', () => {
-                this.draft.discard();
+                this.draft.discard(offered);
                 this.notice('');
             }));
     }
@@ -95,7 +98,7 @@ class App {
         this.store.change({ ...FIRST_STATE, ...state });
         this.shelf.mark(offered.draft);
         if (typed !== null) this.composing.type(typed);
-        this.draft.discard(offered);
+        this.draft.discard([offered]);
         this.draft.write();
         this.notice('');
     }
