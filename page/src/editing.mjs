@@ -60,7 +60,7 @@ export function withDuplicate(library, state, { number, kind, rank, word }) {
     const last = library.bookCheck(edition, appended) - 1;
     const change = changed(state, library.moveTo(edition, appended, last, number + 1), old => (old > number ? old + 1 : old));
     const name = nameOf(state.names, 'preset', number);
-    return { ...change, names: withName(change.names, 'preset', number + 1, name && `${name.slice(0, 73)} (copy)`) };
+    return { ...change, names: withName(change.names, 'preset', number + 1, name && `${[...name].slice(0, 73).join('')} (copy)`) };
 }
 
 /** The present word of the present rig in the place of a preset, which keeps its name. */

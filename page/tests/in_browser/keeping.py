@@ -1,5 +1,6 @@
 """What is kept: nothing that is not saved goes without a question, and the star beside the book's name says what is saved."""
 import base64
+import time
 
 from selenium.webdriver.support.ui import WebDriverWait
 
@@ -295,3 +296,53 @@ class Keeping(PageTest):
         self.drop(("cabin.book", BOOK), ("lorry.book.names", NAMES), ("cabin.book.names~", b"preset 1 Copy\n"))
         self.assertIn("cabin.book.names~ is not used: it may be an editor's copy.", self.text("notice"))
         self.assertIn("The names are those of lorry.book.names", self.text("notice"))
+
+    def test_07_the_last_drop_wins(self):
+        """A large picture is still being read when another book is opened."""
+        slow = [("slow.book", BOOK, ""), ("view.png", self.picture(30, 40), "image/png")]
+        self.js("const make = createImageBitmap; window.createImageBitmap = async blob => { await new Promise(done => setTimeout(done, 900)); window.decoded = (window.decoded ?? 0) + 1; return make(blob); }")
+        later = [lambda: self.drop(("quick.book", self.other())), lambda: (self.press("Book"), self.press("New book"))]
+        for turn, (begin, name) in enumerate(zip(later, ["quick.book", "new.book"], strict=True), 1):
+            self.drop_typed(*slow)
+            begin()
+            self.assertIn(name, self.text("book-title"))
+            WebDriverWait(self.driver, 5).until(lambda _: self.js("return window.decoded") == turn)
+            time.sleep(0.3)
+            self.assertIn(name, self.text("book-title"))
+        self.drop_typed(*slow)
+        WebDriverWait(self.driver, 5).until(lambda _: "slow.book" in self.text("book-title"))
+
+    def test_07_a_fresh_start_discards_only_what_was_named(self):
+        first = self.driver.current_window_handle
+        self.word("1 2 5")
+        self.load()
+        self.drop(("cabin.book", BOOK))
+        self.load()
+        self.assertIn("cabin.book with 2 presets", self.text("notice"))
+        self.assertIn("new.book with 0 presets and a word of 3 letters", self.text("notice"))
+        labels = self.js("return [...document.querySelectorAll('#notice button')].map(e => e.textContent)")
+        self.assertRegex(labels[1], r"^Go on with new\.book of .* at ")
+        self.press(labels[1])
+        self.assertEqual(self.letters(), [1, 2, 5])
+        self.load()
+        self.driver.switch_to.new_window("tab")
+        try:
+            self.load()
+            self.drop(("later.book", BOOK))
+            self.js("app.draft.write()")
+        finally:
+            self.driver.close()
+            self.driver.switch_to.window(first)
+        self.press("Start fresh")
+        self.load()
+        self.assertIn("later.book with 2 presets", self.text("notice"))
+        self.assertNotIn("new.book", self.text("notice"))
+        self.assertNotIn("cabin.book", self.text("notice"))
+
+    def test_07_a_duplicate_has_no_half_characters(self):
+        name = "\U0001f69c" * 80
+        self.drop(("cabin.book", BOOK), ("cabin.book.names", f"preset 0 {name}\n".encode()))
+        self.press("duplicate preset 0")
+        self.assertEqual(self.value("name of preset 1"), name[:73] + " (copy)")
+        self.press("Save")
+        self.assertEqual(self.saved("cabin.book.names").decode(), f"preset 0 {name}\npreset 1 {name[:73]} (copy)\n")
