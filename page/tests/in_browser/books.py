@@ -374,7 +374,7 @@ class Books(PageTest):
         self.press("Use no names")
         self.assertEqual(value("name of source 1"), "")
         self.drop(("cabin1.book.names", b"source 1 Cabin 1 front\n"))
-        self.assertIn("The names of cabin1.book.names are those of cabin2.book now.", self.text("notice"))
+        self.assertIn("The names of cabin1.book.names are those of cabin2.book now, and not saved with it yet.", self.text("notice"))
         self.assertEqual(value("name of source 1"), "Cabin 1 front")
 
     def test_07_names_of_presets_that_the_book_does_not_have(self):
