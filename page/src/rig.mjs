@@ -16,12 +16,13 @@ export function rigOf({ kind, rank }) {
     return `${kind}${rank}`;
 }
 
-/** What remains of a state in another rig: the word if the rig takes it, and the failed steps that it has. */
+/** What remains of a state in another rig: the word if the rig takes it, and the failed steps that it has. The wanted picture is one of its rig. */
 export function inRig(library, state, kind, rank) {
     const { refusal } = attempt(() => library.window(kind, rank, state.word));
     const simpler = attempt(() => library.window(kind, rank, state.simpler)).refusal ? [] : state.simpler;
+    const wanted = rigOf(state) === rigOf({ kind, rank }) ? state.wanted : null;
     return {
-        change: { kind, rank, word: refusal ? [] : state.word, failed: state.failed.filter(step => step <= rank), wanted: null, simpler },
+        change: { kind, rank, word: refusal ? [] : state.word, failed: state.failed.filter(step => step <= rank), wanted, simpler },
         refusal,
     };
 }

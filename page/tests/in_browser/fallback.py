@@ -196,6 +196,25 @@ class Wanted(Subject):
         self.touch(self.labelled("Let it follow the picture above"))
         self.assertIsNone(self.js("return app.state.wanted"))
 
+    def test_loading_a_preset_of_the_same_rig_keeps_it(self):
+        self.word("1 2")
+        self.press("Book")
+        self.press("Append the present preset")
+        self.word("3 4")
+        self.press("Wanted picture")
+        self.press("mirror the view on screen 1")
+        wanted = self.js("return app.state.wanted")
+        self.press("Book")
+        self.press("load preset 0")
+        self.assertEqual((self.letters(), self.js("return app.state.wanted")), ([1, 2], wanted))
+        self.press("Wanted picture")
+        self.assertIn("stays, whatever becomes of the picture above", self.text("wanted-follows"))
+        self.assertEqual(self.js("return [...document.querySelectorAll('.cards li')].map(e => Number(e.dataset.entry))"), wanted)
+        self.press("Cabin")
+        self.assertEqual(Select(self.labelled("Compare with")).first_selected_option.text, "the wanted picture")
+        self.rig("B", 5)
+        self.assertIsNone(self.js("return app.state.wanted"))
+
     def test_it_leads_from_the_picture_shown(self):
         self.word("1 2")
         self.press("Wanted picture")
