@@ -142,12 +142,16 @@ export class WaysLeft {
             wanted !== null && make('p', {}, wantedText(names, differing(window, wanted)))].filter(Boolean);
     }
 
-    /** The way to the wanted picture; as long as that is the picture above, only the way from the straight one is a question. */
+    /**
+     * The way to the wanted picture. As long as that follows the picture above, or is that picture and failed modules keep it from being
+     * shown, only the way from the straight one is a question.
+     */
     #wanted() {
         const { library, state, answers } = this.app;
         const followed = state.wanted === null;
         const head = followed ? 'The way to the picture above over the modules left' : 'The way to the wanted picture over the modules left';
-        const starts = followed ? ['straight'] : ['present', 'straight'];
+        const unshown = !followed && sameLetters(state.wanted, answers.window) && state.word.some(step => state.failed.includes(step));
+        const starts = followed || unshown ? ['straight'] : ['present', 'straight'];
         const ways = starts.map(start => ({ start, ...wayTo(library, { ...state, wantedFrom: start }, state.wanted ?? answers.window) }));
         const [one, two] = ways.map(({ refusal }) => refusal?.number);
         // What is refused from both is said once.

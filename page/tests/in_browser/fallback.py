@@ -101,6 +101,20 @@ class Fallback(Subject):
         self.assertIn("From the picture above and from the straight picture: Without modules 1 and 5,", line.text)
         self.assertIn("From the wanted picture it differs on screen", self.text("ways-left"))
 
+    def test_a_wanted_picture_that_failed_modules_keep_from_being_shown(self):
+        self.word("2 1")
+        self.press("Wanted picture")
+        self.press("Set all screens as in the picture above")
+        self.press("Modules")
+        self.press(TWO)
+        self.assertIn("it cannot be shown as it is", self.text("failed-head"))
+        self.assertNotIn("no step is needed", self.text("ways-left"))
+        self.assertIn("From the straight picture: Without module 2, no steps lead to this picture.", self.text("ways-left"))
+        self.press(TWO)
+        self.press("module 5 has failed (exchanges lanes 4 and 5 and mirrors both)")
+        self.assertIn("it can be shown as it is", self.text("failed-head"))
+        self.assertIn("From the picture above: no step is needed, it is this picture already.", self.text("ways-left"))
+
     def test_failed_steps_that_come_before_are_told(self):
         self.word("2 1")
         self.press("Wanted picture")
