@@ -2,11 +2,12 @@
 // or a preset of the book.
 import { Arranging } from './arranging.mjs';
 import { cabinPicture, differenceText, differences } from './cabin_picture.mjs';
+import { hiddenText, unplacedText } from './covered.mjs';
 import { button, labelledField, make, put, setText } from './dom.mjs';
 import { labelled, photographOf, withPhotograph } from './names.mjs';
 import { isPicture, photographName } from './photographs.mjs';
-import { placesIn, shapeOf, unplaced } from './places.mjs';
-import { counted, listed } from './text.mjs';
+import { placesIn, shapeOf } from './places.mjs';
+import { counted } from './text.mjs';
 
 /** A cabin is drawn so wide at most, and so much of the window's height, in pixels. */
 const [WIDEST, SHARE] = [1600, 0.72];
@@ -27,13 +28,14 @@ export class CabinPanel {
         this.compare = labelledField('Compare with', this.select);
         this.message = make('p', { 'aria-live': 'polite', id: 'photograph-message' });
         this.open = make('p', { 'aria-live': 'polite' });
+        this.hidden = make('p', { 'aria-live': 'polite', id: 'hidden-screens' });
         this.figures = make('div', { class: 'cabins' });
         this.answer = make('div', { class: 'answer', 'aria-live': 'polite' });
         this.now = figure('now');
         this.other = figure('other');
         this.figures.append(this.now.root, this.other.root);
         this.arranging = new Arranging(app, () => this.#draw());
-        root.append(make('div', { class: 'bar' }, this.toggle, this.choose, this.remove, this.file, this.compare), this.message, this.open, this.figures, this.answer);
+        root.append(make('div', { class: 'bar' }, this.toggle, this.choose, this.remove, this.file, this.compare), this.message, this.open, this.hidden, this.figures, this.answer);
         this.now.stage.append(this.arranging.layer);
         this.now.root.append(this.arranging.root);
         root.addEventListener('drop', event => this.#dropped(event));
@@ -154,16 +156,15 @@ export class CabinPanel {
         else if (held && photographs.isUnkept(held.key)) text = `This browser cannot keep the photograph: after a reload, choose ${file} again.`;
         setText(this.message, text);
         this.message.hidden = text === '';
-        this.#updateOpen();
     }
 
-    /** Screens that have no place yet, beside others that have: they may stand in front of these. */
-    #updateOpen() {
-        const open = unplaced(this.app.state.names, this.app.answers.window.length);
-        const most = open.length > 8 ? [...open.slice(0, 7), `${open.length - 7} more`] : open;
-        const text = open.length === 1 ? `Screen ${open[0]} has no place yet and stands where there is room.` : `Screens ${listed(most)} have no place yet and stand where there is room.`;
-        setText(this.open, text);
-        this.open.hidden = open.length === 0;
+    /** Screens that have no place yet, and those that are hidden behind others. */
+    #updateSeen(names, places) {
+        const texts = [[this.open, unplacedText(names, places)], [this.hidden, hiddenText(names, places, this.arranges ? '' : 'arrange the screens')]];
+        for (const [element, text] of texts) {
+            setText(element, text);
+            element.hidden = text === '';
+        }
     }
 
     #draw() {
@@ -173,6 +174,7 @@ export class CabinPanel {
         const lanes = Math.max(window.length, second?.window.length ?? 0);
         const places = this.arranges ? this.arranging.places : placesIn(names, lanes);
         const { photograph } = this;
+        this.#updateSeen(names, places);
         this.other.root.hidden = second === null;
         this.figures.classList.toggle('two', second !== null);
         this.now.title.hidden = second === null;
@@ -200,7 +202,7 @@ export class CabinPanel {
         image.hidden = !photograph;
         if (photograph && image.src !== photograph.url) [image.src, image.alt] = [photograph.url, `photograph of the cabin, ${photographOf(options.names)}`];
         // The photograph is an image of its own: drawn anew with every step of a drag it would flicker.
-        drawing.innerHTML = cabinPicture({ ...options, width, photograph: photograph ? { ...photograph, url: null } : null });
+        drawing.innerHTML = cabinPicture({ ...options, width, noted: false, photograph: photograph ? { ...photograph, url: null } : null });
     }
 
     /** How the two pictures differ, in words. */

@@ -1,9 +1,13 @@
 // The cabin as a drawing: every screen where it stands, with the source that it shows, the right way round. It is drawn in pixels,
 // so that its text has one size on a phone, on a wall and on paper; a screen too small for its text shows less of it.
+import { hiddenText, inFront, openParts } from './covered.mjs';
 import { escaped, tag } from './markup.mjs';
 import { CABIN, labelled, nameOf } from './names.mjs';
-import { largestFirst, placesIn, shapeOf } from './places.mjs';
+import { overlap, placesIn, shapeOf } from './places.mjs';
 import { colourOf, dashOf, viewMarkup } from './strands.mjs';
+
+/** The size of the text below the cabin. */
+const NOTE_SIZE = 13;
 
 /** How wide a bold character is, in parts of the text's size, in a font that is wide. What is wider still is cut off. */
 function wide(character) {
@@ -147,6 +151,11 @@ function tinyContent(names, screen, entry, box, { size, view }) {
 
 const CONTENT = { tall: tallContent, flat: flatContent, tiny: tinyContent };
 
+/** How much a layout shows, to compare it with others. */
+function shownBy({ kind, view }) {
+    return { tall: 2000, flat: 1000, tiny: 0 }[kind] + view;
+}
+
 /** The frame in the source's colour and dash; a double line where the view is mirrored, as in the picture of the strands. */
 function frameMarkup(entry, { width, height }, photograph) {
     const around = { x: 0, y: 0, width, height, rx: 4, 'stroke-dasharray': dashOf(Math.abs(entry)) || null };
@@ -164,42 +173,85 @@ function differsMarkup({ width, height }) {
         tag('text', { class: 'cabin-unequal', x: width, y: 6, 'text-anchor': 'middle' }, '≠');
 }
 
-function screenMarkup({ names, photograph }, screen, entry, box, differs) {
-    const layout = layoutOf(box, entry < 0);
-    const { plate, markup } = CONTENT[layout.kind](names, screen, entry, box, layout);
-    const inside = { width: box.width, height: box.height, viewBox: `0 0 ${box.width} ${box.height}`, class: layout.kind === 'tiny' ? 'cabin-over' : 'cabin-inside' };
+/** The content of a screen in a part of its box: how much it shows, what of the box it takes, and whether it stands over the frame. */
+function contentIn(names, screen, entry, area) {
+    const layout = layoutOf(area, entry < 0);
+    const { plate, markup } = CONTENT[layout.kind](names, screen, entry, area, layout);
+    const tiny = layout.kind === 'tiny';
+    const inside = {
+        x: area.left, y: area.top, width: area.width, height: area.height, viewBox: `0 0 ${area.width} ${area.height}`, class: tiny ? 'cabin-over' : 'cabin-inside',
+    };
+    return {
+        tiny,
+        shows: shownBy(layout),
+        taken: [{ left: area.left + plate.x, top: area.top + plate.y, width: plate.width, height: plate.height }],
+        markup: tag('svg', inside, tag('rect', { class: 'cabin-plate', rx: 3, ...plate }) + markup),
+    };
+}
+
+/** The content of a screen where it is seen: if screens in front cover some of it, in the open part of the box that can show the most. */
+function seenContent(box, front, contentOf) {
+    const whole = { left: 0, top: 0, width: box.width, height: box.height };
+    const others = front.map(other => ({ ...other, left: other.left - box.left, top: other.top - box.top }));
+    const isSeen = content => !content.taken.some(part => others.some(other => overlap(part, other)));
+    const content = contentOf(whole);
+    if (isSeen(content)) return content;
+    const seen = openParts(whole, others).map(contentOf).filter(isSeen);
+    return seen.reduce((most, next) => (most && most.shows >= next.shows ? most : next), null) ?? content;
+}
+
+function screenMarkup({ names, photograph }, screen, entry, box, front, differs) {
+    const { tiny, markup } = seenContent(box, front, area => contentIn(names, screen, entry, area));
     const text = `screen ${labelled(names, 'screen', screen)} shows ${shownText(names, entry)}`;
     const ground = { class: photograph ? 'cabin-glass' : 'cabin-plate', width: box.width, height: box.height, rx: 4 };
     const attributes = {
         class: `cabin-screen ${colourOf(Math.abs(entry))}`, 'data-screen': screen, 'data-entry': entry,
-        'data-differs': differs ? 'yes' : null, transform: `translate(${box.x} ${box.y})`,
+        'data-differs': differs ? 'yes' : null, transform: `translate(${box.left} ${box.top})`,
     };
-    const content = tag('svg', inside, tag('rect', { class: 'cabin-plate', rx: 3, ...plate }) + markup);
     const frame = frameMarkup(entry, box, photograph);
-    const parts = layout.kind === 'tiny' ? frame + content : content + frame;
+    const parts = tiny ? frame + markup : markup + frame;
     return tag('g', attributes, tag('title', {}, escaped(text)) + tag('rect', ground) + parts + (differs ? differsMarkup(box) : ''));
 }
 
+/** A text in lines of a width. */
+function wrapped(text, size, width) {
+    const lines = [];
+    for (const word of text.split(' ')) {
+        const longer = `${lines.at(-1)} ${word}`;
+        if (lines.length > 0 && textWidth(longer, size) <= width) lines[lines.length - 1] = longer;
+        else lines.push(word);
+    }
+    return lines;
+}
+
 /** All that the drawing says, for those who do not see it. */
-function allText({ names, window }, title) {
-    return `${title}: ${window.map((entry, at) => `screen ${labelled(names, 'screen', at + 1)} shows ${shownText(names, entry)}`).join('; ')}`;
+function allText({ names, window }, title, note) {
+    return `${title}: ${window.map((entry, at) => `screen ${labelled(names, 'screen', at + 1)} shows ${shownText(names, entry)}`).join('; ')}${note && `. ${note}`}`;
 }
 
 /**
  * A window in the cabin, as SVG. `lanes` is how many screens the grid has of those that were not arranged; `places` replaces those of the
- * names; `against` is a window whose differences are marked. The photograph is { url, width, height }: drawn where there is a url.
+ * names; `against` is a window whose differences are marked. The photograph is { url, width, height }: drawn where there is a url. Below
+ * the cabin stands which screens are hidden, unless `noted` is false.
  */
-export function cabinPicture({ window, names, lanes = window.length, width = 680, photograph = null, against = null, places = placesIn(names, lanes), title = 'the cabin' }) {
+export function cabinPicture({
+    window, names, lanes = window.length, width = 680, photograph = null, against = null, places = placesIn(names, lanes), title = 'the cabin', noted = true,
+}) {
     const height = Math.round(width / shapeOf(photograph));
     const differing = new Set(against ? differences(window, against) : []);
-    const box = ({ left, top, width: wide, height: high }) => ({
-        x: left * width / CABIN, y: top * height / CABIN, width: wide * width / CABIN, height: high * height / CABIN,
-    });
-    const frame = { class: 'drawing cabin-drawing', role: 'img', 'aria-label': allText({ names, window }, title), width, height, viewBox: `0 0 ${width} ${height}` };
+    const seen = places.slice(0, window.length);
+    const boxes = seen.map(place => ({
+        left: place.left * width / CABIN, top: place.top * height / CABIN, width: place.width * width / CABIN, height: place.height * height / CABIN,
+    }));
+    const note = noted ? hiddenText(names, seen) : '';
+    const lines = note ? wrapped(note, NOTE_SIZE, width) : [];
+    const high = height + Math.ceil(lines.length * NOTE_SIZE * 1.4);
+    const frame = { class: 'drawing cabin-drawing', role: 'img', 'aria-label': allText({ names, window }, title, note), width, height: high, viewBox: `0 0 ${width} ${high}` };
     const image = photograph?.url ? tag('image', { href: photograph.url, width, height, class: 'cabin-photograph' }) : '';
     const ground = tag('rect', { class: photograph ? 'cabin-edge' : 'cabin-ground', width, height });
-    // A screen in front of a larger one is seen, and what differs is drawn last: its mark has to be seen whole.
-    const order = largestFirst(places.slice(0, window.length)).sort((one, two) => differing.has(one) - differing.has(two));
-    const screens = order.map(screen => screenMarkup({ names, photograph }, screen, window[screen - 1], box(places[screen - 1]), differing.has(screen)));
-    return tag('svg', frame, image + ground + screens.join(''));
+    const front = inFront(seen);
+    const screens = [...front].map(([screen, others]) => screenMarkup({ names, photograph }, screen, window[screen - 1], boxes[screen - 1],
+        others.map(other => boxes[other - 1]), differing.has(screen)));
+    const below = lines.map((line, at) => textAt(line, 0, height + (at + 1) * NOTE_SIZE * 1.4 - 2, NOTE_SIZE, { class: 'cabin-note' }));
+    return tag('svg', frame, image + ground + screens.join('') + below.join(''));
 }
