@@ -53,7 +53,7 @@ function linesFor(names, screen, entry, size, width, three) {
     const label = (text, alone) => (/^[a-z]+ \d+$/.test(text) ? [text, alone] : [text]);
     const first = fitting(label(called(names, 'screen', screen), String(screen)), size, width);
     if (entry > 0 || three) return [first, fitting(label(source, String(number)), size, width), ...(entry < 0 ? [fitted('mirrored', size, width)] : [])];
-    return [first, fitting([`${source}, mirrored`, `${number}, mirrored`, source], size, width)];
+    return [first, fitting([`${source}, mirrored`, `${number}, mirrored`, ...label(source, String(number))], size, width)];
 }
 
 /** The numbers of the screens on which two windows differ; one that only one of them has differs too. */
@@ -151,9 +151,9 @@ function tinyContent(names, screen, entry, box, { size, view }) {
 
 const CONTENT = { tall: tallContent, flat: flatContent, tiny: tinyContent };
 
-/** How much a layout shows, to compare it with others. */
-function shownBy({ kind, view }) {
-    return { tall: 2000, flat: 1000, tiny: 0 }[kind] + view;
+/** How much a layout shows in a room, to compare it with others: two numbers of two digits and a view fit, or run out of it. */
+function shownBy({ kind, view }, { width, height }) {
+    return { tall: 3000, flat: 2000, tiny: width >= 52 && height >= 13 ? 1000 : 0 }[kind] + view;
 }
 
 /** The frame in the source's colour and dash; a double line where the view is mirrored, as in the picture of the strands. */
@@ -165,27 +165,62 @@ function frameMarkup(entry, { width, height }, photograph) {
     return halo + (entry < 0 ? line('cabin-double') + solid('cabin-inner') : line('cabin-line'));
 }
 
-/** A thick dashed frame around the box and a sign at its corner. */
-function differsMarkup({ width, height }) {
-    const around = { x: -8, y: -8, width: width + 16, height: height + 16, rx: 8 };
-    return tag('rect', { ...around, class: 'cabin-halo' }) + tag('rect', { ...around, class: 'cabin-differs' }) +
-        tag('circle', { class: 'cabin-sign', cx: width, cy: 0, r: 11 }) +
-        tag('text', { class: 'cabin-unequal', x: width, y: 6, 'text-anchor': 'middle' }, '≠');
+/** The mark of a difference: the radius of its sign, and how far its frame and the content are from the edge of the box. */
+const MARKS = { large: { radius: 10, frame: 6, edge: 9 }, small: { radius: 7, frame: 3.5, edge: 3 } };
+
+function markOf({ width, height }) {
+    return width < 110 || height < 56 ? 'small' : 'large';
 }
 
-/** The content of a screen in a part of its box: how much it shows, what of the box it takes, and whether it stands over the frame. */
-function contentIn(names, screen, entry, area) {
-    const layout = layoutOf(area, entry < 0);
-    const { plate, markup } = CONTENT[layout.kind](names, screen, entry, area, layout);
+/** A dashed frame inside the box: what is around it belongs to other screens. */
+function differsFrame(box) {
+    const { frame } = MARKS[markOf(box)];
+    const around = { x: frame, y: frame, width: Math.max(box.width - 2 * frame, 0), height: Math.max(box.height - 2 * frame, 0), rx: 3 };
+    const small = markOf(box) === 'small' ? ' small' : '';
+    return tag('rect', { ...around, class: `cabin-halo${small}` }) + tag('rect', { ...around, class: `cabin-differs${small}` });
+}
+
+/** A sign in the upper right corner of a part of the box. */
+function signMarkup(area) {
+    const size = markOf(area);
+    const { radius } = MARKS[size];
+    const [x, y] = [area.left + area.width - radius - 2, area.top + radius + 2];
+    return tag('circle', { class: 'cabin-sign', cx: x, cy: y, r: radius }) +
+        tag('text', { class: `cabin-unequal ${size}`, x, y: y + radius * 0.55, 'text-anchor': 'middle' }, '≠');
+}
+
+/** The room for the content beside the sign or below it, whichever can show more. */
+function besideSign(area, mirrored) {
+    const { radius, edge } = MARKS[markOf(area)];
+    const sign = 2 * radius + 3;
+    const room = (right, top) => ({
+        left: area.left + edge, top: area.top + top, width: Math.max(area.width - edge - right, 1), height: Math.max(area.height - edge - top, 1),
+    });
+    const [beside, below] = [room(sign, edge), room(edge, sign)];
+    const shows = area => shownBy(layoutOf(area, mirrored), area);
+    return shows(beside) >= shows(below) ? beside : below;
+}
+
+/**
+ * The content of a screen in a part of its box, with the sign of a difference: how much it shows, what of the box it takes, and whether
+ * it stands over the frame.
+ */
+function contentIn(names, screen, entry, area, differs) {
+    const room = differs ? besideSign(area, entry < 0) : area;
+    const layout = layoutOf(room, entry < 0);
+    const { plate, markup } = CONTENT[layout.kind](names, screen, entry, room, layout);
     const tiny = layout.kind === 'tiny';
     const inside = {
-        x: area.left, y: area.top, width: area.width, height: area.height, viewBox: `0 0 ${area.width} ${area.height}`, class: tiny ? 'cabin-over' : 'cabin-inside',
+        x: room.left, y: room.top, width: room.width, height: room.height, viewBox: `0 0 ${room.width} ${room.height}`, class: tiny ? 'cabin-over' : 'cabin-inside',
     };
+    const taken = { left: room.left + plate.x, top: room.top + plate.y, width: plate.width, height: plate.height };
+    const sign = 2 * MARKS[markOf(area)].radius + 2;
     return {
         tiny,
-        shows: shownBy(layout),
-        taken: [{ left: area.left + plate.x, top: area.top + plate.y, width: plate.width, height: plate.height }],
+        shows: shownBy(layout, room),
+        taken: differs ? [taken, { left: area.left + area.width - sign, top: area.top, width: sign, height: sign }] : [taken],
         markup: tag('svg', inside, tag('rect', { class: 'cabin-plate', rx: 3, ...plate }) + markup),
+        sign: differs ? signMarkup(area) : '',
     };
 }
 
@@ -201,16 +236,16 @@ function seenContent(box, front, contentOf) {
 }
 
 function screenMarkup({ names, photograph }, screen, entry, box, front, differs) {
-    const { tiny, markup } = seenContent(box, front, area => contentIn(names, screen, entry, area));
+    const { tiny, markup, sign } = seenContent(box, front, area => contentIn(names, screen, entry, area, differs));
     const text = `screen ${labelled(names, 'screen', screen)} shows ${shownText(names, entry)}`;
     const ground = { class: photograph ? 'cabin-glass' : 'cabin-plate', width: box.width, height: box.height, rx: 4 };
     const attributes = {
         class: `cabin-screen ${colourOf(Math.abs(entry))}`, 'data-screen': screen, 'data-entry': entry,
         'data-differs': differs ? 'yes' : null, transform: `translate(${box.left} ${box.top})`,
     };
-    const frame = frameMarkup(entry, box, photograph);
+    const frame = frameMarkup(entry, box, photograph) + (differs ? differsFrame(box) : '');
     const parts = tiny ? frame + markup : markup + frame;
-    return tag('g', attributes, tag('title', {}, escaped(text)) + tag('rect', ground) + parts + (differs ? differsMarkup(box) : ''));
+    return tag('g', attributes, tag('title', {}, escaped(text)) + tag('rect', ground) + parts + sign);
 }
 
 /** A text in lines of a width. */

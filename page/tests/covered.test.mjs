@@ -3,7 +3,7 @@ import assert from 'node:assert/strict';
 import { test } from 'node:test';
 import { hiddenScreens, hiddenText, openParts, unplacedText } from '../src/covered.mjs';
 import { NO_NAMES, withPlace } from '../src/names.mjs';
-import { largestFirst, overlap, placesIn } from '../src/places.mjs';
+import { overlap, placesIn } from '../src/places.mjs';
 import { dice } from './library.mjs';
 
 const inside = ({ left, top, width, height }, x, y) => x > left && x < left + width && y > top && y < top + height;
@@ -42,10 +42,11 @@ test('where screens without a place stand', () => {
     const half = withPlace(NO_NAMES, 1, { left: 0, top: 0, width: 500, height: 1000 });
     assert.equal(unplacedText(half, placesIn(half, 3)), 'Screens 2 and 3 have no place yet and stand where there is room.');
     assert.equal(unplacedText(NO_NAMES, placesIn(NO_NAMES, 3)), '');
-    // Small ones all over leave no room, and are in front.
-    const small = Array.from({ length: 25 }, (_, at) => ({ left: at % 5 * 200, top: Math.floor(at / 5) * 200, width: 195, height: 195 }))
+    const many = Array.from({ length: 25 }, (_, at) => ({ left: at % 5 * 200, top: Math.floor(at / 5) * 200, width: 195, height: 195 }))
         .reduce((names, place, at) => withPlace(names, at + 1, place), NO_NAMES);
-    const places = placesIn(small, 26);
-    if (largestFirst(places)[0] === 26) assert.match(unplacedText(small, places), /there is no room: it overlaps screen/);
-    else assert.match(unplacedText(small, places), /there is no room: it stands in front of screen/);
+    assert.match(unplacedText(many, placesIn(many, 26)), /^Screen 26 has no place yet, and there is no room: it stands in front of screens? \d/);
+    // Of two that are equally large the later one is in front: screen 1 has no place.
+    const later = withPlace(NO_NAMES, 2, { left: 0, top: 0, width: 1000, height: 1000 });
+    const places = placesIn(later, 2).map(() => ({ left: 0, top: 0, width: 1000, height: 1000 }));
+    assert.equal(unplacedText(later, places), 'Screen 1 has no place yet, and there is no room: it overlaps screen 2.');
 });

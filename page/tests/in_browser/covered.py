@@ -70,3 +70,44 @@ class Covered(PageTest):
         self.assertIn("Screens 2 left mirror, 3, 4 and 5 have no place yet, and there is no room: they stand in front of screen 1.", self.panel().text)
         self.assertNotIn("where there is room", self.panel().text)
         self.assertEqual((self.hidden(), self.buried()), ("", []))
+
+    # ---- compared
+
+    # What is wrong with a mark: not seen, without contrast, not inside its screen, or over a text.
+    MARKS = """const wrong = [];
+    for (const sign of document.querySelectorAll('.cabin-sign')) {
+        sign.scrollIntoView({ block: 'center', inline: 'center' });
+        const screen = sign.closest('.cabin-screen'), b = sign.getBoundingClientRect(), s = screen.querySelector(':scope > :is(.cabin-plate, .cabin-glass)').getBoundingClientRect();
+        const name = `${sign.closest('figure').dataset.cabin} ${screen.dataset.screen}`;
+        for (const at of [0.1, 0.5, 0.9]) if (document.elementFromPoint(b.left + b.width * at, b.top + b.height / 2)?.closest('.cabin-screen') !== screen) wrong.push(`${name} is covered`);
+        if (getComputedStyle(sign).fill === getComputedStyle(sign.nextElementSibling).fill) wrong.push(`${name} has no contrast`);
+        if (b.left < s.left || b.right > s.right || b.top < s.top || b.bottom > s.bottom) wrong.push(`${name} is outside`);
+        for (const text of screen.querySelectorAll('svg > text')) {
+            const t = text.getBoundingClientRect();
+            // The box of a text is higher than its letters.
+            if (t.left < b.right - 1 && b.left + 1 < t.right && t.top + 3 < b.bottom && b.top < t.bottom - 3) wrong.push(`${name} is over ${text.textContent}`);
+        }
+    }
+    return [document.querySelectorAll('.cabin-sign').length, wrong];"""
+
+    def test_every_mark_is_inside_its_screen(self):
+        for kind, rank, width in [("D", 5, 1280), ("B", 16, 1280), ("D", 64, 1280), ("D", 64, 320), ("B", 16, 768)]:
+            self.size(width, 900)
+            self.fresh()
+            self.drop(("cabin.book", b""), ("cabin.book.names", b"".join(b"screen %d left rear side\n" % screen for screen in range(1, 65))))
+            self.press("Second edition")
+            self.rig(kind, rank)
+            self.word(" ".join(map(str, range(1, rank))))
+            self.press("Wanted picture")
+            self.press("Set all screens straight")
+            self.press("Cabin")
+            differing = sum(one != two for one, two in zip(self.screens(), range(1, rank + 1)))
+            self.assertGreaterEqual(differing, rank - 1)
+            self.assertEqual(self.js(self.MARKS), [2 * differing, []], f"{kind}{rank} at {width} px")
+
+    def test_a_marked_screen_does_not_cover_one_inside_it(self):
+        self.opened(NAMES + places(s1=(0, 0, 1000, 1000), s2=(40, 420, 160, 200), s3=(40, 700, 160, 200), s4=(800, 420, 160, 200), s5=(800, 700, 160, 200)))
+        self.press("Wanted picture")
+        self.press("mirror the view on screen 1")
+        self.press("Cabin")
+        self.assertEqual((self.buried(), self.js(self.MARKS)), ([], [2, []]))
