@@ -65,8 +65,11 @@ export function differences(window, against) {
 /** A screen that differs, in words. `other` is what the second picture is: 'wanted', or 'in preset 3'. */
 export function differenceText(names, screen, window, against, other) {
     const [shown, wanted] = [window[screen - 1], against[screen - 1]];
-    const first = shown === undefined ? 'is not in the present picture' : `shows ${shownText(names, shown)}`;
-    const second = wanted === undefined ? `is not ${other}` : `${other} ${shownText(names, wanted)}`;
+    const preset = other !== 'wanted';
+    // Behind the number of a preset, that of a source needs a word before it.
+    const source = entry => shownText(names, entry).replace(/^(?=\d)/, preset ? 'source ' : '');
+    const first = shown === undefined ? 'is not in the present picture' : `shows ${source(shown)}`;
+    const second = wanted === undefined ? `is not ${other}` : `${other}${preset ? ' it shows' : ''} ${source(wanted)}`;
     return `screen ${labelled(names, 'screen', screen)}: ${first}, ${second}`;
 }
 

@@ -68,7 +68,7 @@ test('two pictures differ where they differ, and it is said in names', () => {
     assert.deepEqual(differences(now, wanted), [2, 5]);
     assert.equal(differenceText(names, 2, now, wanted, 'wanted'), 'screen 2 left mirror: shows 5 rear left mirrored, wanted 1 left door');
     assert.deepEqual(differences([1, 2], [1, 2, 3]), [3]);
-    assert.equal(differenceText(names, 3, [1, 2], [1, 2, 3], 'in preset 4'), 'screen 3: is not in the present picture, in preset 4 source 3');
+    assert.equal(differenceText(names, 3, [1, 2], [1, 2, 3], 'in preset 4'), 'screen 3: is not in the present picture, in preset 4 it shows source 3');
     assert.equal(differenceText(names, 3, [1, 2, -3], [1, 2], 'in preset 4'), 'screen 3: shows source 3 mirrored, is not in preset 4');
 });
 

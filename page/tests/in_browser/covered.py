@@ -111,3 +111,12 @@ class Covered(PageTest):
         self.press("mirror the view on screen 1")
         self.press("Cabin")
         self.assertEqual((self.buried(), self.js(self.MARKS)), ([], [2, []]))
+
+    def test_numbers_of_presets_and_sources_do_not_run_together(self):
+        self.opened(NAMES + b"source 3 rear right\n")
+        self.word("1 2")
+        Select(self.labelled("Compare with")).select_by_visible_text("preset 1")
+        self.settle()
+        shown, kept = self.screens(), self.js("const p = app.panels.cabin.presets[1]; return app.library.window(p.kind, p.rank, p.word)")
+        self.assertEqual((shown[0], kept[0]), (2, 3))
+        self.assertIn("screen 1: shows source 2, in preset 1 it shows source 3 rear right", self.panel().text)
