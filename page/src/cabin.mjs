@@ -2,6 +2,7 @@
 // or a preset of the book.
 import { Arranging } from './arranging.mjs';
 import { cabinPicture, differenceText, differences } from './cabin_picture.mjs';
+import { followedChoice } from './comparing.mjs';
 import { hiddenText, unplacedText } from './covered.mjs';
 import { button, labelledField, make, put, setText } from './dom.mjs';
 import { labelled, photographOf, withPhotograph } from './names.mjs';
@@ -26,6 +27,7 @@ export class CabinPanel {
         this.remove = button('Remove the photograph', () => this.#remove());
         this.select = make('select', { id: 'compare', onchange: () => this.#compare() });
         this.compare = labelledField('Compare with', this.select);
+        this.gone = make('p', { role: 'status', id: 'compared-gone' });
         this.message = make('p', { 'aria-live': 'polite', id: 'photograph-message' });
         this.open = make('p', { 'aria-live': 'polite' });
         this.hidden = make('p', { 'aria-live': 'polite', id: 'hidden-screens' });
@@ -35,10 +37,11 @@ export class CabinPanel {
         this.other = figure('other');
         this.figures.append(this.now.root, this.other.root);
         this.arranging = new Arranging(app, () => this.#draw());
-        root.append(make('div', { class: 'bar' }, this.toggle, this.choose, this.remove, this.file, this.compare), this.message, this.open, this.hidden, this.figures, this.answer);
+        root.append(make('div', { class: 'bar' }, this.toggle, this.choose, this.remove, this.file, this.compare), this.gone, this.message, this.open, this.hidden, this.figures, this.answer);
         this.now.stage.append(this.arranging.layer);
         this.now.root.append(this.arranging.root);
         root.addEventListener('drop', event => this.#dropped(event));
+        app.store.listen((state, old) => state.book.bytes !== old.book.bytes && this.#follow(state, old));
         // A scroll bar that comes or goes changes the room.
         new ResizeObserver(() => this.now.root.clientWidth > 0 && this.now.root.clientWidth !== this.room && this.room && this.#draw()).observe(this.figures);
     }
@@ -96,7 +99,17 @@ export class CabinPanel {
 
     #compare() {
         this.chosen = this.select.value;
+        setText(this.gone, '');
         this.update();
+    }
+
+    /** A preset that was chosen stays chosen when it gets another number; of another book none is. */
+    #follow(state, old) {
+        setText(this.gone, '');
+        if (this.chosen === null || !/^\d+$/.test(this.chosen)) return;
+        const { number, gone } = followedChoice(book => presetsOf(this.app.library, book), Number(this.chosen), state, old);
+        if (gone) setText(this.gone, `Preset ${labelled(old.names, 'preset', Number(this.chosen))}, which was compared with, is no longer in the book.`);
+        this.chosen = gone ? '' : number === null ? null : String(number);
     }
 
     /** The second picture: its window, what it is called above it and in a sentence; or null. */
@@ -119,11 +132,12 @@ export class CabinPanel {
 
     update() {
         const { library, state } = this.app;
-        const { edition, bytes } = state.book;
-        if (this.of !== bytes) this.presets = bytes.length > 0 ? library.presets(edition, bytes).filter(preset => !preset.refusal) : [];
+        const { bytes } = state.book;
+        if (this.of !== bytes) this.presets = presetsOf(library, state.book).filter(preset => !preset.refusal);
         this.of = bytes;
         this.toggle.setAttribute('aria-pressed', String(this.arranges));
         this.compare.hidden = this.arranges;
+        this.gone.hidden = this.gone.textContent === '';
         this.#updateSelect();
         this.#updatePhotograph();
         this.arranging.layer.hidden = this.arranging.root.hidden = !this.arranges;
@@ -217,6 +231,10 @@ export class CabinPanel {
         const text = `${differing.length} of ${counted(all, 'screen')} ${differing.length === 1 ? 'differs' : 'differ'}, marked with ≠:`;
         return [make('p', {}, text), make('ul', { class: 'cabin-list' }, items)];
     }
+}
+
+function presetsOf(library, { edition, bytes }) {
+    return bytes.length > 0 ? library.presets(edition, bytes) : [];
 }
 
 /** A cabin with its title: a photograph, and the drawing over it. */

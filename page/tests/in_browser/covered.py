@@ -6,7 +6,7 @@ from selenium.webdriver.common.by import By
 from selenium.webdriver.common.keys import Keys
 from selenium.webdriver.support.ui import Select
 
-from in_browser.cabin import NAMES, Cabin
+from in_browser.cabin import BOOK, NAMES, Cabin
 from in_browser.page import PageTest
 
 # The screens whose content is not seen whole: another element is at its place.
@@ -120,3 +120,42 @@ class Covered(PageTest):
         shown, kept = self.screens(), self.js("const p = app.panels.cabin.presets[1]; return app.library.window(p.kind, p.rank, p.word)")
         self.assertEqual((shown[0], kept[0]), (2, 3))
         self.assertIn("screen 1: shows source 2, in preset 1 it shows source 3 rear right", self.panel().text)
+
+    def compared(self):
+        self.press("Cabin")
+        return Select(self.labelled("Compare with")).first_selected_option.text, self.text("compared-gone")
+
+    def test_the_comparison_follows_its_preset(self):
+        for word in ["1", "2", "3"]:
+            self.word(word)
+            self.press("Book")
+            self.press("Append the present preset")
+        self.press("Cabin")
+        Select(self.labelled("Compare with")).select_by_visible_text("preset 1")
+        self.settle()
+        # Each change is one that the cabin does not see while another panel is open.
+        for change, expected in [("remove preset 0", "preset 0"), ("move preset 0 down", "preset 1"), ("duplicate preset 0", "preset 2"), ("replace preset 2", "preset 2")]:
+            self.press("Book")
+            self.press(change)
+            self.assertEqual(self.compared(), (expected, ""), change)
+        for _ in range(4):
+            self.press("Undo")
+        self.assertEqual(self.compared(), ("preset 1", ""))
+        self.write_name(1, "Yard")
+        self.press("Book")
+        self.press("remove preset 1")
+        self.assertEqual(self.compared(), ("nothing", "Preset 1 Yard, which was compared with, is no longer in the book."))
+        self.assertIsNone(self.js("const e = document.querySelector('[data-cabin=other]'); return e.offsetParent"))
+        Select(self.labelled("Compare with")).select_by_visible_text("preset 1")
+        self.settle()
+        self.assertEqual(self.compared(), ("preset 1", ""))
+        self.press("Book")
+        self.press("Convert to the first edition")
+        self.assertEqual(self.compared(), ("preset 1", ""))
+        self.drop(("other.book", BOOK))
+        self.press("Open the file other.book all the same")
+        self.assertEqual(self.compared(), ("nothing", ""))
+
+    def write_name(self, preset, name):
+        self.press("Book")
+        self.write(f"name of preset {preset}", name)
