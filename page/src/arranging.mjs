@@ -18,6 +18,11 @@ export class Arranging {
     #held = null;
     #start = null;
     #handles = [];
+    /** What was typed and refused, by side: it stays to be mended as long as its screen is chosen and its book is open. */
+    #refused = new Map();
+    #book = null;
+    /** The names that the last sentence was about: with others it is over. */
+    #saidOf = null;
 
     constructor(app, redraw) {
         [this.app, this.redraw] = [app, redraw];
@@ -58,8 +63,8 @@ export class Arranging {
     }
 
     #choose(screen) {
+        if (screen !== this.chosen) this.#refused.clear();
         this.chosen = screen;
-        setText(this.message, '');
         this.update();
     }
 
@@ -73,7 +78,9 @@ export class Arranging {
     #release() {
         const held = this.#held;
         [this.#held, this.#start] = [null, null];
-        if (held) this.#keep(held.screen, held.place);
+        if (!held) return;
+        this.#refused.clear();
+        this.#keep(held.screen, held.place);
     }
 
     #giveUp() {
@@ -85,9 +92,14 @@ export class Arranging {
     #keep(screen, place) {
         const { state, store } = this.app;
         const names = withPlace(state.names, screen, place);
-        setText(this.message, '');
-        setText(this.said, `Screen ${labelled(state.names, 'screen', screen)}: ${placeText(place)}.`);
         if (names !== state.names) store.change({ names });
+        this.#say(`Screen ${labelled(names, 'screen', screen)}: ${placeText(place)}.`);
+    }
+
+    /** A sentence about the places as they are now. */
+    #say(text) {
+        setText(this.said, text);
+        this.#saidOf = this.app.state.names;
     }
 
     #grab(event) {
@@ -121,24 +133,40 @@ export class Arranging {
         this.#hold(screen, (event.shiftKey ? sized : moved)(this.places[screen - 1], right, down));
     }
 
+    /** A number is taken, with those refused before that fit beside it now; or it is refused: the field keeps it, and nothing changes. */
     #typed(side) {
-        const { place, fault } = typedPlace(this.places[this.chosen - 1], side, this.inputs[side].value);
-        if (place) return this.#keep(this.chosen, place);
-        setText(this.message, `${fault} The screen stays where it was.`);
-        this.inputs[side].setAttribute('aria-invalid', 'true');
+        const text = this.inputs[side].value;
+        let { place } = typedPlace(this.places[this.chosen - 1], side, text);
+        this.#refused.delete(side);
+        if (!place) this.#refused.set(side, text);
+        for (const [other, refused] of place ? [...this.#refused] : []) {
+            const again = typedPlace(place, other, refused).place;
+            if (again) this.#refused.delete(other);
+            place = again ?? place;
+        }
+        if (place) this.#keep(this.chosen, place);
+        this.update();
     }
 
     #toGrid() {
         const { state, store } = this.app;
         const shown = [...placesOf(state.names).keys()].filter(screen => screen <= this.lanes);
         const names = shown.reduce((left, screen) => withPlace(left, screen, null), state.names);
-        setText(this.said, shown.length > 0 ? 'All screens stand in the grid again. Undo brings their places back.' : 'All screens stand in the grid.');
         if (names !== state.names) store.change({ names });
+        this.#say(shown.length > 0 ? 'All screens stand in the grid again. Undo brings their places back.' : 'All screens stand in the grid.');
+    }
+
+    /** What was said or refused in another book, or of places that have changed since, is over. */
+    #forget({ book, names }) {
+        if (this.#book !== book) this.#refused.clear();
+        if (this.#book !== book || this.#saidOf !== names) setText(this.said, '');
+        this.#book = book;
     }
 
     /** Handles and fields as the places are now; they stay the same elements, so that none is lost under a finger. */
     update() {
         const { names } = this.app.state;
+        this.#forget(this.app.state);
         if (this.#handles.length !== this.lanes) this.#makeHandles();
         if (this.chosen > this.lanes) this.chosen = 1;
         const { places } = this;
@@ -167,12 +195,16 @@ export class Arranging {
         if (this.choice.options.length !== options.length) this.choice.replaceChildren(...options.map((_, at) => make('option', { value: at + 1 })));
         options.forEach((text, at) => setText(this.choice.options[at], text));
         put(this.choice, 'value', this.chosen);
-        const wrong = this.message.textContent !== '';
+        const faults = SIDES.filter(side => this.#refused.has(side)).map(side => [side, typedPlace(place, side, this.#refused.get(side)).fault]);
+        // What fits by now, after an undo, is refused no longer.
+        for (const [side, fault] of faults) if (!fault) this.#refused.delete(side);
+        setText(this.message, faults.filter(([, fault]) => fault).map(([side, fault]) => `${SIDE_NAMES[side]} is still ${percent(place[side])} %. ${fault}`).join(' '));
         for (const side of SIDES) {
             const input = this.inputs[side];
-            if (!wrong) input.removeAttribute('aria-invalid');
-            // A number that was refused stays to be mended.
-            if (document.activeElement !== input && !input.hasAttribute('aria-invalid')) put(input, 'value', percent(place[side]));
+            const refused = this.#refused.has(side);
+            if (refused) input.setAttribute('aria-invalid', 'true');
+            else input.removeAttribute('aria-invalid');
+            if (document.activeElement !== input) put(input, 'value', refused ? this.#refused.get(side) : percent(place[side]));
         }
     }
 }

@@ -159,3 +159,51 @@ class Covered(PageTest):
     def write_name(self, preset, name):
         self.press("Book")
         self.write(f"name of preset {preset}", name)
+
+    # ---- arranged
+
+    def values(self):
+        return [self.labelled(f"{side} %").get_attribute("value") for side in ["Left", "Top", "Width", "Height"]]
+
+    def test_a_refused_number_stays_until_it_is_mended(self):
+        self.opened(NAMES + places(s1=(250, 100, 500, 350)))
+        self.press("Arrange the screens")
+        self.write("Width %", "90")
+        self.write("Height %", "abc")
+        self.write("Top %", "20")
+        self.assertEqual((self.place(1), self.values()), ([250, 200, 500, 350], ["25", "20", "90", "abc"]))
+        self.assertEqual(self.text("place-message"), "Width is still 50 %. The screen would end outside the cabin: left and width make 115 %, and 100 % is all there is. "
+                         "Height is still 35 %. Type a number from 0 to 100, such as 12.5.")
+        self.assertEqual([self.labelled(f"{side} %").get_attribute("aria-invalid") for side in ["Left", "Top", "Width", "Height"]], [None, None, "true", "true"])
+        # A width that was refused for the left edge fits beside a smaller one.
+        self.write("Left %", "5")
+        self.assertEqual((self.place(1), self.values()), ([50, 200, 900, 350], ["5", "20", "90", "abc"]))
+        self.assertEqual(self.text("place-message"), "Height is still 35 %. Type a number from 0 to 100, such as 12.5.")
+        self.write("Height %", "30")
+        self.assertEqual((self.place(1), self.text("place-message")), ([50, 200, 900, 300], ""))
+        self.write("Height %", "99")
+        Select(self.labelled("Screen")).select_by_value("2")
+        self.settle()
+        self.assertEqual((self.text("place-message"), self.labelled("Height %").get_attribute("aria-invalid")), ("", None))
+
+    def test_what_was_said_of_places_goes_with_them(self):
+        self.opened(NAMES + places(s1=(250, 100, 500, 350)))
+        self.press("Arrange the screens")
+        self.press("Back to the grid")
+        self.assertIn("All screens stand in the grid again.", self.panel().text)
+        self.press("Undo the last change")
+        self.assertEqual(self.place(1), [250, 100, 500, 350])
+        self.assertNotIn("stand in the grid", self.panel().text)
+
+    def test_another_book_has_none_of_the_sentences_of_the_one_before(self):
+        self.press("Cabin")
+        self.press("Arrange the screens")
+        self.press("Back to the grid")
+        self.assertIn("All screens stand in the grid.", self.panel().text)
+        self.write("Width %", "abc")
+        grid = self.js("return app.panels.cabin.arranging.places[0].width / 10")
+        self.drop(("other.book", BOOK))
+        self.press("load preset 1")
+        self.press("Cabin")
+        self.assertEqual((self.values()[2], self.text("place-message")), (str(grid), ""))
+        self.assertNotIn("stand in the grid", self.panel().text)
