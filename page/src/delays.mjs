@@ -83,8 +83,10 @@ export class DelaysPanel {
             onchange: () => this.#typed(),
         });
         this.message = make('p', { id: 'step-time-message', class: 'refusal', role: 'alert', hidden: true });
-        /** The names that refused text was typed at: it stays as long as these do. */
+        /** The names and the book that refused text was typed at: it stays as long as these do. Books without names share theirs. */
         this.refused = null;
+        /** The delay that the field was given last. */
+        this.given = '';
         root.append(
             make('div', { class: 'bar' }, make('label', { class: 'field' }, make('span', {}, 'One step takes'), this.field, make('span', {}, 'ms')),
                 make('span', { id: 'step-time-about', class: 'quiet' }, 'In milliseconds, kept with the names of the rig. If it is empty, lengths are in steps alone.')),
@@ -96,7 +98,7 @@ export class DelaysPanel {
         const { state, store } = this.app;
         const text = this.field.value.trim();
         const fault = text === '' ? null : delayFault(text);
-        this.refused = fault ? state.names : null;
+        this.refused = fault ? { names: state.names, book: state.book } : null;
         this.#say(fault ? `'${text}' is not a number of milliseconds that can be kept. Type one above 0 such as 2.5: up to four digits, and up to three more after a point. Nothing was changed.` : '');
         const names = fault ? state.names : withDelay(state.names, text);
         if (names !== state.names) store.change({ names });
@@ -108,11 +110,15 @@ export class DelaysPanel {
         put(this.field, 'ariaInvalid', text !== '');
     }
 
-    #updateField({ names }) {
-        if (this.refused === names) return;
+    /** What is being typed stays, unless the names have got another delay meanwhile. */
+    #updateField({ names, book }) {
+        if (this.refused?.names === names && this.refused.book === book) return;
+        const delay = delayOf(names);
+        const stays = document.activeElement === this.field && delay === this.given && !this.refused;
         this.refused = null;
         this.#say('');
-        if (document.activeElement !== this.field) this.field.value = delayOf(names);
+        if (!stays) put(this.field, 'value', delay);
+        this.given = delay;
     }
 
     update() {

@@ -325,6 +325,27 @@ class Milliseconds(Subject):
         field = self.type(self.FIELD, "3")
         self.assertEqual((field.get_attribute("aria-invalid"), self.text("step-time-message"), self.text("letters")), ("false", "", "2 letters, 6 ms"))
 
+    def test_a_refused_number_is_not_that_of_the_next_book(self):
+        self.press("Delays")
+        self.type(self.FIELD, "x")
+        self.assertIn("'x' is not a number", self.text("step-time-message"))
+        self.press("Book")
+        self.press("New book")
+        self.press("Delays")
+        self.assertEqual((self.labelled(self.FIELD).get_attribute("value"), self.text("step-time-message")), ("", ""))
+
+    def test_the_field_has_the_number_of_names_that_came_meanwhile(self):
+        self.named(b"delay 2.5\n")
+        self.press("Delays")
+        field = self.labelled(self.FIELD)
+        field.click()
+        self.assertEqual((self.focus(), field.get_attribute("value")), ("step-time", "2.5"))
+        self.drop(("cabin.book.names", NAMES + b"delay 4\n"))
+        self.assertEqual((self.focus(), field.get_attribute("value")), ("step-time", "4"))
+        field.send_keys("5")
+        self.settle()
+        self.assertEqual(field.get_attribute("value"), "45")
+
     def test_it_is_there_where_delays_are_not_counted_and_at_320_px(self):
         for width in [320, 360, 768, 1280, 3840]:
             self.size(width, 800)
