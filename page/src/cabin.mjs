@@ -90,6 +90,8 @@ export class CabinPanel {
     #remove() {
         const { store, state } = this.app;
         store.change({ names: withPhotograph(state.names, ''), photograph: null });
+        // The button that was pressed goes.
+        this.choose.focus();
     }
 
     #arrange() {

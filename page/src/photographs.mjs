@@ -5,6 +5,8 @@ import { cleaned, photographFault } from './names.mjs';
 /** A photograph has so many bytes at most; its copy for the screen so many pixels at its longer side. */
 export const MOST_BYTES = 25 * 1048576;
 const LONGEST = 1600;
+/** One side is so many times as long as the other at most: of a narrower cabin nothing would be seen. */
+const NARROWEST = 5;
 /** So many are kept in the browser, the latest. */
 const MOST_KEPT = 6;
 const [DATABASE, STORE] = ['winnathey photographs', 'photographs'];
@@ -27,12 +29,19 @@ export function sizeFault({ name, size }) {
     return `${name} has ${megabytes(size)}. A photograph may have ${megabytes(MOST_BYTES)} at most: save a smaller copy of it and choose that.`;
 }
 
-/** The picture in a file, with its bytes and a copy for the screen, or null where the browser cannot show it. */
+/** Why a picture of this size is not taken, or null. */
+export function shapeFault(name, { width, height }) {
+    if (Math.max(width, height) <= NARROWEST * Math.min(width, height)) return null;
+    return `${name} has ${width} × ${height} pixels. One side of a photograph may be ${NARROWEST} times as long as the other at most: cut it to the cabin and choose that.`;
+}
+
+/** The picture in a file, with its bytes, its size and a copy for the screen, or null where the browser cannot show it. */
 async function shownFrom(file) {
     try {
         // A file may be moved or removed later: its bytes are held.
         const blob = new Blob([await file.arrayBuffer()], { type: file.type });
         const bitmap = await createImageBitmap(blob);
+        const size = { width: bitmap.width, height: bitmap.height };
         const share = Math.min(1, LONGEST / Math.max(bitmap.width, bitmap.height));
         const [width, height] = [bitmap.width, bitmap.height].map(side => Math.max(Math.round(side * share), 1));
         const canvas = Object.assign(document.createElement('canvas'), { width, height });
@@ -41,7 +50,7 @@ async function shownFrom(file) {
         context.fillRect(0, 0, width, height);
         context.drawImage(bitmap, 0, 0, width, height);
         bitmap.close();
-        return { url: canvas.toDataURL('image/jpeg', 0.85), width, height, blob };
+        return { url: canvas.toDataURL('image/jpeg', 0.85), width, height, blob, size };
     } catch {
         return null;
     }
@@ -88,6 +97,8 @@ export class Photographs {
         const fault = sizeFault(file);
         const picture = fault ? null : await shownFrom(file);
         if (!picture) return { fault: fault ?? `${file.name} cannot be read as a picture. Choose a JPEG, PNG or WebP file.` };
+        const narrow = shapeFault(file.name, picture.size);
+        if (narrow) return { fault: narrow };
         const key = Math.random().toString(36).slice(2);
         this.#pictures.set(key, picture);
         try {

@@ -1,8 +1,4 @@
-"""Screens of the cabin that stand in front of others, marks of differences, and what is said of both."""
-import base64
-import time
-
-from selenium.webdriver.common.by import By
+"""Screens of the cabin in front of others, marks of differences, refused places, and photographs that are no cabin."""
 from selenium.webdriver.common.keys import Keys
 from selenium.webdriver.support.ui import Select
 
@@ -207,3 +203,27 @@ class Covered(PageTest):
         self.press("Cabin")
         self.assertEqual((self.values()[2], self.text("place-message")), (str(grid), ""))
         self.assertNotIn("stand in the grid", self.panel().text)
+
+    # ---- the photograph
+
+    def test_the_focus_stays_when_the_photograph_goes(self):
+        self.opened(NAMES)
+        self.drop_on_panel("view.png", self.picture(300, 400, "image/png"), "image/png")
+        self.labelled("Remove the photograph").send_keys(Keys.ENTER)
+        self.settle()
+        self.assertEqual((self.focus(), self.names()), ("choose-photograph", NAMES.decode()))
+
+    def test_a_photograph_too_narrow_is_refused(self):
+        self.opened(NAMES)
+        for width, height in [(1, 2000), (2000, 1), (501, 100)]:
+            self.drop_on_panel("view.png", self.picture(width, height, "image/png"), "image/png")
+            self.assertIn(f"view.png has {width} × {height} pixels. One side of a photograph may be 5 times as long as the other at most", self.text("notice"))
+            self.assertIn("Nothing was changed.", self.text("notice"))
+            self.assertEqual(self.names(), NAMES.decode())
+        self.drop_on_panel("view.png", self.picture(100, 500, "image/png"), "image/png")
+        self.assertEqual((self.text("notice"), self.names()), ("", (NAMES + b"photograph view.png\n").decode()))
+        box = self.js("const b = document.querySelector('[data-cabin=now] .cabin-stage').getBoundingClientRect(); return [b.width, b.height]")
+        self.assertGreater(min(box), 80)
+        self.drop(("cabin.book", BOOK), ("cabin.book.names", NAMES + b"photograph high.png\n"), ("high.png", self.picture(10, 900, "image/png")))
+        self.settle()
+        self.assertIn("high.png has 10 × 900 pixels.", self.text("notice"))
