@@ -114,9 +114,12 @@ fn parsed(line: &[u8], is_first: bool, edition: Edition) -> Result<Option<Asked>
     let mut rig = rig_of(rig).map_err(wrong)?;
     rig.edition = Some(edition);
     let numbers = numbers_of(word.trim()).map_err(wrong)?;
-    let asked = asked::of_numbers(rig, numbers, Names::default())?;
+    let kind = rig.kind.clone();
+    let refused = |failure| in_line(failure, &kind);
+    let asked = asked::of_numbers(rig, numbers, Names::default()).map_err(refused)?;
     // Alone, so that what is wrong with it is told before what stands behind it.
-    library::append(edition, &[], asked.rig(), asked.letters(), MAX_BOOK).map_err(|refusal| asked.refused(refusal))?;
+    let appended = library::append(edition, &[], asked.rig(), asked.letters(), MAX_BOOK);
+    appended.map_err(|refusal| refused(asked.refused(refusal)))?;
     Ok(Some(asked))
 }
 
@@ -127,6 +130,20 @@ fn rig_of(typed: &str) -> Result<TypedRig, String> {
         return Err(format!("a line begins with kind and rank, as D5, not with '{}'", text::plain(typed)));
     }
     TypedRig::of(kind.to_string(), rank)
+}
+
+/// Lines do not take a kind by its number, as the command's arguments do.
+fn in_line(failure: Failure, kind: &str) -> Failure {
+    match failure {
+        Failure::Refused(refusal, _) if refusal.number() == 5 => {
+            let kind = text::plain(kind);
+            Failure::Refused(
+                refusal,
+                Some(format!("'{kind}' is no kind: a line begins with A, B or D and the rank, as D5")),
+            )
+        }
+        other => other,
+    }
 }
 
 fn numbers_of(typed: &str) -> Result<Numbers, String> {
