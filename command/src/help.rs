@@ -13,10 +13,11 @@ pub const ABOUT: &str = "Router presets as words in Coxeter groups A, B and D. E
 
 /// What holds for every subcommand, in paragraphs.
 pub const END: [&str; 2] = [
-    "'winnathey SUBCOMMAND --help' says how to use it, with examples.",
+    "'winnathey SUBCOMMAND --help' says how to use it, with examples; so does 'winnathey help SUBCOMMAND'. 'winnathey \
+     --version' prints the version and the hash of the library.",
     "A call that cannot be answered is refused with a number and its meaning on standard error. The exit status is 0 \
      for an answer, 1 for a refusal or a file that cannot be read or written, 2 if the command was not understood, 4 \
-     if a file is written but something failed behind that.",
+     if a file is written but something failed afterwards.",
 ];
 
 /// Lines are no longer, however wide the terminal is.
@@ -164,6 +165,33 @@ mod tests {
         for text in texts {
             for line in text.lines() {
                 assert!(text::columns(line) <= 80, "{line}");
+            }
+        }
+    }
+
+    /// The options that a text names, each with the subcommand in front of it if there is one: 'append --from'.
+    fn named(text: &str) -> Vec<(Option<&'static Subcommand>, &str)> {
+        let words: Vec<&str> = text.split([' ', '\n']).collect();
+        let option = |at: usize| {
+            let name = words[at].trim_end_matches([',', '.', ';', ':', ')']);
+            let is_option = name.starts_with('-')
+                && name.len() > 1
+                && name.chars().all(|letter| letter == '-' || letter.is_ascii_alphabetic());
+            is_option.then(|| (at.checked_sub(1).and_then(|at| subcommands::named(words[at])), name))
+        };
+        (0..words.len()).filter_map(option).collect()
+    }
+
+    #[test]
+    fn every_option_that_a_help_names_is_there() {
+        for subcommand in &SUBCOMMANDS {
+            let operands = subcommand.operands.iter().map(|operand| operand.about);
+            let options = subcommand.all_options().map(|option| option.about);
+            for text in operands.chain(options).chain([subcommand.text]) {
+                for (other, option) in named(text) {
+                    let of = other.unwrap_or(subcommand);
+                    assert!(option == "-h" || of.has(option), "{}: no {} {option}", subcommand.name, of.name);
+                }
             }
         }
     }

@@ -10,15 +10,18 @@ fn escaped(text: &str) -> String {
 }
 
 const FILES: &str = "BOOK.names, beside a book, has names for the sources and screens of its rig and for its presets, \
-in lines such as 'source 1 rear view', 'screen 3 windscreen' and 'preset 0 Motorway'; # begins a comment.";
+in lines such as 'source 1 rear view', 'screen 3 windscreen' and 'preset 0 Motorway'; further 'place 3 40 420 160 200', where a \
+screen stands in the cabin, 'photograph cabin.jpg' and 'delay 2.5', the milliseconds of one step. # begins a comment.\n\n\
+Below the prefix it is installed in, /usr say, share/winnathey has command.schema.json, the schema of the JSON; \
+verify_certificate.py, which checks what certify writes; and winnathey.html, the page, if that is installed too.";
 
 const ENVIRONMENT: &str = "COLUMNS sets the width of lines. NO_COLOR turns colours off, and so does CLICOLOR=0. PAGER names the program that \
 shows long answers on a terminal, less if it is not set; an empty one turns that off.";
 
-const STATUS: &str = "0 for an answer, 1 for a refusal or a file that cannot be read or written, 2 if the command was \
-not understood, 4 if a file is written but something failed behind that: the disk does not confirm it, or standard \
-output, which was to say so, failed. With --status, of same and fallback, and always of diff: 0 for yes, 1 for no, 2 if the command was not \
-understood, 3 for any other failure.";
+const STATUS: &str = "0 for an answer; 1 for a refusal, a file that cannot be read or written, a refused record that check or \
+list --words finds, or a sheet of report --strict that begins with a warning; 2 if the command was not understood; 4 if a \
+file is written but something failed afterwards: the disk does not confirm it, or standard output, which was to say so, failed. For same and fallback with --status, and always for diff: 0 for yes, 1 for \
+no, 2 if the command was not understood, 3 for any other failure.";
 
 const JSON: &str = "With --json every subcommand prints one JSON object on one line. An answer has \"subcommand\", \
 \"ok\": true and its fields; words, windows and sets are lists of numbers, a rig is {\"kind\", \"rank\", \"lanes\"}. \
@@ -26,7 +29,8 @@ A failure has \"subcommand\" (null if there is none such), \"ok\": false, \"stat
 (a list of refused records, each with \"preset\" and \"refused\"), \"usage\", or \"error\" with \"file\" or, \
 with status 4, the file that is \"written\"; \"file\" and \"line\" say where in a file of lines. \
 \"warnings\" stands there if there are any. A file's name is text, and one that is no UTF-8 is {\"name\", \"bytes\"}, \
-with its bytes in hexadecimal digits. The schema is docs/command.schema.json. Fields are added in later versions, and none is taken away.";
+with its bytes in hexadecimal digits. The schema is share/winnathey/command.schema.json, in the \
+sources docs/command.schema.json. Fields are added in later versions, and none is taken away.";
 
 pub fn roff() -> String {
     let mut page = format!(
@@ -63,7 +67,7 @@ pub fn roff() -> String {
         }
     }
     for (name, text) in [("JSON", JSON), ("FILES", FILES), ("ENVIRONMENT", ENVIRONMENT), ("EXIT STATUS", STATUS)] {
-        page += &format!(".SH {name}\n{}\n", escaped(text));
+        page += &format!(".SH {name}\n{}\n", text.split("\n\n").map(escaped).collect::<Vec<_>>().join("\n.PP\n"));
     }
     page
 }

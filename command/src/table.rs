@@ -165,6 +165,7 @@ pub const TIMEOUT_OF_FILE: Opt =
 
 /// A preset out of a book in place of RIG and WORD.
 pub const FROM_BOOK: Opt = Opt::file("--book", "FILE", "takes the preset out of this book, in place of RIG and WORD");
+pub const BOTH_FROM_BOOK: Opt = FROM_BOOK.about("takes the first preset, or both, out of this book");
 pub const PRESET: Opt = Opt::with("--preset", "N", "the preset's number in the book of --book, from 0");
 pub const BOTH_PRESETS: Opt =
     Opt::with("--preset", "N", "the number of the first preset in the book of --book; given twice, of both").twice();

@@ -19,7 +19,12 @@ pub const SUBCOMMAND: Subcommand = Subcommand {
            greatest length, and its normal form. There are tables up to rank 19 for A and up to 16 for B and D; other \
            ranks are refused (20).",
     operands: &[table::RIG],
-    options: &[table::SVG, table::PNG, table::FORCE, table::TIMEOUT_OF_FILE],
+    options: &[
+        table::SVG,
+        table::PNG,
+        table::FORCE.about("lets --svg or --png replace an existing file, if that is of the same sort"),
+        table::TIMEOUT_OF_FILE,
+    ],
     examples: &["winnathey delays B3", "winnathey delays B5 --svg delays.svg"],
     json: &[
         &[

@@ -26,7 +26,7 @@ pub const SUBCOMMAND: Subcommand = Subcommand {
         table::BOTH,
         table::OUTPUT_PICTURE,
         table::PNG,
-        table::FORCE,
+        table::FORCE.about("lets -o or --png replace an existing file, if that is of the same sort"),
         table::FROM_BOOK,
         table::EDITION,
         table::TIMEOUT_OF_FILE,

@@ -25,7 +25,7 @@ pub const SUBCOMMAND: Subcommand = Subcommand {
            then which to keep. Several choices may serve; one is given. A no is an answer: the exit status is 0, \
            unless --status is given.",
     operands: &[table::RIG, WORDS],
-    options: &[table::EMPTY, table::STATUS, table::FROM_BOOK, table::EDITION, table::TIMEOUT, table::BOTH_PRESETS],
+    options: &[table::EMPTY, table::STATUS, table::BOTH_FROM_BOOK, table::EDITION, table::TIMEOUT, table::BOTH_PRESETS],
     examples: &["winnathey fallback A2 '1 2 1' '1 2'"],
     json: &[
         &[("present", "the present preset: rig, word"), ("simpler", "the simpler preset, likewise")],

@@ -11,6 +11,7 @@ use crate::{asked, library, parked, text};
 use std::io::{ErrorKind, Write};
 use std::path::Path;
 
+const BOOK: Operand = Operand { about: "the book's file", ..table::BOOK };
 const WHAT: Operand = Operand {
     name: "WHAT",
     about: "what is named: source, screen or preset; or place (where a screen stands), photograph or delay; everything is \
@@ -39,10 +40,10 @@ pub const SUBCOMMAND: Subcommand = Subcommand {
         "BOOK WHAT [N] NAME --edition EDITION",
         "BOOK WHAT [N] --remove --edition EDITION",
     ],
-    text: "Lists the names in BOOK.names and what else is kept there, or changes one of these lines. Comments and the order of the lines stay. The names are \
-           changed under the book's lock, written beside their file and renamed, like a book; the book itself stays \
-           as it is.",
-    operands: &[table::BOOK, WHAT, NUMBER, NAME],
+    text: "Lists the names in BOOK.names and what else is kept there, or changes one of these lines. Comments and the \
+           order of the lines stay. The names are changed under the book's lock, written beside their file and \
+           renamed, like a book; the book itself stays as it is.",
+    operands: &[BOOK, WHAT, NUMBER, NAME],
     options: &[table::EDITION, table::TIMEOUT, table::REMOVE, table::DRY_RUN, table::QUIET],
     examples: &[
         "winnathey name presets.book screen 3 'left mirror' --edition first",

@@ -26,7 +26,7 @@ pub const SUBCOMMAND: Subcommand = Subcommand {
     text: "The first word followed by the second: its normal form and what it shows. With u(-i) = -u(i), the product \
            of two windows has at i the entry that the first has where the second says.",
     operands: &[table::RIG, FACTORS],
-    options: &[table::EMPTY, table::FROM_BOOK, table::EDITION, table::TIMEOUT, table::BOTH_PRESETS],
+    options: &[table::EMPTY, table::BOTH_FROM_BOOK, table::EDITION, table::TIMEOUT, table::BOTH_PRESETS],
     examples: &["winnathey product A3 1 3", "winnathey product B3 '[2 1 3]' '[1 3 -2]'"],
     json: &[
         &[("first", "the first factor: rig, word"), ("second", "the second factor, likewise")],

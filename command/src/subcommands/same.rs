@@ -20,7 +20,7 @@ pub const SUBCOMMAND: Subcommand = Subcommand {
            the dictionary, where the HIGHER step comes first. A no is an answer: the exit status is 0, unless --status \
            is given. The second preset has the first one's rig if it has none of its own.",
     operands: &[table::RIG, table::ONE_WORD],
-    options: &[table::EMPTY, table::STATUS, table::FROM_BOOK, table::EDITION, table::TIMEOUT, table::BOTH_PRESETS],
+    options: &[table::EMPTY, table::STATUS, table::BOTH_FROM_BOOK, table::EDITION, table::TIMEOUT, table::BOTH_PRESETS],
     examples: &[
         "winnathey same A2 '1 2 1' '2 1 2'",
         "winnathey same A3 1,2,1 B4 1,2,1",
