@@ -12,7 +12,7 @@ const [VIEW_WIDE, VIEW_HIGH] = [22, 15];
 
 /** How far apart lanes and columns are, the size of the labels, and the most that a label with a name takes. */
 function spacing(lanes) {
-    if (lanes <= 16) return { lane: 26, column: 38, size: 12, room: 150, double: true };
+    if (lanes <= 16) return { lane: 26, column: 38, size: 12, room: 180, double: true };
     return { lane: lanes <= 32 ? 18 : 14, column: lanes <= 32 ? 38 : 32, size: 11, room: lanes <= 32 ? 150 : 84, double: false };
 }
 

@@ -9,7 +9,11 @@ use crate::names::Names;
 pub const WIDE: usize = 680;
 /// A label with a name has so many pixels at most, by the number of lanes; the table of screens has the whole name.
 fn room(lanes: usize) -> usize {
-    if lanes <= 32 { 150 } else { 84 }
+    match lanes {
+        0..=16 => 180,
+        17..=32 => 150,
+        _ => 84,
+    }
 }
 
 const EDGE: usize = 4;
@@ -96,6 +100,14 @@ pub fn rows(drawing: &Drawing, shared: bool) -> Vec<(Option<String>, String)> {
 mod tests {
     use super::*;
     use crate::library::{Kind, Rig};
+
+    #[test]
+    fn a_name_of_sixteen_letters_is_whole() {
+        let names = Names::parse(b"screen 3 far right window").unwrap();
+        let drawing =
+            Drawing::of(Rig { kind: Kind::B, rank: 8 }, "stored", &[], &names, &layout(8, 0, &names)).ok().unwrap();
+        assert!(rows(&drawing, false)[0].1.contains("screen 3 far right window<"));
+    }
 
     #[test]
     fn no_row_is_wider_than_a_page_or_has_small_text() {

@@ -90,6 +90,20 @@ class Sheet(PageTest):
         self.assertIn("2 rear view", drawn)
         self.assertIn("screen 1 left mirror", drawn)
 
+    def test_nothing_is_cut_on_a_phone(self):
+        self.word("4 5")
+        for lane in range(1, 6):
+            self.write(f"name of source {lane}", "rear view, right")
+            self.write(f"name of screen {lane}", "far right window")
+        self.press("Sheet")
+        for width in [320, 360, 600]:
+            self.size(width, 900)
+            for part in ["#sheet", "#sheet .screens"]:
+                self.assertLessEqual(*self.js("const e = document.querySelector(arguments[0]); return [e.scrollWidth, e.clientWidth]", part), f"{part} at {width}")
+        # The picture has these names whole.
+        drawn = self.js("return [...document.querySelectorAll('#sheet figure text')].map(e => e.textContent)")
+        self.assertIn("screen 5 far right window", drawn)
+
     def test_the_whole_book_is_the_command_s_report(self):
         """The same parts in the same order, with the same words."""
         book = self.book(1, CABIN)
