@@ -73,7 +73,7 @@ function checkingPart(book) {
     const [name, certificate] = [quoted(book.name), quoted(`${book.name}.jsonl`)];
     const line = text => [make('br'), make('code', {}, text), '\n'];
     return make('p', { class: 'checking' },
-        'Every word, window and count on this sheet is an answer of the verified library. The first line writes the evidence for each, the second checks it without the library:\n',
+        'Every word, window and count on this sheet is an answer of the verified library. The first line writes the evidence for each, the second checks it without the library; verify_certificate.py comes with the command, in share/winnathey:\n',
         line(`winnathey certify ${name} --edition ${editionOf(book)} -o ${certificate}`),
         line(`python3 verify_certificate.py ${name} ${certificate} --edition ${editionOf(book)}`));
 }

@@ -72,7 +72,8 @@ fn checking(given: &Given) -> String {
     let line = |line: String| format!("<br><code>{}</code>\n", escaped(&line));
     format!(
         "<p class=\"checking\">Every word, window and count on this sheet is an answer of the verified library. The first line \
-         writes the evidence for each, the second checks it without the library:\n{}{}</p>\n",
+         writes the evidence for each, the second checks it without the library; verify_certificate.py comes \
+         with the command, in share/winnathey:\n{}{}</p>\n",
         line(format!("winnathey certify {book} --edition {edition} -o {certificate}")),
         line(format!("python3 verify_certificate.py {book} {certificate} --edition {edition}"))
     )
