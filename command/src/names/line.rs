@@ -168,7 +168,7 @@ fn checked(keyword: Keyword, what: &str, value: &str) -> Result<(), String> {
     match keyword {
         Keyword::Place => Place::parse(value).map(|_| ()).map_err(|problem| format!("{what} {problem}")),
         Keyword::Delay if thousandths(value).is_none() => {
-            Err(format!("delay needs milliseconds above 0, as 2.5, not '{}'", text::plain(value)))
+            Err(format!("delay needs milliseconds from 0.001 to 9999.999, as 2.5, not '{}'", text::plain(value)))
         }
         Keyword::Delay => Ok(()),
         Keyword::Photograph if value.contains(['/', '\\']) || value == "." || value == ".." => {
