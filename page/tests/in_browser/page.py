@@ -185,9 +185,9 @@ def shot(driver, file):
 
 
 def quantized(file):
-    """A picture with few colours, which makes it small, where the library for that is there."""
+    """A picture with few colours, which makes it small, where the library for that is there. Those of thin lines, which are rare, stay."""
     try:
         from PIL import Image
     except ImportError:
         return
-    Image.open(file).convert("RGB").quantize(64, dither=Image.Dither.NONE).save(file, optimize=True)
+    Image.open(file).convert("RGB").quantize(128, method=Image.Quantize.MAXCOVERAGE, dither=Image.Dither.NONE).save(file, optimize=True)
