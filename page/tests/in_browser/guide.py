@@ -7,6 +7,7 @@ The guide's own words are the steps, so that it cannot say what the page does no
     **LABEL** type `TEXT`           the field; **LABEL** | `TEXT` in a table too
     **LABEL** choose `TEXT`         the list
     | **LABEL** | **LABEL** |       a table of fields and lists, filled in row by row
+    on a phone open **LABEL**       the same on a narrow screen, with the fields of the names below it
     drop `FILE` and `FILE`          files that were saved before, dropped on the page
     open the page again             another visit
     “TEXT”                          is seen on the page
@@ -29,13 +30,14 @@ from in_browser.screenshots import Screenshots
 GUIDE = ROOT / "docs/GUIDE.md"
 PICTURES = ROOT / "docs/pictures"
 READ = Path(__file__).resolve().parents[1] / "guide_pictures.txt"
-WIDTH, HEIGHT, MOST_BYTES = 1280, 900, 100_000
+WIDTH, HEIGHT, MOST_HIGH, MOST_BYTES = 1280, 900, 1000, 100_000
 BOLD, CODE = r"\*\*(?P<{}>[^*]+)\*\*", r"`(?P<{}>[^`]+)`"
 STEP = re.compile("|".join([
     r"!\[[^\]]*\]\(pictures/(?P<picture>guide-[^)]+\.png)\)",
     rf"\bon {BOLD.format('card')} press {BOLD.format('on_card')}",
     rf"\bpress {BOLD.format('press')}",
     rf"{BOLD.format('field')} (?:type|choose|\|) {CODE.format('text')}",
+    rf"\bon a phone open {BOLD.format('phone')}",
     rf"\bdrop {CODE.format('one')} and {CODE.format('two')}",
     r"\bopen the page (?P<again>again)\b",
     r"“(?P<said>[^”]+)”",
@@ -129,8 +131,8 @@ class Guide(PageTest):
             const [parts, most] = arguments, boxes = list => list.map(e => e.getBoundingClientRect()).filter(box => box.height > 0);
             const outer = boxes(parts), top = Math.min(...outer.map(box => box.top));
             // What is too long ends with the last part of it that fits; what is beside the picture is as high as the page.
-            const inner = boxes(parts.flatMap(e => [...e.querySelectorAll(':scope > *, :scope > .panel > *, :scope > .panel > * > *')])).map(box => box.bottom).filter(end => end - top < most);
-            return [Math.min(...outer.map(box => box.left)), top, Math.max(...outer.map(box => box.right)), Math.max(...inner)];""", self.parts(), HEIGHT)
+            const inner = boxes(parts.flatMap(e => [...e.querySelectorAll(':scope > *, :scope > .panel > *, :scope > .panel > * > *, :scope > .panel > .sheet > * > *')])).map(box => box.bottom).filter(end => end - top < most);
+            return [Math.min(...outer.map(box => box.left)), top, Math.max(...outer.map(box => box.right)), Math.max(...inner)];""", self.parts(), MOST_HIGH)
         left, top, right, bottom = max(left - 8, 0), max(top - 8, 0), min(right + 8, WIDTH), bottom + 8
         clip = {"x": left, "y": top, "width": right - left, "height": bottom - top, "scale": 1}
         picture = self.driver.execute_cdp_cmd("Page.captureScreenshot", {"format": "png", "clip": clip, "captureBeyondViewport": True})
@@ -158,6 +160,8 @@ class Guide(PageTest):
             return self.assertIn(parts["said"], self.js("return document.body.innerText.replace(/\\s+/g, ' ')"))
         if "seen" in parts:
             return self.assertTrue(self.js(SEEN, parts["seen"]), f"'{parts['seen']}' is no label on the page")
+        if "phone" in parts:
+            return self.on_a_phone(parts["phone"])
         if "again" in parts:
             return self.load()
         if "one" in parts:
@@ -169,6 +173,15 @@ class Guide(PageTest):
         self.settle()
         self.keep_saved()
 
+    def on_a_phone(self, label):
+        self.size(360, HEIGHT)
+        self.found(label).click()
+        for field in ["source 1", "screen 5"]:
+            self.assertNotEqual(self.js("return arguments[0].value", self.found(field)), "")
+        self.found(label).click()
+        self.size(WIDTH, HEIGHT)
+        self.settle()
+
     def fill(self, field, text):
         if field.tag_name == "select":
             return Select(field).select_by_visible_text(text)
@@ -177,6 +190,7 @@ class Guide(PageTest):
         self.js("arguments[0].dispatchEvent(new Event('change', {bubbles: true})); arguments[0].blur()", field)
         self.settle()
         self.assertEqual(self.js("return arguments[0].value", field), text)
+        self.assertNotEqual(field.get_attribute("aria-invalid"), "true", "it is refused")
 
     def test_the_guide_is_what_the_page_does(self):
         self.js("window.print = () => { window.printed = true; }")
@@ -211,7 +225,7 @@ class Guide(PageTest):
         """No bold text is left out, and what the guide quotes of refusals is what the page says."""
         text = GUIDE.read_text(encoding="utf-8")
         walked, refusals = text.split("## What the refusals mean")
-        inside = {value for _, parts in steps() for key, value in parts.items() if key in ("card", "on_card", "press", "field", "seen")}
+        inside = {value for _, parts in steps() for key, value in parts.items() if key in ("card", "on_card", "press", "field", "phone", "seen")}
         self.assertEqual(inside, set(re.findall(r"\*\*([^*]+)\*\*", walked)))
         page = self.PAGE.read_text(encoding="utf-8")
         quoted = re.findall(r"“([^”]+)”", refusals)
