@@ -5,6 +5,7 @@ import { attempt } from './library.mjs';
 import { withName } from './names.mjs';
 import { toldText } from './plain.mjs';
 import { inRig, nameField } from './rig.mjs';
+import { elsewhere } from './saved.mjs';
 import { NEW_BOOK, presetOf, samePreset } from './state.mjs';
 import { pictureMarkup } from './strands.mjs';
 import { term } from './terms.mjs';
@@ -59,11 +60,6 @@ export function presetIn(library, { edition, bytes }, state) {
     const listed = bytes.length > 0 ? attempt(() => library.presets(edition, bytes)).value ?? [] : [];
     const found = listed.find(preset => !preset.refusal && samePreset(state, preset));
     return found ? presetOf(state, found.number) : null;
-}
-
-/** The photograph of a book that goes to other files: it may not lie beside those. */
-function elsewhere({ photograph }) {
-    return photograph && { ...photograph, beside: false };
 }
 
 export class BookPanel {

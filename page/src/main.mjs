@@ -178,6 +178,7 @@ class App {
         const { book } = this.state;
         const { unsaved } = this.shelf;
         setText(byId('book-title'), `${book.name} (${editionName(book.edition)})${unsaved ? ' *' : ''}`);
+        byId('book-title').classList.toggle('saved', !unsaved);
         put(byId('book-title'), 'title', unsaved ? 'not saved yet' : '');
         put(document, 'title', `${unsaved ? '* ' : ''}${book.name} – Winnathey`);
         this.others.open(book.bytes.length === 0 && book.name === NEW_BOOK.name ? '' : book.name);

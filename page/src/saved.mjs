@@ -14,6 +14,11 @@ function placeOf({ book, photograph }) {
     return `${book.name}\n${photograph.file}`;
 }
 
+/** The photograph of a book that goes to other files: it may not lie beside those. */
+export function elsewhere({ photograph }) {
+    return photograph && { ...photograph, beside: false };
+}
+
 export class Saved {
     #names = new Map();
     /** The key of the photograph in each file. */
