@@ -1,5 +1,6 @@
 // The cabin as a drawing: every screen where it stands, with the source that it shows, the right way round. It is drawn in pixels,
 // so that its text has one size on a phone, on a wall and on paper; a screen too small for its text shows less of it.
+import { MARKS, differsFrame, markOf, signMarkup } from './cabin_marks.mjs';
 import { hiddenText, inFront, openParts } from './covered.mjs';
 import { escaped, tag } from './markup.mjs';
 import { CABIN, labelled, nameOf } from './names.mjs';
@@ -168,40 +169,28 @@ function frameMarkup(entry, { width, height }, photograph) {
     return halo + (entry < 0 ? line('cabin-double') + solid('cabin-inner') : line('cabin-line'));
 }
 
-/** The mark of a difference: the radius of its sign, and how far its frame and the content are from the edge of the box. */
-const MARKS = { large: { radius: 10, frame: 6, edge: 9 }, small: { radius: 7, frame: 3.5, edge: 3 } };
-
-function markOf({ width, height }) {
-    return width < 110 || height < 56 ? 'small' : 'large';
+/** The sign beside a view that stands between lines of text, which then have the whole width; or null where there is no room for that. */
+function besideView(area, mirrored) {
+    const { radius, edge, side } = MARKS[markOf(area)];
+    const room = { left: area.left + side, top: area.top + edge, width: area.width - 2 * side, height: area.height - 2 * edge };
+    const layout = layoutOf(room, mirrored);
+    const view = Math.min(layout.view, (room.width - 4 * radius - 16) * 30 / 44);
+    if (layout.kind !== 'tall' || view < 2 * radius - 1) return null;
+    const top = room.top + (room.height - layout.line * layout.lines - view - 4) / 2;
+    return { room, layout: { ...layout, view }, sign: { x: area.left + area.width - edge - radius - 3, y: top + layout.line + 1 + view / 2 } };
 }
 
-/** A dashed frame inside the box: what is around it belongs to other screens. */
-function differsFrame(box) {
-    const { frame } = MARKS[markOf(box)];
-    const around = { x: frame, y: frame, width: Math.max(box.width - 2 * frame, 0), height: Math.max(box.height - 2 * frame, 0), rx: 3 };
-    const small = markOf(box) === 'small' ? ' small' : '';
-    return tag('rect', { ...around, class: `cabin-halo${small}` }) + tag('rect', { ...around, class: `cabin-differs${small}` });
-}
-
-/** A sign in the upper right corner of a part of the box. */
-function signMarkup(area) {
-    const size = markOf(area);
-    const { radius } = MARKS[size];
-    const [x, y] = [area.left + area.width - radius - 2, area.top + radius + 2];
-    return tag('circle', { class: 'cabin-sign', cx: x, cy: y, r: radius }) +
-        tag('text', { class: `cabin-unequal ${size}`, x, y: y + radius * 0.55, 'text-anchor': 'middle' }, '≠');
-}
-
-/** The room for the content beside the sign or below it, whichever can show more. */
-function besideSign(area, mirrored) {
+/** The sign in the upper right corner of a part of the box, and the room beside it or below it, whichever can show more. */
+function inCorner(area, mirrored) {
     const { radius, edge } = MARKS[markOf(area)];
-    const sign = 2 * radius + 3;
+    const across = 2 * radius + 3;
     const room = (right, top) => ({
         left: area.left + edge, top: area.top + top, width: Math.max(area.width - edge - right, 1), height: Math.max(area.height - edge - top, 1),
     });
-    const [beside, below] = [room(sign, edge), room(edge, sign)];
-    const shows = area => shownBy(layoutOf(area, mirrored), area);
-    return shows(beside) >= shows(below) ? beside : below;
+    const shows = part => shownBy(layoutOf(part, mirrored), part);
+    const [beside, below] = [room(across, edge), room(edge, across)];
+    const best = shows(beside) >= shows(below) ? beside : below;
+    return { room: best, layout: layoutOf(best, mirrored), sign: { x: area.left + area.width - radius - 2, y: area.top + radius + 2 } };
 }
 
 /**
@@ -209,21 +198,23 @@ function besideSign(area, mirrored) {
  * it stands over the frame.
  */
 function contentIn(names, screen, entry, area, differs) {
-    const room = differs ? besideSign(area, entry < 0) : area;
-    const layout = layoutOf(room, entry < 0);
+    const mirrored = entry < 0;
+    const marked = differs ? besideView(area, mirrored) ?? inCorner(area, mirrored) : null;
+    const { room, layout } = marked ?? { room: area, layout: layoutOf(area, mirrored) };
     const { plate, markup } = CONTENT[layout.kind](names, screen, entry, room, layout);
     const tiny = layout.kind === 'tiny';
     const inside = {
         x: room.left, y: room.top, width: room.width, height: room.height, viewBox: `0 0 ${room.width} ${room.height}`, class: tiny ? 'cabin-over' : 'cabin-inside',
     };
     const taken = { left: room.left + plate.x, top: room.top + plate.y, width: plate.width, height: plate.height };
-    const sign = 2 * MARKS[markOf(area)].radius + 2;
+    const size = markOf(area);
+    const { radius } = MARKS[size];
     return {
         tiny,
         shows: shownBy(layout, room),
-        taken: differs ? [taken, { left: area.left + area.width - sign, top: area.top, width: sign, height: sign }] : [taken],
+        taken: marked ? [taken, { left: marked.sign.x - radius, top: marked.sign.y - radius, width: 2 * radius, height: 2 * radius }] : [taken],
         markup: tag('svg', inside, tag('rect', { class: 'cabin-plate', rx: 3, ...plate }) + markup),
-        sign: differs ? signMarkup(area) : '',
+        sign: marked ? signMarkup(size, marked.sign) : '',
     };
 }
 
