@@ -24,6 +24,8 @@ from pathlib import Path
 
 from selenium.webdriver.support.ui import Select
 
+from selenium.webdriver.support.ui import WebDriverWait
+
 from in_browser.page import ROOT, PageTest, quantized
 from in_browser.screenshots import Screenshots
 
@@ -175,7 +177,10 @@ class Guide(PageTest):
 
     def on_a_phone(self, label):
         self.size(360, HEIGHT)
+        # The page is drawn anew for another width with one of the next frames.
+        self.driver.execute_async_script("const done = arguments[0]; setTimeout(() => requestAnimationFrame(() => requestAnimationFrame(done)), 300)")
         self.found(label).click()
+        WebDriverWait(self.driver, 10).until(lambda _: len(self.js(FIND, "source 1", None)) == 1)
         for field in ["source 1", "screen 5"]:
             self.assertNotEqual(self.js("return arguments[0].value", self.found(field)), "")
         self.found(label).click()
