@@ -225,5 +225,6 @@ class Covered(PageTest):
         box = self.js("const b = document.querySelector('[data-cabin=now] .cabin-stage').getBoundingClientRect(); return [b.width, b.height]")
         self.assertGreater(min(box), 80)
         self.drop(("cabin.book", BOOK), ("cabin.book.names", NAMES + b"photograph high.png\n"), ("high.png", self.picture(10, 900, "image/png")))
+        self.press("Open the file cabin.book all the same")
         self.settle()
         self.assertIn("high.png has 10 × 900 pixels.", self.text("notice"))
