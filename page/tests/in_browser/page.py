@@ -1,6 +1,7 @@
 """The page as a user sees it: what is pressed and typed is found by its label."""
 import base64
 import json
+import re
 import tempfile
 import unittest
 from pathlib import Path
@@ -162,8 +163,14 @@ class PageTest(unittest.TestCase):
         self.settle()
 
     def saved(self, name):
-        file = Path(self.downloads, name)
-        WebDriverWait(self.driver, 10).until(lambda _: file.exists() and not list(Path(self.downloads).glob("*.crdownload")))
+        """The bytes of a file that was given. Chromium numbers its name as long as it holds an earlier one of that name."""
+        numbered = re.compile(rf"{re.escape(Path(name).stem)}( \(\d+\))?{re.escape(Path(name).suffix)}")
+
+        def whole(_):
+            files = list(Path(self.downloads).iterdir())
+            return not any(file.suffix == ".crdownload" for file in files) and [file for file in files if numbered.fullmatch(file.name)]
+
+        file = WebDriverWait(self.driver, 30).until(whole)[0]
         content = file.read_bytes()
         file.unlink()
         return content
