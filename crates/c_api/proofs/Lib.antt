@@ -11,3 +11,5 @@ pub mod Unchanged
 pub mod Demand3
 pub mod NumbersExactly
 pub mod Sentences
+pub mod Vectors
+pub mod CallVectors

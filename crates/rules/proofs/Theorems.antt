@@ -19,8 +19,9 @@ use Rattle.coxeter.specs.Windows.{window}
 use Rattle.coxeter.specs.Dictionary.{shortlex}
 use Rattle.coxeter.specs.Relations.{Braid, Relation, Congruent}
 use Rattle.coxeter.specs.Checks.{WindowOf}
-use Rattle.coxeter.specs.NormalForm.{normalForm, IsNormalForm}
+use Rattle.coxeter.specs.NormalForm.{normalForm, wordNormalForm, IsNormalForm}
 use Rattle.coxeter.proofs.Levels.{accepted-of-refusal}
+use Rattle.coxeter.proofs.Theorems.{window-passes}
 use Rattle.rules.specs.Rules.{Rule, rules, fits, rewritten}
 use Rattle.rules.proofs.RuleList.{rule-of-list}
 use Rattle.rules.proofs.RuleFields.{right-empty}
@@ -65,3 +66,7 @@ module _ (k : Kind) (n : ℕ) (low : least k ≤ n) (x : Rule) (listed : List·M
 -- N1, N3: the shortest word with that window, and among those the first in the dictionary
 pub normalForm-least : (k : Kind) (n : ℕ) (w : List ℤ) → least k ≤ n → WindowOf k n w → IsNormalForm k n w (normalForm k n w)
 normalForm-least k n w low passed = complete.normalForm-least k n w low (accepted-of-refusal k n w passed)
+
+-- N2: of a word of any length
+pub wordNormalForm-least : (k : Kind) (n : ℕ) (u : List ℕ) → least k ≤ n → IsNormalForm k n (window k n u) (wordNormalForm k n u)
+wordNormalForm-least k n u low = normalForm-least k n (window k n u) low (window-passes k n u)

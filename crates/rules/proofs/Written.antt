@@ -28,13 +28,13 @@ use Rattle.coxeter.proofs.ChainedCalls.{product-of-words}
 use Rattle.coxeter.proofs.Written.{normalFormOfWord-accepted, normalFormOfWord-wrote, normalFormOfWindow-accepted, normalFormOfWindow-wrote}
 use Rattle.coxeter.proofs.Written.{productOfWords-accepted, productOfWords-wrote, inverseOfWord-accepted, inverseOfWord-wrote}
 use Rattle.rules.proofs.Completeness.{normalForm-only}
-use Rattle.rules.proofs.Theorems.{normalForm-least}
+use Rattle.rules.proofs.Theorems.{normalForm-least, wordNormalForm-least}
 
 -- ---- normal forms
 
 -- the normal form of a word, at a rank that passes checks 5 and 6
 form-least : (k n : ℕ) (u : List ℕ) → RankOf k n → IsNormalForm (kindOf k) n (window (kindOf k) n u) (wordNormalForm (kindOf k) n u)
-form-least k n u h = normalForm-least (kindOf k) n (window (kindOf k) n u) (rank-within k n h .0) (window-passes (kindOf k) n u)
+form-least k n u h = wordNormalForm-least (kindOf k) n u (rank-within k n h .0)
 
 -- normal_form_of_word: as long as was answered, and the rest of the output as it was lent
 module _ (k n : ℕ) (u before after : List ℕ) (l : ℕ) (left : Yields (normalFormOfWord k n u before) (Length l) after) where
