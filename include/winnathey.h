@@ -32,7 +32,7 @@
  *              longer. The slowest call known, a rewriting of 4,096 letters to its end, takes about
  *              10 milliseconds.
  *   Version    WINNATHEY_VERSION is the header's, winnathey_version() the linked library's. Within
- *              a soname (libwinnathey.so.0) functions and constants are added, never changed.
+ *              a soname (libwinnathey.so.1) functions and constants are added, never changed.
  *
  * ARGUMENTS
  *
@@ -103,10 +103,10 @@ extern "C" {
 
 /* ---- version */
 
-#define WINNATHEY_VERSION "0.9.0"
+#define WINNATHEY_VERSION "1.0.0"
 
 /* The same as a number: major * 1,000,000 + minor * 1,000 + patch. */
-#define WINNATHEY_VERSION_NUMBER 9000
+#define WINNATHEY_VERSION_NUMBER 1000000
 
 /* ---- kinds */
 

@@ -957,7 +957,7 @@ export class Winnathey {
     }
 
     /**
-     * The library's version, as '0.9.0'.
+     * The library's version, as '1.0.0'.
      * @returns {string}
      */
     version() {

@@ -54,7 +54,7 @@ def written(folder, library, machine, license_text):
     files = {
         f"{name}/__init__.py": read(HERE, "winnathey.py"),
         f"{name}/py.typed": b"",
-        f"{name}/libwinnathey.so.0": read(library),
+        f"{name}/libwinnathey.so.1": read(library),
         f"{information}/METADATA": "\n".join(metadata(project)).encode(),
         f"{information}/WHEEL": f"Wheel-Version: 1.0\nGenerator: winnathey\nRoot-Is-Purelib: false\nTag: {tag}\n".encode(),
         f"{information}/licenses/LICENSE": read(ROOT, "LICENSE"),
@@ -76,9 +76,9 @@ def written(folder, library, machine, license_text):
 def build_wheel(wheel_directory, config_settings=None, metadata_directory=None):
     """What pip calls."""
     machine = platform.machine()
-    library = os.environ.get("WINNATHEY_LIBRARY") or os.path.join(ROOT, "target", "targets", f"{machine}-linux", "libwinnathey.so.0")
+    library = os.environ.get("WINNATHEY_LIBRARY") or os.path.join(ROOT, "target", "targets", f"{machine}-linux", "libwinnathey.so.1")
     if not os.path.exists(library):
-        sys.exit(f"{library} is not there: run make, or set WINNATHEY_LIBRARY to libwinnathey.so.0")
+        sys.exit(f"{library} is not there: run make, or set WINNATHEY_LIBRARY to libwinnathey.so.1")
     return written(wheel_directory, library, machine, os.environ.get("WINNATHEY_LICENSE_TEXT", DEBIANS_LICENSE))
 
 

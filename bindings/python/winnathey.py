@@ -55,7 +55,7 @@ if TYPE_CHECKING:
 else:
     Book = Any
 
-__version__ = "0.9.0"
+__version__ = "1.0.0"
 __all__ = [
     "Refusal", "Refused", "Crossings", "DelayTable", "Preset", "Rewrite", "RewriteStep", "Rewriting", "Split",
     "Kind", "Word", "Window", "Steps", "Book", "NewPreset", "MAX_LANES", "MAX_WORD", "MAX_COUNTS", "MAX_BOOK",
@@ -210,13 +210,13 @@ def _open() -> ctypes.CDLL:
         return ctypes.CDLL(named)
     here = os.path.dirname(os.path.abspath(__file__))
     for folder in (here, os.path.join(here, "..", "lib"), os.path.join(here, "..", "..", "lib")):
-        path = os.path.join(folder, "libwinnathey.so.0")
+        path = os.path.join(folder, "libwinnathey.so.1")
         if os.path.exists(path):
             return ctypes.CDLL(path)
     try:
-        return ctypes.CDLL("libwinnathey.so.0")
+        return ctypes.CDLL("libwinnathey.so.1")
     except OSError as error:
-        raise OSError("libwinnathey.so.0 is not installed: set WINNATHEY_LIBRARY to its path") from error
+        raise OSError("libwinnathey.so.1 is not installed: set WINNATHEY_LIBRARY to its path") from error
 
 
 # The arguments of each call, as the header has them. A letter stands for an argument: u a number of 32 bits,
@@ -784,6 +784,6 @@ def refusal_message(number: int) -> str:
 
 
 def version() -> str:
-    """The library's version as a text such as 0.9.0."""
+    """The library's version as a text such as 1.0.0."""
     number = _c.version()
     return f"{number // 1000000}.{number // 1000 % 1000}.{number % 1000}"

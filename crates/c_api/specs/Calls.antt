@@ -66,9 +66,9 @@ unfoldable pub openedNumber : Opened → ℤ
 openedNumber (opened.Presets c) = pos c
 openedNumber (opened.Refused k) = refused k
 
--- IC10: the library's version, 0.9.0
+-- IC10: the library's version, 1.0.0
 unfoldable pub version : ℤ
-version = pos (0 * 1000000 + 9 * 1000 + 0)
+version = pos (1 * 1000000 + 0 * 1000 + 0)
 
 -- ---- numbers that go to a list (IC3): the answer's number first, then what goes to the list, which is nothing if
 -- the number is negative

@@ -11,7 +11,7 @@ ghost use Rattle.c_api.specs.Calls.{numbered, version};
 pub extern "C" fn winnathey_version() -> i64
     ensures { λ r. ⌜ r ≡ version ⌝ }
 {
-    9000
+    1_000_000
 }
 
 // The message of a refusal, written to the front of `out`. Returns its length, which is 0 for a number that is no
