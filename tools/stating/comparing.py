@@ -27,12 +27,15 @@ class Difference:
 
 
 def texts_of(model):
-    """By kind and name what the pages show of each contract, cited law or field, definition, type and clause, and of the table of wrong routers."""
+    """By kind and name what the pages show of each contract, cited law or field, definition, type and clause, and of the table of wrong routers. To a definition
+    belongs what pins it or why it has to be read, to a clause what settles it."""
     definitions, found = Definitions(model), {}
     for (kind, where, name), one in model.statements.items():
         found[kind, f"{where}: {name}"] = "\n".join([*one.before, one.text])
     for key in model.definitions:
-        found["definition", "{}/specs/{}: {}".format(*key)] = definitions.text(key)
+        pin = model.pins[key]
+        settled = sorted("{} {}: {}".format(*law) for law in pin.laws)
+        found["definition", "{}/specs/{}: {}".format(*key)] = "\n".join([definitions.text(key), pin.sort, pin.why, *settled])
     for crate in model.world.crates:
         for made in definitions.types(crate):
             found["type", f"{crate}: {made.name}"] = f"{made.comment}\n{made.text}"
