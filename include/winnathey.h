@@ -283,8 +283,8 @@ int64_t winnathey_delay_table(uint32_t kind, uint32_t rank,
 
 /* One rewrite of a word at a place, which counts from 0. The new word, which is no longer than the
    old, goes to out; the family, i and j of the rule go to the first three bytes of rule. Returns
-   the new word's length, or WINNATHEY_NONE_FITS. Refusal 14 concerns both outputs, and comes
-   before either is written. Refused 5 to 8, 12, 14. Time: L. */
+   the new word's length, or WINNATHEY_NONE_FITS. Refusal 14 concerns both outputs; it comes only if
+   a rule fits, and before either is written. Refused 5 to 8, 12, 14. Time: L. */
 int64_t winnathey_rewrite(uint32_t kind, uint32_t rank,
                           const uint8_t *word, winnathey_size word_len, winnathey_size place,
                           uint8_t *out, winnathey_size out_len,

@@ -14,8 +14,8 @@
  *
  * Only this file knows that the library has a memory of its own and counts in 64 bits. Inputs are copied to it,
  * outputs from it: every input is read before anything is written there, so that a list may call the library while it
- * is read. There is room for every answer, so that refusals 14 and 15, which concern short outputs, come from
- * `exports` alone. The memory does not grow: a rewriting that needs more is made in one that is given back.
+ * is read. There is room for every answer, so that refusals 14 and 15, which concern short outputs, never
+ * come. The memory does not grow: a rewriting that needs more is made in one that is given back.
  * @module winnathey
  */
 
