@@ -127,7 +127,7 @@ const NO_FALLBACK = -101;
 /** Room for the longest message of a refusal. */
 const MAX_MESSAGE = 256;
 /** The most counts of a delay table. */
-const MAX_COUNTS = 257;
+const MAX_TABLE_COUNTS = 257;
 /** How many numbers the library gives for each preset of a list. */
 const PRESET_FIELDS = 5;
 /** Bytes of an offset of a book and of its count; what stands behind the only record of a book; a record at most. */
@@ -292,7 +292,7 @@ const OUT = TWO + 4104;
 const OUT_TWO = OUT + 4096;
 const PLACES = OUT_TWO + 4096;
 const COUNTS = PLACES + 2 * MAX_NORMAL_FORM;
-const LENGTHS = COUNTS + 8 * MAX_COUNTS;
+const LENGTHS = COUNTS + 8 * MAX_TABLE_COUNTS;
 const BOOK = LENGTHS + 8 * 5;
 const NEW_BOOK = BOOK + 65536;
 const REST = NEW_BOOK + 65536 + 8 * Math.ceil((MAX_RECORD + TRAILER) / 8);
@@ -629,7 +629,7 @@ export class Winnathey {
     delayTable(kind, rank) {
         const m = this.#memory.look();
         const [k, r, { base }] = [kindNumber('kind', kind), rankNumber('rank', rank), m];
-        const outputs = [base + COUNTS, BigInt(MAX_COUNTS), base + OUT_TWO, 64n, base + OUT, 4096n, base + LENGTHS, 3n];
+        const outputs = [base + COUNTS, BigInt(MAX_TABLE_COUNTS), base + OUT_TWO, 64n, base + OUT, 4096n, base + LENGTHS, 3n];
         this.#answer(m.calls.winnathey_delay_table(k, r, ...outputs));
         return {
             counts: Memory.taken(m.u64, (base + COUNTS) >> 3, m.number(LENGTHS, 0)),

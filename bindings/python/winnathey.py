@@ -58,7 +58,7 @@ else:
 __version__ = "1.0.0"
 __all__ = [
     "Refusal", "Refused", "Crossings", "DelayTable", "Preset", "Rewrite", "RewriteStep", "Rewriting", "Split",
-    "Kind", "Word", "Window", "Steps", "Book", "NewPreset", "MAX_LANES", "MAX_WORD", "MAX_COUNTS", "MAX_BOOK",
+    "Kind", "Word", "Window", "Steps", "Book", "NewPreset", "MAX_LANES", "MAX_WORD", "MAX_TABLE_COUNTS", "MAX_BOOK",
     "window_of_word", "normal_form_of_word", "normal_form_of_window", "product_of_words", "product_of_windows",
     "inverse_of_word", "inverse_of_window", "length_of_word", "length_of_window", "crossings_of_word",
     "crossings_of_window", "delay_table", "same", "better", "rewrite", "rewrite_steps", "rewrite_to_end",
@@ -79,7 +79,7 @@ NewPreset = Tuple[Kind, int, Word]
 
 MAX_LANES = 64
 MAX_WORD = 4096
-MAX_COUNTS = 257
+MAX_TABLE_COUNTS = 257
 MAX_BOOK = 65535
 
 _NONE_FITS = -100
@@ -286,7 +286,7 @@ _Letters: Any = c_char * MAX_WORD
 _Entries: Any = c_char * MAX_LANES
 _Message: Any = c_char * 256
 _Three: Any = c_uint64 * 3
-_Counts: Any = c_uint64 * MAX_COUNTS
+_Counts: Any = c_uint64 * MAX_TABLE_COUNTS
 _Places: Any = ctypes.c_uint16 * MAX_WORD
 _NewBook: Any = c_char * MAX_BOOK
 _Records: Any = c_char * (MAX_BOOK + _MAX_RECORD + _TRAILER)
@@ -564,7 +564,7 @@ def crossings_of_window(kind: Kind, rank: int, window: Window) -> Crossings:
 def delay_table(kind: Kind, rank: int) -> DelayTable:
     """The delay table, up to rank 19 in kind A and 16 in B and D. Refusals 5, 6, 20."""
     counts, window, form, lengths = _Counts(), _Entries(), _Letters(), _Three()
-    outputs = counts, MAX_COUNTS, window, MAX_LANES, form, MAX_WORD, lengths, 3
+    outputs = counts, MAX_TABLE_COUNTS, window, MAX_LANES, form, MAX_WORD, lengths, 3
     _answered(_c.delay_table(_kind(kind), _rank(rank), *outputs))
     return DelayTable(counts[: lengths[0]], _entries(window, lengths[1]), _letters(form, lengths[2]))
 

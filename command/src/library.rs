@@ -1,7 +1,7 @@
 //! The library's calls, with outputs that are always long enough. No other module knows the crate.
 use std::fmt;
 pub use winnathey::lent::{Edition, Kind, MAX_BOOK, MAX_LANES, MAX_WORD, Refusal};
-use winnathey::lent::{MAX_COUNTS, MAX_NORMAL_FORM, Rewrite};
+use winnathey::lent::{MAX_NORMAL_FORM, MAX_TABLE_COUNTS, Rewrite};
 
 /// The version of the library's crate, and the hash of the archive that this program is linked with.
 pub const VERSION: &str = env!("CARGO_PKG_VERSION");
@@ -156,7 +156,7 @@ pub struct Delays {
 }
 
 pub fn delays(rig: Rig) -> Result<Delays, Refusal> {
-    let (mut counts, mut window, mut form) = (vec![0; MAX_COUNTS], vec![0; MAX_LANES], vec![0; MAX_NORMAL_FORM]);
+    let (mut counts, mut window, mut form) = (vec![0; MAX_TABLE_COUNTS], vec![0; MAX_LANES], vec![0; MAX_NORMAL_FORM]);
     let lengths = winnathey::lent::delay_table(rig.kind, rig.rank, &mut counts, &mut window, &mut form)?;
     counts.truncate(lengths.counts);
     window.truncate(lengths.window);

@@ -61,7 +61,7 @@ except winnathey.Refusal as refusal:
     place: Optional[int] = refusal.place
     assert number is winnathey.Refused.LETTER and place is None
     assert refusal.message == winnathey.refusal_message(number)
-limits: List[int] = [winnathey.MAX_LANES, winnathey.MAX_WORD, winnathey.MAX_COUNTS, winnathey.MAX_BOOK]
+limits: List[int] = [winnathey.MAX_LANES, winnathey.MAX_WORD, winnathey.MAX_TABLE_COUNTS, winnathey.MAX_BOOK]
 assert limits == [64, 4096, 257, 65535]
 version: str = winnathey.version()
 assert version == winnathey.__version__

@@ -1,6 +1,6 @@
 //! Groups: a kind and a rank, checked once, and the calls on their words and windows.
 use crate::lent::{self, Crossings};
-use crate::{Kind, MAX_COUNTS, MAX_LANES, MAX_NORMAL_FORM, MAX_WORD, Refusal, Steps, Window, Word};
+use crate::{Kind, MAX_LANES, MAX_NORMAL_FORM, MAX_TABLE_COUNTS, MAX_WORD, Refusal, Steps, Window, Word};
 use alloc::vec;
 use alloc::vec::Vec;
 use core::error::Error;
@@ -189,7 +189,7 @@ impl Group {
     /// # Ok::<(), Box<dyn std::error::Error>>(())
     /// ```
     pub fn delay_table(self) -> Result<DelayTable, Refusal> {
-        let (mut counts, mut lengths) = (vec![0; MAX_COUNTS], None);
+        let (mut counts, mut lengths) = (vec![0; MAX_TABLE_COUNTS], None);
         let mut form = vec![0; MAX_NORMAL_FORM];
         let window = Window::written(|out| {
             let written = lent::delay_table(self.kind.into(), self.rank, &mut counts, out, &mut form)?;
@@ -342,6 +342,7 @@ impl fmt::Display for Group {
 
 /// What was to be read as a [`Group`] is none.
 #[derive(Clone, Copy, PartialEq, Eq, Hash, Debug)]
+#[non_exhaustive]
 pub enum ParseGroupError {
     /// It is not the letter of a kind followed by a number.
     Form,

@@ -21,7 +21,7 @@
 #[cfg(feature = "alloc")]
 mod presets;
 
-pub use crate::{Edition, MAX_BOOK, MAX_COUNTS, MAX_LANES, MAX_NORMAL_FORM, MAX_WORD, Refusal};
+pub use crate::{Edition, MAX_BOOK, MAX_LANES, MAX_NORMAL_FORM, MAX_TABLE_COUNTS, MAX_WORD, Refusal};
 #[cfg(feature = "alloc")]
 pub use presets::{Presets, presets};
 
@@ -264,9 +264,9 @@ pub struct DelayTable {
 /// in kind A and up to 16 in B and D. Refusals 5, 6, 20, 14.
 ///
 /// ```
-/// use winnathey::lent::{DelayTable, Kind, MAX_COUNTS, MAX_LANES, MAX_NORMAL_FORM, delay_table};
+/// use winnathey::lent::{DelayTable, Kind, MAX_TABLE_COUNTS, MAX_LANES, MAX_NORMAL_FORM, delay_table};
 ///
-/// let (mut counts, mut window, mut form) = ([0; MAX_COUNTS], [0; MAX_LANES], [0; MAX_NORMAL_FORM]);
+/// let (mut counts, mut window, mut form) = ([0; MAX_TABLE_COUNTS], [0; MAX_LANES], [0; MAX_NORMAL_FORM]);
 /// let lengths = delay_table(Kind::B, 2, &mut counts, &mut window, &mut form)?;
 /// assert_eq!(lengths, DelayTable { counts: 5, window: 2, normal_form: 4 });
 /// assert_eq!(counts[..5], [1, 2, 2, 2, 1]);
@@ -688,7 +688,7 @@ mod tests {
         assert_eq!(number(split(Kind::A, 63, 1 << 63, &[], &mut [], &mut [])), 16);
         assert_eq!(number(preset(Edition::Second, &[1, 2, 2, 0, 0, 0, 0, 1, 0], 0)), 17);
         assert_eq!(number(convert(Edition::Second, &[1, 32, 33, 0, 0, 0, 0, 1, 0], &mut letters)), 18);
-        assert_eq!(number(delay_table(Kind::D, 17, &mut [0; MAX_COUNTS], &mut lanes, &mut letters)), 20);
+        assert_eq!(number(delay_table(Kind::D, 17, &mut [0; MAX_TABLE_COUNTS], &mut lanes, &mut letters)), 20);
         assert_eq!(
             number(append(Edition::Second, &[], Preset { kind: Kind::A, rank: 1, word: &[] }, &mut letters)),
             21

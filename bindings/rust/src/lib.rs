@@ -68,7 +68,7 @@ pub const MAX_WORD: usize = 4096;
 /// The most letters of a normal form: 4,096, in kind B at rank 64. An output of this length is never too short for one.
 pub const MAX_NORMAL_FORM: usize = 4096;
 /// The most numbers of a delay table: 257, in kind B at rank 16.
-pub const MAX_COUNTS: usize = 257;
+pub const MAX_TABLE_COUNTS: usize = 257;
 /// The most bytes of a book: 65,535.
 pub const MAX_BOOK: usize = 65535;
 

@@ -4,6 +4,7 @@ use core::fmt;
 
 /// What was to be a word, a window or a set of steps is none.
 #[derive(Clone, Copy, PartialEq, Eq, Hash, Debug)]
+#[non_exhaustive]
 pub enum ListError {
     /// The element at this place, which counts from 0, is no number from `least` to `most`.
     Element {
