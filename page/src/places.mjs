@@ -101,5 +101,9 @@ export function typedPlace(place, side, text) {
     if (!placeFault(typed)) return { place: typed };
     if (typed.width < LEAST_PLACE || typed.height < LEAST_PLACE) return { fault: `A screen is at least ${percent(LEAST_PLACE)} % wide and high.` };
     const [start, length] = side === 'left' || side === 'width' ? ['left', 'width'] : ['top', 'height'];
-    return { fault: `The screen would end outside the cabin: ${start} and ${length} make ${percent(typed[start] + typed[length])} %, and 100 % is all there is.` };
+    const other = side === start ? length : start;
+    const most = CABIN - typed[side];
+    // It waits for the other number, in whichever order the two are typed.
+    const waits = most >= (other === length ? LEAST_PLACE : 0) ? ` It is taken as soon as ${other} is ${percent(most)} % or less.` : '';
+    return { fault: `The screen would end outside the cabin: ${start} and ${length} make ${percent(typed[start] + typed[length])} %, and 100 % is all there is.${waits}` };
 }

@@ -58,8 +58,9 @@ test('a typed place is taken, or what is wrong is said', () => {
     assert.deepEqual(typedPlace(start, 'height', '90').place, { ...start, height: 900 });
     for (const text of ['', 'x', '-1', '12.55', '1000', '1e1']) assert.match(typedPlace(start, 'left', text).fault, /Type a number/, text);
     assert.match(typedPlace(start, 'width', '1.9').fault, /at least 2 %/);
-    assert.match(typedPlace(start, 'left', '80.1').fault, /left and width make 100.1 %/);
-    assert.match(typedPlace(start, 'height', '91').fault, /top and height make 101 %/);
+    assert.match(typedPlace(start, 'left', '80.1').fault, /left and width make 100.1 %.* It is taken as soon as width is 19.9 % or less\.$/);
+    assert.match(typedPlace(start, 'height', '91').fault, /top and height make 101 %.* It is taken as soon as top is 9 % or less\.$/);
+    assert.match(typedPlace(start, 'left', '99').fault, /100 % is all there is\.$/);
 });
 
 test('two pictures differ where they differ, and it is said in names', () => {

@@ -168,7 +168,7 @@ class Covered(PageTest):
         self.write("Height %", "abc")
         self.write("Top %", "20")
         self.assertEqual((self.place(1), self.values()), ([250, 200, 500, 350], ["25", "20", "90", "abc"]))
-        self.assertEqual(self.text("place-message"), "Width is still 50 %. The screen would end outside the cabin: left and width make 115 %, and 100 % is all there is. "
+        self.assertEqual(self.text("place-message"), "Width is still 50 %. The screen would end outside the cabin: left and width make 115 %, and 100 % is all there is. It is taken as soon as left is 10 % or less. "
                          "Height is still 35 %. Type a number from 0 to 100, such as 12.5.")
         self.assertEqual([self.labelled(f"{side} %").get_attribute("aria-invalid") for side in ["Left", "Top", "Width", "Height"]], [None, None, "true", "true"])
         # A width that was refused for the left edge fits beside a smaller one.
