@@ -186,6 +186,7 @@ export class Composing {
         const { inversions, negativeSumPairs, negatives, total } = crossings;
         const time = timeText(total, state.names);
         setText(byId('crossings-plain'), `Length ${grouped(total)}${time && `, ${time}`}: ${grouped(inversions)} plain, ${grouped(negativeSumPairs)}`);
-        setText(byId('crossings-mirrored'), `, ${grouped(negatives)} mirrored.`);
+        // A bare 0 beside mirrored views would read as a mistake.
+        setText(byId('crossings-mirrored'), `, ${grouped(negatives)} mirrored${state.kind === 'D' ? ' (kind D counts none)' : ''}.`);
     }
 }

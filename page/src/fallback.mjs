@@ -11,7 +11,7 @@ import { sameLetters } from './words.mjs';
 const [MOST_NAMED, MOST_DRAWN] = [12, 20];
 
 const TITLES = {
-    start: 'The start of the preset, as far as the modules left lead',
+    start: 'The longest start of the preset that needs no failed module',
     word: 'The word without its failed steps',
     form: 'The shortest version without its failed steps',
 };

@@ -8,7 +8,7 @@ export const TERMS = {
     shortest: 'The shortest word that shows the same on every screen. Where several are equally short it is always the same one. In documents it is called the normal form.',
     window: 'What the screens show, in one line: the number of the source on screen 1, on screen 2 and so on, with a minus where it is mirrored.',
     straight: 'Every source on the screen with its own number, and none mirrored: what is shown before any step.',
-    against: 'Pairs of lanes that meet because one of them is mirrored. Plain pairs meet because they change their order. Together with the mirrored lanes they are the steps of the shortest version.',
+    against: 'Pairs of lanes that meet because one of them is mirrored. Plain pairs meet because they change their order. Together they are the steps of the shortest version; in kind B each mirrored lane is one step more.',
     family: 'The rules come in seven families, numbered as in the documents of the library. What the rule does here is said in front.',
     edition: 'How a book is written in its file. The first edition is for rigs of up to 32 lanes, the second for up to 64. Converting keeps every preset.',
 };

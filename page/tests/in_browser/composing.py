@@ -78,7 +78,7 @@ class TenPoints(PageTest):
         self.assertEqual(self.text("letters"), "8 letters")
         self.assertEqual(self.text("form"), "5 2 3 5 1 2")
         self.assertEqual(self.text("form-same"), "Shows the same on every screen.")
-        self.assertIn("3 plain, 3 against a mirrored lane", self.text("crossings"))
+        self.assertEqual(self.text("crossings"), "Length 6: 3 plain, 3 against a mirrored lane, 0 mirrored (kind D counts none).")
         self.labelled("Draw it below the picture").click()
         self.assertTrue(self.js("return document.querySelector('#form-drawing svg') !== null"))
         self.press("Use it")

@@ -7,7 +7,7 @@ from in_browser.page import PageTest
 
 NAMES = b"source 1 left door\nsource 5 rear view\nscreen 2 left mirror\nscreen 5 right mirror\n"
 TWO = "module 2 has failed (exchanges lanes 2 and 3)"
-START = "The start of the preset, as far as the modules left lead"
+START = "The longest start of the preset that needs no failed module"
 WORD = "The word without its failed steps"
 FORM = "The shortest version without its failed steps"
 
