@@ -28,6 +28,9 @@ const COLUMN: usize = 16;
 /// Help on the subcommand that is named first, or on all.
 pub fn write(mut arguments: Vec<OsString>, out: &mut Out) -> Result<(), Failure> {
     arguments.retain(|argument| argument != "--json");
+    if arguments == ["help"] {
+        arguments.clear();
+    }
     match &arguments[..] {
         [] if out.json => Ok(out.answer("help", vec![("subcommands", json::list(SUBCOMMANDS.iter().map(described)))])?),
         [] => Ok(out.write_all(overview(out.width, out.style).as_bytes())?),

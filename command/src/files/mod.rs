@@ -84,9 +84,6 @@ pub fn may_write(path: &Path, sort: Sort, force: bool) -> Result<(), Failure> {
     if !fs::metadata(path).map_err(|error| Failure::file(path, error))?.is_file() {
         return Ok(());
     }
-    if !force {
-        return Err(Failure::Unwilling(format!("'{name}' exists: --force replaces it")));
-    }
     let mut bytes = Vec::new();
     let read = File::open(path).and_then(|file| file.take(MAX_BOOK as u64 + 1).read_to_end(&mut bytes));
     read.map_err(|error| Failure::file(path, error))?;
@@ -96,6 +93,9 @@ pub fn may_write(path: &Path, sort: Sort, force: bool) -> Result<(), Failure> {
             Sort::of(&bytes),
             sort.name()
         )));
+    }
+    if !force {
+        return Err(Failure::Unwilling(format!("'{name}' exists: --force replaces it")));
     }
     Ok(())
 }
