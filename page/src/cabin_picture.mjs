@@ -1,7 +1,7 @@
 // The cabin as a drawing: every screen where it stands, with the source that it shows, the right way round. It is drawn in pixels,
 // so that its text has one size on a phone, on a wall and on paper; a screen too small for its text shows less of it.
 import { MARKS, differsFrame, markOf, signMarkup } from './cabin_marks.mjs';
-import { hiddenText, inFront, openParts } from './covered.mjs';
+import { hiddenText, inFront, openParts, unplacedText } from './covered.mjs';
 import { escaped, tag } from './markup.mjs';
 import { CABIN, labelled, nameOf } from './names.mjs';
 import { overlap, placesIn, shapeOf } from './places.mjs';
@@ -261,7 +261,7 @@ function allText({ names, window }, title, note) {
 /**
  * A window in the cabin, as SVG. `lanes` is how many screens the grid has of those that were not arranged; `places` replaces those of the
  * names; `against` is a window whose differences are marked. The photograph is { url, width, height }: drawn where there is a url. Below
- * the cabin stands which screens are hidden, unless `noted` is false.
+ * the cabin stands which screens have no place of their own and which are hidden, unless `noted` is false.
  */
 export function cabinPicture({
     window, names, lanes = window.length, width = 680, photograph = null, against = null, places = placesIn(names, lanes), title = 'the cabin', noted = true,
@@ -272,7 +272,7 @@ export function cabinPicture({
     const boxes = seen.map(place => ({
         left: place.left * width / CABIN, top: place.top * height / CABIN, width: place.width * width / CABIN, height: place.height * height / CABIN,
     }));
-    const note = noted ? hiddenText(names, seen) : '';
+    const note = noted ? [unplacedText(names, seen), hiddenText(names, seen)].filter(Boolean).join(' ') : '';
     const lines = note ? wrapped(note, NOTE_SIZE, width) : [];
     const high = height + Math.ceil(lines.length * NOTE_SIZE * 1.4);
     const frame = { class: 'drawing cabin-drawing', role: 'img', 'aria-label': allText({ names, window }, title, note), width, height: high, viewBox: `0 0 ${width} ${high}` };

@@ -88,6 +88,11 @@ test('the picture has every screen, and turns over the view of a mirrored one', 
     assert.ok(!picture.includes('<image'));
     const over = cabinPicture({ window, names, width: 900, photograph: { url: 'data:x', width: 400, height: 300 } });
     assert.match(over, /viewBox="0 0 900 675".*<image href="data:x"/s);
+    assert.doesNotMatch(over, /cabin-note/);
+    // A screen that only stands somewhere is not printed as if it stood there in the cabin.
+    const placed = withPlace(names, 1, { left: 250, top: 100, width: 500, height: 350 });
+    assert.match(cabinPicture({ window: [1, 2], names: placed }), /<text[^>]*class="cabin-note"[^>]*>Screen 2 has no place yet and stands where there is room\.</);
+    assert.doesNotMatch(cabinPicture({ window: [1, 2], names: placed, noted: false }), /no place yet/);
     assert.equal(shapeOf(null), 16 / 9);
     for (const width of [200, 300, 500, 2000]) {
         for (const rank of [5, 64]) assert.doesNotMatch(cabinPicture({ window: library.straight('B', rank), names, width }), /NaN|undefined/);

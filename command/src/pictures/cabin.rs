@@ -1,7 +1,7 @@
-//! The cabin: the screens that have a place there, each with what it shows, over a photograph if there is one.
+//! The cabin: the screens where they stand, each with what it shows, over a photograph if there is one.
 use super::strands::{VIEW, put_view, source};
-use super::{Font, fitted, framed, length, look, put};
-use crate::names::{Names, Place};
+use super::{Font, fitted, framed, length, look, places, put};
+use crate::names::{Keyword, Names, Place};
 use std::fmt::Write;
 
 const WIDE: usize = 680;
@@ -16,10 +16,9 @@ const MARGIN: usize = 4;
 /// The photograph's id in the document.
 pub const PHOTOGRAPH: &str = "photograph";
 
-/// Over the photograph, whose shape is given if there is one. None if no screen has a place.
+/// Over the photograph, whose shape is given if there is one. None if neither that nor a place is known.
 pub fn picture(window: &[i8], names: &Names, photograph: Option<(usize, usize)>) -> Option<String> {
-    let placed: Vec<(usize, Place)> = (1..=window.len()).filter_map(|lane| Some((lane, names.place(lane)?))).collect();
-    if placed.is_empty() {
+    if photograph.is_none() && !names.all().any(|(keyword, ..)| keyword == Keyword::Place) {
         return None;
     }
     let (wide, high) = size(photograph.unwrap_or(SHAPE));
@@ -33,16 +32,26 @@ pub fn picture(window: &[i8], names: &Names, photograph: Option<(usize, usize)>)
         wide - 1,
         high - 1
     );
-    for (lane, place) in placed {
-        let frame = Frame {
-            left: place.left * wide / 1000,
-            top: place.top * high / 1000,
-            wide: place.wide * wide / 1000,
-            high: place.high * high / 1000,
-        };
-        put_screen(&mut parts, (lane, window[lane - 1]), &frame, names);
+    let places = places::all(names, window.len());
+    let front = places::in_front(&places);
+    let scaled = |place: Place| Frame {
+        left: place.left * wide / 1000,
+        top: place.top * high / 1000,
+        wide: place.wide * wide / 1000,
+        high: place.high * high / 1000,
+    };
+    for at in places::largest_first(&places) {
+        let open = places::open_parts(places[at], front[at].iter().map(|other| places[*other]));
+        let seen = open.into_iter().rev().max_by_key(|part| part.wide * part.high).unwrap_or(places[at]);
+        put_frame(&mut parts, window[at], &scaled(places[at]), photograph.is_some());
+        put_content(&mut parts, (at + 1, window[at]), &scaled(seen), names);
     }
     Some(framed(wide, high, "the cabin", &parts))
+}
+
+/// Which screens have no place of their own and which are hidden, to stand below the cabin.
+pub fn notes(lanes: usize, names: &Names) -> String {
+    places::notes(names, &places::all(names, lanes))
 }
 
 /// As wide as the page, unless it would be too high then.
@@ -59,16 +68,24 @@ struct Frame {
     high: usize,
 }
 
-/// The screen's number and name, what it shows, and the view: as much of it as there is room for, the number at least.
-fn put_screen(parts: &mut String, (lane, entry): (usize, i8), frame: &Frame, names: &Names) {
-    let colour = look::colour(usize::from(entry.unsigned_abs()));
-    let dash = if entry < 0 { " stroke-dasharray=\"8 4\"" } else { "" };
+/// A line in the source's colour and dash, double if the view is mirrored. The photograph shines through.
+fn put_frame(parts: &mut String, entry: i8, frame: &Frame, photograph: bool) {
+    let source = usize::from(entry.unsigned_abs());
+    let (colour, dash) = (look::colour(source), look::dash(source));
     let Frame { left, top, wide, high } = *frame;
-    let _ = writeln!(
-        parts,
-        "<rect x=\"{left}\" y=\"{top}\" width=\"{wide}\" height=\"{high}\" fill=\"#ffffff\" fill-opacity=\"0.85\" \
-         stroke=\"{colour}\" stroke-width=\"2\"{dash}/>"
-    );
+    let around = format!("<rect x=\"{left}\" y=\"{top}\" width=\"{wide}\" height=\"{high}\"");
+    let opacity = if photograph { " fill-opacity=\"0.85\"" } else { "" };
+    let thick = if entry < 0 { 6 } else { 2 };
+    let _ = writeln!(parts, "{around} fill=\"#ffffff\"{opacity} stroke=\"{colour}\" stroke-width=\"{thick}\"{dash}/>");
+    if entry < 0 {
+        let _ = writeln!(parts, "{around} fill=\"none\" stroke=\"#ffffff\" stroke-width=\"3\"/>");
+    }
+}
+
+/// The screen's number and name, what it shows, and the view: as much of it as there is room for, the number at least.
+fn put_content(parts: &mut String, (lane, entry): (usize, i8), frame: &Frame, names: &Names) {
+    let colour = look::colour(usize::from(entry.unsigned_abs()));
+    let Frame { left, top, wide, high } = *frame;
     let room = wide.saturating_sub(2 * MARGIN);
     let is_narrow = room < 3 * FONT;
     let own = names.screen(lane).map_or(lane.to_string(), |name| format!("{lane} {name}"));

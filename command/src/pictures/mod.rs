@@ -3,6 +3,7 @@ pub mod bars;
 pub mod cabin;
 mod look;
 pub mod paper;
+mod places;
 mod png;
 pub mod strands;
 mod traced;

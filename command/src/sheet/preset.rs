@@ -45,7 +45,7 @@ fn answered(given: &Given, preset: &Preset) -> Result<String, Failure> {
         let _ = write!(
             part,
             "<section class=\"about\">\n<h3>Cabin</h3>\n<figure class=\"cabin\">\n{picture}</figure>\n{}</section>\n",
-            placeless(&window, names)
+            cabin_notes(&window, names)
         );
     }
     Ok(part)
@@ -103,14 +103,10 @@ fn screen(lane: usize, entry: i8, names: &Names) -> String {
     )
 }
 
-/// The screens that the cabin does not show.
-fn placeless(window: &[i8], names: &Names) -> String {
-    let lanes =
-        (1..=window.len()).filter(|&lane| names.place(lane).is_none()).fold(0, |set, lane| set | 1 << (lane - 1));
-    let runs = text::set(lanes).replace(',', ", ").replace('-', " to ");
-    match u64::count_ones(lanes) {
-        0 => String::new(),
-        1 => format!("<p>Screen {runs} has no place there.</p>\n"),
-        _ => format!("<p>Screens {runs} have no place there.</p>\n"),
+/// Which screens the cabin cannot show as they stand.
+fn cabin_notes(window: &[i8], names: &Names) -> String {
+    match cabin::notes(window.len(), names) {
+        notes if notes.is_empty() => notes,
+        notes => format!("<p>{}</p>\n", escaped(&notes)),
     }
 }
