@@ -25,7 +25,7 @@ export class ModulesPanel {
         this.ticks = make('div', { class: 'modules', role: 'group', 'aria-label': 'modules that have failed' });
         this.left = new WaysLeft(app);
         this.field = make('input', {
-            type: 'text', id: 'simpler', class: 'word', spellcheck: 'false', autocomplete: 'off', oninput: () => this.#typed(),
+            type: 'text', id: 'simpler', class: 'word', spellcheck: 'false', autocomplete: 'off', placeholder: 'no steps: the straight picture', oninput: () => this.#typed(),
         });
         this.fallback = make('div', { class: 'answer', 'aria-live': 'polite' });
         root.append(
