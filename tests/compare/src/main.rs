@@ -61,9 +61,16 @@ fn run(groups: &[Group]) -> Sides {
 }
 
 fn main() -> ExitCode {
-    let mut numbers = std::env::args().skip(1).map(|word| word.parse().expect("a number"));
-    let inputs = numbers.next().unwrap_or(RANDOM_INPUTS);
-    let seed = numbers.next().unwrap_or(SEED);
+    let numbers: Result<Vec<u64>, _> = std::env::args().skip(1).map(|word| word.parse()).collect();
+    let (inputs, seed) = match numbers.as_deref() {
+        Ok([]) => (RANDOM_INPUTS, SEED),
+        Ok(&[inputs]) => (inputs, SEED),
+        Ok(&[inputs, seed]) => (inputs, seed),
+        _ => {
+            eprintln!("usage: compare [RANDOM_INPUTS [SEED]]");
+            return ExitCode::from(2);
+        }
+    };
 
     let random_inputs = |sides: &mut Sides| random::run(sides, inputs, seed);
     let mut groups: Vec<Group> = Vec::new();
