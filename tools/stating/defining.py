@@ -32,8 +32,8 @@ class Definitions:
         index.heading(1, "Definitions")
         index.say("Every definition of `specs/`, and the enums and structs of Rattle that definitions, laws and contracts speak of. Laws rest on nothing else "
                   "of this repository. Most definitions are *pinned*: laws that are proved of them say what they have to be. The others have to be read, and "
-                  f"stand together on [one page]({index.to(BELIEVED)}): the *primitive* ones, and each *text*, a fixed text or a table that is to be compared "
-                  "with the specification.")
+                  f"stand together on [one page]({index.to(BELIEVED)}): the *primitive* ones, each *text*, a fixed text or a table that is to be compared "
+                  "with the specification, and those of the papers' *theorem*.")
         index.note(CITATIONS, PINS)
         sorts = [sort for sort in (*READ, "pinned") if sort != "theorem" or any(pin.sort == sort for pin in self.model.pins.values())]
         index.add(f"| Crate | Definitions | Lines | {' | '.join(sorts)} |", "|---" * (len(sorts) + 3) + "|")

@@ -1,7 +1,7 @@
--- The books of the examples, and the limit of 65,535 bytes at its edge, as laws for every book: what is too large is
--- refused before the room is looked at.
+-- The books of the examples; a book that is one in either edition (B9); and the limit of 65,535 bytes at its edge, as
+-- laws for every book: what is too large is refused before the room is looked at.
 --
--- Sections: books; the size limit.
+-- Sections: books; either edition; the size limit.
 -- Assumes nothing.
 use mathlib.Core.Path.{_≡_, refl}
 use mathlib.Core.Bool.{Bool, true, false, _&&_, and-eq-true-iff}
@@ -9,24 +9,26 @@ use mathlib.Core.List.{List, [], _∷_, _++_}
 use Prim.Native.Nat.{ℕ, zero, suc, _+_, _≤_, _<_}
 use native.Mathlib.Omega.{arith}
 use lib.Dec.{ltb}
-use lib.ListN.{length}
+use lib.ListN.{length, replicate}
+use lib.IntN.{pos}
 use borrow.Author.Tests.{ltb-true, lt-ltb}
-use Rattle.coxeter.specs.Checks.{tooShort, WordOf}
+use Rattle.coxeter.specs.Kinds.{B, kindOf, up}
+use Rattle.coxeter.specs.Windows.{from, swap, negateFirst, act, windowFrom, identity, window}
+use Rattle.coxeter.specs.Checks.{wrongKind, tooLong, wrongLetter, wordRefusal, tooShort, WordOf}
 use Rattle.coxeter.specs.Calls.{answerOf, written, writes}
 use Rattle.coxeter.proofs.Vectors.{refused}
 use Rattle.book_format.specs.declared.Edition.{Edition}
-use Rattle.book_format.specs.declared.Edition.the-variants.{First}
+use Rattle.book_format.specs.declared.Edition.the-variants.{First, Second}
 use Rattle.book_format.specs.declared.Opened.the-variants as opened
-use Rattle.book_format.specs.Books.{count, wrongSize}
-use Rattle.book_format.specs.Books.{retired}
-use Rattle.book_format.specs.Books.{bookRankRefusal, bookRefusal, appended}
+use Rattle.book_format.specs.declared.Preset.the-variants as preset
+use Rattle.book_format.specs.Books.{twoAt, count, trailer, offset, wrongSize, wrongCount, misplacedFrom, misplaced, noSuchPreset}
+use Rattle.book_format.specs.Books.{wrongRankInBook, wrongLaneCount, bookRankRefusal, bookRefusal, recordRefusal, presetRefusal, appended, retired}
 use Rattle.book_format.specs.Records.{Bytes}
 use Rattle.book_format.specs.Conversion.{recordsConversionRefusal, converting}
 use Rattle.book_format.proofs.BookLaws.{accepted}
 use Rattle.book_format.proofs.Converting.{conversion-too-large, length-converted}
 use Rattle.book_format.proofs.WritingLaws.{length-appended, Appendable, appendRefusal-large, appendRefusal-none}
-use Rattle.book_format.specs.Calls.{openedOf, checkedBook}
-use Rattle.book_format.specs.Calls.{appending}
+use Rattle.book_format.specs.Calls.{openedOf, checkedBook, presetOf, presetAt, checkedPreset, lettersOf, appending}
 
 -- ---- books
 
@@ -61,6 +63,18 @@ emptyBook = 0 ∷ 0 ∷ []
 -- one record with the trailer behind it
 abbrev pub bookOf : List ℕ → List ℕ
 bookOf r = r ++ (0 ∷ 0 ∷ 1 ∷ 0 ∷ [])
+
+-- ---- either edition
+
+-- B9: a book whose bytes do not tell its edition, and which shows another window in each: its preset has 258 letters in
+-- the first and 257 in the second
+pub either-edition : let b : List ℕ = 2 ∷ 2 ∷ 2 ∷ 1 ∷ 1 ∷ (replicate 257 1 ++ (0 ∷ 0 ∷ 1 ∷ 0 ∷ [])) in
+    (checkedPreset First b 0 ≡ preset.Found 2 2 4 258) × (window B 2 (lettersOf First b 0) ≡ pos 1 ∷ pos 2 ∷ [])
+    × (checkedPreset Second b 0 ≡ preset.Found 2 2 5 257) × (window B 2 (lettersOf Second b 0) ≡ pos 2 ∷ pos 1 ∷ [])
+unfolding kindOf up from swap negateFirst act windowFrom identity window wrongKind tooLong wrongLetter wordRefusal
+    twoAt count trailer offset wrongSize wrongCount misplacedFrom misplaced noSuchPreset
+    wrongRankInBook wrongLaneCount bookRankRefusal bookRefusal recordRefusal presetRefusal presetOf presetAt checkedPreset lettersOf
+either-edition = (refl, refl, refl, refl)
 
 -- ---- the size limit
 
