@@ -75,7 +75,7 @@ fn described(subcommand: &Subcommand) -> Value {
 /// The subcommand of that name, or what may have been meant.
 pub fn find(name: &str) -> Result<&'static Subcommand, Failure> {
     subcommands::named(name).ok_or_else(|| {
-        let meant = suggest::question(name, SUBCOMMANDS.iter().map(|subcommand| subcommand.name));
+        let meant = suggest::question(name, SUBCOMMANDS.iter().map(|subcommand| subcommand.name).chain(["help"]));
         Failure::usage(format!("no subcommand '{}'{meant}", text::plain(name)), None)
     })
 }

@@ -3,7 +3,7 @@
 /// The name nearest to what was typed, if it is near.
 pub fn nearest<'a>(typed: &str, names: impl Iterator<Item = &'a str>) -> Option<&'a str> {
     let typed = typed.to_lowercase();
-    let most = typed.chars().count().div_ceil(3).max(1);
+    let most = ((typed.chars().count() + 1) / 3).max(1);
     let near = names.map(|name| (distance(&typed, name), name)).filter(|(distance, _)| *distance <= most);
     near.min_by_key(|(distance, _)| *distance).map(|(_, name)| name)
 }

@@ -134,12 +134,12 @@ export class DelaysPanel {
         const present = app.answers.form.length;
         const [bars, picture] = [make('div', {}), make('div', {})];
         bars.innerHTML = barsMarkup(counts, width, present, names);
-        picture.innerHTML = pictureMarkup(app.library, { kind, rank, word: longest }, { width, title: 'the longest picture' });
+        picture.innerHTML = pictureMarkup(app.library, { kind, rank, word: longest }, { width, title: 'the picture that needs the most steps' });
         root.replaceChildren(
             make('p', {}, `Kind ${kind}, rank ${rank}: ${counted(all, 'picture')}. The present one has length ${told(present)}, marked; ` +
                 `the greatest length is ${told(counts.length - 1)}.`),
             bars, table(counts, names),
-            make('h3', {}, 'The longest picture'),
+            make('h3', {}, 'The picture that needs the most steps'),
             make('p', {}, `${lengthText(longest.length, 'letter', names)}: `, make('span', { class: 'word' }, shortened(longest, 120))),
             picture);
     }

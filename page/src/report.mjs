@@ -49,7 +49,7 @@ export function frontRows({ book, names }, { about, date, remarks, presets, pres
     return [
         ['Date', date], ...inBook, ...written,
         ...(delay ? [['Delay of a step', delay]] : []),
-        ['Library', `winnathey ${about.version}`], ['SHA-256 of the library', hashed(about.hash)],
+        ['Library', `winnathey ${about.version}, file winnathey.wasm`], ['SHA-256 of the library', hashed(about.hash)],
         ...(remarks ? [['Remarks', remarks]] : []),
     ];
 }

@@ -56,7 +56,7 @@ fn facts(given: &Given, presets: usize) -> String {
     if let Some(delay) = given.names.delay() {
         table += &row("Delay of a step", &format!("{} ms", text::thousandths(delay)));
     }
-    table += &row("Library", &format!("winnathey {VERSION}"));
+    table += &row("Library", &format!("winnathey {VERSION}, file libwinnathey.a"));
     table += &row("SHA-256 of the library", &hash(ARCHIVE_SHA256));
     table + "</table>\n"
 }

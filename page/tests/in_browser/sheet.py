@@ -118,9 +118,9 @@ class Sheet(PageTest):
         mine = self.js(outline, self.js("return document.getElementById('sheet')"))
         report = (ROOT / "tests/pictures/sheet.html").read_text()
         theirs = self.js("const root = new DOMParser().parseFromString(arguments[0], 'text/html').querySelector('main');" + outline.replace("const [root] = arguments;", ""), report)
-        # The date and the hash of the library are other ones.
+        # The date is another one, and so is the library, which the page has as WebAssembly.
         self.assertEqual([row[3] for row in mine if row[0] == "th"], [row[3] for row in theirs if row[0] == "th"])
-        masked = lambda rows: [[*row[:3], "" if at > 0 and rows[at - 1][3] in ("Date", "SHA-256 of the library") else row[3]] for at, row in enumerate(rows)]
+        masked = lambda rows: [[*row[:3], "" if at > 0 and rows[at - 1][3] in ("Date", "Library", "SHA-256 of the library") else row[3]] for at, row in enumerate(rows)]
         self.assertEqual(masked(mine), masked(theirs))
         self.assertGreater(len(mine), 100)
 
