@@ -159,13 +159,20 @@ class Writer:
         def named(kind):
             return [(one.where, name) for one in cited if one.kind == kind for name in one.names]
 
-        shown = (("Wrong routers that this rules out", [(row.name, TABLE, row.line) for _, name in named("row") for row in self.model.rows if row.name == name]),
+        shown = (("Wrong routers that this rules out", self._routers(row for _, name in named("row") for row in self.model.rows if row.name == name)),
                  ("Worked inputs", [(name, f"crates/{where}.antt", self._vectors(where, name).line, self._entries(where, name)) for where, name in named("vectors")]),
                  ("In the code", [(name, f"crates/{where}.rt", self._code_line(where, name)) for where, name in named("code")]),
                  ("Edits that the prover refuses", [(name, f"crates/{crate}/must-fail/{name}.edit", 0) for crate, name in named("edit")]))
         for title, links in shown:
             if links:
                 page.say(f"{title}: " + ", ".join(page.source(*link[:3]) + "".join(link[3:]) for link in links) + ".")
+
+    def _routers(self, rows):
+        """The wrong routers of rows, each once, with its first row and how many inputs it has if there are more."""
+        inputs = {}
+        for row in rows:
+            inputs.setdefault(row.name, []).append(row.line)
+        return [(name, TABLE, lines[0], *([f" ({len(lines)} inputs)"] if len(lines) > 1 else [])) for name, lines in inputs.items()]
 
     def _vectors(self, where, name):
         return self.world.antt(f"crates/{where}.antt").by_name[name]
@@ -189,7 +196,8 @@ class Writer:
                  f"That all of them are ruled out is one law, `ruled-out`, under {self._ruling(page)}.")
         page.add("| Definition | Wrong routers |", "|---|---|")
         for call in dict.fromkeys(row.call for row in self.model.rows):
-            page.add(f"| `{call}` | " + ", ".join(page.source(row.name, TABLE, row.line) for row in self.model.rows if row.call == call) + " |")
+            links = self._routers(row for row in self.model.rows if row.call == call)
+            page.add(f"| `{call}` | " + ", ".join(page.source(*link[:3]) + "".join(link[3:]) for link in links) + " |")
         page.heading(2, "The table")
         page.say("`differ call other at` is the row for the call, the wrong router in its place and the input, the same for both.")
         table = self.world.antt(TABLE).by_name["table"]
