@@ -66,27 +66,27 @@ counted-crossings c e z = ap (λ (x : ℕ). countedOf x c) (sym z ∙ e)
 
 module _ (k n : ℕ) (u : List ℕ) (l m : ℕ) (v : List ℕ) where
   -- r is the refusal that was computed, s whether the presets are the same
-  module _ (r : ℕ) (e : r ≡ (rankRefusal k n then wordRefusal n u then rankRefusal l m then wordRefusal m v)) where
+  module _ {r : ℕ} (e : r ≡ (rankRefusal k n then wordRefusal n u then rankRefusal l m then wordRefusal m v)) where
     pub verdict-refused : (r ≡ 0 → ⊥) → verdict.Refused r ≡ presetsEqual k n u l m v
     unfolding presetsEqual verdictOf
     verdict-refused f = rw (← e, ne-eqb r 0 f)
 
-    pub verdict-yes : (s : Bool) → r ≡ 0 → s ≡ samePresets k n u l m v → s ≡ true → verdict.Yes ≡ presetsEqual k n u l m v
+    pub verdict-yes : {s : Bool} → r ≡ 0 → s ≡ samePresets k n u l m v → s ≡ true → verdict.Yes ≡ presetsEqual k n u l m v
     unfolding presetsEqual verdictOf
-    verdict-yes s z g t = rw (← e, eq-eqb r 0 z, ← g, t)
+    verdict-yes z g t = rw (← e, eq-eqb r 0 z, ← g, t)
 
-    pub verdict-no : (s : Bool) → r ≡ 0 → s ≡ samePresets k n u l m v → s ≡ false → verdict.No ≡ presetsEqual k n u l m v
+    pub verdict-no : {s : Bool} → r ≡ 0 → s ≡ samePresets k n u l m v → s ≡ false → verdict.No ≡ presetsEqual k n u l m v
     unfolding presetsEqual verdictOf
-    verdict-no s z g t = rw (← e, eq-eqb r 0 z, ← g, t)
+    verdict-no z g t = rw (← e, eq-eqb r 0 z, ← g, t)
 
   pub lanes-differ : {a b : ℕ} → a ≡ lanes (kindOf k) n → b ≡ lanes (kindOf l) m → (a ≡ b → ⊥) → false ≡ samePresets k n u l m v
   unfolding samePresets
   lanes-differ {a} {b} e f d = rw (← e, ← f, ne-eqb a b d)
 
-  pub same-lanes : (s : Bool) → lanes (kindOf k) n ≡ lanes (kindOf l) m → s ≡ sameWindow (window (kindOf k) n u) (window (kindOf l) m v)
+  pub same-lanes : {s : Bool} → lanes (kindOf k) n ≡ lanes (kindOf l) m → s ≡ sameWindow (window (kindOf k) n u) (window (kindOf l) m v)
       → s ≡ samePresets k n u l m v
   unfolding samePresets
-  same-lanes s e g = rw (eq-eqb (lanes (kindOf k) n) (lanes (kindOf l) m) e) g
+  same-lanes e g = rw (eq-eqb (lanes (kindOf k) n) (lanes (kindOf l) m) e) g
 
 -- of one kind and rank the windows alone decide
 pub same-words : (k n : ℕ) (u v : List ℕ) → samePresets k n u k n v ≡ equalWords (kindOf k) n u v

@@ -51,7 +51,7 @@ module _ (k n : ℕ) (u : List ℕ) (l m : ℕ) (v : List ℕ) where
       let r = rankRefusal k n then wordRefusal n u then rankRefusal l m then wordRefusal m v in
       elim (ℕ-discrete r 0) [
         | yes z ↦ given (presets-accepted k n u l m v r refl z)
-        | no f ↦ refuses r (sym (verdict-refused k n u l m v r refl f))
+        | no f ↦ refuses r (sym (verdict-refused k n u l m v refl f))
       ]
 
   -- V1, I15: yes exactly then, if the four checks accept
@@ -86,10 +86,10 @@ module _ (k n : ℕ) (u : List ℕ) (l m : ℕ) (v : List ℕ) where
           → presetsEqual k n u l m v ≡ verdict.No
       differ true e a =
           let z : 0 ≡ (rankRefusal k n then wordRefusal n u then rankRefusal l m then wordRefusal m v) = rw (a .0, a .1, a .2, a .3) in
-          absurd (a .4 (verdict-exactly k n u l m v (a .0) (a .1) (a .2) (a .3) .0 (sym (verdict-yes k n u l m v 0 z true refl e refl))))
+          absurd (a .4 (verdict-exactly k n u l m v (a .0) (a .1) (a .2) (a .3) .0 (sym (verdict-yes k n u l m v z refl e refl))))
       differ false e a =
           let z : 0 ≡ (rankRefusal k n then wordRefusal n u then rankRefusal l m then wordRefusal m v) = rw (a .0, a .1, a .2, a .3) in
-          sym (verdict-no k n u l m v 0 z false refl e refl)
+          sym (verdict-no k n u l m v z refl e refl)
 
   -- CO3, CO4: a refusal is the first of the checks, the first preset's before the second's
   pub verdict-refused-exactly : (r : ℕ) → (presetsEqual k n u l m v ≡ verdict.Refused r)

@@ -89,10 +89,10 @@ square-le-256 n h = mul-le-mul {n₁ = n} {m₁ = n} {n₂ = 16} {m₂ = 16} h h
 
 -- ---- the call
 
-pub refused-by-set : (k n set : ℕ) (v w : List ℤ) (out : List ℕ) (p : ℕ) → p ≡ setRefusal k n set → (p ≡ 0 → ⊥)
+pub refused-by-set : (k n set : ℕ) (v w : List ℤ) {out : List ℕ} {p : ℕ} → p ≡ setRefusal k n set → (p ≡ 0 → ⊥)
     → Yields (betweenWindows k n set v w out) (answer.Refused p) out
 unfolding betweenWindows betweenRefusal
-refused-by-set k n set v w out p e f = writes-refused _ _ p _ out refl (e ∙ sym (then-some _ _ (λ z. f (e ∙ z)))) f
+refused-by-set k n set v w {out} {p} e f = writes-refused _ _ p _ out refl (e ∙ sym (then-some _ _ (λ z. f (e ∙ z)))) f
 
 -- checks 5, 6 and 16 refuse nothing
 module _ (k n set : ℕ) (v w : List ℤ) (z : setRefusal k n set ≡ 0) where

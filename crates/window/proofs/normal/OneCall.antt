@@ -77,7 +77,7 @@ module _ (k : Kind) (m : ℕ) (places : List ℕ) (i rest : ℕ) (next : Bool) w
   above-not-called {o} l q s = record { place = s ∙ ap length (sym (above-none l)); written = q ∙ ap (sets o 0) (sym (above-none l)) }
 
 -- the level's index and what it leaves
-module _ (k : Kind) (m : ℕ) (places : List ℕ) (i left : ℕ) (odd : Bool) (index rest : ℕ) (next : Bool) (within : i ≤ lastLevel k m)
+module _ (k : Kind) (m : ℕ) (places : List ℕ) (i left : ℕ) (odd : Bool) {index rest : ℕ} {next : Bool} (within : i ≤ lastLevel k m)
     (h : (index ≡ indexAt k m (getD places (i - 1) 0) left odd) × (rest ≡ leftAt (getD places (i - 1) 0) left)
     × (next ≡ oddAt (getD places (i - 1) 0) odd)) where
   whole : peeledWord k m places i left odd ≡ wordAbove k m places i rest next ++ block k m i index

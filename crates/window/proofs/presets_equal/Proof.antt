@@ -36,24 +36,24 @@ same-presets-requires c κs =
 returns : tie.Need-returns
 returns c =
     let compared = c .before in
-    verdict-yes _ _ _ _ _ _ _ refl _ (passed (compared .before .before)) (compared .same-presets .ensures) (c .if1 .taken)
+    verdict-yes _ _ _ _ _ _ refl (passed (compared .before .before)) (compared .same-presets .ensures) (c .if1 .taken)
 
 returns-2 : tie.Need-returns-2
 returns-2 c =
     let compared = c .before in
-    verdict-no _ _ _ _ _ _ _ refl _ (passed (compared .before .before)) (compared .same-presets .ensures) (c .if1 .left)
+    verdict-no _ _ _ _ _ _ refl (passed (compared .before .before)) (compared .same-presets .ensures) (c .if1 .left)
 
 returns-3 : tie.Need-returns-3
 returns-3 c =
     let second = refusal-of-lanes _ _ _ (c .before .before .before .preset-lanes2 .ensures) _ (c .before .refusal .given .1) in
     let after-m = c .before .before .before .before .before in
     let first = count-of-lanes _ _ _ (after-m .before .before .preset-lanes .ensures) _ (after-m .m .given .1) in
-    verdict-refused _ _ _ _ _ _ _ (pair-next (rankRefusal _ _) (wordRefusal _ _) refl (first .0) (second .0)) (second .1)
+    verdict-refused _ _ _ _ _ _ (pair-next (rankRefusal _ _) (wordRefusal _ _) refl (first .0) (second .0)) (second .1)
 
 returns-4 : tie.Need-returns-4
 returns-4 c =
     let first = refusal-of-lanes _ _ _ (c .before .before .before .preset-lanes .ensures) _ (c .before .refusal2 .given .1) in
-    verdict-refused _ _ _ _ _ _ _ (pair-refused (rankRefusal _ _) (wordRefusal _ _) _ _ (first .0) (first .1)) (first .1)
+    verdict-refused _ _ _ _ _ _ (pair-refused (rankRefusal _ _) (wordRefusal _ _) _ _ (first .0) (first .1)) (first .1)
 
 pub presets-equal-spec : {M : Type 1} → statement M
 presets-equal-spec =

@@ -12,7 +12,7 @@ use Rattle.descents.proofs.between.between_windows.Statement.{statement
 use Rattle.descents.proofs.between.between_windows.Tie as tie
 
 returns : tie.Need-returns
-returns c = refused-by-set _ _ _ _ _ _ _ (c .before .set-refusal .ensures) (c .if1 .taken)
+returns c = refused-by-set _ _ _ _ _ (c .before .set-refusal .ensures) (c .if1 .taken)
 
 write-between-requires : tie.Need-write-between-requires
 write-between-requires c κs =

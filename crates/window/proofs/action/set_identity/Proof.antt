@@ -2,8 +2,10 @@
 -- is i + 1.
 -- Assumes nothing.
 use mathlib.Core.Path.{_≡_, refl, ap}
+use mathlib.Core.List.{List}
 use Prim.Native.Nat.{ℕ, _+_, _≤_, _-_}
 use native.Mathlib.Omega.{arith}
+use lib.IntN.{ℤ}
 use lib.ListN.{length, length-set, take}
 use Rattle.coxeter.specs.Kinds.{up}
 use Rattle.coxeter.specs.Windows.{identity}
@@ -11,15 +13,22 @@ use Rattle.window.proofs.action.Actions.{take-identity-next, take-ident
 use Rattle.window.proofs.action.set_identity.Statement.{statement}
 use Rattle.window.proofs.action.set_identity.Tie as tie
 
+-- the entries before i are written
+record Begun (w₀ w : List ℤ) (i e : ℕ) : Type 0 where
+  place-le : i ≤ length w
+  same-size : length w ≡ length w₀
+  written : take i w ≡ identity i
+  next : e ≡ i + 1
+
 abbrev Inv-loop : tie.InvT-loop
-Inv-loop w₀ i₀ e₀ w i e = (i ≤ length w) × (length w ≡ length w₀) × (take i w ≡ identity i) × (e ≡ i + 1)
+Inv-loop w₀ i₀ e₀ w i e = Begun w₀ w i e
 
 abbrev μ-loop : tie.MeasureT-loop
 μ-loop w₀ i₀ e₀ w i e = length w₀ - i
 
 loop-holds : tie.Need-loop-holds Inv-loop μ-loop
 unfolding identity up
-loop-holds c = (omega arith, refl, refl, refl)
+loop-holds c = record { place-le = omega arith; same-size = refl; written = refl; next = refl }
 
 cast-w : tie.Need-cast-w Inv-loop μ-loop
 cast-w c = omega arith
@@ -39,14 +48,19 @@ loop-less c = omega arith
 loop-again : tie.Need-loop-again Inv-loop μ-loop
 loop-again c =
     let i = c .before .loop .inv in
-    let t = take-identity-next _ _ _ (c .loop-test .taken) (omega arith) (i .2) (i .3) in
-    (simp length-set (omega arith), simp length-set (i .1), t, ap (λ (p : ℕ). p + 1) (i .3))
+    let t = take-identity-next _ _ _ (c .loop-test .taken) (omega arith) (i .written) (i .next) in
+    record {
+      place-le = simp length-set (omega arith);
+      same-size = simp length-set (i .same-size);
+      written = t;
+      next = ap (λ (p : ℕ). p + 1) (i .next);
+    }
 
 same-length : tie.Need-same-length Inv-loop μ-loop
-same-length c = c .before .loop .inv .1
+same-length c = c .before .loop .inv .same-size
 
 returns : tie.Need-returns Inv-loop μ-loop
-returns c = let i = c .before .loop .inv in take-identity-end _ (c .loop-test .left) (i .0) (i .1) (i .2)
+returns c = let i = c .before .loop .inv in take-identity-end _ (c .loop-test .left) (i .place-le) (i .same-size) (i .written)
 
 pub set-identity-spec : {M : Type 1} → statement M
 set-identity-spec =

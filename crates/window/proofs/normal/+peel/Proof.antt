@@ -91,7 +91,7 @@ peel-peel-requires t c κs =
       omega (arith, l, start .pre .0),
       (
         (pre .0 .0, omega arith, omega (arith, l), rw (found .level-of .ensures .1) (left-fits _ _ _ _ (place t start) (pre .0 .3))),
-        (pre .1 .0, room-above _ _ _ _ _ _ _ _ _ (pre .0 .2) (found .level-of .ensures) _ l (pre .1 .1)),
+        (pre .1 .0, room-above _ _ _ _ _ _ (pre .0 .2) (found .level-of .ensures) _ l (pre .1 .1)),
       ),
     )
 
@@ -120,7 +120,7 @@ peel-write-block-requires t c κs =
         rw index (index-le _ _ _ _ (place t start) (pre .0 .3) _),
         λ e. rw index (index-lt _ _ _ _ (place t start) (pre .0 .3) _ (kindOf-one _ e)),
       ),
-      room-block _ _ _ _ _ _ _ _ _ (pre .0 .2) (found .level-of .ensures) (written t (c .before)) (pre .1 .1),
+      room-block _ _ _ _ _ _ (pre .0 .2) (found .level-of .ensures) (written t (c .before)) (pre .1 .1),
     )
 
 peel-returns : (t : ℕ) → peel-lts.Need-returns (calls t) (peel-at t) peel.Post
@@ -129,7 +129,7 @@ peel-returns t c =
     let joined = wrote .before .before in
     let found = joined .before .before in
     let pre = found .before .before .before .pre .1 in
-    peeled-written _ _ _ _ _ _ _ _ _ (pre .0 .2) (found .level-of .ensures) (written t joined) (wrote .write-block .ensures)
+    peeled-written _ _ _ _ _ _ (pre .0 .2) (found .level-of .ensures) (written t joined) (wrote .write-block .ensures)
 
 peel-same-length : (t : ℕ) → peel-lts.Need-same-length (calls t) (peel-at t) peel.Post
 peel-same-length t c = ap length (peel-returns t c .1) ∙ simp length-sets

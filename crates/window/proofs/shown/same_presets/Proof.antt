@@ -64,7 +64,7 @@ returns-2 c =
     let one = both .before .before .before .before in
     let else = one .before .before .before in
     let pre = else .before .before .before .pre in
-    same-lanes _ _ _ _ _ _ _ (sym (pre .0 .1) ∙ else .if1 .left ∙ pre .1 .1)
+    same-lanes _ _ _ _ _ _ (sym (pre .0 .1) ∙ else .if1 .left ∙ pre .1 .1)
     (c .same-fronts .ensures ∙ ap₂ sameWindow (first one .is) (second both .is))
 
 pub same-presets-spec : {M : Type 1} → statement M
