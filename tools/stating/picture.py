@@ -34,7 +34,7 @@ def bands(model, count, tests):
          ("Python", f"{tests['tests of Python']} tests and the table", "of calls")],
         [("The command", f"{tests['commands']} commands as stored;", f"{tests['damaged certificates']} damaged certificates"),
          ("The page", f"{tests['tests in Chromium']} tests in Chromium,", "by mouse, touch and keyboard"),
-         ("The packages", f"{tests['files and folders']} files and folders,", "installed, used and removed"),
+         ("What is installed", f"{tests['files and folders']} files and folders by make;", "packages by their managers"),
          ("The statements' pages", f"{tests['planted faults']} planted faults,", "all found")]]
     yield "tested", "Tested: what the compiler made", "the same proved module for three machines; built twice, it has the same bytes", [
         [("x86-64", f"{tests['calls compared']} calls as a plain version answers,", f"{tests['calls on x86-64']} as the other two"),
