@@ -4,14 +4,13 @@
 -- Sections: books; either edition; the size limit.
 -- Assumes nothing.
 use mathlib.Core.Path.{_≡_, refl}
-use mathlib.Core.Bool.{Bool, true, false, _&&_, and-eq-true-iff}
+use mathlib.Core.Bool.{false}
 use mathlib.Core.List.{List, [], _∷_, _++_}
-use Prim.Native.Nat.{ℕ, zero, suc, _+_, _≤_, _<_}
+use Prim.Native.Nat.{ℕ, _+_, _≤_, _<_}
 use native.Mathlib.Omega.{arith}
-use lib.Dec.{ltb}
 use lib.ListN.{length, replicate}
 use lib.IntN.{pos}
-use borrow.Author.Tests.{ltb-true, lt-ltb}
+use borrow.Author.Tests.{lt-ltb}
 use Rattle.coxeter.specs.Kinds.{B, kindOf, up}
 use Rattle.coxeter.specs.Windows.{from, swap, negateFirst, act, windowFrom, identity, window}
 use Rattle.coxeter.specs.Checks.{wrongKind, tooLong, wrongLetter, wordRefusal, tooShort, WordOf}
@@ -23,7 +22,6 @@ use Rattle.book_format.specs.declared.Opened.the-variants as opened
 use Rattle.book_format.specs.declared.Preset.the-variants as preset
 use Rattle.book_format.specs.Books.{twoAt, count, trailer, offset, wrongSize, wrongCount, misplacedFrom, misplaced, noSuchPreset}
 use Rattle.book_format.specs.Books.{wrongRankInBook, wrongLaneCount, bookRankRefusal, bookRefusal, recordRefusal, presetRefusal, appended, retired}
-use Rattle.book_format.specs.Records.{Bytes}
 use Rattle.book_format.specs.Conversion.{recordsConversionRefusal, converting}
 use Rattle.book_format.proofs.BookLaws.{accepted}
 use Rattle.book_format.proofs.Converting.{conversion-too-large, length-converted}
@@ -35,21 +33,6 @@ use Rattle.book_format.specs.Calls.{openedOf, checkedBook, presetOf, pre
 -- J13: B₂ with 1 2 1 2, D₅ with 5 2 3 5 1 2
 abbrev pub book : List ℕ
 book = 2 ∷ 2 ∷ 4 ∷ 0 ∷ 1 ∷ 2 ∷ 1 ∷ 2 ∷ 3 ∷ 5 ∷ 6 ∷ 0 ∷ 5 ∷ 2 ∷ 3 ∷ 5 ∷ 1 ∷ 2 ∷ 0 ∷ 0 ∷ 8 ∷ 0 ∷ 2 ∷ 0 ∷ []
-
--- every number of a list is a byte: a test
-allBytes : List ℕ → Bool
-allBytes [] = true
-allBytes (x ∷ l) = ltb x 256 && allBytes l
-
-bytes-true : (l : List ℕ) → allBytes l ≡ true → Bytes l
-unfolding allBytes
-bytes-true [] h i = omega arith
-bytes-true (x ∷ l) h zero = ltb-true x 256 (and-eq-true-iff (ltb x 256) (allBytes l) .0 h .0)
-bytes-true (x ∷ l) h (suc i) = bytes-true l (and-eq-true-iff (ltb x 256) (allBytes l) .0 h .1) i
-
-pub book-bytes : Bytes book
-unfolding allBytes
-book-bytes = bytes-true book refl
 
 -- its presets in the second edition
 abbrev pub secondBook : List ℕ

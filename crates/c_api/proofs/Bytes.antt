@@ -70,10 +70,6 @@ wrongRank-above A n h = rw (lt-ltb 63 n (omega arith)) (or-true (ltb n 1))
 wrongRank-above B n h = rw (lt-ltb 64 n (omega arith)) (or-true (ltb n 2))
 wrongRank-above D n h = rw (lt-ltb 64 n (omega arith)) (or-true (ltb n 4))
 
--- refused with r
-abbrev Refuses : ℕ → ℕ → ℕ → Type 0
-Refuses k n r = (rankRefusal k n ≡ r) × (r ≡ 0 → ⊥)
-
 -- the two are bytes, or are refused as their bytes are
 pub bytes-or-refused : (k n : ℕ) → ((byteOf k ≡ k) × (byteOf n ≡ n)) ⊎ ((rankRefusal (byteOf k) (byteOf n) ≡ rankRefusal k n) × (rankRefusal k n ≡ 0 → ⊥))
 unfolding wrongKind

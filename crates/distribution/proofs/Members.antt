@@ -80,15 +80,6 @@ once-keep t (x ∷ l) o = cases (t x) (once-keep t l (o .1))
     cases true r = (λ m. o .0 (of-keep t x l m .0), r)
     cases false r = r
 
-pub length-keep-le : {X : Type 0} (t : X → Bool) (l : List X) → length (keep t l) ≤ length l
-unfolding keep
-length-keep-le t [] = omega arith
-length-keep-le t (x ∷ l) = cases (t x) (length-keep-le t l)
-  where
-    cases : (b : Bool) → length (keep t l) ≤ length l → length (pick b (x ∷ keep t l) (keep t l)) ≤ suc (length l)
-    cases true h = omega arith
-    cases false h = omega arith
-
 -- ---- mapped
 
 pub once-map : {X Y : Type 0} (f : X → Y) (l : List X) → ((x y : X) → In x l → In y l → f x ≡ f y → x ≡ y) → Once l → Once (map f l)

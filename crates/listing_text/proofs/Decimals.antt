@@ -1,9 +1,8 @@
--- The decimal digits of a number: all but the last are those of a tenth of it, they stand for the number, and there
--- are few.
+-- The decimal digits of a number: all but the last are those of a tenth of it, and there are few.
 -- Assumes nothing.
-use mathlib.Core.Path.{_≡_, refl}
-use mathlib.Core.List.{List, [], _∷_, _++_}
-use Prim.Native.Nat.{ℕ, zero, suc, _+_, _-_, _*_, _/_, _%_, _^_, _≤_, _<_}
+use mathlib.Core.Path.{_≡_}
+use mathlib.Core.List.{[], _∷_, _++_}
+use Prim.Native.Nat.{ℕ, zero, suc, _+_, _/_, _%_, _^_, _≤_, _<_}
 use native.Mathlib.Decide.{decLe}
 use native.Mathlib.Nat.{pow-suc}
 use native.Mathlib.Omega.{arith}
@@ -27,29 +26,6 @@ decimal-digit x h = rw (lt-ltb x 10 h)
 pub decimal-more : (x : ℕ) → 10 ≤ x → decimal x ≡ decimal (x / 10) ++ ((48 + x % 10) ∷ [])
 unfolding decimal digits
 decimal-more x h = rw (le-ltb x 10 h, digits-enough x (suc (x / 10)) (x / 10) (omega arith) (omega arith))
-
--- the number that digits stand for, after digits that stand for a
-unfoldable pub valueAfter : ℕ → List ℕ → ℕ
-valueAfter a [] = a
-valueAfter a (d ∷ l) = valueAfter (10 * a + (d - 48)) l
-
-valueAfter-append : (a : ℕ) (u v : List ℕ) → valueAfter a (u ++ v) ≡ valueAfter (valueAfter a u) v
-unfolding valueAfter
-valueAfter-append a [] v = refl
-valueAfter-append a (d ∷ u) v = valueAfter-append (10 * a + (d - 48)) u v
-
-valueAfter-digits : (f x : ℕ) → x < f → valueAfter 0 (digits f x) ≡ x
-unfolding digits valueAfter
-valueAfter-digits zero x h = absurd (omega arith)
-valueAfter-digits (suc f) x h = elim (decLe 10 x) [
-  | yes l ↦
-      rw (le-ltb x 10 l, valueAfter-append 0 (digits f (x / 10)) ((48 + x % 10) ∷ []), valueAfter-digits f (x / 10) (omega arith)) (omega arith)
-  | no n ↦ rw (lt-ltb x 10 (omega arith)) (omega arith)
-]
-
-pub value-decimal : (x : ℕ) → valueAfter 0 (decimal x) ≡ x
-unfolding decimal
-value-decimal x = valueAfter-digits (suc x) x (omega arith)
 
 length-decimal-le : (k x : ℕ) → x < 10 ^ suc k → length (decimal x) ≤ suc k
 length-decimal-le zero x h = rw (decimal-digit x h) (omega arith)

@@ -1,5 +1,5 @@
 -- Every line of a listing has at most 16,896 bytes, by the ranges of its fields. So a call with a buffer of that
--- many bytes writes a line where one is left, and as many such calls as there are lines write the listing.
+-- many bytes writes a line where one is left.
 --
 -- Sections: letters and entries; lines of presets; every line; progress.
 -- Assumes nothing.
@@ -7,7 +7,7 @@ use mathlib.Core.Path.{_≡_, refl, _∙_}
 use mathlib.Core.Bool.{false}
 use mathlib.Core.List.{List, [], _∷_}
 use Prim.Native.Nat.{ℕ, zero, suc, _+_, _-_, _*_, _^_, _≤_, _<_}
-use native.Mathlib.Decide.{ℕ-discrete, decLe}
+use native.Mathlib.Decide.{ℕ-discrete}
 use native.Mathlib.Nat.{lt-of-not-le}
 use native.Mathlib.Omega.{arith}
 use lib.IntN.{ℤ, pos, negsuc, natAbs}
@@ -35,10 +35,10 @@ use Rattle.book_format.proofs.Outcomes.{bookRefusal-le, presetRefusal-le}
 use Rattle.book_format.proofs.PresetLaws.{presets-opened, found, found-rank, refused-is}
 use Rattle.listing_text.specs.declared.Piece.{Piece}
 use Rattle.listing_text.specs.Text.{spaced, letters, entry, entries, head, tail, presetLine, refused}
-use Rattle.listing_text.specs.Text.{refusedLine, refusedBookLine, countLine, wordLine, lineBy, lineOf, listing}
-use Rattle.listing_text.specs.Calls.{lineCountBy, lineCount, firstLine, line, nextPiece, reached, pieces}
+use Rattle.listing_text.specs.Text.{refusedLine, refusedBookLine, countLine, wordLine, lineBy, lineOf}
+use Rattle.listing_text.specs.Calls.{lineCountBy, lineCount, firstLine, line, nextPiece}
 use Rattle.listing_text.proofs.Decimals.{length-decimal-byte, length-decimal-word}
-use Rattle.listing_text.proofs.Pieces.{fitting-more, pieces-whole}
+use Rattle.listing_text.proofs.Pieces.{fitting-more}
 
 -- room for 4,096 letters, 64 entries and five numbers of 64 bits
 abbrev pub longest : ℕ
@@ -162,20 +162,3 @@ piece-falls ed b i out p e g f =
     let more : i < lineCount ed b = lt-of-not-le (λ h. f (omega arith)) in
     let on = piece-progress ed b i out more g in
     rw e (omega arith)
-
--- buffers with room for every line
-abbrev pub Roomy : List (List ℕ) → Type 0
-Roomy [] = Unit {0}
-Roomy (out ∷ outs) = (longest ≤ length out) × Roomy outs
-
-reached-end : (ed : Edition) (b : List ℕ) (i : ℕ) (outs : List (List ℕ)) → Roomy outs → lineCount ed b ≤ i + length outs → lineCount ed b ≤ reached ed b i outs
-unfolding reached
-reached-end ed b i [] h g = omega arith
-reached-end ed b i (out ∷ outs) h g = reached-end ed b (nextPiece ed b i out .answer .next) outs (h .1) (elim (decLe (lineCount ed b) i) [
-  | yes l ↦ unfold nextPiece in omega arith
-  | no n ↦ let p = piece-progress ed b i out (omega arith) (h .0) in omega arith
-])
-
--- as many of them as there are lines are enough
-pub pieces-enough : (ed : Edition) (b : List ℕ) (outs : List (List ℕ)) → Roomy outs → lineCount ed b ≤ length outs → pieces ed b 0 outs ≡ listing ed b
-pieces-enough ed b outs h g = pieces-whole ed b outs (reached-end ed b 0 outs h (omega arith))

@@ -4,7 +4,7 @@ use mathlib.Core.Path.{_≡_, sym, _∙_}
 use mathlib.Core.List.{List, map}
 use Prim.Native.Nat.{ℕ, _+_, _-_, _≤_, _<_}
 use native.Mathlib.Omega.{arith}
-use lib.ListN.{length, getD, length-map, List·getD-map}
+use lib.ListN.{getD, List·getD-map}
 use Rattle.coxeter.specs.Kinds.{up}
 use Rattle.book_format.specs.declared.Edition.{Edition}
 use Rattle.book_format.specs.declared.Preset.{Preset}
@@ -32,12 +32,6 @@ module _ (ed : Edition) (b : List ℕ) (i : ℕ) {x : ℕ} (e : x ≡ i - 1) whe
   held-kept q h g = rw q (h, g)
 
   module _ (run : Run) (h : Held ed b i run) (g : x < run .first + 128) where
-    pub held-inside : x - run .first < length (run .presets)
-    held-inside =
-        let s = h .begins in
-        let n = length-map (run .presets) (λ (s : Slot). s .preset) in
-        omega (arith, presets-at ed b (run .first) (presetsOf run) (h .presets) .0)
-
     pub held-preset : (d : Slot) → getD (run .presets) (x - run .first) d .preset ≡ checkedPreset ed b (i - 1)
     held-preset d =
         let s = h .begins in
