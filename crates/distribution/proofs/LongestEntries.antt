@@ -28,18 +28,18 @@ use Rattle.distribution.proofs.RefusalSentences.{table-exactly}
 
 -- ---- entries by their places
 
-falling-at : (m i : ℕ) → i < m → getD (map pos (down m m)) i (pos 0) ≡ pos (m - i)
+pub falling-at : (m i : ℕ) → i < m → getD (map pos (down m m)) i (pos 0) ≡ pos (m - i)
 falling-at zero i h = absurd (omega arith)
 falling-at (suc m) zero h = let e : suc m - 0 ≡ suc m = omega arith in rw (falling-suc m, e)
 falling-at (suc m) (suc i) h = let e : suc m - suc i ≡ m - i = omega arith in rw (falling-suc m, e) (falling-at m i (omega arith))
 
-negative-at : (s m i : ℕ) → i < m → getD (map negsuc (up s m)) i (pos 0) ≡ negsuc (s + i)
+pub negative-at : (s m i : ℕ) → i < m → getD (map negsuc (up s m)) i (pos 0) ≡ negsuc (s + i)
 unfolding up
 negative-at s zero i h = absurd (omega arith)
 negative-at s (suc m) zero h = let e : s + 0 ≡ s = omega arith in rw e
 negative-at s (suc m) (suc i) h = let e : s + suc i ≡ suc s + i = omega arith in rw e (negative-at (suc s) m i (omega arith))
 
-allNegative-at : (n i : ℕ) → i < n → getD (allNegative n) i (pos 0) ≡ negsuc i
+pub allNegative-at : (n i : ℕ) → i < n → getD (allNegative n) i (pos 0) ≡ negsuc i
 unfolding allNegative
 allNegative-at n i h = negative-at 0 n i h ∙ ap negsuc (zero-add i)
 

@@ -1,5 +1,5 @@
 -- The entries of the longest window one by one, as code writes them, and its normal form as another call writes it.
--- Sections: entries; the last entry; odd ranks; the longest window, entry by entry, by cases as code has them; the
+-- Sections: the last entry; odd ranks; the longest window, entry by entry, by cases as code has them; the
 -- normal form.
 -- Assumes nothing.
 use mathlib.Core.Path.{_≡_, refl, sym, ap, _∙_}
@@ -7,7 +7,7 @@ use mathlib.Core.Bool.{Bool, true, false, not}
 use mathlib.Core.List.{List, [], _∷_, map}
 use Prim.Native.Nat.{ℕ, zero, suc, _+_, _-_, _%_, _≤_, _<_}
 use native.Mathlib.Omega.{arith}
-use native.Mathlib.Nat.{add-zero, add-suc, suc-add}
+use native.Mathlib.Nat.{add-zero}
 use native.Mathlib.Numerals.{add-one}
 use borrow.Author.Tests.{eq-eqb, le-ltb}
 use lib.IntN.{ℤ, pos, negsuc, negℤ, _-ℤ_}
@@ -27,29 +27,9 @@ use Rattle.coxeter.proofs.Acceptance.{rank-within}
 use Rattle.coxeter.proofs.FrontLaws.{length-take-front}
 use Rattle.refusals.proofs.Bytes.{cast-back, minus-cast-back}
 use Rattle.distribution.specs.Longest.{allNegative, longest}
-use Rattle.distribution.proofs.Longest.{falling-suc, length-allNegative, longest-is}
+use Rattle.distribution.proofs.Longest.{length-allNegative, longest-is}
+use Rattle.distribution.proofs.LongestEntries.{falling-at, allNegative-at}
 use Rattle.distribution.proofs.Tables.{length-longest, length-longest-form}
-
--- ---- entries
-
-getD-falling : (m i : ℕ) → i < m → getD (map pos (down m m)) i (pos 0) ≡ pos (m - i)
-getD-falling zero i h = absurd (omega arith)
-getD-falling (suc m) zero h =
-    let e : suc m ≡ suc m - 0 = omega arith in
-    ap (λ (w : List ℤ). getD w 0 (pos 0)) (falling-suc m) ∙ ap pos e
-getD-falling (suc m) (suc i) h =
-    let e : m - i ≡ suc m - suc i = omega arith in
-    ap (λ (w : List ℤ). getD w (suc i) (pos 0)) (falling-suc m) ∙ getD-falling m i (omega arith) ∙ ap pos e
-
-getD-negative : (j m i : ℕ) → i < m → getD (map negsuc (up j m)) i (pos 0) ≡ negsuc (j + i)
-unfolding up
-getD-negative j zero i h = absurd (omega arith)
-getD-negative j (suc m) zero h = ap negsuc (sym (add-zero j))
-getD-negative j (suc m) (suc i) h = getD-negative (suc j) m i (omega arith) ∙ ap negsuc (suc-add j i ∙ sym (add-suc j i))
-
-getD-allNegative : (m i : ℕ) → i < m → getD (allNegative m) i (pos 0) ≡ negsuc i
-unfolding allNegative
-getD-allNegative m i h = let e : 0 + i ≡ i = omega arith in getD-negative 0 m i h ∙ ap negsuc e
 
 -- ---- the last entry
 
@@ -108,10 +88,10 @@ module _ (k n : ℕ) {m : ℕ} (i : ℕ) (e : m ≡ lanes (kindOf k) n) (o : i <
   unfolding longest
   entry-A a b =
       let q = kindOf-one k a in
-      rw q (cast-back (m - i) (omega arith) ∙ sym (getD-falling m i o) ∙ ap (λ (x : ℕ). getD (map pos (down x x)) i (pos 0)) (rw q at e))
+      rw q (cast-back (m - i) (omega arith) ∙ sym (falling-at m i o) ∙ ap (λ (x : ℕ). getD (map pos (down x x)) i (pos 0)) (rw q at e))
 
   negative-is : m ≤ 127 → toZ w8 (ofZ w8 (pos 0 -ℤ toZ w8 (i + 1))) ≡ getD (allNegative m) i (pos 0)
-  negative-is b = minus-cast-back (i + 1) (omega arith) ∙ ap (λ (x : ℕ). negℤ (pos x)) (add-one i) ∙ sym (getD-allNegative m i o)
+  negative-is b = minus-cast-back (i + 1) (omega arith) ∙ ap (λ (x : ℕ). negℤ (pos x)) (add-one i) ∙ sym (allNegative-at m i o)
 
   pub entry-B : k ≡ 2 → m ≤ 127 → Entry (toZ w8 (ofZ w8 (pos 0 -ℤ toZ w8 (i + 1))))
   unfolding longest
