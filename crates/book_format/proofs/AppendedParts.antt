@@ -14,6 +14,7 @@ use lib.Seq.{getD-append-add, getD-take, getD-drop, getD-at, take-at, drop-at, t
 use Rattle.book_format.specs.declared.Edition.{Edition}
 use Rattle.book_format.specs.declared.Edition.the-variants.{First, Second}
 use Rattle.coxeter.specs.Kinds.{kindOf, lanes}
+use Rattle.coxeter.proofs.Lists.{getD-joined}
 use Rattle.book_format.specs.Books.{twoAt, two, count, trailer, offset, kindAt, rankAt, lanesAt, letterCountAt, lettersAt, endAt}
 use Rattle.book_format.specs.Books.{laneByte, recordOf, appended, countPlace, headSize, addedSize}
 use Rattle.book_format.proofs.BookLaws.{Accepted, bookSize, trailer-le, trailer-read, two-le-countPlace}
@@ -47,9 +48,6 @@ twoAt-middle l f m p h =
     rw (getD-take m (drop f l) p 0 (omega arith), getD-take m (drop f l) (p + 1) 0 h, getD-drop f l p 0, getD-drop f l (p + 1) 0, add-assoc f p 1)
 
 -- ---- parts of a list
-
-getD-past : (x y : List ℕ) (t p : ℕ) → length x ≡ t → getD (x ++ y) (t + p) 0 ≡ getD y p 0
-getD-past x y t p e = rw (← e) (getD-append-add x y p 0)
 
 middle-append : (x y : List ℕ) (f m : ℕ) → f + m ≤ length x → take m (drop f (x ++ y)) ≡ take m (drop f x)
 middle-append x y f m h = rw (drop-append-le f x y (omega arith)) (take-append-le m (drop f x) y (rw length-drop (omega arith)))
@@ -105,7 +103,7 @@ lanesAt-same Second l m o p q r = r (omega arith)
 lanesAt-of : (ed : Edition) {m : List ℕ} (x y : List ℕ) {o k n : ℕ} → m ≡ x ++ (k ∷ n ∷ (lane ed k n ++ y)) → length x ≡ o → kindAt m o ≡ k → rankAt m o ≡ n
     → lanesAt ed m o ≡ lanes (kindOf k) n
 lanesAt-of First x y e f p q = rw (p, q)
-lanesAt-of Second x y {o} {k} {n} e f p q = rw e (getD-past x (k ∷ n ∷ (lane Second k n ++ y)) o 2 f)
+lanesAt-of Second x y {o} {k} {n} e f p q = rw e (getD-joined o x (k ∷ n ∷ (lane Second k n ++ y)) 2 f)
 
 module _ (ed : Edition) (b : List ℕ) (k n : ℕ) (u : List ℕ) (a : Accepted ed b) (small : bookSize b + addedSize ed u ≤ 65535) where
   -- ---- numbers of the new book
@@ -197,7 +195,7 @@ module _ (ed : Edition) (b : List ℕ) (k n : ℕ) (u : List ℕ) (a : Accepted 
 
   pub rankAt-appended-last : rankAt (appended ed b k n u) (trailer b) ≡ n
   rankAt-appended-last =
-      rw (before-record ed b k n u) (getD-past (records b) (k ∷ n ∷ (lane ed k n ++ (two (length u) ++ (u ++ rest ed b k n u)))) (trailer b) 1
+      rw (before-record ed b k n u) (getD-joined (trailer b) (records b) (k ∷ n ∷ (lane ed k n ++ (two (length u) ++ (u ++ rest ed b k n u)))) 1
       (length-records b))
 
   pub lanesAt-appended-last : lanesAt ed (appended ed b k n u) (trailer b) ≡ lanes (kindOf k) n

@@ -11,11 +11,12 @@ use native.Mathlib.Nat.{add-zero, add-suc, suc-add}
 use native.Mathlib.Numerals.{add-one}
 use native.Mathlib.Omega.{arith}
 use lib.ListN.{length, getD, length-append, List·getD-append}
-use lib.Seq.{getD-append-add, getD-at}
+use lib.Seq.{getD-at}
 use borrow.Author.Tests.{le-leb, lt-leb, lt-ltb, le-ltb}
 use Rattle.coxeter.specs.Kinds.{Kind, A, B, D, up}
 use Rattle.coxeter.specs.NormalForm.{down, rise, fall, block, levels, lastIndex, blocks, Indices, none, level}
 use Rattle.coxeter.proofs.Basics.{length-up}
+use Rattle.coxeter.proofs.Lists.{getD-joined}
 use Rattle.coxeter.proofs.Products.{getD-up}
 use Rattle.coxeter.proofs.LetterRuns.{span-nil, block-up}
 
@@ -52,9 +53,6 @@ fall-entries : (n j : ℕ) → 1 ≤ n → n ≤ j → j ≤ 2 * n
     → (length (fall (n - 1) (2 * n - j)) ≡ j - n) × ((p : ℕ) → p < j - n → getD (fall (n - 1) (2 * n - j)) p 0 ≡ n - 1 - p)
 unfolding fall
 fall-entries n j o h l = let e : suc (n - 1) - (2 * n - j) ≡ j - n = omega arith in rw e (down-entries (n - 1) (j - n))
-
-getD-joined : (c : ℕ) (u v : List ℕ) (p : ℕ) → length u ≡ c → getD (u ++ v) (c + p) 0 ≡ getD v p 0
-getD-joined c u v p e = rw (← e) (getD-append-add u v p 0)
 
 -- N4: the block [i,j] is empty if j = i − 1
 pub block-empty : (k : Kind) (n i j : ℕ) → i ≤ n → j + 1 ≡ i → block k n i j ≡ []

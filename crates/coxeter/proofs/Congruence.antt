@@ -15,7 +15,7 @@ pub application-sym : {R : List ℕ → List ℕ → Type 0} {u v : List ℕ} �
 application-sym (forth x y r) = back x y r
 application-sym (back x y r) = forth x y r
 
-regroup : (x a l b y : List ℕ) → (x ++ a) ++ (l ++ (b ++ y)) ≡ x ++ ((a ++ (l ++ b)) ++ y)
+pub regroup : (x a l b y : List ℕ) → (x ++ a) ++ (l ++ (b ++ y)) ≡ x ++ ((a ++ (l ++ b)) ++ y)
 regroup x a l b y = simp append-assoc
 
 -- an application inside a longer word

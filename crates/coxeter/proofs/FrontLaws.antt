@@ -1,18 +1,13 @@
 -- What `front` makes of a list and an output: the list, and behind it what the output held. By the laws of `++`.
 -- Assumes nothing.
-use mathlib.Core.Path.{_≡_, refl, sym, ap, _∙_}
-use mathlib.Core.List.{List, [], _∷_, _++_, append-nil}
-use Prim.Native.Nat.{ℕ, zero, suc, _+_, _-_, _≤_, _<_}
+use mathlib.Core.Path.{_≡_, sym, ap, _∙_}
+use mathlib.Core.List.{List, _++_, append-nil}
+use Prim.Native.Nat.{ℕ, _+_, _-_, _≤_, _<_}
 use native.Mathlib.Nat.{zero-add}
 use native.Mathlib.Omega.{arith}
-use lib.ListN.{length, getD, take, drop, length-append, length-drop, drop-of-length-le}
+use lib.ListN.{length, getD, take, drop, length-append, length-drop, drop-of-length-le, List·getD-append}
 use lib.Seq.{take-at, drop-at, getD-append-add, getD-drop, sets, sets-eq}
 use Rattle.coxeter.specs.Calls.{front}
-
-getD-append-lt : {X : Type 0} (l r : List X) (p : ℕ) (d : X) → p < length l → getD (l ++ r) p d ≡ getD l p d
-getD-append-lt [] r p d h = absurd (omega arith)
-getD-append-lt (x ∷ l) r zero d h = refl
-getD-append-lt (x ∷ l) r (suc p) d h = getD-append-lt l r p d (omega arith)
 
 module _ {X : Type 0} (l out : List X) where
   pub take-front : (m : ℕ) → length l ≡ m → take m (front l out) ≡ l
@@ -40,7 +35,7 @@ module _ {X : Type 0} (l out : List X) where
       × (length out ≤ length l → front l out ≡ l)
   unfolding front
   front-entries = (
-    getD-append-lt l (drop (length l) out),
+    λ p d. List·getD-append l (drop (length l) out) d p,
     λ p d h.
         let e : length l + (p - length l) ≡ p = omega arith in
         ap (λ (i : ℕ). getD (l ++ drop (length l) out) i d) (sym e)

@@ -7,6 +7,7 @@ use native.Mathlib.Decide.{ℕ-discrete}
 use native.Mathlib.Omega.{arith}
 use borrow.Author.Tests.{eq-eqb, ne-eqb}
 use Rattle.coxeter.specs.Kinds.{Kind, A, B, D, kindOf, lanes, least}
+use Rattle.coxeter.specs.NormalForm.{levels}
 
 -- ---- kinds and ranks
 
@@ -50,3 +51,8 @@ pub one-le : (k : Kind) (n : ℕ) → least k ≤ n → 1 ≤ n
 one-le A n h = h
 one-le B n h = omega arith
 one-le D n h = omega arith
+
+pub one-le-levels : (k : Kind) (n : ℕ) → least k ≤ n → 1 ≤ levels k n
+one-le-levels A n h = h
+one-le-levels B n h = omega arith
+one-le-levels D n h = omega arith

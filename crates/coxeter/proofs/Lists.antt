@@ -8,7 +8,7 @@ use native.Mathlib.Nat.{zero-add, le-refl, le-of-eq, add-suc, suc-add, add-zero}
 use native.Mathlib.Numerals.{add-one}
 use native.Mathlib.Omega.{arith}
 use lib.ListN.{length, getD, take, drop, length-drop, drop-of-length-le, length-append, set, length-set}
-use lib.Seq.{drop-cons, drop-drop, take-all, take-suc, take-suc-set, sets, sets-eq}
+use lib.Seq.{drop-cons, drop-drop, getD-append-add, take-all, take-suc, take-suc-set, sets, sets-eq}
 
 -- the part of a list from a place to its end, as a slice's part is read
 pub take-rest {ℓ} : {X : Type ℓ} (a : ℕ) (l : List X) → take (length l - a) (drop a l) ≡ drop a l
@@ -22,6 +22,10 @@ getD-take zero i l d h = absurd (omega arith)
 getD-take (suc j) i [] d h = refl
 getD-take (suc j) zero (x ∷ l) d h = refl
 getD-take (suc j) (suc i) (x ∷ l) d h = getD-take j i l d (omega arith)
+
+-- behind the first c elements
+pub getD-joined : (c : ℕ) (u v : List ℕ) (p : ℕ) → length u ≡ c → getD (u ++ v) (c + p) 0 ≡ getD v p 0
+getD-joined c u v p e = rw (← e) (getD-append-add u v p 0)
 
 -- ---- lists written element by element
 

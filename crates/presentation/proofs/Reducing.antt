@@ -16,7 +16,7 @@ use native.Mathlib.Omega.{arith}
 use lib.ListN.{length, getD, length-append}
 use Rattle.coxeter.specs.Dictionary.{before, shortlex}
 use Rattle.coxeter.specs.Relations.{forth, back, Congruent, alone, next}
-use Rattle.coxeter.proofs.Congruence.{congruent-trans, congruent-sym, congruent-context, congruent-application}
+use Rattle.coxeter.proofs.Congruence.{regroup, congruent-trans, congruent-sym, congruent-context, congruent-application}
 use Rattle.coxeter.proofs.Order.{shortlex-shorter, shortlex-before, shortlex-cases}
 use Rattle.coxeter.proofs.Orders.{before-exactly}
 use Rattle.coxeter.proofs.TestLaws.{not-true-false}
@@ -57,9 +57,6 @@ reduces-of-fits rs x m u p l f =
     subst₂ (Reduces rs) (sym (s .3))
     (sym (rewritten-split x (s .0) (s .1)) ∙ ap₂ (rewritten x) (sym (s .3)) (s .2))
     (within (s .0) (s .1) x m)
-
-regroup : (x b l a y : List ℕ) → (x ++ b) ++ (l ++ (a ++ y)) ≡ x ++ ((b ++ (l ++ a)) ++ y)
-regroup x b l a y = simp append-assoc
 
 -- a reduction inside a longer word
 pub reduces-context : {rs : List Rule} {u v : List ℕ} (x y : List ℕ) → Reduces rs u v → Reduces rs (x ++ (u ++ y)) (x ++ (v ++ y))

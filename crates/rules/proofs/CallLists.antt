@@ -20,7 +20,7 @@ use Rattle.coxeter.proofs.TestLaws.{zero-not-one}
 module _ (s : Interface) where
   -- ---- the word left
 
-  wordLeft-snoc : (u : List ℕ) (front : List (Call s)) (c : Call s) → wordLeft s u (front ++ (c ∷ [])) ≡ wordAfter s (wordLeft s u front) (c .result)
+  pub wordLeft-snoc : (u : List ℕ) (front : List (Call s)) (c : Call s) → wordLeft s u (front ++ (c ∷ [])) ≡ wordAfter s (wordLeft s u front) (c .result)
   unfolding wordLeft
   wordLeft-snoc u [] c = refl
   wordLeft-snoc u (d ∷ front) c = wordLeft-snoc (wordAfter s u (d .result)) front c

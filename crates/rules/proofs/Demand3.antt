@@ -25,6 +25,7 @@ use Rattle.rules.proofs.Completeness.{rewrites-window, rewrites-letters
 use Rattle.rules.proofs.Completeness.{irreducible-iff, normalForm-least-window, same-normalForm-congruent}
 use Rattle.rules.proofs.Calls.{accepted-least, accepted-letters, accepted-of-shorter, Lawful, single-lawful, stepped}
 use Rattle.rules.proofs.Calls.{Moves, rewrote, stays, stepped-moves, wordAfter-moves}
+use Rattle.rules.proofs.CallLists.{wordLeft-snoc}
 use Rattle.rules.proofs.UsedRules.{resultOf, stepped-used, stepped-answers}
 use Rattle.rules.proofs.UsedRules.{irreducible-of-once, nowhereFits-iff}
 use Rattle.coxeter.proofs.FormLaws.{wordNormalForm-eq-iff}
@@ -115,21 +116,16 @@ module _ {s : Interface} (law : Lawful s) (k n : ℕ) where
   run-rest u [] rest r = r
   run-rest u (c ∷ front) rest r = run-rest (wordAfter s u (c .result)) front rest (r .1)
 
-  wordLeft-snoc : (u : List ℕ) (front : List (Call s)) (c : Call s) → wordLeft s u (front ++ (c ∷ [])) ≡ wordAfter s (wordLeft s u front) (c .result)
-  unfolding wordLeft
-  wordLeft-snoc u [] c = refl
-  wordLeft-snoc u (d ∷ front) c = wordLeft-snoc (wordAfter s u (d .result)) front c
-
   -- each call of the list
   module _ (u : List ℕ) (front : List (Call s)) (c : Call s) (rest : List (Call s)) (h : AcceptedWord k n u) (r : Run s k n u (front ++ (c ∷ rest))) where
     found-accepted : AcceptedWord k n (wordLeft s u front)
     found-accepted = wordLeft-accepted u front h (run-front u front (c ∷ rest) r)
 
     run-used : UsedExactly s k n (wordLeft s u front) c (wordLeft s u (front ++ (c ∷ [])))
-    run-used = rw (wordLeft-snoc u front c) (call-used (wordLeft s u front) c found-accepted (run-rest u front (c ∷ rest) r .0))
+    run-used = rw (wordLeft-snoc s u front c) (call-used (wordLeft s u front) c found-accepted (run-rest u front (c ∷ rest) r .0))
 
     run-answers : FourAnswers s k n (wordLeft s u front) c (wordLeft s u (front ++ (c ∷ [])))
-    run-answers = rw (wordLeft-snoc u front c) (call-answers (wordLeft s u front) c found-accepted (run-rest u front (c ∷ rest) r .0))
+    run-answers = rw (wordLeft-snoc s u front c) (call-answers (wordLeft s u front) c found-accepted (run-rest u front (c ∷ rest) r .0))
 
   -- what the calls return and leave is what the machine returns and leaves
   run-machine : (u : List ℕ) (cs : List (Call s)) → AcceptedWord k n u → Run s k n u cs

@@ -16,11 +16,11 @@ use Rattle.coxeter.specs.Kinds.{Kind, A, B, D, least}
 use Rattle.coxeter.specs.Windows.{window}
 use Rattle.coxeter.specs.Checks.{wrongLetter, WindowOf}
 use Rattle.coxeter.specs.NormalForm.{block, blocks, Indices, none, level, levels, lastIndex, normalForm, IsNormalForm}
+use Rattle.coxeter.proofs.KindLaws.{one-le-levels}
 use Rattle.coxeter.proofs.LetterLaws.{letter-within-cons}
 use Rattle.coxeter.proofs.NormalForms.{normalForm-blocks}
 use Rattle.rules.proofs.Rewriting.{Rewrites}
 use Rattle.rules.proofs.Ending.{letters-of-accepted}
-use Rattle.rules.proofs.NextLetter.{one-le-levels}
 use Rattle.rules.proofs.Irreducible.{letters-from, blocks-from-or-rewrites}
 use Rattle.rules.proofs.Completeness.{normalForm-irreducible, normalForm-least-window, normalForm-only}
 use Rattle.rules.proofs.Theorems.{normalForm-least}

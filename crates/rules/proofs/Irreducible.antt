@@ -10,10 +10,11 @@ use native.Mathlib.Omega.{arith}
 use Rattle.coxeter.specs.Kinds.{Kind, least}
 use Rattle.coxeter.specs.Checks.{wrongLetter}
 use Rattle.coxeter.specs.NormalForm.{block, blocks, Indices, none, level, levels, lastIndex}
+use Rattle.coxeter.proofs.KindLaws.{one-le-levels}
 use Rattle.coxeter.proofs.LetterRuns.{span-nil, Corner, block-up, corner-le}
 use Rattle.rules.proofs.Rewriting.{Rewrites}
 use Rattle.rules.proofs.Ending.{letters-of-accepted}
-use Rattle.rules.proofs.NextLetter.{corner-levels, one-le-levels, le-lastIndex}
+use Rattle.rules.proofs.NextLetter.{corner-levels, le-lastIndex}
 use Rattle.rules.proofs.Extending.{Reducible, reducible-within, extended-letter}
 use Rattle.coxeter.proofs.Order.{less, same, more, compared}
 use Rattle.coxeter.proofs.LetterLaws.{letter-within-cons}

@@ -51,11 +51,6 @@ corner-levels A n h = refl
 corner-levels B n h = refl
 corner-levels D n h = omega arith
 
-pub one-le-levels : (k : Kind) (n : ℕ) → least k ≤ n → 1 ≤ levels k n
-one-le-levels A n h = h
-one-le-levels B n h = omega arith
-one-le-levels D n h = omega arith
-
 -- every j of the way up is an index of every level
 pub le-lastIndex : (k : Kind) (n i j : ℕ) → i ≤ n → j ≤ n → j ≤ lastIndex k n i
 le-lastIndex A n i j h g = g

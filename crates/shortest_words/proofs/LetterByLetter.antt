@@ -12,6 +12,7 @@ use Rattle.shortest_words.specs.Allowed.{over, Over}
 use Rattle.shortest_words.specs.Fallback.{subwordAt}
 use Rattle.shortest_words.specs.OneLetter.{dropAt}
 use Rattle.shortest_words.proofs.Allowed.{over-cons, over-head, over-tail}
+use Rattle.shortest_words.proofs.Deletion.{dropAt-seam}
 
 -- S2: a word is over allowed steps exactly when each of its letters is allowed
 pub over-exactly : (allowed : ℕ → Bool) (u : List ℕ) → Over allowed u ↔ ((i : ℕ) → i < length u → allowed (getD u i 0) ≡ true)
@@ -46,12 +47,8 @@ subwordAt-exactly u ps = (many ps, each ps)
 pub dropped-exactly : ((x y : List ℕ) (a : ℕ) → dropAt (length x) (x ++ (a ∷ y)) ≡ x ++ y)
     × ((i : ℕ) (u : List ℕ) → length u ≤ i → dropAt i u ≡ u)
 unfolding dropAt
-dropped-exactly = (dropAt-length, past)
+dropped-exactly = (λ x y a. dropAt-seam x a y, past)
   where
-    dropAt-length : (x y : List ℕ) (a : ℕ) → dropAt (length x) (x ++ (a ∷ y)) ≡ x ++ y
-    dropAt-length [] y a = refl
-    dropAt-length (b ∷ x) y a = ap (λ (l : List ℕ). b ∷ l) (dropAt-length x y a)
-
     past : (i : ℕ) (u : List ℕ) → length u ≤ i → dropAt i u ≡ u
     past i [] h = refl
     past zero (b ∷ u) h = absurd (omega arith)

@@ -10,26 +10,22 @@ use lib.IntN.{ℤ}
 use lib.ListN.{length, getD}
 use lib.Pow.{pow-pos}
 use lib.Seq.{sets}
-use Rattle.coxeter.specs.Kinds.{Kind, A, B, D, kindOf, lanes, least}
+use Rattle.coxeter.specs.Kinds.{Kind, A, B, D, kindOf, lanes}
 use Rattle.coxeter.specs.Checks.{RankOf, WindowOf}
 use Rattle.coxeter.specs.Calls.{front}
 use Rattle.coxeter.specs.NormalForm.{levels, normalForm}
 use Rattle.coxeter.proofs.Acceptance.{Ranked, rank-within, lanes-le}
+use Rattle.coxeter.proofs.KindLaws.{one-le-levels}
 use Rattle.coxeter.proofs.Levels.{Accepted, accepted-of-refusal}
 use Rattle.coxeter.proofs.PeelingByPlaces.{PlacesOf, Place, lastLevel, peeledWord}
 use Rattle.coxeter.proofs.FrontLaws.{sets-front}
 use Rattle.window.proofs.normal.PeeledForms.{Found, found, place-is, peeled-first}
 
--- the number of levels is the last level, and there is one
+-- the number of levels is the last level
 last-is : (k : Kind) (n : ℕ) → lastLevel k (lanes k n) ≡ levels k n
 last-is A n = omega arith
 last-is B n = refl
 last-is D n = refl
-
-one-level : (k : Kind) (n : ℕ) → least k ≤ n → 1 ≤ levels k n
-one-level A n h = h
-one-level B n h = omega arith
-one-level D n h = omega arith
 
 more-lanes : (k : Kind) (n : ℕ) → n ≤ lanes k n
 more-lanes A n = omega arith
@@ -50,7 +46,7 @@ module _ (k n : ℕ) (h : RankOf k n) (w : List ℤ) (g : WindowOf (kindOf k) n 
   last = ap (lastLevel (kindOf k)) (own .size) ∙ last-is (kindOf k) n
 
   pub first-level : 1 ≤ lastLevel (kindOf k) (length w)
-  first-level = omega (arith, last, one-level (kindOf k) n (rank-within k n h .0))
+  first-level = omega (arith, last, one-le-levels (kindOf k) n (rank-within k n h .0))
 
   module _ (places : List ℕ) {left : ℕ} (p : PlacesOf w places) (s : left ≡ 2 ^ length w - 1) where
     pub first-places : (i : ℕ) → i < length w → Place (kindOf k) (length w) (getD places i 0)

@@ -8,7 +8,8 @@ use Rattle.coxeter.specs.Calls.{normalFormOfWord}
 use Rattle.coxeter.proofs.LaneCounts.{refusal-of-lanes, count-of-lanes, preset-counted}
 use Rattle.coxeter.proofs.Outcomes.{writes-refused}
 use Rattle.window.proofs.forms.Rooms.{form-written}
-use Rattle.window.proofs.shown.Fronts.{Front, room, front-written, window-passes}
+use Rattle.coxeter.proofs.Theorems.{window-passes}
+use Rattle.window.proofs.shown.Fronts.{Front, room, front-written}
 use borrow.Author.Needs.{needs}
 use Rattle.window.proofs.normal_form_of_word.Statement.{statement}
 use Rattle.window.proofs.normal_form_of_word.Tie as tie

@@ -13,6 +13,7 @@ use Rattle.coxeter.proofs.Basics.{length-window}
 use Rattle.coxeter.proofs.Products.{length-product, windowFrom-product, window-append}
 use Rattle.coxeter.proofs.Inverses.{inverse-accepted}
 use Rattle.coxeter.proofs.Levels.{accepted-of-refusal, window-accepted, refusal-of-accepted}
+use Rattle.coxeter.proofs.Theorems.{window-passes}
 use Rattle.coxeter.proofs.Acceptance.{lanes-le}
 use Rattle.coxeter.proofs.FrontLaws.{length-take-front, front-parts, front-again}
 use Rattle.coxeter.specs.Kinds.{kindOf, lanes, Kind}
@@ -21,9 +22,6 @@ use Rattle.coxeter.specs.Checks.{windowRefusal, RankOf, WindowOf}
 use Rattle.coxeter.specs.Calls.{front}
 
 -- ---- what words show
-
-pub window-passes : (k : Kind) (n : ℕ) (u : List ℕ) → WindowOf k n (window k n u)
-window-passes k n u = refusal-of-accepted k n (window k n u) (window-accepted k n u)
 
 pub product-passes : (k : Kind) (n : ℕ) (u v : List ℕ) → WindowOf k n (product (window k n u) (window k n v))
 product-passes k n u v = rw (← window-append k n u v) (window-passes k n (u ++ v))

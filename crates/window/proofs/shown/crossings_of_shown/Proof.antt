@@ -6,7 +6,8 @@ use Rattle.coxeter.specs.Calls.{countedOf}
 use Rattle.coxeter.specs.Length.{crossings}
 use Rattle.coxeter.specs.Windows.{window}
 use Rattle.coxeter.proofs.Acceptance.{lanes-le}
-use Rattle.window.proofs.shown.Fronts.{Front, room, front-written, window-passes}
+use Rattle.coxeter.proofs.Theorems.{window-passes}
+use Rattle.window.proofs.shown.Fronts.{Front, room, front-written}
 use borrow.Author.Needs.{needs}
 use Rattle.window.proofs.shown.crossings_of_shown.Statement.{statement}
 use Rattle.window.proofs.shown.crossings_of_shown.Tie as tie

@@ -6,7 +6,8 @@ use Rattle.coxeter.specs.Kinds.{kindOf}
 use Rattle.coxeter.specs.Windows.{window}
 use Rattle.coxeter.specs.Calls.{sameWindow}
 use Rattle.coxeter.proofs.Outcomes.{lanes-differ, same-lanes}
-use Rattle.window.proofs.shown.Fronts.{Front, room, window-passes, front-written}
+use Rattle.coxeter.proofs.Theorems.{window-passes}
+use Rattle.window.proofs.shown.Fronts.{Front, room, front-written}
 use borrow.Author.Needs.{needs}
 use Rattle.window.proofs.shown.same_presets.Statement.{statement}
 use Rattle.window.proofs.shown.same_presets.Tie as tie

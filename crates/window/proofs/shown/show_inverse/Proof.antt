@@ -2,7 +2,8 @@
 -- Assumes nothing.
 use Rattle.coxeter.specs.Kinds.{kindOf}
 use Rattle.coxeter.specs.Windows.{window}
-use Rattle.window.proofs.shown.Fronts.{Front, room, front-written, window-passes}
+use Rattle.coxeter.proofs.Theorems.{window-passes}
+use Rattle.window.proofs.shown.Fronts.{Front, room, front-written}
 use borrow.Author.Needs.{needs}
 use Rattle.window.proofs.shown.show_inverse.Statement.{statement}
 use Rattle.window.proofs.shown.show_inverse.Tie as tie

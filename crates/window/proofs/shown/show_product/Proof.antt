@@ -3,7 +3,8 @@
 use mathlib.Core.Path.{sym}
 use lib.Seq.{length-take-le}
 use Rattle.coxeter.proofs.Acceptance.{rank-accepted}
-use Rattle.window.proofs.shown.Fronts.{part-window, part-product, window-passes}
+use Rattle.coxeter.proofs.Theorems.{window-passes}
+use Rattle.window.proofs.shown.Fronts.{part-window, part-product}
 use borrow.Author.Needs.{needs}
 use Rattle.window.proofs.shown.show_product.Statement.{statement}
 use Rattle.window.proofs.shown.show_product.Tie as tie
