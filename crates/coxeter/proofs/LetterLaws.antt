@@ -2,8 +2,8 @@
 -- Assumes nothing.
 use mathlib.Core.Path.{_≡_}
 use mathlib.Core.Bool.{false, _||_}
-use mathlib.Core.List.{List, _∷_}
-use Prim.Native.Nat.{ℕ, _+_, _≤_, _<_}
+use mathlib.Core.List.{List, [], _∷_}
+use Prim.Native.Nat.{ℕ, zero, suc, _+_, _≤_, _<_}
 use native.Mathlib.Omega.{arith}
 use lib.Dec.{eqb, ltb}
 use lib.ListN.{length, getD, drop}
@@ -31,3 +31,11 @@ letter-within n u i h e =
 
 pub wrongLetter-next : (n : ℕ) (u : List ℕ) (i : ℕ) → i < length u → wrongLetter n (drop i u) ≡ false → wrongLetter n (drop (i + 1) u) ≡ false
 wrongLetter-next n u i h e = letter-within-cons n (getD u i 0) (drop (i + 1) u) (rw (drop-next u i 0 h) at e) .2
+
+pub wrongLetter-drop : (n p : ℕ) (u : List ℕ) → wrongLetter n u ≡ false → wrongLetter n (drop p u) ≡ false
+wrongLetter-drop n zero u w = w
+wrongLetter-drop n (suc p) [] w = w
+wrongLetter-drop n (suc p) (s ∷ u) w = wrongLetter-drop n p u (letter-within-cons n s u w .2)
+
+pub letter-at : (n : ℕ) (u : List ℕ) (i : ℕ) → i < length u → wrongLetter n u ≡ false → (1 ≤ getD u i 0) × (getD u i 0 ≤ n)
+letter-at n u i h e = letter-within n u i h (wrongLetter-drop n i u e)

@@ -9,7 +9,7 @@ use mathlib.Core.Bool.{true, false, true≢false}
 use mathlib.Core.Logic.{_⊎_, inl, inr, ⊎-elim}
 use mathlib.Core.List.{List, [], _∷_, _++_, append-assoc, List·Memᴰ}
 use mathlib.Core.Option.{Option, none, some, Option·some-injective, Option·none-ne-some}
-use Prim.Native.Nat.{ℕ, zero, suc, _+_, _-_, _*_, _≤_, _<_}
+use Prim.Native.Nat.{ℕ, suc, _+_, _-_, _*_, _≤_, _<_}
 use native.Mathlib.Decide.{ℕ-discrete}
 use native.Mathlib.Omega.{arith}
 use lib.Dec.{eqb}
@@ -32,7 +32,7 @@ use Rattle.rules.proofs.Scan.{fork, familyAt, ruleAt, found, walk, scan
 use Rattle.rules.proofs.Scan.{climbs, tops, falls, leaves, going, Along, start, further, along-next}
 use Rattle.rules.proofs.Letters.{commutes-below, block-one}
 use Rattle.coxeter.proofs.Order.{less, same, more, compared}
-use Rattle.coxeter.proofs.LetterLaws.{letter-within-cons}
+use Rattle.coxeter.proofs.LetterLaws.{letter-within-cons, wrongLetter-drop}
 
 -- ---- what the search finds is a rule
 
@@ -123,11 +123,6 @@ leaving-listed {k} {n} {i} {j} {x} h (further p q e m) o l w = elim (ℕ-discret
           ]
           | no r ↦ inl (familyAt-inside n (fork k n) i j x e t r)
         ]
-
-pub wrongLetter-drop : (n p : ℕ) (u : List ℕ) → wrongLetter n u ≡ false → wrongLetter n (drop p u) ≡ false
-wrongLetter-drop n zero u w = w
-wrongLetter-drop n (suc p) [] w = w
-wrongLetter-drop n (suc p) (s ∷ u) w = wrongLetter-drop n p u (letter-within-cons n s u w .2)
 
 -- the rule is an entry of the list, and the word v begins with its left side
 abbrev Begins : Kind → ℕ → List ℕ → Rule → Type 0

@@ -7,7 +7,7 @@ use mathlib.Core.Path.{_≡_, refl, sym, ap, _∙_}
 use mathlib.Core.Bool.{Bool, true, false}
 use mathlib.Core.Logic.{_↔_, Iff·trans}
 use mathlib.Core.List.{List, [], _∷_}
-use Prim.Native.Nat.{ℕ, zero, suc, _+_, _≤_, _<_}
+use Prim.Native.Nat.{ℕ, zero, suc, _+_, _≤_}
 use native.Mathlib.Omega.{arith}
 use lib.Dec.{eqb}
 use lib.IntN.{ℤ}
@@ -19,8 +19,7 @@ use Rattle.coxeter.specs.Length.{windowLength}
 use Rattle.coxeter.specs.Checks.{wrongLetter}
 use Rattle.coxeter.proofs.Levels.{Accepted}
 use Rattle.coxeter.proofs.Steps.{act-involution}
-use Rattle.coxeter.proofs.LetterLaws.{letter-within}
-use Rattle.rules.proofs.ScanRules.{wrongLetter-drop}
+use Rattle.coxeter.proofs.LetterLaws.{letter-at}
 use Rattle.shortest_words.specs.Descents.{isDescent}
 use Rattle.shortest_words.specs.Fallback.{Rising, subwordAt, HasSubword, ShortestSubwordPlaces}
 use Rattle.shortest_words.proofs.Subwords.{Subword, none, keep, subword-letters}
@@ -55,9 +54,6 @@ subword-take (suc i) [] = none
 subword-take (suc i) (a ∷ u) = keep (subword-take i u)
 
 module _ (k : Kind) (n : ℕ) (u : List ℕ) (h : least k ≤ n) (e : wrongLetter n u ≡ false) where
-  letter : (i : ℕ) → i < length u → (1 ≤ getD u i 0) × (getD u i 0 ≤ n)
-  letter i l = letter-within n u i l (wrongLetter-drop n i u e)
-
   -- the empty word has one part-list
   empty-exactly : (w : List ℤ) → HasSubword k n [] w ↔ (w ≡ identity (lanes k n))
   unfolding window windowFrom
@@ -77,7 +73,7 @@ module _ (k : Kind) (n : ℕ) (u : List ℕ) (h : least k ≤ n) (e : wrongLette
       let s : ℕ = getD u i 0 in
       let front = subword-letters n (subword-take i u) e in
       rw (take-suc u i 0 l)
-      (Iff·trans (lifting k n (take i u) s h front (letter i l .0) (letter i l .1) w a)
+      (Iff·trans (lifting k n (take i u) s h front (letter-at n u i l e .0) (letter-at n u i l e .1) w a)
       (walk-exactly i (descended k n s w) (omega arith) (descended-accepted k n s w a)))
 
   -- ---- the places
@@ -118,7 +114,7 @@ module _ (k : Kind) (n : ℕ) (u : List ℕ) (h : least k ≤ n) (e : wrongLette
           → length (pick t (i ∷ ps) ps) + windowLength k (descended k n (getD u i 0) w) ≡ length ps + windowLength k w
       cases true t =
           rw (descended-step k n (getD u i 0) w t)
-          (omega (arith, length-of-descent k n (getD u i 0) w h (letter i l .0) (letter i l .1) a t))
+          (omega (arith, length-of-descent k n (getD u i 0) w h (letter-at n u i l e .0) (letter-at n u i l e .1) a t))
       cases false t = rw (descended-same k n (getD u i 0) w t)
 
   -- ---- the verdict

@@ -27,10 +27,9 @@ use Rattle.coxeter.proofs.Order.{sameWindow-true, sameWindow-of-eq}
 use Rattle.coxeter.proofs.Products.{getD-identity}
 use Rattle.refusals.proofs.Bytes.{element-back, cast-back}
 use Rattle.coxeter.proofs.Lists.{Storing, storing-next, storing-room, stored-of-storing}
-use Rattle.coxeter.proofs.LetterLaws.{letter-within}
+use Rattle.coxeter.proofs.LetterLaws.{letter-at}
 use Rattle.coxeter.proofs.Theorems.{act-passes}
 use Rattle.coxeter.proofs.FrontLaws.{sets-front}
-use Rattle.rules.proofs.ScanRules.{wrongLetter-drop}
 use Rattle.shortest_words.specs.Descents.{isDescent}
 use Rattle.shortest_words.proofs.Lifting.{descended}
 use Rattle.shortest_words.proofs.FallbackWalk.{leftOver, placesKept, marked}
@@ -81,7 +80,7 @@ module _ (k : Kind) (n : ℕ) (u : List ℕ) (w₀ : List ℤ) where
     letter = sym (getD-take i f j 0 (omega arith)) ∙ ap (λ (l : List ℕ). getD l j 0) (h .front) ∙ getD-take i u j 0 (omega arith)
 
     pub walking-within : wrongLetter n u ≡ false → (1 ≤ getD f j 0) × (getD f j 0 ≤ n)
-    walking-within e = rw letter (letter-within n u j here (wrongLetter-drop n j u e))
+    walking-within e = rw letter (letter-at n u j here e)
 
     pub walking-room : kept + i ≤ length u
     walking-room = omega (arith, h .count, marked-le i (drop i f), length-drop i f, h .size, h .inside)

@@ -13,9 +13,8 @@ use borrow.Author.Tests.{le-ltb}
 use Rattle.coxeter.specs.Kinds.{Kind}
 use Rattle.coxeter.specs.Checks.{tooLong, wordRefusal, WordOf}
 use Rattle.coxeter.specs.NormalForm.{levels}
-use Rattle.coxeter.proofs.LetterLaws.{letter-within}
+use Rattle.coxeter.proofs.LetterLaws.{letter-at}
 use Rattle.rules.specs.Rules.{rewritten, commuted}
-use Rattle.rules.proofs.ScanRules.{wrongLetter-drop}
 use Rattle.traces.proofs.TwoLetters.{commuting}
 use Rattle.traces.proofs.Reading.{reading-inside}
 use Rattle.traces.proofs.ReadingSteps.{commute-redex}
@@ -36,7 +35,7 @@ module _ {k : Kind} {n : ℕ} {rest : List ℕ} {s : ℕ} {families places lengt
   ready-word = rw (le-ltb 4096 (length word) (omega (arith, a .short)), a .reading .letters)
 
   pub ready-letter : (t : ℕ) → t < length word → (1 ≤ getD word t 0) × (getD word t 0 ≤ n)
-  ready-letter t h = letter-within n word t h (wrongLetter-drop n t word (a .reading .letters))
+  ready-letter t h = letter-at n word t h (a .reading .letters)
 
 -- ---- a letter that passes another
 

@@ -17,11 +17,10 @@ use borrow.Author.Tests.{eq-eqb, ne-eqb, lt-ltb, le-ltb}
 use Rattle.coxeter.specs.Kinds.{Kind, pick, least}
 use Rattle.coxeter.specs.Checks.{wrongLetter}
 use Rattle.coxeter.specs.NormalForm.{block, levels, lastIndex}
-use Rattle.coxeter.proofs.LetterLaws.{letter-within, letter-within-cons}
+use Rattle.coxeter.proofs.LetterLaws.{letter-within-cons, letter-at}
 use Rattle.rules.specs.Rules.{Rule, rules, Irreducible}
 use Rattle.rules.proofs.Letters.{block-one}
 use Rattle.rules.proofs.BlockWords.{block-short}
-use Rattle.rules.proofs.ScanRules.{wrongLetter-drop}
 use Rattle.rules.proofs.Scan.{nextIndex, fork, familyAt, shownIndex, firstLetter, walk, scan, Along, start, further, scan-block}
 use Rattle.traces.specs.Traces.{lowestRedex}
 use Rattle.traces.proofs.PartBlocks.{indexBy, part-block}
@@ -40,7 +39,7 @@ module _ {k : Kind} {n : ℕ} (h : least k ≤ n) {w : List ℕ} {q : ℕ} (r : 
   end-inside = reading-inside k n h w q r
 
   letters-within : (t : ℕ) → t < length w → getD w t 0 ≤ n
-  letters-within t l = letter-within n w t l (wrongLetter-drop n t w (r .letters)) .1
+  letters-within t l = letter-at n w t l (r .letters) .1
 
   abbrev before : ℕ
   before = getD w (q - 1) 0
@@ -60,10 +59,10 @@ module _ {k : Kind} {n : ℕ} (h : least k ≤ n) {w : List ℕ} {q : ℕ} (r : 
     low = elim (decLe letter before) [ yes c ↦ falling c | no c ↦ rising (lt-of-not-le c) ]
       where
         x-in : (1 ≤ letter) × (letter ≤ n)
-        x-in = letter-within n w q end-inside (wrongLetter-drop n q w (r .letters))
+        x-in = letter-at n w q end-inside (r .letters)
 
         l-in : (1 ≤ before) × (before ≤ n)
-        l-in = letter-within n w (q - 1) (omega (arith, end-inside)) (wrongLetter-drop n (q - 1) w (r .letters))
+        l-in = letter-at n w (q - 1) (omega (arith, end-inside)) (r .letters)
 
         falling : letter ≤ before → Low
         falling c =

@@ -18,10 +18,9 @@ use lib.ListN.{length, getD, take, drop, length-take}
 use borrow.Author.Tests.{eq-eqb, ne-eqb}
 use Rattle.coxeter.specs.Kinds.{Kind, pick, least}
 use Rattle.coxeter.specs.NormalForm.{levels, lastIndex}
-use Rattle.coxeter.proofs.LetterLaws.{letter-within}
+use Rattle.coxeter.proofs.LetterLaws.{letter-at}
 use Rattle.coxeter.proofs.TestLaws.{zero-not-one}
 use Rattle.rules.specs.Rules.{Rule, rules, firstFitting}
-use Rattle.rules.proofs.ScanRules.{wrongLetter-drop}
 use Rattle.rules.proofs.Scan.{nextIndex, fork, familyAt, shownIndex, firstLetter, shownRule}
 use Rattle.traces.specs.Traces.{Redex, lowestRedex}
 use Rattle.traces.proofs.LeftSideShapes.{lower}
@@ -139,7 +138,7 @@ module _ (k : Kind) (n : ℕ) (h : least k ≤ n) (w : List ℕ) (q : ℕ) (r : 
   reading = subst (Reading k n w) back r
 
   pub letters-within : (t : ℕ) → t < length w → getD w t 0 ≤ n
-  letters-within t l = letter-within n w t l (wrongLetter-drop n t w (r .letters)) .1
+  letters-within t l = letter-at n w t l (r .letters) .1
 
   pub end-inside : q < length w
   end-inside = reading-inside k n h w q r

@@ -15,10 +15,9 @@ use borrow.Author.Tests.{eq-eqb, ne-eqb, ltb-false}
 use Rattle.coxeter.specs.Kinds.{Kind, least}
 use Rattle.coxeter.specs.Checks.{wrongLetter}
 use Rattle.coxeter.specs.NormalForm.{levels}
-use Rattle.coxeter.proofs.LetterLaws.{letter-within}
+use Rattle.coxeter.proofs.LetterLaws.{letter-at}
 use Rattle.rules.specs.Rules.{rules}
 use Rattle.rules.proofs.Fits.{firstFitting-some}
-use Rattle.rules.proofs.ScanRules.{wrongLetter-drop}
 use Rattle.traces.proofs.LeastWords.{Normal, normal-front, letters-left}
 use Rattle.traces.proofs.TwoLetters.{commuting, commute-fits}
 use Rattle.traces.proofs.Reading.{Reading, reading-inside, reading-before}
@@ -65,7 +64,7 @@ module _ {k : Kind} {n : ℕ} (h : least k ≤ n) {z : List ℕ} {q : ℕ} (r : 
       none-commute-by-cases false e = refl
       none-commute-by-cases true e =
           let m = normal-upto (suc (suc t)) l in
-          let x = letter-within n z (suc t) (omega (arith, i)) (wrongLetter-drop n (suc t) z (r .letters)) .1 in
+          let x = letter-at n z (suc t) (omega (arith, i)) (r .letters) .1 in
           let f = firstFitting-some (rules k n) (take (suc (suc t)) z) t _
           (commute-fits k n h (take (suc (suc t)) z) t (getD z t 0) (getD z (suc t) 0) (m .letters) ends x e) in
           absurd (true≢false (sym (f .1) ∙ m .irreducible _ (f .0) t))

@@ -15,13 +15,13 @@ use Rattle.coxeter.specs.Kinds.{Kind, pick, least}
 use Rattle.coxeter.specs.Checks.{wrongLetter}
 use Rattle.coxeter.specs.NormalForm.{block, levels, lastIndex}
 use Rattle.coxeter.proofs.Lists.{drop-next}
-use Rattle.coxeter.proofs.LetterLaws.{letter-within}
+use Rattle.coxeter.proofs.LetterLaws.{letter-at}
 use Rattle.rewriter.specs.declared.search.Fitting.{Fitting}
 use Rattle.rewriter.specs.declared.search.Fitting.the-variants.{Rule as Shown, Nothing}
 use Rattle.rules.specs.Rules.{Rule, rules, firstFitting}
 use Rattle.rules.proofs.NextLetter.{corner-levels, lastIndex-le}
 use Rattle.rules.proofs.Scan.{fork, nextIndex, familyAt, shownIndex, ruleAt, found, walk, scan, going, Along, start, further, along-next, walk-next}
-use Rattle.rules.proofs.ScanRules.{wrongLetter-drop, scan-is-firstFitting}
+use Rattle.rules.proofs.ScanRules.{scan-is-firstFitting}
 use Rattle.rules.proofs.Letters.{block-one}
 use Rattle.coxeter.proofs.LetterRuns.{corner-le}
 
@@ -57,13 +57,10 @@ fittingOf-found k n i j x f l e = elim (ℕ-discrete f 0) [
 ]
 
 module _ (k : Kind) (n : ℕ) (u : List ℕ) (w : Searchable k n u) where
-  pub letter : (t : ℕ) → t < length u → (1 ≤ getD u t 0) × (getD u t 0 ≤ n)
-  letter t h = letter-within n u t h (wrongLetter-drop n t u (w .letters))
-
   pub searching-start : (p : ℕ) → p < length u → Searching k n u p (getD u p 0) (getD u p 0) (p + 1)
   unfolding scan
   searching-start p h =
-      let l = letter p h in
+      let l = letter-at n u p h (w .letters) in
       record {
         inside = omega arith;
         along = start (l .0) (l .1) refl;
@@ -76,7 +73,7 @@ module _ (k : Kind) (n : ℕ) (u : List ℕ) (w : Searchable k n u) where
   searching-next {i} {j} {t} {s} a b q h e z =
       let x = getD u t 0 in
       let f : nextIndex n (levels k n) (lastIndex k n i) j x ≡ s = rw (← a, ← b) (sym e) in
-      let g = along-next k n i j x (w .rank) (q .along) (rw f at (going n (levels k n) (lastIndex k n i) j x (letter t h .1))) z in
+      let g = along-next k n i j x (w .rank) (q .along) (rw f at (going n (levels k n) (lastIndex k n i) j x (letter-at n u t h (w .letters) .1))) z in
       record {
         inside = omega arith;
         along = g .0;

@@ -14,11 +14,10 @@ use Rattle.coxeter.specs.Kinds.{Kind, kindOf}
 use Rattle.coxeter.specs.Checks.{wrongLetter}
 use Rattle.coxeter.specs.Calls.{front}
 use Rattle.coxeter.proofs.Acceptance.{Ranked, rank-accepted, letters-accepted, length-accepted}
-use Rattle.coxeter.proofs.LetterLaws.{letter-within}
+use Rattle.coxeter.proofs.LetterLaws.{wrongLetter-drop, letter-at}
 use Rattle.coxeter.proofs.Lists.{take-rest, drop-next}
 use Rattle.coxeter.proofs.FrontLaws.{sets-front, front-parts, front-whole}
 use Rattle.rules.specs.Runs.{AcceptedWord}
-use Rattle.rules.proofs.ScanRules.{wrongLetter-drop}
 use Rattle.traces.specs.Traces.{Line, Trace, trace, familiesOf, placesOf, lengthsOf}
 use Rattle.traces.proofs.LeastWords.{Normal}
 use Rattle.traces.proofs.Reading.{reading-next, nil-irreducible}
@@ -74,7 +73,7 @@ module _ {k n : ℕ} {word : List ℕ} (families places lengths work₀ : List �
       making-room = omega (arith, m .short, m .work-size)
 
       letter-in : (1 ≤ letter) × (letter ≤ n)
-      letter-in = letter-within n word i g (wrongLetter-drop n i word (letters-accepted n word (h .word)))
+      letter-in = letter-at n word i g (letters-accepted n word (h .word))
 
       -- what the call is lent: the normal form with the letter behind it, and the rest of the word
       abbrev lent : List ℕ

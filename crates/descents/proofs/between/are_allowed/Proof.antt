@@ -6,8 +6,7 @@ use native.Mathlib.Omega.{arith}
 use lib.ListN.{length, drop}
 use borrow.Author.Needs.{needs}
 use Rattle.coxeter.proofs.Acceptance.{letters-accepted}
-use Rattle.coxeter.proofs.LetterLaws.{letter-within}
-use Rattle.rules.proofs.ScanRules.{wrongLetter-drop}
+use Rattle.coxeter.proofs.LetterLaws.{letter-at}
 use Rattle.shortest_words.specs.Allowed.{over, allows}
 use Rattle.descents.proofs.between.Leading.{over-stop, over-next, over-end}
 use Rattle.descents.proofs.between.are_allowed.Statement.{statement}
@@ -30,7 +29,7 @@ is-allowed-requires c κs =
     let at = c .before .before .loop in
     let entry = c .before .before .before .before in
     let u = entry .args .word .now in
-    letter-within 64 u (at .i) (c .before .loop-test .taken) (wrongLetter-drop 64 (at .i) u (letters-accepted 64 u (entry .pre)))
+    letter-at 64 u (at .i) (c .before .loop-test .taken) (letters-accepted 64 u (entry .pre))
 
 returns : tie.Need-returns Inv-loop μ-loop
 returns c =

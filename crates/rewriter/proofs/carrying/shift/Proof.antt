@@ -7,8 +7,7 @@ use Prim.Native.Nat.{ℕ, _-_, _≤_}
 use native.Mathlib.Omega.{arith}
 use lib.ListN.{length, getD, length-set}
 use Rattle.coxeter.proofs.Acceptance.{letters-accepted}
-use Rattle.coxeter.proofs.LetterLaws.{letter-within}
-use Rattle.rules.proofs.ScanRules.{wrongLetter-drop}
+use Rattle.coxeter.proofs.LetterLaws.{letter-at}
 use Rattle.rewriter.proofs.carrying.Shifting.{put, put-none, put-set, put-read, put-next, CommutesFrom, commutesFrom-next}
 use borrow.Author.Needs.{needs}
 use Rattle.rewriter.proofs.carrying.shift.Statement.{statement}
@@ -48,7 +47,7 @@ commutes-requires c κs =
     let w = s .args .word .now in
     let p = l .loop .t - 1 in
     rw (put-read w _ _ (s .pre .2) _ _ (omega arith) (i .place-le) (i .moved))
-    (omega (arith, letter-within _ w p (omega (arith, s .pre .2)) (wrongLetter-drop _ p w (letters-accepted _ w (s .pre .1))) .1, s .pre .0))
+    (omega (arith, letter-at _ w p (omega (arith, s .pre .2)) (letters-accepted _ w (s .pre .1)) .1, s .pre .0))
 
 slice-write-word : tie.Need-slice-write-word Inv-loop μ-loop
 slice-write-word c =

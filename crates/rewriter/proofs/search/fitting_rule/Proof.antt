@@ -9,11 +9,12 @@ use borrow.Author.Needs.{needs}
 use borrow.Author.Tests.{eq-eqb, ne-eqb}
 use Rattle.coxeter.specs.Kinds.{pick, kindOf}
 use Rattle.coxeter.proofs.Acceptance.{letters-accepted}
+use Rattle.coxeter.proofs.LetterLaws.{letter-at}
 use Rattle.rules.specs.Rules.{rules, firstFitting}
 use Rattle.rules.proofs.Scan.{shownIndex}
 use Rattle.rewriter.specs.declared.search.Fitting.the-variants.{Rule as Shown, Nothing}
 use Rattle.rewriter.proofs.search.Searches.{fittingOf, Searching, Searchable, along-le, lastIndex-le-of}
-use Rattle.rewriter.proofs.search.Searches.{letter, searching-start, searching-next, searching-found, searching-end}
+use Rattle.rewriter.proofs.search.Searches.{searching-start, searching-next, searching-found, searching-end}
 use Rattle.rewriter.proofs.search.fitting_rule.Statement.{statement}
 use Rattle.rewriter.proofs.search.fitting_rule.Tie as tie
 
@@ -29,7 +30,7 @@ searchable s = record { rank = s .pre .0 .0; letters = letters-accepted _ _ (s .
 last-index-of-requires : tie.Need-last-index-of-requires Inv-loop μ-loop
 last-index-of-requires c κs =
     let s = c .before .before .before in
-    (s .pre .0 .1, letter _ _ _ (searchable s) _ (s .pre .1 .1) .1)
+    (s .pre .0 .1, letter-at _ _ _ (s .pre .1 .1) (searchable s .letters) .1)
 
 loop-holds : tie.Need-loop-holds Inv-loop μ-loop
 loop-holds c = let entry = c .before .before .before .before .before in searching-start _ _ _ (searchable entry) _ (entry .pre .1 .1)
@@ -40,7 +41,7 @@ next-index-requires c κs =
     let entry = after-last-index-of .before .before .before .before in
     let i = getD (entry .args .word .now) (entry .args .place) 0 in
     let m = lastIndex-le-of (kindOf (entry .args .kind)) _ i _ (after-last-index-of .last-index-of .ensures) in
-    (entry .pre .0 .1, m, letter _ _ _ (searchable entry) _ (c .before .loop-test .taken) .1)
+    (entry .pre .0 .1, m, letter-at _ _ _ (c .before .loop-test .taken) (searchable entry .letters) .1)
 
 family-at-requires : tie.Need-family-at-requires Inv-loop μ-loop
 family-at-requires c κs =
