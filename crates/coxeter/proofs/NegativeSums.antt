@@ -20,27 +20,27 @@ use Rattle.coxeter.proofs.Sizes.{hasSize-tail, hasSize-head}
 -- ---- how many sizes of a level are larger
 
 -- the entries that pass a test
-unfoldable keep : (ℤ → Bool) → List ℤ → List ℤ
-keep f [] = []
-keep f (e ∷ w) = pick (f e) (e ∷ keep f w) (keep f w)
+unfoldable passing : (ℤ → Bool) → List ℤ → List ℤ
+passing f [] = []
+passing f (e ∷ w) = pick (f e) (e ∷ passing f w) (passing f w)
 
-hasSize-keep : (f : ℤ → Bool) (s : ℕ) (w : List ℤ) → hasSize s w ≡ false → hasSize s (keep f w) ≡ false
-unfolding keep hasSize
-hasSize-keep f s [] h = refl
-hasSize-keep f s (e ∷ w) h = hasSize-keep-by-cases (f e) (hasSize-keep f s w (hasSize-tail s e w h))
+hasSize-passing : (f : ℤ → Bool) (s : ℕ) (w : List ℤ) → hasSize s w ≡ false → hasSize s (passing f w) ≡ false
+unfolding passing hasSize
+hasSize-passing f s [] h = refl
+hasSize-passing f s (e ∷ w) h = hasSize-passing-by-cases (f e) (hasSize-passing f s w (hasSize-tail s e w h))
   where
-    hasSize-keep-by-cases : (t : Bool) → hasSize s (keep f w) ≡ false → hasSize s (pick t (e ∷ keep f w) (keep f w)) ≡ false
-    hasSize-keep-by-cases true r = rw (hasSize-head s e w h, r)
-    hasSize-keep-by-cases false r = r
+    hasSize-passing-by-cases : (t : Bool) → hasSize s (passing f w) ≡ false → hasSize s (pick t (e ∷ passing f w) (passing f w)) ≡ false
+    hasSize-passing-by-cases true r = rw (hasSize-head s e w h, r)
+    hasSize-passing-by-cases false r = r
 
-distinct-keep : (f : ℤ → Bool) (w : List ℤ) → Distinct w → Distinct (keep f w)
-unfolding keep
-distinct-keep f [] d = tt
-distinct-keep f (e ∷ w) d = distinct-keep-by-cases (f e) (distinct-keep f w (d .1))
+distinct-passing : (f : ℤ → Bool) (w : List ℤ) → Distinct w → Distinct (passing f w)
+unfolding passing
+distinct-passing f [] d = tt
+distinct-passing f (e ∷ w) d = distinct-passing-by-cases (f e) (distinct-passing f w (d .1))
   where
-    distinct-keep-by-cases : (t : Bool) → Distinct (keep f w) → Distinct (pick t (e ∷ keep f w) (keep f w))
-    distinct-keep-by-cases true r = (hasSize-keep f (natAbs e) w (d .0), r)
-    distinct-keep-by-cases false r = r
+    distinct-passing-by-cases : (t : Bool) → Distinct (passing f w) → Distinct (pick t (e ∷ passing f w) (passing f w))
+    distinct-passing-by-cases true r = (hasSize-passing f (natAbs e) w (d .0), r)
+    distinct-passing-by-cases false r = r
 
 -- a size above a, and one that is not
 abbrev above : ℕ → ℤ → Bool
@@ -49,58 +49,58 @@ above a e = ltb a (natAbs e)
 abbrev upTo : ℕ → ℤ → Bool
 upTo a e = not (ltb a (natAbs e))
 
-between-above : (a c : ℕ) (w : List ℤ) → Between 1 c w → Between (suc a) c (keep (above a) w)
-unfolding keep
+between-above : (a c : ℕ) (w : List ℤ) → Between 1 c w → Between (suc a) c (passing (above a) w)
+unfolding passing
 between-above a c [] b = tt
 between-above a c (e ∷ w) b = between-above-by-cases (ltb a (natAbs e)) refl (between-above a c w (b .2))
   where
-    between-above-by-cases : (t : Bool) → ltb a (natAbs e) ≡ t → Between (suc a) c (keep (above a) w)
-        → Between (suc a) c (pick t (e ∷ keep (above a) w) (keep (above a) w))
+    between-above-by-cases : (t : Bool) → ltb a (natAbs e) ≡ t → Between (suc a) c (passing (above a) w)
+        → Between (suc a) c (pick t (e ∷ passing (above a) w) (passing (above a) w))
     between-above-by-cases true q r = (omega (arith, ltb-true a (natAbs e) q), b .1, r)
     between-above-by-cases false q r = r
 
-between-upTo : (a c : ℕ) (w : List ℤ) → Between 1 c w → Between 1 (1 + a) (keep (upTo a) w)
-unfolding keep
+between-upTo : (a c : ℕ) (w : List ℤ) → Between 1 c w → Between 1 (1 + a) (passing (upTo a) w)
+unfolding passing
 between-upTo a c [] b = tt
 between-upTo a c (e ∷ w) b = between-upTo-by-cases (ltb a (natAbs e)) refl (between-upTo a c w (b .2))
   where
-    between-upTo-by-cases : (t : Bool) → ltb a (natAbs e) ≡ t → Between 1 (1 + a) (keep (upTo a) w)
-        → Between 1 (1 + a) (pick (not t) (e ∷ keep (upTo a) w) (keep (upTo a) w))
+    between-upTo-by-cases : (t : Bool) → ltb a (natAbs e) ≡ t → Between 1 (1 + a) (passing (upTo a) w)
+        → Between 1 (1 + a) (pick (not t) (e ∷ passing (upTo a) w) (passing (upTo a) w))
     between-upTo-by-cases true q r = r
     between-upTo-by-cases false q r = (b .0, omega (arith, ltb-false a (natAbs e) q), r)
 
-length-keep-add : (a : ℕ) (w : List ℤ) → length (keep (above a) w) + length (keep (upTo a) w) ≡ length w
-unfolding keep
-length-keep-add a [] = refl
-length-keep-add a (e ∷ w) = length-keep-add-by-cases (ltb a (natAbs e)) (length-keep-add a w)
+length-passing-add : (a : ℕ) (w : List ℤ) → length (passing (above a) w) + length (passing (upTo a) w) ≡ length w
+unfolding passing
+length-passing-add a [] = refl
+length-passing-add a (e ∷ w) = length-passing-add-by-cases (ltb a (natAbs e)) (length-passing-add a w)
   where
-    length-keep-add-by-cases : (t : Bool) → length (keep (above a) w) + length (keep (upTo a) w) ≡ length w
-        → length (pick t (e ∷ keep (above a) w) (keep (above a) w)) + length (pick (not t) (e ∷ keep (upTo a) w) (keep (upTo a) w)) ≡ suc (length w)
-    length-keep-add-by-cases true r = omega arith
-    length-keep-add-by-cases false r = omega arith
+    length-passing-add-by-cases : (t : Bool) → length (passing (above a) w) + length (passing (upTo a) w) ≡ length w
+        → length (pick t (e ∷ passing (above a) w) (passing (above a) w)) + length (pick (not t) (e ∷ passing (upTo a) w) (passing (upTo a) w)) ≡ suc (length w)
+    length-passing-add-by-cases true r = omega arith
+    length-passing-add-by-cases false r = omega arith
 
 -- how many entries have a size above a
 unfoldable larger : ℕ → List ℤ → ℕ
 larger a [] = 0
 larger a (e ∷ w) = one (ltb a (natAbs e)) + larger a w
 
-larger-keep : (a : ℕ) (w : List ℤ) → larger a w ≡ length (keep (above a) w)
-unfolding larger keep one
-larger-keep a [] = refl
-larger-keep a (e ∷ w) = larger-keep-by-cases (ltb a (natAbs e)) (larger-keep a w)
+larger-passing : (a : ℕ) (w : List ℤ) → larger a w ≡ length (passing (above a) w)
+unfolding larger passing one
+larger-passing a [] = refl
+larger-passing a (e ∷ w) = larger-passing-by-cases (ltb a (natAbs e)) (larger-passing a w)
   where
-    larger-keep-by-cases : (t : Bool) → larger a w ≡ length (keep (above a) w)
-        → pick t 1 0 + larger a w ≡ length (pick t (e ∷ keep (above a) w) (keep (above a) w))
-    larger-keep-by-cases true r = omega arith
-    larger-keep-by-cases false r = omega arith
+    larger-passing-by-cases : (t : Bool) → larger a w ≡ length (passing (above a) w)
+        → pick t 1 0 + larger a w ≡ length (pick t (e ∷ passing (above a) w) (passing (above a) w))
+    larger-passing-by-cases true r = omega arith
+    larger-passing-by-cases false r = omega arith
 
 larger-level : (a : ℕ) (w : List ℤ) → Level 1 w → a ≤ length w → larger a w ≡ length w - a
 larger-level a w h l =
-    let most = length-le-of-distinct (suc a) (length w - a) (1 + length w) (keep (above a) w) (omega arith)
-    (between-above a (1 + length w) w (h .between)) (distinct-keep (above a) w (h .distinct)) in
-    let least = length-le-of-distinct 1 a (1 + a) (keep (upTo a) w) refl
-    (between-upTo a (1 + length w) w (h .between)) (distinct-keep (upTo a) w (h .distinct)) in
-    omega (arith, larger-keep a w, length-keep-add a w)
+    let most = length-le-of-distinct (suc a) (length w - a) (1 + length w) (passing (above a) w) (omega arith)
+    (between-above a (1 + length w) w (h .between)) (distinct-passing (above a) w (h .distinct)) in
+    let least = length-le-of-distinct 1 a (1 + a) (passing (upTo a) w) refl
+    (between-upTo a (1 + length w) w (h .between)) (distinct-passing (upTo a) w (h .distinct)) in
+    omega (arith, larger-passing a w, length-passing-add a w)
 
 -- ---- pairs
 
