@@ -6,7 +6,7 @@ use mathlib.Core.List.{List, [], _∷_, _++_}
 use Prim.Native.Nat.{ℕ, zero, suc, _+_, _-_, _*_, _/_, _%_}
 use lib.Dec.{eqb, leb, ltb}
 use lib.ListN.{length, getD, take, drop}
-use Rattle.coxeter.specs.Kinds.{Kind, A, B, D, pick, kindOf, lanes, least, greatest}
+use Rattle.coxeter.specs.Kinds.{Kind, A, B, D, kindOf, lanes, least, greatest}
 use Rattle.coxeter.specs.Checks.{check, _then_, wrongKind, wordRefusal}
 use Rattle.book_format.specs.declared.Edition.{Edition}
 use Rattle.book_format.specs.declared.Edition.the-variants.{First, Second}

@@ -26,7 +26,7 @@ use Rattle.coxeter.specs.Calls.{normalFormOfWindow, normalFormOfWord, productOf
 use Rattle.coxeter.proofs.Refusals.{then-assoc}
 use Rattle.rules.specs.Calls.{rewriteAt}
 use Rattle.book_format.specs.declared.Edition.{Edition}
-use Rattle.book_format.specs.Books.{bookRankRefusal, bookRefusal, appendRefusal}
+use Rattle.book_format.specs.Books.{bookRefusal, appendRefusal}
 use Rattle.book_format.specs.Calls.{appending}
 use Rattle.book_format.proofs.RankLaws.{bookRankRefusal-refused}
 use Rattle.distribution.specs.Calls.{tableRefusal, tableOf, tables, delayTable}

@@ -17,7 +17,6 @@ use Rattle.coxeter.specs.Calls.{front}
 use Rattle.coxeter.proofs.Vectors.{Agree}
 use Rattle.rules.specs.Rules.{concatMap, family1, family2, family3, family4, families5to7, rules, begins, fits, firstFitting, rewritten}
 use Rattle.rules.specs.Calls.{pastEnd, rewriteBy, rewriteAt}
-use Rattle.rules.specs.declared.Rewrite.the-variants as rewrite
 use Rattle.shortest_words.specs.declared.Fallback.the-variants as fallback
 use Rattle.shortest_words.specs.declared.Split.the-variants as split
 use Rattle.traces.specs.declared.ToEnd.the-variants as toEnd

@@ -11,7 +11,7 @@ use lib.IntN.{ℤ}
 use lib.ListN.{length, take}
 use Rattle.coxeter.specs.declared.Answer.{Answer}
 use Rattle.coxeter.specs.declared.Answer.the-variants as answer
-use Rattle.coxeter.specs.Kinds.{kindOf, lanes}
+use Rattle.coxeter.specs.Kinds.{kindOf}
 use Rattle.coxeter.specs.Windows.{window}
 use Rattle.coxeter.specs.Checks.{_then_, rankRefusal, wordRefusal, RankOf, WordOf}
 use Rattle.coxeter.specs.NormalForm.{wordNormalForm}

@@ -19,7 +19,7 @@ use Rattle.coxeter.specs.Windows.{from, swap, negateFirst, act, windowFrom, ide
 use Rattle.coxeter.specs.Length.{later, negative, one, laterThan, inversions, negativeSumPairs, negatives, crossings, total, windowLength}
 use Rattle.coxeter.specs.Relations.{twice, forth, alone, next}
 use Rattle.coxeter.specs.Checks.{wrongKind, wrongRank, tooLong, wrongLetter, wrongLanes, hasSize, negativeInA, wrongAt, wrongEntry, odd}
-use Rattle.coxeter.specs.Checks.{oddNegatives, tooShort, rankRefusal, wordRefusal, windowRefusal, RankOf}
+use Rattle.coxeter.specs.Checks.{oddNegatives, rankRefusal, wordRefusal, windowRefusal, RankOf}
 use Rattle.coxeter.specs.NormalForm.{down, rise, fall, block, without, indexOf, restOf, normalFrom, normalForm, wordNormalForm}
 use Rattle.coxeter.specs.Calls.{sameEntry, sameWindow}
 use Rattle.coxeter.proofs.Order.{sameWindow-true}

@@ -53,7 +53,6 @@ use Rattle.rules.specs.Rules.{concatMap, family1, family2, family3, family4, fa
 use Rattle.rules.specs.Calls.{pastEnd, rewriteBy, rewriteAt}
 use Rattle.shortest_words.specs.Fallback.{someSubword, isFallback}
 use Rattle.shortest_words.specs.Descents.{isDescent}
-use Rattle.shortest_words.specs.Allowed.{allows, wrongSet, setRefusal}
 use Rattle.shortest_words.specs.Split.{lowest, stripped, restInverse, firstWord, secondWord}
 use Rattle.shortest_words.specs.SplitCalls.{splitOf, splitOutcome, splitting}
 use Rattle.shortest_words.specs.Calls.{fallbackOf, fallbackAnswer}

@@ -9,7 +9,6 @@ use crate::search::next_index;
 use crate::search::shown_index;
 use crate::writing::first_letter;
 ghost use mathlib.Core.Path.{_≡_};
-ghost use mathlib.Core.Bool.{false};
 ghost use mathlib.Core.Option.{none, some};
 ghost use Prim.Native.Nat.{suc, _-_, _*_, _≤_, _<_};
 ghost use lib.Dec.{eqb};

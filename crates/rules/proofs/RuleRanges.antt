@@ -10,7 +10,7 @@ use Prim.Native.Nat.{ℕ, _+_, _-_, _*_, _≤_, _<_}
 use native.Mathlib.Omega.{arith}
 use Rattle.coxeter.specs.Kinds.{Kind, A, B, D, least}
 use Rattle.coxeter.specs.NormalForm.{block}
-use Rattle.rules.specs.Rules.{Rule, rule, commuted, carried, turned, rules}
+use Rattle.rules.specs.Rules.{Rule, rule, rules}
 use Rattle.rules.proofs.Families.{Commutes, Carries, Turns}
 use Rattle.rules.proofs.Letters.{block-fork}
 use Rattle.rules.proofs.RuleList.{Listed, square, commutation, carry, turn, five, six, seven, listed-of-mem, mem-of-listed}

@@ -5,14 +5,14 @@
 use mathlib.Core.Path.{_≡_, refl, sym, ap, subst, subst⁻¹, _∙_}
 use mathlib.Core.Bool.{true}
 use mathlib.Core.List.{List, [], _∷_}
-use mathlib.Core.Option.{Option, none, some}
+use mathlib.Core.Option.{none, some}
 use Prim.Native.Nat.{ℕ, suc, _≤_}
 use native.Mathlib.Omega.{arith}
 use lib.ListN.{length}
 use borrow.Author.Tests.{lt-leb}
 use Rattle.coxeter.specs.Kinds.{kindOf}
-use Rattle.rules.specs.Rules.{Rule, rules, fits, rewritten}
-use Rattle.rules.specs.Calls.{Interface, Transition, pastEnd, changed, rewriteAt}
+use Rattle.rules.specs.Rules.{rules, rewritten}
+use Rattle.rules.specs.Calls.{Interface, Transition, pastEnd, rewriteAt}
 use Rattle.rules.specs.Runs.{AcceptedWord, Arguments, Result, Call, wordAfter, wordLeft, Meets, Run, uses}
 use Rattle.rules.specs.Demand3.{Usable}
 use Rattle.rules.proofs.Fits.{firstFitting-some}

@@ -16,7 +16,7 @@ use Rattle.coxeter.proofs.Levels.{accepted-of-refusal}
 use Rattle.coxeter.proofs.Acceptance.{lanes-le}
 use Rattle.coxeter.proofs.Outcomes.{writes-short, writes-written, writes-passed}
 use Rattle.coxeter.proofs.Lengths.{length-normalForm}
-use Rattle.coxeter.specs.Kinds.{Kind, kindOf, lanes}
+use Rattle.coxeter.specs.Kinds.{Kind, kindOf}
 use Rattle.coxeter.specs.Length.{windowLength}
 use Rattle.coxeter.specs.Checks.{RankOf, WindowOf}
 use Rattle.coxeter.specs.NormalForm.{normalForm}
