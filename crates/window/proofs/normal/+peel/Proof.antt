@@ -56,9 +56,6 @@ place : (t : ℕ) (c : peel-lts.Start (calls t) (peel-at t) peel.Post)
     → Place (kindOf (c .args .kind)) (c .args .m) (getD (now (c .args .places)) (c .args .i - 1) 0)
 place t c = c .pre .1 .1 .0 (c .args .i - 1) (among t c)
 
-peel-sub-level-of : (t : ℕ) → peel-lts.Need-sub-level-of (calls t) (peel-at t) peel.Post
-peel-sub-level-of t c = search needs
-
 peel-element-copy-out-level-of : (t : ℕ) → peel-lts.Need-element-copy-out-level-of (calls t) (peel-at t) peel.Post
 peel-element-copy-out-level-of t c = omega (arith, among t (c .before), c .before .pre .1 .0)
 
@@ -138,7 +135,7 @@ pub +peel-spec : {M : Type 1} → statement M
 +peel-spec = close μ-peel λ t. peel-lts.spec (calls t)
     (peel-at t)
     peel.Post
-    (peel-sub-level-of t)
+    (λ c. search needs)
     (peel-element-copy-out-level-of t)
     (peel-level-of-requires t)
     (peel-last-level-requires t)
